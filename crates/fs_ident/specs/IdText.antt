@@ -12,8 +12,11 @@ id_text [] = 47 ∷ []
 id_text (n ∷ ns) = flat_map step_text (n ∷ ns)
 
 -- the bytes begin the text of some identifier
-abbrev pub BeginsIdText : List ℕ → Type 0
-BeginsIdText bytes = (id : List ℕ) × IsId id × ((rest : List ℕ) × (id_text id ≡ bytes ++ rest))
+pub record BeginsIdText (bytes : List ℕ) : Type 0 where
+  pub id : List ℕ
+  pub valid : IsId id
+  pub rest : List ℕ
+  pub begins : id_text id ≡ bytes ++ rest
 
 -- so many bytes at the front begin the text of some identifier, and no more do
 pub record IsLongestIdText (bytes : List ℕ) (at : ℕ) : Type 0 where

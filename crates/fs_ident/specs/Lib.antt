@@ -1,3 +1,4 @@
 pub mod Ident
+pub mod IdReading
 pub mod IdText
 pub mod Name

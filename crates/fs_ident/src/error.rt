@@ -19,7 +19,7 @@ pub enum IdError {
     #[error("no identifier is written like this from byte {at} on")]
     BadText { at: usize },
     /// No name: `at` is the place of the first byte that no name holds, else 255 or 0.
-    #[error("no name holds the byte at {at}")]
+    #[error("no name is written like this from byte {at} on")]
     BadName { at: usize },
     /// Memory is wanting.
     #[error("memory is wanting")]

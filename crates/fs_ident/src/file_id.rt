@@ -38,6 +38,14 @@ impl Model for FileId {
 }
 
 impl FileId {
+    /// The identifier of these numbers.
+    pub(crate) fn from_numbers(numbers: Vec<u32>) -> FileId
+        requires { IsId numbers.items }
+        ensures { result ≡ numbers.items }
+    {
+        FileId { numbers }
+    }
+
     /// The root's identifier.
     pub fn root(alloc: Global) -> FileId
         ensures { result ≡ [] }

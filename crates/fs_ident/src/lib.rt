@@ -4,8 +4,11 @@
 pub mod actor;
 pub mod error;
 pub mod file_id;
+pub mod id_text;
 pub mod kind;
 pub mod list;
 pub mod memory;
 pub mod name;
+#[cfg(test)]
+mod tests;
 pub mod twin;
