@@ -1,0 +1,42 @@
+-- How segments are joined to messages again.
+use Rattle.std.specs.Prelude.{ℕ, ◌-◌, List, [], ◌∷◌, ◌++◌, length, take, drop, replicate, Option, Some, None, Result, Ok, Err, nat_lt, ◌==◌, if◌then◌else◌}
+use Rattle.std.specs.Int.{w64, from_be_bytes}
+use Rattle.fs_frag.specs.declared.error.FragError.{FragError}
+use Rattle.fs_frag.specs.declared.error.FragError.TheVariants.{Over}
+use Rattle.fs_frag.specs.Cut.{cut_of}
+
+-- the length that the first eight bytes announce
+abbrev pub announced : List ℕ → ℕ
+announced bytes = from_be_bytes w64 (take 8 bytes)
+
+-- nothing as long as bytes are wanting, then the message, or that there are too many bytes for it
+abbrev pub measured : ℕ → ℕ → List ℕ → Result (Option (List ℕ)) FragError
+measured have want message =
+    if nat_lt have want then Ok None else (if have == want then Ok (Some message) else Err (Over have want))
+
+-- what a joiner answers that holds these bytes now
+abbrev pub answer_of : List ℕ → Result (Option (List ℕ)) FragError
+answer_of bytes =
+    if nat_lt (length bytes) 8 then Ok None else measured (length bytes - 8) (announced bytes) (drop 8 bytes)
+
+-- what it holds after that answer
+abbrev pub held_after : Result (Option (List ℕ)) FragError → List ℕ → List ℕ
+held_after (Ok None) bytes = bytes
+held_after (Ok (Some message)) bytes = []
+held_after (Err e) bytes = []
+
+-- the answers of a joiner that holds these bytes to segments, one after another
+abbrev pub answers : List ℕ → List (List ℕ) → List (Result (Option (List ℕ)) FragError)
+answers held [] = []
+answers held (s ∷ ss) = answer_of (held ++ s) ∷ answers (held_after (answer_of (held ++ s)) (held ++ s)) ss
+
+-- the messages among the answers
+abbrev pub messages_of : List (Result (Option (List ℕ)) FragError) → List (List ℕ)
+messages_of [] = []
+messages_of (Ok (Some message) ∷ rest) = message ∷ messages_of rest
+messages_of (Ok None ∷ rest) = messages_of rest
+messages_of (Err e ∷ rest) = messages_of rest
+
+-- the message at its last segment, and nothing before
+abbrev pub answers_for : List ℕ → List (Result (Option (List ℕ)) FragError)
+answers_for message = replicate (length (cut_of message) - 1) (Ok None) ++ Ok (Some message) ∷ []

@@ -1,0 +1,20 @@
+//! What cutting and joining are for.
+ghost use Rattle.std.specs.Prelude.{◌≡◌, ◌<◌, ◌^◌, ◌++◌, ℕ, [], length, flat_map, IsOk};
+ghost use Rattle.std.specs.Prelude.{List as Seq};
+ghost use Rattle.std.specs.List.{AllByRecursion};
+ghost use Rattle.fs_frag.specs.Cut.{cut_of};
+ghost use Rattle.fs_frag.specs.Joined.{answers, answers_for, messages_of};
+
+/// A new joiner that is given the segments of messages, one message after another, gives these messages in
+/// order, whole and once, each at its last segment.
+pub fn joined_is_cut()
+    ensures whole_and_once { (messages : Seq (Seq ℕ)) → AllByRecursion (λ m. length m < 2 ^ 64) messages →
+        messages_of (answers [] (flat_map cut_of messages)) ≡ messages }
+    ensures at_the_last { (messages : Seq (Seq ℕ)) → AllByRecursion (λ m. length m < 2 ^ 64) messages →
+        answers [] (flat_map cut_of messages) ≡ flat_map answers_for messages }
+    // The same of the segments that have come so far.
+    ensures so_far { (messages segments rest : Seq (Seq ℕ)) → AllByRecursion (λ m. length m < 2 ^ 64) messages →
+        segments ++ rest ≡ flat_map cut_of messages → (others : Seq (Seq ℕ)) × (messages_of (answers [] segments) ++ others ≡ messages) }
+    ensures never_over { (messages segments rest : Seq (Seq ℕ)) → AllByRecursion (λ m. length m < 2 ^ 64) messages →
+        segments ++ rest ≡ flat_map cut_of messages → AllByRecursion IsOk (answers [] segments) }
+{}

@@ -1,0 +1,60 @@
+//! What one packet carries of a message.
+ghost use Rattle.std.specs.Prelude.{◌≡◌, ◌≤◌, length, IfOk, IfSome, IfNone};
+ghost use Rattle.fs_frag.specs.Segment.{IsSegment};
+
+use fs_ident::memory::Memory;
+use fs_ident::twin::Twin;
+use std::alloc::Global;
+use std::marker::Model;
+
+/// The most bytes of a segment.
+pub const SEGMENT: usize = 1024;
+
+/// From 1 to 1,024 bytes.
+#[derive(Debug, Drop)]
+pub struct Segment {
+    bytes: Vec<u8>,
+}
+
+impl Model for Segment {
+    ghost use Rattle.std.specs.Prelude.{List, ℕ};
+    ghost use Rattle.fs_frag.specs.Segment.{IsSegment};
+
+    ghost Value = { List ℕ };
+
+    ghost view = { λ s. s.bytes.items };
+
+    ghost invariant = { λ s. IsSegment s.bytes.items };
+}
+
+impl Segment {
+    /// The segment of these bytes; `None` exactly where there are none or more than 1,024.
+    pub fn new(alloc: Global, bytes: &[u8]) -> Result<Option<Segment>, Memory>
+        ensures some { IfOk result (λ made. IfSome made (λ s. s ≡ bytes.now)) }
+        ensures valid { IfOk result (λ made. IfSome made (λ _. IsSegment bytes.now)) }
+        ensures none { IfOk result (λ made. IfNone made (IsSegment bytes.now → ⊥)) }
+    {
+        if bytes.is_empty() || bytes.len() > SEGMENT {
+            return Ok(None);
+        }
+        Ok(Some(Segment {
+            bytes: Vec::from_slice(alloc, bytes)?,
+        }))
+    }
+
+    /// Its bytes.
+    pub fn bytes(&self) -> &[u8]
+        ensures same { result.now ≡ self.now }
+        ensures valid { IsSegment self.now }
+    {
+        &self.bytes
+    }
+}
+
+impl Twin for Segment {
+    fn copy(&self, alloc: Global) -> Result<Segment, Memory> {
+        Ok(Segment {
+            bytes: Vec::from_slice(alloc, &self.bytes)?,
+        })
+    }
+}
