@@ -1,0 +1,5 @@
+pub mod Direction
+pub mod Lists
+pub mod PacketSteps
+pub mod ReadBack
+pub mod Schedule

@@ -1,0 +1,4 @@
+pub mod Ends
+pub mod Link
+pub mod Packet
+pub mod Reading

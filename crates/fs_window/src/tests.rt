@@ -1,0 +1,109 @@
+use crate::law::in_order;
+use crate::packet::{Packet, read_packet, write_packet};
+use crate::window::Window;
+use fs_frag::cutting::cut;
+use fs_frag::segment::Segment;
+use fs_ident::twin::Twin;
+use std::test::*;
+
+/// The first packet of an end to which an Ask for the life of the root is pushed.
+const FIRST: [u8; 39] = [
+    0x46, 0, 0, 0, 0, 0, 0, 0, 0, 1, 0, 0, 0, 0, 0, 0, 0, 0, 0, 0, 0, 0, 0, 0, 0, 13, 1, 0, 0, 0,
+    0, 0, 0, 0, 1, 0, 0, 0, 0,
+];
+
+fn packet(rt: HostRuntime, number: u64, byte: u8) -> Result<Packet, Fail> {
+    let segment = Segment::new(rt.alloc(), &[byte])
+        .ok()
+        .ok_or("it is made")?
+        .ok_or("it is one")?;
+    Ok(Packet {
+        ack: 0,
+        body: Some((number, segment)),
+    })
+}
+
+#[test]
+fn bytes_of_packets(rt: HostRuntime) -> Result<(), Fail> {
+    let alloc = rt.alloc();
+    let mut window = Window::new(alloc, 1);
+    let message = [1, 0, 0, 0, 0, 0, 0, 0, 1, 0, 0, 0, 0];
+    let segments = cut(alloc, &message).ok().ok_or("it is cut")?;
+    window
+        .push_all(alloc, segments)
+        .ok()
+        .ok_or("they are pushed")?;
+    let packets = window.due(alloc, false, false).ok().ok_or("it is due")?;
+    let mut out = Vec::new(alloc);
+    for packet in packets.as_slice() {
+        write_packet(alloc, packet, &mut out)
+            .ok()
+            .ok_or("it is written")?;
+    }
+    assert_eq!(rt; out.as_slice(), FIRST.as_slice());
+    let read = read_packet(alloc, &FIRST)
+        .ok()
+        .ok_or("it is read")?
+        .ok_or("it is one")?;
+    let mut again = Vec::new(alloc);
+    let twin = read.copy(alloc).ok().ok_or("it is copied")?;
+    write_packet(alloc, &twin, &mut again)
+        .ok()
+        .ok_or("it is written")?;
+    assert_eq!(rt; again.as_slice(), FIRST.as_slice());
+    let short = read_packet(alloc, &FIRST[..18]).ok().ok_or("it is read")?;
+    assert!(rt; short.is_none());
+    Ok(())
+}
+
+#[test]
+fn each_segment_once_and_in_order(rt: HostRuntime) -> Result<(), Fail> {
+    let alloc = rt.alloc();
+    let mut window = Window::new(alloc, 1)
+        .copy(alloc)
+        .ok()
+        .ok_or("it is copied")?;
+    for (number, given) in [(1, 0), (0, 1), (0, 0), (1, 1), (1, 0)] {
+        let packet = packet(rt, number, 7)?;
+        let first = window.gives(alloc, &packet).ok().ok_or("it is seen")?;
+        let segments = window.accept(alloc, &packet).ok().ok_or("it is taken")?;
+        assert_eq!(rt; first.len(), given, "at {number}");
+        assert_eq!(rt; segments.len(), given, "at {number}");
+    }
+    assert_eq!(rt; window.got(), 2);
+    in_order();
+    Ok(())
+}
+
+#[test]
+fn what_is_due(rt: HostRuntime) -> Result<(), Fail> {
+    let alloc = rt.alloc();
+    let mut window = Window::new(alloc, 1);
+    for byte in [65, 66] {
+        let segment = Segment::new(alloc, &[byte])
+            .ok()
+            .ok_or("it is made")?
+            .ok_or("it is one")?;
+        window.push(alloc, segment).ok().ok_or("it is pushed")?;
+    }
+    assert_eq!(rt; window.pushed(), 2);
+    for (again, heard, ack, numbers) in [
+        (false, false, 0, Some(Some(0))),
+        (false, false, 0, None),
+        (false, true, 0, Some(None)),
+        (true, true, 0, Some(Some(0))),
+        (false, false, 1, Some(Some(1))),
+        (true, false, 2, None),
+    ] {
+        let told = Packet { ack, body: None };
+        window.accept(alloc, &told).ok().ok_or("it is taken")?;
+        let packets = window.due(alloc, again, heard).ok().ok_or("it is due")?;
+        let mut found = None;
+        for packet in packets.as_slice() {
+            assert!(rt; found.is_none());
+            found = Some(packet.body.as_ref().map(|body| body.0));
+        }
+        assert_eq!(rt; found, numbers, "at {ack}");
+    }
+    Ok(())
+}

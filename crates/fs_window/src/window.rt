@@ -1,0 +1,235 @@
+//! One end of a link.
+ghost use Rattle.std.specs.Prelude.{◌≡◌, ◌≤◌, ◌+◌, ◌-◌, ◌^◌, ◌++◌, ◌↔◌, [], length, IfOk, IsOk, IsErrOf, OnOk, OnErr};
+ghost use Rattle.fs_window.specs.Link.{IsLink, new_link, pushed_count, after_push, after_pushes, moved, acked_after, given_by, after_accept, packets_from, unsent, unacked, with_bodies, or_alone, due_of, after_due};
+
+use crate::error::LinkError;
+use crate::packet::Packet;
+use crate::queue::{add_packets, copies, forget};
+use fs_frag::segment::Segment;
+use fs_ident::list::List;
+use fs_ident::memory::Memory;
+use fs_ident::twin::Twin;
+use std::alloc::Global;
+use std::collections::VecDeque;
+use std::marker::Model;
+
+/// One end of a link: it sends the segments that are pushed here, and gives those that the other end pushed,
+/// each once and in their order, whatever the network loses, repeats or reorders.
+#[derive(Debug, Drop)]
+pub struct Window {
+    width: u64,
+    acked: u64,
+    sent: u64,
+    waiting: VecDeque<Segment>,
+    got: u64,
+}
+
+impl Model for Window {
+    ghost use Rattle.fs_window.specs.Link.{Link, IsLink};
+
+    ghost Value = { Link };
+
+    ghost view = { λ w. record { width = w.width; acked = w.acked; sent = w.sent; waiting = w.waiting.items; got = w.got } };
+
+    ghost invariant = { λ w. IsLink (record { width = w.width; acked = w.acked; sent = w.sent; waiting = w.waiting.items; got = w.got }) };
+}
+
+impl Window {
+    /// A new end, of which so many segments, from 1 to 64, may be on their way at once.
+    pub fn new(alloc: Global, width: u64) -> Window
+        requires wide { 1 ≤ width }
+        requires narrow { width ≤ 64 }
+        ensures { result ≡ new_link width }
+    {
+        Window {
+            width,
+            acked: 0,
+            sent: 0,
+            waiting: VecDeque::new(alloc),
+            got: 0,
+        }
+    }
+
+    /// How many segments were pushed.
+    pub fn pushed(&self) -> u64
+        ensures count { result ≡ pushed_count self.now }
+        ensures valid { IsLink self.now }
+    {
+        self.acked.min(self.sent) + self.waiting.len() as u64
+    }
+
+    /// How many segments were given.
+    pub fn got(&self) -> u64
+        ensures { result ≡ self.now.got }
+    {
+        self.got
+    }
+
+    /// Takes a segment to be sent. `Spent` exactly where every number was given to a segment.
+    pub fn push(&mut self, _: Global, s: Segment) -> Result<(), LinkError>
+        ensures ok { OnOk result (self.new ≡ after_push self.old s) }
+        ensures spent { IsErrOf result LinkError.Spent ↔ (pushed_count self.old ≡ 2 ^ 64 - 1) }
+        ensures err { OnErr result (self.new ≡ self.old) }
+    {
+        if self.pushed() == u64::MAX {
+            return Err(LinkError::Spent);
+        }
+        self.waiting.push_back(s)?;
+        Ok(())
+    }
+
+    /// Takes segments to be sent, all of them or none. `Spent` exactly where numbers are wanting for them.
+    pub fn push_all(&mut self, _: Global, segments: List<Segment>) -> Result<(), LinkError>
+        ensures ok { OnOk result (self.new ≡ after_pushes self.old segments) }
+        ensures spent { IsErrOf result LinkError.Spent ↔ (2 ^ 64 ≤ pushed_count self.old + length segments) }
+        ensures err { OnErr result (self.new ≡ self.old) }
+    {
+        if segments.len() as u64 > u64::MAX - self.pushed() {
+            return Err(LinkError::Spent);
+        }
+        let mut more = VecDeque::from_vec(segments.into_vec());
+        self.waiting.append(&mut more)?;
+        Ok(())
+    }
+
+    /// The segment that a packet would give: the one whose number is next. Takes memory only for that segment.
+    pub fn gives(&self, alloc: Global, p: &Packet) -> Result<List<Segment>, Memory>
+        ensures given { IfOk result (λ segments. segments ≡ given_by self.now.got p.now.body) }
+        ensures no_memory { given_by self.now.got p.now.body ≡ [] → IsOk result }
+    {
+        let mut segments = List::new(alloc);
+        if let Some((number, segment)) = &p.body {
+            if *number == self.got {
+                segments.push(segment.copy(alloc)?)?;
+            }
+        }
+        Ok(segments)
+    }
+
+    /// Takes a packet of the other end: its acknowledgement, and its segment, which is given exactly where it
+    /// is the next one. Takes memory only for a segment that it gives.
+    pub fn accept(&mut self, alloc: Global, p: &Packet) -> Result<List<Segment>, Memory>
+        ensures given { IfOk result (λ segments. segments ≡ given_by self.old.got p.now.body) }
+        ensures state { OnOk result (self.new ≡ after_accept self.old p.now) }
+        ensures err { OnErr result (self.new ≡ self.old) }
+        ensures no_memory { given_by self.old.got p.now.body ≡ [] → IsOk result }
+    {
+        let segments = self.gives(alloc, p)?;
+        let acked = self.acked_after(p.ack);
+        self.move_to(acked, self.sent);
+        self.got = self.got.saturating_add(segments.len() as u64);
+        Ok(segments)
+    }
+
+    /// What goes to the other end: the segments that were not sent yet, as far as the width reaches, and then,
+    /// `again`, those that were sent and are not acknowledged. Where nothing goes and a packet with a body was
+    /// `heard`, an acknowledgement alone goes.
+    pub fn due(&mut self, alloc: Global, again: bool, heard: bool) -> Result<List<Packet>, Memory>
+        ensures packets { IfOk result (λ packets. packets ≡ due_of self.old again heard) }
+        ensures state { OnOk result (self.new ≡ after_due self.old) }
+        ensures err { OnErr result (self.new ≡ self.old) }
+    {
+        let packets = or_alone(self.with_bodies(alloc, again)?, self.got, heard)?;
+        self.move_to(self.acked, self.sent + self.unsent_count());
+        Ok(packets)
+    }
+
+    /// How many segments go for the first time.
+    fn unsent_count(&self) -> u64
+        ensures count { result ≡ length (unsent self.now) }
+        ensures within { self.now.sent + result ≤ pushed_count self.now }
+    {
+        let reach = self.acked.saturating_add(self.width);
+        reach
+            .saturating_sub(self.sent)
+            .min(self.pushed() - self.sent)
+    }
+
+    /// Packets with the segments that go for the first time.
+    fn new_packets(&self, alloc: Global) -> Result<List<Packet>, Memory>
+        ensures { IfOk result (λ packets. packets ≡ packets_from self.now.got self.now.sent (unsent self.now)) }
+    {
+        let from = (self.sent - self.acked.min(self.sent)) as usize;
+        let to = from + self.unsent_count() as usize;
+        let mut packets = List::new(alloc);
+        add_packets(
+            alloc,
+            &self.waiting,
+            from,
+            to,
+            self.sent,
+            self.got,
+            &mut packets,
+        )?;
+        Ok(packets)
+    }
+
+    /// Adds packets with the segments that were sent and are not acknowledged.
+    fn add_unacked(&self, alloc: Global, packets: &mut List<Packet>) -> Result<(), Memory>
+        ensures { OnOk result (packets.new ≡ packets.old ++ packets_from self.now.got self.now.acked (unacked self.now)) }
+    {
+        let to = self.sent.saturating_sub(self.acked) as usize;
+        add_packets(alloc, &self.waiting, 0, to, self.acked, self.got, packets)
+    }
+
+    /// The packets with segments.
+    fn with_bodies(&self, alloc: Global, again: bool) -> Result<List<Packet>, Memory>
+        ensures { IfOk result (λ packets. packets ≡ with_bodies self.now again) }
+    {
+        let mut packets = self.new_packets(alloc)?;
+        if again {
+            self.add_unacked(alloc, &mut packets)?;
+        }
+        Ok(packets)
+    }
+
+    /// The greatest acknowledgement once another one has come.
+    fn acked_after(&self, ack: u64) -> u64
+        ensures { result ≡ acked_after self.now ack }
+    {
+        if ack <= self.pushed() {
+            self.acked.max(ack)
+        } else {
+            self.acked
+        }
+    }
+
+    /// Sets both numbers, and lets go of the segments that are sent and acknowledged.
+    fn move_to(&mut self, acked: u64, sent: u64)
+        requires acked { acked ≤ pushed_count self.old }
+        requires sent { sent ≤ pushed_count self.old }
+        requires acked_rises { self.old.acked ≤ acked }
+        requires sent_rises { self.old.sent ≤ sent }
+        ensures { self.new ≡ moved self.old acked sent }
+    {
+        let first = self.acked.min(self.sent);
+        forget(&mut self.waiting, acked.min(sent) - first);
+        self.acked = acked;
+        self.sent = sent;
+    }
+}
+
+impl Twin for Window {
+    fn copy(&self, alloc: Global) -> Result<Window, Memory> {
+        Ok(Window {
+            width: self.width,
+            acked: self.acked,
+            sent: self.sent,
+            waiting: copies(alloc, &self.waiting)?,
+            got: self.got,
+        })
+    }
+}
+
+/// The packets, or an acknowledgement alone where there is none and a packet with a body was heard.
+fn or_alone(mut packets: List<Packet>, got: u64, heard: bool) -> Result<List<Packet>, Memory>
+    ensures { IfOk result (λ all. all ≡ or_alone got heard packets) }
+{
+    if packets.is_empty() && heard {
+        packets.push(Packet {
+            ack: got,
+            body: None,
+        })?;
+    }
+    Ok(packets)
+}
