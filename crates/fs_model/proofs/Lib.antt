@@ -1,0 +1,16 @@
+pub mod Maps
+pub mod Seen
+pub mod Spaces
+pub mod Chains
+pub mod ChildOrder
+pub mod HandleOrder
+pub mod Keeping
+pub mod SoundMaps
+pub mod SoundChains
+pub mod SoundHandles
+pub mod SoundNodes
+pub mod SoundTrees
+pub mod SoundOutcomes
+pub mod SoundSteps
+pub mod SoundOrder
+pub mod SoundRuns

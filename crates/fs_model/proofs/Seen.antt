@@ -1,0 +1,71 @@
+-- What std's tree map ensures, in the words of the finite map.
+use Rattle.std.proofs.Common.{◌≡◌, List, [], ℕ, ap, sym, ◌∙◌, refl, cond, Bool, true, false, length, map}
+use Rattle.std.specs.Prelude.{Option, Some, None, is_some}
+use Rattle.std.specs.Ordering.{nat_cmp, eq_by_cmp}
+use Rattle.std.specs.Cmp.Lexicographic.{slice_cmp, nat_list_cmp_total}
+use Rattle.std.specs.List.Sorted.{IsStrictlySortedBy}
+use Rattle.std.specs.Map.{lookup, set_value, remove_entry, keys_of}
+use Rattle.std.specs.BTreeMap.{BTreeMap, insert_entry, is_at, UpdatesBy}
+use Rattle.std.specs.FinMap.{empty, get, insert, remove, len, keys, entries, from_entries, same_map, get-remove, get-insert, get_tied, len-entries, IsAntisymmetric, slice_cmp-IsAntisymmetric, nat_cmp-IsAntisymmetric}
+use Rattle.std.specs.Cmp.{eq_by_cmp_equiv}
+use Rattle.std.proofs.lemmas.Map.Steps.{set_value_same}
+use Rattle.fs_model.specs.declared.node.Node.{Node}
+use Rattle.fs_model.specs.Seen.{seen}
+use Rattle.fs_model.specs.Namespace.{NodeMap}
+use Rattle.fs_model.proofs.Maps.{equal_is, get_here, map_insert, map_set, entries_back}
+
+pub anti : IsAntisymmetric (slice_cmp nat_cmp)
+anti = slice_cmp-IsAntisymmetric nat_cmp-IsAntisymmetric
+
+pub seen_get : (m : BTreeMap (List ℕ) Node) (q : List ℕ) → get (seen m) q ≡ lookup (is_at (slice_cmp nat_cmp q)) m.entries
+unfolding seen
+seen_get m q = get_here (slice_cmp nat_cmp) nat_list_cmp_total m.entries q
+
+pub seen_insert : (m n : BTreeMap (List ℕ) Node) (k : List ℕ) (v : Node) → n.entries ≡ insert_entry (slice_cmp nat_cmp) m.entries k v → seen n ≡ insert (seen m) k v
+unfolding seen
+seen_insert m n k v e = ap (λ es. from_entries es) e ∙ map_insert (slice_cmp nat_cmp) nat_list_cmp_total anti m.entries k v
+
+pub seen_set : (m n : BTreeMap (List ℕ) Node) (k : List ℕ) (v w : Node) → lookup (is_at (slice_cmp nat_cmp k)) m.entries ≡ Some v → n.entries ≡ set_value (is_at (slice_cmp nat_cmp k)) m.entries w → seen n ≡ insert (seen m) k w
+unfolding seen
+seen_set m n k v w h e = ap (λ es. from_entries es) e ∙ map_set (slice_cmp nat_cmp) nat_list_cmp_total anti m.entries k v w h
+
+pub seen_same : (m n : BTreeMap (List ℕ) Node) → n.entries ≡ m.entries → seen n ≡ seen m
+unfolding seen
+seen_same m n e = ap (λ es. from_entries es) e
+
+pub seen_remove : (m n : BTreeMap (List ℕ) Node) (k : List ℕ) → UpdatesBy (slice_cmp nat_cmp) (slice_cmp nat_cmp k) m n None → seen n ≡ remove (seen m) k
+seen_remove m n k u = same_map nat_list_cmp_total anti _ _ (λ q.
+    seen_get n q ∙ u.0 q ∙ ap (λ b. cond b None (lookup (is_at (slice_cmp nat_cmp q)) m.entries)) ((eq_by_cmp_equiv nat_list_cmp_total).symm k q)
+    ∙ sym (get-remove nat_list_cmp_total (seen m) k q ∙ ap (cond (eq_by_cmp (slice_cmp nat_cmp) q k) None) (seen_get m q)))
+
+-- the entries of a tree map are those of the finite map
+pub seen_entries : (m : BTreeMap (List ℕ) Node) → IsStrictlySortedBy (slice_cmp nat_cmp) (keys_of m.entries) → entries (seen m) ≡ m.entries
+unfolding seen
+seen_entries m h = entries_back (slice_cmp nat_cmp) nat_list_cmp_total anti m.entries h
+
+pub seen_len : (m : BTreeMap (List ℕ) Node) → IsStrictlySortedBy (slice_cmp nat_cmp) (keys_of m.entries) → len (seen m) ≡ length m.entries
+seen_len m h = len-entries (seen m) ∙ ap length (seen_entries m h)
+
+none_there : {X : Type 0} (b : Bool) (v : X) (g : Option X) → (b ≡ true → g ≡ None) → cond b None (cond b (Some v) g) ≡ g
+none_there true v g h = sym (h refl)
+none_there false v g h = refl
+
+-- what was absent and was added goes away by a removal
+pub remove-insert : (m : NodeMap) (k : List ℕ) (v : Node) → get m k ≡ None → remove (insert m k v) k ≡ m
+remove-insert m k v h = same_map nat_list_cmp_total anti _ _ (λ q.
+    get-remove nat_list_cmp_total (insert m k v) k q ∙ ap (cond (eq_by_cmp (slice_cmp nat_cmp) q k) None) (get-insert nat_list_cmp_total m k v q)
+    ∙ none_there _ v _ (λ t. sym (get_tied nat_list_cmp_total m q k (equal_is _ t)) ∙ h))
+
+pub ruleset seens = (seen_get, seen_insert, seen_set, seen_same)
+
+-- a node that was lent and is as before
+pub seen_keep : (m n : BTreeMap (List ℕ) Node) (k : List ℕ) (v w : Node) → lookup (is_at (slice_cmp nat_cmp k)) m.entries ≡ Some v → n.entries ≡ set_value (is_at (slice_cmp nat_cmp k)) m.entries w → w ≡ v → seen n ≡ seen m
+seen_keep m n k v w h e same = seen_same m n (e ∙ ap (set_value (is_at (slice_cmp nat_cmp k)) m.entries) same ∙ set_value_same (is_at (slice_cmp nat_cmp k)) m.entries v h)
+
+pub seen_empty : (m : BTreeMap (List ℕ) Node) → m.entries ≡ [] → seen m ≡ empty
+unfolding seen
+seen_empty m e = ap (λ es. from_entries es) e
+
+-- the keys of a tree map are those of the finite map
+pub seen_keys : (m : BTreeMap (List ℕ) Node) → IsStrictlySortedBy (slice_cmp nat_cmp) (keys_of m.entries) → keys (seen m) ≡ keys_of m.entries
+seen_keys m h = ap keys_of (seen_entries m h)

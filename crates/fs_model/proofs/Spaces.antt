@@ -1,0 +1,51 @@
+-- What keeps every node of a space in order.
+use Rattle.std.proofs.Common.{◌≡◌, ℕ, List, [], ◌∷◌, Bool, true, false, refl, ap, sym, ◌∙◌, subst, cond, Bor}
+use Rattle.std.specs.Prelude.{Option, Some, None, IfSome, not, IsTrue, T}
+use Rattle.std.specs.Option.{option_copied}
+use Rattle.std.specs.Ordering.{nat_cmp, eq_by_cmp}
+use Rattle.std.specs.Cmp.Lexicographic.{slice_cmp, nat_list_cmp_total}
+use Rattle.std.specs.FinMap.{empty, get, insert, remove, get-empty, get-insert, get-remove}
+use Rattle.fs_model.specs.declared.node.Node.{Node}
+use Rattle.fs_model.specs.Children.{are_in_order, child_at}
+use Rattle.fs_model.specs.Step.{children_of}
+use Rattle.fs_model.specs.Namespace.{NodeMap, IsSpace, IsInOrder, changed, changed_at}
+
+-- a node of the space is in order
+pub in_order_at : (m : NodeMap) → IsSpace m → (id : List ℕ) (n : Node) → get m id ≡ Some n → IsInOrder n
+in_order_at m s id n e = subst (λ o. IfSome o IsInOrder) e (s id)
+
+pub copied_in_order : (m : NodeMap) → IsSpace m → (id : List ℕ) (r : Option (Bor Node)) → option_copied r ≡ get m id → IfSome r (λ n. IsInOrder n.now)
+copied_in_order m s id None e = tt
+copied_in_order m s id (Some n) e = in_order_at m s id n.now (sym e)
+
+either : (b : Bool) (o : Option Node) (n : Node) → IsInOrder n → IfSome o IsInOrder → IfSome (cond b (Some n) o) IsInOrder
+either true o n own rest = own
+either false o n own rest = rest
+
+neither : (b : Bool) (o : Option Node) → IfSome o IsInOrder → IfSome (cond b None o) IsInOrder
+neither true o rest = tt
+neither false o rest = rest
+
+pub IsSpace-insert : (m : NodeMap) (k : List ℕ) (n : Node) → IsSpace m → IsInOrder n → IsSpace (insert m k n)
+IsSpace-insert m k n s own id = subst (λ o. IfSome o IsInOrder) (sym (get-insert nat_list_cmp_total m k n id)) (either _ (get m id) n own (s id))
+
+pub IsSpace-remove : (m : NodeMap) (k : List ℕ) → IsSpace m → IsSpace (remove m k)
+IsSpace-remove m k s id = subst (λ o. IfSome o IsInOrder) (sym (get-remove nat_list_cmp_total m k id)) (neither _ (get m id) (s id))
+
+pub IsSpace-changed : (f : Node → Node) (m : NodeMap) (id : List ℕ) → ((n : Node) → IsInOrder n → IsInOrder (f n)) → IsSpace m → IsSpace (changed f m id)
+IsSpace-changed f m id keeps s = go (get m id) refl
+  where
+    go : (o : Option Node) → get m id ≡ o → IsSpace (changed_at f m id o)
+    go None e = s
+    go (Some n) e = IsSpace-insert m id (f n) s (keeps n (in_order_at m s id n e))
+
+pub IsSpace-empty : IsSpace empty
+IsSpace-empty id = subst (λ (o : Option Node). IfSome o IsInOrder) (sym (get-empty (slice_cmp nat_cmp) id)) tt
+
+free_in : (b : Bool) (fresh : Node) (o : Option Node) (name : List ℕ) → child_at fresh.children name ≡ None → child_at (children_of o) name ≡ None → child_at (children_of (cond b (Some fresh) o)) name ≡ None
+free_in true fresh o name own rest = own
+free_in false fresh o name own rest = rest
+
+-- a name that is free stays so when a node without children is added
+pub free_after : (m : NodeMap) (id : List ℕ) (fresh : Node) (dir name : List ℕ) → child_at fresh.children name ≡ None → child_at (children_of (get m dir)) name ≡ None → child_at (children_of (get (insert m id fresh) dir)) name ≡ None
+free_after m id fresh dir name own free = rw (get-insert nat_list_cmp_total m id fresh dir) (free_in _ fresh (get m dir) name own free)

@@ -1,0 +1,8 @@
+pub mod Namespace
+pub mod Children
+pub mod Handles
+pub mod Ancestors
+pub mod Step
+pub mod Sound
+pub mod Seen
+pub mod Places

@@ -1,0 +1,97 @@
+//! Making files and directories.
+ghost use Rattle.std.specs.Prelude.{◌≡◌, IfOk, OnOk, OnErr, None};
+ghost use Rattle.std.specs.FinMap as map;
+ghost use Rattle.fs_model.specs.Children.{child_at};
+ghost use Rattle.fs_model.specs.Namespace.{IsSpace};
+ghost use Rattle.fs_model.specs.Seen.{seen};
+ghost use Rattle.fs_model.specs.Step.{create, is_child, made, children_of};
+
+use crate::changes;
+use crate::children::find;
+use crate::lookups::node_at;
+use crate::node::Node;
+use crate::reply::Reply;
+use fs_ident::file_id::FileId;
+use fs_ident::kind::Kind;
+use fs_ident::list::List;
+use fs_ident::memory::Memory;
+use fs_ident::name::Name;
+use fs_ident::twin::Twin;
+use std::alloc::Global;
+use std::collections::BTreeMap;
+
+/// Makes a file or a directory below a directory.
+pub fn create(
+    alloc: Global,
+    nodes: &mut BTreeMap<FileId, Node>,
+    dir: &FileId,
+    name: &Name,
+    kind: Kind,
+    id: &Option<FileId>,
+) -> Result<Reply, Memory>
+    requires { IsSpace (seen nodes.old) }
+    ensures reply { IfOk result (λ reply. reply ≡ (create (map.get (seen nodes.old) dir.now) (seen nodes.old) dir.now name.now kind id.now).reply) }
+    ensures nodes { IfOk result (λ _. seen nodes.new ≡ (create (map.get (seen nodes.old) dir.now) (seen nodes.old) dir.now name.now kind id.now).nodes) }
+    ensures err { OnErr result (seen nodes.new ≡ seen nodes.old) }
+{
+    let Some(node) = node_at(nodes, dir) else {
+        return Ok(Reply::Gone);
+    };
+    if node.kind == Kind::File {
+        return Ok(Reply::NotDir);
+    }
+    if find(node.children.as_slice(), name).is_some() {
+        return Ok(Reply::Exists);
+    }
+    let Some(id) = id else {
+        return Ok(Reply::BadId);
+    };
+    if !is_child(dir.numbers(), id.numbers()) || node_at(nodes, id).is_some() {
+        return Ok(Reply::BadId);
+    }
+    make(alloc, nodes, dir, name, kind, id)?;
+    Ok(Reply::Made)
+}
+
+/// Whether the identifier is the directory's with one number appended.
+fn is_child(dir: &[u32], id: &[u32]) -> bool
+    ensures { result ≡ is_child dir.now id.now }
+{
+    dir.len() + 1 == id.len() && &id[..dir.len()] == dir
+}
+
+/// Makes the node and its name, or neither.
+fn make(
+    alloc: Global,
+    nodes: &mut BTreeMap<FileId, Node>,
+    dir: &FileId,
+    name: &Name,
+    kind: Kind,
+    id: &FileId,
+) -> Result<(), Memory>
+    requires in_order { IsSpace (seen nodes.old) }
+    requires free { child_at (children_of (map.get (seen nodes.old) dir.now)) name.now ≡ None }
+    requires absent { map.get (seen nodes.old) id.now ≡ None }
+    ensures ok { OnOk result (seen nodes.new ≡ made (seen nodes.old) dir.now name.now kind id.now) }
+    ensures err { OnErr result (seen nodes.new ≡ seen nodes.old) }
+{
+    let key = id.copy(alloc)?;
+    let child = id.copy(alloc)?;
+    let child_name = name.copy(alloc)?;
+    let fresh = Node {
+        kind,
+        parent: Some((dir.copy(alloc)?, name.copy(alloc)?)),
+        children: List::new(alloc),
+        size: 0,
+        stamp: 0,
+        handles: List::new(alloc),
+    };
+    changes::add(nodes, key, fresh)?;
+    match changes::name(nodes, dir, child_name, child) {
+        Ok(()) => Ok(()),
+        Err(e) => {
+            changes::remove(nodes, id);
+            Err(e)
+        }
+    }
+}

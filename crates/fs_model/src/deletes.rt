@@ -1,0 +1,65 @@
+//! Deleting files and directories.
+ghost use Rattle.std.specs.Prelude.{◌≡◌};
+ghost use Rattle.std.specs.FinMap as map;
+ghost use Rattle.fs_model.specs.Namespace.{IsSpace};
+ghost use Rattle.fs_model.specs.Seen.{seen};
+ghost use Rattle.fs_model.specs.Step.{delete, is_childless, is_unused};
+
+use crate::changes;
+use crate::children::find;
+use crate::lookups::node_at;
+use crate::node::Node;
+use crate::reply::Reply;
+use fs_ident::file_id::FileId;
+use fs_ident::kind::Kind;
+use fs_ident::name::Name;
+use std::collections::BTreeMap;
+
+/// Deletes the child of that name.
+pub fn delete(nodes: &mut BTreeMap<FileId, Node>, dir: &FileId, name: &Name) -> Reply
+    requires { IsSpace (seen nodes.old) }
+    ensures reply { result ≡ (delete (map.get (seen nodes.old) dir.now) (seen nodes.old) dir.now name.now).reply }
+    ensures nodes { seen nodes.new ≡ (delete (map.get (seen nodes.old) dir.now) (seen nodes.old) dir.now name.now).nodes }
+{
+    let Some(node) = node_at(nodes, dir) else {
+        return Reply::Gone;
+    };
+    if node.kind == Kind::File {
+        return Reply::NotDir;
+    }
+    let Some(file) = find(node.children.as_slice(), name) else {
+        return Reply::NoName;
+    };
+    if !is_childless(nodes, file) {
+        return Reply::NotEmpty;
+    }
+    if !is_unused(nodes, file) {
+        return Reply::InUse;
+    }
+    if let Some(file) = changes::unname(nodes, dir, name) {
+        changes::remove(nodes, &file);
+    }
+    Reply::Deleted
+}
+
+/// Whether the file has no children.
+fn is_childless(nodes: &BTreeMap<FileId, Node>, file: &FileId) -> bool
+    requires { IsSpace (seen nodes.now) }
+    ensures { result ≡ is_childless (map.get (seen nodes.now) file.now) }
+{
+    match node_at(nodes, file) {
+        None => true,
+        Some(node) => node.children.is_empty(),
+    }
+}
+
+/// Whether the file has no handles.
+fn is_unused(nodes: &BTreeMap<FileId, Node>, file: &FileId) -> bool
+    requires { IsSpace (seen nodes.now) }
+    ensures { result ≡ is_unused (map.get (seen nodes.now) file.now) }
+{
+    match node_at(nodes, file) {
+        None => true,
+        Some(node) => node.handles.is_empty(),
+    }
+}

@@ -1,0 +1,102 @@
+//! The handles of a file, in order of session and number.
+ghost use Rattle.std.specs.Prelude.{◌≡◌, ◌≤◌, length, OnOk, OnErr};
+ghost use Rattle.fs_model.specs.Handles.{is_at, comes_before, handle_at, with_handle, without_handle, without_session, any_conflicts, any_denies_delete};
+ghost use Rattle.fs_model.specs.Places.{place_of};
+
+use crate::node::Handle;
+use fs_ident::actor::Session;
+use fs_ident::list::List;
+use fs_ident::memory::Memory;
+use fs_modes::modes::Modes;
+use std::alloc::Global;
+use std::mem;
+
+/// The modes of the session's handle of that number.
+#[tactic(auto, using(crate::proofs::HandleOrder::find_step))]
+pub fn find(handles: &[Handle], session: Session, h: u32) -> Option<Modes>
+    ensures { result ≡ handle_at handles.now session h }
+{
+    for x in handles {
+        if x.session.0 == session.0 && x.h == h {
+            return Some(x.modes);
+        }
+    }
+    None
+}
+
+/// Whether some handle, of any session, conflicts with the modes.
+pub fn any_conflicts(handles: &[Handle], modes: Modes) -> bool
+    ensures { result ≡ any_conflicts handles.now modes }
+{
+    handles.iter().any(|x| x.modes.conflicts(modes))
+}
+
+/// Whether some handle denies others to delete or to move the file.
+pub fn any_denies_delete(handles: &[Handle]) -> bool
+    ensures { result ≡ any_denies_delete handles.now }
+{
+    handles.iter().any(|x| x.modes.deny_d)
+}
+
+/// By session, and then by number.
+fn comes_before(a: Handle, b: Handle) -> bool
+    ensures { result ≡ comes_before a b }
+{
+    a.session.0 < b.session.0 || a.session.0 == b.session.0 && a.h < b.h
+}
+
+/// The place of the first handle that comes after this one, or the end.
+#[tactic(auto, using(crate::proofs::HandleOrder::place_step))]
+fn place(handles: &[Handle], new: Handle) -> usize
+    ensures place { result ≡ place_of new handles.now }
+    ensures bound { result ≤ length handles.now }
+{
+    let mut at = 0;
+    for x in handles {
+        if comes_before(new, *x) {
+            return at;
+        }
+        at += 1;
+    }
+    at
+}
+
+/// Adds a handle in its place.
+#[tactic(auto, using(crate::proofs::HandleOrder::with_handle_insert))]
+pub fn add(handles: &mut List<Handle>, new: Handle) -> Result<(), Memory>
+    ensures ok { OnOk result (handles.new ≡ with_handle handles.old new) }
+    ensures err { OnErr result (handles.new ≡ handles.old) }
+{
+    let at = place(handles.as_slice(), new);
+    handles.insert(at, new)
+}
+
+/// Takes away the session's handle of that number.
+pub fn close(handles: &mut List<Handle>, alloc: Global, session: Session, h: u32)
+    ensures { handles.new ≡ without_handle handles.old session h }
+{
+    let mut kept = mem::replace(handles, List::new(alloc)).into_vec();
+    keep_others(&mut kept, session, h);
+    *handles = List::from_vec(kept);
+}
+
+fn keep_others(handles: &mut Vec<Handle>, session: Session, h: u32)
+    ensures { handles.new.items ≡ without_handle handles.old.items session h }
+{
+    handles.retain(|x| !(x.session.0 == session.0 && x.h == h));
+}
+
+/// Takes away every handle of the session.
+pub fn reap(handles: &mut List<Handle>, alloc: Global, session: Session)
+    ensures { handles.new ≡ without_session handles.old session }
+{
+    let mut kept = mem::replace(handles, List::new(alloc)).into_vec();
+    keep_other_sessions(&mut kept, session);
+    *handles = List::from_vec(kept);
+}
+
+fn keep_other_sessions(handles: &mut Vec<Handle>, session: Session)
+    ensures { handles.new.items ≡ without_session handles.old.items session }
+{
+    handles.retain(|x| x.session.0 != session.0);
+}

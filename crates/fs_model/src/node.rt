@@ -1,0 +1,51 @@
+//! Nodes of the tree.
+use fs_ident::actor::Session;
+use fs_ident::file_id::FileId;
+use fs_ident::kind::Kind;
+use fs_ident::list::List;
+use fs_ident::memory::Memory;
+use fs_ident::name::Name;
+use fs_ident::twin::Twin;
+use fs_modes::modes::Modes;
+use std::alloc::Global;
+
+/// An open of a file by a session, under a number that the session chose.
+#[derive(Clone, Copy, Debug, PartialEq, Eq)]
+pub struct Handle {
+    pub session: Session,
+    pub h: u32,
+    pub modes: Modes,
+}
+
+/// A file or a directory of the tree.
+#[derive(Debug, Drop)]
+pub struct Node {
+    pub kind: Kind,
+    /// The directory that it is in and its name there; the root has none.
+    pub parent: Option<(FileId, Name)>,
+    /// In order of name.
+    pub children: List<(Name, FileId)>,
+    pub size: u64,
+    pub stamp: u64,
+    /// In order of session and number.
+    pub handles: List<Handle>,
+}
+
+impl Twin for Handle {
+    fn copy(&self, _: Global) -> Result<Handle, Memory> {
+        Ok(*self)
+    }
+}
+
+impl Twin for Node {
+    fn copy(&self, alloc: Global) -> Result<Node, Memory> {
+        Ok(Node {
+            kind: self.kind,
+            parent: self.parent.copy(alloc)?,
+            children: self.children.copy(alloc)?,
+            size: self.size,
+            stamp: self.stamp,
+            handles: self.handles.copy(alloc)?,
+        })
+    }
+}

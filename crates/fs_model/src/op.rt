@@ -1,0 +1,134 @@
+//! What is asked of the namespace.
+use fs_ident::actor::Session;
+use fs_ident::file_id::FileId;
+use fs_ident::kind::Kind;
+use fs_ident::memory::Memory;
+use fs_ident::name::Name;
+use fs_ident::twin::Twin;
+use fs_modes::modes::Modes;
+use std::alloc::Global;
+
+/// One operation.
+#[derive(Debug, Drop)]
+pub enum Op {
+    Lookup {
+        dir: FileId,
+        name: Name,
+    },
+    List {
+        dir: FileId,
+    },
+    Kind {
+        file: FileId,
+    },
+    Info {
+        file: FileId,
+    },
+    /// The identifier is the new node's.
+    Create {
+        dir: FileId,
+        name: Name,
+        kind: Kind,
+        id: Option<FileId>,
+    },
+    OpenFile {
+        file: FileId,
+        h: u32,
+        modes: Modes,
+    },
+    Close {
+        file: FileId,
+        h: u32,
+    },
+    Set {
+        file: FileId,
+        h: u32,
+        size: u64,
+        stamp: u64,
+    },
+    Delete {
+        dir: FileId,
+        name: Name,
+    },
+    Rename {
+        sdir: FileId,
+        sname: Name,
+        ddir: FileId,
+        dname: Name,
+    },
+    /// Takes away every handle of the session on the file.
+    Reap {
+        file: FileId,
+        session: Session,
+    },
+}
+
+impl Twin for Op {
+    fn copy(&self, alloc: Global) -> Result<Op, Memory> {
+        match self {
+            Op::Lookup { dir, name } => Ok(Op::Lookup {
+                dir: dir.copy(alloc)?,
+                name: name.copy(alloc)?,
+            }),
+            Op::List { dir } => Ok(Op::List {
+                dir: dir.copy(alloc)?,
+            }),
+            Op::Kind { file } => Ok(Op::Kind {
+                file: file.copy(alloc)?,
+            }),
+            Op::Info { file } => Ok(Op::Info {
+                file: file.copy(alloc)?,
+            }),
+            Op::Create {
+                dir,
+                name,
+                kind,
+                id,
+            } => Ok(Op::Create {
+                dir: dir.copy(alloc)?,
+                name: name.copy(alloc)?,
+                kind: *kind,
+                id: id.copy(alloc)?,
+            }),
+            Op::OpenFile { file, h, modes } => Ok(Op::OpenFile {
+                file: file.copy(alloc)?,
+                h: *h,
+                modes: *modes,
+            }),
+            Op::Close { file, h } => Ok(Op::Close {
+                file: file.copy(alloc)?,
+                h: *h,
+            }),
+            Op::Set {
+                file,
+                h,
+                size,
+                stamp,
+            } => Ok(Op::Set {
+                file: file.copy(alloc)?,
+                h: *h,
+                size: *size,
+                stamp: *stamp,
+            }),
+            Op::Delete { dir, name } => Ok(Op::Delete {
+                dir: dir.copy(alloc)?,
+                name: name.copy(alloc)?,
+            }),
+            Op::Rename {
+                sdir,
+                sname,
+                ddir,
+                dname,
+            } => Ok(Op::Rename {
+                sdir: sdir.copy(alloc)?,
+                sname: sname.copy(alloc)?,
+                ddir: ddir.copy(alloc)?,
+                dname: dname.copy(alloc)?,
+            }),
+            Op::Reap { file, session } => Ok(Op::Reap {
+                file: file.copy(alloc)?,
+                session: *session,
+            }),
+        }
+    }
+}

@@ -1,0 +1,104 @@
+//! Moving files and directories.
+ghost use Rattle.std.specs.Prelude.{◌≡◌, IfOk, OnOk, OnErr, None};
+ghost use Rattle.std.specs.FinMap as map;
+ghost use Rattle.fs_model.specs.Children.{child_at};
+ghost use Rattle.fs_model.specs.Namespace.{IsSpace};
+ghost use Rattle.fs_model.specs.Seen.{seen};
+ghost use Rattle.fs_model.specs.Step.{rename, moved, denies_delete, children_of};
+
+use crate::chain::is_on_chain;
+use crate::changes;
+use crate::children::find;
+use crate::handles::any_denies_delete;
+use crate::lookups::node_at;
+use crate::node::Node;
+use crate::reply::Reply;
+use fs_ident::file_id::FileId;
+use fs_ident::kind::Kind;
+use fs_ident::memory::Memory;
+use fs_ident::name::Name;
+use fs_ident::twin::Twin;
+use std::alloc::Global;
+use std::collections::BTreeMap;
+
+/// Moves the child of a name to another directory or another name.
+pub fn rename(
+    alloc: Global,
+    nodes: &mut BTreeMap<FileId, Node>,
+    sdir: &FileId,
+    sname: &Name,
+    ddir: &FileId,
+    dname: &Name,
+) -> Result<Reply, Memory>
+    requires { IsSpace (seen nodes.old) }
+    ensures reply { IfOk result (λ reply. reply ≡ (rename (map.get (seen nodes.old) sdir.now) (seen nodes.old) sdir.now sname.now ddir.now dname.now).reply) }
+    ensures nodes { IfOk result (λ _. seen nodes.new ≡ (rename (map.get (seen nodes.old) sdir.now) (seen nodes.old) sdir.now sname.now ddir.now dname.now).nodes) }
+    ensures err { OnErr result (seen nodes.new ≡ seen nodes.old) }
+{
+    let Some(from) = node_at(nodes, sdir) else {
+        return Ok(Reply::Gone);
+    };
+    if from.kind == Kind::File {
+        return Ok(Reply::NotDir);
+    }
+    let Some(to) = node_at(nodes, ddir) else {
+        return Ok(Reply::GoneTo);
+    };
+    if to.kind == Kind::File {
+        return Ok(Reply::NotDirTo);
+    }
+    let Some(file) = find(from.children.as_slice(), sname) else {
+        return Ok(Reply::NoName);
+    };
+    if *sdir == *ddir && *sname == *dname {
+        return Ok(Reply::Renamed);
+    }
+    if find(to.children.as_slice(), dname).is_some() {
+        return Ok(Reply::Exists);
+    }
+    if denies_delete(nodes, file) {
+        return Ok(Reply::Sharing);
+    }
+    if is_on_chain(nodes, file, ddir) {
+        return Ok(Reply::Cycle);
+    }
+    let file = file.copy(alloc)?;
+    shift(alloc, nodes, &file, sdir, sname, ddir, dname)?;
+    Ok(Reply::Renamed)
+}
+
+/// Whether some handle denies others to move the file.
+fn denies_delete(nodes: &BTreeMap<FileId, Node>, file: &FileId) -> bool
+    requires { IsSpace (seen nodes.now) }
+    ensures { result ≡ denies_delete (map.get (seen nodes.now) file.now) }
+{
+    match node_at(nodes, file) {
+        None => false,
+        Some(node) => any_denies_delete(node.handles.as_slice()),
+    }
+}
+
+/// Gives the file its new name, takes the old one, and notes where it is now.
+fn shift(
+    alloc: Global,
+    nodes: &mut BTreeMap<FileId, Node>,
+    file: &FileId,
+    sdir: &FileId,
+    sname: &Name,
+    ddir: &FileId,
+    dname: &Name,
+) -> Result<(), Memory>
+    requires in_order { IsSpace (seen nodes.old) }
+    requires free { child_at (children_of (map.get (seen nodes.old) ddir.now)) dname.now ≡ None }
+    ensures ok { OnOk result (seen nodes.new ≡ moved (seen nodes.old) file.now sdir.now sname.now ddir.now dname.now) }
+    ensures err { OnErr result (seen nodes.new ≡ seen nodes.old) }
+{
+    let child = file.copy(alloc)?;
+    let child_name = dname.copy(alloc)?;
+    let parent = ddir.copy(alloc)?;
+    let parent_name = dname.copy(alloc)?;
+    changes::name(nodes, ddir, child_name, child)?;
+    changes::unname(nodes, sdir, sname);
+    changes::place(nodes, file, parent, parent_name);
+    Ok(())
+}

@@ -1,0 +1,65 @@
+//! The step of the namespace, over the map of its nodes.
+ghost use Rattle.std.specs.Prelude.{◌≡◌, IfOk, OnErr};
+ghost use Rattle.fs_model.specs.Namespace.{IsSpace};
+ghost use Rattle.fs_model.specs.Seen.{seen};
+ghost use Rattle.fs_model.specs.Step.{step};
+
+use crate::changes::reap;
+use crate::creates::create;
+use crate::deletes::delete;
+use crate::node::Node;
+use crate::op::Op;
+use crate::opens::{close, open_file, set};
+use crate::reads::{info, kind, list, look_up};
+use crate::renames::rename;
+use crate::reply::Reply;
+use fs_ident::actor::Session;
+use fs_ident::file_id::FileId;
+use fs_ident::memory::Memory;
+use std::alloc::Global;
+use std::collections::BTreeMap;
+
+/// Does the operation, or nothing where memory is wanting.
+pub fn step(
+    alloc: Global,
+    nodes: &mut BTreeMap<FileId, Node>,
+    by: Session,
+    op: &Op,
+) -> Result<Reply, Memory>
+    requires { IsSpace (seen nodes.old) }
+    ensures reply { IfOk result (λ reply. reply ≡ (step (seen nodes.old) by op.now).reply) }
+    ensures nodes { IfOk result (λ _. seen nodes.new ≡ (step (seen nodes.old) by op.now).nodes) }
+    ensures err { OnErr result (seen nodes.new ≡ seen nodes.old) }
+{
+    match op {
+        Op::Lookup { dir, name } => look_up(alloc, nodes, dir, name),
+        Op::List { dir } => list(alloc, nodes, dir),
+        Op::Kind { file } => Ok(kind(nodes, file)),
+        Op::Info { file } => Ok(info(nodes, file)),
+        Op::Create {
+            dir,
+            name,
+            kind,
+            id,
+        } => create(alloc, nodes, dir, name, *kind, id),
+        Op::OpenFile { file, h, modes } => open_file(nodes, by, file, *h, *modes),
+        Op::Close { file, h } => Ok(close(nodes, alloc, by, file, *h)),
+        Op::Set {
+            file,
+            h,
+            size,
+            stamp,
+        } => Ok(set(nodes, by, file, *h, *size, *stamp)),
+        Op::Delete { dir, name } => Ok(delete(nodes, dir, name)),
+        Op::Rename {
+            sdir,
+            sname,
+            ddir,
+            dname,
+        } => rename(alloc, nodes, sdir, sname, ddir, dname),
+        Op::Reap { file, session } => {
+            reap(nodes, alloc, file, *session);
+            Ok(Reply::Reaped)
+        }
+    }
+}
