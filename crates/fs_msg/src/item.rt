@@ -1,0 +1,27 @@
+//! Items of the journal.
+use fs_ident::actor::Peer;
+use fs_ident::memory::Memory;
+use fs_ident::twin::Twin;
+use fs_model::op::Op;
+use fs_model::reply::Reply;
+use std::alloc::Global;
+
+/// An admitted operation: who asked for it, under which number, and the reply.
+#[derive(Debug, Drop)]
+pub struct Item {
+    pub by: Peer,
+    pub n: u64,
+    pub op: Op,
+    pub reply: Reply,
+}
+
+impl Twin for Item {
+    fn copy(&self, alloc: Global) -> Result<Item, Memory> {
+        Ok(Item {
+            by: self.by,
+            n: self.n,
+            op: self.op.copy(alloc)?,
+            reply: self.reply.copy(alloc)?,
+        })
+    }
+}
