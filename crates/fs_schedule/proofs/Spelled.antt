@@ -1,0 +1,181 @@
+-- The words of events are words, so a line tells its words.
+use Rattle.std.proofs.Common.{◌≡◌, ℕ, ◌<◌, ◌≤◌, ◌+◌, ◌%◌, ◌/◌, ◌^◌, ◌==◌, ◌&&◌, Bool, true, false, cond, not, List, [], ◌∷◌, ◌++◌, length, refl, ap, arith, sym, ◌∙◌, subst, eqb}
+use Rattle.std.specs.Prelude.{Option, Some, None, codes, flat_map}
+use Rattle.std.specs.Char.{digit_value}
+use Rattle.std.specs.Fmt.{decimal}
+use Rattle.std.specs.List.{All, AllByRecursion, list_all, position_from}
+use Rattle.std.specs.Str.Parse.{AllDigits}
+use Rattle.std.proofs.lemmas.Bool.{eqb-true}
+use Rattle.std.proofs.lemmas.Bool.Decides.{nat_tests}
+use Rattle.std.proofs.lemmas.Fmt.{decimal_by_steps}
+use Rattle.std.proofs.lemmas.Iterator.Adapters.{position_from-zero}
+use Rattle.std.proofs.lemmas.List.Elements.{All-head, All-tail}
+use Rattle.std.proofs.lemmas.Str.Parse.{digit_from_value}
+use Rattle.fs_ident.specs.Ident.{IsId, IsNumber}
+use Rattle.fs_ident.specs.IdText.{id_text, step_text}
+use Rattle.fs_ident.specs.Name.{IsName, is_name_byte}
+use Rattle.fs_ident.specs.declared.kind.Kind.{Kind}
+use Rattle.fs_ident.specs.declared.kind.Kind.TheVariants.{File, Dir}
+use Rattle.fs_modes.specs.declared.modes.Modes.{Modes}
+use Rattle.fs_modes.specs.Letters.{letters, dashed, acc_text, deny_text}
+use Rattle.fs_model.specs.declared.op.Op.{Op}
+use Rattle.fs_model.specs.declared.op.Op.TheVariants as op
+use Rattle.fs_schedule.specs.declared.word.Word.{Word}
+use Rattle.fs_schedule.specs.declared.word.Word.TheVariants.{Bare, Quoted}
+use Rattle.fs_schedule.specs.declared.event.What.{What}
+use Rattle.fs_schedule.specs.declared.event.What.TheVariants.{Join, Do}
+use Rattle.fs_schedule.specs.declared.event.Event.{Event}
+use Rattle.fs_schedule.specs.Words.{Lacks, FitsWord, AreWords, begins_quoted, line_text}
+use Rattle.fs_schedule.specs.Spelling.{kind_text, op_words, FitsOp, session_text, IsSessionDigits, what_words, FitsWhat, event_words, IsLineOf, AreEventWords, IsRead, IsReadLine}
+use Rattle.fs_schedule.proofs.Cuts.{lacks_push, lacks_append, words_one}
+
+-- ## Bytes
+
+unquoted_from : (xs : List ℕ) → Lacks 34 xs → begins_quoted xs ≡ false
+unquoted_from [] h = refl
+unquoted_from (x ∷ xs) h = h.0
+
+fits_bare : (xs : List ℕ) → Lacks 32 xs → Lacks 34 xs → FitsWord (Bare xs)
+fits_bare xs h k = (h, unquoted_from xs k)
+
+fits_parts : (b c : Bool) → (not b && not c) ≡ true → (b ≡ false) × (c ≡ false)
+fits_parts true c e = absurd (cc)
+fits_parts false true e = absurd (cc)
+fits_parts false false e = (refl, refl)
+
+both : (a b : Bool) → (a && b) ≡ true → (a ≡ true) × (b ≡ true)
+both true b e = (refl, e)
+both false b e = absurd (cc)
+
+plain_bytes : (xs : List ℕ) → list_all (λ x. not (x == 32) && not (x == 34)) xs ≡ true → Lacks 32 xs × Lacks 34 xs
+plain_bytes [] e = (tt, tt)
+plain_bytes (x ∷ xs) e =
+    let p = both (not (x == 32) && not (x == 34)) (list_all (λ x. not (x == 32) && not (x == 34)) xs) e in
+    let q = fits_parts (x == 32) (x == 34) p.0 in
+    let r = plain_bytes xs p.1 in
+    ((q.0, r.0), (q.1, r.1))
+
+-- for texts that compute
+fits_by : (xs : List ℕ) → list_all (λ x. not (x == 32) && not (x == 34)) xs ≡ true → FitsWord (Bare xs)
+fits_by xs e = let p = plain_bytes xs e in fits_bare xs p.0 p.1
+
+digit_other : (b n : ℕ) → b < 48 → (48 + n == b) ≡ false
+digit_other b n h = grind (arith, nat_tests)
+
+decimal_lacks : (b n : ℕ) → b < 48 → n < 2 ^ 64 → Lacks b (decimal n)
+decimal_lacks b n low lt = decimal_by_steps (λ n ds. Lacks b ds) (λ n lt. (digit_other b n low, tt)) (λ n ds ge h. lacks_push b ds (48 + n % 10) h (digit_other b (n % 10) low)) n lt
+
+pub fits_decimal : (n : ℕ) → n < 2 ^ 64 → FitsWord (Bare (decimal n))
+fits_decimal n lt = fits_bare (decimal n) (decimal_lacks 32 n (omega arith) lt) (decimal_lacks 34 n (omega arith) lt)
+
+steps_lack : (b : ℕ) (ns : List ℕ) → b < 47 → All IsNumber ns → Lacks b (flat_map step_text ns)
+steps_lack b [] low h = tt
+steps_lack b (n ∷ ns) low h =
+    let number = All-head IsNumber n ns h in
+    lacks_append b (step_text n) (flat_map step_text ns) (slash_other b low, decimal_lacks b n (omega arith) (omega (arith, number.fits))) (steps_lack b ns low (All-tail IsNumber n ns h))
+  where
+    slash_other : (b : ℕ) → b < 47 → (47 == b) ≡ false
+    slash_other b h = grind (arith, nat_tests)
+
+id_lacks : (b : ℕ) (id : List ℕ) → b < 47 → (47 == b) ≡ false → IsId id → Lacks b (id_text id)
+id_lacks b [] low e h = (e, tt)
+id_lacks b (n ∷ ns) low e h = steps_lack b (n ∷ ns) low h.each
+
+pub fits_id : (id : List ℕ) → IsId id → FitsWord (Bare (id_text id))
+fits_id id h = fits_bare (id_text id) (id_lacks 32 id (omega arith) refl h) (id_lacks 34 id (omega arith) refl h)
+
+-- ## Names
+
+bad_byte : ℕ → Bool
+bad_byte b = not (is_name_byte b)
+
+not_a_quote : (x : ℕ) → not (is_name_byte x) ≡ false → (x == 34) ≡ false
+not_a_quote x h = elim (x == 34) as (λ t. (x == 34) ≡ t → t ≡ false) [
+  | true ↦ λ t.
+      let q : not (is_name_byte 34) ≡ false = subst (λ (y : ℕ). not (is_name_byte y) ≡ false) (eqb-true x 34 t) h in
+      q
+  | false ↦ λ t. refl
+] refl
+
+no_position : (b : Bool) (i : ℕ) (rest : Option ℕ) → cond b (Some i) rest ≡ None → (b ≡ false) × (rest ≡ None)
+no_position true i rest e = absurd (cc)
+no_position false i rest e = (refl, e)
+
+name_lacks : (i : ℕ) (xs : List ℕ) → position_from (λ b. not (is_name_byte b)) i xs ≡ None → Lacks 34 xs
+name_lacks i [] e = tt
+name_lacks i (x ∷ xs) e =
+    let p = no_position (not (is_name_byte x)) i (position_from (λ b. not (is_name_byte b)) (i + 1) xs) e in
+    (not_a_quote x p.0, name_lacks (i + 1) xs p.1)
+
+pub fits_name : (name : List ℕ) → IsName name → FitsWord (Quoted name)
+fits_name name h = name_lacks 0 name (sym (position_from-zero (λ b. not (is_name_byte b)) name) ∙ h.good)
+
+-- ## Kinds, modes, sessions
+
+fits_kind : (k : Kind) → FitsWord (Bare (kind_text k))
+fits_kind File = fits_by (codes "file") refl
+fits_kind Dir = fits_by (codes "dir") refl
+
+fits_letters : (r w d : Bool) → FitsWord (Bare (letters r w d))
+fits_letters true true true = fits_by (letters true true true) refl
+fits_letters true true false = fits_by (letters true true false) refl
+fits_letters true false true = fits_by (letters true false true) refl
+fits_letters true false false = fits_by (letters true false false) refl
+fits_letters false true true = fits_by (letters false true true) refl
+fits_letters false true false = fits_by (letters false true false) refl
+fits_letters false false true = fits_by (letters false false true) refl
+fits_letters false false false = fits_by [] refl
+
+fits_dashed : (r w d : Bool) → FitsWord (Bare (dashed (letters r w d)))
+fits_dashed true true true = fits_by (dashed (letters true true true)) refl
+fits_dashed true true false = fits_by (dashed (letters true true false)) refl
+fits_dashed true false true = fits_by (dashed (letters true false true)) refl
+fits_dashed true false false = fits_by (dashed (letters true false false)) refl
+fits_dashed false true true = fits_by (dashed (letters false true true)) refl
+fits_dashed false true false = fits_by (dashed (letters false true false)) refl
+fits_dashed false false true = fits_by (dashed (letters false false true)) refl
+fits_dashed false false false = fits_by (dashed (letters false false false)) refl
+
+digit_lacks : (b c : ℕ) → b < 48 → digit_value c < 10 → (c == b) ≡ false
+digit_lacks b c low h = let d = digit_from_value c h in grind (arith, nat_tests, d.0)
+
+digits_lack : (b : ℕ) (ds : List ℕ) → b < 48 → AllDigits 10 ds → Lacks b ds
+digits_lack b [] low h = tt
+digits_lack b (d ∷ ds) low h = (digit_lacks b d low h.0, digits_lack b ds low h.1)
+
+fits_session : (digits : List ℕ) → IsSessionDigits digits → FitsWord (Bare (session_text digits))
+fits_session digits h = fits_bare (session_text digits) (refl, digits_lack 32 digits (omega arith) h.0.1) (refl, digits_lack 34 digits (omega arith) h.0.1)
+
+-- ## Operations and events
+
+fits_op : (o : Op) → FitsOp o → AllByRecursion FitsWord (op_words o)
+fits_op (op.Lookup dir name) h = (fits_by (codes "lookup") refl, (fits_id dir h.0, (fits_name name h.1, tt)))
+fits_op (op.List dir) h = (fits_by (codes "list") refl, (fits_id dir h, tt))
+fits_op (op.Kind file) h = (fits_by (codes "kind") refl, (fits_id file h, tt))
+fits_op (op.Info file) h = (fits_by (codes "info") refl, (fits_id file h, tt))
+fits_op (op.Create dir name kind id) h = (fits_by (codes "create") refl, (fits_id dir h.0, (fits_name name h.1, (fits_kind kind, tt))))
+fits_op (op.OpenFile file n modes) h = (fits_by (codes "open") refl, (fits_id file h.0, (fits_decimal n (omega (arith, h.1)), (fits_letters modes.acc_r modes.acc_w modes.acc_d, (fits_dashed modes.deny_r modes.deny_w modes.deny_d, tt)))))
+fits_op (op.Close file n) h = (fits_by (codes "close") refl, (fits_id file h.0, (fits_decimal n (omega (arith, h.1)), tt)))
+fits_op (op.Set file n size stamp) h = (fits_by (codes "set") refl, (fits_id file h.0, (fits_decimal n (omega (arith, h.1)), (fits_decimal size h.2, (fits_decimal stamp h.3, tt)))))
+fits_op (op.Delete dir name) h = (fits_by (codes "delete") refl, (fits_id dir h.0, (fits_name name h.1, tt)))
+fits_op (op.Rename sdir sname ddir dname) h = (fits_by (codes "rename") refl, (fits_id sdir h.0, (fits_name sname h.1, (fits_id ddir h.2, (fits_name dname h.3, tt)))))
+fits_op (op.Reap file session) h = absurd h
+
+fits_what : (digits : List ℕ) (w : What) → IsSessionDigits digits → FitsWhat w → AllByRecursion FitsWord (what_words digits w)
+fits_what digits (Join s) h k = (fits_by (codes "join") refl, (fits_session digits h, tt))
+fits_what digits (Do s o) h k = (fits_by (codes "do") refl, (fits_session digits h, fits_op o k))
+
+pub are_event_words : (digits : List ℕ) (e : Event) (line : List ℕ) → IsLineOf digits e line → AreWords (event_words digits e) line
+are_event_words digits e line h = (fits_decimal e.reading (omega (arith, h.reading)), fits_what digits e.what h.session h.what, h.text)
+
+text_of : (ws : List Word) (line : List ℕ) → AreWords ws line → line ≡ line_text ws
+text_of [] line h = absurd h
+text_of (w ∷ ws) line h = h.2
+
+pub read_line : (ws : List Word) (e : Event) (line : List ℕ) → AreWords ws line → IsRead e ws → IsReadLine e line
+read_line ws e line h r =
+    let a = r.are_words in
+    record { digits = r.digits; is_line = record { reading = a.reading; session = a.session; what = a.what; text = text_of ws line h ∙ ap line_text a.spelled }; number = r.number }
+
+pub spelled_words : (ws : List Word) (digits : List ℕ) (e : Event) (line : List ℕ) → AreWords ws line → IsLineOf digits e line → AreEventWords digits e ws
+spelled_words ws digits e line h l = record { reading = l.reading; session = l.session; what = l.what; spelled = words_one ws (event_words digits e) line h (are_event_words digits e line l) }

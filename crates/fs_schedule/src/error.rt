@@ -1,0 +1,72 @@
+//! Why lines are no schedule.
+ghost use Rattle.std.specs.Prelude.{◌≡◌};
+ghost use Rattle.fs_schedule.specs.declared.error.ScheduleError.TheVariants.{Memory};
+
+use fs_ident::memory as wanting;
+use std::alloc::{AllocError, AllocFailed};
+use std::fmt;
+use thiserror::Error;
+
+/// What has a limit.
+#[derive(Clone, Copy, Debug, PartialEq, Eq)]
+pub enum Which {
+    /// Bytes of a line, 4,096.
+    Bytes,
+    /// A session's number, 1,000.
+    Sessions,
+    /// Events of a schedule, 65,536.
+    Events,
+}
+
+impl fmt::Display for Which {
+    ghost use Rattle.std.specs.Prelude.{Some};
+    ghost use Rattle.fs_schedule.specs.Limits.{which_text};
+
+    ghost output = { λ w. Some (which_text w) };
+
+    fn fmt<W: fmt::Write>(&self, f: &mut fmt::Formatter<W>) -> fmt::Result {
+        match self {
+            Which::Bytes => f.write_str("bytes"),
+            Which::Sessions => f.write_str("sessions"),
+            Which::Events => f.write_str("events"),
+        }
+    }
+}
+
+/// Why bytes are no schedule. Lines are counted from 1.
+#[derive(Clone, Copy, Debug, PartialEq, Eq, Error)]
+pub enum ScheduleError {
+    /// The first faulty line is outside the grammar.
+    #[error("line {line} is not in the grammar")]
+    BadLine { line: u64 },
+    /// The first faulty line passes a limit.
+    #[error("line {at} passes the limit of {which}")]
+    Limit { which: Which, at: u64 },
+    /// Memory is wanting.
+    #[error("memory is wanting")]
+    Memory,
+}
+
+impl From<wanting::Memory> for ScheduleError {
+    ghost from_gives = { λ _ e. e ≡ Memory };
+
+    fn from(_: wanting::Memory) -> ScheduleError {
+        ScheduleError::Memory
+    }
+}
+
+impl From<AllocError> for ScheduleError {
+    ghost from_gives = { λ _ e. e ≡ Memory };
+
+    fn from(_: AllocError) -> ScheduleError {
+        ScheduleError::Memory
+    }
+}
+
+impl<T: Drop> From<AllocFailed<T>> for ScheduleError {
+    ghost from_gives = { λ _ e. e ≡ Memory };
+
+    fn from(_: AllocFailed<T>) -> ScheduleError {
+        ScheduleError::Memory
+    }
+}
