@@ -1,0 +1,7 @@
+use Rattle.std.proofs.Common.{◌≡◌, ◌∷◌, ◌++◌, take}
+use Rattle.std.specs.Prelude.{flat_map}
+use Rattle.fs_report.specs.Texts.{quoted}
+use Rattle.fs_report.proofs.reply_text.put_names.Given as goal
+
+abbrev pub invariant-loop-name : goal.invariant-loop-name
+invariant-loop-name l = l.out.items ≡ l.initial.out.items ++ flat_map (λ name. 32 ∷ quoted name) (take l.name-index l.names)

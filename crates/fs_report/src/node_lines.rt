@@ -1,0 +1,71 @@
+//! The lines of one file: its node's and its handles'.
+ghost use Rattle.std.specs.Prelude.{◌≡◌, ◌++◌, OnOk, flat_map, Some};
+ghost use Rattle.fs_report.specs.Report.{handle_text, place_text, node_text, file_text};
+
+use crate::pieces::{
+    next_id, next_kind, next_modes, next_name, next_number, next_session, put_bytes,
+};
+use fs_ident::file_id::FileId;
+use fs_ident::memory::Memory;
+use fs_ident::name::Name;
+use fs_model::node::{Handle, Node};
+use std::alloc::Global;
+
+/// A node's line and those of its handles.
+pub(crate) fn put_file(
+    alloc: Global,
+    id: &FileId,
+    node: &Node,
+    out: &mut Vec<u8>,
+) -> Result<(), Memory>
+    ensures { OnOk result (out.new.items ≡ out.old.items ++ file_text id.now (Some node.now)) }
+{
+    put_node(alloc, id, node, out)?;
+    for handle in node.handles.as_slice() {
+        put_handle(alloc, id, *handle, out)?;
+    }
+    Ok(())
+}
+
+/// A node's line.
+fn put_node(alloc: Global, id: &FileId, node: &Node, out: &mut Vec<u8>) -> Result<(), Memory>
+    ensures { OnOk result (out.new.items ≡ out.old.items ++ node_text id.now node.now) }
+{
+    out.push(b'n')?;
+    next_id(alloc, id, out)?;
+    next_kind(node.kind, out)?;
+    next_number(alloc, node.size, out)?;
+    next_number(alloc, node.stamp, out)?;
+    put_place(alloc, &node.parent, out)?;
+    out.push(b'\n')?;
+    Ok(())
+}
+
+/// The directory and the name, for all but the root.
+fn put_place(
+    alloc: Global,
+    parent: &Option<(FileId, Name)>,
+    out: &mut Vec<u8>,
+) -> Result<(), Memory>
+    ensures { OnOk result (out.new.items ≡ out.old.items ++ place_text parent.now) }
+{
+    let Some((dir, name)) = parent else {
+        return Ok(());
+    };
+    put_bytes(b" in", out)?;
+    next_id(alloc, dir, out)?;
+    next_name(name, out)
+}
+
+/// A handle's line.
+fn put_handle(alloc: Global, id: &FileId, handle: Handle, out: &mut Vec<u8>) -> Result<(), Memory>
+    ensures { OnOk result (out.new.items ≡ out.old.items ++ handle_text id.now handle) }
+{
+    out.push(b'h')?;
+    next_id(alloc, id, out)?;
+    next_session(alloc, handle.session, out)?;
+    next_number(alloc, u64::from(handle.h), out)?;
+    next_modes(handle.modes, out)?;
+    out.push(b'\n')?;
+    Ok(())
+}

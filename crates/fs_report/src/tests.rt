@@ -1,0 +1,301 @@
+use crate::done_line::done_line;
+use crate::item_line::item_line;
+use crate::node_lines::put_file;
+use crate::outcome_line::outcome_line;
+use crate::reply_text::put_reply;
+use crate::space_lines::space_lines;
+use fs_ident::actor::{Peer, Session};
+use fs_ident::error::IdError;
+use fs_ident::file_id::FileId;
+use fs_ident::kind::Kind;
+use fs_ident::list::List;
+use fs_ident::memory::Memory;
+use fs_ident::name::Name;
+use fs_model::node::{Handle, Node};
+use fs_model::op::Op;
+use fs_model::reply::Reply;
+use fs_model::space::Space;
+use fs_modes::modes::Modes;
+use fs_msg::item::Item;
+use fs_msg::note::Note;
+use fs_schedule::outcome::Outcome;
+use std::alloc::Global;
+use std::process::Abort;
+use std::test::Fail;
+
+/// The identifier that is written like this.
+fn id(alloc: Global, text: &[u8]) -> Result<FileId, IdError> {
+    FileId::parse(alloc, text)
+}
+
+/// The name of these bytes.
+fn name(alloc: Global, bytes: &[u8]) -> Result<Name, IdError> {
+    Name::new(alloc, bytes)
+}
+
+/// These accesses and denials: read 1, write 2, delete 4.
+fn modes(acc: u8, deny: u8) -> Modes {
+    Modes::new(acc, deny).unwrap_or(Modes::NONE)
+}
+
+/// A list of two names.
+fn names(alloc: Global) -> Result<List<Name>, Fail> {
+    let mut names = List::new(alloc);
+    names.push(name(alloc, b"a")?)?;
+    names.push(name(alloc, b"b c")?)?;
+    Ok(names)
+}
+
+#[test]
+fn writes_replies(rt: HostRuntime) -> Result<(), Fail> {
+    let alloc = rt.alloc();
+    let rows = [
+        (Reply::Gone, b"gone".as_slice()),
+        (Reply::NotDir, b"notdir"),
+        (Reply::GoneTo, b"goneto"),
+        (Reply::NotDirTo, b"notdirto"),
+        (Reply::NoName, b"noname"),
+        (Reply::Found(id(alloc, b"/1/3")?), b"found /1/3"),
+        (Reply::Names(List::new(alloc)), b"names"),
+        (Reply::Names(names(alloc)?), b"names \"a\" \"b c\""),
+        (Reply::IsFile, b"isfile"),
+        (Reply::IsDir, b"isdir"),
+        (Reply::Info { size: 10, stamp: 5 }, b"info 10 5"),
+        (Reply::Exists, b"exists"),
+        (Reply::BadId, b"badid"),
+        (Reply::Made, b"made"),
+        (Reply::HandleUsed, b"handleused"),
+        (Reply::Sharing, b"sharing"),
+        (Reply::Opened, b"opened"),
+        (Reply::NoHandle, b"nohandle"),
+        (Reply::Closed, b"closed"),
+        (Reply::NoAccess, b"noaccess"),
+        (Reply::Set, b"set"),
+        (Reply::NotEmpty, b"notempty"),
+        (Reply::InUse, b"inuse"),
+        (Reply::Deleted, b"deleted"),
+        (Reply::Cycle, b"cycle"),
+        (Reply::Renamed, b"renamed"),
+        (Reply::Reaped, b"reaped"),
+    ];
+    for (reply, text) in rows {
+        let mut out = Vec::new(alloc);
+        put_reply(alloc, &reply, &mut out)?;
+        assert_eq!(rt; out.as_slice(), text);
+    }
+    Ok(())
+}
+
+/// The outcome that the line of this number tells.
+fn outcome(alloc: Global, k: u64) -> Result<Outcome, Memory> {
+    let mut notes = List::new(alloc);
+    let mut sent = List::new(alloc);
+    let who = match k {
+        1 => {
+            notes.push(Note::Joined)?;
+            Some(Peer::Client(Session(1)))
+        }
+        2 => {
+            let reply = Reply::Made;
+            notes.push(Note::Answered { n: 1, reply })?;
+            Some(Peer::Client(Session(1)))
+        }
+        9 => {
+            notes.push(Note::Joined)?;
+            notes.push(Note::Nothing)?;
+            sent.push(4)?;
+            sent.push(5)?;
+            Some(Peer::Server(0))
+        }
+        _ => {
+            notes.push(Note::Nothing)?;
+            None
+        }
+    };
+    Ok(Outcome { who, notes, sent })
+}
+
+#[test]
+fn writes_outcomes(rt: HostRuntime) -> Result<(), Fail> {
+    let alloc = rt.alloc();
+    for (k, text) in [
+        (1, b"e1 c1 joined\n".as_slice()),
+        (2, b"e2 c1 answered 1 made\n"),
+        (9, b"e9 s0 joined; nothing sends 4 5\n"),
+        (10, b"e10 - nothing\n"),
+    ] {
+        let mut out = Vec::from_slice(alloc, b"e0\n")?;
+        outcome_line(alloc, k, &outcome(alloc, k)?, &mut out)?;
+        assert!(rt; out.starts_with(b"e0\n"));
+        assert_eq!(rt; &out[3..], text);
+    }
+    Ok(())
+}
+
+/// The operation that the line of this number tells.
+fn op(alloc: Global, k: u64) -> Result<Op, IdError> {
+    let file = id(alloc, b"/1")?;
+    match k {
+        1 | 2 | 3 | 4 | 13 => op_on_name(alloc, k),
+        5 => Ok(Op::List { dir: file }),
+        6 => Ok(Op::Kind { file }),
+        7 => Ok(Op::Info { file }),
+        8 => Ok(Op::OpenFile {
+            file,
+            h: 1,
+            modes: modes(1, 6),
+        }),
+        9 => Ok(Op::OpenFile {
+            file,
+            h: 2,
+            modes: modes(2, 0),
+        }),
+        10 => Ok(Op::Close { file, h: 1 }),
+        11 => Ok(Op::Set {
+            file,
+            h: 1,
+            size: 10,
+            stamp: 5,
+        }),
+        _ => Ok(Op::Reap {
+            file,
+            session: Session(2),
+        }),
+    }
+}
+
+/// The same where it has a name.
+fn op_on_name(alloc: Global, k: u64) -> Result<Op, IdError> {
+    let dir = id(alloc, b"/")?;
+    let name = name(alloc, b"a")?;
+    match k {
+        1 => Ok(Op::Create {
+            dir,
+            name,
+            kind: Kind::Dir,
+            id: Some(id(alloc, b"/1")?),
+        }),
+        2 => Ok(Op::Lookup { dir, name }),
+        13 => Ok(Op::Delete { dir, name }),
+        3 => Ok(Op::Create {
+            dir,
+            name,
+            kind: Kind::File,
+            id: None,
+        }),
+        _ => Ok(Op::Rename {
+            sdir: dir,
+            sname: name,
+            ddir: id(alloc, b"/1/1")?,
+            dname: Name::new(alloc, b"c")?,
+        }),
+    }
+}
+
+#[test]
+fn writes_items(rt: HostRuntime) -> Result<(), Fail> {
+    let alloc = rt.alloc();
+    for (k, text) in [
+        (1, b"j1 c1 1 create / \"a\" dir /1 exists\n".as_slice()),
+        (2, b"j2 c1 2 lookup / \"a\" exists\n"),
+        (3, b"j3 c1 3 create / \"a\" file - exists\n"),
+        (4, b"j4 c1 4 rename / \"a\" /1/1 \"c\" exists\n"),
+        (5, b"j5 c1 5 list /1 exists\n"),
+        (6, b"j6 c1 6 kind /1 exists\n"),
+        (7, b"j7 c1 7 info /1 exists\n"),
+        (8, b"j8 c1 8 open /1 1 R WD exists\n"),
+        (9, b"j9 c1 9 open /1 2 W - exists\n"),
+        (10, b"j10 c1 10 close /1 1 exists\n"),
+        (11, b"j11 c1 11 set /1 1 10 5 exists\n"),
+        (12, b"j12 c1 12 reap /1 c2 exists\n"),
+        (13, b"j13 c1 13 delete / \"a\" exists\n"),
+    ] {
+        let mut out = Vec::from_slice(alloc, b"j0\n")?;
+        let item = Item {
+            by: Peer::Client(Session(1)),
+            n: k,
+            op: op(alloc, k)?,
+            reply: Reply::Exists,
+        };
+        item_line(alloc, k, &item, &mut out)?;
+        assert!(rt; out.starts_with(b"j0\n"));
+        assert_eq!(rt; &out[3..], text);
+    }
+    Ok(())
+}
+
+/// A file in a directory, with a handle of each of two sessions where it is no directory itself.
+fn node(alloc: Global, kind: Kind, dir: &[u8], as_name: &[u8]) -> Result<Node, Fail> {
+    let mut handles = List::new(alloc);
+    if kind == Kind::File {
+        for session in [Session(1), Session(2)] {
+            handles.push(Handle {
+                session,
+                h: 1,
+                modes: modes(1, 6),
+            })?;
+        }
+    }
+    Ok(Node {
+        kind,
+        parent: Some((id(alloc, dir)?, name(alloc, as_name)?)),
+        children: List::new(alloc),
+        size: 10,
+        stamp: 5,
+        handles,
+    })
+}
+
+#[test]
+fn writes_files(rt: HostRuntime) -> Result<(), Fail> {
+    let alloc = rt.alloc();
+    let file = id(alloc, b"/1")?;
+    let mut out = Vec::new(alloc);
+    put_file(
+        alloc,
+        &file,
+        &node(alloc, Kind::Dir, b"/1/1", b"c")?,
+        &mut out,
+    )?;
+    assert_eq!(rt; out.as_slice(), b"n /1 dir 10 5 in /1/1 \"c\"\n".as_slice());
+    out.clear();
+    put_file(
+        alloc,
+        &file,
+        &node(alloc, Kind::File, b"/", b"f")?,
+        &mut out,
+    )?;
+    assert_eq!(rt;
+        out.as_slice(),
+        b"n /1 file 10 5 in / \"f\"\nh /1 c1 1 R WD\nh /1 c2 1 R WD\n".as_slice()
+    );
+    Ok(())
+}
+
+#[test]
+fn writes_the_last_line(rt: HostRuntime) -> Result<(), Fail> {
+    let alloc = rt.alloc();
+    let mut out = Vec::new(alloc);
+    done_line(alloc, 4, 3, 2, &mut out)?;
+    assert_eq!(rt;
+        out.as_slice(),
+        b"done events 4 journal 3 nodes 2\n".as_slice()
+    );
+    Ok(())
+}
+
+#[test]
+fn writes_spaces(rt: HostRuntime) -> Result<(), Fail> {
+    let alloc = rt.alloc();
+    let mut space = Space::new(alloc)?;
+    for k in [1, 8] {
+        space.step(alloc, Session(1), &op(alloc, k)?)?;
+    }
+    let mut out = Vec::new(alloc);
+    space_lines(alloc, &space, &mut out)?;
+    assert_eq!(rt;
+        out.as_slice(),
+        b"n / dir 0 0\nn /1 dir 0 0 in / \"a\"\nh /1 c1 1 R WD\n".as_slice()
+    );
+    Ok(())
+}
