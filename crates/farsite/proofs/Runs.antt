@@ -1,0 +1,53 @@
+-- The loops over events, outcomes, items and lines.
+use Rattle.std.proofs.Common.{◌≡◌, ℕ, ◌+◌, ◌-◌, ◌<◌, ◌≤◌, List, [], ◌∷◌, ◌++◌, length, get_or, take, drop, refl, ap, sym, ◌∙◌, append_assoc, arith, subst, length-drop}
+use Rattle.std.proofs.lemmas.List.{drop_more, append-nil, drop_all, take-take, length-take}
+use Rattle.std.proofs.Math.Seq.{take-add}
+use Rattle.std.specs.Prelude.{Option}
+use Rattle.std.specs.Io.KnownBytes.{Appends}
+use Rattle.fs_io.specs.Bytes.{IsPrefixWritten}
+use Rattle.fs_io.proofs.Known.{appends_more}
+use Rattle.fs_msg.specs.declared.item.Item.{Item}
+use Rattle.fs_report.specs.Report.{outcome_text, outcomes_text, item_text, items_text}
+use Rattle.fs_schedule.specs.declared.event.Event.{Event}
+use Rattle.fs_schedule.specs.declared.outcome.Outcome.{Outcome}
+use Rattle.farsite.specs.declared.world.World.{World}
+use Rattle.farsite.specs.World.{after, happens}
+
+pub after_step : (w : World) (es : List Event) (i : ℕ) (d : Event) → i < length es → after w (drop i es) ≡ after (happens w (get_or es i d).what) (drop (i + 1) es)
+after_step w es i d h = rw (drop_more es i d h)
+
+-- one more outcome is written
+pub outcomes_step : (out more total : List ℕ) (os : List Outcome) (i : ℕ) (o : Outcome) → i < length os → get_or os i o ≡ o → more ≡ out ++ outcome_text (i + 1) o → out ++ outcomes_text (i + 1) (drop i os) ≡ total → more ++ outcomes_text (i + 1 + 1) (drop (i + 1) os) ≡ total
+outcomes_step out more total os i o lt is e h =
+    ap (λ (xs : List ℕ). xs ++ outcomes_text (i + 1 + 1) (drop (i + 1) os)) e
+    ∙ append_assoc out (outcome_text (i + 1) o) (outcomes_text (i + 1 + 1) (drop (i + 1) os))
+    ∙ sym (ap (λ (es : List Outcome). out ++ outcomes_text (i + 1) es) (drop_more os i o lt ∙ ap (λ (x : Outcome). x ∷ drop (i + 1) os) is))
+    ∙ h
+
+pub outcomes_done : (out total : List ℕ) (os : List Outcome) (i : ℕ) → length os ≤ i → out ++ outcomes_text (i + 1) (drop i os) ≡ total → out ≡ total
+outcomes_done out total os i le h = sym (append-nil out) ∙ sym (ap (λ (es : List Outcome). out ++ outcomes_text (i + 1) es) (drop_all i os le)) ∙ h
+
+-- one more item is written
+pub items_step : (out more total : List ℕ) (is : List Item) (i : ℕ) (x : Item) → i < length is → get_or is i x ≡ x → more ≡ out ++ item_text (i + 1) x → out ++ items_text (i + 1) (drop i is) ≡ total → more ++ items_text (i + 1 + 1) (drop (i + 1) is) ≡ total
+items_step out more total is i x lt same e h =
+    ap (λ (xs : List ℕ). xs ++ items_text (i + 1 + 1) (drop (i + 1) is)) e
+    ∙ append_assoc out (item_text (i + 1) x) (items_text (i + 1 + 1) (drop (i + 1) is))
+    ∙ sym (ap (λ (es : List Item). out ++ items_text (i + 1) es) (drop_more is i x lt ∙ ap (λ (y : Item). y ∷ drop (i + 1) is) same))
+    ∙ h
+
+pub items_done : (out total : List ℕ) (is : List Item) (i : ℕ) → length is ≤ i → out ++ items_text (i + 1) (drop i is) ≡ total → out ≡ total
+items_done out total is i le h = sym (append-nil out) ∙ sym (ap (λ (es : List Item). out ++ items_text (i + 1) es) (drop_all i is le)) ∙ h
+
+-- one more line is written
+pub lines_step : (a b c : Option (List ℕ)) (lines : List ℕ) (at end : ℕ) → at ≤ end → Appends a b (take at lines) → Appends b c (take (end - at) (drop at lines)) → Appends a c (take end lines)
+lines_step a b c lines at end le p q =
+    let whole : at + (end - at) ≡ end = omega arith in
+    subst (λ (n : ℕ). Appends a c (take n lines)) whole (rw (take-add at (end - at) lines) (appends_more a b c _ _ p q))
+
+-- a part of one more line is written
+pub lines_part : (a b c : Option (List ℕ)) (lines : List ℕ) (at end : ℕ) → at ≤ end → end ≤ length lines → Appends a b (take at lines) → IsPrefixWritten b c (take (end - at) (drop at lines)) → IsPrefixWritten a c lines
+lines_part a b c lines at end le within p q =
+    let few : q.0 ≤ length (take (end - at) (drop at lines)) = q.1 in
+    let short : q.0 ≤ end - at = omega (arith, few, length-take (end - at) (drop at lines)) in
+    let piece : take q.0 (take (end - at) (drop at lines)) ≡ take q.0 (drop at lines) = take-take q.0 (end - at) (drop at lines) short in
+    (at + q.0, omega arith, rw (take-add at q.0 lines) (appends_more a b c _ _ p (subst (λ (zs : List ℕ). Appends b c zs) piece q.2)))

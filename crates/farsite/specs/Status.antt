@@ -1,0 +1,43 @@
+-- How a call of the program ends.
+use Rattle.std.specs.Prelude.{ℕ, List, ◌++◌, codes}
+use Rattle.std.specs.Fmt.{decimal}
+use Rattle.fs_schedule.specs.Limits.{which_text}
+use Rattle.fs_schedule.specs.declared.error.ScheduleError.{ScheduleError}
+use Rattle.fs_schedule.specs.declared.error.ScheduleError.TheVariants as schedule
+use Rattle.fs_io.specs.declared.reading.ReadError.{ReadError}
+use Rattle.fs_io.specs.declared.reading.ReadError.TheVariants as reading
+use Rattle.farsite.specs.declared.status.Status.{Status}
+use Rattle.farsite.specs.declared.status.Status.TheVariants as status
+
+-- the number with which the program ends
+abbrev pub number_of : Status → ℕ
+number_of status.Done = 0
+number_of (status.Usage word) = 2
+number_of (status.BadLine line) = 3
+number_of (status.Limit which at) = 5
+number_of (status.TooLong limit) = 6
+number_of status.ReadFault = 7
+number_of status.WriteFault = 8
+number_of status.Memory = 10
+
+abbrev pub status_text : Status → List ℕ
+status_text status.Done = codes "done"
+status_text (status.Usage word) = codes "word " ++ decimal word ++ codes " is not understood"
+status_text (status.BadLine line) = codes "line " ++ decimal line ++ codes " is not in the grammar"
+status_text (status.Limit which at) = codes "line " ++ (decimal at ++ (codes " passes the limit of " ++ which_text which))
+status_text (status.TooLong limit) = codes "the input has more than " ++ decimal limit ++ codes " bytes"
+status_text status.ReadFault = codes "the input could not be read"
+status_text status.WriteFault = codes "the output could not be written"
+status_text status.Memory = codes "memory is wanting"
+
+-- the status of an input that was not read to its end
+abbrev pub read_status : ReadError → Status
+read_status reading.ReadFault = status.ReadFault
+read_status (reading.TooLong limit) = status.TooLong limit
+read_status reading.Memory = status.Memory
+
+-- the status of an input that is no schedule
+abbrev pub schedule_status : ScheduleError → Status
+schedule_status (schedule.BadLine line) = status.BadLine line
+schedule_status (schedule.Limit which at) = status.Limit which at
+schedule_status schedule.Memory = status.Memory

@@ -1,0 +1,14 @@
+-- The words of the command line.
+use Rattle.std.specs.Prelude.{◌≡◌, ℕ, Bool, true, false, List, [], ◌∷◌, codes, nat_eq, if◌then◌else◌, ◌+◌}
+use Rattle.std.specs.Cmp.Lexicographic.{pointwise}
+
+-- the words are the one form that there is
+abbrev pub is_form : List (List ℕ) → Bool
+is_form [] = false
+is_form (w ∷ []) = pointwise nat_eq w (codes "replay")
+is_form (w ∷ (v ∷ ws)) = false
+
+-- how many words at the front some form begins with
+abbrev pub understood : List (List ℕ) → ℕ
+understood [] = 0
+understood (w ∷ ws) = if pointwise nat_eq w (codes "replay") then 1 else 0

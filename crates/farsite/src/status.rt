@@ -1,0 +1,65 @@
+//! How a call of the program ends.
+ghost use Rattle.std.specs.Prelude.{◌≡◌, Some};
+
+use fs_schedule::error::Which;
+use std::fmt;
+
+/// How a call of the program ends. Words and lines are counted from 1.
+#[derive(Clone, Copy, Debug, PartialEq, Eq)]
+pub enum Status {
+    /// The input was read to its end, the run ended, and all was written.
+    Done,
+    /// No form of the command line has this word there.
+    Usage { word: u64 },
+    /// The first faulty line is outside the grammar.
+    BadLine { line: u64 },
+    /// The first faulty line passes a limit.
+    Limit { which: Which, at: u64 },
+    /// The input has more bytes than the limit.
+    TooLong { limit: u64 },
+    /// The input could not be read.
+    ReadFault,
+    /// The output could not be written; what is written is a prefix of it.
+    WriteFault,
+    /// Memory is wanting.
+    Memory,
+}
+
+impl Status {
+    ghost use Rattle.farsite.specs.Status.{number_of};
+
+    /// The number with which the program ends.
+    pub fn number(self) -> u8
+        ensures { result ≡ number_of self }
+    {
+        match self {
+            Status::Done => 0,
+            Status::Usage { .. } => 2,
+            Status::BadLine { .. } => 3,
+            Status::Limit { .. } => 5,
+            Status::TooLong { .. } => 6,
+            Status::ReadFault => 7,
+            Status::WriteFault => 8,
+            Status::Memory => 10,
+        }
+    }
+}
+
+impl fmt::Display for Status {
+    ghost use Rattle.farsite.specs.Status.{status_text};
+
+    ghost output = { λ s. Some (status_text s) };
+
+    fn fmt<W: fmt::Write>(&self, f: &mut fmt::Formatter<W>) -> fmt::Result {
+        match self {
+            Status::Done => f.write_str("done"),
+            Status::Usage { word } => write!(f, "word {word} is not understood"),
+            Status::BadLine { line } => write!(f, "line {line} is not in the grammar"),
+            Status::Limit { which, at } => write!(f, "line {at} passes the limit of {which}"),
+            Status::TooLong { limit } => write!(f, "the input has more than {limit} bytes"),
+            Status::ReadFault => f.write_str("the input could not be read"),
+            Status::WriteFault => f.write_str("the output could not be written"),
+            Status::Memory => f.write_str("memory is wanting"),
+        }
+    }
+}
