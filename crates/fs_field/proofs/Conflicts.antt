@@ -1,0 +1,104 @@
+-- Conflicts of rows.
+use Rattle.std.proofs.Common.{◌≡◌, ℕ, ◌==◌, not, ◌&&◌, ◌||◌, Bool, true, false, List, [], ◌∷◌, refl, ap, cond, sym, ◌∙◌}
+use Rattle.std.specs.Cmp.{nat_eq_equiv}
+use Rattle.std.specs.Cmp.Lexicographic.{nat_list_eq_equiv}
+use Rattle.std.specs.Prelude.{Option}
+use Rattle.fs_field.specs.declared.field.Field.{Field}
+use Rattle.fs_field.specs.declared.field.Field.TheVariants.{Life, Child, Names, Info, Own, SelfW, Other}
+use Rattle.fs_field.specs.declared.lease_kind.LeaseKind.{LeaseKind}
+use Rattle.fs_field.specs.declared.row.Row.{Row}
+use Rattle.fs_ident.specs.declared.actor.Session.{Session}
+use Rattle.fs_field.specs.Field.{same}
+use Rattle.fs_field.specs.In.{In}
+use Rattle.fs_field.specs.Conflict.{Selves, one_shared, names_over, meets, is_exclusive, plain_conflict, mode_meets, mode_conflict, conflicts, WithoutConflict, IsCalm, is_plain}
+
+pub either_way : (x y : Bool) → (x || y) ≡ (y || x)
+either_way true true = refl
+either_way true false = refl
+either_way false true = refl
+either_way false false = refl
+
+shared_mutual : (f g : Field) → one_shared f g ≡ one_shared g f
+shared_mutual (Life a) (Life b) = nat_list_eq_equiv.symm a b
+shared_mutual (Child a m) (Child b n) = ap (λ x. x && same m n) (nat_list_eq_equiv.symm a b) ∙ ap (λ x. same b a && x) (nat_list_eq_equiv.symm m n)
+shared_mutual (Names a) (Names b) = nat_list_eq_equiv.symm a b
+shared_mutual (Info a) (Info b) = nat_list_eq_equiv.symm a b
+shared_mutual (Own a) (Life b) = refl
+shared_mutual (Own a) (Child b n) = refl
+shared_mutual (Own a) (Names b) = refl
+shared_mutual (Own a) (Info b) = refl
+shared_mutual (Own a) (Own b) = refl
+shared_mutual (Own a) (SelfW b n) = refl
+shared_mutual (Own a) (Other b n) = refl
+shared_mutual (SelfW a m) (Life b) = refl
+shared_mutual (SelfW a m) (Child b n) = refl
+shared_mutual (SelfW a m) (Names b) = refl
+shared_mutual (SelfW a m) (Info b) = refl
+shared_mutual (SelfW a m) (Own b) = refl
+shared_mutual (SelfW a m) (SelfW b n) = refl
+shared_mutual (SelfW a m) (Other b n) = refl
+shared_mutual (Other a m) (Life b) = refl
+shared_mutual (Other a m) (Child b n) = refl
+shared_mutual (Other a m) (Names b) = refl
+shared_mutual (Other a m) (Info b) = refl
+shared_mutual (Other a m) (Own b) = refl
+shared_mutual (Other a m) (SelfW b n) = refl
+shared_mutual (Other a m) (Other b n) = refl
+shared_mutual f g = refl
+
+meets_mutual : (f : Field) (k : LeaseKind) (g : Field) (l : LeaseKind) → meets f k g l ≡ meets g l f k
+meets_mutual f k g l =
+    ap (λ x. (x && (is_exclusive k || is_exclusive l)) || ((names_over f g && is_exclusive l) || (names_over g f && is_exclusive k))) (shared_mutual f g)
+    ∙ ap (λ x. (one_shared g f && x) || ((names_over f g && is_exclusive l) || (names_over g f && is_exclusive k))) (either_way (is_exclusive k) (is_exclusive l))
+    ∙ ap (λ x. (one_shared g f && (is_exclusive l || is_exclusive k)) || x) (either_way (names_over f g && is_exclusive l) (names_over g f && is_exclusive k))
+
+other_session : (a b : Row) → not (a.session.0 == b.session.0) ≡ not (b.session.0 == a.session.0)
+other_session a b = ap not (nat_eq_equiv.symm a.session.0 b.session.0)
+
+pub plain_mutual : (a b : Row) → plain_conflict a b ≡ plain_conflict b a
+plain_mutual a b =
+    ap (λ x. x && meets a.field a.kind b.field b.kind) (other_session a b)
+    ∙ ap (λ x. not (b.session.0 == a.session.0) && x) (meets_mutual a.field a.kind b.field b.kind)
+
+mode_mutual : (selves : Selves) (rows : List Row) (a b : Row) → mode_conflict selves rows a b ≡ mode_conflict selves rows b a
+mode_mutual selves rows a b =
+    ap (λ x. x && (mode_meets selves rows a.session a.field a.promise b.session b.field || mode_meets selves rows b.session b.field b.promise a.session a.field)) (other_session a b)
+    ∙ ap (λ x. not (b.session.0 == a.session.0) && x) (either_way (mode_meets selves rows a.session a.field a.promise b.session b.field) (mode_meets selves rows b.session b.field b.promise a.session a.field))
+
+pub conflicts_mutual : (selves : Selves) (rows : List Row) (a b : Row) → conflicts selves rows a b ≡ conflicts selves rows b a
+conflicts_mutual selves rows a b =
+    ap (λ x. x || mode_conflict selves rows a b) (plain_mutual a b)
+    ∙ ap (λ x. plain_conflict b a || x) (mode_mutual selves rows a b)
+
+never : (x : Bool) → (x && false) ≡ false
+never true = refl
+never false = refl
+
+or_never : (x : Bool) → (x || false) ≡ x
+or_never true = refl
+or_never false = refl
+
+plain_field : (selves : Selves) (rows : List Row) (x : Session) (f : Field) (p : Option Bool) (y : Session) (g : Field) → is_plain f ≡ true → mode_meets selves rows x f p y g ≡ false
+plain_field selves rows x (Life f) p y g h = refl
+plain_field selves rows x (Child f n) p y g h = refl
+plain_field selves rows x (Names f) p y g h = refl
+plain_field selves rows x (Info f) p y g h = refl
+plain_field selves rows x (Own f) p y g h = refl
+plain_field selves rows x (SelfW f m) p y g h = absurd (cc)
+plain_field selves rows x (Other f m) p y g h = absurd (cc)
+
+no_promise : (selves : Selves) (rows : List Row) (a b : Row) → is_plain a.field ≡ true → mode_meets selves rows a.session a.field a.promise b.session b.field ≡ false
+no_promise selves rows a b h = plain_field selves rows a.session a.field a.promise b.session b.field h
+
+pub plain_is_all : (selves : Selves) (rows : List Row) (a b : Row) → is_plain a.field ≡ true → is_plain b.field ≡ true → conflicts selves rows a b ≡ plain_conflict a b
+plain_is_all selves rows a b ha hb =
+    ap (λ x. plain_conflict a b || (not (a.session.0 == b.session.0) && (x || mode_meets selves rows b.session b.field b.promise a.session a.field))) (no_promise selves rows a b ha)
+    ∙ ap (λ x. plain_conflict a b || (not (a.session.0 == b.session.0) && x)) (no_promise selves rows b a hb)
+    ∙ ap (λ x. plain_conflict a b || x) (never (not (a.session.0 == b.session.0)))
+    ∙ or_never (plain_conflict a b)
+
+pub calm : (selves : Selves) (rows : List Row) → ((row : Row) → In row rows → is_plain row.field ≡ true) → WithoutConflict selves rows → IsCalm rows
+calm selves rows plain free a b ia ib = sym (plain_is_all selves rows a b (plain a ia) (plain b ib)) ∙ free a b ia ib
+
+pub free : (selves : Selves) (rows : List Row) → ((row : Row) → In row rows → is_plain row.field ≡ true) → IsCalm rows → WithoutConflict selves rows
+free selves rows plain quiet a b ia ib = plain_is_all selves rows a b (plain a ia) (plain b ib) ∙ quiet a b ia ib

@@ -1,0 +1,7 @@
+pub mod Put
+pub mod Untouched
+pub mod Named
+pub mod Rows
+pub mod Below
+pub mod In
+pub mod Conflicts

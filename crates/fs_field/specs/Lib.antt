@@ -1,0 +1,6 @@
+pub mod Field
+pub mod Value
+pub mod After
+pub mod In
+pub mod Conflict
+pub mod Table

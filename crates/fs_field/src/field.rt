@@ -1,0 +1,75 @@
+//! What a lease is on.
+ghost use Rattle.std.specs.Prelude.{◌≡◌, ◌↔◌, IsTrue};
+ghost use Rattle.fs_field.specs.Field.{same_field, file_of};
+
+use fs_ident::file_id::FileId;
+use fs_ident::memory::Memory;
+use fs_ident::name::Name;
+use fs_ident::twin::Twin;
+use fs_modes::modes::Mode;
+use std::alloc::Global;
+
+/// One fact of a file that can be leased by itself.
+#[derive(Debug, Drop, PartialEq, Eq, PartialOrd, Ord)]
+pub enum Field {
+    /// Whether the file lives, and of what kind it is.
+    Life(FileId),
+    /// What a directory has under one name.
+    Child(FileId, Name),
+    /// All names of a directory.
+    Names(FileId),
+    /// Size and stamp.
+    Info(FileId),
+    /// The handles of one session on the file.
+    Own(FileId),
+    /// Whether one session has the mode on the file; only that session tells it.
+    SelfW(FileId, Mode),
+    /// Whether any other session has the mode on the file.
+    Other(FileId, Mode),
+}
+
+impl Field {
+    /// The file of the field.
+    pub fn file(&self) -> &FileId
+        ensures { result.now ≡ file_of self.now }
+    {
+        match self {
+            Field::Life(file) | Field::Names(file) | Field::Info(file) | Field::Own(file) => file,
+            Field::Child(file, _) => file,
+            Field::SelfW(file, _) | Field::Other(file, _) => file,
+        }
+    }
+
+    /// The file of the field, which takes the field apart.
+    pub fn into_file(self) -> FileId
+        ensures { result ≡ file_of self }
+    {
+        match self {
+            Field::Life(file) | Field::Names(file) | Field::Info(file) | Field::Own(file) => file,
+            Field::Child(file, _) => file,
+            Field::SelfW(file, _) | Field::Other(file, _) => file,
+        }
+    }
+
+    /// Whether two fields are one.
+    pub fn is(&self, other: &Field) -> bool
+        ensures same { result ≡ same_field self.now other.now }
+        ensures equal { IsTrue result ↔ (self.now ≡ other.now) }
+    {
+        self == other
+    }
+}
+
+impl Twin for Field {
+    fn copy(&self, alloc: Global) -> Result<Field, Memory> {
+        match self {
+            Field::Life(file) => Ok(Field::Life(file.copy(alloc)?)),
+            Field::Child(file, name) => Ok(Field::Child(file.copy(alloc)?, name.copy(alloc)?)),
+            Field::Names(file) => Ok(Field::Names(file.copy(alloc)?)),
+            Field::Info(file) => Ok(Field::Info(file.copy(alloc)?)),
+            Field::Own(file) => Ok(Field::Own(file.copy(alloc)?)),
+            Field::SelfW(file, mode) => Ok(Field::SelfW(file.copy(alloc)?, *mode)),
+            Field::Other(file, mode) => Ok(Field::Other(file.copy(alloc)?, *mode)),
+        }
+    }
+}

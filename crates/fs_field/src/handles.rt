@@ -1,0 +1,62 @@
+//! The handles of one session on a file, by handle.
+ghost use Rattle.std.specs.Prelude.{◌≡◌, ◌==◌, not, length, ◌≤◌, OnOk, OnErr};
+ghost use Rattle.std.specs.List.{filter};
+ghost use Rattle.fs_field.specs.After.{place_before, is_above, with_handle, without_handle};
+
+use fs_ident::list::List;
+use fs_ident::memory::Memory;
+use fs_ident::twin::Twin;
+use fs_modes::modes::Modes;
+use std::alloc::Global;
+use std::mem;
+
+/// Puts the modes under the handle, before the first greater one, in place of what was under it.
+#[tactic(auto, using(crate::proofs::Put::put_at))]
+pub fn with_handle(
+    handles: &mut List<(u32, Modes)>,
+    alloc: Global,
+    h: u32,
+    modes: Modes,
+) -> Result<(), Memory>
+    ensures ok { OnOk result (handles.new ≡ with_handle handles.old h modes) }
+    ensures err { OnErr result (handles.new ≡ handles.old) }
+{
+    let mut more = handles.copy(alloc)?;
+    without_handle(&mut more, alloc, h);
+    let at = place(more.as_slice(), h);
+    more.insert(at, (h, modes))?;
+    *handles = more;
+    Ok(())
+}
+
+/// Takes out what is under the handle.
+pub fn without_handle(handles: &mut List<(u32, Modes)>, alloc: Global, h: u32)
+    ensures { handles.new ≡ without_handle handles.old h }
+{
+    let mut items = mem::replace(handles, List::new(alloc)).into_vec();
+    retain_others(&mut items, h);
+    *handles = List::from_vec(items);
+}
+
+/// Where the first greater handle stands, or the length.
+#[tactic(auto, using(crate::proofs::Put::place_step))]
+fn place(handles: &[(u32, Modes)], h: u32) -> usize
+    ensures place { result ≡ place_before (is_above h) handles.now }
+    ensures within { result ≤ length handles.now }
+{
+    let mut at = 0;
+    for other in handles {
+        if h < other.0 {
+            return at;
+        }
+        at += 1;
+    }
+    at
+}
+
+/// Drops what is under the handle.
+fn retain_others(handles: &mut Vec<(u32, Modes)>, h: u32)
+    ensures { handles.new.items ≡ filter (λ x. not (x.0 == h)) handles.old.items }
+{
+    handles.retain(|other| other.0 != h);
+}

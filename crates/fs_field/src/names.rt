@@ -1,0 +1,58 @@
+//! The names of a directory, in byte order.
+ghost use Rattle.std.specs.Prelude.{◌≡◌, not, length, ◌≤◌, OnOk, OnErr};
+ghost use Rattle.std.specs.List.{filter};
+ghost use Rattle.fs_field.specs.After.{place_before, is_before, with_name, without_name};
+ghost use Rattle.fs_field.specs.Field.{same};
+
+use fs_ident::list::List;
+use fs_ident::memory::Memory;
+use fs_ident::name::Name;
+use fs_ident::twin::Twin;
+use std::alloc::Global;
+use std::mem;
+
+/// Puts the name before the first greater one, unless it is there.
+#[tactic(auto, using(crate::proofs::Put::put_at))]
+pub fn with_name(names: &mut List<Name>, alloc: Global, name: &Name) -> Result<(), Memory>
+    ensures ok { OnOk result (names.new ≡ with_name names.old name.now) }
+    ensures err { OnErr result (names.new ≡ names.old) }
+{
+    if names.as_slice().contains(name) {
+        return Ok(());
+    }
+    let name = name.copy(alloc)?;
+    let at = place(names.as_slice(), &name);
+    names.insert(at, name)
+}
+
+/// Takes the name out.
+pub fn without_name(names: &mut List<Name>, alloc: Global, name: &Name)
+    ensures { names.new ≡ without_name names.old name.now }
+{
+    let mut items = mem::replace(names, List::new(alloc)).into_vec();
+    retain_others(&mut items, name);
+    *names = List::from_vec(items);
+}
+
+/// Where the first greater name stands, or the length.
+#[tactic(auto, using(crate::proofs::Put::place_step))]
+fn place(names: &[Name], name: &Name) -> usize
+    ensures place { result ≡ place_before (is_before name.now) names.now }
+    ensures within { result ≤ length names.now }
+{
+    let mut at = 0;
+    for other in names {
+        if name < other {
+            return at;
+        }
+        at += 1;
+    }
+    at
+}
+
+/// Drops the name.
+fn retain_others(names: &mut Vec<Name>, name: &Name)
+    ensures { names.new.items ≡ filter (λ n. not (same n name.now)) names.old.items }
+{
+    names.retain(|other| other != name);
+}
