@@ -1,9 +1,9 @@
 -- No session has asked for more operations than there were events.
-use Rattle.std.proofs.Common.{◌≡◌, ℕ, ◌+◌, ◌==◌, ◌≤◌, Bool, true, false, refl, ap, sym, ◌∙◌, cond, arith, subst}
+use Rattle.std.proofs.Common.{◌≡◌, ℕ, ◌+◌, ◌≤◌, Bool, true, false, refl, ap, sym, ◌∙◌, cond, arith}
 use Rattle.std.specs.Prelude.{Option, Some, None, unwrap_or}
 use Rattle.std.specs.Ordering.{nat_cmp, eq_by_cmp}
 use Rattle.std.specs.Cmp.{nat_cmp_total}
-use Rattle.std.specs.FinMap.{get, insert, get-insert, empty, get-empty}
+use Rattle.std.specs.FinMap.{get, insert, get-insert, get-empty}
 use Rattle.fs_ident.specs.declared.actor.Session.{Session}
 use Rattle.fs_model.specs.declared.op.Op.{Op}
 use Rattle.fs_schedule.specs.declared.event.What.{What}

@@ -1,16 +1,12 @@
 -- The end of a replay that was done.
-use Rattle.std.proofs.Common.{◌≡◌, ℕ, List, [], ◌∷◌, ◌++◌, ap, sym, ◌∙◌, subst, refl, append_assoc}
+use Rattle.std.proofs.Common.{◌≡◌, ℕ, List, [], ◌++◌, ap, ◌∙◌, subst, append_assoc}
 use Rattle.std.specs.Prelude.{Option, Some, None, IfSome}
-use Rattle.std.specs.List.{AllByRecursion}
 use Rattle.std.specs.Io.KnownBytes.{Appends}
-use Rattle.fs_model.specs.Namespace.{NodeMap, first_space}
-use Rattle.fs_schedule.specs.declared.event.Event.{Event}
 use Rattle.fs_schedule.specs.declared.event.Schedule.{Schedule}
 use Rattle.fs_schedule.specs.Faults.{IsScheduleText}
-use Rattle.fs_schedule.specs.Spelling.{FitsEvent}
 use Rattle.fs_report.specs.Report.{done_text}
 use Rattle.farsite.specs.World.{world_of}
-use Rattle.farsite.specs.Headline.{IsReplay, IsReportOf, IsSerial, report_of}
+use Rattle.farsite.specs.Headline.{IsReplay, IsReportOf, IsSerial}
 use Rattle.farsite.proofs.Kept.{world_is_serial}
 use Rattle.fs_schedule.proofs.Single.{all_fit}
 

@@ -1,16 +1,15 @@
 -- What every event keeps, and so what holds of every world.
-use Rattle.std.proofs.Common.{◌≡◌, ℕ, ◌+◌, List, [], ◌∷◌, ◌++◌, length, refl, ap, sym, ◌∙◌, subst, append_assoc}
+use Rattle.std.proofs.Common.{◌≡◌, ℕ, ◌+◌, List, [], ◌∷◌, ◌++◌, refl, ap, sym, subst, append_assoc}
 use Rattle.std.proofs.lemmas.List.{append-nil}
 use Rattle.std.specs.Prelude.{Option, Some, None, unwrap_or}
 use Rattle.std.specs.List.{AllByRecursion}
-use Rattle.std.specs.FinMap.{get, empty, get-empty}
+use Rattle.std.specs.FinMap.{get, get-empty}
 use Rattle.std.specs.Ordering.{nat_cmp}
 use Rattle.fs_ident.specs.declared.actor.Session.{Session}
 use Rattle.fs_ident.specs.declared.actor.Peer.TheVariants.{Client}
 use Rattle.fs_model.specs.declared.op.Op.{Op}
-use Rattle.fs_model.specs.Namespace.{NodeMap, first_space}
-use Rattle.fs_model.specs.Step.{step}
-use Rattle.fs_model.specs.Sound.{IsSound, AsksAccess}
+use Rattle.fs_model.specs.Namespace.{first_space}
+use Rattle.fs_model.specs.Sound.{AsksAccess}
 use Rattle.fs_msg.specs.declared.item.Item.{Item}
 use Rattle.fs_msg.specs.Journal.{IsSerialRun}
 use Rattle.fs_schedule.specs.declared.event.Event.{Event}
@@ -19,7 +18,7 @@ use Rattle.fs_schedule.specs.declared.event.What.TheVariants.{Join, Do}
 use Rattle.fs_schedule.specs.Spelling.{FitsOp, FitsWhat, FitsEvent}
 use Rattle.farsite.specs.declared.world.World.{World}
 use Rattle.farsite.specs.World.{Answer, answer, first_world, nothing, joined, answered, join_at, do_at, happens, after, world_of}
-use Rattle.farsite.specs.Order.{OutcomesAreTrue, IsInSessionOrder}
+use Rattle.farsite.specs.Order.{OutcomesAreTrue}
 use Rattle.farsite.specs.Headline.{IsSerial}
 use Rattle.farsite.proofs.Serial.{serial_push, IsStep, answer_steps, answer_asks, AllAsk, asks_push, safe_after}
 use Rattle.fs_model.proofs.SoundRuns.{first_sound}

@@ -1,4 +1,4 @@
-use Rattle.std.proofs.Common.{◌≡◌, ℕ, ◌+◌, List, ap, sym, ◌∙◌, subst, drop}
+use Rattle.std.proofs.Common.{◌≡◌, ◌+◌, List, ap, sym, ◌∙◌, subst, drop}
 use Rattle.fs_schedule.specs.declared.event.Event.{Event}
 use Rattle.farsite.specs.declared.world.World.{World}
 use Rattle.farsite.specs.World.{after, first_world, happens}
