@@ -1,5 +1,5 @@
-//! The program's own input and output, of which no content is told.
-ghost use Rattle.std.specs.Prelude.{◌≡◌, None, is_err, if◌then◌else◌};
+//! Sources over readers and sinks over writers: of the program's own input and output no content is told.
+ghost use Rattle.std.specs.Prelude.{◌≡◌, is_err, if◌then◌else◌};
 ghost use Rattle.std.specs.Io.{ReadsAtMost, WritesAtMost};
 ghost use Rattle.std.specs.Io.KnownBytes.{ReadConsumes, WriteAppends};
 ghost use Rattle.fs_io.specs.Bytes.{TakesSome};
@@ -11,7 +11,8 @@ use crate::source::Source;
 use std::io::{Input, Print, Printer, Read, Write};
 use std::marker::Model;
 
-/// A source over a reader, as standard input, seen as the count of its faults.
+/// A source over a reader, seen as the reader and the count of faults. It tells what the reader tells, which standard
+/// input does not.
 #[derive(Drop)]
 pub struct StdinSource<R> {
     reader: R,
@@ -21,31 +22,31 @@ pub struct StdinSource<R> {
 impl<R> Model for StdinSource<R> {
     ghost use Rattle.std.specs.Prelude.{ℕ};
 
-    ghost Value = { ℕ };
+    ghost Value = { R × ℕ };
 
-    ghost view = { λ s. s.faults };
+    ghost view = { λ s. (s.reader, s.faults) };
 }
 
 impl<R: Read> StdinSource<R> {
     /// A source over a reader.
     pub fn new(reader: R) -> StdinSource<R>
-        ensures { result ≡ 0 }
+        ensures { result ≡ (reader, 0) }
     {
         StdinSource { reader, faults: 0 }
     }
 }
 
 impl<R: Read> Source for StdinSource<R> {
-    ghost left = { λ _. None };
+    ghost left = { λ s. R.remaining s.0 };
 
-    ghost faults = { λ s. s };
+    ghost faults = { λ s. s.1 };
 
-    /// Counts each error.
+    /// Reads what the reader gives, and counts each error.
     fn read(&mut self, buf: &mut [u8]) -> Result<usize, Failed>
         ensures bound { ReadsAtMost result buf.new }
-        ensures bytes { ReadConsumes None None result buf.new }
-        ensures cause { HasCause self.old self.new result }
-        ensures counted { self.new ≡ (if is_err result then raised self.old else self.old) }
+        ensures bytes { ReadConsumes (R.remaining self.old.0) (R.remaining self.new.0) result buf.new }
+        ensures cause { HasCause self.old.1 self.new.1 result }
+        ensures counted { self.new.1 ≡ (if is_err result then raised self.old.1 else self.old.1) }
     {
         match self.reader.read(buf) {
             Ok(n) => Ok(n),
@@ -57,7 +58,8 @@ impl<R: Read> Source for StdinSource<R> {
     }
 }
 
-/// A sink over a writer, as standard output, seen as the count of its faults. Each write goes through.
+/// A sink over a writer, seen as the writer and the count of faults. It tells what the writer tells, which standard
+/// output does not. Each write goes through.
 #[derive(Drop)]
 pub struct StdoutSink<W> {
     writer: W,
@@ -67,32 +69,32 @@ pub struct StdoutSink<W> {
 impl<W> Model for StdoutSink<W> {
     ghost use Rattle.std.specs.Prelude.{ℕ};
 
-    ghost Value = { ℕ };
+    ghost Value = { W × ℕ };
 
-    ghost view = { λ s. s.faults };
+    ghost view = { λ s. (s.writer, s.faults) };
 }
 
 impl<W: Write> StdoutSink<W> {
     /// A sink over a writer.
     pub fn new(writer: W) -> StdoutSink<W>
-        ensures { result ≡ 0 }
+        ensures { result ≡ (writer, 0) }
     {
         StdoutSink { writer, faults: 0 }
     }
 }
 
 impl<W: Write> Sink for StdoutSink<W> {
-    ghost written = { λ _. None };
+    ghost written = { λ s. W.contents s.0 };
 
-    ghost faults = { λ s. s };
+    ghost faults = { λ s. s.1 };
 
     /// Counts each error, and a write that takes nothing of a piece that is not empty.
     fn write(&mut self, bytes: &[u8]) -> Result<usize, Failed>
         ensures bound { WritesAtMost result bytes.now }
         ensures some { TakesSome result bytes.now }
-        ensures bytes { WriteAppends None None result bytes.now }
-        ensures cause { HasCause self.old self.new result }
-        ensures counted { self.new ≡ (if is_err result then raised self.old else self.old) }
+        ensures bytes { WriteAppends (W.contents self.old.0) (W.contents self.new.0) result bytes.now }
+        ensures cause { HasCause self.old.1 self.new.1 result }
+        ensures counted { self.new.1 ≡ (if is_err result then raised self.old.1 else self.old.1) }
     {
         match self.writer.write(bytes) {
             Ok(n) if n > 0 || bytes.is_empty() => Ok(n),
@@ -106,14 +108,14 @@ impl<W: Write> Sink for StdoutSink<W> {
 
 /// Standard input.
 pub fn standard_input<I: Input>(rt: &I) -> StdinSource<I::Reader>
-    ensures { result ≡ 0 }
+    ensures { result.1 ≡ 0 }
 {
     StdinSource::new(rt.reader())
 }
 
 /// Standard output.
 pub fn standard_output<P: Print>(rt: &P) -> StdoutSink<Printer<'_, P>>
-    ensures { result ≡ 0 }
+    ensures { result.1 ≡ 0 }
 {
     StdoutSink::new(std::io::writer(rt))
 }
