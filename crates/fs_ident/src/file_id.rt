@@ -38,8 +38,8 @@ impl Model for FileId {
 }
 
 impl FileId {
-    /// The identifier of these numbers.
-    pub(crate) fn from_numbers(numbers: Vec<u32>) -> FileId
+    /// The identifier of these numbers, the root's first: at most 32 of them, each from 1 to 4294967295.
+    pub fn from_numbers(numbers: Vec<u32>) -> FileId
         requires { IsId numbers.items }
         ensures { result ≡ numbers.items }
     {

@@ -134,8 +134,8 @@ fn fault_of(bytes: &[u8]) -> Option<usize>
     None
 }
 
-/// Where the first byte stands that no name holds.
-fn first_bad(bytes: &[u8]) -> Option<usize>
+/// Where the first byte stands that no name holds, counted from 0; none where a name may hold each of them.
+pub fn first_bad(bytes: &[u8]) -> Option<usize>
     ensures { result ≡ first_bad bytes.now }
 {
     bytes.iter().position(|b| !is_name_byte(*b))
@@ -148,8 +148,8 @@ fn is_name_byte(b: u8) -> bool
     32 <= b && b <= 126 && !b"\\/:*?\"<>|".contains(&b)
 }
 
-/// Whether the bytes are `.` or `..`.
-fn is_dots(bytes: &[u8]) -> bool
+/// Whether the bytes are `.` or `..`, which are no names.
+pub fn is_dots(bytes: &[u8]) -> bool
     ensures { result ≡ is_dots bytes.now }
 {
     bytes == b".".as_slice() || bytes == b"..".as_slice()
