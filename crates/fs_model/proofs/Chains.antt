@@ -1,6 +1,6 @@
 -- The way up from a directory, one step at a time.
-use Rattle.std.proofs.Common.{◌≡◌, ℕ, zero, suc, ◌+◌, ◌-◌, ◌<◌, List, [], ◌∷◌, Bool, true, false, refl, ap, arith, cond, sym, ◌∙◌, subst, nat_eq}
-use Rattle.std.specs.Prelude.{Option, Some, None, ◌||◌}
+use Rattle.std.proofs.Common.{◌≡◌, ℕ, zero, suc, ◌+◌, ◌-◌, ◌<◌, List, ◌∷◌, Bool, true, false, refl, arith, nat_eq}
+use Rattle.std.specs.Prelude.{Some, None, ◌||◌}
 use Rattle.std.specs.FinMap.{get}
 use Rattle.std.specs.Cmp.Lexicographic.{pointwise}
 use Rattle.fs_model.specs.Ancestors.{directory_of, ancestors_within, is_among}

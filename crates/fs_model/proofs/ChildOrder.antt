@@ -1,7 +1,7 @@
 -- What a search among entries in order finds, and what an edit at that place does.
-use Rattle.std.proofs.Common.{◌≡◌, ◌≢◌, ℕ, zero, suc, ◌+◌, ◌<◌, ◌≤◌, List, [], ◌∷◌, length, get_or, refl, ap, arith, cond, Bool, true, false, sym, ◌∙◌, subst, Result, Ok, Err, IfOk, IfErr}
-use Rattle.std.specs.Prelude.{Option, Some, None, not, ◌&&◌, T}
-use Rattle.std.specs.Ordering.{nat_cmp, is_eq, is_lt, eq_by_cmp, ordering_index, ordering_reverse}
+use Rattle.std.proofs.Common.{◌≡◌, ℕ, zero, suc, ◌<◌, ◌≤◌, List, [], ◌∷◌, length, get_or, refl, ap, arith, Bool, true, false, sym, ◌∙◌, Result, Ok, Err, IfOk, IfErr}
+use Rattle.std.specs.Prelude.{Some, None, not, ◌&&◌}
+use Rattle.std.specs.Ordering.{nat_cmp, is_lt, eq_by_cmp, ordering_index, ordering_reverse}
 use Rattle.std.specs.Cmp.{IsTotalOrder}
 use Rattle.std.specs.Cmp.Lexicographic.{slice_cmp, nat_list_cmp_total}
 use Rattle.std.specs.List.{insert, remove}

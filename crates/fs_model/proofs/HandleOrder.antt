@@ -1,6 +1,6 @@
 -- Steps of the loops over handles, and the order of handles after an edit.
-use Rattle.std.proofs.Common.{◌≡◌, ℕ, suc, ◌+◌, ◌<◌, List, [], ◌∷◌, ◌++◌, length, get_or, take, drop, refl, ap, arith, cond, Bool, true, false, sym, ◌∙◌}
-use Rattle.std.specs.Prelude.{Option, Some, None, if◌then◌else◌, ◌&&◌, filter}
+use Rattle.std.proofs.Common.{◌≡◌, ℕ, suc, ◌+◌, ◌<◌, List, [], ◌∷◌, length, get_or, drop, refl, ap, arith, cond, Bool, true, false}
+use Rattle.std.specs.Prelude.{Option, Some, None, ◌&&◌, filter}
 use Rattle.std.proofs.lemmas.Bool.Decides.{nat_tests}
 use Rattle.fs_modes.specs.declared.modes.Modes.{Modes}
 use Rattle.std.specs.List.{insert}

@@ -1,24 +1,22 @@
 -- Each step leaves every node in order.
-use Rattle.std.proofs.Common.{◌≡◌, ℕ, List, [], ◌∷◌, Bool, true, false, refl, ap, sym, ◌∙◌, subst, cond}
-use Rattle.std.specs.Prelude.{Option, Some, None, not, is_some, nat_eq, ◌==◌, IsTrue, T, ◌&&◌, Result, Ok, Err, IfOk, OnErr, OnOk}
+use Rattle.std.proofs.Common.{◌≡◌, ℕ, List, Bool, true, false, refl, sym, subst, cond}
+use Rattle.std.specs.Prelude.{Option, Some, None, not, is_some, nat_eq, ◌==◌, T, ◌&&◌, Result, Ok, Err, IfOk, OnErr}
 use Rattle.std.specs.Ordering.{nat_cmp, eq_by_cmp}
 use Rattle.std.specs.Cmp.Lexicographic.{slice_cmp, nat_list_cmp_total, pointwise}
-use Rattle.std.specs.FinMap.{get, insert, remove}
+use Rattle.std.specs.FinMap.{get}
 use Rattle.std.specs.FinMap.Entries.{is_sorted-put, is_sorted-where_key}
 use Rattle.fs_ident.specs.declared.actor.Session.{Session}
 use Rattle.fs_ident.specs.declared.kind.Kind.{Kind}
 use Rattle.fs_ident.specs.declared.kind.Kind.TheVariants.{File, Dir}
 use Rattle.fs_modes.specs.declared.modes.Modes.{Modes}
 use Rattle.fs_model.specs.declared.node.Node.{Node}
-use Rattle.fs_model.specs.declared.node.Handle.{Handle}
 use Rattle.fs_model.specs.declared.op.Op.{Op}
 use Rattle.fs_model.specs.declared.op.Op.TheVariants as op
-use Rattle.fs_model.specs.declared.reply.Reply.{Reply}
 use Rattle.fs_model.specs.Children.{child_at}
 use Rattle.fs_model.specs.Handles.{is_at, handle_at, any_conflicts}
 use Rattle.fs_model.specs.Ancestors.{is_on_chain}
 use Rattle.fs_model.specs.Namespace.{NodeMap, IsSpace, IsInOrder, changed, changed_at, fresh_node}
-use Rattle.fs_model.specs.Step.{Stepped, step, stay, named, unnamed, placed, sized, opened, closed, reaped, create, create_in, create_as, made, is_child, open_file, close, set, set_by, delete, delete_in, delete_child, is_childless, is_unused, rename, rename_in, rename_to, rename_to_dir, rename_child, denies_delete, moved}
+use Rattle.fs_model.specs.Step.{Stepped, step, named, unnamed, placed, sized, opened, closed, reaped, create, create_in, create_as, made, is_child, open_file, close, set, set_by, delete, delete_in, delete_child, is_childless, is_unused, rename, rename_in, rename_to, rename_to_dir, rename_child, denies_delete, moved}
 use Rattle.fs_model.proofs.HandleOrder.{with_handle_in_order, filter_in_order}
 use Rattle.fs_model.proofs.Spaces.{in_order_at, IsSpace-insert, IsSpace-remove, IsSpace-changed}
 
@@ -47,19 +45,19 @@ unnamed_in_order name n own = record {
   handles = own.handles;
 }
 
-placed_in_order : (dir name : List ℕ) (n : Node) → IsInOrder n → IsInOrder (placed dir name n)
+pub placed_in_order : (dir name : List ℕ) (n : Node) → IsInOrder n → IsInOrder (placed dir name n)
 placed_in_order dir name n own = record { children = own.children; handles = own.handles }
 
-sized_in_order : (size stamp : ℕ) (n : Node) → IsInOrder n → IsInOrder (sized size stamp n)
+pub sized_in_order : (size stamp : ℕ) (n : Node) → IsInOrder n → IsInOrder (sized size stamp n)
 sized_in_order size stamp n own = record { children = own.children; handles = own.handles }
 
-opened_in_order : (by : Session) (h : ℕ) (modes : Modes) (n : Node) → handle_at n.handles by h ≡ None → IsInOrder n → IsInOrder (opened by h modes n)
+pub opened_in_order : (by : Session) (h : ℕ) (modes : Modes) (n : Node) → handle_at n.handles by h ≡ None → IsInOrder n → IsInOrder (opened by h modes n)
 opened_in_order by h modes n free own = record { children = own.children; handles = with_handle_in_order (record { session = by; h = h; modes = modes }) n.handles free own.handles }
 
-closed_in_order : (by : Session) (h : ℕ) (n : Node) → IsInOrder n → IsInOrder (closed by h n)
+pub closed_in_order : (by : Session) (h : ℕ) (n : Node) → IsInOrder n → IsInOrder (closed by h n)
 closed_in_order by h n own = record { children = own.children; handles = filter_in_order (λ x. not (is_at by h x)) n.handles own.handles }
 
-reaped_in_order : (session : Session) (n : Node) → IsInOrder n → IsInOrder (reaped session n)
+pub reaped_in_order : (session : Session) (n : Node) → IsInOrder n → IsInOrder (reaped session n)
 reaped_in_order session n own = record { children = own.children; handles = filter_in_order (λ x. not (x.session.0 == session.0)) n.handles own.handles }
 
 -- ## Operations

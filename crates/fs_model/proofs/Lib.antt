@@ -12,5 +12,4 @@ pub mod SoundNodes
 pub mod SoundTrees
 pub mod SoundOutcomes
 pub mod SoundSteps
-pub mod SoundOrder
 pub mod SoundRuns

@@ -1,13 +1,13 @@
 -- Entries of a tree map against the finite map that they make, whatever the keys and the values are.
-use Rattle.std.proofs.Common.{◌≡◌, List, [], ◌∷◌, refl, ap, cond, Bool, true, false, sym, ◌∙◌, subst, rules, map, length, ℕ}
-use Rattle.std.specs.Prelude.{Option, Some, None, IsSome, ◌&&◌, T}
+use Rattle.std.proofs.Common.{◌≡◌, List, [], ◌∷◌, refl, ap, cond, Bool, true, false, sym, ◌∙◌, subst, rules}
+use Rattle.std.specs.Prelude.{Some, IsSome, ◌&&◌, T}
 use Rattle.std.specs.Ordering.{is_eq, is_lt, eq_by_cmp, match_ordering}
 use Rattle.std.specs.Cmp.{IsTotalOrder, eq_by_cmp_equiv}
 use Rattle.std.specs.Map.{lookup, set_value, keys_of}
 use Rattle.std.specs.List.{AllByRecursion}
 use Rattle.std.specs.List.Sorted.{IsStrictlySortedBy}
 use Rattle.std.specs.BTreeMap.{insert_entry, is_at}
-use Rattle.std.specs.FinMap.{FinMap, get, insert, len, entries, from_entries, find, put, is_sorted, IsAntisymmetric, same_map, get-from_entries, get-insert, get-entries, entries_sorted, len-entries}
+use Rattle.std.specs.FinMap.{get, insert, entries, from_entries, find, put, is_sorted, IsAntisymmetric, same_map, get-from_entries, get-insert, get-entries, entries_sorted}
 use Rattle.std.specs.FinMap.Entries.{find-put, by_order, below_all, same_entries}
 use Rattle.std.specs.declared.cmp.Ordering.{Ordering}
 use Rattle.std.specs.declared.cmp.Ordering.TheVariants.{Less, Equal, Greater}

@@ -1,5 +1,5 @@
 -- Handles of one file after a change: their order, their accesses, and that none conflict.
-use Rattle.std.proofs.Common.{◌≡◌, ℕ, List, [], ◌∷◌, refl, sym, ap, ◌∙◌, Bool, true, false, cond, not, ◌||◌, arith, Option, Some, None}
+use Rattle.std.proofs.Common.{◌≡◌, ℕ, List, [], ◌∷◌, refl, sym, ap, ◌∙◌, Bool, true, false, cond, not, ◌||◌, arith, Some}
 use Rattle.std.proofs.lemmas.Bool.{and_parts, and_from, or_parts, or_from, not-true, not_from_false}
 use Rattle.std.specs.List.{filter}
 use Rattle.std.proofs.lemmas.Bool.Decides.{nat_tests}
@@ -7,7 +7,7 @@ use Rattle.fs_ident.specs.declared.actor.Session.{Session}
 use Rattle.fs_modes.specs.declared.modes.Modes.{Modes}
 use Rattle.fs_modes.specs.Modes.{conflicts, is_denied, has_access}
 use Rattle.fs_model.specs.declared.node.Handle.{Handle}
-use Rattle.fs_model.specs.Handles.{is_at, comes_before, is_before_all, handles_are_in_order, handle_at, with_handle, any_conflicts}
+use Rattle.fs_model.specs.Handles.{is_at, comes_before, handle_at, with_handle, any_conflicts}
 use Rattle.fs_model.specs.Sound.{all_have_access, none_conflict}
 
 either_way : (a b : Bool) → (a || b) ≡ (b || a)
@@ -48,44 +48,6 @@ access_with (x ∷ xs) new p q =
       | false ↦ (let parts = and_parts (has_access x.modes) (all_have_access xs) q in and_from _ _ parts.0 (access_with xs new p parts.1))
     ]
 
-before_trans : (a b c : Handle) → comes_before a b ≡ true → comes_before b c ≡ true → comes_before a c ≡ true
-before_trans a b c p q = grind (arith, nat_tests)
-
-before_all_trans : (a b : Handle) (xs : List Handle) → comes_before a b ≡ true → is_before_all b xs ≡ true → is_before_all a xs ≡ true
-before_all_trans a b [] p q = refl
-before_all_trans a b (x ∷ xs) p q =
-    let parts = and_parts (comes_before b x) (is_before_all b xs) q in
-    and_from _ _ (before_trans a b x p parts.0) (before_all_trans a b xs p parts.1)
-
-before_with : (a : Handle) (xs : List Handle) (new : Handle) → comes_before a new ≡ true → is_before_all a xs ≡ true → is_before_all a (with_handle xs new) ≡ true
-before_with a [] new p q = and_from _ _ p q
-before_with a (x ∷ xs) new p q =
-    elim (comes_before new x) as (λ b. is_before_all a (cond b (new ∷ x ∷ xs) (x ∷ with_handle xs new)) ≡ true) [
-      | true ↦ and_from _ _ p q
-      | false ↦ (let parts = and_parts (comes_before a x) (is_before_all a xs) q in and_from _ _ parts.0 (before_with a xs new p parts.1))
-    ]
-
-after_other : (x new : Handle) → comes_before new x ≡ false → is_at new.session new.h x ≡ false → comes_before x new ≡ true
-after_other x new p q = grind (arith, nat_tests)
-
-some_there : {A : Type 0} (b : Bool) (x : A) (o : Option A) → cond b (Some x) o ≡ None → (b ≡ false) × (o ≡ None)
-some_there true x o e = absurd (cc e)
-some_there false x o e = (refl, e)
-
-pub in_order_with : (xs : List Handle) (new : Handle) → handle_at xs new.session new.h ≡ None → handles_are_in_order xs ≡ true → handles_are_in_order (with_handle xs new) ≡ true
-in_order_with [] new p q = refl
-in_order_with (x ∷ xs) new p q =
-    elim (comes_before new x) as (λ b. comes_before new x ≡ b → handles_are_in_order (cond b (new ∷ x ∷ xs) (x ∷ with_handle xs new)) ≡ true) [
-      | true ↦ λ e. and_from _ _ (and_from _ _ e (before_all_trans new x xs e parts.0)) q
-      | false ↦ λ e. and_from _ _ (before_with x xs new (after_other x new e unused.0) parts.0) (in_order_with xs new unused.1 parts.1)
-    ] refl
-  where
-    parts : (is_before_all x xs ≡ true) × (handles_are_in_order xs ≡ true)
-    parts = and_parts _ _ q
-
-    unused : (is_at new.session new.h x ≡ false) × (handle_at xs new.session new.h ≡ None)
-    unused = some_there _ x.modes _ p
-
 -- ## With some of the handles
 
 module _ (p : Handle → Bool) where
@@ -114,24 +76,6 @@ module _ (p : Handle → Bool) where
       elim (p x) as (λ b. all_have_access (cond b (x ∷ filter p xs) (filter p xs)) ≡ true) [
         | true ↦ and_from _ _ parts.0 (access_some xs parts.1)
         | false ↦ access_some xs parts.1
-      ]
-
-  before_some : (a : Handle) (xs : List Handle) → is_before_all a xs ≡ true → is_before_all a (filter p xs) ≡ true
-  before_some a [] q = refl
-  before_some a (x ∷ xs) q =
-      let parts = and_parts (comes_before a x) (is_before_all a xs) q in
-      elim (p x) as (λ b. is_before_all a (cond b (x ∷ filter p xs) (filter p xs)) ≡ true) [
-        | true ↦ and_from _ _ parts.0 (before_some a xs parts.1)
-        | false ↦ before_some a xs parts.1
-      ]
-
-  pub in_order_some : (xs : List Handle) → handles_are_in_order xs ≡ true → handles_are_in_order (filter p xs) ≡ true
-  in_order_some [] q = refl
-  in_order_some (x ∷ xs) q =
-      let parts = and_parts (is_before_all x xs) (handles_are_in_order xs) q in
-      elim (p x) as (λ b. handles_are_in_order (cond b (x ∷ filter p xs) (filter p xs)) ≡ true) [
-        | true ↦ and_from _ _ (before_some x xs parts.0) (in_order_some xs parts.1)
-        | false ↦ in_order_some xs parts.1
       ]
 
 -- ## Two handles of one file

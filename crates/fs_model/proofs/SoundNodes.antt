@@ -1,10 +1,6 @@
 -- Each node is sound after a change.
-use Rattle.std.proofs.Common.{◌≡◌, ◌≢◌, ◌⊎◌, inl, inr, ℕ, List, refl, sym, ap, ◌∙◌, subst, Bool, true, false, T, Option, Some, None, IfSome}
-use Rattle.std.specs.Bool.{passes}
+use Rattle.std.proofs.Common.{◌≡◌, ◌≢◌, ◌⊎◌, inl, inr, ℕ, List, refl, sym, ap, ◌∙◌, subst, true, false, Option, Some, None, IfSome}
 use Rattle.std.specs.FinMap.{get, insert, remove}
-use Rattle.std.specs.FinMap.Entries.{is_sorted-put, is_sorted-where_key}
-use Rattle.std.specs.Ordering.{nat_cmp}
-use Rattle.std.specs.Cmp.Lexicographic.{slice_cmp, nat_list_cmp_total}
 use Rattle.fs_ident.specs.declared.actor.Session.{Session}
 use Rattle.fs_ident.specs.declared.kind.Kind.{Kind}
 use Rattle.fs_ident.specs.declared.kind.Kind.TheVariants.{File, Dir}
@@ -12,49 +8,16 @@ use Rattle.fs_modes.specs.declared.modes.Modes.{Modes}
 use Rattle.fs_modes.specs.Modes.{has_access}
 use Rattle.fs_model.specs.declared.node.Handle.{Handle}
 use Rattle.fs_model.specs.declared.node.Node.{Node}
-use Rattle.fs_model.specs.Namespace.{NodeMap, IsInOrder, fresh_node, changed, changed_at}
-use Rattle.fs_model.specs.Children.{Children, are_in_order, with_child, without_child}
+use Rattle.fs_model.specs.Namespace.{NodeMap, fresh_node, changed, changed_at}
+use Rattle.fs_model.specs.Children.{without_child}
 use Rattle.fs_model.specs.Handles.{handle_at, any_conflicts}
 use Rattle.fs_model.specs.Sound.{IsSoundNode}
 use Rattle.fs_model.specs.Step.{named, unnamed, placed, sized, opened, closed, reaped}
 use Rattle.fs_model.proofs.SoundMaps.{either, insert_here, insert_other, remove_here, remove_other}
-use Rattle.fs_model.proofs.SoundHandles.{none_conflict_with, access_with, in_order_with, none_conflict_some, access_some, in_order_some}
+use Rattle.fs_model.proofs.SoundHandles.{none_conflict_with, access_with, none_conflict_some, access_some}
+use Rattle.fs_model.proofs.Keeping.{fresh_in_order, named_in_order, unnamed_in_order, placed_in_order, sized_in_order, opened_in_order, closed_in_order, reaped_in_order}
 
 -- ## One node
-
-so : (b : Bool) → T b → b ≡ true
-so true t = refl
-so false t = absurd t
-
-with_in_order : (cs : Children) (name id : List ℕ) → are_in_order cs ≡ true → are_in_order (with_child cs name id) ≡ true
-with_in_order cs name id h = so _ (is_sorted-put (slice_cmp nat_cmp) nat_list_cmp_total name id cs (passes _ h))
-
-without_in_order : (cs : Children) (name : List ℕ) → are_in_order cs ≡ true → are_in_order (without_child cs name) ≡ true
-without_in_order cs name h = so _ (is_sorted-where_key (slice_cmp nat_cmp) _ cs (passes _ h))
-
-pub fresh_in_order : (kind : Kind) (parent : Option (List ℕ × List ℕ)) → IsInOrder (fresh_node kind parent)
-fresh_in_order kind parent = record { children = refl; handles = refl }
-
-pub named_in_order : (name id : List ℕ) (n : Node) → IsInOrder n → IsInOrder (named name id n)
-named_in_order name id n s = record { children = with_in_order n.children name id s.children; handles = s.handles }
-
-pub unnamed_in_order : (name : List ℕ) (n : Node) → IsInOrder n → IsInOrder (unnamed name n)
-unnamed_in_order name n s = record { children = without_in_order n.children name s.children; handles = s.handles }
-
-pub placed_in_order : (dir name : List ℕ) (n : Node) → IsInOrder n → IsInOrder (placed dir name n)
-placed_in_order dir name n s = record { children = s.children; handles = s.handles }
-
-pub sized_in_order : (size stamp : ℕ) (n : Node) → IsInOrder n → IsInOrder (sized size stamp n)
-sized_in_order size stamp n s = record { children = s.children; handles = s.handles }
-
-pub opened_in_order : (by : Session) (h : ℕ) (modes : Modes) (n : Node) → handle_at n.handles by h ≡ None → IsInOrder n → IsInOrder (opened by h modes n)
-opened_in_order by h modes n unused s = record { children = s.children; handles = in_order_with n.handles (record { session = by; h = h; modes = modes }) unused s.handles }
-
-pub closed_in_order : (by : Session) (h : ℕ) (n : Node) → IsInOrder n → IsInOrder (closed by h n)
-closed_in_order by h n s = record { children = s.children; handles = in_order_some _ n.handles s.handles }
-
-pub reaped_in_order : (session : Session) (n : Node) → IsInOrder n → IsInOrder (reaped session n)
-reaped_in_order session n s = record { children = s.children; handles = in_order_some _ n.handles s.handles }
 
 pub fresh_sound : (kind : Kind) (parent : Option (List ℕ × List ℕ)) → IsSoundNode (fresh_node kind parent)
 fresh_sound kind parent = record { childless = λ _. refl; accessed = refl; sharing = refl; in_order = fresh_in_order kind parent }

@@ -28,7 +28,6 @@ use Rattle.fs_model.proofs.SoundNodes.{fresh_sound, each_at}
 use Rattle.fs_model.proofs.SoundTrees.{tops, root_there, depth, not_none}
 use Rattle.fs_model.proofs.SoundOutcomes.{Asks, Outcome, outcome, stays, same_place, makes, opens, closes, sets, deletes, renames, reaps}
 use Rattle.fs_model.proofs.SoundSteps.{outcome_sound}
-use Rattle.fs_model.proofs.SoundOrder.{outcome_in_order}
 
 -- ## Steps and runs
 
@@ -185,9 +184,6 @@ nothing_asked (op.Reap file session) = tt
 
 pub step_reads : (m : NodeMap) (by : Session) (o : Op) → changes (step m by o).reply ≡ false → (step m by o).nodes ≡ m
 step_reads m by o e = outcome_reads m by (step m by o) (outcome (λ _. Unit {0}) m by o (nothing_asked o)) e
-
-pub step_in_order : (m : NodeMap) (by : Session) (o : Op) → IsSpace m → IsSpace (step m by o).nodes
-step_in_order m by o s = outcome_in_order m by (step m by o) (outcome (λ _. Unit {0}) m by o (nothing_asked o)) s
 
 pub sound_space : (m : NodeMap) → IsSound m → IsSpace m
 sound_space m s file = by (get m file) (s.nodes file)

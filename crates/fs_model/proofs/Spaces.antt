@@ -1,12 +1,12 @@
 -- What keeps every node of a space in order.
-use Rattle.std.proofs.Common.{◌≡◌, ℕ, List, [], ◌∷◌, Bool, true, false, refl, ap, sym, ◌∙◌, subst, cond, Bor}
-use Rattle.std.specs.Prelude.{Option, Some, None, IfSome, not, IsTrue, T}
+use Rattle.std.proofs.Common.{◌≡◌, ℕ, List, Bool, true, false, refl, sym, subst, cond, Bor}
+use Rattle.std.specs.Prelude.{Option, Some, None, IfSome}
 use Rattle.std.specs.Option.{option_copied}
-use Rattle.std.specs.Ordering.{nat_cmp, eq_by_cmp}
+use Rattle.std.specs.Ordering.{nat_cmp}
 use Rattle.std.specs.Cmp.Lexicographic.{slice_cmp, nat_list_cmp_total}
 use Rattle.std.specs.FinMap.{empty, get, insert, remove, get-empty, get-insert, get-remove}
 use Rattle.fs_model.specs.declared.node.Node.{Node}
-use Rattle.fs_model.specs.Children.{are_in_order, child_at}
+use Rattle.fs_model.specs.Children.{child_at}
 use Rattle.fs_model.specs.Step.{children_of}
 use Rattle.fs_model.specs.Namespace.{NodeMap, IsSpace, IsInOrder, changed, changed_at}
 

@@ -1,10 +1,10 @@
 -- The namespace: a finite map from identifiers to nodes.
-use Rattle.std.specs.Prelude.{◌≡◌, ℕ, Bool, true, IsTrue, List, [], ◌∷◌, Option, Some, None, IfSome}
+use Rattle.std.specs.Prelude.{ℕ, IsTrue, List, [], Option, Some, None, IfSome}
 use Rattle.std.specs.FinMap.{FinMap, get, insert, empty}
 use Rattle.std.specs.Ordering.{nat_cmp}
 use Rattle.std.specs.Cmp.Lexicographic.{slice_cmp}
 use Rattle.fs_ident.specs.declared.kind.Kind.{Kind}
-use Rattle.fs_ident.specs.declared.kind.Kind.TheVariants.{File, Dir}
+use Rattle.fs_ident.specs.declared.kind.Kind.TheVariants.{Dir}
 use Rattle.fs_model.specs.declared.node.Node.{Node}
 use Rattle.fs_model.specs.Children.{are_in_order}
 use Rattle.fs_model.specs.Handles.{handles_are_in_order}

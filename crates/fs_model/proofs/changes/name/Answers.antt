@@ -1,4 +1,4 @@
-use Rattle.std.proofs.Common.{List, sym, ap}
+use Rattle.std.proofs.Common.{sym, ap}
 use Rattle.std.proofs.lemmas.Result.{on_err_weaker}
 use Rattle.fs_model.specs.Children.{Children}
 use Rattle.fs_model.proofs.Seen.{seen_keep}

@@ -1,7 +1,6 @@
-use Rattle.std.proofs.Common.{rules, List, ℕ, ◌≡◌}
+use Rattle.std.proofs.Common.{rules, List, ℕ}
 use Rattle.std.specs.Ordering.{nat_cmp}
 use Rattle.std.specs.Cmp.Lexicographic.{slice_cmp}
-use Rattle.std.specs.declared.cmp.Ordering.{Ordering}
 use Rattle.std.proofs.lemmas.Fn.{always_returns_same}
 use Rattle.fs_model.proofs.ChildOrder.{searched}
 use Rattle.fs_model.proofs.children.search.Goals as goal

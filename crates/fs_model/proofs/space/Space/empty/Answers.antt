@@ -1,6 +1,5 @@
-use Rattle.std.proofs.Common.{sym, subst, ◌∙◌}
+use Rattle.std.proofs.Common.{sym, subst}
 use Rattle.fs_model.specs.Namespace.{IsSpace}
-use Rattle.fs_model.specs.Seen.{seen}
 use Rattle.fs_model.proofs.Seen.{seen_empty}
 use Rattle.fs_model.proofs.Spaces.{IsSpace-empty}
 use Rattle.fs_model.proofs.space.Space.empty.Goals as goal
