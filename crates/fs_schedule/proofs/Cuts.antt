@@ -1,14 +1,13 @@
 -- Laws of cutting bytes at a separator, and of the lines and words that are cut off.
-use Rattle.std.proofs.Common.{◌≡◌, ℕ, ◌<◌, ◌+◌, ◌==◌, Bool, true, false, List, [], ◌∷◌, ◌++◌, refl, ap, arith, sym, ◌∙◌, subst, cond, append_assoc, length, take, get_or, length-append}
-use Rattle.std.specs.Prelude.{Option, Some, None, flat_map}
+use Rattle.std.proofs.Common.{◌≡◌, ℕ, ◌<◌, ◌+◌, ◌==◌, Bool, true, false, List, [], ◌∷◌, ◌++◌, refl, ap, arith, sym, ◌∙◌, subst, cond, append_assoc, length, take, get_or}
+use Rattle.std.specs.Prelude.{Option, Some, None}
 use Rattle.std.specs.List.{AllByRecursion}
-use Rattle.std.proofs.lemmas.Bool.{eqb-true}
 use Rattle.std.proofs.lemmas.Bool.Decides.{nat_tests}
 use Rattle.std.proofs.lemmas.List.{take_more}
 use Rattle.fs_schedule.specs.declared.word.Word.{Word}
 use Rattle.fs_schedule.specs.declared.word.Word.TheVariants.{Bare, Quoted}
 use Rattle.fs_schedule.specs.Words.{Lacks, joined, word_text, line_text, FitsWord, AreWords, begins_quoted}
-use Rattle.fs_schedule.specs.Lines.{is_end, with_first, lines_of, lines_after}
+use Rattle.fs_schedule.specs.Lines.{is_end, with_first, lines_of}
 
 -- ## Bytes without the separator
 

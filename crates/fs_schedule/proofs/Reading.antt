@@ -1,9 +1,6 @@
 -- Laws of reading the lines behind the head one after another.
-use Rattle.std.proofs.Common.{◌≡◌, ℕ, ◌<◌, ◌≤◌, ◌+◌, List, [], ◌∷◌, ◌++◌, length, refl, ap, arith, sym, ◌∙◌, subst, append_assoc, inl, inr}
-use Rattle.std.specs.Fmt.{decimal}
-use Rattle.std.specs.Prelude.{min}
-use Rattle.std.specs.Str.Parse.{digits_value}
-use Rattle.std.proofs.lemmas.List.{append-nil, length_push}
+use Rattle.std.proofs.Common.{◌≡◌, ℕ, ◌<◌, ◌≤◌, ◌+◌, List, [], ◌∷◌, ◌++◌, length, refl, arith, sym, subst, append_assoc, inl, inr}
+use Rattle.std.proofs.lemmas.List.{length_push}
 use Rattle.fs_schedule.specs.declared.event.Event.{Event}
 use Rattle.fs_schedule.specs.declared.error.Which.{Which}
 use Rattle.fs_schedule.specs.declared.error.Which.TheVariants.{Bytes, Sessions, Events}

@@ -1,6 +1,6 @@
 -- A line tells one event, and a text is one schedule's or has one first fault.
-use Rattle.std.proofs.Common.{◌≡◌, ℕ, zero, suc, slice_index, ◌<◌, ◌≤◌, ◌+◌, ◌^◌, ◌==◌, Bool, true, false, List, [], ◌∷◌, ◌++◌, length, refl, ap, arith, sym, ◌∙◌, subst, inl, inr}
-use Rattle.std.specs.Prelude.{Option, Some, None, codes, ◌⊎◌}
+use Rattle.std.proofs.Common.{◌≡◌, ℕ, zero, suc, slice_index, ◌<◌, ◌≤◌, ◌+◌, ◌==◌, Bool, true, false, List, [], ◌∷◌, length, refl, ap, arith, sym, ◌∙◌, inl, inr}
+use Rattle.std.specs.Prelude.{Option, codes}
 use Rattle.std.specs.List.{list_any, AllByRecursion}
 use Rattle.std.specs.Fmt.{decimal}
 use Rattle.std.specs.Str.Parse.{digits_value}
@@ -18,18 +18,16 @@ use Rattle.fs_modes.specs.Letters.{letters, dashed, acc_text, deny_text}
 use Rattle.fs_model.specs.declared.op.Op.{Op}
 use Rattle.fs_model.specs.declared.op.Op.TheVariants as op
 use Rattle.fs_schedule.specs.declared.word.Word.{Word}
-use Rattle.fs_schedule.specs.declared.word.Word.TheVariants.{Bare, Quoted}
+use Rattle.fs_schedule.specs.declared.word.Word.TheVariants.{Bare}
 use Rattle.fs_schedule.specs.declared.event.What.{What}
 use Rattle.fs_schedule.specs.declared.event.What.TheVariants.{Join, Do}
 use Rattle.fs_schedule.specs.declared.event.Event.{Event}
 use Rattle.fs_schedule.specs.declared.event.Schedule.{Schedule}
 use Rattle.fs_schedule.specs.declared.event.Head.{Head}
-use Rattle.fs_schedule.specs.declared.event.Head.TheVariants.{Direct}
-use Rattle.fs_schedule.specs.declared.error.Which.{Which}
 use Rattle.fs_schedule.specs.declared.error.Which.TheVariants.{Bytes, Sessions, Events}
 use Rattle.fs_schedule.specs.Lines.{lines_of}
 use Rattle.fs_schedule.specs.Spelling.{kind_text, op_words, FitsOp, session_of, what_words, FitsWhat, event_words, head_line, IsLineOf, FitsEvent}
-use Rattle.fs_schedule.specs.Faults.{most_bytes, most_events, IsEventLine, IsNoEvent, NamesLateSession, Fault, PassesLimit, IsOutside, HeadHas, LineHas, AreEventLines, FaultsAt, AreLinesOf, IsScheduleText, LinesFaultAt, IsFirstFault}
+use Rattle.fs_schedule.specs.Faults.{most_bytes, most_events, IsEventLine, NamesLateSession, Fault, PassesLimit, IsOutside, HeadHas, LineHas, AreEventLines, FaultsAt, AreLinesOf, IsScheduleText, LinesFaultAt, IsFirstFault}
 use Rattle.fs_schedule.proofs.Cuts.{words_one}
 use Rattle.fs_schedule.proofs.Spelled.{are_event_words}
 

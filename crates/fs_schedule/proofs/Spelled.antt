@@ -1,5 +1,5 @@
 -- The words of events are words, so a line tells its words.
-use Rattle.std.proofs.Common.{◌≡◌, ℕ, ◌<◌, ◌≤◌, ◌+◌, ◌%◌, ◌/◌, ◌^◌, ◌==◌, ◌&&◌, Bool, true, false, cond, not, List, [], ◌∷◌, ◌++◌, length, refl, ap, arith, sym, ◌∙◌, subst, eqb}
+use Rattle.std.proofs.Common.{◌≡◌, ℕ, ◌<◌, ◌+◌, ◌%◌, ◌^◌, ◌==◌, ◌&&◌, Bool, true, false, cond, not, List, [], ◌∷◌, refl, ap, arith, sym, ◌∙◌, subst}
 use Rattle.std.specs.Prelude.{Option, Some, None, codes, flat_map}
 use Rattle.std.specs.Char.{digit_value}
 use Rattle.std.specs.Fmt.{decimal}
@@ -16,8 +16,7 @@ use Rattle.fs_ident.specs.IdText.{id_text, step_text}
 use Rattle.fs_ident.specs.Name.{IsName, is_name_byte}
 use Rattle.fs_ident.specs.declared.kind.Kind.{Kind}
 use Rattle.fs_ident.specs.declared.kind.Kind.TheVariants.{File, Dir}
-use Rattle.fs_modes.specs.declared.modes.Modes.{Modes}
-use Rattle.fs_modes.specs.Letters.{letters, dashed, acc_text, deny_text}
+use Rattle.fs_modes.specs.Letters.{letters, dashed}
 use Rattle.fs_model.specs.declared.op.Op.{Op}
 use Rattle.fs_model.specs.declared.op.Op.TheVariants as op
 use Rattle.fs_schedule.specs.declared.word.Word.{Word}

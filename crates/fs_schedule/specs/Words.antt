@@ -1,5 +1,5 @@
 -- Lines as words parted by one space.
-use Rattle.std.specs.Prelude.{◌≡◌, ℕ, Bool, false, true, List, [], ◌∷◌, ◌++◌, ◌==◌, flat_map, Option, Some, None}
+use Rattle.std.specs.Prelude.{◌≡◌, ℕ, Bool, false, List, [], ◌∷◌, ◌++◌, ◌==◌, flat_map, Option, Some, None}
 use Rattle.std.specs.List.{AllByRecursion}
 use Rattle.fs_schedule.specs.declared.word.Word.{Word}
 use Rattle.fs_schedule.specs.declared.word.Word.TheVariants.{Bare, Quoted}

@@ -1,6 +1,5 @@
 use Rattle.std.proofs.Common.{◌≡◌, ◌∙◌, ap, sym, List, ℕ, ◌∷◌, ◌==◌, length, option_map, true, false}
-use Rattle.fs_schedule.specs.Lines.{lines_of}
-use Rattle.fs_schedule.proofs.Cuts.{next_lines, nothing_behind, more_behind, lines_behind}
+use Rattle.fs_schedule.proofs.Cuts.{next_lines, nothing_behind, more_behind}
 use Rattle.fs_schedule.proofs.cut.next_line.Goals as goal
 
 pub returns-in_default-clause-lines : goal.returns-in_default-clause-lines

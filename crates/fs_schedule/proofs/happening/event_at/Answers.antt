@@ -1,5 +1,5 @@
 use Rattle.fs_schedule.specs.Spelling.{event_words}
-use Rattle.fs_schedule.proofs.Spelled.{are_event_words, read_line, spelled_words}
+use Rattle.fs_schedule.proofs.Spelled.{are_event_words, spelled_words}
 use Rattle.fs_schedule.proofs.happening.event_at.Goals as goal
 
 pub returns-in_default-clause-none : goal.returns-in_default-clause-none

@@ -1,4 +1,4 @@
-use Rattle.std.proofs.Common.{sym, ◌∙◌, ap, ◌≡◌, subst, List, ℕ}
+use Rattle.std.proofs.Common.{sym, ◌∙◌, ap, ◌≡◌, subst}
 use Rattle.std.specs.Prelude.{Err}
 use Rattle.fs_ident.specs.Name.{IsName}
 use Rattle.fs_ident.specs.declared.error.IdError.{IdError}

@@ -1,5 +1,4 @@
-use Rattle.std.proofs.Common.{sym, ◌∙◌, ◌≡◌, arith}
-use Rattle.std.specs.Fmt.{decimal}
+use Rattle.std.proofs.Common.{sym, ◌∙◌, arith}
 use Rattle.fs_schedule.proofs.Asked.{bare_first, too_great}
 use Rattle.fs_schedule.proofs.operand.number_up_to.Goals as goal
 

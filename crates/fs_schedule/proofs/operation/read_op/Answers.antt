@@ -1,4 +1,4 @@
-use Rattle.std.proofs.Common.{sym, ◌∙◌, ◌≡◌}
+use Rattle.std.proofs.Common.{sym, ◌∙◌}
 use Rattle.fs_schedule.proofs.Asked.{verb_first}
 use Rattle.fs_schedule.proofs.operation.read_op.Goals as goal
 

@@ -1,5 +1,5 @@
 use Rattle.std.proofs.Common.{refl, get_or}
-use Rattle.fs_schedule.proofs.Digits.{bad_digit, told_more, told_whole}
+use Rattle.fs_schedule.proofs.Digits.{bad_digit, told_more}
 use Rattle.fs_schedule.proofs.session.number_of.Goals as goal
 
 pub returns-in_default-clause-none : goal.returns-in_default-clause-none

@@ -1,5 +1,5 @@
-use Rattle.std.proofs.Common.{◌≡◌, ◌∙◌, ap, sym, option_map, Option}
-use Rattle.std.specs.Prelude.{Some, None}
+use Rattle.std.proofs.Common.{◌≡◌, ◌∙◌, ap, sym, option_map}
+use Rattle.std.specs.Prelude.{Some}
 use Rattle.fs_schedule.proofs.Cuts.{not_a_word}
 use Rattle.fs_schedule.proofs.words.quoted_word.Goals as goal
 

@@ -1,6 +1,4 @@
-use Rattle.std.proofs.Common.{◌≡◌, ◌∙◌, ap, sym, option_map, Option}
-use Rattle.std.specs.Prelude.{Some, None}
-use Rattle.fs_schedule.proofs.Cuts.{no_split, split_more, IsSplit}
+use Rattle.fs_schedule.proofs.Cuts.{no_split, split_more}
 use Rattle.fs_schedule.proofs.words.words_of.Goals as goal
 
 pub returns-in_default-clause-none : goal.returns-in_default-clause-none
