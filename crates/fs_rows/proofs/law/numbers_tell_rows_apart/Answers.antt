@@ -1,0 +1,5 @@
+use Rattle.fs_rows.proofs.Order.{one_of_number}
+use Rattle.fs_rows.proofs.law.numbers_tell_rows_apart.Goals as goal
+
+pub returns : goal.returns
+returns c = λ rows t. one_of_number rows t.ordered

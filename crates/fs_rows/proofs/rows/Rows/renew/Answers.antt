@@ -1,0 +1,16 @@
+use Rattle.std.proofs.Common.{sym, ◌∙◌}
+use Rattle.fs_rows.proofs.Kept.{renewed_table, none_renewed}
+use Rattle.fs_rows.proofs.rows.Rows.renew.Goals.{then-renew, else-renew}
+use Rattle.fs_rows.proofs.rows.Rows.renew.Goals as goal
+
+pub invariant_of-self : goal.invariant_of-self
+invariant_of-self c = rw c.renew.ensures.rows (renewed_table _ _ _ c.self.invariant)
+
+pub returns-clause-table : goal.returns-clause-table
+returns-clause-table c = rw c.renew.ensures.rows (renewed_table _ _ _ c.self.invariant)
+
+pub returns-clause-err : goal.returns-clause-err
+returns-clause-err c = elim c.if-renew.branch [
+  | then-renew w ↦ rw w.result-is tt
+  | else-renew w ↦ rw w.result-is (c.renew.ensures.rows ∙ none_renewed _ _ _ (sym c.renew.ensures.found ∙ w.if-renew.false) ∙ c.self.view_is)
+]
