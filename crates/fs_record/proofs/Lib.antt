@@ -1,0 +1,11 @@
+pub mod Seen
+pub mod HandleSteps
+pub mod ChildPlaces
+pub mod Kept
+pub mod FreshNumbers
+pub mod NodeValues
+pub mod ValueChanges
+pub mod Stepping
+pub mod NumbersRise
+pub mod NodeMaps
+pub mod Selves

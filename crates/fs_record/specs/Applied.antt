@@ -1,0 +1,74 @@
+-- The records, and the nodes, after an effect.
+use Rattle.std.specs.Prelude.{ℕ, Bool, true, false, ◌||◌, List, [], ◌∷◌, Option, Some, None, option_map, is_some}
+use Rattle.std.specs.FinMap.{FinMap, get, insert, remove}
+use Rattle.std.specs.Ordering.{nat_cmp}
+use Rattle.std.specs.Cmp.Lexicographic.{slice_cmp}
+use Rattle.fs_ident.specs.declared.actor.Session.{Session}
+use Rattle.fs_modes.specs.declared.modes.Modes.{Modes}
+use Rattle.fs_field.specs.declared.effect.Effect.{Effect}
+use Rattle.fs_field.specs.declared.effect.Effect.TheVariants.{SetChild, SetParent, NewNode, RemoveNode, AddHandle, RemoveHandle, SetInfo}
+use Rattle.fs_model.specs.declared.node.Node.{Node}
+use Rattle.fs_model.specs.Namespace.{NodeMap, fresh_node}
+use Rattle.fs_model.specs.Step.{named, unnamed, placed, sized, opened, closed}
+use Rattle.fs_record.specs.declared.record.Record.{Record}
+use Rattle.fs_record.specs.Records.{RecordMap, node_of, next_of}
+
+-- the file whose node the effect changes: for a name its directory
+abbrev pub changed_file : Effect → List ℕ
+changed_file (SetChild dir name to) = dir
+changed_file (SetParent file dir name) = file
+changed_file (NewNode file kind dir name) = file
+changed_file (RemoveNode file) = file
+changed_file (AddHandle file session h modes) = file
+changed_file (RemoveHandle file session h) = file
+changed_file (SetInfo file size stamp) = file
+
+-- the name stands for the file, or for none
+abbrev pub linked : List ℕ → Option (List ℕ) → Node → Node
+linked name None = unnamed name
+linked name (Some file) = named name file
+
+-- the session has the file open under the handle, and has nothing else under it
+abbrev pub reopened : Session → ℕ → Modes → Node → Node
+reopened session h modes n = opened session h modes (closed session h n)
+
+-- what the effect makes of the node of its file, or of its absence
+abbrev pub node_change : Effect → Option Node → Option Node
+node_change (SetChild dir name to) o = option_map (linked name to) o
+node_change (SetParent file dir name) o = option_map (placed dir name) o
+node_change (NewNode file kind dir name) o = Some (fresh_node kind (Some (dir, name)))
+node_change (RemoveNode file) o = None
+node_change (AddHandle file session h modes) o = option_map (reopened session h modes) o
+node_change (RemoveHandle file session h) o = option_map (closed session h) o
+node_change (SetInfo file size stamp) o = option_map (sized size stamp) o
+
+-- what the effect makes of the record of its file: its node is changed, and its next number stays
+abbrev pub record_change : Effect → Option Record → Option Record
+record_change e o = option_map (λ n. record { node = n; next = next_of o }) (node_change e (node_of o))
+
+-- the map where this stands at the identifier, or nothing
+abbrev pub with_at : {X : Type 0} → FinMap (slice_cmp nat_cmp) X → List ℕ → Option X → FinMap (slice_cmp nat_cmp) X
+with_at m id None = remove m id
+with_at m id (Some x) = insert m id x
+
+-- the records after the effect
+abbrev pub records_after : RecordMap → Effect → RecordMap
+records_after m e = with_at m (changed_file e) (record_change e (get m (changed_file e)))
+
+-- the nodes after the effect
+abbrev pub nodes_after : NodeMap → Effect → NodeMap
+nodes_after m e = with_at m (changed_file e) (node_change e (get m (changed_file e)))
+
+-- the nodes after the effects, one after the other
+abbrev pub nodes_after_all : NodeMap → List Effect → NodeMap
+nodes_after_all m [] = m
+nodes_after_all m (e ∷ es) = nodes_after_all (nodes_after m e) es
+
+-- a file begins to live
+abbrev pub is_birth : Effect → Bool
+is_birth (NewNode file kind dir name) = true
+is_birth e = false
+
+-- the effect meets its file here: it has a record, or begins to live
+abbrev pub is_met : RecordMap → Effect → Bool
+is_met m e = is_birth e || is_some (get m (changed_file e))

@@ -1,0 +1,24 @@
+-- The effects of an operation that got a reply.
+use Rattle.std.specs.Prelude.{Bool, true, false, List, [], ◌∷◌, Some}
+use Rattle.fs_ident.specs.declared.actor.Session.{Session}
+use Rattle.fs_field.specs.declared.effect.Effect.{Effect}
+use Rattle.fs_field.specs.declared.effect.Effect.TheVariants.{SetChild, NewNode, AddHandle, RemoveHandle, SetInfo}
+use Rattle.fs_model.specs.declared.op.Op.{Op}
+use Rattle.fs_model.specs.declared.op.Op.TheVariants as op
+use Rattle.fs_model.specs.declared.reply.Reply.{Reply}
+use Rattle.fs_model.specs.declared.reply.Reply.TheVariants as reply
+
+-- neither a rename, nor a delete, nor a reap
+abbrev pub is_plain : Op → Bool
+is_plain (op.Rename sdir sname ddir dname) = false
+is_plain (op.Delete dir name) = false
+is_plain (op.Reap file session) = false
+is_plain o = true
+
+-- the effects of a plain operation
+abbrev pub effects_of : Session → Op → Reply → List Effect
+effects_of by (op.Create dir name kind (Some id)) reply.Made = SetChild dir name (Some id) ∷ NewNode id kind dir name ∷ []
+effects_of by (op.OpenFile file h modes) reply.Opened = AddHandle file by h modes ∷ []
+effects_of by (op.Close file h) reply.Closed = RemoveHandle file by h ∷ []
+effects_of by (op.Set file h size stamp) reply.Set = SetInfo file size stamp ∷ []
+effects_of by o r = []

@@ -1,0 +1,8 @@
+pub mod Records
+pub mod ValueOf
+pub mod Applied
+pub mod Effects
+pub mod Fresh
+pub mod Seen
+pub mod Places
+pub mod Changes

@@ -1,0 +1,227 @@
+//! Changes of one record.
+ghost use Rattle.std.specs.Prelude.{◌≡◌, OnOk, OnErr, None, Some};
+ghost use Rattle.std.specs.FinMap as map;
+ghost use Rattle.fs_field.specs.declared.effect.Effect.TheVariants.{SetChild, SetParent, NewNode, RemoveNode, AddHandle, RemoveHandle, SetInfo};
+ghost use Rattle.fs_record.specs.Applied.{records_after};
+ghost use Rattle.fs_record.specs.Fresh.{with_next};
+ghost use Rattle.fs_record.specs.Records.{AreRecords};
+ghost use Rattle.fs_record.specs.Seen.{seen};
+
+use crate::children;
+use crate::handles::reopen;
+use crate::lookups::next;
+use crate::record::Record;
+use fs_field::effect::Effect;
+use fs_ident::actor::Session;
+use fs_ident::file_id::FileId;
+use fs_ident::kind::Kind;
+use fs_ident::list::List;
+use fs_ident::memory::Memory;
+use fs_ident::name::Name;
+use fs_ident::twin::Twin;
+use fs_model::children::take;
+use fs_model::handles;
+use fs_model::node::{Handle, Node};
+use std::alloc::Global;
+use std::collections::BTreeMap;
+
+/// Does the effect, or nothing where its file has no record, unless the file begins to live.
+pub fn apply(
+    alloc: Global,
+    records: &mut BTreeMap<FileId, Record>,
+    e: &Effect,
+) -> Result<(), Memory>
+    requires { AreRecords (seen records.old) }
+    ensures ok { OnOk result (seen records.new ≡ records_after (seen records.old) e.now) }
+    ensures err { OnErr result (seen records.new ≡ seen records.old) }
+{
+    match e {
+        Effect::SetChild {
+            dir,
+            name,
+            to: Some(file),
+        } => return link(records, dir, name.copy(alloc)?, file.copy(alloc)?),
+        Effect::SetChild {
+            dir,
+            name,
+            to: None,
+        } => unlink(records, dir, name),
+        Effect::SetParent { file, dir, name } => place(
+            records,
+            file,
+            dir.copy(alloc)?,
+            name.copy(alloc)?,
+        ),
+        Effect::NewNode {
+            file,
+            kind,
+            dir,
+            name,
+        } => return make(alloc, records, file, *kind, dir, name),
+        Effect::RemoveNode { file } => remove(records, file),
+        Effect::AddHandle {
+            file,
+            session,
+            h,
+            modes,
+        } => {
+            let handle = Handle {
+                session: *session,
+                h: *h,
+                modes: *modes,
+            };
+            return open(alloc, records, file, handle);
+        }
+        Effect::RemoveHandle { file, session, h } => close(alloc, records, file, *session, *h),
+        Effect::SetInfo { file, size, stamp } => set(records, file, *size, *stamp),
+    }
+    Ok(())
+}
+
+/// Gives the file this record, whatever it had.
+#[tactic(auto, using(crate::proofs::Seen::seens))]
+pub fn add(records: &mut BTreeMap<FileId, Record>, file: FileId, kept: Record) -> Result<(), Memory>
+    ensures ok { OnOk result (seen records.new ≡ map.insert (seen records.old) file kept) }
+    ensures err { OnErr result (seen records.new ≡ seen records.old) }
+{
+    records.insert(file, kept)?;
+    Ok(())
+}
+
+/// Lets the name stand for the file.
+#[tactic(auto, using(crate::proofs::Seen::seens, crate::proofs::Seen::seen_absent))]
+fn link(
+    records: &mut BTreeMap<FileId, Record>,
+    dir: &FileId,
+    name: Name,
+    file: FileId,
+) -> Result<(), Memory>
+    requires { AreRecords (seen records.old) }
+    ensures ok { OnOk result (seen records.new ≡ records_after (seen records.old) (SetChild dir.now name (Some file))) }
+    ensures err { OnErr result (seen records.new ≡ seen records.old) }
+{
+    match records.get_mut(dir) {
+        Some(record) => children::link(&mut record.node.children, name, file),
+        None => Ok(()),
+    }
+}
+
+/// Lets the name stand for no file.
+#[tactic(auto, using(crate::proofs::Seen::seens, crate::proofs::Seen::seen_absent))]
+fn unlink(records: &mut BTreeMap<FileId, Record>, dir: &FileId, name: &Name)
+    requires { AreRecords (seen records.old) }
+    ensures { seen records.new ≡ records_after (seen records.old) (SetChild dir.now name.now None) }
+{
+    match records.get_mut(dir) {
+        Some(record) => {
+            take(&mut record.node.children, name);
+        }
+        None => {}
+    }
+}
+
+/// Puts the file into another place.
+#[tactic(auto, using(crate::proofs::Seen::seens, crate::proofs::Seen::seen_absent))]
+fn place(records: &mut BTreeMap<FileId, Record>, file: &FileId, dir: FileId, name: Name)
+    ensures { seen records.new ≡ records_after (seen records.old) (SetParent file.now dir name) }
+{
+    match records.get_mut(file) {
+        Some(record) => record.node.parent = Some((dir, name)),
+        None => {}
+    }
+}
+
+/// Makes the file anew. A record that it has keeps its next number, and else the first is 1.
+#[tactic(auto, using(crate::proofs::Seen::seens))]
+fn make(
+    alloc: Global,
+    records: &mut BTreeMap<FileId, Record>,
+    file: &FileId,
+    kind: Kind,
+    dir: &FileId,
+    name: &Name,
+) -> Result<(), Memory>
+    requires { AreRecords (seen records.old) }
+    ensures ok { OnOk result (seen records.new ≡ records_after (seen records.old) (NewNode file.now kind dir.now name.now)) }
+    ensures err { OnErr result (seen records.new ≡ seen records.old) }
+{
+    let node = Node {
+        kind,
+        parent: Some((dir.copy(alloc)?, name.copy(alloc)?)),
+        children: List::new(alloc),
+        size: 0,
+        stamp: 0,
+        handles: List::new(alloc),
+    };
+    let record = Record {
+        node,
+        next: next(records, file),
+    };
+    add(records, file.copy(alloc)?, record)
+}
+
+/// Takes the record away.
+fn remove(records: &mut BTreeMap<FileId, Record>, file: &FileId)
+    ensures { seen records.new ≡ records_after (seen records.old) (RemoveNode file.now) }
+{
+    records.remove(file);
+}
+
+/// Lets the session have the file open.
+#[tactic(auto, using(crate::proofs::Seen::seens, crate::proofs::Seen::seen_absent))]
+fn open(
+    alloc: Global,
+    records: &mut BTreeMap<FileId, Record>,
+    file: &FileId,
+    handle: Handle,
+) -> Result<(), Memory>
+    ensures ok { OnOk result (seen records.new ≡ records_after (seen records.old) (AddHandle file.now handle.session handle.h handle.modes)) }
+    ensures err { OnErr result (seen records.new ≡ seen records.old) }
+{
+    match records.get_mut(file) {
+        Some(record) => reopen(&mut record.node.handles, alloc, handle),
+        None => Ok(()),
+    }
+}
+
+/// Takes away what the session has under the handle.
+#[tactic(auto, using(crate::proofs::Seen::seens, crate::proofs::Seen::seen_absent))]
+fn close(
+    alloc: Global,
+    records: &mut BTreeMap<FileId, Record>,
+    file: &FileId,
+    session: Session,
+    h: u32,
+)
+    ensures { seen records.new ≡ records_after (seen records.old) (RemoveHandle file.now session h) }
+{
+    match records.get_mut(file) {
+        Some(record) => handles::close(&mut record.node.handles, alloc, session, h),
+        None => {}
+    }
+}
+
+/// Sets size and stamp.
+#[tactic(auto, using(crate::proofs::Seen::seens, crate::proofs::Seen::seen_absent))]
+fn set(records: &mut BTreeMap<FileId, Record>, file: &FileId, size: u64, stamp: u64)
+    ensures { seen records.new ≡ records_after (seen records.old) (SetInfo file.now size stamp) }
+{
+    match records.get_mut(file) {
+        Some(record) => {
+            record.node.size = size;
+            record.node.stamp = stamp;
+        }
+        None => {}
+    }
+}
+
+/// Sets the next number of the file, if it has a record.
+#[tactic(auto, using(crate::proofs::Seen::seens))]
+pub fn set_next(records: &mut BTreeMap<FileId, Record>, file: &FileId, next: u64)
+    ensures { seen records.new ≡ with_next (seen records.old) file.now next (map.get (seen records.old) file.now) }
+{
+    match records.get_mut(file) {
+        Some(record) => record.next = next,
+        None => {}
+    }
+}

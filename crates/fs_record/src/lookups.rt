@@ -1,0 +1,62 @@
+//! Looking up records.
+ghost use Rattle.std.specs.Prelude.{◌≡◌, ◌≤◌, IfOk, IfSome};
+ghost use Rattle.std.specs.FinMap as map;
+ghost use Rattle.std.specs.Option.{option_copied};
+ghost use Rattle.fs_model.specs.Namespace.{IsInOrder};
+ghost use Rattle.fs_record.specs.Records.{AreRecords, node_of, next_of};
+ghost use Rattle.fs_record.specs.Seen.{seen};
+
+use crate::record::Record;
+use fs_ident::file_id::FileId;
+use fs_ident::list::List;
+use fs_ident::memory::Memory;
+use fs_ident::twin::Twin;
+use fs_model::node::Node;
+use std::alloc::Global;
+use std::collections::BTreeMap;
+
+/// The record of the file.
+#[tactic(auto, using(crate::proofs::Seen::seens))]
+pub fn record<'a>(records: &'a BTreeMap<FileId, Record>, id: &FileId) -> Option<&'a Record>
+    ensures { option_copied result ≡ map.get (seen records.now) id.now }
+{
+    records.get(id)
+}
+
+/// The node of the file.
+#[tactic(auto, using(crate::proofs::Seen::seens))]
+pub fn node<'a>(records: &'a BTreeMap<FileId, Record>, id: &FileId) -> Option<&'a Node>
+    requires { AreRecords (seen records.now) }
+    ensures same { option_copied result ≡ node_of (map.get (seen records.now) id.now) }
+    ensures in_order { IfSome result (λ n. IsInOrder n.now) }
+{
+    match records.get(id) {
+        Some(record) => Some(&record.node),
+        None => None,
+    }
+}
+
+/// The next number of the file, which is 1 where it has no record.
+#[tactic(auto, using(crate::proofs::Seen::seens))]
+pub fn next(records: &BTreeMap<FileId, Record>, id: &FileId) -> u64
+    requires { AreRecords (seen records.now) }
+    ensures same { result ≡ next_of (map.get (seen records.now) id.now) }
+    ensures positive { 1 ≤ result }
+    ensures bound { result ≤ 4294967296 }
+{
+    match records.get(id) {
+        Some(record) => record.next,
+        None => 1,
+    }
+}
+
+/// The identifiers of all records, in order.
+pub fn files(alloc: Global, records: &BTreeMap<FileId, Record>) -> Result<List<FileId>, Memory>
+    ensures { IfOk result (λ ids. ids ≡ map.keys (seen records.now)) }
+{
+    let mut ids = List::from_vec(Vec::with_capacity(alloc, records.len())?);
+    for id in records.keys() {
+        ids.push(id.copy(alloc)?)?;
+    }
+    Ok(ids)
+}

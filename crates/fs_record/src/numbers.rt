@@ -1,0 +1,105 @@
+//! The numbers that a directory gives to new files.
+ghost use Rattle.std.specs.Prelude.{◌≡◌, ◌↔◌, ◌≤◌, ◌<◌, true, false, IfOk, OnOk, OnErr, IsErrOf, IfSome, Some, None, length, option_map};
+ghost use Rattle.fs_ident.specs.Ident.{child};
+ghost use Rattle.fs_record.specs.Fresh.{is_borne, free_from, fresh_number, is_directory, records_given};
+ghost use Rattle.fs_record.specs.Records.{AreRecords};
+ghost use Rattle.fs_record.specs.Seen.{seen};
+ghost use Rattle.fs_record.specs.declared.error.FreshError.TheVariants.{NoDir, NoIds};
+
+use crate::changes::set_next;
+use crate::error::FreshError;
+use crate::lookups::{next, node};
+use crate::record::Record;
+use fs_ident::error::IdError;
+use fs_ident::file_id::{DEPTH, FileId};
+use fs_ident::kind::Kind;
+use std::alloc::Global;
+use std::collections::BTreeMap;
+
+/// The first number that no identifier has.
+const NUMBERS_END: u64 = 4294967296;
+
+/// Gives an identifier for a new file in the directory.
+pub fn fresh(
+    alloc: Global,
+    records: &mut BTreeMap<FileId, Record>,
+    dir: &FileId,
+    borne: &[u32],
+) -> Result<FileId, FreshError>
+    requires { AreRecords (seen records.old) }
+    ensures ok { IfOk result (λ id. Some id ≡ option_map (child dir.now) (fresh_number (seen records.old) dir.now borne.now)) }
+    ensures records { OnOk result (seen records.new ≡ records_given (seen records.old) dir.now (fresh_number (seen records.old) dir.now borne.now)) }
+    ensures no_dir { IsErrOf result NoDir ↔ (is_directory (seen records.old) dir.now ≡ false) }
+    ensures no_ids { IsErrOf result NoIds ↔ ((is_directory (seen records.old) dir.now ≡ true) × (fresh_number (seen records.old) dir.now borne.now ≡ None)) }
+    ensures err { OnErr result (seen records.new ≡ seen records.old) }
+{
+    if !is_directory(records, dir) {
+        return Err(FreshError::NoDir);
+    }
+    let Some(k) = fresh_number(records, dir, borne) else {
+        return Err(FreshError::NoIds);
+    };
+    let id = below(alloc, dir, k)?;
+    set_next(records, dir, u64::from(k) + 1);
+    Ok(id)
+}
+
+/// Whether the directory has a record here.
+fn is_directory(records: &BTreeMap<FileId, Record>, dir: &FileId) -> bool
+    requires { AreRecords (seen records.now) }
+    ensures { result ≡ is_directory (seen records.now) dir.now }
+{
+    match node(records, dir) {
+        Some(node) => node.kind == Kind::Dir,
+        None => false,
+    }
+}
+
+/// The number of the new file, if there is one.
+fn fresh_number(records: &BTreeMap<FileId, Record>, dir: &FileId, borne: &[u32]) -> Option<u32>
+    requires { AreRecords (seen records.now) }
+    ensures same { result ≡ fresh_number (seen records.now) dir.now borne.now }
+    ensures positive { IfSome result (λ k. 1 ≤ k) }
+    ensures shallow { IfSome result (λ _. length dir.now < DEPTH) }
+{
+    if dir.numbers().len() == DEPTH {
+        return None;
+    }
+    free_from(next(records, dir), borne)
+}
+
+/// The least number from `next` on that is not borne.
+#[tactic(auto, using(crate::proofs::FreshNumbers::free_step, crate::proofs::FreshNumbers::free_end))]
+fn free_from(next: u64, borne: &[u32]) -> Option<u32>
+    ensures same { result ≡ free_from next borne.now }
+    ensures from { IfSome result (λ k. next ≤ k) }
+{
+    for k in next..NUMBERS_END {
+        let k = k as u32;
+        if !is_borne(borne, k) {
+            return Some(k);
+        }
+    }
+    None
+}
+
+fn is_borne(borne: &[u32], k: u32) -> bool
+    ensures { result ≡ is_borne borne.now k }
+{
+    borne.iter().any(|b| *b == k)
+}
+
+/// The identifier with the number appended.
+fn below(alloc: Global, dir: &FileId, k: u32) -> Result<FileId, FreshError>
+    requires positive { 1 ≤ k }
+    requires shallow { length dir.now < DEPTH }
+    ensures ok { IfOk result (λ id. id ≡ child dir.now k) }
+    ensures no_dir { IsErrOf result NoDir → ⊥ }
+    ensures no_ids { IsErrOf result NoIds → ⊥ }
+{
+    match dir.child(alloc, k) {
+        Ok(id) => Ok(id),
+        Err(IdError::Memory) => Err(FreshError::Memory),
+        Err(_) => unreachable!(),
+    }
+}

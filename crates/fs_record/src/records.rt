@@ -1,0 +1,162 @@
+//! The records of one server as one value.
+ghost use Rattle.std.specs.Prelude.{◌≡◌, ◌↔◌, true, false, IfOk, OnOk, OnErr, IsErrOf, Some, None, option_map};
+ghost use Rattle.std.specs.FinMap as map;
+ghost use Rattle.std.specs.Option.{option_copied};
+ghost use Rattle.fs_ident.specs.Ident.{child};
+ghost use Rattle.fs_record.specs.Applied.{records_after, is_met};
+ghost use Rattle.fs_record.specs.Fresh.{fresh_number, is_directory, records_given};
+ghost use Rattle.fs_record.specs.Records.{IsRecord, first_records, AreRecords, root_record};
+ghost use Rattle.fs_record.specs.ValueOf.{value_of, is_other, selves_in};
+ghost use Rattle.fs_field.specs.After.{value_after};
+ghost use Rattle.fs_field.specs.declared.field.Field.{Field as TheField};
+ghost use Rattle.fs_ident.specs.declared.actor.Session.{Session as TheSession};
+ghost use Rattle.fs_record.specs.declared.error.FreshError.TheVariants.{NoDir, NoIds};
+
+use crate::error::FreshError;
+use crate::lookups::{files, node, record};
+use crate::record::Record;
+use crate::values::{handles, value_at};
+use crate::{changes, handles as opens, numbers};
+use fs_field::effect::Effect;
+use fs_field::field::Field;
+use fs_field::value::Value;
+use fs_ident::actor::Session;
+use fs_ident::file_id::FileId;
+use fs_ident::kind::Kind;
+use fs_ident::list::List;
+use fs_ident::memory::Memory;
+use fs_model::node::Node;
+use fs_modes::modes::Modes;
+use std::alloc::Global;
+use std::collections::BTreeMap;
+use std::marker::Model;
+
+/// The records of files, by identifier.
+#[derive(Drop)]
+pub struct Records {
+    records: BTreeMap<FileId, Record>,
+}
+
+impl Model for Records {
+    ghost use Rattle.std.specs.FinMap as map;
+    ghost use Rattle.std.specs.Coded.{coded_list, coded_ℕ};
+    ghost use Rattle.fs_record.specs.Records.{RecordMap, AreRecords};
+    ghost use Rattle.fs_record.specs.Seen.{seen};
+    ghost use Rattle.fs_record.specs.contracts.record.Record as kept;
+
+    ghost Value = { RecordMap };
+
+    ghost coded = { map.code (coded_list coded_ℕ) kept.the_row.coded };
+
+    ghost view = { λ s. seen s.records };
+
+    ghost invariant = { λ s. AreRecords (seen s.records) };
+}
+
+impl Records {
+    /// The root directory alone where `first`, and else no record.
+    pub fn new(alloc: Global, first: bool) -> Result<Records, Memory>
+        ensures { IfOk result (λ records. records ≡ first_records first) }
+    {
+        let mut records = Records::empty(alloc);
+        if first {
+            records.put(FileId::root(alloc), root(alloc))?;
+        }
+        Ok(records)
+    }
+
+    /// No record.
+    fn empty(alloc: Global) -> Records
+        ensures { result ≡ map.empty }
+    {
+        Records {
+            records: BTreeMap::new(alloc),
+        }
+    }
+
+    /// Gives the file this record, whatever it had.
+    pub(crate) fn put(&mut self, id: FileId, kept: Record) -> Result<(), Memory>
+        requires { IsRecord kept }
+        ensures ok { OnOk result (self.new ≡ map.insert self.old id kept) }
+        ensures err { OnErr result (self.new ≡ self.old) }
+    {
+        changes::add(&mut self.records, id, kept)
+    }
+
+    /// The record of the file.
+    pub fn get(&self, id: &FileId) -> Option<&Record>
+        ensures same { option_copied result ≡ map.get self.now id.now }
+        ensures valid { AreRecords self.now }
+    {
+        record(&self.records, id)
+    }
+
+    /// The identifiers of all records, in order.
+    pub fn files(&self, alloc: Global) -> Result<List<FileId>, Memory>
+        ensures { IfOk result (λ ids. ids ≡ map.keys self.now) }
+    {
+        files(alloc, &self.records)
+    }
+
+    /// The value of the field, as the session sees it. A file without a record does not live, and has no names, no
+    /// handles, and size and stamp 0.
+    pub fn value_of(&self, alloc: Global, session: Session, field: &Field) -> Result<Value, Memory>
+        ensures { IfOk result (λ value. value ≡ value_of self.now session field.now) }
+    {
+        value_at(alloc, node(&self.records, field.file()), session, field)
+    }
+
+    /// The sessions with handles on the file, by number, each with what its handles have together.
+    pub fn selves(&self, alloc: Global, file: &FileId) -> Result<List<(Session, Modes)>, Memory>
+        ensures { IfOk result (λ told. told ≡ selves_in self.now file.now) }
+    {
+        opens::selves(alloc, handles(node(&self.records, file)))
+    }
+
+    /// Does the effect. Where its file (for a name its directory) has no record nothing changes, unless the file
+    /// begins to live. Where memory is wanting nothing changes.
+    pub fn apply(&mut self, alloc: Global, e: &Effect) -> Result<(), Memory>
+        ensures ok { OnOk result (self.new ≡ records_after self.old e.now) }
+        ensures values { OnOk result ((s : TheSession) (field : TheField) → is_other field ≡ false → is_met self.old e.now ≡ true →
+            value_of self.new s field ≡ value_after s field (value_of self.old s field) e.now) }
+        ensures err { OnErr result (self.new ≡ self.old) }
+    {
+        changes::apply(alloc, &mut self.records, e)
+    }
+
+    /// Gives the identifier of a new file in the directory: with the least number, from the directory's next one
+    /// on, that is none of `borne`. The number after it is then the next one. `NoDir` where the directory has no
+    /// record here or is a file. Else `NoIds` where it has 32 numbers already, or where no such number is below
+    /// 4294967296.
+    pub fn fresh(
+        &mut self,
+        alloc: Global,
+        dir: &FileId,
+        borne: &List<u32>,
+    ) -> Result<FileId, FreshError>
+        ensures ok { IfOk result (λ id. Some id ≡ option_map (child dir.now) (fresh_number self.old dir.now borne.now)) }
+        ensures records { OnOk result (self.new ≡ records_given self.old dir.now (fresh_number self.old dir.now borne.now)) }
+        ensures no_dir { IsErrOf result NoDir ↔ (is_directory self.old dir.now ≡ false) }
+        ensures no_ids { IsErrOf result NoIds ↔ ((is_directory self.old dir.now ≡ true) × (fresh_number self.old dir.now borne.now ≡ None)) }
+        ensures err { OnErr result (self.new ≡ self.old) }
+    {
+        numbers::fresh(alloc, &mut self.records, dir, borne.as_slice())
+    }
+}
+
+/// The root's record, with nothing in it.
+fn root(alloc: Global) -> Record
+    ensures { result ≡ root_record }
+{
+    Record {
+        node: Node {
+            kind: Kind::Dir,
+            parent: None,
+            children: List::new(alloc),
+            size: 0,
+            stamp: 0,
+            handles: List::new(alloc),
+        },
+        next: 1,
+    }
+}
