@@ -1,12 +1,23 @@
-//! Copies of what is told.
+//! What is told, copied, written and read.
+mod faults;
+mod messages;
+
+use crate::error::MsgError;
 use crate::item::Item;
 use crate::note::Note;
+use crate::reading::read_whole;
 use fs_ident::actor::{Peer, Session};
 use fs_ident::file_id::FileId;
 use fs_ident::twin::Twin;
 use fs_model::op::Op;
 use fs_model::reply::Reply;
+use std::alloc::Global;
 use std::test::Fail;
+
+/// Why the bytes are no message, if they are none.
+pub(crate) fn fault_of(alloc: Global, bytes: &[u8]) -> Option<MsgError> {
+    read_whole(alloc, bytes).err()
+}
 
 #[test]
 fn an_item_is_copied(rt: HostRuntime) -> Result<(), Fail> {

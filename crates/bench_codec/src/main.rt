@@ -1,0 +1,65 @@
+//! Reads a message from standard input, and then reads and writes it as many times as the command line says: the
+//! load that `bench/codec` times.
+#![tactic(auto)]
+
+use fs_ident::memory::Memory;
+use fs_io::reading::read_all;
+use fs_io::standard::standard_input;
+use fs_msg::reading::read_whole;
+use fs_msg::writing::write;
+use std::alloc::Global;
+use std::env;
+use std::process::ExitCode;
+use std::rt::Env;
+
+fn main(rt: HostRuntime) -> ExitCode {
+    let Some(times) = times_of(&rt) else {
+        return ended(&rt, "usage: bench_codec TIMES < MESSAGE", 2);
+    };
+    let mut input = standard_input(&rt);
+    let Ok(bytes) = read_all(rt.alloc(), &mut input) else {
+        return ended(&rt, "the message could not be read", 1);
+    };
+    match is_spelled_again(rt.alloc(), &bytes, times) {
+        Ok(true) => ended(&rt, "each time the same bytes", 0),
+        Ok(false) => ended(&rt, "no message, or other bytes", 1),
+        Err(Memory) => ended(&rt, "memory is wanting", 1),
+    }
+}
+
+/// The number on the command line.
+fn times_of<R: Env + AllocGlobal>(rt: &R) -> Option<u32> {
+    let mut times = None;
+    let mut is_name = true;
+    for word in env::args(rt).ok()? {
+        if !is_name {
+            times = word.as_str().parse::<u32>().ok();
+        }
+        is_name = false;
+    }
+    times
+}
+
+/// Whether the bytes are a message that is written as these bytes again, so many times over.
+fn is_spelled_again(alloc: Global, bytes: &[u8], times: u32) -> Result<bool, Memory> {
+    let mut out = Vec::with_capacity(alloc, bytes.len())?;
+    for _ in 0..times {
+        let Ok(message) = read_whole(alloc, bytes) else {
+            return Ok(false);
+        };
+        out.clear();
+        write(alloc, &message, &mut out)?;
+        if out.as_slice() != bytes {
+            return Ok(false);
+        }
+    }
+    Ok(true)
+}
+
+/// Prints the line, and ends with the status.
+fn ended(rt: &impl Print, line: &str, status: u8) -> ExitCode {
+    match rt.println(line) {
+        Ok(()) => ExitCode::from(status),
+        Err(_) => ExitCode::from(1),
+    }
+}

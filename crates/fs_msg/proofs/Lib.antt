@@ -1,0 +1,13 @@
+pub mod Loop
+pub mod Readers
+pub mod Says
+pub mod Wires
+pub mod Numbers
+pub mod Small
+pub mod Names
+pub mod Fields
+pub mod Ops
+pub mod Replies
+pub mod Messages
+pub mod Exact
+pub mod Clauses

@@ -1,0 +1,89 @@
+//! What servers send to clients.
+use crate::end::End;
+use fs_field::field::Field;
+use fs_field::lease_kind::LeaseKind;
+use fs_field::value::Value;
+use fs_ident::actor::LeaseNo;
+use fs_ident::file_id::FileId;
+use fs_ident::list::List;
+use fs_ident::memory::Memory;
+use fs_ident::twin::Twin;
+use std::alloc::Global;
+
+/// A lease that a server gives, with what its field says.
+#[derive(Debug, Drop)]
+pub struct Grant {
+    pub no: LeaseNo,
+    pub field: Field,
+    pub kind: LeaseKind,
+    /// The reading from which on the lease is over.
+    pub until: u64,
+    pub value: Value,
+}
+
+/// The answer to a request, or a request of the server.
+#[derive(Debug, Drop)]
+pub enum Answer {
+    /// The leases that an Ask got, and the fresh identifier.
+    Granted {
+        grants: List<Grant>,
+        fresh: Option<FileId>,
+        end: End,
+    },
+    /// The new ends of leases; none for a lease that the server no longer has.
+    Renewed {
+        rows: List<(LeaseNo, Option<u64>)>,
+        end: End,
+    },
+    /// How many leases were given back.
+    Released {
+        count: u64,
+        end: End,
+    },
+    /// How many entries were admitted.
+    Shipped {
+        count: u64,
+        end: End,
+    },
+    /// Asks the client to give a lease back.
+    Recall {
+        no: LeaseNo,
+    },
+}
+
+impl Twin for Grant {
+    fn copy(&self, alloc: Global) -> Result<Grant, Memory> {
+        Ok(Grant {
+            no: self.no,
+            field: self.field.copy(alloc)?,
+            kind: self.kind,
+            until: self.until,
+            value: self.value.copy(alloc)?,
+        })
+    }
+}
+
+impl Twin for Answer {
+    fn copy(&self, alloc: Global) -> Result<Answer, Memory> {
+        match self {
+            Answer::Granted { grants, fresh, end } => Ok(Answer::Granted {
+                grants: grants.copy(alloc)?,
+                fresh: fresh.copy(alloc)?,
+                end: end.copy(alloc)?,
+            }),
+            Answer::Renewed { rows, end } => Ok(Answer::Renewed {
+                rows: rows.copy(alloc)?,
+                end: end.copy(alloc)?,
+            }),
+            Answer::Released { count, end } => Ok(Answer::Released {
+                count: *count,
+                end: end.copy(alloc)?,
+            }),
+            Answer::Shipped { count, end } => Ok(Answer::Shipped {
+                count: *count,
+                end: end.copy(alloc)?,
+            }),
+            Answer::Recall { no } => Ok(Answer::Recall { no: *no }),
+        }
+    }
+}

@@ -1,0 +1,52 @@
+//! What clients send to servers.
+use crate::entry::Entry;
+use fs_field::field::Field;
+use fs_field::lease_kind::LeaseKind;
+use fs_ident::actor::LeaseNo;
+use fs_ident::file_id::FileId;
+use fs_ident::list::List;
+use fs_ident::memory::Memory;
+use fs_ident::twin::Twin;
+use std::alloc::Global;
+
+/// A request of a client.
+#[derive(Debug, Drop)]
+pub enum ClientMsg {
+    /// Asks for leases, and for a fresh identifier below a directory.
+    Ask {
+        items: List<(Field, LeaseKind)>,
+        fresh: Option<FileId>,
+    },
+    /// Asks for later ends of leases, each with the file that it is on.
+    Renew {
+        pairs: List<(FileId, LeaseNo)>,
+    },
+    /// Gives leases back, each with the file that it is on.
+    Release {
+        pairs: List<(FileId, LeaseNo)>,
+    },
+    /// Hands in entries of the log, in order.
+    Ship {
+        entries: List<Entry>,
+    },
+}
+
+impl Twin for ClientMsg {
+    fn copy(&self, alloc: Global) -> Result<ClientMsg, Memory> {
+        match self {
+            ClientMsg::Ask { items, fresh } => Ok(ClientMsg::Ask {
+                items: items.copy(alloc)?,
+                fresh: fresh.copy(alloc)?,
+            }),
+            ClientMsg::Renew { pairs } => Ok(ClientMsg::Renew {
+                pairs: pairs.copy(alloc)?,
+            }),
+            ClientMsg::Release { pairs } => Ok(ClientMsg::Release {
+                pairs: pairs.copy(alloc)?,
+            }),
+            ClientMsg::Ship { entries } => Ok(ClientMsg::Ship {
+                entries: entries.copy(alloc)?,
+            }),
+        }
+    }
+}

@@ -1,0 +1,22 @@
+//! The messages between actors.
+use crate::answer::Answer;
+use crate::client_msg::ClientMsg;
+use fs_ident::memory::Memory;
+use fs_ident::twin::Twin;
+use std::alloc::Global;
+
+/// What one actor sends to another.
+#[derive(Debug, Drop)]
+pub enum Msg {
+    Client(ClientMsg),
+    Answer(Answer),
+}
+
+impl Twin for Msg {
+    fn copy(&self, alloc: Global) -> Result<Msg, Memory> {
+        match self {
+            Msg::Client(m) => Ok(Msg::Client(m.copy(alloc)?)),
+            Msg::Answer(a) => Ok(Msg::Answer(a.copy(alloc)?)),
+        }
+    }
+}

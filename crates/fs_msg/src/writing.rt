@@ -1,0 +1,37 @@
+//! Writing messages.
+ghost use Rattle.std.specs.Prelude.{◌≡◌, ◌++◌, [], OnOk, OnErr};
+ghost use Rattle.fs_msg.specs.Spelling.{message};
+
+use crate::bytes::wire::Wire;
+use crate::msg::Msg;
+use fs_ident::memory::Memory;
+use std::alloc::Global;
+
+/// Adds the one spelling of a message at the end. Where memory is wanting, nothing is added.
+pub fn write(alloc: Global, m: &Msg, out: &mut Vec<u8>) -> Result<(), Memory>
+    ensures ok { OnOk result (out.new.items ≡ out.old.items ++ message m.now) }
+    ensures err { OnErr result (out.new.items ≡ out.old.items) }
+{
+    if out.is_empty() {
+        return write_first(m, out);
+    }
+    let mut text = Vec::new(alloc);
+    write_first(m, &mut text)?;
+    out.extend_from_slice(&text)?;
+    Ok(())
+}
+
+/// Adds the spelling of a message to nothing.
+fn write_first(m: &Msg, out: &mut Vec<u8>) -> Result<(), Memory>
+    requires { out.old.items ≡ [] }
+    ensures ok { OnOk result (out.new.items ≡ message m.now) }
+    ensures err { OnErr result (out.new.items ≡ []) }
+{
+    match m.put(out) {
+        Ok(()) => Ok(()),
+        Err(_) => {
+            out.clear();
+            Err(Memory)
+        }
+    }
+}
