@@ -1,8 +1,9 @@
 -- Session order: each session's items have the numbers 1, 2, 3 .., and the replies that it was given are theirs.
-use Rattle.std.specs.Prelude.{◌≡◌, ℕ, ◌+◌, Bool, false, ◌==◌, List, [], ◌∷◌, Option, filter, ◌⊎◌}
+use Rattle.std.specs.Prelude.{◌≡◌, ℕ, ◌+◌, Bool, false, ◌==◌, List, [], ◌∷◌, Option, filter}
 use Rattle.fs_ident.specs.declared.actor.Session.{Session}
 use Rattle.fs_ident.specs.declared.actor.Peer.{Peer}
 use Rattle.fs_ident.specs.declared.actor.Peer.TheVariants.{Server, Client}
+use Rattle.fs_field.specs.In.{In}
 use Rattle.fs_model.specs.declared.op.Op.{Op}
 use Rattle.fs_model.specs.declared.op.Op.TheVariants as op
 use Rattle.fs_model.specs.declared.reply.Reply.{Reply}
@@ -26,11 +27,6 @@ items_of s items = filter (λ i. is_session s i.by) items
 abbrev pub AreNumberedFrom : ℕ → List Item → Type 0
 AreNumberedFrom k [] = Unit {0}
 AreNumberedFrom k (i ∷ is) = (i.n ≡ k) × AreNumberedFrom (k + 1) is
-
--- x is an element
-abbrev pub In : {X : Type 0} → X → List X → Type 0
-In x [] = ⊥
-In x (y ∷ ys) = (x ≡ y) ⊎ In x ys
 
 -- the same operation, but that a create may have been given an identifier
 abbrev pub SameButId : Op → Op → Type 0
