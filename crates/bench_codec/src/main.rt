@@ -2,6 +2,9 @@
 //! load that `bench/codec` times.
 #![tactic(auto)]
 
+ghost use Rattle.std.specs.Prelude.{◌≡◌, true, IfOk};
+ghost use Rattle.fs_msg.specs.Longest.{IsMessage};
+
 use fs_ident::memory::Memory;
 use fs_io::reading::read_all;
 use fs_io::standard::standard_input;
@@ -44,16 +47,25 @@ fn times_of<R: Env + AllocGlobal>(rt: &R) -> Option<u32> {
 fn is_spelled_again(alloc: Global, bytes: &[u8], times: u32) -> Result<bool, Memory> {
     let mut out = Vec::with_capacity(alloc, bytes.len())?;
     for _ in 0..times {
-        let Ok(message) = read_whole(alloc, bytes) else {
-            return Ok(false);
-        };
-        out.clear();
-        write(alloc, &message, &mut out)?;
-        if out.as_slice() != bytes {
+        if !round(alloc, bytes, &mut out)? {
             return Ok(false);
         }
     }
     Ok(true)
+}
+
+/// Reads the message that the bytes are, and writes it again. Tells whether there is one and it is these bytes.
+fn round(alloc: Global, bytes: &[u8], out: &mut Vec<u8>) -> Result<bool, Memory>
+    ensures { IfOk result (λ again. again ≡ true → IsMessage bytes.now) }
+{
+    match read_whole(alloc, bytes) {
+        Ok(message) => {
+            out.clear();
+            write(alloc, &message, out)?;
+            Ok(out.as_slice() == bytes)
+        }
+        Err(_) => Ok(false),
+    }
 }
 
 /// Prints the line, and ends with the status.
