@@ -33,6 +33,8 @@ fn rows_lapse_at_their_end_and_the_skew(rt: HostRuntime) -> Result<(), Fail> {
     rows.lapse(109, 10);
     assert!(rt; rows.row(number(1)).is_some());
     assert!(rt; rows.lock(number(1), TXN));
+    rows.lapse(109, 10);
+    assert!(rt; rows.row(number(1)).is_some());
     rows.lapse(110, 10);
     assert!(rt; rows.row(number(1)).is_some());
     rows.unlock(TXN);
