@@ -5,11 +5,9 @@
 ghost use Rattle.std.specs.Prelude.{◌≡◌, true, IfOk};
 ghost use Rattle.fs_msg.specs.Longest.{IsMessage};
 
-use fs_ident::memory::Memory;
-use fs_io::reading::read_all;
-use fs_io::standard::standard_input;
-use fs_msg::reading::read_whole;
-use fs_msg::writing::write;
+use fs_ident::Memory;
+use fs_io::{read_all, standard_input};
+use fs_msg::{read_whole, write};
 use std::alloc::Global;
 use std::env;
 use std::process::ExitCode;

@@ -3,8 +3,7 @@ ghost use Rattle.std.specs.Prelude.{◌≡◌, OnOk, OnErr};
 ghost use Rattle.std.specs.FinMap as map;
 ghost use Rattle.farsite.specs.Seen.{seen_counts};
 
-use fs_ident::actor::Session;
-use fs_ident::memory::Memory;
+use fs_ident::{Memory, Session};
 use std::alloc::Global;
 use std::collections::BTreeMap;
 use std::marker::Model;

@@ -11,9 +11,7 @@ mod world;
 
 use crate::status::Status;
 use crate::top::farsite;
-use fs_io::mem_clock::MemClock;
-use fs_io::standard::{standard_input, standard_output};
-use fs_io::sure_link::SureLink;
+use fs_io::{MemClock, SureLink, standard_input, standard_output};
 use std::process::ExitCode;
 use std::rt::Env;
 use std::{env, io};

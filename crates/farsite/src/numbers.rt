@@ -3,9 +3,7 @@ ghost use Rattle.std.specs.Prelude.{◌≡◌, ◌^◌, ◌<◌, IfSome, OnOk, O
 ghost use Rattle.std.specs.FinMap as map;
 ghost use Rattle.farsite.specs.Seen.{seen_numbers};
 
-use fs_ident::file_id::FileId;
-use fs_ident::memory::Memory;
-use fs_ident::twin::Twin;
+use fs_ident::{FileId, Memory, Twin};
 use std::alloc::Global;
 use std::collections::BTreeMap;
 use std::marker::Model;

@@ -7,17 +7,10 @@ ghost use Rattle.fs_report.specs.Report.{outcomes_text, items_text};
 ghost use Rattle.fs_schedule.specs.Faults.{IsFirstFault, IsOutside, PassesLimit};
 
 use crate::world::World;
-use fs_ident::list::List;
-use fs_ident::memory::Memory;
-use fs_msg::item::Item;
-use fs_report::done_line::done_line;
-use fs_report::item_line::item_line;
-use fs_report::outcome_line::outcome_line;
-use fs_report::space_lines::space_lines;
-use fs_schedule::error::{ScheduleError, Which};
-use fs_schedule::event::Event;
-use fs_schedule::outcome::Outcome;
-use fs_schedule::schedule::read_schedule;
+use fs_ident::{List, Memory};
+use fs_msg::Item;
+use fs_report::{done_line, item_line, outcome_line, space_lines};
+use fs_schedule::{Event, Outcome, ScheduleError, Which, read_schedule};
 use std::alloc::Global;
 
 /// The report of the schedule that the bytes are.

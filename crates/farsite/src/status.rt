@@ -1,7 +1,7 @@
 //! How a call of the program ends.
 ghost use Rattle.std.specs.Prelude.{◌≡◌, Some};
 
-use fs_schedule::error::Which;
+use fs_schedule::Which;
 use std::fmt;
 
 /// How a call of the program ends. Words and lines are counted from 1.

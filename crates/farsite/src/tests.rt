@@ -1,12 +1,7 @@
 use crate::status::Status;
 use crate::top::farsite;
-use fs_io::mem_clock::MemClock;
-use fs_io::mem_sink::MemSink;
-use fs_io::mem_source::MemSource;
-use fs_io::sure_link::SureLink;
-use fs_io::sure_sink::SureSink;
-use fs_io::sure_source::SureSource;
-use fs_schedule::error::Which;
+use fs_io::{MemClock, MemSink, MemSource, SureLink, SureSink, SureSource};
+use fs_schedule::Which;
 use std::alloc::Global;
 use std::test::Fail;
 

@@ -12,14 +12,8 @@ ghost use Rattle.farsite.specs.Usage.{is_form, understood};
 use crate::replay::report_of;
 use crate::status::Status;
 use crate::words::misplaced;
-use fs_io::clock::Clock;
-use fs_io::failed::Failed;
-use fs_io::link::Link;
-use fs_io::reading::{ReadError, read_all};
-use fs_io::sink::Sink;
-use fs_io::source::Source;
-use fs_io::writing::write_all;
-use fs_schedule::error::ScheduleError;
+use fs_io::{Clock, Failed, Link, ReadError, Sink, Source, read_all, write_all};
+use fs_schedule::ScheduleError;
 use std::alloc::Global;
 
 /// What the program does with the words of its command line, without its own name.

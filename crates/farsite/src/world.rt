@@ -6,21 +6,10 @@ ghost use Rattle.farsite.specs.World.{candidate, candidate_of, create_answer, an
 
 use crate::counts::Counts;
 use crate::numbers::Numbers;
-use fs_ident::actor::{Peer, Session};
-use fs_ident::error::IdError;
-use fs_ident::file_id::FileId;
-use fs_ident::kind::Kind;
-use fs_ident::list::List;
-use fs_ident::memory::Memory;
-use fs_ident::name::Name;
-use fs_ident::twin::Twin;
-use fs_model::op::Op;
-use fs_model::reply::Reply;
-use fs_model::space::Space;
-use fs_msg::item::Item;
-use fs_msg::note::Note;
-use fs_schedule::event::What;
-use fs_schedule::outcome::Outcome;
+use fs_ident::{FileId, IdError, Kind, List, Memory, Name, Peer, Session, Twin};
+use fs_model::{Op, Reply, Space};
+use fs_msg::{Item, Note};
+use fs_schedule::{Outcome, What};
 use std::alloc::Global;
 
 /// One namespace, what its sessions have asked for, the journal, and an outcome for each event.

@@ -1,10 +1,7 @@
 //! Questions for leases, and their answers.
 use crate::field::Field;
 use crate::lease_kind::LeaseKind;
-use fs_ident::actor::{LeaseNo, TxnNo};
-use fs_ident::file_id::FileId;
-use fs_ident::memory::Memory;
-use fs_ident::twin::Twin;
+use fs_ident::{FileId, LeaseNo, Memory, Twin, TxnNo};
 use std::alloc::Global;
 
 /// Something that an operation cannot be answered without.

@@ -7,14 +7,8 @@ use crate::field::Field;
 use crate::handles::{with_handle, without_handle};
 use crate::names::{with_name, without_name};
 use crate::value::Value;
-use fs_ident::actor::Session;
-use fs_ident::file_id::FileId;
-use fs_ident::kind::Kind;
-use fs_ident::list::List;
-use fs_ident::memory::Memory;
-use fs_ident::name::Name;
-use fs_ident::twin::Twin;
-use fs_modes::modes::Modes;
+use fs_ident::{FileId, Kind, List, Memory, Name, Session, Twin};
+use fs_modes::Modes;
 use std::alloc::Global;
 
 /// Whether the effect can change the value of the field.

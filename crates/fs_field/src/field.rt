@@ -2,11 +2,8 @@
 ghost use Rattle.std.specs.Prelude.{◌≡◌, ◌↔◌, IsTrue};
 ghost use Rattle.fs_field.specs.Field.{same_field, file_of};
 
-use fs_ident::file_id::FileId;
-use fs_ident::memory::Memory;
-use fs_ident::name::Name;
-use fs_ident::twin::Twin;
-use fs_modes::modes::Mode;
+use fs_ident::{FileId, Memory, Name, Twin};
+use fs_modes::Mode;
 use std::alloc::Global;
 
 /// One fact of a file that can be leased by itself.

@@ -3,10 +3,8 @@ ghost use Rattle.std.specs.Prelude.{◌≡◌, ◌==◌, not, length, ◌≤◌,
 ghost use Rattle.std.specs.List.{filter};
 ghost use Rattle.fs_field.specs.After.{place_before, is_above, with_handle, without_handle};
 
-use fs_ident::list::List;
-use fs_ident::memory::Memory;
-use fs_ident::twin::Twin;
-use fs_modes::modes::Modes;
+use fs_ident::{List, Memory, Twin};
+use fs_modes::Modes;
 use std::alloc::Global;
 use std::mem;
 

@@ -1,6 +1,5 @@
 //! How a lease is shared.
-use fs_ident::memory::Memory;
-use fs_ident::twin::Twin;
+use fs_ident::{Memory, Twin};
 use std::alloc::Global;
 
 /// Whether others may hold a lease on the field too.

@@ -1,19 +1,34 @@
 //! The fields that leases are on, their values, and what operations do to them.
 #![tactic(auto)]
 
-pub mod asked;
-pub mod change;
-pub mod effect;
-pub mod field;
-pub mod handles;
-pub mod law;
-pub mod lease_kind;
-pub mod names;
-pub mod path;
-pub mod row;
+mod asked;
+mod change;
+mod effect;
+mod field;
+mod handles;
+mod law;
+mod lease_kind;
+mod names;
+mod path;
+mod row;
 pub mod table;
 #[cfg(test)]
 mod tests;
-pub mod used;
-pub mod value;
-pub mod vote;
+mod used;
+mod value;
+mod vote;
+
+pub use asked::{Asked, Need, Unknown};
+pub use change::{apply, touches};
+pub use effect::Effect;
+pub use field::Field;
+pub use law::{
+    children_are_told, conflicts_are_mutual, kind_of_value_stays, names_follow_children,
+    plain_rows_are_calm, untouched_stays,
+};
+pub use lease_kind::LeaseKind;
+pub use path::PathAnswer;
+pub use row::Row;
+pub use used::{Part, Use};
+pub use value::Value;
+pub use vote::Vote;

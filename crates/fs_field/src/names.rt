@@ -4,10 +4,7 @@ ghost use Rattle.std.specs.List.{filter};
 ghost use Rattle.fs_field.specs.After.{place_before, is_before, with_name, without_name};
 ghost use Rattle.fs_field.specs.Field.{same};
 
-use fs_ident::list::List;
-use fs_ident::memory::Memory;
-use fs_ident::name::Name;
-use fs_ident::twin::Twin;
+use fs_ident::{List, Memory, Name, Twin};
 use std::alloc::Global;
 use std::mem;
 

@@ -1,9 +1,5 @@
 //! What a walk from a file to the root finds.
-use fs_ident::actor::TxnNo;
-use fs_ident::file_id::FileId;
-use fs_ident::list::List;
-use fs_ident::memory::Memory;
-use fs_ident::twin::Twin;
+use fs_ident::{FileId, List, Memory, Twin, TxnNo};
 use std::alloc::Global;
 
 /// The path of a file, or why there is none.

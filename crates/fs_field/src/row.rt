@@ -1,9 +1,7 @@
 //! What a server keeps of a lease that it gave.
 use crate::field::Field;
 use crate::lease_kind::LeaseKind;
-use fs_ident::actor::{LeaseNo, Session, TxnNo};
-use fs_ident::memory::Memory;
-use fs_ident::twin::Twin;
+use fs_ident::{LeaseNo, Memory, Session, Twin, TxnNo};
 use std::alloc::Global;
 
 /// A lease that was given.

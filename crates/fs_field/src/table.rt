@@ -9,10 +9,7 @@ ghost use Rattle.fs_field.specs.Table.{no_before, has_no, with_row, is_lease, st
 use crate::field::Field;
 use crate::lease_kind::LeaseKind;
 use crate::row::Row;
-use fs_ident::actor::{LeaseNo, Session, TxnNo};
-use fs_ident::file_id::FileId;
-use fs_ident::list::List;
-use fs_ident::memory::Memory;
+use fs_ident::{FileId, LeaseNo, List, Memory, Session, TxnNo};
 use std::alloc::Global;
 
 /// The row of this number.

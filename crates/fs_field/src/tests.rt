@@ -9,11 +9,7 @@ use crate::row::Row;
 use crate::used::{Part, Use};
 use crate::value::Value;
 use crate::vote::Vote;
-use fs_ident::actor::{LeaseNo, Session};
-use fs_ident::file_id::FileId;
-use fs_ident::list::List;
-use fs_ident::name::Name;
-use fs_ident::twin::Twin;
+use fs_ident::{FileId, LeaseNo, List, Name, Session, Twin};
 use std::alloc::Global;
 use std::test::Fail;
 

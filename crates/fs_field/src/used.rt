@@ -1,11 +1,7 @@
 //! Which leases an operation was decided by.
 use crate::field::Field;
 use crate::lease_kind::LeaseKind;
-use fs_ident::actor::LeaseNo;
-use fs_ident::file_id::FileId;
-use fs_ident::list::List;
-use fs_ident::memory::Memory;
-use fs_ident::twin::Twin;
+use fs_ident::{FileId, LeaseNo, List, Memory, Twin};
 use std::alloc::Global;
 
 /// A lease that an operation used, as it was then.

@@ -3,13 +3,8 @@ ghost use Rattle.std.specs.Prelude.{◌≡◌};
 ghost use Rattle.fs_field.specs.Value.{is_value_of};
 
 use crate::field::Field;
-use fs_ident::file_id::FileId;
-use fs_ident::kind::Kind;
-use fs_ident::list::List;
-use fs_ident::memory::Memory;
-use fs_ident::name::Name;
-use fs_ident::twin::Twin;
-use fs_modes::modes::Modes;
+use fs_ident::{FileId, Kind, List, Memory, Name, Twin};
+use fs_modes::Modes;
 use std::alloc::Global;
 
 /// The value of the field of the same name.

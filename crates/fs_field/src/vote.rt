@@ -1,8 +1,5 @@
 //! The answer of a server to a part of a led operation.
-use fs_ident::actor::{LeaseNo, PathNo};
-use fs_ident::file_id::FileId;
-use fs_ident::memory::Memory;
-use fs_ident::twin::Twin;
+use fs_ident::{FileId, LeaseNo, Memory, PathNo, Twin};
 use std::alloc::Global;
 
 /// Whether a part is ready.

@@ -3,8 +3,7 @@ ghost use Rattle.std.specs.Prelude.{◌≡◌, length, IfOk};
 ghost use Rattle.fs_frag.specs.Cut.{framed, cut_of, pieces, piece_count};
 
 use crate::segment::{SEGMENT, Segment};
-use fs_ident::list::List;
-use fs_ident::memory::Memory;
+use fs_ident::{List, Memory};
 use std::alloc::Global;
 
 /// The segments of a message: its length as eight bytes and then the message, in full segments and a rest.

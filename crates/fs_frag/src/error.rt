@@ -2,7 +2,6 @@
 ghost use Rattle.std.specs.Prelude.{◌≡◌};
 ghost use Rattle.fs_frag.specs.declared.error.FragError.TheVariants.{Memory};
 
-use fs_ident::memory as wanting;
 use std::alloc::{AllocError, AllocFailed};
 use thiserror::Error;
 
@@ -17,10 +16,10 @@ pub enum FragError {
     Memory,
 }
 
-impl From<wanting::Memory> for FragError {
+impl From<fs_ident::Memory> for FragError {
     ghost from_gives = { λ _ e. e ≡ Memory };
 
-    fn from(_: wanting::Memory) -> FragError {
+    fn from(_: fs_ident::Memory) -> FragError {
         FragError::Memory
     }
 }

@@ -4,8 +4,7 @@ ghost use Rattle.fs_frag.specs.Joined.{answer_of, held_after};
 
 use crate::error::FragError;
 use crate::segment::Segment;
-use fs_ident::memory::Memory;
-use fs_ident::twin::Twin;
+use fs_ident::{Memory, Twin};
 use std::alloc::Global;
 use std::marker::Model;
 

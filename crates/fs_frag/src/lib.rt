@@ -1,10 +1,16 @@
 //! Messages cut into segments that packets can carry, and joined again.
 #![tactic(auto)]
 
-pub mod cutting;
-pub mod error;
-pub mod joiner;
-pub mod law;
-pub mod segment;
+mod cutting;
+mod error;
+mod joiner;
+mod law;
+mod segment;
 #[cfg(test)]
 mod tests;
+
+pub use cutting::cut;
+pub use error::FragError;
+pub use joiner::Joiner;
+pub use law::joined_is_cut;
+pub use segment::{SEGMENT, Segment};

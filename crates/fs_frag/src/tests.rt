@@ -3,7 +3,7 @@ use crate::error::FragError;
 use crate::joiner::Joiner;
 use crate::law::joined_is_cut;
 use crate::segment::Segment;
-use fs_ident::twin::Twin;
+use fs_ident::Twin;
 use std::test::*;
 
 #[test]

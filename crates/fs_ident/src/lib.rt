@@ -1,14 +1,23 @@
 //! What every other crate speaks of: lists, identifiers of files, names, and the actors.
 #![tactic(auto)]
 
-pub mod actor;
-pub mod error;
-pub mod file_id;
-pub mod id_text;
-pub mod kind;
-pub mod list;
-pub mod memory;
-pub mod name;
+mod actor;
+mod error;
+mod file_id;
+mod id_text;
+mod kind;
+mod list;
+mod memory;
+mod name;
 #[cfg(test)]
 mod tests;
-pub mod twin;
+mod twin;
+
+pub use actor::{LeaseNo, PathNo, Peer, Session, TxnNo};
+pub use error::IdError;
+pub use file_id::{DEPTH, FileId};
+pub use kind::Kind;
+pub use list::List;
+pub use memory::Memory;
+pub use name::{Name, first_bad, is_dots};
+pub use twin::Twin;

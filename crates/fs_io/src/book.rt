@@ -4,8 +4,7 @@ ghost use Rattle.std.specs.List.{All};
 ghost use Rattle.fs_io.specs.Book.{has_room, IsSpare};
 
 use crate::call::Call;
-use fs_ident::list::List;
-use fs_ident::memory::Memory;
+use fs_ident::{List, Memory};
 use std::alloc::Global;
 use std::marker::Model;
 

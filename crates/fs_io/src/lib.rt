@@ -1,24 +1,41 @@
 //! Where bytes and datagrams come from and go, what the time is, and the same in memory.
 #![tactic(auto)]
 
-pub mod addr;
+mod addr;
 mod book;
-pub mod call;
-pub mod clock;
-pub mod failed;
-pub mod link;
-pub mod mem_clock;
-pub mod mem_sink;
-pub mod mem_source;
+mod call;
+mod clock;
+mod failed;
+mod link;
+mod mem_clock;
+mod mem_sink;
+mod mem_source;
 mod plan;
-pub mod reading;
-pub mod sink;
-pub mod source;
-pub mod standard;
+mod reading;
+mod sink;
+mod source;
+mod standard;
 mod store;
-pub mod sure_link;
-pub mod sure_sink;
-pub mod sure_source;
+mod sure_link;
+mod sure_sink;
+mod sure_source;
 #[cfg(test)]
 mod tests;
-pub mod writing;
+mod writing;
+
+pub use addr::Addr;
+pub use call::{Call, CallKind};
+pub use clock::{Clock, LATEST};
+pub use failed::Failed;
+pub use link::Link;
+pub use mem_clock::MemClock;
+pub use mem_sink::MemSink;
+pub use mem_source::MemSource;
+pub use reading::{LIMIT, ReadError, read_all};
+pub use sink::Sink;
+pub use source::Source;
+pub use standard::{StdinSource, StdoutSink, standard_input, standard_output};
+pub use sure_link::SureLink;
+pub use sure_sink::SureSink;
+pub use sure_source::SureSource;
+pub use writing::write_all;

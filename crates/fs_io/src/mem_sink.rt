@@ -10,7 +10,7 @@ use crate::failed::Failed;
 use crate::plan::Plan;
 use crate::sink::Sink;
 use crate::store::Store;
-use fs_ident::memory::Memory;
+use fs_ident::Memory;
 use std::alloc::Global;
 use std::marker::Model;
 

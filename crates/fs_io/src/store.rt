@@ -1,7 +1,7 @@
 //! Bytes in memory whose room was taken beforehand.
 ghost use Rattle.std.specs.Prelude.{◌≡◌, ◌-◌, ◌++◌, [], length, take, min, IfOk};
 
-use fs_ident::memory::Memory;
+use fs_ident::Memory;
 use std::alloc::Global;
 use std::marker::Model;
 

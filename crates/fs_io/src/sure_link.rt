@@ -11,8 +11,7 @@ use crate::book::Book;
 use crate::call::{Call, CallKind};
 use crate::failed::Failed;
 use crate::link::Link;
-use fs_ident::list::List;
-use fs_ident::memory::Memory;
+use fs_ident::{List, Memory};
 use std::alloc::Global;
 use std::marker::Model;
 

@@ -8,7 +8,7 @@ ghost use Rattle.fs_io.specs.Bytes.{TakesSome};
 use crate::failed::Failed;
 use crate::sink::Sink;
 use crate::store::Store;
-use fs_ident::memory::Memory;
+use fs_ident::Memory;
 use std::alloc::Global;
 use std::marker::Model;
 

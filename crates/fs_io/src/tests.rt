@@ -12,7 +12,7 @@ use crate::sure_link::SureLink;
 use crate::sure_sink::SureSink;
 use crate::sure_source::SureSource;
 use crate::writing::write_all;
-use fs_ident::list::List;
+use fs_ident::List;
 use std::alloc::Global;
 use std::test::Fail;
 

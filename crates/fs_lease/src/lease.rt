@@ -3,12 +3,8 @@ ghost use Rattle.std.specs.Prelude.{◌≡◌, ◌+◌, ◌<◌, ◌≤◌};
 ghost use Rattle.fs_field.specs.Field.{file_of};
 ghost use Rattle.fs_lease.specs.Steps.{unpinned};
 
-use fs_field::field::Field;
-use fs_field::lease_kind::LeaseKind;
-use fs_ident::actor::LeaseNo;
-use fs_ident::file_id::FileId;
-use fs_ident::memory::Memory;
-use fs_ident::twin::Twin;
+use fs_field::{Field, LeaseKind};
+use fs_ident::{FileId, LeaseNo, Memory, Twin};
 use std::alloc::Global;
 use std::marker::Model;
 

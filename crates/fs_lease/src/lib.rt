@@ -2,6 +2,8 @@
 //! that its state has.
 #![tactic(auto)]
 
-pub mod lease;
+mod lease;
 #[cfg(test)]
 mod tests;
+
+pub use lease::{Held, Leaving, Pinned, Unpinned};

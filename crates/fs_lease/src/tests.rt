@@ -1,10 +1,7 @@
 //! The life of a lease.
 use crate::lease::{Held, Unpinned};
-use fs_field::field::Field;
-use fs_field::lease_kind::LeaseKind;
-use fs_ident::actor::LeaseNo;
-use fs_ident::file_id::FileId;
-use fs_ident::twin::Twin;
+use fs_field::{Field, LeaseKind};
+use fs_ident::{FileId, LeaseNo, Twin};
 
 /// A lease is pinned by two entries, freed, renewed, copied and given back.
 #[test]

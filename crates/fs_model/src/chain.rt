@@ -5,7 +5,7 @@ ghost use Rattle.fs_model.specs.Seen.{seen};
 
 use crate::lookups::{count, directory_of};
 use crate::node::Node;
-use fs_ident::file_id::FileId;
+use fs_ident::FileId;
 use std::collections::BTreeMap;
 
 #[tactic(auto, using(crate::proofs::Chains::reaches_here, crate::proofs::Chains::reaches_top, crate::proofs::Chains::reaches_up, crate::proofs::Chains::reaches_last))]

@@ -8,10 +8,7 @@ ghost use Rattle.fs_model.specs.Step.{named, unnamed, placed, sized, opened, clo
 
 use crate::node::{Handle, Node};
 use crate::{children, handles};
-use fs_ident::actor::Session;
-use fs_ident::file_id::FileId;
-use fs_ident::memory::Memory;
-use fs_ident::name::Name;
+use fs_ident::{FileId, Memory, Name, Session};
 use std::alloc::Global;
 use std::collections::BTreeMap;
 

@@ -4,11 +4,7 @@ ghost use Rattle.std.specs.Option.{option_copied};
 ghost use Rattle.fs_model.specs.Children.{are_in_order, child_at, with_child, without_child, names_of};
 ghost use Rattle.fs_model.specs.Places.{IsPlaceOf, IsGapFor};
 
-use fs_ident::file_id::FileId;
-use fs_ident::list::List;
-use fs_ident::memory::Memory;
-use fs_ident::name::Name;
-use fs_ident::twin::Twin;
+use fs_ident::{FileId, List, Memory, Name, Twin};
 use std::alloc::Global;
 
 /// Where the name stands, or else where it would go.

@@ -11,12 +11,7 @@ use crate::children::find;
 use crate::lookups::node_at;
 use crate::node::Node;
 use crate::reply::Reply;
-use fs_ident::file_id::FileId;
-use fs_ident::kind::Kind;
-use fs_ident::list::List;
-use fs_ident::memory::Memory;
-use fs_ident::name::Name;
-use fs_ident::twin::Twin;
+use fs_ident::{FileId, Kind, List, Memory, Name, Twin};
 use std::alloc::Global;
 use std::collections::BTreeMap;
 

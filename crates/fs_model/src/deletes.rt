@@ -10,9 +10,7 @@ use crate::children::find;
 use crate::lookups::node_at;
 use crate::node::Node;
 use crate::reply::Reply;
-use fs_ident::file_id::FileId;
-use fs_ident::kind::Kind;
-use fs_ident::name::Name;
+use fs_ident::{FileId, Kind, Name};
 use std::collections::BTreeMap;
 
 /// Deletes the child of that name.

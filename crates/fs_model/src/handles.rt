@@ -4,10 +4,8 @@ ghost use Rattle.fs_model.specs.Handles.{is_at, comes_before, handle_at, with_ha
 ghost use Rattle.fs_model.specs.Places.{place_of};
 
 use crate::node::Handle;
-use fs_ident::actor::Session;
-use fs_ident::list::List;
-use fs_ident::memory::Memory;
-use fs_modes::modes::Modes;
+use fs_ident::{List, Memory, Session};
+use fs_modes::Modes;
 use std::alloc::Global;
 use std::mem;
 

@@ -1,21 +1,31 @@
 //! The one-machine namespace.
 #![tactic(auto)]
 
-pub mod chain;
-pub mod changes;
+mod chain;
+mod changes;
 pub mod children;
-pub mod creates;
-pub mod deletes;
+mod creates;
+mod deletes;
 pub mod handles;
-pub mod laws;
-pub mod lookups;
-pub mod node;
-pub mod op;
-pub mod opens;
-pub mod reads;
-pub mod renames;
-pub mod reply;
-pub mod space;
-pub mod steps;
+mod law;
+mod lookups;
+mod node;
+mod op;
+mod opens;
+mod reads;
+mod renames;
+mod reply;
+mod space;
+mod steps;
 #[cfg(test)]
 mod tests;
+
+pub use law::{
+    every_ancestor_is_listed, first_space_is_sound, no_file_is_its_own_ancestor,
+    no_two_handles_conflict, reads_change_nothing, runs_stay_sound, steps_keep_order,
+    steps_stay_sound,
+};
+pub use node::{Handle, Node};
+pub use op::Op;
+pub use reply::Reply;
+pub use space::Space;

@@ -7,10 +7,7 @@ ghost use Rattle.fs_model.specs.Namespace.{IsSpace, IsInOrder};
 ghost use Rattle.fs_model.specs.Seen.{seen};
 
 use crate::node::Node;
-use fs_ident::file_id::FileId;
-use fs_ident::list::List;
-use fs_ident::memory::Memory;
-use fs_ident::twin::Twin;
+use fs_ident::{FileId, List, Memory, Twin};
 use std::alloc::Global;
 use std::collections::BTreeMap;
 

@@ -1,12 +1,6 @@
 //! Nodes of the tree.
-use fs_ident::actor::Session;
-use fs_ident::file_id::FileId;
-use fs_ident::kind::Kind;
-use fs_ident::list::List;
-use fs_ident::memory::Memory;
-use fs_ident::name::Name;
-use fs_ident::twin::Twin;
-use fs_modes::modes::Modes;
+use fs_ident::{FileId, Kind, List, Memory, Name, Session, Twin};
+use fs_modes::Modes;
 use std::alloc::Global;
 
 /// An open of a file by a session, under a number that the session chose.

@@ -1,11 +1,6 @@
 //! What is asked of the namespace.
-use fs_ident::actor::Session;
-use fs_ident::file_id::FileId;
-use fs_ident::kind::Kind;
-use fs_ident::memory::Memory;
-use fs_ident::name::Name;
-use fs_ident::twin::Twin;
-use fs_modes::modes::Modes;
+use fs_ident::{FileId, Kind, Memory, Name, Session, Twin};
+use fs_modes::Modes;
 use std::alloc::Global;
 
 /// One operation.

@@ -10,10 +10,8 @@ use crate::handles::{any_conflicts, find};
 use crate::lookups::node_at;
 use crate::node::{Handle, Node};
 use crate::reply::Reply;
-use fs_ident::actor::Session;
-use fs_ident::file_id::FileId;
-use fs_ident::memory::Memory;
-use fs_modes::modes::Modes;
+use fs_ident::{FileId, Memory, Session};
+use fs_modes::Modes;
 use std::alloc::Global;
 use std::collections::BTreeMap;
 

@@ -13,11 +13,7 @@ use crate::handles::any_denies_delete;
 use crate::lookups::node_at;
 use crate::node::Node;
 use crate::reply::Reply;
-use fs_ident::file_id::FileId;
-use fs_ident::kind::Kind;
-use fs_ident::memory::Memory;
-use fs_ident::name::Name;
-use fs_ident::twin::Twin;
+use fs_ident::{FileId, Kind, Memory, Name, Twin};
 use std::alloc::Global;
 use std::collections::BTreeMap;
 

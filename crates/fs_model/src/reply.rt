@@ -1,9 +1,5 @@
 //! What the namespace answers.
-use fs_ident::file_id::FileId;
-use fs_ident::list::List;
-use fs_ident::memory::Memory;
-use fs_ident::name::Name;
-use fs_ident::twin::Twin;
+use fs_ident::{FileId, List, Memory, Name, Twin};
 use std::alloc::Global;
 
 /// The reply to an operation.

@@ -13,9 +13,7 @@ use crate::opens::{close, open_file, set};
 use crate::reads::{info, kind, list, look_up};
 use crate::renames::rename;
 use crate::reply::Reply;
-use fs_ident::actor::Session;
-use fs_ident::file_id::FileId;
-use fs_ident::memory::Memory;
+use fs_ident::{FileId, Memory, Session};
 use std::alloc::Global;
 use std::collections::BTreeMap;
 

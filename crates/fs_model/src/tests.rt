@@ -2,12 +2,7 @@ use crate::node::Node;
 use crate::op::Op;
 use crate::reply::Reply;
 use crate::space::Space;
-use fs_ident::actor::Session;
-use fs_ident::file_id::FileId;
-use fs_ident::kind::Kind;
-use fs_ident::list::List;
-use fs_ident::name::Name;
-use fs_ident::twin::Twin;
+use fs_ident::{FileId, Kind, List, Name, Session, Twin};
 use std::alloc::Global;
 use std::test::Fail;
 

@@ -1,7 +1,9 @@
 //! What an open may do and what it denies to others.
 #![tactic(auto)]
 
-pub mod letters;
-pub mod modes;
+mod letters;
+mod modes;
 #[cfg(test)]
 mod tests;
+
+pub use modes::{Mode, Modes, conflicts_are_mutual, none_has_no_mode};

@@ -3,8 +3,7 @@ ghost use Rattle.std.specs.Prelude.{◌≡◌, ◌↔◌, ◌<◌, ◌⊎◌, If
 ghost use Rattle.fs_modes.specs.Modes.{has, number_of, acc_of, deny_of, has_access, is_denied, conflicts, or, opposing, without};
 ghost use Rattle.fs_modes.specs.declared.modes.Modes.{Modes};
 
-use fs_ident::memory::Memory;
-use fs_ident::twin::Twin;
+use fs_ident::{Memory, Twin};
 use std::alloc::Global;
 
 /// One of the six: an access, or a denial of that access to others.

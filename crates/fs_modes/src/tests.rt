@@ -1,6 +1,6 @@
 //! Modes by their numbers and by their letters.
 use crate::modes::{Mode, Modes};
-use fs_ident::twin::Twin;
+use fs_ident::Twin;
 use std::test::Fail;
 
 /// An open for reading that denies writing and deleting.

@@ -1,13 +1,7 @@
 //! What servers send to clients.
 use crate::end::End;
-use fs_field::field::Field;
-use fs_field::lease_kind::LeaseKind;
-use fs_field::value::Value;
-use fs_ident::actor::LeaseNo;
-use fs_ident::file_id::FileId;
-use fs_ident::list::List;
-use fs_ident::memory::Memory;
-use fs_ident::twin::Twin;
+use fs_field::{Field, LeaseKind, Value};
+use fs_ident::{FileId, LeaseNo, List, Memory, Twin};
 use std::alloc::Global;
 
 /// A lease that a server gives, with what its field says.

@@ -1,12 +1,7 @@
 //! What clients send to servers.
 use crate::entry::Entry;
-use fs_field::field::Field;
-use fs_field::lease_kind::LeaseKind;
-use fs_ident::actor::LeaseNo;
-use fs_ident::file_id::FileId;
-use fs_ident::list::List;
-use fs_ident::memory::Memory;
-use fs_ident::twin::Twin;
+use fs_field::{Field, LeaseKind};
+use fs_ident::{FileId, LeaseNo, List, Memory, Twin};
 use std::alloc::Global;
 
 /// A request of a client.

@@ -1,8 +1,5 @@
 //! How far a server got with a request.
-use fs_ident::actor::{LeaseNo, TxnNo};
-use fs_ident::file_id::FileId;
-use fs_ident::memory::Memory;
-use fs_ident::twin::Twin;
+use fs_ident::{FileId, LeaseNo, Memory, Twin, TxnNo};
 use std::alloc::Global;
 
 /// Why an answer goes no further, or that it answers all.

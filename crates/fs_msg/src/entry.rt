@@ -1,10 +1,7 @@
 //! Entries of a client's log.
-use fs_field::used::Use;
-use fs_ident::list::List;
-use fs_ident::memory::Memory;
-use fs_ident::twin::Twin;
-use fs_model::op::Op;
-use fs_model::reply::Reply;
+use fs_field::Use;
+use fs_ident::{List, Memory, Twin};
+use fs_model::{Op, Reply};
 use std::alloc::Global;
 
 /// An operation that a client decided by its leases and has not seen admitted yet.

@@ -2,7 +2,6 @@
 ghost use Rattle.std.specs.Prelude.{◌≡◌};
 ghost use Rattle.fs_msg.specs.declared.error.MsgError.TheVariants.{Memory};
 
-use fs_ident::memory as wanting;
 use std::alloc::{AllocError, AllocFailed};
 use thiserror::Error;
 
@@ -26,10 +25,10 @@ pub enum MsgError {
     Memory,
 }
 
-impl From<wanting::Memory> for MsgError {
+impl From<fs_ident::Memory> for MsgError {
     ghost from_gives = { λ _ e. e ≡ Memory };
 
-    fn from(_: wanting::Memory) -> MsgError {
+    fn from(_: fs_ident::Memory) -> MsgError {
         MsgError::Memory
     }
 }

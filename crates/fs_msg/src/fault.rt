@@ -2,7 +2,6 @@
 ghost use Rattle.std.specs.Prelude.{◌≡◌};
 ghost use Rattle.fs_msg.specs.declared.fault.ReadError.TheVariants.{Memory};
 
-use fs_ident::memory as wanting;
 use std::alloc::{AllocError, AllocFailed};
 
 /// The place where reading stops.
@@ -21,10 +20,10 @@ pub(crate) enum ReadError {
     Fault(Fault),
 }
 
-impl From<wanting::Memory> for ReadError {
+impl From<fs_ident::Memory> for ReadError {
     ghost from_gives = { λ _ e. e ≡ Memory };
 
-    fn from(_: wanting::Memory) -> ReadError {
+    fn from(_: fs_ident::Memory) -> ReadError {
         ReadError::Memory
     }
 }

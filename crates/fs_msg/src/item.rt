@@ -1,9 +1,6 @@
 //! Items of the journal.
-use fs_ident::actor::Peer;
-use fs_ident::memory::Memory;
-use fs_ident::twin::Twin;
-use fs_model::op::Op;
-use fs_model::reply::Reply;
+use fs_ident::{Memory, Peer, Twin};
+use fs_model::{Op, Reply};
 use std::alloc::Global;
 
 /// An admitted operation: who asked for it, under which number, and the reply.

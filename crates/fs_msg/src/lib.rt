@@ -1,18 +1,30 @@
 //! What actors tell: messages with their bytes, items of the journal, and notes of outcomes.
 #![tactic(auto)]
 
-pub mod answer;
+mod answer;
 mod bytes;
-pub mod client_msg;
-pub mod end;
-pub mod entry;
-pub mod error;
+mod client_msg;
+mod end;
+mod entry;
+mod error;
 mod fault;
-pub mod item;
-pub mod law;
-pub mod msg;
-pub mod note;
-pub mod reading;
+mod item;
+mod law;
+mod msg;
+mod note;
+mod reading;
 #[cfg(test)]
 mod tests;
-pub mod writing;
+mod writing;
+
+pub use answer::{Answer, Grant};
+pub use client_msg::ClientMsg;
+pub use end::End;
+pub use entry::Entry;
+pub use error::MsgError;
+pub use item::Item;
+pub use law::no_message_begins_another;
+pub use msg::Msg;
+pub use note::Note;
+pub use reading::{read, read_whole};
+pub use writing::write;

@@ -1,8 +1,7 @@
 //! The messages between actors.
 use crate::answer::Answer;
 use crate::client_msg::ClientMsg;
-use fs_ident::memory::Memory;
-use fs_ident::twin::Twin;
+use fs_ident::{Memory, Twin};
 use std::alloc::Global;
 
 /// What one actor sends to another.

@@ -1,7 +1,6 @@
 //! Notes: what an event came to.
-use fs_ident::memory::Memory;
-use fs_ident::twin::Twin;
-use fs_model::reply::Reply;
+use fs_ident::{Memory, Twin};
+use fs_model::Reply;
 use std::alloc::Global;
 
 /// What an event came to.

@@ -6,11 +6,8 @@ use crate::error::MsgError;
 use crate::item::Item;
 use crate::note::Note;
 use crate::reading::read_whole;
-use fs_ident::actor::{Peer, Session};
-use fs_ident::file_id::FileId;
-use fs_ident::twin::Twin;
-use fs_model::op::Op;
-use fs_model::reply::Reply;
+use fs_ident::{FileId, Peer, Session, Twin};
+use fs_model::{Op, Reply};
 use std::alloc::Global;
 use std::test::Fail;
 

@@ -4,7 +4,7 @@ ghost use Rattle.fs_msg.specs.Spelling.{message};
 
 use crate::bytes::wire::Wire;
 use crate::msg::Msg;
-use fs_ident::memory::Memory;
+use fs_ident::Memory;
 use std::alloc::Global;
 
 /// Adds the one spelling of a message at the end. Where memory is wanting, nothing is added.

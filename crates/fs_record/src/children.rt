@@ -4,10 +4,7 @@ ghost use Rattle.fs_model.specs.Children.{are_in_order, with_child};
 ghost use Rattle.fs_model.specs.Places.{IsGapFor};
 ghost use Rattle.fs_record.specs.Places.{IsPlaceFor};
 
-use fs_ident::file_id::FileId;
-use fs_ident::list::List;
-use fs_ident::memory::Memory;
-use fs_ident::name::Name;
+use fs_ident::{FileId, List, Memory, Name};
 
 /// Where the name stands, or else where it would go.
 fn search(children: &[(Name, FileId)], name: &Name) -> Result<usize, usize>

@@ -2,7 +2,6 @@
 ghost use Rattle.std.specs.Prelude.{◌≡◌};
 ghost use Rattle.fs_record.specs.declared.error.FreshError.TheVariants.{Memory};
 
-use fs_ident::memory as wanting;
 use thiserror::Error;
 
 /// Why there is no identifier for a new file.
@@ -19,10 +18,10 @@ pub enum FreshError {
     Memory,
 }
 
-impl From<wanting::Memory> for FreshError {
+impl From<fs_ident::Memory> for FreshError {
     ghost from_gives = { λ _ e. e ≡ Memory };
 
-    fn from(_: wanting::Memory) -> FreshError {
+    fn from(_: fs_ident::Memory) -> FreshError {
         FreshError::Memory
     }
 }

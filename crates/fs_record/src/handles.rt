@@ -3,13 +3,10 @@ ghost use Rattle.std.specs.Prelude.{◌≡◌, IfOk, OnOk, OnErr};
 ghost use Rattle.fs_model.specs.Handles.{with_handle, without_handle};
 ghost use Rattle.fs_record.specs.ValueOf.{own_of, others_have, selves_from, selves_of};
 
-use fs_ident::actor::Session;
-use fs_ident::list::List;
-use fs_ident::memory::Memory;
-use fs_ident::twin::Twin;
+use fs_ident::{List, Memory, Session, Twin};
+use fs_model::Handle;
 use fs_model::handles::{add, close, find};
-use fs_model::node::Handle;
-use fs_modes::modes::{Mode, Modes};
+use fs_modes::{Mode, Modes};
 use std::alloc::Global;
 
 /// Lets the session have this open under its number, in place of what it had under it.

@@ -3,14 +3,23 @@
 
 mod changes;
 mod children;
-pub mod effects;
-pub mod error;
+mod error;
 mod handles;
-pub mod law;
+mod law;
 mod lookups;
 mod numbers;
-pub mod record;
-pub mod records;
+mod op_effects;
+mod record;
+mod records;
 #[cfg(test)]
 mod tests;
 mod values;
+
+pub use error::FreshError;
+pub use law::{
+    effects_are_the_step, effects_keep_next_numbers, gifts_are_least, no_number_is_given_twice,
+    nodes_change_alike, selves_are_by_session, values_follow_effects,
+};
+pub use op_effects::effects;
+pub use record::Record;
+pub use records::Records;

@@ -7,11 +7,8 @@ ghost use Rattle.fs_record.specs.Records.{AreRecords, node_of, next_of};
 ghost use Rattle.fs_record.specs.Seen.{seen};
 
 use crate::record::Record;
-use fs_ident::file_id::FileId;
-use fs_ident::list::List;
-use fs_ident::memory::Memory;
-use fs_ident::twin::Twin;
-use fs_model::node::Node;
+use fs_ident::{FileId, List, Memory, Twin};
+use fs_model::Node;
 use std::alloc::Global;
 use std::collections::BTreeMap;
 

@@ -10,9 +10,7 @@ use crate::changes::set_next;
 use crate::error::FreshError;
 use crate::lookups::{next, node};
 use crate::record::Record;
-use fs_ident::error::IdError;
-use fs_ident::file_id::{DEPTH, FileId};
-use fs_ident::kind::Kind;
+use fs_ident::{DEPTH, FileId, IdError, Kind};
 use std::alloc::Global;
 use std::collections::BTreeMap;
 

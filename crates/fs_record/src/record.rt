@@ -1,7 +1,6 @@
 //! What a server keeps of a file.
-use fs_ident::memory::Memory;
-use fs_ident::twin::Twin;
-use fs_model::node::Node;
+use fs_ident::{Memory, Twin};
+use fs_model::Node;
 use std::alloc::Global;
 
 /// A file or a directory, and the next number for a file that is made in it.

@@ -2,23 +2,14 @@
 ghost use Rattle.std.specs.Prelude.{◌≡◌, IfOk};
 ghost use Rattle.fs_model.specs.Namespace.{root_node};
 
-use crate::effects::effects;
 use crate::error::FreshError;
+use crate::op_effects::effects;
 use crate::record::Record;
 use crate::records::Records;
-use fs_field::effect::Effect;
-use fs_field::field::Field;
-use fs_field::value::Value;
-use fs_ident::actor::Session;
-use fs_ident::file_id::FileId;
-use fs_ident::kind::Kind;
-use fs_ident::list::List;
-use fs_ident::name::Name;
-use fs_ident::twin::Twin;
-use fs_model::node::Node;
-use fs_model::op::Op;
-use fs_model::reply::Reply;
-use fs_modes::modes::Modes;
+use fs_field::{Effect, Field, Value};
+use fs_ident::{FileId, Kind, List, Name, Session, Twin};
+use fs_model::{Node, Op, Reply};
+use fs_modes::Modes;
 use std::alloc::Global;
 use std::test::Fail;
 

@@ -9,16 +9,10 @@ ghost use Rattle.fs_model.specs.Step.{children_of};
 ghost use Rattle.fs_record.specs.ValueOf.{value_at, info_of, handles_of};
 
 use crate::handles::{others_have, own};
-use fs_field::field::Field;
-use fs_field::value::Value;
-use fs_ident::actor::Session;
-use fs_ident::file_id::FileId;
-use fs_ident::kind::Kind;
-use fs_ident::memory::Memory;
-use fs_ident::name::Name;
-use fs_ident::twin::Twin;
+use fs_field::{Field, Value};
+use fs_ident::{FileId, Kind, Memory, Name, Session, Twin};
 use fs_model::children::{find, names};
-use fs_model::node::{Handle, Node};
+use fs_model::{Handle, Node};
 use std::alloc::Global;
 
 /// What the node, or its absence, gives the field, as the session sees it.

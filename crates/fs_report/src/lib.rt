@@ -1,13 +1,18 @@
 //! The lines of a report.
 #![tactic(auto)]
 
-pub mod done_line;
-pub mod item_line;
+mod done;
+mod items;
 mod node_lines;
 mod op_text;
-pub mod outcome_line;
+mod outcomes;
 mod pieces;
 mod reply_text;
-pub mod space_lines;
+mod spaces;
 #[cfg(test)]
 mod tests;
+
+pub use done::done_line;
+pub use items::item_line;
+pub use outcomes::outcome_line;
+pub use spaces::space_lines;

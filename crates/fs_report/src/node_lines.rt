@@ -5,10 +5,8 @@ ghost use Rattle.fs_report.specs.Report.{handle_text, place_text, node_text, fil
 use crate::pieces::{
     next_id, next_kind, next_modes, next_name, next_number, next_session, put_bytes,
 };
-use fs_ident::file_id::FileId;
-use fs_ident::memory::Memory;
-use fs_ident::name::Name;
-use fs_model::node::{Handle, Node};
+use fs_ident::{FileId, Memory, Name};
+use fs_model::{Handle, Node};
 use std::alloc::Global;
 
 /// A node's line and those of its handles.

@@ -6,13 +6,9 @@ use crate::pieces::{
     next_id, next_id_or_dash, next_kind, next_modes, next_name, next_number, next_session,
     put_bytes,
 };
-use fs_ident::actor::Session;
-use fs_ident::file_id::FileId;
-use fs_ident::kind::Kind;
-use fs_ident::memory::Memory;
-use fs_ident::name::Name;
-use fs_model::op::Op;
-use fs_modes::modes::Modes;
+use fs_ident::{FileId, Kind, Memory, Name, Session};
+use fs_model::Op;
+use fs_modes::Modes;
 use std::alloc::Global;
 
 /// A space and an operation.

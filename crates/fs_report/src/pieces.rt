@@ -6,12 +6,8 @@ ghost use Rattle.fs_modes.specs.Letters.{acc_text, deny_text};
 ghost use Rattle.fs_schedule.specs.Spelling.{kind_text};
 ghost use Rattle.fs_report.specs.Texts.{quoted, session_text, peer_text, who_text, id_or_dash};
 
-use fs_ident::actor::{Peer, Session};
-use fs_ident::file_id::FileId;
-use fs_ident::kind::Kind;
-use fs_ident::memory::Memory;
-use fs_ident::name::Name;
-use fs_modes::modes::Modes;
+use fs_ident::{FileId, Kind, Memory, Name, Peer, Session};
+use fs_modes::Modes;
 use std::alloc::Global;
 
 /// The bytes that most lines fit in.

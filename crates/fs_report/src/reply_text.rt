@@ -3,10 +3,9 @@ ghost use Rattle.std.specs.Prelude.{◌≡◌, ◌++◌, ◌∷◌, OnOk, flat_m
 ghost use Rattle.fs_report.specs.Texts.{quoted, reply_text, note_text};
 
 use crate::pieces::{next_id, next_name, next_number, put_bytes};
-use fs_ident::memory::Memory;
-use fs_ident::name::Name;
-use fs_model::reply::Reply;
-use fs_msg::note::Note;
+use fs_ident::{Memory, Name};
+use fs_model::Reply;
+use fs_msg::Note;
 use std::alloc::Global;
 
 /// A space and a reply.

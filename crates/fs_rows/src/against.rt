@@ -4,10 +4,8 @@ ghost use Rattle.std.specs.List.{find};
 ghost use Rattle.std.specs.Option.{option_copied};
 ghost use Rattle.fs_field.specs.Conflict.{is_exclusive, one_shared, names_over, meets, stands_against};
 
-use fs_field::field::Field;
-use fs_field::lease_kind::LeaseKind;
-use fs_field::row::Row;
-use fs_ident::actor::Session;
+use fs_field::{Field, LeaseKind, Row};
+use fs_ident::Session;
 
 /// The first row that keeps the session from such a lease.
 #[tactic(auto, using(fs_field::proofs::Rows::find_step))]

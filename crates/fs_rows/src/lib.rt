@@ -1,8 +1,11 @@
 //! The rows of a server on the life, children, names, info and own handles of files.
 #![tactic(auto)]
 
-pub mod against;
-pub mod law;
-pub mod rows;
+mod against;
+mod law;
+mod rows;
 #[cfg(test)]
 mod tests;
+
+pub use law::{numbers_tell_rows_apart, tables_are_without_conflict};
+pub use rows::Rows;

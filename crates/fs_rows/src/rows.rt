@@ -9,16 +9,8 @@ ghost use Rattle.fs_rows.specs.Answer.{answer, given_row, rows_after, IsLeastAga
 ghost use Rattle.fs_rows.specs.Table.{IsTable};
 
 use crate::against::first_against;
-use fs_field::asked::{Asked, Unknown};
-use fs_field::field::Field;
-use fs_field::lease_kind::LeaseKind;
-use fs_field::row::Row;
-use fs_field::table;
-use fs_ident::actor::{LeaseNo, Session, TxnNo};
-use fs_ident::file_id::FileId;
-use fs_ident::list::List;
-use fs_ident::memory::Memory;
-use fs_ident::twin::Twin;
+use fs_field::{Asked, Field, LeaseKind, Row, Unknown, table};
+use fs_ident::{FileId, LeaseNo, List, Memory, Session, Twin, TxnNo};
 use std::alloc::Global;
 use std::marker::Model;
 

@@ -3,12 +3,8 @@ ghost use Rattle.std.specs.Prelude.{◌≡◌, true, IfOk};
 ghost use Rattle.fs_field.specs.Conflict.{is_plain};
 
 use crate::rows::Rows;
-use fs_field::asked::{Asked, Unknown};
-use fs_field::field::Field;
-use fs_field::lease_kind::LeaseKind;
-use fs_ident::actor::{LeaseNo, Session, TxnNo};
-use fs_ident::file_id::FileId;
-use fs_ident::name::Name;
+use fs_field::{Asked, Field, LeaseKind, Unknown};
+use fs_ident::{FileId, LeaseNo, Name, Session, TxnNo};
 use std::alloc::Global;
 use std::test::Fail;
 

@@ -2,7 +2,6 @@
 ghost use Rattle.std.specs.Prelude.{◌≡◌};
 ghost use Rattle.fs_schedule.specs.declared.error.ScheduleError.TheVariants.{Memory};
 
-use fs_ident::memory as wanting;
 use std::alloc::{AllocError, AllocFailed};
 use std::fmt;
 use thiserror::Error;
@@ -47,10 +46,10 @@ pub enum ScheduleError {
     Memory,
 }
 
-impl From<wanting::Memory> for ScheduleError {
+impl From<fs_ident::Memory> for ScheduleError {
     ghost from_gives = { λ _ e. e ≡ Memory };
 
-    fn from(_: wanting::Memory) -> ScheduleError {
+    fn from(_: fs_ident::Memory) -> ScheduleError {
         ScheduleError::Memory
     }
 }

@@ -1,7 +1,6 @@
 //! Schedules and their events.
-use fs_ident::actor::Session;
-use fs_ident::list::List;
-use fs_model::op::Op;
+use fs_ident::{List, Session};
+use fs_model::Op;
 
 /// Which form of the service a schedule is for.
 #[derive(Clone, Copy, Debug, PartialEq, Eq)]

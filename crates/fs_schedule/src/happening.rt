@@ -13,8 +13,7 @@ use crate::operation::read_op;
 use crate::session;
 use crate::word::Word;
 use crate::words::words_of;
-use fs_ident::actor::Session;
-use fs_ident::memory::Memory;
+use fs_ident::{Memory, Session};
 use std::alloc::Global;
 
 /// The latest reading of a clock in a schedule, 10^15.

@@ -2,16 +2,22 @@
 #![tactic(auto)]
 
 mod cut;
-pub mod error;
-pub mod event;
+mod error;
+mod event;
 mod happening;
 mod number;
 mod operand;
 mod operation;
-pub mod outcome;
-pub mod schedule;
+mod outcome;
+mod schedule;
 mod session;
 #[cfg(test)]
 mod tests;
-pub mod word;
+mod word;
 mod words;
+
+pub use error::{ScheduleError, Which};
+pub use event::{Event, Head, Schedule, What};
+pub use outcome::Outcome;
+pub use schedule::{BYTES, EVENTS, one_reading, read_schedule};
+pub use word::Word;

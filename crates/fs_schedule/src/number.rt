@@ -2,7 +2,7 @@
 ghost use Rattle.std.specs.Prelude.{◌≡◌, ◌<◌, ◌^◌, ℕ, IfOk, IfSome, IfNone};
 ghost use Rattle.std.specs.Fmt.{decimal};
 
-use fs_ident::memory::Memory;
+use fs_ident::Memory;
 use std::alloc::Global;
 use std::str;
 

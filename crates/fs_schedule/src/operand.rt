@@ -14,12 +14,8 @@ ghost use Rattle.fs_schedule.specs.Spelling.{kind_text};
 
 use crate::number::number_of;
 use crate::word::Word;
-use fs_ident::error::IdError;
-use fs_ident::file_id::FileId;
-use fs_ident::kind::Kind;
-use fs_ident::memory::Memory;
-use fs_ident::name::Name;
-use fs_modes::modes::Modes;
+use fs_ident::{FileId, IdError, Kind, Memory, Name};
+use fs_modes::Modes;
 use std::alloc::Global;
 
 /// The bare word at the front, and the words behind it.

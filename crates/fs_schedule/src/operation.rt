@@ -11,8 +11,8 @@ use crate::operand::{
     bare, handle_of, kind_of, modes_of, number_up_to, only_id, only_place, place_of,
 };
 use crate::word::Word;
-use fs_ident::memory::Memory;
-use fs_model::op::Op;
+use fs_ident::Memory;
+use fs_model::Op;
 use std::alloc::Global;
 
 /// The first word of an operation.

@@ -1,7 +1,6 @@
 //! What came of an event.
-use fs_ident::actor::Peer;
-use fs_ident::list::List;
-use fs_msg::note::Note;
+use fs_ident::{List, Peer};
+use fs_msg::Note;
 
 /// The actor of an event, what it notes, and the numbers of the packets that it sent.
 #[derive(Debug, Drop)]

@@ -12,7 +12,7 @@ use crate::error::{ScheduleError, Which};
 use crate::event::{Event, Head, Schedule, What};
 use crate::happening::event_at;
 use crate::session::SESSIONS;
-use fs_ident::list::List;
+use fs_ident::List;
 use std::alloc::Global;
 
 /// A text is the text of one schedule at most, and then it has no faulty line; the first faulty line is one,

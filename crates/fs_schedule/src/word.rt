@@ -1,5 +1,5 @@
 //! Words of a line.
-use fs_ident::list::List;
+use fs_ident::List;
 
 /// A word of a line: bare bytes, or a name that stands in double quotes.
 #[derive(Debug, Drop)]

@@ -5,8 +5,7 @@ ghost use Rattle.fs_schedule.specs.Words.{word_text, FitsWord, AreWords, joined}
 
 use crate::cut::cut;
 use crate::word::Word;
-use fs_ident::list::List;
-use fs_ident::memory::Memory;
+use fs_ident::{List, Memory};
 use std::alloc::Global;
 
 /// The words that the line is made of; None exactly where it is made of none.

@@ -2,7 +2,6 @@
 ghost use Rattle.std.specs.Prelude.{◌≡◌};
 ghost use Rattle.fs_window.specs.declared.error.LinkError.TheVariants.{Memory};
 
-use fs_ident::memory as wanting;
 use std::alloc::{AllocError, AllocFailed};
 use thiserror::Error;
 
@@ -17,10 +16,10 @@ pub enum LinkError {
     Memory,
 }
 
-impl From<wanting::Memory> for LinkError {
+impl From<fs_ident::Memory> for LinkError {
     ghost from_gives = { λ _ e. e ≡ Memory };
 
-    fn from(_: wanting::Memory) -> LinkError {
+    fn from(_: fs_ident::Memory) -> LinkError {
         LinkError::Memory
     }
 }

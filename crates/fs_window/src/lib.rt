@@ -1,10 +1,15 @@
 //! Links between actors over a network that loses, repeats and reorders packets.
 #![tactic(auto)]
 
-pub mod error;
-pub mod law;
-pub mod packet;
+mod error;
+mod law;
+mod packet;
 mod queue;
 #[cfg(test)]
 mod tests;
-pub mod window;
+mod window;
+
+pub use error::LinkError;
+pub use law::in_order;
+pub use packet::{Packet, read_packet, write_packet};
+pub use window::Window;

@@ -4,9 +4,8 @@ ghost use Rattle.fs_window.specs.Packet.{IsPacket, packet_text, body_text};
 ghost use Rattle.fs_window.specs.Reading.{number_at, body_at, parts_at};
 ghost use Rattle.fs_window.specs.declared.packet.Packet.{Packet};
 
-use fs_frag::segment::Segment;
-use fs_ident::memory::Memory;
-use fs_ident::twin::Twin;
+use fs_frag::Segment;
+use fs_ident::{Memory, Twin};
 use std::alloc::Global;
 
 /// The first byte of each packet.

@@ -4,10 +4,8 @@ ghost use Rattle.std.specs.VecDeque.{deque_len};
 ghost use Rattle.fs_window.specs.Link.{packets_from};
 
 use crate::packet::Packet;
-use fs_frag::segment::Segment;
-use fs_ident::list::List;
-use fs_ident::memory::Memory;
-use fs_ident::twin::Twin;
+use fs_frag::Segment;
+use fs_ident::{List, Memory, Twin};
 use std::alloc::Global;
 use std::collections::VecDeque;
 

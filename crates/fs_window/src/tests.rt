@@ -1,9 +1,8 @@
 use crate::law::in_order;
 use crate::packet::{Packet, read_packet, write_packet};
 use crate::window::Window;
-use fs_frag::cutting::cut;
-use fs_frag::segment::Segment;
-use fs_ident::twin::Twin;
+use fs_frag::{Segment, cut};
+use fs_ident::Twin;
 use std::test::*;
 
 /// The first packet of an end to which an Ask for the life of the root is pushed.

@@ -5,10 +5,8 @@ ghost use Rattle.fs_window.specs.Link.{IsLink, new_link, pushed_count, after_pus
 use crate::error::LinkError;
 use crate::packet::Packet;
 use crate::queue::{add_packets, copies, forget};
-use fs_frag::segment::Segment;
-use fs_ident::list::List;
-use fs_ident::memory::Memory;
-use fs_ident::twin::Twin;
+use fs_frag::Segment;
+use fs_ident::{List, Memory, Twin};
 use std::alloc::Global;
 use std::collections::VecDeque;
 use std::marker::Model;

@@ -5,16 +5,9 @@ ghost use Rattle.fs_msg.specs.Reading.{field_at, value_at, used_at};
 use crate::bytes::numbers::tag_of;
 use crate::bytes::wire::Wire;
 use crate::fault::ReadError;
-use fs_field::field::Field;
-use fs_field::lease_kind::LeaseKind;
-use fs_field::used::Use;
-use fs_field::value::Value;
-use fs_ident::actor::LeaseNo;
-use fs_ident::file_id::FileId;
-use fs_ident::kind::Kind;
-use fs_ident::list::List;
-use fs_ident::name::Name;
-use fs_modes::modes::{Mode, Modes};
+use fs_field::{Field, LeaseKind, Use, Value};
+use fs_ident::{FileId, Kind, LeaseNo, List, Name};
+use fs_modes::{Mode, Modes};
 use std::alloc::{AllocError, Global};
 
 impl Wire for Field {

@@ -9,11 +9,7 @@ use crate::bytes::lists::put_each;
 use crate::bytes::numbers::choice_of;
 use crate::bytes::wire::Wire;
 use crate::fault::{Fault, ReadError};
-use fs_ident::actor::{LeaseNo, Session, TxnNo};
-use fs_ident::error::IdError;
-use fs_ident::file_id::FileId;
-use fs_ident::memory::Memory;
-use fs_ident::name::{Name, first_bad, is_dots};
+use fs_ident::{FileId, IdError, LeaseNo, Memory, Name, Session, TxnNo, first_bad, is_dots};
 use std::alloc::{AllocError, Global};
 use std::cmp::min;
 

@@ -6,7 +6,7 @@ ghost use Rattle.fs_msg.specs.Reading.{Gives, option_at, pair_at, many_at, list_
 use crate::bytes::numbers::choice_of;
 use crate::bytes::wire::Wire;
 use crate::fault::ReadError;
-use fs_ident::list::List;
+use fs_ident::List;
 use std::alloc::{AllocError, Global};
 use std::cmp::min;
 

@@ -11,15 +11,9 @@ use crate::end::End;
 use crate::entry::Entry;
 use crate::fault::{Fault, ReadError};
 use crate::msg::Msg;
-use fs_field::field::Field;
-use fs_field::lease_kind::LeaseKind;
-use fs_field::used::Use;
-use fs_field::value::Value;
-use fs_ident::actor::{LeaseNo, TxnNo};
-use fs_ident::file_id::FileId;
-use fs_ident::list::List;
-use fs_model::op::Op;
-use fs_model::reply::Reply;
+use fs_field::{Field, LeaseKind, Use, Value};
+use fs_ident::{FileId, LeaseNo, List, TxnNo};
+use fs_model::{Op, Reply};
 use std::alloc::{AllocError, Global};
 
 impl Wire for Entry {

@@ -6,9 +6,9 @@ ghost use Rattle.fs_msg.specs.Reading.{Gives, kind_at, lease_kind_at, mode_at, m
 use crate::bytes::numbers::choice_of;
 use crate::bytes::wire::Wire;
 use crate::fault::{Fault, ReadError};
-use fs_field::lease_kind::LeaseKind;
-use fs_ident::kind::Kind;
-use fs_modes::modes::{Mode, Modes};
+use fs_field::LeaseKind;
+use fs_ident::Kind;
+use fs_modes::{Mode, Modes};
 use std::alloc::{AllocError, Global};
 
 impl Wire for Kind {

@@ -5,12 +5,9 @@ ghost use Rattle.fs_msg.specs.Reading.{op_at};
 use crate::bytes::numbers::tag_of;
 use crate::bytes::wire::Wire;
 use crate::fault::ReadError;
-use fs_ident::actor::Session;
-use fs_ident::file_id::FileId;
-use fs_ident::kind::Kind;
-use fs_ident::name::Name;
-use fs_model::op::Op;
-use fs_modes::modes::Modes;
+use fs_ident::{FileId, Kind, Name, Session};
+use fs_model::Op;
+use fs_modes::Modes;
 use std::alloc::{AllocError, Global};
 
 impl Wire for Op {

@@ -6,10 +6,8 @@ ghost use Rattle.fs_msg.specs.Reading.{reply_at};
 use crate::bytes::numbers::tag_of;
 use crate::bytes::wire::Wire;
 use crate::fault::ReadError;
-use fs_ident::file_id::FileId;
-use fs_ident::list::List;
-use fs_ident::name::Name;
-use fs_model::reply::Reply;
+use fs_ident::{FileId, List, Name};
+use fs_model::Reply;
 use std::alloc::{AllocError, Global};
 
 /// Adds a tag that stands alone.

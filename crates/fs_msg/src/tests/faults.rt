@@ -4,7 +4,7 @@
 use crate::error::MsgError;
 use crate::error::MsgError::{Range, Short, Tag, Trailing};
 use crate::tests::fault_of;
-use fs_ident::memory::Memory;
+use fs_ident::Memory;
 use std::alloc::Global;
 use std::test::*;
 

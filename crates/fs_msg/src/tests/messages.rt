@@ -3,8 +3,7 @@ use crate::error::MsgError;
 use crate::reading::{read, read_whole};
 use crate::tests::fault_of;
 use crate::writing::write;
-use fs_ident::memory::Memory;
-use fs_ident::twin::Twin;
+use fs_ident::{Memory, Twin};
 use std::alloc::Global;
 use std::test::*;
 

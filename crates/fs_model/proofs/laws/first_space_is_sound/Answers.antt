@@ -1,5 +1,0 @@
-use Rattle.fs_model.proofs.SoundRuns.{first_sound}
-use Rattle.fs_model.proofs.laws.first_space_is_sound.Goals as goal
-
-pub returns : goal.returns
-returns c = first_sound

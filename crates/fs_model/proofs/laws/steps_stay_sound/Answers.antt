@@ -1,5 +1,0 @@
-use Rattle.fs_model.proofs.SoundRuns.{step_sound}
-use Rattle.fs_model.proofs.laws.steps_stay_sound.Goals as goal
-
-pub returns : goal.returns
-returns c = step_sound

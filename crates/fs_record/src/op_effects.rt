@@ -1,0 +1,97 @@
+//! What a plain operation does to fields, by its reply.
+ghost use Rattle.std.specs.Prelude.{◌≡◌, true, [], ◌∷◌, Some, IfOk};
+ghost use Rattle.fs_field.specs.declared.effect.Effect.TheVariants.{SetChild, NewNode};
+ghost use Rattle.fs_record.specs.Effects.{is_plain, effects_of};
+
+use fs_field::Effect;
+use fs_ident::{FileId, Kind, List, Memory, Name, Session, Twin};
+use fs_model::{Op, Reply};
+use std::alloc::Global;
+
+/// The effects of the session's operation that got the reply, in order. It is no rename, no delete and no reap.
+pub fn effects(alloc: Global, by: Session, op: &Op, reply: &Reply) -> Result<List<Effect>, Memory>
+    requires { is_plain op.now ≡ true }
+    ensures { IfOk result (λ told. told ≡ effects_of by op.now reply.now) }
+{
+    match (op, reply) {
+        (
+            Op::Create {
+                dir,
+                name,
+                kind,
+                id: Some(file),
+            },
+            Reply::Made,
+        ) => made(alloc, dir, name, *kind, file),
+        (Op::OpenFile { file, h, modes }, Reply::Opened) => single(
+            alloc,
+            Effect::AddHandle {
+                file: file.copy(alloc)?,
+                session: by,
+                h: *h,
+                modes: *modes,
+            },
+        ),
+        (Op::Close { file, h }, Reply::Closed) => single(
+            alloc,
+            Effect::RemoveHandle {
+                file: file.copy(alloc)?,
+                session: by,
+                h: *h,
+            },
+        ),
+        (
+            Op::Set {
+                file,
+                h: _,
+                size,
+                stamp,
+            },
+            Reply::Set,
+        ) => single(
+            alloc,
+            Effect::SetInfo {
+                file: file.copy(alloc)?,
+                size: *size,
+                stamp: *stamp,
+            },
+        ),
+        _ => Ok(List::new(alloc)),
+    }
+}
+
+/// The name stands for the new file, and the file begins to live.
+fn made(
+    alloc: Global,
+    dir: &FileId,
+    name: &Name,
+    kind: Kind,
+    file: &FileId,
+) -> Result<List<Effect>, Memory>
+    ensures { IfOk result (λ told. told ≡ SetChild dir.now name.now (Some file.now) ∷ NewNode file.now kind dir.now name.now ∷ []) }
+{
+    let mut told = single(
+        alloc,
+        Effect::SetChild {
+            dir: dir.copy(alloc)?,
+            name: name.copy(alloc)?,
+            to: Some(file.copy(alloc)?),
+        },
+    )?;
+    told.push(Effect::NewNode {
+        file: file.copy(alloc)?,
+        kind,
+        dir: dir.copy(alloc)?,
+        name: name.copy(alloc)?,
+    })?;
+    Ok(told)
+}
+
+/// One effect alone.
+fn single(alloc: Global, e: Effect) -> Result<List<Effect>, Memory>
+    ensures { IfOk result (λ told. told ≡ e ∷ []) }
+{
+    let mut told = List::new(alloc);
+    told.push(e)?;
+    Ok(told)
+}

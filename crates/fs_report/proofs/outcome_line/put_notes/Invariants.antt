@@ -1,7 +1,0 @@
-use Rattle.std.proofs.Common.{◌≡◌, ◌++◌, take}
-use Rattle.std.specs.Prelude.{codes, flat_map}
-use Rattle.fs_report.specs.Texts.{note_text}
-use Rattle.fs_report.proofs.outcome_line.put_notes.Given as goal
-
-abbrev pub invariant-loop-note : goal.invariant-loop-note
-invariant-loop-note l = l.out.items ≡ l.initial.out.items ++ flat_map (λ m. codes "; " ++ note_text m) (take l.note-index l.rest)
