@@ -64,7 +64,8 @@ fn count_in(asked: &BTreeMap<u16, u64>, session: u16) -> Option<u64>
 
 #[tactic(auto, using(crate::proofs::Seen::seens))]
 fn set_in(asked: &mut BTreeMap<u16, u64>, session: u16, count: u64) -> Result<(), Memory>
-    ensures ok { OnOk result (seen_counts asked.new ≡ map.insert (seen_counts asked.old) session count) }
+    ensures ok { OnOk result (seen_counts asked.new ≡
+        map.insert (seen_counts asked.old) session count) }
     ensures err { OnErr result (seen_counts asked.new ≡ seen_counts asked.old) }
 {
     asked.insert(session, count)?;

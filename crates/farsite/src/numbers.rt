@@ -74,7 +74,8 @@ fn set_in(
     dir: &FileId,
     number: u64,
 ) -> Result<(), Memory>
-    ensures ok { OnOk result (seen_numbers next.new ≡ map.insert (seen_numbers next.old) dir.now number) }
+    ensures ok { OnOk result (seen_numbers next.new ≡
+        map.insert (seen_numbers next.old) dir.now number) }
     ensures err { OnErr result (seen_numbers next.new ≡ seen_numbers next.old) }
 {
     next.insert(dir.copy(alloc)?, number)?;

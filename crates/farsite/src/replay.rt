@@ -16,8 +16,10 @@ use std::alloc::Global;
 /// The report of the schedule that the bytes are.
 pub fn report_of(alloc: Global, bytes: &[u8]) -> Result<Vec<u8>, ScheduleError>
     ensures ok { IfOk result (λ v. IsReportOf bytes.now v.items) }
-    ensures bad_line { (line : ℕ) → IsErrOf result (ScheduleError.BadLine line) → IsFirstFault IsOutside line bytes.now }
-    ensures limit { (which : Which) (at : ℕ) → IsErrOf result (ScheduleError.Limit which at) → IsFirstFault (PassesLimit which) at bytes.now }
+    ensures bad_line { (line : ℕ) → IsErrOf result (ScheduleError.BadLine line) →
+        IsFirstFault IsOutside line bytes.now }
+    ensures limit { (which : Which) (at : ℕ) → IsErrOf result (ScheduleError.Limit which at) →
+        IsFirstFault (PassesLimit which) at bytes.now }
 {
     let schedule = read_schedule(alloc, bytes)?;
     let world = run(alloc, &schedule.events)?;

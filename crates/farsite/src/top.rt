@@ -28,16 +28,27 @@ pub fn farsite<S: Source, K: Sink, C: Clock, L: Link>(
     clock: &mut C,
     link: &mut L,
 ) -> Status
-    ensures done { result ≡ Status.Done → IfSome (S.left input.old) (λ bytes. IsReplay bytes (K.written out.old) (K.written out.new)) }
+    ensures done { result ≡ Status.Done →
+        IfSome (S.left input.old)
+        (λ bytes. IsReplay bytes (K.written out.old) (K.written out.new)) }
     ensures end { result ≡ Status.Done → IsAtEnd (S.left input.new) }
-    ensures usage { (word : ℕ) → (result ≡ Status.Usage word) ↔ ((is_form (map string_bytes words.now) ≡ false) × (word ≡ understood (map string_bytes words.now) + 1)) }
-    ensures bad_line { (line : ℕ) → result ≡ Status.BadLine line → IfSome (S.left input.old) (λ bytes. IsFirstFault IsOutside line bytes) }
-    ensures limit { (which : Which) (at : ℕ) → result ≡ Status.Limit which at → IfSome (S.left input.old) (λ bytes. IsFirstFault (PassesLimit which) at bytes) }
-    ensures short { IsReadWhole result → IfSome (S.left input.old) (λ bytes. length bytes ≤ 16777216) }
-    ensures too_long { (limit : ℕ) → result ≡ Status.TooLong limit → (limit ≡ 16777216) × IfSome (S.left input.old) (λ bytes. 16777216 < length bytes) }
-    ensures read_fault { result ≡ Status.ReadFault → Rose (S.faults input.old) (S.faults input.new) }
+    ensures usage { (word : ℕ) → (result ≡ Status.Usage word) ↔
+        ((is_form (map string_bytes words.now) ≡ false) ×
+        (word ≡ understood (map string_bytes words.now) + 1)) }
+    ensures bad_line { (line : ℕ) → result ≡ Status.BadLine line →
+        IfSome (S.left input.old) (λ bytes. IsFirstFault IsOutside line bytes) }
+    ensures limit { (which : Which) (at : ℕ) → result ≡ Status.Limit which at →
+        IfSome (S.left input.old) (λ bytes. IsFirstFault (PassesLimit which) at bytes) }
+    ensures short { IsReadWhole result →
+        IfSome (S.left input.old) (λ bytes. length bytes ≤ 16777216) }
+    ensures too_long { (limit : ℕ) → result ≡ Status.TooLong limit → (limit ≡ 16777216) ×
+        IfSome (S.left input.old) (λ bytes. 16777216 < length bytes) }
+    ensures read_fault { result ≡ Status.ReadFault →
+        Rose (S.faults input.old) (S.faults input.new) }
     ensures write_fault { result ≡ Status.WriteFault → Rose (K.faults out.old) (K.faults out.new) }
-    ensures prefix { result ≡ Status.WriteFault → IfSome (S.left input.old) (λ bytes. IsPartOfReplay bytes (K.written out.old) (K.written out.new)) }
+    ensures prefix { result ≡ Status.WriteFault →
+        IfSome (S.left input.old) (λ bytes. IsPartOfReplay bytes (K.written out.old)
+        (K.written out.new)) }
     ensures silent { result ≢ Status.Done → result ≢ Status.WriteFault → out.new ≡ out.old }
     ensures clock { clock.new ≡ clock.old }
     ensures link { link.new ≡ link.old }
@@ -85,7 +96,8 @@ fn schedule_status(e: ScheduleError) -> Status
 /// Writes all of the lines, each by itself.
 fn write_lines<K: Sink>(out: &mut K, lines: &[u8]) -> Result<(), Failed>
     ensures ok { OnOk result (Appends (K.written out.old) (K.written out.new) lines.now) }
-    ensures some { OnErr result (IsPrefixWritten (K.written out.old) (K.written out.new) lines.now) }
+    ensures some { OnErr result
+        (IsPrefixWritten (K.written out.old) (K.written out.new) lines.now) }
     ensures fault { OnErr result (Rose (K.faults out.old) (K.faults out.new)) }
     ensures later { K.faults out.old ≤ K.faults out.new }
 {

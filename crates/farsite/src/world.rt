@@ -83,7 +83,16 @@ impl World {
     }
 
     fn tells(&mut self, alloc: Global, who: Option<Peer>, note: Note) -> Result<(), Memory>
-        ensures { OnOk result (self.new ≡ record { space = self.old.space; next = self.old.next; asked = self.old.asked; journal = self.old.journal; outcomes = self.old.outcomes ++ record { who = who; notes = note ∷ []; sent = [] } ∷ [] }) }
+        ensures { OnOk result (self.new ≡
+            record {
+              space = self.old.space;
+              next = self.old.next;
+              asked = self.old.asked;
+              journal =
+                  self.old.journal;
+              outcomes = self.old.outcomes ++
+                  record { who = who; notes = note ∷ []; sent = [] } ∷ [];
+            }) }
     {
         let mut notes = List::new(alloc);
         notes.push(note)?;
@@ -134,10 +143,18 @@ fn create(
     name: &Name,
     kind: Kind,
 ) -> Result<Answered, Memory>
-    ensures op { IfOk result (λ a. a.op ≡ (create_answer space.old next.old by dir.now name.now kind (candidate next.old dir.now)).op) }
-    ensures reply { IfOk result (λ a. a.reply ≡ (create_answer space.old next.old by dir.now name.now kind (candidate next.old dir.now)).reply) }
-    ensures space { OnOk result (space.new ≡ (create_answer space.old next.old by dir.now name.now kind (candidate next.old dir.now)).space) }
-    ensures next { OnOk result (next.new ≡ (create_answer space.old next.old by dir.now name.now kind (candidate next.old dir.now)).next) }
+    ensures op { IfOk result (λ a. a.op ≡
+        (create_answer space.old next.old by dir.now name.now kind
+        (candidate next.old dir.now)).op) }
+    ensures reply { IfOk result (λ a. a.reply ≡
+        (create_answer space.old next.old by dir.now name.now kind
+        (candidate next.old dir.now)).reply) }
+    ensures space { OnOk result (space.new ≡
+        (create_answer space.old next.old by dir.now name.now kind
+        (candidate next.old dir.now)).space) }
+    ensures next { OnOk result (next.new ≡
+        (create_answer space.old next.old by dir.now name.now kind
+        (candidate next.old dir.now)).next) }
 {
     let number = next.next(dir);
     let id = candidate(alloc, number, dir)?;
@@ -161,8 +178,10 @@ fn create_as(
     id: Option<FileId>,
 ) -> Result<Answered, Memory>
     ensures op { IfOk result (λ a. a.op ≡ Op.Create dir.now name.now kind id) }
-    ensures reply { IfOk result (λ a. a.reply ≡ (step space.old by (Op.Create dir.now name.now kind id)).reply) }
-    ensures space { OnOk result (space.new ≡ (step space.old by (Op.Create dir.now name.now kind id)).nodes) }
+    ensures reply { IfOk result (λ a. a.reply ≡
+        (step space.old by (Op.Create dir.now name.now kind id)).reply) }
+    ensures space { OnOk result (space.new ≡
+        (step space.old by (Op.Create dir.now name.now kind id)).nodes) }
     ensures kept { IfOk result (λ a. is_made a.reply ≡ false → space.new ≡ space.old) }
 {
     let op = Op::Create {

@@ -17,34 +17,46 @@ ghost use Rattle.fs_field.specs.declared.value.Value.{Value};
 
 /// An effect that does not touch a field leaves its value.
 pub fn untouched_stays()
-    ensures { (s : Session) (field : Field) (v : Value) (e : Effect) → touches e field ≡ false → value_after s field v e ≡ v }
+    ensures { (s : Session) (field : Field) (v : Value) (e : Effect) → touches e field ≡ false →
+        value_after s field v e ≡ v }
 {}
 
 /// After an effect a value is of the field exactly where it was before.
 pub fn kind_of_value_stays()
-    ensures { (s : Session) (field : Field) (v : Value) (e : Effect) → is_value_of field (value_after s field v e) ≡ is_value_of field v }
+    ensures { (s : Session) (field : Field) (v : Value) (e : Effect) →
+        is_value_of field (value_after s field v e) ≡ is_value_of field v }
 {}
 
 /// After a name is given to a file, or to none, it is among the names exactly where it is given to a file, and
 /// every other name is among them exactly where it was.
 pub fn names_follow_children()
-    ensures named { (d name : List ℕ) (names : List (List ℕ)) (to : Option (List ℕ)) → list_any (λ n. same n name) (names_after d names (SetChild d name to)) ≡ is_some to }
-    ensures others { (d name other : List ℕ) (names : List (List ℕ)) (to : Option (List ℕ)) → same other name ≡ false → list_any (λ n. same n other) (names_after d names (SetChild d name to)) ≡ list_any (λ n. same n other) names }
+    ensures named { (d name : List ℕ) (names : List (List ℕ)) (to : Option (List ℕ)) →
+        list_any (λ n. same n name) (names_after d names (SetChild d name to)) ≡ is_some to }
+    ensures others { (d name other : List ℕ) (names : List (List ℕ)) (to : Option (List ℕ)) →
+        same other name ≡ false →
+        list_any (λ n. same n other) (names_after d names (SetChild d name to)) ≡
+        list_any (λ n. same n other) names }
 {}
 
 /// Right below a directory stand the files that are its identifier with one number appended.
 pub fn children_are_told()
     ensures told { (dir : List ℕ) (k : ℕ) → child_number dir (child dir k) ≡ Some k }
-    ensures only { (dir file : List ℕ) (k : ℕ) → child_number dir file ≡ Some k → file ≡ child dir k }
+    ensures only { (dir file : List ℕ) (k : ℕ) → child_number dir file ≡ Some k →
+        file ≡ child dir k }
 {}
 
 /// Conflicts are mutual.
 pub fn conflicts_are_mutual()
-    ensures { (selves : Selves) (rows : List Row) (a b : Row) → conflicts selves rows a b ≡ conflicts selves rows b a }
+    ensures { (selves : Selves) (rows : List Row) (a b : Row) →
+        conflicts selves rows a b ≡ conflicts selves rows b a }
 {}
 
 /// Where no row is on what sessions tell of modes, no two conflict exactly where none do whoever has a handle.
 pub fn plain_rows_are_calm()
-    ensures calm { (selves : Selves) (rows : List Row) → ((row : Row) → In row rows → is_plain row.field ≡ true) → WithoutConflict selves rows → IsCalm rows }
-    ensures free { (selves : Selves) (rows : List Row) → ((row : Row) → In row rows → is_plain row.field ≡ true) → IsCalm rows → WithoutConflict selves rows }
+    ensures calm { (selves : Selves) (rows : List Row) →
+        ((row : Row) → In row rows → is_plain row.field ≡ true) → WithoutConflict selves rows →
+        IsCalm rows }
+    ensures free { (selves : Selves) (rows : List Row) →
+        ((row : Row) → In row rows → is_plain row.field ≡ true) → IsCalm rows →
+        WithoutConflict selves rows }
 {}

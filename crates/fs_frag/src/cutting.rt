@@ -26,7 +26,8 @@ fn framed(alloc: Global, message: &[u8]) -> Result<Vec<u8>, Memory>
 
 /// The bytes in full segments and a rest.
 fn pieces(alloc: Global, bytes: &[u8]) -> Result<List<Segment>, Memory>
-    ensures { IfOk result (λ segments. segments ≡ pieces (piece_count (length bytes.now)) bytes.now) }
+    ensures { IfOk result (λ segments. segments ≡
+        pieces (piece_count (length bytes.now)) bytes.now) }
 {
     let mut segments = List::new(alloc);
     let mut rest = bytes;

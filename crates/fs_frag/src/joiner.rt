@@ -36,10 +36,14 @@ impl Joiner {
     /// last message hold more than their first eight bytes announce: it counts the bytes of the message alone,
     /// without those eight. After a message and after `Over` the joiner begins anew.
     pub fn add(&mut self, alloc: Global, s: &Segment) -> Result<Option<Vec<u8>>, FragError>
-        ensures ok { IfOk result (λ given. answer_of (self.old ++ s.now) ≡ Ok (option_map (λ message. message.items) given)) }
-        ensures over { (have want : ℕ) → IsErrOf result (FragError.Over have want) → answer_of (self.old ++ s.now) ≡ Err (FragError.Over have want) }
-        ensures goes_on { OnOk result (self.new ≡ held_after (answer_of (self.old ++ s.now)) (self.old ++ s.now)) }
-        ensures begins_anew { (have want : ℕ) → IsErrOf result (FragError.Over have want) → self.new ≡ [] }
+        ensures ok { IfOk result (λ given. answer_of (self.old ++ s.now) ≡
+            Ok (option_map (λ message. message.items) given)) }
+        ensures over { (have want : ℕ) → IsErrOf result (FragError.Over have want) →
+            answer_of (self.old ++ s.now) ≡ Err (FragError.Over have want) }
+        ensures goes_on { OnOk result (self.new ≡
+            held_after (answer_of (self.old ++ s.now)) (self.old ++ s.now)) }
+        ensures begins_anew { (have want : ℕ) → IsErrOf result (FragError.Over have want) →
+            self.new ≡ [] }
         ensures unchanged { IsErrOf result FragError.Memory → self.new ≡ self.old }
     {
         let before = self.held.len();
@@ -64,8 +68,10 @@ impl Twin for Joiner {
 
 /// The message that the bytes hold, if it is whole.
 fn answer_of(alloc: Global, bytes: &[u8]) -> Result<Option<Vec<u8>>, FragError>
-    ensures ok { IfOk result (λ given. answer_of bytes.now ≡ Ok (option_map (λ message. message.items) given)) }
-    ensures over { (have want : ℕ) → IsErrOf result (FragError.Over have want) → answer_of bytes.now ≡ Err (FragError.Over have want) }
+    ensures ok { IfOk result (λ given. answer_of bytes.now ≡
+        Ok (option_map (λ message. message.items) given)) }
+    ensures over { (have want : ℕ) → IsErrOf result (FragError.Over have want) →
+        answer_of bytes.now ≡ Err (FragError.Over have want) }
 {
     if bytes.len() < 8 {
         return Ok(None);

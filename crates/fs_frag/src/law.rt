@@ -8,13 +8,17 @@ ghost use Rattle.fs_frag.specs.Joined.{answers, answers_for, messages_of};
 /// A new joiner that is given the segments of messages, one message after another, gives these messages in
 /// order, whole and once, each at its last segment.
 pub fn joined_is_cut()
-    ensures whole_and_once { (messages : Seq (Seq ℕ)) → AllByRecursion (λ m. length m < 2 ^ 64) messages →
+    ensures whole_and_once { (messages : Seq (Seq ℕ)) →
+        AllByRecursion (λ m. length m < 2 ^ 64) messages →
         messages_of (answers [] (flat_map cut_of messages)) ≡ messages }
-    ensures at_the_last { (messages : Seq (Seq ℕ)) → AllByRecursion (λ m. length m < 2 ^ 64) messages →
+    ensures at_the_last { (messages : Seq (Seq ℕ)) →
+        AllByRecursion (λ m. length m < 2 ^ 64) messages →
         answers [] (flat_map cut_of messages) ≡ flat_map answers_for messages }
     // The same of the segments that have come so far.
-    ensures so_far { (messages segments rest : Seq (Seq ℕ)) → AllByRecursion (λ m. length m < 2 ^ 64) messages →
+    ensures so_far { (messages segments rest : Seq (Seq ℕ)) →
+        AllByRecursion (λ m. length m < 2 ^ 64) messages →
         segments ++ rest ≡ flat_map cut_of messages → (others : Seq (Seq ℕ)) × (messages_of (answers [] segments) ++ others ≡ messages) }
-    ensures never_over { (messages segments rest : Seq (Seq ℕ)) → AllByRecursion (λ m. length m < 2 ^ 64) messages →
+    ensures never_over { (messages segments rest : Seq (Seq ℕ)) →
+        AllByRecursion (λ m. length m < 2 ^ 64) messages →
         segments ++ rest ≡ flat_map cut_of messages → AllByRecursion IsOk (answers [] segments) }
 {}

@@ -17,8 +17,10 @@ impl FileId {
     pub fn parse(alloc: Global, text: &[u8]) -> Result<FileId, IdError>
         ensures ok { IfOk result (λ id. text.now ≡ id_text id) }
         ensures valid { IfOk result (λ id. IsId id) }
-        ensures one { (id : List ℕ) → IsId id → text.now ≡ id_text id → IfOk result (λ read. read ≡ id) }
-        ensures bad { (at : ℕ) → IsErrOf result (IdError.BadText at) → IsNoIdText text.now × IsLongestIdText text.now at }
+        ensures one { (id : List ℕ) → IsId id → text.now ≡ id_text id →
+            IfOk result (λ read. read ≡ id) }
+        ensures bad { (at : ℕ) → IsErrOf result (IdError.BadText at) → IsNoIdText text.now ×
+            IsLongestIdText text.now at }
         ensures deep { IsErrOf result IdError.Deep → ⊥ }
         ensures zero { IsErrOf result IdError.Zero → ⊥ }
         ensures name { (at : ℕ) → IsErrOf result (IdError.BadName at) → ⊥ }

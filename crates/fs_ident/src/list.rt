@@ -105,7 +105,8 @@ impl<T> List<T> {
     /// An item, to be changed in place.
     pub fn at_mut(&mut self, at: usize) -> &mut T
         requires { at < length self.old }
-        ensures* lends { sem 𝓛 (Lends (the_row T.row) T.row self.entry result (slice_set self.old at)) }
+        ensures* lends { sem 𝓛
+            (Lends (the_row T.row) T.row self.entry result (slice_set self.old at)) }
         ensures value { result.now ≡ slice_index_or self.old at result.now }
     {
         &mut self.items[at]

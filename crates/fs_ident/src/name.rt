@@ -39,7 +39,8 @@ impl Name {
     pub fn new(alloc: Global, bytes: &[u8]) -> Result<Name, IdError>
         ensures ok { IfOk result (λ n. n ≡ bytes.now) }
         ensures valid { IfOk result (λ _. IsName bytes.now) }
-        ensures bad { (at : ℕ) → IsErrOf result (IdError.BadName at) ↔ ((IsName bytes.now → ⊥) × (at ≡ name_fault bytes.now)) }
+        ensures bad { (at : ℕ) → IsErrOf result (IdError.BadName at) ↔
+            ((IsName bytes.now → ⊥) × (at ≡ name_fault bytes.now)) }
         ensures deep { IsErrOf result IdError.Deep → ⊥ }
         ensures zero { IsErrOf result IdError.Zero → ⊥ }
         ensures text { (at : ℕ) → IsErrOf result (IdError.BadText at) → ⊥ }

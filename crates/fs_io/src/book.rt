@@ -71,7 +71,8 @@ impl Book {
     pub fn keep(&mut self, call: Call, bytes: &[u8])
         requires room { 0 < self.old.room }
         requires fits { length bytes.now ≤ 1100 }
-        ensures made { self.new.made ≡ self.old.made ++ record { call = call; bytes = bytes.now } ∷ [] }
+        ensures made { self.new.made ≡ self.old.made ++ record { call = call; bytes = bytes.now } ∷
+            [] }
         ensures left { self.new.room ≡ self.old.room - 1 }
     {
         let Some(mut piece) = self.spare.pop() else {

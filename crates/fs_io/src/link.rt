@@ -30,7 +30,9 @@ pub trait Link {
     /// at the front of the buffer. `None` exactly where none waits. A receive that failed takes nothing.
     fn receive(&mut self, buf: &mut [u8]) -> Result<Option<(Addr, usize)>, Failed>
         ensures bound { IfOk result (λ got. IfSome got (λ d. d.1 ≤ length buf.new)) }
-        ensures waiting { MatchResult result (λ got. Receives (waiting self.old) (waiting self.new) got buf.new) (λ _. IsAsTold (waiting self.old) (waiting self.new)) }
+        ensures waiting { MatchResult result
+            (λ got. Receives (waiting self.old) (waiting self.new) got buf.new)
+            (λ _. IsAsTold (waiting self.old) (waiting self.new)) }
         ensures call { Adds (calls self.old) (calls self.new) (receive_made result buf.new) }
         ensures told_waiting { OnOk result (StillTold (waiting self.old) (waiting self.new)) }
         ensures told_calls { OnOk result (StillTold (calls self.old) (calls self.new)) }

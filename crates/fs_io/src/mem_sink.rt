@@ -34,7 +34,8 @@ impl MemSink {
     /// are to fail.
     pub fn new(alloc: Global, room: usize, fails: Vec<u64>) -> Result<MemSink, Memory>
         ensures stored { IfOk result (λ s. s.stored ≡ record { written = []; room = room }) }
-        ensures plan { IfOk result (λ s. s.plan ≡ record { fails = fails.items; calls = 0; faults = 0 }) }
+        ensures plan { IfOk result (λ s. s.plan ≡
+            record { fails = fails.items; calls = 0; faults = 0 }) }
     {
         Ok(MemSink {
             store: Store::new(alloc, room)?,
@@ -60,11 +61,15 @@ impl Sink for MemSink {
     fn write(&mut self, bytes: &[u8]) -> Result<usize, Failed>
         ensures bound { WritesAtMost result bytes.now }
         ensures some { TakesSome result bytes.now }
-        ensures bytes { WriteAppends (Some self.old.stored.written) (Some self.new.stored.written) result bytes.now }
+        ensures bytes { WriteAppends (Some self.old.stored.written) (Some self.new.stored.written)
+            result bytes.now }
         ensures cause { HasCause self.old.plan.faults self.new.plan.faults result }
-        ensures planned { IsTrue (is_listed self.old.plan.fails (raised self.old.plan.calls)) → IsErr result }
+        ensures planned { IsTrue (is_listed self.old.plan.fails (raised self.old.plan.calls)) →
+            IsErr result }
         ensures full { (0 < length bytes.now) × (self.old.stored.room ≡ 0) → IsErr result }
-        ensures failed { IsErr result → IsTrue (is_listed self.old.plan.fails (raised self.old.plan.calls)) ⊎ ((0 < length bytes.now) × (self.old.stored.room ≡ 0)) }
+        ensures failed { IsErr result →
+            IsTrue (is_listed self.old.plan.fails (raised self.old.plan.calls)) ⊎
+            ((0 < length bytes.now) × (self.old.stored.room ≡ 0)) }
         ensures fits { IfOk result (λ n. n ≡ min (length bytes.now) self.old.stored.room) }
         ensures room { IfOk result (λ n. self.new.stored.room ≡ self.old.stored.room - n) }
         ensures kept { OnErr result (self.new.stored ≡ self.old.stored) }

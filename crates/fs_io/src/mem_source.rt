@@ -49,7 +49,8 @@ impl Source for MemSource {
         ensures bound { ReadsAtMost result buf.new }
         ensures bytes { ReadConsumes (Some self.old.left) (Some self.new.left) result buf.new }
         ensures cause { HasCause self.old.plan.faults self.new.plan.faults result }
-        ensures planned { IsErr result ↔ IsTrue (is_listed self.old.plan.fails (raised self.old.plan.calls)) }
+        ensures planned { IsErr result ↔
+            IsTrue (is_listed self.old.plan.fails (raised self.old.plan.calls)) }
         ensures full { IfOk result (λ n. n ≡ min (length buf.old) (length self.old.left)) }
         ensures plan { self.new.plan ≡ after_call self.old.plan (is_err result) }
     {

@@ -44,9 +44,11 @@ pub fn read_all<S: Source>(alloc: Global, input: &mut S) -> Result<Vec<u8>, Read
     ensures end { OnOk result (IsAtEnd (S.left input.new)) }
     ensures few { IfOk result (λ v. length v.items ≤ LIMIT) }
     ensures limit { (limit : ℕ) → IsErrOf result (ReadError.TooLong limit) → limit ≡ LIMIT }
-    ensures long { (limit : ℕ) → IsErrOf result (ReadError.TooLong limit) → TakesCount (S.left input.old) (S.left input.new) (LIMIT + 1) }
+    ensures long { (limit : ℕ) → IsErrOf result (ReadError.TooLong limit) →
+        TakesCount (S.left input.old) (S.left input.new) (LIMIT + 1) }
     ensures within { TakesAtMost (S.left input.old) (S.left input.new) (LIMIT + 1) }
-    ensures fault { IsErrOf result ReadError.ReadFault → Rose (S.faults input.old) (S.faults input.new) }
+    ensures fault { IsErrOf result ReadError.ReadFault →
+        Rose (S.faults input.old) (S.faults input.new) }
     ensures later { S.faults input.old ≤ S.faults input.new }
 {
     let mut bytes = Vec::new(alloc);

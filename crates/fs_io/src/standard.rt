@@ -44,7 +44,8 @@ impl<R: Read> Source for StdinSource<R> {
     /// Reads what the reader gives, and counts each error.
     fn read(&mut self, buf: &mut [u8]) -> Result<usize, Failed>
         ensures bound { ReadsAtMost result buf.new }
-        ensures bytes { ReadConsumes (R.remaining self.old.0) (R.remaining self.new.0) result buf.new }
+        ensures bytes { ReadConsumes (R.remaining self.old.0) (R.remaining self.new.0) result
+            buf.new }
         ensures cause { HasCause self.old.1 self.new.1 result }
         ensures counted { self.new.1 ≡ (if is_err result then raised self.old.1 else self.old.1) }
     {
@@ -92,7 +93,8 @@ impl<W: Write> Sink for StdoutSink<W> {
     fn write(&mut self, bytes: &[u8]) -> Result<usize, Failed>
         ensures bound { WritesAtMost result bytes.now }
         ensures some { TakesSome result bytes.now }
-        ensures bytes { WriteAppends (W.contents self.old.0) (W.contents self.new.0) result bytes.now }
+        ensures bytes { WriteAppends (W.contents self.old.0) (W.contents self.new.0) result
+            bytes.now }
         ensures cause { HasCause self.old.1 self.new.1 result }
         ensures counted { self.new.1 ≡ (if is_err result then raised self.old.1 else self.old.1) }
     {

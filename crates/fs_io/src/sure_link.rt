@@ -44,7 +44,13 @@ impl SureLink {
         waiting: Vec<(Addr, List<u8>)>,
         calls: usize,
     ) -> Result<SureLink, Memory>
-        ensures { IfOk result (λ l. l ≡ record { waiting = waiting.items; kept = record { made = []; room = calls }; faults = 0; told = true }) }
+        ensures { IfOk result (λ l. l ≡
+            record {
+              waiting = waiting.items;
+              kept = record { made = []; room = calls };
+              faults = 0;
+              told = true;
+            }) }
     {
         Ok(SureLink {
             datagrams: waiting,
@@ -95,7 +101,8 @@ impl Link for SureLink {
         ensures cause { HasCause self.old.faults self.new.faults result }
         ensures full { IsErr result ↔ (has_room self.old.kept.room 0 ≡ false) }
         ensures lost { OnErr result (self.new ≡ lost self.old) }
-        ensures kept { OnOk result (self.new ≡ after_kept self.old self.old.waiting (bind_made at result)) }
+        ensures kept { OnOk result (self.new ≡
+            after_kept self.old self.old.waiting (bind_made at result)) }
     {
         if !self.book.has_room(0) {
             self.lose();
@@ -114,15 +121,21 @@ impl Link for SureLink {
 
     fn receive(&mut self, buf: &mut [u8]) -> Result<Option<(Addr, usize)>, Failed>
         ensures bound { IfOk result (λ got. IfSome got (λ d. d.1 ≤ length buf.new)) }
-        ensures waiting { MatchResult result (λ got. Receives (waiting_told self.old) (waiting_told self.new) got buf.new) (λ _. IsAsTold (waiting_told self.old) (waiting_told self.new)) }
-        ensures call { Adds (calls_told self.old) (calls_told self.new) (receive_made result buf.new) }
+        ensures waiting { MatchResult result
+            (λ got. Receives (waiting_told self.old) (waiting_told self.new) got buf.new)
+            (λ _. IsAsTold (waiting_told self.old) (waiting_told self.new)) }
+        ensures call { Adds (calls_told self.old) (calls_told self.new)
+            (receive_made result buf.new) }
         ensures told_waiting { OnOk result (StillTold (waiting_told self.old) (waiting_told self.new)) }
         ensures told_calls { OnOk result (StillTold (calls_told self.old) (calls_told self.new)) }
         ensures cause { HasCause self.old.faults self.new.faults result }
-        ensures full { IsErr result ↔ (has_room self.old.kept.room (room_wanted self.old.waiting (length buf.old)) ≡ false) }
+        ensures full { IsErr result ↔
+            (has_room self.old.kept.room (room_wanted self.old.waiting (length buf.old)) ≡ false) }
         ensures lost { OnErr result (self.new ≡ lost self.old) }
-        ensures kept { OnOk result (self.new ≡ after_kept self.old (drop 1 self.old.waiting) (receive_made result buf.new)) }
-        ensures got { IfOk result (λ got. Receives (Some self.old.waiting) (Some self.new.waiting) got buf.new) }
+        ensures kept { OnOk result (self.new ≡
+            after_kept self.old (drop 1 self.old.waiting) (receive_made result buf.new)) }
+        ensures got { IfOk result
+            (λ got. Receives (Some self.old.waiting) (Some self.new.waiting) got buf.new) }
     {
         let size = buf.len();
         let (from, n) = match self.datagrams.get(self.taken) {
@@ -152,13 +165,15 @@ impl Link for SureLink {
 
     fn send(&mut self, to: Addr, bytes: &[u8]) -> Result<(), Failed>
         ensures waiting { IsAsTold (waiting_told self.old) (waiting_told self.new) }
-        ensures call { Adds (calls_told self.old) (calls_told self.new) (send_made to bytes.now result) }
+        ensures call { Adds (calls_told self.old) (calls_told self.new)
+            (send_made to bytes.now result) }
         ensures told_waiting { OnOk result (StillTold (waiting_told self.old) (waiting_told self.new)) }
         ensures told_calls { OnOk result (StillTold (calls_told self.old) (calls_told self.new)) }
         ensures cause { HasCause self.old.faults self.new.faults result }
         ensures full { IsErr result ↔ (has_room self.old.kept.room (length bytes.now) ≡ false) }
         ensures lost { OnErr result (self.new ≡ lost self.old) }
-        ensures kept { OnOk result (self.new ≡ after_kept self.old self.old.waiting (send_made to bytes.now result)) }
+        ensures kept { OnOk result (self.new ≡
+            after_kept self.old self.old.waiting (send_made to bytes.now result)) }
     {
         let n = bytes.len();
         if !self.book.has_room(n) {

@@ -55,12 +55,14 @@ impl Sink for SureSink {
     fn write(&mut self, bytes: &[u8]) -> Result<usize, Failed>
         ensures bound { WritesAtMost result bytes.now }
         ensures some { TakesSome result bytes.now }
-        ensures bytes { WriteAppends (Some self.old.written) (Some self.new.written) result bytes.now }
+        ensures bytes { WriteAppends (Some self.old.written) (Some self.new.written) result
+            bytes.now }
         ensures cause { HasCause self.old.faults self.new.faults result }
         ensures fits { IfOk result (λ n. n ≡ min (length bytes.now) self.old.room) }
         ensures room { IfOk result (λ n. self.new.room ≡ self.old.room - n) }
         ensures full { IsErr result ↔ ((0 < length bytes.now) × (self.old.room ≡ 0)) }
-        ensures counted { OnErr result (self.new ≡ record self.old { faults = raised self.old.faults }) }
+        ensures counted { OnErr result (self.new ≡
+            record self.old { faults = raised self.old.faults }) }
         ensures uncounted { OnOk result (self.new.faults ≡ self.old.faults) }
     {
         let n = self.store.put(bytes);

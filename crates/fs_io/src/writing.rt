@@ -11,7 +11,8 @@ use crate::sink::Sink;
 #[tactic(auto, using(crate::proofs::Known::known))]
 pub fn write_all<K: Sink>(out: &mut K, bytes: &[u8]) -> Result<(), Failed>
     ensures ok { OnOk result (Appends (K.written out.old) (K.written out.new) bytes.now) }
-    ensures some { OnErr result (IsPrefixWritten (K.written out.old) (K.written out.new) bytes.now) }
+    ensures some { OnErr result
+        (IsPrefixWritten (K.written out.old) (K.written out.new) bytes.now) }
     ensures fault { OnErr result (Rose (K.faults out.old) (K.faults out.new)) }
     ensures later { K.faults out.old ≤ K.faults out.new }
 {

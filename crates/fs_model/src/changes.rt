@@ -89,7 +89,8 @@ pub fn set(nodes: &mut BTreeMap<FileId, Node>, file: &FileId, size: u64, stamp: 
 /// Adds a handle to a file.
 #[tactic(auto, using(crate::proofs::Seen::seens))]
 pub fn open(nodes: &mut BTreeMap<FileId, Node>, file: &FileId, handle: Handle) -> Result<(), Memory>
-    ensures ok { OnOk result (seen nodes.new ≡ changed (opened handle.session handle.h handle.modes) (seen nodes.old) file.now) }
+    ensures ok { OnOk result (seen nodes.new ≡ changed (opened handle.session handle.h handle.modes)
+        (seen nodes.old) file.now) }
     ensures err { OnErr result (seen nodes.new ≡ seen nodes.old) }
 {
     match nodes.get_mut(file) {

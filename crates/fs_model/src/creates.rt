@@ -25,8 +25,12 @@ pub fn create(
     id: &Option<FileId>,
 ) -> Result<Reply, Memory>
     requires { IsSpace (seen nodes.old) }
-    ensures reply { IfOk result (λ reply. reply ≡ (create (map.get (seen nodes.old) dir.now) (seen nodes.old) dir.now name.now kind id.now).reply) }
-    ensures nodes { IfOk result (λ _. seen nodes.new ≡ (create (map.get (seen nodes.old) dir.now) (seen nodes.old) dir.now name.now kind id.now).nodes) }
+    ensures reply { IfOk result (λ reply. reply ≡
+        (create (map.get (seen nodes.old) dir.now) (seen nodes.old) dir.now name.now kind
+        id.now).reply) }
+    ensures nodes { IfOk result (λ _. seen nodes.new ≡
+        (create (map.get (seen nodes.old) dir.now) (seen nodes.old) dir.now name.now kind
+        id.now).nodes) }
     ensures err { OnErr result (seen nodes.new ≡ seen nodes.old) }
 {
     let Some(node) = node_at(nodes, dir) else {

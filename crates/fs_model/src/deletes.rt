@@ -16,8 +16,10 @@ use std::collections::BTreeMap;
 /// Deletes the child of that name.
 pub fn delete(nodes: &mut BTreeMap<FileId, Node>, dir: &FileId, name: &Name) -> Reply
     requires { IsSpace (seen nodes.old) }
-    ensures reply { result ≡ (delete (map.get (seen nodes.old) dir.now) (seen nodes.old) dir.now name.now).reply }
-    ensures nodes { seen nodes.new ≡ (delete (map.get (seen nodes.old) dir.now) (seen nodes.old) dir.now name.now).nodes }
+    ensures reply { result ≡
+        (delete (map.get (seen nodes.old) dir.now) (seen nodes.old) dir.now name.now).reply }
+    ensures nodes { seen nodes.new ≡
+        (delete (map.get (seen nodes.old) dir.now) (seen nodes.old) dir.now name.now).nodes }
 {
     let Some(node) = node_at(nodes, dir) else {
         return Reply::Gone;

@@ -18,17 +18,20 @@ pub fn first_space_is_sound()
 
 /// A step leads from a sound space to a sound one, where an open asks for an access.
 pub fn steps_stay_sound()
-    ensures { (m : NodeMap) (by : Session) (op : Op) → IsSound m → AsksAccess op → IsSound (step m by op).nodes }
+    ensures { (m : NodeMap) (by : Session) (op : Op) → IsSound m → AsksAccess op →
+        IsSound (step m by op).nodes }
 {}
 
 /// Whatever a list of sessions does, one after the other, a sound space stays sound.
 pub fn runs_stay_sound()
-    ensures { (m : NodeMap) (ops : List (Session × Op)) → IsSound m → AllAskAccess ops → IsSound (after m ops) }
+    ensures { (m : NodeMap) (ops : List (Session × Op)) → IsSound m → AllAskAccess ops →
+        IsSound (after m ops) }
 {}
 
 /// Children stay in order of name and handles in order of session and number, and in a sound space they are.
 pub fn steps_keep_order()
-    ensures steps { (m : NodeMap) (by : Session) (op : Op) → IsSpace m → IsSpace (step m by op).nodes }
+    ensures steps { (m : NodeMap) (by : Session) (op : Op) → IsSpace m →
+        IsSpace (step m by op).nodes }
     ensures sound { (m : NodeMap) → IsSound m → IsSpace m }
 {}
 
@@ -45,13 +48,17 @@ pub fn every_ancestor_is_listed()
 
 /// Two handles of one file are of two sessions or have two numbers, and neither's access is denied by the other.
 pub fn no_two_handles_conflict()
-    ensures listed { (m : NodeMap) (file : List ℕ) → IsSound m → IfSome (get m file) (λ n. AllPairs AreApart n.handles) }
-    ensures numbered { (m : NodeMap) (file : List ℕ) (x y : Session × ℕ) (a b : Modes) → IsSound m → x ≢ y →
+    ensures listed { (m : NodeMap) (file : List ℕ) → IsSound m →
+        IfSome (get m file) (λ n. AllPairs AreApart n.handles) }
+    ensures numbered { (m : NodeMap) (file : List ℕ) (x y : Session × ℕ) (a b : Modes) → IsSound m →
+        x ≢ y →
         open_of (get m file) x ≡ Some a → open_of (get m file) y ≡ Some b → conflicts a b ≡ false }
 {}
 
 /// Every reply but to a change leaves the space as it is, and so does a rename to the place that the file has.
 pub fn reads_change_nothing()
-    ensures reads { (m : NodeMap) (by : Session) (op : Op) → changes (step m by op).reply ≡ false → (step m by op).nodes ≡ m }
-    ensures same_place { (m : NodeMap) (by : Session) (dir name : List ℕ) → (step m by (Rename dir name dir name)).nodes ≡ m }
+    ensures reads { (m : NodeMap) (by : Session) (op : Op) → changes (step m by op).reply ≡ false →
+        (step m by op).nodes ≡ m }
+    ensures same_place { (m : NodeMap) (by : Session) (dir name : List ℕ) →
+        (step m by (Rename dir name dir name)).nodes ≡ m }
 {}

@@ -24,8 +24,12 @@ pub fn open_file(
     modes: Modes,
 ) -> Result<Reply, Memory>
     requires { IsSpace (seen nodes.old) }
-    ensures reply { IfOk result (λ reply. reply ≡ (open_file (map.get (seen nodes.old) file.now) (seen nodes.old) by file.now h modes).reply) }
-    ensures nodes { IfOk result (λ _. seen nodes.new ≡ (open_file (map.get (seen nodes.old) file.now) (seen nodes.old) by file.now h modes).nodes) }
+    ensures reply { IfOk result (λ reply. reply ≡
+        (open_file (map.get (seen nodes.old) file.now) (seen nodes.old) by file.now h
+        modes).reply) }
+    ensures nodes { IfOk result (λ _. seen nodes.new ≡
+        (open_file (map.get (seen nodes.old) file.now) (seen nodes.old) by file.now h
+        modes).nodes) }
     ensures err { OnErr result (seen nodes.new ≡ seen nodes.old) }
 {
     let Some(node) = node_at(nodes, file) else {
@@ -55,8 +59,10 @@ pub fn close(
     h: u32,
 ) -> Reply
     requires { IsSpace (seen nodes.old) }
-    ensures reply { result ≡ (close (map.get (seen nodes.old) file.now) (seen nodes.old) by file.now h).reply }
-    ensures nodes { seen nodes.new ≡ (close (map.get (seen nodes.old) file.now) (seen nodes.old) by file.now h).nodes }
+    ensures reply { result ≡
+        (close (map.get (seen nodes.old) file.now) (seen nodes.old) by file.now h).reply }
+    ensures nodes { seen nodes.new ≡
+        (close (map.get (seen nodes.old) file.now) (seen nodes.old) by file.now h).nodes }
 {
     let Some(node) = node_at(nodes, file) else {
         return Reply::NoHandle;
@@ -78,8 +84,10 @@ pub fn set(
     stamp: u64,
 ) -> Reply
     requires { IsSpace (seen nodes.old) }
-    ensures reply { result ≡ (set (map.get (seen nodes.old) file.now) (seen nodes.old) by file.now h size stamp).reply }
-    ensures nodes { seen nodes.new ≡ (set (map.get (seen nodes.old) file.now) (seen nodes.old) by file.now h size stamp).nodes }
+    ensures reply { result ≡
+        (set (map.get (seen nodes.old) file.now) (seen nodes.old) by file.now h size stamp).reply }
+    ensures nodes { seen nodes.new ≡
+        (set (map.get (seen nodes.old) file.now) (seen nodes.old) by file.now h size stamp).nodes }
 {
     let Some(node) = node_at(nodes, file) else {
         return Reply::NoHandle;

@@ -27,8 +27,12 @@ pub fn rename(
     dname: &Name,
 ) -> Result<Reply, Memory>
     requires { IsSpace (seen nodes.old) }
-    ensures reply { IfOk result (λ reply. reply ≡ (rename (map.get (seen nodes.old) sdir.now) (seen nodes.old) sdir.now sname.now ddir.now dname.now).reply) }
-    ensures nodes { IfOk result (λ _. seen nodes.new ≡ (rename (map.get (seen nodes.old) sdir.now) (seen nodes.old) sdir.now sname.now ddir.now dname.now).nodes) }
+    ensures reply { IfOk result (λ reply. reply ≡
+        (rename (map.get (seen nodes.old) sdir.now) (seen nodes.old) sdir.now sname.now ddir.now
+        dname.now).reply) }
+    ensures nodes { IfOk result (λ _. seen nodes.new ≡
+        (rename (map.get (seen nodes.old) sdir.now) (seen nodes.old) sdir.now sname.now ddir.now
+        dname.now).nodes) }
     ensures err { OnErr result (seen nodes.new ≡ seen nodes.old) }
 {
     let Some(from) = node_at(nodes, sdir) else {
@@ -86,7 +90,8 @@ fn shift(
 ) -> Result<(), Memory>
     requires in_order { IsSpace (seen nodes.old) }
     requires free { child_at (children_of (map.get (seen nodes.old) ddir.now)) dname.now ≡ None }
-    ensures ok { OnOk result (seen nodes.new ≡ moved (seen nodes.old) file.now sdir.now sname.now ddir.now dname.now) }
+    ensures ok { OnOk result (seen nodes.new ≡
+        moved (seen nodes.old) file.now sdir.now sname.now ddir.now dname.now) }
     ensures err { OnErr result (seen nodes.new ≡ seen nodes.old) }
 {
     let child = file.copy(alloc)?;

@@ -48,7 +48,8 @@ impl Modes {
         ensures accesses { IfSome result (λ m. acc.now ≡ acc_text m) }
         ensures denials { IfSome result (λ m. deny.now ≡ deny_text m) }
         ensures some_access { IfSome result (λ m. has_access m ≡ true) }
-        ensures none { IfNone result ((m : Six) → has_access m ≡ true → acc.now ≡ acc_text m → deny.now ≡ deny_text m → ⊥) }
+        ensures none { IfNone result ((m : Six) → has_access m ≡ true → acc.now ≡ acc_text m →
+            deny.now ≡ deny_text m → ⊥) }
     {
         let (acc_r, acc_w, acc_d) = read_letters(acc)?;
         let (deny_r, deny_w, deny_d) = read_denials(deny)?;
@@ -83,7 +84,8 @@ fn letters(r: bool, w: bool, d: bool) -> &'static str
 fn read_letters(text: &[u8]) -> Option<(bool, bool, bool)>
     ensures found { IfSome result (λ t. text.now ≡ letters t.0 t.1 t.2) }
     ensures some { IfSome result (λ t. ((t.0 || t.1) || t.2) ≡ true) }
-    ensures none { IfNone result ((r w d : Bool) → ((r || w) || d) ≡ true → text.now ≡ letters r w d → ⊥) }
+    ensures none { IfNone result ((r w d : Bool) → ((r || w) || d) ≡ true →
+        text.now ≡ letters r w d → ⊥) }
 {
     match text {
         b"R" => Some((true, false, false)),

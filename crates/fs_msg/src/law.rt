@@ -7,6 +7,7 @@ ghost use Rattle.fs_msg.specs.Spelling.{message};
 /// Messages are told apart by their bytes: no message is a proper beginning of another, and two messages with the
 /// same bytes are one.
 pub fn no_message_begins_another()
-    ensures whole { (m n : Msg) (rest : List ℕ) → FitsMessage m → FitsMessage n → message n ≡ message m ++ rest → rest ≡ [] }
+    ensures whole { (m n : Msg) (rest : List ℕ) → FitsMessage m → FitsMessage n →
+        message n ≡ message m ++ rest → rest ≡ [] }
     ensures one { (m n : Msg) → FitsMessage m → FitsMessage n → message m ≡ message n → m ≡ n }
 {}

@@ -20,15 +20,21 @@ use std::alloc::Global;
 /// wrong at the place, which is a tag's or another. Never `Trailing`.
 pub fn read(alloc: Global, bytes: &[u8]) -> Result<(Msg, usize), MsgError>
     // What is read is spelled so.
-    ensures found { IfOk result (λ x. FitsMessage x.0 × (x.1 ≤ length bytes.now) × (take x.1 bytes.now ≡ message x.0)) }
+    ensures found { IfOk result (λ x. FitsMessage x.0 × (x.1 ≤ length bytes.now) ×
+        (take x.1 bytes.now ≡ message x.0)) }
     // What is spelled so is read, whatever follows.
-    ensures only { (m : Msg) (rest : List ℕ) → FitsMessage m → bytes.now ≡ message m ++ rest → IsOkOrMemory result (m, length (message m)) }
+    ensures only { (m : Msg) (rest : List ℕ) → FitsMessage m → bytes.now ≡ message m ++ rest →
+        IsOkOrMemory result (m, length (message m)) }
     ensures short { IsErrOf result errors.Short → IsProperFront bytes.now }
     ensures cut { IsProperFront bytes.now → IsErrOrMemory result errors.Short }
-    ensures tag { (at : ℕ) → IsErrOf result (errors.Tag at) → GoWrongAt bytes.now at × IsTagPlace (take at bytes.now) }
-    ensures at_tag { (at : ℕ) → GoWrongAt bytes.now at → IsTagPlace (take at bytes.now) → IsErrOrMemory result (errors.Tag at) }
-    ensures range { (at : ℕ) → IsErrOf result (errors.Range at) → GoWrongAt bytes.now at × (IsTagPlace (take at bytes.now) → ⊥) }
-    ensures at_other { (at : ℕ) → GoWrongAt bytes.now at → (IsTagPlace (take at bytes.now) → ⊥) → IsErrOrMemory result (errors.Range at) }
+    ensures tag { (at : ℕ) → IsErrOf result (errors.Tag at) → GoWrongAt bytes.now at ×
+        IsTagPlace (take at bytes.now) }
+    ensures at_tag { (at : ℕ) → GoWrongAt bytes.now at → IsTagPlace (take at bytes.now) →
+        IsErrOrMemory result (errors.Tag at) }
+    ensures range { (at : ℕ) → IsErrOf result (errors.Range at) → GoWrongAt bytes.now at ×
+        (IsTagPlace (take at bytes.now) → ⊥) }
+    ensures at_other { (at : ℕ) → GoWrongAt bytes.now at → (IsTagPlace (take at bytes.now) → ⊥) →
+        IsErrOrMemory result (errors.Range at) }
     ensures trailing { (at : ℕ) → IsErrOf result (errors.Trailing at) → ⊥ }
 {
     front_of(alloc, bytes)
@@ -44,12 +50,18 @@ pub fn read_whole(alloc: Global, bytes: &[u8]) -> Result<Msg, MsgError>
     ensures only { (m : Msg) → FitsMessage m → bytes.now ≡ message m → IsOkOrMemory result m }
     ensures short { IsErrOf result errors.Short → IsProperFront bytes.now }
     ensures cut { IsProperFront bytes.now → IsErrOrMemory result errors.Short }
-    ensures tag { (at : ℕ) → IsErrOf result (errors.Tag at) → GoWrongAt bytes.now at × IsTagPlace (take at bytes.now) }
-    ensures at_tag { (at : ℕ) → GoWrongAt bytes.now at → IsTagPlace (take at bytes.now) → IsErrOrMemory result (errors.Tag at) }
-    ensures range { (at : ℕ) → IsErrOf result (errors.Range at) → GoWrongAt bytes.now at × (IsTagPlace (take at bytes.now) → ⊥) }
-    ensures at_other { (at : ℕ) → GoWrongAt bytes.now at → (IsTagPlace (take at bytes.now) → ⊥) → IsErrOrMemory result (errors.Range at) }
-    ensures trailing { (at : ℕ) → IsErrOf result (errors.Trailing at) → IsMessage (take at bytes.now) × (at < length bytes.now) }
-    ensures followed { (at : ℕ) → at < length bytes.now → IsMessage (take at bytes.now) → IsErrOrMemory result (errors.Trailing at) }
+    ensures tag { (at : ℕ) → IsErrOf result (errors.Tag at) → GoWrongAt bytes.now at ×
+        IsTagPlace (take at bytes.now) }
+    ensures at_tag { (at : ℕ) → GoWrongAt bytes.now at → IsTagPlace (take at bytes.now) →
+        IsErrOrMemory result (errors.Tag at) }
+    ensures range { (at : ℕ) → IsErrOf result (errors.Range at) → GoWrongAt bytes.now at ×
+        (IsTagPlace (take at bytes.now) → ⊥) }
+    ensures at_other { (at : ℕ) → GoWrongAt bytes.now at → (IsTagPlace (take at bytes.now) → ⊥) →
+        IsErrOrMemory result (errors.Range at) }
+    ensures trailing { (at : ℕ) → IsErrOf result (errors.Trailing at) →
+        IsMessage (take at bytes.now) × (at < length bytes.now) }
+    ensures followed { (at : ℕ) → at < length bytes.now → IsMessage (take at bytes.now) →
+        IsErrOrMemory result (errors.Trailing at) }
 {
     whole_of(alloc, bytes)
 }

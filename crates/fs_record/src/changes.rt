@@ -90,7 +90,8 @@ fn link(
     file: FileId,
 ) -> Result<(), Memory>
     requires { AreRecords (seen records.old) }
-    ensures ok { OnOk result (seen records.new ≡ records_after (seen records.old) (SetChild dir.now name (Some file))) }
+    ensures ok { OnOk result (seen records.new ≡
+        records_after (seen records.old) (SetChild dir.now name (Some file))) }
     ensures err { OnErr result (seen records.new ≡ seen records.old) }
 {
     match records.get_mut(dir) {
@@ -135,7 +136,8 @@ fn make(
     name: &Name,
 ) -> Result<(), Memory>
     requires { AreRecords (seen records.old) }
-    ensures ok { OnOk result (seen records.new ≡ records_after (seen records.old) (NewNode file.now kind dir.now name.now)) }
+    ensures ok { OnOk result (seen records.new ≡
+        records_after (seen records.old) (NewNode file.now kind dir.now name.now)) }
     ensures err { OnErr result (seen records.new ≡ seen records.old) }
 {
     let node = Node {
@@ -168,7 +170,9 @@ fn open(
     file: &FileId,
     handle: Handle,
 ) -> Result<(), Memory>
-    ensures ok { OnOk result (seen records.new ≡ records_after (seen records.old) (AddHandle file.now handle.session handle.h handle.modes)) }
+    ensures ok { OnOk result (seen records.new ≡
+        records_after (seen records.old)
+        (AddHandle file.now handle.session handle.h handle.modes)) }
     ensures err { OnErr result (seen records.new ≡ seen records.old) }
 {
     match records.get_mut(file) {
@@ -186,7 +190,8 @@ fn close(
     session: Session,
     h: u32,
 )
-    ensures { seen records.new ≡ records_after (seen records.old) (RemoveHandle file.now session h) }
+    ensures { seen records.new ≡
+        records_after (seen records.old) (RemoveHandle file.now session h) }
 {
     match records.get_mut(file) {
         Some(record) => handles::close(&mut record.node.handles, alloc, session, h),
@@ -211,7 +216,8 @@ fn set(records: &mut BTreeMap<FileId, Record>, file: &FileId, size: u64, stamp: 
 /// Sets the next number of the file, if it has a record.
 #[tactic(auto, using(crate::proofs::Seen::seens))]
 pub fn set_next(records: &mut BTreeMap<FileId, Record>, file: &FileId, next: u64)
-    ensures { seen records.new ≡ with_next (seen records.old) file.now next (map.get (seen records.old) file.now) }
+    ensures { seen records.new ≡
+        with_next (seen records.old) file.now next (map.get (seen records.old) file.now) }
 {
     match records.get_mut(file) {
         Some(record) => record.next = next,

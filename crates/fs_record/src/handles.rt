@@ -12,7 +12,8 @@ use std::alloc::Global;
 /// Lets the session have this open under its number, in place of what it had under it.
 #[tactic(auto, using(crate::proofs::HandleSteps::without_absent))]
 pub fn reopen(handles: &mut List<Handle>, alloc: Global, new: Handle) -> Result<(), Memory>
-    ensures ok { OnOk result (handles.new ≡ with_handle (without_handle handles.old new.session new.h) new) }
+    ensures ok { OnOk result (handles.new ≡
+        with_handle (without_handle handles.old new.session new.h) new) }
     ensures err { OnErr result (handles.new ≡ handles.old) }
 {
     if find(handles.as_slice(), new.session, new.h).is_none() {

@@ -23,7 +23,8 @@ ghost use Rattle.fs_record.specs.declared.record.Record.{Record};
 /// An effect that meets its file changes what a session sees of every field, but for what other sessions have, just
 /// as it changes the values that the session keeps. Every other effect changes nothing.
 pub fn values_follow_effects()
-    ensures met { (m : RecordMap) (s : Session) (field : Field) (e : Effect) → AreRecords m → is_other field ≡ false → is_met m e ≡ true →
+    ensures met { (m : RecordMap) (s : Session) (field : Field) (e : Effect) → AreRecords m →
+        is_other field ≡ false → is_met m e ≡ true →
         value_of (records_after m e) s field ≡ value_after s field (value_of m s field) e }
     ensures unmet { (m : RecordMap) (e : Effect) → is_met m e ≡ false → records_after m e ≡ m }
 {}
@@ -31,37 +32,43 @@ pub fn values_follow_effects()
 /// The effects of a plain operation, one after the other, lead to the space that the operation leads to, by the
 /// reply that it gets there.
 pub fn effects_are_the_step()
-    ensures { (m : NodeMap) (by : Session) (op : Op) (reply : Reply) → is_plain op ≡ true → (step m by op).reply ≡ reply →
+    ensures { (m : NodeMap) (by : Session) (op : Op) (reply : Reply) → is_plain op ≡ true →
+        (step m by op).reply ≡ reply →
         nodes_after_all m (effects_of by op reply) ≡ (step m by op).nodes }
 {}
 
 /// An effect does to records without their next numbers what it does to nodes.
 pub fn nodes_change_alike()
     ensures node { (m : RecordMap) (id : List ℕ) → get (nodes_of m) id ≡ node_of (get m id) }
-    ensures effect { (m : RecordMap) (e : Effect) → nodes_of (records_after m e) ≡ nodes_after (nodes_of m) e }
+    ensures effect { (m : RecordMap) (e : Effect) →
+        nodes_of (records_after m e) ≡ nodes_after (nodes_of m) e }
 {}
 
 /// A number that a directory gives is the least free one; where it gives none it is too deep or none is free. It
 /// then goes on behind that number, and nothing else changes.
 pub fn gifts_are_least()
-    ensures some { (m : RecordMap) (dir borne : List ℕ) (k : ℕ) → fresh_number m dir borne ≡ Some k → IsLeastFree (next_of (get m dir)) borne k }
+    ensures some { (m : RecordMap) (dir borne : List ℕ) (k : ℕ) →
+        fresh_number m dir borne ≡ Some k → IsLeastFree (next_of (get m dir)) borne k }
     ensures none { (m : RecordMap) (dir borne : List ℕ) → fresh_number m dir borne ≡ None →
         (length dir ≡ 32) ⊎ ((k : ℕ) → next_of (get m dir) ≤ k → k < 2 ^ 32 → is_borne borne k ≡ true) }
     ensures here { (m : RecordMap) (dir : List ℕ) (k : ℕ) (r : Record) → get m dir ≡ Some r →
         get (records_given m dir (Some k)) dir ≡ Some (record { node = r.node; next = k + 1 }) }
-    ensures elsewhere { (m : RecordMap) (dir id : List ℕ) (k : Option ℕ) → same id dir ≡ false → get (records_given m dir k) id ≡ get m id }
+    ensures elsewhere { (m : RecordMap) (dir id : List ℕ) (k : Option ℕ) → same id dir ≡ false →
+        get (records_given m dir k) id ≡ get m id }
 {}
 
 /// An effect keeps the next number of every record that stands after it, and a record that was not there begins
 /// with 1.
 pub fn effects_keep_next_numbers()
-    ensures { (m : RecordMap) (e : Effect) (id : List ℕ) → is_some (get (records_after m e) id) ≡ true →
+    ensures { (m : RecordMap) (e : Effect) (id : List ℕ) → is_some (get (records_after m e) id) ≡
+        true →
         next_of (get (records_after m e) id) ≡ next_of (get m id) }
 {}
 
 /// While its record stands a directory gives no number twice, whatever else happens.
 pub fn no_number_is_given_twice()
-    ensures { (m : RecordMap) (dir borne later : List ℕ) (k j : ℕ) (changes : List Change) → fresh_number m dir borne ≡ Some k →
+    ensures { (m : RecordMap) (dir borne later : List ℕ) (k j : ℕ) (changes : List Change) →
+        fresh_number m dir borne ≡ Some k →
         stands dir (records_given m dir (Some k)) changes ≡ true → fresh_number (after_changes (records_given m dir (Some k)) changes) dir later ≡ Some j → k < j }
 {}
 
@@ -69,5 +76,6 @@ pub fn no_number_is_given_twice()
 pub fn selves_are_by_session()
     ensures told { (s : Session) (handles : List Handle) → handles_are_in_order handles ≡ true →
         told_of s (selves_of handles) ≡ (if has_handle s handles then Some (modes_of s handles) else None) }
-    ensures rising { (handles : List Handle) → handles_are_in_order handles ≡ true → is_by_session (selves_of handles) ≡ true }
+    ensures rising { (handles : List Handle) → handles_are_in_order handles ≡ true →
+        is_by_session (selves_of handles) ≡ true }
 {}

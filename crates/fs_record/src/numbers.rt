@@ -25,10 +25,14 @@ pub fn fresh(
     borne: &[u32],
 ) -> Result<FileId, FreshError>
     requires { AreRecords (seen records.old) }
-    ensures ok { IfOk result (λ id. Some id ≡ option_map (child dir.now) (fresh_number (seen records.old) dir.now borne.now)) }
-    ensures records { OnOk result (seen records.new ≡ records_given (seen records.old) dir.now (fresh_number (seen records.old) dir.now borne.now)) }
+    ensures ok { IfOk result (λ id. Some id ≡
+        option_map (child dir.now) (fresh_number (seen records.old) dir.now borne.now)) }
+    ensures records { OnOk result (seen records.new ≡
+        records_given (seen records.old) dir.now
+        (fresh_number (seen records.old) dir.now borne.now)) }
     ensures no_dir { IsErrOf result NoDir ↔ (is_directory (seen records.old) dir.now ≡ false) }
-    ensures no_ids { IsErrOf result NoIds ↔ ((is_directory (seen records.old) dir.now ≡ true) × (fresh_number (seen records.old) dir.now borne.now ≡ None)) }
+    ensures no_ids { IsErrOf result NoIds ↔ ((is_directory (seen records.old) dir.now ≡ true) ×
+        (fresh_number (seen records.old) dir.now borne.now ≡ None)) }
     ensures err { OnErr result (seen records.new ≡ seen records.old) }
 {
     if !is_directory(records, dir) {

@@ -68,7 +68,8 @@ fn made(
     kind: Kind,
     file: &FileId,
 ) -> Result<List<Effect>, Memory>
-    ensures { IfOk result (λ told. told ≡ SetChild dir.now name.now (Some file.now) ∷ NewNode file.now kind dir.now name.now ∷ []) }
+    ensures { IfOk result (λ told. told ≡ SetChild dir.now name.now (Some file.now) ∷
+        NewNode file.now kind dir.now name.now ∷ []) }
 {
     let mut told = single(
         alloc,

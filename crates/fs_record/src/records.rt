@@ -111,7 +111,8 @@ impl Records {
     /// begins to live. Where memory is wanting nothing changes.
     pub fn apply(&mut self, alloc: Global, e: &Effect) -> Result<(), Memory>
         ensures ok { OnOk result (self.new ≡ records_after self.old e.now) }
-        ensures values { OnOk result ((s : TheSession) (field : TheField) → is_other field ≡ false → is_met self.old e.now ≡ true →
+        ensures values { OnOk result ((s : TheSession) (field : TheField) → is_other field ≡ false →
+            is_met self.old e.now ≡ true →
             value_of self.new s field ≡ value_after s field (value_of self.old s field) e.now) }
         ensures err { OnErr result (self.new ≡ self.old) }
     {
@@ -128,10 +129,14 @@ impl Records {
         dir: &FileId,
         borne: &List<u32>,
     ) -> Result<FileId, FreshError>
-        ensures ok { IfOk result (λ id. Some id ≡ option_map (child dir.now) (fresh_number self.old dir.now borne.now)) }
-        ensures records { OnOk result (self.new ≡ records_given self.old dir.now (fresh_number self.old dir.now borne.now)) }
+        ensures ok { IfOk result (λ id. Some id ≡
+            option_map (child dir.now) (fresh_number self.old dir.now borne.now)) }
+        ensures records { OnOk result (self.new ≡
+            records_given self.old dir.now (fresh_number self.old dir.now borne.now)) }
         ensures no_dir { IsErrOf result NoDir ↔ (is_directory self.old dir.now ≡ false) }
-        ensures no_ids { IsErrOf result NoIds ↔ ((is_directory self.old dir.now ≡ true) × (fresh_number self.old dir.now borne.now ≡ None)) }
+        ensures no_ids { IsErrOf result NoIds ↔
+            ((is_directory self.old dir.now ≡ true) ×
+            (fresh_number self.old dir.now borne.now ≡ None)) }
         ensures err { OnErr result (self.new ≡ self.old) }
     {
         numbers::fresh(alloc, &mut self.records, dir, borne.as_slice())

@@ -90,7 +90,8 @@ fn put_create(
     id: &Option<FileId>,
     out: &mut Vec<u8>,
 ) -> Result<(), Memory>
-    ensures { OnOk result (out.new.items ≡ out.old.items ++ op_text (Op.Create dir.now name.now kind id.now)) }
+    ensures { OnOk result (out.new.items ≡ out.old.items ++
+        op_text (Op.Create dir.now name.now kind id.now)) }
 {
     put_bytes(b"create", out)?;
     next_id(alloc, dir, out)?;
@@ -106,7 +107,8 @@ fn put_open(
     modes: Modes,
     out: &mut Vec<u8>,
 ) -> Result<(), Memory>
-    ensures { OnOk result (out.new.items ≡ out.old.items ++ op_text (Op.OpenFile file.now h modes)) }
+    ensures { OnOk result (out.new.items ≡ out.old.items ++
+        op_text (Op.OpenFile file.now h modes)) }
 {
     put_bytes(b"open", out)?;
     next_id(alloc, file, out)?;
@@ -130,7 +132,8 @@ fn put_set(
     stamp: u64,
     out: &mut Vec<u8>,
 ) -> Result<(), Memory>
-    ensures { OnOk result (out.new.items ≡ out.old.items ++ op_text (Op.Set file.now h size stamp)) }
+    ensures { OnOk result (out.new.items ≡ out.old.items ++
+        op_text (Op.Set file.now h size stamp)) }
 {
     put_bytes(b"set", out)?;
     next_id(alloc, file, out)?;
@@ -155,7 +158,8 @@ fn put_rename(
     dname: &Name,
     out: &mut Vec<u8>,
 ) -> Result<(), Memory>
-    ensures { OnOk result (out.new.items ≡ out.old.items ++ op_text (Op.Rename sdir.now sname.now ddir.now dname.now)) }
+    ensures { OnOk result (out.new.items ≡ out.old.items ++
+        op_text (Op.Rename sdir.now sname.now ddir.now dname.now)) }
 {
     put_bytes(b"rename", out)?;
     next_id(alloc, sdir, out)?;

@@ -113,7 +113,8 @@ pub(crate) fn next_who(alloc: Global, who: Option<Peer>, out: &mut Vec<u8>) -> R
 
 /// A space and the accesses, a space and the denials.
 pub(crate) fn next_modes(modes: Modes, out: &mut Vec<u8>) -> Result<(), Memory>
-    ensures { OnOk result (out.new.items ≡ out.old.items ++ (32 ∷ acc_text modes ++ 32 ∷ deny_text modes)) }
+    ensures { OnOk result (out.new.items ≡ out.old.items ++
+        (32 ∷ acc_text modes ++ 32 ∷ deny_text modes)) }
 {
     out.push(b' ')?;
     out.extend_from_slice(modes.acc_text().as_bytes())?;

@@ -36,7 +36,8 @@ fn put_found(
     node: Option<&Node>,
     out: &mut Vec<u8>,
 ) -> Result<(), Memory>
-    ensures { OnOk result (out.new.items ≡ out.old.items ++ file_text id.now (option_copied node.entry)) }
+    ensures { OnOk result (out.new.items ≡ out.old.items ++
+        file_text id.now (option_copied node.entry)) }
 {
     match node {
         None => Ok(()),

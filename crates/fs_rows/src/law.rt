@@ -12,5 +12,6 @@ pub fn tables_are_without_conflict()
 
 /// No two rows of a table have one number.
 pub fn numbers_tell_rows_apart()
-    ensures { (rows : List Row) → IsTable rows → (a b : Row) → In a rows → In b rows → a.no ≡ b.no → a ≡ b }
+    ensures { (rows : List Row) → IsTable rows → (a b : Row) → In a rows → In b rows → a.no ≡ b.no →
+        a ≡ b }
 {}

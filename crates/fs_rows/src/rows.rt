@@ -58,9 +58,11 @@ impl Rows {
         requires new { list_any (has_no no) self.old ≡ false }
         requires plain { is_plain field.now ≡ true }
         ensures answer { IfOk result (λ asked. asked ≡ answer self.old session field.now kind) }
-        ensures rows { IfOk result (λ asked. self.new ≡ rows_after asked (given_row no session field.now kind until) self.old) }
+        ensures rows { IfOk result (λ asked. self.new ≡
+            rows_after asked (given_row no session field.now kind until) self.old) }
         ensures err { OnErr result (self.new ≡ self.old) }
-        ensures least { (blocker : LeaseNo) → result ≡ Ok (Asked.Wait blocker) → IsLeastAgainst self.old session field.now kind blocker }
+        ensures least { (blocker : LeaseNo) → result ≡ Ok (Asked.Wait blocker) →
+            IsLeastAgainst self.old session field.now kind blocker }
         ensures table { IsTable self.new }
     {
         ask(&mut self.rows, alloc, no, session, field, kind, until)
@@ -158,7 +160,8 @@ fn ask(
     until: u64,
 ) -> Result<Asked, Memory>
     ensures answer { IfOk result (λ asked. asked ≡ answer rows.old.items session field.now kind) }
-    ensures rows { IfOk result (λ asked. rows.new.items ≡ rows_after asked (given_row no session field.now kind until) rows.old.items) }
+    ensures rows { IfOk result (λ asked. rows.new.items ≡
+        rows_after asked (given_row no session field.now kind until) rows.old.items) }
     ensures err { OnErr result (rows.new.items ≡ rows.old.items) }
 {
     if let Some(txn) = table::lock_on(rows, field) {

@@ -18,7 +18,8 @@ pub fn cut(bytes: &[u8], b: u8) -> (&[u8], Option<&[u8]>)
 
 /// The first line of a text, and what follows it where something does.
 pub fn next_line(bytes: &[u8]) -> (&[u8], Option<&[u8]>)
-    ensures lines { lines_of bytes.now ≡ result.0.now ∷ lines_after (option_map (λ r. r.now) result.1) }
+    ensures lines { lines_of bytes.now ≡
+        result.0.now ∷ lines_after (option_map (λ r. r.now) result.1) }
     ensures shorter { IfSome result.1 (λ r. length r.now < length bytes.now) }
 {
     let (line, rest) = cut(bytes, b'\n');

@@ -35,7 +35,8 @@ pub fn event_at(alloc: Global, line: &[u8]) -> Result<Option<Event>, Memory>
 
 fn event_of(alloc: Global, words: &[Word]) -> Result<Option<Event>, Memory>
     ensures found { IfOk result (λ o. IfSome o (λ e. IsRead e words.now)) }
-    ensures none { IfOk result (λ o. IfNone o ((digits : Seq ℕ) (e : Told) → AreEventWords digits e words.now → ⊥)) }
+    ensures none { IfOk result (λ o. IfNone o ((digits : Seq ℕ) (e : Told) →
+        AreEventWords digits e words.now → ⊥)) }
 {
     let Some((reading, rest)) = number_up_to(alloc, LATEST, words)? else {
         return Ok(None);
@@ -58,10 +59,12 @@ fn what_of(
     session: Session,
     operands: &[Word],
 ) -> Result<Option<What>, Memory>
-    ensures found { IfOk result (λ o. IfSome o (λ w. (digits : Seq ℕ) → Bare verb.now ∷ Bare (session_text digits) ∷ operands.now ≡ what_words digits w)) }
+    ensures found { IfOk result (λ o. IfSome o (λ w. (digits : Seq ℕ) →
+        Bare verb.now ∷ Bare (session_text digits) ∷ operands.now ≡ what_words digits w)) }
     ensures session { IfOk result (λ o. IfSome o (λ w. session_of w ≡ session)) }
     ensures fits { IfOk result (λ o. IfSome o (λ w. FitsWhat w)) }
-    ensures none { IfOk result (λ o. IfNone o ((digits : Seq ℕ) (w : Happening) → FitsWhat w → Bare verb.now ∷ Bare (session_text digits) ∷ operands.now ≡ what_words digits w → ⊥)) }
+    ensures none { IfOk result (λ o. IfNone o ((digits : Seq ℕ) (w : Happening) → FitsWhat w →
+        Bare verb.now ∷ Bare (session_text digits) ∷ operands.now ≡ what_words digits w → ⊥)) }
 {
     match verb {
         b"join" => Ok(join_of(session, operands)),
@@ -71,10 +74,12 @@ fn what_of(
 }
 
 fn join_of(session: Session, operands: &[Word]) -> Option<What>
-    ensures found { IfSome result (λ w. (digits : Seq ℕ) → Bare (codes "join") ∷ Bare (session_text digits) ∷ operands.now ≡ what_words digits w) }
+    ensures found { IfSome result (λ w. (digits : Seq ℕ) →
+        Bare (codes "join") ∷ Bare (session_text digits) ∷ operands.now ≡ what_words digits w) }
     ensures session { IfSome result (λ w. session_of w ≡ session) }
     ensures fits { IfSome result (λ w. FitsWhat w) }
-    ensures none { IfNone result ((digits : Seq ℕ) (w : Happening) → FitsWhat w → Bare (codes "join") ∷ Bare (session_text digits) ∷ operands.now ≡ what_words digits w → ⊥) }
+    ensures none { IfNone result ((digits : Seq ℕ) (w : Happening) → FitsWhat w →
+        Bare (codes "join") ∷ Bare (session_text digits) ∷ operands.now ≡ what_words digits w → ⊥) }
 {
     if !operands.is_empty() {
         return None;
@@ -83,10 +88,12 @@ fn join_of(session: Session, operands: &[Word]) -> Option<What>
 }
 
 fn do_of(alloc: Global, session: Session, operands: &[Word]) -> Result<Option<What>, Memory>
-    ensures found { IfOk result (λ o. IfSome o (λ w. (digits : Seq ℕ) → Bare (codes "do") ∷ Bare (session_text digits) ∷ operands.now ≡ what_words digits w)) }
+    ensures found { IfOk result (λ o. IfSome o (λ w. (digits : Seq ℕ) →
+        Bare (codes "do") ∷ Bare (session_text digits) ∷ operands.now ≡ what_words digits w)) }
     ensures session { IfOk result (λ o. IfSome o (λ w. session_of w ≡ session)) }
     ensures fits { IfOk result (λ o. IfSome o (λ w. FitsWhat w)) }
-    ensures none { IfOk result (λ o. IfNone o ((digits : Seq ℕ) (w : Happening) → FitsWhat w → Bare (codes "do") ∷ Bare (session_text digits) ∷ operands.now ≡ what_words digits w → ⊥)) }
+    ensures none { IfOk result (λ o. IfNone o ((digits : Seq ℕ) (w : Happening) → FitsWhat w →
+        Bare (codes "do") ∷ Bare (session_text digits) ∷ operands.now ≡ what_words digits w → ⊥)) }
 {
     let Some(op) = read_op(alloc, operands)? else {
         return Ok(None);

@@ -21,7 +21,8 @@ use std::alloc::Global;
 /// The bare word at the front, and the words behind it.
 pub fn bare(words: &[Word]) -> Option<(&[u8], &[Word])>
     ensures found { IfSome result (λ p. words.now ≡ Bare p.0.now ∷ p.1.now) }
-    ensures none { IfNone result ((bytes : Seq ℕ) (rest : Seq Spelled) → words.now ≡ Bare bytes ∷ rest → ⊥) }
+    ensures none { IfNone result ((bytes : Seq ℕ) (rest : Seq Spelled) →
+        words.now ≡ Bare bytes ∷ rest → ⊥) }
 {
     match words {
         [Word::Bare(bytes), rest @ ..] => Some((bytes.as_slice(), rest)),
@@ -32,7 +33,8 @@ pub fn bare(words: &[Word]) -> Option<(&[u8], &[Word])>
 /// The quoted word at the front, and the words behind it.
 pub fn quoted(words: &[Word]) -> Option<(&[u8], &[Word])>
     ensures found { IfSome result (λ p. words.now ≡ Quoted p.0.now ∷ p.1.now) }
-    ensures none { IfNone result ((bytes : Seq ℕ) (rest : Seq Spelled) → words.now ≡ Quoted bytes ∷ rest → ⊥) }
+    ensures none { IfNone result ((bytes : Seq ℕ) (rest : Seq Spelled) →
+        words.now ≡ Quoted bytes ∷ rest → ⊥) }
 {
     match words {
         [Word::Quoted(bytes), rest @ ..] => Some((bytes.as_slice(), rest)),
@@ -48,7 +50,8 @@ pub fn number_up_to(
 ) -> Result<Option<(u64, &[Word])>, Memory>
     ensures found { IfOk result (λ o. IfSome o (λ p. words.now ≡ Bare (decimal p.0) ∷ p.1.now)) }
     ensures within { IfOk result (λ o. IfSome o (λ p. p.0 ≤ most)) }
-    ensures none { IfOk result (λ o. IfNone o ((n : ℕ) (rest : Seq Spelled) → n ≤ most → words.now ≡ Bare (decimal n) ∷ rest → ⊥)) }
+    ensures none { IfOk result (λ o. IfNone o ((n : ℕ) (rest : Seq Spelled) → n ≤ most →
+        words.now ≡ Bare (decimal n) ∷ rest → ⊥)) }
 {
     let Some((digits, rest)) = bare(words) else {
         return Ok(None);
@@ -66,7 +69,8 @@ pub fn number_up_to(
 pub fn id_of(alloc: Global, words: &[Word]) -> Result<Option<(FileId, &[Word])>, Memory>
     ensures found { IfOk result (λ o. IfSome o (λ p. words.now ≡ Bare (id_text p.0) ∷ p.1.now)) }
     ensures valid { IfOk result (λ o. IfSome o (λ p. IsId p.0)) }
-    ensures none { IfOk result (λ o. IfNone o ((id : Seq ℕ) (rest : Seq Spelled) → IsId id → words.now ≡ Bare (id_text id) ∷ rest → ⊥)) }
+    ensures none { IfOk result (λ o. IfNone o ((id : Seq ℕ) (rest : Seq Spelled) → IsId id →
+        words.now ≡ Bare (id_text id) ∷ rest → ⊥)) }
 {
     let Some((text, rest)) = bare(words) else {
         return Ok(None);
@@ -83,7 +87,8 @@ pub fn id_of(alloc: Global, words: &[Word]) -> Result<Option<(FileId, &[Word])>,
 pub fn name_of(alloc: Global, words: &[Word]) -> Result<Option<(Name, &[Word])>, Memory>
     ensures found { IfOk result (λ o. IfSome o (λ p. words.now ≡ Quoted p.0 ∷ p.1.now)) }
     ensures valid { IfOk result (λ o. IfSome o (λ p. IsName p.0)) }
-    ensures none { IfOk result (λ o. IfNone o ((name : Seq ℕ) (rest : Seq Spelled) → IsName name → words.now ≡ Quoted name ∷ rest → ⊥)) }
+    ensures none { IfOk result (λ o. IfNone o ((name : Seq ℕ) (rest : Seq Spelled) → IsName name →
+        words.now ≡ Quoted name ∷ rest → ⊥)) }
 {
     let Some((bytes, rest)) = quoted(words) else {
         return Ok(None);
@@ -98,9 +103,11 @@ pub fn name_of(alloc: Global, words: &[Word]) -> Result<Option<(Name, &[Word])>,
 
 /// The identifier of a directory and a name in it at the front, and the words behind them.
 pub fn place_of(alloc: Global, words: &[Word]) -> Result<Option<(FileId, Name, &[Word])>, Memory>
-    ensures found { IfOk result (λ o. IfSome o (λ p. words.now ≡ Bare (id_text p.0) ∷ Quoted p.1 ∷ p.2.now)) }
+    ensures found { IfOk result
+        (λ o. IfSome o (λ p. words.now ≡ Bare (id_text p.0) ∷ Quoted p.1 ∷ p.2.now)) }
     ensures valid { IfOk result (λ o. IfSome o (λ p. IsId p.0 × IsName p.1)) }
-    ensures none { IfOk result (λ o. IfNone o ((dir name : Seq ℕ) (rest : Seq Spelled) → IsId dir → IsName name → words.now ≡ Bare (id_text dir) ∷ Quoted name ∷ rest → ⊥)) }
+    ensures none { IfOk result (λ o. IfNone o ((dir name : Seq ℕ) (rest : Seq Spelled) → IsId dir →
+        IsName name → words.now ≡ Bare (id_text dir) ∷ Quoted name ∷ rest → ⊥)) }
 {
     let Some((dir, rest)) = id_of(alloc, words)? else {
         return Ok(None);
@@ -113,9 +120,11 @@ pub fn place_of(alloc: Global, words: &[Word]) -> Result<Option<(FileId, Name, &
 
 /// The identifier of a file and the number of a handle at the front, and the words behind them.
 pub fn handle_of(alloc: Global, words: &[Word]) -> Result<Option<(FileId, u32, &[Word])>, Memory>
-    ensures found { IfOk result (λ o. IfSome o (λ p. words.now ≡ Bare (id_text p.0) ∷ Bare (decimal p.1) ∷ p.2.now)) }
+    ensures found { IfOk result
+        (λ o. IfSome o (λ p. words.now ≡ Bare (id_text p.0) ∷ Bare (decimal p.1) ∷ p.2.now)) }
     ensures valid { IfOk result (λ o. IfSome o (λ p. IsId p.0 × (p.1 < 2 ^ 32))) }
-    ensures none { IfOk result (λ o. IfNone o ((file : Seq ℕ) (h : ℕ) (rest : Seq Spelled) → IsId file → h < 2 ^ 32 → words.now ≡ Bare (id_text file) ∷ Bare (decimal h) ∷ rest → ⊥)) }
+    ensures none { IfOk result (λ o. IfNone o ((file : Seq ℕ) (h : ℕ) (rest : Seq Spelled) →
+        IsId file → h < 2 ^ 32 → words.now ≡ Bare (id_text file) ∷ Bare (decimal h) ∷ rest → ⊥)) }
 {
     let Some((file, rest)) = id_of(alloc, words)? else {
         return Ok(None);
@@ -129,7 +138,8 @@ pub fn handle_of(alloc: Global, words: &[Word]) -> Result<Option<(FileId, u32, &
 /// The kind at the front, and the words behind it.
 pub fn kind_of(words: &[Word]) -> Option<(Kind, &[Word])>
     ensures found { IfSome result (λ p. words.now ≡ Bare (kind_text p.0) ∷ p.1.now) }
-    ensures none { IfNone result ((kind : Sort) (rest : Seq Spelled) → words.now ≡ Bare (kind_text kind) ∷ rest → ⊥) }
+    ensures none { IfNone result ((kind : Sort) (rest : Seq Spelled) →
+        words.now ≡ Bare (kind_text kind) ∷ rest → ⊥) }
 {
     let (text, rest) = bare(words)?;
     Some((kind_at(text)?, rest))
@@ -148,9 +158,11 @@ fn kind_at(text: &[u8]) -> Option<Kind>
 
 /// The identifier of a directory and a name in it that the words are.
 pub fn only_place(alloc: Global, words: &[Word]) -> Result<Option<(FileId, Name)>, Memory>
-    ensures found { IfOk result (λ o. IfSome o (λ p. words.now ≡ Bare (id_text p.0) ∷ Quoted p.1 ∷ [])) }
+    ensures found { IfOk result
+        (λ o. IfSome o (λ p. words.now ≡ Bare (id_text p.0) ∷ Quoted p.1 ∷ [])) }
     ensures valid { IfOk result (λ o. IfSome o (λ p. IsId p.0 × IsName p.1)) }
-    ensures none { IfOk result (λ o. IfNone o ((dir name : Seq ℕ) → IsId dir → IsName name → words.now ≡ Bare (id_text dir) ∷ Quoted name ∷ [] → ⊥)) }
+    ensures none { IfOk result (λ o. IfNone o ((dir name : Seq ℕ) → IsId dir → IsName name →
+        words.now ≡ Bare (id_text dir) ∷ Quoted name ∷ [] → ⊥)) }
 {
     let Some((dir, name, rest)) = place_of(alloc, words)? else {
         return Ok(None);
@@ -165,7 +177,8 @@ pub fn only_place(alloc: Global, words: &[Word]) -> Result<Option<(FileId, Name)
 pub fn only_id(alloc: Global, words: &[Word]) -> Result<Option<FileId>, Memory>
     ensures found { IfOk result (λ o. IfSome o (λ id. words.now ≡ Bare (id_text id) ∷ [])) }
     ensures valid { IfOk result (λ o. IfSome o (λ id. IsId id)) }
-    ensures none { IfOk result (λ o. IfNone o ((id : Seq ℕ) → IsId id → words.now ≡ Bare (id_text id) ∷ [] → ⊥)) }
+    ensures none { IfOk result (λ o. IfNone o ((id : Seq ℕ) → IsId id →
+        words.now ≡ Bare (id_text id) ∷ [] → ⊥)) }
 {
     let Some((id, rest)) = id_of(alloc, words)? else {
         return Ok(None);
@@ -180,7 +193,8 @@ pub fn only_id(alloc: Global, words: &[Word]) -> Result<Option<FileId>, Memory>
 pub fn modes_of(words: &[Word]) -> Option<Modes>
     ensures found { IfSome result (λ m. words.now ≡ Bare (acc_text m) ∷ Bare (deny_text m) ∷ []) }
     ensures valid { IfSome result (λ m. has_access m ≡ true) }
-    ensures none { IfNone result ((m : Six) → has_access m ≡ true → words.now ≡ Bare (acc_text m) ∷ Bare (deny_text m) ∷ [] → ⊥) }
+    ensures none { IfNone result ((m : Six) → has_access m ≡ true →
+        words.now ≡ Bare (acc_text m) ∷ Bare (deny_text m) ∷ [] → ⊥) }
 {
     let (acc, rest) = bare(words)?;
     let (deny, rest) = bare(rest)?;

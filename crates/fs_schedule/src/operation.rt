@@ -34,7 +34,8 @@ pub enum Verb {
 pub fn read_op(alloc: Global, words: &[Word]) -> Result<Option<Op>, Memory>
     ensures found { IfOk result (λ o. IfSome o (λ op. words.now ≡ op_words op)) }
     ensures fits { IfOk result (λ o. IfSome o (λ op. FitsOp op)) }
-    ensures none { IfOk result (λ o. IfNone o ((op : Asked) → FitsOp op → words.now ≡ op_words op → ⊥)) }
+    ensures none { IfOk result (λ o. IfNone o ((op : Asked) → FitsOp op → words.now ≡ op_words op →
+        ⊥)) }
 {
     let Some((text, operands)) = bare(words) else {
         return Ok(None);
@@ -65,9 +66,11 @@ fn verb_of(text: &[u8]) -> Option<Verb>
 }
 
 fn op_of(alloc: Global, verb: Verb, operands: &[Word]) -> Result<Option<Op>, Memory>
-    ensures found { IfOk result (λ o. IfSome o (λ op. Bare (verb_text verb) ∷ operands.now ≡ op_words op)) }
+    ensures found { IfOk result (λ o. IfSome o (λ op. Bare (verb_text verb) ∷ operands.now ≡
+        op_words op)) }
     ensures fits { IfOk result (λ o. IfSome o (λ op. FitsOp op)) }
-    ensures none { IfOk result (λ o. IfNone o ((op : Asked) → FitsOp op → Bare (verb_text verb) ∷ operands.now ≡ op_words op → ⊥)) }
+    ensures none { IfOk result (λ o. IfNone o ((op : Asked) → FitsOp op →
+        Bare (verb_text verb) ∷ operands.now ≡ op_words op → ⊥)) }
 {
     match verb {
         Verb::Lookup => lookup_of(alloc, operands),
@@ -84,9 +87,11 @@ fn op_of(alloc: Global, verb: Verb, operands: &[Word]) -> Result<Option<Op>, Mem
 }
 
 fn lookup_of(alloc: Global, operands: &[Word]) -> Result<Option<Op>, Memory>
-    ensures found { IfOk result (λ o. IfSome o (λ op. Bare (verb_text verb.Lookup) ∷ operands.now ≡ op_words op)) }
+    ensures found { IfOk result (λ o. IfSome o (λ op. Bare (verb_text verb.Lookup) ∷ operands.now ≡
+        op_words op)) }
     ensures fits { IfOk result (λ o. IfSome o (λ op. FitsOp op)) }
-    ensures none { IfOk result (λ o. IfNone o ((op : Asked) → FitsOp op → Bare (verb_text verb.Lookup) ∷ operands.now ≡ op_words op → ⊥)) }
+    ensures none { IfOk result (λ o. IfNone o ((op : Asked) → FitsOp op →
+        Bare (verb_text verb.Lookup) ∷ operands.now ≡ op_words op → ⊥)) }
 {
     let Some((dir, name)) = only_place(alloc, operands)? else {
         return Ok(None);
@@ -95,9 +100,11 @@ fn lookup_of(alloc: Global, operands: &[Word]) -> Result<Option<Op>, Memory>
 }
 
 fn delete_of(alloc: Global, operands: &[Word]) -> Result<Option<Op>, Memory>
-    ensures found { IfOk result (λ o. IfSome o (λ op. Bare (verb_text verb.Delete) ∷ operands.now ≡ op_words op)) }
+    ensures found { IfOk result (λ o. IfSome o (λ op. Bare (verb_text verb.Delete) ∷ operands.now ≡
+        op_words op)) }
     ensures fits { IfOk result (λ o. IfSome o (λ op. FitsOp op)) }
-    ensures none { IfOk result (λ o. IfNone o ((op : Asked) → FitsOp op → Bare (verb_text verb.Delete) ∷ operands.now ≡ op_words op → ⊥)) }
+    ensures none { IfOk result (λ o. IfNone o ((op : Asked) → FitsOp op →
+        Bare (verb_text verb.Delete) ∷ operands.now ≡ op_words op → ⊥)) }
 {
     let Some((dir, name)) = only_place(alloc, operands)? else {
         return Ok(None);
@@ -106,9 +113,11 @@ fn delete_of(alloc: Global, operands: &[Word]) -> Result<Option<Op>, Memory>
 }
 
 fn list_of(alloc: Global, operands: &[Word]) -> Result<Option<Op>, Memory>
-    ensures found { IfOk result (λ o. IfSome o (λ op. Bare (verb_text verb.List) ∷ operands.now ≡ op_words op)) }
+    ensures found { IfOk result (λ o. IfSome o (λ op. Bare (verb_text verb.List) ∷ operands.now ≡
+        op_words op)) }
     ensures fits { IfOk result (λ o. IfSome o (λ op. FitsOp op)) }
-    ensures none { IfOk result (λ o. IfNone o ((op : Asked) → FitsOp op → Bare (verb_text verb.List) ∷ operands.now ≡ op_words op → ⊥)) }
+    ensures none { IfOk result (λ o. IfNone o ((op : Asked) → FitsOp op →
+        Bare (verb_text verb.List) ∷ operands.now ≡ op_words op → ⊥)) }
 {
     let Some(file) = only_id(alloc, operands)? else {
         return Ok(None);
@@ -117,9 +126,11 @@ fn list_of(alloc: Global, operands: &[Word]) -> Result<Option<Op>, Memory>
 }
 
 fn kind_asked(alloc: Global, operands: &[Word]) -> Result<Option<Op>, Memory>
-    ensures found { IfOk result (λ o. IfSome o (λ op. Bare (verb_text verb.Kind) ∷ operands.now ≡ op_words op)) }
+    ensures found { IfOk result (λ o. IfSome o (λ op. Bare (verb_text verb.Kind) ∷ operands.now ≡
+        op_words op)) }
     ensures fits { IfOk result (λ o. IfSome o (λ op. FitsOp op)) }
-    ensures none { IfOk result (λ o. IfNone o ((op : Asked) → FitsOp op → Bare (verb_text verb.Kind) ∷ operands.now ≡ op_words op → ⊥)) }
+    ensures none { IfOk result (λ o. IfNone o ((op : Asked) → FitsOp op →
+        Bare (verb_text verb.Kind) ∷ operands.now ≡ op_words op → ⊥)) }
 {
     let Some(file) = only_id(alloc, operands)? else {
         return Ok(None);
@@ -128,9 +139,11 @@ fn kind_asked(alloc: Global, operands: &[Word]) -> Result<Option<Op>, Memory>
 }
 
 fn info_of(alloc: Global, operands: &[Word]) -> Result<Option<Op>, Memory>
-    ensures found { IfOk result (λ o. IfSome o (λ op. Bare (verb_text verb.Info) ∷ operands.now ≡ op_words op)) }
+    ensures found { IfOk result (λ o. IfSome o (λ op. Bare (verb_text verb.Info) ∷ operands.now ≡
+        op_words op)) }
     ensures fits { IfOk result (λ o. IfSome o (λ op. FitsOp op)) }
-    ensures none { IfOk result (λ o. IfNone o ((op : Asked) → FitsOp op → Bare (verb_text verb.Info) ∷ operands.now ≡ op_words op → ⊥)) }
+    ensures none { IfOk result (λ o. IfNone o ((op : Asked) → FitsOp op →
+        Bare (verb_text verb.Info) ∷ operands.now ≡ op_words op → ⊥)) }
 {
     let Some(file) = only_id(alloc, operands)? else {
         return Ok(None);
@@ -139,9 +152,11 @@ fn info_of(alloc: Global, operands: &[Word]) -> Result<Option<Op>, Memory>
 }
 
 fn create_of(alloc: Global, operands: &[Word]) -> Result<Option<Op>, Memory>
-    ensures found { IfOk result (λ o. IfSome o (λ op. Bare (verb_text verb.Create) ∷ operands.now ≡ op_words op)) }
+    ensures found { IfOk result (λ o. IfSome o (λ op. Bare (verb_text verb.Create) ∷ operands.now ≡
+        op_words op)) }
     ensures fits { IfOk result (λ o. IfSome o (λ op. FitsOp op)) }
-    ensures none { IfOk result (λ o. IfNone o ((op : Asked) → FitsOp op → Bare (verb_text verb.Create) ∷ operands.now ≡ op_words op → ⊥)) }
+    ensures none { IfOk result (λ o. IfNone o ((op : Asked) → FitsOp op →
+        Bare (verb_text verb.Create) ∷ operands.now ≡ op_words op → ⊥)) }
 {
     let Some((dir, name, rest)) = place_of(alloc, operands)? else {
         return Ok(None);
@@ -161,9 +176,11 @@ fn create_of(alloc: Global, operands: &[Word]) -> Result<Option<Op>, Memory>
 }
 
 fn open_of(alloc: Global, operands: &[Word]) -> Result<Option<Op>, Memory>
-    ensures found { IfOk result (λ o. IfSome o (λ op. Bare (verb_text verb.Open) ∷ operands.now ≡ op_words op)) }
+    ensures found { IfOk result (λ o. IfSome o (λ op. Bare (verb_text verb.Open) ∷ operands.now ≡
+        op_words op)) }
     ensures fits { IfOk result (λ o. IfSome o (λ op. FitsOp op)) }
-    ensures none { IfOk result (λ o. IfNone o ((op : Asked) → FitsOp op → Bare (verb_text verb.Open) ∷ operands.now ≡ op_words op → ⊥)) }
+    ensures none { IfOk result (λ o. IfNone o ((op : Asked) → FitsOp op →
+        Bare (verb_text verb.Open) ∷ operands.now ≡ op_words op → ⊥)) }
 {
     let Some((file, h, rest)) = handle_of(alloc, operands)? else {
         return Ok(None);
@@ -175,9 +192,11 @@ fn open_of(alloc: Global, operands: &[Word]) -> Result<Option<Op>, Memory>
 }
 
 fn close_of(alloc: Global, operands: &[Word]) -> Result<Option<Op>, Memory>
-    ensures found { IfOk result (λ o. IfSome o (λ op. Bare (verb_text verb.Close) ∷ operands.now ≡ op_words op)) }
+    ensures found { IfOk result (λ o. IfSome o (λ op. Bare (verb_text verb.Close) ∷ operands.now ≡
+        op_words op)) }
     ensures fits { IfOk result (λ o. IfSome o (λ op. FitsOp op)) }
-    ensures none { IfOk result (λ o. IfNone o ((op : Asked) → FitsOp op → Bare (verb_text verb.Close) ∷ operands.now ≡ op_words op → ⊥)) }
+    ensures none { IfOk result (λ o. IfNone o ((op : Asked) → FitsOp op →
+        Bare (verb_text verb.Close) ∷ operands.now ≡ op_words op → ⊥)) }
 {
     let Some((file, h, rest)) = handle_of(alloc, operands)? else {
         return Ok(None);
@@ -189,9 +208,11 @@ fn close_of(alloc: Global, operands: &[Word]) -> Result<Option<Op>, Memory>
 }
 
 fn set_of(alloc: Global, operands: &[Word]) -> Result<Option<Op>, Memory>
-    ensures found { IfOk result (λ o. IfSome o (λ op. Bare (verb_text verb.Set) ∷ operands.now ≡ op_words op)) }
+    ensures found { IfOk result (λ o. IfSome o (λ op. Bare (verb_text verb.Set) ∷ operands.now ≡
+        op_words op)) }
     ensures fits { IfOk result (λ o. IfSome o (λ op. FitsOp op)) }
-    ensures none { IfOk result (λ o. IfNone o ((op : Asked) → FitsOp op → Bare (verb_text verb.Set) ∷ operands.now ≡ op_words op → ⊥)) }
+    ensures none { IfOk result (λ o. IfNone o ((op : Asked) → FitsOp op →
+        Bare (verb_text verb.Set) ∷ operands.now ≡ op_words op → ⊥)) }
 {
     let Some((file, h, rest)) = handle_of(alloc, operands)? else {
         return Ok(None);
@@ -214,9 +235,11 @@ fn set_of(alloc: Global, operands: &[Word]) -> Result<Option<Op>, Memory>
 }
 
 fn rename_of(alloc: Global, operands: &[Word]) -> Result<Option<Op>, Memory>
-    ensures found { IfOk result (λ o. IfSome o (λ op. Bare (verb_text verb.Rename) ∷ operands.now ≡ op_words op)) }
+    ensures found { IfOk result (λ o. IfSome o (λ op. Bare (verb_text verb.Rename) ∷ operands.now ≡
+        op_words op)) }
     ensures fits { IfOk result (λ o. IfSome o (λ op. FitsOp op)) }
-    ensures none { IfOk result (λ o. IfNone o ((op : Asked) → FitsOp op → Bare (verb_text verb.Rename) ∷ operands.now ≡ op_words op → ⊥)) }
+    ensures none { IfOk result (λ o. IfNone o ((op : Asked) → FitsOp op →
+        Bare (verb_text verb.Rename) ∷ operands.now ≡ op_words op → ⊥)) }
 {
     let Some((sdir, sname, rest)) = place_of(alloc, operands)? else {
         return Ok(None);

@@ -18,10 +18,14 @@ use std::alloc::Global;
 /// A text is the text of one schedule at most, and then it has no faulty line; the first faulty line is one,
 /// with one fault.
 pub fn one_reading()
-    ensures schedule { (s t : Told) (bytes : Seq ℕ) → IsScheduleText s bytes → IsScheduleText t bytes → s ≡ t }
-    ensures fault { (f g : Fault) (m n : ℕ) (bytes : Seq ℕ) → IsFirstFault f m bytes → IsFirstFault g n bytes → (f ≡ g) × (m ≡ n) }
-    ensures apart { (s : Told) (f : Fault) (at : ℕ) (bytes : Seq ℕ) → IsFirstFault f at bytes → IsScheduleText s bytes → ⊥ }
-    ensures fits { (s : Told) (bytes : Seq ℕ) → IsScheduleText s bytes → AllByRecursion FitsEvent s.events }
+    ensures schedule { (s t : Told) (bytes : Seq ℕ) → IsScheduleText s bytes →
+        IsScheduleText t bytes → s ≡ t }
+    ensures fault { (f g : Fault) (m n : ℕ) (bytes : Seq ℕ) → IsFirstFault f m bytes →
+        IsFirstFault g n bytes → (f ≡ g) × (m ≡ n) }
+    ensures apart { (s : Told) (f : Fault) (at : ℕ) (bytes : Seq ℕ) → IsFirstFault f at bytes →
+        IsScheduleText s bytes → ⊥ }
+    ensures fits { (s : Told) (bytes : Seq ℕ) → IsScheduleText s bytes →
+        AllByRecursion FitsEvent s.events }
 {}
 
 /// The most bytes of a line.
@@ -35,8 +39,10 @@ pub const EVENTS: usize = 65_536;
 pub fn read_schedule(alloc: Global, bytes: &[u8]) -> Result<Schedule, ScheduleError>
     ensures ok { IfOk result (λ s. IsScheduleText s bytes.now) }
     ensures fits { IfOk result (λ s. AllByRecursion FitsEvent s.events) }
-    ensures bad_line { (line : ℕ) → IsErrOf result (ScheduleError.BadLine line) → IsFirstFault IsOutside line bytes.now }
-    ensures limit { (which : Limited) (at : ℕ) → IsErrOf result (ScheduleError.Limit which at) → IsFirstFault (PassesLimit which) at bytes.now }
+    ensures bad_line { (line : ℕ) → IsErrOf result (ScheduleError.BadLine line) →
+        IsFirstFault IsOutside line bytes.now }
+    ensures limit { (which : Limited) (at : ℕ) → IsErrOf result (ScheduleError.Limit which at) →
+        IsFirstFault (PassesLimit which) at bytes.now }
 {
     let (head, rest) = next_line(bytes);
     let head = read_head(head)?;
@@ -54,8 +60,10 @@ pub fn read_schedule(alloc: Global, bytes: &[u8]) -> Result<Schedule, ScheduleEr
 
 fn read_head(line: &[u8]) -> Result<Head, ScheduleError>
     ensures ok { OnOk result (line.now ≡ head_line) }
-    ensures bad_line { (n : ℕ) → IsErrOf result (ScheduleError.BadLine n) → (n ≡ 1) × HeadHas IsOutside line.now }
-    ensures limit { (which : Limited) (n : ℕ) → IsErrOf result (ScheduleError.Limit which n) → (n ≡ 1) × HeadHas (PassesLimit which) line.now }
+    ensures bad_line { (n : ℕ) → IsErrOf result (ScheduleError.BadLine n) →
+        (n ≡ 1) × HeadHas IsOutside line.now }
+    ensures limit { (which : Limited) (n : ℕ) → IsErrOf result (ScheduleError.Limit which n) →
+        (n ≡ 1) × HeadHas (PassesLimit which) line.now }
 {
     if BYTES < line.len() {
         return Err(ScheduleError::Limit {
@@ -72,8 +80,10 @@ fn read_head(line: &[u8]) -> Result<Head, ScheduleError>
 
 fn read_events(alloc: Global, text: &[u8]) -> Result<List<Event>, ScheduleError>
     ensures ok { IfOk result (λ es. AreEventLines 0 es (lines_of text.now)) }
-    ensures bad_line { (n : ℕ) → IsErrOf result (ScheduleError.BadLine n) → FaultsAt IsOutside n 0 (lines_of text.now) }
-    ensures limit { (which : Limited) (n : ℕ) → IsErrOf result (ScheduleError.Limit which n) → FaultsAt (PassesLimit which) n 0 (lines_of text.now) }
+    ensures bad_line { (n : ℕ) → IsErrOf result (ScheduleError.BadLine n) →
+        FaultsAt IsOutside n 0 (lines_of text.now) }
+    ensures limit { (which : Limited) (n : ℕ) → IsErrOf result (ScheduleError.Limit which n) →
+        FaultsAt (PassesLimit which) n 0 (lines_of text.now) }
 {
     let mut events = List::new(alloc);
     let mut rest = text;
@@ -91,9 +101,12 @@ fn read_events(alloc: Global, text: &[u8]) -> Result<List<Event>, ScheduleError>
 /// The event of a line that stands behind so many events.
 fn read_line(alloc: Global, before: usize, line: &[u8]) -> Result<Event, ScheduleError>
     requires { before ≤ most_events }
-    ensures ok { IfOk result (λ e. (length line.now ≤ most_bytes) × IsEventLine e line.now × (before < most_events)) }
-    ensures bad_line { (n : ℕ) → IsErrOf result (ScheduleError.BadLine n) → (n ≡ before + 2) × LineHas IsOutside before line.now }
-    ensures limit { (which : Limited) (n : ℕ) → IsErrOf result (ScheduleError.Limit which n) → (n ≡ before + 2) × LineHas (PassesLimit which) before line.now }
+    ensures ok { IfOk result (λ e. (length line.now ≤ most_bytes) × IsEventLine e line.now ×
+        (before < most_events)) }
+    ensures bad_line { (n : ℕ) → IsErrOf result (ScheduleError.BadLine n) → (n ≡ before + 2) ×
+        LineHas IsOutside before line.now }
+    ensures limit { (which : Limited) (n : ℕ) → IsErrOf result (ScheduleError.Limit which n) →
+        (n ≡ before + 2) × LineHas (PassesLimit which) before line.now }
 {
     let at = before as u64 + 2;
     if BYTES < line.len() {

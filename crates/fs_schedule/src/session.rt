@@ -13,7 +13,8 @@ pub const SESSIONS: u16 = 1000;
 /// The number of the session at the front, `SESSIONS` and one for each greater one, and the words behind it.
 pub fn session_of(words: &[Word]) -> Option<(u16, &[Word])>
     ensures found { IfSome result (λ p. IsSessionWord words.now p.0 p.1.now) }
-    ensures none { IfNone result ((digits : Seq ℕ) (rest : Seq Spelled) → IsSessionDigits digits → words.now ≡ Bare (session_text digits) ∷ rest → ⊥) }
+    ensures none { IfNone result ((digits : Seq ℕ) (rest : Seq Spelled) → IsSessionDigits digits →
+        words.now ≡ Bare (session_text digits) ∷ rest → ⊥) }
 {
     let Some((text, rest)) = bare(words) else {
         return None;

@@ -30,8 +30,11 @@ pub fn words_of(alloc: Global, line: &[u8]) -> Result<Option<List<Word>>, Memory
 /// The word at the front, and the bytes behind the space that ends it, where one does.
 fn next_word(alloc: Global, bytes: &[u8]) -> Result<Option<(Word, Option<&[u8]>)>, Memory>
     ensures fits { IfOk result (λ o. IfSome o (λ p. FitsWord p.0)) }
-    ensures found { IfOk result (λ o. IfSome o (λ p. bytes.now ≡ word_text p.0 ++ joined 32 (option_map (λ r. r.now) p.1))) }
-    ensures none { IfOk result (λ o. IfNone o ((w : Spelled) (more : Option (Seq ℕ)) → FitsWord w → bytes.now ≡ word_text w ++ joined 32 more → ⊥)) }
+    ensures found { IfOk result
+        (λ o. IfSome o (λ p. bytes.now ≡ word_text p.0 ++
+        joined 32 (option_map (λ r. r.now) p.1))) }
+    ensures none { IfOk result (λ o. IfNone o ((w : Spelled) (more : Option (Seq ℕ)) → FitsWord w →
+        bytes.now ≡ word_text w ++ joined 32 more → ⊥)) }
 {
     match bytes {
         [b'"', quoted @ ..] => quoted_word(alloc, quoted),
@@ -48,8 +51,11 @@ fn next_word(alloc: Global, bytes: &[u8]) -> Result<Option<(Word, Option<&[u8]>)
 /// The same, where the opening quote was read.
 fn quoted_word(alloc: Global, bytes: &[u8]) -> Result<Option<(Word, Option<&[u8]>)>, Memory>
     ensures fits { IfOk result (λ o. IfSome o (λ p. FitsWord p.0)) }
-    ensures found { IfOk result (λ o. IfSome o (λ p. 34 ∷ bytes.now ≡ word_text p.0 ++ joined 32 (option_map (λ r. r.now) p.1))) }
-    ensures none { IfOk result (λ o. IfNone o ((w : Spelled) (more : Option (Seq ℕ)) → FitsWord w → 34 ∷ bytes.now ≡ word_text w ++ joined 32 more → ⊥)) }
+    ensures found { IfOk result
+        (λ o. IfSome o (λ p. 34 ∷ bytes.now ≡ word_text p.0 ++
+        joined 32 (option_map (λ r. r.now) p.1))) }
+    ensures none { IfOk result (λ o. IfNone o ((w : Spelled) (more : Option (Seq ℕ)) → FitsWord w →
+        34 ∷ bytes.now ≡ word_text w ++ joined 32 more → ⊥)) }
 {
     let (name, rest) = cut(bytes, b'"');
     let Some(rest) = rest else {

@@ -32,9 +32,11 @@ impl Twin for Packet {
 /// The packet that all of these bytes spell; `None` exactly where they spell none.
 pub fn read_packet(alloc: Global, bytes: &[u8]) -> Result<Option<Packet>, Memory>
     // What is read is spelled so.
-    ensures found { IfOk result (λ made. IfSome made (λ p. IsPacket p × (bytes.now ≡ packet_text p))) }
+    ensures found { IfOk result (λ made. IfSome made (λ p. IsPacket p ×
+        (bytes.now ≡ packet_text p))) }
     // What is spelled so is read.
-    ensures only { (p : Packet) → IsPacket p → bytes.now ≡ packet_text p → IfOk result (λ made. made ≡ Some p) }
+    ensures only { (p : Packet) → IsPacket p → bytes.now ≡ packet_text p →
+        IfOk result (λ made. made ≡ Some p) }
 {
     let Some((ack, body)) = parts_of(bytes) else {
         return Ok(None);
@@ -95,7 +97,8 @@ fn number_of(bytes: &[u8]) -> Option<(u64, &[u8])>
 
 /// The body that all of these bytes are: none, or a number and bytes.
 fn body_of(bytes: &[u8]) -> Option<Option<(u64, &[u8])>>
-    ensures { option_map (λ body. option_map (λ x. (x.0, x.1.now)) body) result ≡ body_at bytes.now }
+    ensures { option_map (λ body. option_map (λ x. (x.0, x.1.now)) body) result ≡
+        body_at bytes.now }
 {
     match bytes {
         [0] => Some(None),
@@ -106,7 +109,8 @@ fn body_of(bytes: &[u8]) -> Option<Option<(u64, &[u8])>>
 
 /// The acknowledgement and the body.
 fn parts_of(bytes: &[u8]) -> Option<(u64, Option<(u64, &[u8])>)>
-    ensures { option_map (λ p. (p.0, option_map (λ x. (x.0, x.1.now)) p.1)) result ≡ parts_at bytes.now }
+    ensures { option_map (λ p. (p.0, option_map (λ x. (x.0, x.1.now)) p.1)) result ≡
+        parts_at bytes.now }
 {
     match bytes {
         [MARK, rest @ ..] => {

@@ -31,7 +31,8 @@ pub(crate) fn add_packets(
     requires ordered { from ≤ to }
     requires within { to ≤ length waiting.now.items }
     requires numbered { number + (to - from) < 2 ^ 64 }
-    ensures { OnOk result (packets.new ≡ packets.old ++ packets_from ack number (take (to - from) (drop from waiting.now.items))) }
+    ensures { OnOk result (packets.new ≡
+        packets.old ++ packets_from ack number (take (to - from) (drop from waiting.now.items))) }
 {
     let mut next = number;
     for i in from..to {

@@ -79,7 +79,8 @@ impl Window {
     /// Takes segments to be sent, all of them or none. `Spent` exactly where numbers are wanting for them.
     pub fn push_all(&mut self, _: Global, segments: List<Segment>) -> Result<(), LinkError>
         ensures ok { OnOk result (self.new ≡ after_pushes self.old segments) }
-        ensures spent { IsErrOf result LinkError.Spent ↔ (2 ^ 64 ≤ pushed_count self.old + length segments) }
+        ensures spent { IsErrOf result LinkError.Spent ↔
+            (2 ^ 64 ≤ pushed_count self.old + length segments) }
         ensures err { OnErr result (self.new ≡ self.old) }
     {
         if segments.len() as u64 > u64::MAX - self.pushed() {
@@ -145,7 +146,8 @@ impl Window {
 
     /// Packets with the segments that go for the first time.
     fn new_packets(&self, alloc: Global) -> Result<List<Packet>, Memory>
-        ensures { IfOk result (λ packets. packets ≡ packets_from self.now.got self.now.sent (unsent self.now)) }
+        ensures { IfOk result (λ packets. packets ≡
+            packets_from self.now.got self.now.sent (unsent self.now)) }
     {
         let from = (self.sent - self.acked.min(self.sent)) as usize;
         let to = from + self.unsent_count() as usize;
@@ -164,7 +166,8 @@ impl Window {
 
     /// Adds packets with the segments that were sent and are not acknowledged.
     fn add_unacked(&self, alloc: Global, packets: &mut List<Packet>) -> Result<(), Memory>
-        ensures { OnOk result (packets.new ≡ packets.old ++ packets_from self.now.got self.now.acked (unacked self.now)) }
+        ensures { OnOk result (packets.new ≡ packets.old ++ packets_from self.now.got self.now.acked
+            (unacked self.now)) }
     {
         let to = self.sent.saturating_sub(self.acked) as usize;
         add_packets(alloc, &self.waiting, 0, to, self.acked, self.got, packets)
