@@ -10,7 +10,7 @@ use Rattle.fs_schedule.specs.declared.event.Event.{Event}
 use Rattle.fs_schedule.specs.declared.event.What.{What}
 use Rattle.fs_schedule.specs.declared.event.What.TheVariants.{Join, Do}
 use Rattle.fs_schedule.specs.declared.outcome.Outcome.{Outcome}
-use Rattle.fs_field.specs.In.{In}
+use Rattle.fs_ident.specs.In.{In}
 use Rattle.farsite.specs.Order.{IsAdmitted, NoteIsTrue, NotesAreTrue, OutcomesAreTrue}
 
 in_grown : {X : Type 0} (x : X) (xs ys : List X) → In x xs → In x (xs ++ ys)

@@ -8,8 +8,8 @@ use Rattle.fs_field.specs.declared.field.Field.TheVariants.{Life, Child, Names, 
 use Rattle.fs_field.specs.declared.lease_kind.LeaseKind.{LeaseKind}
 use Rattle.fs_field.specs.declared.row.Row.{Row}
 use Rattle.fs_ident.specs.declared.actor.Session.{Session}
-use Rattle.fs_field.specs.Field.{same}
-use Rattle.fs_field.specs.In.{In}
+use Rattle.fs_ident.specs.Ident.{same}
+use Rattle.fs_ident.specs.In.{In}
 use Rattle.fs_field.specs.Conflict.{Selves, one_shared, names_over, meets, is_exclusive, plain_conflict, mode_meets, mode_conflict, conflicts, WithoutConflict, IsCalm, is_plain}
 
 pub either_way : (x y : Bool) → (x || y) ≡ (y || x)

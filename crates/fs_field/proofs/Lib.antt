@@ -1,7 +1,5 @@
-pub mod Put
 pub mod Untouched
 pub mod Named
 pub mod Rows
 pub mod Below
-pub mod In
 pub mod Conflicts

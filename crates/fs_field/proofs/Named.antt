@@ -4,8 +4,9 @@ use Rattle.std.specs.Prelude.{Option, Some, None, is_some}
 use Rattle.std.specs.List.{list_any}
 use Rattle.std.specs.Cmp.Lexicographic.{same_text, nat_list_eq_equiv}
 use Rattle.std.proofs.lemmas.Map.Views.{any-filter_same}
-use Rattle.fs_field.specs.Field.{same}
-use Rattle.fs_field.specs.After.{put_before, with_name, without_name, names_after, is_before}
+use Rattle.fs_ident.specs.Ident.{same}
+use Rattle.fs_ident.specs.Ordered.{put_before}
+use Rattle.fs_field.specs.After.{with_name, without_name, names_after, is_before}
 use Rattle.fs_field.specs.declared.effect.Effect.TheVariants.{SetChild}
 
 same_itself : (a : List ℕ) → same a a ≡ true

@@ -9,7 +9,7 @@ use Rattle.fs_field.specs.declared.value.Value.{Value}
 use Rattle.fs_field.specs.declared.value.Value.TheVariants as value
 use Rattle.fs_field.specs.declared.effect.Effect.{Effect}
 use Rattle.fs_field.specs.declared.effect.Effect.TheVariants.{SetChild, SetParent, NewNode, RemoveNode, AddHandle, RemoveHandle, SetInfo}
-use Rattle.fs_field.specs.Field.{same}
+use Rattle.fs_ident.specs.Ident.{same}
 use Rattle.fs_field.specs.Value.{is_value_of}
 use Rattle.fs_field.specs.After.{touches, value_after, life_after, child_after, names_after, info_after, own_after, info_value, with_name, without_name, with_handle, without_handle, Handles}
 

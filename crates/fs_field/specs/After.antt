@@ -3,6 +3,7 @@ use Rattle.std.specs.Prelude.{ℕ, suc, Bool, false, not, nat_lt, ◌==◌, ◌&
 use Rattle.std.specs.List.{list_any, filter}
 use Rattle.std.specs.Ordering.{nat_cmp, is_lt}
 use Rattle.std.specs.Cmp.Lexicographic.{slice_cmp}
+use Rattle.fs_ident.specs.Ordered.{put_before}
 use Rattle.fs_ident.specs.declared.kind.Kind.{Kind}
 use Rattle.fs_ident.specs.declared.actor.Session.{Session}
 use Rattle.fs_modes.specs.declared.modes.Modes.{Modes}
@@ -12,7 +13,7 @@ use Rattle.fs_field.specs.declared.value.Value.{Value}
 use Rattle.fs_field.specs.declared.value.Value.TheVariants as value
 use Rattle.fs_field.specs.declared.effect.Effect.{Effect}
 use Rattle.fs_field.specs.declared.effect.Effect.TheVariants.{SetChild, NewNode, RemoveNode, AddHandle, RemoveHandle, SetInfo}
-use Rattle.fs_field.specs.Field.{same}
+use Rattle.fs_ident.specs.Ident.{same}
 
 -- a field of the file that begins anew with its life
 abbrev pub touches_node : List ℕ → Field → Bool
@@ -38,16 +39,6 @@ touches e field = false
 -- the first name comes before the second
 abbrev pub is_before : List ℕ → List ℕ → Bool
 is_before a b = is_lt (slice_cmp nat_cmp a b)
-
--- the item, before the first one that passes the test
-abbrev pub put_before : {X : Type 0} → (X → Bool) → X → List X → List X
-put_before test x [] = x ∷ []
-put_before test x (y ∷ ys) = if test y then x ∷ y ∷ ys else y ∷ put_before test x ys
-
--- how many items stand before the first one that passes the test
-abbrev pub place_before : {X : Type 0} → (X → Bool) → List X → ℕ
-place_before test [] = 0
-place_before test (y ∷ ys) = if test y then 0 else suc (place_before test ys)
 
 -- with the name, where it is not there before the first greater one
 abbrev pub with_name : List (List ℕ) → List ℕ → List (List ℕ)

@@ -10,8 +10,9 @@ use Rattle.fs_field.specs.declared.field.Field.TheVariants.{Life, Child, Names, 
 use Rattle.fs_field.specs.declared.lease_kind.LeaseKind.{LeaseKind}
 use Rattle.fs_field.specs.declared.lease_kind.LeaseKind.TheVariants.{Shared, Exclusive}
 use Rattle.fs_field.specs.declared.row.Row.{Row}
-use Rattle.fs_field.specs.Field.{same, same_mode}
-use Rattle.fs_field.specs.In.{In}
+use Rattle.fs_ident.specs.Ident.{same}
+use Rattle.fs_field.specs.Field.{same_mode}
+use Rattle.fs_ident.specs.In.{In}
 
 abbrev pub is_exclusive : LeaseKind → Bool
 is_exclusive Shared = false

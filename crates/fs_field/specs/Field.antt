@@ -1,14 +1,10 @@
 -- The fields of files, and when two of them are one.
-use Rattle.std.specs.Prelude.{ℕ, Bool, false, List, nat_eq, ◌==◌, ◌&&◌}
-use Rattle.std.specs.Cmp.Lexicographic.{pointwise}
+use Rattle.std.specs.Prelude.{ℕ, Bool, false, List, ◌==◌, ◌&&◌}
+use Rattle.fs_ident.specs.Ident.{same}
 use Rattle.fs_modes.specs.declared.modes.Mode.{Mode}
 use Rattle.fs_modes.specs.declared.modes.Mode.TheVariants.{AccR, AccW, AccD, DenyR, DenyW, DenyD}
 use Rattle.fs_field.specs.declared.field.Field.{Field}
 use Rattle.fs_field.specs.declared.field.Field.TheVariants.{Life, Child, Names, Info, Own, SelfW, Other}
-
--- the two lists of numbers are one: identifiers and names
-abbrev pub same : List ℕ → List ℕ → Bool
-same a b = pointwise nat_eq a b
 
 -- the place of a mode among the six
 abbrev pub mode_rank : Mode → ℕ

@@ -1,6 +1,5 @@
 pub mod Field
 pub mod Value
 pub mod After
-pub mod In
 pub mod Conflict
 pub mod Table

@@ -5,13 +5,13 @@ use Rattle.std.specs.Ordering.{nat_cmp, is_lt, ordering_then}
 use Rattle.fs_ident.specs.declared.actor.LeaseNo.{LeaseNo}
 use Rattle.fs_ident.specs.declared.actor.TxnNo.{TxnNo}
 use Rattle.fs_ident.specs.declared.actor.Session.{Session}
-use Rattle.fs_ident.specs.Ident.{parent}
+use Rattle.fs_ident.specs.Ident.{parent, same}
 use Rattle.fs_field.specs.declared.field.Field.{Field}
 use Rattle.fs_field.specs.declared.lease_kind.LeaseKind.{LeaseKind}
 use Rattle.fs_field.specs.declared.lease_kind.LeaseKind.TheVariants.{Shared, Exclusive}
 use Rattle.fs_field.specs.declared.row.Row.{Row}
-use Rattle.fs_field.specs.Field.{same, same_field, file_of}
-use Rattle.fs_field.specs.After.{put_before}
+use Rattle.fs_field.specs.Field.{same_field, file_of}
+use Rattle.fs_ident.specs.Ordered.{put_before}
 use Rattle.fs_field.specs.Conflict.{is_exclusive}
 
 abbrev pub same_no : LeaseNo → LeaseNo → Bool

@@ -37,10 +37,14 @@ impl Twin for Need {
             Need::Fresh(dir) => Ok(Need::Fresh(dir.copy(alloc)?)),
         }
     }
+
+    fn discard(self) {}
 }
 
 impl Twin for Asked {
     fn copy(&self, _: Global) -> Result<Asked, Memory> {
         Ok(*self)
     }
+
+    fn discard(self) {}
 }

@@ -100,4 +100,6 @@ impl Twin for Effect {
             }),
         }
     }
+
+    fn discard(self) {}
 }

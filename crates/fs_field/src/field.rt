@@ -69,4 +69,6 @@ impl Twin for Field {
             Field::Other(file, mode) => Ok(Field::Other(file.copy(alloc)?, *mode)),
         }
     }
+
+    fn discard(self) {}
 }

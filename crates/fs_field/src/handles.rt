@@ -1,7 +1,7 @@
 //! The handles of one session on a file, by handle.
-ghost use Rattle.std.specs.Prelude.{◌≡◌, ◌==◌, not, length, ◌≤◌, OnOk, OnErr};
-ghost use Rattle.std.specs.List.{filter};
-ghost use Rattle.fs_field.specs.After.{place_before, is_above, with_handle, without_handle};
+ghost use Rattle.std.specs.Prelude.{◌<◌, IfSome, ◌≡◌, ◌==◌, not, length, unwrap_or, ◌≤◌, OnOk, OnErr};
+ghost use Rattle.std.specs.List.{position, filter};
+ghost use Rattle.fs_field.specs.After.{is_above, with_handle, without_handle};
 
 use fs_ident::{List, Memory, Twin};
 use fs_modes::Modes;
@@ -9,7 +9,7 @@ use std::alloc::Global;
 use std::mem;
 
 /// Puts the modes under the handle, before the first greater one, in place of what was under it.
-#[tactic(auto, using(crate::proofs::Put::put_at))]
+#[tactic(auto, using(fs_ident::proofs::Put::put_at))]
 pub fn with_handle(
     handles: &mut List<(u32, Modes)>,
     alloc: Global,
@@ -37,19 +37,21 @@ pub fn without_handle(handles: &mut List<(u32, Modes)>, alloc: Global, h: u32)
 }
 
 /// Where the first greater handle stands, or the length.
-#[tactic(auto, using(crate::proofs::Put::place_step))]
 fn place(handles: &[(u32, Modes)], h: u32) -> usize
-    ensures place { result ≡ place_before (is_above h) handles.now }
+    ensures place { result ≡ unwrap_or (position (is_above h) handles.now) (length handles.now) }
     ensures within { result ≤ length handles.now }
 {
-    let mut at = 0;
-    for other in handles {
-        if h < other.0 {
-            return at;
-        }
-        at += 1;
+    match first_after(handles, h) {
+        Some(at) => at,
+        None => handles.len(),
     }
-    at
+}
+
+fn first_after(handles: &[(u32, Modes)], h: u32) -> Option<usize>
+    ensures same { result ≡ position (is_above h) handles.now }
+    ensures within { IfSome result (λ at. at < length handles.now) }
+{
+    handles.iter().position(|other| h < other.0)
 }
 
 /// Drops what is under the handle.

@@ -3,12 +3,11 @@ ghost use Rattle.std.specs.Prelude.{◌≡◌, ℕ, List, Option, Some, true, fa
 ghost use Rattle.std.specs.List.{list_any};
 ghost use Rattle.fs_ident.specs.declared.actor.Session.{Session};
 ghost use Rattle.fs_field.specs.After.{touches, value_after, names_after};
-ghost use Rattle.fs_field.specs.Field.{same};
-ghost use Rattle.fs_field.specs.In.{In};
+ghost use Rattle.fs_ident.specs.In.{In};
 ghost use Rattle.fs_field.specs.Conflict.{Selves, conflicts, WithoutConflict, IsCalm, is_plain};
 ghost use Rattle.fs_field.specs.Table.{child_number};
 ghost use Rattle.fs_field.specs.Value.{is_value_of};
-ghost use Rattle.fs_ident.specs.Ident.{child};
+ghost use Rattle.fs_ident.specs.Ident.{child, same};
 ghost use Rattle.fs_field.specs.declared.row.Row.{Row};
 ghost use Rattle.fs_field.specs.declared.effect.Effect.{Effect};
 ghost use Rattle.fs_field.specs.declared.effect.Effect.TheVariants.{SetChild};

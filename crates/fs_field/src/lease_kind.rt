@@ -13,4 +13,6 @@ impl Twin for LeaseKind {
     fn copy(&self, _: Global) -> Result<LeaseKind, Memory> {
         Ok(*self)
     }
+
+    fn discard(self) {}
 }

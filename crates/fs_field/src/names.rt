@@ -1,15 +1,15 @@
 //! The names of a directory, in byte order.
-ghost use Rattle.std.specs.Prelude.{◌≡◌, not, length, ◌≤◌, OnOk, OnErr};
-ghost use Rattle.std.specs.List.{filter};
-ghost use Rattle.fs_field.specs.After.{place_before, is_before, with_name, without_name};
-ghost use Rattle.fs_field.specs.Field.{same};
+ghost use Rattle.std.specs.Prelude.{◌<◌, IfSome, ◌≡◌, not, length, unwrap_or, ◌≤◌, OnOk, OnErr};
+ghost use Rattle.std.specs.List.{position, filter};
+ghost use Rattle.fs_field.specs.After.{is_before, with_name, without_name};
+ghost use Rattle.fs_ident.specs.Ident.{same};
 
 use fs_ident::{List, Memory, Name, Twin};
 use std::alloc::Global;
 use std::mem;
 
 /// Puts the name before the first greater one, unless it is there.
-#[tactic(auto, using(crate::proofs::Put::put_at))]
+#[tactic(auto, using(fs_ident::proofs::Put::put_at))]
 pub fn with_name(names: &mut List<Name>, alloc: Global, name: &Name) -> Result<(), Memory>
     ensures ok { OnOk result (names.new ≡ with_name names.old name.now) }
     ensures err { OnErr result (names.new ≡ names.old) }
@@ -32,19 +32,21 @@ pub fn without_name(names: &mut List<Name>, alloc: Global, name: &Name)
 }
 
 /// Where the first greater name stands, or the length.
-#[tactic(auto, using(crate::proofs::Put::place_step))]
 fn place(names: &[Name], name: &Name) -> usize
-    ensures place { result ≡ place_before (is_before name.now) names.now }
+    ensures place { result ≡ unwrap_or (position (is_before name.now) names.now) (length names.now) }
     ensures within { result ≤ length names.now }
 {
-    let mut at = 0;
-    for other in names {
-        if name < other {
-            return at;
-        }
-        at += 1;
+    match first_after(names, name) {
+        Some(at) => at,
+        None => names.len(),
     }
-    at
+}
+
+fn first_after(names: &[Name], name: &Name) -> Option<usize>
+    ensures same { result ≡ position (is_before name.now) names.now }
+    ensures within { IfSome result (λ at. at < length names.now) }
+{
+    names.iter().position(|other| name < other)
 }
 
 /// Drops the name.

@@ -27,4 +27,6 @@ impl Twin for PathAnswer {
             }),
         }
     }
+
+    fn discard(self) {}
 }

@@ -31,4 +31,6 @@ impl Twin for Row {
             lock: self.lock,
         })
     }
+
+    fn discard(self) {}
 }

@@ -1,9 +1,8 @@
 //! A table of rows, in order of number.
-ghost use Rattle.std.specs.Prelude.{◌≡◌, ◌≤◌, length, map, IfOk, OnOk, OnErr};
+ghost use Rattle.std.specs.Prelude.{◌<◌, IfSome, ◌≡◌, ◌≤◌, length, unwrap_or, map, IfOk, OnOk, OnErr};
 ghost use Rattle.std.specs.Option.{option_copied};
-ghost use Rattle.std.specs.List.{filter, find, list_any};
+ghost use Rattle.std.specs.List.{position, filter, find, list_any};
 ghost use Rattle.std.specs.Prelude.{not};
-ghost use Rattle.fs_field.specs.After.{place_before};
 ghost use Rattle.fs_field.specs.Table.{no_before, has_no, with_row, is_lease, stays, renewed, is_open, locked, is_of, unlocked, lock_on, rows_on, child_number, borne};
 
 use crate::field::Field;
@@ -33,7 +32,7 @@ pub fn has_row(rows: &[Row], no: LeaseNo) -> bool
 }
 
 /// Puts a row before the first with a greater number.
-#[tactic(auto, using(crate::proofs::Put::put_at))]
+#[tactic(auto, using(fs_ident::proofs::Put::put_at))]
 pub fn put(rows: &mut Vec<Row>, row: Row) -> Result<(), Memory>
     ensures ok { OnOk result (rows.new.items ≡ with_row row rows.old.items) }
     ensures err { OnErr result (rows.new.items ≡ rows.old.items) }
@@ -44,19 +43,21 @@ pub fn put(rows: &mut Vec<Row>, row: Row) -> Result<(), Memory>
 }
 
 /// Where the first row with a greater number stands, or the length.
-#[tactic(auto, using(crate::proofs::Put::place_step))]
 fn place(rows: &[Row], no: LeaseNo) -> usize
-    ensures place { result ≡ place_before (λ r. no_before no r.no) rows.now }
+    ensures place { result ≡ unwrap_or (position (λ r. no_before no r.no) rows.now) (length rows.now) }
     ensures within { result ≤ length rows.now }
 {
-    let mut at = 0;
-    for row in rows {
-        if no < row.no {
-            return at;
-        }
-        at += 1;
+    match first_after(rows, no) {
+        Some(at) => at,
+        None => rows.len(),
     }
-    at
+}
+
+fn first_after(rows: &[Row], no: LeaseNo) -> Option<usize>
+    ensures same { result ≡ position (λ r. no_before no r.no) rows.now }
+    ensures within { IfSome result (λ at. at < length rows.now) }
+{
+    rows.iter().position(|other| no < other.no)
 }
 
 /// Lets the row of this number end no sooner than `until`, and tells whether there is one.

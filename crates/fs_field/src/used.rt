@@ -32,6 +32,8 @@ impl Twin for Use {
             until: self.until,
         })
     }
+
+    fn discard(self) {}
 }
 
 impl Twin for Part {
@@ -42,4 +44,6 @@ impl Twin for Part {
             freeze: self.freeze.copy(alloc)?,
         })
     }
+
+    fn discard(self) {}
 }

@@ -56,4 +56,6 @@ impl Twin for Value {
             Value::Other(held) => Ok(Value::Other(*held)),
         }
     }
+
+    fn discard(self) {}
 }

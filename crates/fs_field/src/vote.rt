@@ -40,4 +40,6 @@ impl Twin for Vote {
             Vote::PathsOut { no } => Ok(Vote::PathsOut { no: *no }),
         }
     }
+
+    fn discard(self) {}
 }

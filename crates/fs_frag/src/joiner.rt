@@ -64,6 +64,8 @@ impl Twin for Joiner {
             held: Vec::from_slice(alloc, &self.held)?,
         })
     }
+
+    fn discard(self) {}
 }
 
 /// The message that the bytes hold, if it is whole.

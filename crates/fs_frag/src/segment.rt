@@ -56,4 +56,6 @@ impl Twin for Segment {
             bytes: Vec::from_slice(alloc, &self.bytes)?,
         })
     }
+
+    fn discard(self) {}
 }

@@ -1,1 +1,6 @@
 pub mod Readings
+pub mod Entries
+pub mod MapsOf
+pub mod Standing
+pub mod Put
+pub mod Searched

@@ -109,6 +109,8 @@ impl Twin for FileId {
             numbers: Vec::from_slice(alloc, &self.numbers)?,
         })
     }
+
+    fn discard(self) {}
 }
 
 impl PartialEq for FileId {

@@ -1,23 +1,30 @@
-//! What every other crate speaks of: lists, identifiers of files, names, and the actors.
+//! What every other crate speaks of: lists, identifiers of files, names, the actors, and limits.
 #![tactic(auto)]
 
 mod actor;
+mod bytes;
 mod error;
 mod file_id;
 mod id_text;
 mod kind;
+mod limits;
 mod list;
 mod memory;
 mod name;
+mod ordered;
 #[cfg(test)]
 mod tests;
+mod texts;
 mod twin;
 
 pub use actor::{LeaseNo, PathNo, Peer, Session, TxnNo};
+pub use bytes::number_in_front;
 pub use error::IdError;
 pub use file_id::{DEPTH, FileId};
 pub use kind::Kind;
+pub use limits::{LATEST, SESSIONS};
 pub use list::List;
 pub use memory::Memory;
 pub use name::{Name, first_bad, is_dots};
+pub use ordered::search_by_name;
 pub use twin::Twin;

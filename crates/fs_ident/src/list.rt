@@ -113,6 +113,8 @@ impl<T> List<T> {
     }
 }
 
+/// A list keeps the allocator that it was made with, as a vector does, so what adds to it is handed none. Where memory is
+/// wanting these drop the item; `offer` hands back one that may not be dropped.
 impl<T: Drop> List<T> {
     /// Adds an item at the end.
     pub fn push(&mut self, x: T) -> Result<(), Memory>
@@ -141,12 +143,41 @@ impl<T: Drop> List<T> {
     }
 }
 
-impl<T: Twin + Drop> Twin for List<T> {
+impl<T: Twin> Twin for List<T> {
     fn copy(&self, alloc: Global) -> Result<List<T>, Memory> {
         let mut twin = List::from_vec(Vec::with_capacity(alloc, self.items.len())?);
         for x in &self.items {
-            twin.push(x.copy(alloc)?)?;
+            match copied_onto(alloc, x, &mut twin) {
+                Ok(()) => {}
+                Err(e) => {
+                    twin.discard();
+                    return Err(e);
+                }
+            }
         }
         Ok(twin)
+    }
+
+    fn discard(self) {
+        let mut items = self.items;
+        while let Some(x) = items.pop() {
+            x.discard();
+        }
+        items.destroy_empty();
+    }
+}
+
+/// Adds a copy of the item at the end.
+fn copied_onto<T: Twin>(alloc: Global, x: &T, twin: &mut List<T>) -> Result<(), Memory>
+    ensures ok { OnOk result (twin.new ≡ twin.old ++ x.now ∷ []) }
+    ensures err { OnErr result (twin.new ≡ twin.old) }
+{
+    let copy = x.copy(alloc)?;
+    match twin.offer(copy) {
+        Ok(()) => Ok(()),
+        Err(back) => {
+            back.discard();
+            Err(Memory)
+        }
     }
 }

@@ -68,6 +68,8 @@ impl Twin for Name {
             bytes: Vec::from_slice(alloc, &self.bytes)?,
         })
     }
+
+    fn discard(self) {}
 }
 
 impl PartialEq for Name {

@@ -288,6 +288,8 @@ impl Twin for Held {
             until: self.until,
         })
     }
+
+    fn discard(self) {}
 }
 
 impl Twin for Pinned {
@@ -297,6 +299,8 @@ impl Twin for Pinned {
             entries: self.entries,
         })
     }
+
+    fn discard(self) {}
 }
 
 impl Twin for Leaving {
@@ -306,4 +310,6 @@ impl Twin for Leaving {
             file: self.file.copy(alloc)?,
         })
     }
+
+    fn discard(self) {}
 }

@@ -6,3 +6,4 @@ pub mod Step
 pub mod Sound
 pub mod Seen
 pub mod Places
+pub mod Asking

@@ -29,6 +29,8 @@ impl Twin for Handle {
     fn copy(&self, _: Global) -> Result<Handle, Memory> {
         Ok(*self)
     }
+
+    fn discard(self) {}
 }
 
 impl Twin for Node {
@@ -42,4 +44,6 @@ impl Twin for Node {
             handles: self.handles.copy(alloc)?,
         })
     }
+
+    fn discard(self) {}
 }

@@ -1,4 +1,6 @@
 //! What is asked of the namespace.
+ghost use Rattle.std.specs.Prelude.{◌≡◌};
+
 use fs_ident::{FileId, Kind, Memory, Name, Session, Twin};
 use fs_modes::Modes;
 use std::alloc::Global;
@@ -56,6 +58,22 @@ pub enum Op {
         file: FileId,
         session: Session,
     },
+}
+
+impl Op {
+    ghost use Rattle.fs_model.specs.Asking.{may_ask};
+
+    /// Whether a caller may ask for it: no reap, no create that names its identifier, no open without an access.
+    pub fn may_be_asked(&self) -> bool
+        ensures { result ≡ may_ask self.now }
+    {
+        match self {
+            Op::Create { id, .. } => id.is_none(),
+            Op::OpenFile { modes, .. } => modes.has_access(),
+            Op::Reap { .. } => false,
+            _ => true,
+        }
+    }
 }
 
 impl Twin for Op {
@@ -126,4 +144,6 @@ impl Twin for Op {
             }),
         }
     }
+
+    fn discard(self) {}
 }

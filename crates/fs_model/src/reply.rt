@@ -82,4 +82,6 @@ impl Twin for Reply {
             Reply::Reaped => Ok(Reply::Reaped),
         }
     }
+
+    fn discard(self) {}
 }

@@ -188,10 +188,14 @@ impl Twin for Modes {
     fn copy(&self, _: Global) -> Result<Modes, Memory> {
         Ok(*self)
     }
+
+    fn discard(self) {}
 }
 
 impl Twin for Mode {
     fn copy(&self, _: Global) -> Result<Mode, Memory> {
         Ok(*self)
     }
+
+    fn discard(self) {}
 }

@@ -55,6 +55,8 @@ impl Twin for Grant {
             value: self.value.copy(alloc)?,
         })
     }
+
+    fn discard(self) {}
 }
 
 impl Twin for Answer {
@@ -80,4 +82,6 @@ impl Twin for Answer {
             Answer::Recall { no } => Ok(Answer::Recall { no: *no }),
         }
     }
+
+    fn discard(self) {}
 }

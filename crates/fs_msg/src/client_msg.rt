@@ -44,4 +44,6 @@ impl Twin for ClientMsg {
             }),
         }
     }
+
+    fn discard(self) {}
 }

@@ -59,4 +59,6 @@ impl Twin for End {
             }),
         }
     }
+
+    fn discard(self) {}
 }

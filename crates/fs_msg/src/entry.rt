@@ -24,4 +24,6 @@ impl Twin for Entry {
             uses: self.uses.copy(alloc)?,
         })
     }
+
+    fn discard(self) {}
 }

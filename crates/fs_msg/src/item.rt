@@ -21,4 +21,6 @@ impl Twin for Item {
             reply: self.reply.copy(alloc)?,
         })
     }
+
+    fn discard(self) {}
 }

@@ -4,6 +4,7 @@
 mod answer;
 mod bytes;
 mod client_msg;
+mod core_error;
 mod end;
 mod entry;
 mod error;
@@ -19,6 +20,7 @@ mod writing;
 
 pub use answer::{Answer, Grant};
 pub use client_msg::ClientMsg;
+pub use core_error::{CoreError, Counter};
 pub use end::End;
 pub use entry::Entry;
 pub use error::MsgError;

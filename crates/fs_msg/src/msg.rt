@@ -18,4 +18,6 @@ impl Twin for Msg {
             Msg::Answer(a) => Ok(Msg::Answer(a.copy(alloc)?)),
         }
     }
+
+    fn discard(self) {}
 }

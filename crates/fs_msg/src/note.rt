@@ -25,4 +25,6 @@ impl Twin for Note {
             Note::Nothing => Ok(Note::Nothing),
         }
     }
+
+    fn discard(self) {}
 }

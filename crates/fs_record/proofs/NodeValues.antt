@@ -11,8 +11,9 @@ use Rattle.std.specs.declared.cmp.Ordering.TheVariants.{Less, Equal, Greater}
 use Rattle.std.proofs.lemmas.Bool.Decides.{nat_tests}
 use Rattle.fs_ident.specs.declared.actor.Session.{Session}
 use Rattle.fs_modes.specs.declared.modes.Modes.{Modes}
-use Rattle.fs_field.specs.Field.{same}
-use Rattle.fs_field.specs.After.{put_before, is_before, is_above, with_name, without_name}
+use Rattle.fs_ident.specs.Ident.{same}
+use Rattle.fs_ident.specs.Ordered.{put_before}
+use Rattle.fs_field.specs.After.{is_before, is_above, with_name, without_name}
 use Rattle.fs_field.specs.After as field
 use Rattle.fs_model.specs.declared.node.Handle.{Handle}
 use Rattle.fs_model.specs.Children.{Children, are_in_order, child_at, with_child, without_child, names_of}

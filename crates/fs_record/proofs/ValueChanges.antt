@@ -13,9 +13,11 @@ use Rattle.fs_field.specs.declared.effect.Effect.TheVariants.{SetChild, SetParen
 use Rattle.fs_field.specs.declared.field.Field.{Field}
 use Rattle.fs_field.specs.declared.field.Field.TheVariants.{Life, Child, Names, Info, Own, SelfW, Other}
 use Rattle.fs_field.specs.declared.value.Value.TheVariants as value
-use Rattle.fs_field.specs.Field.{same, file_of}
+use Rattle.fs_ident.specs.Ident.{same}
+use Rattle.fs_field.specs.Field.{file_of}
 use Rattle.fs_field.specs.After as field
-use Rattle.fs_field.specs.After.{put_before, is_above, touches, touches_node, value_after, life_after, child_after, names_after, info_after, own_after, info_value, Handles}
+use Rattle.fs_ident.specs.Ordered.{put_before}
+use Rattle.fs_field.specs.After.{is_above, touches, touches_node, value_after, life_after, child_after, names_after, info_after, own_after, info_value, Handles}
 use Rattle.fs_field.proofs.Untouched.{value_stays}
 use Rattle.fs_model.specs.declared.node.Node.{Node}
 use Rattle.fs_model.specs.declared.node.Handle.{Handle}

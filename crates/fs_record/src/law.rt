@@ -2,7 +2,7 @@
 ghost use Rattle.std.specs.Prelude.{◌≡◌, ◌⊎◌, ◌+◌, ◌<◌, ◌≤◌, ◌^◌, ℕ, List, length, Option, Some, None, true, false, is_some, if◌then◌else◌};
 ghost use Rattle.std.specs.FinMap.{get};
 ghost use Rattle.fs_field.specs.After.{value_after};
-ghost use Rattle.fs_field.specs.Field.{same};
+ghost use Rattle.fs_ident.specs.Ident.{same};
 ghost use Rattle.fs_field.specs.declared.effect.Effect.{Effect};
 ghost use Rattle.fs_field.specs.declared.field.Field.{Field};
 ghost use Rattle.fs_ident.specs.declared.actor.Session.{Session};

@@ -18,4 +18,6 @@ impl Twin for Record {
             next: self.next,
         })
     }
+
+    fn discard(self) {}
 }

@@ -3,10 +3,10 @@ use Rattle.std.proofs.Common.{◌≡◌, ◌==◌, not, ◌&&◌, ◌⊎◌, Boo
 use Rattle.std.specs.Cmp.{nat_eq_equiv}
 use Rattle.std.specs.List.{filter}
 use Rattle.fs_field.specs.declared.row.Row.{Row}
-use Rattle.fs_field.specs.In.{In}
+use Rattle.fs_ident.specs.In.{In}
 use Rattle.fs_field.specs.Conflict.{IsCalm, meets, plain_conflict}
 use Rattle.fs_field.specs.Table.{with_row, no_before}
-use Rattle.fs_field.proofs.In.{In-filter, In-put, In-map}
+use Rattle.fs_ident.proofs.Standing.{In-filter, In-put, In-map}
 use Rattle.fs_field.proofs.Conflicts.{plain_mutual}
 
 -- the rows are those of one lease

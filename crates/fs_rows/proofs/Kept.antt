@@ -11,10 +11,10 @@ use Rattle.fs_field.specs.declared.asked.Asked.TheVariants.{Wait}
 use Rattle.fs_field.specs.declared.field.Field.{Field}
 use Rattle.fs_field.specs.declared.lease_kind.LeaseKind.{LeaseKind}
 use Rattle.fs_field.specs.declared.row.Row.{Row}
-use Rattle.fs_field.specs.In.{In}
+use Rattle.fs_ident.specs.In.{In}
 use Rattle.fs_field.specs.Conflict.{is_plain, plain_conflict, stands_against}
 use Rattle.fs_field.specs.Table.{has_no, no_before, with_row, renewed, is_open, locked, is_of, unlocked, lock_on}
-use Rattle.fs_field.proofs.In.{In-filter, In-put, In-map, none_pass}
+use Rattle.fs_ident.proofs.Standing.{In-filter, In-put, In-map, none_pass}
 use Rattle.fs_rows.specs.Table.{IsTable}
 use Rattle.fs_rows.specs.Answer.{answer_by, answer, given_row, rows_after, IsLeastAgainst}
 use Rattle.fs_rows.proofs.Order.{ordered_filter, ordered_map, ordered_put, found, found_least, neither}

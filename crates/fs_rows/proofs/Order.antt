@@ -10,9 +10,9 @@ use Rattle.std.proofs.lemmas.Cmp.{then_total, on_total, tied_itself}
 use Rattle.std.proofs.lemmas.Bool.Decides.{nat_tests}
 use Rattle.fs_ident.specs.declared.actor.LeaseNo.{LeaseNo}
 use Rattle.fs_field.specs.declared.row.Row.{Row}
-use Rattle.fs_field.specs.In.{In}
+use Rattle.fs_ident.specs.In.{In}
 use Rattle.fs_field.specs.Table.{same_no, no_before, is_ordered, has_no, with_row}
-use Rattle.fs_field.proofs.In.{In-filter, In-put, In-map}
+use Rattle.fs_ident.proofs.Standing.{In-filter, In-put, In-map}
 
 abbrev no_cmp : LeaseNo → LeaseNo → Ordering
 no_cmp a b = ordering_then (nat_cmp a.server b.server) (nat_cmp a.count b.count)

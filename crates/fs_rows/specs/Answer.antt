@@ -9,7 +9,7 @@ use Rattle.fs_field.specs.declared.asked.Asked.TheVariants.{Granted, Wait, Locke
 use Rattle.fs_field.specs.declared.field.Field.{Field}
 use Rattle.fs_field.specs.declared.lease_kind.LeaseKind.{LeaseKind}
 use Rattle.fs_field.specs.declared.row.Row.{Row}
-use Rattle.fs_field.specs.In.{In}
+use Rattle.fs_ident.specs.In.{In}
 use Rattle.fs_field.specs.Conflict.{stands_against}
 use Rattle.fs_field.specs.Table.{lock_on, no_before, with_row}
 

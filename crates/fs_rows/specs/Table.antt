@@ -1,7 +1,7 @@
 -- What every table of rows is.
 use Rattle.std.specs.Prelude.{◌≡◌, true, List}
 use Rattle.fs_field.specs.declared.row.Row.{Row}
-use Rattle.fs_field.specs.In.{In}
+use Rattle.fs_ident.specs.In.{In}
 use Rattle.fs_field.specs.Conflict.{IsCalm, is_plain}
 use Rattle.fs_field.specs.Table.{is_ordered}
 

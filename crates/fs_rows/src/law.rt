@@ -1,7 +1,7 @@
 //! Laws of tables of rows.
 ghost use Rattle.std.specs.Prelude.{◌≡◌, List};
 ghost use Rattle.fs_field.specs.declared.row.Row.{Row};
-ghost use Rattle.fs_field.specs.In.{In};
+ghost use Rattle.fs_ident.specs.In.{In};
 ghost use Rattle.fs_field.specs.Conflict.{Selves, WithoutConflict};
 ghost use Rattle.fs_rows.specs.Table.{IsTable};
 

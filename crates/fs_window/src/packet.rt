@@ -27,6 +27,8 @@ impl Twin for Packet {
             body: self.body.copy(alloc)?,
         })
     }
+
+    fn discard(self) {}
 }
 
 /// The packet that all of these bytes spell; `None` exactly where they spell none.

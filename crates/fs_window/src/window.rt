@@ -220,6 +220,8 @@ impl Twin for Window {
             got: self.got,
         })
     }
+
+    fn discard(self) {}
 }
 
 /// The packets, or an acknowledgement alone where there is none and a packet with a body was heard.

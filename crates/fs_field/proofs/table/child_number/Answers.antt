@@ -1,6 +1,6 @@
 use Rattle.std.proofs.Common.{◌≡◌, List, ℕ, Bool, true, [], ◌∷◌, ◌++◌, ap, sym, ◌∙◌, cond}
 use Rattle.std.specs.Prelude.{Some, None}
-use Rattle.fs_field.specs.Field.{same}
+use Rattle.fs_ident.specs.Ident.{same}
 use Rattle.fs_field.specs.Table.{child_number}
 use Rattle.fs_field.proofs.Below.{last_of}
 use Rattle.fs_field.proofs.table.child_number.Goals as goal

@@ -2,8 +2,8 @@
 use Rattle.std.proofs.Common.{◌≡◌, Bool, true, false, List, [], ◌∷◌, ◌++◌, ◌⊎◌, refl, ap, cond, sym, ◌∙◌, map, inl, inr}
 use Rattle.std.specs.List.{filter, find, list_any}
 use Rattle.std.specs.Prelude.{Option, Some, None}
-use Rattle.fs_field.specs.In.{In}
-use Rattle.fs_field.specs.After.{put_before}
+use Rattle.fs_ident.specs.In.{In}
+use Rattle.fs_ident.specs.Ordered.{put_before}
 
 pub In-filter : {X : Type 0} (test : X → Bool) (x : X) (ys : List X) → In x (filter test ys) → In x ys
 In-filter test x [] h = h
