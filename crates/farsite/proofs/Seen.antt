@@ -6,7 +6,7 @@ use Rattle.std.specs.Cmp.Lexicographic.{slice_cmp, nat_list_cmp_total}
 use Rattle.std.specs.Map.{lookup}
 use Rattle.std.specs.BTreeMap.{BTreeMap, insert_entry, is_at}
 use Rattle.std.specs.FinMap.{get, insert, from_entries, slice_cmp-IsAntisymmetric, nat_cmp-IsAntisymmetric}
-use Rattle.fs_model.proofs.Maps.{get_here, map_insert}
+use Rattle.fs_ident.proofs.Entries.{get_here, map_insert}
 use Rattle.farsite.specs.Seen.{seen_numbers, seen_counts}
 
 pub numbers_get : (m : BTreeMap (List ℕ) ℕ) (q : List ℕ) → get (seen_numbers m) q ≡ lookup (is_at (slice_cmp nat_cmp q)) m.entries

@@ -7,7 +7,7 @@ use Rattle.fs_ident.specs.declared.kind.Kind.{Kind}
 use Rattle.fs_model.specs.declared.op.Op.{Op}
 use Rattle.fs_model.specs.declared.op.Op.TheVariants as op
 use Rattle.fs_model.specs.Namespace.{NodeMap}
-use Rattle.fs_model.specs.Step.{Stepped, step, stay, create, create_in, create_as, is_child, made}
+use Rattle.fs_model.specs.Step.{Stepped, step, reply_alone, create, create_in, create_as, is_child, with_new_node}
 use Rattle.fs_model.specs.Children.{child_at}
 use Rattle.fs_model.specs.declared.node.Node.{Node}
 use Rattle.fs_model.specs.declared.reply.Reply.TheVariants as reply
@@ -53,15 +53,15 @@ answer_steps m next by (op.Rename sdir sname ddir dname) = record { reply = refl
 answer_steps m next by (op.Reap file session) = record { reply = refl; space = refl; same = refl }
 
 -- a create that is not made leaves the space as it was
-as_kept : (b : Bool) (m n : NodeMap) → is_made (if b then record { reply = reply.Made; nodes = n } else stay m reply.BadId).reply ≡ false → (if b then record { reply = reply.Made; nodes = n } else stay m reply.BadId).nodes ≡ m
+as_kept : (b : Bool) (m n : NodeMap) → is_made (if b then record { reply = reply.Made; nodes = n } else reply_alone m reply.BadId).reply ≡ false → (if b then record { reply = reply.Made; nodes = n } else reply_alone m reply.BadId).nodes ≡ m
 as_kept true m n e = absurd (cc)
 as_kept false m n e = refl
 
 create_as_kept : (m : NodeMap) (dir name : List ℕ) (kind : Kind) (id : Option (List ℕ)) → is_made (create_as m dir name kind id).reply ≡ false → (create_as m dir name kind id).nodes ≡ m
 create_as_kept m dir name kind None e = refl
-create_as_kept m dir name kind (Some id) e = as_kept (is_child dir id && not (is_some (get m id))) m (made m dir name kind id) e
+create_as_kept m dir name kind (Some id) e = as_kept (is_child dir id && not (is_some (get m id))) m (with_new_node m dir name kind id) e
 
-exists_kept : (b : Bool) (m : NodeMap) (s : Stepped) → (is_made s.reply ≡ false → s.nodes ≡ m) → is_made (if b then stay m reply.Exists else s).reply ≡ false → (if b then stay m reply.Exists else s).nodes ≡ m
+exists_kept : (b : Bool) (m : NodeMap) (s : Stepped) → (is_made s.reply ≡ false → s.nodes ≡ m) → is_made (if b then reply_alone m reply.Exists else s).reply ≡ false → (if b then reply_alone m reply.Exists else s).nodes ≡ m
 exists_kept true m s h e = refl
 exists_kept false m s h e = h e
 

@@ -1,28 +1,15 @@
--- Steps of the loops over handles, and the order of handles after an edit.
-use Rattle.std.proofs.Common.{◌≡◌, ℕ, suc, ◌+◌, ◌<◌, List, [], ◌∷◌, length, get_or, drop, refl, ap, arith, cond, Bool, true, false}
+-- A step of the loop over handles, and the order of handles after an edit.
+use Rattle.std.proofs.Common.{◌≡◌, ℕ, ◌+◌, ◌<◌, List, [], ◌∷◌, length, get_or, drop, refl, arith, cond, Bool, true, false}
 use Rattle.std.specs.Prelude.{Option, Some, None, ◌&&◌, filter}
 use Rattle.std.proofs.lemmas.Bool.Decides.{nat_tests}
 use Rattle.fs_modes.specs.declared.modes.Modes.{Modes}
-use Rattle.std.specs.List.{insert}
 use Rattle.std.proofs.lemmas.List.{drop_more}
 use Rattle.fs_ident.specs.declared.actor.Session.{Session}
 use Rattle.fs_model.specs.declared.node.Handle.{Handle}
 use Rattle.fs_model.specs.Handles.{is_at, comes_before, is_before_all, handles_are_in_order, handle_at, with_handle}
-use Rattle.fs_model.specs.Places.{place_of}
 
 pub find_step : (session : Session) (h : ℕ) (xs : List Handle) (i : ℕ) (d : Handle) → i < length xs → handle_at (drop i xs) session h ≡ cond (is_at session h (get_or xs i d)) (Some (get_or xs i d).modes) (handle_at (drop (i + 1) xs) session h)
 find_step session h xs i d lt = rw (drop_more xs i d lt)
-
-pub place_step : (new : Handle) (xs : List Handle) (i : ℕ) (d : Handle) → i < length xs → place_of new (drop i xs) ≡ cond (comes_before new (get_or xs i d)) 0 (suc (place_of new (drop (i + 1) xs)))
-place_step new xs i d lt = rw (drop_more xs i d lt)
-
-pub with_handle_insert : (new : Handle) (xs : List Handle) → with_handle xs new ≡ insert xs (place_of new xs) new
-with_handle_insert new [] = refl
-with_handle_insert new (x ∷ xs) =
-    elim (comes_before new x) as (λ b. cond b (new ∷ x ∷ xs) (x ∷ with_handle xs new) ≡ insert (x ∷ xs) (cond b 0 (suc (place_of new xs))) new) [
-      | true ↦ refl
-      | false ↦ ap (λ xs. x ∷ xs) (with_handle_insert new xs)
-    ]
 
 both : (a b : Bool) → a ≡ true → b ≡ true → (a && b) ≡ true
 both true b p q = q

@@ -1,8 +1,5 @@
-pub mod Maps
-pub mod Seen
 pub mod Spaces
 pub mod Chains
-pub mod ChildOrder
 pub mod HandleOrder
 pub mod Keeping
 pub mod SoundMaps

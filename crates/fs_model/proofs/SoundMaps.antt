@@ -10,10 +10,10 @@ use Rattle.std.specs.Cmp.Lexicographic.{slice_cmp, nat_list_cmp_total}
 use Rattle.std.specs.declared.cmp.Ordering.{Ordering}
 use Rattle.std.specs.declared.cmp.Ordering.TheVariants.{Less, Equal, Greater}
 use Rattle.fs_model.specs.declared.node.Node.{Node}
-use Rattle.fs_model.specs.Namespace.{NodeMap, changed, changed_at}
+use Rattle.fs_model.specs.Namespace.{NodeMap, with_change, with_change_at}
 use Rattle.fs_model.specs.Children.{Children, child_at, with_child, without_child}
 use Rattle.fs_model.specs.Sound.{child_of}
-use Rattle.fs_model.specs.Step.{named, unnamed}
+use Rattle.fs_model.specs.Step.{with_link, without_link}
 
 equal_if_eq : (o : Ordering) → is_eq o ≡ true → o ≡ Equal
 equal_if_eq Less e = absurd (cc)
@@ -52,31 +52,31 @@ remove_here m k = get-remove nat_list_cmp_total m k k ∙ ap (λ b. cond b None 
 pub remove_other : (m : NodeMap) (k q : List ℕ) → q ≢ k → get (remove m k) q ≡ get m q
 remove_other m k q h = get-remove nat_list_cmp_total m k q ∙ ap (λ b. cond b None (get m q)) (same_other q k h)
 
-pub changed_here : (f : Node → Node) (m : NodeMap) (k : List ℕ) → get (changed f m k) k ≡ option_map f (get m k)
-changed_here f m k = by (get m k) refl
+pub with_change_here : (f : Node → Node) (m : NodeMap) (k : List ℕ) → get (with_change f m k) k ≡ option_map f (get m k)
+with_change_here f m k = by (get m k) refl
   where
-    by : (o : Option Node) → get m k ≡ o → get (changed_at f m k o) k ≡ option_map f o
+    by : (o : Option Node) → get m k ≡ o → get (with_change_at f m k o) k ≡ option_map f o
     by None e = e
     by (Some n) e = insert_here m k (f n)
 
-pub changed_other : (f : Node → Node) (m : NodeMap) (k q : List ℕ) → q ≢ k → get (changed f m k) q ≡ get m q
-changed_other f m k q h = by (get m k)
+pub with_change_other : (f : Node → Node) (m : NodeMap) (k q : List ℕ) → q ≢ k → get (with_change f m k) q ≡ get m q
+with_change_other f m k q h = by (get m k)
   where
-    by : (o : Option Node) → get (changed_at f m k o) q ≡ get m q
+    by : (o : Option Node) → get (with_change_at f m k o) q ≡ get m q
     by None = refl
     by (Some n) = insert_other m k (f n) q h
 
 -- a view that the change keeps
-pub view_kept : {A : Type 0} (v : Option Node → A) (f : Node → Node) (m : NodeMap) (k : List ℕ) → ((n : Node) → v (Some (f n)) ≡ v (Some n)) → (q : List ℕ) → v (get (changed f m k) q) ≡ v (get m q)
+pub view_kept : {A : Type 0} (v : Option Node → A) (f : Node → Node) (m : NodeMap) (k : List ℕ) → ((n : Node) → v (Some (f n)) ≡ v (Some n)) → (q : List ℕ) → v (get (with_change f m k) q) ≡ v (get m q)
 view_kept v f m k h q = by (either q k)
   where
     mapped : (o : Option Node) → v (option_map f o) ≡ v o
     mapped None = refl
     mapped (Some n) = h n
 
-    by : (q ≡ k) ⊎ (q ≢ k) → v (get (changed f m k) q) ≡ v (get m q)
-    by (inl e) = subst (λ q. v (get (changed f m k) q) ≡ v (get m q)) (sym e) (ap v (changed_here f m k) ∙ mapped (get m k))
-    by (inr e) = ap v (changed_other f m k q e)
+    by : (q ≡ k) ⊎ (q ≢ k) → v (get (with_change f m k) q) ≡ v (get m q)
+    by (inl e) = subst (λ q. v (get (with_change f m k) q) ≡ v (get m q)) (sym e) (ap v (with_change_here f m k) ∙ mapped (get m k))
+    by (inr e) = ap v (with_change_other f m k q e)
 
 -- ## The children of one directory
 
@@ -101,34 +101,34 @@ without_other cs name other h = without cs name other ∙ ap (λ b. cond (not b)
 abbrev pub Apart : List ℕ → List ℕ → List ℕ → List ℕ → Type 0
 Apart dir name other_dir other_name = dir ≡ other_dir → name ≡ other_name → ⊥
 
-pub named_here : (m : NodeMap) (dir name id : List ℕ) (d : Node) → get m dir ≡ Some d → child_of (get (changed (named name id) m dir) dir) name ≡ Some id
-named_here m dir name id d e = ap (λ o. child_of o name) (changed_here (named name id) m dir) ∙ ap (λ o. child_of (option_map (named name id) o) name) e ∙ with_here d.children name id
+pub with_link_here : (m : NodeMap) (dir name id : List ℕ) (d : Node) → get m dir ≡ Some d → child_of (get (with_change (with_link name id) m dir) dir) name ≡ Some id
+with_link_here m dir name id d e = ap (λ o. child_of o name) (with_change_here (with_link name id) m dir) ∙ ap (λ o. child_of (option_map (with_link name id) o) name) e ∙ with_here d.children name id
 
-pub named_other : (m : NodeMap) (dir name id q other : List ℕ) → Apart q other dir name → child_of (get (changed (named name id) m dir) q) other ≡ child_of (get m q) other
-named_other m dir name id q other h = by (either q dir)
+pub with_link_other : (m : NodeMap) (dir name id q other : List ℕ) → Apart q other dir name → child_of (get (with_change (with_link name id) m dir) q) other ≡ child_of (get m q) other
+with_link_other m dir name id q other h = by (either q dir)
   where
-    at : other ≢ name → (o : Option Node) → child_of (option_map (named name id) o) other ≡ child_of o other
+    at : other ≢ name → (o : Option Node) → child_of (option_map (with_link name id) o) other ≡ child_of o other
     at x None = refl
     at x (Some n) = with_other n.children name id other x
 
-    by : (q ≡ dir) ⊎ (q ≢ dir) → child_of (get (changed (named name id) m dir) q) other ≡ child_of (get m q) other
-    by (inl e) = subst (λ q. child_of (get (changed (named name id) m dir) q) other ≡ child_of (get m q) other) (sym e) (ap (λ o. child_of o other) (changed_here (named name id) m dir) ∙ at (h e) (get m dir))
-    by (inr e) = ap (λ o. child_of o other) (changed_other (named name id) m dir q e)
+    by : (q ≡ dir) ⊎ (q ≢ dir) → child_of (get (with_change (with_link name id) m dir) q) other ≡ child_of (get m q) other
+    by (inl e) = subst (λ q. child_of (get (with_change (with_link name id) m dir) q) other ≡ child_of (get m q) other) (sym e) (ap (λ o. child_of o other) (with_change_here (with_link name id) m dir) ∙ at (h e) (get m dir))
+    by (inr e) = ap (λ o. child_of o other) (with_change_other (with_link name id) m dir q e)
 
-pub unnamed_here : (m : NodeMap) (dir name : List ℕ) → child_of (get (changed (unnamed name) m dir) dir) name ≡ None
-unnamed_here m dir name = ap (λ o. child_of o name) (changed_here (unnamed name) m dir) ∙ at (get m dir)
+pub without_link_here : (m : NodeMap) (dir name : List ℕ) → child_of (get (with_change (without_link name) m dir) dir) name ≡ None
+without_link_here m dir name = ap (λ o. child_of o name) (with_change_here (without_link name) m dir) ∙ at (get m dir)
   where
-    at : (o : Option Node) → child_of (option_map (unnamed name) o) name ≡ None
+    at : (o : Option Node) → child_of (option_map (without_link name) o) name ≡ None
     at None = refl
     at (Some n) = without_here n.children name
 
-pub unnamed_other : (m : NodeMap) (dir name q other : List ℕ) → Apart q other dir name → child_of (get (changed (unnamed name) m dir) q) other ≡ child_of (get m q) other
-unnamed_other m dir name q other h = by (either q dir)
+pub without_link_other : (m : NodeMap) (dir name q other : List ℕ) → Apart q other dir name → child_of (get (with_change (without_link name) m dir) q) other ≡ child_of (get m q) other
+without_link_other m dir name q other h = by (either q dir)
   where
-    at : other ≢ name → (o : Option Node) → child_of (option_map (unnamed name) o) other ≡ child_of o other
+    at : other ≢ name → (o : Option Node) → child_of (option_map (without_link name) o) other ≡ child_of o other
     at x None = refl
     at x (Some n) = without_other n.children name other x
 
-    by : (q ≡ dir) ⊎ (q ≢ dir) → child_of (get (changed (unnamed name) m dir) q) other ≡ child_of (get m q) other
-    by (inl e) = subst (λ q. child_of (get (changed (unnamed name) m dir) q) other ≡ child_of (get m q) other) (sym e) (ap (λ o. child_of o other) (changed_here (unnamed name) m dir) ∙ at (h e) (get m dir))
-    by (inr e) = ap (λ o. child_of o other) (changed_other (unnamed name) m dir q e)
+    by : (q ≡ dir) ⊎ (q ≢ dir) → child_of (get (with_change (without_link name) m dir) q) other ≡ child_of (get m q) other
+    by (inl e) = subst (λ q. child_of (get (with_change (without_link name) m dir) q) other ≡ child_of (get m q) other) (sym e) (ap (λ o. child_of o other) (with_change_here (without_link name) m dir) ∙ at (h e) (get m dir))
+    by (inr e) = ap (λ o. child_of o other) (with_change_other (without_link name) m dir q e)

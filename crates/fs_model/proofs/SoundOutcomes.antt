@@ -12,24 +12,24 @@ use Rattle.fs_model.specs.declared.op.Op.{Op}
 use Rattle.fs_model.specs.declared.op.Op.TheVariants as op
 use Rattle.fs_model.specs.declared.reply.Reply.{Reply}
 use Rattle.fs_model.specs.declared.reply.Reply.TheVariants as reply
-use Rattle.fs_model.specs.Namespace.{NodeMap, changed}
+use Rattle.fs_model.specs.Namespace.{NodeMap, with_change}
 use Rattle.fs_model.specs.Children.{child_at}
 use Rattle.fs_model.specs.Handles.{handle_at, any_conflicts}
 use Rattle.fs_model.specs.Ancestors.{is_on_chain}
-use Rattle.fs_model.specs.Step.{Stepped, stay, step, made, moved, unnamed, sized, opened, closed, reaped, found, look_up_in, look_up, list_in, list, kind_reply, kind, info, is_child, create_as, create_in, create, open_file, close, set_by, set, is_childless, is_unused, delete_child, delete_in, delete, denies_delete, rename_child, rename_to_dir, rename_to, rename_in, rename}
-use Rattle.fs_model.specs.Sound.{changes}
+use Rattle.fs_model.specs.Step.{Stepped, reply_alone, step, with_new_node, with_moved_node, without_link, with_info, with_open, without_open, without_opens, child_reply, look_up_in, look_up, list_in, list, kind_reply, kind, info, is_child, create_as, create_in, create, open_file, close, set_by, set, is_childless, is_unused, delete_child, delete_in, delete, denies_delete, rename_child, rename_to_dir, rename_to, rename_in, rename}
+use Rattle.fs_model.specs.Sound.{is_change}
 
 -- of the modes of an open, what is asked holds
 pub data Outcome (Asked : Modes → Type 0) (m : NodeMap) (by : Session) : Stepped → Type 0 where
-  stays : (r : Reply) → changes r ≡ false → Outcome Asked m by (stay m r)
-  same_place : Outcome Asked m by (stay m reply.Renamed)
-  makes : (dir name : List ℕ) (kind : Kind) (id : List ℕ) (d : Node) → get m dir ≡ Some d → d.kind ≡ Dir → child_at d.children name ≡ None → get m id ≡ None → Outcome Asked m by (record { reply = reply.Made; nodes = made m dir name kind id })
-  opens : (file : List ℕ) (h : ℕ) (modes : Modes) (n : Node) → Asked modes → get m file ≡ Some n → handle_at n.handles by h ≡ None → any_conflicts n.handles modes ≡ false → Outcome Asked m by (record { reply = reply.Opened; nodes = changed (opened by h modes) m file })
-  closes : (file : List ℕ) (h : ℕ) → Outcome Asked m by (record { reply = reply.Closed; nodes = changed (closed by h) m file })
-  sets : (file : List ℕ) (size stamp : ℕ) → Outcome Asked m by (record { reply = reply.Set; nodes = changed (sized size stamp) m file })
-  deletes : (dir name file : List ℕ) (d : Node) → get m dir ≡ Some d → child_at d.children name ≡ Some file → is_childless (get m file) ≡ true → Outcome Asked m by (record { reply = reply.Deleted; nodes = remove (changed (unnamed name) m dir) file })
-  renames : (file sdir sname ddir dname : List ℕ) (s d : Node) → get m sdir ≡ Some s → child_at s.children sname ≡ Some file → get m ddir ≡ Some d → d.kind ≡ Dir → child_at d.children dname ≡ None → is_on_chain m file ddir ≡ false → Outcome Asked m by (record { reply = reply.Renamed; nodes = moved m file sdir sname ddir dname })
-  reaps : (file : List ℕ) (session : Session) → Outcome Asked m by (record { reply = reply.Reaped; nodes = changed (reaped session) m file })
+  stays : (r : Reply) → is_change r ≡ false → Outcome Asked m by (reply_alone m r)
+  same_place : Outcome Asked m by (reply_alone m reply.Renamed)
+  makes : (dir name : List ℕ) (kind : Kind) (id : List ℕ) (d : Node) → get m dir ≡ Some d → d.kind ≡ Dir → child_at d.children name ≡ None → get m id ≡ None → Outcome Asked m by (record { reply = reply.Made; nodes = with_new_node m dir name kind id })
+  opens : (file : List ℕ) (h : ℕ) (modes : Modes) (n : Node) → Asked modes → get m file ≡ Some n → handle_at n.handles by h ≡ None → any_conflicts n.handles modes ≡ false → Outcome Asked m by (record { reply = reply.Opened; nodes = with_change (with_open by h modes) m file })
+  closes : (file : List ℕ) (h : ℕ) → Outcome Asked m by (record { reply = reply.Closed; nodes = with_change (without_open by h) m file })
+  sets : (file : List ℕ) (size stamp : ℕ) → Outcome Asked m by (record { reply = reply.Set; nodes = with_change (with_info size stamp) m file })
+  deletes : (dir name file : List ℕ) (d : Node) → get m dir ≡ Some d → child_at d.children name ≡ Some file → is_childless (get m file) ≡ true → Outcome Asked m by (record { reply = reply.Deleted; nodes = remove (with_change (without_link name) m dir) file })
+  renames : (file sdir sname ddir dname : List ℕ) (s d : Node) → get m sdir ≡ Some s → child_at s.children sname ≡ Some file → get m ddir ≡ Some d → d.kind ≡ Dir → child_at d.children dname ≡ None → is_on_chain m file ddir ≡ false → Outcome Asked m by (record { reply = reply.Renamed; nodes = with_moved_node m file sdir sname ddir dname })
+  reaps : (file : List ℕ) (session : Session) → Outcome Asked m by (record { reply = reply.Reaped; nodes = with_change (without_opens session) m file })
 
 none_from : {A : Type 0} (o : Option A) → is_some o ≡ false → o ≡ None
 none_from None e = refl
@@ -37,35 +37,35 @@ none_from (Some x) e = absurd (cc e)
 
 -- ## Reads
 
-found_reads : (o : Option (List ℕ)) → changes (found o) ≡ false
-found_reads None = refl
-found_reads (Some id) = refl
+child_reply_reads : (o : Option (List ℕ)) → is_change (child_reply o) ≡ false
+child_reply_reads None = refl
+child_reply_reads (Some id) = refl
 
-look_up_in_reads : (k : Kind) (n : Node) (name : List ℕ) → changes (look_up_in k n name) ≡ false
+look_up_in_reads : (k : Kind) (n : Node) (name : List ℕ) → is_change (look_up_in k n name) ≡ false
 look_up_in_reads File n name = refl
-look_up_in_reads Dir n name = found_reads (child_at n.children name)
+look_up_in_reads Dir n name = child_reply_reads (child_at n.children name)
 
-look_up_reads : (o : Option Node) (name : List ℕ) → changes (look_up o name) ≡ false
+look_up_reads : (o : Option Node) (name : List ℕ) → is_change (look_up o name) ≡ false
 look_up_reads None name = refl
 look_up_reads (Some n) name = look_up_in_reads n.kind n name
 
-list_in_reads : (k : Kind) (n : Node) → changes (list_in k n) ≡ false
+list_in_reads : (k : Kind) (n : Node) → is_change (list_in k n) ≡ false
 list_in_reads File n = refl
 list_in_reads Dir n = refl
 
-list_reads : (o : Option Node) → changes (list o) ≡ false
+list_reads : (o : Option Node) → is_change (list o) ≡ false
 list_reads None = refl
 list_reads (Some n) = list_in_reads n.kind n
 
-kind_reply_reads : (k : Kind) → changes (kind_reply k) ≡ false
+kind_reply_reads : (k : Kind) → is_change (kind_reply k) ≡ false
 kind_reply_reads File = refl
 kind_reply_reads Dir = refl
 
-kind_reads : (o : Option Node) → changes (kind o) ≡ false
+kind_reads : (o : Option Node) → is_change (kind o) ≡ false
 kind_reads None = refl
 kind_reads (Some n) = kind_reply_reads n.kind
 
-info_reads : (o : Option Node) → changes (info o) ≡ false
+info_reads : (o : Option Node) → is_change (info o) ≡ false
 info_reads None = refl
 info_reads (Some n) = refl
 

@@ -20,7 +20,7 @@ use Rattle.fs_model.specs.Children.{child_at}
 use Rattle.fs_model.specs.Handles.{any_conflicts, comes_before, is_before_all, handles_are_in_order}
 use Rattle.fs_model.specs.Ancestors.{directory_of, ancestors_within, ancestors, is_among}
 use Rattle.fs_model.specs.Step.{Stepped, step, rename, rename_in, rename_to, rename_to_dir, rename_child}
-use Rattle.fs_model.specs.Sound.{kind_of, place_of, child_of, open_of, none_conflict, IsTree, IsSound, IsSoundNode, AreApart, AsksAccess, after, AllAskAccess, changes}
+use Rattle.fs_model.specs.Sound.{kind_of, parent_of, child_of, open_of, none_conflict, IsTree, IsSound, IsSoundNode, AreApart, AsksAccess, space_after, AllAskAccess, is_change}
 use Rattle.fs_model.proofs.SoundMaps.{either, insert_here, insert_other}
 use Rattle.fs_model.proofs.SoundChains.{nearer, enough, one_depth, few_steps, reaches}
 use Rattle.fs_model.proofs.SoundHandles.{two_apart, conflicts_comm}
@@ -50,7 +50,7 @@ asked (op.Reap file session) a = tt
 pub step_sound : (m : NodeMap) (by : Session) (o : Op) → IsSound m → AsksAccess o → IsSound (step m by o).nodes
 step_sound m by o s a = outcome_sound m by (step m by o) (outcome HasAccess m by o (asked o a)) s
 
-pub runs_sound : (m : NodeMap) (os : List (Session × Op)) → IsSound m → AllAskAccess os → IsSound (after m os)
+pub runs_sound : (m : NodeMap) (os : List (Session × Op)) → IsSound m → AllAskAccess os → IsSound (space_after m os)
 runs_sound m [] s a = s
 runs_sound m (o ∷ os) s a = runs_sound (step m o.0 o.1).nodes os (step_sound m o.0 o.1 s a.0) a.1
 
@@ -72,18 +72,18 @@ first_both P at off q = elim (either q []) as (λ _. P (get first_space q)) [
 first_tree : IsTree first_space
 first_tree = record {
   root = ap kind_of first_root;
-  unplaced = ap place_of first_root;
+  unplaced = ap parent_of first_root;
   placed = λ q h other. absurd (not_there q h other);
-  in_directories = λ q d c p. absurd (not_none {A = List ℕ × List ℕ} (d, c) (place_of (get first_space q)) p (unplaced q));
+  in_directories = λ q d c p. absurd (not_none {A = List ℕ × List ℕ} (d, c) (parent_of (get first_space q)) p (unplaced q));
   rooted = λ q h. elim (either q []) as (λ _. (k : ℕ) × IsTrue (is_among [] (q ∷ ancestors_within k first_space q))) [ inl e ↦ reaches 0 first_space q e | inr e ↦ absurd (not_there q h e) ];
-  agreeing = λ d c q. ((λ h. absurd (not_none q (child_of (get first_space d) c) h (barren c d))), (λ p. absurd (not_none {A = List ℕ × List ℕ} (d, c) (place_of (get first_space q)) p (unplaced q))));
+  agreeing = λ d c q. ((λ h. absurd (not_none q (child_of (get first_space d) c) h (barren c d))), (λ p. absurd (not_none {A = List ℕ × List ℕ} (d, c) (parent_of (get first_space q)) p (unplaced q))));
 }
   where
     not_there : (q : List ℕ) → is_some (get first_space q) ≡ true → q ≢ [] → ⊥
     not_there q h other = let z : true ≡ false = sym h ∙ ap is_some (first_other q other) in cc z
 
-    unplaced : (q : List ℕ) → place_of (get first_space q) ≡ None
-    unplaced q = first_both (λ o. place_of o ≡ None) refl refl q
+    unplaced : (q : List ℕ) → parent_of (get first_space q) ≡ None
+    unplaced q = first_both (λ o. parent_of o ≡ None) refl refl q
 
     barren : (c q : List ℕ) → child_of (get first_space q) c ≡ None
     barren c q = first_both (λ o. child_of o c ≡ None) refl refl q
@@ -158,7 +158,7 @@ numbers_apart m file x y a b s other p q = by (get m file) refl p q
 
 -- ## What a step leaves as it is
 
-outcome_reads : (m : NodeMap) (by : Session) (t : Stepped) → Outcome (λ _. Unit {0}) m by t → changes t.reply ≡ false → t.nodes ≡ m
+outcome_reads : (m : NodeMap) (by : Session) (t : Stepped) → Outcome (λ _. Unit {0}) m by t → is_change t.reply ≡ false → t.nodes ≡ m
 outcome_reads m by t (stays r q) e = refl
 outcome_reads m by t same_place e = refl
 outcome_reads m by t (makes dir name kind id d p k u a) e = absurd (cc e)
@@ -182,7 +182,7 @@ nothing_asked (op.Delete dir name) = tt
 nothing_asked (op.Rename sdir sname ddir dname) = tt
 nothing_asked (op.Reap file session) = tt
 
-pub step_reads : (m : NodeMap) (by : Session) (o : Op) → changes (step m by o).reply ≡ false → (step m by o).nodes ≡ m
+pub step_reads : (m : NodeMap) (by : Session) (o : Op) → is_change (step m by o).reply ≡ false → (step m by o).nodes ≡ m
 step_reads m by o e = outcome_reads m by (step m by o) (outcome (λ _. Unit {0}) m by o (nothing_asked o)) e
 
 pub sound_space : (m : NodeMap) → IsSound m → IsSpace m

@@ -6,7 +6,7 @@ use Rattle.fs_ident.specs.declared.kind.Kind.TheVariants.{Dir}
 use Rattle.fs_model.specs.declared.node.Node.{Node}
 use Rattle.fs_model.specs.Namespace.{NodeMap}
 use Rattle.fs_model.specs.Ancestors.{directory_of, is_on_chain}
-use Rattle.fs_model.specs.Sound.{kind_of, place_of, child_of, IsTree, ReachesRoot}
+use Rattle.fs_model.specs.Sound.{kind_of, parent_of, child_of, IsTree, ReachesRoot}
 use Rattle.fs_model.proofs.SoundMaps.{either, Apart}
 use Rattle.fs_model.proofs.SoundChains.{Climbs, IsTop, climbs, reaches, climb_kept, climb_clear, few_steps}
 
@@ -20,24 +20,24 @@ is_there (Some n) = refl
 pub there_as : (o p : Option Node) → kind_of o ≡ kind_of p → is_some o ≡ is_some p
 there_as o p e = sym (is_there o) ∙ ap is_some e ∙ is_there p
 
-by_place : (o : Option Node) → directory_of o ≡ option_map (λ p. p.0) (place_of o)
+by_place : (o : Option Node) → directory_of o ≡ option_map (λ p. p.0) (parent_of o)
 by_place None = refl
 by_place (Some n) = refl
 
-dir_as : (o p : Option Node) → place_of o ≡ place_of p → directory_of o ≡ directory_of p
+dir_as : (o p : Option Node) → parent_of o ≡ parent_of p → directory_of o ≡ directory_of p
 dir_as o p e = by_place o ∙ ap (option_map (λ p. p.0)) e ∙ sym (by_place p)
 
-dir_at : (o : Option Node) (dir name : List ℕ) → place_of o ≡ Some (dir, name) → directory_of o ≡ Some dir
+dir_at : (o : Option Node) (dir name : List ℕ) → parent_of o ≡ Some (dir, name) → directory_of o ≡ Some dir
 dir_at o dir name e = by_place o ∙ ap (option_map (λ p. p.0)) e
 
-place_at : (o : Option Node) (dir : List ℕ) → directory_of o ≡ Some dir → (name : List ℕ) × (place_of o ≡ Some (dir, name))
-place_at o dir e = by (place_of o) (sym (by_place o) ∙ e)
+place_at : (o : Option Node) (dir : List ℕ) → directory_of o ≡ Some dir → (name : List ℕ) × (parent_of o ≡ Some (dir, name))
+place_at o dir e = by (parent_of o) (sym (by_place o) ∙ e)
   where
     by : (p : Option (List ℕ × List ℕ)) → option_map (λ p. p.0) p ≡ Some dir → (name : List ℕ) × (p ≡ Some (dir, name))
     by None e = absurd (cc e)
     by (Some p) e = let q : p.0 ≡ dir = cc e in (p.1, ap (λ dir. Some (dir, p.1)) q)
 
-pub placed_there : (o : Option Node) (dir name : List ℕ) → place_of o ≡ Some (dir, name) → is_some o ≡ true
+pub placed_there : (o : Option Node) (dir name : List ℕ) → parent_of o ≡ Some (dir, name) → is_some o ≡ true
 placed_there None dir name e = absurd (cc e)
 placed_there (Some n) dir name e = refl
 
@@ -71,14 +71,14 @@ module _ (m : NodeMap) (tree : IsTree m) where
   pub depth : (file : List ℕ) → IsSome (get m file) → (d : ℕ) × Climbs d m file
   depth file h = let r = tree.rooted file h in climbs r.0 m file r.1
 
-  pub placed_low : (file dir name : List ℕ) → place_of (get m file) ≡ Some (dir, name) → file ≢ []
-  placed_low file dir name e r = not_none {A = List ℕ × List ℕ} (dir, name) (place_of (get m file)) e (ap (λ q. place_of (get m q)) r ∙ tree.unplaced)
+  pub placed_low : (file dir name : List ℕ) → parent_of (get m file) ≡ Some (dir, name) → file ≢ []
+  placed_low file dir name e r = not_none {A = List ℕ × List ℕ} (dir, name) (parent_of (get m file)) e (ap (λ q. parent_of (get m q)) r ∙ tree.unplaced)
 
 -- ## Nothing of the tree changes
 
 pub record SameShape (m n : NodeMap) : Type 0 where
   pub kinds : (q : List ℕ) → kind_of (get n q) ≡ kind_of (get m q)
-  pub places : (q : List ℕ) → place_of (get n q) ≡ place_of (get m q)
+  pub places : (q : List ℕ) → parent_of (get n q) ≡ parent_of (get m q)
   pub children : (q name : List ℕ) → child_of (get n q) name ≡ child_of (get m q) name
 
 pub same_tree : (m n : NodeMap) → SameShape m n → IsTree m → IsTree n
@@ -106,8 +106,8 @@ pub record Makes (m n : NodeMap) (dir name id : List ℕ) : Type 0 where
   pub unused : child_of (get m dir) name ≡ None
   pub absent : get m id ≡ None
   pub kinds : (q : List ℕ) → q ≢ id → kind_of (get n q) ≡ kind_of (get m q)
-  pub place : place_of (get n id) ≡ Some (dir, name)
-  pub places : (q : List ℕ) → q ≢ id → place_of (get n q) ≡ place_of (get m q)
+  pub place : parent_of (get n id) ≡ Some (dir, name)
+  pub places : (q : List ℕ) → q ≢ id → parent_of (get n q) ≡ parent_of (get m q)
   pub child : child_of (get n dir) name ≡ Some id
   pub children : (q other : List ℕ) → Apart q other dir name → child_of (get n q) other ≡ child_of (get m q) other
 
@@ -130,15 +130,15 @@ made_tree m n dir name id s tree = record {
     was : (file : List ℕ) → file ≢ id → IsSome (get n file) → IsSome (get m file)
     was file other h = there_as (get m file) (get n file) (sym (s.kinds file other)) ∙ h
 
-    placed : (file : List ℕ) → IsSome (get n file) → file ≢ [] → IsSome (place_of (get n file))
-    placed file h low = elim (either file id) as (λ _. IsSome (place_of (get n file))) [
-      | inl e ↦ ap (λ q. is_some (place_of (get n q))) e ∙ ap is_some s.place
+    placed : (file : List ℕ) → IsSome (get n file) → file ≢ [] → IsSome (parent_of (get n file))
+    placed file h low = elim (either file id) as (λ _. IsSome (parent_of (get n file))) [
+      | inl e ↦ ap (λ q. is_some (parent_of (get n q))) e ∙ ap is_some s.place
       | inr e ↦ ap is_some (s.places file e) ∙ tree.placed file (was file e h) low
     ]
 
-    in_directories : (file d c : List ℕ) → place_of (get n file) ≡ Some (d, c) → kind_of (get n d) ≡ Some Dir
+    in_directories : (file d c : List ℕ) → parent_of (get n file) ≡ Some (d, c) → kind_of (get n d) ≡ Some Dir
     in_directories file d c p = elim (either file id) as (λ _. kind_of (get n d) ≡ Some Dir) [
-      | inl e ↦ (let q = same_place dir name d c (sym s.place ∙ ap (λ q. place_of (get n q)) (sym e) ∙ p) in ap (λ q. kind_of (get n q)) (sym q.0) ∙ old_dir dir s.in_dir)
+      | inl e ↦ (let q = same_place dir name d c (sym s.place ∙ ap (λ q. parent_of (get n q)) (sym e) ∙ p) in ap (λ q. kind_of (get n q)) (sym q.0) ∙ old_dir dir s.in_dir)
       | inr e ↦ old_dir d (tree.in_directories file d c (sym (s.places file e) ∙ p))
     ]
 
@@ -149,24 +149,24 @@ made_tree m n dir name id s tree = record {
 
     rooted : (file : List ℕ) → IsSome (get n file) → ReachesRoot n file
     rooted file h = elim (either file id) as (λ _. ReachesRoot n file) [
-      | inl e ↦ (let c = chain dir (sym (is_there (get m dir)) ∙ ap is_some s.in_dir) in reaches (suc c.0) n file (dir, dir_at (get n file) dir name (ap (λ q. place_of (get n q)) e ∙ s.place), c.1))
+      | inl e ↦ (let c = chain dir (sym (is_there (get m dir)) ∙ ap is_some s.in_dir) in reaches (suc c.0) n file (dir, dir_at (get n file) dir name (ap (λ q. parent_of (get n q)) e ∙ s.place), c.1))
       | inr e ↦ (let c = chain file (was file e h) in reaches c.0 n file c.1)
     ]
 
-    down : (d c file : List ℕ) → child_of (get n d) c ≡ Some file → place_of (get n file) ≡ Some (d, c)
-    down d c file h = elim (at_or_apart d c dir name) as (λ _. place_of (get n file) ≡ Some (d, c)) [
+    down : (d c file : List ℕ) → child_of (get n d) c ≡ Some file → parent_of (get n file) ≡ Some (d, c)
+    down d c file h = elim (at_or_apart d c dir name) as (λ _. parent_of (get n file) ≡ Some (d, c)) [
       | inl e ↦ (
           let same : id ≡ file = same_some id file (sym s.child ∙ ap (λ q. child_of (get n q) name) (sym e.0) ∙ ap (child_of (get n d)) (sym e.1) ∙ h) in
-          ap (λ q. place_of (get n q)) (sym same) ∙ s.place ∙ ap (λ q. Some (q, name)) (sym e.0) ∙ ap (λ q. Some (d, q)) (sym e.1))
+          ap (λ q. parent_of (get n q)) (sym same) ∙ s.place ∙ ap (λ q. Some (q, name)) (sym e.0) ∙ ap (λ q. Some (d, q)) (sym e.1))
       | inr e ↦ (
           let p = (tree.agreeing d c file).0 (sym (s.children d c e) ∙ h) in
           s.places file (old file (placed_there (get m file) d c p)) ∙ p)
     ]
 
-    up : (d c file : List ℕ) → place_of (get n file) ≡ Some (d, c) → child_of (get n d) c ≡ Some file
+    up : (d c file : List ℕ) → parent_of (get n file) ≡ Some (d, c) → child_of (get n d) c ≡ Some file
     up d c file p = elim (either file id) as (λ _. child_of (get n d) c ≡ Some file) [
       | inl e ↦ (
-          let q = same_place dir name d c (sym s.place ∙ ap (λ q. place_of (get n q)) (sym e) ∙ p) in
+          let q = same_place dir name d c (sym s.place ∙ ap (λ q. parent_of (get n q)) (sym e) ∙ p) in
           ap (λ q. child_of (get n q) c) (sym q.0) ∙ ap (child_of (get n dir)) (sym q.1) ∙ s.child ∙ ap Some (sym e))
       | inr e ↦ (
           let h = (tree.agreeing d c file).1 (sym (s.places file e) ∙ p) in
@@ -180,7 +180,7 @@ pub record Deletes (m n : NodeMap) (dir name file : List ℕ) : Type 0 where
   pub empty : (c : List ℕ) → child_of (get m file) c ≡ None
   pub gone : get n file ≡ None
   pub kinds : (q : List ℕ) → q ≢ file → kind_of (get n q) ≡ kind_of (get m q)
-  pub places : (q : List ℕ) → q ≢ file → place_of (get n q) ≡ place_of (get m q)
+  pub places : (q : List ℕ) → q ≢ file → parent_of (get n q) ≡ parent_of (get m q)
   pub left : child_of (get n dir) name ≡ None
   pub children : (q other : List ℕ) → Apart q other dir name → child_of (get n q) other ≡ child_of (get m q) other
 
@@ -196,7 +196,7 @@ deleted_tree m n dir name file s tree = record {
   agreeing = λ d c q. (down d c q, up d c q);
 }
   where
-    place : place_of (get m file) ≡ Some (dir, name)
+    place : parent_of (get m file) ≡ Some (dir, name)
     place = (tree.agreeing dir name file).0 s.was
 
     low : [] ≢ file
@@ -209,18 +209,18 @@ deleted_tree m n dir name file s tree = record {
     was q h = there_as (get m q) (get n q) (sym (s.kinds q (kept q h))) ∙ h
 
     -- a directory with a file in it is another one
-    full : (q d c : List ℕ) → place_of (get m q) ≡ Some (d, c) → d ≢ file
+    full : (q d c : List ℕ) → parent_of (get m q) ≡ Some (d, c) → d ≢ file
     full q d c p e = not_none q (child_of (get m d) c) ((tree.agreeing d c q).1 p) (ap (λ q. child_of (get m q) c) e ∙ s.empty c)
 
-    down : (d c q : List ℕ) → child_of (get n d) c ≡ Some q → place_of (get n q) ≡ Some (d, c)
-    down d c q h = elim (at_or_apart d c dir name) as (λ _. place_of (get n q) ≡ Some (d, c)) [
+    down : (d c q : List ℕ) → child_of (get n d) c ≡ Some q → parent_of (get n q) ≡ Some (d, c)
+    down d c q h = elim (at_or_apart d c dir name) as (λ _. parent_of (get n q) ≡ Some (d, c)) [
       | inl e ↦ absurd (not_none q (child_of (get n d) c) h (ap (λ q. child_of (get n q) c) e.0 ∙ ap (child_of (get n dir)) e.1 ∙ s.left))
       | inr e ↦ (
           let p = (tree.agreeing d c q).0 (sym (s.children d c e) ∙ h) in
-          s.places q (λ z. (let w = same_place d c dir name (sym p ∙ ap (λ q. place_of (get m q)) z ∙ place) in e w.0 w.1)) ∙ p)
+          s.places q (λ z. (let w = same_place d c dir name (sym p ∙ ap (λ q. parent_of (get m q)) z ∙ place) in e w.0 w.1)) ∙ p)
     ]
 
-    up : (d c q : List ℕ) → place_of (get n q) ≡ Some (d, c) → child_of (get n d) c ≡ Some q
+    up : (d c q : List ℕ) → parent_of (get n q) ≡ Some (d, c) → child_of (get n d) c ≡ Some q
     up d c q p =
         let k : q ≢ file = kept q (placed_there (get n q) d c p) in
         let h = (tree.agreeing d c q).1 (sym (s.places q k) ∙ p) in
@@ -234,8 +234,8 @@ pub record Moves (m n : NodeMap) (file sdir sname ddir dname : List ℕ) : Type 
   pub unused : child_of (get m ddir) dname ≡ None
   pub clear : is_on_chain m file ddir ≡ false
   pub kinds : (q : List ℕ) → kind_of (get n q) ≡ kind_of (get m q)
-  pub place : place_of (get n file) ≡ Some (ddir, dname)
-  pub places : (q : List ℕ) → q ≢ file → place_of (get n q) ≡ place_of (get m q)
+  pub place : parent_of (get n file) ≡ Some (ddir, dname)
+  pub places : (q : List ℕ) → q ≢ file → parent_of (get n q) ≡ parent_of (get m q)
   pub child : child_of (get n ddir) dname ≡ Some file
   pub left : child_of (get n sdir) sname ≡ None
   pub children : (q other : List ℕ) → Apart q other ddir dname → Apart q other sdir sname → child_of (get n q) other ≡ child_of (get m q) other
@@ -250,21 +250,21 @@ moved_tree m n file sdir sname ddir dname s tree = record {
   agreeing = λ d c q. (down d c q, up d c q);
 }
   where
-    place : place_of (get m file) ≡ Some (sdir, sname)
+    place : parent_of (get m file) ≡ Some (sdir, sname)
     place = (tree.agreeing sdir sname file).0 s.was
 
     low : [] ≢ file
     low e = placed_low m tree file sdir sname place (sym e)
 
-    placed : (q : List ℕ) → IsSome (get n q) → q ≢ [] → IsSome (place_of (get n q))
-    placed q h other = elim (either q file) as (λ _. IsSome (place_of (get n q))) [
-      | inl e ↦ ap (λ q. is_some (place_of (get n q))) e ∙ ap is_some s.place
+    placed : (q : List ℕ) → IsSome (get n q) → q ≢ [] → IsSome (parent_of (get n q))
+    placed q h other = elim (either q file) as (λ _. IsSome (parent_of (get n q))) [
+      | inl e ↦ ap (λ q. is_some (parent_of (get n q))) e ∙ ap is_some s.place
       | inr e ↦ ap is_some (s.places q e) ∙ tree.placed q (there_as (get m q) (get n q) (sym (s.kinds q)) ∙ h) other
     ]
 
-    in_directories : (q d c : List ℕ) → place_of (get n q) ≡ Some (d, c) → kind_of (get n d) ≡ Some Dir
+    in_directories : (q d c : List ℕ) → parent_of (get n q) ≡ Some (d, c) → kind_of (get n d) ≡ Some Dir
     in_directories q d c p = elim (either q file) as (λ _. kind_of (get n d) ≡ Some Dir) [
-      | inl e ↦ (let w = same_place ddir dname d c (sym s.place ∙ ap (λ q. place_of (get n q)) (sym e) ∙ p) in ap (λ q. kind_of (get n q)) (sym w.0) ∙ s.kinds ddir ∙ s.in_dir)
+      | inl e ↦ (let w = same_place ddir dname d c (sym s.place ∙ ap (λ q. parent_of (get n q)) (sym e) ∙ p) in ap (λ q. kind_of (get n q)) (sym w.0) ∙ s.kinds ddir ∙ s.in_dir)
       | inr e ↦ s.kinds d ∙ tree.in_directories q d c (sym (s.places q e) ∙ p)
     ]
 
@@ -279,27 +279,27 @@ moved_tree m n file sdir sname ddir dname s tree = record {
     chain (suc k) q c =
         let rest = chain k c.0 c.2 in
         elim (either q file) as (λ _. (d : ℕ) × Climbs d n q) [
-          | inl e ↦ (suc to.0, (ddir, dir_at (get n q) ddir dname (ap (λ q. place_of (get n q)) e ∙ s.place), to.1))
+          | inl e ↦ (suc to.0, (ddir, dir_at (get n q) ddir dname (ap (λ q. parent_of (get n q)) e ∙ s.place), to.1))
           | inr e ↦ (suc rest.0, (c.0, dir_as _ _ (s.places q e) ∙ c.1, rest.1))
         ]
 
-    down : (d c q : List ℕ) → child_of (get n d) c ≡ Some q → place_of (get n q) ≡ Some (d, c)
-    down d c q h = elim (at_or_apart d c ddir dname) as (λ _. place_of (get n q) ≡ Some (d, c)) [
+    down : (d c q : List ℕ) → child_of (get n d) c ≡ Some q → parent_of (get n q) ≡ Some (d, c)
+    down d c q h = elim (at_or_apart d c ddir dname) as (λ _. parent_of (get n q) ≡ Some (d, c)) [
       | inl e ↦ (
           let same : file ≡ q = same_some file q (sym s.child ∙ ap (λ q. child_of (get n q) dname) (sym e.0) ∙ ap (child_of (get n d)) (sym e.1) ∙ h) in
-          ap (λ q. place_of (get n q)) (sym same) ∙ s.place ∙ ap (λ q. Some (q, dname)) (sym e.0) ∙ ap (λ q. Some (d, q)) (sym e.1))
-      | inr e ↦ elim (at_or_apart d c sdir sname) as (λ _. place_of (get n q) ≡ Some (d, c)) [
+          ap (λ q. parent_of (get n q)) (sym same) ∙ s.place ∙ ap (λ q. Some (q, dname)) (sym e.0) ∙ ap (λ q. Some (d, q)) (sym e.1))
+      | inr e ↦ elim (at_or_apart d c sdir sname) as (λ _. parent_of (get n q) ≡ Some (d, c)) [
         | inl f ↦ absurd (not_none q (child_of (get n d) c) h (ap (λ q. child_of (get n q) c) f.0 ∙ ap (child_of (get n sdir)) f.1 ∙ s.left))
         | inr f ↦ (
             let p = (tree.agreeing d c q).0 (sym (s.children d c e f) ∙ h) in
-            s.places q (λ z. (let w = same_place d c sdir sname (sym p ∙ ap (λ q. place_of (get m q)) z ∙ place) in f w.0 w.1)) ∙ p)
+            s.places q (λ z. (let w = same_place d c sdir sname (sym p ∙ ap (λ q. parent_of (get m q)) z ∙ place) in f w.0 w.1)) ∙ p)
       ]
     ]
 
-    up : (d c q : List ℕ) → place_of (get n q) ≡ Some (d, c) → child_of (get n d) c ≡ Some q
+    up : (d c q : List ℕ) → parent_of (get n q) ≡ Some (d, c) → child_of (get n d) c ≡ Some q
     up d c q p = elim (either q file) as (λ _. child_of (get n d) c ≡ Some q) [
       | inl e ↦ (
-          let w = same_place ddir dname d c (sym s.place ∙ ap (λ q. place_of (get n q)) (sym e) ∙ p) in
+          let w = same_place ddir dname d c (sym s.place ∙ ap (λ q. parent_of (get n q)) (sym e) ∙ p) in
           ap (λ q. child_of (get n q) c) (sym w.0) ∙ ap (child_of (get n ddir)) (sym w.1) ∙ s.child ∙ ap Some (sym e))
       | inr e ↦ (
           let h = (tree.agreeing d c q).1 (sym (s.places q e) ∙ p) in

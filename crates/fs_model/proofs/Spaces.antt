@@ -6,9 +6,7 @@ use Rattle.std.specs.Ordering.{nat_cmp}
 use Rattle.std.specs.Cmp.Lexicographic.{slice_cmp, nat_list_cmp_total}
 use Rattle.std.specs.FinMap.{empty, get, insert, remove, get-empty, get-insert, get-remove}
 use Rattle.fs_model.specs.declared.node.Node.{Node}
-use Rattle.fs_model.specs.Children.{child_at}
-use Rattle.fs_model.specs.Step.{children_of}
-use Rattle.fs_model.specs.Namespace.{NodeMap, IsSpace, IsInOrder, changed, changed_at}
+use Rattle.fs_model.specs.Namespace.{NodeMap, IsSpace, IsInOrder, with_change, with_change_at}
 
 -- a node of the space is in order
 pub in_order_at : (m : NodeMap) → IsSpace m → (id : List ℕ) (n : Node) → get m id ≡ Some n → IsInOrder n
@@ -32,20 +30,12 @@ IsSpace-insert m k n s own id = subst (λ o. IfSome o IsInOrder) (sym (get-inser
 pub IsSpace-remove : (m : NodeMap) (k : List ℕ) → IsSpace m → IsSpace (remove m k)
 IsSpace-remove m k s id = subst (λ o. IfSome o IsInOrder) (sym (get-remove nat_list_cmp_total m k id)) (neither _ (get m id) (s id))
 
-pub IsSpace-changed : (f : Node → Node) (m : NodeMap) (id : List ℕ) → ((n : Node) → IsInOrder n → IsInOrder (f n)) → IsSpace m → IsSpace (changed f m id)
-IsSpace-changed f m id keeps s = go (get m id) refl
+pub IsSpace-with_change : (f : Node → Node) (m : NodeMap) (id : List ℕ) → ((n : Node) → IsInOrder n → IsInOrder (f n)) → IsSpace m → IsSpace (with_change f m id)
+IsSpace-with_change f m id keeps s = go (get m id) refl
   where
-    go : (o : Option Node) → get m id ≡ o → IsSpace (changed_at f m id o)
+    go : (o : Option Node) → get m id ≡ o → IsSpace (with_change_at f m id o)
     go None e = s
     go (Some n) e = IsSpace-insert m id (f n) s (keeps n (in_order_at m s id n e))
 
 pub IsSpace-empty : IsSpace empty
 IsSpace-empty id = subst (λ (o : Option Node). IfSome o IsInOrder) (sym (get-empty (slice_cmp nat_cmp) id)) tt
-
-free_in : (b : Bool) (fresh : Node) (o : Option Node) (name : List ℕ) → child_at fresh.children name ≡ None → child_at (children_of o) name ≡ None → child_at (children_of (cond b (Some fresh) o)) name ≡ None
-free_in true fresh o name own rest = own
-free_in false fresh o name own rest = rest
-
--- a name that is free stays so when a node without children is added
-pub free_after : (m : NodeMap) (id : List ℕ) (fresh : Node) (dir name : List ℕ) → child_at fresh.children name ≡ None → child_at (children_of (get m dir)) name ≡ None → child_at (children_of (get (insert m id fresh) dir)) name ≡ None
-free_after m id fresh dir name own free = rw (get-insert nat_list_cmp_total m id fresh dir) (free_in _ fresh (get m dir) name own free)

@@ -1,14 +1,11 @@
 -- The children of a directory: pairs of a name and an identifier, strictly in order of name.
-use Rattle.std.specs.Prelude.{ℕ, Bool, not, List, map, Option}
+use Rattle.std.specs.Prelude.{ℕ, not, List, map, Option}
 use Rattle.std.specs.Ordering.{nat_cmp, eq_by_cmp}
 use Rattle.std.specs.Cmp.Lexicographic.{slice_cmp}
-use Rattle.std.specs.FinMap.Entries.{find, put, where_key, is_sorted}
+use Rattle.std.specs.FinMap.Entries.{find, put, where_key}
 
 abbrev pub Children : Type 0
 Children = List (List ℕ × List ℕ)
-
-abbrev pub are_in_order : Children → Bool
-are_in_order children = is_sorted (slice_cmp nat_cmp) children
 
 -- the child of that name
 abbrev pub child_at : Children → List ℕ → Option (List ℕ)

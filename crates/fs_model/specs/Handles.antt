@@ -1,6 +1,7 @@
 -- The handles of a file: opens, strictly in order of session and number.
 use Rattle.std.specs.Prelude.{ℕ, Bool, true, not, ◌&&◌, ◌||◌, ◌==◌, nat_lt, List, [], ◌∷◌, Option, Some, None, if◌then◌else◌, filter}
 use Rattle.std.specs.List.{list_any}
+use Rattle.fs_ident.specs.Ordered.{put_before}
 use Rattle.fs_ident.specs.declared.actor.Session.{Session}
 use Rattle.fs_modes.specs.declared.modes.Modes.{Modes}
 use Rattle.fs_modes.specs.Modes.{conflicts}
@@ -29,8 +30,7 @@ handle_at (x ∷ xs) session h = if is_at session h x then Some x.modes else han
 
 -- with one more handle, before the first one that is greater
 abbrev pub with_handle : List Handle → Handle → List Handle
-with_handle [] new = new ∷ []
-with_handle (x ∷ xs) new = if comes_before new x then new ∷ x ∷ xs else x ∷ with_handle xs new
+with_handle handles new = put_before (comes_before new) new handles
 
 -- without the session's handle of that number
 abbrev pub without_handle : List Handle → Session → ℕ → List Handle

@@ -4,6 +4,4 @@ pub mod Handles
 pub mod Ancestors
 pub mod Step
 pub mod Sound
-pub mod Seen
-pub mod Places
 pub mod Asking

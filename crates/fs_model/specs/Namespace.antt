@@ -3,10 +3,10 @@ use Rattle.std.specs.Prelude.{ℕ, IsTrue, List, [], Option, Some, None, IfSome}
 use Rattle.std.specs.FinMap.{FinMap, get, insert, empty}
 use Rattle.std.specs.Ordering.{nat_cmp}
 use Rattle.std.specs.Cmp.Lexicographic.{slice_cmp}
+use Rattle.fs_ident.specs.Ordered.{are_keys_in_order}
 use Rattle.fs_ident.specs.declared.kind.Kind.{Kind}
 use Rattle.fs_ident.specs.declared.kind.Kind.TheVariants.{Dir}
 use Rattle.fs_model.specs.declared.node.Node.{Node}
-use Rattle.fs_model.specs.Children.{are_in_order}
 use Rattle.fs_model.specs.Handles.{handles_are_in_order}
 
 abbrev pub NodeMap : Type 0
@@ -25,7 +25,7 @@ first_space = insert empty [] root_node
 
 -- the children are in order of name, and the handles in order of session and number
 pub record IsInOrder (n : Node) : Type 0 where
-  pub children : IsTrue (are_in_order n.children)
+  pub children : IsTrue (are_keys_in_order n.children)
   pub handles : IsTrue (handles_are_in_order n.handles)
 
 -- each node of the space is in order
@@ -33,9 +33,9 @@ abbrev pub IsSpace : NodeMap → Type 0
 IsSpace m = (id : List ℕ) → IfSome (get m id) IsInOrder
 
 -- the space where the file, if it has a node, has it changed
-abbrev pub changed_at : (Node → Node) → NodeMap → List ℕ → Option Node → NodeMap
-changed_at f m id None = m
-changed_at f m id (Some n) = insert m id (f n)
+abbrev pub with_change_at : (Node → Node) → NodeMap → List ℕ → Option Node → NodeMap
+with_change_at f m id None = m
+with_change_at f m id (Some n) = insert m id (f n)
 
-abbrev pub changed : (Node → Node) → NodeMap → List ℕ → NodeMap
-changed f m id = changed_at f m id (get m id)
+abbrev pub with_change : (Node → Node) → NodeMap → List ℕ → NodeMap
+with_change f m id = with_change_at f m id (get m id)

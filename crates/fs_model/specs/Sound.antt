@@ -26,9 +26,9 @@ kind_of None = None
 kind_of (Some n) = Some n.kind
 
 -- the directory that it is in, and its name there
-abbrev pub place_of : Option Node → Option (List ℕ × List ℕ)
-place_of None = None
-place_of (Some n) = n.parent
+abbrev pub parent_of : Option Node → Option (List ℕ × List ℕ)
+parent_of None = None
+parent_of (Some n) = n.parent
 
 -- its child of that name
 abbrev pub child_of : Option Node → List ℕ → Option (List ℕ)
@@ -44,15 +44,15 @@ pub record IsTree (m : NodeMap) : Type 0 where
   -- the root is a directory
   pub root : kind_of (get m []) ≡ Some Dir
   -- the root has no parent
-  pub unplaced : place_of (get m []) ≡ None
+  pub unplaced : parent_of (get m []) ≡ None
   -- every other node has a parent
-  pub placed : (file : List ℕ) → IsSome (get m file) → file ≢ [] → IsSome (place_of (get m file))
+  pub placed : (file : List ℕ) → IsSome (get m file) → file ≢ [] → IsSome (parent_of (get m file))
   -- every parent is a directory
-  pub in_directories : (file dir name : List ℕ) → place_of (get m file) ≡ Some (dir, name) → kind_of (get m dir) ≡ Some Dir
+  pub in_directories : (file dir name : List ℕ) → parent_of (get m file) ≡ Some (dir, name) → kind_of (get m dir) ≡ Some Dir
   -- every chain of parents ends at the root
   pub rooted : (file : List ℕ) → IsSome (get m file) → ReachesRoot m file
   -- a directory has a child under a name exactly where the child's parent is that directory under that name
-  pub agreeing : (dir name file : List ℕ) → (child_of (get m dir) name ≡ Some file) ↔ (place_of (get m file) ≡ Some (dir, name))
+  pub agreeing : (dir name file : List ℕ) → (child_of (get m dir) name ≡ Some file) ↔ (parent_of (get m file) ≡ Some (dir, name))
 
 -- ## What a node has
 
@@ -100,9 +100,9 @@ AsksAccess (op.OpenFile file h modes) = IsTrue (has_access modes)
 AsksAccess _ = Unit {0}
 
 -- the space after the operations, each by its session
-abbrev pub after : NodeMap → List (Session × Op) → NodeMap
-after m [] = m
-after m (o ∷ os) = after (step m o.0 o.1).nodes os
+abbrev pub space_after : NodeMap → List (Session × Op) → NodeMap
+space_after m [] = m
+space_after m (o ∷ os) = space_after (step m o.0 o.1).nodes os
 
 -- each open of the list asks for an access
 abbrev pub AllAskAccess : List (Session × Op) → Type 0
@@ -110,12 +110,12 @@ AllAskAccess [] = Unit {0}
 AllAskAccess (o ∷ os) = AsksAccess o.1 × AllAskAccess os
 
 -- the replies to operations that change the space; a file may also be renamed to the place that it has
-abbrev pub changes : Reply → Bool
-changes reply.Made = true
-changes reply.Opened = true
-changes reply.Closed = true
-changes reply.Set = true
-changes reply.Deleted = true
-changes reply.Renamed = true
-changes reply.Reaped = true
-changes _ = false
+abbrev pub is_change : Reply → Bool
+is_change reply.Made = true
+is_change reply.Opened = true
+is_change reply.Closed = true
+is_change reply.Set = true
+is_change reply.Deleted = true
+is_change reply.Renamed = true
+is_change reply.Reaped = true
+is_change _ = false

@@ -1,17 +1,16 @@
 //! Making files and directories.
 ghost use Rattle.std.specs.Prelude.{◌≡◌, IfOk, OnOk, OnErr, None};
 ghost use Rattle.std.specs.FinMap as map;
-ghost use Rattle.fs_model.specs.Children.{child_at};
 ghost use Rattle.fs_model.specs.Namespace.{IsSpace};
-ghost use Rattle.fs_model.specs.Seen.{seen};
-ghost use Rattle.fs_model.specs.Step.{create, is_child, made, children_of};
+ghost use Rattle.fs_ident.specs.Maps.{map_of};
+ghost use Rattle.fs_model.specs.Step.{create, is_child, with_new_node};
 
 use crate::changes;
 use crate::children::find;
 use crate::lookups::node_at;
 use crate::node::Node;
 use crate::reply::Reply;
-use fs_ident::{FileId, Kind, List, Memory, Name, Twin};
+use fs_ident::{FileId, Kind, Memory, Name, Twin};
 use std::alloc::Global;
 use std::collections::BTreeMap;
 
@@ -24,14 +23,14 @@ pub fn create(
     kind: Kind,
     id: &Option<FileId>,
 ) -> Result<Reply, Memory>
-    requires { IsSpace (seen nodes.old) }
+    requires { IsSpace (map_of nodes.old) }
     ensures reply { IfOk result (λ reply. reply ≡
-        (create (map.get (seen nodes.old) dir.now) (seen nodes.old) dir.now name.now kind
+        (create (map.get (map_of nodes.old) dir.now) (map_of nodes.old) dir.now name.now kind
         id.now).reply) }
-    ensures nodes { IfOk result (λ _. seen nodes.new ≡
-        (create (map.get (seen nodes.old) dir.now) (seen nodes.old) dir.now name.now kind
+    ensures nodes { IfOk result (λ _. map_of nodes.new ≡
+        (create (map.get (map_of nodes.old) dir.now) (map_of nodes.old) dir.now name.now kind
         id.now).nodes) }
-    ensures err { OnErr result (seen nodes.new ≡ seen nodes.old) }
+    ensures err { OnErr result (map_of nodes.new ≡ map_of nodes.old) }
 {
     let Some(node) = node_at(nodes, dir) else {
         return Ok(Reply::Gone);
@@ -68,25 +67,18 @@ fn make(
     kind: Kind,
     id: &FileId,
 ) -> Result<(), Memory>
-    requires in_order { IsSpace (seen nodes.old) }
-    requires free { child_at (children_of (map.get (seen nodes.old) dir.now)) name.now ≡ None }
-    requires absent { map.get (seen nodes.old) id.now ≡ None }
-    ensures ok { OnOk result (seen nodes.new ≡ made (seen nodes.old) dir.now name.now kind id.now) }
-    ensures err { OnErr result (seen nodes.new ≡ seen nodes.old) }
+    requires in_order { IsSpace (map_of nodes.old) }
+    requires absent { map.get (map_of nodes.old) id.now ≡ None }
+    ensures ok { OnOk result (map_of nodes.new ≡
+        with_new_node (map_of nodes.old) dir.now name.now kind id.now) }
+    ensures err { OnErr result (map_of nodes.new ≡ map_of nodes.old) }
 {
     let key = id.copy(alloc)?;
     let child = id.copy(alloc)?;
     let child_name = name.copy(alloc)?;
-    let fresh = Node {
-        kind,
-        parent: Some((dir.copy(alloc)?, name.copy(alloc)?)),
-        children: List::new(alloc),
-        size: 0,
-        stamp: 0,
-        handles: List::new(alloc),
-    };
-    changes::add(nodes, key, fresh)?;
-    match changes::name(nodes, dir, child_name, child) {
+    let parent = Some((dir.copy(alloc)?, name.copy(alloc)?));
+    changes::add(nodes, key, Node::new(alloc, kind, parent))?;
+    match changes::link(nodes, dir, child_name, child) {
         Ok(()) => Ok(()),
         Err(e) => {
             changes::remove(nodes, id);

@@ -2,7 +2,7 @@
 ghost use Rattle.std.specs.Prelude.{◌≡◌};
 ghost use Rattle.std.specs.FinMap as map;
 ghost use Rattle.fs_model.specs.Namespace.{IsSpace};
-ghost use Rattle.fs_model.specs.Seen.{seen};
+ghost use Rattle.fs_ident.specs.Maps.{map_of};
 ghost use Rattle.fs_model.specs.Step.{delete, is_childless, is_unused};
 
 use crate::changes;
@@ -15,11 +15,11 @@ use std::collections::BTreeMap;
 
 /// Deletes the child of that name.
 pub fn delete(nodes: &mut BTreeMap<FileId, Node>, dir: &FileId, name: &Name) -> Reply
-    requires { IsSpace (seen nodes.old) }
+    requires { IsSpace (map_of nodes.old) }
     ensures reply { result ≡
-        (delete (map.get (seen nodes.old) dir.now) (seen nodes.old) dir.now name.now).reply }
-    ensures nodes { seen nodes.new ≡
-        (delete (map.get (seen nodes.old) dir.now) (seen nodes.old) dir.now name.now).nodes }
+        (delete (map.get (map_of nodes.old) dir.now) (map_of nodes.old) dir.now name.now).reply }
+    ensures nodes { map_of nodes.new ≡
+        (delete (map.get (map_of nodes.old) dir.now) (map_of nodes.old) dir.now name.now).nodes }
 {
     let Some(node) = node_at(nodes, dir) else {
         return Reply::Gone;
@@ -36,7 +36,7 @@ pub fn delete(nodes: &mut BTreeMap<FileId, Node>, dir: &FileId, name: &Name) -> 
     if !is_unused(nodes, file) {
         return Reply::InUse;
     }
-    if let Some(file) = changes::unname(nodes, dir, name) {
+    if let Some(file) = changes::unlink(nodes, dir, name) {
         changes::remove(nodes, &file);
     }
     Reply::Deleted
@@ -44,8 +44,8 @@ pub fn delete(nodes: &mut BTreeMap<FileId, Node>, dir: &FileId, name: &Name) -> 
 
 /// Whether the file has no children.
 fn is_childless(nodes: &BTreeMap<FileId, Node>, file: &FileId) -> bool
-    requires { IsSpace (seen nodes.now) }
-    ensures { result ≡ is_childless (map.get (seen nodes.now) file.now) }
+    requires { IsSpace (map_of nodes.now) }
+    ensures { result ≡ is_childless (map.get (map_of nodes.now) file.now) }
 {
     match node_at(nodes, file) {
         None => true,
@@ -55,8 +55,8 @@ fn is_childless(nodes: &BTreeMap<FileId, Node>, file: &FileId) -> bool
 
 /// Whether the file has no handles.
 fn is_unused(nodes: &BTreeMap<FileId, Node>, file: &FileId) -> bool
-    requires { IsSpace (seen nodes.now) }
-    ensures { result ≡ is_unused (map.get (seen nodes.now) file.now) }
+    requires { IsSpace (map_of nodes.now) }
+    ensures { result ≡ is_unused (map.get (map_of nodes.now) file.now) }
 {
     match node_at(nodes, file) {
         None => true,

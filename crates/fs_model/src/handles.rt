@@ -1,7 +1,7 @@
 //! The handles of a file, in order of session and number.
-ghost use Rattle.std.specs.Prelude.{◌≡◌, ◌≤◌, length, OnOk, OnErr};
+ghost use Rattle.std.specs.Prelude.{◌≡◌, ◌<◌, ◌≤◌, length, unwrap_or, IfSome, OnOk, OnErr};
+ghost use Rattle.std.specs.List.{position};
 ghost use Rattle.fs_model.specs.Handles.{is_at, comes_before, handle_at, with_handle, without_handle, without_session, any_conflicts, any_denies_delete};
-ghost use Rattle.fs_model.specs.Places.{place_of};
 
 use crate::node::Handle;
 use fs_ident::{List, Memory, Session};
@@ -44,23 +44,26 @@ fn comes_before(a: Handle, b: Handle) -> bool
 }
 
 /// The place of the first handle that comes after this one, or the end.
-#[tactic(auto, using(crate::proofs::HandleOrder::place_step))]
 fn place(handles: &[Handle], new: Handle) -> usize
-    ensures place { result ≡ place_of new handles.now }
-    ensures bound { result ≤ length handles.now }
+    ensures place { result ≡ unwrap_or (position (comes_before new) handles.now)
+        (length handles.now) }
+    ensures within { result ≤ length handles.now }
 {
-    let mut at = 0;
-    for x in handles {
-        if comes_before(new, *x) {
-            return at;
-        }
-        at += 1;
+    match first_after(handles, new) {
+        Some(at) => at,
+        None => handles.len(),
     }
-    at
+}
+
+fn first_after(handles: &[Handle], new: Handle) -> Option<usize>
+    ensures same { result ≡ position (comes_before new) handles.now }
+    ensures within { IfSome result (λ at. at < length handles.now) }
+{
+    handles.iter().position(|x| comes_before(new, *x))
 }
 
 /// Adds a handle in its place.
-#[tactic(auto, using(crate::proofs::HandleOrder::with_handle_insert))]
+#[tactic(auto, using(fs_ident::proofs::Put::put_at))]
 pub fn add(handles: &mut List<Handle>, new: Handle) -> Result<(), Memory>
     ensures ok { OnOk result (handles.new ≡ with_handle handles.old new) }
     ensures err { OnErr result (handles.new ≡ handles.old) }
@@ -70,7 +73,7 @@ pub fn add(handles: &mut List<Handle>, new: Handle) -> Result<(), Memory>
 }
 
 /// Takes away the session's handle of that number.
-pub fn close(handles: &mut List<Handle>, alloc: Global, session: Session, h: u32)
+pub fn close(alloc: Global, handles: &mut List<Handle>, session: Session, h: u32)
     ensures { handles.new ≡ without_handle handles.old session h }
 {
     let mut kept = mem::replace(handles, List::new(alloc)).into_vec();
@@ -85,7 +88,7 @@ fn keep_others(handles: &mut Vec<Handle>, session: Session, h: u32)
 }
 
 /// Takes away every handle of the session.
-pub fn reap(handles: &mut List<Handle>, alloc: Global, session: Session)
+pub fn reap(alloc: Global, handles: &mut List<Handle>, session: Session)
     ensures { handles.new ≡ without_session handles.old session }
 {
     let mut kept = mem::replace(handles, List::new(alloc)).into_vec();

@@ -6,7 +6,7 @@ ghost use Rattle.fs_modes.specs.declared.modes.Modes.{Modes};
 ghost use Rattle.fs_modes.specs.Modes.{conflicts};
 ghost use Rattle.fs_model.specs.Ancestors.{ancestors, ancestors_within, is_among};
 ghost use Rattle.fs_model.specs.Namespace.{NodeMap, IsSpace, first_space};
-ghost use Rattle.fs_model.specs.Sound.{IsSound, AsksAccess, AllAskAccess, AreApart, after, changes, open_of};
+ghost use Rattle.fs_model.specs.Sound.{IsSound, AsksAccess, AllAskAccess, AreApart, space_after, is_change, open_of};
 ghost use Rattle.fs_model.specs.Step.{step};
 ghost use Rattle.fs_model.specs.declared.op.Op.{Op};
 ghost use Rattle.fs_model.specs.declared.op.Op.TheVariants.{Rename};
@@ -25,7 +25,7 @@ pub fn steps_stay_sound()
 /// Whatever a list of sessions does, one after the other, a sound space stays sound.
 pub fn runs_stay_sound()
     ensures { (m : NodeMap) (ops : List (Session × Op)) → IsSound m → AllAskAccess ops →
-        IsSound (after m ops) }
+        IsSound (space_after m ops) }
 {}
 
 /// Children stay in order of name and handles in order of session and number, and in a sound space they are.
@@ -57,7 +57,8 @@ pub fn no_two_handles_conflict()
 
 /// Every reply but to a change leaves the space as it is, and so does a rename to the place that the file has.
 pub fn reads_change_nothing()
-    ensures reads { (m : NodeMap) (by : Session) (op : Op) → changes (step m by op).reply ≡ false →
+    ensures reads { (m : NodeMap) (by : Session) (op : Op) →
+        is_change (step m by op).reply ≡ false →
         (step m by op).nodes ≡ m }
     ensures same_place { (m : NodeMap) (by : Session) (dir name : List ℕ) →
         (step m by (Rename dir name dir name)).nodes ≡ m }

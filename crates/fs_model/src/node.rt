@@ -25,6 +25,25 @@ pub struct Node {
     pub handles: List<Handle>,
 }
 
+impl Node {
+    ghost use Rattle.std.specs.Prelude.{◌≡◌};
+    ghost use Rattle.fs_model.specs.Namespace.{fresh_node};
+
+    /// A new node, with nothing in it.
+    pub fn new(alloc: Global, kind: Kind, parent: Option<(FileId, Name)>) -> Node
+        ensures { result ≡ fresh_node kind parent }
+    {
+        Node {
+            kind,
+            parent,
+            children: List::new(alloc),
+            size: 0,
+            stamp: 0,
+            handles: List::new(alloc),
+        }
+    }
+}
+
 impl Twin for Handle {
     fn copy(&self, _: Global) -> Result<Handle, Memory> {
         Ok(*self)

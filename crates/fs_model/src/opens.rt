@@ -2,7 +2,7 @@
 ghost use Rattle.std.specs.Prelude.{◌≡◌, IfOk, OnErr};
 ghost use Rattle.std.specs.FinMap as map;
 ghost use Rattle.fs_model.specs.Namespace.{IsSpace};
-ghost use Rattle.fs_model.specs.Seen.{seen};
+ghost use Rattle.fs_ident.specs.Maps.{map_of};
 ghost use Rattle.fs_model.specs.Step.{open_file, close, set};
 
 use crate::changes;
@@ -23,14 +23,14 @@ pub fn open_file(
     h: u32,
     modes: Modes,
 ) -> Result<Reply, Memory>
-    requires { IsSpace (seen nodes.old) }
+    requires { IsSpace (map_of nodes.old) }
     ensures reply { IfOk result (λ reply. reply ≡
-        (open_file (map.get (seen nodes.old) file.now) (seen nodes.old) by file.now h
+        (open_file (map.get (map_of nodes.old) file.now) (map_of nodes.old) by file.now h
         modes).reply) }
-    ensures nodes { IfOk result (λ _. seen nodes.new ≡
-        (open_file (map.get (seen nodes.old) file.now) (seen nodes.old) by file.now h
+    ensures nodes { IfOk result (λ _. map_of nodes.new ≡
+        (open_file (map.get (map_of nodes.old) file.now) (map_of nodes.old) by file.now h
         modes).nodes) }
-    ensures err { OnErr result (seen nodes.new ≡ seen nodes.old) }
+    ensures err { OnErr result (map_of nodes.new ≡ map_of nodes.old) }
 {
     let Some(node) = node_at(nodes, file) else {
         return Ok(Reply::Gone);
@@ -52,17 +52,17 @@ pub fn open_file(
 
 /// Closes the session's handle of that number.
 pub fn close(
-    nodes: &mut BTreeMap<FileId, Node>,
     alloc: Global,
+    nodes: &mut BTreeMap<FileId, Node>,
     by: Session,
     file: &FileId,
     h: u32,
 ) -> Reply
-    requires { IsSpace (seen nodes.old) }
+    requires { IsSpace (map_of nodes.old) }
     ensures reply { result ≡
-        (close (map.get (seen nodes.old) file.now) (seen nodes.old) by file.now h).reply }
-    ensures nodes { seen nodes.new ≡
-        (close (map.get (seen nodes.old) file.now) (seen nodes.old) by file.now h).nodes }
+        (close (map.get (map_of nodes.old) file.now) (map_of nodes.old) by file.now h).reply }
+    ensures nodes { map_of nodes.new ≡
+        (close (map.get (map_of nodes.old) file.now) (map_of nodes.old) by file.now h).nodes }
 {
     let Some(node) = node_at(nodes, file) else {
         return Reply::NoHandle;
@@ -70,7 +70,7 @@ pub fn close(
     if find(node.handles.as_slice(), by, h).is_none() {
         return Reply::NoHandle;
     }
-    changes::close(nodes, alloc, file, by, h);
+    changes::close(alloc, nodes, file, by, h);
     Reply::Closed
 }
 
@@ -83,11 +83,11 @@ pub fn set(
     size: u64,
     stamp: u64,
 ) -> Reply
-    requires { IsSpace (seen nodes.old) }
+    requires { IsSpace (map_of nodes.old) }
     ensures reply { result ≡
-        (set (map.get (seen nodes.old) file.now) (seen nodes.old) by file.now h size stamp).reply }
-    ensures nodes { seen nodes.new ≡
-        (set (map.get (seen nodes.old) file.now) (seen nodes.old) by file.now h size stamp).nodes }
+        (set (map.get (map_of nodes.old) file.now) (map_of nodes.old) by file.now h size stamp).reply }
+    ensures nodes { map_of nodes.new ≡
+        (set (map.get (map_of nodes.old) file.now) (map_of nodes.old) by file.now h size stamp).nodes }
 {
     let Some(node) = node_at(nodes, file) else {
         return Reply::NoHandle;

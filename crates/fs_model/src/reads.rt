@@ -2,7 +2,7 @@
 ghost use Rattle.std.specs.Prelude.{◌≡◌, IfOk};
 ghost use Rattle.std.specs.FinMap as map;
 ghost use Rattle.fs_model.specs.Namespace.{IsSpace};
-ghost use Rattle.fs_model.specs.Seen.{seen};
+ghost use Rattle.fs_ident.specs.Maps.{map_of};
 ghost use Rattle.fs_model.specs.Step.{look_up, list, kind, info};
 
 use crate::children::{find, names};
@@ -20,8 +20,8 @@ pub fn look_up(
     dir: &FileId,
     name: &Name,
 ) -> Result<Reply, Memory>
-    requires { IsSpace (seen nodes.now) }
-    ensures { IfOk result (λ reply. reply ≡ look_up (map.get (seen nodes.now) dir.now) name.now) }
+    requires { IsSpace (map_of nodes.now) }
+    ensures { IfOk result (λ reply. reply ≡ look_up (map.get (map_of nodes.now) dir.now) name.now) }
 {
     let Some(node) = node_at(nodes, dir) else {
         return Ok(Reply::Gone);
@@ -37,8 +37,8 @@ pub fn look_up(
 
 /// The names of a directory's children.
 pub fn list(alloc: Global, nodes: &BTreeMap<FileId, Node>, dir: &FileId) -> Result<Reply, Memory>
-    requires { IsSpace (seen nodes.now) }
-    ensures { IfOk result (λ reply. reply ≡ list (map.get (seen nodes.now) dir.now)) }
+    requires { IsSpace (map_of nodes.now) }
+    ensures { IfOk result (λ reply. reply ≡ list (map.get (map_of nodes.now) dir.now)) }
 {
     let Some(node) = node_at(nodes, dir) else {
         return Ok(Reply::Gone);
@@ -51,8 +51,8 @@ pub fn list(alloc: Global, nodes: &BTreeMap<FileId, Node>, dir: &FileId) -> Resu
 
 /// Whether the file is a directory.
 pub fn kind(nodes: &BTreeMap<FileId, Node>, file: &FileId) -> Reply
-    requires { IsSpace (seen nodes.now) }
-    ensures { result ≡ kind (map.get (seen nodes.now) file.now) }
+    requires { IsSpace (map_of nodes.now) }
+    ensures { result ≡ kind (map.get (map_of nodes.now) file.now) }
 {
     let Some(node) = node_at(nodes, file) else {
         return Reply::Gone;
@@ -65,8 +65,8 @@ pub fn kind(nodes: &BTreeMap<FileId, Node>, file: &FileId) -> Reply
 
 /// The file's size and stamp.
 pub fn info(nodes: &BTreeMap<FileId, Node>, file: &FileId) -> Reply
-    requires { IsSpace (seen nodes.now) }
-    ensures { result ≡ info (map.get (seen nodes.now) file.now) }
+    requires { IsSpace (map_of nodes.now) }
+    ensures { result ≡ info (map.get (map_of nodes.now) file.now) }
 {
     match node_at(nodes, file) {
         None => Reply::Gone,

@@ -1,10 +1,9 @@
 //! Moving files and directories.
-ghost use Rattle.std.specs.Prelude.{◌≡◌, IfOk, OnOk, OnErr, None};
+ghost use Rattle.std.specs.Prelude.{◌≡◌, IfOk, OnOk, OnErr};
 ghost use Rattle.std.specs.FinMap as map;
-ghost use Rattle.fs_model.specs.Children.{child_at};
 ghost use Rattle.fs_model.specs.Namespace.{IsSpace};
-ghost use Rattle.fs_model.specs.Seen.{seen};
-ghost use Rattle.fs_model.specs.Step.{rename, moved, denies_delete, children_of};
+ghost use Rattle.fs_ident.specs.Maps.{map_of};
+ghost use Rattle.fs_model.specs.Step.{rename, with_moved_node, denies_delete};
 
 use crate::chain::is_on_chain;
 use crate::changes;
@@ -26,14 +25,14 @@ pub fn rename(
     ddir: &FileId,
     dname: &Name,
 ) -> Result<Reply, Memory>
-    requires { IsSpace (seen nodes.old) }
+    requires { IsSpace (map_of nodes.old) }
     ensures reply { IfOk result (λ reply. reply ≡
-        (rename (map.get (seen nodes.old) sdir.now) (seen nodes.old) sdir.now sname.now ddir.now
+        (rename (map.get (map_of nodes.old) sdir.now) (map_of nodes.old) sdir.now sname.now ddir.now
         dname.now).reply) }
-    ensures nodes { IfOk result (λ _. seen nodes.new ≡
-        (rename (map.get (seen nodes.old) sdir.now) (seen nodes.old) sdir.now sname.now ddir.now
+    ensures nodes { IfOk result (λ _. map_of nodes.new ≡
+        (rename (map.get (map_of nodes.old) sdir.now) (map_of nodes.old) sdir.now sname.now ddir.now
         dname.now).nodes) }
-    ensures err { OnErr result (seen nodes.new ≡ seen nodes.old) }
+    ensures err { OnErr result (map_of nodes.new ≡ map_of nodes.old) }
 {
     let Some(from) = node_at(nodes, sdir) else {
         return Ok(Reply::Gone);
@@ -63,14 +62,14 @@ pub fn rename(
         return Ok(Reply::Cycle);
     }
     let file = file.copy(alloc)?;
-    shift(alloc, nodes, &file, sdir, sname, ddir, dname)?;
+    move_node(alloc, nodes, &file, sdir, sname, ddir, dname)?;
     Ok(Reply::Renamed)
 }
 
 /// Whether some handle denies others to move the file.
 fn denies_delete(nodes: &BTreeMap<FileId, Node>, file: &FileId) -> bool
-    requires { IsSpace (seen nodes.now) }
-    ensures { result ≡ denies_delete (map.get (seen nodes.now) file.now) }
+    requires { IsSpace (map_of nodes.now) }
+    ensures { result ≡ denies_delete (map.get (map_of nodes.now) file.now) }
 {
     match node_at(nodes, file) {
         None => false,
@@ -79,7 +78,7 @@ fn denies_delete(nodes: &BTreeMap<FileId, Node>, file: &FileId) -> bool
 }
 
 /// Gives the file its new name, takes the old one, and notes where it is now.
-fn shift(
+fn move_node(
     alloc: Global,
     nodes: &mut BTreeMap<FileId, Node>,
     file: &FileId,
@@ -88,18 +87,17 @@ fn shift(
     ddir: &FileId,
     dname: &Name,
 ) -> Result<(), Memory>
-    requires in_order { IsSpace (seen nodes.old) }
-    requires free { child_at (children_of (map.get (seen nodes.old) ddir.now)) dname.now ≡ None }
-    ensures ok { OnOk result (seen nodes.new ≡
-        moved (seen nodes.old) file.now sdir.now sname.now ddir.now dname.now) }
-    ensures err { OnErr result (seen nodes.new ≡ seen nodes.old) }
+    requires { IsSpace (map_of nodes.old) }
+    ensures ok { OnOk result (map_of nodes.new ≡
+        with_moved_node (map_of nodes.old) file.now sdir.now sname.now ddir.now dname.now) }
+    ensures err { OnErr result (map_of nodes.new ≡ map_of nodes.old) }
 {
     let child = file.copy(alloc)?;
     let child_name = dname.copy(alloc)?;
     let parent = ddir.copy(alloc)?;
     let parent_name = dname.copy(alloc)?;
-    changes::name(nodes, ddir, child_name, child)?;
-    changes::unname(nodes, sdir, sname);
-    changes::place(nodes, file, parent, parent_name);
+    changes::link(nodes, ddir, child_name, child)?;
+    changes::unlink(nodes, sdir, sname);
+    changes::reparent(nodes, file, parent, parent_name);
     Ok(())
 }

@@ -2,7 +2,7 @@
 ghost use Rattle.std.specs.Prelude.{◌≡◌, IfOk, OnOk, OnErr};
 ghost use Rattle.std.specs.FinMap as map;
 ghost use Rattle.std.specs.Option.{option_copied};
-ghost use Rattle.fs_model.specs.Namespace.{IsInOrder, first_space, root_node};
+ghost use Rattle.fs_model.specs.Namespace.{IsInOrder, first_space};
 
 use crate::changes;
 use crate::lookups::{count, files, node};
@@ -25,16 +25,16 @@ impl Model for Space {
     ghost use Rattle.std.specs.FinMap as map;
     ghost use Rattle.std.specs.Coded.{coded_list, coded_ℕ};
     ghost use Rattle.fs_model.specs.Namespace.{NodeMap, IsSpace};
-    ghost use Rattle.fs_model.specs.Seen.{seen};
+    ghost use Rattle.fs_ident.specs.Maps.{map_of};
     ghost use Rattle.fs_model.specs.contracts.node.Node as node;
 
     ghost Value = { NodeMap };
 
     ghost coded = { map.code (coded_list coded_ℕ) node.the_row.coded };
 
-    ghost view = { λ s. seen s.nodes };
+    ghost view = { λ s. map_of s.nodes };
 
-    ghost invariant = { λ s. IsSpace (seen s.nodes) };
+    ghost invariant = { λ s. IsSpace (map_of s.nodes) };
 }
 
 impl Space {
@@ -45,7 +45,11 @@ impl Space {
         ensures { IfOk result (λ space. space ≡ first_space) }
     {
         let mut space = Space::empty(alloc);
-        space.put(alloc, &FileId::root(alloc), root(alloc))?;
+        space.put(
+            alloc,
+            &FileId::root(alloc),
+            Node::new(alloc, Kind::Dir, None),
+        )?;
         Ok(space)
     }
 
@@ -97,19 +101,5 @@ impl Space {
         ensures err { OnErr result (self.new ≡ self.old) }
     {
         step(alloc, &mut self.nodes, by, op)
-    }
-}
-
-/// The root's node, with nothing in it.
-fn root(alloc: Global) -> Node
-    ensures { result ≡ root_node }
-{
-    Node {
-        kind: Kind::Dir,
-        parent: None,
-        children: List::new(alloc),
-        size: 0,
-        stamp: 0,
-        handles: List::new(alloc),
     }
 }

@@ -1,7 +1,7 @@
 //! The step of the namespace, over the map of its nodes.
 ghost use Rattle.std.specs.Prelude.{◌≡◌, IfOk, OnErr};
 ghost use Rattle.fs_model.specs.Namespace.{IsSpace};
-ghost use Rattle.fs_model.specs.Seen.{seen};
+ghost use Rattle.fs_ident.specs.Maps.{map_of};
 ghost use Rattle.fs_model.specs.Step.{step};
 
 use crate::changes::reap;
@@ -24,10 +24,11 @@ pub fn step(
     by: Session,
     op: &Op,
 ) -> Result<Reply, Memory>
-    requires { IsSpace (seen nodes.old) }
-    ensures reply { IfOk result (λ reply. reply ≡ (step (seen nodes.old) by op.now).reply) }
-    ensures nodes { IfOk result (λ _. seen nodes.new ≡ (step (seen nodes.old) by op.now).nodes) }
-    ensures err { OnErr result (seen nodes.new ≡ seen nodes.old) }
+    requires { IsSpace (map_of nodes.old) }
+    ensures reply { IfOk result (λ reply. reply ≡ (step (map_of nodes.old) by op.now).reply) }
+    ensures nodes { IfOk result (λ _. map_of nodes.new ≡
+        (step (map_of nodes.old) by op.now).nodes) }
+    ensures err { OnErr result (map_of nodes.new ≡ map_of nodes.old) }
 {
     match op {
         Op::Lookup { dir, name } => look_up(alloc, nodes, dir, name),
@@ -41,7 +42,7 @@ pub fn step(
             id,
         } => create(alloc, nodes, dir, name, *kind, id),
         Op::OpenFile { file, h, modes } => open_file(nodes, by, file, *h, *modes),
-        Op::Close { file, h } => Ok(close(nodes, alloc, by, file, *h)),
+        Op::Close { file, h } => Ok(close(alloc, nodes, by, file, *h)),
         Op::Set {
             file,
             h,
@@ -56,7 +57,7 @@ pub fn step(
             dname,
         } => rename(alloc, nodes, sdir, sname, ddir, dname),
         Op::Reap { file, session } => {
-            reap(nodes, alloc, file, *session);
+            reap(alloc, nodes, file, *session);
             Ok(Reply::Reaped)
         }
     }

@@ -9,9 +9,9 @@ use Rattle.std.specs.FinMap.{IsAntisymmetric}
 use Rattle.std.specs.FinMap.Entries.{put, is_sorted, below_all}
 use Rattle.std.specs.declared.cmp.Ordering.{Ordering}
 use Rattle.std.specs.declared.cmp.Ordering.TheVariants.{Less, Equal, Greater}
-use Rattle.fs_model.specs.Children.{Children, are_in_order}
-use Rattle.fs_model.specs.Places.{IsGapFor}
-use Rattle.fs_model.proofs.ChildOrder.{searched}
+use Rattle.fs_model.specs.Children.{Children}
+use Rattle.fs_ident.specs.Ordered.{are_keys_in_order, IsGapFor}
+use Rattle.fs_ident.proofs.Searched.{searched}
 use Rattle.fs_record.specs.Places.{IsPlaceFor}
 use Rattle.fs_record.proofs.Seen.{anti}
 
@@ -47,7 +47,7 @@ module _ {K X : Type 0} (R : K → K → Ordering) (o : IsTotalOrder R) (same : 
       let p : R k e.0 ≡ Greater = o.antisymm k e.0 ∙ ap ordering_reverse (subst (λ x. R e.0 x ≡ Less) q b) in
       rw p (ap (λ es. e ∷ es) (found_put k v es (second _ _ h) i d (omega arith) t))
 
-pub searched_here : (children : Children) (name : List ℕ) (r : Result ℕ ℕ) → are_in_order children ≡ true → IsSearchInRange r (length children)
+pub searched_here : (children : Children) (name : List ℕ) (r : Result ℕ ℕ) → are_keys_in_order children ≡ true → IsSearchInRange r (length children)
     → IsBinarySearchResult (λ (c : List ℕ × List ℕ). slice_cmp nat_cmp c.0 name) children r
     → IfOk r (IsPlaceFor children name) × IfErr r (IsGapFor children name)
 searched_here children name (Ok at) sorted within here = (

@@ -12,7 +12,7 @@ use Rattle.fs_model.specs.declared.node.Handle.{Handle}
 use Rattle.fs_model.specs.Handles.{is_at, handle_at, without_handle}
 use Rattle.fs_model.specs.Namespace.{IsInOrder, root_node}
 use Rattle.fs_model.proofs.HandleOrder.{with_handle_in_order, filter_in_order}
-use Rattle.fs_model.proofs.Keeping.{fresh_in_order, named_in_order, unnamed_in_order}
+use Rattle.fs_model.proofs.Keeping.{fresh_in_order, with_link_in_order, without_link_in_order}
 use Rattle.fs_record.specs.declared.record.Record.{Record}
 use Rattle.fs_record.specs.Records.{RecordMap, AreRecords, IsRecord, next_of, root_record}
 use Rattle.fs_record.specs.Applied.{node_change, record_change, records_after, with_at, changed_file}
@@ -55,8 +55,8 @@ gone (x ∷ xs) session h =
     ] refl
 
 node_kept : (e : Effect) (n : Node) → IsInOrder n → IfSome (node_change e (Some n)) IsInOrder
-node_kept (SetChild dir name None) n own = unnamed_in_order name n own
-node_kept (SetChild dir name (Some file)) n own = named_in_order name file n own
+node_kept (SetChild dir name None) n own = without_link_in_order name n own
+node_kept (SetChild dir name (Some file)) n own = with_link_in_order name file n own
 node_kept (SetParent file dir name) n own = record { children = own.children; handles = own.handles }
 node_kept (NewNode file kind dir name) n own = fresh_in_order kind (Some (dir, name))
 node_kept (RemoveNode file) n own = tt

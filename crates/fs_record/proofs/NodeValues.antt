@@ -12,11 +12,11 @@ use Rattle.std.proofs.lemmas.Bool.Decides.{nat_tests}
 use Rattle.fs_ident.specs.declared.actor.Session.{Session}
 use Rattle.fs_modes.specs.declared.modes.Modes.{Modes}
 use Rattle.fs_ident.specs.Ident.{same}
-use Rattle.fs_ident.specs.Ordered.{put_before}
+use Rattle.fs_ident.specs.Ordered.{are_keys_in_order, put_before}
 use Rattle.fs_field.specs.After.{is_before, is_above, with_name, without_name}
 use Rattle.fs_field.specs.After as field
 use Rattle.fs_model.specs.declared.node.Handle.{Handle}
-use Rattle.fs_model.specs.Children.{Children, are_in_order, child_at, with_child, without_child, names_of}
+use Rattle.fs_model.specs.Children.{Children, child_at, with_child, without_child, names_of}
 use Rattle.fs_model.specs.Handles.{comes_before, is_before_all, handles_are_in_order, with_handle, without_handle}
 use Rattle.fs_record.specs.ValueOf.{own_of}
 
@@ -66,7 +66,7 @@ cons_out : (b : Bool) (x : List ℕ) (xs ys : List (List ℕ)) → x ∷ cond b 
 cons_out true x xs ys = refl
 cons_out false x xs ys = refl
 
-pub names_put : (name id : List ℕ) (cs : Children) → are_in_order cs ≡ true → names_of (with_child cs name id) ≡ with_name (names_of cs) name
+pub names_put : (name id : List ℕ) (cs : Children) → are_keys_in_order cs ≡ true → names_of (with_child cs name id) ≡ with_name (names_of cs) name
 names_put name id [] h = refl
 names_put name id (c ∷ cs) h =
     elim (slice_cmp nat_cmp name c.0) as (λ r. slice_cmp nat_cmp name c.0 ≡ r → names_of (by_order r ((name, id) ∷ c ∷ cs) ((c.0, id) ∷ cs) (c ∷ with_child cs name id))

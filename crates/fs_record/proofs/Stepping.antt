@@ -17,8 +17,8 @@ use Rattle.fs_model.specs.declared.op.Op.TheVariants as op
 use Rattle.fs_model.specs.declared.reply.Reply.{Reply}
 use Rattle.fs_model.specs.Children.{child_at}
 use Rattle.fs_model.specs.Handles.{handle_at, any_conflicts}
-use Rattle.fs_model.specs.Namespace.{NodeMap, changed, changed_at, fresh_node}
-use Rattle.fs_model.specs.Step.{Stepped, step, named, sized, opened, closed, create, create_in, made, is_child, open_file, close, set, set_by}
+use Rattle.fs_model.specs.Namespace.{NodeMap, with_change, with_change_at, fresh_node}
+use Rattle.fs_model.specs.Step.{Stepped, step, with_link, with_info, with_open, without_open, create, create_in, with_new_node, is_child, open_file, close, set, set_by}
 use Rattle.fs_record.specs.Applied.{nodes_after, nodes_after_all, with_at, linked, reopened}
 use Rattle.fs_record.specs.Effects.{effects_of, is_plain}
 use Rattle.fs_record.proofs.Seen.{anti}
@@ -63,13 +63,13 @@ other_key a b apart = elim (eq_by_cmp (slice_cmp nat_cmp) a b) as (λ t. eq_by_c
 ] refl
 
 made_alike : (m : NodeMap) (dir name : List ℕ) (kind : Kind) (id : List ℕ) (d : Node) → get m dir ≡ Some d → (dir ≡ id → ⊥)
-    → nodes_after (nodes_after m (SetChild dir name (Some id))) (NewNode id kind dir name) ≡ made m dir name kind id
+    → nodes_after (nodes_after m (SetChild dir name (Some id))) (NewNode id kind dir name) ≡ with_new_node m dir name kind id
 made_alike m dir name kind id d e apart =
     let fresh : Node = fresh_node kind (Some (dir, name)) in
     let there : get (insert m id fresh) dir ≡ Some d = get-insert nat_list_cmp_total m id fresh dir ∙ ap (λ b. cond b (Some fresh) (get m dir)) (other_key dir id apart) ∙ e in
     ap (λ (o : Option Node). insert (with_at m dir (option_map (linked name (Some id)) o)) id fresh) e
-    ∙ insert_swap m dir id (named name id d) fresh apart
-    ∙ sym (ap (λ o. changed_at (named name id) (insert m id fresh) dir o) there)
+    ∙ insert_swap m dir id (with_link name id d) fresh apart
+    ∙ sym (ap (λ o. with_change_at (with_link name id) (insert m id fresh) dir o) there)
 
 -- ## Operations
 
@@ -98,16 +98,16 @@ open_leads m by file h modes (Some n) e =
     led_if m by (op.OpenFile file h modes) (is_some (handle_at n.handles by h)) _ _ (λ _. refl) (λ free.
     led_if m by (op.OpenFile file h modes) (any_conflicts n.handles modes) _ _ (λ _. refl) (λ _.
     ap (λ (o : Option Node). with_at m file (option_map (reopened by h modes) o)) e
-    ∙ ap (λ (xs : List Handle). insert m file (opened by h modes (record { kind = n.kind; parent = n.parent; children = n.children; size = n.size; stamp = n.stamp; handles = xs }))) (without_absent n.handles by h (none_from _ free))
-    ∙ sym (ap (λ o. changed_at (opened by h modes) m file o) e)))
+    ∙ ap (λ (xs : List Handle). insert m file (with_open by h modes (record { kind = n.kind; parent = n.parent; children = n.children; size = n.size; stamp = n.stamp; handles = xs }))) (without_absent n.handles by h (none_from _ free))
+    ∙ sym (ap (λ o. with_change_at (with_open by h modes) m file o) e)))
 
 -- a change of a node that is there, in the two forms
-alike : (f : Node → Node) (m : NodeMap) (file : List ℕ) (n : Node) → get m file ≡ Some n → with_at m file (option_map f (get m file)) ≡ changed f m file
-alike f m file n e = ap (λ (o : Option Node). with_at m file (option_map f o)) e ∙ sym (ap (λ o. changed_at f m file o) e)
+alike : (f : Node → Node) (m : NodeMap) (file : List ℕ) (n : Node) → get m file ≡ Some n → with_at m file (option_map f (get m file)) ≡ with_change f m file
+alike f m file n e = ap (λ (o : Option Node). with_at m file (option_map f o)) e ∙ sym (ap (λ o. with_change_at f m file o) e)
 
 close_leads : (m : NodeMap) (by : Session) (file : List ℕ) (h : ℕ) (o : Option Node) → get m file ≡ o → Leads m by (op.Close file h) (close o m by file h)
 close_leads m by file h None e = refl
-close_leads m by file h (Some n) e = led_if m by (op.Close file h) (is_some (handle_at n.handles by h)) _ _ (λ _. alike (closed by h) m file n e) (λ _. refl)
+close_leads m by file h (Some n) e = led_if m by (op.Close file h) (is_some (handle_at n.handles by h)) _ _ (λ _. alike (without_open by h) m file n e) (λ _. refl)
 
 set_leads : (m : NodeMap) (by : Session) (file : List ℕ) (h size stamp : ℕ) (o : Option Node) → get m file ≡ o → Leads m by (op.Set file h size stamp) (set o m by file h size stamp)
 set_leads m by file h size stamp None e = refl
@@ -115,7 +115,7 @@ set_leads m by file h size stamp (Some n) e = with_modes (handle_at n.handles by
   where
     with_modes : (o : Option Modes) → Leads m by (op.Set file h size stamp) (set_by o m file size stamp)
     with_modes None = refl
-    with_modes (Some modes) = led_if m by (op.Set file h size stamp) modes.acc_w _ _ (λ _. alike (sized size stamp) m file n e) (λ _. refl)
+    with_modes (Some modes) = led_if m by (op.Set file h size stamp) modes.acc_w _ _ (λ _. alike (with_info size stamp) m file n e) (λ _. refl)
 
 leads : (m : NodeMap) (by : Session) (o : Op) → is_plain o ≡ true → Leads m by o (step m by o)
 leads m by (op.Lookup dir name) p = refl

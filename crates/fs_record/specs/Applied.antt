@@ -9,7 +9,7 @@ use Rattle.fs_field.specs.declared.effect.Effect.{Effect}
 use Rattle.fs_field.specs.declared.effect.Effect.TheVariants.{SetChild, SetParent, NewNode, RemoveNode, AddHandle, RemoveHandle, SetInfo}
 use Rattle.fs_model.specs.declared.node.Node.{Node}
 use Rattle.fs_model.specs.Namespace.{NodeMap, fresh_node}
-use Rattle.fs_model.specs.Step.{named, unnamed, placed, sized, opened, closed}
+use Rattle.fs_model.specs.Step.{with_link, without_link, at_place, with_info, with_open, without_open}
 use Rattle.fs_record.specs.declared.record.Record.{Record}
 use Rattle.fs_record.specs.Records.{RecordMap, node_of, next_of}
 
@@ -25,22 +25,22 @@ changed_file (SetInfo file size stamp) = file
 
 -- the name stands for the file, or for none
 abbrev pub linked : List ℕ → Option (List ℕ) → Node → Node
-linked name None = unnamed name
-linked name (Some file) = named name file
+linked name None = without_link name
+linked name (Some file) = with_link name file
 
 -- the session has the file open under the handle, and has nothing else under it
 abbrev pub reopened : Session → ℕ → Modes → Node → Node
-reopened session h modes n = opened session h modes (closed session h n)
+reopened session h modes n = with_open session h modes (without_open session h n)
 
 -- what the effect makes of the node of its file, or of its absence
 abbrev pub node_change : Effect → Option Node → Option Node
 node_change (SetChild dir name to) o = option_map (linked name to) o
-node_change (SetParent file dir name) o = option_map (placed dir name) o
+node_change (SetParent file dir name) o = option_map (at_place dir name) o
 node_change (NewNode file kind dir name) o = Some (fresh_node kind (Some (dir, name)))
 node_change (RemoveNode file) o = None
 node_change (AddHandle file session h modes) o = option_map (reopened session h modes) o
-node_change (RemoveHandle file session h) o = option_map (closed session h) o
-node_change (SetInfo file size stamp) o = option_map (sized size stamp) o
+node_change (RemoveHandle file session h) o = option_map (without_open session h) o
+node_change (SetInfo file size stamp) o = option_map (with_info size stamp) o
 
 -- what the effect makes of the record of its file: its node is changed, and its next number stays
 abbrev pub record_change : Effect → Option Record → Option Record

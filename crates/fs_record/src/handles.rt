@@ -20,7 +20,7 @@ pub fn reopen(handles: &mut List<Handle>, alloc: Global, new: Handle) -> Result<
         return add(handles, new);
     }
     let mut more = handles.copy(alloc)?;
-    close(&mut more, alloc, new.session, new.h);
+    close(alloc, &mut more, new.session, new.h);
     add(&mut more, new)?;
     *handles = more;
     Ok(())

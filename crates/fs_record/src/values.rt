@@ -1,7 +1,6 @@
 //! The values of fields in one node.
 ghost use Rattle.std.specs.Prelude.{◌≡◌, IsTrue, IfOk, IfSome};
 ghost use Rattle.std.specs.Option.{option_copied};
-ghost use Rattle.fs_model.specs.Children.{are_in_order};
 ghost use Rattle.fs_model.specs.Namespace.{IsInOrder};
 ghost use Rattle.fs_field.specs.After.{info_value};
 ghost use Rattle.fs_model.specs.Sound.{kind_of, child_of};
