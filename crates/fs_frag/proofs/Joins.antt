@@ -26,17 +26,17 @@ is_whole bytes h e = rw (le-ltb (length bytes) 8 h, e, le-ltb (length bytes - 8)
 length-framed : (m : List ℕ) → length (framed m) ≡ 8 + length m
 length-framed m = length-append (to_be_bytes w64 (length m)) m
 
--- what the front of a framed message announces
-announced-front : (held rest m : List ℕ) → 8 ≤ length held → held ++ rest ≡ framed m → length m < 2 ^ 64 → announced held ≡ length m
-announced-front held rest m h e lt =
-    let front : take 8 held ≡ to_be_bytes w64 (length m) = sym (take-append-le 8 held rest h) ∙ ap (λ (x : List ℕ). take 8 x) e ∙ take_at (to_be_bytes w64 (length m)) m 8 refl in
-    ap (λ (x : List ℕ). from_be_bytes w64 x) front ∙ from_be_bytes-to_be_bytes_8 (length m) lt
+-- what a prefix of a framed message announces
+announced-prefix : (held rest m : List ℕ) → 8 ≤ length held → held ++ rest ≡ framed m → length m < 2 ^ 64 → announced held ≡ length m
+announced-prefix held rest m h e lt =
+    let prefix : take 8 held ≡ to_be_bytes w64 (length m) = sym (take-append-le 8 held rest h) ∙ ap (λ (x : List ℕ). take 8 x) e ∙ take_at (to_be_bytes w64 (length m)) m 8 refl in
+    ap (λ (x : List ℕ). from_be_bytes w64 x) prefix ∙ from_be_bytes-to_be_bytes_8 (length m) lt
 
 answer-framed : (m : List ℕ) → length m < 2 ^ 64 → answer_of (framed m) ≡ Ok (Some m)
 answer-framed m lt =
     let len = length-framed m in
     let nothing_more : framed m ++ [] ≡ framed m = search append-nil in
-    is_whole (framed m) (omega arith) (announced-front (framed m) [] m (omega arith) nothing_more lt ∙ omega arith)
+    is_whole (framed m) (omega arith) (announced-prefix (framed m) [] m (omega arith) nothing_more lt ∙ omega arith)
     ∙ ap (λ (x : List ℕ). Ok (Some x)) (drop_at (to_be_bytes w64 (length m)) m 8 refl)
 
 answers-cons : (held s : List ℕ) (ss : List (List ℕ)) (a : Answer) → answer_of (held ++ s) ≡ a → answers held (s ∷ ss) ≡ a ∷ answers (held_after a (held ++ s)) ss
@@ -55,7 +55,7 @@ joins (suc n) held rest m more e lt low high =
     let all : length (held ++ first) + length (drop 1024 rest) ≡ 8 + length m = sym (length-append (held ++ first) (drop 1024 rest)) ∙ ap (λ (x : List ℕ). length x) whole ∙ length-framed m in
     let left : length (drop 1024 rest) ≡ length rest - 1024 = length-drop 1024 rest in
     answers-cons held first (pieces (suc n) (drop 1024 rest) ++ more) (Ok None)
-    (goes_on (held ++ first) (length m) (omega arith) (announced-front (held ++ first) (drop 1024 rest) m (omega arith) whole lt) (omega arith))
+    (goes_on (held ++ first) (length m) (omega arith) (announced-prefix (held ++ first) (drop 1024 rest) m (omega arith) whole lt) (omega arith))
     ∙ ap (λ (x : List Answer). Ok None ∷ x) (joins n (held ++ first) (drop 1024 rest) m more whole lt (omega arith) (omega arith))
 
 length-pieces : (n : ℕ) (bytes : List ℕ) → length (pieces n bytes) ≡ n
@@ -117,9 +117,9 @@ pub joined_so_far : (messages segments rest : List (List ℕ)) → AllByRecursio
 joined_so_far messages segments rest fits e =
     (messages_of (answers (held_by [] segments) rest), sym (messages_of-append (answers [] segments) (answers (held_by [] segments) rest)) ∙ ap messages_of (sym (answers-append [] segments rest)) ∙ ap (λ (x : List (List ℕ)). messages_of (answers [] x)) e ∙ whole_and_once messages fits)
 
-all_front : (xs ys : List Answer) → AllByRecursion IsOk (xs ++ ys) → AllByRecursion IsOk xs
-all_front [] ys h = tt
-all_front (x ∷ xs) ys h = (h.0, all_front xs ys h.1)
+all_in_prefix : (xs ys : List Answer) → AllByRecursion IsOk (xs ++ ys) → AllByRecursion IsOk xs
+all_in_prefix [] ys h = tt
+all_in_prefix (x ∷ xs) ys h = (h.0, all_in_prefix xs ys h.1)
 
 all_ok-for : (n : ℕ) (m : List ℕ) (rest : List Answer) → AllByRecursion IsOk rest → AllByRecursion IsOk (replicate n nothing ++ Ok (Some m) ∷ rest)
 all_ok-for zero m rest h = (refl, h)
@@ -138,4 +138,4 @@ pub never_over : (messages segments rest : List (List ℕ)) → AllByRecursion (
 never_over messages segments rest fits e =
     let whole : answers [] segments ++ answers (held_by [] segments) rest ≡ flat_map answers_for messages = sym (answers-append [] segments rest) ∙ ap (λ (x : List (List ℕ)). answers [] x) e ∙ joins_all messages fits in
     let P : List Answer → Type 0 = λ x. AllByRecursion IsOk x in
-    all_front (answers [] segments) (answers (held_by [] segments) rest) (subst P (sym whole) (all_ok messages))
+    all_in_prefix (answers [] segments) (answers (held_by [] segments) rest) (subst P (sym whole) (all_ok messages))

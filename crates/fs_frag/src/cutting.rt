@@ -32,8 +32,8 @@ fn pieces(alloc: Global, bytes: &[u8]) -> Result<List<Segment>, Memory>
     let mut segments = List::new(alloc);
     let mut rest = bytes;
     while !rest.is_empty() {
-        let (front, after) = rest.split_at(rest.len().min(SEGMENT));
-        match Segment::new(alloc, front)? {
+        let (prefix, after) = rest.split_at(rest.len().min(SEGMENT));
+        match Segment::new(alloc, prefix)? {
             Some(segment) => segments.push(segment)?,
             None => unreachable!(),
         }

@@ -1,3 +1,3 @@
-pub mod Books
+pub mod CallLogs
 pub mod Known
 pub mod Readings

@@ -2,15 +2,15 @@
 #![tactic(auto)]
 
 mod addr;
-mod book;
 mod call;
+mod call_log;
 mod clock;
 mod failed;
+mod fault_plan;
 mod link;
 mod mem_clock;
 mod mem_sink;
 mod mem_source;
-mod plan;
 mod reading;
 mod sink;
 mod source;
@@ -25,7 +25,7 @@ mod writing;
 
 pub use addr::Addr;
 pub use call::{Call, CallKind};
-pub use clock::{Clock, LATEST};
+pub use clock::Clock;
 pub use failed::Failed;
 pub use link::Link;
 pub use mem_clock::MemClock;

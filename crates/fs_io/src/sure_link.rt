@@ -1,14 +1,14 @@
 //! A link in memory that fails only for want of room.
 ghost use Rattle.std.specs.Prelude.{◌≡◌, ◌↔◌, drop, ◌<◌, ◌≤◌, ◌-◌, ◌++◌, ℕ, [], ◌∷◌, true, false, length, map, min, slice_get, Some, IfOk, IfSome, IsErr, IsTrue, OnOk, OnErr, MatchResult};
-ghost use Rattle.fs_io.specs.Book.{has_room};
+ghost use Rattle.fs_io.specs.CallLog.{has_room};
 ghost use Rattle.fs_io.specs.Calls.{bind_made, receive_made, send_made, Receives};
 ghost use Rattle.fs_io.specs.Faults.{HasCause, raised};
 ghost use Rattle.fs_io.specs.Links.{waiting_told, calls_told, lost, after_kept, room_wanted};
 ghost use Rattle.fs_io.specs.Told.{Adds, IsAsTold, StillTold};
 
 use crate::addr::Addr;
-use crate::book::Book;
 use crate::call::{Call, CallKind};
+use crate::call_log::CallLog;
 use crate::failed::Failed;
 use crate::link::Link;
 use fs_ident::{List, Memory};
@@ -21,18 +21,18 @@ use std::marker::Model;
 pub struct SureLink {
     datagrams: Vec<(Addr, List<u8>)>,
     taken: usize,
-    book: Book,
+    log: CallLog,
     faults: u64,
     told: bool,
 }
 
 impl Model for SureLink {
     ghost use Rattle.std.specs.Prelude.{◌≤◌, drop, length};
-    ghost use Rattle.fs_io.specs.Links.{LinkHeld};
+    ghost use Rattle.fs_io.specs.Links.{LinkState};
 
-    ghost Value = { LinkHeld };
+    ghost Value = { LinkState };
 
-    ghost view = { λ l. record { waiting = drop l.taken l.datagrams.items; kept = l.book; faults = l.faults; told = l.told } };
+    ghost view = { λ l. record { waiting = drop l.taken l.datagrams.items; kept = l.log; faults = l.faults; told = l.told } };
 
     ghost invariant = { λ l. l.taken ≤ length l.datagrams.items };
 }
@@ -55,7 +55,7 @@ impl SureLink {
         Ok(SureLink {
             datagrams: waiting,
             taken: 0,
-            book: Book::new(alloc, calls)?,
+            log: CallLog::new(alloc, calls)?,
             faults: 0,
             told: true,
         })
@@ -65,7 +65,7 @@ impl SureLink {
     pub fn calls(&self) -> &[Call]
         ensures { result.now ≡ map (λ m. m.call) self.now.kept.made }
     {
-        self.book.calls()
+        self.log.calls()
     }
 
     /// The bytes of a call that was kept: of a send the piece, of a receive what it gave.
@@ -73,7 +73,7 @@ impl SureLink {
         requires { k < length self.now.kept.made }
         ensures { slice_get (map (λ m. m.bytes) self.now.kept.made) k ≡ Some result.now }
     {
-        self.book.bytes(k)
+        self.log.bytes(k)
     }
 
     /// Counts a call that found no room.
@@ -104,7 +104,7 @@ impl Link for SureLink {
         ensures kept { OnOk result (self.new ≡
             after_kept self.old self.old.waiting (bind_made at result)) }
     {
-        if !self.book.has_room(0) {
+        if !self.log.has_room(0) {
             self.lose();
             return Err(Failed);
         }
@@ -115,7 +115,7 @@ impl Link for SureLink {
             len: 0,
             failed: false,
         };
-        self.book.keep(call, &[]);
+        self.log.keep(call, &[]);
         Ok(())
     }
 
@@ -142,7 +142,7 @@ impl Link for SureLink {
             None => (None, 0),
             Some((from, bytes)) => (Some(*from), bytes.len().min(size)),
         };
-        if !self.book.has_room(n) {
+        if !self.log.has_room(n) {
             self.lose();
             return Err(Failed);
         }
@@ -154,11 +154,11 @@ impl Link for SureLink {
             failed: false,
         };
         let Some(from) = from else {
-            self.book.keep(call, &[]);
+            self.log.keep(call, &[]);
             return Ok(None);
         };
         buf[..n].copy_from_slice(&self.datagrams[self.taken].1.as_slice()[..n]);
-        self.book.keep(call, &buf[..n]);
+        self.log.keep(call, &buf[..n]);
         self.taken += 1;
         Ok(Some((from, n)))
     }
@@ -176,7 +176,7 @@ impl Link for SureLink {
             after_kept self.old self.old.waiting (send_made to bytes.now result)) }
     {
         let n = bytes.len();
-        if !self.book.has_room(n) {
+        if !self.log.has_room(n) {
             self.lose();
             return Err(Failed);
         }
@@ -187,7 +187,7 @@ impl Link for SureLink {
             len: n,
             failed: false,
         };
-        self.book.keep(call, bytes);
+        self.log.keep(call, bytes);
         Ok(())
     }
 }

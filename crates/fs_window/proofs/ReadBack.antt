@@ -56,11 +56,11 @@ number_read : (bytes : List ℕ) (x : ℕ × List ℕ) → IsBytes bytes → num
 number_read bytes x fits e =
     let g = guard_some (ltb (length bytes) 8) (from_be_bytes w64 (take 8 bytes), drop 8 bytes) x e in
     let long : 8 ≤ length bytes = ltb-false _ _ g.0 in
-    let front = IsBytes-take 8 bytes fits in
-    let text : to_be_bytes w64 (from_be_bytes w64 (take 8 bytes)) ≡ take 8 bytes = be_bytes_8 (take 8 bytes) _ (omega (arith, length-take 8 bytes)) front refl in
+    let prefix = IsBytes-take 8 bytes fits in
+    let text : to_be_bytes w64 (from_be_bytes w64 (take 8 bytes)) ≡ take 8 bytes = be_bytes_8 (take 8 bytes) _ (omega (arith, length-take 8 bytes)) prefix refl in
     let made : IsRead bytes (from_be_bytes w64 (take 8 bytes)) (drop 8 bytes) = record {
       text = sym (take-append-drop 8 bytes) ∙ ap (λ (t : List ℕ). t ++ drop 8 bytes) (sym text);
-      fits = below_64 (take 8 bytes) front;
+      fits = below_64 (take 8 bytes) prefix;
       rest_fits = IsBytes-drop 8 bytes fits;
     } in
     subst (λ (y : ℕ × List ℕ). IsRead bytes y.0 y.1) g.1 made

@@ -1,7 +1,7 @@
-//! A book of the calls of a link, whose room was taken beforehand.
+//! The calls of a link, kept in memory, whose room was taken beforehand.
 ghost use Rattle.std.specs.Prelude.{◌≡◌, ◌<◌, ◌≤◌, ◌-◌, ◌++◌, ℕ, [], ◌∷◌, length, map, slice_get, Some, IfOk};
 ghost use Rattle.std.specs.List.{All};
-ghost use Rattle.fs_io.specs.Book.{has_room, IsSpare};
+ghost use Rattle.fs_io.specs.CallLog.{has_room, IsSpare};
 
 use crate::call::Call;
 use fs_ident::{List, Memory};
@@ -13,32 +13,32 @@ pub const PIECE: usize = 1100;
 
 /// Calls and their bytes, and room for a number of further ones.
 #[derive(Debug, Drop)]
-pub struct Book {
+pub struct CallLog {
     calls: Vec<Call>,
     bytes: Vec<List<u8>>,
     spare: Vec<Vec<u8>>,
 }
 
-impl Model for Book {
+impl Model for CallLog {
     ghost use Rattle.std.specs.Prelude.{length};
-    ghost use Rattle.fs_io.specs.Book.{Kept, made_of, IsBook};
+    ghost use Rattle.fs_io.specs.CallLog.{Kept, made_of, IsLog};
 
     ghost Value = { Kept };
 
     ghost view = { λ b. record { made = made_of b.calls.items b.bytes.items; room = length b.spare.items } };
 
-    ghost invariant = { λ b. IsBook b.calls b.bytes b.spare.items };
+    ghost invariant = { λ b. IsLog b.calls b.bytes b.spare.items };
 }
 
-impl Book {
-    /// A book with room for so many calls, which it takes now.
-    pub fn new(alloc: Global, room: usize) -> Result<Book, Memory>
+impl CallLog {
+    /// An empty log with room for so many calls, which it takes now.
+    pub fn new(alloc: Global, room: usize) -> Result<CallLog, Memory>
         ensures { IfOk result (λ b. b ≡ record { made = []; room = room }) }
     {
         let calls = Vec::with_capacity(alloc, room)?;
         let bytes = Vec::with_capacity(alloc, room)?;
         let spare = spare_pieces(alloc, room)?;
-        Ok(Book {
+        Ok(CallLog {
             calls,
             bytes,
             spare,

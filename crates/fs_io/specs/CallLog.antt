@@ -1,4 +1,4 @@
--- What a book of calls holds.
+-- What a log of calls holds.
 use Rattle.std.specs.Prelude.{◌≡◌, ℕ, ◌+◌, ◌≤◌, ◌&&◌, Bool, nat_lt, nat_le, List, [], ◌∷◌, length, Vec, vec_len, vec_capacity}
 use Rattle.std.specs.List.{All}
 use Rattle.std.specs.declared.alloc.Global.{Global}
@@ -30,7 +30,7 @@ pub record IsSpare (v : Vec ℕ Global) : Type 0 where
   pub room : piece ≤ vec_capacity v
 
 -- each call has its bytes, and there is room for as many more as there are spare vectors
-pub record IsBook (calls : Vec Call Global) (bytes : Vec (List ℕ) Global) (spare : List (Vec ℕ Global)) : Type 0 where
+pub record IsLog (calls : Vec Call Global) (bytes : Vec (List ℕ) Global) (spare : List (Vec ℕ Global)) : Type 0 where
   pub paired : length calls.items ≡ length bytes.items
   pub calls_room : vec_len calls + length spare ≤ vec_capacity calls
   pub bytes_room : vec_len bytes + length spare ≤ vec_capacity bytes
