@@ -9,7 +9,6 @@ ghost use Rattle.fs_model.specs.Step.{with_link, without_link, at_place, with_in
 use crate::node::{Handle, Node};
 use crate::{children, handles};
 use fs_ident::{FileId, Memory, Name, Session};
-use std::alloc::Global;
 use std::collections::BTreeMap;
 
 /// Adds a node.
@@ -103,28 +102,22 @@ pub fn open(nodes: &mut BTreeMap<FileId, Node>, file: &FileId, handle: Handle) -
 
 /// Takes away the session's handle of that number.
 #[tactic(auto, using(fs_ident::proofs::MapsOf::maps))]
-pub fn close(
-    alloc: Global,
-    nodes: &mut BTreeMap<FileId, Node>,
-    file: &FileId,
-    session: Session,
-    h: u32,
-)
+pub fn close(nodes: &mut BTreeMap<FileId, Node>, file: &FileId, session: Session, h: u32)
     ensures { map_of nodes.new ≡ with_change (without_open session h) (map_of nodes.old) file.now }
 {
     match nodes.get_mut(file) {
-        Some(node) => handles::close(alloc, &mut node.handles, session, h),
+        Some(node) => handles::close(&mut node.handles, session, h),
         None => {}
     }
 }
 
 /// Takes away every handle of the session.
 #[tactic(auto, using(fs_ident::proofs::MapsOf::maps))]
-pub fn reap(alloc: Global, nodes: &mut BTreeMap<FileId, Node>, file: &FileId, session: Session)
+pub fn reap(nodes: &mut BTreeMap<FileId, Node>, file: &FileId, session: Session)
     ensures { map_of nodes.new ≡ with_change (without_opens session) (map_of nodes.old) file.now }
 {
     match nodes.get_mut(file) {
-        Some(node) => handles::reap(alloc, &mut node.handles, session),
+        Some(node) => handles::reap(&mut node.handles, session),
         None => {}
     }
 }

@@ -1,25 +1,30 @@
 //! The handles of a file, in order of session and number.
-ghost use Rattle.std.specs.Prelude.{◌≡◌, ◌<◌, ◌≤◌, length, unwrap_or, IfSome, OnOk, OnErr};
+ghost use Rattle.std.specs.Prelude.{◌≡◌, ◌<◌, ◌≤◌, length, unwrap_or, IsTrue, IfSome, OnOk, OnErr};
 ghost use Rattle.std.specs.List.{position};
-ghost use Rattle.fs_model.specs.Handles.{is_at, comes_before, handle_at, with_handle, without_handle, without_session, any_conflicts, any_denies_delete};
+ghost use Rattle.fs_model.specs.Handles.{is_at, comes_before, handles_are_in_order, handle_at, with_handle, without_handle, without_session, any_conflicts, any_denies_delete};
 
 use crate::node::Handle;
 use fs_ident::{List, Memory, Session};
 use fs_modes::Modes;
-use std::alloc::Global;
-use std::mem;
 
 /// The modes of the session's handle of that number.
-#[tactic(auto, using(crate::proofs::HandleOrder::find_step))]
+#[tactic(auto, using(crate::proofs::HandleOrder::handle_there, crate::proofs::HandleOrder::handle_absent))]
 pub fn find(handles: &[Handle], session: Session, h: u32) -> Option<Modes>
     ensures { result ≡ handle_at handles.now session h }
 {
-    for x in handles {
-        if x.session.0 == session.0 && x.h == h {
-            return Some(x.modes);
-        }
+    match first_at(handles, session, h) {
+        Some(at) => Some(handles[at].modes),
+        None => None,
     }
-    None
+}
+
+fn first_at(handles: &[Handle], session: Session, h: u32) -> Option<usize>
+    ensures same { result ≡ position (is_at session h) handles.now }
+    ensures within { IfSome result (λ at. at < length handles.now) }
+{
+    handles
+        .iter()
+        .position(|x| x.session.0 == session.0 && x.h == h)
 }
 
 /// Whether some handle, of any session, conflicts with the modes.
@@ -72,13 +77,28 @@ pub fn add(handles: &mut List<Handle>, new: Handle) -> Result<(), Memory>
     handles.insert(at, new)
 }
 
+/// Lets the session have this open under its number, in place of what it had under it.
+#[tactic(auto, using(crate::proofs::HandleOrder::reopen_at, crate::proofs::HandleOrder::reopen_new))]
+pub fn reopen(handles: &mut List<Handle>, new: Handle) -> Result<(), Memory>
+    requires { IsTrue (handles_are_in_order handles.old) }
+    ensures ok { OnOk result (handles.new ≡
+        with_handle (without_handle handles.old new.session new.h) new) }
+    ensures err { OnErr result (handles.new ≡ handles.old) }
+{
+    match first_at(handles.as_slice(), new.session, new.h) {
+        Some(at) => {
+            handles.replace(at, new);
+            Ok(())
+        }
+        None => add(handles, new),
+    }
+}
+
 /// Takes away the session's handle of that number.
-pub fn close(alloc: Global, handles: &mut List<Handle>, session: Session, h: u32)
+pub fn close(handles: &mut List<Handle>, session: Session, h: u32)
     ensures { handles.new ≡ without_handle handles.old session h }
 {
-    let mut kept = mem::replace(handles, List::new(alloc)).into_vec();
-    keep_others(&mut kept, session, h);
-    *handles = List::from_vec(kept);
+    keep_others(handles.items_mut(), session, h);
 }
 
 fn keep_others(handles: &mut Vec<Handle>, session: Session, h: u32)
@@ -88,12 +108,10 @@ fn keep_others(handles: &mut Vec<Handle>, session: Session, h: u32)
 }
 
 /// Takes away every handle of the session.
-pub fn reap(alloc: Global, handles: &mut List<Handle>, session: Session)
+pub fn reap(handles: &mut List<Handle>, session: Session)
     ensures { handles.new ≡ without_session handles.old session }
 {
-    let mut kept = mem::replace(handles, List::new(alloc)).into_vec();
-    keep_other_sessions(&mut kept, session);
-    *handles = List::from_vec(kept);
+    keep_other_sessions(handles.items_mut(), session);
 }
 
 fn keep_other_sessions(handles: &mut Vec<Handle>, session: Session)

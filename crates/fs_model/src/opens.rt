@@ -12,7 +12,6 @@ use crate::node::{Handle, Node};
 use crate::reply::Reply;
 use fs_ident::{FileId, Memory, Session};
 use fs_modes::Modes;
-use std::alloc::Global;
 use std::collections::BTreeMap;
 
 /// Opens a file under a number of the session's.
@@ -51,13 +50,7 @@ pub fn open_file(
 }
 
 /// Closes the session's handle of that number.
-pub fn close(
-    alloc: Global,
-    nodes: &mut BTreeMap<FileId, Node>,
-    by: Session,
-    file: &FileId,
-    h: u32,
-) -> Reply
+pub fn close(nodes: &mut BTreeMap<FileId, Node>, by: Session, file: &FileId, h: u32) -> Reply
     requires { IsSpace (map_of nodes.old) }
     ensures reply { result ≡
         (close (map.get (map_of nodes.old) file.now) (map_of nodes.old) by file.now h).reply }
@@ -70,7 +63,7 @@ pub fn close(
     if find(node.handles.as_slice(), by, h).is_none() {
         return Reply::NoHandle;
     }
-    changes::close(alloc, nodes, file, by, h);
+    changes::close(nodes, file, by, h);
     Reply::Closed
 }
 

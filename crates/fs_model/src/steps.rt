@@ -42,7 +42,7 @@ pub fn step(
             id,
         } => create(alloc, nodes, dir, name, *kind, id),
         Op::OpenFile { file, h, modes } => open_file(nodes, by, file, *h, *modes),
-        Op::Close { file, h } => Ok(close(alloc, nodes, by, file, *h)),
+        Op::Close { file, h } => Ok(close(nodes, by, file, *h)),
         Op::Set {
             file,
             h,
@@ -57,7 +57,7 @@ pub fn step(
             dname,
         } => rename(alloc, nodes, sdir, sname, ddir, dname),
         Op::Reap { file, session } => {
-            reap(alloc, nodes, file, *session);
+            reap(nodes, file, *session);
             Ok(Reply::Reaped)
         }
     }

@@ -11,7 +11,8 @@ use Rattle.std.specs.Cmp.{eq_by_cmp_equiv}
 use Rattle.std.proofs.lemmas.Map.Steps.{set_value_same}
 use Rattle.fs_record.specs.declared.record.Record.{Record}
 use Rattle.fs_record.specs.Seen.{seen}
-use Rattle.fs_ident.proofs.Entries.{equal_is, get_here, map_insert, map_set, entries_back}
+use Rattle.fs_ident.proofs.Booleans.{equal_is}
+use Rattle.fs_ident.proofs.Entries.{get_here, map_insert, map_set, entries_back}
 
 pub anti : IsAntisymmetric (slice_cmp nat_cmp)
 anti = slice_cmp-IsAntisymmetric nat_cmp-IsAntisymmetric

@@ -194,7 +194,7 @@ fn close(
         records_after (seen records.old) (RemoveHandle file.now session h) }
 {
     match records.get_mut(file) {
-        Some(record) => handles::close(alloc, &mut record.node.handles, session, h),
+        Some(record) => handles::close(&mut record.node.handles, session, h),
         None => {}
     }
 }

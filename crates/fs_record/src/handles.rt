@@ -20,7 +20,7 @@ pub fn reopen(handles: &mut List<Handle>, alloc: Global, new: Handle) -> Result<
         return add(handles, new);
     }
     let mut more = handles.copy(alloc)?;
-    close(alloc, &mut more, new.session, new.h);
+    close(&mut more, new.session, new.h);
     add(&mut more, new)?;
     *handles = more;
     Ok(())
