@@ -10,9 +10,10 @@ use Rattle.fs_field.specs.declared.row.Row.{Row}
 use Rattle.fs_ident.specs.declared.actor.Session.{Session}
 use Rattle.fs_ident.specs.Ident.{same}
 use Rattle.fs_ident.specs.In.{In}
-use Rattle.fs_field.specs.Conflict.{Selves, one_shared, names_over, meets, is_exclusive, plain_conflict, mode_meets, mode_conflict, conflicts, WithoutConflict, IsCalm, is_plain}
+use Rattle.fs_field.specs.Conflict.{Selves, one_shared, names_over, meets, is_exclusive, plain_conflict, mode_meets, mode_conflict, conflicts, NoConflict, NoPlainConflict}
+use Rattle.fs_field.specs.Field.{tells_no_mode}
 
-pub either_way : (x y : Bool) → (x || y) ≡ (y || x)
+either_way : (x y : Bool) → (x || y) ≡ (y || x)
 either_way true true = refl
 either_way true false = refl
 either_way false true = refl
@@ -78,27 +79,27 @@ or_never : (x : Bool) → (x || false) ≡ x
 or_never true = refl
 or_never false = refl
 
-plain_field : (selves : Selves) (rows : List Row) (x : Session) (f : Field) (p : Option Bool) (y : Session) (g : Field) → is_plain f ≡ true → mode_meets selves rows x f p y g ≡ false
-plain_field selves rows x (Life f) p y g h = refl
-plain_field selves rows x (Child f n) p y g h = refl
-plain_field selves rows x (Names f) p y g h = refl
-plain_field selves rows x (Info f) p y g h = refl
-plain_field selves rows x (Own f) p y g h = refl
-plain_field selves rows x (SelfW f m) p y g h = absurd (cc)
-plain_field selves rows x (Other f m) p y g h = absurd (cc)
+off_modes : (selves : Selves) (rows : List Row) (x : Session) (f : Field) (p : Option Bool) (y : Session) (g : Field) → tells_no_mode f ≡ true → mode_meets selves rows x f p y g ≡ false
+off_modes selves rows x (Life f) p y g h = refl
+off_modes selves rows x (Child f n) p y g h = refl
+off_modes selves rows x (Names f) p y g h = refl
+off_modes selves rows x (Info f) p y g h = refl
+off_modes selves rows x (Own f) p y g h = refl
+off_modes selves rows x (SelfW f m) p y g h = absurd (cc)
+off_modes selves rows x (Other f m) p y g h = absurd (cc)
 
-no_promise : (selves : Selves) (rows : List Row) (a b : Row) → is_plain a.field ≡ true → mode_meets selves rows a.session a.field a.promise b.session b.field ≡ false
-no_promise selves rows a b h = plain_field selves rows a.session a.field a.promise b.session b.field h
+no_promise : (selves : Selves) (rows : List Row) (a b : Row) → tells_no_mode a.field ≡ true → mode_meets selves rows a.session a.field a.promise b.session b.field ≡ false
+no_promise selves rows a b h = off_modes selves rows a.session a.field a.promise b.session b.field h
 
-pub plain_is_all : (selves : Selves) (rows : List Row) (a b : Row) → is_plain a.field ≡ true → is_plain b.field ≡ true → conflicts selves rows a b ≡ plain_conflict a b
+pub plain_is_all : (selves : Selves) (rows : List Row) (a b : Row) → tells_no_mode a.field ≡ true → tells_no_mode b.field ≡ true → conflicts selves rows a b ≡ plain_conflict a b
 plain_is_all selves rows a b ha hb =
     ap (λ x. plain_conflict a b || (not (a.session.0 == b.session.0) && (x || mode_meets selves rows b.session b.field b.promise a.session a.field))) (no_promise selves rows a b ha)
     ∙ ap (λ x. plain_conflict a b || (not (a.session.0 == b.session.0) && x)) (no_promise selves rows b a hb)
     ∙ ap (λ x. plain_conflict a b || x) (never (not (a.session.0 == b.session.0)))
     ∙ or_never (plain_conflict a b)
 
-pub calm : (selves : Selves) (rows : List Row) → ((row : Row) → In row rows → is_plain row.field ≡ true) → WithoutConflict selves rows → IsCalm rows
-calm selves rows plain free a b ia ib = sym (plain_is_all selves rows a b (plain a ia) (plain b ib)) ∙ free a b ia ib
+pub all_are_plain : (selves : Selves) (rows : List Row) → ((row : Row) → In row rows → tells_no_mode row.field ≡ true) → NoConflict selves rows → NoPlainConflict rows
+all_are_plain selves rows plain free a b ia ib = sym (plain_is_all selves rows a b (plain a ia) (plain b ib)) ∙ free a b ia ib
 
-pub free : (selves : Selves) (rows : List Row) → ((row : Row) → In row rows → is_plain row.field ≡ true) → IsCalm rows → WithoutConflict selves rows
-free selves rows plain quiet a b ia ib = plain_is_all selves rows a b (plain a ia) (plain b ib) ∙ quiet a b ia ib
+pub plain_are_all : (selves : Selves) (rows : List Row) → ((row : Row) → In row rows → tells_no_mode row.field ≡ true) → NoPlainConflict rows → NoConflict selves rows
+plain_are_all selves rows plain quiet a b ia ib = plain_is_all selves rows a b (plain a ia) (plain b ib) ∙ quiet a b ia ib

@@ -3,8 +3,8 @@ ghost use Rattle.std.specs.Prelude.{◌≡◌, ◌↔◌, [], true, false, not, 
 ghost use Rattle.std.specs.List.{filter, find, list_any};
 ghost use Rattle.std.specs.Option.{option_copied};
 ghost use Rattle.fs_ident.specs.declared.actor.LeaseNo.{LeaseNo};
-ghost use Rattle.fs_field.specs.Conflict.{is_plain};
-ghost use Rattle.fs_field.specs.Table.{has_no, renewed, stays, is_lease, is_open, locked, unlocked, rows_on, borne};
+ghost use Rattle.fs_field.specs.Field.{tells_no_mode};
+ghost use Rattle.fs_field.specs.Table.{has_no, renewed_row, is_live, is_lease, is_unlocked, locked_row, unlocked_row, rows_on, borne_numbers};
 ghost use Rattle.fs_rows.specs.Answer.{answer, given_row, rows_after, IsLeastAgainst};
 ghost use Rattle.fs_rows.specs.Table.{IsTable};
 
@@ -56,7 +56,7 @@ impl Rows {
         until: u64,
     ) -> Result<Asked, Memory>
         requires new { list_any (has_no no) self.old ≡ false }
-        requires plain { is_plain field.now ≡ true }
+        requires plain { tells_no_mode field.now ≡ true }
         ensures answer { IfOk result (λ asked. asked ≡ answer self.old session field.now kind) }
         ensures rows { IfOk result (λ asked. self.new ≡
             rows_after asked (given_row no session field.now kind until) self.old) }
@@ -73,7 +73,7 @@ impl Rows {
     pub fn renew(&mut self, no: LeaseNo, until: u64) -> Result<(), Unknown>
         ensures known { IsOk result ↔ (list_any (has_no no) self.old ≡ true) }
         ensures unknown { IfErr result (λ e. e.no ≡ no) }
-        ensures ok { OnOk result (self.new ≡ map (renewed no until) self.old) }
+        ensures ok { OnOk result (self.new ≡ map (renewed_row no until) self.old) }
         ensures err { OnErr result (self.new ≡ self.old) }
         ensures table { IsTable self.new }
     {
@@ -95,7 +95,7 @@ impl Rows {
 
     /// Drops the rows whose end and the skew are over at the reading `now`, but for those that a transaction keeps.
     pub fn lapse(&mut self, now: u64, skew: u64)
-        ensures rows { self.new ≡ filter (stays now skew) self.old }
+        ensures rows { self.new ≡ filter (is_live now skew) self.old }
         ensures table { IsTable self.new }
     {
         table::lapse(&mut self.rows, now, skew);
@@ -110,8 +110,8 @@ impl Rows {
 
     /// Lets the transaction keep the row of this number, and tells whether there was one that none kept.
     pub fn lock(&mut self, no: LeaseNo, txn: TxnNo) -> bool
-        ensures found { result ≡ list_any (is_open no) self.old }
-        ensures rows { self.new ≡ map (locked no txn) self.old }
+        ensures found { result ≡ list_any (is_unlocked no) self.old }
+        ensures rows { self.new ≡ map (locked_row no txn) self.old }
         ensures table { IsTable self.new }
     {
         lock(&mut self.rows, no, txn)
@@ -119,7 +119,7 @@ impl Rows {
 
     /// Lets the transaction keep no row any more.
     pub fn unlock(&mut self, txn: TxnNo)
-        ensures rows { self.new ≡ map (unlocked txn) self.old }
+        ensures rows { self.new ≡ map (unlocked_row txn) self.old }
         ensures table { IsTable self.new }
     {
         unlock(&mut self.rows, txn);
@@ -135,7 +135,7 @@ impl Rows {
 
     /// The last numbers of the files right below the directory that rows are on, one for each row.
     pub fn borne(&self, alloc: Global, dir: &FileId) -> Result<List<u32>, Memory>
-        ensures { IfOk result (λ told. told ≡ borne dir.now self.now) }
+        ensures { IfOk result (λ told. told ≡ borne_numbers dir.now self.now) }
     {
         table::borne(alloc, &self.rows, dir)
     }
@@ -186,20 +186,20 @@ fn ask(
 /// The same on the rows as they stand in memory.
 fn renew(rows: &mut Vec<Row>, no: LeaseNo, until: u64) -> bool
     ensures found { result ≡ list_any (has_no no) rows.old.items }
-    ensures rows { rows.new.items ≡ map (renewed no until) rows.old.items }
+    ensures rows { rows.new.items ≡ map (renewed_row no until) rows.old.items }
 {
     table::renew(rows, no, until)
 }
 
 fn lock(rows: &mut Vec<Row>, no: LeaseNo, txn: TxnNo) -> bool
-    ensures found { result ≡ list_any (is_open no) rows.old.items }
-    ensures rows { rows.new.items ≡ map (locked no txn) rows.old.items }
+    ensures found { result ≡ list_any (is_unlocked no) rows.old.items }
+    ensures rows { rows.new.items ≡ map (locked_row no txn) rows.old.items }
 {
     table::lock(rows, no, txn)
 }
 
 fn unlock(rows: &mut Vec<Row>, txn: TxnNo)
-    ensures { rows.new.items ≡ map (unlocked txn) rows.old.items }
+    ensures { rows.new.items ≡ map (unlocked_row txn) rows.old.items }
 {
     table::unlock(rows, txn);
 }

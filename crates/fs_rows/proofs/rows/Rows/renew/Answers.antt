@@ -1,5 +1,6 @@
 use Rattle.std.proofs.Common.{sym, ◌∙◌}
-use Rattle.fs_rows.proofs.Kept.{renewed_table, none_renewed}
+use Rattle.fs_rows.proofs.Kept.{renewed_table}
+use Rattle.fs_field.proofs.Leases.{none_renewed}
 use Rattle.fs_rows.proofs.rows.Rows.renew.Goals.{then-renew, else-renew}
 use Rattle.fs_rows.proofs.rows.Rows.renew.Goals as goal
 

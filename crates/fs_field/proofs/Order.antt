@@ -8,11 +8,13 @@ use Rattle.std.specs.declared.cmp.Ordering.{Ordering}
 use Rattle.std.specs.declared.cmp.Ordering.TheVariants.{Less, Equal, Greater}
 use Rattle.std.proofs.lemmas.Cmp.{then_total, on_total, tied_itself}
 use Rattle.std.proofs.lemmas.Bool.Decides.{nat_tests}
+use Rattle.std.proofs.lemmas.Bool.{and_parts, and_from, or_parts}
 use Rattle.fs_ident.specs.declared.actor.LeaseNo.{LeaseNo}
 use Rattle.fs_field.specs.declared.row.Row.{Row}
 use Rattle.fs_ident.specs.In.{In}
 use Rattle.fs_field.specs.Table.{same_no, no_before, is_ordered, has_no, with_row}
 use Rattle.fs_ident.proofs.Standing.{In-filter, In-put, In-map}
+use Rattle.fs_ident.proofs.Passing.{all-In, In-all}
 
 abbrev no_cmp : LeaseNo → LeaseNo → Ordering
 no_cmp a b = ordering_then (nat_cmp a.server b.server) (nat_cmp a.count b.count)
@@ -35,29 +37,6 @@ one_way a b c d h k = grind (arith, nat_tests)
 pub before_or_after : (a b : LeaseNo) → same_no a b ≡ false → no_before b a ≡ false → no_before a b ≡ true
 before_or_after a b h k = one_way a.server a.count b.server b.count h k
 
-pub both : (a b : Bool) → (a && b) ≡ true → (a ≡ true) × (b ≡ true)
-both true true h = (refl, refl)
-both true false h = absurd (cc)
-both false b h = absurd (cc)
-
-pub neither : (a b : Bool) → (a || b) ≡ false → (a ≡ false) × (b ≡ false)
-neither false false h = (refl, refl)
-neither false true h = absurd (cc)
-neither true b h = absurd (cc)
-
-joined : (a b : Bool) → a ≡ true → b ≡ true → (a && b) ≡ true
-joined a b p q = ap (λ x. x && b) p ∙ q
-
-pub all-In : {X : Type 0} (test : X → Bool) (xs : List X) → list_all test xs ≡ true → (x : X) → In x xs → test x ≡ true
-all-In test [] h x i = absurd i
-all-In test (y ∷ ys) h x i =
-    let q : (test y ≡ true) × (list_all test ys ≡ true) = both (test y) (list_all test ys) h in
-    elim i [ inl e ↦ ap test e ∙ q.0 | inr j ↦ all-In test ys q.1 x j ]
-
-pub In-all : {X : Type 0} (test : X → Bool) (xs : List X) → ((x : X) → In x xs → test x ≡ true) → list_all test xs ≡ true
-In-all test [] f = refl
-In-all test (y ∷ ys) f = joined (test y) (list_all test ys) (f y (inl refl)) (In-all test ys (λ x i. f x (inr i)))
-
 -- the number comes before those of all rows
 abbrev first : LeaseNo → List Row → Bool
 first number rows = list_all (λ s. no_before number s.no) rows
@@ -65,9 +44,9 @@ first number rows = list_all (λ s. no_before number s.no) rows
 pub ordered_filter : (test : Row → Bool) (rows : List Row) → is_ordered rows ≡ true → is_ordered (filter test rows) ≡ true
 ordered_filter test [] h = refl
 ordered_filter test (r ∷ rs) h =
-    let q : (first r.no rs ≡ true) × (is_ordered rs ≡ true) = both (first r.no rs) (is_ordered rs) h in
+    let q : (first r.no rs ≡ true) × (is_ordered rs ≡ true) = and_parts (first r.no rs) (is_ordered rs) h in
     elim (test r) as (λ b. is_ordered (cond b (r ∷ filter test rs) (filter test rs)) ≡ true) [
-      | true ↦ joined (first r.no (filter test rs)) (is_ordered (filter test rs))
+      | true ↦ and_from (first r.no (filter test rs)) (is_ordered (filter test rs))
           (In-all (λ s. no_before r.no s.no) (filter test rs) (λ x i. all-In (λ s. no_before r.no s.no) rs q.0 x (In-filter test x rs i)))
           (ordered_filter test rs q.1)
       | false ↦ ordered_filter test rs q.1
@@ -76,8 +55,8 @@ ordered_filter test (r ∷ rs) h =
 pub ordered_map : (f : Row → Row) → ((r : Row) → (f r).no ≡ r.no) → (rows : List Row) → is_ordered rows ≡ true → is_ordered (map f rows) ≡ true
 ordered_map f same [] h = refl
 ordered_map f same (r ∷ rs) h =
-    let q : (first r.no rs ≡ true) × (is_ordered rs ≡ true) = both (first r.no rs) (is_ordered rs) h in
-    joined (first (f r).no (map f rs)) (is_ordered (map f rs))
+    let q : (first r.no rs ≡ true) × (is_ordered rs ≡ true) = and_parts (first r.no rs) (is_ordered rs) h in
+    and_from (first (f r).no (map f rs)) (is_ordered (map f rs))
     (In-all (λ s. no_before (f r).no s.no) (map f rs) (λ x i.
     let found : (y : Row) × (In y rs × (x ≡ f y)) = In-map f x rs i in
     ap (λ (z : Row). no_before (f r).no z.no) found.1.1
@@ -97,30 +76,22 @@ placed row r x rs h k f i =
 pub ordered_put : (row : Row) (rows : List Row) → list_any (has_no row.no) rows ≡ false → is_ordered rows ≡ true → is_ordered (with_row row rows) ≡ true
 ordered_put row [] n h = refl
 ordered_put row (r ∷ rs) n h =
-    let q : (first r.no rs ≡ true) × (is_ordered rs ≡ true) = both (first r.no rs) (is_ordered rs) h in
-    let k : (has_no row.no r ≡ false) × (list_any (has_no row.no) rs ≡ false) = neither (has_no row.no r) (list_any (has_no row.no) rs) n in
+    let q : (first r.no rs ≡ true) × (is_ordered rs ≡ true) = and_parts (first r.no rs) (is_ordered rs) h in
+    let k : (has_no row.no r ≡ false) × (list_any (has_no row.no) rs ≡ false) = or_parts (has_no row.no r) (list_any (has_no row.no) rs) n in
     elim (no_before row.no r.no) as (λ b. no_before row.no r.no ≡ b → is_ordered (cond b (row ∷ r ∷ rs) (r ∷ with_row row rs)) ≡ true) [
-      | true ↦ λ e. joined (first row.no (r ∷ rs)) (is_ordered (r ∷ rs))
-          (joined (no_before row.no r.no) (first row.no rs) e (In-all (λ s. no_before row.no s.no) rs (λ x i. before_trans row.no r.no x.no e (all-In (λ s. no_before r.no s.no) rs q.0 x i))))
+      | true ↦ λ e. and_from (first row.no (r ∷ rs)) (is_ordered (r ∷ rs))
+          (and_from (no_before row.no r.no) (first row.no rs) e (In-all (λ s. no_before row.no s.no) rs (λ x i. before_trans row.no r.no x.no e (all-In (λ s. no_before r.no s.no) rs q.0 x i))))
           h
-      | false ↦ λ e. joined (first r.no (with_row row rs)) (is_ordered (with_row row rs))
+      | false ↦ λ e. and_from (first r.no (with_row row rs)) (is_ordered (with_row row rs))
           (In-all (λ s. no_before r.no s.no) (with_row row rs) (λ x i. placed row r x rs k.0 e q.0 (In-put (λ s. no_before row.no s.no) x row rs i)))
           (ordered_put row rs k.1 q.1)
     ] refl
-
-pub found : {X : Type 0} (test : X → Bool) (xs : List X) (r : X) → find test xs ≡ Some r → In r xs × (test r ≡ true)
-found test [] r h = absurd (cc)
-found test (y ∷ ys) r h =
-    elim (test y) as (λ b. test y ≡ b → cond b (Some y) (find test ys) ≡ Some r → ((r ≡ y) ⊎ In r ys) × (test r ≡ true)) [
-      | true ↦ λ e g. let same : r ≡ y = cc in (inl same, ap test same ∙ e)
-      | false ↦ λ e g. let more : In r ys × (test r ≡ true) = found test ys r g in (inr more.0, more.1)
-    ] refl h
 
 -- of the rows that pass, the first found has the least number
 pub found_least : (test : Row → Bool) (rows : List Row) (r : Row) → is_ordered rows ≡ true → find test rows ≡ Some r → (x : Row) → In x rows → test x ≡ true → (x ≡ r) ⊎ (no_before r.no x.no ≡ true)
 found_least test [] r o h x i t = absurd i
 found_least test (y ∷ ys) r o h x i t =
-    let q : (first y.no ys ≡ true) × (is_ordered ys ≡ true) = both (first y.no ys) (is_ordered ys) o in
+    let q : (first y.no ys ≡ true) × (is_ordered ys ≡ true) = and_parts (first y.no ys) (is_ordered ys) o in
     elim (test y) as (λ b. test y ≡ b → cond b (Some y) (find test ys) ≡ Some r → (x ≡ r) ⊎ (no_before r.no x.no ≡ true)) [
       | true ↦ λ e g. let same : y ≡ r = cc in elim i [
         | inl p ↦ inl (p ∙ same)
@@ -142,7 +113,7 @@ later r a b rs f e i n = ap (λ m. no_before m b.no) (sym n ∙ ap (λ (z : Row)
 pub one_of_number : (rows : List Row) → is_ordered rows ≡ true → (a b : Row) → In a rows → In b rows → a.no ≡ b.no → a ≡ b
 one_of_number [] h a b i j n = absurd i
 one_of_number (r ∷ rs) h a b i j n =
-    let q : (first r.no rs ≡ true) × (is_ordered rs ≡ true) = both (first r.no rs) (is_ordered rs) h in
+    let q : (first r.no rs ≡ true) × (is_ordered rs ≡ true) = and_parts (first r.no rs) (is_ordered rs) h in
     elim i [
       | inl p ↦ elim j [
         | inl o ↦ p ∙ sym o
