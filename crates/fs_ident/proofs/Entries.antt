@@ -12,15 +12,11 @@ use Rattle.std.specs.FinMap.Entries.{find-put, by_order, below_all, same_entries
 use Rattle.std.specs.declared.cmp.Ordering.{Ordering}
 use Rattle.std.specs.declared.cmp.Ordering.TheVariants.{Less, Equal, Greater}
 use Rattle.std.proofs.lemmas.Map.{lookup-set_value}
+use Rattle.fs_ident.proofs.Booleans.{equal_is}
 
-pub equal_is : (r : Ordering) → is_eq r ≡ true → r ≡ Equal
-equal_is Less h = absurd (cc)
-equal_is Equal h = refl
-equal_is Greater h = absurd (cc)
-
-both : (a b : Bool) → T a → T b → T (a && b)
-both true b p q = q
-both false b p q = p
+hold : (a b : Bool) → T a → T b → T (a && b)
+hold true b p q = q
+hold false b p q = p
 
 module _ {K X : Type 0} (R : K → K → Ordering) where
   find_lookup : (q : K) (es : List (K × X)) → find R q es ≡ lookup (is_at (R q)) es
@@ -38,13 +34,13 @@ module _ {K X : Type 0} (R : K → K → Ordering) where
 
   below_from_all : (x : K) (es : List (K × X)) → AllByRecursion (λ y. R x y ≡ Less) (keys_of es) → T (below_all R x es)
   below_from_all x [] h = tt
-  below_from_all x (e ∷ es) h = both _ _ (subst (λ r. T (is_lt r)) (sym h.0) tt) (below_from_all x es h.1)
+  below_from_all x (e ∷ es) h = hold _ _ (subst (λ r. T (is_lt r)) (sym h.0) tt) (below_from_all x es h.1)
 
   -- keys that strictly rise, in the two forms
   sorted_entries : (es : List (K × X)) → IsStrictlySortedBy R (keys_of es) → T (is_sorted R es)
   unfolding IsStrictlySortedBy
   sorted_entries [] h = tt
-  sorted_entries (e ∷ es) h = both _ _ (below_from_all e.0 es h.0) (sorted_entries es h.1)
+  sorted_entries (e ∷ es) h = hold _ _ (below_from_all e.0 es h.0) (sorted_entries es h.1)
 
   module _ (o : IsTotalOrder R) where
     pub get_here : (es : List (K × X)) (q : K) → get (from_entries {R = R} es) q ≡ lookup (is_at (R q)) es

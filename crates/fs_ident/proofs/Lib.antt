@@ -1,3 +1,4 @@
+pub mod Booleans
 pub mod Readings
 pub mod Entries
 pub mod MapsOf

@@ -10,7 +10,8 @@ use Rattle.std.specs.BTreeMap.{BTreeMap, insert_entry, is_at, UpdatesBy}
 use Rattle.std.specs.FinMap.{FinMap, empty, get, insert, remove, len, keys, entries, from_entries, same_map, get-remove, get-insert, get_tied, len-entries, IsAntisymmetric, slice_cmp-IsAntisymmetric, nat_cmp-IsAntisymmetric}
 use Rattle.std.proofs.lemmas.Map.Steps.{set_value_same}
 use Rattle.fs_ident.specs.Maps.{map_of, numbered_map_of}
-use Rattle.fs_ident.proofs.Entries.{equal_is, get_here, map_insert, map_set, entries_back}
+use Rattle.fs_ident.proofs.Booleans.{equal_is}
+use Rattle.fs_ident.proofs.Entries.{get_here, map_insert, map_set, entries_back}
 
 pub anti : IsAntisymmetric (slice_cmp nat_cmp)
 anti = slice_cmp-IsAntisymmetric nat_cmp-IsAntisymmetric

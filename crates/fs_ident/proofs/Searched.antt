@@ -1,7 +1,7 @@
 -- What a search among entries in order finds, and what an edit at that place does.
-use Rattle.std.proofs.Common.{◌≡◌, ℕ, zero, suc, ◌<◌, ◌≤◌, List, [], ◌∷◌, length, get_or, refl, ap, arith, subst, Bool, true, false, sym, ◌∙◌, Result, Ok, Err, IfOk, IfErr}
-use Rattle.std.specs.Prelude.{Some, None, not, ◌&&◌, slice_set}
-use Rattle.std.specs.Ordering.{nat_cmp, is_lt, eq_by_cmp, ordering_index, ordering_reverse}
+use Rattle.std.proofs.Common.{◌≡◌, ℕ, zero, suc, ◌<◌, ◌≤◌, List, [], ◌∷◌, length, get_or, refl, ap, arith, subst, true, sym, ◌∙◌, Result, Ok, Err, IfOk, IfErr}
+use Rattle.std.specs.Prelude.{Some, None, not, slice_set}
+use Rattle.std.specs.Ordering.{nat_cmp, eq_by_cmp, ordering_index, ordering_reverse}
 use Rattle.std.specs.Cmp.{IsTotalOrder}
 use Rattle.std.specs.Cmp.Lexicographic.{slice_cmp, nat_list_cmp_total}
 use Rattle.std.specs.List.{insert, remove}
@@ -11,20 +11,8 @@ use Rattle.std.specs.declared.cmp.Ordering.{Ordering}
 use Rattle.std.specs.declared.cmp.Ordering.TheVariants.{Less, Equal, Greater}
 use Rattle.std.specs.FinMap.{IsAntisymmetric}
 use Rattle.fs_ident.specs.Ordered.{Keyed, are_keys_in_order, IsPlaceOf, IsGapFor}
+use Rattle.fs_ident.proofs.Booleans.{first, second, less}
 use Rattle.fs_ident.proofs.MapsOf.{anti}
-
-first : (a b : Bool) → (a && b) ≡ true → a ≡ true
-first true b p = refl
-first false b p = p
-
-second : (a b : Bool) → (a && b) ≡ true → b ≡ true
-second true b p = p
-second false b p = absurd (cc)
-
-less : (r : Ordering) → is_lt r ≡ true → r ≡ Less
-less Less p = refl
-less Equal p = absurd (cc)
-less Greater p = absurd (cc)
 
 module _ {K : Type 0} (R : K → K → Ordering) (o : IsTotalOrder R) where
   reversed : (x y : K) (r : Ordering) → R x y ≡ r → R y x ≡ ordering_reverse r

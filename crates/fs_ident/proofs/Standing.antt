@@ -1,7 +1,7 @@
 -- What stands in a list that is made of another.
-use Rattle.std.proofs.Common.{◌≡◌, Bool, true, false, List, [], ◌∷◌, ◌++◌, ◌⊎◌, refl, ap, cond, sym, ◌∙◌, map, inl, inr}
-use Rattle.std.specs.List.{filter, find, list_any}
-use Rattle.std.specs.Prelude.{Option, Some, None}
+use Rattle.std.proofs.Common.{◌≡◌, Bool, true, false, List, [], ◌∷◌, ◌⊎◌, refl, ap, cond, ◌∙◌, map, inl, inr}
+use Rattle.std.specs.List.{filter, find}
+use Rattle.std.specs.Prelude.{Some, None}
 use Rattle.fs_ident.specs.In.{In}
 use Rattle.fs_ident.specs.Ordered.{put_before}
 

@@ -1,9 +1,12 @@
 use crate::actor::{LeaseNo, PathNo, Peer, Session, TxnNo};
+use crate::bytes::number_in_front;
 use crate::error::IdError;
 use crate::file_id::{DEPTH, FileId};
 use crate::kind::Kind;
 use crate::list::List;
+use crate::memory::Memory;
 use crate::name::Name;
+use crate::ordered::search_by_name;
 use crate::twin::Twin;
 use std::alloc::Global;
 use std::test::Fail;
@@ -128,6 +131,7 @@ fn keeps_lists(rt: HostRuntime) -> Result<(), Fail> {
     assert_eq!(rt; list.as_slice(), [1, 3, 4].as_slice());
     assert_eq!(rt; list.replace(1, 2), 3);
     *list.at_mut(2) = 5;
+    assert_eq!(rt; list.items_mut().pop(), Some(5));
     assert_eq!(rt; list.remove(0), 1);
     list.truncate(1);
     assert_eq!(rt; list.into_vec().as_slice(), [2u32].as_slice());
@@ -161,5 +165,80 @@ fn makes_twins(rt: HostRuntime) -> Result<(), Fail> {
         ),
     );
     assert!(rt; numbers.copy(alloc)? == numbers);
+    Ok(())
+}
+
+#[test]
+fn prints_actors_and_numbers(rt: HostRuntime) -> Result<(), Fail> {
+    let alloc = rt.alloc();
+    let server = 4;
+    let count = 19;
+    for (text, spelled) in [
+        (Session(7).to_string(alloc)?, "c7"),
+        (Peer::Server(0).to_string(alloc)?, "s0"),
+        (Peer::Client(Session(1000)).to_string(alloc)?, "c1000"),
+        (LeaseNo { server, count }.to_string(alloc)?, "s4.19"),
+        (TxnNo { server, count }.to_string(alloc)?, "s4#19"),
+        (PathNo { server, count }.to_string(alloc)?, "s4@19"),
+        (Memory.to_string(alloc)?, "memory is wanting"),
+    ] {
+        assert_eq!(rt; text.as_str(), spelled);
+    }
+    Ok(())
+}
+
+/// A value that may not be dropped.
+struct Token(u32);
+
+impl Twin for Token {
+    fn copy(&self, _: Global) -> Result<Token, Memory> {
+        Ok(Token(self.0))
+    }
+
+    fn discard(self) {
+        let Token(_) = self;
+    }
+}
+
+/// The number of the token in a copy of a list with one token.
+fn copied_number(alloc: Global, number: u32) -> Option<u32> {
+    let mut tokens = List::new(alloc);
+    if let Err(back) = tokens.offer(Token(number)) {
+        back.discard();
+    }
+    let copied = match tokens.copy(alloc) {
+        Ok(twin) => {
+            let first = twin.as_slice().first().map(|token| token.0);
+            twin.discard();
+            first
+        }
+        Err(Memory) => None,
+    };
+    tokens.discard();
+    copied
+}
+
+#[test]
+fn copies_what_may_not_be_dropped(rt: HostRuntime) -> Result<(), Fail> {
+    assert_eq!(rt; copied_number(rt.alloc(), 5), Some(5));
+    Ok(())
+}
+
+#[test]
+fn reads_eight_bytes(rt: HostRuntime) -> Result<(), Fail> {
+    let bytes = [0, 0, 0, 0, 0, 0, 1, 2, 9];
+    assert!(rt; number_in_front(&bytes[..7]).is_none());
+    assert_eq!(rt; number_in_front(&bytes[..8]), Some((258, [].as_slice())));
+    assert_eq!(rt; number_in_front(&bytes), Some((258, [9].as_slice())));
+    Ok(())
+}
+
+#[test]
+fn finds_a_name(rt: HostRuntime) -> Result<(), Fail> {
+    let alloc = rt.alloc();
+    let entries = [(Name::new(alloc, b"b")?, 1u8)];
+    for (name, found) in [(b"a", Err(0)), (b"b", Ok(0)), (b"c", Err(1))] {
+        assert_eq!(rt; search_by_name(&entries, &Name::new(alloc, name)?), found);
+    }
     Ok(())
 }

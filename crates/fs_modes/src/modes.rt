@@ -1,5 +1,5 @@
 //! Six bits: accesses and denials.
-ghost use Rattle.std.specs.Prelude.{◌≡◌, ◌↔◌, ◌<◌, ◌⊎◌, IfSome, IsNone, IsTrue, false};
+ghost use Rattle.std.specs.Prelude.{◌≡◌, ◌↔◌, ◌<◌, ◌⊎◌, IfSome, IsNone};
 ghost use Rattle.fs_modes.specs.Modes.{has, number_of, acc_of, deny_of, has_access, is_denied, conflicts, or, opposing, without};
 ghost use Rattle.fs_modes.specs.declared.modes.Modes.{Modes};
 
@@ -172,17 +172,6 @@ fn number(r: bool, w: bool, d: bool) -> u8
     let delete = if d { 4 } else { 0 };
     read + write + delete
 }
-
-/// The law of `NONE`: it has none of the six.
-pub fn none_has_no_mode()
-    ensures { (m : Mode) → has Modes.NONE m ≡ false }
-{}
-
-/// The law of conflicts: they are mutual, and there is one exactly where no others may have what the other has.
-pub fn conflicts_are_mutual()
-    ensures mutual { (a b : Modes) → conflicts a b ≡ conflicts b a }
-    ensures opposed { (a b : Modes) → conflicts a b ≡ conflicts (opposing a) (opposing b) }
-{}
 
 impl Twin for Modes {
     fn copy(&self, _: Global) -> Result<Modes, Memory> {

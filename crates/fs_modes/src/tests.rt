@@ -1,4 +1,5 @@
 //! Modes by their numbers and by their letters.
+use crate::law::{conflicts_are_mutual, none_has_no_mode};
 use crate::modes::{Mode, Modes};
 use fs_ident::Twin;
 use std::test::Fail;
@@ -54,7 +55,22 @@ fn opens_beside_one_another(rt: HostRuntime) -> Result<(), Fail> {
     let modes = READS_ALONE.copy(rt.alloc())?;
     let mode = Mode::DenyW.copy(rt.alloc())?;
     assert!(rt; modes.has(mode));
-    let text = format!(in rt.alloc(); "{mode}")?;
-    assert_eq!(rt; text.as_str(), "dW");
+    Ok(())
+}
+
+#[test]
+fn prints_each_mode(rt: HostRuntime) -> Result<(), Fail> {
+    for (mode, text) in [
+        (Mode::AccR, "aR"),
+        (Mode::AccW, "aW"),
+        (Mode::AccD, "aD"),
+        (Mode::DenyR, "dR"),
+        (Mode::DenyW, "dW"),
+        (Mode::DenyD, "dD"),
+    ] {
+        assert_eq!(rt; mode.to_string(rt.alloc())?.as_str(), text);
+    }
+    conflicts_are_mutual();
+    none_has_no_mode();
     Ok(())
 }
