@@ -1,5 +1,6 @@
 -- Conflicts of rows.
 use Rattle.std.proofs.Common.{◌≡◌, ℕ, ◌==◌, not, ◌&&◌, ◌||◌, Bool, true, false, List, [], ◌∷◌, refl, ap, cond, sym, ◌∙◌}
+use Rattle.std.proofs.Math.Bool.{or_comm}
 use Rattle.std.specs.Cmp.{nat_eq_equiv}
 use Rattle.std.specs.Cmp.Lexicographic.{nat_list_eq_equiv}
 use Rattle.std.specs.Prelude.{Option}
@@ -12,12 +13,6 @@ use Rattle.fs_ident.specs.Ident.{same}
 use Rattle.fs_ident.specs.In.{In}
 use Rattle.fs_field.specs.Conflict.{Selves, one_shared, names_over, meets, is_exclusive, plain_conflict, mode_meets, mode_conflict, conflicts, NoConflict, NoPlainConflict}
 use Rattle.fs_field.specs.Field.{tells_no_mode}
-
-either_way : (x y : Bool) → (x || y) ≡ (y || x)
-either_way true true = refl
-either_way true false = refl
-either_way false true = refl
-either_way false false = refl
 
 shared_mutual : (f g : Field) → one_shared f g ≡ one_shared g f
 shared_mutual (Life a) (Life b) = nat_list_eq_equiv.symm a b
@@ -50,8 +45,8 @@ shared_mutual f g = refl
 meets_mutual : (f : Field) (k : LeaseKind) (g : Field) (l : LeaseKind) → meets f k g l ≡ meets g l f k
 meets_mutual f k g l =
     ap (λ x. (x && (is_exclusive k || is_exclusive l)) || ((names_over f g && is_exclusive l) || (names_over g f && is_exclusive k))) (shared_mutual f g)
-    ∙ ap (λ x. (one_shared g f && x) || ((names_over f g && is_exclusive l) || (names_over g f && is_exclusive k))) (either_way (is_exclusive k) (is_exclusive l))
-    ∙ ap (λ x. (one_shared g f && (is_exclusive l || is_exclusive k)) || x) (either_way (names_over f g && is_exclusive l) (names_over g f && is_exclusive k))
+    ∙ ap (λ x. (one_shared g f && x) || ((names_over f g && is_exclusive l) || (names_over g f && is_exclusive k))) (or_comm (is_exclusive k) (is_exclusive l))
+    ∙ ap (λ x. (one_shared g f && (is_exclusive l || is_exclusive k)) || x) (or_comm (names_over f g && is_exclusive l) (names_over g f && is_exclusive k))
 
 other_session : (a b : Row) → not (a.session.0 == b.session.0) ≡ not (b.session.0 == a.session.0)
 other_session a b = ap not (nat_eq_equiv.symm a.session.0 b.session.0)
@@ -64,7 +59,7 @@ plain_mutual a b =
 mode_mutual : (selves : Selves) (rows : List Row) (a b : Row) → mode_conflict selves rows a b ≡ mode_conflict selves rows b a
 mode_mutual selves rows a b =
     ap (λ x. x && (mode_meets selves rows a.session a.field a.promise b.session b.field || mode_meets selves rows b.session b.field b.promise a.session a.field)) (other_session a b)
-    ∙ ap (λ x. not (b.session.0 == a.session.0) && x) (either_way (mode_meets selves rows a.session a.field a.promise b.session b.field) (mode_meets selves rows b.session b.field b.promise a.session a.field))
+    ∙ ap (λ x. not (b.session.0 == a.session.0) && x) (or_comm (mode_meets selves rows a.session a.field a.promise b.session b.field) (mode_meets selves rows b.session b.field b.promise a.session a.field))
 
 pub conflicts_mutual : (selves : Selves) (rows : List Row) (a b : Row) → conflicts selves rows a b ≡ conflicts selves rows b a
 conflicts_mutual selves rows a b =

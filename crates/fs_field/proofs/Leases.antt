@@ -3,7 +3,7 @@ use Rattle.std.proofs.Common.{◌≡◌, ◌==◌, not, ◌&&◌, ◌⊎◌, ℕ
 use Rattle.std.specs.Cmp.{nat_eq_equiv}
 use Rattle.std.specs.List.{filter, list_any}
 use Rattle.std.specs.Prelude.{Option, Some, None}
-use Rattle.std.proofs.lemmas.Bool.{or_parts}
+use Rattle.fs_ident.proofs.Booleans.{neither}
 use Rattle.fs_ident.specs.declared.actor.LeaseNo.{LeaseNo}
 use Rattle.fs_ident.specs.declared.actor.TxnNo.{TxnNo}
 use Rattle.fs_field.specs.declared.row.Row.{Row}
@@ -45,7 +45,7 @@ unlocked_same txn r = locked_by (is_lock_of txn r.lock) None r
 pub none_renewed : (number : LeaseNo) (until : ℕ) (rows : List Row) → list_any (has_no number) rows ≡ false → map (renewed_row number until) rows ≡ rows
 none_renewed number until [] h = refl
 none_renewed number until (r ∷ rs) h =
-    let q : (has_no number r ≡ false) × (list_any (has_no number) rs ≡ false) = or_parts (has_no number r) (list_any (has_no number) rs) h in
+    let q : (has_no number r ≡ false) × (list_any (has_no number) rs ≡ false) = neither (has_no number r) (list_any (has_no number) rs) h in
     ap (λ b. cond (b && nat_lt r.until until) (record r { until = until }) r ∷ map (renewed_row number until) rs) q.0 ∙ ap (λ rows. r ∷ rows) (none_renewed number until rs q.1)
 
 pub conflict_same : (a b c d : Row) → SameLease a c → SameLease b d → plain_conflict c d ≡ plain_conflict a b

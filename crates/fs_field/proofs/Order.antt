@@ -8,7 +8,7 @@ use Rattle.std.specs.declared.cmp.Ordering.{Ordering}
 use Rattle.std.specs.declared.cmp.Ordering.TheVariants.{Less, Equal, Greater}
 use Rattle.std.proofs.lemmas.Cmp.{then_total, on_total, tied_itself}
 use Rattle.std.proofs.lemmas.Bool.Decides.{nat_tests}
-use Rattle.std.proofs.lemmas.Bool.{and_parts, and_from, or_parts}
+use Rattle.fs_ident.proofs.Booleans.{both, joined, neither, less}
 use Rattle.fs_ident.specs.declared.actor.LeaseNo.{LeaseNo}
 use Rattle.fs_field.specs.declared.row.Row.{Row}
 use Rattle.fs_ident.specs.In.{In}
@@ -21,11 +21,6 @@ no_cmp a b = ordering_then (nat_cmp a.server b.server) (nat_cmp a.count b.count)
 
 no_total : IsTotalOrder no_cmp
 no_total = then_total (on_total (λ (n : LeaseNo). n.server) nat_cmp_total) (on_total (λ (n : LeaseNo). n.count) nat_cmp_total)
-
-less : (o : Ordering) → is_lt o ≡ true → o ≡ Less
-less Less h = refl
-less Equal h = absurd (cc)
-less Greater h = absurd (cc)
 
 pub before_trans : (a b c : LeaseNo) → no_before a b ≡ true → no_before b c ≡ true → no_before a c ≡ true
 before_trans a b c p q = ap is_lt (no_total.trans a b c (less (no_cmp a b) p) (less (no_cmp b c) q))
@@ -44,9 +39,9 @@ first number rows = list_all (λ s. no_before number s.no) rows
 pub ordered_filter : (test : Row → Bool) (rows : List Row) → is_ordered rows ≡ true → is_ordered (filter test rows) ≡ true
 ordered_filter test [] h = refl
 ordered_filter test (r ∷ rs) h =
-    let q : (first r.no rs ≡ true) × (is_ordered rs ≡ true) = and_parts (first r.no rs) (is_ordered rs) h in
+    let q : (first r.no rs ≡ true) × (is_ordered rs ≡ true) = both (first r.no rs) (is_ordered rs) h in
     elim (test r) as (λ b. is_ordered (cond b (r ∷ filter test rs) (filter test rs)) ≡ true) [
-      | true ↦ and_from (first r.no (filter test rs)) (is_ordered (filter test rs))
+      | true ↦ joined (first r.no (filter test rs)) (is_ordered (filter test rs))
           (In-all (λ s. no_before r.no s.no) (filter test rs) (λ x i. all-In (λ s. no_before r.no s.no) rs q.0 x (In-filter test x rs i)))
           (ordered_filter test rs q.1)
       | false ↦ ordered_filter test rs q.1
@@ -55,8 +50,8 @@ ordered_filter test (r ∷ rs) h =
 pub ordered_map : (f : Row → Row) → ((r : Row) → (f r).no ≡ r.no) → (rows : List Row) → is_ordered rows ≡ true → is_ordered (map f rows) ≡ true
 ordered_map f same [] h = refl
 ordered_map f same (r ∷ rs) h =
-    let q : (first r.no rs ≡ true) × (is_ordered rs ≡ true) = and_parts (first r.no rs) (is_ordered rs) h in
-    and_from (first (f r).no (map f rs)) (is_ordered (map f rs))
+    let q : (first r.no rs ≡ true) × (is_ordered rs ≡ true) = both (first r.no rs) (is_ordered rs) h in
+    joined (first (f r).no (map f rs)) (is_ordered (map f rs))
     (In-all (λ s. no_before (f r).no s.no) (map f rs) (λ x i.
     let found : (y : Row) × (In y rs × (x ≡ f y)) = In-map f x rs i in
     ap (λ (z : Row). no_before (f r).no z.no) found.1.1
@@ -76,13 +71,13 @@ placed row r x rs h k f i =
 pub ordered_put : (row : Row) (rows : List Row) → list_any (has_no row.no) rows ≡ false → is_ordered rows ≡ true → is_ordered (with_row row rows) ≡ true
 ordered_put row [] n h = refl
 ordered_put row (r ∷ rs) n h =
-    let q : (first r.no rs ≡ true) × (is_ordered rs ≡ true) = and_parts (first r.no rs) (is_ordered rs) h in
-    let k : (has_no row.no r ≡ false) × (list_any (has_no row.no) rs ≡ false) = or_parts (has_no row.no r) (list_any (has_no row.no) rs) n in
+    let q : (first r.no rs ≡ true) × (is_ordered rs ≡ true) = both (first r.no rs) (is_ordered rs) h in
+    let k : (has_no row.no r ≡ false) × (list_any (has_no row.no) rs ≡ false) = neither (has_no row.no r) (list_any (has_no row.no) rs) n in
     elim (no_before row.no r.no) as (λ b. no_before row.no r.no ≡ b → is_ordered (cond b (row ∷ r ∷ rs) (r ∷ with_row row rs)) ≡ true) [
-      | true ↦ λ e. and_from (first row.no (r ∷ rs)) (is_ordered (r ∷ rs))
-          (and_from (no_before row.no r.no) (first row.no rs) e (In-all (λ s. no_before row.no s.no) rs (λ x i. before_trans row.no r.no x.no e (all-In (λ s. no_before r.no s.no) rs q.0 x i))))
+      | true ↦ λ e. joined (first row.no (r ∷ rs)) (is_ordered (r ∷ rs))
+          (joined (no_before row.no r.no) (first row.no rs) e (In-all (λ s. no_before row.no s.no) rs (λ x i. before_trans row.no r.no x.no e (all-In (λ s. no_before r.no s.no) rs q.0 x i))))
           h
-      | false ↦ λ e. and_from (first r.no (with_row row rs)) (is_ordered (with_row row rs))
+      | false ↦ λ e. joined (first r.no (with_row row rs)) (is_ordered (with_row row rs))
           (In-all (λ s. no_before r.no s.no) (with_row row rs) (λ x i. placed row r x rs k.0 e q.0 (In-put (λ s. no_before row.no s.no) x row rs i)))
           (ordered_put row rs k.1 q.1)
     ] refl
@@ -91,7 +86,7 @@ ordered_put row (r ∷ rs) n h =
 pub found_least : (test : Row → Bool) (rows : List Row) (r : Row) → is_ordered rows ≡ true → find test rows ≡ Some r → (x : Row) → In x rows → test x ≡ true → (x ≡ r) ⊎ (no_before r.no x.no ≡ true)
 found_least test [] r o h x i t = absurd i
 found_least test (y ∷ ys) r o h x i t =
-    let q : (first y.no ys ≡ true) × (is_ordered ys ≡ true) = and_parts (first y.no ys) (is_ordered ys) o in
+    let q : (first y.no ys ≡ true) × (is_ordered ys ≡ true) = both (first y.no ys) (is_ordered ys) o in
     elim (test y) as (λ b. test y ≡ b → cond b (Some y) (find test ys) ≡ Some r → (x ≡ r) ⊎ (no_before r.no x.no ≡ true)) [
       | true ↦ λ e g. let same : y ≡ r = cc in elim i [
         | inl p ↦ inl (p ∙ same)
@@ -113,7 +108,7 @@ later r a b rs f e i n = ap (λ m. no_before m b.no) (sym n ∙ ap (λ (z : Row)
 pub one_of_number : (rows : List Row) → is_ordered rows ≡ true → (a b : Row) → In a rows → In b rows → a.no ≡ b.no → a ≡ b
 one_of_number [] h a b i j n = absurd i
 one_of_number (r ∷ rs) h a b i j n =
-    let q : (first r.no rs ≡ true) × (is_ordered rs ≡ true) = and_parts (first r.no rs) (is_ordered rs) h in
+    let q : (first r.no rs ≡ true) × (is_ordered rs ≡ true) = both (first r.no rs) (is_ordered rs) h in
     elim i [
       | inl p ↦ elim j [
         | inl o ↦ p ∙ sym o

@@ -1,4 +1,5 @@
-//! A table of rows, in order of number.
+//! A table of rows, in order of number. Public as a module, since other crates keep tables of their own by its calls: the rows
+//! on life, children, names, info and own handles in `fs_rows`.
 ghost use Rattle.std.specs.Prelude.{◌<◌, IfSome, ◌≡◌, ◌≤◌, length, unwrap_or, map, IfOk, OnOk, OnErr};
 ghost use Rattle.std.specs.Option.{option_copied};
 ghost use Rattle.std.specs.List.{position, filter, find, list_any};

@@ -2,11 +2,11 @@
 use Rattle.std.proofs.Common.{◌≡◌, ◌<◌, ◌≤◌, ◌&&◌, ◌+◌, ◌++◌, ◌∙◌, ℕ, Bool, true, false, not, List, length, get_or, take, cond, ap, sym, arith, refl}
 use Rattle.std.specs.Prelude.{Some, None, nat_lt, nat_le, encode_utf8}
 use Rattle.std.specs.List.{position_or_len}
-use Rattle.std.proofs.lemmas.Bool.{and_parts}
 use Rattle.std.proofs.lemmas.Bool.Decides.{nat_tests}
 use Rattle.std.proofs.lemmas.List.Sums.{fails_before_first}
 use Rattle.std.proofs.lemmas.List.{take_more}
 use Rattle.std.proofs.lemmas.Str.{encode_ascii}
+use Rattle.fs_ident.proofs.Booleans.{both}
 use Rattle.fs_ident.specs.Name.{IsName, is_name_byte, is_reserved}
 
 none_before : (n l : ℕ) → cond (nat_lt n l) (Some n) None ≡ None → l ≤ n
@@ -14,7 +14,7 @@ none_before n l h = grind (arith, nat_tests)
 
 is_printed : (b : ℕ) → not (is_name_byte b) ≡ false → b < 128
 is_printed b h = elim (is_name_byte b) as (λ t. is_name_byte b ≡ t → not t ≡ false → b < 128) [
-  | true ↦ λ e k. let q = and_parts (nat_le 32 b && nat_le b 126) (not (is_reserved b)) e in let r = and_parts (nat_le 32 b) (nat_le b 126) q.0 in grind (arith, nat_tests, r.1)
+  | true ↦ λ e k. let q = both (nat_le 32 b && nat_le b 126) (not (is_reserved b)) e in let r = both (nat_le 32 b) (nat_le b 126) q.0 in grind (arith, nat_tests, r.1)
   | false ↦ λ e k. absurd (cc)
 ] refl h
 
