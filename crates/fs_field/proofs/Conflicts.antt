@@ -1,5 +1,6 @@
 -- Conflicts of rows.
 use Rattle.std.proofs.Common.{◌≡◌, ℕ, ◌==◌, not, ◌&&◌, ◌||◌, Bool, true, false, List, [], ◌∷◌, refl, ap, cond, sym, ◌∙◌}
+use Rattle.std.proofs.Math.Bool.{or_comm}
 use Rattle.std.specs.Cmp.{nat_eq_equiv}
 use Rattle.std.specs.Cmp.Lexicographic.{nat_list_eq_equiv}
 use Rattle.std.specs.Prelude.{Option}
@@ -10,13 +11,8 @@ use Rattle.fs_field.specs.declared.row.Row.{Row}
 use Rattle.fs_ident.specs.declared.actor.Session.{Session}
 use Rattle.fs_ident.specs.Ident.{same}
 use Rattle.fs_ident.specs.In.{In}
-use Rattle.fs_field.specs.Conflict.{Selves, one_shared, names_over, meets, is_exclusive, plain_conflict, mode_meets, mode_conflict, conflicts, WithoutConflict, IsCalm, is_plain}
-
-pub either_way : (x y : Bool) → (x || y) ≡ (y || x)
-either_way true true = refl
-either_way true false = refl
-either_way false true = refl
-either_way false false = refl
+use Rattle.fs_field.specs.Conflict.{Selves, one_shared, names_over, meets, is_exclusive, plain_conflict, mode_meets, mode_conflict, conflicts, NoConflict, NoPlainConflict}
+use Rattle.fs_field.specs.Field.{tells_no_mode}
 
 shared_mutual : (f g : Field) → one_shared f g ≡ one_shared g f
 shared_mutual (Life a) (Life b) = nat_list_eq_equiv.symm a b
@@ -49,8 +45,8 @@ shared_mutual f g = refl
 meets_mutual : (f : Field) (k : LeaseKind) (g : Field) (l : LeaseKind) → meets f k g l ≡ meets g l f k
 meets_mutual f k g l =
     ap (λ x. (x && (is_exclusive k || is_exclusive l)) || ((names_over f g && is_exclusive l) || (names_over g f && is_exclusive k))) (shared_mutual f g)
-    ∙ ap (λ x. (one_shared g f && x) || ((names_over f g && is_exclusive l) || (names_over g f && is_exclusive k))) (either_way (is_exclusive k) (is_exclusive l))
-    ∙ ap (λ x. (one_shared g f && (is_exclusive l || is_exclusive k)) || x) (either_way (names_over f g && is_exclusive l) (names_over g f && is_exclusive k))
+    ∙ ap (λ x. (one_shared g f && x) || ((names_over f g && is_exclusive l) || (names_over g f && is_exclusive k))) (or_comm (is_exclusive k) (is_exclusive l))
+    ∙ ap (λ x. (one_shared g f && (is_exclusive l || is_exclusive k)) || x) (or_comm (names_over f g && is_exclusive l) (names_over g f && is_exclusive k))
 
 other_session : (a b : Row) → not (a.session.0 == b.session.0) ≡ not (b.session.0 == a.session.0)
 other_session a b = ap not (nat_eq_equiv.symm a.session.0 b.session.0)
@@ -63,7 +59,7 @@ plain_mutual a b =
 mode_mutual : (selves : Selves) (rows : List Row) (a b : Row) → mode_conflict selves rows a b ≡ mode_conflict selves rows b a
 mode_mutual selves rows a b =
     ap (λ x. x && (mode_meets selves rows a.session a.field a.promise b.session b.field || mode_meets selves rows b.session b.field b.promise a.session a.field)) (other_session a b)
-    ∙ ap (λ x. not (b.session.0 == a.session.0) && x) (either_way (mode_meets selves rows a.session a.field a.promise b.session b.field) (mode_meets selves rows b.session b.field b.promise a.session a.field))
+    ∙ ap (λ x. not (b.session.0 == a.session.0) && x) (or_comm (mode_meets selves rows a.session a.field a.promise b.session b.field) (mode_meets selves rows b.session b.field b.promise a.session a.field))
 
 pub conflicts_mutual : (selves : Selves) (rows : List Row) (a b : Row) → conflicts selves rows a b ≡ conflicts selves rows b a
 conflicts_mutual selves rows a b =
@@ -78,27 +74,27 @@ or_never : (x : Bool) → (x || false) ≡ x
 or_never true = refl
 or_never false = refl
 
-plain_field : (selves : Selves) (rows : List Row) (x : Session) (f : Field) (p : Option Bool) (y : Session) (g : Field) → is_plain f ≡ true → mode_meets selves rows x f p y g ≡ false
-plain_field selves rows x (Life f) p y g h = refl
-plain_field selves rows x (Child f n) p y g h = refl
-plain_field selves rows x (Names f) p y g h = refl
-plain_field selves rows x (Info f) p y g h = refl
-plain_field selves rows x (Own f) p y g h = refl
-plain_field selves rows x (SelfW f m) p y g h = absurd (cc)
-plain_field selves rows x (Other f m) p y g h = absurd (cc)
+off_modes : (selves : Selves) (rows : List Row) (x : Session) (f : Field) (p : Option Bool) (y : Session) (g : Field) → tells_no_mode f ≡ true → mode_meets selves rows x f p y g ≡ false
+off_modes selves rows x (Life f) p y g h = refl
+off_modes selves rows x (Child f n) p y g h = refl
+off_modes selves rows x (Names f) p y g h = refl
+off_modes selves rows x (Info f) p y g h = refl
+off_modes selves rows x (Own f) p y g h = refl
+off_modes selves rows x (SelfW f m) p y g h = absurd (cc)
+off_modes selves rows x (Other f m) p y g h = absurd (cc)
 
-no_promise : (selves : Selves) (rows : List Row) (a b : Row) → is_plain a.field ≡ true → mode_meets selves rows a.session a.field a.promise b.session b.field ≡ false
-no_promise selves rows a b h = plain_field selves rows a.session a.field a.promise b.session b.field h
+no_promise : (selves : Selves) (rows : List Row) (a b : Row) → tells_no_mode a.field ≡ true → mode_meets selves rows a.session a.field a.promise b.session b.field ≡ false
+no_promise selves rows a b h = off_modes selves rows a.session a.field a.promise b.session b.field h
 
-pub plain_is_all : (selves : Selves) (rows : List Row) (a b : Row) → is_plain a.field ≡ true → is_plain b.field ≡ true → conflicts selves rows a b ≡ plain_conflict a b
+pub plain_is_all : (selves : Selves) (rows : List Row) (a b : Row) → tells_no_mode a.field ≡ true → tells_no_mode b.field ≡ true → conflicts selves rows a b ≡ plain_conflict a b
 plain_is_all selves rows a b ha hb =
     ap (λ x. plain_conflict a b || (not (a.session.0 == b.session.0) && (x || mode_meets selves rows b.session b.field b.promise a.session a.field))) (no_promise selves rows a b ha)
     ∙ ap (λ x. plain_conflict a b || (not (a.session.0 == b.session.0) && x)) (no_promise selves rows b a hb)
     ∙ ap (λ x. plain_conflict a b || x) (never (not (a.session.0 == b.session.0)))
     ∙ or_never (plain_conflict a b)
 
-pub calm : (selves : Selves) (rows : List Row) → ((row : Row) → In row rows → is_plain row.field ≡ true) → WithoutConflict selves rows → IsCalm rows
-calm selves rows plain free a b ia ib = sym (plain_is_all selves rows a b (plain a ia) (plain b ib)) ∙ free a b ia ib
+pub all_are_plain : (selves : Selves) (rows : List Row) → ((row : Row) → In row rows → tells_no_mode row.field ≡ true) → NoConflict selves rows → NoPlainConflict rows
+all_are_plain selves rows plain free a b ia ib = sym (plain_is_all selves rows a b (plain a ia) (plain b ib)) ∙ free a b ia ib
 
-pub free : (selves : Selves) (rows : List Row) → ((row : Row) → In row rows → is_plain row.field ≡ true) → IsCalm rows → WithoutConflict selves rows
-free selves rows plain quiet a b ia ib = plain_is_all selves rows a b (plain a ia) (plain b ib) ∙ quiet a b ia ib
+pub plain_are_all : (selves : Selves) (rows : List Row) → ((row : Row) → In row rows → tells_no_mode row.field ≡ true) → NoPlainConflict rows → NoConflict selves rows
+plain_are_all selves rows plain quiet a b ia ib = plain_is_all selves rows a b (plain a ia) (plain b ib) ∙ quiet a b ia ib

@@ -3,3 +3,5 @@ pub mod Named
 pub mod Rows
 pub mod Below
 pub mod Conflicts
+pub mod Order
+pub mod Leases

@@ -8,7 +8,7 @@ use Rattle.fs_ident.specs.declared.actor.LeaseNo.{LeaseNo}
 use Rattle.fs_field.specs.declared.field.Field.{Field}
 use Rattle.fs_field.specs.declared.row.Row.{Row}
 use Rattle.fs_field.specs.Field.{same_field, file_of}
-use Rattle.fs_field.specs.Table.{has_no, lock_on, rows_on, borne, child_number}
+use Rattle.fs_field.specs.Table.{has_no, lock_on, rows_on, borne_numbers, child_number}
 
 pub find_step : (test : Row → Bool) (rows : List Row) (i : ℕ) (d : Row) → i < length rows → find test (drop i rows) ≡ cond (test (get_or rows i d)) (Some (get_or rows i d)) (find test (drop (i + 1) rows))
 find_step test rows i d h = rw (drop_more rows i d h)
@@ -19,7 +19,7 @@ lock_step field rows i d h = rw (drop_more rows i d h)
 pub on_step : (field : Field) (rows : List Row) (i : ℕ) (d : Row) → i < length rows → rows_on field (drop i rows) ≡ cond (same_field (get_or rows i d).field field) (((get_or rows i d).no, (get_or rows i d).session) ∷ rows_on field (drop (i + 1) rows)) (rows_on field (drop (i + 1) rows))
 on_step field rows i d h = rw (drop_more rows i d h)
 
-pub borne_step : (dir : List ℕ) (rows : List Row) (i : ℕ) (d : Row) → i < length rows → borne dir (drop i rows) ≡ cons_option (child_number dir (file_of (get_or rows i d).field)) (borne dir (drop (i + 1) rows))
+pub borne_step : (dir : List ℕ) (rows : List Row) (i : ℕ) (d : Row) → i < length rows → borne_numbers dir (drop i rows) ≡ cons_option (child_number dir (file_of (get_or rows i d).field)) (borne_numbers dir (drop (i + 1) rows))
 borne_step dir rows i d h = rw (drop_more rows i d h)
 
 -- one more row is changed

@@ -39,6 +39,7 @@ meets f k g l = (one_shared f g && (is_exclusive k || is_exclusive l)) || ((name
 abbrev pub stands_against : Session → Field → LeaseKind → Row → Bool
 stands_against s f k row = not (s.0 == row.session.0) && meets f k row.field row.kind
 
+-- the two rows conflict by their sessions, fields and kinds alone
 abbrev pub plain_conflict : Row → Row → Bool
 plain_conflict a b = stands_against a.session a.field a.kind b
 
@@ -59,34 +60,30 @@ is_fixed rows f m s = not (list_any (λ row. is_self f m row.field && (row.sessi
 abbrev pub has_fixed : Selves → List Row → List ℕ → Mode → Session → Session → Bool
 has_fixed selves rows f m x y = list_any (λ e. ((not (e.0.0 == x.0) && not (e.0.0 == y.0)) && has e.1 m) && is_fixed rows f m e.0) (selves f)
 
--- what was told of the others can become untrue: that none has the mode, or that one has it, unless a fixed one has
+-- what was told of the others can become untrue: that one has the mode, unless a fixed one has it, or that none has;
+-- where nothing was told it is taken that none has
 abbrev pub can_fail : Option Bool → Bool → Bool
-can_fail None fixed = false
-can_fail (Some false) fixed = true
 can_fail (Some true) fixed = not fixed
+can_fail (Some false) fixed = true
+can_fail None fixed = true
 
 -- the first lease tells what the others have, and the second lets one of them change it
 abbrev pub mode_meets : Selves → List Row → Session → Field → Option Bool → Session → Field → Bool
 mode_meets selves rows x (Other f m) promise y (SelfW g n) = (same f g && same_mode m n) && can_fail promise (has_fixed selves rows f m x y)
 mode_meets selves rows x f promise y g = false
 
+-- one of the two rows tells its session what others have of a mode, and the other lets its session change it
 abbrev pub mode_conflict : Selves → List Row → Row → Row → Bool
 mode_conflict selves rows a b = not (a.session.0 == b.session.0) && (mode_meets selves rows a.session a.field a.promise b.session b.field || mode_meets selves rows b.session b.field b.promise a.session a.field)
 
--- the two rows of a table conflict
+-- the two rows of a table conflict, plainly or over a mode
 abbrev pub conflicts : Selves → List Row → Row → Row → Bool
 conflicts selves rows a b = plain_conflict a b || mode_conflict selves rows a b
 
 -- no two rows of the table conflict
-abbrev pub WithoutConflict : Selves → List Row → Type 0
-WithoutConflict selves rows = (a b : Row) → In a rows → In b rows → conflicts selves rows a b ≡ false
+abbrev pub NoConflict : Selves → List Row → Type 0
+NoConflict selves rows = (a b : Row) → In a rows → In b rows → conflicts selves rows a b ≡ false
 
--- no two rows of the table conflict, whoever has a handle
-abbrev pub IsCalm : List Row → Type 0
-IsCalm rows = (a b : Row) → In a rows → In b rows → plain_conflict a b ≡ false
-
--- a field that is no part of what sessions tell of modes
-abbrev pub is_plain : Field → Bool
-is_plain (SelfW f m) = false
-is_plain (Other f m) = false
-is_plain field = true
+-- no two rows of the table conflict by their sessions, fields and kinds alone
+abbrev pub NoPlainConflict : List Row → Type 0
+NoPlainConflict rows = (a b : Row) → In a rows → In b rows → plain_conflict a b ≡ false

@@ -1,5 +1,5 @@
 -- The fields of files, and when two of them are one.
-use Rattle.std.specs.Prelude.{ℕ, Bool, false, List, ◌==◌, ◌&&◌}
+use Rattle.std.specs.Prelude.{ℕ, Bool, true, false, List, ◌==◌, ◌&&◌}
 use Rattle.fs_ident.specs.Ident.{same}
 use Rattle.fs_modes.specs.declared.modes.Mode.{Mode}
 use Rattle.fs_modes.specs.declared.modes.Mode.TheVariants.{AccR, AccW, AccD, DenyR, DenyW, DenyD}
@@ -15,9 +15,11 @@ mode_rank DenyR = 3
 mode_rank DenyW = 4
 mode_rank DenyD = 5
 
+-- the two modes are one
 abbrev pub same_mode : Mode → Mode → Bool
 same_mode m n = mode_rank m == mode_rank n
 
+-- the two fields are one
 abbrev pub same_field : Field → Field → Bool
 same_field (Life a) (Life b) = same a b
 same_field (Child a m) (Child b n) = same a b && same m n
@@ -37,3 +39,9 @@ file_of (Info a) = a
 file_of (Own a) = a
 file_of (SelfW a m) = a
 file_of (Other a m) = a
+
+-- a field that is no part of what sessions tell of modes
+abbrev pub tells_no_mode : Field → Bool
+tells_no_mode (SelfW f m) = false
+tells_no_mode (Other f m) = false
+tells_no_mode field = true

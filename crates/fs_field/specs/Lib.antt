@@ -1,4 +1,5 @@
 pub mod Field
+pub mod Texts
 pub mod Value
 pub mod After
 pub mod Conflict

@@ -29,6 +29,7 @@ abbrev pub is_ordered : List Row → Bool
 is_ordered [] = true
 is_ordered (r ∷ rs) = list_all (λ s. no_before r.no s.no) rs && is_ordered rs
 
+-- the row has the number
 abbrev pub has_no : LeaseNo → Row → Bool
 has_no number row = same_no row.no number
 
@@ -44,29 +45,30 @@ same_kind Exclusive b = is_exclusive b
 abbrev pub is_lease : LeaseNo → Session → Field → LeaseKind → Row → Bool
 is_lease number session field kind row = ((has_no number row && (row.session.0 == session.0)) && same_field row.field field) && same_kind row.kind kind
 
--- a row lives until its end and the skew are over, and longer while a transaction keeps it
-abbrev pub stays : ℕ → ℕ → Row → Bool
-stays now skew row = is_some row.lock || nat_lt now (row.until + skew)
+-- the row lives until its end and the skew are over, and longer while a transaction keeps it
+abbrev pub is_live : ℕ → ℕ → Row → Bool
+is_live now skew row = is_some row.lock || nat_lt now (row.until + skew)
 
--- the row of this number ends no sooner than `until`
-abbrev pub renewed : LeaseNo → ℕ → Row → Row
-renewed number until row = if has_no number row && nat_lt row.until until then record row { until = until } else row
+-- the row; that of this number ends no sooner than `until`
+abbrev pub renewed_row : LeaseNo → ℕ → Row → Row
+renewed_row number until row = if has_no number row && nat_lt row.until until then record row { until = until } else row
 
 -- the row of this number, and no transaction keeps it
-abbrev pub is_open : LeaseNo → Row → Bool
-is_open number row = has_no number row && not (is_some row.lock)
+abbrev pub is_unlocked : LeaseNo → Row → Bool
+is_unlocked number row = has_no number row && not (is_some row.lock)
 
--- the transaction keeps the row of this number, if none kept it
-abbrev pub locked : LeaseNo → TxnNo → Row → Row
-locked number txn row = if is_open number row then record row { lock = Some txn } else row
+-- the row; that of this number is kept by the transaction, if none kept it
+abbrev pub locked_row : LeaseNo → TxnNo → Row → Row
+locked_row number txn row = if is_unlocked number row then record row { lock = Some txn } else row
 
-abbrev pub is_of : TxnNo → Option TxnNo → Bool
-is_of txn None = false
-is_of txn (Some other) = same_txn other txn
+-- the lock is the transaction's
+abbrev pub is_lock_of : TxnNo → Option TxnNo → Bool
+is_lock_of txn None = false
+is_lock_of txn (Some other) = same_txn other txn
 
--- the transaction keeps no row any more
-abbrev pub unlocked : TxnNo → Row → Row
-unlocked txn row = if is_of txn row.lock then record row { lock = None } else row
+-- the row, which the transaction does not keep any more
+abbrev pub unlocked_row : TxnNo → Row → Row
+unlocked_row txn row = if is_lock_of txn row.lock then record row { lock = None } else row
 
 -- the transaction that keeps the first row on the field that one keeps
 abbrev pub lock_on : Field → List Row → Option TxnNo
@@ -78,20 +80,22 @@ abbrev pub rows_on : Field → List Row → List (LeaseNo × Session)
 rows_on field [] = []
 rows_on field (r ∷ rs) = if same_field r.field field then (r.no, r.session) ∷ rows_on field rs else rows_on field rs
 
+-- the last number of an identifier
 abbrev pub last_number : List ℕ → Option ℕ
 last_number [] = None
 last_number (n ∷ []) = Some n
 last_number (n ∷ m ∷ ms) = last_number (m ∷ ms)
 
-abbrev pub is_dir : List ℕ → Option (List ℕ) → Bool
-is_dir dir None = false
-is_dir dir (Some other) = same other dir
+-- the parent is the directory
+abbrev pub is_parent : List ℕ → Option (List ℕ) → Bool
+is_parent dir None = false
+is_parent dir (Some other) = same other dir
 
 -- the last number of a file that stands right below the directory
 abbrev pub child_number : List ℕ → List ℕ → Option ℕ
-child_number dir file = if is_dir dir (parent file) then last_number file else None
+child_number dir file = if is_parent dir (parent file) then last_number file else None
 
 -- the last numbers of the files right below the directory that rows are on
-abbrev pub borne : List ℕ → List Row → List ℕ
-borne dir [] = []
-borne dir (r ∷ rs) = cons_option (child_number dir (file_of r.field)) (borne dir rs)
+abbrev pub borne_numbers : List ℕ → List Row → List ℕ
+borne_numbers dir [] = []
+borne_numbers dir (r ∷ rs) = cons_option (child_number dir (file_of r.field)) (borne_numbers dir rs)

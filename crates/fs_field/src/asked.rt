@@ -3,6 +3,7 @@ use crate::field::Field;
 use crate::lease_kind::LeaseKind;
 use fs_ident::{FileId, LeaseNo, Memory, Twin, TxnNo};
 use std::alloc::Global;
+use thiserror::Error;
 
 /// Something that an operation cannot be answered without.
 #[derive(Debug, Drop, PartialEq, Eq)]
@@ -25,7 +26,8 @@ pub enum Asked {
 }
 
 /// There is no row with this number.
-#[derive(Clone, Copy, Debug, PartialEq, Eq)]
+#[derive(Clone, Copy, Debug, PartialEq, Eq, Error)]
+#[error("there is no row with the number {no}")]
 pub struct Unknown {
     pub no: LeaseNo,
 }

@@ -91,13 +91,13 @@ pub fn apply(
             change_life(life, file, e);
             Ok(())
         }
-        (Field::Child(dir, name), Value::Child(child)) => change_child(child, alloc, dir, name, e),
-        (Field::Names(dir), Value::Names(names)) => change_names(names, alloc, dir, e),
+        (Field::Child(dir, name), Value::Child(child)) => change_child(alloc, child, dir, name, e),
+        (Field::Names(dir), Value::Names(names)) => change_names(alloc, names, dir, e),
         (Field::Info(file), Value::Info(size, stamp)) => {
             change_info(size, stamp, file, e);
             Ok(())
         }
-        (Field::Own(file), Value::Own(own)) => change_own(own, alloc, session, file, e),
+        (Field::Own(file), Value::Own(own)) => change_own(alloc, own, session, file, e),
         _ => Ok(()),
     }
 }
@@ -118,8 +118,8 @@ fn change_life(life: &mut Option<Kind>, file: &FileId, e: &Effect)
 }
 
 fn change_child(
-    child: &mut Option<FileId>,
     alloc: Global,
+    child: &mut Option<FileId>,
     d: &FileId,
     n: &Name,
     e: &Effect,
@@ -141,7 +141,7 @@ fn change_child(
     Ok(())
 }
 
-fn change_names(names: &mut List<Name>, alloc: Global, d: &FileId, e: &Effect) -> Result<(), Memory>
+fn change_names(alloc: Global, names: &mut List<Name>, d: &FileId, e: &Effect) -> Result<(), Memory>
     ensures ok { OnOk result (names.new ≡ names_after d.now names.old e.now) }
     ensures err { OnErr result (names.new ≡ names.old) }
 {
@@ -150,12 +150,12 @@ fn change_names(names: &mut List<Name>, alloc: Global, d: &FileId, e: &Effect) -
             dir,
             name,
             to: Some(_),
-        } if d == dir => with_name(names, alloc, name)?,
+        } if d == dir => with_name(alloc, names, name)?,
         Effect::SetChild {
             dir,
             name,
             to: None,
-        } if d == dir => without_name(names, alloc, name),
+        } if d == dir => without_name(names, name),
         Effect::NewNode {
             file,
             kind: _,
@@ -197,8 +197,8 @@ fn set_info(size: &mut u64, stamp: &mut u64, new_size: u64, new_stamp: u64)
 }
 
 fn change_own(
-    own: &mut List<(u32, Modes)>,
     alloc: Global,
+    own: &mut List<(u32, Modes)>,
     s: Session,
     f: &FileId,
     e: &Effect,
@@ -219,10 +219,8 @@ fn change_own(
             session,
             h,
             modes,
-        } if f == file && *session == s => with_handle(own, alloc, *h, *modes)?,
-        Effect::RemoveHandle { file, session, h } if f == file && *session == s => without_handle(
-            own, alloc, *h,
-        ),
+        } if f == file && *session == s => with_handle(alloc, own, *h, *modes)?,
+        Effect::RemoveHandle { file, session, h } if f == file && *session == s => without_handle(own, *h),
         _ => {}
     }
     Ok(())

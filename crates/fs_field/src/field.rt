@@ -1,6 +1,6 @@
 //! What a lease is on.
 ghost use Rattle.std.specs.Prelude.{◌≡◌, ◌↔◌, IsTrue};
-ghost use Rattle.fs_field.specs.Field.{same_field, file_of};
+ghost use Rattle.fs_field.specs.Field.{same_field, file_of, tells_no_mode};
 
 use fs_ident::{FileId, Memory, Name, Twin};
 use fs_modes::Mode;
@@ -46,6 +46,13 @@ impl Field {
             Field::Child(file, _) => file,
             Field::SelfW(file, _) | Field::Other(file, _) => file,
         }
+    }
+
+    /// Whether it is no part of what sessions tell of modes.
+    pub fn tells_no_mode(&self) -> bool
+        ensures { result ≡ tells_no_mode self.now }
+    {
+        !matches!(self, Field::SelfW(_, _) | Field::Other(_, _))
     }
 
     /// Whether two fields are one.

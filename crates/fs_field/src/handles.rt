@@ -6,13 +6,12 @@ ghost use Rattle.fs_field.specs.After.{is_above, with_handle, without_handle};
 use fs_ident::{List, Memory, Twin};
 use fs_modes::Modes;
 use std::alloc::Global;
-use std::mem;
 
 /// Puts the modes under the handle, before the first greater one, in place of what was under it.
 #[tactic(auto, using(fs_ident::proofs::Put::put_at))]
 pub fn with_handle(
-    handles: &mut List<(u32, Modes)>,
     alloc: Global,
+    handles: &mut List<(u32, Modes)>,
     h: u32,
     modes: Modes,
 ) -> Result<(), Memory>
@@ -20,7 +19,7 @@ pub fn with_handle(
     ensures err { OnErr result (handles.new ≡ handles.old) }
 {
     let mut more = handles.copy(alloc)?;
-    without_handle(&mut more, alloc, h);
+    without_handle(&mut more, h);
     let at = place(more.as_slice(), h);
     more.insert(at, (h, modes))?;
     *handles = more;
@@ -28,12 +27,10 @@ pub fn with_handle(
 }
 
 /// Takes out what is under the handle.
-pub fn without_handle(handles: &mut List<(u32, Modes)>, alloc: Global, h: u32)
+pub fn without_handle(handles: &mut List<(u32, Modes)>, h: u32)
     ensures { handles.new ≡ without_handle handles.old h }
 {
-    let mut items = mem::replace(handles, List::new(alloc)).into_vec();
-    retain_others(&mut items, h);
-    *handles = List::from_vec(items);
+    retain_others(handles.items_mut(), h);
 }
 
 /// Where the first greater handle stands, or the length.

@@ -4,7 +4,8 @@ ghost use Rattle.std.specs.List.{list_any};
 ghost use Rattle.fs_ident.specs.declared.actor.Session.{Session};
 ghost use Rattle.fs_field.specs.After.{touches, value_after, names_after};
 ghost use Rattle.fs_ident.specs.In.{In};
-ghost use Rattle.fs_field.specs.Conflict.{Selves, conflicts, WithoutConflict, IsCalm, is_plain};
+ghost use Rattle.fs_field.specs.Conflict.{Selves, conflicts, NoConflict, NoPlainConflict};
+ghost use Rattle.fs_field.specs.Field.{tells_no_mode};
 ghost use Rattle.fs_field.specs.Table.{child_number};
 ghost use Rattle.fs_field.specs.Value.{is_value_of};
 ghost use Rattle.fs_ident.specs.Ident.{child, same};
@@ -50,12 +51,12 @@ pub fn conflicts_are_mutual()
         conflicts selves rows a b ≡ conflicts selves rows b a }
 {}
 
-/// Where no row is on what sessions tell of modes, no two conflict exactly where none do whoever has a handle.
-pub fn plain_rows_are_calm()
-    ensures calm { (selves : Selves) (rows : List Row) →
-        ((row : Row) → In row rows → is_plain row.field ≡ true) → WithoutConflict selves rows →
-        IsCalm rows }
-    ensures free { (selves : Selves) (rows : List Row) →
-        ((row : Row) → In row rows → is_plain row.field ≡ true) → IsCalm rows →
-        WithoutConflict selves rows }
+/// Where no row is on what sessions tell of modes, no two rows conflict exactly where no two conflict plainly.
+pub fn conflicts_off_modes_are_plain()
+    ensures plain { (selves : Selves) (rows : List Row) →
+        ((row : Row) → In row rows → tells_no_mode row.field ≡ true) → NoConflict selves rows →
+        NoPlainConflict rows }
+    ensures all { (selves : Selves) (rows : List Row) →
+        ((row : Row) → In row rows → tells_no_mode row.field ≡ true) → NoPlainConflict rows →
+        NoConflict selves rows }
 {}

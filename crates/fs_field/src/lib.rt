@@ -14,6 +14,7 @@ mod row;
 pub mod table;
 #[cfg(test)]
 mod tests;
+mod texts;
 mod used;
 mod value;
 mod vote;
@@ -23,8 +24,8 @@ pub use change::{apply, touches};
 pub use effect::Effect;
 pub use field::Field;
 pub use law::{
-    children_are_told, conflicts_are_mutual, kind_of_value_stays, names_follow_children,
-    plain_rows_are_calm, untouched_stays,
+    children_are_told, conflicts_are_mutual, conflicts_off_modes_are_plain, kind_of_value_stays,
+    names_follow_children, untouched_stays,
 };
 pub use lease_kind::LeaseKind;
 pub use path::PathAnswer;

@@ -6,11 +6,10 @@ ghost use Rattle.fs_ident.specs.Ident.{same};
 
 use fs_ident::{List, Memory, Name, Twin};
 use std::alloc::Global;
-use std::mem;
 
 /// Puts the name before the first greater one, unless it is there.
 #[tactic(auto, using(fs_ident::proofs::Put::put_at))]
-pub fn with_name(names: &mut List<Name>, alloc: Global, name: &Name) -> Result<(), Memory>
+pub fn with_name(alloc: Global, names: &mut List<Name>, name: &Name) -> Result<(), Memory>
     ensures ok { OnOk result (names.new ≡ with_name names.old name.now) }
     ensures err { OnErr result (names.new ≡ names.old) }
 {
@@ -23,12 +22,10 @@ pub fn with_name(names: &mut List<Name>, alloc: Global, name: &Name) -> Result<(
 }
 
 /// Takes the name out.
-pub fn without_name(names: &mut List<Name>, alloc: Global, name: &Name)
+pub fn without_name(names: &mut List<Name>, name: &Name)
     ensures { names.new ≡ without_name names.old name.now }
 {
-    let mut items = mem::replace(names, List::new(alloc)).into_vec();
-    retain_others(&mut items, name);
-    *names = List::from_vec(items);
+    retain_others(names.items_mut(), name);
 }
 
 /// Where the first greater name stands, or the length.

@@ -1,9 +1,10 @@
-//! A table of rows, in order of number.
+//! A table of rows, in order of number. Public as a module, since other crates keep tables of their own by its calls: the rows
+//! on life, children, names, info and own handles in `fs_rows`.
 ghost use Rattle.std.specs.Prelude.{◌<◌, IfSome, ◌≡◌, ◌≤◌, length, unwrap_or, map, IfOk, OnOk, OnErr};
 ghost use Rattle.std.specs.Option.{option_copied};
 ghost use Rattle.std.specs.List.{position, filter, find, list_any};
 ghost use Rattle.std.specs.Prelude.{not};
-ghost use Rattle.fs_field.specs.Table.{no_before, has_no, with_row, is_lease, stays, renewed, is_open, locked, is_of, unlocked, lock_on, rows_on, child_number, borne};
+ghost use Rattle.fs_field.specs.Table.{no_before, has_no, with_row, is_lease, is_live, renewed_row, is_unlocked, locked_row, is_lock_of, unlocked_row, lock_on, rows_on, child_number, borne_numbers};
 
 use crate::field::Field;
 use crate::lease_kind::LeaseKind;
@@ -63,7 +64,7 @@ fn first_after(rows: &[Row], no: LeaseNo) -> Option<usize>
 /// Lets the row of this number end no sooner than `until`, and tells whether there is one.
 pub fn renew(rows: &mut [Row], no: LeaseNo, until: u64) -> bool
     ensures found { result ≡ list_any (has_no no) rows.old }
-    ensures rows { rows.new ≡ map (renewed no until) rows.old }
+    ensures rows { rows.new ≡ map (renewed_row no until) rows.old }
 {
     let found = has_row(rows, no);
     renew_each(rows, no, until);
@@ -72,7 +73,7 @@ pub fn renew(rows: &mut [Row], no: LeaseNo, until: u64) -> bool
 
 #[tactic(auto, using(crate::proofs::Rows::mapped_step))]
 fn renew_each(rows: &mut [Row], no: LeaseNo, until: u64)
-    ensures { rows.new ≡ map (renewed no until) rows.old }
+    ensures { rows.new ≡ map (renewed_row no until) rows.old }
 {
     for row in rows.iter_mut() {
         renew_one(row, no, until);
@@ -80,7 +81,7 @@ fn renew_each(rows: &mut [Row], no: LeaseNo, until: u64)
 }
 
 fn renew_one(row: &mut Row, no: LeaseNo, until: u64)
-    ensures { row.new ≡ renewed no until row.old }
+    ensures { row.new ≡ renewed_row no until row.old }
 {
     if row.no == no && row.until < until {
         row.until = until;
@@ -105,13 +106,13 @@ fn retain_others(rows: &mut Vec<Row>, no: LeaseNo)
 
 /// Drops the rows whose end and the skew are over, but for those that a transaction keeps.
 pub fn lapse(rows: &mut Vec<Row>, now: u64, skew: u64)
-    ensures { rows.new.items ≡ filter (stays now skew) rows.old.items }
+    ensures { rows.new.items ≡ filter (is_live now skew) rows.old.items }
 {
-    rows.retain(|row| stays(row, now, skew));
+    rows.retain(|row| is_live(row, now, skew));
 }
 
-fn stays(row: &Row, now: u64, skew: u64) -> bool
-    ensures { result ≡ stays now skew row.now }
+fn is_live(row: &Row, now: u64, skew: u64) -> bool
+    ensures { result ≡ is_live now skew row.now }
 {
     row.lock.is_some() || now < skew || now - skew < row.until
 }
@@ -132,17 +133,17 @@ fn is_lease(row: &Row, no: LeaseNo, session: Session, field: &Field, kind: Lease
 
 /// Lets the transaction keep the row of this number, and tells whether there was one that none kept.
 pub fn lock(rows: &mut [Row], no: LeaseNo, txn: TxnNo) -> bool
-    ensures found { result ≡ list_any (is_open no) rows.old }
-    ensures rows { rows.new ≡ map (locked no txn) rows.old }
+    ensures found { result ≡ list_any (is_unlocked no) rows.old }
+    ensures rows { rows.new ≡ map (locked_row no txn) rows.old }
 {
-    let found = rows.iter().any(|row| is_open(row, no));
+    let found = rows.iter().any(|row| is_unlocked(row, no));
     lock_each(rows, no, txn);
     found
 }
 
 #[tactic(auto, using(crate::proofs::Rows::mapped_step))]
 fn lock_each(rows: &mut [Row], no: LeaseNo, txn: TxnNo)
-    ensures { rows.new ≡ map (locked no txn) rows.old }
+    ensures { rows.new ≡ map (locked_row no txn) rows.old }
 {
     for row in rows.iter_mut() {
         lock_one(row, no, txn);
@@ -150,15 +151,15 @@ fn lock_each(rows: &mut [Row], no: LeaseNo, txn: TxnNo)
 }
 
 fn lock_one(row: &mut Row, no: LeaseNo, txn: TxnNo)
-    ensures { row.new ≡ locked no txn row.old }
+    ensures { row.new ≡ locked_row no txn row.old }
 {
-    if is_open(row, no) {
+    if is_unlocked(row, no) {
         row.lock = Some(txn);
     }
 }
 
-fn is_open(row: &Row, no: LeaseNo) -> bool
-    ensures { result ≡ is_open no row.now }
+fn is_unlocked(row: &Row, no: LeaseNo) -> bool
+    ensures { result ≡ is_unlocked no row.now }
 {
     row.no == no && row.lock.is_none()
 }
@@ -166,7 +167,7 @@ fn is_open(row: &Row, no: LeaseNo) -> bool
 /// Lets the transaction keep no row any more.
 #[tactic(auto, using(crate::proofs::Rows::mapped_step))]
 pub fn unlock(rows: &mut [Row], txn: TxnNo)
-    ensures { rows.new ≡ map (unlocked txn) rows.old }
+    ensures { rows.new ≡ map (unlocked_row txn) rows.old }
 {
     for row in rows.iter_mut() {
         unlock_one(row, txn);
@@ -174,15 +175,15 @@ pub fn unlock(rows: &mut [Row], txn: TxnNo)
 }
 
 fn unlock_one(row: &mut Row, txn: TxnNo)
-    ensures { row.new ≡ unlocked txn row.old }
+    ensures { row.new ≡ unlocked_row txn row.old }
 {
-    if is_of(row.lock, txn) {
+    if is_lock_of(row.lock, txn) {
         row.lock = None;
     }
 }
 
-fn is_of(lock: Option<TxnNo>, txn: TxnNo) -> bool
-    ensures { result ≡ is_of txn lock }
+fn is_lock_of(lock: Option<TxnNo>, txn: TxnNo) -> bool
+    ensures { result ≡ is_lock_of txn lock }
 {
     match lock {
         None => false,
@@ -224,7 +225,7 @@ pub fn rows_on(
 /// The last numbers of the files right below the directory that rows are on.
 #[tactic(auto, using(crate::proofs::Rows::borne_step))]
 pub fn borne(alloc: Global, rows: &[Row], dir: &FileId) -> Result<List<u32>, Memory>
-    ensures { IfOk result (λ told. told ≡ borne dir.now rows.now) }
+    ensures { IfOk result (λ told. told ≡ borne_numbers dir.now rows.now) }
 {
     let mut told = List::new(alloc);
     for row in rows {

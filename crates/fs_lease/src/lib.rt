@@ -2,8 +2,12 @@
 //! that its state has.
 #![tactic(auto)]
 
-mod lease;
+mod held;
+mod leaving;
+mod pinned;
 #[cfg(test)]
 mod tests;
 
-pub use lease::{Held, Leaving, Pinned, Unpinned};
+pub use held::Held;
+pub use leaving::Leaving;
+pub use pinned::{Pinned, Unpinned};

@@ -2,12 +2,12 @@
 ghost use Rattle.std.specs.Prelude.{◌≡◌, List};
 ghost use Rattle.fs_field.specs.declared.row.Row.{Row};
 ghost use Rattle.fs_ident.specs.In.{In};
-ghost use Rattle.fs_field.specs.Conflict.{Selves, WithoutConflict};
+ghost use Rattle.fs_field.specs.Conflict.{Selves, NoConflict};
 ghost use Rattle.fs_rows.specs.Table.{IsTable};
 
 /// No two rows of a table conflict, whoever has a handle.
 pub fn tables_are_without_conflict()
-    ensures { (selves : Selves) (rows : List Row) → IsTable rows → WithoutConflict selves rows }
+    ensures { (selves : Selves) (rows : List Row) → IsTable rows → NoConflict selves rows }
 {}
 
 /// No two rows of a table have one number.

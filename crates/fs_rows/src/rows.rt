@@ -3,8 +3,8 @@ ghost use Rattle.std.specs.Prelude.{◌≡◌, ◌↔◌, [], true, false, not, 
 ghost use Rattle.std.specs.List.{filter, find, list_any};
 ghost use Rattle.std.specs.Option.{option_copied};
 ghost use Rattle.fs_ident.specs.declared.actor.LeaseNo.{LeaseNo};
-ghost use Rattle.fs_field.specs.Conflict.{is_plain};
-ghost use Rattle.fs_field.specs.Table.{has_no, renewed, stays, is_lease, is_open, locked, unlocked, rows_on, borne};
+ghost use Rattle.fs_field.specs.Field.{tells_no_mode};
+ghost use Rattle.fs_field.specs.Table.{has_no, renewed_row, is_live, is_lease, is_unlocked, locked_row, unlocked_row, rows_on, borne_numbers};
 ghost use Rattle.fs_rows.specs.Answer.{answer, given_row, rows_after, IsLeastAgainst};
 ghost use Rattle.fs_rows.specs.Table.{IsTable};
 
@@ -17,7 +17,7 @@ use std::marker::Model;
 /// The rows on life, child, names, info and own fields, in order of number. No two of them conflict.
 #[derive(Debug, Drop)]
 pub struct Rows {
-    rows: Vec<Row>,
+    rows: List<Row>,
 }
 
 impl Model for Rows {
@@ -27,9 +27,9 @@ impl Model for Rows {
 
     ghost Value = { List Row };
 
-    ghost view = { λ r. r.rows.items };
+    ghost view = { λ r. r.rows };
 
-    ghost invariant = { λ r. IsTable r.rows.items };
+    ghost invariant = { λ r. IsTable r.rows };
 }
 
 impl Rows {
@@ -38,12 +38,12 @@ impl Rows {
         ensures { result ≡ [] }
     {
         Rows {
-            rows: Vec::new(alloc),
+            rows: List::new(alloc),
         }
     }
 
-    /// Gives the session a lease on a field that is no part of what sessions tell of modes, or tells what stands
-    /// against it: a transaction that keeps a row on the field, else the least row of another session that
+    /// Gives the session a lease on a field that is no part of what sessions tell of modes (`Field::tells_no_mode`
+    /// is the test), or tells what stands against it: a transaction that keeps a row on the field, else the least row of another session that
     /// conflicts. `no` is the lease's number, which no row has, and `until` the reading at which it ends. `Memory`
     /// where memory is wanting; the table is as it was then.
     pub fn ask(
@@ -56,16 +56,16 @@ impl Rows {
         until: u64,
     ) -> Result<Asked, Memory>
         requires new { list_any (has_no no) self.old ≡ false }
-        requires plain { is_plain field.now ≡ true }
+        requires off_modes { tells_no_mode field.now ≡ true }
         ensures answer { IfOk result (λ asked. asked ≡ answer self.old session field.now kind) }
         ensures rows { IfOk result (λ asked. self.new ≡
             rows_after asked (given_row no session field.now kind until) self.old) }
         ensures err { OnErr result (self.new ≡ self.old) }
         ensures least { (blocker : LeaseNo) → result ≡ Ok (Asked.Wait blocker) →
             IsLeastAgainst self.old session field.now kind blocker }
-        ensures table { IsTable self.new }
+        ensures valid { IsTable self.new }
     {
-        ask(&mut self.rows, alloc, no, session, field, kind, until)
+        ask(self.rows.items_mut(), alloc, no, session, field, kind, until)
     }
 
     /// Lets the row of this number end no sooner than `until`; its end is never lowered. `Unknown` where there is
@@ -73,11 +73,11 @@ impl Rows {
     pub fn renew(&mut self, no: LeaseNo, until: u64) -> Result<(), Unknown>
         ensures known { IsOk result ↔ (list_any (has_no no) self.old ≡ true) }
         ensures unknown { IfErr result (λ e. e.no ≡ no) }
-        ensures ok { OnOk result (self.new ≡ map (renewed no until) self.old) }
+        ensures ok { OnOk result (self.new ≡ map (renewed_row no until) self.old) }
         ensures err { OnErr result (self.new ≡ self.old) }
-        ensures table { IsTable self.new }
+        ensures valid { IsTable self.new }
     {
-        if renew(&mut self.rows, no, until) {
+        if renew(self.rows.items_mut(), no, until) {
             Ok(())
         } else {
             Err(Unknown { no })
@@ -88,41 +88,41 @@ impl Rows {
     pub fn release(&mut self, no: LeaseNo) -> bool
         ensures found { result ≡ list_any (has_no no) self.old }
         ensures rows { self.new ≡ filter (λ r. not (has_no no r)) self.old }
-        ensures table { IsTable self.new }
+        ensures valid { IsTable self.new }
     {
-        table::release(&mut self.rows, no)
+        table::release(self.rows.items_mut(), no)
     }
 
     /// Drops the rows whose end and the skew are over at the reading `now`, but for those that a transaction keeps.
     pub fn lapse(&mut self, now: u64, skew: u64)
-        ensures rows { self.new ≡ filter (stays now skew) self.old }
-        ensures table { IsTable self.new }
+        ensures rows { self.new ≡ filter (is_live now skew) self.old }
+        ensures valid { IsTable self.new }
     {
-        table::lapse(&mut self.rows, now, skew);
+        table::lapse(self.rows.items_mut(), now, skew);
     }
 
     /// Whether there is the row of this lease of the session.
     pub fn holds(&self, no: LeaseNo, session: Session, field: &Field, kind: LeaseKind) -> bool
         ensures { result ≡ list_any (is_lease no session field.now kind) self.now }
     {
-        table::holds(&self.rows, no, session, field, kind)
+        table::holds(self.rows.as_slice(), no, session, field, kind)
     }
 
     /// Lets the transaction keep the row of this number, and tells whether there was one that none kept.
     pub fn lock(&mut self, no: LeaseNo, txn: TxnNo) -> bool
-        ensures found { result ≡ list_any (is_open no) self.old }
-        ensures rows { self.new ≡ map (locked no txn) self.old }
-        ensures table { IsTable self.new }
+        ensures found { result ≡ list_any (is_unlocked no) self.old }
+        ensures rows { self.new ≡ map (locked_row no txn) self.old }
+        ensures valid { IsTable self.new }
     {
-        lock(&mut self.rows, no, txn)
+        lock(self.rows.items_mut(), no, txn)
     }
 
     /// Lets the transaction keep no row any more.
     pub fn unlock(&mut self, txn: TxnNo)
-        ensures rows { self.new ≡ map (unlocked txn) self.old }
-        ensures table { IsTable self.new }
+        ensures rows { self.new ≡ map (unlocked_row txn) self.old }
+        ensures valid { IsTable self.new }
     {
-        unlock(&mut self.rows, txn);
+        unlock(self.rows.items_mut(), txn);
     }
 
     /// The numbers and sessions of the rows on the field, in order of number, whether a transaction keeps them or
@@ -130,23 +130,33 @@ impl Rows {
     pub fn on(&self, alloc: Global, field: &Field) -> Result<List<(LeaseNo, Session)>, Memory>
         ensures { IfOk result (λ told. told ≡ rows_on field.now self.now) }
     {
-        table::rows_on(alloc, &self.rows, field)
+        table::rows_on(alloc, self.rows.as_slice(), field)
     }
 
     /// The last numbers of the files right below the directory that rows are on, one for each row.
     pub fn borne(&self, alloc: Global, dir: &FileId) -> Result<List<u32>, Memory>
-        ensures { IfOk result (λ told. told ≡ borne dir.now self.now) }
+        ensures { IfOk result (λ told. told ≡ borne_numbers dir.now self.now) }
     {
-        table::borne(alloc, &self.rows, dir)
+        table::borne(alloc, self.rows.as_slice(), dir)
     }
 
     /// The row of this number.
     pub fn row(&self, no: LeaseNo) -> Option<&Row>
         ensures row { option_copied result ≡ find (has_no no) self.now }
-        ensures table { IsTable self.now }
+        ensures valid { IsTable self.now }
     {
-        table::row(&self.rows, no)
+        table::row(self.rows.as_slice(), no)
     }
+}
+
+impl Twin for Rows {
+    fn copy(&self, alloc: Global) -> Result<Rows, Memory> {
+        Ok(Rows {
+            rows: self.rows.copy(alloc)?,
+        })
+    }
+
+    fn discard(self) {}
 }
 
 /// Answers the question, and adds the row where the lease is given.
@@ -186,20 +196,20 @@ fn ask(
 /// The same on the rows as they stand in memory.
 fn renew(rows: &mut Vec<Row>, no: LeaseNo, until: u64) -> bool
     ensures found { result ≡ list_any (has_no no) rows.old.items }
-    ensures rows { rows.new.items ≡ map (renewed no until) rows.old.items }
+    ensures rows { rows.new.items ≡ map (renewed_row no until) rows.old.items }
 {
     table::renew(rows, no, until)
 }
 
 fn lock(rows: &mut Vec<Row>, no: LeaseNo, txn: TxnNo) -> bool
-    ensures found { result ≡ list_any (is_open no) rows.old.items }
-    ensures rows { rows.new.items ≡ map (locked no txn) rows.old.items }
+    ensures found { result ≡ list_any (is_unlocked no) rows.old.items }
+    ensures rows { rows.new.items ≡ map (locked_row no txn) rows.old.items }
 {
     table::lock(rows, no, txn)
 }
 
 fn unlock(rows: &mut Vec<Row>, txn: TxnNo)
-    ensures { rows.new.items ≡ map (unlocked txn) rows.old.items }
+    ensures { rows.new.items ≡ map (unlocked_row txn) rows.old.items }
 {
     table::unlock(rows, txn);
 }

@@ -1,6 +1,6 @@
 //! A row's life, each call, and which leases go together.
 ghost use Rattle.std.specs.Prelude.{◌≡◌, true, IfOk};
-ghost use Rattle.fs_field.specs.Conflict.{is_plain};
+ghost use Rattle.fs_field.specs.Field.{tells_no_mode};
 
 use crate::rows::Rows;
 use fs_field::{Asked, Field, LeaseKind, Unknown};
@@ -129,7 +129,7 @@ const PAIRS: [&[u8; 8]; 8] = [
 
 /// The fields of the lines: six of the root, and two of a file below it.
 fn field(alloc: Global, line: usize) -> Result<Field, Fail>
-    ensures { IfOk result (λ f. is_plain f ≡ true) }
+    ensures { IfOk result (λ f. tells_no_mode f ≡ true) }
 {
     let root = FileId::root(alloc);
     match line {
@@ -160,8 +160,8 @@ fn waits(
     held: (&Field, LeaseKind),
     asked: (&Field, LeaseKind),
 ) -> Result<bool, Fail>
-    requires held { is_plain held.0.now ≡ true }
-    requires asked { is_plain asked.0.now ≡ true }
+    requires held { tells_no_mode held.0.now ≡ true }
+    requires asked { tells_no_mode asked.0.now ≡ true }
 {
     let mut rows = Rows::new(alloc);
     rows.ask(alloc, number(1), Session(1), held.0, held.1, 100)?;
@@ -180,8 +180,8 @@ fn is_told(
     asked: &Field,
     l: LeaseKind,
 ) -> Result<bool, Fail>
-    requires held { is_plain held.now ≡ true }
-    requires asked { is_plain asked.now ≡ true }
+    requires held { tells_no_mode held.now ≡ true }
+    requires asked { tells_no_mode asked.now ≡ true }
 {
     let other = waits(alloc, Session(2), (held, k), (asked, l))?;
     let same = waits(alloc, Session(1), (held, k), (asked, l))?;

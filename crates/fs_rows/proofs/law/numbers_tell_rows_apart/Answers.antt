@@ -1,4 +1,4 @@
-use Rattle.fs_rows.proofs.Order.{one_of_number}
+use Rattle.fs_field.proofs.Order.{one_of_number}
 use Rattle.fs_rows.proofs.law.numbers_tell_rows_apart.Goals as goal
 
 pub returns : goal.returns

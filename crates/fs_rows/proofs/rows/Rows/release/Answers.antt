@@ -2,7 +2,7 @@ use Rattle.fs_rows.proofs.Kept.{filtered_table}
 use Rattle.fs_rows.proofs.rows.Rows.release.Goals as goal
 
 pub invariant_of-self : goal.invariant_of-self
-invariant_of-self c = rw c.release.ensures.rows (filtered_table _ _ c.self.invariant)
+invariant_of-self c = rw (c.release.ensures.rows, c.items_mut.ensures.value) (filtered_table _ _ c.self.invariant)
 
-pub returns-clause-table : goal.returns-clause-table
-returns-clause-table c = rw c.release.ensures.rows (filtered_table _ _ c.self.invariant)
+pub returns-clause-valid : goal.returns-clause-valid
+returns-clause-valid c = rw (c.release.ensures.rows, c.items_mut.ensures.value) (filtered_table _ _ c.self.invariant)

@@ -8,22 +8,19 @@ use Rattle.std.specs.declared.cmp.Ordering.{Ordering}
 use Rattle.std.specs.declared.cmp.Ordering.TheVariants.{Less, Equal, Greater}
 use Rattle.std.proofs.lemmas.Cmp.{then_total, on_total, tied_itself}
 use Rattle.std.proofs.lemmas.Bool.Decides.{nat_tests}
+use Rattle.fs_ident.proofs.Booleans.{both, joined, neither, less}
 use Rattle.fs_ident.specs.declared.actor.LeaseNo.{LeaseNo}
 use Rattle.fs_field.specs.declared.row.Row.{Row}
 use Rattle.fs_ident.specs.In.{In}
 use Rattle.fs_field.specs.Table.{same_no, no_before, is_ordered, has_no, with_row}
 use Rattle.fs_ident.proofs.Standing.{In-filter, In-put, In-map}
+use Rattle.fs_ident.proofs.Passing.{all-In, In-all}
 
 abbrev no_cmp : LeaseNo → LeaseNo → Ordering
 no_cmp a b = ordering_then (nat_cmp a.server b.server) (nat_cmp a.count b.count)
 
 no_total : IsTotalOrder no_cmp
 no_total = then_total (on_total (λ (n : LeaseNo). n.server) nat_cmp_total) (on_total (λ (n : LeaseNo). n.count) nat_cmp_total)
-
-less : (o : Ordering) → is_lt o ≡ true → o ≡ Less
-less Less h = refl
-less Equal h = absurd (cc)
-less Greater h = absurd (cc)
 
 pub before_trans : (a b c : LeaseNo) → no_before a b ≡ true → no_before b c ≡ true → no_before a c ≡ true
 before_trans a b c p q = ap is_lt (no_total.trans a b c (less (no_cmp a b) p) (less (no_cmp b c) q))
@@ -34,29 +31,6 @@ one_way a b c d h k = grind (arith, nat_tests)
 -- of two numbers that differ one comes first
 pub before_or_after : (a b : LeaseNo) → same_no a b ≡ false → no_before b a ≡ false → no_before a b ≡ true
 before_or_after a b h k = one_way a.server a.count b.server b.count h k
-
-pub both : (a b : Bool) → (a && b) ≡ true → (a ≡ true) × (b ≡ true)
-both true true h = (refl, refl)
-both true false h = absurd (cc)
-both false b h = absurd (cc)
-
-pub neither : (a b : Bool) → (a || b) ≡ false → (a ≡ false) × (b ≡ false)
-neither false false h = (refl, refl)
-neither false true h = absurd (cc)
-neither true b h = absurd (cc)
-
-joined : (a b : Bool) → a ≡ true → b ≡ true → (a && b) ≡ true
-joined a b p q = ap (λ x. x && b) p ∙ q
-
-pub all-In : {X : Type 0} (test : X → Bool) (xs : List X) → list_all test xs ≡ true → (x : X) → In x xs → test x ≡ true
-all-In test [] h x i = absurd i
-all-In test (y ∷ ys) h x i =
-    let q : (test y ≡ true) × (list_all test ys ≡ true) = both (test y) (list_all test ys) h in
-    elim i [ inl e ↦ ap test e ∙ q.0 | inr j ↦ all-In test ys q.1 x j ]
-
-pub In-all : {X : Type 0} (test : X → Bool) (xs : List X) → ((x : X) → In x xs → test x ≡ true) → list_all test xs ≡ true
-In-all test [] f = refl
-In-all test (y ∷ ys) f = joined (test y) (list_all test ys) (f y (inl refl)) (In-all test ys (λ x i. f x (inr i)))
 
 -- the number comes before those of all rows
 abbrev first : LeaseNo → List Row → Bool
@@ -107,14 +81,6 @@ ordered_put row (r ∷ rs) n h =
           (In-all (λ s. no_before r.no s.no) (with_row row rs) (λ x i. placed row r x rs k.0 e q.0 (In-put (λ s. no_before row.no s.no) x row rs i)))
           (ordered_put row rs k.1 q.1)
     ] refl
-
-pub found : {X : Type 0} (test : X → Bool) (xs : List X) (r : X) → find test xs ≡ Some r → In r xs × (test r ≡ true)
-found test [] r h = absurd (cc)
-found test (y ∷ ys) r h =
-    elim (test y) as (λ b. test y ≡ b → cond b (Some y) (find test ys) ≡ Some r → ((r ≡ y) ⊎ In r ys) × (test r ≡ true)) [
-      | true ↦ λ e g. let same : r ≡ y = cc in (inl same, ap test same ∙ e)
-      | false ↦ λ e g. let more : In r ys × (test r ≡ true) = found test ys r g in (inr more.0, more.1)
-    ] refl h
 
 -- of the rows that pass, the first found has the least number
 pub found_least : (test : Row → Bool) (rows : List Row) (r : Row) → is_ordered rows ≡ true → find test rows ≡ Some r → (x : Row) → In x rows → test x ≡ true → (x ≡ r) ⊎ (no_before r.no x.no ≡ true)
