@@ -3,7 +3,7 @@
 #![tactic(auto)]
 
 ghost use Rattle.std.specs.Prelude.{◌≡◌, true, IfOk};
-ghost use Rattle.fs_msg.specs.Longest.{IsMessage};
+ghost use Rattle.fs_msg.specs.Prefixes.{IsMessage};
 
 use fs_ident::Memory;
 use fs_io::{read_all, standard_input};

@@ -2,17 +2,17 @@
 use Rattle.std.proofs.Common.{◌≡◌, ℕ, zero, suc, ◌-◌, ◌<◌, ◌≤◌, Bool, true, false, List, [], ◌∷◌, ◌++◌, length, get_or, take, drop, Result, Ok, Err, refl, sym, ap, subst, ◌∙◌, arith, length-append}
 use Rattle.std.specs.Prelude.{IfOk, IsErrOf}
 use Rattle.std.proofs.lemmas.List.{append-nil, take_at, length-drop}
-use Rattle.fs_msg.specs.declared.fault.Fault.{Fault}
+use Rattle.fs_wire.specs.declared.fault.Fault.{Fault}
 use Rattle.fs_msg.specs.declared.msg.Msg.{Msg}
 use Rattle.fs_msg.specs.declared.error.MsgError.{MsgError}
 use Rattle.fs_msg.specs.declared.error.MsgError.TheVariants as errors
+use Rattle.fs_wire.proofs.Readers.{IsBytes}
 use Rattle.fs_msg.specs.Spelling.{message}
 use Rattle.fs_msg.specs.Ranges.{FitsMessage}
 use Rattle.fs_msg.specs.Tags.{tags_of}
-use Rattle.fs_msg.specs.Longest.{IsMessage, IsProperFront, IsTagPlace, GoWrongAt}
+use Rattle.fs_msg.specs.Prefixes.{IsMessage, IsProperMessagePrefix, IsTagPlace, GoWrongAt}
 use Rattle.fs_msg.specs.Reading.{message_at}
 use Rattle.fs_msg.specs.Answers.{IsOkOrMemory, IsErrOrMemory, IsAnswer, error_at, with_length, unless_left, as_whole}
-use Rattle.fs_msg.proofs.Readers.{IsBytes}
 use Rattle.fs_msg.proofs.Exact.{again, whole-again, was-read, front-read, too-few, wrong, stops, cut-short}
 
 -- ---- from the call's answer to the answer of reading, and back
@@ -84,12 +84,12 @@ pub record Answers {A : Type 0} (bytes : List ℕ) (s : Result A MsgError) : Typ
   pub to : (f : Fault) → message_at bytes ≡ Err f → s ≡ Err (error_at (length bytes) f.left f.tag)
 
 module _ {A : Type 0} (bytes : List ℕ) (fits : IsBytes bytes) (s : Result A MsgError) (answers : Answers bytes s) (r : Result A MsgError) (given : IsAnswer r s) where
-  pub short : IsErrOf r errors.Short → IsProperFront bytes
+  pub short : IsErrOf r errors.Short → IsProperMessagePrefix bytes
   short h =
       let a = answers.from errors.Short (λ at k. absurd cc) (err-is r s errors.Short (λ k. absurd cc) given h) in
       too-few bytes a.0 fits a.1 (short-of (length bytes) a.0.left a.0.tag a.2)
 
-  pub cut : IsProperFront bytes → IsErrOrMemory r errors.Short
+  pub cut : IsProperMessagePrefix bytes → IsErrOrMemory r errors.Short
   cut p = is-err r s errors.Short given (answers.to (record { left = 0; tag = get_or (tags_of p.whole) (length bytes) false }) (cut-short bytes p))
 
   pub tag : (at : ℕ) → IsErrOf r (errors.Tag at) → GoWrongAt bytes at × IsTagPlace (take at bytes)

@@ -3,15 +3,16 @@ use Rattle.std.proofs.Common.{◌≡◌, ℕ, zero, suc, ◌+◌, ◌-◌, ◌<�
 use Rattle.std.proofs.Math.Seq.{take-append-add}
 use Rattle.std.proofs.lemmas.Bool.{cases_lt}
 use Rattle.std.proofs.lemmas.List.{append-nil, take_at, take_all, take-append-drop}
-use Rattle.fs_msg.specs.declared.fault.Fault.{Fault}
+use Rattle.fs_wire.specs.declared.fault.Fault.{Fault}
 use Rattle.fs_msg.specs.declared.msg.Msg.{Msg}
+use Rattle.fs_wire.specs.Readers.{stop}
+use Rattle.fs_wire.proofs.Readers.{IsBytes, IsBytes-left, IsBytes-both}
 use Rattle.fs_msg.specs.Spelling.{message}
 use Rattle.fs_msg.specs.Ranges.{FitsMessage}
 use Rattle.fs_msg.specs.Tags.{tags_of}
-use Rattle.fs_msg.specs.Longest.{IsMessage, BeginsWithNone, IsFront, IsProperFront, IsTagPlace, GoWrongAt}
-use Rattle.fs_msg.specs.Reading.{stop, message_at}
-use Rattle.fs_msg.proofs.Readers.{IsBytes, IsBytes-left, IsBytes-both}
-use Rattle.fs_msg.proofs.Messages.{message-wire}
+use Rattle.fs_msg.specs.Prefixes.{IsMessage, BeginsWithNone, IsMessagePrefix, IsProperMessagePrefix, IsTagPlace, GoWrongAt}
+use Rattle.fs_msg.specs.Reading.{message_at}
+use Rattle.fs_msg.proofs.MessageWires.{message-wire}
 
 pub again : (m : Msg) (rest : List ℕ) → FitsMessage m → message_at (message m ++ rest) ≡ Ok (m, rest)
 again m rest fits = (message-wire.says m fits).again rest
@@ -40,21 +41,21 @@ front-read bytes k f = ap (λ (z : List ℕ). message_at z) (sym (take-append-dr
 -- ---- what was not read
 
 -- a message goes on behind bytes that are no message
-pub proper : (front text : List ℕ) (m : Msg) (tag : Bool) → FitsMessage m → message m ≡ front ++ text → message_at front ≡ stop tag 0 → IsProperFront front
+pub proper : (front text : List ℕ) (m : Msg) (tag : Bool) → FitsMessage m → message m ≡ front ++ text → message_at front ≡ stop tag 0 → IsProperMessagePrefix front
 proper front [] m tag fits e begins =
     let same : front ≡ message m = sym (e ∙ append-nil front) in
     let both : done (m, []) ≡ stop tag 0 = sym (whole-again m fits) ∙ ap (λ (z : List ℕ). message_at z) (sym same) ∙ begins in
     absurd cc
 proper front (b ∷ text) m tag fits e begins = record { whole = m; fits = fits; next = b; rest = text; begins = e }
 
-pub goes-on : (front : List ℕ) (tag : Bool) → IsBytes front → message_at front ≡ stop tag 0 → IsProperFront front
+pub goes-on : (front : List ℕ) (tag : Bool) → IsBytes front → message_at front ≡ stop tag 0 → IsProperMessagePrefix front
 goes-on front tag fits begins =
     let g = message-wire.reads.goes_on front (record { left = 0; tag = tag }) fits begins refl in
     let r = was-read (front ++ g.text) (g.value, []) (IsBytes-both front g.text fits g.text_fits) g.whole in
     proper front g.text g.value tag r.fits (sym (r.parts ∙ append-nil (message g.value))) begins
 
 -- the mark of the place behind a front
-pub marked : (front : List ℕ) (p : IsProperFront front) → message_at front ≡ stop (get_or (tags_of p.whole) (length front) false) 0
+pub marked : (front : List ℕ) (p : IsProperMessagePrefix front) → message_at front ≡ stop (get_or (tags_of p.whole) (length front) false) 0
 marked front p = (message-wire.says p.whole p.fits).marks front p.next p.rest p.begins
 
 abbrev faulty : Bool → Fault
@@ -91,7 +92,7 @@ none-begins bytes f e k m = let both : done (m.whole, drop k bytes) ≡ Err f = 
 -- no front passes the place where reading stops
 too-long : (bytes front rest : List ℕ) (tag : Bool) → bytes ≡ front ++ rest
     → ((b : ℕ) (others : List ℕ) → rest ≡ b ∷ others → (more : List ℕ) → message_at (front ++ b ∷ more) ≡ stop tag (length (b ∷ more)))
-    → (k : ℕ) → k ≤ length bytes → length front < k → IsFront (take k bytes) → ⊥
+    → (k : ℕ) → k ≤ length bytes → length front < k → IsMessagePrefix (take k bytes) → ⊥
 too-long bytes front [] tag parts past k le lt f = omega (arith, ap length parts, length-append front [])
 too-long bytes front (b ∷ others) tag parts past k le lt f =
     let j = k - length front - 1 in
@@ -107,8 +108,8 @@ pub record Failed (bytes : List ℕ) (f : Fault) : Type 0 where
   pub rest : List ℕ
   pub parts : bytes ≡ front ++ rest
   pub left : f.left ≡ length rest
-  pub proper : IsProperFront front
-  pub longest : (k : ℕ) → k ≤ length bytes → IsFront (take k bytes) → k ≤ length front
+  pub proper : IsProperMessagePrefix front
+  pub longest : (k : ℕ) → k ≤ length bytes → IsMessagePrefix (take k bytes) → k ≤ length front
   pub tag : f.tag ≡ true → IsTagPlace front
   pub other : IsTagPlace front → f.tag ≡ true
 
@@ -130,17 +131,17 @@ failed bytes f fits e =
       other = tag-at s.front f.tag s.begins;
     }
 
-front-of : (bytes : List ℕ) → IsProperFront bytes → IsFront bytes
+front-of : (bytes : List ℕ) → IsProperMessagePrefix bytes → IsMessagePrefix bytes
 front-of bytes p = record { whole = p.whole; fits = p.fits; rest = p.next ∷ p.rest; begins = p.begins }
 
 -- ---- the bytes are too few
 
-pub too-few : (bytes : List ℕ) (f : Fault) → IsBytes bytes → message_at bytes ≡ Err f → f.left ≡ 0 → IsProperFront bytes
+pub too-few : (bytes : List ℕ) (f : Fault) → IsBytes bytes → message_at bytes ≡ Err f → f.left ≡ 0 → IsProperMessagePrefix bytes
 too-few bytes f fits e left =
     let d = failed bytes f fits e in
     let over : d.rest ≡ [] = nothing d.rest (sym d.left ∙ left) in
     let same : d.front ≡ bytes = sym (append-nil d.front) ∙ ap (λ (z : List ℕ). d.front ++ z) (sym over) ∙ sym d.parts in
-    subst (λ (z : List ℕ). IsProperFront z) same d.proper
+    subst (λ (z : List ℕ). IsProperMessagePrefix z) same d.proper
   where
     nothing : (l : List ℕ) → length l ≡ 0 → l ≡ []
     nothing [] h = refl
@@ -166,7 +167,7 @@ wrong bytes f fits e some at at-is =
         none = none-begins bytes f e;
         longest = record {
           within = omega (arith, all, len, d.left, at-is);
-          front = subst (λ (z : List ℕ). IsFront z) (sym taken) (front-of d.front d.proper);
+          front = subst (λ (z : List ℕ). IsMessagePrefix z) (sym taken) (front-of d.front d.proper);
           longest = λ k le p. let h = d.longest k le p in omega (arith, h, place);
         };
       };
@@ -194,10 +195,10 @@ some-or-none : (n : ℕ) → (n ≡ 0) ⊎ (0 < n)
 some-or-none zero = inl refl
 some-or-none (suc n) = inr (omega arith)
 
-no-front : (bytes : List ℕ) (at : ℕ) → GoWrongAt bytes at → IsProperFront bytes → ⊥
+no-front : (bytes : List ℕ) (at : ℕ) → GoWrongAt bytes at → IsProperMessagePrefix bytes → ⊥
 no-front bytes at g p =
     let all : take (length bytes) bytes ≡ bytes = take_all (length bytes) bytes (omega arith) in
-    let h = g.longest.longest (length bytes) (omega arith) (subst (λ (z : List ℕ). IsFront z) (sym all) (front-of bytes p)) in
+    let h = g.longest.longest (length bytes) (omega arith) (subst (λ (z : List ℕ). IsMessagePrefix z) (sym all) (front-of bytes p)) in
     omega (arith, h, g.inside)
 
 stops-by : (bytes : List ℕ) (at : ℕ) → IsBytes bytes → GoWrongAt bytes at → (z : Result (Msg × List ℕ) Fault) → message_at bytes ≡ z → Stops bytes at
@@ -219,7 +220,7 @@ pub stops : (bytes : List ℕ) (at : ℕ) → IsBytes bytes → GoWrongAt bytes 
 stops bytes at fits g = stops-by bytes at fits g (message_at bytes) refl
 
 -- bytes that a message goes on behind are too few
-pub cut-short : (bytes : List ℕ) → (p : IsProperFront bytes) → message_at bytes ≡ stop (get_or (tags_of p.whole) (length bytes) false) 0
+pub cut-short : (bytes : List ℕ) → (p : IsProperMessagePrefix bytes) → message_at bytes ≡ stop (get_or (tags_of p.whole) (length bytes) false) 0
 cut-short bytes p = marked bytes p
 
 -- ---- no more is left than was there

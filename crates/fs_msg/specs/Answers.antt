@@ -3,7 +3,7 @@ use Rattle.std.specs.Prelude.{◌≡◌, ℕ, zero, suc, ◌-◌, Bool, true, fa
 use Rattle.fs_msg.specs.declared.msg.Msg.{Msg}
 use Rattle.fs_msg.specs.declared.error.MsgError.{MsgError}
 use Rattle.fs_msg.specs.declared.error.MsgError.TheVariants as errors
-use Rattle.fs_msg.specs.declared.fault.Fault.{Fault}
+use Rattle.fs_wire.specs.declared.fault.Fault.{Fault}
 
 -- the answer is this value, unless memory runs out
 abbrev pub IsOkOrMemory : {A : Type 0} → Result A MsgError → A → Type 0

@@ -2,6 +2,6 @@ pub mod Journal
 pub mod Spelling
 pub mod Ranges
 pub mod Tags
-pub mod Longest
-pub mod Reading
+pub mod Prefixes
 pub mod Answers
+pub mod Reading

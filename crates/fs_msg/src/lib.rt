@@ -8,7 +8,6 @@ mod core_error;
 mod end;
 mod entry;
 mod error;
-mod fault;
 mod item;
 mod law;
 mod msg;

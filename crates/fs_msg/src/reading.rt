@@ -1,17 +1,16 @@
 //! Reading messages.
-ghost use Rattle.std.specs.Prelude.{◌≡◌, ◌++◌, ◌∷◌, ◌<◌, ◌≤◌, ℕ, List, length, take, IfOk, IsErrOf};
+ghost use Rattle.std.specs.Prelude.{◌≡◌, ◌++◌, ◌<◌, ◌≤◌, ℕ, List, length, take, IfOk, IsErrOf};
 ghost use Rattle.fs_msg.specs.declared.msg.Msg.{Msg};
 ghost use Rattle.fs_msg.specs.declared.error.MsgError.TheVariants as errors;
 ghost use Rattle.fs_msg.specs.Spelling.{message};
 ghost use Rattle.fs_msg.specs.Ranges.{FitsMessage};
-ghost use Rattle.fs_msg.specs.Longest.{IsMessage, IsProperFront, IsTagPlace, GoWrongAt};
+ghost use Rattle.fs_msg.specs.Prefixes.{IsMessage, IsProperMessagePrefix, IsTagPlace, GoWrongAt};
 ghost use Rattle.fs_msg.specs.Answers.{IsOkOrMemory, IsErrOrMemory, IsAnswer, error_at, with_length, as_whole};
 ghost use Rattle.fs_msg.specs.Reading.{message_at};
 
-use crate::bytes::wire::Wire;
 use crate::error::MsgError;
-use crate::fault::{Fault, ReadError};
 use crate::msg::Msg;
+use fs_wire::{Fault, ReadError, Wire};
 use std::alloc::Global;
 
 /// The message at the front of the bytes, and its length in bytes.
@@ -25,8 +24,8 @@ pub fn read(alloc: Global, bytes: &[u8]) -> Result<(Msg, usize), MsgError>
     // What is spelled so is read, whatever follows.
     ensures only { (m : Msg) (rest : List ℕ) → FitsMessage m → bytes.now ≡ message m ++ rest →
         IsOkOrMemory result (m, length (message m)) }
-    ensures short { IsErrOf result errors.Short → IsProperFront bytes.now }
-    ensures cut { IsProperFront bytes.now → IsErrOrMemory result errors.Short }
+    ensures short { IsErrOf result errors.Short → IsProperMessagePrefix bytes.now }
+    ensures cut { IsProperMessagePrefix bytes.now → IsErrOrMemory result errors.Short }
     ensures tag { (at : ℕ) → IsErrOf result (errors.Tag at) → GoWrongAt bytes.now at ×
         IsTagPlace (take at bytes.now) }
     ensures at_tag { (at : ℕ) → GoWrongAt bytes.now at → IsTagPlace (take at bytes.now) →
@@ -48,8 +47,8 @@ pub fn read_whole(alloc: Global, bytes: &[u8]) -> Result<Msg, MsgError>
     ensures found { IfOk result (λ m. FitsMessage m × (bytes.now ≡ message m)) }
     // What is spelled so is read.
     ensures only { (m : Msg) → FitsMessage m → bytes.now ≡ message m → IsOkOrMemory result m }
-    ensures short { IsErrOf result errors.Short → IsProperFront bytes.now }
-    ensures cut { IsProperFront bytes.now → IsErrOrMemory result errors.Short }
+    ensures short { IsErrOf result errors.Short → IsProperMessagePrefix bytes.now }
+    ensures cut { IsProperMessagePrefix bytes.now → IsErrOrMemory result errors.Short }
     ensures tag { (at : ℕ) → IsErrOf result (errors.Tag at) → GoWrongAt bytes.now at ×
         IsTagPlace (take at bytes.now) }
     ensures at_tag { (at : ℕ) → GoWrongAt bytes.now at → IsTagPlace (take at bytes.now) →

@@ -1,6 +1,4 @@
 //! What is told, copied, written and read.
-mod faults;
-mod messages;
 
 use crate::error::MsgError;
 use crate::item::Item;

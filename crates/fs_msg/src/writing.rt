@@ -2,9 +2,9 @@
 ghost use Rattle.std.specs.Prelude.{◌≡◌, ◌++◌, [], OnOk, OnErr};
 ghost use Rattle.fs_msg.specs.Spelling.{message};
 
-use crate::bytes::wire::Wire;
 use crate::msg::Msg;
 use fs_ident::Memory;
+use fs_wire::Wire;
 use std::alloc::Global;
 
 /// Adds the one spelling of a message at the end. Where memory is wanting, nothing is added.

@@ -1,5 +1,5 @@
 use Rattle.std.proofs.Common.{◌≡◌, ℕ, List, [], ◌++◌, Result, Ok, sym, ap, ◌∙◌}
-use Rattle.fs_msg.specs.declared.fault.Fault.{Fault}
+use Rattle.fs_wire.specs.declared.fault.Fault.{Fault}
 use Rattle.fs_msg.specs.declared.msg.Msg.{Msg}
 use Rattle.fs_msg.specs.Spelling.{message}
 use Rattle.fs_msg.specs.Ranges.{FitsMessage}

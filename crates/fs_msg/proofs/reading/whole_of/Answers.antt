@@ -1,6 +1,7 @@
 use Rattle.std.proofs.Common.{arith, subst}
-use Rattle.fs_msg.specs.declared.fault.ReadError.{ReadError}
-use Rattle.fs_msg.specs.Reading.{Fails, message_at}
+use Rattle.fs_wire.specs.declared.fault.ReadError.{ReadError}
+use Rattle.fs_wire.specs.Readers.{Fails}
+use Rattle.fs_msg.specs.Reading.{message_at}
 use Rattle.fs_msg.proofs.Exact.{read-within, left-within}
 use Rattle.fs_msg.proofs.reading.whole_of.Goals as goal
 

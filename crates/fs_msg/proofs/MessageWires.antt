@@ -1,0 +1,58 @@
+-- Messages: each kind of them behind its tags.
+use Rattle.std.proofs.Common.{◌≡◌, ℕ, ◌<◌, not, ◌||◌, Bool, true, false, List, ◌∷◌, ◌++◌, refl, subst, arith}
+use Rattle.fs_msg.specs.declared.client_msg.ClientMsg.{ClientMsg}
+use Rattle.fs_msg.specs.declared.answer.Answer.{Answer}
+use Rattle.fs_msg.specs.declared.msg.Msg.{Msg}
+use Rattle.fs_msg.specs.declared.msg.Msg.TheVariants as msg_
+use Rattle.fs_wire.specs.Readers.{map_at, one_at}
+use Rattle.fs_wire.proofs.Readers.{IsOne, IsReader, then-reader, map-reader, either-reader, one-reader}
+use Rattle.fs_wire.proofs.Says.{Says, says-then, says-map, says-one}
+use Rattle.fs_wire.proofs.Behind.{IsBehind, first-says, second-says, other, implied, or-left, or-right}
+use Rattle.fs_wire.proofs.Wires.{Spelled, IsWire}
+use Rattle.fs_wire.proofs.SmallWires.{each_below}
+use Rattle.fs_msg.specs.Spelling.{client_message, answer, message}
+use Rattle.fs_msg.specs.Ranges.{FitsClientMessage, FitsAnswer, FitsMessage}
+use Rattle.fs_msg.specs.Tags.{client_tags, answer_tags, tags_of}
+use Rattle.fs_msg.specs.Reading.{is_client_tag, is_answer_tag, is_message_tag, client_of, answer_of, message_of, message_at}
+use Rattle.fs_msg.proofs.ClientWires.{client-reads, client-says}
+use Rattle.fs_msg.proofs.AnswerWires.{answer-reads, answer-says}
+
+message-reads : IsReader message_at (Spelled FitsMessage message)
+unfolding message_at message
+message-reads = then-reader (one_at true is_message_tag) message_of (IsOne is_message_tag) (Spelled FitsMessage message) (one-reader true is_message_tag 1 (omega arith) refl) (λ tag t q.
+    either-reader _ _ _ _
+    (λ client. map-reader (λ x. msg_.Client x) (client_of tag) (λ w u. Spelled FitsClientMessage client_message w (t ++ u)) (λ w u. Spelled FitsMessage message w (t ++ u)) (client-reads tag t q client) (λ v u s. record { fits = s.fits; text_is = s.text_is }))
+    (λ no_client. map-reader (λ x. msg_.Answer x) (answer_of tag) (λ w u. Spelled FitsAnswer answer w (t ++ u)) (λ w u. Spelled FitsMessage message w (t ++ u)) (answer-reads tag t q (other _ _ q.passes no_client)) (λ v u s. record { fits = s.fits; text_is = s.text_is })))
+
+-- no tag is of two kinds
+abbrev is_one_kind : ℕ → Bool
+is_one_kind b = not (is_answer_tag b) || not (is_client_tag b)
+
+no-client : (tag : ℕ) → tag < 256 → is_answer_tag tag ≡ true → is_client_tag tag ≡ false
+no-client tag lt passes = untrue (is_client_tag tag) (implied _ _ (each_below 256 is_one_kind refl tag lt) passes)
+  where
+    untrue : (b : Bool) → not b ≡ true → b ≡ false
+    untrue true e = absurd cc
+    untrue false e = refl
+
+of-client : (m : ClientMsg) → IsBehind client_of is_client_tag m (client_message m) (client_tags m) → Says message_at (msg_.Client m) (client_message m) (client_tags m)
+unfolding message_at
+of-client m b =
+    let behind : Says (message_of b.tag) (msg_.Client m) b.rest b.marks = first-says (is_client_tag b.tag) (map_at (λ x. msg_.Answer x) (answer_of b.tag)) b.passes (says-map (λ x. msg_.Client x) b.says) in
+    let all : Says message_at (msg_.Client m) (b.tag ∷ b.rest) (true ∷ b.marks) = says-then message_of (says-one true is_message_tag b.tag (or-left _ _ b.passes)) behind in
+    subst (λ (text : List ℕ). Says message_at (msg_.Client m) text (client_tags m)) b.text_is (subst (λ (tags : List Bool). Says message_at (msg_.Client m) (b.tag ∷ b.rest) tags) b.tags_is all)
+
+of-answer : (a : Answer) → IsBehind answer_of is_answer_tag a (answer a) (answer_tags a) → Says message_at (msg_.Answer a) (answer a) (answer_tags a)
+unfolding message_at
+of-answer a b =
+    let behind : Says (message_of b.tag) (msg_.Answer a) b.rest b.marks = second-says (is_client_tag b.tag) (map_at (λ x. msg_.Client x) (client_of b.tag)) (no-client b.tag b.below b.passes) (says-map (λ x. msg_.Answer x) b.says) in
+    let all : Says message_at (msg_.Answer a) (b.tag ∷ b.rest) (true ∷ b.marks) = says-then message_of (says-one true is_message_tag b.tag (or-right _ _ b.passes)) behind in
+    subst (λ (text : List ℕ). Says message_at (msg_.Answer a) text (answer_tags a)) b.text_is (subst (λ (tags : List Bool). Says message_at (msg_.Answer a) (b.tag ∷ b.rest) tags) b.tags_is all)
+
+message-says : (m : Msg) → FitsMessage m → Says message_at m (message m) (tags_of m)
+unfolding message tags_of
+message-says (msg_.Client m) fits = of-client m (client-says m fits)
+message-says (msg_.Answer a) fits = of-answer a (answer-says a fits)
+
+pub message-wire : IsWire message_at FitsMessage message tags_of
+message-wire = record { reads = message-reads; says = message-says }

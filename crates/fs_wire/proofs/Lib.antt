@@ -1,0 +1,11 @@
+pub mod Loop
+pub mod Readers
+pub mod Says
+pub mod Behind
+pub mod Wires
+pub mod NumberWires
+pub mod SmallWires
+pub mod NameWires
+pub mod FieldWires
+pub mod OpWires
+pub mod ReplyWires

@@ -1,0 +1,293 @@
+-- Truth values, kinds, modes, and the numbers of sessions, leases and transactions.
+use Rattle.std.proofs.Common.{◌≡◌, ℕ, zero, suc, ◌+◌, ◌*◌, ◌<◌, ◌≤◌, ◌/◌, ◌%◌, ◌||◌, ◌&&◌, not, Bool, true, false, ltb, leb, eqb, List, [], ◌∷◌, ◌++◌, get_or, refl, sym, ap, subst, ◌∙◌, arith}
+use Rattle.std.proofs.lemmas.Bool.{ltb-true, lt-ltb, eqb-true, eqb-false, leb-true, leb-false}
+use Rattle.std.proofs.lemmas.Nat.{be_bytes_2}
+use Rattle.fs_ident.specs.declared.actor.Session.{Session}
+use Rattle.fs_ident.specs.declared.kind.Kind.{Kind}
+use Rattle.fs_ident.specs.declared.kind.Kind.TheVariants.{File, Dir}
+use Rattle.fs_modes.specs.declared.modes.Modes.{Modes}
+use Rattle.fs_modes.specs.Modes.{number_of, acc_of, deny_of, has_access}
+use Rattle.fs_modes.specs.declared.modes.Mode.{Mode}
+use Rattle.fs_modes.specs.declared.modes.Mode.TheVariants.{AccR, AccW, AccD, DenyR, DenyW, DenyD}
+use Rattle.fs_field.specs.declared.lease_kind.LeaseKind.{LeaseKind}
+use Rattle.fs_field.specs.declared.lease_kind.LeaseKind.TheVariants.{Shared, Exclusive}
+use Rattle.fs_wire.specs.Spelling.{two, truth, kind, lease_kind, mode, modes, session, lease, transaction}
+use Rattle.fs_wire.specs.Ranges.{FitsAlways, FitsModes, FitsSession, FitsLease, FitsTransaction}
+use Rattle.fs_wire.specs.Tags.{plain}
+use Rattle.fs_wire.specs.Readers.{map_at, one_at, choice_at, truth_of, truth_at}
+use Rattle.fs_wire.specs.Reading.{kind_of, kind_at, lease_kind_of, lease_kind_at, mode_of, mode_at, is_open, modes_of, modes_at, is_session, session_of, session_at, lease_at, transaction_at}
+use Rattle.fs_wire.proofs.Readers.{IsOne, IsReader, then-reader, map-reader, one-reader}
+use Rattle.fs_wire.proofs.Says.{Says, says-then, says-map, says-one}
+use Rattle.fs_wire.proofs.Behind.{implied}
+use Rattle.fs_wire.proofs.Wires.{Spelled, IsWire, choice-reader, pair-wire, remade}
+use Rattle.fs_wire.proofs.NumberWires.{byte-wire, eight-wire}
+
+-- ---- one byte below a limit, made into something
+
+-- every number below the limit passes
+abbrev pub all_below : ℕ → (ℕ → Bool) → Bool
+all_below zero test = true
+all_below (suc n) test = test n && all_below n test
+
+both : (a b : Bool) → (a && b) ≡ true → (a ≡ true) × (b ≡ true)
+both true true e = (refl, refl)
+both true false e = absurd cc
+both false b e = absurd cc
+
+last_or_below : (n : ℕ) (test : ℕ → Bool) (b : ℕ) → test n ≡ true → (b < n → test b ≡ true) → b < suc n → (same : Bool) → eqb b n ≡ same → test b ≡ true
+last_or_below n test b last below lt true k = subst (λ (z : ℕ). test z ≡ true) (sym (eqb-true b n k)) last
+last_or_below n test b last below lt false k = let other = eqb-false b n k in below (omega arith)
+
+pub each_below : (n : ℕ) (test : ℕ → Bool) → all_below n test ≡ true → (b : ℕ) → b < n → test b ≡ true
+each_below zero test e b lt = absurd (omega arith)
+each_below (suc n) test e b lt =
+    let p = both (test n) (all_below n test) e in
+    last_or_below n test b p.0 (λ below. each_below n test p.1 b below) lt (eqb b n) refl
+
+module _ {A : Type 0} (limit : ℕ) (make : ℕ → A) (text : A → List ℕ) (back : A → ℕ) (some : 0 < limit)
+    (spells : (b : ℕ) → b < limit → b ∷ [] ≡ text (make b))
+    (within : (v : A) → back v < limit) (again : (v : A) → make (back v) ≡ v) where
+  choice-says : (v : A) → Says (map_at make (choice_at limit)) v (text v) (plain (text v))
+  unfolding choice_at
+  choice-says v =
+      let made : Says (map_at make (choice_at limit)) (make (back v)) (back v ∷ []) (false ∷ []) = says-map make (says-one false (λ b. ltb b limit) (back v) (lt-ltb _ _ (within v))) in
+      let texted : Says (map_at make (choice_at limit)) (make (back v)) (text (make (back v))) (plain (text (make (back v)))) = subst (λ (z : List ℕ). Says (map_at make (choice_at limit)) (make (back v)) z (plain z)) (spells (back v) (within v)) made in
+      subst (λ (z : A). Says (map_at make (choice_at limit)) z (text z) (plain (text z))) (again v) texted
+
+  pub choice-wire : IsWire (map_at make (choice_at limit)) FitsAlways text (λ v. plain (text v))
+  choice-wire = record {
+    reads = map-reader make (choice_at limit) (IsOne (λ b. ltb b limit)) (Spelled FitsAlways text) (choice-reader limit some)
+        (λ b t one. record { fits = tt; text_is = one.text_is ∙ spells b (ltb-true b limit one.passes) });
+    says = λ v fits. choice-says v;
+  }
+
+truth_back : Bool → ℕ
+truth_back false = 0
+truth_back true = 1
+
+truth-again : (v : Bool) → truth_of (truth_back v) ≡ v
+unfolding truth_back
+truth-again false = refl
+truth-again true = refl
+
+truth-within : (v : Bool) → truth_back v < 2
+unfolding truth_back
+truth-within false = omega arith
+truth-within true = omega arith
+
+truth-spells : (b : ℕ) → b < 2 → b ∷ [] ≡ truth (truth_of b)
+truth-spells zero lt = refl
+truth-spells (suc zero) lt = refl
+truth-spells (suc (suc n)) lt = absurd (omega arith)
+
+pub truth-wire : IsWire truth_at FitsAlways truth (λ v. plain (truth v))
+unfolding truth_at
+truth-wire = choice-wire 2 truth_of truth truth_back (omega arith) truth-spells truth-within truth-again
+
+kind_back : Kind → ℕ
+kind_back File = 0
+kind_back Dir = 1
+
+kind-again : (v : Kind) → kind_of (kind_back v) ≡ v
+unfolding kind_back
+kind-again File = refl
+kind-again Dir = refl
+
+kind-within : (v : Kind) → kind_back v < 2
+unfolding kind_back
+kind-within File = omega arith
+kind-within Dir = omega arith
+
+kind-spells : (b : ℕ) → b < 2 → b ∷ [] ≡ kind (kind_of b)
+kind-spells zero lt = refl
+kind-spells (suc zero) lt = refl
+kind-spells (suc (suc n)) lt = absurd (omega arith)
+
+pub kind-wire : IsWire kind_at FitsAlways kind (λ v. plain (kind v))
+unfolding kind_at
+kind-wire = choice-wire 2 kind_of kind kind_back (omega arith) kind-spells kind-within kind-again
+
+lease_kind_back : LeaseKind → ℕ
+lease_kind_back Shared = 0
+lease_kind_back Exclusive = 1
+
+lease_kind-again : (v : LeaseKind) → lease_kind_of (lease_kind_back v) ≡ v
+unfolding lease_kind_back
+lease_kind-again Shared = refl
+lease_kind-again Exclusive = refl
+
+lease_kind-within : (v : LeaseKind) → lease_kind_back v < 2
+unfolding lease_kind_back
+lease_kind-within Shared = omega arith
+lease_kind-within Exclusive = omega arith
+
+lease_kind-spells : (b : ℕ) → b < 2 → b ∷ [] ≡ lease_kind (lease_kind_of b)
+lease_kind-spells zero lt = refl
+lease_kind-spells (suc zero) lt = refl
+lease_kind-spells (suc (suc n)) lt = absurd (omega arith)
+
+pub lease_kind-wire : IsWire lease_kind_at FitsAlways lease_kind (λ v. plain (lease_kind v))
+unfolding lease_kind_at
+lease_kind-wire = choice-wire 2 lease_kind_of lease_kind lease_kind_back (omega arith) lease_kind-spells lease_kind-within lease_kind-again
+
+-- ---- modes
+
+mode_back : Mode → ℕ
+mode_back AccR = 0
+mode_back AccW = 1
+mode_back AccD = 2
+mode_back DenyR = 3
+mode_back DenyW = 4
+mode_back DenyD = 5
+
+mode-again : (v : Mode) → mode_of (mode_back v) ≡ v
+unfolding mode_back
+mode-again AccR = refl
+mode-again AccW = refl
+mode-again AccD = refl
+mode-again DenyR = refl
+mode-again DenyW = refl
+mode-again DenyD = refl
+
+mode-within : (v : Mode) → mode_back v < 6
+unfolding mode_back
+mode-within AccR = omega arith
+mode-within AccW = omega arith
+mode-within AccD = omega arith
+mode-within DenyR = omega arith
+mode-within DenyW = omega arith
+mode-within DenyD = omega arith
+
+mode-spells : (b : ℕ) → b < 6 → b ∷ [] ≡ mode (mode_of b)
+mode-spells zero lt = refl
+mode-spells (suc zero) lt = refl
+mode-spells (suc (suc zero)) lt = refl
+mode-spells (suc (suc (suc zero))) lt = refl
+mode-spells (suc (suc (suc (suc zero)))) lt = refl
+mode-spells (suc (suc (suc (suc (suc zero))))) lt = refl
+mode-spells (suc (suc (suc (suc (suc (suc n)))))) lt = absurd (omega arith)
+
+pub mode-wire : IsWire mode_at FitsAlways mode (λ v. plain (mode v))
+unfolding mode_at
+mode-wire = choice-wire 6 mode_of mode mode_back (omega arith) mode-spells mode-within mode-again
+
+abbrev byte_of : Modes → ℕ
+byte_of m = acc_of m + deny_of m * 8
+
+abbrev is_byte_again : ℕ → Bool
+is_byte_again b = eqb b (byte_of (modes_of b))
+
+abbrev is_closed_or_has : ℕ → Bool
+is_closed_or_has b = not (is_open b) || has_access (modes_of b)
+
+-- what is said of six bits: the byte of them is read as them
+abbrev IsByteOf : Bool → Bool → Bool → Bool → Bool → Bool → Type 0
+IsByteOf a b c d e f = ((a || b) || c) ≡ true → (is_open (number_of a b c + number_of d e f * 8) ≡ true) × (modes_of (number_of a b c + number_of d e f * 8) ≡ record { acc_r = a; acc_w = b; acc_d = c; deny_r = d; deny_w = e; deny_d = f })
+
+three : (P : Bool → Bool → Bool → Type 0) → (P true true true × P true true false × P true false true × P true false false × P false true true × P false true false × P false false true × P false false false) → (a b c : Bool) → P a b c
+three P h true true true = h.0
+three P h true true false = h.1
+three P h true false true = h.2
+three P h true false false = h.3
+three P h false true true = h.4
+three P h false true false = h.5
+three P h false false true = h.6
+three P h false false false = h.7
+
+six : (a b c d e f : Bool) → IsByteOf a b c d e f
+six = three (λ a b c. (d e f : Bool) → IsByteOf a b c d e f) (
+  three (λ d e f. IsByteOf true true true d e f) ((λ h. (refl, refl)), (λ h. (refl, refl)), (λ h. (refl, refl)), (λ h. (refl, refl)), (λ h. (refl, refl)), (λ h. (refl, refl)), (λ h. (refl, refl)), (λ h. (refl, refl))),
+  three (λ d e f. IsByteOf true true false d e f) ((λ h. (refl, refl)), (λ h. (refl, refl)), (λ h. (refl, refl)), (λ h. (refl, refl)), (λ h. (refl, refl)), (λ h. (refl, refl)), (λ h. (refl, refl)), (λ h. (refl, refl))),
+  three (λ d e f. IsByteOf true false true d e f) ((λ h. (refl, refl)), (λ h. (refl, refl)), (λ h. (refl, refl)), (λ h. (refl, refl)), (λ h. (refl, refl)), (λ h. (refl, refl)), (λ h. (refl, refl)), (λ h. (refl, refl))),
+  three (λ d e f. IsByteOf true false false d e f) ((λ h. (refl, refl)), (λ h. (refl, refl)), (λ h. (refl, refl)), (λ h. (refl, refl)), (λ h. (refl, refl)), (λ h. (refl, refl)), (λ h. (refl, refl)), (λ h. (refl, refl))),
+  three (λ d e f. IsByteOf false true true d e f) ((λ h. (refl, refl)), (λ h. (refl, refl)), (λ h. (refl, refl)), (λ h. (refl, refl)), (λ h. (refl, refl)), (λ h. (refl, refl)), (λ h. (refl, refl)), (λ h. (refl, refl))),
+  three (λ d e f. IsByteOf false true false d e f) ((λ h. (refl, refl)), (λ h. (refl, refl)), (λ h. (refl, refl)), (λ h. (refl, refl)), (λ h. (refl, refl)), (λ h. (refl, refl)), (λ h. (refl, refl)), (λ h. (refl, refl))),
+  three (λ d e f. IsByteOf false false true d e f) ((λ h. (refl, refl)), (λ h. (refl, refl)), (λ h. (refl, refl)), (λ h. (refl, refl)), (λ h. (refl, refl)), (λ h. (refl, refl)), (λ h. (refl, refl)), (λ h. (refl, refl))),
+  three (λ d e f. IsByteOf false false false d e f) ((λ h. absurd cc), (λ h. absurd cc), (λ h. absurd cc), (λ h. absurd cc), (λ h. absurd cc), (λ h. absurd cc), (λ h. absurd cc), (λ h. absurd cc)),
+)
+
+open-fits : (b : ℕ) (t : List ℕ) → IsOne is_open b t → Spelled FitsModes modes (modes_of b) t
+unfolding modes
+open-fits b t one =
+    let lt : b < 64 = ltb-true b 64 (both (ltb b 64) (not (eqb (b % 8) 0)) one.passes).0 in
+    let same : b ≡ byte_of (modes_of b) = eqb-true b (byte_of (modes_of b)) (each_below 64 is_byte_again refl b lt) in
+    record {
+      fits = implied (is_open b) (has_access (modes_of b)) (each_below 64 is_closed_or_has refl b lt) one.passes;
+      text_is = one.text_is ∙ ap (λ (z : ℕ). z ∷ []) same;
+    }
+
+modes-says : (m : Modes) → FitsModes m → Says modes_at m (modes m) (plain (modes m))
+unfolding modes_at modes
+modes-says m fits =
+    let s = six m.acc_r m.acc_w m.acc_d m.deny_r m.deny_w m.deny_d fits in
+    let made : Says modes_at (modes_of (byte_of m)) (byte_of m ∷ []) (false ∷ []) = says-map modes_of (says-one false is_open (byte_of m) s.0) in
+    subst (λ (z : Modes). Says modes_at z (byte_of m ∷ []) (false ∷ [])) s.1 made
+
+pub modes-wire : IsWire modes_at FitsModes modes (λ m. plain (modes m))
+unfolding modes_at
+modes-wire = record {
+  reads = map-reader modes_of (one_at false is_open) (IsOne is_open) (Spelled FitsModes modes) (one-reader false is_open 1 (omega arith) refl) open-fits;
+  says = modes-says;
+}
+
+-- ---- sessions
+
+-- the two bytes of a session's number
+session-text : (high low : ℕ) → high < 256 → low < 256 → high ∷ low ∷ [] ≡ two (high * 256 + low)
+unfolding two
+session-text high low lh ll = sym (be_bytes_2 (high ∷ low ∷ []) (high * 256 + low) refl are (omega arith))
+  where
+    are : (i : ℕ) → get_or (high ∷ low ∷ []) i 0 < 256
+    are zero = lh
+    are (suc zero) = ll
+    are (suc (suc i)) = omega arith
+
+pub le-leb : (a b : ℕ) → a ≤ b → leb a b ≡ true
+le-leb a b le = decided (leb a b) refl
+  where
+    decided : (t : Bool) → leb a b ≡ t → leb a b ≡ true
+    decided true e = e
+    decided false e = let more = leb-false a b e in absurd (omega arith)
+
+session-range : (high low : ℕ) → is_session high low ≡ true → FitsSession (session_of high low)
+session-range high low e =
+    let p = both (leb 1 (high * 256 + low)) (leb (high * 256 + low) 1000) e in
+    (leb-true _ _ p.0, leb-true _ _ p.1)
+
+session-within : (high low : ℕ) → 1 ≤ high * 256 + low → high * 256 + low ≤ 1000 → is_session high low ≡ true
+session-within high low a b = rw (le-leb 1 (high * 256 + low) a, le-leb (high * 256 + low) 1000 b) refl
+
+session-reads : IsReader session_at (Spelled FitsSession session)
+unfolding session_at
+session-reads = then-reader (choice_at 4) (λ high. map_at (session_of high) (one_at false (is_session high))) (IsOne (λ b. ltb b 4)) (Spelled FitsSession session) (choice-reader 4 (omega arith))
+    (λ high t q. map-reader (session_of high) (one_at false (is_session high)) (IsOne (is_session high)) (λ s u. Spelled FitsSession session s (t ++ u))
+    (one-reader false (is_session high) 1 (omega arith) (each_below 4 (λ b. is_session b 1) refl high (ltb-true high 4 q.passes)))
+    (λ low u r. record {
+      fits = session-range high low r.passes;
+      text_is = ap (λ (z : List ℕ). z ++ u) q.text_is ∙ ap (λ (z : List ℕ). high ∷ z) r.text_is ∙ session-text high low q.below r.below;
+    }))
+
+session-says : (s : Session) → FitsSession s → Says session_at s (session s) (plain (session s))
+unfolding session_at choice_at
+session-says s fits =
+    let high = s.0 / 256 in
+    let low = s.0 % 256 in
+    let whole : high * 256 + low ≡ s.0 = omega arith in
+    let lt : high < 4 = omega arith in
+    let made : Says session_at (session_of high low) (high ∷ low ∷ []) (false ∷ false ∷ []) =
+    says-then (λ h. map_at (session_of h) (one_at false (is_session h))) (says-one false (λ b. ltb b 4) high (lt-ltb _ _ lt)) (says-map (session_of high) (says-one false (is_session high) low (session-within high low (omega (arith, whole)) (omega (arith, whole))))) in
+    let texted : Says session_at (session_of high low) (two (high * 256 + low)) (plain (two (high * 256 + low))) = subst (λ (z : List ℕ). Says session_at (session_of high low) z (plain z)) (session-text high low (omega arith) (omega arith)) made in
+    subst (λ (z : ℕ). Says session_at (record { 0 = z }) (two z) (plain (two z))) whole texted
+
+pub session-wire : IsWire session_at FitsSession session (λ s. plain (session s))
+session-wire = record { reads = session-reads; says = session-says }
+
+-- ---- leases and transactions
+
+pub lease-wire : IsWire lease_at FitsLease lease (λ l. plain (lease l))
+unfolding lease_at
+lease-wire = remade (λ x. record { server = x.0; count = x.1 }) (λ l. (l.server, l.count)) FitsLease lease (λ l. plain (lease l)) (pair-wire byte-wire eight-wire) (λ v f. f) (λ w f. f) (λ v. refl) (λ w s. s)
+
+pub transaction-wire : IsWire transaction_at FitsTransaction transaction (λ l. plain (transaction l))
+unfolding transaction_at
+transaction-wire = remade (λ x. record { server = x.0; count = x.1 }) (λ l. (l.server, l.count)) FitsTransaction transaction (λ l. plain (transaction l)) (pair-wire byte-wire eight-wire) (λ v f. f) (λ w f. f) (λ v. refl) (λ w s. s)

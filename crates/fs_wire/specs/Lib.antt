@@ -1,0 +1,5 @@
+pub mod Spelling
+pub mod Ranges
+pub mod Tags
+pub mod Readers
+pub mod Reading

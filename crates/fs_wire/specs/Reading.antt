@@ -1,0 +1,197 @@
+-- How each value is read.
+use Rattle.std.specs.Prelude.{ℕ, zero, suc, ◌+◌, ◌-◌, ◌*◌, ◌/◌, ◌%◌, Bool, false, not, ◌&&◌, List, length, take, drop, Option, Some, None, Result, Ok, nat_lt, nat_le, ◌==◌, if◌then◌else◌}
+use Rattle.fs_ident.specs.Name.{first_bad, is_dots}
+use Rattle.fs_ident.specs.declared.actor.LeaseNo.{LeaseNo}
+use Rattle.fs_ident.specs.declared.actor.TxnNo.{TxnNo}
+use Rattle.fs_ident.specs.declared.actor.Session.{Session}
+use Rattle.fs_ident.specs.declared.limits.TheConstants.{SESSIONS}
+use Rattle.fs_ident.specs.declared.kind.Kind.{Kind}
+use Rattle.fs_ident.specs.declared.kind.Kind.TheVariants.{File, Dir}
+use Rattle.fs_modes.specs.declared.modes.Modes.{Modes}
+use Rattle.fs_modes.specs.declared.modes.Mode.{Mode}
+use Rattle.fs_modes.specs.declared.modes.Mode.TheVariants.{AccR, AccW, AccD, DenyR, DenyW, DenyD}
+use Rattle.fs_field.specs.declared.field.Field.{Field}
+use Rattle.fs_field.specs.declared.field.Field.TheVariants as field_
+use Rattle.fs_field.specs.declared.value.Value.{Value}
+use Rattle.fs_field.specs.declared.value.Value.TheVariants as value_
+use Rattle.fs_field.specs.declared.lease_kind.LeaseKind.{LeaseKind}
+use Rattle.fs_field.specs.declared.lease_kind.LeaseKind.TheVariants.{Shared, Exclusive}
+use Rattle.fs_field.specs.declared.used.Use.{Use}
+use Rattle.fs_model.specs.declared.op.Op.{Op}
+use Rattle.fs_model.specs.declared.op.Op.TheVariants as op_
+use Rattle.fs_model.specs.declared.reply.Reply.{Reply}
+use Rattle.fs_model.specs.declared.reply.Reply.TheVariants as reply_
+use Rattle.fs_wire.specs.declared.fault.Fault.{Fault}
+use Rattle.fs_wire.specs.Readers.{Reader, stop, then_at, map_at, always_at, either_at, pair_at, many_at, one_at, byte_at, choice_at, tag_at, four_at, eight_at, list_at, option_at, truth_at}
+
+-- ---- kinds and modes
+
+abbrev pub kind_of : ℕ → Kind
+kind_of flag = if flag == 0 then File else Dir
+
+unfoldable pub kind_at : Reader Kind
+kind_at bytes = map_at kind_of (choice_at 2) bytes
+
+abbrev pub lease_kind_of : ℕ → LeaseKind
+lease_kind_of flag = if flag == 0 then Shared else Exclusive
+
+unfoldable pub lease_kind_at : Reader LeaseKind
+lease_kind_at bytes = map_at lease_kind_of (choice_at 2) bytes
+
+abbrev pub mode_of : ℕ → Mode
+mode_of place = if place == 0 then AccR else if place == 1 then AccW else if place == 2 then AccD else if place == 3 then DenyR else if place == 4 then DenyW else DenyD
+
+unfoldable pub mode_at : Reader Mode
+mode_at bytes = map_at mode_of (choice_at 6) bytes
+
+-- six bits, with an access among the low three
+abbrev pub is_open : ℕ → Bool
+is_open b = nat_lt b 64 && not (b % 8 == 0)
+
+abbrev pub modes_of : ℕ → Modes
+modes_of b = record { acc_r = b % 2 == 1; acc_w = (b / 2) % 2 == 1; acc_d = (b / 4) % 2 == 1; deny_r = (b / 8) % 2 == 1; deny_w = (b / 16) % 2 == 1; deny_d = (b / 32) % 2 == 1 }
+
+unfoldable pub modes_at : Reader Modes
+modes_at bytes = map_at modes_of (one_at false is_open) bytes
+
+-- ---- who, and which
+
+-- whether the two bytes are the number of a session
+abbrev pub is_session : ℕ → ℕ → Bool
+is_session high low = nat_le 1 (high * 256 + low) && nat_le (high * 256 + low) SESSIONS
+
+abbrev pub session_of : ℕ → ℕ → Session
+session_of high low = record { 0 = high * 256 + low }
+
+unfoldable pub session_at : Reader Session
+session_at bytes = then_at (choice_at 4) (λ high. map_at (session_of high) (one_at false (is_session high))) bytes
+
+-- a number that is not 0, as a whole: its last byte is not 0 where the three before are
+abbrev pub unless_zero : ℕ → List ℕ → Result (ℕ × List ℕ) Fault
+unless_zero zero rest = stop false (1 + length rest)
+unless_zero (suc n) rest = Ok (suc n, rest)
+
+unfoldable pub step_at : Reader ℕ
+step_at bytes = then_at four_at unless_zero bytes
+
+unfoldable pub identifier_at : Reader (List ℕ)
+identifier_at bytes = then_at (choice_at 33) (many_at step_at) bytes
+
+-- so many bytes of a name: a byte goes wrong that no name holds, and the last one of dots alone
+abbrev pub chars_of : ℕ → List ℕ → Option ℕ → Result (List ℕ × List ℕ) Fault
+chars_of n bytes (Some at) = stop false (length bytes - at)
+chars_of n bytes None = if nat_lt (length bytes) n then stop false 0 else if is_dots (take n bytes) then stop false (1 + length (drop n bytes)) else Ok (take n bytes, drop n bytes)
+
+unfoldable pub chars_at : ℕ → Reader (List ℕ)
+chars_at n bytes = chars_of n bytes (first_bad (take n bytes))
+
+unfoldable pub name_at : Reader (List ℕ)
+name_at bytes = then_at (one_at false (λ b. nat_le 1 b)) chars_at bytes
+
+unfoldable pub lease_at : Reader LeaseNo
+lease_at bytes = map_at (λ x. record { server = x.0; count = x.1 }) (pair_at byte_at eight_at) bytes
+
+unfoldable pub transaction_at : Reader TxnNo
+transaction_at bytes = map_at (λ x. record { server = x.0; count = x.1 }) (pair_at byte_at eight_at) bytes
+
+-- ---- fields and values
+
+abbrev pub field_of : ℕ → Reader Field
+field_of tag =
+    either_at (tag == 0) (map_at (λ x. field_.Life x) identifier_at) (
+    either_at (tag == 1) (map_at (λ x. field_.Child x.0 x.1) (pair_at identifier_at name_at)) (
+    either_at (tag == 2) (map_at (λ x. field_.Names x) identifier_at) (
+    either_at (tag == 3) (map_at (λ x. field_.Info x) identifier_at) (
+    either_at (tag == 4) (map_at (λ x. field_.Own x) identifier_at) (
+    either_at (tag == 5) (map_at (λ x. field_.SelfW x.0 x.1) (pair_at identifier_at mode_at)) (
+    map_at (λ x. field_.Other x.0 x.1) (pair_at identifier_at mode_at)))))))
+
+unfoldable pub field_at : Reader Field
+field_at bytes = then_at (tag_at 7) field_of bytes
+
+abbrev pub value_of : ℕ → Reader Value
+value_of tag =
+    either_at (tag == 0) (map_at (λ x. value_.Life x) (option_at kind_at)) (
+    either_at (tag == 1) (map_at (λ x. value_.Child x) (option_at identifier_at)) (
+    either_at (tag == 2) (map_at (λ x. value_.Names x) (list_at name_at)) (
+    either_at (tag == 3) (map_at (λ x. value_.Info x.0 x.1) (pair_at eight_at eight_at)) (
+    either_at (tag == 4) (map_at (λ x. value_.Own x) (list_at (pair_at four_at modes_at))) (
+    either_at (tag == 5) (always_at value_.SelfW) (
+    map_at (λ x. value_.Other x) truth_at))))))
+
+unfoldable pub value_at : Reader Value
+value_at bytes = then_at (tag_at 7) value_of bytes
+
+unfoldable pub lease_use_at : Reader Use
+lease_use_at bytes = map_at (λ x. record { field = x.0; kind = x.1.0; no = x.1.1.0; until = x.1.1.1 }) (pair_at field_at (pair_at lease_kind_at (pair_at lease_at eight_at))) bytes
+
+-- ---- operations and replies
+
+-- the operations of the tags from 0 to 3
+abbrev pub lookup_to_info_of : ℕ → Reader Op
+lookup_to_info_of tag =
+    either_at (tag == 0) (map_at (λ x. op_.Lookup x.0 x.1) (pair_at identifier_at name_at)) (
+    either_at (tag == 1) (map_at (λ x. op_.List x) identifier_at) (
+    either_at (tag == 2) (map_at (λ x. op_.Kind x) identifier_at) (
+    map_at (λ x. op_.Info x) identifier_at)))
+
+-- the operations of the tags from 4 to 7
+abbrev pub create_to_set_of : ℕ → Reader Op
+create_to_set_of tag =
+    either_at (tag == 4) (map_at (λ x. op_.Create x.0 x.1.0 x.1.1.0 x.1.1.1) (pair_at identifier_at (pair_at name_at (pair_at kind_at (option_at identifier_at))))) (
+    either_at (tag == 5) (map_at (λ x. op_.OpenFile x.0 x.1.0 x.1.1) (pair_at identifier_at (pair_at four_at modes_at))) (
+    either_at (tag == 6) (map_at (λ x. op_.Close x.0 x.1) (pair_at identifier_at four_at)) (
+    map_at (λ x. op_.Set x.0 x.1.0 x.1.1.0 x.1.1.1) (pair_at identifier_at (pair_at four_at (pair_at eight_at eight_at))))))
+
+-- the operations of the tags from 8 on
+abbrev pub delete_to_reap_of : ℕ → Reader Op
+delete_to_reap_of tag =
+    either_at (tag == 8) (map_at (λ x. op_.Delete x.0 x.1) (pair_at identifier_at name_at)) (
+    either_at (tag == 9) (map_at (λ x. op_.Rename x.0 x.1.0 x.1.1.0 x.1.1.1) (pair_at identifier_at (pair_at name_at (pair_at identifier_at name_at)))) (
+    map_at (λ x. op_.Reap x.0 x.1) (pair_at identifier_at session_at)))
+
+abbrev pub op_of : ℕ → Reader Op
+op_of tag = either_at (nat_lt tag 4) (lookup_to_info_of tag) (either_at (nat_lt tag 8) (create_to_set_of tag) (delete_to_reap_of tag))
+
+unfoldable pub op_at : Reader Op
+op_at bytes = then_at (tag_at 11) op_of bytes
+
+-- the replies of the tags from 0 to 9
+abbrev pub gone_to_info_of : ℕ → Reader Reply
+gone_to_info_of tag =
+    either_at (tag == 0) (always_at reply_.Gone) (
+    either_at (tag == 1) (always_at reply_.NotDir) (
+    either_at (tag == 2) (always_at reply_.GoneTo) (
+    either_at (tag == 3) (always_at reply_.NotDirTo) (
+    either_at (tag == 4) (always_at reply_.NoName) (
+    either_at (tag == 5) (map_at (λ x. reply_.Found x) identifier_at) (
+    either_at (tag == 6) (map_at (λ x. reply_.Names x) (list_at name_at)) (
+    either_at (tag == 7) (always_at reply_.IsFile) (
+    either_at (tag == 8) (always_at reply_.IsDir) (
+    map_at (λ x. reply_.Info x.0 x.1) (pair_at eight_at eight_at))))))))))
+
+-- the replies of the tags from 10 on
+abbrev pub exists_to_reaped_of : ℕ → Reader Reply
+exists_to_reaped_of tag =
+    either_at (tag == 10) (always_at reply_.Exists) (
+    either_at (tag == 11) (always_at reply_.BadId) (
+    either_at (tag == 12) (always_at reply_.Made) (
+    either_at (tag == 13) (always_at reply_.HandleUsed) (
+    either_at (tag == 14) (always_at reply_.Sharing) (
+    either_at (tag == 15) (always_at reply_.Opened) (
+    either_at (tag == 16) (always_at reply_.NoHandle) (
+    either_at (tag == 17) (always_at reply_.Closed) (
+    either_at (tag == 18) (always_at reply_.NoAccess) (
+    either_at (tag == 19) (always_at reply_.Set) (
+    either_at (tag == 20) (always_at reply_.NotEmpty) (
+    either_at (tag == 21) (always_at reply_.InUse) (
+    either_at (tag == 22) (always_at reply_.Deleted) (
+    either_at (tag == 23) (always_at reply_.Cycle) (
+    either_at (tag == 24) (always_at reply_.Renamed) (
+    always_at reply_.Reaped)))))))))))))))
+
+abbrev pub reply_of : ℕ → Reader Reply
+reply_of tag = either_at (nat_lt tag 10) (gone_to_info_of tag) (exists_to_reaped_of tag)
+
+unfoldable pub reply_at : Reader Reply
+reply_at bytes = then_at (tag_at 26) reply_of bytes

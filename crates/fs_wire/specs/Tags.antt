@@ -1,0 +1,21 @@
+-- Where tags stand: for each byte of a spelling, whether a field, value, operation or reply begins there.
+use Rattle.std.specs.Prelude.{ℕ, Bool, true, false, List, [], ◌∷◌, ◌++◌, length, map}
+use Rattle.std.specs.List.{flat_map}
+use Rattle.fs_field.specs.declared.used.Use.{Use}
+use Rattle.fs_wire.specs.Spelling.{eight, lease, lease_kind, field}
+
+-- no byte is a tag
+abbrev pub plain : List ℕ → List Bool
+plain text = map (λ b. false) text
+
+-- the first byte is a tag, and no other
+abbrev pub one_tag : List ℕ → List Bool
+one_tag [] = []
+one_tag (b ∷ text) = true ∷ plain text
+
+-- the count of a list, and each of its values
+abbrev pub list_tags : {A : Type 0} → (A → List Bool) → List A → List Bool
+list_tags tags xs = plain (eight (length xs)) ++ flat_map tags xs
+
+unfoldable pub lease_use_tags : Use → List Bool
+lease_use_tags u = one_tag (field u.field) ++ (plain (lease_kind u.kind) ++ (plain (lease u.no) ++ plain (eight u.until)))

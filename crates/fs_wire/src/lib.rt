@@ -1,0 +1,24 @@
+//! Values as bytes: what can be spelled in bytes and read again, from numbers up to operations and replies.
+#![tactic(auto)]
+
+mod actors;
+mod fault;
+mod fields;
+mod file_ids;
+mod lists;
+mod modes;
+mod names;
+mod numbers;
+mod ops;
+mod puts;
+mod replies;
+#[cfg(test)]
+mod tests;
+mod uses;
+mod values;
+mod wire;
+
+pub use fault::{Fault, ReadError, stop};
+pub use numbers::tag_of;
+pub use puts::{put_tag, put_tag_1, put_tag_2, put_tag_3, put_tag_4};
+pub use wire::Wire;
