@@ -9,7 +9,7 @@ use Rattle.std.proofs.lemmas.List.Concat.{flat_map-cons}
 use Rattle.std.proofs.lemmas.Nat.{from_be_bytes-to_be_bytes_8}
 use Rattle.fs_frag.specs.declared.error.FragError.{FragError}
 use Rattle.fs_frag.specs.Cut.{framed, pieces, piece_count, cut_of}
-use Rattle.fs_frag.specs.Joined.{announced, answer_of, held_after, answers, answers_for, messages_of}
+use Rattle.fs_frag.specs.Joined.{answer_of, held_after, answers, answers_for, messages_of}
 
 abbrev Answer : Type 0
 Answer = Result (Option (List ℕ)) FragError
@@ -17,11 +17,15 @@ Answer = Result (Option (List ℕ)) FragError
 abbrev nothing : Answer
 nothing = Ok None
 
+-- the length that the first eight bytes announce
+abbrev announced : List ℕ → ℕ
+announced bytes = from_be_bytes w64 (take 8 bytes)
+
 goes_on : (bytes : List ℕ) (want : ℕ) → 8 ≤ length bytes → announced bytes ≡ want → length bytes - 8 < want → answer_of bytes ≡ Ok None
-goes_on bytes want h e lt = rw (le-ltb (length bytes) 8 h, e, lt-ltb (length bytes - 8) want lt) refl
+goes_on bytes want h e lt = rw (le-ltb (length bytes) 8 h, length-drop, e, lt-ltb (length bytes - 8) want lt) refl
 
 is_whole : (bytes : List ℕ) → 8 ≤ length bytes → announced bytes ≡ length bytes - 8 → answer_of bytes ≡ Ok (Some (drop 8 bytes))
-is_whole bytes h e = rw (le-ltb (length bytes) 8 h, e, le-ltb (length bytes - 8) (length bytes - 8) (omega arith), eq-eqb (length bytes - 8) (length bytes - 8) refl) refl
+is_whole bytes h e = rw (le-ltb (length bytes) 8 h, length-drop, e, le-ltb (length bytes - 8) (length bytes - 8) (omega arith), eq-eqb (length bytes - 8) (length bytes - 8) refl) refl
 
 length-framed : (m : List ℕ) → length (framed m) ≡ 8 + length m
 length-framed m = length-append (to_be_bytes w64 (length m)) m

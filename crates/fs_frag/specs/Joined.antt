@@ -1,23 +1,23 @@
 -- How segments are joined to messages again.
-use Rattle.std.specs.Prelude.{ℕ, ◌-◌, List, [], ◌∷◌, ◌++◌, length, take, drop, replicate, Option, Some, None, Result, Ok, Err, nat_lt, ◌==◌, if◌then◌else◌}
-use Rattle.std.specs.Int.{w64, from_be_bytes}
+use Rattle.std.specs.Prelude.{ℕ, ◌-◌, List, [], ◌∷◌, ◌++◌, length, replicate, Option, Some, None, Result, Ok, Err, nat_lt, ◌==◌, if◌then◌else◌}
+use Rattle.fs_ident.specs.Bytes.{number_in_front}
 use Rattle.fs_frag.specs.declared.error.FragError.{FragError}
 use Rattle.fs_frag.specs.declared.error.FragError.TheVariants.{Over}
 use Rattle.fs_frag.specs.Cut.{cut_of}
-
--- the length that the first eight bytes announce
-abbrev pub announced : List ℕ → ℕ
-announced bytes = from_be_bytes w64 (take 8 bytes)
 
 -- nothing as long as bytes are wanting, then the message, or that there are too many bytes for it
 abbrev pub measured : ℕ → ℕ → List ℕ → Result (Option (List ℕ)) FragError
 measured have want message =
     if nat_lt have want then Ok None else (if have == want then Ok (Some message) else Err (Over have want))
 
+-- nothing without a length, and else what the length in front says of the bytes behind it
+abbrev pub framed_answer : Option (ℕ × List ℕ) → Result (Option (List ℕ)) FragError
+framed_answer None = Ok None
+framed_answer (Some x) = measured (length x.1) x.0 x.1
+
 -- what a joiner answers that holds these bytes now
 abbrev pub answer_of : List ℕ → Result (Option (List ℕ)) FragError
-answer_of bytes =
-    if nat_lt (length bytes) 8 then Ok None else measured (length bytes - 8) (announced bytes) (drop 8 bytes)
+answer_of bytes = framed_answer (number_in_front bytes)
 
 -- what it holds after that answer
 abbrev pub held_after : Result (Option (List ℕ)) FragError → List ℕ → List ℕ

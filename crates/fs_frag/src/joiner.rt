@@ -4,7 +4,7 @@ ghost use Rattle.fs_frag.specs.Joined.{answer_of, held_after};
 
 use crate::error::FragError;
 use crate::segment::Segment;
-use fs_ident::{Memory, Twin};
+use fs_ident::{Memory, Twin, number_in_front};
 use std::alloc::Global;
 use std::marker::Model;
 
@@ -75,13 +75,9 @@ fn answer_of(alloc: Global, bytes: &[u8]) -> Result<Option<Vec<u8>>, FragError>
     ensures over { (have want : ℕ) → IsErrOf result (FragError.Over have want) →
         answer_of bytes.now ≡ Err (FragError.Over have want) }
 {
-    if bytes.len() < 8 {
+    let Some((want, message)) = number_in_front(bytes) else {
         return Ok(None);
-    }
-    let (front, message) = bytes.split_at(8);
-    let want = u64::from_be_bytes([
-        front[0], front[1], front[2], front[3], front[4], front[5], front[6], front[7],
-    ]);
+    };
     let have = message.len() as u64;
     if have < want {
         return Ok(None);

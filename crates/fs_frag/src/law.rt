@@ -17,7 +17,8 @@ pub fn joined_is_cut()
     // The same of the segments that have come so far.
     ensures so_far { (messages segments rest : Seq (Seq ℕ)) →
         AllByRecursion (λ m. length m < 2 ^ 64) messages →
-        segments ++ rest ≡ flat_map cut_of messages → (others : Seq (Seq ℕ)) × (messages_of (answers [] segments) ++ others ≡ messages) }
+        segments ++ rest ≡ flat_map cut_of messages →
+        (others : Seq (Seq ℕ)) × (messages_of (answers [] segments) ++ others ≡ messages) }
     ensures never_over { (messages segments rest : Seq (Seq ℕ)) →
         AllByRecursion (λ m. length m < 2 ^ 64) messages →
         segments ++ rest ≡ flat_map cut_of messages → AllByRecursion IsOk (answers [] segments) }

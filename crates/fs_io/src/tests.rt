@@ -1,10 +1,11 @@
 use crate::addr::Addr;
 use crate::clock::Clock;
+use crate::failed::Failed;
 use crate::link::Link;
 use crate::mem_clock::MemClock;
 use crate::mem_sink::MemSink;
 use crate::mem_source::MemSource;
-use crate::reading::read_all;
+use crate::reading::{ReadError, read_all};
 use crate::sink::Sink;
 use crate::source::Source;
 use crate::standard::{StdinSource, StdoutSink, standard_input, standard_output};
@@ -14,6 +15,7 @@ use crate::sure_source::SureSource;
 use crate::writing::write_all;
 use fs_ident::List;
 use std::alloc::Global;
+use std::io::{self, Read, Write};
 use std::test::Fail;
 
 fn is_read(alloc: Global, len: usize) -> Result<bool, Fail> {
@@ -30,14 +32,22 @@ fn the_longest_input_is_read_and_a_longer_one_is_not(rt: HostRuntime) -> Result<
     Ok(())
 }
 
+/// The answer to an input of so many bytes, of which the read of this number fails, and whether it is all of them.
+fn is_read_past(alloc: Global, len: u32, fail: u64) -> Result<Result<bool, ReadError>, Fail> {
+    let bytes: Vec<u8> = (0..len).map(|i| (i % 251) as u8).collect(alloc)?;
+    let mut input = MemSource::new(bytes.clone()?, vec![in alloc; fail]?);
+    Ok(read_all(alloc, &mut input).map(|read| read == bytes))
+}
+
 #[test]
-fn the_second_read_fails(rt: HostRuntime) -> Result<(), Fail> {
-    let alloc = rt.alloc();
-    let mut input = MemSource::new(b"abcd".to_vec(alloc)?, vec![in alloc; 2]?);
-    let mut buf = [0; 3];
-    assert!(rt; input.read(&mut buf).is_ok());
-    assert!(rt; input.read(&mut buf).is_err());
-    assert_eq!(rt; input.read(&mut buf)?, 1);
+fn each_read_fails_in_turn(rt: HostRuntime) -> Result<(), Fail> {
+    for fail in 1..=4 {
+        assert_eq!(rt;
+            is_read_past(rt.alloc(), 9000, fail)?,
+            Err(ReadError::ReadFault)
+        );
+    }
+    assert_eq!(rt; is_read_past(rt.alloc(), 9000, 5)?, Ok(true));
     Ok(())
 }
 
@@ -111,5 +121,95 @@ fn a_link_keeps_its_calls(rt: HostRuntime) -> Result<(), Fail> {
     assert!(rt; link.send(AT, b"more").is_ok());
     assert_eq!(rt; link.calls().len(), 2);
     assert_eq!(rt; link.bytes(1), b"more".as_slice());
+    Ok(())
+}
+
+/// A reader and a writer of at most two bytes a call, of whose calls one fails.
+#[derive(Drop)]
+struct Halting {
+    bytes: Vec<u8>,
+    at: usize,
+    calls: u64,
+    fail: u64,
+}
+
+impl Halting {
+    /// How many of so many bytes this call moves.
+    fn turn(&mut self, len: usize) -> io::Result<usize> {
+        self.calls = self.calls.saturating_add(1);
+        if self.calls == self.fail {
+            return Err(io::Error::from(io::ErrorKind::WouldBlock));
+        }
+        Ok(len.min(2))
+    }
+}
+
+impl Read for Halting {
+    fn read(&mut self, buf: &mut [u8]) -> io::Result<usize> {
+        let most = self.turn(buf.len())?.min(buf.len());
+        let left = &self.bytes[self.at.min(self.bytes.len())..];
+        let n = most.min(left.len());
+        buf[..n].copy_from_slice(&left[..n]);
+        self.at = self.at.saturating_add(n);
+        Ok(n)
+    }
+}
+
+impl Write for Halting {
+    fn write(&mut self, bytes: &[u8]) -> io::Result<usize> {
+        let n = self.turn(bytes.len())?.min(bytes.len());
+        self.bytes.extend_from_slice(&bytes[..n])?;
+        Ok(n)
+    }
+
+    fn flush(&mut self) -> io::Result<()> {
+        Ok(())
+    }
+}
+
+/// One whose call of this number fails.
+fn failing_at(bytes: Vec<u8>, fail: u64) -> Halting {
+    Halting {
+        bytes,
+        at: 0,
+        calls: 0,
+        fail,
+    }
+}
+
+#[test]
+fn an_error_of_a_reader_ends_the_input(rt: HostRuntime) -> Result<(), Fail> {
+    let fault = Err(ReadError::ReadFault);
+    for (fail, calls, answer) in [
+        (1, 1, fault),
+        (2, 2, fault),
+        (3, 3, fault),
+        (4, 4, fault),
+        (5, 4, Ok(true)),
+    ] {
+        let mut reader = failing_at(b"abcde".to_vec(rt.alloc())?, fail);
+        let read = read_all(rt.alloc(), &mut StdinSource::new(&mut reader));
+        assert_eq!(rt; read.map(|bytes| bytes == reader.bytes), answer);
+        assert_eq!(rt; reader.calls, calls);
+    }
+    Ok(())
+}
+
+#[test]
+fn an_error_of_a_writer_ends_the_output(rt: HostRuntime) -> Result<(), Fail> {
+    for (fail, calls, written) in [(1, 1, ""), (2, 2, "ab"), (3, 3, "abcd"), (4, 3, "abcde")] {
+        let mut writer = failing_at(Vec::new(rt.alloc()), fail);
+        let wrote = write_all(&mut StdoutSink::new(&mut writer), b"abcde");
+        assert_eq!(rt; wrote.is_ok(), fail == 4);
+        assert_eq!(rt; writer.bytes.as_slice(), written.as_bytes());
+        assert_eq!(rt; writer.calls, calls);
+    }
+    Ok(())
+}
+
+#[test]
+fn a_failed_call_is_printed(rt: HostRuntime) -> Result<(), Fail> {
+    let text = Failed.to_string(rt.alloc())?;
+    assert_eq!(rt; text.as_str(), "the outside failed");
     Ok(())
 }

@@ -5,8 +5,8 @@ use Rattle.std.specs.Prelude.{slice_get}
 use Rattle.std.proofs.lemmas.Bool.{cases_lt, eqb-true, leb-false}
 use Rattle.std.proofs.lemmas.List.{length-append, length-drop, length-take, length_push, append-nil, drop-append-le}
 use Rattle.fs_window.specs.declared.packet.Packet.{Packet}
-use Rattle.fs_window.specs.Link.{Link, pushed_count, acked_after, given_by, got_after, packets_from, unsent, unacked, with_bodies, or_alone, due_of}
-use Rattle.fs_window.specs.Ends.{End, pushed_on, made_on, accepted_on, IsPrefixOf, IsKept}
+use Rattle.fs_window.specs.LinkEnd.{LinkEnd, pushed_count, acked_after, given_by, got_after, packets_from, unsent, unacked, with_bodies, or_alone, due_of}
+use Rattle.fs_window.specs.Ends.{End, pushed_on, made_on, accepted_on, IsPrefixOf, IsDeliveredPrefix}
 use Rattle.fs_window.proofs.Lists.{all_more, all_append, get_more, get_drop, drop_next, drop_on, prefix_next}
 
 -- the segment of a body was pushed under its number
@@ -30,7 +30,7 @@ counted from to h =
     let len : length from.link.waiting ≡ length from.pushed - min from.link.acked from.link.sent = ap (λ (x : List (List ℕ)). length x) h.waiting ∙ length-drop (min from.link.acked from.link.sent) from.pushed in
     omega (arith, h.sent)
 
-pub kept : (from to : End) → IsSound from to → IsKept from to
+pub kept : (from to : End) → IsSound from to → IsDeliveredPrefix from to
 kept from to h = record { given = h.prefix; acked = omega (arith, h.acked, h.got); pushed = counted from to h; got = h.got }
 
 -- ---- segments are pushed
@@ -63,7 +63,7 @@ push_to from to ss false h = record { few = h.few; sent = h.sent; waiting = h.wa
 
 -- ---- packets are made
 
-all_due : (P : Packet → Type 0) (l : Link) (again heard : Bool) → AllByRecursion P (packets_from l.got l.sent (unsent l)) → AllByRecursion P (packets_from l.got l.acked (unacked l)) → P (record { ack = l.got; body = None }) → AllByRecursion P (due_of l again heard)
+all_due : (P : Packet → Type 0) (l : LinkEnd) (again heard : Bool) → AllByRecursion P (packets_from l.got l.sent (unsent l)) → AllByRecursion P (packets_from l.got l.acked (unacked l)) → P (record { ack = l.got; body = None }) → AllByRecursion P (due_of l again heard)
 all_due P l again heard new old alone = either (with_bodies l again) heard (all_append P (packets_from l.got l.sent (unsent l)) (cond again (packets_from l.got l.acked (unacked l)) []) new (chosen again))
   where
     chosen : (b : Bool) → AllByRecursion P (cond b (packets_from l.got l.acked (unacked l)) [])
@@ -136,14 +136,14 @@ due_to from to again heard h =
 
 -- ---- a packet comes
 
-acked_within : (l : Link) (ack got : ℕ) → l.acked ≤ got → ack ≤ got → acked_after l ack ≤ got
+acked_within : (l : LinkEnd) (ack got : ℕ) → l.acked ≤ got → ack ≤ got → acked_after l ack ≤ got
 acked_within l ack got h k = go (leb ack (pushed_count l))
   where
     go : (b : Bool) → cond b (max l.acked ack) l.acked ≤ got
     go true = omega arith
     go false = h
 
-acked_rises : (l : Link) (ack : ℕ) → l.acked ≤ acked_after l ack
+acked_rises : (l : LinkEnd) (ack : ℕ) → l.acked ≤ acked_after l ack
 acked_rises l ack = go (leb ack (pushed_count l))
   where
     go : (b : Bool) → l.acked ≤ cond b (max l.acked ack) l.acked

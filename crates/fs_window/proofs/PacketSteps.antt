@@ -2,7 +2,7 @@
 use Rattle.std.proofs.Common.{◌≡◌, ℕ, suc, ◌+◌, ◌-◌, ◌<◌, ◌≤◌, List, [], ◌∷◌, ◌++◌, length, get_or, take, drop, Some, sym, ap, ◌∙◌, append_assoc, arith}
 use Rattle.std.proofs.lemmas.List.{drop_more}
 use Rattle.fs_window.specs.declared.packet.Packet.{Packet}
-use Rattle.fs_window.specs.Link.{packets_from}
+use Rattle.fs_window.specs.LinkEnd.{packets_from}
 
 abbrev packet : ℕ → ℕ → List ℕ → Packet
 packet ack n s = record { ack = ack; body = Some (n, s) }

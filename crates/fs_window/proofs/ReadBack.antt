@@ -6,7 +6,8 @@ use Rattle.std.proofs.lemmas.Bool.{cases_lt, eqb-true, ltb-false}
 use Rattle.std.proofs.lemmas.List.{take-append-drop, length-take, get_or-drop, get_or-take, get_or_past}
 use Rattle.std.proofs.lemmas.Nat.{be_bytes_8}
 use Rattle.fs_window.specs.Packet.{body_text}
-use Rattle.fs_window.specs.Reading.{number_at, body_at, parts_at}
+use Rattle.fs_ident.specs.Bytes.{number_in_front}
+use Rattle.fs_window.specs.Reading.{body_at, parts_at}
 
 abbrev pub IsBytes : List ℕ → Type 0
 IsBytes bytes = (i : ℕ) → get_or bytes i 0 < 256
@@ -52,7 +53,7 @@ pub record IsRead (bytes : List ℕ) (n : ℕ) (rest : List ℕ) : Type 0 where
 below_64 : (bytes : List ℕ) → IsBytes bytes → from_be_bytes w64 bytes < 2 ^ 64
 below_64 bytes fits = omega (arith, fits 0, fits 1, fits 2, fits 3, fits 4, fits 5, fits 6, fits 7)
 
-number_read : (bytes : List ℕ) (x : ℕ × List ℕ) → IsBytes bytes → number_at bytes ≡ Some x → IsRead bytes x.0 x.1
+number_read : (bytes : List ℕ) (x : ℕ × List ℕ) → IsBytes bytes → number_in_front bytes ≡ Some x → IsRead bytes x.0 x.1
 number_read bytes x fits e =
     let g = guard_some (ltb (length bytes) 8) (from_be_bytes w64 (take 8 bytes), drop 8 bytes) x e in
     let long : 8 ≤ length bytes = ltb-false _ _ g.0 in
@@ -75,7 +76,7 @@ body_read [] body fits e = absurd cc
 body_read (zero ∷ []) body fits e = subst (λ (b : Option (ℕ × List ℕ)). (0 ∷ [] ≡ body_text b) × NumberFits b) (some_is None body e) (refl, tt)
 body_read (zero ∷ b ∷ bytes) body fits e = absurd cc
 body_read (suc zero ∷ bytes) body fits e =
-    let m = map_some (λ n. Some n) (number_at bytes) body e in
+    let m = map_some (λ n. Some n) (number_in_front bytes) body e in
     let r = number_read bytes m.0 (IsBytes-rest 1 bytes fits) m.1 in
     subst (λ (b : Option (ℕ × List ℕ)). (1 ∷ bytes ≡ body_text b) × NumberFits b) m.2 (ap (λ (t : List ℕ). 1 ∷ t) r.text, r.fits)
 body_read (suc (suc flag) ∷ bytes) body fits e = absurd cc
@@ -93,8 +94,8 @@ pub record ArePartsOf (bytes : List ℕ) (ack : ℕ) (body : Option (ℕ × List
 pub parts_read : (bytes : List ℕ) (ack : ℕ) (body : Option (ℕ × List ℕ)) → IsBytes bytes → parts_at bytes ≡ Some (ack, body) → ArePartsOf bytes ack body
 parts_read [] ack body fits e = absurd cc
 parts_read (b ∷ bytes) ack body fits e =
-    let g = guard_passed (eqb b 70) (option_and_then (λ n. option_map (λ x. (n.0, x)) (body_at n.1)) (number_at bytes)) (ack, body) e in
-    let n = then_some (λ n. option_map (λ x. (n.0, x)) (body_at n.1)) (number_at bytes) (ack, body) g.1 in
+    let g = guard_passed (eqb b 70) (option_and_then (λ n. option_map (λ x. (n.0, x)) (body_at n.1)) (number_in_front bytes)) (ack, body) e in
+    let n = then_some (λ n. option_map (λ x. (n.0, x)) (body_at n.1)) (number_in_front bytes) (ack, body) g.1 in
     let x = map_some (λ x. (n.0.0, x)) (body_at n.0.1) (ack, body) n.2 in
     let r = number_read bytes n.0 (IsBytes-rest b bytes fits) n.1 in
     let t = body_read n.0.1 x.0 r.rest_fits x.1 in

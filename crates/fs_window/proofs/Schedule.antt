@@ -2,8 +2,8 @@
 use Rattle.std.proofs.Common.{◌≡◌, ℕ, ◌+◌, ◌^◌, ◌≤◌, Bool, true, false, leb, length, List, [], ◌∷◌, Option, Some, None, refl, arith}
 use Rattle.std.specs.Prelude.{slice_get}
 use Rattle.fs_window.specs.declared.packet.Packet.{Packet}
-use Rattle.fs_window.specs.Link.{pushed_count}
-use Rattle.fs_window.specs.Ends.{End, Event, Push, Due, Accept, accepted_on, happens_at, Ends, happens, run, new_end, new_ends, IsKept}
+use Rattle.fs_window.specs.LinkEnd.{pushed_count}
+use Rattle.fs_window.specs.Ends.{End, Event, Push, Due, Accept, accepted_on, happens_at, Ends, happens, run, new_end, new_ends, IsDeliveredPrefix}
 use Rattle.fs_window.proofs.Lists.{all_get}
 use Rattle.fs_window.proofs.Direction.{IsBodyOf, IsSound, kept, push_from, push_to, due_from, due_to, accept_from, accept_to}
 
@@ -45,8 +45,8 @@ new_sound a b = record { few = omega arith; sent = omega arith; waiting = refl; 
 always_sound : (left right : ℕ) (es : List (Bool × Event)) → AreSound (run es (new_ends left right))
 always_sound left right es = run_sound es (new_ends left right) (new_sound left right, new_sound right left)
 
-pub to_the_right : (left right : ℕ) (es : List (Bool × Event)) → IsKept (run es (new_ends left right)).left (run es (new_ends left right)).right
+pub to_the_right : (left right : ℕ) (es : List (Bool × Event)) → IsDeliveredPrefix (run es (new_ends left right)).left (run es (new_ends left right)).right
 to_the_right left right es = kept _ _ (always_sound left right es).0
 
-pub to_the_left : (left right : ℕ) (es : List (Bool × Event)) → IsKept (run es (new_ends left right)).right (run es (new_ends left right)).left
+pub to_the_left : (left right : ℕ) (es : List (Bool × Event)) → IsDeliveredPrefix (run es (new_ends left right)).right (run es (new_ends left right)).left
 to_the_left left right es = kept _ _ (always_sound left right es).1

@@ -1,11 +1,11 @@
 -- The two ends of a link, over every schedule.
 use Rattle.std.specs.Prelude.{◌≡◌, ℕ, ◌+◌, ◌^◌, ◌≤◌, Bool, true, false, List, [], ◌∷◌, ◌++◌, Option, Some, None, slice_get, length, nat_le}
 use Rattle.fs_window.specs.declared.packet.Packet.{Packet}
-use Rattle.fs_window.specs.Link.{Link, new_link, pushed_count, after_pushes, given_by, after_accept, due_of, after_due}
+use Rattle.fs_window.specs.LinkEnd.{LinkEnd, new_link_end, pushed_count, after_pushes, given_by, after_accept, due_of, after_due}
 
 -- one end, with all that happened there
 pub record End : Type 0 where
-  pub link : Link
+  pub link : LinkEnd
   -- every segment that was pushed
   pub pushed : List (List ℕ)
   -- every segment that was given
@@ -57,7 +57,7 @@ run (e ∷ es) w = run es (happens w e)
 
 -- a new end, of this width
 abbrev pub new_end : ℕ → End
-new_end width = record { link = new_link width; pushed = []; given = []; made = [] }
+new_end width = record { link = new_link_end width; pushed = []; given = []; made = [] }
 
 -- two new ends
 abbrev pub new_ends : ℕ → ℕ → Ends
@@ -69,7 +69,7 @@ IsPrefixOf xs ys = (rest : List (List ℕ)) × (xs ++ rest ≡ ys)
 
 -- one direction of a link is kept: what was given is the beginning of what was pushed, nothing counts as
 -- acknowledged that was not given, and both ends count rightly
-pub record IsKept (from to : End) : Type 0 where
+pub record IsDeliveredPrefix (from to : End) : Type 0 where
   pub given : IsPrefixOf to.given from.pushed
   pub acked : from.link.acked ≤ length to.given
   pub pushed : pushed_count from.link ≡ length from.pushed

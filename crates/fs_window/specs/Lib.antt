@@ -1,4 +1,4 @@
 pub mod Ends
-pub mod Link
+pub mod LinkEnd
 pub mod Packet
 pub mod Reading

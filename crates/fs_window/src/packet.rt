@@ -1,11 +1,11 @@
 //! Packets, and their bytes.
 ghost use Rattle.std.specs.Prelude.{◌≡◌, ◌++◌, IfOk, IfSome, OnOk, OnErr, Some, option_map};
 ghost use Rattle.fs_window.specs.Packet.{IsPacket, packet_text, body_text};
-ghost use Rattle.fs_window.specs.Reading.{number_at, body_at, parts_at};
+ghost use Rattle.fs_window.specs.Reading.{body_at, parts_at};
 ghost use Rattle.fs_window.specs.declared.packet.Packet.{Packet};
 
 use fs_frag::Segment;
-use fs_ident::{Memory, Twin};
+use fs_ident::{Memory, Twin, number_in_front};
 use std::alloc::Global;
 
 /// The first byte of each packet.
@@ -83,20 +83,6 @@ fn text_of(alloc: Global, p: &Packet) -> Result<Vec<u8>, Memory>
     Ok(text)
 }
 
-/// The number in the first eight bytes, and what is behind them.
-fn number_of(bytes: &[u8]) -> Option<(u64, &[u8])>
-    ensures { option_map (λ x. (x.0, x.1.now)) result ≡ number_at bytes.now }
-{
-    if bytes.len() < 8 {
-        return None;
-    }
-    let (front, rest) = bytes.split_at(8);
-    let number = u64::from_be_bytes([
-        front[0], front[1], front[2], front[3], front[4], front[5], front[6], front[7],
-    ]);
-    Some((number, rest))
-}
-
 /// The body that all of these bytes are: none, or a number and bytes.
 fn body_of(bytes: &[u8]) -> Option<Option<(u64, &[u8])>>
     ensures { option_map (λ body. option_map (λ x. (x.0, x.1.now)) body) result ≡
@@ -104,7 +90,7 @@ fn body_of(bytes: &[u8]) -> Option<Option<(u64, &[u8])>>
 {
     match bytes {
         [0] => Some(None),
-        [1, rest @ ..] => Some(Some(number_of(rest)?)),
+        [1, rest @ ..] => Some(Some(number_in_front(rest)?)),
         _ => None,
     }
 }
@@ -116,7 +102,7 @@ fn parts_of(bytes: &[u8]) -> Option<(u64, Option<(u64, &[u8])>)>
 {
     match bytes {
         [MARK, rest @ ..] => {
-            let (ack, rest) = number_of(rest)?;
+            let (ack, rest) = number_in_front(rest)?;
             let body = body_of(rest)?;
             Some((ack, body))
         }

@@ -1,7 +1,7 @@
 //! Queues of segments.
 ghost use Rattle.std.specs.Prelude.{◌≡◌, ◌≤◌, ◌<◌, ◌+◌, ◌-◌, ◌^◌, ◌++◌, drop, take, length, OnOk, IfOk};
 ghost use Rattle.std.specs.VecDeque.{deque_len};
-ghost use Rattle.fs_window.specs.Link.{packets_from};
+ghost use Rattle.fs_window.specs.LinkEnd.{packets_from};
 
 use crate::packet::Packet;
 use fs_frag::Segment;

@@ -1,8 +1,9 @@
 use crate::law::in_order;
 use crate::packet::{Packet, read_packet, write_packet};
+use crate::sent::Sent;
 use crate::window::Window;
 use fs_frag::{Segment, cut};
-use fs_ident::Twin;
+use fs_ident::{List, Peer, Session, Twin};
 use std::test::*;
 
 /// The first packet of an end to which an Ask for the life of the root is pushed.
@@ -12,10 +13,7 @@ const FIRST: [u8; 39] = [
 ];
 
 fn packet(rt: HostRuntime, number: u64, byte: u8) -> Result<Packet, Fail> {
-    let segment = Segment::new(rt.alloc(), &[byte])
-        .ok()
-        .ok_or("it is made")?
-        .ok_or("it is one")?;
+    let segment = Segment::new(rt.alloc(), &[byte])?.ok_or("it is one")?;
     Ok(Packet {
         ack: 0,
         body: Some((number, segment)),
@@ -27,30 +25,20 @@ fn bytes_of_packets(rt: HostRuntime) -> Result<(), Fail> {
     let alloc = rt.alloc();
     let mut window = Window::new(alloc, 1);
     let message = [1, 0, 0, 0, 0, 0, 0, 0, 1, 0, 0, 0, 0];
-    let segments = cut(alloc, &message).ok().ok_or("it is cut")?;
-    window
-        .push_all(alloc, segments)
-        .ok()
-        .ok_or("they are pushed")?;
-    let packets = window.due(alloc, false, false).ok().ok_or("it is due")?;
+    let segments = cut(alloc, &message)?;
+    window.push_all(alloc, segments)?;
+    let packets = window.due(alloc, false, false)?;
     let mut out = Vec::new(alloc);
     for packet in packets.as_slice() {
-        write_packet(alloc, packet, &mut out)
-            .ok()
-            .ok_or("it is written")?;
+        write_packet(alloc, packet, &mut out)?;
     }
     assert_eq!(rt; out.as_slice(), FIRST.as_slice());
-    let read = read_packet(alloc, &FIRST)
-        .ok()
-        .ok_or("it is read")?
-        .ok_or("it is one")?;
+    let read = read_packet(alloc, &FIRST)?.ok_or("it is one")?;
     let mut again = Vec::new(alloc);
-    let twin = read.copy(alloc).ok().ok_or("it is copied")?;
-    write_packet(alloc, &twin, &mut again)
-        .ok()
-        .ok_or("it is written")?;
+    let twin = read.copy(alloc)?;
+    write_packet(alloc, &twin, &mut again)?;
     assert_eq!(rt; again.as_slice(), FIRST.as_slice());
-    let short = read_packet(alloc, &FIRST[..18]).ok().ok_or("it is read")?;
+    let short = read_packet(alloc, &FIRST[..18])?;
     assert!(rt; short.is_none());
     Ok(())
 }
@@ -58,14 +46,11 @@ fn bytes_of_packets(rt: HostRuntime) -> Result<(), Fail> {
 #[test]
 fn each_segment_once_and_in_order(rt: HostRuntime) -> Result<(), Fail> {
     let alloc = rt.alloc();
-    let mut window = Window::new(alloc, 1)
-        .copy(alloc)
-        .ok()
-        .ok_or("it is copied")?;
+    let mut window = Window::new(alloc, 1).copy(alloc)?;
     for (number, given) in [(1, 0), (0, 1), (0, 0), (1, 1), (1, 0)] {
         let packet = packet(rt, number, 7)?;
-        let first = window.gives(alloc, &packet).ok().ok_or("it is seen")?;
-        let segments = window.accept(alloc, &packet).ok().ok_or("it is taken")?;
+        let first = window.gives(alloc, &packet)?;
+        let segments = window.accept(alloc, &packet)?;
         assert_eq!(rt; first.len(), given, "at {number}");
         assert_eq!(rt; segments.len(), given, "at {number}");
     }
@@ -79,11 +64,8 @@ fn what_is_due(rt: HostRuntime) -> Result<(), Fail> {
     let alloc = rt.alloc();
     let mut window = Window::new(alloc, 1);
     for byte in [65, 66] {
-        let segment = Segment::new(alloc, &[byte])
-            .ok()
-            .ok_or("it is made")?
-            .ok_or("it is one")?;
-        window.push(alloc, segment).ok().ok_or("it is pushed")?;
+        let segment = Segment::new(alloc, &[byte])?.ok_or("it is one")?;
+        window.push(alloc, segment)?;
     }
     assert_eq!(rt; window.pushed(), 2);
     for (again, heard, ack, numbers) in [
@@ -95,8 +77,8 @@ fn what_is_due(rt: HostRuntime) -> Result<(), Fail> {
         (true, false, 2, None),
     ] {
         let told = Packet { ack, body: None };
-        window.accept(alloc, &told).ok().ok_or("it is taken")?;
-        let packets = window.due(alloc, again, heard).ok().ok_or("it is due")?;
+        window.accept(alloc, &told)?;
+        let packets = window.due(alloc, again, heard)?;
         let mut found = None;
         for packet in packets.as_slice() {
             assert!(rt; found.is_none());
@@ -104,5 +86,18 @@ fn what_is_due(rt: HostRuntime) -> Result<(), Fail> {
         }
         assert_eq!(rt; found, numbers, "at {ack}");
     }
+    Ok(())
+}
+
+#[test]
+fn copies_what_was_sent(rt: HostRuntime) -> Result<(), Fail> {
+    let sent = Sent {
+        from: Peer::Server(1),
+        to: Peer::Client(Session(2)),
+        bytes: List::from_vec(FIRST.to_vec(rt.alloc())?),
+    };
+    let twin = sent.copy(rt.alloc())?;
+    assert!(rt; twin.from == sent.from && twin.to == sent.to);
+    assert_eq!(rt; twin.bytes.as_slice(), FIRST.as_slice());
     Ok(())
 }

@@ -1,6 +1,6 @@
 //! One end of a link.
 ghost use Rattle.std.specs.Prelude.{◌≡◌, ◌≤◌, ◌+◌, ◌-◌, ◌^◌, ◌++◌, ◌↔◌, [], length, IfOk, IsOk, IsErrOf, OnOk, OnErr};
-ghost use Rattle.fs_window.specs.Link.{IsLink, new_link, pushed_count, after_push, after_pushes, moved, acked_after, given_by, after_accept, packets_from, unsent, unacked, with_bodies, or_alone, due_of, after_due};
+ghost use Rattle.fs_window.specs.LinkEnd.{IsLinkEnd, new_link_end, pushed_count, after_push, after_pushes, moved, acked_after, given_by, after_accept, packets_from, unsent, unacked, with_bodies, or_alone, due_of, after_due};
 
 use crate::error::LinkError;
 use crate::packet::Packet;
@@ -23,13 +23,25 @@ pub struct Window {
 }
 
 impl Model for Window {
-    ghost use Rattle.fs_window.specs.Link.{Link, IsLink};
+    ghost use Rattle.fs_window.specs.LinkEnd.{LinkEnd, IsLinkEnd};
 
-    ghost Value = { Link };
+    ghost Value = { LinkEnd };
 
-    ghost view = { λ w. record { width = w.width; acked = w.acked; sent = w.sent; waiting = w.waiting.items; got = w.got } };
+    ghost view = { λ w. record {
+      width = w.width;
+      acked = w.acked;
+      sent = w.sent;
+      waiting = w.waiting.items;
+      got = w.got;
+    } };
 
-    ghost invariant = { λ w. IsLink (record { width = w.width; acked = w.acked; sent = w.sent; waiting = w.waiting.items; got = w.got }) };
+    ghost invariant = { λ w. IsLinkEnd (record {
+      width = w.width;
+      acked = w.acked;
+      sent = w.sent;
+      waiting = w.waiting.items;
+      got = w.got;
+    }) };
 }
 
 impl Window {
@@ -37,7 +49,7 @@ impl Window {
     pub fn new(alloc: Global, width: u64) -> Window
         requires wide { 1 ≤ width }
         requires narrow { width ≤ 64 }
-        ensures { result ≡ new_link width }
+        ensures { result ≡ new_link_end width }
     {
         Window {
             width,
@@ -51,7 +63,7 @@ impl Window {
     /// How many segments were pushed.
     pub fn pushed(&self) -> u64
         ensures count { result ≡ pushed_count self.now }
-        ensures valid { IsLink self.now }
+        ensures valid { IsLinkEnd self.now }
     {
         self.acked.min(self.sent) + self.waiting.len() as u64
     }

@@ -1,5 +1,5 @@
 use Rattle.std.proofs.Common.{◌≡◌, ◌+◌, ◌-◌, ◌++◌, take, drop}
-use Rattle.fs_window.specs.Link.{packets_from}
+use Rattle.fs_window.specs.LinkEnd.{packets_from}
 use Rattle.fs_window.proofs.queue.add_packets.Given as goal
 
 -- what was added, and then what is left, are all of them

@@ -3,7 +3,7 @@ use Rattle.std.specs.Prelude.{ℕ, ◌+◌, ◌-◌, ◌^◌, ◌<◌, ◌≤◌
 use Rattle.fs_window.specs.declared.packet.Packet.{Packet}
 
 -- what an end knows
-pub record Link : Type 0 where
+pub record LinkEnd : Type 0 where
   -- how many segments may be on their way
   pub width : ℕ
   -- the greatest acknowledgement that was taken: the other end has the segments below it
@@ -16,15 +16,15 @@ pub record Link : Type 0 where
   pub got : ℕ
 
 -- a new end
-abbrev pub new_link : ℕ → Link
-new_link width = record { width = width; acked = 0; sent = 0; waiting = []; got = 0 }
+abbrev pub new_link_end : ℕ → LinkEnd
+new_link_end width = record { width = width; acked = 0; sent = 0; waiting = []; got = 0 }
 
 -- how many segments were pushed
-abbrev pub pushed_count : Link → ℕ
+abbrev pub pushed_count : LinkEnd → ℕ
 pushed_count l = min l.acked l.sent + length l.waiting
 
 -- what holds of every end
-pub record IsLink (l : Link) : Type 0 where
+pub record IsLinkEnd (l : LinkEnd) : Type 0 where
   pub wide : 1 ≤ l.width
   pub narrow : l.width ≤ 64
   pub acked : l.acked ≤ pushed_count l
@@ -32,15 +32,15 @@ pub record IsLink (l : Link) : Type 0 where
   pub few : pushed_count l < 2 ^ 64
 
 -- with more segments to send
-abbrev pub after_pushes : Link → List (List ℕ) → Link
+abbrev pub after_pushes : LinkEnd → List (List ℕ) → LinkEnd
 after_pushes l ss = record { width = l.width; acked = l.acked; sent = l.sent; waiting = l.waiting ++ ss; got = l.got }
 
 -- with one more segment to send
-abbrev pub after_push : Link → List ℕ → Link
+abbrev pub after_push : LinkEnd → List ℕ → LinkEnd
 after_push l s = after_pushes l (s ∷ [])
 
 -- with these two numbers: a segment that is sent and acknowledged is let go
-abbrev pub moved : Link → ℕ → ℕ → Link
+abbrev pub moved : LinkEnd → ℕ → ℕ → LinkEnd
 moved l acked sent = record {
   width = l.width;
   acked = acked;
@@ -50,7 +50,7 @@ moved l acked sent = record {
 }
 
 -- the greatest acknowledgement once another one has come; one above the number pushed is not taken
-abbrev pub acked_after : Link → ℕ → ℕ
+abbrev pub acked_after : LinkEnd → ℕ → ℕ
 acked_after l ack = if nat_le ack (pushed_count l) then max l.acked ack else l.acked
 
 -- the segment that a body gives where so many were given: the one whose number is next
@@ -63,7 +63,7 @@ abbrev pub got_after : ℕ → ℕ → ℕ
 got_after got more = min (got + more) (2 ^ 64 - 1)
 
 -- the end once a packet has come
-abbrev pub after_accept : Link → Packet → Link
+abbrev pub after_accept : LinkEnd → Packet → LinkEnd
 after_accept l p = record {
   width = l.width;
   acked = (moved l (acked_after l p.ack) l.sent).acked;
@@ -78,15 +78,15 @@ packets_from ack n [] = []
 packets_from ack n (s ∷ ss) = record { ack = ack; body = Some (n, s) } ∷ packets_from ack (n + 1) ss
 
 -- the segments not sent yet whose numbers are below the acknowledged one and the width
-abbrev pub unsent : Link → List (List ℕ)
+abbrev pub unsent : LinkEnd → List (List ℕ)
 unsent l = take (l.acked + l.width - l.sent) (drop (l.sent - l.acked) l.waiting)
 
 -- the segments that were sent and are not acknowledged
-abbrev pub unacked : Link → List (List ℕ)
+abbrev pub unacked : LinkEnd → List (List ℕ)
 unacked l = take (l.sent - l.acked) l.waiting
 
 -- new segments first, then those sent before, if they are to go again
-abbrev pub with_bodies : Link → Bool → List Packet
+abbrev pub with_bodies : LinkEnd → Bool → List Packet
 with_bodies l again = packets_from l.got l.sent (unsent l) ++ (if again then packets_from l.got l.acked (unacked l) else [])
 
 -- an acknowledgement alone, where a packet with a body came and no other packet goes
@@ -95,9 +95,9 @@ or_alone got heard [] = if heard then record { ack = got; body = None } ∷ [] e
 or_alone got heard (p ∷ ps) = p ∷ ps
 
 -- what goes to the other end
-abbrev pub due_of : Link → Bool → Bool → List Packet
+abbrev pub due_of : LinkEnd → Bool → Bool → List Packet
 due_of l again heard = or_alone l.got heard (with_bodies l again)
 
 -- the end once that is sent
-abbrev pub after_due : Link → Link
+abbrev pub after_due : LinkEnd → LinkEnd
 after_due l = moved l l.acked (l.sent + length (unsent l))
