@@ -2,6 +2,7 @@ pub mod Booleans
 pub mod Readings
 pub mod Entries
 pub mod MapsOf
+pub mod CopiedMaps
 pub mod Standing
 pub mod Passing
 pub mod NameBytes

@@ -10,7 +10,7 @@ use crate::node::Node;
 use crate::op::Op;
 use crate::reply::Reply;
 use crate::steps::step;
-use fs_ident::{FileId, Kind, List, Memory, Session, Twin};
+use fs_ident::{FileId, Kind, List, Memory, Session, Twin, copy_map};
 use std::alloc::Global;
 use std::collections::BTreeMap;
 use std::marker::Model;
@@ -102,4 +102,14 @@ impl Space {
     {
         step(alloc, &mut self.nodes, by, op)
     }
+}
+
+impl Twin for Space {
+    fn copy(&self, alloc: Global) -> Result<Space, Memory> {
+        Ok(Space {
+            nodes: copy_map(alloc, &self.nodes)?,
+        })
+    }
+
+    fn discard(self) {}
 }
