@@ -1,6 +1,6 @@
 -- Answers behind their tags.
 use Rattle.std.proofs.Common.{◌≡◌, ℕ, ◌<◌, not, ◌||◌, Bool, true, false, eqb, List, ◌++◌, refl, arith}
-use Rattle.std.proofs.lemmas.Bool.{eqb-true}
+use Rattle.std.proofs.lemmas.Bool.{eqb-true, agree_below_at}
 use Rattle.fs_msg.specs.declared.answer.Answer.{Answer}
 use Rattle.fs_msg.specs.declared.answer.Answer.TheVariants as answer_
 use Rattle.fs_wire.specs.Readers.{either_at}
@@ -9,7 +9,7 @@ use Rattle.fs_wire.proofs.Says.{says-map}
 use Rattle.fs_wire.proofs.Behind.{IsBehind, behind, other, implied}
 use Rattle.fs_wire.proofs.Wires.{Spelled, arm, pair-wire, plain-pair, plain-option}
 use Rattle.fs_wire.proofs.NumberWires.{eight-wire, list-wire, plain-list}
-use Rattle.fs_wire.proofs.SmallWires.{lease-wire, each_below}
+use Rattle.fs_wire.proofs.SmallWires.{lease-wire}
 use Rattle.fs_wire.proofs.NameWires.{identifier-wire}
 use Rattle.fs_msg.specs.Spelling.{answer}
 use Rattle.fs_msg.specs.Ranges.{FitsAnswer}
@@ -24,7 +24,7 @@ is_listed b = not (is_answer_tag b) || (eqb b 17 || (eqb b 18 || (eqb b 19 || (e
 
 last-tag : (tag : ℕ) → tag < 256 → is_answer_tag tag ≡ true → eqb tag 17 ≡ false → eqb tag 18 ≡ false → eqb tag 19 ≡ false → eqb tag 20 ≡ false → tag ≡ 22
 last-tag tag lt passes a b c d =
-    let listed = implied _ _ (each_below 256 is_listed refl tag lt) passes in
+    let listed = implied _ _ (agree_below_at is_listed (λ b. true) 256 tag refl lt) passes in
     eqb-true tag 22 (other _ _ (other _ _ (other _ _ (other _ _ listed a) b) c) d)
 
 pub answer-reads : {test : ℕ → Bool} (tag : ℕ) (t : List ℕ) → IsOne test tag t → is_answer_tag tag ≡ true → IsReader (answer_of tag) (λ w u. Spelled FitsAnswer answer w (t ++ u))

@@ -6,7 +6,7 @@ use Rattle.fs_wire.specs.declared.fault.Fault.{Fault}
 use Rattle.fs_msg.specs.declared.msg.Msg.{Msg}
 use Rattle.fs_msg.specs.declared.error.MsgError.{MsgError}
 use Rattle.fs_msg.specs.declared.error.MsgError.TheVariants as errors
-use Rattle.fs_wire.proofs.Readers.{IsBytes}
+use Rattle.fs_wire.specs.Ranges.{IsBytes}
 use Rattle.fs_msg.specs.Spelling.{message}
 use Rattle.fs_msg.specs.Ranges.{FitsMessage}
 use Rattle.fs_msg.specs.Tags.{tags_of}

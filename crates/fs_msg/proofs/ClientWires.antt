@@ -1,6 +1,6 @@
 -- Clients' messages behind their tags.
 use Rattle.std.proofs.Common.{◌≡◌, ℕ, ◌<◌, not, ◌||◌, Bool, true, false, eqb, List, ◌++◌, refl, arith}
-use Rattle.std.proofs.lemmas.Bool.{eqb-true}
+use Rattle.std.proofs.lemmas.Bool.{eqb-true, agree_below_at}
 use Rattle.fs_msg.specs.declared.client_msg.ClientMsg.{ClientMsg}
 use Rattle.fs_msg.specs.declared.client_msg.ClientMsg.TheVariants as client_
 use Rattle.fs_wire.specs.Readers.{either_at}
@@ -9,7 +9,7 @@ use Rattle.fs_wire.proofs.Says.{says-map}
 use Rattle.fs_wire.proofs.Behind.{IsBehind, behind, other, implied}
 use Rattle.fs_wire.proofs.Wires.{Spelled, arm, pair-wire, plain-pair, plain-option}
 use Rattle.fs_wire.proofs.NumberWires.{list-wire, plain-list}
-use Rattle.fs_wire.proofs.SmallWires.{lease_kind-wire, lease-wire, each_below}
+use Rattle.fs_wire.proofs.SmallWires.{lease_kind-wire, lease-wire}
 use Rattle.fs_wire.proofs.NameWires.{identifier-wire}
 use Rattle.fs_wire.proofs.FieldWires.{field-wire}
 use Rattle.fs_msg.specs.Spelling.{client_message}
@@ -24,7 +24,7 @@ is_listed b = not (is_client_tag b) || (eqb b 1 || (eqb b 2 || (eqb b 3 || eqb b
 
 last-tag : (tag : ℕ) → tag < 256 → is_client_tag tag ≡ true → eqb tag 1 ≡ false → eqb tag 2 ≡ false → eqb tag 3 ≡ false → tag ≡ 4
 last-tag tag lt passes a b c =
-    let listed = implied _ _ (each_below 256 is_listed refl tag lt) passes in
+    let listed = implied _ _ (agree_below_at is_listed (λ b. true) 256 tag refl lt) passes in
     eqb-true tag 4 (other _ _ (other _ _ (other _ _ listed a) b) c)
 
 pub client-reads : {test : ℕ → Bool} (tag : ℕ) (t : List ℕ) → IsOne test tag t → is_client_tag tag ≡ true → IsReader (client_of tag) (λ w u. Spelled FitsClientMessage client_message w (t ++ u))

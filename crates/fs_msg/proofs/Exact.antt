@@ -6,7 +6,8 @@ use Rattle.std.proofs.lemmas.List.{append-nil, take_at, take_all, take-append-dr
 use Rattle.fs_wire.specs.declared.fault.Fault.{Fault}
 use Rattle.fs_msg.specs.declared.msg.Msg.{Msg}
 use Rattle.fs_wire.specs.Readers.{stop}
-use Rattle.fs_wire.proofs.Readers.{IsBytes, IsBytes-left, IsBytes-both}
+use Rattle.fs_wire.specs.Ranges.{IsBytes}
+use Rattle.fs_wire.proofs.Readers.{IsBytes-left, IsBytes-both}
 use Rattle.fs_msg.specs.Spelling.{message}
 use Rattle.fs_msg.specs.Ranges.{FitsMessage}
 use Rattle.fs_msg.specs.Tags.{tags_of}
@@ -167,7 +168,7 @@ wrong bytes f fits e some at at-is =
         none = none-begins bytes f e;
         longest = record {
           within = omega (arith, all, len, d.left, at-is);
-          front = subst (λ (z : List ℕ). IsMessagePrefix z) (sym taken) (front-of d.front d.proper);
+          begins = subst (λ (z : List ℕ). IsMessagePrefix z) (sym taken) (front-of d.front d.proper);
           longest = λ k le p. let h = d.longest k le p in omega (arith, h, place);
         };
       };
@@ -178,8 +179,8 @@ wrong bytes f fits e some at at-is =
 -- the place is one
 pub one-place : (bytes : List ℕ) (at k : ℕ) → GoWrongAt bytes at → GoWrongAt bytes k → at ≡ k
 one-place bytes at k a b =
-    let p = b.longest.longest at a.longest.within a.longest.front in
-    let q = a.longest.longest k b.longest.within b.longest.front in
+    let p = b.longest.longest at a.longest.within a.longest.begins in
+    let q = a.longest.longest k b.longest.within b.longest.begins in
     omega (arith, p, q)
 
 -- how bytes that go wrong are read

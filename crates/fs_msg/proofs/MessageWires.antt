@@ -1,5 +1,6 @@
 -- Messages: each kind of them behind its tags.
 use Rattle.std.proofs.Common.{◌≡◌, ℕ, ◌<◌, not, ◌||◌, Bool, true, false, List, ◌∷◌, ◌++◌, refl, subst, arith}
+use Rattle.std.proofs.lemmas.Bool.{not-true, or_left, or_right, agree_below_at}
 use Rattle.fs_msg.specs.declared.client_msg.ClientMsg.{ClientMsg}
 use Rattle.fs_msg.specs.declared.answer.Answer.{Answer}
 use Rattle.fs_msg.specs.declared.msg.Msg.{Msg}
@@ -7,9 +8,8 @@ use Rattle.fs_msg.specs.declared.msg.Msg.TheVariants as msg_
 use Rattle.fs_wire.specs.Readers.{map_at, one_at}
 use Rattle.fs_wire.proofs.Readers.{IsOne, IsReader, then-reader, map-reader, either-reader, one-reader}
 use Rattle.fs_wire.proofs.Says.{Says, says-then, says-map, says-one}
-use Rattle.fs_wire.proofs.Behind.{IsBehind, first-says, second-says, other, implied, or-left, or-right}
+use Rattle.fs_wire.proofs.Behind.{IsBehind, first-says, second-says, other, implied}
 use Rattle.fs_wire.proofs.Wires.{Spelled, IsWire}
-use Rattle.fs_wire.proofs.SmallWires.{each_below}
 use Rattle.fs_msg.specs.Spelling.{client_message, answer, message}
 use Rattle.fs_msg.specs.Ranges.{FitsClientMessage, FitsAnswer, FitsMessage}
 use Rattle.fs_msg.specs.Tags.{client_tags, answer_tags, tags_of}
@@ -29,24 +29,20 @@ abbrev is_one_kind : ℕ → Bool
 is_one_kind b = not (is_answer_tag b) || not (is_client_tag b)
 
 no-client : (tag : ℕ) → tag < 256 → is_answer_tag tag ≡ true → is_client_tag tag ≡ false
-no-client tag lt passes = untrue (is_client_tag tag) (implied _ _ (each_below 256 is_one_kind refl tag lt) passes)
-  where
-    untrue : (b : Bool) → not b ≡ true → b ≡ false
-    untrue true e = absurd cc
-    untrue false e = refl
+no-client tag lt passes = not-true (is_client_tag tag) (implied _ _ (agree_below_at is_one_kind (λ b. true) 256 tag refl lt) passes)
 
 of-client : (m : ClientMsg) → IsBehind client_of is_client_tag m (client_message m) (client_tags m) → Says message_at (msg_.Client m) (client_message m) (client_tags m)
 unfolding message_at
 of-client m b =
     let behind : Says (message_of b.tag) (msg_.Client m) b.rest b.marks = first-says (is_client_tag b.tag) (map_at (λ x. msg_.Answer x) (answer_of b.tag)) b.passes (says-map (λ x. msg_.Client x) b.says) in
-    let all : Says message_at (msg_.Client m) (b.tag ∷ b.rest) (true ∷ b.marks) = says-then message_of (says-one true is_message_tag b.tag (or-left _ _ b.passes)) behind in
+    let all : Says message_at (msg_.Client m) (b.tag ∷ b.rest) (true ∷ b.marks) = says-then message_of (says-one true is_message_tag b.tag (or_left _ _ b.passes)) behind in
     subst (λ (text : List ℕ). Says message_at (msg_.Client m) text (client_tags m)) b.text_is (subst (λ (tags : List Bool). Says message_at (msg_.Client m) (b.tag ∷ b.rest) tags) b.tags_is all)
 
 of-answer : (a : Answer) → IsBehind answer_of is_answer_tag a (answer a) (answer_tags a) → Says message_at (msg_.Answer a) (answer a) (answer_tags a)
 unfolding message_at
 of-answer a b =
     let behind : Says (message_of b.tag) (msg_.Answer a) b.rest b.marks = second-says (is_client_tag b.tag) (map_at (λ x. msg_.Client x) (client_of b.tag)) (no-client b.tag b.below b.passes) (says-map (λ x. msg_.Answer x) b.says) in
-    let all : Says message_at (msg_.Answer a) (b.tag ∷ b.rest) (true ∷ b.marks) = says-then message_of (says-one true is_message_tag b.tag (or-right _ _ b.passes)) behind in
+    let all : Says message_at (msg_.Answer a) (b.tag ∷ b.rest) (true ∷ b.marks) = says-then message_of (says-one true is_message_tag b.tag (or_right _ _ b.passes)) behind in
     subst (λ (text : List ℕ). Says message_at (msg_.Answer a) text (answer_tags a)) b.text_is (subst (λ (tags : List Bool). Says message_at (msg_.Answer a) (b.tag ∷ b.rest) tags) b.tags_is all)
 
 message-says : (m : Msg) → FitsMessage m → Says message_at m (message m) (tags_of m)

@@ -1,4 +1,4 @@
--- How far bytes begin a message, and where tags stand: apart from any way of reading.
+-- Prefixes of messages, how far bytes are one, and where tags stand: apart from any way of reading.
 use Rattle.std.specs.Prelude.{◌≡◌, ℕ, ◌<◌, ◌≤◌, true, false, List, ◌∷◌, ◌++◌, length, take, get_or}
 use Rattle.fs_msg.specs.declared.msg.Msg.{Msg}
 use Rattle.fs_msg.specs.Spelling.{message}
@@ -11,7 +11,7 @@ pub record IsMessage (bytes : List ℕ) : Type 0 where
   pub fits : FitsMessage whole
   pub spelled : bytes ≡ message whole
 
--- no front of the bytes is a message
+-- no prefix of the bytes is a message
 abbrev pub BeginsWithNone : List ℕ → Type 0
 BeginsWithNone bytes = (k : ℕ) → IsMessage (take k bytes) → ⊥
 
@@ -30,10 +30,10 @@ pub record IsProperMessagePrefix (bytes : List ℕ) : Type 0 where
   pub rest : List ℕ
   pub begins : message whole ≡ bytes ++ next ∷ rest
 
--- so many bytes at the front begin a message, and no more do
+-- the prefix of so many bytes begins a message, and no longer one does
 pub record IsLongestMessagePrefix (bytes : List ℕ) (at : ℕ) : Type 0 where
   pub within : at ≤ length bytes
-  pub front : IsMessagePrefix (take at bytes)
+  pub begins : IsMessagePrefix (take at bytes)
   pub longest : (k : ℕ) → k ≤ length bytes → IsMessagePrefix (take k bytes) → k ≤ at
 
 -- some message begins with the bytes and has a tag next
@@ -44,7 +44,7 @@ pub record IsTagPlace (bytes : List ℕ) : Type 0 where
   pub begins : message whole ≡ bytes ++ rest
   pub tag : get_or (tags_of whole) (length bytes) false ≡ true
 
--- the bytes are no beginning of a message, have none at their front, and go wrong at the place
+-- the bytes are no beginning of a message, no prefix of them is one, and they go wrong at the place
 pub record GoWrongAt (bytes : List ℕ) (at : ℕ) : Type 0 where
   pub inside : at < length bytes
   pub none : BeginsWithNone bytes

@@ -4,7 +4,7 @@ ghost use Rattle.fs_msg.specs.declared.msg.Msg.{Msg};
 ghost use Rattle.fs_msg.specs.Ranges.{FitsMessage};
 ghost use Rattle.fs_msg.specs.Spelling.{message};
 
-/// Messages are told apart by their bytes: no message is a proper beginning of another, and two messages with the
+/// Messages are told apart by their bytes: no message is a proper prefix of another, and two messages with the
 /// same bytes are one.
 pub fn no_message_begins_another()
     ensures whole { (m n : Msg) (rest : List ℕ) → FitsMessage m → FitsMessage n →

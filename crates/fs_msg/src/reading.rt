@@ -13,9 +13,9 @@ use crate::msg::Msg;
 use fs_wire::{Fault, ReadError, Wire};
 use std::alloc::Global;
 
-/// The message at the front of the bytes, and its length in bytes.
+/// The message that the bytes begin with, and its length in bytes.
 ///
-/// `Short`: the bytes begin a message and are none. `Tag` and `Range`: no front of the bytes is a message, and they go
+/// `Short`: the bytes begin a message and are none. `Tag` and `Range`: no prefix of the bytes is a message, and they go
 /// wrong at the place, which is a tag's or another. Never `Trailing`.
 pub fn read(alloc: Global, bytes: &[u8]) -> Result<(Msg, usize), MsgError>
     // What is read is spelled so.
@@ -36,7 +36,7 @@ pub fn read(alloc: Global, bytes: &[u8]) -> Result<(Msg, usize), MsgError>
         IsErrOrMemory result (errors.Range at) }
     ensures trailing { (at : ℕ) → IsErrOf result (errors.Trailing at) → ⊥ }
 {
-    front_of(alloc, bytes)
+    prefix_of(alloc, bytes)
 }
 
 /// The message that all of the bytes are.
@@ -65,8 +65,8 @@ pub fn read_whole(alloc: Global, bytes: &[u8]) -> Result<Msg, MsgError>
     whole_of(alloc, bytes)
 }
 
-/// The message at the front and its length, as reading from left to right gives them.
-fn front_of(alloc: Global, bytes: &[u8]) -> Result<(Msg, usize), MsgError>
+/// The message at the beginning and its length, as reading from left to right gives them.
+fn prefix_of(alloc: Global, bytes: &[u8]) -> Result<(Msg, usize), MsgError>
     ensures { IsAnswer result (with_length bytes.now (message_at bytes.now)) }
 {
     match Msg::get(alloc, bytes) {

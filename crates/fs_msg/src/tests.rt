@@ -1,4 +1,6 @@
 //! What is told, copied, written and read.
+mod faults;
+mod messages;
 
 use crate::error::MsgError;
 use crate::item::Item;
@@ -16,17 +18,22 @@ pub(crate) fn fault_of(alloc: Global, bytes: &[u8]) -> Option<MsgError> {
 
 #[test]
 fn an_item_is_copied(rt: HostRuntime) -> Result<(), Fail> {
-    let op = Op::Kind {
-        file: FileId::root(rt.alloc()),
-    };
     let item = Item {
         by: Peer::Client(Session(1)),
         n: 2,
-        op,
+        op: Op::Kind {
+            file: FileId::root(rt.alloc()),
+        },
         reply: Reply::IsDir,
     };
-    let twin = item.copy(rt.alloc())?;
-    assert_eq!(rt; twin.n, 2);
+    let Item { by, n, op, reply } = item.copy(rt.alloc())?;
+    assert_eq!(rt; by, Peer::Client(Session(1)));
+    assert_eq!(rt; n, 2);
+    let Op::Kind { file } = op else {
+        return Err(Fail::from("it is another"));
+    };
+    assert_eq!(rt; file, FileId::root(rt.alloc()));
+    assert!(rt; matches!(reply, Reply::IsDir));
     Ok(())
 }
 
@@ -37,6 +44,14 @@ fn a_note_is_copied(rt: HostRuntime) -> Result<(), Fail> {
         reply: Reply::IsDir,
     };
     let twin = note.copy(rt.alloc())?;
-    assert!(rt; matches!(twin, Note::Answered { n: 2, .. }));
+    assert!(rt;
+        matches!(
+            twin,
+            Note::Answered {
+                n: 2,
+                reply: Reply::IsDir
+            }
+        )
+    );
     Ok(())
 }

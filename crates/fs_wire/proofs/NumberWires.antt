@@ -8,10 +8,10 @@ use Rattle.std.proofs.lemmas.List.Concat.{flat_map-cons}
 use Rattle.std.proofs.lemmas.Nat.{be_bytes_4, be_bytes_8, from_be_bytes-to_be_bytes_4, from_be_bytes-to_be_bytes_8}
 use Rattle.fs_wire.specs.declared.fault.Fault.{Fault}
 use Rattle.fs_wire.specs.Spelling.{four, eight, list}
-use Rattle.fs_wire.specs.Ranges.{FitsOne, FitsFour, FitsEight, FitsList}
+use Rattle.fs_wire.specs.Ranges.{IsBytes, FitsOne, FitsFour, FitsEight, FitsList}
 use Rattle.fs_wire.specs.Tags.{plain, list_tags}
 use Rattle.fs_wire.specs.Readers.{Reader, stop, number_at, four_at, if_long, eight_at, byte_at, many_at, list_at}
-use Rattle.fs_wire.proofs.Readers.{IsBytes, IsBytes-left, IsOne, Took, Stopped, GoesOn, IsReader, then-reader, one-reader, weaker}
+use Rattle.fs_wire.proofs.Readers.{IsBytes-left, IsOne, Took, Stopped, GoesOn, IsReader, then-reader, one-reader, weaker}
 use Rattle.fs_wire.proofs.Says.{Says, says-then, says-one, says-many}
 use Rattle.fs_wire.proofs.Wires.{Spelled, IsWire, AreMany, many-reader, each-says, plain-false, length-plain, plain-append, retagged}
 

@@ -2,10 +2,8 @@
 use Rattle.std.proofs.Common.{◌≡◌, ℕ, zero, suc, ◌<◌, ◌⊎◌, inl, inr, Bool, true, false, cond, List, [], ◌∷◌, ◌++◌, length, get_or, Result, Ok, Err, refl, sym, ap, subst, ◌∙◌, append_assoc, arith}
 use Rattle.std.proofs.lemmas.List.{append-nil}
 use Rattle.fs_wire.specs.declared.fault.Fault.{Fault}
+use Rattle.fs_wire.specs.Ranges.{IsBytes}
 use Rattle.fs_wire.specs.Readers.{◌>>=◌, Reader, stop, then_at, map_at, always_at, either_at, one_at}
-
-abbrev pub IsBytes : List ℕ → Type 0
-IsBytes bytes = (i : ℕ) → get_or bytes i 0 < 256
 
 pub IsBytes-right : (a b : List ℕ) → IsBytes (a ++ b) → IsBytes b
 IsBytes-right [] b h = h

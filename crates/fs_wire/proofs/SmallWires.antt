@@ -1,8 +1,9 @@
 -- Truth values, kinds, modes, and the numbers of sessions, leases and transactions.
 use Rattle.std.proofs.Common.{◌≡◌, ℕ, zero, suc, ◌+◌, ◌*◌, ◌<◌, ◌≤◌, ◌/◌, ◌%◌, ◌||◌, ◌&&◌, not, Bool, true, false, ltb, leb, eqb, List, [], ◌∷◌, ◌++◌, get_or, refl, sym, ap, subst, ◌∙◌, arith}
-use Rattle.std.proofs.lemmas.Bool.{ltb-true, lt-ltb, eqb-true, eqb-false, leb-true, leb-false}
+use Rattle.std.proofs.lemmas.Bool.{ltb-true, lt-ltb, eqb-true, eqb-false, leb-true, leb-false, le-leb, and_parts, agree_below_at}
 use Rattle.std.proofs.lemmas.Nat.{be_bytes_2}
 use Rattle.fs_ident.specs.declared.actor.Session.{Session}
+use Rattle.fs_ident.specs.declared.limits.TheConstants.{SESSIONS}
 use Rattle.fs_ident.specs.declared.kind.Kind.{Kind}
 use Rattle.fs_ident.specs.declared.kind.Kind.TheVariants.{File, Dir}
 use Rattle.fs_modes.specs.declared.modes.Modes.{Modes}
@@ -15,7 +16,7 @@ use Rattle.fs_wire.specs.Spelling.{two, truth, kind, lease_kind, mode, modes, se
 use Rattle.fs_wire.specs.Ranges.{FitsAlways, FitsModes, FitsSession, FitsLease, FitsTransaction}
 use Rattle.fs_wire.specs.Tags.{plain}
 use Rattle.fs_wire.specs.Readers.{map_at, one_at, choice_at, truth_of, truth_at}
-use Rattle.fs_wire.specs.Reading.{kind_of, kind_at, lease_kind_of, lease_kind_at, mode_of, mode_at, is_open, modes_of, modes_at, is_session, session_of, session_at, lease_at, transaction_at}
+use Rattle.fs_wire.specs.Reading.{kind_of, kind_at, lease_kind_of, lease_kind_at, mode_of, mode_at, is_modes_byte, modes_of, modes_at, is_session, session_of, session_at, lease_at, transaction_at}
 use Rattle.fs_wire.proofs.Readers.{IsOne, IsReader, then-reader, map-reader, one-reader}
 use Rattle.fs_wire.proofs.Says.{Says, says-then, says-map, says-one}
 use Rattle.fs_wire.proofs.Behind.{implied}
@@ -23,26 +24,6 @@ use Rattle.fs_wire.proofs.Wires.{Spelled, IsWire, choice-reader, pair-wire, rema
 use Rattle.fs_wire.proofs.NumberWires.{byte-wire, eight-wire}
 
 -- ---- one byte below a limit, made into something
-
--- every number below the limit passes
-abbrev pub all_below : ℕ → (ℕ → Bool) → Bool
-all_below zero test = true
-all_below (suc n) test = test n && all_below n test
-
-both : (a b : Bool) → (a && b) ≡ true → (a ≡ true) × (b ≡ true)
-both true true e = (refl, refl)
-both true false e = absurd cc
-both false b e = absurd cc
-
-last_or_below : (n : ℕ) (test : ℕ → Bool) (b : ℕ) → test n ≡ true → (b < n → test b ≡ true) → b < suc n → (same : Bool) → eqb b n ≡ same → test b ≡ true
-last_or_below n test b last below lt true k = subst (λ (z : ℕ). test z ≡ true) (sym (eqb-true b n k)) last
-last_or_below n test b last below lt false k = let other = eqb-false b n k in below (omega arith)
-
-pub each_below : (n : ℕ) (test : ℕ → Bool) → all_below n test ≡ true → (b : ℕ) → b < n → test b ≡ true
-each_below zero test e b lt = absurd (omega arith)
-each_below (suc n) test e b lt =
-    let p = both (test n) (all_below n test) e in
-    last_or_below n test b p.0 (λ below. each_below n test p.1 b below) lt (eqb b n) refl
 
 module _ {A : Type 0} (limit : ℕ) (make : ℕ → A) (text : A → List ℕ) (back : A → ℕ) (some : 0 < limit)
     (spells : (b : ℕ) → b < limit → b ∷ [] ≡ text (make b))
@@ -178,11 +159,11 @@ abbrev is_byte_again : ℕ → Bool
 is_byte_again b = eqb b (byte_of (modes_of b))
 
 abbrev is_closed_or_has : ℕ → Bool
-is_closed_or_has b = not (is_open b) || has_access (modes_of b)
+is_closed_or_has b = not (is_modes_byte b) || has_access (modes_of b)
 
 -- what is said of six bits: the byte of them is read as them
 abbrev IsByteOf : Bool → Bool → Bool → Bool → Bool → Bool → Type 0
-IsByteOf a b c d e f = ((a || b) || c) ≡ true → (is_open (number_of a b c + number_of d e f * 8) ≡ true) × (modes_of (number_of a b c + number_of d e f * 8) ≡ record { acc_r = a; acc_w = b; acc_d = c; deny_r = d; deny_w = e; deny_d = f })
+IsByteOf a b c d e f = ((a || b) || c) ≡ true → (is_modes_byte (number_of a b c + number_of d e f * 8) ≡ true) × (modes_of (number_of a b c + number_of d e f * 8) ≡ record { acc_r = a; acc_w = b; acc_d = c; deny_r = d; deny_w = e; deny_d = f })
 
 three : (P : Bool → Bool → Bool → Type 0) → (P true true true × P true true false × P true false true × P true false false × P false true true × P false true false × P false false true × P false false false) → (a b c : Bool) → P a b c
 three P h true true true = h.0
@@ -206,13 +187,13 @@ six = three (λ a b c. (d e f : Bool) → IsByteOf a b c d e f) (
   three (λ d e f. IsByteOf false false false d e f) ((λ h. absurd cc), (λ h. absurd cc), (λ h. absurd cc), (λ h. absurd cc), (λ h. absurd cc), (λ h. absurd cc), (λ h. absurd cc), (λ h. absurd cc)),
 )
 
-open-fits : (b : ℕ) (t : List ℕ) → IsOne is_open b t → Spelled FitsModes modes (modes_of b) t
+open-fits : (b : ℕ) (t : List ℕ) → IsOne is_modes_byte b t → Spelled FitsModes modes (modes_of b) t
 unfolding modes
 open-fits b t one =
-    let lt : b < 64 = ltb-true b 64 (both (ltb b 64) (not (eqb (b % 8) 0)) one.passes).0 in
-    let same : b ≡ byte_of (modes_of b) = eqb-true b (byte_of (modes_of b)) (each_below 64 is_byte_again refl b lt) in
+    let lt : b < 64 = ltb-true b 64 (and_parts (ltb b 64) (not (eqb (b % 8) 0)) one.passes).0 in
+    let same : b ≡ byte_of (modes_of b) = eqb-true b (byte_of (modes_of b)) (agree_below_at is_byte_again (λ b. true) 64 b refl lt) in
     record {
-      fits = implied (is_open b) (has_access (modes_of b)) (each_below 64 is_closed_or_has refl b lt) one.passes;
+      fits = implied (is_modes_byte b) (has_access (modes_of b)) (agree_below_at is_closed_or_has (λ b. true) 64 b refl lt) one.passes;
       text_is = one.text_is ∙ ap (λ (z : ℕ). z ∷ []) same;
     }
 
@@ -220,13 +201,13 @@ modes-says : (m : Modes) → FitsModes m → Says modes_at m (modes m) (plain (m
 unfolding modes_at modes
 modes-says m fits =
     let s = six m.acc_r m.acc_w m.acc_d m.deny_r m.deny_w m.deny_d fits in
-    let made : Says modes_at (modes_of (byte_of m)) (byte_of m ∷ []) (false ∷ []) = says-map modes_of (says-one false is_open (byte_of m) s.0) in
+    let made : Says modes_at (modes_of (byte_of m)) (byte_of m ∷ []) (false ∷ []) = says-map modes_of (says-one false is_modes_byte (byte_of m) s.0) in
     subst (λ (z : Modes). Says modes_at z (byte_of m ∷ []) (false ∷ [])) s.1 made
 
 pub modes-wire : IsWire modes_at FitsModes modes (λ m. plain (modes m))
 unfolding modes_at
 modes-wire = record {
-  reads = map-reader modes_of (one_at false is_open) (IsOne is_open) (Spelled FitsModes modes) (one-reader false is_open 1 (omega arith) refl) open-fits;
+  reads = map-reader modes_of (one_at false is_modes_byte) (IsOne is_modes_byte) (Spelled FitsModes modes) (one-reader false is_modes_byte 1 (omega arith) refl) open-fits;
   says = modes-says;
 }
 
@@ -242,26 +223,19 @@ session-text high low lh ll = sym (be_bytes_2 (high ∷ low ∷ []) (high * 256 
     are (suc zero) = ll
     are (suc (suc i)) = omega arith
 
-pub le-leb : (a b : ℕ) → a ≤ b → leb a b ≡ true
-le-leb a b le = decided (leb a b) refl
-  where
-    decided : (t : Bool) → leb a b ≡ t → leb a b ≡ true
-    decided true e = e
-    decided false e = let more = leb-false a b e in absurd (omega arith)
-
 session-range : (high low : ℕ) → is_session high low ≡ true → FitsSession (session_of high low)
 session-range high low e =
-    let p = both (leb 1 (high * 256 + low)) (leb (high * 256 + low) 1000) e in
+    let p = and_parts (leb 1 (high * 256 + low)) (leb (high * 256 + low) SESSIONS) e in
     (leb-true _ _ p.0, leb-true _ _ p.1)
 
-session-within : (high low : ℕ) → 1 ≤ high * 256 + low → high * 256 + low ≤ 1000 → is_session high low ≡ true
-session-within high low a b = rw (le-leb 1 (high * 256 + low) a, le-leb (high * 256 + low) 1000 b) refl
+session-within : (high low : ℕ) → 1 ≤ high * 256 + low → high * 256 + low ≤ SESSIONS → is_session high low ≡ true
+session-within high low a b = rw (le-leb 1 (high * 256 + low) a, le-leb (high * 256 + low) SESSIONS b) refl
 
 session-reads : IsReader session_at (Spelled FitsSession session)
 unfolding session_at
 session-reads = then-reader (choice_at 4) (λ high. map_at (session_of high) (one_at false (is_session high))) (IsOne (λ b. ltb b 4)) (Spelled FitsSession session) (choice-reader 4 (omega arith))
     (λ high t q. map-reader (session_of high) (one_at false (is_session high)) (IsOne (is_session high)) (λ s u. Spelled FitsSession session s (t ++ u))
-    (one-reader false (is_session high) 1 (omega arith) (each_below 4 (λ b. is_session b 1) refl high (ltb-true high 4 q.passes)))
+    (one-reader false (is_session high) 1 (omega arith) (agree_below_at (λ b. is_session b 1) (λ b. true) 4 high refl (ltb-true high 4 q.passes)))
     (λ low u r. record {
       fits = session-range high low r.passes;
       text_is = ap (λ (z : List ℕ). z ++ u) q.text_is ∙ ap (λ (z : List ℕ). high ∷ z) r.text_is ∙ session-text high low q.below r.below;

@@ -45,14 +45,14 @@ unfoldable pub mode_at : Reader Mode
 mode_at bytes = map_at mode_of (choice_at 6) bytes
 
 -- six bits, with an access among the low three
-abbrev pub is_open : ℕ → Bool
-is_open b = nat_lt b 64 && not (b % 8 == 0)
+abbrev pub is_modes_byte : ℕ → Bool
+is_modes_byte b = nat_lt b 64 && not (b % 8 == 0)
 
 abbrev pub modes_of : ℕ → Modes
 modes_of b = record { acc_r = b % 2 == 1; acc_w = (b / 2) % 2 == 1; acc_d = (b / 4) % 2 == 1; deny_r = (b / 8) % 2 == 1; deny_w = (b / 16) % 2 == 1; deny_d = (b / 32) % 2 == 1 }
 
 unfoldable pub modes_at : Reader Modes
-modes_at bytes = map_at modes_of (one_at false is_open) bytes
+modes_at bytes = map_at modes_of (one_at false is_modes_byte) bytes
 
 -- ---- who, and which
 
@@ -71,11 +71,11 @@ abbrev pub unless_zero : ℕ → List ℕ → Result (ℕ × List ℕ) Fault
 unless_zero zero rest = stop false (1 + length rest)
 unless_zero (suc n) rest = Ok (suc n, rest)
 
-unfoldable pub step_at : Reader ℕ
-step_at bytes = then_at four_at unless_zero bytes
+unfoldable pub id_number_at : Reader ℕ
+id_number_at bytes = then_at four_at unless_zero bytes
 
 unfoldable pub identifier_at : Reader (List ℕ)
-identifier_at bytes = then_at (choice_at 33) (many_at step_at) bytes
+identifier_at bytes = then_at (choice_at 33) (many_at id_number_at) bytes
 
 -- so many bytes of a name: a byte goes wrong that no name holds, and the last one of dots alone
 abbrev pub chars_of : ℕ → List ℕ → Option ℕ → Result (List ℕ × List ℕ) Fault

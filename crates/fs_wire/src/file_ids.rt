@@ -3,7 +3,7 @@ ghost use Rattle.std.specs.Prelude.{◌≡◌, ◌≤◌, ℕ, List, ◌++◌, �
 ghost use Rattle.fs_ident.specs.Ident.{IsId, IsNumber};
 ghost use Rattle.fs_wire.specs.Spelling.{four, identifier};
 ghost use Rattle.fs_wire.specs.Readers.{Gives, many_at};
-ghost use Rattle.fs_wire.specs.Reading.{step_at, identifier_at};
+ghost use Rattle.fs_wire.specs.Reading.{id_number_at, identifier_at};
 
 use crate::fault::{ReadError, stop};
 use crate::lists::put_each;
@@ -27,15 +27,15 @@ impl Wire for FileId {
     #[tactic(auto, unfolding(crate::specs::Reading::identifier_at, crate::specs::Readers::then_at))]
     fn get(alloc: Global, bytes: &[u8]) -> Result<(FileId, &[u8]), ReadError> {
         let (depth, rest) = choice_of(33, bytes)?;
-        let (numbers, rest) = steps_of(alloc, depth, rest)?;
+        let (numbers, rest) = id_numbers_of(alloc, depth, rest)?;
         Ok((FileId::from_numbers(numbers), rest))
     }
 }
 
 /// A number of an identifier.
-#[tactic(auto, unfolding(crate::specs::Reading::step_at, crate::specs::Readers::then_at))]
-fn step_of(alloc: Global, bytes: &[u8]) -> Result<(u32, &[u8]), ReadError>
-    ensures read { Gives (λ x. (x.0, x.1.now)) result (step_at bytes.now) }
+#[tactic(auto, unfolding(crate::specs::Reading::id_number_at, crate::specs::Readers::then_at))]
+fn id_number_of(alloc: Global, bytes: &[u8]) -> Result<(u32, &[u8]), ReadError>
+    ensures read { Gives (λ x. (x.0, x.1.now)) result (id_number_at bytes.now) }
     ensures valid { IfOk result (λ x. IsNumber x.0) }
 {
     let (number, rest) = u32::get(alloc, bytes)?;
@@ -46,15 +46,15 @@ fn step_of(alloc: Global, bytes: &[u8]) -> Result<(u32, &[u8]), ReadError>
 }
 
 /// The numbers of an identifier of this depth.
-fn steps_of(alloc: Global, depth: u8, bytes: &[u8]) -> Result<(Vec<u32>, &[u8]), ReadError>
+fn id_numbers_of(alloc: Global, depth: u8, bytes: &[u8]) -> Result<(Vec<u32>, &[u8]), ReadError>
     requires { depth ≤ 32 }
-    ensures read { Gives (λ x. (x.0.items, x.1.now)) result (many_at step_at depth bytes.now) }
+    ensures read { Gives (λ x. (x.0.items, x.1.now)) result (many_at id_number_at depth bytes.now) }
     ensures valid { IfOk result (λ x. IsId x.0.items) }
 {
     let mut numbers = Vec::with_capacity(alloc, depth as usize)?;
     let mut rest = bytes;
     for _ in 0..depth {
-        let (number, after) = step_of(alloc, rest)?;
+        let (number, after) = id_number_of(alloc, rest)?;
         numbers.push(number)?;
         rest = after;
     }

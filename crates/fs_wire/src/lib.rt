@@ -5,6 +5,7 @@ mod actors;
 mod fault;
 mod fields;
 mod file_ids;
+mod law;
 mod lists;
 mod modes;
 mod names;
@@ -19,6 +20,7 @@ mod values;
 mod wire;
 
 pub use fault::{Fault, ReadError, stop};
+pub use law::{what_is_read_was_spelled, what_is_spelled_is_read};
 pub use numbers::tag_of;
 pub use puts::{put_tag, put_tag_1, put_tag_2, put_tag_3, put_tag_4};
 pub use wire::Wire;

@@ -2,7 +2,7 @@
 ghost use Rattle.std.specs.Prelude.{[], false};
 ghost use Rattle.fs_wire.specs.Spelling.{kind, lease_kind, mode, modes};
 ghost use Rattle.fs_wire.specs.Readers.{Gives, one_at};
-ghost use Rattle.fs_wire.specs.Reading.{kind_at, lease_kind_at, mode_at, modes_at, is_open};
+ghost use Rattle.fs_wire.specs.Reading.{kind_at, lease_kind_at, mode_at, modes_at, is_modes_byte};
 
 use crate::fault::{ReadError, stop};
 use crate::numbers::choice_of;
@@ -103,7 +103,7 @@ impl Wire for Modes {
 
     #[tactic(auto, unfolding(crate::specs::Reading::modes_at, crate::specs::Readers::map_at))]
     fn get(_: Global, bytes: &[u8]) -> Result<(Modes, &[u8]), ReadError> {
-        let (b, rest) = open_of(bytes)?;
+        let (b, rest) = modes_byte_of(bytes)?;
         let modes = Modes {
             acc_r: b % 2 == 1,
             acc_w: b / 2 % 2 == 1,
@@ -118,8 +118,8 @@ impl Wire for Modes {
 
 /// A byte of six bits, with an access among them.
 #[tactic(auto, unfolding(crate::specs::Readers::one_at))]
-fn open_of(bytes: &[u8]) -> Result<(u8, &[u8]), ReadError>
-    ensures { Gives (λ x. (x.0, x.1.now)) result (one_at false is_open bytes.now) }
+fn modes_byte_of(bytes: &[u8]) -> Result<(u8, &[u8]), ReadError>
+    ensures { Gives (λ x. (x.0, x.1.now)) result (one_at false is_modes_byte bytes.now) }
 {
     match bytes {
         [] => Err(stop(false, 0)),

@@ -27,7 +27,7 @@ pub fn put_tag_2<A: Wire, B: Wire>(
     b: &B,
     out: &mut Vec<u8>,
 ) -> Result<(), AllocError>
-    ensures { OnOk result (out.new.items ≡ out.old.items ++ tag ∷ A.text a.now ++ B.text b.now) }
+    ensures { OnOk result (out.new.items ≡ out.old.items ++ (tag ∷ A.text a.now ++ B.text b.now)) }
 {
     out.push(tag)?;
     a.put(out)?;

@@ -33,7 +33,11 @@ pub(crate) fn put_client(m: &ClientMsg, out: &mut Vec<u8>) -> Result<(), AllocEr
 
 /// The request of a client behind its tag.
 #[tactic(auto, unfolding(fs_wire::specs::Readers::either_at, fs_wire::specs::Readers::map_at))]
-pub(crate) fn client_of(alloc: Global, tag: u8, rest: &[u8]) -> Result<(ClientMsg, &[u8]), ReadError>
+pub(crate) fn client_of(
+    alloc: Global,
+    tag: u8,
+    rest: &[u8],
+) -> Result<(ClientMsg, &[u8]), ReadError>
     ensures { Gives (λ x. (x.0, x.1.now)) result (client_of tag rest.now) }
 {
     match tag {

@@ -3,7 +3,7 @@ use Rattle.fs_wire.specs.declared.fault.ReadError.{ReadError}
 use Rattle.fs_wire.specs.Readers.{Fails}
 use Rattle.fs_msg.specs.Reading.{message_at}
 use Rattle.fs_msg.proofs.Exact.{read-within, left-within}
-use Rattle.fs_msg.proofs.reading.front_of.Goals as goal
+use Rattle.fs_msg.proofs.reading.prefix_of.Goals as goal
 
 pub overflow_sub-result : goal.overflow_sub-result
 overflow_sub-result c = read-within c.args.bytes.now (c.in-Ok.m, c.in-Ok.rest.now) (λ i. omega (arith, c.type_inv.bytes i)) c.in-Ok.ensures
