@@ -220,7 +220,9 @@ fn change_own(
             h,
             modes,
         } if f == file && *session == s => with_handle(alloc, own, *h, *modes)?,
-        Effect::RemoveHandle { file, session, h } if f == file && *session == s => without_handle(own, *h),
+        Effect::RemoveHandle { file, session, h } if f == file && *session == s => without_handle(
+            own, *h,
+        ),
         _ => {}
     }
     Ok(())

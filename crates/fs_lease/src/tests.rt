@@ -1,46 +1,89 @@
-//! The life of a lease.
-use crate::lease::{Held, Unpinned};
+//! The life of a lease, and copies compared whole.
+ghost use Rattle.std.specs.Prelude.{◌≡◌};
+
+use crate::held::Held;
+use crate::leaving::Leaving;
+use crate::pinned::{Pinned, Unpinned};
 use fs_field::{Field, LeaseKind};
 use fs_ident::{FileId, LeaseNo, Twin};
+use std::alloc::Global;
+use std::fmt::Debug;
+use std::process::Abort;
 
-/// A lease is pinned by two entries, freed, renewed, copied and given back.
-#[test]
-fn from_grant_to_release(rt: HostRuntime) {
-    let alloc = rt.alloc();
-    let no = LeaseNo {
-        server: 0,
-        count: 1,
-    };
-    let held = Held::new(
-        no,
+const NO: LeaseNo = LeaseNo {
+    server: 1,
+    count: 7,
+};
+
+/// Whether a copy of the value reads as the value does.
+fn is_copied<T: Twin + Debug>(alloc: Global, x: &T) -> bool {
+    match x.copy(alloc) {
+        Ok(twin) => {
+            let copied = format!(in alloc; "{twin:?}");
+            twin.discard();
+            let wanted = format!(in alloc; "{x:?}");
+            match (copied, wanted) {
+                (Ok(copied), Ok(wanted)) => copied == wanted,
+                _ => false,
+            }
+        }
+        Err(_) => false,
+    }
+}
+
+/// An exclusive lease on size and stamp of the root, until 100.
+fn granted(alloc: Global) -> Held
+    ensures { result.until ≡ 100 }
+{
+    Held::new(
+        NO,
         Field::Info(FileId::root(alloc)),
         LeaseKind::Exclusive,
         100,
-    );
-    assert_eq!(rt; held.no(), no);
-    assert_eq!(rt; held.kind(), LeaseKind::Exclusive);
-    assert_eq!(rt; held.until(), 100);
-    assert!(rt; held.field().file().numbers().is_empty());
+    )
+}
+
+/// It is held, and its copy too.
+fn is_held(rt: &impl Abort, alloc: Global, lease: &Held, until: u64) {
+    assert_eq!(rt; lease.no(), NO);
+    assert_eq!(rt; lease.kind(), LeaseKind::Exclusive);
+    assert_eq!(rt; lease.until(), until);
+    assert!(rt; lease.field().file().numbers().is_empty());
+    assert!(rt; is_copied(alloc, lease));
+}
+
+/// So many entries use it, and its copy too.
+fn is_pinned(rt: &impl Abort, alloc: Global, lease: &Pinned, until: u64, entries: u64) {
+    assert_eq!(rt; lease.no(), NO);
+    assert_eq!(rt; lease.kind(), LeaseKind::Exclusive);
+    assert_eq!(rt; lease.until(), until);
+    assert!(rt; lease.field().file().numbers().is_empty());
+    assert_eq!(rt; lease.entries(), entries);
+    assert!(rt; is_copied(alloc, lease));
+}
+
+/// It leaves, and its copy too.
+fn is_leaving(rt: &impl Abort, alloc: Global, lease: &Leaving) {
+    assert_eq!(rt; lease.no(), NO);
+    assert!(rt; lease.file().numbers().is_empty());
+    assert!(rt; is_copied(alloc, lease));
+}
+
+/// A lease is pinned by two entries, renewed, freed, renewed and given back.
+#[test]
+fn from_grant_to_release(rt: HostRuntime) {
+    let alloc = rt.alloc();
+    let held = granted(alloc);
+    is_held(&rt, alloc, &held, 100);
     let pinned = held.pin().more().renewed(200);
-    assert_eq!(rt; pinned.no(), no);
-    assert_eq!(rt; pinned.kind(), LeaseKind::Exclusive);
-    assert_eq!(rt; pinned.until(), 200);
-    assert!(rt; pinned.field().file().numbers().is_empty());
-    assert_eq!(rt; pinned.entries(), 2);
-    if let Ok(twin) = pinned.copy(alloc) {
-        twin.discard();
-    }
+    is_pinned(&rt, alloc, &pinned, 200, 2);
     match pinned.unpin() {
         Unpinned::Free(held) => held.discard(),
         Unpinned::Still(pinned) => match pinned.unpin() {
             Unpinned::Still(pinned) => pinned.discard(),
             Unpinned::Free(held) => {
                 let leaving = held.renewed(300).leave();
-                assert_eq!(rt; leaving.no(), no);
-                assert!(rt; leaving.file().numbers().is_empty());
-                if let Ok(twin) = leaving.copy(alloc) {
-                    twin.discard();
-                }
+                is_leaving(&rt, alloc, &leaving);
                 leaving.released();
             }
         },
@@ -50,19 +93,5 @@ fn from_grant_to_release(rt: HostRuntime) {
 /// A lease ends at a reading that is no less than its end.
 #[test]
 fn from_grant_to_end(rt: HostRuntime) {
-    let alloc = rt.alloc();
-    let no = LeaseNo {
-        server: 0,
-        count: 2,
-    };
-    let held = Held::new(
-        no,
-        Field::Names(FileId::root(alloc)),
-        LeaseKind::Shared,
-        100,
-    );
-    if let Ok(twin) = held.copy(alloc) {
-        twin.discard();
-    }
-    held.ended(100);
+    granted(rt.alloc()).ended(100);
 }
