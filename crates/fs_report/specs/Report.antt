@@ -11,7 +11,8 @@ use Rattle.fs_msg.specs.declared.item.Item.{Item}
 use Rattle.fs_msg.specs.declared.note.Note.{Note}
 use Rattle.fs_schedule.specs.Spelling.{kind_text}
 use Rattle.fs_schedule.specs.declared.outcome.Outcome.{Outcome}
-use Rattle.fs_report.specs.Texts.{quoted, session_text, peer_text, who_text, op_text, reply_text, note_text}
+use Rattle.fs_ident.specs.Texts.{quoted, session_text, peer_text}
+use Rattle.fs_report.specs.Texts.{who_text, op_text, reply_text, note_text}
 
 -- ## Outcomes
 
@@ -49,12 +50,12 @@ abbrev pub handle_text : List ℕ → Handle → List ℕ
 handle_text id x = codes "h " ++ (id_text id ++ (codes " " ++ (session_text x.session ++ (codes " " ++ (decimal x.h ++ (codes " " ++ (acc_text x.modes ++ (codes " " ++ (deny_text x.modes ++ codes "\n")))))))))
 
 -- the directory and the name, for all but the root
-abbrev pub place_text : Option (List ℕ × List ℕ) → List ℕ
-place_text None = []
-place_text (Some p) = codes " in " ++ (id_text p.0 ++ (codes " " ++ quoted p.1))
+abbrev pub parent_text : Option (List ℕ × List ℕ) → List ℕ
+parent_text None = []
+parent_text (Some p) = codes " in " ++ (id_text p.0 ++ (codes " " ++ quoted p.1))
 
 abbrev pub node_text : List ℕ → Node → List ℕ
-node_text id n = codes "n " ++ (id_text id ++ (codes " " ++ (kind_text n.kind ++ (codes " " ++ (decimal n.size ++ (codes " " ++ (decimal n.stamp ++ (place_text n.parent ++ codes "\n"))))))))
+node_text id n = codes "n " ++ (id_text id ++ (codes " " ++ (kind_text n.kind ++ (codes " " ++ (decimal n.size ++ (codes " " ++ (decimal n.stamp ++ (parent_text n.parent ++ codes "\n"))))))))
 
 -- a node's line and those of its handles
 abbrev pub file_text : List ℕ → Option Node → List ℕ

@@ -1,10 +1,9 @@
--- How replies, notes and actors are written.
+-- How operations, replies and notes are written.
 use Rattle.std.specs.Prelude.{ℕ, List, [], ◌∷◌, ◌++◌, codes, Option, Some, None, flat_map}
 use Rattle.std.specs.Fmt.{decimal}
 use Rattle.fs_ident.specs.IdText.{id_text}
-use Rattle.fs_ident.specs.declared.actor.Session.{Session}
+use Rattle.fs_ident.specs.Texts.{quoted, session_text, peer_text}
 use Rattle.fs_ident.specs.declared.actor.Peer.{Peer}
-use Rattle.fs_ident.specs.declared.actor.Peer.TheVariants.{Server, Client}
 use Rattle.fs_model.specs.declared.op.Op.{Op}
 use Rattle.fs_model.specs.declared.op.Op.TheVariants as op
 use Rattle.fs_model.specs.declared.reply.Reply.{Reply}
@@ -13,17 +12,6 @@ use Rattle.fs_msg.specs.declared.note.Note.{Note}
 use Rattle.fs_msg.specs.declared.note.Note.TheVariants as note
 use Rattle.fs_schedule.specs.Spelling.{op_words}
 use Rattle.fs_schedule.specs.Words.{line_text}
-
--- a name in double quotes
-abbrev pub quoted : List ℕ → List ℕ
-quoted name = 34 ∷ name ++ 34 ∷ []
-
-abbrev pub session_text : Session → List ℕ
-session_text s = codes "c" ++ decimal s.0
-
-abbrev pub peer_text : Peer → List ℕ
-peer_text (Server k) = codes "s" ++ decimal k
-peer_text (Client s) = session_text s
 
 -- a dash where there is none
 abbrev pub who_text : Option Peer → List ℕ

@@ -1,6 +1,6 @@
 //! The lines of one file: its node's and its handles'.
 ghost use Rattle.std.specs.Prelude.{◌≡◌, ◌++◌, OnOk, flat_map, Some};
-ghost use Rattle.fs_report.specs.Report.{handle_text, place_text, node_text, file_text};
+ghost use Rattle.fs_report.specs.Report.{handle_text, parent_text, node_text, file_text};
 
 use crate::pieces::{
     next_id, next_kind, next_modes, next_name, next_number, next_session, put_bytes,
@@ -34,18 +34,18 @@ fn put_node(alloc: Global, id: &FileId, node: &Node, out: &mut Vec<u8>) -> Resul
     next_kind(node.kind, out)?;
     next_number(alloc, node.size, out)?;
     next_number(alloc, node.stamp, out)?;
-    put_place(alloc, &node.parent, out)?;
+    put_parent(alloc, &node.parent, out)?;
     out.push(b'\n')?;
     Ok(())
 }
 
 /// The directory and the name, for all but the root.
-fn put_place(
+fn put_parent(
     alloc: Global,
     parent: &Option<(FileId, Name)>,
     out: &mut Vec<u8>,
 ) -> Result<(), Memory>
-    ensures { OnOk result (out.new.items ≡ out.old.items ++ place_text parent.now) }
+    ensures { OnOk result (out.new.items ≡ out.old.items ++ parent_text parent.now) }
 {
     let Some((dir, name)) = parent else {
         return Ok(());

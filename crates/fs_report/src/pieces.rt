@@ -4,7 +4,8 @@ ghost use Rattle.std.specs.Fmt.{decimal};
 ghost use Rattle.fs_ident.specs.IdText.{id_text};
 ghost use Rattle.fs_modes.specs.Letters.{acc_text, deny_text};
 ghost use Rattle.fs_schedule.specs.Spelling.{kind_text};
-ghost use Rattle.fs_report.specs.Texts.{quoted, session_text, peer_text, who_text, id_or_dash};
+ghost use Rattle.fs_ident.specs.Texts.{quoted, session_text, peer_text};
+ghost use Rattle.fs_report.specs.Texts.{who_text, id_or_dash};
 
 use fs_ident::{FileId, Kind, Memory, Name, Peer, Session};
 use fs_modes::Modes;
@@ -84,21 +85,18 @@ pub(crate) fn next_kind(kind: Kind, out: &mut Vec<u8>) -> Result<(), Memory>
 pub(crate) fn next_session(alloc: Global, session: Session, out: &mut Vec<u8>) -> Result<(), Memory>
     ensures { OnOk result (out.new.items ≡ out.old.items ++ 32 ∷ session_text session) }
 {
-    put_bytes(b" c", out)?;
-    put_number(alloc, u64::from(session.0), out)
+    let text = session.to_string(alloc)?;
+    out.push(b' ')?;
+    put_bytes(text.as_bytes(), out)
 }
 
 /// A space and a server or a client.
 pub(crate) fn next_peer(alloc: Global, peer: Peer, out: &mut Vec<u8>) -> Result<(), Memory>
     ensures { OnOk result (out.new.items ≡ out.old.items ++ 32 ∷ peer_text peer) }
 {
-    match peer {
-        Peer::Server(server) => {
-            put_bytes(b" s", out)?;
-            put_number(alloc, u64::from(server), out)
-        }
-        Peer::Client(session) => next_session(alloc, session, out),
-    }
+    let text = peer.to_string(alloc)?;
+    out.push(b' ')?;
+    put_bytes(text.as_bytes(), out)
 }
 
 /// A space and the actor, or a dash where there is none.

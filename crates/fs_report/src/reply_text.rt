@@ -1,6 +1,7 @@
 //! The texts of replies and notes.
 ghost use Rattle.std.specs.Prelude.{◌≡◌, ◌++◌, ◌∷◌, OnOk, flat_map};
-ghost use Rattle.fs_report.specs.Texts.{quoted, reply_text, note_text};
+ghost use Rattle.fs_ident.specs.Texts.{quoted};
+ghost use Rattle.fs_report.specs.Texts.{reply_text, note_text};
 
 use crate::pieces::{next_id, next_name, next_number, put_bytes};
 use fs_ident::{Memory, Name};

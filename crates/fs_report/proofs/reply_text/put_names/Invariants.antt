@@ -1,6 +1,6 @@
 use Rattle.std.proofs.Common.{◌≡◌, ◌∷◌, ◌++◌, take}
 use Rattle.std.specs.Prelude.{flat_map}
-use Rattle.fs_report.specs.Texts.{quoted}
+use Rattle.fs_ident.specs.Texts.{quoted}
 use Rattle.fs_report.proofs.reply_text.put_names.Given as goal
 
 abbrev pub invariant-loop-name : goal.invariant-loop-name
