@@ -1,3 +1,4 @@
 pub mod Headline
 pub mod Usage
 pub mod Status
+pub mod Lines

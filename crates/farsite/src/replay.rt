@@ -7,6 +7,7 @@ ghost use Rattle.fs_world.specs.World.{first_world, meets_spent, run_of};
 ghost use Rattle.farsite.specs.Headline.{report_of};
 
 use fs_ident::{List, Memory};
+use fs_model::Space;
 use fs_msg::{CoreError, Item};
 use fs_report::{done_line, item_line, outcome_line, space_lines};
 use fs_schedule::{Outcome, Schedule};
@@ -20,7 +21,8 @@ pub(crate) fn report_of(alloc: Global, schedule: &Schedule) -> Result<Vec<u8>, C
         meets_spent (first_world schedule.now.head) schedule.now.events ≡ true }
 {
     let (world, told) = run(alloc, schedule)?;
-    Ok(written(alloc, &world, &told)?)
+    let space = world.space(alloc)?;
+    Ok(written(alloc, &told, world.journal(), &space)?)
 }
 
 /// The world after the events of the schedule, and what each of them came to.
@@ -33,25 +35,31 @@ fn run(alloc: Global, schedule: &Schedule) -> Result<(World, List<Outcome>), Cor
     let mut told = List::new(alloc);
     let mut world = World::new(alloc, &schedule.head)?;
     for e in schedule.events.as_slice() {
-        let outcome = world.step(alloc, e)?;
-        told.push(outcome)?;
+        match world.step(alloc, e) {
+            Ok(outcome) => told.push(outcome)?,
+            Err(e) => return Err(e),
+        }
     }
     Ok((world, told))
 }
 
-/// The lines of a world in which this was told.
-fn written(alloc: Global, world: &World, told: &List<Outcome>) -> Result<Vec<u8>, Memory>
-    ensures { IfOk result (λ v. v.items ≡ report_text told.now world.now.journal world.now.space) }
+/// The lines of what was told, of the journal and of the namespace at the end.
+fn written(
+    alloc: Global,
+    told: &List<Outcome>,
+    journal: &List<Item>,
+    space: &Space,
+) -> Result<Vec<u8>, Memory>
+    ensures { IfOk result (λ v. v.items ≡ report_text told.now journal.now space.now) }
 {
     let mut report = Vec::new(alloc);
     outcomes(alloc, told, &mut report)?;
-    items(alloc, world.journal(), &mut report)?;
-    let space = world.space(alloc)?;
-    space_lines(alloc, &space, &mut report)?;
+    items(alloc, journal, &mut report)?;
+    space_lines(alloc, space, &mut report)?;
     let events = told.len() as u64;
-    let journal = world.journal().len() as u64;
+    let admitted = journal.len() as u64;
     let nodes = space.len() as u64;
-    done_line(alloc, events, journal, nodes, &mut report)?;
+    done_line(alloc, events, admitted, nodes, &mut report)?;
     Ok(report)
 }
 
