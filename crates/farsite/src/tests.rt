@@ -91,54 +91,58 @@ fn the_deepest_directory(rt: HostRuntime) -> Result<(), Fail> {
     Ok(())
 }
 
+const NONE: &[u8] = b"";
+
 #[test]
-fn faults_and_limits(rt: HostRuntime) -> Result<(), Fail> {
+fn faulty_lines(rt: HostRuntime) -> Result<(), Fail> {
     let alloc = rt.alloc();
     let line = |line: u64| Status::BadLine { line };
-    let limit = |which: Which, at: u64| Status::Limit { which, at };
-    let none = b"".as_slice();
+    let limit = |which: Which| Status::Limit { which, at: 3 };
     let create = b"farsite 1 direct\n0 do c1 create / \"".as_slice();
     let end = b"\" dir\n".as_slice();
-    for (head, copy, times, tail, want) in [
-        (none, none, 0, none, line(1)),
-        (b"\n".as_slice(), none, 0, none, line(1)),
+    for (head, times, tail, want) in [
+        (NONE, 0, NONE, line(1)),
+        (NONE, 0, b"\n".as_slice(), line(1)),
         (
             HEAD,
-            none,
             0,
             b"0 do c1 create / \"a:b\" dir\n".as_slice(),
             line(3),
         ),
-        (create, b"x".as_slice(), 255, end, Status::Done),
-        (create, b"x".as_slice(), 256, end, line(2)),
-        (HEAD, b"x".as_slice(), 4_096, none, line(3)),
-        (HEAD, b"x".as_slice(), 4_097, none, limit(Which::Bytes, 3)),
+        (create, 255, end, Status::Done),
+        (create, 256, end, line(2)),
+        (HEAD, 4_096, NONE, line(3)),
+        (HEAD, 4_097, NONE, limit(Which::Bytes)),
         (
             HEAD,
-            none,
             0,
             b"0 join c1001\nx\n".as_slice(),
-            limit(Which::Sessions, 3),
+            limit(Which::Sessions),
         ),
-        (HEAD, none, 0, b"x\n0 join c1001\n".as_slice(), line(3)),
-        (
-            b"farsite 1 direct\n".as_slice(),
-            b"0 join c1\n".as_slice(),
-            65_537,
-            none,
-            limit(Which::Events, 65_538),
-        ),
-        (
-            HEAD,
-            b"x".as_slice(),
-            16_777_200,
-            none,
-            Status::TooLong { limit: 16_777_216 },
-        ),
+        (HEAD, 0, b"x\n0 join c1001\n".as_slice(), line(3)),
     ] {
-        let (status, written) = replayed(alloc, head, copy, times, tail)?;
+        let (status, written) = replayed(alloc, head, b"x", times, tail)?;
         assert_eq!(rt; status, want);
         assert_eq!(rt; written.is_empty(), want != Status::Done);
+    }
+    Ok(())
+}
+
+#[test]
+fn limits_of_the_input(rt: HostRuntime) -> Result<(), Fail> {
+    let alloc = rt.alloc();
+    let events = Status::Limit {
+        which: Which::Events,
+        at: 65_538,
+    };
+    let long = Status::TooLong { limit: 16_777_216 };
+    for (copy, times, want) in [
+        (b"0 join c1\n".as_slice(), 65_537, events),
+        (b"x".as_slice(), 16_777_200, long),
+    ] {
+        let (status, written) = replayed(alloc, b"farsite 1 direct\n", copy, times, b"")?;
+        assert_eq!(rt; status, want);
+        assert!(rt; written.is_empty());
     }
     Ok(())
 }

@@ -52,6 +52,8 @@ pub fn farsite<S: Source, K: Sink, C: Clock, L: Link>(
     ensures read_fault { result ≡ Status.ReadFault →
         Rose (S.faults input.old) (S.faults input.new) }
     ensures write_fault { result ≡ Status.WriteFault → Rose (K.faults out.old) (K.faults out.new) }
+    ensures quiet_input { result ≢ Status.ReadFault → S.faults input.new ≡ S.faults input.old }
+    ensures quiet_output { result ≢ Status.WriteFault → K.faults out.new ≡ K.faults out.old }
     ensures prefix { result ≡ Status.WriteFault →
         IfSome (S.left input.old) (λ bytes. IsPartOfReplay bytes (K.written out.old)
         (K.written out.new)) }
@@ -81,6 +83,7 @@ fn replay<K: Sink>(alloc: Global, bytes: &[u8], out: &mut K) -> Status
     ensures too_long { (limit : ℕ) → result ≢ Status.TooLong limit }
     ensures read_fault { result ≢ Status.ReadFault }
     ensures write_fault { result ≡ Status.WriteFault → Rose (K.faults out.old) (K.faults out.new) }
+    ensures quiet { result ≢ Status.WriteFault → K.faults out.new ≡ K.faults out.old }
     ensures prefix { result ≡ Status.WriteFault →
         IsPartOfReplay bytes.now (K.written out.old) (K.written out.new) }
     ensures silent { result ≢ Status.Done → result ≢ Status.WriteFault → out.new ≡ out.old }

@@ -2,7 +2,7 @@
 ghost use Rattle.std.specs.Prelude.{if◌then◌else◌, ◌≡◌, ◌+◌, ◌^◌, ◌<◌, [], ◌∷◌, ◌++◌, length, slice_set, false, IfOk, OnOk, OnErr, Some, None, unwrap_or};
 ghost use Rattle.std.specs.FinMap as map;
 ghost use Rattle.fs_model.specs.Step.{step};
-ghost use Rattle.fs_model.specs.Sound.{changes};
+ghost use Rattle.fs_model.specs.Sound.{is_change};
 ghost use Rattle.fs_world.specs.World.{answer, answer_of, candidate, candidate_of, carried, create_answer, is_made, left, next_of};
 
 use crate::direct::Direct;
@@ -165,7 +165,7 @@ fn ask(alloc: Global, space: &mut Space, by: Session, op: Op) -> Result<Answered
 /// An equal reply. Only one that carries memory can fail to be copied, and such a reply is a read's.
 fn copy_of(alloc: Global, reply: &Reply) -> Result<Reply, Memory>
     ensures ok { IfOk result (λ twin. twin ≡ reply.now) }
-    ensures err { OnErr result (changes reply.now ≡ false) }
+    ensures err { OnErr result (is_change reply.now ≡ false) }
 {
     match reply {
         Reply::Made => Ok(Reply::Made),

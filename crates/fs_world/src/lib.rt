@@ -6,6 +6,8 @@ mod counts;
 mod direct;
 mod law;
 mod numbers;
+#[cfg(test)]
+mod tests;
 mod world;
 
 pub use law::{every_run_is_serial, no_short_run_is_spent};

@@ -5,7 +5,8 @@ ghost use Rattle.fs_msg.specs.declared.core_error.Counter.TheVariants.{Entries};
 ghost use Rattle.fs_msg.specs.declared.core_error.CoreError.TheVariants as errors;
 
 use crate::direct::Direct;
-use fs_ident::{List, Memory};
+use fs_ident::{List, Memory, Twin};
+use fs_model::Space;
 use fs_msg::{CoreError, Item};
 use fs_schedule::{Event, Head, Outcome};
 use std::alloc::Global;
@@ -61,5 +62,12 @@ impl World {
         ensures { result.now ≡ self.now.journal }
     {
         &self.direct.journal
+    }
+
+    /// A copy of the namespace.
+    pub fn space(&self, alloc: Global) -> Result<Space, Memory>
+        ensures { IfOk result (λ space. space ≡ self.now.space) }
+    {
+        self.direct.space.copy(alloc)
     }
 }
