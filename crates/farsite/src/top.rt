@@ -4,7 +4,7 @@ ghost use Rattle.std.specs.Io.KnownBytes.{Appends, IsAtEnd};
 ghost use Rattle.fs_io.specs.Bytes.{IsPrefixWritten};
 ghost use Rattle.fs_io.specs.Faults.{Rose};
 ghost use Rattle.fs_msg.specs.declared.core_error.Counter.{Counter};
-ghost use Rattle.fs_schedule.specs.Faults.{IsFirstFault, IsOutside, PassesLimit};
+ghost use Rattle.fs_schedule.specs.Faults.{AtLine, IsFirstFault, IsOutside, PassesLimit};
 ghost use Rattle.fs_schedule.specs.declared.error.Which.{Which};
 ghost use Rattle.farsite.specs.Headline.{IsReplay, IsPartOfReplay, IsReadWhole, MeetsSpent};
 ghost use Rattle.farsite.specs.Status.{read_status, schedule_status, core_status};
@@ -40,9 +40,9 @@ pub fn farsite<S: Source, K: Sink, C: Clock, L: Link>(
         (word ≡ understood (map string_bytes words.now) + 1)) }
     ensures unread { is_form (map string_bytes words.now) ≡ false → input.new ≡ input.old }
     ensures bad_line { (line : ℕ) → result ≡ Status.BadLine line →
-        IfSome (S.left input.old) (λ bytes. IsFirstFault IsOutside line bytes) }
+        IfSome (S.left input.old) (λ bytes. IsFirstFault (AtLine line IsOutside) bytes) }
     ensures limit { (which : Which) (at : ℕ) → result ≡ Status.Limit which at →
-        IfSome (S.left input.old) (λ bytes. IsFirstFault (PassesLimit which) at bytes) }
+        IfSome (S.left input.old) (λ bytes. IsFirstFault (AtLine at (PassesLimit which)) bytes) }
     ensures spent { (counter : Counter) → result ≡ Status.Spent counter →
         IfSome (S.left input.old) MeetsSpent }
     ensures short { IsReadWhole result →
@@ -76,9 +76,9 @@ fn replay<K: Sink>(alloc: Global, bytes: &[u8], out: &mut K) -> Status
         IsReplay bytes.now (K.written out.old) (K.written out.new) }
     ensures usage { (word : ℕ) → result ≢ Status.Usage word }
     ensures bad_line { (line : ℕ) → result ≡ Status.BadLine line →
-        IsFirstFault IsOutside line bytes.now }
+        IsFirstFault (AtLine line IsOutside) bytes.now }
     ensures limit { (which : Which) (at : ℕ) → result ≡ Status.Limit which at →
-        IsFirstFault (PassesLimit which) at bytes.now }
+        IsFirstFault (AtLine at (PassesLimit which)) bytes.now }
     ensures spent { (counter : Counter) → result ≡ Status.Spent counter → MeetsSpent bytes.now }
     ensures too_long { (limit : ℕ) → result ≢ Status.TooLong limit }
     ensures read_fault { result ≢ Status.ReadFault }
