@@ -4,9 +4,9 @@ use Rattle.std.specs.Prelude.{Option, Some, None}
 use Rattle.std.specs.List.{AllByRecursion}
 use Rattle.std.proofs.lemmas.Bool.Decides.{nat_tests}
 use Rattle.std.proofs.lemmas.List.{take_more}
-use Rattle.fs_schedule.specs.declared.word.Word.{Word}
-use Rattle.fs_schedule.specs.declared.word.Word.TheVariants.{Bare, Quoted}
-use Rattle.fs_schedule.specs.Words.{Lacks, joined, word_text, line_text, FitsWord, AreWords, begins_quoted}
+use Rattle.fs_schedule.specs.Words.{Word, Bare, Quoted}
+use Rattle.fs_schedule.specs.Words.{word_text, line_text}
+use Rattle.fs_schedule.specs.Separated.{Lacks, joined, FitsWord, AreWords, begins_quoted}
 use Rattle.fs_schedule.specs.Lines.{is_end, with_first, lines_of}
 
 -- ## Bytes without the separator

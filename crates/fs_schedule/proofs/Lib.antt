@@ -2,5 +2,6 @@ pub mod Cuts
 pub mod Asked
 pub mod Digits
 pub mod Spelled
-pub mod Reading
+pub mod Refusals
 pub mod Single
+pub mod Reading

@@ -1,56 +1,100 @@
--- Laws of reading the lines behind the head one after another.
-use Rattle.std.proofs.Common.{◌≡◌, ℕ, ◌<◌, ◌≤◌, ◌+◌, List, [], ◌∷◌, ◌++◌, length, refl, arith, sym, subst, append_assoc, inl, inr}
+-- Laws of reading the lines behind the first one after another.
+use Rattle.std.proofs.Common.{◌≡◌, ℕ, ◌<◌, ◌≤◌, ◌+◌, nat_lt, true, false, List, [], ◌∷◌, ◌++◌, length, refl, ap, arith, sym, ◌∙◌, subst, append_assoc, inl, inr}
+use Rattle.std.specs.Prelude.{min}
+use Rattle.std.specs.Fmt.{decimal}
 use Rattle.std.proofs.lemmas.List.{length_push}
+use Rattle.std.proofs.lemmas.Bool.Decides.{nat_tests}
+use Rattle.fs_ident.specs.declared.actor.Session.{Session}
+use Rattle.fs_ident.specs.declared.limits.TheConstants.{SESSIONS}
+use Rattle.fs_model.specs.declared.op.Op.{Op}
+use Rattle.fs_schedule.specs.declared.event.What.{What}
+use Rattle.fs_schedule.specs.declared.event.What.TheVariants.{Join, Do}
 use Rattle.fs_schedule.specs.declared.event.Event.{Event}
+use Rattle.fs_schedule.specs.declared.event.Head.{Head}
 use Rattle.fs_schedule.specs.declared.error.Which.{Which}
 use Rattle.fs_schedule.specs.declared.error.Which.TheVariants.{Bytes, Sessions, Events}
-use Rattle.fs_schedule.specs.Spelling.{session_of, IsLineOf, IsReadLine}
-use Rattle.fs_schedule.specs.Faults.{most_bytes, most_events, IsEventLine, NamesLateSession, Fault, PassesLimit, AreEventLines, FaultsAt, LineHas}
-use Rattle.fs_schedule.proofs.Digits.{exact}
+use Rattle.fs_schedule.specs.declared.limits.TheConstants.{BYTES, EVENTS}
+use Rattle.fs_schedule.specs.Words.{Bare, line_text}
+use Rattle.fs_schedule.specs.Spelling.{IsLineOf, names_late}
+use Rattle.fs_schedule.specs.Reading.{capped, capped_what, IsToldLine}
+use Rattle.fs_schedule.specs.Faults.{IsEventLine, NamesLateSession, Passes, LineFault, PassesLimit, AreEventLines, FaultsAt, LineHas}
 
 -- the events of the lines before those that are left
-pub record IsReadSoFar (events : List Event) (left all : List (List ℕ)) : Type 0 where
-  pub few : length events ≤ most_events
-  pub forth : (es : List Event) → AreEventLines (length events) es left → AreEventLines 0 (events ++ es) all
-  pub fault : (f : Fault) (at : ℕ) → FaultsAt f at (length events) left → FaultsAt f at 0 all
+pub record IsReadSoFar (head : Head) (events : List Event) (left all : List (List ℕ)) : Type 0 where
+  pub few : length events ≤ EVENTS
+  pub forth : (es : List Event) → AreEventLines head (length events) es left → AreEventLines head 0 (events ++ es) all
+  pub fault : (f : LineFault) (at : ℕ) → FaultsAt f head at (length events) left → FaultsAt f head at 0 all
 
-pub read_first : (all : List (List ℕ)) → IsReadSoFar [] all all
-read_first all = record { few = omega arith; forth = λ es h. h; fault = λ f at h. h }
+pub read_first : (head : Head) (all : List (List ℕ)) → IsReadSoFar head [] all all
+read_first head all = record { few = omega arith; forth = λ es h. h; fault = λ f at h. h }
 
-pub read_more : (events : List Event) (e : Event) (line : List ℕ) (left before all : List (List ℕ)) → before ≡ line ∷ left → IsReadSoFar events before all → (length line ≤ most_bytes) × IsEventLine e line × (length events < most_events) → IsReadSoFar (events ++ e ∷ []) left all
-read_more events e line left before all q h k =
+pub read_more : (head : Head) (events : List Event) (e : Event) (line : List ℕ) (left before all : List (List ℕ)) → before ≡ line ∷ left → IsReadSoFar head events before all → Passes head (length events) e line → IsReadSoFar head (events ++ e ∷ []) left all
+read_more head events e line left before all q h k =
     let n : length (events ++ e ∷ []) ≡ length events + 1 = length_push events e in
-    let P : List (List ℕ) → Type 0 = λ ls. IsReadSoFar events ls all in
+    let P : List (List ℕ) → Type 0 = λ ls. IsReadSoFar head events ls all in
     let g = subst P q h in
     record {
-      few = omega (arith, k.2);
-      forth = λ es a. let R : List Event → Type 0 = λ xs. AreEventLines 0 xs all in subst R (sym (append_assoc events (e ∷ []) es)) (g.forth (e ∷ es) (k.0, k.1, k.2, rw n at a));
-      fault = λ f at a. g.fault f at (inr (k.0, (e, k.1), k.2, rw n at a));
+      few = omega (arith, k.few);
+      forth = λ es a. let R : List Event → Type 0 = λ xs. AreEventLines head 0 xs all in subst R (sym (append_assoc events (e ∷ []) es)) (g.forth (e ∷ es) (k, rw n at a));
+      fault = λ f at a. g.fault f at (inr ((e, k), rw n at a));
     }
 
-pub read_last : (events : List Event) (e : Event) (line : List ℕ) (before all : List (List ℕ)) → before ≡ line ∷ [] → IsReadSoFar events before all → (length line ≤ most_bytes) × IsEventLine e line × (length events < most_events) → AreEventLines 0 (events ++ e ∷ []) all
-read_last events e line before all q h k =
-    let P : List (List ℕ) → Type 0 = λ ls. IsReadSoFar events ls all in
+pub read_last : (head : Head) (events : List Event) (e : Event) (line : List ℕ) (before all : List (List ℕ)) → before ≡ line ∷ [] → IsReadSoFar head events before all → Passes head (length events) e line → AreEventLines head 0 (events ++ e ∷ []) all
+read_last head events e line before all q h k =
+    let P : List (List ℕ) → Type 0 = λ ls. IsReadSoFar head events ls all in
     let g = subst P q h in
-    g.forth (e ∷ []) (k.0, k.1, k.2, refl)
+    g.forth (e ∷ []) (k, refl)
 
-pub fault_here : (events : List Event) (f : Fault) (at : ℕ) (line : List ℕ) (left before all : List (List ℕ)) → before ≡ line ∷ left → IsReadSoFar events before all → (at ≡ length events + 2) × LineHas f (length events) line → FaultsAt f at 0 all
-fault_here events f at line left before all q h k =
-    let P : List (List ℕ) → Type 0 = λ ls. IsReadSoFar events ls all in
+pub fault_here : (head : Head) (events : List Event) (f : LineFault) (at : ℕ) (line : List ℕ) (left before all : List (List ℕ)) → before ≡ line ∷ left → IsReadSoFar head events before all → (at ≡ length events + 2) × LineHas f head (length events) line → FaultsAt f head at 0 all
+fault_here head events f at line left before all q h k =
+    let P : List (List ℕ) → Type 0 = λ ls. IsReadSoFar head events ls all in
     let g = subst P q h in
     g.fault f at (inl k)
 
 -- ## One line
 
-pub late : (e : Event) (line : List ℕ) → IsReadLine e line → 1000 < (session_of e.what).0 → NamesLateSession line
-late e line h gt = let number = h.number in (h.digits, e, h.is_line, omega arith)
+late_number : (n : ℕ) → nat_lt SESSIONS (capped n) ≡ true → nat_lt SESSIONS n ≡ true
+late_number n e = grind (arith, nat_tests)
 
-pub in_time : (e : Event) (line : List ℕ) → IsReadLine e line → (session_of e.what).0 ≤ 1000 → IsEventLine e line
-in_time e line h le =
-    let P : List ℕ → Type 0 = λ ds. IsLineOf ds e line in
-    record { line_of = subst P (exact h.digits (session_of e.what).0 h.is_line.session h.number le) h.is_line; limit = le }
+same_number : (n : ℕ) → nat_lt SESSIONS (capped n) ≡ false → capped n ≡ n
+same_number n e = grind (arith, nat_tests)
 
-pub count_here : (before n : ℕ) (line : List ℕ) (e : Event) (which : Which) → Events ≡ which → n ≡ before + 2 → length line ≤ most_bytes → IsEventLine e line → most_events ≤ before → (n ≡ before + 2) × LineHas (PassesLimit which) before line
-count_here before n line e Bytes q m le h ge = absurd (cc)
-count_here before n line e Sessions q m le h ge = absurd (cc)
-count_here before n line e Events q m le h ge = (m, (le, (e, h), ge))
+late_what : (w : What) → names_late (capped_what w) ≡ true → names_late w ≡ true
+late_what (Join s) e = late_number s.0 e
+late_what (Do s o) e = late_number s.0 e
+
+same_what : (w : What) → names_late (capped_what w) ≡ false → capped_what w ≡ w
+same_what (Join s) e = ap (λ (n : ℕ). let r : What = Join (record { 0 = n }) in r) (same_number s.0 e)
+same_what (Do s o) e = ap (λ (n : ℕ). let r : What = Do (record { 0 = n }) o in r) (same_number s.0 e)
+
+-- the line is that of the event with this in its place
+full_line : (head : Head) (e : Event) (line : List ℕ) → (h : IsToldLine head e line) → IsLineOf head (record { reading = e.reading; what = h.1.1.2.0 }) line
+full_line head e line h = record { reading = h.1.0; words = h.1.1.0; what = h.1.1.2.1; text = h.2 ∙ ap line_text h.1.1.1 }
+
+pub late : (head : Head) (e : Event) (line : List ℕ) → IsToldLine head e line → names_late e.what ≡ true → NamesLateSession head line
+late head e line h t =
+    let full : What = h.1.1.2.0 in
+    let same : e.what ≡ capped_what full = h.1.1.2.2 in
+    (record { reading = e.reading; what = full }, full_line head e line h, late_what full (ap names_late (sym same) ∙ t))
+
+pub in_time : (head : Head) (e : Event) (line : List ℕ) → IsToldLine head e line → names_late e.what ≡ false → IsEventLine head e line
+in_time head e line h t =
+    let full : What = h.1.1.2.0 in
+    let same : e.what ≡ capped_what full = h.1.1.2.2 in
+    let whole : full ≡ e.what = sym (same ∙ same_what full (ap names_late (sym same) ∙ t)) in
+    let P : What → Type 0 = λ w. IsLineOf head (record { reading = e.reading; what = w }) line in
+    record { line_of = subst P whole (full_line head e line h); limit = t }
+
+pub count_here : (head : Head) (before n : ℕ) (line : List ℕ) (e : Event) (which : Which) → Events ≡ which → n ≡ before + 2 → length line ≤ BYTES → IsEventLine head e line → EVENTS ≤ before → (n ≡ before + 2) × LineHas (PassesLimit which) head before line
+count_here head before n line e Bytes q m le h ge = absurd (cc)
+count_here head before n line e Sessions q m le h ge = absurd (cc)
+count_here head before n line e Events q m le h ge = (m, (le, (e, h), ge))
+
+-- an event's line is told, with the session's number capped
+pub no_line : (head : Head) (e : Event) (line : List ℕ) → ((x : Event) → IsToldLine head x line → ⊥) → IsLineOf head e line → ⊥
+no_line head e line none h = none (record { reading = e.reading; what = capped_what e.what }) (Bare (decimal e.reading) ∷ h.words, (h.reading, (h.words, refl, (e.what, h.what, refl))), h.text)
+
+pub late_here : (head : Head) (before n : ℕ) (line : List ℕ) (which : Which) → Sessions ≡ which → n ≡ before + 2 → length line ≤ BYTES → NamesLateSession head line → (n ≡ before + 2) × LineHas (PassesLimit which) head before line
+late_here head before n line Bytes q m le h = absurd (cc)
+late_here head before n line Sessions q m le h = (m, (le, h))
+late_here head before n line Events q m le h = absurd (cc)

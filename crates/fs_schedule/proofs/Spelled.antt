@@ -1,6 +1,6 @@
 -- The words of events are words, so a line tells its words.
 use Rattle.std.proofs.Common.{◌≡◌, ℕ, ◌<◌, ◌+◌, ◌%◌, ◌^◌, ◌==◌, ◌&&◌, Bool, true, false, cond, not, List, [], ◌∷◌, refl, ap, arith, sym, ◌∙◌, subst}
-use Rattle.std.specs.Prelude.{Option, Some, None, codes, flat_map}
+use Rattle.std.specs.Prelude.{Option, Some, None, IfSome, codes, flat_map}
 use Rattle.std.specs.Char.{digit_value}
 use Rattle.std.specs.Fmt.{decimal}
 use Rattle.std.specs.List.{All, AllByRecursion, list_all, position_from}
@@ -19,13 +19,16 @@ use Rattle.fs_ident.specs.declared.kind.Kind.TheVariants.{File, Dir}
 use Rattle.fs_modes.specs.Letters.{letters, dashed}
 use Rattle.fs_model.specs.declared.op.Op.{Op}
 use Rattle.fs_model.specs.declared.op.Op.TheVariants as op
-use Rattle.fs_schedule.specs.declared.word.Word.{Word}
-use Rattle.fs_schedule.specs.declared.word.Word.TheVariants.{Bare, Quoted}
+use Rattle.fs_schedule.specs.Words.{Word, Bare, Quoted, line_text}
+use Rattle.fs_schedule.specs.declared.event.What.{What}
+use Rattle.fs_schedule.specs.declared.event.What.TheVariants.{Join, Do}
 use Rattle.fs_schedule.specs.declared.event.What.{What}
 use Rattle.fs_schedule.specs.declared.event.What.TheVariants.{Join, Do}
 use Rattle.fs_schedule.specs.declared.event.Event.{Event}
-use Rattle.fs_schedule.specs.Words.{Lacks, FitsWord, AreWords, begins_quoted, line_text}
-use Rattle.fs_schedule.specs.Spelling.{kind_text, op_words, FitsOp, session_text, IsSessionDigits, what_words, FitsWhat, event_words, IsLineOf, AreEventWords, IsRead, IsReadLine}
+use Rattle.fs_schedule.specs.declared.event.Head.{Head}
+use Rattle.fs_schedule.specs.Separated.{Lacks, FitsWord, AreWords, begins_quoted}
+use Rattle.fs_schedule.specs.Spelling.{kind_text, op_words, FitsOp, session_in, IsNumberOf, client_word, what_words, FitsWhat, IsSpelled, IsLineOf}
+use Rattle.fs_schedule.specs.Reading.{IsToldWhat, IsToldEvent, IsToldLine}
 use Rattle.fs_schedule.proofs.Cuts.{lacks_push, lacks_append, words_one}
 
 -- ## Bytes
@@ -142,39 +145,57 @@ digits_lack : (b : ℕ) (ds : List ℕ) → b < 48 → AllDigits 10 ds → Lacks
 digits_lack b [] low h = tt
 digits_lack b (d ∷ ds) low h = (digit_lacks b d low h.0, digits_lack b ds low h.1)
 
-fits_session : (digits : List ℕ) → IsSessionDigits digits → FitsWord (Bare (session_text digits))
-fits_session digits h = fits_bare (session_text digits) (refl, digits_lack 32 digits (omega arith) h.0.1) (refl, digits_lack 34 digits (omega arith) h.0.1)
+fits_client : (digits : List ℕ) (n : ℕ) → IsNumberOf digits n → FitsWord (client_word digits)
+fits_client digits n h = fits_bare (99 ∷ digits) (refl, digits_lack 32 digits (omega arith) h.valid.1) (refl, digits_lack 34 digits (omega arith) h.valid.1)
 
 -- ## Operations and events
 
 fits_op : (o : Op) → FitsOp o → AllByRecursion FitsWord (op_words o)
-fits_op (op.Lookup dir name) h = (fits_by (codes "lookup") refl, (fits_id dir h.0, (fits_name name h.1, tt)))
-fits_op (op.List dir) h = (fits_by (codes "list") refl, (fits_id dir h, tt))
-fits_op (op.Kind file) h = (fits_by (codes "kind") refl, (fits_id file h, tt))
-fits_op (op.Info file) h = (fits_by (codes "info") refl, (fits_id file h, tt))
-fits_op (op.Create dir name kind id) h = (fits_by (codes "create") refl, (fits_id dir h.0, (fits_name name h.1, (fits_kind kind, tt))))
-fits_op (op.OpenFile file n modes) h = (fits_by (codes "open") refl, (fits_id file h.0, (fits_decimal n (omega (arith, h.1)), (fits_letters modes.acc_r modes.acc_w modes.acc_d, (fits_dashed modes.deny_r modes.deny_w modes.deny_d, tt)))))
-fits_op (op.Close file n) h = (fits_by (codes "close") refl, (fits_id file h.0, (fits_decimal n (omega (arith, h.1)), tt)))
-fits_op (op.Set file n size stamp) h = (fits_by (codes "set") refl, (fits_id file h.0, (fits_decimal n (omega (arith, h.1)), (fits_decimal size h.2, (fits_decimal stamp h.3, tt)))))
-fits_op (op.Delete dir name) h = (fits_by (codes "delete") refl, (fits_id dir h.0, (fits_name name h.1, tt)))
-fits_op (op.Rename sdir sname ddir dname) h = (fits_by (codes "rename") refl, (fits_id sdir h.0, (fits_name sname h.1, (fits_id ddir h.2, (fits_name dname h.3, tt)))))
-fits_op (op.Reap file session) h = absurd h
+fits_op (op.Lookup dir name) h = (fits_by (codes "lookup") refl, (fits_id dir h.1.0, (fits_name name h.1.1, tt)))
+fits_op (op.List dir) h = (fits_by (codes "list") refl, (fits_id dir h.1, tt))
+fits_op (op.Kind file) h = (fits_by (codes "kind") refl, (fits_id file h.1, tt))
+fits_op (op.Info file) h = (fits_by (codes "info") refl, (fits_id file h.1, tt))
+fits_op (op.Create dir name kind id) h = (fits_by (codes "create") refl, (fits_id dir h.1.0, (fits_name name h.1.1, (fits_kind kind, tt))))
+fits_op (op.OpenFile file n modes) h = (fits_by (codes "open") refl, (fits_id file h.1.0, (fits_decimal n (omega (arith, h.1.1)), (fits_letters modes.acc_r modes.acc_w modes.acc_d, (fits_dashed modes.deny_r modes.deny_w modes.deny_d, tt)))))
+fits_op (op.Close file n) h = (fits_by (codes "close") refl, (fits_id file h.1.0, (fits_decimal n (omega (arith, h.1.1)), tt)))
+fits_op (op.Set file n size stamp) h = (fits_by (codes "set") refl, (fits_id file h.1.0, (fits_decimal n (omega (arith, h.1.1)), (fits_decimal size h.1.2, (fits_decimal stamp h.1.3, tt)))))
+fits_op (op.Delete dir name) h = (fits_by (codes "delete") refl, (fits_id dir h.1.0, (fits_name name h.1.1, tt)))
+fits_op (op.Rename sdir sname ddir dname) h = (fits_by (codes "rename") refl, (fits_id sdir h.1.0, (fits_name sname h.1.1, (fits_id ddir h.1.2, (fits_name dname h.1.3, tt)))))
+fits_op (op.Reap file session) h = absurd (no_reap h.0)
+  where
+    no_reap : false ≡ true → ⊥
+    no_reap e = cc
 
-fits_what : (digits : List ℕ) (w : What) → IsSessionDigits digits → FitsWhat w → AllByRecursion FitsWord (what_words digits w)
-fits_what digits (Join s) h k = (fits_by (codes "join") refl, (fits_session digits h, tt))
-fits_what digits (Do s o) h k = (fits_by (codes "do") refl, (fits_session digits h, fits_op o k))
+fits_words : (head : Head) (w : What) (digits : List ℕ) → IfSome (session_in w) (λ s. IsNumberOf digits s.0) → FitsWhat head w → AllByRecursion FitsWord (what_words digits w)
+fits_words head (Join s) digits h k = (fits_by (codes "join") refl, (fits_client digits s.0 h, tt))
+fits_words head (Do s o) digits h k = (fits_by (codes "do") refl, (fits_client digits s.0 h, fits_op o k))
 
-pub are_event_words : (digits : List ℕ) (e : Event) (line : List ℕ) → IsLineOf digits e line → AreWords (event_words digits e) line
-are_event_words digits e line h = (fits_decimal e.reading (omega (arith, h.reading)), fits_what digits e.what h.session h.what, h.text)
+fits_what : (head : Head) (w : What) (words : List Word) → IsSpelled head w words → AllByRecursion FitsWord words
+fits_what head w words h = subst (AllByRecursion FitsWord) (sym h.spelled) (fits_words head w h.digits h.session h.fits)
+
+-- the words of a line are words
+pub are_event_words : (head : Head) (e : Event) (line : List ℕ) → (h : IsLineOf head e line) → AreWords (Bare (decimal e.reading) ∷ h.words) line
+are_event_words head e line h = (fits_decimal e.reading (omega (arith, h.reading)), fits_what head e.what h.words h.what, h.text)
 
 text_of : (ws : List Word) (line : List ℕ) → AreWords ws line → line ≡ line_text ws
 text_of [] line h = absurd h
 text_of (w ∷ ws) line h = h.2
 
-pub read_line : (ws : List Word) (e : Event) (line : List ℕ) → AreWords ws line → IsRead e ws → IsReadLine e line
-read_line ws e line h r =
-    let a = r.are_words in
-    record { digits = r.digits; is_line = record { reading = a.reading; session = a.session; what = a.what; text = text_of ws line h ∙ ap line_text a.spelled }; number = r.number }
+-- a line tells what its words tell
+pub told_line : (head : Head) (e : Event) (ws : List Word) (line : List ℕ) → AreWords ws line → IsToldEvent head e ws → IsToldLine head e line
+told_line head e ws line a h = (ws, h, text_of ws line a)
 
-pub spelled_words : (ws : List Word) (digits : List ℕ) (e : Event) (line : List ℕ) → AreWords ws line → IsLineOf digits e line → AreEventWords digits e ws
-spelled_words ws digits e line h l = record { reading = l.reading; session = l.session; what = l.what; spelled = words_one ws (event_words digits e) line h (are_event_words digits e line l) }
+told_words : (head : Head) (e : Event) (ws : List Word) (line : List ℕ) → IsToldEvent head e ws → line ≡ line_text ws → AreWords ws line
+told_words head e ws line h q =
+    let are : AreWords (Bare (decimal e.reading) ∷ h.1.0) (line_text ws) = (fits_decimal e.reading (omega (arith, h.0)), fits_what head h.1.2.0 h.1.0 h.1.2.1, ap line_text h.1.1) in
+    let P : List Word → Type 0 = λ vs. AreWords vs (line_text ws) in
+    subst (AreWords ws) (sym q) (subst P (sym h.1.1) are)
+
+pub told_by_words : (head : Head) (e : Event) (ws : List Word) (line : List ℕ) → AreWords ws line → IsToldLine head e line → IsToldEvent head e ws
+told_by_words head e ws line a h =
+    let P : List Word → Type 0 = λ vs. IsToldEvent head e vs in
+    subst P (words_one h.0 ws line (told_words head e h.0 line h.1 h.2) a) h.1
+
+-- a line of no words tells nothing
+pub told_has_words : (head : Head) (e : Event) (line : List ℕ) → ((ws : List Word) → AreWords ws line → ⊥) → IsToldLine head e line → ⊥
+told_has_words head e line none h = none h.0 (told_words head e h.0 line h.1 h.2)

@@ -1,86 +1,91 @@
--- Which texts are schedules, and which line of any other is the first faulty one.
-use Rattle.std.specs.Prelude.{◌≡◌, ℕ, ◌+◌, ◌<◌, ◌≤◌, List, [], ◌∷◌, length, ◌⊎◌}
-use Rattle.std.specs.Fmt.{decimal}
-use Rattle.std.specs.Str.Parse.{digits_value}
+-- Which texts are schedules, and what is wrong with any other.
+use Rattle.std.specs.Prelude.{◌≡◌, ℕ, ◌+◌, ◌<◌, ◌≤◌, Bool, true, false, List, [], ◌∷◌, length, ◌⊎◌}
 use Rattle.fs_schedule.specs.declared.event.Event.{Event}
 use Rattle.fs_schedule.specs.declared.event.Schedule.{Schedule}
-use Rattle.fs_schedule.specs.declared.event.Head.TheVariants.{Direct}
+use Rattle.fs_schedule.specs.declared.event.Head.{Head}
 use Rattle.fs_schedule.specs.declared.error.Which.{Which}
 use Rattle.fs_schedule.specs.declared.error.Which.TheVariants.{Bytes, Sessions, Events}
-use Rattle.fs_schedule.specs.Spelling.{head_line, IsLineOf, session_of}
+use Rattle.fs_schedule.specs.declared.limits.TheConstants.{BYTES, EVENTS}
+use Rattle.fs_schedule.specs.Spelling.{IsHeadLine, IsLineOf, names_late}
 use Rattle.fs_schedule.specs.Lines.{lines_of}
 
-abbrev pub most_bytes : ℕ
-most_bytes = 4096
-
-abbrev pub most_sessions : ℕ
-most_sessions = 1000
-
-abbrev pub most_events : ℕ
-most_events = 65536
-
--- ## Lines
+-- ## Lines behind the first
 
 -- the line is the event's, and its session's number is within the limit
-pub record IsEventLine (e : Event) (line : List ℕ) : Type 0 where
-  pub line_of : IsLineOf (decimal (session_of e.what).0) e line
-  pub limit : (session_of e.what).0 ≤ most_sessions
+pub record IsEventLine (head : Head) (e : Event) (line : List ℕ) : Type 0 where
+  pub line_of : IsLineOf head e line
+  pub limit : names_late e.what ≡ false
 
 -- the line is no event's
-abbrev pub IsNoEvent : List ℕ → Type 0
-IsNoEvent line = (digits : List ℕ) (e : Event) → IsLineOf digits e line → ⊥
+abbrev pub IsNoEvent : Head → List ℕ → Type 0
+IsNoEvent head line = (e : Event) → IsLineOf head e line → ⊥
 
 -- the line is an event's but for a session's number above the limit
-abbrev pub NamesLateSession : List ℕ → Type 0
-NamesLateSession line = (digits : List ℕ) × (e : Event) × IsLineOf digits e line × (most_sessions < digits_value 10 digits)
+abbrev pub NamesLateSession : Head → List ℕ → Type 0
+NamesLateSession head line = (e : Event) × IsLineOf head e line × (names_late e.what ≡ true)
 
--- ## Faults, in the order in which a line is tested
+-- a line after so many events passes, and is the event's
+pub record Passes (head : Head) (before : ℕ) (e : Event) (line : List ℕ) : Type 0 where
+  pub short : length line ≤ BYTES
+  pub event : IsEventLine head e line
+  pub few : before < EVENTS
 
-pub data Fault : Type 0 where
-  PassesLimit : Which → Fault
-  IsOutside : Fault
+-- ## Faults of lines, in the order in which a line is tested
+
+pub data LineFault : Type 0 where
+  PassesLimit : Which → LineFault
+  IsOutside : LineFault
+
+-- the first line passes, and names the form
+abbrev pub HeadPasses : Head → List ℕ → Type 0
+HeadPasses head line = (length line ≤ BYTES) × IsHeadLine head line
 
 -- the first line has this fault
-abbrev pub HeadHas : Fault → List ℕ → Type 0
-HeadHas (PassesLimit Bytes) line = most_bytes < length line
+abbrev pub HeadHas : LineFault → List ℕ → Type 0
+HeadHas (PassesLimit Bytes) line = BYTES < length line
 HeadHas (PassesLimit Sessions) line = ⊥
 HeadHas (PassesLimit Events) line = ⊥
-HeadHas IsOutside line = (length line ≤ most_bytes) × (line ≡ head_line → ⊥)
+HeadHas IsOutside line = (length line ≤ BYTES) × ((head : Head) → IsHeadLine head line → ⊥)
 
 -- a line after so many events has this fault
-abbrev pub LineHas : Fault → ℕ → List ℕ → Type 0
-LineHas (PassesLimit Bytes) before line = most_bytes < length line
-LineHas IsOutside before line = (length line ≤ most_bytes) × IsNoEvent line
-LineHas (PassesLimit Sessions) before line = (length line ≤ most_bytes) × NamesLateSession line
-LineHas (PassesLimit Events) before line = (length line ≤ most_bytes) × ((e : Event) × IsEventLine e line) × (most_events ≤ before)
+abbrev pub LineHas : LineFault → Head → ℕ → List ℕ → Type 0
+LineHas (PassesLimit Bytes) head before line = BYTES < length line
+LineHas IsOutside head before line = (length line ≤ BYTES) × IsNoEvent head line
+LineHas (PassesLimit Sessions) head before line = (length line ≤ BYTES) × NamesLateSession head line
+LineHas (PassesLimit Events) head before line = (length line ≤ BYTES) × ((e : Event) × IsEventLine head e line) × (EVENTS ≤ before)
 
--- these lines after the head are these events
-abbrev pub AreEventLines : ℕ → List Event → List (List ℕ) → Type 0
-AreEventLines before [] lines = lines ≡ []
-AreEventLines before (e ∷ es) [] = ⊥
-AreEventLines before (e ∷ es) (line ∷ lines) = (length line ≤ most_bytes) × IsEventLine e line × (before < most_events) × AreEventLines (before + 1) es lines
+-- these lines after so many events are these events
+abbrev pub AreEventLines : Head → ℕ → List Event → List (List ℕ) → Type 0
+AreEventLines head before [] lines = lines ≡ []
+AreEventLines head before (e ∷ es) [] = ⊥
+AreEventLines head before (e ∷ es) (line ∷ lines) = Passes head before e line × AreEventLines head (before + 1) es lines
 
--- of these lines after the head the one of number `at` is the first faulty one
-abbrev pub FaultsAt : Fault → ℕ → ℕ → List (List ℕ) → Type 0
-FaultsAt fault at before [] = ⊥
-FaultsAt fault at before (line ∷ lines) =
-    ((at ≡ before + 2) × LineHas fault before line)
-    ⊎ ((length line ≤ most_bytes) × ((e : Event) × IsEventLine e line) × (before < most_events) × FaultsAt fault at (before + 1) lines)
+-- of these lines after so many events the one of number `at` is the first faulty one
+abbrev pub FaultsAt : LineFault → Head → ℕ → ℕ → List (List ℕ) → Type 0
+FaultsAt fault head at before [] = ⊥
+FaultsAt fault head at before (line ∷ lines) =
+    ((at ≡ before + 2) × LineHas fault head before line)
+    ⊎ (((e : Event) × Passes head before e line) × FaultsAt fault head at (before + 1) lines)
 
 -- ## Texts
 
 abbrev pub AreLinesOf : Schedule → List (List ℕ) → Type 0
 AreLinesOf s [] = ⊥
-AreLinesOf s (line ∷ lines) = (s.head ≡ Direct) × (line ≡ head_line) × AreEventLines 0 s.events lines
+AreLinesOf s (line ∷ lines) = HeadPasses s.head line × AreEventLines s.head 0 s.events lines
 
 -- the text is the schedule's, within the limits
 abbrev pub IsScheduleText : Schedule → List ℕ → Type 0
 IsScheduleText s bytes = AreLinesOf s (lines_of bytes)
 
-abbrev pub LinesFaultAt : Fault → ℕ → List (List ℕ) → Type 0
+-- of all lines the one of number `at` is the first faulty one
+abbrev pub LinesFaultAt : LineFault → ℕ → List (List ℕ) → Type 0
 LinesFaultAt fault at [] = ⊥
-LinesFaultAt fault at (line ∷ lines) = ((at ≡ 1) × HeadHas fault line) ⊎ ((line ≡ head_line) × FaultsAt fault at 0 lines)
+LinesFaultAt fault at (line ∷ lines) = ((at ≡ 1) × HeadHas fault line) ⊎ ((head : Head) × HeadPasses head line × FaultsAt fault head at 0 lines)
 
--- the first faulty line of the text has this number and this fault
-abbrev pub IsFirstFault : Fault → ℕ → List ℕ → Type 0
-IsFirstFault fault at bytes = LinesFaultAt fault at (lines_of bytes)
+-- why a text is no schedule: a line, counted from 1, is faulty
+pub data Fault : Type 0 where
+  AtLine : ℕ → LineFault → Fault
+
+-- the text has this fault, and no line before it has one
+abbrev pub IsFirstFault : Fault → List ℕ → Type 0
+IsFirstFault (AtLine at fault) bytes = LinesFaultAt fault at (lines_of bytes)

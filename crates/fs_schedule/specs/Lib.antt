@@ -3,3 +3,6 @@ pub mod Spelling
 pub mod Lines
 pub mod Faults
 pub mod Limits
+-- cited by private calls alone
+pub mod Separated
+pub mod Reading

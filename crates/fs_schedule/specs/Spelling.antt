@@ -1,5 +1,5 @@
--- How the lines of a schedule are spelled.
-use Rattle.std.specs.Prelude.{◌≡◌, ◌≢◌, ℕ, ◌<◌, ◌≤◌, ◌^◌, true, List, [], ◌∷◌, codes, None, slice_index, min}
+-- Which lines a form has, and how they are spelled.
+use Rattle.std.specs.Prelude.{◌≡◌, ◌≢◌, ℕ, ◌<◌, ◌≤◌, ◌^◌, Bool, true, false, List, [], ◌∷◌, ◌++◌, codes, Option, Some, None, IfSome, slice_index, nat_lt}
 use Rattle.std.specs.Fmt.{decimal}
 use Rattle.std.specs.Str.Parse.{IsNumeral, digits_value}
 use Rattle.fs_ident.specs.Ident.{IsId}
@@ -8,27 +8,29 @@ use Rattle.fs_ident.specs.Name.{IsName}
 use Rattle.fs_ident.specs.declared.actor.Session.{Session}
 use Rattle.fs_ident.specs.declared.kind.Kind.{Kind}
 use Rattle.fs_ident.specs.declared.kind.Kind.TheVariants.{File, Dir}
-use Rattle.fs_modes.specs.Modes.{has_access}
+use Rattle.fs_ident.specs.declared.limits.TheConstants.{SESSIONS, LATEST}
 use Rattle.fs_modes.specs.Letters.{acc_text, deny_text}
+use Rattle.fs_model.specs.Asking.{may_ask}
 use Rattle.fs_model.specs.declared.op.Op.{Op}
 use Rattle.fs_model.specs.declared.op.Op.TheVariants as op
-use Rattle.fs_schedule.specs.declared.word.Word.{Word}
-use Rattle.fs_schedule.specs.declared.word.Word.TheVariants.{Bare, Quoted}
-use Rattle.fs_schedule.specs.declared.operation.Verb.{Verb}
-use Rattle.fs_schedule.specs.declared.operation.Verb.TheVariants as verb
+use Rattle.fs_schedule.specs.declared.event.Head.{Head}
+use Rattle.fs_schedule.specs.declared.event.Head.TheVariants.{Direct}
 use Rattle.fs_schedule.specs.declared.event.What.{What}
 use Rattle.fs_schedule.specs.declared.event.What.TheVariants.{Join, Do}
 use Rattle.fs_schedule.specs.declared.event.Event.{Event}
-use Rattle.fs_schedule.specs.Words.{line_text}
+use Rattle.fs_schedule.specs.Words.{Word, Bare, Quoted, line_text}
 
-abbrev pub head_line : List ℕ
-head_line = codes "farsite 1 direct"
+-- ## Forms
+
+-- the first line of a schedule of this form
+abbrev pub IsHeadLine : Head → List ℕ → Type 0
+IsHeadLine Direct line = line ≡ codes "farsite 1 direct"
+
+-- ## Operations, which every form has
 
 abbrev pub kind_text : Kind → List ℕ
 kind_text File = codes "file"
 kind_text Dir = codes "dir"
-
--- ## Operations
 
 abbrev pub op_words : Op → List Word
 op_words (op.Lookup dir name) = Bare (codes "lookup") ∷ Bare (id_text dir) ∷ Quoted name ∷ []
@@ -43,102 +45,73 @@ op_words (op.Delete dir name) = Bare (codes "delete") ∷ Bare (id_text dir) ∷
 op_words (op.Rename sdir sname ddir dname) = Bare (codes "rename") ∷ Bare (id_text sdir) ∷ Quoted sname ∷ Bare (id_text ddir) ∷ Quoted dname ∷ []
 op_words (op.Reap file session) = []
 
--- an operation that a schedule can ask for: a create has no identifier, an open has an access, and no reap
+-- the parts of the operation are in their ranges
+abbrev pub FitsParts : Op → Type 0
+FitsParts (op.Lookup dir name) = IsId dir × IsName name
+FitsParts (op.List dir) = IsId dir
+FitsParts (op.Kind file) = IsId file
+FitsParts (op.Info file) = IsId file
+FitsParts (op.Create dir name kind id) = IsId dir × IsName name
+FitsParts (op.OpenFile file h modes) = IsId file × (h < 2 ^ 32)
+FitsParts (op.Close file h) = IsId file × (h < 2 ^ 32)
+FitsParts (op.Set file h size stamp) = IsId file × (h < 2 ^ 32) × (size < 2 ^ 64) × (stamp < 2 ^ 64)
+FitsParts (op.Delete dir name) = IsId dir × IsName name
+FitsParts (op.Rename sdir sname ddir dname) = IsId sdir × IsName sname × IsId ddir × IsName dname
+FitsParts (op.Reap file session) = IsId file
+
+-- an operation that a schedule can ask for
 abbrev pub FitsOp : Op → Type 0
-FitsOp (op.Lookup dir name) = IsId dir × IsName name
-FitsOp (op.List dir) = IsId dir
-FitsOp (op.Kind file) = IsId file
-FitsOp (op.Info file) = IsId file
-FitsOp (op.Create dir name kind id) = IsId dir × IsName name × (id ≡ None)
-FitsOp (op.OpenFile file h modes) = IsId file × (h < 2 ^ 32) × (has_access modes ≡ true)
-FitsOp (op.Close file h) = IsId file × (h < 2 ^ 32)
-FitsOp (op.Set file h size stamp) = IsId file × (h < 2 ^ 32) × (size < 2 ^ 64) × (stamp < 2 ^ 64)
-FitsOp (op.Delete dir name) = IsId dir × IsName name
-FitsOp (op.Rename sdir sname ddir dname) = IsId sdir × IsName sname × IsId ddir × IsName dname
-FitsOp (op.Reap file session) = ⊥
+FitsOp o = (may_ask o ≡ true) × FitsParts o
 
--- the first words of operations
-abbrev pub verb_text : Verb → List ℕ
-verb_text verb.Lookup = codes "lookup"
-verb_text verb.List = codes "list"
-verb_text verb.Kind = codes "kind"
-verb_text verb.Info = codes "info"
-verb_text verb.Create = codes "create"
-verb_text verb.Open = codes "open"
-verb_text verb.Close = codes "close"
-verb_text verb.Set = codes "set"
-verb_text verb.Delete = codes "delete"
-verb_text verb.Rename = codes "rename"
+-- ## Events
 
--- ## Events, with the digits of the session's number, which the grammar does not bound
+-- an event that the form has, its parts in their ranges; a session's number has a limit, and no range
+abbrev pub FitsWhat : Head → What → Type 0
+FitsWhat head (Join s) = Unit {0}
+FitsWhat head (Do s o) = FitsOp o
 
-abbrev pub session_text : List ℕ → List ℕ
-session_text digits = 99 ∷ digits
+-- the session that an event names, where it names one
+abbrev pub session_in : What → Option Session
+session_in (Join s) = Some s
+session_in (Do s o) = Some s
 
--- digits without a leading zero
-abbrev pub IsSessionDigits : List ℕ → Type 0
-IsSessionDigits digits = IsNumeral 10 digits × (slice_index digits 0 ≢ 48)
+-- the word of a client's session whose number has these digits
+abbrev pub client_word : List ℕ → Word
+client_word digits = Bare (codes "c" ++ digits)
 
-abbrev pub session_of : What → Session
-session_of (Join s) = s
-session_of (Do s o) = s
-
+-- the words of an event that names, if any, a session whose number has these digits
 abbrev pub what_words : List ℕ → What → List Word
-what_words digits (Join s) = Bare (codes "join") ∷ Bare (session_text digits) ∷ []
-what_words digits (Do s o) = Bare (codes "do") ∷ Bare (session_text digits) ∷ op_words o
+what_words digits (Join s) = Bare (codes "join") ∷ client_word digits ∷ []
+what_words digits (Do s o) = Bare (codes "do") ∷ client_word digits ∷ op_words o
 
-abbrev pub event_words : List ℕ → Event → List Word
-event_words digits e = Bare (decimal e.reading) ∷ what_words digits e.what
+-- the digits of the number, without a leading zero, however great it is
+pub record IsNumberOf (digits : List ℕ) (n : ℕ) : Type 0 where
+  pub valid : IsNumeral 10 digits
+  pub first : slice_index digits 0 ≢ 48
+  pub value : digits_value 10 digits ≡ n
 
-abbrev pub event_line : List ℕ → Event → List ℕ
-event_line digits e = line_text (event_words digits e)
-
-abbrev pub FitsWhat : What → Type 0
-FitsWhat (Join s) = Unit {0}
-FitsWhat (Do s o) = FitsOp o
-
--- the line is the event's, whatever the session's number
-pub record IsLineOf (digits : List ℕ) (e : Event) (line : List ℕ) : Type 0 where
-  pub reading : e.reading ≤ 10 ^ 15
-  pub session : IsSessionDigits digits
-  pub what : FitsWhat e.what
-  pub text : line ≡ event_line digits e
-
--- the same of words
-pub record AreEventWords (digits : List ℕ) (e : Event) (words : List Word) : Type 0 where
-  pub reading : e.reading ≤ 10 ^ 15
-  pub session : IsSessionDigits digits
-  pub what : FitsWhat e.what
-  pub spelled : words ≡ event_words digits e
-
--- ## What a reader tells of a session: its number up to 1000, and 1001 for each greater one
-
-pub record IsSession (digits : List ℕ) (n : ℕ) : Type 0 where
-  pub valid : IsSessionDigits digits
-  pub number : n ≡ min (digits_value 10 digits) 1001
-
--- the first word is the session's
-pub record IsSessionWord (words : List Word) (n : ℕ) (rest : List Word) : Type 0 where
+-- the words are those of what happens, whatever the number of its session
+pub record IsSpelled (head : Head) (w : What) (words : List Word) : Type 0 where
   pub digits : List ℕ
-  pub session : IsSession digits n
-  pub word : words ≡ Bare (session_text digits) ∷ rest
+  pub session : IfSome (session_in w) (λ s. IsNumberOf digits s.0)
+  pub fits : FitsWhat head w
+  pub spelled : words ≡ what_words digits w
 
--- the words are the event's
-pub record IsRead (e : Event) (words : List Word) : Type 0 where
-  pub digits : List ℕ
-  pub are_words : AreEventWords digits e words
-  pub number : (session_of e.what).0 ≡ min (digits_value 10 digits) 1001
+-- the line is the event's, whatever the number of its session
+pub record IsLineOf (head : Head) (e : Event) (line : List ℕ) : Type 0 where
+  pub reading : e.reading ≤ LATEST
+  pub words : List Word
+  pub what : IsSpelled head e.what words
+  pub text : line ≡ line_text (Bare (decimal e.reading) ∷ words)
 
--- the line is the event's
-pub record IsReadLine (e : Event) (line : List ℕ) : Type 0 where
-  pub digits : List ℕ
-  pub is_line : IsLineOf digits e line
-  pub number : (session_of e.what).0 ≡ min (digits_value 10 digits) 1001
+-- it names a session above the limit
+abbrev pub names_late : What → Bool
+names_late (Join s) = nat_lt SESSIONS s.0
+names_late (Do s o) = nat_lt SESSIONS s.0
 
 -- ## What every event of a schedule is
 
-pub record FitsEvent (e : Event) : Type 0 where
-  pub reading : e.reading ≤ 10 ^ 15
-  pub positive : 1 ≤ (session_of e.what).0
-  pub limit : (session_of e.what).0 ≤ 1000
-  pub what : FitsWhat e.what
+pub record FitsEvent (head : Head) (e : Event) : Type 0 where
+  pub reading : e.reading ≤ LATEST
+  pub session : IfSome (session_in e.what) (λ s. (1 ≤ s.0) × (s.0 ≤ SESSIONS))
+  pub what : FitsWhat head e.what

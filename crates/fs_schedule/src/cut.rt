@@ -1,6 +1,6 @@
 //! Bytes cut at a separator.
 ghost use Rattle.std.specs.Prelude.{◌≡◌, ◌<◌, ◌++◌, ◌∷◌, length, option_map, IfSome};
-ghost use Rattle.fs_schedule.specs.Words.{Lacks, joined};
+ghost use Rattle.fs_schedule.specs.Separated.{Lacks, joined};
 ghost use Rattle.fs_schedule.specs.Lines.{lines_of, lines_after};
 
 /// The bytes before the first `b`, and those behind it where it is there.

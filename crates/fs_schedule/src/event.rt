@@ -1,6 +1,7 @@
 //! Schedules and their events.
-use fs_ident::{List, Session};
+use fs_ident::{List, Memory, Session, Twin};
 use fs_model::Op;
+use std::alloc::Global;
 
 /// Which form of the service a schedule is for.
 #[derive(Clone, Copy, Debug, PartialEq, Eq)]
@@ -30,4 +31,37 @@ pub struct Event {
 pub struct Schedule {
     pub head: Head,
     pub events: List<Event>,
+}
+
+impl Twin for What {
+    fn copy(&self, alloc: Global) -> Result<What, Memory> {
+        match self {
+            What::Join(session) => Ok(What::Join(*session)),
+            What::Do(session, op) => Ok(What::Do(*session, op.copy(alloc)?)),
+        }
+    }
+
+    fn discard(self) {}
+}
+
+impl Twin for Event {
+    fn copy(&self, alloc: Global) -> Result<Event, Memory> {
+        Ok(Event {
+            reading: self.reading,
+            what: self.what.copy(alloc)?,
+        })
+    }
+
+    fn discard(self) {}
+}
+
+impl Twin for Schedule {
+    fn copy(&self, alloc: Global) -> Result<Schedule, Memory> {
+        Ok(Schedule {
+            head: self.head,
+            events: self.events.copy(alloc)?,
+        })
+    }
+
+    fn discard(self) {}
 }

@@ -4,7 +4,9 @@
 mod cut;
 mod error;
 mod event;
-mod happening;
+mod law;
+mod limits;
+mod line;
 mod number;
 mod operand;
 mod operation;
@@ -13,11 +15,13 @@ mod schedule;
 mod session;
 #[cfg(test)]
 mod tests;
+mod unread;
 mod word;
 mod words;
 
 pub use error::{ScheduleError, Which};
 pub use event::{Event, Head, Schedule, What};
+pub use law::one_reading;
+pub use limits::{BYTES, EVENTS};
 pub use outcome::Outcome;
-pub use schedule::{BYTES, EVENTS, one_reading, read_schedule};
-pub use word::Word;
+pub use schedule::read_schedule;

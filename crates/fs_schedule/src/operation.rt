@@ -1,17 +1,16 @@
 //! Operations, read from words.
-ghost use Rattle.std.specs.Prelude.{◌≡◌, ◌∷◌, ℕ, List as Seq, IfOk, IfSome, IfNone};
-ghost use Rattle.fs_model.specs.declared.op.Op.{Op as Asked};
-ghost use Rattle.fs_schedule.specs.declared.word.Word.{Word as Spelled};
-ghost use Rattle.fs_schedule.specs.declared.word.Word.TheVariants.{Bare};
-ghost use Rattle.fs_schedule.specs.declared.operation.Verb.{Verb as Named};
+ghost use Rattle.std.specs.Prelude.{◌∷◌};
 ghost use Rattle.fs_schedule.specs.declared.operation.Verb.TheVariants as verb;
-ghost use Rattle.fs_schedule.specs.Spelling.{op_words, verb_text, FitsOp};
+ghost use Rattle.std.specs.Fmt.{decimal};
+ghost use Rattle.fs_ident.specs.IdText.{id_text};
+ghost use Rattle.fs_schedule.specs.Words.{Bare, Quoted};
+ghost use Rattle.fs_schedule.specs.Spelling.{op_words, FitsOp};
+ghost use Rattle.fs_schedule.specs.Reading.{Reads, words_in, verb_text, Always};
 
-use crate::operand::{
-    bare, handle_of, kind_of, modes_of, number_up_to, only_id, only_place, place_of,
-};
+use crate::operand::{handle_at, id_at, kind_at, modes_at, name_at, number_at};
+use crate::unread::Unread;
 use crate::word::Word;
-use fs_ident::Memory;
+use fs_ident::{FileId, Name};
 use fs_model::Op;
 use std::alloc::Global;
 
@@ -30,52 +29,49 @@ pub enum Verb {
     Rename,
 }
 
-/// The operation that the words ask for; None exactly where they ask for none.
-pub fn read_op(alloc: Global, words: &[Word]) -> Result<Option<Op>, Memory>
-    ensures found { IfOk result (λ o. IfSome o (λ op. words.now ≡ op_words op)) }
-    ensures fits { IfOk result (λ o. IfSome o (λ op. FitsOp op)) }
-    ensures none { IfOk result (λ o. IfNone o ((op : Asked) → FitsOp op → words.now ≡ op_words op →
-        ⊥)) }
+/// The operation that the words ask for.
+pub fn op_at(alloc: Global, words: &[Word]) -> Result<Op, Unread>
+    ensures { Reads op_words FitsOp result (words_in words.now) }
 {
-    let Some((text, operands)) = bare(words) else {
-        return Ok(None);
+    let [Word::Bare(text), operands @ ..] = words else {
+        return Err(Unread::Outside);
     };
-    let Some(verb) = verb_of(text) else {
-        return Ok(None);
-    };
+    op_by(alloc, text, operands)
+}
+
+/// The same, where the first word was read.
+fn op_by(alloc: Global, text: &[u8], operands: &[Word]) -> Result<Op, Unread>
+    ensures { Reads op_words FitsOp result (Bare text.now ∷ words_in operands.now) }
+{
+    let verb = verb_of(text)?;
     op_of(alloc, verb, operands)
 }
 
-fn verb_of(text: &[u8]) -> Option<Verb>
-    ensures found { IfSome result (λ v. text.now ≡ verb_text v) }
-    ensures none { IfNone result ((v : Named) → text.now ≡ verb_text v → ⊥) }
+fn verb_of(text: &[u8]) -> Result<Verb, Unread>
+    ensures { Reads verb_text Always result text.now }
 {
     match text {
-        b"lookup" => Some(Verb::Lookup),
-        b"list" => Some(Verb::List),
-        b"kind" => Some(Verb::Kind),
-        b"info" => Some(Verb::Info),
-        b"create" => Some(Verb::Create),
-        b"open" => Some(Verb::Open),
-        b"close" => Some(Verb::Close),
-        b"set" => Some(Verb::Set),
-        b"delete" => Some(Verb::Delete),
-        b"rename" => Some(Verb::Rename),
-        _ => None,
+        b"lookup" => Ok(Verb::Lookup),
+        b"list" => Ok(Verb::List),
+        b"kind" => Ok(Verb::Kind),
+        b"info" => Ok(Verb::Info),
+        b"create" => Ok(Verb::Create),
+        b"open" => Ok(Verb::Open),
+        b"close" => Ok(Verb::Close),
+        b"set" => Ok(Verb::Set),
+        b"delete" => Ok(Verb::Delete),
+        b"rename" => Ok(Verb::Rename),
+        _ => Err(Unread::Outside),
     }
 }
 
-fn op_of(alloc: Global, verb: Verb, operands: &[Word]) -> Result<Option<Op>, Memory>
-    ensures found { IfOk result (λ o. IfSome o (λ op. Bare (verb_text verb) ∷ operands.now ≡
-        op_words op)) }
-    ensures fits { IfOk result (λ o. IfSome o (λ op. FitsOp op)) }
-    ensures none { IfOk result (λ o. IfNone o ((op : Asked) → FitsOp op →
-        Bare (verb_text verb) ∷ operands.now ≡ op_words op → ⊥)) }
+fn op_of(alloc: Global, verb: Verb, operands: &[Word]) -> Result<Op, Unread>
+    ensures { Reads op_words FitsOp result (Bare (verb_text verb) ∷ words_in operands.now) }
 {
     match verb {
         Verb::Lookup => lookup_of(alloc, operands),
         Verb::List => list_of(alloc, operands),
-        Verb::Kind => kind_asked(alloc, operands),
+        Verb::Kind => kind_of(alloc, operands),
         Verb::Info => info_of(alloc, operands),
         Verb::Create => create_of(alloc, operands),
         Verb::Open => open_of(alloc, operands),
@@ -86,171 +82,162 @@ fn op_of(alloc: Global, verb: Verb, operands: &[Word]) -> Result<Option<Op>, Mem
     }
 }
 
-fn lookup_of(alloc: Global, operands: &[Word]) -> Result<Option<Op>, Memory>
-    ensures found { IfOk result (λ o. IfSome o (λ op. Bare (verb_text verb.Lookup) ∷ operands.now ≡
-        op_words op)) }
-    ensures fits { IfOk result (λ o. IfSome o (λ op. FitsOp op)) }
-    ensures none { IfOk result (λ o. IfNone o ((op : Asked) → FitsOp op →
-        Bare (verb_text verb.Lookup) ∷ operands.now ≡ op_words op → ⊥)) }
+fn lookup_of(alloc: Global, operands: &[Word]) -> Result<Op, Unread>
+    ensures { Reads op_words FitsOp result
+        (Bare (verb_text verb.Lookup) ∷ words_in operands.now) }
 {
-    let Some((dir, name)) = only_place(alloc, operands)? else {
-        return Ok(None);
+    let [dir, name] = operands else {
+        return Err(Unread::Outside);
     };
-    Ok(Some(Op::Lookup { dir, name }))
+    let dir = id_at(alloc, dir)?;
+    let name = name_at(alloc, name)?;
+    Ok(Op::Lookup { dir, name })
 }
 
-fn delete_of(alloc: Global, operands: &[Word]) -> Result<Option<Op>, Memory>
-    ensures found { IfOk result (λ o. IfSome o (λ op. Bare (verb_text verb.Delete) ∷ operands.now ≡
-        op_words op)) }
-    ensures fits { IfOk result (λ o. IfSome o (λ op. FitsOp op)) }
-    ensures none { IfOk result (λ o. IfNone o ((op : Asked) → FitsOp op →
-        Bare (verb_text verb.Delete) ∷ operands.now ≡ op_words op → ⊥)) }
+fn list_of(alloc: Global, operands: &[Word]) -> Result<Op, Unread>
+    ensures { Reads op_words FitsOp result
+        (Bare (verb_text verb.List) ∷ words_in operands.now) }
 {
-    let Some((dir, name)) = only_place(alloc, operands)? else {
-        return Ok(None);
+    let [dir] = operands else {
+        return Err(Unread::Outside);
     };
-    Ok(Some(Op::Delete { dir, name }))
+    let dir = id_at(alloc, dir)?;
+    Ok(Op::List { dir })
 }
 
-fn list_of(alloc: Global, operands: &[Word]) -> Result<Option<Op>, Memory>
-    ensures found { IfOk result (λ o. IfSome o (λ op. Bare (verb_text verb.List) ∷ operands.now ≡
-        op_words op)) }
-    ensures fits { IfOk result (λ o. IfSome o (λ op. FitsOp op)) }
-    ensures none { IfOk result (λ o. IfNone o ((op : Asked) → FitsOp op →
-        Bare (verb_text verb.List) ∷ operands.now ≡ op_words op → ⊥)) }
+fn kind_of(alloc: Global, operands: &[Word]) -> Result<Op, Unread>
+    ensures { Reads op_words FitsOp result
+        (Bare (verb_text verb.Kind) ∷ words_in operands.now) }
 {
-    let Some(file) = only_id(alloc, operands)? else {
-        return Ok(None);
+    let [file] = operands else {
+        return Err(Unread::Outside);
     };
-    Ok(Some(Op::List { dir: file }))
+    let file = id_at(alloc, file)?;
+    Ok(Op::Kind { file })
 }
 
-fn kind_asked(alloc: Global, operands: &[Word]) -> Result<Option<Op>, Memory>
-    ensures found { IfOk result (λ o. IfSome o (λ op. Bare (verb_text verb.Kind) ∷ operands.now ≡
-        op_words op)) }
-    ensures fits { IfOk result (λ o. IfSome o (λ op. FitsOp op)) }
-    ensures none { IfOk result (λ o. IfNone o ((op : Asked) → FitsOp op →
-        Bare (verb_text verb.Kind) ∷ operands.now ≡ op_words op → ⊥)) }
+fn info_of(alloc: Global, operands: &[Word]) -> Result<Op, Unread>
+    ensures { Reads op_words FitsOp result
+        (Bare (verb_text verb.Info) ∷ words_in operands.now) }
 {
-    let Some(file) = only_id(alloc, operands)? else {
-        return Ok(None);
+    let [file] = operands else {
+        return Err(Unread::Outside);
     };
-    Ok(Some(Op::Kind { file }))
+    let file = id_at(alloc, file)?;
+    Ok(Op::Info { file })
 }
 
-fn info_of(alloc: Global, operands: &[Word]) -> Result<Option<Op>, Memory>
-    ensures found { IfOk result (λ o. IfSome o (λ op. Bare (verb_text verb.Info) ∷ operands.now ≡
-        op_words op)) }
-    ensures fits { IfOk result (λ o. IfSome o (λ op. FitsOp op)) }
-    ensures none { IfOk result (λ o. IfNone o ((op : Asked) → FitsOp op →
-        Bare (verb_text verb.Info) ∷ operands.now ≡ op_words op → ⊥)) }
+fn create_of(alloc: Global, operands: &[Word]) -> Result<Op, Unread>
+    ensures { Reads op_words FitsOp result
+        (Bare (verb_text verb.Create) ∷ words_in operands.now) }
 {
-    let Some(file) = only_id(alloc, operands)? else {
-        return Ok(None);
+    let [dir, name, kind] = operands else {
+        return Err(Unread::Outside);
     };
-    Ok(Some(Op::Info { file }))
-}
-
-fn create_of(alloc: Global, operands: &[Word]) -> Result<Option<Op>, Memory>
-    ensures found { IfOk result (λ o. IfSome o (λ op. Bare (verb_text verb.Create) ∷ operands.now ≡
-        op_words op)) }
-    ensures fits { IfOk result (λ o. IfSome o (λ op. FitsOp op)) }
-    ensures none { IfOk result (λ o. IfNone o ((op : Asked) → FitsOp op →
-        Bare (verb_text verb.Create) ∷ operands.now ≡ op_words op → ⊥)) }
-{
-    let Some((dir, name, rest)) = place_of(alloc, operands)? else {
-        return Ok(None);
-    };
-    let Some((kind, rest)) = kind_of(rest) else {
-        return Ok(None);
-    };
-    if !rest.is_empty() {
-        return Ok(None);
-    }
-    Ok(Some(Op::Create {
+    let dir = id_at(alloc, dir)?;
+    let name = name_at(alloc, name)?;
+    let kind = kind_at(kind)?;
+    Ok(Op::Create {
         dir,
         name,
         kind,
         id: None,
-    }))
+    })
 }
 
-fn open_of(alloc: Global, operands: &[Word]) -> Result<Option<Op>, Memory>
-    ensures found { IfOk result (λ o. IfSome o (λ op. Bare (verb_text verb.Open) ∷ operands.now ≡
-        op_words op)) }
-    ensures fits { IfOk result (λ o. IfSome o (λ op. FitsOp op)) }
-    ensures none { IfOk result (λ o. IfNone o ((op : Asked) → FitsOp op →
-        Bare (verb_text verb.Open) ∷ operands.now ≡ op_words op → ⊥)) }
+fn open_of(alloc: Global, operands: &[Word]) -> Result<Op, Unread>
+    ensures { Reads op_words FitsOp result
+        (Bare (verb_text verb.Open) ∷ words_in operands.now) }
 {
-    let Some((file, h, rest)) = handle_of(alloc, operands)? else {
-        return Ok(None);
+    let [file, h, modes @ ..] = operands else {
+        return Err(Unread::Outside);
     };
-    let Some(modes) = modes_of(rest) else {
-        return Ok(None);
-    };
-    Ok(Some(Op::OpenFile { file, h, modes }))
+    let file = id_at(alloc, file)?;
+    let h = handle_at(alloc, h)?;
+    let modes = modes_at(modes)?;
+    Ok(Op::OpenFile { file, h, modes })
 }
 
-fn close_of(alloc: Global, operands: &[Word]) -> Result<Option<Op>, Memory>
-    ensures found { IfOk result (λ o. IfSome o (λ op. Bare (verb_text verb.Close) ∷ operands.now ≡
-        op_words op)) }
-    ensures fits { IfOk result (λ o. IfSome o (λ op. FitsOp op)) }
-    ensures none { IfOk result (λ o. IfNone o ((op : Asked) → FitsOp op →
-        Bare (verb_text verb.Close) ∷ operands.now ≡ op_words op → ⊥)) }
+fn close_of(alloc: Global, operands: &[Word]) -> Result<Op, Unread>
+    ensures { Reads op_words FitsOp result
+        (Bare (verb_text verb.Close) ∷ words_in operands.now) }
 {
-    let Some((file, h, rest)) = handle_of(alloc, operands)? else {
-        return Ok(None);
+    let [file, h] = operands else {
+        return Err(Unread::Outside);
     };
-    if !rest.is_empty() {
-        return Ok(None);
-    }
-    Ok(Some(Op::Close { file, h }))
+    let file = id_at(alloc, file)?;
+    let h = handle_at(alloc, h)?;
+    Ok(Op::Close { file, h })
 }
 
-fn set_of(alloc: Global, operands: &[Word]) -> Result<Option<Op>, Memory>
-    ensures found { IfOk result (λ o. IfSome o (λ op. Bare (verb_text verb.Set) ∷ operands.now ≡
-        op_words op)) }
-    ensures fits { IfOk result (λ o. IfSome o (λ op. FitsOp op)) }
-    ensures none { IfOk result (λ o. IfNone o ((op : Asked) → FitsOp op →
-        Bare (verb_text verb.Set) ∷ operands.now ≡ op_words op → ⊥)) }
+fn set_of(alloc: Global, operands: &[Word]) -> Result<Op, Unread>
+    ensures { Reads op_words FitsOp result
+        (Bare (verb_text verb.Set) ∷ words_in operands.now) }
 {
-    let Some((file, h, rest)) = handle_of(alloc, operands)? else {
-        return Ok(None);
+    let [file, h, rest @ ..] = operands else {
+        return Err(Unread::Outside);
     };
-    let Some((size, rest)) = number_up_to(alloc, u64::MAX, rest)? else {
-        return Ok(None);
+    let file = id_at(alloc, file)?;
+    let h = handle_at(alloc, h)?;
+    set_to(alloc, file, h, rest)
+}
+
+/// The same, where the file and the handle were read.
+fn set_to(alloc: Global, file: FileId, h: u32, operands: &[Word]) -> Result<Op, Unread>
+    ensures { Reads op_words FitsOp result (Bare (verb_text verb.Set) ∷ Bare (id_text file) ∷
+        Bare (decimal h) ∷ words_in operands.now) }
+{
+    let [size, stamp] = operands else {
+        return Err(Unread::Outside);
     };
-    let Some((stamp, rest)) = number_up_to(alloc, u64::MAX, rest)? else {
-        return Ok(None);
-    };
-    if !rest.is_empty() {
-        return Ok(None);
-    }
-    Ok(Some(Op::Set {
+    let size = number_at(alloc, u64::MAX, size)?;
+    let stamp = number_at(alloc, u64::MAX, stamp)?;
+    Ok(Op::Set {
         file,
         h,
         size,
         stamp,
-    }))
+    })
 }
 
-fn rename_of(alloc: Global, operands: &[Word]) -> Result<Option<Op>, Memory>
-    ensures found { IfOk result (λ o. IfSome o (λ op. Bare (verb_text verb.Rename) ∷ operands.now ≡
-        op_words op)) }
-    ensures fits { IfOk result (λ o. IfSome o (λ op. FitsOp op)) }
-    ensures none { IfOk result (λ o. IfNone o ((op : Asked) → FitsOp op →
-        Bare (verb_text verb.Rename) ∷ operands.now ≡ op_words op → ⊥)) }
+fn delete_of(alloc: Global, operands: &[Word]) -> Result<Op, Unread>
+    ensures { Reads op_words FitsOp result
+        (Bare (verb_text verb.Delete) ∷ words_in operands.now) }
 {
-    let Some((sdir, sname, rest)) = place_of(alloc, operands)? else {
-        return Ok(None);
+    let [dir, name] = operands else {
+        return Err(Unread::Outside);
     };
-    let Some((ddir, dname)) = only_place(alloc, rest)? else {
-        return Ok(None);
+    let dir = id_at(alloc, dir)?;
+    let name = name_at(alloc, name)?;
+    Ok(Op::Delete { dir, name })
+}
+
+fn rename_of(alloc: Global, operands: &[Word]) -> Result<Op, Unread>
+    ensures { Reads op_words FitsOp result
+        (Bare (verb_text verb.Rename) ∷ words_in operands.now) }
+{
+    let [sdir, sname, rest @ ..] = operands else {
+        return Err(Unread::Outside);
     };
-    Ok(Some(Op::Rename {
+    let sdir = id_at(alloc, sdir)?;
+    let sname = name_at(alloc, sname)?;
+    rename_to(alloc, sdir, sname, rest)
+}
+
+/// The same, where the place that it leaves was read.
+fn rename_to(alloc: Global, sdir: FileId, sname: Name, operands: &[Word]) -> Result<Op, Unread>
+    ensures { Reads op_words FitsOp result (Bare (verb_text verb.Rename) ∷ Bare (id_text sdir) ∷
+        Quoted sname ∷ words_in operands.now) }
+{
+    let [ddir, dname] = operands else {
+        return Err(Unread::Outside);
+    };
+    let ddir = id_at(alloc, ddir)?;
+    let dname = name_at(alloc, dname)?;
+    Ok(Op::Rename {
         sdir,
         sname,
         ddir,
         dname,
-    }))
+    })
 }

@@ -1,9 +1,8 @@
 //! Words of a line.
-use fs_ident::List;
 
-/// A word of a line: bare bytes, or a name that stands in double quotes.
-#[derive(Debug, Drop)]
-pub enum Word {
-    Bare(List<u8>),
-    Quoted(List<u8>),
+/// A word of a line, where it stands there: bare bytes, or a name between double quotes.
+#[derive(Clone, Copy, Debug, Drop)]
+pub enum Word<'a> {
+    Bare(&'a [u8]),
+    Quoted(&'a [u8]),
 }

@@ -1,5 +1,5 @@
 use Rattle.std.proofs.Common.{take}
-use Rattle.fs_schedule.specs.Words.{Lacks}
+use Rattle.fs_schedule.specs.Separated.{Lacks}
 use Rattle.fs_schedule.proofs.cut.cut.Given as goal
 
 abbrev pub invariant-loop-at : goal.invariant-loop-at

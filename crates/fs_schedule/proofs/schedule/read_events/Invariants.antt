@@ -7,4 +7,4 @@ abbrev pub decreases-loop-events : goal.decreases-loop-events
 decreases-loop-events l = length l.rest
 
 abbrev pub invariant-loop-events : goal.invariant-loop-events
-invariant-loop-events l = IsReadSoFar l.events (lines_of l.rest) (lines_of l.text)
+invariant-loop-events l = IsReadSoFar l.head l.events (lines_of l.rest) (lines_of l.text)

@@ -1,25 +1,25 @@
-use Rattle.std.proofs.Common.{◌≡◌, ◌≤◌, ◌+◌, sym, arith}
-use Rattle.fs_schedule.specs.declared.error.Which.TheVariants.{Events}
-use Rattle.fs_schedule.specs.Spelling.{session_of}
-use Rattle.fs_schedule.specs.Faults.{IsEventLine}
-use Rattle.fs_schedule.proofs.Reading.{in_time, count_here}
+use Rattle.std.proofs.Common.{◌≡◌, ◌≤◌, ◌+◌, sym, ◌∙◌, arith}
+use Rattle.fs_schedule.specs.declared.error.Which.TheVariants.{Sessions, Events}
+use Rattle.fs_schedule.specs.Faults.{IsEventLine, NamesLateSession}
+use Rattle.fs_schedule.proofs.Reading.{no_line, late, late_here, in_time, count_here}
 use Rattle.fs_schedule.proofs.schedule.read_line.Goals as goal
+
+pub returns-in-Err-Outside-clause-bad_line : goal.returns-in-Err-Outside-clause-bad_line
+returns-in-Err-Outside-clause-bad_line c = λ n e.
+    let m : c.args.before + 2 ≡ n = cc in
+    (sym m, (omega arith, λ x is. no_line c.args.head x c.args.line.now (c.in-Err-Outside.ensures c.in-Err-Outside.field-0-is) is))
+
+pub returns-then-names_late-clause-limit : goal.returns-then-names_late-clause-limit
+returns-then-names_late-clause-limit c = λ which n e.
+    let found = c.in-Ok.ensures in
+    let q : Sessions ≡ which = cc in
+    let m : c.args.before + 2 ≡ n = cc in
+    late_here c.args.head c.args.before n c.args.line.now which q (sym m) (omega arith) (late c.args.head c.in-Ok.event c.args.line.now found (sym c.names_late.ensures ∙ c.if-names_late.true))
 
 pub returns-then-before-ge-EVENTS-clause-limit : goal.returns-then-before-ge-EVENTS-clause-limit
 returns-then-before-ge-EVENTS-clause-limit c = λ which n e.
-    let found = rw c.in-Some.is at c.in_ok-event.ensures.found in
-    let number = c.number_in.ensures in
-    let low = c.if-number_in-gt-SESSIONS.false in
-    let le : (session_of c.in-Some.event.what).0 ≤ 1000 = omega arith in
-    let here : IsEventLine c.in-Some.event c.args.line.now = in_time c.in-Some.event c.args.line.now found le in
+    let found = c.in-Ok.ensures in
+    let here : IsEventLine c.args.head c.in-Ok.event c.args.line.now = in_time c.args.head c.in-Ok.event c.args.line.now found (sym c.names_late.ensures ∙ c.if-names_late.false) in
     let q : Events ≡ which = cc in
     let m : c.args.before + 2 ≡ n = cc in
-    count_here c.args.before n c.args.line.now c.in-Some.event which q (sym m) (omega arith) here c.if-before-ge-EVENTS.true
-
-pub returns-clause-ok : goal.returns-clause-ok
-returns-clause-ok c =
-    let found = rw c.in-Some.is at c.in_ok-event.ensures.found in
-    let number = c.number_in.ensures in
-    let low = c.if-number_in-gt-SESSIONS.false in
-    let le : (session_of c.in-Some.event.what).0 ≤ 1000 = omega arith in
-    (omega arith, in_time c.in-Some.event c.args.line.now found le, omega arith)
+    count_here c.args.head c.args.before n c.args.line.now c.in-Ok.event which q (sym m) (omega arith) here c.if-before-ge-EVENTS.true

@@ -1,0 +1,11 @@
+use Rattle.std.proofs.Common.{List, ℕ, ◌≡◌, sym, ◌∙◌, ap, subst}
+use Rattle.fs_schedule.specs.Words.{Word, Bare}
+use Rattle.fs_schedule.specs.Spelling.{client_word}
+use Rattle.fs_schedule.specs.Reading.{word_of, Tells, IsToldSession}
+use Rattle.fs_schedule.proofs.Refusals.{tells_session}
+use Rattle.fs_schedule.proofs.session.session_at.Goals as goal
+
+pub returns : goal.returns
+returns c =
+    let word : word_of c.args.word.now ≡ client_word c.in-Some.digits.now = ap word_of c.in-Bare.is ∙ ap (λ (xs : List ℕ). Bare xs) c.in-Some.ensures.found in
+    subst (Tells IsToldSession c.number_of.result) (sym word) (tells_session c.number_of.result c.in-Some.digits.now c.number_of.ensures)

@@ -1,0 +1,81 @@
+-- What readers answer.
+use Rattle.std.specs.Prelude.{◌≡◌, ℕ, ◌<◌, ◌≤◌, ◌+◌, ◌∷◌, List, map, min, Result, Ok, Err, codes}
+use Rattle.std.specs.Fmt.{decimal}
+use Rattle.fs_ident.specs.declared.actor.Session.{Session}
+use Rattle.fs_ident.specs.declared.limits.TheConstants.{SESSIONS, LATEST}
+use Rattle.fs_schedule.specs.declared.word.Word.{Word as Piece}
+use Rattle.fs_schedule.specs.declared.word.Word.TheVariants as piece
+use Rattle.fs_schedule.specs.declared.unread.Unread.{Unread}
+use Rattle.fs_schedule.specs.declared.unread.Unread.TheVariants.{Outside}
+use Rattle.fs_schedule.specs.declared.operation.Verb.{Verb}
+use Rattle.fs_schedule.specs.declared.operation.Verb.TheVariants as verb
+use Rattle.fs_schedule.specs.declared.event.What.{What}
+use Rattle.fs_schedule.specs.declared.event.What.TheVariants.{Join, Do}
+use Rattle.fs_schedule.specs.declared.event.Event.{Event}
+use Rattle.fs_schedule.specs.declared.event.Head.{Head}
+use Rattle.fs_schedule.specs.Words.{Word, Bare, Quoted, line_text}
+use Rattle.fs_schedule.specs.Spelling.{IsNumberOf, client_word, IsSpelled}
+
+-- the word that stands at a place of a line
+abbrev pub word_of : Piece → Word
+word_of (piece.Bare bytes) = Bare bytes.now
+word_of (piece.Quoted name) = Quoted name.now
+
+abbrev pub words_in : List Piece → List Word
+words_in pieces = map word_of pieces
+
+-- a reader's answer: the value in range that is spelled so, or that no value in range is
+abbrev pub Reads : {X W : Type 0} → (X → W) → (X → Type 0) → Result X Unread → W → Type 0
+Reads spelled Fits (Ok x) w = Fits x × (w ≡ spelled x)
+Reads spelled Fits (Err e) w = e ≡ Outside → (x : _) → Fits x → w ≡ spelled x → ⊥
+
+-- the same where the value does not tell its spelling
+abbrev pub Tells : {X W : Type 0} → (X → W → Type 0) → Result X Unread → W → Type 0
+Tells IsOf (Ok x) w = IsOf x w
+Tells IsOf (Err e) w = e ≡ Outside → (x : _) → IsOf x w → ⊥
+
+-- every value is in range
+abbrev pub Always : {X : Type 0} → X → Type 0
+Always x = Unit {0}
+
+-- the first words of operations
+abbrev pub verb_text : Verb → List ℕ
+verb_text verb.Lookup = codes "lookup"
+verb_text verb.List = codes "list"
+verb_text verb.Kind = codes "kind"
+verb_text verb.Info = codes "info"
+verb_text verb.Create = codes "create"
+verb_text verb.Open = codes "open"
+verb_text verb.Close = codes "close"
+verb_text verb.Set = codes "set"
+verb_text verb.Delete = codes "delete"
+verb_text verb.Rename = codes "rename"
+
+-- ## Sessions, whose numbers are told up to the limit, and every greater one as one more
+
+abbrev pub capped : ℕ → ℕ
+capped n = min n (SESSIONS + 1)
+
+abbrev pub capped_what : What → What
+capped_what (Join s) = Join (record s { 0 = capped s.0 })
+capped_what (Do s o) = Do (record s { 0 = capped s.0 }) o
+
+-- the digits are those of a session whose number is told as n
+abbrev pub IsToldNumber : ℕ → List ℕ → Type 0
+IsToldNumber n digits = (m : ℕ) × IsNumberOf digits m × (n ≡ capped m)
+
+-- the word is such a session's
+abbrev pub IsToldSession : ℕ → Word → Type 0
+IsToldSession n w = (digits : List ℕ) × (w ≡ client_word digits) × IsToldNumber n digits
+
+-- the words tell what happens
+abbrev pub IsToldWhat : Head → What → List Word → Type 0
+IsToldWhat head w words = (full : What) × IsSpelled head full words × (w ≡ capped_what full)
+
+-- the words tell the event
+abbrev pub IsToldEvent : Head → Event → List Word → Type 0
+IsToldEvent head e words = (e.reading ≤ LATEST) × ((rest : List Word) × (words ≡ Bare (decimal e.reading) ∷ rest) × IsToldWhat head e.what rest)
+
+-- the line tells the event
+abbrev pub IsToldLine : Head → Event → List ℕ → Type 0
+IsToldLine head e line = (words : List Word) × IsToldEvent head e words × (line ≡ line_text words)

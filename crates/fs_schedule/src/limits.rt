@@ -1,0 +1,7 @@
+//! The limits of a schedule.
+
+/// The most bytes of a line.
+pub const BYTES: usize = 4096;
+
+/// The most events of a schedule.
+pub const EVENTS: usize = 65_536;

@@ -1,0 +1,112 @@
+//! Lines, read as events.
+ghost use Rattle.std.specs.Prelude.{◌≡◌, ◌∷◌, [], codes};
+ghost use Rattle.fs_schedule.specs.declared.event.Head.{Head as Form};
+ghost use Rattle.fs_schedule.specs.Words.{Bare};
+ghost use Rattle.fs_schedule.specs.Spelling.{names_late};
+ghost use Rattle.fs_schedule.specs.Reading.{Tells, word_of, words_in, IsToldWhat, IsToldEvent, IsToldLine};
+
+use crate::event::{Event, Head, What};
+use crate::operand::number_at;
+use crate::operation::op_at;
+use crate::session::session_at;
+use crate::unread::Unread;
+use crate::word::Word;
+use crate::words::words_of;
+use fs_ident::{LATEST, SESSIONS, Session};
+use std::alloc::Global;
+
+/// The event that the line tells in the form, with a session above the limit as one more than the limit.
+pub fn event_at(alloc: Global, head: Head, line: &[u8]) -> Result<Event, Unread>
+    ensures { Tells (IsToldLine head) result line.now }
+{
+    let words = words_of(alloc, line)?;
+    event_of(alloc, head, words.as_slice())
+}
+
+fn event_of(alloc: Global, head: Head, words: &[Word]) -> Result<Event, Unread>
+    ensures { Tells (IsToldEvent head) result (words_in words.now) }
+{
+    let [reading, words @ ..] = words else {
+        return Err(Unread::Outside);
+    };
+    event_by(alloc, head, reading, words)
+}
+
+/// The same, where the first word was parted from the others.
+fn event_by(alloc: Global, head: Head, reading: &Word, words: &[Word]) -> Result<Event, Unread>
+    ensures { Tells (IsToldEvent head) result (word_of reading.now ∷ words_in words.now) }
+{
+    let reading = number_at(alloc, LATEST, reading)?;
+    let what = what_of(alloc, head, words)?;
+    Ok(Event { reading, what })
+}
+
+fn what_of(alloc: Global, head: Head, words: &[Word]) -> Result<What, Unread>
+    ensures { Tells (IsToldWhat head) result (words_in words.now) }
+{
+    let [Word::Bare(verb), operands @ ..] = words else {
+        return Err(Unread::Outside);
+    };
+    what_by(alloc, head, verb, operands)
+}
+
+/// The same, where the verb was read.
+fn what_by(alloc: Global, head: Head, verb: &[u8], operands: &[Word]) -> Result<What, Unread>
+    ensures { Tells (IsToldWhat head) result (Bare verb.now ∷ words_in operands.now) }
+{
+    match verb {
+        b"join" => join_of(operands),
+        b"do" => do_of(alloc, operands),
+        _ => Err(Unread::Outside),
+    }
+}
+
+fn join_of(operands: &[Word]) -> Result<What, Unread>
+    ensures { (head : Form) →
+        Tells (IsToldWhat head) result (Bare (codes "join") ∷ words_in operands.now) }
+{
+    let [session] = operands else {
+        return Err(Unread::Outside);
+    };
+    join_by(session)
+}
+
+/// The same, where there is one operand.
+fn join_by(session: &Word) -> Result<What, Unread>
+    ensures { (head : Form) →
+        Tells (IsToldWhat head) result (Bare (codes "join") ∷ word_of session.now ∷ []) }
+{
+    let number = session_at(session)?;
+    Ok(What::Join(Session(number)))
+}
+
+fn do_of(alloc: Global, operands: &[Word]) -> Result<What, Unread>
+    ensures { (head : Form) →
+        Tells (IsToldWhat head) result (Bare (codes "do") ∷ words_in operands.now) }
+{
+    let [session, words @ ..] = operands else {
+        return Err(Unread::Outside);
+    };
+    do_by(alloc, session, words)
+}
+
+/// The same, where the first operand was parted from the others.
+fn do_by(alloc: Global, session: &Word, words: &[Word]) -> Result<What, Unread>
+    ensures { (head : Form) →
+        Tells (IsToldWhat head) result
+        (Bare (codes "do") ∷ word_of session.now ∷ words_in words.now) }
+{
+    let number = session_at(session)?;
+    let op = op_at(alloc, words)?;
+    Ok(What::Do(Session(number), op))
+}
+
+/// Whether it names a session above the limit.
+pub fn names_late(what: &What) -> bool
+    ensures { result ≡ names_late what.now }
+{
+    match what {
+        What::Join(session) => SESSIONS < session.0,
+        What::Do(session, _) => SESSIONS < session.0,
+    }
+}
