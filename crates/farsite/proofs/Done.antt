@@ -1,30 +1,22 @@
--- The end of a replay that was done.
+-- The end of a replay.
 use Rattle.std.proofs.Common.{◌≡◌, ℕ, List, [], ◌++◌, ap, ◌∙◌, subst, append_assoc}
-use Rattle.std.specs.Prelude.{Option, Some, None, IfSome}
+use Rattle.std.specs.Prelude.{Option, Some, None, IfSome, true}
 use Rattle.std.specs.Io.KnownBytes.{Appends}
 use Rattle.fs_schedule.specs.declared.event.Schedule.{Schedule}
 use Rattle.fs_schedule.specs.Faults.{IsScheduleText}
 use Rattle.fs_report.specs.Report.{done_text}
-use Rattle.farsite.specs.World.{world_of}
-use Rattle.farsite.specs.Headline.{IsReplay, IsReportOf, IsSerial}
-use Rattle.farsite.proofs.Kept.{world_is_serial}
-use Rattle.fs_schedule.proofs.Single.{all_fit}
+use Rattle.fs_world.specs.World.{AllMayAsk, run_of}
+use Rattle.fs_world.proofs.Kept.{run_is_serial, told_is_admitted}
+use Rattle.farsite.specs.Headline.{IsReplay, report_of}
 
--- the headline of a schedule's world
-pub headline : (s : Schedule) (bytes : List ℕ) → IsScheduleText s bytes → IsSerial s.events (world_of s.events)
-headline s bytes h = world_is_serial s.events (all_fit s bytes h)
+-- a schedule's report was written
+pub replayed : (s : Schedule) (bytes : List ℕ) (a b : Option (List ℕ)) → IsScheduleText s bytes → AllMayAsk s.events → Appends a b (report_of (run_of s)) → IsReplay bytes a b
+replayed s bytes a b r f w = record { schedule = s; read = r; written = w; headline = run_is_serial s f; admitted = told_is_admitted s f }
 
--- what was read and written, where the source tells
-pub replayed : (left : Option (List ℕ)) (bytes report : List ℕ) (a b : Option (List ℕ)) → IfSome left (λ xs. bytes ≡ xs) → IsReportOf bytes report → Appends a b report → IfSome left (λ xs. IsReplay xs a b)
-replayed None bytes report a b e r w = tt
-replayed (Some xs) bytes report a b e r w =
-    let read : IsScheduleText r.0 xs = subst (λ (ys : List ℕ). IsScheduleText r.0 ys) e r.1 in
-    record {
-      schedule = r.0;
-      read = read;
-      written = subst (λ (ys : List ℕ). Appends a b ys) r.2 w;
-      headline = headline r.0 xs read;
-    }
+-- what holds of the bytes that were read holds of those that the source told
+pub as_told : (left : Option (List ℕ)) (bytes : List ℕ) (P : List ℕ → Type 0) → IfSome left (λ xs. bytes ≡ xs) → P bytes → IfSome left P
+as_told None bytes P e h = tt
+as_told (Some xs) bytes P e h = subst P e h
 
 -- four parts, one after another
 pub parts_joined : (none a b c e o j s d : List ℕ) → none ≡ [] → a ≡ none ++ o → b ≡ a ++ j → c ≡ b ++ s → e ≡ c ++ d → e ≡ o ++ (j ++ (s ++ d))

@@ -1,5 +1,5 @@
 -- The loops over events, outcomes, items and lines.
-use Rattle.std.proofs.Common.{◌≡◌, ℕ, ◌+◌, ◌-◌, ◌<◌, ◌≤◌, List, ◌∷◌, ◌++◌, length, get_or, take, drop, ap, sym, ◌∙◌, append_assoc, arith, subst}
+use Rattle.std.proofs.Common.{◌≡◌, Bool, true, false, ◌||◌, refl, ℕ, ◌+◌, ◌-◌, ◌<◌, ◌≤◌, List, ◌∷◌, ◌++◌, length, get_or, take, drop, ap, sym, ◌∙◌, append_assoc, arith, subst}
 use Rattle.std.proofs.lemmas.List.{drop_more, append-nil, drop_all, take-take, length-take}
 use Rattle.std.proofs.Math.Seq.{take-add}
 use Rattle.std.specs.Prelude.{Option}
@@ -10,11 +10,28 @@ use Rattle.fs_msg.specs.declared.item.Item.{Item}
 use Rattle.fs_report.specs.Report.{outcome_text, outcomes_text, item_text, items_text}
 use Rattle.fs_schedule.specs.declared.event.Event.{Event}
 use Rattle.fs_schedule.specs.declared.outcome.Outcome.{Outcome}
-use Rattle.farsite.specs.declared.world.World.{World}
-use Rattle.farsite.specs.World.{after, happens}
+use Rattle.fs_world.specs.declared.direct.Direct.{Direct}
+use Rattle.fs_world.specs.World.{Run, is_spent, meets_spent, more, run_on, step}
 
-pub after_step : (w : World) (es : List Event) (i : ℕ) (d : Event) → i < length es → after w (drop i es) ≡ after (happens w (get_or es i d).what) (drop (i + 1) es)
-after_step w es i d h = rw (drop_more es i d h)
+-- the run goes on with one more event
+pub run_step : (r : Run) (es : List Event) (i : ℕ) (d : Event) → i < length es → run_on r (drop i es) ≡ run_on (more r (get_or es i d)) (drop (i + 1) es)
+run_step r es i d h = rw (drop_more es i d h)
+
+or_true : (a b : Bool) → b ≡ true → (a || b) ≡ true
+or_true true b h = refl
+or_true false b h = h
+
+-- a counter that is spent later is spent
+pub spent_step : (w : Direct) (es : List Event) (i : ℕ) (d : Event) → i < length es → meets_spent (step w (get_or es i d)).world (drop (i + 1) es) ≡ true → meets_spent w (drop i es) ≡ true
+spent_step w es i d h t = rw (drop_more es i d h) (or_true (is_spent w (get_or es i d).what) (meets_spent (step w (get_or es i d)).world (drop (i + 1) es)) t)
+
+true_or : (a b : Bool) → a ≡ true → (a || b) ≡ true
+true_or true b h = refl
+true_or false b h = absurd (cc)
+
+-- a counter that is spent now is spent
+pub spent_here : (w : Direct) (es : List Event) (i : ℕ) (d : Event) → i < length es → is_spent w (get_or es i d).what ≡ true → meets_spent w (drop i es) ≡ true
+spent_here w es i d h t = rw (drop_more es i d h) (true_or (is_spent w (get_or es i d).what) (meets_spent (step w (get_or es i d)).world (drop (i + 1) es)) t)
 
 -- one more outcome is written
 pub outcomes_step : (out more total : List ℕ) (os : List Outcome) (i : ℕ) (o : Outcome) → i < length os → get_or os i o ≡ o → more ≡ out ++ outcome_text (i + 1) o → out ++ outcomes_text (i + 1) (drop i os) ≡ total → more ++ outcomes_text (i + 1 + 1) (drop (i + 1) os) ≡ total

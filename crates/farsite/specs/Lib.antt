@@ -1,6 +1,4 @@
-pub mod World
-pub mod Order
 pub mod Headline
 pub mod Usage
-pub mod Seen
 pub mod Status
+pub mod Lines

@@ -6,6 +6,8 @@ use Rattle.fs_schedule.specs.declared.error.ScheduleError.{ScheduleError}
 use Rattle.fs_schedule.specs.declared.error.ScheduleError.TheVariants as schedule
 use Rattle.fs_io.specs.declared.reading.ReadError.{ReadError}
 use Rattle.fs_io.specs.declared.reading.ReadError.TheVariants as reading
+use Rattle.fs_msg.specs.declared.core_error.CoreError.{CoreError}
+use Rattle.fs_msg.specs.declared.core_error.CoreError.TheVariants as core
 use Rattle.farsite.specs.declared.status.Status.{Status}
 use Rattle.farsite.specs.declared.status.Status.TheVariants as status
 
@@ -18,6 +20,7 @@ number_of (status.Limit which at) = 5
 number_of (status.TooLong limit) = 6
 number_of status.ReadFault = 7
 number_of status.WriteFault = 8
+number_of (status.Spent counter) = 9
 number_of status.Memory = 10
 
 abbrev pub status_text : Status → List ℕ
@@ -28,6 +31,7 @@ status_text (status.Limit which at) = codes "line " ++ (decimal at ++ (codes " p
 status_text (status.TooLong limit) = codes "the input has more than " ++ decimal limit ++ codes " bytes"
 status_text status.ReadFault = codes "the input could not be read"
 status_text status.WriteFault = codes "the output could not be written"
+status_text (status.Spent counter) = codes "a counter is spent"
 status_text status.Memory = codes "memory is wanting"
 
 -- the status of an input that was not read to its end
@@ -41,3 +45,8 @@ abbrev pub schedule_status : ScheduleError → Status
 schedule_status (schedule.BadLine line) = status.BadLine line
 schedule_status (schedule.Limit which at) = status.Limit which at
 schedule_status schedule.Memory = status.Memory
+
+-- the status of a run that was not ended
+abbrev pub core_status : CoreError → Status
+core_status (core.Spent counter) = status.Spent counter
+core_status core.Memory = status.Memory

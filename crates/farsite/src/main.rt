@@ -1,69 +1,78 @@
 //! The program: reads a schedule, runs it, and writes its report.
 #![tactic(auto)]
 
-mod counts;
-mod numbers;
+mod lines;
+mod page;
 mod replay;
 mod status;
 mod top;
 mod words;
-mod world;
 
+ghost use Rattle.std.specs.Prelude.{◌≡◌, IfOk, string_bytes};
+ghost use Rattle.std.specs.Process.{exit_status};
+ghost use Rattle.farsite.specs.Status.{number_of};
+
+use crate::page::page_of;
 use crate::status::Status;
 use crate::top::farsite;
+use fs_ident::Memory;
 use fs_io::{MemClock, SureLink, standard_input, standard_output};
+use std::alloc::Global;
+use std::env::FillError;
 use std::process::ExitCode;
 use std::rt::Env;
-use std::{env, io};
-
-/// What `--help` prints.
-const HELP: &str = "usage: farsite replay < SCHEDULE
-
-Reads a schedule, runs it, and writes its report: an outcome for each event, the journal,
-and the namespace at the end.";
-
-/// What `--version` prints.
-const VERSION: &str = "farsite 0.1.0";
 
 fn main(rt: HostRuntime) -> ExitCode {
-    let Ok(words) = words_of(&rt) else {
-        return ended(&rt, Status::Memory);
-    };
-    if is_only(&words, "--help") {
-        return told(&rt, HELP);
-    }
-    if is_only(&words, "--version") {
-        return told(&rt, VERSION);
-    }
-    let status = called(&rt, &words);
+    let status = call(&rt);
     ended(&rt, status)
 }
 
-/// The words of the command line, without the program's name.
-fn words_of<R: Env + AllocGlobal>(rt: &R) -> io::Result<Vec<String>> {
-    let mut words = Vec::new(rt.alloc());
-    let mut is_name = true;
-    for word in env::args(rt)? {
-        if !is_name {
-            words.push(word)?;
-        }
-        is_name = false;
+/// What the words of the command line ask for.
+fn call<R: Env + Input + Print + AllocGlobal>(rt: &R) -> Status {
+    let Ok(words) = words_of(rt.alloc(), rt) else {
+        return Status::Memory;
+    };
+    match page_of(&words) {
+        Some(page) => printed(rt, page.text()),
+        None => called(rt, &words),
+    }
+}
+
+/// The words of the command line, without the program's name. A word that is not text has characters in it that no
+/// word of any form has.
+fn words_of(alloc: Global, env: &impl Env) -> Result<Vec<String>, Memory> {
+    let mut words = Vec::new(alloc);
+    for at in 1..usize::MAX {
+        let Some(bytes) = word_at(alloc, env, at)? else {
+            break;
+        };
+        words.push(String::from_utf8_lossy(alloc, &bytes)?)?;
     }
     Ok(words)
 }
 
-fn is_only(words: &[String], word: &str) -> bool {
-    match words {
-        [only] => only.as_str() == word,
-        _ => false,
+/// The bytes of a word, None behind the last.
+fn word_at(alloc: Global, env: &impl Env, at: usize) -> Result<Option<Vec<u8>>, Memory> {
+    let mut room = 256usize;
+    for _ in 0..usize::BITS {
+        let mut bytes = vec![in alloc; 0u8; room]?;
+        match env.arg(at, &mut bytes) {
+            Ok(len) => {
+                bytes.truncate(len);
+                return Ok(Some(bytes));
+            }
+            Err(FillError::NotPresent) => return Ok(None),
+            Err(FillError::TooLong) => room = room.saturating_add(room),
+        }
     }
+    Err(Memory)
 }
 
-/// Prints a text, and ends well where it was printed.
-fn told(rt: &impl Print, text: &str) -> ExitCode {
+/// Prints a text: done where it was printed.
+fn printed(rt: &impl Print, text: &str) -> Status {
     match rt.println(text) {
-        Ok(()) => ExitCode::from(Status::Done.number()),
-        Err(_) => ExitCode::from(Status::WriteFault.number()),
+        Ok(()) => Status::Done,
+        Err(_) => Status::WriteFault,
     }
 }
 
@@ -79,8 +88,11 @@ fn called<R: Input + Print + AllocGlobal>(rt: &R, words: &[String]) -> Status {
     farsite(alloc, words, &mut input, &mut out, &mut clock, &mut link)
 }
 
-/// Says how the call ended on standard error, unless it is done, and ends with the status's number.
-fn ended(rt: &impl Eprint, status: Status) -> ExitCode {
+/// Says how the call ended on standard error, unless it is done, and ends with the status's number, also where nothing
+/// could be said.
+fn ended(rt: &impl Eprint, status: Status) -> ExitCode
+    ensures { exit_status result ≡ number_of status }
+{
     if status != Status::Done {
         let _ = eprintln!(rt; "farsite: {status}");
     }

@@ -1,54 +1,65 @@
 //! The report of a schedule.
-ghost use Rattle.std.specs.Prelude.{◌≡◌, ◌+◌, ◌^◌, ◌<◌, ◌≤◌, ◌++◌, ℕ, List as Seq, take, length, IfOk, OnOk, OnErr, IsErrOf, Some};
-ghost use Rattle.std.specs.FinMap as map;
-ghost use Rattle.farsite.specs.World.{after, world_of};
-ghost use Rattle.farsite.specs.Headline.{IsReportOf, report_of};
-ghost use Rattle.fs_report.specs.Report.{outcomes_text, items_text};
-ghost use Rattle.fs_schedule.specs.Faults.{IsFirstFault, IsOutside, PassesLimit};
+ghost use Rattle.std.specs.Prelude.{◌≡◌, ◌++◌, true, List as Seq, IfOk, OnOk, IsErrOf};
+ghost use Rattle.fs_msg.specs.declared.core_error.Counter.{Counter as TheCounter};
+ghost use Rattle.fs_msg.specs.declared.core_error.CoreError.TheVariants.{Spent};
+ghost use Rattle.fs_report.specs.Report.{outcomes_text, items_text, report_text};
+ghost use Rattle.fs_world.specs.World.{first_world, meets_spent, run_of};
+ghost use Rattle.farsite.specs.Headline.{report_of};
 
-use crate::world::World;
 use fs_ident::{List, Memory};
-use fs_msg::Item;
+use fs_model::Space;
+use fs_msg::{CoreError, Item};
 use fs_report::{done_line, item_line, outcome_line, space_lines};
-use fs_schedule::{Event, Outcome, ScheduleError, Which, read_schedule};
+use fs_schedule::{Outcome, Schedule};
+use fs_world::World;
 use std::alloc::Global;
 
-/// The report of the schedule that the bytes are.
-pub fn report_of(alloc: Global, bytes: &[u8]) -> Result<Vec<u8>, ScheduleError>
-    ensures ok { IfOk result (λ v. IsReportOf bytes.now v.items) }
-    ensures bad_line { (line : ℕ) → IsErrOf result (ScheduleError.BadLine line) →
-        IsFirstFault IsOutside line bytes.now }
-    ensures limit { (which : Which) (at : ℕ) → IsErrOf result (ScheduleError.Limit which at) →
-        IsFirstFault (PassesLimit which) at bytes.now }
+/// The report of the schedule's run. `Spent` where some event needs a number after a counter's last one.
+pub(crate) fn report_of(alloc: Global, schedule: &Schedule) -> Result<Vec<u8>, CoreError>
+    ensures ok { IfOk result (λ v. v.items ≡ report_of (run_of schedule.now)) }
+    ensures spent { (counter : TheCounter) → IsErrOf result (Spent counter) →
+        meets_spent (first_world schedule.now.head) schedule.now.events ≡ true }
 {
-    let schedule = read_schedule(alloc, bytes)?;
-    let world = run(alloc, &schedule.events)?;
-    Ok(written(alloc, &world)?)
+    let (world, told) = run(alloc, schedule)?;
+    let space = world.space(alloc)?;
+    Ok(written(alloc, &told, world.journal(), &space)?)
 }
 
-/// The world after the events.
-fn run(alloc: Global, events: &List<Event>) -> Result<World, Memory>
-    ensures { IfOk result (λ w. w ≡ world_of events.now) }
+/// The world after the events of the schedule, and what each of them came to.
+fn run(alloc: Global, schedule: &Schedule) -> Result<(World, List<Outcome>), CoreError>
+    ensures world { IfOk result (λ r. r.0 ≡ (run_of schedule.now).world) }
+    ensures outcomes { IfOk result (λ r. r.1 ≡ (run_of schedule.now).outcomes) }
+    ensures spent { (counter : TheCounter) → IsErrOf result (Spent counter) →
+        meets_spent (first_world schedule.now.head) schedule.now.events ≡ true }
 {
-    let mut world = World::new(alloc)?;
-    for e in events.as_slice() {
-        world.happens(alloc, &e.what)?;
+    let mut told = List::new(alloc);
+    let mut world = World::new(alloc, &schedule.head)?;
+    for e in schedule.events.as_slice() {
+        match world.step(alloc, e) {
+            Ok(outcome) => told.push(outcome)?,
+            Err(e) => return Err(e),
+        }
     }
-    Ok(world)
+    Ok((world, told))
 }
 
-/// The lines of a world.
-fn written(alloc: Global, world: &World) -> Result<Vec<u8>, Memory>
-    ensures { IfOk result (λ v. v.items ≡ report_of world.now) }
+/// The lines of what was told, of the journal and of the namespace at the end.
+fn written(
+    alloc: Global,
+    told: &List<Outcome>,
+    journal: &List<Item>,
+    space: &Space,
+) -> Result<Vec<u8>, Memory>
+    ensures { IfOk result (λ v. v.items ≡ report_text told.now journal.now space.now) }
 {
     let mut report = Vec::new(alloc);
-    outcomes(alloc, &world.outcomes, &mut report)?;
-    items(alloc, &world.journal, &mut report)?;
-    space_lines(alloc, &world.space, &mut report)?;
-    let events = world.outcomes.len() as u64;
-    let journal = world.journal.len() as u64;
-    let nodes = world.space.len() as u64;
-    done_line(alloc, events, journal, nodes, &mut report)?;
+    outcomes(alloc, told, &mut report)?;
+    items(alloc, journal, &mut report)?;
+    space_lines(alloc, space, &mut report)?;
+    let events = told.len() as u64;
+    let admitted = journal.len() as u64;
+    let nodes = space.len() as u64;
+    done_line(alloc, events, admitted, nodes, &mut report)?;
     Ok(report)
 }
 

@@ -1,6 +1,7 @@
 //! How a call of the program ends.
 ghost use Rattle.std.specs.Prelude.{◌≡◌, Some};
 
+use fs_msg::Counter;
 use fs_schedule::Which;
 use std::fmt;
 
@@ -21,6 +22,8 @@ pub enum Status {
     ReadFault,
     /// The output could not be written; what is written is a prefix of it.
     WriteFault,
+    /// This counter is at its end, and the run needs one more of it. Within the limits of a schedule it does not come.
+    Spent { counter: Counter },
     /// Memory is wanting.
     Memory,
 }
@@ -40,6 +43,7 @@ impl Status {
             Status::TooLong { .. } => 6,
             Status::ReadFault => 7,
             Status::WriteFault => 8,
+            Status::Spent { .. } => 9,
             Status::Memory => 10,
         }
     }
@@ -59,6 +63,7 @@ impl fmt::Display for Status {
             Status::TooLong { limit } => write!(f, "the input has more than {limit} bytes"),
             Status::ReadFault => f.write_str("the input could not be read"),
             Status::WriteFault => f.write_str("the output could not be written"),
+            Status::Spent { .. } => f.write_str("a counter is spent"),
             Status::Memory => f.write_str("memory is wanting"),
         }
     }

@@ -3,23 +3,26 @@ ghost use Rattle.std.specs.Prelude.{◌≡◌, ◌≢◌, ◌↔◌, ◌+◌, �
 ghost use Rattle.std.specs.Io.KnownBytes.{Appends, IsAtEnd};
 ghost use Rattle.fs_io.specs.Bytes.{IsPrefixWritten};
 ghost use Rattle.fs_io.specs.Faults.{Rose};
-ghost use Rattle.fs_schedule.specs.Faults.{IsFirstFault, IsOutside, PassesLimit};
+ghost use Rattle.fs_msg.specs.declared.core_error.Counter.{Counter};
+ghost use Rattle.fs_schedule.specs.Faults.{AtLine, IsFirstFault, IsOutside, PassesLimit};
 ghost use Rattle.fs_schedule.specs.declared.error.Which.{Which};
-ghost use Rattle.farsite.specs.Headline.{IsReplay, IsPartOfReplay, IsReadWhole};
-ghost use Rattle.farsite.specs.Status.{read_status, schedule_status};
+ghost use Rattle.farsite.specs.Headline.{IsReplay, IsPartOfReplay, IsReadWhole, MeetsSpent};
+ghost use Rattle.farsite.specs.Status.{read_status, schedule_status, core_status};
 ghost use Rattle.farsite.specs.Usage.{is_form, understood};
 
+use crate::lines::write_lines;
 use crate::replay::report_of;
 use crate::status::Status;
 use crate::words::misplaced;
-use fs_io::{Clock, Failed, Link, ReadError, Sink, Source, read_all, write_all};
-use fs_schedule::ScheduleError;
+use fs_io::{Clock, Failed, Link, ReadError, Sink, Source, read_all};
+use fs_msg::CoreError;
+use fs_schedule::{ScheduleError, read_schedule};
 use std::alloc::Global;
 
 /// What the program does with the words of its command line, without its own name.
 ///
 /// `replay` reads a schedule from the input to its end, runs it, and writes its report. Clock and link are not
-/// called. Where the status is neither `Done` nor `WriteFault`, nothing is written.
+/// called. Where the status is neither `Done` nor `WriteFault`, nothing is written; at `Usage` nothing is read.
 pub fn farsite<S: Source, K: Sink, C: Clock, L: Link>(
     alloc: Global,
     words: &[String],
@@ -35,10 +38,13 @@ pub fn farsite<S: Source, K: Sink, C: Clock, L: Link>(
     ensures usage { (word : ℕ) → (result ≡ Status.Usage word) ↔
         ((is_form (map string_bytes words.now) ≡ false) ×
         (word ≡ understood (map string_bytes words.now) + 1)) }
+    ensures unread { is_form (map string_bytes words.now) ≡ false → input.new ≡ input.old }
     ensures bad_line { (line : ℕ) → result ≡ Status.BadLine line →
-        IfSome (S.left input.old) (λ bytes. IsFirstFault IsOutside line bytes) }
+        IfSome (S.left input.old) (λ bytes. IsFirstFault (AtLine line IsOutside) bytes) }
     ensures limit { (which : Which) (at : ℕ) → result ≡ Status.Limit which at →
-        IfSome (S.left input.old) (λ bytes. IsFirstFault (PassesLimit which) at bytes) }
+        IfSome (S.left input.old) (λ bytes. IsFirstFault (AtLine at (PassesLimit which)) bytes) }
+    ensures spent { (counter : Counter) → result ≡ Status.Spent counter →
+        IfSome (S.left input.old) MeetsSpent }
     ensures short { IsReadWhole result →
         IfSome (S.left input.old) (λ bytes. length bytes ≤ 16777216) }
     ensures too_long { (limit : ℕ) → result ≡ Status.TooLong limit → (limit ≡ 16777216) ×
@@ -46,6 +52,8 @@ pub fn farsite<S: Source, K: Sink, C: Clock, L: Link>(
     ensures read_fault { result ≡ Status.ReadFault →
         Rose (S.faults input.old) (S.faults input.new) }
     ensures write_fault { result ≡ Status.WriteFault → Rose (K.faults out.old) (K.faults out.new) }
+    ensures quiet_input { result ≢ Status.ReadFault → S.faults input.new ≡ S.faults input.old }
+    ensures quiet_output { result ≢ Status.WriteFault → K.faults out.new ≡ K.faults out.old }
     ensures prefix { result ≡ Status.WriteFault →
         IfSome (S.left input.old) (λ bytes. IsPartOfReplay bytes (K.written out.old)
         (K.written out.new)) }
@@ -56,14 +64,37 @@ pub fn farsite<S: Source, K: Sink, C: Clock, L: Link>(
     if let Some(word) = misplaced(words) {
         return Status::Usage { word };
     }
-    let bytes = match read_all(alloc, input) {
-        Ok(bytes) => bytes,
-        Err(e) => return read_status(e),
-    };
-    match report_of(alloc, &bytes) {
-        Ok(report) => match write_lines(out, &report) {
-            Ok(()) => Status::Done,
-            Err(Failed) => Status::WriteFault,
+    match read_all(alloc, input) {
+        Ok(bytes) => replay(alloc, &bytes, out),
+        Err(e) => read_status(e),
+    }
+}
+
+/// Writes the report of the schedule that the bytes are.
+fn replay<K: Sink>(alloc: Global, bytes: &[u8], out: &mut K) -> Status
+    ensures done { result ≡ Status.Done →
+        IsReplay bytes.now (K.written out.old) (K.written out.new) }
+    ensures usage { (word : ℕ) → result ≢ Status.Usage word }
+    ensures bad_line { (line : ℕ) → result ≡ Status.BadLine line →
+        IsFirstFault (AtLine line IsOutside) bytes.now }
+    ensures limit { (which : Which) (at : ℕ) → result ≡ Status.Limit which at →
+        IsFirstFault (AtLine at (PassesLimit which)) bytes.now }
+    ensures spent { (counter : Counter) → result ≡ Status.Spent counter → MeetsSpent bytes.now }
+    ensures too_long { (limit : ℕ) → result ≢ Status.TooLong limit }
+    ensures read_fault { result ≢ Status.ReadFault }
+    ensures write_fault { result ≡ Status.WriteFault → Rose (K.faults out.old) (K.faults out.new) }
+    ensures quiet { result ≢ Status.WriteFault → K.faults out.new ≡ K.faults out.old }
+    ensures prefix { result ≡ Status.WriteFault →
+        IsPartOfReplay bytes.now (K.written out.old) (K.written out.new) }
+    ensures silent { result ≢ Status.Done → result ≢ Status.WriteFault → out.new ≡ out.old }
+{
+    match read_schedule(alloc, bytes) {
+        Ok(schedule) => match report_of(alloc, &schedule) {
+            Ok(report) => match write_lines(out, &report) {
+                Ok(()) => Status::Done,
+                Err(Failed) => Status::WriteFault,
+            },
+            Err(e) => core_status(e),
         },
         Err(e) => schedule_status(e),
     }
@@ -93,31 +124,12 @@ fn schedule_status(e: ScheduleError) -> Status
     }
 }
 
-/// Writes all of the lines, each by itself.
-fn write_lines<K: Sink>(out: &mut K, lines: &[u8]) -> Result<(), Failed>
-    ensures ok { OnOk result (Appends (K.written out.old) (K.written out.new) lines.now) }
-    ensures some { OnErr result
-        (IsPrefixWritten (K.written out.old) (K.written out.new) lines.now) }
-    ensures fault { OnErr result (Rose (K.faults out.old) (K.faults out.new)) }
-    ensures later { K.faults out.old ≤ K.faults out.new }
+/// The status of a run that was not ended.
+fn core_status(e: CoreError) -> Status
+    ensures { result ≡ core_status e }
 {
-    let mut at = 0;
-    while at < lines.len() {
-        let end = line_end(lines, at);
-        write_all(out, &lines[at..end])?;
-        at = end;
-    }
-    Ok(())
-}
-
-/// One more than the place of the first line feed from a place on, or the end.
-fn line_end(lines: &[u8], at: usize) -> usize
-    requires { at < length lines.now }
-    ensures after { at < result }
-    ensures within { result ≤ length lines.now }
-{
-    match lines[at..].iter().position(|b| *b == b'\n') {
-        Some(k) => at + k + 1,
-        None => lines.len(),
+    match e {
+        CoreError::Spent { counter } => Status::Spent { counter },
+        CoreError::Memory => Status::Memory,
     }
 }

@@ -1,0 +1,7 @@
+pub mod Restored
+pub mod Creates
+pub mod Serial
+pub mod Numbered
+pub mod Replies
+pub mod Kept
+pub mod Bounded

@@ -1,0 +1,5 @@
+use Rattle.fs_world.proofs.Kept.{run_is_serial, told_is_admitted}
+use Rattle.fs_world.proofs.law.every_run_is_serial.Goals as goal
+
+pub returns : goal.returns
+returns c = record { serial = run_is_serial; admitted = told_is_admitted }
