@@ -65,7 +65,15 @@ impl Rows {
             IsLeastAgainst self.old session field.now kind blocker }
         ensures valid { IsTable self.new }
     {
-        ask(self.rows.items_mut(), alloc, no, session, field, kind, until)
+        ask(
+            self.rows.items_mut(),
+            alloc,
+            no,
+            session,
+            field,
+            kind,
+            until,
+        )
     }
 
     /// Lets the row of this number end no sooner than `until`; its end is never lowered. `Unknown` where there is
