@@ -1,9 +1,11 @@
+use crate::error::LinkError;
 use crate::law::in_order;
 use crate::packet::{Packet, read_packet, write_packet};
 use crate::sent::Sent;
 use crate::window::Window;
 use fs_frag::{Segment, cut};
-use fs_ident::{List, Peer, Session, Twin};
+use fs_ident::{List, Memory, Peer, Session, Twin};
+use std::alloc::Global;
 use std::test::*;
 
 /// The first packet of an end to which an Ask for the life of the root is pushed.
@@ -20,26 +22,37 @@ fn packet(rt: HostRuntime, number: u64, byte: u8) -> Result<Packet, Fail> {
     })
 }
 
-#[test]
-fn bytes_of_packets(rt: HostRuntime) -> Result<(), Fail> {
-    let alloc = rt.alloc();
+/// The bytes of the packets of a new end to which the message is pushed.
+fn first_bytes(alloc: Global, message: &[u8]) -> Result<Vec<u8>, LinkError> {
     let mut window = Window::new(alloc, 1);
-    let message = [1, 0, 0, 0, 0, 0, 0, 0, 1, 0, 0, 0, 0];
-    let segments = cut(alloc, &message)?;
-    window.push_all(alloc, segments)?;
+    window.push_all(alloc, cut(alloc, message)?)?;
     let packets = window.due(alloc, false, false)?;
     let mut out = Vec::new(alloc);
     for packet in packets.as_slice() {
         write_packet(alloc, packet, &mut out)?;
     }
-    assert_eq!(rt; out.as_slice(), FIRST.as_slice());
-    let read = read_packet(alloc, &FIRST)?.ok_or("it is one")?;
+    Ok(out)
+}
+
+/// The bytes of a copy of the packet that is read from these; none where they spell no packet.
+fn bytes_again(alloc: Global, bytes: &[u8]) -> Result<Vec<u8>, Memory> {
     let mut again = Vec::new(alloc);
-    let twin = read.copy(alloc)?;
-    write_packet(alloc, &twin, &mut again)?;
-    assert_eq!(rt; again.as_slice(), FIRST.as_slice());
-    let short = read_packet(alloc, &FIRST[..18])?;
-    assert!(rt; short.is_none());
+    if let Some(packet) = read_packet(alloc, bytes)? {
+        write_packet(alloc, &packet.copy(alloc)?, &mut again)?;
+    }
+    Ok(again)
+}
+
+#[test]
+fn bytes_of_packets(rt: HostRuntime) -> Result<(), Fail> {
+    let message = [1, 0, 0, 0, 0, 0, 0, 0, 1, 0, 0, 0, 0];
+    assert_eq!(rt;
+        first_bytes(rt.alloc(), &message)?.as_slice(),
+        FIRST.as_slice()
+    );
+    for (bytes, again) in [(FIRST.as_slice(), FIRST.as_slice()), (&FIRST[..18], &[])] {
+        assert_eq!(rt; bytes_again(rt.alloc(), bytes)?.as_slice(), again);
+    }
     Ok(())
 }
 
