@@ -45,7 +45,8 @@ pub fn no_file_is_its_own_ancestor()
 /// Following parents, however far, gives no file that is not among the ancestors.
 pub fn every_ancestor_is_listed()
     ensures { (m : NodeMap) (file other : List ℕ) (k : ℕ) → IsSound m →
-        IsTrue (is_among other (ancestors_within k m file)) → IsTrue (is_among other (ancestors m file)) }
+        IsTrue (is_among other (ancestors_within k m file)) →
+        IsTrue (is_among other (ancestors m file)) }
 {}
 
 /// Two handles of one file are of two sessions or have two numbers, and neither's access is denied by the other.

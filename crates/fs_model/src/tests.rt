@@ -90,18 +90,31 @@ fn node(alloc: Global, id: &FileId, name: &Name) -> Result<Node, Memory>
     Ok(node)
 }
 
+/// The copy of a space with that node alone.
+fn space_of(alloc: Global, id: &FileId, node: &Node) -> Result<Space, Memory>
+    requires { IsInOrder node.now }
+{
+    let mut space = Space::empty(alloc);
+    space.put(alloc, id, node.copy(alloc)?)?;
+    space.copy(alloc)
+}
+
+fn printed(alloc: Global, node: Option<&Node>) -> Result<String, Fail> {
+    Ok(format!(in alloc; "{node:?}")?)
+}
+
 #[test]
 fn a_node_is_put_and_copied_whole(rt: HostRuntime) -> Result<(), Fail> {
     let alloc = rt.alloc();
     let id = FileId::root(alloc).child(alloc, 7)?;
-    let whole = node(alloc, &id, &Name::new(alloc, b"b")?)?;
-    let mut space = Space::empty(alloc);
-    space.put(alloc, &id, whole.copy(alloc)?)?;
-    let twin = space.copy(alloc)?;
-    let files = format!(in alloc; "{:?}", twin.files(alloc)?)?;
-    assert_eq!(rt; files.as_str(), "List { items: [FileId { numbers: [7] }] }");
-    let text = format!(in alloc; "{:?}", twin.node(&id))?;
-    let want = format!(in alloc; "{:?}", Some(&whole))?;
+    let name = Name::new(alloc, b"b")?;
+    let whole = node(alloc, &id, &name)?;
+    let space = space_of(alloc, &id, &whole)?;
+    let text = printed(alloc, space.node(&id))?;
+    let want = printed(alloc, Some(&whole))?;
     assert_eq!(rt; text.as_str(), want.as_str());
+    let files = space.files(alloc)?;
+    assert!(rt; files.as_slice().contains(&id));
+    assert_eq!(rt; space.len(), 1);
     Ok(())
 }
