@@ -40,13 +40,13 @@ module _ (session : Session) (h : ℕ) where
 
 -- ## Order
 
-before_trans : (a b c : Handle) → comes_before a b ≡ true → comes_before b c ≡ true → comes_before a c ≡ true
+pub before_trans : (a b c : Handle) → comes_before a b ≡ true → comes_before b c ≡ true → comes_before a c ≡ true
 before_trans a b c p q = grind (arith, nat_tests)
 
 before_other : (a b : Handle) → comes_before a b ≡ false → is_at a.session a.h b ≡ false → comes_before b a ≡ true
 before_other a b p q = grind (arith, nat_tests)
 
-before_all_trans : (a b : Handle) (xs : List Handle) → comes_before a b ≡ true → is_before_all b xs ≡ true → is_before_all a xs ≡ true
+pub before_all_trans : (a b : Handle) (xs : List Handle) → comes_before a b ≡ true → is_before_all b xs ≡ true → is_before_all a xs ≡ true
 before_all_trans a b [] p h = refl
 before_all_trans a b (x ∷ xs) p h = joined _ _ (before_trans a b x p (first _ _ h)) (before_all_trans a b xs p (second _ _ h))
 

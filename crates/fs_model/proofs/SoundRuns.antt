@@ -18,6 +18,7 @@ use Rattle.fs_model.specs.declared.op.Op.TheVariants as op
 use Rattle.fs_model.specs.Namespace.{NodeMap, IsInOrder, IsSpace, first_space, root_node}
 use Rattle.fs_model.specs.Children.{child_at}
 use Rattle.fs_model.specs.Handles.{any_conflicts, comes_before, is_before_all, handles_are_in_order}
+use Rattle.fs_model.specs.Asking.{may_ask}
 use Rattle.fs_model.specs.Ancestors.{directory_of, ancestors_within, ancestors, is_among}
 use Rattle.fs_model.specs.Step.{Stepped, step, rename, rename_in, rename_to, rename_to_dir, rename_child}
 use Rattle.fs_model.specs.Sound.{kind_of, parent_of, child_of, open_of, none_conflict, IsTree, IsSound, IsSoundNode, AreApart, AsksAccess, space_after, AllAskAccess, is_change}
@@ -46,6 +47,20 @@ asked (op.Set file h size stamp) a = tt
 asked (op.Delete dir name) a = tt
 asked (op.Rename sdir sname ddir dname) a = tt
 asked (op.Reap file session) a = tt
+
+-- what a caller may ask asks for an access where it opens
+pub asks_access : (o : Op) → may_ask o ≡ true → AsksAccess o
+asks_access (op.OpenFile file h modes) a = a
+asks_access (op.Lookup dir name) a = tt
+asks_access (op.List dir) a = tt
+asks_access (op.Kind file) a = tt
+asks_access (op.Info file) a = tt
+asks_access (op.Create dir name k id) a = tt
+asks_access (op.Close file h) a = tt
+asks_access (op.Set file h size stamp) a = tt
+asks_access (op.Delete dir name) a = tt
+asks_access (op.Rename sdir sname ddir dname) a = tt
+asks_access (op.Reap file session) a = tt
 
 pub step_sound : (m : NodeMap) (by : Session) (o : Op) → IsSound m → AsksAccess o → IsSound (step m by o).nodes
 step_sound m by o s a = outcome_sound m by (step m by o) (outcome HasAccess m by o (asked o a)) s

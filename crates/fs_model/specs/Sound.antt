@@ -94,7 +94,7 @@ pub record IsSound (m : NodeMap) : Type 0 where
 
 -- ## Runs
 
--- an open asks for an access; nothing is asked of the other operations
+-- an open asks for an access, as whatever a caller may ask does; nothing is asked of the other operations
 abbrev pub AsksAccess : Op → Type 0
 AsksAccess (op.OpenFile file h modes) = IsTrue (has_access modes)
 AsksAccess _ = Unit {0}

@@ -1,9 +1,10 @@
 //! Laws of the namespace, over its definitions alone.
-ghost use Rattle.std.specs.Prelude.{◌≡◌, ◌≢◌, ℕ, List, false, Some, IfSome, IsTrue, AllPairs};
+ghost use Rattle.std.specs.Prelude.{◌≡◌, ◌≢◌, ℕ, List, true, false, Some, IfSome, IsTrue, AllPairs};
 ghost use Rattle.std.specs.FinMap.{get};
 ghost use Rattle.fs_ident.specs.declared.actor.Session.{Session};
 ghost use Rattle.fs_modes.specs.declared.modes.Modes.{Modes};
 ghost use Rattle.fs_modes.specs.Modes.{conflicts};
+ghost use Rattle.fs_model.specs.Asking.{may_ask};
 ghost use Rattle.fs_model.specs.Ancestors.{ancestors, ancestors_within, is_among};
 ghost use Rattle.fs_model.specs.Namespace.{NodeMap, IsSpace, first_space};
 ghost use Rattle.fs_model.specs.Sound.{IsSound, AsksAccess, AllAskAccess, AreApart, space_after, is_change, open_of};
@@ -16,9 +17,10 @@ pub fn first_space_is_sound()
     ensures { IsSound first_space }
 {}
 
-/// A step leads from a sound space to a sound one, where an open asks for an access.
+/// A step leads from a sound space to a sound one where an open asks for an access, and whatever a caller may ask does.
 pub fn steps_stay_sound()
-    ensures { (m : NodeMap) (by : Session) (op : Op) → IsSound m → AsksAccess op →
+    ensures callers { (op : Op) → may_ask op ≡ true → AsksAccess op }
+    ensures steps { (m : NodeMap) (by : Session) (op : Op) → IsSound m → AsksAccess op →
         IsSound (step m by op).nodes }
 {}
 
@@ -43,7 +45,8 @@ pub fn no_file_is_its_own_ancestor()
 /// Following parents, however far, gives no file that is not among the ancestors.
 pub fn every_ancestor_is_listed()
     ensures { (m : NodeMap) (file other : List ℕ) (k : ℕ) → IsSound m →
-        IsTrue (is_among other (ancestors_within k m file)) → IsTrue (is_among other (ancestors m file)) }
+        IsTrue (is_among other (ancestors_within k m file)) →
+        IsTrue (is_among other (ancestors m file)) }
 {}
 
 /// Two handles of one file are of two sessions or have two numbers, and neither's access is denied by the other.

@@ -1,67 +1,120 @@
-use crate::node::Node;
+//! Replies and nodes whole, by what they print.
+ghost use Rattle.std.specs.Prelude.{IfOk};
+ghost use Rattle.fs_model.specs.Namespace.{IsInOrder};
+
+use crate::node::{Handle, Node};
 use crate::op::Op;
-use crate::reply::Reply;
 use crate::space::Space;
-use fs_ident::{FileId, Kind, List, Name, Session, Twin};
+use fs_ident::{FileId, Kind, Memory, Name, Session, Twin};
+use fs_modes::Modes;
 use std::alloc::Global;
 use std::test::Fail;
 
-fn made(alloc: Global, space: &mut Space, dir: &FileId, k: u32) -> Result<bool, Fail> {
-    let op = Op::Create {
-        dir: dir.copy(alloc)?,
-        name: Name::new(alloc, b"a")?,
-        kind: Kind::Dir,
-        id: Some(dir.child(alloc, k)?),
-    };
+/// The reply to a copy of the operation, as it prints.
+fn told(alloc: Global, space: &mut Space, op: Op) -> Result<String, Fail> {
     let twin = op.copy(alloc)?;
-    let reply = space.step(alloc, Session(1), &twin)?;
-    let told = reply.copy(alloc)?;
-    Ok(matches!(told, Reply::Made))
+    let reply = space.step(alloc, Session(1), &twin)?.copy(alloc)?;
+    Ok(format!(in alloc; "{reply:?}")?)
+}
+
+fn create(alloc: Global) -> Result<Op, Fail> {
+    let dir = FileId::root(alloc);
+    let name = Name::new(alloc, b"a")?;
+    let kind = Kind::Dir;
+    let id = Some(dir.child(alloc, 1)?);
+    Ok(Op::Create {
+        dir,
+        name,
+        kind,
+        id,
+    })
+}
+
+fn look_up(alloc: Global) -> Result<Op, Fail> {
+    let dir = FileId::root(alloc);
+    let name = Name::new(alloc, b"a")?;
+    Ok(Op::Lookup { dir, name })
+}
+
+fn list(alloc: Global) -> Op {
+    let dir = FileId::root(alloc);
+    Op::List { dir }
+}
+
+fn open(alloc: Global) -> Op {
+    let file = FileId::root(alloc);
+    let h = 3;
+    let modes = Modes::NONE;
+    Op::OpenFile { file, h, modes }
 }
 
 #[test]
-fn ample_memory_is_enough(rt: HostRuntime) -> Result<(), Fail> {
+fn a_directory_is_made_and_found(rt: HostRuntime) -> Result<(), Fail> {
     let alloc = rt.alloc();
     let mut space = Space::new(alloc)?;
-    assert_eq!(rt; space.len(), 1);
-    let root = FileId::root(alloc);
-    let made_one = made(alloc, &mut space, &root, 1)?;
-    assert!(rt; made_one);
-    let files = space.files(alloc)?;
-    assert_eq!(rt; files.len(), 2);
-    let id = root.child(alloc, 1)?;
-    assert!(rt; space.node(&id).is_some());
+    let reply = told(alloc, &mut space, create(alloc)?)?;
+    assert_eq!(rt; reply.as_str(), "Made");
+    let reply = told(alloc, &mut space, look_up(alloc)?)?;
+    assert_eq!(rt; reply.as_str(), "Found(FileId { numbers: [1] })");
+    let reply = told(alloc, &mut space, list(alloc))?;
+    assert_eq!(rt;
+        reply.as_str(),
+        "Names(List { items: [Name { bytes: [97] }] })"
+    );
     Ok(())
 }
 
 #[test]
-fn a_reap_is_answered(rt: HostRuntime) -> Result<(), Fail> {
+fn a_file_is_opened_once(rt: HostRuntime) -> Result<(), Fail> {
     let alloc = rt.alloc();
     let mut space = Space::new(alloc)?;
-    let op = Op::Reap {
-        file: FileId::root(alloc),
+    let reply = told(alloc, &mut space, open(alloc))?;
+    assert_eq!(rt; reply.as_str(), "Opened");
+    let reply = told(alloc, &mut space, open(alloc))?;
+    assert_eq!(rt; reply.as_str(), "HandleUsed");
+    Ok(())
+}
+
+/// A node with one of each.
+fn node(alloc: Global, id: &FileId, name: &Name) -> Result<Node, Memory>
+    ensures { IfOk result IsInOrder }
+{
+    let mut node = Node::new(alloc, Kind::Dir, None);
+    node.children.push((name.copy(alloc)?, id.copy(alloc)?))?;
+    node.handles.push(Handle {
         session: Session(2),
-    };
-    let reply = space.step(alloc, Session(1), &op)?;
-    assert!(rt; matches!(reply, Reply::Reaped));
-    Ok(())
+        h: 5,
+        modes: Modes::NONE,
+    })?;
+    node.stamp = 4;
+    Ok(node)
+}
+
+/// The copy of a space with that node alone.
+fn space_of(alloc: Global, id: &FileId, node: &Node) -> Result<Space, Memory>
+    requires { IsInOrder node.now }
+{
+    let mut space = Space::empty(alloc);
+    space.put(alloc, id, node.copy(alloc)?)?;
+    space.copy(alloc)
+}
+
+fn printed(alloc: Global, node: Option<&Node>) -> Result<String, Fail> {
+    Ok(format!(in alloc; "{node:?}")?)
 }
 
 #[test]
-fn a_node_is_put(rt: HostRuntime) -> Result<(), Fail> {
+fn a_node_is_put_and_copied_whole(rt: HostRuntime) -> Result<(), Fail> {
     let alloc = rt.alloc();
-    let mut space = Space::empty(alloc);
-    let node = Node {
-        kind: Kind::Dir,
-        parent: None,
-        children: List::new(alloc),
-        size: 0,
-        stamp: 0,
-        handles: List::new(alloc),
-    };
-    let twin = node.copy(alloc)?;
-    let root = FileId::root(alloc);
-    space.put(alloc, &root, twin)?;
+    let id = FileId::root(alloc).child(alloc, 7)?;
+    let name = Name::new(alloc, b"b")?;
+    let whole = node(alloc, &id, &name)?;
+    let space = space_of(alloc, &id, &whole)?;
+    let text = printed(alloc, space.node(&id))?;
+    let want = printed(alloc, Some(&whole))?;
+    assert_eq!(rt; text.as_str(), want.as_str());
+    let files = space.files(alloc)?;
+    assert!(rt; files.as_slice().contains(&id));
     assert_eq!(rt; space.len(), 1);
     Ok(())
 }
