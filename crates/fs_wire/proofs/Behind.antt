@@ -1,5 +1,5 @@
 -- What stands behind the first tag of a choice, for choices that are made of others.
-use Rattle.std.proofs.Common.{◌≡◌, ℕ, ◌<◌, ◌||◌, not, Bool, true, false, List, ◌∷◌, refl}
+use Rattle.std.proofs.Common.{◌≡◌, ℕ, ◌<◌, ◌||◌, not, Bool, true, false, List, ◌∷◌}
 use Rattle.fs_wire.specs.Readers.{Reader, either_at}
 use Rattle.fs_wire.proofs.Says.{Says}
 
