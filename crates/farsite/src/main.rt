@@ -8,7 +8,7 @@ mod status;
 mod top;
 mod words;
 
-ghost use Rattle.std.specs.Prelude.{◌≡◌, IfOk, string_bytes};
+ghost use Rattle.std.specs.Prelude.{◌≡◌};
 ghost use Rattle.std.specs.Process.{exit_status};
 ghost use Rattle.farsite.specs.Status.{number_of};
 

@@ -1,5 +1,5 @@
 //! What the program tells of itself.
-ghost use Rattle.std.specs.Prelude.{◌≡◌, map, string_bytes, codes, nat_eq};
+ghost use Rattle.std.specs.Prelude.{◌≡◌, map, string_bytes, nat_eq};
 ghost use Rattle.std.specs.Cmp.Lexicographic.{pointwise};
 ghost use Rattle.farsite.specs.Usage.{page_of};
 

@@ -1,5 +1,5 @@
 //! The report of a schedule.
-ghost use Rattle.std.specs.Prelude.{◌≡◌, ◌++◌, true, List as Seq, IfOk, OnOk, IsErrOf};
+ghost use Rattle.std.specs.Prelude.{◌≡◌, ◌++◌, true, IfOk, OnOk, IsErrOf};
 ghost use Rattle.fs_msg.specs.declared.core_error.Counter.{Counter as TheCounter};
 ghost use Rattle.fs_msg.specs.declared.core_error.CoreError.TheVariants.{Spent};
 ghost use Rattle.fs_report.specs.Report.{outcomes_text, items_text, report_text};

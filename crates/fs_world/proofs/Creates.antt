@@ -13,21 +13,21 @@ use Rattle.fs_model.specs.declared.op.Op.TheVariants as op
 use Rattle.fs_model.specs.declared.reply.Reply.TheVariants as reply
 use Rattle.fs_model.specs.Namespace.{NodeMap}
 use Rattle.fs_model.specs.Children.{child_at}
-use Rattle.fs_model.specs.Step.{Stepped, step, stay, create, create_in, create_as, is_child, made}
+use Rattle.fs_model.specs.Step.{Stepped, step, reply_alone, create, create_in, create_as, is_child, with_new_node}
 use Rattle.fs_msg.specs.declared.item.Item.{Item}
 use Rattle.fs_world.specs.declared.direct.Direct.{Direct}
 use Rattle.fs_world.specs.World.{Answer, Numbers, answer, answer_of, candidate, candidate_of, carried, create_answer, item_of, left, used, is_made, next_of}
 
 -- a create that is not made answers as one without an identifier, and changes as little
-as_unmade : (b : Bool) (m n : NodeMap) → is_made (if b then record { reply = reply.Made; nodes = n } else stay m reply.BadId).reply ≡ false → (if b then record { reply = reply.Made; nodes = n } else stay m reply.BadId) ≡ stay m reply.BadId
+as_unmade : (b : Bool) (m n : NodeMap) → is_made (if b then record { reply = reply.Made; nodes = n } else reply_alone m reply.BadId).reply ≡ false → (if b then record { reply = reply.Made; nodes = n } else reply_alone m reply.BadId) ≡ reply_alone m reply.BadId
 as_unmade true m n e = absurd (cc)
 as_unmade false m n e = refl
 
 create_as_unmade : (m : NodeMap) (dir name : List ℕ) (kind : Kind) (id : Option (List ℕ)) → is_made (create_as m dir name kind id).reply ≡ false → create_as m dir name kind id ≡ create_as m dir name kind None
 create_as_unmade m dir name kind None e = refl
-create_as_unmade m dir name kind (Some id) e = as_unmade (is_child dir id && not (is_some (get m id))) m (made m dir name kind id) e
+create_as_unmade m dir name kind (Some id) e = as_unmade (is_child dir id && not (is_some (get m id))) m (with_new_node m dir name kind id) e
 
-exists_unmade : (b : Bool) (m : NodeMap) (s t : Stepped) → (is_made s.reply ≡ false → s ≡ t) → is_made (if b then stay m reply.Exists else s).reply ≡ false → (if b then stay m reply.Exists else s) ≡ (if b then stay m reply.Exists else t)
+exists_unmade : (b : Bool) (m : NodeMap) (s t : Stepped) → (is_made s.reply ≡ false → s ≡ t) → is_made (if b then reply_alone m reply.Exists else s).reply ≡ false → (if b then reply_alone m reply.Exists else s) ≡ (if b then reply_alone m reply.Exists else t)
 exists_unmade true m s t h e = refl
 exists_unmade false m s t h e = h e
 

@@ -8,7 +8,8 @@ use Rattle.std.specs.Map.{lookup, set_value}
 use Rattle.std.specs.BTreeMap.{BTreeMap, is_at}
 use Rattle.std.specs.FinMap.{FinMap, get, insert, remove, same_map, get-insert, get_tied, from_entries, nat_cmp-IsAntisymmetric}
 use Rattle.fs_ident.specs.Maps.{numbered_map_of}
-use Rattle.fs_ident.proofs.Entries.{equal_is, map_set}
+use Rattle.fs_ident.proofs.Booleans.{equal_is}
+use Rattle.fs_ident.proofs.Entries.{map_set}
 use Rattle.fs_ident.proofs.MapsOf.{anti, remove-insert, numbered_get}
 use Rattle.fs_world.specs.World.{Numbers}
 

@@ -1,9 +1,9 @@
 //! Operations, carried out and put into the journal. Where memory is wanting nothing changes.
-ghost use Rattle.std.specs.Prelude.{if◌then◌else◌, ◌≡◌, ◌+◌, ◌^◌, ◌<◌, [], ◌∷◌, ◌++◌, length, slice_set, false, IfOk, OnOk, OnErr, Some, None, unwrap_or};
+ghost use Rattle.std.specs.Prelude.{if◌then◌else◌, ◌≡◌, ◌+◌, ◌^◌, ◌<◌, length, slice_set, false, IfOk, OnOk, OnErr, Some, None};
 ghost use Rattle.std.specs.FinMap as map;
 ghost use Rattle.fs_model.specs.Step.{step};
 ghost use Rattle.fs_model.specs.Sound.{is_change};
-ghost use Rattle.fs_world.specs.World.{answer, answer_of, candidate, candidate_of, carried, create_answer, is_made, left, next_of};
+ghost use Rattle.fs_world.specs.World.{answer, candidate, candidate_of, carried, create_answer, is_made, left};
 
 use crate::direct::Direct;
 use fs_ident::{FileId, IdError, Kind, List, Memory, Name, Peer, Session, Twin};

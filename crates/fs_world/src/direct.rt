@@ -1,5 +1,5 @@
 //! The world of a direct schedule.
-ghost use Rattle.std.specs.Prelude.{◌≡◌, ◌+◌, ◌^◌, ◌<◌, [], ◌∷◌, true, IfOk, OnOk, OnErr, IsErrOf, IsSome, Some, None};
+ghost use Rattle.std.specs.Prelude.{◌≡◌, ◌+◌, ◌<◌, [], ◌∷◌, true, IfOk, OnOk, OnErr, IsErrOf, IsSome, Some, None};
 ghost use Rattle.std.specs.FinMap as map;
 
 use crate::counts::Counts;

@@ -1,4 +1,30 @@
+use Rattle.std.proofs.Common.{ℕ, List, subst}
+use Rattle.fs_schedule.specs.Faults.{AtLine, IsFirstFault, IsOutside, PassesLimit}
+use Rattle.farsite.specs.Headline.{IsPartOfReplay, IsReplay, MeetsSpent}
+use Rattle.farsite.proofs.Done.{as_told}
 use Rattle.farsite.proofs.top.farsite.Goals as goal
 
 pub returns-in-Ok-clause-done : goal.returns-in-Ok-clause-done
-returns-in-Ok-clause-done g c = ?
+returns-in-Ok-clause-done g c = λ e.
+    let P : List ℕ → Type 0 = λ bs. IsReplay bs (g.K.Sink.written c.args.out.now) (g.K.Sink.written c.replay.new.out) in
+    as_told (g.S.Source.left c.args.input.now) c.in-Ok.bytes.items P c.in-Ok.ensures.all (subst P c.deref.ensures.value (c.replay.ensures.done e))
+
+pub returns-in-Ok-clause-bad_line : goal.returns-in-Ok-clause-bad_line
+returns-in-Ok-clause-bad_line g c = λ line e.
+    let P : List ℕ → Type 0 = λ bs. IsFirstFault (AtLine line IsOutside) bs in
+    as_told (g.S.Source.left c.args.input.now) c.in-Ok.bytes.items P c.in-Ok.ensures.all (subst P c.deref.ensures.value (c.replay.ensures.bad_line line e))
+
+pub returns-in-Ok-clause-limit : goal.returns-in-Ok-clause-limit
+returns-in-Ok-clause-limit g c = λ which at e.
+    let P : List ℕ → Type 0 = λ bs. IsFirstFault (AtLine at (PassesLimit which)) bs in
+    as_told (g.S.Source.left c.args.input.now) c.in-Ok.bytes.items P c.in-Ok.ensures.all (subst P c.deref.ensures.value (c.replay.ensures.limit which at e))
+
+pub returns-in-Ok-clause-spent : goal.returns-in-Ok-clause-spent
+returns-in-Ok-clause-spent g c = λ counter e.
+    let P : List ℕ → Type 0 = λ bs. MeetsSpent bs in
+    as_told (g.S.Source.left c.args.input.now) c.in-Ok.bytes.items P c.in-Ok.ensures.all (subst P c.deref.ensures.value (c.replay.ensures.spent counter e))
+
+pub returns-in-Ok-clause-prefix : goal.returns-in-Ok-clause-prefix
+returns-in-Ok-clause-prefix g c = λ e.
+    let P : List ℕ → Type 0 = λ bs. IsPartOfReplay bs (g.K.Sink.written c.args.out.now) (g.K.Sink.written c.replay.new.out) in
+    as_told (g.S.Source.left c.args.input.now) c.in-Ok.bytes.items P c.in-Ok.ensures.all (subst P c.deref.ensures.value (c.replay.ensures.prefix e))
