@@ -30,7 +30,8 @@ pub fn without_name(names: &mut List<Name>, name: &Name)
 
 /// Where the first greater name stands, or the length.
 fn place(names: &[Name], name: &Name) -> usize
-    ensures place { result ≡ unwrap_or (position (is_before name.now) names.now) (length names.now) }
+    ensures place { result ≡ unwrap_or (position (is_before name.now) names.now)
+        (length names.now) }
     ensures within { result ≤ length names.now }
 {
     match first_after(names, name) {

@@ -45,7 +45,8 @@ pub fn put(rows: &mut Vec<Row>, row: Row) -> Result<(), Memory>
 
 /// Where the first row with a greater number stands, or the length.
 fn place(rows: &[Row], no: LeaseNo) -> usize
-    ensures place { result ≡ unwrap_or (position (λ r. no_before no r.no) rows.now) (length rows.now) }
+    ensures place { result ≡ unwrap_or (position (λ r. no_before no r.no) rows.now)
+        (length rows.now) }
     ensures within { result ≤ length rows.now }
 {
     match first_after(rows, no) {

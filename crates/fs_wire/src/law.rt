@@ -11,23 +11,32 @@ ghost use Rattle.fs_wire.specs.Reading.{field_at, value_at, op_at, reply_at, lea
 
 /// What is spelled is read, whatever follows.
 pub fn what_is_spelled_is_read()
-    ensures fields { (v : Field) (rest : List ℕ) → FitsField v → field_at (field v ++ rest) ≡ Ok (v, rest) }
-    ensures values { (v : Value) (rest : List ℕ) → FitsValue v → value_at (value v ++ rest) ≡ Ok (v, rest) }
+    ensures fields { (v : Field) (rest : List ℕ) → FitsField v →
+        field_at (field v ++ rest) ≡ Ok (v, rest) }
+    ensures values { (v : Value) (rest : List ℕ) → FitsValue v →
+        value_at (value v ++ rest) ≡ Ok (v, rest) }
     ensures operations { (v : Op) (rest : List ℕ) → FitsOp v → op_at (op v ++ rest) ≡ Ok (v, rest) }
-    ensures replies { (v : Reply) (rest : List ℕ) → FitsReply v → reply_at (reply v ++ rest) ≡ Ok (v, rest) }
-    ensures uses { (v : Use) (rest : List ℕ) → FitsUse v → lease_use_at (lease_use v ++ rest) ≡ Ok (v, rest) }
+    ensures replies { (v : Reply) (rest : List ℕ) → FitsReply v →
+        reply_at (reply v ++ rest) ≡ Ok (v, rest) }
+    ensures uses { (v : Use) (rest : List ℕ) → FitsUse v → lease_use_at (lease_use v ++ rest) ≡
+        Ok (v, rest) }
 {}
 
 /// What is read was spelled so.
 pub fn what_is_read_was_spelled()
-    ensures fields { (bytes rest : List ℕ) (v : Field) → IsBytes bytes → field_at bytes ≡ Ok (v, rest) →
+    ensures fields { (bytes rest : List ℕ) (v : Field) → IsBytes bytes →
+        field_at bytes ≡ Ok (v, rest) →
         FitsField v × (bytes ≡ field v ++ rest) }
-    ensures values { (bytes rest : List ℕ) (v : Value) → IsBytes bytes → value_at bytes ≡ Ok (v, rest) →
+    ensures values { (bytes rest : List ℕ) (v : Value) → IsBytes bytes →
+        value_at bytes ≡ Ok (v, rest) →
         FitsValue v × (bytes ≡ value v ++ rest) }
-    ensures operations { (bytes rest : List ℕ) (v : Op) → IsBytes bytes → op_at bytes ≡ Ok (v, rest) →
+    ensures operations { (bytes rest : List ℕ) (v : Op) → IsBytes bytes →
+        op_at bytes ≡ Ok (v, rest) →
         FitsOp v × (bytes ≡ op v ++ rest) }
-    ensures replies { (bytes rest : List ℕ) (v : Reply) → IsBytes bytes → reply_at bytes ≡ Ok (v, rest) →
+    ensures replies { (bytes rest : List ℕ) (v : Reply) → IsBytes bytes →
+        reply_at bytes ≡ Ok (v, rest) →
         FitsReply v × (bytes ≡ reply v ++ rest) }
-    ensures uses { (bytes rest : List ℕ) (v : Use) → IsBytes bytes → lease_use_at bytes ≡ Ok (v, rest) →
+    ensures uses { (bytes rest : List ℕ) (v : Use) → IsBytes bytes →
+        lease_use_at bytes ≡ Ok (v, rest) →
         FitsUse v × (bytes ≡ lease_use v ++ rest) }
 {}
