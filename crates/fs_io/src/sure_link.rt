@@ -96,7 +96,8 @@ impl Link for SureLink {
     fn bind(&mut self, at: Addr) -> Result<(), Failed>
         ensures waiting { IsAsTold (waiting_told self.old) (waiting_told self.new) }
         ensures call { Adds (calls_told self.old) (calls_told self.new) (bind_made at result) }
-        ensures told_waiting { OnOk result (StillTold (waiting_told self.old) (waiting_told self.new)) }
+        ensures told_waiting { OnOk result
+            (StillTold (waiting_told self.old) (waiting_told self.new)) }
         ensures told_calls { OnOk result (StillTold (calls_told self.old) (calls_told self.new)) }
         ensures cause { HasCause self.old.faults self.new.faults result }
         ensures full { IsErr result ↔ (has_room self.old.kept.room 0 ≡ false) }
@@ -126,7 +127,8 @@ impl Link for SureLink {
             (λ _. IsAsTold (waiting_told self.old) (waiting_told self.new)) }
         ensures call { Adds (calls_told self.old) (calls_told self.new)
             (receive_made result buf.new) }
-        ensures told_waiting { OnOk result (StillTold (waiting_told self.old) (waiting_told self.new)) }
+        ensures told_waiting { OnOk result
+            (StillTold (waiting_told self.old) (waiting_told self.new)) }
         ensures told_calls { OnOk result (StillTold (calls_told self.old) (calls_told self.new)) }
         ensures cause { HasCause self.old.faults self.new.faults result }
         ensures full { IsErr result ↔
@@ -167,7 +169,8 @@ impl Link for SureLink {
         ensures waiting { IsAsTold (waiting_told self.old) (waiting_told self.new) }
         ensures call { Adds (calls_told self.old) (calls_told self.new)
             (send_made to bytes.now result) }
-        ensures told_waiting { OnOk result (StillTold (waiting_told self.old) (waiting_told self.new)) }
+        ensures told_waiting { OnOk result
+            (StillTold (waiting_told self.old) (waiting_told self.new)) }
         ensures told_calls { OnOk result (StillTold (calls_told self.old) (calls_told self.new)) }
         ensures cause { HasCause self.old.faults self.new.faults result }
         ensures full { IsErr result ↔ (has_room self.old.kept.room (length bytes.now) ≡ false) }
