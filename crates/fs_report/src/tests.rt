@@ -36,42 +36,85 @@ fn names(alloc: Global) -> Result<List<Name>, Fail> {
     Ok(names)
 }
 
+/// The reply of this number: those that hold something, then those that do not.
+fn reply(alloc: Global, k: u64) -> Result<Reply, Fail> {
+    match k {
+        0 => Ok(Reply::Found(id(alloc, b"/1/3")?)),
+        1 => Ok(Reply::Names(List::new(alloc))),
+        2 => Ok(Reply::Names(names(alloc)?)),
+        3 => Ok(Reply::Info { size: 10, stamp: 5 }),
+        _ => Ok(bare_reply(k)),
+    }
+}
+
+fn bare_reply(k: u64) -> Reply {
+    match k {
+        4 => Reply::Gone,
+        5 => Reply::NotDir,
+        6 => Reply::GoneTo,
+        7 => Reply::NotDirTo,
+        8 => Reply::NoName,
+        9 => Reply::IsFile,
+        10 => Reply::IsDir,
+        11 => Reply::Exists,
+        12 => Reply::BadId,
+        13 => Reply::Made,
+        14 => Reply::HandleUsed,
+        15 => Reply::Sharing,
+        16 => Reply::Opened,
+        17 => Reply::NoHandle,
+        18 => Reply::Closed,
+        19 => Reply::NoAccess,
+        20 => Reply::Set,
+        21 => Reply::NotEmpty,
+        22 => Reply::InUse,
+        23 => Reply::Deleted,
+        24 => Reply::Cycle,
+        25 => Reply::Renamed,
+        _ => Reply::Reaped,
+    }
+}
+
+/// The texts of the replies, by their numbers.
+const REPLIES: [&[u8]; 27] = [
+    b"found /1/3",
+    b"names",
+    b"names \"a\" \"b c\"",
+    b"info 10 5",
+    b"gone",
+    b"notdir",
+    b"goneto",
+    b"notdirto",
+    b"noname",
+    b"isfile",
+    b"isdir",
+    b"exists",
+    b"badid",
+    b"made",
+    b"handleused",
+    b"sharing",
+    b"opened",
+    b"nohandle",
+    b"closed",
+    b"noaccess",
+    b"set",
+    b"notempty",
+    b"inuse",
+    b"deleted",
+    b"cycle",
+    b"renamed",
+    b"reaped",
+];
+
 #[test]
 fn writes_replies(rt: HostRuntime) -> Result<(), Fail> {
     let alloc = rt.alloc();
-    let rows = [
-        (Reply::Gone, b"gone".as_slice()),
-        (Reply::NotDir, b"notdir"),
-        (Reply::GoneTo, b"goneto"),
-        (Reply::NotDirTo, b"notdirto"),
-        (Reply::NoName, b"noname"),
-        (Reply::Found(id(alloc, b"/1/3")?), b"found /1/3"),
-        (Reply::Names(List::new(alloc)), b"names"),
-        (Reply::Names(names(alloc)?), b"names \"a\" \"b c\""),
-        (Reply::IsFile, b"isfile"),
-        (Reply::IsDir, b"isdir"),
-        (Reply::Info { size: 10, stamp: 5 }, b"info 10 5"),
-        (Reply::Exists, b"exists"),
-        (Reply::BadId, b"badid"),
-        (Reply::Made, b"made"),
-        (Reply::HandleUsed, b"handleused"),
-        (Reply::Sharing, b"sharing"),
-        (Reply::Opened, b"opened"),
-        (Reply::NoHandle, b"nohandle"),
-        (Reply::Closed, b"closed"),
-        (Reply::NoAccess, b"noaccess"),
-        (Reply::Set, b"set"),
-        (Reply::NotEmpty, b"notempty"),
-        (Reply::InUse, b"inuse"),
-        (Reply::Deleted, b"deleted"),
-        (Reply::Cycle, b"cycle"),
-        (Reply::Renamed, b"renamed"),
-        (Reply::Reaped, b"reaped"),
-    ];
-    for (reply, text) in rows {
+    let mut k = 0;
+    for text in REPLIES {
         let mut out = Vec::new(alloc);
-        put_reply(alloc, &reply, &mut out)?;
+        put_reply(alloc, &reply(alloc, k)?, &mut out)?;
         assert_eq!(rt; out.as_slice(), text);
+        k = k.saturating_add(1);
     }
     Ok(())
 }
