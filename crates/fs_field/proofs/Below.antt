@@ -1,9 +1,9 @@
 -- The files right below a directory.
-use Rattle.std.proofs.Common.{◌≡◌, ℕ, Bool, true, false, List, [], ◌∷◌, ◌++◌, refl, ap, cond, sym, ◌∙◌, length, take, suc}
+use Rattle.std.proofs.Common.{◌≡◌, ℕ, Bool, true, false, List, [], ◌∷◌, ◌++◌, refl, ap, cond, sym, ◌∙◌, length, take}
 use Rattle.std.specs.Prelude.{Option, Some, None}
 use Rattle.std.specs.Cmp.Lexicographic.{same_text, nat_list_eq_equiv}
-use Rattle.fs_ident.specs.Ident.{parent, child, same}
-use Rattle.fs_field.specs.Table.{child_number, last_number, is_parent}
+use Rattle.fs_ident.specs.Ident.{child, same}
+use Rattle.fs_field.specs.Table.{child_number, last_number}
 
 front_is : (n : ℕ) (ns : List ℕ) (k : ℕ) → take (length (ns ++ k ∷ [])) (n ∷ (ns ++ k ∷ [])) ≡ n ∷ ns
 front_is n [] k = refl

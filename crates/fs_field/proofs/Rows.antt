@@ -1,14 +1,13 @@
 -- Steps of the loops over rows.
-use Rattle.std.proofs.Common.{◌≡◌, ℕ, ◌+◌, ◌<◌, ◌&&◌, Bool, true, false, List, [], ◌∷◌, ◌++◌, refl, ap, cond, zero, suc, length, get_or, take, drop, map, arith, add-one}
+use Rattle.std.proofs.Common.{◌≡◌, ℕ, ◌+◌, ◌<◌, ◌&&◌, Bool, List, [], ◌∷◌, ◌++◌, refl, ap, cond, zero, suc, length, get_or, take, drop, map, arith, add-one}
 use Rattle.std.proofs.Math.ListN.{set}
 use Rattle.std.proofs.lemmas.List.{drop_more}
-use Rattle.std.specs.Prelude.{Option, Some, None, is_some}
+use Rattle.std.specs.Prelude.{Some, is_some}
 use Rattle.std.specs.List.{find, cons_option}
-use Rattle.fs_ident.specs.declared.actor.LeaseNo.{LeaseNo}
 use Rattle.fs_field.specs.declared.field.Field.{Field}
 use Rattle.fs_field.specs.declared.row.Row.{Row}
 use Rattle.fs_field.specs.Field.{same_field, file_of}
-use Rattle.fs_field.specs.Table.{has_no, lock_on, rows_on, borne_numbers, child_number}
+use Rattle.fs_field.specs.Table.{lock_on, rows_on, borne_numbers, child_number}
 
 pub find_step : (test : Row → Bool) (rows : List Row) (i : ℕ) (d : Row) → i < length rows → find test (drop i rows) ≡ cond (test (get_or rows i d)) (Some (get_or rows i d)) (find test (drop (i + 1) rows))
 find_step test rows i d h = rw (drop_more rows i d h)

@@ -1,5 +1,5 @@
 -- What keeps a table one.
-use Rattle.std.proofs.Common.{◌≡◌, ℕ, ◌&&◌, Bool, true, false, List, [], ◌∷◌, refl, ap, cond, sym, ◌∙◌, map, inl, inr, nat_lt}
+use Rattle.std.proofs.Common.{◌≡◌, ℕ, ◌&&◌, Bool, true, false, List, [], ◌∷◌, refl, ap, sym, ◌∙◌, map, inl, inr}
 use Rattle.std.specs.Prelude.{Option, Some, None, Result, Ok, Err, IfOk, OnErr}
 use Rattle.std.specs.List.{filter, find, list_any}
 use Rattle.fs_ident.specs.declared.actor.LeaseNo.{LeaseNo}
@@ -14,7 +14,7 @@ use Rattle.fs_field.specs.declared.row.Row.{Row}
 use Rattle.fs_ident.specs.In.{In}
 use Rattle.fs_field.specs.Conflict.{plain_conflict, stands_against}
 use Rattle.fs_field.specs.Field.{tells_no_mode}
-use Rattle.fs_field.specs.Table.{has_no, no_before, with_row, renewed_row, is_unlocked, locked_row, is_lock_of, unlocked_row, lock_on}
+use Rattle.fs_field.specs.Table.{has_no, no_before, with_row, renewed_row, locked_row, unlocked_row, lock_on}
 use Rattle.fs_ident.proofs.Standing.{In-filter, In-put, In-map, none_pass}
 use Rattle.fs_rows.specs.Table.{IsTable}
 use Rattle.fs_rows.specs.Answer.{answer_by, answer, given_row, rows_after, IsLeastAgainst}

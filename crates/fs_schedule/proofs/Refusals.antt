@@ -1,8 +1,7 @@
 -- Laws of what readers answer.
-use Rattle.std.proofs.Common.{◌≡◌, ℕ, ◌<◌, ◌≤◌, ◌+◌, Bool, true, false, nat_lt, List, [], ◌∷◌, refl, ap, arith, sym, ◌∙◌, subst}
-use Rattle.std.specs.Prelude.{Result, Ok, Err, IsErr, min, codes}
+use Rattle.std.proofs.Common.{◌≡◌, ℕ, ◌<◌, ◌≤◌, ◌+◌, true, false, List, [], ◌∷◌, refl, ap, sym, ◌∙◌, subst}
+use Rattle.std.specs.Prelude.{Result, Ok, Err, IsErr, codes}
 use Rattle.std.specs.Result.{IsErrAnd}
-use Rattle.std.proofs.lemmas.Bool.Decides.{nat_tests}
 use Rattle.fs_schedule.specs.declared.unread.Unread.{Unread}
 use Rattle.fs_schedule.specs.declared.unread.Unread.TheVariants.{Outside}
 use Rattle.fs_schedule.specs.Words.{Word, Bare}
@@ -11,7 +10,6 @@ use Rattle.fs_schedule.specs.declared.event.What.TheVariants.{Join, Do}
 use Rattle.fs_schedule.specs.declared.event.Event.{Event}
 use Rattle.fs_schedule.specs.declared.event.Head.{Head}
 use Rattle.fs_model.specs.declared.op.Op.{Op}
-use Rattle.fs_ident.specs.declared.actor.Session.{Session}
 use Rattle.fs_schedule.specs.Separated.{AreWords}
 use Rattle.fs_schedule.specs.Spelling.{client_word, op_words, FitsOp}
 use Rattle.fs_schedule.specs.Reading.{Reads, Tells, capped, IsToldNumber, IsToldSession, IsToldWhat, IsToldEvent, IsToldLine}

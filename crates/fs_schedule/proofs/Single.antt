@@ -1,5 +1,5 @@
 -- A line tells one event, and a text is one schedule's or has one first fault.
-use Rattle.std.proofs.Common.{◌≡◌, ℕ, nat_lt, subst, not, ◌<◌, ◌≤◌, ◌+◌, ◌==◌, Bool, true, false, List, [], ◌∷◌, length, refl, ap, arith, sym, ◌∙◌, inl, inr}
+use Rattle.std.proofs.Common.{◌≡◌, ℕ, nat_lt, subst, not, ◌<◌, ◌≤◌, ◌+◌, ◌==◌, Bool, true, false, List, [], ◌∷◌, refl, ap, arith, sym, ◌∙◌, inl, inr}
 use Rattle.std.specs.Prelude.{Option, Some, None, IfSome, is_some, codes}
 use Rattle.std.proofs.lemmas.Bool.Decides.{nat_tests}
 use Rattle.std.specs.List.{list_any, AllByRecursion}
@@ -10,7 +10,7 @@ use Rattle.std.proofs.lemmas.Slice.Eq.{bytes_eq-Decides}
 use Rattle.fs_ident.specs.Ident.{IsId}
 use Rattle.fs_ident.specs.IdText.{id_text}
 use Rattle.fs_ident.specs.declared.actor.Session.{Session}
-use Rattle.fs_ident.specs.declared.limits.TheConstants.{SESSIONS, LATEST}
+use Rattle.fs_ident.specs.declared.limits.TheConstants.{SESSIONS}
 use Rattle.fs_ident.specs.declared.kind.Kind.{Kind}
 use Rattle.fs_ident.specs.declared.kind.Kind.TheVariants.{File, Dir}
 use Rattle.fs_ident.proofs.Readings.{one_id, id_read, whole_read, id_reading}
@@ -26,7 +26,6 @@ use Rattle.fs_schedule.specs.declared.event.Schedule.{Schedule}
 use Rattle.fs_schedule.specs.declared.event.Head.{Head}
 use Rattle.fs_schedule.specs.declared.event.Head.TheVariants.{Direct}
 use Rattle.fs_schedule.specs.declared.error.Which.TheVariants.{Bytes, Sessions, Events}
-use Rattle.fs_schedule.specs.declared.limits.TheConstants.{BYTES, EVENTS}
 use Rattle.fs_schedule.specs.Lines.{lines_of}
 use Rattle.fs_schedule.specs.Spelling.{IsHeadLine, kind_text, op_words, FitsOp, session_in, IsNumberOf, client_word, what_words, FitsWhat, IsSpelled, IsLineOf, names_late, FitsEvent}
 use Rattle.fs_schedule.specs.Faults.{IsEventLine, NamesLateSession, Passes, LineFault, PassesLimit, IsOutside, HeadPasses, HeadHas, LineHas, AreEventLines, FaultsAt, AreLinesOf, IsScheduleText, LinesFaultAt, Fault, AtLine, IsFirstFault}

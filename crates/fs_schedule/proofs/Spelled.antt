@@ -28,7 +28,7 @@ use Rattle.fs_schedule.specs.declared.event.Event.{Event}
 use Rattle.fs_schedule.specs.declared.event.Head.{Head}
 use Rattle.fs_schedule.specs.Separated.{Lacks, FitsWord, AreWords, begins_quoted}
 use Rattle.fs_schedule.specs.Spelling.{kind_text, op_words, FitsOp, session_in, IsNumberOf, client_word, what_words, FitsWhat, IsSpelled, IsLineOf}
-use Rattle.fs_schedule.specs.Reading.{IsToldWhat, IsToldEvent, IsToldLine}
+use Rattle.fs_schedule.specs.Reading.{IsToldEvent, IsToldLine}
 use Rattle.fs_schedule.proofs.Cuts.{lacks_push, lacks_append, words_one}
 
 -- ## Bytes

@@ -1,7 +1,6 @@
 -- What readers answer.
 use Rattle.std.specs.Prelude.{◌≡◌, ℕ, ◌<◌, ◌≤◌, ◌+◌, ◌∷◌, List, map, min, Result, Ok, Err, codes}
 use Rattle.std.specs.Fmt.{decimal}
-use Rattle.fs_ident.specs.declared.actor.Session.{Session}
 use Rattle.fs_ident.specs.declared.limits.TheConstants.{SESSIONS, LATEST}
 use Rattle.fs_schedule.specs.declared.word.Word.{Word as Piece}
 use Rattle.fs_schedule.specs.declared.word.Word.TheVariants as piece

@@ -1,12 +1,12 @@
 -- Counts and numbers that are put back in place.
 use Rattle.std.proofs.Common.{◌≡◌, List, ℕ, ap, sym, ◌∙◌, refl, cond, Bool, true, false}
-use Rattle.std.specs.Prelude.{Option, Some, None, IsSome}
+use Rattle.std.specs.Prelude.{Option, Some}
 use Rattle.std.specs.Ordering.{nat_cmp, eq_by_cmp}
 use Rattle.std.specs.Cmp.{eq_by_cmp_equiv, nat_cmp_total}
 use Rattle.std.specs.Cmp.Lexicographic.{slice_cmp, nat_list_cmp_total}
 use Rattle.std.specs.Map.{lookup, set_value}
 use Rattle.std.specs.BTreeMap.{BTreeMap, is_at}
-use Rattle.std.specs.FinMap.{FinMap, get, insert, remove, same_map, get-insert, get_tied, from_entries, nat_cmp-IsAntisymmetric}
+use Rattle.std.specs.FinMap.{get, insert, same_map, get-insert, get_tied, from_entries, nat_cmp-IsAntisymmetric}
 use Rattle.fs_ident.specs.Maps.{numbered_map_of}
 use Rattle.fs_ident.proofs.Booleans.{equal_is}
 use Rattle.fs_ident.proofs.Entries.{map_set}

@@ -1,9 +1,9 @@
-use Rattle.std.proofs.Common.{◌≡◌, ◌+◌, ◌<◌, true, List, [], ◌∷◌, ◌++◌, length, ap, sym, ◌∙◌, drop}
+use Rattle.std.proofs.Common.{◌≡◌, ◌+◌, ◌<◌, true, List, [], ◌∷◌, ◌++◌, ap, sym, ◌∙◌, drop}
 use Rattle.fs_schedule.specs.declared.event.Event.{Event}
 use Rattle.fs_schedule.specs.declared.outcome.Outcome.{Outcome}
 use Rattle.fs_world.specs.declared.direct.Direct.{Direct}
 use Rattle.fs_world.specs.World.{Run, first_run, first_world, meets_spent, more, run_on, step}
-use Rattle.farsite.proofs.Runs.{run_step, spent_step, spent_here}
+use Rattle.farsite.proofs.Runs.{run_step, spent_step}
 use Rattle.farsite.proofs.replay.run.Goals as goal
 
 pub loop-e-init : goal.loop-e-init

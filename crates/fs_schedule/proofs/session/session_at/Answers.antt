@@ -1,5 +1,5 @@
 use Rattle.std.proofs.Common.{List, ℕ, ◌≡◌, sym, ◌∙◌, ap, subst}
-use Rattle.fs_schedule.specs.Words.{Word, Bare}
+use Rattle.fs_schedule.specs.Words.{Bare}
 use Rattle.fs_schedule.specs.Spelling.{client_word}
 use Rattle.fs_schedule.specs.Reading.{word_of, Tells, IsToldSession}
 use Rattle.fs_schedule.proofs.Refusals.{tells_session}

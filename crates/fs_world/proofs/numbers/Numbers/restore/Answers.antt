@@ -1,5 +1,5 @@
 use Rattle.std.proofs.Common.{◌≡◌, ap, refl, sym, ◌∙◌, subst}
-use Rattle.std.specs.Prelude.{Option, Some, IsSome}
+use Rattle.std.specs.Prelude.{Some, IsSome}
 use Rattle.std.specs.FinMap.{get, insert}
 use Rattle.fs_ident.specs.Maps.{map_of}
 use Rattle.fs_world.specs.World.{Numbers}
