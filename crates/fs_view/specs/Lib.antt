@@ -1,0 +1,4 @@
+pub mod Told
+pub mod Script
+pub mod Walk
+pub mod View
