@@ -1,5 +1,5 @@
 -- What a value tells, where it is known.
-use Rattle.std.specs.Prelude.{ℕ, Bool, false, List, [], ◌∷◌, Option, Some, None, ◌==◌, ◌||◌, if◌then◌else◌}
+use Rattle.std.specs.Prelude.{ℕ, Bool, false, List, [], ◌∷◌, Option, Some, None, ◌==◌, if◌then◌else◌}
 use Rattle.std.specs.List.{list_any, filter}
 use Rattle.fs_ident.specs.declared.kind.Kind.{Kind}
 use Rattle.fs_modes.specs.declared.modes.Mode.{Mode}

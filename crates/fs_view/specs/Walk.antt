@@ -10,8 +10,8 @@ use Rattle.fs_field.specs.Field.{file_of}
 use Rattle.std.specs.FinMap.{get}
 use Rattle.fs_model.specs.Namespace.{NodeMap}
 use Rattle.fs_model.specs.declared.op.Op.{Op}
-use Rattle.fs_model.specs.declared.reply.Reply.{Reply}
 use Rattle.fs_record.specs.ValueOf.{value_at}
+use Rattle.fs_view.specs.declared.walk.Walk.{Walk}
 use Rattle.fs_view.specs.Script.{Script, answer, ask, give, script_of}
 
 -- what is known: the value of a field, as far as leases of this kind or a stronger one make it known
@@ -21,11 +21,6 @@ Known = Field → LeaseKind → Option Value
 -- the directories for whose new files an identifier is there
 abbrev pub Given : Type 0
 Given = List ℕ → Bool
-
--- the items in order, and the reply where none of them is missing
-pub record Walk : Type 0 where
-  pub items : List Need
-  pub reply : Option Reply
 
 -- an item before the others, which is there or missing
 abbrev pub behind : Need → Bool → Walk → Walk
