@@ -1,0 +1,28 @@
+-- What laws say of walks.
+use Rattle.std.specs.Prelude.{◌≡◌, List, Some, None, true}
+use Rattle.std.specs.FinMap.{get}
+use Rattle.fs_field.specs.declared.asked.Need.{Need}
+use Rattle.fs_field.specs.declared.asked.Need.TheVariants.{Lease, Fresh}
+use Rattle.fs_ident.specs.In.{In}
+use Rattle.fs_model.specs.Namespace.{NodeMap}
+use Rattle.fs_model.specs.Step.{is_child}
+use Rattle.fs_model.specs.declared.op.Op.{Op}
+use Rattle.fs_model.specs.declared.op.Op.TheVariants as op
+use Rattle.fs_model.specs.declared.reply.Reply.{Reply}
+use Rattle.fs_model.specs.declared.reply.Reply.TheVariants as reply
+use Rattle.fs_view.specs.Walk.{Known, Given}
+
+-- the other knowledge has the item too, with the same value
+abbrev pub HasToo : Known → Known → Given → Need → Type 0
+HasToo known other given (Lease field kind) = other field kind ≡ known field kind
+HasToo known other given (Fresh dir) = given dir ≡ true
+
+-- the other knowledge has all the items, with the same values
+abbrev pub HasAll : Known → Known → Given → List Need → Type 0
+HasAll known other given items = (need : Need) → In need items → HasToo known other given need
+
+-- where a file was made, its identifier is named, of the directory, and of no file that lives
+abbrev pub IsNewWhereMade : NodeMap → Op → Reply → Type 0
+IsNewWhereMade m (op.Create dir name kind None) reply.Made = ⊥
+IsNewWhereMade m (op.Create dir name kind (Some id)) reply.Made = (is_child dir id ≡ true) × (get m id ≡ None)
+IsNewWhereMade m o r = Unit {0}

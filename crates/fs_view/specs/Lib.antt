@@ -1,0 +1,10 @@
+pub mod Told
+pub mod Script
+pub mod Walk
+pub mod Kept
+pub mod View
+pub mod Laws
+-- cited by private calls alone
+pub mod Change
+pub mod Admit
+pub mod Modes

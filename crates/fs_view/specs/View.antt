@@ -1,0 +1,198 @@
+-- What a client knows: its leases in order of grant, each with the value that its field had, and what its log will do.
+use Rattle.std.specs.Prelude.{ℕ, Bool, true, false, not, ◌&&◌, List, [], ◌∷◌, ◌++◌, Option, Some, None, is_some, map, filter, find, if◌then◌else◌, option_map}
+use Rattle.std.specs.Option.{option_and_then, option_map_or}
+use Rattle.std.specs.List.{list_any, filter_map}
+use Rattle.fs_ident.specs.declared.actor.LeaseNo.{LeaseNo}
+use Rattle.fs_ident.specs.declared.actor.Session.{Session}
+use Rattle.fs_field.specs.declared.effect.Effect.{Effect}
+use Rattle.fs_field.specs.declared.field.Field.{Field}
+use Rattle.fs_field.specs.declared.lease_kind.LeaseKind.{LeaseKind}
+use Rattle.fs_field.specs.declared.used.Use.{Use}
+use Rattle.fs_field.specs.declared.value.Value.{Value}
+use Rattle.fs_field.specs.After.{value_after}
+use Rattle.fs_field.specs.Field.{file_of}
+use Rattle.fs_field.specs.declared.asked.Need.{Need}
+use Rattle.fs_field.specs.declared.asked.Need.TheVariants as need
+use Rattle.fs_model.specs.declared.op.Op.{Op}
+use Rattle.fs_model.specs.declared.reply.Reply.{Reply}
+use Rattle.fs_view.specs.declared.kept.Kept.{Kept}
+use Rattle.fs_view.specs.declared.kept.Standing.{Standing}
+use Rattle.fs_view.specs.declared.kept.Standing.TheVariants.{Held, Pinned, Leaving}
+use Rattle.fs_view.specs.Kept.{number_of, file_in, has_number, serves, is_better, use_in, makes, offers, takes_pin, is_pinned, is_leaving, has_ended, pinned, unpinned, leaving, renewed, recalled_as}
+use Rattle.fs_view.specs.declared.walk.Walk.{Walk}
+use Rattle.fs_view.specs.Script.{Script}
+use Rattle.fs_view.specs.Walk.{Known, Given, walk_along, walk, missing}
+
+-- the view of a session
+pub record View : Type 0 where
+  pub session : Session
+  -- in order of grant
+  pub leases : List Kept
+  -- what each entry of the log will do, in order
+  pub pending : List (List Effect)
+
+-- no two leases have one number
+abbrev pub are_distinct : List Kept → Bool
+are_distinct [] = true
+are_distinct (k ∷ ks) = not (list_any (has_number (number_of k.standing)) ks) && are_distinct ks
+
+-- ## What is known
+
+-- the value, as the session sees it, after the effects, one after another
+abbrev pub value_after_all : Session → Field → Value → List Effect → Value
+value_after_all s field v [] = v
+value_after_all s field v (e ∷ es) = value_after_all s field (value_after s field v e) es
+
+-- and after those of all entries
+abbrev pub value_after_log : Session → Field → Value → List (List Effect) → Value
+value_after_log s field v [] = v
+value_after_log s field v (es ∷ log) = value_after_log s field (value_after_all s field v es) log
+
+-- the lease that is taken for the field: the best so far, or a better one behind it
+abbrev pub taken_from : ℕ → Field → LeaseKind → Option Kept → List Kept → Option Kept
+taken_from now field kind best [] = best
+taken_from now field kind best (k ∷ ks) = taken_from now field kind (if serves now field kind k.standing && is_better k best then Some k else best) ks
+
+unfoldable pub taken : View → ℕ → Field → LeaseKind → Option Kept
+taken v now field kind = taken_from now field kind None v.leases
+
+-- what the view makes known at the reading: the value at grant, after all that the session did since
+unfoldable pub known_by : View → ℕ → Known
+known_by v now field kind = option_map (λ (k : Kept). value_after_log v.session field k.base v.pending) (taken v now field kind)
+
+-- ## Identifiers for new files
+
+-- the first lease that offers an identifier below the directory
+unfoldable pub offered : View → ℕ → List ℕ → Option Kept
+offered v now dir = find (offers now dir v.pending) v.leases
+
+abbrev pub fresh : View → ℕ → List ℕ → Option (List ℕ)
+fresh v now dir = option_map (λ (k : Kept). file_in k.standing) (offered v now dir)
+
+abbrev pub given_by : View → ℕ → Given
+given_by v now dir = is_some (offered v now dir)
+
+-- ## Needs, uses and replies of the session
+
+-- the walk along a part of the table
+abbrev pub along : View → ℕ → Script → Walk
+along v now script = walk_along (known_by v now) (given_by v now) script
+
+abbrev pub walk_in : View → ℕ → Op → Walk
+walk_in v now o = walk (known_by v now) (given_by v now) o
+
+abbrev pub missing_in : View → ℕ → Op → List Need
+missing_in v now o = missing (known_by v now) (given_by v now) o
+
+abbrev pub reply_in : View → ℕ → Op → Option Reply
+reply_in v now o = (walk_in v now o).reply
+
+-- the lease that an item is answered from, as an entry names it
+abbrev pub item_use : View → ℕ → Need → Option Use
+item_use v now (need.Lease field kind) = option_and_then (λ (k : Kept). use_in k.standing) (taken v now field kind)
+item_use v now (need.Fresh dir) = option_and_then (λ (k : Kept). use_in k.standing) (offered v now dir)
+
+-- one use for each item
+abbrev pub uses_in : View → ℕ → Op → List Use
+uses_in v now o = filter_map (item_use v now) (walk_in v now o).items
+
+-- ## Conditions
+
+-- there is a lease of this number, and it stands so
+abbrev pub stands : (Standing → Bool) → LeaseNo → List Kept → Bool
+stands test number leases = option_map_or (λ (k : Kept). test k.standing) (find (has_number number) leases) false
+
+-- it is held, or entries use it
+abbrev pub is_in_hand : Standing → Bool
+is_in_hand s = not (is_leaving s)
+
+-- ## Steps
+
+abbrev pub lapsed_at : ℕ → View → View
+lapsed_at now v = record v { leases = filter (λ k. not (has_ended now k.standing)) v.leases }
+
+abbrev pub with_grant : LeaseNo → Field → LeaseKind → ℕ → Value → Option (List ℕ) → View → View
+with_grant number field kind until value below v = record v { leases = v.leases ++ record { standing = Held (record { no = number; field = field; kind = kind; until = until }); base = value; recalled = false; below = below } ∷ [] }
+
+-- the lease of this number is changed, and no other
+abbrev pub at_number : LeaseNo → (Kept → Kept) → List Kept → List Kept
+at_number number change leases = map (λ k. if has_number number k then change k else k) leases
+
+abbrev pub pinned_at : LeaseNo → List Kept → List Kept
+pinned_at number leases = at_number number (λ k. record k { standing = pinned k.standing }) leases
+
+abbrev pub unpinned_at : LeaseNo → List Kept → List Kept
+unpinned_at number leases = at_number number (λ k. record k { standing = unpinned k.standing }) leases
+
+abbrev pub pinned_all : List Use → List Kept → List Kept
+pinned_all [] leases = leases
+pinned_all (u ∷ us) leases = pinned_all us (pinned_at u.no leases)
+
+abbrev pub unpinned_all : List Use → List Kept → List Kept
+unpinned_all [] leases = leases
+unpinned_all (u ∷ us) leases = unpinned_all us (unpinned_at u.no leases)
+
+-- one entry more can use each of them, one after another
+abbrev pub can_pin_all : List Use → List Kept → Bool
+can_pin_all [] leases = true
+can_pin_all (u ∷ us) leases = stands takes_pin u.no leases && can_pin_all us (pinned_at u.no leases)
+
+-- entries use each of them, one after another
+abbrev pub can_unpin_all : List Use → List Kept → Bool
+can_unpin_all [] leases = true
+can_unpin_all (u ∷ us) leases = stands is_pinned u.no leases && can_unpin_all us (unpinned_at u.no leases)
+
+abbrev pub with_pins : List Use → View → View
+with_pins uses v = record v { leases = pinned_all uses v.leases }
+
+abbrev pub without_pins : List Use → View → View
+without_pins uses v = record v { leases = unpinned_all uses v.leases }
+
+-- one entry more, with these effects
+abbrev pub with_entry : List Effect → View → View
+with_entry effects v = record v { pending = v.pending ++ effects ∷ [] }
+
+-- the effects are known to be admitted: the base value follows
+abbrev pub base_after : Session → List Effect → Standing → Value → Value
+base_after s effects (Held l) base = value_after_all s l.field base effects
+base_after s effects (Pinned u) base = value_after_all s u.lease.field base effects
+base_after s effects (Leaving l) base = base
+
+-- one of the effects makes the file that the lease is on
+abbrev pub is_made_in : List Effect → Standing → Bool
+is_made_in effects (Held l) = list_any (makes (file_of l.field)) effects
+is_made_in effects (Pinned u) = list_any (makes (file_of u.lease.field)) effects
+is_made_in effects (Leaving l) = false
+
+-- an identifier is no longer for a new file once that is made
+abbrev pub below_after : List Effect → Standing → Option (List ℕ) → Option (List ℕ)
+below_after effects s below = if is_made_in effects s then None else below
+
+abbrev pub knowing : Session → List Effect → Kept → Kept
+knowing s effects k = record k { base = base_after s effects k.standing k.base; below = below_after effects k.standing k.below }
+
+abbrev pub with_admitted : List Effect → View → View
+with_admitted effects v = record v { leases = map (knowing v.session effects) v.leases }
+
+abbrev pub first_admitted : List (List Effect) → View → View
+first_admitted [] v = v
+first_admitted (es ∷ log) v = record { session = v.session; leases = map (knowing v.session es) v.leases; pending = log }
+
+-- the first entry is known to be admitted
+abbrev pub with_first_admitted : View → View
+with_first_admitted v = first_admitted v.pending v
+
+-- its server asked for the lease
+abbrev pub with_recall : LeaseNo → View → View
+with_recall number v = record v { leases = at_number number (λ k. record k { recalled = recalled_as k.standing k.recalled }) v.leases }
+
+abbrev pub with_leaving : LeaseNo → View → View
+with_leaving number v = record v { leases = at_number number (λ k. record k { standing = leaving k.standing }) v.leases }
+
+-- a lease that went back is given up
+abbrev pub without_lease : LeaseNo → View → View
+without_lease number v = record v { leases = filter (λ k. not (has_number number k)) v.leases }
+
+-- the lease has another end
+abbrev pub with_end : LeaseNo → ℕ → View → View
+with_end number until v = record v { leases = at_number number (λ k. record k { standing = renewed until k.standing }) v.leases }

@@ -1,0 +1,92 @@
+//! What a view lacks for an operation, what it uses for it, and its reply.
+ghost use Rattle.std.specs.Prelude.{◌≡◌, [], Some, filter, not, IfOk};
+ghost use Rattle.std.specs.List.{filter_map};
+ghost use Rattle.fs_view.specs.View.{given_by, item_use, known_by, missing_in, reply_in, uses_in};
+ghost use Rattle.fs_view.specs.Walk.{is_there};
+
+use crate::view::View;
+use crate::walk::{Walk, walk_of};
+use fs_field::{Need, Use};
+use fs_ident::{List, Memory};
+use fs_model::{Op, Reply};
+use std::alloc::Global;
+
+impl View {
+    /// What the answer to the operation stands on and is not there at the reading, in order.
+    pub fn missing(&self, alloc: Global, now: u64, op: &Op) -> Result<List<Need>, Memory>
+        ensures { IfOk result (λ needs. needs ≡ missing_in self.now now op.now) }
+    {
+        let Walk { items, reply: _ } = walk_of(self, alloc, now, op)?;
+        let mut needs = items.into_vec();
+        keep_missing(self, now, &mut needs);
+        Ok(List::from_vec(needs))
+    }
+
+    /// The leases that the operation is answered from at the reading, one for each thing that the answer stands on.
+    pub fn uses(&self, alloc: Global, now: u64, op: &Op) -> Result<List<Use>, Memory>
+        requires { missing_in self.now now op.now ≡ [] }
+        ensures { IfOk result (λ uses. uses ≡ uses_in self.now now op.now) }
+    {
+        let Walk { items, reply: _ } = walk_of(self, alloc, now, op)?;
+        uses_of(self, alloc, now, items.as_slice())
+    }
+
+    /// The reply to the operation at the reading.
+    #[tactic(auto, using(crate::proofs::Walks::replied))]
+    pub fn reply(&self, alloc: Global, now: u64, op: &Op) -> Result<Reply, Memory>
+        requires { missing_in self.now now op.now ≡ [] }
+        ensures { IfOk result (λ reply. reply_in self.now now op.now ≡ Some reply) }
+    {
+        let Walk { items: _, reply } = walk_of(self, alloc, now, op)?;
+        match reply {
+            Some(reply) => Ok(reply),
+            None => unreachable!(),
+        }
+    }
+}
+
+/// Keeps the items that are not there.
+fn keep_missing(view: &View, now: u64, needs: &mut Vec<Need>)
+    ensures { needs.new.items ≡
+        filter (λ need. not (is_there (known_by view.now now) (given_by view.now now) need)) needs.old.items }
+{
+    needs.retain(|need| !is_there(view, now, need));
+}
+
+/// Whether the item is there.
+fn is_there(view: &View, now: u64, need: &Need) -> bool
+    ensures { result ≡ is_there (known_by view.now now) (given_by view.now now) need.now }
+{
+    match need {
+        Need::Lease(field, kind) => view.knows(now, field, *kind),
+        Need::Fresh(dir) => view.gives(now, dir),
+    }
+}
+
+/// The leases that the items are answered from, as an entry names them.
+#[tactic(auto, using(crate::proofs::Steps::use_step))]
+fn uses_of(view: &View, alloc: Global, now: u64, items: &[Need]) -> Result<List<Use>, Memory>
+    ensures { IfOk result (λ uses. uses ≡ filter_map (item_use view.now now) items.now) }
+{
+    let mut uses = List::new(alloc);
+    for need in items {
+        if let Some(u) = item_use(view, alloc, now, need)? {
+            uses.push(u)?;
+        }
+    }
+    Ok(uses)
+}
+
+/// The lease that the item is answered from, as an entry names it.
+fn item_use(view: &View, alloc: Global, now: u64, need: &Need) -> Result<Option<Use>, Memory>
+    ensures { IfOk result (λ u. u ≡ item_use view.now now need.now) }
+{
+    let kept = match need {
+        Need::Lease(field, kind) => view.taken(now, field, *kind),
+        Need::Fresh(dir) => view.offered(now, dir),
+    };
+    match kept {
+        None => Ok(None),
+        Some(kept) => kept.standing.as_use(alloc),
+    }
+}

@@ -1,0 +1,276 @@
+//! What a client knows.
+ghost use Rattle.std.specs.Prelude.{◌≡◌, ◌<◌, [], ◌∷◌, ◌++◌, true, false, is_some, length, map, Some, find, IfOk, OnOk, OnErr};
+ghost use Rattle.std.specs.List.{list_any};
+ghost use Rattle.std.specs.Option.{option_copied};
+ghost use Rattle.fs_field.specs.Value.{is_value_of};
+ghost use Rattle.fs_view.specs.Kept.{has_number, seen_of, takes_pin, is_held, is_pinned, is_leaving};
+ghost use Rattle.fs_view.specs.View.{can_pin_all, can_unpin_all, is_in_hand, stands, lapsed_at, with_grant, fresh, given_by, known_by, offered, taken, with_pins, without_pins, with_entry, with_admitted, with_first_admitted, with_recall, with_leaving, without_lease, with_end};
+
+use crate::admit::admit;
+use crate::change::{
+    Change, add, change_at, copy_all, discard_all, give_up, lapse, pin_all, unpin_all,
+};
+use crate::kept::{Kept, Standing};
+use crate::known::{after_log, numbered, offered, taken};
+use crate::seen::Seen;
+use fs_field::{Effect, Field, LeaseKind, Use, Value};
+use fs_ident::{FileId, LeaseNo, List, Memory, Session, Twin};
+use fs_lease::Held;
+use std::alloc::Global;
+use std::marker::Model;
+
+/// What the client of one session knows: its leases in order of grant, each with its number, and for each entry of
+/// its log what that will do.
+#[derive(Debug)]
+pub struct View {
+    session: Session,
+    leases: Vec<Kept>,
+    pending: List<List<Effect>>,
+}
+
+impl Model for View {
+    ghost use Rattle.std.specs.Prelude.{◌≡◌, true};
+    ghost use Rattle.fs_view.specs.View.{View as Knowing, are_distinct};
+
+    ghost Value = { Knowing };
+
+    ghost view = { λ v. record { session = v.session; leases = v.leases.items; pending = v.pending } };
+
+    ghost invariant = { λ v. are_distinct v.leases.items ≡ true };
+}
+
+impl View {
+    /// The view of a session that has no lease, which takes no memory.
+    pub fn new(alloc: Global, session: Session) -> View
+        ensures { result ≡ record { session = session; leases = []; pending = [] } }
+    {
+        View {
+            session,
+            leases: Vec::new(alloc),
+            pending: List::new(alloc),
+        }
+    }
+
+    /// The leases, in order of grant.
+    #[tactic(auto, using(crate::proofs::Steps::seen_step))]
+    pub fn leases(&self, alloc: Global) -> Result<List<Seen>, Memory>
+        ensures { IfOk result (λ seen. seen ≡ map seen_of self.now.leases) }
+    {
+        let mut seen = List::new(alloc);
+        for kept in &self.leases {
+            seen.push(kept.seen(alloc)?)?;
+        }
+        Ok(seen)
+    }
+
+    /// The lease of this number, if there is one.
+    pub fn lease(&self, no: LeaseNo) -> Option<&Kept>
+        ensures { option_copied result ≡ find (has_number no) self.now.leases }
+    {
+        numbered(&self.leases, no)
+    }
+
+    /// Gives up every lease that no entry uses and that is over at the reading.
+    pub fn lapse(&mut self, now: u64)
+        ensures { self.new ≡ lapsed_at now self.old }
+    {
+        lapse(&mut self.leases, now);
+    }
+
+    /// Adds a lease behind the others, held, with the value that its field has; for an identifier of a new file also
+    /// the directory that it is for. `Memory` where memory is wanting; nothing changed then.
+    pub fn grant(
+        &mut self,
+        alloc: Global,
+        no: LeaseNo,
+        field: &Field,
+        kind: LeaseKind,
+        until: u64,
+        value: Value,
+        below: Option<&FileId>,
+    ) -> Result<(), Memory>
+        requires new { list_any (has_number no) self.old.leases ≡ false }
+        requires fits { is_value_of field.now value ≡ true }
+        ensures ok { OnOk result (self.new ≡
+            with_grant no field.now kind until value (option_copied below.entry) self.old) }
+        ensures err { OnErr result (self.new ≡ self.old) }
+    {
+        let below = match below {
+            None => None,
+            Some(dir) => Some(dir.copy(alloc)?),
+        };
+        let kept = Kept {
+            standing: Standing::Held(Held::new(no, field.copy(alloc)?, kind, until)),
+            base: value,
+            recalled: false,
+            below,
+        };
+        add(&mut self.leases, kept)
+    }
+
+    /// The first identifier for a new file in the directory that is live at the reading and that no entry makes.
+    pub fn fresh(&self, now: u64, dir: &FileId) -> Option<&FileId>
+        ensures { option_copied result ≡ fresh self.now now dir.now }
+    {
+        match self.offered(now, dir) {
+            None => None,
+            Some(kept) => Some(kept.standing.file()),
+        }
+    }
+
+    /// Each lease that is used has one entry more.
+    pub fn pin(&mut self, uses: &List<Use>)
+        requires { can_pin_all uses.now self.old.leases ≡ true }
+        ensures { self.new ≡ with_pins uses.now self.old }
+    {
+        pin_all(&mut self.leases, uses.as_slice());
+    }
+
+    /// Each lease that is used has one entry less.
+    pub fn unpin(&mut self, uses: &List<Use>)
+        requires { can_unpin_all uses.now self.old.leases ≡ true }
+        ensures { self.new ≡ without_pins uses.now self.old }
+    {
+        unpin_all(&mut self.leases, uses.as_slice());
+    }
+
+    /// Adds what one more entry of the log will do. `Memory` where memory is wanting; nothing changed then.
+    pub fn append(&mut self, effects: List<Effect>) -> Result<(), Memory>
+        ensures ok { OnOk result (self.new ≡ with_entry effects self.old) }
+        ensures err { OnErr result (self.new ≡ self.old) }
+    {
+        self.pending.push(effects)
+    }
+
+    /// The first entry of the log is known to be admitted: what it did joins the base values. `Memory` where memory
+    /// is wanting; nothing changed then.
+    pub fn admit_first(&mut self, alloc: Global) -> Result<(), Memory>
+        requires { 0 < length self.old.pending }
+        ensures ok { OnOk result (self.new ≡ with_first_admitted self.old) }
+        ensures err { OnErr result (self.new ≡ self.old) }
+    {
+        let first = self.pending.as_slice()[0].as_slice();
+        admit(&mut self.leases, alloc, self.session, first)?;
+        self.pending.remove(0);
+        Ok(())
+    }
+
+    /// These effects are known to be admitted, while no entry of the log waits: they join the base values. `Memory`
+    /// where memory is wanting; nothing changed then.
+    pub fn admit(&mut self, alloc: Global, effects: &List<Effect>) -> Result<(), Memory>
+        requires { self.old.pending ≡ [] }
+        ensures ok { OnOk result (self.new ≡ with_admitted effects.now self.old) }
+        ensures err { OnErr result (self.new ≡ self.old) }
+    {
+        admit(&mut self.leases, alloc, self.session, effects.as_slice())
+    }
+
+    /// The server asked for the lease of this number: noted, unless it goes back already.
+    pub fn recall(&mut self, no: LeaseNo)
+        ensures { self.new ≡ with_recall no self.old }
+    {
+        change_at(&mut self.leases, no, Change::Recall);
+    }
+
+    /// The lease of this number goes back.
+    pub fn leave(&mut self, no: LeaseNo)
+        requires { stands is_held no self.old.leases ≡ true }
+        ensures { self.new ≡ with_leaving no self.old }
+    {
+        change_at(&mut self.leases, no, Change::Leave);
+    }
+
+    /// The server has the lease of this number back: it is given up.
+    pub fn released(&mut self, no: LeaseNo)
+        requires { stands is_leaving no self.old.leases ≡ true }
+        ensures { self.new ≡ without_lease no self.old }
+    {
+        give_up(&mut self.leases, no);
+    }
+
+    /// The lease of this number has another end.
+    pub fn renew(&mut self, no: LeaseNo, until: u64)
+        requires { stands is_in_hand no self.old.leases ≡ true }
+        ensures { self.new ≡ with_end no until self.old }
+    {
+        change_at(&mut self.leases, no, Change::Renew(until));
+    }
+
+    /// What is known of the field at the reading, as far as leases of the kind or a stronger one make it known: its
+    /// value after all that the session did.
+    #[tactic(auto, unfolding(crate::specs::View::known_by))]
+    pub fn known(
+        &self,
+        alloc: Global,
+        now: u64,
+        field: &Field,
+        kind: LeaseKind,
+    ) -> Result<Option<Value>, Memory>
+        ensures { IfOk result (λ v. v ≡ known_by self.now now field.now kind) }
+    {
+        match self.taken(now, field, kind) {
+            None => Ok(None),
+            Some(kept) => {
+                let base = kept.base.copy(alloc)?;
+                let log = self.pending.as_slice();
+                Ok(Some(after_log(alloc, self.session, field, base, log)?))
+            }
+        }
+    }
+
+    /// Whether the field is known at the reading.
+    #[tactic(auto, unfolding(crate::specs::View::known_by))]
+    pub fn knows(&self, now: u64, field: &Field, kind: LeaseKind) -> bool
+        ensures { result ≡ is_some (known_by self.now now field.now kind) }
+    {
+        self.taken(now, field, kind).is_some()
+    }
+
+    /// Whether an identifier is there for a new file in the directory.
+    pub fn gives(&self, now: u64, dir: &FileId) -> bool
+        ensures { result ≡ given_by self.now now dir.now }
+    {
+        self.offered(now, dir).is_some()
+    }
+
+    /// The lease that is taken for the field at the reading.
+    #[tactic(auto, unfolding(crate::specs::View::taken))]
+    pub fn taken(&self, now: u64, field: &Field, kind: LeaseKind) -> Option<&Kept>
+        ensures { option_copied result ≡ taken self.now now field.now kind }
+    {
+        taken(&self.leases, now, field, kind)
+    }
+
+    /// The first lease that offers an identifier below the directory at the reading.
+    #[tactic(auto, unfolding(crate::specs::View::offered))]
+    pub fn offered(&self, now: u64, dir: &FileId) -> Option<&Kept>
+        ensures { option_copied result ≡ offered self.now now dir.now }
+    {
+        offered(&self.leases, now, dir, self.pending.as_slice())
+    }
+
+    /// Spends every lease.
+    pub fn discard(self) {
+        let View {
+            session: _,
+            leases,
+            pending: _,
+        } = self;
+        discard_all(leases);
+    }
+}
+
+impl Twin for View {
+    fn copy(&self, alloc: Global) -> Result<View, Memory> {
+        let pending = self.pending.copy(alloc)?;
+        Ok(View {
+            session: self.session,
+            leases: copy_all(alloc, &self.leases)?,
+            pending,
+        })
+    }
+
+    fn discard(self) {
+        View::discard(self)
+    }
+}
