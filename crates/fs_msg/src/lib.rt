@@ -1,9 +1,11 @@
 //! What actors tell: messages with their bytes, items of the journal, and notes of outcomes.
 #![tactic(auto)]
 
+mod act;
 mod answer;
 mod bytes;
 mod client_msg;
+mod client_note;
 mod core_error;
 mod end;
 mod entry;
@@ -13,12 +15,15 @@ mod law;
 mod msg;
 mod note;
 mod reading;
+mod server_note;
 #[cfg(test)]
 mod tests;
 mod writing;
 
+pub use act::{Act, Busy, ClientOut};
 pub use answer::{Answer, Grant};
 pub use client_msg::ClientMsg;
+pub use client_note::ClientNote;
 pub use core_error::{CoreError, Counter};
 pub use end::End;
 pub use entry::Entry;
@@ -28,4 +33,5 @@ pub use law::no_message_begins_another;
 pub use msg::Msg;
 pub use note::Note;
 pub use reading::{read, read_whole};
+pub use server_note::ServerNote;
 pub use writing::write;
