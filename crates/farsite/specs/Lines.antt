@@ -1,10 +1,10 @@
 -- The lines of a report.
-use Rattle.std.specs.Prelude.{ℕ, ◌+◌, ◌==◌, List, Option, Some, None, length, drop, position}
+use Rattle.std.specs.Prelude.{ℕ, ◌+◌, ◌==◌, List, Option, Some, None, length, position}
 
-abbrev pub end_at : Option ℕ → ℕ → ℕ → ℕ
-end_at None at all = all
-end_at (Some k) at all = at + k + 1
+abbrev pub len_at : Option ℕ → ℕ → ℕ
+len_at None all = all
+len_at (Some k) all = k + 1
 
--- the place behind the first line feed from a place on, or the end
-abbrev pub line_end : List ℕ → ℕ → ℕ
-line_end lines at = end_at (position (λ b. b == 10) (drop at lines)) at (length lines)
+-- how many bytes the first line has, with its line feed, or how many there are where there is none
+abbrev pub line_len : List ℕ → ℕ
+line_len bytes = len_at (position (λ b. b == 10) bytes) (length bytes)

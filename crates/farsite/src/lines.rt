@@ -1,9 +1,9 @@
 //! Writing a report line by line.
-ghost use Rattle.std.specs.Prelude.{◌≡◌, ◌<◌, ◌≤◌, length, OnOk, OnErr};
+ghost use Rattle.std.specs.Prelude.{◌≡◌, ◌+◌, ◌<◌, ◌≤◌, ◌==◌, drop, length, position, IfSome, OnOk, OnErr};
 ghost use Rattle.std.specs.Io.KnownBytes.{Appends};
 ghost use Rattle.fs_io.specs.Bytes.{IsPrefixWritten};
 ghost use Rattle.fs_io.specs.Faults.{Rose};
-ghost use Rattle.farsite.specs.Lines.{line_end};
+ghost use Rattle.farsite.specs.Lines.{line_len};
 
 use fs_io::{Failed, Sink, write_all};
 
@@ -27,12 +27,30 @@ pub(crate) fn write_lines<K: Sink>(out: &mut K, lines: &[u8]) -> Result<(), Fail
 /// The place behind the first line feed from a place on, or the end.
 fn line_end(lines: &[u8], at: usize) -> usize
     requires { at < length lines.now }
-    ensures exact { result ≡ line_end lines.now at }
+    ensures exact { result ≡ at + line_len (drop at lines.now) }
     ensures after { at < result }
     ensures within { result ≤ length lines.now }
 {
-    match lines[at..].iter().position(|b| *b == b'\n') {
-        Some(k) => at + k + 1,
-        None => lines.len(),
+    at + line_len(&lines[at..])
+}
+
+/// How many bytes the first line has, with its line feed.
+fn line_len(bytes: &[u8]) -> usize
+    requires { 0 < length bytes.now }
+    ensures exact { result ≡ line_len bytes.now }
+    ensures some { 0 < result }
+    ensures within { result ≤ length bytes.now }
+{
+    match feed_at(bytes) {
+        Some(k) => k + 1,
+        None => bytes.len(),
     }
+}
+
+/// The place of the first line feed.
+fn feed_at(bytes: &[u8]) -> Option<usize>
+    ensures first { result ≡ position (λ b. b == 10) bytes.now }
+    ensures within { IfSome result (λ k. k < length bytes.now) }
+{
+    bytes.iter().position(|b| *b == b'\n')
 }

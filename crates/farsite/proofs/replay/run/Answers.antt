@@ -27,7 +27,7 @@ loop-e-preserved c =
     let rest = drop (i + 1) items in
     let r : Run = record { world = w; outcomes = c.loop-e.told } in
     let here : c.step.new.self ≡ (step w e).world = c.in-Ok.ensures.world in
-    let told : c.push.new.self ≡ c.loop-e.told ++ (step w e).outcome ∷ [] = c.in_ok-push.ensures.ok ∙ ap (λ (o : Outcome). c.loop-e.told ++ o ∷ []) c.in-Ok.ensures.outcome in
+    let told : c.push.new.self ≡ c.loop-e.told ++ (step w e).outcome ∷ [] = c.in_ok-push-in-Ok.ensures.ok ∙ ap (λ (o : Outcome). c.loop-e.told ++ o ∷ []) c.in-Ok.ensures.outcome in
     record {
       so_far = ap (λ (v : Direct). run_on (record { world = v; outcomes = c.push.new.self }) rest) here
           ∙ ap (λ (os : List Outcome). run_on (record { world = (step w e).world; outcomes = os }) rest) told
