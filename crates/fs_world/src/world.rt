@@ -1,5 +1,5 @@
 //! The world of a schedule as one value.
-ghost use Rattle.std.specs.Prelude.{◌≡◌, true, IfOk, OnErr, OnOk, IsErrOf};
+ghost use Rattle.std.specs.Prelude.{[], ◌≡◌, true, IfOk, OnErr, OnOk, IsErrOf};
 ghost use Rattle.fs_msg.specs.declared.core_error.Counter.{Counter as TheCounter};
 ghost use Rattle.fs_msg.specs.declared.core_error.Counter.TheVariants.{Entries};
 ghost use Rattle.fs_msg.specs.declared.core_error.CoreError.TheVariants as errors;
@@ -9,6 +9,7 @@ use fs_ident::{List, Memory, Twin};
 use fs_model::Space;
 use fs_msg::{CoreError, Item};
 use fs_schedule::{Event, Head, Outcome};
+use fs_window::Sent;
 use std::alloc::Global;
 use std::marker::Model;
 
@@ -16,17 +17,22 @@ use std::marker::Model;
 #[derive(Drop)]
 pub struct World {
     direct: Direct,
+    /// None is sent in the direct form.
+    packets: List<Sent>,
 }
 
 impl Model for World {
     ghost use Rattle.fs_world.specs.declared.direct.Direct.{Direct};
     ghost use Rattle.fs_world.specs.contracts.direct.Direct as whole;
+    ghost use Rattle.std.specs.Prelude.{◌≡◌, []};
 
     ghost Value = { Direct };
 
     ghost coded = { whole.the_row.coded };
 
     ghost view = { λ w. w.direct };
+
+    ghost invariant = { λ w. w.packets ≡ [] };
 }
 
 impl World {
@@ -39,6 +45,7 @@ impl World {
         match head {
             Head::Direct => Ok(World {
                 direct: Direct::new(alloc)?,
+                packets: List::new(alloc),
             }),
         }
     }
@@ -62,6 +69,13 @@ impl World {
         ensures { result.now ≡ self.now.journal }
     {
         &self.direct.journal
+    }
+
+    /// The packets that were sent, in order: none in the direct form.
+    pub fn packets(&self) -> &List<Sent>
+        ensures { result.now ≡ [] }
+    {
+        &self.packets
     }
 
     /// A copy of the namespace.
