@@ -16,7 +16,7 @@ use Rattle.fs_model.specs.Children.{child_at}
 use Rattle.fs_model.specs.Step.{Stepped, step, reply_alone, create, create_in, create_as, is_child, with_new_node}
 use Rattle.fs_msg.specs.declared.item.Item.{Item}
 use Rattle.fs_world.specs.declared.direct.Direct.{Direct}
-use Rattle.fs_world.specs.World.{Answer, Numbers, answer, answer_of, candidate, candidate_of, carried, create_answer, item_of, left, used, is_made, next_of}
+use Rattle.fs_world.specs.World.{Answer, Numbers, answer, answer_of, candidate, candidate_of, with_item, create_answer, item_of, with_answer, with_number_used, is_made, next_of}
 
 -- a create that is not made answers as one without an identifier, and changes as little
 as_unmade : (b : Bool) (m n : NodeMap) → is_made (if b then record { reply = reply.Made; nodes = n } else reply_alone m reply.BadId).reply ≡ false → (if b then record { reply = reply.Made; nodes = n } else reply_alone m reply.BadId) ≡ reply_alone m reply.BadId
@@ -52,7 +52,7 @@ pub record IsCreated (m : NodeMap) (numbers : Numbers) (by : Session) (dir : Lis
 
 tried_at : (b : Bool) (m : NodeMap) (numbers : Numbers) (by : Session) (dir name : List ℕ) (kind : Kind) (id : Option (List ℕ)) → is_made (step m by (op.Create dir name kind id)).reply ≡ b
     → IsCreated m numbers by dir (op.Create dir name kind id) (op.Create dir name kind None) (next_of numbers dir)
-    (if b then used numbers dir (answer_of m numbers by (op.Create dir name kind id)) else answer_of m numbers by (op.Create dir name kind None))
+    (if b then with_number_used numbers dir (answer_of m numbers by (op.Create dir name kind id)) else answer_of m numbers by (op.Create dir name kind None))
 tried_at true m numbers by dir name kind id e = record { op = rw e refl; reply = refl; space = refl; next = rw e refl }
 tried_at false m numbers by dir name kind id e = record {
   op = rw e refl;
@@ -75,18 +75,18 @@ created m numbers by dir name kind tried plain id some k t p is from number =
     (subst (λ (n : ℕ). IsCreated m numbers by dir (op.Create dir name kind (candidate numbers dir)) (op.Create dir name kind None) n a) (sym number) all))
 
 -- the namespace and the numbers of an answer are left
-pub left_by : (w : Direct) (a : Answer) (m : NodeMap) (numbers : Numbers) → m ≡ a.space → numbers ≡ a.next → record w { space = m; next = numbers } ≡ left w a
+pub left_by : (w : Direct) (a : Answer) (m : NodeMap) (numbers : Numbers) → m ≡ a.space → numbers ≡ a.next → record w { space = m; next = numbers } ≡ with_answer w a
 left_by w a m numbers e f = ap (λ (x : NodeMap). let v : Direct = record w { space = x; next = numbers } in v) e ∙ ap (λ (y : Numbers). let v : Direct = record w { space = a.space; next = y } in v) f
 
 -- an item is put into the place that was kept for it
 pub carried_by : (w : Direct) (by : Session) (n : ℕ) (a : Answer) (now : Direct) (pushed : List Item) (blank x : Item) (at : ℕ) (j : List Item)
-    → now ≡ left (record w { journal = pushed }) a → pushed ≡ w.journal ++ blank ∷ [] → at ≡ length w.journal → x ≡ item_of by n a → j ≡ set now.journal at x
-    → record now { journal = j } ≡ carried w by n a
+    → now ≡ with_answer (record w { journal = pushed }) a → pushed ≡ w.journal ++ blank ∷ [] → at ≡ length w.journal → x ≡ item_of by n a → j ≡ set now.journal at x
+    → record now { journal = j } ≡ with_item w by n a
 carried_by w by n a now pushed blank x at j after push place item put =
     let settled : j ≡ w.journal ++ item_of by n a ∷ [] =
     put ∙ ap (λ (v : Direct). set v.journal at x) after ∙ ap (λ (p : List Item). set p at x) push ∙ ap (λ (k : ℕ). set (w.journal ++ blank ∷ []) k x) place
     ∙ set-append_seam w.journal blank [] x ∙ ap (λ (y : Item). w.journal ++ y ∷ []) item in
-    ap (λ (v : Direct). let u : Direct = record v { journal = j } in u) after ∙ ap (λ (p : List Item). let u : Direct = record (left w a) { journal = p } in u) settled
+    ap (λ (v : Direct). let u : Direct = record v { journal = j } in u) after ∙ ap (λ (p : List Item). let u : Direct = record (with_answer w a) { journal = p } in u) settled
 
 -- an operation that is no create is carried out as it is
 pub plain_answer : (m : NodeMap) (next : Numbers) (by : Session) (o : Op) → ((dir name : List ℕ) (kind : Kind) (id : Option (List ℕ)) → o ≡ op.Create dir name kind id → ⊥) → answer m next by o ≡ answer_of m next by o

@@ -21,7 +21,7 @@ use Rattle.fs_schedule.specs.declared.event.Schedule.{Schedule}
 use Rattle.fs_schedule.specs.declared.event.What.{What}
 use Rattle.fs_schedule.specs.declared.event.What.TheVariants.{Join, Do}
 use Rattle.fs_world.specs.declared.direct.Direct.{Direct}
-use Rattle.fs_world.specs.World.{Answer, Run, Stepped, AllMayAsk, answer, answered, begun, do_at, first_run, item_of, join_at, may_happen, more, run_of, run_on, step_of}
+use Rattle.fs_world.specs.World.{Answer, Run, Stepped, AllMayAsk, answer, answer_step, join_step, do_at, first_run, item_of, join_at, may_happen, more, run_of, run_on, step_of}
 use Rattle.fs_world.specs.Order.{Told, told_at, told_of, AllAdmitted, HasNumberOf, Agrees, AreNumberedFrom, items_of}
 use Rattle.fs_world.specs.Safe.{IsSerial}
 use Rattle.fs_world.proofs.Serial.{serial_push, IsStep, answer_steps, AllAsk, asks_push, safe_after}
@@ -41,7 +41,7 @@ pub record Holds (told : List Told) (w : Direct) : Type 0 where
 holds_nothing : (told : List Told) (w : Direct) → Holds told w → Holds (told ++ []) w
 holds_nothing told w h = record { serial = h.serial; counted = h.counted; unserved = h.unserved; admitted = admitted_still w.journal told h.admitted; asking = h.asking }
 
-holds_begun : (told : List Told) (w : Direct) (s : Session) → get w.asked s.0 ≡ None → Holds told w → Holds (told ++ []) (begun w s).world
+holds_begun : (told : List Told) (w : Direct) (s : Session) → get w.asked s.0 ≡ None → Holds told w → Holds (told ++ []) (join_step w s).world
 holds_begun told w s none h = record {
   serial = h.serial;
   counted = λ c. counted_joined w.journal w.asked s c none (h.counted c);
@@ -54,7 +54,7 @@ told_as : Session → Op → ℕ → Answer → Told
 told_as s o n a = record { session = s; n = n; asked = o; reply = a.reply }
 
 holds_answered : (told : List Told) (w : Direct) (s : Session) (o : Op) (n : ℕ) (a : Answer) → get w.asked s.0 ≡ Some n → IsStep w.space s o a → Holds told w
-    → Holds (told ++ record { session = s; n = n + 1; asked = o; reply = a.reply } ∷ []) (answered w s (n + 1) a).world
+    → Holds (told ++ record { session = s; n = n + 1; asked = o; reply = a.reply } ∷ []) (answer_step w s (n + 1) a).world
 holds_answered told w s o n a some steps h = record {
   serial = subst (IsSerialRun first_space (w.journal ++ item_of s (n + 1) a ∷ [])) steps.space (serial_push first_space w.journal w.space (item_of s (n + 1) a) h.serial steps.plain steps.reply);
   counted = λ c. counted_answered w.journal w.asked s c n (item_of s (n + 1) a) some refl refl (h.counted c);

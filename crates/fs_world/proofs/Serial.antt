@@ -15,7 +15,7 @@ use Rattle.fs_msg.specs.declared.item.Item.{Item}
 use Rattle.fs_msg.specs.Journal.{IsSerialRun, asker, is_reap, item_step, may_admit, spaces_after}
 use Rattle.fs_world.specs.Order.{SameButId}
 use Rattle.fs_world.specs.Safe.{IsSafe}
-use Rattle.fs_world.specs.World.{Answer, Numbers, answer, answer_of, used, is_made, candidate}
+use Rattle.fs_world.specs.World.{Answer, Numbers, answer, answer_of, with_number_used, is_made, candidate}
 
 -- one more item at the end
 pub serial_push : (a : NodeMap) (is : List Item) (b : NodeMap) (i : Item) → IsSerialRun a is b → may_admit i.by i.op ≡ true → (item_step b i).reply ≡ i.reply → IsSerialRun a (is ++ i ∷ []) (item_step b i).nodes
@@ -31,7 +31,7 @@ pub record IsStep (m : NodeMap) (by : Session) (asked : Op) (a : Answer) : Type 
   pub asks : AsksAccess a.op
 
 create_steps : (b : Bool) (m : NodeMap) (next : Numbers) (by : Session) (dir name : List ℕ) (kind : Kind) (none id : Option (List ℕ))
-    → IsStep m by (op.Create dir name kind none) (if b then used next dir (answer_of m next by (op.Create dir name kind id)) else answer_of m next by (op.Create dir name kind None))
+    → IsStep m by (op.Create dir name kind none) (if b then with_number_used next dir (answer_of m next by (op.Create dir name kind id)) else answer_of m next by (op.Create dir name kind None))
 create_steps true m next by dir name kind none id = record { reply = refl; space = refl; same = (id, refl); plain = refl; asks = tt }
 create_steps false m next by dir name kind none id = record { reply = refl; space = refl; same = (None, refl); plain = refl; asks = tt }
 

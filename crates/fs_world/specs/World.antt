@@ -64,8 +64,8 @@ abbrev pub answer_of : NodeMap → Numbers → Session → Op → Answer
 answer_of m next by o = record { op = o; reply = (space.step m by o).reply; space = (space.step m by o).nodes; next = next }
 
 -- a create that was made used up a number
-abbrev pub used : Numbers → List ℕ → Answer → Answer
-used next dir a = record a { next = insert next dir (next_of next dir + 1) }
+abbrev pub with_number_used : Numbers → List ℕ → Answer → Answer
+with_number_used next dir a = record a { next = insert next dir (next_of next dir + 1) }
 
 abbrev pub is_made : Reply → Bool
 is_made reply.Made = true
@@ -75,7 +75,7 @@ is_made _ = false
 abbrev pub create_answer : NodeMap → Numbers → Session → List ℕ → List ℕ → Kind → Option (List ℕ) → Answer
 create_answer m next by dir name kind id =
     if is_made (space.step m by (op.Create dir name kind id)).reply
-    then used next dir (answer_of m next by (op.Create dir name kind id))
+    then with_number_used next dir (answer_of m next by (op.Create dir name kind id))
     else answer_of m next by (op.Create dir name kind None)
 
 abbrev pub answer : NodeMap → Numbers → Session → Op → Answer
@@ -95,37 +95,37 @@ outcome_of who n = record { who = who; notes = n ∷ []; sent = [] }
 abbrev pub nothing : Direct → Stepped
 nothing w = record { world = w; outcome = outcome_of None note.Nothing }
 
-abbrev pub begun : Direct → Session → Stepped
-begun w s = record { world = record w { asked = insert w.asked s.0 0 }; outcome = outcome_of (Some (Client s)) note.Joined }
+abbrev pub join_step : Direct → Session → Stepped
+join_step w s = record { world = record w { asked = insert w.asked s.0 0 }; outcome = outcome_of (Some (Client s)) note.Joined }
 
 -- the journal's item of the session's operation of number n
 abbrev pub item_of : Session → ℕ → Answer → Item
 item_of s n a = record { by = Client s; n = n; op = a.op; reply = a.reply }
 
 -- the namespace and the numbers that an answer leaves
-abbrev pub left : Direct → Answer → Direct
-left w a = record w { space = a.space; next = a.next }
+abbrev pub with_answer : Direct → Answer → Direct
+with_answer w a = record w { space = a.space; next = a.next }
 
 -- the session's operation of number n is carried out
-abbrev pub carried : Direct → Session → ℕ → Answer → Direct
-carried w s n a = record (left w a) { journal = w.journal ++ item_of s n a ∷ [] }
+abbrev pub with_item : Direct → Session → ℕ → Answer → Direct
+with_item w s n a = record (with_answer w a) { journal = w.journal ++ item_of s n a ∷ [] }
 
 -- and the session is told of it
-abbrev pub answered : Direct → Session → ℕ → Answer → Stepped
-answered w s n a = record {
-  world = record (carried w s n a) { asked = insert w.asked s.0 n };
+abbrev pub answer_step : Direct → Session → ℕ → Answer → Stepped
+answer_step w s n a = record {
+  world = record (with_item w s n a) { asked = insert w.asked s.0 n };
   outcome = outcome_of (Some (Client s)) (note.Answered n a.reply);
 }
 
 -- a session joins once
 abbrev pub join_at : Option ℕ → Direct → Session → Stepped
-join_at None w s = begun w s
+join_at None w s = join_step w s
 join_at (Some n) w s = nothing w
 
 -- a session that has joined is answered
 abbrev pub do_at : Option ℕ → Direct → Session → Op → Stepped
 do_at None w s o = nothing w
-do_at (Some n) w s o = answered w s (n + 1) (answer w.space w.next s o)
+do_at (Some n) w s o = answer_step w s (n + 1) (answer w.space w.next s o)
 
 abbrev pub step_of : Direct → What → Stepped
 step_of w (Join s) = join_at (get w.asked s.0) w s

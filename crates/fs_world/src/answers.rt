@@ -3,7 +3,7 @@ ghost use Rattle.std.specs.Prelude.{if◌then◌else◌, ◌≡◌, ◌+◌, ◌
 ghost use Rattle.std.specs.FinMap as map;
 ghost use Rattle.fs_model.specs.Step.{step};
 ghost use Rattle.fs_model.specs.Sound.{is_change};
-ghost use Rattle.fs_world.specs.World.{answer, candidate, candidate_of, carried, create_answer, is_made, left};
+ghost use Rattle.fs_world.specs.World.{answer, candidate, candidate_of, with_item, create_answer, is_made, with_answer};
 
 use crate::direct::Direct;
 use fs_ident::{FileId, IdError, Kind, List, Memory, Name, Peer, Session, Twin};
@@ -31,7 +31,7 @@ impl Direct {
         ensures reply { IfOk result (λ reply. reply ≡
             (answer self.old.space self.old.next by op.now).reply) }
         ensures world { OnOk result (self.new ≡
-            carried self.old by n (answer self.old.space self.old.next by op.now)) }
+            with_item self.old by n (answer self.old.space self.old.next by op.now)) }
         ensures err { OnErr result (self.new ≡ self.old) }
     {
         let at = self.journal.len();
@@ -57,7 +57,7 @@ impl Direct {
         ensures twin { IfOk result (λ d. d.twin ≡
             (answer self.old.space self.old.next by op.now).reply) }
         ensures world { OnOk result (self.new ≡
-            left self.old (answer self.old.space self.old.next by op.now)) }
+            with_answer self.old (answer self.old.space self.old.next by op.now)) }
         ensures err { OnErr result (self.new ≡ self.old) }
     {
         match op {
@@ -89,7 +89,7 @@ impl Direct {
         ensures twin { IfOk result (λ d. d.twin ≡
             (create_answer self.old.space self.old.next by dir.now name.now kind
             (candidate self.old.next dir.now)).reply) }
-        ensures world { OnOk result (self.new ≡ left self.old
+        ensures world { OnOk result (self.new ≡ with_answer self.old
             (create_answer self.old.space self.old.next by dir.now name.now kind
             (candidate self.old.next dir.now))) }
         ensures err { OnErr result (self.new ≡ self.old) }

@@ -24,7 +24,7 @@ impl Direct {
     ghost use Rattle.fs_msg.specs.declared.core_error.Counter.{Counter as TheCounter};
     ghost use Rattle.fs_msg.specs.declared.core_error.Counter.TheVariants.{Entries};
     ghost use Rattle.fs_msg.specs.declared.core_error.CoreError.TheVariants as errors;
-    ghost use Rattle.fs_world.specs.World.{first_world, step_of, join_at, do_at, answered, answer, is_spent, is_last};
+    ghost use Rattle.fs_world.specs.World.{first_world, step_of, join_at, do_at, answer_step, answer, is_spent, is_last};
 
     /// The root directory alone, and no session.
     pub(crate) fn new(alloc: Global) -> Result<Direct, Memory>
@@ -96,9 +96,9 @@ impl Direct {
     fn answered(&mut self, alloc: Global, s: Session, n: u64, op: &Op) -> Result<Outcome, Memory>
         requires { IsSome (map.get self.old.asked s.0) }
         ensures outcome { IfOk result (λ o. o ≡
-            (answered self.old s n (answer self.old.space self.old.next s op.now)).outcome) }
+            (answer_step self.old s n (answer self.old.space self.old.next s op.now)).outcome) }
         ensures world { OnOk result (self.new ≡
-            (answered self.old s n (answer self.old.space self.old.next s op.now)).world) }
+            (answer_step self.old s n (answer self.old.space self.old.next s op.now)).world) }
         ensures err { OnErr result (self.new ≡ self.old) }
     {
         let mut told = outcome(alloc, Some(Peer::Client(s)), Note::Nothing)?;

@@ -2,7 +2,7 @@ use Rattle.std.proofs.Common.{◌≡◌, ap, sym, ◌∙◌}
 use Rattle.std.proofs.lemmas.Result.{IfOk-weaker, on_ok_weaker, on_err_weaker}
 use Rattle.fs_model.specs.Namespace.{NodeMap}
 use Rattle.fs_world.specs.declared.direct.Direct.{Direct}
-use Rattle.fs_world.specs.World.{Answer, answer, answer_of, left}
+use Rattle.fs_world.specs.World.{Answer, answer, answer_of, with_answer}
 use Rattle.fs_world.proofs.Creates.{plain_answer}
 use Rattle.fs_world.proofs.direct.Direct.carry_out.Goals as goal
 
@@ -16,6 +16,6 @@ returns-in_ok-copy-in_default c =
       op = IfOk-weaker c.ask.result _ _ (λ d h. h ∙ ap (λ (a : Answer). a.op) e) c.ask.ensures.op;
       reply = IfOk-weaker c.ask.result _ _ (λ d h. h ∙ ap (λ (a : Answer). a.reply) e) c.ask.ensures.reply;
       twin = IfOk-weaker c.ask.result _ _ (λ d h. h ∙ ap (λ (a : Answer). a.reply) e) c.ask.ensures.twin;
-      world = on_ok_weaker c.ask.result (λ h. ap (λ (m : NodeMap). let v : Direct = record w { space = m } in v) h ∙ ap (left w) e) c.ask.ensures.space;
+      world = on_ok_weaker c.ask.result (λ h. ap (λ (m : NodeMap). let v : Direct = record w { space = m } in v) h ∙ ap (with_answer w) e) c.ask.ensures.space;
       err = on_err_weaker c.ask.result (λ h. ap (λ (m : NodeMap). let v : Direct = record w { space = m } in v) h) c.ask.ensures.err;
     }
