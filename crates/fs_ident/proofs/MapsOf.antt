@@ -96,4 +96,29 @@ pub numbered_same : {V : Type 0} (m n : BTreeMap ℕ V) → n.entries ≡ m.entr
 unfolding numbered_map_of
 numbered_same m n e = ap (λ es. from_entries es) e
 
+pub numbered_set : {V : Type 0} (m n : BTreeMap ℕ V) (k : ℕ) (v w : V) → lookup (is_at (nat_cmp k)) m.entries ≡ Some v → n.entries ≡ set_value (is_at (nat_cmp k)) m.entries w → numbered_map_of n ≡ insert (numbered_map_of m) k w
+unfolding numbered_map_of
+numbered_set m n k v w h e = ap (λ es. from_entries es) e ∙ map_set nat_cmp nat_cmp_total nat_cmp-IsAntisymmetric m.entries k v w h
+
 pub ruleset numbered_maps = (numbered_get, numbered_insert, numbered_same)
+
+-- where a value is changed in place
+pub ruleset numbered_changes = (numbered_get, numbered_set)
+
+-- ## What is put and put back
+
+put_twice : {V : Type 0} (b : Bool) (v w : V) (g : Option V) → (b ≡ true → g ≡ Some w) → cond b (Some w) (cond b (Some v) g) ≡ g
+put_twice true v w g h = sym (h refl)
+put_twice false v w g h = refl
+
+-- a value that was put where another stood, and that one again
+pub put_back : {V : Type 0} (m : FinMap (slice_cmp nat_cmp) V) (k : List ℕ) (v w : V) → get m k ≡ Some w → insert (insert m k v) k w ≡ m
+put_back m k v w h = same_map nat_list_cmp_total anti _ _ (λ q.
+    get-insert nat_list_cmp_total (insert m k v) k w q ∙ ap (cond (eq_by_cmp (slice_cmp nat_cmp) q k) (Some w)) (get-insert nat_list_cmp_total m k v q)
+    ∙ put_twice _ v w _ (λ t. sym (get_tied nat_list_cmp_total m q k (equal_is _ t)) ∙ h))
+
+-- what is put stands there
+pub put_here : {V : Type 0} (m : FinMap (slice_cmp nat_cmp) V) (k : List ℕ) (v : V) → get (insert m k v) k ≡ Some v
+put_here m k v = get-insert nat_list_cmp_total m k v k ∙ ap (λ b. cond b (Some v) (get m k)) ((eq_by_cmp_equiv nat_list_cmp_total).refl k)
+
+pub ruleset put_backs = (put_back, remove-insert)

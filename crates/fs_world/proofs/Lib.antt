@@ -1,4 +1,3 @@
-pub mod Restored
 pub mod Creates
 pub mod Serial
 pub mod Numbered

@@ -80,7 +80,7 @@ fn set_in(asked: &mut BTreeMap<u16, u64>, session: u16, count: u64) -> Result<()
     Ok(())
 }
 
-#[tactic(auto, using(crate::proofs::Restored::counts))]
+#[tactic(auto, using(fs_ident::proofs::MapsOf::numbered_changes))]
 fn raise_in(asked: &mut BTreeMap<u16, u64>, session: u16, count: u64)
     requires { IsSome (map.get (numbered_map_of asked.old) session) }
     ensures { numbered_map_of asked.new ≡ map.insert (numbered_map_of asked.old) session count }

@@ -64,7 +64,7 @@ impl Numbers {
     }
 
     /// Undoes a `set`: the directory has again what it had before, which takes no memory.
-    #[tactic(auto, using(crate::proofs::Restored::back))]
+    #[tactic(auto, using(fs_ident::proofs::MapsOf::put_backs))]
     pub(crate) fn restore(&mut self, dir: &FileId, before: Option<u64>)
         ensures { (numbers : TheNumbers) (n : ℕ) → self.old ≡ map.insert numbers dir.now n →
             before ≡ map.get numbers dir.now → self.new ≡ numbers }
