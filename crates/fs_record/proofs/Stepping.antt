@@ -2,7 +2,7 @@
 use Rattle.std.proofs.Common.{◌≡◌, ℕ, ◌+◌, List, length, Bool, true, false, refl, ap, sym, ◌∙◌, cond, arith}
 use Rattle.std.specs.Prelude.{Option, Some, None, option_map, not, ◌==◌, ◌&&◌, is_some}
 use Rattle.std.specs.Ordering.{nat_cmp, eq_by_cmp}
-use Rattle.std.specs.Cmp.Lexicographic.{slice_cmp, nat_list_cmp_total, same_text}
+use Rattle.std.specs.Cmp.Lexicographic.{slice_cmp, nat_list_cmp_total}
 use Rattle.std.specs.FinMap.{FinMap, get, insert, get-insert, same_map}
 use Rattle.std.proofs.lemmas.Bool.Decides.{nat_tests}
 use Rattle.fs_ident.specs.declared.actor.Session.{Session}
@@ -24,7 +24,7 @@ use Rattle.fs_record.specs.Effects.{effects_of, tells_its_effects}
 use Rattle.fs_ident.proofs.Booleans.{first}
 use Rattle.fs_ident.proofs.MapsOf.{anti}
 use Rattle.fs_model.proofs.HandleOrder.{without_absent}
-use Rattle.fs_record.proofs.NodeValues.{tied, key_is}
+use Rattle.fs_record.proofs.NodeValues.{key_is}
 
 -- the effects of the operation, with the reply of the outcome, lead to the outcome
 abbrev Leads : NodeMap → Session → Op → Stepped → Type 0
