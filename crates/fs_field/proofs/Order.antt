@@ -1,5 +1,5 @@
 -- Rows in order of number.
-use Rattle.std.proofs.Common.{◌≡◌, ℕ, ◌==◌, ◌&&◌, ◌||◌, ◌⊎◌, Bool, true, false, List, [], ◌∷◌, refl, ap, cond, sym, ◌∙◌, map, inl, inr, arith}
+use Rattle.std.proofs.Common.{◌≡◌, ℕ, ◌==◌, ◌&&◌, ◌⊎◌, Bool, true, false, List, [], ◌∷◌, refl, ap, cond, sym, ◌∙◌, map, inl, inr, arith}
 use Rattle.std.specs.Prelude.{Some}
 use Rattle.std.specs.List.{filter, find, list_all, list_any}
 use Rattle.std.specs.Ordering.{nat_cmp, is_lt, ordering_then}

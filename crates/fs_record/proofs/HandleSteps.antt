@@ -1,24 +1,12 @@
 -- Steps of the loops over handles.
-use Rattle.std.proofs.Common.{◌≡◌, ℕ, ◌+◌, ◌<◌, List, [], ◌∷◌, length, get_or, drop, refl, ap, cond, Bool, true, false}
-use Rattle.std.specs.Prelude.{Option, Some, None, ◌==◌}
+use Rattle.std.proofs.Common.{◌≡◌, ℕ, ◌+◌, ◌<◌, List, ◌∷◌, length, get_or, drop, cond}
+use Rattle.std.specs.Prelude.{◌==◌}
 use Rattle.std.proofs.lemmas.List.{drop_more}
 use Rattle.fs_ident.specs.declared.actor.Session.{Session}
 use Rattle.fs_modes.specs.declared.modes.Modes.{Modes}
 use Rattle.fs_modes.specs.Modes.{or}
 use Rattle.fs_model.specs.declared.node.Handle.{Handle}
-use Rattle.fs_model.specs.Handles.{is_at, handle_at, without_handle}
 use Rattle.fs_record.specs.ValueOf.{own_of, selves_from}
-
-none_below : (b : Bool) (m : Modes) (o : Option Modes) → cond b (Some m) o ≡ None → (b ≡ false) × (o ≡ None)
-none_below true m o e = absurd (cc)
-none_below false m o e = (refl, e)
-
--- what the session has not open is not taken away
-pub without_absent : (handles : List Handle) (session : Session) (h : ℕ) → handle_at handles session h ≡ None → without_handle handles session h ≡ handles
-without_absent [] session h e = refl
-without_absent (x ∷ xs) session h e =
-    let apart : (is_at session h x ≡ false) × (handle_at xs session h ≡ None) = none_below _ _ _ e in
-    rw apart.0 (ap (λ xs. x ∷ xs) (without_absent xs session h apart.1))
 
 pub own_step : (s : Session) (xs : List Handle) (i : ℕ) (d : Handle) → i < length xs → own_of s (drop i xs) ≡ cond ((get_or xs i d).session.0 == s.0) (((get_or xs i d).h, (get_or xs i d).modes) ∷ own_of s (drop (i + 1) xs)) (own_of s (drop (i + 1) xs))
 own_step s xs i d lt = rw (drop_more xs i d lt)

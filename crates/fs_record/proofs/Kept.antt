@@ -1,22 +1,20 @@
 -- What keeps every record one.
-use Rattle.std.proofs.Common.{◌≡◌, ℕ, zero, suc, ◌+◌, ◌-◌, ◌<◌, ◌≤◌, ◌^◌, List, [], ◌∷◌, length, Bool, true, false, refl, sym, subst, cond, arith}
+use Rattle.std.proofs.Common.{◌≡◌, ℕ, zero, suc, ◌+◌, ◌-◌, ◌<◌, ◌≤◌, ◌^◌, List, length, Bool, true, false, refl, sym, subst, cond, arith}
 use Rattle.std.specs.Prelude.{Option, Some, None, IfSome, option_map, Result, Ok, Err, OnOk, OnErr, ◌==◌, not}
 use Rattle.std.specs.Ordering.{nat_cmp, eq_by_cmp}
 use Rattle.std.specs.Cmp.Lexicographic.{slice_cmp, nat_list_cmp_total}
 use Rattle.std.specs.FinMap.{FinMap, empty, get, insert, get-empty, get-insert, get-remove}
-use Rattle.fs_ident.specs.declared.actor.Session.{Session}
 use Rattle.fs_field.specs.declared.effect.Effect.{Effect}
 use Rattle.fs_field.specs.declared.effect.Effect.TheVariants.{SetChild, SetParent, NewNode, RemoveNode, AddHandle, RemoveHandle, SetInfo}
 use Rattle.fs_model.specs.declared.node.Node.{Node}
-use Rattle.fs_model.specs.declared.node.Handle.{Handle}
-use Rattle.fs_model.specs.Handles.{is_at, handle_at, without_handle}
+use Rattle.fs_model.specs.Handles.{is_at, without_handle}
 use Rattle.fs_model.specs.Namespace.{IsInOrder, root_node}
-use Rattle.fs_model.proofs.HandleOrder.{with_handle_in_order, filter_in_order}
+use Rattle.fs_model.proofs.HandleOrder.{with_handle_in_order, filter_in_order, handle_at-without_handle}
 use Rattle.fs_model.proofs.Keeping.{fresh_in_order, with_link_in_order, without_link_in_order}
 use Rattle.fs_record.specs.declared.record.Record.{Record}
 use Rattle.fs_record.specs.Records.{RecordMap, AreRecords, IsRecord, next_of, root_record}
 use Rattle.fs_record.specs.Applied.{node_change, record_change, records_after, with_at, changed_file}
-use Rattle.fs_record.specs.Fresh.{fresh_number, records_given, with_next, is_borne, least_free, free_from}
+use Rattle.fs_record.specs.Fresh.{fresh_number, records_after_gift, with_next, is_borne, least_free, free_from}
 
 pub record_at : (m : RecordMap) → AreRecords m → (id : List ℕ) (r : Record) → get m id ≡ Some r → IsRecord r
 record_at m s id r e = subst (λ o. IfSome o IsRecord) e (s id)
@@ -45,15 +43,6 @@ root_kept = record { in_order = fresh_in_order root_node.kind None; least = omeg
 
 -- ## An effect
 
--- what was taken away is absent
-gone : (handles : List Handle) (session : Session) (h : ℕ) → handle_at (without_handle handles session h) session h ≡ None
-gone [] session h = refl
-gone (x ∷ xs) session h =
-    elim (is_at session h x) as (λ b. is_at session h x ≡ b → handle_at (cond (not b) (x ∷ without_handle xs session h) (without_handle xs session h)) session h ≡ None) [
-      | true ↦ λ e. gone xs session h
-      | false ↦ λ e. rw e (gone xs session h)
-    ] refl
-
 node_kept : (e : Effect) (n : Node) → IsInOrder n → IfSome (node_change e (Some n)) IsInOrder
 node_kept (SetChild dir name None) n own = without_link_in_order name n own
 node_kept (SetChild dir name (Some file)) n own = with_link_in_order name file n own
@@ -62,7 +51,7 @@ node_kept (NewNode file kind dir name) n own = fresh_in_order kind (Some (dir, n
 node_kept (RemoveNode file) n own = tt
 node_kept (AddHandle file session h modes) n own = record {
   children = own.children;
-  handles = with_handle_in_order (record { session = session; h = h; modes = modes }) (without_handle n.handles session h) (gone n.handles session h) (filter_in_order (λ x. not (is_at session h x)) n.handles own.handles);
+  handles = with_handle_in_order (record { session = session; h = h; modes = modes }) (without_handle n.handles session h) (handle_at-without_handle n.handles session h) (filter_in_order (λ x. not (is_at session h x)) n.handles own.handles);
 }
 node_kept (RemoveHandle file session h) n own = record { children = own.children; handles = filter_in_order (λ x. not (is_at session h x)) n.handles own.handles }
 node_kept (SetInfo file size stamp) n own = record { children = own.children; handles = own.handles }
@@ -96,7 +85,7 @@ free_bounds (suc n) k borne j e = within (is_borne borne k) (free_bounds n (k + 
 
 next_kept : (m : RecordMap) (dir : List ℕ) (next : ℕ) (o : Option Record) → get m dir ≡ o → AreRecords m → 1 ≤ next → next ≤ 2 ^ 32 → AreRecords (with_next m dir next o)
 next_kept m dir next None e s p q = s
-next_kept m dir next (Some r) e s p q = kept_insert m dir (record { node = r.node; next = next }) s (record { in_order = (record_at m s dir r e).in_order; least = p; most = q })
+next_kept m dir next (Some r) e s p q = kept_insert m dir (record r { next = next }) s (record { in_order = (record_at m s dir r e).in_order; least = p; most = q })
 
 pub next_bound : (m : RecordMap) (dir : List ℕ) → AreRecords m → next_of (get m dir) ≤ 2 ^ 32
 next_bound m dir s = bound (get m dir) (s dir)
@@ -115,10 +104,10 @@ number_bound m dir borne k s e = within (length dir == 32) e
         let q = next_bound m dir s in
         omega arith
 
-pub given_kept : (m : RecordMap) (dir borne : List ℕ) → AreRecords m → AreRecords (records_given m dir (fresh_number m dir borne))
+pub given_kept : (m : RecordMap) (dir borne : List ℕ) → AreRecords m → AreRecords (records_after_gift m dir (fresh_number m dir borne))
 given_kept m dir borne s = within (fresh_number m dir borne) refl
   where
-    within : (o : Option ℕ) → fresh_number m dir borne ≡ o → AreRecords (records_given m dir o)
+    within : (o : Option ℕ) → fresh_number m dir borne ≡ o → AreRecords (records_after_gift m dir o)
     within None e = s
     within (Some k) e = let p = number_bound m dir borne k s e in next_kept m dir (k + 1) (get m dir) refl s (omega arith) (omega arith)
 

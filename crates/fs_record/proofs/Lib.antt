@@ -1,6 +1,4 @@
-pub mod Seen
 pub mod HandleSteps
-pub mod ChildPlaces
 pub mod Kept
 pub mod FreshNumbers
 pub mod NodeValues

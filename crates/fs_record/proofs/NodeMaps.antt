@@ -8,7 +8,7 @@ use Rattle.fs_field.specs.declared.effect.Effect.{Effect}
 use Rattle.fs_record.specs.declared.record.Record.{Record}
 use Rattle.fs_record.specs.Records.{RecordMap, nodes_of, node_of}
 use Rattle.fs_record.specs.Applied.{node_change, record_change, records_after, nodes_after, changed_file}
-use Rattle.fs_record.proofs.Seen.{anti}
+use Rattle.fs_ident.proofs.MapsOf.{anti}
 use Rattle.fs_record.proofs.Kept.{get_with_at}
 use Rattle.fs_record.proofs.ValueChanges.{change_node}
 

@@ -4,7 +4,7 @@ use Rattle.std.specs.Prelude.{Some, None, not, ◌==◌, ◌&&◌, ◌||◌, nat
 use Rattle.std.specs.List.{list_any}
 use Rattle.std.specs.Ordering.{nat_cmp, eq_by_cmp, is_eq, is_lt}
 use Rattle.std.specs.Cmp.{eq_by_cmp_equiv, alike_right}
-use Rattle.std.specs.Cmp.Lexicographic.{slice_cmp, nat_list_cmp_total, nat_list_eq_equiv, texts_ties}
+use Rattle.std.specs.Cmp.Lexicographic.{slice_cmp, nat_list_cmp_total, nat_list_eq_equiv, texts_ties, same_text}
 use Rattle.std.specs.FinMap.Entries.{below_all, by_order, find-put, find-where_key}
 use Rattle.std.specs.declared.cmp.Ordering.{Ordering}
 use Rattle.std.specs.declared.cmp.Ordering.TheVariants.{Less, Equal, Greater}
@@ -18,24 +18,9 @@ use Rattle.fs_field.specs.After as field
 use Rattle.fs_model.specs.declared.node.Handle.{Handle}
 use Rattle.fs_model.specs.Children.{Children, child_at, with_child, without_child, names_of}
 use Rattle.fs_model.specs.Handles.{comes_before, is_before_all, handles_are_in_order, with_handle, without_handle}
+use Rattle.fs_ident.proofs.Booleans.{first, second, joined, less}
+use Rattle.fs_model.proofs.HandleOrder.{before_all_trans}
 use Rattle.fs_record.specs.ValueOf.{own_of}
-
-first : (a b : Bool) → (a && b) ≡ true → a ≡ true
-first true b p = refl
-first false b p = p
-
-second : (a b : Bool) → (a && b) ≡ true → b ≡ true
-second true b p = p
-second false b p = absurd (cc)
-
-both : (a b : Bool) → a ≡ true → b ≡ true → (a && b) ≡ true
-both true b p q = q
-both false b p q = p
-
-less : (r : Ordering) → is_lt r ≡ true → r ≡ Less
-less Less p = refl
-less Equal p = absurd (cc)
-less Greater p = absurd (cc)
 
 -- ## Names
 
@@ -45,6 +30,10 @@ cmp = slice_cmp nat_cmp
 -- the two tests of one name are one
 pub tied : (a b : List ℕ) → eq_by_cmp (slice_cmp nat_cmp) a b ≡ same a b
 tied a b = sym (texts_ties a b)
+
+-- tied names are one
+pub key_is : (a b : List ℕ) → eq_by_cmp (slice_cmp nat_cmp) a b ≡ true → a ≡ b
+key_is a b e = same_text a b (sym e ∙ tied a b)
 
 tied_back : (a b : List ℕ) → same b a ≡ is_eq (slice_cmp nat_cmp a b)
 tied_back a b = nat_list_eq_equiv.symm b a ∙ texts_ties a b
@@ -60,7 +49,7 @@ below_less : (name other : List ℕ) (cs : Children) → slice_cmp nat_cmp name 
 below_less name other [] p h = refl
 below_less name other (c ∷ cs) p h =
     let q : slice_cmp nat_cmp name c.0 ≡ Less = nat_list_cmp_total.trans name other c.0 p (less _ (first _ _ h)) in
-    both _ _ (ap is_lt q) (below_less name other cs p (second _ _ h))
+    joined _ _ (ap is_lt q) (below_less name other cs p (second _ _ h))
 
 cons_out : (b : Bool) (x : List ℕ) (xs ys : List (List ℕ)) → x ∷ cond b xs ys ≡ cond b (x ∷ xs) (x ∷ ys)
 cons_out true x xs ys = refl
@@ -128,13 +117,6 @@ pub own_kept : (s session : Session) (h : ℕ) (hs : List Handle) → (session.0
 own_kept s session h [] e = refl
 own_kept s session h (x ∷ xs) e = grind (arith, nat_tests, own_kept s session h xs e)
 
-before_trans : (a b c : Handle) → comes_before a b ≡ true → comes_before b c ≡ true → comes_before a c ≡ true
-before_trans a b c p q = grind (arith, nat_tests)
-
-before_all_trans : (a b : Handle) (xs : List Handle) → comes_before a b ≡ true → is_before_all b xs ≡ true → is_before_all a xs ≡ true
-before_all_trans a b [] p h = refl
-before_all_trans a b (x ∷ xs) p h = both _ _ (before_trans a b x p (first _ _ h)) (before_all_trans a b xs p (second _ _ h))
-
 above : (s : Session) (new x : Handle) → new.session.0 ≡ s.0 → (x.session.0 == s.0) ≡ true → comes_before new x ≡ true → nat_lt new.h x.h ≡ true
 above s new x e a h = grind (arith, nat_tests)
 
@@ -157,7 +139,7 @@ pub own_more : (s : Session) (new : Handle) (hs : List Handle) → new.session.0
 own_more s new [] e h = rw (itself new.session.0 s.0 e)
 own_more s new (x ∷ xs) e h =
     elim (comes_before new x) as (λ b. comes_before new x ≡ b → own_of s (cond b (new ∷ x ∷ xs) (x ∷ with_handle xs new)) ≡ put_before (is_above new.h) (new.h, new.modes) (own_of s (x ∷ xs))) [
-      | true ↦ λ b. rw (itself new.session.0 s.0 e) (sym (own_front s new (x ∷ xs) e (both _ _ b (before_all_trans new x xs b (first _ _ h)))))
+      | true ↦ λ b. rw (itself new.session.0 s.0 e) (sym (own_front s new (x ∷ xs) e (joined _ _ b (before_all_trans new x xs b (first _ _ h)))))
       | false ↦ λ b. elim (x.session.0 == s.0) as (λ a. (x.session.0 == s.0) ≡ a → cond a ((x.h, x.modes) ∷ own_of s (with_handle xs new)) (own_of s (with_handle xs new)) ≡ put_before (is_above new.h) (new.h, new.modes) (cond a ((x.h, x.modes) ∷ own_of s xs) (own_of s xs))) [
         | true ↦ λ a. rw (not_above s new x e a b) (ap (λ ys. (x.h, x.modes) ∷ ys) (own_more s new xs e (second _ _ h)))
         | false ↦ λ a. own_more s new xs e (second _ _ h)

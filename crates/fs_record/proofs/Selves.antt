@@ -1,6 +1,6 @@
 -- What is told of the sessions with handles.
 use Rattle.std.proofs.Common.{◌≡◌, ℕ, List, [], ◌∷◌, Bool, true, false, refl, ap, sym, ◌∙◌, cond, arith}
-use Rattle.std.specs.Prelude.{Some, None, not, ◌==◌, ◌&&◌, ◌||◌, nat_lt}
+use Rattle.std.specs.Prelude.{Some, None, not, ◌==◌, ◌||◌, nat_lt}
 use Rattle.std.specs.List.{list_all}
 use Rattle.std.proofs.lemmas.Bool.Decides.{nat_tests}
 use Rattle.fs_ident.specs.declared.actor.Session.{Session}
@@ -8,19 +8,8 @@ use Rattle.fs_modes.specs.declared.modes.Modes.{Modes}
 use Rattle.fs_modes.specs.Modes.{or, none}
 use Rattle.fs_model.specs.declared.node.Handle.{Handle}
 use Rattle.fs_model.specs.Handles.{comes_before, is_before_all, handles_are_in_order}
-use Rattle.fs_record.specs.ValueOf.{selves_from, selves_of, has_handle, modes_of, told_of, is_by_session}
-
-first : (a b : Bool) → (a && b) ≡ true → a ≡ true
-first true b p = refl
-first false b p = p
-
-second : (a b : Bool) → (a && b) ≡ true → b ≡ true
-second true b p = p
-second false b p = absurd (cc)
-
-both : (a b : Bool) → a ≡ true → b ≡ true → (a && b) ≡ true
-both true b p q = q
-both false b p q = p
+use Rattle.fs_ident.proofs.Booleans.{first, second, joined}
+use Rattle.fs_record.specs.ValueOf.{selves_from, selves_of, has_handle, modes_of, modes_told_of, is_by_session}
 
 or_false : (b : Bool) → (b || false) ≡ b
 or_false true = refl
@@ -59,7 +48,7 @@ after_one x y h = grind (arith, nat_tests)
 
 from_first : (x : Handle) (xs : List Handle) → is_before_all x xs ≡ true → from_on x.session xs ≡ true
 from_first x [] h = refl
-from_first x (y ∷ ys) h = both _ _ (after_one x y (first _ _ h)) (from_first x ys (second _ _ h))
+from_first x (y ∷ ys) h = joined _ _ (after_one x y (first _ _ h)) (from_first x ys (second _ _ h))
 
 not_before : (s : Session) (x : Handle) → nat_lt s.0 x.session.0 ≡ true → (x.session.0 == s.0) ≡ false
 not_before s x h = grind (arith, nat_tests)
@@ -97,20 +86,20 @@ before_it s t x h e f = grind (arith, nat_tests)
 
 -- what is told of a session, where this one is told first
 told_from : (s t : Session) (m : Modes) (hs : List Handle) → handles_are_in_order hs ≡ true → from_on t hs ≡ true
-    → told_of s (selves_from t m hs) ≡ cond (t.0 == s.0) (Some (or m (modes_of s hs))) (cond (has_handle s hs) (Some (modes_of s hs)) None)
+    → modes_told_of s (selves_from t m hs) ≡ cond (t.0 == s.0) (Some (or m (modes_of s hs))) (cond (has_handle s hs) (Some (modes_of s hs)) None)
 told_from s t m [] h g = ap (λ (x : Modes). cond (t.0 == s.0) (Some x) None) (sym (or_none m))
 told_from s t m (x ∷ xs) h g = within (x.session.0 == t.0) refl (told_from s t (or m x.modes) xs (second _ _ h) (second _ _ g)) (told_from s x.session x.modes xs (second _ _ h) (from_first x xs (first _ _ h))) (first _ _ g) (from_first x xs (first _ _ h))
   where
     within : (b : Bool) → (x.session.0 == t.0) ≡ b
-        → told_of s (selves_from t (or m x.modes) xs) ≡ cond (t.0 == s.0) (Some (or (or m x.modes) (modes_of s xs))) (cond (has_handle s xs) (Some (modes_of s xs)) None)
-        → told_of s (selves_from x.session x.modes xs) ≡ cond (x.session.0 == s.0) (Some (or x.modes (modes_of s xs))) (cond (has_handle s xs) (Some (modes_of s xs)) None)
+        → modes_told_of s (selves_from t (or m x.modes) xs) ≡ cond (t.0 == s.0) (Some (or (or m x.modes) (modes_of s xs))) (cond (has_handle s xs) (Some (modes_of s xs)) None)
+        → modes_told_of s (selves_from x.session x.modes xs) ≡ cond (x.session.0 == s.0) (Some (or x.modes (modes_of s xs))) (cond (has_handle s xs) (Some (modes_of s xs)) None)
         → not (nat_lt x.session.0 t.0) ≡ true → from_on x.session xs ≡ true
-        → told_of s (cond b (selves_from t (or m x.modes) xs) ((t, m) ∷ selves_from x.session x.modes xs))
+        → modes_told_of s (cond b (selves_from t (or m x.modes) xs) ((t, m) ∷ selves_from x.session x.modes xs))
         ≡ cond (t.0 == s.0) (Some (or m (modes_of s (x ∷ xs)))) (cond (has_handle s (x ∷ xs)) (Some (modes_of s (x ∷ xs))) None)
     within true e p q low on =
         p ∙ one_more (t.0 == s.0) (has_handle s xs) m x.modes (modes_of s xs)
         ∙ ap (λ b. cond (t.0 == s.0) (Some (or m (cond b (or x.modes (modes_of s xs)) (modes_of s xs)))) (cond (b || has_handle s xs) (Some (cond b (or x.modes (modes_of s xs)) (modes_of s xs))) None)) (sym (agree x.session.0 t.0 s.0 e))
-    within false e p q low on = elim (t.0 == s.0) as (λ b. (t.0 == s.0) ≡ b → cond b (Some m) (told_of s (selves_from x.session x.modes xs)) ≡ cond b (Some (or m (modes_of s (x ∷ xs)))) (cond (has_handle s (x ∷ xs)) (Some (modes_of s (x ∷ xs))) None)) [
+    within false e p q low on = elim (t.0 == s.0) as (λ b. (t.0 == s.0) ≡ b → cond b (Some m) (modes_told_of s (selves_from x.session x.modes xs)) ≡ cond b (Some (or m (modes_of s (x ∷ xs)))) (cond (has_handle s (x ∷ xs)) (Some (modes_of s (x ∷ xs))) None)) [
       | true ↦ λ f.
           let none_of : (has_handle s xs ≡ false) × (modes_of s xs ≡ none) = none_before s x xs (before_it s t x low e f) on in
           let other : (x.session.0 == s.0) ≡ false = apart x.session.0 t.0 s.0 e f in
@@ -118,7 +107,7 @@ told_from s t m (x ∷ xs) h g = within (x.session.0 == t.0) refl (told_from s t
       | false ↦ λ f. q ∙ another (x.session.0 == s.0) (has_handle s xs) x.modes (modes_of s xs)
     ] refl
 
-pub selves_told : (s : Session) (hs : List Handle) → handles_are_in_order hs ≡ true → told_of s (selves_of hs) ≡ cond (has_handle s hs) (Some (modes_of s hs)) None
+pub selves_told : (s : Session) (hs : List Handle) → handles_are_in_order hs ≡ true → modes_told_of s (selves_of hs) ≡ cond (has_handle s hs) (Some (modes_of s hs)) None
 selves_told s [] h = refl
 selves_told s (x ∷ xs) h = told_from s x.session x.modes xs (second _ _ h) (from_first x xs (first _ _ h)) ∙ another (x.session.0 == s.0) (has_handle s xs) x.modes (modes_of s xs)
 
@@ -127,13 +116,13 @@ less_on a t x h g = grind (arith, nat_tests)
 
 -- each session told is greater than one that is less than the first
 all_greater : (a : ℕ) (t : Session) (m : Modes) (hs : List Handle) → nat_lt a t.0 ≡ true → handles_are_in_order hs ≡ true → from_on t hs ≡ true → list_all (λ f. nat_lt a f.0.0) (selves_from t m hs) ≡ true
-all_greater a t m [] l h g = both _ _ l refl
+all_greater a t m [] l h g = joined _ _ l refl
 all_greater a t m (x ∷ xs) l h g = within (x.session.0 == t.0) (all_greater a t (or m x.modes) xs l (second _ _ h) (second _ _ g)) (all_greater a x.session x.modes xs (less_on a t x l (first _ _ g)) (second _ _ h) (from_first x xs (first _ _ h)))
   where
     within : (b : Bool) → list_all (λ f. nat_lt a f.0.0) (selves_from t (or m x.modes) xs) ≡ true → list_all (λ f. nat_lt a f.0.0) (selves_from x.session x.modes xs) ≡ true
         → list_all (λ f. nat_lt a f.0.0) (cond b (selves_from t (or m x.modes) xs) ((t, m) ∷ selves_from x.session x.modes xs)) ≡ true
     within true p q = p
-    within false p q = both _ _ l q
+    within false p q = joined _ _ l q
 
 rising : (t : Session) (m : Modes) (hs : List Handle) → handles_are_in_order hs ≡ true → from_on t hs ≡ true → is_by_session (selves_from t m hs) ≡ true
 rising t m [] h g = refl
@@ -143,7 +132,7 @@ rising t m (x ∷ xs) h g = within (x.session.0 == t.0) refl (rising t (or m x.m
         → not (nat_lt x.session.0 t.0) ≡ true → handles_are_in_order xs ≡ true → from_on x.session xs ≡ true
         → is_by_session (cond b (selves_from t (or m x.modes) xs) ((t, m) ∷ selves_from x.session x.modes xs)) ≡ true
     within true e p q low k on = p
-    within false e p q low k on = both _ _ (all_greater t.0 x.session x.modes xs (rises t x low e) k on) q
+    within false e p q low k on = joined _ _ (all_greater t.0 x.session x.modes xs (rises t x low e) k on) q
 
 pub selves_rise : (hs : List Handle) → handles_are_in_order hs ≡ true → is_by_session (selves_of hs) ≡ true
 selves_rise [] h = refl

@@ -2,7 +2,7 @@
 use Rattle.std.proofs.Common.{◌≡◌, ℕ, ◌+◌, List, length, Bool, true, false, refl, ap, sym, ◌∙◌, cond, arith}
 use Rattle.std.specs.Prelude.{Option, Some, None, option_map, not, ◌==◌, ◌&&◌, is_some}
 use Rattle.std.specs.Ordering.{nat_cmp, eq_by_cmp}
-use Rattle.std.specs.Cmp.Lexicographic.{slice_cmp, nat_list_cmp_total, same_text}
+use Rattle.std.specs.Cmp.Lexicographic.{slice_cmp, nat_list_cmp_total}
 use Rattle.std.specs.FinMap.{FinMap, get, insert, get-insert, same_map}
 use Rattle.std.proofs.lemmas.Bool.Decides.{nat_tests}
 use Rattle.fs_ident.specs.declared.actor.Session.{Session}
@@ -19,11 +19,12 @@ use Rattle.fs_model.specs.Children.{child_at}
 use Rattle.fs_model.specs.Handles.{handle_at, any_conflicts}
 use Rattle.fs_model.specs.Namespace.{NodeMap, with_change, with_change_at, fresh_node}
 use Rattle.fs_model.specs.Step.{Stepped, step, with_link, with_info, with_open, without_open, create, create_in, with_new_node, is_child, open_file, close, set, set_by}
-use Rattle.fs_record.specs.Applied.{nodes_after, nodes_after_all, with_at, linked, reopened}
-use Rattle.fs_record.specs.Effects.{effects_of, is_plain}
-use Rattle.fs_record.proofs.Seen.{anti}
-use Rattle.fs_record.proofs.HandleSteps.{without_absent}
-use Rattle.fs_record.proofs.NodeValues.{tied}
+use Rattle.fs_record.specs.Applied.{nodes_after, nodes_after_all, with_at, with_link_to, with_only_open}
+use Rattle.fs_record.specs.Effects.{effects_of, tells_its_effects}
+use Rattle.fs_ident.proofs.Booleans.{first}
+use Rattle.fs_ident.proofs.MapsOf.{anti}
+use Rattle.fs_model.proofs.HandleOrder.{without_absent}
+use Rattle.fs_record.proofs.NodeValues.{key_is}
 
 -- the effects of the operation, with the reply of the outcome, lead to the outcome
 abbrev Leads : NodeMap → Session → Op → Stepped → Type 0
@@ -33,19 +34,12 @@ led_if : (m : NodeMap) (by : Session) (o : Op) (b : Bool) (s t : Stepped) → (b
 led_if m by o true s t p q = p refl
 led_if m by o false s t p q = q refl
 
-first : (a b : Bool) → (a && b) ≡ true → a ≡ true
-first true b p = refl
-first false b p = p
-
 -- ## Two nodes
 
 swapped : {X : Type 0} (a b : Bool) (x y g : Option X) → (a ≡ true → b ≡ true → ⊥) → cond a x (cond b y g) ≡ cond b y (cond a x g)
 swapped true true x y g apart = absurd (apart refl refl)
 swapped true false x y g apart = refl
 swapped false b x y g apart = refl
-
-key_is : (a b : List ℕ) → eq_by_cmp (slice_cmp nat_cmp) a b ≡ true → a ≡ b
-key_is a b e = same_text a b (sym e ∙ tied a b)
 
 insert_swap : {X : Type 0} (m : FinMap (slice_cmp nat_cmp) X) (a b : List ℕ) (x y : X) → (a ≡ b → ⊥) → insert (insert m a x) b y ≡ insert (insert m b y) a x
 insert_swap m a b x y apart = same_map nat_list_cmp_total anti _ _ (λ q.
@@ -67,7 +61,7 @@ made_alike : (m : NodeMap) (dir name : List ℕ) (kind : Kind) (id : List ℕ) (
 made_alike m dir name kind id d e apart =
     let fresh : Node = fresh_node kind (Some (dir, name)) in
     let there : get (insert m id fresh) dir ≡ Some d = get-insert nat_list_cmp_total m id fresh dir ∙ ap (λ b. cond b (Some fresh) (get m dir)) (other_key dir id apart) ∙ e in
-    ap (λ (o : Option Node). insert (with_at m dir (option_map (linked name (Some id)) o)) id fresh) e
+    ap (λ (o : Option Node). insert (with_at m dir (option_map (with_link_to name (Some id)) o)) id fresh) e
     ∙ insert_swap m dir id (with_link name id d) fresh apart
     ∙ sym (ap (λ o. with_change_at (with_link name id) (insert m id fresh) dir o) there)
 
@@ -97,7 +91,7 @@ open_leads m by file h modes None e = refl
 open_leads m by file h modes (Some n) e =
     led_if m by (op.OpenFile file h modes) (is_some (handle_at n.handles by h)) _ _ (λ _. refl) (λ free.
     led_if m by (op.OpenFile file h modes) (any_conflicts n.handles modes) _ _ (λ _. refl) (λ _.
-    ap (λ (o : Option Node). with_at m file (option_map (reopened by h modes) o)) e
+    ap (λ (o : Option Node). with_at m file (option_map (with_only_open by h modes) o)) e
     ∙ ap (λ (xs : List Handle). insert m file (with_open by h modes (record { kind = n.kind; parent = n.parent; children = n.children; size = n.size; stamp = n.stamp; handles = xs }))) (without_absent n.handles by h (none_from _ free))
     ∙ sym (ap (λ o. with_change_at (with_open by h modes) m file o) e)))
 
@@ -117,7 +111,7 @@ set_leads m by file h size stamp (Some n) e = with_modes (handle_at n.handles by
     with_modes None = refl
     with_modes (Some modes) = led_if m by (op.Set file h size stamp) modes.acc_w _ _ (λ _. alike (with_info size stamp) m file n e) (λ _. refl)
 
-leads : (m : NodeMap) (by : Session) (o : Op) → is_plain o ≡ true → Leads m by o (step m by o)
+leads : (m : NodeMap) (by : Session) (o : Op) → tells_its_effects o ≡ true → Leads m by o (step m by o)
 leads m by (op.Lookup dir name) p = refl
 leads m by (op.List dir) p = refl
 leads m by (op.Kind file) p = refl
@@ -130,5 +124,5 @@ leads m by (op.Delete dir name) p = absurd (cc p)
 leads m by (op.Rename sdir sname ddir dname) p = absurd (cc p)
 leads m by (op.Reap file session) p = absurd (cc p)
 
-pub effects_lead : (m : NodeMap) (by : Session) (o : Op) (r : Reply) → is_plain o ≡ true → (step m by o).reply ≡ r → nodes_after_all m (effects_of by o r) ≡ (step m by o).nodes
+pub effects_lead : (m : NodeMap) (by : Session) (o : Op) (r : Reply) → tells_its_effects o ≡ true → (step m by o).reply ≡ r → nodes_after_all m (effects_of by o r) ≡ (step m by o).nodes
 effects_lead m by o r p e = ap (λ r. nodes_after_all m (effects_of by o r)) (sym e) ∙ leads m by o p

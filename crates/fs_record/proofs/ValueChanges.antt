@@ -29,9 +29,9 @@ use Rattle.fs_model.specs.Handles.{handles_are_in_order, is_at, with_handle, wit
 use Rattle.fs_model.proofs.HandleOrder.{filter_in_order}
 use Rattle.fs_record.specs.declared.record.Record.{Record}
 use Rattle.fs_record.specs.Records.{RecordMap, AreRecords, IsRecord, node_of, next_of}
-use Rattle.fs_record.specs.Applied.{node_change, record_change, records_after, with_at, changed_file, is_birth, is_met}
+use Rattle.fs_record.specs.Applied.{node_change, record_change, records_after, with_at, changed_file, is_birth, has_target}
 use Rattle.fs_record.specs.ValueOf.{value_at, value_of, own_of, handles_of, info_of, is_other}
-use Rattle.fs_record.proofs.Seen.{remove_absent}
+use Rattle.fs_ident.proofs.MapsOf.{remove_absent}
 use Rattle.fs_record.proofs.Kept.{get_with_at}
 use Rattle.fs_record.proofs.NodeValues.{tied, names_put, names_less, child_put, child_less, own_less, own_kept, own_more, own_same}
 
@@ -198,7 +198,7 @@ here s field (AddHandle file session k modes) None own other m h = absurd (cc m)
 here s field (RemoveHandle file session k) None own other m h = absurd (cc m)
 here s field (SetInfo file size stamp) None own other m h = absurd (cc m)
 
-pub value_follows : (m : RecordMap) (s : Session) (field : Field) (e : Effect) → AreRecords m → is_other field ≡ false → is_met m e ≡ true
+pub value_follows : (m : RecordMap) (s : Session) (field : Field) (e : Effect) → AreRecords m → is_other field ≡ false → has_target m e ≡ true
     → value_of (records_after m e) s field ≡ value_after s field (value_of m s field) e
 value_follows m s field e own other met =
     ap (λ o. value_at s field (node_of o)) (get_with_at m f (record_change e (get m f)) q) ∙ go (eq_by_cmp (slice_cmp nat_cmp) q f) refl
@@ -217,30 +217,30 @@ value_follows m s field e own other met =
         ∙ ap (λ x. value_after s field (value_at s field (node_of (get m x))) e) (sym at)
     go false t = sym (value_stays s field (value_at s field (node_of (get m q))) e (elsewhere e field (sym (tied q f) ∙ t)))
 
-unmet_none : (o : Option Record) (e : Effect) → (is_birth e || is_some o) ≡ false → (o ≡ None) × (record_change e None ≡ None)
-unmet_none None (SetChild dir name to) h = (refl, refl)
-unmet_none None (SetParent file dir name) h = (refl, refl)
-unmet_none None (NewNode file kind dir name) h = absurd (cc h)
-unmet_none None (RemoveNode file) h = (refl, refl)
-unmet_none None (AddHandle file session k modes) h = (refl, refl)
-unmet_none None (RemoveHandle file session k) h = (refl, refl)
-unmet_none None (SetInfo file size stamp) h = (refl, refl)
-unmet_none (Some r) (SetChild dir name to) h = absurd (cc h)
-unmet_none (Some r) (SetParent file dir name) h = absurd (cc h)
-unmet_none (Some r) (NewNode file kind dir name) h = absurd (cc h)
-unmet_none (Some r) (RemoveNode file) h = absurd (cc h)
-unmet_none (Some r) (AddHandle file session k modes) h = absurd (cc h)
-unmet_none (Some r) (RemoveHandle file session k) h = absurd (cc h)
-unmet_none (Some r) (SetInfo file size stamp) h = absurd (cc h)
+none_without_target : (o : Option Record) (e : Effect) → (is_birth e || is_some o) ≡ false → (o ≡ None) × (record_change e None ≡ None)
+none_without_target None (SetChild dir name to) h = (refl, refl)
+none_without_target None (SetParent file dir name) h = (refl, refl)
+none_without_target None (NewNode file kind dir name) h = absurd (cc h)
+none_without_target None (RemoveNode file) h = (refl, refl)
+none_without_target None (AddHandle file session k modes) h = (refl, refl)
+none_without_target None (RemoveHandle file session k) h = (refl, refl)
+none_without_target None (SetInfo file size stamp) h = (refl, refl)
+none_without_target (Some r) (SetChild dir name to) h = absurd (cc h)
+none_without_target (Some r) (SetParent file dir name) h = absurd (cc h)
+none_without_target (Some r) (NewNode file kind dir name) h = absurd (cc h)
+none_without_target (Some r) (RemoveNode file) h = absurd (cc h)
+none_without_target (Some r) (AddHandle file session k modes) h = absurd (cc h)
+none_without_target (Some r) (RemoveHandle file session k) h = absurd (cc h)
+none_without_target (Some r) (SetInfo file size stamp) h = absurd (cc h)
 
-pub unmet_stays : (m : RecordMap) (e : Effect) → is_met m e ≡ false → records_after m e ≡ m
-unmet_stays m e h =
-    let none = unmet_none (get m (changed_file e)) e h in
+pub stays_without_target : (m : RecordMap) (e : Effect) → has_target m e ≡ false → records_after m e ≡ m
+stays_without_target m e h =
+    let none = none_without_target (get m (changed_file e)) e h in
     ap (λ o. with_at m (changed_file e) (record_change e o)) none.0 ∙ ap (with_at m (changed_file e)) none.1 ∙ remove_absent m (changed_file e) none.0
 
 -- the same of records after a call that does the effect or nothing
 pub values_follow : {X E : Type 0} (r : Result X E) (was old new : RecordMap) (e : Effect) → was ≡ old → AreRecords old → OnOk r (new ≡ records_after old e)
-    → OnOk r ((s : Session) (field : Field) → is_other field ≡ false → is_met was e ≡ true → value_of new s field ≡ value_after s field (value_of was s field) e)
+    → OnOk r ((s : Session) (field : Field) → is_other field ≡ false → has_target was e ≡ true → value_of new s field ≡ value_after s field (value_of was s field) e)
 values_follow (Ok x) was old new e same own is = λ s field other met.
-    ap (λ m. value_of m s field) is ∙ value_follows old s field e own other (ap (λ m. is_met m e) (sym same) ∙ met) ∙ ap (λ m. value_after s field (value_of m s field) e) (sym same)
+    ap (λ m. value_of m s field) is ∙ value_follows old s field e own other (ap (λ m. has_target m e) (sym same) ∙ met) ∙ ap (λ m. value_after s field (value_of m s field) e) (sym same)
 values_follow (Err x) was old new e same own is = tt

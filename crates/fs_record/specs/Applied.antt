@@ -24,21 +24,21 @@ changed_file (RemoveHandle file session h) = file
 changed_file (SetInfo file size stamp) = file
 
 -- the name stands for the file, or for none
-abbrev pub linked : List ℕ → Option (List ℕ) → Node → Node
-linked name None = without_link name
-linked name (Some file) = with_link name file
+abbrev pub with_link_to : List ℕ → Option (List ℕ) → Node → Node
+with_link_to name None = without_link name
+with_link_to name (Some file) = with_link name file
 
 -- the session has the file open under the handle, and has nothing else under it
-abbrev pub reopened : Session → ℕ → Modes → Node → Node
-reopened session h modes n = with_open session h modes (without_open session h n)
+abbrev pub with_only_open : Session → ℕ → Modes → Node → Node
+with_only_open session h modes n = with_open session h modes (without_open session h n)
 
 -- what the effect makes of the node of its file, or of its absence
 abbrev pub node_change : Effect → Option Node → Option Node
-node_change (SetChild dir name to) o = option_map (linked name to) o
+node_change (SetChild dir name to) o = option_map (with_link_to name to) o
 node_change (SetParent file dir name) o = option_map (at_place dir name) o
 node_change (NewNode file kind dir name) o = Some (fresh_node kind (Some (dir, name)))
 node_change (RemoveNode file) o = None
-node_change (AddHandle file session h modes) o = option_map (reopened session h modes) o
+node_change (AddHandle file session h modes) o = option_map (with_only_open session h modes) o
 node_change (RemoveHandle file session h) o = option_map (without_open session h) o
 node_change (SetInfo file size stamp) o = option_map (with_info size stamp) o
 
@@ -69,6 +69,6 @@ abbrev pub is_birth : Effect → Bool
 is_birth (NewNode file kind dir name) = true
 is_birth e = false
 
--- the effect meets its file here: it has a record, or begins to live
-abbrev pub is_met : RecordMap → Effect → Bool
-is_met m e = is_birth e || is_some (get m (changed_file e))
+-- the effect has its file here: the file has a record, or begins to live
+abbrev pub has_target : RecordMap → Effect → Bool
+has_target m e = is_birth e || is_some (get m (changed_file e))

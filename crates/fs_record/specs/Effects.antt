@@ -8,14 +8,14 @@ use Rattle.fs_model.specs.declared.op.Op.TheVariants as op
 use Rattle.fs_model.specs.declared.reply.Reply.{Reply}
 use Rattle.fs_model.specs.declared.reply.Reply.TheVariants as reply
 
--- neither a rename, nor a delete, nor a reap
-abbrev pub is_plain : Op → Bool
-is_plain (op.Rename sdir sname ddir dname) = false
-is_plain (op.Delete dir name) = false
-is_plain (op.Reap file session) = false
-is_plain o = true
+-- it and its reply tell its effects: it is neither a rename, nor a delete, nor a reap
+abbrev pub tells_its_effects : Op → Bool
+tells_its_effects (op.Rename sdir sname ddir dname) = false
+tells_its_effects (op.Delete dir name) = false
+tells_its_effects (op.Reap file session) = false
+tells_its_effects o = true
 
--- the effects of a plain operation
+-- the effects of the session's operation that got the reply, where they tell them
 abbrev pub effects_of : Session → Op → Reply → List Effect
 effects_of by (op.Create dir name kind (Some id)) reply.Made = SetChild dir name (Some id) ∷ NewNode id kind dir name ∷ []
 effects_of by (op.OpenFile file h modes) reply.Opened = AddHandle file by h modes ∷ []

@@ -43,9 +43,9 @@ is_directory m dir = is_dir (kind_of (node_of (get m dir)))
 -- the records where the file's next number is this
 abbrev pub with_next : RecordMap → List ℕ → ℕ → Option Record → RecordMap
 with_next m dir next None = m
-with_next m dir next (Some r) = insert m dir (record { node = r.node; next = next })
+with_next m dir next (Some r) = insert m dir (record r { next = next })
 
 -- the records after the directory gave the number
-abbrev pub records_given : RecordMap → List ℕ → Option ℕ → RecordMap
-records_given m dir None = m
-records_given m dir (Some k) = with_next m dir (k + 1) (get m dir)
+abbrev pub records_after_gift : RecordMap → List ℕ → Option ℕ → RecordMap
+records_after_gift m dir None = m
+records_after_gift m dir (Some k) = with_next m dir (k + 1) (get m dir)

@@ -3,6 +3,4 @@ pub mod ValueOf
 pub mod Applied
 pub mod Effects
 pub mod Fresh
-pub mod Seen
-pub mod Places
 pub mod Changes

@@ -79,9 +79,9 @@ modes_of s [] = none
 modes_of s (x ∷ xs) = if x.session.0 == s.0 then or x.modes (modes_of s xs) else modes_of s xs
 
 -- what the list tells of the session
-abbrev pub told_of : Session → List (Session × Modes) → Option Modes
-told_of s [] = None
-told_of s (e ∷ es) = if e.0.0 == s.0 then Some e.1 else told_of s es
+abbrev pub modes_told_of : Session → List (Session × Modes) → Option Modes
+modes_told_of s [] = None
+modes_told_of s (e ∷ es) = if e.0.0 == s.0 then Some e.1 else modes_told_of s es
 
 -- the sessions rise
 abbrev pub is_by_session : List (Session × Modes) → Bool

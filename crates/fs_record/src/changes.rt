@@ -5,16 +5,13 @@ ghost use Rattle.fs_field.specs.declared.effect.Effect.TheVariants.{SetChild, Se
 ghost use Rattle.fs_record.specs.Applied.{records_after};
 ghost use Rattle.fs_record.specs.Fresh.{with_next};
 ghost use Rattle.fs_record.specs.Records.{AreRecords};
-ghost use Rattle.fs_record.specs.Seen.{seen};
+ghost use Rattle.fs_ident.specs.Maps.{map_of};
 
-use crate::children;
-use crate::handles::reopen;
 use crate::lookups::next;
 use crate::record::Record;
 use fs_field::Effect;
-use fs_ident::{FileId, Kind, List, Memory, Name, Session, Twin};
-use fs_model::children::take;
-use fs_model::{Handle, Node, handles};
+use fs_ident::{FileId, Kind, Memory, Name, Session, Twin};
+use fs_model::{Handle, Node, children, handles};
 use std::alloc::Global;
 use std::collections::BTreeMap;
 
@@ -24,9 +21,9 @@ pub fn apply(
     records: &mut BTreeMap<FileId, Record>,
     e: &Effect,
 ) -> Result<(), Memory>
-    requires { AreRecords (seen records.old) }
-    ensures ok { OnOk result (seen records.new ≡ records_after (seen records.old) e.now) }
-    ensures err { OnErr result (seen records.new ≡ seen records.old) }
+    requires { AreRecords (map_of records.old) }
+    ensures ok { OnOk result (map_of records.new ≡ records_after (map_of records.old) e.now) }
+    ensures err { OnErr result (map_of records.new ≡ map_of records.old) }
 {
     match e {
         Effect::SetChild {
@@ -63,7 +60,7 @@ pub fn apply(
                 h: *h,
                 modes: *modes,
             };
-            return open(alloc, records, file, handle);
+            return open(records, file, handle);
         }
         Effect::RemoveHandle { file, session, h } => close(alloc, records, file, *session, *h),
         Effect::SetInfo { file, size, stamp } => set(records, file, *size, *stamp),
@@ -72,27 +69,27 @@ pub fn apply(
 }
 
 /// Gives the file this record, whatever it had.
-#[tactic(auto, using(crate::proofs::Seen::seens))]
+#[tactic(auto, using(fs_ident::proofs::MapsOf::maps))]
 pub fn add(records: &mut BTreeMap<FileId, Record>, file: FileId, kept: Record) -> Result<(), Memory>
-    ensures ok { OnOk result (seen records.new ≡ map.insert (seen records.old) file kept) }
-    ensures err { OnErr result (seen records.new ≡ seen records.old) }
+    ensures ok { OnOk result (map_of records.new ≡ map.insert (map_of records.old) file kept) }
+    ensures err { OnErr result (map_of records.new ≡ map_of records.old) }
 {
     records.insert(file, kept)?;
     Ok(())
 }
 
 /// Lets the name stand for the file.
-#[tactic(auto, using(crate::proofs::Seen::seens, crate::proofs::Seen::seen_absent))]
+#[tactic(auto, using(fs_ident::proofs::MapsOf::maps, fs_ident::proofs::MapsOf::map_of_absent))]
 fn link(
     records: &mut BTreeMap<FileId, Record>,
     dir: &FileId,
     name: Name,
     file: FileId,
 ) -> Result<(), Memory>
-    requires { AreRecords (seen records.old) }
-    ensures ok { OnOk result (seen records.new ≡
-        records_after (seen records.old) (SetChild dir.now name (Some file))) }
-    ensures err { OnErr result (seen records.new ≡ seen records.old) }
+    requires { AreRecords (map_of records.old) }
+    ensures ok { OnOk result (map_of records.new ≡
+        records_after (map_of records.old) (SetChild dir.now name (Some file))) }
+    ensures err { OnErr result (map_of records.new ≡ map_of records.old) }
 {
     match records.get_mut(dir) {
         Some(record) => children::link(&mut record.node.children, name, file),
@@ -101,23 +98,23 @@ fn link(
 }
 
 /// Lets the name stand for no file.
-#[tactic(auto, using(crate::proofs::Seen::seens, crate::proofs::Seen::seen_absent))]
+#[tactic(auto, using(fs_ident::proofs::MapsOf::maps, fs_ident::proofs::MapsOf::map_of_absent))]
 fn unlink(records: &mut BTreeMap<FileId, Record>, dir: &FileId, name: &Name)
-    requires { AreRecords (seen records.old) }
-    ensures { seen records.new ≡ records_after (seen records.old) (SetChild dir.now name.now None) }
+    requires { AreRecords (map_of records.old) }
+    ensures { map_of records.new ≡ records_after (map_of records.old) (SetChild dir.now name.now None) }
 {
     match records.get_mut(dir) {
         Some(record) => {
-            take(&mut record.node.children, name);
+            children::take(&mut record.node.children, name);
         }
         None => {}
     }
 }
 
 /// Puts the file into another place.
-#[tactic(auto, using(crate::proofs::Seen::seens, crate::proofs::Seen::seen_absent))]
+#[tactic(auto, using(fs_ident::proofs::MapsOf::maps, fs_ident::proofs::MapsOf::map_of_absent))]
 fn place(records: &mut BTreeMap<FileId, Record>, file: &FileId, dir: FileId, name: Name)
-    ensures { seen records.new ≡ records_after (seen records.old) (SetParent file.now dir name) }
+    ensures { map_of records.new ≡ records_after (map_of records.old) (SetParent file.now dir name) }
 {
     match records.get_mut(file) {
         Some(record) => record.node.parent = Some((dir, name)),
@@ -126,7 +123,7 @@ fn place(records: &mut BTreeMap<FileId, Record>, file: &FileId, dir: FileId, nam
 }
 
 /// Makes the file anew. A record that it has keeps its next number, and else the first is 1.
-#[tactic(auto, using(crate::proofs::Seen::seens))]
+#[tactic(auto, using(fs_ident::proofs::MapsOf::maps))]
 fn make(
     alloc: Global,
     records: &mut BTreeMap<FileId, Record>,
@@ -135,19 +132,12 @@ fn make(
     dir: &FileId,
     name: &Name,
 ) -> Result<(), Memory>
-    requires { AreRecords (seen records.old) }
-    ensures ok { OnOk result (seen records.new ≡
-        records_after (seen records.old) (NewNode file.now kind dir.now name.now)) }
-    ensures err { OnErr result (seen records.new ≡ seen records.old) }
+    requires { AreRecords (map_of records.old) }
+    ensures ok { OnOk result (map_of records.new ≡
+        records_after (map_of records.old) (NewNode file.now kind dir.now name.now)) }
+    ensures err { OnErr result (map_of records.new ≡ map_of records.old) }
 {
-    let node = Node {
-        kind,
-        parent: Some((dir.copy(alloc)?, name.copy(alloc)?)),
-        children: List::new(alloc),
-        size: 0,
-        stamp: 0,
-        handles: List::new(alloc),
-    };
+    let node = Node::new(alloc, kind, Some((dir.copy(alloc)?, name.copy(alloc)?)));
     let record = Record {
         node,
         next: next(records, file),
@@ -157,32 +147,28 @@ fn make(
 
 /// Takes the record away.
 fn remove(records: &mut BTreeMap<FileId, Record>, file: &FileId)
-    ensures { seen records.new ≡ records_after (seen records.old) (RemoveNode file.now) }
+    ensures { map_of records.new ≡ records_after (map_of records.old) (RemoveNode file.now) }
 {
     records.remove(file);
 }
 
 /// Lets the session have the file open.
-#[tactic(auto, using(crate::proofs::Seen::seens, crate::proofs::Seen::seen_absent))]
-fn open(
-    alloc: Global,
-    records: &mut BTreeMap<FileId, Record>,
-    file: &FileId,
-    handle: Handle,
-) -> Result<(), Memory>
-    ensures ok { OnOk result (seen records.new ≡
-        records_after (seen records.old)
+#[tactic(auto, using(fs_ident::proofs::MapsOf::maps, fs_ident::proofs::MapsOf::map_of_absent))]
+fn open(records: &mut BTreeMap<FileId, Record>, file: &FileId, handle: Handle) -> Result<(), Memory>
+    requires { AreRecords (map_of records.old) }
+    ensures ok { OnOk result (map_of records.new ≡
+        records_after (map_of records.old)
         (AddHandle file.now handle.session handle.h handle.modes)) }
-    ensures err { OnErr result (seen records.new ≡ seen records.old) }
+    ensures err { OnErr result (map_of records.new ≡ map_of records.old) }
 {
     match records.get_mut(file) {
-        Some(record) => reopen(&mut record.node.handles, alloc, handle),
+        Some(record) => handles::reopen(&mut record.node.handles, handle),
         None => Ok(()),
     }
 }
 
 /// Takes away what the session has under the handle.
-#[tactic(auto, using(crate::proofs::Seen::seens, crate::proofs::Seen::seen_absent))]
+#[tactic(auto, using(fs_ident::proofs::MapsOf::maps, fs_ident::proofs::MapsOf::map_of_absent))]
 fn close(
     alloc: Global,
     records: &mut BTreeMap<FileId, Record>,
@@ -190,8 +176,8 @@ fn close(
     session: Session,
     h: u32,
 )
-    ensures { seen records.new ≡
-        records_after (seen records.old) (RemoveHandle file.now session h) }
+    ensures { map_of records.new ≡
+        records_after (map_of records.old) (RemoveHandle file.now session h) }
 {
     match records.get_mut(file) {
         Some(record) => handles::close(&mut record.node.handles, session, h),
@@ -200,9 +186,9 @@ fn close(
 }
 
 /// Sets size and stamp.
-#[tactic(auto, using(crate::proofs::Seen::seens, crate::proofs::Seen::seen_absent))]
+#[tactic(auto, using(fs_ident::proofs::MapsOf::maps, fs_ident::proofs::MapsOf::map_of_absent))]
 fn set(records: &mut BTreeMap<FileId, Record>, file: &FileId, size: u64, stamp: u64)
-    ensures { seen records.new ≡ records_after (seen records.old) (SetInfo file.now size stamp) }
+    ensures { map_of records.new ≡ records_after (map_of records.old) (SetInfo file.now size stamp) }
 {
     match records.get_mut(file) {
         Some(record) => {
@@ -214,10 +200,10 @@ fn set(records: &mut BTreeMap<FileId, Record>, file: &FileId, size: u64, stamp: 
 }
 
 /// Sets the next number of the file, if it has a record.
-#[tactic(auto, using(crate::proofs::Seen::seens))]
+#[tactic(auto, using(fs_ident::proofs::MapsOf::maps))]
 pub fn set_next(records: &mut BTreeMap<FileId, Record>, file: &FileId, next: u64)
-    ensures { seen records.new ≡
-        with_next (seen records.old) file.now next (map.get (seen records.old) file.now) }
+    ensures { map_of records.new ≡
+        with_next (map_of records.old) file.now next (map.get (map_of records.old) file.now) }
 {
     match records.get_mut(file) {
         Some(record) => record.next = next,

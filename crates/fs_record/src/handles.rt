@@ -1,30 +1,11 @@
 //! The handles of a file, in order of session and number.
-ghost use Rattle.std.specs.Prelude.{◌≡◌, IfOk, OnOk, OnErr};
-ghost use Rattle.fs_model.specs.Handles.{with_handle, without_handle};
+ghost use Rattle.std.specs.Prelude.{◌≡◌, IfOk};
 ghost use Rattle.fs_record.specs.ValueOf.{own_of, others_have, selves_from, selves_of};
 
-use fs_ident::{List, Memory, Session, Twin};
+use fs_ident::{List, Memory, Session};
 use fs_model::Handle;
-use fs_model::handles::{add, close, find};
 use fs_modes::{Mode, Modes};
 use std::alloc::Global;
-
-/// Lets the session have this open under its number, in place of what it had under it.
-#[tactic(auto, using(crate::proofs::HandleSteps::without_absent))]
-pub fn reopen(handles: &mut List<Handle>, alloc: Global, new: Handle) -> Result<(), Memory>
-    ensures ok { OnOk result (handles.new ≡
-        with_handle (without_handle handles.old new.session new.h) new) }
-    ensures err { OnErr result (handles.new ≡ handles.old) }
-{
-    if find(handles.as_slice(), new.session, new.h).is_none() {
-        return add(handles, new);
-    }
-    let mut more = handles.copy(alloc)?;
-    close(&mut more, new.session, new.h);
-    add(&mut more, new)?;
-    *handles = more;
-    Ok(())
-}
 
 /// The session's handles and the modes of each.
 #[tactic(auto, using(crate::proofs::HandleSteps::own_step))]

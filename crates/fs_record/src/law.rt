@@ -10,29 +10,29 @@ ghost use Rattle.fs_model.specs.Namespace.{NodeMap};
 ghost use Rattle.fs_model.specs.Step.{step};
 ghost use Rattle.fs_model.specs.declared.op.Op.{Op};
 ghost use Rattle.fs_model.specs.declared.reply.Reply.{Reply};
-ghost use Rattle.fs_record.specs.Applied.{records_after, nodes_after, nodes_after_all, is_met};
-ghost use Rattle.fs_record.specs.Effects.{effects_of, is_plain};
-ghost use Rattle.fs_record.specs.Fresh.{IsLeastFree, is_borne, fresh_number, records_given};
+ghost use Rattle.fs_record.specs.Applied.{records_after, nodes_after, nodes_after_all, has_target};
+ghost use Rattle.fs_record.specs.Effects.{effects_of, tells_its_effects};
+ghost use Rattle.fs_record.specs.Fresh.{IsLeastFree, is_borne, fresh_number, records_after_gift};
 ghost use Rattle.fs_record.specs.Records.{RecordMap, AreRecords, nodes_of, node_of, next_of};
-ghost use Rattle.fs_record.specs.Changes.{Change, after_changes, stands};
-ghost use Rattle.fs_record.specs.ValueOf.{value_of, is_other, selves_of, has_handle, modes_of, told_of, is_by_session};
+ghost use Rattle.fs_record.specs.Changes.{Change, after_changes, has_record_throughout};
+ghost use Rattle.fs_record.specs.ValueOf.{value_of, is_other, selves_of, has_handle, modes_of, modes_told_of, is_by_session};
 ghost use Rattle.fs_model.specs.Handles.{handles_are_in_order};
 ghost use Rattle.fs_model.specs.declared.node.Handle.{Handle};
 ghost use Rattle.fs_record.specs.declared.record.Record.{Record};
 
-/// An effect that meets its file changes what a session sees of every field, but for what other sessions have, just
-/// as it changes the values that the session keeps. Every other effect changes nothing.
+/// An effect that has its file here changes what a session sees of every field, but for what other sessions have,
+/// just as it changes the values that the session keeps. Every other effect changes nothing.
 pub fn values_follow_effects()
-    ensures met { (m : RecordMap) (s : Session) (field : Field) (e : Effect) → AreRecords m →
-        is_other field ≡ false → is_met m e ≡ true →
+    ensures follows { (m : RecordMap) (s : Session) (field : Field) (e : Effect) → AreRecords m →
+        is_other field ≡ false → has_target m e ≡ true →
         value_of (records_after m e) s field ≡ value_after s field (value_of m s field) e }
-    ensures unmet { (m : RecordMap) (e : Effect) → is_met m e ≡ false → records_after m e ≡ m }
+    ensures stays { (m : RecordMap) (e : Effect) → has_target m e ≡ false → records_after m e ≡ m }
 {}
 
-/// The effects of a plain operation, one after the other, lead to the space that the operation leads to, by the
-/// reply that it gets there.
+/// The effects of an operation that it and its reply tell, one after the other, lead to the space that the operation
+/// leads to, by the reply that it gets there.
 pub fn effects_are_the_step()
-    ensures { (m : NodeMap) (by : Session) (op : Op) (reply : Reply) → is_plain op ≡ true →
+    ensures { (m : NodeMap) (by : Session) (op : Op) (reply : Reply) → tells_its_effects op ≡ true →
         (step m by op).reply ≡ reply →
         nodes_after_all m (effects_of by op reply) ≡ (step m by op).nodes }
 {}
@@ -50,18 +50,19 @@ pub fn gifts_are_least()
     ensures some { (m : RecordMap) (dir borne : List ℕ) (k : ℕ) →
         fresh_number m dir borne ≡ Some k → IsLeastFree (next_of (get m dir)) borne k }
     ensures none { (m : RecordMap) (dir borne : List ℕ) → fresh_number m dir borne ≡ None →
-        (length dir ≡ 32) ⊎ ((k : ℕ) → next_of (get m dir) ≤ k → k < 2 ^ 32 → is_borne borne k ≡ true) }
+        (length dir ≡ 32) ⊎
+        ((k : ℕ) → next_of (get m dir) ≤ k → k < 2 ^ 32 → is_borne borne k ≡ true) }
     ensures here { (m : RecordMap) (dir : List ℕ) (k : ℕ) (r : Record) → get m dir ≡ Some r →
-        get (records_given m dir (Some k)) dir ≡ Some (record { node = r.node; next = k + 1 }) }
+        get (records_after_gift m dir (Some k)) dir ≡ Some (record r { next = k + 1 }) }
     ensures elsewhere { (m : RecordMap) (dir id : List ℕ) (k : Option ℕ) → same id dir ≡ false →
-        get (records_given m dir k) id ≡ get m id }
+        get (records_after_gift m dir k) id ≡ get m id }
 {}
 
 /// An effect keeps the next number of every record that stands after it, and a record that was not there begins
 /// with 1.
 pub fn effects_keep_next_numbers()
-    ensures { (m : RecordMap) (e : Effect) (id : List ℕ) → is_some (get (records_after m e) id) ≡
-        true →
+    ensures { (m : RecordMap) (e : Effect) (id : List ℕ) →
+        is_some (get (records_after m e) id) ≡ true →
         next_of (get (records_after m e) id) ≡ next_of (get m id) }
 {}
 
@@ -69,13 +70,17 @@ pub fn effects_keep_next_numbers()
 pub fn no_number_is_given_twice()
     ensures { (m : RecordMap) (dir borne later : List ℕ) (k j : ℕ) (changes : List Change) →
         fresh_number m dir borne ≡ Some k →
-        stands dir (records_given m dir (Some k)) changes ≡ true → fresh_number (after_changes (records_given m dir (Some k)) changes) dir later ≡ Some j → k < j }
+        has_record_throughout dir (records_after_gift m dir (Some k)) changes ≡ true →
+        fresh_number (after_changes (records_after_gift m dir (Some k)) changes) dir later ≡
+        Some j →
+        k < j }
 {}
 
 /// The sessions with handles on a file are told by number, each once, with what its handles have together.
 pub fn selves_are_by_session()
     ensures told { (s : Session) (handles : List Handle) → handles_are_in_order handles ≡ true →
-        told_of s (selves_of handles) ≡ (if has_handle s handles then Some (modes_of s handles) else None) }
+        modes_told_of s (selves_of handles) ≡
+        (if has_handle s handles then Some (modes_of s handles) else None) }
     ensures rising { (handles : List Handle) → handles_are_in_order handles ≡ true →
         is_by_session (selves_of handles) ≡ true }
 {}

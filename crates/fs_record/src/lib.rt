@@ -2,7 +2,6 @@
 #![tactic(auto)]
 
 mod changes;
-mod children;
 mod error;
 mod handles;
 mod law;
@@ -20,6 +19,6 @@ pub use law::{
     effects_are_the_step, effects_keep_next_numbers, gifts_are_least, no_number_is_given_twice,
     nodes_change_alike, selves_are_by_session, values_follow_effects,
 };
-pub use op_effects::effects;
+pub use op_effects::{effects, tells_its_effects};
 pub use record::Record;
 pub use records::Records;

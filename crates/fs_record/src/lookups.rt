@@ -4,7 +4,7 @@ ghost use Rattle.std.specs.FinMap as map;
 ghost use Rattle.std.specs.Option.{option_copied};
 ghost use Rattle.fs_model.specs.Namespace.{IsInOrder};
 ghost use Rattle.fs_record.specs.Records.{AreRecords, node_of, next_of};
-ghost use Rattle.fs_record.specs.Seen.{seen};
+ghost use Rattle.fs_ident.specs.Maps.{map_of};
 
 use crate::record::Record;
 use fs_ident::{FileId, List, Memory, Twin};
@@ -13,18 +13,18 @@ use std::alloc::Global;
 use std::collections::BTreeMap;
 
 /// The record of the file.
-#[tactic(auto, using(crate::proofs::Seen::seens))]
+#[tactic(auto, using(fs_ident::proofs::MapsOf::maps))]
 pub fn record<'a>(records: &'a BTreeMap<FileId, Record>, id: &FileId) -> Option<&'a Record>
-    ensures { option_copied result ≡ map.get (seen records.now) id.now }
+    ensures { option_copied result ≡ map.get (map_of records.now) id.now }
 {
     records.get(id)
 }
 
 /// The node of the file.
-#[tactic(auto, using(crate::proofs::Seen::seens))]
+#[tactic(auto, using(fs_ident::proofs::MapsOf::maps))]
 pub fn node<'a>(records: &'a BTreeMap<FileId, Record>, id: &FileId) -> Option<&'a Node>
-    requires { AreRecords (seen records.now) }
-    ensures same { option_copied result ≡ node_of (map.get (seen records.now) id.now) }
+    requires { AreRecords (map_of records.now) }
+    ensures same { option_copied result ≡ node_of (map.get (map_of records.now) id.now) }
     ensures in_order { IfSome result (λ n. IsInOrder n.now) }
 {
     match records.get(id) {
@@ -34,10 +34,10 @@ pub fn node<'a>(records: &'a BTreeMap<FileId, Record>, id: &FileId) -> Option<&'
 }
 
 /// The next number of the file, which is 1 where it has no record.
-#[tactic(auto, using(crate::proofs::Seen::seens))]
+#[tactic(auto, using(fs_ident::proofs::MapsOf::maps))]
 pub fn next(records: &BTreeMap<FileId, Record>, id: &FileId) -> u64
-    requires { AreRecords (seen records.now) }
-    ensures same { result ≡ next_of (map.get (seen records.now) id.now) }
+    requires { AreRecords (map_of records.now) }
+    ensures same { result ≡ next_of (map.get (map_of records.now) id.now) }
     ensures positive { 1 ≤ result }
     ensures bound { result ≤ 4294967296 }
 {
@@ -49,7 +49,7 @@ pub fn next(records: &BTreeMap<FileId, Record>, id: &FileId) -> u64
 
 /// The identifiers of all records, in order.
 pub fn files(alloc: Global, records: &BTreeMap<FileId, Record>) -> Result<List<FileId>, Memory>
-    ensures { IfOk result (λ ids. ids ≡ map.keys (seen records.now)) }
+    ensures { IfOk result (λ ids. ids ≡ map.keys (map_of records.now)) }
 {
     let mut ids = List::from_vec(Vec::with_capacity(alloc, records.len())?);
     for id in records.keys() {

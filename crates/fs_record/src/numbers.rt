@@ -1,9 +1,9 @@
 //! The numbers that a directory gives to new files.
 ghost use Rattle.std.specs.Prelude.{◌≡◌, ◌↔◌, ◌≤◌, ◌<◌, true, false, IfOk, OnOk, OnErr, IsErrOf, IfSome, Some, None, length, option_map};
 ghost use Rattle.fs_ident.specs.Ident.{child};
-ghost use Rattle.fs_record.specs.Fresh.{is_borne, free_from, fresh_number, is_directory, records_given};
+ghost use Rattle.fs_record.specs.Fresh.{is_borne, free_from, fresh_number, is_directory, records_after_gift};
 ghost use Rattle.fs_record.specs.Records.{AreRecords};
-ghost use Rattle.fs_record.specs.Seen.{seen};
+ghost use Rattle.fs_ident.specs.Maps.{map_of};
 ghost use Rattle.fs_record.specs.declared.error.FreshError.TheVariants.{NoDir, NoIds};
 
 use crate::changes::set_next;
@@ -24,16 +24,16 @@ pub fn fresh(
     dir: &FileId,
     borne: &[u32],
 ) -> Result<FileId, FreshError>
-    requires { AreRecords (seen records.old) }
+    requires { AreRecords (map_of records.old) }
     ensures ok { IfOk result (λ id. Some id ≡
-        option_map (child dir.now) (fresh_number (seen records.old) dir.now borne.now)) }
-    ensures records { OnOk result (seen records.new ≡
-        records_given (seen records.old) dir.now
-        (fresh_number (seen records.old) dir.now borne.now)) }
-    ensures no_dir { IsErrOf result NoDir ↔ (is_directory (seen records.old) dir.now ≡ false) }
-    ensures no_ids { IsErrOf result NoIds ↔ ((is_directory (seen records.old) dir.now ≡ true) ×
-        (fresh_number (seen records.old) dir.now borne.now ≡ None)) }
-    ensures err { OnErr result (seen records.new ≡ seen records.old) }
+        option_map (child dir.now) (fresh_number (map_of records.old) dir.now borne.now)) }
+    ensures records { OnOk result (map_of records.new ≡
+        records_after_gift (map_of records.old) dir.now
+        (fresh_number (map_of records.old) dir.now borne.now)) }
+    ensures no_dir { IsErrOf result NoDir ↔ (is_directory (map_of records.old) dir.now ≡ false) }
+    ensures no_ids { IsErrOf result NoIds ↔ ((is_directory (map_of records.old) dir.now ≡ true) ×
+        (fresh_number (map_of records.old) dir.now borne.now ≡ None)) }
+    ensures err { OnErr result (map_of records.new ≡ map_of records.old) }
 {
     if !is_directory(records, dir) {
         return Err(FreshError::NoDir);
@@ -48,8 +48,8 @@ pub fn fresh(
 
 /// Whether the directory has a record here.
 fn is_directory(records: &BTreeMap<FileId, Record>, dir: &FileId) -> bool
-    requires { AreRecords (seen records.now) }
-    ensures { result ≡ is_directory (seen records.now) dir.now }
+    requires { AreRecords (map_of records.now) }
+    ensures { result ≡ is_directory (map_of records.now) dir.now }
 {
     match node(records, dir) {
         Some(node) => node.kind == Kind::Dir,
@@ -59,8 +59,8 @@ fn is_directory(records: &BTreeMap<FileId, Record>, dir: &FileId) -> bool
 
 /// The number of the new file, if there is one.
 fn fresh_number(records: &BTreeMap<FileId, Record>, dir: &FileId, borne: &[u32]) -> Option<u32>
-    requires { AreRecords (seen records.now) }
-    ensures same { result ≡ fresh_number (seen records.now) dir.now borne.now }
+    requires { AreRecords (map_of records.now) }
+    ensures same { result ≡ fresh_number (map_of records.now) dir.now borne.now }
     ensures positive { IfSome result (λ k. 1 ≤ k) }
     ensures shallow { IfSome result (λ _. length dir.now < DEPTH) }
 {

@@ -1,16 +1,24 @@
-//! What a plain operation does to fields, by its reply.
+//! What an operation does to fields, by its reply.
 ghost use Rattle.std.specs.Prelude.{◌≡◌, true, [], ◌∷◌, Some, IfOk};
 ghost use Rattle.fs_field.specs.declared.effect.Effect.TheVariants.{SetChild, NewNode};
-ghost use Rattle.fs_record.specs.Effects.{is_plain, effects_of};
+ghost use Rattle.fs_record.specs.Effects.{tells_its_effects, effects_of};
 
 use fs_field::Effect;
 use fs_ident::{FileId, Kind, List, Memory, Name, Session, Twin};
 use fs_model::{Op, Reply};
 use std::alloc::Global;
 
-/// The effects of the session's operation that got the reply, in order. It is no rename, no delete and no reap.
+/// Whether the operation and its reply tell its effects: it is no rename, no delete and no reap.
+pub fn tells_its_effects(op: &Op) -> bool
+    ensures { result ≡ tells_its_effects op.now }
+{
+    !matches!(op, Op::Rename { .. } | Op::Delete { .. } | Op::Reap { .. })
+}
+
+/// The effects of the session's operation that got the reply, in order. `tells_its_effects` is the test of which
+/// operations it takes.
 pub fn effects(alloc: Global, by: Session, op: &Op, reply: &Reply) -> Result<List<Effect>, Memory>
-    requires { is_plain op.now ≡ true }
+    requires { tells_its_effects op.now ≡ true }
     ensures { IfOk result (λ told. told ≡ effects_of by op.now reply.now) }
 {
     match (op, reply) {

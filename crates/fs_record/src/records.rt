@@ -3,8 +3,8 @@ ghost use Rattle.std.specs.Prelude.{◌≡◌, ◌↔◌, true, false, IfOk, OnO
 ghost use Rattle.std.specs.FinMap as map;
 ghost use Rattle.std.specs.Option.{option_copied};
 ghost use Rattle.fs_ident.specs.Ident.{child};
-ghost use Rattle.fs_record.specs.Applied.{records_after, is_met};
-ghost use Rattle.fs_record.specs.Fresh.{fresh_number, is_directory, records_given};
+ghost use Rattle.fs_record.specs.Applied.{records_after, has_target};
+ghost use Rattle.fs_record.specs.Fresh.{fresh_number, is_directory, records_after_gift};
 ghost use Rattle.fs_record.specs.Records.{IsRecord, first_records, AreRecords, root_record};
 ghost use Rattle.fs_record.specs.ValueOf.{value_of, is_other, selves_in};
 ghost use Rattle.fs_field.specs.After.{value_after};
@@ -18,7 +18,7 @@ use crate::record::Record;
 use crate::values::{handles, value_at};
 use crate::{changes, handles as opens, numbers};
 use fs_field::{Effect, Field, Value};
-use fs_ident::{FileId, Kind, List, Memory, Session};
+use fs_ident::{FileId, Kind, List, Memory, Session, Twin, copy_map};
 use fs_model::Node;
 use fs_modes::Modes;
 use std::alloc::Global;
@@ -35,16 +35,16 @@ impl Model for Records {
     ghost use Rattle.std.specs.FinMap as map;
     ghost use Rattle.std.specs.Coded.{coded_list, coded_ℕ};
     ghost use Rattle.fs_record.specs.Records.{RecordMap, AreRecords};
-    ghost use Rattle.fs_record.specs.Seen.{seen};
+    ghost use Rattle.fs_ident.specs.Maps.{map_of};
     ghost use Rattle.fs_record.specs.contracts.record.Record as kept;
 
     ghost Value = { RecordMap };
 
     ghost coded = { map.code (coded_list coded_ℕ) kept.the_row.coded };
 
-    ghost view = { λ s. seen s.records };
+    ghost view = { λ s. map_of s.records };
 
-    ghost invariant = { λ s. AreRecords (seen s.records) };
+    ghost invariant = { λ s. AreRecords (map_of s.records) };
 }
 
 impl Records {
@@ -112,7 +112,7 @@ impl Records {
     pub fn apply(&mut self, alloc: Global, e: &Effect) -> Result<(), Memory>
         ensures ok { OnOk result (self.new ≡ records_after self.old e.now) }
         ensures values { OnOk result ((s : TheSession) (field : TheField) → is_other field ≡ false →
-            is_met self.old e.now ≡ true →
+            has_target self.old e.now ≡ true →
             value_of self.new s field ≡ value_after s field (value_of self.old s field) e.now) }
         ensures err { OnErr result (self.new ≡ self.old) }
     {
@@ -132,7 +132,7 @@ impl Records {
         ensures ok { IfOk result (λ id. Some id ≡
             option_map (child dir.now) (fresh_number self.old dir.now borne.now)) }
         ensures records { OnOk result (self.new ≡
-            records_given self.old dir.now (fresh_number self.old dir.now borne.now)) }
+            records_after_gift self.old dir.now (fresh_number self.old dir.now borne.now)) }
         ensures no_dir { IsErrOf result NoDir ↔ (is_directory self.old dir.now ≡ false) }
         ensures no_ids { IsErrOf result NoIds ↔
             ((is_directory self.old dir.now ≡ true) ×
@@ -143,19 +143,22 @@ impl Records {
     }
 }
 
+impl Twin for Records {
+    fn copy(&self, alloc: Global) -> Result<Records, Memory> {
+        Ok(Records {
+            records: copy_map(alloc, &self.records)?,
+        })
+    }
+
+    fn discard(self) {}
+}
+
 /// The root's record, with nothing in it.
 fn root(alloc: Global) -> Record
     ensures { result ≡ root_record }
 {
     Record {
-        node: Node {
-            kind: Kind::Dir,
-            parent: None,
-            children: List::new(alloc),
-            size: 0,
-            stamp: 0,
-            handles: List::new(alloc),
-        },
+        node: Node::new(alloc, Kind::Dir, None),
         next: 1,
     }
 }

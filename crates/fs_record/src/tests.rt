@@ -1,143 +1,169 @@
-//! Ample memory is enough, and a few values from outside.
-ghost use Rattle.std.specs.Prelude.{◌≡◌, IfOk};
-ghost use Rattle.fs_model.specs.Namespace.{root_node};
-
+//! Ample memory is enough, copies compared whole, and a few values from outside.
 use crate::error::FreshError;
-use crate::op_effects::effects;
+use crate::op_effects::{effects, tells_its_effects};
 use crate::record::Record;
 use crate::records::Records;
-use fs_field::{Effect, Field, Value};
+use fs_field::{Effect, Field};
 use fs_ident::{FileId, Kind, List, Name, Session, Twin};
 use fs_model::{Node, Op, Reply};
 use fs_modes::Modes;
 use std::alloc::Global;
+use std::fmt::Debug;
 use std::test::Fail;
 
-/// A directory with nothing in it and without a parent.
-fn directory(alloc: Global) -> Node
-    ensures { result ≡ root_node }
-{
-    Node {
+/// How the value is written for programmers.
+fn shown<T: Debug + Drop>(alloc: Global, x: T) -> Result<String, Fail> {
+    Ok(format!(in alloc; "{x:?}")?)
+}
+
+/// The records of one directory, so deep, with this next number.
+fn one_directory(alloc: Global, dir: &FileId, next: u64) -> Result<Records, Fail> {
+    let mut records = Records::new(alloc, false)?;
+    if next < 1 || next > 4294967296 {
+        return Ok(records);
+    }
+    let record = Record {
+        node: Node::new(alloc, Kind::Dir, None),
+        next,
+    };
+    records.put(dir.copy(alloc)?, record)?;
+    Ok(records)
+}
+
+/// The last number of the identifier that a directory gives, so deep, with this next number; 0 for `NoIds` and
+/// 4294967296 for `NoDir`, which a next number of 0 stands for too.
+fn given(alloc: Global, depth: usize, next: u64, borne: u32) -> Result<u64, Fail> {
+    let mut dir = FileId::root(alloc);
+    for _ in 0..depth {
+        dir = dir.child(alloc, 7)?;
+    }
+    let mut records = one_directory(alloc, &dir, next)?;
+    let mut numbers = List::new(alloc);
+    numbers.push(borne)?;
+    match records.fresh(alloc, &dir, &numbers) {
+        Ok(id) => Ok(last(&id)),
+        Err(FreshError::NoIds) => Ok(0),
+        Err(FreshError::NoDir) => Ok(4294967296),
+        Err(FreshError::Memory) => Err(Fail::from("memory")),
+    }
+}
+
+fn last(id: &FileId) -> u64 {
+    match id.numbers().last() {
+        Some(k) => u64::from(*k),
+        None => 0,
+    }
+}
+
+/// Depth, next number, a number that is borne, and what is given.
+const GIFTS: [(usize, u64, u32, u64); 7] = [
+    (0, 1, 2, 1),
+    (0, 1, 1, 2),
+    (0, 4294967295, 1, 4294967295),
+    (0, 4294967296, 1, 0),
+    (31, 1, 2, 1),
+    (32, 1, 2, 0),
+    (0, 0, 1, 4294967296),
+];
+
+#[test]
+fn numbers_are_given(rt: HostRuntime) -> Result<(), Fail> {
+    for (depth, next, borne, number) in GIFTS {
+        assert_eq!(rt; given(rt.alloc(), depth, next, borne)?, number);
+    }
+    Ok(())
+}
+
+fn create(alloc: Global) -> Result<Op, Fail> {
+    Ok(Op::Create {
+        dir: FileId::root(alloc),
+        name: Name::new(alloc, b"a")?,
         kind: Kind::Dir,
-        parent: None,
-        children: List::new(alloc),
-        size: 0,
-        stamp: 0,
-        handles: List::new(alloc),
+        id: Some(FileId::root(alloc).child(alloc, 1)?),
+    })
+}
+
+const CREATED: &str =
+    "List { items: [SetChild { dir: FileId { numbers: [] }, name: Name { bytes: [97] }, to: Some(FileId { numbers: [1] }) }, NewNode { file: FileId { numbers: [1] }, kind: Dir, dir: FileId { numbers: [] }, name: Name { bytes: [97] } }] }";
+
+/// The effects of the operation, if it and its reply tell them.
+fn told(alloc: Global, op: &Op, reply: Reply) -> Result<List<Effect>, Fail> {
+    if tells_its_effects(op) {
+        return Ok(effects(alloc, Session(1), op, &reply)?);
     }
-}
-
-#[test]
-fn the_root_gives_numbers(rt: HostRuntime) -> Result<(), Fail> {
-    let alloc = rt.alloc();
-    let mut records = Records::new(alloc, true)?;
-    let root = FileId::root(alloc);
-    let mut borne = List::new(alloc);
-    borne.push(1)?;
-    let second = records.fresh(alloc, &root, &borne)?;
-    let two = root.child(alloc, 2)?;
-    assert!(rt; second == two);
-    let third = records.fresh(alloc, &root, &borne)?;
-    let three = root.child(alloc, 3)?;
-    assert!(rt; third == three);
-    let files = records.files(alloc)?;
-    assert_eq!(rt; files.len(), 1);
-    Ok(())
-}
-
-#[test]
-fn no_number_is_left(rt: HostRuntime) -> Result<(), Fail> {
-    let alloc = rt.alloc();
-    let mut records = Records::new(alloc, false)?;
-    let root = FileId::root(alloc);
-    let none = List::new(alloc);
-    let absent = records.fresh(alloc, &root, &none);
-    assert!(rt; matches!(absent, Err(FreshError::NoDir)));
-    let last = Record {
-        node: directory(alloc),
-        next: 4294967295,
-    };
-    let twin = last.copy(alloc)?;
-    records.put(root.copy(alloc)?, twin)?;
-    let given = records.fresh(alloc, &root, &none)?;
-    let greatest = root.child(alloc, 4294967295)?;
-    assert!(rt; given == greatest);
-    let spent = records.fresh(alloc, &root, &none);
-    assert!(rt; matches!(spent, Err(FreshError::NoIds)));
-    Ok(())
-}
-
-#[test]
-fn the_deepest_directory_gives_none(rt: HostRuntime) -> Result<(), Fail> {
-    let alloc = rt.alloc();
-    let mut records = Records::new(alloc, false)?;
-    let none = List::new(alloc);
-    let mut deep = FileId::root(alloc);
-    for _ in 0..31 {
-        deep = deep.child(alloc, 1)?;
-    }
-    records.put(
-        deep.copy(alloc)?,
-        Record {
-            node: directory(alloc),
-            next: 1,
-        },
-    )?;
-    let deepest = records.fresh(alloc, &deep, &none)?;
-    records.put(
-        deepest.copy(alloc)?,
-        Record {
-            node: directory(alloc),
-            next: 1,
-        },
-    )?;
-    let below = records.fresh(alloc, &deepest, &none);
-    assert!(rt; matches!(below, Err(FreshError::NoIds)));
-    Ok(())
-}
-
-/// How many handles the value has.
-fn listed(value: &Value) -> usize {
-    match value {
-        Value::Own(handles) => handles.len(),
-        _ => 0,
-    }
-}
-
-#[test]
-fn a_handle_is_seen(rt: HostRuntime) -> Result<(), Fail> {
-    let alloc = rt.alloc();
-    let mut records = Records::new(alloc, true)?;
-    let root = FileId::root(alloc);
-    let e = Effect::AddHandle {
-        file: root.copy(alloc)?,
-        session: Session(2),
-        h: 1,
-        modes: Modes::NONE,
-    };
-    records.apply(alloc, &e)?;
-    let field = Field::Own(root.copy(alloc)?);
-    let own = records.value_of(alloc, Session(2), &field)?;
-    assert_eq!(rt; listed(&own), 1);
-    let other = records.value_of(alloc, Session(1), &field)?;
-    assert_eq!(rt; listed(&other), 0);
-    let selves = records.selves(alloc, &root)?;
-    assert_eq!(rt; selves.len(), 1);
-    assert!(rt; records.get(&root).is_some());
-    Ok(())
+    Err(Fail::from("the effects are not told"))
 }
 
 #[test]
 fn a_create_has_two_effects(rt: HostRuntime) -> Result<(), Fail> {
     let alloc = rt.alloc();
-    let root = FileId::root(alloc);
-    let op = Op::Create {
-        dir: root.copy(alloc)?,
-        name: Name::new(alloc, b"a")?,
-        kind: Kind::Dir,
-        id: Some(root.child(alloc, 1)?),
+    let told = told(alloc, &create(alloc)?, Reply::Made)?;
+    assert_eq!(rt; shown(alloc, told)?.as_str(), CREATED);
+    let reap = Op::Reap {
+        file: FileId::root(alloc),
+        session: Session(1),
     };
-    let told = effects(alloc, Session(1), &op, &Reply::Made)?;
-    assert_eq!(rt; told.len(), 2);
+    assert!(rt; !tells_its_effects(&reap));
+    Ok(())
+}
+
+/// The records after a directory was made below the root, and the root was opened.
+fn busy(alloc: Global) -> Result<Records, Fail> {
+    let mut records = Records::new(alloc, true)?;
+    for e in told(alloc, &create(alloc)?, Reply::Made)?.as_slice() {
+        records.apply(alloc, e)?;
+    }
+    let open = Effect::AddHandle {
+        file: FileId::root(alloc),
+        session: Session(2),
+        h: 1,
+        modes: Modes::NONE,
+    };
+    records.apply(alloc, &open)?;
+    Ok(records)
+}
+
+/// The files, and the record of each.
+fn content(alloc: Global, records: &Records) -> Result<String, Fail> {
+    let files = records.files(alloc)?;
+    let mut text = format!(in alloc; "{files:?}")?;
+    for file in files.as_slice() {
+        let record = format!(in alloc; " {:?}", records.get(file))?;
+        text.push_str(&record)?;
+    }
+    Ok(text)
+}
+
+const BUSY: &str =
+    "List { items: [FileId { numbers: [] }, FileId { numbers: [1] }] } Some(Record { node: Node { kind: Dir, parent: None, children: List { items: [(Name { bytes: [97] }, FileId { numbers: [1] })] }, size: 0, stamp: 0, handles: List { items: [Handle { session: Session(2), h: 1, modes: Modes { acc_r: false, acc_w: false, acc_d: false, deny_r: false, deny_w: false, deny_d: false } }] } }, next: 1 }) Some(Record { node: Node { kind: Dir, parent: Some((FileId { numbers: [] }, Name { bytes: [97] })), children: List { items: [] }, size: 0, stamp: 0, handles: List { items: [] } }, next: 1 })";
+
+#[test]
+fn records_are_copied(rt: HostRuntime) -> Result<(), Fail> {
+    let alloc = rt.alloc();
+    let twin = busy(alloc)?.copy(alloc)?;
+    assert_eq!(rt; content(alloc, &twin)?.as_str(), BUSY);
+    Ok(())
+}
+
+/// What the session sees of its handles on the root.
+fn own(alloc: Global, session: u16) -> Result<String, Fail> {
+    let field = Field::Own(FileId::root(alloc));
+    let value = busy(alloc)?.value_of(alloc, Session(session), &field)?;
+    shown(alloc, value)
+}
+
+const OPEN: &str =
+    "Own(List { items: [(1, Modes { acc_r: false, acc_w: false, acc_d: false, deny_r: false, deny_w: false, deny_d: false })] })";
+
+const SELVES: &str =
+    "List { items: [(Session(2), Modes { acc_r: false, acc_w: false, acc_d: false, deny_r: false, deny_w: false, deny_d: false })] }";
+
+#[test]
+fn a_handle_is_seen(rt: HostRuntime) -> Result<(), Fail> {
+    let alloc = rt.alloc();
+    assert_eq!(rt; own(alloc, 2)?.as_str(), OPEN);
+    assert_eq!(rt; own(alloc, 1)?.as_str(), "Own(List { items: [] })");
+    let selves = busy(alloc)?.selves(alloc, &FileId::root(alloc))?;
+    assert_eq!(rt; shown(alloc, selves)?.as_str(), SELVES);
     Ok(())
 }

@@ -1,5 +1,5 @@
 -- What keeps a table one.
-use Rattle.std.proofs.Common.{◌≡◌, ℕ, ◌&&◌, Bool, true, false, List, [], ◌∷◌, refl, ap, sym, ◌∙◌, map, inl, inr}
+use Rattle.std.proofs.Common.{◌≡◌, ℕ, Bool, true, false, List, [], refl, ap, sym, ◌∙◌, map, inl, inr}
 use Rattle.std.specs.Prelude.{Option, Some, None, Result, Ok, Err, IfOk, OnErr}
 use Rattle.std.specs.List.{filter, find, list_any}
 use Rattle.fs_ident.specs.declared.actor.LeaseNo.{LeaseNo}

@@ -1,93 +1,108 @@
-//! A row's life, each call, and which leases go together.
+//! How rows lapse, each call, and which leases go together.
 ghost use Rattle.std.specs.Prelude.{◌≡◌, true, IfOk};
 ghost use Rattle.fs_field.specs.Field.{tells_no_mode};
 
 use crate::rows::Rows;
 use fs_field::{Asked, Field, LeaseKind, Unknown};
-use fs_ident::{FileId, LeaseNo, Name, Session, TxnNo};
+use fs_ident::{FileId, LeaseNo, Name, Session, Twin, TxnNo};
 use std::alloc::Global;
 use std::test::Fail;
 
-fn number(count: u64) -> LeaseNo
-    ensures { result ≡ record { server = 0; count = count } }
-{
-    LeaseNo { server: 0, count }
-}
+const FIRST: LeaseNo = LeaseNo {
+    server: 0,
+    count: 1,
+};
+
+const SECOND: LeaseNo = LeaseNo {
+    server: 0,
+    count: 2,
+};
+
+const THIRD: LeaseNo = LeaseNo {
+    server: 0,
+    count: 3,
+};
 
 const TXN: TxnNo = TxnNo {
     server: 0,
     count: 7,
 };
 
-/// A row with end 100 under a skew of 10, kept by a transaction for a while.
+/// The rows with one of the first session on the third file below the root.
+fn one_row(alloc: Global, kind: LeaseKind, until: u64) -> Result<Rows, Fail> {
+    let mut rows = Rows::new(alloc);
+    rows.ask(alloc, FIRST, Session(1), &life(alloc)?, kind, until)?;
+    Ok(rows)
+}
+
+fn life(alloc: Global) -> Result<Field, Fail>
+    ensures { IfOk result (λ f. tells_no_mode f ≡ true) }
+{
+    Ok(Field::Life(FileId::root(alloc).child(alloc, 3)?))
+}
+
+/// The end, whether a transaction keeps the row, the reading, the skew, and whether the row is left then.
+const LAPSES: [(u64, bool, u64, u64, bool); 7] = [
+    (100, false, 109, 10, true),
+    (100, false, 110, 10, false),
+    (100, true, 110, 10, true),
+    (u64::MAX, false, u64::MAX, 1, true),
+    (u64::MAX, false, u64::MAX, u64::MAX, true),
+    (u64::MAX, false, 0, u64::MAX, true),
+    (u64::MAX, false, u64::MAX, 0, false),
+];
+
+fn is_left(alloc: Global, until: u64, kept: bool, now: u64, skew: u64) -> Result<bool, Fail> {
+    let mut rows = one_row(alloc, LeaseKind::Shared, until)?;
+    if kept {
+        rows.lock(FIRST, TXN);
+    }
+    rows.lapse(now, skew);
+    Ok(rows.row(FIRST).is_some())
+}
+
 #[test]
 fn rows_lapse_at_their_end_and_the_skew(rt: HostRuntime) -> Result<(), Fail> {
-    let alloc = rt.alloc();
-    let field = Field::Info(FileId::root(alloc));
-    let mut rows = Rows::new(alloc);
-    rows.ask(alloc, number(1), Session(1), &field, LeaseKind::Shared, 100)?;
-    rows.lapse(109, 10);
-    assert!(rt; rows.row(number(1)).is_some());
-    assert!(rt; rows.lock(number(1), TXN));
-    rows.lapse(109, 10);
-    assert!(rt; rows.row(number(1)).is_some());
-    rows.lapse(110, 10);
-    assert!(rt; rows.row(number(1)).is_some());
-    rows.unlock(TXN);
-    rows.lapse(110, 10);
-    assert!(rt; rows.row(number(1)).is_none());
+    for (until, kept, now, skew, left) in LAPSES {
+        assert_eq!(rt; is_left(rt.alloc(), until, kept, now, skew)?, left);
+    }
     Ok(())
 }
 
-/// Ends and skews whose sum no reading reaches.
-#[test]
-fn great_ends_and_skews(rt: HostRuntime) -> Result<(), Fail> {
-    let alloc = rt.alloc();
-    let field = Field::Own(FileId::root(alloc));
-    let mut rows = Rows::new(alloc);
-    rows.ask(
-        alloc,
-        number(1),
-        Session(1),
-        &field,
-        LeaseKind::Shared,
-        u64::MAX,
-    )?;
-    rows.lapse(u64::MAX, 1);
-    rows.lapse(u64::MAX, u64::MAX);
-    rows.lapse(0, u64::MAX);
-    assert!(rt; rows.row(number(1)).is_some());
-    rows.lapse(u64::MAX, 0);
-    assert!(rt; rows.row(number(1)).is_none());
-    Ok(())
-}
+const ROW: &str =
+    "Rows { rows: List { items: [Row { no: LeaseNo { server: 0, count: 1 }, session: Session(1), field: Life(FileId { numbers: [3] }), kind: Exclusive, until: 200, promise: None, lock: None }] } }";
 
-/// Each call once.
+/// Each call that needs no memory, and a copy.
 #[test]
 fn a_row_from_its_grant_to_its_release(rt: HostRuntime) -> Result<(), Fail> {
     let alloc = rt.alloc();
-    let root = FileId::root(alloc);
-    let field = Field::Life(root.child(alloc, 3)?);
-    let mut rows = Rows::new(alloc);
-    let asked = rows.ask(
-        alloc,
-        number(1),
-        Session(1),
-        &field,
-        LeaseKind::Exclusive,
-        100,
-    )?;
-    assert_eq!(rt; asked, Asked::Granted { value: None });
-    assert!(rt; rows.holds(number(1), Session(1), &field, LeaseKind::Exclusive));
-    assert!(rt; !rows.holds(number(1), Session(1), &field, LeaseKind::Shared));
-    assert_eq!(rt; rows.renew(number(1), 200), Ok(()));
-    assert_eq!(rt; rows.renew(number(1), 150), Ok(()));
-    assert_eq!(rt; rows.renew(number(2), 150), Err(Unknown { no: number(2) }));
-    assert!(rt; matches!(rows.row(number(1)), Some(row) if row.until == 200));
-    assert_eq!(rt; rows.on(alloc, &field)?.len(), 1);
-    assert!(rt; matches!(rows.borne(alloc, &root)?.as_slice(), [3]));
-    assert!(rt; rows.release(number(1)));
-    assert!(rt; !rows.release(number(1)));
+    let mut rows = one_row(alloc, LeaseKind::Exclusive, 100)?;
+    assert_eq!(rt; rows.renew(FIRST, 200), Ok(()));
+    assert_eq!(rt; rows.renew(FIRST, 150), Ok(()));
+    assert_eq!(rt; rows.renew(SECOND, 150), Err(Unknown { no: SECOND }));
+    assert!(rt; rows.lock(FIRST, TXN));
+    assert!(rt; !rows.lock(FIRST, TXN));
+    rows.unlock(TXN);
+    let twin = rows.copy(alloc)?;
+    assert!(rt; rows.release(FIRST));
+    assert!(rt; !rows.release(FIRST));
+    let text = format!(in alloc; "{twin:?}")?;
+    assert_eq!(rt; text.as_str(), ROW);
+    Ok(())
+}
+
+/// What the rows tell of fields and files.
+#[test]
+fn rows_tell_whole_answers(rt: HostRuntime) -> Result<(), Fail> {
+    let alloc = rt.alloc();
+    let rows = one_row(alloc, LeaseKind::Exclusive, 100)?;
+    let field = life(alloc)?;
+    assert!(rt; rows.holds(FIRST, Session(1), &field, LeaseKind::Exclusive));
+    assert!(rt; !rows.holds(FIRST, Session(1), &field, LeaseKind::Shared));
+    let on = rows.on(alloc, &field)?;
+    assert_eq!(rt; on.as_slice(), [(FIRST, Session(1))].as_slice());
+    let borne = rows.borne(alloc, &FileId::root(alloc))?;
+    assert_eq!(rt; borne.as_slice(), [3].as_slice());
     Ok(())
 }
 
@@ -95,21 +110,14 @@ fn a_row_from_its_grant_to_its_release(rt: HostRuntime) -> Result<(), Fail> {
 #[test]
 fn who_stands_against_a_lease(rt: HostRuntime) -> Result<(), Fail> {
     let alloc = rt.alloc();
-    let field = Field::Info(FileId::root(alloc));
+    let field = life(alloc)?;
     let mut rows = Rows::new(alloc);
-    rows.ask(alloc, number(2), Session(2), &field, LeaseKind::Shared, 100)?;
-    rows.ask(alloc, number(1), Session(1), &field, LeaseKind::Shared, 100)?;
-    let asked = rows.ask(
-        alloc,
-        number(3),
-        Session(3),
-        &field,
-        LeaseKind::Exclusive,
-        100,
-    )?;
-    assert_eq!(rt; asked, Asked::Wait { blocker: number(1) });
-    assert!(rt; rows.lock(number(2), TXN));
-    let asked = rows.ask(alloc, number(4), Session(4), &field, LeaseKind::Shared, 100)?;
+    rows.ask(alloc, SECOND, Session(2), &field, LeaseKind::Shared, 100)?;
+    rows.ask(alloc, FIRST, Session(1), &field, LeaseKind::Shared, 100)?;
+    let asked = rows.ask(alloc, THIRD, Session(3), &field, LeaseKind::Exclusive, 100)?;
+    assert_eq!(rt; asked, Asked::Wait { blocker: FIRST });
+    assert!(rt; rows.lock(SECOND, TXN));
+    let asked = rows.ask(alloc, THIRD, Session(3), &field, LeaseKind::Shared, 100)?;
     assert_eq!(rt; asked, Asked::Locked { txn: TXN });
     Ok(())
 }
@@ -128,9 +136,7 @@ const PAIRS: [&[u8; 8]; 8] = [
 ];
 
 /// The fields of the lines: six of the root, and two of a file below it.
-fn field(alloc: Global, line: usize) -> Result<Field, Fail>
-    ensures { IfOk result (λ f. tells_no_mode f ≡ true) }
-{
+fn field(alloc: Global, line: usize) -> Result<Field, Fail> {
     let root = FileId::root(alloc);
     match line {
         0 => Ok(Field::Life(root)),
@@ -156,87 +162,35 @@ fn waits_by(letter: u8, held: LeaseKind, asked: LeaseKind) -> bool {
 /// Whether the session waits for a lease where the first session has one.
 fn waits(
     alloc: Global,
-    session: Session,
-    held: (&Field, LeaseKind),
-    asked: (&Field, LeaseKind),
-) -> Result<bool, Fail>
-    requires held { tells_no_mode held.0.now ≡ true }
-    requires asked { tells_no_mode asked.0.now ≡ true }
-{
-    let mut rows = Rows::new(alloc);
-    rows.ask(alloc, number(1), Session(1), held.0, held.1, 100)?;
-    match rows.ask(alloc, number(2), session, asked.0, asked.1, 100)? {
-        Asked::Wait { blocker } => Ok(blocker == number(1)),
-        _ => Ok(false),
+    session: u16,
+    held: (usize, LeaseKind),
+    asked: (usize, LeaseKind),
+) -> Result<bool, Fail> {
+    let first = field(alloc, held.0)?;
+    let second = field(alloc, asked.0)?;
+    if !first.tells_no_mode() || !second.tells_no_mode() {
+        return Err(Fail::from("a field tells of a mode"));
     }
+    let mut rows = Rows::new(alloc);
+    rows.ask(alloc, FIRST, Session(1), &first, held.1, 100)?;
+    let asked = rows.ask(alloc, SECOND, Session(session), &second, asked.1, 100)?;
+    Ok(asked == Asked::Wait { blocker: FIRST })
 }
 
-/// Whether the letter tells when another session waits, and the same session does not.
-fn is_told(
-    alloc: Global,
-    letter: u8,
-    held: &Field,
-    k: LeaseKind,
-    asked: &Field,
-    l: LeaseKind,
-) -> Result<bool, Fail>
-    requires held { tells_no_mode held.now ≡ true }
-    requires asked { tells_no_mode asked.now ≡ true }
-{
-    let other = waits(alloc, Session(2), (held, k), (asked, l))?;
-    let same = waits(alloc, Session(1), (held, k), (asked, l))?;
-    Ok(other == waits_by(letter, k, l) && !same)
-}
+const KINDS: [LeaseKind; 2] = [LeaseKind::Shared, LeaseKind::Exclusive];
 
 /// Each field against each, of both kinds, of two sessions and of one.
 #[test]
 fn leases_that_go_together(rt: HostRuntime) -> Result<(), Fail> {
-    let alloc = rt.alloc();
     for i in 0..8 {
         for j in 0..8 {
-            let held = field(alloc, i)?;
-            let asked = field(alloc, j)?;
-            let letter = PAIRS[i][j];
-            assert!(rt;
-                is_told(
-                    alloc,
-                    letter,
-                    &held,
-                    LeaseKind::Shared,
-                    &asked,
-                    LeaseKind::Shared
-                )?
-            );
-            assert!(rt;
-                is_told(
-                    alloc,
-                    letter,
-                    &held,
-                    LeaseKind::Shared,
-                    &asked,
-                    LeaseKind::Exclusive
-                )?
-            );
-            assert!(rt;
-                is_told(
-                    alloc,
-                    letter,
-                    &held,
-                    LeaseKind::Exclusive,
-                    &asked,
-                    LeaseKind::Shared
-                )?
-            );
-            assert!(rt;
-                is_told(
-                    alloc,
-                    letter,
-                    &held,
-                    LeaseKind::Exclusive,
-                    &asked,
-                    LeaseKind::Exclusive
-                )?
-            );
+            for k in KINDS {
+                for l in KINDS {
+                    let other = waits(rt.alloc(), 2, (i, k), (j, l))?;
+                    assert_eq!(rt; other, waits_by(PAIRS[i][j], k, l));
+                    assert!(rt; !waits(rt.alloc(), 1, (i, k), (j, l))?);
+                }
+            }
         }
     }
     Ok(())

@@ -1,4 +1,4 @@
-use Rattle.std.proofs.Common.{◌≡◌, ℕ, true, [], ◌∷◌, ◌++◌, ap, sym, ◌∙◌, cond}
+use Rattle.std.proofs.Common.{◌≡◌, true, [], ◌∷◌, ◌++◌, ap, sym, ◌∙◌, cond}
 use Rattle.std.specs.Prelude.{Some, None}
 use Rattle.fs_ident.specs.Ident.{same}
 use Rattle.fs_field.specs.Table.{child_number}

@@ -1,13 +1,13 @@
 use Rattle.std.proofs.Common.{◌∙◌, sym}
-use Rattle.fs_record.specs.Seen.{seen}
-use Rattle.fs_record.proofs.Seen.{seen_get}
+use Rattle.fs_ident.specs.Maps.{map_of}
+use Rattle.fs_ident.proofs.MapsOf.{map_of_get}
 use Rattle.fs_record.proofs.Kept.{record_at}
 use Rattle.fs_record.proofs.lookups.next.Goals as goal
 
 pub returns-in-Some-clause-positive : goal.returns-in-Some-clause-positive
 returns-in-Some-clause-positive c =
-    (record_at (seen c.args.records.now) c.requires c.args.id.now c.in-Some.record.now (seen_get c.args.records.now c.args.id.now ∙ sym c.in-Some.ensures.value)).least
+    (record_at (map_of c.args.records.now) c.requires c.args.id.now c.in-Some.record.now (map_of_get c.args.records.now c.args.id.now ∙ sym c.in-Some.ensures.value)).least
 
 pub returns-in-Some-clause-bound : goal.returns-in-Some-clause-bound
 returns-in-Some-clause-bound c =
-    (record_at (seen c.args.records.now) c.requires c.args.id.now c.in-Some.record.now (seen_get c.args.records.now c.args.id.now ∙ sym c.in-Some.ensures.value)).most
+    (record_at (map_of c.args.records.now) c.requires c.args.id.now c.in-Some.record.now (map_of_get c.args.records.now c.args.id.now ∙ sym c.in-Some.ensures.value)).most
