@@ -3,7 +3,7 @@ use Rattle.std.proofs.Common.{◌≡◌, ◌==◌, not, ◌&&◌, ◌||◌, Bool
 use Rattle.std.proofs.Math.Bool.{or_comm}
 use Rattle.std.specs.Cmp.{nat_eq_equiv}
 use Rattle.std.specs.Cmp.Lexicographic.{nat_list_eq_equiv}
-use Rattle.std.specs.Prelude.{Option}
+use Rattle.std.specs.Prelude.{Option, Some, None}
 use Rattle.fs_field.specs.declared.field.Field.{Field}
 use Rattle.fs_field.specs.declared.field.Field.TheVariants.{Life, Child, Names, Info, Own, SelfW, Other}
 use Rattle.fs_field.specs.declared.lease_kind.LeaseKind.{LeaseKind}
@@ -98,3 +98,7 @@ all_are_plain selves rows plain free a b ia ib = sym (plain_is_all selves rows a
 
 pub plain_are_all : (selves : Selves) (rows : List Row) → ((row : Row) → In row rows → tells_no_mode row.field ≡ true) → NoPlainConflict rows → NoConflict selves rows
 plain_are_all selves rows plain quiet a b ia ib = plain_is_all selves rows a b (plain a ia) (plain b ib) ∙ quiet a b ia ib
+
+pub as_false : (selves : Selves) (rows : List Row) (x y : Session) (f g : Field) → mode_meets selves rows x f None y g ≡ mode_meets selves rows x f (Some false) y g
+as_false selves rows x y (Other f m) (SelfW g n) = refl
+as_false selves rows x y f g = refl

@@ -1,10 +1,10 @@
 //! Laws of effects.
-ghost use Rattle.std.specs.Prelude.{◌≡◌, ℕ, List, Option, Some, true, false, is_some};
+ghost use Rattle.std.specs.Prelude.{◌≡◌, ℕ, List, Option, Some, None, true, false, is_some};
 ghost use Rattle.std.specs.List.{list_any};
 ghost use Rattle.fs_ident.specs.declared.actor.Session.{Session};
 ghost use Rattle.fs_field.specs.After.{touches, value_after, names_after};
 ghost use Rattle.fs_ident.specs.In.{In};
-ghost use Rattle.fs_field.specs.Conflict.{Selves, conflicts, NoConflict, NoPlainConflict};
+ghost use Rattle.fs_field.specs.Conflict.{Selves, conflicts, mode_meets, NoConflict, NoPlainConflict};
 ghost use Rattle.fs_field.specs.Field.{tells_no_mode};
 ghost use Rattle.fs_field.specs.Table.{child_number};
 ghost use Rattle.fs_field.specs.Value.{is_value_of};
@@ -59,4 +59,10 @@ pub fn conflicts_off_modes_are_plain()
     ensures all { (selves : Selves) (rows : List Row) →
         ((row : Row) → In row rows → tells_no_mode row.field ≡ true) → NoPlainConflict rows →
         NoConflict selves rows }
+{}
+
+/// A row that keeps no promise of what others have conflicts as one that promises that no other has the mode.
+pub fn no_promise_is_as_false()
+    ensures { (selves : Selves) (rows : List Row) (x y : Session) (f g : Field) →
+        mode_meets selves rows x f None y g ≡ mode_meets selves rows x f (Some false) y g }
 {}

@@ -25,7 +25,7 @@ pub use effect::Effect;
 pub use field::Field;
 pub use law::{
     children_are_told, conflicts_are_mutual, conflicts_off_modes_are_plain, kind_of_value_stays,
-    names_follow_children, untouched_stays,
+    names_follow_children, no_promise_is_as_false, untouched_stays,
 };
 pub use lease_kind::LeaseKind;
 pub use path::PathAnswer;

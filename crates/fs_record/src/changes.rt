@@ -101,7 +101,8 @@ fn link(
 #[tactic(auto, using(fs_ident::proofs::MapsOf::maps, fs_ident::proofs::MapsOf::map_of_absent))]
 fn unlink(records: &mut BTreeMap<FileId, Record>, dir: &FileId, name: &Name)
     requires { AreRecords (map_of records.old) }
-    ensures { map_of records.new ≡ records_after (map_of records.old) (SetChild dir.now name.now None) }
+    ensures { map_of records.new ≡
+        records_after (map_of records.old) (SetChild dir.now name.now None) }
 {
     match records.get_mut(dir) {
         Some(record) => {
@@ -114,7 +115,8 @@ fn unlink(records: &mut BTreeMap<FileId, Record>, dir: &FileId, name: &Name)
 /// Puts the file into another place.
 #[tactic(auto, using(fs_ident::proofs::MapsOf::maps, fs_ident::proofs::MapsOf::map_of_absent))]
 fn place(records: &mut BTreeMap<FileId, Record>, file: &FileId, dir: FileId, name: Name)
-    ensures { map_of records.new ≡ records_after (map_of records.old) (SetParent file.now dir name) }
+    ensures { map_of records.new ≡
+        records_after (map_of records.old) (SetParent file.now dir name) }
 {
     match records.get_mut(file) {
         Some(record) => record.node.parent = Some((dir, name)),
@@ -188,7 +190,8 @@ fn close(
 /// Sets size and stamp.
 #[tactic(auto, using(fs_ident::proofs::MapsOf::maps, fs_ident::proofs::MapsOf::map_of_absent))]
 fn set(records: &mut BTreeMap<FileId, Record>, file: &FileId, size: u64, stamp: u64)
-    ensures { map_of records.new ≡ records_after (map_of records.old) (SetInfo file.now size stamp) }
+    ensures { map_of records.new ≡
+        records_after (map_of records.old) (SetInfo file.now size stamp) }
 {
     match records.get_mut(file) {
         Some(record) => {

@@ -84,7 +84,9 @@ fn create(alloc: Global) -> Result<Op, Fail> {
 }
 
 const CREATED: &str =
-    "List { items: [SetChild { dir: FileId { numbers: [] }, name: Name { bytes: [97] }, to: Some(FileId { numbers: [1] }) }, NewNode { file: FileId { numbers: [1] }, kind: Dir, dir: FileId { numbers: [] }, name: Name { bytes: [97] } }] }";
+    "List { items: [SetChild { dir: FileId { numbers: [] }, name: Name { bytes: [97] }, to: \
+    Some(FileId { numbers: [1] }) }, NewNode { file: FileId { numbers: [1] }, kind: Dir, dir: \
+    FileId { numbers: [] }, name: Name { bytes: [97] } }] }";
 
 /// The effects of the operation, if it and its reply tell them.
 fn told(alloc: Global, op: &Op, reply: Reply) -> Result<List<Effect>, Fail> {
@@ -135,7 +137,13 @@ fn content(alloc: Global, records: &Records) -> Result<String, Fail> {
 }
 
 const BUSY: &str =
-    "List { items: [FileId { numbers: [] }, FileId { numbers: [1] }] } Some(Record { node: Node { kind: Dir, parent: None, children: List { items: [(Name { bytes: [97] }, FileId { numbers: [1] })] }, size: 0, stamp: 0, handles: List { items: [Handle { session: Session(2), h: 1, modes: Modes { acc_r: false, acc_w: false, acc_d: false, deny_r: false, deny_w: false, deny_d: false } }] } }, next: 1 }) Some(Record { node: Node { kind: Dir, parent: Some((FileId { numbers: [] }, Name { bytes: [97] })), children: List { items: [] }, size: 0, stamp: 0, handles: List { items: [] } }, next: 1 })";
+    "List { items: [FileId { numbers: [] }, FileId { numbers: [1] }] } Some(Record { node: \
+    Node { kind: Dir, parent: None, children: List { items: [(Name { bytes: [97] }, FileId { \
+    numbers: [1] })] }, size: 0, stamp: 0, handles: List { items: [Handle { session: \
+    Session(2), h: 1, modes: Modes { acc_r: false, acc_w: false, acc_d: false, deny_r: false, \
+    deny_w: false, deny_d: false } }] } }, next: 1 }) Some(Record { node: Node { kind: Dir, \
+    parent: Some((FileId { numbers: [] }, Name { bytes: [97] })), children: List { items: [] \
+    }, size: 0, stamp: 0, handles: List { items: [] } }, next: 1 })";
 
 #[test]
 fn records_are_copied(rt: HostRuntime) -> Result<(), Fail> {
@@ -153,10 +161,12 @@ fn own(alloc: Global, session: u16) -> Result<String, Fail> {
 }
 
 const OPEN: &str =
-    "Own(List { items: [(1, Modes { acc_r: false, acc_w: false, acc_d: false, deny_r: false, deny_w: false, deny_d: false })] })";
+    "Own(List { items: [(1, Modes { acc_r: false, acc_w: false, acc_d: false, deny_r: false, \
+    deny_w: false, deny_d: false })] })";
 
 const SELVES: &str =
-    "List { items: [(Session(2), Modes { acc_r: false, acc_w: false, acc_d: false, deny_r: false, deny_w: false, deny_d: false })] }";
+    "List { items: [(Session(2), Modes { acc_r: false, acc_w: false, acc_d: false, deny_r: \
+    false, deny_w: false, deny_d: false })] }";
 
 #[test]
 fn a_handle_is_seen(rt: HostRuntime) -> Result<(), Fail> {

@@ -69,8 +69,9 @@ fn rows_lapse_at_their_end_and_the_skew(rt: HostRuntime) -> Result<(), Fail> {
     Ok(())
 }
 
-const ROW: &str =
-    "Rows { rows: List { items: [Row { no: LeaseNo { server: 0, count: 1 }, session: Session(1), field: Life(FileId { numbers: [3] }), kind: Exclusive, until: 200, promise: None, lock: None }] } }";
+const ROW: &str = "Rows { rows: List { items: [Row { no: LeaseNo { server: 0, count: 1 }, session: \
+    Session(1), field: Life(FileId { numbers: [3] }), kind: Exclusive, until: 200, promise: \
+    None, lock: None }] } }";
 
 /// Each call that needs no memory, and a copy.
 #[test]
