@@ -15,7 +15,7 @@ use Rattle.fs_model.specs.Children.{child_at}
 use Rattle.fs_model.specs.Handles.{handle_at, any_conflicts}
 use Rattle.fs_model.specs.Sound.{is_change}
 use Rattle.fs_model.specs.Step.{Stepped, step, is_empty, is_child, look_up, look_up_in, child_reply, list, list_in, kind, kind_reply, info, create, create_in, open_file, close, set, set_by}
-use Rattle.fs_record.specs.Effects.{effects_of, is_plain}
+use Rattle.fs_record.specs.Effects.{effects_of, tells_its_effects}
 
 -- the outcome has effects exactly where it is a change
 abbrev Tells : Session → Op → Stepped → Type 0
@@ -75,7 +75,7 @@ set_tells : (m : NodeMap) (by : Session) (file : List ℕ) (h size stamp : ℕ) 
 set_tells m by file h size stamp None = refl
 set_tells m by file h size stamp (Some n) = set_by_tells m by file h size stamp (handle_at n.handles by h)
 
-tells : (m : NodeMap) (by : Session) (o : Op) → is_plain o ≡ true → Tells by o (step m by o)
+tells : (m : NodeMap) (by : Session) (o : Op) → tells_its_effects o ≡ true → Tells by o (step m by o)
 tells m by (op.Lookup dir name) p = ap not (sym (look_up_read (get m dir) name))
 tells m by (op.List dir) p = ap not (sym (list_read (get m dir)))
 tells m by (op.Kind file) p = ap not (sym (kind_read (get m file)))
@@ -88,5 +88,5 @@ tells m by (op.Delete dir name) p = absurd (cc)
 tells m by (op.Rename sdir sname ddir dname) p = absurd (cc)
 tells m by (op.Reap file session) p = absurd (cc)
 
-pub none_read : (m : NodeMap) (by : Session) (o : Op) (r : Reply) → is_plain o ≡ true → (step m by o).reply ≡ r → is_empty (effects_of by o r) ≡ not (is_change r)
+pub none_read : (m : NodeMap) (by : Session) (o : Op) (r : Reply) → tells_its_effects o ≡ true → (step m by o).reply ≡ r → is_empty (effects_of by o r) ≡ not (is_change r)
 none_read m by o r p e = ap (λ x. is_empty (effects_of by o x)) (sym e) ∙ (tells m by o p ∙ ap (λ x. not (is_change x)) e)

@@ -21,7 +21,7 @@ use Rattle.fs_model.specs.Handles.{handle_at, any_conflicts}
 use Rattle.fs_model.specs.Sound.{kind_of, child_of}
 use Rattle.fs_model.specs.Step.{Stepped, reply_alone, step, with_info, look_up, look_up_in, child_reply, list, list_in, kind, info, create, create_in, create_as, is_child, children_of, open_file, close, set, set_by}
 use Rattle.fs_field.specs.After.{Handles}
-use Rattle.fs_record.specs.Effects.{is_plain}
+use Rattle.fs_record.specs.Effects.{tells_its_effects}
 use Rattle.fs_record.specs.ValueOf.{handles_of, own_of, others_have, info_of}
 use Rattle.fs_view.specs.Told.{modes_under, own_conflicts, modes_listed}
 use Rattle.fs_view.specs.Script.{Script, answer, unless, no_dir, no_file, taken_name, look_up_reply, kind_reply, made_reply, ask_child, ask_names, ask_info, ask_place, ask_own, ask_size, new_file, open_free, close_with, no_set, no_write, ask_others, ask_selves, modes_on, modes_off}
@@ -181,7 +181,7 @@ set_is m s file h size stamp =
 same_reply : (o : Option Reply) (a r : Reply) → o ≡ Some a → o ≡ Some r → a ≡ r
 same_reply o a r p q = let e : Some a ≡ Some r = sym p ∙ q in let f : a ≡ r = cc in f
 
-pub replies : (m : NodeMap) (s : Session) (o : Op) (r : Reply) → is_plain o ≡ true → IsNewWhereMade m o r → (walk (known_in m s) always o).reply ≡ Some r → (step m s o).reply ≡ r
+pub replies : (m : NodeMap) (s : Session) (o : Op) (r : Reply) → tells_its_effects o ≡ true → IsNewWhereMade m o r → (walk (known_in m s) always o).reply ≡ Some r → (step m s o).reply ≡ r
 replies m s (op.Lookup dir name) r p new h = same_reply _ _ r (look_up_is m s dir name (get m dir) refl) h
 replies m s (op.List dir) r p new h = same_reply _ _ r (list_is m s dir (get m dir) refl) h
 replies m s (op.Kind file) r p new h = same_reply _ _ r (ap Some (kind_is (get m file))) h

@@ -30,8 +30,8 @@ use Rattle.fs_model.specs.Handles.{handle_at, any_conflicts, comes_before, witho
 use Rattle.fs_model.specs.Step.{Stepped, step, is_child, create, create_in, open_file, close, set, set_by}
 use Rattle.fs_record.specs.declared.record.Record.{Record}
 use Rattle.fs_record.specs.Records.{RecordMap, AreRecords, nodes_of, node_of}
-use Rattle.fs_record.specs.Applied.{records_after, node_change, record_change, changed_file, is_met}
-use Rattle.fs_record.specs.Effects.{effects_of, is_plain}
+use Rattle.fs_record.specs.Applied.{records_after, node_change, record_change, changed_file, has_target}
+use Rattle.fs_record.specs.Effects.{effects_of, tells_its_effects}
 use Rattle.fs_record.specs.ValueOf.{value_of, value_at, handles_of, others_have}
 use Rattle.fs_record.proofs.Kept.{after_kept, get_with_at}
 use Rattle.fs_record.proofs.NodeMaps.{node_there}
@@ -99,7 +99,7 @@ other_stays m s f md e stays =
     go false t = refl
 
 -- what the session itself sees after one of its effects
-follow : (m : RecordMap) (s : Session) (field : Field) (e : Effect) → AreRecords m → is_met m e ≡ true → OthersStay s e (node_of (get m (changed_file e))) → value_of (records_after m e) s field ≡ value_after s field (value_of m s field) e
+follow : (m : RecordMap) (s : Session) (field : Field) (e : Effect) → AreRecords m → has_target m e ≡ true → OthersStay s e (node_of (get m (changed_file e))) → value_of (records_after m e) s field ≡ value_after s field (value_of m s field) e
 follow m s (Life f) e own met stays = value_follows m s (Life f) e own refl met
 follow m s (Child f n) e own met stays = value_follows m s (Child f n) e own refl met
 follow m s (Names f) e own met stays = value_follows m s (Names f) e own refl met
@@ -185,7 +185,7 @@ set_sees m s file h size stamp field (Some n) own e = with_modes (handle_at n.ha
     with_modes None = refl
     with_modes (Some modes) = sees_if m s (op.Set file h size stamp) field modes.acc_w _ _ (λ _. follow m s field (SetInfo file size stamp) own (recorded m file n e) (info_stays s file size stamp (node_of (get m file)))) refl
 
-sees : (m : RecordMap) (s : Session) (o : Op) (field : Field) → AreRecords m → is_plain o ≡ true → Sees m s o field (step (nodes_of m) s o)
+sees : (m : RecordMap) (s : Session) (o : Op) (field : Field) → AreRecords m → tells_its_effects o ≡ true → Sees m s o field (step (nodes_of m) s o)
 sees m s (op.Lookup dir name) field own p = refl
 sees m s (op.List dir) field own p = refl
 sees m s (op.Kind file) field own p = refl
@@ -198,5 +198,5 @@ sees m s (op.Delete dir name) field own p = absurd (cc)
 sees m s (op.Rename sdir sname ddir dname) field own p = absurd (cc)
 sees m s (op.Reap file session) field own p = absurd (cc)
 
-pub own_values : (m : RecordMap) (s : Session) (o : Op) (r : Reply) (field : Field) → AreRecords m → is_plain o ≡ true → (step (nodes_of m) s o).reply ≡ r → value_of (records_after_all m (effects_of s o r)) s field ≡ value_after_all s field (value_of m s field) (effects_of s o r)
+pub own_values : (m : RecordMap) (s : Session) (o : Op) (r : Reply) (field : Field) → AreRecords m → tells_its_effects o ≡ true → (step (nodes_of m) s o).reply ≡ r → value_of (records_after_all m (effects_of s o r)) s field ≡ value_after_all s field (value_of m s field) (effects_of s o r)
 own_values m s o r field own p e = subst (λ x. value_of (records_after_all m (effects_of s o x)) s field ≡ value_after_all s field (value_of m s field) (effects_of s o x)) e (sees m s o field own p)

@@ -33,8 +33,8 @@ use Rattle.fs_model.specs.Sound.{kind_of, child_of}
 use Rattle.fs_model.specs.Step.{Stepped, step, is_child, create, create_in, open_file, close, set, set_by}
 use Rattle.fs_record.specs.declared.record.Record.{Record}
 use Rattle.fs_record.specs.Records.{RecordMap, AreRecords, nodes_of, node_of}
-use Rattle.fs_record.specs.Applied.{records_after, record_change, is_met}
-use Rattle.fs_record.specs.Effects.{effects_of, is_plain}
+use Rattle.fs_record.specs.Applied.{records_after, record_change, has_target}
+use Rattle.fs_record.specs.Effects.{effects_of, tells_its_effects}
 use Rattle.fs_record.specs.ValueOf.{value_of, value_at, handles_of, own_of, is_other}
 use Rattle.fs_record.proofs.Kept.{after_kept, get_with_at}
 use Rattle.fs_record.proofs.NodeValues.{tied}
@@ -83,11 +83,11 @@ info_untouched (Other f m) kind file size stamp h = refl
 
 -- ## One effect
 
-child_unseen : (m : RecordMap) (y : Session) (field : Field) (kind : LeaseKind) (dir name : List ℕ) (to : Option (List ℕ)) → AreRecords m → is_other field ≡ false → is_met m (SetChild dir name to) ≡ true → meets field kind (Child dir name) Exclusive ≡ false → value_of (records_after m (SetChild dir name to)) y field ≡ value_of m y field
+child_unseen : (m : RecordMap) (y : Session) (field : Field) (kind : LeaseKind) (dir name : List ℕ) (to : Option (List ℕ)) → AreRecords m → is_other field ≡ false → has_target m (SetChild dir name to) ≡ true → meets field kind (Child dir name) Exclusive ≡ false → value_of (records_after m (SetChild dir name to)) y field ≡ value_of m y field
 child_unseen m y field kind dir name to own other met h =
     value_follows m y field (SetChild dir name to) own other met ∙ value_stays y field (value_of m y field) (SetChild dir name to) (child_untouched field kind dir name to h)
 
-info_unseen : (m : RecordMap) (y : Session) (field : Field) (kind : LeaseKind) (file : List ℕ) (size stamp : ℕ) → AreRecords m → is_other field ≡ false → is_met m (SetInfo file size stamp) ≡ true → meets field kind (Info file) Exclusive ≡ false → value_of (records_after m (SetInfo file size stamp)) y field ≡ value_of m y field
+info_unseen : (m : RecordMap) (y : Session) (field : Field) (kind : LeaseKind) (file : List ℕ) (size stamp : ℕ) → AreRecords m → is_other field ≡ false → has_target m (SetInfo file size stamp) ≡ true → meets field kind (Info file) Exclusive ≡ false → value_of (records_after m (SetInfo file size stamp)) y field ≡ value_of m y field
 info_unseen m y field kind file size stamp own other met h =
     value_follows m y field (SetInfo file size stamp) own other met ∙ value_stays y field (value_of m y field) (SetInfo file size stamp) (info_untouched field kind file size stamp h)
 
@@ -212,7 +212,7 @@ set_unseen : (m : RecordMap) (s y : Session) (file : List ℕ) (h size stamp : �
 set_unseen m s y file h size stamp field kind None own other e free = refl
 set_unseen m s y file h size stamp field kind (Some n) own other e free = write_unseen m s y file h size stamp field kind n (handle_at n.handles s h) own other e free
 
-unseen : (m : RecordMap) (s y : Session) (o : Op) (field : Field) (kind : LeaseKind) → AreRecords m → is_plain o ≡ true → (s.0 == y.0) ≡ false → is_other field ≡ false
+unseen : (m : RecordMap) (s y : Session) (o : Op) (field : Field) (kind : LeaseKind) → AreRecords m → tells_its_effects o ≡ true → (s.0 == y.0) ≡ false → is_other field ≡ false
     → list_any (item_meets field kind) (walk (known_in (nodes_of m) s) always o).items ≡ false → Unseen m s y o field (step (nodes_of m) s o)
 unseen m s y (op.Lookup dir name) field kind own p apart other free = refl
 unseen m s y (op.List dir) field kind own p apart other free = refl
@@ -228,6 +228,6 @@ unseen m s y (op.Delete dir name) field kind own p apart other free = absurd (cc
 unseen m s y (op.Rename sdir sname ddir dname) field kind own p apart other free = absurd (cc)
 unseen m s y (op.Reap file session) field kind own p apart other free = absurd (cc)
 
-pub others_values : (m : RecordMap) (s y : Session) (o : Op) (r : Reply) (field : Field) (kind : LeaseKind) → AreRecords m → is_plain o ≡ true → (step (nodes_of m) s o).reply ≡ r → (s.0 == y.0) ≡ false → is_other field ≡ false
+pub others_values : (m : RecordMap) (s y : Session) (o : Op) (r : Reply) (field : Field) (kind : LeaseKind) → AreRecords m → tells_its_effects o ≡ true → (step (nodes_of m) s o).reply ≡ r → (s.0 == y.0) ≡ false → is_other field ≡ false
     → list_any (item_meets field kind) (walk (known_in (nodes_of m) s) always o).items ≡ false → value_of (records_after_all m (effects_of s o r)) y field ≡ value_of m y field
 others_values m s y o r field kind own p e apart other free = subst (λ x. value_of (records_after_all m (effects_of s o x)) y field ≡ value_of m y field) e (unseen m s y o field kind own p apart other free)
