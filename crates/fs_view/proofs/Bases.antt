@@ -1,8 +1,9 @@
 -- New base values.
-use Rattle.std.proofs.Common.{◌≡◌, ℕ, ◌+◌, ◌<◌, ◌||◌, Bool, true, false, List, [], ◌∷◌, ◌++◌, refl, ap, length, get_or, take, map, arith, sym, ◌∙◌}
+use Rattle.std.proofs.Common.{◌≡◌, ℕ, ◌+◌, ◌<◌, false, List, [], ◌∷◌, ◌++◌, refl, ap, length, get_or, take, map, arith, sym, ◌∙◌}
 use Rattle.std.specs.Prelude.{Option, unwrap_or}
 use Rattle.std.specs.List.{list_any}
 use Rattle.std.proofs.lemmas.List.{take_more, map-append, length-take}
+use Rattle.fs_ident.proofs.Booleans.{neither}
 use Rattle.fs_ident.specs.declared.actor.Session.{Session}
 use Rattle.fs_field.specs.declared.effect.Effect.{Effect}
 use Rattle.fs_field.specs.declared.field.Field.{Field}
@@ -12,10 +13,6 @@ use Rattle.fs_field.proofs.Untouched.{value_stays}
 use Rattle.fs_view.specs.declared.kept.Kept.{Kept}
 use Rattle.fs_view.specs.View.{value_after_all, base_after, below_after, knowing}
 use Rattle.fs_view.specs.Admit.{with_base, with_bases}
-
-neither : (a b : Bool) → (a || b) ≡ false → (a ≡ false) × (b ≡ false)
-neither true b h = absurd (cc)
-neither false b h = (refl, h)
 
 -- effects that do not touch the field leave its value
 pub untouched_by_all : (s : Session) (field : Field) (v : Value) (effects : List Effect) → list_any (λ e. touches e field) effects ≡ false → value_after_all s field v effects ≡ v

@@ -6,3 +6,6 @@ pub mod ModeItems
 pub mod Walks
 pub mod Conflicting
 pub mod Replies
+pub mod Reading
+pub mod Seeing
+pub mod Unseen

@@ -15,13 +15,13 @@ use Rattle.fs_model.specs.declared.op.Op.{Op}
 use Rattle.fs_model.specs.declared.op.Op.TheVariants as op
 use Rattle.fs_model.specs.declared.reply.Reply.{Reply}
 use Rattle.fs_model.specs.declared.reply.Reply.TheVariants as reply
-use Rattle.fs_model.specs.Namespace.{NodeMap, changed}
+use Rattle.fs_model.specs.Namespace.{NodeMap, with_change}
 use Rattle.fs_model.specs.Children.{child_at, names_of}
 use Rattle.fs_model.specs.Handles.{handle_at, any_conflicts}
 use Rattle.fs_model.specs.Sound.{kind_of, child_of}
-use Rattle.fs_model.specs.Step.{Stepped, stay, step, sized, look_up, look_up_in, found, list, list_in, kind, info, create, create_in, create_as, is_child, children_of, open_file, close, set, set_by}
+use Rattle.fs_model.specs.Step.{Stepped, reply_alone, step, with_info, look_up, look_up_in, child_reply, list, list_in, kind, info, create, create_in, create_as, is_child, children_of, open_file, close, set, set_by}
 use Rattle.fs_field.specs.After.{Handles}
-use Rattle.fs_record.specs.Effects.{is_plain}
+use Rattle.fs_record.specs.Effects.{tells_its_effects}
 use Rattle.fs_record.specs.ValueOf.{handles_of, own_of, others_have, info_of}
 use Rattle.fs_view.specs.Told.{modes_under, own_conflicts, modes_listed}
 use Rattle.fs_view.specs.Script.{Script, answer, unless, no_dir, no_file, taken_name, look_up_reply, kind_reply, made_reply, ask_child, ask_names, ask_info, ask_place, ask_own, ask_size, new_file, open_free, close_with, no_set, no_write, ask_others, ask_selves, modes_on, modes_off}
@@ -35,7 +35,7 @@ reply_along m s script = (walk_along (known_in m s) always script).reply
 
 -- ## Reads
 
-found_is : (c : Option (List ℕ)) → look_up_reply (Some c) ≡ found c
+found_is : (c : Option (List ℕ)) → look_up_reply (Some c) ≡ child_reply c
 found_is None = refl
 found_is (Some file) = refl
 
@@ -87,7 +87,7 @@ made_as m s dir name k None r new h =
     absurd (subst (λ x. IsNewWhereMade m (op.Create dir name k None) x) (sym q) new)
 made_as m s dir name k (Some id) r new h = made_by m s dir name k id r (get m id) refl new h
 
-place_is : (m : NodeMap) (s : Session) (dir name : List ℕ) (k : Kind) (id : Option (List ℕ)) (r : Reply) (c : Option (List ℕ)) → IsNewWhereMade m (op.Create dir name k id) r → reply_along m s (unless (taken_name (Some c)) (new_file dir id)) ≡ Some r → (cond (is_some c) (stay m reply.Exists) (create_as m dir name k id)).reply ≡ r
+place_is : (m : NodeMap) (s : Session) (dir name : List ℕ) (k : Kind) (id : Option (List ℕ)) (r : Reply) (c : Option (List ℕ)) → IsNewWhereMade m (op.Create dir name k id) r → reply_along m s (unless (taken_name (Some c)) (new_file dir id)) ≡ Some r → (cond (is_some c) (reply_alone m reply.Exists) (create_as m dir name k id)).reply ≡ r
 place_is m s dir name k id r None new h = made_as m s dir name k id r new h
 place_is m s dir name k id r (Some file) new h = let q : reply.Exists ≡ r = cc in q
 
@@ -109,12 +109,12 @@ or_assoc : (a b c : Bool) → ((a || b) || c) ≡ (a || (b || c))
 or_assoc true b c = refl
 or_assoc false b c = refl
 
-others_is : (m : NodeMap) (s : Session) (ms : List Mode) (file : List ℕ) (found : Bool) (go : Script) → reply_along m s (ask_others ms file found go) ≡ cond (found || list_any (λ md. others_have s md (handles_of (get m file))) ms) (Some reply.Sharing) (reply_along m s go)
+others_is : (m : NodeMap) (s : Session) (ms : List Mode) (file : List ℕ) (told : Bool) (go : Script) → reply_along m s (ask_others ms file told go) ≡ cond (told || list_any (λ md. others_have s md (handles_of (get m file))) ms) (Some reply.Sharing) (reply_along m s go)
 others_is m s [] file true go = refl
 others_is m s [] file false go = refl
-others_is m s (md ∷ ms) file found go =
-    others_is m s ms file (found || others_have s md (handles_of (get m file))) go
-    ∙ ap (λ b. cond b (Some reply.Sharing) (reply_along m s go)) (or_assoc found (others_have s md (handles_of (get m file))) (list_any (λ md. others_have s md (handles_of (get m file))) ms))
+others_is m s (md ∷ ms) file told go =
+    others_is m s ms file (told || others_have s md (handles_of (get m file))) go
+    ∙ ap (λ b. cond b (Some reply.Sharing) (reply_along m s go)) (or_assoc told (others_have s md (handles_of (get m file))) (list_any (λ md. others_have s md (handles_of (get m file))) ms))
 
 free_is : (m : NodeMap) (s : Session) (own : Handles) (file : List ℕ) (modes : Modes) (c : Bool) → reply_along m s (open_free c own file modes) ≡ cond (c || list_any (λ md. others_have s md (handles_of (get m file))) (modes_listed (opposing modes))) (Some reply.Sharing) (Some reply.Opened)
 free_is m s own file modes true = refl
@@ -158,7 +158,7 @@ close_is m s file h =
     ∙ ap (λ (w : Option Modes). cond (is_some w) (Some reply.Closed) (Some reply.NoHandle)) (own_handle s h hs)
     ∙ close_by m s file h (get m file)
 
-write_by : (m : NodeMap) (s : Session) (file : List ℕ) (size stamp : ℕ) (modes : Modes) (b : Bool) → reply_along m s (unless (cond b None (Some reply.NoAccess)) (ask_size file)) ≡ Some (cond b (record { reply = reply.Set; nodes = changed (sized size stamp) m file }) (stay m reply.NoAccess)).reply
+write_by : (m : NodeMap) (s : Session) (file : List ℕ) (size stamp : ℕ) (modes : Modes) (b : Bool) → reply_along m s (unless (cond b None (Some reply.NoAccess)) (ask_size file)) ≡ Some (cond b (record { reply = reply.Set; nodes = with_change (with_info size stamp) m file }) (reply_alone m reply.NoAccess)).reply
 write_by m s file size stamp modes true = refl
 write_by m s file size stamp modes false = refl
 
@@ -181,7 +181,7 @@ set_is m s file h size stamp =
 same_reply : (o : Option Reply) (a r : Reply) → o ≡ Some a → o ≡ Some r → a ≡ r
 same_reply o a r p q = let e : Some a ≡ Some r = sym p ∙ q in let f : a ≡ r = cc in f
 
-pub replies : (m : NodeMap) (s : Session) (o : Op) (r : Reply) → is_plain o ≡ true → IsNewWhereMade m o r → (walk (known_in m s) always o).reply ≡ Some r → (step m s o).reply ≡ r
+pub replies : (m : NodeMap) (s : Session) (o : Op) (r : Reply) → tells_its_effects o ≡ true → IsNewWhereMade m o r → (walk (known_in m s) always o).reply ≡ Some r → (step m s o).reply ≡ r
 replies m s (op.Lookup dir name) r p new h = same_reply _ _ r (look_up_is m s dir name (get m dir) refl) h
 replies m s (op.List dir) r p new h = same_reply _ _ r (list_is m s dir (get m dir) refl) h
 replies m s (op.Kind file) r p new h = same_reply _ _ r (ap Some (kind_is (get m file))) h

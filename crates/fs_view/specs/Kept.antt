@@ -10,7 +10,7 @@ use Rattle.fs_field.specs.declared.lease_kind.LeaseKind.{LeaseKind}
 use Rattle.fs_field.specs.declared.used.Use.{Use}
 use Rattle.fs_field.specs.Conflict.{is_exclusive}
 use Rattle.fs_field.specs.Field.{same_field, file_of}
-use Rattle.fs_field.specs.Table.{same_no, no_before, is_dir}
+use Rattle.fs_field.specs.Table.{same_no, no_before, is_parent}
 use Rattle.fs_lease.specs.Lease.{Lease}
 use Rattle.fs_view.specs.declared.kept.Kept.{Kept}
 use Rattle.fs_view.specs.declared.kept.Standing.{Standing}
@@ -107,7 +107,7 @@ is_unused_in now log (Leaving l) = false
 
 -- it is on an unused file whose identifier was given for the directory
 abbrev pub offers : ℕ → List ℕ → List (List Effect) → Kept → Bool
-offers now dir log k = is_dir dir k.below && is_unused_in now log k.standing
+offers now dir log k = is_parent dir k.below && is_unused_in now log k.standing
 
 -- ## Steps
 

@@ -1,15 +1,22 @@
 -- What laws say of walks.
-use Rattle.std.specs.Prelude.{◌≡◌, List, Some, None, true}
+use Rattle.std.specs.Prelude.{◌≡◌, Bool, false, true, List, [], ◌∷◌, Some, None}
 use Rattle.std.specs.FinMap.{get}
 use Rattle.fs_field.specs.declared.asked.Need.{Need}
 use Rattle.fs_field.specs.declared.asked.Need.TheVariants.{Lease, Fresh}
 use Rattle.fs_ident.specs.In.{In}
+use Rattle.fs_field.specs.declared.field.Field.{Field}
+use Rattle.fs_field.specs.declared.lease_kind.LeaseKind.{LeaseKind}
+use Rattle.fs_field.specs.declared.lease_kind.LeaseKind.TheVariants.{Shared, Exclusive}
+use Rattle.fs_field.specs.Conflict.{meets}
 use Rattle.fs_model.specs.Namespace.{NodeMap}
 use Rattle.fs_model.specs.Step.{is_child}
 use Rattle.fs_model.specs.declared.op.Op.{Op}
 use Rattle.fs_model.specs.declared.op.Op.TheVariants as op
 use Rattle.fs_model.specs.declared.reply.Reply.{Reply}
 use Rattle.fs_model.specs.declared.reply.Reply.TheVariants as reply
+use Rattle.fs_field.specs.declared.effect.Effect.{Effect}
+use Rattle.fs_record.specs.Records.{RecordMap}
+use Rattle.fs_record.specs.Applied.{records_after}
 use Rattle.fs_view.specs.Walk.{Known, Given}
 
 -- the other knowledge has the item too, with the same value
@@ -26,3 +33,14 @@ abbrev pub IsNewWhereMade : NodeMap → Op → Reply → Type 0
 IsNewWhereMade m (op.Create dir name kind None) reply.Made = ⊥
 IsNewWhereMade m (op.Create dir name kind (Some id)) reply.Made = (is_child dir id ≡ true) × (get m id ≡ None)
 IsNewWhereMade m o r = Unit {0}
+
+-- the records after the effects, one after another
+abbrev pub records_after_all : RecordMap → List Effect → RecordMap
+records_after_all m [] = m
+records_after_all m (e ∷ es) = records_after_all (records_after m e) es
+
+-- the item is exclusive, and a lease of the kind on the field does not go together with it
+abbrev pub item_meets : Field → LeaseKind → Need → Bool
+item_meets field kind (Lease other Shared) = false
+item_meets field kind (Lease other Exclusive) = meets field kind other Exclusive
+item_meets field kind (Fresh dir) = false

@@ -1,6 +1,6 @@
 //! A lease that a client keeps.
 ghost use Rattle.std.specs.Prelude.{◌≡◌, ◌+◌, ◌<◌, ◌≤◌, true, IfOk};
-ghost use Rattle.fs_view.specs.Kept.{entries_of, file_in, has_ended, is_better_than, is_enough, leaving, makes_known, number_of, pinned, recalled_as, renewed, seen_of, serves, takes_pin, unpinned, until_of, use_in};
+ghost use Rattle.fs_view.specs.Kept.{entries_of, file_in, has_ended, is_better_than, is_enough, is_held, is_leaving, leaving, makes_known, number_of, pinned, recalled_as, renewed, seen_of, serves, takes_pin, unpinned, until_of, use_in};
 
 use crate::seen::Seen;
 use fs_field::{Field, LeaseKind, Use, Value};
@@ -32,6 +32,20 @@ pub struct Kept {
 }
 
 impl Standing {
+    /// Whether no entry uses it.
+    pub fn is_held(&self) -> bool
+        ensures { result ≡ is_held self.now }
+    {
+        matches!(self, Standing::Held(_))
+    }
+
+    /// Whether it goes back.
+    pub fn is_leaving(&self) -> bool
+        ensures { result ≡ is_leaving self.now }
+    {
+        matches!(self, Standing::Leaving(_))
+    }
+
     /// Its number.
     pub fn no(&self) -> LeaseNo
         ensures { result ≡ number_of self.now }

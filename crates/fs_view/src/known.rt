@@ -2,7 +2,7 @@
 ghost use Rattle.std.specs.Prelude.{◌≡◌, None, is_some, find, option_map, IfOk};
 ghost use Rattle.std.specs.List.{list_any};
 ghost use Rattle.std.specs.Option.{option_copied};
-ghost use Rattle.fs_field.specs.Table.{is_dir};
+ghost use Rattle.fs_field.specs.Table.{is_parent};
 ghost use Rattle.fs_view.specs.Kept.{has_number, is_better, is_pending, is_unused_in, makes, offers};
 ghost use Rattle.fs_view.specs.View.{taken_from, value_after_all, value_after_log};
 
@@ -90,11 +90,11 @@ pub fn offered<'a>(
 fn offers(kept: &Kept, now: u64, dir: &FileId, log: &[List<Effect>]) -> bool
     ensures { result ≡ offers now dir.now log.now kept.now }
 {
-    is_dir(dir, &kept.below) && is_unused(&kept.standing, now, log)
+    is_parent(dir, &kept.below) && is_unused(&kept.standing, now, log)
 }
 
-fn is_dir(dir: &FileId, below: &Option<FileId>) -> bool
-    ensures { result ≡ is_dir dir.now below.now }
+fn is_parent(dir: &FileId, below: &Option<FileId>) -> bool
+    ensures { result ≡ is_parent dir.now below.now }
 {
     match below {
         None => false,
@@ -152,4 +152,11 @@ pub fn numbered(leases: &[Kept], no: LeaseNo) -> Option<&Kept>
         }
     }
     None
+}
+
+/// Whether a lease has this number.
+pub fn has_number(leases: &[Kept], no: LeaseNo) -> bool
+    ensures { result ≡ list_any (has_number no) leases.now }
+{
+    leases.iter().any(|kept| kept.standing.no() == no)
 }

@@ -1,12 +1,19 @@
 //! Laws of needs and replies.
-ghost use Rattle.std.specs.Prelude.{◌≡◌, true, Some, is_some};
+ghost use Rattle.std.specs.Prelude.{◌≡◌, ◌==◌, false, true, not, Some, is_some};
+ghost use Rattle.std.specs.List.{list_any};
+ghost use Rattle.fs_field.specs.declared.field.Field.{Field};
+ghost use Rattle.fs_field.specs.declared.lease_kind.LeaseKind.{LeaseKind};
 ghost use Rattle.fs_ident.specs.declared.actor.Session.{Session};
 ghost use Rattle.fs_model.specs.Namespace.{NodeMap};
-ghost use Rattle.fs_model.specs.Step.{step};
+ghost use Rattle.fs_model.specs.Sound.{is_change};
+ghost use Rattle.fs_model.specs.Step.{is_empty, step};
 ghost use Rattle.fs_model.specs.declared.op.Op.{Op};
 ghost use Rattle.fs_model.specs.declared.reply.Reply.{Reply};
-ghost use Rattle.fs_record.specs.Effects.{is_plain};
-ghost use Rattle.fs_view.specs.Laws.{HasAll, IsNewWhereMade};
+ghost use Rattle.fs_record.specs.Effects.{effects_of, tells_its_effects};
+ghost use Rattle.fs_record.specs.Records.{AreRecords, RecordMap, nodes_of};
+ghost use Rattle.fs_record.specs.ValueOf.{is_other, value_of};
+ghost use Rattle.fs_view.specs.Laws.{HasAll, IsNewWhereMade, item_meets, records_after_all};
+ghost use Rattle.fs_view.specs.View.{value_after_all};
 ghost use Rattle.fs_view.specs.Walk.{Known, Given, walk, known_in, always};
 
 /// An operation stands on its items alone: where nothing is missing, whoever knows the items, with the same values,
@@ -21,7 +28,32 @@ pub fn needs_are_enough()
 /// With the values of a space the reply of a plain operation is the one that the operation gets in that space. A
 /// file is made only under an identifier that is named, of the directory, and of no file that lives.
 pub fn replies_are_the_step()
-    ensures { (m : NodeMap) (by : Session) (op : Op) (reply : Reply) → is_plain op ≡ true →
+    ensures { (m : NodeMap) (by : Session) (op : Op) (reply : Reply) → tells_its_effects op ≡ true →
         IsNewWhereMade m op reply → (walk (known_in m by) always op).reply ≡ Some reply →
         (step m by op).reply ≡ reply }
+{}
+
+/// A plain operation has effects exactly where its reply is one of a change.
+pub fn reads_have_no_effects()
+    ensures { (m : NodeMap) (by : Session) (op : Op) (reply : Reply) → tells_its_effects op ≡ true →
+        (step m by op).reply ≡ reply → is_empty (effects_of by op reply) ≡ not (is_change reply) }
+{}
+
+/// After the effects of a plain operation that got its reply the session itself sees of every field what the
+/// effects make of the value that it saw.
+pub fn own_values_follow()
+    ensures { (m : RecordMap) (by : Session) (op : Op) (reply : Reply) (field : Field) → AreRecords m →
+        tells_its_effects op ≡ true → (step (nodes_of m) by op).reply ≡ reply →
+        value_of (records_after_all m (effects_of by op reply)) by field ≡
+        value_after_all by field (value_of m by field) (effects_of by op reply) }
+{}
+
+/// After the effects of a plain operation that got its reply another session sees of a field what it saw before,
+/// unless an exclusive item of the operation meets the field. What it is told of others' modes is apart.
+pub fn other_values_stay()
+    ensures { (m : RecordMap) (by other : Session) (op : Op) (reply : Reply) (field : Field) (kind : LeaseKind) →
+        AreRecords m → tells_its_effects op ≡ true → (step (nodes_of m) by op).reply ≡ reply →
+        (by.0 == other.0) ≡ false → is_other field ≡ false →
+        list_any (item_meets field kind) (walk (known_in (nodes_of m) by) always op).items ≡ false →
+        value_of (records_after_all m (effects_of by op reply)) other field ≡ value_of m other field }
 {}

@@ -8,11 +8,16 @@ mod known;
 mod law;
 mod needs;
 mod seen;
+#[cfg(test)]
+mod tests;
 mod told;
 mod view;
 mod walk;
 
 pub use kept::{Kept, Standing};
-pub use law::{needs_are_enough, replies_are_the_step};
+pub use law::{
+    needs_are_enough, other_values_stay, own_values_follow, reads_have_no_effects,
+    replies_are_the_step,
+};
 pub use seen::Seen;
 pub use view::View;

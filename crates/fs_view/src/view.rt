@@ -11,7 +11,7 @@ use crate::change::{
     Change, add, change_at, copy_all, discard_all, give_up, lapse, pin_all, unpin_all,
 };
 use crate::kept::{Kept, Standing};
-use crate::known::{after_log, numbered, offered, taken};
+use crate::known::{after_log, has_number, numbered, offered, taken};
 use crate::seen::Seen;
 use fs_field::{Effect, Field, LeaseKind, Use, Value};
 use fs_ident::{FileId, LeaseNo, List, Memory, Session, Twin};
@@ -68,6 +68,43 @@ impl View {
         ensures { option_copied result ≡ find (has_number no) self.now.leases }
     {
         numbered(&self.leases, no)
+    }
+
+    /// Whether a lease has this number.
+    pub fn has(&self, no: LeaseNo) -> bool
+        ensures { result ≡ list_any (has_number no) self.now.leases }
+    {
+        has_number(&self.leases, no)
+    }
+
+    /// Whether the lease of this number is there and no entry uses it.
+    pub fn is_held(&self, no: LeaseNo) -> bool
+        ensures { result ≡ stands is_held no self.now.leases }
+    {
+        match self.lease(no) {
+            None => false,
+            Some(kept) => kept.standing.is_held(),
+        }
+    }
+
+    /// Whether the lease of this number is there and goes back.
+    pub fn is_leaving(&self, no: LeaseNo) -> bool
+        ensures { result ≡ stands is_leaving no self.now.leases }
+    {
+        match self.lease(no) {
+            None => false,
+            Some(kept) => kept.standing.is_leaving(),
+        }
+    }
+
+    /// Whether the lease of this number is there and does not go back.
+    pub fn is_in_hand(&self, no: LeaseNo) -> bool
+        ensures { result ≡ stands is_in_hand no self.now.leases }
+    {
+        match self.lease(no) {
+            None => false,
+            Some(kept) => !kept.standing.is_leaving(),
+        }
     }
 
     /// Gives up every lease that no entry uses and that is over at the reading.

@@ -1,0 +1,197 @@
+//! A client that answers from its leases.
+use crate::view::View;
+use fs_field::{Field, LeaseKind, Need, Use, Value};
+use fs_ident::{FileId, Kind, LeaseNo, List, Name, Session, Twin};
+use fs_model::{Op, Reply};
+use fs_record::effects;
+use std::alloc::Global;
+use std::process::Abort;
+use std::test::Fail;
+
+/// The number of a lease of server 0.
+fn number(count: u64) -> LeaseNo {
+    LeaseNo { server: 0, count }
+}
+
+/// Adds a lease, if its number is new and the value fits.
+fn give(
+    view: &mut View,
+    alloc: Global,
+    count: u64,
+    until: u64,
+    field: &Field,
+    value: Value,
+) -> Result<(), Fail> {
+    if view.has(number(count)) || !value.is_of(field) {
+        return Err(Fail::from("no such lease"));
+    }
+    let kind = match field {
+        Field::Life(file) if file.numbers().is_empty() => LeaseKind::Shared,
+        _ => LeaseKind::Exclusive,
+    };
+    let root = FileId::root(alloc);
+    let below = match field {
+        Field::Life(file) if !file.numbers().is_empty() => Some(&root),
+        _ => None,
+    };
+    view.grant(alloc, number(count), field, kind, until, value, below)?;
+    Ok(())
+}
+
+/// The reply at the reading, if nothing is missing.
+fn reply_at(view: &View, alloc: Global, now: u64, op: &Op) -> Result<Option<Reply>, Fail> {
+    let needs = view.missing(alloc, now, op)?;
+    if !needs.is_empty() {
+        return Ok(None);
+    }
+    Ok(Some(view.reply(alloc, now, op)?))
+}
+
+/// The numbers of the leases that are used at the reading.
+fn used_at(view: &View, alloc: Global, now: u64, op: &Op) -> Result<List<u64>, Fail> {
+    let mut counts = List::new(alloc);
+    let needs = view.missing(alloc, now, op)?;
+    if needs.is_empty() {
+        for u in view.uses(alloc, now, op)?.as_slice() {
+            counts.push(u.no.count)?;
+        }
+    }
+    Ok(counts)
+}
+
+/// Three leases on one field: the one that ends last is used, and of two that end together the one with the lesser
+/// number, up to its last reading.
+fn choice(rt: &impl Abort, alloc: Global, view: &mut View) -> Result<(), Fail> {
+    let life = Field::Life(FileId::root(alloc));
+    for (count, until) in [(1, 100), (3, 200), (2, 200)] {
+        give(
+            view,
+            alloc,
+            count,
+            until,
+            &life,
+            Value::Life(Some(Kind::Dir)),
+        )?;
+    }
+    let op = Op::Kind {
+        file: FileId::root(alloc),
+    };
+    assert_eq!(rt; used_at(view, alloc, 50, &op)?.as_slice(), [2].as_slice());
+    assert!(rt; matches!(reply_at(view, alloc, 199, &op)?, Some(Reply::IsDir)));
+    assert!(rt; reply_at(view, alloc, 200, &op)?.is_none());
+    let needs = view.missing(alloc, 200, &op)?;
+    assert_eq!(rt;
+        needs.as_slice(),
+        [Need::Lease(life, LeaseKind::Shared)].as_slice()
+    );
+    Ok(())
+}
+
+#[test]
+fn the_lease_that_ends_last_is_used(rt: HostRuntime) -> Result<(), Fail> {
+    let mut view = View::new(rt.alloc(), Session(1));
+    let done = choice(&rt, rt.alloc(), &mut view);
+    view.discard();
+    done
+}
+
+/// The create of one name in the root, under this identifier.
+fn create(alloc: Global, id: Option<FileId>) -> Result<Op, Fail> {
+    Ok(Op::Create {
+        dir: FileId::root(alloc),
+        name: Name::new(alloc, b"a")?,
+        kind: Kind::File,
+        id,
+    })
+}
+
+/// A file is made once: then the log shows it, and its identifier is offered no more.
+fn creates(rt: &impl Abort, alloc: Global, view: &mut View) -> Result<(), Fail> {
+    let root = FileId::root(alloc);
+    let file = FileId::parse(alloc, b"/1")?;
+    let child = Field::Child(root.copy(alloc)?, Name::new(alloc, b"a")?);
+    let life = Field::Life(root.copy(alloc)?);
+    give(view, alloc, 1, 100, &life, Value::Life(Some(Kind::Dir)))?;
+    give(view, alloc, 2, 100, &child, Value::Child(None))?;
+    let made = Field::Life(file.copy(alloc)?);
+    give(view, alloc, 3, 100, &made, Value::Life(None))?;
+    assert_eq!(rt; view.fresh(50, &root), Some(&file));
+    let op = create(alloc, None)?;
+    assert!(rt; matches!(reply_at(view, alloc, 50, &op)?, Some(Reply::Made)));
+    assert_eq!(rt;
+        used_at(view, alloc, 50, &op)?.as_slice(),
+        [1, 2, 3].as_slice()
+    );
+    let told = effects(alloc, Session(1), &create(alloc, Some(file))?, &Reply::Made)?;
+    view.append(told)?;
+    assert_eq!(rt; view.fresh(50, &root), None);
+    assert!(rt; matches!(reply_at(view, alloc, 50, &op)?, Some(Reply::Exists)));
+    view.admit_first(alloc)?;
+    assert_eq!(rt; view.fresh(50, &root), None);
+    assert!(rt; matches!(reply_at(view, alloc, 50, &op)?, Some(Reply::Exists)));
+    Ok(())
+}
+
+#[test]
+fn an_identifier_is_offered_once(rt: HostRuntime) -> Result<(), Fail> {
+    let mut view = View::new(rt.alloc(), Session(1));
+    let done = creates(&rt, rt.alloc(), &mut view);
+    view.discard();
+    done
+}
+
+/// A lease is recalled, pinned, freed, given back and released.
+fn gives_back(rt: &impl Abort, alloc: Global, view: &mut View) -> Result<(), Fail> {
+    let life = Field::Life(FileId::root(alloc));
+    give(view, alloc, 1, 100, &life, Value::Life(Some(Kind::Dir)))?;
+    view.recall(number(1));
+    let seen = view.leases(alloc)?;
+    assert_eq!(rt; seen.len(), 1);
+    view.lapse(99);
+    assert!(rt; view.is_held(number(1)));
+    if view.is_held(number(1)) {
+        view.leave(number(1));
+    }
+    assert!(rt; view.is_leaving(number(1)));
+    view.lapse(100);
+    if view.is_leaving(number(1)) {
+        view.released(number(1));
+    }
+    assert!(rt; !view.has(number(1)));
+    Ok(())
+}
+
+#[test]
+fn a_lease_goes_back(rt: HostRuntime) -> Result<(), Fail> {
+    let mut view = View::new(rt.alloc(), Session(1));
+    let done = gives_back(&rt, rt.alloc(), &mut view);
+    view.discard();
+    done
+}
+
+/// A lease that an entry uses stays when its time is over, in a copy too.
+#[test]
+fn a_pinned_lease_stays(rt: HostRuntime) -> Result<(), Fail> {
+    let alloc = rt.alloc();
+    let mut uses = List::new(alloc);
+    uses.push(Use {
+        field: Field::Life(FileId::root(alloc)),
+        kind: LeaseKind::Shared,
+        no: number(1),
+        until: 100,
+    })?;
+    let life = Field::Life(FileId::root(alloc));
+    let mut view = View::new(alloc, Session(1));
+    let value = Value::Life(Some(Kind::Dir));
+    let granted = view.grant(alloc, number(1), &life, LeaseKind::Shared, 100, value, None);
+    if granted.is_ok() {
+        view.pin(&uses);
+        view.lapse(100);
+        assert!(rt; view.has(number(1)));
+        view.renew(number(1), 200);
+        view.unpin(&uses);
+        assert!(rt; view.is_held(number(1)));
+    }
+    view.discard();
+    Ok(granted?)
+}
