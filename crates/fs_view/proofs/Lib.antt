@@ -9,3 +9,4 @@ pub mod Replies
 pub mod Reading
 pub mod Seeing
 pub mod Unseen
+pub mod Pins

@@ -1,5 +1,5 @@
 -- What laws say of walks.
-use Rattle.std.specs.Prelude.{◌≡◌, Bool, false, true, List, [], ◌∷◌, Some, None}
+use Rattle.std.specs.Prelude.{◌≡◌, ℕ, ◌+◌, nat_le, Bool, false, true, List, [], ◌∷◌, Some, None}
 use Rattle.std.specs.FinMap.{get}
 use Rattle.fs_field.specs.declared.asked.Need.{Need}
 use Rattle.fs_field.specs.declared.asked.Need.TheVariants.{Lease, Fresh}
@@ -17,6 +17,9 @@ use Rattle.fs_model.specs.declared.reply.Reply.TheVariants as reply
 use Rattle.fs_field.specs.declared.effect.Effect.{Effect}
 use Rattle.fs_record.specs.Records.{RecordMap}
 use Rattle.fs_record.specs.Applied.{records_after}
+use Rattle.std.specs.List.{list_all}
+use Rattle.fs_view.specs.declared.kept.Kept.{Kept}
+use Rattle.fs_view.specs.Kept.{entries_of}
 use Rattle.fs_view.specs.Walk.{Known, Given}
 
 -- the other knowledge has the item too, with the same value
@@ -44,3 +47,7 @@ abbrev pub item_meets : Field → LeaseKind → Need → Bool
 item_meets field kind (Lease other Shared) = false
 item_meets field kind (Lease other Exclusive) = meets field kind other Exclusive
 item_meets field kind (Fresh dir) = false
+
+-- each lease can take so many entries more
+abbrev pub have_room : ℕ → List Kept → Bool
+have_room n leases = list_all (λ (k : Kept). nat_le (entries_of k.standing + n) 0xffff_ffff_ffff_ffff) leases

@@ -54,7 +54,8 @@ fn new_base(
     effects: &[Effect],
 ) -> Result<Option<Value>, Memory>
     ensures { IfOk result (λ base.
-        unwrap_or base kept.now.base ≡ base_after session effects.now kept.now.standing kept.now.base) }
+        unwrap_or base kept.now.base ≡
+        base_after session effects.now kept.now.standing kept.now.base) }
 {
     match &kept.standing {
         Standing::Held(held) => field_base(alloc, held.field(), &kept.base, session, effects),

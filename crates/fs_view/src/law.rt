@@ -1,5 +1,5 @@
 //! Laws of needs and replies.
-ghost use Rattle.std.specs.Prelude.{◌≡◌, ◌==◌, false, true, not, Some, is_some};
+ghost use Rattle.std.specs.Prelude.{◌≡◌, ◌==◌, ℕ, length, false, true, not, Some, is_some};
 ghost use Rattle.std.specs.List.{list_any};
 ghost use Rattle.fs_field.specs.declared.field.Field.{Field};
 ghost use Rattle.fs_field.specs.declared.lease_kind.LeaseKind.{LeaseKind};
@@ -12,8 +12,8 @@ ghost use Rattle.fs_model.specs.declared.reply.Reply.{Reply};
 ghost use Rattle.fs_record.specs.Effects.{effects_of, tells_its_effects};
 ghost use Rattle.fs_record.specs.Records.{AreRecords, RecordMap, nodes_of};
 ghost use Rattle.fs_record.specs.ValueOf.{is_other, value_of};
-ghost use Rattle.fs_view.specs.Laws.{HasAll, IsNewWhereMade, item_meets, records_after_all};
-ghost use Rattle.fs_view.specs.View.{value_after_all};
+ghost use Rattle.fs_view.specs.Laws.{HasAll, IsNewWhereMade, have_room, item_meets, records_after_all};
+ghost use Rattle.fs_view.specs.View.{View, are_distinct, can_pin_all, uses_in, value_after_all};
 ghost use Rattle.fs_view.specs.Walk.{Known, Given, walk, known_in, always};
 
 /// An operation stands on its items alone: where nothing is missing, whoever knows the items, with the same values,
@@ -42,8 +42,8 @@ pub fn reads_have_no_effects()
 /// After the effects of a plain operation that got its reply the session itself sees of every field what the
 /// effects make of the value that it saw.
 pub fn own_values_follow()
-    ensures { (m : RecordMap) (by : Session) (op : Op) (reply : Reply) (field : Field) → AreRecords m →
-        tells_its_effects op ≡ true → (step (nodes_of m) by op).reply ≡ reply →
+    ensures { (m : RecordMap) (by : Session) (op : Op) (reply : Reply) (field : Field) →
+        AreRecords m → tells_its_effects op ≡ true → (step (nodes_of m) by op).reply ≡ reply →
         value_of (records_after_all m (effects_of by op reply)) by field ≡
         value_after_all by field (value_of m by field) (effects_of by op reply) }
 {}
@@ -51,9 +51,18 @@ pub fn own_values_follow()
 /// After the effects of a plain operation that got its reply another session sees of a field what it saw before,
 /// unless an exclusive item of the operation meets the field. What it is told of others' modes is apart.
 pub fn other_values_stay()
-    ensures { (m : RecordMap) (by other : Session) (op : Op) (reply : Reply) (field : Field) (kind : LeaseKind) →
-        AreRecords m → tells_its_effects op ≡ true → (step (nodes_of m) by op).reply ≡ reply →
+    ensures { (m : RecordMap) (by other : Session) (op : Op) (reply : Reply) (field : Field)
+        (kind : LeaseKind) → AreRecords m → tells_its_effects op ≡ true →
+        (step (nodes_of m) by op).reply ≡ reply →
         (by.0 == other.0) ≡ false → is_other field ≡ false →
         list_any (item_meets field kind) (walk (known_in (nodes_of m) by) always op).items ≡ false →
-        value_of (records_after_all m (effects_of by op reply)) other field ≡ value_of m other field }
+        value_of (records_after_all m (effects_of by op reply)) other field ≡
+        value_of m other field }
+{}
+
+/// The leases that an operation is answered from take an entry more each, where no lease has too many already.
+pub fn uses_can_be_pinned()
+    ensures { (v : View) (now : ℕ) (op : Op) → are_distinct v.leases ≡ true →
+        have_room (length (uses_in v now op)) v.leases ≡ true →
+        can_pin_all (uses_in v now op) v.leases ≡ true }
 {}

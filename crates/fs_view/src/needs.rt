@@ -48,7 +48,8 @@ impl View {
 /// Keeps the items that are not there.
 fn keep_missing(view: &View, now: u64, needs: &mut Vec<Need>)
     ensures { needs.new.items ≡
-        filter (λ need. not (is_there (known_by view.now now) (given_by view.now now) need)) needs.old.items }
+        filter (λ need. not (is_there (known_by view.now now) (given_by view.now now) need))
+        needs.old.items }
 {
     needs.retain(|need| !is_there(view, now, need));
 }

@@ -1,4 +1,9 @@
 //! A client that answers from its leases.
+ghost use Rattle.std.specs.Prelude.{◌≡◌, true, IfOk};
+ghost use Rattle.fs_record.specs.Effects.{tells_its_effects};
+ghost use Rattle.fs_view.specs.Kept.{takes_pin};
+ghost use Rattle.fs_view.specs.View.{View as Viewed, can_pin_all, stands};
+
 use crate::view::View;
 use fs_field::{Field, LeaseKind, Need, Use, Value};
 use fs_ident::{FileId, Kind, LeaseNo, List, Name, Session, Twin};
@@ -8,10 +13,11 @@ use std::alloc::Global;
 use std::process::Abort;
 use std::test::Fail;
 
-/// The number of a lease of server 0.
-fn number(count: u64) -> LeaseNo {
-    LeaseNo { server: 0, count }
-}
+/// The number of the first lease of server 0.
+const FIRST: LeaseNo = LeaseNo {
+    server: 0,
+    count: 1,
+};
 
 /// Adds a lease, if its number is new and the value fits.
 fn give(
@@ -22,7 +28,8 @@ fn give(
     field: &Field,
     value: Value,
 ) -> Result<(), Fail> {
-    if view.has(number(count)) || !value.is_of(field) {
+    let no = LeaseNo { server: 0, count };
+    if view.has(no) || !value.is_of(field) {
         return Err(Fail::from("no such lease"));
     }
     let kind = match field {
@@ -34,7 +41,7 @@ fn give(
         Field::Life(file) if !file.numbers().is_empty() => Some(&root),
         _ => None,
     };
-    view.grant(alloc, number(count), field, kind, until, value, below)?;
+    view.grant(alloc, no, field, kind, until, value, below)?;
     Ok(())
 }
 
@@ -96,7 +103,9 @@ fn the_lease_that_ends_last_is_used(rt: HostRuntime) -> Result<(), Fail> {
 }
 
 /// The create of one name in the root, under this identifier.
-fn create(alloc: Global, id: Option<FileId>) -> Result<Op, Fail> {
+fn create(alloc: Global, id: Option<FileId>) -> Result<Op, Fail>
+    ensures { IfOk result (λ op. tells_its_effects op ≡ true) }
+{
     Ok(Op::Create {
         dir: FileId::root(alloc),
         name: Name::new(alloc, b"a")?,
@@ -140,24 +149,26 @@ fn an_identifier_is_offered_once(rt: HostRuntime) -> Result<(), Fail> {
     done
 }
 
-/// A lease is recalled, pinned, freed, given back and released.
+/// A lease is recalled, renewed, given back and released.
 fn gives_back(rt: &impl Abort, alloc: Global, view: &mut View) -> Result<(), Fail> {
     let life = Field::Life(FileId::root(alloc));
     give(view, alloc, 1, 100, &life, Value::Life(Some(Kind::Dir)))?;
-    view.recall(number(1));
+    view.recall(FIRST);
+    if view.is_in_hand(FIRST) {
+        view.renew(FIRST, 200);
+    }
+    view.lapse(199);
     let seen = view.leases(alloc)?;
     assert_eq!(rt; seen.len(), 1);
-    view.lapse(99);
-    assert!(rt; view.is_held(number(1)));
-    if view.is_held(number(1)) {
-        view.leave(number(1));
+    if view.is_held(FIRST) {
+        view.leave(FIRST);
     }
-    assert!(rt; view.is_leaving(number(1)));
-    view.lapse(100);
-    if view.is_leaving(number(1)) {
-        view.released(number(1));
+    assert!(rt; view.is_leaving(FIRST));
+    view.lapse(200);
+    if view.is_leaving(FIRST) {
+        view.released(FIRST);
     }
-    assert!(rt; !view.has(number(1)));
+    assert!(rt; !view.has(FIRST));
     Ok(())
 }
 
@@ -169,29 +180,43 @@ fn a_lease_goes_back(rt: HostRuntime) -> Result<(), Fail> {
     done
 }
 
-/// A lease that an entry uses stays when its time is over, in a copy too.
-#[test]
-fn a_pinned_lease_stays(rt: HostRuntime) -> Result<(), Fail> {
-    let alloc = rt.alloc();
+/// The use of the first lease.
+fn first_use(alloc: Global) -> Result<List<Use>, Fail>
+    ensures { IfOk result (λ uses. (v : Viewed) → stands takes_pin FIRST v.leases ≡ true →
+        can_pin_all uses v.leases ≡ true) }
+{
     let mut uses = List::new(alloc);
     uses.push(Use {
         field: Field::Life(FileId::root(alloc)),
         kind: LeaseKind::Shared,
-        no: number(1),
+        no: FIRST,
         until: 100,
     })?;
+    Ok(uses)
+}
+
+/// A lease that an entry uses stays when its time is over, in a copy too.
+#[tactic(auto, using(crate::proofs::Pins::held_fits))]
+fn pins(rt: &impl Abort, alloc: Global, view: &mut View) -> Result<(), Fail> {
     let life = Field::Life(FileId::root(alloc));
-    let mut view = View::new(alloc, Session(1));
-    let value = Value::Life(Some(Kind::Dir));
-    let granted = view.grant(alloc, number(1), &life, LeaseKind::Shared, 100, value, None);
-    if granted.is_ok() {
-        view.pin(&uses);
-        view.lapse(100);
-        assert!(rt; view.has(number(1)));
-        view.renew(number(1), 200);
-        view.unpin(&uses);
-        assert!(rt; view.is_held(number(1)));
+    give(view, alloc, 1, 100, &life, Value::Life(Some(Kind::Dir)))?;
+    let uses = first_use(alloc)?;
+    if !view.is_held(FIRST) {
+        return Err(Fail::from("it was granted"));
     }
+    view.pin(&uses);
+    view.lapse(100);
+    assert!(rt; view.has(FIRST) && !view.is_held(FIRST));
+    let twin = view.copy(alloc)?;
+    assert!(rt; twin.has(FIRST));
+    twin.discard();
+    Ok(())
+}
+
+#[test]
+fn a_pinned_lease_stays(rt: HostRuntime) -> Result<(), Fail> {
+    let mut view = View::new(rt.alloc(), Session(1));
+    let done = pins(&rt, rt.alloc(), &mut view);
     view.discard();
-    Ok(granted?)
+    done
 }

@@ -34,7 +34,8 @@ impl Model for View {
 
     ghost Value = { Knowing };
 
-    ghost view = { λ v. record { session = v.session; leases = v.leases.items; pending = v.pending } };
+    ghost view = { λ v.
+        record { session = v.session; leases = v.leases.items; pending = v.pending } };
 
     ghost invariant = { λ v. are_distinct v.leases.items ≡ true };
 }
