@@ -13,10 +13,10 @@ use Rattle.fs_view.specs.Script.{Script, answer, ask_others, ask_selves}
 use Rattle.fs_view.specs.Walk.{Known, Given, behind, walk_along}
 use Rattle.fs_view.specs.Modes.{others_before, selves_before}
 
-pub others_along : (known : Known) (given : Given) (ms : List Mode) (file : List ℕ) (found : Bool) (go : Script) → others_before known ms file found (walk_along known given go) ≡ walk_along known given (ask_others ms file found go)
-others_along known given [] file true go = refl
-others_along known given [] file false go = refl
-others_along known given (m ∷ ms) file found go = ap (behind (Lease (Other file m) Shared) (is_some (known (Other file m) Shared))) (others_along known given ms file (found || is_other_told (known (Other file m) Shared)) go)
+pub others_along : (known : Known) (given : Given) (r : Reply) (ms : List Mode) (file : List ℕ) (found : Bool) (go : Script) → others_before known r ms file found (walk_along known given go) ≡ walk_along known given (ask_others r ms file found go)
+others_along known given r [] file true go = refl
+others_along known given r [] file false go = refl
+others_along known given r (m ∷ ms) file found go = ap (behind (Lease (Other file m) Shared) (is_some (known (Other file m) Shared))) (others_along known given r ms file (found || is_other_told (known (Other file m) Shared)) go)
 
 pub selves_along : (known : Known) (given : Given) (ms : List Mode) (file : List ℕ) (r : Reply) → selves_before known ms file (walk_along known given (answer r)) ≡ walk_along known given (ask_selves ms file r)
 selves_along known given [] file r = refl

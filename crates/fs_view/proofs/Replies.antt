@@ -109,17 +109,17 @@ or_assoc : (a b c : Bool) → ((a || b) || c) ≡ (a || (b || c))
 or_assoc true b c = refl
 or_assoc false b c = refl
 
-others_is : (m : NodeMap) (s : Session) (ms : List Mode) (file : List ℕ) (told : Bool) (go : Script) → reply_along m s (ask_others ms file told go) ≡ cond (told || list_any (λ md. others_have s md (handles_of (get m file))) ms) (Some reply.Sharing) (reply_along m s go)
-others_is m s [] file true go = refl
-others_is m s [] file false go = refl
-others_is m s (md ∷ ms) file told go =
-    others_is m s ms file (told || others_have s md (handles_of (get m file))) go
-    ∙ ap (λ b. cond b (Some reply.Sharing) (reply_along m s go)) (or_assoc told (others_have s md (handles_of (get m file))) (list_any (λ md. others_have s md (handles_of (get m file))) ms))
+pub others_is : (m : NodeMap) (s : Session) (r : Reply) (ms : List Mode) (file : List ℕ) (told : Bool) (go : Script) → reply_along m s (ask_others r ms file told go) ≡ cond (told || list_any (λ md. others_have s md (handles_of (get m file))) ms) (Some r) (reply_along m s go)
+others_is m s r [] file true go = refl
+others_is m s r [] file false go = refl
+others_is m s r (md ∷ ms) file told go =
+    others_is m s r ms file (told || others_have s md (handles_of (get m file))) go
+    ∙ ap (λ b. cond b (Some r) (reply_along m s go)) (or_assoc told (others_have s md (handles_of (get m file))) (list_any (λ md. others_have s md (handles_of (get m file))) ms))
 
 free_is : (m : NodeMap) (s : Session) (own : Handles) (file : List ℕ) (modes : Modes) (c : Bool) → reply_along m s (open_free c own file modes) ≡ cond (c || list_any (λ md. others_have s md (handles_of (get m file))) (modes_listed (opposing modes))) (Some reply.Sharing) (Some reply.Opened)
 free_is m s own file modes true = refl
 free_is m s own file modes false =
-    others_is m s (modes_listed (opposing modes)) file false (ask_selves (modes_listed (modes_on own modes)) file reply.Opened)
+    others_is m s reply.Sharing (modes_listed (opposing modes)) file false (ask_selves (modes_listed (modes_on own modes)) file reply.Opened)
     ∙ ap (cond (list_any (λ md. others_have s md (handles_of (get m file))) (modes_listed (opposing modes))) (Some reply.Sharing)) (selves_is m s (modes_listed (modes_on own modes)) file reply.Opened)
 
 along_if : (m : NodeMap) (s : Session) (a : Bool) (x y : Script) → reply_along m s (cond a x y) ≡ cond a (reply_along m s x) (reply_along m s y)

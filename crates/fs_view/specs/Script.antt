@@ -1,10 +1,13 @@
 -- The table of needs: what the answer to an operation stands on, one field after another, and the answer. What is asked
 -- next depends on what is known of the fields before: an item is left out only where a value that is known refutes its
 -- condition; an item that a value names waits for that value.
-use Rattle.std.specs.Prelude.{ℕ, Bool, true, false, ◌||◌, List, [], ◌∷◌, Option, Some, None, is_some, if◌then◌else◌}
+use Rattle.std.specs.Prelude.{ℕ, Bool, true, false, ◌&&◌, ◌||◌, List, [], ◌∷◌, Option, Some, None, is_some, if◌then◌else◌}
+use Rattle.std.specs.List.{list_any}
+use Rattle.fs_ident.specs.Ident.{same}
 use Rattle.fs_ident.specs.declared.kind.Kind.{Kind}
 use Rattle.fs_ident.specs.declared.kind.Kind.TheVariants.{File, Dir}
 use Rattle.fs_modes.specs.declared.modes.Mode.{Mode}
+use Rattle.fs_modes.specs.declared.modes.Mode.TheVariants.{AccR, AccW, AccD, DenyD}
 use Rattle.fs_modes.specs.declared.modes.Modes.{Modes}
 use Rattle.fs_modes.specs.Modes.{opposing, without}
 use Rattle.fs_field.specs.declared.field.Field.{Field}
@@ -41,6 +44,13 @@ no_dir (Some None) = Some reply.Gone
 no_dir (Some (Some File)) = Some reply.NotDir
 no_dir (Some (Some Dir)) = None
 
+-- the reply where it is known that no directory is there for a file to come to
+abbrev pub no_dir_to : Option (Option Kind) → Option Reply
+no_dir_to None = None
+no_dir_to (Some None) = Some reply.GoneTo
+no_dir_to (Some (Some File)) = Some reply.NotDirTo
+no_dir_to (Some (Some Dir)) = None
+
 -- the reply where it is known that the file does not live
 abbrev pub no_file : Option (Option Kind) → Option Reply
 no_file None = None
@@ -53,11 +63,17 @@ taken_name None = None
 taken_name (Some None) = None
 taken_name (Some (Some file)) = Some reply.Exists
 
+-- the reply where it is known that nothing has the name
+abbrev pub no_name : Option (Option (List ℕ)) → Option Reply
+no_name None = None
+no_name (Some None) = Some reply.NoName
+no_name (Some (Some file)) = None
+
 -- each of these modes, as it is with the other sessions, and then, unless it is known that one of them has one, on
-abbrev pub ask_others : List Mode → List ℕ → Bool → Script → Script
-ask_others [] file true go = answer reply.Sharing
-ask_others [] file false go = go
-ask_others (m ∷ ms) file found go = ask (Other file m) Shared (λ v. ask_others ms file (found || is_other_told v) go)
+abbrev pub ask_others : Reply → List Mode → List ℕ → Bool → Script → Script
+ask_others r [] file true go = answer r
+ask_others r [] file false go = go
+ask_others r (m ∷ ms) file found go = ask (Other file m) Shared (λ v. ask_others r ms file (found || is_other_told v) go)
 
 -- each of these modes, as the session itself has it
 abbrev pub ask_selves : List Mode → List ℕ → Reply → Script
@@ -106,10 +122,10 @@ modes_off own h = without (all_modes own) (all_modes (without_handle own h))
 
 abbrev pub open_free : Bool → Handles → List ℕ → Modes → Script
 open_free true own file modes = answer reply.Sharing
-open_free false own file modes = ask_others (modes_listed (opposing modes)) file false (ask_selves (modes_listed (modes_on own modes)) file reply.Opened)
+open_free false own file modes = ask_others reply.Sharing (modes_listed (opposing modes)) file false (ask_selves (modes_listed (modes_on own modes)) file reply.Opened)
 
 abbrev pub open_with : Option Handles → List ℕ → ℕ → Modes → Script
-open_with None file h modes = ask_others (modes_listed (opposing modes)) file false (answer reply.Opened)
+open_with None file h modes = ask_others reply.Sharing (modes_listed (opposing modes)) file false (answer reply.Opened)
 open_with (Some own) file h modes = if is_some (modes_under own h) then answer reply.HandleUsed else open_free (own_conflicts own modes) own file modes
 
 abbrev pub close_with : Option Handles → List ℕ → ℕ → Script
@@ -151,7 +167,73 @@ ask_own file h modes = ask (Own file) Exclusive (λ own. open_with (own_told own
 abbrev pub ask_set : List ℕ → ℕ → Script
 ask_set file h = ask (Own file) Exclusive (λ own. unless (no_set (own_told own) h) (ask_size file))
 
--- ## The table, for what asks for no rename and no delete
+-- ## Deletes
+
+-- the reply where it is known that the file has children
+abbrev pub not_empty : Option (List (List ℕ)) → Option Reply
+not_empty None = None
+not_empty (Some []) = None
+not_empty (Some (name ∷ names)) = Some reply.NotEmpty
+
+-- the reply where it is known that the session has a handle
+abbrev pub in_use : Option Handles → Option Reply
+in_use None = None
+in_use (Some []) = None
+in_use (Some (x ∷ xs)) = Some reply.InUse
+
+abbrev pub accesses : List Mode
+accesses = AccR ∷ AccW ∷ AccD ∷ []
+
+abbrev pub ask_unused : List ℕ → Script
+ask_unused file = ask (Own file) Exclusive (λ own. unless (in_use (own_told own)) (ask_others reply.InUse accesses file false (answer reply.Deleted)))
+
+abbrev pub ask_empty : List ℕ → Script
+ask_empty file = ask (Names file) Shared (λ names. unless (not_empty (names_told names)) (ask_unused file))
+
+-- what is asked of the file waits until it is known which file it is
+abbrev pub ask_deleted : Option (Option (List ℕ)) → Script
+ask_deleted (Some (Some file)) = ask (Life file) Exclusive (λ life. ask_empty file)
+ask_deleted v = answer reply.NoName
+
+abbrev pub ask_delete : List ℕ → List ℕ → Script
+ask_delete dir name = ask (Child dir name) Exclusive (λ child. ask_deleted (child_told child))
+
+-- ## Renames; whether a directory would come into itself is told by no field, and is tested elsewhere
+
+-- one of the handles keeps others from deleting or moving the file
+abbrev pub own_denies_delete : Handles → Bool
+own_denies_delete own = list_any (λ x. x.1.deny_d) own
+
+-- the reply where it is known that a handle of the session does so
+abbrev pub denied : Option Handles → Option Reply
+denied None = None
+denied (Some own) = if own_denies_delete own then Some reply.Sharing else None
+
+abbrev pub ask_movable : List ℕ → Script
+ask_movable file = ask (Own file) Exclusive (λ own. unless (denied (own_told own)) (ask_others reply.Sharing (DenyD ∷ []) file false (answer reply.Renamed)))
+
+-- the life of each file is asked for once, and that of both directories stands before
+abbrev pub ask_moved_file : List ℕ → List ℕ → List ℕ → Script
+ask_moved_file sdir ddir file = if same file sdir || same file ddir then ask_movable file else ask (Life file) Shared (λ life. ask_movable file)
+
+abbrev pub ask_moved : List ℕ → List ℕ → Option (Option (List ℕ)) → Script
+ask_moved sdir ddir (Some (Some file)) = ask_moved_file sdir ddir file
+ask_moved sdir ddir v = answer reply.Renamed
+
+abbrev pub ask_new_place : List ℕ → List ℕ → List ℕ → Option (Option (List ℕ)) → Script
+ask_new_place sdir ddir dname moved = ask (Child ddir dname) Exclusive (λ child. unless (taken_name (child_told child)) (ask_moved sdir ddir moved))
+
+-- a file that stays at its place asks for nothing more
+abbrev pub ask_unless_there : List ℕ → List ℕ → List ℕ → List ℕ → Option (Option (List ℕ)) → Script
+ask_unless_there sdir sname ddir dname moved = if same sdir ddir && same sname dname then answer reply.Renamed else ask_new_place sdir ddir dname moved
+
+abbrev pub ask_old_place : List ℕ → List ℕ → List ℕ → List ℕ → Script
+ask_old_place sdir sname ddir dname = ask (Child sdir sname) Exclusive (λ child. unless (no_name (child_told child)) (ask_unless_there sdir sname ddir dname (child_told child)))
+
+abbrev pub ask_rename : List ℕ → List ℕ → List ℕ → List ℕ → Script
+ask_rename sdir sname ddir dname = if same sdir ddir then ask_old_place sdir sname ddir dname else ask (Life ddir) Shared (λ life. unless (no_dir_to (life_told life)) (ask_old_place sdir sname ddir dname))
+
+-- ## The table
 
 abbrev pub script_of : Op → Script
 script_of (op.Lookup dir name) = ask (Life dir) Shared (λ life. unless (no_dir (life_told life)) (ask_child dir name))
@@ -162,7 +244,6 @@ script_of (op.Create dir name kind id) = ask_create dir name id
 script_of (op.OpenFile file h modes) = ask (Life file) Shared (λ life. unless (no_file (life_told life)) (ask_own file h modes))
 script_of (op.Close file h) = ask (Own file) Exclusive (λ own. close_with (own_told own) file h)
 script_of (op.Set file h size stamp) = ask_set file h
--- renames and deletes are led: their rows of the table come with that
-script_of (op.Delete dir name) = answer reply.Gone
-script_of (op.Rename sdir sname ddir dname) = answer reply.Gone
+script_of (op.Delete dir name) = ask (Life dir) Shared (λ life. unless (no_dir (life_told life)) (ask_delete dir name))
+script_of (op.Rename sdir sname ddir dname) = ask (Life sdir) Shared (λ life. unless (no_dir (life_told life)) (ask_rename sdir sname ddir dname))
 script_of (op.Reap file session) = answer reply.Reaped

@@ -3,11 +3,14 @@
 
 mod admit;
 mod change;
+mod delete;
 mod kept;
 mod known;
 mod law;
 mod needs;
+mod rename;
 mod seen;
+mod table;
 #[cfg(test)]
 mod tests;
 mod told;

@@ -4,8 +4,9 @@ ghost use Rattle.std.specs.List.{filter_map};
 ghost use Rattle.fs_view.specs.View.{given_by, item_use, known_by, missing_in, reply_in, uses_in};
 ghost use Rattle.fs_view.specs.Walk.{is_there};
 
+use crate::table::walk_of;
 use crate::view::View;
-use crate::walk::{Walk, walk_of};
+use crate::walk::Walk;
 use fs_field::{Need, Use};
 use fs_ident::{List, Memory};
 use fs_model::{Op, Reply};

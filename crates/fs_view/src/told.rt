@@ -2,7 +2,7 @@
 ghost use Rattle.std.specs.Prelude.{◌≡◌, filter, option_map, IfOk};
 ghost use Rattle.fs_field.specs.After.{without_handle};
 ghost use Rattle.fs_modes.specs.Modes.{has};
-ghost use Rattle.fs_view.specs.Script.{info_reply, kind_reply, look_up_reply, made_reply, modes_off, modes_on, names_reply, no_dir, no_file, no_write, taken_name};
+ghost use Rattle.fs_view.specs.Script.{info_reply, kind_reply, look_up_reply, made_reply, modes_off, modes_on, names_reply, no_dir, no_dir_to, no_file, no_name, no_write, not_empty, own_denies_delete, denied, in_use, taken_name};
 ghost use Rattle.fs_view.specs.Told.{all_modes, child_told, is_other_told, life_told, modes_listed, modes_under, names_told, own_conflicts, own_told};
 
 use fs_field::Value;
@@ -18,6 +18,17 @@ pub fn no_dir(life: &Option<Value>) -> Option<Reply>
     match life {
         Some(Value::Life(None)) => Some(Reply::Gone),
         Some(Value::Life(Some(Kind::File))) => Some(Reply::NotDir),
+        _ => None,
+    }
+}
+
+/// The reply where it is known that no directory is there for a file to come to.
+pub fn no_dir_to(life: &Option<Value>) -> Option<Reply>
+    ensures { result ≡ no_dir_to (life_told life.now) }
+{
+    match life {
+        Some(Value::Life(None)) => Some(Reply::GoneTo),
+        Some(Value::Life(Some(Kind::File))) => Some(Reply::NotDirTo),
         _ => None,
     }
 }
@@ -40,6 +51,53 @@ pub fn taken_name(child: &Option<Value>) -> Option<Reply>
         Some(Value::Child(Some(_))) => Some(Reply::Exists),
         _ => None,
     }
+}
+
+/// The reply where it is known that nothing has the name.
+pub fn no_name(child: &Option<Value>) -> Option<Reply>
+    ensures { result ≡ no_name (child_told child.now) }
+{
+    match child {
+        Some(Value::Child(None)) => Some(Reply::NoName),
+        _ => None,
+    }
+}
+
+/// The reply where it is known that the file has children.
+pub fn not_empty(names: &Option<Value>) -> Option<Reply>
+    ensures { result ≡ not_empty (names_told names.now) }
+{
+    match names {
+        Some(Value::Names(names)) if !names.is_empty() => Some(Reply::NotEmpty),
+        _ => None,
+    }
+}
+
+/// The reply where it is known that the session has a handle.
+pub fn in_use(own: &Option<Value>) -> Option<Reply>
+    ensures { result ≡ in_use (own_told own.now) }
+{
+    match own {
+        Some(Value::Own(own)) if !own.is_empty() => Some(Reply::InUse),
+        _ => None,
+    }
+}
+
+/// The reply where it is known that a handle of the session keeps others from deleting or moving the file.
+pub fn denied(own: &Option<Value>) -> Option<Reply>
+    ensures { result ≡ denied (own_told own.now) }
+{
+    match own {
+        Some(Value::Own(own)) if own_denies_delete(own.as_slice()) => Some(Reply::Sharing),
+        _ => None,
+    }
+}
+
+/// Whether one of the handles keeps others from deleting or moving the file.
+fn own_denies_delete(own: &[(u32, Modes)]) -> bool
+    ensures { result ≡ own_denies_delete own.now }
+{
+    own.iter().any(|x| x.1.deny_d)
 }
 
 /// The reply to a look-up.

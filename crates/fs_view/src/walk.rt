@@ -14,7 +14,7 @@ use crate::told;
 use crate::view::View;
 use fs_field::{Field, LeaseKind, Need, Value};
 use fs_ident::{FileId, List, Memory, Name, Twin};
-use fs_model::{Op, Reply};
+use fs_model::Reply;
 use fs_modes::{Mode, Modes};
 use std::alloc::Global;
 
@@ -27,14 +27,14 @@ pub struct Walk {
 
 /// An item of a walk, and whether it is there.
 #[derive(Debug, Drop)]
-struct Item {
+pub struct Item {
     need: Need,
     there: bool,
 }
 
 impl Walk {
     /// Nothing more is asked for.
-    fn answer(alloc: Global, reply: Reply) -> Walk
+    pub fn answer(alloc: Global, reply: Reply) -> Walk
         ensures { result ≡ record { items = []; reply = Some reply } }
     {
         Walk {
@@ -46,7 +46,7 @@ impl Walk {
 
 impl Item {
     /// The walk with this item before it.
-    fn before(self, walk: Walk) -> Result<Walk, Memory>
+    pub fn before(self, walk: Walk) -> Result<Walk, Memory>
         ensures { IfOk result (λ w. w ≡ behind self.need self.there walk) }
     {
         let Item { need, there } = self;
@@ -60,7 +60,7 @@ impl Item {
 }
 
 /// The item of the field, and what is known of it.
-fn ask(
+pub fn ask(
     view: &View,
     alloc: Global,
     now: u64,
@@ -80,44 +80,13 @@ fn ask(
     Ok((item, value))
 }
 
-/// The walk of the operation's row of the table.
-pub fn walk_of(view: &View, alloc: Global, now: u64, op: &Op) -> Result<Walk, Memory>
-    ensures { IfOk result (λ w. w ≡ walk_in view.now now op.now) }
-{
-    match op {
-        Op::Lookup { dir, name } => look_up(view, alloc, now, dir, name),
-        Op::List { dir } => list(view, alloc, now, dir),
-        Op::Kind { file } => kind(view, alloc, now, file),
-        Op::Info { file } => info(view, alloc, now, file),
-        Op::Create {
-            dir,
-            name,
-            kind: _,
-            id,
-        } => create(view, alloc, now, dir, name, id),
-        Op::OpenFile { file, h, modes } => open(view, alloc, now, file, *h, *modes),
-        Op::Close { file, h } => close(view, alloc, now, file, *h),
-        Op::Set {
-            file,
-            h,
-            size: _,
-            stamp: _,
-        } => set(view, alloc, now, file, *h),
-        Op::Delete { dir: _, name: _ } => Ok(Walk::answer(alloc, Reply::Gone)),
-        Op::Rename {
-            sdir: _,
-            sname: _,
-            ddir: _,
-            dname: _,
-        } => Ok(Walk::answer(alloc, Reply::Gone)),
-        Op::Reap {
-            file: _,
-            session: _,
-        } => Ok(Walk::answer(alloc, Reply::Reaped)),
-    }
-}
-
-fn look_up(view: &View, alloc: Global, now: u64, dir: &FileId, name: &Name) -> Result<Walk, Memory>
+pub fn look_up(
+    view: &View,
+    alloc: Global,
+    now: u64,
+    dir: &FileId,
+    name: &Name,
+) -> Result<Walk, Memory>
     ensures { IfOk result (λ w. w ≡ walk_in view.now now (op.Lookup dir.now name.now)) }
 {
     let field = Field::Life(dir.copy(alloc)?);
@@ -142,7 +111,7 @@ fn look_up_child(
     item.before(Walk::answer(alloc, told::look_up_reply(child)))
 }
 
-fn list(view: &View, alloc: Global, now: u64, dir: &FileId) -> Result<Walk, Memory>
+pub fn list(view: &View, alloc: Global, now: u64, dir: &FileId) -> Result<Walk, Memory>
     ensures { IfOk result (λ w. w ≡ walk_in view.now now (op.List dir.now)) }
 {
     let field = Field::Life(dir.copy(alloc)?);
@@ -161,7 +130,7 @@ fn list_names(view: &View, alloc: Global, now: u64, dir: &FileId) -> Result<Walk
     item.before(Walk::answer(alloc, told::names_reply(alloc, names)))
 }
 
-fn kind(view: &View, alloc: Global, now: u64, file: &FileId) -> Result<Walk, Memory>
+pub fn kind(view: &View, alloc: Global, now: u64, file: &FileId) -> Result<Walk, Memory>
     ensures { IfOk result (λ w. w ≡ walk_in view.now now (op.Kind file.now)) }
 {
     let field = Field::Life(file.copy(alloc)?);
@@ -169,7 +138,7 @@ fn kind(view: &View, alloc: Global, now: u64, file: &FileId) -> Result<Walk, Mem
     item.before(Walk::answer(alloc, told::kind_reply(&life)))
 }
 
-fn info(view: &View, alloc: Global, now: u64, file: &FileId) -> Result<Walk, Memory>
+pub fn info(view: &View, alloc: Global, now: u64, file: &FileId) -> Result<Walk, Memory>
     ensures { IfOk result (λ w. w ≡ walk_in view.now now (op.Info file.now)) }
 {
     let field = Field::Life(file.copy(alloc)?);
@@ -188,7 +157,7 @@ fn info_told(view: &View, alloc: Global, now: u64, file: &FileId) -> Result<Walk
     item.before(Walk::answer(alloc, told::info_reply(&info)))
 }
 
-fn create(
+pub fn create(
     view: &View,
     alloc: Global,
     now: u64,
@@ -249,7 +218,7 @@ fn make(
     }
 }
 
-fn open(
+pub fn open(
     view: &View,
     alloc: Global,
     now: u64,
@@ -338,7 +307,7 @@ fn open_free(
     opposed(view, alloc, now, file, modes, opened)
 }
 
-fn close(view: &View, alloc: Global, now: u64, file: &FileId, h: u32) -> Result<Walk, Memory>
+pub fn close(view: &View, alloc: Global, now: u64, file: &FileId, h: u32) -> Result<Walk, Memory>
     ensures { IfOk result (λ w. w ≡ walk_in view.now now (op.Close file.now h)) }
 {
     let field = Field::Own(file.copy(alloc)?);
@@ -366,7 +335,7 @@ fn close_one(
     turned(view, alloc, now, file, off, Reply::Closed)
 }
 
-fn set(view: &View, alloc: Global, now: u64, file: &FileId, h: u32) -> Result<Walk, Memory>
+pub fn set(view: &View, alloc: Global, now: u64, file: &FileId, h: u32) -> Result<Walk, Memory>
     ensures { IfOk result (λ w. w ≡ along view.now now (ask_set file.now h)) }
 {
     let field = Field::Own(file.copy(alloc)?);
@@ -398,10 +367,20 @@ fn opposed(
     rest: Walk,
 ) -> Result<Walk, Memory>
     ensures { IfOk result (λ w. w ≡
-        others_before (known_by view.now now) (modes_listed (opposing modes)) file.now false rest) }
+        others_before (known_by view.now now) reply.Sharing (modes_listed (opposing modes)) file.now
+        false rest) }
 {
     let opposing = told::modes_listed(alloc, modes.opposing())?;
-    others(view, alloc, now, &opposing, file, false, rest)
+    others(
+        view,
+        alloc,
+        now,
+        Reply::Sharing,
+        &opposing,
+        file,
+        false,
+        rest,
+    )
 }
 
 /// Each of the modes as the session itself has it, and the reply.
@@ -422,21 +401,22 @@ fn turned(
 }
 
 /// Each of the modes as it is with the other sessions, and the walk, unless one of them has one.
-fn others(
+pub fn others(
     view: &View,
     alloc: Global,
     now: u64,
+    reply: Reply,
     modes: &[Mode],
     file: &FileId,
     found: bool,
     rest: Walk,
 ) -> Result<Walk, Memory>
     ensures { IfOk result (λ w. w ≡
-        others_before (known_by view.now now) modes.now file.now found rest) }
+        others_before (known_by view.now now) reply modes.now file.now found rest) }
 {
     let Some((mode, more)) = modes.split_first() else {
         return Ok(if found {
-            Walk::answer(alloc, Reply::Sharing)
+            Walk::answer(alloc, reply)
         } else {
             rest
         });
@@ -444,7 +424,7 @@ fn others(
     let field = Field::Other(file.copy(alloc)?, *mode);
     let (item, other) = ask(view, alloc, now, field, LeaseKind::Shared)?;
     let found = found || told::is_other_told(&other);
-    item.before(others(view, alloc, now, more, file, found, rest)?)
+    item.before(others(view, alloc, now, reply, more, file, found, rest)?)
 }
 
 /// Each of the modes as the session itself has it, and the walk.

@@ -1,7 +1,7 @@
 use Rattle.std.proofs.Common.{false, ap, ◌∙◌}
 use Rattle.fs_modes.specs.declared.modes.Modes.{Modes}
 use Rattle.fs_modes.specs.Modes.{opposing}
-use Rattle.fs_model.specs.declared.reply.Reply.TheVariants.{Opened}
+use Rattle.fs_model.specs.declared.reply.Reply.TheVariants.{Opened, Sharing}
 use Rattle.fs_view.specs.Modes.{others_before}
 use Rattle.fs_view.specs.Script.{ask_selves, modes_on}
 use Rattle.fs_view.specs.Told.{modes_listed}
@@ -16,4 +16,4 @@ returns c =
     let file = c.args.file.now in
     let six = modes_listed (opposing c.args.modes) in
     let opened = c.in_ok-opened.ensures ∙ ap (λ (on : Modes). along v c.args.now (ask_selves (modes_listed on) file Opened)) c.modes_on-on.ensures in
-    as_well c.opposed.result _ _ (ap (others_before known six file false) opened ∙ others_along known (given_by v c.args.now) six file false (ask_selves (modes_listed (modes_on c.args.own.now c.args.modes)) file Opened)) c.opposed.ensures
+    as_well c.opposed.result _ _ (ap (others_before known Sharing six file false) opened ∙ others_along known (given_by v c.args.now) Sharing six file false (ask_selves (modes_listed (modes_on c.args.own.now c.args.modes)) file Opened)) c.opposed.ensures
