@@ -6,6 +6,7 @@ pub mod ModeItems
 pub mod Walks
 pub mod Conflicting
 pub mod Replies
+pub mod Led
 pub mod Reading
 pub mod Seeing
 pub mod Unseen

@@ -30,7 +30,7 @@ use Rattle.fs_view.specs.Laws.{IsNewWhereMade}
 use Rattle.fs_view.proofs.Conflicting.{own_handle, split, others_conflict}
 
 -- what a walk along a part of the table comes to in a space
-abbrev reply_along : NodeMap → Session → Script → Option Reply
+abbrev pub reply_along : NodeMap → Session → Script → Option Reply
 reply_along m s script = (walk_along (known_in m s) always script).reply
 
 -- ## Reads
@@ -122,11 +122,11 @@ free_is m s own file modes false =
     others_is m s reply.Sharing (modes_listed (opposing modes)) file false (ask_selves (modes_listed (modes_on own modes)) file reply.Opened)
     ∙ ap (cond (list_any (λ md. others_have s md (handles_of (get m file))) (modes_listed (opposing modes))) (Some reply.Sharing)) (selves_is m s (modes_listed (modes_on own modes)) file reply.Opened)
 
-along_if : (m : NodeMap) (s : Session) (a : Bool) (x y : Script) → reply_along m s (cond a x y) ≡ cond a (reply_along m s x) (reply_along m s y)
+pub along_if : (m : NodeMap) (s : Session) (a : Bool) (x y : Script) → reply_along m s (cond a x y) ≡ cond a (reply_along m s x) (reply_along m s y)
 along_if m s true x y = refl
 along_if m s false x y = refl
 
-step_if : (a : Bool) (x y : Stepped) → Some (cond a x y).reply ≡ cond a (Some x.reply) (Some y.reply)
+pub step_if : (a : Bool) (x y : Stepped) → Some (cond a x y).reply ≡ cond a (Some x.reply) (Some y.reply)
 step_if true x y = refl
 step_if false x y = refl
 

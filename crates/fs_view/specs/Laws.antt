@@ -37,6 +37,11 @@ IsNewWhereMade m (op.Create dir name kind None) reply.Made = ⊥
 IsNewWhereMade m (op.Create dir name kind (Some id)) reply.Made = (is_child dir id ≡ true) × (get m id ≡ None)
 IsNewWhereMade m o r = Unit {0}
 
+-- the reply as far as fields tell it: no field tells that a directory would come into itself
+abbrev pub but_cycle : Reply → Reply
+but_cycle reply.Cycle = reply.Renamed
+but_cycle r = r
+
 -- the records after the effects, one after another
 abbrev pub records_after_all : RecordMap → List Effect → RecordMap
 records_after_all m [] = m

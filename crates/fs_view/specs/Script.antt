@@ -230,8 +230,11 @@ ask_unless_there sdir sname ddir dname moved = if same sdir ddir && same sname d
 abbrev pub ask_old_place : List ℕ → List ℕ → List ℕ → List ℕ → Script
 ask_old_place sdir sname ddir dname = ask (Child sdir sname) Exclusive (λ child. unless (no_name (child_told child)) (ask_unless_there sdir sname ddir dname (child_told child)))
 
+abbrev pub ask_other_dir : List ℕ → List ℕ → List ℕ → List ℕ → Script
+ask_other_dir sdir sname ddir dname = ask (Life ddir) Shared (λ life. unless (no_dir_to (life_told life)) (ask_old_place sdir sname ddir dname))
+
 abbrev pub ask_rename : List ℕ → List ℕ → List ℕ → List ℕ → Script
-ask_rename sdir sname ddir dname = if same sdir ddir then ask_old_place sdir sname ddir dname else ask (Life ddir) Shared (λ life. unless (no_dir_to (life_told life)) (ask_old_place sdir sname ddir dname))
+ask_rename sdir sname ddir dname = if same sdir ddir then ask_old_place sdir sname ddir dname else ask_other_dir sdir sname ddir dname
 
 -- ## The table
 

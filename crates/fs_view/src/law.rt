@@ -1,18 +1,19 @@
 //! Laws of needs and replies.
-ghost use Rattle.std.specs.Prelude.{◌≡◌, ◌==◌, ℕ, length, false, true, not, Some, is_some};
+ghost use Rattle.std.specs.Prelude.{◌≡◌, ◌==◌, ℕ, length, List, false, true, not, Some, is_some};
 ghost use Rattle.std.specs.List.{list_any};
 ghost use Rattle.fs_field.specs.declared.field.Field.{Field};
 ghost use Rattle.fs_field.specs.declared.lease_kind.LeaseKind.{LeaseKind};
 ghost use Rattle.fs_ident.specs.declared.actor.Session.{Session};
 ghost use Rattle.fs_model.specs.Namespace.{NodeMap};
-ghost use Rattle.fs_model.specs.Sound.{is_change};
+ghost use Rattle.fs_model.specs.Sound.{IsSound, is_change};
 ghost use Rattle.fs_model.specs.Step.{is_empty, step};
 ghost use Rattle.fs_model.specs.declared.op.Op.{Op};
+ghost use Rattle.fs_model.specs.declared.op.Op.TheVariants as op;
 ghost use Rattle.fs_model.specs.declared.reply.Reply.{Reply};
 ghost use Rattle.fs_record.specs.Effects.{effects_of, tells_its_effects};
 ghost use Rattle.fs_record.specs.Records.{AreRecords, RecordMap, nodes_of};
 ghost use Rattle.fs_record.specs.ValueOf.{is_other, value_of};
-ghost use Rattle.fs_view.specs.Laws.{HasAll, IsNewWhereMade, have_room, item_meets, records_after_all};
+ghost use Rattle.fs_view.specs.Laws.{but_cycle, HasAll, IsNewWhereMade, have_room, item_meets, records_after_all};
 ghost use Rattle.fs_view.specs.View.{View, are_distinct, can_pin_all, uses_in, value_after_all};
 ghost use Rattle.fs_view.specs.Walk.{Known, Given, walk, known_in, always};
 
@@ -31,6 +32,21 @@ pub fn replies_are_the_step()
     ensures { (m : NodeMap) (by : Session) (op : Op) (reply : Reply) → tells_its_effects op ≡ true →
         IsNewWhereMade m op reply → (walk (known_in m by) always op).reply ≡ Some reply →
         (step m by op).reply ≡ reply }
+{}
+
+/// With the values of a sound space the reply of a delete is the one that it gets in that space.
+pub fn deletes_are_the_step()
+    ensures { (m : NodeMap) (by : Session) (dir name : List ℕ) → IsSound m →
+        (walk (known_in m by) always (op.Delete dir name)).reply ≡
+        Some (step m by (op.Delete dir name)).reply }
+{}
+
+/// With the values of a space the reply of a rename is the one that it gets in that space, but that no field tells
+/// that a directory would come into itself.
+pub fn renames_are_the_step()
+    ensures { (m : NodeMap) (by : Session) (sdir sname ddir dname : List ℕ) →
+        (walk (known_in m by) always (op.Rename sdir sname ddir dname)).reply ≡
+        Some (but_cycle (step m by (op.Rename sdir sname ddir dname)).reply) }
 {}
 
 /// A plain operation has effects exactly where its reply is one of a change.

@@ -19,8 +19,8 @@ mod walk;
 
 pub use kept::{Kept, Standing};
 pub use law::{
-    needs_are_enough, other_values_stay, own_values_follow, reads_have_no_effects,
-    replies_are_the_step,
+    deletes_are_the_step, needs_are_enough, other_values_stay, own_values_follow,
+    reads_have_no_effects, renames_are_the_step, replies_are_the_step, uses_can_be_pinned,
 };
 pub use seen::Seen;
 pub use view::View;

@@ -32,7 +32,8 @@ impl View {
         uses_of(self, alloc, now, items.as_slice())
     }
 
-    /// The reply to the operation at the reading.
+    /// The reply to the operation at the reading. Whether a rename would bring a directory into itself is told by no
+    /// lease: that is tested elsewhere, and `Renamed` here.
     #[tactic(auto, using(crate::proofs::Walks::replied))]
     pub fn reply(&self, alloc: Global, now: u64, op: &Op) -> Result<Reply, Memory>
         requires { missing_in self.now now op.now ≡ [] }
