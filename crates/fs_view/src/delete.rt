@@ -85,7 +85,8 @@ fn delete_unused(view: &View, alloc: Global, now: u64, file: &FileId) -> Result<
 /// Each access as it is with the other sessions.
 fn unused_by_others(view: &View, alloc: Global, now: u64, file: &FileId) -> Result<Walk, Memory>
     ensures { IfOk result (λ w. w ≡
-        along view.now now (ask_others reply.InUse accesses file.now false (answer reply.Deleted))) }
+        along view.now now (ask_others reply.InUse accesses file.now false
+        (answer reply.Deleted))) }
 {
     let accesses = [Mode::AccR, Mode::AccW, Mode::AccD];
     let deleted = Walk::answer(alloc, Reply::Deleted);
