@@ -8,6 +8,7 @@ use crate::view::View;
 use fs_field::{Field, LeaseKind, Need, Use, Value};
 use fs_ident::{FileId, Kind, LeaseNo, List, Name, Session, Twin};
 use fs_model::{Op, Reply};
+use fs_modes::Mode;
 use fs_record::effects;
 use std::alloc::Global;
 use std::process::Abort;
@@ -145,6 +146,77 @@ fn creates(rt: &impl Abort, alloc: Global, view: &mut View) -> Result<(), Fail> 
 fn an_identifier_is_offered_once(rt: HostRuntime) -> Result<(), Fail> {
     let mut view = View::new(rt.alloc(), Session(1));
     let done = creates(&rt, rt.alloc(), &mut view);
+    view.discard();
+    done
+}
+
+/// Whether these are the needs of a delete that are of the file's children and handles.
+fn of_file(alloc: Global, file: &FileId, needs: &[Need]) -> Result<bool, Fail> {
+    let fields = [
+        Need::Lease(Field::Names(file.copy(alloc)?), LeaseKind::Shared),
+        Need::Lease(Field::Own(file.copy(alloc)?), LeaseKind::Exclusive),
+        Need::Lease(
+            Field::Other(file.copy(alloc)?, Mode::AccR),
+            LeaseKind::Shared,
+        ),
+        Need::Lease(
+            Field::Other(file.copy(alloc)?, Mode::AccW),
+            LeaseKind::Shared,
+        ),
+        Need::Lease(
+            Field::Other(file.copy(alloc)?, Mode::AccD),
+            LeaseKind::Shared,
+        ),
+    ];
+    Ok(needs == fields.as_slice())
+}
+
+/// A delete and a rename of a file whose place and life are known.
+fn removals(rt: &impl Abort, alloc: Global, view: &mut View) -> Result<(), Fail> {
+    let root = FileId::root(alloc);
+    let file = FileId::parse(alloc, b"/1")?;
+    let life = Field::Life(root.copy(alloc)?);
+    give(view, alloc, 1, 100, &life, Value::Life(Some(Kind::Dir)))?;
+    let child = Field::Child(root.copy(alloc)?, Name::new(alloc, b"a")?);
+    give(
+        view,
+        alloc,
+        2,
+        100,
+        &child,
+        Value::Child(Some(file.copy(alloc)?)),
+    )?;
+    let life = Field::Life(file.copy(alloc)?);
+    give(view, alloc, 3, 100, &life, Value::Life(Some(Kind::File)))?;
+    let delete = Op::Delete {
+        dir: root.copy(alloc)?,
+        name: Name::new(alloc, b"a")?,
+    };
+    let needs = view.missing(alloc, 50, &delete)?;
+    assert!(rt; of_file(alloc, &file, needs.as_slice())?);
+    let rename = Op::Rename {
+        sdir: root.copy(alloc)?,
+        sname: Name::new(alloc, b"a")?,
+        ddir: root.copy(alloc)?,
+        dname: Name::new(alloc, b"b")?,
+    };
+    let needs = view.missing(alloc, 50, &rename)?;
+    let fields = [
+        Need::Lease(
+            Field::Child(root, Name::new(alloc, b"b")?),
+            LeaseKind::Exclusive,
+        ),
+        Need::Lease(Field::Own(file.copy(alloc)?), LeaseKind::Exclusive),
+        Need::Lease(Field::Other(file, Mode::DenyD), LeaseKind::Shared),
+    ];
+    assert_eq!(rt; needs.as_slice(), fields.as_slice());
+    Ok(())
+}
+
+#[test]
+fn removals_need_the_handles_too(rt: HostRuntime) -> Result<(), Fail> {
+    let mut view = View::new(rt.alloc(), Session(1));
+    let done = removals(&rt, rt.alloc(), &mut view);
     view.discard();
     done
 }
