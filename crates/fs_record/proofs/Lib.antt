@@ -7,3 +7,4 @@ pub mod Stepping
 pub mod NumbersRise
 pub mod NodeMaps
 pub mod Selves
+pub mod Together

@@ -141,6 +141,39 @@ impl Records {
     {
         numbers::fresh(alloc, &mut self.records, dir, borne.as_slice())
     }
+
+    /// The identifier that `fresh` would give, with the same causes where it would give none. Nothing is given.
+    pub fn fresh_id(
+        &self,
+        alloc: Global,
+        dir: &FileId,
+        borne: &List<u32>,
+    ) -> Result<FileId, FreshError>
+        ensures ok { IfOk result (λ id. Some id ≡
+            option_map (child dir.now) (fresh_number self.now dir.now borne.now)) }
+        ensures no_dir { IsErrOf result NoDir ↔ (is_directory self.now dir.now ≡ false) }
+        ensures no_ids { IsErrOf result NoIds ↔
+            ((is_directory self.now dir.now ≡ true) ×
+            (fresh_number self.now dir.now borne.now ≡ None)) }
+    {
+        let (id, _) = numbers::fresh_id(alloc, &self.records, dir, borne.as_slice())?;
+        Ok(id)
+    }
+
+    /// Gives the last number of an identifier below the directory: the number after it is then the directory's next
+    /// one. It takes no memory, and nothing changes where the directory has no record.
+    pub fn gift(&mut self, dir: &FileId, k: u32)
+        ensures { self.new ≡ records_after_gift self.old dir.now (Some k) }
+    {
+        numbers::gift(&mut self.records, dir, k);
+    }
+
+    /// Whether it is a directory that has a record here.
+    pub fn is_directory(&self, dir: &FileId) -> bool
+        ensures { result ≡ is_directory self.now dir.now }
+    {
+        numbers::is_directory(&self.records, dir)
+    }
 }
 
 impl Twin for Records {
