@@ -9,7 +9,7 @@ use Rattle.std.proofs.lemmas.List.Concat.{flat_map-cons}
 use Rattle.std.proofs.lemmas.Nat.{from_be_bytes-to_be_bytes_8}
 use Rattle.fs_frag.specs.declared.error.FragError.{FragError}
 use Rattle.fs_frag.specs.Cut.{framed, pieces, piece_count, cut_of}
-use Rattle.fs_frag.specs.Joined.{answer_of, held_after, answers, answers_for, messages_of}
+use Rattle.fs_frag.specs.Joined.{answer_of, held_after, answers, held_by, answers_for, messages_of}
 
 abbrev Answer : Type 0
 Answer = Result (Option (List ℕ)) FragError
@@ -99,13 +99,7 @@ whole_and_once messages fits = ap messages_of (joins_all messages fits) ∙ mess
 
 -- ---- a beginning of the segments
 
--- what a joiner holds after segments
-held_by : List ℕ → List (List ℕ) → List ℕ
-held_by held [] = held
-held_by held (s ∷ ss) = held_by (held_after (answer_of (held ++ s)) (held ++ s)) ss
-
-answers-append : (held : List ℕ) (ss more : List (List ℕ)) → answers held (ss ++ more) ≡ answers held ss ++ answers (held_by held ss) more
-unfolding held_by
+pub answers-append : (held : List ℕ) (ss more : List (List ℕ)) → answers held (ss ++ more) ≡ answers held ss ++ answers (held_by held ss) more
 answers-append held [] more = refl
 answers-append held (s ∷ ss) more = ap (λ (x : List Answer). answer_of (held ++ s) ∷ x) (answers-append (held_after (answer_of (held ++ s)) (held ++ s)) ss more)
 

@@ -3,6 +3,7 @@
 
 mod cutting;
 mod error;
+mod joined;
 mod joiner;
 mod law;
 mod segment;
@@ -11,6 +12,7 @@ mod tests;
 
 pub use cutting::cut;
 pub use error::FragError;
+pub use joined::Joined;
 pub use joiner::Joiner;
 pub use law::joined_is_cut;
 pub use segment::{SEGMENT, Segment};
