@@ -27,7 +27,7 @@ goes_on bytes want h e lt = rw (le-ltb (length bytes) 8 h, length-drop, e, lt-lt
 is_whole : (bytes : List ℕ) → 8 ≤ length bytes → announced bytes ≡ length bytes - 8 → answer_of bytes ≡ Ok (Some (drop 8 bytes))
 is_whole bytes h e = rw (le-ltb (length bytes) 8 h, length-drop, e, le-ltb (length bytes - 8) (length bytes - 8) (omega arith), eq-eqb (length bytes - 8) (length bytes - 8) refl) refl
 
-length-framed : (m : List ℕ) → length (framed m) ≡ 8 + length m
+pub length-framed : (m : List ℕ) → length (framed m) ≡ 8 + length m
 length-framed m = length-append (to_be_bytes w64 (length m)) m
 
 -- what a prefix of a framed message announces
@@ -62,9 +62,13 @@ joins (suc n) held rest m more e lt low high =
     (goes_on (held ++ first) (length m) (omega arith) (announced-prefix (held ++ first) (drop 1024 rest) m (omega arith) whole lt) (omega arith))
     ∙ ap (λ (x : List Answer). Ok None ∷ x) (joins n (held ++ first) (drop 1024 rest) m more whole lt (omega arith) (omega arith))
 
-length-pieces : (n : ℕ) (bytes : List ℕ) → length (pieces n bytes) ≡ n
+pub length-pieces : (n : ℕ) (bytes : List ℕ) → length (pieces n bytes) ≡ n
 length-pieces zero bytes = refl
 length-pieces (suc n) bytes = ap suc (length-pieces n (drop 1024 bytes))
+
+-- how many segments a message has
+pub length-cut : (m : List ℕ) → length (cut_of m) ≡ piece_count (8 + length m)
+length-cut m = length-pieces (piece_count (length (framed m))) (framed m) ∙ ap piece_count (length-framed m)
 
 joins_message : (m : List ℕ) (more : List (List ℕ)) → length m < 2 ^ 64 → answers [] (cut_of m ++ more) ≡ answers_for m ++ answers [] more
 joins_message m more lt =

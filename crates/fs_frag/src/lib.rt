@@ -10,7 +10,7 @@ mod segment;
 #[cfg(test)]
 mod tests;
 
-pub use cutting::cut;
+pub use cutting::{cut, segment_count};
 pub use error::FragError;
 pub use joined::Joined;
 pub use joiner::Joiner;
