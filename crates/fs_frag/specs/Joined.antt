@@ -3,6 +3,8 @@ use Rattle.std.specs.Prelude.{ℕ, ◌-◌, List, [], ◌∷◌, ◌++◌, lengt
 use Rattle.fs_ident.specs.Bytes.{number_in_front}
 use Rattle.fs_frag.specs.declared.error.FragError.{FragError}
 use Rattle.fs_frag.specs.declared.error.FragError.TheVariants.{Over}
+use Rattle.fs_frag.specs.declared.joined.Joined.{Joined}
+use Rattle.fs_frag.specs.declared.joined.Joined.TheVariants as comes
 use Rattle.fs_frag.specs.Cut.{cut_of}
 
 -- nothing as long as bytes are wanting, then the message, or that there are too many bytes for it
@@ -29,6 +31,18 @@ held_after (Err e) bytes = []
 abbrev pub answers : List ℕ → List (List ℕ) → List (Result (Option (List ℕ)) FragError)
 answers held [] = []
 answers held (s ∷ ss) = answer_of (held ++ s) ∷ answers (held_after (answer_of (held ++ s)) (held ++ s)) ss
+
+-- what it holds after all of them
+abbrev pub held_by : List ℕ → List (List ℕ) → List ℕ
+held_by held [] = held
+held_by held (s ∷ ss) = held_by (held_after (answer_of (held ++ s)) (held ++ s)) ss
+
+-- what comes of the answers: each message, and each time that there were too many bytes
+abbrev pub joined_of : List (Result (Option (List ℕ)) FragError) → List Joined
+joined_of [] = []
+joined_of (Ok (Some message) ∷ rest) = comes.Whole message ∷ joined_of rest
+joined_of (Ok None ∷ rest) = joined_of rest
+joined_of (Err e ∷ rest) = comes.Over ∷ joined_of rest
 
 -- the messages among the answers
 abbrev pub messages_of : List (Result (Option (List ℕ)) FragError) → List (List ℕ)

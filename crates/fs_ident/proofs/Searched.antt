@@ -54,7 +54,7 @@ module _ {K X : Type 0} (R : K → K → Ordering) (o : IsTotalOrder R) where
       let q : R x e.0 ≡ Less = o.congr x y e.0 t ∙ p in
       rw q (below_tied x y es t (second _ _ h))
 
-  found_child : (k : K) (es : List (K × X)) → is_sorted R es ≡ true → (i : ℕ) (d : K × X) → i < length es → R (get_or es i d).0 k ≡ Equal → find R k es ≡ Some (get_or es i d).1
+  pub found_child : (k : K) (es : List (K × X)) → is_sorted R es ≡ true → (i : ℕ) (d : K × X) → i < length es → R (get_or es i d).0 k ≡ Equal → find R k es ≡ Some (get_or es i d).1
   found_child k [] h i d lt t = absurd (omega arith)
   found_child k (e ∷ es) h zero d lt t = let p : R k e.0 ≡ Equal = reversed R o e.0 k Equal t in rw p
   found_child k (e ∷ es) h (suc i) d lt t =
@@ -71,7 +71,7 @@ module _ {K X : Type 0} (R : K → K → Ordering) (o : IsTotalOrder R) where
       rw p (ap (λ es. e ∷ es) (found_rest k es (second _ _ h) i d (omega arith) t))
 
   -- all before the place are below k, and all from it on are above
-  abbrev Parts : K → List (K × X) → ℕ → Type 0
+  abbrev pub Parts : K → List (K × X) → ℕ → Type 0
   Parts k es i = IsPartitionPoint (λ e. R e.0 k ≡ Less) (λ e. R e.0 k ≡ Greater) es i
 
   parts_tail : (k : K) (e : K × X) (es : List (K × X)) (i : ℕ) → Parts k (e ∷ es) (suc i) → Parts k es i
@@ -80,7 +80,7 @@ module _ {K X : Type 0} (R : K → K → Ordering) (o : IsTotalOrder R) where
   parts_none : (k : K) (e : K × X) (es : List (K × X)) → Parts k (e ∷ es) 0 → Parts k es 0
   parts_none k e es h = (λ j d low high. absurd (omega arith), λ j d low high. h.1 (suc j) d (omega arith) (omega arith))
 
-  gap_none : (k : K) (es : List (K × X)) (i : ℕ) → i ≤ length es → Parts k es i → find R k es ≡ None
+  pub gap_none : (k : K) (es : List (K × X)) (i : ℕ) → i ≤ length es → Parts k es i → find R k es ≡ None
   gap_none k [] i le h = refl
   gap_none k (e ∷ es) zero le h =
       let p : R k e.0 ≡ Less = reversed R o e.0 k Greater (h.1 0 e (omega arith) (omega arith)) in
@@ -98,7 +98,7 @@ module _ {K X : Type 0} (R : K → K → Ordering) (o : IsTotalOrder R) where
       let p : R k e.0 ≡ Greater = reversed R o e.0 k Less (h.0 0 e (omega arith) (omega arith)) in
       rw p (ap (λ es. e ∷ es) (gap_kept k es i (omega arith) (parts_tail k e es i h)))
 
-  gap_put : (k : K) (v : X) (es : List (K × X)) (i : ℕ) → i ≤ length es → Parts k es i → put R k v es ≡ insert es i (k, v)
+  pub gap_put : (k : K) (v : X) (es : List (K × X)) (i : ℕ) → i ≤ length es → Parts k es i → put R k v es ≡ insert es i (k, v)
   gap_put k v [] zero le h = refl
   gap_put k v [] (suc i) le h = refl
   gap_put k v (e ∷ es) zero le h =
@@ -108,7 +108,7 @@ module _ {K X : Type 0} (R : K → K → Ordering) (o : IsTotalOrder R) where
       let p : R k e.0 ≡ Greater = reversed R o e.0 k Less (h.0 0 e (omega arith) (omega arith)) in
       rw p (ap (λ es. e ∷ es) (gap_put k v es i (omega arith) (parts_tail k e es i h)))
 
-  indexes_rise : (k : K) (es : List (K × X)) → is_sorted R es ≡ true → IsNonDecreasingBy (λ e. ordering_index (R e.0 k)) es
+  pub indexes_rise : (k : K) (es : List (K × X)) → is_sorted R es ≡ true → IsNonDecreasingBy (λ e. ordering_index (R e.0 k)) es
   indexes_rise k [] h i j d le lt = absurd (omega arith)
   indexes_rise k (e ∷ es) h zero zero d le lt = omega arith
   indexes_rise k (e ∷ es) h zero (suc j) d le lt = index_rises R o e.0 (get_or es j d).0 k (below_at e.0 es (first _ _ h) j d (omega arith))
@@ -117,7 +117,7 @@ module _ {K X : Type 0} (R : K → K → Ordering) (o : IsTotalOrder R) where
 
 module _ {K X : Type 0} (R : K → K → Ordering) (o : IsTotalOrder R) (same : IsAntisymmetric R) where
   -- a key that is there is given its new value in its place
-  found_put : (k : K) (v : X) (es : List (K × X)) → is_sorted R es ≡ true → (i : ℕ) (d : K × X) → i < length es → R (get_or es i d).0 k ≡ Equal → put R k v es ≡ slice_set es i (k, v)
+  pub found_put : (k : K) (v : X) (es : List (K × X)) → is_sorted R es ≡ true → (i : ℕ) (d : K × X) → i < length es → R (get_or es i d).0 k ≡ Equal → put R k v es ≡ slice_set es i (k, v)
   found_put k v [] h i d lt t = absurd (omega arith)
   found_put k v (e ∷ es) h zero d lt t =
       let q : e.0 ≡ k = same e.0 k t in

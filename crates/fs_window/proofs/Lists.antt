@@ -1,8 +1,8 @@
 -- Lists: what holds of each element, and the element at a place.
-use Rattle.std.proofs.Common.{◌≡◌, ℕ, zero, suc, ◌+◌, ◌-◌, ◌≤◌, List, [], ◌∷◌, ◌++◌, length, drop, Option, Some, refl, sym, ap, subst, ◌∙◌, append_assoc, arith}
+use Rattle.std.proofs.Common.{◌≡◌, ℕ, zero, suc, ◌+◌, ◌-◌, ◌<◌, ◌≤◌, List, [], ◌∷◌, ◌++◌, length, map, get_or, drop, Option, Some, refl, sym, ap, subst, ◌∙◌, append_assoc, arith}
 use Rattle.std.specs.List.{AllByRecursion}
 use Rattle.std.specs.Prelude.{slice_get}
-use Rattle.std.proofs.lemmas.List.{drop-drop}
+use Rattle.std.proofs.lemmas.List.{drop-drop, drop_more}
 use Rattle.fs_window.specs.Ends.{IsPrefixOf}
 
 pub all_more : {X : Type 0} (P Q : X → Type 0) → ((x : X) → P x → Q x) → (xs : List X) → AllByRecursion P xs → AllByRecursion Q xs
@@ -55,3 +55,11 @@ prefix_next xs all x h e = go h.0 h.1 (sym (get_seam xs h.0) ∙ ap (λ (y : Lis
     go : (rest : List (List ℕ)) → xs ++ rest ≡ all → slice_get rest 0 ≡ Some x → IsPrefixOf (xs ++ x ∷ []) all
     go [] whole here = absurd cc
     go (y ∷ ys) whole here = (ys, append_assoc xs (x ∷ []) ys ∙ ap (λ (z : List ℕ). xs ++ z ∷ ys) (sym (some_is y x here)) ∙ whole)
+
+-- what was made of the first elements, with what is made of one more
+pub mapped_next : {X Y : Type 0} (f : X → Y) (xs : List X) (i : ℕ) (x : X) (y : Y) (done total : List Y) → i < length xs → x ≡ get_or xs i x → y ≡ f x
+    → done ++ map f (drop i xs) ≡ total → (done ++ y ∷ []) ++ map f (drop (i + 1) xs) ≡ total
+mapped_next {X} {Y} f xs i x y done total lt here is so_far =
+    let left : drop i xs ≡ x ∷ drop (i + 1) xs = drop_more xs i x lt ∙ ap (λ (z : X). z ∷ drop (i + 1) xs) (sym here) in
+    append_assoc done (y ∷ []) (map f (drop (i + 1) xs)) ∙ ap (λ (z : Y). done ++ z ∷ map f (drop (i + 1) xs)) is
+    ∙ ap (λ (zs : List X). done ++ map f zs) (sym left) ∙ so_far

@@ -1,4 +1,6 @@
 pub mod Ends
 pub mod LinkEnd
 pub mod Packet
+pub mod Peers
+pub mod Post
 pub mod Reading

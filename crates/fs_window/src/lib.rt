@@ -2,8 +2,13 @@
 #![tactic(auto)]
 
 mod error;
+mod heard;
 mod law;
+mod link;
+mod links;
 mod packet;
+mod peers;
+mod post;
 mod queue;
 mod sent;
 #[cfg(test)]
@@ -11,7 +16,10 @@ mod tests;
 mod window;
 
 pub use error::LinkError;
+pub use fs_frag::Joined;
+pub use heard::Heard;
 pub use law::in_order;
 pub use packet::{Packet, read_packet, write_packet};
+pub use post::Post;
 pub use sent::Sent;
 pub use window::Window;
