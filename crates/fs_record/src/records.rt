@@ -1,9 +1,10 @@
 //! The records of one server as one value.
 ghost use Rattle.std.specs.Prelude.{◌≡◌, ◌↔◌, true, false, IfOk, OnOk, OnErr, IsErrOf, Some, None, option_map};
 ghost use Rattle.std.specs.FinMap as map;
+ghost use Rattle.std.specs.List.{list_all};
 ghost use Rattle.std.specs.Option.{option_copied};
 ghost use Rattle.fs_ident.specs.Ident.{child};
-ghost use Rattle.fs_record.specs.Applied.{records_after, has_target};
+ghost use Rattle.fs_record.specs.Applied.{records_after, records_after_all, has_target, is_undoable};
 ghost use Rattle.fs_record.specs.Fresh.{fresh_number, is_directory, records_after_gift};
 ghost use Rattle.fs_record.specs.Records.{IsRecord, first_records, AreRecords, root_record};
 ghost use Rattle.fs_record.specs.ValueOf.{value_of, is_other, selves_in};
@@ -16,7 +17,7 @@ use crate::error::FreshError;
 use crate::lookups::{files, node, record};
 use crate::record::Record;
 use crate::values::{handles, value_at};
-use crate::{changes, handles as opens, numbers};
+use crate::{changes, handles as opens, numbers, together};
 use fs_field::{Effect, Field, Value};
 use fs_ident::{FileId, Kind, List, Memory, Session, Twin, copy_map};
 use fs_model::Node;
@@ -117,6 +118,16 @@ impl Records {
         ensures err { OnErr result (self.new ≡ self.old) }
     {
         changes::apply(alloc, &mut self.records, e)
+    }
+
+    /// Does the effects in order, or none of them where memory is wanting; nothing has changed then. `is_undoable` is
+    /// the test of which effects it takes. It copies no record: of each effect it keeps what the effect changes.
+    pub fn apply_all(&mut self, alloc: Global, effects: &List<Effect>) -> Result<(), Memory>
+        requires { list_all is_undoable effects.now ≡ true }
+        ensures ok { OnOk result (self.new ≡ records_after_all self.old effects.now) }
+        ensures err { OnErr result (self.new ≡ self.old) }
+    {
+        together::apply_all(alloc, &mut self.records, effects.as_slice())
     }
 
     /// Gives the identifier of a new file in the directory: with the least number, from the directory's next one
