@@ -29,11 +29,18 @@ abbrev pub or_else : Option Kind → Option Kind → Option Kind
 or_else None k = k
 or_else (Some k) l = Some k
 
--- with which kind an identifier was made: the root is a directory from the start
+-- the root is a directory from the start
+abbrev pub root_kind : List ℕ → Option Kind
+root_kind [] = Some Dir
+root_kind (n ∷ ns) = None
+
+abbrev pub made_in : List Item → List ℕ → Option Kind
+made_in [] id = None
+made_in (i ∷ is) id = or_else (made_by i.op i.reply id) (made_in is id)
+
+-- with which kind an identifier was made
 abbrev pub made : List Item → List ℕ → Option Kind
-made [] [] = Some Dir
-made [] (n ∷ ns) = None
-made (i ∷ is) id = or_else (made_by i.op i.reply id) (made is id)
+made journal id = or_else (root_kind id) (made_in journal id)
 
 abbrev pub IsMade : List Item → List ℕ → Type 0
 IsMade journal id = is_some (made journal id) ≡ true
