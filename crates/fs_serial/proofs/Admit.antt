@@ -106,10 +106,10 @@ module _ (skew greatest : ℕ) (s : Server) (journal : List Item) (by : Session)
   abbrev then : List Lease
   then = map (lease_after by (effects_in by e)) leases
 
-  plain : IsEntry leases e
+  pub plain : IsEntry leases e
   plain = f.entries e (inl refl)
 
-  right : IsAnswer (value_of s.records by) e
+  pub right : IsAnswer (value_of s.records by) e
   right = (h.pending stand).0
 
   -- what the session sees

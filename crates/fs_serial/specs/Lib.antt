@@ -10,3 +10,4 @@ pub mod Relies
 pub mod Parts
 pub mod Client
 pub mod Exchange
+pub mod Steps
