@@ -38,9 +38,9 @@ use Rattle.fs_view.specs.declared.kept.Kept.{Kept}
 use Rattle.fs_view.specs.Kept.{number_of}
 use Rattle.fs_serial.specs.Exchange.{ReturnsFit}
 use Rattle.fs_serial.specs.Fresh.{FreshReserved, Reserved, reserved_by}
-use Rattle.fs_serial.specs.Laws.{GiftIsTold, GiftKeepsParts, lease_given, with_given}
+use Rattle.fs_serial.specs.Laws.{GiftIsRelied, GiftIsTold, GiftKeepsParts, GiftReturnsNone, lease_given, with_given}
 use Rattle.fs_serial.specs.Leases.{IsFresh, IsRowOf, LeasesGiven}
-use Rattle.fs_serial.specs.Parts.{ServersHold, ServersFit, SessionFits}
+use Rattle.fs_serial.specs.Parts.{with_client, ServersHold, ServersFit, SessionHolds, SessionFits}
 use Rattle.fs_serial.specs.Relies.{Relies}
 use Rattle.fs_serial.specs.Rows.{RowsGiven, RowsOffModes}
 use Rattle.fs_serial.specs.Settled.{Lease, Settled, granted, told, with_leases}
@@ -50,6 +50,7 @@ use Rattle.fs_serial.proofs.Facts.{each_more, below_itself, same_is, same_self}
 use Rattle.fs_serial.proofs.GiftReserved.{reserved_still, reserved_then, unmade_dead}
 use Rattle.fs_serial.proofs.GiftedRecords.{made_still, serial_still, sound_still, values_stay}
 use Rattle.fs_serial.proofs.Leased.{IsNewLease, In-put_here, leased_fits, leased_holds, row_relied}
+use Rattle.fs_serial.proofs.Together.{each_session}
 use Rattle.fs_serial.proofs.Relied.{relied_fits, relied_holds}
 
 -- ## No row is on a file whose number none bears
@@ -107,7 +108,7 @@ same_file (Other b m) id h = refl
 
 -- ## The gift
 
-module _ (by : Session) (dir : List ℕ) (k : ℕ) (a : Asking) (journal : List Item) (here : is_directory a.server.records dir ≡ true) (number : fresh_number a.server.records dir (borne_numbers dir a.server.rows) ≡ Some k) (f : ServersFit (sight_of a.server journal)) where
+module _ (by : Session) (dir : List ℕ) (k : ℕ) (a : Asking) (journal : List Item) (here : is_directory a.server.records dir ≡ true) (number : fresh_number a.server.records dir (borne_numbers dir a.server.rows) ≡ Some k) where
   abbrev s : Server
   s = a.server
 
@@ -129,14 +130,14 @@ module _ (by : Session) (dir : List ℕ) (k : ℕ) (a : Asking) (journal : List 
       (λ x i. never (not (by.0 == x.session.0)) (meets (Life (child dir k)) Exclusive x.field x.kind) (lives_apart (child dir k) Exclusive x.field x.kind (not_on dir k s.rows least.free x i)))
       h.apart
 
-  off_modes : RowsOffModes t.rows
-  off_modes r i = elim (row_or r i) as (λ _. tells_no_mode r.field ≡ true) [
+  off_modes : ServersFit (sight_of s journal) → RowsOffModes t.rows
+  off_modes f r i = elim (row_or r i) as (λ _. tells_no_mode r.field ≡ true) [
     | inl e ↦ ap (λ (x : Row). tells_no_mode x.field) e
     | inr j ↦ f.off_modes r j
   ]
 
-  rows_given : RowsGiven (sight_of t journal).given t.rows
-  rows_given r i = elim (row_or r i) as (λ _. IsGiven (sight_of t journal).given r.no) [
+  rows_given : ServersFit (sight_of s journal) → RowsGiven (sight_of t journal).given t.rows
+  rows_given f r i = elim (row_or r i) as (λ _. IsGiven (sight_of t journal).given r.no) [
     | inl e ↦ let c = ap (λ (x : Row). x.no.count) e in omega arith
     | inr j ↦ let g = f.given r j in omega arith
   ]
@@ -144,10 +145,10 @@ module _ (by : Session) (dir : List ℕ) (k : ℕ) (a : Asking) (journal : List 
   pub gift_holds : ServersHold (sight_of s journal) → ServersHold (sight_of t journal)
   gift_holds h = record { apart = apart h; serial = serial_still s.records dir k journal h.serial }
 
-  pub gift_fits : ServersFit (sight_of t journal)
-  gift_fits = record {
-    off_modes = off_modes;
-    given = rows_given;
+  pub gift_fits : ServersFit (sight_of s journal) → ServersFit (sight_of t journal)
+  gift_fits f = record {
+    off_modes = off_modes f;
+    given = rows_given f;
     sound = sound_still s.records dir k (borne_numbers dir s.rows) number f.sound;
     made = made_still s.records dir k journal f.made;
   }
@@ -163,17 +164,17 @@ module _ (by : Session) (dir : List ℕ) (k : ℕ) (a : Asking) (journal : List 
   below_is : l.below ≡ Some dir
   below_is = ap (λ b. cond b (parent (child dir k)) None) (same_self (child dir k)) ∙ parent_child dir k
 
-  dead : (reserved : Reserved) → FreshReserved reserved s.records journal → kind_of (node_of (get s.records (child dir k))) ≡ None
-  dead reserved r = unmade_dead s.records journal (child dir k) f.made (λ made. r.made_before dir k (child dir k) here least.from made (below_itself (child dir k)))
+  dead : (f : ServersFit (sight_of s journal)) (reserved : Reserved) → FreshReserved reserved s.records journal → kind_of (node_of (get s.records (child dir k))) ≡ None
+  dead f reserved r = unmade_dead s.records journal (child dir k) f.made (λ made. r.made_before dir k (child dir k) here least.from made (below_itself (child dir k)))
 
-  fresh : (reserved : Reserved) → FreshReserved reserved s.records journal → (d : List ℕ) → l.below ≡ Some d → IsFresh d l
-  fresh reserved r d e =
+  fresh : (f : ServersFit (sight_of s journal)) (reserved : Reserved) → FreshReserved reserved s.records journal → (d : List ℕ) → l.below ≡ Some d → IsFresh d l
+  fresh f reserved r d e =
       let q : Some dir ≡ Some d = sym below_is ∙ e in
       let is : dir ≡ d = cc in
-      record { number = k; field = ap (λ x. Life (child x k)) is; kind = refl; base = ap value.Life (dead reserved r) }
+      record { number = k; field = ap (λ x. Life (child x k)) is; kind = refl; base = ap value.Life (dead f reserved r) }
 
-  pub new_lease : (reserved : Reserved) (leases : List Lease) → FreshReserved reserved s.records journal → LeasesGiven (sight_of s journal).given leases → IsNewLease (sight_of t journal) by leases l
-  new_lease reserved leases r given = record {
+  pub new_lease : (f : ServersFit (sight_of s journal)) (reserved : Reserved) (leases : List Lease) → FreshReserved reserved s.records journal → LeasesGiven (sight_of s journal).given leases → IsNewLease (sight_of t journal) by leases l
+  new_lease f reserved leases r given = record {
     given = omega arith;
     new = λ j h e. let g = given j h in let c = ap (λ (n : LeaseNo). n.count) e in absurd (omega arith);
     row = record { row = row; stands = In-put_here (λ x. no_before row.no x.no) row s.rows; number = refl; lasts = omega arith };
@@ -182,7 +183,7 @@ module _ (by : Session) (dir : List ℕ) (k : ℕ) (a : Asking) (journal : List 
       | inr j ↦ let g = f.given r j in let c = ap (λ (n : LeaseNo). n.count) e in absurd (omega arith)
     ];
     told = sym (values_stay s.records dir k by (Life (child dir k)));
-    fresh = fresh reserved r;
+    fresh = fresh f reserved r;
   }
 
   -- what goes back is no lease that is given
@@ -216,22 +217,28 @@ module _ (by : Session) (dir : List ℕ) (k : ℕ) (a : Asking) (journal : List 
       ∙ ap (λ ls. let x : Settled = record d { leases = ls } in x) (sym (append_assoc d.leases (map (granted None) a.grants) (l ∷ [])))
 
 pub gift_keeps_parts : GiftKeepsParts
-gift_keeps_parts skew greatest by dir k a journal replied clients later here number set holds fits reserved session_holds session_fits =
-    let least = number_least a.server.records dir (borne_numbers dir a.server.rows) k number in
-    let relied = gift_relied by dir k a journal here number fits skew greatest in
-    let new = new_lease by dir k a journal here number fits (reserved_by clients) (clients by).leases reserved session_fits.given in
+gift_keeps_parts skew greatest a journal replied clients by dir k all gift =
+    let s : Sight = sight_of a.server journal in
     let t : Sight = sight_of (with_fresh by dir k a).server journal in
-    let after : SessionFits skew greatest t by (clients by) = relied_fits skew greatest by (sight_of a.server journal) t (clients by) (relied by) session_fits in
+    let l : Lease = lease_given by dir k a.server in
+    let least = number_least a.server.records dir (borne_numbers dir a.server.rows) k gift.1 in
+    let relied = gift_relied by dir k a journal gift.0 gift.1 skew greatest in
+    let new = new_lease by dir k a journal gift.0 gift.1 all.kept (reserved_by clients) (clients by).leases all.reserved (all.fitting by).given in
+    let fits : (x : Session) → SessionFits skew greatest t x (clients x) = λ x. relied_fits skew greatest x s t (clients x) (relied x) (all.fitting x) in
+    let holds : (x : Session) → SessionHolds skew greatest t x (replied x) (clients x) = λ x. relied_holds skew greatest x s t (clients x) (relied x) (all.fitting x) (replied x) (all.sessions x) in
     record {
-      holds = gift_holds by dir k a journal here number fits holds;
-      fits = gift_fits by dir k a journal here number fits;
-      session_holds = leased_holds skew greatest by t (clients by) (lease_given by dir k a.server) new after replied
-          (relied_holds skew greatest by (sight_of a.server journal) t (clients by) (relied by) session_fits replied session_holds);
-      session_fits = leased_fits skew greatest by t (clients by) (lease_given by dir k a.server) new after;
-      reserved = reserved_still a.server.records journal dir k here least.from fits.made (reserved_by clients) (reserved_by later) by (next_number a.server) (reserved_then clients later by (lease_given by dir k a.server) set) reserved;
-      returned = λ kept. returned_still by dir k a journal here number fits kept (clients by).leases;
-      relied = relied;
+      servers = gift_holds by dir k a journal gift.0 gift.1 all.servers;
+      kept = gift_fits by dir k a journal gift.0 gift.1 all.kept;
+      sessions = each_session (λ x d. SessionHolds skew greatest t x (replied x) d) by (with_leases (l ∷ []) (clients by)) clients (leased_holds skew greatest by t (clients by) l new (fits by) (replied by) (holds by)) (λ x other. holds x);
+      fitting = each_session (λ x d. SessionFits skew greatest t x d) by (with_leases (l ∷ []) (clients by)) clients (leased_fits skew greatest by t (clients by) l new (fits by)) (λ x other. fits x);
+      reserved = reserved_still a.server.records journal dir k gift.0 least.from all.kept.made (reserved_by clients) (reserved_by (with_client by (with_given by dir k a.server (clients by)) clients)) by (next_number a.server) (reserved_then clients by l) all.reserved;
     }
 
+pub gift_is_relied : GiftIsRelied
+gift_is_relied skew greatest a journal by x dir k gift = gift_relied by dir k a journal gift.0 gift.1 skew greatest x
+
+pub gift_returns_none : GiftReturnsNone
+gift_returns_none a journal by dir k kept d gift = returned_still by dir k a journal gift.0 gift.1 kept d.leases
+
 pub gift_is_told : GiftIsTold
-gift_is_told by dir k a journal here number fits d e rows = told_with by dir k a journal here number fits d e rows
+gift_is_told a by dir k d e gift rows = told_with by dir k a [] gift.0 gift.1 d e rows

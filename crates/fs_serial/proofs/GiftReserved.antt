@@ -1,9 +1,7 @@
 -- Identifiers that are reserved, with one that is given.
-use Rattle.std.proofs.Common.{◌≡◌, ℕ, ◌+◌, ◌≤◌, ◌==◌, Bool, true, false, List, [], ◌∷◌, ◌++◌, ◌⊎◌, refl, sym, ap, ◌∙◌, subst, inl, inr, arith}
-use Rattle.std.specs.Prelude.{◌≢◌, Option, Some, None, is_some}
+use Rattle.std.proofs.Common.{◌≡◌, ℕ, ◌+◌, ◌≤◌, true, List, [], ◌∷◌, ◌++◌, ◌⊎◌, refl, sym, ap, ◌∙◌, subst, inl, inr, arith}
+use Rattle.std.specs.Prelude.{Option, Some, None, is_some}
 use Rattle.std.specs.FinMap.{get}
-use Rattle.std.specs.Cmp.{nat_eq_equiv}
-use Rattle.std.proofs.lemmas.Bool.Decides.{nat_tests}
 use Rattle.fs_ident.specs.Ident.{child}
 use Rattle.fs_ident.specs.declared.actor.LeaseNo.{LeaseNo}
 use Rattle.fs_ident.specs.declared.actor.Session.{Session}
@@ -15,9 +13,10 @@ use Rattle.fs_msg.specs.declared.item.Item.{Item}
 use Rattle.fs_record.specs.Fresh.{is_dir, is_directory, records_after_gift}
 use Rattle.fs_record.specs.Records.{RecordMap, node_of, next_of}
 use Rattle.fs_serial.specs.Fresh.{FreshReserved, IsAtOrBelow, IsMade, NodesMade, Reserved, Reserves, reserved_by}
-use Rattle.fs_serial.specs.Laws.{IsSetAt}
 use Rattle.fs_serial.specs.Settled.{Lease, Settled, with_leases}
 use Rattle.fs_serial.proofs.Children.{above_child, child_is}
+use Rattle.fs_serial.specs.Parts.{with_client}
+use Rattle.fs_serial.proofs.Together.{each_session}
 use Rattle.fs_serial.proofs.Facts.{In-append, below_itself}
 use Rattle.fs_serial.proofs.GiftedRecords.{directories_stay, next_here, next_rises}
 
@@ -42,34 +41,25 @@ unmade_dead m journal id h never_made =
 -- ## Reserved identifiers
 
 -- it is the identifier that is given
-pub record IsGift (by : Session) (number : LeaseNo) (id : List ℕ) (x : Session) (n : LeaseNo) (i : List ℕ) : Type 0 where
+pub record IsTheGift (by : Session) (number : LeaseNo) (id : List ℕ) (x : Session) (n : LeaseNo) (i : List ℕ) : Type 0 where
   pub session : x ≡ by
   pub lease : n ≡ number
   pub file : i ≡ id
 
-session_by : (x y : Session) (b : Bool) → (x.0 == y.0) ≡ b → (x ≡ y) ⊎ (x ≢ y)
-session_by x y true e = let q : x.0 ≡ y.0 = grind (arith, nat_tests) in inl (ap (λ (n : ℕ). let s : Session = record { 0 = n } in s) q)
-session_by x y false e = inr (λ q. let t : (y.0 == y.0) ≡ false = sym (ap (λ (s : Session). s.0 == y.0) q) ∙ e in let u : (y.0 == y.0) ≡ true = nat_eq_equiv.refl y.0 in let w : true ≡ false = sym u ∙ t in absurd (cc))
-
-pub session_or : (x y : Session) → (x ≡ y) ⊎ (x ≢ y)
-session_or x y = session_by x y (x.0 == y.0) refl
-
 -- what is reserved was reserved, or is given
-pub reserved_then : (clients later : Session → Settled) (by : Session) (l : Lease) → IsSetAt clients later by (with_leases (l ∷ []) (clients by)) → (x : Session) (n : LeaseNo) (i : List ℕ) → reserved_by later x n i → reserved_by clients x n i ⊎ IsGift by l.no (file_of l.field) x n i
-reserved_then clients later by l set x n i r = elim (session_or x by) as (λ _. reserved_by clients x n i ⊎ IsGift by l.no (file_of l.field) x n i) [
-  | inl e ↦
-      let q : Reserves ((clients by).leases ++ l ∷ []) n i = subst (λ (d : Settled). Reserves d.leases n i) (ap later e ∙ set.here) r in
-      elim (In-append q.lease (clients by).leases (l ∷ []) q.held) as (λ _. reserved_by clients x n i ⊎ IsGift by l.no (file_of l.field) x n i) [
-        | inl h ↦ inl (subst (λ s. Reserves (clients s).leases n i) (sym e) (record { lease = q.lease; held = h; number = q.number; fresh = q.fresh; file = q.file }))
-        | inr h ↦ elim h as (λ _. reserved_by clients x n i ⊎ IsGift by l.no (file_of l.field) x n i) [
-          | inl is ↦ inr (record { session = e; lease = sym q.number ∙ ap (λ (k : Lease). k.no) is; file = sym q.file ∙ ap (λ (k : Lease). file_of k.field) is })
-          | inr z ↦ absurd z
-        ]
+pub reserved_then : (clients : Session → Settled) (by : Session) (l : Lease) → (x : Session) (n : LeaseNo) (i : List ℕ) → reserved_by (with_client by (with_leases (l ∷ []) (clients by)) clients) x n i → reserved_by clients x n i ⊎ IsTheGift by l.no (file_of l.field) x n i
+reserved_then clients by l = each_session (λ x d. (n : LeaseNo) (i : List ℕ) → Reserves d.leases n i → reserved_by clients x n i ⊎ IsTheGift by l.no (file_of l.field) x n i) by (with_leases (l ∷ []) (clients by)) clients own (λ x other n i r. inl r)
+  where
+    own : (n : LeaseNo) (i : List ℕ) → Reserves ((clients by).leases ++ l ∷ []) n i → reserved_by clients by n i ⊎ IsTheGift by l.no (file_of l.field) by n i
+    own n i q = elim (In-append q.lease (clients by).leases (l ∷ []) q.held) as (λ _. reserved_by clients by n i ⊎ IsTheGift by l.no (file_of l.field) by n i) [
+      | inl h ↦ inl (record { lease = q.lease; held = h; number = q.number; fresh = q.fresh; file = q.file })
+      | inr h ↦ elim h as (λ _. reserved_by clients by n i ⊎ IsTheGift by l.no (file_of l.field) by n i) [
+        | inl is ↦ inr (record { session = refl; lease = sym q.number ∙ ap (λ (k : Lease). k.no) is; file = sym q.file ∙ ap (λ (k : Lease). file_of k.field) is })
+        | inr z ↦ absurd z
       ]
-  | inr other ↦ inl (subst (λ (d : Settled). Reserves d.leases n i) (set.others x other) r)
-]
+    ]
 
-module _ (m : RecordMap) (journal : List Item) (dir : List ℕ) (k : ℕ) (here : is_directory m dir ≡ true) (low : next_of (get m dir) ≤ k) (nodes : NodesMade m journal) (before later : Reserved) (by : Session) (number : LeaseNo) (then : (x : Session) (n : LeaseNo) (i : List ℕ) → later x n i → before x n i ⊎ IsGift by number (child dir k) x n i) (f : FreshReserved before m journal) where
+module _ (m : RecordMap) (journal : List Item) (dir : List ℕ) (k : ℕ) (here : is_directory m dir ≡ true) (low : next_of (get m dir) ≤ k) (nodes : NodesMade m journal) (before later : Reserved) (by : Session) (number : LeaseNo) (then : (x : Session) (n : LeaseNo) (i : List ℕ) → later x n i → before x n i ⊎ IsTheGift by number (child dir k) x n i) (f : FreshReserved before m journal) where
   -- no reserved identifier is at, above or below the one that is given
   not_above : (x : Session) (n : LeaseNo) (i : List ℕ) → before x n i → IsAtOrBelow i (child dir k) → ⊥
   not_above x n i r p = elim (above_child i dir k p) as (λ _. ⊥) [

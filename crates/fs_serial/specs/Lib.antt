@@ -10,4 +10,5 @@ pub mod Relies
 pub mod Parts
 pub mod Client
 pub mod Exchange
+pub mod Steps
 pub mod Laws

@@ -1,9 +1,9 @@
 -- The parts of the invariant, together.
-use Rattle.std.specs.Prelude.{ℕ, List}
+use Rattle.std.specs.Prelude.{ℕ, ◌==◌, List, if◌then◌else◌}
 use Rattle.fs_ident.specs.declared.actor.Session.{Session}
 use Rattle.fs_msg.specs.declared.item.Item.{Item}
 use Rattle.fs_record.specs.ValueOf.{value_of}
-use Rattle.fs_serial.specs.Fresh.{NodesMade}
+use Rattle.fs_serial.specs.Fresh.{NodesMade, FreshReserved, reserved_by}
 use Rattle.fs_serial.specs.Leases.{LeasesBacked, LeasesTrue, LeasesGiven, LeasesDistinct, LeasesMatch, FreshLeases}
 use Rattle.fs_serial.specs.Numbers.{NumbersInOrder, RepliesKept}
 use Rattle.fs_serial.specs.Pending.{PendingStand, UsesHeld, UsesBacked, AreEntries, NamedOnce, RefusedGone}
@@ -47,3 +47,21 @@ pub record SessionFits (skew greatest : ℕ) (s : Sight) (by : Session) (d : Set
   pub entries : AreEntries d.leases d.log
   pub once : NamedOnce d.log
   pub refused : RefusedGone s.rows d.log d.over
+
+-- ## Together
+
+-- each session with its client as it will be, and what it was told
+pub record AllHold (skew greatest : ℕ) (s : Sight) (replied : Session → List Item) (clients : Session → Settled) : Type 0 where
+  pub servers : ServersHold s
+  pub kept : ServersFit s
+  pub sessions : (x : Session) → SessionHolds skew greatest s x (replied x) (clients x)
+  pub fitting : (x : Session) → SessionFits skew greatest s x (clients x)
+  pub reserved : FreshReserved (reserved_by clients) s.records s.journal
+
+-- the session's client is this now
+abbrev pub with_client : Session → Settled → (Session → Settled) → Session → Settled
+with_client by d clients x = if by.0 == x.0 then d else clients x
+
+-- what the session was told is this now
+abbrev pub with_replies : Session → List Item → (Session → List Item) → Session → List Item
+with_replies by is replied x = if by.0 == x.0 then is else replied x
