@@ -1,0 +1,190 @@
+-- The server admits an entry: the parts of its own session.
+use Rattle.std.proofs.Common.{◌≡◌, ℕ, ◌+◌, ◌<◌, ◌||◌, Bool, true, false, List, [], ◌∷◌, ◌++◌, map, refl, sym, ap, ◌∙◌, subst, inl, inr, cond, append_assoc}
+use Rattle.std.specs.Prelude.{Option, Some, None, is_some}
+use Rattle.std.specs.List.{list_any}
+use mathlib.Core.Path.{fun_ext}
+use Rattle.fs_ident.specs.In.{In}
+use Rattle.fs_ident.specs.Ident.{child}
+use Rattle.fs_ident.specs.declared.actor.Session.{Session}
+use Rattle.fs_ident.specs.declared.kind.Kind.{Kind}
+use Rattle.fs_ident.proofs.Standing.{In-map}
+use Rattle.fs_field.specs.declared.effect.Effect.{Effect}
+use Rattle.fs_field.specs.declared.field.Field.{Field}
+use Rattle.fs_field.specs.declared.field.Field.TheVariants.{Life}
+use Rattle.fs_field.specs.declared.row.Row.{Row}
+use Rattle.fs_field.specs.declared.used.Use.{Use}
+use Rattle.fs_field.specs.declared.value.Value.{Value}
+use Rattle.fs_field.specs.declared.value.Value.TheVariants as value
+use Rattle.fs_field.specs.Field.{file_of}
+use Rattle.fs_model.specs.Namespace.{first_space}
+use Rattle.fs_model.specs.declared.op.Op.{Op}
+use Rattle.fs_model.specs.declared.op.Op.TheVariants as op
+use Rattle.fs_model.specs.declared.reply.Reply.{Reply}
+use Rattle.fs_model.specs.declared.reply.Reply.TheVariants as reply
+use Rattle.fs_msg.specs.declared.entry.Entry.{Entry}
+use Rattle.fs_msg.specs.declared.item.Item.{Item}
+use Rattle.fs_record.specs.Records.{RecordMap, nodes_of}
+use Rattle.fs_record.specs.ValueOf.{value_of}
+use Rattle.fs_server.specs.Ships.{item_of, with_entry}
+use Rattle.fs_server.specs.declared.state.Server.{Server}
+use Rattle.fs_view.specs.Kept.{makes}
+use Rattle.fs_view.specs.Laws.{records_after_all}
+use Rattle.fs_view.specs.View.{value_after_all}
+use Rattle.fs_view.proofs.Seeing.{own_values}
+use Rattle.fs_serial.specs.Fresh.{made_by, or_else}
+use Rattle.fs_serial.specs.Leases.{IsBacked, LeasesBacked, LeasesTrue, LeasesGiven, LeasesDistinct, LeasesMatch, IsRowOf, IsFresh, FreshLeases}
+use Rattle.fs_serial.specs.Numbers.{items_by, all_items, NumbersInOrder, RepliesKept, AreNumbered}
+use Rattle.fs_serial.specs.Parts.{ServersHold, ServersFit, SessionHolds, SessionFits}
+use Rattle.fs_serial.specs.Pending.{AllStand, IsAnswer, PendingStand, HasLease, UsesHeld, IsEntry, NamesItsFile, NamesReserved, HasReserved, AreEntries, NamedOnce, named_by, RefusedGone, values_after}
+use Rattle.fs_serial.specs.Serial.{JournalSerial, AreSound}
+use Rattle.fs_serial.specs.Settled.{Lease, Settled, acknowledged, lease_after, below_after, effects_in}
+use Rattle.fs_serial.specs.Sight.{Sight, sight_of}
+use Rattle.fs_serial.proofs.Answered.{answered, leads_there, sound_there, no_reap}
+use Rattle.fs_serial.proofs.Births.{life_after, makes_there, names_made}
+use Rattle.fs_serial.proofs.Facts.{In-mapped, each_image, items-own, serial_push, session_itself}
+
+-- ## Leases on new files
+
+-- what stays reserved was not made
+pub stays_below : (b : Bool) (below : Option (List ℕ)) (dir : List ℕ) → cond b None below ≡ Some dir → (b ≡ false) × (below ≡ Some dir)
+stays_below true below dir h = absurd (cc)
+stays_below false below dir h = (refl, h)
+
+pub not_some : {X : Type 0} (o : Option X) → is_some o ≡ false → o ≡ None
+not_some None h = refl
+not_some (Some x) h = absurd (cc)
+
+-- a lease on a file that the entry does not make stays fresh
+fresh_after : (by : Session) (e : Entry) (l : Lease) (dir : List ℕ) → list_any (makes (file_of l.field)) (effects_in by e) ≡ false → IsFresh dir l → IsFresh dir (lease_after by (effects_in by e) l)
+fresh_after by e l dir none f =
+    let at : file_of l.field ≡ child dir f.number = ap file_of f.field in
+    let unmade : made_by e.op e.reply (child dir f.number) ≡ None = not_some _ (sym (makes_there by e.op e.reply (child dir f.number)) ∙ ap (λ i. list_any (makes i) (effects_in by e)) (sym at) ∙ none) in
+    record {
+      number = f.number;
+      field = f.field;
+      kind = f.kind;
+      base =
+          ap (λ g. value_after_all by g l.base (effects_in by e)) f.field
+          ∙ ap (λ v. value_after_all by (Life (child dir f.number)) v (effects_in by e)) f.base
+          ∙ life_after by e.op e.reply (child dir f.number) None
+          ∙ ap (λ k. value.Life (or_else k None)) unmade;
+    }
+
+-- ## The entries behind it
+
+-- a reserved lease that the first entry does not use up stays reserved
+still_reserved : (by : Session) (e : Entry) (leases : List Lease) (uses : List Use) (dir id : List ℕ) → made_by e.op e.reply id ≡ None → HasReserved leases uses dir id → HasReserved (map (lease_after by (effects_in by e)) leases) uses dir id
+still_reserved by e leases uses dir id unmade h =
+    let none : list_any (makes (file_of h.lease.field)) (effects_in by e) ≡ false = ap (λ g. list_any (makes (file_of g)) (effects_in by e)) h.field ∙ makes_there by e.op e.reply id ∙ ap is_some unmade in
+    record {
+      lease = lease_after by (effects_in by e) h.lease;
+      held = In-mapped (lease_after by (effects_in by e)) h.lease leases h.held;
+      below = ap (λ b. cond b None h.lease.below) none ∙ h.below;
+      field = h.field;
+      used = h.used;
+      among = h.among;
+      number = h.number;
+    }
+
+still_named : (by : Session) (e : Entry) (leases : List Lease) (uses : List Use) (o : Op) (r : Reply) → ((id : List ℕ) → named_by o ≡ Some id → made_by e.op e.reply id ≡ None) → NamesItsFile leases uses o r → NamesItsFile (map (lease_after by (effects_in by e)) leases) uses o r
+still_named by e leases uses (op.Create dir name kind (Some id)) reply.Made other n = record { reserved = still_reserved by e leases uses dir id (other id refl) n.reserved; child = n.child }
+still_named by e leases uses (op.Create dir name kind None) reply.Made other n = n
+still_named by e leases uses (op.Create dir name kind (Some id)) r other n = n
+still_named by e leases uses o r other n = n
+
+-- ## The parts
+
+module _ (skew greatest : ℕ) (s : Server) (journal : List Item) (by : Session) (replied : List Item) (leases : List Lease) (e : Entry) (es : List Entry) (next : ℕ)
+    (stand : AllStand s.rows by e.uses)
+    (sh : ServersHold (sight_of s journal)) (sf : ServersFit (sight_of s journal))
+    (h : SessionHolds skew greatest (sight_of s journal) by replied (record { leases = leases; log = e ∷ es; next = next; over = None }))
+    (f : SessionFits skew greatest (sight_of s journal) by (record { leases = leases; log = e ∷ es; next = next; over = None })) where
+  -- the servers, and the client, after it
+  abbrev after : Sight
+  after = sight_of (with_entry by e s) (journal ++ item_of by e ∷ [])
+
+  abbrev then : List Lease
+  then = map (lease_after by (effects_in by e)) leases
+
+  pub plain : IsEntry leases e
+  plain = f.entries e (inl refl)
+
+  pub right : IsAnswer (value_of s.records by) e
+  right = (h.pending stand).0
+
+  -- what the session sees
+  own : (g : Field) → value_of after.records by g ≡ value_after_all by g (value_of s.records by g) (effects_in by e)
+  own g = own_values s.records by e.op e.reply g sf.sound.records plain.plain (answered s.records by leases e plain right)
+
+  pub serial : JournalSerial after.journal after.records
+  serial = serial_push first_space journal (nodes_of s.records) (nodes_of after.records) (item_of by e) sh.serial (no_reap e.op plain.plain) (answered s.records by leases e plain right) (sym (leads_there s.records by leases e plain right))
+
+  pub sound : AreSound after.records
+  sound = sound_there s.records by leases e plain right sf.sound
+
+  -- ### What is promised of the session
+
+  backed : LeasesBacked skew greatest s.rows then
+  backed = each_image (lease_after by (effects_in by e)) (λ l. greatest < l.until + skew → IsBacked s.rows l.no l.until) leases h.backed
+
+  telling : LeasesTrue s.rows (value_of after.records by) then
+  telling = each_image (lease_after by (effects_in by e)) (λ l. (r : Row) → In r s.rows → r.no ≡ l.no → l.base ≡ value_of after.records by l.field) leases
+      (λ l i r j n. ap (λ v. value_after_all by l.field v (effects_in by e)) (h.telling l i r j n) ∙ sym (own l.field))
+
+  pending : PendingStand s.rows by (value_of after.records by) es
+  pending = subst (λ v. PendingStand s.rows by v es) (fun_ext (λ g. sym (own g))) (h.pending stand).1
+
+  border : all_items by after.journal es ≡ all_items by journal (e ∷ es)
+  border = ap (λ is. is ++ map (item_of by) es) (items-own by journal (item_of by e) (session_itself by)) ∙ append_assoc (items_by by journal) (item_of by e ∷ []) (map (item_of by) es)
+
+  pub holds : SessionHolds skew greatest after by replied (record { leases = then; log = es; next = next; over = None })
+  holds = record {
+    backed = backed;
+    telling = telling;
+    pending = pending;
+    numbers = subst (λ is. AreNumbered 1 is next) (sym border) h.numbers;
+    replies = border ∙ h.replies;
+  }
+
+  -- ### What keeps it so
+
+  distinct : LeasesDistinct then
+  distinct l m i j n =
+      let p = In-map (lease_after by (effects_in by e)) l leases i in
+      let q = In-map (lease_after by (effects_in by e)) m leases j in
+      p.1.1 ∙ ap (lease_after by (effects_in by e)) (f.distinct p.0 q.0 p.1.0 q.1.0 (sym (ap (λ (x : Lease). x.no) p.1.1) ∙ n ∙ ap (λ (x : Lease). x.no) q.1.1)) ∙ sym q.1.1
+
+  fresh : FreshLeases then
+  fresh = each_image (lease_after by (effects_in by e)) (λ l. (dir : List ℕ) → l.below ≡ Some dir → IsFresh dir l) leases (λ l i dir b.
+      let q = stays_below (list_any (makes (file_of l.field)) (effects_in by e)) l.below dir b in
+      fresh_after by e l dir q.0 (f.fresh l i dir q.1))
+
+  held : UsesHeld then es
+  held x i u j =
+      let q : HasLease leases u = f.held x (inr i) u j in
+      record { lease = lease_after by (effects_in by e) q.lease; held = In-mapped (lease_after by (effects_in by e)) q.lease leases q.held; number = q.number; field = q.field; kind = q.kind }
+
+  -- an entry behind it names another file
+  other : (x : Entry) → In x es → (id : List ℕ) → named_by x.op ≡ Some id → made_by e.op e.reply id ≡ None
+  other x i id n = elim (is_some (made_by e.op e.reply id)) as (λ b. is_some (made_by e.op e.reply id) ≡ b → made_by e.op e.reply id ≡ None) [
+    | true ↦ λ t. absurd (f.once.0 x id i (names_made e.op e.reply id t) n)
+    | false ↦ λ t. not_some (made_by e.op e.reply id) t
+  ] refl
+
+  entries : AreEntries then es
+  entries x i =
+      let q : IsEntry leases x = f.entries x (inr i) in
+      record { plain = q.plain; access = q.access; named = still_named by e leases x.uses x.op x.reply (other x i) q.named }
+
+  pub fits : SessionFits skew greatest after by (record { leases = then; log = es; next = next; over = None })
+  fits = record {
+    given = each_image (lease_after by (effects_in by e)) _ leases f.given;
+    distinct = distinct;
+    matching = each_image (lease_after by (effects_in by e)) (λ l. (r : Row) → In r s.rows → r.no ≡ l.no → IsRowOf by l.field l.kind r) leases f.matching;
+    fresh = fresh;
+    held = held;
+    backed = λ x i. f.backed x (inr i);
+    entries = entries;
+    once = f.once.1;
+    refused = λ n o. absurd (cc);
+  }

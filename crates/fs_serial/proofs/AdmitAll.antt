@@ -1,0 +1,117 @@
+-- The server admits an entry: all parts of all sessions.
+use Rattle.std.proofs.Common.{◌≡◌, ℕ, ◌==◌, Bool, true, false, List, [], ◌∷◌, ◌++◌, map, refl, sym, ap, ◌∙◌, subst, cond}
+use Rattle.std.specs.Prelude.{Option, Some, None, is_some}
+use Rattle.fs_ident.specs.In.{In}
+use Rattle.fs_ident.specs.declared.actor.LeaseNo.{LeaseNo}
+use Rattle.fs_ident.specs.declared.actor.Session.{Session}
+use Rattle.fs_ident.proofs.Standing.{In-map}
+use Rattle.fs_field.specs.Field.{file_of}
+use Rattle.fs_msg.specs.declared.entry.Entry.{Entry}
+use Rattle.fs_msg.specs.declared.item.Item.{Item}
+use Rattle.fs_server.specs.Ships.{item_of, with_entry}
+use Rattle.fs_server.specs.declared.state.Server.{Server}
+use Rattle.fs_serial.specs.Fresh.{Reserves, reserved_by}
+use Rattle.fs_serial.specs.Parts.{AllHold, SessionHolds, SessionFits, with_client}
+use Rattle.fs_record.specs.ValueOf.{value_of}
+use Rattle.fs_serial.specs.Pending.{AllStand, IsAnswer, IsEntry}
+use Rattle.fs_serial.specs.Relies.{Relies}
+use Rattle.fs_serial.specs.Settled.{Lease, Settled, acknowledged, lease_after, effects_in}
+use Rattle.fs_serial.specs.Sight.{Sight, sight_of}
+use Rattle.fs_serial.specs.Steps.{IsAdmitted}
+use Rattle.fs_serial.proofs.Admit as admit
+use Rattle.fs_serial.proofs.AdmitFresh.{fresh_then, made_then}
+use Rattle.fs_serial.proofs.AdmitOthers.{others_rely}
+use Rattle.fs_serial.proofs.Relied.{relied_holds, relied_fits}
+use Rattle.fs_serial.proofs.Rowed.{all_found}
+use Rattle.fs_serial.proofs.Together.{each_session, its_client}
+
+-- a lease that still reserves its file did so before
+below_before : (b : Bool) (below : Option (List ℕ)) → is_some (cond b None below) ≡ true → is_some below ≡ true
+below_before true below h = absurd (cc)
+below_before false below h = h
+
+fewer_reserved : (by : Session) (e : Entry) (leases : List Lease) (n : LeaseNo) (id : List ℕ) → Reserves (map (lease_after by (effects_in by e)) leases) n id → Reserves leases n id
+fewer_reserved by e leases n id r =
+    let k = In-map (lease_after by (effects_in by e)) r.lease leases r.held in
+    record {
+      lease = k.0;
+      held = k.1.0;
+      number = ap (λ (l : Lease). l.no) (sym k.1.1) ∙ r.number;
+      fresh = below_before _ k.0.below (ap (λ (l : Lease). is_some l.below) (sym k.1.1) ∙ r.fresh);
+      file = ap (λ (l : Lease). file_of l.field) (sym k.1.1) ∙ r.file;
+    }
+
+module _ (skew greatest : ℕ) (s : Server) (journal : List Item) (replied : Session → List Item) (clients : Session → Settled) (by : Session) (e : Entry) (h : AllHold skew greatest (sight_of s journal) replied clients) (a : IsAdmitted s by (clients by) e) where
+  abbrev d : Settled
+  d = clients by
+
+  -- the client as the law of its own session has it
+  abbrev first : Settled
+  first = record { leases = d.leases; log = e ∷ a.rest; next = d.next; over = None }
+
+  is_first : d ≡ first
+  is_first = ap (λ l. let x : Settled = record { leases = d.leases; log = l; next = d.next; over = d.over } in x) a.log ∙ ap (λ o. let x : Settled = record { leases = d.leases; log = e ∷ a.rest; next = d.next; over = o } in x) a.going
+
+  abbrev then : Settled
+  then = record { leases = map (lease_after by (effects_in by e)) d.leases; log = a.rest; next = d.next; over = None }
+
+  is_then : then ≡ acknowledged by d.log d
+  is_then = ap (λ o. let x : Settled = record { leases = map (lease_after by (effects_in by e)) d.leases; log = a.rest; next = d.next; over = o } in x) (sym a.going) ∙ ap (λ l. acknowledged by l d) (sym a.log)
+
+  abbrev after : Sight
+  after = sight_of (with_entry by e s) (journal ++ item_of by e ∷ [])
+
+  stand : AllStand s.rows by e.uses
+  stand = all_found s.rows by e.uses a.found
+
+  holds : SessionHolds skew greatest (sight_of s journal) by (replied by) first
+  holds = subst (SessionHolds skew greatest (sight_of s journal) by (replied by)) is_first (h.sessions by)
+
+  fits : SessionFits skew greatest (sight_of s journal) by first
+  fits = subst (SessionFits skew greatest (sight_of s journal) by) is_first (h.fitting by)
+
+  plain : IsEntry d.leases e
+  plain = admit.plain skew greatest s journal by (replied by) d.leases e a.rest d.next stand h.servers h.kept holds fits
+
+  right : IsAnswer (value_of s.records by) e
+  right = admit.right skew greatest s journal by (replied by) d.leases e a.rest d.next stand h.servers h.kept holds fits
+
+  abbrev all : Session → Settled
+  all = with_client by then clients
+
+  rely : (x : Session) → (by.0 == x.0) ≡ false → Relies skew greatest x (sight_of s journal) after
+  rely x other = others_rely skew greatest s journal by x d.leases e other stand plain right h.servers h.kept
+
+  sessions : (x : Session) → SessionHolds skew greatest after x (replied x) (all x)
+  sessions = each_session (λ x c. SessionHolds skew greatest after x (replied x) c) by then clients
+      (admit.holds skew greatest s journal by (replied by) d.leases e a.rest d.next stand h.servers h.kept holds fits)
+      (λ x other. relied_holds skew greatest x (sight_of s journal) after (clients x) (rely x other) (h.fitting x) (replied x) (h.sessions x))
+
+  fitting : (x : Session) → SessionFits skew greatest after x (all x)
+  fitting = each_session (λ x c. SessionFits skew greatest after x c) by then clients
+      (admit.fits skew greatest s journal by (replied by) d.leases e a.rest d.next stand h.servers h.kept holds fits)
+      (λ x other. relied_fits skew greatest x (sight_of s journal) after (clients x) (rely x other) (h.fitting x))
+
+  -- fewer identifiers are reserved
+  fewer : (x : Session) (n : LeaseNo) (i : List ℕ) → reserved_by all x n i → reserved_by clients x n i
+  fewer = each_session (λ x (c : Settled). (n : LeaseNo) (i : List ℕ) → Reserves c.leases n i → Reserves (clients x).leases n i) by then clients (fewer_reserved by e d.leases) (λ x other n i r. r)
+
+  still : (n : LeaseNo) (i : List ℕ) → reserved_by all by n i → Reserves then.leases n i
+  still n i r = subst (λ (c : Settled). Reserves c.leases n i) (its_client by then clients) r
+
+  kept : AllHold skew greatest after replied all
+  kept = record {
+    servers = record { apart = h.servers.apart; serial = admit.serial skew greatest s journal by (replied by) d.leases e a.rest d.next stand h.servers h.kept holds fits };
+    kept = record {
+      off_modes = h.kept.off_modes;
+      given = h.kept.given;
+      sound = admit.sound skew greatest s journal by (replied by) d.leases e a.rest d.next stand h.servers h.kept holds fits;
+      made = made_then s journal by d.leases e plain right h.kept.sound fits.distinct (reserved_by clients) (reserved_by all) fewer (λ n i r. r) still h.reserved h.kept.made;
+    };
+    sessions = sessions;
+    fitting = fitting;
+    reserved = fresh_then s journal by d.leases e plain right h.kept.sound fits.distinct (reserved_by clients) (reserved_by all) fewer (λ n i r. r) still h.reserved;
+  }
+
+  pub admit_kept : AllHold skew greatest after replied (with_client by (acknowledged by d.log d) clients)
+  admit_kept = subst (λ c. AllHold skew greatest after replied (with_client by c clients)) is_then kept

@@ -1,0 +1,155 @@
+-- Facts on lists, walks and records that several kinds of step need.
+use Rattle.std.proofs.Common.{◌≡◌, ℕ, ◌+◌, ◌==◌, not, ◌&&◌, ◌||◌, Bool, true, false, List, [], ◌∷◌, ◌++◌, ◌⊎◌, length, map, refl, sym, ap, ◌∙◌, subst, inl, inr, cond, arith, append_assoc, append-nil}
+use Rattle.std.specs.Prelude.{Option, Some, None, is_some}
+use Rattle.std.specs.List.{filter, find, list_any, filter_map, cons_option}
+use Rattle.std.specs.FinMap.{get}
+use Rattle.std.specs.Cmp.{nat_eq_equiv}
+use Rattle.std.specs.Cmp.Lexicographic.{same_text, nat_list_eq_equiv}
+use Rattle.std.proofs.lemmas.Bool.Decides.{nat_tests}
+use Rattle.std.proofs.lemmas.List.Elements.{filter-append}
+use mathlib.Core.Path.{fun_ext}
+use Rattle.fs_ident.specs.In.{In}
+use Rattle.fs_ident.specs.Ident.{same}
+use Rattle.fs_ident.specs.declared.actor.Session.{Session}
+use Rattle.fs_ident.specs.declared.kind.Kind.{Kind}
+use Rattle.fs_ident.proofs.Standing.{In-map}
+use Rattle.fs_field.specs.Field.{file_of}
+use Rattle.fs_field.specs.declared.effect.Effect.{Effect}
+use Rattle.fs_msg.specs.Journal.{IsSerialRun, item_step, may_admit}
+use Rattle.fs_msg.specs.declared.item.Item.{Item}
+use Rattle.fs_model.specs.Namespace.{NodeMap}
+use Rattle.fs_record.specs.Applied.{records_after, nodes_after_all}
+use Rattle.fs_record.specs.Records.{RecordMap, AreRecords, nodes_of}
+use Rattle.fs_record.specs.ValueOf.{value_of, value_at}
+use Rattle.fs_record.proofs.Kept.{after_kept}
+use Rattle.fs_record.proofs.NodeMaps.{node_there, nodes_alike}
+use Rattle.fs_view.specs.Laws.{records_after_all}
+use Rattle.fs_view.specs.Walk.{known_in}
+use Rattle.fs_serial.specs.Fresh.{made, made_in, made_by, or_else, root_kind, IsMade, IsAtOrBelow}
+use Rattle.fs_serial.specs.Numbers.{is_session, items_by}
+use Rattle.fs_serial.specs.Pending.{known_with}
+
+-- ## Lists
+
+pub In-append : {X : Type 0} (x : X) (xs ys : List X) → In x (xs ++ ys) → In x xs ⊎ In x ys
+In-append x [] ys h = inr h
+In-append x (z ∷ xs) ys (inl e) = inl (inl e)
+In-append x (z ∷ xs) ys (inr h) = elim (In-append x xs ys h) as (λ _. ((x ≡ z) ⊎ In x xs) ⊎ In x ys) [ inl i ↦ inl (inr i) | inr i ↦ inr i ]
+
+pub In-front : {X : Type 0} (x : X) (xs ys : List X) → In x xs → In x (xs ++ ys)
+In-front x [] ys h = absurd h
+In-front x (z ∷ xs) ys (inl e) = inl e
+In-front x (z ∷ xs) ys (inr h) = inr (In-front x xs ys h)
+
+pub In-behind : {X : Type 0} (x : X) (xs ys : List X) → In x ys → In x (xs ++ ys)
+In-behind x [] ys h = h
+In-behind x (z ∷ xs) ys h = inr (In-behind x xs ys h)
+
+pub In-mapped : {X Y : Type 0} (f : X → Y) (x : X) (xs : List X) → In x xs → In (f x) (map f xs)
+In-mapped f x [] h = absurd h
+In-mapped f x (z ∷ xs) (inl e) = inl (ap f e)
+In-mapped f x (z ∷ xs) (inr h) = inr (In-mapped f x xs h)
+
+-- what holds of the image of each item holds of each item of the image
+pub each_image : {X Y : Type 0} (f : X → Y) (P : Y → Type 0) (xs : List X) → ((x : X) → In x xs → P (f x)) → (y : Y) → In y (map f xs) → P y
+each_image f P xs h y i = let q = In-map f y xs i in subst P (sym q.1.1) (h q.0 q.1.0)
+
+-- what holds of one more item, and of each of the others
+pub each_more : {X : Type 0} (P : X → Type 0) (xs : List X) (new : X) → ((x : X) → In x xs → P x) → P new → (x : X) → In x (xs ++ new ∷ []) → P x
+each_more P xs new old here x i = elim (In-append x xs (new ∷ []) i) as (λ _. P x) [
+  | inl j ↦ old x j
+  | inr j ↦ elim j as (λ _. P x) [ inl e ↦ subst P (sym e) here | inr z ↦ absurd z ]
+]
+
+pub any-In : {X : Type 0} (test : X → Bool) (xs : List X) → list_any test xs ≡ true → (x : X) × In x xs × (test x ≡ true)
+any-In test [] h = absurd (cc)
+any-In test (y ∷ ys) h =
+    elim (test y) as (λ b. test y ≡ b → (b || list_any test ys) ≡ true → (x : _) × In x (y ∷ ys) × (test x ≡ true)) [
+      | true ↦ λ e g. (y, inl refl, e)
+      | false ↦ λ e g. let q = any-In test ys g in (q.0, inr q.1, q.2)
+    ] refl h
+
+pub none-In : {X : Type 0} (test : X → Bool) (xs : List X) → ((x : X) → In x xs → test x ≡ false) → list_any test xs ≡ false
+none-In test [] f = refl
+none-In test (y ∷ ys) f = ap (λ b. b || list_any test ys) (f y (inl refl)) ∙ none-In test ys (λ x i. f x (inr i))
+
+-- ## Identifiers
+
+pub same_is : (a b : List ℕ) → same a b ≡ true → a ≡ b
+same_is a b h = same_text a b (sym h)
+
+pub same_self : (a : List ℕ) → same a a ≡ true
+same_self a = nat_list_eq_equiv.refl a
+
+pub same_symm : (a b : List ℕ) → same a b ≡ same b a
+same_symm a b = nat_list_eq_equiv.symm a b
+
+pub below-trans : (i j k : List ℕ) → IsAtOrBelow i j → IsAtOrBelow j k → IsAtOrBelow i k
+below-trans i j k p q = (p.0 ++ q.0, q.1 ∙ ap (λ xs. xs ++ q.0) p.1 ∙ append_assoc i p.0 q.0)
+
+pub below_itself : (i : List ℕ) → IsAtOrBelow i i
+below_itself i = ([], sym (append-nil i))
+
+-- ## Sessions
+
+pub session_itself : (s : Session) → (s.0 == s.0) ≡ true
+session_itself s = nat_eq_equiv.refl s.0
+
+-- ## Walks and values
+
+-- the values of records are those of their nodes
+pub known_nodes : (m : RecordMap) (by : Session) → known_with (value_of m by) ≡ known_in (nodes_of m) by
+known_nodes m by = fun_ext (λ field. fun_ext (λ kind. ap (λ o. Some (value_at by field o)) (sym (node_there m (file_of field)))))
+
+pub nodes_all : (m : RecordMap) (es : List Effect) → nodes_of (records_after_all m es) ≡ nodes_after_all (nodes_of m) es
+nodes_all m [] = refl
+nodes_all m (e ∷ es) = nodes_all (records_after m e) es ∙ ap (λ n. nodes_after_all n es) (nodes_alike m e)
+
+pub records_all : (m : RecordMap) (es : List Effect) → AreRecords m → AreRecords (records_after_all m es)
+records_all m [] h = h
+records_all m (e ∷ es) h = records_all (records_after m e) es (after_kept m e h)
+
+-- ## Journals
+
+pub serial_push : (first : NodeMap) (is : List Item) (last next : NodeMap) (i : Item) → IsSerialRun first is last → may_admit i.by i.op ≡ true → (item_step last i).reply ≡ i.reply → (item_step last i).nodes ≡ next → IsSerialRun first (is ++ i ∷ []) next
+serial_push first [] last next i h may r n = (may, ap (λ m. (item_step m i).reply) h ∙ r, ap (λ m. (item_step m i).nodes) h ∙ n)
+serial_push first (j ∷ is) last next i h may r n = (h.0, h.1, serial_push (item_step first j).nodes is last next i h.2 may r n)
+
+kept_if : (b : Bool) (i : Item) → b ≡ true → cond b (i ∷ []) [] ≡ i ∷ []
+kept_if true i e = refl
+kept_if false i e = absurd (cc)
+
+dropped_if : (b : Bool) (i : Item) → b ≡ false → cond b (i ∷ []) [] ≡ []
+dropped_if true i e = absurd (cc)
+dropped_if false i e = refl
+
+pub items-own : (by : Session) (is : List Item) (i : Item) → is_session by i.by ≡ true → items_by by (is ++ i ∷ []) ≡ items_by by is ++ i ∷ []
+items-own by is i own = filter-append (λ (i : Item). is_session by i.by) is (i ∷ []) ∙ ap (λ xs. items_by by is ++ xs) (kept_if (is_session by i.by) i own)
+
+pub items-other : (by : Session) (is : List Item) (i : Item) → is_session by i.by ≡ false → items_by by (is ++ i ∷ []) ≡ items_by by is
+items-other by is i other = filter-append (λ (i : Item). is_session by i.by) is (i ∷ []) ∙ ap (λ xs. items_by by is ++ xs) (dropped_if (is_session by i.by) i other) ∙ append-nil (items_by by is)
+
+-- ## Made
+
+or_none : (a : Option Kind) → or_else a None ≡ a
+or_none None = refl
+or_none (Some k) = refl
+
+or_assoc : (a b c : Option Kind) → or_else a (or_else b c) ≡ or_else (or_else a b) c
+or_assoc None b c = refl
+or_assoc (Some k) b c = refl
+
+made_in-append : (is : List Item) (i : Item) (id : List ℕ) → made_in (is ++ i ∷ []) id ≡ or_else (made_in is id) (made_by i.op i.reply id)
+made_in-append [] i id = or_none (made_by i.op i.reply id)
+made_in-append (j ∷ is) i id = ap (or_else (made_by j.op j.reply id)) (made_in-append is i id) ∙ or_assoc (made_by j.op j.reply id) (made_in is id) (made_by i.op i.reply id)
+
+-- what one more item made
+pub made-append : (is : List Item) (i : Item) (id : List ℕ) → made (is ++ i ∷ []) id ≡ or_else (made is id) (made_by i.op i.reply id)
+made-append is i id = ap (or_else (root_kind id)) (made_in-append is i id) ∙ or_assoc (root_kind id) (made_in is id) (made_by i.op i.reply id)
+
+either_some : (a b : Option Kind) → is_some (or_else a b) ≡ true → (is_some a ≡ true) ⊎ (is_some b ≡ true)
+either_some None b h = inr h
+either_some (Some k) b h = inl refl
+
+pub made_before : (is : List Item) (i : Item) (id : List ℕ) → IsMade (is ++ i ∷ []) id → IsMade is id ⊎ (is_some (made_by i.op i.reply id) ≡ true)
+made_before is i id h = either_some (made is id) (made_by i.op i.reply id) (ap is_some (sym (made-append is i id)) ∙ h)

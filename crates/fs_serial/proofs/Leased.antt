@@ -1,0 +1,103 @@
+-- One row more, and one lease more.
+use Rattle.std.proofs.Common.{◌≡◌, ℕ, ◌+◌, ◌<◌, ◌≤◌, Bool, true, false, cond, List, [], ◌∷◌, ◌++◌, refl, sym, ap, subst, inl, inr, arith}
+use Rattle.std.specs.Prelude.{Some, ◌≢◌}
+use Rattle.fs_ident.specs.In.{In}
+use Rattle.fs_ident.specs.Ordered.{put_before}
+use Rattle.fs_ident.specs.declared.actor.Session.{Session}
+use Rattle.fs_ident.proofs.Standing.{In-put}
+use Rattle.fs_field.specs.declared.field.Field.{Field}
+use Rattle.fs_field.specs.declared.row.Row.{Row}
+use Rattle.fs_field.specs.declared.used.Use.{Use}
+use Rattle.fs_field.specs.Table.{with_row, no_before}
+use Rattle.fs_model.specs.declared.op.Op.{Op}
+use Rattle.fs_model.specs.declared.op.Op.TheVariants as op
+use Rattle.fs_model.specs.declared.reply.Reply.{Reply}
+use Rattle.fs_model.specs.declared.reply.Reply.TheVariants as reply
+use Rattle.fs_msg.specs.declared.item.Item.{Item}
+use Rattle.fs_record.specs.ValueOf.{value_of}
+use Rattle.fs_serial.specs.Leases.{IsBacked, IsRowOf, IsFresh}
+use Rattle.fs_serial.specs.Numbers.{items_by}
+use Rattle.fs_serial.specs.Parts.{SessionHolds, SessionFits}
+use Rattle.fs_serial.specs.Pending.{NamesItsFile}
+use Rattle.fs_serial.specs.Relies.{Relies, Stood}
+use Rattle.fs_serial.specs.Settled.{Lease, Settled, with_leases}
+use Rattle.fs_serial.specs.Sight.{Sight, IsGiven}
+use Rattle.fs_serial.proofs.Facts.{In-front, each_more}
+
+-- ## One row more
+
+pub In-put_here : {X : Type 0} (test : X → Bool) (new : X) (ys : List X) → In new (put_before test new ys)
+In-put_here test new [] = inl refl
+In-put_here test new (y ∷ ys) =
+    elim (test y) as (λ b. In new (cond b (new ∷ y ∷ ys) (y ∷ put_before test new ys))) [
+      | true ↦ inl refl
+      | false ↦ inr (In-put_here test new ys)
+    ]
+
+pub In-put_still : {X : Type 0} (test : X → Bool) (x new : X) (ys : List X) → In x ys → In x (put_before test new ys)
+In-put_still test x new [] h = absurd h
+In-put_still test x new (y ∷ ys) h =
+    elim (test y) as (λ b. In x (cond b (new ∷ y ∷ ys) (y ∷ put_before test new ys))) [
+      | true ↦ inr h
+      | false ↦ elim h as (λ _. In x (y ∷ put_before test new ys)) [ inl e ↦ inl e | inr j ↦ inr (In-put_still test x new ys j) ]
+    ]
+
+-- each session relies on what was before a row with a new number
+pub row_relied : (skew greatest : ℕ) (by : Session) (s t : Sight) (row : Row) → t.rows ≡ with_row row s.rows → (IsGiven s.given row.no → ⊥) → ((k : ℕ) → s.given k ≤ t.given k) → ((field : Field) → value_of t.records by field ≡ value_of s.records by field) → t.journal ≡ s.journal
+    → Relies skew greatest by s t
+row_relied skew greatest by s t row rows new given values journal = record {
+  given = given;
+  older = λ r i g. elim (In-put (λ x. no_before row.no x.no) r row s.rows (subst (λ rs. In r rs) rows i)) as (λ _. Stood s.rows r) [
+    | inl e ↦ absurd (new (subst (λ (x : Row). IsGiven s.given x.no) e g))
+    | inr j ↦ record { row = r; stood = j; number = refl; session = refl; field = refl; kind = refl }
+  ];
+  kept = λ r i own late. record { row = r; stands = subst (λ rs. In r rs) (sym rows) (In-put_still (λ x. no_before row.no x.no) r row s.rows i); number = refl; lasts = omega arith };
+  values = λ r i g own. values r.field;
+  items = ap (items_by by) journal;
+}
+
+-- ## One lease more
+
+-- the row of a lease that is new to the session stands, and tells what the lease tells
+pub record IsNewLease (t : Sight) (by : Session) (leases : List Lease) (l : Lease) : Type 0 where
+  pub given : IsGiven t.given l.no
+  pub new : (k : Lease) → In k leases → k.no ≢ l.no
+  pub row : IsBacked t.rows l.no l.until
+  pub own : (r : Row) → In r t.rows → r.no ≡ l.no → IsRowOf by l.field l.kind r
+  pub told : l.base ≡ value_of t.records by l.field
+  pub fresh : (dir : List ℕ) → l.below ≡ Some dir → IsFresh dir l
+
+names_still : (leases more : List Lease) (uses : List Use) (o : Op) (r : Reply) → NamesItsFile leases uses o r → NamesItsFile (leases ++ more) uses o r
+names_still leases more uses (op.Create dir name kind (Some id)) reply.Made n = record {
+  reserved = record { lease = n.reserved.lease; held = In-front n.reserved.lease leases more n.reserved.held; below = n.reserved.below; field = n.reserved.field; used = n.reserved.used; among = n.reserved.among; number = n.reserved.number };
+  child = n.child;
+}
+names_still leases more uses o r n = n
+
+module _ (skew greatest : ℕ) (by : Session) (t : Sight) (d : Settled) (l : Lease) (fits : IsNewLease t by d.leases l) (f : SessionFits skew greatest t by d) where
+  distinct : (j : Lease) → In j (d.leases ++ l ∷ []) → (k : Lease) → In k (d.leases ++ l ∷ []) → j.no ≡ k.no → j ≡ k
+  distinct = each_more (λ (j : Lease). (k : Lease) → In k (d.leases ++ l ∷ []) → j.no ≡ k.no → j ≡ k) d.leases l
+      (λ j i. each_more (λ (k : Lease). j.no ≡ k.no → j ≡ k) d.leases l (λ k h e. f.distinct j k i h e) (λ e. absurd (fits.new j i e)))
+      (each_more (λ (k : Lease). l.no ≡ k.no → l ≡ k) d.leases l (λ k h e. absurd (fits.new k h (sym e))) (λ e. refl))
+
+  pub leased_fits : SessionFits skew greatest t by (with_leases (l ∷ []) d)
+  leased_fits = record {
+    given = each_more (λ (k : Lease). IsGiven t.given k.no) d.leases l f.given fits.given;
+    distinct = λ j k i h. distinct j i k h;
+    matching = each_more (λ (k : Lease). (r : Row) → In r t.rows → r.no ≡ k.no → IsRowOf by k.field k.kind r) d.leases l f.matching fits.own;
+    fresh = each_more (λ (k : Lease). (dir : List ℕ) → k.below ≡ Some dir → IsFresh dir k) d.leases l f.fresh fits.fresh;
+    held = λ e h u i. let q = f.held e h u i in record { lease = q.lease; held = In-front q.lease d.leases (l ∷ []) q.held; number = q.number; field = q.field; kind = q.kind };
+    backed = f.backed;
+    entries = λ e h. let q = f.entries e h in record { plain = q.plain; access = q.access; named = names_still d.leases (l ∷ []) e.uses e.op e.reply q.named };
+    once = f.once;
+    refused = f.refused;
+  }
+
+  pub leased_holds : (replied : List Item) → SessionHolds skew greatest t by replied d → SessionHolds skew greatest t by replied (with_leases (l ∷ []) d)
+  leased_holds replied h = record {
+    backed = each_more (λ (k : Lease). greatest < k.until + skew → IsBacked t.rows k.no k.until) d.leases l h.backed (λ late. fits.row);
+    telling = each_more (λ (k : Lease). (r : Row) → In r t.rows → r.no ≡ k.no → k.base ≡ value_of t.records by k.field) d.leases l h.telling (λ r i e. fits.told);
+    pending = h.pending;
+    numbers = h.numbers;
+    replies = h.replies;
+  }

@@ -1,0 +1,178 @@
+-- What a session relies on keeps its parts.
+use Rattle.std.proofs.Common.{◌≡◌, ℕ, ◌+◌, ◌<◌, List, [], ◌∷◌, ◌++◌, map, refl, sym, ap, ◌∙◌, subst, inl, inr, arith}
+use Rattle.std.specs.Prelude.{Some, is_some}
+use Rattle.fs_ident.specs.In.{In}
+use Rattle.fs_ident.specs.declared.actor.LeaseNo.{LeaseNo}
+use Rattle.fs_ident.specs.declared.actor.Session.{Session}
+use Rattle.fs_field.specs.declared.asked.Need.{Need}
+use Rattle.fs_field.specs.declared.asked.Need.TheVariants as need
+use Rattle.fs_field.specs.declared.field.Field.{Field}
+use Rattle.fs_field.specs.declared.row.Row.{Row}
+use Rattle.fs_field.specs.declared.used.Use.{Use}
+use Rattle.fs_field.specs.declared.value.Value.{Value}
+use Rattle.fs_msg.specs.declared.answer.Answer.{Answer}
+use Rattle.fs_msg.specs.declared.entry.Entry.{Entry}
+use Rattle.fs_msg.specs.declared.item.Item.{Item}
+use Rattle.fs_record.specs.ValueOf.{value_of}
+use Rattle.fs_view.specs.declared.kept.Kept.{Kept}
+use Rattle.fs_view.specs.Kept.{number_of}
+use Rattle.fs_view.specs.Laws.{HasToo}
+use Rattle.fs_view.specs.Script.{script_of}
+use Rattle.fs_view.specs.View.{value_after_all}
+use Rattle.fs_view.specs.Walk.{walk, always}
+use Rattle.fs_view.proofs.Walks.{alike}
+use Rattle.fs_serial.specs.Exchange.{ReturnsFit, RenewalsBacked}
+use Rattle.fs_serial.specs.Leases.{IsBacked, LeasesBacked, LeasesTrue, LeasesMatch}
+use Rattle.fs_server.specs.Ships.{item_of}
+use Rattle.fs_serial.specs.Numbers.{AreNumbered, all_items, NumbersInOrder}
+use Rattle.fs_serial.specs.Parts.{SessionHolds, SessionFits}
+use Rattle.fs_serial.specs.Pending.{AllStand, IsAnswer, IsCovered, PendingStand, RefusedGone, UsesBacked, known_with, values_after}
+use Rattle.fs_serial.specs.Relies.{Relies, Stood}
+use Rattle.fs_serial.specs.Settled.{Lease, Settled, effects_in}
+use Rattle.fs_serial.specs.Sight.{Sight, IsGiven}
+
+-- ## Answers
+
+-- values that agree on what the answer stands on give the same answer
+pub answers_alike : (rows : List Row) (by : Session) (v w : Field → Value) (e : Entry) → ((r : Row) → In r rows → r.session ≡ by → (u : Use) → In u e.uses → r.no ≡ u.no → w r.field ≡ v r.field) → AllStand rows by e.uses → IsAnswer v e → IsAnswer w e
+answers_alike rows by v w e agree stand a =
+    let has : (n : Need) → In n (walk (known_with v) always e.op).items → HasToo (known_with v) (known_with w) always n = λ n i. has_too n (a.covered n i) in
+    let same : walk (known_with w) always e.op ≡ walk (known_with v) always e.op = alike (known_with v) (known_with w) always always (script_of e.op) (ap is_some a.reply) has in
+    record {
+      reply = ap (λ k. k.reply) same ∙ a.reply;
+      covered = λ n i. a.covered n (subst (λ k. In n k.items) same i);
+    }
+  where
+    has_too : (n : Need) → IsCovered e.uses n → HasToo (known_with v) (known_with w) always n
+    has_too (need.Lease field kind) c =
+        let q = stand c.used c.among in
+        let there : q.row.field ≡ field = q.field ∙ c.field in
+        ap Some (ap w (sym there) ∙ agree q.row q.stands q.session c.used c.among q.number ∙ ap v there)
+    has_too (need.Fresh dir) c = absurd c
+
+module _ (skew greatest : ℕ) (by : Session) (s t : Sight) (d : Settled) (rely : Relies skew greatest by s t) (f : SessionFits skew greatest s by d) where
+  -- ## Leases
+
+  still_given : (n : LeaseNo) → IsGiven s.given n → IsGiven t.given n
+  still_given n g = let more = rely.given n.server in omega arith
+
+  -- a row with the number of a lease stood before
+  stood : (l : Lease) → In l d.leases → (r : Row) → In r t.rows → r.no ≡ l.no → Stood s.rows r
+  stood l h r i e = rely.older r i (subst (λ n. IsGiven s.given n) (sym e) (f.given l h))
+
+  matching : LeasesMatch t.rows by d.leases
+  matching l h r i e =
+      let q = stood l h r i e in
+      let m = f.matching l h q.row q.stood (q.number ∙ e) in
+      record { session = sym q.session ∙ m.session; field = sym q.field ∙ m.field; kind = sym q.kind ∙ m.kind }
+
+  -- what is backed by a row of the session stays so
+  backed_still : (n : LeaseNo) (until : ℕ) → greatest < until + skew → ((r : Row) → In r s.rows → r.no ≡ n → r.session ≡ by) → IsBacked s.rows n until → IsBacked t.rows n until
+  backed_still n until late own b =
+      let last = b.lasts in
+      let k = rely.kept b.row b.stands (own b.row b.stands b.number) (omega arith) in
+      let more = k.lasts in
+      record { row = k.row; stands = k.stands; number = k.number ∙ b.number; lasts = omega arith }
+
+  backed : LeasesBacked skew greatest s.rows d.leases → LeasesBacked skew greatest t.rows d.leases
+  backed b l h late = backed_still l.no l.until late (λ r i e. (f.matching l h r i e).session) (b l h late)
+
+  telling : LeasesTrue s.rows (value_of s.records by) d.leases → LeasesTrue t.rows (value_of t.records by) d.leases
+  telling told l h r i e =
+      let q = stood l h r i e in
+      let m = matching l h r i e in
+      let values = rely.values r i (subst (λ n. IsGiven s.given n) (sym e) (f.given l h)) m.session in
+      told l h q.row q.stood (q.number ∙ e) ∙ ap (value_of s.records by) (sym m.field) ∙ sym values ∙ ap (value_of t.records by) m.field
+
+  -- ## Entries
+
+  use_given : (e : Entry) → In e d.log → (u : Use) → In u e.uses → IsGiven s.given u.no
+  use_given e h u i = let l = f.held e h u i in subst (λ n. IsGiven s.given n) l.number (f.given l.lease l.held)
+
+  uses_backed : UsesBacked skew greatest t.rows d.log
+  uses_backed e h u i late =
+      let l = f.held e h u i in
+      backed_still u.no u.until late (λ r j m. (f.matching l.lease l.held r j (m ∙ sym l.number)).session) (f.backed e h u i late)
+
+  stood_all : (e : Entry) → In e d.log → AllStand t.rows by e.uses → AllStand s.rows by e.uses
+  stood_all e h stand u i =
+      let q = stand u i in
+      let p = rely.older q.row q.stands (subst (λ n. IsGiven s.given n) (sym q.number) (use_given e h u i)) in
+      record { row = p.row; stands = p.stood; number = p.number ∙ q.number; session = p.session ∙ q.session; field = p.field ∙ q.field; kind = p.kind ∙ q.kind }
+
+  -- the values are the same on what rows of the session are on
+  abbrev AgreeOnRows : (Field → Value) → (Field → Value) → Type 0
+  AgreeOnRows v w = (r : Row) → In r t.rows → IsGiven s.given r.no → r.session ≡ by → w r.field ≡ v r.field
+
+  pending_from : (log : List Entry) → ((e : Entry) → In e log → In e d.log) → (v w : Field → Value) → AgreeOnRows v w → PendingStand s.rows by v log → PendingStand t.rows by w log
+  pending_from [] within v w agree p = tt
+  pending_from (e ∷ es) within v w agree p = λ stand.
+      let h = within e (inl refl) in
+      let q = p (stood_all e h stand) in (
+        answers_alike t.rows by v w e (λ r i own u j n. agree r i (subst (λ n. IsGiven s.given n) (sym n) (use_given e h u j)) own) stand q.0,
+        pending_from es (λ x i. within x (inr i)) (values_after by e v) (values_after by e w) (λ r i g own. ap (λ x. value_after_all by r.field x (effects_in by e)) (agree r i g own)) q.1,
+      )
+
+  pending : PendingStand s.rows by (value_of s.records by) d.log → PendingStand t.rows by (value_of t.records by) d.log
+  pending p = pending_from d.log (λ e i. i) (value_of s.records by) (value_of t.records by) rely.values p
+
+  refused : RefusedGone t.rows d.log d.over
+  refused n e =
+      let q = f.refused n e in
+      let first : In q.first d.log = subst (λ es. In q.first es) (sym q.log) (inl refl) in
+      record {
+        first = q.first;
+        rest = q.rest;
+        log = q.log;
+        number = q.number;
+        used = q.used;
+        among = q.among;
+        gone = λ r i m. let p = rely.older r i (subst (λ n. IsGiven s.given n) (sym m) (use_given q.first first q.used q.among)) in q.gone p.row p.stood (p.number ∙ m);
+      }
+
+  -- ## Numbers
+
+  items : (log : List Entry) → all_items by t.journal log ≡ all_items by s.journal log
+  items log = ap (λ is. is ++ map (item_of by) log) rely.items
+
+  numbers : NumbersInOrder by s.journal d.log d.next → NumbersInOrder by t.journal d.log d.next
+  numbers h = subst (λ is. AreNumbered 1 is d.next) (sym (items d.log)) h
+
+  -- ## Together
+
+  pub relied_fits : SessionFits skew greatest t by d
+  relied_fits = record {
+    given = λ l h. still_given l.no (f.given l h);
+    distinct = f.distinct;
+    matching = matching;
+    fresh = f.fresh;
+    held = f.held;
+    backed = uses_backed;
+    entries = f.entries;
+    once = f.once;
+    refused = refused;
+  }
+
+  pub relied_holds : (replied : List Item) → SessionHolds skew greatest s by replied d → SessionHolds skew greatest t by replied d
+  relied_holds replied h = record {
+    backed = backed h.backed;
+    telling = telling h.telling;
+    pending = pending h.pending;
+    numbers = numbers h.numbers;
+    replies = items d.log ∙ h.replies;
+  }
+
+  pub relied_returns : (kept : List Kept) → ReturnsFit s.given s.rows by kept d.leases → ReturnsFit t.given t.rows by kept d.leases
+  relied_returns kept h k i leaving =
+      let q = h k i leaving in
+      record {
+        known = still_given (number_of k.standing) q.known;
+        alone = q.alone;
+        own = λ r j e. let p = rely.older r j (subst (λ n. IsGiven s.given n) (sym e) q.known) in sym p.session ∙ q.own p.row p.stood (p.number ∙ e);
+      }
+
+  -- a renewal on its way to a lease whose image the session has
+  pub relied_renewals : (down : List Answer) (now : List Lease) → ((l : Lease) → In l now → (m : Lease) × In m d.leases × (m.no ≡ l.no)) → RenewalsBacked skew greatest s.rows down now → RenewalsBacked skew greatest t.rows down now
+  relied_renewals down now image h ends end i n until j l k e late =
+      let m = image l k in
+      backed_still n until late (λ r o q. (f.matching m.0 m.1 r o (q ∙ sym e ∙ sym m.2)).session) (h ends end i n until j l k e late)

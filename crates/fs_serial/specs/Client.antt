@@ -1,0 +1,38 @@
+-- What holds inside a client, whatever the servers do.
+use Rattle.std.specs.Prelude.{◌≡◌, ℕ, ◌+◌, List, [], ◌∷◌, map, if◌then◌else◌}
+use Rattle.fs_ident.specs.In.{In}
+use Rattle.fs_ident.specs.declared.actor.LeaseNo.{LeaseNo}
+use Rattle.fs_ident.specs.declared.actor.Session.{Session}
+use Rattle.fs_field.specs.declared.used.Use.{Use}
+use Rattle.fs_field.specs.Table.{same_no}
+use Rattle.fs_msg.specs.declared.entry.Entry.{Entry}
+use Rattle.fs_view.specs.declared.kept.Kept.{Kept}
+use Rattle.fs_view.specs.Kept.{number_of, entries_of}
+use Rattle.fs_client.specs.declared.state.Client.{Client}
+use Rattle.fs_serial.specs.Settled.{effects_in}
+
+-- how often the lease is among these
+abbrev pub times_used : LeaseNo → List Use → ℕ
+times_used number [] = 0
+times_used number (u ∷ us) = if same_no u.no number then times_used number us + 1 else times_used number us
+
+-- and in how many uses of the log
+abbrev pub times_in : LeaseNo → List Entry → ℕ
+times_in number [] = 0
+times_in number (e ∷ es) = times_used number e.uses + times_in number es
+
+-- each lease is in use by as many entries as use it
+abbrev pub PinsCounted : List Kept → List Entry → Type 0
+PinsCounted leases log = (k : Kept) → In k leases → entries_of k.standing ≡ times_in (number_of k.standing) log
+
+-- two leases with one number are one
+abbrev pub KeptDistinct : List Kept → Type 0
+KeptDistinct leases = (k l : Kept) → In k leases → In l leases → number_of k.standing ≡ number_of l.standing → k ≡ l
+
+-- the client is of the session, its view knows what its log will do, and its leases are in use by its entries
+pub record ClientFits (by : Session) (c : Client) : Type 0 where
+  pub session : c.session ≡ by
+  pub viewed : c.view.session ≡ by
+  pub pending : c.view.pending ≡ map (effects_in by) c.log
+  pub distinct : KeptDistinct c.view.leases
+  pub pinned : PinsCounted c.view.leases c.log

@@ -1,0 +1,124 @@
+-- Parts about messages on their way between a client and its server.
+use Rattle.std.specs.Prelude.{◌≡◌, ◌≢◌, ℕ, ◌+◌, ◌<◌, ◌≤◌, Bool, true, false, not, List, [], ◌∷◌, ◌++◌, length, map, filter, Option, Some, None, ◌⊎◌}
+use Rattle.std.specs.List.{list_all}
+use Rattle.fs_ident.specs.In.{In}
+use Rattle.fs_ident.specs.declared.actor.LeaseNo.{LeaseNo}
+use Rattle.fs_ident.specs.declared.actor.Session.{Session}
+use Rattle.fs_field.specs.declared.field.Field.{Field}
+use Rattle.fs_field.specs.declared.lease_kind.LeaseKind.{LeaseKind}
+use Rattle.fs_field.specs.Field.{tells_no_mode}
+use Rattle.fs_field.specs.declared.row.Row.{Row}
+use Rattle.fs_msg.specs.declared.answer.Answer.{Answer}
+use Rattle.fs_msg.specs.declared.answer.Answer.TheVariants.{Recall, Renewed}
+use Rattle.fs_msg.specs.declared.client_msg.ClientMsg.{ClientMsg}
+use Rattle.fs_msg.specs.declared.client_msg.ClientMsg.TheVariants.{Ask, Renew, Release, Ship}
+use Rattle.fs_msg.specs.declared.end.End.{End}
+use Rattle.fs_msg.specs.declared.entry.Entry.{Entry}
+use Rattle.fs_server.specs.Pairs.{numbers_in}
+use Rattle.fs_view.specs.declared.kept.Kept.{Kept}
+use Rattle.fs_view.specs.declared.kept.Standing.{Standing}
+use Rattle.fs_view.specs.Kept.{number_of, is_leaving}
+use Rattle.fs_client.specs.Answers.{answer_fits}
+use Rattle.fs_client.specs.declared.exchange.Exchange.{Exchange}
+use Rattle.fs_client.specs.declared.exchange.Exchange.TheVariants.{Asks, Renews, Releases, Ships}
+use Rattle.fs_client.specs.declared.state.Client.{Client}
+use Rattle.fs_serial.specs.Leases.{IsBacked}
+use Rattle.fs_serial.specs.Settled.{Lease, Settled}
+use Rattle.fs_serial.specs.Sight.{IsGiven}
+
+-- ## One question at a time
+
+abbrev pub is_recall : Answer → Bool
+is_recall (Recall number) = true
+is_recall a = false
+
+-- the answers that are due: all but recalls
+abbrev pub due : List Answer → List Answer
+due answers = filter (λ a. not (is_recall a)) answers
+
+-- the question as it was sent
+abbrev pub IsQuestion : Exchange → ClientMsg → Type 0
+IsQuestion (Asks to items fresh) m = m ≡ Ask items fresh
+IsQuestion (Renews to numbers) (Renew pairs) = numbers_in pairs ≡ numbers
+IsQuestion (Releases to numbers) (Release pairs) = numbers_in pairs ≡ numbers
+IsQuestion (Ships to count) (Ship entries) = length entries ≡ count
+IsQuestion x m = ⊥
+
+-- the question is on its way
+pub record IsAsked (x : Exchange) (up : List ClientMsg) (down : List Answer) : Type 0 where
+  pub message : ClientMsg
+  pub asked : up ≡ message ∷ []
+  pub question : IsQuestion x message
+  pub silent : due down ≡ []
+
+-- its answer is on its way
+pub record IsAnswered (c : Client) (x : Exchange) (up : List ClientMsg) (down : List Answer) : Type 0 where
+  pub answer : Answer
+  pub told : due down ≡ answer ∷ []
+  pub asked : up ≡ []
+  pub fits : answer_fits 0 x answer c ≡ true
+
+-- no question stands and nothing is on its way but recalls, or the question is on its way, or the one answer that fits
+abbrev pub OneExchange : Client → Option Exchange → List ClientMsg → List Answer → Type 0
+OneExchange c None up down = (up ≡ []) × (due down ≡ [])
+OneExchange c (Some x) up down = IsAsked x up down ⊎ IsAnswered c x up down
+
+-- no more entries are shipped than there are
+abbrev pub ShipsLog : Option Exchange → List Entry → Type 0
+ShipsLog (Some (Ships to count)) log = count ≤ length log
+ShipsLog x log = Unit {0}
+
+-- ## Questions
+
+-- what is shipped stands first in the log, and nothing was refused
+pub record IsFront (entries : List Entry) (d : Settled) : Type 0 where
+  pub rest : List Entry
+  pub log : d.log ≡ entries ++ rest
+  pub over : d.over ≡ None
+
+abbrev pub ShipsFront : List ClientMsg → Settled → Type 0
+ShipsFront up d = (entries : List Entry) → In (Ship entries) up → IsFront entries d
+
+-- the lease goes back
+pub record IsReturned (leases : List Kept) (wanted : LeaseNo) : Type 0 where
+  pub kept : Kept
+  pub among : In kept leases
+  pub number : number_of kept.standing ≡ wanted
+  pub leaving : is_leaving kept.standing ≡ true
+
+-- what is released goes back
+abbrev pub ReleasesReturned : List ClientMsg → List Kept → Type 0
+ReleasesReturned up leases = (pairs : List (List ℕ × LeaseNo)) → In (Release pairs) up → (n : LeaseNo) → In n (numbers_in pairs) → IsReturned leases n
+
+-- no lease is asked for on what sessions tell of modes
+abbrev pub AsksOffModes : List ClientMsg → Type 0
+AsksOffModes up = (items : List (Field × LeaseKind)) (fresh : Option (List ℕ)) → In (Ask items fresh) up → list_all (λ x. tells_no_mode x.0) items ≡ true
+
+-- ## Leases that go back, and renewals on their way
+
+-- a lease that goes back has a number that was given, no other lease has it, and a row with it is the session's
+pub record ReturnFits (given : ℕ → ℕ) (rows : List Row) (by : Session) (leases : List Lease) (number : LeaseNo) : Type 0 where
+  pub known : IsGiven given number
+  pub alone : (l : Lease) → In l leases → l.no ≢ number
+  pub own : (r : Row) → In r rows → r.no ≡ number → r.session ≡ by
+
+abbrev pub ReturnsFit : (ℕ → ℕ) → List Row → Session → List Kept → List Lease → Type 0
+ReturnsFit given rows by kept leases = (k : Kept) → In k kept → is_leaving k.standing ≡ true → ReturnFits given rows by leases (number_of k.standing)
+
+-- where a renewal is on its way to a lease that the client has, the row ends no sooner, or the lease has ended
+abbrev pub RenewalsBacked : ℕ → ℕ → List Row → List Answer → List Lease → Type 0
+RenewalsBacked skew greatest rows down leases =
+    (ends : List (LeaseNo × Option ℕ)) (e : End) → In (Renewed ends e) down
+    → (n : LeaseNo) (until : ℕ) → In (n, Some until) ends
+    → (l : Lease) → In l leases → l.no ≡ n → greatest < until + skew → IsBacked rows n until
+
+-- ## Together
+
+pub record ExchangeFits (skew greatest : ℕ) (given : ℕ → ℕ) (rows : List Row) (by : Session) (c : Client) (up : List ClientMsg) (down : List Answer) (now d : Settled) : Type 0 where
+  pub one : OneExchange c c.exchange up down
+  pub ships : ShipsLog c.exchange c.log
+  pub front : ShipsFront up d
+  pub released : ReleasesReturned up c.view.leases
+  pub asked : AsksOffModes up
+  pub returns : ReturnsFit given rows by c.view.leases d.leases
+  pub renewals : RenewalsBacked skew greatest rows down now.leases

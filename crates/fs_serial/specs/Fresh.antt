@@ -1,0 +1,79 @@
+-- Identifiers: which were made, and which are reserved.
+use Rattle.std.specs.Prelude.{◌≡◌, ℕ, ◌≤◌, Bool, true, false, List, [], ◌∷◌, ◌++◌, Option, Some, None, is_some, if◌then◌else◌}
+use Rattle.std.specs.FinMap.{get}
+use Rattle.fs_ident.specs.Ident.{child, same}
+use Rattle.fs_ident.specs.In.{In}
+use Rattle.fs_ident.specs.declared.actor.LeaseNo.{LeaseNo}
+use Rattle.fs_ident.specs.declared.actor.Session.{Session}
+use Rattle.fs_ident.specs.declared.kind.Kind.{Kind}
+use Rattle.fs_ident.specs.declared.kind.Kind.TheVariants.{Dir}
+use Rattle.fs_field.specs.Field.{file_of}
+use Rattle.fs_model.specs.Sound.{kind_of}
+use Rattle.fs_model.specs.declared.op.Op.{Op}
+use Rattle.fs_model.specs.declared.op.Op.TheVariants as op
+use Rattle.fs_model.specs.declared.reply.Reply.{Reply}
+use Rattle.fs_model.specs.declared.reply.Reply.TheVariants as reply
+use Rattle.fs_msg.specs.declared.item.Item.{Item}
+use Rattle.fs_record.specs.Fresh.{is_directory}
+use Rattle.fs_record.specs.Records.{RecordMap, node_of, next_of}
+use Rattle.fs_serial.specs.Settled.{Lease, Settled}
+
+-- ## Made
+
+-- the kind of the file, where the operation made it
+abbrev pub made_by : Op → Reply → List ℕ → Option Kind
+made_by (op.Create dir name kind (Some new)) reply.Made id = if same new id then Some kind else None
+made_by o r id = None
+
+abbrev pub or_else : Option Kind → Option Kind → Option Kind
+or_else None k = k
+or_else (Some k) l = Some k
+
+-- the root is a directory from the start
+abbrev pub root_kind : List ℕ → Option Kind
+root_kind [] = Some Dir
+root_kind (n ∷ ns) = None
+
+abbrev pub made_in : List Item → List ℕ → Option Kind
+made_in [] id = None
+made_in (i ∷ is) id = or_else (made_by i.op i.reply id) (made_in is id)
+
+-- with which kind an identifier was made
+abbrev pub made : List Item → List ℕ → Option Kind
+made journal id = or_else (root_kind id) (made_in journal id)
+
+abbrev pub IsMade : List Item → List ℕ → Type 0
+IsMade journal id = is_some (made journal id) ≡ true
+
+-- what lives was made, and is of the kind with which it was made
+abbrev pub NodesMade : RecordMap → List Item → Type 0
+NodesMade m journal = (id : List ℕ) (kind : Kind) → kind_of (node_of (get m id)) ≡ Some kind → made journal id ≡ Some kind
+
+-- ## Reserved
+
+-- the identifier is that one, or begins with it
+abbrev pub IsAtOrBelow : List ℕ → List ℕ → Type 0
+IsAtOrBelow top id = (rest : List ℕ) × (id ≡ top ++ rest)
+
+-- a lease of the session with that number reserves the identifier
+abbrev pub Reserved : Type 1
+Reserved = Session → LeaseNo → List ℕ → Type 0
+
+pub record Reserves (leases : List Lease) (wanted : LeaseNo) (id : List ℕ) : Type 0 where
+  pub lease : Lease
+  pub held : In lease leases
+  pub number : lease.no ≡ wanted
+  pub fresh : is_some lease.below ≡ true
+  pub file : file_of lease.field ≡ id
+
+-- the identifiers that leases of clients reserve
+abbrev pub reserved_by : (Session → Settled) → Reserved
+reserved_by clients by number id = Reserves (clients by).leases number id
+
+-- fresh identifiers are reserved once, and nothing was made at one or below it; nor was anything made, or is anything
+-- reserved, at or below an identifier that a directory has not given yet
+pub record FreshReserved (reserved : Reserved) (m : RecordMap) (journal : List Item) : Type 0 where
+  pub once : (x y : Session) (n k : LeaseNo) (i j : List ℕ) → reserved x n i → reserved y k j → IsAtOrBelow i j → (x ≡ y) × (n ≡ k)
+  pub unmade : (x : Session) (n : LeaseNo) (i j : List ℕ) → reserved x n i → IsMade journal j → IsAtOrBelow i j → ⊥
+  pub made_before : (dir : List ℕ) (k : ℕ) (j : List ℕ) → is_directory m dir ≡ true → next_of (get m dir) ≤ k → IsMade journal j → IsAtOrBelow (child dir k) j → ⊥
+  pub reserved_before : (dir : List ℕ) (k : ℕ) (x : Session) (n : LeaseNo) (j : List ℕ) → is_directory m dir ≡ true → next_of (get m dir) ≤ k → reserved x n j → IsAtOrBelow (child dir k) j → ⊥

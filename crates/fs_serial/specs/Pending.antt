@@ -1,0 +1,142 @@
+-- Parts about the entries of a log.
+use Rattle.std.specs.Prelude.{◌≡◌, ◌≢◌, ℕ, ◌+◌, ◌<◌, Bool, true, false, List, [], ◌∷◌, Option, Some, None}
+use Rattle.fs_ident.specs.In.{In}
+use Rattle.fs_ident.specs.declared.actor.Session.{Session}
+use Rattle.fs_field.specs.declared.asked.Need.{Need}
+use Rattle.fs_field.specs.declared.asked.Need.TheVariants as need
+use Rattle.fs_field.specs.declared.field.Field.{Field}
+use Rattle.fs_field.specs.declared.field.Field.TheVariants.{Life}
+use Rattle.fs_field.specs.declared.lease_kind.LeaseKind.{LeaseKind}
+use Rattle.fs_field.specs.declared.row.Row.{Row}
+use Rattle.fs_field.specs.declared.used.Use.{Use}
+use Rattle.fs_field.specs.declared.value.Value.{Value}
+use Rattle.fs_model.specs.Sound.{AsksAccess}
+use Rattle.fs_model.specs.Step.{is_child}
+use Rattle.fs_model.specs.declared.op.Op.{Op}
+use Rattle.fs_model.specs.declared.op.Op.TheVariants as op
+use Rattle.fs_model.specs.declared.reply.Reply.{Reply}
+use Rattle.fs_model.specs.declared.reply.Reply.TheVariants as reply
+use Rattle.fs_record.specs.Effects.{tells_its_effects}
+use Rattle.fs_msg.specs.declared.entry.Entry.{Entry}
+use Rattle.fs_view.specs.Kept.{is_enough}
+use Rattle.fs_view.specs.View.{value_after_all}
+use Rattle.fs_view.specs.Walk.{Known, walk, always}
+use Rattle.fs_serial.specs.Leases.{IsBacked}
+use Rattle.fs_serial.specs.Settled.{Lease, effects_in}
+
+-- ## Replies that stand
+
+-- the row of the lease that was used
+pub record Stands (rows : List Row) (by : Session) (u : Use) : Type 0 where
+  pub row : Row
+  pub stands : In row rows
+  pub number : row.no ≡ u.no
+  pub session : row.session ≡ by
+  pub field : row.field ≡ u.field
+  pub kind : row.kind ≡ u.kind
+
+abbrev pub AllStand : List Row → Session → List Use → Type 0
+AllStand rows by uses = (u : Use) → In u uses → Stands rows by u
+
+-- every field has its value
+abbrev pub known_with : (Field → Value) → Known
+known_with values field kind = Some (values field)
+
+-- one of the leases that were used is on the field, and is enough
+pub record HasUse (uses : List Use) (on : Field) (wanted : LeaseKind) : Type 0 where
+  pub used : Use
+  pub among : In used uses
+  pub field : used.field ≡ on
+  pub enough : is_enough used.kind wanted ≡ true
+
+abbrev pub IsCovered : List Use → Need → Type 0
+IsCovered uses (need.Lease field kind) = HasUse uses field kind
+IsCovered uses (need.Fresh dir) = ⊥
+
+-- the reply is the one that the values give, and all that it stands on was covered by the leases that were used
+pub record IsAnswer (values : Field → Value) (e : Entry) : Type 0 where
+  pub reply : (walk (known_with values) always e.op).reply ≡ Some e.reply
+  pub covered : (n : Need) → In n (walk (known_with values) always e.op).items → IsCovered e.uses n
+
+-- what the session sees after the entry
+abbrev pub values_after : Session → Entry → (Field → Value) → Field → Value
+values_after by e values field = value_after_all by field (values field) (effects_in by e)
+
+-- each entry answers what it gets, as far as the rows of its leases and of those before it stand
+abbrev pub PendingStand : List Row → Session → (Field → Value) → List Entry → Type 0
+PendingStand rows by values [] = Unit {0}
+PendingStand rows by values (e ∷ es) = AllStand rows by e.uses → IsAnswer values e × PendingStand rows by (values_after by e values) es
+
+-- ## Leases that entries use
+
+-- a lease has the use's number, field and kind
+pub record HasLease (leases : List Lease) (u : Use) : Type 0 where
+  pub lease : Lease
+  pub held : In lease leases
+  pub number : lease.no ≡ u.no
+  pub field : lease.field ≡ u.field
+  pub kind : lease.kind ≡ u.kind
+
+abbrev pub UsesHeld : List Lease → List Entry → Type 0
+UsesHeld leases log = (e : Entry) → In e log → (u : Use) → In u e.uses → HasLease leases u
+
+-- each use has its row, or has ended
+abbrev pub UsesBacked : ℕ → ℕ → List Row → List Entry → Type 0
+UsesBacked skew greatest rows log = (e : Entry) → In e log → (u : Use) → In u e.uses → greatest < u.until + skew → IsBacked rows u.no u.until
+
+-- ## Entries
+
+-- a lease that the entry uses was given for a new file with that identifier in the directory
+pub record HasReserved (leases : List Lease) (uses : List Use) (dir id : List ℕ) : Type 0 where
+  pub lease : Lease
+  pub held : In lease leases
+  pub below : lease.below ≡ Some dir
+  pub field : lease.field ≡ Life id
+  pub used : Use
+  pub among : In used uses
+  pub number : used.no ≡ lease.no
+
+pub record NamesReserved (leases : List Lease) (uses : List Use) (dir id : List ℕ) : Type 0 where
+  pub reserved : HasReserved leases uses dir id
+  pub child : is_child dir id ≡ true
+
+-- a create is made exactly where it names an identifier, and that is a reserved one
+abbrev pub NamesItsFile : List Lease → List Use → Op → Reply → Type 0
+NamesItsFile leases uses (op.Create dir name kind (Some id)) reply.Made = NamesReserved leases uses dir id
+NamesItsFile leases uses (op.Create dir name kind None) reply.Made = ⊥
+NamesItsFile leases uses (op.Create dir name kind (Some id)) r = ⊥
+NamesItsFile leases uses o r = Unit {0}
+
+-- what may stand in a log
+pub record IsEntry (leases : List Lease) (e : Entry) : Type 0 where
+  pub plain : tells_its_effects e.op ≡ true
+  pub access : AsksAccess e.op
+  pub named : NamesItsFile leases e.uses e.op e.reply
+
+abbrev pub AreEntries : List Lease → List Entry → Type 0
+AreEntries leases log = (e : Entry) → In e log → IsEntry leases e
+
+-- the identifier that a create names
+abbrev pub named_by : Op → Option (List ℕ)
+named_by (op.Create dir name kind id) = id
+named_by o = None
+
+-- no two entries name one identifier
+abbrev pub NamedOnce : List Entry → Type 0
+NamedOnce [] = Unit {0}
+NamedOnce (e ∷ es) = ((f : Entry) (id : List ℕ) → In f es → named_by e.op ≡ Some id → named_by f.op ≡ Some id → ⊥) × NamedOnce es
+
+-- ## Refusals
+
+-- the entry stands first, and a lease that it used has no row
+pub record IsGone (rows : List Row) (entries : List Entry) (n : ℕ) : Type 0 where
+  pub first : Entry
+  pub rest : List Entry
+  pub log : entries ≡ first ∷ rest
+  pub number : first.n ≡ n
+  pub used : Use
+  pub among : In used first.uses
+  pub gone : (r : Row) → In r rows → r.no ≢ used.no
+
+abbrev pub RefusedGone : List Row → List Entry → Option ℕ → Type 0
+RefusedGone rows log over = (n : ℕ) → over ≡ Some n → IsGone rows log n

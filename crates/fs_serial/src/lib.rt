@@ -1,0 +1,6 @@
+//! Why every schedule's journal is one serial run: the parts of the invariant, and the laws that keep them.
+#![tactic(auto)]
+
+mod law;
+
+pub use law::{a_gift_keeps_the_parts, an_admitted_entry_keeps_the_parts};
