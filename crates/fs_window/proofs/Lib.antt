@@ -1,6 +1,9 @@
+pub mod Actors
 pub mod ByActor
+pub mod Carried
 pub mod Direction
 pub mod Lists
+pub mod OneStep
 pub mod PacketSteps
 pub mod PeerOrder
 pub mod ReadBack

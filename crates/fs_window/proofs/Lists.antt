@@ -13,10 +13,10 @@ pub all_append : {X : Type 0} (P : X → Type 0) (xs ys : List X) → AllByRecur
 all_append P [] ys h k = k
 all_append P (x ∷ xs) ys h k = (h.0, all_append P xs ys h.1 k)
 
-abbrev some_of : {A : Type 0} → A → Option A
+abbrev pub some_of : {A : Type 0} → A → Option A
 some_of x = Some x
 
-some_is : {A : Type 0} (x y : A) → some_of x ≡ some_of y → x ≡ y
+pub some_is : {A : Type 0} (x y : A) → some_of x ≡ some_of y → x ≡ y
 some_is x y e = cc
 
 pub all_get : {X : Type 0} (P : X → Type 0) (xs : List X) (k : ℕ) (x : X) → AllByRecursion P xs → slice_get xs k ≡ Some x → P x
@@ -34,6 +34,19 @@ get_drop [] zero w ws e = absurd cc
 get_drop [] (suc n) w ws e = absurd cc
 get_drop (x ∷ xs) zero w ws e = cc
 get_drop (x ∷ xs) (suc n) w ws e = get_drop xs n w ws e
+
+pub get_past : (xs : List (List ℕ)) (j k : ℕ) → slice_get (drop j xs) k ≡ slice_get xs (j + k)
+get_past xs zero k = ap (λ (n : ℕ). slice_get xs n) (omega arith)
+get_past [] (suc j) k = refl
+get_past (x ∷ xs) (suc j) k =
+    let one : suc (j + k) ≡ suc j + k = omega arith in
+    get_past xs j k ∙ ap (λ (n : ℕ). slice_get (x ∷ xs) n) one
+
+pub get_behind : (xs ys : List (List ℕ)) (k : ℕ) → slice_get (xs ++ ys) (length xs + k) ≡ slice_get ys k
+get_behind [] ys k = ap (λ (n : ℕ). slice_get ys n) (omega arith)
+get_behind (z ∷ xs) ys k =
+    let one : suc (length xs) + k ≡ suc (length xs + k) = omega arith in
+    ap (λ (n : ℕ). slice_get (z ∷ (xs ++ ys)) n) one ∙ get_behind xs ys k
 
 pub drop_next : (xs : List (List ℕ)) (n : ℕ) (w : List ℕ) (ws : List (List ℕ)) → drop n xs ≡ w ∷ ws → drop (n + 1) xs ≡ ws
 drop_next xs n w ws e = sym (drop-drop 1 n xs) ∙ ap (λ (x : List (List ℕ)). drop 1 x) e

@@ -1,5 +1,6 @@
 pub mod Ends
 pub mod LinkEnd
+pub mod OnTheWay
 pub mod Packet
 pub mod Peers
 pub mod Post
