@@ -1,7 +1,6 @@
 pub mod Actors
 pub mod ByActor
 pub mod Carried
-pub mod Direction
 pub mod Lists
 pub mod OneStep
 pub mod PacketSteps
