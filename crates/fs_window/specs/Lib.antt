@@ -5,3 +5,4 @@ pub mod Packet
 pub mod Peers
 pub mod Post
 pub mod Reading
+pub mod Undo

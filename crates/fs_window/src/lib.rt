@@ -13,6 +13,7 @@ mod queue;
 mod sent;
 #[cfg(test)]
 mod tests;
+mod undo;
 mod window;
 
 pub use error::LinkError;
@@ -25,4 +26,5 @@ pub use law::{
 pub use packet::{Packet, read_packet, write_packet};
 pub use post::Post;
 pub use sent::Sent;
+pub use undo::Undo;
 pub use window::Window;
