@@ -74,7 +74,7 @@ below_in peer (x ∷ es) e h i = elim i [
   | inr j ↦ below_in peer es e (second _ _ h) j
 ]
 
-tied_self : (peer : Peer) → same_peer peer peer ≡ true
+pub tied_self : (peer : Peer) → same_peer peer peer ≡ true
 tied_self peer = (eq_by_cmp_equiv peer_total).refl peer
 
 found_in : (es : ByPeer Link) (e : Peer × Link) → are_peers_in_order es ≡ true → In e es → find peer_cmp e.0 es ≡ Some e.1

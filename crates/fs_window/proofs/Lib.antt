@@ -7,3 +7,4 @@ pub mod PacketSteps
 pub mod PeerOrder
 pub mod ReadBack
 pub mod Schedule
+pub mod Undone
