@@ -1,8 +1,10 @@
 -- How segments are joined to messages again.
-use Rattle.std.specs.Prelude.{ℕ, ◌-◌, List, [], ◌∷◌, ◌++◌, length, replicate, Option, Some, None, Result, Ok, Err, nat_lt, ◌==◌, if◌then◌else◌}
+use Rattle.std.specs.Prelude.{ℕ, ◌-◌, List, [], ◌∷◌, ◌++◌, length, take, replicate, Option, Some, None, Result, Ok, Err, nat_lt, ◌==◌, if◌then◌else◌}
 use Rattle.fs_ident.specs.Bytes.{number_in_front}
 use Rattle.fs_frag.specs.declared.error.FragError.{FragError}
 use Rattle.fs_frag.specs.declared.error.FragError.TheVariants.{Over}
+use Rattle.fs_frag.specs.declared.joined.Back.{Back}
+use Rattle.fs_frag.specs.declared.joined.Back.TheVariants.{Same, Front, All}
 use Rattle.fs_frag.specs.declared.joined.Joined.{Joined}
 use Rattle.fs_frag.specs.declared.joined.Joined.TheVariants as comes
 use Rattle.fs_frag.specs.Cut.{cut_of}
@@ -43,6 +45,12 @@ joined_of [] = []
 joined_of (Ok (Some message) ∷ rest) = comes.Whole message ∷ joined_of rest
 joined_of (Ok None ∷ rest) = joined_of rest
 joined_of (Err e ∷ rest) = comes.Over ∷ joined_of rest
+
+-- what a joiner that holds these bytes held before
+abbrev pub held_before : Back → List ℕ → List ℕ
+held_before Same held = held
+held_before (Front n) held = take n held
+held_before (All bytes) held = bytes
 
 -- the messages among the answers
 abbrev pub messages_of : List (Result (Option (List ℕ)) FragError) → List (List ℕ)

@@ -21,3 +21,14 @@ impl Twin for Joined {
 
     fn discard(self) {}
 }
+
+/// What a joiner that took segments needs to hold again what it held before.
+#[derive(Debug, Drop)]
+pub enum Back {
+    /// It took none.
+    Same,
+    /// Its first bytes, so many.
+    Front(usize),
+    /// These bytes.
+    All(List<u8>),
+}

@@ -1,13 +1,14 @@
 //! Segments joined to messages.
-ghost use Rattle.std.specs.Prelude.{◌≡◌, ◌≤◌, ◌+◌, ◌++◌, [], ◌∷◌, ℕ, length, take, drop, IfOk, IsErrOf, OnOk, OnErr, Ok, Err, option_map};
-ghost use Rattle.fs_frag.specs.Joined.{answer_of, held_after, answers, held_by, joined_of};
+ghost use Rattle.std.specs.Prelude.{◌≡◌, ◌≤◌, ◌+◌, ◌++◌, [], ◌∷◌, ℕ, length, take, drop, IfOk, IsErrOf, OnOk, OnErr, Ok, Err, option_map, MatchOption};
+ghost use Rattle.fs_frag.specs.Joined.{answer_of, held_after, answers, held_by, held_before, joined_of};
 
 use crate::error::FragError;
-use crate::joined::Joined;
+use crate::joined::{Back, Joined};
 use crate::segment::Segment;
 use fs_ident::{List, Memory, Twin, number_in_front};
 use std::alloc::Global;
 use std::marker::Model;
+use std::mem;
 
 /// The segments so far of a message that is not whole yet. Contracts see their bytes.
 #[derive(Debug, Drop)]
@@ -58,23 +59,52 @@ impl Joiner {
         answer
     }
 
-    /// Takes the next segments, all of them or none, and gives what they complete, in order. The bytes that are held already
-    /// are not copied.
-    pub fn add_all(&mut self, alloc: Global, segments: &[Segment]) -> Result<List<Joined>, Memory>
-        ensures joined { IfOk result (λ joined. joined ≡ joined_of (answers self.old segments.now)) }
+    /// Takes the next segments, all of them or none, and gives what they complete, in order, and how to undo it. The bytes
+    /// that are held already are not copied.
+    pub fn add_all(
+        &mut self,
+        alloc: Global,
+        segments: &[Segment],
+    ) -> Result<(List<Joined>, Back), Memory>
+        ensures joined { IfOk result (λ told. told.0 ≡ joined_of (answers self.old segments.now)) }
+        ensures back { IfOk result (λ told. held_before told.1 self.new ≡ self.old) }
         ensures state { OnOk result (self.new ≡ held_by self.old segments.now) }
         ensures err { OnErr result (self.new ≡ self.old) }
     {
         let before = self.held.len();
-        match join_all(alloc, &mut self.held, segments) {
-            Ok((joined, start)) => {
-                cut_front(&mut self.held, start);
-                Ok(joined)
-            }
+        match join_and_cut(alloc, &mut self.held, segments) {
+            Ok((joined, rest)) => Ok((joined, self.keep(before, rest))),
             Err(e) => {
                 self.held.truncate(before);
                 Err(e)
             }
+        }
+    }
+
+    /// Holds the rest alone, if one is given, and tells how to hold the first bytes again, so many.
+    fn keep(&mut self, before: usize, rest: Option<Vec<u8>>) -> Back
+        requires { before ≤ length self.old }
+        ensures back { held_before result self.new ≡ take before self.old }
+        ensures rest { MatchOption rest (self.new ≡ self.old) (λ bytes. self.new ≡ bytes.items) }
+    {
+        match rest {
+            None => Back::Front(before),
+            Some(rest) => {
+                let mut held = mem::replace(&mut self.held, rest);
+                held.truncate(before);
+                Back::All(List::from_vec(held))
+            }
+        }
+    }
+
+    /// Holds again what it held before.
+    pub fn undo(&mut self, back: Back)
+        ensures { self.new ≡ held_before back self.old }
+    {
+        match back {
+            Back::Same => {}
+            Back::Front(len) => self.held.truncate(len),
+            Back::All(held) => self.held = held.into_vec(),
         }
     }
 }
@@ -160,14 +190,24 @@ fn join_one(
     Ok(held.len())
 }
 
-/// Lets go of the first bytes.
-fn cut_front(held: &mut Vec<u8>, count: usize)
-    requires { count ≤ length held.old.items }
-    ensures { held.new.items ≡ drop count held.old.items }
+/// The same, with the bytes that are still waiting where they are not all.
+fn join_and_cut(
+    alloc: Global,
+    held: &mut Vec<u8>,
+    segments: &[Segment],
+) -> Result<(List<Joined>, Option<Vec<u8>>), Memory>
+    ensures joined { IfOk result (λ told. told.0 ≡
+        joined_of (answers held.old.items segments.now)) }
+    ensures waiting { IfOk result (λ told. MatchOption told.1
+        (held.new.items ≡ held_by held.old.items segments.now)
+        (λ rest. rest.items ≡ held_by held.old.items segments.now)) }
+    ensures longer { length held.old.items ≤ length held.new.items }
+    ensures front { take (length held.old.items) held.new.items ≡ held.old.items }
 {
-    if count > 0 {
-        let left = held.len() - count;
-        held.rotate_left(count);
-        held.truncate(left);
+    let (joined, start) = join_all(alloc, held, segments)?;
+    if start == 0 {
+        return Ok((joined, None));
     }
+    let rest = Vec::from_slice(alloc, &held[start..])?;
+    Ok((joined, Some(rest)))
 }

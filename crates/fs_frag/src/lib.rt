@@ -12,7 +12,7 @@ mod tests;
 
 pub use cutting::{cut, segment_count};
 pub use error::FragError;
-pub use joined::Joined;
+pub use joined::{Back, Joined};
 pub use joiner::Joiner;
 pub use law::{joined_is_cut, what_is_coming};
 pub use segment::{SEGMENT, Segment};

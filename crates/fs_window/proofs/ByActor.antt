@@ -9,10 +9,10 @@ use Rattle.fs_window.specs.Peers.{peer_cmp, ByPeer, are_peers_in_order}
 use Rattle.fs_window.specs.Post.{AreLinks}
 use Rattle.fs_window.proofs.PeerOrder.{peer_total}
 
-from_true : (b : Bool) → b ≡ true → T b
+pub from_true : (b : Bool) → b ≡ true → T b
 from_true b e = subst T (sym e) tt
 
-to_true : (b : Bool) → T b → b ≡ true
+pub to_true : (b : Bool) → T b → b ≡ true
 to_true true h = refl
 to_true false h = absurd h
 

@@ -1,7 +1,10 @@
+pub mod Actors
 pub mod ByActor
-pub mod Direction
+pub mod Carried
 pub mod Lists
+pub mod OneStep
 pub mod PacketSteps
 pub mod PeerOrder
 pub mod ReadBack
 pub mod Schedule
+pub mod Undone

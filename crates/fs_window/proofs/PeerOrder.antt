@@ -6,7 +6,7 @@ use Rattle.std.specs.FinMap.{IsAntisymmetric, nat_cmp-IsAntisymmetric}
 use Rattle.std.specs.List.Sorted.{IsSearchInRange, IsBinarySearchResult, IsPartitionPoint}
 use Rattle.fs_ident.specs.declared.actor.Peer.{Peer}
 use Rattle.fs_ident.specs.declared.actor.Peer.TheVariants.{Server, Client}
-use Rattle.fs_ident.proofs.Searched.{found_child, found_put, gap_none, gap_put, indexes_rise}
+use Rattle.fs_ident.proofs.Searched.{found_child, found_put, found_rest, gap_none, gap_put, indexes_rise}
 use Rattle.fs_window.specs.Peers.{peer_cmp, ByPeer, are_peers_in_order, IsPlaceOf, IsGapFor}
 
 pub peer_total : IsTotalOrder peer_cmp
@@ -52,6 +52,7 @@ searched (e ∷ es) peer (Ok at) sorted within here = (
     within = within;
     key = λ d. peer_same _ _ (here d);
     value = λ d. found_child peer_cmp peer_total peer (e ∷ es) sorted at d within (here d);
+    rest = found_rest peer_cmp peer_total peer (e ∷ es) sorted at e within (here e);
     replaced = λ v. found_put peer_cmp peer_total peer_same peer v (e ∷ es) sorted at e within (here e);
   },
   tt,

@@ -1,8 +1,8 @@
 -- The order of actors, and where each stands among entries in that order.
-use Rattle.std.specs.Prelude.{◌≡◌, ℕ, Bool, ◌<◌, ◌≤◌, List, length, Some, None, slice_index_or, slice_set}
-use Rattle.std.specs.List.{insert}
+use Rattle.std.specs.Prelude.{◌≡◌, ℕ, Bool, not, ◌<◌, ◌≤◌, List, length, Some, None, slice_index_or, slice_set}
+use Rattle.std.specs.List.{insert, remove}
 use Rattle.std.specs.Ordering.{nat_cmp, is_eq}
-use Rattle.std.specs.FinMap.Entries.{find, put, is_sorted}
+use Rattle.std.specs.FinMap.Entries.{find, put, where_key, is_sorted}
 use Rattle.std.specs.declared.cmp.Ordering.{Ordering}
 use Rattle.std.specs.declared.cmp.Ordering.TheVariants.{Less, Greater}
 use Rattle.fs_ident.specs.declared.actor.Peer.{Peer}
@@ -31,6 +31,7 @@ pub record IsPlaceOf {V : Type 0} (entries : ByPeer V) (peer : Peer) (at : ℕ) 
   pub within : at < length entries
   pub key : (d : Peer × V) → (slice_index_or entries at d).0 ≡ peer
   pub value : (d : Peer × V) → find peer_cmp peer entries ≡ Some (slice_index_or entries at d).1
+  pub rest : where_key peer_cmp (λ other. not (same_peer peer other)) entries ≡ remove entries at
   pub replaced : (v : V) → put peer_cmp peer v entries ≡ slice_set entries at (peer, v)
 
 -- the actor has no entry, and one at the place is in order

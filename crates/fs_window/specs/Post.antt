@@ -1,6 +1,7 @@
 -- All links of one actor.
 use Rattle.std.specs.Prelude.{ℕ, ◌≡◌, ◌≤◌, Bool, true, List, [], ◌∷◌, length, map, flat_map, Option, Some, None, unwrap_or, false}
 use Rattle.std.specs.FinMap.Entries.{find, put}
+use Rattle.fs_ident.specs.In.{In}
 use Rattle.fs_ident.specs.declared.actor.Peer.{Peer}
 use Rattle.fs_frag.specs.Cut.{cut_of}
 use Rattle.fs_frag.specs.Joined.{answers, held_by, joined_of}
@@ -117,3 +118,10 @@ post_due s turn heard = record {
   links = links_sent s;
   sent = flat_map (sent_on s.me turn heard) s.ends;
 }
+
+-- what was sent is the text of a packet that was due on the link with its actor
+pub record WasSent (s : Links) (turn : Bool) (heard : Option Peer) (x : Sent) : Type 0 where
+  pub sender : x.from ≡ s.me
+  pub packet : Packet
+  pub due : In packet (due_of (link_with s x.to).window turn (is_peer x.to heard))
+  pub text : x.bytes ≡ packet_text packet

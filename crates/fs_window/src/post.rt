@@ -2,6 +2,7 @@
 ghost use Rattle.std.specs.Prelude.{◌≡◌, ◌+◌, ◌≤◌, ◌^◌, ◌↔◌, length, IfOk, IsErrOf, OnOk, OnErr};
 ghost use Rattle.fs_frag.specs.Cut.{cut_of};
 ghost use Rattle.fs_window.specs.Post.{AreLinks, no_links, pushed_to, got_from, post_pushed, post_accepted, post_due, links_sent};
+ghost use Rattle.fs_window.specs.Undo.{undone};
 
 use crate::error::LinkError;
 use crate::heard::Heard;
@@ -10,6 +11,7 @@ use crate::links::{accept_at, add_due, link_with, mark_all, push_at};
 use crate::packet::Packet;
 use crate::peers::search_by_peer;
 use crate::sent::Sent;
+use crate::undo::{Undo, accept_step, note, push_step, restore_all};
 use fs_ident::{List, Memory, Peer, Twin};
 use std::alloc::Global;
 use std::marker::Model;
@@ -104,6 +106,52 @@ impl Post {
                 Ok(heard)
             }
         }
+    }
+
+    /// The same as `push`, and keeps in `undo` how to undo it.
+    pub fn push_with_undo(
+        &mut self,
+        alloc: Global,
+        to: Peer,
+        message: &[u8],
+        undo: &mut Undo,
+    ) -> Result<(), LinkError>
+        ensures ok { OnOk result (self.new ≡ post_pushed self.old to message.now) }
+        ensures undo { OnOk result (undone undo.new self.new ≡ undone undo.old self.old) }
+        ensures spent { IsErrOf result LinkError.Spent ↔
+            (2 ^ 64 ≤ pushed_to self.old to + length (cut_of message.now)) }
+        ensures err { OnErr result (self.new ≡ self.old) }
+        ensures same { OnErr result (undo.new ≡ undo.old) }
+    {
+        let step = push_step(alloc, &mut self.links, self.width, to, message)?;
+        note(&mut self.links, step, undo)?;
+        Ok(())
+    }
+
+    /// The same as `accept`, and keeps in `undo` how to undo it.
+    pub fn accept_with_undo(
+        &mut self,
+        alloc: Global,
+        from: Peer,
+        p: &Packet,
+        undo: &mut Undo,
+    ) -> Result<Heard, Memory>
+        ensures heard { IfOk result (λ heard. heard ≡ (post_accepted self.old from p.now).heard) }
+        ensures state { OnOk result (self.new ≡ (post_accepted self.old from p.now).links) }
+        ensures undo { OnOk result (undone undo.new self.new ≡ undone undo.old self.old) }
+        ensures err { OnErr result (self.new ≡ self.old) }
+        ensures same { OnErr result (undo.new ≡ undo.old) }
+    {
+        let (heard, step) = accept_step(alloc, &mut self.links, self.width, from, p)?;
+        note(&mut self.links, step, undo)?;
+        Ok(heard)
+    }
+
+    /// Undoes what `undo` keeps, the last first. Takes no memory.
+    pub fn undo(&mut self, undo: Undo)
+        ensures { self.new ≡ undone undo self.old }
+    {
+        restore_all(&mut self.links, undo);
     }
 
     /// What goes to the other actors, link by link: the segments that were not sent yet, as far as the width reaches,
