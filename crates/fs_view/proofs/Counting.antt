@@ -15,13 +15,12 @@ use Rattle.fs_field.specs.declared.field.Field.{Field}
 use Rattle.fs_field.specs.declared.lease_kind.LeaseKind.{LeaseKind}
 use Rattle.fs_field.specs.declared.used.Use.{Use}
 use Rattle.fs_field.specs.Table.{is_parent, same_no}
-use Rattle.fs_model.specs.declared.op.Op.{Op}
 use Rattle.fs_view.specs.declared.kept.Kept.{Kept}
 use Rattle.fs_view.specs.declared.kept.Standing.{Standing}
 use Rattle.fs_view.specs.declared.kept.Standing.TheVariants.{Held, Pinned, Leaving}
 use Rattle.fs_view.specs.Kept.{number_of, has_number, has_ended, is_better, is_unused_in, offers, pinned, serves, takes_pin, use_in}
 use Rattle.fs_view.specs.Pins.{takes_after, times_in, can_pin_after}
-use Rattle.fs_view.specs.View.{View, are_distinct, can_pin_all, lapsed_at, offered, pinned_all, pinned_at, stands, taken, taken_from, item_use, uses_in, walk_in}
+use Rattle.fs_view.specs.View.{View, are_distinct, can_pin_all, lapsed_at, offered, pinned_all, pinned_at, stands, taken, taken_from, item_use}
 use Rattle.fs_view.proofs.Places.{same_no_is}
 use Rattle.fs_view.proofs.Pins.{with_pin, find_pinned, stands_there, found_in, from_none, used_by}
 use Rattle.fs_view.proofs.Lapsed.{is_live_at}
@@ -165,7 +164,7 @@ after_lapse now before (u ∷ us) ks h =
     ap (λ (o : Option Kept). option_map_or (λ (k : Kept). takes_after (times_in u.no before) k.standing) o false && can_pin_after (before ++ u ∷ []) us (filter (is_live_at now) ks)) (find_live now u.no ks q.0)
     ∙ ap (λ b. stands (takes_after (times_in u.no before)) u.no ks && b) (after_lapse now (before ++ u ∷ []) us ks q.1)
 
-pub pins_pass : (now : ℕ) (v : View) (o : Op) → are_distinct v.leases ≡ true → can_pin_all (uses_in v now o) (lapsed_at now v).leases ≡ can_pin_all (uses_in v now o) v.leases
-pins_pass now v o d =
-    sym (pins_counted (uses_in v now o) (filter (is_live_at now) v.leases))
-    ∙ (after_lapse now [] (uses_in v now o) v.leases (all_live v now (walk_in v now o).items d) ∙ pins_counted (uses_in v now o) v.leases)
+pub pins_pass : (now : ℕ) (v : View) (items : List Need) → are_distinct v.leases ≡ true → can_pin_all (filter_map (item_use v now) items) (lapsed_at now v).leases ≡ can_pin_all (filter_map (item_use v now) items) v.leases
+pins_pass now v items d =
+    sym (pins_counted (filter_map (item_use v now) items) (filter (is_live_at now) v.leases))
+    ∙ (after_lapse now [] (filter_map (item_use v now) items) v.leases (all_live v now items d) ∙ pins_counted (filter_map (item_use v now) items) v.leases)

@@ -1,5 +1,5 @@
 -- What is over at a reading serves for nothing at it: reads pass over it.
-use Rattle.std.proofs.Common.{◌≡◌, ℕ, ◌&&◌, ◌<◌, Bool, true, false, not, List, [], ◌∷◌, refl, ap, cond, arith, sym, ◌∙◌}
+use Rattle.std.proofs.Common.{◌≡◌, ℕ, ◌&&◌, ◌||◌, ◌<◌, Bool, true, false, not, List, [], ◌∷◌, refl, ap, cond, arith, sym, ◌∙◌}
 use Rattle.std.specs.Prelude.{Option, Some, None, nat_lt, nat_le, option_map, is_some}
 use Rattle.std.specs.Option.{option_and_then, option_map_or}
 use Rattle.std.specs.List.{find, filter, filter_map, list_all, list_any, cons_option}
@@ -95,3 +95,27 @@ item_uses_pass now v = λ i n. item_use_passes now v n i
 
 pub uses_pass : (now : ℕ) (v : View) (o : Op) → uses_in (lapsed_at now v) now o ≡ uses_in v now o
 uses_pass now v o = ap (λ (f : Need → Option Use). filter_map f (walk_in (lapsed_at now v) now o).items) (item_uses_pass now v) ∙ ap (λ w. filter_map (item_use v now) w.items) (walk_passes now v o)
+
+pub absent_pass : (now : ℕ) (v : View) (items : List Need) → filter (λ need. not (is_there (known_by (lapsed_at now v) now) (given_by (lapsed_at now v) now) need)) items ≡ filter (λ need. not (is_there (known_by v now) (given_by v now) need)) items
+absent_pass now v items =
+    ap (λ (known : Known). filter (λ need. not (is_there known (given_by (lapsed_at now v) now) need)) items) (known_passes now v)
+    ∙ ap (λ (given : Given). filter (λ need. not (is_there (known_by v now) given need)) items) (given_passes now v)
+
+pub used_pass : (now : ℕ) (v : View) (items : List Need) → filter_map (item_use (lapsed_at now v) now) items ≡ filter_map (item_use v now) items
+used_pass now v items = ap (λ (f : Need → Option Use). filter_map f items) (item_uses_pass now v)
+
+-- ## Tests of the leases that are not over
+
+pub any_live : (now : ℕ) (test : Kept → Bool) (ks : List Kept) → list_any test (filter (is_live_at now) ks) ≡ list_any (λ k. is_live_at now k && test k) ks
+any_live now test [] = refl
+any_live now test (k ∷ ks) = elim (is_live_at now k) as (λ b. list_any test (cond b (k ∷ filter (is_live_at now) ks) (filter (is_live_at now) ks)) ≡ ((b && test k) || list_any (λ j. is_live_at now j && test j) ks)) [
+  | true ↦ ap (λ b. test k || b) (any_live now test ks)
+  | false ↦ any_live now test ks
+]
+
+pub filter_live : (now : ℕ) (test : Kept → Bool) (ks : List Kept) → filter test (filter (is_live_at now) ks) ≡ filter (λ k. is_live_at now k && test k) ks
+filter_live now test [] = refl
+filter_live now test (k ∷ ks) = elim (is_live_at now k) as (λ b. filter test (cond b (k ∷ filter (is_live_at now) ks) (filter (is_live_at now) ks)) ≡ cond (b && test k) (k ∷ filter (λ j. is_live_at now j && test j) ks) (filter (λ j. is_live_at now j && test j) ks)) [
+  | true ↦ ap (λ rest. cond (test k) (k ∷ rest) rest) (filter_live now test ks)
+  | false ↦ filter_live now test ks
+]
