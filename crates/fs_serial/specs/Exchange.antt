@@ -9,7 +9,7 @@ use Rattle.fs_field.specs.declared.lease_kind.LeaseKind.{LeaseKind}
 use Rattle.fs_field.specs.Field.{tells_no_mode}
 use Rattle.fs_field.specs.declared.row.Row.{Row}
 use Rattle.fs_msg.specs.declared.answer.Answer.{Answer}
-use Rattle.fs_msg.specs.declared.answer.Answer.TheVariants.{Recall, Renewed}
+use Rattle.fs_msg.specs.declared.answer.Answer.TheVariants.{Recall, Renewed, Shipped}
 use Rattle.fs_msg.specs.declared.client_msg.ClientMsg.{ClientMsg}
 use Rattle.fs_msg.specs.declared.client_msg.ClientMsg.TheVariants.{Ask, Renew, Release, Ship}
 use Rattle.fs_msg.specs.declared.end.End.{End}
@@ -67,6 +67,12 @@ OneExchange c (Some x) up down = IsAsked x up down ⊎ IsAnswered c x up down
 abbrev pub ShipsLog : Option Exchange → List Entry → Type 0
 ShipsLog (Some (Ships to count)) log = count ≤ length log
 ShipsLog x log = Unit {0}
+
+-- how many entries the answers acknowledge
+abbrev pub admitted_in : List Answer → ℕ
+admitted_in [] = 0
+admitted_in (Shipped count e ∷ rest) = count + admitted_in rest
+admitted_in (a ∷ rest) = admitted_in rest
 
 -- ## Questions
 
