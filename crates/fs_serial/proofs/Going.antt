@@ -13,7 +13,7 @@ use Rattle.fs_serial.specs.Fresh.{FreshReserved, Reserves, reserved_by}
 use Rattle.fs_serial.specs.Parts.{AllHold, with_client, ServersHold, ServersFit, SessionHolds, SessionFits}
 use Rattle.fs_serial.specs.Settled.{Lease, Settled, settled_now, with_leases}
 use Rattle.fs_serial.specs.Sight.{Sight}
-use Rattle.fs_serial.specs.World.{Ends, GoesOn, HasNumber}
+use Rattle.fs_serial.specs.World.{AllCarried, Ends, GoesOn, HasNumber}
 use Rattle.fs_serial.proofs.Facts.{In-append, In-front, each_more}
 use Rattle.fs_serial.proofs.Leased.{IsNewLease, leased_fits, leased_holds}
 use Rattle.fs_serial.proofs.Relied.{ReliesFor, still_fits, still_holds, still_renewals, still_returns}
@@ -29,6 +29,16 @@ pub record RowsChange (skew greatest : ℕ) (s t : Sight) (clients : Session →
   pub journal : t.journal ≡ s.journal
   pub relied : (x : Session) → ReliesFor skew greatest x s t (clients x).leases
 
+-- what goes back and what is renewed, where each session has what it relies on
+pub carried_still : (skew greatest : ℕ) (s t : Sight) (ends : Session → Ends) (clients : Session → Settled) → ((x : Session) → ReliesFor skew greatest x s t (clients x).leases) → ((x : Session) → SessionFits skew greatest s x (clients x)) → AllCarried skew greatest s ends clients
+    → AllCarried skew greatest t ends clients
+carried_still skew greatest s t ends clients rely fits h = record {
+  returns = λ x. still_returns skew greatest x s t (clients x) (rely x) (fits x) (ends x).client.view.leases (h.returns x);
+  renewals = λ x. still_renewals skew greatest x s t (clients x) (rely x) (fits x) (ends x).down (settled_now (ends x).client).leases
+      (λ l i. let q = h.later x l i in (q.lease, q.held, q.number)) (h.renewals x);
+  later = h.later;
+}
+
 module _ (skew greatest : ℕ) (s t : Sight) (replied : Session → List Item) (ends : Session → Ends) (clients : Session → Settled) (c : RowsChange skew greatest s t clients) where
   pub all_still : AllHold skew greatest s replied clients → AllHold skew greatest t replied clients
   all_still h = record {
@@ -40,15 +50,21 @@ module _ (skew greatest : ℕ) (s t : Sight) (replied : Session → List Item) (
   }
 
   pub goes_still : GoesOn skew greatest s replied ends clients → GoesOn skew greatest t replied ends clients
-  goes_still h = record {
-    all = all_still h.all;
-    carried = record {
-      returns = λ x. still_returns skew greatest x s t (clients x) (c.relied x) (h.all.fitting x) (ends x).client.view.leases (h.carried.returns x);
-      renewals = λ x. still_renewals skew greatest x s t (clients x) (c.relied x) (h.all.fitting x) (ends x).down (settled_now (ends x).client).leases
-          (λ l i. let q = h.carried.later x l i in (q.lease, q.held, q.number)) (h.carried.renewals x);
-      later = h.carried.later;
-    };
-  }
+  goes_still h = record { all = all_still h.all; carried = carried_still skew greatest s t ends clients c.relied h.all.fitting h.carried }
+
+-- ## One session's leases have the same numbers
+
+pub carried_alike : (skew greatest : ℕ) (s : Sight) (ends : Session → Ends) (clients : Session → Settled) (by : Session) (d : Settled) → ((l : Lease) → In l d.leases → HasNumber (clients by).leases l.no) → ((l : Lease) → In l (clients by).leases → HasNumber d.leases l.no) → AllCarried skew greatest s ends clients
+    → AllCarried skew greatest s ends (with_client by d clients)
+carried_alike skew greatest s ends clients by d old new h = record {
+  returns = each_session (λ x d. ReturnsFit s.given s.rows x (ends x).client.view.leases d.leases) by d clients
+      (λ k i leaving. let q = h.returns by k i leaving in record { known = q.known; alone = λ l j e. let o = old l j in q.alone o.lease o.held (o.number ∙ e); own = q.own })
+      (λ x other. h.returns x);
+  renewals = h.renewals;
+  later = each_session (λ x d. (j : Lease) → In j (settled_now (ends x).client).leases → HasNumber d.leases j.no) by d clients
+      (λ j i. let q = h.later by j i in let o = new q.lease q.held in record { lease = o.lease; held = o.held; number = o.number ∙ q.number })
+      (λ x other. h.later x);
+}
 
 -- ## One session has a lease more
 
@@ -75,12 +91,23 @@ reserved_none clients by l m journal none f =
     was : (x : Session) (n : LeaseNo) (i : List ℕ) → reserved_by (with_client by (with_leases (l ∷ []) (clients by)) clients) x n i → reserved_by clients x n i
     was = each_session (λ x d. (n : LeaseNo) (i : List ℕ) → Reserves d.leases n i → reserved_by clients x n i) by (with_leases (l ∷ []) (clients by)) clients own (λ x other n i r. r)
 
-module _ (skew greatest : ℕ) (t : Sight) (replied : Session → List Item) (ends : Session → Ends) (clients : Session → Settled) (by : Session) (l : Lease) (new : IsNewLease t by (clients by).leases l) (unreturned : (k : Kept) → In k (ends by).client.view.leases → is_leaving k.standing ≡ true → l.no ≢ number_of k.standing) (reserved : FreshReserved (reserved_by (with_client by (with_leases (l ∷ []) (clients by)) clients)) t.records t.journal) where
+module _ (skew greatest : ℕ) (t : Sight) (replied : Session → List Item) (ends : Session → Ends) (clients : Session → Settled) (by : Session) (l : Lease) (new : IsNewLease t by (clients by).leases l) (unreturned : (k : Kept) → In k (ends by).client.view.leases → is_leaving k.standing ≡ true → l.no ≢ number_of k.standing) where
   abbrev d : Settled
   d = with_leases (l ∷ []) (clients by)
 
-  pub goes_leased : GoesOn skew greatest t replied ends clients → GoesOn skew greatest t replied ends (with_client by d clients)
-  goes_leased h = record {
+  pub carried_leased : AllCarried skew greatest t ends clients → AllCarried skew greatest t ends (with_client by d clients)
+  carried_leased h = record {
+    returns = each_session (λ x d. ReturnsFit t.given t.rows x (ends x).client.view.leases d.leases) by d clients
+        (λ k i leaving. let q = h.returns by k i leaving in record { known = q.known; alone = each_more (λ (j : Lease). j.no ≢ number_of k.standing) (clients by).leases l q.alone (unreturned k i leaving); own = q.own })
+        (λ x other. h.returns x);
+    renewals = h.renewals;
+    later = each_session (λ x d. (j : Lease) → In j (settled_now (ends x).client).leases → HasNumber d.leases j.no) by d clients
+        (λ j i. let q = h.later by j i in record { lease = q.lease; held = In-front q.lease (clients by).leases (l ∷ []) q.held; number = q.number })
+        (λ x other. h.later x);
+  }
+
+  pub goes_leased : FreshReserved (reserved_by (with_client by (with_leases (l ∷ []) (clients by)) clients)) t.records t.journal → GoesOn skew greatest t replied ends clients → GoesOn skew greatest t replied ends (with_client by d clients)
+  goes_leased reserved h = record {
     all = record {
       servers = h.all.servers;
       kept = h.all.kept;
@@ -88,13 +115,5 @@ module _ (skew greatest : ℕ) (t : Sight) (replied : Session → List Item) (en
       fitting = each_session (λ x d. SessionFits skew greatest t x d) by d clients (leased_fits skew greatest by t (clients by) l new (h.all.fitting by)) (λ x other. h.all.fitting x);
       reserved = reserved;
     };
-    carried = record {
-      returns = each_session (λ x d. ReturnsFit t.given t.rows x (ends x).client.view.leases d.leases) by d clients
-          (λ k i leaving. let q = h.carried.returns by k i leaving in record { known = q.known; alone = each_more (λ (j : Lease). j.no ≢ number_of k.standing) (clients by).leases l q.alone (unreturned k i leaving); own = q.own })
-          (λ x other. h.carried.returns x);
-      renewals = h.carried.renewals;
-      later = each_session (λ x d. (j : Lease) → In j (settled_now (ends x).client).leases → HasNumber d.leases j.no) by d clients
-          (λ j i. let q = h.carried.later by j i in record { lease = q.lease; held = In-front q.lease (clients by).leases (l ∷ []) q.held; number = q.number })
-          (λ x other. h.carried.later x);
-    };
+    carried = carried_leased h.carried;
   }
