@@ -11,3 +11,4 @@ pub mod Parts
 pub mod Client
 pub mod Exchange
 pub mod Steps
+pub mod Laws

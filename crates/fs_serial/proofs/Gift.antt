@@ -1,0 +1,244 @@
+-- A directory gives an identifier to a session.
+use Rattle.std.proofs.Common.{◌≡◌, ℕ, ◌==◌, not, ◌&&◌, ◌||◌, Bool, true, false, List, [], ◌∷◌, ◌++◌, ◌⊎◌, cond, map, append_assoc, refl, sym, ap, ◌∙◌, subst, inl, inr, arith}
+use Rattle.std.specs.Prelude.{◌≢◌, Option, Some, None}
+use Rattle.std.specs.FinMap.{get}
+use Rattle.std.specs.Cmp.{nat_eq_equiv}
+use Rattle.std.specs.List.{list_any, cons_option}
+use Rattle.std.proofs.lemmas.List.{map-append}
+use Rattle.fs_ident.specs.In.{In}
+use Rattle.fs_ident.specs.Ident.{child, parent, same}
+use Rattle.fs_ident.specs.declared.actor.LeaseNo.{LeaseNo}
+use Rattle.fs_ident.specs.declared.actor.Session.{Session}
+use Rattle.fs_ident.proofs.Booleans.{neither}
+use Rattle.fs_ident.proofs.Standing.{In-put}
+use Rattle.fs_field.specs.declared.field.Field.{Field}
+use Rattle.fs_field.specs.declared.field.Field.TheVariants.{Life, Child, Names, Info, Own, SelfW, Other}
+use Rattle.fs_field.specs.declared.lease_kind.LeaseKind.{LeaseKind}
+use Rattle.fs_field.specs.declared.lease_kind.LeaseKind.TheVariants.{Exclusive}
+use Rattle.fs_field.specs.declared.row.Row.{Row}
+use Rattle.fs_field.specs.declared.value.Value.TheVariants as value
+use Rattle.fs_field.specs.Conflict.{meets, NoPlainConflict}
+use Rattle.fs_field.specs.Field.{file_of, same_field, tells_no_mode}
+use Rattle.fs_field.specs.Table.{no_before, child_number, borne_numbers}
+use Rattle.fs_field.proofs.Below.{told as number_told}
+use Rattle.fs_field.proofs.Leases.{NoPlainConflict-with_row}
+use Rattle.fs_model.specs.Sound.{kind_of}
+use Rattle.fs_msg.specs.declared.answer.Answer.TheVariants.{Granted}
+use Rattle.fs_msg.specs.declared.answer.Grant.{Grant}
+use Rattle.fs_msg.specs.declared.end.End.{End}
+use Rattle.fs_msg.specs.declared.item.Item.{Item}
+use Rattle.fs_record.specs.Fresh.{IsLeastFree, fresh_number, is_directory}
+use Rattle.fs_record.specs.Records.{node_of, next_of}
+use Rattle.fs_record.proofs.NumbersRise.{number_least}
+use Rattle.fs_rows.specs.Answer.{given_row}
+use Rattle.fs_server.specs.Asks.{Asking, grant_of, with_fresh}
+use Rattle.fs_server.specs.Server.{next_number, end_of}
+use Rattle.fs_server.specs.declared.state.Server.{Server}
+use Rattle.fs_view.specs.declared.kept.Kept.{Kept}
+use Rattle.fs_view.specs.Kept.{number_of}
+use Rattle.fs_serial.specs.Exchange.{ReturnsFit}
+use Rattle.fs_serial.specs.Fresh.{FreshReserved, Reserved, reserved_by}
+use Rattle.fs_serial.specs.Laws.{GiftIsRelied, GiftIsTold, GiftKeepsParts, GiftReturnsNone, lease_given, with_given}
+use Rattle.fs_serial.specs.Leases.{IsFresh, IsRowOf, LeasesGiven}
+use Rattle.fs_serial.specs.Parts.{with_client, ServersHold, ServersFit, SessionHolds, SessionFits}
+use Rattle.fs_serial.specs.Relies.{Relies}
+use Rattle.fs_serial.specs.Rows.{RowsGiven, RowsOffModes}
+use Rattle.fs_serial.specs.Settled.{Lease, Settled, granted, told, with_leases}
+use Rattle.fs_serial.specs.Sight.{Sight, sight_of, IsGiven}
+use Rattle.fs_serial.proofs.Children.{parent_child}
+use Rattle.fs_serial.proofs.Facts.{each_more, below_itself, same_is, same_self}
+use Rattle.fs_serial.proofs.GiftReserved.{reserved_still, reserved_then, unmade_dead}
+use Rattle.fs_serial.proofs.GiftedRecords.{made_still, serial_still, sound_still, values_stay}
+use Rattle.fs_serial.proofs.Leased.{IsNewLease, In-put_here, leased_fits, leased_holds, row_relied}
+use Rattle.fs_serial.proofs.Together.{each_session}
+use Rattle.fs_serial.proofs.Relied.{relied_fits, relied_holds}
+
+-- ## No row is on a file whose number none bears
+
+abbrev bears : ℕ → List ℕ → Bool
+bears k numbers = list_any (λ b. b == k) numbers
+
+borne_here : (k : ℕ) (o : Option ℕ) (ns : List ℕ) → o ≡ Some k → bears k (cons_option o ns) ≡ true
+borne_here k o ns e = ap (λ p. bears k (cons_option p ns)) e ∙ ap (λ b. b || bears k ns) (nat_eq_equiv.refl k)
+
+borne_behind : (k : ℕ) (o : Option ℕ) (ns : List ℕ) → bears k (cons_option o ns) ≡ false → bears k ns ≡ false
+borne_behind k None ns h = h
+borne_behind k (Some n) ns h = (neither (n == k) (bears k ns) h).1
+
+pub not_on : (dir : List ℕ) (k : ℕ) (rows : List Row) → bears k (borne_numbers dir rows) ≡ false → (x : Row) → In x rows → file_of x.field ≡ child dir k → ⊥
+not_on dir k [] h x i e = i
+not_on dir k (r ∷ rs) h x i e =
+    elim i as (λ _. ⊥) [
+      | inl q ↦
+          let here : child_number dir (file_of r.field) ≡ Some k = ap (λ (z : Row). child_number dir (file_of z.field)) (sym q) ∙ ap (child_number dir) e ∙ number_told dir k in
+          let wrong : true ≡ false = sym (borne_here k (child_number dir (file_of r.field)) (borne_numbers dir rs) here) ∙ h in
+          absurd (cc)
+      | inr j ↦ not_on dir k rs (borne_behind k (child_number dir (file_of r.field)) (borne_numbers dir rs) h) x j e
+    ]
+
+another : (a b : List ℕ) → (b ≡ a → ⊥) → same a b ≡ false
+another a b h =
+    elim (same a b) as (λ c. same a b ≡ c → c ≡ false) [
+      | true ↦ λ e. absurd (h (sym (same_is a b e)))
+      | false ↦ λ e. refl
+    ] refl
+
+-- a lease on the life of a file goes with those on the fields of others
+lives_apart : (c : List ℕ) (k : LeaseKind) (g : Field) (l : LeaseKind) → (file_of g ≡ c → ⊥) → meets (Life c) k g l ≡ false
+lives_apart c k (Life b) l h = rw (another c b h) refl
+lives_apart c k (Child b n) l h = refl
+lives_apart c k (Names b) l h = refl
+lives_apart c k (Info b) l h = refl
+lives_apart c k (Own b) l h = refl
+lives_apart c k (SelfW b m) l h = refl
+lives_apart c k (Other b m) l h = refl
+
+never : (x y : Bool) → y ≡ false → (x && y) ≡ false
+never true y h = h
+never false y h = refl
+
+same_file : (g : Field) (id : List ℕ) → (file_of g ≡ id → ⊥) → same_field g (Life id) ≡ false
+same_file (Life b) id h = another b id (λ e. h (sym e))
+same_file (Child b n) id h = refl
+same_file (Names b) id h = refl
+same_file (Info b) id h = refl
+same_file (Own b) id h = refl
+same_file (SelfW b m) id h = refl
+same_file (Other b m) id h = refl
+
+-- ## The gift
+
+module _ (by : Session) (dir : List ℕ) (k : ℕ) (a : Asking) (journal : List Item) (here : is_directory a.server.records dir ≡ true) (number : fresh_number a.server.records dir (borne_numbers dir a.server.rows) ≡ Some k) where
+  abbrev s : Server
+  s = a.server
+
+  abbrev t : Server
+  t = (with_fresh by dir k a).server
+
+  abbrev row : Row
+  row = given_row (next_number s) by (Life (child dir k)) Exclusive (end_of s)
+
+  least : IsLeastFree (next_of (get s.records dir)) (borne_numbers dir s.rows) k
+  least = number_least s.records dir (borne_numbers dir s.rows) k number
+
+  -- a row of the table is a row of the table before, or the new one
+  row_or : (r : Row) → In r t.rows → (r ≡ row) ⊎ In r s.rows
+  row_or r i = In-put (λ x. no_before row.no x.no) r row s.rows i
+
+  apart : ServersHold (sight_of s journal) → NoPlainConflict t.rows
+  apart h = NoPlainConflict-with_row row s.rows
+      (λ x i. never (not (by.0 == x.session.0)) (meets (Life (child dir k)) Exclusive x.field x.kind) (lives_apart (child dir k) Exclusive x.field x.kind (not_on dir k s.rows least.free x i)))
+      h.apart
+
+  off_modes : ServersFit (sight_of s journal) → RowsOffModes t.rows
+  off_modes f r i = elim (row_or r i) as (λ _. tells_no_mode r.field ≡ true) [
+    | inl e ↦ ap (λ (x : Row). tells_no_mode x.field) e
+    | inr j ↦ f.off_modes r j
+  ]
+
+  rows_given : ServersFit (sight_of s journal) → RowsGiven (sight_of t journal).given t.rows
+  rows_given f r i = elim (row_or r i) as (λ _. IsGiven (sight_of t journal).given r.no) [
+    | inl e ↦ let c = ap (λ (x : Row). x.no.count) e in omega arith
+    | inr j ↦ let g = f.given r j in omega arith
+  ]
+
+  pub gift_holds : ServersHold (sight_of s journal) → ServersHold (sight_of t journal)
+  gift_holds h = record { apart = apart h; serial = serial_still s.records dir k journal h.serial }
+
+  pub gift_fits : ServersFit (sight_of s journal) → ServersFit (sight_of t journal)
+  gift_fits f = record {
+    off_modes = off_modes f;
+    given = rows_given f;
+    sound = sound_still s.records dir k (borne_numbers dir s.rows) number f.sound;
+    made = made_still s.records dir k journal f.made;
+  }
+
+  pub gift_relied : (skew greatest : ℕ) (x : Session) → Relies skew greatest x (sight_of s journal) (sight_of t journal)
+  gift_relied skew greatest x = row_relied skew greatest x (sight_of s journal) (sight_of t journal) row refl (λ g. absurd (omega arith)) (λ n. omega arith) (λ field. values_stay s.records dir k x field) refl
+
+  -- ## The lease
+
+  abbrev l : Lease
+  l = lease_given by dir k s
+
+  below_is : l.below ≡ Some dir
+  below_is = ap (λ b. cond b (parent (child dir k)) None) (same_self (child dir k)) ∙ parent_child dir k
+
+  dead : (f : ServersFit (sight_of s journal)) (reserved : Reserved) → FreshReserved reserved s.records journal → kind_of (node_of (get s.records (child dir k))) ≡ None
+  dead f reserved r = unmade_dead s.records journal (child dir k) f.made (λ made. r.made_before dir k (child dir k) here least.from made (below_itself (child dir k)))
+
+  fresh : (f : ServersFit (sight_of s journal)) (reserved : Reserved) → FreshReserved reserved s.records journal → (d : List ℕ) → l.below ≡ Some d → IsFresh d l
+  fresh f reserved r d e =
+      let q : Some dir ≡ Some d = sym below_is ∙ e in
+      let is : dir ≡ d = cc in
+      record { number = k; field = ap (λ x. Life (child x k)) is; kind = refl; base = ap value.Life (dead f reserved r) }
+
+  pub new_lease : (f : ServersFit (sight_of s journal)) (reserved : Reserved) (leases : List Lease) → FreshReserved reserved s.records journal → LeasesGiven (sight_of s journal).given leases → IsNewLease (sight_of t journal) by leases l
+  new_lease f reserved leases r given = record {
+    given = omega arith;
+    new = λ j h e. let g = given j h in let c = ap (λ (n : LeaseNo). n.count) e in absurd (omega arith);
+    row = record { row = row; stands = In-put_here (λ x. no_before row.no x.no) row s.rows; number = refl; lasts = omega arith };
+    own = λ r i e. elim (row_or r i) as (λ _. IsRowOf by l.field l.kind r) [
+      | inl q ↦ subst (IsRowOf by l.field l.kind) (sym q) (record { session = refl; field = refl; kind = refl })
+      | inr j ↦ let g = f.given r j in let c = ap (λ (n : LeaseNo). n.count) e in absurd (omega arith)
+    ];
+    told = sym (values_stay s.records dir k by (Life (child dir k)));
+    fresh = fresh f reserved r;
+  }
+
+  -- what goes back is no lease that is given
+  pub returned_still : (kept : List Kept) (leases : List Lease) → ReturnsFit (sight_of s journal).given s.rows by kept leases → ReturnsFit (sight_of t journal).given t.rows by kept (leases ++ l ∷ [])
+  returned_still kept leases h j i leaving =
+      let q = h j i leaving in
+      let known = q.known in
+      record {
+        known = omega arith;
+        alone = each_more (λ (x : Lease). x.no ≢ number_of j.standing) leases l q.alone (λ e. let c = ap (λ (n : LeaseNo). n.count) e in absurd (omega arith));
+        own = λ r o e. elim (row_or r o) as (λ _. r.session ≡ by) [
+          | inl is ↦ let c = ap (λ (n : LeaseNo). n.count) (sym e ∙ ap (λ (x : Row). x.no) is) in absurd (omega arith)
+          | inr old ↦ q.own r old e
+        ];
+      }
+
+  -- ## The answer
+
+  -- leases on other files are as they would be without the identifier
+  granted_alike : (gs : List Grant) → ((g : Grant) → In g gs → file_of g.field ≡ child dir k → ⊥) → map (granted (Some (child dir k))) gs ≡ map (granted None) gs
+  granted_alike [] h = refl
+  granted_alike (g ∷ gs) h =
+      ap (λ b. (let x : Lease = record { no = g.no; field = g.field; kind = g.kind; until = g.until; base = g.value; below = cond b (parent (child dir k)) None } in x) ∷ map (granted (Some (child dir k))) gs) (same_file g.field (child dir k) (h g (inl refl)))
+      ∙ ap (λ ls. granted None g ∷ ls) (granted_alike gs (λ x i. h x (inr i)))
+
+  -- what the session is told with it is the lease, behind those that it is given
+  pub told_with : (d : Settled) (e : End) → ((g : Grant) → In g a.grants → (r : Row) × In r s.rows × (r.field ≡ g.field)) → told by (Granted (with_fresh by dir k a).grants (with_fresh by dir k a).fresh e) d ≡ with_given by dir k s (told by (Granted a.grants None e) d)
+  told_with d e rows =
+      let other : (g : Grant) → In g a.grants → file_of g.field ≡ child dir k → ⊥ = λ g i q. let r = rows g i in not_on dir k s.rows least.free r.0 r.1 (ap file_of r.2 ∙ q) in
+      ap (λ ls. with_leases ls d) (map-append (granted (Some (child dir k))) a.grants (grant_of by (Life (child dir k)) Exclusive s ∷ []) ∙ ap (λ ls. ls ++ l ∷ []) (granted_alike a.grants other))
+      ∙ ap (λ ls. let x : Settled = record d { leases = ls } in x) (sym (append_assoc d.leases (map (granted None) a.grants) (l ∷ [])))
+
+pub gift_keeps_parts : GiftKeepsParts
+gift_keeps_parts skew greatest a journal replied clients by dir k all gift =
+    let s : Sight = sight_of a.server journal in
+    let t : Sight = sight_of (with_fresh by dir k a).server journal in
+    let l : Lease = lease_given by dir k a.server in
+    let least = number_least a.server.records dir (borne_numbers dir a.server.rows) k gift.1 in
+    let relied = gift_relied by dir k a journal gift.0 gift.1 skew greatest in
+    let new = new_lease by dir k a journal gift.0 gift.1 all.kept (reserved_by clients) (clients by).leases all.reserved (all.fitting by).given in
+    let fits : (x : Session) → SessionFits skew greatest t x (clients x) = λ x. relied_fits skew greatest x s t (clients x) (relied x) (all.fitting x) in
+    let holds : (x : Session) → SessionHolds skew greatest t x (replied x) (clients x) = λ x. relied_holds skew greatest x s t (clients x) (relied x) (all.fitting x) (replied x) (all.sessions x) in
+    record {
+      servers = gift_holds by dir k a journal gift.0 gift.1 all.servers;
+      kept = gift_fits by dir k a journal gift.0 gift.1 all.kept;
+      sessions = each_session (λ x d. SessionHolds skew greatest t x (replied x) d) by (with_leases (l ∷ []) (clients by)) clients (leased_holds skew greatest by t (clients by) l new (fits by) (replied by) (holds by)) (λ x other. holds x);
+      fitting = each_session (λ x d. SessionFits skew greatest t x d) by (with_leases (l ∷ []) (clients by)) clients (leased_fits skew greatest by t (clients by) l new (fits by)) (λ x other. fits x);
+      reserved = reserved_still a.server.records journal dir k gift.0 least.from all.kept.made (reserved_by clients) (reserved_by (with_client by (with_given by dir k a.server (clients by)) clients)) by (next_number a.server) (reserved_then clients by l) all.reserved;
+    }
+
+pub gift_is_relied : GiftIsRelied
+gift_is_relied skew greatest a journal by x dir k gift = gift_relied by dir k a journal gift.0 gift.1 skew greatest x
+
+pub gift_returns_none : GiftReturnsNone
+gift_returns_none a journal by dir k kept d gift = returned_still by dir k a journal gift.0 gift.1 kept d.leases
+
+pub gift_is_told : GiftIsTold
+gift_is_told a by dir k d e gift rows = told_with by dir k a [] gift.0 gift.1 d e rows
