@@ -12,7 +12,7 @@ use Rattle.fs_field.specs.declared.asked.Need.TheVariants as need
 use Rattle.fs_field.specs.declared.field.Field.{Field}
 use Rattle.fs_field.specs.declared.field.Field.TheVariants.{Life, Child}
 use Rattle.fs_field.specs.declared.lease_kind.LeaseKind.{LeaseKind}
-use Rattle.fs_field.specs.declared.lease_kind.LeaseKind.TheVariants.{Exclusive}
+use Rattle.fs_field.specs.declared.lease_kind.LeaseKind.TheVariants.{Shared, Exclusive}
 use Rattle.fs_field.specs.declared.used.Use.{Use}
 use Rattle.fs_field.specs.declared.value.Value.{Value}
 use Rattle.fs_field.specs.declared.value.Value.TheVariants as value
@@ -29,7 +29,9 @@ use Rattle.fs_view.specs.Told.{life_told, child_told, own_told, is_other_told, m
 use Rattle.fs_view.specs.View.{View, fresh}
 use Rattle.fs_view.specs.declared.walk.Walk.{Walk}
 use Rattle.fs_view.specs.Walk.{Known, Given, walk_along, walk, behind, always}
-use Rattle.fs_serial.specs.Pending.{known_with, HasUse, IsCovered}
+use Rattle.fs_model.specs.Sound.{AsksAccess}
+use Rattle.fs_serial.specs.Pending.{known_with, HasUse, IsCovered, NamesItsFile, NamesReserved, named_by}
+use Rattle.fs_serial.specs.Settled.{Lease}
 
 -- ## Scripts that ask for no identifier
 
@@ -126,19 +128,40 @@ create_unmade : (w : Field → Value) (uses : List Use) (r : Reply) (dir name : 
 create_unmade w uses r dir name kind other h cover = right_behind w uses r (Life dir) _ _ (cover (Life dir) _ (inl refl)) (dir_unmade w uses r dir name (life_told (Some (w (Life dir)))) other h (λ field kind i. cover field kind (inr i)))
 
 -- where it is Made, an identifier was asked for
-place_asked : (w : Field → Value) (dir : List ℕ) (c : Option (Option (List ℕ))) → (walk_along (known_with w) always (unless (taken_name c) (new_file dir None))).reply ≡ Some reply.Made → In (need.Fresh dir) (walk_along (known_with w) always (unless (taken_name c) (new_file dir None))).items
-place_asked w dir None h = inl refl
-place_asked w dir (Some None) h = inl refl
-place_asked w dir (Some (Some x)) h = absurd (cc)
+pub first_behind : (n : Need) (b : Bool) (w : Walk) → In n (behind n b w).items
+first_behind n true w = inl refl
+first_behind n false w = inl refl
 
-dir_asked : (w : Field → Value) (dir name : List ℕ) (a : Option (Option Kind)) → (walk_along (known_with w) always (unless (no_dir a) (ask_place dir name None))).reply ≡ Some reply.Made → In (need.Fresh dir) (walk_along (known_with w) always (unless (no_dir a) (ask_place dir name None))).items
-dir_asked w dir name None h = inr (place_asked w dir (child_told (Some (w (Child dir name)))) h)
-dir_asked w dir name (Some None) h = absurd (cc)
-dir_asked w dir name (Some (Some File)) h = absurd (cc)
-dir_asked w dir name (Some (Some Dir)) h = inr (place_asked w dir (child_told (Some (w (Child dir name)))) h)
+deeper_behind : (n : Need) (b : Bool) (w : Walk) (x : Need) → In x w.items → In x (behind n b w).items
+deeper_behind n true w x i = inr i
+deeper_behind n false w x i = inr i
 
-pub create_asked : (w : Field → Value) (dir name : List ℕ) (kind : Kind) → (walk (known_with w) always (op.Create dir name kind None)).reply ≡ Some reply.Made → In (need.Fresh dir) (walk (known_with w) always (op.Create dir name kind None)).items
-create_asked w dir name kind h = inr (dir_asked w dir name (life_told (Some (w (Life dir)))) h)
+reply_behind : (n : Need) (b : Bool) (w : Walk) (r : Reply) → (behind n b w).reply ≡ Some r → w.reply ≡ Some r
+reply_behind n true w r h = h
+reply_behind n false w r h = absurd (cc)
+
+place_asked : (known : Known) (given : Given) (dir : List ℕ) (c : Option (Option (List ℕ))) → (walk_along known given (unless (taken_name c) (new_file dir None))).reply ≡ Some reply.Made → In (need.Fresh dir) (walk_along known given (unless (taken_name c) (new_file dir None))).items
+place_asked known given dir None h = first_behind (need.Fresh dir) (given dir) _
+place_asked known given dir (Some None) h = first_behind (need.Fresh dir) (given dir) _
+place_asked known given dir (Some (Some x)) h = absurd (cc)
+
+in_place_asked : (known : Known) (given : Given) (dir name : List ℕ) → (walk_along known given (ask_place dir name None)).reply ≡ Some reply.Made → In (need.Fresh dir) (walk_along known given (ask_place dir name None)).items
+in_place_asked known given dir name h =
+    let c = child_told (known (Child dir name) Exclusive) in
+    let w : Walk = walk_along known given (unless (taken_name c) (new_file dir None)) in
+    deeper_behind (need.Lease (Child dir name) Exclusive) (is_some (known (Child dir name) Exclusive)) w (need.Fresh dir) (place_asked known given dir c (reply_behind (need.Lease (Child dir name) Exclusive) (is_some (known (Child dir name) Exclusive)) w reply.Made h))
+
+dir_asked : (known : Known) (given : Given) (dir name : List ℕ) (a : Option (Option Kind)) → (walk_along known given (unless (no_dir a) (ask_place dir name None))).reply ≡ Some reply.Made → In (need.Fresh dir) (walk_along known given (unless (no_dir a) (ask_place dir name None))).items
+dir_asked known given dir name None h = in_place_asked known given dir name h
+dir_asked known given dir name (Some None) h = absurd (cc)
+dir_asked known given dir name (Some (Some File)) h = absurd (cc)
+dir_asked known given dir name (Some (Some Dir)) h = in_place_asked known given dir name h
+
+pub create_asked : (known : Known) (given : Given) (dir name : List ℕ) (kind : Kind) → (walk known given (op.Create dir name kind None)).reply ≡ Some reply.Made → In (need.Fresh dir) (walk known given (op.Create dir name kind None)).items
+create_asked known given dir name kind h =
+    let a = life_told (known (Life dir) Shared) in
+    let w : Walk = walk_along known given (unless (no_dir a) (ask_place dir name None)) in
+    deeper_behind (need.Lease (Life dir) Shared) (is_some (known (Life dir) Shared)) w (need.Fresh dir) (dir_asked known given dir name a (reply_behind (need.Lease (Life dir) Shared) (is_some (known (Life dir) Shared)) w reply.Made h))
 
 -- and with the identifier named, of a file that does not live, it is Made as well
 id_right : (w : Field → Value) (uses : List Use) (id : List ℕ) → w (Life id) ≡ value.Life None → HasUse uses (Life id) Exclusive → IsRight w uses reply.Made (new_file id (Some id))
@@ -175,7 +198,7 @@ right_with_id w uses v now (op.Kind file) r p m h cover ids = free_right w uses 
 right_with_id w uses v now (op.Info file) r p m h cover ids = free_right w uses r (script_of (op.Info file)) (λ life. unless_free (no_file (life_told life)) (ask_info file) (λ info. tt)) h cover
 right_with_id w uses v now (op.Create dir name kind (Some id)) r p m h cover ids = absurd (cc)
 right_with_id w uses v now (op.Create dir name kind None) reply.Made p m h cover ids =
-    let q : IsGivenFor w uses v now dir = ids dir (create_asked w dir name kind h) in
+    let q : IsGivenFor w uses v now dir = ids dir (create_asked (known_with w) always dir name kind h) in
     subst (λ o. IsRight w uses reply.Made (script_of (op.Create dir name kind o))) (sym q.offered) (create_right w uses dir name q.id kind q.unborn q.used h cover)
 right_with_id w uses v now (op.Create dir name kind None) r p m h cover ids = create_unmade w uses r dir name kind (λ e. absurd (cc)) h cover
 right_with_id w uses v now (op.OpenFile file h modes) r p m e cover ids = free_right w uses r (script_of (op.OpenFile file h modes)) (λ life. unless_free (no_file (life_told life)) (ask_own file h modes) (λ own. open_with_free (own_told own) file h modes)) e cover
@@ -184,3 +207,38 @@ right_with_id w uses v now (op.Set file h size stamp) r p m e cover ids = free_r
 right_with_id w uses v now (op.Delete dir name) r p m h cover ids = absurd (cc)
 right_with_id w uses v now (op.Rename sdir sname ddir dname) r p m h cover ids = absurd (cc)
 right_with_id w uses v now (op.Reap file session) r p m h cover ids = absurd (cc)
+
+-- ## The file that the entry names
+
+-- where the operation of the entry names an identifier, it is one that was asked for and offered
+pub record IsNamedFor (v : View) (now : ℕ) (o : Op) (r : Reply) (id : List ℕ) : Type 0 where
+  pub dir : List ℕ
+  pub asked : (known : Known) (given : Given) → (walk known given o).reply ≡ Some r → In (need.Fresh dir) (walk known given o).items
+  pub offered : fresh v now dir ≡ Some id
+
+pub named_for : (v : View) (now : ℕ) (o : Op) (r : Reply) (id : List ℕ) → may_ask o ≡ true → named_by (with_id v now o r) ≡ Some id → IsNamedFor v now o r id
+named_for v now (op.Create dir name kind None) reply.Made id m h = record { dir = dir; asked = λ known given e. create_asked known given dir name kind e; offered = h }
+named_for v now (op.Create dir name kind None) r id m h = absurd (cc)
+named_for v now (op.Create dir name kind (Some new)) r id m h = absurd (cc)
+named_for v now o r id m h = absurd (cc)
+
+-- what may be asked stays plain, with an identifier too
+pub plain_with_id : (v : View) (now : ℕ) (o : Op) (r : Reply) → tells_its_effects o ≡ true → tells_its_effects (with_id v now o r) ≡ true
+plain_with_id v now (op.Create dir name kind id) reply.Made p = refl
+plain_with_id v now (op.Create dir name kind id) r p = refl
+plain_with_id v now o r p = p
+
+pub access_with_id : (v : View) (now : ℕ) (o : Op) (r : Reply) → AsksAccess o → AsksAccess (with_id v now o r)
+access_with_id v now (op.Create dir name kind id) reply.Made a = tt
+access_with_id v now (op.Create dir name kind id) r a = tt
+access_with_id v now o r a = a
+
+-- the entry names its file where an identifier that was asked for is reserved
+pub names_its_file : (leases : List Lease) (uses : List Use) (v : View) (now : ℕ) (o : Op) (r : Reply) (known : Known) (given : Given) → may_ask o ≡ true → (walk known given o).reply ≡ Some r
+    → ((dir : List ℕ) → In (need.Fresh dir) (walk known given o).items → (id : List ℕ) × (fresh v now dir ≡ Some id) × NamesReserved leases uses dir id) → NamesItsFile leases uses (with_id v now o r) r
+names_its_file leases uses v now (op.Create dir name kind (Some id)) r known given m h ids = absurd (cc)
+names_its_file leases uses v now (op.Create dir name kind None) reply.Made known given m h ids =
+    let q = ids dir (create_asked known given dir name kind h) in
+    subst (λ o. NamesItsFile leases uses (op.Create dir name kind o) reply.Made) (sym q.1) q.2
+names_its_file leases uses v now (op.Create dir name kind None) r known given m h ids = tt
+names_its_file leases uses v now o r known given m h ids = tt
