@@ -43,8 +43,8 @@ pub record IsOfLease (leases : List Lease) (u : Use) : Type 0 where
 pub record IsNext (by : Session) (d : Settled) (e : Entry) : Type 0 where
   pub number : e.n ≡ d.next
   pub of_lease : (u : Use) → In u e.uses → IsOfLease d.leases u
-  -- it is right whatever has the values that the leases tell
-  pub right : (values : Field → Value) → ((u : Use) (i : In u e.uses) → values (of_lease u i).lease.field ≡ value_seen by d (of_lease u i).lease) → IsAnswer values e
+  -- it is right wherever fields have the values that the leases of its uses tell
+  pub right : (values : Field → Value) → ((l : Lease) → In l d.leases → (u : Use) → In u e.uses → l.no ≡ u.no → values l.field ≡ value_seen by d l) → IsAnswer values e
   pub entry : IsEntry d.leases e
   pub once : (f : Entry) (id : List ℕ) → In f d.log → named_by f.op ≡ Some id → named_by e.op ≡ Some id → ⊥
 
@@ -79,11 +79,10 @@ module _ (skew greatest : ℕ) (s : Sight) (by : Session) (replied : List Item) 
     (h : SessionHolds skew greatest s by replied d) (f : SessionFits skew greatest s by d) where
   -- where the rows of its leases stand, they tell the values at the end of the log
   right : AllStand s.rows by e.uses → IsAnswer (values_at_end by d.log (value_of s.records by)) e
-  right stand = n.right (values_at_end by d.log (value_of s.records by)) (λ u i.
-      let l : IsOfLease d.leases u = n.of_lease u i in
+  right stand = n.right (values_at_end by d.log (value_of s.records by)) (λ l held u i same.
       let r : Stands s.rows by u = stand u i in
-      end_seen by d.log (value_of s.records by) l.lease.field
-      ∙ ap (λ v. value_after_log by l.lease.field v (map (effects_in by) d.log)) (sym (h.telling l.lease l.held r.row r.stands (r.number ∙ sym l.number))))
+      end_seen by d.log (value_of s.records by) l.field
+      ∙ ap (λ v. value_after_log by l.field v (map (effects_in by) d.log)) (sym (h.telling l held r.row r.stands (r.number ∙ sym same))))
 
   more_items : all_items by s.journal (d.log ++ e ∷ []) ≡ all_items by s.journal d.log ++ item_of by e ∷ []
   more_items = ap (λ is. items_by by s.journal ++ is) (map-append (item_of by) d.log (e ∷ [])) ∙ sym (append_assoc (items_by by s.journal) (map (item_of by) d.log) (item_of by e ∷ []))
