@@ -25,7 +25,8 @@ use Rattle.fs_view.specs.View.{pinned_at, pinned_all}
 use Rattle.fs_view.proofs.Places.{same_no_is}
 use Rattle.fs_serial.specs.Client.{ClientFits, KeptDistinct, PinsCounted, times_used, times_in}
 use Rattle.fs_serial.specs.Settled.{Lease, Settled, lease_in, lease_with, effects_in, settled_now}
-use Rattle.fs_serial.proofs.Facts.{each_image}
+use Rattle.fs_serial.specs.Pending.{HasLease, UsesHeld}
+use Rattle.fs_serial.proofs.Facts.{each_image, each_more}
 use Rattle.fs_serial.proofs.Reply.{with_last}
 
 -- ## One use more
@@ -134,13 +135,14 @@ times-append n (x ∷ es) e = let q = times-append n es e in omega arith
 
 -- ## The client
 
-pub reply_client : (by : Session) (c : Client) (e : Entry) → ClientFits by c → InHand e.uses c.view.leases → ClientFits by (with_reply e (effects_of c.session e.op e.reply) c)
-reply_client by c e f hand = record {
+pub reply_client : (by : Session) (c : Client) (e : Entry) → ClientFits by c → InHand e.uses c.view.leases → ((u : Use) → In u e.uses → HasLease (settled_now c).leases u) → ClientFits by (with_reply e (effects_of c.session e.op e.reply) c)
+reply_client by c e f hand own = record {
   session = f.session;
   viewed = f.viewed;
   pending = ap (λ s. c.view.pending ++ effects_of s e.op e.reply ∷ []) f.session ∙ ap (λ es. es ++ effects_in by e ∷ []) f.pending ∙ sym (map-append (effects_in by) c.log (e ∷ []));
   distinct = distinct_all e.uses c.view.leases f.distinct;
   pinned = λ k i. counted_all e.uses c.view.leases (λ n. times_in n c.log) hand f.pinned k i ∙ sym (times-append (number_of k.standing) c.log e);
+  held = subst (λ ls. UsesHeld ls (c.log ++ e ∷ [])) (sym (pinned_leases e.uses c.view.leases)) (each_more (λ x. (u : Use) → In u x.uses → HasLease (settled_now c).leases u) c.log e f.held own);
 }
 
 -- what servers see of it has one entry more

@@ -48,8 +48,8 @@ pub fn a_reply_keeps_the_parts()
         clients by ≡ settled by down (settled_now c) → IsReplied c down o r →
         AllHold skew greatest s
         (with_replies by (replied by ++ item_of by (entry_of o r c) ∷ []) replied)
-        (with_client by (settled by down (settled_now (changed (replies o r c).change c)))
+        (with_client by (settled by down (settled_now (changed (replies o r c).ready.change c)))
         clients) }
     ensures client { (by : Session) (c : Client) (down : List Answer) (o : Op) (r : Reply) →
-        IsReplied c down o r → ClientFits by c → ClientFits by (changed (replies o r c).change c) }
+        IsReplied c down o r → ClientFits by c → ClientFits by (changed (replies o r c).ready.change c) }
 {}
