@@ -35,12 +35,12 @@ use Rattle.fs_serial.proofs.Reply.{with_last}
 abbrev pub one_pin : LeaseNo → Kept → Kept
 one_pin n k = cond (has_number n k) (record k { standing = pinned k.standing }) k
 
-pin_number : (s : Standing) → number_of (pinned s) ≡ number_of s
+pub pin_number : (s : Standing) → number_of (pinned s) ≡ number_of s
 pin_number (Held l) = refl
 pin_number (Pinned u) = refl
 pin_number (Leaving l) = refl
 
-pin_leaving : (s : Standing) → is_leaving (pinned s) ≡ is_leaving s
+pub pin_leaving : (s : Standing) → is_leaving (pinned s) ≡ is_leaving s
 pin_leaving (Held l) = refl
 pin_leaving (Pinned u) = refl
 pin_leaving (Leaving l) = refl
@@ -56,7 +56,7 @@ pin_lease (Pinned u) = refl
 pin_lease (Leaving l) = refl
 
 -- what a pin keeps of a standing, it keeps of the lease
-one_keeps : {X : Type 0} (f : Standing → X) → ((s : Standing) → f (pinned s) ≡ f s) → (n : LeaseNo) (k : Kept) → f (one_pin n k).standing ≡ f k.standing
+pub one_keeps : {X : Type 0} (f : Standing → X) → ((s : Standing) → f (pinned s) ≡ f s) → (n : LeaseNo) (k : Kept) → f (one_pin n k).standing ≡ f k.standing
 one_keeps f h n k = within (has_number n k)
   where
     within : (b : Bool) → f (cond b (let x : Kept = record k { standing = pinned k.standing } in x) k).standing ≡ f k.standing
