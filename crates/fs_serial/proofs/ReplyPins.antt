@@ -25,7 +25,8 @@ use Rattle.fs_view.specs.View.{pinned_at, pinned_all}
 use Rattle.fs_view.proofs.Places.{same_no_is}
 use Rattle.fs_serial.specs.Client.{ClientFits, KeptDistinct, PinsCounted, times_used, times_in}
 use Rattle.fs_serial.specs.Settled.{Lease, Settled, lease_in, lease_with, effects_in, settled_now}
-use Rattle.fs_serial.proofs.Facts.{each_image}
+use Rattle.fs_serial.specs.Pending.{HasLease, UsesHeld}
+use Rattle.fs_serial.proofs.Facts.{each_image, each_more}
 use Rattle.fs_serial.proofs.Reply.{with_last}
 
 -- ## One use more
@@ -34,12 +35,12 @@ use Rattle.fs_serial.proofs.Reply.{with_last}
 abbrev pub one_pin : LeaseNo → Kept → Kept
 one_pin n k = cond (has_number n k) (record k { standing = pinned k.standing }) k
 
-pin_number : (s : Standing) → number_of (pinned s) ≡ number_of s
+pub pin_number : (s : Standing) → number_of (pinned s) ≡ number_of s
 pin_number (Held l) = refl
 pin_number (Pinned u) = refl
 pin_number (Leaving l) = refl
 
-pin_leaving : (s : Standing) → is_leaving (pinned s) ≡ is_leaving s
+pub pin_leaving : (s : Standing) → is_leaving (pinned s) ≡ is_leaving s
 pin_leaving (Held l) = refl
 pin_leaving (Pinned u) = refl
 pin_leaving (Leaving l) = refl
@@ -55,7 +56,7 @@ pin_lease (Pinned u) = refl
 pin_lease (Leaving l) = refl
 
 -- what a pin keeps of a standing, it keeps of the lease
-one_keeps : {X : Type 0} (f : Standing → X) → ((s : Standing) → f (pinned s) ≡ f s) → (n : LeaseNo) (k : Kept) → f (one_pin n k).standing ≡ f k.standing
+pub one_keeps : {X : Type 0} (f : Standing → X) → ((s : Standing) → f (pinned s) ≡ f s) → (n : LeaseNo) (k : Kept) → f (one_pin n k).standing ≡ f k.standing
 one_keeps f h n k = within (has_number n k)
   where
     within : (b : Bool) → f (cond b (let x : Kept = record k { standing = pinned k.standing } in x) k).standing ≡ f k.standing
@@ -134,13 +135,14 @@ times-append n (x ∷ es) e = let q = times-append n es e in omega arith
 
 -- ## The client
 
-pub reply_client : (by : Session) (c : Client) (e : Entry) → ClientFits by c → InHand e.uses c.view.leases → ClientFits by (with_reply e (effects_of c.session e.op e.reply) c)
-reply_client by c e f hand = record {
+pub reply_client : (by : Session) (c : Client) (e : Entry) → ClientFits by c → InHand e.uses c.view.leases → ((u : Use) → In u e.uses → HasLease (settled_now c).leases u) → ClientFits by (with_reply e (effects_of c.session e.op e.reply) c)
+reply_client by c e f hand own = record {
   session = f.session;
   viewed = f.viewed;
   pending = ap (λ s. c.view.pending ++ effects_of s e.op e.reply ∷ []) f.session ∙ ap (λ es. es ++ effects_in by e ∷ []) f.pending ∙ sym (map-append (effects_in by) c.log (e ∷ []));
   distinct = distinct_all e.uses c.view.leases f.distinct;
   pinned = λ k i. counted_all e.uses c.view.leases (λ n. times_in n c.log) hand f.pinned k i ∙ sym (times-append (number_of k.standing) c.log e);
+  held = subst (λ ls. UsesHeld ls (c.log ++ e ∷ [])) (sym (pinned_leases e.uses c.view.leases)) (each_more (λ x. (u : Use) → In u x.uses → HasLease (settled_now c).leases u) c.log e f.held own);
 }
 
 -- what servers see of it has one entry more

@@ -100,9 +100,10 @@ pub record IsReturned (leases : List Kept) (wanted : LeaseNo) : Type 0 where
   pub number : number_of kept.standing ≡ wanted
   pub leaving : is_leaving kept.standing ≡ true
 
--- what is released goes back
-abbrev pub ReleasesReturned : List ClientMsg → List Kept → Type 0
-ReleasesReturned up leases = (pairs : List (List ℕ × LeaseNo)) → In (Release pairs) up → (n : LeaseNo) → In n (numbers_in pairs) → IsReturned leases n
+-- until the answer has come, what was released goes back
+abbrev pub ReleasesReturned : Option Exchange → List Kept → Type 0
+ReleasesReturned (Some (Releases to numbers)) leases = (n : LeaseNo) → In n numbers → IsReturned leases n
+ReleasesReturned x leases = Unit {0}
 
 -- no lease is asked for on what sessions tell of modes
 abbrev pub AsksOffModes : List ClientMsg → Type 0
@@ -137,7 +138,7 @@ pub record ExchangeFits (skew greatest : ℕ) (given : ℕ → ℕ) (rows : List
   pub first : AsksFirst c.exchange
   pub ships : ShipsLog c.exchange c.log
   pub front : ShipsFront up d
-  pub released : ReleasesReturned up c.view.leases
+  pub released : ReleasesReturned c.exchange c.view.leases
   pub asked : AsksOffModes up
   pub kinds : AsksGivenKinds up
   pub returns : ReturnsFit given rows by c.view.leases d.leases

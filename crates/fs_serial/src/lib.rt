@@ -3,4 +3,4 @@
 
 mod law;
 
-pub use law::{a_gift_keeps_the_parts, an_admitted_entry_keeps_the_parts};
+pub use law::{a_gift_keeps_the_parts, a_reply_keeps_the_parts, an_admitted_entry_keeps_the_parts};
