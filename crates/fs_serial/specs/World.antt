@@ -10,7 +10,10 @@ use Rattle.fs_msg.specs.declared.client_msg.ClientMsg.{ClientMsg}
 use Rattle.fs_msg.specs.declared.item.Item.{Item}
 use Rattle.fs_msg.specs.declared.msg.Msg.{Msg}
 use Rattle.fs_msg.specs.declared.msg.Msg.TheVariants as msg
+use Rattle.fs_server.specs.declared.event.ServerEvent.{ServerEvent}
+use Rattle.fs_server.specs.declared.event.ServerEvent.TheVariants.{FromClient}
 use Rattle.fs_server.specs.declared.state.Server.{Server}
+use Rattle.fs_server.specs.Step.{step}
 use Rattle.fs_client.specs.declared.state.Client.{Client}
 use Rattle.fs_serial.specs.Client.{ClientFits}
 use Rattle.fs_serial.specs.Exchange.{ExchangeFits, ReturnsFit, RenewalsBacked}
@@ -76,3 +79,23 @@ pub record WorldHolds (greatest : ℕ) (w : World) : Type 0 where
   pub clients : (x : Session) → ClientFits x (w.ends x).client
   pub exchanges : (x : Session)
       → ExchangeFits w.server.skew greatest (sight_of w.server w.journal).given w.server.rows x (w.ends x).client (w.ends x).up (w.ends x).down (settled_now (w.ends x).client) (settled_at x (w.ends x))
+
+-- ## The server's events
+
+-- the question that the event is about is no longer on its way
+abbrev pub without_taken : ServerEvent → (Session → Ends) → Session → Ends
+without_taken (FromClient by m) ends = without_question by ends
+without_taken e ends = ends
+
+-- it is on its way before
+abbrev pub IsThere : ServerEvent → (Session → Ends) → Type 0
+IsThere (FromClient by m) ends = In m (ends by).up
+IsThere e ends = Unit {0}
+
+abbrev pub after_server : ℕ → ServerEvent → World → World
+after_server now e w = record {
+  server = (step w.server now e).server;
+  journal = w.journal ++ (step w.server now e).out.admitted;
+  replied = w.replied;
+  ends = with_sent (step w.server now e).out.send (without_taken e w.ends);
+}
