@@ -8,11 +8,12 @@ use Rattle.fs_ident.proofs.Booleans.{both}
 use Rattle.fs_ident.proofs.Passing.{found}
 use Rattle.fs_field.specs.declared.asked.Need.{Need}
 use Rattle.fs_field.specs.declared.asked.Need.TheVariants as need
+use Rattle.fs_field.specs.declared.effect.Effect.{Effect}
 use Rattle.fs_field.specs.declared.field.Field.{Field}
 use Rattle.fs_field.specs.declared.lease_kind.LeaseKind.{LeaseKind}
 use Rattle.fs_field.specs.declared.used.Use.{Use}
 use Rattle.fs_field.specs.declared.value.Value.{Value}
-use Rattle.fs_field.specs.Field.{same_field}
+use Rattle.fs_field.specs.Field.{same_field, file_of}
 use Rattle.fs_field.specs.Table.{is_parent}
 use Rattle.fs_lease.specs.Lease.{Lease as Term}
 use Rattle.fs_model.specs.declared.op.Op.{Op}
@@ -71,32 +72,34 @@ taken_among now field kind best (k ∷ ks) x h = split (serves now field kind k.
     split b t (inr q) = inr (inr q.0, q.1)
 
 -- the lease is in use or may be
-pub record IsTerm (s : Standing) : Type 0 where
+pub record IsTerm (now : ℕ) (s : Standing) : Type 0 where
   pub lease : Term
   pub is : lease_of s ≡ Some lease
+  pub live : nat_lt now lease.until ≡ true
 
-pub record IsServing (field : Field) (kind : LeaseKind) (s : Standing) : Type 0 where
+pub record IsServing (now : ℕ) (field : Field) (kind : LeaseKind) (s : Standing) : Type 0 where
   pub lease : Term
   pub is : lease_of s ≡ Some lease
   pub on : lease.field ≡ field
   pub enough : is_enough lease.kind kind ≡ true
+  pub live : nat_lt now lease.until ≡ true
 
-known_of : (now : ℕ) (field : Field) (kind : LeaseKind) (l : Term) → makes_known now field kind l ≡ true → (l.field ≡ field) × (is_enough l.kind kind ≡ true)
+known_of : (now : ℕ) (field : Field) (kind : LeaseKind) (l : Term) → makes_known now field kind l ≡ true → (l.field ≡ field) × (is_enough l.kind kind ≡ true) × (nat_lt now l.until ≡ true)
 known_of now field kind l h =
     let p = both (same_field l.field field && is_enough l.kind kind) (nat_lt now l.until) h in
     let q = both (same_field l.field field) (is_enough l.kind kind) p.0 in
-    (same_field_is l.field field q.0, q.1)
+    (same_field_is l.field field q.0, q.1, p.1)
 
-serving : (now : ℕ) (field : Field) (kind : LeaseKind) (s : Standing) → serves now field kind s ≡ true → IsServing field kind s
-serving now field kind (Held l) h = let q = known_of now field kind l h in record { lease = l; is = refl; on = q.0; enough = q.1 }
-serving now field kind (Pinned u) h = let q = known_of now field kind u.lease h in record { lease = u.lease; is = refl; on = q.0; enough = q.1 }
+serving : (now : ℕ) (field : Field) (kind : LeaseKind) (s : Standing) → serves now field kind s ≡ true → IsServing now field kind s
+serving now field kind (Held l) h = let q = known_of now field kind l h in record { lease = l; is = refl; on = q.0; enough = q.1; live = q.2 }
+serving now field kind (Pinned u) h = let q = known_of now field kind u.lease h in record { lease = u.lease; is = refl; on = q.0; enough = q.1; live = q.2 }
 serving now field kind (Leaving l) h = absurd (cc)
 
 -- a field that is known is known by a lease
 pub record IsKnown (v : View) (now : ℕ) (field : Field) (kind : LeaseKind) : Type 0 where
   pub kept : Kept
   pub among : In kept v.leases
-  pub serving : IsServing field kind kept.standing
+  pub serving : IsServing now field kind kept.standing
   pub used : item_use v now (need.Lease field kind) ≡ Some (use_of serving.lease)
   pub value : known_by v now field kind ≡ Some (value_after_log v.session field kept.base v.pending)
 
@@ -122,15 +125,15 @@ known_by_lease v now field kind h = known_there v now field kind (taken v now fi
 
 -- ## Identifiers that are offered
 
-unused_term : (now : ℕ) (log : _) (s : Standing) → is_unused_in now log s ≡ true → IsTerm s
-unused_term now log (Held l) h = record { lease = l; is = refl }
-unused_term now log (Pinned u) h = record { lease = u.lease; is = refl }
+unused_term : (now : ℕ) (log : List (List Effect)) (s : Standing) → is_unused_in now log s ≡ true → IsTerm now s
+unused_term now log (Held l) h = record { lease = l; is = refl; live = (both (nat_lt now l.until) (not (is_pending (file_of l.field) log)) h).0 }
+unused_term now log (Pinned u) h = record { lease = u.lease; is = refl; live = (both (nat_lt now u.lease.until) (not (is_pending (file_of u.lease.field) log)) h).0 }
 unused_term now log (Leaving l) h = absurd (cc)
 
 pub record IsOffered (v : View) (now : ℕ) (dir : List ℕ) : Type 0 where
   pub kept : Kept
   pub among : In kept v.leases
-  pub term : IsTerm kept.standing
+  pub term : IsTerm now kept.standing
   pub offers : offers now dir v.pending kept ≡ true
   pub first : offered v now dir ≡ Some kept
   pub used : item_use v now (need.Fresh dir) ≡ Some (use_of term.lease)
@@ -157,18 +160,19 @@ used_there v now o n u i e = In-filter_map (item_use v now) n u (walk_in v now o
 
 -- ## Where a use comes from
 
-pub record IsUseOf (v : View) (u : Use) : Type 0 where
+pub record IsUseOf (v : View) (now : ℕ) (u : Use) : Type 0 where
   pub kept : Kept
   pub among : In kept v.leases
   pub lease : Term
   pub is : lease_of kept.standing ≡ Some lease
   pub used : use_of lease ≡ u
+  pub live : nat_lt now lease.until ≡ true
 
-pub use_from : (v : View) (now : ℕ) (o : Op) (u : Use) → is_some (walk_in v now o).reply ≡ true → In u (uses_in v now o) → IsUseOf v u
+pub use_from : (v : View) (now : ℕ) (o : Op) (u : Use) → is_some (walk_in v now o).reply ≡ true → In u (uses_in v now o) → IsUseOf v now u
 use_from v now o u h i =
     let q = from-filter_map (item_use v now) u (walk_in v now o).items i in
     of_item q.0 (all_there (known_by v now) (given_by v now) _ h q.0 q.1) q.2
   where
-    of_item : (n : Need) → is_there (known_by v now) (given_by v now) n ≡ true → item_use v now n ≡ Some u → IsUseOf v u
-    of_item (need.Lease field kind) t e = let k = known_by_lease v now field kind t in record { kept = k.kept; among = k.among; lease = k.serving.lease; is = k.serving.is; used = cc (k.used, e) }
-    of_item (need.Fresh dir) t e = let k = offered_by_lease v now dir t in record { kept = k.kept; among = k.among; lease = k.term.lease; is = k.term.is; used = cc (k.used, e) }
+    of_item : (n : Need) → is_there (known_by v now) (given_by v now) n ≡ true → item_use v now n ≡ Some u → IsUseOf v now u
+    of_item (need.Lease field kind) t e = let k = known_by_lease v now field kind t in record { kept = k.kept; among = k.among; lease = k.serving.lease; is = k.serving.is; used = cc (k.used, e); live = k.serving.live }
+    of_item (need.Fresh dir) t e = let k = offered_by_lease v now dir t in record { kept = k.kept; among = k.among; lease = k.term.lease; is = k.term.is; used = cc (k.used, e); live = k.term.live }

@@ -64,7 +64,7 @@ stand_more rows by v (x ∷ es) e h last = λ stand. let q = h stand in (q.0, st
 
 -- ## Numbers and names
 
-number_more : (k : ℕ) (is : List Item) (next : ℕ) (i : Item) → AreNumbered k is next → i.n ≡ next → AreNumbered k (is ++ i ∷ []) (next + 1)
+pub number_more : (k : ℕ) (is : List Item) (next : ℕ) (i : Item) → AreNumbered k is next → i.n ≡ next → AreNumbered k (is ++ i ∷ []) (next + 1)
 number_more k [] next i h e = (e ∙ sym h, ap (λ n. n + 1) h)
 number_more k (j ∷ is) next i h e = (h.0, number_more (k + 1) is next i h.1 e)
 

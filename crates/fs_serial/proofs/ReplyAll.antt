@@ -48,13 +48,13 @@ module _ (by : Session) (c : Client) (down : List Answer) (o : Op) (r : Reply) (
   -- no lease that it uses goes back
   pub in_hand : InHand (entry_of o r c).uses c.view.leases
   in_hand u i k j e =
-      let q : IsUseOf c.view u = use_from c.view c.last o u (ap is_some a.reply) i in
+      let q : IsUseOf c.view c.last u = use_from c.view c.last o u (ap is_some a.reply) i in
       let same : k ≡ q.kept = f.distinct k q.kept j q.among (e ∙ ap (λ (u : Use). u.no) (sym q.used) ∙ sym (its_number q.kept.standing q.lease q.is)) in
       ap (λ (k : Kept). is_leaving k.standing) same ∙ not_leaving q.kept.standing q.lease q.is
 
   own : (u : Use) → In u (entry_of o r c).uses → HasLease (settled_now c).leases u
   own u i =
-      let q : IsUseOf c.view u = use_from c.view c.last o u (ap is_some a.reply) i in
+      let q : IsUseOf c.view c.last u = use_from c.view c.last o u (ap is_some a.reply) i in
       record {
         lease = lease_with q.kept q.lease;
         held = In-filter_map lease_in q.kept (lease_with q.kept q.lease) c.view.leases q.among (ap (option_map (lease_with q.kept)) q.is);

@@ -132,7 +132,7 @@ module _ (by : Session) (c : Client) (answers : List Answer) (o : Op) (r : Reply
 
   of_lease : (u : Use) → In u e.uses → IsOfLease d.leases u
   of_lease u i =
-      let q : IsUseOf v u = use_from v c.last o u there i in
+      let q : IsUseOf v c.last u = use_from v c.last o u there i in
       let p = kept_later q.kept q.lease q.among q.is in
       record { lease = p.lease; held = p.held; number = p.number ∙ ap (λ (u : Use). u.no) q.used; field = p.field ∙ ap (λ (u : Use). u.field) q.used; kind = p.kind ∙ ap (λ (u : Use). u.kind) q.used; until = p.until ∙ ap (λ (u : Use). u.until) q.used }
 

@@ -1,8 +1,9 @@
 -- When a kind of step happens.
-use Rattle.std.specs.Prelude.{◌≡◌, ◌≤◌, true, List, ◌∷◌, length, Some, None}
+use Rattle.std.specs.Prelude.{◌≡◌, ℕ, ◌+◌, ◌≤◌, true, false, List, [], ◌∷◌, length, Some, None}
 use Rattle.fs_ident.specs.declared.actor.Session.{Session}
 use Rattle.fs_client.specs.declared.state.Client.{Client}
 use Rattle.fs_model.specs.Asking.{may_ask}
+use Rattle.fs_model.specs.Sound.{is_change}
 use Rattle.fs_model.specs.declared.op.Op.{Op}
 use Rattle.fs_model.specs.declared.reply.Reply.{Reply}
 use Rattle.fs_msg.specs.declared.answer.Answer.{Answer}
@@ -27,3 +28,9 @@ pub record IsReplied (c : Client) (down : List Answer) (o : Op) (r : Reply) : Ty
   pub asked : may_ask o ≡ true
   pub reply : reply_in c.view c.last o ≡ Some r
   pub few : admitted_in down ≤ length c.log
+
+-- the reply changes nothing, no entry waits, and no clock is ahead of the client's by more than the skew
+pub record IsReadNow (skew greatest : ℕ) (c : Client) (r : Reply) : Type 0 where
+  pub read : is_change r ≡ false
+  pub empty : c.log ≡ []
+  pub within : greatest ≤ c.last + skew
