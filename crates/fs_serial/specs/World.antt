@@ -13,7 +13,9 @@ use Rattle.fs_msg.specs.declared.msg.Msg.TheVariants as msg
 use Rattle.fs_server.specs.declared.event.ServerEvent.{ServerEvent}
 use Rattle.fs_server.specs.declared.event.ServerEvent.TheVariants.{FromClient}
 use Rattle.fs_server.specs.declared.state.Server.{Server}
+use Rattle.fs_server.specs.Server.{first_server}
 use Rattle.fs_server.specs.Step.{step}
+use Rattle.fs_client.specs.Client.{first_client}
 use Rattle.fs_client.specs.declared.state.Client.{Client}
 use Rattle.fs_serial.specs.Client.{ClientFits}
 use Rattle.fs_serial.specs.Exchange.{ExchangeFits, ReturnsFit, RenewalsBacked}
@@ -37,6 +39,13 @@ pub record World : Type 0 where
   pub journal : List Item
   pub replied : Session → List Item
   pub ends : Session → Ends
+
+-- the server is new, and so is each session
+abbrev pub first_ends : ℕ → Session → Ends
+first_ends term x = record { client = first_client x term; up = []; down = [] }
+
+abbrev pub first_world : ℕ → ℕ → World
+first_world skew term = record { server = first_server 0 skew term; journal = []; replied = λ x. []; ends = first_ends term }
 
 -- ## Answers on their way
 

@@ -18,7 +18,7 @@ ghost use Rattle.fs_serial.specs.Parts.{AllHold, with_client, with_replies};
 ghost use Rattle.fs_serial.specs.Settled.{Settled, acknowledged, settled, settled_now};
 ghost use Rattle.fs_serial.specs.Sight.{Sight, sight_of};
 ghost use Rattle.fs_serial.specs.Steps.{IsAdmitted, IsReplied};
-ghost use Rattle.fs_serial.specs.World.{IsThere, World, WorldHolds, after_server};
+ghost use Rattle.fs_serial.specs.World.{IsThere, World, WorldHolds, after_server, first_world};
 
 /// A fresh identifier that a directory gives to a session, with an exclusive lease on the life of the file. Whoever relied
 /// on what was before can go on, no lease that goes back is given, and the session is told just that lease.
@@ -64,4 +64,9 @@ pub fn the_servers_events_keep_all_parts()
         WorldHolds greatest (after_server now e w) }
     ensures rises { (greatest later : ℕ) (w : World) → greatest ≤ later → WorldHolds greatest w →
         WorldHolds later w }
+{}
+
+/// At the start, with one new server, no session that has a lease and nothing on its way, all parts hold.
+pub fn the_first_world_has_all_parts()
+    ensures { (skew term greatest : ℕ) → WorldHolds greatest (first_world skew term) }
 {}
