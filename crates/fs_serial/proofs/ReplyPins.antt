@@ -101,7 +101,7 @@ InHand us ks = (u : Use) → In u us → (k : Kept) → In k ks → number_of k.
 in_hand_still : (us : List Use) (n : LeaseNo) (ks : List Kept) → InHand us ks → InHand us (pinned_at n ks)
 in_hand_still us n ks h u i = each_image (one_pin n) (λ k. number_of k.standing ≡ u.no → is_leaving k.standing ≡ false) ks (λ k j e. one_keeps is_leaving pin_leaving n k ∙ h u i k j (sym (one_keeps number_of pin_number n k) ∙ e))
 
-turned : (a b : LeaseNo) → same_no a b ≡ same_no b a
+pub turned : (a b : LeaseNo) → same_no a b ≡ same_no b a
 turned a b = ap (λ x. x && (a.count == b.count)) (nat_eq_equiv.symm a.server b.server) ∙ ap (λ x. (b.server == a.server) && x) (nat_eq_equiv.symm a.count b.count)
 
 abbrev one_more : Bool → ℕ → ℕ
