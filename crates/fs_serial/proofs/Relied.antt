@@ -1,5 +1,5 @@
 -- What a session relies on keeps its parts.
-use Rattle.std.proofs.Common.{◌≡◌, ℕ, ◌+◌, ◌<◌, List, [], ◌∷◌, ◌++◌, map, refl, sym, ap, ◌∙◌, subst, inl, inr, arith}
+use Rattle.std.proofs.Common.{◌≡◌, ℕ, ◌+◌, ◌<◌, ◌≤◌, List, [], ◌∷◌, ◌++◌, map, refl, sym, ap, ◌∙◌, subst, inl, inr, arith}
 use Rattle.std.specs.Prelude.{Some, is_some}
 use Rattle.fs_ident.specs.In.{In}
 use Rattle.fs_ident.specs.declared.actor.LeaseNo.{LeaseNo}
@@ -24,7 +24,7 @@ use Rattle.fs_view.proofs.Walks.{alike}
 use Rattle.fs_serial.specs.Exchange.{ReturnsFit, RenewalsBacked}
 use Rattle.fs_serial.specs.Leases.{IsBacked, LeasesBacked, LeasesTrue, LeasesMatch}
 use Rattle.fs_server.specs.Ships.{item_of}
-use Rattle.fs_serial.specs.Numbers.{AreNumbered, all_items, NumbersInOrder}
+use Rattle.fs_serial.specs.Numbers.{items_by, AreNumbered, all_items, NumbersInOrder}
 use Rattle.fs_serial.specs.Parts.{SessionHolds, SessionFits}
 use Rattle.fs_serial.specs.Pending.{AllStand, IsAnswer, IsCovered, PendingStand, RefusedGone, UsesBacked, known_with, values_after}
 use Rattle.fs_serial.specs.Relies.{Relies, Stood}
@@ -50,7 +50,16 @@ answers_alike rows by v w e agree stand a =
         ap Some (ap w (sym there) ∙ agree q.row q.stands q.session c.used c.among q.number ∙ ap v there)
     has_too (need.Fresh dir) c = absurd c
 
-module _ (skew greatest : ℕ) (by : Session) (s t : Sight) (d : Settled) (rely : Relies skew greatest by s t) (f : SessionFits skew greatest s by d) where
+-- what a session with these leases relies on
+pub record ReliesFor (skew greatest : ℕ) (by : Session) (s t : Sight) (leases : List Lease) : Type 0 where
+  pub given : (k : ℕ) → s.given k ≤ t.given k
+  pub older : (r : Row) → In r t.rows → IsGiven s.given r.no → Stood s.rows r
+  -- the rows of its leases are kept until they have ended
+  pub kept : (l : Lease) → In l leases → (r : Row) → In r s.rows → r.no ≡ l.no → greatest < r.until + skew → IsBacked t.rows r.no r.until
+  pub values : (r : Row) → In r t.rows → IsGiven s.given r.no → r.session ≡ by → value_of t.records by r.field ≡ value_of s.records by r.field
+  pub items : items_by by t.journal ≡ items_by by s.journal
+
+module _ (skew greatest : ℕ) (by : Session) (s t : Sight) (d : Settled) (rely : ReliesFor skew greatest by s t d.leases) (f : SessionFits skew greatest s by d) where
   -- ## Leases
 
   still_given : (n : LeaseNo) → IsGiven s.given n → IsGiven t.given n
@@ -66,16 +75,16 @@ module _ (skew greatest : ℕ) (by : Session) (s t : Sight) (d : Settled) (rely 
       let m = f.matching l h q.row q.stood (q.number ∙ e) in
       record { session = sym q.session ∙ m.session; field = sym q.field ∙ m.field; kind = sym q.kind ∙ m.kind }
 
-  -- what is backed by a row of the session stays so
-  backed_still : (n : LeaseNo) (until : ℕ) → greatest < until + skew → ((r : Row) → In r s.rows → r.no ≡ n → r.session ≡ by) → IsBacked s.rows n until → IsBacked t.rows n until
-  backed_still n until late own b =
+  -- what is backed by the row of a lease stays so
+  backed_still : (l : Lease) → In l d.leases → (n : LeaseNo) (until : ℕ) → n ≡ l.no → greatest < until + skew → IsBacked s.rows n until → IsBacked t.rows n until
+  backed_still l h n until same late b =
       let last = b.lasts in
-      let k = rely.kept b.row b.stands (own b.row b.stands b.number) (omega arith) in
+      let k = rely.kept l h b.row b.stands (b.number ∙ same) (omega arith) in
       let more = k.lasts in
       record { row = k.row; stands = k.stands; number = k.number ∙ b.number; lasts = omega arith }
 
   backed : LeasesBacked skew greatest s.rows d.leases → LeasesBacked skew greatest t.rows d.leases
-  backed b l h late = backed_still l.no l.until late (λ r i e. (f.matching l h r i e).session) (b l h late)
+  backed b l h late = backed_still l h l.no l.until refl late (b l h late)
 
   telling : LeasesTrue s.rows (value_of s.records by) d.leases → LeasesTrue t.rows (value_of t.records by) d.leases
   telling told l h r i e =
@@ -92,7 +101,7 @@ module _ (skew greatest : ℕ) (by : Session) (s t : Sight) (d : Settled) (rely 
   uses_backed : UsesBacked skew greatest t.rows d.log
   uses_backed e h u i late =
       let l = f.held e h u i in
-      backed_still u.no u.until late (λ r j m. (f.matching l.lease l.held r j (m ∙ sym l.number)).session) (f.backed e h u i late)
+      backed_still l.lease l.held u.no u.until (sym l.number) late (f.backed e h u i late)
 
   stood_all : (e : Entry) → In e d.log → AllStand t.rows by e.uses → AllStand s.rows by e.uses
   stood_all e h stand u i =
@@ -140,8 +149,8 @@ module _ (skew greatest : ℕ) (by : Session) (s t : Sight) (d : Settled) (rely 
 
   -- ## Together
 
-  pub relied_fits : SessionFits skew greatest t by d
-  relied_fits = record {
+  pub still_fits : SessionFits skew greatest t by d
+  still_fits = record {
     given = λ l h. still_given l.no (f.given l h);
     distinct = f.distinct;
     matching = matching;
@@ -153,8 +162,8 @@ module _ (skew greatest : ℕ) (by : Session) (s t : Sight) (d : Settled) (rely 
     refused = refused;
   }
 
-  pub relied_holds : (replied : List Item) → SessionHolds skew greatest s by replied d → SessionHolds skew greatest t by replied d
-  relied_holds replied h = record {
+  pub still_holds : (replied : List Item) → SessionHolds skew greatest s by replied d → SessionHolds skew greatest t by replied d
+  still_holds replied h = record {
     backed = backed h.backed;
     telling = telling h.telling;
     pending = pending h.pending;
@@ -162,8 +171,8 @@ module _ (skew greatest : ℕ) (by : Session) (s t : Sight) (d : Settled) (rely 
     replies = items d.log ∙ h.replies;
   }
 
-  pub relied_returns : (kept : List Kept) → ReturnsFit s.given s.rows by kept d.leases → ReturnsFit t.given t.rows by kept d.leases
-  relied_returns kept h k i leaving =
+  pub still_returns : (kept : List Kept) → ReturnsFit s.given s.rows by kept d.leases → ReturnsFit t.given t.rows by kept d.leases
+  still_returns kept h k i leaving =
       let q = h k i leaving in
       record {
         known = still_given (number_of k.standing) q.known;
@@ -172,7 +181,25 @@ module _ (skew greatest : ℕ) (by : Session) (s t : Sight) (d : Settled) (rely 
       }
 
   -- a renewal on its way to a lease whose image the session has
-  pub relied_renewals : (down : List Answer) (now : List Lease) → ((l : Lease) → In l now → (m : Lease) × In m d.leases × (m.no ≡ l.no)) → RenewalsBacked skew greatest s.rows down now → RenewalsBacked skew greatest t.rows down now
-  relied_renewals down now image h ends end i n until j l k e late =
+  pub still_renewals : (down : List Answer) (now : List Lease) → ((l : Lease) → In l now → (m : Lease) × In m d.leases × (m.no ≡ l.no)) → RenewalsBacked skew greatest s.rows down now → RenewalsBacked skew greatest t.rows down now
+  still_renewals down now image h ends end i n until j l k e late =
       let m = image l k in
-      backed_still n until late (λ r o q. (f.matching m.0 m.1 r o (q ∙ sym e ∙ sym m.2)).session) (h ends end i n until j l k e late)
+      backed_still m.0 m.1 n until (sym e ∙ sym m.2) late (h ends end i n until j l k e late)
+
+-- ## What all sessions rely on
+
+pub relies_for : (skew greatest : ℕ) (by : Session) (s t : Sight) (leases : List Lease) → LeasesMatch s.rows by leases → Relies skew greatest by s t → ReliesFor skew greatest by s t leases
+relies_for skew greatest by s t leases matching rely = record {
+  given = rely.given;
+  older = rely.older;
+  kept = λ l h r i e late. rely.kept r i (matching l h r i e).session late;
+  values = rely.values;
+  items = rely.items;
+}
+
+module _ (skew greatest : ℕ) (by : Session) (s t : Sight) (d : Settled) (rely : Relies skew greatest by s t) (f : SessionFits skew greatest s by d) where
+  pub relied_fits : SessionFits skew greatest t by d
+  relied_fits = still_fits skew greatest by s t d (relies_for skew greatest by s t d.leases f.matching rely) f
+
+  pub relied_holds : (replied : List Item) → SessionHolds skew greatest s by replied d → SessionHolds skew greatest t by replied d
+  relied_holds replied h = still_holds skew greatest by s t d (relies_for skew greatest by s t d.leases f.matching rely) f replied h

@@ -1,8 +1,13 @@
 -- One session's client changes, and all others stay.
-use Rattle.std.proofs.Common.{◌≡◌, ◌==◌, Bool, true, false, List, refl, sym, ap, ◌∙◌, subst, cond}
+use Rattle.std.proofs.Common.{◌≡◌, ℕ, ◌==◌, Bool, true, false, List, refl, sym, ap, ◌∙◌, subst, cond}
+use Rattle.fs_ident.specs.declared.actor.LeaseNo.{LeaseNo}
 use Rattle.fs_ident.specs.declared.actor.Session.{Session}
-use Rattle.fs_serial.specs.Parts.{with_client}
+use Rattle.fs_msg.specs.declared.item.Item.{Item}
+use Rattle.fs_record.specs.Records.{RecordMap}
+use Rattle.fs_serial.specs.Fresh.{FreshReserved, Reserved, Reserves, reserved_by}
+use Rattle.fs_serial.specs.Parts.{AllHold, SessionHolds, SessionFits, with_client, with_replies}
 use Rattle.fs_serial.specs.Settled.{Settled}
+use Rattle.fs_serial.specs.Sight.{Sight}
 use Rattle.fs_serial.proofs.Facts.{session_itself}
 use Rattle.fs_serial.proofs.Rowed.{session_is}
 
@@ -16,3 +21,32 @@ each_session P by d clients own others x = elim (by.0 == x.0) as (λ b. (by.0 ==
 -- the changed client is the session's
 pub its_client : {X : Type 0} (by : Session) (d : X) (clients : Session → X) → cond (by.0 == by.0) d (clients by) ≡ d
 its_client by d clients = ap (λ b. cond b d (clients by)) (session_itself by)
+
+-- the others are not
+pub other_client : {X : Type 0} (by x : Session) (d : X) (clients : Session → X) → (by.0 == x.0) ≡ false → cond (by.0 == x.0) d (clients x) ≡ clients x
+other_client by x d clients h = ap (λ b. cond b d (clients x)) h
+
+-- fewer identifiers are reserved
+pub fewer_reserved : (old new : Reserved) (m : RecordMap) (journal : List Item) → ((x : Session) (n : LeaseNo) (i : List ℕ) → new x n i → old x n i) → FreshReserved old m journal → FreshReserved new m journal
+fewer_reserved old new m journal fewer f = record {
+  once = λ x y n k i j a b p. f.once x y n k i j (fewer x n i a) (fewer y k j b) p;
+  unmade = λ x n i j a h p. f.unmade x n i j (fewer x n i a) h p;
+  made_before = f.made_before;
+  reserved_before = λ dir k x n j d le a p. f.reserved_before dir k x n j d le (fewer x n j a) p;
+}
+
+-- a client changes, and the servers do not
+pub client_changes : (skew greatest : ℕ) (s : Sight) (replied : Session → List Item) (clients : Session → Settled) (by : Session) (more : List Item) (d : Settled) → AllHold skew greatest s replied clients
+    → SessionHolds skew greatest s by more d → SessionFits skew greatest s by d → ((n : LeaseNo) (i : List ℕ) → Reserves d.leases n i → Reserves (clients by).leases n i)
+    → AllHold skew greatest s (with_replies by more replied) (with_client by d clients)
+client_changes skew greatest s replied clients by more d h holds fits fewer = record {
+  servers = h.servers;
+  kept = h.kept;
+  sessions = λ x. elim (by.0 == x.0) as (λ b. (by.0 == x.0) ≡ b → SessionHolds skew greatest s x (cond b more (replied x)) (cond b d (clients x))) [
+    | true ↦ λ t. subst (λ y. SessionHolds skew greatest s y more d) (session_is by x t) holds
+    | false ↦ λ t. h.sessions x
+  ] refl;
+  fitting = each_session (λ x c. SessionFits skew greatest s x c) by d clients fits (λ x other. h.fitting x);
+  reserved = fewer_reserved (reserved_by clients) (reserved_by (with_client by d clients)) s.records s.journal
+      (each_session (λ x (c : Settled). (n : LeaseNo) (i : List ℕ) → Reserves c.leases n i → Reserves (clients x).leases n i) by d clients fewer (λ x other n i r. r)) h.reserved;
+}

@@ -9,7 +9,8 @@ use Rattle.fs_msg.specs.declared.entry.Entry.{Entry}
 use Rattle.fs_view.specs.declared.kept.Kept.{Kept}
 use Rattle.fs_view.specs.Kept.{number_of, entries_of}
 use Rattle.fs_client.specs.declared.state.Client.{Client}
-use Rattle.fs_serial.specs.Settled.{effects_in}
+use Rattle.fs_serial.specs.Pending.{UsesHeld}
+use Rattle.fs_serial.specs.Settled.{effects_in, settled_now}
 
 -- how often the lease is among these
 abbrev pub times_used : LeaseNo → List Use → ℕ
@@ -36,3 +37,5 @@ pub record ClientFits (by : Session) (c : Client) : Type 0 where
   pub pending : c.view.pending ≡ map (effects_in by) c.log
   pub distinct : KeptDistinct c.view.leases
   pub pinned : PinsCounted c.view.leases c.log
+  -- what its entries use it has, and that does not go back
+  pub held : UsesHeld (settled_now c).leases c.log

@@ -1,5 +1,5 @@
 -- Parts about messages on their way between a client and its server.
-use Rattle.std.specs.Prelude.{◌≡◌, ◌≢◌, ℕ, ◌+◌, ◌<◌, ◌≤◌, Bool, true, false, not, List, [], ◌∷◌, ◌++◌, length, map, filter, Option, Some, None, ◌⊎◌}
+use Rattle.std.specs.Prelude.{◌≡◌, ◌≢◌, ℕ, ◌+◌, ◌<◌, ◌≤◌, Bool, true, false, not, List, [], ◌∷◌, ◌++◌, length, filter, Option, Some, None, ◌⊎◌}
 use Rattle.std.specs.List.{list_all}
 use Rattle.fs_ident.specs.In.{In}
 use Rattle.fs_ident.specs.declared.actor.LeaseNo.{LeaseNo}
@@ -9,14 +9,14 @@ use Rattle.fs_field.specs.declared.lease_kind.LeaseKind.{LeaseKind}
 use Rattle.fs_field.specs.Field.{tells_no_mode}
 use Rattle.fs_field.specs.declared.row.Row.{Row}
 use Rattle.fs_msg.specs.declared.answer.Answer.{Answer}
-use Rattle.fs_msg.specs.declared.answer.Answer.TheVariants.{Recall, Renewed}
+use Rattle.fs_msg.specs.declared.answer.Answer.TheVariants.{Recall, Renewed, Shipped}
 use Rattle.fs_msg.specs.declared.client_msg.ClientMsg.{ClientMsg}
 use Rattle.fs_msg.specs.declared.client_msg.ClientMsg.TheVariants.{Ask, Renew, Release, Ship}
 use Rattle.fs_msg.specs.declared.end.End.{End}
 use Rattle.fs_msg.specs.declared.entry.Entry.{Entry}
+use Rattle.fs_server.specs.Asks.{kind_for}
 use Rattle.fs_server.specs.Pairs.{numbers_in}
 use Rattle.fs_view.specs.declared.kept.Kept.{Kept}
-use Rattle.fs_view.specs.declared.kept.Standing.{Standing}
 use Rattle.fs_view.specs.Kept.{number_of, is_leaving}
 use Rattle.fs_client.specs.Answers.{answer_fits}
 use Rattle.fs_client.specs.declared.exchange.Exchange.{Exchange}
@@ -63,10 +63,24 @@ abbrev pub OneExchange : Client → Option Exchange → List ClientMsg → List 
 OneExchange c None up down = (up ≡ []) × (due down ≡ [])
 OneExchange c (Some x) up down = IsAsked x up down ⊎ IsAnswered c x up down
 
+-- the question is one to the first server: there is no other yet
+abbrev pub AsksFirst : Option Exchange → Type 0
+AsksFirst None = Unit {0}
+AsksFirst (Some (Asks to items fresh)) = to ≡ 0
+AsksFirst (Some (Renews to numbers)) = to ≡ 0
+AsksFirst (Some (Releases to numbers)) = to ≡ 0
+AsksFirst (Some (Ships to count)) = to ≡ 0
+
 -- no more entries are shipped than there are
 abbrev pub ShipsLog : Option Exchange → List Entry → Type 0
 ShipsLog (Some (Ships to count)) log = count ≤ length log
 ShipsLog x log = Unit {0}
+
+-- how many entries the answers acknowledge
+abbrev pub admitted_in : List Answer → ℕ
+admitted_in [] = 0
+admitted_in (Shipped count e ∷ rest) = count + admitted_in rest
+admitted_in (a ∷ rest) = admitted_in rest
 
 -- ## Questions
 
@@ -86,13 +100,18 @@ pub record IsReturned (leases : List Kept) (wanted : LeaseNo) : Type 0 where
   pub number : number_of kept.standing ≡ wanted
   pub leaving : is_leaving kept.standing ≡ true
 
--- what is released goes back
-abbrev pub ReleasesReturned : List ClientMsg → List Kept → Type 0
-ReleasesReturned up leases = (pairs : List (List ℕ × LeaseNo)) → In (Release pairs) up → (n : LeaseNo) → In n (numbers_in pairs) → IsReturned leases n
+-- until the answer has come, what was released goes back
+abbrev pub ReleasesReturned : Option Exchange → List Kept → Type 0
+ReleasesReturned (Some (Releases to numbers)) leases = (n : LeaseNo) → In n numbers → IsReturned leases n
+ReleasesReturned x leases = Unit {0}
 
 -- no lease is asked for on what sessions tell of modes
 abbrev pub AsksOffModes : List ClientMsg → Type 0
 AsksOffModes up = (items : List (Field × LeaseKind)) (fresh : Option (List ℕ)) → In (Ask items fresh) up → list_all (λ x. tells_no_mode x.0) items ≡ true
+
+-- a lease is asked for of the kind that the server gives: on a session's handles an exclusive one
+abbrev pub AsksGivenKinds : List ClientMsg → Type 0
+AsksGivenKinds up = (items : List (Field × LeaseKind)) (fresh : Option (List ℕ)) → In (Ask items fresh) up → (x : Field × LeaseKind) → In x items → kind_for x.0 x.1 ≡ x.1
 
 -- ## Leases that go back, and renewals on their way
 
@@ -116,9 +135,11 @@ RenewalsBacked skew greatest rows down leases =
 
 pub record ExchangeFits (skew greatest : ℕ) (given : ℕ → ℕ) (rows : List Row) (by : Session) (c : Client) (up : List ClientMsg) (down : List Answer) (now d : Settled) : Type 0 where
   pub one : OneExchange c c.exchange up down
+  pub first : AsksFirst c.exchange
   pub ships : ShipsLog c.exchange c.log
   pub front : ShipsFront up d
-  pub released : ReleasesReturned up c.view.leases
+  pub released : ReleasesReturned c.exchange c.view.leases
   pub asked : AsksOffModes up
+  pub kinds : AsksGivenKinds up
   pub returns : ReturnsFit given rows by c.view.leases d.leases
   pub renewals : RenewalsBacked skew greatest rows down now.leases

@@ -12,3 +12,4 @@ pub mod Client
 pub mod Exchange
 pub mod Steps
 pub mod Laws
+pub mod World

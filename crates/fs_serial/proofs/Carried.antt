@@ -1,0 +1,162 @@
+-- What is on its way while a client goes on.
+use Rattle.std.proofs.Common.{◌≡◌, ℕ, zero, suc, ◌+◌, ◌<◌, ◌≤◌, ◌==◌, ◌&&◌, ◌||◌, ◌⊎◌, not, Bool, true, false, List, [], ◌∷◌, ◌++◌, length, refl, sym, ap, ◌∙◌, subst, inl, inr, arith, append_assoc, length-append}
+use Rattle.std.specs.Prelude.{Option, Some, None, nat_le}
+use Rattle.std.specs.List.{list_any}
+use Rattle.fs_ident.specs.In.{In}
+use Rattle.fs_ident.specs.declared.actor.LeaseNo.{LeaseNo}
+use Rattle.fs_ident.specs.declared.actor.Session.{Session}
+use Rattle.fs_ident.proofs.Booleans.{both, neither, joined}
+use Rattle.fs_field.specs.declared.field.Field.{Field}
+use Rattle.fs_field.specs.declared.field.Field.TheVariants.{Life}
+use Rattle.fs_field.specs.declared.lease_kind.LeaseKind.{LeaseKind}
+use Rattle.fs_field.specs.declared.lease_kind.LeaseKind.TheVariants.{Exclusive}
+use Rattle.fs_field.specs.declared.row.Row.{Row}
+use Rattle.fs_field.specs.Table.{same_no}
+use Rattle.fs_msg.specs.declared.answer.Answer.{Answer}
+use Rattle.fs_msg.specs.declared.answer.Answer.TheVariants.{Granted, Renewed, Released, Shipped, Recall}
+use Rattle.fs_msg.specs.declared.answer.Grant.{Grant}
+use Rattle.fs_msg.specs.declared.client_msg.ClientMsg.{ClientMsg}
+use Rattle.fs_msg.specs.declared.client_msg.ClientMsg.TheVariants.{Ship}
+use Rattle.fs_msg.specs.declared.end.End.{End}
+use Rattle.fs_msg.specs.declared.end.End.TheVariants as end
+use Rattle.fs_msg.specs.declared.entry.Entry.{Entry}
+use Rattle.fs_client.specs.Answers.{answer_fits, fresh_fits, grants_fit, rest_fits, is_new, is_of_item, refusal_fits, is_entry_at}
+use Rattle.fs_client.specs.declared.exchange.Exchange.{Exchange}
+use Rattle.fs_client.specs.declared.exchange.Exchange.TheVariants.{Asks, Renews, Releases, Ships}
+use Rattle.fs_client.specs.declared.state.Client.{Client}
+use Rattle.fs_view.specs.declared.kept.Kept.{Kept}
+use Rattle.fs_view.specs.Kept.{number_of, has_number, is_leaving}
+use Rattle.fs_serial.specs.Exchange.{OneExchange, IsAsked, IsAnswered, AsksFirst, ShipsLog, IsFront, ShipsFront, IsReturned, ReleasesReturned, ReturnFits, ReturnsFit, RenewalsBacked, ExchangeFits}
+use Rattle.fs_serial.specs.Leases.{IsBacked}
+use Rattle.fs_serial.specs.Settled.{Lease, Settled}
+use Rattle.fs_serial.specs.World.{HasNumber}
+use Rattle.fs_serial.proofs.Facts.{none-In}
+
+-- ## Fewer numbers
+
+pub record IsNumbered (ks : List Kept) (wanted : LeaseNo) : Type 0 where
+  pub kept : Kept
+  pub among : In kept ks
+  pub number : number_of kept.standing ≡ wanted
+
+abbrev pub FewerNumbers : List Kept → List Kept → Type 0
+FewerNumbers old new = (k : Kept) → In k new → IsNumbered old (number_of k.standing)
+
+pub none_of : {X : Type 0} (test : X → Bool) (xs : List X) → list_any test xs ≡ false → (x : X) → In x xs → test x ≡ false
+none_of test [] h x i = absurd i
+none_of test (y ∷ ys) h x i =
+    let q = neither (test y) (list_any test ys) h in
+    elim i as (λ _. test x ≡ false) [ inl e ↦ ap test e ∙ q.0 | inr j ↦ none_of test ys q.1 x j ]
+
+still_none : (old new : List Kept) (n : LeaseNo) → FewerNumbers old new → list_any (has_number n) old ≡ false → list_any (has_number n) new ≡ false
+still_none old new n fewer h = none-In (has_number n) new (λ k i. let j = fewer k i in ap (λ m. same_no m n) (sym j.number) ∙ none_of (has_number n) old h j.kept j.among)
+
+not_true : (b : Bool) → not b ≡ true → b ≡ false
+not_true true h = absurd (cc)
+not_true false h = refl
+
+new_still : (old new : List Kept) (before : List Grant) (g : Grant) → FewerNumbers old new → is_new old before g ≡ true → is_new new before g ≡ true
+new_still old new before g fewer h =
+    let q = both (not (list_any (has_number g.no) old)) (not (list_any (λ (b : Grant). same_no b.no g.no) before)) h in
+    joined _ _ (ap not (still_none old new g.no fewer (not_true (list_any (has_number g.no) old) q.0))) q.1
+
+rest_still : (old new : List Kept) (fresh : Option (List ℕ)) (before gs : List Grant) → FewerNumbers old new → rest_fits fresh old before gs ≡ true → rest_fits fresh new before gs ≡ true
+rest_still old new None before [] fewer h = refl
+rest_still old new None before (g ∷ gs) fewer h = h
+rest_still old new (Some id) before [] fewer h = h
+rest_still old new (Some id) before (g ∷ []) fewer h =
+    let q = both (is_of_item (Life id, Exclusive) g) (is_new old before g) h in
+    joined _ _ q.0 (new_still old new before g fewer q.1)
+rest_still old new (Some id) before (g ∷ k ∷ gs) fewer h = h
+
+grants_still : (old new : List Kept) (items : List (Field × LeaseKind)) (fresh : Option (List ℕ)) (before gs : List Grant) → FewerNumbers old new → grants_fit items fresh old before gs ≡ true → grants_fit items fresh new before gs ≡ true
+grants_still old new [] fresh before gs fewer h = rest_still old new fresh before gs fewer h
+grants_still old new (x ∷ xs) fresh before [] fewer h = h
+grants_still old new (x ∷ xs) fresh before (g ∷ gs) fewer h =
+    let p = both (is_of_item x g && is_new old before g) (grants_fit xs fresh old (before ++ g ∷ []) gs) h in
+    let q = both (is_of_item x g) (is_new old before g) p.0 in
+    joined _ _ (joined _ _ q.0 (new_still old new before g fewer q.1)) (grants_still old new xs fresh (before ++ g ∷ []) gs fewer p.1)
+
+entry_still : (n k : ℕ) (log more : List Entry) → is_entry_at n k log ≡ true → is_entry_at n k (log ++ more) ≡ true
+entry_still n k [] more h = absurd (cc)
+entry_still n zero (e ∷ es) more h = h
+entry_still n (suc k) (e ∷ es) more h = entry_still n k es more h
+
+refusal_still : (e : End) (count : ℕ) (log more : List Entry) → refusal_fits e count log ≡ true → refusal_fits e count (log ++ more) ≡ true
+refusal_still (end.Ended n lease until now) count log more h = entry_still n count log more h
+refusal_still end.All count log more h = h
+refusal_still (end.Wait blocker) count log more h = h
+refusal_still (end.Locked txn) count log more h = h
+refusal_still (end.Moved prefix to) count log more h = h
+refusal_still (end.NoIds dir) count log more h = h
+
+-- ## A client that goes on
+
+-- it has no more leases, the same ones go back, and entries come behind its log
+pub record GoesOnAs (c d : Client) (more : List Entry) : Type 0 where
+  pub exchange : d.exchange ≡ c.exchange
+  pub fewer : FewerNumbers c.view.leases d.view.leases
+  pub log : d.log ≡ c.log ++ more
+  pub went : (k : Kept) → In k d.view.leases → is_leaving k.standing ≡ true → IsReturned c.view.leases (number_of k.standing)
+  pub goes : (k : Kept) → In k c.view.leases → is_leaving k.standing ≡ true → IsReturned d.view.leases (number_of k.standing)
+
+-- an answer that fits still does
+pub fits_still : (c d : Client) (more : List Entry) (from : ℕ) (x : Exchange) (a : Answer) → GoesOnAs c d more → answer_fits from x a c ≡ true → answer_fits from x a d ≡ true
+fits_still c d more from (Asks to items fresh) (Granted grants given e) g h =
+    let p = both (to == from) (fresh_fits fresh given && grants_fit items given c.view.leases [] grants) h in
+    let q = both (fresh_fits fresh given) (grants_fit items given c.view.leases [] grants) p.1 in
+    joined _ _ p.0 (joined _ _ q.0 (grants_still c.view.leases d.view.leases items given [] grants g.fewer q.1))
+fits_still c d more from (Renews to numbers) (Renewed rows e) g h = h
+fits_still c d more from (Releases to numbers) (Released count e) g h = h
+fits_still c d more from (Ships to sent) (Shipped count e) g h =
+    let p = both (to == from) (nat_le count sent && refusal_fits e count c.log) h in
+    let q = both (nat_le count sent) (refusal_fits e count c.log) p.1 in
+    joined _ _ p.0 (joined _ _ q.0 (ap (refusal_fits e count) g.log ∙ refusal_still e count c.log more q.1))
+fits_still c d more from x a g h = absurd (cc)
+
+one_still : (c d : Client) (more : List Entry) (x : Option Exchange) (up : List ClientMsg) (down : List Answer) → GoesOnAs c d more → OneExchange c x up down → OneExchange d x up down
+one_still c d more None up down g h = h
+one_still c d more (Some x) up down g (inl h) = inl h
+one_still c d more (Some x) up down g (inr h) = inr (record { answer = h.answer; told = h.told; asked = h.asked; fits = fits_still c d more 0 x h.answer g h.fits })
+
+ships_still : (x : Option Exchange) (log more : List Entry) → ShipsLog x log → ShipsLog x (log ++ more)
+ships_still None log more h = tt
+ships_still (Some (Asks to items fresh)) log more h = tt
+ships_still (Some (Renews to numbers)) log more h = tt
+ships_still (Some (Releases to numbers)) log more h = tt
+ships_still (Some (Ships to count)) log more h = let q = length-append log more in omega arith
+
+released_still : (x : Option Exchange) (c d : Client) (more : List Entry) → GoesOnAs c d more → ReleasesReturned x c.view.leases → ReleasesReturned x d.view.leases
+released_still None c d more g h = tt
+released_still (Some (Asks to items fresh)) c d more g h = tt
+released_still (Some (Renews to numbers)) c d more g h = tt
+released_still (Some (Releases to numbers)) c d more g h = λ n i. let q : IsReturned c.view.leases n = h n i in let p = g.goes q.kept q.among q.leaving in record { kept = p.kept; among = p.among; number = p.number ∙ q.number; leaving = p.leaving }
+released_still (Some (Ships to count)) c d more g h = tt
+
+-- no lease has a number that none had
+abbrev pub FewerLeases : List Lease → List Lease → Type 0
+FewerLeases old new = (l : Lease) → In l new → HasNumber old l.no
+
+pub returns_still : (given : ℕ → ℕ) (rows : List Row) (by : Session) (c d : Client) (more : List Entry) (old new : List Lease) → GoesOnAs c d more → FewerLeases old new → ReturnsFit given rows by c.view.leases old → ReturnsFit given rows by d.view.leases new
+returns_still given rows by c d more old new g fewer h k i t =
+    let q = g.went k i t in
+    let r : ReturnFits given rows by old (number_of q.kept.standing) = h q.kept q.among q.leaving in
+    record {
+      known = subst (λ n. n.count ≤ given n.server) q.number r.known;
+      alone = λ l j e. let m = fewer l j in r.alone m.lease m.held (m.number ∙ e ∙ sym q.number);
+      own = λ x j e. r.own x j (e ∙ sym q.number);
+    }
+
+pub exchange_still : (skew greatest : ℕ) (given : ℕ → ℕ) (rows : List Row) (by : Session) (c d : Client) (more : List Entry) (up : List ClientMsg) (down : List Answer) (now then seen later : Settled) → GoesOnAs c d more → FewerLeases now.leases then.leases → FewerLeases seen.leases later.leases → later.log ≡ seen.log ++ more → later.over ≡ seen.over
+    → ExchangeFits skew greatest given rows by c up down now seen → ExchangeFits skew greatest given rows by d up down then later
+exchange_still skew greatest given rows by c d more up down now then seen later g now_fewer seen_fewer log over h = record {
+  one = subst (λ x. OneExchange d x up down) (sym g.exchange) (one_still c d more c.exchange up down g h.one);
+  first = subst AsksFirst (sym g.exchange) h.first;
+  ships = subst (λ x. ShipsLog x d.log) (sym g.exchange) (subst (ShipsLog c.exchange) (sym g.log) (ships_still c.exchange c.log more h.ships));
+  front = λ entries i. let q : IsFront entries seen = h.front entries i in record { rest = q.rest ++ more; log = log ∙ ap (λ es. es ++ more) q.log ∙ append_assoc entries q.rest more; over = over ∙ q.over };
+  released = subst (λ x. ReleasesReturned x d.view.leases) (sym g.exchange) (released_still c.exchange c d more g h.released);
+  asked = h.asked;
+  kinds = h.kinds;
+  returns = returns_still given rows by c d more seen.leases later.leases g seen_fewer h.returns;
+  renewals = λ ends e i n until j l k same live. let m = now_fewer l k in h.renewals ends e i n until j m.lease m.held (m.number ∙ same) live;
+}

@@ -1,0 +1,99 @@
+-- The server refuses an entry: a lease that it used has no row.
+use Rattle.std.proofs.Common.{◌≡◌, ℕ, not, ◌||◌, Bool, true, false, List, [], ◌∷◌, cond, refl, sym, ap, ◌∙◌, subst, inl, inr}
+use Rattle.std.specs.Prelude.{◌≢◌, Some}
+use Rattle.std.specs.List.{find, list_any}
+use Rattle.fs_ident.specs.In.{In}
+use Rattle.fs_ident.specs.declared.actor.LeaseNo.{LeaseNo}
+use Rattle.fs_ident.specs.declared.actor.Session.{Session}
+use Rattle.fs_field.specs.declared.row.Row.{Row}
+use Rattle.fs_field.specs.declared.used.Use.{Use}
+use Rattle.fs_field.specs.Table.{is_lease}
+use Rattle.fs_msg.specs.declared.entry.Entry.{Entry}
+use Rattle.fs_msg.specs.declared.item.Item.{Item}
+use Rattle.fs_server.specs.Ships.{first_gone, has_row}
+use Rattle.fs_serial.specs.Fresh.{Reserves, reserved_by}
+use Rattle.fs_serial.specs.Parts.{with_client, SessionHolds, SessionFits}
+use Rattle.fs_serial.specs.Settled.{Settled, with_over}
+use Rattle.fs_serial.specs.Sight.{Sight}
+use Rattle.fs_serial.specs.World.{Ends, GoesOn}
+use Rattle.fs_serial.proofs.Going.{carried_alike}
+use Rattle.fs_serial.proofs.OneLease.{lease_is}
+use Rattle.fs_serial.proofs.Together.{each_session}
+
+found_passes : {X : Type 0} (test : X → Bool) (xs : List X) (x : X) → find test xs ≡ Some x → In x xs × (test x ≡ true)
+found_passes test [] x h = absurd (cc)
+found_passes test (y ∷ ys) x h =
+    elim (test y) as (λ b. test y ≡ b → cond b (Some y) (find test ys) ≡ Some x → In x (y ∷ ys) × (test x ≡ true)) [
+      | true ↦ λ e g. let q : y ≡ x = cc in (inl (sym q), ap test (sym q) ∙ e)
+      | false ↦ λ e g. let q = found_passes test ys x g in (inr q.0, q.1)
+    ] refl h
+
+-- a row of the lease would have been found
+any_here : {X : Type 0} (test : X → Bool) (xs : List X) (x : X) → In x xs → test x ≡ true → list_any test xs ≡ true
+any_here test [] x h e = absurd h
+any_here test (y ∷ ys) x (inl q) e = ap (λ b. b || list_any test ys) (ap test (sym q) ∙ e)
+any_here test (y ∷ ys) x (inr h) e = ap (λ b. test y || b) (any_here test ys x h e) ∙ or_true (test y)
+  where
+    or_true : (a : Bool) → (a || true) ≡ true
+    or_true true = refl
+    or_true false = refl
+
+no_row : (a : Bool) → not a ≡ true → a ≡ true → ⊥
+no_row true h e = absurd (cc)
+no_row false h e = absurd (cc)
+
+-- the row of a used lease is the row that the entry stands on
+use_gone : (skew greatest : ℕ) (s : Sight) (by : Session) (d : Settled) (e : Entry) (u : Use) → SessionFits skew greatest s by d → In e d.log → In u e.uses → not (has_row s.rows by u) ≡ true → (r : Row) → In r s.rows → r.no ≢ u.no
+use_gone skew greatest s by d e u f i j gone r k n =
+    let l = f.held e i u j in
+    let m = f.matching l.lease l.held r k (n ∙ sym l.number) in
+    no_row (has_row s.rows by u) gone (any_here (is_lease u.no by u.field u.kind) s.rows r k (lease_is r u by n m.session (m.field ∙ l.field) (m.kind ∙ l.kind)))
+
+module _ (skew greatest : ℕ) (s : Sight) (replied : Session → List Item) (ends : Session → Ends) (clients : Session → Settled) (by : Session) (e : Entry) (rest : List Entry) (u : Use) (log : (clients by).log ≡ e ∷ rest) (gone : first_gone s.rows by e.uses ≡ Some u) where
+  abbrev d : Settled
+  d = with_over (Some e.n) (clients by)
+
+  refused_fits : SessionFits skew greatest s by (clients by) → SessionFits skew greatest s by d
+  refused_fits f =
+      let q = found_passes (λ u. not (has_row s.rows by u)) e.uses u gone in
+      record {
+        given = f.given;
+        distinct = f.distinct;
+        matching = f.matching;
+        fresh = f.fresh;
+        held = f.held;
+        backed = f.backed;
+        entries = f.entries;
+        once = f.once;
+        refused = λ n is. let same : e.n ≡ n = cc in record {
+          first = e;
+          rest = rest;
+          log = log;
+          number = same;
+          used = u;
+          among = q.0;
+          gone = use_gone skew greatest s by (clients by) e u f (subst (λ es. In e es) (sym log) (inl refl)) q.0 q.1;
+        };
+      }
+
+  still : (x : Session) (n : LeaseNo) (i : List ℕ) → reserved_by (with_client by d clients) x n i → reserved_by clients x n i
+  still = each_session (λ x (c : Settled). (n : LeaseNo) (i : List ℕ) → Reserves c.leases n i → reserved_by clients x n i) by d clients (λ n i r. r) (λ x other n i r. r)
+
+  pub entry_refused : GoesOn skew greatest s replied ends clients → GoesOn skew greatest s replied ends (with_client by d clients)
+  entry_refused h = record {
+    all = record {
+      servers = h.all.servers;
+      kept = h.all.kept;
+      sessions = each_session (λ x c. SessionHolds skew greatest s x (replied x) c) by d clients
+          (let q = h.all.sessions by in record { backed = q.backed; telling = q.telling; pending = q.pending; numbers = q.numbers; replies = q.replies })
+          (λ x other. h.all.sessions x);
+      fitting = each_session (λ x c. SessionFits skew greatest s x c) by d clients (refused_fits (h.all.fitting by)) (λ x other. h.all.fitting x);
+      reserved = let f = h.all.reserved in record {
+        once = λ x y n k i j p q. f.once x y n k i j (still x n i p) (still y k j q);
+        unmade = λ x n i j p. f.unmade x n i j (still x n i p);
+        made_before = f.made_before;
+        reserved_before = λ dir k x n j a free p. f.reserved_before dir k x n j a free (still x n j p);
+      };
+    };
+    carried = carried_alike skew greatest s ends clients by d (λ l i. record { lease = l; held = i; number = refl }) (λ l i. record { lease = l; held = i; number = refl }) h.carried;
+  }

@@ -1,0 +1,254 @@
+-- A client's next entry, by what its leases tell.
+use Rattle.std.proofs.Common.{◌≡◌, ℕ, ◌+◌, ◌==◌, ◌&&◌, ◌||◌, Bool, true, false, not, List, [], ◌∷◌, ◌++◌, length, take, map, refl, sym, ap, ◌∙◌, subst, inl, inr, cond, arith, length-append}
+use Rattle.std.specs.Prelude.{Option, Some, None, is_some, nat_lt, nat_eq, option_map}
+use Rattle.std.specs.List.{list_any, filter_map}
+use Rattle.std.specs.Cmp.Lexicographic.{pointwise}
+use Rattle.std.proofs.Math.Seq.{take-append_seam}
+use Rattle.std.proofs.lemmas.Bool.Decides.{nat_tests}
+use Rattle.fs_ident.specs.In.{In}
+use Rattle.fs_ident.specs.Ident.{child, same}
+use Rattle.fs_ident.specs.declared.actor.Session.{Session}
+use Rattle.fs_ident.specs.declared.kind.Kind.{Kind}
+use Rattle.fs_ident.proofs.Booleans.{both, neither, joined}
+use Rattle.fs_field.specs.declared.asked.Need.{Need}
+use Rattle.fs_field.specs.declared.asked.Need.TheVariants as need
+use Rattle.fs_field.specs.declared.effect.Effect.{Effect}
+use Rattle.fs_field.specs.declared.field.Field.{Field}
+use Rattle.fs_field.specs.declared.field.Field.TheVariants.{Life}
+use Rattle.fs_field.specs.declared.lease_kind.LeaseKind.{LeaseKind}
+use Rattle.fs_field.specs.declared.lease_kind.LeaseKind.TheVariants.{Exclusive}
+use Rattle.fs_field.specs.declared.used.Use.{Use}
+use Rattle.fs_field.specs.declared.value.Value.{Value}
+use Rattle.fs_field.specs.declared.value.Value.TheVariants as value
+use Rattle.fs_field.specs.Field.{file_of}
+use Rattle.fs_field.specs.Table.{is_parent}
+use Rattle.fs_lease.specs.Lease.{Lease as Term}
+use Rattle.fs_model.specs.Asking.{may_ask}
+use Rattle.fs_model.specs.Step.{is_child}
+use Rattle.fs_model.specs.declared.op.Op.{Op}
+use Rattle.fs_model.specs.declared.op.Op.TheVariants as op
+use Rattle.fs_model.specs.declared.reply.Reply.{Reply}
+use Rattle.fs_model.specs.declared.reply.Reply.TheVariants as reply
+use Rattle.fs_model.proofs.SoundRuns.{asks_access}
+use Rattle.fs_msg.specs.declared.answer.Answer.{Answer}
+use Rattle.fs_msg.specs.declared.entry.Entry.{Entry}
+use Rattle.fs_record.specs.Effects.{tells_its_effects}
+use Rattle.fs_client.specs.Acts.{entry_of, with_id}
+use Rattle.fs_client.specs.declared.state.Client.{Client}
+use Rattle.fs_view.specs.declared.kept.Kept.{Kept}
+use Rattle.fs_view.specs.declared.kept.Standing.{Standing}
+use Rattle.fs_view.specs.declared.kept.Standing.TheVariants.{Held, Pinned, Leaving}
+use Rattle.fs_view.specs.Kept.{lease_of, use_of, is_enough, file_in, makes, is_pending, is_unused_in}
+use Rattle.fs_view.specs.Laws.{HasToo}
+use Rattle.fs_view.specs.Script.{script_of}
+use Rattle.fs_view.specs.View.{View, known_by, given_by, offered, fresh, uses_in, walk_in, reply_in, value_after_log}
+use Rattle.fs_view.specs.Walk.{walk, always}
+use Rattle.fs_view.proofs.Walks.{alike}
+use Rattle.fs_serial.specs.Client.{ClientFits}
+use Rattle.fs_serial.specs.Fresh.{made_by, or_else}
+use Rattle.fs_serial.specs.Leases.{IsFresh, FreshLeases}
+use Rattle.fs_serial.specs.Pending.{known_with, IsAnswer, HasUse, IsEntry, AreEntries, NamesItsFile, NamesReserved, named_by}
+use Rattle.fs_serial.specs.Settled.{Lease, Settled, lease_in, lease_with, settled_now, settled, effects_in}
+use Rattle.fs_serial.proofs.Births.{life_after, makes_there}
+use Rattle.fs_serial.proofs.Facts.{same_is, same_self}
+use Rattle.fs_serial.proofs.Knowing.{In-filter_map, all_there, IsKnown, known_by_lease, IsOffered, offered_by_lease, used_there, IsUseOf, use_from}
+use Rattle.fs_serial.proofs.Naming.{Covers, IsGivenFor, IsNamedFor, named_for, names_its_file, plain_with_id, access_with_id, right_with_id}
+use Rattle.fs_serial.proofs.Reply.{IsNext, IsOfLease, value_seen}
+use Rattle.fs_serial.proofs.Settling.{Later, later, is_made_by_log, settled_log, settled_next}
+
+-- ## Standings
+
+file_is : (s : Standing) (l : Term) → lease_of s ≡ Some l → file_in s ≡ file_of l.field
+file_is (Held x) l e = let q : x ≡ l = cc in ap (λ (l : Term). file_of l.field) q
+file_is (Pinned u) l e = let q : u.lease ≡ l = cc in ap (λ (l : Term). file_of l.field) q
+file_is (Leaving x) l e = absurd (cc)
+
+not_pending : (now until : ℕ) (b : Bool) → (nat_lt now until && not b) ≡ true → b ≡ false
+not_pending now until true h = absurd (let q = both (nat_lt now until) false h in let z : false ≡ true = q.1 in cc)
+not_pending now until false h = refl
+
+unused_unmade : (now : ℕ) (log : List (List Effect)) (s : Standing) (l : Term) → lease_of s ≡ Some l → is_unused_in now log s ≡ true → is_pending (file_of l.field) log ≡ false
+unused_unmade now log (Held x) l e h = let q : x ≡ l = cc in ap (λ (l : Term). is_pending (file_of l.field) log) (sym q) ∙ not_pending now x.until (is_pending (file_of x.field) log) h
+unused_unmade now log (Pinned u) l e h = let q : u.lease ≡ l = cc in ap (λ (l : Term). is_pending (file_of l.field) log) (sym q) ∙ not_pending now u.lease.until (is_pending (file_of u.lease.field) log) h
+unused_unmade now log (Leaving x) l e h = absurd (cc)
+
+parent_is : (dir : List ℕ) (o : Option (List ℕ)) → is_parent dir o ≡ true → o ≡ Some dir
+parent_is dir None h = absurd (cc)
+parent_is dir (Some other) h = ap Some (same_is other dir h)
+
+child_there : (dir : List ℕ) (k : ℕ) → is_child dir (child dir k) ≡ true
+child_there dir k =
+    let n : length (dir ++ k ∷ []) ≡ length dir + 1 = length-append dir (k ∷ []) ∙ omega arith in
+    let p : (length dir + 1 == length (dir ++ k ∷ [])) ≡ true = grind (arith, nat_tests) in
+    joined _ _ p (ap (λ xs. same xs dir) (take-append_seam dir (k ∷ [])) ∙ same_self dir)
+
+-- ## Logs that do not make a file
+
+none_or : (a l : Option Kind) → is_some a ≡ false → or_else a l ≡ l
+none_or None l h = refl
+none_or (Some k) l h = absurd (cc)
+
+stays_unborn : (by : Session) (es : List Entry) (id : List ℕ) → is_made_by_log by id es ≡ false → value_after_log by (Life id) (value.Life None) (map (effects_in by) es) ≡ value.Life None
+stays_unborn by [] id h = refl
+stays_unborn by (e ∷ es) id h =
+    let q = neither (list_any (makes id) (effects_in by e)) (is_made_by_log by id es) h in
+    ap (λ v. value_after_log by (Life id) v (map (effects_in by) es)) (life_after by e.op e.reply id None ∙ ap value.Life (none_or (made_by e.op e.reply id) None (sym (makes_there by e.op e.reply id) ∙ q.0)))
+    ∙ stays_unborn by es id q.1
+
+none_makes : (by : Session) (es : List Entry) (id : List ℕ) → is_made_by_log by id es ≡ false → (e : Entry) → In e es → list_any (makes id) (effects_in by e) ≡ false
+none_makes by [] id h e i = absurd i
+none_makes by (x ∷ es) id h e i =
+    let q = neither (list_any (makes id) (effects_in by x)) (is_made_by_log by id es) h in
+    elim i as (λ _. list_any (makes id) (effects_in by e) ≡ false) [ inl p ↦ ap (λ y. list_any (makes id) (effects_in by y)) p ∙ q.0 | inr j ↦ none_makes by es id q.1 e j ]
+
+at_once : (b : Bool) (k : Kind) → b ≡ true → is_some (cond b (Some k) None) ≡ true
+at_once true k h = refl
+at_once false k h = absurd (cc)
+
+-- an entry that names a file makes it
+named_makes : (leases : List Lease) (uses : List Use) (o : Op) (r : Reply) (id : List ℕ) → NamesItsFile leases uses o r → named_by o ≡ Some id → is_some (made_by o r id) ≡ true
+named_makes leases uses (op.Create dir name kind (Some new)) reply.Made id n h = let q : new ≡ id = cc in at_once (same new id) kind (ap (same new) (sym q) ∙ same_self new)
+named_makes leases uses (op.Create dir name kind (Some new)) r id n h = absurd n
+named_makes leases uses (op.Create dir name kind None) r id n h = absurd (cc)
+named_makes leases uses o r id n h = absurd (cc)
+
+module _ (by : Session) (c : Client) (answers : List Answer) (o : Op) (r : Reply) (plain : tells_its_effects o ≡ true) (may : may_ask o ≡ true) (replied : reply_in c.view c.last o ≡ Some r) (cf : ClientFits by c)
+    (new : FreshLeases (settled by answers (settled_now c)).leases) (entries : AreEntries (settled by answers (settled_now c)).leases (settled by answers (settled_now c)).log) where
+  abbrev v : View
+  v = c.view
+
+  abbrev d : Settled
+  d = settled by answers (settled_now c)
+
+  abbrev e : Entry
+  e = entry_of o r c
+
+  there : is_some (walk_in v c.last o).reply ≡ true
+  there = ap is_some replied
+
+  -- a lease of the client as it will be
+  kept_later : (k : Kept) (l : Term) → In k v.leases → lease_of k.standing ≡ Some l → Later by (settled_now c) d (lease_with k l)
+  kept_later k l i is = later by answers (settled_now c) (lease_with k l) (In-filter_map lease_in k (lease_with k l) v.leases i (ap (option_map (lease_with k)) is))
+
+  of_lease : (u : Use) → In u e.uses → IsOfLease d.leases u
+  of_lease u i =
+      let q : IsUseOf v c.last u = use_from v c.last o u there i in
+      let p = kept_later q.kept q.lease q.among q.is in
+      record { lease = p.lease; held = p.held; number = p.number ∙ ap (λ (u : Use). u.no) q.used; field = p.field ∙ ap (λ (u : Use). u.field) q.used; kind = p.kind ∙ ap (λ (u : Use). u.kind) q.used; until = p.until ∙ ap (λ (u : Use). u.until) q.used }
+
+  -- ### The identifier
+
+  pub record IsReservedFor (dir : List ℕ) : Type 0 where
+    pub id : List ℕ
+    pub offered : fresh v c.last dir ≡ Some id
+    pub lease : Lease
+    pub held : In lease d.leases
+    pub below : lease.below ≡ Some dir
+    pub field : lease.field ≡ Life id
+    pub base : lease.base ≡ value.Life None
+    pub kind : lease.kind ≡ Exclusive
+    pub child : is_child dir id ≡ true
+    pub used : Use
+    pub among : In used e.uses
+    pub number : lease.no ≡ used.no
+    pub on : used.field ≡ lease.field
+    pub of : used.kind ≡ lease.kind
+    -- no entry of the log makes it, nor of what will be left of it
+    pub unmade : is_made_by_log by id c.log ≡ false
+    pub unmade_later : is_made_by_log by id d.log ≡ false
+
+  reserved_for : (dir : List ℕ) → In (need.Fresh dir) (walk_in v c.last o).items → IsReservedFor dir
+  reserved_for dir i =
+      let q : IsOffered v c.last dir = offered_by_lease v c.last dir (all_there (known_by v c.last) (given_by v c.last) (script_of o) there (need.Fresh dir) i) in
+      let l : Term = q.term.lease in
+      let p : Later by (settled_now c) d (lease_with q.kept l) = kept_later q.kept l q.among q.term.is in
+      let b = both (is_parent dir q.kept.below) (is_unused_in c.last v.pending q.kept.standing) q.offers in
+      let unmade : is_made_by_log by (file_of l.field) c.log ≡ false = ap (is_pending (file_of l.field)) (sym cf.pending) ∙ unused_unmade c.last v.pending q.kept.standing l q.term.is b.1 in
+      let below : p.lease.below ≡ Some dir = p.below unmade ∙ parent_is dir q.kept.below b.0 in
+      let f : IsFresh dir p.lease = new p.lease p.held dir below in
+      let on : l.field ≡ Life (child dir f.number) = sym p.field ∙ f.field in
+      let file : file_of l.field ≡ child dir f.number = ap file_of on in
+      record {
+        id = child dir f.number;
+        offered = ap (λ o. option_map (λ (k : Kept). file_in k.standing) o) q.first ∙ ap Some (file_is q.kept.standing l q.term.is ∙ file);
+        lease = p.lease;
+        held = p.held;
+        below = below;
+        field = f.field;
+        base = f.base;
+        kind = f.kind;
+        child = child_there dir f.number;
+        used = use_of l;
+        among = used_there v c.last o (need.Fresh dir) (use_of l) i q.used;
+        number = p.number;
+        on = sym p.field;
+        of = sym p.kind;
+        unmade = ap (λ i. is_made_by_log by i c.log) (sym file) ∙ unmade;
+        unmade_later = ap (λ i. is_made_by_log by i d.log) (sym file) ∙ p.unmade unmade;
+      }
+
+  -- ### The answer
+
+  module _ (values : Field → Value) (agree : (l : Lease) → In l d.leases → (u : Use) → In u e.uses → l.no ≡ u.no → values l.field ≡ value_seen by d l) where
+    has_too : (n : Need) → In n (walk_in v c.last o).items → HasToo (known_by v c.last) (known_with values) always n
+    has_too (need.Lease field kind) i =
+        let k : IsKnown v c.last field kind = known_by_lease v c.last field kind (all_there (known_by v c.last) (given_by v c.last) (script_of o) there (need.Lease field kind) i) in
+        let l : Term = k.serving.lease in
+        let p : Later by (settled_now c) d (lease_with k.kept l) = kept_later k.kept l k.among k.serving.is in
+        let same : values p.lease.field ≡ value_seen by d p.lease = agree p.lease p.held (use_of l) (used_there v c.last o (need.Lease field kind) (use_of l) i k.used) p.number in
+        ap Some (ap values (sym k.serving.on ∙ sym p.field) ∙ same ∙ p.seen ∙ ap (λ g. value_after_log by g k.kept.base (map (effects_in by) c.log)) k.serving.on)
+        ∙ ap (λ log. Some (value_after_log by field k.kept.base log)) (sym cf.pending)
+        ∙ ap (λ s. Some (value_after_log s field k.kept.base v.pending)) (sym cf.viewed)
+        ∙ sym k.value
+    has_too (need.Fresh dir) i = refl
+
+    walked : walk (known_with values) always o ≡ walk_in v c.last o
+    walked = alike (known_by v c.last) (known_with values) (given_by v c.last) always (script_of o) there has_too
+
+    covers : Covers e.uses (walk (known_with values) always o).items
+    covers field kind i =
+        let j = subst (λ w. In (need.Lease field kind) w.items) walked i in
+        let k : IsKnown v c.last field kind = known_by_lease v c.last field kind (all_there (known_by v c.last) (given_by v c.last) (script_of o) there (need.Lease field kind) j) in
+        record { used = use_of k.serving.lease; among = used_there v c.last o (need.Lease field kind) (use_of k.serving.lease) j k.used; field = k.serving.on; enough = k.serving.enough }
+
+    given_for : (dir : List ℕ) → In (need.Fresh dir) (walk (known_with values) always o).items → IsGivenFor values e.uses v c.last dir
+    given_for dir i =
+        let q : IsReservedFor dir = reserved_for dir (subst (λ w. In (need.Fresh dir) w.items) walked i) in
+        record {
+          id = q.id;
+          offered = q.offered;
+          unborn =
+              ap values (sym q.field) ∙ agree q.lease q.held q.used q.among q.number
+              ∙ ap (λ g. value_after_log by g q.lease.base (map (effects_in by) d.log)) q.field
+              ∙ ap (λ b. value_after_log by (Life q.id) b (map (effects_in by) d.log)) q.base
+              ∙ stays_unborn by d.log q.id q.unmade_later;
+          used = record { used = q.used; among = q.among; field = q.on ∙ q.field; enough = ap (λ k. is_enough k Exclusive) (q.of ∙ q.kind) };
+        }
+
+    right : IsAnswer values e
+    right = let q = right_with_id values e.uses v c.last o r plain may (ap (λ w. w.reply) walked ∙ replied) covers given_for in record { reply = q.reply; covered = q.covered }
+
+  -- ### The entry
+
+  named : NamesItsFile d.leases e.uses e.op r
+  named = names_its_file d.leases e.uses v c.last o r (known_by v c.last) (given_by v c.last) may replied (λ dir i.
+      let q : IsReservedFor dir = reserved_for dir i in
+      (q.id, q.offered, record { reserved = record { lease = q.lease; held = q.held; below = q.below; field = q.field; used = q.used; among = q.among; number = sym q.number }; child = q.child }))
+
+  once : (f : Entry) (id : List ℕ) → In f d.log → named_by f.op ≡ Some id → named_by e.op ≡ Some id → ⊥
+  once f id i a b =
+      let n : IsNamedFor v c.last o r id = named_for v c.last o r id may b in
+      let q : IsReservedFor n.dir = reserved_for n.dir (n.asked (known_by v c.last) (given_by v c.last) replied) in
+      let same : q.id ≡ id = cc (q.offered, n.offered) in
+      let made : list_any (makes id) (effects_in by f) ≡ true = makes_there by f.op f.reply id ∙ named_makes d.leases f.uses f.op f.reply id (entries f i).named a in
+      let not_made : list_any (makes id) (effects_in by f) ≡ false = none_makes by c.log id (ap (λ i. is_made_by_log by i c.log) (sym same) ∙ q.unmade) f (settled_log by answers (settled_now c) f i) in
+      absurd (let z : true ≡ false = sym made ∙ not_made in cc)
+
+  pub next : IsNext by d e
+  next = record {
+    number = sym (settled_next by answers (settled_now c));
+    of_lease = of_lease;
+    right = right;
+    entry = record { plain = plain_with_id v c.last o r plain; access = access_with_id v c.last o r (asks_access o may); named = named };
+    once = once;
+  }

@@ -1,0 +1,129 @@
+-- Rows that end, rows that are renewed, and rows that go back.
+use Rattle.std.proofs.Common.{◌≡◌, ℕ, ◌+◌, ◌<◌, ◌≤◌, not, ◌&&◌, ◌||◌, nat_lt, max, Bool, true, false, List, [], ◌∷◌, cond, map, refl, sym, ap, ◌∙◌, subst, inl, inr, arith}
+use Rattle.std.specs.Prelude.{◌≢◌, is_some}
+use Rattle.std.specs.List.{filter}
+use Rattle.std.proofs.lemmas.Bool.Decides.{nat_tests}
+use Rattle.fs_ident.specs.In.{In}
+use Rattle.fs_ident.specs.declared.actor.LeaseNo.{LeaseNo}
+use Rattle.fs_ident.specs.declared.actor.Session.{Session}
+use Rattle.fs_ident.proofs.Standing.{In-filter, In-map}
+use Rattle.fs_field.specs.declared.row.Row.{Row}
+use Rattle.fs_field.specs.Field.{tells_no_mode}
+use Rattle.fs_field.specs.Table.{has_no, is_live, renewed_row, same_no}
+use Rattle.fs_field.proofs.Leases.{NoPlainConflict-filter, NoPlainConflict-map, renewed_same}
+use Rattle.fs_msg.specs.declared.item.Item.{Item}
+use Rattle.fs_server.specs.Server.{begun}
+use Rattle.fs_server.specs.declared.state.Server.{Server}
+use Rattle.fs_view.proofs.Places.{same_no_is}
+use Rattle.fs_serial.specs.Exchange.{ReturnFits}
+use Rattle.fs_serial.specs.Parts.{AllHold}
+use Rattle.fs_serial.specs.Settled.{Lease, Settled}
+use Rattle.fs_serial.specs.Sight.{Sight, IsGiven, sight_of}
+use Rattle.fs_serial.proofs.Facts.{In-mapped}
+use Rattle.fs_serial.proofs.Going.{RowsChange}
+
+pub In-kept : {X : Type 0} (test : X → Bool) (x : X) (xs : List X) → In x xs → test x ≡ true → In x (filter test xs)
+In-kept test x [] h e = absurd h
+In-kept test x (y ∷ ys) (inl q) e = subst (λ b. In x (cond b (y ∷ filter test ys) (filter test ys))) (sym (ap test (sym q) ∙ e)) (inl q)
+In-kept test x (y ∷ ys) (inr h) e =
+    elim (test y) as (λ b. In x (cond b (y ∷ filter test ys) (filter test ys))) [
+      | true ↦ inr (In-kept test x ys h e)
+      | false ↦ In-kept test x ys h e
+    ]
+
+-- the sight with other rows
+abbrev pub with_rows : List Row → Sight → Sight
+with_rows rows s = record s { rows = rows }
+
+-- ## Fewer rows
+
+-- rows go, but for those of leases that have not ended
+pub fewer_rows : (skew greatest : ℕ) (s : Sight) (clients : Session → Settled) (test : Row → Bool)
+    → ((x : Session) (l : Lease) → In l (clients x).leases → (r : Row) → In r s.rows → r.no ≡ l.no → greatest < r.until + skew → test r ≡ true)
+    → RowsChange skew greatest s (with_rows (filter test s.rows) s) clients
+fewer_rows skew greatest s clients test stays = record {
+  servers = λ h. record { apart = NoPlainConflict-filter test s.rows h.apart; serial = h.serial };
+  kept = λ f. record { off_modes = λ r i. f.off_modes r (In-filter test r s.rows i); given = λ r i. f.given r (In-filter test r s.rows i); sound = f.sound; made = f.made };
+  records = refl;
+  journal = refl;
+  relied = λ x. record {
+    given = λ k. omega arith;
+    older = λ r i g. record { row = r; stood = In-filter test r s.rows i; number = refl; session = refl; field = refl; kind = refl };
+    kept = λ l h r i e late. record { row = r; stands = In-kept test r s.rows i (stays x l h r i e late); number = refl; lasts = omega arith };
+    values = λ r i g own. refl;
+    items = refl;
+  };
+}
+
+live_still : (now skew greatest : ℕ) (r : Row) → now ≤ greatest → greatest < r.until + skew → is_live now skew r ≡ true
+live_still now skew greatest r before late = or_true (is_some r.lock) (nat_lt now (r.until + skew)) (grind (arith, nat_tests))
+  where
+    or_true : (a b : Bool) → b ≡ true → (a || b) ≡ true
+    or_true true b h = refl
+    or_true false b h = h
+
+-- rows that have ended at the greatest reading so far
+pub rows_lapse : (greatest now : ℕ) (s : Server) (journal : List Item) (clients : Session → Settled) → max s.last now ≤ greatest → RowsChange s.skew greatest (sight_of s journal) (sight_of (begun now s) journal) clients
+rows_lapse greatest now s journal clients before = fewer_rows s.skew greatest (sight_of s journal) clients (is_live (max s.last now) s.skew) (λ x l h r i e late. live_still (max s.last now) s.skew greatest r before late)
+
+not_same : (a b : LeaseNo) → a ≢ b → not (same_no a b) ≡ true
+not_same a b h =
+    elim (same_no a b) as (λ c. same_no a b ≡ c → not c ≡ true) [
+      | true ↦ λ e. absurd (h (same_no_is a b e))
+      | false ↦ λ e. refl
+    ] refl
+
+-- the row of a lease that goes back
+pub row_goes : (skew greatest : ℕ) (s : Sight) (replied : Session → List Item) (clients : Session → Settled) (by : Session) (n : LeaseNo) → AllHold skew greatest s replied clients → ReturnFits s.given s.rows by (clients by).leases n
+    → RowsChange skew greatest s (with_rows (filter (λ r. not (has_no n r)) s.rows) s) clients
+row_goes skew greatest s replied clients by n h back =
+    fewer_rows skew greatest s clients (λ r. not (has_no n r)) (λ x l held r i e late. not_same r.no n (λ q.
+    let own : x ≡ by = sym ((h.fitting x).matching l held r i e).session ∙ back.own r i q in
+    let mine : In l (clients by).leases = subst (λ y. In l (clients y).leases) own held in
+    back.alone l mine (sym e ∙ q)))
+
+-- ## A row ends later
+
+later_end : (b : Bool) (until : ℕ) (r : Row) → (b ≡ true → r.until < until) → r.until ≤ (cond b (record r { until = until }) r).until
+later_end true until r h = let q : r.until < until = h refl in omega arith
+later_end false until r h = omega arith
+
+second : (a b : Bool) → (a && b) ≡ true → b ≡ true
+second true b h = h
+second false b h = absurd (cc)
+
+pub ends_no_sooner : (n : LeaseNo) (until : ℕ) (r : Row) → r.until ≤ (renewed_row n until r).until
+ends_no_sooner n until r = later_end (has_no n r && nat_lt r.until until) until r (λ t. let q : nat_lt r.until until ≡ true = second (has_no n r) (nat_lt r.until until) t in grind (arith, nat_tests))
+
+-- the row of this number ends no sooner than then
+pub ends_then : (n : LeaseNo) (until : ℕ) (r : Row) → has_no n r ≡ true → until ≤ (renewed_row n until r).until
+ends_then n until r h =
+    subst (λ b. until ≤ (cond (b && nat_lt r.until until) (record r { until = until }) r).until) (sym h)
+    (elim (nat_lt r.until until) as (λ b. nat_lt r.until until ≡ b → until ≤ (cond b (record r { until = until }) r).until) [
+      | true ↦ λ e. omega arith
+      | false ↦ λ e. grind (arith, nat_tests)
+    ] refl)
+
+pub row_renewed : (skew greatest : ℕ) (s : Sight) (clients : Session → Settled) (n : LeaseNo) (until : ℕ) → RowsChange skew greatest s (with_rows (map (renewed_row n until) s.rows) s) clients
+row_renewed skew greatest s clients n until =
+    record {
+      servers = λ h. record { apart = NoPlainConflict-map (renewed_row n until) (renewed_same n until) s.rows h.apart; serial = h.serial };
+      kept = λ f. record {
+        off_modes = λ r i. let q = In-map (renewed_row n until) r s.rows i in ap (λ (x : Row). tells_no_mode x.field) q.1.1 ∙ ap tells_no_mode (renewed_same n until q.0).field ∙ f.off_modes q.0 q.1.0;
+        given = λ r i. let q = In-map (renewed_row n until) r s.rows i in subst (λ m. IsGiven s.given m) (sym (ap (λ (x : Row). x.no) q.1.1 ∙ (renewed_same n until q.0).number)) (f.given q.0 q.1.0);
+        sound = f.sound;
+        made = f.made;
+      };
+      records = refl;
+      journal = refl;
+      relied = λ x. record {
+        given = λ k. omega arith;
+        older = λ r i g.
+            let q = In-map (renewed_row n until) r s.rows i in
+            let same = renewed_same n until q.0 in
+            record { row = q.0; stood = q.1.0; number = sym (ap (λ (y : Row). y.no) q.1.1 ∙ same.number); session = sym (ap (λ (y : Row). y.session) q.1.1 ∙ same.session); field = sym (ap (λ (y : Row). y.field) q.1.1 ∙ same.field); kind = sym (ap (λ (y : Row). y.kind) q.1.1 ∙ same.kind) };
+        kept = λ l h r i e late. record { row = renewed_row n until r; stands = In-mapped (renewed_row n until) r s.rows i; number = (renewed_same n until r).number; lasts = ends_no_sooner n until r };
+        values = λ r i g own. refl;
+        items = refl;
+      };
+    }

@@ -1,0 +1,110 @@
+-- The server, and for each session its client with what is on its way between the two.
+use Rattle.std.specs.Prelude.{◌≡◌, ℕ, ◌≤◌, ◌==◌, List, [], ◌∷◌, ◌++◌, if◌then◌else◌}
+use Rattle.fs_ident.specs.In.{In}
+use Rattle.fs_ident.specs.declared.actor.LeaseNo.{LeaseNo}
+use Rattle.fs_ident.specs.declared.actor.Peer.{Peer}
+use Rattle.fs_ident.specs.declared.actor.Peer.TheVariants.{Client as OfSession}
+use Rattle.fs_ident.specs.declared.actor.Session.{Session}
+use Rattle.fs_msg.specs.declared.answer.Answer.{Answer}
+use Rattle.fs_msg.specs.declared.client_msg.ClientMsg.{ClientMsg}
+use Rattle.fs_msg.specs.declared.item.Item.{Item}
+use Rattle.fs_msg.specs.declared.msg.Msg.{Msg}
+use Rattle.fs_msg.specs.declared.msg.Msg.TheVariants as msg
+use Rattle.fs_server.specs.declared.event.ServerEvent.{ServerEvent}
+use Rattle.fs_server.specs.declared.event.ServerEvent.TheVariants.{FromClient}
+use Rattle.fs_server.specs.declared.state.Server.{Server}
+use Rattle.fs_server.specs.Server.{first_server}
+use Rattle.fs_server.specs.Step.{step}
+use Rattle.fs_client.specs.Client.{first_client}
+use Rattle.fs_client.specs.declared.state.Client.{Client}
+use Rattle.fs_serial.specs.Client.{ClientFits}
+use Rattle.fs_serial.specs.Exchange.{ExchangeFits, ReturnsFit, RenewalsBacked}
+use Rattle.fs_serial.specs.Parts.{AllHold}
+use Rattle.fs_serial.specs.Settled.{Lease, Settled, settled, settled_now}
+use Rattle.fs_serial.specs.Sight.{Sight, sight_of}
+
+-- the client, the questions that are on their way to the server, and the answers on their way back
+pub record Ends : Type 0 where
+  pub client : Client
+  pub up : List ClientMsg
+  pub down : List Answer
+
+-- the client as it will be
+abbrev pub settled_at : Session → Ends → Settled
+settled_at x e = settled x e.down (settled_now e.client)
+
+-- the journal, and what each session was told so far, are kept beside
+pub record World : Type 0 where
+  pub server : Server
+  pub journal : List Item
+  pub replied : Session → List Item
+  pub ends : Session → Ends
+
+-- the server is new, and so is each session
+abbrev pub first_ends : ℕ → Session → Ends
+first_ends term x = record { client = first_client x term; up = []; down = [] }
+
+abbrev pub first_world : ℕ → ℕ → World
+first_world skew term = record { server = first_server 0 skew term; journal = []; replied = λ x. []; ends = first_ends term }
+
+-- ## Answers on their way
+
+abbrev pub with_answer : Session → Answer → (Session → Ends) → Session → Ends
+with_answer to a ends x = if to.0 == x.0 then record (ends x) { down = (ends x).down ++ a ∷ [] } else ends x
+
+-- one message after another
+abbrev pub with_sent : List (Peer × Msg) → (Session → Ends) → Session → Ends
+with_sent [] ends = ends
+with_sent ((OfSession to, msg.Answer a) ∷ rest) ends = with_sent rest (with_answer to a ends)
+with_sent (m ∷ rest) ends = with_sent rest ends
+
+-- the session's question is taken
+abbrev pub without_question : Session → (Session → Ends) → Session → Ends
+without_question by ends x = if by.0 == x.0 then record (ends x) { up = [] } else ends x
+
+-- ## Together
+
+-- a lease has the number
+pub record HasNumber (leases : List Lease) (wanted : LeaseNo) : Type 0 where
+  pub lease : Lease
+  pub held : In lease leases
+  pub number : lease.no ≡ wanted
+
+-- what goes back and what is renewed, while the server takes its steps: these clients are those that will be
+pub record AllCarried (skew greatest : ℕ) (s : Sight) (ends : Session → Ends) (clients : Session → Settled) : Type 0 where
+  pub returns : (x : Session) → ReturnsFit s.given s.rows x (ends x).client.view.leases (clients x).leases
+  pub renewals : (x : Session) → RenewalsBacked skew greatest s.rows (ends x).down (settled_now (ends x).client).leases
+  pub later : (x : Session) (l : Lease) → In l (settled_now (ends x).client).leases → HasNumber (clients x).leases l.no
+
+-- all that holds while the server takes its steps
+pub record GoesOn (skew greatest : ℕ) (s : Sight) (replied : Session → List Item) (ends : Session → Ends) (clients : Session → Settled) : Type 0 where
+  pub all : AllHold skew greatest s replied clients
+  pub carried : AllCarried skew greatest s ends clients
+
+-- all that holds between events, where no reading was greater
+pub record WorldHolds (greatest : ℕ) (w : World) : Type 0 where
+  pub all : AllHold w.server.skew greatest (sight_of w.server w.journal) w.replied (λ x. settled_at x (w.ends x))
+  pub clock : w.server.last ≤ greatest
+  pub clients : (x : Session) → ClientFits x (w.ends x).client
+  pub exchanges : (x : Session)
+      → ExchangeFits w.server.skew greatest (sight_of w.server w.journal).given w.server.rows x (w.ends x).client (w.ends x).up (w.ends x).down (settled_now (w.ends x).client) (settled_at x (w.ends x))
+
+-- ## The server's events
+
+-- the question that the event is about is no longer on its way
+abbrev pub without_taken : ServerEvent → (Session → Ends) → Session → Ends
+without_taken (FromClient by m) ends = without_question by ends
+without_taken e ends = ends
+
+-- it is on its way before
+abbrev pub IsThere : ServerEvent → (Session → Ends) → Type 0
+IsThere (FromClient by m) ends = In m (ends by).up
+IsThere e ends = Unit {0}
+
+abbrev pub after_server : ℕ → ServerEvent → World → World
+after_server now e w = record {
+  server = (step w.server now e).server;
+  journal = w.journal ++ (step w.server now e).out.admitted;
+  replied = w.replied;
+  ends = with_sent (step w.server now e).out.send (without_taken e w.ends);
+}
