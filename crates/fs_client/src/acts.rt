@@ -152,7 +152,8 @@ fn answer(
     ensures plan { IfOk result (λ p. p ≡ answers op.now reply at.now) }
     ensures can { IfOk result (λ p. can_change p.ready.change at.now ≡ true) }
     ensures spent { (counter : TheCounter) → IsErrOf result (errors.Spent counter) →
-        (counter ≡ Entries) × (can_change (answers op.now reply at.now).ready.change at.now ≡ false) }
+        (counter ≡ Entries) ×
+        (can_change (answers op.now reply at.now).ready.change at.now ≡ false) }
 {
     if !is_change(&reply) && at.log().is_empty() {
         return reads(alloc, at, op, reply);
@@ -213,7 +214,8 @@ fn replies(
     ensures plan { IfOk result (λ p. p ≡ replies op.now reply at.now) }
     ensures can { IfOk result (λ p. can_change p.ready.change at.now ≡ true) }
     ensures spent { (counter : TheCounter) → IsErrOf result (errors.Spent counter) →
-        (counter ≡ Entries) × (can_change (replies op.now reply at.now).ready.change at.now ≡ false) }
+        (counter ≡ Entries) ×
+        (can_change (replies op.now reply at.now).ready.change at.now ≡ false) }
 {
     if !has_number_left(at) {
         return Err(CoreError::Spent {

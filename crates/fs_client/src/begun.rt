@@ -34,7 +34,8 @@ impl<'a> Model for Begun<'a> {
 
     ghost Value = { Client };
 
-    ghost view = { λ b. record b.client.now { last = b.reading; view = lapsed_at b.reading b.client.now.view } };
+    ghost view = { λ b.
+        record b.client.now { last = b.reading; view = lapsed_at b.reading b.client.now.view } };
 }
 
 impl<'a> Begun<'a> {

@@ -141,7 +141,8 @@ impl ClientCore {
     pub fn turn(&mut self, alloc: Global, now: u64) -> Result<ClientOut<ClientNote>, Memory>
         requires { now ≤ LATEST }
         ensures out { IfOk result (λ out. out ≡ (turn_plan self.old now).out) }
-        ensures client { OnOk result (self.new ≡ committed (turn_plan self.old now).ready self.old) }
+        ensures client { OnOk result (self.new ≡
+            committed (turn_plan self.old now).ready self.old) }
         ensures err { OnErr result (self.new ≡ self.old) }
     {
         let Plan { ready, out } = self.plan_turn(alloc, now)?;

@@ -18,6 +18,8 @@ mod plan;
 mod replies;
 mod returns;
 mod state;
+#[cfg(test)]
+mod tests;
 mod turns;
 
 pub use client_core::ClientCore;

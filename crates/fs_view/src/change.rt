@@ -118,7 +118,8 @@ fn place(leases: &[Kept], no: LeaseNo) -> Option<usize>
 
 /// Gives up every lease that no entry uses and that is over at the reading.
 pub fn lapse(leases: &mut Vec<Kept>, now: u64)
-    ensures live { leases.new.items ≡ filter (λ k. not (has_ended now k.standing)) leases.old.items }
+    ensures live { leases.new.items ≡
+        filter (λ k. not (has_ended now k.standing)) leases.old.items }
     ensures len { vec_len leases.new ≤ vec_len leases.old }
     ensures capacity { vec_capacity leases.new ≡ vec_capacity leases.old }
 {
