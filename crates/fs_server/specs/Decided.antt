@@ -1,4 +1,7 @@
 -- What an event was decided to come to.
+use Rattle.std.specs.Prelude.{[]}
+use Rattle.fs_msg.specs.declared.server_note.ServerNote.{ServerNote}
+use Rattle.fs_server.specs.declared.change.Change.TheVariants.{Nothing}
 use Rattle.fs_server.specs.declared.decide.Decided.{Decided}
 use Rattle.fs_server.specs.declared.state.Server.{Server}
 use Rattle.fs_server.specs.Lent.{IsReady}
@@ -13,3 +16,7 @@ stepped_by d s = record { server = changed d.change s; out = d.out }
 pub record CanDecide (d : Decided) (s : Server) : Type 0 where
   pub change : CanChange d.change s
   pub ready : IsReady (changed d.change s)
+
+-- nothing is changed, sent or admitted
+abbrev pub noted_only : ServerNote → Decided
+noted_only n = record { change = Nothing; out = record { note = n; send = []; admitted = [] } }

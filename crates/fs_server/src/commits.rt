@@ -58,7 +58,8 @@ fn grant(
     rows: List<Row>,
     gift: Option<(FileId, u32)>,
 ) -> Result<(), Memory>
-    requires table { IsTable (with_rows rows (filter (is_live reading server.old.skew) server.old.rows)) }
+    requires table { IsTable
+        (with_rows rows (filter (is_live reading server.old.skew) server.old.rows)) }
     requires given { server.old.given + length rows < 2 ^ 64 }
     ensures ok { OnOk result (server.new ≡ record server.old {
       given = server.old.given + length rows;

@@ -5,8 +5,7 @@ ghost use Rattle.fs_msg.specs.declared.core_error.Counter.{Counter as TheCounter
 ghost use Rattle.fs_msg.specs.declared.core_error.Counter.TheVariants.{Leases};
 ghost use Rattle.fs_msg.specs.declared.core_error.CoreError.TheVariants as errors;
 ghost use Rattle.fs_msg.specs.declared.server_note.ServerNote.TheVariants as note;
-ghost use Rattle.fs_server.specs.declared.change.Change.TheVariants as change;
-ghost use Rattle.fs_server.specs.Decided.{CanDecide, stepped_by};
+ghost use Rattle.fs_server.specs.Decided.{CanDecide, noted_only, stepped_by};
 ghost use Rattle.fs_server.specs.Lent.{IsReady};
 ghost use Rattle.fs_server.specs.Server.{to_session};
 ghost use Rattle.fs_server.specs.Step.{event_step, message_step};
@@ -63,7 +62,7 @@ fn message(alloc: Global, at: &Begun<'_>, by: Session, m: &ClientMsg) -> Result<
 
 /// Nothing is changed, sent or admitted.
 pub(crate) fn only_noted(alloc: Global, note: ServerNote) -> Decided
-    ensures { result ≡ record { change = change.Nothing; out = record { note = note; send = []; admitted = [] } } }
+    ensures { result ≡ noted_only note }
 {
     Decided {
         change: Change::Nothing,
@@ -77,7 +76,7 @@ pub(crate) fn only_noted(alloc: Global, note: ServerNote) -> Decided
 
 /// No honest actor sends such a message.
 pub(crate) fn strange(alloc: Global) -> Decided
-    ensures { result ≡ record { change = change.Nothing; out = record { note = note.Strange; send = []; admitted = [] } } }
+    ensures { result ≡ noted_only note.Strange }
 {
     only_noted(alloc, ServerNote::Strange)
 }

@@ -1,4 +1,13 @@
-//! The core of a server: leases, renewals, releases and logs, one event at a time. It knows no clock, no socket and no file.
+//! The core of a server: leases, renewals, releases and logs, one event at a time. It knows no clock, no socket and no
+//! file.
+//!
+//! An event is planned and then carried out. Neither copies the rows, the records or the core. With `r` rows and `f` files
+//! - a question scans the rows once or twice for each item, and finds one record for each (log f); giving the leases
+//!   moves at most `r` rows for each;
+//! - a fresh identifier scans the rows once, and then the numbers that they bear for each number that it tries;
+//! - a renewal and a release scan the rows for each pair, a log for each use up to the first whose row is gone;
+//! - an entry that is admitted finds its records (log f), and a create puts a name among those of its directory;
+//! - every event scans the rows once for those that are over, when it is carried out.
 #![tactic(auto)]
 
 mod asks;
@@ -16,6 +25,8 @@ mod recalls;
 mod server_core;
 mod ships;
 mod state;
+#[cfg(test)]
+mod tests;
 
 pub use event::ServerEvent;
 pub use out::ServerOut;

@@ -1,0 +1,297 @@
+//! A first create with its leases, the end of a lease, what is asked back, and messages that no honest actor sends.
+ghost use Rattle.std.specs.Prelude.{◌≤◌};
+ghost use Rattle.fs_ident.specs.declared.limits.TheConstants.{LATEST};
+
+use crate::event::ServerEvent;
+use crate::server_core::ServerCore;
+use fs_field::{Field, LeaseKind, Use};
+use fs_ident::{FileId, Kind, LeaseNo, List, Name, Session, Twin};
+use fs_model::{Op, Reply};
+use fs_modes::Mode;
+use fs_msg::{ClientMsg, Entry};
+use std::alloc::Global;
+use std::test::Fail;
+
+/// The first server, where clocks differ by up to 10 and leases are given for 100.
+fn server(alloc: Global) -> Result<ServerCore, Fail> {
+    Ok(ServerCore::new(alloc, 0, 10, 100)?)
+}
+
+/// What the event at the reading comes to, from a copy.
+fn told(
+    core: &mut ServerCore,
+    alloc: Global,
+    now: u64,
+    ev: Result<ServerEvent, Fail>,
+) -> Result<String, Fail>
+    requires { now ≤ LATEST }
+{
+    let out = core.step(alloc, now, &ev?)?.copy(alloc)?;
+    Ok(format!(in alloc; "{out:?}")?)
+}
+
+/// What is noted of the event at the reading.
+fn noted(
+    core: &mut ServerCore,
+    alloc: Global,
+    now: u64,
+    ev: Result<ServerEvent, Fail>,
+) -> Result<String, Fail>
+    requires { now ≤ LATEST }
+{
+    let out = core.step(alloc, now, &ev?)?;
+    Ok(format!(in alloc; "{:?}", out.note)?)
+}
+
+/// The same of a copy of the event, in two calls.
+fn noted_in_two(
+    core: &mut ServerCore,
+    alloc: Global,
+    now: u64,
+    ev: Result<ServerEvent, Fail>,
+) -> Result<String, Fail>
+    requires { now ≤ LATEST }
+{
+    let plan = core.plan(alloc, now, &ev?.copy(alloc)?)?;
+    let text = format!(in alloc; "{:?}", plan.out.note)?;
+    core.commit(alloc, plan)?;
+    Ok(text)
+}
+
+/// The session's question for one lease or two, and perhaps for an identifier below the root.
+fn ask(
+    alloc: Global,
+    by: u16,
+    first: (Field, LeaseKind),
+    second: Option<(Field, LeaseKind)>,
+    fresh: bool,
+) -> Result<ServerEvent, Fail> {
+    let mut items = List::new(alloc);
+    items.push(first)?;
+    if let Some(second) = second {
+        items.push(second)?;
+    }
+    let fresh = if fresh {
+        Some(FileId::root(alloc))
+    } else {
+        None
+    };
+    Ok(ServerEvent::FromClient(Session(by), ClientMsg::Ask { items, fresh }))
+}
+
+fn life(alloc: Global) -> (Field, LeaseKind) {
+    (Field::Life(FileId::root(alloc)), LeaseKind::Shared)
+}
+
+fn child(alloc: Global) -> Result<(Field, LeaseKind), Fail> {
+    let name = Name::new(alloc, b"a")?;
+    Ok((
+        Field::Child(FileId::root(alloc), name),
+        LeaseKind::Exclusive,
+    ))
+}
+
+/// What a create of a file in the root asks for.
+fn first_ask(alloc: Global, by: u16) -> Result<ServerEvent, Fail> {
+    ask(alloc, by, life(alloc), Some(child(alloc)?), true)
+}
+
+/// The lease of this number on the life of the root.
+fn used(alloc: Global, count: u64) -> Use {
+    Use {
+        field: Field::Life(FileId::root(alloc)),
+        kind: LeaseKind::Shared,
+        no: LeaseNo { server: 0, count },
+        until: 100,
+    }
+}
+
+fn entry(alloc: Global, n: u64, op: Op, reply: Reply) -> Result<Entry, Fail> {
+    let mut uses = List::new(alloc);
+    uses.push(used(alloc, 1))?;
+    Ok(Entry { n, op, reply, uses })
+}
+
+/// The create of a file in the root.
+fn create(alloc: Global) -> Result<Op, Fail> {
+    Ok(Op::Create {
+        dir: FileId::root(alloc),
+        name: Name::new(alloc, b"a")?,
+        kind: Kind::File,
+        id: Some(FileId::parse(alloc, b"/1")?),
+    })
+}
+
+/// A log of the create, and of a look at the root behind it.
+fn log(alloc: Global) -> Result<ServerEvent, Fail> {
+    let mut entries = List::new(alloc);
+    entries.push(entry(alloc, 1, create(alloc)?, Reply::Made)?)?;
+    entries.push(entry(alloc, 2, look(alloc), Reply::IsDir)?)?;
+    Ok(ServerEvent::FromClient(Session(1), ClientMsg::Ship { entries }))
+}
+
+fn look(alloc: Global) -> Op {
+    Op::Kind {
+        file: FileId::root(alloc),
+    }
+}
+
+const FIRST_LEASES: &str = "ServerOut { note: Grants { count: 3, end: All }, send: List { items: [(\
+    Client(Session(1)), Answer(Granted { grants: List { items: [\
+    Grant { no: LeaseNo { server: 0, count: 1 }, field: Life(FileId { numbers: [] }), kind: Shared, \
+    until: 100, value: Life(Some(Dir)) }, \
+    Grant { no: LeaseNo { server: 0, count: 2 }, field: Child(FileId { numbers: [] }, \
+    Name { bytes: [97] }), kind: Exclusive, until: 100, value: Child(None) }, \
+    Grant { no: LeaseNo { server: 0, count: 3 }, field: Life(FileId { numbers: [1] }), kind: \
+    Exclusive, until: 100, value: Life(None) }] }, fresh: Some(FileId { numbers: [1] }), end: All \
+    }))] }, admitted: List { items: [] } }";
+
+const ADMITS: &str = "Admits { count: 2, end: All, gaps: List { items: [] } }";
+
+/// The leases of a first create, and its log.
+#[test]
+fn a_first_create(rt: HostRuntime) -> Result<(), Fail> {
+    let alloc = rt.alloc();
+    let mut core = server(alloc)?;
+    let text = told(&mut core, alloc, 0, first_ask(alloc, 1))?;
+    assert_eq!(rt; text.as_str(), FIRST_LEASES);
+    assert!(rt; !has_file(&core, alloc)?);
+    let text = noted_in_two(&mut core, alloc, 5, log(alloc))?;
+    assert_eq!(rt; text.as_str(), ADMITS);
+    assert!(rt; has_file(&core, alloc)?);
+    Ok(())
+}
+
+fn has_file(core: &ServerCore, alloc: Global) -> Result<bool, Fail> {
+    let file = FileId::parse(alloc, b"/1")?;
+    Ok(core.records().get(&file).is_some())
+}
+
+const ENDS: &str = "Admits { count: 0, end: Ended { n: 1, lease: LeaseNo { server: 0, count: 1 }, \
+    until: 100, now: 110 }, gaps: List { items: [2] } }";
+
+/// What is noted of the log at the reading, after the first create's leases at 0.
+fn ended(alloc: Global, now: u64) -> Result<String, Fail>
+    requires { now ≤ LATEST }
+{
+    let mut core = server(alloc)?;
+    noted(&mut core, alloc, 0, first_ask(alloc, 1))?;
+    noted(&mut core, alloc, now, log(alloc))
+}
+
+#[test]
+fn a_row_stands_until_its_end_and_the_skew(rt: HostRuntime) -> Result<(), Fail> {
+    let text = ended(rt.alloc(), 109)?;
+    assert_eq!(rt; text.as_str(), ADMITS);
+    let text = ended(rt.alloc(), 110)?;
+    assert_eq!(rt; text.as_str(), ENDS);
+    Ok(())
+}
+
+const WAITS: &str =
+    "ServerOut { note: Grants { count: 1, end: Wait { blocker: LeaseNo { server: 0, \
+    count: 2 } } }, send: List { items: [(Client(Session(2)), Answer(Granted { grants: List { items: [\
+    Grant { no: LeaseNo { server: 0, count: 4 }, field: Life(FileId { numbers: [] }), kind: Shared, \
+    until: 150, value: Life(Some(Dir)) }] }, fresh: None, end: Wait { blocker: LeaseNo { server: 0, \
+    count: 2 } } })), (Client(Session(1)), Answer(Recall { no: LeaseNo { server: 0, count: 2 } }))] }, \
+    admitted: List { items: [] } }";
+
+const RECALLS: &str = "ServerOut { note: Recalls { count: 1 }, send: List { items: [(\
+    Client(Session(1)), Answer(Recall { no: LeaseNo { server: 0, count: 1 } }))] }, admitted: List { \
+    items: [] } }";
+
+/// What stands in the way of another session is asked back, and so are the leases on a field.
+#[test]
+fn leases_are_asked_back(rt: HostRuntime) -> Result<(), Fail> {
+    let alloc = rt.alloc();
+    let mut core = server(alloc)?;
+    noted(&mut core, alloc, 0, first_ask(alloc, 1))?;
+    let text = told(&mut core, alloc, 50, Ok(ServerEvent::Recall(life(alloc).0)))?;
+    assert_eq!(rt; text.as_str(), RECALLS);
+    let text = told(&mut core, alloc, 50, first_ask(alloc, 2))?;
+    assert_eq!(rt; text.as_str(), WAITS);
+    Ok(())
+}
+
+/// The first lease with its file, and one that was never given.
+fn pairs(alloc: Global) -> Result<List<(FileId, LeaseNo)>, Fail> {
+    let mut pairs = List::new(alloc);
+    for count in [1, 9] {
+        pairs.push((FileId::root(alloc), LeaseNo { server: 0, count }))?;
+    }
+    Ok(pairs)
+}
+
+const RENEWS: &str = "ServerOut { note: Renews { count: 2, end: All }, send: List { items: [(\
+    Client(Session(1)), Answer(Renewed { rows: List { items: [(LeaseNo { server: 0, count: 1 }, \
+    Some(160)), (LeaseNo { server: 0, count: 9 }, None)] }, end: All }))] }, admitted: List { items: [] \
+    } }";
+
+fn renew(alloc: Global) -> Result<ServerEvent, Fail> {
+    let pairs = pairs(alloc)?;
+    Ok(ServerEvent::FromClient(Session(1), ClientMsg::Renew { pairs }))
+}
+
+fn release(alloc: Global) -> Result<ServerEvent, Fail> {
+    let pairs = pairs(alloc)?;
+    Ok(ServerEvent::FromClient(Session(1), ClientMsg::Release { pairs }))
+}
+
+const FIRST: LeaseNo = LeaseNo {
+    server: 0,
+    count: 1,
+};
+
+/// Leases are renewed and given back, and nothing is done at a turn.
+#[test]
+fn leases_are_renewed_and_released(rt: HostRuntime) -> Result<(), Fail> {
+    let alloc = rt.alloc();
+    let mut core = server(alloc)?;
+    noted(&mut core, alloc, 0, first_ask(alloc, 1))?;
+    let text = told(&mut core, alloc, 60, renew(alloc))?;
+    assert_eq!(rt; text.as_str(), RENEWS);
+    let text = noted(&mut core, alloc, 61, Ok(ServerEvent::Turn))?;
+    assert_eq!(rt; text.as_str(), "Idle");
+    assert!(rt; core.copy(alloc)?.rows().row(FIRST).is_some());
+    let text = noted(&mut core, alloc, 62, release(alloc))?;
+    assert_eq!(rt; text.as_str(), "Frees { count: 2, end: All }");
+    assert!(rt; core.rows().row(FIRST).is_none());
+    Ok(())
+}
+
+/// A question that names a field of modes.
+fn question_of_modes(alloc: Global) -> Result<ServerEvent, Fail> {
+    let field = Field::SelfW(FileId::root(alloc), Mode::AccR);
+    ask(
+        alloc,
+        1,
+        life(alloc),
+        Some((field, LeaseKind::Shared)),
+        true,
+    )
+}
+
+/// A log with a delete.
+fn log_of_delete(alloc: Global) -> Result<ServerEvent, Fail> {
+    let mut entries = List::new(alloc);
+    entries.push(entry(alloc, 1, delete(alloc)?, Reply::Deleted)?)?;
+    Ok(ServerEvent::FromClient(Session(1), ClientMsg::Ship { entries }))
+}
+
+fn delete(alloc: Global) -> Result<Op, Fail> {
+    Ok(Op::Delete {
+        dir: FileId::root(alloc),
+        name: Name::new(alloc, b"a")?,
+    })
+}
+
+#[test]
+fn what_no_honest_actor_sends_is_strange(rt: HostRuntime) -> Result<(), Fail> {
+    let alloc = rt.alloc();
+    let mut core = server(alloc)?;
+    let text = noted(&mut core, alloc, 0, question_of_modes(alloc))?;
+    assert_eq!(rt; text.as_str(), "Strange");
+    let text = noted(&mut core, alloc, 0, log_of_delete(alloc))?;
+    assert_eq!(rt; text.as_str(), "Strange");
+    Ok(())
+}
