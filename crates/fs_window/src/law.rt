@@ -17,9 +17,9 @@ ghost use Rattle.fs_window.specs.Post.{Links, new_link, link_pushed, link_accept
 /// and no end takes as acknowledged what the other end was not given. So it is in both directions.
 pub fn in_order()
     ensures to_the_right { (left right : ℕ) (events : Seq (Bool × Event)) →
-        IsDeliveredPrefix (run events (new_ends left right)).left (run events (new_ends left right)).right }
+        let ends = run events (new_ends left right) in IsDeliveredPrefix ends.left ends.right }
     ensures to_the_left { (left right : ℕ) (events : Seq (Bool × Event)) →
-        IsDeliveredPrefix (run events (new_ends left right)).right (run events (new_ends left right)).left }
+        let ends = run events (new_ends left right) in IsDeliveredPrefix ends.right ends.left }
 {}
 
 /// One direction of a link, event by event. What was given at one end, followed by what is on its way, is what was
@@ -76,7 +76,8 @@ pub fn messages_stay_in_order()
     ensures new { (a b : ℕ) → Carries (new_link a) (new_link b) [] }
     ensures push { (from to : TheLink) (messages : Seq (Seq ℕ)) (message : Seq ℕ) →
         length message < 2 ^ 64 → pushed_count from.window + length (cut_of message) < 2 ^ 64 →
-        Carries from to messages → Carries (link_pushed from message) to (messages ++ message ∷ []) }
+        Carries from to messages →
+        Carries (link_pushed from message) to (messages ++ message ∷ []) }
     ensures due { (from to : TheLink) (messages : Seq (Seq ℕ)) →
         Carries from to messages → Carries (link_sent from) to messages }
     // A packet of the end that pushes comes at the other.
