@@ -1,6 +1,6 @@
 //! What links are for.
 ghost use Rattle.std.specs.Prelude.{◌≡◌, ◌+◌, ◌<◌, ◌^◌, ◌++◌, ◌∷◌, [], ℕ, Bool, true, length, if◌then◌else◌};
-ghost use Rattle.std.specs.Prelude.{Option as Maybe, List as Seq};
+ghost use Rattle.std.specs.Prelude.{Option as Maybe, Some as Found, List as Seq};
 ghost use Rattle.fs_ident.specs.In.{In};
 ghost use Rattle.fs_ident.specs.declared.actor.Peer.{Peer as Actor};
 ghost use Rattle.fs_frag.specs.Cut.{cut_of};
@@ -10,6 +10,8 @@ ghost use Rattle.fs_window.specs.declared.sent.Sent.{Sent as TheSent};
 ghost use Rattle.fs_window.specs.Ends.{Event, run, new_ends, IsDeliveredPrefix, IsPrefixOf};
 ghost use Rattle.fs_window.specs.LinkEnd.{LinkEnd, new_link_end, pushed_count, after_pushes, given_by, after_accept, due_of, after_due};
 ghost use Rattle.fs_window.specs.OnTheWay.{IsDirection, IsPacketOf, HasGiven, Carries, HasHeard};
+ghost use Rattle.fs_window.specs.Packet.{IsPacket, packet_text};
+ghost use Rattle.fs_window.specs.Reading.{packet_at};
 ghost use Rattle.fs_window.specs.Peers.{same_peer, are_peers_in_order};
 ghost use Rattle.fs_window.specs.Post.{Links, new_link, link_pushed, link_accepted, link_sent, link_with, with_link, links_sent, post_due, WasSent};
 
@@ -88,10 +90,19 @@ pub fn messages_stay_in_order()
     ensures back { (from to : TheLink) (messages : Seq (Seq ℕ)) (p : ThePacket) →
         IsPacketOf to.window from.window p → Carries from to messages →
         Carries (link_accepted from p) to messages }
+    // What is due can be written down.
+    ensures made { (from to : TheLink) (messages back : Seq (Seq ℕ)) (again heard : Bool) →
+        (p : ThePacket) → Carries from to messages → Carries to from back →
+        In p (due_of from.window again heard) → IsPacket p }
     ensures other_push { (from to : TheLink) (messages : Seq (Seq ℕ)) (message : Seq ℕ) →
         Carries from to messages → Carries from (link_pushed to message) messages }
     ensures other_due { (from to : TheLink) (messages : Seq (Seq ℕ)) →
         Carries from to messages → Carries from (link_sent to) messages }
+{}
+
+/// What is written of a packet is read as that packet.
+pub fn packets_are_read_back()
+    ensures { (p : ThePacket) → IsPacket p → packet_at (packet_text p) ≡ Found p }
 {}
 
 /// An actor's links: what changes one of them leaves the others, all are counted as sent together, and what was sent

@@ -1,7 +1,7 @@
 use crate::error::LinkError;
 use crate::law::{
-    each_actor_has_a_link, in_order, messages_stay_in_order, packets_stay_honest,
-    segments_stay_in_order,
+    each_actor_has_a_link, in_order, messages_stay_in_order, packets_are_read_back,
+    packets_stay_honest, segments_stay_in_order,
 };
 use crate::packet::{Packet, read_packet, write_packet};
 use crate::post::Post;
@@ -76,6 +76,7 @@ fn each_segment_once_and_in_order(rt: HostRuntime) -> Result<(), Fail> {
     in_order();
     segments_stay_in_order();
     packets_stay_honest();
+    packets_are_read_back();
     messages_stay_in_order();
     each_actor_has_a_link();
     Ok(())
