@@ -1,9 +1,11 @@
 -- One piece after another.
-use Rattle.std.proofs.Common.{◌≡◌, ℕ, suc, ◌-◌, ◌≤◌, min, List, [], ◌∷◌, ◌++◌, length, take, drop, refl, sym, ap, ◌∙◌, append_assoc, inl, inr, arith}
+use Rattle.std.proofs.Common.{◌≡◌, ℕ, zero, suc, ◌+◌, ◌-◌, ◌*◌, ◌<◌, ◌≤◌, min, subst, List, [], ◌∷◌, ◌++◌, length, take, drop, refl, sym, ap, ◌∙◌, append_assoc, inl, inr, arith}
 use Rattle.std.proofs.lemmas.Bool.{cases_lt}
-use Rattle.std.proofs.lemmas.List.{length-drop, take_all}
+use Rattle.std.proofs.lemmas.List.{length-drop, length-take, take_all}
 use Rattle.std.proofs.Math.ListN.{drop_of_length-le}
-use Rattle.fs_frag.specs.Cut.{pieces, piece_count}
+use Rattle.fs_ident.specs.In.{In}
+use Rattle.fs_frag.specs.Cut.{framed, pieces, piece_count, cut_of}
+use Rattle.fs_frag.specs.Segment.{IsSegment}
 
 -- bytes that are there have one piece more than what lies behind their first 1,024
 pub piece_count-more : (len : ℕ) → 1 ≤ len → piece_count len ≡ suc (piece_count (len - 1024))
@@ -26,3 +28,18 @@ pub pieces_step : (done : List (List ℕ)) (bytes : List ℕ) (n : ℕ) (total :
 pieces_step done bytes n total h e so_far =
     let k = cut_at_end n bytes e in
     rw (k.0, k.1, append_assoc) (ap (λ (x : List (List ℕ)). done ++ x) (sym (pieces-more bytes h)) ∙ so_far)
+
+-- each piece of bytes that are there is a segment
+pieces_in : (n : ℕ) (bytes s : List ℕ) → 1024 * n < length bytes + 1024 → In s (pieces n bytes) → IsSegment s
+pieces_in zero bytes s h i = absurd i
+pieces_in (suc n) bytes s h i =
+    let len = length-take 1024 bytes in
+    let left = length-drop 1024 bytes in
+    let first : IsSegment (take 1024 bytes) = record { some = omega arith; few = omega arith } in
+    elim i [
+      | inl e ↦ subst (λ (x : List ℕ). IsSegment x) (sym e) first
+      | inr j ↦ pieces_in n (drop 1024 bytes) s (omega arith) j
+    ]
+
+pub cut_in : (message s : List ℕ) → In s (cut_of message) → IsSegment s
+cut_in message s i = pieces_in (piece_count (length (framed message))) (framed message) s (omega arith) i

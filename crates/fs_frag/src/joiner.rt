@@ -59,8 +59,8 @@ impl Joiner {
         answer
     }
 
-    /// Takes the next segments, all of them or none, and gives what they complete, in order, and how to undo it. The bytes
-    /// that are held already are not copied.
+    /// Takes the next segments, all of them or none, and gives what they complete, in order, and how to undo it. The
+    /// bytes that are held already are not copied.
     pub fn add_all(
         &mut self,
         alloc: Global,

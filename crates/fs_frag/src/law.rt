@@ -2,13 +2,17 @@
 ghost use Rattle.std.specs.Prelude.{◌≡◌, ◌<◌, ◌^◌, ◌++◌, ◌∷◌, ℕ, [], length, flat_map, IsOk};
 ghost use Rattle.std.specs.Prelude.{List as Seq};
 ghost use Rattle.std.specs.List.{AllByRecursion};
+ghost use Rattle.fs_ident.specs.In.{In};
 ghost use Rattle.fs_frag.specs.Coming.{IsComing, HaveCome};
 ghost use Rattle.fs_frag.specs.Cut.{cut_of};
+ghost use Rattle.fs_frag.specs.Segment.{IsSegment};
 ghost use Rattle.fs_frag.specs.Joined.{answers, answers_for, messages_of};
 
-/// A new joiner that is given the segments of messages, one message after another, gives these messages in
-/// order, whole and once, each at its last segment.
+/// A message is cut into segments. A new joiner that is given the segments of messages, one message after another,
+/// gives these messages in order, whole and once, each at its last segment.
 pub fn joined_is_cut()
+    ensures segments { (message segment : Seq ℕ) →
+        In segment (cut_of message) → IsSegment segment }
     ensures whole_and_once { (messages : Seq (Seq ℕ)) →
         AllByRecursion (λ m. length m < 2 ^ 64) messages →
         messages_of (answers [] (flat_map cut_of messages)) ≡ messages }

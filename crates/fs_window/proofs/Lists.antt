@@ -1,6 +1,7 @@
 -- Lists: the element at a place, and what is made of the elements one after another.
-use Rattle.std.proofs.Common.{◌≡◌, ℕ, zero, suc, ◌+◌, ◌<◌, List, [], ◌∷◌, ◌++◌, length, map, get_or, drop, Option, Some, refl, sym, ap, ◌∙◌, append_assoc, arith}
+use Rattle.std.proofs.Common.{◌≡◌, ℕ, zero, suc, ◌+◌, ◌<◌, List, [], ◌∷◌, ◌++◌, length, map, get_or, take, drop, Option, Some, refl, sym, ap, ◌∙◌, append_assoc, inl, inr, arith}
 use Rattle.std.specs.Prelude.{slice_get}
+use Rattle.fs_ident.specs.In.{In}
 use Rattle.std.proofs.lemmas.List.{drop-drop, drop_more}
 
 abbrev some_of : {A : Type 0} → A → Option A
@@ -35,6 +36,19 @@ get_behind (z ∷ xs) ys k =
 
 pub drop_next : (xs : List (List ℕ)) (n : ℕ) (w : List ℕ) (ws : List (List ℕ)) → drop n xs ≡ w ∷ ws → drop (n + 1) xs ≡ ws
 drop_next xs n w ws e = sym (drop-drop 1 n xs) ∙ ap (λ (x : List (List ℕ)). drop 1 x) e
+
+pub in_dropped : (n : ℕ) (xs : List (List ℕ)) (s : List ℕ) → In s (drop n xs) → In s xs
+in_dropped zero xs s i = i
+in_dropped (suc n) [] s i = absurd i
+in_dropped (suc n) (x ∷ xs) s i = inr (in_dropped n xs s i)
+
+pub in_taken : (n : ℕ) (xs : List (List ℕ)) (s : List ℕ) → In s (take n xs) → In s xs
+in_taken zero xs s i = absurd i
+in_taken (suc n) [] s i = absurd i
+in_taken (suc n) (x ∷ xs) s i = elim i [
+  | inl e ↦ inl e
+  | inr j ↦ inr (in_taken n xs s j)
+]
 
 -- what was made of the first elements, with what is made of one more
 pub mapped_next : {X Y : Type 0} (f : X → Y) (xs : List X) (i : ℕ) (x : X) (y : Y) (done total : List Y) → i < length xs → x ≡ get_or xs i x → y ≡ f x

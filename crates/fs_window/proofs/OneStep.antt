@@ -7,7 +7,7 @@ use Rattle.fs_ident.specs.In.{In}
 use Rattle.fs_window.specs.declared.packet.Packet.{Packet}
 use Rattle.fs_window.specs.LinkEnd.{LinkEnd, new_link_end, pushed_count, after_pushes, moved, acked_after, given_by, got_after, after_accept, packets_from, unsent, unacked, with_bodies, or_alone, due_of, after_due}
 use Rattle.fs_window.specs.OnTheWay.{on_the_way, IsDirection, IsBodyOf, IsPacketOf}
-use Rattle.fs_window.proofs.Lists.{some_is, get_more, get_drop, get_past, get_behind, drop_next}
+use Rattle.fs_window.proofs.Lists.{some_is, get_more, get_drop, get_past, get_behind, drop_next, in_dropped, in_taken}
 
 -- ---- new ends
 
@@ -125,7 +125,7 @@ bodies_from from to ack n (suc k) (w ∷ ws) h low e p i =
       | inr j ↦ bodies_from from to ack (n + 1) k ws h (omega arith) (ap (λ (x : ℕ). drop x from.waiting) (sym next) ∙ drop_next from.waiting (n - old) w ws e) p j
     ]
 
-in_both : {X : Type 0} (x : X) (xs ys : List X) (P : Type 0) → (In x xs → P) → (In x ys → P) → In x (xs ++ ys) → P
+pub in_both : {X : Type 0} (x : X) (xs ys : List X) (P : Type 0) → (In x xs → P) → (In x ys → P) → In x (xs ++ ys) → P
 in_both x [] ys P f g i = g i
 in_both x (z ∷ xs) ys P f g i = elim i [
   | inl e ↦ f (inl e)
@@ -168,6 +168,26 @@ made_packet from to again heard p h i = in_due from again heard p (λ (q : Packe
           | inr le ↦ (let first : from.acked - min from.acked from.sent ≡ 0 = omega arith in
               packet q (bodies_from from to from.got from.acked (from.sent - from.acked) from.waiting h (omega arith) (ap (λ (k : ℕ). drop k from.waiting) first) q j))
         ]
+
+-- what is said of the segment of a body, if there is one
+abbrev pub BodyIs : (List ℕ → Type 0) → Option (ℕ × List ℕ) → Type 0
+BodyIs P None = Unit {0}
+BodyIs P (Some b) = P b.1
+
+bodies_are : (P : List ℕ → Type 0) (ack n : ℕ) (ss : List (List ℕ)) → ((s : List ℕ) → In s ss → P s) → (p : Packet) → In p (packets_from ack n ss) → BodyIs P p.body
+bodies_are P ack n [] f p i = absurd i
+bodies_are P ack n (s ∷ ss) f p i = elim i [
+  | inl e ↦ subst (λ (x : Packet). BodyIs P x.body) (sym e) (f s (inl refl))
+  | inr j ↦ bodies_are P ack (n + 1) ss (λ t k. f t (inr k)) p j
+]
+
+-- what an end makes has segments that wait there
+pub made_waits : (l : LinkEnd) (again heard : Bool) (p : Packet) → In p (due_of l again heard) → BodyIs (λ s. In s l.waiting) p.body
+made_waits l again heard p i =
+    in_due l again heard p (λ (q : Packet). BodyIs (λ s. In s l.waiting) q.body)
+    (bodies_are (λ s. In s l.waiting) l.got l.sent (unsent l) (λ s k. in_dropped (l.sent - l.acked) l.waiting s (in_taken (l.acked + l.width - l.sent) (drop (l.sent - l.acked) l.waiting) s k)))
+    (bodies_are (λ s. In s l.waiting) l.got l.acked (unacked l) (λ s k. in_taken (l.sent - l.acked) l.waiting s k))
+    tt i
 
 -- ---- a packet of the other end comes back
 

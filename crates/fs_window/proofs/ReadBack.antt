@@ -1,13 +1,15 @@
 -- What is read from bytes is spelled so.
-use Rattle.std.proofs.Common.{◌≡◌, ℕ, zero, suc, ◌+◌, ◌^◌, ◌<◌, ◌≤◌, Bool, true, false, cond, ltb, eqb, List, [], ◌∷◌, ◌++◌, length, get_or, take, drop, Option, Some, None, option_map, refl, sym, ap, subst, ◌∙◌, arith, inl, inr}
+use Rattle.std.proofs.Common.{◌≡◌, ℕ, zero, suc, ◌+◌, ◌^◌, ◌<◌, ◌≤◌, Bool, true, false, cond, ltb, leb, eqb, List, [], ◌∷◌, ◌++◌, length, get_or, take, drop, Option, Some, None, option_map, refl, sym, ap, subst, ◌∙◌, arith, inl, inr}
 use Rattle.std.specs.Int.{w64, from_be_bytes, to_be_bytes}
 use Rattle.std.specs.Prelude.{option_and_then}
-use Rattle.std.proofs.lemmas.Bool.{cases_lt, eqb-true, ltb-false}
-use Rattle.std.proofs.lemmas.List.{take-append-drop, length-take, get_or-drop, get_or-take, get_or_past}
-use Rattle.std.proofs.lemmas.Nat.{be_bytes_8}
-use Rattle.fs_window.specs.Packet.{body_text}
+use Rattle.std.proofs.lemmas.Bool.{cases_lt, eqb-true, ltb-false, le-ltb, le-leb, and_from}
+use Rattle.std.proofs.lemmas.List.{take-append-drop, length-append, take_at, drop_at, length-take, get_or-drop, get_or-take, get_or_past}
+use Rattle.std.proofs.lemmas.Nat.{be_bytes_8, from_be_bytes-to_be_bytes_8}
+use Rattle.fs_frag.specs.Segment.{IsSegment}
+use Rattle.fs_window.specs.declared.packet.Packet.{Packet}
+use Rattle.fs_window.specs.Packet.{IsBody, IsPacket, body_text, packet_text}
 use Rattle.fs_ident.specs.Bytes.{number_in_front}
-use Rattle.fs_window.specs.Reading.{body_at, parts_at}
+use Rattle.fs_window.specs.Reading.{body_at, parts_at, is_segment, packet_with, packet_at}
 
 abbrev pub IsBytes : List ℕ → Type 0
 IsBytes bytes = (i : ℕ) → get_or bytes i 0 < 256
@@ -106,3 +108,33 @@ parts_read (b ∷ bytes) ack body fits e =
       number_fits = t.1;
     } in
     subst (λ (p : ℕ × Option (ℕ × List ℕ)). ArePartsOf (b ∷ bytes) p.0 p.1) x.2 made
+
+-- ---- what is written is read
+
+number_written : (n : ℕ) (rest : List ℕ) → n < 2 ^ 64 → number_in_front (to_be_bytes w64 n ++ rest) ≡ Some (n, rest)
+number_written n rest h =
+    let bytes = to_be_bytes w64 n ++ rest in
+    let len : length bytes ≡ 8 + length rest = length-append (to_be_bytes w64 n) rest in
+    let number : from_be_bytes w64 (take 8 bytes) ≡ n = ap (λ (x : List ℕ). from_be_bytes w64 x) (take_at (to_be_bytes w64 n) rest 8 refl) ∙ from_be_bytes-to_be_bytes_8 n h in
+    rw (le-ltb (length bytes) 8 (omega arith)) (ap (λ (x : ℕ). some_of (x, drop 8 bytes)) number ∙ ap (λ (x : List ℕ). some_of (n, x)) (drop_at (to_be_bytes w64 n) rest 8 refl))
+
+is_one : (s : List ℕ) → IsSegment s → is_segment s ≡ true
+is_one s h = and_from (leb 1 (length s)) (leb (length s) 1024) (le-leb 1 (length s) h.some) (le-leb (length s) 1024 h.few)
+
+body_written : (body : Option (ℕ × List ℕ)) → IsBody body → body_at (body_text body) ≡ Some body
+body_written None h = refl
+body_written (Some b) h = ap (λ (o : Option (ℕ × List ℕ)). option_map (λ n. some_of n) o) (number_written b.0 b.1 h.0)
+
+with_body : (ack : ℕ) (body : Option (ℕ × List ℕ)) → IsBody body → packet_with ack body ≡ Some (record { ack = ack; body = body })
+with_body ack None h = refl
+with_body ack (Some b) h = ap (λ (t : Bool). cond t (some_packet ack b) None) (is_one b.1 h.1)
+  where
+    some_packet : ℕ → ℕ × List ℕ → Option Packet
+    some_packet a x = Some (record { ack = a; body = Some x })
+
+pub written : (p : Packet) → IsPacket p → packet_at (packet_text p) ≡ Some p
+written p h =
+    let parts : parts_at (packet_text p) ≡ Some (p.ack, p.body) =
+    ap (λ (o : Option (ℕ × List ℕ)). option_and_then (λ n. option_map (λ body. (n.0, body)) (body_at n.1)) o) (number_written p.ack (body_text p.body) h.ack)
+    ∙ ap (λ (o : Option (Option (ℕ × List ℕ))). option_map (λ body. (p.ack, body)) o) (body_written p.body h.body) in
+    ap (λ (o : Option (ℕ × Option (ℕ × List ℕ))). option_and_then (λ x. packet_with x.0 x.1) o) parts ∙ with_body p.ack p.body h.body

@@ -1,7 +1,9 @@
 -- One direction of a link: what was pushed at one end and is on its way to the other.
 use Rattle.std.specs.Prelude.{◌≡◌, ℕ, ◌+◌, ◌-◌, ◌^◌, ◌<◌, ◌≤◌, min, List, ◌++◌, drop, length, map, Option, Some, None, slice_get}
+use Rattle.fs_ident.specs.In.{In}
 use Rattle.fs_frag.specs.Coming.{IsComing}
 use Rattle.fs_frag.specs.declared.joined.Joined.TheVariants.{Whole}
+use Rattle.fs_frag.specs.Segment.{IsSegment}
 use Rattle.fs_window.specs.declared.link.Link.{Link}
 use Rattle.fs_window.specs.declared.packet.Packet.{Packet}
 use Rattle.fs_window.specs.LinkEnd.{LinkEnd, pushed_count}
@@ -37,6 +39,7 @@ pub record HasGiven (from to : LinkEnd) (pushed given : List (List ℕ)) : Type 
 
 -- these messages were pushed at one end and did not come whole at the other yet
 pub record Carries (from to : Link) (messages : List (List ℕ)) : Type 0 where
+  pub segments : (s : List ℕ) → In s from.window.waiting → IsSegment s
   pub direction : IsDirection from.window to.window
   pub coming : IsComing to.joiner (on_the_way from.window to.window) messages
 

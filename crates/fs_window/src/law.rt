@@ -1,6 +1,6 @@
 //! What links are for.
 ghost use Rattle.std.specs.Prelude.{◌≡◌, ◌+◌, ◌<◌, ◌^◌, ◌++◌, ◌∷◌, [], ℕ, Bool, true, length, if◌then◌else◌};
-ghost use Rattle.std.specs.Prelude.{Option as Maybe, List as Seq};
+ghost use Rattle.std.specs.Prelude.{Option as Maybe, Some as Found, List as Seq};
 ghost use Rattle.fs_ident.specs.In.{In};
 ghost use Rattle.fs_ident.specs.declared.actor.Peer.{Peer as Actor};
 ghost use Rattle.fs_frag.specs.Cut.{cut_of};
@@ -10,6 +10,8 @@ ghost use Rattle.fs_window.specs.declared.sent.Sent.{Sent as TheSent};
 ghost use Rattle.fs_window.specs.Ends.{Event, run, new_ends, IsDeliveredPrefix, IsPrefixOf};
 ghost use Rattle.fs_window.specs.LinkEnd.{LinkEnd, new_link_end, pushed_count, after_pushes, given_by, after_accept, due_of, after_due};
 ghost use Rattle.fs_window.specs.OnTheWay.{IsDirection, IsPacketOf, HasGiven, Carries, HasHeard};
+ghost use Rattle.fs_window.specs.Packet.{IsPacket, packet_text};
+ghost use Rattle.fs_window.specs.Reading.{packet_at};
 ghost use Rattle.fs_window.specs.Peers.{same_peer, are_peers_in_order};
 ghost use Rattle.fs_window.specs.Post.{Links, new_link, link_pushed, link_accepted, link_sent, link_with, with_link, links_sent, post_due, WasSent};
 
@@ -17,9 +19,9 @@ ghost use Rattle.fs_window.specs.Post.{Links, new_link, link_pushed, link_accept
 /// and no end takes as acknowledged what the other end was not given. So it is in both directions.
 pub fn in_order()
     ensures to_the_right { (left right : ℕ) (events : Seq (Bool × Event)) →
-        IsDeliveredPrefix (run events (new_ends left right)).left (run events (new_ends left right)).right }
+        let ends = run events (new_ends left right) in IsDeliveredPrefix ends.left ends.right }
     ensures to_the_left { (left right : ℕ) (events : Seq (Bool × Event)) →
-        IsDeliveredPrefix (run events (new_ends left right)).right (run events (new_ends left right)).left }
+        let ends = run events (new_ends left right) in IsDeliveredPrefix ends.right ends.left }
 {}
 
 /// One direction of a link, event by event. What was given at one end, followed by what is on its way, is what was
@@ -76,7 +78,8 @@ pub fn messages_stay_in_order()
     ensures new { (a b : ℕ) → Carries (new_link a) (new_link b) [] }
     ensures push { (from to : TheLink) (messages : Seq (Seq ℕ)) (message : Seq ℕ) →
         length message < 2 ^ 64 → pushed_count from.window + length (cut_of message) < 2 ^ 64 →
-        Carries from to messages → Carries (link_pushed from message) to (messages ++ message ∷ []) }
+        Carries from to messages →
+        Carries (link_pushed from message) to (messages ++ message ∷ []) }
     ensures due { (from to : TheLink) (messages : Seq (Seq ℕ)) →
         Carries from to messages → Carries (link_sent from) to messages }
     // A packet of the end that pushes comes at the other.
@@ -87,10 +90,19 @@ pub fn messages_stay_in_order()
     ensures back { (from to : TheLink) (messages : Seq (Seq ℕ)) (p : ThePacket) →
         IsPacketOf to.window from.window p → Carries from to messages →
         Carries (link_accepted from p) to messages }
+    // What is due can be written down.
+    ensures made { (from to : TheLink) (messages back : Seq (Seq ℕ)) (again heard : Bool) →
+        (p : ThePacket) → Carries from to messages → Carries to from back →
+        In p (due_of from.window again heard) → IsPacket p }
     ensures other_push { (from to : TheLink) (messages : Seq (Seq ℕ)) (message : Seq ℕ) →
         Carries from to messages → Carries from (link_pushed to message) messages }
     ensures other_due { (from to : TheLink) (messages : Seq (Seq ℕ)) →
         Carries from to messages → Carries from (link_sent to) messages }
+{}
+
+/// What is written of a packet is read as that packet.
+pub fn packets_are_read_back()
+    ensures { (p : ThePacket) → IsPacket p → packet_at (packet_text p) ≡ Found p }
 {}
 
 /// An actor's links: what changes one of them leaves the others, all are counted as sent together, and what was sent

@@ -20,8 +20,8 @@ pub use error::LinkError;
 pub use fs_frag::Joined;
 pub use heard::Heard;
 pub use law::{
-    each_actor_has_a_link, in_order, messages_stay_in_order, packets_stay_honest,
-    segments_stay_in_order,
+    each_actor_has_a_link, in_order, messages_stay_in_order, packets_are_read_back,
+    packets_stay_honest, segments_stay_in_order,
 };
 pub use packet::{Packet, read_packet, write_packet};
 pub use post::Post;

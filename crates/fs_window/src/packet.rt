@@ -1,7 +1,7 @@
 //! Packets, and their bytes.
 ghost use Rattle.std.specs.Prelude.{◌≡◌, ◌++◌, IfOk, IfSome, OnOk, OnErr, Some, option_map};
 ghost use Rattle.fs_window.specs.Packet.{IsPacket, packet_text, body_text};
-ghost use Rattle.fs_window.specs.Reading.{body_at, parts_at};
+ghost use Rattle.fs_window.specs.Reading.{body_at, parts_at, packet_at};
 ghost use Rattle.fs_window.specs.declared.packet.Packet.{Packet};
 
 use fs_frag::Segment;
@@ -33,6 +33,7 @@ impl Twin for Packet {
 
 /// The packet that all of these bytes spell; `None` exactly where they spell none.
 pub fn read_packet(alloc: Global, bytes: &[u8]) -> Result<Option<Packet>, Memory>
+    ensures exact { IfOk result (λ made. made ≡ packet_at bytes.now) }
     // What is read is spelled so.
     ensures found { IfOk result (λ made. IfSome made (λ p. IsPacket p ×
         (bytes.now ≡ packet_text p))) }

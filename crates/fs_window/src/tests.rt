@@ -1,8 +1,12 @@
 use crate::error::LinkError;
-use crate::law::in_order;
+use crate::law::{
+    each_actor_has_a_link, in_order, messages_stay_in_order, packets_are_read_back,
+    packets_stay_honest, segments_stay_in_order,
+};
 use crate::packet::{Packet, read_packet, write_packet};
 use crate::post::Post;
 use crate::sent::Sent;
+use crate::undo::Undo;
 use crate::window::Window;
 use fs_frag::{Segment, cut};
 use fs_ident::{List, Memory, Peer, Session, Twin};
@@ -70,6 +74,11 @@ fn each_segment_once_and_in_order(rt: HostRuntime) -> Result<(), Fail> {
     }
     assert_eq!(rt; window.got(), 2);
     in_order();
+    segments_stay_in_order();
+    packets_stay_honest();
+    packets_are_read_back();
+    messages_stay_in_order();
+    each_actor_has_a_link();
     Ok(())
 }
 
@@ -116,9 +125,12 @@ fn copies_what_was_sent(rt: HostRuntime) -> Result<(), Fail> {
     Ok(())
 }
 
-/// The packet that these bytes spell.
-fn packet_of(alloc: Global, sent: &Sent) -> Result<Packet, Fail> {
-    Ok(read_packet(alloc, sent.bytes.as_slice())?.ok_or("it is a packet")?)
+/// How many segments the first packet gave, and how many messages.
+fn told(alloc: Global, to: &mut Post, from: Peer, sent: &List<Sent>) -> Result<(u64, usize), Fail> {
+    let sent = sent.as_slice().first().ok_or("one is sent")?;
+    let packet = read_packet(alloc, sent.bytes.as_slice())?.ok_or("it is a packet")?;
+    let heard = to.accept(alloc, from, &packet)?;
+    Ok((heard.fresh, heard.joined.len()))
 }
 
 #[test]
@@ -130,26 +142,41 @@ fn messages_over_a_network(rt: HostRuntime) -> Result<(), Fail> {
     let mut right = Post::new(alloc, server, 1)?;
     left.push(alloc, server, &[7; 1016])?;
     left.push(alloc, server, &[8; 1017])?;
-    assert_eq!(rt; left.pushed(server), 3);
-    assert_eq!(rt; right.pushed(client), 0);
-    // Each packet is told twice, and on its turn the sender sends what was not acknowledged again.
-    for (fresh, whole) in [(1, true), (1, false), (1, true)] {
+    assert_eq!(rt; (left.pushed(server), right.pushed(client)), (3, 0));
+    // Each segment is told twice: a turn sends again what was not acknowledged.
+    for whole in [1, 0, 1] {
         let sent = left.due(alloc, false, None)?;
         let again = left.due(alloc, true, None)?;
-        assert_eq!(rt; (sent.len(), again.len()), (1, 1));
-        for (packet, fresh, whole) in [(&sent, fresh, whole), (&again, 0, false)] {
-            let told = packet_of(alloc, &packet.as_slice()[0])?;
-            let heard = right.accept(alloc, client, &told)?;
-            assert_eq!(rt; heard.fresh, fresh);
-            assert_eq!(rt; heard.joined.len() == 1, whole);
-        }
+        assert_eq!(rt; told(alloc, &mut right, client, &sent)?, (1, whole));
+        assert_eq!(rt; told(alloc, &mut right, client, &again)?, (0, 0));
         let answer = right.due(alloc, false, Some(client))?;
-        assert_eq!(rt; answer.len(), 1);
-        assert!(rt; answer.as_slice()[0].to == client);
-        left.accept(alloc, server, &packet_of(alloc, &answer.as_slice()[0])?)?;
+        assert_eq!(rt; told(alloc, &mut left, server, &answer)?, (0, 0));
     }
     assert_eq!(rt; right.got(client), 3);
     assert!(rt; left.due(alloc, true, None)?.is_empty());
     assert!(rt; right.copy(alloc)?.due(alloc, true, None)?.is_empty());
+    Ok(())
+}
+
+#[test]
+fn what_was_done_is_undone(rt: HostRuntime) -> Result<(), Fail> {
+    let alloc = rt.alloc();
+    let server = Peer::Server(0);
+    let mut post = Post::new(alloc, Peer::Client(Session(1)), 1)?;
+    post.push(alloc, server, &[65])?;
+    post.accept(alloc, server, &packet(rt, 0, 7)?)?;
+    let mut undo = Undo::new(alloc);
+    post.push_with_undo(alloc, server, &[66], &mut undo)?;
+    post.push_with_undo(alloc, Peer::Server(1), &[67], &mut undo)?;
+    let heard = post.accept_with_undo(alloc, server, &packet(rt, 1, 8)?, &mut undo)?;
+    assert_eq!(rt; heard.fresh, 1);
+    assert_eq!(rt; (post.pushed(server), post.got(server)), (2, 2));
+    assert_eq!(rt; post.pushed(Peer::Server(1)), 1);
+    post.undo(undo);
+    assert_eq!(rt; (post.pushed(server), post.got(server)), (1, 1));
+    assert_eq!(rt; post.pushed(Peer::Server(1)), 0);
+    assert_eq!(rt; post.packets(alloc, false, None)?.len(), 1);
+    post.mark_sent();
+    assert!(rt; post.packets(alloc, false, None)?.is_empty());
     Ok(())
 }

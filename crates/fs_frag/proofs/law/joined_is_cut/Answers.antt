@@ -1,5 +1,9 @@
 use Rattle.fs_frag.proofs.Joins.{joins_all, whole_and_once, joined_so_far, never_over}
+use Rattle.fs_frag.proofs.Pieces.{cut_in}
 use Rattle.fs_frag.proofs.law.joined_is_cut.Goals as goal
+
+pub returns-clause-segments : goal.returns-clause-segments
+returns-clause-segments c = cut_in
 
 pub returns-clause-whole_and_once : goal.returns-clause-whole_and_once
 returns-clause-whole_and_once c = whole_and_once

@@ -1,4 +1,4 @@
-use Rattle.fs_window.proofs.Carried.{carries_new, carries_pushed, carries_sent, carries_told, carries_back, carries_other_pushed, carries_other_sent}
+use Rattle.fs_window.proofs.Carried.{carries_new, carries_pushed, carries_sent, carries_told, carries_back, carries_other_pushed, carries_other_sent, made_fits}
 use Rattle.fs_window.proofs.law.messages_stay_in_order.Goals as goal
 
 pub returns-clause-new : goal.returns-clause-new
@@ -21,3 +21,6 @@ returns-clause-other_push c = carries_other_pushed
 
 pub returns-clause-other_due : goal.returns-clause-other_due
 returns-clause-other_due c = carries_other_sent
+
+pub returns-clause-made : goal.returns-clause-made
+returns-clause-made c = made_fits
