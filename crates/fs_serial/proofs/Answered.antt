@@ -24,7 +24,8 @@ use Rattle.fs_record.specs.Effects.{effects_of, tells_its_effects}
 use Rattle.fs_record.specs.Records.{RecordMap, nodes_of}
 use Rattle.fs_record.specs.ValueOf.{value_of}
 use Rattle.fs_record.proofs.Stepping.{effects_lead}
-use Rattle.fs_view.specs.Laws.{IsNewWhereMade, records_after_all}
+use Rattle.fs_record.specs.Applied.{records_after_all}
+use Rattle.fs_view.specs.Laws.{IsNewWhereMade}
 use Rattle.fs_view.specs.Script.{unless, no_dir, taken_name, made_reply, ask_place, new_file}
 use Rattle.fs_view.specs.Walk.{walk, known_in, always}
 use Rattle.fs_view.proofs.Replies.{reply_along, replies}

@@ -23,7 +23,7 @@ use Rattle.fs_record.specs.Records.{RecordMap, AreRecords, nodes_of}
 use Rattle.fs_record.specs.ValueOf.{value_of, value_at}
 use Rattle.fs_record.proofs.Kept.{after_kept}
 use Rattle.fs_record.proofs.NodeMaps.{node_there, nodes_alike}
-use Rattle.fs_view.specs.Laws.{records_after_all}
+use Rattle.fs_record.specs.Applied.{records_after_all}
 use Rattle.fs_view.specs.Walk.{known_in}
 use Rattle.fs_serial.specs.Fresh.{made, made_in, made_by, or_else, root_kind, IsMade, IsAtOrBelow}
 use Rattle.fs_serial.specs.Numbers.{is_session, items_by}

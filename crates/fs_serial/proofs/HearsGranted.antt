@@ -23,10 +23,10 @@ use Rattle.fs_msg.specs.declared.entry.Entry.{Entry}
 use Rattle.fs_msg.specs.declared.item.Item.{Item}
 use Rattle.fs_client.specs.Answers.{answer_fits, fresh_fits, grants_fit, rest_fits, is_new, is_of_item, lease_in, leases_in, full_told}
 use Rattle.fs_client.specs.Client.{with_granted}
-use Rattle.fs_client.specs.Temp.{kept_new, with_grants}
+use Rattle.fs_view.specs.View.{kept_new, with_grants}
 use Rattle.fs_client.specs.declared.exchange.Exchange.{Exchange}
 use Rattle.fs_client.specs.declared.exchange.Exchange.TheVariants.{Asks, Renews, Releases, Ships}
-use Rattle.fs_client.specs.declared.new_lease.NewLease.{NewLease}
+use Rattle.fs_view.specs.declared.new_lease.NewLease.{NewLease}
 use Rattle.fs_client.specs.declared.state.Client.{Client}
 use Rattle.fs_view.specs.declared.kept.Kept.{Kept}
 use Rattle.fs_view.specs.Kept.{number_of, has_number, is_leaving, entries_of}
