@@ -131,7 +131,7 @@ seat_ships skew greatest s by replied c up down idle open_ h = seat_asking skew 
 
 -- ## Leases are renewed
 
-pair_numbers_of : (ks : List Kept) → pair_numbers (map pair_of ks) ≡ numbers_in ks
+pub pair_numbers_of : (ks : List Kept) → pair_numbers (map pair_of ks) ≡ numbers_in ks
 pair_numbers_of [] = refl
 pair_numbers_of (k ∷ ks) = ap (λ ns. number_of k.standing ∷ ns) (pair_numbers_of ks)
 
@@ -209,7 +209,7 @@ one_lease n k l = within (has_number n k)
     within true h = let q = lease_by k (lease_of (leaving k.standing)) l h in ap (option_map (lease_with k)) (leave_lease k.standing q.0 q.1) ∙ ap Some q.2
     within false h = h
 
-came_all : (ns : List LeaseNo) (v : View) (k : Kept) → In k (leaving_all ns v).leases → CameFrom v.leases k
+pub came_all : (ns : List LeaseNo) (v : View) (k : Kept) → In k (leaving_all ns v).leases → CameFrom v.leases k
 came_all [] v k i = record { kept = k; among = i; number = refl; entries = refl; lease = λ l h. h }
 came_all (n ∷ ns) v k i =
     let q = came_all ns (with_leaving n v) k i in
@@ -249,7 +249,7 @@ one_goes n k h = within (has_number n k)
     within true = goes_still k.standing h
     within false = h
 
-goes_all : (ns : List LeaseNo) (v : View) (k : Kept) → In k v.leases → GoesTo (leaving_all ns v).leases k
+pub goes_all : (ns : List LeaseNo) (v : View) (k : Kept) → In k v.leases → GoesTo (leaving_all ns v).leases k
 goes_all [] v k i = record { kept = k; among = i; number = refl; leaving = λ h. h; pinned = λ h. refl }
 goes_all (n ∷ ns) v k i =
     let q = goes_all ns (with_leaving n v) (one_leaves n k) (In-mapped (one_leaves n) k v.leases i) in
@@ -262,7 +262,7 @@ goes_all (n ∷ ns) v k i =
     }
 
 -- an unused lease of these numbers goes back then
-left_all : (ns : List LeaseNo) (v : View) (k : Kept) → In k v.leases → In (number_of k.standing) ns → is_pinned k.standing ≡ false → IsReturned (leaving_all ns v).leases (number_of k.standing)
+pub left_all : (ns : List LeaseNo) (v : View) (k : Kept) → In k v.leases → In (number_of k.standing) ns → is_pinned k.standing ≡ false → IsReturned (leaving_all ns v).leases (number_of k.standing)
 left_all [] v k i n h = absurd n
 left_all (n ∷ ns) v k i (inl e) h =
     let there : has_number n k ≡ true = ap (λ m. same_no m n) e ∙ same_no_self n in
@@ -274,20 +274,20 @@ left_all (n ∷ ns) v k i (inr j) h =
     subst (IsReturned (leaving_all ns (with_leaving n v)).leases) number
     (left_all ns (with_leaving n v) (one_leaves n k) (In-mapped (one_leaves n) k v.leases i) (subst (λ m. In m ns) (sym number) j) (one_keeps is_pinned leave_pinned n k ∙ h))
 
-all_session : (ns : List LeaseNo) (v : View) → (leaving_all ns v).session ≡ v.session
+pub all_session : (ns : List LeaseNo) (v : View) → (leaving_all ns v).session ≡ v.session
 all_session [] v = refl
 all_session (n ∷ ns) v = all_session ns (with_leaving n v)
 
-all_pending : (ns : List LeaseNo) (v : View) → (leaving_all ns v).pending ≡ v.pending
+pub all_pending : (ns : List LeaseNo) (v : View) → (leaving_all ns v).pending ≡ v.pending
 all_pending [] v = refl
 all_pending (n ∷ ns) v = all_pending ns (with_leaving n v)
 
-all_distinct : (ns : List LeaseNo) (v : View) → KeptDistinct v.leases → KeptDistinct (leaving_all ns v).leases
+pub all_distinct : (ns : List LeaseNo) (v : View) → KeptDistinct v.leases → KeptDistinct (leaving_all ns v).leases
 all_distinct [] v h = h
 all_distinct (n ∷ ns) v h = all_distinct ns (with_leaving n v) (distinct_mapped (one_leaves n) (one_keeps number_of leave_number n) v.leases h)
 
 -- what has to go back no entry uses
-unused_returned : (recalled : Bool) (s : Standing) → has_to_go recalled s ≡ true → is_pinned s ≡ false
+pub unused_returned : (recalled : Bool) (s : Standing) → has_to_go recalled s ≡ true → is_pinned s ≡ false
 unused_returned recalled (Held l) h = refl
 unused_returned recalled (Pinned u) h = absurd (cc)
 unused_returned recalled (Leaving l) h = refl
