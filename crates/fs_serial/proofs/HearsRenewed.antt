@@ -1,6 +1,6 @@
 -- A client hears the new ends of leases.
 use Rattle.std.proofs.Common.{◌≡◌, ℕ, zero, suc, ◌+◌, ◌<◌, ◌≤◌, ◌&&◌, ◌⊎◌, not, Bool, true, false, List, [], ◌∷◌, ◌++◌, map, refl, sym, ap, ◌∙◌, subst, inl, inr, cond, arith}
-use Rattle.std.specs.Prelude.{◌≢◌, Option, Some, None, filter, find, option_map}
+use Rattle.std.specs.Prelude.{◌≢◌, Option, Some, None, is_some, filter, find, option_map}
 use Rattle.std.specs.Option.{option_map_or}
 use Rattle.std.specs.List.{filter_map, cons_option, list_any}
 use Rattle.fs_ident.specs.In.{In}
@@ -11,6 +11,7 @@ use Rattle.fs_ident.proofs.Standing.{In-filter, In-map}
 use Rattle.fs_field.specs.declared.row.Row.{Row}
 use Rattle.fs_field.specs.declared.used.Use.{Use}
 use Rattle.fs_field.specs.declared.value.Value.{Value}
+use Rattle.fs_field.specs.Field.{file_of}
 use Rattle.fs_field.specs.Table.{same_no}
 use Rattle.fs_lease.specs.Lease.{Lease as Term, InUse}
 use Rattle.fs_model.specs.declared.op.Op.{Op}
@@ -40,6 +41,7 @@ use Rattle.fs_serial.specs.Parts.{SessionHolds, SessionFits}
 use Rattle.fs_serial.specs.Pending.{HasLease, UsesHeld, IsEntry, AreEntries, NamesItsFile, HasReserved}
 use Rattle.fs_serial.specs.Settled.{Lease, Settled, lease_in, lease_with, settled, settled_now}
 use Rattle.fs_serial.specs.Sight.{Sight, IsGiven}
+use Rattle.fs_serial.specs.Fresh.{Reserves}
 use Rattle.fs_serial.specs.World.{HasNumber}
 use Rattle.fs_serial.proofs.Carried.{FewerLeases}
 use Rattle.fs_serial.proofs.Facts.{In-mapped, each_image}
@@ -201,6 +203,7 @@ pub record HasView (skew greatest : ℕ) (s : Sight) (by : Session) (replied : L
   pub client : ClientFits by (record c { view = v })
   pub returns : ReturnsFit s.given s.rows by v.leases (filter_map lease_in v.leases)
   pub fewer : FewerLeases (settled_now c).leases (filter_map lease_in v.leases)
+  pub reserves : (n : LeaseNo) (i : List ℕ) → Reserves (filter_map lease_in v.leases) n i → Reserves (settled_now c).leases n i
 
 held_none : (s : Standing) → is_held s ≡ true → entries_of s ≡ 0
 held_none (Held l) h = refl
@@ -263,6 +266,16 @@ module _ (skew greatest : ℕ) (s : Sight) (by : Session) (replied : List Item) 
               own = q.own;
             }));
         fewer = subst (λ ls. (l : Lease) → In l ls → HasNumber (settled_now c).leases l.no) same (each_image (retimed n until) (λ l. HasNumber (settled_now c).leases l.no) (filter_map lease_in v.leases) (λ l i. subst (HasNumber (settled_now c).leases) (sym (no_same skew greatest s by replied n until d by_lease l)) (h.fewer l i)));
+        reserves = λ m i r.
+            let q = In-map (retimed n until) r.lease (filter_map lease_in v.leases) (subst (In r.lease) (sym same) r.held) in
+            let t : (l : Lease) → (retimed n until l).no ≡ l.no = no_same skew greatest s by replied n until d by_lease in
+            h.reserves m i (record {
+              lease = q.0;
+              held = q.1.0;
+              number = sym (t q.0) ∙ ap (λ (l : Lease). l.no) (sym q.1.1) ∙ r.number;
+              fresh = ap is_some (sym (below_same skew greatest s by replied n until d by_lease q.0)) ∙ ap (λ (l : Lease). is_some l.below) (sym q.1.1) ∙ r.fresh;
+              file = ap file_of (sym (field_same skew greatest s by replied n until d by_lease q.0)) ∙ ap (λ (l : Lease). file_of l.field) (sym q.1.1) ∙ r.file;
+            });
       }
 
   -- a lease whose row is gone, and that no entry uses
@@ -294,6 +307,7 @@ module _ (skew greatest : ℕ) (s : Sight) (by : Session) (replied : List Item) 
         };
         returns = λ k i l. let q = h.returns k (was k i) l in record { known = q.known; alone = λ m j. q.alone m (g.fewer m j); own = q.own };
         fewer = λ l i. h.fewer l (g.fewer l i);
+        reserves = λ m i r. h.reserves m i (record { lease = r.lease; held = g.fewer r.lease r.held; number = r.number; fresh = r.fresh; file = r.file });
       }
 
 gone_if : (skew greatest : ℕ) (s : Sight) (by : Session) (replied : List Item) (c : Client) (v : View) (n : LeaseNo) (b : Bool) → stands is_held n v.leases ≡ b → HasView skew greatest s by replied c v → HasView skew greatest s by replied c (cond b (without_lease n v) v)
@@ -312,19 +326,24 @@ all_told skew greatest s by replied c (r ∷ rs) v backs h = all_told skew great
     one (Some until) e = end_told skew greatest s by replied c v r.0 h until (λ l i same. let q = h.fewer l i in backs r.0 until (inl (ap (λ o. (r.0, o)) (sym e))) (record { lease = q.lease; held = q.held; number = q.number ∙ same }))
     one None e = gone_if skew greatest s by replied c v r.0 (stands is_held r.0 v.leases) refl h
 
-pub seat_renewed : (skew greatest : ℕ) (s : Sight) (by : Session) (replied : List Item) (c : Client) (up : List ClientMsg) (ends : List (LeaseNo × Option ℕ)) (e : End) (rest : List Answer) → Seat skew greatest s by replied c up (Renewed ends e ∷ rest) → Seat skew greatest s by replied (with_renewed ends c) up rest
-seat_renewed skew greatest s by replied c up ends e rest h =
+renewed_view : (skew greatest : ℕ) (s : Sight) (by : Session) (replied : List Item) (c : Client) (up : List ClientMsg) (ends : List (LeaseNo × Option ℕ)) (e : End) (rest : List Answer) → Seat skew greatest s by replied c up (Renewed ends e ∷ rest) → HasView skew greatest s by replied c (with_renewed ends c).view
+renewed_view skew greatest s by replied c up ends e rest h =
     let w : IsHeard c up (Renewed ends e) rest = heard c c.exchange up (Renewed ends e) rest refl refl h.exchange.one in
-    let then_ : Client = with_renewed ends c in
     let still : seen_at by c (Renewed ends e ∷ rest) ≡ settled_now c = settled_none by rest (settled_now c) w.quiet in
-    let first : HasView skew greatest s by replied c c.view = record {
+    all_told skew greatest s by replied c ends c.view (λ n until i x live. h.exchange.renewals ends e (inl refl) n until i x.lease x.held x.number live) (record {
       holds = subst (SessionHolds skew greatest s by replied) still h.holds;
       fits = subst (SessionFits skew greatest s by) still h.fits;
       client = h.client;
       returns = subst (λ (d : Settled). ReturnsFit s.given s.rows by c.view.leases d.leases) still h.exchange.returns;
       fewer = λ l i. record { lease = l; held = i; number = refl };
-    } in
-    let q : HasView skew greatest s by replied c then_.view = all_told skew greatest s by replied c ends c.view (λ n until i x live. h.exchange.renewals ends e (inl refl) n until i x.lease x.held x.number live) first in
+      reserves = λ n i r. r;
+    })
+
+pub seat_renewed : (skew greatest : ℕ) (s : Sight) (by : Session) (replied : List Item) (c : Client) (up : List ClientMsg) (ends : List (LeaseNo × Option ℕ)) (e : End) (rest : List Answer) → Seat skew greatest s by replied c up (Renewed ends e ∷ rest) → Seat skew greatest s by replied (with_renewed ends c) up rest
+seat_renewed skew greatest s by replied c up ends e rest h =
+    let w : IsHeard c up (Renewed ends e) rest = heard c c.exchange up (Renewed ends e) rest refl refl h.exchange.one in
+    let then_ : Client = with_renewed ends c in
+    let q : HasView skew greatest s by replied c then_.view = renewed_view skew greatest s by replied c up ends e rest h in
     let now : seen_at by then_ rest ≡ settled_now then_ = settled_none by rest (settled_now then_) w.quiet in
     record {
       holds = subst (SessionHolds skew greatest s by replied) (sym now) q.holds;
@@ -333,3 +352,10 @@ seat_renewed skew greatest s by replied c up ends e rest h =
       exchange = subst (λ up. ExchangeFits skew greatest s.given s.rows by then_ up rest (settled_now then_) (seen_at by then_ rest)) (sym w.asked)
           (quiet_exchange skew greatest s.given s.rows by then_ rest (settled_now then_) (seen_at by then_ rest) refl w.quiet (subst (λ (d : Settled). ReturnsFit s.given s.rows by then_.view.leases d.leases) (sym now) q.returns));
     }
+
+-- no identifier is reserved that was not
+pub renewed_reserves : (skew greatest : ℕ) (s : Sight) (by : Session) (replied : List Item) (c : Client) (up : List ClientMsg) (ends : List (LeaseNo × Option ℕ)) (e : End) (rest : List Answer) → Seat skew greatest s by replied c up (Renewed ends e ∷ rest) → (n : LeaseNo) (i : List ℕ) → Reserves (seen_at by (with_renewed ends c) rest).leases n i → Reserves (seen_at by c (Renewed ends e ∷ rest)).leases n i
+renewed_reserves skew greatest s by replied c up ends e rest h n i r =
+    let w : IsHeard c up (Renewed ends e) rest = heard c c.exchange up (Renewed ends e) rest refl refl h.exchange.one in
+    let q = renewed_view skew greatest s by replied c up ends e rest h in
+    subst (λ (d : Settled). Reserves d.leases n i) (sym (settled_none by rest (settled_now c) w.quiet)) (q.reserves n i (subst (λ (d : Settled). Reserves d.leases n i) (settled_none by rest (settled_now (with_renewed ends c)) w.quiet) r))

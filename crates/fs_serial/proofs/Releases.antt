@@ -174,3 +174,7 @@ module _ (skew greatest : ℕ) (s : Sight) (by : Session) (replied : List Item) 
         (subst (λ (d : Settled). ReturnsFit s.given s.rows by then.view.leases d.leases) (sym later) returns)
         (λ ends e i. absurd (quiet_renewed down none.1 ends e i));
   }
+
+  -- no lease is new in what is seen
+  pub releases_fewer : (l : Lease) → In l (seen_at by then down).leases → In l (seen_at by c down).leases
+  releases_fewer l i = subst (λ (d : Settled). In l d.leases) (sym now) (fewer.fewer l (subst (λ (d : Settled). In l d.leases) later i))
