@@ -9,9 +9,9 @@ use Rattle.std.proofs.lemmas.List.Concat.{flat_map-cons}
 use Rattle.std.proofs.lemmas.Nat.{from_be_bytes-to_be_bytes_8}
 use Rattle.fs_frag.specs.declared.error.FragError.{FragError}
 use Rattle.fs_frag.specs.Cut.{framed, pieces, piece_count, cut_of}
-use Rattle.fs_frag.specs.Joined.{answer_of, held_after, answers, answers_for, messages_of}
+use Rattle.fs_frag.specs.Joined.{answer_of, held_after, answers, held_by, answers_for, messages_of}
 
-abbrev Answer : Type 0
+abbrev pub Answer : Type 0
 Answer = Result (Option (List ℕ)) FragError
 
 abbrev nothing : Answer
@@ -21,22 +21,22 @@ nothing = Ok None
 abbrev announced : List ℕ → ℕ
 announced bytes = from_be_bytes w64 (take 8 bytes)
 
-goes_on : (bytes : List ℕ) (want : ℕ) → 8 ≤ length bytes → announced bytes ≡ want → length bytes - 8 < want → answer_of bytes ≡ Ok None
+pub goes_on : (bytes : List ℕ) (want : ℕ) → 8 ≤ length bytes → announced bytes ≡ want → length bytes - 8 < want → answer_of bytes ≡ Ok None
 goes_on bytes want h e lt = rw (le-ltb (length bytes) 8 h, length-drop, e, lt-ltb (length bytes - 8) want lt) refl
 
 is_whole : (bytes : List ℕ) → 8 ≤ length bytes → announced bytes ≡ length bytes - 8 → answer_of bytes ≡ Ok (Some (drop 8 bytes))
 is_whole bytes h e = rw (le-ltb (length bytes) 8 h, length-drop, e, le-ltb (length bytes - 8) (length bytes - 8) (omega arith), eq-eqb (length bytes - 8) (length bytes - 8) refl) refl
 
-length-framed : (m : List ℕ) → length (framed m) ≡ 8 + length m
+pub length-framed : (m : List ℕ) → length (framed m) ≡ 8 + length m
 length-framed m = length-append (to_be_bytes w64 (length m)) m
 
 -- what a prefix of a framed message announces
-announced-prefix : (held rest m : List ℕ) → 8 ≤ length held → held ++ rest ≡ framed m → length m < 2 ^ 64 → announced held ≡ length m
+pub announced-prefix : (held rest m : List ℕ) → 8 ≤ length held → held ++ rest ≡ framed m → length m < 2 ^ 64 → announced held ≡ length m
 announced-prefix held rest m h e lt =
     let prefix : take 8 held ≡ to_be_bytes w64 (length m) = sym (take-append-le 8 held rest h) ∙ ap (λ (x : List ℕ). take 8 x) e ∙ take_at (to_be_bytes w64 (length m)) m 8 refl in
     ap (λ (x : List ℕ). from_be_bytes w64 x) prefix ∙ from_be_bytes-to_be_bytes_8 (length m) lt
 
-answer-framed : (m : List ℕ) → length m < 2 ^ 64 → answer_of (framed m) ≡ Ok (Some m)
+pub answer-framed : (m : List ℕ) → length m < 2 ^ 64 → answer_of (framed m) ≡ Ok (Some m)
 answer-framed m lt =
     let len = length-framed m in
     let nothing_more : framed m ++ [] ≡ framed m = search append-nil in
@@ -62,11 +62,15 @@ joins (suc n) held rest m more e lt low high =
     (goes_on (held ++ first) (length m) (omega arith) (announced-prefix (held ++ first) (drop 1024 rest) m (omega arith) whole lt) (omega arith))
     ∙ ap (λ (x : List Answer). Ok None ∷ x) (joins n (held ++ first) (drop 1024 rest) m more whole lt (omega arith) (omega arith))
 
-length-pieces : (n : ℕ) (bytes : List ℕ) → length (pieces n bytes) ≡ n
+pub length-pieces : (n : ℕ) (bytes : List ℕ) → length (pieces n bytes) ≡ n
 length-pieces zero bytes = refl
 length-pieces (suc n) bytes = ap suc (length-pieces n (drop 1024 bytes))
 
-joins_message : (m : List ℕ) (more : List (List ℕ)) → length m < 2 ^ 64 → answers [] (cut_of m ++ more) ≡ answers_for m ++ answers [] more
+-- how many segments a message has
+pub length-cut : (m : List ℕ) → length (cut_of m) ≡ piece_count (8 + length m)
+length-cut m = length-pieces (piece_count (length (framed m))) (framed m) ∙ ap piece_count (length-framed m)
+
+pub joins_message : (m : List ℕ) (more : List (List ℕ)) → length m < 2 ^ 64 → answers [] (cut_of m ++ more) ≡ answers_for m ++ answers [] more
 joins_message m more lt =
     let len = length-framed m in
     let n = piece_count (length (framed m)) - 1 in
@@ -87,7 +91,7 @@ messages-of_nothing : (n : ℕ) (rest : List Answer) → messages_of (replicate 
 messages-of_nothing zero rest = refl
 messages-of_nothing (suc n) rest = messages-of_nothing n rest
 
-messages-of_answers : (messages : List (List ℕ)) → messages_of (flat_map answers_for messages) ≡ messages
+pub messages-of_answers : (messages : List (List ℕ)) → messages_of (flat_map answers_for messages) ≡ messages
 messages-of_answers [] = refl
 messages-of_answers (m ∷ ms) =
     let n = length (cut_of m) - 1 in
@@ -99,17 +103,11 @@ whole_and_once messages fits = ap messages_of (joins_all messages fits) ∙ mess
 
 -- ---- a beginning of the segments
 
--- what a joiner holds after segments
-held_by : List ℕ → List (List ℕ) → List ℕ
-held_by held [] = held
-held_by held (s ∷ ss) = held_by (held_after (answer_of (held ++ s)) (held ++ s)) ss
-
-answers-append : (held : List ℕ) (ss more : List (List ℕ)) → answers held (ss ++ more) ≡ answers held ss ++ answers (held_by held ss) more
-unfolding held_by
+pub answers-append : (held : List ℕ) (ss more : List (List ℕ)) → answers held (ss ++ more) ≡ answers held ss ++ answers (held_by held ss) more
 answers-append held [] more = refl
 answers-append held (s ∷ ss) more = ap (λ (x : List Answer). answer_of (held ++ s) ∷ x) (answers-append (held_after (answer_of (held ++ s)) (held ++ s)) ss more)
 
-messages_of-append : (xs ys : List Answer) → messages_of (xs ++ ys) ≡ messages_of xs ++ messages_of ys
+pub messages_of-append : (xs ys : List Answer) → messages_of (xs ++ ys) ≡ messages_of xs ++ messages_of ys
 messages_of-append [] ys = refl
 messages_of-append (Ok None ∷ xs) ys = messages_of-append xs ys
 messages_of-append (Ok (Some m) ∷ xs) ys = ap (λ (x : List (List ℕ)). m ∷ x) (messages_of-append xs ys)
@@ -121,7 +119,7 @@ pub joined_so_far : (messages segments rest : List (List ℕ)) → AllByRecursio
 joined_so_far messages segments rest fits e =
     (messages_of (answers (held_by [] segments) rest), sym (messages_of-append (answers [] segments) (answers (held_by [] segments) rest)) ∙ ap messages_of (sym (answers-append [] segments rest)) ∙ ap (λ (x : List (List ℕ)). messages_of (answers [] x)) e ∙ whole_and_once messages fits)
 
-all_in_prefix : (xs ys : List Answer) → AllByRecursion IsOk (xs ++ ys) → AllByRecursion IsOk xs
+pub all_in_prefix : (xs ys : List Answer) → AllByRecursion IsOk (xs ++ ys) → AllByRecursion IsOk xs
 all_in_prefix [] ys h = tt
 all_in_prefix (x ∷ xs) ys h = (h.0, all_in_prefix xs ys h.1)
 
@@ -129,7 +127,7 @@ all_ok-for : (n : ℕ) (m : List ℕ) (rest : List Answer) → AllByRecursion Is
 all_ok-for zero m rest h = (refl, h)
 all_ok-for (suc n) m rest h = (refl, all_ok-for n m rest h)
 
-all_ok : (messages : List (List ℕ)) → AllByRecursion IsOk (flat_map answers_for messages)
+pub all_ok : (messages : List (List ℕ)) → AllByRecursion IsOk (flat_map answers_for messages)
 all_ok [] = tt
 all_ok (m ∷ ms) =
     let n = length (cut_of m) - 1 in

@@ -1,8 +1,12 @@
 -- How segments are joined to messages again.
-use Rattle.std.specs.Prelude.{ℕ, ◌-◌, List, [], ◌∷◌, ◌++◌, length, replicate, Option, Some, None, Result, Ok, Err, nat_lt, ◌==◌, if◌then◌else◌}
+use Rattle.std.specs.Prelude.{ℕ, ◌-◌, List, [], ◌∷◌, ◌++◌, length, take, replicate, Option, Some, None, Result, Ok, Err, nat_lt, ◌==◌, if◌then◌else◌}
 use Rattle.fs_ident.specs.Bytes.{number_in_front}
 use Rattle.fs_frag.specs.declared.error.FragError.{FragError}
 use Rattle.fs_frag.specs.declared.error.FragError.TheVariants.{Over}
+use Rattle.fs_frag.specs.declared.joined.Back.{Back}
+use Rattle.fs_frag.specs.declared.joined.Back.TheVariants.{Same, Front, All}
+use Rattle.fs_frag.specs.declared.joined.Joined.{Joined}
+use Rattle.fs_frag.specs.declared.joined.Joined.TheVariants as comes
 use Rattle.fs_frag.specs.Cut.{cut_of}
 
 -- nothing as long as bytes are wanting, then the message, or that there are too many bytes for it
@@ -29,6 +33,24 @@ held_after (Err e) bytes = []
 abbrev pub answers : List ℕ → List (List ℕ) → List (Result (Option (List ℕ)) FragError)
 answers held [] = []
 answers held (s ∷ ss) = answer_of (held ++ s) ∷ answers (held_after (answer_of (held ++ s)) (held ++ s)) ss
+
+-- what it holds after all of them
+abbrev pub held_by : List ℕ → List (List ℕ) → List ℕ
+held_by held [] = held
+held_by held (s ∷ ss) = held_by (held_after (answer_of (held ++ s)) (held ++ s)) ss
+
+-- what comes of the answers: each message, and each time that there were too many bytes
+abbrev pub joined_of : List (Result (Option (List ℕ)) FragError) → List Joined
+joined_of [] = []
+joined_of (Ok (Some message) ∷ rest) = comes.Whole message ∷ joined_of rest
+joined_of (Ok None ∷ rest) = joined_of rest
+joined_of (Err e ∷ rest) = comes.Over ∷ joined_of rest
+
+-- what a joiner that holds these bytes held before
+abbrev pub held_before : Back → List ℕ → List ℕ
+held_before Same held = held
+held_before (Front n) held = take n held
+held_before (All bytes) held = bytes
 
 -- the messages among the answers
 abbrev pub messages_of : List (Result (Option (List ℕ)) FragError) → List (List ℕ)

@@ -14,6 +14,13 @@ pub fn cut(alloc: Global, message: &[u8]) -> Result<List<Segment>, Memory>
     pieces(alloc, &bytes)
 }
 
+/// How many segments the message has.
+pub fn segment_count(message: &[u8]) -> u64
+    ensures { result ≡ length (cut_of message.now) }
+{
+    (message.len() as u64 + 8).div_ceil(SEGMENT as u64)
+}
+
 /// The message behind its length.
 fn framed(alloc: Global, message: &[u8]) -> Result<Vec<u8>, Memory>
     ensures { IfOk result (λ bytes. bytes.items ≡ framed message.now) }

@@ -1,12 +1,14 @@
 //! Segments joined to messages.
-ghost use Rattle.std.specs.Prelude.{◌≡◌, ◌++◌, [], ℕ, IfOk, IsErrOf, OnOk, Ok, Err, option_map};
-ghost use Rattle.fs_frag.specs.Joined.{answer_of, held_after};
+ghost use Rattle.std.specs.Prelude.{◌≡◌, ◌≤◌, ◌+◌, ◌++◌, [], ◌∷◌, ℕ, length, take, drop, IfOk, IsErrOf, OnOk, OnErr, Ok, Err, option_map, MatchOption};
+ghost use Rattle.fs_frag.specs.Joined.{answer_of, held_after, answers, held_by, held_before, joined_of};
 
 use crate::error::FragError;
+use crate::joined::{Back, Joined};
 use crate::segment::Segment;
-use fs_ident::{Memory, Twin, number_in_front};
+use fs_ident::{List, Memory, Twin, number_in_front};
 use std::alloc::Global;
 use std::marker::Model;
+use std::mem;
 
 /// The segments so far of a message that is not whole yet. Contracts see their bytes.
 #[derive(Debug, Drop)]
@@ -56,6 +58,55 @@ impl Joiner {
         }
         answer
     }
+
+    /// Takes the next segments, all of them or none, and gives what they complete, in order, and how to undo it. The bytes
+    /// that are held already are not copied.
+    pub fn add_all(
+        &mut self,
+        alloc: Global,
+        segments: &[Segment],
+    ) -> Result<(List<Joined>, Back), Memory>
+        ensures joined { IfOk result (λ told. told.0 ≡ joined_of (answers self.old segments.now)) }
+        ensures back { IfOk result (λ told. held_before told.1 self.new ≡ self.old) }
+        ensures state { OnOk result (self.new ≡ held_by self.old segments.now) }
+        ensures err { OnErr result (self.new ≡ self.old) }
+    {
+        let before = self.held.len();
+        match join_and_cut(alloc, &mut self.held, segments) {
+            Ok((joined, rest)) => Ok((joined, self.keep(before, rest))),
+            Err(e) => {
+                self.held.truncate(before);
+                Err(e)
+            }
+        }
+    }
+
+    /// Holds the rest alone, if one is given, and tells how to hold the first bytes again, so many.
+    fn keep(&mut self, before: usize, rest: Option<Vec<u8>>) -> Back
+        requires { before ≤ length self.old }
+        ensures back { held_before result self.new ≡ take before self.old }
+        ensures rest { MatchOption rest (self.new ≡ self.old) (λ bytes. self.new ≡ bytes.items) }
+    {
+        match rest {
+            None => Back::Front(before),
+            Some(rest) => {
+                let mut held = mem::replace(&mut self.held, rest);
+                held.truncate(before);
+                Back::All(List::from_vec(held))
+            }
+        }
+    }
+
+    /// Holds again what it held before.
+    pub fn undo(&mut self, back: Back)
+        ensures { self.new ≡ held_before back self.old }
+    {
+        match back {
+            Back::Same => {}
+            Back::Front(len) => self.held.truncate(len),
+            Back::All(held) => self.held = held.into_vec(),
+        }
+    }
 }
 
 impl Twin for Joiner {
@@ -86,4 +137,77 @@ fn answer_of(alloc: Global, bytes: &[u8]) -> Result<Option<Vec<u8>>, FragError>
         return Err(FragError::Over { have, want });
     }
     Ok(Some(Vec::from_slice(alloc, message)?))
+}
+
+/// Appends the segments. Tells what they complete, and where the bytes that are still waiting begin.
+fn join_all(
+    alloc: Global,
+    held: &mut Vec<u8>,
+    segments: &[Segment],
+) -> Result<(List<Joined>, usize), Memory>
+    ensures joined { IfOk result (λ told. told.0 ≡
+        joined_of (answers held.old.items segments.now)) }
+    ensures within { IfOk result (λ told. told.1 ≤ length held.new.items) }
+    ensures waiting { IfOk result (λ told. drop told.1 held.new.items ≡
+        held_by held.old.items segments.now) }
+    ensures longer { length held.old.items ≤ length held.new.items }
+    ensures front { take (length held.old.items) held.new.items ≡ held.old.items }
+{
+    let mut joined = List::new(alloc);
+    let mut start = 0;
+    for segment in segments {
+        start = join_one(alloc, held, start, segment, &mut joined)?;
+    }
+    Ok((joined, start))
+}
+
+/// Appends a segment to the bytes that wait from `start` on, and tells from where they wait then.
+fn join_one(
+    alloc: Global,
+    held: &mut Vec<u8>,
+    start: usize,
+    segment: &Segment,
+    joined: &mut List<Joined>,
+) -> Result<usize, Memory>
+    requires { start ≤ length held.old.items }
+    ensures joined { OnOk result (joined.new ≡ joined.old ++
+        joined_of (answer_of (drop start held.old.items ++ segment.now) ∷ [])) }
+    ensures within { IfOk result (λ next. next ≤ length held.new.items) }
+    ensures waiting { IfOk result (λ next. drop next held.new.items ≡
+        held_after (answer_of (drop start held.old.items ++ segment.now))
+        (drop start held.old.items ++ segment.now)) }
+    ensures longer { length held.old.items ≤ length held.new.items }
+    ensures front { (n : ℕ) → n ≤ length held.old.items →
+        take n held.new.items ≡ take n held.old.items }
+{
+    held.extend_from_slice(segment.bytes())?;
+    match answer_of(alloc, &held[start..]) {
+        Ok(None) => return Ok(start),
+        Ok(Some(message)) => joined.push(Joined::Whole(List::from_vec(message)))?,
+        Err(FragError::Over { .. }) => joined.push(Joined::Over)?,
+        Err(FragError::Memory) => return Err(Memory),
+    }
+    Ok(held.len())
+}
+
+/// The same, with the bytes that are still waiting where they are not all.
+fn join_and_cut(
+    alloc: Global,
+    held: &mut Vec<u8>,
+    segments: &[Segment],
+) -> Result<(List<Joined>, Option<Vec<u8>>), Memory>
+    ensures joined { IfOk result (λ told. told.0 ≡
+        joined_of (answers held.old.items segments.now)) }
+    ensures waiting { IfOk result (λ told. MatchOption told.1
+        (held.new.items ≡ held_by held.old.items segments.now)
+        (λ rest. rest.items ≡ held_by held.old.items segments.now)) }
+    ensures longer { length held.old.items ≤ length held.new.items }
+    ensures front { take (length held.old.items) held.new.items ≡ held.old.items }
+{
+    let (joined, start) = join_all(alloc, held, segments)?;
+    if start == 0 {
+        return Ok((joined, None));
+    }
+    let rest = Vec::from_slice(alloc, &held[start..])?;
+    Ok((joined, Some(rest)))
 }

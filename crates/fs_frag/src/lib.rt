@@ -3,14 +3,16 @@
 
 mod cutting;
 mod error;
+mod joined;
 mod joiner;
 mod law;
 mod segment;
 #[cfg(test)]
 mod tests;
 
-pub use cutting::cut;
+pub use cutting::{cut, segment_count};
 pub use error::FragError;
+pub use joined::{Back, Joined};
 pub use joiner::Joiner;
-pub use law::joined_is_cut;
+pub use law::{joined_is_cut, what_is_coming};
 pub use segment::{SEGMENT, Segment};

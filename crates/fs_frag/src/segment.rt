@@ -5,14 +5,15 @@ ghost use Rattle.fs_frag.specs.Segment.{IsSegment};
 use fs_ident::{Memory, Twin};
 use std::alloc::Global;
 use std::marker::Model;
+use std::rc::Rc;
 
 /// The most bytes of a segment.
 pub const SEGMENT: usize = 1024;
 
-/// From 1 to 1,024 bytes.
+/// From 1 to 1,024 bytes. Copies share them, and take no memory.
 #[derive(Debug, Drop)]
 pub struct Segment {
-    bytes: Vec<u8>,
+    bytes: Rc<Vec<u8>>,
 }
 
 impl Model for Segment {
@@ -21,9 +22,9 @@ impl Model for Segment {
 
     ghost Value = { List ℕ };
 
-    ghost view = { λ s. s.bytes.items };
+    ghost view = { λ s. s.bytes.value.items };
 
-    ghost invariant = { λ s. IsSegment s.bytes.items };
+    ghost invariant = { λ s. IsSegment s.bytes.value.items };
 }
 
 impl Segment {
@@ -37,7 +38,7 @@ impl Segment {
             return Ok(None);
         }
         Ok(Some(Segment {
-            bytes: Vec::from_slice(alloc, bytes)?,
+            bytes: Rc::new(alloc, Vec::from_slice(alloc, bytes)?)?,
         }))
     }
 
@@ -51,9 +52,9 @@ impl Segment {
 }
 
 impl Twin for Segment {
-    fn copy(&self, alloc: Global) -> Result<Segment, Memory> {
+    fn copy(&self, _: Global) -> Result<Segment, Memory> {
         Ok(Segment {
-            bytes: Vec::from_slice(alloc, &self.bytes)?,
+            bytes: self.bytes.clone()?,
         })
     }
 

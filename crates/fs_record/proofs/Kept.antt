@@ -83,7 +83,7 @@ free_bounds (suc n) k borne j e = within (is_borne borne k) (free_bounds n (k + 
     within true f h = let p : (k + 1 ≤ j) × (j < (k + 1) + n) = f h in (omega arith, omega arith)
     within false f h = let p : k ≡ j = cc h in (omega arith, omega arith)
 
-next_kept : (m : RecordMap) (dir : List ℕ) (next : ℕ) (o : Option Record) → get m dir ≡ o → AreRecords m → 1 ≤ next → next ≤ 2 ^ 32 → AreRecords (with_next m dir next o)
+pub next_kept : (m : RecordMap) (dir : List ℕ) (next : ℕ) (o : Option Record) → get m dir ≡ o → AreRecords m → 1 ≤ next → next ≤ 2 ^ 32 → AreRecords (with_next m dir next o)
 next_kept m dir next None e s p q = s
 next_kept m dir next (Some r) e s p q = kept_insert m dir (record r { next = next }) s (record { in_order = (record_at m s dir r e).in_order; least = p; most = q })
 

@@ -7,3 +7,5 @@ pub mod Stepping
 pub mod NumbersRise
 pub mod NodeMaps
 pub mod Selves
+pub mod AllApplied
+pub mod Undoing

@@ -55,6 +55,11 @@ with_at m id (Some x) = insert m id x
 abbrev pub records_after : RecordMap → Effect → RecordMap
 records_after m e = with_at m (changed_file e) (record_change e (get m (changed_file e)))
 
+-- the records after the effects, one after another
+abbrev pub records_after_all : RecordMap → List Effect → RecordMap
+records_after_all m [] = m
+records_after_all m (e ∷ es) = records_after_all (records_after m e) es
+
 -- the nodes after the effect
 abbrev pub nodes_after : NodeMap → Effect → NodeMap
 nodes_after m e = with_at m (changed_file e) (node_change e (get m (changed_file e)))
@@ -72,3 +77,9 @@ is_birth e = false
 -- the effect has its file here: the file has a record, or begins to live
 abbrev pub has_target : RecordMap → Effect → Bool
 has_target m e = is_birth e || is_some (get m (changed_file e))
+
+-- it can be taken back without memory: it takes neither a file nor a name away
+abbrev pub is_undoable : Effect → Bool
+is_undoable (SetChild dir name None) = false
+is_undoable (RemoveNode file) = false
+is_undoable e = true

@@ -4,3 +4,5 @@ pub mod Applied
 pub mod Effects
 pub mod Fresh
 pub mod Changes
+-- cited by private calls alone
+pub mod Undo

@@ -1,5 +1,5 @@
 //! Changes of one record.
-ghost use Rattle.std.specs.Prelude.{◌≡◌, OnOk, OnErr, None, Some};
+ghost use Rattle.std.specs.Prelude.{◌≡◌, IfOk, OnOk, OnErr, None, Some};
 ghost use Rattle.std.specs.FinMap as map;
 ghost use Rattle.fs_field.specs.declared.effect.Effect.TheVariants.{SetChild, SetParent, NewNode, RemoveNode, AddHandle, RemoveHandle, SetInfo};
 ghost use Rattle.fs_record.specs.Applied.{records_after};
@@ -47,7 +47,9 @@ pub fn apply(
             kind,
             dir,
             name,
-        } => return make(alloc, records, file, *kind, dir, name),
+        } => {
+            make(alloc, records, file, *kind, dir, name)?;
+        }
         Effect::RemoveNode { file } => remove(records, file),
         Effect::AddHandle {
             file,
@@ -69,13 +71,26 @@ pub fn apply(
 }
 
 /// Gives the file this record, whatever it had.
-#[tactic(auto, using(fs_ident::proofs::MapsOf::maps))]
 pub fn add(records: &mut BTreeMap<FileId, Record>, file: FileId, kept: Record) -> Result<(), Memory>
     ensures ok { OnOk result (map_of records.new ≡ map.insert (map_of records.old) file kept) }
     ensures err { OnErr result (map_of records.new ≡ map_of records.old) }
 {
-    records.insert(file, kept)?;
+    swap(records, file, kept)?;
     Ok(())
+}
+
+/// Gives the file this record, and hands out what it had.
+#[tactic(auto, using(fs_ident::proofs::MapsOf::maps))]
+fn swap(
+    records: &mut BTreeMap<FileId, Record>,
+    file: FileId,
+    kept: Record,
+) -> Result<Option<Record>, Memory>
+    ensures ok { OnOk result (map_of records.new ≡ map.insert (map_of records.old) file kept) }
+    ensures was { IfOk result (λ was. was ≡ map.get (map_of records.old) file) }
+    ensures err { OnErr result (map_of records.new ≡ map_of records.old) }
+{
+    Ok(records.insert(file, kept)?)
 }
 
 /// Lets the name stand for the file.
@@ -99,7 +114,7 @@ fn link(
 
 /// Lets the name stand for no file.
 #[tactic(auto, using(fs_ident::proofs::MapsOf::maps, fs_ident::proofs::MapsOf::map_of_absent))]
-fn unlink(records: &mut BTreeMap<FileId, Record>, dir: &FileId, name: &Name)
+pub fn unlink(records: &mut BTreeMap<FileId, Record>, dir: &FileId, name: &Name)
     requires { AreRecords (map_of records.old) }
     ensures { map_of records.new ≡
         records_after (map_of records.old) (SetChild dir.now name.now None) }
@@ -124,19 +139,20 @@ fn place(records: &mut BTreeMap<FileId, Record>, file: &FileId, dir: FileId, nam
     }
 }
 
-/// Makes the file anew. A record that it has keeps its next number, and else the first is 1.
+/// Makes the file anew, and hands out the record that it had. That one's next number is kept, and else the first is 1.
 #[tactic(auto, using(fs_ident::proofs::MapsOf::maps))]
-fn make(
+pub fn make(
     alloc: Global,
     records: &mut BTreeMap<FileId, Record>,
     file: &FileId,
     kind: Kind,
     dir: &FileId,
     name: &Name,
-) -> Result<(), Memory>
+) -> Result<Option<Record>, Memory>
     requires { AreRecords (map_of records.old) }
     ensures ok { OnOk result (map_of records.new ≡
         records_after (map_of records.old) (NewNode file.now kind dir.now name.now)) }
+    ensures was { IfOk result (λ was. was ≡ map.get (map_of records.old) file.now) }
     ensures err { OnErr result (map_of records.new ≡ map_of records.old) }
 {
     let node = Node::new(alloc, kind, Some((dir.copy(alloc)?, name.copy(alloc)?)));
@@ -144,11 +160,11 @@ fn make(
         node,
         next: next(records, file),
     };
-    add(records, file.copy(alloc)?, record)
+    swap(records, file.copy(alloc)?, record)
 }
 
 /// Takes the record away.
-fn remove(records: &mut BTreeMap<FileId, Record>, file: &FileId)
+pub fn remove(records: &mut BTreeMap<FileId, Record>, file: &FileId)
     ensures { map_of records.new ≡ records_after (map_of records.old) (RemoveNode file.now) }
 {
     records.remove(file);
@@ -189,7 +205,7 @@ fn close(
 
 /// Sets size and stamp.
 #[tactic(auto, using(fs_ident::proofs::MapsOf::maps, fs_ident::proofs::MapsOf::map_of_absent))]
-fn set(records: &mut BTreeMap<FileId, Record>, file: &FileId, size: u64, stamp: u64)
+pub fn set(records: &mut BTreeMap<FileId, Record>, file: &FileId, size: u64, stamp: u64)
     ensures { map_of records.new ≡
         records_after (map_of records.old) (SetInfo file.now size stamp) }
 {

@@ -12,6 +12,8 @@ mod record;
 mod records;
 #[cfg(test)]
 mod tests;
+mod together;
+mod undo;
 mod values;
 
 pub use error::FreshError;
@@ -22,3 +24,4 @@ pub use law::{
 pub use op_effects::{effects, tells_its_effects};
 pub use record::Record;
 pub use records::Records;
+pub use undo::is_undoable;

@@ -35,19 +35,44 @@ pub fn fresh(
         (fresh_number (map_of records.old) dir.now borne.now ≡ None)) }
     ensures err { OnErr result (map_of records.new ≡ map_of records.old) }
 {
+    let (id, k) = fresh_id(alloc, records, dir, borne)?;
+    gift(records, dir, k);
+    Ok(id)
+}
+
+/// The identifier that a new file in the directory would be given, and its last number.
+pub fn fresh_id(
+    alloc: Global,
+    records: &BTreeMap<FileId, Record>,
+    dir: &FileId,
+    borne: &[u32],
+) -> Result<(FileId, u32), FreshError>
+    requires { AreRecords (map_of records.now) }
+    ensures id { IfOk result (λ given. given.0 ≡ child dir.now given.1) }
+    ensures number { IfOk result (λ given.
+        fresh_number (map_of records.now) dir.now borne.now ≡ Some given.1) }
+    ensures no_dir { IsErrOf result NoDir ↔ (is_directory (map_of records.now) dir.now ≡ false) }
+    ensures no_ids { IsErrOf result NoIds ↔ ((is_directory (map_of records.now) dir.now ≡ true) ×
+        (fresh_number (map_of records.now) dir.now borne.now ≡ None)) }
+{
     if !is_directory(records, dir) {
         return Err(FreshError::NoDir);
     }
     let Some(k) = fresh_number(records, dir, borne) else {
         return Err(FreshError::NoIds);
     };
-    let id = below(alloc, dir, k)?;
+    Ok((below(alloc, dir, k)?, k))
+}
+
+/// Gives the number: the directory goes on behind it.
+pub fn gift(records: &mut BTreeMap<FileId, Record>, dir: &FileId, k: u32)
+    ensures { map_of records.new ≡ records_after_gift (map_of records.old) dir.now (Some k) }
+{
     set_next(records, dir, u64::from(k) + 1);
-    Ok(id)
 }
 
 /// Whether the directory has a record here.
-fn is_directory(records: &BTreeMap<FileId, Record>, dir: &FileId) -> bool
+pub fn is_directory(records: &BTreeMap<FileId, Record>, dir: &FileId) -> bool
     requires { AreRecords (map_of records.now) }
     ensures { result ≡ is_directory (map_of records.now) dir.now }
 {

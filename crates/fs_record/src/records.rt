@@ -1,9 +1,10 @@
 //! The records of one server as one value.
 ghost use Rattle.std.specs.Prelude.{◌≡◌, ◌↔◌, true, false, IfOk, OnOk, OnErr, IsErrOf, Some, None, option_map};
 ghost use Rattle.std.specs.FinMap as map;
+ghost use Rattle.std.specs.List.{list_all};
 ghost use Rattle.std.specs.Option.{option_copied};
 ghost use Rattle.fs_ident.specs.Ident.{child};
-ghost use Rattle.fs_record.specs.Applied.{records_after, has_target};
+ghost use Rattle.fs_record.specs.Applied.{records_after, records_after_all, has_target, is_undoable};
 ghost use Rattle.fs_record.specs.Fresh.{fresh_number, is_directory, records_after_gift};
 ghost use Rattle.fs_record.specs.Records.{IsRecord, first_records, AreRecords, root_record};
 ghost use Rattle.fs_record.specs.ValueOf.{value_of, is_other, selves_in};
@@ -16,7 +17,7 @@ use crate::error::FreshError;
 use crate::lookups::{files, node, record};
 use crate::record::Record;
 use crate::values::{handles, value_at};
-use crate::{changes, handles as opens, numbers};
+use crate::{changes, handles as opens, numbers, together};
 use fs_field::{Effect, Field, Value};
 use fs_ident::{FileId, Kind, List, Memory, Session, Twin, copy_map};
 use fs_model::Node;
@@ -119,6 +120,16 @@ impl Records {
         changes::apply(alloc, &mut self.records, e)
     }
 
+    /// Does the effects in order, or none of them where memory is wanting; nothing has changed then. `is_undoable` is
+    /// the test of which effects it takes. It copies no record: of each effect it keeps what the effect changes.
+    pub fn apply_all(&mut self, alloc: Global, effects: &List<Effect>) -> Result<(), Memory>
+        requires { list_all is_undoable effects.now ≡ true }
+        ensures ok { OnOk result (self.new ≡ records_after_all self.old effects.now) }
+        ensures err { OnErr result (self.new ≡ self.old) }
+    {
+        together::apply_all(alloc, &mut self.records, effects.as_slice())
+    }
+
     /// Gives the identifier of a new file in the directory: with the least number, from the directory's next one
     /// on, that is none of `borne`. The number after it is then the next one. `NoDir` where the directory has no
     /// record here or is a file. Else `NoIds` where it has 32 numbers already, or where no such number is below
@@ -140,6 +151,39 @@ impl Records {
         ensures err { OnErr result (self.new ≡ self.old) }
     {
         numbers::fresh(alloc, &mut self.records, dir, borne.as_slice())
+    }
+
+    /// The identifier that `fresh` would give, with the same causes where it would give none. Nothing is given.
+    pub fn fresh_id(
+        &self,
+        alloc: Global,
+        dir: &FileId,
+        borne: &List<u32>,
+    ) -> Result<FileId, FreshError>
+        ensures ok { IfOk result (λ id. Some id ≡
+            option_map (child dir.now) (fresh_number self.now dir.now borne.now)) }
+        ensures no_dir { IsErrOf result NoDir ↔ (is_directory self.now dir.now ≡ false) }
+        ensures no_ids { IsErrOf result NoIds ↔
+            ((is_directory self.now dir.now ≡ true) ×
+            (fresh_number self.now dir.now borne.now ≡ None)) }
+    {
+        let (id, _) = numbers::fresh_id(alloc, &self.records, dir, borne.as_slice())?;
+        Ok(id)
+    }
+
+    /// Gives the last number of an identifier below the directory: the number after it is then the directory's next
+    /// one. It takes no memory, and nothing changes where the directory has no record.
+    pub fn gift(&mut self, dir: &FileId, k: u32)
+        ensures { self.new ≡ records_after_gift self.old dir.now (Some k) }
+    {
+        numbers::gift(&mut self.records, dir, k);
+    }
+
+    /// Whether it is a directory that has a record here.
+    pub fn is_directory(&self, dir: &FileId) -> bool
+        ensures { result ≡ is_directory self.now dir.now }
+    {
+        numbers::is_directory(&self.records, dir)
     }
 }
 

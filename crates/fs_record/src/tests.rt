@@ -1,8 +1,13 @@
 //! Ample memory is enough, copies compared whole, and a few values from outside.
+ghost use Rattle.std.specs.Prelude.{◌≡◌, true, IfOk};
+ghost use Rattle.std.specs.List.{list_all};
+ghost use Rattle.fs_record.specs.Applied.{is_undoable};
+
 use crate::error::FreshError;
 use crate::op_effects::{effects, tells_its_effects};
 use crate::record::Record;
 use crate::records::Records;
+use crate::undo::is_undoable;
 use fs_field::{Effect, Field};
 use fs_ident::{FileId, Kind, List, Name, Session, Twin};
 use fs_model::{Node, Op, Reply};
@@ -89,7 +94,10 @@ const CREATED: &str =
     FileId { numbers: [] }, name: Name { bytes: [97] } }] }";
 
 /// The effects of the operation, if it and its reply tell them.
-fn told(alloc: Global, op: &Op, reply: Reply) -> Result<List<Effect>, Fail> {
+#[tactic(auto, using(crate::proofs::Undoing::plain_effects))]
+fn told(alloc: Global, op: &Op, reply: Reply) -> Result<List<Effect>, Fail>
+    ensures { IfOk result (λ told. list_all is_undoable told ≡ true) }
+{
     if tells_its_effects(op) {
         return Ok(effects(alloc, Session(1), op, &reply)?);
     }
@@ -115,14 +123,18 @@ fn busy(alloc: Global) -> Result<Records, Fail> {
     for e in told(alloc, &create(alloc)?, Reply::Made)?.as_slice() {
         records.apply(alloc, e)?;
     }
-    let open = Effect::AddHandle {
+    records.apply(alloc, &open(alloc))?;
+    Ok(records)
+}
+
+/// The root is opened.
+fn open(alloc: Global) -> Effect {
+    Effect::AddHandle {
         file: FileId::root(alloc),
         session: Session(2),
         h: 1,
         modes: Modes::NONE,
-    };
-    records.apply(alloc, &open)?;
-    Ok(records)
+    }
 }
 
 /// The files, and the record of each.
@@ -175,5 +187,44 @@ fn a_handle_is_seen(rt: HostRuntime) -> Result<(), Fail> {
     assert_eq!(rt; own(alloc, 1)?.as_str(), "Own(List { items: [] })");
     let selves = busy(alloc)?.selves(alloc, &FileId::root(alloc))?;
     assert_eq!(rt; shown(alloc, selves)?.as_str(), SELVES);
+    Ok(())
+}
+
+/// The number that the root would give.
+fn next_number(alloc: Global, records: &Records) -> Result<u64, Fail> {
+    match records.fresh_id(alloc, &FileId::root(alloc), &List::new(alloc)) {
+        Ok(id) => Ok(last(&id)),
+        Err(_) => Err(Fail::from("no number")),
+    }
+}
+
+#[test]
+fn a_number_is_read_and_then_given(rt: HostRuntime) -> Result<(), Fail> {
+    let alloc = rt.alloc();
+    let root = FileId::root(alloc);
+    let mut records = Records::new(alloc, true)?;
+    assert!(rt; records.is_directory(&root));
+    assert_eq!(rt; next_number(alloc, &records)?, 1);
+    assert_eq!(rt; next_number(alloc, &records)?, 1);
+    records.gift(&root, 7);
+    assert_eq!(rt; next_number(alloc, &records)?, 8);
+    Ok(())
+}
+
+/// The same as one after the other.
+#[test]
+fn effects_are_done_together(rt: HostRuntime) -> Result<(), Fail> {
+    let alloc = rt.alloc();
+    let mut records = Records::new(alloc, true)?;
+    records.apply_all(alloc, &told(alloc, &create(alloc)?, Reply::Made)?)?;
+    records.apply(alloc, &open(alloc))?;
+    assert_eq!(rt; content(alloc, &records)?.as_str(), BUSY);
+    Ok(())
+}
+
+#[test]
+fn a_removal_is_not_taken_back(rt: HostRuntime) -> Result<(), Fail> {
+    let file = FileId::root(rt.alloc());
+    assert!(rt; !is_undoable(&Effect::RemoveNode { file }));
     Ok(())
 }

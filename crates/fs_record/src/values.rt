@@ -66,7 +66,7 @@ pub fn handles(node: Option<&Node>) -> &[Handle]
 }
 
 /// The file under the name.
-fn child(alloc: Global, node: Option<&Node>, name: &Name) -> Result<Option<FileId>, Memory>
+pub fn child(alloc: Global, node: Option<&Node>, name: &Name) -> Result<Option<FileId>, Memory>
     requires { IfSome node (λ n. IsInOrder n.now) }
     ensures { IfOk result (λ file. file ≡ child_of (option_copied node.entry) name.now) }
 {

@@ -1,1 +1,5 @@
 pub mod Kept
+pub mod Granting
+pub mod Bearing
+pub mod Numbers
+pub mod LiveSteps

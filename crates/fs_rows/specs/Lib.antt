@@ -1,2 +1,5 @@
 pub mod Table
 pub mod Answer
+pub mod Live
+pub mod Granted
+pub mod Given

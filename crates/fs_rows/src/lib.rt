@@ -2,10 +2,14 @@
 #![tactic(auto)]
 
 mod against;
+mod grants;
 mod law;
+mod live;
+mod reads;
 mod rows;
 #[cfg(test)]
 mod tests;
 
 pub use law::{numbers_tell_rows_apart, tables_are_without_conflict};
+pub use live::Live;
 pub use rows::Rows;

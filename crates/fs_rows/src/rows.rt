@@ -6,9 +6,12 @@ ghost use Rattle.fs_ident.specs.declared.actor.LeaseNo.{LeaseNo};
 ghost use Rattle.fs_field.specs.Field.{tells_no_mode};
 ghost use Rattle.fs_field.specs.Table.{has_no, renewed_row, is_live, is_lease, is_unlocked, locked_row, unlocked_row, rows_on, borne_numbers};
 ghost use Rattle.fs_rows.specs.Answer.{answer, given_row, rows_after, IsLeastAgainst};
+ghost use Rattle.fs_rows.specs.Granted.{with_rows};
 ghost use Rattle.fs_rows.specs.Table.{IsTable};
 
 use crate::against::first_against;
+use crate::grants;
+use crate::live::Live;
 use fs_field::{Asked, Field, LeaseKind, Row, Unknown, table};
 use fs_ident::{FileId, LeaseNo, List, Memory, Session, Twin, TxnNo};
 use std::alloc::Global;
@@ -74,6 +77,32 @@ impl Rows {
             kind,
             until,
         )
+    }
+
+    /// The rows that are not over at the reading `now`: a transaction keeps them, or their end and the skew are not
+    /// over. Nothing is dropped.
+    pub fn live(&self, now: u64, skew: u64) -> Live<'_>
+        ensures rows { result ≡ filter (is_live now skew) self.now }
+        ensures valid { IsTable result }
+    {
+        Live::at(self.rows.as_slice(), now, skew)
+    }
+
+    /// Drops the rows that are over at the reading `now`, as `lapse` does, and puts in these, in order. `Memory`
+    /// where memory is wanting; the table is as it was then.
+    pub fn grant_all(
+        &mut self,
+        alloc: Global,
+        now: u64,
+        skew: u64,
+        rows: List<Row>,
+    ) -> Result<(), Memory>
+        requires table { IsTable (with_rows rows (filter (is_live now skew) self.old)) }
+        ensures ok { OnOk result (self.new ≡ with_rows rows (filter (is_live now skew) self.old)) }
+        ensures err { OnErr result (self.new ≡ self.old) }
+        ensures valid { IsTable self.new }
+    {
+        grants::grant_all(self.rows.items_mut(), now, skew, rows)
     }
 
     /// Lets the row of this number end no sooner than `until`; its end is never lowered. `Unknown` where there is

@@ -3,8 +3,8 @@ ghost use Rattle.std.specs.Prelude.{◌≡◌, true, IfOk};
 ghost use Rattle.fs_field.specs.Field.{tells_no_mode};
 
 use crate::rows::Rows;
-use fs_field::{Asked, Field, LeaseKind, Unknown};
-use fs_ident::{FileId, LeaseNo, Name, Session, Twin, TxnNo};
+use fs_field::{Asked, Field, LeaseKind, Row, Unknown};
+use fs_ident::{FileId, LeaseNo, List, Name, Session, Twin, TxnNo};
 use std::alloc::Global;
 use std::test::Fail;
 
@@ -104,6 +104,49 @@ fn rows_tell_whole_answers(rt: HostRuntime) -> Result<(), Fail> {
     assert_eq!(rt; on.as_slice(), [(FIRST, Session(1))].as_slice());
     let borne = rows.borne(alloc, &FileId::root(alloc))?;
     assert_eq!(rt; borne.as_slice(), [3].as_slice());
+    Ok(())
+}
+
+/// What is read at a reading at which the row is over: nothing stands against a lease then, and no row is dropped.
+#[test]
+fn rows_are_read_at_a_reading(rt: HostRuntime) -> Result<(), Fail> {
+    let alloc = rt.alloc();
+    let rows = one_row(alloc, LeaseKind::Exclusive, 100)?;
+    let field = life(alloc)?;
+    let live = rows.live(109, 10);
+    let asked = live.answer(Session(2), &field, LeaseKind::Shared);
+    assert_eq!(rt; asked, Asked::Wait { blocker: FIRST });
+    assert!(rt; live.has(FIRST));
+    assert!(rt; live.holds(FIRST, Session(1), &field, LeaseKind::Exclusive));
+    let on = live.unlocked_on(alloc, &field)?;
+    assert_eq!(rt; on.as_slice(), [(FIRST, Session(1))].as_slice());
+    let borne = live.borne(alloc, &FileId::root(alloc))?;
+    assert_eq!(rt; borne.as_slice(), [3].as_slice());
+    let over = rows.live(110, 10);
+    let asked = over.answer(Session(2), &field, LeaseKind::Shared);
+    assert_eq!(rt; asked, Asked::Granted { value: None });
+    assert!(rt; over.row(FIRST).is_none());
+    Ok(())
+}
+
+/// The row that is over goes, and another comes.
+#[test]
+fn rows_are_granted_at_once(rt: HostRuntime) -> Result<(), Fail> {
+    let alloc = rt.alloc();
+    let mut rows = Rows::new(alloc);
+    let row = Row {
+        no: SECOND,
+        session: Session(2),
+        field: life(alloc)?,
+        kind: LeaseKind::Shared,
+        until: 300,
+        promise: None,
+        lock: None,
+    };
+    let mut more = List::new(alloc);
+    more.push(row)?;
+    rows.grant_all(alloc, 110, 10, more)?;
+    assert!(rt; rows.row(SECOND).is_some());
     Ok(())
 }
 

@@ -38,7 +38,9 @@ use Rattle.fs_view.specs.declared.kept.Kept.{Kept}
 use Rattle.fs_view.specs.Kept.{number_of}
 use Rattle.fs_serial.specs.Exchange.{ReturnsFit}
 use Rattle.fs_serial.specs.Fresh.{FreshReserved, Reserved, reserved_by}
-use Rattle.fs_serial.specs.Laws.{GiftIsRelied, GiftIsTold, GiftKeepsParts, GiftReturnsNone, lease_given, with_given}
+use Rattle.fs_serial.specs.World.{Ends, GoesOn}
+use Rattle.fs_serial.proofs.Going.{carried_leased, carried_still}
+use Rattle.fs_serial.specs.Laws.{IsGift, GiftIsRelied, GiftIsTold, GiftKeepsParts, GiftReturnsNone, lease_given, with_given}
 use Rattle.fs_serial.specs.Leases.{IsFresh, IsRowOf, LeasesGiven}
 use Rattle.fs_serial.specs.Parts.{with_client, ServersHold, ServersFit, SessionHolds, SessionFits}
 use Rattle.fs_serial.specs.Relies.{Relies}
@@ -51,7 +53,7 @@ use Rattle.fs_serial.proofs.GiftReserved.{reserved_still, reserved_then, unmade_
 use Rattle.fs_serial.proofs.GiftedRecords.{made_still, serial_still, sound_still, values_stay}
 use Rattle.fs_serial.proofs.Leased.{IsNewLease, In-put_here, leased_fits, leased_holds, row_relied}
 use Rattle.fs_serial.proofs.Together.{each_session}
-use Rattle.fs_serial.proofs.Relied.{relied_fits, relied_holds}
+use Rattle.fs_serial.proofs.Relied.{relies_for, relied_fits, relied_holds}
 
 -- ## No row is on a file whose number none bears
 
@@ -242,3 +244,18 @@ gift_returns_none a journal by dir k kept d gift = returned_still by dir k a jou
 
 pub gift_is_told : GiftIsTold
 gift_is_told a by dir k d e gift rows = told_with by dir k a [] gift.0 gift.1 d e rows
+
+-- while the server's event goes on
+pub gift_goes : (skew greatest : ℕ) (a : Asking) (journal : List Item) (replied : Session → List Item) (ends : Session → Ends) (clients : Session → Settled) (by : Session) (dir : List ℕ) (k : ℕ) → IsGift dir k a.server → GoesOn skew greatest (sight_of a.server journal) replied ends clients
+    → GoesOn skew greatest (sight_of (with_fresh by dir k a).server journal) replied ends (with_client by (with_given by dir k a.server (clients by)) clients)
+gift_goes skew greatest a journal replied ends clients by dir k gift h =
+    let s : Sight = sight_of a.server journal in
+    let t : Sight = sight_of (with_fresh by dir k a).server journal in
+    let relied = gift_relied by dir k a journal gift.0 gift.1 skew greatest in
+    let new = new_lease by dir k a journal gift.0 gift.1 h.all.kept (reserved_by clients) (clients by).leases h.all.reserved (h.all.fitting by).given in
+    record {
+      all = gift_keeps_parts skew greatest a journal replied clients by dir k h.all gift;
+      carried = carried_leased skew greatest t replied ends clients by (lease_given by dir k a.server) new
+          (λ j i leaving e. let known = (h.carried.returns by j i leaving).known in let c = ap (λ (n : LeaseNo). n.count) e in absurd (omega arith))
+          (carried_still skew greatest s t ends clients (λ x. relies_for skew greatest x s t (clients x).leases (h.all.fitting x).matching (relied x)) h.all.fitting h.carried);
+    }

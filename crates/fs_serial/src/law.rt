@@ -1,5 +1,5 @@
 //! Laws of the kinds of step: where all parts hold before it, all parts hold after it.
-ghost use Rattle.std.specs.Prelude.{◌≡◌, ℕ, List, [], ◌∷◌, ◌++◌};
+ghost use Rattle.std.specs.Prelude.{◌≡◌, ◌≤◌, ℕ, max, List, [], ◌∷◌, ◌++◌};
 ghost use Rattle.fs_ident.specs.declared.actor.Session.{Session};
 ghost use Rattle.fs_client.specs.Acts.{entry_of, replies};
 ghost use Rattle.fs_client.specs.Client.{changed};
@@ -10,6 +10,7 @@ ghost use Rattle.fs_msg.specs.declared.answer.Answer.{Answer};
 ghost use Rattle.fs_msg.specs.declared.entry.Entry.{Entry};
 ghost use Rattle.fs_msg.specs.declared.item.Item.{Item};
 ghost use Rattle.fs_server.specs.Ships.{item_of, with_entry};
+ghost use Rattle.fs_server.specs.declared.event.ServerEvent.{ServerEvent};
 ghost use Rattle.fs_server.specs.declared.state.Server.{Server};
 ghost use Rattle.fs_serial.specs.Client.{ClientFits};
 ghost use Rattle.fs_serial.specs.Laws.{GiftIsRelied, GiftIsTold, GiftKeepsParts, GiftReturnsNone};
@@ -17,6 +18,7 @@ ghost use Rattle.fs_serial.specs.Parts.{AllHold, with_client, with_replies};
 ghost use Rattle.fs_serial.specs.Settled.{Settled, acknowledged, settled, settled_now};
 ghost use Rattle.fs_serial.specs.Sight.{Sight, sight_of};
 ghost use Rattle.fs_serial.specs.Steps.{IsAdmitted, IsReplied};
+ghost use Rattle.fs_serial.specs.World.{IsThere, World, WorldHolds, after_server, first_world};
 
 /// A fresh identifier that a directory gives to a session, with an exclusive lease on the life of the file. Whoever relied
 /// on what was before can go on, no lease that goes back is given, and the session is told just that lease.
@@ -52,4 +54,19 @@ pub fn a_reply_keeps_the_parts()
         clients) }
     ensures client { (by : Session) (c : Client) (down : List Answer) (o : Op) (r : Reply) →
         IsReplied c down o r → ClientFits by c → ClientFits by (changed (replies o r c).ready.change c) }
+{}
+
+/// Every event of the server, a question of a session that is on its way among them, keeps all that holds of the server
+/// and of all sessions, as long as no reading was greater than the greatest; and that may rise.
+pub fn the_servers_events_keep_all_parts()
+    ensures event { (greatest now : ℕ) (e : ServerEvent) (w : World) →
+        max w.server.last now ≤ greatest → IsThere e w.ends → WorldHolds greatest w →
+        WorldHolds greatest (after_server now e w) }
+    ensures rises { (greatest later : ℕ) (w : World) → greatest ≤ later → WorldHolds greatest w →
+        WorldHolds later w }
+{}
+
+/// At the start, with one new server, no session that has a lease and nothing on its way, all parts hold.
+pub fn the_first_world_has_all_parts()
+    ensures { (skew term greatest : ℕ) → WorldHolds greatest (first_world skew term) }
 {}

@@ -11,3 +11,7 @@ pub mod Reading
 pub mod Seeing
 pub mod Unseen
 pub mod Pins
+pub mod Lapsed
+pub mod Counting
+pub mod Order
+pub mod Grants

@@ -25,7 +25,7 @@ use Rattle.fs_view.proofs.Places.{not_true}
 
 -- ## A pin changes no number, and takes no lease out of hand
 
-abbrev with_pin : LeaseNo → Kept → Kept
+abbrev pub with_pin : LeaseNo → Kept → Kept
 with_pin number k = cond (has_number number k) (record k { standing = pinned k.standing }) k
 
 pinned_number : (s : Standing) → number_of (pinned s) ≡ number_of s
@@ -50,7 +50,7 @@ mapped : (b : Bool) (u : LeaseNo) (k : Kept) (o : Option Kept) → option_map (w
 mapped true u k o = refl
 mapped false u k o = refl
 
-find_pinned : (n u : LeaseNo) (ks : List Kept) → find (has_number n) (pinned_at u ks) ≡ option_map (with_pin u) (find (has_number n) ks)
+pub find_pinned : (n u : LeaseNo) (ks : List Kept) → find (has_number n) (pinned_at u ks) ≡ option_map (with_pin u) (find (has_number n) ks)
 find_pinned n u [] = refl
 find_pinned n u (k ∷ ks) =
     ap (λ (x : LeaseNo). cond (same_no x n) (Some (with_pin u k)) (find (has_number n) (pinned_at u ks))) (number_by (has_number u k) k)
@@ -128,25 +128,25 @@ same_sym a b = grind (arith, nat_tests)
 itself : (a : LeaseNo) → same_no a a ≡ true
 itself a = joined _ _ (eq-eqb a.server a.server refl) (eq-eqb a.count a.count refl)
 
-stands_there : (k : Kept) (ks : List Kept) → In k ks → are_distinct ks ≡ true → is_in_hand k.standing ≡ true → stands is_in_hand (number_of k.standing) ks ≡ true
-stands_there k [] i d h = absurd i
-stands_there k (j ∷ ks) i d h =
+pub stands_there : (test : Standing → Bool) (k : Kept) (ks : List Kept) → In k ks → are_distinct ks ≡ true → test k.standing ≡ true → stands test (number_of k.standing) ks ≡ true
+stands_there test k [] i d h = absurd i
+stands_there test k (j ∷ ks) i d h =
     let q : (not (list_any (has_number (number_of j.standing)) ks) ≡ true) × (are_distinct ks ≡ true) = both _ (are_distinct ks) d in
     elim i [
       | inl e ↦
           let here : has_number (number_of k.standing) j ≡ true = ap (λ (x : Kept). has_number (number_of k.standing) x) (sym e) ∙ itself (number_of k.standing) in
-          ap (λ b. option_map_or (λ (x : Kept). is_in_hand x.standing) (cond b (Some j) (find (has_number (number_of k.standing)) ks)) false) here ∙ (ap (λ (x : Kept). is_in_hand x.standing) (sym e) ∙ h)
+          ap (λ b. option_map_or (λ (x : Kept). test x.standing) (cond b (Some j) (find (has_number (number_of k.standing)) ks)) false) here ∙ (ap (λ (x : Kept). test x.standing) (sym e) ∙ h)
       | inr r ↦
-          elim (has_number (number_of k.standing) j) as (λ b. has_number (number_of k.standing) j ≡ b → option_map_or (λ (x : Kept). is_in_hand x.standing) (cond b (Some j) (find (has_number (number_of k.standing)) ks)) false ≡ true) [
+          elim (has_number (number_of k.standing) j) as (λ b. has_number (number_of k.standing) j ≡ b → option_map_or (λ (x : Kept). test x.standing) (cond b (Some j) (find (has_number (number_of k.standing)) ks)) false ≡ true) [
             | true ↦ λ t.
                 let any : list_any (has_number (number_of j.standing)) ks ≡ true = any_there (number_of j.standing) k ks r (same_sym (number_of k.standing) (number_of j.standing) ∙ t) in
                 let none : list_any (has_number (number_of j.standing)) ks ≡ false = not_true _ q.0 in
                 absurd (cc)
-            | false ↦ λ t. stands_there k ks r q.1 h
+            | false ↦ λ t. stands_there test k ks r q.1 h
           ] refl
     ]
 
-found_in : (test : Kept → Bool) (ks : List Kept) (k : Kept) → find test ks ≡ Some k → In k ks
+pub found_in : (test : Kept → Bool) (ks : List Kept) (k : Kept) → find test ks ≡ Some k → In k ks
 found_in test [] k h = absurd (cc)
 found_in test (j ∷ ks) k h =
     elim (test j) as (λ b. cond b (Some j) (find test ks) ≡ Some k → In k (j ∷ ks)) [
@@ -166,7 +166,7 @@ taken_in now field kind best (j ∷ ks) k h =
     ] h
 
 -- what is used is of a lease of the list, in hand
-used_by : (s : Standing) (u : Use) → use_in s ≡ Some u → (is_in_hand s ≡ true) × (u.no ≡ number_of s)
+pub used_by : (s : Standing) (u : Use) → use_in s ≡ Some u → (is_in_hand s ≡ true) × (u.no ≡ number_of s)
 used_by (Held l) u e = let q : use_of l ≡ u = cc in (refl, sym (ap (λ (x : Use). x.no) q))
 used_by (Pinned p) u e = let q : use_of p.lease ≡ u = cc in (refl, sym (ap (λ (x : Use). x.no) q))
 used_by (Leaving l) u e = absurd (cc)
@@ -175,9 +175,9 @@ hand_from : (ks : List Kept) (o : Option Kept) (u : Use) → ((k : Kept) → o �
 hand_from ks None u within d e = absurd (cc)
 hand_from ks (Some k) u within d e =
     let q : (is_in_hand k.standing ≡ true) × (u.no ≡ number_of k.standing) = used_by k.standing u e in
-    ap (λ (n : LeaseNo). stands is_in_hand n ks) q.1 ∙ stands_there k ks (within k refl) d q.0
+    ap (λ (n : LeaseNo). stands is_in_hand n ks) q.1 ∙ stands_there is_in_hand k ks (within k refl) d q.0
 
-from_none : (now : ℕ) (field : Field) (kind : LeaseKind) (ks : List Kept) (k : Kept) → taken_from now field kind None ks ≡ Some k → In k ks
+pub from_none : (now : ℕ) (field : Field) (kind : LeaseKind) (ks : List Kept) (k : Kept) → taken_from now field kind None ks ≡ Some k → In k ks
 from_none now field kind ks k h = elim (taken_in now field kind None ks k h) [ inl e ↦ absurd (cc) | inr r ↦ r ]
 
 item_in_hand : (v : View) (now : ℕ) (n : Need) (u : Use) → are_distinct v.leases ≡ true → item_use v now n ≡ Some u → stands is_in_hand u.no v.leases ≡ true

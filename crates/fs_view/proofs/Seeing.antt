@@ -30,7 +30,7 @@ use Rattle.fs_model.specs.Handles.{handle_at, any_conflicts, comes_before, witho
 use Rattle.fs_model.specs.Step.{Stepped, step, is_child, create, create_in, open_file, close, set, set_by}
 use Rattle.fs_record.specs.declared.record.Record.{Record}
 use Rattle.fs_record.specs.Records.{RecordMap, AreRecords, nodes_of, node_of}
-use Rattle.fs_record.specs.Applied.{records_after, node_change, record_change, changed_file, has_target}
+use Rattle.fs_record.specs.Applied.{records_after, records_after_all, node_change, record_change, changed_file, has_target}
 use Rattle.fs_record.specs.Effects.{effects_of, tells_its_effects}
 use Rattle.fs_record.specs.ValueOf.{value_of, value_at, handles_of, others_have}
 use Rattle.fs_record.proofs.Kept.{after_kept, get_with_at}
@@ -38,7 +38,6 @@ use Rattle.fs_record.proofs.NodeMaps.{node_there}
 use Rattle.fs_record.proofs.NodeValues.{tied}
 use Rattle.fs_record.proofs.ValueChanges.{value_follows, change_node}
 use Rattle.fs_view.specs.View.{value_after_all}
-use Rattle.fs_view.specs.Laws.{records_after_all}
 
 -- ## What others have
 

@@ -33,7 +33,7 @@ use Rattle.fs_model.specs.Sound.{kind_of, child_of}
 use Rattle.fs_model.specs.Step.{Stepped, step, is_child, create, create_in, open_file, close, set, set_by}
 use Rattle.fs_record.specs.declared.record.Record.{Record}
 use Rattle.fs_record.specs.Records.{RecordMap, AreRecords, nodes_of, node_of}
-use Rattle.fs_record.specs.Applied.{records_after, record_change, has_target}
+use Rattle.fs_record.specs.Applied.{records_after, records_after_all, record_change, has_target}
 use Rattle.fs_record.specs.Effects.{effects_of, tells_its_effects}
 use Rattle.fs_record.specs.ValueOf.{value_of, value_at, handles_of, own_of, is_other}
 use Rattle.fs_record.proofs.Kept.{after_kept, get_with_at}
@@ -42,7 +42,7 @@ use Rattle.fs_record.proofs.ValueChanges.{value_follows, change_node}
 use Rattle.fs_view.specs.Told.{modes_under}
 use Rattle.fs_view.specs.Script.{Script, unless, no_dir, taken_name, no_write, ask_place, ask_size, new_file}
 use Rattle.fs_view.specs.Walk.{walk_along, walk, known_in, always}
-use Rattle.fs_view.specs.Laws.{records_after_all, item_meets}
+use Rattle.fs_view.specs.Laws.{item_meets}
 use Rattle.fs_view.proofs.Conflicting.{own_handle}
 use Rattle.fs_view.proofs.Seeing.{recorded, unborn, absent}
 

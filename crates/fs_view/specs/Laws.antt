@@ -1,5 +1,5 @@
 -- What laws say of walks.
-use Rattle.std.specs.Prelude.{◌≡◌, ℕ, ◌+◌, nat_le, Bool, false, true, List, [], ◌∷◌, Some, None}
+use Rattle.std.specs.Prelude.{◌≡◌, ℕ, ◌+◌, nat_le, Bool, false, true, List, Some, None}
 use Rattle.std.specs.FinMap.{get}
 use Rattle.fs_field.specs.declared.asked.Need.{Need}
 use Rattle.fs_field.specs.declared.asked.Need.TheVariants.{Lease, Fresh}
@@ -14,9 +14,6 @@ use Rattle.fs_model.specs.declared.op.Op.{Op}
 use Rattle.fs_model.specs.declared.op.Op.TheVariants as op
 use Rattle.fs_model.specs.declared.reply.Reply.{Reply}
 use Rattle.fs_model.specs.declared.reply.Reply.TheVariants as reply
-use Rattle.fs_field.specs.declared.effect.Effect.{Effect}
-use Rattle.fs_record.specs.Records.{RecordMap}
-use Rattle.fs_record.specs.Applied.{records_after}
 use Rattle.std.specs.List.{list_all}
 use Rattle.fs_view.specs.declared.kept.Kept.{Kept}
 use Rattle.fs_view.specs.Kept.{entries_of}
@@ -41,11 +38,6 @@ IsNewWhereMade m o r = Unit {0}
 abbrev pub but_cycle : Reply → Reply
 but_cycle reply.Cycle = reply.Renamed
 but_cycle r = r
-
--- the records after the effects, one after another
-abbrev pub records_after_all : RecordMap → List Effect → RecordMap
-records_after_all m [] = m
-records_after_all m (e ∷ es) = records_after_all (records_after m e) es
 
 -- the item is exclusive, and a lease of the kind on the field does not go together with it
 abbrev pub item_meets : Field → LeaseKind → Need → Bool

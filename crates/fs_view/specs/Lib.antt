@@ -8,3 +8,4 @@ pub mod Laws
 pub mod Change
 pub mod Admit
 pub mod Modes
+pub mod Pins

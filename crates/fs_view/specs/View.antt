@@ -1,5 +1,5 @@
 -- What a client knows: its leases in order of grant, each with the value that its field had, and what its log will do.
-use Rattle.std.specs.Prelude.{ℕ, Bool, true, false, not, ◌&&◌, List, [], ◌∷◌, ◌++◌, Option, Some, None, is_some, map, filter, find, if◌then◌else◌, option_map}
+use Rattle.std.specs.Prelude.{ℕ, zero, suc, Bool, true, false, not, ◌&&◌, List, [], ◌∷◌, ◌++◌, Option, Some, None, is_some, map, filter, find, if◌then◌else◌, option_map}
 use Rattle.std.specs.Option.{option_and_then, option_map_or}
 use Rattle.std.specs.List.{list_any, filter_map}
 use Rattle.fs_ident.specs.declared.actor.LeaseNo.{LeaseNo}
@@ -10,15 +10,17 @@ use Rattle.fs_field.specs.declared.lease_kind.LeaseKind.{LeaseKind}
 use Rattle.fs_field.specs.declared.used.Use.{Use}
 use Rattle.fs_field.specs.declared.value.Value.{Value}
 use Rattle.fs_field.specs.After.{value_after}
+use Rattle.fs_field.specs.Value.{is_value_of}
 use Rattle.fs_field.specs.Field.{file_of}
 use Rattle.fs_field.specs.declared.asked.Need.{Need}
 use Rattle.fs_field.specs.declared.asked.Need.TheVariants as need
 use Rattle.fs_model.specs.declared.op.Op.{Op}
 use Rattle.fs_model.specs.declared.reply.Reply.{Reply}
 use Rattle.fs_view.specs.declared.kept.Kept.{Kept}
+use Rattle.fs_view.specs.declared.new_lease.NewLease.{NewLease}
 use Rattle.fs_view.specs.declared.kept.Standing.{Standing}
 use Rattle.fs_view.specs.declared.kept.Standing.TheVariants.{Held, Pinned, Leaving}
-use Rattle.fs_view.specs.Kept.{number_of, file_in, has_number, serves, is_better, use_in, makes, offers, takes_pin, is_pinned, is_leaving, has_ended, pinned, unpinned, leaving, renewed, recalled_as}
+use Rattle.fs_view.specs.Kept.{number_of, file_in, has_number, serves, is_better, use_in, makes, offers, takes_pin, is_held, is_leaving, has_ended, pinned, unpinned, leaving, renewed, recalled_as}
 use Rattle.fs_view.specs.declared.walk.Walk.{Walk}
 use Rattle.fs_view.specs.Script.{Script}
 use Rattle.fs_view.specs.Walk.{Known, Given, walk_along, walk, missing}
@@ -114,6 +116,23 @@ lapsed_at now v = record v { leases = filter (λ k. not (has_ended now k.standin
 abbrev pub with_grant : LeaseNo → Field → LeaseKind → ℕ → Value → Option (List ℕ) → View → View
 with_grant number field kind until value below v = record v { leases = v.leases ++ record { standing = Held (record { no = number; field = field; kind = kind; until = until }); base = value; recalled = false; below = below } ∷ [] }
 
+-- a lease that its server gave is held
+abbrev pub kept_new : NewLease → Kept
+kept_new l = record { standing = Held (record { no = l.no; field = l.field; kind = l.kind; until = l.until }); base = l.value; recalled = false; below = l.below }
+
+abbrev pub with_new : NewLease → View → View
+with_new l v = with_grant l.no l.field l.kind l.until l.value l.below v
+
+-- each of the leases behind the others, in order
+abbrev pub with_grants : List NewLease → View → View
+with_grants [] v = v
+with_grants (l ∷ ls) v = with_grants ls (with_new l v)
+
+-- each has a value of its field, and a number that no lease has and none before it
+abbrev pub can_grant_all : List NewLease → List Kept → Bool
+can_grant_all [] leases = true
+can_grant_all (l ∷ ls) leases = (is_value_of l.field l.value && not (list_any (has_number l.no) leases)) && can_grant_all ls (leases ++ kept_new l ∷ [])
+
 -- the lease of this number is changed, and no other
 abbrev pub at_number : LeaseNo → (Kept → Kept) → List Kept → List Kept
 at_number number change leases = map (λ k. if has_number number k then change k else k) leases
@@ -136,11 +155,6 @@ unpinned_all (u ∷ us) leases = unpinned_all us (unpinned_at u.no leases)
 abbrev pub can_pin_all : List Use → List Kept → Bool
 can_pin_all [] leases = true
 can_pin_all (u ∷ us) leases = stands takes_pin u.no leases && can_pin_all us (pinned_at u.no leases)
-
--- entries use each of them, one after another
-abbrev pub can_unpin_all : List Use → List Kept → Bool
-can_unpin_all [] leases = true
-can_unpin_all (u ∷ us) leases = stands is_pinned u.no leases && can_unpin_all us (unpinned_at u.no leases)
 
 abbrev pub with_pins : List Use → View → View
 with_pins uses v = record v { leases = pinned_all uses v.leases }
@@ -182,6 +196,11 @@ first_admitted (es ∷ log) v = record { session = v.session; leases = map (know
 abbrev pub with_first_admitted : View → View
 with_first_admitted v = first_admitted v.pending v
 
+-- so many entries at the front, one after another
+abbrev pub admitted_front : ℕ → View → View
+admitted_front zero v = v
+admitted_front (suc k) v = admitted_front k (with_first_admitted v)
+
 -- its server asked for the lease
 abbrev pub with_recall : LeaseNo → View → View
 with_recall number v = record v { leases = at_number number (λ k. record k { recalled = recalled_as k.standing k.recalled }) v.leases }
@@ -192,6 +211,10 @@ with_leaving number v = record v { leases = at_number number (λ k. record k { s
 -- a lease that went back is given up
 abbrev pub without_lease : LeaseNo → View → View
 without_lease number v = record v { leases = filter (λ k. not (has_number number k)) v.leases }
+
+-- a lease that no entry uses is given up
+abbrev pub given_up : LeaseNo → View → View
+given_up number v = if stands is_held number v.leases then without_lease number v else v
 
 -- the lease has another end
 abbrev pub with_end : LeaseNo → ℕ → View → View

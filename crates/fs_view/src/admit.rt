@@ -1,12 +1,12 @@
 //! What becomes of the leases when effects are known to be admitted.
-ghost use Rattle.std.specs.Prelude.{◌≡◌, length, map, IfOk, OnOk, OnErr, unwrap_or};
+ghost use Rattle.std.specs.Prelude.{◌≡◌, drop, take, length, map, IfOk, OnOk, OnErr, unwrap_or};
 ghost use Rattle.std.specs.List.{list_any};
 ghost use Rattle.fs_field.specs.After.{touches};
-ghost use Rattle.fs_view.specs.View.{base_after, is_made_in, knowing, value_after_all};
-ghost use Rattle.fs_view.specs.Admit.{with_base, with_bases};
+ghost use Rattle.fs_view.specs.View.{value_after_log};
+ghost use Rattle.fs_view.specs.Admit.{base_after_log, is_made_by, knowing_all, with_base, with_bases};
 
 use crate::kept::{Kept, Standing};
-use crate::known::{after_all, is_made};
+use crate::known::{after_log, is_pending};
 use fs_field::{Effect, Field, Value, touches};
 use fs_ident::{List, Memory, Session, Twin};
 use std::alloc::Global;
@@ -17,14 +17,14 @@ pub fn admit(
     leases: &mut Vec<Kept>,
     alloc: Global,
     session: Session,
-    effects: &[Effect],
+    log: &[List<Effect>],
 ) -> Result<(), Memory>
     ensures ok { OnOk result (leases.new.items ≡
-        map (knowing session effects.now) leases.old.items) }
+        map (knowing_all session log.now) leases.old.items) }
     ensures err { OnErr result (leases.new.items ≡ leases.old.items) }
 {
-    let bases = new_bases(alloc, leases, session, effects)?;
-    put_bases(leases, bases, effects);
+    let bases = new_bases(alloc, leases, session, log)?;
+    put_bases(leases, bases, log);
     Ok(())
 }
 
@@ -33,15 +33,15 @@ fn new_bases(
     alloc: Global,
     leases: &[Kept],
     session: Session,
-    effects: &[Effect],
+    log: &[List<Effect>],
 ) -> Result<List<Option<Value>>, Memory>
     ensures each { IfOk result (λ bases. length bases ≡ length leases.now) }
     ensures after { IfOk result (λ bases.
-        with_bases effects.now leases.now bases ≡ map (knowing session effects.now) leases.now) }
+        with_bases log.now leases.now bases ≡ map (knowing_all session log.now) leases.now) }
 {
     let mut bases = List::from_vec(Vec::with_capacity(alloc, leases.len())?);
     for kept in leases {
-        bases.push(new_base(alloc, kept, session, effects)?)?;
+        bases.push(new_base(alloc, kept, session, log)?)?;
     }
     Ok(bases)
 }
@@ -51,74 +51,100 @@ fn new_base(
     alloc: Global,
     kept: &Kept,
     session: Session,
-    effects: &[Effect],
+    log: &[List<Effect>],
 ) -> Result<Option<Value>, Memory>
     ensures { IfOk result (λ base.
         unwrap_or base kept.now.base ≡
-        base_after session effects.now kept.now.standing kept.now.base) }
+        base_after_log session log.now kept.now.standing kept.now.base) }
 {
     match &kept.standing {
-        Standing::Held(held) => field_base(alloc, held.field(), &kept.base, session, effects),
-        Standing::Pinned(pinned) => field_base(alloc, pinned.field(), &kept.base, session, effects),
+        Standing::Held(held) => field_base(alloc, held.field(), &kept.base, session, log),
+        Standing::Pinned(pinned) => field_base(alloc, pinned.field(), &kept.base, session, log),
         Standing::Leaving(_) => Ok(None),
     }
 }
 
 /// The value of the field after the effects, where one touches it.
-#[tactic(auto, using(crate::proofs::Bases::untouched_by_all))]
+#[tactic(auto, using(crate::proofs::Bases::untouched_by_log))]
 fn field_base(
     alloc: Global,
     field: &Field,
     base: &Value,
     session: Session,
-    effects: &[Effect],
+    log: &[List<Effect>],
 ) -> Result<Option<Value>, Memory>
     ensures { IfOk result (λ after.
-        unwrap_or after base.now ≡ value_after_all session field.now base.now effects.now) }
+        unwrap_or after base.now ≡ value_after_log session field.now base.now log.now) }
 {
-    if !is_touched(field, effects) {
+    if !is_touched(field, log) {
         return Ok(None);
     }
     let copy = base.copy(alloc)?;
-    Ok(Some(after_all(alloc, session, field, copy, effects)?))
+    Ok(Some(after_log(alloc, session, field, copy, log)?))
 }
 
-fn is_touched(field: &Field, effects: &[Effect]) -> bool
+fn is_touched(field: &Field, log: &[List<Effect>]) -> bool
+    ensures { result ≡ list_any (λ es. list_any (λ e. touches e field.now) es) log.now }
+{
+    log.iter()
+        .any(|effects| is_touched_by(field, effects.as_slice()))
+}
+
+fn is_touched_by(field: &Field, effects: &[Effect]) -> bool
     ensures { result ≡ list_any (λ e. touches e field.now) effects.now }
 {
     effects.iter().any(|e| touches(e, field))
 }
 
 /// Puts the new base values in, each at the place of its lease.
-fn put_bases(leases: &mut [Kept], bases: List<Option<Value>>, effects: &[Effect])
+fn put_bases(leases: &mut [Kept], bases: List<Option<Value>>, log: &[List<Effect>])
     requires { length bases ≡ length leases.old }
-    ensures { leases.new ≡ with_bases effects.now leases.old bases }
+    ensures { leases.new ≡ with_bases log.now leases.old bases }
 {
     let mut bases = bases;
     for at in 0..leases.len() {
         let base = bases.replace(at, None);
-        put_base(&mut leases[at], base, effects);
+        put_base(&mut leases[at], base, log);
     }
 }
 
-fn put_base(kept: &mut Kept, base: Option<Value>, effects: &[Effect])
-    ensures { kept.new ≡ with_base effects.now kept.old base }
+fn put_base(kept: &mut Kept, base: Option<Value>, log: &[List<Effect>])
+    ensures { kept.new ≡ with_base log.now kept.old base }
 {
     if let Some(base) = base {
         kept.base = base;
     }
-    if is_made_in(&kept.standing, effects) {
+    if is_made_by(&kept.standing, log) {
         kept.below = None;
     }
 }
 
-/// Whether one of the effects makes the file that the lease is on.
-fn is_made_in(standing: &Standing, effects: &[Effect]) -> bool
-    ensures { result ≡ is_made_in effects.now standing.now }
+/// Whether one of the entries makes the file that the lease is on.
+fn is_made_by(standing: &Standing, log: &[List<Effect>]) -> bool
+    ensures { result ≡ is_made_by log.now standing.now }
 {
     match standing {
-        Standing::Held(held) => is_made(held.field().file(), effects),
-        Standing::Pinned(pinned) => is_made(pinned.field().file(), effects),
+        Standing::Held(held) => is_pending(held.field().file(), log),
+        Standing::Pinned(pinned) => is_pending(pinned.field().file(), log),
         Standing::Leaving(_) => false,
     }
+}
+
+/// The first so many, or all where there are fewer.
+#[tactic(auto, using(std::proofs::lemmas::List::take_min))]
+pub fn front(log: &[List<Effect>], count: usize) -> &[List<Effect>]
+    ensures { result.now ≡ take count log.now }
+{
+    &log[..count.min(log.len())]
+}
+
+/// Drops the first so many, or all where there are fewer.
+#[tactic(auto, using(std::proofs::lemmas::List::drop_min))]
+pub fn drop_front(log: &mut Vec<List<Effect>>, count: usize)
+    ensures { log.new.items ≡ drop count log.old.items }
+{
+    let count = count.min(log.len());
+    let rest = log.len() - count;
+    log.rotate_left(count);
+    log.truncate(rest);
 }

@@ -1,5 +1,5 @@
 //! Steps of leases in place, which take no memory.
-ghost use Rattle.std.specs.Prelude.{◌≡◌, ◌<◌, [], ◌∷◌, ◌++◌, true, not, filter, find, length, IfOk, IfSome, OnOk, OnErr};
+ghost use Rattle.std.specs.Prelude.{◌≡◌, ◌<◌, ◌≤◌, vec_len, vec_capacity, [], ◌∷◌, ◌++◌, true, not, filter, find, length, IfOk, IfSome, OnOk, OnErr};
 ghost use Rattle.std.specs.List.{position};
 ghost use Rattle.fs_view.specs.Kept.{has_ended, has_number};
 ghost use Rattle.fs_view.specs.Change.{changed, fits};
@@ -118,7 +118,9 @@ fn place(leases: &[Kept], no: LeaseNo) -> Option<usize>
 
 /// Gives up every lease that no entry uses and that is over at the reading.
 pub fn lapse(leases: &mut Vec<Kept>, now: u64)
-    ensures { leases.new.items ≡ filter (λ k. not (has_ended now k.standing)) leases.old.items }
+    ensures live { leases.new.items ≡ filter (λ k. not (has_ended now k.standing)) leases.old.items }
+    ensures len { vec_len leases.new ≤ vec_len leases.old }
+    ensures capacity { vec_capacity leases.new ≡ vec_capacity leases.old }
 {
     let mut at = 0;
     while at < leases.len() {

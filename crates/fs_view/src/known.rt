@@ -114,14 +114,14 @@ fn is_unused(standing: &Standing, now: u64, log: &[List<Effect>]) -> bool
 }
 
 /// Whether an entry of the log makes the file.
-fn is_pending(file: &FileId, log: &[List<Effect>]) -> bool
+pub fn is_pending(file: &FileId, log: &[List<Effect>]) -> bool
     ensures { result ≡ is_pending file.now log.now }
 {
     log.iter().any(|effects| is_made(file, effects.as_slice()))
 }
 
 /// Whether one of the effects makes the file.
-pub fn is_made(file: &FileId, effects: &[Effect]) -> bool
+fn is_made(file: &FileId, effects: &[Effect]) -> bool
     ensures { result ≡ list_any (makes file.now) effects.now }
 {
     effects.iter().any(|e| makes(file, e))

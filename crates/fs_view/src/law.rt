@@ -13,7 +13,8 @@ ghost use Rattle.fs_model.specs.declared.reply.Reply.{Reply};
 ghost use Rattle.fs_record.specs.Effects.{effects_of, tells_its_effects};
 ghost use Rattle.fs_record.specs.Records.{AreRecords, RecordMap, nodes_of};
 ghost use Rattle.fs_record.specs.ValueOf.{is_other, value_of};
-ghost use Rattle.fs_view.specs.Laws.{but_cycle, HasAll, IsNewWhereMade, have_room, item_meets, records_after_all};
+ghost use Rattle.fs_view.specs.Laws.{but_cycle, HasAll, IsNewWhereMade, have_room, item_meets};
+ghost use Rattle.fs_record.specs.Applied.{records_after_all};
 ghost use Rattle.fs_view.specs.View.{View, are_distinct, can_pin_all, uses_in, value_after_all};
 ghost use Rattle.fs_view.specs.Walk.{Known, Given, walk, known_in, always};
 

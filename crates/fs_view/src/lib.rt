@@ -8,7 +8,9 @@ mod kept;
 mod known;
 mod law;
 mod needs;
+mod new_lease;
 mod rename;
+mod room;
 mod seen;
 mod table;
 #[cfg(test)]
@@ -22,5 +24,7 @@ pub use law::{
     deletes_are_the_step, needs_are_enough, other_values_stay, own_values_follow,
     reads_have_no_effects, renames_are_the_step, replies_are_the_step, uses_can_be_pinned,
 };
+pub use new_lease::NewLease;
 pub use seen::Seen;
 pub use view::View;
+pub use walk::Walk;

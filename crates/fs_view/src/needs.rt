@@ -1,7 +1,7 @@
 //! What a view lacks for an operation, what it uses for it, and its reply.
 ghost use Rattle.std.specs.Prelude.{◌≡◌, [], Some, filter, not, IfOk};
 ghost use Rattle.std.specs.List.{filter_map};
-ghost use Rattle.fs_view.specs.View.{given_by, item_use, known_by, missing_in, reply_in, uses_in};
+ghost use Rattle.fs_view.specs.View.{given_by, item_use, known_by, missing_in, reply_in, uses_in, walk_in};
 ghost use Rattle.fs_view.specs.Walk.{is_there};
 
 use crate::table::walk_of;
@@ -13,6 +13,31 @@ use fs_model::{Op, Reply};
 use std::alloc::Global;
 
 impl View {
+    /// What the answer to the operation stands on at the reading, in order, and the reply where all of it is there.
+    pub fn walk(&self, alloc: Global, now: u64, op: &Op) -> Result<Walk, Memory>
+        ensures { IfOk result (λ w. w ≡ walk_in self.now now op.now) }
+    {
+        walk_of(self, alloc, now, op)
+    }
+
+    /// Those of the items that are not there at the reading.
+    pub fn missing_of(&self, now: u64, items: List<Need>) -> List<Need>
+        ensures { result ≡
+            filter (λ need. not (is_there (known_by self.now now) (given_by self.now now) need))
+            items }
+    {
+        let mut needs = items.into_vec();
+        keep_missing(self, now, &mut needs);
+        List::from_vec(needs)
+    }
+
+    /// The leases that the items are answered from at the reading, as an entry names them.
+    pub fn uses_of(&self, alloc: Global, now: u64, items: &List<Need>) -> Result<List<Use>, Memory>
+        ensures { IfOk result (λ uses. uses ≡ filter_map (item_use self.now now) items.now) }
+    {
+        uses_of(self, alloc, now, items.as_slice())
+    }
+
     /// What the answer to the operation stands on and is not there at the reading, in order.
     pub fn missing(&self, alloc: Global, now: u64, op: &Op) -> Result<List<Need>, Memory>
         ensures { IfOk result (λ needs. needs ≡ missing_in self.now now op.now) }
@@ -29,7 +54,7 @@ impl View {
         ensures { IfOk result (λ uses. uses ≡ uses_in self.now now op.now) }
     {
         let Walk { items, reply: _ } = walk_of(self, alloc, now, op)?;
-        uses_of(self, alloc, now, items.as_slice())
+        self.uses_of(alloc, now, &items)
     }
 
     /// The reply to the operation at the reading. Whether a rename would bring a directory into itself is told by no

@@ -1,9 +1,9 @@
 //! A client that answers from its leases.
-ghost use Rattle.std.specs.Prelude.{◌≡◌, true, IfOk};
+ghost use Rattle.std.specs.Prelude.{◌≡◌, [], true, IfOk};
 ghost use Rattle.fs_record.specs.Effects.{tells_its_effects};
-ghost use Rattle.fs_view.specs.Kept.{takes_pin};
-ghost use Rattle.fs_view.specs.View.{View as Viewed, can_pin_all, stands};
+ghost use Rattle.fs_view.specs.View.{can_grant_all, lapsed_at};
 
+use crate::new_lease::NewLease;
 use crate::view::View;
 use fs_field::{Field, LeaseKind, Need, Use, Value};
 use fs_ident::{FileId, Kind, LeaseNo, List, Name, Session, Twin};
@@ -136,7 +136,7 @@ fn creates(rt: &impl Abort, alloc: Global, view: &mut View) -> Result<(), Fail> 
     view.append(told)?;
     assert_eq!(rt; view.fresh(50, &root), None);
     assert!(rt; matches!(reply_at(view, alloc, 50, &op)?, Some(Reply::Exists)));
-    view.admit_first(alloc)?;
+    view.admit_front(alloc, 1)?;
     assert_eq!(rt; view.fresh(50, &root), None);
     assert!(rt; matches!(reply_at(view, alloc, 50, &op)?, Some(Reply::Exists)));
     Ok(())
@@ -226,20 +226,14 @@ fn gives_back(rt: &impl Abort, alloc: Global, view: &mut View) -> Result<(), Fai
     let life = Field::Life(FileId::root(alloc));
     give(view, alloc, 1, 100, &life, Value::Life(Some(Kind::Dir)))?;
     view.recall(FIRST);
-    if view.is_in_hand(FIRST) {
-        view.renew(FIRST, 200);
-    }
+    view.renew(FIRST, 200);
     view.lapse(199);
     let seen = view.leases(alloc)?;
     assert_eq!(rt; seen.len(), 1);
-    if view.is_held(FIRST) {
-        view.leave(FIRST);
-    }
+    view.leave(FIRST);
     assert!(rt; view.is_leaving(FIRST));
     view.lapse(200);
-    if view.is_leaving(FIRST) {
-        view.released(FIRST);
-    }
+    view.released(FIRST);
     assert!(rt; !view.has(FIRST));
     Ok(())
 }
@@ -253,10 +247,7 @@ fn a_lease_goes_back(rt: HostRuntime) -> Result<(), Fail> {
 }
 
 /// The use of the first lease.
-fn first_use(alloc: Global) -> Result<List<Use>, Fail>
-    ensures { IfOk result (λ uses. (v : Viewed) → stands takes_pin FIRST v.leases ≡ true →
-        can_pin_all uses v.leases ≡ true) }
-{
+fn first_use(alloc: Global) -> Result<List<Use>, Fail> {
     let mut uses = List::new(alloc);
     uses.push(Use {
         field: Field::Life(FileId::root(alloc)),
@@ -267,21 +258,24 @@ fn first_use(alloc: Global) -> Result<List<Use>, Fail>
     Ok(uses)
 }
 
-/// A lease that an entry uses stays when its time is over, in a copy too.
-#[tactic(auto, using(crate::proofs::Pins::held_fits))]
+/// A lease that an entry uses stays when its time is over, in a copy too, and when its row is gone.
 fn pins(rt: &impl Abort, alloc: Global, view: &mut View) -> Result<(), Fail> {
     let life = Field::Life(FileId::root(alloc));
     give(view, alloc, 1, 100, &life, Value::Life(Some(Kind::Dir)))?;
     let uses = first_use(alloc)?;
-    if !view.is_held(FIRST) {
+    if !view.can_pin(&uses) {
         return Err(Fail::from("it was granted"));
     }
     view.pin(&uses);
     view.lapse(100);
+    view.give_up(FIRST);
     assert!(rt; view.has(FIRST) && !view.is_held(FIRST));
     let twin = view.copy(alloc)?;
     assert!(rt; twin.has(FIRST));
     twin.discard();
+    view.unpin(&uses);
+    view.give_up(FIRST);
+    assert!(rt; !view.has(FIRST));
     Ok(())
 }
 
@@ -289,6 +283,60 @@ fn pins(rt: &impl Abort, alloc: Global, view: &mut View) -> Result<(), Fail> {
 fn a_pinned_lease_stays(rt: HostRuntime) -> Result<(), Fail> {
     let mut view = View::new(rt.alloc(), Session(1));
     let done = pins(&rt, rt.alloc(), &mut view);
+    view.discard();
+    done
+}
+
+/// The life of the root, which is a directory.
+fn root_life(alloc: Global) -> Result<List<NewLease>, Fail>
+    ensures { IfOk result (λ leases. can_grant_all leases [] ≡ true) }
+{
+    let mut leases = List::new(alloc);
+    leases.push(NewLease {
+        no: FIRST,
+        field: Field::Life(FileId::root(alloc)),
+        kind: LeaseKind::Shared,
+        until: 100,
+        value: Value::Life(Some(Kind::Dir)),
+        below: None,
+    })?;
+    Ok(leases)
+}
+
+/// One walk tells what is missing, and what is used.
+fn walks(rt: &impl Abort, alloc: Global, view: &View) -> Result<(), Fail> {
+    let op = Op::List {
+        dir: FileId::root(alloc),
+    };
+    let walk = view.walk(alloc, 99, &op)?;
+    assert!(rt; walk.reply.is_none());
+    let uses = view.uses_of(alloc, 99, &walk.items)?;
+    assert_eq!(rt; uses.len(), 1);
+    let names = Need::Lease(Field::Names(FileId::root(alloc)), LeaseKind::Shared);
+    let missing = view.missing_of(99, walk.items);
+    assert_eq!(rt; missing.as_slice(), [names].as_slice());
+    Ok(())
+}
+
+/// Leases that come together.
+fn grants(
+    rt: &impl Abort,
+    alloc: Global,
+    view: &mut View,
+    leases: List<NewLease>,
+) -> Result<(), Fail>
+    requires { can_grant_all leases (lapsed_at 0 view.old).leases ≡ true }
+{
+    view.grant_all(0, leases)?;
+    assert_eq!(rt; view.kept().len(), 1);
+    walks(rt, alloc, view)
+}
+
+#[test]
+fn leases_come_together(rt: HostRuntime) -> Result<(), Fail> {
+    let leases = root_life(rt.alloc())?;
+    let mut view = View::new(rt.alloc(), Session(1));
+    let done = grants(&rt, rt.alloc(), &mut view, leases);
     view.discard();
     done
 }

@@ -4,20 +4,23 @@ ghost use Rattle.std.specs.List.{list_any};
 ghost use Rattle.std.specs.Option.{option_copied};
 ghost use Rattle.fs_field.specs.Value.{is_value_of};
 ghost use Rattle.fs_view.specs.Kept.{has_number, seen_of, takes_pin, is_held, is_pinned, is_leaving};
-ghost use Rattle.fs_view.specs.View.{can_pin_all, can_unpin_all, is_in_hand, stands, lapsed_at, with_grant, fresh, given_by, known_by, offered, taken, with_pins, without_pins, with_entry, with_admitted, with_first_admitted, with_recall, with_leaving, without_lease, with_end};
+ghost use Rattle.fs_view.specs.View.{admitted_front, are_distinct, can_grant_all, can_pin_all, is_in_hand, stands, lapsed_at, given_up, with_grant, with_grants, fresh, given_by, known_by, offered, taken, with_pins, without_pins, with_entry, with_admitted, with_first_admitted, with_recall, with_leaving, without_lease, with_end};
 
-use crate::admit::admit;
+use crate::admit::{admit, drop_front, front};
 use crate::change::{
     Change, add, change_at, copy_all, discard_all, give_up, lapse, pin_all, unpin_all,
 };
 use crate::kept::{Kept, Standing};
 use crate::known::{after_log, has_number, numbered, offered, taken};
+use crate::new_lease::{NewLease, add_all};
+use crate::room::can_pin_all;
 use crate::seen::Seen;
 use fs_field::{Effect, Field, LeaseKind, Use, Value};
 use fs_ident::{FileId, LeaseNo, List, Memory, Session, Twin};
 use fs_lease::Held;
 use std::alloc::Global;
 use std::marker::Model;
+use std::slice;
 
 /// What the client of one session knows: its leases in order of grant, each with its number, and for each entry of
 /// its log what that will do.
@@ -62,6 +65,13 @@ impl View {
             seen.push(kept.seen(alloc)?)?;
         }
         Ok(seen)
+    }
+
+    /// The leases as they are kept, in order of grant.
+    pub fn kept(&self) -> &[Kept]
+        ensures { result.now ≡ self.now.leases }
+    {
+        &self.leases
     }
 
     /// The lease of this number, if there is one.
@@ -146,6 +156,19 @@ impl View {
         add(&mut self.leases, kept)
     }
 
+    /// What is over at the reading is given up, and these leases are added behind the others, held. `Memory` where
+    /// memory is wanting; nothing changed then.
+    pub fn grant_all(&mut self, now: u64, leases: List<NewLease>) -> Result<(), Memory>
+        requires { can_grant_all leases (lapsed_at now self.old).leases ≡ true }
+        ensures ok { OnOk result (self.new ≡ with_grants leases (lapsed_at now self.old)) }
+        ensures err { OnErr result (self.new ≡ self.old) }
+    {
+        self.leases.reserve(leases.len())?;
+        lapse(&mut self.leases, now);
+        add_all(&mut self.leases, leases);
+        Ok(())
+    }
+
     /// The first identifier for a new file in the directory that is live at the reading and that no entry makes.
     pub fn fresh(&self, now: u64, dir: &FileId) -> Option<&FileId>
         ensures { option_copied result ≡ fresh self.now now dir.now }
@@ -156,6 +179,14 @@ impl View {
         }
     }
 
+    /// Whether one entry more can use each of these leases, one after another.
+    pub fn can_pin(&self, uses: &List<Use>) -> bool
+        ensures same { result ≡ can_pin_all uses.now self.now.leases }
+        ensures distinct { are_distinct self.now.leases ≡ true }
+    {
+        can_pin_all(&self.leases, uses.as_slice())
+    }
+
     /// Each lease that is used has one entry more.
     pub fn pin(&mut self, uses: &List<Use>)
         requires { can_pin_all uses.now self.old.leases ≡ true }
@@ -164,9 +195,8 @@ impl View {
         pin_all(&mut self.leases, uses.as_slice());
     }
 
-    /// Each lease that is used has one entry less.
+    /// Each lease that is used has one entry less, where an entry uses it.
     pub fn unpin(&mut self, uses: &List<Use>)
-        requires { can_unpin_all uses.now self.old.leases ≡ true }
         ensures { self.new ≡ without_pins uses.now self.old }
     {
         unpin_all(&mut self.leases, uses.as_slice());
@@ -187,20 +217,33 @@ impl View {
         ensures ok { OnOk result (self.new ≡ with_first_admitted self.old) }
         ensures err { OnErr result (self.new ≡ self.old) }
     {
-        let first = self.pending.as_slice()[0].as_slice();
-        admit(&mut self.leases, alloc, self.session, first)?;
-        self.pending.remove(0);
+        self.admit_front(alloc, 1)
+    }
+
+    /// The first so many entries of the log are known to be admitted: what they did joins the base values. `Memory`
+    /// where memory is wanting; nothing changed then.
+    pub fn admit_front(&mut self, alloc: Global, count: usize) -> Result<(), Memory>
+        ensures ok { OnOk result (self.new ≡ admitted_front count self.old) }
+        ensures err { OnErr result (self.new ≡ self.old) }
+    {
+        let admitted = front(self.pending.as_slice(), count);
+        admit(&mut self.leases, alloc, self.session, admitted)?;
+        drop_front(self.pending.items_mut(), count);
         Ok(())
     }
 
-    /// These effects are known to be admitted, while no entry of the log waits: they join the base values. `Memory`
-    /// where memory is wanting; nothing changed then.
+    /// These effects are known to be admitted: they join the base values. `Memory` where memory is wanting; nothing
+    /// changed then.
     pub fn admit(&mut self, alloc: Global, effects: &List<Effect>) -> Result<(), Memory>
-        requires { self.old.pending ≡ [] }
         ensures ok { OnOk result (self.new ≡ with_admitted effects.now self.old) }
         ensures err { OnErr result (self.new ≡ self.old) }
     {
-        admit(&mut self.leases, alloc, self.session, effects.as_slice())
+        admit(
+            &mut self.leases,
+            alloc,
+            self.session,
+            slice::from_ref(effects),
+        )
     }
 
     /// The server asked for the lease of this number: noted, unless it goes back already.
@@ -210,25 +253,31 @@ impl View {
         change_at(&mut self.leases, no, Change::Recall);
     }
 
-    /// The lease of this number goes back.
+    /// The lease of this number goes back, where no entry uses it.
     pub fn leave(&mut self, no: LeaseNo)
-        requires { stands is_held no self.old.leases ≡ true }
         ensures { self.new ≡ with_leaving no self.old }
     {
         change_at(&mut self.leases, no, Change::Leave);
     }
 
+    /// The lease of this number is given up, without a word to its server where no entry uses it.
+    pub fn give_up(&mut self, no: LeaseNo)
+        ensures { self.new ≡ given_up no self.old }
+    {
+        if self.is_held(no) {
+            give_up(&mut self.leases, no);
+        }
+    }
+
     /// The server has the lease of this number back: it is given up.
     pub fn released(&mut self, no: LeaseNo)
-        requires { stands is_leaving no self.old.leases ≡ true }
         ensures { self.new ≡ without_lease no self.old }
     {
         give_up(&mut self.leases, no);
     }
 
-    /// The lease of this number has another end.
+    /// The lease of this number has another end, unless it goes back.
     pub fn renew(&mut self, no: LeaseNo, until: u64)
-        requires { stands is_in_hand no self.old.leases ≡ true }
         ensures { self.new ≡ with_end no until self.old }
     {
         change_at(&mut self.leases, no, Change::Renew(until));

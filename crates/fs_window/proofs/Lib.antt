@@ -1,5 +1,10 @@
-pub mod Direction
+pub mod Actors
+pub mod ByActor
+pub mod Carried
 pub mod Lists
+pub mod OneStep
 pub mod PacketSteps
+pub mod PeerOrder
 pub mod ReadBack
 pub mod Schedule
+pub mod Undone

@@ -1,28 +1,13 @@
--- Lists: what holds of each element, and the element at a place.
-use Rattle.std.proofs.Common.{◌≡◌, ℕ, zero, suc, ◌+◌, ◌-◌, ◌≤◌, List, [], ◌∷◌, ◌++◌, length, drop, Option, Some, refl, sym, ap, subst, ◌∙◌, append_assoc, arith}
-use Rattle.std.specs.List.{AllByRecursion}
+-- Lists: the element at a place, and what is made of the elements one after another.
+use Rattle.std.proofs.Common.{◌≡◌, ℕ, zero, suc, ◌+◌, ◌<◌, List, [], ◌∷◌, ◌++◌, length, map, get_or, drop, Option, Some, refl, sym, ap, ◌∙◌, append_assoc, arith}
 use Rattle.std.specs.Prelude.{slice_get}
-use Rattle.std.proofs.lemmas.List.{drop-drop}
-use Rattle.fs_window.specs.Ends.{IsPrefixOf}
-
-pub all_more : {X : Type 0} (P Q : X → Type 0) → ((x : X) → P x → Q x) → (xs : List X) → AllByRecursion P xs → AllByRecursion Q xs
-all_more P Q f [] h = tt
-all_more P Q f (x ∷ xs) h = (f x h.0, all_more P Q f xs h.1)
-
-pub all_append : {X : Type 0} (P : X → Type 0) (xs ys : List X) → AllByRecursion P xs → AllByRecursion P ys → AllByRecursion P (xs ++ ys)
-all_append P [] ys h k = k
-all_append P (x ∷ xs) ys h k = (h.0, all_append P xs ys h.1 k)
+use Rattle.std.proofs.lemmas.List.{drop-drop, drop_more}
 
 abbrev some_of : {A : Type 0} → A → Option A
 some_of x = Some x
 
-some_is : {A : Type 0} (x y : A) → some_of x ≡ some_of y → x ≡ y
+pub some_is : {A : Type 0} (x y : A) → some_of x ≡ some_of y → x ≡ y
 some_is x y e = cc
-
-pub all_get : {X : Type 0} (P : X → Type 0) (xs : List X) (k : ℕ) (x : X) → AllByRecursion P xs → slice_get xs k ≡ Some x → P x
-all_get P [] k x h e = absurd cc
-all_get P (y ∷ ys) zero x h e = subst P (some_is y x e) h.0
-all_get P (y ∷ ys) (suc k) x h e = all_get P ys k x h.1 e
 
 pub get_more : (xs ys : List (List ℕ)) (k : ℕ) (x : List ℕ) → slice_get xs k ≡ Some x → slice_get (xs ++ ys) k ≡ Some x
 get_more [] ys k x e = absurd cc
@@ -35,23 +20,26 @@ get_drop [] (suc n) w ws e = absurd cc
 get_drop (x ∷ xs) zero w ws e = cc
 get_drop (x ∷ xs) (suc n) w ws e = get_drop xs n w ws e
 
+pub get_past : (xs : List (List ℕ)) (j k : ℕ) → slice_get (drop j xs) k ≡ slice_get xs (j + k)
+get_past xs zero k = ap (λ (n : ℕ). slice_get xs n) (omega arith)
+get_past [] (suc j) k = refl
+get_past (x ∷ xs) (suc j) k =
+    let one : suc (j + k) ≡ suc j + k = omega arith in
+    get_past xs j k ∙ ap (λ (n : ℕ). slice_get (x ∷ xs) n) one
+
+pub get_behind : (xs ys : List (List ℕ)) (k : ℕ) → slice_get (xs ++ ys) (length xs + k) ≡ slice_get ys k
+get_behind [] ys k = ap (λ (n : ℕ). slice_get ys n) (omega arith)
+get_behind (z ∷ xs) ys k =
+    let one : suc (length xs) + k ≡ suc (length xs + k) = omega arith in
+    ap (λ (n : ℕ). slice_get (z ∷ (xs ++ ys)) n) one ∙ get_behind xs ys k
+
 pub drop_next : (xs : List (List ℕ)) (n : ℕ) (w : List ℕ) (ws : List (List ℕ)) → drop n xs ≡ w ∷ ws → drop (n + 1) xs ≡ ws
 drop_next xs n w ws e = sym (drop-drop 1 n xs) ∙ ap (λ (x : List (List ℕ)). drop 1 x) e
 
--- what is left of a list from one place on, from a later place on
-pub drop_on : (xs left : List (List ℕ)) (k j : ℕ) → left ≡ drop k xs → k ≤ j → drop (j - k) left ≡ drop j xs
-drop_on xs left k j e le =
-    let on : k + (j - k) ≡ j = omega arith in
-    ap (λ (x : List (List ℕ)). drop (j - k) x) e ∙ drop-drop (j - k) k xs ∙ ap (λ (n : ℕ). drop n xs) on
-
-get_seam : (xs ys : List (List ℕ)) → slice_get (xs ++ ys) (length xs) ≡ slice_get ys 0
-get_seam [] ys = refl
-get_seam (x ∷ xs) ys = get_seam xs ys
-
--- a beginning with the next element
-pub prefix_next : (xs all : List (List ℕ)) (x : List ℕ) → IsPrefixOf xs all → slice_get all (length xs) ≡ Some x → IsPrefixOf (xs ++ x ∷ []) all
-prefix_next xs all x h e = go h.0 h.1 (sym (get_seam xs h.0) ∙ ap (λ (y : List (List ℕ)). slice_get y (length xs)) h.1 ∙ e)
-  where
-    go : (rest : List (List ℕ)) → xs ++ rest ≡ all → slice_get rest 0 ≡ Some x → IsPrefixOf (xs ++ x ∷ []) all
-    go [] whole here = absurd cc
-    go (y ∷ ys) whole here = (ys, append_assoc xs (x ∷ []) ys ∙ ap (λ (z : List ℕ). xs ++ z ∷ ys) (sym (some_is y x here)) ∙ whole)
+-- what was made of the first elements, with what is made of one more
+pub mapped_next : {X Y : Type 0} (f : X → Y) (xs : List X) (i : ℕ) (x : X) (y : Y) (done total : List Y) → i < length xs → x ≡ get_or xs i x → y ≡ f x
+    → done ++ map f (drop i xs) ≡ total → (done ++ y ∷ []) ++ map f (drop (i + 1) xs) ≡ total
+mapped_next {X} {Y} f xs i x y done total lt here is so_far =
+    let left : drop i xs ≡ x ∷ drop (i + 1) xs = drop_more xs i x lt ∙ ap (λ (z : X). z ∷ drop (i + 1) xs) (sym here) in
+    append_assoc done (y ∷ []) (map f (drop (i + 1) xs)) ∙ ap (λ (z : Y). done ++ z ∷ map f (drop (i + 1) xs)) is
+    ∙ ap (λ (zs : List X). done ++ map f zs) (sym left) ∙ so_far

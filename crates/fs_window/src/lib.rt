@@ -2,16 +2,29 @@
 #![tactic(auto)]
 
 mod error;
+mod heard;
 mod law;
+mod link;
+mod links;
 mod packet;
+mod peers;
+mod post;
 mod queue;
 mod sent;
 #[cfg(test)]
 mod tests;
+mod undo;
 mod window;
 
 pub use error::LinkError;
-pub use law::in_order;
+pub use fs_frag::Joined;
+pub use heard::Heard;
+pub use law::{
+    each_actor_has_a_link, in_order, messages_stay_in_order, packets_stay_honest,
+    segments_stay_in_order,
+};
 pub use packet::{Packet, read_packet, write_packet};
+pub use post::Post;
 pub use sent::Sent;
+pub use undo::Undo;
 pub use window::Window;

@@ -66,7 +66,7 @@ pub fn write_packet(alloc: Global, p: &Packet, out: &mut Vec<u8>) -> Result<(), 
 }
 
 /// The spelling of a packet.
-fn text_of(alloc: Global, p: &Packet) -> Result<Vec<u8>, Memory>
+pub(crate) fn text_of(alloc: Global, p: &Packet) -> Result<Vec<u8>, Memory>
     ensures { IfOk result (λ text. text.items ≡ packet_text p.now) }
 {
     let mut text = Vec::new(alloc);

@@ -1,6 +1,7 @@
 use crate::error::LinkError;
 use crate::law::in_order;
 use crate::packet::{Packet, read_packet, write_packet};
+use crate::post::Post;
 use crate::sent::Sent;
 use crate::window::Window;
 use fs_frag::{Segment, cut};
@@ -112,5 +113,43 @@ fn copies_what_was_sent(rt: HostRuntime) -> Result<(), Fail> {
     let twin = sent.copy(rt.alloc())?;
     assert!(rt; twin.from == sent.from && twin.to == sent.to);
     assert_eq!(rt; twin.bytes.as_slice(), FIRST.as_slice());
+    Ok(())
+}
+
+/// The packet that these bytes spell.
+fn packet_of(alloc: Global, sent: &Sent) -> Result<Packet, Fail> {
+    Ok(read_packet(alloc, sent.bytes.as_slice())?.ok_or("it is a packet")?)
+}
+
+#[test]
+fn messages_over_a_network(rt: HostRuntime) -> Result<(), Fail> {
+    let alloc = rt.alloc();
+    let server = Peer::Server(0);
+    let client = Peer::Client(Session(1));
+    let mut left = Post::new(alloc, client, 1)?;
+    let mut right = Post::new(alloc, server, 1)?;
+    left.push(alloc, server, &[7; 1016])?;
+    left.push(alloc, server, &[8; 1017])?;
+    assert_eq!(rt; left.pushed(server), 3);
+    assert_eq!(rt; right.pushed(client), 0);
+    // Each packet is told twice, and on its turn the sender sends what was not acknowledged again.
+    for (fresh, whole) in [(1, true), (1, false), (1, true)] {
+        let sent = left.due(alloc, false, None)?;
+        let again = left.due(alloc, true, None)?;
+        assert_eq!(rt; (sent.len(), again.len()), (1, 1));
+        for (packet, fresh, whole) in [(&sent, fresh, whole), (&again, 0, false)] {
+            let told = packet_of(alloc, &packet.as_slice()[0])?;
+            let heard = right.accept(alloc, client, &told)?;
+            assert_eq!(rt; heard.fresh, fresh);
+            assert_eq!(rt; heard.joined.len() == 1, whole);
+        }
+        let answer = right.due(alloc, false, Some(client))?;
+        assert_eq!(rt; answer.len(), 1);
+        assert!(rt; answer.as_slice()[0].to == client);
+        left.accept(alloc, server, &packet_of(alloc, &answer.as_slice()[0])?)?;
+    }
+    assert_eq!(rt; right.got(client), 3);
+    assert!(rt; left.due(alloc, true, None)?.is_empty());
+    assert!(rt; right.copy(alloc)?.due(alloc, true, None)?.is_empty());
     Ok(())
 }

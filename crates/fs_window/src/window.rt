@@ -126,10 +126,28 @@ impl Window {
         ensures no_memory { given_by self.old.got p.now.body ≡ [] → IsOk result }
     {
         let segments = self.gives(alloc, p)?;
+        self.take(p);
+        Ok(segments)
+    }
+
+    /// Takes a packet whose segments `gives` told: its acknowledgement counts, and they are given. Takes no memory.
+    pub fn take(&mut self, p: &Packet)
+        ensures { self.new ≡ after_accept self.old p.now }
+    {
+        let given = self.given_count(p);
         let acked = self.acked_after(p.ack);
         self.move_to(acked, self.sent);
-        self.got = self.got.saturating_add(segments.len() as u64);
-        Ok(segments)
+        self.got = self.got.saturating_add(given);
+    }
+
+    /// How many segments a packet gives.
+    fn given_count(&self, p: &Packet) -> u64
+        ensures { result ≡ length (given_by self.now.got p.now.body) }
+    {
+        match &p.body {
+            Some((number, _)) if *number == self.got => 1,
+            _ => 0,
+        }
     }
 
     /// What goes to the other end: the segments that were not sent yet, as far as the width reaches, and then,
@@ -140,9 +158,24 @@ impl Window {
         ensures state { OnOk result (self.new ≡ after_due self.old) }
         ensures err { OnErr result (self.new ≡ self.old) }
     {
-        let packets = or_alone(self.with_bodies(alloc, again)?, self.got, heard)?;
-        self.move_to(self.acked, self.sent + self.unsent_count());
+        let packets = self.packets(alloc, again, heard)?;
+        self.mark_sent();
         Ok(packets)
+    }
+
+    /// What `due` sends. Nothing changes.
+    pub fn packets(&self, alloc: Global, again: bool, heard: bool) -> Result<List<Packet>, Memory>
+        ensures { IfOk result (λ packets. packets ≡ due_of self.now again heard) }
+    {
+        or_alone(self.with_bodies(alloc, again)?, self.got, heard)
+    }
+
+    /// Counts what `packets` told as sent. Takes no memory.
+    pub fn mark_sent(&mut self)
+        ensures { self.new ≡ after_due self.old }
+    {
+        let sent = self.sent + self.unsent_count();
+        self.move_to(self.acked, sent);
     }
 
     /// How many segments go for the first time.

@@ -1,0 +1,110 @@
+-- Grants that fit the question are leases that can come.
+use Rattle.std.proofs.Common.{◌≡◌, ℕ, ◌+◌, ◌<◌, Bool, true, false, not, ◌&&◌, ◌||◌, List, [], ◌∷◌, ◌++◌, refl, ap, sym, ◌∙◌, get_or, length, map, take, append-nil}
+use Rattle.std.specs.Prelude.{Option, Some, None, is_some, Result, Ok, Err, IfOk}
+use Rattle.fs_ident.specs.declared.memory.Memory.{Memory}
+use Rattle.fs_msg.specs.declared.client_note.ClientNote.{ClientNote}
+use Rattle.fs_client.specs.declared.plan.Plan.{Plan}
+use Rattle.std.specs.List.{list_any}
+use Rattle.std.proofs.lemmas.List.{take_more, map-append}
+use Rattle.fs_ident.specs.declared.actor.LeaseNo.{LeaseNo}
+use Rattle.fs_field.specs.declared.field.Field.{Field}
+use Rattle.fs_field.specs.declared.lease_kind.LeaseKind.{LeaseKind}
+use Rattle.fs_field.specs.Table.{same_no}
+use Rattle.fs_field.specs.Value.{is_value_of}
+use Rattle.fs_msg.specs.declared.answer.Answer.{Answer}
+use Rattle.fs_msg.specs.declared.answer.Answer.TheVariants.{Granted, Renewed, Released, Shipped, Recall}
+use Rattle.fs_msg.specs.declared.answer.Grant.{Grant}
+use Rattle.fs_view.specs.declared.kept.Kept.{Kept}
+use Rattle.fs_view.specs.Kept.{has_number}
+use Rattle.fs_view.specs.View.{can_grant_all, kept_new}
+use Rattle.fs_client.specs.declared.exchange.Exchange.{Exchange}
+use Rattle.fs_client.specs.declared.exchange.Exchange.TheVariants.{Asks, Renews, Releases, Ships}
+use Rattle.fs_client.specs.declared.state.Client.{Client}
+use Rattle.fs_client.specs.Answers.{fits, grants_fit, is_new, is_of_item, lease_in, leases_in, rest_fits, told}
+use Rattle.fs_client.specs.Client.{can_change}
+
+pub leases_step : (fresh : Option (List ℕ)) (gs : List Grant) (i : ℕ) (d : Grant) → i < length gs → leases_in fresh (take (i + 1) gs) ≡ leases_in fresh (take i gs) ++ lease_in fresh (get_or gs i d) ∷ []
+leases_step fresh gs i d h = rw (take_more gs i d h) (map-append (lease_in fresh) (take i gs) (get_or gs i d ∷ []))
+
+-- ## Numbers that are new
+
+-- the leases with those that these grants bring
+abbrev pub kept_with : Option (List ℕ) → List Kept → List Grant → List Kept
+kept_with fresh leases [] = leases
+kept_with fresh leases (g ∷ gs) = kept_with fresh (leases ++ kept_new (lease_in fresh g) ∷ []) gs
+
+or_assoc : (a b c : Bool) → ((a || b) || c) ≡ (a || (b || c))
+or_assoc true b c = refl
+or_assoc false b c = refl
+
+or_false : (a : Bool) → (a || false) ≡ a
+or_false true = refl
+or_false false = refl
+
+any_one : (f : Kept → Bool) (xs : List Kept) (x : Kept) → list_any f (xs ++ x ∷ []) ≡ (list_any f xs || f x)
+any_one f [] x = or_false (f x)
+any_one f (y ∷ xs) x = ap (λ b. f y || b) (any_one f xs x) ∙ sym (or_assoc (f y) (list_any f xs) (f x))
+
+abbrev pub has_no_of : LeaseNo → Grant → Bool
+has_no_of n b = same_no b.no n
+
+any_kept : (fresh : Option (List ℕ)) (n : LeaseNo) (leases : List Kept) (before : List Grant) → list_any (has_number n) (kept_with fresh leases before) ≡ (list_any (has_number n) leases || list_any (has_no_of n) before)
+any_kept fresh n leases [] = sym (or_false (list_any (has_number n) leases))
+any_kept fresh n leases (g ∷ gs) =
+    any_kept fresh n (leases ++ kept_new (lease_in fresh g) ∷ []) gs
+    ∙ ap (λ b. b || list_any (has_no_of n) gs) (any_one (has_number n) leases (kept_new (lease_in fresh g)))
+    ∙ or_assoc (list_any (has_number n) leases) (same_no g.no n) (list_any (has_no_of n) gs)
+
+more_kept : (fresh : Option (List ℕ)) (leases : List Kept) (before : List Grant) (g : Grant) → kept_with fresh leases (before ++ g ∷ []) ≡ kept_with fresh leases before ++ kept_new (lease_in fresh g) ∷ []
+more_kept fresh leases [] g = refl
+more_kept fresh leases (b ∷ bs) g = more_kept fresh (leases ++ kept_new (lease_in fresh b) ∷ []) bs g
+
+-- ## Tests that pass
+
+both : (a b : Bool) → (a && b) ≡ true → (a ≡ true) × (b ≡ true)
+both true b h = (refl, h)
+both false b h = absurd (cc)
+
+neither : (a b : Bool) → (not a && not b) ≡ true → not (a || b) ≡ true
+neither true b h = absurd (cc)
+neither false b h = h
+
+-- a grant that fits is a lease that can come
+can_one : (fresh : Option (List ℕ)) (item : Field × LeaseKind) (leases : List Kept) (before : List Grant) (g : Grant) (rest : Bool) → is_of_item item g ≡ true → is_new leases before g ≡ true → rest ≡ true
+    → ((is_value_of g.field g.value && not (list_any (has_number g.no) (kept_with fresh leases before))) && rest) ≡ true
+can_one fresh item leases before g rest p q r =
+    let value : is_value_of g.field g.value ≡ true = (both _ _ p).1 in
+    let new : not (list_any (has_number g.no) (kept_with fresh leases before)) ≡ true = ap not (any_kept fresh g.no leases before) ∙ neither (list_any (has_number g.no) leases) (list_any (has_no_of g.no) before) q in
+    ap (λ b. (b && not (list_any (has_number g.no) (kept_with fresh leases before))) && rest) value ∙ ap (λ b. b && rest) new ∙ r
+
+pub grants_can : (items : List (Field × LeaseKind)) (given fresh : Option (List ℕ)) (leases : List Kept) (before gs : List Grant) → grants_fit items fresh leases before gs ≡ true → can_grant_all (leases_in given gs) (kept_with given leases before) ≡ true
+grants_can [] given fresh leases before gs h = rest_can given fresh leases before gs h
+  where
+    rest_can : (given fresh : Option (List ℕ)) (leases : List Kept) (before gs : List Grant) → rest_fits fresh leases before gs ≡ true → can_grant_all (leases_in given gs) (kept_with given leases before) ≡ true
+    rest_can given None leases before [] h = refl
+    rest_can given None leases before (g ∷ gs) h = absurd (cc)
+    rest_can given (Some id) leases before [] h = refl
+    rest_can given (Some id) leases before (g ∷ []) h = let p = both _ _ h in can_one given _ leases before g true p.0 p.1 refl
+    rest_can given (Some id) leases before (g ∷ k ∷ gs) h = absurd (cc)
+grants_can (x ∷ xs) given fresh leases before [] h = refl
+grants_can (x ∷ xs) given fresh leases before (g ∷ gs) h =
+    let p = both _ _ h in
+    let q = both _ _ p.0 in
+    can_one given x leases before g _ q.0 q.1 (ap (λ ks. can_grant_all (leases_in given gs) ks) (sym (more_kept given leases before g)) ∙ grants_can xs given fresh leases (before ++ g ∷ []) gs p.1)
+
+-- ## What an answer that fits changes
+
+pub fits_can : (from : ℕ) (x : Option Exchange) (a : Answer) (c : Client) → fits from x a c ≡ true → can_change (told a c).ready.change c ≡ true
+fits_can from x (Recall number) c h = refl
+fits_can from x (Renewed rows e) c h = refl
+fits_can from x (Released count e) c h = refl
+fits_can from x (Shipped count e) c h = refl
+fits_can from None (Granted gs given e) c h = absurd (cc)
+fits_can from (Some (Asks to items asked)) (Granted gs given e) c h = grants_can items given given c.view.leases [] gs (both _ _ (both _ _ h).1).1
+fits_can from (Some (Renews to numbers)) (Granted gs given e) c h = absurd (cc)
+fits_can from (Some (Releases to numbers)) (Granted gs given e) c h = absurd (cc)
+fits_can from (Some (Ships to count)) (Granted gs given e) c h = absurd (cc)
+
+pub ok_can : (r : Result (Plan ClientNote) Memory) (q : Plan ClientNote) (c : Client) → IfOk r (λ p. p ≡ q) → can_change q.ready.change c ≡ true → IfOk r (λ p. can_change p.ready.change c ≡ true)
+ok_can (Ok p) q c e h = ap (λ (x : Plan ClientNote). can_change x.ready.change c) e ∙ h
+ok_can (Err m) q c e h = tt

@@ -1,0 +1,9 @@
+pub mod Chosen
+pub mod Pinnable
+pub mod Needed
+pub mod Turning
+pub mod AdmittedFront
+pub mod Planning
+pub mod FitsSteps
+pub mod Granted
+pub mod Keeping

@@ -1,0 +1,149 @@
+-- What a client does with an answer.
+use Rattle.std.specs.Prelude.{ℕ, zero, suc, Bool, true, false, not, ◌&&◌, ◌==◌, nat_le, List, [], ◌∷◌, ◌++◌, length, take, map, Option, Some, None, is_some, if◌then◌else◌}
+use Rattle.std.specs.List.{list_any}
+use Rattle.fs_ident.specs.Ident.{parent}
+use Rattle.fs_ident.specs.declared.actor.LeaseNo.{LeaseNo}
+use Rattle.fs_field.specs.declared.field.Field.{Field}
+use Rattle.fs_field.specs.declared.field.Field.TheVariants.{Life}
+use Rattle.fs_field.specs.declared.lease_kind.LeaseKind.{LeaseKind}
+use Rattle.fs_field.specs.declared.lease_kind.LeaseKind.TheVariants.{Exclusive}
+use Rattle.fs_field.specs.Field.{same_field}
+use Rattle.fs_field.specs.Table.{same_no, same_kind, is_parent}
+use Rattle.fs_field.specs.Value.{is_value_of}
+use Rattle.fs_msg.specs.declared.answer.Answer.{Answer}
+use Rattle.fs_msg.specs.declared.answer.Answer.TheVariants.{Granted, Renewed, Released, Shipped, Recall}
+use Rattle.fs_msg.specs.declared.answer.Grant.{Grant}
+use Rattle.fs_msg.specs.declared.client_note.ClientNote.{ClientNote}
+use Rattle.fs_msg.specs.declared.client_note.ClientNote.TheVariants as note
+use Rattle.fs_msg.specs.declared.end.End.{End}
+use Rattle.fs_msg.specs.declared.end.End.TheVariants as end
+use Rattle.fs_msg.specs.declared.entry.Entry.{Entry}
+use Rattle.fs_view.specs.declared.kept.Kept.{Kept}
+use Rattle.fs_view.specs.declared.new_lease.NewLease.{NewLease}
+use Rattle.fs_view.specs.Kept.{has_number}
+use Rattle.fs_client.specs.declared.change.Change.TheVariants as change
+use Rattle.fs_client.specs.declared.exchange.Exchange.{Exchange}
+use Rattle.fs_client.specs.declared.exchange.Exchange.TheVariants.{Asks, Renews, Releases, Ships}
+use Rattle.fs_client.specs.declared.plan.Plan.{Plan}
+use Rattle.fs_client.specs.declared.state.Client.{Client}
+use Rattle.fs_client.specs.Client.{begun}
+use Rattle.fs_client.specs.Acts.{only_noted}
+
+-- ## Which answers fit
+
+-- the grant is of this item, with a value of its field
+abbrev pub is_of_item : Field × LeaseKind → Grant → Bool
+is_of_item item g = (same_field g.field item.0 && same_kind g.kind item.1) && is_value_of g.field g.value
+
+-- no lease has the number, and none of these grants
+abbrev pub is_new : List Kept → List Grant → Grant → Bool
+is_new leases before g = not (list_any (has_number g.no) leases) && not (list_any (λ (b : Grant). same_no b.no g.no) before)
+
+-- behind the items stands the exclusive lease on the new file's life, where an identifier came, and nothing else
+abbrev pub rest_fits : Option (List ℕ) → List Kept → List Grant → List Grant → Bool
+rest_fits None leases before [] = true
+rest_fits None leases before (g ∷ gs) = false
+rest_fits (Some id) leases before [] = false
+rest_fits (Some id) leases before (g ∷ []) = is_of_item (Life id, Exclusive) g && is_new leases before g
+rest_fits (Some id) leases before (g ∷ h ∷ gs) = false
+
+-- the grants are of the items in order, of all where an identifier came and else of some at the front
+abbrev pub grants_fit : List (Field × LeaseKind) → Option (List ℕ) → List Kept → List Grant → List Grant → Bool
+grants_fit [] fresh leases before gs = rest_fits fresh leases before gs
+grants_fit (x ∷ xs) fresh leases before [] = not (is_some fresh)
+grants_fit (x ∷ xs) fresh leases before (g ∷ gs) = (is_of_item x g && is_new leases before g) && grants_fit xs fresh leases (before ++ g ∷ []) gs
+
+-- an identifier comes only below the directory that was named
+abbrev pub fresh_fits : Option (List ℕ) → Option (List ℕ) → Bool
+fresh_fits asked None = true
+fresh_fits None (Some id) = false
+fresh_fits (Some dir) (Some id) = is_parent dir (parent id)
+
+-- the numbers are those at the front of the ones that were sent
+abbrev pub begins_numbers : List LeaseNo → List LeaseNo → Bool
+begins_numbers sent [] = true
+begins_numbers [] (n ∷ ns) = false
+begins_numbers (s ∷ ss) (n ∷ ns) = same_no s n && begins_numbers ss ns
+
+-- the entry at the place has the number
+abbrev pub is_entry_at : ℕ → ℕ → List Entry → Bool
+is_entry_at n k [] = false
+is_entry_at n zero (e ∷ es) = e.n == n
+is_entry_at n (suc k) (e ∷ es) = is_entry_at n k es
+
+-- a refused entry is the one behind those that were admitted
+abbrev pub refusal_fits : End → ℕ → List Entry → Bool
+refusal_fits (end.Ended n lease until now) count log = is_entry_at n count log
+refusal_fits e count log = true
+
+abbrev pub answer_fits : ℕ → Exchange → Answer → Client → Bool
+answer_fits from (Asks to items fresh) (Granted grants given e) c = (to == from) && (fresh_fits fresh given && grants_fit items given c.view.leases [] grants)
+answer_fits from (Renews to numbers) (Renewed rows e) c = (to == from) && begins_numbers numbers (map (λ (r : LeaseNo × Option ℕ). r.0) rows)
+answer_fits from (Releases to numbers) (Released count e) c = (to == from) && nat_le count (length numbers)
+answer_fits from (Ships to sent) (Shipped count e) c = (to == from) && (nat_le count sent && refusal_fits e count c.log)
+answer_fits from x a c = false
+
+-- an answer fits the exchange that stands; a recall always fits
+abbrev pub fits : ℕ → Option Exchange → Answer → Client → Bool
+fits from x (Recall number) c = true
+fits from None a c = false
+fits from (Some x) a c = answer_fits from x a c
+
+-- ## What an answer changes
+
+-- the directory for which the identifier of the field's file was given
+abbrev pub below_field : Option (List ℕ) → Field → Option (List ℕ)
+below_field None field = None
+below_field (Some id) field = if same_field field (Life id) then parent id else None
+
+abbrev pub below_of : Option (List ℕ) → Grant → Option (List ℕ)
+below_of fresh g = below_field fresh g.field
+
+abbrev pub lease_in : Option (List ℕ) → Grant → NewLease
+lease_in fresh g = record { no = g.no; field = g.field; kind = g.kind; until = g.until; value = g.value; below = below_of fresh g }
+
+abbrev pub leases_in : Option (List ℕ) → List Grant → List NewLease
+leases_in fresh gs = map (lease_in fresh) gs
+
+-- the directory that has no number left
+abbrev pub full_told : End → Option (List ℕ)
+full_told (end.NoIds dir) = Some dir
+full_told e = None
+
+abbrev pub over_after : End → Option ℕ → Option ℕ
+over_after (end.Ended n lease until now) over = Some n
+over_after e over = over
+
+abbrev pub numbers_sent : Option Exchange → List LeaseNo
+numbers_sent (Some (Releases to numbers)) = numbers
+numbers_sent x = []
+
+abbrev pub granted_plan : List Grant → Option (List ℕ) → End → Client → Plan ClientNote
+granted_plan gs fresh e c = only_noted (change.Grant (leases_in fresh gs) (full_told e)) (note.Granted (length gs) e) c
+
+abbrev pub renewed_plan : List (LeaseNo × Option ℕ) → End → Client → Plan ClientNote
+renewed_plan rows e c = only_noted (change.Renew rows) (note.Renewed (length rows) e) c
+
+abbrev pub released_plan : ℕ → End → Client → Plan ClientNote
+released_plan count e c = only_noted (change.Release (take count (numbers_sent c.exchange))) (note.Released count e) c
+
+abbrev pub shipped_plan : ℕ → End → Client → Plan ClientNote
+shipped_plan count e c = only_noted (change.Admit count (over_after e c.over)) (note.Shipped count e) c
+
+-- an answer that fits; all but a recall end the exchange
+abbrev pub told : Answer → Client → Plan ClientNote
+told (Granted gs fresh e) c = granted_plan gs fresh e c
+told (Renewed rows e) c = renewed_plan rows e c
+told (Released count e) c = released_plan count e c
+told (Shipped count e) c = shipped_plan count e c
+told (Recall number) c = only_noted (change.Recall number) (note.Recall number) c
+
+-- an answer that fits no question changes no more than any event does
+abbrev pub strange : Client → Plan ClientNote
+strange c = only_noted change.Nothing note.Strange c
+
+abbrev pub hear : ℕ → Answer → Client → Plan ClientNote
+hear from a c = if fits from c.exchange a c then told a c else strange c
+
+abbrev pub answer_plan : Client → ℕ → ℕ → Answer → Plan ClientNote
+answer_plan c now from a = hear from a (begun now c)

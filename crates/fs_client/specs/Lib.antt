@@ -1,0 +1,8 @@
+pub mod Client
+pub mod Acts
+pub mod Turns
+pub mod Answers
+pub mod Home
+-- cited by private calls alone
+pub mod Live
+pub mod Admitted

@@ -1,0 +1,322 @@
+//! What a client makes of an operation of its user.
+ghost use Rattle.std.specs.Prelude.{◌≡◌, ◌≤◌, ◌⊎◌, true, false, IfOk, IsErrOf};
+ghost use Rattle.fs_ident.specs.declared.limits.TheConstants.{LATEST};
+ghost use Rattle.fs_model.specs.Sound.{is_change};
+ghost use Rattle.fs_msg.specs.declared.core_error.Counter.{Counter as TheCounter};
+ghost use Rattle.fs_msg.specs.declared.core_error.Counter.TheVariants.{Entries};
+ghost use Rattle.fs_msg.specs.declared.core_error.CoreError.TheVariants as errors;
+ghost use Rattle.fs_record.specs.Effects.{tells_its_effects};
+ghost use Rattle.fs_view.specs.View.{fresh, uses_in, walk_in};
+ghost use Rattle.fs_client.specs.Acts.{act_on, act_plan, answers, ask_for, asks, is_act_spent, only_noted, reads, replies, stays, with_id, worth};
+ghost use Rattle.fs_client.specs.Client.{IsClient, can_change, can_commit, has_number_left};
+ghost use Rattle.fs_client.specs.Live.{absent_from};
+
+use crate::begun::Begun;
+use crate::change::Change;
+use crate::exchange::Exchange;
+use crate::needs::{fresh_asked, full_dir, items_of, worth};
+use crate::plan::{Plan, Ready};
+use crate::state::Client;
+use fs_field::{Need, Use};
+use fs_ident::{FileId, List, Memory, Peer, Twin};
+use fs_model::{Op, Reply};
+use fs_msg::{Act, Busy, ClientMsg, ClientOut, CoreError, Counter, Entry, Item};
+use fs_record::effects;
+use fs_view::Walk;
+use std::alloc::Global;
+
+/// Until there are several servers, every question goes to the first.
+pub(crate) const HOME: u8 = 0;
+
+/// What the operation comes to at the reading; nothing changes.
+pub(crate) fn plan(
+    alloc: Global,
+    client: &Client,
+    now: u64,
+    op: &Op,
+) -> Result<Plan<Act>, CoreError>
+    requires client { IsClient client.now }
+    requires reading { now ≤ LATEST }
+    requires plain { tells_its_effects op.now ≡ true }
+    ensures plan { IfOk result (λ p. p ≡ act_plan client.now now op.now) }
+    ensures can { IfOk result (λ p. can_commit p.ready client.now ≡ true) }
+    ensures spent { (counter : TheCounter) → IsErrOf result (errors.Spent counter) →
+        (counter ≡ Entries) × (is_act_spent client.now now op.now ≡ true) }
+    ensures only { is_act_spent client.now now op.now ≡ true →
+        (IsErrOf result (errors.Spent Entries)) ⊎ (IsErrOf result errors.Memory) }
+{
+    let at = Begun::at(client, now);
+    act(alloc, &at, op)
+}
+
+/// What the operation comes to at the event.
+#[tactic(auto, using(crate::proofs::Needed::asking_can))]
+fn act(alloc: Global, at: &Begun<'_>, op: &Op) -> Result<Plan<Act>, CoreError>
+    requires { tells_its_effects op.now ≡ true }
+    ensures plan { IfOk result (λ p. p ≡ act_on at.now.over op.now at.now) }
+    ensures can { IfOk result (λ p. can_change p.ready.change at.now ≡ true) }
+    ensures spent { (counter : TheCounter) → IsErrOf result (errors.Spent counter) →
+        (counter ≡ Entries) ×
+        (can_change (act_on at.now.over op.now at.now).ready.change at.now ≡ false) }
+{
+    if let Some(n) = at.over() {
+        return Ok(stays(at, Act::Over { n }));
+    }
+    let Walk { items, reply } = at.walk(alloc, op)?;
+    match reply {
+        Some(reply) => answer(alloc, at, op, reply, &items),
+        None => Ok(ask_for(alloc, at, items)?),
+    }
+}
+
+/// The reading and this change, and nothing but this is noted.
+pub(crate) fn only_noted<N: Drop>(at: &Begun<'_>, change: Change, note: N) -> Plan<N>
+    ensures { result ≡ only_noted change note at.now }
+{
+    Plan {
+        ready: Ready {
+            now: at.reading(),
+            change,
+        },
+        out: ClientOut {
+            note,
+            send: None,
+            admitted: None,
+        },
+    }
+}
+
+fn stays(at: &Begun<'_>, act: Act) -> Plan<Act>
+    ensures { result ≡ stays act at.now }
+{
+    only_noted(at, Change::Nothing, act)
+}
+
+/// Something is missing.
+#[tactic(auto, using(crate::proofs::Needed::nothing_worth, crate::proofs::Needed::something_worth))]
+fn ask_for(alloc: Global, at: &Begun<'_>, items: List<Need>) -> Result<Plan<Act>, Memory>
+    ensures { IfOk result (λ p. let missing = absent_from at.now items in
+        p ≡ ask_for missing (worth at.now.full missing) at.now) }
+{
+    let missing = at.missing_of(items);
+    let needs = worth(at.full(), missing.copy(alloc)?);
+    if needs.is_empty() {
+        let dir = full_dir(alloc, missing.as_slice())?;
+        return Ok(stays(at, Act::NoIds { dir }));
+    }
+    if at.exchange().is_some() {
+        return Ok(stays(
+            at,
+            Act::Busy {
+                what: Busy::Exchange,
+            },
+        ));
+    }
+    asks(alloc, at, needs)
+}
+
+/// It is asked for.
+fn asks(alloc: Global, at: &Begun<'_>, needs: List<Need>) -> Result<Plan<Act>, Memory>
+    ensures { IfOk result (λ p. p ≡ asks needs at.now) }
+{
+    let items = items_of(alloc, needs.as_slice())?;
+    let fresh = fresh_asked(alloc, needs.as_slice())?;
+    let exchange = Exchange::Asks {
+        to: HOME,
+        items: items.copy(alloc)?,
+        fresh: fresh.copy(alloc)?,
+    };
+    Ok(Plan {
+        ready: Ready {
+            now: at.reading(),
+            change: Change::Ask { exchange },
+        },
+        out: ClientOut {
+            note: Act::Asked { needs, to: HOME },
+            send: Some((HOME, ClientMsg::Ask { items, fresh })),
+            admitted: None,
+        },
+    })
+}
+
+/// Nothing is missing.
+fn answer(
+    alloc: Global,
+    at: &Begun<'_>,
+    op: &Op,
+    reply: Reply,
+    items: &List<Need>,
+) -> Result<Plan<Act>, CoreError>
+    requires plain { tells_its_effects op.now ≡ true }
+    requires walked { items.now ≡ (walk_in at.now.view at.now.last op.now).items }
+    ensures plan { IfOk result (λ p. p ≡ answers op.now reply at.now) }
+    ensures can { IfOk result (λ p. can_change p.ready.change at.now ≡ true) }
+    ensures spent { (counter : TheCounter) → IsErrOf result (errors.Spent counter) →
+        (counter ≡ Entries) × (can_change (answers op.now reply at.now).ready.change at.now ≡ false) }
+{
+    if !is_change(&reply) && at.log().is_empty() {
+        return reads(alloc, at, op, reply);
+    }
+    replies(alloc, at, op, reply, items)
+}
+
+fn has_number_left(at: &Begun<'_>) -> bool
+    ensures { result ≡ has_number_left at.now }
+{
+    at.next() < u64::MAX
+}
+
+/// It is answered and admitted at once.
+fn reads(alloc: Global, at: &Begun<'_>, op: &Op, reply: Reply) -> Result<Plan<Act>, CoreError>
+    ensures plan { IfOk result (λ p. p ≡ reads op.now reply at.now) }
+    ensures can { IfOk result (λ p. has_number_left at.now ≡ true) }
+    ensures spent { (counter : TheCounter) → IsErrOf result (errors.Spent counter) →
+        (counter ≡ Entries) × (has_number_left at.now ≡ false) }
+{
+    if !has_number_left(at) {
+        return Err(CoreError::Spent {
+            counter: Counter::Entries,
+        });
+    }
+    let item = Item {
+        by: Peer::Client(at.session()),
+        n: at.next(),
+        op: with_id(alloc, at, op, &reply)?,
+        reply: reply.copy(alloc)?,
+    };
+    Ok(Plan {
+        ready: Ready {
+            now: at.reading(),
+            change: Change::Read,
+        },
+        out: ClientOut {
+            note: Act::ReadNow {
+                n: at.next(),
+                reply,
+            },
+            send: None,
+            admitted: Some(item),
+        },
+    })
+}
+
+/// It is answered, and its entry joins the log.
+fn replies(
+    alloc: Global,
+    at: &Begun<'_>,
+    op: &Op,
+    reply: Reply,
+    items: &List<Need>,
+) -> Result<Plan<Act>, CoreError>
+    requires plain { tells_its_effects op.now ≡ true }
+    requires walked { items.now ≡ (walk_in at.now.view at.now.last op.now).items }
+    ensures plan { IfOk result (λ p. p ≡ replies op.now reply at.now) }
+    ensures can { IfOk result (λ p. can_change p.ready.change at.now ≡ true) }
+    ensures spent { (counter : TheCounter) → IsErrOf result (errors.Spent counter) →
+        (counter ≡ Entries) × (can_change (replies op.now reply at.now).ready.change at.now ≡ false) }
+{
+    if !has_number_left(at) {
+        return Err(CoreError::Spent {
+            counter: Counter::Entries,
+        });
+    }
+    match at.uses_of(alloc, items)? {
+        None => Err(CoreError::Spent {
+            counter: Counter::Entries,
+        }),
+        Some(uses) => Ok(entry(alloc, at, op, reply, uses)?),
+    }
+}
+
+/// The entry of the operation, with these leases that it used.
+fn entry(
+    alloc: Global,
+    at: &Begun<'_>,
+    op: &Op,
+    reply: Reply,
+    uses: List<Use>,
+) -> Result<Plan<Act>, Memory>
+    requires plain { tells_its_effects op.now ≡ true }
+    requires used { uses ≡ uses_in at.now.view at.now.last op.now }
+    ensures { IfOk result (λ p. p ≡ replies op.now reply at.now) }
+{
+    let op = with_id(alloc, at, op, &reply)?;
+    let effects = effects(alloc, at.session(), &op, &reply)?;
+    let entry = Entry {
+        n: at.next(),
+        op,
+        reply: reply.copy(alloc)?,
+        uses,
+    };
+    Ok(only_noted(
+        at,
+        Change::Reply { entry, effects },
+        Act::Replied {
+            n: at.next(),
+            reply,
+        },
+    ))
+}
+
+/// A create that is made has the identifier that the view offers, and any other create none.
+fn with_id(alloc: Global, at: &Begun<'_>, op: &Op, reply: &Reply) -> Result<Op, Memory>
+    ensures { IfOk result (λ o. o ≡ with_id at.now.view at.now.last op.now reply.now) }
+{
+    match (op, reply) {
+        (
+            Op::Create {
+                dir,
+                name,
+                kind,
+                id: _,
+            },
+            Reply::Made,
+        ) => Ok(Op::Create {
+            dir: dir.copy(alloc)?,
+            name: name.copy(alloc)?,
+            kind: *kind,
+            id: fresh_copy(alloc, at, dir)?,
+        }),
+        (
+            Op::Create {
+                dir,
+                name,
+                kind,
+                id: _,
+            },
+            _,
+        ) => Ok(Op::Create {
+            dir: dir.copy(alloc)?,
+            name: name.copy(alloc)?,
+            kind: *kind,
+            id: None,
+        }),
+        (op, _) => op.copy(alloc),
+    }
+}
+
+/// The identifier that the view offers for a new file in the directory.
+fn fresh_copy(alloc: Global, at: &Begun<'_>, dir: &FileId) -> Result<Option<FileId>, Memory>
+    ensures { IfOk result (λ id. id ≡ fresh at.now.view at.now.last dir.now) }
+{
+    match at.fresh(dir) {
+        None => Ok(None),
+        Some(id) => Ok(Some(id.copy(alloc)?)),
+    }
+}
+
+/// Whether the reply is one of a change.
+fn is_change(reply: &Reply) -> bool
+    ensures { result ≡ is_change reply.now }
+{
+    matches!(
+        reply,
+        Reply::Made
+            | Reply::Opened
+            | Reply::Closed
+            | Reply::Set
+            | Reply::Deleted
+            | Reply::Renamed
+            | Reply::Reaped
+    )
+}

@@ -1,0 +1,51 @@
+//! What an event changes at a client.
+use crate::exchange::Exchange;
+use fs_field::Effect;
+use fs_ident::{FileId, LeaseNo, List};
+use fs_msg::Entry;
+use fs_view::NewLease;
+
+/// What an event changes, beside the reading and the leases that are over at it.
+#[derive(Debug, Drop)]
+pub enum Change {
+    /// Nothing.
+    Nothing,
+    /// A read is admitted at once.
+    Read,
+    /// One entry more, with what it will do.
+    Reply {
+        entry: Entry,
+        effects: List<Effect>,
+    },
+    /// A question stands.
+    Ask {
+        exchange: Exchange,
+    },
+    /// These leases go back.
+    Leave {
+        to: u8,
+        numbers: List<LeaseNo>,
+    },
+    /// These leases come, and the directory has no number left.
+    Grant {
+        leases: List<NewLease>,
+        full: Option<FileId>,
+    },
+    /// These leases have other ends, or none any more.
+    Renew {
+        ends: List<(LeaseNo, Option<u64>)>,
+    },
+    /// The server has these leases back.
+    Release {
+        numbers: List<LeaseNo>,
+    },
+    /// So many entries are known to be admitted; the refused entry, if there is one.
+    Admit {
+        count: u64,
+        over: Option<u64>,
+    },
+    /// The server asked for a lease.
+    Recall {
+        no: LeaseNo,
+    },
+}

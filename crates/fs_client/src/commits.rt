@@ -1,0 +1,93 @@
+//! What a plan says is done: memory first, then what cannot fail.
+ghost use Rattle.std.specs.Prelude.{◌≡◌, ◌≤◌, true, OnOk, OnErr};
+ghost use Rattle.fs_client.specs.Client.{begun, can_change, can_commit, changed, committed, with_exchange, with_read, with_recalled, with_release, with_released, with_renewed};
+
+use crate::admits::admit;
+use crate::change::Change;
+use crate::exchange::Exchange;
+use crate::grants::grant;
+use crate::plan::Ready;
+use crate::replies::reply;
+use crate::returns::{leave_all, release_all, renew_all};
+use crate::state::Client;
+use fs_ident::{LeaseNo, List, Memory};
+use std::alloc::Global;
+
+/// What is ready is done to this very client, for which it was planned. `Memory` where memory is wanting; nothing
+/// changed then.
+pub(crate) fn commit(alloc: Global, client: &mut Client, ready: Ready) -> Result<(), Memory>
+    requires { can_commit ready client.old ≡ true }
+    ensures ok { OnOk result (client.new ≡ committed ready client.old) }
+    ensures err { OnErr result (client.new ≡ client.old) }
+{
+    let Ready { now, change } = ready;
+    match change {
+        Change::Nothing => begin(client, now),
+        Change::Read => read(client, now),
+        Change::Reply { entry, effects } => return reply(client, now, entry, effects),
+        Change::Ask { exchange } => ask(client, now, exchange),
+        Change::Leave { to, numbers } => leave(client, now, to, numbers),
+        Change::Grant { leases, full } => return grant(client, now, leases, full),
+        Change::Renew { ends } => renew(client, now, ends),
+        Change::Release { numbers } => release(client, now, numbers),
+        Change::Admit { count, over } => return admit(alloc, client, now, count, over),
+        Change::Recall { no } => recall(client, now, no),
+    }
+    Ok(())
+}
+
+/// What every event begins with: the reading is the greatest so far, and the leases that no entry uses and that are over
+/// at it go.
+pub(crate) fn begin(client: &mut Client, now: u64)
+    ensures { client.new ≡ begun now client.old }
+{
+    let reading = client.last.max(now);
+    client.last = reading;
+    client.view.lapse(reading);
+}
+
+fn read(client: &mut Client, now: u64)
+    requires { can_change Change.Read (begun now client.old) ≡ true }
+    ensures { client.new ≡ with_read (begun now client.old) }
+{
+    begin(client, now);
+    client.next += 1;
+}
+
+fn ask(client: &mut Client, now: u64, exchange: Exchange)
+    ensures { client.new ≡ with_exchange exchange (begun now client.old) }
+{
+    begin(client, now);
+    client.exchange = Some(exchange);
+}
+
+fn leave(client: &mut Client, now: u64, to: u8, numbers: List<LeaseNo>)
+    ensures { client.new ≡ with_release to numbers (begun now client.old) }
+{
+    begin(client, now);
+    leave_all(&mut client.view, numbers.as_slice());
+    client.exchange = Some(Exchange::Releases { to, numbers });
+}
+
+fn renew(client: &mut Client, now: u64, ends: List<(LeaseNo, Option<u64>)>)
+    ensures { client.new ≡ with_renewed ends (begun now client.old) }
+{
+    begin(client, now);
+    renew_all(&mut client.view, ends.as_slice());
+    client.exchange = None;
+}
+
+fn release(client: &mut Client, now: u64, numbers: List<LeaseNo>)
+    ensures { client.new ≡ with_released numbers (begun now client.old) }
+{
+    begin(client, now);
+    release_all(&mut client.view, numbers.as_slice());
+    client.exchange = None;
+}
+
+fn recall(client: &mut Client, now: u64, no: LeaseNo)
+    ensures { client.new ≡ with_recalled no (begun now client.old) }
+{
+    begin(client, now);
+    client.view.recall(no);
+}

@@ -1,0 +1,25 @@
+//! A client: what it answers at once from its leases, what it asks of its server, and what it makes of the answers.
+#![tactic(auto)]
+
+mod acts;
+mod admits;
+mod answers;
+mod begun;
+mod change;
+mod client_core;
+mod commits;
+mod exchange;
+mod fits;
+mod grants;
+mod home;
+mod live;
+mod needs;
+mod plan;
+mod replies;
+mod returns;
+mod state;
+mod turns;
+
+pub use client_core::ClientCore;
+pub use exchange::Exchange;
+pub use plan::{Plan, Ready};

@@ -1,0 +1,93 @@
+//! The leases that are not over at a reading.
+ghost use Rattle.std.specs.Prelude.{◌≡◌, ◌&&◌, not, map, IfOk};
+ghost use Rattle.std.specs.List.{filter, list_any};
+ghost use Rattle.fs_client.specs.Live.{has_live, is_ending, is_returned, live_of};
+ghost use Rattle.fs_client.specs.Turns.{ends_by, has_to_go, pair_of};
+
+use fs_ident::{FileId, LeaseNo, List, Memory, Twin};
+use fs_view::{Kept, Standing};
+use std::alloc::Global;
+
+/// Whether one of them has this number.
+pub(crate) fn has(leases: &[Kept], reading: u64, no: LeaseNo) -> bool
+    ensures { result ≡ list_any (has_live reading no) leases.now }
+{
+    leases.iter().any(|kept| is_numbered(kept, reading, no))
+}
+
+fn is_numbered(kept: &Kept, reading: u64, no: LeaseNo) -> bool
+    ensures { result ≡ has_live reading no kept.now }
+{
+    !kept.standing.has_ended(reading) && kept.standing.no() == no
+}
+
+/// Those that have to go back, each with its file.
+#[tactic(auto, using(crate::proofs::Chosen::chosen_step))]
+pub(crate) fn returned(
+    alloc: Global,
+    leases: &[Kept],
+    reading: u64,
+) -> Result<List<(FileId, LeaseNo)>, Memory>
+    ensures { IfOk result (λ pairs. pairs ≡ map pair_of
+        (filter (λ k. has_to_go k.recalled k.standing) (live_of reading leases.now))) }
+{
+    let mut pairs = List::new(alloc);
+    for kept in leases {
+        if is_returned(kept, reading) {
+            pairs.push(pair_of(alloc, kept)?)?;
+        }
+    }
+    Ok(pairs)
+}
+
+/// Those that do not go back and end at this reading or before, each with its file.
+#[tactic(auto, using(crate::proofs::Chosen::chosen_step))]
+pub(crate) fn ending(
+    alloc: Global,
+    leases: &[Kept],
+    reading: u64,
+    soon: u64,
+) -> Result<List<(FileId, LeaseNo)>, Memory>
+    ensures { IfOk result (λ pairs. pairs ≡ map pair_of
+        (filter (λ k. not k.recalled && ends_by soon k.standing) (live_of reading leases.now))) }
+{
+    let mut pairs = List::new(alloc);
+    for kept in leases {
+        if is_ending(kept, reading, soon) {
+            pairs.push(pair_of(alloc, kept)?)?;
+        }
+    }
+    Ok(pairs)
+}
+
+/// The lease and its file.
+fn pair_of(alloc: Global, kept: &Kept) -> Result<(FileId, LeaseNo), Memory>
+    ensures { IfOk result (λ pair. pair ≡ pair_of kept.now) }
+{
+    Ok((kept.standing.file().copy(alloc)?, kept.standing.no()))
+}
+
+/// Whether the lease is there and goes back: its server asked for it and no entry uses it, or it is on its way already.
+fn is_returned(kept: &Kept, reading: u64) -> bool
+    ensures { result ≡ is_returned reading kept.now }
+{
+    match &kept.standing {
+        Standing::Held(held) => reading < held.until() && kept.recalled,
+        Standing::Pinned(_) => false,
+        Standing::Leaving(_) => true,
+    }
+}
+
+/// Whether the lease is there, does not go back, and ends at this reading or before.
+fn is_ending(kept: &Kept, reading: u64, soon: u64) -> bool
+    ensures { result ≡ is_ending reading soon kept.now }
+{
+    if kept.recalled {
+        return false;
+    }
+    match &kept.standing {
+        Standing::Held(held) => reading < held.until() && held.until() <= soon,
+        Standing::Pinned(pinned) => pinned.until() <= soon,
+        Standing::Leaving(_) => false,
+    }
+}

@@ -1,0 +1,19 @@
+//! What an event comes to, before anything is changed.
+ghost use Rattle.std.specs.Prelude.{◌≡◌};
+
+use crate::change::Change;
+use fs_msg::ClientOut;
+
+/// What an event changes, at which reading.
+#[derive(Debug, Drop)]
+pub struct Ready {
+    pub(crate) now: u64,
+    pub(crate) change: Change,
+}
+
+/// What an event comes to: what is noted, sent and admitted, and what it changes.
+#[derive(Debug, Drop)]
+pub struct Plan<N: Drop> {
+    pub ready: Ready,
+    pub out: ClientOut<N>,
+}

@@ -1,0 +1,60 @@
+//! The state of a client.
+use crate::exchange::Exchange;
+use fs_ident::{FileId, List, Memory, Session, Twin};
+use fs_msg::Entry;
+use fs_view::View;
+use std::alloc::Global;
+
+/// All that a client knows.
+#[derive(Debug)]
+pub(crate) struct Client {
+    pub(crate) session: Session,
+    /// How long a lease lasts.
+    pub(crate) term: u64,
+    /// The greatest reading so far.
+    pub(crate) last: u64,
+    pub(crate) view: View,
+    /// What was answered and is not known to be admitted, in order.
+    pub(crate) log: List<Entry>,
+    pub(crate) exchange: Option<Exchange>,
+    /// The directories of which a server said that they have no number left.
+    pub(crate) full: List<FileId>,
+    /// The number of the next operation.
+    pub(crate) next: u64,
+    /// The entry that was refused.
+    pub(crate) over: Option<u64>,
+}
+
+impl Twin for Client {
+    fn copy(&self, alloc: Global) -> Result<Client, Memory> {
+        let log = self.log.copy(alloc)?;
+        let exchange = self.exchange.copy(alloc)?;
+        let full = self.full.copy(alloc)?;
+        Ok(Client {
+            session: self.session,
+            term: self.term,
+            last: self.last,
+            view: self.view.copy(alloc)?,
+            log,
+            exchange,
+            full,
+            next: self.next,
+            over: self.over,
+        })
+    }
+
+    fn discard(self) {
+        let Client {
+            session: _,
+            term: _,
+            last: _,
+            view,
+            log: _,
+            exchange: _,
+            full: _,
+            next: _,
+            over: _,
+        } = self;
+        view.discard();
+    }
+}

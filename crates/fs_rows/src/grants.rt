@@ -1,0 +1,73 @@
+//! Several rows more at once, and those that are over dropped.
+ghost use Rattle.std.specs.Prelude.{◌≡◌, ◌+◌, ◌<◌, ◌≤◌, length, unwrap_or, vec_len, vec_capacity, OnOk, OnErr, IfSome};
+ghost use Rattle.std.specs.List.{filter, position};
+ghost use Rattle.fs_field.specs.Table.{is_live, no_before, with_row};
+ghost use Rattle.fs_rows.specs.Granted.{with_rows};
+
+use crate::reads::is_live;
+use fs_field::Row;
+use fs_ident::{LeaseNo, List, Memory};
+
+/// Drops the rows that are over at the reading, and puts in the others, in order. Room is made first, and nothing can
+/// fail then.
+pub fn grant_all(rows: &mut Vec<Row>, now: u64, skew: u64, more: List<Row>) -> Result<(), Memory>
+    ensures ok { OnOk result (rows.new.items ≡
+        with_rows more (filter (is_live now skew) rows.old.items)) }
+    ensures err { OnErr result (rows.new.items ≡ rows.old.items) }
+{
+    rows.reserve(more.len())?;
+    keep_live(rows, now, skew);
+    put_all(rows, more);
+    Ok(())
+}
+
+fn keep_live(rows: &mut Vec<Row>, now: u64, skew: u64)
+    ensures live { rows.new.items ≡ filter (is_live now skew) rows.old.items }
+    ensures fewer { vec_len rows.new ≤ vec_len rows.old }
+    ensures room { vec_capacity rows.new ≡ vec_capacity rows.old }
+{
+    rows.retain(|row| is_live(row, now, skew));
+}
+
+/// Puts in each, where there is room for all.
+fn put_all(rows: &mut Vec<Row>, more: List<Row>)
+    requires { vec_len rows.old + length more ≤ vec_capacity rows.old }
+    ensures { rows.new.items ≡ with_rows more rows.old.items }
+{
+    for row in more.into_vec() {
+        put(rows, row);
+    }
+}
+
+/// Puts a row before the first with a greater number, where there is room.
+fn put(rows: &mut Vec<Row>, row: Row)
+    requires { vec_len rows.old < vec_capacity rows.old }
+    ensures rows { rows.new.items ≡ with_row row rows.old.items }
+    ensures len { vec_len rows.new ≡ vec_len rows.old + 1 }
+    ensures room { vec_capacity rows.new ≡ vec_capacity rows.old }
+{
+    let at = place(rows, row.no);
+    match rows.insert(at, row) {
+        Ok(()) => {}
+        Err(_) => unreachable!(),
+    }
+}
+
+/// Where the first row with a greater number stands, or the length.
+fn place(rows: &[Row], no: LeaseNo) -> usize
+    ensures place { result ≡ unwrap_or (position (λ r. no_before no r.no) rows.now)
+        (length rows.now) }
+    ensures within { result ≤ length rows.now }
+{
+    match first_after(rows, no) {
+        Some(at) => at,
+        None => rows.len(),
+    }
+}
+
+fn first_after(rows: &[Row], no: LeaseNo) -> Option<usize>
+    ensures same { result ≡ position (λ r. no_before no r.no) rows.now }
+    ensures within { IfSome result (λ at. at < length rows.now) }
+{
+    rows.iter().position(|other| no < other.no)
+}

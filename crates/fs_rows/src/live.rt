@@ -1,0 +1,92 @@
+//! The rows that are not over at a reading, while the table is only read.
+ghost use Rattle.std.specs.Prelude.{◌≡◌, IfOk};
+ghost use Rattle.std.specs.List.{filter, find, list_any};
+ghost use Rattle.std.specs.Option.{option_copied};
+ghost use Rattle.fs_field.specs.Table.{has_no, is_lease, is_live, borne_numbers};
+ghost use Rattle.fs_rows.specs.Answer.{answer};
+ghost use Rattle.fs_rows.specs.Live.{unlocked_on};
+
+use crate::reads;
+use fs_field::{Asked, Field, LeaseKind, Row};
+use fs_ident::{FileId, LeaseNo, List, Memory, Session};
+use std::alloc::Global;
+use std::marker::Model;
+
+/// The rows of a table that are not over at a reading: a transaction keeps them, or their end and the skew are not
+/// over. Nothing is copied.
+#[derive(Drop)]
+pub struct Live<'a> {
+    rows: &'a [Row],
+    reading: u64,
+    skew: u64,
+}
+
+impl<'a> Model for Live<'a> {
+    ghost use Rattle.std.specs.Prelude.{List};
+    ghost use Rattle.std.specs.List.{filter};
+    ghost use Rattle.fs_field.specs.declared.row.Row.{Row};
+    ghost use Rattle.fs_field.specs.Table.{is_live};
+
+    ghost Value = { List Row };
+
+    ghost view = { λ l. filter (is_live l.reading l.skew) l.rows.now };
+}
+
+impl<'a> Live<'a> {
+    /// Those of these rows that are not over at the reading `now`.
+    pub(crate) fn at(rows: &'a [Row], now: u64, skew: u64) -> Live<'a>
+        ensures { result ≡ filter (is_live now skew) rows.now }
+    {
+        Live {
+            rows,
+            reading: now,
+            skew,
+        }
+    }
+
+    /// What a question for such a lease would be answered.
+    pub fn answer(&self, session: Session, field: &Field, kind: LeaseKind) -> Asked
+        ensures { result ≡ answer self.now session field.now kind }
+    {
+        reads::answer(self.rows, self.reading, self.skew, session, field, kind)
+    }
+
+    /// Whether there is the row of this number.
+    pub fn has(&self, no: LeaseNo) -> bool
+        ensures { result ≡ list_any (has_no no) self.now }
+    {
+        reads::has(self.rows, self.reading, self.skew, no)
+    }
+
+    /// Whether there is the row of this lease of the session.
+    pub fn holds(&self, no: LeaseNo, session: Session, field: &Field, kind: LeaseKind) -> bool
+        ensures { result ≡ list_any (is_lease no session field.now kind) self.now }
+    {
+        reads::holds(self.rows, self.reading, self.skew, no, session, field, kind)
+    }
+
+    /// The row of this number.
+    pub fn row(&self, no: LeaseNo) -> Option<&Row>
+        ensures { option_copied result ≡ find (has_no no) self.now }
+    {
+        reads::row(self.rows, self.reading, self.skew, no)
+    }
+
+    /// The last numbers of the files right below the directory that rows are on, one for each row.
+    pub fn borne(&self, alloc: Global, dir: &FileId) -> Result<List<u32>, Memory>
+        ensures { IfOk result (λ told. told ≡ borne_numbers dir.now self.now) }
+    {
+        reads::borne(alloc, self.rows, self.reading, self.skew, dir)
+    }
+
+    /// The numbers and sessions of the rows on the field that no transaction keeps, in order of number.
+    pub fn unlocked_on(
+        &self,
+        alloc: Global,
+        field: &Field,
+    ) -> Result<List<(LeaseNo, Session)>, Memory>
+        ensures { IfOk result (λ told. told ≡ unlocked_on field.now self.now) }
+    {
+        reads::unlocked_on(alloc, self.rows, self.reading, self.skew, field)
+    }
+}

@@ -1,0 +1,167 @@
+//! What is read of the rows that are not over at a reading.
+ghost use Rattle.std.specs.Prelude.{◌≡◌, IfOk};
+ghost use Rattle.std.specs.List.{filter, find, list_any};
+ghost use Rattle.std.specs.Option.{option_copied};
+ghost use Rattle.fs_field.specs.Conflict.{stands_against};
+ghost use Rattle.fs_field.specs.Table.{has_no, is_lease, is_live, lock_on, child_number, borne_numbers};
+ghost use Rattle.fs_rows.specs.Answer.{answer};
+ghost use Rattle.fs_rows.specs.Live.{unlocked_on};
+
+use crate::against::stands_against;
+use fs_field::{Asked, Field, LeaseKind, Row};
+use fs_ident::{FileId, LeaseNo, List, Memory, Session, TxnNo};
+use std::alloc::Global;
+
+/// What a question for such a lease is answered.
+pub fn answer(
+    rows: &[Row],
+    now: u64,
+    skew: u64,
+    session: Session,
+    field: &Field,
+    kind: LeaseKind,
+) -> Asked
+    ensures { result ≡ answer (filter (is_live now skew) rows.now) session field.now kind }
+{
+    if let Some(txn) = lock_on(rows, now, skew, field) {
+        return Asked::Locked { txn };
+    }
+    if let Some(row) = first_against(rows, now, skew, session, field, kind) {
+        return Asked::Wait { blocker: row.no };
+    }
+    Asked::Granted { value: None }
+}
+
+/// The transaction that keeps the first row on the field that one keeps.
+#[tactic(auto, using(crate::proofs::LiveSteps::lock_step))]
+fn lock_on(rows: &[Row], now: u64, skew: u64, field: &Field) -> Option<TxnNo>
+    ensures { result ≡ lock_on field.now (filter (is_live now skew) rows.now) }
+{
+    for row in rows {
+        if is_live(row, now, skew) && row.field.is(field) && row.lock.is_some() {
+            return row.lock;
+        }
+    }
+    None
+}
+
+/// The first row that keeps the session from such a lease.
+fn first_against<'a>(
+    rows: &'a [Row],
+    now: u64,
+    skew: u64,
+    session: Session,
+    field: &Field,
+    kind: LeaseKind,
+) -> Option<&'a Row>
+    ensures { option_copied result ≡
+        find (stands_against session field.now kind) (filter (is_live now skew) rows.now) }
+{
+    rows.iter()
+        .filter(|row| is_live(row, now, skew))
+        .find(|row| stands_against(row, session, field, kind))
+}
+
+/// The row of this number.
+pub fn row(rows: &[Row], now: u64, skew: u64, no: LeaseNo) -> Option<&Row>
+    ensures { option_copied result ≡ find (has_no no) (filter (is_live now skew) rows.now) }
+{
+    rows.iter()
+        .filter(|row| is_live(row, now, skew))
+        .find(|row| row.no == no)
+}
+
+/// Whether there is the row of this number.
+pub fn has(rows: &[Row], now: u64, skew: u64, no: LeaseNo) -> bool
+    ensures { result ≡ list_any (has_no no) (filter (is_live now skew) rows.now) }
+{
+    rows.iter()
+        .filter(|row| is_live(row, now, skew))
+        .any(|row| row.no == no)
+}
+
+/// Whether there is the row of this lease of the session.
+pub fn holds(
+    rows: &[Row],
+    now: u64,
+    skew: u64,
+    no: LeaseNo,
+    session: Session,
+    field: &Field,
+    kind: LeaseKind,
+) -> bool
+    ensures { result ≡
+        list_any (is_lease no session field.now kind) (filter (is_live now skew) rows.now) }
+{
+    rows.iter()
+        .filter(|row| is_live(row, now, skew))
+        .any(|row| is_lease(row, no, session, field, kind))
+}
+
+/// The last numbers of the files right below the directory that rows are on.
+#[tactic(auto, using(crate::proofs::LiveSteps::borne_step))]
+pub fn borne(
+    alloc: Global,
+    rows: &[Row],
+    now: u64,
+    skew: u64,
+    dir: &FileId,
+) -> Result<List<u32>, Memory>
+    ensures { IfOk result (λ told. told ≡
+        borne_numbers dir.now (filter (is_live now skew) rows.now)) }
+{
+    let mut told = List::new(alloc);
+    for row in rows {
+        if is_live(row, now, skew)
+            && let Some(k) = child_number(dir, row.field.file())
+        {
+            told.push(k)?;
+        }
+    }
+    Ok(told)
+}
+
+/// The numbers and sessions of the rows on the field that no transaction keeps.
+#[tactic(auto, using(crate::proofs::LiveSteps::unlocked_step))]
+pub fn unlocked_on(
+    alloc: Global,
+    rows: &[Row],
+    now: u64,
+    skew: u64,
+    field: &Field,
+) -> Result<List<(LeaseNo, Session)>, Memory>
+    ensures { IfOk result (λ told. told ≡
+        unlocked_on field.now (filter (is_live now skew) rows.now)) }
+{
+    let mut told = List::new(alloc);
+    for row in rows {
+        if is_live(row, now, skew) && row.field.is(field) && row.lock.is_none() {
+            told.push((row.no, row.session))?;
+        }
+    }
+    Ok(told)
+}
+
+/// Whether the row is not over.
+pub fn is_live(row: &Row, now: u64, skew: u64) -> bool
+    ensures { result ≡ is_live now skew row.now }
+{
+    row.lock.is_some() || now < skew || now - skew < row.until
+}
+
+fn is_lease(row: &Row, no: LeaseNo, session: Session, field: &Field, kind: LeaseKind) -> bool
+    ensures { result ≡ is_lease no session field.now kind row.now }
+{
+    row.no == no && row.session == session && row.field.is(field) && row.kind == kind
+}
+
+/// The last number of the file, where it stands right below the directory.
+fn child_number(dir: &FileId, file: &FileId) -> Option<u32>
+    ensures { result ≡ child_number dir.now file.now }
+{
+    let place = dir.numbers();
+    match file.numbers().split_last() {
+        None => None,
+        Some((k, front)) => { if front == place { Some(*k) } else { None } }
+    }
+}

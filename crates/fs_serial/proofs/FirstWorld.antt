@@ -1,0 +1,111 @@
+-- All that holds holds at the start.
+use Rattle.std.proofs.Common.{◌≡◌, ℕ, Bool, true, false, List, [], ◌∷◌, ◌++◌, cond, refl, sym, ap, ◌∙◌, subst, arith}
+use Rattle.std.specs.Prelude.{Option, Some, None}
+use Rattle.std.specs.Ordering.{nat_cmp, eq_by_cmp}
+use Rattle.std.specs.Cmp.Lexicographic.{slice_cmp, nat_list_cmp_total}
+use Rattle.std.specs.FinMap.{empty, get, get-empty, get-insert, same_map}
+use Rattle.fs_ident.specs.Ident.{child}
+use Rattle.fs_ident.specs.declared.actor.Session.{Session}
+use Rattle.fs_ident.specs.declared.kind.Kind.{Kind}
+use Rattle.fs_ident.proofs.MapsOf.{anti}
+use Rattle.fs_model.specs.Namespace.{first_space, root_node}
+use Rattle.fs_model.specs.Sound.{IsSound, kind_of}
+use Rattle.fs_model.proofs.SoundRuns.{first_sound}
+use Rattle.fs_record.specs.declared.record.Record.{Record}
+use Rattle.fs_record.specs.Records.{RecordMap, first_records, node_of, nodes_of, root_record}
+use Rattle.fs_record.proofs.Kept.{kept_empty, kept_insert, root_kept}
+use Rattle.fs_record.proofs.NodeMaps.{node_there}
+use Rattle.fs_record.proofs.NodeValues.{key_is}
+use Rattle.fs_serial.specs.Fresh.{FreshReserved, IsAtOrBelow, IsMade, NodesMade, made, reserved_by}
+use Rattle.fs_serial.specs.Parts.{SessionHolds, SessionFits}
+use Rattle.fs_serial.specs.Serial.{AreSound}
+use Rattle.fs_serial.specs.Sight.{sight_of}
+use Rattle.fs_serial.specs.World.{World, WorldHolds, first_world, settled_at}
+
+abbrev records : RecordMap
+records = first_records true
+
+-- ## The records
+
+chosen : (b : Bool) (o : Option Record) → o ≡ None → node_of (cond b (Some root_record) o) ≡ cond b (Some root_node) None
+chosen true o e = refl
+chosen false o e = ap node_of e
+
+node_at : (q : List ℕ) → node_of (get records q) ≡ cond (eq_by_cmp (slice_cmp nat_cmp) q []) (Some root_node) None
+node_at q = ap node_of (get-insert nat_list_cmp_total empty [] root_record q) ∙ chosen (eq_by_cmp (slice_cmp nat_cmp) q []) (get empty q) (get-empty (slice_cmp nat_cmp) q)
+
+space_at : (q : List ℕ) → get first_space q ≡ cond (eq_by_cmp (slice_cmp nat_cmp) q []) (Some root_node) None
+space_at q = get-insert nat_list_cmp_total empty [] root_node q ∙ ap (cond (eq_by_cmp (slice_cmp nat_cmp) q []) (Some root_node)) (get-empty (slice_cmp nat_cmp) q)
+
+first_nodes : nodes_of records ≡ first_space
+first_nodes = same_map nat_list_cmp_total anti _ _ (λ q. node_there records q ∙ node_at q ∙ sym (space_at q))
+
+first_are_sound : AreSound records
+first_are_sound = record { space = subst IsSound (sym first_nodes) first_sound; records = kept_insert empty [] root_record kept_empty root_kept }
+
+root_made : (q : List ℕ) (kind : Kind) (b : Bool) → eq_by_cmp (slice_cmp nat_cmp) q [] ≡ b → kind_of (cond b (Some root_node) None) ≡ Some kind → made [] q ≡ Some kind
+root_made q kind true t h = ap (made []) (key_is q [] t) ∙ h
+root_made q kind false t h = absurd (cc)
+
+first_made : NodesMade records []
+first_made q kind h = root_made q kind (eq_by_cmp (slice_cmp nat_cmp) q []) refl (ap kind_of (sym (node_at q)) ∙ h)
+
+-- nothing is made below a directory
+not_below : (dir : List ℕ) (k : ℕ) (j : List ℕ) → IsMade [] j → IsAtOrBelow (child dir k) j → ⊥
+not_below [] k [] h p = let e : [] ≡ k ∷ p.0 = p.1 in absurd (cc)
+not_below (d ∷ dir) k [] h p = let e : [] ≡ d ∷ (child dir k ++ p.0) = p.1 in absurd (cc)
+not_below dir k (n ∷ ns) h p = absurd (cc)
+
+-- ## The world
+
+module _ (skew term greatest : ℕ) where
+  abbrev w : World
+  w = first_world skew term
+
+  first_reserved : FreshReserved (reserved_by (λ x. settled_at x (w.ends x))) w.server.records []
+  first_reserved = record {
+    once = λ x y n k i j r t b. absurd r.held;
+    unmade = λ x n i j r made b. absurd r.held;
+    made_before = λ dir k j here free made b. not_below dir k j made b;
+    reserved_before = λ dir k x n j here free r b. absurd r.held;
+  }
+
+  first_holds : (x : Session) → SessionHolds skew greatest (sight_of w.server []) x [] (settled_at x (w.ends x))
+  first_holds x = record { backed = λ l i late. absurd i; telling = λ l i r j e. absurd i; pending = tt; numbers = refl; replies = refl }
+
+  first_fits : (x : Session) → SessionFits skew greatest (sight_of w.server []) x (settled_at x (w.ends x))
+  first_fits x = record {
+    given = λ l i. absurd i;
+    distinct = λ l m i j e. absurd i;
+    matching = λ l i r j e. absurd i;
+    fresh = λ l i dir e. absurd i;
+    held = λ e i u j. absurd i;
+    backed = λ e i u j late. absurd i;
+    entries = λ e i. absurd i;
+    once = tt;
+    refused = λ n e. absurd (cc);
+  }
+
+  pub first_all : WorldHolds greatest (first_world skew term)
+  first_all = record {
+    all = record {
+      servers = record { apart = λ a b i j. absurd i; serial = sym first_nodes };
+      kept = record { off_modes = λ r i. absurd i; given = λ r i. absurd i; sound = first_are_sound; made = first_made };
+      sessions = first_holds;
+      fitting = first_fits;
+      reserved = first_reserved;
+    };
+    clock = omega arith;
+    clients = λ x. record { session = refl; viewed = refl; pending = refl; distinct = λ k l i j e. absurd i; pinned = λ k i. absurd i; held = λ e i u j. absurd i };
+    exchanges = λ x. record {
+      one = (refl, refl);
+      first = tt;
+      ships = tt;
+      front = λ entries i. absurd i;
+      released = tt;
+      asked = λ items fresh i. absurd i;
+      kinds = λ items fresh i. absurd i;
+      returns = λ k i leaving. absurd i;
+      renewals = λ ends e i. absurd i;
+    };
+  }

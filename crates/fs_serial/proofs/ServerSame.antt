@@ -1,0 +1,81 @@
+-- No event of the server changes its skew, and its clock only at the beginning.
+use Rattle.std.proofs.Common.{◌≡◌, ℕ, Bool, true, false, List, [], ◌∷◌, ◌++◌, map, refl, ◌∙◌}
+use Rattle.std.specs.Prelude.{Option, Some, None}
+use Rattle.fs_ident.specs.declared.actor.Session.{Session}
+use Rattle.fs_field.specs.declared.asked.Asked.{Asked}
+use Rattle.fs_field.specs.declared.asked.Asked.TheVariants as asked_as
+use Rattle.fs_field.specs.declared.field.Field.{Field}
+use Rattle.fs_field.specs.declared.lease_kind.LeaseKind.{LeaseKind}
+use Rattle.fs_field.specs.Table.{borne_numbers}
+use Rattle.fs_msg.specs.declared.answer.Grant.{Grant}
+use Rattle.fs_msg.specs.declared.end.End.{End}
+use Rattle.fs_msg.specs.declared.end.End.TheVariants as end
+use Rattle.fs_msg.specs.declared.entry.Entry.{Entry}
+use Rattle.fs_msg.specs.declared.item.Item.{Item}
+use Rattle.fs_record.specs.Fresh.{fresh_number, is_directory}
+use Rattle.fs_rows.specs.Answer.{answer}
+use Rattle.fs_server.specs.Asks.{Asking, ask_from, ask_fresh, asked_in, fresh_for, fresh_in, fresh_of, grant_of, kind_for, with_lease}
+use Rattle.fs_server.specs.Ships.{Shipping, first_gone, item_of, ship_from, with_entry}
+use Rattle.fs_server.specs.declared.state.Server.{Server}
+use Rattle.fs_field.specs.declared.used.Use.{Use}
+
+-- ## What a question leaves
+
+-- the clock and the skew stay
+pub record IsAsBefore (s t : Server) : Type 0 where
+  pub skew : t.skew ≡ s.skew
+  pub last : t.last ≡ s.last
+
+as_it_was : (s : Server) → IsAsBefore s s
+as_it_was s = record { skew = refl; last = refl }
+
+asks_same : (by : Session) (items : List (Field × LeaseKind)) (s : Server) (grants : List Grant) → IsAsBefore s (ask_from by items s grants).server
+asks_same by [] s grants = as_it_was s
+asks_same by (x ∷ xs) s grants =
+    let field = x.0 in
+    let kind = kind_for x.0 x.1 in
+    elim (answer s.rows by field kind) as (λ (q : Asked). IsAsBefore s
+    (elim q as (λ _. Asking) [
+      | asked_as.Granted value ↦ ask_from by xs (with_lease by field kind s) (grants ++ grant_of by field kind s ∷ [])
+      | asked_as.Wait blocker ↦ record { server = s; grants = grants; fresh = None; end = end.Wait blocker }
+      | asked_as.Locked txn ↦ record { server = s; grants = grants; fresh = None; end = end.Locked txn }
+    ]).server) [
+      | asked_as.Granted value ↦ let q = asks_same by xs (with_lease by field kind s) (grants ++ grant_of by field kind s ∷ []) in record { skew = q.skew; last = q.last }
+      | asked_as.Wait blocker ↦ as_it_was s
+      | asked_as.Locked txn ↦ as_it_was s
+    ]
+
+fresh_same : (by : Session) (dir : List ℕ) (k : Option ℕ) (a : Asking) → IsAsBefore a.server (fresh_of by dir k a).server
+fresh_same by dir (Some k) a = record { skew = refl; last = refl }
+fresh_same by dir None a = as_it_was a.server
+
+in_same : (by : Session) (dir : List ℕ) (b : Bool) (a : Asking) → IsAsBefore a.server (fresh_in by dir b a).server
+in_same by dir true a = fresh_same by dir (fresh_number a.server.records dir (borne_numbers dir a.server.rows)) a
+in_same by dir false a = as_it_was a.server
+
+for_same : (by : Session) (o : Option (List ℕ)) (a : Asking) → IsAsBefore a.server (fresh_for by o a).server
+for_same by None a = as_it_was a.server
+for_same by (Some dir) a = in_same by dir (is_directory a.server.records dir) a
+
+end_same : (by : Session) (o : Option (List ℕ)) (e : End) (a : Asking) → IsAsBefore a.server (ask_fresh by o e a).server
+end_same by o end.All a = for_same by o a
+end_same by o e a = as_it_was a.server
+
+pub asked_same : (by : Session) (items : List (Field × LeaseKind)) (dir : Option (List ℕ)) (s : Server) → IsAsBefore s (asked_in by items dir s).server
+asked_same by items dir s =
+    let a = ask_from by items s [] in
+    let p = asks_same by items s [] in
+    let q = end_same by dir a.end a in
+    record { skew = q.skew ∙ p.skew; last = q.last ∙ p.last }
+
+pub ships_same : (by : Session) (es : List Entry) (s : Server) (admitted : List Item) → IsAsBefore s (ship_from by es s admitted).server
+ships_same by [] s admitted = as_it_was s
+ships_same by (e ∷ es) s admitted =
+    elim (first_gone s.rows by e.uses) as (λ (o : Option Use). IsAsBefore s
+    (elim o as (λ _. Shipping) [
+      | None ↦ ship_from by es (with_entry by e s) (admitted ++ item_of by e ∷ [])
+      | Some u ↦ record { server = s; admitted = admitted; end = end.Ended e.n u.no u.until s.last; gaps = map (λ (x : Entry). x.n) es }
+    ]).server) [
+      | None ↦ let q = ships_same by es (with_entry by e s) (admitted ++ item_of by e ∷ []) in record { skew = q.skew; last = q.last }
+      | Some u ↦ as_it_was s
+    ]

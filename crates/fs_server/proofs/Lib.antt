@@ -1,0 +1,6 @@
+mod Ends
+mod Lending
+mod Asking
+mod Giving
+mod Paired
+mod Shipping

@@ -1,0 +1,15 @@
+-- What an event was decided to come to.
+use Rattle.fs_server.specs.declared.decide.Decided.{Decided}
+use Rattle.fs_server.specs.declared.state.Server.{Server}
+use Rattle.fs_server.specs.Lent.{IsReady}
+use Rattle.fs_server.specs.Plan.{changed, CanChange}
+use Rattle.fs_server.specs.Server.{Stepped}
+
+-- the server after it, and what comes of it
+abbrev pub stepped_by : Decided → Server → Stepped
+stepped_by d s = record { server = changed d.change s; out = d.out }
+
+-- it can be carried out, and leads to a server with a table of rows
+pub record CanDecide (d : Decided) (s : Server) : Type 0 where
+  pub change : CanChange d.change s
+  pub ready : IsReady (changed d.change s)

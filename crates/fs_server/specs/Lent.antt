@@ -1,0 +1,51 @@
+-- Leases that a question gets, before anything is changed.
+use Rattle.std.specs.Prelude.{◌≡◌, ◌+◌, ◌≤◌, List, length, None}
+use Rattle.std.specs.List.{find}
+use Rattle.fs_ident.specs.declared.actor.LeaseNo.{LeaseNo}
+use Rattle.fs_ident.specs.declared.actor.Session.{Session}
+use Rattle.fs_field.specs.declared.field.Field.{Field}
+use Rattle.fs_field.specs.declared.lease_kind.LeaseKind.{LeaseKind}
+use Rattle.fs_field.specs.declared.row.Row.{Row}
+use Rattle.fs_field.specs.Table.{has_no}
+use Rattle.fs_rows.specs.Answer.{answer}
+use Rattle.fs_rows.specs.Granted.{with_rows}
+use Rattle.fs_rows.specs.Table.{IsTable}
+use Rattle.fs_record.specs.ValueOf.{value_of}
+use Rattle.fs_msg.specs.declared.answer.Grant.{Grant}
+use Rattle.fs_msg.specs.declared.end.End.{End}
+use Rattle.fs_server.specs.declared.fresh.Got.{Got}
+use Rattle.fs_server.specs.declared.lent.Lent.{Lent}
+use Rattle.fs_server.specs.declared.state.Server.{Server}
+use Rattle.fs_server.specs.declared.change.Change.TheVariants as change
+use Rattle.fs_server.specs.Asks.{Asking}
+use Rattle.fs_server.specs.Plan.{IsServer, changed}
+use Rattle.fs_server.specs.Server.{end_of}
+
+-- a server, and a table of rows
+pub record IsReady (s : Server) : Type 0 where
+  pub server : IsServer s
+  pub table : IsTable s.rows
+
+-- the server where the leases of these rows are given
+abbrev pub with_leases : List Row → Server → Server
+with_leases rows s = record s { given = s.given + length rows; rows = with_rows rows s.rows }
+
+-- the rows are those of leases that the session is given, each with the next number
+pub record IsLent (by : Session) (rows : List Row) (s : Server) : Type 0 where
+  -- they change no answer to the session
+  pub answers : (field : Field) (kind : LeaseKind) → answer (with_rows rows s.rows) by field kind ≡ answer s.rows by field kind
+  -- no number was given before
+  pub new : (number : LeaseNo) → (number.server ≡ s.me → number.count ≤ s.given) → find (has_no number) (with_rows rows s.rows) ≡ find (has_no number) s.rows
+  pub ready : IsReady (with_leases rows s)
+
+-- what a session is told of the lease of this number
+abbrev pub numbered_grant : LeaseNo → Session → Field → LeaseKind → Server → Grant
+numbered_grant number by field kind s = record { no = number; field = field; kind = kind; until = end_of s; value = value_of s.records by field }
+
+-- the server and the answer where these leases are given
+abbrev pub lent_by : Lent → End → Server → Asking
+lent_by lent e s = record { server = with_leases lent.rows s; grants = lent.grants; fresh = None; end = e }
+
+-- the server and the answer where the question got this
+abbrev pub got_by : Got → Server → Asking
+got_by got s = record { server = changed (change.Grant got.lent.rows got.gift) s; grants = got.lent.grants; fresh = got.fresh; end = got.end }

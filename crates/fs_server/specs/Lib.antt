@@ -1,0 +1,10 @@
+pub mod Server
+pub mod Asks
+pub mod Pairs
+pub mod Ships
+pub mod Step
+pub mod Plan
+-- cited by private calls alone
+pub mod Lent
+pub mod Shipped
+pub mod Decided

@@ -1,0 +1,59 @@
+-- What an event changes, once it is read what it comes to.
+use Rattle.std.specs.Prelude.{◌≡◌, ℕ, ◌+◌, ◌<◌, ◌≤◌, ◌^◌, true, List, length, Option, Some, None}
+use Rattle.std.specs.List.{list_all}
+use Rattle.fs_ident.specs.declared.limits.TheConstants.{LATEST}
+use Rattle.fs_msg.specs.declared.limits.TheConstants.{LONGEST}
+use Rattle.fs_rows.specs.Table.{IsTable}
+use Rattle.fs_rows.specs.Given.{AreGiven}
+use Rattle.fs_rows.specs.Granted.{with_rows}
+use Rattle.fs_record.specs.Applied.{records_after_all, is_undoable}
+use Rattle.fs_record.specs.Fresh.{records_after_gift}
+use Rattle.fs_record.specs.Records.{RecordMap}
+use Rattle.fs_server.specs.declared.change.Change.{Change}
+use Rattle.fs_server.specs.declared.change.Change.TheVariants.{Nothing, Grant, Renew, Free, Admit}
+use Rattle.fs_server.specs.declared.plan.Plan.{Plan}
+use Rattle.fs_server.specs.declared.state.Server.{Server}
+use Rattle.fs_server.specs.Server.{begun}
+use Rattle.fs_server.specs.Pairs.{renewed_rows, released_rows}
+
+-- ## Changes, without a test
+
+-- the directory gave that number to a new file
+abbrev pub after_gift : Option (List ℕ × ℕ) → RecordMap → RecordMap
+after_gift None m = m
+after_gift (Some g) m = records_after_gift m g.0 (Some g.1)
+
+abbrev pub changed : Change → Server → Server
+changed Nothing s = s
+changed (Grant rows gift) s = record s { given = s.given + length rows; rows = with_rows rows s.rows; records = after_gift gift s.records }
+changed (Renew until numbers) s = record s { rows = renewed_rows until numbers s.rows }
+changed (Free numbers) s = record s { rows = released_rows numbers s.rows }
+changed (Admit effects) s = record s { records = records_after_all s.records effects }
+
+-- the server after the plan: the rows that are over are dropped first
+abbrev pub committed : Plan → Server → Server
+committed p s = changed p.change (begun p.now s)
+
+-- ## What every server is
+
+-- its readings and terms are in their ranges, and each row of its own has a number that it gave
+pub record IsServer (s : Server) : Type 0 where
+  pub few : s.me < 15
+  pub skew : s.skew ≤ LONGEST
+  pub term : s.term ≤ LONGEST
+  pub last : s.last ≤ LATEST
+  pub given : s.given < 2 ^ 64
+  pub numbers : AreGiven s.me s.given s.rows
+
+-- ## Which plans can be committed
+
+-- the effects of a log can be taken back where memory runs out
+abbrev pub CanChange : Change → Server → Type 0
+CanChange (Admit effects) s = list_all is_undoable effects ≡ true
+CanChange ch s = Unit {0}
+
+-- what it leads to is a server, with a table of rows
+pub record CanCommit (p : Plan) (s : Server) : Type 0 where
+  pub change : CanChange p.change s
+  pub server : IsServer (committed p s)
+  pub table : IsTable (committed p s).rows

@@ -1,0 +1,54 @@
+-- The step of a server.
+use Rattle.std.specs.Prelude.{ℕ, ◌^◌, nat_le, Bool, List, [], length, map}
+use Rattle.fs_ident.specs.declared.actor.LeaseNo.{LeaseNo}
+use Rattle.fs_ident.specs.declared.actor.Session.{Session}
+use Rattle.fs_ident.specs.declared.actor.Peer.{Peer}
+use Rattle.fs_field.specs.declared.field.Field.{Field}
+use Rattle.fs_rows.specs.Live.{unlocked_on}
+use Rattle.fs_msg.specs.declared.answer.Answer.TheVariants as reply
+use Rattle.fs_msg.specs.declared.client_msg.ClientMsg.{ClientMsg}
+use Rattle.fs_msg.specs.declared.client_msg.ClientMsg.TheVariants.{Ask, Renew, Release, Ship}
+use Rattle.fs_msg.specs.declared.msg.Msg.{Msg}
+use Rattle.fs_msg.specs.declared.server_note.ServerNote.TheVariants as note
+use Rattle.fs_server.specs.declared.event.ServerEvent.{ServerEvent}
+use Rattle.fs_server.specs.declared.event.ServerEvent.TheVariants.{FromClient, Turn, Recall}
+use Rattle.fs_server.specs.declared.state.Server.{Server}
+use Rattle.fs_server.specs.Server.{Stepped, begun, only_noted, to_session}
+use Rattle.fs_server.specs.Asks.{ask_step}
+use Rattle.fs_server.specs.Pairs.{renew_step, release_step}
+use Rattle.fs_server.specs.Ships.{ship_step}
+
+-- what a message of a session comes to
+abbrev pub message_step : Session → ClientMsg → Server → Stepped
+message_step by (Ask items fresh) s = ask_step by items fresh s
+message_step by (Renew pairs) s = renew_step by pairs s
+message_step by (Release pairs) s = release_step by pairs s
+message_step by (Ship entries) s = ship_step by entries s
+
+-- each of the leases is asked back from its session
+abbrev pub recalls_of : List (LeaseNo × Session) → List (Peer × Msg)
+recalls_of leases = map (λ (x : LeaseNo × Session). to_session x.1 (reply.Recall x.0)) leases
+
+-- those on the field that no transaction keeps
+abbrev pub recall_step : Field → Server → Stepped
+recall_step field s = record {
+  server = s;
+  out = record {
+    note = note.Recalls (length (unlocked_on field s.rows));
+    send = recalls_of (unlocked_on field s.rows);
+    admitted = [];
+  };
+}
+
+abbrev pub event_step : ServerEvent → Server → Stepped
+event_step (FromClient by m) s = message_step by m s
+event_step Turn s = only_noted note.Idle s
+event_step (Recall field) s = recall_step field s
+
+-- one event, at the reading that was handed in: the greatest so far counts
+abbrev pub step : Server → ℕ → ServerEvent → Stepped
+step s now e = event_step e (begun now s)
+
+-- a lease would have a number above the greatest
+abbrev pub is_spent : Server → ℕ → ServerEvent → Bool
+is_spent s now e = nat_le (2 ^ 64) (step s now e).server.given

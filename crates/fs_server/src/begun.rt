@@ -1,0 +1,89 @@
+//! A server at the reading of an event, while it is only read.
+ghost use Rattle.std.specs.Prelude.{◌≡◌, ◌≤◌};
+ghost use Rattle.fs_ident.specs.declared.limits.TheConstants.{LATEST};
+ghost use Rattle.fs_server.specs.Lent.{IsReady};
+ghost use Rattle.fs_server.specs.Plan.{IsServer};
+ghost use Rattle.fs_server.specs.Server.{begun, end_of};
+
+use crate::state::Server;
+use fs_record::Records;
+use fs_rows::Live;
+use std::marker::Model;
+
+/// A server at the reading of an event: the rows that are over at it are not seen. Nothing is copied.
+#[derive(Drop)]
+pub(crate) struct Begun<'a> {
+    server: &'a Server,
+    reading: u64,
+    live: Live<'a>,
+}
+
+impl<'a> Model for Begun<'a> {
+    ghost use Rattle.fs_server.specs.declared.state.Server.{Server};
+    ghost use Rattle.fs_server.specs.contracts.state.Server as whole;
+
+    ghost Value = { Server };
+
+    ghost coded = { whole.the_row.coded };
+
+    ghost view = { λ b. record b.server.now { last = b.reading; rows = b.live } };
+}
+
+impl<'a> Begun<'a> {
+    /// The server at the greatest reading so far, where this one is handed in.
+    pub(crate) fn at(server: &'a Server, now: u64) -> Begun<'a>
+        requires server { IsServer server.now }
+        requires reading { now ≤ LATEST }
+        ensures begun { result ≡ begun now server.now }
+        ensures ready { IsReady result }
+    {
+        let reading = server.last.max(now);
+        Begun {
+            server,
+            reading,
+            live: server.rows.live(reading, server.skew),
+        }
+    }
+
+    /// The server's number.
+    pub(crate) fn me(&self) -> u8
+        ensures { result ≡ self.now.me }
+    {
+        self.server.me
+    }
+
+    /// How many leases were given so far.
+    pub(crate) fn given(&self) -> u64
+        ensures { result ≡ self.now.given }
+    {
+        self.server.given
+    }
+
+    /// The reading of the event.
+    pub(crate) fn reading(&self) -> u64
+        ensures { result ≡ self.now.last }
+    {
+        self.reading
+    }
+
+    /// The reading at which a lease that is given now ends.
+    pub(crate) fn end(&self) -> u64
+        requires { IsServer self.now }
+        ensures { result ≡ end_of self.now }
+    {
+        self.reading + self.server.term
+    }
+
+    /// The rows that are not over.
+    pub(crate) fn rows(&self) -> &Live<'a>
+        ensures { result.now ≡ self.now.rows }
+    {
+        &self.live
+    }
+
+    pub(crate) fn records(&self) -> &Records
+        ensures { result.now ≡ self.now.records }
+    {
+        &self.server.records
+    }
+}

@@ -1,0 +1,111 @@
+//! What an event changes is carried out: all of it, or nothing.
+ghost use Rattle.std.specs.Prelude.{◌≡◌, ◌+◌, ◌<◌, ◌^◌, length, map, OnOk, OnErr};
+ghost use Rattle.std.specs.List.{filter};
+ghost use Rattle.fs_field.specs.Table.{is_live, renewed_row};
+ghost use Rattle.fs_rows.specs.Granted.{with_rows};
+ghost use Rattle.fs_rows.specs.Table.{IsTable};
+ghost use Rattle.fs_server.specs.Pairs.{released_rows, renewed_rows};
+ghost use Rattle.fs_server.specs.Plan.{CanChange, after_gift, changed};
+ghost use Rattle.fs_server.specs.Lent.{IsReady};
+ghost use Rattle.fs_server.specs.Server.{begun};
+
+use crate::change::Change;
+use crate::state::Server;
+use fs_field::Row;
+use fs_ident::{FileId, LeaseNo, List, Memory};
+use fs_record::Records;
+use fs_rows::Rows;
+use std::alloc::Global;
+
+/// The rows that are over at the reading are dropped, and the change is carried out.
+pub(crate) fn commit(
+    alloc: Global,
+    server: &mut Server,
+    now: u64,
+    change: Change,
+) -> Result<(), Memory>
+    requires can { CanChange change (begun now server.old) }
+    requires ready { IsReady (changed change (begun now server.old)) }
+    ensures ok { OnOk result (server.new ≡ changed change (begun now server.old)) }
+    ensures err { OnErr result (server.new ≡ server.old) }
+{
+    let reading = server.last.max(now);
+    match change {
+        Change::Nothing => server.rows.lapse(reading, server.skew),
+        Change::Grant { rows, gift } => grant(alloc, server, reading, rows, gift)?,
+        Change::Renew { until, numbers } => {
+            server.rows.lapse(reading, server.skew);
+            renew_all(&mut server.rows, until, numbers.as_slice());
+        }
+        Change::Free { numbers } => {
+            server.rows.lapse(reading, server.skew);
+            release_all(&mut server.rows, numbers.as_slice());
+        }
+        Change::Admit { effects } => {
+            server.records.apply_all(alloc, &effects)?;
+            server.rows.lapse(reading, server.skew);
+        }
+    }
+    server.last = reading;
+    Ok(())
+}
+
+/// The leases are given, and the directory's number with them.
+fn grant(
+    alloc: Global,
+    server: &mut Server,
+    reading: u64,
+    rows: List<Row>,
+    gift: Option<(FileId, u32)>,
+) -> Result<(), Memory>
+    requires table { IsTable (with_rows rows (filter (is_live reading server.old.skew) server.old.rows)) }
+    requires given { server.old.given + length rows < 2 ^ 64 }
+    ensures ok { OnOk result (server.new ≡ record server.old {
+      given = server.old.given + length rows;
+      rows = with_rows rows (filter (is_live reading server.old.skew) server.old.rows);
+      records = after_gift gift server.old.records;
+    }) }
+    ensures err { OnErr result (server.new ≡ server.old) }
+{
+    let count = rows.len() as u64;
+    server.rows.grant_all(alloc, reading, server.skew, rows)?;
+    server.given += count;
+    give_number(&mut server.records, gift);
+    Ok(())
+}
+
+/// The directory's next number rises above the one that it gave.
+fn give_number(records: &mut Records, gift: Option<(FileId, u32)>)
+    ensures { records.new ≡ after_gift gift records.old }
+{
+    if let Some((dir, k)) = gift {
+        records.gift(&dir, k);
+    }
+}
+
+/// These leases end no sooner than `until`.
+fn renew_all(rows: &mut Rows, until: u64, numbers: &[LeaseNo])
+    ensures { rows.new ≡ renewed_rows until numbers.now rows.old }
+{
+    for no in numbers {
+        renew_one(rows, *no, until);
+    }
+}
+
+fn renew_one(rows: &mut Rows, no: LeaseNo, until: u64)
+    ensures { rows.new ≡ map (renewed_row no until) rows.old }
+{
+    match rows.renew(no, until) {
+        Ok(()) => {}
+        Err(_) => {}
+    }
+}
+
+/// These leases are given back.
+fn release_all(rows: &mut Rows, numbers: &[LeaseNo])
+    ensures { rows.new ≡ released_rows numbers.now rows.old }
+{
+    for no in numbers {
+        rows.release(*no);
+    }
+}

@@ -1,0 +1,106 @@
+//! What an event comes to.
+ghost use Rattle.std.specs.Prelude.{◌≡◌, ◌^◌, nat_le, true, [], ◌∷◌, IfOk, IsErrOf};
+ghost use Rattle.fs_msg.specs.declared.answer.Answer.TheVariants as reply;
+ghost use Rattle.fs_msg.specs.declared.core_error.Counter.{Counter as TheCounter};
+ghost use Rattle.fs_msg.specs.declared.core_error.Counter.TheVariants.{Leases};
+ghost use Rattle.fs_msg.specs.declared.core_error.CoreError.TheVariants as errors;
+ghost use Rattle.fs_msg.specs.declared.server_note.ServerNote.TheVariants as note;
+ghost use Rattle.fs_server.specs.declared.change.Change.TheVariants as change;
+ghost use Rattle.fs_server.specs.Decided.{CanDecide, stepped_by};
+ghost use Rattle.fs_server.specs.Lent.{IsReady};
+ghost use Rattle.fs_server.specs.Server.{to_session};
+ghost use Rattle.fs_server.specs.Step.{event_step, message_step};
+
+use crate::asks::ask;
+use crate::begun::Begun;
+use crate::change::Change;
+use crate::event::ServerEvent;
+use crate::out::ServerOut;
+use crate::pairs::{release, renew};
+use crate::recalls::recall_all;
+use crate::ships::ship;
+use fs_ident::{LeaseNo, List, Memory, Peer, Session};
+use fs_msg::{Answer, ClientMsg, CoreError, Msg, ServerNote};
+use std::alloc::Global;
+
+/// What an event was decided to come to.
+#[derive(Drop)]
+pub(crate) struct Decided {
+    pub(crate) change: Change,
+    pub(crate) out: ServerOut,
+}
+
+/// What the event comes to.
+pub(crate) fn decide(alloc: Global, at: &Begun<'_>, ev: &ServerEvent) -> Result<Decided, CoreError>
+    requires { IsReady at.now }
+    ensures step { IfOk result (λ d. stepped_by d at.now ≡ event_step ev.now at.now) }
+    ensures can { IfOk result (λ d. CanDecide d at.now) }
+    ensures spent { (counter : TheCounter) → IsErrOf result (errors.Spent counter) →
+        (counter ≡ Leases) × (nat_le (2 ^ 64) (event_step ev.now at.now).server.given ≡ true) }
+{
+    match ev {
+        ServerEvent::FromClient(by, m) => message(alloc, at, *by, m),
+        ServerEvent::Turn => Ok(only_noted(alloc, ServerNote::Idle)),
+        ServerEvent::Recall(field) => Ok(recall_all(alloc, at, field)?),
+    }
+}
+
+/// What a message of the session comes to.
+fn message(alloc: Global, at: &Begun<'_>, by: Session, m: &ClientMsg) -> Result<Decided, CoreError>
+    requires { IsReady at.now }
+    ensures step { IfOk result (λ d. stepped_by d at.now ≡ message_step by m.now at.now) }
+    ensures can { IfOk result (λ d. CanDecide d at.now) }
+    ensures spent { (counter : TheCounter) → IsErrOf result (errors.Spent counter) →
+        (counter ≡ Leases) × (nat_le (2 ^ 64) (message_step by m.now at.now).server.given ≡ true) }
+{
+    match m {
+        ClientMsg::Ask { items, fresh } => ask(alloc, at, by, items, fresh),
+        ClientMsg::Renew { pairs } => Ok(renew(alloc, at, by, pairs)?),
+        ClientMsg::Release { pairs } => Ok(release(alloc, at, by, pairs)?),
+        ClientMsg::Ship { entries } => Ok(ship(alloc, at, by, entries)?),
+    }
+}
+
+/// Nothing is changed, sent or admitted.
+pub(crate) fn only_noted(alloc: Global, note: ServerNote) -> Decided
+    ensures { result ≡ record { change = change.Nothing; out = record { note = note; send = []; admitted = [] } } }
+{
+    Decided {
+        change: Change::Nothing,
+        out: ServerOut {
+            note,
+            send: List::new(alloc),
+            admitted: List::new(alloc),
+        },
+    }
+}
+
+/// No honest actor sends such a message.
+pub(crate) fn strange(alloc: Global) -> Decided
+    ensures { result ≡ record { change = change.Nothing; out = record { note = note.Strange; send = []; admitted = [] } } }
+{
+    only_noted(alloc, ServerNote::Strange)
+}
+
+/// A message to the session.
+pub(crate) fn to_session(by: Session, a: Answer) -> (Peer, Msg)
+    ensures { result ≡ to_session by a }
+{
+    (Peer::Client(by), Msg::Answer(a))
+}
+
+/// The lease is asked back from the session.
+pub(crate) fn recall(by: Session, no: LeaseNo) -> (Peer, Msg)
+    ensures { result ≡ to_session by (reply.Recall no) }
+{
+    to_session(by, Answer::Recall { no })
+}
+
+/// One message alone.
+pub(crate) fn only(alloc: Global, m: (Peer, Msg)) -> Result<List<(Peer, Msg)>, Memory>
+    ensures { IfOk result (λ send. send ≡ m ∷ []) }
+{
+    let mut send = List::new(alloc);
+    send.push(m)?;
+    Ok(send)
+}

@@ -1,0 +1,105 @@
+//! Renewals and releases, pair by pair.
+ghost use Rattle.std.specs.Prelude.{◌≡◌, IfOk};
+ghost use Rattle.fs_server.specs.Decided.{CanDecide, stepped_by};
+ghost use Rattle.fs_server.specs.Lent.{IsReady};
+ghost use Rattle.fs_server.specs.Pairs.{end_told, ends_told, numbers_in, release_step, renew_step};
+
+use crate::begun::Begun;
+use crate::change::Change;
+use crate::decide::{Decided, only, to_session};
+use crate::out::ServerOut;
+use fs_ident::{FileId, LeaseNo, List, Memory, Session};
+use fs_msg::{Answer, End, ServerNote};
+use std::alloc::Global;
+
+/// The session asks for later ends of leases.
+pub(crate) fn renew(
+    alloc: Global,
+    at: &Begun<'_>,
+    by: Session,
+    pairs: &List<(FileId, LeaseNo)>,
+) -> Result<Decided, Memory>
+    requires { IsReady at.now }
+    ensures step { IfOk result (λ d. stepped_by d at.now ≡ renew_step by pairs.now at.now) }
+    ensures can { IfOk result (λ d. CanDecide d at.now) }
+{
+    let until = at.end();
+    let numbers = numbers_in(alloc, pairs.as_slice())?;
+    let rows = ends_told(alloc, at, until, numbers.as_slice())?;
+    let end = End::All;
+    Ok(Decided {
+        change: Change::Renew { until, numbers },
+        out: ServerOut {
+            note: ServerNote::Renews {
+                count: pairs.len() as u64,
+                end: End::All,
+            },
+            send: only(alloc, to_session(by, Answer::Renewed { rows, end }))?,
+            admitted: List::new(alloc),
+        },
+    })
+}
+
+/// The session gives leases back.
+pub(crate) fn release(
+    alloc: Global,
+    at: &Begun<'_>,
+    by: Session,
+    pairs: &List<(FileId, LeaseNo)>,
+) -> Result<Decided, Memory>
+    requires { IsReady at.now }
+    ensures step { IfOk result (λ d. stepped_by d at.now ≡ release_step by pairs.now at.now) }
+    ensures can { IfOk result (λ d. CanDecide d at.now) }
+{
+    let count = pairs.len() as u64;
+    let numbers = numbers_in(alloc, pairs.as_slice())?;
+    let end = End::All;
+    Ok(Decided {
+        change: Change::Free { numbers },
+        out: ServerOut {
+            note: ServerNote::Frees {
+                count,
+                end: End::All,
+            },
+            send: only(alloc, to_session(by, Answer::Released { count, end }))?,
+            admitted: List::new(alloc),
+        },
+    })
+}
+
+/// The numbers of the pairs.
+fn numbers_in(alloc: Global, pairs: &[(FileId, LeaseNo)]) -> Result<List<LeaseNo>, Memory>
+    ensures { IfOk result (λ numbers. numbers ≡ numbers_in pairs.now) }
+{
+    let mut numbers = List::new(alloc);
+    for (_, no) in pairs {
+        numbers.push(*no)?;
+    }
+    Ok(numbers)
+}
+
+/// The new ends of the leases; none of one whose row is not there.
+fn ends_told(
+    alloc: Global,
+    at: &Begun<'_>,
+    until: u64,
+    numbers: &[LeaseNo],
+) -> Result<List<(LeaseNo, Option<u64>)>, Memory>
+    ensures { IfOk result (λ told. told ≡ ends_told until numbers.now at.now.rows) }
+{
+    let mut told = List::new(alloc);
+    for no in numbers {
+        told.push(end_told(at, until, *no))?;
+    }
+    Ok(told)
+}
+
+fn end_told(at: &Begun<'_>, until: u64, no: LeaseNo) -> (LeaseNo, Option<u64>)
+    ensures { result ≡ end_told until no at.now.rows }
+{
+    if at.rows().has(no) {
+        (no, Some(until))
+    } else {
+        (no, None)
+    }
+}

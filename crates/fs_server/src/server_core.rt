@@ -1,0 +1,145 @@
+//! The core of a server as one value.
+ghost use Rattle.std.specs.Prelude.{◌≡◌, ◌<◌, ◌≤◌, ◌⊎◌, true, IfOk, OnOk, OnErr, IsErrOf};
+ghost use Rattle.fs_ident.specs.declared.limits.TheConstants.{LATEST};
+ghost use Rattle.fs_msg.specs.declared.core_error.Counter.{Counter as TheCounter};
+ghost use Rattle.fs_msg.specs.declared.core_error.Counter.TheVariants.{Leases};
+ghost use Rattle.fs_msg.specs.declared.core_error.CoreError.TheVariants as errors;
+ghost use Rattle.fs_msg.specs.declared.limits.TheConstants.{LONGEST};
+
+use crate::begun::Begun;
+use crate::commits::commit;
+use crate::decide::{Decided, decide};
+use crate::event::ServerEvent;
+use crate::out::ServerOut;
+use crate::plan::Plan;
+use crate::state::Server;
+use fs_ident::{Memory, Twin};
+use fs_msg::CoreError;
+use fs_record::Records;
+use fs_rows::Rows;
+use std::alloc::Global;
+use std::marker::Model;
+
+/// A server of the service, which takes one event after another.
+#[derive(Drop)]
+pub struct ServerCore {
+    server: Server,
+}
+
+impl Model for ServerCore {
+    ghost use Rattle.fs_server.specs.declared.state.Server.{Server};
+    ghost use Rattle.fs_server.specs.contracts.state.Server as whole;
+    ghost use Rattle.fs_server.specs.Plan.{IsServer};
+
+    ghost Value = { Server };
+
+    ghost coded = { whole.the_row.coded };
+
+    ghost view = { λ s. s.server };
+
+    ghost invariant = { λ s. IsServer s.server };
+}
+
+impl ServerCore {
+    ghost use Rattle.fs_server.specs.Plan.{CanCommit, committed};
+    ghost use Rattle.fs_server.specs.Server.{first_server};
+    ghost use Rattle.fs_server.specs.Step.{is_spent, step};
+
+    /// A server before its first event: its number, by how much two clocks may differ, and for how long it gives a
+    /// lease, both in milliseconds. Server 0 has the root directory, and no other has a record.
+    pub fn new(alloc: Global, me: u8, skew: u64, term: u64) -> Result<ServerCore, Memory>
+        requires few { me < 15 }
+        requires skew { skew ≤ LONGEST }
+        requires some { 1 ≤ term }
+        requires term { term ≤ LONGEST }
+        ensures { IfOk result (λ s. s ≡ first_server me skew term) }
+    {
+        Ok(ServerCore {
+            server: Server {
+                me,
+                skew,
+                term,
+                last: 0,
+                given: 0,
+                rows: Rows::new(alloc),
+                records: Records::new(alloc, me == 0)?,
+            },
+        })
+    }
+
+    /// What the event at the reading `now`, in milliseconds, comes to; nothing is changed. `Spent` where a lease
+    /// would have a number above u64::MAX, and only there.
+    pub fn plan(&self, alloc: Global, now: u64, ev: &ServerEvent) -> Result<Plan, CoreError>
+        requires { now ≤ LATEST }
+        ensures out { IfOk result (λ p. p.out ≡ (step self.now now ev.now).out) }
+        ensures server { IfOk result (λ p. committed p self.now ≡
+            (step self.now now ev.now).server) }
+        ensures can { IfOk result (λ p. CanCommit p self.now) }
+        ensures spent { (counter : TheCounter) → IsErrOf result (errors.Spent counter) →
+            (counter ≡ Leases) × (is_spent self.now now ev.now ≡ true) }
+        ensures only { is_spent self.now now ev.now ≡ true →
+            IsErrOf result (errors.Spent Leases) ⊎ IsErrOf result errors.Memory }
+    {
+        let at = Begun::at(&self.server, now);
+        let Decided { change, out } = decide(alloc, &at, ev)?;
+        Ok(Plan::new(now, change, out))
+    }
+
+    /// Carries out a plan of this very server, all of it. `Memory` where memory is wanting; the server is as it was
+    /// then.
+    pub fn commit(&mut self, alloc: Global, plan: Plan) -> Result<(), Memory>
+        requires { CanCommit plan self.old }
+        ensures ok { OnOk result (self.new ≡ committed plan self.old) }
+        ensures err { OnErr result (self.new ≡ self.old) }
+    {
+        let (now, change, _) = plan.into_parts();
+        commit(alloc, &mut self.server, now, change)
+    }
+
+    /// One event at the reading `now`, in milliseconds. `Spent` where a lease would have a number above u64::MAX, and
+    /// only there. After an error the server is as it was.
+    pub fn step(
+        &mut self,
+        alloc: Global,
+        now: u64,
+        ev: &ServerEvent,
+    ) -> Result<ServerOut, CoreError>
+        requires { now ≤ LATEST }
+        ensures out { IfOk result (λ out. out ≡ (step self.old now ev.now).out) }
+        ensures server { OnOk result (self.new ≡ (step self.old now ev.now).server) }
+        ensures spent { (counter : TheCounter) → IsErrOf result (errors.Spent counter) →
+            (counter ≡ Leases) × (is_spent self.old now ev.now ≡ true) }
+        ensures only { is_spent self.old now ev.now ≡ true →
+            IsErrOf result (errors.Spent Leases) ⊎ IsErrOf result errors.Memory }
+        ensures err { OnErr result (self.new ≡ self.old) }
+    {
+        let plan = self.plan(alloc, now, ev)?;
+        let (now, change, out) = plan.into_parts();
+        commit(alloc, &mut self.server, now, change)?;
+        Ok(out)
+    }
+
+    /// The records of the server's files.
+    pub fn records(&self) -> &Records
+        ensures { result.now ≡ self.now.records }
+    {
+        &self.server.records
+    }
+
+    /// The rows of the leases that the server gave.
+    pub fn rows(&self) -> &Rows
+        ensures { result.now ≡ self.now.rows }
+    {
+        &self.server.rows
+    }
+}
+
+impl Twin for ServerCore {
+    fn copy(&self, alloc: Global) -> Result<ServerCore, Memory> {
+        Ok(ServerCore {
+            server: self.server.copy(alloc)?,
+        })
+    }
+
+    fn discard(self) {}
+}

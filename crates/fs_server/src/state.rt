@@ -1,0 +1,38 @@
+//! What a server keeps.
+use fs_ident::{Memory, Twin};
+use fs_record::Records;
+use fs_rows::Rows;
+use std::alloc::Global;
+
+/// What a server keeps.
+#[derive(Drop)]
+pub(crate) struct Server {
+    /// The server's number.
+    pub(crate) me: u8,
+    /// By how much two clocks may differ.
+    pub(crate) skew: u64,
+    /// For how long a lease is given.
+    pub(crate) term: u64,
+    /// The greatest reading of an event so far.
+    pub(crate) last: u64,
+    /// How many leases were given so far.
+    pub(crate) given: u64,
+    pub(crate) rows: Rows,
+    pub(crate) records: Records,
+}
+
+impl Twin for Server {
+    fn copy(&self, alloc: Global) -> Result<Server, Memory> {
+        Ok(Server {
+            me: self.me,
+            skew: self.skew,
+            term: self.term,
+            last: self.last,
+            given: self.given,
+            rows: self.rows.copy(alloc)?,
+            records: self.records.copy(alloc)?,
+        })
+    }
+
+    fn discard(self) {}
+}

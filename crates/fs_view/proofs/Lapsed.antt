@@ -1,0 +1,121 @@
+-- What is over at a reading serves for nothing at it: reads pass over it.
+use Rattle.std.proofs.Common.{◌≡◌, ℕ, ◌&&◌, ◌||◌, ◌<◌, Bool, true, false, not, List, [], ◌∷◌, refl, ap, cond, arith, sym, ◌∙◌}
+use Rattle.std.specs.Prelude.{Option, Some, None, nat_lt, nat_le, option_map, is_some}
+use Rattle.std.specs.Option.{option_and_then, option_map_or}
+use Rattle.std.specs.List.{find, filter, filter_map, list_all, list_any, cons_option}
+use Rattle.std.proofs.lemmas.Bool.Decides.{nat_tests}
+use Rattle.fs_ident.proofs.Booleans.{both, joined}
+use Rattle.fs_ident.specs.declared.actor.LeaseNo.{LeaseNo}
+use Rattle.fs_field.specs.declared.asked.Need.{Need}
+use Rattle.fs_field.specs.declared.asked.Need.TheVariants as need
+use Rattle.fs_field.specs.declared.effect.Effect.{Effect}
+use Rattle.fs_field.specs.declared.field.Field.{Field}
+use Rattle.fs_field.specs.declared.lease_kind.LeaseKind.{LeaseKind}
+use Rattle.fs_field.specs.declared.used.Use.{Use}
+use Rattle.fs_model.specs.declared.op.Op.{Op}
+use Rattle.fs_view.specs.declared.kept.Kept.{Kept}
+use Rattle.fs_view.specs.declared.kept.Standing.{Standing}
+use Rattle.fs_view.specs.declared.kept.Standing.TheVariants.{Held, Pinned, Leaving}
+use Rattle.fs_view.specs.Kept.{has_ended, is_better, is_unused_in, offers, serves, use_in, file_in}
+use Rattle.fs_view.specs.View.{View, lapsed_at, taken, taken_from, offered, known_by, given_by, fresh, item_use, uses_in, walk_in, missing_in, reply_in, value_after_log}
+use Rattle.fs_view.specs.Walk.{Known, Given, is_there, missing, walk}
+
+-- the lease is not over at the reading, or an entry uses it, or it goes back
+abbrev pub is_live_at : ℕ → Kept → Bool
+is_live_at now k = not (has_ended now k.standing)
+
+ended_serves : (now : ℕ) (field : Field) (kind : LeaseKind) (s : Standing) → has_ended now s ≡ true → serves now field kind s ≡ false
+ended_serves now field kind (Held l) h = grind (arith, nat_tests)
+ended_serves now field kind (Pinned u) h = absurd (cc)
+ended_serves now field kind (Leaving l) h = absurd (cc)
+
+ended_unused : (now : ℕ) (log : List (List Effect)) (s : Standing) → has_ended now s ≡ true → is_unused_in now log s ≡ false
+ended_unused now log (Held l) h = grind (arith, nat_tests)
+ended_unused now log (Pinned u) h = absurd (cc)
+ended_unused now log (Leaving l) h = absurd (cc)
+
+taken_still : (now : ℕ) (field : Field) (kind : LeaseKind) (best : Option Kept) (ks : List Kept) → taken_from now field kind best (filter (is_live_at now) ks) ≡ taken_from now field kind best ks
+taken_still now field kind best [] = refl
+taken_still now field kind best (k ∷ ks) =
+    elim (has_ended now k.standing) as (λ b. has_ended now k.standing ≡ b → taken_from now field kind best (cond (not b) (k ∷ filter (is_live_at now) ks) (filter (is_live_at now) ks)) ≡ taken_from now field kind (cond (serves now field kind k.standing && is_better k best) (Some k) best) ks) [
+      | true ↦ λ e. taken_still now field kind best ks ∙ sym (ap (λ b. taken_from now field kind (cond (b && is_better k best) (Some k) best) ks) (ended_serves now field kind k.standing e))
+      | false ↦ λ e. taken_still now field kind (cond (serves now field kind k.standing && is_better k best) (Some k) best) ks
+    ] refl
+
+no_offer : (b c : Bool) → c ≡ false → (b && c) ≡ false
+no_offer true c h = h
+no_offer false c h = refl
+
+found_still : (now : ℕ) (dir : List ℕ) (log : List (List Effect)) (ks : List Kept) → find (offers now dir log) (filter (is_live_at now) ks) ≡ find (offers now dir log) ks
+found_still now dir log [] = refl
+found_still now dir log (k ∷ ks) =
+    elim (has_ended now k.standing) as (λ b. has_ended now k.standing ≡ b → find (offers now dir log) (cond (not b) (k ∷ filter (is_live_at now) ks) (filter (is_live_at now) ks)) ≡ cond (offers now dir log k) (Some k) (find (offers now dir log) ks)) [
+      | true ↦ λ e. found_still now dir log ks ∙ sym (ap (λ b. cond b (Some k) (find (offers now dir log) ks)) (no_offer _ (is_unused_in now log k.standing) (ended_unused now log k.standing e)))
+      | false ↦ λ e. ap (cond (offers now dir log k) (Some k)) (found_still now dir log ks)
+    ] refl
+
+-- ## Reads
+
+pub taken_passes : (now : ℕ) (v : View) (field : Field) (kind : LeaseKind) → taken (lapsed_at now v) now field kind ≡ taken v now field kind
+unfolding taken
+taken_passes now v field kind = taken_still now field kind None v.leases
+
+pub offered_passes : (now : ℕ) (v : View) (dir : List ℕ) → offered (lapsed_at now v) now dir ≡ offered v now dir
+unfolding offered
+offered_passes now v dir = found_still now dir v.pending v.leases
+
+known_at : (now : ℕ) (v : View) (field : Field) (kind : LeaseKind) → known_by (lapsed_at now v) now field kind ≡ known_by v now field kind
+unfolding known_by
+known_at now v field kind = ap (option_map (λ (k : Kept). value_after_log v.session field k.base v.pending)) (taken_passes now v field kind)
+
+pub known_passes : (now : ℕ) (v : View) → known_by (lapsed_at now v) now ≡ known_by v now
+known_passes now v = λ i field kind. known_at now v field kind i
+
+pub given_passes : (now : ℕ) (v : View) → given_by (lapsed_at now v) now ≡ given_by v now
+given_passes now v = λ i dir. is_some (offered_passes now v dir i)
+
+pub fresh_passes : (now : ℕ) (v : View) (dir : List ℕ) → fresh (lapsed_at now v) now dir ≡ fresh v now dir
+fresh_passes now v dir = ap (option_map (λ (k : Kept). file_in k.standing)) (offered_passes now v dir)
+
+pub walk_passes : (now : ℕ) (v : View) (o : Op) → walk_in (lapsed_at now v) now o ≡ walk_in v now o
+walk_passes now v o = ap (λ (known : Known). walk known (given_by (lapsed_at now v) now) o) (known_passes now v) ∙ ap (λ (given : Given). walk (known_by v now) given o) (given_passes now v)
+
+pub missing_passes : (now : ℕ) (v : View) (o : Op) → missing_in (lapsed_at now v) now o ≡ missing_in v now o
+missing_passes now v o = ap (λ (known : Known). missing known (given_by (lapsed_at now v) now) o) (known_passes now v) ∙ ap (λ (given : Given). missing (known_by v now) given o) (given_passes now v)
+
+pub reply_passes : (now : ℕ) (v : View) (o : Op) → reply_in (lapsed_at now v) now o ≡ reply_in v now o
+reply_passes now v o = ap (λ w. w.reply) (walk_passes now v o)
+
+item_use_passes : (now : ℕ) (v : View) (n : Need) → item_use (lapsed_at now v) now n ≡ item_use v now n
+item_use_passes now v (need.Lease field kind) = ap (option_and_then (λ (k : Kept). use_in k.standing)) (taken_passes now v field kind)
+item_use_passes now v (need.Fresh dir) = ap (option_and_then (λ (k : Kept). use_in k.standing)) (offered_passes now v dir)
+
+pub item_uses_pass : (now : ℕ) (v : View) → item_use (lapsed_at now v) now ≡ item_use v now
+item_uses_pass now v = λ i n. item_use_passes now v n i
+
+pub uses_pass : (now : ℕ) (v : View) (o : Op) → uses_in (lapsed_at now v) now o ≡ uses_in v now o
+uses_pass now v o = ap (λ (f : Need → Option Use). filter_map f (walk_in (lapsed_at now v) now o).items) (item_uses_pass now v) ∙ ap (λ w. filter_map (item_use v now) w.items) (walk_passes now v o)
+
+pub absent_pass : (now : ℕ) (v : View) (items : List Need) → filter (λ need. not (is_there (known_by (lapsed_at now v) now) (given_by (lapsed_at now v) now) need)) items ≡ filter (λ need. not (is_there (known_by v now) (given_by v now) need)) items
+absent_pass now v items =
+    ap (λ (known : Known). filter (λ need. not (is_there known (given_by (lapsed_at now v) now) need)) items) (known_passes now v)
+    ∙ ap (λ (given : Given). filter (λ need. not (is_there (known_by v now) given need)) items) (given_passes now v)
+
+pub used_pass : (now : ℕ) (v : View) (items : List Need) → filter_map (item_use (lapsed_at now v) now) items ≡ filter_map (item_use v now) items
+used_pass now v items = ap (λ (f : Need → Option Use). filter_map f items) (item_uses_pass now v)
+
+-- ## Tests of the leases that are not over
+
+pub any_live : (now : ℕ) (test : Kept → Bool) (ks : List Kept) → list_any test (filter (is_live_at now) ks) ≡ list_any (λ k. is_live_at now k && test k) ks
+any_live now test [] = refl
+any_live now test (k ∷ ks) = elim (is_live_at now k) as (λ b. list_any test (cond b (k ∷ filter (is_live_at now) ks) (filter (is_live_at now) ks)) ≡ ((b && test k) || list_any (λ j. is_live_at now j && test j) ks)) [
+  | true ↦ ap (λ b. test k || b) (any_live now test ks)
+  | false ↦ any_live now test ks
+]
+
+pub filter_live : (now : ℕ) (test : Kept → Bool) (ks : List Kept) → filter test (filter (is_live_at now) ks) ≡ filter (λ k. is_live_at now k && test k) ks
+filter_live now test [] = refl
+filter_live now test (k ∷ ks) = elim (is_live_at now k) as (λ b. filter test (cond b (k ∷ filter (is_live_at now) ks) (filter (is_live_at now) ks)) ≡ cond (b && test k) (k ∷ filter (λ j. is_live_at now j && test j) ks) (filter (λ j. is_live_at now j && test j) ks)) [
+  | true ↦ ap (λ rest. cond (test k) (k ∷ rest) rest) (filter_live now test ks)
+  | false ↦ filter_live now test ks
+]

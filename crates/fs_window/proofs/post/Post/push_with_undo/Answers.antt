@@ -1,0 +1,15 @@
+use Rattle.std.proofs.Common.{◌∙◌}
+use Rattle.fs_window.proofs.ByActor.{links_put}
+use Rattle.fs_window.proofs.Undone.{undone_noted}
+use Rattle.fs_window.proofs.post.Post.push_with_undo.Goals as goal
+
+pub note-requires : goal.note-requires
+note-requires c = (links_put c.self.inside.me c.self.inside.width c.self.inside.links c.push_step.new.links _ _ c.self.invariant c.in_ok-step.ensures.ok).ordered
+
+pub invariant_of-self-2 : goal.invariant_of-self-2
+invariant_of-self-2 c = links_put _ _ _ _ _ _ c.self.invariant (c.in_ok-note.ensures.ok ∙ c.in_ok-step.ensures.ok)
+
+pub returns-clause-undo : goal.returns-clause-undo
+returns-clause-undo c =
+    undone_noted c.self.inside.me c.self.inside.width c.args.undo.now c.note.new.undo c.in_ok-step.step c.self.inside.links c.push_step.new.links c.note.new.links c.args.self.now
+    c.in_ok-note.ensures.noted c.in_ok-note.ensures.ok c.in_ok-step.ensures.step c.self.view_is
