@@ -41,7 +41,7 @@ heard c (Some x) up a rest e n (inr h) =
 
 -- ## Then no question stands
 
-quiet_renewed : (rest : List Answer) → due rest ≡ [] → (ends : List (LeaseNo × Option ℕ)) (e : End) → In (Renewed ends e) rest → ⊥
+pub quiet_renewed : (rest : List Answer) → due rest ≡ [] → (ends : List (LeaseNo × Option ℕ)) (e : End) → In (Renewed ends e) rest → ⊥
 quiet_renewed [] q ends e i = i
 quiet_renewed (Recall n ∷ rest) q ends e (inl p) = absurd (cc)
 quiet_renewed (Recall n ∷ rest) q ends e (inr i) = quiet_renewed rest q ends e i

@@ -152,8 +152,8 @@ seat_released skew greatest s by replied c up count e rest h =
     let ns : List LeaseNo = take count (numbers_sent c.exchange) in
     let then_ : Client = with_released ns c in
     let going : AllGoing ns c.view.leases = λ n i k j same.
-        let r = sent_returned c.exchange c.view.leases h.exchange.released n (in_front count n (numbers_sent c.exchange) i) in
-        ap (λ (k : Kept). is_leaving k.standing) (h.client.distinct k r.kept j r.among (same ∙ sym r.number)) ∙ r.leaving in
+    let r = sent_returned c.exchange c.view.leases h.exchange.released n (in_front count n (numbers_sent c.exchange) i) in
+    ap (λ (k : Kept). is_leaving k.standing) (h.client.distinct k r.kept j r.among (same ∙ sym r.number)) ∙ r.leaving in
     let q : HasReturned c.view then_.view = all_returned ns c.view going in
     let now : settled_now then_ ≡ settled_now c = ap (λ ls. let x : Settled = record { leases = ls; log = c.log; next = c.next; over = c.over } in x) q.same in
     let seen : seen_at by c (Released count e ∷ rest) ≡ seen_at by then_ rest = ap (settled by rest) (sym now) in

@@ -234,8 +234,8 @@ seat_shipped skew greatest s by replied c up count e rest h =
     let now : settled_now then_ ≡ told by (Shipped count e) (settled_now c) = ap (with_over (over_after e c.over)) q.settled in
     let seen : seen_at by c (Shipped count e ∷ rest) ≡ seen_at by then_ rest = ap (settled by rest) (sym now) in
     let returns : ReturnsFit s.given s.rows by then_.view.leases (seen_at by then_ rest).leases = λ k i t.
-        let p = q.was k i in
-        subst (λ n. ReturnFits s.given s.rows by (seen_at by then_ rest).leases n) p.number (subst (λ (d : Settled). ReturnFits s.given s.rows by d.leases (number_of p.kept.standing)) seen (h.exchange.returns p.kept p.among (p.leaving ∙ t))) in
+    let p = q.was k i in
+    subst (λ n. ReturnFits s.given s.rows by (seen_at by then_ rest).leases n) p.number (subst (λ (d : Settled). ReturnFits s.given s.rows by d.leases (number_of p.kept.standing)) seen (h.exchange.returns p.kept p.among (p.leaving ∙ t))) in
     record {
       holds = subst (SessionHolds skew greatest s by replied) seen h.holds;
       fits = subst (SessionFits skew greatest s by) seen h.fits;

@@ -56,7 +56,7 @@ used_once n [] u i e = absurd i
 used_once n (x ∷ us) u (inl q) e = some_more (same_no x.no n) (times_used n us) (ap (λ y. same_no y n) (ap (λ (u : Use). u.no) (sym q) ∙ e) ∙ same_no_self n)
 used_once n (x ∷ us) u (inr i) e = let p = used_once n us u i e in let q = no_less (same_no x.no n) (times_used n us) in omega arith
 
-used_in : (n : LeaseNo) (log : List Entry) (x : Entry) → In x log → (u : Use) → In u x.uses → u.no ≡ n → 1 ≤ times_in n log
+pub used_in : (n : LeaseNo) (log : List Entry) (x : Entry) → In x log → (u : Use) → In u x.uses → u.no ≡ n → 1 ≤ times_in n log
 used_in n [] x i u j e = absurd i
 used_in n (y ∷ log) x (inl q) u j e = let p = used_once n y.uses u (subst (λ (z : Entry). In u z.uses) q j) e in omega arith
 used_in n (y ∷ log) x (inr i) u j e = let p = used_in n log x i u j e in omega arith
