@@ -26,7 +26,7 @@ use Rattle.fs_msg.specs.declared.entry.Entry.{Entry}
 use Rattle.fs_msg.specs.declared.item.Item.{Item}
 use Rattle.fs_record.specs.ValueOf.{value_of}
 use Rattle.fs_client.specs.Client.{renewed_one, renewed_all, with_renewed}
-use Rattle.fs_client.specs.Temp.{given_up}
+use Rattle.fs_view.specs.View.{given_up}
 use Rattle.fs_client.specs.declared.state.Client.{Client}
 use Rattle.fs_view.specs.declared.kept.Kept.{Kept}
 use Rattle.fs_view.specs.declared.kept.Standing.{Standing}
