@@ -44,8 +44,11 @@ seat_beside skew greatest s x replied c up down journal same h =
 -- a session's client, what is on its way, and what its caller is told, after a step
 pub record IsMoved (skew greatest : ℕ) (s t : Sight) (by : Session) (replied : List Item) (c : Client) (down : List Answer) (told : Option Item) (e : Ends) : Type 0 where
   pub seat : Seat skew greatest t by (pushed told replied) e.client e.up e.down
-  -- no lease is new
-  pub fewer : (l : Lease) → In l (settled_at by e).leases → In l (seen_at by c down).leases
+  -- no identifier is reserved anew
+  pub reserves : (n : LeaseNo) (i : List ℕ) → Reserves (settled_at by e).leases n i → Reserves (seen_at by c down).leases n i
+
+pub reserves_in : (old new : List Lease) → ((l : Lease) → In l new → In l old) → (n : LeaseNo) (i : List ℕ) → Reserves new n i → Reserves old n i
+reserves_in old new fewer n i r = record { lease = r.lease; held = fewer r.lease r.held; number = r.number; fresh = r.fresh; file = r.file }
 
 -- what holds of each session where one has changed
 each_two : (P : Session → List Item → Ends → Type 0) (by : Session) (told : Option Item) (e : Ends) (replied : Session → List Item) (ends : Session → Ends) → P by (pushed told (replied by)) e → ((x : Session) → (by.0 == x.0) ≡ false → P x (replied x) (ends x)) → (x : Session)
@@ -65,7 +68,7 @@ module _ (greatest : ℕ) (w : World) (by : Session) (journal : List Item) (told
 
   still_reserved : (x : Session) (n : LeaseNo) (i : List ℕ) → reserved_by (λ x. settled_at x (ends x)) x n i → reserved_by (λ x. settled_at x (w.ends x)) x n i
   still_reserved = each_two (λ x is m. (n : LeaseNo) (i : List ℕ) → Reserves (settled_at x m).leases n i → Reserves (settled_at x (w.ends x)).leases n i) by told e w.replied w.ends
-      (λ n i r. record { lease = r.lease; held = moved.fewer r.lease r.held; number = r.number; fresh = r.fresh; file = r.file })
+      moved.reserves
       (λ x q n i r. r)
 
   pub world_moved : WorldHolds greatest (record { server = w.server; journal = journal; replied = with_told by told w.replied; ends = ends })
@@ -87,7 +90,7 @@ module _ (greatest : ℕ) (w : World) (by : Session) (journal : List Item) (told
 pub begun_moved : (skew greatest : ℕ) (s : Sight) (by : Session) (replied : List Item) (c : Client) (up : List ClientMsg) (down : List Answer) (now : ℕ) → Seat skew greatest s by replied c up down → IsMoved skew greatest s s by replied c down None (record { client = begun now c; up = up; down = down })
 begun_moved skew greatest s by replied c up down now h = record {
   seat = seat_lapse skew greatest s by replied c up down now h;
-  fewer = (lapse_fewer by c now h.client down).fewer;
+  reserves = reserves_in (seen_at by c down).leases (seen_at by (begun now c) down).leases (lapse_fewer by c now h.client down).fewer;
 }
 
 latest : (a b : ℕ) → max a (max a b) ≡ max a b
