@@ -1,5 +1,5 @@
 //! Laws of the kinds of step: where all parts hold before it, all parts hold after it.
-ghost use Rattle.std.specs.Prelude.{◌≡◌, ◌≤◌, ℕ, max, List, [], ◌∷◌, ◌++◌};
+ghost use Rattle.std.specs.Prelude.{◌≡◌, ◌≤◌, ◌+◌, ℕ, max, List, [], ◌∷◌, ◌++◌};
 ghost use Rattle.fs_ident.specs.declared.actor.Session.{Session};
 ghost use Rattle.fs_client.specs.Acts.{entry_of, replies};
 ghost use Rattle.fs_client.specs.Client.{changed};
@@ -18,7 +18,7 @@ ghost use Rattle.fs_serial.specs.Parts.{AllHold, with_client, with_replies};
 ghost use Rattle.fs_serial.specs.Settled.{Settled, acknowledged, settled, settled_now};
 ghost use Rattle.fs_serial.specs.Sight.{Sight, sight_of};
 ghost use Rattle.fs_serial.specs.Steps.{IsAdmitted, IsReplied};
-ghost use Rattle.fs_serial.specs.World.{IsThere, World, WorldHolds, after_server, first_world};
+ghost use Rattle.fs_serial.specs.World.{CanCome, ClientEvent, IsThere, World, WorldHolds, after_client, after_server, first_world};
 
 /// A fresh identifier that a directory gives to a session, with an exclusive lease on the life of the file. Whoever relied
 /// on what was before can go on, no lease that goes back is given, and the session is told just that lease.
@@ -64,6 +64,15 @@ pub fn the_servers_events_keep_all_parts()
         WorldHolds greatest (after_server now e w) }
     ensures rises { (greatest later : ℕ) (w : World) → greatest ≤ later → WorldHolds greatest w →
         WorldHolds later w }
+{}
+
+/// Every event of a client keeps all that holds: an operation that its caller asks for, a turn, and an answer that comes. An
+/// answer that comes is never strange to it. The clock of a client that answers at once is behind the greatest reading by
+/// no more than the skew.
+pub fn the_clients_events_keep_all_parts()
+    ensures { (greatest now : ℕ) (w : World) (by : Session) → WorldHolds greatest w →
+        (e : ClientEvent) → CanCome by e w.ends → greatest ≤ now + w.server.skew →
+        WorldHolds greatest (after_client by now e w) }
 {}
 
 /// At the start, with one new server, no session that has a lease and nothing on its way, all parts hold.

@@ -5,5 +5,6 @@ mod law;
 
 pub use law::{
     a_gift_keeps_the_parts, a_reply_keeps_the_parts, an_admitted_entry_keeps_the_parts,
-    the_first_world_has_all_parts, the_servers_events_keep_all_parts,
+    the_clients_events_keep_all_parts, the_first_world_has_all_parts,
+    the_servers_events_keep_all_parts,
 };
