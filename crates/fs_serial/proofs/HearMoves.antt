@@ -17,7 +17,7 @@ use Rattle.fs_serial.specs.Fresh.{Reserves}
 use Rattle.fs_serial.specs.Settled.{Settled}
 use Rattle.fs_serial.specs.Sight.{Sight}
 use Rattle.fs_serial.specs.World.{message_in, pushed}
-use Rattle.fs_serial.proofs.ActMoves.{IsPlanned, servers_stay}
+use Rattle.fs_serial.proofs.ClientSteps.{IsMoved}
 use Rattle.fs_serial.proofs.Heard.{IsHeard, heard}
 use Rattle.fs_serial.proofs.HearsGranted.{seat_granted, granted_seen}
 use Rattle.fs_serial.proofs.HearsRenewed.{seat_renewed, renewed_reserves}
@@ -36,18 +36,18 @@ fits_due c up (Shipped count end) rest w = ap (λ x. fits 0 x (Shipped count end
 module _ (skew greatest : ℕ) (s : Sight) (by : Session) (replied : List Item) (c : Client) (up : List ClientMsg) (rest : List Answer) where
   -- the session where the client did as planned
   abbrev Moves : Answer → Plan ClientNote → Type 0
-  Moves a p = IsPlanned skew greatest s by replied c up (a ∷ rest) rest p
+  Moves a p = IsMoved skew greatest s s by replied c (a ∷ rest) None (record { client = changed p.ready.change c; up = pushed (message_in p.out.send) up; down = rest })
 
   -- what will be is what was to be
   same_reserves : (a b : Settled) → a ≡ b → (n : LeaseNo) (i : List ℕ) → Reserves a.leases n i → Reserves b.leases n i
   same_reserves a b e n i r = subst (λ (d : Settled). Reserves d.leases n i) e r
 
   told_moved : (a : Answer) → Seat skew greatest s by replied c up (a ∷ rest) → Moves a (told a c)
-  told_moved (Granted gs fresh e) h = record { now = refl; moved = record { seat = seat_granted skew greatest s by replied c up gs fresh e rest h; reserves = same_reserves _ (seen_at by c (Granted gs fresh e ∷ rest)) (granted_seen skew greatest s by replied c up gs fresh e rest h) }; servers = servers_stay s; others = λ x q. refl }
-  told_moved (Renewed ends e) h = record { now = refl; moved = record { seat = seat_renewed skew greatest s by replied c up ends e rest h; reserves = renewed_reserves skew greatest s by replied c up ends e rest h }; servers = servers_stay s; others = λ x q. refl }
-  told_moved (Released count e) h = record { now = refl; moved = record { seat = seat_released skew greatest s by replied c up count e rest h; reserves = same_reserves _ (seen_at by c (Released count e ∷ rest)) (released_seen skew greatest s by replied c up count e rest h) }; servers = servers_stay s; others = λ x q. refl }
-  told_moved (Shipped count e) h = record { now = refl; moved = record { seat = seat_shipped skew greatest s by replied c up count e rest h; reserves = same_reserves _ (seen_at by c (Shipped count e ∷ rest)) (shipped_seen skew greatest s by replied c up count e rest h) }; servers = servers_stay s; others = λ x q. refl }
-  told_moved (Recall n) h = record { now = refl; moved = record { seat = seat_recalled skew greatest s by replied c up n rest h; reserves = same_reserves _ (seen_at by c (Recall n ∷ rest)) (recalled_seen skew greatest s by replied c up n rest h) }; servers = servers_stay s; others = λ x q. refl }
+  told_moved (Granted gs fresh e) h = record { seat = seat_granted skew greatest s by replied c up gs fresh e rest h; reserves = same_reserves _ (seen_at by c (Granted gs fresh e ∷ rest)) (granted_seen skew greatest s by replied c up gs fresh e rest h) }
+  told_moved (Renewed ends e) h = record { seat = seat_renewed skew greatest s by replied c up ends e rest h; reserves = renewed_reserves skew greatest s by replied c up ends e rest h }
+  told_moved (Released count e) h = record { seat = seat_released skew greatest s by replied c up count e rest h; reserves = same_reserves _ (seen_at by c (Released count e ∷ rest)) (released_seen skew greatest s by replied c up count e rest h) }
+  told_moved (Shipped count e) h = record { seat = seat_shipped skew greatest s by replied c up count e rest h; reserves = same_reserves _ (seen_at by c (Shipped count e ∷ rest)) (shipped_seen skew greatest s by replied c up count e rest h) }
+  told_moved (Recall n) h = record { seat = seat_recalled skew greatest s by replied c up n rest h; reserves = same_reserves _ (seen_at by c (Recall n ∷ rest)) (recalled_seen skew greatest s by replied c up n rest h) }
 
   fits_first : (a : Answer) → Seat skew greatest s by replied c up (a ∷ rest) → fits 0 c.exchange a c ≡ true
   fits_first (Recall n) h = refl

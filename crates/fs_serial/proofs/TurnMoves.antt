@@ -17,8 +17,7 @@ use Rattle.fs_view.specs.declared.kept.Kept.{Kept}
 use Rattle.fs_serial.specs.Settled.{Lease}
 use Rattle.fs_serial.specs.Sight.{Sight}
 use Rattle.fs_serial.specs.World.{message_in, pushed}
-use Rattle.fs_serial.proofs.ActMoves.{IsPlanned, servers_stay}
-use Rattle.fs_serial.proofs.ClientSteps.{reserves_in}
+use Rattle.fs_serial.proofs.ClientSteps.{IsMoved, reserves_in}
 use Rattle.fs_serial.proofs.Releases.{seat_releases, releases_fewer}
 use Rattle.fs_serial.proofs.Seats.{Seat, seen_at}
 use Rattle.fs_serial.proofs.Sends.{seat_ships, seat_renews}
@@ -34,20 +33,20 @@ not_some (Some x) h = absurd (cc)
 module _ (skew greatest : ℕ) (s : Sight) (by : Session) (replied : List Item) (c : Client) (up : List ClientMsg) (down : List Answer) (h : Seat skew greatest s by replied c up down) where
   -- the session where the client did as planned
   abbrev Moves : Plan ClientNote → Type 0
-  Moves p = IsPlanned skew greatest s by replied c up down down p
+  Moves p = IsMoved skew greatest s s by replied c down None (record { client = changed p.ready.change c; up = pushed (message_in p.out.send) up; down = down })
 
   stays : Moves (idle c)
-  stays = record { now = refl; moved = record { seat = h; reserves = λ n i r. r }; servers = servers_stay s; others = λ x q. refl }
+  stays = record { seat = h; reserves = λ n i r. r }
 
   hands_in : c.exchange ≡ None → c.over ≡ None → Moves (ships c)
-  hands_in idle going = record { now = refl; moved = record { seat = seat_ships skew greatest s by replied c up down idle going h; reserves = λ n i r. r }; servers = servers_stay s; others = λ x q. refl }
+  hands_in idle going = record { seat = seat_ships skew greatest s by replied c up down idle going h; reserves = λ n i r. r }
 
   keeps : c.exchange ≡ None → (ks : List Kept) → Moves (renew_some ks c)
   keeps idle [] = stays
-  keeps idle (k ∷ ks) = record { now = refl; moved = record { seat = seat_renews skew greatest s by replied c up down (k ∷ ks) idle h; reserves = λ n i r. r }; servers = servers_stay s; others = λ x q. refl }
+  keeps idle (k ∷ ks) = record { seat = seat_renews skew greatest s by replied c up down (k ∷ ks) idle h; reserves = λ n i r. r }
 
   gives_back : c.exchange ≡ None → Moves (releases (returned c.view) c)
-  gives_back idle = record { now = refl; moved = record { seat = seat_releases skew greatest s by replied c up down idle h; reserves = reserves_in (seen_at by c down).leases _ (releases_fewer skew greatest s by replied c up down idle h) }; servers = servers_stay s; others = λ x q. refl }
+  gives_back idle = record { seat = seat_releases skew greatest s by replied c up down idle h; reserves = reserves_in (seen_at by c down).leases _ (releases_fewer skew greatest s by replied c up down idle h) }
 
   gives_some : c.exchange ≡ None → (ks : List Kept) → returned c.view ≡ ks → Moves (release_some ks c)
   gives_some idle [] e = keeps idle (ending (c.last + c.term / 2) c.view)
