@@ -1,6 +1,5 @@
 -- Whatever happens, in whatever order, all parts hold, and the journal is one serial run.
-use Rattle.std.proofs.Common.{◌≡◌, ℕ, ◌+◌, ◌≤◌, max, List, [], ◌∷◌, refl, sym, ap, ◌∙◌, subst, arith}
-use Rattle.fs_ident.specs.declared.actor.Session.{Session}
+use Rattle.std.proofs.Common.{ℕ, ◌+◌, ◌≤◌, max, List, [], ◌∷◌, arith}
 use Rattle.fs_serial.specs.Runs.{WorldEvent, AtServer, AtClient, Dated, after_event, CanHappen, run, greatest_in, IsRun, IsOneSerialRun}
 use Rattle.fs_serial.specs.World.{World, WorldHolds, first_world}
 use Rattle.fs_serial.proofs.ClientEvents.{client_keeps}

@@ -1,6 +1,5 @@
 -- Where all parts hold, the journal is one serial run.
-use Rattle.std.proofs.Common.{◌≡◌, ℕ, ◌+◌, ◌≤◌, List, [], ◌∷◌, ◌++◌, length, map, refl, sym, ap, ◌∙◌, subst, arith}
-use Rattle.fs_ident.specs.declared.actor.Session.{Session}
+use Rattle.std.proofs.Common.{ℕ, ◌+◌, List, [], ◌∷◌, ◌++◌, length, map, sym, subst, arith}
 use Rattle.fs_msg.specs.declared.item.Item.{Item}
 use Rattle.fs_server.specs.Ships.{item_of}
 use Rattle.fs_serial.specs.Numbers.{AreNumbered, items_by}
