@@ -29,7 +29,7 @@ pub fn run(alloc: Global, files: u32, rounds: u32, makes: bool) -> Result<(), Co
     }
     for k in 0..rounds {
         if makes {
-            made(alloc, &mut server, &dir, k + files, Kind::File)?;
+            made(alloc, &mut server, &dir, k.saturating_add(files), Kind::File)?;
         } else {
             asked(alloc, &mut server, &dir, k)?;
         }
@@ -78,7 +78,8 @@ fn granted(
     k: u32,
 ) -> Result<(List<Grant>, FileId), CoreError> {
     let mut items = List::new(alloc);
-    items.push((Field::Life(dir.copy(alloc)?), LeaseKind::Shared))?;
+    let life = Field::Life(dir.copy(alloc)?);
+    items.push((life, LeaseKind::Shared))?;
     let child = Field::Child(dir.copy(alloc)?, name_of(alloc, k)?);
     items.push((child, LeaseKind::Exclusive))?;
     let ask = ClientMsg::Ask {
@@ -88,9 +89,12 @@ fn granted(
     match told(alloc, server, ask)? {
         Some(Answer::Granted {
             grants,
-            fresh: Some(id),
+            fresh,
             end: _,
-        }) => Ok((grants, id)),
+        }) => match fresh {
+            Some(id) => Ok((grants, id)),
+            None => Ok((grants, FileId::root(alloc))),
+        },
         _ => Ok((List::new(alloc), FileId::root(alloc))),
     }
 }

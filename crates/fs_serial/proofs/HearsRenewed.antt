@@ -1,8 +1,8 @@
 -- A client hears the new ends of leases.
-use Rattle.std.proofs.Common.{◌≡◌, ℕ, zero, suc, ◌+◌, ◌<◌, ◌≤◌, ◌&&◌, ◌⊎◌, not, Bool, true, false, List, [], ◌∷◌, ◌++◌, map, refl, sym, ap, ◌∙◌, subst, inl, inr, cond, arith}
-use Rattle.std.specs.Prelude.{◌≢◌, Option, Some, None, is_some, filter, find, option_map}
+use Rattle.std.proofs.Common.{◌≡◌, ℕ, ◌+◌, ◌<◌, not, Bool, true, false, List, [], ◌∷◌, map, refl, sym, ap, ◌∙◌, subst, inl, inr, cond, arith}
+use Rattle.std.specs.Prelude.{◌≢◌, Option, Some, None, is_some, find, option_map}
 use Rattle.std.specs.Option.{option_map_or}
-use Rattle.std.specs.List.{filter_map, cons_option, list_any}
+use Rattle.std.specs.List.{filter_map, cons_option}
 use Rattle.fs_ident.specs.In.{In}
 use Rattle.fs_ident.specs.declared.actor.LeaseNo.{LeaseNo}
 use Rattle.fs_ident.specs.declared.actor.Session.{Session}
@@ -13,20 +13,19 @@ use Rattle.fs_field.specs.declared.used.Use.{Use}
 use Rattle.fs_field.specs.declared.value.Value.{Value}
 use Rattle.fs_field.specs.Field.{file_of}
 use Rattle.fs_field.specs.Table.{same_no}
-use Rattle.fs_lease.specs.Lease.{Lease as Term, InUse}
+use Rattle.fs_lease.specs.Lease.{Lease as Term}
 use Rattle.fs_model.specs.declared.op.Op.{Op}
 use Rattle.fs_model.specs.declared.op.Op.TheVariants as op
 use Rattle.fs_model.specs.declared.reply.Reply.{Reply}
 use Rattle.fs_model.specs.declared.reply.Reply.TheVariants as reply
 use Rattle.fs_msg.specs.declared.answer.Answer.{Answer}
-use Rattle.fs_msg.specs.declared.answer.Answer.TheVariants.{Granted, Renewed, Released, Shipped, Recall}
+use Rattle.fs_msg.specs.declared.answer.Answer.TheVariants.{Renewed}
 use Rattle.fs_msg.specs.declared.client_msg.ClientMsg.{ClientMsg}
 use Rattle.fs_msg.specs.declared.end.End.{End}
 use Rattle.fs_msg.specs.declared.entry.Entry.{Entry}
 use Rattle.fs_msg.specs.declared.item.Item.{Item}
 use Rattle.fs_record.specs.ValueOf.{value_of}
 use Rattle.fs_client.specs.Client.{renewed_one, renewed_all, with_renewed}
-use Rattle.fs_view.specs.View.{given_up}
 use Rattle.fs_client.specs.declared.state.Client.{Client}
 use Rattle.fs_view.specs.declared.kept.Kept.{Kept}
 use Rattle.fs_view.specs.declared.kept.Standing.{Standing}
@@ -36,10 +35,10 @@ use Rattle.fs_view.specs.View.{View, stands, with_end, without_lease}
 use Rattle.fs_view.proofs.Places.{same_no_is}
 use Rattle.fs_serial.specs.Client.{ClientFits, times_in}
 use Rattle.fs_serial.specs.Exchange.{ExchangeFits, ReturnFits, ReturnsFit}
-use Rattle.fs_serial.specs.Leases.{IsBacked, LeasesTrue, LeasesMatch, IsRowOf, IsFresh}
+use Rattle.fs_serial.specs.Leases.{IsBacked, IsRowOf, IsFresh}
 use Rattle.fs_serial.specs.Parts.{SessionHolds, SessionFits}
-use Rattle.fs_serial.specs.Pending.{HasLease, UsesHeld, IsEntry, AreEntries, NamesItsFile, HasReserved}
-use Rattle.fs_serial.specs.Settled.{Lease, Settled, lease_in, lease_with, settled, settled_now}
+use Rattle.fs_serial.specs.Pending.{HasLease, UsesHeld, IsEntry, NamesItsFile, HasReserved}
+use Rattle.fs_serial.specs.Settled.{Lease, Settled, lease_in, settled_now}
 use Rattle.fs_serial.specs.Sight.{Sight, IsGiven}
 use Rattle.fs_serial.specs.Fresh.{Reserves}
 use Rattle.fs_serial.specs.World.{HasNumber}
@@ -49,7 +48,6 @@ use Rattle.fs_serial.proofs.Fewer.{HasFewer, fewer_holds, fewer_fits}
 use Rattle.fs_serial.proofs.Heard.{IsHeard, heard, quiet_exchange}
 use Rattle.fs_serial.proofs.Knowing.{In-filter_map, from-filter_map}
 use Rattle.fs_serial.proofs.Lapse.{IsUsed, its_number, used_in}
-use Rattle.fs_serial.proofs.OneLease.{same_no_self}
 use Rattle.fs_serial.proofs.ReplyPins.{distinct_mapped}
 use Rattle.fs_serial.proofs.RowKinds.{In-kept}
 use Rattle.fs_serial.proofs.Seats.{Seat, seen_at, settled_none}

@@ -1,31 +1,27 @@
 -- A client sends a question.
-use Rattle.std.proofs.Common.{◌≡◌, ℕ, zero, suc, ◌+◌, ◌<◌, ◌≤◌, ◌&&◌, ◌⊎◌, not, Bool, true, false, List, [], ◌∷◌, ◌++◌, length, map, refl, sym, ap, ◌∙◌, subst, inl, inr, cond, arith, append-nil}
-use Rattle.std.specs.Prelude.{◌≢◌, Option, Some, None, is_some, filter, option_map}
-use Rattle.std.specs.List.{list_all, filter_map, cons_option}
+use Rattle.std.proofs.Common.{◌≡◌, ℕ, Bool, true, false, List, [], ◌∷◌, ◌++◌, length, map, refl, sym, ap, ◌∙◌, subst, inl, inr, cond, arith, append-nil}
+use Rattle.std.specs.Prelude.{Option, Some, None, option_map}
+use Rattle.std.specs.List.{list_all}
 use Rattle.fs_ident.specs.In.{In}
 use Rattle.fs_ident.specs.declared.actor.LeaseNo.{LeaseNo}
 use Rattle.fs_ident.specs.declared.actor.Session.{Session}
 use Rattle.fs_ident.proofs.Passing.{In-all}
-use Rattle.fs_ident.proofs.Standing.{In-filter, In-map}
-use Rattle.fs_field.specs.declared.asked.Need.{Need}
-use Rattle.fs_field.specs.declared.asked.Need.TheVariants as need
+use Rattle.fs_ident.proofs.Standing.{In-map}
 use Rattle.fs_field.specs.declared.field.Field.{Field}
 use Rattle.fs_field.specs.declared.lease_kind.LeaseKind.{LeaseKind}
 use Rattle.fs_field.specs.declared.row.Row.{Row}
-use Rattle.fs_field.specs.declared.used.Use.{Use}
 use Rattle.fs_field.specs.Field.{tells_no_mode}
 use Rattle.fs_field.specs.Table.{same_no}
 use Rattle.fs_lease.specs.Lease.{Lease as Term}
 use Rattle.fs_msg.specs.declared.answer.Answer.{Answer}
 use Rattle.fs_msg.specs.declared.client_msg.ClientMsg.{ClientMsg}
-use Rattle.fs_msg.specs.declared.client_msg.ClientMsg.TheVariants.{Ask, Renew, Release, Ship}
-use Rattle.fs_msg.specs.declared.entry.Entry.{Entry}
+use Rattle.fs_msg.specs.declared.client_msg.ClientMsg.TheVariants.{Ask, Renew, Ship}
 use Rattle.fs_msg.specs.declared.item.Item.{Item}
-use Rattle.fs_client.specs.Acts.{items_of, item_of, fresh_asked, home_server}
-use Rattle.fs_client.specs.Client.{with_exchange, with_release, leaving_all}
-use Rattle.fs_client.specs.Turns.{pair_of, numbers_in, returned, has_to_go}
+use Rattle.fs_client.specs.Acts.{home_server}
+use Rattle.fs_client.specs.Client.{with_exchange, leaving_all}
+use Rattle.fs_client.specs.Turns.{pair_of, numbers_in, has_to_go}
 use Rattle.fs_client.specs.declared.exchange.Exchange.{Exchange}
-use Rattle.fs_client.specs.declared.exchange.Exchange.TheVariants.{Asks, Renews, Releases, Ships}
+use Rattle.fs_client.specs.declared.exchange.Exchange.TheVariants.{Asks, Renews, Ships}
 use Rattle.fs_client.specs.declared.state.Client.{Client}
 use Rattle.fs_server.specs.Asks.{kind_for}
 use Rattle.fs_server.specs.Pairs.{numbers_in as pair_numbers}
@@ -34,17 +30,11 @@ use Rattle.fs_view.specs.declared.kept.Standing.{Standing}
 use Rattle.fs_view.specs.declared.kept.Standing.TheVariants.{Held, Pinned, Leaving}
 use Rattle.fs_view.specs.Kept.{number_of, has_number, is_leaving, is_pinned, entries_of, lease_of, leaving}
 use Rattle.fs_view.specs.View.{View, with_leaving}
-use Rattle.fs_view.proofs.Places.{same_no_is}
-use Rattle.fs_serial.specs.Client.{ClientFits, KeptDistinct, times_in}
-use Rattle.fs_serial.specs.Exchange.{due, IsQuestion, IsAsked, OneExchange, AsksFirst, ShipsLog, ShipsFront, IsFront, IsReturned, ReleasesReturned, AsksOffModes, AsksGivenKinds, ReturnFits, ReturnsFit, RenewalsBacked, ExchangeFits}
-use Rattle.fs_serial.specs.Parts.{SessionHolds, SessionFits}
-use Rattle.fs_serial.specs.Pending.{HasLease, UsesHeld}
-use Rattle.fs_serial.specs.Settled.{Lease, Settled, lease_in, lease_with, settled, settled_now}
+use Rattle.fs_serial.specs.Client.{KeptDistinct}
+use Rattle.fs_serial.specs.Exchange.{due, IsQuestion, OneExchange, AsksFirst, ShipsLog, ShipsFront, IsFront, IsReturned, ReleasesReturned, AsksOffModes, AsksGivenKinds, ReturnsFit, RenewalsBacked, ExchangeFits}
+use Rattle.fs_serial.specs.Settled.{Lease, Settled, lease_in, lease_with, settled_now}
 use Rattle.fs_serial.specs.Sight.{Sight}
-use Rattle.fs_serial.proofs.Facts.{In-mapped, each_image}
-use Rattle.fs_serial.proofs.Fewer.{HasFewer, settled_fewer, fewer_holds, fewer_fits}
-use Rattle.fs_serial.proofs.Knowing.{In-filter_map, from-filter_map}
-use Rattle.fs_serial.proofs.Lapse.{IsUsed, its_number, used_in}
+use Rattle.fs_serial.proofs.Facts.{In-mapped}
 use Rattle.fs_serial.proofs.OneLease.{same_no_self}
 use Rattle.fs_serial.proofs.ReplyPins.{distinct_mapped}
 use Rattle.fs_serial.proofs.Seats.{Seat, seen_at, idle_due, settled_none}

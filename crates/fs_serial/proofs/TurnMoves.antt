@@ -1,7 +1,6 @@
 -- A client's turn.
-use Rattle.std.proofs.Common.{◌≡◌, ℕ, ◌&&◌, ◌+◌, ◌/◌, not, Bool, true, false, List, [], ◌∷◌, ◌++◌, length, refl, sym, ap, ◌∙◌, subst, cond}
+use Rattle.std.proofs.Common.{◌≡◌, ℕ, ◌&&◌, ◌+◌, ◌/◌, not, Bool, true, false, List, [], ◌∷◌, refl, subst, cond}
 use Rattle.std.specs.Prelude.{Option, Some, None, is_some}
-use Rattle.fs_ident.specs.declared.actor.LeaseNo.{LeaseNo}
 use Rattle.fs_ident.specs.declared.actor.Session.{Session}
 use Rattle.fs_ident.proofs.Booleans.{both}
 use Rattle.fs_model.specs.Step.{is_empty}
@@ -10,11 +9,10 @@ use Rattle.fs_msg.specs.declared.client_msg.ClientMsg.{ClientMsg}
 use Rattle.fs_msg.specs.declared.client_note.ClientNote.{ClientNote}
 use Rattle.fs_msg.specs.declared.item.Item.{Item}
 use Rattle.fs_client.specs.Client.{changed}
-use Rattle.fs_client.specs.Turns.{idle, ships, releases, renews, returned, ending, renew_some, release_some, turn_free, turn_on}
+use Rattle.fs_client.specs.Turns.{idle, ships, releases, returned, ending, renew_some, release_some, turn_free, turn_on}
 use Rattle.fs_client.specs.declared.plan.Plan.{Plan}
 use Rattle.fs_client.specs.declared.state.Client.{Client}
 use Rattle.fs_view.specs.declared.kept.Kept.{Kept}
-use Rattle.fs_serial.specs.Settled.{Lease}
 use Rattle.fs_serial.specs.Sight.{Sight}
 use Rattle.fs_serial.specs.World.{message_in, pushed}
 use Rattle.fs_serial.proofs.ClientSteps.{IsMoved, reserves_in}
