@@ -1,19 +1,16 @@
 -- The server admits an entry: the parts of its own session.
-use Rattle.std.proofs.Common.{◌≡◌, ℕ, ◌+◌, ◌<◌, ◌||◌, Bool, true, false, List, [], ◌∷◌, ◌++◌, map, refl, sym, ap, ◌∙◌, subst, inl, inr, cond, append_assoc}
+use Rattle.std.proofs.Common.{◌≡◌, ℕ, ◌+◌, ◌<◌, Bool, true, false, List, [], ◌∷◌, ◌++◌, map, refl, sym, ap, ◌∙◌, subst, inl, inr, cond, append_assoc}
 use Rattle.std.specs.Prelude.{Option, Some, None, is_some}
 use Rattle.std.specs.List.{list_any}
 use mathlib.Core.Path.{fun_ext}
 use Rattle.fs_ident.specs.In.{In}
 use Rattle.fs_ident.specs.Ident.{child}
 use Rattle.fs_ident.specs.declared.actor.Session.{Session}
-use Rattle.fs_ident.specs.declared.kind.Kind.{Kind}
 use Rattle.fs_ident.proofs.Standing.{In-map}
-use Rattle.fs_field.specs.declared.effect.Effect.{Effect}
 use Rattle.fs_field.specs.declared.field.Field.{Field}
 use Rattle.fs_field.specs.declared.field.Field.TheVariants.{Life}
 use Rattle.fs_field.specs.declared.row.Row.{Row}
 use Rattle.fs_field.specs.declared.used.Use.{Use}
-use Rattle.fs_field.specs.declared.value.Value.{Value}
 use Rattle.fs_field.specs.declared.value.Value.TheVariants as value
 use Rattle.fs_field.specs.Field.{file_of}
 use Rattle.fs_model.specs.Namespace.{first_space}
@@ -23,21 +20,20 @@ use Rattle.fs_model.specs.declared.reply.Reply.{Reply}
 use Rattle.fs_model.specs.declared.reply.Reply.TheVariants as reply
 use Rattle.fs_msg.specs.declared.entry.Entry.{Entry}
 use Rattle.fs_msg.specs.declared.item.Item.{Item}
-use Rattle.fs_record.specs.Records.{RecordMap, nodes_of}
+use Rattle.fs_record.specs.Records.{nodes_of}
 use Rattle.fs_record.specs.ValueOf.{value_of}
 use Rattle.fs_server.specs.Ships.{item_of, with_entry}
 use Rattle.fs_server.specs.declared.state.Server.{Server}
 use Rattle.fs_view.specs.Kept.{makes}
-use Rattle.fs_view.specs.Laws.{records_after_all}
 use Rattle.fs_view.specs.View.{value_after_all}
 use Rattle.fs_view.proofs.Seeing.{own_values}
 use Rattle.fs_serial.specs.Fresh.{made_by, or_else}
-use Rattle.fs_serial.specs.Leases.{IsBacked, LeasesBacked, LeasesTrue, LeasesGiven, LeasesDistinct, LeasesMatch, IsRowOf, IsFresh, FreshLeases}
-use Rattle.fs_serial.specs.Numbers.{items_by, all_items, NumbersInOrder, RepliesKept, AreNumbered}
+use Rattle.fs_serial.specs.Leases.{IsBacked, LeasesBacked, LeasesTrue, LeasesDistinct, IsRowOf, IsFresh, FreshLeases}
+use Rattle.fs_serial.specs.Numbers.{items_by, all_items, AreNumbered}
 use Rattle.fs_serial.specs.Parts.{ServersHold, ServersFit, SessionHolds, SessionFits}
-use Rattle.fs_serial.specs.Pending.{AllStand, IsAnswer, PendingStand, HasLease, UsesHeld, IsEntry, NamesItsFile, NamesReserved, HasReserved, AreEntries, NamedOnce, named_by, RefusedGone, values_after}
+use Rattle.fs_serial.specs.Pending.{AllStand, IsAnswer, PendingStand, HasLease, UsesHeld, IsEntry, NamesItsFile, HasReserved, AreEntries, named_by}
 use Rattle.fs_serial.specs.Serial.{JournalSerial, AreSound}
-use Rattle.fs_serial.specs.Settled.{Lease, Settled, acknowledged, lease_after, below_after, effects_in}
+use Rattle.fs_serial.specs.Settled.{Lease, lease_after, effects_in}
 use Rattle.fs_serial.specs.Sight.{Sight, sight_of}
 use Rattle.fs_serial.proofs.Answered.{answered, leads_there, sound_there, no_reap}
 use Rattle.fs_serial.proofs.Births.{life_after, makes_there, names_made}

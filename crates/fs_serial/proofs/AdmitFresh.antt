@@ -1,5 +1,5 @@
 -- The server admits an entry: identifiers.
-use Rattle.std.proofs.Common.{◌≡◌, ℕ, suc, ◌+◌, ◌<◌, ◌≤◌, ◌⊎◌, Bool, true, false, List, [], ◌∷◌, ◌++◌, length, map, refl, sym, ap, ◌∙◌, subst, inl, inr, cond, arith, length-append, append_assoc}
+use Rattle.std.proofs.Common.{◌≡◌, ℕ, ◌≤◌, ◌⊎◌, Bool, true, false, List, [], ◌∷◌, ◌++◌, length, map, refl, sym, ap, ◌∙◌, subst, inl, inr, cond, arith, length-append}
 use Rattle.std.specs.Prelude.{Option, Some, None, is_some}
 use Rattle.std.specs.FinMap.{get}
 use Rattle.std.specs.List.{list_any}
@@ -10,7 +10,6 @@ use Rattle.fs_ident.specs.In.{In}
 use Rattle.fs_ident.specs.declared.actor.LeaseNo.{LeaseNo}
 use Rattle.fs_ident.specs.declared.actor.Session.{Session}
 use Rattle.fs_ident.specs.declared.kind.Kind.{Kind}
-use Rattle.fs_ident.specs.declared.kind.Kind.TheVariants.{File, Dir}
 use Rattle.fs_ident.proofs.Booleans.{neither}
 use Rattle.fs_ident.proofs.Standing.{In-map}
 use Rattle.fs_field.specs.declared.effect.Effect.{Effect}
@@ -29,14 +28,14 @@ use Rattle.fs_record.specs.declared.record.Record.{Record}
 use Rattle.fs_record.specs.Applied.{records_after, record_change, changed_file}
 use Rattle.fs_record.specs.Effects.{effects_of}
 use Rattle.fs_record.specs.Fresh.{is_dir, is_directory}
-use Rattle.fs_record.specs.Records.{RecordMap, AreRecords, node_of, next_of}
+use Rattle.fs_record.specs.Records.{RecordMap, node_of, next_of}
 use Rattle.fs_record.specs.ValueOf.{value_of}
 use Rattle.fs_record.proofs.Kept.{get_with_at}
 use Rattle.fs_record.proofs.NodeValues.{key_is}
 use Rattle.fs_server.specs.Ships.{item_of, with_entry}
 use Rattle.fs_server.specs.declared.state.Server.{Server}
 use Rattle.fs_view.specs.Kept.{makes}
-use Rattle.fs_view.specs.Laws.{records_after_all}
+use Rattle.fs_record.specs.Applied.{records_after_all}
 use Rattle.fs_view.proofs.Seeing.{own_values}
 use Rattle.fs_serial.specs.Fresh.{made, made_by, or_else, IsMade, NodesMade, IsAtOrBelow, Reserved, Reserves, FreshReserved}
 use Rattle.fs_serial.specs.Leases.{LeasesDistinct}

@@ -1,14 +1,12 @@
 -- The server admits an entry: what another session relies on.
-use Rattle.std.proofs.Common.{◌≡◌, ℕ, ◌+◌, ◌<◌, ◌≤◌, ◌==◌, ◌&&◌, ◌||◌, not, Bool, true, false, List, [], ◌∷◌, ◌++◌, refl, sym, ap, ◌∙◌, subst, inl, inr, arith}
-use Rattle.std.specs.Prelude.{Option, Some, None}
-use Rattle.std.specs.List.{list_any}
+use Rattle.std.proofs.Common.{◌≡◌, ℕ, ◌==◌, ◌&&◌, not, Bool, true, false, List, [], ◌∷◌, ◌++◌, refl, sym, ap, ◌∙◌, arith}
 use Rattle.std.specs.Cmp.{nat_eq_equiv}
 use Rattle.fs_ident.specs.In.{In}
 use Rattle.fs_ident.specs.declared.actor.Session.{Session}
 use Rattle.fs_field.specs.declared.asked.Need.{Need}
 use Rattle.fs_field.specs.declared.asked.Need.TheVariants as need
 use Rattle.fs_field.specs.declared.field.Field.{Field}
-use Rattle.fs_field.specs.declared.field.Field.TheVariants.{Life, Child, Names, Info, Own, SelfW, Other}
+use Rattle.fs_field.specs.declared.field.Field.TheVariants.{Other}
 use Rattle.fs_field.specs.declared.lease_kind.LeaseKind.{LeaseKind}
 use Rattle.fs_field.specs.declared.lease_kind.LeaseKind.TheVariants.{Shared, Exclusive}
 use Rattle.fs_field.specs.declared.row.Row.{Row}
@@ -26,11 +24,11 @@ use Rattle.fs_view.specs.Laws.{item_meets}
 use Rattle.fs_view.specs.Walk.{walk, known_in, always}
 use Rattle.fs_view.proofs.Unseen.{others_values}
 use Rattle.fs_serial.specs.Parts.{ServersHold, ServersFit}
-use Rattle.fs_serial.specs.Pending.{AllStand, Stands, IsAnswer, IsCovered, HasUse, IsEntry}
+use Rattle.fs_serial.specs.Pending.{AllStand, Stands, IsAnswer, IsCovered, IsEntry}
 use Rattle.fs_serial.specs.Relies.{Relies}
 use Rattle.fs_serial.specs.Rows.{NoRowsConflict}
 use Rattle.fs_serial.specs.Settled.{Lease}
-use Rattle.fs_serial.specs.Sight.{Sight, sight_of}
+use Rattle.fs_serial.specs.Sight.{sight_of}
 use Rattle.fs_serial.proofs.Answered.{answered, covered_there}
 use Rattle.fs_serial.proofs.Facts.{none-In, items-other}
 

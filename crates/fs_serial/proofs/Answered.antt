@@ -1,13 +1,12 @@
 -- An entry whose rows all stand gets the reply that it was answered with.
-use Rattle.std.proofs.Common.{◌≡◌, ℕ, not, ◌&&◌, Bool, true, false, List, [], ◌∷◌, refl, sym, ap, ◌∙◌, subst}
-use Rattle.std.specs.Prelude.{Option, Some, None, is_some}
+use Rattle.std.proofs.Common.{◌≡◌, ℕ, not, true, List, refl, sym, ap, ◌∙◌, subst}
+use Rattle.std.specs.Prelude.{Option, Some, None}
 use Rattle.std.specs.FinMap.{get}
 use Rattle.fs_ident.specs.In.{In}
 use Rattle.fs_ident.specs.declared.actor.Session.{Session}
 use Rattle.fs_ident.specs.declared.kind.Kind.{Kind}
 use Rattle.fs_ident.specs.declared.kind.Kind.TheVariants.{File, Dir}
 use Rattle.fs_field.specs.declared.asked.Need.{Need}
-use Rattle.fs_field.specs.declared.row.Row.{Row}
 use Rattle.fs_field.specs.declared.used.Use.{Use}
 use Rattle.fs_model.specs.declared.node.Node.{Node}
 use Rattle.fs_model.specs.declared.op.Op.{Op}
@@ -24,11 +23,12 @@ use Rattle.fs_record.specs.Effects.{effects_of, tells_its_effects}
 use Rattle.fs_record.specs.Records.{RecordMap, nodes_of}
 use Rattle.fs_record.specs.ValueOf.{value_of}
 use Rattle.fs_record.proofs.Stepping.{effects_lead}
-use Rattle.fs_view.specs.Laws.{IsNewWhereMade, records_after_all}
+use Rattle.fs_record.specs.Applied.{records_after_all}
+use Rattle.fs_view.specs.Laws.{IsNewWhereMade}
 use Rattle.fs_view.specs.Script.{unless, no_dir, taken_name, made_reply, ask_place, new_file}
 use Rattle.fs_view.specs.Walk.{walk, known_in, always}
 use Rattle.fs_view.proofs.Replies.{reply_along, replies}
-use Rattle.fs_serial.specs.Pending.{IsAnswer, IsCovered, IsEntry, NamesItsFile, known_with}
+use Rattle.fs_serial.specs.Pending.{IsAnswer, IsCovered, IsEntry, NamesItsFile}
 use Rattle.fs_serial.specs.Serial.{AreSound}
 use Rattle.fs_serial.specs.Settled.{Lease}
 use Rattle.fs_serial.proofs.Facts.{known_nodes, nodes_all, records_all}

@@ -1,5 +1,5 @@
 -- What is on its way while a client goes on.
-use Rattle.std.proofs.Common.{◌≡◌, ℕ, zero, suc, ◌+◌, ◌<◌, ◌≤◌, ◌==◌, ◌&&◌, ◌||◌, ◌⊎◌, not, Bool, true, false, List, [], ◌∷◌, ◌++◌, length, refl, sym, ap, ◌∙◌, subst, inl, inr, arith, append_assoc, length-append}
+use Rattle.std.proofs.Common.{◌≡◌, ℕ, zero, suc, ◌≤◌, ◌==◌, ◌&&◌, not, Bool, true, false, List, [], ◌∷◌, ◌++◌, refl, sym, ap, ◌∙◌, subst, inl, inr, arith, append_assoc, length-append}
 use Rattle.std.specs.Prelude.{Option, Some, None, nat_le}
 use Rattle.std.specs.List.{list_any}
 use Rattle.fs_ident.specs.In.{In}
@@ -13,10 +13,9 @@ use Rattle.fs_field.specs.declared.lease_kind.LeaseKind.TheVariants.{Exclusive}
 use Rattle.fs_field.specs.declared.row.Row.{Row}
 use Rattle.fs_field.specs.Table.{same_no}
 use Rattle.fs_msg.specs.declared.answer.Answer.{Answer}
-use Rattle.fs_msg.specs.declared.answer.Answer.TheVariants.{Granted, Renewed, Released, Shipped, Recall}
+use Rattle.fs_msg.specs.declared.answer.Answer.TheVariants.{Granted, Renewed, Released, Shipped}
 use Rattle.fs_msg.specs.declared.answer.Grant.{Grant}
 use Rattle.fs_msg.specs.declared.client_msg.ClientMsg.{ClientMsg}
-use Rattle.fs_msg.specs.declared.client_msg.ClientMsg.TheVariants.{Ship}
 use Rattle.fs_msg.specs.declared.end.End.{End}
 use Rattle.fs_msg.specs.declared.end.End.TheVariants as end
 use Rattle.fs_msg.specs.declared.entry.Entry.{Entry}
@@ -26,8 +25,7 @@ use Rattle.fs_client.specs.declared.exchange.Exchange.TheVariants.{Asks, Renews,
 use Rattle.fs_client.specs.declared.state.Client.{Client}
 use Rattle.fs_view.specs.declared.kept.Kept.{Kept}
 use Rattle.fs_view.specs.Kept.{number_of, has_number, is_leaving}
-use Rattle.fs_serial.specs.Exchange.{OneExchange, IsAsked, IsAnswered, AsksFirst, ShipsLog, IsFront, ShipsFront, IsReturned, ReleasesReturned, ReturnFits, ReturnsFit, RenewalsBacked, ExchangeFits}
-use Rattle.fs_serial.specs.Leases.{IsBacked}
+use Rattle.fs_serial.specs.Exchange.{OneExchange, AsksFirst, ShipsLog, IsFront, IsReturned, ReleasesReturned, ReturnFits, ReturnsFit, ExchangeFits}
 use Rattle.fs_serial.specs.Settled.{Lease, Settled}
 use Rattle.fs_serial.specs.World.{HasNumber}
 use Rattle.fs_serial.proofs.Facts.{none-In}

@@ -1,11 +1,9 @@
 -- Facts on lists, walks and records that several kinds of step need.
-use Rattle.std.proofs.Common.{◌≡◌, ℕ, ◌+◌, ◌==◌, not, ◌&&◌, ◌||◌, Bool, true, false, List, [], ◌∷◌, ◌++◌, ◌⊎◌, length, map, refl, sym, ap, ◌∙◌, subst, inl, inr, cond, arith, append_assoc, append-nil}
+use Rattle.std.proofs.Common.{◌≡◌, ℕ, ◌==◌, ◌||◌, Bool, true, false, List, [], ◌∷◌, ◌++◌, ◌⊎◌, map, refl, sym, ap, ◌∙◌, subst, inl, inr, cond, append_assoc, append-nil}
 use Rattle.std.specs.Prelude.{Option, Some, None, is_some}
-use Rattle.std.specs.List.{filter, find, list_any, filter_map, cons_option}
-use Rattle.std.specs.FinMap.{get}
+use Rattle.std.specs.List.{list_any}
 use Rattle.std.specs.Cmp.{nat_eq_equiv}
 use Rattle.std.specs.Cmp.Lexicographic.{same_text, nat_list_eq_equiv}
-use Rattle.std.proofs.lemmas.Bool.Decides.{nat_tests}
 use Rattle.std.proofs.lemmas.List.Elements.{filter-append}
 use mathlib.Core.Path.{fun_ext}
 use Rattle.fs_ident.specs.In.{In}
@@ -23,7 +21,7 @@ use Rattle.fs_record.specs.Records.{RecordMap, AreRecords, nodes_of}
 use Rattle.fs_record.specs.ValueOf.{value_of, value_at}
 use Rattle.fs_record.proofs.Kept.{after_kept}
 use Rattle.fs_record.proofs.NodeMaps.{node_there, nodes_alike}
-use Rattle.fs_view.specs.Laws.{records_after_all}
+use Rattle.fs_record.specs.Applied.{records_after_all}
 use Rattle.fs_view.specs.Walk.{known_in}
 use Rattle.fs_serial.specs.Fresh.{made, made_in, made_by, or_else, root_kind, IsMade, IsAtOrBelow}
 use Rattle.fs_serial.specs.Numbers.{is_session, items_by}

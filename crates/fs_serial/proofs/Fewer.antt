@@ -1,11 +1,10 @@
 -- A client with fewer leases, of which it uses all.
-use Rattle.std.proofs.Common.{◌≡◌, ℕ, zero, suc, ◌+◌, ◌<◌, ◌≤◌, ◌⊎◌, Bool, true, false, List, [], ◌∷◌, ◌++◌, map, refl, sym, ap, ◌∙◌, subst, inl, inr}
+use Rattle.std.proofs.Common.{◌≡◌, ℕ, zero, suc, List, [], ◌∷◌, ◌++◌, map, refl, sym, ap, ◌∙◌, subst, inl, inr}
 use Rattle.std.specs.Prelude.{Option, Some, None}
 use Rattle.fs_ident.specs.In.{In}
 use Rattle.fs_ident.specs.declared.actor.LeaseNo.{LeaseNo}
 use Rattle.fs_ident.specs.declared.actor.Session.{Session}
 use Rattle.fs_ident.proofs.Standing.{In-map}
-use Rattle.fs_field.specs.declared.row.Row.{Row}
 use Rattle.fs_field.specs.declared.used.Use.{Use}
 use Rattle.fs_model.specs.declared.op.Op.{Op}
 use Rattle.fs_model.specs.declared.op.Op.TheVariants as op
@@ -17,10 +16,9 @@ use Rattle.fs_msg.specs.declared.entry.Entry.{Entry}
 use Rattle.fs_msg.specs.declared.item.Item.{Item}
 use Rattle.fs_record.specs.ValueOf.{value_of}
 use Rattle.fs_client.specs.Answers.{over_after}
-use Rattle.fs_serial.specs.Leases.{IsBacked}
-use Rattle.fs_serial.specs.Numbers.{NumbersInOrder, RepliesKept, AreNumbered, all_items}
+use Rattle.fs_serial.specs.Numbers.{AreNumbered, all_items}
 use Rattle.fs_serial.specs.Parts.{SessionHolds, SessionFits}
-use Rattle.fs_serial.specs.Pending.{PendingStand, HasLease, UsesHeld, UsesBacked, IsEntry, NamesItsFile, NamesReserved, HasReserved, AreEntries, NamedOnce, RefusedGone}
+use Rattle.fs_serial.specs.Pending.{PendingStand, HasLease, UsesHeld, UsesBacked, IsEntry, NamesItsFile, HasReserved, AreEntries, NamedOnce, RefusedGone}
 use Rattle.fs_serial.specs.Settled.{Lease, Settled, acknowledged, acknowledged_all, lease_after, effects_in, granted, with_leases, with_over, told, settled}
 use Rattle.fs_serial.specs.Sight.{Sight}
 use Rattle.fs_serial.proofs.Facts.{In-append, In-front, In-behind, In-mapped}

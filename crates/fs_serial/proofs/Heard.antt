@@ -1,5 +1,5 @@
 -- An answer comes to its client.
-use Rattle.std.proofs.Common.{◌≡◌, ℕ, ◌+◌, ◌<◌, ◌≤◌, ◌⊎◌, not, Bool, true, false, List, [], ◌∷◌, ◌++◌, map, refl, sym, ap, ◌∙◌, subst, inl, inr, cond, append-nil}
+use Rattle.std.proofs.Common.{◌≡◌, ℕ, not, true, false, List, [], ◌∷◌, refl, sym, ap, ◌∙◌, subst, inl, inr, cond}
 use Rattle.std.specs.Prelude.{Option, Some, None}
 use Rattle.fs_ident.specs.In.{In}
 use Rattle.fs_ident.specs.declared.actor.LeaseNo.{LeaseNo}
@@ -9,14 +9,11 @@ use Rattle.fs_msg.specs.declared.answer.Answer.{Answer}
 use Rattle.fs_msg.specs.declared.answer.Answer.TheVariants.{Granted, Renewed, Released, Shipped, Recall}
 use Rattle.fs_msg.specs.declared.client_msg.ClientMsg.{ClientMsg}
 use Rattle.fs_msg.specs.declared.end.End.{End}
-use Rattle.fs_msg.specs.declared.item.Item.{Item}
 use Rattle.fs_client.specs.Answers.{answer_fits}
 use Rattle.fs_client.specs.declared.exchange.Exchange.{Exchange}
 use Rattle.fs_client.specs.declared.state.Client.{Client}
-use Rattle.fs_view.specs.declared.kept.Kept.{Kept}
-use Rattle.fs_serial.specs.Exchange.{due, is_recall, OneExchange, IsAsked, IsAnswered, AsksFirst, ShipsLog, ReleasesReturned, ReturnsFit, RenewalsBacked, ExchangeFits}
+use Rattle.fs_serial.specs.Exchange.{due, is_recall, OneExchange, AsksFirst, ShipsLog, ReleasesReturned, ReturnsFit, ExchangeFits}
 use Rattle.fs_serial.specs.Settled.{Settled}
-use Rattle.fs_serial.specs.Sight.{Sight}
 
 -- ## The answer that is due
 
@@ -41,7 +38,7 @@ heard c (Some x) up a rest e n (inr h) =
 
 -- ## Then no question stands
 
-quiet_renewed : (rest : List Answer) → due rest ≡ [] → (ends : List (LeaseNo × Option ℕ)) (e : End) → In (Renewed ends e) rest → ⊥
+pub quiet_renewed : (rest : List Answer) → due rest ≡ [] → (ends : List (LeaseNo × Option ℕ)) (e : End) → In (Renewed ends e) rest → ⊥
 quiet_renewed [] q ends e i = i
 quiet_renewed (Recall n ∷ rest) q ends e (inl p) = absurd (cc)
 quiet_renewed (Recall n ∷ rest) q ends e (inr i) = quiet_renewed rest q ends e i

@@ -1,6 +1,6 @@
 -- Leases come to their client.
-use Rattle.std.proofs.Common.{◌≡◌, ℕ, ◌+◌, ◌<◌, ◌≤◌, ◌==◌, ◌&&◌, ◌⊎◌, not, Bool, true, false, List, [], ◌∷◌, ◌++◌, map, refl, sym, ap, ◌∙◌, subst, inl, inr, cond, arith, append_assoc, append-nil}
-use Rattle.std.specs.Prelude.{Option, Some, None, option_map}
+use Rattle.std.proofs.Common.{◌≡◌, ℕ, ◌+◌, ◌==◌, ◌&&◌, ◌⊎◌, not, Bool, true, false, List, [], ◌∷◌, ◌++◌, map, refl, sym, ap, ◌∙◌, subst, inl, inr, cond, arith, append_assoc, append-nil}
+use Rattle.std.specs.Prelude.{Option, Some, None}
 use Rattle.std.specs.List.{list_any, filter_map}
 use Rattle.std.proofs.lemmas.List.Elements.{filter_map-append}
 use Rattle.fs_ident.specs.In.{In}
@@ -15,7 +15,7 @@ use Rattle.fs_field.specs.declared.lease_kind.LeaseKind.TheVariants.{Exclusive}
 use Rattle.fs_field.specs.declared.used.Use.{Use}
 use Rattle.fs_field.specs.Table.{same_no}
 use Rattle.fs_msg.specs.declared.answer.Answer.{Answer}
-use Rattle.fs_msg.specs.declared.answer.Answer.TheVariants.{Granted, Renewed, Released, Shipped, Recall}
+use Rattle.fs_msg.specs.declared.answer.Answer.TheVariants.{Granted}
 use Rattle.fs_msg.specs.declared.answer.Grant.{Grant}
 use Rattle.fs_msg.specs.declared.client_msg.ClientMsg.{ClientMsg}
 use Rattle.fs_msg.specs.declared.end.End.{End}
@@ -23,15 +23,15 @@ use Rattle.fs_msg.specs.declared.entry.Entry.{Entry}
 use Rattle.fs_msg.specs.declared.item.Item.{Item}
 use Rattle.fs_client.specs.Answers.{answer_fits, fresh_fits, grants_fit, rest_fits, is_new, is_of_item, lease_in, leases_in, full_told}
 use Rattle.fs_client.specs.Client.{with_granted}
-use Rattle.fs_client.specs.Temp.{kept_new, with_grants}
+use Rattle.fs_view.specs.View.{kept_new, with_grants}
 use Rattle.fs_client.specs.declared.exchange.Exchange.{Exchange}
 use Rattle.fs_client.specs.declared.exchange.Exchange.TheVariants.{Asks, Renews, Releases, Ships}
-use Rattle.fs_client.specs.declared.new_lease.NewLease.{NewLease}
+use Rattle.fs_view.specs.declared.new_lease.NewLease.{NewLease}
 use Rattle.fs_client.specs.declared.state.Client.{Client}
 use Rattle.fs_view.specs.declared.kept.Kept.{Kept}
 use Rattle.fs_view.specs.Kept.{number_of, has_number, is_leaving, entries_of}
 use Rattle.fs_view.specs.View.{View}
-use Rattle.fs_serial.specs.Client.{ClientFits, KeptDistinct, times_used, times_in}
+use Rattle.fs_serial.specs.Client.{ClientFits, times_used, times_in}
 use Rattle.fs_serial.specs.Leases.{LeasesDistinct}
 use Rattle.fs_serial.specs.Parts.{SessionHolds, SessionFits}
 use Rattle.fs_serial.specs.Pending.{HasLease, UsesHeld}
@@ -196,3 +196,10 @@ seat_granted skew greatest s by replied c up gs fresh e rest h =
       client = granted_client by c gs fresh e h.client new (subst (λ (d : Settled). LeasesDistinct d.leases) (settled_none by rest (told by (Granted gs fresh e) (settled_now c)) w.quiet) h.fits.distinct);
       exchange = subst (λ up. ExchangeFits skew greatest s.given s.rows by then up rest (settled_now then) (seen_at by then rest)) (sym w.asked) (quiet_exchange skew greatest s.given s.rows by then rest (settled_now then) (seen_at by then rest) refl w.quiet returns);
     }
+
+-- it was going to have them
+pub granted_seen : (skew greatest : ℕ) (s : Sight) (by : Session) (replied : List Item) (c : Client) (up : List ClientMsg) (gs : List Grant) (fresh : Option (List ℕ)) (e : End) (rest : List Answer) → Seat skew greatest s by replied c up (Granted gs fresh e ∷ rest)
+    → seen_at by (with_granted (leases_in fresh gs) (full_told e) c) rest ≡ seen_at by c (Granted gs fresh e ∷ rest)
+granted_seen skew greatest s by replied c up gs fresh e rest h =
+    let w : IsHeard c up (Granted gs fresh e) rest = heard c c.exchange up (Granted gs fresh e) rest refl refl h.exchange.one in
+    ap (settled by rest) (granted_now by c gs fresh e h.client (all_new c w.exchange gs fresh e w.fits))

@@ -1,14 +1,13 @@
 -- A client hears that a lease is asked back, or that leases came back to their server.
-use Rattle.std.proofs.Common.{◌≡◌, ℕ, zero, suc, ◌+◌, ◌<◌, ◌≤◌, ◌⊎◌, not, Bool, true, false, List, [], ◌∷◌, ◌++◌, take, map, refl, sym, ap, ◌∙◌, subst, inl, inr, cond, append-nil}
+use Rattle.std.proofs.Common.{◌≡◌, ℕ, zero, suc, not, Bool, true, false, List, [], ◌∷◌, take, map, refl, sym, ap, ◌∙◌, subst, inl, inr, cond, append-nil}
 use Rattle.std.specs.Prelude.{Option, Some, None, filter, option_map}
 use Rattle.std.specs.List.{filter_map, cons_option}
 use Rattle.fs_ident.specs.In.{In}
 use Rattle.fs_ident.specs.declared.actor.LeaseNo.{LeaseNo}
 use Rattle.fs_ident.specs.declared.actor.Session.{Session}
 use Rattle.fs_ident.proofs.Standing.{In-filter, In-map}
-use Rattle.fs_lease.specs.Lease.{Lease as Term}
 use Rattle.fs_msg.specs.declared.answer.Answer.{Answer}
-use Rattle.fs_msg.specs.declared.answer.Answer.TheVariants.{Granted, Renewed, Released, Shipped, Recall}
+use Rattle.fs_msg.specs.declared.answer.Answer.TheVariants.{Released, Recall}
 use Rattle.fs_msg.specs.declared.client_msg.ClientMsg.{ClientMsg}
 use Rattle.fs_msg.specs.declared.end.End.{End}
 use Rattle.fs_msg.specs.declared.item.Item.{Item}
@@ -23,11 +22,11 @@ use Rattle.fs_view.specs.declared.kept.Standing.TheVariants.{Held, Pinned, Leavi
 use Rattle.fs_view.specs.Kept.{number_of, has_number, is_leaving, entries_of, lease_of, recalled_as}
 use Rattle.fs_view.specs.View.{View, without_lease}
 use Rattle.fs_view.proofs.Places.{same_no_is}
-use Rattle.fs_serial.specs.Client.{ClientFits, times_in}
+use Rattle.fs_serial.specs.Client.{times_in}
 use Rattle.fs_serial.specs.Exchange.{IsReturned, ReleasesReturned, ExchangeFits, ReturnFits, ReturnsFit}
 use Rattle.fs_serial.specs.Parts.{SessionHolds, SessionFits}
 use Rattle.fs_serial.specs.Pending.{UsesHeld}
-use Rattle.fs_serial.specs.Settled.{Lease, Settled, lease_in, lease_with, settled, settled_now}
+use Rattle.fs_serial.specs.Settled.{Settled, lease_in, lease_with, settled, settled_now}
 use Rattle.fs_serial.specs.Sight.{Sight}
 use Rattle.fs_serial.proofs.Carried.{GoesOnAs, exchange_still}
 use Rattle.fs_serial.proofs.Facts.{In-mapped, each_image}
@@ -68,8 +67,8 @@ module _ (skew greatest : ℕ) (s : Sight) (by : Session) (replied : List Item) 
   now : settled_now recalled ≡ settled_now c
   now = ap (λ ls. let x : Settled = record { leases = ls; log = c.log; next = c.next; over = c.over } in x) (same_leases (one_recall n) (recall_lease n) c.view.leases)
 
-  seen : seen_at by recalled rest ≡ seen_at by c (Recall n ∷ rest)
-  seen = ap (settled by rest) now
+  pub recalled_seen : seen_at by recalled rest ≡ seen_at by c (Recall n ∷ rest)
+  recalled_seen = ap (settled by rest) now
 
   goes_on : GoesOnAs c recalled []
   goes_on = record {
@@ -84,8 +83,8 @@ module _ (skew greatest : ℕ) (s : Sight) (by : Session) (replied : List Item) 
 
   pub seat_recalled : Seat skew greatest s by replied recalled up rest
   seat_recalled = record {
-    holds = subst (SessionHolds skew greatest s by replied) (sym seen) h.holds;
-    fits = subst (SessionFits skew greatest s by) (sym seen) h.fits;
+    holds = subst (SessionHolds skew greatest s by replied) (sym recalled_seen) h.holds;
+    fits = subst (SessionFits skew greatest s by) (sym recalled_seen) h.fits;
     client = record {
       session = h.client.session;
       viewed = h.client.viewed;
@@ -96,8 +95,8 @@ module _ (skew greatest : ℕ) (s : Sight) (by : Session) (replied : List Item) 
     };
     exchange = exchange_still skew greatest s.given s.rows by c recalled [] up rest (settled_now c) (settled_now recalled) (seen_at by c (Recall n ∷ rest)) (seen_at by recalled rest) goes_on
         (λ l i. record { lease = l; held = subst (λ (d : Settled). In l d.leases) now i; number = refl })
-        (λ l i. record { lease = l; held = subst (λ (d : Settled). In l d.leases) seen i; number = refl })
-        (ap (λ (d : Settled). d.log) seen ∙ sym (append-nil (seen_at by c (Recall n ∷ rest)).log)) (ap (λ (d : Settled). d.over) seen)
+        (λ l i. record { lease = l; held = subst (λ (d : Settled). In l d.leases) recalled_seen i; number = refl })
+        (ap (λ (d : Settled). d.log) recalled_seen ∙ sym (append-nil (seen_at by c (Recall n ∷ rest)).log)) (ap (λ (d : Settled). d.over) recalled_seen)
         (recall_exchange skew greatest s.given s.rows by c up n rest (settled_now c) (seen_at by c (Recall n ∷ rest)) h.exchange);
   }
 
@@ -152,8 +151,8 @@ seat_released skew greatest s by replied c up count e rest h =
     let ns : List LeaseNo = take count (numbers_sent c.exchange) in
     let then_ : Client = with_released ns c in
     let going : AllGoing ns c.view.leases = λ n i k j same.
-        let r = sent_returned c.exchange c.view.leases h.exchange.released n (in_front count n (numbers_sent c.exchange) i) in
-        ap (λ (k : Kept). is_leaving k.standing) (h.client.distinct k r.kept j r.among (same ∙ sym r.number)) ∙ r.leaving in
+    let r = sent_returned c.exchange c.view.leases h.exchange.released n (in_front count n (numbers_sent c.exchange) i) in
+    ap (λ (k : Kept). is_leaving k.standing) (h.client.distinct k r.kept j r.among (same ∙ sym r.number)) ∙ r.leaving in
     let q : HasReturned c.view then_.view = all_returned ns c.view going in
     let now : settled_now then_ ≡ settled_now c = ap (λ ls. let x : Settled = record { leases = ls; log = c.log; next = c.next; over = c.over } in x) q.same in
     let seen : seen_at by c (Released count e ∷ rest) ≡ seen_at by then_ rest = ap (settled by rest) (sym now) in
@@ -171,3 +170,13 @@ seat_released skew greatest s by replied c up count e rest h =
       };
       exchange = subst (λ up. ExchangeFits skew greatest s.given s.rows by then_ up rest (settled_now then_) (seen_at by then_ rest)) (sym w.asked) (quiet_exchange skew greatest s.given s.rows by then_ rest (settled_now then_) (seen_at by then_ rest) refl w.quiet returns);
     }
+
+-- what came back was going already
+pub released_seen : (skew greatest : ℕ) (s : Sight) (by : Session) (replied : List Item) (c : Client) (up : List ClientMsg) (count : ℕ) (e : End) (rest : List Answer) → Seat skew greatest s by replied c up (Released count e ∷ rest) → seen_at by (with_released (take count (numbers_sent c.exchange)) c) rest ≡ seen_at by c (Released count e ∷ rest)
+released_seen skew greatest s by replied c up count e rest h =
+    let ns : List LeaseNo = take count (numbers_sent c.exchange) in
+    let going : AllGoing ns c.view.leases = λ n i k j same.
+    let r = sent_returned c.exchange c.view.leases h.exchange.released n (in_front count n (numbers_sent c.exchange) i) in
+    ap (λ (k : Kept). is_leaving k.standing) (h.client.distinct k r.kept j r.among (same ∙ sym r.number)) ∙ r.leaving in
+    let q : HasReturned c.view (with_released ns c).view = all_returned ns c.view going in
+    ap (settled by rest) (ap (λ ls. let x : Settled = record { leases = ls; log = c.log; next = c.next; over = c.over } in x) q.same)

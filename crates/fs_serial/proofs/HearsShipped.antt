@@ -1,7 +1,7 @@
 -- A client hears that entries of its log were admitted.
-use Rattle.std.proofs.Common.{◌≡◌, ℕ, zero, suc, ◌+◌, ◌-◌, ◌<◌, ◌≤◌, ◌==◌, ◌&&◌, ◌⊎◌, not, Bool, true, false, List, [], ◌∷◌, ◌++◌, map, refl, sym, ap, ◌∙◌, subst, inl, inr, cond, arith}
+use Rattle.std.proofs.Common.{◌≡◌, ℕ, zero, suc, ◌+◌, ◌-◌, ◌==◌, Bool, true, false, List, [], ◌∷◌, map, refl, sym, ap, ◌∙◌, subst, inr, cond, arith}
 use Rattle.std.specs.Prelude.{Option, Some, None, option_map}
-use Rattle.std.specs.List.{list_any, filter_map, cons_option}
+use Rattle.std.specs.List.{filter_map, cons_option}
 use Rattle.std.proofs.lemmas.Bool.Decides.{nat_tests}
 use Rattle.fs_ident.specs.In.{In}
 use Rattle.fs_ident.specs.declared.actor.LeaseNo.{LeaseNo}
@@ -13,7 +13,7 @@ use Rattle.fs_field.specs.declared.value.Value.{Value}
 use Rattle.fs_field.specs.Table.{same_no}
 use Rattle.fs_lease.specs.Lease.{Lease as Term, InUse}
 use Rattle.fs_msg.specs.declared.answer.Answer.{Answer}
-use Rattle.fs_msg.specs.declared.answer.Answer.TheVariants.{Granted, Renewed, Released, Shipped, Recall}
+use Rattle.fs_msg.specs.declared.answer.Answer.TheVariants.{Shipped}
 use Rattle.fs_msg.specs.declared.client_msg.ClientMsg.{ClientMsg}
 use Rattle.fs_msg.specs.declared.end.End.{End}
 use Rattle.fs_msg.specs.declared.entry.Entry.{Entry}
@@ -26,16 +26,14 @@ use Rattle.fs_view.specs.declared.kept.Standing.{Standing}
 use Rattle.fs_view.specs.declared.kept.Standing.TheVariants.{Held, Pinned, Leaving}
 use Rattle.fs_view.specs.Kept.{number_of, has_number, is_leaving, entries_of, lease_of, unpinned}
 use Rattle.fs_view.specs.View.{View, base_after, below_after, knowing, first_admitted, unpinned_at, unpinned_all}
-use Rattle.fs_view.proofs.Places.{same_no_is}
 use Rattle.fs_serial.specs.Client.{ClientFits, KeptDistinct, times_used, times_in}
-use Rattle.fs_serial.specs.Exchange.{IsReturned, ExchangeFits, ReturnFits, ReturnsFit}
+use Rattle.fs_serial.specs.Exchange.{ExchangeFits, ReturnFits, ReturnsFit}
 use Rattle.fs_serial.specs.Parts.{SessionHolds, SessionFits}
-use Rattle.fs_serial.specs.Pending.{HasLease, UsesHeld}
+use Rattle.fs_serial.specs.Pending.{HasLease}
 use Rattle.fs_serial.specs.Settled.{Lease, Settled, lease_in, lease_after, effects_in, acknowledged, acknowledged_all, with_over, told, settled, settled_now}
 use Rattle.fs_serial.specs.Sight.{Sight}
 use Rattle.fs_serial.proofs.Facts.{In-mapped, each_image}
 use Rattle.fs_serial.proofs.Heard.{IsHeard, heard, quiet_exchange}
-use Rattle.fs_serial.proofs.OneLease.{same_no_self}
 use Rattle.fs_serial.proofs.ReplyPins.{distinct_mapped, turned}
 use Rattle.fs_serial.proofs.Seats.{Seat, seen_at}
 
@@ -234,11 +232,15 @@ seat_shipped skew greatest s by replied c up count e rest h =
     let now : settled_now then_ ≡ told by (Shipped count e) (settled_now c) = ap (with_over (over_after e c.over)) q.settled in
     let seen : seen_at by c (Shipped count e ∷ rest) ≡ seen_at by then_ rest = ap (settled by rest) (sym now) in
     let returns : ReturnsFit s.given s.rows by then_.view.leases (seen_at by then_ rest).leases = λ k i t.
-        let p = q.was k i in
-        subst (λ n. ReturnFits s.given s.rows by (seen_at by then_ rest).leases n) p.number (subst (λ (d : Settled). ReturnFits s.given s.rows by d.leases (number_of p.kept.standing)) seen (h.exchange.returns p.kept p.among (p.leaving ∙ t))) in
+    let p = q.was k i in
+    subst (λ n. ReturnFits s.given s.rows by (seen_at by then_ rest).leases n) p.number (subst (λ (d : Settled). ReturnFits s.given s.rows by d.leases (number_of p.kept.standing)) seen (h.exchange.returns p.kept p.among (p.leaving ∙ t))) in
     record {
       holds = subst (SessionHolds skew greatest s by replied) seen h.holds;
       fits = subst (SessionFits skew greatest s by) seen h.fits;
       client = record { session = q.client.session; viewed = q.client.viewed; pending = q.client.pending; distinct = q.client.distinct; pinned = q.client.pinned; held = q.client.held };
       exchange = subst (λ up. ExchangeFits skew greatest s.given s.rows by then_ up rest (settled_now then_) (seen_at by then_ rest)) (sym w.asked) (quiet_exchange skew greatest s.given s.rows by then_ rest (settled_now then_) (seen_at by then_ rest) refl w.quiet returns);
     }
+
+-- it was going to know so
+pub shipped_seen : (skew greatest : ℕ) (s : Sight) (by : Session) (replied : List Item) (c : Client) (up : List ClientMsg) (count : ℕ) (e : End) (rest : List Answer) → Seat skew greatest s by replied c up (Shipped count e ∷ rest) → seen_at by (with_shipped count (over_after e c.over) c) rest ≡ seen_at by c (Shipped count e ∷ rest)
+shipped_seen skew greatest s by replied c up count e rest h = ap (settled by rest) (ap (with_over (over_after e c.over)) (all_admitted by count c h.client).settled)

@@ -1,6 +1,6 @@
 -- What a view's answer stands on.
-use Rattle.std.proofs.Common.{◌≡◌, ℕ, ◌&&◌, ◌||◌, ◌⊎◌, Bool, true, false, not, List, [], ◌∷◌, refl, sym, ap, ◌∙◌, subst, inl, inr, cond}
-use Rattle.std.specs.Prelude.{Option, Some, None, is_some, nat_lt, find, option_map}
+use Rattle.std.proofs.Common.{◌≡◌, ℕ, ◌&&◌, ◌⊎◌, Bool, true, false, not, List, [], ◌∷◌, refl, sym, ap, ◌∙◌, subst, inl, inr, cond}
+use Rattle.std.specs.Prelude.{Option, Some, None, is_some, nat_lt, option_map}
 use Rattle.std.specs.Option.{option_and_then}
 use Rattle.std.specs.List.{filter_map, cons_option}
 use Rattle.fs_ident.specs.In.{In}
@@ -12,7 +12,6 @@ use Rattle.fs_field.specs.declared.effect.Effect.{Effect}
 use Rattle.fs_field.specs.declared.field.Field.{Field}
 use Rattle.fs_field.specs.declared.lease_kind.LeaseKind.{LeaseKind}
 use Rattle.fs_field.specs.declared.used.Use.{Use}
-use Rattle.fs_field.specs.declared.value.Value.{Value}
 use Rattle.fs_field.specs.Field.{same_field, file_of}
 use Rattle.fs_field.specs.Table.{is_parent}
 use Rattle.fs_lease.specs.Lease.{Lease as Term}
@@ -20,11 +19,10 @@ use Rattle.fs_model.specs.declared.op.Op.{Op}
 use Rattle.fs_view.specs.declared.kept.Kept.{Kept}
 use Rattle.fs_view.specs.declared.kept.Standing.{Standing}
 use Rattle.fs_view.specs.declared.kept.Standing.TheVariants.{Held, Pinned, Leaving}
-use Rattle.fs_view.specs.Kept.{lease_of, use_of, use_in, serves, makes_known, is_enough, is_better, is_pending, is_unused, is_unused_in, offers}
+use Rattle.fs_view.specs.Kept.{lease_of, use_of, use_in, serves, makes_known, is_enough, is_better, is_pending, is_unused_in, offers}
 use Rattle.fs_view.specs.Script.{Script, answer, ask, give}
 use Rattle.fs_view.specs.View.{View, taken, taken_from, known_by, offered, given_by, item_use, uses_in, walk_in, value_after_log}
 use Rattle.fs_view.specs.Walk.{Known, Given, walk_along, behind, is_there}
-use Rattle.fs_serial.specs.Pending.{HasUse}
 use Rattle.fs_serial.proofs.Rowed.{same_field_is}
 
 -- ## Lists

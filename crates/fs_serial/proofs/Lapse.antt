@@ -1,7 +1,6 @@
 -- A client's leases that no entry uses lapse at their ends.
-use Rattle.std.proofs.Common.{◌≡◌, ℕ, suc, ◌+◌, ◌<◌, ◌≤◌, ◌⊎◌, not, Bool, true, false, List, [], ◌∷◌, ◌++◌, refl, sym, ap, ◌∙◌, subst, inl, inr, cond, arith, append-nil, max}
-use Rattle.std.specs.Prelude.{Option, Some, None, filter, option_map, nat_le}
-use Rattle.std.specs.List.{filter_map}
+use Rattle.std.proofs.Common.{◌≡◌, ℕ, ◌+◌, ◌≤◌, not, Bool, true, false, List, [], ◌∷◌, refl, sym, ap, ◌∙◌, subst, inl, inr, cond, arith, append-nil, max}
+use Rattle.std.specs.Prelude.{Option, Some, None, option_map}
 use Rattle.fs_ident.specs.In.{In}
 use Rattle.fs_ident.specs.declared.actor.LeaseNo.{LeaseNo}
 use Rattle.fs_ident.specs.declared.actor.Session.{Session}
@@ -20,12 +19,10 @@ use Rattle.fs_view.specs.declared.kept.Standing.{Standing}
 use Rattle.fs_view.specs.declared.kept.Standing.TheVariants.{Held, Pinned, Leaving}
 use Rattle.fs_view.specs.Kept.{lease_of, number_of, entries_of, has_ended, is_leaving}
 use Rattle.fs_serial.specs.Client.{ClientFits, times_used, times_in}
-use Rattle.fs_serial.specs.Exchange.{IsReturned}
 use Rattle.fs_serial.specs.Pending.{HasLease}
-use Rattle.fs_serial.specs.Settled.{Lease, Settled, lease_in, lease_with, settled, settled_now}
+use Rattle.fs_serial.specs.Settled.{Lease, lease_in, lease_with, settled_now}
 use Rattle.fs_serial.specs.Sight.{Sight}
-use Rattle.fs_serial.specs.World.{HasNumber}
-use Rattle.fs_serial.proofs.Carried.{FewerNumbers, GoesOnAs, exchange_still}
+use Rattle.fs_serial.proofs.Carried.{GoesOnAs, exchange_still}
 use Rattle.fs_serial.proofs.Fewer.{HasFewer, settled_fewer, fewer_holds, fewer_fits}
 use Rattle.fs_serial.proofs.Knowing.{In-filter_map, from-filter_map}
 use Rattle.fs_serial.proofs.OneLease.{same_no_self}
@@ -56,7 +53,7 @@ used_once n [] u i e = absurd i
 used_once n (x ∷ us) u (inl q) e = some_more (same_no x.no n) (times_used n us) (ap (λ y. same_no y n) (ap (λ (u : Use). u.no) (sym q) ∙ e) ∙ same_no_self n)
 used_once n (x ∷ us) u (inr i) e = let p = used_once n us u i e in let q = no_less (same_no x.no n) (times_used n us) in omega arith
 
-used_in : (n : LeaseNo) (log : List Entry) (x : Entry) → In x log → (u : Use) → In u x.uses → u.no ≡ n → 1 ≤ times_in n log
+pub used_in : (n : LeaseNo) (log : List Entry) (x : Entry) → In x log → (u : Use) → In u x.uses → u.no ≡ n → 1 ≤ times_in n log
 used_in n [] x i u j e = absurd i
 used_in n (y ∷ log) x (inl q) u j e = let p = used_once n y.uses u (subst (λ (z : Entry). In u z.uses) q j) e in omega arith
 used_in n (y ∷ log) x (inr i) u j e = let p = used_in n log x i u j e in omega arith

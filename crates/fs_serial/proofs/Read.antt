@@ -1,16 +1,13 @@
 -- A client with an empty log answers a read, which is admitted at once.
-use Rattle.std.proofs.Common.{◌≡◌, ℕ, zero, suc, ◌+◌, ◌<◌, ◌≤◌, ◌==◌, ◌⊎◌, Bool, true, false, List, [], ◌∷◌, ◌++◌, map, refl, sym, ap, ◌∙◌, subst, inl, inr, arith, append-nil, append_assoc}
+use Rattle.std.proofs.Common.{◌≡◌, ℕ, zero, suc, ◌+◌, ◌<◌, true, false, List, [], ◌∷◌, ◌++◌, map, refl, sym, ap, ◌∙◌, subst, inl, inr, arith, append-nil}
 use Rattle.std.specs.Prelude.{Option, Some, None, is_some, nat_lt}
 use Rattle.std.proofs.lemmas.Bool.Decides.{nat_tests}
 use Rattle.fs_ident.specs.In.{In}
-use Rattle.fs_ident.specs.declared.actor.LeaseNo.{LeaseNo}
-use Rattle.fs_ident.specs.declared.actor.Peer.TheVariants.{Client as OfSession}
 use Rattle.fs_ident.specs.declared.actor.Session.{Session}
 use Rattle.fs_ident.specs.declared.kind.Kind.{Kind}
-use Rattle.fs_field.specs.declared.row.Row.{Row}
 use Rattle.fs_field.specs.declared.used.Use.{Use}
 use Rattle.fs_model.specs.Namespace.{first_space}
-use Rattle.fs_model.specs.Sound.{is_change, kind_of}
+use Rattle.fs_model.specs.Sound.{is_change}
 use Rattle.fs_model.specs.Step.{step}
 use Rattle.fs_model.specs.declared.op.Op.{Op}
 use Rattle.fs_model.specs.declared.op.Op.TheVariants as op
@@ -22,9 +19,9 @@ use Rattle.fs_msg.specs.declared.answer.Answer.TheVariants.{Granted, Renewed, Re
 use Rattle.fs_msg.specs.declared.client_msg.ClientMsg.{ClientMsg}
 use Rattle.fs_msg.specs.declared.entry.Entry.{Entry}
 use Rattle.fs_msg.specs.declared.item.Item.{Item}
-use Rattle.fs_record.specs.Records.{RecordMap, node_of, nodes_of}
+use Rattle.fs_record.specs.Records.{nodes_of}
 use Rattle.fs_record.specs.ValueOf.{value_of}
-use Rattle.fs_client.specs.Acts.{entry_of, with_id}
+use Rattle.fs_client.specs.Acts.{entry_of}
 use Rattle.fs_client.specs.Answers.{over_after}
 use Rattle.fs_client.specs.Client.{with_read}
 use Rattle.fs_client.specs.declared.state.Client.{Client}
@@ -33,17 +30,17 @@ use Rattle.fs_view.specs.View.{value_after_log}
 use Rattle.fs_serial.specs.Fresh.{made, made_by, or_else, IsMade, NodesMade, FreshReserved, Reserved}
 use Rattle.fs_serial.specs.Leases.{IsBacked}
 use Rattle.fs_serial.specs.Numbers.{AreNumbered, all_items, items_by}
-use Rattle.fs_serial.specs.Parts.{ServersHold, ServersFit, SessionHolds, SessionFits}
+use Rattle.fs_serial.specs.Parts.{ServersHold, SessionHolds, SessionFits}
 use Rattle.fs_serial.specs.Pending.{IsAnswer}
 use Rattle.fs_serial.specs.Serial.{JournalSerial}
-use Rattle.fs_serial.specs.Settled.{Lease, Settled, acknowledged, acknowledged_all, effects_in, granted, with_leases, with_over, told, settled, settled_now}
+use Rattle.fs_serial.specs.Settled.{Lease, Settled, acknowledged, acknowledged_all, effects_in, with_over, told, settled, settled_now}
 use Rattle.fs_serial.specs.Sight.{Sight}
 use Rattle.fs_serial.specs.Steps.{IsReplied, IsReadNow}
 use Rattle.fs_serial.proofs.Answered.{answered, no_reap}
 use Rattle.fs_serial.proofs.Carried.{GoesOnAs, exchange_still}
 use Rattle.fs_serial.proofs.Facts.{items-own, made-append, made_before, serial_push, session_itself}
 use Rattle.fs_serial.proofs.Knowing.{IsUseOf, use_from}
-use Rattle.fs_serial.proofs.Reply.{IsNext, IsOfLease, value_seen, number_more}
+use Rattle.fs_serial.proofs.Reply.{IsNext, IsOfLease, number_more}
 use Rattle.fs_serial.proofs.ReplyNext.{next}
 use Rattle.fs_serial.proofs.Seats.{Seat, seen_at}
 use Rattle.fs_serial.proofs.Settling.{settled_log}

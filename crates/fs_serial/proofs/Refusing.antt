@@ -20,7 +20,7 @@ use Rattle.fs_serial.proofs.Going.{carried_alike}
 use Rattle.fs_serial.proofs.OneLease.{lease_is}
 use Rattle.fs_serial.proofs.Together.{each_session}
 
-found_passes : {X : Type 0} (test : X → Bool) (xs : List X) (x : X) → find test xs ≡ Some x → In x xs × (test x ≡ true)
+pub found_passes : {X : Type 0} (test : X → Bool) (xs : List X) (x : X) → find test xs ≡ Some x → In x xs × (test x ≡ true)
 found_passes test [] x h = absurd (cc)
 found_passes test (y ∷ ys) x h =
     elim (test y) as (λ b. test y ≡ b → cond b (Some y) (find test ys) ≡ Some x → In x (y ∷ ys) × (test x ≡ true)) [
@@ -43,7 +43,7 @@ no_row true h e = absurd (cc)
 no_row false h e = absurd (cc)
 
 -- the row of a used lease is the row that the entry stands on
-use_gone : (skew greatest : ℕ) (s : Sight) (by : Session) (d : Settled) (e : Entry) (u : Use) → SessionFits skew greatest s by d → In e d.log → In u e.uses → not (has_row s.rows by u) ≡ true → (r : Row) → In r s.rows → r.no ≢ u.no
+pub use_gone : (skew greatest : ℕ) (s : Sight) (by : Session) (d : Settled) (e : Entry) (u : Use) → SessionFits skew greatest s by d → In e d.log → In u e.uses → not (has_row s.rows by u) ≡ true → (r : Row) → In r s.rows → r.no ≢ u.no
 use_gone skew greatest s by d e u f i j gone r k n =
     let l = f.held e i u j in
     let m = f.matching l.lease l.held r k (n ∙ sym l.number) in

@@ -1,8 +1,7 @@
 -- A client answers an operation, and its entry joins the log: the parts of its session.
-use Rattle.std.proofs.Common.{◌≡◌, ℕ, ◌+◌, ◌<◌, ◌≤◌, Bool, true, false, List, [], ◌∷◌, ◌++◌, ◌⊎◌, map, refl, sym, ap, ◌∙◌, subst, inl, inr, append_assoc}
-use Rattle.std.specs.Prelude.{Option, Some, None}
+use Rattle.std.proofs.Common.{◌≡◌, ℕ, ◌+◌, ◌<◌, ◌≤◌, List, [], ◌∷◌, ◌++◌, map, refl, sym, ap, ◌∙◌, subst, inl, inr, append_assoc}
+use Rattle.std.specs.Prelude.{Some}
 use Rattle.std.proofs.lemmas.List.{map-append}
-use mathlib.Core.Path.{fun_ext}
 use Rattle.fs_ident.specs.In.{In}
 use Rattle.fs_ident.specs.declared.actor.Session.{Session}
 use Rattle.fs_field.specs.declared.field.Field.{Field}
@@ -13,11 +12,11 @@ use Rattle.fs_msg.specs.declared.entry.Entry.{Entry}
 use Rattle.fs_msg.specs.declared.item.Item.{Item}
 use Rattle.fs_record.specs.ValueOf.{value_of}
 use Rattle.fs_server.specs.Ships.{item_of}
-use Rattle.fs_view.specs.View.{value_after_all, value_after_log}
-use Rattle.fs_serial.specs.Leases.{IsBacked, LeasesTrue}
+use Rattle.fs_view.specs.View.{value_after_log}
+use Rattle.fs_serial.specs.Leases.{IsBacked}
 use Rattle.fs_serial.specs.Numbers.{AreNumbered, all_items, items_by}
 use Rattle.fs_serial.specs.Parts.{SessionHolds, SessionFits}
-use Rattle.fs_serial.specs.Pending.{AllStand, Stands, IsAnswer, PendingStand, HasLease, UsesHeld, UsesBacked, IsEntry, AreEntries, NamedOnce, named_by, RefusedGone, IsGone, values_after}
+use Rattle.fs_serial.specs.Pending.{AllStand, Stands, IsAnswer, PendingStand, HasLease, UsesHeld, UsesBacked, IsEntry, NamedOnce, named_by, RefusedGone, IsGone, values_after}
 use Rattle.fs_serial.specs.Settled.{Lease, Settled, effects_in}
 use Rattle.fs_serial.specs.Sight.{Sight}
 use Rattle.fs_serial.proofs.Facts.{each_more}

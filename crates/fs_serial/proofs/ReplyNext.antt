@@ -1,8 +1,7 @@
 -- A client's next entry, by what its leases tell.
-use Rattle.std.proofs.Common.{◌≡◌, ℕ, ◌+◌, ◌==◌, ◌&&◌, ◌||◌, Bool, true, false, not, List, [], ◌∷◌, ◌++◌, length, take, map, refl, sym, ap, ◌∙◌, subst, inl, inr, cond, arith, length-append}
-use Rattle.std.specs.Prelude.{Option, Some, None, is_some, nat_lt, nat_eq, option_map}
-use Rattle.std.specs.List.{list_any, filter_map}
-use Rattle.std.specs.Cmp.Lexicographic.{pointwise}
+use Rattle.std.proofs.Common.{◌≡◌, ℕ, ◌+◌, ◌==◌, ◌&&◌, Bool, true, false, not, List, [], ◌∷◌, ◌++◌, length, map, refl, sym, ap, ◌∙◌, subst, inl, inr, cond, arith, length-append}
+use Rattle.std.specs.Prelude.{Option, Some, None, is_some, nat_lt, option_map}
+use Rattle.std.specs.List.{list_any}
 use Rattle.std.proofs.Math.Seq.{take-append_seam}
 use Rattle.std.proofs.lemmas.Bool.Decides.{nat_tests}
 use Rattle.fs_ident.specs.In.{In}
@@ -15,7 +14,6 @@ use Rattle.fs_field.specs.declared.asked.Need.TheVariants as need
 use Rattle.fs_field.specs.declared.effect.Effect.{Effect}
 use Rattle.fs_field.specs.declared.field.Field.{Field}
 use Rattle.fs_field.specs.declared.field.Field.TheVariants.{Life}
-use Rattle.fs_field.specs.declared.lease_kind.LeaseKind.{LeaseKind}
 use Rattle.fs_field.specs.declared.lease_kind.LeaseKind.TheVariants.{Exclusive}
 use Rattle.fs_field.specs.declared.used.Use.{Use}
 use Rattle.fs_field.specs.declared.value.Value.{Value}
@@ -33,7 +31,7 @@ use Rattle.fs_model.proofs.SoundRuns.{asks_access}
 use Rattle.fs_msg.specs.declared.answer.Answer.{Answer}
 use Rattle.fs_msg.specs.declared.entry.Entry.{Entry}
 use Rattle.fs_record.specs.Effects.{tells_its_effects}
-use Rattle.fs_client.specs.Acts.{entry_of, with_id}
+use Rattle.fs_client.specs.Acts.{entry_of}
 use Rattle.fs_client.specs.declared.state.Client.{Client}
 use Rattle.fs_view.specs.declared.kept.Kept.{Kept}
 use Rattle.fs_view.specs.declared.kept.Standing.{Standing}
@@ -41,13 +39,13 @@ use Rattle.fs_view.specs.declared.kept.Standing.TheVariants.{Held, Pinned, Leavi
 use Rattle.fs_view.specs.Kept.{lease_of, use_of, is_enough, file_in, makes, is_pending, is_unused_in}
 use Rattle.fs_view.specs.Laws.{HasToo}
 use Rattle.fs_view.specs.Script.{script_of}
-use Rattle.fs_view.specs.View.{View, known_by, given_by, offered, fresh, uses_in, walk_in, reply_in, value_after_log}
+use Rattle.fs_view.specs.View.{View, known_by, given_by, fresh, walk_in, reply_in, value_after_log}
 use Rattle.fs_view.specs.Walk.{walk, always}
 use Rattle.fs_view.proofs.Walks.{alike}
 use Rattle.fs_serial.specs.Client.{ClientFits}
 use Rattle.fs_serial.specs.Fresh.{made_by, or_else}
 use Rattle.fs_serial.specs.Leases.{IsFresh, FreshLeases}
-use Rattle.fs_serial.specs.Pending.{known_with, IsAnswer, HasUse, IsEntry, AreEntries, NamesItsFile, NamesReserved, named_by}
+use Rattle.fs_serial.specs.Pending.{known_with, IsAnswer, AreEntries, NamesItsFile, named_by}
 use Rattle.fs_serial.specs.Settled.{Lease, Settled, lease_in, lease_with, settled_now, settled, effects_in}
 use Rattle.fs_serial.proofs.Births.{life_after, makes_there}
 use Rattle.fs_serial.proofs.Facts.{same_is, same_self}

@@ -1,10 +1,9 @@
 -- A client answers: its leases are in use by one entry more.
 use Rattle.std.proofs.Common.{◌≡◌, ℕ, ◌+◌, ◌==◌, ◌&&◌, Bool, true, false, List, [], ◌∷◌, ◌++◌, map, refl, sym, ap, ◌∙◌, subst, inl, inr, cond, arith}
-use Rattle.std.specs.Prelude.{Option, Some, None, option_map}
+use Rattle.std.specs.Prelude.{option_map}
 use Rattle.std.specs.List.{filter_map, cons_option}
 use Rattle.std.specs.Cmp.{nat_eq_equiv}
 use Rattle.std.proofs.lemmas.List.{map-append}
-use Rattle.std.proofs.lemmas.Bool.Decides.{nat_tests}
 use Rattle.fs_ident.specs.In.{In}
 use Rattle.fs_ident.specs.declared.actor.LeaseNo.{LeaseNo}
 use Rattle.fs_ident.specs.declared.actor.Session.{Session}
@@ -23,8 +22,8 @@ use Rattle.fs_view.specs.declared.kept.Standing.TheVariants.{Held, Pinned, Leavi
 use Rattle.fs_view.specs.Kept.{number_of, entries_of, lease_of, has_number, is_leaving, pinned}
 use Rattle.fs_view.specs.View.{pinned_at, pinned_all}
 use Rattle.fs_view.proofs.Places.{same_no_is}
-use Rattle.fs_serial.specs.Client.{ClientFits, KeptDistinct, PinsCounted, times_used, times_in}
-use Rattle.fs_serial.specs.Settled.{Lease, Settled, lease_in, lease_with, effects_in, settled_now}
+use Rattle.fs_serial.specs.Client.{ClientFits, KeptDistinct, times_used, times_in}
+use Rattle.fs_serial.specs.Settled.{Lease, Settled, lease_in, effects_in, settled_now}
 use Rattle.fs_serial.specs.Pending.{HasLease, UsesHeld}
 use Rattle.fs_serial.proofs.Facts.{each_image, each_more}
 use Rattle.fs_serial.proofs.Reply.{with_last}

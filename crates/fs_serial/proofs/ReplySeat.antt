@@ -1,8 +1,6 @@
 -- A client answers an operation: all that holds of its session.
-use Rattle.std.proofs.Common.{◌≡◌, ℕ, ◌+◌, Bool, true, false, List, [], ◌∷◌, ◌++◌, ◌⊎◌, map, refl, sym, ap, ◌∙◌, subst, inl, inr}
-use Rattle.std.specs.Prelude.{Option, Some, None}
+use Rattle.std.proofs.Common.{◌≡◌, ℕ, List, [], ◌∷◌, ◌++◌, refl, sym, ap, ◌∙◌, subst}
 use Rattle.fs_ident.specs.In.{In}
-use Rattle.fs_ident.specs.declared.actor.LeaseNo.{LeaseNo}
 use Rattle.fs_ident.specs.declared.actor.Session.{Session}
 use Rattle.fs_ident.proofs.Standing.{In-map}
 use Rattle.fs_field.specs.declared.used.Use.{Use}
@@ -20,12 +18,12 @@ use Rattle.fs_server.specs.Ships.{item_of}
 use Rattle.fs_view.specs.declared.kept.Kept.{Kept}
 use Rattle.fs_view.specs.Kept.{number_of, is_leaving}
 use Rattle.fs_view.specs.View.{pinned_at, pinned_all}
-use Rattle.fs_serial.specs.Exchange.{IsReturned, ExchangeFits}
+use Rattle.fs_serial.specs.Exchange.{ExchangeFits}
 use Rattle.fs_serial.specs.Parts.{SessionHolds, SessionFits}
-use Rattle.fs_serial.specs.Settled.{Lease, Settled, settled, settled_now}
+use Rattle.fs_serial.specs.Settled.{Settled, settled_now}
 use Rattle.fs_serial.specs.Sight.{Sight}
 use Rattle.fs_serial.specs.Steps.{IsReplied}
-use Rattle.fs_serial.proofs.Carried.{IsNumbered, FewerNumbers, GoesOnAs, exchange_still}
+use Rattle.fs_serial.proofs.Carried.{GoesOnAs, exchange_still}
 use Rattle.fs_serial.proofs.Facts.{In-mapped}
 use Rattle.fs_serial.proofs.Reply.{with_last, reply_holds, reply_fits}
 use Rattle.fs_serial.proofs.ReplyAll.{replied_client, replied_settled}

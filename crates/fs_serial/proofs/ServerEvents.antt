@@ -28,7 +28,8 @@ use Rattle.fs_server.specs.Asks.{answered, ask_step, asked_in, recall_of, recall
 use Rattle.fs_server.specs.Pairs.{ends_told, numbers_in, released_rows, renewed_rows}
 use Rattle.fs_server.specs.Server.{Stepped, begun, end_of, strange, to_session}
 use Rattle.fs_server.specs.Ships.{ship_from, ship_step, shipped}
-use Rattle.fs_server.specs.Step.{event_step, message_step, unlocked_on}
+use Rattle.fs_rows.specs.Live.{unlocked_on}
+use Rattle.fs_server.specs.Step.{event_step, message_step, recalls_of}
 use Rattle.fs_server.specs.declared.event.ServerEvent.{ServerEvent}
 use Rattle.fs_server.specs.declared.event.ServerEvent.TheVariants as event
 use Rattle.fs_server.specs.declared.state.Server.{Server}
@@ -226,8 +227,8 @@ module _ (greatest : ℕ) (w : World) (by : Session) (h : WorldHolds greatest w)
 
 -- ## Each event
 
-recalls_rows : (rows : List Row) (m : Peer × Msg) → In m (map (λ (row : Row). to_session row.session (Recall row.no)) rows) → IsRecallTo m
-recalls_rows rows m i = let q = In-map (λ (row : Row). to_session row.session (Recall row.no)) m rows i in record { to = q.0.session; number = q.0.no; message = q.1.1 }
+all_recalls : (leases : List (LeaseNo × Session)) (m : Peer × Msg) → In m (recalls_of leases) → IsRecallTo m
+all_recalls leases m i = let q = In-map (λ (x : LeaseNo × Session). to_session x.1 (Recall x.0)) m leases i in record { to = q.0.1; number = q.0.0; message = q.1.1 }
 
 one_up : (c : Client) (x : Option Exchange) (up : List ClientMsg) (down : List Answer) (m : ClientMsg) → In m up → OneExchange c x up down → up ≡ m ∷ []
 one_up c None up down m i h = absurd (subst (λ ms. In m ms) h.0 i)
@@ -240,7 +241,7 @@ begun_step greatest w (event.FromClient by m) there h = told_message greatest w 
 begun_step greatest w event.Turn there h = subst (λ js. WorldHolds greatest (record { server = w.server; journal = js; replied = w.replied; ends = w.ends })) (sym (append-nil w.journal)) h
 begun_step greatest w (event.Recall field) there h =
     subst (λ js. WorldHolds greatest (record { server = w.server; journal = js; replied = w.replied; ends = with_sent (event_step (event.Recall field) w.server).out.send w.ends })) (sym (append-nil w.journal))
-    (world_all_recalled greatest w (event_step (event.Recall field) w.server).out.send (recalls_rows (unlocked_on field w.server.rows)) h)
+    (world_all_recalled greatest w (event_step (event.Recall field) w.server).out.send (all_recalls (unlocked_on field w.server.rows)) h)
 
 pub server_keeps : (greatest now : ℕ) (e : ServerEvent) (w : World) → max w.server.last now ≤ greatest → IsThere e w.ends → WorldHolds greatest w → WorldHolds greatest (after_server now e w)
 server_keeps greatest now e w before there h =

@@ -13,3 +13,4 @@ pub mod Exchange
 pub mod Steps
 pub mod Laws
 pub mod World
+pub mod Runs

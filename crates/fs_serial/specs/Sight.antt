@@ -1,5 +1,5 @@
 -- What stands at the servers, as far as sessions rely on it.
-use Rattle.std.specs.Prelude.{◌≡◌, ℕ, ◌≤◌, List}
+use Rattle.std.specs.Prelude.{ℕ, ◌≤◌, List}
 use Rattle.fs_ident.specs.declared.actor.LeaseNo.{LeaseNo}
 use Rattle.fs_field.specs.declared.row.Row.{Row}
 use Rattle.fs_msg.specs.declared.item.Item.{Item}

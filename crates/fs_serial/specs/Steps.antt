@@ -1,6 +1,9 @@
 -- When a kind of step happens.
-use Rattle.std.specs.Prelude.{◌≡◌, ℕ, ◌+◌, ◌≤◌, true, false, List, [], ◌∷◌, length, Some, None}
+use Rattle.std.specs.Prelude.{◌≡◌, ◌≢◌, ℕ, ◌+◌, ◌≤◌, true, false, List, [], ◌∷◌, length, Some, None}
 use Rattle.fs_ident.specs.declared.actor.Session.{Session}
+use Rattle.fs_ident.specs.In.{In}
+use Rattle.fs_field.specs.declared.row.Row.{Row}
+use Rattle.fs_field.specs.declared.used.Use.{Use}
 use Rattle.fs_client.specs.declared.state.Client.{Client}
 use Rattle.fs_model.specs.Asking.{may_ask}
 use Rattle.fs_model.specs.Sound.{is_change}
@@ -34,3 +37,9 @@ pub record IsReadNow (skew greatest : ℕ) (c : Client) (r : Reply) : Type 0 whe
   pub read : is_change r ≡ false
   pub empty : c.log ≡ []
   pub within : greatest ≤ c.last + skew
+
+-- the entry used the lease, its row is gone, and at the reading it had ended
+pub record HadEnded (rows : List Row) (now : ℕ) (e : Entry) (u : Use) : Type 0 where
+  pub used : In u e.uses
+  pub gone : (r : Row) → In r rows → r.no ≢ u.no
+  pub ended : u.until ≤ now

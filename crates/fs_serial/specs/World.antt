@@ -1,10 +1,12 @@
 -- The server, and for each session its client with what is on its way between the two.
-use Rattle.std.specs.Prelude.{◌≡◌, ℕ, ◌≤◌, ◌==◌, List, [], ◌∷◌, ◌++◌, if◌then◌else◌}
+use Rattle.std.specs.Prelude.{◌≡◌, ℕ, ◌≤◌, ◌==◌, Bool, true, false, List, [], ◌∷◌, ◌++◌, Option, Some, None, option_map, if◌then◌else◌}
 use Rattle.fs_ident.specs.In.{In}
 use Rattle.fs_ident.specs.declared.actor.LeaseNo.{LeaseNo}
 use Rattle.fs_ident.specs.declared.actor.Peer.{Peer}
 use Rattle.fs_ident.specs.declared.actor.Peer.TheVariants.{Client as OfSession}
 use Rattle.fs_ident.specs.declared.actor.Session.{Session}
+use Rattle.fs_model.specs.declared.op.Op.{Op}
+use Rattle.fs_model.specs.declared.op.Op.TheVariants as op
 use Rattle.fs_msg.specs.declared.answer.Answer.{Answer}
 use Rattle.fs_msg.specs.declared.client_msg.ClientMsg.{ClientMsg}
 use Rattle.fs_msg.specs.declared.item.Item.{Item}
@@ -14,8 +16,15 @@ use Rattle.fs_server.specs.declared.event.ServerEvent.{ServerEvent}
 use Rattle.fs_server.specs.declared.event.ServerEvent.TheVariants.{FromClient}
 use Rattle.fs_server.specs.declared.state.Server.{Server}
 use Rattle.fs_server.specs.Server.{first_server}
+use Rattle.fs_server.specs.Ships.{item_of}
 use Rattle.fs_server.specs.Step.{step}
-use Rattle.fs_client.specs.Client.{first_client}
+use Rattle.fs_client.specs.Acts.{act_plan}
+use Rattle.fs_client.specs.Answers.{answer_plan}
+use Rattle.fs_client.specs.Client.{committed, first_client}
+use Rattle.fs_client.specs.Turns.{turn_plan}
+use Rattle.fs_client.specs.declared.change.Change.{Change}
+use Rattle.fs_client.specs.declared.change.Change.TheVariants as change
+use Rattle.fs_client.specs.declared.plan.Plan.{Plan}
 use Rattle.fs_client.specs.declared.state.Client.{Client}
 use Rattle.fs_serial.specs.Client.{ClientFits}
 use Rattle.fs_serial.specs.Exchange.{ExchangeFits, ReturnsFit, RenewalsBacked}
@@ -108,3 +117,60 @@ after_server now e w = record {
   replied = w.replied;
   ends = with_sent (step w.server now e).out.send (without_taken e w.ends);
 }
+
+-- ## A client's events
+
+-- with one more at the end, where there is one
+abbrev pub pushed : {X : Type 0} → Option X → List X → List X
+pushed None xs = xs
+pushed (Some x) xs = xs ++ x ∷ []
+
+-- what the session's caller is told of, as the journal would have it: an entry that joins the log, or what was admitted at once
+abbrev pub told_by : Session → Change → Option Item → Option Item
+told_by by (change.Reply entry effects) admitted = Some (item_of by entry)
+told_by by ch admitted = admitted
+
+abbrev pub with_told : Session → Option Item → (Session → List Item) → Session → List Item
+with_told by told replied x = if by.0 == x.0 then pushed told (replied x) else replied x
+
+abbrev pub with_ends : Session → Ends → (Session → Ends) → Session → Ends
+with_ends by e ends x = if by.0 == x.0 then e else ends x
+
+abbrev pub message_in : Option (ℕ × ClientMsg) → Option ClientMsg
+message_in sent = option_map (λ (m : ℕ × ClientMsg). m.1) sent
+
+-- the world after what the client made of an event; these answers are still on their way to it
+abbrev pub after_plan : {N : Type 0} → Session → List Answer → Plan N → World → World
+after_plan by rest p w = record {
+  server = w.server;
+  journal = pushed p.out.admitted w.journal;
+  replied = with_told by (told_by by p.ready.change p.out.admitted) w.replied;
+  ends = with_ends by (record { client = committed p.ready (w.ends by).client; up = pushed (message_in p.out.send) (w.ends by).up; down = rest }) w.ends;
+}
+
+pub data ClientEvent : Type 0 where
+  -- the session's caller asks for an operation
+  Does : (o : Op) → ClientEvent
+  Turns : ClientEvent
+  -- the first answer on its way comes, and these come behind it
+  Hears : (answer : Answer) → (rest : List Answer) → ClientEvent
+
+abbrev pub after_client : Session → ℕ → ClientEvent → World → World
+after_client by now (Does o) w = after_plan by (w.ends by).down (act_plan (w.ends by).client now o) w
+after_client by now Turns w = after_plan by (w.ends by).down (turn_plan (w.ends by).client now) w
+after_client by now (Hears a rest) w = after_plan by rest (answer_plan (w.ends by).client now 0 a) w
+
+-- a caller asks for no open, close or set yet, nor for a delete or a rename
+abbrev pub is_called : Op → Bool
+is_called (op.Lookup dir name) = true
+is_called (op.List dir) = true
+is_called (op.Kind file) = true
+is_called (op.Info file) = true
+is_called (op.Create dir name kind None) = true
+is_called o = false
+
+-- the event can come
+abbrev pub CanCome : Session → ClientEvent → (Session → Ends) → Type 0
+CanCome by (Does o) ends = is_called o ≡ true
+CanCome by Turns ends = Unit {0}
+CanCome by (Hears a rest) ends = (ends by).down ≡ a ∷ rest

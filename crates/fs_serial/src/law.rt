@@ -1,6 +1,8 @@
 //! Laws of the kinds of step: where all parts hold before it, all parts hold after it.
-ghost use Rattle.std.specs.Prelude.{◌≡◌, ◌≤◌, ℕ, max, List, [], ◌∷◌, ◌++◌};
+ghost use Rattle.std.specs.Prelude.{◌≡◌, ◌≤◌, ◌+◌, ℕ, max, List, [], ◌∷◌, ◌++◌};
+ghost use Rattle.fs_ident.specs.In.{In};
 ghost use Rattle.fs_ident.specs.declared.actor.Session.{Session};
+ghost use Rattle.fs_field.specs.declared.used.Use.{Use};
 ghost use Rattle.fs_client.specs.Acts.{entry_of, replies};
 ghost use Rattle.fs_client.specs.Client.{changed};
 ghost use Rattle.fs_client.specs.declared.state.Client.{Client};
@@ -9,16 +11,17 @@ ghost use Rattle.fs_model.specs.declared.reply.Reply.{Reply};
 ghost use Rattle.fs_msg.specs.declared.answer.Answer.{Answer};
 ghost use Rattle.fs_msg.specs.declared.entry.Entry.{Entry};
 ghost use Rattle.fs_msg.specs.declared.item.Item.{Item};
-ghost use Rattle.fs_server.specs.Ships.{item_of, with_entry};
+ghost use Rattle.fs_server.specs.Ships.{first_gone, item_of, with_entry};
 ghost use Rattle.fs_server.specs.declared.event.ServerEvent.{ServerEvent};
 ghost use Rattle.fs_server.specs.declared.state.Server.{Server};
 ghost use Rattle.fs_serial.specs.Client.{ClientFits};
 ghost use Rattle.fs_serial.specs.Laws.{GiftIsRelied, GiftIsTold, GiftKeepsParts, GiftReturnsNone};
-ghost use Rattle.fs_serial.specs.Parts.{AllHold, with_client, with_replies};
+ghost use Rattle.fs_serial.specs.Parts.{AllHold, SessionFits, with_client, with_replies};
 ghost use Rattle.fs_serial.specs.Settled.{Settled, acknowledged, settled, settled_now};
+ghost use Rattle.fs_serial.specs.Runs.{Dated, IsOneSerialRun, IsRun, greatest_in, run};
 ghost use Rattle.fs_serial.specs.Sight.{Sight, sight_of};
-ghost use Rattle.fs_serial.specs.Steps.{IsAdmitted, IsReplied};
-ghost use Rattle.fs_serial.specs.World.{IsThere, World, WorldHolds, after_server, first_world};
+ghost use Rattle.fs_serial.specs.Steps.{HadEnded, IsAdmitted, IsReplied};
+ghost use Rattle.fs_serial.specs.World.{CanCome, ClientEvent, IsThere, World, WorldHolds, after_client, after_server, first_world};
 
 /// A fresh identifier that a directory gives to a session, with an exclusive lease on the life of the file. Whoever relied
 /// on what was before can go on, no lease that goes back is given, and the session is told just that lease.
@@ -66,7 +69,38 @@ pub fn the_servers_events_keep_all_parts()
         WorldHolds later w }
 {}
 
+/// Every event of a client keeps all that holds: an operation that its caller asks for, a turn, and an answer that comes. An
+/// answer that comes is never strange to it. The clock of a client that answers at once is behind the greatest reading by
+/// no more than the skew.
+pub fn the_clients_events_keep_all_parts()
+    ensures { (greatest now : ℕ) (w : World) (by : Session) → WorldHolds greatest w →
+        (e : ClientEvent) → CanCome by e w.ends → greatest ≤ now + w.server.skew →
+        WorldHolds greatest (after_client by now e w) }
+{}
+
 /// At the start, with one new server, no session that has a lease and nothing on its way, all parts hold.
 pub fn the_first_world_has_all_parts()
     ensures { (skew term greatest : ℕ) → WorldHolds greatest (first_world skew term) }
+{}
+
+/// An entry is refused only where a lease that it used has no row, and that lease had ended at the server's reading, as
+/// long as no clock was ahead of the server's by more than the skew.
+pub fn a_refused_entry_had_ended()
+    ensures { (skew greatest now : ℕ) (s : Sight) (by : Session) (d : Settled) (e : Entry)
+        (u : Use) → SessionFits skew greatest s by d → In e d.log →
+        first_gone s.rows by e.uses ≡ Some u → greatest ≤ now + skew →
+        HadEnded s.rows now e u }
+{}
+
+/// Whatever happens, in whatever order: every event of a run keeps all that holds.
+pub fn every_run_keeps_all_parts()
+    ensures { (greatest : ℕ) (events : List Dated) (w : World) → WorldHolds greatest w →
+        IsRun greatest events w → WorldHolds (greatest_in greatest events) (run events w) }
+{}
+
+/// The journal of every run is one serial run of the namespace, in the order of each session, to the space that the server
+/// holds, which is sound; and what each session was told is what the journal has, as far as the journal goes.
+pub fn every_run_is_one_serial_run()
+    ensures { (skew term : ℕ) (events : List Dated) → IsRun 0 events (first_world skew term) →
+        IsOneSerialRun (run events (first_world skew term)) }
 {}

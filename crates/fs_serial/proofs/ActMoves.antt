@@ -1,0 +1,177 @@
+-- What a client makes of an operation.
+use Rattle.std.proofs.Common.{◌≡◌, ℕ, ◌+◌, ◌≤◌, ◌==◌, not, ◌&&◌, Bool, true, false, List, [], ◌∷◌, cond, refl, sym, ap, subst}
+use Rattle.std.specs.Prelude.{Option, Some, None, is_some}
+use Rattle.fs_ident.specs.declared.actor.Peer.TheVariants.{Client as OfSession}
+use Rattle.fs_ident.specs.declared.actor.Session.{Session}
+use Rattle.fs_ident.proofs.Booleans.{both}
+use Rattle.fs_field.specs.declared.asked.Need.{Need}
+use Rattle.fs_field.specs.declared.asked.Need.TheVariants as need
+use Rattle.fs_model.specs.Asking.{may_ask}
+use Rattle.fs_model.specs.Sound.{is_change}
+use Rattle.fs_model.specs.Step.{is_empty}
+use Rattle.fs_model.specs.declared.op.Op.{Op}
+use Rattle.fs_model.specs.declared.op.Op.TheVariants as op
+use Rattle.fs_model.specs.declared.reply.Reply.{Reply}
+use Rattle.fs_msg.specs.declared.act.Act.{Act}
+use Rattle.fs_msg.specs.declared.act.Act.TheVariants as act
+use Rattle.fs_msg.specs.declared.act.Busy.TheVariants as busy
+use Rattle.fs_msg.specs.declared.answer.Answer.{Answer}
+use Rattle.fs_msg.specs.declared.client_msg.ClientMsg.{ClientMsg}
+use Rattle.fs_msg.specs.declared.item.Item.{Item}
+use Rattle.fs_record.specs.Effects.{tells_its_effects}
+use Rattle.fs_server.specs.Ships.{item_of}
+use Rattle.fs_client.specs.Acts.{act_on, answer_with, answers, ask_for, asks, entry_of, fresh_asked, full_one, items_of, reads, replies, stays, with_id, worth}
+use Rattle.fs_client.specs.Client.{changed}
+use Rattle.fs_client.specs.declared.change.Change.TheVariants as change
+use Rattle.fs_client.specs.declared.plan.Plan.{Plan}
+use Rattle.fs_client.specs.declared.state.Client.{Client}
+use Rattle.fs_view.specs.View.{given_by, known_by, missing_in, reply_in}
+use Rattle.fs_serial.specs.Fresh.{FreshReserved, Reserves, reserved_by}
+use Rattle.fs_serial.specs.Numbers.{items_by}
+use Rattle.fs_serial.specs.Parts.{ServersHold, ServersFit}
+use Rattle.fs_serial.specs.Settled.{Settled, settled_now}
+use Rattle.fs_serial.specs.Sight.{Sight}
+use Rattle.fs_serial.specs.Steps.{IsReadNow, IsReplied}
+use Rattle.fs_serial.specs.World.{is_called, message_in, pushed, told_by}
+use Rattle.fs_serial.proofs.ClientSteps.{IsMoved, with_journal}
+use Rattle.fs_serial.proofs.Facts.{items-other}
+use Rattle.fs_serial.proofs.PlainAsks.{asks_plain}
+use Rattle.fs_serial.proofs.Read.{read_made, read_reserved, read_serial, seat_read, settled_number}
+use Rattle.fs_serial.proofs.ReplyAll.{replied_settled}
+use Rattle.fs_serial.proofs.ReplySeat.{seat_reply}
+use Rattle.fs_serial.proofs.Seats.{Seat, few}
+use Rattle.fs_serial.proofs.Sends.{ArePlain, seat_asks}
+
+-- what a caller asks for is plain
+called_plainly : (o : Op) → is_called o ≡ true → (tells_its_effects o ≡ true) × (may_ask o ≡ true)
+called_plainly (op.Lookup dir name) h = (refl, refl)
+called_plainly (op.List dir) h = (refl, refl)
+called_plainly (op.Kind file) h = (refl, refl)
+called_plainly (op.Info file) h = (refl, refl)
+called_plainly (op.Create dir name kind None) h = (refl, refl)
+called_plainly (op.Create dir name kind (Some id)) h = absurd (cc)
+called_plainly o h = absurd (cc)
+
+empty_is : {X : Type 0} (xs : List X) → is_empty xs ≡ true → xs ≡ []
+empty_is [] h = refl
+empty_is (x ∷ xs) h = absurd (cc)
+
+none_is : {X : Type 0} (o : Option X) → is_some o ≡ false → o ≡ None
+none_is None h = refl
+none_is (Some x) h = absurd (cc)
+
+not_is : (b : Bool) → not b ≡ true → b ≡ false
+not_is true h = absurd (cc)
+not_is false h = refl
+
+-- what an item more does to the servers' parts
+pub record ServersMoved (s t : Sight) : Type 0 where
+  pub holds : ServersHold s → ServersHold t
+  pub fits : ServersFit s → ServersFit t
+  pub reserved : (clients : Session → Settled) → FreshReserved (reserved_by clients) s.records s.journal → FreshReserved (reserved_by clients) t.records t.journal
+
+-- what comes of a plan of the client, which has begun
+pub record IsPlanned {N : Type 0} (skew greatest : ℕ) (s : Sight) (by : Session) (replied : List Item) (c : Client) (up : List ClientMsg) (down rest : List Answer) (p : Plan N) : Type 0 where
+  pub now : p.ready.now ≡ c.last
+  pub moved : IsMoved skew greatest s (with_journal (pushed p.out.admitted s.journal) s) by replied c down (told_by by p.ready.change p.out.admitted) (record { client = changed p.ready.change c; up = pushed (message_in p.out.send) up; down = rest })
+  pub servers : ServersMoved s (with_journal (pushed p.out.admitted s.journal) s)
+  pub others : (x : Session) → (by.0 == x.0) ≡ false → items_by x (pushed p.out.admitted s.journal) ≡ items_by x s.journal
+
+pub servers_stay : (s : Sight) → ServersMoved s s
+servers_stay s = record { holds = λ h. h; fits = λ f. f; reserved = λ clients f. f }
+
+module _ (skew greatest : ℕ) (s : Sight) (by : Session) (replied : List Item) (c : Client) (up : List ClientMsg) (down : List Answer) (o : Op) (called : is_called o ≡ true) (within : greatest ≤ c.last + skew) (h : Seat skew greatest s by replied c up down) where
+  abbrev IsDone : Plan Act → Type 0
+  IsDone p = IsPlanned skew greatest s by replied c up down down p
+
+  stayed : (a : Act) → IsDone (stays a c)
+  stayed a = record { now = refl; moved = record { seat = h; reserves = λ n i r. r }; servers = servers_stay s; others = λ x q. refl }
+
+  -- ## Something is missing
+
+  full : (needs : List Need) → IsDone (full_one needs c)
+  full [] = stayed (act.NoIds [])
+  full (need.Lease field kind ∷ needs) = full needs
+  full (need.Fresh dir ∷ needs) = stayed (act.NoIds dir)
+
+  asking : (needs : List Need) → needs ≡ worth c.full (missing_in c.view c.last o) → c.exchange ≡ None → IsDone (asks needs c)
+  asking needs is idle = record {
+    now = refl;
+    moved = record {
+      seat = seat_asks skew greatest s by replied c up down (items_of needs) (fresh_asked needs) idle (subst (λ ns. ArePlain (items_of ns)) (sym is) (asks_plain (known_by c.view c.last) (given_by c.view c.last) c.full o called)) h;
+      reserves = λ n i r. r;
+    };
+    servers = servers_stay s;
+    others = λ x q. refl;
+  }
+
+  asked_for : (missing needs : List Need) → needs ≡ worth c.full (missing_in c.view c.last o) → IsDone (ask_for missing needs c)
+  asked_for missing [] is = full missing
+  asked_for missing (n ∷ ns) is = elim (is_some c.exchange) as (λ b. is_some c.exchange ≡ b → IsDone (cond b (stays (act.Busy busy.Exchange) c) (asks (n ∷ ns) c))) [
+    | true ↦ λ e. stayed (act.Busy busy.Exchange)
+    | false ↦ λ e. asking (n ∷ ns) is (none_is c.exchange e)
+  ] refl
+
+  -- ## Nothing is missing
+
+  replied_now : (r : Reply) → reply_in c.view c.last o ≡ Some r → IsReplied c down o r
+  replied_now r e = let q = called_plainly o called in record { plain = q.0; asked = q.1; reply = e; few = few skew greatest s by replied c up down h }
+
+  replying : (r : Reply) → reply_in c.view c.last o ≡ Some r → IsDone (replies o r c)
+  replying r e =
+      let a = replied_now r e in
+      record {
+        now = refl;
+        moved = record {
+          seat = seat_reply skew greatest s by replied c up down o r h a;
+          reserves = λ n i q. subst (λ (d : Settled). Reserves d.leases n i) (replied_settled by c down o r a h.client) q;
+        };
+        servers = servers_stay s;
+        others = λ x q. refl;
+      }
+
+  -- the read as the client hands it out
+  abbrev item_read : Reply → Item
+  item_read r = record { by = OfSession c.session; n = c.next; op = with_id c.view c.last o r; reply = r }
+
+  item_is : (r : Reply) → item_of by (entry_of o r c) ≡ item_read r
+  item_is r = ap (λ (x : Session). let y : Item = record { by = OfSession x; n = c.next; op = with_id c.view c.last o r; reply = r } in y) (sym h.client.session)
+
+  abbrev IsRead : Reply → Item → Type 0
+  IsRead r item = IsDone (record { ready = record { now = c.last; change = change.Read }; out = record { note = act.ReadNow c.next r; send = None; admitted = Some item } })
+
+  reading : (r : Reply) → reply_in c.view c.last o ≡ Some r → is_change r ≡ false → c.log ≡ [] → IsDone (reads o r c)
+  reading r e read empty =
+      let a = replied_now r e in
+      let t : IsReadNow skew greatest c r = record { read = read; empty = empty; within = within } in
+      let i = item_of by (entry_of o r c) in
+      subst (IsRead r) (item_is r) (record {
+        now = refl;
+        moved = record {
+          seat = seat_read skew greatest s by replied c up down o r h a t;
+          reserves = λ n j q. subst (λ (d : Settled). Reserves d.leases n j) (settled_number by (c.next + 1) down (settled_now c)) q;
+        };
+        servers = record {
+          holds = λ q. record { apart = q.apart; serial = read_serial skew greatest s by replied c up down o r h a t q };
+          fits = λ f. record { off_modes = f.off_modes; given = f.given; sound = f.sound; made = read_made skew greatest s by replied c up down o r h a t f.made };
+          reserved = λ clients. read_reserved skew greatest s by replied c up down o r h a t (reserved_by clients);
+        };
+        others = λ x q. items-other x s.journal i q;
+      })
+
+  answering : (r : Reply) → reply_in c.view c.last o ≡ Some r → IsDone (answers o r c)
+  answering r e = elim (not (is_change r) && is_empty c.log) as (λ b. (not (is_change r) && is_empty c.log) ≡ b → IsDone (cond b (reads o r c) (replies o r c))) [
+    | true ↦ λ q. let p = both (not (is_change r)) (is_empty c.log) q in reading r e (not_is (is_change r) p.0) (empty_is c.log p.1)
+    | false ↦ λ q. replying r e
+  ] refl
+
+  answered_with : (r : Option Reply) → reply_in c.view c.last o ≡ r → IsDone (answer_with r o c)
+  answered_with (Some r) e = answering r e
+  answered_with None e = asked_for (missing_in c.view c.last o) (worth c.full (missing_in c.view c.last o)) refl
+
+  on : (over : Option ℕ) → IsDone (act_on over o c)
+  on (Some n) = stayed (act.Over n)
+  on None = answered_with (reply_in c.view c.last o) refl
+
+  pub act_moved : IsDone (act_on c.over o c)
+  act_moved = on c.over

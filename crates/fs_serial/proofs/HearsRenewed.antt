@@ -1,0 +1,359 @@
+-- A client hears the new ends of leases.
+use Rattle.std.proofs.Common.{◌≡◌, ℕ, ◌+◌, ◌<◌, not, Bool, true, false, List, [], ◌∷◌, map, refl, sym, ap, ◌∙◌, subst, inl, inr, cond, arith}
+use Rattle.std.specs.Prelude.{◌≢◌, Option, Some, None, is_some, find, option_map}
+use Rattle.std.specs.Option.{option_map_or}
+use Rattle.std.specs.List.{filter_map, cons_option}
+use Rattle.fs_ident.specs.In.{In}
+use Rattle.fs_ident.specs.declared.actor.LeaseNo.{LeaseNo}
+use Rattle.fs_ident.specs.declared.actor.Session.{Session}
+use Rattle.fs_ident.proofs.Passing.{found}
+use Rattle.fs_ident.proofs.Standing.{In-filter, In-map}
+use Rattle.fs_field.specs.declared.row.Row.{Row}
+use Rattle.fs_field.specs.declared.used.Use.{Use}
+use Rattle.fs_field.specs.declared.value.Value.{Value}
+use Rattle.fs_field.specs.Field.{file_of}
+use Rattle.fs_field.specs.Table.{same_no}
+use Rattle.fs_lease.specs.Lease.{Lease as Term}
+use Rattle.fs_model.specs.declared.op.Op.{Op}
+use Rattle.fs_model.specs.declared.op.Op.TheVariants as op
+use Rattle.fs_model.specs.declared.reply.Reply.{Reply}
+use Rattle.fs_model.specs.declared.reply.Reply.TheVariants as reply
+use Rattle.fs_msg.specs.declared.answer.Answer.{Answer}
+use Rattle.fs_msg.specs.declared.answer.Answer.TheVariants.{Renewed}
+use Rattle.fs_msg.specs.declared.client_msg.ClientMsg.{ClientMsg}
+use Rattle.fs_msg.specs.declared.end.End.{End}
+use Rattle.fs_msg.specs.declared.entry.Entry.{Entry}
+use Rattle.fs_msg.specs.declared.item.Item.{Item}
+use Rattle.fs_record.specs.ValueOf.{value_of}
+use Rattle.fs_client.specs.Client.{renewed_one, renewed_all, with_renewed}
+use Rattle.fs_client.specs.declared.state.Client.{Client}
+use Rattle.fs_view.specs.declared.kept.Kept.{Kept}
+use Rattle.fs_view.specs.declared.kept.Standing.{Standing}
+use Rattle.fs_view.specs.declared.kept.Standing.TheVariants.{Held, Pinned, Leaving}
+use Rattle.fs_view.specs.Kept.{number_of, has_number, is_leaving, is_held, entries_of, lease_of, renewed}
+use Rattle.fs_view.specs.View.{View, stands, with_end, without_lease}
+use Rattle.fs_view.proofs.Places.{same_no_is}
+use Rattle.fs_serial.specs.Client.{ClientFits, times_in}
+use Rattle.fs_serial.specs.Exchange.{ExchangeFits, ReturnFits, ReturnsFit}
+use Rattle.fs_serial.specs.Leases.{IsBacked, IsRowOf, IsFresh}
+use Rattle.fs_serial.specs.Parts.{SessionHolds, SessionFits}
+use Rattle.fs_serial.specs.Pending.{HasLease, UsesHeld, IsEntry, NamesItsFile, HasReserved}
+use Rattle.fs_serial.specs.Settled.{Lease, Settled, lease_in, settled_now}
+use Rattle.fs_serial.specs.Sight.{Sight, IsGiven}
+use Rattle.fs_serial.specs.Fresh.{Reserves}
+use Rattle.fs_serial.specs.World.{HasNumber}
+use Rattle.fs_serial.proofs.Carried.{FewerLeases}
+use Rattle.fs_serial.proofs.Facts.{In-mapped, each_image}
+use Rattle.fs_serial.proofs.Fewer.{HasFewer, fewer_holds, fewer_fits}
+use Rattle.fs_serial.proofs.Heard.{IsHeard, heard, quiet_exchange}
+use Rattle.fs_serial.proofs.Knowing.{In-filter_map, from-filter_map}
+use Rattle.fs_serial.proofs.Lapse.{IsUsed, its_number, used_in}
+use Rattle.fs_serial.proofs.ReplyPins.{distinct_mapped}
+use Rattle.fs_serial.proofs.RowKinds.{In-kept}
+use Rattle.fs_serial.proofs.Seats.{Seat, seen_at, settled_none}
+
+-- ## A lease with another end
+
+abbrev pub retimed : LeaseNo → ℕ → Lease → Lease
+retimed n until l = cond (same_no l.no n) (record l { until = until }) l
+
+-- all but the end stays
+stays : {X : Type 0} (f : Lease → X) → ((l : Lease) (until : ℕ) → f (record l { until = until }) ≡ f l) → (n : LeaseNo) (until : ℕ) (l : Lease) → f (retimed n until l) ≡ f l
+stays f h n until l = within (same_no l.no n)
+  where
+    within : (b : Bool) → f (cond b (let x : Lease = record l { until = until } in x) l) ≡ f l
+    within true = h l until
+    within false = refl
+
+-- the end is the new one, or stays
+pub ends_at : (n : LeaseNo) (until : ℕ) (l : Lease) (P : ℕ → Type 0) → (l.no ≡ n → P until) → P l.until → P (retimed n until l).until
+ends_at n until l P new old = within (same_no l.no n) refl
+  where
+    within : (b : Bool) → same_no l.no n ≡ b → P (cond b (let x : Lease = record l { until = until } in x) l).until
+    within true t = new (same_no_is l.no n t)
+    within false t = old
+
+abbrev with_until : LeaseNo → ℕ → Settled → Settled
+with_until n until d = record d { leases = map (retimed n until) d.leases }
+
+module _ (skew greatest : ℕ) (s : Sight) (by : Session) (replied : List Item) (n : LeaseNo) (until : ℕ) (d : Settled) (backs : (l : Lease) → In l d.leases → l.no ≡ n → greatest < until + skew → IsBacked s.rows n until) where
+  no_same : (l : Lease) → (retimed n until l).no ≡ l.no
+  no_same = stays (λ l. l.no) (λ l u. refl) n until
+
+  field_same : (l : Lease) → (retimed n until l).field ≡ l.field
+  field_same = stays (λ l. l.field) (λ l u. refl) n until
+
+  kind_same : (l : Lease) → (retimed n until l).kind ≡ l.kind
+  kind_same = stays (λ l. l.kind) (λ l u. refl) n until
+
+  base_same : (l : Lease) → (retimed n until l).base ≡ l.base
+  base_same = stays (λ l. l.base) (λ l u. refl) n until
+
+  below_same : (l : Lease) → (retimed n until l).below ≡ l.below
+  below_same = stays (λ l. l.below) (λ l u. refl) n until
+
+  retimed_holds : SessionHolds skew greatest s by replied d → SessionHolds skew greatest s by replied (with_until n until d)
+  retimed_holds h = record {
+    backed = each_image (retimed n until) (λ l. greatest < l.until + skew → IsBacked s.rows l.no l.until) d.leases (λ l i.
+        subst (λ m. greatest < (retimed n until l).until + skew → IsBacked s.rows m (retimed n until l).until) (sym (no_same l))
+        (ends_at n until l (λ u. greatest < u + skew → IsBacked s.rows l.no u) (λ e live. subst (λ m. IsBacked s.rows m until) (sym e) (backs l i e live)) (h.backed l i)));
+    telling = each_image (retimed n until) (λ l. (r : Row) → In r s.rows → r.no ≡ l.no → l.base ≡ value_of s.records by l.field) d.leases (λ l i r j e. base_same l ∙ h.telling l i r j (e ∙ no_same l) ∙ ap (value_of s.records by) (sym (field_same l)));
+    pending = h.pending;
+    numbers = h.numbers;
+    replies = h.replies;
+  }
+
+  held : UsesHeld d.leases d.log → UsesHeld (map (retimed n until) d.leases) d.log
+  held h x i u j =
+      let q : HasLease d.leases u = h x i u j in
+      record { lease = retimed n until q.lease; held = In-mapped (retimed n until) q.lease d.leases q.held; number = no_same q.lease ∙ q.number; field = field_same q.lease ∙ q.field; kind = kind_same q.lease ∙ q.kind }
+
+  named : (uses : List Use) (o : Op) (r : Reply) → NamesItsFile d.leases uses o r → NamesItsFile (map (retimed n until) d.leases) uses o r
+  named uses (op.Create dir name kind (Some id)) reply.Made p =
+      let q : HasReserved d.leases uses dir id = p.reserved in
+      record {
+        reserved = record { lease = retimed n until q.lease; held = In-mapped (retimed n until) q.lease d.leases q.held; below = below_same q.lease ∙ q.below; field = field_same q.lease ∙ q.field; used = q.used; among = q.among; number = q.number ∙ sym (no_same q.lease) };
+        child = p.child;
+      }
+  named uses (op.Create dir name kind None) reply.Made p = p
+  named uses (op.Create dir name kind (Some id)) r p = p
+  named uses o r p = p
+
+  fresh_same : (dir : List ℕ) (l : Lease) → IsFresh dir l → IsFresh dir (retimed n until l)
+  fresh_same dir l f = record { number = f.number; field = field_same l ∙ f.field; kind = kind_same l ∙ f.kind; base = base_same l ∙ f.base }
+
+  retimed_fits : SessionFits skew greatest s by d → SessionFits skew greatest s by (with_until n until d)
+  retimed_fits f = record {
+    given = each_image (retimed n until) (λ l. IsGiven s.given l.no) d.leases (λ l i. subst (IsGiven s.given) (sym (no_same l)) (f.given l i));
+    distinct = λ l m i j e.
+        let p = In-map (retimed n until) l d.leases i in
+        let q = In-map (retimed n until) m d.leases j in
+        p.1.1 ∙ ap (retimed n until) (f.distinct p.0 q.0 p.1.0 q.1.0 (sym (no_same p.0) ∙ ap (λ (x : Lease). x.no) (sym p.1.1) ∙ e ∙ ap (λ (x : Lease). x.no) q.1.1 ∙ no_same q.0)) ∙ sym q.1.1;
+    matching = each_image (retimed n until) (λ l. (r : Row) → In r s.rows → r.no ≡ l.no → IsRowOf by l.field l.kind r) d.leases (λ l i r j e.
+        let q : IsRowOf by l.field l.kind r = f.matching l i r j (e ∙ no_same l) in record { session = q.session; field = q.field ∙ sym (field_same l); kind = q.kind ∙ sym (kind_same l) });
+    fresh = each_image (retimed n until) (λ l. (dir : List ℕ) → l.below ≡ Some dir → IsFresh dir l) d.leases (λ l i dir b. fresh_same dir l (f.fresh l i dir (sym (below_same l) ∙ b)));
+    held = held f.held;
+    backed = f.backed;
+    entries = λ x i. let q : IsEntry d.leases x = f.entries x i in record { plain = q.plain; access = q.access; named = named x.uses x.op x.reply q.named };
+    once = f.once;
+    refused = f.refused;
+  }
+
+-- ## One pair of an answer
+
+abbrev one_end : LeaseNo → ℕ → Kept → Kept
+one_end n until k = cond (has_number n k) (record k { standing = renewed until k.standing }) k
+
+end_number : (until : ℕ) (s : Standing) → number_of (renewed until s) ≡ number_of s
+end_number until (Held l) = refl
+end_number until (Pinned u) = refl
+end_number until (Leaving l) = refl
+
+end_leaving : (until : ℕ) (s : Standing) → is_leaving (renewed until s) ≡ is_leaving s
+end_leaving until (Held l) = refl
+end_leaving until (Pinned u) = refl
+end_leaving until (Leaving l) = refl
+
+end_entries : (until : ℕ) (s : Standing) → entries_of (renewed until s) ≡ entries_of s
+end_entries until (Held l) = refl
+end_entries until (Pinned u) = refl
+end_entries until (Leaving l) = refl
+
+one_keeps : {X : Type 0} (f : Standing → X) (until : ℕ) → ((s : Standing) → f (renewed until s) ≡ f s) → (n : LeaseNo) (k : Kept) → f (one_end n until k).standing ≡ f k.standing
+one_keeps f until h n k = within (has_number n k)
+  where
+    within : (b : Bool) → f (cond b (let x : Kept = record k { standing = renewed until k.standing } in x) k).standing ≡ f k.standing
+    within true = h k.standing
+    within false = refl
+
+abbrev lease_by : Value → Option (List ℕ) → Term → Lease
+lease_by base below l = record { no = l.no; field = l.field; kind = l.kind; until = l.until; base = base; below = below }
+
+end_parts : (n : LeaseNo) (until : ℕ) (b : Bool) (s : Standing) (base : Value) (below : Option (List ℕ)) → same_no (number_of s) n ≡ b → option_map (lease_by base below) (lease_of (cond b (renewed until s) s)) ≡ option_map (retimed n until) (option_map (lease_by base below) (lease_of s))
+end_parts n until true (Held l) base below e = ap (λ c. Some (cond c (let x : Lease = record { no = l.no; field = l.field; kind = l.kind; until = until; base = base; below = below } in x) (lease_by base below l))) (sym e)
+end_parts n until true (Pinned u) base below e = ap (λ c. Some (cond c (let x : Lease = record { no = u.lease.no; field = u.lease.field; kind = u.lease.kind; until = until; base = base; below = below } in x) (lease_by base below u.lease))) (sym e)
+end_parts n until true (Leaving l) base below e = refl
+end_parts n until false (Held l) base below e = ap (λ c. Some (cond c (let x : Lease = record { no = l.no; field = l.field; kind = l.kind; until = until; base = base; below = below } in x) (lease_by base below l))) (sym e)
+end_parts n until false (Pinned u) base below e = ap (λ c. Some (cond c (let x : Lease = record { no = u.lease.no; field = u.lease.field; kind = u.lease.kind; until = until; base = base; below = below } in x) (lease_by base below u.lease))) (sym e)
+end_parts n until false (Leaving l) base below e = refl
+
+end_in : (n : LeaseNo) (until : ℕ) (k : Kept) → lease_in (one_end n until k) ≡ option_map (retimed n until) (lease_in k)
+end_in n until k = within (has_number n k) refl
+  where
+    within : (b : Bool) → has_number n k ≡ b → lease_in (cond b (let x : Kept = record k { standing = renewed until k.standing } in x) k) ≡ option_map (retimed n until) (lease_in k)
+    within true e = end_parts n until true k.standing k.base k.below e
+    within false e = end_parts n until false k.standing k.base k.below e
+
+end_leases : (n : LeaseNo) (until : ℕ) (ks : List Kept) → filter_map lease_in (map (one_end n until) ks) ≡ map (retimed n until) (filter_map lease_in ks)
+end_leases n until [] = refl
+end_leases n until (k ∷ ks) = ap (λ o. cons_option o (filter_map lease_in (map (one_end n until) ks))) (end_in n until k) ∙ ap (cons_option (option_map (retimed n until) (lease_in k))) (end_leases n until ks) ∙ joined (lease_in k) (filter_map lease_in ks)
+  where
+    joined : (o : Option Lease) (ls : List Lease) → cons_option (option_map (retimed n until) o) (map (retimed n until) ls) ≡ map (retimed n until) (cons_option o ls)
+    joined None ls = refl
+    joined (Some l) ls = refl
+
+-- ## All pairs, one after another
+
+-- what holds of the client with this view
+pub record HasView (skew greatest : ℕ) (s : Sight) (by : Session) (replied : List Item) (c : Client) (v : View) : Type 0 where
+  pub holds : SessionHolds skew greatest s by replied (settled_now (record c { view = v }))
+  pub fits : SessionFits skew greatest s by (settled_now (record c { view = v }))
+  pub client : ClientFits by (record c { view = v })
+  pub returns : ReturnsFit s.given s.rows by v.leases (filter_map lease_in v.leases)
+  pub fewer : FewerLeases (settled_now c).leases (filter_map lease_in v.leases)
+  pub reserves : (n : LeaseNo) (i : List ℕ) → Reserves (filter_map lease_in v.leases) n i → Reserves (settled_now c).leases n i
+
+held_none : (s : Standing) → is_held s ≡ true → entries_of s ≡ 0
+held_none (Held l) h = refl
+held_none (Pinned u) h = absurd (cc)
+held_none (Leaving l) h = absurd (cc)
+
+not_held : (s : Standing) → is_leaving s ≡ true → is_held s ≡ false
+not_held (Held l) h = absurd (cc)
+not_held (Pinned u) h = absurd (cc)
+not_held (Leaving l) h = refl
+
+-- the lease of that number is held
+pub record IsHeldThere (ks : List Kept) (n : LeaseNo) : Type 0 where
+  pub kept : Kept
+  pub among : In kept ks
+  pub number : number_of kept.standing ≡ n
+  pub held : is_held kept.standing ≡ true
+
+the_held : (ks : List Kept) (n : LeaseNo) (o : Option Kept) → find (has_number n) ks ≡ o → stands is_held n ks ≡ true → IsHeldThere ks n
+the_held ks n None e t = absurd (let q : false ≡ true = ap (λ o. option_map_or (λ (k : Kept). is_held k.standing) o false) (sym e) ∙ t in cc)
+the_held ks n (Some k) e t =
+    let q = found (has_number n) ks k e in
+    record { kept = k; among = q.0; number = same_no_is (number_of k.standing) n q.1; held = ap (λ o. option_map_or (λ (k : Kept). is_held k.standing) o false) (sym e) ∙ t }
+
+differs : (b : Bool) → (b ≡ true → ⊥) → b ≡ false
+differs true h = absurd (h refl)
+differs false h = refl
+
+other_number : (n : LeaseNo) (log : List Entry) (k : Kept) (l : Lease) → times_in n log ≡ 0 → IsUsed log l.no → number_of k.standing ≡ l.no → not (has_number n k) ≡ true
+other_number n log k l none u e = ap not (differs (has_number n k) (λ p. let more = used_in n log u.entry u.logged u.used u.among (u.number ∙ sym e ∙ same_no_is (number_of k.standing) n p) in absurd (omega arith)))
+
+module _ (skew greatest : ℕ) (s : Sight) (by : Session) (replied : List Item) (c : Client) (v : View) (n : LeaseNo) (h : HasView skew greatest s by replied c v) where
+  abbrev at : Client
+  at = record c { view = v }
+
+  -- a later end, which the row has too
+  end_told : (until : ℕ) → ((l : Lease) → In l (settled_now at).leases → l.no ≡ n → greatest < until + skew → IsBacked s.rows n until) → HasView skew greatest s by replied c (with_end n until v)
+  end_told until backs =
+      let d : Settled = settled_now at in
+      let same : map (retimed n until) (filter_map lease_in v.leases) ≡ filter_map lease_in (map (one_end n until) v.leases) = sym (end_leases n until v.leases) in
+      let seen : with_until n until d ≡ settled_now (record c { view = with_end n until v }) = ap (λ ls. let x : Settled = record { leases = ls; log = c.log; next = c.next; over = c.over } in x) same in
+      let by_lease : (l : Lease) → In l d.leases → l.no ≡ n → greatest < until + skew → IsBacked s.rows n until = backs in
+      let number : (k : Kept) → number_of (one_end n until k).standing ≡ number_of k.standing = one_keeps number_of until (end_number until) n in
+      record {
+        holds = subst (SessionHolds skew greatest s by replied) seen (retimed_holds skew greatest s by replied n until d by_lease h.holds);
+        fits = subst (SessionFits skew greatest s by) seen (retimed_fits skew greatest s by replied n until d by_lease h.fits);
+        client = record {
+          session = h.client.session;
+          viewed = h.client.viewed;
+          pending = h.client.pending;
+          distinct = distinct_mapped (one_end n until) number v.leases h.client.distinct;
+          pinned = each_image (one_end n until) (λ k. entries_of k.standing ≡ times_in (number_of k.standing) c.log) v.leases (λ k i. one_keeps entries_of until (end_entries until) n k ∙ h.client.pinned k i ∙ ap (λ m. times_in m c.log) (sym (number k)));
+          held = subst (λ ls. UsesHeld ls c.log) same (held skew greatest s by replied n until d by_lease h.client.held);
+        };
+        returns = each_image (one_end n until) (λ k. is_leaving k.standing ≡ true → ReturnFits s.given s.rows by (filter_map lease_in (map (one_end n until) v.leases)) (number_of k.standing)) v.leases (λ k i t.
+            let q : ReturnFits s.given s.rows by (filter_map lease_in v.leases) (number_of k.standing) = h.returns k i (sym (one_keeps is_leaving until (end_leaving until) n k) ∙ t) in
+            subst (ReturnFits s.given s.rows by (filter_map lease_in (map (one_end n until) v.leases))) (sym (number k)) (record {
+              known = q.known;
+              alone = subst (λ ls. (l : Lease) → In l ls → l.no ≢ number_of k.standing) same (each_image (retimed n until) (λ l. l.no ≢ number_of k.standing) (filter_map lease_in v.leases) (λ l j e. q.alone l j (sym (no_same skew greatest s by replied n until d by_lease l) ∙ e)));
+              own = q.own;
+            }));
+        fewer = subst (λ ls. (l : Lease) → In l ls → HasNumber (settled_now c).leases l.no) same (each_image (retimed n until) (λ l. HasNumber (settled_now c).leases l.no) (filter_map lease_in v.leases) (λ l i. subst (HasNumber (settled_now c).leases) (sym (no_same skew greatest s by replied n until d by_lease l)) (h.fewer l i)));
+        reserves = λ m i r.
+            let q = In-map (retimed n until) r.lease (filter_map lease_in v.leases) (subst (In r.lease) (sym same) r.held) in
+            let t : (l : Lease) → (retimed n until l).no ≡ l.no = no_same skew greatest s by replied n until d by_lease in
+            h.reserves m i (record {
+              lease = q.0;
+              held = q.1.0;
+              number = sym (t q.0) ∙ ap (λ (l : Lease). l.no) (sym q.1.1) ∙ r.number;
+              fresh = ap is_some (sym (below_same skew greatest s by replied n until d by_lease q.0)) ∙ ap (λ (l : Lease). is_some l.below) (sym q.1.1) ∙ r.fresh;
+              file = ap file_of (sym (field_same skew greatest s by replied n until d by_lease q.0)) ∙ ap (λ (l : Lease). file_of l.field) (sym q.1.1) ∙ r.file;
+            });
+      }
+
+  -- a lease whose row is gone, and that no entry uses
+  gone_told : stands is_held n v.leases ≡ true → HasView skew greatest s by replied c (without_lease n v)
+  gone_told t =
+      let d : Settled = settled_now at in
+      let w : View = without_lease n v in
+      let was : (k : Kept) → In k w.leases → In k v.leases = λ k i. In-filter (λ k. not (has_number n k)) k v.leases i in
+      let first : IsHeldThere v.leases n = the_held v.leases n (find (has_number n) v.leases) refl t in
+      let unused : times_in n c.log ≡ 0 = ap (λ m. times_in m c.log) (sym first.number) ∙ sym (h.client.pinned first.kept first.among) ∙ held_none first.kept.standing first.held in
+      let g : HasFewer (IsUsed c.log) d (settled_now (record c { view = w })) = record {
+        log = refl;
+        next = refl;
+        over = refl;
+        fewer = λ l i. let q = from-filter_map lease_in l w.leases i in In-filter_map lease_in q.0 l v.leases (was q.0 q.1) q.2;
+        still = λ l i u. let q = from-filter_map lease_in l v.leases i in In-filter_map lease_in q.0 l w.leases (In-kept (λ k. not (has_number n k)) q.0 v.leases q.1 (other_number n c.log q.0 l unused u (its_number q.0 l q.2))) q.2;
+      } in
+      let used : (x : Entry) → In x c.log → (u : Use) → In u x.uses → IsUsed c.log u.no = λ x i u j. record { entry = x; logged = i; used = u; among = j; number = refl } in
+      record {
+        holds = fewer_holds skew greatest s by replied (IsUsed c.log) d (settled_now (record c { view = w })) g used h.holds;
+        fits = fewer_fits skew greatest s by replied (IsUsed c.log) d (settled_now (record c { view = w })) g used h.fits;
+        client = record {
+          session = h.client.session;
+          viewed = h.client.viewed;
+          pending = h.client.pending;
+          distinct = λ k l i j. h.client.distinct k l (was k i) (was l j);
+          pinned = λ k i. h.client.pinned k (was k i);
+          held = λ x i u j. let q : HasLease d.leases u = h.client.held x i u j in record { lease = q.lease; held = g.still q.lease q.held (record { entry = x; logged = i; used = u; among = j; number = sym q.number }); number = q.number; field = q.field; kind = q.kind };
+        };
+        returns = λ k i l. let q = h.returns k (was k i) l in record { known = q.known; alone = λ m j. q.alone m (g.fewer m j); own = q.own };
+        fewer = λ l i. h.fewer l (g.fewer l i);
+        reserves = λ m i r. h.reserves m i (record { lease = r.lease; held = g.fewer r.lease r.held; number = r.number; fresh = r.fresh; file = r.file });
+      }
+
+gone_if : (skew greatest : ℕ) (s : Sight) (by : Session) (replied : List Item) (c : Client) (v : View) (n : LeaseNo) (b : Bool) → stands is_held n v.leases ≡ b → HasView skew greatest s by replied c v → HasView skew greatest s by replied c (cond b (without_lease n v) v)
+gone_if skew greatest s by replied c v n true e h = gone_told skew greatest s by replied c v n h e
+gone_if skew greatest s by replied c v n false e h = h
+
+-- a later end that is told has its row, where the client has the lease
+abbrev EndsBacked : ℕ → ℕ → List Row → List Lease → List (LeaseNo × Option ℕ) → Type 0
+EndsBacked skew greatest rows leases ends = (n : LeaseNo) (until : ℕ) → In (n, Some until) ends → HasNumber leases n → greatest < until + skew → IsBacked rows n until
+
+all_told : (skew greatest : ℕ) (s : Sight) (by : Session) (replied : List Item) (c : Client) (ends : List (LeaseNo × Option ℕ)) (v : View) → EndsBacked skew greatest s.rows (settled_now c).leases ends → HasView skew greatest s by replied c v → HasView skew greatest s by replied c (renewed_all ends v)
+all_told skew greatest s by replied c [] v backs h = h
+all_told skew greatest s by replied c (r ∷ rs) v backs h = all_told skew greatest s by replied c rs (renewed_one r.0 r.1 v) (λ n until i. backs n until (inr i)) (one r.1 refl)
+  where
+    one : (o : Option ℕ) → r.1 ≡ o → HasView skew greatest s by replied c (renewed_one r.0 o v)
+    one (Some until) e = end_told skew greatest s by replied c v r.0 h until (λ l i same. let q = h.fewer l i in backs r.0 until (inl (ap (λ o. (r.0, o)) (sym e))) (record { lease = q.lease; held = q.held; number = q.number ∙ same }))
+    one None e = gone_if skew greatest s by replied c v r.0 (stands is_held r.0 v.leases) refl h
+
+renewed_view : (skew greatest : ℕ) (s : Sight) (by : Session) (replied : List Item) (c : Client) (up : List ClientMsg) (ends : List (LeaseNo × Option ℕ)) (e : End) (rest : List Answer) → Seat skew greatest s by replied c up (Renewed ends e ∷ rest) → HasView skew greatest s by replied c (with_renewed ends c).view
+renewed_view skew greatest s by replied c up ends e rest h =
+    let w : IsHeard c up (Renewed ends e) rest = heard c c.exchange up (Renewed ends e) rest refl refl h.exchange.one in
+    let still : seen_at by c (Renewed ends e ∷ rest) ≡ settled_now c = settled_none by rest (settled_now c) w.quiet in
+    all_told skew greatest s by replied c ends c.view (λ n until i x live. h.exchange.renewals ends e (inl refl) n until i x.lease x.held x.number live) (record {
+      holds = subst (SessionHolds skew greatest s by replied) still h.holds;
+      fits = subst (SessionFits skew greatest s by) still h.fits;
+      client = h.client;
+      returns = subst (λ (d : Settled). ReturnsFit s.given s.rows by c.view.leases d.leases) still h.exchange.returns;
+      fewer = λ l i. record { lease = l; held = i; number = refl };
+      reserves = λ n i r. r;
+    })
+
+pub seat_renewed : (skew greatest : ℕ) (s : Sight) (by : Session) (replied : List Item) (c : Client) (up : List ClientMsg) (ends : List (LeaseNo × Option ℕ)) (e : End) (rest : List Answer) → Seat skew greatest s by replied c up (Renewed ends e ∷ rest) → Seat skew greatest s by replied (with_renewed ends c) up rest
+seat_renewed skew greatest s by replied c up ends e rest h =
+    let w : IsHeard c up (Renewed ends e) rest = heard c c.exchange up (Renewed ends e) rest refl refl h.exchange.one in
+    let then_ : Client = with_renewed ends c in
+    let q : HasView skew greatest s by replied c then_.view = renewed_view skew greatest s by replied c up ends e rest h in
+    let now : seen_at by then_ rest ≡ settled_now then_ = settled_none by rest (settled_now then_) w.quiet in
+    record {
+      holds = subst (SessionHolds skew greatest s by replied) (sym now) q.holds;
+      fits = subst (SessionFits skew greatest s by) (sym now) q.fits;
+      client = record { session = q.client.session; viewed = q.client.viewed; pending = q.client.pending; distinct = q.client.distinct; pinned = q.client.pinned; held = q.client.held };
+      exchange = subst (λ up. ExchangeFits skew greatest s.given s.rows by then_ up rest (settled_now then_) (seen_at by then_ rest)) (sym w.asked)
+          (quiet_exchange skew greatest s.given s.rows by then_ rest (settled_now then_) (seen_at by then_ rest) refl w.quiet (subst (λ (d : Settled). ReturnsFit s.given s.rows by then_.view.leases d.leases) (sym now) q.returns));
+    }
+
+-- no identifier is reserved that was not
+pub renewed_reserves : (skew greatest : ℕ) (s : Sight) (by : Session) (replied : List Item) (c : Client) (up : List ClientMsg) (ends : List (LeaseNo × Option ℕ)) (e : End) (rest : List Answer) → Seat skew greatest s by replied c up (Renewed ends e ∷ rest) → (n : LeaseNo) (i : List ℕ) → Reserves (seen_at by (with_renewed ends c) rest).leases n i → Reserves (seen_at by c (Renewed ends e ∷ rest)).leases n i
+renewed_reserves skew greatest s by replied c up ends e rest h n i r =
+    let w : IsHeard c up (Renewed ends e) rest = heard c c.exchange up (Renewed ends e) rest refl refl h.exchange.one in
+    let q = renewed_view skew greatest s by replied c up ends e rest h in
+    subst (λ (d : Settled). Reserves d.leases n i) (sym (settled_none by rest (settled_now c) w.quiet)) (q.reserves n i (subst (λ (d : Settled). Reserves d.leases n i) (settled_none by rest (settled_now (with_renewed ends c)) w.quiet) r))

@@ -1,0 +1,5 @@
+use Rattle.fs_serial.proofs.AllRuns.{all_runs}
+use Rattle.fs_serial.proofs.law.every_run_is_one_serial_run.Goals as goal
+
+pub returns : goal.returns
+returns c = all_runs

@@ -1,0 +1,5 @@
+use Rattle.fs_serial.proofs.ClientEvents.{client_keeps}
+use Rattle.fs_serial.proofs.law.the_clients_events_keep_all_parts.Goals as goal
+
+pub returns : goal.returns
+returns c = client_keeps
