@@ -1,6 +1,6 @@
 -- One session: its client, and what is on its way between it and the server.
 use Rattle.std.proofs.Common.{◌≡◌, ℕ, ◌+◌, ◌≤◌, true, List, [], ◌∷◌, length, refl, ap, ◌∙◌, inl, inr, arith}
-use Rattle.std.specs.Prelude.{Option, Some, None, nat_le}
+use Rattle.std.specs.Prelude.{◌==◌, ◌&&◌, Option, Some, None, nat_le}
 use Rattle.std.proofs.lemmas.Bool.Decides.{nat_tests}
 use Rattle.fs_ident.specs.declared.actor.Session.{Session}
 use Rattle.fs_ident.proofs.Booleans.{first, second}
@@ -74,8 +74,8 @@ at_most a b h = grind (arith, nat_tests)
 
 few_by : (c : Client) (x : Exchange) (a : Answer) → answer_fits 0 x a c ≡ true → ShipsLog (Some x) c.log → admitted_in (a ∷ []) ≤ length c.log
 few_by c (Ships to sent) (Shipped count end) h n =
-    let le : nat_le count sent ≡ true = first (nat_le count sent) (refusal_fits end count c.log) (second _ _ h) in
-    let p = at_most count sent le in omega arith
+    let le : nat_le count sent ≡ true = first (nat_le count sent) (refusal_fits end count c.log) (second (to == 0) (nat_le count sent && refusal_fits end count c.log) h) in
+    let p : count ≤ sent = at_most count sent le in omega arith
 few_by c (Asks to items fresh) (Granted grants given end) h n = omega arith
 few_by c (Renews to numbers) (Renewed rows end) h n = omega arith
 few_by c (Releases to numbers) (Released count end) h n = omega arith

@@ -56,7 +56,8 @@ pub fn a_reply_keeps_the_parts()
         (with_client by (settled by down (settled_now (changed (replies o r c).ready.change c)))
         clients) }
     ensures client { (by : Session) (c : Client) (down : List Answer) (o : Op) (r : Reply) →
-        IsReplied c down o r → ClientFits by c → ClientFits by (changed (replies o r c).ready.change c) }
+        IsReplied c down o r → ClientFits by c →
+        ClientFits by (changed (replies o r c).ready.change c) }
 {}
 
 /// Every event of the server, a question of a session that is on its way among them, keeps all that holds of the server
