@@ -1,5 +1,5 @@
 -- All links of one actor.
-use Rattle.std.specs.Prelude.{ℕ, ◌≡◌, ◌≤◌, Bool, true, List, [], ◌∷◌, length, map, flat_map, Option, Some, None, unwrap_or, false}
+use Rattle.std.specs.Prelude.{ℕ, ◌≡◌, ◌≤◌, Bool, true, List, [], length, map, flat_map, Option, Some, None, unwrap_or, false}
 use Rattle.std.specs.FinMap.Entries.{find, put}
 use Rattle.fs_ident.specs.In.{In}
 use Rattle.fs_ident.specs.declared.actor.Peer.{Peer}
@@ -77,11 +77,6 @@ got_from s from = (link_with s from).window.got
 -- a message is pushed to an actor
 abbrev pub post_pushed : Links → Peer → List ℕ → Links
 post_pushed s to message = with_link s to (link_pushed (link_with s to) message)
-
--- messages are pushed, one after another
-abbrev pub post_pushed_all : Links → List (Peer × List ℕ) → Links
-post_pushed_all s [] = s
-post_pushed_all s (m ∷ ms) = post_pushed_all (post_pushed s m.0 m.1) ms
 
 -- a packet of an actor comes
 pub record Accepted : Type 0 where
