@@ -13,6 +13,7 @@ const IN_DIRECTORY: u32 = 64;
 
 /// The one reading of all events, and the term of all leases.
 const NOW: u64 = 1;
+
 const TERM: u64 = 1_000_000;
 
 const SESSION: Session = Session(1);
@@ -29,7 +30,13 @@ pub fn run(alloc: Global, files: u32, rounds: u32, makes: bool) -> Result<(), Co
     }
     for k in 0..rounds {
         if makes {
-            made(alloc, &mut server, &dir, k.saturating_add(files), Kind::File)?;
+            made(
+                alloc,
+                &mut server,
+                &dir,
+                k.saturating_add(files),
+                Kind::File,
+            )?;
         } else {
             asked(alloc, &mut server, &dir, k)?;
         }
@@ -87,11 +94,13 @@ fn granted(
         fresh: Some(dir.copy(alloc)?),
     };
     match told(alloc, server, ask)? {
-        Some(Answer::Granted {
-            grants,
-            fresh,
-            end: _,
-        }) => match fresh {
+        Some(
+            Answer::Granted {
+                grants,
+                fresh,
+                end: _,
+            },
+        ) => match fresh {
             Some(id) => Ok((grants, id)),
             None => Ok((grants, FileId::root(alloc))),
         },
