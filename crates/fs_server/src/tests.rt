@@ -213,6 +213,31 @@ fn leases_are_asked_back(rt: HostRuntime) -> Result<(), Fail> {
     Ok(())
 }
 
+/// The life of the root's first child, which is not there.
+fn life_of_first(alloc: Global) -> Result<(Field, LeaseKind), Fail> {
+    let first = FileId::root(alloc).child(alloc, 1)?;
+    Ok((Field::Life(first), LeaseKind::Shared))
+}
+
+const PASSES: &str =
+    "ServerOut { note: Grants { count: 2, end: All }, send: List { items: [(Client(Session(2)), Answer(Granted { \
+    grants: List { items: [Grant { no: LeaseNo { server: 0, count: 2 }, field: Life(FileId { numbers: [] }), kind: Shared, \
+    until: 100, value: Life(Some(Dir)) }, Grant { no: LeaseNo { server: 0, count: 3 }, field: Life(FileId { numbers: [2] }), \
+    kind: Exclusive, until: 100, value: Life(None) }] }, fresh: Some(FileId { numbers: [2] }), end: All }))] }, admitted: \
+    List { items: [] } }";
+
+/// A number of a new file that a row bears is passed over.
+#[test]
+fn a_number_that_a_row_bears_is_passed_over(rt: HostRuntime) -> Result<(), Fail> {
+    let alloc = rt.alloc();
+    let mut core = server(alloc)?;
+    let first = ask(alloc, 1, life_of_first(alloc)?, None, false);
+    noted(&mut core, alloc, 0, first)?;
+    let text = told(&mut core, alloc, 0, ask(alloc, 2, life(alloc), None, true))?;
+    assert_eq!(rt; text.as_str(), PASSES);
+    Ok(())
+}
+
 /// The first lease with its file, and one that was never given.
 fn pairs(alloc: Global) -> Result<List<(FileId, LeaseNo)>, Fail> {
     let mut pairs = List::new(alloc);
