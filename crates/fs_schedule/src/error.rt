@@ -15,6 +15,8 @@ pub enum Which {
     Sessions,
     /// Events of a schedule, 65,536.
     Events,
+    /// Packets that were sent, 1,048,576.
+    Packets,
 }
 
 impl fmt::Display for Which {
@@ -28,6 +30,7 @@ impl fmt::Display for Which {
             Which::Bytes => f.write_str("bytes"),
             Which::Sessions => f.write_str("sessions"),
             Which::Events => f.write_str("events"),
+            Which::Packets => f.write_str("packets"),
         }
     }
 }
@@ -41,6 +44,9 @@ pub enum ScheduleError {
     /// The first faulty line passes a limit.
     #[error("line {at} passes the limit of {which}")]
     Limit { which: Which, at: u64 },
+    /// All lines pass, and the line's reading is more than the skew before that of an earlier one.
+    #[error("line {line} is more than the skew before line {earlier}")]
+    Skewed { line: u64, earlier: u64 },
     /// Memory is wanting.
     #[error("memory is wanting")]
     Memory,

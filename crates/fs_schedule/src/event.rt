@@ -1,5 +1,6 @@
 //! Schedules and their events.
-use fs_ident::{List, Memory, Session, Twin};
+use fs_field::Field;
+use fs_ident::{List, Memory, Peer, Session, Twin};
 use fs_model::Op;
 use std::alloc::Global;
 
@@ -8,6 +9,8 @@ use std::alloc::Global;
 pub enum Head {
     /// The one-machine namespace.
     Direct,
+    /// So many servers, and clients. How far two clocks may differ, and how long a lease lasts, in milliseconds.
+    Servers { servers: u8, skew: u64, term: u64 },
 }
 
 /// What happens.
@@ -17,6 +20,12 @@ pub enum What {
     Join(Session),
     /// The session's user asks for an operation.
     Do(Session, Op),
+    /// The packet of that number reaches its addressee; without a number, the least one that was never told.
+    Tell(Option<u64>),
+    /// A turn of the actor.
+    Turn(Peer),
+    /// The server asks for the leases on the field.
+    Recall(u8, Field),
 }
 
 /// One event, at a reading of a clock in milliseconds, at most 10^15.
@@ -38,6 +47,9 @@ impl Twin for What {
         match self {
             What::Join(session) => Ok(What::Join(*session)),
             What::Do(session, op) => Ok(What::Do(*session, op.copy(alloc)?)),
+            What::Tell(number) => Ok(What::Tell(*number)),
+            What::Turn(who) => Ok(What::Turn(*who)),
+            What::Recall(server, field) => Ok(What::Recall(*server, field.copy(alloc)?)),
         }
     }
 
