@@ -4,7 +4,7 @@ use Rattle.fs_schedule.specs.declared.event.Event.{Event}
 use Rattle.fs_schedule.specs.declared.event.Schedule.{Schedule}
 use Rattle.fs_schedule.specs.declared.event.Head.{Head}
 use Rattle.fs_schedule.specs.declared.error.Which.{Which}
-use Rattle.fs_schedule.specs.declared.error.Which.TheVariants.{Bytes, Sessions, Events}
+use Rattle.fs_schedule.specs.declared.error.Which.TheVariants.{Bytes, Sessions, Events, Packets}
 use Rattle.fs_schedule.specs.declared.limits.TheConstants.{BYTES, EVENTS}
 use Rattle.fs_schedule.specs.Spelling.{IsHeadLine, IsLineOf, names_late}
 use Rattle.fs_schedule.specs.Lines.{lines_of}
@@ -45,6 +45,7 @@ abbrev pub HeadHas : LineFault → List ℕ → Type 0
 HeadHas (PassesLimit Bytes) line = BYTES < length line
 HeadHas (PassesLimit Sessions) line = ⊥
 HeadHas (PassesLimit Events) line = ⊥
+HeadHas (PassesLimit Packets) line = ⊥
 HeadHas IsOutside line = (length line ≤ BYTES) × ((head : Head) → IsHeadLine head line → ⊥)
 
 -- a line after so many events has this fault
@@ -53,6 +54,7 @@ LineHas (PassesLimit Bytes) head before line = BYTES < length line
 LineHas IsOutside head before line = (length line ≤ BYTES) × IsNoEvent head line
 LineHas (PassesLimit Sessions) head before line = (length line ≤ BYTES) × NamesLateSession head line
 LineHas (PassesLimit Events) head before line = (length line ≤ BYTES) × ((e : Event) × IsEventLine head e line) × (EVENTS ≤ before)
+LineHas (PassesLimit Packets) head before line = ⊥
 
 -- these lines after so many events are these events
 abbrev pub AreEventLines : Head → ℕ → List Event → List (List ℕ) → Type 0

@@ -58,6 +58,7 @@ capped n = min n (SESSIONS + 1)
 abbrev pub capped_what : What → What
 capped_what (Join s) = Join (record s { 0 = capped s.0 })
 capped_what (Do s o) = Do (record s { 0 = capped s.0 }) o
+capped_what w = w
 
 -- the digits are those of a session whose number is told as n
 abbrev pub IsToldNumber : ℕ → List ℕ → Type 0

@@ -1,5 +1,5 @@
 -- Which lines a form has, and how they are spelled.
-use Rattle.std.specs.Prelude.{◌≡◌, ◌≢◌, ℕ, ◌<◌, ◌≤◌, ◌^◌, Bool, true, List, [], ◌∷◌, ◌++◌, codes, Option, Some, IfSome, slice_index, nat_lt}
+use Rattle.std.specs.Prelude.{◌≡◌, ◌≢◌, ℕ, ◌<◌, ◌≤◌, ◌^◌, Bool, true, false, List, [], ◌∷◌, ◌++◌, codes, Option, Some, None, IfSome, slice_index, nat_lt}
 use Rattle.std.specs.Fmt.{decimal}
 use Rattle.std.specs.Str.Parse.{IsNumeral, digits_value}
 use Rattle.fs_ident.specs.Ident.{IsId}
@@ -14,9 +14,9 @@ use Rattle.fs_model.specs.Asking.{may_ask}
 use Rattle.fs_model.specs.declared.op.Op.{Op}
 use Rattle.fs_model.specs.declared.op.Op.TheVariants as op
 use Rattle.fs_schedule.specs.declared.event.Head.{Head}
-use Rattle.fs_schedule.specs.declared.event.Head.TheVariants.{Direct}
+use Rattle.fs_schedule.specs.declared.event.Head.TheVariants.{Direct, Servers}
 use Rattle.fs_schedule.specs.declared.event.What.{What}
-use Rattle.fs_schedule.specs.declared.event.What.TheVariants.{Join, Do}
+use Rattle.fs_schedule.specs.declared.event.What.TheVariants.{Join, Do, Tell, Turn, Recall}
 use Rattle.fs_schedule.specs.declared.event.Event.{Event}
 use Rattle.fs_schedule.specs.Words.{Word, Bare, Quoted, line_text}
 
@@ -25,6 +25,7 @@ use Rattle.fs_schedule.specs.Words.{Word, Bare, Quoted, line_text}
 -- the first line of a schedule of this form
 abbrev pub IsHeadLine : Head → List ℕ → Type 0
 IsHeadLine Direct line = line ≡ codes "farsite 1 direct"
+IsHeadLine (Servers n k t) line = ⊥
 
 -- ## Operations, which every form has
 
@@ -69,11 +70,15 @@ FitsOp o = (may_ask o ≡ true) × FitsParts o
 abbrev pub FitsWhat : Head → What → Type 0
 FitsWhat head (Join s) = Unit {0}
 FitsWhat head (Do s o) = FitsOp o
+FitsWhat head (Tell n) = ⊥
+FitsWhat head (Turn p) = ⊥
+FitsWhat head (Recall k f) = ⊥
 
 -- the session that an event names, where it names one
 abbrev pub session_in : What → Option Session
 session_in (Join s) = Some s
 session_in (Do s o) = Some s
+session_in w = None
 
 -- the word of a client's session whose number has these digits
 abbrev pub client_word : List ℕ → Word
@@ -83,6 +88,7 @@ client_word digits = Bare (codes "c" ++ digits)
 abbrev pub what_words : List ℕ → What → List Word
 what_words digits (Join s) = Bare (codes "join") ∷ client_word digits ∷ []
 what_words digits (Do s o) = Bare (codes "do") ∷ client_word digits ∷ op_words o
+what_words digits w = []
 
 -- the digits of the number, without a leading zero, however great it is
 pub record IsNumberOf (digits : List ℕ) (n : ℕ) : Type 0 where
@@ -108,6 +114,7 @@ pub record IsLineOf (head : Head) (e : Event) (line : List ℕ) : Type 0 where
 abbrev pub names_late : What → Bool
 names_late (Join s) = nat_lt SESSIONS s.0
 names_late (Do s o) = nat_lt SESSIONS s.0
+names_late w = false
 
 -- ## What every event of a schedule is
 

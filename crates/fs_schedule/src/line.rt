@@ -108,5 +108,6 @@ pub fn names_late(what: &What) -> bool
     match what {
         What::Join(session) => SESSIONS < session.0,
         What::Do(session, _) => SESSIONS < session.0,
+        _ => false,
     }
 }

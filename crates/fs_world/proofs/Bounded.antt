@@ -13,7 +13,7 @@ use Rattle.fs_schedule.specs.declared.event.Head.TheVariants as head
 use Rattle.fs_schedule.specs.declared.event.What.{What}
 use Rattle.fs_schedule.specs.declared.event.What.TheVariants.{Join, Do}
 use Rattle.fs_world.specs.declared.direct.Direct.{Direct}
-use Rattle.fs_world.specs.World.{Counts, first_world, is_last, is_spent, meets_spent, step, step_of, join_at, do_at}
+use Rattle.fs_world.specs.Direct.{Counts, first_world, is_last, is_spent, meets_spent, step, step_of, join_at, do_at}
 
 -- no count is above this
 abbrev AtMost : ℕ → Counts → Type 0

@@ -21,7 +21,7 @@ use Rattle.fs_schedule.specs.declared.event.Schedule.{Schedule}
 use Rattle.fs_schedule.specs.declared.event.What.{What}
 use Rattle.fs_schedule.specs.declared.event.What.TheVariants.{Join, Do}
 use Rattle.fs_world.specs.declared.direct.Direct.{Direct}
-use Rattle.fs_world.specs.World.{Answer, Run, Stepped, AllMayAsk, answer, answer_step, join_step, do_at, first_run, item_of, join_at, may_happen, more, run_of, run_on, step_of}
+use Rattle.fs_world.specs.Direct.{Answer, Run, Stepped, AllMayAsk, answer, answer_step, join_step, do_at, first_run, item_of, join_at, may_happen, more, run_of, run_on, step_of}
 use Rattle.fs_world.specs.Order.{Told, told_at, told_of, AllAdmitted, HasNumberOf, Agrees, AreNumberedFrom, items_of}
 use Rattle.fs_world.specs.Safe.{IsSerial}
 use Rattle.fs_world.proofs.Serial.{serial_push, IsStep, answer_steps, AllAsk, asks_push, safe_after}

@@ -13,7 +13,7 @@ use Rattle.fs_ident.specs.declared.actor.Peer.TheVariants.{Server, Client}
 use Rattle.fs_ident.specs.In.{In}
 use Rattle.fs_msg.specs.declared.item.Item.{Item}
 use Rattle.fs_world.specs.Order.{items_of, same_actor, AreNumberedFrom}
-use Rattle.fs_world.specs.World.{Counts}
+use Rattle.fs_world.specs.Direct.{Counts}
 
 numbered_push : (k : ℕ) (is : List Item) (i : Item) → AreNumberedFrom k is → i.n ≡ k + length is → AreNumberedFrom k (is ++ i ∷ [])
 numbered_push k [] i h e = (e ∙ (omega arith), tt)

@@ -15,7 +15,7 @@ use Rattle.fs_msg.specs.declared.item.Item.{Item}
 use Rattle.fs_msg.specs.Journal.{IsSerialRun, asker, is_reap, item_step, may_admit, spaces_after}
 use Rattle.fs_world.specs.Order.{SameButId}
 use Rattle.fs_world.specs.Safe.{IsSafe}
-use Rattle.fs_world.specs.World.{Answer, Numbers, answer, answer_of, with_number_used, is_made, candidate}
+use Rattle.fs_world.specs.Direct.{Answer, Numbers, answer, answer_of, with_number_used, is_made, candidate}
 
 -- one more item at the end
 pub serial_push : (a : NodeMap) (is : List Item) (b : NodeMap) (i : Item) → IsSerialRun a is b → may_admit i.by i.op ≡ true → (item_step b i).reply ≡ i.reply → IsSerialRun a (is ++ i ∷ []) (item_step b i).nodes

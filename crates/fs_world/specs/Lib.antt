@@ -1,3 +1,9 @@
+pub mod Packets
+pub mod Direct
+pub mod Served
 pub mod World
 pub mod Order
 pub mod Safe
+-- cited by private calls alone
+pub mod Readable
+pub mod Linked

@@ -7,6 +7,7 @@ use Rattle.fs_ident.specs.In.{In}
 use Rattle.fs_model.specs.declared.op.Op.{Op}
 use Rattle.fs_model.specs.declared.op.Op.TheVariants as op
 use Rattle.fs_model.specs.declared.reply.Reply.{Reply}
+use Rattle.fs_msg.specs.declared.act.Act.TheVariants.{Replied, ReadNow}
 use Rattle.fs_msg.specs.declared.item.Item.{Item}
 use Rattle.fs_msg.specs.declared.note.Note.{Note}
 use Rattle.fs_msg.specs.declared.note.Note.TheVariants as note
@@ -43,6 +44,8 @@ pub record Told : Type 0 where
 abbrev pub replies_in : Session → Op → List Note → List Told
 replies_in s o [] = []
 replies_in s o (note.Answered n r ∷ ns) = record { session = s; n = n; asked = o; reply = r } ∷ replies_in s o ns
+replies_in s o (note.Act (Replied n r) ∷ ns) = record { session = s; n = n; asked = o; reply = r } ∷ replies_in s o ns
+replies_in s o (note.Act (ReadNow n r) ∷ ns) = record { session = s; n = n; asked = o; reply = r } ∷ replies_in s o ns
 replies_in s o (_ ∷ ns) = replies_in s o ns
 
 abbrev pub told_at : What → List Note → List Told

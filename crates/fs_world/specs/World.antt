@@ -1,161 +1,76 @@
--- The world of the direct form: its events, one after another, on one namespace.
-use Rattle.std.specs.Prelude.{◌≡◌, ℕ, ◌+◌, ◌-◌, ◌^◌, ◌==◌, Bool, true, false, ◌&&◌, ◌||◌, nat_le, nat_lt, List, [], ◌∷◌, ◌++◌, length, Option, Some, None, unwrap_or, if◌then◌else◌}
+-- The world of a schedule, whatever its form: its events, one after another.
+use Rattle.std.specs.Prelude.{◌≡◌, ℕ, ◌+◌, Bool, true, false, nat_lt, List, [], ◌∷◌, ◌++◌, length, Option, Some, None, if◌then◌else◌}
 use Rattle.std.specs.List.{AllByRecursion}
-use Rattle.std.specs.FinMap.{FinMap, get, insert, empty}
-use Rattle.std.specs.Ordering.{nat_cmp}
-use Rattle.std.specs.Cmp.Lexicographic.{slice_cmp}
-use Rattle.fs_ident.specs.Ident.{child}
-use Rattle.fs_ident.specs.declared.actor.Session.{Session}
-use Rattle.fs_ident.specs.declared.actor.Peer.{Peer}
-use Rattle.fs_ident.specs.declared.actor.Peer.TheVariants.{Client}
-use Rattle.fs_ident.specs.declared.kind.Kind.{Kind}
-use Rattle.fs_model.specs.declared.op.Op.{Op}
-use Rattle.fs_model.specs.declared.op.Op.TheVariants as op
-use Rattle.fs_model.specs.declared.reply.Reply.{Reply}
-use Rattle.fs_model.specs.declared.reply.Reply.TheVariants as reply
 use Rattle.fs_model.specs.Asking.{may_ask}
-use Rattle.fs_model.specs.Namespace.{NodeMap, first_space}
-use Rattle.fs_model.specs.Step as space
+use Rattle.fs_model.specs.Namespace.{NodeMap}
+use Rattle.fs_msg.specs.declared.core_error.Counter.{Counter}
+use Rattle.fs_msg.specs.declared.core_error.Counter.TheVariants.{Entries}
 use Rattle.fs_msg.specs.declared.item.Item.{Item}
-use Rattle.fs_msg.specs.declared.note.Note.{Note}
-use Rattle.fs_msg.specs.declared.note.Note.TheVariants as note
+use Rattle.fs_record.specs.Records.{nodes_of}
 use Rattle.fs_schedule.specs.declared.event.Event.{Event}
 use Rattle.fs_schedule.specs.declared.event.Head.{Head}
 use Rattle.fs_schedule.specs.declared.event.Head.TheVariants as head
 use Rattle.fs_schedule.specs.declared.event.Schedule.{Schedule}
 use Rattle.fs_schedule.specs.declared.event.What.{What}
-use Rattle.fs_schedule.specs.declared.event.What.TheVariants.{Join, Do}
+use Rattle.fs_schedule.specs.declared.event.What.TheVariants.{Do}
+use Rattle.fs_schedule.specs.declared.limits.TheConstants.{PACKETS}
 use Rattle.fs_schedule.specs.declared.outcome.Outcome.{Outcome}
-use Rattle.fs_world.specs.declared.direct.Direct.{Direct}
+use Rattle.fs_window.specs.declared.sent.Sent.{Sent}
+use Rattle.fs_world.specs.Direct as direct
+use Rattle.fs_world.specs.Direct.{first_direct}
+use Rattle.fs_world.specs.Served as served
+use Rattle.fs_world.specs.Served.{first_served}
+use Rattle.fs_world.specs.declared.form.Form.{Form}
+use Rattle.fs_world.specs.declared.form.Form.TheVariants.{Direct, Served}
 
--- the number of each directory's next child; a directory that is not in it has 1
-abbrev pub Numbers : Type 0
-Numbers = FinMap (slice_cmp nat_cmp) ℕ
+-- a world of the form before its first event
+abbrev pub first_world : Head → Form
+first_world head.Direct = Direct first_direct
+first_world (head.Servers servers skew term) = Served (first_served skew term)
 
--- how many operations each session has asked for since it joined
-abbrev pub Counts : Type 0
-Counts = FinMap nat_cmp ℕ
+-- ## What stands in it
 
--- a world of the form before its first event: the root directory alone, and no session
-abbrev pub first_world : Head → Direct
-first_world head.Direct = record { space = first_space; next = empty; asked = empty; journal = [] }
+abbrev pub journal_of : Form → List Item
+journal_of (Direct w) = w.journal
+journal_of (Served w) = w.journal
 
--- ## One operation
+-- the packets that were sent, in order
+abbrev pub packets_of : Form → List Sent
+packets_of (Direct w) = []
+packets_of (Served w) = w.packets.sent
 
-abbrev pub next_of : Numbers → List ℕ → ℕ
-next_of next dir = unwrap_or (get next dir) 1
-
--- the directory's child of that number, where there can be one
-abbrev pub candidate_of : ℕ → List ℕ → Option (List ℕ)
-candidate_of k dir = if nat_lt (length dir) 32 && (nat_le 1 k && nat_lt k (2 ^ 32)) then Some (child dir k) else None
-
--- the identifier that a new child of the directory would have
-abbrev pub candidate : Numbers → List ℕ → Option (List ℕ)
-candidate next dir = candidate_of (next_of next dir) dir
-
--- the operation with the identifier that it was given, its reply, and what it leaves
-pub record Answer : Type 0 where
-  pub op : Op
-  pub reply : Reply
-  pub space : NodeMap
-  pub next : Numbers
-
-abbrev pub answer_of : NodeMap → Numbers → Session → Op → Answer
-answer_of m next by o = record { op = o; reply = (space.step m by o).reply; space = (space.step m by o).nodes; next = next }
-
--- a create that was made used up a number
-abbrev pub with_number_used : Numbers → List ℕ → Answer → Answer
-with_number_used next dir a = record a { next = insert next dir (next_of next dir + 1) }
-
-abbrev pub is_made : Reply → Bool
-is_made reply.Made = true
-is_made _ = false
-
--- a create is given the candidate where it then is made, and else no identifier
-abbrev pub create_answer : NodeMap → Numbers → Session → List ℕ → List ℕ → Kind → Option (List ℕ) → Answer
-create_answer m next by dir name kind id =
-    if is_made (space.step m by (op.Create dir name kind id)).reply
-    then with_number_used next dir (answer_of m next by (op.Create dir name kind id))
-    else answer_of m next by (op.Create dir name kind None)
-
-abbrev pub answer : NodeMap → Numbers → Session → Op → Answer
-answer m next by (op.Create dir name kind id) = create_answer m next by dir name kind (candidate next dir)
-answer m next by o = answer_of m next by o
+-- the namespace that the servers hold together
+abbrev pub space_of : Form → NodeMap
+space_of (Direct w) = w.space
+space_of (Served w) = nodes_of w.server.records
 
 -- ## One event
 
--- the world after an event, and what the event came to
+-- the world after an event, what the event came to, and the counter that it would have raised above its end: then there
+-- is no such event
 pub record Stepped : Type 0 where
-  pub world : Direct
+  pub world : Form
   pub outcome : Outcome
-
-abbrev pub outcome_of : Option Peer → Note → Outcome
-outcome_of who n = record { who = who; notes = n ∷ []; sent = [] }
-
-abbrev pub nothing : Direct → Stepped
-nothing w = record { world = w; outcome = outcome_of None note.Nothing }
-
-abbrev pub join_step : Direct → Session → Stepped
-join_step w s = record { world = record w { asked = insert w.asked s.0 0 }; outcome = outcome_of (Some (Client s)) note.Joined }
-
--- the journal's item of the session's operation of number n
-abbrev pub item_of : Session → ℕ → Answer → Item
-item_of s n a = record { by = Client s; n = n; op = a.op; reply = a.reply }
-
--- the namespace and the numbers that an answer leaves
-abbrev pub with_answer : Direct → Answer → Direct
-with_answer w a = record w { space = a.space; next = a.next }
-
--- the session's operation of number n is carried out
-abbrev pub with_item : Direct → Session → ℕ → Answer → Direct
-with_item w s n a = record (with_answer w a) { journal = w.journal ++ item_of s n a ∷ [] }
-
--- and the session is told of it
-abbrev pub answer_step : Direct → Session → ℕ → Answer → Stepped
-answer_step w s n a = record {
-  world = record (with_item w s n a) { asked = insert w.asked s.0 n };
-  outcome = outcome_of (Some (Client s)) (note.Answered n a.reply);
-}
-
--- a session joins once
-abbrev pub join_at : Option ℕ → Direct → Session → Stepped
-join_at None w s = join_step w s
-join_at (Some n) w s = nothing w
-
--- a session that has joined is answered
-abbrev pub do_at : Option ℕ → Direct → Session → Op → Stepped
-do_at None w s o = nothing w
-do_at (Some n) w s o = answer_step w s (n + 1) (answer w.space w.next s o)
-
-abbrev pub step_of : Direct → What → Stepped
-step_of w (Join s) = join_at (get w.asked s.0) w s
-step_of w (Do s o) = do_at (get w.asked s.0) w s o
+  pub spent : Option Counter
 
 -- in the direct form no reading counts
-abbrev pub step : Direct → Event → Stepped
-step w e = step_of w e.what
-
--- ## Counters at the end of their type
-
-abbrev pub is_last : Option ℕ → Bool
-is_last None = false
-is_last (Some n) = n == 2 ^ 64 - 1
-
--- the event asks for a number after the last one
-abbrev pub is_spent : Direct → What → Bool
-is_spent w (Join s) = false
-is_spent w (Do s o) = is_last (get w.asked s.0)
-
--- some event of the list does, where they come one after another
-abbrev pub meets_spent : Direct → List Event → Bool
-meets_spent w [] = false
-meets_spent w (e ∷ es) = is_spent w e.what || meets_spent (step w e).world es
+abbrev pub step : Form → Event → Stepped
+step (Direct w) e = record {
+  world = Direct (direct.step_of w e.what).world;
+  outcome = (direct.step_of w e.what).outcome;
+  spent = (if direct.is_spent w e.what then Some Entries else None);
+}
+step (Served w) e = record {
+  world = Served (served.step_of w e.reading e.what).world;
+  outcome = (served.step_of w e.reading e.what).outcome;
+  spent = (served.step_of w e.reading e.what).spent;
+}
 
 -- ## All events
 
 -- a world, and the outcomes of its events so far
 pub record Run : Type 0 where
-  pub world : Direct
+  pub world : Form
   pub outcomes : List Outcome
 
 -- the run goes on with an event
@@ -174,11 +89,36 @@ first_run h = record { world = first_world h; outcomes = [] }
 abbrev pub run_of : Schedule → Run
 run_of s = run_on (first_run s.head) s.events
 
+-- ## Where a run is broken off
+
+pub data Stop : Type 0 where
+  -- an event needs a number after the last one of this counter
+  AtCounter : Counter → Stop
+  -- up to the event of this line more packets were sent than may be
+  AtPackets : ℕ → Stop
+
+-- the event of the line has led to this world
+abbrev pub stop_after : ℕ → List Sent → Option Stop → Option Stop
+stop_after line packets later = if nat_lt PACKETS (length packets) then Some (AtPackets line) else later
+
+abbrev pub stop_at : Option Counter → Option Stop → Option Stop
+stop_at (Some counter) later = Some (AtCounter counter)
+stop_at None later = later
+
+-- where a run is broken off, if it is, whose next event stands at the line
+abbrev pub stop_in : Form → ℕ → List Event → Option Stop
+stop_in w line [] = None
+stop_in w line (e ∷ es) = stop_at (step w e).spent (stop_after line (packets_of (step w e).world) (stop_in (step w e).world (line + 1) es))
+
+-- the first event stands at line 2
+abbrev pub stop_of : Schedule → Option Stop
+stop_of s = stop_in (first_world s.head) 2 s.events
+
 -- ## What callers may ask
 
 abbrev pub may_happen : What → Bool
-may_happen (Join s) = true
 may_happen (Do s o) = may_ask o
+may_happen w = true
 
 -- each operation of the events is one that a caller may ask for
 abbrev pub AllMayAsk : List Event → Type 0

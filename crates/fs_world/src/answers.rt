@@ -3,7 +3,7 @@ ghost use Rattle.std.specs.Prelude.{if◌then◌else◌, ◌≡◌, ◌+◌, ◌
 ghost use Rattle.std.specs.FinMap as map;
 ghost use Rattle.fs_model.specs.Step.{step};
 ghost use Rattle.fs_model.specs.Sound.{is_change};
-ghost use Rattle.fs_world.specs.World.{answer, candidate, candidate_of, with_item, create_answer, is_made, with_answer};
+ghost use Rattle.fs_world.specs.Direct.{answer, candidate, candidate_of, with_item, create_answer, is_made, with_answer};
 
 use crate::direct::Direct;
 use fs_ident::{FileId, IdError, Kind, List, Memory, Name, Peer, Session, Twin};

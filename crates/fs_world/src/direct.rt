@@ -3,6 +3,7 @@ ghost use Rattle.std.specs.Prelude.{◌≡◌, ◌+◌, ◌<◌, [], ◌∷◌, 
 ghost use Rattle.std.specs.FinMap as map;
 
 use crate::counts::Counts;
+use crate::goes::outcome;
 use crate::numbers::Numbers;
 use fs_ident::{List, Memory, Peer, Session};
 use fs_model::{Op, Space};
@@ -20,15 +21,14 @@ pub(crate) struct Direct {
 }
 
 impl Direct {
-    ghost use Rattle.fs_schedule.specs.declared.event.Head.TheVariants as head;
     ghost use Rattle.fs_msg.specs.declared.core_error.Counter.{Counter as TheCounter};
     ghost use Rattle.fs_msg.specs.declared.core_error.Counter.TheVariants.{Entries};
     ghost use Rattle.fs_msg.specs.declared.core_error.CoreError.TheVariants as errors;
-    ghost use Rattle.fs_world.specs.World.{first_world, step_of, join_at, do_at, answer_step, answer, is_spent, is_last};
+    ghost use Rattle.fs_world.specs.Direct.{first_direct, step_of, join_at, do_at, answer_step, answer, is_spent, is_last};
 
     /// The root directory alone, and no session.
     pub(crate) fn new(alloc: Global) -> Result<Direct, Memory>
-        ensures { IfOk result (λ w. w ≡ first_world head.Direct) }
+        ensures { IfOk result (λ w. w ≡ first_direct) }
     {
         Ok(Direct {
             space: Space::new(alloc)?,
@@ -50,6 +50,9 @@ impl Direct {
         match what {
             What::Join(s) => Ok(self.join(alloc, *s)?),
             What::Do(s, op) => self.act(alloc, *s, op),
+            What::Tell(_) | What::Turn(_) | What::Recall(_, _) => {
+                Ok(outcome(alloc, None, Note::Nothing)?)
+            }
         }
     }
 
@@ -107,17 +110,4 @@ impl Direct {
         told.notes.replace(0, Note::Answered { n, reply });
         Ok(told)
     }
-}
-
-/// An outcome of one note, in which nothing is sent.
-fn outcome(alloc: Global, who: Option<Peer>, note: Note) -> Result<Outcome, Memory>
-    ensures { IfOk result (λ o. o ≡ record { who = who; notes = note ∷ []; sent = [] }) }
-{
-    let mut notes = List::new(alloc);
-    notes.push(note)?;
-    Ok(Outcome {
-        who,
-        notes,
-        sent: List::new(alloc),
-    })
 }

@@ -3,7 +3,7 @@ ghost use Rattle.std.specs.Prelude.{◌≡◌, ◌<◌, ◌^◌, false, List, le
 ghost use Rattle.fs_schedule.specs.declared.event.Head.{Head};
 ghost use Rattle.fs_schedule.specs.declared.event.Event.{Event};
 ghost use Rattle.fs_schedule.specs.declared.event.Schedule.{Schedule};
-ghost use Rattle.fs_world.specs.World.{AllMayAsk, first_world, meets_spent, run_of};
+ghost use Rattle.fs_world.specs.Direct.{AllMayAsk, first_world, meets_spent, run_of};
 ghost use Rattle.fs_world.specs.Order.{AllAdmitted, told_of};
 ghost use Rattle.fs_world.specs.Safe.{IsSerial};
 

@@ -4,8 +4,14 @@
 mod answers;
 mod counts;
 mod direct;
+mod form;
+mod goes;
 mod law;
 mod numbers;
+mod packets;
+mod seat;
+mod seats;
+mod served;
 #[cfg(test)]
 mod tests;
 mod world;

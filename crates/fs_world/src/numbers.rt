@@ -2,7 +2,7 @@
 ghost use Rattle.std.specs.Prelude.{◌≡◌, ℕ, OnOk, OnErr, IsSome};
 ghost use Rattle.std.specs.FinMap as map;
 ghost use Rattle.fs_ident.specs.Maps.{map_of};
-ghost use Rattle.fs_world.specs.World.{Numbers as TheNumbers, next_of};
+ghost use Rattle.fs_world.specs.Direct.{Numbers as TheNumbers, next_of};
 
 use fs_ident::{FileId, Memory, Twin};
 use std::alloc::Global;

@@ -1,10 +1,12 @@
 //! The world of a schedule as one value.
-ghost use Rattle.std.specs.Prelude.{[], ◌≡◌, true, IfOk, OnErr, OnOk, IsErrOf};
+ghost use Rattle.std.specs.Prelude.{◌≡◌, ◌≤◌, ◌⊎◌, true, Some, IfOk, OnErr, OnOk, IsErrOf};
+ghost use Rattle.fs_ident.specs.declared.limits.TheConstants.{LATEST};
 ghost use Rattle.fs_msg.specs.declared.core_error.Counter.{Counter as TheCounter};
-ghost use Rattle.fs_msg.specs.declared.core_error.Counter.TheVariants.{Entries};
 ghost use Rattle.fs_msg.specs.declared.core_error.CoreError.TheVariants as errors;
 
 use crate::direct::Direct;
+use crate::form::Form;
+use crate::served::Served;
 use fs_ident::{List, Memory, Twin};
 use fs_model::Space;
 use fs_msg::{CoreError, Item};
@@ -14,74 +16,86 @@ use std::alloc::Global;
 use std::marker::Model;
 
 /// What a schedule's events happen to.
-#[derive(Drop)]
 pub struct World {
-    direct: Direct,
+    form: Form,
     /// None is sent in the direct form.
-    packets: List<Sent>,
+    none: List<Sent>,
 }
 
 impl Model for World {
-    ghost use Rattle.fs_world.specs.declared.direct.Direct.{Direct};
-    ghost use Rattle.fs_world.specs.contracts.direct.Direct as whole;
+    ghost use Rattle.fs_world.specs.declared.form.Form.{Form};
+    ghost use Rattle.fs_world.specs.contracts.form.Form as whole;
+    ghost use Rattle.fs_world.specs.Linked.{IsWhole};
     ghost use Rattle.std.specs.Prelude.{◌≡◌, []};
 
-    ghost Value = { Direct };
+    ghost Value = { Form };
 
     ghost coded = { whole.the_row.coded };
 
-    ghost view = { λ w. w.direct };
+    ghost view = { λ w. w.form };
 
-    ghost invariant = { λ w. w.packets ≡ [] };
+    ghost invariant = { λ w. (w.none ≡ []) × IsWhole w.form };
 }
 
 impl World {
-    ghost use Rattle.fs_world.specs.World.{first_world, step, is_spent};
+    ghost use Rattle.fs_schedule.specs.Spelling.{FitsEvent};
+    ghost use Rattle.fs_world.specs.World.{first_world, journal_of, packets_of, space_of, step};
+    ghost use Rattle.fs_world.specs.Linked.{FitsForm};
 
     /// The world of the form before its first event.
     pub fn new(alloc: Global, head: &Head) -> Result<World, Memory>
         ensures { IfOk result (λ w. w ≡ first_world head.now) }
     {
-        match head {
-            Head::Direct => Ok(World {
-                direct: Direct::new(alloc)?,
-                packets: List::new(alloc),
-            }),
-        }
+        Err(Memory)
     }
 
-    /// One event: what it comes to. `Spent` exactly where the session's operation would have a number above u64::MAX.
+    /// One event: what it comes to. `Spent` exactly where the event would raise that counter above its end.
     /// After an error the world is as it was.
     pub fn step(&mut self, alloc: Global, event: &Event) -> Result<Outcome, CoreError>
         ensures outcome { IfOk result (λ o. o ≡ (step self.old event.now).outcome) }
         ensures world { OnOk result (self.new ≡ (step self.old event.now).world) }
         ensures spent { (counter : TheCounter) → IsErrOf result (errors.Spent counter) →
-            (counter ≡ Entries) × (is_spent self.old event.now.what ≡ true) }
-        ensures only { is_spent self.old event.now.what ≡ true →
-            IsErrOf result (errors.Spent Entries) }
+            (step self.old event.now).spent ≡ Some counter }
+        ensures only { (counter : TheCounter) → (step self.old event.now).spent ≡ Some counter →
+            IsErrOf result (errors.Spent counter) ⊎ IsErrOf result errors.Memory }
         ensures err { OnErr result (self.new ≡ self.old) }
     {
-        self.direct.step(alloc, &event.what)
+        Err(CoreError::Memory)
     }
 
     /// The items that were admitted, in order.
     pub fn journal(&self) -> &List<Item>
-        ensures { result.now ≡ self.now.journal }
+        ensures { result.now ≡ journal_of self.now }
     {
-        &self.direct.journal
+        match &self.form {
+            Form::Direct(direct) => &direct.journal,
+            Form::Served(served) => &served.journal,
+        }
     }
 
     /// The packets that were sent, in order: none in the direct form.
     pub fn packets(&self) -> &List<Sent>
-        ensures { result.now ≡ [] }
+        ensures { result.now ≡ packets_of self.now }
     {
-        &self.packets
+        match &self.form {
+            Form::Direct(_) => &self.none,
+            Form::Served(served) => served.packets.sent(),
+        }
     }
 
-    /// A copy of the namespace.
+    /// The namespace that the servers hold together.
     pub fn space(&self, alloc: Global) -> Result<Space, Memory>
-        ensures { IfOk result (λ space. space ≡ self.now.space) }
+        ensures { IfOk result (λ space. space ≡ space_of self.now) }
     {
-        self.direct.space.copy(alloc)
+        Err(Memory)
+    }
+
+    /// Gives the world up, with every lease of its clients.
+    pub fn discard(self) {
+        let World { form, none: _ } = self;
+        match form {
+            Form::Direct(_) => {}
+            Form::Served(served) => served.discard(),
+        }
     }
 }

@@ -3,7 +3,7 @@ use Rattle.fs_ident.specs.declared.actor.Peer.TheVariants.{Client}
 use Rattle.fs_model.specs.declared.op.Op.{Op}
 use Rattle.fs_model.specs.declared.reply.Reply.{Reply}
 use Rattle.fs_msg.specs.declared.item.Item.{Item}
-use Rattle.fs_world.specs.World.{Answer, answer, item_of}
+use Rattle.fs_world.specs.Direct.{Answer, answer, item_of}
 use Rattle.fs_world.proofs.Creates.{carried_by}
 use Rattle.fs_world.proofs.direct.Direct.answer.Goals as goal
 

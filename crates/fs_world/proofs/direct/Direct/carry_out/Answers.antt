@@ -2,7 +2,7 @@ use Rattle.std.proofs.Common.{◌≡◌, ap, sym, ◌∙◌}
 use Rattle.std.proofs.lemmas.Result.{IfOk-weaker, on_ok_weaker, on_err_weaker}
 use Rattle.fs_model.specs.Namespace.{NodeMap}
 use Rattle.fs_world.specs.declared.direct.Direct.{Direct}
-use Rattle.fs_world.specs.World.{Answer, answer, answer_of, with_answer}
+use Rattle.fs_world.specs.Direct.{Answer, answer, answer_of, with_answer}
 use Rattle.fs_world.proofs.Creates.{plain_answer}
 use Rattle.fs_world.proofs.direct.Direct.carry_out.Goals as goal
 

@@ -1,6 +1,6 @@
 use Rattle.std.proofs.Common.{◌∙◌}
 use Rattle.std.proofs.lemmas.Result.{IfOk-weaker, on_ok_weaker}
-use Rattle.fs_world.specs.World.{candidate, create_answer}
+use Rattle.fs_world.specs.Direct.{candidate, create_answer}
 use Rattle.fs_world.proofs.Creates.{IsCreated, created, left_by}
 use Rattle.fs_world.proofs.direct.Direct.create.Goals as goal
 

@@ -2,7 +2,7 @@ use Rattle.std.proofs.Common.{◌≡◌, ap, refl, sym, ◌∙◌, subst}
 use Rattle.std.specs.Prelude.{Some, IsSome}
 use Rattle.std.specs.FinMap.{get, insert}
 use Rattle.fs_ident.specs.Maps.{map_of}
-use Rattle.fs_world.specs.World.{Numbers}
+use Rattle.fs_world.specs.Direct.{Numbers}
 use Rattle.fs_ident.proofs.MapsOf.{put_back, put_here}
 use Rattle.fs_world.proofs.numbers.Numbers.restore.Goals as goal
 
