@@ -15,6 +15,7 @@ use Rattle.fs_schedule.specs.declared.event.What.{What}
 use Rattle.fs_schedule.specs.declared.event.What.TheVariants.{Do}
 use Rattle.fs_schedule.specs.declared.limits.TheConstants.{PACKETS}
 use Rattle.fs_schedule.specs.declared.outcome.Outcome.{Outcome}
+use Rattle.fs_serial.specs.World.{is_called}
 use Rattle.fs_window.specs.declared.sent.Sent.{Sent}
 use Rattle.fs_world.specs.Direct as direct
 use Rattle.fs_world.specs.Direct.{first_direct}
@@ -116,10 +117,12 @@ stop_of s = stop_in (first_world s.head) 2 s.events
 
 -- ## What callers may ask
 
-abbrev pub may_happen : What → Bool
-may_happen (Do s o) = may_ask o
-may_happen w = true
+-- an event of the form: with servers, callers ask for no open, close or set yet, nor for a delete or a rename
+abbrev pub may_happen : Head → What → Bool
+may_happen head.Direct (Do s o) = may_ask o
+may_happen (head.Servers servers skew term) (Do s o) = is_called o
+may_happen h w = true
 
 -- each operation of the events is one that a caller may ask for
-abbrev pub AllMayAsk : List Event → Type 0
-AllMayAsk events = AllByRecursion (λ (e : Event). may_happen e.what ≡ true) events
+abbrev pub AllMayHappen : Head → List Event → Type 0
+AllMayHappen h events = AllByRecursion (λ (e : Event). may_happen h e.what ≡ true) events
