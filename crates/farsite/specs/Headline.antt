@@ -1,39 +1,50 @@
--- What every schedule of the direct form comes to.
-use Rattle.std.specs.Prelude.{◌≡◌, ℕ, true, List, Option}
+-- What every schedule comes to.
+use Rattle.std.specs.Prelude.{◌≡◌, ℕ, true, List, Option, Some, None}
 use Rattle.std.specs.Io.KnownBytes.{Appends}
 use Rattle.fs_io.specs.Bytes.{IsPrefixWritten}
 use Rattle.fs_report.specs.Report.{report_text}
+use Rattle.fs_schedule.specs.declared.error.Which.{Which}
+use Rattle.fs_schedule.specs.declared.error.Which.TheVariants.{Packets}
+use Rattle.fs_schedule.specs.declared.event.Head.TheVariants.{Direct}
 use Rattle.fs_schedule.specs.declared.event.Schedule.{Schedule}
-use Rattle.fs_schedule.specs.Faults.{IsScheduleText}
+use Rattle.fs_schedule.specs.Faults.{AtLine, IsFirstFault, IsScheduleText, PassesLimit}
 use Rattle.fs_world.specs.Order.{AllAdmitted, told_of}
 use Rattle.fs_world.specs.Safe.{IsSerial}
-use Rattle.fs_world.specs.World.{Run, first_world, meets_spent, run_of}
+use Rattle.fs_world.specs.World.{Run, Stop, AtPackets, journal_of, run_of, space_of, stop_of}
 use Rattle.farsite.specs.declared.status.Status.{Status}
 use Rattle.farsite.specs.declared.status.Status.TheVariants as status
 
 abbrev pub report_of : Run → List ℕ
-report_of r = report_text r.outcomes r.world.journal r.world.space
+report_of r = report_text r.outcomes (journal_of r.world) (space_of r.world)
 
--- what was written is the report of the schedule that was read, its journal is serial, and has every reply that was told
+-- what was written is the report of the schedule that was read, whose run went to its end; its journal is serial, and in
+-- the direct form has every reply that was told
 pub record IsReplay (bytes : List ℕ) (before now : Option (List ℕ)) : Type 0 where
   pub schedule : Schedule
   pub read : IsScheduleText schedule bytes
+  pub whole : stop_of schedule ≡ None
   pub written : Appends before now (report_of (run_of schedule))
   pub headline : IsSerial schedule.events (run_of schedule)
-  pub admitted : AllAdmitted (run_of schedule).world.journal (told_of schedule.events (run_of schedule).outcomes)
+  pub admitted : schedule.head ≡ Direct → AllAdmitted (journal_of (run_of schedule).world) (told_of schedule.events (run_of schedule).outcomes)
 
 -- the bytes are a schedule, and a part of its report from the front on was written
 abbrev pub IsPartOfReplay : List ℕ → Option (List ℕ) → Option (List ℕ) → Type 0
 IsPartOfReplay bytes before now = (s : Schedule) × IsScheduleText s bytes × IsPrefixWritten before now (report_of (run_of s))
 
--- the bytes are a schedule, in whose run a counter is at its end
-abbrev pub MeetsSpent : List ℕ → Type 0
-MeetsSpent bytes = (s : Schedule) × IsScheduleText s bytes × (meets_spent (first_world s.head) s.events ≡ true)
+-- the bytes are a schedule, whose run is broken off there
+abbrev pub IsStopped : Stop → List ℕ → Type 0
+IsStopped stop bytes = (s : Schedule) × IsScheduleText s bytes × (stop_of s ≡ Some stop)
+
+-- the line passes the limit: that of packets where the run comes to it, and any other as it is read
+abbrev pub IsLimit : Which → ℕ → List ℕ → Type 0
+IsLimit Packets at bytes = IsStopped (AtPackets at) bytes
+IsLimit which at bytes = IsFirstFault (AtLine at (PassesLimit which)) bytes
 
 -- an input is read to its end, so that it is within the limit, where this is what comes of it
 abbrev pub IsReadWhole : Status → Type 0
 IsReadWhole status.Done = Unit {0}
 IsReadWhole (status.BadLine line) = Unit {0}
+IsReadWhole (status.Skewed line earlier) = Unit {0}
 IsReadWhole (status.Limit which at) = Unit {0}
 IsReadWhole (status.Spent counter) = Unit {0}
 IsReadWhole status.WriteFault = Unit {0}

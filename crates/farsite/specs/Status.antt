@@ -6,8 +6,9 @@ use Rattle.fs_schedule.specs.declared.error.ScheduleError.{ScheduleError}
 use Rattle.fs_schedule.specs.declared.error.ScheduleError.TheVariants as schedule
 use Rattle.fs_io.specs.declared.reading.ReadError.{ReadError}
 use Rattle.fs_io.specs.declared.reading.ReadError.TheVariants as reading
-use Rattle.fs_msg.specs.declared.core_error.CoreError.{CoreError}
-use Rattle.fs_msg.specs.declared.core_error.CoreError.TheVariants as core
+use Rattle.fs_schedule.specs.declared.error.Which.TheVariants.{Packets}
+use Rattle.farsite.specs.declared.run_error.RunError.{RunError}
+use Rattle.farsite.specs.declared.run_error.RunError.TheVariants as run
 use Rattle.farsite.specs.declared.status.Status.{Status}
 use Rattle.farsite.specs.declared.status.Status.TheVariants as status
 
@@ -16,6 +17,7 @@ abbrev pub number_of : Status → ℕ
 number_of status.Done = 0
 number_of (status.Usage word) = 2
 number_of (status.BadLine line) = 3
+number_of (status.Skewed line earlier) = 4
 number_of (status.Limit which at) = 5
 number_of (status.TooLong limit) = 6
 number_of status.ReadFault = 7
@@ -27,6 +29,7 @@ abbrev pub status_text : Status → List ℕ
 status_text status.Done = codes "done"
 status_text (status.Usage word) = codes "word " ++ decimal word ++ codes " is not understood"
 status_text (status.BadLine line) = codes "line " ++ decimal line ++ codes " is not in the grammar"
+status_text (status.Skewed line earlier) = codes "line " ++ (decimal line ++ (codes " is more than the skew before line " ++ decimal earlier))
 status_text (status.Limit which at) = codes "line " ++ (decimal at ++ (codes " passes the limit of " ++ which_text which))
 status_text (status.TooLong limit) = codes "the input has more than " ++ decimal limit ++ codes " bytes"
 status_text status.ReadFault = codes "the input could not be read"
@@ -44,9 +47,11 @@ read_status reading.Memory = status.Memory
 abbrev pub schedule_status : ScheduleError → Status
 schedule_status (schedule.BadLine line) = status.BadLine line
 schedule_status (schedule.Limit which at) = status.Limit which at
+schedule_status (schedule.Skewed line earlier) = status.Skewed line earlier
 schedule_status schedule.Memory = status.Memory
 
--- the status of a run that was not ended
-abbrev pub core_status : CoreError → Status
-core_status (core.Spent counter) = status.Spent counter
-core_status core.Memory = status.Memory
+-- the status of a run that was broken off
+abbrev pub run_status : RunError → Status
+run_status (run.Spent counter) = status.Spent counter
+run_status (run.Packets line) = status.Limit Packets line
+run_status run.Memory = status.Memory

@@ -4,6 +4,8 @@
 mod lines;
 mod page;
 mod replay;
+mod run;
+mod run_error;
 mod status;
 mod top;
 mod words;

@@ -1,46 +1,48 @@
 //! The report of a schedule.
-ghost use Rattle.std.specs.Prelude.{◌≡◌, ◌++◌, true, IfOk, OnOk, IsErrOf};
+ghost use Rattle.std.specs.Prelude.{◌≡◌, ◌++◌, IfOk, OnOk, None, Some, IsErrOf, ℕ};
+ghost use Rattle.std.specs.List.{AllByRecursion};
 ghost use Rattle.fs_msg.specs.declared.core_error.Counter.{Counter as TheCounter};
-ghost use Rattle.fs_msg.specs.declared.core_error.CoreError.TheVariants.{Spent};
 ghost use Rattle.fs_report.specs.Report.{outcomes_text, items_text, report_text};
-ghost use Rattle.fs_world.specs.World.{first_world, meets_spent, run_of};
+ghost use Rattle.fs_schedule.specs.Spelling.{FitsEvent, FitsHead};
+ghost use Rattle.fs_world.specs.World.{AtCounter, AtPackets, run_of, stop_of};
 ghost use Rattle.farsite.specs.Headline.{report_of};
+ghost use Rattle.farsite.specs.declared.run_error.RunError.TheVariants.{Packets, Spent};
 
+use crate::run::run;
+use crate::run_error::RunError;
 use fs_ident::{List, Memory};
 use fs_model::Space;
-use fs_msg::{CoreError, Item};
+use fs_msg::Item;
 use fs_report::{done_line, item_line, outcome_line, space_lines};
 use fs_schedule::{Outcome, Schedule};
 use fs_world::World;
 use std::alloc::Global;
 
-/// The report of the schedule's run. `Spent` where some event needs a number after a counter's last one.
-pub(crate) fn report_of(alloc: Global, schedule: &Schedule) -> Result<Vec<u8>, CoreError>
+/// The report of the schedule's run. `Spent` where an event needs a number after a counter's last one, `Packets` where more
+/// packets are sent than the limit.
+pub(crate) fn report_of(alloc: Global, schedule: &Schedule) -> Result<Vec<u8>, RunError>
+    requires head { FitsHead schedule.now.head }
+    requires events { AllByRecursion (FitsEvent schedule.now.head) schedule.now.events }
     ensures ok { IfOk result (λ v. v.items ≡ report_of (run_of schedule.now)) }
+    ensures whole { OnOk result (stop_of schedule.now ≡ None) }
     ensures spent { (counter : TheCounter) → IsErrOf result (Spent counter) →
-        meets_spent (first_world schedule.now.head) schedule.now.events ≡ true }
+        stop_of schedule.now ≡ Some (AtCounter counter) }
+    ensures packets { (line : ℕ) → IsErrOf result (Packets line) →
+        stop_of schedule.now ≡ Some (AtPackets line) }
 {
     let (world, told) = run(alloc, schedule)?;
-    let space = world.space(alloc)?;
-    Ok(written(alloc, &told, world.journal(), &space)?)
+    let report = report(alloc, &world, &told);
+    world.discard();
+    Ok(report?)
 }
 
-/// The world after the events of the schedule, and what each of them came to.
-fn run(alloc: Global, schedule: &Schedule) -> Result<(World, List<Outcome>), CoreError>
-    ensures world { IfOk result (λ r. r.0 ≡ (run_of schedule.now).world) }
-    ensures outcomes { IfOk result (λ r. r.1 ≡ (run_of schedule.now).outcomes) }
-    ensures spent { (counter : TheCounter) → IsErrOf result (Spent counter) →
-        meets_spent (first_world schedule.now.head) schedule.now.events ≡ true }
+/// The report of a world and of what its events came to.
+fn report(alloc: Global, world: &World, told: &List<Outcome>) -> Result<Vec<u8>, Memory>
+    ensures { IfOk result (λ v. v.items ≡
+        report_of (record { world = world.now; outcomes = told.now })) }
 {
-    let mut told = List::new(alloc);
-    let mut world = World::new(alloc, &schedule.head)?;
-    for e in schedule.events.as_slice() {
-        match world.step(alloc, e) {
-            Ok(outcome) => told.push(outcome)?,
-            Err(e) => return Err(e),
-        }
-    }
-    Ok((world, told))
+    let space = world.space(alloc)?;
+    written(alloc, told, world.journal(), &space)
 }
 
 /// The lines of what was told, of the journal and of the namespace at the end.

@@ -14,7 +14,9 @@ pub enum Status {
     Usage { word: u64 },
     /// The first faulty line is outside the grammar.
     BadLine { line: u64 },
-    /// The first faulty line passes a limit.
+    /// All lines pass, and the line's reading is more than the skew before that of an earlier one.
+    Skewed { line: u64, earlier: u64 },
+    /// The first faulty line passes a limit, or the run passes that of packets at the line's event.
     Limit { which: Which, at: u64 },
     /// The input has more bytes than the limit.
     TooLong { limit: u64 },
@@ -39,6 +41,7 @@ impl Status {
             Status::Done => 0,
             Status::Usage { .. } => 2,
             Status::BadLine { .. } => 3,
+            Status::Skewed { .. } => 4,
             Status::Limit { .. } => 5,
             Status::TooLong { .. } => 6,
             Status::ReadFault => 7,
@@ -59,6 +62,12 @@ impl fmt::Display for Status {
             Status::Done => f.write_str("done"),
             Status::Usage { word } => write!(f, "word {word} is not understood"),
             Status::BadLine { line } => write!(f, "line {line} is not in the grammar"),
+            Status::Skewed { line, earlier } => {
+                write!(
+                    f,
+                    "line {line} is more than the skew before line {earlier}"
+                )
+            }
             Status::Limit { which, at } => write!(f, "line {at} passes the limit of {which}"),
             Status::TooLong { limit } => write!(f, "the input has more than {limit} bytes"),
             Status::ReadFault => f.write_str("the input could not be read"),

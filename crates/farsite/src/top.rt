@@ -3,19 +3,20 @@ ghost use Rattle.std.specs.Prelude.{◌≡◌, ◌≢◌, ◌↔◌, ◌+◌, �
 ghost use Rattle.std.specs.Io.KnownBytes.{IsAtEnd};
 ghost use Rattle.fs_io.specs.Faults.{Rose};
 ghost use Rattle.fs_msg.specs.declared.core_error.Counter.{Counter};
-ghost use Rattle.fs_schedule.specs.Faults.{AtLine, IsFirstFault, IsOutside, PassesLimit};
-ghost use Rattle.fs_schedule.specs.declared.error.Which.{Which};
-ghost use Rattle.farsite.specs.Headline.{IsReplay, IsPartOfReplay, IsReadWhole, MeetsSpent};
-ghost use Rattle.farsite.specs.Status.{read_status, schedule_status, core_status};
+ghost use Rattle.fs_schedule.specs.Faults.{AtLine, IsFirstFault, IsOutside, IsSkewed};
+ghost use Rattle.fs_schedule.specs.declared.error.Which.{Which as Limited};
+ghost use Rattle.fs_world.specs.World.{AtCounter};
+ghost use Rattle.farsite.specs.Headline.{IsLimit, IsPartOfReplay, IsReadWhole, IsReplay, IsStopped};
+ghost use Rattle.farsite.specs.Status.{read_status, run_status, schedule_status};
 ghost use Rattle.farsite.specs.Usage.{is_form, understood};
 
 use crate::lines::write_lines;
 use crate::replay::report_of;
+use crate::run_error::RunError;
 use crate::status::Status;
 use crate::words::misplaced;
 use fs_io::{Clock, Failed, Link, ReadError, Sink, Source, read_all};
-use fs_msg::CoreError;
-use fs_schedule::{ScheduleError, read_schedule};
+use fs_schedule::{ScheduleError, Which, read_schedule};
 use std::alloc::Global;
 
 /// What the program does with the words of its command line, without its own name.
@@ -40,10 +41,12 @@ pub fn farsite<S: Source, K: Sink, C: Clock, L: Link>(
     ensures unread { is_form (map string_bytes words.now) ≡ false → input.new ≡ input.old }
     ensures bad_line { (line : ℕ) → result ≡ Status.BadLine line →
         IfSome (S.left input.old) (λ bytes. IsFirstFault (AtLine line IsOutside) bytes) }
-    ensures limit { (which : Which) (at : ℕ) → result ≡ Status.Limit which at →
-        IfSome (S.left input.old) (λ bytes. IsFirstFault (AtLine at (PassesLimit which)) bytes) }
+    ensures skewed { (line earlier : ℕ) → result ≡ Status.Skewed line earlier →
+        IfSome (S.left input.old) (λ bytes. IsFirstFault (IsSkewed line earlier) bytes) }
+    ensures limit { (which : Limited) (at : ℕ) → result ≡ Status.Limit which at →
+        IfSome (S.left input.old) (λ bytes. IsLimit which at bytes) }
     ensures spent { (counter : Counter) → result ≡ Status.Spent counter →
-        IfSome (S.left input.old) MeetsSpent }
+        IfSome (S.left input.old) (λ bytes. IsStopped (AtCounter counter) bytes) }
     ensures short { IsReadWhole result →
         IfSome (S.left input.old) (λ bytes. length bytes ≤ 16777216) }
     ensures too_long { (limit : ℕ) → result ≡ Status.TooLong limit → (limit ≡ 16777216) ×
@@ -76,9 +79,12 @@ fn replay<K: Sink>(alloc: Global, bytes: &[u8], out: &mut K) -> Status
     ensures usage { (word : ℕ) → result ≢ Status.Usage word }
     ensures bad_line { (line : ℕ) → result ≡ Status.BadLine line →
         IsFirstFault (AtLine line IsOutside) bytes.now }
-    ensures limit { (which : Which) (at : ℕ) → result ≡ Status.Limit which at →
-        IsFirstFault (AtLine at (PassesLimit which)) bytes.now }
-    ensures spent { (counter : Counter) → result ≡ Status.Spent counter → MeetsSpent bytes.now }
+    ensures skewed { (line earlier : ℕ) → result ≡ Status.Skewed line earlier →
+        IsFirstFault (IsSkewed line earlier) bytes.now }
+    ensures limit { (which : Limited) (at : ℕ) → result ≡ Status.Limit which at →
+        IsLimit which at bytes.now }
+    ensures spent { (counter : Counter) → result ≡ Status.Spent counter →
+        IsStopped (AtCounter counter) bytes.now }
     ensures too_long { (limit : ℕ) → result ≢ Status.TooLong limit }
     ensures read_fault { result ≢ Status.ReadFault }
     ensures write_fault { result ≡ Status.WriteFault → Rose (K.faults out.old) (K.faults out.new) }
@@ -93,7 +99,7 @@ fn replay<K: Sink>(alloc: Global, bytes: &[u8], out: &mut K) -> Status
                 Ok(()) => Status::Done,
                 Err(Failed) => Status::WriteFault,
             },
-            Err(e) => core_status(e),
+            Err(e) => run_status(e),
         },
         Err(e) => schedule_status(e),
     }
@@ -118,17 +124,22 @@ fn schedule_status(e: ScheduleError) -> Status
 {
     match e {
         ScheduleError::BadLine { line } => Status::BadLine { line },
+        ScheduleError::Skewed { line, earlier } => Status::Skewed { line, earlier },
         ScheduleError::Limit { which, at } => Status::Limit { which, at },
         ScheduleError::Memory => Status::Memory,
     }
 }
 
-/// The status of a run that was not ended.
-fn core_status(e: CoreError) -> Status
-    ensures { result ≡ core_status e }
+/// The status of a run that was broken off.
+fn run_status(e: RunError) -> Status
+    ensures { result ≡ run_status e }
 {
     match e {
-        CoreError::Spent { counter } => Status::Spent { counter },
-        CoreError::Memory => Status::Memory,
+        RunError::Spent { counter } => Status::Spent { counter },
+        RunError::Packets { line } => Status::Limit {
+            which: Which::Packets,
+            at: line,
+        },
+        RunError::Memory => Status::Memory,
     }
 }

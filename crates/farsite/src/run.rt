@@ -1,0 +1,69 @@
+//! The run of a schedule.
+ghost use Rattle.std.specs.Prelude.{◌≡◌, ◌≤◌, ℕ, IfOk, OnOk, OnErr, None, Some, IsErrOf, length};
+ghost use Rattle.std.specs.List.{AllByRecursion};
+ghost use Rattle.fs_msg.specs.declared.core_error.Counter.{Counter as TheCounter};
+ghost use Rattle.fs_schedule.specs.Spelling.{FitsEvent, FitsHead};
+ghost use Rattle.fs_world.specs.World.{AtCounter, AtPackets, FitsForm, run_of, run_on, stop_in, stop_of};
+ghost use Rattle.farsite.specs.declared.run_error.RunError.TheVariants.{Packets, Spent};
+
+use crate::run_error::RunError;
+use fs_ident::List;
+use fs_msg::CoreError;
+use fs_schedule::{Event, Outcome, PACKETS, Schedule};
+use fs_world::World;
+use std::alloc::Global;
+
+/// The world after the events of the schedule, and what each of them came to. `Spent` where an event needs a number after a
+/// counter's last one, `Packets` where more packets were sent than the limit; the first of these that comes.
+pub(crate) fn run(alloc: Global, schedule: &Schedule) -> Result<(World, List<Outcome>), RunError>
+    requires head { FitsHead schedule.now.head }
+    requires events { AllByRecursion (FitsEvent schedule.now.head) schedule.now.events }
+    ensures world { IfOk result (λ r. r.0 ≡ (run_of schedule.now).world) }
+    ensures outcomes { IfOk result (λ r. r.1 ≡ (run_of schedule.now).outcomes) }
+    ensures whole { OnOk result (stop_of schedule.now ≡ None) }
+    ensures spent { (counter : TheCounter) → IsErrOf result (Spent counter) →
+        stop_of schedule.now ≡ Some (AtCounter counter) }
+    ensures packets { (line : ℕ) → IsErrOf result (Packets line) →
+        stop_of schedule.now ≡ Some (AtPackets line) }
+{
+    let mut told = List::new(alloc);
+    let mut world = World::new(alloc, &schedule.head)?;
+    match run_all(alloc, schedule.events.as_slice(), &mut world, &mut told) {
+        Ok(()) => Ok((world, told)),
+        Err(e) => {
+            world.discard();
+            Err(e)
+        }
+    }
+}
+
+/// The events happen to the world, one after another, and what each comes to is told. The first stands at line 2.
+fn run_all(
+    alloc: Global,
+    events: &[Event],
+    world: &mut World,
+    told: &mut List<Outcome>,
+) -> Result<(), RunError>
+    requires { FitsForm world.old events.now }
+    ensures run { OnOk result (record { world = world.new; outcomes = told.new } ≡
+        run_on (record { world = world.old; outcomes = told.old }) events.now) }
+    ensures whole { OnOk result (stop_in world.old 2 events.now ≡ None) }
+    ensures spent { (counter : TheCounter) → IsErrOf result (Spent counter) →
+        stop_in world.old 2 events.now ≡ Some (AtCounter counter) }
+    ensures packets { (line : ℕ) → IsErrOf result (Packets line) →
+        stop_in world.old 2 events.now ≡ Some (AtPackets line) }
+{
+    for (at, e) in events.iter().enumerate() {
+        match world.step(alloc, e) {
+            Ok(outcome) => told.push(outcome)?,
+            Err(CoreError::Spent { counter }) => return Err(RunError::Spent { counter }),
+            Err(CoreError::Memory) => return Err(RunError::Memory),
+        }
+        if PACKETS < world.packets().len() {
+            return Err(RunError::Packets {
+                line: at as u64 + 2,
+            });
+        }
+    }
+    Ok(())
+}
