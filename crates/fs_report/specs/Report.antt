@@ -12,7 +12,8 @@ use Rattle.fs_msg.specs.declared.note.Note.{Note}
 use Rattle.fs_schedule.specs.Spelling.{kind_text}
 use Rattle.fs_schedule.specs.declared.outcome.Outcome.{Outcome}
 use Rattle.fs_ident.specs.Texts.{quoted, session_text, peer_text}
-use Rattle.fs_report.specs.Texts.{who_text, op_text, reply_text, note_text}
+use Rattle.fs_report.specs.Notes.{note_text}
+use Rattle.fs_report.specs.Texts.{who_text, op_text, reply_text}
 
 -- ## Outcomes
 

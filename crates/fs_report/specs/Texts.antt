@@ -1,4 +1,4 @@
--- How operations, replies and notes are written.
+-- How operations and replies are written.
 use Rattle.std.specs.Prelude.{ℕ, List, [], ◌∷◌, ◌++◌, codes, Option, Some, None, flat_map}
 use Rattle.std.specs.Fmt.{decimal}
 use Rattle.fs_ident.specs.IdText.{id_text}
@@ -8,8 +8,6 @@ use Rattle.fs_model.specs.declared.op.Op.{Op}
 use Rattle.fs_model.specs.declared.op.Op.TheVariants as op
 use Rattle.fs_model.specs.declared.reply.Reply.{Reply}
 use Rattle.fs_model.specs.declared.reply.Reply.TheVariants as reply
-use Rattle.fs_msg.specs.declared.note.Note.{Note}
-use Rattle.fs_msg.specs.declared.note.Note.TheVariants as note
 use Rattle.fs_schedule.specs.Spelling.{op_words}
 use Rattle.fs_schedule.specs.Words.{line_text}
 
@@ -55,8 +53,3 @@ reply_text reply.Deleted = codes "deleted"
 reply_text reply.Cycle = codes "cycle"
 reply_text reply.Renamed = codes "renamed"
 reply_text reply.Reaped = codes "reaped"
-
-abbrev pub note_text : Note → List ℕ
-note_text note.Joined = codes "joined"
-note_text (note.Answered n r) = codes "answered " ++ (decimal n ++ (codes " " ++ reply_text r))
-note_text note.Nothing = codes "nothing"

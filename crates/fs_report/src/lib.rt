@@ -1,13 +1,19 @@
 //! The lines of a report.
 #![tactic(auto)]
 
+mod acts;
+mod client_notes;
 mod done;
+mod ends;
 mod items;
+mod needs;
 mod node_lines;
+mod notes;
 mod op_text;
 mod outcomes;
 mod pieces;
 mod reply_text;
+mod server_notes;
 mod spaces;
 #[cfg(test)]
 mod tests;

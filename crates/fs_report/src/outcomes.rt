@@ -2,8 +2,8 @@
 ghost use Rattle.std.specs.Prelude.{◌≡◌, ◌++◌, OnOk, OnErr};
 ghost use Rattle.fs_report.specs.Report.{notes_text, sent_text, outcome_text};
 
+use crate::notes::put_note;
 use crate::pieces::{LINE, next_number, next_who, put_bytes, put_number};
-use crate::reply_text::put_note;
 use fs_ident::Memory;
 use fs_msg::Note;
 use fs_schedule::Outcome;

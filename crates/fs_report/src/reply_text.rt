@@ -1,12 +1,11 @@
-//! The texts of replies and notes.
+//! The texts of replies.
 ghost use Rattle.std.specs.Prelude.{◌≡◌, ◌++◌, ◌∷◌, OnOk, flat_map};
 ghost use Rattle.fs_ident.specs.Texts.{quoted};
-ghost use Rattle.fs_report.specs.Texts.{reply_text, note_text};
+ghost use Rattle.fs_report.specs.Texts.{reply_text};
 
 use crate::pieces::{next_id, next_name, next_number, put_bytes};
 use fs_ident::{Memory, Name};
 use fs_model::Reply;
-use fs_msg::Note;
 use std::alloc::Global;
 
 /// A space and a reply.
@@ -67,19 +66,4 @@ fn put_names(names: &[Name], out: &mut Vec<u8>) -> Result<(), Memory>
         next_name(name, out)?;
     }
     Ok(())
-}
-
-/// A note.
-pub(crate) fn put_note(alloc: Global, note: &Note, out: &mut Vec<u8>) -> Result<(), Memory>
-    ensures { OnOk result (out.new.items ≡ out.old.items ++ note_text note.now) }
-{
-    match note {
-        Note::Joined => put_bytes(b"joined", out),
-        Note::Answered { n, reply } => {
-            put_bytes(b"answered", out)?;
-            next_number(alloc, *n, out)?;
-            next_reply(alloc, reply, out)
-        }
-        Note::Nothing => put_bytes(b"nothing", out),
-    }
 }

@@ -1,3 +1,5 @@
+mod notes;
+
 use crate::done::done_line;
 use crate::items::item_line;
 use crate::node_lines::put_file;
@@ -14,12 +16,12 @@ use std::process::Abort;
 use std::test::Fail;
 
 /// The identifier that is written like this.
-fn id(alloc: Global, text: &[u8]) -> Result<FileId, IdError> {
+pub(crate) fn id(alloc: Global, text: &[u8]) -> Result<FileId, IdError> {
     FileId::parse(alloc, text)
 }
 
 /// The name of these bytes.
-fn name(alloc: Global, bytes: &[u8]) -> Result<Name, IdError> {
+pub(crate) fn name(alloc: Global, bytes: &[u8]) -> Result<Name, IdError> {
     Name::new(alloc, bytes)
 }
 

@@ -1,0 +1,45 @@
+//! The texts of what servers note.
+ghost use Rattle.std.specs.Prelude.{◌≡◌, ◌++◌, OnOk};
+ghost use Rattle.fs_report.specs.Notes.{gaps_text, server_note_text};
+
+use crate::ends::put_progress;
+use crate::pieces::{next_number, put_bytes};
+use fs_ident::Memory;
+use fs_msg::ServerNote;
+use std::alloc::Global;
+
+/// A server's note.
+pub(crate) fn put_server_note(
+    alloc: Global,
+    note: &ServerNote,
+    out: &mut Vec<u8>,
+) -> Result<(), Memory>
+    ensures { OnOk result (out.new.items ≡ out.old.items ++ server_note_text note.now) }
+{
+    match note {
+        ServerNote::Grants { count, end } => put_progress(alloc, b"grants", *count, end, out),
+        ServerNote::Renews { count, end } => put_progress(alloc, b"renews", *count, end, out),
+        ServerNote::Frees { count, end } => put_progress(alloc, b"frees", *count, end, out),
+        ServerNote::Admits { count, end, gaps } => {
+            put_progress(alloc, b"admits", *count, end, out)?;
+            put_gaps(alloc, gaps.as_slice(), out)
+        }
+        ServerNote::Recalls { count } => {
+            put_bytes(b"recalls", out)?;
+            next_number(alloc, *count, out)
+        }
+        ServerNote::Idle => put_bytes(b"idle", out),
+        ServerNote::Strange => put_bytes(b"strange", out),
+    }
+}
+
+/// The numbers of the entries behind a refused one.
+fn put_gaps(alloc: Global, gaps: &[u64], out: &mut Vec<u8>) -> Result<(), Memory>
+    ensures { OnOk result (out.new.items ≡ out.old.items ++ gaps_text gaps.now) }
+{
+    for n in gaps {
+        put_bytes(b" gap", out)?;
+        next_number(alloc, *n, out)?;
+    }
+    Ok(())
+}

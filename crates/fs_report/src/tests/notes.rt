@@ -1,0 +1,207 @@
+use crate::notes::put_note;
+use crate::tests::{id, name};
+use fs_field::{Field, LeaseKind, Need};
+use fs_ident::{LeaseNo, List, TxnNo};
+use fs_model::Reply;
+use fs_modes::Mode;
+use fs_msg::{Act, Busy, ClientNote, End, Note, ServerNote};
+use std::alloc::Global;
+use std::test::Fail;
+
+/// The texts of notes, by their numbers.
+const NOTES: [&[u8]; 34] = [
+    b"grants 3 all",
+    b"grants 1 wait s0.2",
+    b"grants 0 locked s0#1",
+    b"grants 0 moved /1 s1",
+    b"grants 2 noids /1",
+    b"renews 2 all",
+    b"frees 1 all",
+    b"admits 1 all",
+    b"admits 0 ended 1 s0.1 100 110 gap 2 gap 3",
+    b"recalls 1",
+    b"idle",
+    b"strange",
+    b"ships 1 s0",
+    b"releases 1 s0",
+    b"renews 2 s0",
+    b"idle",
+    b"granted 1 wait s0.2",
+    b"renewed 2 all",
+    b"released 1 all",
+    b"shipped 0 ended 1 s0.1 100 110",
+    b"recall s0.2",
+    b"strange",
+    b"replied 1 made",
+    b"read 2 found /1",
+    b"asked s0 life / shared, child / \"a\" exclusive, fresh /",
+    b"asked s1 own /1, other /1 dD shared",
+    b"busy exchange",
+    b"busy log",
+    b"busy led",
+    b"noids /1",
+    b"over 1",
+    b"none",
+    b"part",
+    b"strange",
+];
+
+/// Why an answer goes no further, by the number of the note that says so.
+fn end(alloc: Global, k: u64) -> Result<End, Fail> {
+    match k {
+        1 | 16 => Ok(End::Wait {
+            blocker: LeaseNo {
+                server: 0,
+                count: 2,
+            },
+        }),
+        2 => Ok(End::Locked {
+            txn: TxnNo {
+                server: 0,
+                count: 1,
+            },
+        }),
+        3 => Ok(End::Moved {
+            prefix: id(alloc, b"/1")?,
+            to: 1,
+        }),
+        4 => Ok(End::NoIds {
+            dir: id(alloc, b"/1")?,
+        }),
+        8 | 19 => Ok(End::Ended {
+            n: 1,
+            lease: LeaseNo {
+                server: 0,
+                count: 1,
+            },
+            until: 100,
+            now: 110,
+        }),
+        _ => Ok(End::All),
+    }
+}
+
+/// The numbers of two entries behind a refused one, where the note tells of one.
+fn gaps(alloc: Global, k: u64) -> Result<List<u64>, Fail> {
+    let mut gaps = List::new(alloc);
+    if k == 8 {
+        gaps.push(2)?;
+        gaps.push(3)?;
+    }
+    Ok(gaps)
+}
+
+fn server_note(alloc: Global, k: u64) -> Result<ServerNote, Fail> {
+    let end = end(alloc, k)?;
+    match k {
+        0 => Ok(ServerNote::Grants { count: 3, end }),
+        1 => Ok(ServerNote::Grants { count: 1, end }),
+        2 | 3 => Ok(ServerNote::Grants { count: 0, end }),
+        4 => Ok(ServerNote::Grants { count: 2, end }),
+        5 => Ok(ServerNote::Renews { count: 2, end }),
+        6 => Ok(ServerNote::Frees { count: 1, end }),
+        7 | 8 => Ok(ServerNote::Admits {
+            count: 8_u64.saturating_sub(k),
+            end,
+            gaps: gaps(alloc, k)?,
+        }),
+        9 => Ok(ServerNote::Recalls { count: 1 }),
+        10 => Ok(ServerNote::Idle),
+        _ => Ok(ServerNote::Strange),
+    }
+}
+
+fn client_note(alloc: Global, k: u64) -> Result<ClientNote, Fail> {
+    let end = end(alloc, k)?;
+    match k {
+        12 => Ok(ClientNote::Ships { count: 1, to: 0 }),
+        13 => Ok(ClientNote::Releases { count: 1, to: 0 }),
+        14 => Ok(ClientNote::Renews { count: 2, to: 0 }),
+        15 => Ok(ClientNote::Idle),
+        16 => Ok(ClientNote::Granted { count: 1, end }),
+        17 => Ok(ClientNote::Renewed { count: 2, end }),
+        18 => Ok(ClientNote::Released { count: 1, end }),
+        19 => Ok(ClientNote::Shipped { count: 0, end }),
+        20 => Ok(ClientNote::Recall {
+            no: LeaseNo {
+                server: 0,
+                count: 2,
+            },
+        }),
+        _ => Ok(ClientNote::Strange),
+    }
+}
+
+/// What the create of a name in the root needs.
+fn needs_of_a_create(alloc: Global) -> Result<List<Need>, Fail> {
+    let mut needs = List::new(alloc);
+    needs.push(Need::Lease(Field::Life(id(alloc, b"/")?), LeaseKind::Shared))?;
+    let child = Field::Child(id(alloc, b"/")?, name(alloc, b"a")?);
+    needs.push(Need::Lease(child, LeaseKind::Exclusive))?;
+    needs.push(Need::Fresh(id(alloc, b"/")?))?;
+    Ok(needs)
+}
+
+/// What a rename needs of the file that it moves.
+fn needs_of_a_rename(alloc: Global) -> Result<List<Need>, Fail> {
+    let mut needs = List::new(alloc);
+    let own = Field::Own(id(alloc, b"/1")?);
+    needs.push(Need::Lease(own, LeaseKind::Exclusive))?;
+    let other = Field::Other(id(alloc, b"/1")?, Mode::DenyD);
+    needs.push(Need::Lease(other, LeaseKind::Shared))?;
+    Ok(needs)
+}
+
+fn act(alloc: Global, k: u64) -> Result<Act, Fail> {
+    match k {
+        22 => Ok(Act::Replied {
+            n: 1,
+            reply: Reply::Made,
+        }),
+        23 => Ok(Act::ReadNow {
+            n: 2,
+            reply: Reply::Found(id(alloc, b"/1")?),
+        }),
+        24 => Ok(Act::Asked {
+            needs: needs_of_a_create(alloc)?,
+            to: 0,
+        }),
+        25 => Ok(Act::Asked {
+            needs: needs_of_a_rename(alloc)?,
+            to: 1,
+        }),
+        26 => Ok(Act::Busy {
+            what: Busy::Exchange,
+        }),
+        27 => Ok(Act::Busy { what: Busy::Log }),
+        28 => Ok(Act::Busy { what: Busy::Led }),
+        29 => Ok(Act::NoIds {
+            dir: id(alloc, b"/1")?,
+        }),
+        _ => Ok(Act::Over { n: 1 }),
+    }
+}
+
+fn note(alloc: Global, k: u64) -> Result<Note, Fail> {
+    match k {
+        0..=11 => Ok(Note::Server(server_note(alloc, k)?)),
+        12..=21 => Ok(Note::Client(client_note(alloc, k)?)),
+        22..=30 => Ok(Note::Act(act(alloc, k)?)),
+        31 => Ok(Note::None),
+        32 => Ok(Note::Part),
+        _ => Ok(Note::Strange),
+    }
+}
+
+#[test]
+fn writes_notes(rt: HostRuntime) -> Result<(), Fail> {
+    let alloc = rt.alloc();
+    let mut k = 0;
+    for text in NOTES {
+        let mut out = Vec::new(alloc);
+        put_note(alloc, &note(alloc, k)?, &mut out)?;
+        assert_eq!(rt; out.as_slice(), text);
+        k = k.saturating_add(1);
+    }
+    Ok(())
+}
