@@ -1,17 +1,87 @@
--- What a schedule asks for is what callers may ask for.
-use Rattle.std.proofs.Common.{◌≡◌, true, List, [], ◌∷◌, refl}
+-- What a schedule asks for is what callers may ask for, and may happen to its world.
+use Rattle.std.proofs.Common.{◌≡◌, true, false, List, [], ◌∷◌, refl, ℕ}
+use Rattle.std.specs.Prelude.{Option, Some, None}
 use Rattle.std.specs.List.{AllByRecursion}
+use Rattle.fs_ident.specs.declared.kind.Kind.{Kind}
+use Rattle.fs_model.specs.declared.op.Op.{Op}
+use Rattle.fs_model.specs.declared.op.Op.TheVariants as op
 use Rattle.fs_schedule.specs.declared.event.Event.{Event}
 use Rattle.fs_schedule.specs.declared.event.Head.{Head}
+use Rattle.fs_schedule.specs.declared.event.Head.TheVariants as head
+use Rattle.fs_schedule.specs.declared.event.Schedule.{Schedule}
 use Rattle.fs_schedule.specs.declared.event.What.{What}
-use Rattle.fs_schedule.specs.declared.event.What.TheVariants.{Join, Do}
-use Rattle.fs_schedule.specs.Spelling.{FitsWhat, FitsEvent}
-use Rattle.fs_world.specs.World.{AllMayAsk, may_happen}
+use Rattle.fs_schedule.specs.declared.event.What.TheVariants.{Join, Do, Tell, Turn, Recall}
+use Rattle.fs_schedule.specs.Faults.{AreLinesOf, IsScheduleText}
+use Rattle.fs_schedule.specs.Lines.{lines_of}
+use Rattle.fs_schedule.specs.Spelling as spelling
+use Rattle.fs_schedule.specs.Spelling.{FitsWhat, FitsEvent, has_op}
+use Rattle.fs_serial.specs.World.{is_called}
+use Rattle.fs_world.specs.World.{AllMayHappen, FitsHead, FitsWorld, first_world, may_happen, step}
+use Rattle.fs_world.specs.declared.form.Form.{Form}
+use Rattle.fs_world.specs.declared.form.Form.TheVariants.{Direct, Served}
+use Rattle.farsite.specs.Fitting.{MayHappen}
 
-what_asked : (head : Head) (w : What) → FitsWhat head w → may_happen w ≡ true
-what_asked head (Join s) f = refl
-what_asked head (Do s o) f = f.0
+made_without_id : (dir name : List ℕ) (kind : Kind) (id : Option (List ℕ)) (n k t : ℕ) → has_op (head.Servers n k t) (op.Create dir name kind id) ≡ true → is_called (op.Create dir name kind id) ≡ true
+made_without_id dir name kind None n k t h = refl
+made_without_id dir name kind (Some id) n k t h = absurd (cc)
 
-pub all_asked : (head : Head) (es : List Event) → AllByRecursion (FitsEvent head) es → AllMayAsk es
-all_asked head [] f = tt
-all_asked head (e ∷ es) f = (what_asked head e.what f.0.what, all_asked head es f.1)
+called : (n k t : ℕ) (o : Op) → has_op (head.Servers n k t) o ≡ true → is_called o ≡ true
+called n k t (op.Lookup dir name) h = refl
+called n k t (op.List dir) h = refl
+called n k t (op.Kind file) h = refl
+called n k t (op.Info file) h = refl
+called n k t (op.Create dir name kind id) h = made_without_id dir name kind id n k t h
+called n k t (op.OpenFile file h modes) e = absurd (cc)
+called n k t (op.Close file h) e = absurd (cc)
+called n k t (op.Set file h size stamp) e = absurd (cc)
+called n k t (op.Delete dir name) e = absurd (cc)
+called n k t (op.Rename sdir sname ddir dname) e = absurd (cc)
+called n k t (op.Reap file session) e = absurd (cc)
+
+what_asked : (h : Head) (w : What) → FitsWhat h w → may_happen h w ≡ true
+what_asked head.Direct (Join s) f = refl
+what_asked head.Direct (Do s o) f = f.0
+what_asked head.Direct (Tell number) f = refl
+what_asked head.Direct (Turn who) f = refl
+what_asked head.Direct (Recall k field) f = refl
+what_asked (head.Servers n k t) (Join s) f = refl
+what_asked (head.Servers n k t) (Do s o) f = called n k t o f.0
+what_asked (head.Servers n k t) (Tell number) f = refl
+what_asked (head.Servers n k t) (Turn who) f = refl
+what_asked (head.Servers n k t) (Recall j field) f = refl
+
+pub all_asked : (h : Head) (es : List Event) → AllByRecursion (FitsEvent h) es → AllMayHappen h es
+all_asked h [] f = tt
+all_asked h (e ∷ es) f = (what_asked h e.what f.0.what, all_asked h es f.1)
+
+what_fits : (h : Head) (e : Event) → FitsEvent h e → FitsWorld (first_world h) e.what
+what_fits head.Direct e f = tt
+what_fits (head.Servers n k t) e f = served n k t e.what f.session f.what
+  where
+    served : (n k t : ℕ) (w : What) → _ → FitsWhat (head.Servers n k t) w → FitsWorld (first_world (head.Servers n k t)) w
+    served n k t (Join s) session f = session
+    served n k t (Do s o) session f = called n k t o f.0
+    served n k t (Tell number) session f = tt
+    served n k t (Turn who) session f = tt
+    served n k t (Recall j field) session f = tt
+
+pub all_fit : (h : Head) (es : List Event) → AllByRecursion (FitsEvent h) es → MayHappen (first_world h) es
+all_fit h [] f = tt
+all_fit h (e ∷ es) f = ((f.0.reading, what_fits h e f.0), all_fit h es f.1)
+
+-- what fits a world fits it after an event
+pub fits_on : (w : Form) (x : Event) (es : List Event) → MayHappen w es → MayHappen (step w x).world es
+fits_on (Direct w) x es f = f
+fits_on (Served w) x es f = f
+
+head_in : (h : Head) → spelling.FitsHead h → FitsHead h
+head_in head.Direct f = tt
+head_in (head.Servers n k t) f = search
+
+-- the numbers of its first line are in their ranges
+pub head_fits : (s : Schedule) (bytes : List ℕ) → IsScheduleText s bytes → FitsHead s.head
+head_fits s bytes r = in_lines s (lines_of bytes) r.0
+  where
+    in_lines : (s : Schedule) (lines : List (List ℕ)) → AreLinesOf s lines → FitsHead s.head
+    in_lines s [] r = absurd r
+    in_lines s (line ∷ lines) r = head_in s.head r.0.1.0

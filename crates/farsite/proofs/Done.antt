@@ -1,17 +1,39 @@
 -- The end of a replay.
-use Rattle.std.proofs.Common.{◌≡◌, ℕ, List, [], ◌++◌, ap, ◌∙◌, subst, append_assoc}
+use Rattle.std.proofs.Common.{◌≡◌, ℕ, ◌+◌, List, [], ◌∷◌, ◌++◌, ap, ◌∙◌, subst, append_assoc, inl, inr}
 use Rattle.std.specs.Prelude.{Option, Some, None, IfSome}
 use Rattle.std.specs.Io.KnownBytes.{Appends}
 use Rattle.fs_schedule.specs.declared.event.Schedule.{Schedule}
-use Rattle.fs_schedule.specs.Faults.{IsScheduleText}
+use Rattle.fs_schedule.specs.Faults.{AtLine, FaultsAt, IsFirstFault, IsScheduleText, LinesFaultAt, PassesLimit}
 use Rattle.fs_report.specs.Report.{done_text}
-use Rattle.fs_world.specs.World.{AllMayAsk, run_of}
+use Rattle.fs_world.specs.World.{AllMayHappen, run_of, stop_of}
 use Rattle.fs_world.proofs.Kept.{run_is_serial, told_is_admitted}
-use Rattle.farsite.specs.Headline.{IsReplay, report_of}
+use Rattle.fs_schedule.specs.Lines.{lines_of}
+use Rattle.fs_schedule.specs.declared.error.Which.{Which}
+use Rattle.fs_schedule.specs.declared.error.Which.TheVariants.{Bytes, Events, Packets, Sessions}
+use Rattle.fs_schedule.specs.declared.event.Head.{Head}
+use Rattle.farsite.specs.Headline.{IsLimit, IsReplay, report_of}
 
 -- a schedule's report was written
-pub replayed : (s : Schedule) (bytes : List ℕ) (a b : Option (List ℕ)) → IsScheduleText s bytes → AllMayAsk s.events → Appends a b (report_of (run_of s)) → IsReplay bytes a b
-replayed s bytes a b r f w = record { schedule = s; read = r; written = w; headline = run_is_serial s f; admitted = told_is_admitted s f }
+pub replayed : (s : Schedule) (bytes : List ℕ) (a b : Option (List ℕ)) → IsScheduleText s bytes → AllMayHappen s.head s.events → stop_of s ≡ None → Appends a b (report_of (run_of s)) → IsReplay bytes a b
+replayed s bytes a b r f h w = record { schedule = s; read = r; whole = h; written = w; headline = run_is_serial s f r.1; admitted = told_is_admitted s f }
+
+-- no line that is read passes the limit of packets
+no_line_floods : (h : Head) (at before : ℕ) (lines : List (List ℕ)) → FaultsAt (PassesLimit Packets) h at before lines → ⊥
+no_line_floods h at before [] f = f
+no_line_floods h at before (line ∷ lines) (inl x) = x.1
+no_line_floods h at before (line ∷ lines) (inr x) = no_line_floods h at (before + 1) lines x.1
+
+no_text_floods : (at : ℕ) (lines : List (List ℕ)) → LinesFaultAt (PassesLimit Packets) at lines → ⊥
+no_text_floods at [] f = f
+no_text_floods at (line ∷ lines) (inl x) = x.1
+no_text_floods at (line ∷ lines) (inr x) = no_line_floods x.0 at 0 lines x.2
+
+-- a limit that is met in reading is one
+pub read_limit : (which : Which) (at : ℕ) (bytes : List ℕ) → IsFirstFault (AtLine at (PassesLimit which)) bytes → IsLimit which at bytes
+read_limit Bytes at bytes f = f
+read_limit Sessions at bytes f = f
+read_limit Events at bytes f = f
+read_limit Packets at bytes f = absurd (no_text_floods at (lines_of bytes) f)
 
 -- what holds of the bytes that were read holds of those that the source told
 pub as_told : (left : Option (List ℕ)) (bytes : List ℕ) (P : List ℕ → Type 0) → IfSome left (λ xs. bytes ≡ xs) → P bytes → IfSome left P

@@ -1,8 +1,8 @@
 -- The loops over events, outcomes, items and lines.
-use Rattle.std.proofs.Common.{◌≡◌, Bool, true, false, ◌||◌, refl, ℕ, ◌+◌, ◌-◌, ◌<◌, ◌≤◌, List, ◌∷◌, ◌++◌, length, get_or, take, drop, ap, sym, ◌∙◌, append_assoc, arith, subst}
+use Rattle.std.proofs.Common.{◌≡◌, true, false, refl, ℕ, ◌+◌, ◌-◌, ◌<◌, ◌≤◌, List, ◌∷◌, ◌++◌, length, get_or, take, drop, ap, sym, ◌∙◌, append_assoc, arith, subst}
 use Rattle.std.proofs.lemmas.List.{drop_more, append-nil, drop_all, take-take, length-take}
 use Rattle.std.proofs.Math.Seq.{take-add}
-use Rattle.std.specs.Prelude.{Option}
+use Rattle.std.specs.Prelude.{Option, Some, None, nat_lt}
 use Rattle.std.specs.Io.KnownBytes.{Appends}
 use Rattle.fs_io.specs.Bytes.{IsPrefixWritten}
 use Rattle.fs_io.proofs.Known.{appends_more}
@@ -10,28 +10,31 @@ use Rattle.fs_msg.specs.declared.item.Item.{Item}
 use Rattle.fs_report.specs.Report.{outcome_text, outcomes_text, item_text, items_text}
 use Rattle.fs_schedule.specs.declared.event.Event.{Event}
 use Rattle.fs_schedule.specs.declared.outcome.Outcome.{Outcome}
-use Rattle.fs_world.specs.declared.direct.Direct.{Direct}
-use Rattle.fs_world.specs.World.{Run, is_spent, meets_spent, more, run_on, step}
+use Rattle.fs_msg.specs.declared.core_error.Counter.{Counter}
+use Rattle.fs_schedule.specs.declared.limits.TheConstants.{PACKETS}
+use Rattle.fs_world.specs.declared.form.Form.{Form}
+use Rattle.fs_world.specs.World.{Run, AtCounter, AtPackets, more, packets_of, run_on, step, stop_in}
 
 -- the run goes on with one more event
 pub run_step : (r : Run) (es : List Event) (i : ℕ) (d : Event) → i < length es → run_on r (drop i es) ≡ run_on (more r (get_or es i d)) (drop (i + 1) es)
 run_step r es i d h = rw (drop_more es i d h)
 
-or_true : (a b : Bool) → b ≡ true → (a || b) ≡ true
-or_true true b h = refl
-or_true false b h = h
+-- a counter that is at its end now breaks the run off
+pub spent_here : (w : Form) (line : ℕ) (es : List Event) (i : ℕ) (d : Event) (c : Counter) → i < length es → (step w (get_or es i d)).spent ≡ Some c → stop_in w line (drop i es) ≡ Some (AtCounter c)
+spent_here w line es i d c h t = rw (drop_more es i d h, t)
 
--- a counter that is spent later is spent
-pub spent_step : (w : Direct) (es : List Event) (i : ℕ) (d : Event) → i < length es → meets_spent (step w (get_or es i d)).world (drop (i + 1) es) ≡ true → meets_spent w (drop i es) ≡ true
-spent_step w es i d h t = rw (drop_more es i d h) (or_true (is_spent w (get_or es i d).what) (meets_spent (step w (get_or es i d)).world (drop (i + 1) es)) t)
+-- so do too many packets
+pub flooded_here : (w : Form) (line : ℕ) (es : List Event) (i : ℕ) (d : Event) → i < length es → (step w (get_or es i d)).spent ≡ None → nat_lt PACKETS (length (packets_of (step w (get_or es i d)).world)) ≡ true → stop_in w line (drop i es) ≡ Some (AtPackets line)
+flooded_here w line es i d h t f = rw (drop_more es i d h, t, f)
 
-true_or : (a b : Bool) → a ≡ true → (a || b) ≡ true
-true_or true b h = refl
-true_or false b h = absurd (cc)
+-- and else it goes on
+pub goes_on : (w : Form) (line : ℕ) (es : List Event) (i : ℕ) (d : Event) → i < length es → (step w (get_or es i d)).spent ≡ None → nat_lt PACKETS (length (packets_of (step w (get_or es i d)).world)) ≡ false → stop_in w line (drop i es) ≡ stop_in (step w (get_or es i d)).world (line + 1) (drop (i + 1) es)
+goes_on w line es i d h t f = rw (drop_more es i d h, t, f)
 
--- a counter that is spent now is spent
-pub spent_here : (w : Direct) (es : List Event) (i : ℕ) (d : Event) → i < length es → is_spent w (get_or es i d).what ≡ true → meets_spent w (drop i es) ≡ true
-spent_here w es i d h t = rw (drop_more es i d h) (true_or (is_spent w (get_or es i d).what) (meets_spent (step w (get_or es i d)).world (drop (i + 1) es)) t)
+-- no counter is at its end where none is named
+pub unspent : (o : Option Counter) → ((c : Counter) → o ≡ Some c → ⊥) → o ≡ None
+unspent None h = refl
+unspent (Some c) h = absurd (h c refl)
 
 -- one more outcome is written
 pub outcomes_step : (out more total : List ℕ) (os : List Outcome) (i : ℕ) (o : Outcome) → i < length os → get_or os i o ≡ o → more ≡ out ++ outcome_text (i + 1) o → out ++ outcomes_text (i + 1) (drop i os) ≡ total → more ++ outcomes_text (i + 1 + 1) (drop (i + 1) os) ≡ total

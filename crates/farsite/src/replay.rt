@@ -1,10 +1,9 @@
 //! The report of a schedule.
 ghost use Rattle.std.specs.Prelude.{◌≡◌, ◌++◌, IfOk, OnOk, None, Some, IsErrOf, ℕ};
-ghost use Rattle.std.specs.List.{AllByRecursion};
 ghost use Rattle.fs_msg.specs.declared.core_error.Counter.{Counter as TheCounter};
 ghost use Rattle.fs_report.specs.Report.{outcomes_text, items_text, report_text};
-ghost use Rattle.fs_schedule.specs.Spelling.{FitsEvent, FitsHead};
-ghost use Rattle.fs_world.specs.World.{AtCounter, AtPackets, run_of, stop_of};
+ghost use Rattle.fs_world.specs.World.{AtCounter, AtPackets, FitsHead, first_world, run_of, stop_of};
+ghost use Rattle.farsite.specs.Fitting.{MayHappen};
 ghost use Rattle.farsite.specs.Headline.{report_of};
 ghost use Rattle.farsite.specs.declared.run_error.RunError.TheVariants.{Packets, Spent};
 
@@ -22,7 +21,7 @@ use std::alloc::Global;
 /// packets are sent than the limit.
 pub(crate) fn report_of(alloc: Global, schedule: &Schedule) -> Result<Vec<u8>, RunError>
     requires head { FitsHead schedule.now.head }
-    requires events { AllByRecursion (FitsEvent schedule.now.head) schedule.now.events }
+    requires events { MayHappen (first_world schedule.now.head) schedule.now.events }
     ensures ok { IfOk result (λ v. v.items ≡ report_of (run_of schedule.now)) }
     ensures whole { OnOk result (stop_of schedule.now ≡ None) }
     ensures spent { (counter : TheCounter) → IsErrOf result (Spent counter) →

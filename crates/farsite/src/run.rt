@@ -1,9 +1,8 @@
 //! The run of a schedule.
-ghost use Rattle.std.specs.Prelude.{◌≡◌, ◌≤◌, ℕ, IfOk, OnOk, OnErr, None, Some, IsErrOf, length};
-ghost use Rattle.std.specs.List.{AllByRecursion};
+ghost use Rattle.std.specs.Prelude.{◌≡◌, ℕ, IfOk, OnOk, None, Some, IsErrOf};
 ghost use Rattle.fs_msg.specs.declared.core_error.Counter.{Counter as TheCounter};
-ghost use Rattle.fs_schedule.specs.Spelling.{FitsEvent, FitsHead};
-ghost use Rattle.fs_world.specs.World.{AtCounter, AtPackets, FitsForm, run_of, run_on, stop_in, stop_of};
+ghost use Rattle.fs_world.specs.World.{AtCounter, AtPackets, FitsHead, first_world, run_of, run_on, stop_in, stop_of};
+ghost use Rattle.farsite.specs.Fitting.{MayHappen};
 ghost use Rattle.farsite.specs.declared.run_error.RunError.TheVariants.{Packets, Spent};
 
 use crate::run_error::RunError;
@@ -17,7 +16,7 @@ use std::alloc::Global;
 /// counter's last one, `Packets` where more packets were sent than the limit; the first of these that comes.
 pub(crate) fn run(alloc: Global, schedule: &Schedule) -> Result<(World, List<Outcome>), RunError>
     requires head { FitsHead schedule.now.head }
-    requires events { AllByRecursion (FitsEvent schedule.now.head) schedule.now.events }
+    requires events { MayHappen (first_world schedule.now.head) schedule.now.events }
     ensures world { IfOk result (λ r. r.0 ≡ (run_of schedule.now).world) }
     ensures outcomes { IfOk result (λ r. r.1 ≡ (run_of schedule.now).outcomes) }
     ensures whole { OnOk result (stop_of schedule.now ≡ None) }
@@ -44,7 +43,7 @@ fn run_all(
     world: &mut World,
     told: &mut List<Outcome>,
 ) -> Result<(), RunError>
-    requires { FitsForm world.old events.now }
+    requires { MayHappen world.old events.now }
     ensures run { OnOk result (record { world = world.new; outcomes = told.new } ≡
         run_on (record { world = world.old; outcomes = told.old }) events.now) }
     ensures whole { OnOk result (stop_in world.old 2 events.now ≡ None) }
