@@ -1,4 +1,5 @@
 mod schedules;
+mod served;
 
 use crate::status::Status;
 use crate::top::farsite;
@@ -8,6 +9,14 @@ use fs_schedule::Which;
 use schedules::{
     FIRST, FIRST_REPORT, HEAD, OPENS, OPENS_REPORT, OTHERS, OTHERS_OUTCOMES, RENAMES,
     RENAMES_REPORT, SAVE, SAVE_REPORT,
+};
+use served::{
+    FIRST_CREATE, FIRST_CREATE_NOT_SENT, FIRST_CREATE_NOT_SENT_REPORT, FIRST_CREATE_REPORT,
+    FIRST_CREATE_TOLD_TWICE, FIRST_CREATE_TOLD_TWICE_REPORT, LEASE_USED_TO_ITS_END,
+    LEASE_USED_TO_ITS_END_REPORT, RECALL_MEETS_PENDING, RECALL_MEETS_PENDING_REPORT,
+    SHIPPED_AT_100, SHIPPED_AT_100_REPORT, SHIPPED_AT_109, SHIPPED_AT_109_REPORT,
+    SHIPPED_AT_110, SHIPPED_AT_110_REPORT, UNBORN_FILE_IS_LEASED,
+    UNBORN_FILE_IS_LEASED_REPORT, WITHIN_SKEW, WITHIN_SKEW_REPORT,
 };
 use std::alloc::Global;
 use std::env::{Env, FillError};
@@ -70,6 +79,75 @@ fn reports_to_the_byte(rt: HostRuntime) -> Result<(), Fail> {
     let (status, written) = replayed(alloc, OTHERS, b"", 0, b"")?;
     assert_eq!(rt; status, Status::Done);
     assert!(rt; written.starts_with(OTHERS_OUTCOMES));
+    Ok(())
+}
+
+/// A server and its clients: leases, logs, recalls, repeats, and clocks that differ.
+#[test]
+fn reports_of_a_server_to_the_byte(rt: HostRuntime) -> Result<(), Fail> {
+    let alloc = rt.alloc();
+    for (input, report) in [
+        (FIRST_CREATE, FIRST_CREATE_REPORT),
+        (FIRST_CREATE_NOT_SENT, FIRST_CREATE_NOT_SENT_REPORT),
+        (FIRST_CREATE_TOLD_TWICE, FIRST_CREATE_TOLD_TWICE_REPORT),
+        (LEASE_USED_TO_ITS_END, LEASE_USED_TO_ITS_END_REPORT),
+        (RECALL_MEETS_PENDING, RECALL_MEETS_PENDING_REPORT),
+        (SHIPPED_AT_100, SHIPPED_AT_100_REPORT),
+        (SHIPPED_AT_109, SHIPPED_AT_109_REPORT),
+        (SHIPPED_AT_110, SHIPPED_AT_110_REPORT),
+        (UNBORN_FILE_IS_LEASED, UNBORN_FILE_IS_LEASED_REPORT),
+        (WITHIN_SKEW, WITHIN_SKEW_REPORT),
+    ] {
+        let (status, written) = replayed(alloc, input, b"", 0, b"")?;
+        assert_eq!(rt; status, Status::Done);
+        assert_eq!(rt; written.as_slice(), report);
+    }
+    Ok(())
+}
+
+/// A clock that reads more than the skew behind an earlier reading, and heads that no form has.
+#[test]
+fn skews_and_heads(rt: HostRuntime) -> Result<(), Fail> {
+    let alloc = rt.alloc();
+    let skewed = Status::Skewed {
+        line: 3,
+        earlier: 2,
+    };
+    let line = |line: u64| Status::BadLine { line };
+    for (head, tail, want) in [
+        (
+            b"farsite 1 servers 1 skew 10 term 100\n100 join c1\n".as_slice(),
+            b"89 join c2\n".as_slice(),
+            skewed,
+        ),
+        (b"farsite 1 servers 2 skew 10 term 100\n", NONE, line(1)),
+        (b"farsite 1 servers 1 skew 10 term 0\n", NONE, line(1)),
+        (
+            b"farsite 1 servers 1 skew 10 term 100\n",
+            b"0 do c1 delete / \"a\"\n",
+            line(2),
+        ),
+    ] {
+        let (status, written) = replayed(alloc, head, NONE, 0, tail)?;
+        assert_eq!(rt; status, want);
+        assert!(rt; written.is_empty());
+    }
+    Ok(())
+}
+
+/// A report of a server whose third line cannot be written, and a schedule that cannot be read.
+#[test]
+fn a_server_whose_report_is_cut_off(rt: HostRuntime) -> Result<(), Fail> {
+    let alloc = rt.alloc();
+    let input = Vec::from_slice(alloc, FIRST_CREATE)?;
+    let (status, written) = called(alloc, &["replay"], input, &[], &[3])?;
+    assert_eq!(rt; status, Status::WriteFault);
+    assert!(rt; FIRST_CREATE_REPORT.starts_with(written.as_slice()));
+    assert_eq!(rt; written.iter().filter(|b| **b == b'\n').count(), 2);
+    let input = Vec::from_slice(alloc, FIRST_CREATE)?;
+    let (status, written) = called(alloc, &["replay"], input, &[1], &[])?;
+    assert_eq!(rt; status, Status::ReadFault);
+    assert!(rt; written.is_empty());
     Ok(())
 }
 
