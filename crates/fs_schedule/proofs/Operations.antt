@@ -1,7 +1,6 @@
 -- Words ask for one operation, and name one field, server or packet.
-use Rattle.std.proofs.Common.{◌≡◌, ℕ, subst, not, ◌<◌, ◌+◌, ◌%◌, ◌^◌, ◌==◌, Bool, true, false, List, [], ◌∷◌, refl, ap, arith, sym, ◌∙◌}
+use Rattle.std.proofs.Common.{◌≡◌, ℕ, subst, not, ◌<◌, ◌^◌, ◌==◌, Bool, true, false, List, ◌∷◌, refl, ap, arith, sym, ◌∙◌}
 use Rattle.std.specs.Prelude.{Option, Some, None, IfSome, is_some, codes}
-use Rattle.std.proofs.lemmas.Bool.Decides.{nat_tests}
 use Rattle.std.specs.List.{list_any}
 use Rattle.std.specs.Fmt.{decimal}
 use Rattle.std.proofs.lemmas.Fmt.{decimal_injective}

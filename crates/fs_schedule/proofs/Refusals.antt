@@ -1,6 +1,6 @@
 -- Laws of what readers answer.
-use Rattle.std.proofs.Common.{◌≡◌, ℕ, ◌<◌, ◌≤◌, ◌+◌, ◌^◌, true, false, List, [], ◌∷◌, refl, ap, sym, ◌∙◌, subst}
-use Rattle.std.specs.Prelude.{Result, Ok, Err, IsErr, Option, Some, None, IfSome, codes}
+use Rattle.std.proofs.Common.{◌≡◌, ℕ, ◌<◌, ◌^◌, true, false, List, [], ◌∷◌, refl, ap, sym, ◌∙◌, subst}
+use Rattle.std.specs.Prelude.{Result, Ok, Err, IsErr, Option, IfSome, codes}
 use Rattle.std.specs.Result.{IsErrAnd}
 use Rattle.fs_schedule.specs.declared.unread.Unread.{Unread}
 use Rattle.fs_schedule.specs.declared.unread.Unread.TheVariants.{Outside}

@@ -1,6 +1,6 @@
 -- A line tells one event, and a text is one schedule's or has one first fault.
-use Rattle.std.proofs.Common.{◌≡◌, ℕ, nat_lt, subst, not, ◌<◌, ◌≤◌, ◌+◌, ◌^◌, ◌==◌, Bool, true, false, List, [], ◌∷◌, refl, ap, arith, sym, ◌∙◌, inl, inr}
-use Rattle.std.specs.Prelude.{Option, Some, None, IfSome, is_some, codes}
+use Rattle.std.proofs.Common.{◌≡◌, ℕ, nat_lt, subst, ◌≤◌, ◌+◌, true, false, List, [], ◌∷◌, refl, ap, arith, sym, ◌∙◌, inl, inr}
+use Rattle.std.specs.Prelude.{Option, IfSome, codes}
 use Rattle.std.proofs.lemmas.Bool.Decides.{nat_tests}
 use Rattle.std.specs.List.{AllByRecursion}
 use Rattle.std.specs.Fmt.{decimal}
@@ -17,7 +17,7 @@ use Rattle.fs_schedule.specs.declared.event.Head.{Head}
 use Rattle.fs_schedule.specs.declared.event.Head.TheVariants.{Direct, Servers}
 use Rattle.fs_schedule.specs.declared.error.Which.TheVariants.{Bytes, Sessions, Events, Packets}
 use Rattle.fs_schedule.specs.Lines.{lines_of}
-use Rattle.fs_schedule.specs.Spelling.{FitsHead, head_words, IsHeadLine, session_in, IsNumberOf, client_word, server_word, packet_word, what_words, FitsWhat, IsSpelled, IsLineOf, names_late, FitsEvent}
+use Rattle.fs_schedule.specs.Spelling.{FitsHead, head_words, IsHeadLine, session_in, IsNumberOf, client_word, what_words, FitsWhat, IsSpelled, IsLineOf, names_late, FitsEvent}
 use Rattle.fs_schedule.specs.Skew.{IsUntimely}
 use Rattle.fs_schedule.specs.Faults.{IsEventLine, NamesLateSession, Passes, LineFault, PassesLimit, IsOutside, HeadPasses, HeadHas, LineHas, AreEventLines, FaultsAt, AreLinesOf, IsScheduleText, LinesFaultAt, Fault, AtLine, IsSkewed, IsFirstFault}
 use Rattle.fs_schedule.proofs.Cuts.{words_one}
@@ -260,6 +260,9 @@ no_schedule s (IsSkewed n j) bytes h k =
 pub all_fit : (s : Schedule) (bytes : List ℕ) → IsScheduleText s bytes → AllByRecursion (FitsEvent s.head) s.events
 all_fit s bytes h = text_fits s (lines_of bytes) h.0
 
-pub form_fits : (s : Schedule) (lines : List (List ℕ)) → AreLinesOf s lines → FitsHead s.head
-form_fits s [] h = absurd h
-form_fits s (line ∷ lines) h = h.0.1.0
+text_form : (s : Schedule) (lines : List (List ℕ)) → AreLinesOf s lines → FitsHead s.head
+text_form s [] h = absurd h
+text_form s (line ∷ lines) h = h.0.1.0
+
+pub form_fits : (s : Schedule) (bytes : List ℕ) → IsScheduleText s bytes → FitsHead s.head
+form_fits s bytes h = text_form s (lines_of bytes) h.0

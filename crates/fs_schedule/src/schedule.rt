@@ -2,7 +2,7 @@
 ghost use Rattle.std.specs.Prelude.{◌≡◌, ◌≤◌, ◌+◌, ℕ, IfOk, IsErrOf};
 ghost use Rattle.std.specs.List.{AllByRecursion};
 ghost use Rattle.fs_schedule.specs.declared.error.Which.{Which as Limited};
-ghost use Rattle.fs_schedule.specs.Spelling.{FitsEvent};
+ghost use Rattle.fs_schedule.specs.Spelling.{FitsHead, FitsEvent};
 ghost use Rattle.fs_schedule.specs.Lines.{lines_of};
 ghost use Rattle.fs_schedule.specs.Faults.{AtLine, IsSkewed, AreLinesOf, Passes, HeadPasses, HeadHas, LineHas, AreEventLines, FaultsAt, PassesLimit, IsOutside, IsScheduleText, IsFirstFault};
 
@@ -23,6 +23,7 @@ use std::alloc::Global;
 /// earlier line.
 pub fn read_schedule(alloc: Global, bytes: &[u8]) -> Result<Schedule, ScheduleError>
     ensures ok { IfOk result (λ s. IsScheduleText s bytes.now) }
+    ensures form { IfOk result (λ s. FitsHead s.head) }
     ensures fits { IfOk result (λ s. AllByRecursion (FitsEvent s.head) s.events) }
     ensures bad_line { (line : ℕ) → IsErrOf result (ScheduleError.BadLine line) →
         IsFirstFault (AtLine line IsOutside) bytes.now }
@@ -41,6 +42,7 @@ pub fn read_schedule(alloc: Global, bytes: &[u8]) -> Result<Schedule, ScheduleEr
 /// The same, with readings that may fall back by any time.
 fn read_lines(alloc: Global, bytes: &[u8]) -> Result<Schedule, ScheduleError>
     ensures ok { IfOk result (λ s. AreLinesOf s (lines_of bytes.now)) }
+    ensures form { IfOk result (λ s. FitsHead s.head) }
     ensures fits { IfOk result (λ s. AllByRecursion (FitsEvent s.head) s.events) }
     ensures bad_line { (line : ℕ) → IsErrOf result (ScheduleError.BadLine line) →
         IsFirstFault (AtLine line IsOutside) bytes.now }

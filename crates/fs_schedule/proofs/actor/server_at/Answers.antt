@@ -1,7 +1,6 @@
-use Rattle.std.proofs.Common.{◌≡◌, List, ℕ, ◌∷◌, sym, ◌∙◌, ap, arith}
+use Rattle.std.proofs.Common.{◌≡◌, ◌∷◌, sym, ◌∙◌, ap, arith}
 use Rattle.std.specs.Fmt.{decimal}
-use Rattle.fs_schedule.specs.Words.{Bare}
-use Rattle.fs_schedule.specs.Spelling.{servers_in, server_word}
+use Rattle.fs_schedule.specs.Spelling.{servers_in}
 use Rattle.fs_schedule.specs.Reading.{word_of}
 use Rattle.fs_schedule.proofs.Asked.{bare_one, not_below}
 use Rattle.fs_schedule.proofs.actor.server_at.Goals as goal

@@ -1,4 +1,4 @@
-use Rattle.std.proofs.Common.{◌≡◌, ap}
+use Rattle.std.proofs.Common.{ap}
 use Rattle.std.specs.Prelude.{Err}
 use Rattle.fs_schedule.specs.declared.unread.Unread.{Unread}
 use Rattle.fs_schedule.specs.Spelling.{head_words, IsHeadLine}

@@ -1,4 +1,4 @@
-use Rattle.std.proofs.Common.{◌≡◌, sym, ◌∙◌, ap, arith}
+use Rattle.std.proofs.Common.{sym, ◌∙◌, ap, arith}
 use Rattle.fs_schedule.specs.Reading.{word_of}
 use Rattle.fs_schedule.proofs.Asked.{bare_one, too_great}
 use Rattle.fs_schedule.proofs.operand.number_at.Goals as goal

@@ -1,5 +1,4 @@
-use Rattle.std.proofs.Common.{◌≡◌, Bool, true, false, sym, ◌∙◌, ap}
-use Rattle.fs_model.specs.declared.op.Op.{Op}
+use Rattle.std.proofs.Common.{◌≡◌, sym, ◌∙◌, ap}
 use Rattle.fs_schedule.specs.Spelling.{has_op, op_words, FitsOp}
 use Rattle.fs_schedule.specs.Reading.{words_in}
 use Rattle.fs_schedule.proofs.Asked.{any_op}

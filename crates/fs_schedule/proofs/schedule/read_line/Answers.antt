@@ -1,4 +1,4 @@
-use Rattle.std.proofs.Common.{◌≡◌, ◌≤◌, ◌+◌, sym, ◌∙◌, arith}
+use Rattle.std.proofs.Common.{◌≡◌, ◌+◌, sym, ◌∙◌, arith}
 use Rattle.fs_schedule.specs.declared.error.Which.TheVariants.{Sessions, Events}
 use Rattle.fs_schedule.specs.Faults.{IsEventLine}
 use Rattle.fs_schedule.proofs.Reading.{no_line, late, late_here, in_time, count_here}

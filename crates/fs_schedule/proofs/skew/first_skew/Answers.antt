@@ -1,4 +1,4 @@
-use Rattle.std.proofs.Common.{◌+◌, arith, take, get_or}
+use Rattle.std.proofs.Common.{arith, take, get_or}
 use Rattle.fs_schedule.proofs.Skews.{seen_more, none_ahead, skew_here}
 use Rattle.fs_schedule.proofs.skew.first_skew.Goals as goal
 

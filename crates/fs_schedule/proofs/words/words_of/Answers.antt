@@ -1,4 +1,4 @@
-use Rattle.std.proofs.Common.{List, [], ◌∷◌, ◌++◌, ◌≡◌, ◌∙◌, ap, refl, sym, subst}
+use Rattle.std.proofs.Common.{List, [], ◌∷◌, ◌++◌, ◌≡◌, ap, refl, sym, subst}
 use Rattle.fs_schedule.specs.declared.word.Word.{Word as Piece}
 use Rattle.fs_schedule.specs.Words.{Word}
 use Rattle.fs_schedule.specs.Reading.{word_of, words_in}
