@@ -56,9 +56,9 @@ abbrev pub AreSentOver : Peer → Peer → Link → Link → List Sent → Type 
 AreSentOver a b from to packets = (x : Sent) → In x packets → x.from ≡ a → x.to ≡ b → IsSentOver from to x.bytes
 
 -- the links of two actors with each other: these messages are on their way from the first to the second, and these back
-pub record IsPair (a b : Peer) (here there : Link) (out back : List Msg) (packets : List Sent) : Type 0 where
-  pub out : IsWay here there out
-  pub back : IsWay there here back
+pub record IsPair (a b : Peer) (here there : Link) (to_there to_here : List Msg) (packets : List Sent) : Type 0 where
+  pub out : IsWay here there to_there
+  pub back : IsWay there here to_here
   pub going : AreSentOver a b here there packets
   pub coming : AreSentOver b a there here packets
 
