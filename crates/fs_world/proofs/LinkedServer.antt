@@ -29,6 +29,8 @@ use Rattle.fs_msg.specs.declared.msg.Msg.TheVariants as msg
 use Rattle.fs_msg.specs.declared.note.Note.{Note}
 use Rattle.fs_msg.specs.declared.note.Note.TheVariants as note
 use Rattle.fs_server.specs.Server.{Stepped as ServerStepped}
+use Rattle.fs_server.specs.Step.{is_spent, step}
+use Rattle.fs_server.specs.declared.event.ServerEvent.{ServerEvent}
 use Rattle.fs_server.specs.declared.event.ServerEvent.TheVariants.{FromClient}
 use Rattle.fs_world.specs.Linked.{AreAnswersTo, AreOfJoined, AreReadableDown, AreTied, FitsDown, GoesBetween, HasJoined, IsAnswerTo, IsFirstOf, IsLinked, IsOfJoined, IsPair, IsSeated, IsWritten, from_session, to_session}
 use Rattle.fs_world.specs.Readable.{HandlesOpen}
@@ -36,7 +38,8 @@ use Rattle.fs_world.specs.Served.{Seats, first_spent, heard_in, is_full_down, is
 use Rattle.fs_world.specs.declared.seat.Seat.{Seat}
 use Rattle.fs_world.specs.declared.served.Served.{Served}
 use Rattle.fs_world.proofs.LinkedPair.{first_joined, pair_accepted, pair_pushed, read_of, rest_mapped, rest_of, turned}
-use Rattle.fs_world.proofs.LinkedTies.{joined_still, put_same, rows_still, tied_due, tied_link}
+use Rattle.fs_world.proofs.LinkedRows.{IsAsked, step_of}
+use Rattle.fs_world.proofs.LinkedTies.{joined_now, joined_still, put_same, rows_still, tied_due, tied_link}
 
 -- what is on its way changes, at the server's end
 seat_way : (there now : Link) (packets : List Sent) (s : Session) (seat : Seat) (up : List ClientMsg) (down : List Answer) → IsPair the_server (Client s) now (link_with seat.post the_server) (to_session down) (from_session up) packets → IsSeated there packets s seat → IsSeated now packets s (record seat { up = up; down = down })
@@ -188,16 +191,16 @@ tied_taken w s p c h =
 relinked : (w : Served) (post : Links) (s : Session) (seat : Seat) → AreTied post (insert w.seats s.0 seat) w.packets.sent → IsLinked w → IsLinked (record w { post = post; seats = insert w.seats s.0 seat })
 relinked w post s seat t h = record { ties = t; handles = h.handles; rows = rows_still w.seats s seat w.server.rows h.rows }
 
-session_heard : (seats : Seats) (s : Session) (p : Packet) → HasJoined seats s → IsOfJoined seats (heard_in (Client s) p)
+pub session_heard : (seats : Seats) (s : Session) (p : Packet) → HasJoined seats s → IsOfJoined seats (heard_in (Client s) p)
 session_heard seats s p joined = either (is_some p.body)
   where
     either : (b : Bool) → IsOfJoined seats (cond b (Some (Client s)) None)
     either true = joined
     either false = tt
 
--- what is to be shown of the server's step where a message came, on the world without it
+-- what is to be shown where a message came: the server's step on it keeps what holds of the links
 abbrev pub IsStepped : ℕ → Session → Option Peer → List Joined → List ClientMsg → Served → Type 0
-IsStepped now s heard (j ∷ js) (m ∷ up) w = IsLinked (with_rest (get w.seats s.0) s.0 up w) → FitsMessage (msg.Client m) → IsLinked (server_step false heard now (FromClient s m) (with_rest (get w.seats s.0) s.0 up w)).world
+IsStepped now s heard (j ∷ js) (m ∷ up) w = (seats : Seats) → HasJoined seats s → FitsMessage (msg.Client m) → IsLinked (record w { seats = seats }) → IsLinked (server_step false heard now (FromClient s m) (record w { seats = seats })).world
 IsStepped now s heard joined up w = Unit {0}
 
 hears : (w : Served) (s : Session) (now : ℕ) (heard : Option Peer) (count : Heard) (post : Links) (joined : List Joined) (seat : Seat) (up : List ClientMsg) → get w.seats s.0 ≡ Some seat → seat.up ≡ up → IsOfJoined w.seats heard → IsFirstOf joined (from_session up)
@@ -207,7 +210,8 @@ hears w s now heard count post [] seat up is e of f t stepped h =
     server_sends (record w { post = post }) false heard (quiet_note count) None of (record { ties = same; handles = h.handles; rows = h.rows })
 hears w s now heard count post (j ∷ js) seat [] is e of f t stepped h = absurd f
 hears w s now heard count post (j ∷ js) seat (m ∷ up) is e of f t stepped h =
-    stepped (subst (λ (o : Option Seat). IsLinked (with_rest o s.0 up (record w { post = post }))) (sym is) (relinked w post s (record seat { up = up }) t h)) f.1
+    subst (λ (o : Option Seat). IsLinked (server_step false heard now (FromClient s m) (with_rest o s.0 up (record w { post = post }))).world) (sym is)
+    (stepped (insert w.seats s.0 (record seat { up = up })) (joined_now w.seats s (record seat { up = up })) f.1 (relinked w post s (record seat { up = up }) t h))
 
 pub tell_server_linked : (w : Served) (s : Session) (now : ℕ) (x : Sent) (p : Packet) → In x w.packets.sent → x.from ≡ Client s → x.to ≡ the_server → packet_at x.bytes ≡ Some p
     → IsStepped now s (heard_in (Client s) p) (post_accepted w.post (Client s) p).heard.joined (up_of (get w.seats s.0)) (record w { post = (post_accepted w.post (Client s) p).links })
@@ -219,3 +223,11 @@ tell_server_linked w s now x p i from to is stepped h =
     let taken = tied_taken w s p c h in
     hears w s now (heard_in (Client s) p) a.heard a.links a.heard.joined c.seat (up_of (get w.seats s.0)) c.is (sym up) (session_heard w.seats s p (c.seat, c.is)) (first_message w s x p i from to is h)
     (subst (λ (ms : List ClientMsg). AreTied a.links (insert w.seats s.0 (record c.seat { up = rest_of a.heard.joined ms })) w.packets.sent) (sym up) taken) stepped h
+
+-- ## An event of the server
+
+pub step_linked : (w : Served) (turn : Bool) (heard : Option Peer) (now : ℕ) (e : ServerEvent) → IsOfJoined w.seats heard → IsAsked (HasJoined w.seats) e → HandlesOpen (step w.server now e).server.records → AreReadableDown (step w.server now e).out.send → FitsDown (step w.server now e).out.send
+    → is_full_down (step w.server now e).out.send w.post ≡ false → IsLinked w → IsLinked (server_step turn heard now e w).world
+step_linked w turn heard now e of asked handles readable fits room h =
+    let k = step_of (HasJoined w.seats) w.server now e asked h.rows in
+    server_linked w turn heard (is_spent w.server now e) (step w.server now e) of handles k.rows k.sends readable fits room h
