@@ -4,3 +4,5 @@ pub mod Numbered
 pub mod Replies
 pub mod Kept
 pub mod Bounded
+pub mod OpenHandles
+pub mod Readable

@@ -1,3 +1,4 @@
 pub mod World
 pub mod Order
 pub mod Safe
+pub mod Readable
