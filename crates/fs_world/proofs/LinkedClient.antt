@@ -25,14 +25,15 @@ use Rattle.fs_client.specs.Answers.{answer_plan, fits, strange, told}
 use Rattle.fs_client.specs.Client.{begun, committed}
 use Rattle.fs_client.specs.declared.plan.Plan.{Plan}
 use Rattle.fs_client.specs.declared.state.Client.{Client as State}
-use Rattle.fs_world.specs.Linked.{FitsUp, IsFirstOf, IsLinked, IsOfServer, IsReadableUp, IsSeated, from_session, to_session}
+use Rattle.fs_world.specs.Linked.{FitsUp, IsFirstOf, IsLinked, IsSeated, from_session, to_session}
 use Rattle.fs_world.specs.Packets.{with_told}
 use Rattle.fs_world.specs.Readable.{HandlesOpen, LogReadable}
 use Rattle.fs_world.specs.Served.{client_does, client_hears, client_noted, client_told, first_seat, first_served, first_spent, heard_in, is_full_up, join_at, quiet_note, seat_after, seat_goes, the_server, with_read, with_seat}
 use Rattle.fs_world.specs.declared.seat.Seat.{Seat}
 use Rattle.fs_world.specs.declared.served.Served.{Served}
+use Rattle.fs_world.proofs.Readable.{SendsReadable}
 use Rattle.fs_world.proofs.LinkedPair.{first_joined, read_of, rest_of}
-use Rattle.fs_world.proofs.LinkedSeat.{goes_up, seat_due, seat_hears, seat_sends}
+use Rattle.fs_world.proofs.LinkedSeat.{IsOfServer, goes_up, seat_due, seat_hears, seat_sends}
 use Rattle.fs_world.proofs.LinkedTies.{rows_still, tied_first, tied_join, tied_session}
 
 pub first_linked : (skew term : ℕ) → HandlesOpen (first_served skew term).server.records → IsLinked (first_served skew term)
@@ -69,14 +70,14 @@ session_goes w s turn heard n counter seat journal of k h =
     }
 
 -- the client does what it planned
-pub session_does : (w : Served) (s : Session) (turn : Bool) (heard : Option Peer) (spent : Bool) (p : Plan Note) (seat : Seat) (journal : List Item) → IsOfServer heard → LogReadable (committed p.ready seat.client) → IsReadableUp p.out.send → FitsUp p.out.send → is_full_up p.out.send seat.post ≡ false
+pub session_does : (w : Served) (s : Session) (turn : Bool) (heard : Option Peer) (spent : Bool) (p : Plan Note) (seat : Seat) (journal : List Item) → IsOfServer heard → LogReadable (committed p.ready seat.client) → SendsReadable p.out.send → FitsUp p.out.send → is_full_up p.out.send seat.post ≡ false
     → IsSeated (link_with w.post (Client s)) w.packets.sent s seat → IsLinked w → IsLinked (with_seat s (client_does s turn heard spent p seat journal w.packets) w).world
 session_does w s turn heard spent p seat journal of log readable fits room k h =
     session_goes w s turn heard p.out.note (first_spent spent Entries (is_full_up p.out.send seat.post)) (seat_after p seat) (with_read p.out.admitted journal) of
     (seat_sends (link_with w.post (Client s)) w.packets.sent s seat p.ready p.out.send log readable fits room k) h
 
 -- a session that has joined does what it planned
-pub client_linked : (w : Served) (s : Session) (turn : Bool) (heard : Option Peer) (spent : Bool) (p : Plan Note) (seat : Seat) → get w.seats s.0 ≡ Some seat → IsOfServer heard → LogReadable (committed p.ready seat.client) → IsReadableUp p.out.send → FitsUp p.out.send
+pub client_linked : (w : Served) (s : Session) (turn : Bool) (heard : Option Peer) (spent : Bool) (p : Plan Note) (seat : Seat) → get w.seats s.0 ≡ Some seat → IsOfServer heard → LogReadable (committed p.ready seat.client) → SendsReadable p.out.send → FitsUp p.out.send
     → is_full_up p.out.send seat.post ≡ false → IsLinked w → IsLinked (with_seat s (client_does s turn heard spent p seat w.journal w.packets) w).world
 client_linked w s turn heard spent p seat e of log readable fits room h = session_does w s turn heard spent p seat w.journal of log readable fits room (h.ties.seated s seat e) h
 
@@ -114,7 +115,7 @@ hears w s now heard count [] down seat e of f log k h =
 hears w s now heard count (j ∷ js) [] seat e of f log k h = absurd f
 hears w s now heard count (j ∷ js) (a ∷ down) seat e of f log k h =
     let none : None ≡ (answer_plan seat.client now 0 a).out.send = sym (silent seat.client now 0 a) in
-    session_does w s false heard false (client_noted (answer_plan seat.client now 0 a)) (record seat { down = down }) w.journal of (log a) (subst (λ (o : Option (ℕ × ClientMsg)). IsReadableUp o) none tt) (subst (λ (o : Option (ℕ × ClientMsg)). FitsUp o) none tt)
+    session_does w s false heard false (client_noted (answer_plan seat.client now 0 a)) (record seat { down = down }) w.journal of (log a) (subst (λ (o : Option (ℕ × ClientMsg)). SendsReadable o) none tt) (subst (λ (o : Option (ℕ × ClientMsg)). FitsUp o) none tt)
     (subst (λ (o : Option (ℕ × ClientMsg)). is_full_up o seat.post ≡ false) none refl) k h
 
 server_heard : (p : Packet) → IsOfServer (heard_in the_server p)

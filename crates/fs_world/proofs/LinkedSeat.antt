@@ -29,10 +29,11 @@ use Rattle.fs_client.specs.declared.change.Change.TheVariants as change
 use Rattle.fs_client.specs.declared.plan.Ready.{Ready}
 use Rattle.fs_client.specs.declared.state.Client.{Client as State}
 use Rattle.fs_client.specs.Client.{admitted_all, admitted_one, begun, changed, committed}
-use Rattle.fs_world.specs.Linked.{AreSentOver, FitsUp, IsOfServer, IsPair, IsReadableUp, IsSeated, from_session, to_session}
+use Rattle.fs_world.specs.Linked.{FitsUp, IsPair, IsSeated, from_session, to_session}
 use Rattle.fs_world.specs.Readable.{LogReadable}
 use Rattle.fs_world.specs.Served.{first_seat, is_full_up, link_width, post_after, the_server, up_after}
 use Rattle.fs_world.specs.declared.seat.Seat.{Seat}
+use Rattle.fs_world.proofs.Readable.{SendsReadable}
 use Rattle.fs_world.proofs.LinkedPair.{GoesElsewhere, IsDue, pair_accepted, pair_due, pair_new, pair_pushed, rest_mapped, rest_of}
 
 -- a session that has just joined
@@ -87,7 +88,7 @@ pub session_kept : (r : Ready) (c : State) → (committed r c).session ≡ c.ses
 session_kept r c = changed_kept r.change (begun r.now c)
 
 -- what the client sends goes onto the link, and is on its way
-pub seat_sends : (there : Link) (packets : List Sent) (s : Session) (seat : Seat) (r : Ready) (send : Option (ℕ × ClientMsg)) → LogReadable (committed r seat.client) → IsReadableUp send → FitsUp send → is_full_up send seat.post ≡ false
+pub seat_sends : (there : Link) (packets : List Sent) (s : Session) (seat : Seat) (r : Ready) (send : Option (ℕ × ClientMsg)) → LogReadable (committed r seat.client) → SendsReadable send → FitsUp send → is_full_up send seat.post ≡ false
     → IsSeated there packets s seat → IsSeated there packets s (record { client = committed r seat.client; post = post_after send seat.post; up = up_after send seat.up; down = seat.down })
 seat_sends there packets s seat r None log readable fits room h = record {
   me = h.me;
@@ -108,6 +109,11 @@ seat_sends there packets s seat r (Some m) log readable fits room h =
     (subst (λ (ms : List Msg). IsPair (Client s) the_server (link_pushed here (message (msg.Client m.1))) there ms (to_session seat.down) packets) (sym way) pushed) h
 
 -- ## What is due goes out
+
+-- whoever is heard at a session is the server
+abbrev pub IsOfServer : Option Peer → Type 0
+IsOfServer None = Unit {0}
+IsOfServer (Some who) = who ≡ the_server
 
 -- nothing is due on a new link where nothing was heard
 none_due : (turn heard : Bool) → heard ≡ false → due_of (new_link link_width).window turn heard ≡ []

@@ -32,14 +32,15 @@ use Rattle.fs_server.specs.Server.{Stepped as ServerStepped}
 use Rattle.fs_server.specs.Step.{is_spent, step}
 use Rattle.fs_server.specs.declared.event.ServerEvent.{ServerEvent}
 use Rattle.fs_server.specs.declared.event.ServerEvent.TheVariants.{FromClient}
-use Rattle.fs_world.specs.Linked.{AreAnswersTo, AreOfJoined, AreReadableDown, AreTied, FitsDown, GoesBetween, HasJoined, IsAnswerTo, IsFirstOf, IsLinked, IsOfJoined, IsPair, IsSeated, IsWritten, from_session, to_session}
+use Rattle.fs_world.specs.Linked.{AreOfJoined, AreTied, FitsDown, GoesBetween, HasJoined, IsFirstOf, IsLinked, IsPair, IsSeated, IsWritten, from_session, to_session}
 use Rattle.fs_world.specs.Readable.{HandlesOpen}
 use Rattle.fs_world.specs.Served.{Seats, first_spent, heard_in, is_full_down, is_full_for, quiet_note, server_does, server_goes, server_hears, server_step, server_told, the_server, up_of, with_down, with_down_at, with_downs, with_pushed, with_rest}
 use Rattle.fs_world.specs.declared.seat.Seat.{Seat}
 use Rattle.fs_world.specs.declared.served.Served.{Served}
+use Rattle.fs_world.proofs.Readable.{AllReadable}
 use Rattle.fs_world.proofs.LinkedPair.{first_joined, pair_accepted, pair_pushed, read_of, rest_mapped, rest_of, turned}
-use Rattle.fs_world.proofs.LinkedRows.{IsAsked, step_of}
-use Rattle.fs_world.proofs.LinkedTies.{joined_now, joined_still, put_same, rows_still, tied_due, tied_link}
+use Rattle.fs_world.proofs.LinkedRows.{AreAnswersTo, IsAnswerTo, IsAsked, step_of}
+use Rattle.fs_world.proofs.LinkedTies.{IsOfJoined, joined_now, joined_still, put_same, rows_still, tied_due, tied_link}
 
 -- what is on its way changes, at the server's end
 seat_way : (there now : Link) (packets : List Sent) (s : Session) (seat : Seat) (up : List ClientMsg) (down : List Answer) → IsPair the_server (Client s) now (link_with seat.post the_server) (to_session down) (from_session up) packets → IsSeated there packets s seat → IsSeated now packets s (record seat { up = up; down = down })
@@ -109,7 +110,7 @@ tied_down (Client s, msg.Client m) post seats packets joined readable written ro
 tied_down (Server k, m) post seats packets joined readable written room h = absurd joined
 
 -- one after another
-tied_downs : (xs : List (Peer × Msg)) (post : Links) (seats : Seats) (packets : List Sent) → AreAnswersTo (HasJoined seats) xs → AreReadableDown xs → FitsDown xs → is_full_down xs post ≡ false → AreTied post seats packets → AreTied (with_pushed xs post) (with_downs xs seats) packets
+tied_downs : (xs : List (Peer × Msg)) (post : Links) (seats : Seats) (packets : List Sent) → AreAnswersTo (HasJoined seats) xs → AllReadable xs → FitsDown xs → is_full_down xs post ≡ false → AreTied post seats packets → AreTied (with_pushed xs post) (with_downs xs seats) packets
 tied_downs [] post seats packets answers readable fits room h = h
 tied_downs (x ∷ xs) post seats packets answers readable fits room h =
     let rooms = neither (is_full_for post x.0 (message x.1)) (is_full_down xs (post_pushed post x.0 (message x.1))) room in
@@ -132,7 +133,7 @@ heard_still xs seats None of = tt
 heard_still xs seats (Some (Client s)) of = joined_downs xs seats s of
 heard_still xs seats (Some (Server k)) of = of
 
-pub server_linked : (w : Served) (turn : Bool) (heard : Option Peer) (spent : Bool) (x : ServerStepped) → IsOfJoined w.seats heard → HandlesOpen x.server.records → AreOfJoined w.seats x.server.rows → AreAnswersTo (HasJoined w.seats) x.out.send → AreReadableDown x.out.send → FitsDown x.out.send
+pub server_linked : (w : Served) (turn : Bool) (heard : Option Peer) (spent : Bool) (x : ServerStepped) → IsOfJoined w.seats heard → HandlesOpen x.server.records → AreOfJoined w.seats x.server.rows → AreAnswersTo (HasJoined w.seats) x.out.send → AllReadable x.out.send → FitsDown x.out.send
     → is_full_down x.out.send w.post ≡ false → IsLinked w → IsLinked (server_does turn heard spent x w).world
 server_linked w turn heard spent x of handles rows answers readable fits room h =
     server_sends (record w { server = x.server; post = with_pushed x.out.send w.post; seats = with_downs x.out.send w.seats; journal = w.journal ++ x.out.admitted })
@@ -226,7 +227,7 @@ tell_server_linked w s now x p i from to is stepped h =
 
 -- ## An event of the server
 
-pub step_linked : (w : Served) (turn : Bool) (heard : Option Peer) (now : ℕ) (e : ServerEvent) → IsOfJoined w.seats heard → IsAsked (HasJoined w.seats) e → HandlesOpen (step w.server now e).server.records → AreReadableDown (step w.server now e).out.send → FitsDown (step w.server now e).out.send
+pub step_linked : (w : Served) (turn : Bool) (heard : Option Peer) (now : ℕ) (e : ServerEvent) → IsOfJoined w.seats heard → IsAsked (HasJoined w.seats) e → HandlesOpen (step w.server now e).server.records → AllReadable (step w.server now e).out.send → FitsDown (step w.server now e).out.send
     → is_full_down (step w.server now e).out.send w.post ≡ false → IsLinked w → IsLinked (server_step turn heard now e w).world
 step_linked w turn heard now e of asked handles readable fits room h =
     let k = step_of (HasJoined w.seats) w.server now e asked h.rows in

@@ -21,7 +21,7 @@ use Rattle.fs_window.proofs.Actors.{link_of_actor, links_of_actors, sent_to_acto
 use Rattle.fs_window.proofs.ByActor.{links_put}
 use Rattle.fs_window.proofs.OneStep.{in_both}
 use Rattle.fs_msg.specs.declared.msg.Msg.{Msg}
-use Rattle.fs_world.specs.Linked.{AreTied, GoesBetween, HasJoined, IsOfJoined, IsPair, IsSeated, from_session, to_session}
+use Rattle.fs_world.specs.Linked.{AreTied, GoesBetween, HasJoined, IsPair, IsSeated, from_session, to_session}
 use Rattle.fs_world.specs.Served.{Seats, first_seat, link_width, the_server}
 use Rattle.fs_world.specs.declared.seat.Seat.{Seat}
 use Rattle.fs_world.proofs.LinkedPair.{GoesElsewhere, pair_due, pair_elsewhere, turned}
@@ -181,6 +181,12 @@ tied_link post seats packets s l seat here h = record {
     kept t e = link_of_actor post (Client s) (Client t) l ∙ ap (λ b. cond b l (link_with post (Client t))) e
 
 -- ## The server sends
+
+-- whoever is heard at the server is a session that has joined
+abbrev pub IsOfJoined : Seats → Option Peer → Type 0
+IsOfJoined seats None = Unit {0}
+IsOfJoined seats (Some (Client s)) = HasJoined seats s
+IsOfJoined seats (Some (Server k)) = ⊥
 
 -- the packet goes from the server to a session that has joined
 record GoesDown (seats : Seats) (x : Sent) : Type 0 where
