@@ -1,11 +1,10 @@
 -- What holds of the links holds of the first world, and each kind of event keeps it.
-use Rattle.std.proofs.Common.{◌≡◌, ℕ, ◌≤◌, Bool, true, false, List, [], ◌∷◌, Option, Some, None, refl, arith}
+use Rattle.std.proofs.Common.{◌≡◌, ℕ, ◌≤◌, true, false, List, [], ◌∷◌, Some, None, refl, arith}
 use Rattle.std.specs.Prelude.{◌&&◌, nat_le}
 use Rattle.std.specs.List.{AllByRecursion, list_all}
 use Rattle.std.specs.FinMap.{get}
 use Rattle.std.proofs.lemmas.Bool.Decides.{nat_tests}
 use Rattle.fs_ident.specs.In.{In}
-use Rattle.fs_ident.specs.declared.actor.Peer.{Peer}
 use Rattle.fs_ident.specs.declared.actor.Peer.TheVariants.{Client}
 use Rattle.fs_ident.specs.declared.actor.Session.{Session}
 use Rattle.fs_ident.proofs.Booleans.{joined}
@@ -20,7 +19,7 @@ use Rattle.fs_window.specs.Post.{post_accepted}
 use Rattle.fs_window.specs.Reading.{packet_at}
 use Rattle.fs_wire.specs.Ranges.{FitsOp}
 use Rattle.fs_wire.specs.Readable.{is_readable_op}
-use Rattle.fs_msg.specs.Ranges.{FitsClientMessage, FitsEntry, FitsMessage}
+use Rattle.fs_msg.specs.Ranges.{FitsEntry, FitsMessage}
 use Rattle.fs_msg.specs.Readable.{is_readable, is_readable_entry}
 use Rattle.fs_msg.specs.declared.client_msg.ClientMsg.{ClientMsg}
 use Rattle.fs_msg.specs.declared.client_msg.ClientMsg.TheVariants as client
@@ -30,23 +29,15 @@ use Rattle.fs_client.specs.Acts.{act_plan, is_act_spent}
 use Rattle.fs_client.specs.Turns.{turn_plan}
 use Rattle.fs_server.specs.Step.{step}
 use Rattle.fs_server.specs.declared.event.ServerEvent.TheVariants.{FromClient, Turn, Recall}
-use Rattle.fs_world.specs.Linked.{FitsDown, FitsUp, HasJoined, IsFirstOf, IsLinked, from_session, to_session}
-use Rattle.fs_world.specs.Packets.{with_told}
-use Rattle.fs_world.specs.Served.{Seats, act_noted, client_acts, client_noted, client_told, client_turns, first_served, heard_in, is_full_down, is_full_up, join_at, server_step, server_told, the_server, up_of, with_seat}
+use Rattle.fs_world.specs.Linked.{FitsDown, FitsUp, IsLinked}
+use Rattle.fs_world.specs.Served.{Seats, act_noted, client_acts, client_noted, client_turns, heard_in, is_full_down, is_full_up, server_step, server_told, the_server, up_of, with_seat}
 use Rattle.fs_world.specs.declared.seat.Seat.{Seat}
 use Rattle.fs_world.specs.declared.served.Served.{Served}
-use Rattle.fs_world.proofs.Readable.{act_keeps_log, act_sends_readable, answer_keeps_log, first_handles_open, step_keeps_handles, step_sends_readable, turn_keeps_log, turn_sends_readable}
-use Rattle.fs_world.proofs.LinkedClient.{client_linked, first_answer, first_linked, join_linked, mark_linked, tell_linked}
-use Rattle.fs_world.proofs.LinkedServer.{IsStepped, first_message, session_heard, step_linked, tell_server_linked}
-
-pub first : (skew term : ℕ) → IsLinked (first_served skew term)
-first skew term = first_linked skew term (first_handles_open 0 skew term)
-
-pub join : (w : Served) (s : Session) → IsLinked w → IsLinked (join_at (get w.seats s.0) s w).world
-join w s h = join_linked w s h
-
-pub mark : (w : Served) (k : ℕ) → IsLinked w → IsLinked (record w { packets = with_told k w.packets })
-mark w k h = mark_linked w k h
+use Rattle.fs_world.proofs.Readable.{act_keeps_log, act_sends_readable, step_keeps_handles, step_sends_readable, turn_keeps_log, turn_sends_readable}
+use Rattle.fs_world.proofs.LinkedClient.{client_linked}
+pub use Rattle.fs_world.proofs.LinkedClient.{first, join, mark, first_at_client, tell_client}
+use Rattle.fs_world.proofs.LinkedServer.{IsStepped, session_heard, step_linked, tell_server_linked}
+pub use Rattle.fs_world.proofs.LinkedServer.{first_at_server}
 
 -- ## At a session
 
@@ -61,15 +52,6 @@ turn w s seat now e fits room h =
     let log = (h.ties.seated s seat e).log in
     client_linked w s true None false (client_noted (turn_plan seat.client now)) seat e tt (turn_keeps_log seat.client now log) (turn_sends_readable seat.client now log) fits room h
 
--- what a packet of the server completes is the first answer on its way
-pub first_at_client : (w : Served) (s : Session) (seat : Seat) (x : Sent) (p : Packet) → get w.seats s.0 ≡ Some seat → In x w.packets.sent → x.from ≡ the_server → x.to ≡ Client s → packet_at x.bytes ≡ Some p
-    → IsLinked w → IsFirstOf (post_accepted seat.post the_server p).heard.joined (to_session seat.down)
-first_at_client w s seat x p e i from to is h = first_answer w s seat x p e i from to is h
-
-pub tell_client : (w : Served) (s : Session) (seat : Seat) (now : ℕ) (x : Sent) (p : Packet) → get w.seats s.0 ≡ Some seat → In x w.packets.sent → x.from ≡ the_server → x.to ≡ Client s → packet_at x.bytes ≡ Some p
-    → IsLinked w → IsLinked (with_seat s (client_told now s p seat w.journal w.packets) w).world
-tell_client w s seat now x p e i from to is h = tell_linked w s seat now x p e i from to is (λ a. answer_keeps_log seat.client now 0 a (h.ties.seated s seat e).log) h
-
 -- ## At the server
 
 pub turn_server : (w : Served) (now : ℕ) → FitsDown (step w.server now Turn).out.send → is_full_down (step w.server now Turn).out.send w.post ≡ false → IsLinked w → IsLinked (server_step true None now Turn w).world
@@ -77,11 +59,6 @@ turn_server w now fits room h = step_linked w true None now Turn tt tt (step_kee
 
 pub recall : (w : Served) (now : ℕ) (field : Field) → FitsDown (step w.server now (Recall field)).out.send → is_full_down (step w.server now (Recall field)).out.send w.post ≡ false → IsLinked w → IsLinked (server_step false None now (Recall field) w).world
 recall w now field fits room h = step_linked w false None now (Recall field) tt tt (step_keeps_handles w.server now (Recall field) tt h.handles) (step_sends_readable w.server now (Recall field) tt h.handles) fits room h
-
--- what a packet of a session completes is the first message on its way
-pub first_at_server : (w : Served) (s : Session) (x : Sent) (p : Packet) → In x w.packets.sent → x.from ≡ Client s → x.to ≡ the_server → packet_at x.bytes ≡ Some p
-    → IsLinked w → IsFirstOf (post_accepted w.post (Client s) p).heard.joined (from_session (up_of (get w.seats s.0)))
-first_at_server w s x p i from to is h = first_message w s x p i from to is h
 
 -- what can be spelled can be read
 session_readable : (n greatest : ℕ) → 1 ≤ n → n ≤ greatest → (nat_le 1 n && nat_le n greatest) ≡ true

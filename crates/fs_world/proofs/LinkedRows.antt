@@ -1,5 +1,5 @@
 -- Whose rows a server has, and to whom it sends: the sessions that asked.
-use Rattle.std.proofs.Common.{◌≡◌, ℕ, Bool, true, false, List, [], ◌∷◌, ◌++◌, ◌⊎◌, length, map, not, Option, Some, None, refl, sym, ap, subst, cond, ◌∙◌, inl, inr}
+use Rattle.std.proofs.Common.{◌≡◌, ℕ, Bool, true, false, List, [], ◌∷◌, ◌++◌, map, not, Option, Some, None, refl, sym, ap, subst, cond, ◌∙◌, inl, inr}
 use Rattle.std.specs.Prelude.{◌&&◌, is_some, nat_lt}
 use Rattle.std.specs.List.{AllByRecursion, filter, find, list_all}
 use Rattle.fs_ident.specs.Ident.{child}
@@ -32,7 +32,7 @@ use Rattle.fs_msg.specs.declared.item.Item.{Item}
 use Rattle.fs_msg.specs.declared.msg.Msg.{Msg}
 use Rattle.fs_msg.specs.declared.msg.Msg.TheVariants as msg
 use Rattle.fs_record.specs.Effects.{tells_its_effects}
-use Rattle.fs_server.specs.Asks.{Asking, answered, ask_fresh, ask_from, ask_step, asked_in, fresh_for, fresh_in, fresh_of, grant_of, kind_for, recall_of, recalls_at, with_fresh, with_lease}
+use Rattle.fs_server.specs.Asks.{Asking, answered, ask_fresh, ask_from, ask_step, asked_in, fresh_for, fresh_in, fresh_of, grant_of, kind_for, recall_of, recalls_at, with_lease}
 use Rattle.fs_server.specs.Pairs.{numbers_in, released_rows, renewed_rows}
 use Rattle.fs_server.specs.Server.{Stepped, begun, end_of, strange}
 use Rattle.fs_server.specs.Ships.{first_gone, item_of, ship_from, ship_step, shipped, with_entry}

@@ -1,13 +1,12 @@
 -- What stands at a session: what the client sends, what goes out, and what comes.
-use Rattle.std.proofs.Common.{◌≡◌, ℕ, zero, suc, ◌+◌, ◌<◌, ◌≤◌, ◌^◌, Bool, true, false, List, [], ◌∷◌, ◌++◌, ◌⊎◌, length, map, Option, Some, None, refl, sym, ap, subst, cond, ◌∙◌, inl, inr, arith}
+use Rattle.std.proofs.Common.{◌≡◌, ℕ, zero, suc, ◌+◌, Bool, true, false, List, [], ◌∷◌, ◌++◌, Option, Some, None, refl, sym, ap, subst, cond, ◌∙◌, arith}
 use Rattle.std.proofs.lemmas.Bool.{leb-false}
 use Rattle.std.proofs.lemmas.List.{map-append}
 use Rattle.fs_ident.specs.In.{In}
 use Rattle.fs_ident.specs.declared.actor.Peer.{Peer}
-use Rattle.fs_ident.specs.declared.actor.Peer.TheVariants.{Server, Client}
+use Rattle.fs_ident.specs.declared.actor.Peer.TheVariants.{Client}
 use Rattle.fs_ident.specs.declared.actor.Session.{Session}
 use Rattle.fs_ident.proofs.Booleans.{equal_is}
-use Rattle.fs_frag.specs.Cut.{cut_of}
 use Rattle.fs_window.specs.declared.link.Link.{Link}
 use Rattle.fs_window.specs.declared.packet.Packet.{Packet}
 use Rattle.fs_window.specs.declared.sent.Sent.{Sent}
@@ -18,7 +17,6 @@ use Rattle.fs_window.specs.Post.{AreLinks, Links, WasSent, heard_on, is_peer, li
 use Rattle.fs_window.proofs.Actors.{link_of_actor, links_of_actors, sent_to_actor}
 use Rattle.fs_window.proofs.ByActor.{links_changed, links_put}
 use Rattle.fs_window.proofs.PeerOrder.{peer_same}
-use Rattle.fs_msg.specs.Ranges.{FitsMessage}
 use Rattle.fs_msg.specs.Spelling.{message}
 use Rattle.fs_msg.specs.declared.answer.Answer.{Answer}
 use Rattle.fs_msg.specs.declared.client_msg.ClientMsg.{ClientMsg}

@@ -1,6 +1,6 @@
 -- What happens at the server keeps what holds of the links.
-use Rattle.std.proofs.Common.{◌≡◌, ℕ, ◌+◌, ◌<◌, ◌^◌, Bool, true, false, List, [], ◌∷◌, ◌++◌, length, Option, Some, None, refl, sym, ap, subst, cond, ◌∙◌, arith}
-use Rattle.std.specs.Prelude.{◌||◌, is_some}
+use Rattle.std.proofs.Common.{◌≡◌, ℕ, ◌+◌, Bool, true, false, List, [], ◌∷◌, ◌++◌, Option, Some, None, sym, ap, subst, cond, ◌∙◌, arith}
+use Rattle.std.specs.Prelude.{is_some}
 use Rattle.std.specs.FinMap.{get, insert}
 use Rattle.std.proofs.lemmas.Bool.{leb-false}
 use Rattle.std.proofs.lemmas.List.{map-append}
@@ -169,9 +169,9 @@ first_of w s p c h =
     first_joined the_server (Client s) there (link_with seat.post the_server) (to_session seat.down) (from_session seat.up) w.packets.sent p c.of (pair_at there w.packets.sent s seat (h.ties.seated s seat c.is))
 
 -- what it completes is the first message on its way
-pub first_message : (w : Served) (s : Session) (x : Sent) (p : Packet) → In x w.packets.sent → x.from ≡ Client s → x.to ≡ the_server → packet_at x.bytes ≡ Some p
+pub first_at_server : (w : Served) (s : Session) (x : Sent) (p : Packet) → In x w.packets.sent → x.from ≡ Client s → x.to ≡ the_server → packet_at x.bytes ≡ Some p
     → IsLinked w → IsFirstOf (post_accepted w.post (Client s) p).heard.joined (from_session (up_of (get w.seats s.0)))
-first_message w s x p i from to is h =
+first_at_server w s x p i from to is h =
     let c = comes_up w s x p i from to is h in
     subst (λ (o : Option Seat). IsFirstOf (post_accepted w.post (Client s) p).heard.joined (from_session (up_of o))) (sym c.is) (first_of w s p c h)
 
@@ -222,7 +222,7 @@ tell_server_linked w s now x p i from to is stepped h =
     let a = post_accepted w.post (Client s) p in
     let up : up_of (get w.seats s.0) ≡ c.seat.up = ap (λ (o : Option Seat). up_of o) c.is in
     let taken = tied_taken w s p c h in
-    hears w s now (heard_in (Client s) p) a.heard a.links a.heard.joined c.seat (up_of (get w.seats s.0)) c.is (sym up) (session_heard w.seats s p (c.seat, c.is)) (first_message w s x p i from to is h)
+    hears w s now (heard_in (Client s) p) a.heard a.links a.heard.joined c.seat (up_of (get w.seats s.0)) c.is (sym up) (session_heard w.seats s p (c.seat, c.is)) (first_at_server w s x p i from to is h)
     (subst (λ (ms : List ClientMsg). AreTied a.links (insert w.seats s.0 (record c.seat { up = rest_of a.heard.joined ms })) w.packets.sent) (sym up) taken) stepped h
 
 -- ## An event of the server
