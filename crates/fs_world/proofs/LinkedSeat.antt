@@ -160,8 +160,9 @@ is_due s turn heard x to h i e = due_on s turn heard x to e (sent_to_actor s tur
 pub links_due : (s : Links) → AreLinks s → AreLinks (links_sent s)
 links_due s h = links_changed s.me s.width s.ends (links_sent s).ends link_sent h refl
 
-other_way : (s : Session) → Client s ≡ the_server → ⊥
-other_way s e = cc
+-- a session is not the server
+pub not_server : (s : Session) → Client s ≡ the_server → ⊥
+not_server s e = cc
 
 pub seat_due : (there : Link) (packets : List Sent) (s : Session) (seat : Seat) (turn : Bool) (heard : Option Peer) → IsOfServer heard → IsSeated there packets s seat
     → IsSeated there (packets ++ (post_due seat.post turn heard).sent) s (record seat { post = (post_due seat.post turn heard).links })
@@ -176,7 +177,7 @@ seat_due there packets s seat turn heard of h =
       alone = λ other e. links_of_actors seat.post other ∙ new_sent (link_with seat.post other) (h.alone other e);
       pair = subst (λ (l : Link). IsPair (Client s) the_server l there (from_session seat.up) (to_session seat.down) (packets ++ more)) (sym (links_of_actors seat.post the_server))
           (pair_due (Client s) the_server here there (from_session seat.up) (to_session seat.down) packets more (λ x i e f. is_due seat.post turn heard x the_server h.links i f)
-              (λ x i e f. other_way s (sym (goes_up there packets s seat turn heard x of h i).0 ∙ e)) h.pair);
+          (λ x i e f. not_server s (sym (goes_up there packets s seat turn heard x of h i).0 ∙ e)) h.pair);
       log = h.log;
     }
 
@@ -189,4 +190,4 @@ seat_hears there packets s seat p q h =
     let here = link_with seat.post the_server in
     seat_with there packets s seat (link_accepted here p) seat.client seat.up (rest_of (heard_on here p).joined seat.down) h.session h.log
     (subst (λ (ms : List Msg). IsPair (Client s) the_server (link_accepted here p) there (from_session seat.up) ms packets) (sym (rest_mapped (λ (a : Answer). msg.Answer a) (heard_on here p).joined seat.down))
-        (pair_accepted (Client s) the_server here there (from_session seat.up) (to_session seat.down) packets p q h.pair)) h
+    (pair_accepted (Client s) the_server here there (from_session seat.up) (to_session seat.down) packets p q h.pair)) h

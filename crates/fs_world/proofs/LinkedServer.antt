@@ -78,7 +78,7 @@ tied_answer s a post seats packets joined readable written room h =
     let seat = joined.0 in
     subst (λ (o : Option Seat). AreTied (post_pushed post (Client s) (message (msg.Answer a))) (with_down_at o s.0 a seats) packets) (sym joined.1)
     (tied_link post seats packets s (link_pushed (link_with post (Client s)) (message (msg.Answer a))) (record seat { down = seat.down ++ a ∷ [] })
-        (seat_answered post packets s seat a readable written room (h.seated s seat joined.1)) h)
+    (seat_answered post packets s seat a readable written room (h.seated s seat joined.1)) h)
 
 -- whoever has joined stays
 joined_down : (x : Peer × Msg) (seats : Seats) (t : Session) → HasJoined seats t → HasJoined (with_down x seats) t
@@ -186,7 +186,7 @@ tied_taken w s p c h =
     pair_accepted the_server (Client s) there (link_with seat.post the_server) (to_session seat.down) (from_session seat.up) w.packets.sent p c.of (pair_at there w.packets.sent s seat k) in
     tied_link w.post w.seats w.packets.sent s (link_accepted there p) (record seat { up = rest_of joined seat.up })
     (seat_way there (link_accepted there p) w.packets.sent s seat (rest_of joined seat.up) seat.down
-        (subst (λ (ms : List Msg). IsPair the_server (Client s) (link_accepted there p) (link_with seat.post the_server) (to_session seat.down) ms w.packets.sent) (sym (rest_mapped (λ (m : ClientMsg). msg.Client m) joined seat.up)) pair) k) h.ties
+    (subst (λ (ms : List Msg). IsPair the_server (Client s) (link_accepted there p) (link_with seat.post the_server) (to_session seat.down) ms w.packets.sent) (sym (rest_mapped (λ (m : ClientMsg). msg.Client m) joined seat.up)) pair) k) h.ties
 
 -- a world whose links are these, and whose server is as it was
 relinked : (w : Served) (post : Links) (s : Session) (seat : Seat) → AreTied post (insert w.seats s.0 seat) w.packets.sent → IsLinked w → IsLinked (record w { post = post; seats = insert w.seats s.0 seat })

@@ -19,7 +19,7 @@ use Rattle.fs_world.specs.Linked.{AreTied, GoesBetween, HasJoined, IsPair, IsSea
 use Rattle.fs_world.specs.Served.{Seats, first_seat, link_width, the_server}
 use Rattle.fs_world.specs.declared.seat.Seat.{Seat}
 use Rattle.fs_world.proofs.LinkedPair.{pair_due, pair_elsewhere, turned}
-use Rattle.fs_world.proofs.LinkedSeat.{is_due, links_due, new_sent, not_due, seat_new}
+use Rattle.fs_world.proofs.LinkedSeat.{is_due, links_due, new_sent, not_due, not_server, seat_new}
 
 -- ## Sessions
 
@@ -102,10 +102,6 @@ tied_first = record {
 }
 
 -- ## A session's seat changes, and it sends
-
--- the two are different actors, each way
-not_server : (s : Session) → Client s ≡ the_server → ⊥
-not_server s e = absurd (cc)
 
 client_is : (s t : Session) → Client s ≡ Client t → eq_by_cmp nat_cmp t.0 s.0 ≡ true
 client_is s t e = let q : s ≡ t = cc in ap (λ (x : Session). eq_by_cmp nat_cmp t.0 x.0) q ∙ tied_self (Client t)
@@ -242,7 +238,7 @@ tied_due post seats packets turn heard of h =
         let more = (post_due post turn heard).sent in
         let pair : IsPair the_server (Client t) (link_sent there) here (to_session seat.down) (from_session seat.up) (packets ++ more) =
         pair_due the_server (Client t) there here (to_session seat.down) (from_session seat.up) packets more (λ x i e f. is_due post turn heard x (Client t) h.links i f)
-            (λ x i e f. not_server t (sym e ∙ (goes_down post seats packets turn heard x of h i).from)) (turned (Client t) the_server here there (from_session seat.up) (to_session seat.down) packets k.pair) in
+        (λ x i e f. not_server t (sym e ∙ (goes_down post seats packets turn heard x of h i).from)) (turned (Client t) the_server here there (from_session seat.up) (to_session seat.down) packets k.pair) in
         subst (λ (l : Link). IsSeated l (packets ++ more) t seat) (sym (links_of_actors post (Client t)))
         (record {
           me = k.me;
