@@ -1,5 +1,5 @@
 -- How operations and replies are written.
-use Rattle.std.specs.Prelude.{ℕ, List, [], ◌∷◌, ◌++◌, codes, Option, Some, None, flat_map}
+use Rattle.std.specs.Prelude.{ℕ, List, ◌∷◌, ◌++◌, codes, Option, Some, None, flat_map}
 use Rattle.std.specs.Fmt.{decimal}
 use Rattle.fs_ident.specs.IdText.{id_text}
 use Rattle.fs_ident.specs.Texts.{quoted, session_text, peer_text}
