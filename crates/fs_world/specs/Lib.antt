@@ -4,6 +4,8 @@ pub mod Served
 pub mod World
 pub mod Order
 pub mod Safe
+pub mod Refusals
+pub mod Skew
 -- cited by private calls alone
 pub mod Readable
 pub mod Linked
