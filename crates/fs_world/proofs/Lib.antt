@@ -20,4 +20,4 @@ pub mod Runs
 pub mod Whole
 pub mod Right
 pub mod RightSteps
-pub mod AllRight
+pub mod RightRuns

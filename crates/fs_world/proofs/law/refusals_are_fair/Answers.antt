@@ -1,4 +1,4 @@
-use Rattle.fs_world.proofs.AllRight.{refusals_fair}
+use Rattle.fs_world.proofs.RightRuns.{refusals_fair}
 use Rattle.fs_world.proofs.law.refusals_are_fair.Goals as goal
 
 pub returns : goal.returns
