@@ -9,7 +9,7 @@ use Rattle.fs_schedule.specs.declared.event.Head.TheVariants as head
 use Rattle.fs_world.specs.Direct.{first_direct}
 use Rattle.fs_world.specs.Order.{Told, told_at}
 use Rattle.fs_world.specs.Served.{first_served}
-use Rattle.fs_world.specs.Skew.{IsTimely, IsWithinSkew}
+use Rattle.fs_schedule.specs.Skew.{IsTimely, IsWithinSkew}
 use Rattle.fs_world.specs.World.{AllMayHappen, first_world, step}
 use Rattle.fs_world.specs.declared.form.Form.{Form}
 use Rattle.fs_world.specs.declared.form.Form.TheVariants.{Direct, Served}

@@ -17,7 +17,7 @@ use Rattle.fs_schedule.specs.declared.outcome.Outcome.{Outcome}
 use Rattle.fs_world.specs.Direct.{do_at, join_at, step_of}
 use Rattle.fs_world.specs.Order.{Told, told_at}
 use Rattle.fs_world.specs.Refusals.{AllFair, IsFair, NoneStrange, is_strange, rows_of}
-use Rattle.fs_world.specs.Skew.{IsTimely}
+use Rattle.fs_schedule.specs.Skew.{IsTimely}
 use Rattle.fs_world.specs.World.{AllMayHappen, Run, first_run, first_world, more, run_of, run_on, step}
 use Rattle.fs_world.specs.declared.direct.Direct.{Direct as TheDirect}
 use Rattle.fs_world.specs.declared.form.Form.{Form}

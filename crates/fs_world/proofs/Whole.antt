@@ -9,7 +9,7 @@ use Rattle.fs_schedule.specs.declared.event.Head.TheVariants as head
 use Rattle.fs_schedule.specs.declared.event.Schedule.{Schedule}
 use Rattle.fs_world.specs.Order.{AllAdmitted, IsInSessionOrder, Told, told_of}
 use Rattle.fs_world.specs.Safe.{IsSerial}
-use Rattle.fs_world.specs.Skew.{IsTimely}
+use Rattle.fs_schedule.specs.Skew.{IsTimely}
 use Rattle.fs_world.specs.World.{AllMayHappen, first_run, journal_of, run_of, space_of}
 use Rattle.fs_world.specs.declared.form.Form.{Form}
 use Rattle.fs_world.specs.declared.form.Form.TheVariants.{Direct, Served}

@@ -5,7 +5,6 @@ pub mod World
 pub mod Order
 pub mod Safe
 pub mod Refusals
-pub mod Skew
 -- cited by private calls alone
 pub mod Readable
 pub mod Linked

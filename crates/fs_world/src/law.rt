@@ -5,7 +5,7 @@ ghost use Rattle.fs_schedule.specs.declared.event.Schedule.{Schedule};
 ghost use Rattle.fs_world.specs.Order.{AllAdmitted, told_of};
 ghost use Rattle.fs_world.specs.Refusals.{AllFair, NoneStrange};
 ghost use Rattle.fs_world.specs.Safe.{IsSerial};
-ghost use Rattle.fs_world.specs.Skew.{IsTimely};
+ghost use Rattle.fs_schedule.specs.Skew.{IsTimely};
 ghost use Rattle.fs_world.specs.World.{AllMayHappen, first_world, journal_of, run_of, stop_of};
 
 /// Whatever callers may ask for, and whatever was lost, repeated or reordered on the way: the journal is one serial run of
