@@ -21,6 +21,6 @@ first_holds skew term = record {
   world = subst (λ (ends : Session → Ends). WorldHolds 0 (record { server = first_server 0 skew term; journal = []; replied = λ x. []; ends = ends })) (first_seen term) (first_all skew term 0);
   skewed = refl;
   rows = λ r i. absurd i;
-  told = λ t i. absurd i;
+  answered = λ t i. absurd i;
   items = tt;
 }

@@ -15,7 +15,7 @@ pub mod SessionSteps
 pub mod ServedSteps
 pub mod FirstServed
 pub mod ServedDone
-pub mod Goes
+pub mod GoesOn
 pub mod Runs
 pub mod Whole
 pub mod Right

@@ -22,7 +22,7 @@ use Rattle.fs_world.specs.World.{AllMayHappen, Run, first_run, first_world, more
 use Rattle.fs_world.specs.declared.direct.Direct.{Direct as TheDirect}
 use Rattle.fs_world.specs.declared.form.Form.{Form}
 use Rattle.fs_world.specs.declared.form.Form.TheVariants.{Direct, Served}
-use Rattle.fs_world.proofs.Goes.{Goes, goes_first, goes_on}
+use Rattle.fs_world.proofs.GoesOn.{Goes, goes_first, goes_on}
 use Rattle.fs_world.proofs.Right.{IsRight}
 use Rattle.fs_world.proofs.RightSteps.{AllRight, step_right}
 

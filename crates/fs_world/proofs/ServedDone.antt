@@ -79,7 +79,7 @@ module _ (skew greatest : ℕ) (told : List Told) (w : Served) (h : HoldsOf skew
   agreeing : (t : Told) (i : Item) → In t told → In i w.journal → HasNumberOf i t → Agrees i t
   agreeing t i m there has =
       let s = t.session in
-      let found = h.told t m in
+      let found = h.answered t m in
       let same : i ≡ found.0 = number_of_one 1 (h.replied s) i found.0 (subst (AreNumberedFrom 1) (h.world.all.sessions s).replies (told_numbered s)) (in_told s i there has.by) found.1 (has.n ∙ sym found.2.n) in
       subst (λ (x : Item). Agrees x t) (sym same) found.3
 

@@ -28,7 +28,7 @@ pub record Holds (skew greatest : ℕ) (told : List Told) (term : ℕ) (server :
   pub world : WorldHolds greatest (record { server = server; journal = journal; replied = replied; ends = ends_of term seats })
   pub skewed : server.skew ≡ skew
   pub rows : RowsAre (IsJoined seats) server.rows
-  pub told : AllReplied replied told
+  pub answered : AllReplied replied told
   pub items : AllFine journal
 
 pub holds_later : (skew greatest later : ℕ) (told : List Told) (term : ℕ) (server : Server) (seats : Seats) (journal : List Item) → greatest ≤ later → Holds skew greatest told term server seats journal → Holds skew later told term server seats journal
@@ -37,7 +37,7 @@ holds_later skew greatest later told term server seats journal rises h = record 
   world = world_later greatest later (record { server = server; journal = journal; replied = h.replied; ends = ends_of term seats }) rises h.world;
   skewed = h.skewed;
   rows = h.rows;
-  told = h.told;
+  answered = h.answered;
   items = h.items;
 }
 
@@ -52,7 +52,7 @@ holds_joined skew greatest told term server seats journal s none h = record {
   world = subst (λ (ends : Session → Ends). WorldHolds greatest (record { server = server; journal = journal; replied = h.replied; ends = ends })) (sym (ends_joined term seats s none)) h.world;
   skewed = h.skewed;
   rows = rows_still seats (insert seats s.0 (first_seat term s)) (joined_put seats s (first_seat term s)) server.rows h.rows;
-  told = h.told;
+  answered = h.answered;
   items = h.items;
 }
 
@@ -87,6 +87,6 @@ module _ (skew greatest : ℕ) (told : List Told) (term : ℕ) (server : Server)
           (world_later greatest (max greatest now) (after_client s now event w) (omega arith) (client_keeps greatest now w s h.world event can (subst (λ k. greatest ≤ now + k) (sym h.skewed) within)));
       skewed = h.skewed;
       rows = rows_still seats (insert seats s.0 next) (joined_put seats s next) server.rows h.rows;
-      told = told_more s (told_by s p.ready.change p.out.admitted) h.replied told new h.told tells;
+      answered = told_more s (told_by s p.ready.change p.out.admitted) h.replied told new h.answered tells;
       items = fine_pushed p.out.admitted journal fine h.items;
     }

@@ -71,7 +71,7 @@ module _ (skew greatest : ℕ) (told : List Told) (term : ℕ) (server : Server)
           skewed = (event_same e (begun now server)).skew ∙ h.skewed;
           rows = rows_still before (with_downs (step server now e).out.send before) (joined_still (step server now e).out.send before) then.rows
               (step_is (IsJoined before) server now e asker (rows_still seats before stay server.rows h.rows)).rows;
-          told = h.told;
+          answered = h.answered;
           items = fine_more journal (step server now e).out.admitted h.items (step_fine server now e (event_asks e there));
         }
 

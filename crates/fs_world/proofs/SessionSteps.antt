@@ -80,7 +80,7 @@ module _ (skew greatest : ℕ) (told : List Told) (w : Served) (h : HoldsOf skew
           (sym (ends_changed w.term w.seats s seat next (λ n. n) at e ∙ fun_ext (λ (x : Session). same_ends (s.0 == x.0) (ends_of w.term w.seats x)))) still.world;
       skewed = still.skewed;
       rows = rows_still w.seats (insert w.seats s.0 next) (joined_put w.seats s next) w.server.rows still.rows;
-      told = still.told;
+      answered = still.answered;
       items = still.items;
     }
 

@@ -14,7 +14,7 @@ use Rattle.fs_world.specs.World.{AllMayHappen, first_run, journal_of, run_of, sp
 use Rattle.fs_world.specs.declared.form.Form.{Form}
 use Rattle.fs_world.specs.declared.form.Form.TheVariants.{Direct, Served}
 use Rattle.fs_world.proofs.DirectKept.{actors_numbered, agree}
-use Rattle.fs_world.proofs.Goes.{Goes, goes_first, goes_on}
+use Rattle.fs_world.proofs.GoesOn.{Goes, goes_first, goes_on}
 use Rattle.fs_world.proofs.Runs.{IsAt, run_keeps}
 use Rattle.fs_world.proofs.Serial.{AllAsk, safe_after}
 use Rattle.fs_world.proofs.ServedDone.{served_asks, served_ordered, served_serial}
