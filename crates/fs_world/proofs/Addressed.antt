@@ -1,5 +1,5 @@
 -- Which sessions a server has rows of, and which it sends to: none but those that asked it.
-use Rattle.std.proofs.Common.{◌≡◌, ℕ, Bool, true, false, not, List, [], ◌∷◌, ◌++◌, map, cond, refl, ap, ◌∙◌, subst, inl, inr, sym}
+use Rattle.std.proofs.Common.{◌≡◌, ℕ, Bool, true, false, not, List, [], ◌∷◌, ◌++◌, map, cond, refl, ap, subst, inl, inr, sym}
 use Rattle.std.specs.Prelude.{Option, Some, None, max, filter, ◌&&◌, nat_lt}
 use Rattle.std.specs.List.{find, list_all}
 use Rattle.fs_ident.specs.Ident.{child}
@@ -17,7 +17,7 @@ use Rattle.fs_field.specs.declared.field.Field.TheVariants.{Life}
 use Rattle.fs_field.specs.declared.lease_kind.LeaseKind.{LeaseKind}
 use Rattle.fs_field.specs.declared.lease_kind.LeaseKind.TheVariants.{Exclusive}
 use Rattle.fs_field.specs.declared.row.Row.{Row}
-use Rattle.fs_field.specs.Field.{same_field, tells_no_mode}
+use Rattle.fs_field.specs.Field.{tells_no_mode}
 use Rattle.fs_field.specs.Table.{borne_numbers, has_no, is_live, no_before, renewed_row}
 use Rattle.fs_rows.specs.Answer.{answer, given_row}
 use Rattle.fs_rows.specs.Live.{unlocked_on, unlocked_rows_on}
@@ -33,10 +33,10 @@ use Rattle.fs_msg.specs.declared.entry.Entry.{Entry}
 use Rattle.fs_msg.specs.declared.item.Item.{Item}
 use Rattle.fs_msg.specs.declared.msg.Msg.{Msg}
 use Rattle.fs_field.specs.declared.used.Use.{Use}
-use Rattle.fs_server.specs.Asks.{Asking, answered, ask_from, ask_fresh, ask_step, asked_in, fresh_for, fresh_in, fresh_of, grant_of, kind_for, recall_of, recalls_at, with_lease}
+use Rattle.fs_server.specs.Asks.{Asking, answered, ask_from, ask_fresh, asked_in, fresh_for, fresh_in, fresh_of, grant_of, kind_for, recall_of, recalls_at, with_lease}
 use Rattle.fs_server.specs.Pairs.{numbers_in, released_rows, renewed_rows}
 use Rattle.fs_server.specs.Server.{Stepped, begun, end_of, next_number, strange, to_session}
-use Rattle.fs_server.specs.Ships.{Shipping, first_gone, item_of, ship_from, ship_step, shipped, with_entry}
+use Rattle.fs_server.specs.Ships.{Shipping, first_gone, item_of, ship_from, shipped, with_entry}
 use Rattle.fs_server.specs.Step.{event_step, message_step, recalls_of, step}
 use Rattle.fs_server.specs.declared.event.ServerEvent.{ServerEvent}
 use Rattle.fs_server.specs.declared.event.ServerEvent.TheVariants.{FromClient, Turn, Recall}

@@ -16,7 +16,7 @@ use Rattle.fs_schedule.specs.declared.event.What.{What}
 use Rattle.fs_schedule.specs.declared.event.What.TheVariants.{Join, Do, Tell, Turn, Recall}
 use Rattle.fs_world.specs.declared.direct.Direct.{Direct}
 use Rattle.fs_world.specs.Direct.{Counts, do_at, first_direct, is_last, is_spent, join_at, step_of}
-use Rattle.fs_world.specs.World.{Stop, first_world, packets_of, step, stop_after, stop_at, stop_in, stop_of}
+use Rattle.fs_world.specs.World.{Stop, first_world, stop_after, stop_at, stop_in, stop_of}
 use Rattle.fs_world.specs.declared.form.Form.TheVariants as form
 
 -- no count is above this

@@ -1,6 +1,5 @@
 -- What every event of the direct form keeps.
-use Rattle.std.proofs.Common.{◌≡◌, ℕ, ◌+◌, true, List, [], ◌∷◌, ◌++◌, length, refl, ap, sym, ◌∙◌, subst, append_assoc, length-append}
-use Rattle.std.proofs.lemmas.List.{append-nil}
+use Rattle.std.proofs.Common.{◌≡◌, ℕ, ◌+◌, true, List, [], ◌∷◌, ◌++◌, refl, ap, sym, ◌∙◌, subst}
 use Rattle.std.specs.Prelude.{Option, Some, None, unwrap_or}
 use Rattle.std.specs.FinMap.{get, get-empty}
 use Rattle.std.specs.Ordering.{nat_cmp}
@@ -11,7 +10,6 @@ use Rattle.fs_ident.specs.In.{In}
 use Rattle.fs_model.specs.declared.op.Op.{Op}
 use Rattle.fs_model.specs.Asking.{may_ask}
 use Rattle.fs_model.specs.Namespace.{first_space}
-use Rattle.fs_model.proofs.SoundRuns.{first_sound}
 use Rattle.fs_msg.specs.declared.item.Item.{Item}
 use Rattle.fs_msg.specs.Journal.{IsSerialRun}
 use Rattle.fs_schedule.specs.declared.event.Head.TheVariants as head
@@ -20,7 +18,7 @@ use Rattle.fs_schedule.specs.declared.event.What.TheVariants.{Join, Do, Tell, Tu
 use Rattle.fs_world.specs.declared.direct.Direct.{Direct}
 use Rattle.fs_world.specs.Direct.{Answer, Stepped, answer, answer_step, do_at, first_direct, item_of, join_at, join_step, step_of}
 use Rattle.fs_world.specs.World.{may_happen}
-use Rattle.fs_world.specs.Order.{Told, told_at, told_of, AllAdmitted, HasNumberOf, Agrees, AreNumberedFrom, items_of}
+use Rattle.fs_world.specs.Order.{Told, told_at, AllAdmitted, HasNumberOf, Agrees, AreNumberedFrom, items_of}
 use Rattle.fs_world.proofs.Serial.{serial_push, IsStep, answer_steps, AllAsk, asks_push}
 use Rattle.fs_world.proofs.Numbered.{IsCounted, counted_joined, counted_answered, none_served, one_item}
 use Rattle.fs_world.proofs.Replies.{admitted_push, admitted_still}

@@ -1,14 +1,10 @@
 -- What holds of every world of a schedule, whatever its form.
-use Rattle.std.proofs.Common.{◌≡◌, ℕ, ◌+◌, ◌≤◌, max, true, List, [], ◌∷◌, ◌++◌, refl, arith}
+use Rattle.std.proofs.Common.{ℕ, ◌+◌, ◌≤◌, max, List, [], ◌∷◌, ◌++◌, arith}
 use Rattle.std.specs.List.{AllByRecursion}
-use Rattle.std.specs.FinMap.{get-empty}
-use Rattle.std.specs.Ordering.{nat_cmp}
 use Rattle.fs_schedule.specs.declared.event.Event.{Event}
 use Rattle.fs_schedule.specs.declared.event.Head.{Head}
 use Rattle.fs_schedule.specs.declared.event.Head.TheVariants as head
-use Rattle.fs_world.specs.Direct.{first_direct}
 use Rattle.fs_world.specs.Order.{Told, told_at}
-use Rattle.fs_world.specs.Served.{first_served}
 use Rattle.fs_schedule.specs.Skew.{IsTimely, IsWithinSkew}
 use Rattle.fs_world.specs.World.{AllMayHappen, first_world, step}
 use Rattle.fs_world.specs.declared.form.Form.{Form}

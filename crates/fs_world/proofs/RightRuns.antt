@@ -12,7 +12,7 @@ use Rattle.fs_schedule.specs.declared.event.Head.{Head}
 use Rattle.fs_schedule.specs.declared.event.Head.TheVariants as head
 use Rattle.fs_schedule.specs.declared.event.Schedule.{Schedule}
 use Rattle.fs_schedule.specs.declared.event.What.{What}
-use Rattle.fs_schedule.specs.declared.event.What.TheVariants.{Join, Do, Tell, Turn, Recall}
+use Rattle.fs_schedule.specs.declared.event.What.TheVariants.{Join, Do}
 use Rattle.fs_schedule.specs.declared.outcome.Outcome.{Outcome}
 use Rattle.fs_world.specs.Direct.{do_at, join_at, step_of}
 use Rattle.fs_world.specs.Order.{Told, told_at}
@@ -23,7 +23,6 @@ use Rattle.fs_world.specs.declared.direct.Direct.{Direct as TheDirect}
 use Rattle.fs_world.specs.declared.form.Form.{Form}
 use Rattle.fs_world.specs.declared.form.Form.TheVariants.{Direct, Served}
 use Rattle.fs_world.proofs.GoesOn.{Goes, goes_first, goes_on}
-use Rattle.fs_world.proofs.Right.{IsRight}
 use Rattle.fs_world.proofs.RightSteps.{AllRight, step_right}
 
 -- ## One event
@@ -59,9 +58,10 @@ all_plain rows (n ∷ ns) h = (h.0.plain, all_plain rows ns h.1)
 
 fair_from : (h : Head) (es : List Event) (told : List Told) (w : Form) → Goes h es told w → AllFair w es
 fair_from h [] told w g = tt
-fair_from h (e ∷ es) told w g =
-    (all_fair (rows_of (step w e).world) (step w e).outcome.notes (right_at h e es told w g),
-    fair_from h es (told ++ told_at e.what (step w e).outcome.notes) (step w e).world (goes_on h e es told w g))
+fair_from h (e ∷ es) told w g = (
+  all_fair (rows_of (step w e).world) (step w e).outcome.notes (right_at h e es told w g),
+  fair_from h es (told ++ told_at e.what (step w e).outcome.notes) (step w e).world (goes_on h e es told w g),
+)
 
 one_more : (outcomes : List Outcome) (o : Outcome) → NoneStrange outcomes → AllByRecursion (λ (n : Note). is_strange n ≡ false) o.notes → NoneStrange (outcomes ++ o ∷ [])
 one_more [] o h p = (p, tt)

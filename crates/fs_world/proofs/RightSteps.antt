@@ -1,5 +1,5 @@
 -- Every event of a world notes what is right.
-use Rattle.std.proofs.Common.{◌≡◌, ℕ, ◌+◌, ◌≤◌, ◌==◌, Bool, true, false, cond, List, [], ◌∷◌, ◌++◌, refl, ap, sym, ◌∙◌, subst, inl}
+use Rattle.std.proofs.Common.{◌≡◌, ℕ, ◌+◌, ◌≤◌, ◌==◌, Bool, true, false, cond, List, [], ◌∷◌, refl, ap, sym, ◌∙◌, subst, inl}
 use Rattle.std.specs.Prelude.{Option, Some, None, slice_get}
 use Rattle.std.specs.FinMap.{get}
 use Rattle.std.specs.List.{AllByRecursion}
@@ -28,7 +28,7 @@ use Rattle.fs_schedule.specs.declared.event.What.TheVariants.{Join, Do, Tell, Tu
 use Rattle.fs_serial.specs.World.{Ends, IsThere, World}
 use Rattle.fs_world.specs.Order.{Told}
 use Rattle.fs_world.specs.Packets.{first_untold}
-use Rattle.fs_world.specs.Served.{Stepped, arrives, client_hears, client_told, comes, do_at, heard_in, join_at, quiet_note, server_hears, server_step, server_told, step_of, tell_at, the_server, told_at, turn_at, up_of, with_rest, with_seat}
+use Rattle.fs_world.specs.Served.{Stepped, arrives, client_hears, comes, do_at, heard_in, join_at, quiet_note, server_hears, server_step, step_of, tell_at, the_server, told_at, turn_at, up_of, with_rest, with_seat}
 use Rattle.fs_world.specs.declared.seat.Seat.{Seat}
 use Rattle.fs_world.specs.declared.served.Served.{Served}
 use Rattle.fs_world.proofs.Right.{IsRight, answer_right, event_right, turn_right}
@@ -70,9 +70,11 @@ module _ (skew greatest : ℕ) (told : List Told) (w : Served) (h : HoldsOf skew
   hears_right s seat heard x [] links down at e = quiet w.server.rows x
   hears_right s seat heard x (j ∷ js) links [] at e = (record { plain = refl; fair = tt }, tt)
   hears_right s seat heard x (j ∷ js) links (a ∷ rest) at e =
-      let own : ends_of w.term w.seats s ≡ ends_in w.term s (Some seat) = ap (ends_in w.term s) at in
-      (subst (λ (n : Ends). IsRight w.server.rows (note.Client (answer_plan n.client now 0 a).out.note)) own
-      (answer_right w.server.rows greatest seen s now a rest (ap (λ (n : Ends). n.down) own ∙ e) h.world), tt)
+      let own : ends_of w.term w.seats s ≡ ends_in w.term s (Some seat) = ap (ends_in w.term s) at in (
+        subst (λ (n : Ends). IsRight w.server.rows (note.Client (answer_plan n.client now 0 a).out.note)) own
+            (answer_right w.server.rows greatest seen s now a rest (ap (λ (n : Ends). n.down) own ∙ e) h.world),
+        tt,
+      )
 
   told_right : (s : Session) (p : Packet) (o : Option Seat) → get w.seats s.0 ≡ o → Right (told_at o now s p w)
   told_right s p None at = (record { plain = refl; fair = tt }, tt)

@@ -1,8 +1,7 @@
 -- What every event keeps holds of every run.
-use Rattle.std.proofs.Common.{◌≡◌, ℕ, ◌+◌, List, [], ◌∷◌, ◌++◌, length, refl, ap, sym, ◌∙◌, subst, append_assoc, length-append}
+use Rattle.std.proofs.Common.{◌≡◌, ◌+◌, List, [], ◌∷◌, ◌++◌, length, ap, sym, ◌∙◌, subst, append_assoc, length-append}
 use Rattle.std.proofs.lemmas.List.{append-nil}
 use Rattle.fs_schedule.specs.declared.event.Event.{Event}
-use Rattle.fs_schedule.specs.declared.outcome.Outcome.{Outcome}
 use Rattle.fs_world.specs.Order.{Told, told_at, told_of}
 use Rattle.fs_world.specs.World.{Run, more, run_on, step}
 use Rattle.fs_world.specs.declared.form.Form.{Form}

@@ -1,11 +1,10 @@
 -- Every event of a world of the servers form keeps what holds of it.
-use Rattle.std.proofs.Common.{◌≡◌, ℕ, ◌+◌, ◌≤◌, max, true, false, List, [], ◌∷◌, ◌++◌, refl}
+use Rattle.std.proofs.Common.{◌≡◌, ℕ, ◌+◌, ◌≤◌, true, false, List, [], ◌∷◌, refl}
 use Rattle.std.specs.Prelude.{Option, Some, None, slice_get}
 use Rattle.std.specs.FinMap.{get}
 use Rattle.fs_ident.specs.declared.actor.Peer.{Peer}
 use Rattle.fs_ident.specs.declared.actor.Peer.TheVariants.{Server, Client}
 use Rattle.fs_ident.specs.declared.actor.Session.{Session}
-use Rattle.fs_field.specs.declared.field.Field.{Field}
 use Rattle.fs_frag.specs.declared.joined.Joined.{Joined}
 use Rattle.fs_window.specs.Post.{Links, post_accepted}
 use Rattle.fs_window.specs.Reading.{packet_at}
@@ -19,7 +18,7 @@ use Rattle.fs_schedule.specs.declared.event.What.TheVariants.{Join, Do, Tell, Tu
 use Rattle.fs_server.specs.declared.event.ServerEvent.TheVariants.{FromClient, Turn as TheTurn, Recall as TheRecall}
 use Rattle.fs_world.specs.Order.{Told, told_at as told_in}
 use Rattle.fs_world.specs.Packets.{first_untold}
-use Rattle.fs_world.specs.Served.{arrives, comes, heard_in, server_hears, server_step, server_told, step_of, tell, tell_at, up_of, with_rest}
+use Rattle.fs_world.specs.Served.{arrives, comes, heard_in, server_hears, server_step, server_told, step_of, tell_at, up_of, with_rest}
 use Rattle.fs_world.specs.World.{may_happen}
 use Rattle.fs_world.specs.declared.seat.Seat.{Seat}
 use Rattle.fs_world.specs.declared.served.Served.{Served}

@@ -1,6 +1,6 @@
 -- What an event of the server makes of what holds of a world of the servers form.
-use Rattle.std.proofs.Common.{◌≡◌, ℕ, ◌+◌, ◌≤◌, max, true, List, [], ◌∷◌, ◌++◌, refl, ap, sym, ◌∙◌, subst, inl, inr, arith}
-use Rattle.std.specs.Prelude.{Option, Some, None, is_some}
+use Rattle.std.proofs.Common.{◌≡◌, ℕ, ◌+◌, ◌≤◌, max, List, [], ◌∷◌, ◌++◌, refl, ap, sym, ◌∙◌, subst, inl, arith}
+use Rattle.std.specs.Prelude.{Some, is_some}
 use Rattle.std.specs.FinMap.{get, insert}
 use Rattle.fs_ident.specs.In.{In}
 use Rattle.fs_ident.specs.declared.actor.Session.{Session}
@@ -14,7 +14,7 @@ use Rattle.fs_server.specs.Step.{step}
 use Rattle.fs_server.specs.declared.event.ServerEvent.{ServerEvent}
 use Rattle.fs_server.specs.declared.event.ServerEvent.TheVariants.{FromClient, Turn, Recall}
 use Rattle.fs_server.specs.declared.state.Server.{Server}
-use Rattle.fs_serial.specs.World.{Ends, IsThere, World, WorldHolds, after_server, settled_at, with_sent, without_taken}
+use Rattle.fs_serial.specs.World.{Ends, IsThere, World, WorldHolds, after_server, with_sent, without_taken}
 use Rattle.fs_serial.proofs.Facts.{In-front}
 use Rattle.fs_serial.proofs.Rising.{world_later}
 use Rattle.fs_serial.proofs.ServerEvents.{one_up, server_keeps}
@@ -22,7 +22,7 @@ use Rattle.fs_serial.proofs.ServerSame.{event_same}
 use Rattle.fs_world.specs.Order.{Told}
 use Rattle.fs_world.specs.Served.{Seats, with_downs}
 use Rattle.fs_world.specs.declared.seat.Seat.{Seat}
-use Rattle.fs_world.proofs.Addressed.{AllTo, IsAsker, RowsAre, step_is}
+use Rattle.fs_world.proofs.Addressed.{AllTo, IsAsker, step_is}
 use Rattle.fs_world.proofs.Fine.{EventAsks, EntriesAsk, MessageAsks, fine_more, step_fine}
 use Rattle.fs_world.proofs.Seen.{ends_in, ends_of}
 use Rattle.fs_world.proofs.SeenSends.{IsJoined, joined_put, joined_still, rows_still, sends_seen, taken_seen}

@@ -13,7 +13,6 @@ use Rattle.fs_model.specs.declared.op.Op.{Op}
 use Rattle.fs_msg.specs.declared.answer.Answer.{Answer}
 use Rattle.fs_msg.specs.declared.client_msg.ClientMsg.{ClientMsg}
 use Rattle.fs_msg.specs.declared.item.Item.{Item}
-use Rattle.fs_msg.specs.declared.note.Note.{Note}
 use Rattle.fs_msg.specs.declared.note.Note.TheVariants as note
 use Rattle.fs_client.specs.Acts.{act_plan}
 use Rattle.fs_client.specs.Answers.{answer_plan}
@@ -22,7 +21,7 @@ use Rattle.fs_client.specs.Turns.{turn_plan}
 use Rattle.fs_client.specs.declared.plan.Plan.{Plan}
 use Rattle.fs_serial.specs.World.{Does, Ends, Hears, Turns, World, WorldHolds, after_plan, is_called, message_in, pushed}
 use Rattle.fs_world.specs.Order.{Told, replies_in}
-use Rattle.fs_world.specs.Served.{Stepped, client_acts, client_hears, client_told, client_turns, do_at, heard_in, join_at, the_server, told_at, turn_at, up_after, with_read, with_seat}
+use Rattle.fs_world.specs.Served.{client_acts, client_hears, client_told, client_turns, do_at, heard_in, join_at, the_server, told_at, turn_at, up_after, with_read, with_seat}
 use Rattle.fs_world.specs.declared.seat.Seat.{Seat}
 use Rattle.fs_world.specs.declared.served.Served.{Served}
 use Rattle.fs_world.proofs.Fine.{act_fine, answer_fine, turn_fine}

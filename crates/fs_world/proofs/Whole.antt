@@ -1,5 +1,5 @@
 -- The headline, whatever the form.
-use Rattle.std.proofs.Common.{◌≡◌, ℕ, List, [], ◌++◌, refl, sym, subst}
+use Rattle.std.proofs.Common.{◌≡◌, List, [], refl, subst}
 use Rattle.fs_model.specs.Namespace.{first_space}
 use Rattle.fs_model.proofs.SoundRuns.{first_sound}
 use Rattle.fs_msg.specs.Journal.{IsSerialRun}
@@ -15,7 +15,7 @@ use Rattle.fs_world.specs.declared.form.Form.{Form}
 use Rattle.fs_world.specs.declared.form.Form.TheVariants.{Direct, Served}
 use Rattle.fs_world.proofs.DirectKept.{actors_numbered, agree}
 use Rattle.fs_world.proofs.GoesOn.{Goes, goes_first, goes_on}
-use Rattle.fs_world.proofs.Runs.{IsAt, run_keeps}
+use Rattle.fs_world.proofs.Runs.{run_keeps}
 use Rattle.fs_world.proofs.Serial.{AllAsk, safe_after}
 use Rattle.fs_world.proofs.ServedDone.{served_asks, served_ordered, served_serial}
 
