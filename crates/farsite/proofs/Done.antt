@@ -6,7 +6,8 @@ use Rattle.fs_schedule.specs.declared.event.Schedule.{Schedule}
 use Rattle.fs_schedule.specs.Faults.{AtLine, FaultsAt, IsFirstFault, IsScheduleText, LinesFaultAt, PassesLimit}
 use Rattle.fs_report.specs.Report.{done_text}
 use Rattle.fs_world.specs.World.{AllMayHappen, run_of, stop_of}
-use Rattle.fs_world.proofs.Kept.{run_is_serial, told_is_admitted}
+use Rattle.fs_world.proofs.RightRuns.{none_strange, refusals_fair}
+use Rattle.fs_world.proofs.Whole.{run_is_serial, told_is_admitted}
 use Rattle.fs_schedule.specs.Lines.{lines_of}
 use Rattle.fs_schedule.specs.declared.error.Which.{Which}
 use Rattle.fs_schedule.specs.declared.error.Which.TheVariants.{Bytes, Events, Packets, Sessions}
@@ -15,7 +16,16 @@ use Rattle.farsite.specs.Headline.{IsLimit, IsReplay, report_of}
 
 -- a schedule's report was written
 pub replayed : (s : Schedule) (bytes : List ℕ) (a b : Option (List ℕ)) → IsScheduleText s bytes → AllMayHappen s.head s.events → stop_of s ≡ None → Appends a b (report_of (run_of s)) → IsReplay bytes a b
-replayed s bytes a b r f h w = record { schedule = s; read = r; whole = h; written = w; headline = run_is_serial s f r.1; admitted = told_is_admitted s f }
+replayed s bytes a b r f h w = record {
+  schedule = s;
+  read = r;
+  whole = h;
+  written = w;
+  headline = run_is_serial s f r.1;
+  fair = refusals_fair s f r.1;
+  known = none_strange s f r.1;
+  admitted = λ direct. told_is_admitted s direct f;
+}
 
 -- no line that is read passes the limit of packets
 no_line_floods : (h : Head) (at before : ℕ) (lines : List (List ℕ)) → FaultsAt (PassesLimit Packets) h at before lines → ⊥

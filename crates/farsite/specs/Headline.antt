@@ -9,22 +9,26 @@ use Rattle.fs_schedule.specs.declared.event.Head.TheVariants.{Direct}
 use Rattle.fs_schedule.specs.declared.event.Schedule.{Schedule}
 use Rattle.fs_schedule.specs.Faults.{AtLine, IsFirstFault, IsScheduleText, PassesLimit}
 use Rattle.fs_world.specs.Order.{AllAdmitted, told_of}
+use Rattle.fs_world.specs.Refusals.{AllFair, NoneStrange}
 use Rattle.fs_world.specs.Safe.{IsSerial}
-use Rattle.fs_world.specs.World.{Run, Stop, AtPackets, journal_of, run_of, space_of, stop_of}
+use Rattle.fs_world.specs.World.{Run, Stop, AtPackets, first_world, journal_of, run_of, space_of, stop_of}
 use Rattle.farsite.specs.declared.status.Status.{Status}
 use Rattle.farsite.specs.declared.status.Status.TheVariants as status
 
 abbrev pub report_of : Run → List ℕ
 report_of r = report_text r.outcomes (journal_of r.world) (space_of r.world)
 
--- what was written is the report of the schedule that was read, whose run went to its end; its journal is serial, and in
--- the direct form has every reply that was told
+-- what was written is the report of the schedule that was read, whose run went to its end; its journal is serial; an entry of a
+-- log is refused only where a lease that it used had ended, or behind such a one; nobody was told what no honest actor sends;
+-- and in the direct form the journal has every reply that was told
 pub record IsReplay (bytes : List ℕ) (before now : Option (List ℕ)) : Type 0 where
   pub schedule : Schedule
   pub read : IsScheduleText schedule bytes
   pub whole : stop_of schedule ≡ None
   pub written : Appends before now (report_of (run_of schedule))
   pub headline : IsSerial schedule.events (run_of schedule)
+  pub fair : AllFair (first_world schedule.head) schedule.events
+  pub known : NoneStrange (run_of schedule).outcomes
   pub admitted : schedule.head ≡ Direct → AllAdmitted (journal_of (run_of schedule).world) (told_of schedule.events (run_of schedule).outcomes)
 
 -- the bytes are a schedule, and a part of its report from the front on was written
