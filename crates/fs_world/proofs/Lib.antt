@@ -4,7 +4,15 @@ pub mod Numbered
 pub mod Replies
 pub mod DirectKept
 pub mod Bounded
-pub mod Addressed
+pub mod OpenHandles
+pub mod Readable
+pub mod LinkedRows
+pub mod LinkedPair
+pub mod LinkedSeat
+pub mod LinkedTies
+pub mod LinkedClient
+pub mod LinkedServer
+pub mod Linked
 pub mod Fine
 pub mod Seen
 pub mod SeenSends
