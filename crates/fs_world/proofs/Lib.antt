@@ -13,7 +13,6 @@ pub mod LinkedTies
 pub mod LinkedClient
 pub mod LinkedServer
 pub mod Linked
-pub mod Addressed
 pub mod Fine
 pub mod Seen
 pub mod SeenSends

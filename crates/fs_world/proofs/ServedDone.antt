@@ -1,5 +1,5 @@
 -- What holds of a world of the servers form says of its journal.
-use Rattle.std.proofs.Common.{◌≡◌, ℕ, ◌+◌, Bool, true, false, List, [], ◌∷◌, ◌++◌, map, cond, refl, ap, sym, ◌∙◌, subst, arith}
+use Rattle.std.proofs.Common.{◌≡◌, ℕ, ◌+◌, Bool, true, false, List, [], ◌∷◌, length, map, cond, refl, ap, sym, ◌∙◌, subst, arith}
 use Rattle.std.proofs.lemmas.Bool.Decides.{nat_tests}
 use Rattle.std.specs.Prelude.{filter}
 use Rattle.fs_ident.specs.In.{In}
@@ -13,8 +13,9 @@ use Rattle.fs_record.specs.Records.{nodes_of}
 use Rattle.fs_server.specs.Ships.{item_of}
 use Rattle.fs_serial.specs.Numbers.{AreNumbered, all_items, is_session, items_by}
 use Rattle.fs_serial.specs.Settled.{Settled}
-use Rattle.fs_serial.specs.World.{settled_at}
+use Rattle.fs_serial.specs.World.{World, settled_at}
 use Rattle.fs_serial.proofs.Facts.{In-front}
+use Rattle.fs_serial.proofs.Outcome.{outcome}
 use Rattle.fs_world.specs.Order.{Agrees, AreNumberedFrom, HasNumberOf, IsInSessionOrder, Told, items_of, same_actor}
 use Rattle.fs_world.specs.declared.served.Served.{Served}
 use Rattle.fs_world.proofs.Fine.{AllFine, IsOfSession}
@@ -54,11 +55,10 @@ numbered_from : (k : ℕ) (is : List Item) (next : ℕ) → AreNumbered k is nex
 numbered_from k [] next h = tt
 numbered_from k (i ∷ is) next h = (h.0, numbered_from (k + 1) is next h.1)
 
-front_numbered : (k : ℕ) (is more : List Item) → AreNumberedFrom k (is ++ more) → AreNumberedFrom k is
-front_numbered k [] more h = tt
-front_numbered k (i ∷ is) more h = (h.0, front_numbered (k + 1) is more h.1)
-
 module _ (skew greatest : ℕ) (told : List Told) (w : Served) (h : HoldsOf skew greatest told w) where
+  abbrev seen : World
+  seen = record { server = w.server; journal = w.journal; replied = h.replied; ends = ends_of w.term w.seats }
+
   abbrev settled : Session → Settled
   settled s = settled_at s (ends_of w.term w.seats s)
 
@@ -68,7 +68,7 @@ module _ (skew greatest : ℕ) (told : List Told) (w : Served) (h : HoldsOf skew
 
   numbered : (who : Peer) → AreNumberedFrom 1 (items_of who w.journal)
   numbered (Server k) = subst (AreNumberedFrom 1) (sym (none_served k w.journal h.items)) tt
-  numbered (Client s) = subst (AreNumberedFrom 1) (sym (same_items s w.journal)) (front_numbered 1 (items_by s w.journal) (map (item_of s) (settled s).log) (told_numbered s))
+  numbered (Client s) = subst (AreNumberedFrom 1) (sym (same_items s w.journal)) (numbered_from 1 (items_by s w.journal) (1 + length (items_by s w.journal)) ((outcome greatest seen h.world).numbered s))
 
   -- the session's item of the journal is among those that it was told
   in_told : (s : Session) (i : Item) → In i w.journal → i.by ≡ Client s → In i (h.replied s)
@@ -84,7 +84,7 @@ module _ (skew greatest : ℕ) (told : List Told) (w : Served) (h : HoldsOf skew
       subst (λ (x : Item). Agrees x t) (sym same) found.3
 
   pub served_serial : IsSerialRun first_space w.journal (nodes_of w.server.records)
-  served_serial = h.world.all.servers.serial
+  served_serial = (outcome greatest seen h.world).serial
 
   pub served_ordered : IsInSessionOrder w.journal told
   served_ordered = record { numbered = numbered; agreeing = agreeing }

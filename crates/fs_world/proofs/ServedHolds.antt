@@ -12,13 +12,13 @@ use Rattle.fs_server.specs.declared.state.Server.{Server}
 use Rattle.fs_serial.specs.World.{CanCome, ClientEvent, Ends, World, WorldHolds, after_client, after_plan, message_in, pushed, told_by, with_ends, with_told}
 use Rattle.fs_serial.proofs.ClientEvents.{client_keeps}
 use Rattle.fs_serial.proofs.Rising.{world_later}
+use Rattle.fs_world.specs.Linked.{AreOfJoined}
 use Rattle.fs_world.specs.Order.{Told}
 use Rattle.fs_world.specs.Served.{Seats, first_seat}
 use Rattle.fs_world.specs.declared.seat.Seat.{Seat}
-use Rattle.fs_world.proofs.Addressed.{RowsAre}
 use Rattle.fs_world.proofs.Fine.{AllFine, MayBeFine, fine_pushed}
+use Rattle.fs_world.proofs.LinkedTies.{rows_still}
 use Rattle.fs_world.proofs.Seen.{ends_in, ends_joined, ends_of, ends_put}
-use Rattle.fs_world.proofs.SeenSends.{IsJoined, joined_put, rows_still}
 use Rattle.fs_world.proofs.Told.{AllNew, AllReplied, told_more}
 
 -- of the server, the seats and the journal of a world in which this was told, where no reading was greater
@@ -26,7 +26,7 @@ pub record Holds (skew greatest : ℕ) (told : List Told) (term : ℕ) (server :
   pub replied : Session → List Item
   pub world : WorldHolds greatest (record { server = server; journal = journal; replied = replied; ends = ends_of term seats })
   pub skewed : server.skew ≡ skew
-  pub rows : RowsAre (IsJoined seats) server.rows
+  pub rows : AreOfJoined seats server.rows
   pub answered : AllReplied replied told
   pub items : AllFine journal
 
@@ -50,7 +50,7 @@ holds_joined skew greatest told term server seats journal s none h = record {
   replied = h.replied;
   world = subst (λ (ends : Session → Ends). WorldHolds greatest (record { server = server; journal = journal; replied = h.replied; ends = ends })) (sym (ends_joined term seats s none)) h.world;
   skewed = h.skewed;
-  rows = rows_still seats (insert seats s.0 (first_seat term s)) (joined_put seats s (first_seat term s)) server.rows h.rows;
+  rows = rows_still seats s (first_seat term s) server.rows h.rows;
   answered = h.answered;
   items = h.items;
 }
@@ -85,7 +85,7 @@ module _ (skew greatest : ℕ) (told : List Told) (term : ℕ) (server : Server)
       world = subst (λ (v : World). WorldHolds (max greatest now) v) (does ∙ plan_seen rest p next e)
           (world_later greatest (max greatest now) (after_client s now event w) (omega arith) (client_keeps greatest now w s h.world event can (subst (λ k. greatest ≤ now + k) (sym h.skewed) within)));
       skewed = h.skewed;
-      rows = rows_still seats (insert seats s.0 next) (joined_put seats s next) server.rows h.rows;
+      rows = rows_still seats s next server.rows h.rows;
       answered = told_more s (told_by s p.ready.change p.out.admitted) h.replied told new h.answered tells;
       items = fine_pushed p.out.admitted journal fine h.items;
     }

@@ -1,6 +1,6 @@
 -- What an event of the server makes of what holds of a world of the servers form.
 use Rattle.std.proofs.Common.{◌≡◌, ℕ, ◌+◌, ◌≤◌, max, List, [], ◌∷◌, ◌++◌, refl, ap, sym, ◌∙◌, subst, inl, arith}
-use Rattle.std.specs.Prelude.{Some, is_some}
+use Rattle.std.specs.Prelude.{Some}
 use Rattle.std.specs.FinMap.{get, insert}
 use Rattle.fs_ident.specs.In.{In}
 use Rattle.fs_ident.specs.declared.actor.Session.{Session}
@@ -19,13 +19,16 @@ use Rattle.fs_serial.proofs.Facts.{In-front}
 use Rattle.fs_serial.proofs.Rising.{world_later}
 use Rattle.fs_serial.proofs.ServerEvents.{one_up, server_keeps}
 use Rattle.fs_serial.proofs.ServerSame.{event_same}
+use Rattle.fs_world.specs.Linked.{HasJoined}
 use Rattle.fs_world.specs.Order.{Told}
 use Rattle.fs_world.specs.Served.{Seats, with_downs}
 use Rattle.fs_world.specs.declared.seat.Seat.{Seat}
-use Rattle.fs_world.proofs.Addressed.{AllTo, IsAsker, step_is}
+use Rattle.fs_world.proofs.LinkedRows.{IsAsked, IsOf, step_of}
+use Rattle.fs_world.proofs.LinkedServer.{joined_downs}
+use Rattle.fs_world.proofs.LinkedTies.{joined_still}
 use Rattle.fs_world.proofs.Fine.{EventAsks, EntriesAsk, MessageAsks, fine_more, step_fine}
 use Rattle.fs_world.proofs.Seen.{ends_in, ends_of}
-use Rattle.fs_world.proofs.SeenSends.{IsJoined, joined_put, joined_still, rows_still, sends_seen, taken_seen}
+use Rattle.fs_world.proofs.SeenSends.{sends_seen, taken_seen}
 use Rattle.fs_world.proofs.ServedHolds.{Holds}
 
 module _ (skew greatest : ℕ) (told : List Told) (term : ℕ) (server : Server) (seats : Seats) (journal : List Item) (h : Holds skew greatest told term server seats journal) (now : ℕ) (within : greatest ≤ now + skew) where
@@ -50,16 +53,16 @@ module _ (skew greatest : ℕ) (told : List Told) (term : ℕ) (server : Server)
   event_asks (Recall field) there = tt
 
   -- these seats are as the server finds them
-  module _ (e : ServerEvent) (before : Seats) (taken : ends_of term before ≡ without_taken e (ends_of term seats)) (stay : (x : Session) → IsJoined seats x → IsJoined before x) (there : IsThere e (ends_of term seats)) (asker : IsAsker (IsJoined before) e) where
+  module _ (e : ServerEvent) (before : Seats) (taken : ends_of term before ≡ without_taken e (ends_of term seats)) (stay : (x : Session) → HasJoined seats x → HasJoined before x) (there : IsThere e (ends_of term seats)) (asker : IsAsked (HasJoined before) e) where
     abbrev then : Server
     then = (step server now e).server
 
-    to : AllTo (IsJoined before) (step server now e).out.send
-    to = (step_is (IsJoined before) server now e asker (rows_still seats before stay server.rows h.rows)).sends
+    step_is : IsOf (HasJoined before) (step server now e)
+    step_is = step_of (HasJoined before) server now e asker (λ row i. stay row.session (h.rows row i))
 
     step_seen : after_server now e w ≡ record { server = then; journal = journal ++ (step server now e).out.admitted; replied = h.replied; ends = ends_of term (with_downs (step server now e).out.send before) }
     step_seen = ap (λ (ends : Session → Ends). let v : World = record { server = then; journal = journal ++ (step server now e).out.admitted; replied = h.replied; ends = ends } in v)
-        (ap (with_sent (step server now e).out.send) (sym taken) ∙ sym (sends_seen term (step server now e).out.send before to))
+        (ap (with_sent (step server now e).out.send) (sym taken) ∙ sym (sends_seen term (step server now e).out.send before step_is.sends))
 
     pub server_holds : Holds skew (max greatest now) told term then (with_downs (step server now e).out.send before) (journal ++ (step server now e).out.admitted)
     server_holds =
@@ -69,8 +72,7 @@ module _ (skew greatest : ℕ) (told : List Told) (term : ℕ) (server : Server)
           world = subst (λ (v : World). WorldHolds (max greatest now) v) step_seen
               (server_keeps (max greatest now) now e w (omega arith) there (world_later greatest (max greatest now) w (omega arith) h.world));
           skewed = (event_same e (begun now server)).skew ∙ h.skewed;
-          rows = rows_still before (with_downs (step server now e).out.send before) (joined_still (step server now e).out.send before) then.rows
-              (step_is (IsJoined before) server now e asker (rows_still seats before stay server.rows h.rows)).rows;
+          rows = λ row i. joined_downs (step server now e).out.send before row.session (step_is.rows row i);
           answered = h.answered;
           items = fine_more journal (step server now e).out.admitted h.items (step_fine server now e (event_asks e there));
         }
@@ -93,13 +95,10 @@ module _ (skew greatest : ℕ) (told : List Told) (term : ℕ) (server : Server)
     abbrev before : Seats
     before = insert seats by.0 (record seat { up = rest })
 
-    joined : IsJoined seats by
-    joined = ap is_some at
-
     pub message_holds : Holds skew (max greatest now) told term (step server now (FromClient by m)).server (with_downs (step server now (FromClient by m)).out.send before) (journal ++ (step server now (FromClient by m)).out.admitted)
     message_holds = server_holds (FromClient by m) before
         (ap (λ (us : List ClientMsg). ends_of term (insert seats by.0 (record seat { up = us }))) none ∙ taken_seen term seats by seat at)
-        (joined_put seats by (record seat { up = rest })) there (joined_put seats by (record seat { up = rest }) by joined)
+        (λ x i. joined_still seats by x (record seat { up = rest }) i) there (joined_still seats by by (record seat { up = rest }) (seat, at))
 
   -- ## What the server does of itself
 

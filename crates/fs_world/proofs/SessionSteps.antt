@@ -25,8 +25,9 @@ use Rattle.fs_world.specs.Served.{client_acts, client_hears, client_told, client
 use Rattle.fs_world.specs.declared.seat.Seat.{Seat}
 use Rattle.fs_world.specs.declared.served.Served.{Served}
 use Rattle.fs_world.proofs.Fine.{act_fine, answer_fine, turn_fine}
+use Rattle.fs_world.proofs.LinkedTies.{rows_still}
 use Rattle.fs_world.proofs.Seen.{ends_in, ends_of}
-use Rattle.fs_world.proofs.SeenSends.{ends_changed, joined_put, rows_still}
+use Rattle.fs_world.proofs.SeenSends.{ends_changed}
 use Rattle.fs_world.proofs.ServedHolds.{Holds, client_holds, holds_joined, holds_later, holds_untold}
 use Rattle.fs_world.proofs.Told.{act_tells}
 
@@ -78,7 +79,7 @@ module _ (skew greatest : ℕ) (told : List Told) (w : Served) (h : HoldsOf skew
       world = subst (λ (ends : Session → Ends). WorldHolds (max greatest now) (record { server = w.server; journal = w.journal; replied = still.replied; ends = ends }))
           (sym (ends_changed w.term w.seats s seat next (λ n. n) at e ∙ fun_ext (λ (x : Session). same_ends (s.0 == x.0) (ends_of w.term w.seats x)))) still.world;
       skewed = still.skewed;
-      rows = rows_still w.seats (insert w.seats s.0 next) (joined_put w.seats s next) w.server.rows still.rows;
+      rows = rows_still w.seats s next w.server.rows still.rows;
       answered = still.answered;
       items = still.items;
     }

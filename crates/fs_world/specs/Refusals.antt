@@ -27,7 +27,7 @@ abbrev pub HeldBackFor : List ℕ → End → Type 0
 HeldBackFor gaps (end.Ended n lease until now) = Unit {0}
 HeldBackFor gaps e = gaps ≡ []
 
--- a note of the server that has these rows then refuses no entry but for a lease that had ended
+-- what is noted where the server has these rows: no entry is refused but for a lease that had ended
 abbrev pub IsFair : List Row → Note → Type 0
 IsFair rows (note.Server (server.Admits count e gaps)) = HeldBackFor gaps e × HadItsTime rows e
 IsFair rows n = Unit {0}
@@ -37,7 +37,7 @@ abbrev pub rows_of : Form → List Row
 rows_of (Direct w) = []
 rows_of (Served w) = w.server.rows
 
--- so does each note of the events, one after another, from this world on
+-- each note of the events is so, one after another, from this world on
 abbrev pub AllFair : Form → List Event → Type 0
 AllFair w [] = Unit {0}
 AllFair w (e ∷ es) = AllByRecursion (IsFair (rows_of (step w e).world)) (step w e).outcome.notes × AllFair (step w e).world es

@@ -8,9 +8,9 @@ ghost use Rattle.fs_world.specs.Safe.{IsSerial};
 ghost use Rattle.fs_schedule.specs.Skew.{IsTimely};
 ghost use Rattle.fs_world.specs.World.{AllMayHappen, first_world, journal_of, run_of, stop_of};
 
-/// Whatever callers may ask for, and whatever was lost, repeated or reordered on the way: the journal is one serial run of
-/// the namespace in session order, and every space on its way is safe. In the direct form every reply that was told is in
-/// the journal.
+/// Whatever callers may ask for, and whatever was lost, repeated or reordered on the way, where no clock falls behind another
+/// by more than the skew: the journal is one serial run of the namespace in session order, and every space on its way is
+/// safe. In the direct form, which has no clocks, every reply that was told is in the journal.
 pub fn every_run_is_serial()
     ensures serial { (s : Schedule) → AllMayHappen s.head s.events → IsTimely s.head s.events →
         IsSerial s.events (run_of s) }
@@ -30,7 +30,8 @@ pub fn no_outcome_is_strange()
         NoneStrange (run_of s).outcomes }
 {}
 
-/// A server refuses an entry only where a lease that it used has no row any more, and that lease had ended.
+/// A server refuses an entry only where a lease that it used has no row any more, and that lease had ended; and it holds
+/// back none but those behind a refused one.
 pub fn refusals_are_fair()
     ensures { (s : Schedule) → AllMayHappen s.head s.events → IsTimely s.head s.events →
         AllFair (first_world s.head) s.events }
