@@ -9,7 +9,6 @@ use Rattle.fs_schedule.specs.declared.event.What.{What}
 use Rattle.fs_schedule.specs.declared.event.What.TheVariants.{Join, Do, Tell, Turn, Recall}
 use Rattle.fs_schedule.specs.declared.event.Event.{Event}
 use Rattle.fs_schedule.specs.declared.event.Head.{Head}
-use Rattle.fs_schedule.specs.declared.event.Head.TheVariants.{Direct, Servers}
 use Rattle.fs_ident.specs.declared.actor.Session.{Session}
 use Rattle.fs_ident.specs.declared.actor.Peer.{Peer}
 use Rattle.fs_ident.specs.declared.actor.Peer.TheVariants.{Server, Client}
@@ -48,20 +47,6 @@ tells_session (Err e) digits h = λ o n is. h o n (subst (IsToldNumber n) (sym (
 pub tells_head : (r : Result Head Unread) (ws : List Word) (line : List ℕ) → AreWords ws line → Reads head_words FitsHead r ws → Tells IsHeadLine r line
 tells_head (Ok head) ws line a h = (h.0, text_of ws line a ∙ ap line_text h.1)
 tells_head (Err f) ws line a h = λ o head is. h o head is.0 (words_one ws (head_words head) line a (are_head_words head line is))
-
--- the words of a form with servers tell its numbers
-pub record IsServersHead (a b c : Word) : Type 0 where
-  pub servers : ℕ
-  pub skew : ℕ
-  pub term : ℕ
-  pub fits : FitsHead (Servers servers skew term)
-  pub first : a ≡ Bare (decimal servers)
-  pub second : b ≡ Bare (decimal skew)
-  pub third : c ≡ Bare (decimal term)
-
-pub servers_head : (head : Head) (a b c : Word) → FitsHead head → Bare (codes "farsite") ∷ Bare (codes "1") ∷ Bare (codes "servers") ∷ a ∷ Bare (codes "skew") ∷ b ∷ Bare (codes "term") ∷ c ∷ [] ≡ head_words head → IsServersHead a b c
-servers_head Direct a b c h e = absurd (cc)
-servers_head (Servers n k t) a b c h e = record { servers = n; skew = k; term = t; fits = h; first = cc; second = cc; third = cc }
 
 -- ## What happens
 

@@ -2,7 +2,7 @@
 use Rattle.std.proofs.Common.{◌≡◌, ℕ, ◌<◌, ◌≤◌, ◌+◌, ◌-◌, List, [], ◌∷◌, ◌++◌, length, take, drop, get_or, refl, ap, arith, sym, ◌∙◌, subst, append_assoc, length-append}
 use Rattle.std.specs.Prelude.{max}
 use Rattle.std.specs.List.{AllByRecursion}
-use Rattle.std.proofs.lemmas.List.{take_more, take_all, take-append-drop, length-take-le}
+use Rattle.std.proofs.lemmas.List.{take_more, take-append-drop, length-take-le}
 use Rattle.fs_schedule.specs.declared.event.Event.{Event}
 use Rattle.fs_schedule.specs.declared.event.Head.{Head}
 use Rattle.fs_schedule.specs.declared.event.Head.TheVariants.{Direct, Servers}
@@ -109,9 +109,6 @@ pub record IsSeen (skew : ℕ) (seen : List Event) (greatest : ℕ) : Type 0 whe
   pub above : AllReadBelow greatest seen
   pub least : (bound : ℕ) → AllReadBelow bound seen → greatest ≤ bound
 
-pub seen_first : (skew : ℕ) (es : List Event) → IsSeen skew (take 0 es) 0
-seen_first skew es = record { timely = tt; above = tt; least = λ b h. omega arith }
-
 all_push : (P : Event → Type 0) (es : List Event) (e : Event) → AllByRecursion P es → P e → AllByRecursion P (es ++ e ∷ [])
 all_push P es e h k = all_append P es (e ∷ []) h (k, tt)
 
@@ -130,9 +127,6 @@ pub seen_more : (skew : ℕ) (es : List Event) (at greatest more : ℕ) (e : Eve
 seen_more skew es at greatest more e lt le q h =
     let P : List Event → Type 0 = λ fs. IsSeen skew fs more in
     subst P (sym (take_more es at e lt)) (push skew (take at es) (get_or es at e) greatest more h le q)
-
-pub seen_all : (skew : ℕ) (es : List Event) (at greatest : ℕ) → length es ≤ at → IsSeen skew (take at es) greatest → IsWithinSkew skew es
-seen_all skew es at greatest le h = subst (IsWithinSkew skew) (take_all at es le) h.timely
 
 -- some event is ahead
 pub none_ahead : (skew : ℕ) (seen : List Event) (greatest reading : ℕ) → skew < greatest - reading → IsSeen skew seen greatest → AllReadBelow (reading + skew) seen → ⊥

@@ -98,9 +98,6 @@ fits_id id h = fits_bare (id_text id) (id_lacks 32 id (omega arith) refl h) (id_
 
 -- ## Names
 
-bad_byte : ℕ → Bool
-bad_byte b = not (is_name_byte b)
-
 not_a_quote : (x : ℕ) → not (is_name_byte x) ≡ false → (x == 34) ≡ false
 not_a_quote x h = elim (x == 34) as (λ t. (x == 34) ≡ t → t ≡ false) [
   | true ↦ λ t.
