@@ -4,3 +4,7 @@ pub mod Numbered
 pub mod Replies
 pub mod Kept
 pub mod Bounded
+pub mod Marks
+pub mod Heard
+pub mod SeatMaps
+pub mod Spending
