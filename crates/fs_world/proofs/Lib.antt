@@ -8,3 +8,4 @@ pub mod Marks
 pub mod Heard
 pub mod SeatMaps
 pub mod Spending
+pub mod SentNumbers
