@@ -29,3 +29,8 @@ pub mod Whole
 pub mod Right
 pub mod RightSteps
 pub mod RightRuns
+pub mod Marks
+pub mod Heard
+pub mod SeatMaps
+pub mod Spending
+pub mod SentNumbers

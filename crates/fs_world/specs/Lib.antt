@@ -8,3 +8,4 @@ pub mod Refusals
 -- cited by private calls alone
 pub mod Readable
 pub mod Linked
+pub mod Hearing

@@ -2,14 +2,19 @@
 #![tactic(auto)]
 
 mod answers;
+mod clients;
 mod counts;
 mod direct;
+mod does;
 mod form;
 mod goes;
+mod hears;
 mod law;
+mod lists;
 mod numbers;
 mod packets;
 mod seat;
+mod seat_events;
 mod seats;
 mod served;
 #[cfg(test)]
