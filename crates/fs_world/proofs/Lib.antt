@@ -4,3 +4,10 @@ pub mod Numbered
 pub mod Replies
 pub mod Kept
 pub mod Bounded
+pub mod LinkedRows
+pub mod LinkedPair
+pub mod LinkedSeat
+pub mod LinkedTies
+pub mod LinkedClient
+pub mod LinkedServer
+pub mod Linked
