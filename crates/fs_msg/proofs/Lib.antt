@@ -6,3 +6,4 @@ pub mod AnswerWires
 pub mod MessageWires
 pub mod Exact
 pub mod Clauses
+pub mod Readable

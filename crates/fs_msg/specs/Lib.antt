@@ -5,3 +5,4 @@ pub mod Tags
 pub mod Prefixes
 pub mod Answers
 pub mod Reading
+pub mod Readable

@@ -1,6 +1,8 @@
 //! Writing messages.
-ghost use Rattle.std.specs.Prelude.{◌≡◌, ◌++◌, [], OnOk, OnErr};
+ghost use Rattle.std.specs.Prelude.{◌≡◌, ◌++◌, [], OnOk, OnErr, true};
 ghost use Rattle.fs_msg.specs.Spelling.{message};
+ghost use Rattle.fs_msg.specs.Ranges.{FitsMessage};
+ghost use Rattle.fs_msg.specs.Readable.{is_readable};
 
 use crate::msg::Msg;
 use fs_ident::Memory;
@@ -10,6 +12,7 @@ use std::alloc::Global;
 /// Adds the one spelling of a message at the end. Where memory is wanting, nothing is added.
 pub fn write(alloc: Global, m: &Msg, out: &mut Vec<u8>) -> Result<(), Memory>
     ensures ok { OnOk result (out.new.items ≡ out.old.items ++ message m.now) }
+    ensures fits { OnOk result (is_readable m.now ≡ true → FitsMessage m.now) }
     ensures err { OnErr result (out.new.items ≡ out.old.items) }
 {
     if out.is_empty() {
@@ -25,6 +28,7 @@ pub fn write(alloc: Global, m: &Msg, out: &mut Vec<u8>) -> Result<(), Memory>
 fn write_first(m: &Msg, out: &mut Vec<u8>) -> Result<(), Memory>
     requires { out.old.items ≡ [] }
     ensures ok { OnOk result (out.new.items ≡ message m.now) }
+    ensures fits { OnOk result (is_readable m.now ≡ true → FitsMessage m.now) }
     ensures err { OnErr result (out.new.items ≡ []) }
 {
     match m.put(out) {

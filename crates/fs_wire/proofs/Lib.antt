@@ -9,3 +9,4 @@ pub mod NameWires
 pub mod FieldWires
 pub mod OpWires
 pub mod ReplyWires
+pub mod Readable

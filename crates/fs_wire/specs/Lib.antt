@@ -3,3 +3,4 @@ pub mod Ranges
 pub mod Tags
 pub mod Readers
 pub mod Reading
+pub mod Readable

@@ -1,8 +1,10 @@
 //! Sessions, and the numbers of leases and transactions.
-ghost use Rattle.std.specs.Prelude.{false};
+ghost use Rattle.std.specs.Prelude.{false, true};
 ghost use Rattle.fs_wire.specs.Spelling.{session, lease, transaction};
 ghost use Rattle.fs_wire.specs.Readers.{Gives, one_at};
 ghost use Rattle.fs_wire.specs.Reading.{is_session, session_at, lease_at, transaction_at};
+ghost use Rattle.fs_wire.specs.Ranges.{FitsLease, FitsSession, FitsTransaction};
+ghost use Rattle.fs_wire.specs.Readable.{is_readable_session};
 
 use crate::fault::{ReadError, stop};
 use crate::numbers::choice_of;
@@ -14,6 +16,10 @@ impl Wire for Session {
     ghost text = { session };
 
     ghost at = { session_at };
+
+    ghost fits = { FitsSession };
+
+    ghost readable = { is_readable_session };
 
     #[tactic(auto, unfolding(crate::specs::Spelling::two))]
     fn put(&self, out: &mut Vec<u8>) -> Result<(), AllocError> {
@@ -50,6 +56,10 @@ impl Wire for LeaseNo {
 
     ghost at = { lease_at };
 
+    ghost fits = { FitsLease };
+
+    ghost readable = { λ _. true };
+
     fn put(&self, out: &mut Vec<u8>) -> Result<(), AllocError> {
         out.push(self.server)?;
         self.count.put(out)
@@ -66,6 +76,10 @@ impl Wire for TxnNo {
     ghost text = { transaction };
 
     ghost at = { transaction_at };
+
+    ghost fits = { FitsTransaction };
+
+    ghost readable = { λ _. true };
 
     fn put(&self, out: &mut Vec<u8>) -> Result<(), AllocError> {
         out.push(self.server)?;

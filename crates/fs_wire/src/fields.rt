@@ -1,6 +1,8 @@
 //! Fields.
+ghost use Rattle.std.specs.Prelude.{true};
 ghost use Rattle.fs_wire.specs.Spelling.{field};
 ghost use Rattle.fs_wire.specs.Reading.{field_at};
+ghost use Rattle.fs_wire.specs.Ranges.{FitsField};
 
 use crate::fault::ReadError;
 use crate::numbers::tag_of;
@@ -15,6 +17,10 @@ impl Wire for Field {
     ghost text = { field };
 
     ghost at = { field_at };
+
+    ghost fits = { FitsField };
+
+    ghost readable = { λ _. true };
 
     #[tactic(auto, unfolding(crate::specs::Spelling::field))]
     fn put(&self, out: &mut Vec<u8>) -> Result<(), AllocError> {

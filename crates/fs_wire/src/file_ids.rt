@@ -1,5 +1,5 @@
 //! Identifiers of files.
-ghost use Rattle.std.specs.Prelude.{◌≡◌, ◌≤◌, ℕ, List, ◌++◌, ◌∷◌, [], length, OnOk, IfOk, flat_map};
+ghost use Rattle.std.specs.Prelude.{◌≡◌, ◌≤◌, ℕ, List, ◌++◌, ◌∷◌, [], length, OnOk, IfOk, flat_map, true};
 ghost use Rattle.fs_ident.specs.Ident.{IsId, IsNumber};
 ghost use Rattle.fs_wire.specs.Spelling.{four, identifier};
 ghost use Rattle.fs_wire.specs.Readers.{Gives, many_at};
@@ -16,6 +16,10 @@ impl Wire for FileId {
     ghost text = { identifier };
 
     ghost at = { identifier_at };
+
+    ghost fits = { IsId };
+
+    ghost readable = { λ _. true };
 
     #[tactic(auto, unfolding(crate::specs::Spelling::identifier))]
     fn put(&self, out: &mut Vec<u8>) -> Result<(), AllocError> {

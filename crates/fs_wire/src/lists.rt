@@ -1,7 +1,10 @@
 //! Options, pairs and lists.
-ghost use Rattle.std.specs.Prelude.{◌≡◌, List, ◌++◌, OnOk, flat_map};
+ghost use Rattle.std.specs.Prelude.{◌≡◌, true, List, ◌++◌, OnOk, flat_map};
+ghost use Rattle.std.specs.List.{list_all, AllByRecursion};
 ghost use Rattle.fs_wire.specs.Spelling.{option, pair, list};
 ghost use Rattle.fs_wire.specs.Readers.{Gives, option_at, pair_at, many_at, list_at};
+ghost use Rattle.fs_wire.specs.Ranges.{FitsList, FitsOption, FitsPair};
+ghost use Rattle.fs_wire.specs.Readable.{option_all, pair_all};
 
 use crate::fault::ReadError;
 use crate::numbers::choice_of;
@@ -14,6 +17,10 @@ impl<T: Wire> Wire for Option<T> {
     ghost text = { option T.text };
 
     ghost at = { option_at T.at };
+
+    ghost fits = { FitsOption T.fits };
+
+    ghost readable = { option_all T.readable };
 
     fn put(&self, out: &mut Vec<u8>) -> Result<(), AllocError> {
         match self {
@@ -44,6 +51,10 @@ impl<A: Wire, B: Wire> Wire for (A, B) {
 
     ghost at = { pair_at A.at B.at };
 
+    ghost fits = { FitsPair A.fits B.fits };
+
+    ghost readable = { pair_all A.readable B.readable };
+
     fn put(&self, out: &mut Vec<u8>) -> Result<(), AllocError> {
         self.0.put(out)?;
         self.1.put(out)
@@ -62,6 +73,10 @@ impl<T: Wire> Wire for List<T> {
 
     ghost at = { list_at T.at };
 
+    ghost fits = { FitsList T.fits };
+
+    ghost readable = { list_all T.readable };
+
     #[tactic(auto, unfolding(crate::specs::Spelling::list))]
     fn put(&self, out: &mut Vec<u8>) -> Result<(), AllocError> {
         (self.len() as u64).put(out)?;
@@ -77,7 +92,9 @@ impl<T: Wire> Wire for List<T> {
 
 /// Adds the spelling of each, in order.
 pub(crate) fn put_each<T: Wire>(items: &[T], out: &mut Vec<u8>) -> Result<(), AllocError>
-    ensures { OnOk result (out.new.items ≡ out.old.items ++ flat_map T.text items.now) }
+    ensures text { OnOk result (out.new.items ≡ out.old.items ++ flat_map T.text items.now) }
+    ensures fits { OnOk result (list_all T.readable items.now ≡ true →
+        AllByRecursion T.fits items.now) }
 {
     for x in items {
         x.put(out)?;

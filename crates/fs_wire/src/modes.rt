@@ -1,8 +1,10 @@
 //! Kinds and modes.
-ghost use Rattle.std.specs.Prelude.{[], false};
+ghost use Rattle.std.specs.Prelude.{[], false, true};
+ghost use Rattle.fs_modes.specs.Modes.{has_access};
 ghost use Rattle.fs_wire.specs.Spelling.{kind, lease_kind, mode, modes};
 ghost use Rattle.fs_wire.specs.Readers.{Gives, one_at};
 ghost use Rattle.fs_wire.specs.Reading.{kind_at, lease_kind_at, mode_at, modes_at, is_modes_byte};
+ghost use Rattle.fs_wire.specs.Ranges.{FitsAlways, FitsModes};
 
 use crate::fault::{ReadError, stop};
 use crate::numbers::choice_of;
@@ -16,6 +18,10 @@ impl Wire for Kind {
     ghost text = { kind };
 
     ghost at = { kind_at };
+
+    ghost fits = { FitsAlways };
+
+    ghost readable = { λ _. true };
 
     fn put(&self, out: &mut Vec<u8>) -> Result<(), AllocError> {
         match self {
@@ -40,6 +46,10 @@ impl Wire for LeaseKind {
 
     ghost at = { lease_kind_at };
 
+    ghost fits = { FitsAlways };
+
+    ghost readable = { λ _. true };
+
     fn put(&self, out: &mut Vec<u8>) -> Result<(), AllocError> {
         match self {
             LeaseKind::Shared => out.push(0)?,
@@ -62,6 +72,10 @@ impl Wire for Mode {
     ghost text = { mode };
 
     ghost at = { mode_at };
+
+    ghost fits = { FitsAlways };
+
+    ghost readable = { λ _. true };
 
     fn put(&self, out: &mut Vec<u8>) -> Result<(), AllocError> {
         match self {
@@ -94,6 +108,10 @@ impl Wire for Modes {
     ghost text = { modes };
 
     ghost at = { modes_at };
+
+    ghost fits = { FitsModes };
+
+    ghost readable = { has_access };
 
     #[tactic(auto, unfolding(crate::specs::Spelling::modes))]
     fn put(&self, out: &mut Vec<u8>) -> Result<(), AllocError> {

@@ -1,5 +1,5 @@
 //! Names.
-ghost use Rattle.std.specs.Prelude.{◌≡◌, ◌≤◌, ℕ, List, ◌++◌, ◌∷◌, [], length, take, nat_le, false, None, OnOk, IfOk};
+ghost use Rattle.std.specs.Prelude.{◌≡◌, ◌≤◌, ℕ, List, ◌++◌, ◌∷◌, [], length, take, nat_le, false, None, OnOk, IfOk, true};
 ghost use Rattle.fs_ident.specs.Name.{IsName};
 ghost use Rattle.fs_wire.specs.Spelling.{name};
 ghost use Rattle.fs_wire.specs.Readers.{Gives, one_at};
@@ -15,6 +15,10 @@ impl Wire for Name {
     ghost text = { name };
 
     ghost at = { name_at };
+
+    ghost fits = { IsName };
+
+    ghost readable = { λ _. true };
 
     fn put(&self, out: &mut Vec<u8>) -> Result<(), AllocError> {
         let bytes = self.bytes();

@@ -1,7 +1,8 @@
 //! Bytes, numbers and truth values.
-ghost use Rattle.std.specs.Prelude.{◌∷◌, [], ◌<◌, IfOk};
+ghost use Rattle.std.specs.Prelude.{◌∷◌, [], ◌<◌, IfOk, true};
 ghost use Rattle.fs_wire.specs.Spelling.{four, eight, truth};
 ghost use Rattle.fs_wire.specs.Readers.{Gives, byte_at, choice_at, tag_at, four_at, eight_at, truth_at};
+ghost use Rattle.fs_wire.specs.Ranges.{FitsAlways, FitsEight, FitsFour, FitsOne};
 
 use crate::fault::{ReadError, stop};
 use crate::wire::Wire;
@@ -38,6 +39,10 @@ impl Wire for u8 {
 
     ghost at = { byte_at };
 
+    ghost fits = { FitsOne };
+
+    ghost readable = { λ _. true };
+
     fn put(&self, out: &mut Vec<u8>) -> Result<(), AllocError> {
         out.push(*self)?;
         Ok(())
@@ -57,6 +62,10 @@ impl Wire for bool {
 
     ghost at = { truth_at };
 
+    ghost fits = { FitsAlways };
+
+    ghost readable = { λ _. true };
+
     fn put(&self, out: &mut Vec<u8>) -> Result<(), AllocError> {
         out.push(if *self { 1 } else { 0 })?;
         Ok(())
@@ -73,6 +82,10 @@ impl Wire for u32 {
     ghost text = { four };
 
     ghost at = { four_at };
+
+    ghost fits = { FitsFour };
+
+    ghost readable = { λ _. true };
 
     #[tactic(auto, unfolding(crate::specs::Spelling::four))]
     fn put(&self, out: &mut Vec<u8>) -> Result<(), AllocError> {
@@ -94,6 +107,10 @@ impl Wire for u64 {
     ghost text = { eight };
 
     ghost at = { eight_at };
+
+    ghost fits = { FitsEight };
+
+    ghost readable = { λ _. true };
 
     #[tactic(auto, unfolding(crate::specs::Spelling::eight))]
     fn put(&self, out: &mut Vec<u8>) -> Result<(), AllocError> {

@@ -2,6 +2,8 @@
 ghost use Rattle.fs_wire.specs.Spelling.{op};
 ghost use Rattle.fs_wire.specs.Readers.{Gives};
 ghost use Rattle.fs_wire.specs.Reading.{op_at, lookup_to_info_of, create_to_set_of, delete_to_reap_of};
+ghost use Rattle.fs_wire.specs.Ranges.{FitsOp};
+ghost use Rattle.fs_wire.specs.Readable.{is_readable_op};
 
 use crate::fault::ReadError;
 use crate::numbers::tag_of;
@@ -16,6 +18,10 @@ impl Wire for Op {
     ghost text = { op };
 
     ghost at = { op_at };
+
+    ghost fits = { FitsOp };
+
+    ghost readable = { is_readable_op };
 
     #[tactic(auto, unfolding(crate::specs::Spelling::op))]
     fn put(&self, out: &mut Vec<u8>) -> Result<(), AllocError> {

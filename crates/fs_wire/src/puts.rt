@@ -1,5 +1,5 @@
 //! Writing a tag, and what stands behind it.
-ghost use Rattle.std.specs.Prelude.{◌≡◌, ◌++◌, ◌∷◌, [], OnOk};
+ghost use Rattle.std.specs.Prelude.{◌≡◌, ◌++◌, ◌∷◌, [], true, OnOk};
 
 use crate::wire::Wire;
 use std::alloc::AllocError;
@@ -14,7 +14,8 @@ pub fn put_tag(tag: u8, out: &mut Vec<u8>) -> Result<(), AllocError>
 
 /// Adds a tag and a value.
 pub fn put_tag_1<A: Wire>(tag: u8, a: &A, out: &mut Vec<u8>) -> Result<(), AllocError>
-    ensures { OnOk result (out.new.items ≡ out.old.items ++ tag ∷ A.text a.now) }
+    ensures text { OnOk result (out.new.items ≡ out.old.items ++ tag ∷ A.text a.now) }
+    ensures fits { OnOk result (A.readable a.now ≡ true → A.fits a.now) }
 {
     out.push(tag)?;
     a.put(out)
@@ -27,7 +28,10 @@ pub fn put_tag_2<A: Wire, B: Wire>(
     b: &B,
     out: &mut Vec<u8>,
 ) -> Result<(), AllocError>
-    ensures { OnOk result (out.new.items ≡ out.old.items ++ (tag ∷ A.text a.now ++ B.text b.now)) }
+    ensures text { OnOk result (out.new.items ≡
+        out.old.items ++ (tag ∷ A.text a.now ++ B.text b.now)) }
+    ensures fits { OnOk result (A.readable a.now ≡ true → B.readable b.now ≡ true →
+        A.fits a.now × B.fits b.now) }
 {
     out.push(tag)?;
     a.put(out)?;
@@ -42,8 +46,10 @@ pub fn put_tag_3<A: Wire, B: Wire, C: Wire>(
     c: &C,
     out: &mut Vec<u8>,
 ) -> Result<(), AllocError>
-    ensures { OnOk result (out.new.items ≡
+    ensures text { OnOk result (out.new.items ≡
         out.old.items ++ (tag ∷ A.text a.now ++ (B.text b.now ++ C.text c.now))) }
+    ensures fits { OnOk result (A.readable a.now ≡ true → B.readable b.now ≡ true →
+        C.readable c.now ≡ true → A.fits a.now × B.fits b.now × C.fits c.now) }
 {
     out.push(tag)?;
     a.put(out)?;
@@ -60,9 +66,12 @@ pub fn put_tag_4<A: Wire, B: Wire, C: Wire, D: Wire>(
     d: &D,
     out: &mut Vec<u8>,
 ) -> Result<(), AllocError>
-    ensures { OnOk result (out.new.items ≡
+    ensures text { OnOk result (out.new.items ≡
         out.old.items ++
         (tag ∷ A.text a.now ++ (B.text b.now ++ (C.text c.now ++ D.text d.now)))) }
+    ensures fits { OnOk result (A.readable a.now ≡ true → B.readable b.now ≡ true →
+        C.readable c.now ≡ true → D.readable d.now ≡ true →
+        A.fits a.now × B.fits b.now × C.fits c.now × D.fits d.now) }
 {
     out.push(tag)?;
     a.put(out)?;

@@ -1,7 +1,9 @@
 //! Replies.
+ghost use Rattle.std.specs.Prelude.{true};
 ghost use Rattle.fs_wire.specs.Spelling.{reply};
 ghost use Rattle.fs_wire.specs.Readers.{Gives};
 ghost use Rattle.fs_wire.specs.Reading.{reply_at, gone_to_info_of, exists_to_reaped_of};
+ghost use Rattle.fs_wire.specs.Ranges.{FitsReply};
 
 use crate::fault::ReadError;
 use crate::numbers::tag_of;
@@ -16,7 +18,11 @@ impl Wire for Reply {
 
     ghost at = { reply_at };
 
-    #[tactic(auto, unfolding(crate::specs::Spelling::reply))]
+    ghost fits = { FitsReply };
+
+    ghost readable = { λ _. true };
+
+    #[tactic(auto, unfolding(crate::specs::Spelling::reply), using(crate::proofs::Readable::always_list))]
     fn put(&self, out: &mut Vec<u8>) -> Result<(), AllocError> {
         match self {
             Reply::Gone => put_tag(0, out),

@@ -1,6 +1,8 @@
 //! The leases that an entry used.
+ghost use Rattle.std.specs.Prelude.{true};
 ghost use Rattle.fs_wire.specs.Spelling.{lease_use};
 ghost use Rattle.fs_wire.specs.Reading.{lease_use_at};
+ghost use Rattle.fs_wire.specs.Ranges.{FitsUse};
 
 use crate::fault::ReadError;
 use crate::wire::Wire;
@@ -12,6 +14,10 @@ impl Wire for Use {
     ghost text = { lease_use };
 
     ghost at = { lease_use_at };
+
+    ghost fits = { FitsUse };
+
+    ghost readable = { λ _. true };
 
     #[tactic(auto, unfolding(crate::specs::Spelling::lease_use))]
     fn put(&self, out: &mut Vec<u8>) -> Result<(), AllocError> {

@@ -1,6 +1,8 @@
 //! The values of fields.
 ghost use Rattle.fs_wire.specs.Spelling.{value};
 ghost use Rattle.fs_wire.specs.Reading.{value_at};
+ghost use Rattle.fs_wire.specs.Ranges.{FitsValue};
+ghost use Rattle.fs_wire.specs.Readable.{is_readable_value};
 
 use crate::fault::ReadError;
 use crate::numbers::tag_of;
@@ -16,7 +18,11 @@ impl Wire for Value {
 
     ghost at = { value_at };
 
-    #[tactic(auto, unfolding(crate::specs::Spelling::value))]
+    ghost fits = { FitsValue };
+
+    ghost readable = { is_readable_value };
+
+    #[tactic(auto, unfolding(crate::specs::Spelling::value), using(crate::proofs::Readable::always_list))]
     fn put(&self, out: &mut Vec<u8>) -> Result<(), AllocError> {
         match self {
             Value::Life(kind) => put_tag_1(0, kind, out),

@@ -1,8 +1,10 @@
 //! Answers as bytes.
-ghost use Rattle.std.specs.Prelude.{◌≡◌, ◌++◌, ◌≤◌, OnOk};
+ghost use Rattle.std.specs.Prelude.{◌≡◌, ◌++◌, ◌≤◌, OnOk, true};
 ghost use Rattle.fs_wire.specs.Readers.{Gives};
 ghost use Rattle.fs_msg.specs.Spelling.{answer};
 ghost use Rattle.fs_msg.specs.Reading.{is_answer_tag, answer_of};
+ghost use Rattle.fs_msg.specs.Ranges.{FitsAnswer};
+ghost use Rattle.fs_msg.specs.Readable.{is_readable_answer};
 
 use crate::answer::{Answer, Grant};
 use crate::end::End;
@@ -20,7 +22,8 @@ pub(crate) fn is_answer_tag(b: u8) -> bool
 /// Adds the spelling of an answer at the end.
 #[tactic(auto, unfolding(crate::specs::Spelling::answer))]
 pub(crate) fn put_answer(a: &Answer, out: &mut Vec<u8>) -> Result<(), AllocError>
-    ensures { OnOk result (out.new.items ≡ out.old.items ++ answer a.now) }
+    ensures text { OnOk result (out.new.items ≡ out.old.items ++ answer a.now) }
+    ensures fits { OnOk result (is_readable_answer a.now ≡ true → FitsAnswer a.now) }
 {
     match a {
         Answer::Granted { grants, fresh, end } => put_tag_3(17, grants, fresh, end, out),

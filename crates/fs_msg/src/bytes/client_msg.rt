@@ -1,8 +1,10 @@
 //! Clients' messages as bytes.
-ghost use Rattle.std.specs.Prelude.{◌≡◌, ◌++◌, ◌≤◌, OnOk};
+ghost use Rattle.std.specs.Prelude.{◌≡◌, ◌++◌, ◌≤◌, OnOk, true};
 ghost use Rattle.fs_wire.specs.Readers.{Gives};
 ghost use Rattle.fs_msg.specs.Spelling.{client_message};
 ghost use Rattle.fs_msg.specs.Reading.{is_client_tag, client_of};
+ghost use Rattle.fs_msg.specs.Ranges.{FitsClientMessage};
+ghost use Rattle.fs_msg.specs.Readable.{is_readable_request};
 
 use crate::client_msg::ClientMsg;
 use crate::entry::Entry;
@@ -19,9 +21,10 @@ pub(crate) fn is_client_tag(b: u8) -> bool
 }
 
 /// Adds the spelling of a client's request at the end.
-#[tactic(auto, unfolding(crate::specs::Spelling::client_message))]
+#[tactic(auto, unfolding(crate::specs::Spelling::client_message), using(crate::proofs::Readable::always_pairs))]
 pub(crate) fn put_client(m: &ClientMsg, out: &mut Vec<u8>) -> Result<(), AllocError>
-    ensures { OnOk result (out.new.items ≡ out.old.items ++ client_message m.now) }
+    ensures text { OnOk result (out.new.items ≡ out.old.items ++ client_message m.now) }
+    ensures fits { OnOk result (is_readable_request m.now ≡ true → FitsClientMessage m.now) }
 {
     match m {
         ClientMsg::Ask { items, fresh } => put_tag_2(1, items, fresh, out),

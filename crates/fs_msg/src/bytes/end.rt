@@ -1,6 +1,8 @@
 //! Ends as bytes.
+ghost use Rattle.std.specs.Prelude.{true};
 ghost use Rattle.fs_msg.specs.Spelling.{end};
 ghost use Rattle.fs_msg.specs.Reading.{end_at};
+ghost use Rattle.fs_msg.specs.Ranges.{FitsEnd};
 
 use crate::end::End;
 use fs_ident::{FileId, LeaseNo, TxnNo};
@@ -11,6 +13,10 @@ impl Wire for End {
     ghost text = { end };
 
     ghost at = { end_at };
+
+    ghost fits = { FitsEnd };
+
+    ghost readable = { λ _. true };
 
     #[tactic(auto, unfolding(crate::specs::Spelling::end))]
     fn put(&self, out: &mut Vec<u8>) -> Result<(), AllocError> {

@@ -1,6 +1,8 @@
 //! Entries as bytes.
 ghost use Rattle.fs_msg.specs.Spelling.{entry};
 ghost use Rattle.fs_msg.specs.Reading.{entry_at};
+ghost use Rattle.fs_msg.specs.Ranges.{FitsEntry};
+ghost use Rattle.fs_msg.specs.Readable.{is_readable_entry};
 
 use crate::entry::Entry;
 use fs_field::Use;
@@ -14,7 +16,11 @@ impl Wire for Entry {
 
     ghost at = { entry_at };
 
-    #[tactic(auto, unfolding(crate::specs::Spelling::entry))]
+    ghost fits = { FitsEntry };
+
+    ghost readable = { is_readable_entry };
+
+    #[tactic(auto, unfolding(crate::specs::Spelling::entry), using(fs_wire::proofs::Readable::always_list))]
     fn put(&self, out: &mut Vec<u8>) -> Result<(), AllocError> {
         self.n.put(out)?;
         self.op.put(out)?;

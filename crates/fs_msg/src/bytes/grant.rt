@@ -1,6 +1,8 @@
 //! Grants as bytes.
 ghost use Rattle.fs_msg.specs.Spelling.{grant};
 ghost use Rattle.fs_msg.specs.Reading.{grant_at};
+ghost use Rattle.fs_msg.specs.Ranges.{FitsGrant};
+ghost use Rattle.fs_msg.specs.Readable.{is_readable_grant};
 
 use crate::answer::Grant;
 use fs_field::{Field, LeaseKind, Value};
@@ -12,6 +14,10 @@ impl Wire for Grant {
     ghost text = { grant };
 
     ghost at = { grant_at };
+
+    ghost fits = { FitsGrant };
+
+    ghost readable = { is_readable_grant };
 
     #[tactic(auto, unfolding(crate::specs::Spelling::grant))]
     fn put(&self, out: &mut Vec<u8>) -> Result<(), AllocError> {

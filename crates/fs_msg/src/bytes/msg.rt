@@ -3,6 +3,8 @@ ghost use Rattle.std.specs.Prelude.{true};
 ghost use Rattle.fs_wire.specs.Readers.{Gives, one_at};
 ghost use Rattle.fs_msg.specs.Spelling.{message};
 ghost use Rattle.fs_msg.specs.Reading.{is_message_tag, message_at};
+ghost use Rattle.fs_msg.specs.Ranges.{FitsMessage};
+ghost use Rattle.fs_msg.specs.Readable.{is_readable};
 
 use crate::bytes::answer::{answer_of, is_answer_tag, put_answer};
 use crate::bytes::client_msg::{client_of, is_client_tag, put_client};
@@ -26,6 +28,10 @@ impl Wire for Msg {
     ghost text = { message };
 
     ghost at = { message_at };
+
+    ghost fits = { FitsMessage };
+
+    ghost readable = { is_readable };
 
     #[tactic(auto, unfolding(crate::specs::Spelling::message))]
     fn put(&self, out: &mut Vec<u8>) -> Result<(), AllocError> {

@@ -1,0 +1,34 @@
+-- Which messages are read again from their bytes, beyond what their types say.
+use Rattle.std.specs.Prelude.{Bool, true}
+use Rattle.std.specs.List.{list_all}
+use Rattle.fs_msg.specs.declared.entry.Entry.{Entry}
+use Rattle.fs_msg.specs.declared.answer.Grant.{Grant}
+use Rattle.fs_msg.specs.declared.answer.Answer.{Answer}
+use Rattle.fs_msg.specs.declared.answer.Answer.TheVariants as answer_
+use Rattle.fs_msg.specs.declared.client_msg.ClientMsg.{ClientMsg}
+use Rattle.fs_msg.specs.declared.client_msg.ClientMsg.TheVariants as client_
+use Rattle.fs_msg.specs.declared.msg.Msg.{Msg}
+use Rattle.fs_msg.specs.declared.msg.Msg.TheVariants as msg_
+use Rattle.fs_wire.specs.Readable.{is_readable_op, is_readable_value}
+
+-- its operation is readable
+abbrev pub is_readable_entry : Entry → Bool
+is_readable_entry e = is_readable_op e.op
+
+-- its value is readable
+abbrev pub is_readable_grant : Grant → Bool
+is_readable_grant g = is_readable_value g.value
+
+-- the entries that it hands in are readable
+abbrev pub is_readable_request : ClientMsg → Bool
+is_readable_request (client_.Ship entries) = list_all is_readable_entry entries
+is_readable_request m = true
+
+-- the leases that it grants are readable
+abbrev pub is_readable_answer : Answer → Bool
+is_readable_answer (answer_.Granted grants fresh e) = list_all is_readable_grant grants
+is_readable_answer a = true
+
+abbrev pub is_readable : Msg → Bool
+is_readable (msg_.Client m) = is_readable_request m
+is_readable (msg_.Answer a) = is_readable_answer a
