@@ -11,3 +11,5 @@ pub mod LinkedTies
 pub mod LinkedClient
 pub mod LinkedServer
 pub mod Linked
+mod Downs
+mod Popped

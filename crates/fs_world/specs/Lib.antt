@@ -7,3 +7,4 @@ pub mod Safe
 -- cited by private calls alone
 pub mod Readable
 pub mod Linked
+pub mod Planned

@@ -4,14 +4,19 @@
 mod answers;
 mod counts;
 mod direct;
+mod downs;
 mod form;
 mod goes;
+mod hearing;
 mod law;
 mod numbers;
 mod packets;
+mod pushes;
 mod seat;
 mod seats;
 mod served;
+mod telling;
+mod term;
 #[cfg(test)]
 mod tests;
 mod world;

@@ -1,19 +1,18 @@
 //! Messages onto the server's links.
 ghost use Rattle.std.specs.Prelude.{◌≡◌, true, false, OnOk, OnErr, IsErrOf};
-ghost use Rattle.fs_msg.specs.Ranges.{FitsMessage};
-ghost use Rattle.fs_msg.specs.Readable.{is_readable};
 ghost use Rattle.fs_msg.specs.Spelling.{message};
 ghost use Rattle.fs_msg.specs.declared.core_error.Counter.{Counter as TheCounter};
 ghost use Rattle.fs_msg.specs.declared.core_error.Counter.TheVariants.{Segments};
 ghost use Rattle.fs_msg.specs.declared.core_error.CoreError.TheVariants as errors;
 ghost use Rattle.fs_window.specs.Post.{post_pushed};
 ghost use Rattle.fs_window.specs.Undo.{undone};
-ghost use Rattle.fs_world.specs.Planned.{AllFit};
+ghost use Rattle.fs_world.specs.Linked.{FitsDown, IsWritten};
 ghost use Rattle.fs_world.specs.Served.{is_full_down, is_full_for, with_pushed};
 
+use crate::goes::refusal;
 use fs_ident::Peer;
-use fs_msg::{CoreError, Counter, Msg, write};
-use fs_window::{LinkError, Post, Undo};
+use fs_msg::{CoreError, Msg, write};
+use fs_window::{Post, Undo};
 use std::alloc::Global;
 
 /// The messages go onto the links of their addressees. Where that fails some may have gone, as `undo` keeps.
@@ -24,7 +23,7 @@ pub(crate) fn push_all(
     undo: &mut Undo,
 ) -> Result<(), CoreError>
     ensures ok { OnOk result (post.new ≡ with_pushed send.now post.old) }
-    ensures fits { OnOk result (AllFit send.now) }
+    ensures fits { OnOk result (FitsDown send.now) }
     ensures undo { undone undo.new post.new ≡ undone undo.old post.old }
     ensures spent { (counter : TheCounter) → IsErrOf result (errors.Spent counter) →
         (counter ≡ Segments) × (is_full_down send.now post.old ≡ true) }
@@ -44,7 +43,7 @@ fn push_one(
     undo: &mut Undo,
 ) -> Result<(), CoreError>
     ensures ok { OnOk result (post.new ≡ post_pushed post.old sent.now.0 (message sent.now.1)) }
-    ensures fits { OnOk result (is_readable sent.now.1 ≡ true → FitsMessage sent.now.1) }
+    ensures fits { OnOk result (IsWritten sent.now.1) }
     ensures undo { undone undo.new post.new ≡ undone undo.old post.old }
     ensures spent { (counter : TheCounter) → IsErrOf result (errors.Spent counter) →
         (counter ≡ Segments) × (is_full_for post.old sent.now.0 (message sent.now.1) ≡ true) }
@@ -54,9 +53,6 @@ fn push_one(
     write(alloc, &sent.1, &mut bytes)?;
     match post.push_with_undo(alloc, sent.0, &bytes, undo) {
         Ok(()) => Ok(()),
-        Err(LinkError::Spent) => Err(CoreError::Spent {
-            counter: Counter::Segments,
-        }),
-        Err(LinkError::Memory) => Err(CoreError::Memory),
+        Err(e) => Err(refusal(e)),
     }
 }

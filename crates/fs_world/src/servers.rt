@@ -7,19 +7,22 @@ ghost use Rattle.fs_msg.specs.declared.core_error.CoreError.TheVariants as error
 ghost use Rattle.fs_server.specs.Plan.{CanCommit, committed};
 ghost use Rattle.fs_server.specs.Step.{step};
 ghost use Rattle.fs_world.specs.Packets.{with_sent};
-ghost use Rattle.fs_world.specs.Planned.{AllFit, stepped_by};
+ghost use Rattle.fs_world.specs.Linked.{FitsDown};
+ghost use Rattle.fs_world.specs.Planned.{stepped_by};
 ghost use Rattle.fs_world.specs.Served.{is_full_down, server_does, server_goes, server_step, with_downs, with_pushed};
+ghost use Rattle.fs_window.specs.Post.{post_due};
 ghost use Rattle.fs_window.specs.Undo.{undone};
 
 use crate::downs::{push_downs, undo_downs};
-use crate::goes::outcome_with;
+use crate::goes::send_due;
+use crate::lists::append;
 use crate::pushes::push_all;
 use crate::served::Served;
 use fs_ident::{List, Memory, Peer};
-use fs_msg::{CoreError, Item, Note, ServerNote};
+use fs_msg::{CoreError, Note, ServerNote};
 use fs_schedule::Outcome;
 use fs_server::{Plan, ServerEvent};
-use fs_window::{Sent, Undo};
+use fs_window::Undo;
 use std::alloc::Global;
 use std::mem;
 
@@ -38,7 +41,7 @@ impl Served {
             (server_step turn heard now event.now self.old).outcome) }
         ensures world { OnOk result (self.new ≡
             (server_step turn heard now event.now self.old).world) }
-        ensures fits { OnOk result (AllFit (step self.old.server now event.now).out.send) }
+        ensures fits { OnOk result (FitsDown (step self.old.server now event.now).out.send) }
         ensures spent { (counter : TheCounter) → IsErrOf result (errors.Spent counter) →
             (server_step turn heard now event.now self.old).spent ≡ Some counter }
         ensures only { (counter : TheCounter) →
@@ -73,7 +76,7 @@ impl Served {
             (server_does turn heard false (stepped_by plan self.old.server) self.old).outcome) }
         ensures world { OnOk result (self.new ≡
             (server_does turn heard false (stepped_by plan self.old.server) self.old).world) }
-        ensures fits { OnOk result (AllFit plan.out.send) }
+        ensures fits { OnOk result (FitsDown plan.out.send) }
         ensures spent { (counter : TheCounter) → IsErrOf result (errors.Spent counter) →
             (counter ≡ Segments) × (is_full_down plan.out.send self.old.post ≡ true) }
         ensures room { OnOk result (is_full_down plan.out.send self.old.post ≡ false) }
@@ -83,31 +86,38 @@ impl Served {
     {
         let mut plan = plan;
         push_all(alloc, &mut self.post, plan.out.send.as_slice(), undo)?;
-        let sent = self.post.packets(alloc, turn, heard)?;
         let note = mem::replace(&mut plan.out.note, ServerNote::Idle);
-        let before = self.packets.sent().len();
-        let note = Note::Server(note);
-        let told = outcome_with(alloc, Peer::Server(0), note, before, sent.as_slice())?;
-        self.send(alloc, sent, plan)?;
-        self.post.mark_sent();
-        Ok(told)
+        Ok(self.send(alloc, turn, heard, Note::Server(note), plan)?)
     }
 
-    /// Sends the packets, and does the rest of the plan: all of it, or nothing where memory is wanting.
-    fn send(&mut self, alloc: Global, sent: List<Sent>, plan: Plan) -> Result<(), Memory>
+    /// Sends what is due on the server's links, and does the rest of the plan: all of it, or nothing where memory is
+    /// wanting.
+    fn send(
+        &mut self,
+        alloc: Global,
+        turn: bool,
+        heard: Option<Peer>,
+        note: Note,
+        plan: Plan,
+    ) -> Result<Outcome, Memory>
         requires { CanCommit plan self.old.server }
-        ensures ok { OnOk result (self.new ≡ record self.old {
-          server = committed plan self.old.server;
-          seats = with_downs plan.out.send self.old.seats;
-          journal = self.old.journal ++ plan.out.admitted;
-          packets = with_sent sent self.old.packets;
-        }) }
+        ensures outcome { IfOk result (λ o. o ≡
+            (server_goes turn heard note None self.old).outcome) }
+        ensures world { OnOk result (self.new ≡ (server_goes turn heard note None
+            (record self.old {
+              server = committed plan self.old.server;
+              seats = with_downs plan.out.send self.old.seats;
+              journal = self.old.journal ++ plan.out.admitted;
+            })).world) }
         ensures err { OnErr result (self.new ≡ self.old) }
     {
         let before = self.packets.sent().len();
-        self.packets.add(alloc, sent)?;
+        let told = self.send_due(alloc, turn, heard, note)?;
         match self.admit(alloc, plan) {
-            Ok(()) => Ok(()),
+            Ok(()) => {
+                self.post.mark_sent();
+                Ok(told)
+            }
             Err(e) => {
                 self.packets.cut_back(before);
                 Err(e)
@@ -173,21 +183,27 @@ impl Served {
             (server_goes turn heard note None self.old).world) }
         ensures err { OnErr result (self.new ≡ self.old) }
     {
-        let sent = self.post.packets(alloc, turn, heard)?;
-        let before = self.packets.sent().len();
-        let told = outcome_with(alloc, Peer::Server(0), note, before, sent.as_slice())?;
-        self.packets.add(alloc, sent)?;
+        let told = self.send_due(alloc, turn, heard, note)?;
         self.post.mark_sent();
         Ok(told)
     }
-}
 
-/// Adds the items at the end of the journal, all of them or none.
-fn append(journal: &mut List<Item>, more: List<Item>) -> Result<(), Memory>
-    ensures ok { OnOk result (journal.new ≡ journal.old ++ more) }
-    ensures err { OnErr result (journal.new ≡ journal.old) }
-{
-    let mut more = more.into_vec();
-    journal.items_mut().append(&mut more)?;
-    Ok(())
+    /// The same, where the links do not count it as sent yet.
+    fn send_due(
+        &mut self,
+        alloc: Global,
+        turn: bool,
+        heard: Option<Peer>,
+        note: Note,
+    ) -> Result<Outcome, Memory>
+        ensures outcome { IfOk result (λ o. o ≡
+            (server_goes turn heard note None self.old).outcome) }
+        ensures world { OnOk result (self.new ≡ record self.old {
+          packets = with_sent (post_due self.old.post turn heard).sent self.old.packets;
+        }) }
+        ensures err { OnErr result (self.new ≡ self.old) }
+    {
+        let me = Peer::Server(0);
+        send_due(alloc, me, turn, heard, note, &self.post, &mut self.packets)
+    }
 }
