@@ -13,3 +13,8 @@ pub mod LinkedServer
 pub mod Linked
 mod Downs
 mod Popped
+pub mod Marks
+pub mod Heard
+pub mod SeatMaps
+pub mod Spending
+mod HeardMessages

@@ -8,3 +8,4 @@ pub mod Safe
 pub mod Readable
 pub mod Linked
 pub mod Planned
+pub mod Hearing

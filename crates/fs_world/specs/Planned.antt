@@ -1,5 +1,5 @@
 -- What a server planned, and what it sends then.
-use Rattle.std.specs.Prelude.{◌≡◌, ℕ, false, List, ◌∷◌, Option}
+use Rattle.std.specs.Prelude.{◌≡◌, ℕ, false, List, [], ◌∷◌, Option, Some, None}
 use Rattle.fs_ident.specs.In.{In}
 use Rattle.fs_ident.specs.declared.actor.Peer.{Peer}
 use Rattle.fs_ident.specs.declared.actor.Session.{Session}
@@ -21,6 +21,12 @@ use Rattle.fs_world.specs.declared.served.Served.{Served}
 -- what the plan comes to
 abbrev pub stepped_by : Plan → Server → Stepped
 stepped_by p s = record { server = committed p s; out = p.out }
+
+-- the first message on its way from a session, where one came whole
+abbrev pub message_heard : List Joined → List ClientMsg → Option ClientMsg
+message_heard [] up = None
+message_heard (j ∷ js) [] = None
+message_heard (j ∷ js) (m ∷ up) = Some m
 
 -- the message that came, if one did: what the server's step on it sends was written down, and there was room for it
 abbrev pub IsAnswered : ℕ → Session → List Joined → List ClientMsg → Served → Type 0

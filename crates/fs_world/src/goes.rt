@@ -1,13 +1,17 @@
 //! What goes out of an actor's links, and what an event comes to.
-ghost use Rattle.std.specs.Prelude.{◌≡◌, ◌∷◌, [], length, IfOk, OnOk, OnErr};
+ghost use Rattle.std.specs.Prelude.{◌≡◌, ◌∷◌, [], length, IfOk, OnOk, OnErr, Some};
+ghost use Rattle.fs_msg.specs.declared.core_error.Counter.TheVariants.{Segments};
+ghost use Rattle.fs_msg.specs.declared.core_error.CoreError.TheVariants as errors;
+ghost use Rattle.fs_window.specs.Post.{post_due};
 ghost use Rattle.fs_world.specs.Direct.{outcome_of};
 ghost use Rattle.fs_world.specs.Packets.{numbers_from, with_sent};
 ghost use Rattle.fs_world.specs.Served.{heard_in, quiet_note};
 
+use crate::packets::Packets;
 use fs_ident::{List, Memory, Peer};
-use fs_msg::Note;
+use fs_msg::{CoreError, Counter, Note};
 use fs_schedule::Outcome;
-use fs_window::{Heard, Packet, Sent};
+use fs_window::{Heard, LinkError, Packet, Post, Sent};
 use std::alloc::Global;
 
 /// An outcome of one note, in which nothing is sent.
@@ -23,23 +27,55 @@ pub(crate) fn outcome(alloc: Global, who: Option<Peer>, note: Note) -> Result<Ou
     })
 }
 
-/// An outcome of an actor's one note, with the numbers of these packets, of which the first has the number `from`.
-pub(crate) fn outcome_with(
+/// What is due on an actor's links joins the packets, and the outcome of its one note has their numbers. The links do not
+/// change; they count it as sent by `mark_sent`.
+pub(crate) fn send_due(
+    alloc: Global,
+    who: Peer,
+    turn: bool,
+    heard: Option<Peer>,
+    note: Note,
+    post: &Post,
+    packets: &mut Packets,
+) -> Result<Outcome, Memory>
+    ensures outcome { IfOk result (λ o. o ≡ record {
+      who = Some who;
+      notes = note ∷ [];
+      sent = numbers_from (length packets.old.sent) (post_due post.now turn heard).sent;
+    }) }
+    ensures ok { OnOk result (packets.new ≡
+        with_sent (post_due post.now turn heard).sent packets.old) }
+    ensures err { OnErr result (packets.new ≡ packets.old) }
+{
+    let due = post.packets(alloc, turn, heard)?;
+    let outcome = outcome_with(
+        alloc,
+        who,
+        note,
+        packets.sent().as_slice(),
+        due.as_slice(),
+    )?;
+    packets.add(alloc, due)?;
+    Ok(outcome)
+}
+
+/// An outcome of an actor's one note, with the numbers of the packets that it sends behind those that were sent before.
+fn outcome_with(
     alloc: Global,
     who: Peer,
     note: Note,
-    from: usize,
+    before: &[Sent],
     packets: &[Sent],
 ) -> Result<Outcome, Memory>
     ensures { IfOk result (λ o. o ≡ record {
       who = Some who;
       notes = note ∷ [];
-      sent = numbers_from from packets.now;
+      sent = numbers_from (length before.now) packets.now;
     }) }
 {
     let mut notes = List::new(alloc);
     notes.push(note)?;
-    let sent = numbers(alloc, from as u64, packets)?;
+    let sent = numbers(alloc, before, packets)?;
     Ok(Outcome {
         who: Some(who),
         notes,
@@ -47,12 +83,12 @@ pub(crate) fn outcome_with(
     })
 }
 
-/// The numbers of these packets, of which the first has the number `from`.
-fn numbers(alloc: Global, from: u64, packets: &[Sent]) -> Result<List<u64>, Memory>
-    ensures { IfOk result (λ all. all ≡ numbers_from from packets.now) }
+/// The numbers of these packets behind those that were sent before.
+fn numbers(alloc: Global, before: &[Sent], packets: &[Sent]) -> Result<List<u64>, Memory>
+    ensures { IfOk result (λ all. all ≡ numbers_from (length before.now) packets.now) }
 {
     let mut all = List::new(alloc);
-    let mut number = from;
+    let mut number = before.len() as u64;
     for _ in packets {
         all.push(number)?;
         number += 1;
@@ -75,5 +111,18 @@ pub(crate) fn quiet_note(heard: &Heard) -> Note
         Note::None
     } else {
         Note::Part
+    }
+}
+
+/// Why no step is made where a link takes no message.
+pub(crate) fn refusal(e: LinkError) -> CoreError
+    ensures spent { e ≡ LinkError.Spent → result ≡ errors.Spent Segments }
+    ensures memory { e ≡ LinkError.Memory → result ≡ errors.Memory }
+{
+    match e {
+        LinkError::Spent => CoreError::Spent {
+            counter: Counter::Segments,
+        },
+        LinkError::Memory => CoreError::Memory,
     }
 }

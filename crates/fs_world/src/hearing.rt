@@ -9,11 +9,12 @@ ghost use Rattle.fs_msg.specs.Spelling.{message};
 ghost use Rattle.fs_msg.specs.declared.client_msg.ClientMsg.{ClientMsg as TheMessage};
 ghost use Rattle.fs_msg.specs.declared.core_error.Counter.{Counter as TheCounter};
 ghost use Rattle.fs_msg.specs.declared.core_error.CoreError.TheVariants as errors;
+ghost use Rattle.fs_msg.specs.declared.msg.Msg.TheVariants as msg;
 ghost use Rattle.fs_server.specs.Step.{step};
 ghost use Rattle.fs_server.specs.declared.event.ServerEvent.TheVariants.{FromClient};
 ghost use Rattle.fs_window.specs.Post.{post_accepted};
 ghost use Rattle.fs_world.specs.Linked.{FitsDown, IsFirstOf, from_session};
-ghost use Rattle.fs_world.specs.Planned.{IsAnswered};
+ghost use Rattle.fs_world.specs.Planned.{IsAnswered, message_heard};
 ghost use Rattle.fs_world.specs.Served.{server_hears, server_step, server_told, up_of, with_rest};
 
 use crate::goes::{heard_in, quiet_note};
@@ -92,12 +93,9 @@ impl Served {
             (up_of (map.get self.old.seats s.0)) self.old).spent ≡ None) }
         ensures err { OnErr result (self.new ≡ self.old) }
     {
-        match heard.joined.as_slice() {
-            [] => Ok(self.server_goes(alloc, false, from, quiet_note(heard))?),
-            [first, ..] => {
-                let m = message_of(alloc, first)?;
-                self.server_takes(alloc, now, s, from, m)
-            }
+        match message_in(alloc, heard.joined.as_slice())? {
+            None => Ok(self.server_goes(alloc, false, from, quiet_note(heard))?),
+            Some(m) => self.server_takes(alloc, now, s, from, m),
         }
     }
 
@@ -110,9 +108,7 @@ impl Served {
         from: Option<Peer>,
         m: ClientMsg,
     ) -> Result<Outcome, CoreError>
-        requires reading { now ≤ LATEST }
-        requires first { (up : Seq TheMessage) ×
-            (up_of (map.get self.old.seats s.0) ≡ m ∷ up) }
+        requires { now ≤ LATEST }
         ensures outcome { (up : Seq TheMessage) → up_of (map.get self.old.seats s.0) ≡ m ∷ up →
             IfOk result (λ o. o ≡ (server_step false from now (FromClient s m)
             (with_rest (map.get self.old.seats s.0) s.0 up self.old)).outcome) }
@@ -137,19 +133,29 @@ impl Served {
     }
 }
 
-/// The message of a session that came whole.
-fn message_of(alloc: Global, joined: &Joined) -> Result<ClientMsg, Memory>
-    requires { (m : TheMessage) × (joined.now ≡ Whole (message (Msg.Client m))) ×
-        FitsMessage (Msg.Client m) }
-    ensures { (m : TheMessage) → joined.now ≡ Whole (message (Msg.Client m)) →
-        FitsMessage (Msg.Client m) → IfOk result (λ told. told ≡ m) }
+/// The first message on its way from a session, if one came whole.
+fn message_in(alloc: Global, joined: &[Joined]) -> Result<Option<ClientMsg>, Memory>
+    ensures { (up : Seq TheMessage) → IsFirstOf joined.now (from_session up) →
+        IfOk result (λ m. m ≡ message_heard joined.now up) }
+{
+    match joined {
+        [] => Ok(None),
+        [first, ..] => read_message(alloc, first),
+    }
+}
+
+/// The message of a session that was sent; none where something else was.
+fn read_message(alloc: Global, joined: &Joined) -> Result<Option<ClientMsg>, Memory>
+    ensures { (m : TheMessage) → joined.now ≡ Whole (message (msg.Client m)) →
+        FitsMessage (msg.Client m) → IfOk result (λ read. read ≡ Some m) }
 {
     let Joined::Whole(bytes) = joined else {
-        unreachable!()
+        return Ok(None);
     };
     match read_whole(alloc, bytes.as_slice()) {
-        Ok(Msg::Client(m)) => Ok(m),
+        Ok(Msg::Client(m)) => Ok(Some(m)),
+        Ok(Msg::Answer(_)) => Ok(None),
         Err(MsgError::Memory) => Err(Memory),
-        _ => unreachable!(),
+        Err(_) => Ok(None),
     }
 }

@@ -2,17 +2,22 @@
 #![tactic(auto)]
 
 mod answers;
+mod clients;
 mod counts;
 mod direct;
 mod downs;
 mod form;
 mod goes;
 mod hearing;
+mod does;
+mod hears;
 mod law;
+mod lists;
 mod numbers;
 mod packets;
 mod pushes;
 mod seat;
+mod seat_events;
 mod seats;
 mod served;
 mod telling;

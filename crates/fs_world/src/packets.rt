@@ -1,9 +1,10 @@
 //! The packets that were sent.
-ghost use Rattle.std.specs.Prelude.{◌≡◌, ◌<◌, ◌≤◌, length, IfOk, OnOk, OnErr, take};
+ghost use Rattle.std.specs.Prelude.{◌≡◌, ◌<◌, ◌≤◌, ◌++◌, List as Seq, false, length, map, slice_get, IfOk, OnOk, OnErr};
 ghost use Rattle.std.specs.Option.{option_copied};
-ghost use Rattle.std.specs.Prelude.{slice_get};
-ghost use Rattle.fs_world.specs.Packets.{first_untold, no_packets, numbers_from, with_sent, with_told};
+ghost use Rattle.fs_window.specs.declared.sent.Sent.{Sent as ThePacket};
+ghost use Rattle.fs_world.specs.Packets.{Packets as ThePackets, first_untold, no_packets, with_sent, with_told};
 
+use crate::lists::append;
 use fs_ident::{List, Memory};
 use fs_window::Sent;
 use std::alloc::Global;
@@ -61,36 +62,79 @@ impl Packets {
     }
 
     /// More packets, none of which was told.
+    #[tactic(auto, using(crate::proofs::Marks::marked))]
     pub(crate) fn add(&mut self, alloc: Global, more: List<Sent>) -> Result<(), Memory>
         ensures ok { OnOk result (self.new ≡ with_sent more self.old) }
         ensures err { OnErr result (self.new ≡ self.old) }
     {
-        let before = self.sent.len();
-        match add_all(&mut self.sent, &mut self.told, more) {
-            Ok(()) => Ok(()),
-            Err(e) => {
-                self.cut_back(before);
-                Err(e)
-            }
-        }
+        let marks = marks_of(alloc, more.as_slice())?;
+        append_both(&mut self.sent, &mut self.told, more, marks)
     }
 
     /// The packet of that number was told. Takes no memory.
+    #[tactic(auto, using(crate::proofs::Marks::marked))]
     pub(crate) fn mark(&mut self, k: u64)
         requires { k < length self.old.sent }
         ensures { self.new ≡ with_told k self.old }
     {
         self.told.replace(k as usize, true);
-        while self.next < self.told.len() && self.told.as_slice()[self.next] {
-            self.next += 1;
-        }
+        self.next = untold_from(self.told.as_slice(), self.next);
     }
 
-    /// The first so many alone: the others were not told yet. Takes no memory.
+    /// The first so many alone, which undoes an `add`. Takes no memory.
+    #[tactic(auto, using(crate::proofs::Marks::marked))]
     pub(crate) fn cut_back(&mut self, len: usize)
+        ensures { (p : ThePackets) (more : Seq ThePacket) → self.old ≡ with_sent more p →
+            len ≡ length p.sent → self.new ≡ p }
     {
         self.sent.truncate(len);
         self.told.truncate(len);
         self.next = self.next.min(len);
     }
+}
+
+/// A mark for each of the packets: it was not told.
+fn marks_of(alloc: Global, packets: &[Sent]) -> Result<List<bool>, Memory>
+    ensures { IfOk result (λ marks. marks ≡ map (λ (x : ThePacket). false) packets.now) }
+{
+    let mut marks = List::new(alloc);
+    for _ in packets {
+        marks.push(false)?;
+    }
+    Ok(marks)
+}
+
+/// Packets behind the others, and their marks behind the other marks: both or neither.
+fn append_both(
+    sent: &mut List<Sent>,
+    told: &mut List<bool>,
+    more: List<Sent>,
+    marks: List<bool>,
+) -> Result<(), Memory>
+    ensures sent { OnOk result (sent.new ≡ sent.old ++ more) }
+    ensures told { OnOk result (told.new ≡ told.old ++ marks) }
+    ensures err_sent { OnErr result (sent.new ≡ sent.old) }
+    ensures err_told { OnErr result (told.new ≡ told.old) }
+{
+    let before = told.len();
+    append(told, marks)?;
+    match append(sent, more) {
+        Ok(()) => Ok(()),
+        Err(e) => {
+            told.truncate(before);
+            Err(e)
+        }
+    }
+}
+
+/// The number of the first that was not told, where all before `from` were.
+fn untold_from(told: &[bool], from: usize) -> usize
+    requires { from ≤ first_untold told.now }
+    ensures { result ≡ first_untold told.now }
+{
+    let mut next = from;
+    while next < told.len() && told[next] {
+        next += 1;
+    }
+    next
 }

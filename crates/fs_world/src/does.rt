@@ -1,0 +1,235 @@
+//! A client does what it planned.
+ghost use Rattle.std.specs.Prelude.{◌≡◌, ◌⊎◌, ◌∷◌, [], ◌++◌, true, false, length, take, IfOk, IsErrOf, OnOk, OnErr, Some, None};
+ghost use Rattle.fs_client.specs.Client.{can_commit, committed};
+ghost use Rattle.fs_msg.specs.Ranges.{FitsMessage};
+ghost use Rattle.fs_msg.specs.Readable.{is_readable};
+ghost use Rattle.fs_msg.specs.Spelling.{message};
+ghost use Rattle.fs_msg.specs.declared.core_error.Counter.{Counter as TheCounter};
+ghost use Rattle.fs_msg.specs.declared.core_error.Counter.TheVariants.{Segments};
+ghost use Rattle.fs_msg.specs.declared.core_error.CoreError.TheVariants as errors;
+ghost use Rattle.fs_msg.specs.declared.msg.Msg.TheVariants as msg;
+ghost use Rattle.fs_window.specs.Post.{post_due, post_pushed};
+ghost use Rattle.fs_window.specs.Undo.{undone};
+ghost use Rattle.fs_world.specs.Linked.{FitsUp};
+ghost use Rattle.fs_world.specs.Packets.{with_sent};
+ghost use Rattle.fs_world.specs.Served.{client_does, is_full_for, is_full_up, post_after, seat_goes, the_server, up_after, with_read};
+
+use crate::goes::{refusal, send_due};
+use crate::packets::Packets;
+use crate::seat::Seat;
+use fs_client::{ClientCore, Plan, Ready};
+use fs_ident::{List, Memory, Peer, Session};
+use fs_msg::{ClientMsg, ClientOut, CoreError, Item, Msg, Note, write};
+use fs_schedule::Outcome;
+use fs_window::{Post, Undo};
+use std::alloc::Global;
+
+/// A client changes as it planned and sends, and what is due on its links goes out. After an error all is as it was.
+pub(crate) fn does(
+    alloc: Global,
+    s: Session,
+    turn: bool,
+    heard: Option<Peer>,
+    plan: Plan<Note>,
+    seat: &mut Seat,
+    journal: &mut List<Item>,
+    packets: &mut Packets,
+) -> Result<Outcome, CoreError>
+    requires { can_commit plan.ready seat.old.client ≡ true }
+    ensures outcome { IfOk result (λ o. o ≡
+        (client_does s turn heard false plan seat.old journal.old packets.old).outcome) }
+    ensures seat { OnOk result (seat.new ≡
+        (client_does s turn heard false plan seat.old journal.old packets.old).seat) }
+    ensures journal { OnOk result (journal.new ≡
+        (client_does s turn heard false plan seat.old journal.old packets.old).journal) }
+    ensures packets { OnOk result (packets.new ≡
+        (client_does s turn heard false plan seat.old journal.old packets.old).packets) }
+    ensures room { OnOk result (
+        (client_does s turn heard false plan seat.old journal.old packets.old).spent ≡ None) }
+    ensures fits { OnOk result (FitsUp plan.out.send) }
+    ensures spent { (counter : TheCounter) → IsErrOf result (errors.Spent counter) →
+        (client_does s turn heard false plan seat.old journal.old packets.old).spent
+        ≡ Some counter }
+    ensures only { (counter : TheCounter) →
+        (client_does s turn heard false plan seat.old journal.old packets.old).spent
+        ≡ Some counter →
+        IsErrOf result (errors.Spent counter) ⊎ IsErrOf result errors.Memory }
+    ensures err_seat { OnErr result (seat.new ≡ seat.old) }
+    ensures err_journal { OnErr result (journal.new ≡ journal.old) }
+    ensures err_packets { OnErr result (packets.new ≡ packets.old) }
+{
+    let Plan { ready, out } = plan;
+    let ClientOut {
+        note,
+        send,
+        admitted,
+    } = out;
+    let mut undo = Undo::new(alloc);
+    let before = seat.up.len();
+    put_up(alloc, send, &mut seat.post, &mut seat.up, &mut undo)?;
+    match goes(
+        alloc, s, turn, heard, note, admitted, ready, seat, journal, packets,
+    ) {
+        Ok(outcome) => Ok(outcome),
+        Err(_) => {
+            seat.post.undo(undo);
+            seat.up.truncate(before);
+            Err(CoreError::Memory)
+        }
+    }
+}
+
+/// The client changes and what it admits joins the journal, and what is due on its links goes out.
+fn goes(
+    alloc: Global,
+    s: Session,
+    turn: bool,
+    heard: Option<Peer>,
+    note: Note,
+    admitted: Option<Item>,
+    ready: Ready,
+    seat: &mut Seat,
+    journal: &mut List<Item>,
+    packets: &mut Packets,
+) -> Result<Outcome, Memory>
+    requires { can_commit ready seat.old.client ≡ true }
+    ensures outcome { IfOk result (λ o. o ≡
+        (seat_goes s turn heard note None seat.old journal.old packets.old).outcome) }
+    ensures seat { OnOk result (seat.new ≡ record seat.old {
+      client = committed ready seat.old.client;
+      post = (post_due seat.old.post turn heard).links;
+    }) }
+    ensures journal { OnOk result (journal.new ≡ with_read admitted journal.old) }
+    ensures packets { OnOk result (packets.new ≡
+        with_sent (post_due seat.old.post turn heard).sent packets.old) }
+    ensures err_seat { OnErr result (seat.new ≡ seat.old) }
+    ensures err_journal { OnErr result (journal.new ≡ journal.old) }
+    ensures err_packets { OnErr result (packets.new ≡ packets.old) }
+{
+    let before = packets.sent().len();
+    let outcome = send_due(alloc, Peer::Client(s), turn, heard, note, &seat.post, packets)?;
+    match admit(alloc, admitted, ready, &mut seat.client, journal) {
+        Ok(()) => {
+            seat.post.mark_sent();
+            Ok(outcome)
+        }
+        Err(e) => {
+            packets.cut_back(before);
+            Err(e)
+        }
+    }
+}
+
+/// The client changes, and what it admits joins the journal: both or neither.
+fn admit(
+    alloc: Global,
+    admitted: Option<Item>,
+    ready: Ready,
+    client: &mut ClientCore,
+    journal: &mut List<Item>,
+) -> Result<(), Memory>
+    requires { can_commit ready client.old ≡ true }
+    ensures client { OnOk result (client.new ≡ committed ready client.old) }
+    ensures journal { OnOk result (journal.new ≡ with_read admitted journal.old) }
+    ensures err_client { OnErr result (client.new ≡ client.old) }
+    ensures err_journal { OnErr result (journal.new ≡ journal.old) }
+{
+    let before = journal.len();
+    push_read(admitted, journal)?;
+    match client.commit(alloc, ready) {
+        Ok(()) => Ok(()),
+        Err(e) => {
+            journal.truncate(before);
+            Err(e)
+        }
+    }
+}
+
+/// What a client admits at once joins the journal.
+fn push_read(admitted: Option<Item>, journal: &mut List<Item>) -> Result<(), Memory>
+    ensures ok { OnOk result (journal.new ≡ with_read admitted journal.old) }
+    ensures front { OnOk result (take (length journal.old) journal.new ≡ journal.old) }
+    ensures err { OnErr result (journal.new ≡ journal.old) }
+{
+    match admitted {
+        Some(item) => journal.push(item),
+        None => Ok(()),
+    }
+}
+
+/// What a session sends goes onto its link, and is on its way.
+fn put_up(
+    alloc: Global,
+    send: Option<(u8, ClientMsg)>,
+    post: &mut Post,
+    up: &mut List<ClientMsg>,
+    undo: &mut Undo,
+) -> Result<(), CoreError>
+    ensures post { OnOk result (post.new ≡ post_after send post.old) }
+    ensures up { OnOk result (up.new ≡ up_after send up.old) }
+    ensures undo { OnOk result (undone undo.new post.new ≡ undone undo.old post.old) }
+    ensures front { OnOk result (take (length up.old) up.new ≡ up.old) }
+    ensures room { OnOk result (is_full_up send post.old ≡ false) }
+    ensures fits { OnOk result (FitsUp send) }
+    ensures spent { (counter : TheCounter) → IsErrOf result (errors.Spent counter) →
+        (counter ≡ Segments) × (is_full_up send post.old ≡ true) }
+    ensures only { is_full_up send post.old ≡ true →
+        IsErrOf result (errors.Spent Segments) ⊎ IsErrOf result errors.Memory }
+    ensures err_post { OnErr result (post.new ≡ post.old) }
+    ensures err_up { OnErr result (up.new ≡ up.old) }
+{
+    match send {
+        Some((_, m)) => put(alloc, m, post, up, undo),
+        None => Ok(()),
+    }
+}
+
+/// A message of the session goes onto its link, and is on its way.
+fn put(
+    alloc: Global,
+    m: ClientMsg,
+    post: &mut Post,
+    up: &mut List<ClientMsg>,
+    undo: &mut Undo,
+) -> Result<(), CoreError>
+    ensures post { OnOk result (post.new ≡
+        post_pushed post.old the_server (message (msg.Client m))) }
+    ensures up { OnOk result (up.new ≡ up.old ++ m ∷ []) }
+    ensures undo { OnOk result (undone undo.new post.new ≡ undone undo.old post.old) }
+    ensures room { OnOk result (
+        is_full_for post.old the_server (message (msg.Client m)) ≡ false) }
+    ensures fits { OnOk result (is_readable (msg.Client m) ≡ true → FitsMessage (msg.Client m)) }
+    ensures spent { (counter : TheCounter) → IsErrOf result (errors.Spent counter) →
+        (counter ≡ Segments) ×
+        (is_full_for post.old the_server (message (msg.Client m)) ≡ true) }
+    ensures only { is_full_for post.old the_server (message (msg.Client m)) ≡ true →
+        IsErrOf result (errors.Spent Segments) ⊎ IsErrOf result errors.Memory }
+    ensures err_post { OnErr result (post.new ≡ post.old) }
+    ensures err_up { OnErr result (up.new ≡ up.old) }
+{
+    let before = up.len();
+    let (m, text) = spelled(alloc, m)?;
+    up.push(m)?;
+    match post.push_with_undo(alloc, Peer::Server(0), &text, undo) {
+        Ok(()) => Ok(()),
+        Err(e) => {
+            up.truncate(before);
+            Err(refusal(e))
+        }
+    }
+}
+
+/// A message of a session, and its bytes.
+fn spelled(alloc: Global, m: ClientMsg) -> Result<(ClientMsg, Vec<u8>), Memory>
+    ensures message { IfOk result (λ x. x.0 ≡ m) }
+    ensures text { IfOk result (λ x. x.1.items ≡ message (msg.Client m)) }
+    ensures fits { OnOk result (is_readable (msg.Client m) ≡ true → FitsMessage (msg.Client m)) }
+{
+    let whole = Msg::Client(m);
+    let mut text = Vec::new(alloc);
+    write(alloc, &whole, &mut text)?;
+    match whole {
+        Msg::Client(m) => Ok((m, text)),
+        Msg::Answer(_) => unreachable!(),
+    }
+}
