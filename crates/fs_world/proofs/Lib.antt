@@ -18,3 +18,4 @@ pub mod Heard
 pub mod SeatMaps
 pub mod Spending
 mod HeardMessages
+mod Told

@@ -15,7 +15,6 @@ use Rattle.fs_world.specs.Served.{Seats, up_of, with_down, with_down_at, with_do
 use Rattle.fs_world.specs.declared.seat.Seat.{Seat}
 use Rattle.fs_world.specs.declared.served.Served.{Served}
 
-
 -- ## A seat that is changed where it stands
 
 abbrev changed_at : (Seat → Seat) → Option Seat → ℕ → Seats → Seats
@@ -70,7 +69,7 @@ module _ (up : List ClientMsg) (k : ℕ) where
       ∙ ap (λ o. cond (eq_by_cmp nat_cmp q j) (option_map (with_answer a) o) o) (get_changed (with_up up) k seats q)
       ∙ crossed up a (get seats q) (eq_by_cmp nat_cmp q j) (eq_by_cmp nat_cmp q k)
       ∙ sym (get_changed (with_up up) k (changed (with_answer a) j seats) q
-          ∙ ap (λ o. cond (eq_by_cmp nat_cmp q k) (option_map (with_up up) o) o) (get_changed (with_answer a) j seats q)))
+      ∙ ap (λ o. cond (eq_by_cmp nat_cmp q k) (option_map (with_up up) o) o) (get_changed (with_answer a) j seats q)))
 
   down_crosses : (x : Peer × Msg) (seats : Seats) → with_down x (changed (with_up up) k seats) ≡ changed (with_up up) k (with_down x seats)
   down_crosses (Client s, msg.Answer a) seats =

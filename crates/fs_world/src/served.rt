@@ -109,13 +109,7 @@ impl Served {
     }
 
     /// The session's operation, if it has joined.
-    fn act(
-        &mut self,
-        alloc: Global,
-        now: u64,
-        s: Session,
-        op: &Op,
-    ) -> Result<Outcome, CoreError>
+    fn act(&mut self, alloc: Global, now: u64, s: Session, op: &Op) -> Result<Outcome, CoreError>
         requires reading { now ≤ LATEST }
         requires called { is_called op.now ≡ true }
         requires linked { IsLinked self.old }
