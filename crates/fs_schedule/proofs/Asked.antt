@@ -1,13 +1,16 @@
 -- Laws of words that ask for operations.
-use Rattle.std.proofs.Common.{◌≡◌, ℕ, ◌<◌, ◌≤◌, ◌^◌, List, ◌∷◌, arith}
+use Rattle.std.proofs.Common.{◌≡◌, ℕ, ◌<◌, ◌≤◌, ◌^◌, Bool, true, false, List, ◌∷◌, refl, arith}
 use Rattle.std.specs.Fmt.{decimal}
 use Rattle.std.proofs.lemmas.Fmt.{decimal_injective}
+use Rattle.fs_model.specs.Asking.{may_ask}
 use Rattle.fs_model.specs.declared.op.Op.{Op}
 use Rattle.fs_model.specs.declared.op.Op.TheVariants as op
+use Rattle.fs_schedule.specs.declared.event.Head.{Head}
+use Rattle.fs_schedule.specs.declared.event.Head.TheVariants.{Direct, Servers}
 use Rattle.fs_schedule.specs.Words.{Word, Bare, Quoted}
 use Rattle.fs_schedule.specs.declared.operation.Verb.{Verb}
 use Rattle.fs_schedule.specs.declared.operation.Verb.TheVariants as verb
-use Rattle.fs_schedule.specs.Spelling.{op_words, FitsOp}
+use Rattle.fs_schedule.specs.Spelling.{has_op, op_words, FitsOp}
 use Rattle.fs_schedule.specs.Reading.{verb_text}
 
 pub bare_one : (xs ys : List ℕ) → Bare xs ≡ Bare ys → xs ≡ ys
@@ -22,8 +25,14 @@ bare_first xs ys ws vs e = cc
 pub too_great : (most m n : ℕ) → most < 2 ^ 64 → m < 2 ^ 64 → most < m → n ≤ most → decimal m ≡ decimal n → ⊥
 too_great most m n fits small gt le e = let same : m ≡ n = decimal_injective m n small (omega arith) e in omega arith
 
+pub not_below : (servers k n : ℕ) → servers ≤ k → k < 2 ^ 64 → (n < servers) × (n < 2 ^ 8) → decimal k ≡ decimal n → ⊥
+not_below servers k n ge small is e = let same : k ≡ n = decimal_injective k n small (omega (arith, is.1)) e in omega (arith, is.0)
+
+pub not_zero : (most n : ℕ) → most < 2 ^ 64 → (1 ≤ n) × (n ≤ most) → decimal 0 ≡ decimal n → ⊥
+not_zero most n small is e = let same : 0 ≡ n = decimal_injective 0 n (omega arith) (omega (arith, is.1)) e in omega (arith, is.0)
+
 -- the first word of an operation is one of the ten
-pub verb_first : (o : Op) (text : List ℕ) (rest : List Word) → FitsOp o → Bare text ∷ rest ≡ op_words o → (v : Verb) × (text ≡ verb_text v)
+pub verb_first : (o : Op) (text : List ℕ) (rest : List Word) → FitsOp Direct o → Bare text ∷ rest ≡ op_words o → (v : Verb) × (text ≡ verb_text v)
 verb_first (op.Lookup dir name) text rest h e = (verb.Lookup, bare_first text _ rest _ e)
 verb_first (op.List dir) text rest h e = (verb.List, bare_first text _ rest _ e)
 verb_first (op.Kind file) text rest h e = (verb.Kind, bare_first text _ rest _ e)
@@ -35,3 +44,22 @@ verb_first (op.Set file h size stamp) text rest f e = (verb.Set, bare_first text
 verb_first (op.Delete dir name) text rest h e = (verb.Delete, bare_first text _ rest _ e)
 verb_first (op.Rename sdir sname ddir dname) text rest h e = (verb.Rename, bare_first text _ rest _ e)
 verb_first (op.Reap file session) text rest h e = absurd (cc)
+
+-- what another form has may be asked
+served_op : (o : Op) (servers skew term : ℕ) → has_op (Servers servers skew term) o ≡ true → may_ask o ≡ true
+served_op (op.Lookup dir name) servers skew term h = refl
+served_op (op.List dir) servers skew term h = refl
+served_op (op.Kind file) servers skew term h = refl
+served_op (op.Info file) servers skew term h = refl
+served_op (op.Create dir name kind id) servers skew term h = h
+served_op (op.OpenFile file n modes) servers skew term h = absurd (cc)
+served_op (op.Close file n) servers skew term h = refl
+served_op (op.Set file n size stamp) servers skew term h = refl
+served_op (op.Delete dir name) servers skew term h = refl
+served_op (op.Rename sdir sname ddir dname) servers skew term h = refl
+served_op (op.Reap file session) servers skew term h = h
+
+-- the direct form has every operation of the others
+pub any_op : (head : Head) (o : Op) → FitsOp head o → FitsOp Direct o
+any_op Direct o h = h
+any_op (Servers servers skew term) o h = (served_op o servers skew term h.0, h.1)

@@ -1,7 +1,9 @@
 pub mod Cuts
 pub mod Asked
+pub mod Operations
 pub mod Digits
 pub mod Spelled
 pub mod Refusals
 pub mod Single
 pub mod Reading
+pub mod Skews

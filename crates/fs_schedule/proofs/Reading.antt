@@ -4,12 +4,14 @@ use Rattle.std.specs.Fmt.{decimal}
 use Rattle.std.proofs.lemmas.List.{length_push}
 use Rattle.std.proofs.lemmas.Bool.Decides.{nat_tests}
 use Rattle.fs_ident.specs.declared.limits.TheConstants.{SESSIONS}
+use Rattle.fs_ident.specs.declared.actor.Session.{Session}
+use Rattle.fs_ident.specs.declared.actor.Peer.TheVariants.{Server, Client}
 use Rattle.fs_schedule.specs.declared.event.What.{What}
-use Rattle.fs_schedule.specs.declared.event.What.TheVariants.{Join, Do}
+use Rattle.fs_schedule.specs.declared.event.What.TheVariants.{Join, Do, Tell, Turn, Recall}
 use Rattle.fs_schedule.specs.declared.event.Event.{Event}
 use Rattle.fs_schedule.specs.declared.event.Head.{Head}
 use Rattle.fs_schedule.specs.declared.error.Which.{Which}
-use Rattle.fs_schedule.specs.declared.error.Which.TheVariants.{Bytes, Sessions, Events}
+use Rattle.fs_schedule.specs.declared.error.Which.TheVariants.{Bytes, Sessions, Events, Packets}
 use Rattle.fs_schedule.specs.declared.limits.TheConstants.{BYTES, EVENTS}
 use Rattle.fs_schedule.specs.Words.{Bare, line_text}
 use Rattle.fs_schedule.specs.Spelling.{IsLineOf, names_late}
@@ -59,10 +61,18 @@ same_number n e = grind (arith, nat_tests)
 late_what : (w : What) → names_late (capped_what w) ≡ true → names_late w ≡ true
 late_what (Join s) e = late_number s.0 e
 late_what (Do s o) e = late_number s.0 e
+late_what (Tell number) e = e
+late_what (Turn (Client s)) e = late_number s.0 e
+late_what (Turn (Server k)) e = e
+late_what (Recall k f) e = e
 
 same_what : (w : What) → names_late (capped_what w) ≡ false → capped_what w ≡ w
 same_what (Join s) e = ap (λ (n : ℕ). let r : What = Join (record { 0 = n }) in r) (same_number s.0 e)
 same_what (Do s o) e = ap (λ (n : ℕ). let r : What = Do (record { 0 = n }) o in r) (same_number s.0 e)
+same_what (Tell number) e = refl
+same_what (Turn (Client s)) e = ap (λ (n : ℕ). let r : Session = record { 0 = n } in Turn (Client r)) (same_number s.0 e)
+same_what (Turn (Server k)) e = refl
+same_what (Recall k f) e = refl
 
 -- the line is that of the event with this in its place
 full_line : (head : Head) (e : Event) (line : List ℕ) → (h : IsToldLine head e line) → IsLineOf head (record { reading = e.reading; what = h.1.1.2.0 }) line
@@ -86,6 +96,7 @@ pub count_here : (head : Head) (before n : ℕ) (line : List ℕ) (e : Event) (w
 count_here head before n line e Bytes q m le h ge = absurd (cc)
 count_here head before n line e Sessions q m le h ge = absurd (cc)
 count_here head before n line e Events q m le h ge = (m, (le, (e, h), ge))
+count_here head before n line e Packets q m le h ge = absurd (cc)
 
 -- an event's line is told, with the session's number capped
 pub no_line : (head : Head) (e : Event) (line : List ℕ) → ((x : Event) → IsToldLine head x line → ⊥) → IsLineOf head e line → ⊥
@@ -95,3 +106,4 @@ pub late_here : (head : Head) (before n : ℕ) (line : List ℕ) (which : Which)
 late_here head before n line Bytes q m le h = absurd (cc)
 late_here head before n line Sessions q m le h = (m, (le, h))
 late_here head before n line Events q m le h = absurd (cc)
+late_here head before n line Packets q m le h = absurd (cc)

@@ -1,21 +1,30 @@
 -- Laws of what readers answer.
-use Rattle.std.proofs.Common.{◌≡◌, ℕ, ◌<◌, ◌≤◌, ◌+◌, true, false, List, [], ◌∷◌, refl, ap, sym, ◌∙◌, subst}
-use Rattle.std.specs.Prelude.{Result, Ok, Err, IsErr, codes}
+use Rattle.std.proofs.Common.{◌≡◌, ℕ, ◌<◌, ◌≤◌, ◌+◌, ◌^◌, true, false, List, [], ◌∷◌, refl, ap, sym, ◌∙◌, subst}
+use Rattle.std.specs.Prelude.{Result, Ok, Err, IsErr, Option, Some, None, IfSome, codes}
 use Rattle.std.specs.Result.{IsErrAnd}
 use Rattle.fs_schedule.specs.declared.unread.Unread.{Unread}
 use Rattle.fs_schedule.specs.declared.unread.Unread.TheVariants.{Outside}
-use Rattle.fs_schedule.specs.Words.{Word, Bare}
+use Rattle.fs_schedule.specs.Words.{Word, Bare, line_text}
 use Rattle.fs_schedule.specs.declared.event.What.{What}
-use Rattle.fs_schedule.specs.declared.event.What.TheVariants.{Join, Do}
+use Rattle.fs_schedule.specs.declared.event.What.TheVariants.{Join, Do, Tell, Turn, Recall}
 use Rattle.fs_schedule.specs.declared.event.Event.{Event}
 use Rattle.fs_schedule.specs.declared.event.Head.{Head}
+use Rattle.fs_schedule.specs.declared.event.Head.TheVariants.{Direct, Servers}
+use Rattle.fs_ident.specs.declared.actor.Session.{Session}
+use Rattle.fs_ident.specs.declared.actor.Peer.{Peer}
+use Rattle.fs_ident.specs.declared.actor.Peer.TheVariants.{Server, Client}
+use Rattle.fs_field.specs.declared.field.Field.{Field}
 use Rattle.fs_model.specs.declared.op.Op.{Op}
 use Rattle.fs_schedule.specs.Separated.{AreWords}
-use Rattle.fs_schedule.specs.Spelling.{client_word, op_words, FitsOp}
-use Rattle.fs_schedule.specs.Reading.{Reads, Tells, capped, IsToldNumber, IsToldSession, IsToldWhat, IsToldEvent, IsToldLine}
-use Rattle.fs_schedule.proofs.Spelled.{told_line, told_by_words}
+use Rattle.fs_schedule.specs.Spelling.{FitsHead, head_words, IsHeadLine, servers_in, IsServerIn, client_word, server_word, packet_word, op_words, FitsOp, field_words, FitsField}
+use Rattle.fs_schedule.specs.Reading.{Reads, Tells, capped, IsToldNumber, IsToldSession, IsToldPeer, IsToldWhat, IsToldEvent, IsToldLine}
+use Rattle.std.specs.Fmt.{decimal}
+use Rattle.fs_schedule.proofs.Asked.{bare_one}
+use Rattle.fs_schedule.proofs.Cuts.{words_one}
+use Rattle.fs_schedule.proofs.Operations.{distinct}
+use Rattle.fs_schedule.proofs.Spelled.{are_head_words, text_of, told_line, told_by_words}
 
-no_error : false ≡ true → ⊥
+pub no_error : false ≡ true → ⊥
 no_error e = cc
 
 -- a refusal that is passed on
@@ -34,32 +43,90 @@ pub tells_session : (r : Result ℕ Unread) (digits : List ℕ) → Tells IsTold
 tells_session (Ok n) digits h = (digits, refl, h)
 tells_session (Err e) digits h = λ o n is. h o n (subst (IsToldNumber n) (sym (digits_same digits is.0 is.1)) is.2)
 
+-- ## Forms
+
+pub tells_head : (r : Result Head Unread) (ws : List Word) (line : List ℕ) → AreWords ws line → Reads head_words FitsHead r ws → Tells IsHeadLine r line
+tells_head (Ok head) ws line a h = (h.0, text_of ws line a ∙ ap line_text h.1)
+tells_head (Err f) ws line a h = λ o head is. h o head is.0 (words_one ws (head_words head) line a (are_head_words head line is))
+
+-- the words of a form with servers tell its numbers
+pub record IsServersHead (a b c : Word) : Type 0 where
+  pub servers : ℕ
+  pub skew : ℕ
+  pub term : ℕ
+  pub fits : FitsHead (Servers servers skew term)
+  pub first : a ≡ Bare (decimal servers)
+  pub second : b ≡ Bare (decimal skew)
+  pub third : c ≡ Bare (decimal term)
+
+pub servers_head : (head : Head) (a b c : Word) → FitsHead head → Bare (codes "farsite") ∷ Bare (codes "1") ∷ Bare (codes "servers") ∷ a ∷ Bare (codes "skew") ∷ b ∷ Bare (codes "term") ∷ c ∷ [] ≡ head_words head → IsServersHead a b c
+servers_head Direct a b c h e = absurd (cc)
+servers_head (Servers n k t) a b c h e = record { servers = n; skew = k; term = t; fits = h; first = cc; second = cc; third = cc }
+
 -- ## What happens
+
+session_is : (n m : ℕ) → n ≡ capped m → (f : Session → What) → f (record { 0 = n }) ≡ f (record { 0 = capped m })
+session_is n m e f = ap (λ (k : ℕ). let r : Session = record { 0 = k } in f r) e
 
 pub told_join : (head : Head) (n : ℕ) (s : Word) → IsToldSession n s → IsToldWhat head (Join (record { 0 = n })) (Bare (codes "join") ∷ s ∷ [])
 told_join head n s h =
-    let digits = h.0 in
     let number = h.2 in
-    let same : n ≡ capped number.0 = number.2 in
-    (Join (record { 0 = number.0 }), record { digits = digits; session = number.1; fits = tt; spelled = ap (λ (w : Word). Bare (codes "join") ∷ w ∷ []) h.1 }, ap (λ (m : ℕ). let r : What = Join (record { 0 = m }) in r) same)
+    (Join (record { 0 = number.0 }), record { digits = h.0; session = number.1; fits = tt; spelled = ap (λ (w : Word). Bare (codes "join") ∷ w ∷ []) h.1 }, session_is n number.0 number.2 (λ s. Join s))
 
-pub told_do : (head : Head) (n : ℕ) (s : Word) (o : Op) (ws : List Word) → IsToldSession n s → FitsOp o × (ws ≡ op_words o) → IsToldWhat head (Do (record { 0 = n }) o) (Bare (codes "do") ∷ s ∷ ws)
+pub told_do : (head : Head) (n : ℕ) (s : Word) (o : Op) (ws : List Word) → IsToldSession n s → FitsOp head o × (ws ≡ op_words o) → IsToldWhat head (Do (record { 0 = n }) o) (Bare (codes "do") ∷ s ∷ ws)
 told_do head n s o ws h k =
     let digits = h.0 in
     let number = h.2 in
-    let same : n ≡ capped number.0 = number.2 in
     let word : s ≡ client_word digits = h.1 in
     let words : ws ≡ op_words o = k.1 in
     let whole : Bare (codes "do") ∷ s ∷ ws ≡ Bare (codes "do") ∷ client_word digits ∷ op_words o = cc in
-    (Do (record { 0 = number.0 }) o, record { digits = digits; session = number.1; fits = k.0; spelled = whole }, ap (λ (m : ℕ). let r : What = Do (record { 0 = m }) o in r) same)
+    (Do (record { 0 = number.0 }) o, record { digits = digits; session = number.1; fits = k.0; spelled = whole }, session_is n number.0 number.2 (λ s. Do s o))
+
+pub told_tell : (head : Head) (number : Option ℕ) (w : Word) → 0 < servers_in head → IfSome number (λ n. n < 2 ^ 64) → w ≡ packet_word number → IsToldWhat head (Tell number) (Bare (codes "tell") ∷ w ∷ [])
+told_tell head number w some h e = (Tell number, record { digits = []; session = tt; fits = (some, h); spelled = ap (λ (v : Word). Bare (codes "tell") ∷ v ∷ []) e }, refl)
+
+pub told_turn : (head : Head) (who : Peer) (w : Word) → 0 < servers_in head → IsToldPeer head who w → IsToldWhat head (Turn who) (Bare (codes "turn") ∷ w ∷ [])
+told_turn head (Server k) w some h = (Turn (Server k), record { digits = []; session = tt; fits = h.0; spelled = ap (λ (v : Word). Bare (codes "turn") ∷ v ∷ []) h.1 }, refl)
+told_turn head (Client s) w some h =
+    let number = h.2 in
+    (Turn (Client (record { 0 = number.0 })), record { digits = h.0; session = number.1; fits = some; spelled = ap (λ (v : Word). Bare (codes "turn") ∷ v ∷ []) h.1 }, session_is s.0 number.0 number.2 (λ s. Turn (Client s)))
+
+pub told_recall : (head : Head) (k : ℕ) (f : Field) (w : Word) (ws : List Word) → IsServerIn head k × (w ≡ server_word k) → FitsField f × (ws ≡ field_words f) → IsToldWhat head (Recall k f) (Bare (codes "recall") ∷ w ∷ ws)
+told_recall head k f w ws h g =
+    let word : w ≡ server_word k = h.1 in
+    let words : ws ≡ field_words f = g.1 in
+    let whole : Bare (codes "recall") ∷ w ∷ ws ≡ Bare (codes "recall") ∷ server_word k ∷ field_words f = cc in
+    (Recall k f, record { digits = []; session = tt; fits = (h.0, g.0); spelled = whole }, refl)
 
 first_operand : (w v s t : Word) (ws vs : List Word) → w ∷ s ∷ ws ≡ v ∷ t ∷ vs → s ≡ t
 first_operand w v s t ws vs e = cc
 
+-- the words of a session's event are told, where its session is
+join_told : (head : Head) (w : What) (s : Word) (ws : List Word) → IsToldWhat head w (Bare (codes "join") ∷ s ∷ ws) → (n : ℕ) × IsToldSession n s
+join_told head w s ws (Join t, spelled, same) = (capped t.0, (spelled.digits, first_operand _ _ _ _ _ _ spelled.spelled, (t.0, spelled.session, refl)))
+join_told head w s ws (f, spelled, same) = absurd (distinct (codes "join") _ _ _ spelled.spelled refl)
+
+do_told : (head : Head) (w : What) (s : Word) (ws : List Word) → IsToldWhat head w (Bare (codes "do") ∷ s ∷ ws) → (n : ℕ) × IsToldSession n s
+do_told head w s ws (Do t o, spelled, same) = (capped t.0, (spelled.digits, first_operand _ _ _ _ _ _ spelled.spelled, (t.0, spelled.session, refl)))
+do_told head w s ws (f, spelled, same) = absurd (distinct (codes "do") _ _ _ spelled.spelled refl)
+
 -- words whose second is no session's tell nothing
-pub no_session : (head : Head) (w : What) (verb s : Word) (ws : List Word) → ((n : ℕ) → IsToldSession n s → ⊥) → IsToldWhat head w (verb ∷ s ∷ ws) → ⊥
-no_session head w verb s ws none (Join t, spelled, same) = none (capped t.0) (spelled.digits, first_operand _ _ _ _ _ _ spelled.spelled, (t.0, spelled.session, refl))
-no_session head w verb s ws none (Do t o, spelled, same) = none (capped t.0) (spelled.digits, first_operand _ _ _ _ _ _ spelled.spelled, (t.0, spelled.session, refl))
+pub no_join : (head : Head) (w : What) (s : Word) (ws : List Word) → ((n : ℕ) → IsToldSession n s → ⊥) → IsToldWhat head w (Bare (codes "join") ∷ s ∷ ws) → ⊥
+no_join head w s ws none h = let told = join_told head w s ws h in none told.0 told.1
+
+pub no_do : (head : Head) (w : What) (s : Word) (ws : List Word) → ((n : ℕ) → IsToldSession n s → ⊥) → IsToldWhat head w (Bare (codes "do") ∷ s ∷ ws) → ⊥
+no_do head w s ws none h = let told = do_told head w s ws h in none told.0 told.1
+
+-- words whose second is no actor's tell no turn
+pub no_turn : (head : Head) (w : What) (s : Word) → ((who : Peer) → IsToldPeer head who s → ⊥) → IsToldWhat head w (Bare (codes "turn") ∷ s ∷ []) → ⊥
+no_turn head w s none (Turn (Client t), spelled, same) = none (Client (record { 0 = capped t.0 })) (spelled.digits, first_operand _ _ _ _ _ _ spelled.spelled, (t.0, spelled.session, refl))
+no_turn head w s none (Turn (Server k), spelled, same) = none (Server k) (spelled.fits, first_operand _ _ _ _ _ _ spelled.spelled)
+no_turn head w s none (f, spelled, same) = absurd (distinct (codes "turn") _ _ _ spelled.spelled refl)
+
+-- a word that begins with no server's letter is a session's or none
+pub no_peer : (head : Head) (who : Peer) (w : Word) (text : List ℕ) → w ≡ Bare text → ((digits : List ℕ) → text ≡ 115 ∷ digits → ⊥) → ((n : ℕ) → IsToldSession n w → ⊥) → IsToldPeer head who w → ⊥
+no_peer head (Client s) w text q server session h = session s.0 h
+no_peer head (Server k) w text q server session h = server (decimal k) (bare_one _ _ (sym q ∙ h.1))
 
 -- ## Events and lines
 

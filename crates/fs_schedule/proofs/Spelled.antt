@@ -19,16 +19,19 @@ use Rattle.fs_ident.specs.declared.kind.Kind.TheVariants.{File, Dir}
 use Rattle.fs_modes.specs.Letters.{letters, dashed}
 use Rattle.fs_model.specs.declared.op.Op.{Op}
 use Rattle.fs_model.specs.declared.op.Op.TheVariants as op
+use Rattle.fs_ident.specs.declared.actor.Peer.TheVariants.{Server, Client}
+use Rattle.fs_field.specs.declared.field.Field.{Field}
+use Rattle.fs_field.specs.declared.field.Field.TheVariants as field
 use Rattle.fs_schedule.specs.Words.{Word, Bare, Quoted, line_text}
 use Rattle.fs_schedule.specs.declared.event.What.{What}
-use Rattle.fs_schedule.specs.declared.event.What.TheVariants.{Join, Do}
-use Rattle.fs_schedule.specs.declared.event.What.{What}
-use Rattle.fs_schedule.specs.declared.event.What.TheVariants.{Join, Do}
+use Rattle.fs_schedule.specs.declared.event.What.TheVariants.{Join, Do, Tell, Turn, Recall}
 use Rattle.fs_schedule.specs.declared.event.Event.{Event}
 use Rattle.fs_schedule.specs.declared.event.Head.{Head}
+use Rattle.fs_schedule.specs.declared.event.Head.TheVariants.{Direct, Servers}
 use Rattle.fs_schedule.specs.Separated.{Lacks, FitsWord, AreWords, begins_quoted}
-use Rattle.fs_schedule.specs.Spelling.{kind_text, op_words, FitsOp, session_in, IsNumberOf, client_word, what_words, FitsWhat, IsSpelled, IsLineOf}
+use Rattle.fs_schedule.specs.Spelling.{FitsHead, head_words, IsHeadLine, kind_text, op_words, FitsOp, field_words, FitsField, session_in, IsNumberOf, client_word, server_word, packet_word, what_words, FitsWhat, IsSpelled, IsLineOf}
 use Rattle.fs_schedule.specs.Reading.{IsToldEvent, IsToldLine}
+use Rattle.fs_schedule.proofs.Asked.{any_op}
 use Rattle.fs_schedule.proofs.Cuts.{lacks_push, lacks_append, words_one}
 
 -- ## Bytes
@@ -66,6 +69,13 @@ digit_other b n h = grind (arith, nat_tests)
 
 decimal_lacks : (b n : ℕ) → b < 48 → n < 2 ^ 64 → Lacks b (decimal n)
 decimal_lacks b n low lt = decimal_by_steps (λ n ds. Lacks b ds) (λ n lt. (digit_other b n low, tt)) (λ n ds ge h. lacks_push b ds (48 + n % 10) h (digit_other b (n % 10) low)) n lt
+
+letter_other : (b n : ℕ) → 57 < b → n < 10 → (48 + n == b) ≡ false
+letter_other b n h k = grind (arith, nat_tests)
+
+-- there is no letter in a number
+pub no_letter : (b n : ℕ) → 57 < b → n < 2 ^ 64 → Lacks b (decimal n)
+no_letter b n high lt = decimal_by_steps (λ n ds. Lacks b ds) (λ n lt. (letter_other b n high lt, tt)) (λ n ds ge h. lacks_push b ds (48 + n % 10) h (letter_other b (n % 10) high (omega arith))) n lt
 
 pub fits_decimal : (n : ℕ) → n < 2 ^ 64 → FitsWord (Bare (decimal n))
 fits_decimal n lt = fits_bare (decimal n) (decimal_lacks 32 n (omega arith) lt) (decimal_lacks 34 n (omega arith) lt)
@@ -148,27 +158,65 @@ digits_lack b (d ∷ ds) low h = (digit_lacks b d low h.0, digits_lack b ds low 
 fits_client : (digits : List ℕ) (n : ℕ) → IsNumberOf digits n → FitsWord (client_word digits)
 fits_client digits n h = fits_bare (99 ∷ digits) (refl, digits_lack 32 digits (omega arith) h.valid.1) (refl, digits_lack 34 digits (omega arith) h.valid.1)
 
+fits_server : (k : ℕ) → k < 2 ^ 64 → FitsWord (server_word k)
+fits_server k lt = fits_bare (115 ∷ decimal k) (refl, decimal_lacks 32 k (omega arith) lt) (refl, decimal_lacks 34 k (omega arith) lt)
+
+fits_packet : (number : Option ℕ) → IfSome number (λ n. n < 2 ^ 64) → FitsWord (packet_word number)
+fits_packet (Some n) h = fits_decimal n h
+fits_packet None h = fits_by (codes "next") refl
+
+-- ## Forms
+
+fits_head : (head : Head) → FitsHead head → AllByRecursion FitsWord (head_words head)
+fits_head Direct h = (fits_by (codes "farsite") refl, (fits_by (codes "1") refl, (fits_by (codes "direct") refl, tt)))
+fits_head (Servers servers skew term) h =
+    let n = fits_decimal servers (omega (arith, h.0)) in
+    let k = fits_decimal skew (omega (arith, h.1)) in
+    let t = fits_decimal term (omega (arith, h.3)) in
+    (fits_by (codes "farsite") refl, (fits_by (codes "1") refl, (fits_by (codes "servers") refl, (n, (fits_by (codes "skew") refl, (k, (fits_by (codes "term") refl, (t, tt))))))))
+
+some_words : (head : Head) (line : List ℕ) → AllByRecursion FitsWord (head_words head) → line ≡ line_text (head_words head) → AreWords (head_words head) line
+some_words Direct line h e = (h.0, h.1, e)
+some_words (Servers servers skew term) line h e = (h.0, h.1, e)
+
+-- the words of the first line are words
+pub are_head_words : (head : Head) (line : List ℕ) → IsHeadLine head line → AreWords (head_words head) line
+are_head_words head line h = some_words head line (fits_head head h.0) h.1
+
 -- ## Operations and events
 
-fits_op : (o : Op) → FitsOp o → AllByRecursion FitsWord (op_words o)
-fits_op (op.Lookup dir name) h = (fits_by (codes "lookup") refl, (fits_id dir h.1.0, (fits_name name h.1.1, tt)))
-fits_op (op.List dir) h = (fits_by (codes "list") refl, (fits_id dir h.1, tt))
-fits_op (op.Kind file) h = (fits_by (codes "kind") refl, (fits_id file h.1, tt))
-fits_op (op.Info file) h = (fits_by (codes "info") refl, (fits_id file h.1, tt))
-fits_op (op.Create dir name kind id) h = (fits_by (codes "create") refl, (fits_id dir h.1.0, (fits_name name h.1.1, (fits_kind kind, tt))))
-fits_op (op.OpenFile file n modes) h = (fits_by (codes "open") refl, (fits_id file h.1.0, (fits_decimal n (omega (arith, h.1.1)), (fits_letters modes.acc_r modes.acc_w modes.acc_d, (fits_dashed modes.deny_r modes.deny_w modes.deny_d, tt)))))
-fits_op (op.Close file n) h = (fits_by (codes "close") refl, (fits_id file h.1.0, (fits_decimal n (omega (arith, h.1.1)), tt)))
-fits_op (op.Set file n size stamp) h = (fits_by (codes "set") refl, (fits_id file h.1.0, (fits_decimal n (omega (arith, h.1.1)), (fits_decimal size h.1.2, (fits_decimal stamp h.1.3, tt)))))
-fits_op (op.Delete dir name) h = (fits_by (codes "delete") refl, (fits_id dir h.1.0, (fits_name name h.1.1, tt)))
-fits_op (op.Rename sdir sname ddir dname) h = (fits_by (codes "rename") refl, (fits_id sdir h.1.0, (fits_name sname h.1.1, (fits_id ddir h.1.2, (fits_name dname h.1.3, tt)))))
-fits_op (op.Reap file session) h = absurd (no_reap h.0)
+fits_any_op : (o : Op) → FitsOp Direct o → AllByRecursion FitsWord (op_words o)
+fits_any_op (op.Lookup dir name) h = (fits_by (codes "lookup") refl, (fits_id dir h.1.0, (fits_name name h.1.1, tt)))
+fits_any_op (op.List dir) h = (fits_by (codes "list") refl, (fits_id dir h.1, tt))
+fits_any_op (op.Kind file) h = (fits_by (codes "kind") refl, (fits_id file h.1, tt))
+fits_any_op (op.Info file) h = (fits_by (codes "info") refl, (fits_id file h.1, tt))
+fits_any_op (op.Create dir name kind id) h = (fits_by (codes "create") refl, (fits_id dir h.1.0, (fits_name name h.1.1, (fits_kind kind, tt))))
+fits_any_op (op.OpenFile file n modes) h = (fits_by (codes "open") refl, (fits_id file h.1.0, (fits_decimal n (omega (arith, h.1.1)), (fits_letters modes.acc_r modes.acc_w modes.acc_d, (fits_dashed modes.deny_r modes.deny_w modes.deny_d, tt)))))
+fits_any_op (op.Close file n) h = (fits_by (codes "close") refl, (fits_id file h.1.0, (fits_decimal n (omega (arith, h.1.1)), tt)))
+fits_any_op (op.Set file n size stamp) h = (fits_by (codes "set") refl, (fits_id file h.1.0, (fits_decimal n (omega (arith, h.1.1)), (fits_decimal size h.1.2, (fits_decimal stamp h.1.3, tt)))))
+fits_any_op (op.Delete dir name) h = (fits_by (codes "delete") refl, (fits_id dir h.1.0, (fits_name name h.1.1, tt)))
+fits_any_op (op.Rename sdir sname ddir dname) h = (fits_by (codes "rename") refl, (fits_id sdir h.1.0, (fits_name sname h.1.1, (fits_id ddir h.1.2, (fits_name dname h.1.3, tt)))))
+fits_any_op (op.Reap file session) h = absurd (no_reap h.0)
   where
     no_reap : false ≡ true → ⊥
     no_reap e = cc
 
+fits_field : (f : Field) → FitsField f → AllByRecursion FitsWord (field_words f)
+fits_field (field.Life file) h = (fits_by (codes "life") refl, (fits_id file h, tt))
+fits_field (field.Child dir name) h = (fits_by (codes "child") refl, (fits_id dir h.0, (fits_name name h.1, tt)))
+fits_field (field.Names dir) h = (fits_by (codes "names") refl, (fits_id dir h, tt))
+fits_field (field.Info file) h = (fits_by (codes "info") refl, (fits_id file h, tt))
+fits_field (field.Own file) h = absurd h
+fits_field (field.SelfW file mode) h = absurd h
+fits_field (field.Other file mode) h = absurd h
+
 fits_words : (head : Head) (w : What) (digits : List ℕ) → IfSome (session_in w) (λ s. IsNumberOf digits s.0) → FitsWhat head w → AllByRecursion FitsWord (what_words digits w)
 fits_words head (Join s) digits h k = (fits_by (codes "join") refl, (fits_client digits s.0 h, tt))
-fits_words head (Do s o) digits h k = (fits_by (codes "do") refl, (fits_client digits s.0 h, fits_op o k))
+fits_words head (Do s o) digits h k = (fits_by (codes "do") refl, (fits_client digits s.0 h, fits_any_op o (any_op head o k)))
+fits_words head (Tell number) digits h k = (fits_by (codes "tell") refl, (fits_packet number k.1, tt))
+fits_words head (Turn (Client s)) digits h k = (fits_by (codes "turn") refl, (fits_client digits s.0 h, tt))
+fits_words head (Turn (Server n)) digits h k = (fits_by (codes "turn") refl, (fits_server n (omega (arith, k.1)), tt))
+fits_words head (Recall n f) digits h k = (fits_by (codes "recall") refl, (fits_server n (omega (arith, k.0.1)), fits_field f k.1))
 
 fits_what : (head : Head) (w : What) (words : List Word) → IsSpelled head w words → AllByRecursion FitsWord words
 fits_what head w words h = subst (AllByRecursion FitsWord) (sym h.spelled) (fits_words head w h.digits h.session h.fits)
@@ -177,7 +225,7 @@ fits_what head w words h = subst (AllByRecursion FitsWord) (sym h.spelled) (fits
 pub are_event_words : (head : Head) (e : Event) (line : List ℕ) → (h : IsLineOf head e line) → AreWords (Bare (decimal e.reading) ∷ h.words) line
 are_event_words head e line h = (fits_decimal e.reading (omega (arith, h.reading)), fits_what head e.what h.words h.what, h.text)
 
-text_of : (ws : List Word) (line : List ℕ) → AreWords ws line → line ≡ line_text ws
+pub text_of : (ws : List Word) (line : List ℕ) → AreWords ws line → line ≡ line_text ws
 text_of [] line h = absurd h
 text_of (w ∷ ws) line h = h.2
 

@@ -7,6 +7,7 @@ use Rattle.fs_schedule.specs.declared.error.Which.{Which}
 use Rattle.fs_schedule.specs.declared.error.Which.TheVariants.{Bytes, Sessions, Events, Packets}
 use Rattle.fs_schedule.specs.declared.limits.TheConstants.{BYTES, EVENTS}
 use Rattle.fs_schedule.specs.Spelling.{IsHeadLine, IsLineOf, names_late}
+use Rattle.fs_schedule.specs.Skew.{IsTimely, IsUntimely}
 use Rattle.fs_schedule.specs.Lines.{lines_of}
 
 -- ## Lines behind the first
@@ -48,7 +49,7 @@ HeadHas (PassesLimit Events) line = ⊥
 HeadHas (PassesLimit Packets) line = ⊥
 HeadHas IsOutside line = (length line ≤ BYTES) × ((head : Head) → IsHeadLine head line → ⊥)
 
--- a line after so many events has this fault
+-- a line after so many events has this fault; packets are counted only in a run
 abbrev pub LineHas : LineFault → Head → ℕ → List ℕ → Type 0
 LineHas (PassesLimit Bytes) head before line = BYTES < length line
 LineHas IsOutside head before line = (length line ≤ BYTES) × IsNoEvent head line
@@ -75,19 +76,21 @@ abbrev pub AreLinesOf : Schedule → List (List ℕ) → Type 0
 AreLinesOf s [] = ⊥
 AreLinesOf s (line ∷ lines) = HeadPasses s.head line × AreEventLines s.head 0 s.events lines
 
--- the text is the schedule's, within the limits
+-- the text is the schedule's, within the limits and the skew
 abbrev pub IsScheduleText : Schedule → List ℕ → Type 0
-IsScheduleText s bytes = AreLinesOf s (lines_of bytes)
+IsScheduleText s bytes = AreLinesOf s (lines_of bytes) × IsTimely s.head s.events
 
 -- of all lines the one of number `at` is the first faulty one
 abbrev pub LinesFaultAt : LineFault → ℕ → List (List ℕ) → Type 0
 LinesFaultAt fault at [] = ⊥
 LinesFaultAt fault at (line ∷ lines) = ((at ≡ 1) × HeadHas fault line) ⊎ ((head : Head) × HeadPasses head line × FaultsAt fault head at 0 lines)
 
--- why a text is no schedule: a line, counted from 1, is faulty
+-- why a text is no schedule: a line, counted from 1, is faulty; or no line is, and one is more than the skew before an earlier one
 pub data Fault : Type 0 where
   AtLine : ℕ → LineFault → Fault
+  IsSkewed : ℕ → ℕ → Fault
 
 -- the text has this fault, and no line before it has one
 abbrev pub IsFirstFault : Fault → List ℕ → Type 0
 IsFirstFault (AtLine at fault) bytes = LinesFaultAt fault at (lines_of bytes)
+IsFirstFault (IsSkewed line earlier) bytes = (s : Schedule) × AreLinesOf s (lines_of bytes) × IsUntimely s.head s.events line earlier

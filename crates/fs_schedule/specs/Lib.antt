@@ -1,8 +1,10 @@
 pub mod Words
 pub mod Spelling
 pub mod Lines
+pub mod Skew
 pub mod Faults
 pub mod Limits
 -- cited by private calls alone
 pub mod Separated
+pub mod Ahead
 pub mod Reading

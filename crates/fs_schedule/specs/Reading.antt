@@ -1,6 +1,8 @@
 -- What readers answer.
-use Rattle.std.specs.Prelude.{◌≡◌, ℕ, ◌<◌, ◌≤◌, ◌+◌, ◌∷◌, List, map, min, Result, Ok, Err, codes}
+use Rattle.std.specs.Prelude.{◌≡◌, ℕ, ◌≤◌, ◌+◌, ◌∷◌, List, map, min, Result, Ok, Err, codes}
 use Rattle.std.specs.Fmt.{decimal}
+use Rattle.fs_ident.specs.declared.actor.Peer.{Peer}
+use Rattle.fs_ident.specs.declared.actor.Peer.TheVariants.{Server, Client}
 use Rattle.fs_ident.specs.declared.limits.TheConstants.{SESSIONS, LATEST}
 use Rattle.fs_schedule.specs.declared.word.Word.{Word as Piece}
 use Rattle.fs_schedule.specs.declared.word.Word.TheVariants as piece
@@ -9,11 +11,11 @@ use Rattle.fs_schedule.specs.declared.unread.Unread.TheVariants.{Outside}
 use Rattle.fs_schedule.specs.declared.operation.Verb.{Verb}
 use Rattle.fs_schedule.specs.declared.operation.Verb.TheVariants as verb
 use Rattle.fs_schedule.specs.declared.event.What.{What}
-use Rattle.fs_schedule.specs.declared.event.What.TheVariants.{Join, Do}
+use Rattle.fs_schedule.specs.declared.event.What.TheVariants.{Join, Do, Tell, Turn, Recall}
 use Rattle.fs_schedule.specs.declared.event.Event.{Event}
 use Rattle.fs_schedule.specs.declared.event.Head.{Head}
 use Rattle.fs_schedule.specs.Words.{Word, Bare, Quoted, line_text}
-use Rattle.fs_schedule.specs.Spelling.{IsNumberOf, client_word, IsSpelled}
+use Rattle.fs_schedule.specs.Spelling.{IsServerIn, IsNumberOf, client_word, server_word, IsSpelled}
 
 -- the word that stands at a place of a line
 abbrev pub word_of : Piece → Word
@@ -58,7 +60,10 @@ capped n = min n (SESSIONS + 1)
 abbrev pub capped_what : What → What
 capped_what (Join s) = Join (record s { 0 = capped s.0 })
 capped_what (Do s o) = Do (record s { 0 = capped s.0 }) o
-capped_what w = w
+capped_what (Tell number) = Tell number
+capped_what (Turn (Client s)) = Turn (Client (record s { 0 = capped s.0 }))
+capped_what (Turn (Server k)) = Turn (Server k)
+capped_what (Recall k f) = Recall k f
 
 -- the digits are those of a session whose number is told as n
 abbrev pub IsToldNumber : ℕ → List ℕ → Type 0
@@ -67,6 +72,11 @@ IsToldNumber n digits = (m : ℕ) × IsNumberOf digits m × (n ≡ capped m)
 -- the word is such a session's
 abbrev pub IsToldSession : ℕ → Word → Type 0
 IsToldSession n w = (digits : List ℕ) × (w ≡ client_word digits) × IsToldNumber n digits
+
+-- the word is that of such a session, or of a server of the form
+abbrev pub IsToldPeer : Head → Peer → Word → Type 0
+IsToldPeer head (Client s) w = IsToldSession s.0 w
+IsToldPeer head (Server k) w = IsServerIn head k × (w ≡ server_word k)
 
 -- the words tell what happens
 abbrev pub IsToldWhat : Head → What → List Word → Type 0

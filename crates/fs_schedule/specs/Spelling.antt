@@ -5,7 +5,10 @@ use Rattle.std.specs.Str.Parse.{IsNumeral, digits_value}
 use Rattle.fs_ident.specs.Ident.{IsId}
 use Rattle.fs_ident.specs.IdText.{id_text}
 use Rattle.fs_ident.specs.Name.{IsName}
+use Rattle.fs_ident.specs.Texts.{server_text}
 use Rattle.fs_ident.specs.declared.actor.Session.{Session}
+use Rattle.fs_ident.specs.declared.actor.Peer.{Peer}
+use Rattle.fs_ident.specs.declared.actor.Peer.TheVariants.{Server, Client}
 use Rattle.fs_ident.specs.declared.kind.Kind.{Kind}
 use Rattle.fs_ident.specs.declared.kind.Kind.TheVariants.{File, Dir}
 use Rattle.fs_ident.specs.declared.limits.TheConstants.{SESSIONS, LATEST}
@@ -13,6 +16,9 @@ use Rattle.fs_modes.specs.Letters.{acc_text, deny_text}
 use Rattle.fs_model.specs.Asking.{may_ask}
 use Rattle.fs_model.specs.declared.op.Op.{Op}
 use Rattle.fs_model.specs.declared.op.Op.TheVariants as op
+use Rattle.fs_field.specs.declared.field.Field.{Field}
+use Rattle.fs_field.specs.declared.field.Field.TheVariants as field
+use Rattle.fs_msg.specs.declared.limits.TheConstants.{LONGEST}
 use Rattle.fs_schedule.specs.declared.event.Head.{Head}
 use Rattle.fs_schedule.specs.declared.event.Head.TheVariants.{Direct, Servers}
 use Rattle.fs_schedule.specs.declared.event.What.{What}
@@ -22,12 +28,41 @@ use Rattle.fs_schedule.specs.Words.{Word, Bare, Quoted, line_text}
 
 -- ## Forms
 
+-- a form of the grammar, its numbers in their ranges: no more than one server is in it yet
+abbrev pub FitsHead : Head → Type 0
+FitsHead Direct = Unit {0}
+FitsHead (Servers servers skew term) = (servers ≡ 1) × (skew ≤ LONGEST) × (1 ≤ term) × (term ≤ LONGEST)
+
+abbrev pub head_words : Head → List Word
+head_words Direct = Bare (codes "farsite") ∷ Bare (codes "1") ∷ Bare (codes "direct") ∷ []
+head_words (Servers servers skew term) =
+    Bare (codes "farsite") ∷ Bare (codes "1") ∷ Bare (codes "servers") ∷ Bare (decimal servers)
+    ∷ Bare (codes "skew") ∷ Bare (decimal skew) ∷ Bare (codes "term") ∷ Bare (decimal term) ∷ []
+
 -- the first line of a schedule of this form
 abbrev pub IsHeadLine : Head → List ℕ → Type 0
-IsHeadLine Direct line = line ≡ codes "farsite 1 direct"
-IsHeadLine (Servers n k t) line = ⊥
+IsHeadLine head line = FitsHead head × (line ≡ line_text (head_words head))
 
--- ## Operations, which every form has
+-- how many servers a form has
+abbrev pub servers_in : Head → ℕ
+servers_in Direct = 0
+servers_in (Servers servers skew term) = servers
+
+-- one of the form's servers; their numbers have eight bits
+abbrev pub IsServerIn : Head → ℕ → Type 0
+IsServerIn head k = (k < servers_in head) × (k < 2 ^ 8)
+
+-- the operations that a form has: the direct one all that may be asked
+abbrev pub has_op : Head → Op → Bool
+has_op Direct o = may_ask o
+has_op (Servers servers skew term) (op.Lookup dir name) = true
+has_op (Servers servers skew term) (op.List dir) = true
+has_op (Servers servers skew term) (op.Kind file) = true
+has_op (Servers servers skew term) (op.Info file) = true
+has_op (Servers servers skew term) (op.Create dir name kind id) = may_ask (op.Create dir name kind id)
+has_op (Servers servers skew term) o = false
+
+-- ## Operations
 
 abbrev pub kind_text : Kind → List ℕ
 kind_text File = codes "file"
@@ -60,35 +95,75 @@ FitsParts (op.Delete dir name) = IsId dir × IsName name
 FitsParts (op.Rename sdir sname ddir dname) = IsId sdir × IsName sname × IsId ddir × IsName dname
 FitsParts (op.Reap file session) = IsId file
 
--- an operation that a schedule can ask for
-abbrev pub FitsOp : Op → Type 0
-FitsOp o = (may_ask o ≡ true) × FitsParts o
+-- an operation that a schedule of the form can ask for
+abbrev pub FitsOp : Head → Op → Type 0
+FitsOp head o = (has_op head o ≡ true) × FitsParts o
+
+-- ## Fields
+
+abbrev pub field_words : Field → List Word
+field_words (field.Life file) = Bare (codes "life") ∷ Bare (id_text file) ∷ []
+field_words (field.Child dir name) = Bare (codes "child") ∷ Bare (id_text dir) ∷ Quoted name ∷ []
+field_words (field.Names dir) = Bare (codes "names") ∷ Bare (id_text dir) ∷ []
+field_words (field.Info file) = Bare (codes "info") ∷ Bare (id_text file) ∷ []
+field_words (field.Own file) = []
+field_words (field.SelfW file mode) = []
+field_words (field.Other file mode) = []
+
+-- a field of the grammar, its parts in their ranges: those of handles and modes are not in it
+abbrev pub FitsField : Field → Type 0
+FitsField (field.Life file) = IsId file
+FitsField (field.Child dir name) = IsId dir × IsName name
+FitsField (field.Names dir) = IsId dir
+FitsField (field.Info file) = IsId file
+FitsField (field.Own file) = ⊥
+FitsField (field.SelfW file mode) = ⊥
+FitsField (field.Other file mode) = ⊥
 
 -- ## Events
 
 -- an event that the form has, its parts in their ranges; a session's number has a limit, and no range
 abbrev pub FitsWhat : Head → What → Type 0
 FitsWhat head (Join s) = Unit {0}
-FitsWhat head (Do s o) = FitsOp o
-FitsWhat head (Tell n) = ⊥
-FitsWhat head (Turn p) = ⊥
-FitsWhat head (Recall k f) = ⊥
+FitsWhat head (Do s o) = FitsOp head o
+FitsWhat head (Tell number) = (0 < servers_in head) × IfSome number (λ n. n < 2 ^ 64)
+FitsWhat head (Turn (Client s)) = 0 < servers_in head
+FitsWhat head (Turn (Server k)) = IsServerIn head k
+FitsWhat head (Recall k f) = IsServerIn head k × FitsField f
 
 -- the session that an event names, where it names one
 abbrev pub session_in : What → Option Session
 session_in (Join s) = Some s
 session_in (Do s o) = Some s
-session_in w = None
+session_in (Tell number) = None
+session_in (Turn (Client s)) = Some s
+session_in (Turn (Server k)) = None
+session_in (Recall k f) = None
 
 -- the word of a client's session whose number has these digits
 abbrev pub client_word : List ℕ → Word
 client_word digits = Bare (codes "c" ++ digits)
 
+abbrev pub server_word : ℕ → Word
+server_word k = Bare (server_text k)
+
+-- the word of an actor; if it is a client, these are the digits of its session's number
+abbrev pub peer_word : List ℕ → Peer → Word
+peer_word digits (Client s) = client_word digits
+peer_word digits (Server k) = server_word k
+
+-- the number of a packet, or the word for the least one that was never told
+abbrev pub packet_word : Option ℕ → Word
+packet_word (Some n) = Bare (decimal n)
+packet_word None = Bare (codes "next")
+
 -- the words of an event that names, if any, a session whose number has these digits
 abbrev pub what_words : List ℕ → What → List Word
 what_words digits (Join s) = Bare (codes "join") ∷ client_word digits ∷ []
 what_words digits (Do s o) = Bare (codes "do") ∷ client_word digits ∷ op_words o
-what_words digits w = []
+what_words digits (Tell number) = Bare (codes "tell") ∷ packet_word number ∷ []
+what_words digits (Turn who) = Bare (codes "turn") ∷ peer_word digits who ∷ []
+what_words digits (Recall k f) = Bare (codes "recall") ∷ server_word k ∷ field_words f
 
 -- the digits of the number, without a leading zero, however great it is
 pub record IsNumberOf (digits : List ℕ) (n : ℕ) : Type 0 where
@@ -114,7 +189,10 @@ pub record IsLineOf (head : Head) (e : Event) (line : List ℕ) : Type 0 where
 abbrev pub names_late : What → Bool
 names_late (Join s) = nat_lt SESSIONS s.0
 names_late (Do s o) = nat_lt SESSIONS s.0
-names_late w = false
+names_late (Tell number) = false
+names_late (Turn (Client s)) = nat_lt SESSIONS s.0
+names_late (Turn (Server k)) = false
+names_late (Recall k f) = false
 
 -- ## What every event of a schedule is
 

@@ -1,9 +1,12 @@
 //! Schedules: what is to happen, read from lines.
 #![tactic(auto)]
 
+mod actor;
 mod cut;
 mod error;
 mod event;
+mod field;
+mod head;
 mod law;
 mod limits;
 mod line;
@@ -13,6 +16,7 @@ mod operation;
 mod outcome;
 mod schedule;
 mod session;
+mod skew;
 #[cfg(test)]
 mod tests;
 mod unread;

@@ -5,14 +5,17 @@ ghost use Rattle.fs_schedule.specs.Words.{Bare};
 ghost use Rattle.fs_schedule.specs.Spelling.{names_late};
 ghost use Rattle.fs_schedule.specs.Reading.{Tells, word_of, words_in, IsToldWhat, IsToldEvent, IsToldLine};
 
+use crate::actor::{peer_at, server_at};
 use crate::event::{Event, Head, What};
-use crate::operand::number_at;
+use crate::field::field_at;
+use crate::head::servers_in;
+use crate::operand::{number_at, packet_at};
 use crate::operation::op_at;
 use crate::session::session_at;
 use crate::unread::Unread;
 use crate::word::Word;
 use crate::words::words_of;
-use fs_ident::{LATEST, SESSIONS, Session};
+use fs_ident::{LATEST, Peer, SESSIONS, Session};
 use std::alloc::Global;
 
 /// The event that the line tells in the form, with a session above the limit as one more than the limit.
@@ -56,7 +59,10 @@ fn what_by(alloc: Global, head: Head, verb: &[u8], operands: &[Word]) -> Result<
 {
     match verb {
         b"join" => join_of(operands),
-        b"do" => do_of(alloc, operands),
+        b"do" => do_of(alloc, head, operands),
+        b"tell" => tell_of(alloc, head, operands),
+        b"turn" => turn_of(alloc, head, operands),
+        b"recall" => recall_of(alloc, head, operands),
         _ => Err(Unread::Outside),
     }
 }
@@ -80,25 +86,82 @@ fn join_by(session: &Word) -> Result<What, Unread>
     Ok(What::Join(Session(number)))
 }
 
-fn do_of(alloc: Global, operands: &[Word]) -> Result<What, Unread>
-    ensures { (head : Form) →
-        Tells (IsToldWhat head) result (Bare (codes "do") ∷ words_in operands.now) }
+fn do_of(alloc: Global, head: Head, operands: &[Word]) -> Result<What, Unread>
+    ensures { Tells (IsToldWhat head) result (Bare (codes "do") ∷ words_in operands.now) }
 {
     let [session, words @ ..] = operands else {
         return Err(Unread::Outside);
     };
-    do_by(alloc, session, words)
+    do_by(alloc, head, session, words)
 }
 
 /// The same, where the first operand was parted from the others.
-fn do_by(alloc: Global, session: &Word, words: &[Word]) -> Result<What, Unread>
-    ensures { (head : Form) →
-        Tells (IsToldWhat head) result
+fn do_by(alloc: Global, head: Head, session: &Word, words: &[Word]) -> Result<What, Unread>
+    ensures { Tells (IsToldWhat head) result
         (Bare (codes "do") ∷ word_of session.now ∷ words_in words.now) }
 {
     let number = session_at(session)?;
-    let op = op_at(alloc, words)?;
+    let op = op_at(alloc, head, words)?;
     Ok(What::Do(Session(number), op))
+}
+
+fn tell_of(alloc: Global, head: Head, operands: &[Word]) -> Result<What, Unread>
+    ensures { Tells (IsToldWhat head) result (Bare (codes "tell") ∷ words_in operands.now) }
+{
+    let [packet] = operands else {
+        return Err(Unread::Outside);
+    };
+    tell_by(alloc, head, packet)
+}
+
+/// The same, where there is one operand.
+fn tell_by(alloc: Global, head: Head, packet: &Word) -> Result<What, Unread>
+    ensures { Tells (IsToldWhat head) result (Bare (codes "tell") ∷ word_of packet.now ∷ []) }
+{
+    if servers_in(head) == 0 {
+        return Err(Unread::Outside);
+    }
+    let number = packet_at(alloc, packet)?;
+    Ok(What::Tell(number))
+}
+
+fn turn_of(alloc: Global, head: Head, operands: &[Word]) -> Result<What, Unread>
+    ensures { Tells (IsToldWhat head) result (Bare (codes "turn") ∷ words_in operands.now) }
+{
+    let [actor] = operands else {
+        return Err(Unread::Outside);
+    };
+    turn_by(alloc, head, actor)
+}
+
+/// The same, where there is one operand.
+fn turn_by(alloc: Global, head: Head, actor: &Word) -> Result<What, Unread>
+    ensures { Tells (IsToldWhat head) result (Bare (codes "turn") ∷ word_of actor.now ∷ []) }
+{
+    if servers_in(head) == 0 {
+        return Err(Unread::Outside);
+    }
+    let who = peer_at(alloc, head, actor)?;
+    Ok(What::Turn(who))
+}
+
+fn recall_of(alloc: Global, head: Head, operands: &[Word]) -> Result<What, Unread>
+    ensures { Tells (IsToldWhat head) result (Bare (codes "recall") ∷ words_in operands.now) }
+{
+    let [server, words @ ..] = operands else {
+        return Err(Unread::Outside);
+    };
+    recall_by(alloc, head, server, words)
+}
+
+/// The same, where the first operand was parted from the others.
+fn recall_by(alloc: Global, head: Head, server: &Word, words: &[Word]) -> Result<What, Unread>
+    ensures { Tells (IsToldWhat head) result
+        (Bare (codes "recall") ∷ word_of server.now ∷ words_in words.now) }
+{
+    let server = server_at(alloc, head, server)?;
+    let field = field_at(alloc, words)?;
+    Ok(What::Recall(server, field))
 }
 
 /// Whether it names a session above the limit.
@@ -108,6 +171,7 @@ pub fn names_late(what: &What) -> bool
     match what {
         What::Join(session) => SESSIONS < session.0,
         What::Do(session, _) => SESSIONS < session.0,
-        _ => false,
+        What::Turn(Peer::Client(session)) => SESSIONS < session.0,
+        What::Tell(_) | What::Turn(Peer::Server(_)) | What::Recall(_, _) => false,
     }
 }

@@ -1,5 +1,5 @@
 //! What operations are asked of, each read from one word.
-ghost use Rattle.std.specs.Prelude.{◌≡◌, ◌∷◌, ◌≤◌, ◌<◌, ◌^◌, [], true};
+ghost use Rattle.std.specs.Prelude.{◌≡◌, ◌∷◌, ◌≤◌, ◌<◌, ◌^◌, ◌↔◌, [], true, IfSome, IsTrue};
 ghost use Rattle.std.specs.Fmt.{decimal};
 ghost use Rattle.fs_ident.specs.Ident.{IsId};
 ghost use Rattle.fs_ident.specs.IdText.{id_text};
@@ -7,7 +7,7 @@ ghost use Rattle.fs_ident.specs.Name.{IsName};
 ghost use Rattle.fs_modes.specs.Modes.{has_access};
 ghost use Rattle.fs_modes.specs.Letters.{acc_text, deny_text};
 ghost use Rattle.fs_schedule.specs.Words.{Bare, Quoted};
-ghost use Rattle.fs_schedule.specs.Spelling.{kind_text};
+ghost use Rattle.fs_schedule.specs.Spelling.{kind_text, packet_word};
 ghost use Rattle.fs_schedule.specs.Reading.{Reads, word_of, words_in, Always};
 
 use crate::number::number_of;
@@ -16,6 +16,16 @@ use crate::word::Word;
 use fs_ident::{FileId, IdError, Kind, Name};
 use fs_modes::Modes;
 use std::alloc::Global;
+
+/// Whether the word is these bare bytes.
+pub fn is_bare(word: &Word, text: &[u8]) -> bool
+    ensures { IsTrue result ↔ (word_of word.now ≡ Bare text.now) }
+{
+    match word {
+        Word::Bare(bytes) => *bytes == text,
+        Word::Quoted(_) => false,
+    }
+}
 
 /// A number, `most` at most.
 pub fn number_at(alloc: Global, most: u64, word: &Word) -> Result<u64, Unread>
@@ -31,12 +41,35 @@ pub fn number_at(alloc: Global, most: u64, word: &Word) -> Result<u64, Unread>
     Ok(n)
 }
 
+/// A number from 1, `most` at most.
+pub fn count_at(alloc: Global, most: u64, word: &Word) -> Result<u64, Unread>
+    ensures { Reads (λ n. Bare (decimal n)) (λ n. (1 ≤ n) × (n ≤ most)) result (word_of word.now) }
+{
+    let n = number_at(alloc, most, word)?;
+    if n == 0 {
+        return Err(Unread::Outside);
+    }
+    Ok(n)
+}
+
 /// The number of a handle.
 pub fn handle_at(alloc: Global, word: &Word) -> Result<u32, Unread>
     ensures { Reads (λ h. Bare (decimal h)) (λ h. h < 2 ^ 32) result (word_of word.now) }
 {
     let n = number_at(alloc, u64::from(u32::MAX), word)?;
     Ok(n as u32)
+}
+
+/// The number of a packet, or nothing for the least one that was never told.
+pub fn packet_at(alloc: Global, word: &Word) -> Result<Option<u64>, Unread>
+    ensures { Reads packet_word (λ number. IfSome number (λ n. n < 2 ^ 64)) result
+        (word_of word.now) }
+{
+    if is_bare(word, b"next") {
+        return Ok(None);
+    }
+    let n = number_at(alloc, u64::MAX, word)?;
+    Ok(Some(n))
 }
 
 /// An identifier.

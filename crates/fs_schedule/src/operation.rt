@@ -1,5 +1,6 @@
 //! Operations, read from words.
 ghost use Rattle.std.specs.Prelude.{◌∷◌};
+ghost use Rattle.fs_schedule.specs.declared.event.Head.TheVariants.{Direct};
 ghost use Rattle.fs_schedule.specs.declared.operation.Verb.TheVariants as verb;
 ghost use Rattle.std.specs.Fmt.{decimal};
 ghost use Rattle.fs_ident.specs.IdText.{id_text};
@@ -7,6 +8,8 @@ ghost use Rattle.fs_schedule.specs.Words.{Bare, Quoted};
 ghost use Rattle.fs_schedule.specs.Spelling.{op_words, FitsOp};
 ghost use Rattle.fs_schedule.specs.Reading.{Reads, words_in, verb_text, Always};
 
+use crate::event::Head;
+use crate::head::has_op;
 use crate::operand::{handle_at, id_at, kind_at, modes_at, name_at, number_at};
 use crate::unread::Unread;
 use crate::word::Word;
@@ -29,9 +32,21 @@ pub enum Verb {
     Rename,
 }
 
-/// The operation that the words ask for.
-pub fn op_at(alloc: Global, words: &[Word]) -> Result<Op, Unread>
-    ensures { Reads op_words FitsOp result (words_in words.now) }
+/// The operation that the words ask for in the form.
+pub fn op_at(alloc: Global, head: Head, words: &[Word]) -> Result<Op, Unread>
+    ensures { Reads op_words (FitsOp head) result (words_in words.now) }
+{
+    let op = any_op_at(alloc, words)?;
+    if has_op(head, &op) {
+        Ok(op)
+    } else {
+        Err(Unread::Outside)
+    }
+}
+
+/// The same in the direct form, which has every operation of the others.
+fn any_op_at(alloc: Global, words: &[Word]) -> Result<Op, Unread>
+    ensures { Reads op_words (FitsOp Direct) result (words_in words.now) }
 {
     let [Word::Bare(text), operands @ ..] = words else {
         return Err(Unread::Outside);
@@ -41,7 +56,7 @@ pub fn op_at(alloc: Global, words: &[Word]) -> Result<Op, Unread>
 
 /// The same, where the first word was read.
 fn op_by(alloc: Global, text: &[u8], operands: &[Word]) -> Result<Op, Unread>
-    ensures { Reads op_words FitsOp result (Bare text.now ∷ words_in operands.now) }
+    ensures { Reads op_words (FitsOp Direct) result (Bare text.now ∷ words_in operands.now) }
 {
     let verb = verb_of(text)?;
     op_of(alloc, verb, operands)
@@ -66,7 +81,7 @@ fn verb_of(text: &[u8]) -> Result<Verb, Unread>
 }
 
 fn op_of(alloc: Global, verb: Verb, operands: &[Word]) -> Result<Op, Unread>
-    ensures { Reads op_words FitsOp result (Bare (verb_text verb) ∷ words_in operands.now) }
+    ensures { Reads op_words (FitsOp Direct) result (Bare (verb_text verb) ∷ words_in operands.now) }
 {
     match verb {
         Verb::Lookup => lookup_of(alloc, operands),
@@ -83,7 +98,7 @@ fn op_of(alloc: Global, verb: Verb, operands: &[Word]) -> Result<Op, Unread>
 }
 
 fn lookup_of(alloc: Global, operands: &[Word]) -> Result<Op, Unread>
-    ensures { Reads op_words FitsOp result
+    ensures { Reads op_words (FitsOp Direct) result
         (Bare (verb_text verb.Lookup) ∷ words_in operands.now) }
 {
     let [dir, name] = operands else {
@@ -95,7 +110,7 @@ fn lookup_of(alloc: Global, operands: &[Word]) -> Result<Op, Unread>
 }
 
 fn list_of(alloc: Global, operands: &[Word]) -> Result<Op, Unread>
-    ensures { Reads op_words FitsOp result
+    ensures { Reads op_words (FitsOp Direct) result
         (Bare (verb_text verb.List) ∷ words_in operands.now) }
 {
     let [dir] = operands else {
@@ -106,7 +121,7 @@ fn list_of(alloc: Global, operands: &[Word]) -> Result<Op, Unread>
 }
 
 fn kind_of(alloc: Global, operands: &[Word]) -> Result<Op, Unread>
-    ensures { Reads op_words FitsOp result
+    ensures { Reads op_words (FitsOp Direct) result
         (Bare (verb_text verb.Kind) ∷ words_in operands.now) }
 {
     let [file] = operands else {
@@ -117,7 +132,7 @@ fn kind_of(alloc: Global, operands: &[Word]) -> Result<Op, Unread>
 }
 
 fn info_of(alloc: Global, operands: &[Word]) -> Result<Op, Unread>
-    ensures { Reads op_words FitsOp result
+    ensures { Reads op_words (FitsOp Direct) result
         (Bare (verb_text verb.Info) ∷ words_in operands.now) }
 {
     let [file] = operands else {
@@ -128,7 +143,7 @@ fn info_of(alloc: Global, operands: &[Word]) -> Result<Op, Unread>
 }
 
 fn create_of(alloc: Global, operands: &[Word]) -> Result<Op, Unread>
-    ensures { Reads op_words FitsOp result
+    ensures { Reads op_words (FitsOp Direct) result
         (Bare (verb_text verb.Create) ∷ words_in operands.now) }
 {
     let [dir, name, kind] = operands else {
@@ -146,7 +161,7 @@ fn create_of(alloc: Global, operands: &[Word]) -> Result<Op, Unread>
 }
 
 fn open_of(alloc: Global, operands: &[Word]) -> Result<Op, Unread>
-    ensures { Reads op_words FitsOp result
+    ensures { Reads op_words (FitsOp Direct) result
         (Bare (verb_text verb.Open) ∷ words_in operands.now) }
 {
     let [file, h, modes @ ..] = operands else {
@@ -159,7 +174,7 @@ fn open_of(alloc: Global, operands: &[Word]) -> Result<Op, Unread>
 }
 
 fn close_of(alloc: Global, operands: &[Word]) -> Result<Op, Unread>
-    ensures { Reads op_words FitsOp result
+    ensures { Reads op_words (FitsOp Direct) result
         (Bare (verb_text verb.Close) ∷ words_in operands.now) }
 {
     let [file, h] = operands else {
@@ -171,7 +186,7 @@ fn close_of(alloc: Global, operands: &[Word]) -> Result<Op, Unread>
 }
 
 fn set_of(alloc: Global, operands: &[Word]) -> Result<Op, Unread>
-    ensures { Reads op_words FitsOp result
+    ensures { Reads op_words (FitsOp Direct) result
         (Bare (verb_text verb.Set) ∷ words_in operands.now) }
 {
     let [file, h, rest @ ..] = operands else {
@@ -184,7 +199,7 @@ fn set_of(alloc: Global, operands: &[Word]) -> Result<Op, Unread>
 
 /// The same, where the file and the handle were read.
 fn set_to(alloc: Global, file: FileId, h: u32, operands: &[Word]) -> Result<Op, Unread>
-    ensures { Reads op_words FitsOp result (Bare (verb_text verb.Set) ∷ Bare (id_text file) ∷
+    ensures { Reads op_words (FitsOp Direct) result (Bare (verb_text verb.Set) ∷ Bare (id_text file) ∷
         Bare (decimal h) ∷ words_in operands.now) }
 {
     let [size, stamp] = operands else {
@@ -201,7 +216,7 @@ fn set_to(alloc: Global, file: FileId, h: u32, operands: &[Word]) -> Result<Op, 
 }
 
 fn delete_of(alloc: Global, operands: &[Word]) -> Result<Op, Unread>
-    ensures { Reads op_words FitsOp result
+    ensures { Reads op_words (FitsOp Direct) result
         (Bare (verb_text verb.Delete) ∷ words_in operands.now) }
 {
     let [dir, name] = operands else {
@@ -213,7 +228,7 @@ fn delete_of(alloc: Global, operands: &[Word]) -> Result<Op, Unread>
 }
 
 fn rename_of(alloc: Global, operands: &[Word]) -> Result<Op, Unread>
-    ensures { Reads op_words FitsOp result
+    ensures { Reads op_words (FitsOp Direct) result
         (Bare (verb_text verb.Rename) ∷ words_in operands.now) }
 {
     let [sdir, sname, rest @ ..] = operands else {
@@ -226,7 +241,7 @@ fn rename_of(alloc: Global, operands: &[Word]) -> Result<Op, Unread>
 
 /// The same, where the place that it leaves was read.
 fn rename_to(alloc: Global, sdir: FileId, sname: Name, operands: &[Word]) -> Result<Op, Unread>
-    ensures { Reads op_words FitsOp result (Bare (verb_text verb.Rename) ∷ Bare (id_text sdir) ∷
+    ensures { Reads op_words (FitsOp Direct) result (Bare (verb_text verb.Rename) ∷ Bare (id_text sdir) ∷
         Quoted sname ∷ words_in operands.now) }
 {
     let [ddir, dname] = operands else {

@@ -1,23 +1,26 @@
 //! Schedules, read line by line.
-ghost use Rattle.std.specs.Prelude.{◌≡◌, ◌≤◌, ◌+◌, ℕ, IfOk, IfSome, IfNone, IsErrOf};
+ghost use Rattle.std.specs.Prelude.{◌≡◌, ◌≤◌, ◌+◌, ℕ, IfOk, IsErrOf};
 ghost use Rattle.std.specs.List.{AllByRecursion};
 ghost use Rattle.fs_schedule.specs.declared.error.Which.{Which as Limited};
-ghost use Rattle.fs_schedule.specs.declared.event.Head.{Head as Form};
-ghost use Rattle.fs_schedule.specs.Spelling.{IsHeadLine, FitsEvent};
+ghost use Rattle.fs_schedule.specs.Spelling.{FitsEvent};
 ghost use Rattle.fs_schedule.specs.Lines.{lines_of};
-ghost use Rattle.fs_schedule.specs.Faults.{AtLine, Passes, HeadPasses, HeadHas, LineHas, AreEventLines, FaultsAt, PassesLimit, IsOutside, IsScheduleText, IsFirstFault};
+ghost use Rattle.fs_schedule.specs.Faults.{AtLine, IsSkewed, AreLinesOf, Passes, HeadPasses, HeadHas, LineHas, AreEventLines, FaultsAt, PassesLimit, IsOutside, IsScheduleText, IsFirstFault};
 
 use crate::cut::next_line;
 use crate::error::{ScheduleError, Which};
 use crate::event::{Event, Head, Schedule};
+use crate::head::head_at;
 use crate::limits::{BYTES, EVENTS};
 use crate::line::{event_at, names_late};
+use crate::skew::untimely_line;
 use crate::unread::Unread;
 use fs_ident::List;
 use std::alloc::Global;
 
 /// The schedule that the bytes are the text of, within the limits. Otherwise the first faulty line, counted
-/// from 1: `BadLine` where it is outside the grammar, else `Limit` with the limit that it passes.
+/// from 1: `BadLine` where it is outside the grammar, else `Limit` with the limit that it passes. Where all lines
+/// pass, `Skewed` with the first line whose reading is more than the skew before an earlier one, and the first such
+/// earlier line.
 pub fn read_schedule(alloc: Global, bytes: &[u8]) -> Result<Schedule, ScheduleError>
     ensures ok { IfOk result (λ s. IsScheduleText s bytes.now) }
     ensures fits { IfOk result (λ s. AllByRecursion (FitsEvent s.head) s.events) }
@@ -25,9 +28,29 @@ pub fn read_schedule(alloc: Global, bytes: &[u8]) -> Result<Schedule, ScheduleEr
         IsFirstFault (AtLine line IsOutside) bytes.now }
     ensures limit { (which : Limited) (at : ℕ) → IsErrOf result (ScheduleError.Limit which at) →
         IsFirstFault (AtLine at (PassesLimit which)) bytes.now }
+    ensures skewed { (line earlier : ℕ) → IsErrOf result (ScheduleError.Skewed line earlier) →
+        IsFirstFault (IsSkewed line earlier) bytes.now }
+{
+    let schedule = read_lines(alloc, bytes)?;
+    match untimely_line(&schedule) {
+        None => Ok(schedule),
+        Some((line, earlier)) => Err(ScheduleError::Skewed { line, earlier }),
+    }
+}
+
+/// The same, with readings that may fall back by any time.
+fn read_lines(alloc: Global, bytes: &[u8]) -> Result<Schedule, ScheduleError>
+    ensures ok { IfOk result (λ s. AreLinesOf s (lines_of bytes.now)) }
+    ensures fits { IfOk result (λ s. AllByRecursion (FitsEvent s.head) s.events) }
+    ensures bad_line { (line : ℕ) → IsErrOf result (ScheduleError.BadLine line) →
+        IsFirstFault (AtLine line IsOutside) bytes.now }
+    ensures limit { (which : Limited) (at : ℕ) → IsErrOf result (ScheduleError.Limit which at) →
+        IsFirstFault (AtLine at (PassesLimit which)) bytes.now }
+    ensures not_skewed { (line earlier : ℕ) →
+        IsErrOf result (ScheduleError.Skewed line earlier) → ⊥ }
 {
     let (first, rest) = next_line(bytes);
-    let head = read_head(first)?;
+    let head = read_head(alloc, first)?;
     match rest {
         Some(rest) => {
             let events = read_events(alloc, head, rest)?;
@@ -40,12 +63,14 @@ pub fn read_schedule(alloc: Global, bytes: &[u8]) -> Result<Schedule, ScheduleEr
     }
 }
 
-fn read_head(line: &[u8]) -> Result<Head, ScheduleError>
+fn read_head(alloc: Global, line: &[u8]) -> Result<Head, ScheduleError>
     ensures ok { IfOk result (λ head. HeadPasses head line.now) }
     ensures bad_line { (n : ℕ) → IsErrOf result (ScheduleError.BadLine n) →
         (n ≡ 1) × HeadHas IsOutside line.now }
     ensures limit { (which : Limited) (n : ℕ) → IsErrOf result (ScheduleError.Limit which n) →
         (n ≡ 1) × HeadHas (PassesLimit which) line.now }
+    ensures not_skewed { (line earlier : ℕ) →
+        IsErrOf result (ScheduleError.Skewed line earlier) → ⊥ }
 {
     if BYTES < line.len() {
         return Err(ScheduleError::Limit {
@@ -53,21 +78,10 @@ fn read_head(line: &[u8]) -> Result<Head, ScheduleError>
             at: 1,
         });
     }
-    match head_of(line) {
-        Some(head) => Ok(head),
-        None => Err(ScheduleError::BadLine { line: 1 }),
-    }
-}
-
-/// The form that the line names.
-fn head_of(line: &[u8]) -> Option<Head>
-    ensures found { IfSome result (λ head. IsHeadLine head line.now) }
-    ensures none { IfNone result ((head : Form) → IsHeadLine head line.now → ⊥) }
-{
-    if line == b"farsite 1 direct".as_slice() {
-        Some(Head::Direct)
-    } else {
-        None
+    match head_at(alloc, line) {
+        Ok(head) => Ok(head),
+        Err(Unread::Outside) => Err(ScheduleError::BadLine { line: 1 }),
+        Err(Unread::Memory) => Err(ScheduleError::Memory),
     }
 }
 
@@ -77,6 +91,8 @@ fn read_events(alloc: Global, head: Head, text: &[u8]) -> Result<List<Event>, Sc
         FaultsAt IsOutside head n 0 (lines_of text.now) }
     ensures limit { (which : Limited) (n : ℕ) → IsErrOf result (ScheduleError.Limit which n) →
         FaultsAt (PassesLimit which) head n 0 (lines_of text.now) }
+    ensures not_skewed { (line earlier : ℕ) →
+        IsErrOf result (ScheduleError.Skewed line earlier) → ⊥ }
 {
     let mut events = List::new(alloc);
     let mut rest = text;
@@ -99,6 +115,8 @@ fn read_line(alloc: Global, head: Head, before: usize, line: &[u8]) -> Result<Ev
         LineHas IsOutside head before line.now }
     ensures limit { (which : Limited) (n : ℕ) → IsErrOf result (ScheduleError.Limit which n) →
         (n ≡ before + 2) × LineHas (PassesLimit which) head before line.now }
+    ensures not_skewed { (line earlier : ℕ) →
+        IsErrOf result (ScheduleError.Skewed line earlier) → ⊥ }
 {
     let at = before as u64 + 2;
     if BYTES < line.len() {

@@ -13,20 +13,21 @@ pub fn session_at(word: &Word) -> Result<u16, Unread>
     let Word::Bare(text) = word else {
         return Err(Unread::Outside);
     };
-    let Some(digits) = behind_c(text) else {
+    let Some(digits) = behind(text, b'c') else {
         return Err(Unread::Outside);
     };
     number_of(digits)
 }
 
-fn behind_c(text: &[u8]) -> Option<&[u8]>
-    ensures found { IfSome result (λ digits. text.now ≡ 99 ∷ digits.now) }
-    ensures none { IfNone result ((digits : Seq ℕ) → text.now ≡ 99 ∷ digits → ⊥) }
+/// What stands behind the first byte, where that is `b`.
+pub fn behind(text: &[u8], b: u8) -> Option<&[u8]>
+    ensures found { IfSome result (λ digits. text.now ≡ b ∷ digits.now) }
+    ensures none { IfNone result ((digits : Seq ℕ) → text.now ≡ b ∷ digits → ⊥) }
 {
-    match text {
-        [b'c', digits @ ..] => Some(digits),
-        _ => None,
-    }
+    let [first, digits @ ..] = text else {
+        return None;
+    };
+    if *first == b { Some(digits) } else { None }
 }
 
 fn number_of(digits: &[u8]) -> Result<u16, Unread>

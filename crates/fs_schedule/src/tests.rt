@@ -75,7 +75,9 @@ fn the_first_fault_is_told(rt: HostRuntime) -> Result<(), Fail> {
             Ok(_) => format!(in rt.alloc(); "read")?,
             Err(ScheduleError::BadLine { line }) => format!(in rt.alloc(); "{line}")?,
             Err(ScheduleError::Limit { which, at }) => format!(in rt.alloc(); "{which} {at}")?,
-            Err(ScheduleError::Skewed { .. }) => format!(in rt.alloc(); "skewed")?,
+            Err(ScheduleError::Skewed { line, earlier }) => {
+                format!(in rt.alloc(); "{line} {earlier}")?
+            }
             Err(ScheduleError::Memory) => format!(in rt.alloc(); "memory")?,
         };
         assert_eq!(rt; told.as_str(), wanted, "at {text}");

@@ -1,0 +1,75 @@
+//! Fields, read from words.
+ghost use Rattle.std.specs.Prelude.{◌∷◌, codes};
+ghost use Rattle.fs_schedule.specs.Words.{Bare};
+ghost use Rattle.fs_schedule.specs.Spelling.{field_words, FitsField};
+ghost use Rattle.fs_schedule.specs.Reading.{Reads, words_in};
+
+use crate::operand::{id_at, name_at};
+use crate::unread::Unread;
+use crate::word::Word;
+use fs_field::Field;
+use std::alloc::Global;
+
+/// The field that the words name.
+pub fn field_at(alloc: Global, words: &[Word]) -> Result<Field, Unread>
+    ensures { Reads field_words FitsField result (words_in words.now) }
+{
+    let [Word::Bare(text), operands @ ..] = words else {
+        return Err(Unread::Outside);
+    };
+    field_by(alloc, text, operands)
+}
+
+/// The same, where the first word was read.
+fn field_by(alloc: Global, text: &[u8], operands: &[Word]) -> Result<Field, Unread>
+    ensures { Reads field_words FitsField result (Bare text.now ∷ words_in operands.now) }
+{
+    match text {
+        b"life" => life_of(alloc, operands),
+        b"child" => child_of(alloc, operands),
+        b"names" => names_of(alloc, operands),
+        b"info" => info_of(alloc, operands),
+        _ => Err(Unread::Outside),
+    }
+}
+
+fn life_of(alloc: Global, operands: &[Word]) -> Result<Field, Unread>
+    ensures { Reads field_words FitsField result (Bare (codes "life") ∷ words_in operands.now) }
+{
+    let [file] = operands else {
+        return Err(Unread::Outside);
+    };
+    let file = id_at(alloc, file)?;
+    Ok(Field::Life(file))
+}
+
+fn child_of(alloc: Global, operands: &[Word]) -> Result<Field, Unread>
+    ensures { Reads field_words FitsField result (Bare (codes "child") ∷ words_in operands.now) }
+{
+    let [dir, name] = operands else {
+        return Err(Unread::Outside);
+    };
+    let dir = id_at(alloc, dir)?;
+    let name = name_at(alloc, name)?;
+    Ok(Field::Child(dir, name))
+}
+
+fn names_of(alloc: Global, operands: &[Word]) -> Result<Field, Unread>
+    ensures { Reads field_words FitsField result (Bare (codes "names") ∷ words_in operands.now) }
+{
+    let [dir] = operands else {
+        return Err(Unread::Outside);
+    };
+    let dir = id_at(alloc, dir)?;
+    Ok(Field::Names(dir))
+}
+
+fn info_of(alloc: Global, operands: &[Word]) -> Result<Field, Unread>
+    ensures { Reads field_words FitsField result (Bare (codes "info") ∷ words_in operands.now) }
+{
+    let [file] = operands else {
+        return Err(Unread::Outside);
+    };
+    let file = id_at(alloc, file)?;
+    Ok(Field::Info(file))
+}

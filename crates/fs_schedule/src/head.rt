@@ -1,0 +1,118 @@
+//! Forms: what they have, and the first line that names one.
+ghost use Rattle.std.specs.Prelude.{◌≡◌, ◌∷◌, [], codes};
+ghost use Rattle.fs_schedule.specs.Words.{Bare};
+ghost use Rattle.fs_schedule.specs.Spelling.{FitsHead, head_words, IsHeadLine, servers_in, has_op};
+ghost use Rattle.fs_schedule.specs.Reading.{Reads, Tells, word_of, words_in};
+
+use crate::event::Head;
+use crate::operand::{count_at, is_bare, number_at};
+use crate::unread::Unread;
+use crate::word::Word;
+use crate::words::words_of;
+use fs_model::Op;
+use fs_msg::LONGEST;
+use std::alloc::Global;
+
+/// How many servers the form has.
+pub fn servers_in(head: Head) -> u8
+    ensures { result ≡ servers_in head }
+{
+    match head {
+        Head::Direct => 0,
+        Head::Servers { servers, .. } => servers,
+    }
+}
+
+/// Whether a schedule of the form can ask for the operation.
+pub fn has_op(head: Head, op: &Op) -> bool
+    ensures { result ≡ has_op head op.now }
+{
+    match head {
+        Head::Direct => op.may_be_asked(),
+        Head::Servers { .. } => match op {
+            Op::Lookup { .. } | Op::List { .. } | Op::Kind { .. } | Op::Info { .. } => true,
+            Op::Create { .. } => op.may_be_asked(),
+            _ => false,
+        },
+    }
+}
+
+/// The form that the line names.
+pub fn head_at(alloc: Global, line: &[u8]) -> Result<Head, Unread>
+    ensures { Tells IsHeadLine result line.now }
+{
+    let words = words_of(alloc, line)?;
+    head_of(alloc, words.as_slice())
+}
+
+fn head_of(alloc: Global, words: &[Word]) -> Result<Head, Unread>
+    ensures { Reads head_words FitsHead result (words_in words.now) }
+{
+    let [product, version, Word::Bare(form), operands @ ..] = words else {
+        return Err(Unread::Outside);
+    };
+    if !is_bare(product, b"farsite") {
+        return Err(Unread::Outside);
+    }
+    if !is_bare(version, b"1") {
+        return Err(Unread::Outside);
+    }
+    head_by(alloc, form, operands)
+}
+
+/// The same, where the word that tells the form was read.
+fn head_by(alloc: Global, form: &[u8], operands: &[Word]) -> Result<Head, Unread>
+    ensures { Reads head_words FitsHead result
+        (Bare (codes "farsite") ∷ Bare (codes "1") ∷ Bare form.now ∷ words_in operands.now) }
+{
+    if form == b"direct".as_slice() {
+        return direct_of(operands);
+    }
+    if form == b"servers".as_slice() {
+        return servers_of(alloc, operands);
+    }
+    Err(Unread::Outside)
+}
+
+fn direct_of(operands: &[Word]) -> Result<Head, Unread>
+    ensures { Reads head_words FitsHead result
+        (Bare (codes "farsite") ∷ Bare (codes "1") ∷ Bare (codes "direct") ∷ words_in operands.now) }
+{
+    match operands {
+        [] => Ok(Head::Direct),
+        _ => Err(Unread::Outside),
+    }
+}
+
+fn servers_of(alloc: Global, operands: &[Word]) -> Result<Head, Unread>
+    ensures { Reads head_words FitsHead result
+        (Bare (codes "farsite") ∷ Bare (codes "1") ∷ Bare (codes "servers") ∷ words_in operands.now) }
+{
+    let [servers, skew_word, skew, term_word, term] = operands else {
+        return Err(Unread::Outside);
+    };
+    if !is_bare(skew_word, b"skew") {
+        return Err(Unread::Outside);
+    }
+    if !is_bare(term_word, b"term") {
+        return Err(Unread::Outside);
+    }
+    servers_by(alloc, servers, skew, term)
+}
+
+/// The same, where the words between the numbers were read.
+fn servers_by(alloc: Global, servers: &Word, skew: &Word, term: &Word) -> Result<Head, Unread>
+    ensures { Reads head_words FitsHead result
+        (Bare (codes "farsite") ∷ Bare (codes "1") ∷ Bare (codes "servers") ∷
+        word_of servers.now ∷ Bare (codes "skew") ∷ word_of skew.now ∷
+        Bare (codes "term") ∷ word_of term.now ∷ []) }
+{
+    let servers = count_at(alloc, 1, servers)?;
+    let skew = number_at(alloc, LONGEST, skew)?;
+    let term = count_at(alloc, LONGEST, term)?;
+    Ok(Head::Servers {
+        servers: servers as u8,
+        skew,
+        term,
+    })
+}
