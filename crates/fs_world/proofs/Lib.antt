@@ -11,11 +11,11 @@ pub mod LinkedTies
 pub mod LinkedClient
 pub mod LinkedServer
 pub mod Linked
-mod Downs
+mod AllDowns
 mod Popped
 pub mod Marks
 pub mod Heard
 pub mod SeatMaps
 pub mod Spending
 mod HeardMessages
-mod Told
+mod Arrivals

@@ -48,7 +48,13 @@ pub(crate) fn send_due(
     ensures err { OnErr result (packets.new ≡ packets.old) }
 {
     let due = post.packets(alloc, turn, heard)?;
-    let outcome = outcome_with(alloc, who, note, packets.sent().as_slice(), due.as_slice())?;
+    let outcome = outcome_with(
+        alloc,
+        who,
+        note,
+        packets.sent().as_slice(),
+        due.as_slice(),
+    )?;
     packets.add(alloc, due)?;
     Ok(outcome)
 }
