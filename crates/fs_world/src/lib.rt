@@ -20,6 +20,7 @@ mod seat;
 mod seat_events;
 mod seats;
 mod served;
+mod servers;
 mod telling;
 mod term;
 #[cfg(test)]
