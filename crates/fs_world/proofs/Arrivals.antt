@@ -11,13 +11,15 @@ use Rattle.fs_msg.specs.declared.answer.Answer.{Answer}
 use Rattle.fs_msg.specs.declared.client_msg.ClientMsg.{ClientMsg}
 use Rattle.fs_msg.specs.declared.item.Item.{Item}
 use Rattle.fs_server.specs.declared.event.ServerEvent.{ServerEvent}
+use Rattle.fs_server.specs.declared.event.ServerEvent.TheVariants.{FromClient}
+use Rattle.fs_window.specs.Post.{post_accepted}
 use Rattle.fs_window.specs.Reading.{packet_at}
 use Rattle.fs_window.specs.declared.heard.Heard.{Heard}
 use Rattle.fs_window.specs.declared.packet.Packet.{Packet}
 use Rattle.fs_window.specs.declared.sent.Sent.{Sent}
 use Rattle.fs_world.specs.Linked.{GoesBetween, IsLinked}
 use Rattle.fs_world.specs.Packets.{Packets, with_sent}
-use Rattle.fs_world.specs.Served.{arrives, comes, client_hears, client_told, server_hears, server_step, server_told, the_server, told_at, with_rest}
+use Rattle.fs_world.specs.Served.{arrives, comes, client_hears, client_told, server_hears, server_step, server_told, heard_in, the_server, told_at, up_of, with_rest}
 use Rattle.fs_world.specs.declared.seat.Seat.{Seat}
 use Rattle.fs_world.specs.declared.served.Served.{Served}
 use Rattle.fs_world.proofs.Linked.{tell_client}
@@ -37,7 +39,7 @@ step_stays from now e w v same = subst (λ (p : Packets). length p.sent ≤ leng
 server_stays : (now : ℕ) (s : Session) (from : Option Peer) (h : Heard) (joined : List Joined) (up : List ClientMsg) (w : Served) → length w.packets.sent ≤ length (server_hears now s from h joined up w).world.packets.sent
 server_stays now s from h [] up w = stay _ w.packets
 server_stays now s from h (j ∷ js) [] w = stay _ w.packets
-server_stays now s from h (j ∷ js) (m ∷ up) w = step_stays from now _ _ w (same_rest (get w.seats s.0) s.0 up w)
+server_stays now s from h (j ∷ js) (m ∷ up) w = step_stays from now (FromClient s m) (with_rest (get w.seats s.0) s.0 up w) w (same_rest (get w.seats s.0) s.0 up w)
 
 client_stays : (now : ℕ) (s : Session) (from : Option Peer) (h : Heard) (joined : List Joined) (down : List Answer) (seat : Seat) (journal : List Item) (p : Packets) → length p.sent ≤ length (client_hears now s from h joined down seat journal p).packets.sent
 client_stays now s from h [] down seat journal p = stay _ p
@@ -46,10 +48,14 @@ client_stays now s from h (j ∷ js) (a ∷ down) seat journal p = stay _ p
 
 told_stays : (o : Option Seat) (now : ℕ) (s : Session) (p : Packet) (w : Served) → length w.packets.sent ≤ length (told_at o now s p w).world.packets.sent
 told_stays None now s p w = omega arith
-told_stays (Some seat) now s p w = client_stays now s _ _ _ seat.down _ w.journal w.packets
+told_stays (Some seat) now s p w =
+    let a = post_accepted seat.post the_server p in
+    client_stays now s (heard_in the_server p) a.heard a.heard.joined seat.down (record seat { post = a.links }) w.journal w.packets
 
 comes_stays : (now : ℕ) (from to : Peer) (p : Packet) (w : Served) → length w.packets.sent ≤ length (comes now from to p w).world.packets.sent
-comes_stays now (Client s) (Server k) p w = server_stays now s _ _ _ _ _
+comes_stays now (Client s) (Server k) p w =
+    let a = post_accepted w.post (Client s) p in
+    server_stays now s (heard_in (Client s) p) a.heard a.heard.joined (up_of (get w.seats s.0)) (record w { post = a.links })
 comes_stays now (Client t) (Client s) p w = told_stays (get w.seats s.0) now s p w
 comes_stays now (Server j) (Client s) p w = told_stays (get w.seats s.0) now s p w
 comes_stays now (Server j) (Server k) p w = omega arith

@@ -1,5 +1,6 @@
 pub mod Packets
 pub mod Direct
+pub mod Term
 pub mod Served
 pub mod World
 pub mod Order

@@ -1,5 +1,5 @@
 -- The world of the servers form: one server, its clients, and the links between them.
-use Rattle.std.specs.Prelude.{◌≡◌, ℕ, ◌+◌, ◌^◌, ◌==◌, Bool, true, false, ◌||◌, ◌≤◌, nat_le, List, [], ◌∷◌, ◌++◌, length, Option, Some, None, is_some, slice_get, if◌then◌else◌}
+use Rattle.std.specs.Prelude.{◌≡◌, ℕ, ◌+◌, ◌^◌, ◌==◌, Bool, true, false, ◌||◌, nat_le, List, [], ◌∷◌, ◌++◌, length, Option, Some, None, is_some, slice_get, if◌then◌else◌}
 use Rattle.std.specs.FinMap.{FinMap, get, insert, empty}
 use Rattle.std.specs.Ordering.{nat_cmp}
 use Rattle.fs_ident.specs.declared.actor.Peer.{Peer}
@@ -21,7 +21,6 @@ use Rattle.fs_msg.specs.declared.client_note.ClientNote.{ClientNote}
 use Rattle.fs_msg.specs.declared.core_error.Counter.{Counter}
 use Rattle.fs_msg.specs.declared.core_error.Counter.TheVariants.{Entries, Leases, Segments}
 use Rattle.fs_msg.specs.declared.item.Item.{Item}
-use Rattle.fs_msg.specs.declared.limits.TheConstants.{LONGEST}
 use Rattle.fs_msg.specs.declared.msg.Msg.{Msg}
 use Rattle.fs_msg.specs.declared.msg.Msg.TheVariants as msg
 use Rattle.fs_msg.specs.declared.note.Note.{Note}
@@ -49,10 +48,6 @@ use Rattle.fs_world.specs.declared.served.Served.{Served}
 -- it to the server and from the server to it, in order
 abbrev pub Seats : Type 0
 Seats = FinMap nat_cmp Seat
-
--- how long a lease lasts, in milliseconds
-abbrev pub IsTerm : ℕ → Type 0
-IsTerm term = (1 ≤ term) × (term ≤ LONGEST)
 
 -- there is one server
 abbrev pub the_server : Peer

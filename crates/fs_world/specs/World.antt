@@ -22,7 +22,8 @@ use Rattle.fs_window.specs.declared.sent.Sent.{Sent}
 use Rattle.fs_world.specs.Direct as direct
 use Rattle.fs_world.specs.Direct.{first_direct}
 use Rattle.fs_world.specs.Served as served
-use Rattle.fs_world.specs.Served.{IsTerm, first_served}
+use Rattle.fs_world.specs.Served.{first_served}
+use Rattle.fs_world.specs.Term.{IsTerm}
 use Rattle.fs_world.specs.declared.form.Form.{Form}
 use Rattle.fs_world.specs.declared.form.Form.TheVariants.{Direct, Served}
 

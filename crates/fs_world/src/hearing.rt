@@ -1,5 +1,5 @@
 //! A packet that comes to the server.
-ghost use Rattle.std.specs.Prelude.{◌≡◌, ◌≤◌, ◌⊎◌, ◌∷◌, List as Seq, Some, None, IfOk, OnOk, OnErr, IsErrOf};
+ghost use Rattle.std.specs.Prelude.{◌≡◌, ◌≤◌, ◌⊎◌, ◌∷◌, List as Seq, Some, None, IfOk, OnOk, OnErr, IsErrOf, false};
 ghost use Rattle.std.specs.FinMap as map;
 ghost use Rattle.fs_ident.specs.declared.actor.Peer.TheVariants.{Client as OfSession};
 ghost use Rattle.fs_ident.specs.declared.limits.TheConstants.{LATEST};

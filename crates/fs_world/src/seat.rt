@@ -26,10 +26,10 @@ pub(crate) struct Seat {
 
 impl Seat {
     /// What stands at a session that begins.
-    pub(crate) fn new(alloc: Global, s: Session, term: Term) -> Result<Seat, Memory>
+    pub(crate) fn new(alloc: Global, s: Session, term: &Term) -> Result<Seat, Memory>
         requires first { 1 ≤ s.0 }
         requires few { s.0 ≤ SESSIONS }
-        ensures { IfOk result (λ seat. seat ≡ first_seat term s) }
+        ensures { IfOk result (λ seat. seat ≡ first_seat term.now s) }
     {
         let post = Post::new(alloc, Peer::Client(s), LINK_WIDTH)?;
         Ok(Seat {

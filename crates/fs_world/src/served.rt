@@ -1,5 +1,5 @@
 //! The world of a schedule of the servers form.
-ghost use Rattle.std.specs.Prelude.{◌≡◌, ◌≤◌, ◌⊎◌, true, Some, None, IfOk, OnOk, OnErr, IsErrOf};
+ghost use Rattle.std.specs.Prelude.{◌≡◌, ◌≤◌, ◌⊎◌, true, Some, None, IfOk, OnOk, OnErr, IsErrOf, false};
 ghost use Rattle.std.specs.FinMap as map;
 ghost use Rattle.fs_ident.specs.declared.limits.TheConstants.{LATEST, SESSIONS};
 ghost use Rattle.fs_msg.specs.declared.core_error.Counter.{Counter as TheCounter};
@@ -104,7 +104,7 @@ impl Served {
             return outcome(alloc, None, Note::Nothing);
         }
         let told = outcome(alloc, Some(Peer::Client(s)), Note::Joined)?;
-        self.seats.add(s, Seat::new(alloc, s, self.term)?)?;
+        self.seats.add(s, Seat::new(alloc, s, &self.term)?)?;
         Ok(told)
     }
 

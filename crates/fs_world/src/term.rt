@@ -5,14 +5,14 @@ ghost use Rattle.fs_msg.specs.declared.limits.TheConstants.{LONGEST};
 use std::marker::Model;
 
 /// How long a lease lasts, in milliseconds, from 1 to `LONGEST`.
-#[derive(Clone, Copy, Debug)]
+#[derive(Debug, Drop)]
 pub(crate) struct Term {
     millis: u64,
 }
 
 impl Model for Term {
     ghost use Rattle.std.specs.Prelude.{ℕ};
-    ghost use Rattle.fs_world.specs.Served.{IsTerm};
+    ghost use Rattle.fs_world.specs.Term.{IsTerm};
 
     ghost Value = { ℕ };
 
@@ -30,8 +30,8 @@ impl Term {
         Term { millis }
     }
 
-    pub(crate) fn millis(self) -> u64
-        ensures same { result ≡ self }
+    pub(crate) fn millis(&self) -> u64
+        ensures same { result ≡ self.now }
         ensures some { 1 ≤ result }
         ensures most { result ≤ LONGEST }
     {
