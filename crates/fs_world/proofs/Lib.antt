@@ -4,6 +4,8 @@ pub mod Numbered
 pub mod Replies
 pub mod Kept
 pub mod Bounded
+pub mod OpenHandles
+pub mod Readable
 pub mod LinkedRows
 pub mod LinkedPair
 pub mod LinkedSeat

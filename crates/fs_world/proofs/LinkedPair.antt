@@ -1,5 +1,5 @@
 -- The links of two actors with each other: what is pushed, what goes out, and what comes.
-use Rattle.std.proofs.Common.{◌≡◌, ℕ, ◌+◌, ◌<◌, ◌≤◌, ◌^◌, Bool, true, false, List, [], ◌∷◌, ◌++◌, ◌⊎◌, length, map, Option, Some, None, refl, sym, ap, subst, cond, ◌∙◌, inl, inr, arith}
+use Rattle.std.proofs.Common.{◌≡◌, ℕ, ◌+◌, ◌<◌, ◌≤◌, ◌^◌, Bool, true, false, List, [], ◌∷◌, ◌++◌, length, map, Option, Some, None, refl, sym, ap, subst, cond, ◌∙◌, arith}
 use Rattle.std.specs.List.{AllByRecursion}
 use Rattle.std.specs.Prelude.{Result, Ok, Err, ◌==◌}
 use Rattle.std.proofs.lemmas.List.{map-append}
@@ -16,7 +16,7 @@ use Rattle.fs_window.specs.declared.sent.Sent.{Sent}
 use Rattle.fs_window.specs.LinkEnd.{due_of, given_by, pushed_count}
 use Rattle.fs_window.specs.OnTheWay.{Carries, HasHeard, IsPacketOf}
 use Rattle.fs_window.specs.Packet.{packet_text}
-use Rattle.fs_window.specs.Post.{given_on, heard_on, link_accepted, link_pushed, link_sent, new_link}
+use Rattle.fs_window.specs.Post.{heard_on, link_accepted, link_pushed, link_sent, new_link}
 use Rattle.fs_window.specs.Reading.{packet_at}
 use Rattle.fs_window.proofs.Carried.{carries_new, carries_pushed, carries_sent, carries_told, carries_back, carries_other_pushed, carries_other_sent, made_fits, packet_pushed, packet_sent, packet_told, packet_back, packet_other_pushed, packet_other_sent}
 use Rattle.fs_window.proofs.Lists.{some_is}

@@ -1,11 +1,12 @@
 -- Whose rows a server has, and to whom it sends: the sessions that asked.
-use Rattle.std.proofs.Common.{◌≡◌, ℕ, Bool, true, false, List, [], ◌∷◌, ◌++◌, ◌⊎◌, length, map, not, Option, Some, None, refl, sym, ap, subst, cond, inl, inr}
+use Rattle.std.proofs.Common.{◌≡◌, ℕ, Bool, true, false, List, [], ◌∷◌, ◌++◌, map, not, Option, Some, None, refl, sym, ap, subst, cond, ◌∙◌, inl, inr}
 use Rattle.std.specs.Prelude.{◌&&◌, is_some, nat_lt}
 use Rattle.std.specs.List.{AllByRecursion, filter, find, list_all}
 use Rattle.fs_ident.specs.Ident.{child}
 use Rattle.fs_ident.specs.In.{In}
 use Rattle.fs_ident.specs.declared.actor.LeaseNo.{LeaseNo}
 use Rattle.fs_ident.specs.declared.actor.Peer.{Peer}
+use Rattle.fs_ident.specs.declared.actor.Peer.TheVariants.{Client}
 use Rattle.fs_ident.specs.declared.actor.Session.{Session}
 use Rattle.fs_ident.proofs.Passing.{found}
 use Rattle.fs_ident.proofs.Standing.{In-filter, In-map, In-put}
@@ -29,8 +30,9 @@ use Rattle.fs_msg.specs.declared.end.End.TheVariants as end
 use Rattle.fs_msg.specs.declared.entry.Entry.{Entry}
 use Rattle.fs_msg.specs.declared.item.Item.{Item}
 use Rattle.fs_msg.specs.declared.msg.Msg.{Msg}
+use Rattle.fs_msg.specs.declared.msg.Msg.TheVariants as msg
 use Rattle.fs_record.specs.Effects.{tells_its_effects}
-use Rattle.fs_server.specs.Asks.{Asking, answered, ask_fresh, ask_from, ask_step, asked_in, fresh_for, fresh_in, fresh_of, grant_of, kind_for, recall_of, recalls_at, with_fresh, with_lease}
+use Rattle.fs_server.specs.Asks.{Asking, answered, ask_fresh, ask_from, ask_step, asked_in, fresh_for, fresh_in, fresh_of, grant_of, kind_for, recall_of, recalls_at, with_lease}
 use Rattle.fs_server.specs.Pairs.{numbers_in, released_rows, renewed_rows}
 use Rattle.fs_server.specs.Server.{Stepped, begun, end_of, strange}
 use Rattle.fs_server.specs.Ships.{first_gone, item_of, ship_from, ship_step, shipped, with_entry}
@@ -39,7 +41,6 @@ use Rattle.fs_server.specs.declared.event.ServerEvent.{ServerEvent}
 use Rattle.fs_server.specs.declared.event.ServerEvent.TheVariants.{FromClient, Turn, Recall}
 use Rattle.fs_server.specs.declared.state.Server.{Server}
 use Rattle.fs_field.specs.declared.used.Use.{Use}
-use Rattle.fs_world.specs.Linked.{AreAnswersTo}
 
 -- each row is of one of these sessions
 abbrev pub AreOf : (Session → Type 0) → List Row → Type 0
@@ -49,6 +50,14 @@ AreOf these rows = (row : Row) → In row rows → these row.session
 abbrev pub IsAsked : (Session → Type 0) → ServerEvent → Type 0
 IsAsked these (FromClient by m) = these by
 IsAsked these e = Unit {0}
+
+-- it is an answer to one of these sessions
+abbrev pub IsAnswerTo : (Session → Type 0) → Peer × Msg → Type 0
+IsAnswerTo these (Client s, msg.Answer a) = these s
+IsAnswerTo these x = ⊥
+
+abbrev pub AreAnswersTo : (Session → Type 0) → List (Peer × Msg) → Type 0
+AreAnswersTo these messages = AllByRecursion (λ (x : Peer × Msg). IsAnswerTo these x) messages
 
 -- ## Rows
 

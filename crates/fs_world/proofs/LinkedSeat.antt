@@ -1,13 +1,12 @@
 -- What stands at a session: what the client sends, what goes out, and what comes.
-use Rattle.std.proofs.Common.{◌≡◌, ℕ, zero, suc, ◌+◌, ◌<◌, ◌≤◌, ◌^◌, Bool, true, false, List, [], ◌∷◌, ◌++◌, ◌⊎◌, length, map, Option, Some, None, refl, sym, ap, subst, cond, ◌∙◌, inl, inr, arith}
+use Rattle.std.proofs.Common.{◌≡◌, ℕ, zero, suc, ◌+◌, Bool, true, false, List, [], ◌∷◌, ◌++◌, Option, Some, None, refl, sym, ap, subst, cond, ◌∙◌, arith}
 use Rattle.std.proofs.lemmas.Bool.{leb-false}
 use Rattle.std.proofs.lemmas.List.{map-append}
 use Rattle.fs_ident.specs.In.{In}
 use Rattle.fs_ident.specs.declared.actor.Peer.{Peer}
-use Rattle.fs_ident.specs.declared.actor.Peer.TheVariants.{Server, Client}
+use Rattle.fs_ident.specs.declared.actor.Peer.TheVariants.{Client}
 use Rattle.fs_ident.specs.declared.actor.Session.{Session}
 use Rattle.fs_ident.proofs.Booleans.{equal_is}
-use Rattle.fs_frag.specs.Cut.{cut_of}
 use Rattle.fs_window.specs.declared.link.Link.{Link}
 use Rattle.fs_window.specs.declared.packet.Packet.{Packet}
 use Rattle.fs_window.specs.declared.sent.Sent.{Sent}
@@ -18,7 +17,6 @@ use Rattle.fs_window.specs.Post.{AreLinks, Links, WasSent, heard_on, is_peer, li
 use Rattle.fs_window.proofs.Actors.{link_of_actor, links_of_actors, sent_to_actor}
 use Rattle.fs_window.proofs.ByActor.{links_changed, links_put}
 use Rattle.fs_window.proofs.PeerOrder.{peer_same}
-use Rattle.fs_msg.specs.Ranges.{FitsMessage}
 use Rattle.fs_msg.specs.Spelling.{message}
 use Rattle.fs_msg.specs.declared.answer.Answer.{Answer}
 use Rattle.fs_msg.specs.declared.client_msg.ClientMsg.{ClientMsg}
@@ -29,10 +27,11 @@ use Rattle.fs_client.specs.declared.change.Change.TheVariants as change
 use Rattle.fs_client.specs.declared.plan.Ready.{Ready}
 use Rattle.fs_client.specs.declared.state.Client.{Client as State}
 use Rattle.fs_client.specs.Client.{admitted_all, admitted_one, begun, changed, committed}
-use Rattle.fs_world.specs.Linked.{AreSentOver, FitsUp, IsOfServer, IsPair, IsReadableUp, IsSeated, from_session, to_session}
+use Rattle.fs_world.specs.Linked.{FitsUp, IsPair, IsSeated, from_session, to_session}
 use Rattle.fs_world.specs.Readable.{LogReadable}
 use Rattle.fs_world.specs.Served.{first_seat, is_full_up, link_width, post_after, the_server, up_after}
 use Rattle.fs_world.specs.declared.seat.Seat.{Seat}
+use Rattle.fs_world.proofs.Readable.{SendsReadable}
 use Rattle.fs_world.proofs.LinkedPair.{GoesElsewhere, IsDue, pair_accepted, pair_due, pair_new, pair_pushed, rest_mapped, rest_of}
 
 -- a session that has just joined
@@ -87,7 +86,7 @@ pub session_kept : (r : Ready) (c : State) → (committed r c).session ≡ c.ses
 session_kept r c = changed_kept r.change (begun r.now c)
 
 -- what the client sends goes onto the link, and is on its way
-pub seat_sends : (there : Link) (packets : List Sent) (s : Session) (seat : Seat) (r : Ready) (send : Option (ℕ × ClientMsg)) → LogReadable (committed r seat.client) → IsReadableUp send → FitsUp send → is_full_up send seat.post ≡ false
+pub seat_sends : (there : Link) (packets : List Sent) (s : Session) (seat : Seat) (r : Ready) (send : Option (ℕ × ClientMsg)) → LogReadable (committed r seat.client) → SendsReadable send → FitsUp send → is_full_up send seat.post ≡ false
     → IsSeated there packets s seat → IsSeated there packets s (record { client = committed r seat.client; post = post_after send seat.post; up = up_after send seat.up; down = seat.down })
 seat_sends there packets s seat r None log readable fits room h = record {
   me = h.me;
@@ -108,6 +107,11 @@ seat_sends there packets s seat r (Some m) log readable fits room h =
     (subst (λ (ms : List Msg). IsPair (Client s) the_server (link_pushed here (message (msg.Client m.1))) there ms (to_session seat.down) packets) (sym way) pushed) h
 
 -- ## What is due goes out
+
+-- whoever is heard at a session is the server
+abbrev pub IsOfServer : Option Peer → Type 0
+IsOfServer None = Unit {0}
+IsOfServer (Some who) = who ≡ the_server
 
 -- nothing is due on a new link where nothing was heard
 none_due : (turn heard : Bool) → heard ≡ false → due_of (new_link link_width).window turn heard ≡ []
@@ -156,8 +160,9 @@ is_due s turn heard x to h i e = due_on s turn heard x to e (sent_to_actor s tur
 pub links_due : (s : Links) → AreLinks s → AreLinks (links_sent s)
 links_due s h = links_changed s.me s.width s.ends (links_sent s).ends link_sent h refl
 
-other_way : (s : Session) → Client s ≡ the_server → ⊥
-other_way s e = cc
+-- a session is not the server
+pub not_server : (s : Session) → Client s ≡ the_server → ⊥
+not_server s e = cc
 
 pub seat_due : (there : Link) (packets : List Sent) (s : Session) (seat : Seat) (turn : Bool) (heard : Option Peer) → IsOfServer heard → IsSeated there packets s seat
     → IsSeated there (packets ++ (post_due seat.post turn heard).sent) s (record seat { post = (post_due seat.post turn heard).links })
@@ -172,7 +177,7 @@ seat_due there packets s seat turn heard of h =
       alone = λ other e. links_of_actors seat.post other ∙ new_sent (link_with seat.post other) (h.alone other e);
       pair = subst (λ (l : Link). IsPair (Client s) the_server l there (from_session seat.up) (to_session seat.down) (packets ++ more)) (sym (links_of_actors seat.post the_server))
           (pair_due (Client s) the_server here there (from_session seat.up) (to_session seat.down) packets more (λ x i e f. is_due seat.post turn heard x the_server h.links i f)
-              (λ x i e f. other_way s (sym (goes_up there packets s seat turn heard x of h i).0 ∙ e)) h.pair);
+          (λ x i e f. not_server s (sym (goes_up there packets s seat turn heard x of h i).0 ∙ e)) h.pair);
       log = h.log;
     }
 
@@ -185,4 +190,4 @@ seat_hears there packets s seat p q h =
     let here = link_with seat.post the_server in
     seat_with there packets s seat (link_accepted here p) seat.client seat.up (rest_of (heard_on here p).joined seat.down) h.session h.log
     (subst (λ (ms : List Msg). IsPair (Client s) the_server (link_accepted here p) there (from_session seat.up) ms packets) (sym (rest_mapped (λ (a : Answer). msg.Answer a) (heard_on here p).joined seat.down))
-        (pair_accepted (Client s) the_server here there (from_session seat.up) (to_session seat.down) packets p q h.pair)) h
+    (pair_accepted (Client s) the_server here there (from_session seat.up) (to_session seat.down) packets p q h.pair)) h

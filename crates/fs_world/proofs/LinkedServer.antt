@@ -1,6 +1,6 @@
 -- What happens at the server keeps what holds of the links.
-use Rattle.std.proofs.Common.{◌≡◌, ℕ, ◌+◌, ◌<◌, ◌^◌, Bool, true, false, List, [], ◌∷◌, ◌++◌, length, Option, Some, None, refl, sym, ap, subst, cond, ◌∙◌, arith}
-use Rattle.std.specs.Prelude.{◌||◌, is_some}
+use Rattle.std.proofs.Common.{◌≡◌, ℕ, ◌+◌, Bool, true, false, List, [], ◌∷◌, ◌++◌, Option, Some, None, sym, ap, subst, cond, ◌∙◌, arith}
+use Rattle.std.specs.Prelude.{is_some}
 use Rattle.std.specs.FinMap.{get, insert}
 use Rattle.std.proofs.lemmas.Bool.{leb-false}
 use Rattle.std.proofs.lemmas.List.{map-append}
@@ -29,14 +29,18 @@ use Rattle.fs_msg.specs.declared.msg.Msg.TheVariants as msg
 use Rattle.fs_msg.specs.declared.note.Note.{Note}
 use Rattle.fs_msg.specs.declared.note.Note.TheVariants as note
 use Rattle.fs_server.specs.Server.{Stepped as ServerStepped}
+use Rattle.fs_server.specs.Step.{is_spent, step}
+use Rattle.fs_server.specs.declared.event.ServerEvent.{ServerEvent}
 use Rattle.fs_server.specs.declared.event.ServerEvent.TheVariants.{FromClient}
-use Rattle.fs_world.specs.Linked.{AreAnswersTo, AreOfJoined, AreReadableDown, AreTied, FitsDown, GoesBetween, HasJoined, IsAnswerTo, IsFirstOf, IsLinked, IsOfJoined, IsPair, IsSeated, IsWritten, from_session, to_session}
+use Rattle.fs_world.specs.Linked.{AreOfJoined, AreTied, FitsDown, GoesBetween, HasJoined, IsFirstOf, IsLinked, IsPair, IsSeated, IsWritten, from_session, to_session}
 use Rattle.fs_world.specs.Readable.{HandlesOpen}
 use Rattle.fs_world.specs.Served.{Seats, first_spent, heard_in, is_full_down, is_full_for, quiet_note, server_does, server_goes, server_hears, server_step, server_told, the_server, up_of, with_down, with_down_at, with_downs, with_pushed, with_rest}
 use Rattle.fs_world.specs.declared.seat.Seat.{Seat}
 use Rattle.fs_world.specs.declared.served.Served.{Served}
+use Rattle.fs_world.proofs.Readable.{AllReadable}
 use Rattle.fs_world.proofs.LinkedPair.{first_joined, pair_accepted, pair_pushed, read_of, rest_mapped, rest_of, turned}
-use Rattle.fs_world.proofs.LinkedTies.{joined_still, put_same, rows_still, tied_due, tied_link}
+use Rattle.fs_world.proofs.LinkedRows.{AreAnswersTo, IsAnswerTo, IsAsked, step_of}
+use Rattle.fs_world.proofs.LinkedTies.{IsOfJoined, joined_now, joined_still, put_same, rows_still, tied_due, tied_link}
 
 -- what is on its way changes, at the server's end
 seat_way : (there now : Link) (packets : List Sent) (s : Session) (seat : Seat) (up : List ClientMsg) (down : List Answer) → IsPair the_server (Client s) now (link_with seat.post the_server) (to_session down) (from_session up) packets → IsSeated there packets s seat → IsSeated now packets s (record seat { up = up; down = down })
@@ -74,7 +78,7 @@ tied_answer s a post seats packets joined readable written room h =
     let seat = joined.0 in
     subst (λ (o : Option Seat). AreTied (post_pushed post (Client s) (message (msg.Answer a))) (with_down_at o s.0 a seats) packets) (sym joined.1)
     (tied_link post seats packets s (link_pushed (link_with post (Client s)) (message (msg.Answer a))) (record seat { down = seat.down ++ a ∷ [] })
-        (seat_answered post packets s seat a readable written room (h.seated s seat joined.1)) h)
+    (seat_answered post packets s seat a readable written room (h.seated s seat joined.1)) h)
 
 -- whoever has joined stays
 joined_down : (x : Peer × Msg) (seats : Seats) (t : Session) → HasJoined seats t → HasJoined (with_down x seats) t
@@ -106,7 +110,7 @@ tied_down (Client s, msg.Client m) post seats packets joined readable written ro
 tied_down (Server k, m) post seats packets joined readable written room h = absurd joined
 
 -- one after another
-tied_downs : (xs : List (Peer × Msg)) (post : Links) (seats : Seats) (packets : List Sent) → AreAnswersTo (HasJoined seats) xs → AreReadableDown xs → FitsDown xs → is_full_down xs post ≡ false → AreTied post seats packets → AreTied (with_pushed xs post) (with_downs xs seats) packets
+tied_downs : (xs : List (Peer × Msg)) (post : Links) (seats : Seats) (packets : List Sent) → AreAnswersTo (HasJoined seats) xs → AllReadable xs → FitsDown xs → is_full_down xs post ≡ false → AreTied post seats packets → AreTied (with_pushed xs post) (with_downs xs seats) packets
 tied_downs [] post seats packets answers readable fits room h = h
 tied_downs (x ∷ xs) post seats packets answers readable fits room h =
     let rooms = neither (is_full_for post x.0 (message x.1)) (is_full_down xs (post_pushed post x.0 (message x.1))) room in
@@ -129,7 +133,7 @@ heard_still xs seats None of = tt
 heard_still xs seats (Some (Client s)) of = joined_downs xs seats s of
 heard_still xs seats (Some (Server k)) of = of
 
-pub server_linked : (w : Served) (turn : Bool) (heard : Option Peer) (spent : Bool) (x : ServerStepped) → IsOfJoined w.seats heard → HandlesOpen x.server.records → AreOfJoined w.seats x.server.rows → AreAnswersTo (HasJoined w.seats) x.out.send → AreReadableDown x.out.send → FitsDown x.out.send
+pub server_linked : (w : Served) (turn : Bool) (heard : Option Peer) (spent : Bool) (x : ServerStepped) → IsOfJoined w.seats heard → HandlesOpen x.server.records → AreOfJoined w.seats x.server.rows → AreAnswersTo (HasJoined w.seats) x.out.send → AllReadable x.out.send → FitsDown x.out.send
     → is_full_down x.out.send w.post ≡ false → IsLinked w → IsLinked (server_does turn heard spent x w).world
 server_linked w turn heard spent x of handles rows answers readable fits room h =
     server_sends (record w { server = x.server; post = with_pushed x.out.send w.post; seats = with_downs x.out.send w.seats; journal = w.journal ++ x.out.admitted })
@@ -165,9 +169,9 @@ first_of w s p c h =
     first_joined the_server (Client s) there (link_with seat.post the_server) (to_session seat.down) (from_session seat.up) w.packets.sent p c.of (pair_at there w.packets.sent s seat (h.ties.seated s seat c.is))
 
 -- what it completes is the first message on its way
-pub first_message : (w : Served) (s : Session) (x : Sent) (p : Packet) → In x w.packets.sent → x.from ≡ Client s → x.to ≡ the_server → packet_at x.bytes ≡ Some p
+pub first_at_server : (w : Served) (s : Session) (x : Sent) (p : Packet) → In x w.packets.sent → x.from ≡ Client s → x.to ≡ the_server → packet_at x.bytes ≡ Some p
     → IsLinked w → IsFirstOf (post_accepted w.post (Client s) p).heard.joined (from_session (up_of (get w.seats s.0)))
-first_message w s x p i from to is h =
+first_at_server w s x p i from to is h =
     let c = comes_up w s x p i from to is h in
     subst (λ (o : Option Seat). IsFirstOf (post_accepted w.post (Client s) p).heard.joined (from_session (up_of o))) (sym c.is) (first_of w s p c h)
 
@@ -182,22 +186,22 @@ tied_taken w s p c h =
     pair_accepted the_server (Client s) there (link_with seat.post the_server) (to_session seat.down) (from_session seat.up) w.packets.sent p c.of (pair_at there w.packets.sent s seat k) in
     tied_link w.post w.seats w.packets.sent s (link_accepted there p) (record seat { up = rest_of joined seat.up })
     (seat_way there (link_accepted there p) w.packets.sent s seat (rest_of joined seat.up) seat.down
-        (subst (λ (ms : List Msg). IsPair the_server (Client s) (link_accepted there p) (link_with seat.post the_server) (to_session seat.down) ms w.packets.sent) (sym (rest_mapped (λ (m : ClientMsg). msg.Client m) joined seat.up)) pair) k) h.ties
+    (subst (λ (ms : List Msg). IsPair the_server (Client s) (link_accepted there p) (link_with seat.post the_server) (to_session seat.down) ms w.packets.sent) (sym (rest_mapped (λ (m : ClientMsg). msg.Client m) joined seat.up)) pair) k) h.ties
 
 -- a world whose links are these, and whose server is as it was
 relinked : (w : Served) (post : Links) (s : Session) (seat : Seat) → AreTied post (insert w.seats s.0 seat) w.packets.sent → IsLinked w → IsLinked (record w { post = post; seats = insert w.seats s.0 seat })
 relinked w post s seat t h = record { ties = t; handles = h.handles; rows = rows_still w.seats s seat w.server.rows h.rows }
 
-session_heard : (seats : Seats) (s : Session) (p : Packet) → HasJoined seats s → IsOfJoined seats (heard_in (Client s) p)
+pub session_heard : (seats : Seats) (s : Session) (p : Packet) → HasJoined seats s → IsOfJoined seats (heard_in (Client s) p)
 session_heard seats s p joined = either (is_some p.body)
   where
     either : (b : Bool) → IsOfJoined seats (cond b (Some (Client s)) None)
     either true = joined
     either false = tt
 
--- what is to be shown of the server's step where a message came, on the world without it
+-- what is to be shown where a message came: the server's step on it keeps what holds of the links
 abbrev pub IsStepped : ℕ → Session → Option Peer → List Joined → List ClientMsg → Served → Type 0
-IsStepped now s heard (j ∷ js) (m ∷ up) w = IsLinked (with_rest (get w.seats s.0) s.0 up w) → FitsMessage (msg.Client m) → IsLinked (server_step false heard now (FromClient s m) (with_rest (get w.seats s.0) s.0 up w)).world
+IsStepped now s heard (j ∷ js) (m ∷ up) w = (seats : Seats) → HasJoined seats s → FitsMessage (msg.Client m) → IsLinked (record w { seats = seats }) → IsLinked (server_step false heard now (FromClient s m) (record w { seats = seats })).world
 IsStepped now s heard joined up w = Unit {0}
 
 hears : (w : Served) (s : Session) (now : ℕ) (heard : Option Peer) (count : Heard) (post : Links) (joined : List Joined) (seat : Seat) (up : List ClientMsg) → get w.seats s.0 ≡ Some seat → seat.up ≡ up → IsOfJoined w.seats heard → IsFirstOf joined (from_session up)
@@ -207,7 +211,8 @@ hears w s now heard count post [] seat up is e of f t stepped h =
     server_sends (record w { post = post }) false heard (quiet_note count) None of (record { ties = same; handles = h.handles; rows = h.rows })
 hears w s now heard count post (j ∷ js) seat [] is e of f t stepped h = absurd f
 hears w s now heard count post (j ∷ js) seat (m ∷ up) is e of f t stepped h =
-    stepped (subst (λ (o : Option Seat). IsLinked (with_rest o s.0 up (record w { post = post }))) (sym is) (relinked w post s (record seat { up = up }) t h)) f.1
+    subst (λ (o : Option Seat). IsLinked (server_step false heard now (FromClient s m) (with_rest o s.0 up (record w { post = post }))).world) (sym is)
+    (stepped (insert w.seats s.0 (record seat { up = up })) (joined_now w.seats s (record seat { up = up })) f.1 (relinked w post s (record seat { up = up }) t h))
 
 pub tell_server_linked : (w : Served) (s : Session) (now : ℕ) (x : Sent) (p : Packet) → In x w.packets.sent → x.from ≡ Client s → x.to ≡ the_server → packet_at x.bytes ≡ Some p
     → IsStepped now s (heard_in (Client s) p) (post_accepted w.post (Client s) p).heard.joined (up_of (get w.seats s.0)) (record w { post = (post_accepted w.post (Client s) p).links })
@@ -217,5 +222,13 @@ tell_server_linked w s now x p i from to is stepped h =
     let a = post_accepted w.post (Client s) p in
     let up : up_of (get w.seats s.0) ≡ c.seat.up = ap (λ (o : Option Seat). up_of o) c.is in
     let taken = tied_taken w s p c h in
-    hears w s now (heard_in (Client s) p) a.heard a.links a.heard.joined c.seat (up_of (get w.seats s.0)) c.is (sym up) (session_heard w.seats s p (c.seat, c.is)) (first_message w s x p i from to is h)
+    hears w s now (heard_in (Client s) p) a.heard a.links a.heard.joined c.seat (up_of (get w.seats s.0)) c.is (sym up) (session_heard w.seats s p (c.seat, c.is)) (first_at_server w s x p i from to is h)
     (subst (λ (ms : List ClientMsg). AreTied a.links (insert w.seats s.0 (record c.seat { up = rest_of a.heard.joined ms })) w.packets.sent) (sym up) taken) stepped h
+
+-- ## An event of the server
+
+pub step_linked : (w : Served) (turn : Bool) (heard : Option Peer) (now : ℕ) (e : ServerEvent) → IsOfJoined w.seats heard → IsAsked (HasJoined w.seats) e → HandlesOpen (step w.server now e).server.records → AllReadable (step w.server now e).out.send → FitsDown (step w.server now e).out.send
+    → is_full_down (step w.server now e).out.send w.post ≡ false → IsLinked w → IsLinked (server_step turn heard now e w).world
+step_linked w turn heard now e of asked handles readable fits room h =
+    let k = step_of (HasJoined w.seats) w.server now e asked h.rows in
+    server_linked w turn heard (is_spent w.server now e) (step w.server now e) of handles k.rows k.sends readable fits room h

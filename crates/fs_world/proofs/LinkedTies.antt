@@ -1,10 +1,8 @@
 -- The links between the server and all sessions: one session's seat changes, or the server's link with it, or the server sends.
-use Rattle.std.proofs.Common.{◌≡◌, ℕ, ◌+◌, ◌<◌, ◌^◌, Bool, true, false, List, [], ◌∷◌, ◌++◌, ◌⊎◌, length, Option, Some, None, refl, sym, ap, subst, cond, ◌∙◌, append-nil, inl, inr, arith}
+use Rattle.std.proofs.Common.{◌≡◌, ℕ, ◌+◌, Bool, true, false, List, [], ◌++◌, Option, Some, None, refl, sym, ap, subst, cond, ◌∙◌, append-nil, arith}
 use Rattle.std.specs.Cmp.{nat_cmp_total}
 use Rattle.std.specs.FinMap.{get, insert, get-insert, get-empty, empty, nat_cmp-IsAntisymmetric, same_map}
 use Rattle.std.specs.Ordering.{nat_cmp, eq_by_cmp}
-use Rattle.std.proofs.lemmas.Bool.{leb-false}
-use Rattle.std.proofs.lemmas.List.{map-append}
 use Rattle.fs_ident.specs.In.{In}
 use Rattle.fs_ident.specs.declared.actor.Peer.{Peer}
 use Rattle.fs_ident.specs.declared.actor.Peer.TheVariants.{Server, Client}
@@ -12,20 +10,16 @@ use Rattle.fs_ident.specs.declared.actor.Session.{Session}
 use Rattle.fs_ident.proofs.Booleans.{equal_is}
 use Rattle.fs_field.specs.declared.row.Row.{Row}
 use Rattle.fs_window.specs.declared.link.Link.{Link}
-use Rattle.fs_window.specs.declared.packet.Packet.{Packet}
 use Rattle.fs_window.specs.declared.sent.Sent.{Sent}
-use Rattle.fs_window.specs.OnTheWay.{IsPacketOf}
-use Rattle.fs_window.specs.Peers.{peer_cmp, same_peer}
-use Rattle.fs_window.specs.Post.{AreLinks, Links, WasSent, is_peer, link_sent, link_with, links_sent, new_link, no_links, post_due, with_link}
+use Rattle.fs_window.specs.Post.{Links, WasSent, is_peer, link_sent, link_with, new_link, no_links, post_due, with_link}
 use Rattle.fs_window.proofs.Actors.{link_of_actor, links_of_actors, sent_to_actor, tied_self}
 use Rattle.fs_window.proofs.ByActor.{links_put}
 use Rattle.fs_window.proofs.OneStep.{in_both}
-use Rattle.fs_msg.specs.declared.msg.Msg.{Msg}
-use Rattle.fs_world.specs.Linked.{AreTied, GoesBetween, HasJoined, IsOfJoined, IsPair, IsSeated, from_session, to_session}
+use Rattle.fs_world.specs.Linked.{AreTied, GoesBetween, HasJoined, IsPair, IsSeated, from_session, to_session}
 use Rattle.fs_world.specs.Served.{Seats, first_seat, link_width, the_server}
 use Rattle.fs_world.specs.declared.seat.Seat.{Seat}
-use Rattle.fs_world.proofs.LinkedPair.{GoesElsewhere, pair_due, pair_elsewhere, turned}
-use Rattle.fs_world.proofs.LinkedSeat.{goes_up, is_due, links_due, new_sent, not_due, peer_is, seat_due, seat_new}
+use Rattle.fs_world.proofs.LinkedPair.{pair_due, pair_elsewhere, turned}
+use Rattle.fs_world.proofs.LinkedSeat.{is_due, links_due, new_sent, not_due, not_server, seat_new}
 
 -- ## Sessions
 
@@ -109,10 +103,6 @@ tied_first = record {
 
 -- ## A session's seat changes, and it sends
 
--- the two are different actors, each way
-not_server : (s : Session) → Client s ≡ the_server → ⊥
-not_server s e = absurd (cc)
-
 client_is : (s t : Session) → Client s ≡ Client t → eq_by_cmp nat_cmp t.0 s.0 ≡ true
 client_is s t e = let q : s ≡ t = cc in ap (λ (x : Session). eq_by_cmp nat_cmp t.0 x.0) q ∙ tied_self (Client t)
 
@@ -182,6 +172,12 @@ tied_link post seats packets s l seat here h = record {
 
 -- ## The server sends
 
+-- whoever is heard at the server is a session that has joined
+abbrev pub IsOfJoined : Seats → Option Peer → Type 0
+IsOfJoined seats None = Unit {0}
+IsOfJoined seats (Some (Client s)) = HasJoined seats s
+IsOfJoined seats (Some (Server k)) = ⊥
+
 -- the packet goes from the server to a session that has joined
 record GoesDown (seats : Seats) (x : Sent) : Type 0 where
   from : x.from ≡ the_server
@@ -242,7 +238,7 @@ tied_due post seats packets turn heard of h =
         let more = (post_due post turn heard).sent in
         let pair : IsPair the_server (Client t) (link_sent there) here (to_session seat.down) (from_session seat.up) (packets ++ more) =
         pair_due the_server (Client t) there here (to_session seat.down) (from_session seat.up) packets more (λ x i e f. is_due post turn heard x (Client t) h.links i f)
-            (λ x i e f. not_server t (sym e ∙ (goes_down post seats packets turn heard x of h i).from)) (turned (Client t) the_server here there (from_session seat.up) (to_session seat.down) packets k.pair) in
+        (λ x i e f. not_server t (sym e ∙ (goes_down post seats packets turn heard x of h i).from)) (turned (Client t) the_server here there (from_session seat.up) (to_session seat.down) packets k.pair) in
         subst (λ (l : Link). IsSeated l (packets ++ more) t seat) (sym (links_of_actors post (Client t)))
         (record {
           me = k.me;

@@ -1,6 +1,6 @@
 -- What holds of the links between a server and its clients, whatever was lost, repeated or reordered: they carry the very
 -- messages that are on their way, and these can be read.
-use Rattle.std.specs.Prelude.{◌≡◌, ℕ, ◌<◌, ◌^◌, Bool, true, false, List, [], ◌∷◌, map, length, Option, Some, None}
+use Rattle.std.specs.Prelude.{◌≡◌, ℕ, ◌<◌, ◌^◌, true, false, List, [], ◌∷◌, map, length, Option, Some, None}
 use Rattle.std.specs.List.{AllByRecursion}
 use Rattle.std.specs.FinMap.{get}
 use Rattle.fs_ident.specs.In.{In}
@@ -56,9 +56,9 @@ abbrev pub AreSentOver : Peer → Peer → Link → Link → List Sent → Type 
 AreSentOver a b from to packets = (x : Sent) → In x packets → x.from ≡ a → x.to ≡ b → IsSentOver from to x.bytes
 
 -- the links of two actors with each other: these messages are on their way from the first to the second, and these back
-pub record IsPair (a b : Peer) (here there : Link) (out back : List Msg) (packets : List Sent) : Type 0 where
-  pub out : IsWay here there out
-  pub back : IsWay there here back
+pub record IsPair (a b : Peer) (here there : Link) (to_there to_here : List Msg) (packets : List Sent) : Type 0 where
+  pub out : IsWay here there to_there
+  pub back : IsWay there here to_here
   pub going : AreSentOver a b here there packets
   pub coming : AreSentOver b a there here packets
 
@@ -113,17 +113,6 @@ IsFirstOf [] messages = Unit {0}
 IsFirstOf (j ∷ js) [] = ⊥
 IsFirstOf (j ∷ js) (m ∷ ms) = (j ≡ Whole (message m)) × FitsMessage m
 
--- whoever is heard at a session is the server
-abbrev pub IsOfServer : Option Peer → Type 0
-IsOfServer None = Unit {0}
-IsOfServer (Some who) = who ≡ the_server
-
--- whoever is heard at the server is a session that has joined
-abbrev pub IsOfJoined : Seats → Option Peer → Type 0
-IsOfJoined seats None = Unit {0}
-IsOfJoined seats (Some (Client s)) = HasJoined seats s
-IsOfJoined seats (Some (Server k)) = ⊥
-
 -- ## What a core sends
 
 -- a message that was written down: there was room for its bytes, and it is read again where they can be
@@ -137,22 +126,6 @@ FitsUp (Some m) = IsWritten (msg.Client m.1)
 
 abbrev pub FitsDown : List (Peer × Msg) → Type 0
 FitsDown messages = AllByRecursion (λ (x : Peer × Msg). IsWritten x.1) messages
-
--- it can be read
-abbrev pub IsReadableUp : Option (ℕ × ClientMsg) → Type 0
-IsReadableUp None = Unit {0}
-IsReadableUp (Some m) = is_readable (msg.Client m.1) ≡ true
-
-abbrev pub AreReadableDown : List (Peer × Msg) → Type 0
-AreReadableDown messages = AllByRecursion (λ (x : Peer × Msg). is_readable x.1 ≡ true) messages
-
--- it is an answer to one of these sessions
-abbrev pub IsAnswerTo : (Session → Type 0) → Peer × Msg → Type 0
-IsAnswerTo these (Client s, msg.Answer a) = these s
-IsAnswerTo these x = ⊥
-
-abbrev pub AreAnswersTo : (Session → Type 0) → List (Peer × Msg) → Type 0
-AreAnswersTo these messages = AllByRecursion (λ (x : Peer × Msg). IsAnswerTo these x) messages
 
 -- what holds of every world
 abbrev pub IsWhole : Form → Type 0
