@@ -21,3 +21,4 @@ pub mod SeatMaps
 pub mod Spending
 mod HeardMessages
 mod Arrivals
+pub mod SentNumbers

@@ -31,4 +31,4 @@ numbers_from n (x ∷ xs) = n ∷ numbers_from (n + 1) xs
 -- there is a mark for each packet, and this is the number of the first that was not told
 pub record AreMarked (sent : List Sent) (told : List Bool) (next : ℕ) : Type 0 where
   pub marks : length told ≡ length sent
-  pub next : next ≡ first_untold told
+  pub first : next ≡ first_untold told

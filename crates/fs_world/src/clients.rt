@@ -70,7 +70,16 @@ pub(crate) fn acts(
         send,
         admitted,
     };
-    does(alloc, s, false, None, Plan { ready, out }, seat, journal, packets)
+    does(
+        alloc,
+        s,
+        false,
+        None,
+        Plan { ready, out },
+        seat,
+        journal,
+        packets,
+    )
 }
 
 /// The session's client takes its turn. After an error all is as it was.
@@ -114,7 +123,16 @@ pub(crate) fn turns(
         send,
         admitted,
     };
-    does(alloc, s, true, None, Plan { ready, out }, seat, journal, packets)
+    does(
+        alloc,
+        s,
+        true,
+        None,
+        Plan { ready, out },
+        seat,
+        journal,
+        packets,
+    )
 }
 
 /// A packet of the server comes to the session. After an error all is as it was.
@@ -154,7 +172,16 @@ pub(crate) fn told(
     let server = Peer::Server(0);
     let mut undo = Undo::new(alloc);
     let heard = seat.post.accept_with_undo(alloc, server, p, &mut undo)?;
-    match hears(alloc, now, s, heard_in(server, p), &heard, seat, journal, packets) {
+    match hears(
+        alloc,
+        now,
+        s,
+        heard_in(server, p),
+        &heard,
+        seat,
+        journal,
+        packets,
+    ) {
         Ok(outcome) => Ok(outcome),
         Err(e) => {
             seat.post.undo(undo);

@@ -107,7 +107,15 @@ fn goes(
     ensures err_packets { OnErr result (packets.new ≡ packets.old) }
 {
     let before = packets.sent().len();
-    let outcome = send_due(alloc, Peer::Client(s), turn, heard, note, &seat.post, packets)?;
+    let outcome = send_due(
+        alloc,
+        Peer::Client(s),
+        turn,
+        heard,
+        note,
+        &seat.post,
+        packets,
+    )?;
     match admit(alloc, admitted, ready, &mut seat.client, journal) {
         Ok(()) => {
             seat.post.mark_sent();

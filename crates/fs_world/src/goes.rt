@@ -48,13 +48,7 @@ pub(crate) fn send_due(
     ensures err { OnErr result (packets.new ≡ packets.old) }
 {
     let due = post.packets(alloc, turn, heard)?;
-    let outcome = outcome_with(
-        alloc,
-        who,
-        note,
-        packets.sent().as_slice(),
-        due.as_slice(),
-    )?;
+    let outcome = outcome_with(alloc, who, note, packets.sent().as_slice(), due.as_slice())?;
     packets.add(alloc, due)?;
     Ok(outcome)
 }
@@ -88,10 +82,9 @@ fn numbers(alloc: Global, before: &[Sent], packets: &[Sent]) -> Result<List<u64>
     ensures { IfOk result (λ all. all ≡ numbers_from (length before.now) packets.now) }
 {
     let mut all = List::new(alloc);
-    let mut number = before.len() as u64;
-    for _ in packets {
-        all.push(number)?;
-        number += 1;
+    let from = before.len();
+    for number in from..from + packets.len() {
+        all.push(number as u64)?;
     }
     Ok(all)
 }

@@ -65,11 +65,7 @@ pub(crate) fn hears(
 }
 
 /// The answer that is the first message, if there is one.
-fn answer_in(
-    alloc: Global,
-    joined: &[Joined],
-    down: &[Answer],
-) -> Result<Option<Answer>, Memory>
+fn answer_in(alloc: Global, joined: &[Joined], down: &[Answer]) -> Result<Option<Answer>, Memory>
     requires { IsFirstOf joined.now (to_session down.now) }
     ensures { IfOk result (λ a. a ≡ answer_heard joined.now down.now) }
 {
@@ -113,7 +109,15 @@ fn hears_nothing(
     ensures err_seat { OnErr result (seat.new ≡ seat.old) }
     ensures err_packets { OnErr result (packets.new ≡ packets.old) }
 {
-    let outcome = send_due(alloc, Peer::Client(s), false, from, note, &seat.post, packets)?;
+    let outcome = send_due(
+        alloc,
+        Peer::Client(s),
+        false,
+        from,
+        note,
+        &seat.post,
+        packets,
+    )?;
     seat.post.mark_sent();
     Ok(outcome)
 }
@@ -169,7 +173,16 @@ fn hears_answer(
         send,
         admitted,
     };
-    let outcome = does(alloc, s, false, from, Plan { ready, out }, seat, journal, packets)?;
+    let outcome = does(
+        alloc,
+        s,
+        false,
+        from,
+        Plan { ready, out },
+        seat,
+        journal,
+        packets,
+    )?;
     seat.down.remove(0);
     Ok(outcome)
 }

@@ -62,7 +62,6 @@ impl Packets {
     }
 
     /// More packets, none of which was told.
-    #[tactic(auto, using(crate::proofs::Marks::marked))]
     pub(crate) fn add(&mut self, alloc: Global, more: List<Sent>) -> Result<(), Memory>
         ensures ok { OnOk result (self.new ≡ with_sent more self.old) }
         ensures err { OnErr result (self.new ≡ self.old) }
@@ -72,7 +71,7 @@ impl Packets {
     }
 
     /// The packet of that number was told. Takes no memory.
-    #[tactic(auto, using(crate::proofs::Marks::marked))]
+    #[tactic(auto, using(crate::proofs::Marks::untold_after))]
     pub(crate) fn mark(&mut self, k: u64)
         requires { k < length self.old.sent }
         ensures { self.new ≡ with_told k self.old }
@@ -82,7 +81,6 @@ impl Packets {
     }
 
     /// The first so many alone, which undoes an `add`. Takes no memory.
-    #[tactic(auto, using(crate::proofs::Marks::marked))]
     pub(crate) fn cut_back(&mut self, len: usize)
         ensures { (p : ThePackets) (more : Seq ThePacket) → self.old ≡ with_sent more p →
             len ≡ length p.sent → self.new ≡ p }
@@ -128,6 +126,7 @@ fn append_both(
 }
 
 /// The number of the first that was not told, where all before `from` were.
+#[tactic(auto, using(crate::proofs::Marks::untold_here))]
 fn untold_from(told: &[bool], from: usize) -> usize
     requires { from ≤ first_untold told.now }
     ensures { result ≡ first_untold told.now }

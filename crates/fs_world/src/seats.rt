@@ -74,9 +74,8 @@ impl Seats {
         self.get(s).is_some()
     }
 
-    /// A session that has not joined has joined. Where memory is wanting, what stood at it is given up.
+    /// Puts what stands at a session, and gives up what stood there. Where memory is wanting, this is given up.
     pub(crate) fn add(&mut self, s: Session, seat: Seat) -> Result<(), Memory>
-        requires { map.get self.old s.0 ≡ None }
         ensures ok { OnOk result (self.new ≡ map.insert self.old s.0 seat) }
         ensures err { OnErr result (self.new ≡ self.old) }
     {
@@ -252,14 +251,16 @@ fn seat_in(seats: &BTreeMap<u16, Seat>, session: u16) -> Option<&Seat>
 
 #[tactic(auto, using(fs_ident::proofs::MapsOf::numbered_maps))]
 fn add_in(seats: &mut BTreeMap<u16, Seat>, session: u16, seat: Seat) -> Result<(), Memory>
-    requires { map.get (numbered_map_of seats.old) session ≡ None }
     ensures ok { OnOk result (numbered_map_of seats.new ≡
         map.insert (numbered_map_of seats.old) session seat) }
     ensures err { OnErr result (numbered_map_of seats.new ≡ numbered_map_of seats.old) }
 {
     match seats.insert(session, seat) {
         Ok(None) => Ok(()),
-        Ok(Some(_)) => unreachable!(),
+        Ok(Some(before)) => {
+            before.discard();
+            Ok(())
+        }
         Err(full) => {
             full.value.1.discard();
             Err(Memory)
