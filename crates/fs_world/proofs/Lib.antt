@@ -1,11 +1,11 @@
 pub mod Creates
+pub mod OpenHandles
+pub mod Readable
 pub mod Serial
 pub mod Numbered
 pub mod Replies
 pub mod Kept
 pub mod Bounded
-pub mod OpenHandles
-pub mod Readable
 pub mod LinkedRows
 pub mod LinkedPair
 pub mod LinkedSeat

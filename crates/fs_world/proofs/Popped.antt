@@ -11,7 +11,9 @@ use Rattle.fs_msg.specs.declared.answer.Answer.{Answer}
 use Rattle.fs_msg.specs.declared.client_msg.ClientMsg.{ClientMsg}
 use Rattle.fs_msg.specs.declared.msg.Msg.{Msg}
 use Rattle.fs_msg.specs.declared.msg.Msg.TheVariants as msg
-use Rattle.fs_world.specs.Served.{Seats, up_of, with_down, with_down_at, with_downs, with_rest}
+use Rattle.fs_server.specs.Step.{step}
+use Rattle.fs_server.specs.declared.event.ServerEvent.{ServerEvent}
+use Rattle.fs_world.specs.Served.{Seats, server_step, up_of, with_down, with_down_at, with_downs, with_rest}
 use Rattle.fs_world.specs.declared.seat.Seat.{Seat}
 use Rattle.fs_world.specs.declared.served.Served.{Served}
 
@@ -117,8 +119,30 @@ rest_at None k up w = refl
 rest_at (Some seat) k up w = refl
 
 -- whether it is taken before or after, the same stands there
-pub popped_rest : (w : Served) (k : ℕ) (m : ClientMsg) (up : List ClientMsg) (xs : List (Peer × Msg)) (new : Seats) → up_of (get w.seats k) ≡ m ∷ up → IsPopped k (with_downs xs w.seats) new → new ≡ with_downs xs (with_rest (get w.seats k) k up w).seats
+popped_rest : (w : Served) (k : ℕ) (m : ClientMsg) (up : List ClientMsg) (xs : List (Peer × Msg)) (new : Seats) → up_of (get w.seats k) ≡ m ∷ up → IsPopped k (with_downs xs w.seats) new → new ≡ with_downs xs (with_rest (get w.seats k) k up w).seats
 popped_rest w k m up xs new e popped =
     popped_is k (with_downs xs w.seats) new m up (downs_keep xs w.seats k ∙ e) popped
     ∙ sym (downs_cross up k xs w.seats)
     ∙ ap (λ (v : Served). with_downs xs v.seats) (sym (rest_at (get w.seats k) k up w))
+
+module _ (from : Option Peer) (now : ℕ) (e : ServerEvent) where
+  -- the step does not read what is on its way
+  abbrev sent_by : Served → List (Peer × Msg)
+  sent_by w = (step w.server now e).out.send
+
+  world_at_rest : (o : Option Seat) (k : ℕ) (up : List ClientMsg) (w : Served) → record ((server_step false from now e w).world) { seats = with_downs (sent_by w) (with_rest o k up w).seats } ≡ (server_step false from now e (with_rest o k up w)).world
+  world_at_rest None k up w = refl
+  world_at_rest (Some seat) k up w = refl
+
+  pub spent_at_rest : (o : Option Seat) (k : ℕ) (up : List ClientMsg) (w : Served) → (server_step false from now e (with_rest o k up w)).spent ≡ (server_step false from now e w).spent
+  spent_at_rest None k up w = refl
+  spent_at_rest (Some seat) k up w = refl
+
+  pub taken_world : (w : Served) (k : ℕ) (m : ClientMsg) (up : List ClientMsg) (new : Served) (seats : Seats) → up_of (get w.seats k) ≡ m ∷ up → new ≡ (server_step false from now e w).world → IsPopped k new.seats seats
+      → record new { seats = seats } ≡ (server_step false from now e (with_rest (get w.seats k) k up w)).world
+  taken_world w k m up new seats first is popped =
+      let own : IsPopped k (with_downs (sent_by w) w.seats) seats = subst (λ (v : Served). IsPopped k v.seats seats) is popped in
+      let there : seats ≡ with_downs (sent_by w) (with_rest (get w.seats k) k up w).seats = popped_rest w k m up (sent_by w) seats first own in
+      ap (λ (v : Served). record v { seats = seats }) is
+      ∙ ap (λ (s : Seats). record ((server_step false from now e w).world) { seats = s }) there
+      ∙ world_at_rest (get w.seats k) k up w

@@ -80,7 +80,7 @@ impl Served {
         match what {
             What::Join(s) => Ok(self.join(alloc, *s)?),
             What::Do(s, op) => self.act(alloc, now, *s, op),
-            What::Tell(None) => self.tell(alloc, now, self.packets.first_untold()),
+            What::Tell(None) => self.tell_next(alloc, now),
             What::Tell(Some(k)) => self.tell(alloc, now, *k),
             What::Turn(Peer::Client(s)) => self.client_turn(alloc, now, *s),
             What::Turn(Peer::Server(_)) => self.server_turn(alloc, now),

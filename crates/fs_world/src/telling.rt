@@ -6,6 +6,7 @@ ghost use Rattle.fs_msg.specs.declared.core_error.Counter.{Counter as TheCounter
 ghost use Rattle.fs_msg.specs.declared.core_error.CoreError.TheVariants as errors;
 ghost use Rattle.fs_window.specs.Post.{post_accepted};
 ghost use Rattle.fs_world.specs.Linked.{IsFirstOf, IsLinked, to_session};
+ghost use Rattle.fs_world.specs.Packets.{first_untold};
 ghost use Rattle.fs_world.specs.Planned.{WasSent};
 ghost use Rattle.fs_world.specs.Served.{arrives, comes, tell, the_server, told_at};
 ghost use Rattle.fs_world.specs.declared.seat.Seat.{Seat as TheSeat};
@@ -19,6 +20,26 @@ use fs_window::{Packet, read_packet};
 use std::alloc::Global;
 
 impl Served {
+    /// The first packet that was not told, if there is one, reaches its addressee, at the reading in milliseconds.
+    pub(crate) fn tell_next(&mut self, alloc: Global, now: u64) -> Result<Outcome, CoreError>
+        requires reading { now ≤ LATEST }
+        requires linked { IsLinked self.old }
+        ensures outcome { IfOk result (λ o. o ≡
+            (tell now (first_untold self.old.packets.told) self.old).outcome) }
+        ensures world { OnOk result (self.new ≡
+            (tell now (first_untold self.old.packets.told) self.old).world) }
+        ensures linked { OnOk result (IsLinked self.new) }
+        ensures spent { (counter : TheCounter) → IsErrOf result (errors.Spent counter) →
+            (tell now (first_untold self.old.packets.told) self.old).spent ≡ Some counter }
+        ensures only { (counter : TheCounter) →
+            (tell now (first_untold self.old.packets.told) self.old).spent ≡ Some counter →
+            IsErrOf result (errors.Spent counter) ⊎ IsErrOf result errors.Memory }
+        ensures err { OnErr result (self.new ≡ self.old) }
+    {
+        let next = self.packets.first_untold();
+        self.tell(alloc, now, next)
+    }
+
     /// The packet of that number, if it was sent, reaches its addressee, at the reading in milliseconds.
     pub(crate) fn tell(&mut self, alloc: Global, now: u64, k: u64) -> Result<Outcome, CoreError>
         requires reading { now ≤ LATEST }
@@ -94,10 +115,12 @@ impl Served {
             IsErrOf result (errors.Spent counter) ⊎ IsErrOf result errors.Memory }
         ensures err { OnErr result (self.new ≡ self.old) }
     {
-        match (from, to) {
-            (Peer::Client(s), Peer::Server(_)) => self.server_told(alloc, now, s, p),
-            (_, Peer::Client(s)) => self.client_told(alloc, now, s, p),
-            (Peer::Server(_), Peer::Server(_)) => Ok(outcome(alloc, None, Note::Nothing)?),
+        match to {
+            Peer::Client(s) => self.client_told(alloc, now, s, p),
+            Peer::Server(_) => match from {
+                Peer::Client(s) => self.server_told(alloc, now, s, p),
+                Peer::Server(_) => Ok(outcome(alloc, None, Note::Nothing)?),
+            },
         }
     }
 
