@@ -90,7 +90,7 @@ joined_down (Client s, msg.Answer a) seats t h = at (get seats s.0)
 joined_down (Client s, msg.Client m) seats t h = h
 joined_down (Server k, m) seats t h = h
 
-joined_downs : (xs : List (Peer × Msg)) (seats : Seats) (t : Session) → HasJoined seats t → HasJoined (with_downs xs seats) t
+pub joined_downs : (xs : List (Peer × Msg)) (seats : Seats) (t : Session) → HasJoined seats t → HasJoined (with_downs xs seats) t
 joined_downs [] seats t h = h
 joined_downs (x ∷ xs) seats t h = joined_downs xs (with_down x seats) t (joined_down x seats t h)
 
@@ -99,7 +99,7 @@ still_answer x (Client t, msg.Answer a) seats h = joined_down x seats t h
 still_answer x (Client t, msg.Client m) seats h = h
 still_answer x (Server k, m) seats h = h
 
-still_answers : (x : Peer × Msg) (ys : List (Peer × Msg)) (seats : Seats) → AreAnswersTo (HasJoined seats) ys → AreAnswersTo (HasJoined (with_down x seats)) ys
+pub still_answers : (x : Peer × Msg) (ys : List (Peer × Msg)) (seats : Seats) → AreAnswersTo (HasJoined seats) ys → AreAnswersTo (HasJoined (with_down x seats)) ys
 still_answers x [] seats h = tt
 still_answers x (y ∷ ys) seats h = (still_answer x y seats h.0, still_answers x ys seats h.1)
 
