@@ -1,8 +1,10 @@
 -- The counter that a client's event would have raised above its end.
-use Rattle.std.proofs.Common.{◌≡◌, ◌⊎◌, Bool, true, false, refl, ap, sym, ◌∙◌}
+use Rattle.std.proofs.Common.{◌≡◌, ◌⊎◌, Bool, true, false, Result, Ok, Err, IsErrOf, refl, ap, sym, inl, inr}
 use Rattle.std.specs.Prelude.{Option, Some, None}
 use Rattle.fs_msg.specs.declared.core_error.Counter.{Counter}
 use Rattle.fs_msg.specs.declared.core_error.Counter.TheVariants.{Segments}
+use Rattle.fs_msg.specs.declared.core_error.CoreError.{CoreError}
+use Rattle.fs_msg.specs.declared.core_error.CoreError.TheVariants as errors
 use Rattle.fs_world.specs.Served.{first_spent}
 
 -- where no number is left on the link
@@ -22,3 +24,14 @@ spent_link c counter false e = absurd (cc)
 pub not_true : (b : Bool) → (b ≡ true → ⊥) → b ≡ false
 not_true true h = absurd (h refl)
 not_true false h = refl
+
+-- the same error under another answer
+pub refused_as : {T U : Type 0} (x : CoreError) (counter : Counter) → Segments ≡ counter → IsErrOf {T = T} (Err x) (errors.Spent Segments) ⊎ IsErrOf {T = T} (Err x) errors.Memory
+    → IsErrOf {T = U} (Err x) (errors.Spent counter) ⊎ IsErrOf {T = U} (Err x) errors.Memory
+refused_as {U = U} x counter e (inl p) = inl (let q : x ≡ errors.Spent counter = cc in ap (λ (y : CoreError). let r : Result U CoreError = Err y in r) q)
+refused_as {U = U} x counter e (inr p) = inr (let q : x ≡ errors.Memory = cc in ap (λ (y : CoreError). let r : Result U CoreError = Err y in r) q)
+
+-- what was answered is no error
+pub no_error : {T : Type 0} (x : T) (a b : CoreError) → IsErrOf (Ok x) a ⊎ IsErrOf (Ok x) b → ⊥
+no_error x a b (inl e) = absurd (cc)
+no_error x a b (inr e) = absurd (cc)

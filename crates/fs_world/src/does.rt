@@ -238,6 +238,6 @@ fn spelled(alloc: Global, m: ClientMsg) -> Result<(ClientMsg, Vec<u8>), Memory>
     write(alloc, &whole, &mut text)?;
     match whole {
         Msg::Client(m) => Ok((m, text)),
-        Msg::Answer(_) => unreachable!(),
+        Msg::Answer(_answer) => unreachable!(),
     }
 }

@@ -1,5 +1,5 @@
 //! What a session hears in the packets of its server.
-ghost use Rattle.std.specs.Prelude.{◌≡◌, ◌≤◌, ◌<◌, ◌⊎◌, ◌∷◌, [], length, IfOk, IsErrOf, OnOk, OnErr, Some, None};
+ghost use Rattle.std.specs.Prelude.{◌≡◌, ◌≤◌, ◌<◌, ◌⊎◌, ◌∷◌, [], false, length, IfOk, IsErrOf, OnOk, OnErr, Some, None};
 ghost use Rattle.std.specs.List.{remove};
 ghost use Rattle.fs_ident.specs.declared.limits.TheConstants.{LATEST};
 ghost use Rattle.fs_frag.specs.declared.joined.Joined.TheVariants.{Whole};
