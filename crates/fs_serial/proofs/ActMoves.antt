@@ -43,7 +43,7 @@ use Rattle.fs_serial.proofs.Seats.{Seat, few}
 use Rattle.fs_serial.proofs.Sends.{ArePlain, seat_asks}
 
 -- what a caller asks for is plain
-called_plainly : (o : Op) → is_called o ≡ true → (tells_its_effects o ≡ true) × (may_ask o ≡ true)
+pub called_plainly : (o : Op) → is_called o ≡ true → (tells_its_effects o ≡ true) × (may_ask o ≡ true)
 called_plainly (op.Lookup dir name) h = (refl, refl)
 called_plainly (op.List dir) h = (refl, refl)
 called_plainly (op.Kind file) h = (refl, refl)

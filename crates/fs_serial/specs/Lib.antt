@@ -14,3 +14,5 @@ pub mod Steps
 pub mod Laws
 pub mod World
 pub mod Runs
+-- cited by private calls alone
+pub mod Joined

@@ -2,6 +2,7 @@
 #![tactic(auto)]
 
 mod law;
+mod space;
 
 pub use law::{
     a_gift_keeps_the_parts, a_refused_entry_had_ended, a_reply_keeps_the_parts,
@@ -9,3 +10,4 @@ pub use law::{
     the_clients_events_keep_all_parts, the_first_world_has_all_parts,
     the_servers_events_keep_all_parts,
 };
+pub use space::joined;

@@ -1,11 +1,11 @@
 pub mod Creates
+pub mod OpenHandles
+pub mod Readable
 pub mod Serial
 pub mod Numbered
 pub mod Replies
 pub mod DirectKept
 pub mod Bounded
-pub mod OpenHandles
-pub mod Readable
 pub mod LinkedRows
 pub mod LinkedPair
 pub mod LinkedSeat
@@ -29,8 +29,12 @@ pub mod Whole
 pub mod Right
 pub mod RightSteps
 pub mod RightRuns
+mod AllDowns
+mod Popped
 pub mod Marks
 pub mod Heard
 pub mod SeatMaps
 pub mod Spending
+mod HeardMessages
+mod Arrivals
 pub mod SentNumbers

@@ -1,5 +1,6 @@
 pub mod Packets
 pub mod Direct
+pub mod Term
 pub mod Served
 pub mod World
 pub mod Order
@@ -8,4 +9,5 @@ pub mod Refusals
 -- cited by private calls alone
 pub mod Readable
 pub mod Linked
+pub mod Planned
 pub mod Hearing

@@ -1,18 +1,20 @@
 -- The world of a schedule, whatever its form: its events, one after another.
-use Rattle.std.specs.Prelude.{◌≡◌, ℕ, ◌+◌, Bool, true, false, nat_lt, List, [], ◌∷◌, ◌++◌, length, Option, Some, None, if◌then◌else◌}
+use Rattle.std.specs.Prelude.{◌≡◌, ℕ, ◌+◌, ◌≤◌, Bool, true, false, nat_lt, List, [], ◌∷◌, ◌++◌, length, Option, Some, None, if◌then◌else◌}
 use Rattle.std.specs.List.{AllByRecursion}
+use Rattle.fs_ident.specs.declared.limits.TheConstants.{SESSIONS}
 use Rattle.fs_model.specs.Asking.{may_ask}
 use Rattle.fs_model.specs.Namespace.{NodeMap}
 use Rattle.fs_msg.specs.declared.core_error.Counter.{Counter}
 use Rattle.fs_msg.specs.declared.core_error.Counter.TheVariants.{Entries}
 use Rattle.fs_msg.specs.declared.item.Item.{Item}
+use Rattle.fs_msg.specs.declared.limits.TheConstants.{LONGEST}
 use Rattle.fs_record.specs.Records.{nodes_of}
 use Rattle.fs_schedule.specs.declared.event.Event.{Event}
 use Rattle.fs_schedule.specs.declared.event.Head.{Head}
 use Rattle.fs_schedule.specs.declared.event.Head.TheVariants as head
 use Rattle.fs_schedule.specs.declared.event.Schedule.{Schedule}
 use Rattle.fs_schedule.specs.declared.event.What.{What}
-use Rattle.fs_schedule.specs.declared.event.What.TheVariants.{Do}
+use Rattle.fs_schedule.specs.declared.event.What.TheVariants.{Do, Join}
 use Rattle.fs_schedule.specs.declared.limits.TheConstants.{PACKETS}
 use Rattle.fs_schedule.specs.declared.outcome.Outcome.{Outcome}
 use Rattle.fs_serial.specs.World.{is_called}
@@ -21,6 +23,7 @@ use Rattle.fs_world.specs.Direct as direct
 use Rattle.fs_world.specs.Direct.{first_direct}
 use Rattle.fs_world.specs.Served as served
 use Rattle.fs_world.specs.Served.{first_served}
+use Rattle.fs_world.specs.Term.{IsTerm}
 use Rattle.fs_world.specs.declared.form.Form.{Form}
 use Rattle.fs_world.specs.declared.form.Form.TheVariants.{Direct, Served}
 
@@ -122,6 +125,22 @@ abbrev pub may_happen : Head → What → Bool
 may_happen head.Direct (Do s o) = may_ask o
 may_happen (head.Servers servers skew term) (Do s o) = is_called o
 may_happen h w = true
+
+-- the skew and the term of servers are in their ranges
+abbrev pub FitsHead : Head → Type 0
+FitsHead head.Direct = Unit {0}
+FitsHead (head.Servers servers skew term) = (skew ≤ LONGEST) × IsTerm term
+
+-- what callers may ask of a server's clients, and which sessions there are
+abbrev pub FitsServed : What → Type 0
+FitsServed (Join s) = (1 ≤ s.0) × (s.0 ≤ SESSIONS)
+FitsServed (Do s o) = is_called o ≡ true
+FitsServed what = Unit {0}
+
+-- the event may happen to the world
+abbrev pub FitsWorld : Form → What → Type 0
+FitsWorld (Direct w) what = Unit {0}
+FitsWorld (Served w) what = FitsServed what
 
 -- each operation of the events is one that a caller may ask for
 abbrev pub AllMayHappen : Head → List Event → Type 0

@@ -1,9 +1,17 @@
 //! What stands at a session.
+ghost use Rattle.std.specs.Prelude.{◌≡◌, ◌≤◌, IfOk};
+ghost use Rattle.fs_ident.specs.declared.limits.TheConstants.{SESSIONS};
+ghost use Rattle.fs_world.specs.Served.{first_seat};
+
+use crate::term::Term;
 use fs_client::ClientCore;
-use fs_ident::{List, Memory, Twin};
+use fs_ident::{List, Memory, Peer, Session};
 use fs_msg::{Answer, ClientMsg};
 use fs_window::Post;
 use std::alloc::Global;
+
+/// How many segments are on their way on each link at once.
+pub(crate) const LINK_WIDTH: u64 = 1;
 
 /// A client, its links, and the messages on their way between it and the server.
 #[derive(Debug)]
@@ -17,6 +25,21 @@ pub(crate) struct Seat {
 }
 
 impl Seat {
+    /// What stands at a session that begins.
+    pub(crate) fn new(alloc: Global, s: Session, term: &Term) -> Result<Seat, Memory>
+        requires first { 1 ≤ s.0 }
+        requires few { s.0 ≤ SESSIONS }
+        ensures { IfOk result (λ seat. seat ≡ first_seat term.now s) }
+    {
+        let post = Post::new(alloc, Peer::Client(s), LINK_WIDTH)?;
+        Ok(Seat {
+            client: ClientCore::new(alloc, s, term.millis())?,
+            post,
+            up: List::new(alloc),
+            down: List::new(alloc),
+        })
+    }
+
     /// Gives up every lease of the client.
     pub(crate) fn discard(self) {
         let Seat {

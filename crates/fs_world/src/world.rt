@@ -11,6 +11,7 @@ use fs_ident::{List, Memory, Twin};
 use fs_model::Space;
 use fs_msg::{CoreError, Item};
 use fs_schedule::{Event, Head, Outcome};
+use fs_serial::joined;
 use fs_window::Sent;
 use std::alloc::Global;
 use std::marker::Model;
@@ -38,20 +39,31 @@ impl Model for World {
 }
 
 impl World {
-    ghost use Rattle.fs_schedule.specs.Spelling.{FitsEvent};
-    ghost use Rattle.fs_world.specs.World.{first_world, journal_of, packets_of, space_of, step};
-    ghost use Rattle.fs_world.specs.Linked.{FitsForm};
+    ghost use Rattle.fs_world.specs.World.{FitsHead, FitsWorld, first_world, journal_of, packets_of, space_of, step};
 
     /// The world of the form before its first event.
     pub fn new(alloc: Global, head: &Head) -> Result<World, Memory>
+        requires { FitsHead head.now }
         ensures { IfOk result (λ w. w ≡ first_world head.now) }
     {
-        Err(Memory)
+        let none = List::new(alloc);
+        match *head {
+            Head::Direct => {
+                let form = Form::Direct(Direct::new(alloc)?);
+                Ok(World { form, none })
+            }
+            Head::Servers { skew, term, .. } => {
+                let form = Form::Served(Served::new(alloc, skew, term)?);
+                Ok(World { form, none })
+            }
+        }
     }
 
     /// One event: what it comes to. `Spent` exactly where the event would raise that counter above its end.
     /// After an error the world is as it was.
     pub fn step(&mut self, alloc: Global, event: &Event) -> Result<Outcome, CoreError>
+        requires reading { event.now.reading ≤ LATEST }
+        requires asked { FitsWorld self.old event.now.what }
         ensures outcome { IfOk result (λ o. o ≡ (step self.old event.now).outcome) }
         ensures world { OnOk result (self.new ≡ (step self.old event.now).world) }
         ensures spent { (counter : TheCounter) → IsErrOf result (errors.Spent counter) →
@@ -60,7 +72,10 @@ impl World {
             IsErrOf result (errors.Spent counter) ⊎ IsErrOf result errors.Memory }
         ensures err { OnErr result (self.new ≡ self.old) }
     {
-        Err(CoreError::Memory)
+        match &mut self.form {
+            Form::Direct(direct) => direct.step(alloc, &event.what),
+            Form::Served(served) => served.step(alloc, event.reading, &event.what),
+        }
     }
 
     /// The items that were admitted, in order.
@@ -87,7 +102,10 @@ impl World {
     pub fn space(&self, alloc: Global) -> Result<Space, Memory>
         ensures { IfOk result (λ space. space ≡ space_of self.now) }
     {
-        Err(Memory)
+        match &self.form {
+            Form::Direct(direct) => direct.space.copy(alloc),
+            Form::Served(served) => joined(alloc, &served.server),
+        }
     }
 
     /// Gives the world up, with every lease of its clients.

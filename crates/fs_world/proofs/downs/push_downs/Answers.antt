@@ -1,0 +1,12 @@
+use Rattle.std.proofs.Common.{◌≡◌, ap, sym, ◌∙◌, arith}
+use Rattle.fs_world.specs.Served.{with_down}
+use Rattle.fs_world.proofs.AllDowns.{downs_more}
+use Rattle.fs_world.proofs.downs.push_downs.Goals as goal
+
+pub loop-pushed-preserved : goal.loop-pushed-preserved
+loop-pushed-preserved c = record {
+  within = omega arith;
+  seats = c.in-Ok.ensures.ok
+      ∙ ap (with_down c.index-send-pushed.result) c.loop-pushed.invariant.seats
+      ∙ sym (downs_more c.args.send.now c.loop-pushed.pushed c.index-send-pushed.result c.args.seats.now c.loop-pushed-test.true c.index-send-pushed.is);
+}

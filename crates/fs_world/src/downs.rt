@@ -1,0 +1,63 @@
+//! Answers on their way from the server.
+ghost use Rattle.std.specs.Prelude.{◌≡◌, OnOk, OnErr};
+ghost use Rattle.fs_world.specs.Served.{Seats as TheSeats, with_down, with_downs};
+
+use crate::seats::Seats;
+use fs_ident::{Memory, Peer, Twin};
+use fs_msg::Msg;
+use std::alloc::Global;
+
+/// The answers among these messages are on their way to the sessions that have joined: all of them, or none where memory
+/// is wanting.
+pub(crate) fn push_downs(
+    alloc: Global,
+    seats: &mut Seats,
+    send: &[(Peer, Msg)],
+) -> Result<(), Memory>
+    ensures ok { OnOk result (seats.new ≡ with_downs send.now seats.old) }
+    ensures err { OnErr result (seats.new ≡ seats.old) }
+{
+    let mut pushed = 0;
+    while pushed < send.len() {
+        match push_down(alloc, seats, &send[pushed]) {
+            Ok(()) => pushed += 1,
+            Err(e) => {
+                undo_downs(seats, &send[..pushed]);
+                return Err(e);
+            }
+        }
+    }
+    Ok(())
+}
+
+/// Undoes `push_downs` of these messages. Takes no memory.
+pub(crate) fn undo_downs(seats: &mut Seats, send: &[(Peer, Msg)])
+    ensures { (before : TheSeats) → seats.old ≡ with_downs send.now before → seats.new ≡ before }
+{
+    let mut left = send.len();
+    while left > 0 {
+        left -= 1;
+        undo_down(seats, &send[left]);
+    }
+}
+
+/// An answer is on its way.
+fn push_down(alloc: Global, seats: &mut Seats, sent: &(Peer, Msg)) -> Result<(), Memory>
+    ensures ok { OnOk result (seats.new ≡ with_down sent.now seats.old) }
+    ensures err { OnErr result (seats.new ≡ seats.old) }
+{
+    match sent {
+        (Peer::Client(s), Msg::Answer(a)) => seats.push_down(*s, a.copy(alloc)?),
+        _ => Ok(()),
+    }
+}
+
+/// Undoes that.
+fn undo_down(seats: &mut Seats, sent: &(Peer, Msg))
+    ensures { (before : TheSeats) → seats.old ≡ with_down sent.now before → seats.new ≡ before }
+{
+    match sent {
+        (Peer::Client(s), Msg::Answer(_)) => seats.unpush_down(*s),
+        _ => {}
+    }
+}

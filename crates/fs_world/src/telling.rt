@@ -1,0 +1,156 @@
+//! A packet that reaches its addressee.
+ghost use Rattle.std.specs.Prelude.{◌≡◌, ◌≤◌, ◌⊎◌, Some, None, IfOk, OnOk, OnErr, IsErrOf, length};
+ghost use Rattle.std.specs.FinMap as map;
+ghost use Rattle.fs_ident.specs.declared.limits.TheConstants.{LATEST};
+ghost use Rattle.fs_msg.specs.declared.core_error.Counter.{Counter as TheCounter};
+ghost use Rattle.fs_msg.specs.declared.core_error.CoreError.TheVariants as errors;
+ghost use Rattle.fs_window.specs.Post.{post_accepted};
+ghost use Rattle.fs_world.specs.Linked.{IsFirstOf, IsLinked, to_session};
+ghost use Rattle.fs_world.specs.Packets.{first_untold};
+ghost use Rattle.fs_world.specs.Planned.{WasSent};
+ghost use Rattle.fs_world.specs.Served.{arrives, comes, tell, the_server, told_at};
+ghost use Rattle.fs_world.specs.declared.seat.Seat.{Seat as TheSeat};
+
+use crate::goes::outcome;
+use crate::served::Served;
+use fs_ident::{Peer, Session};
+use fs_msg::{CoreError, Note};
+use fs_schedule::Outcome;
+use fs_window::{Packet, read_packet};
+use std::alloc::Global;
+
+impl Served {
+    /// The first packet that was not told, if there is one, reaches its addressee, at the reading in milliseconds.
+    pub(crate) fn tell_next(&mut self, alloc: Global, now: u64) -> Result<Outcome, CoreError>
+        requires reading { now ≤ LATEST }
+        requires linked { IsLinked self.old }
+        ensures outcome { IfOk result (λ o. o ≡
+            (tell now (first_untold self.old.packets.told) self.old).outcome) }
+        ensures world { OnOk result (self.new ≡
+            (tell now (first_untold self.old.packets.told) self.old).world) }
+        ensures linked { OnOk result (IsLinked self.new) }
+        ensures spent { (counter : TheCounter) → IsErrOf result (errors.Spent counter) →
+            (tell now (first_untold self.old.packets.told) self.old).spent ≡ Some counter }
+        ensures only { (counter : TheCounter) →
+            (tell now (first_untold self.old.packets.told) self.old).spent ≡ Some counter →
+            IsErrOf result (errors.Spent counter) ⊎ IsErrOf result errors.Memory }
+        ensures err { OnErr result (self.new ≡ self.old) }
+    {
+        let next = self.packets.first_untold();
+        self.tell(alloc, now, next)
+    }
+
+    /// The packet of that number, if it was sent, reaches its addressee, at the reading in milliseconds.
+    pub(crate) fn tell(&mut self, alloc: Global, now: u64, k: u64) -> Result<Outcome, CoreError>
+        requires reading { now ≤ LATEST }
+        requires linked { IsLinked self.old }
+        ensures outcome { IfOk result (λ o. o ≡ (tell now k self.old).outcome) }
+        ensures world { OnOk result (self.new ≡ (tell now k self.old).world) }
+        ensures linked { OnOk result (IsLinked self.new) }
+        ensures spent { (counter : TheCounter) → IsErrOf result (errors.Spent counter) →
+            (tell now k self.old).spent ≡ Some counter }
+        ensures only { (counter : TheCounter) → (tell now k self.old).spent ≡ Some counter →
+            IsErrOf result (errors.Spent counter) ⊎ IsErrOf result errors.Memory }
+        ensures err { OnErr result (self.new ≡ self.old) }
+    {
+        let Some(sent) = self.packets.get(k) else {
+            return Ok(outcome(alloc, None, Note::Nothing)?);
+        };
+        let (from, to) = (sent.from, sent.to);
+        let packet = read_packet(alloc, sent.bytes.as_slice())?;
+        let told = self.arrives(alloc, now, from, to, packet)?;
+        self.packets.mark(k);
+        Ok(told)
+    }
+
+    /// What was sent arrives: a packet, or other bytes.
+    fn arrives(
+        &mut self,
+        alloc: Global,
+        now: u64,
+        from: Peer,
+        to: Peer,
+        packet: Option<Packet>,
+    ) -> Result<Outcome, CoreError>
+        requires reading { now ≤ LATEST }
+        requires sent { WasSent from to packet self.old.packets.sent }
+        requires linked { IsLinked self.old }
+        ensures outcome { IfOk result (λ o. o ≡ (arrives now from to packet self.old).outcome) }
+        ensures world { OnOk result (self.new ≡ (arrives now from to packet self.old).world) }
+        ensures linked { OnOk result (IsLinked self.new) }
+        ensures kept { OnOk result
+            (length self.old.packets.sent ≤ length self.new.packets.sent) }
+        ensures spent { (counter : TheCounter) → IsErrOf result (errors.Spent counter) →
+            (arrives now from to packet self.old).spent ≡ Some counter }
+        ensures only { (counter : TheCounter) →
+            (arrives now from to packet self.old).spent ≡ Some counter →
+            IsErrOf result (errors.Spent counter) ⊎ IsErrOf result errors.Memory }
+        ensures err { OnErr result (self.new ≡ self.old) }
+    {
+        match packet {
+            None => Ok(outcome(alloc, Some(to), Note::Strange)?),
+            Some(p) => self.comes(alloc, now, from, to, &p),
+        }
+    }
+
+    /// A packet comes from one actor to another.
+    fn comes(
+        &mut self,
+        alloc: Global,
+        now: u64,
+        from: Peer,
+        to: Peer,
+        p: &Packet,
+    ) -> Result<Outcome, CoreError>
+        requires reading { now ≤ LATEST }
+        requires sent { WasSent from to (Some p.now) self.old.packets.sent }
+        requires linked { IsLinked self.old }
+        ensures outcome { IfOk result (λ o. o ≡ (comes now from to p.now self.old).outcome) }
+        ensures world { OnOk result (self.new ≡ (comes now from to p.now self.old).world) }
+        ensures linked { OnOk result (IsLinked self.new) }
+        ensures spent { (counter : TheCounter) → IsErrOf result (errors.Spent counter) →
+            (comes now from to p.now self.old).spent ≡ Some counter }
+        ensures only { (counter : TheCounter) →
+            (comes now from to p.now self.old).spent ≡ Some counter →
+            IsErrOf result (errors.Spent counter) ⊎ IsErrOf result errors.Memory }
+        ensures err { OnErr result (self.new ≡ self.old) }
+    {
+        match to {
+            Peer::Client(s) => self.client_told(alloc, now, s, p),
+            Peer::Server(_) => match from {
+                Peer::Client(s) => self.server_told(alloc, now, s, p),
+                Peer::Server(_) => Ok(outcome(alloc, None, Note::Nothing)?),
+            },
+        }
+    }
+
+    /// A packet of the server comes to the session, if it has joined.
+    fn client_told(
+        &mut self,
+        alloc: Global,
+        now: u64,
+        s: Session,
+        p: &Packet,
+    ) -> Result<Outcome, CoreError>
+        requires reading { now ≤ LATEST }
+        requires comes { (seat : TheSeat) → map.get self.old.seats s.0 ≡ Some seat →
+            IsFirstOf (post_accepted seat.post the_server p.now).heard.joined
+            (to_session seat.down) }
+        ensures outcome { IfOk result (λ o. o ≡
+            (told_at (map.get self.old.seats s.0) now s p.now self.old).outcome) }
+        ensures world { OnOk result (self.new ≡
+            (told_at (map.get self.old.seats s.0) now s p.now self.old).world) }
+        ensures spent { (counter : TheCounter) → IsErrOf result (errors.Spent counter) →
+            (told_at (map.get self.old.seats s.0) now s p.now self.old).spent ≡ Some counter }
+        ensures only { (counter : TheCounter) →
+            (told_at (map.get self.old.seats s.0) now s p.now self.old).spent ≡ Some counter →
+            IsErrOf result (errors.Spent counter) ⊎ IsErrOf result errors.Memory }
+        ensures err { OnErr result (self.new ≡ self.old) }
+    {
+        if !self.seats.has(s) {
+            return Ok(outcome(alloc, None, Note::Nothing)?);
+        }
+        self.seats
+            .tell(alloc, now, s, p, &mut self.journal, &mut self.packets)
+    }
+}
