@@ -5,7 +5,6 @@ pub mod Replies
 pub mod Kept
 pub mod Bounded
 pub mod Marks
-pub mod Heard
 pub mod SeatMaps
 pub mod Spending
 pub mod SentNumbers
