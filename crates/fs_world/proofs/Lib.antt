@@ -32,7 +32,6 @@ pub mod RightRuns
 mod AllDowns
 mod Popped
 pub mod Marks
-pub mod Heard
 pub mod SeatMaps
 pub mod Spending
 mod HeardMessages
