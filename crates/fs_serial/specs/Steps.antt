@@ -1,5 +1,6 @@
 -- When a kind of step happens.
 use Rattle.std.specs.Prelude.{◌≡◌, ◌≢◌, ℕ, ◌+◌, ◌≤◌, true, false, List, [], ◌∷◌, length, Some, None}
+use Rattle.std.specs.List.{AllByRecursion}
 use Rattle.fs_ident.specs.declared.actor.Session.{Session}
 use Rattle.fs_ident.specs.In.{In}
 use Rattle.fs_field.specs.declared.row.Row.{Row}
@@ -43,3 +44,7 @@ pub record HadEnded (rows : List Row) (now : ℕ) (e : Entry) (u : Use) : Type 0
   pub used : In u e.uses
   pub gone : (r : Row) → In r rows → r.no ≢ u.no
   pub ended : u.until ≤ now
+
+-- the rows of all leases that the entries used stand
+abbrev pub AllStand : List Row → Session → List Entry → Type 0
+AllStand rows by entries = AllByRecursion (λ (e : Entry). first_gone rows by e.uses ≡ None) entries

@@ -1,5 +1,6 @@
 //! Laws of the kinds of step: where all parts hold before it, all parts hold after it.
-ghost use Rattle.std.specs.Prelude.{◌≡◌, ◌≤◌, ◌+◌, ℕ, max, List, [], ◌∷◌, ◌++◌};
+ghost use Rattle.std.specs.Prelude.{◌≡◌, ◌≤◌, ◌+◌, ℕ, max, true, List, [], ◌∷◌, ◌++◌};
+ghost use Rattle.std.specs.List.{list_all};
 ghost use Rattle.fs_ident.specs.In.{In};
 ghost use Rattle.fs_ident.specs.declared.actor.Session.{Session};
 ghost use Rattle.fs_field.specs.declared.used.Use.{Use};
@@ -9,10 +10,15 @@ ghost use Rattle.fs_client.specs.declared.state.Client.{Client};
 ghost use Rattle.fs_model.specs.declared.op.Op.{Op};
 ghost use Rattle.fs_model.specs.declared.reply.Reply.{Reply};
 ghost use Rattle.fs_msg.specs.declared.answer.Answer.{Answer};
+ghost use Rattle.fs_msg.specs.declared.client_msg.ClientMsg.TheVariants.{Ship};
 ghost use Rattle.fs_msg.specs.declared.entry.Entry.{Entry};
 ghost use Rattle.fs_msg.specs.declared.item.Item.{Item};
+ghost use Rattle.fs_record.specs.Effects.{tells_its_effects};
 ghost use Rattle.fs_server.specs.Ships.{first_gone, item_of, with_entry};
+ghost use Rattle.fs_server.specs.Server.{begun};
+ghost use Rattle.fs_server.specs.Step.{step};
 ghost use Rattle.fs_server.specs.declared.event.ServerEvent.{ServerEvent};
+ghost use Rattle.fs_server.specs.declared.event.ServerEvent.TheVariants.{FromClient};
 ghost use Rattle.fs_server.specs.declared.state.Server.{Server};
 ghost use Rattle.fs_serial.specs.Client.{ClientFits};
 ghost use Rattle.fs_serial.specs.Laws.{GiftIsRelied, GiftIsTold, GiftKeepsParts, GiftReturnsNone};
@@ -20,7 +26,7 @@ ghost use Rattle.fs_serial.specs.Parts.{AllHold, SessionFits, with_client, with_
 ghost use Rattle.fs_serial.specs.Settled.{Settled, acknowledged, settled, settled_now};
 ghost use Rattle.fs_serial.specs.Runs.{Dated, IsOneSerialRun, IsRun, greatest_in, run};
 ghost use Rattle.fs_serial.specs.Sight.{Sight, sight_of};
-ghost use Rattle.fs_serial.specs.Steps.{HadEnded, IsAdmitted, IsReplied};
+ghost use Rattle.fs_serial.specs.Steps.{AllStand, HadEnded, IsAdmitted, IsReplied};
 ghost use Rattle.fs_serial.specs.World.{CanCome, ClientEvent, IsThere, World, WorldHolds, after_client, after_server, first_world};
 
 /// A fresh identifier that a directory gives to a session, with an exclusive lease on the life of the file. Whoever relied
@@ -91,6 +97,15 @@ pub fn a_refused_entry_had_ended()
         (u : Use) → SessionFits skew greatest s by d → In e d.log →
         first_gone s.rows by e.uses ≡ Some u → greatest ≤ now + skew →
         HadEnded s.rows now e u }
+{}
+
+/// Of a log that is handed in, an entry is admitted in that very event where the rows of the leases that it used stand, and those of
+/// each entry before it.
+pub fn a_standing_entry_is_admitted()
+    ensures { (s : Server) (now : ℕ) (by : Session) (front rest : List Entry) (e : Entry) →
+        list_all (λ (x : Entry). tells_its_effects x.op) (front ++ e ∷ rest) ≡ true →
+        AllStand (begun now s).rows by (front ++ e ∷ []) →
+        In (item_of by e) (step s now (FromClient by (Ship (front ++ e ∷ rest)))).out.admitted }
 {}
 
 /// Whatever happens, in whatever order: every event of a run keeps all that holds.
