@@ -16,7 +16,6 @@ pub mod Linked
 mod AllDowns
 mod Popped
 pub mod Marks
-pub mod Heard
 pub mod SeatMaps
 pub mod Spending
 mod HeardMessages

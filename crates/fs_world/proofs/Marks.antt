@@ -1,8 +1,8 @@
 -- The first packet that was not told, as packets are added, told and cut off.
-use Rattle.std.proofs.Common.{◌≡◌, ℕ, Result, Ok, Err, OnOk, OnErr, zero, suc, ◌+◌, ◌<◌, ◌≤◌, min, Bool, true, false, List, [], ◌∷◌, ◌++◌, map, length, get_or, take, set, refl, ap, sym, ◌∙◌, arith, length-append, length-take, length-set, take_at}
+use Rattle.std.proofs.Common.{◌≡◌, ℕ, Result, Ok, Err, OnOk, OnErr, zero, suc, ◌+◌, ◌<◌, ◌≤◌, min, Bool, true, false, List, [], ◌∷◌, ◌++◌, map, length, get_or, take, set, refl, ap, sym, ◌∙◌, arith, length-append, length-take, take_at}
 use Rattle.std.proofs.lemmas.List.{length-map}
 use Rattle.fs_window.specs.declared.sent.Sent.{Sent}
-use Rattle.fs_world.specs.Packets.{Packets, AreMarked, first_untold, with_sent}
+use Rattle.fs_world.specs.Packets.{Packets, AreMarked, first_untold}
 
 untold_more : (told : List Bool) (more : List Sent) → first_untold (told ++ map (λ (x : Sent). false) more) ≡ first_untold told
 untold_more [] [] = refl

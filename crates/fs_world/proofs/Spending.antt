@@ -1,20 +1,11 @@
 -- The counter that a client's event would have raised above its end.
-use Rattle.std.proofs.Common.{◌≡◌, ◌⊎◌, Bool, true, false, Result, Ok, Err, IsErrOf, refl, ap, sym, inl, inr}
-use Rattle.std.specs.Prelude.{Option, Some, None}
+use Rattle.std.proofs.Common.{◌≡◌, ◌⊎◌, Bool, true, false, Result, Ok, Err, IsErrOf, refl, ap, inl, inr}
+use Rattle.std.specs.Prelude.{Some}
 use Rattle.fs_msg.specs.declared.core_error.Counter.{Counter}
 use Rattle.fs_msg.specs.declared.core_error.Counter.TheVariants.{Segments}
 use Rattle.fs_msg.specs.declared.core_error.CoreError.{CoreError}
 use Rattle.fs_msg.specs.declared.core_error.CoreError.TheVariants as errors
 use Rattle.fs_world.specs.Served.{first_spent}
-
--- where no number is left on the link
-pub link_spent : (c counter : Counter) (full : Bool) → counter ≡ Segments → full ≡ true → first_spent false c full ≡ Some counter
-link_spent c counter true e t = ap (λ (k : Counter). Some k) (sym e)
-link_spent c counter false e t = absurd (cc)
-
-pub none_spent : (c : Counter) (full : Bool) → full ≡ false → first_spent false c full ≡ None
-none_spent c true e = absurd (cc)
-none_spent c false e = refl
 
 -- the counter that is spent is that of the link
 pub spent_link : (c counter : Counter) (full : Bool) → first_spent false c full ≡ Some counter → (full ≡ true) × (Segments ≡ counter)

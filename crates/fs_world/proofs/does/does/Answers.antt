@@ -1,4 +1,3 @@
-use Rattle.std.proofs.Common.{◌≡◌, true}
 use Rattle.std.proofs.lemmas.Result.{err_from_is_err_and}
 use Rattle.fs_msg.specs.declared.core_error.Counter.TheVariants.{Entries}
 use Rattle.fs_world.specs.Served.{is_full_up}

@@ -1,4 +1,4 @@
-use Rattle.std.proofs.Common.{◌≡◌, ◌-◌, ◌++◌, drop, length}
+use Rattle.std.proofs.Common.{◌≡◌, ◌-◌, ◌++◌, drop}
 use Rattle.fs_world.specs.Packets.{numbers_from}
 use Rattle.fs_world.proofs.goes.numbers.Given as goal
 
