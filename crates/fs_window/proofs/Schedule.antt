@@ -42,7 +42,7 @@ in_append x (z ∷ xs) ys P f g i = elim i [
   | inr j ↦ in_append x xs ys P (λ k. f (inr k)) g j
 ]
 
-in_get : {X : Type 0} (xs : List X) (k : ℕ) (x : X) → slice_get xs k ≡ Some x → In x xs
+pub in_get : {X : Type 0} (xs : List X) (k : ℕ) (x : X) → slice_get xs k ≡ Some x → In x xs
 in_get [] k x e = absurd cc
 in_get (y ∷ ys) zero x e = inl (sym (some_is y x e))
 in_get (y ∷ ys) (suc k) x e = inr (in_get ys k x e)

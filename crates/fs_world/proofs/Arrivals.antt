@@ -1,6 +1,6 @@
 -- A packet that is told: it comes from where it was sent, and every packet stays.
 use Rattle.std.proofs.Common.{◌≡◌, ℕ, ◌≤◌, ◌+◌, ◌++◌, List, [], ◌∷◌, Bool, true, false, length, refl, ap, sym, ◌∙◌, subst, arith, length-append}
-use Rattle.std.specs.Prelude.{Option, Some, None}
+use Rattle.std.specs.Prelude.{Option, Some, None, Result, Ok, Err, OnOk}
 use Rattle.std.specs.FinMap.{get}
 use Rattle.fs_ident.specs.In.{In}
 use Rattle.fs_ident.specs.declared.actor.Peer.{Peer}
@@ -9,7 +9,9 @@ use Rattle.fs_ident.specs.declared.actor.Session.{Session}
 use Rattle.fs_frag.specs.declared.joined.Joined.{Joined}
 use Rattle.fs_msg.specs.declared.answer.Answer.{Answer}
 use Rattle.fs_msg.specs.declared.client_msg.ClientMsg.{ClientMsg}
+use Rattle.fs_msg.specs.declared.core_error.CoreError.{CoreError}
 use Rattle.fs_msg.specs.declared.item.Item.{Item}
+use Rattle.fs_schedule.specs.declared.outcome.Outcome.{Outcome}
 use Rattle.fs_server.specs.declared.event.ServerEvent.{ServerEvent}
 use Rattle.fs_server.specs.declared.event.ServerEvent.TheVariants.{FromClient}
 use Rattle.fs_window.specs.Post.{post_accepted}
@@ -19,7 +21,7 @@ use Rattle.fs_window.specs.declared.packet.Packet.{Packet}
 use Rattle.fs_window.specs.declared.sent.Sent.{Sent}
 use Rattle.fs_world.specs.Linked.{GoesBetween, IsLinked}
 use Rattle.fs_world.specs.Packets.{Packets, with_sent}
-use Rattle.fs_world.specs.Served.{arrives, comes, client_hears, client_told, server_hears, server_step, server_told, heard_in, the_server, told_at, up_of, with_rest}
+use Rattle.fs_world.specs.Served.{Stepped, arrives, comes, client_hears, client_told, server_hears, server_step, server_told, heard_in, the_server, told_at, up_of, with_rest}
 use Rattle.fs_world.specs.declared.seat.Seat.{Seat}
 use Rattle.fs_world.specs.declared.served.Served.{Served}
 use Rattle.fs_world.proofs.Linked.{tell_client}
@@ -63,6 +65,10 @@ comes_stays now (Server j) (Server k) p w = omega arith
 pub arrives_stays : (now : ℕ) (from to : Peer) (o : Option Packet) (w : Served) → length w.packets.sent ≤ length (arrives now from to o w).world.packets.sent
 arrives_stays now from to None w = omega arith
 arrives_stays now from to (Some p) w = comes_stays now from to p w
+
+pub all_stay : (r : Result Outcome CoreError) (w new : Served) (x : Stepped) → length w.packets.sent ≤ length x.world.packets.sent → OnOk r (new ≡ x.world) → OnOk r (length w.packets.sent ≤ length new.packets.sent)
+all_stay (Ok o) w new x stays is = subst (λ (v : Served). length w.packets.sent ≤ length v.packets.sent) (sym is) stays
+all_stay (Err e) w new x stays is = tt
 
 -- ## Where it comes from
 

@@ -37,3 +37,4 @@ pub mod Spending
 mod HeardMessages
 mod Arrivals
 pub mod SentNumbers
+mod AtSeat

@@ -30,6 +30,7 @@ use Rattle.fs_client.specs.Turns.{turn_plan}
 use Rattle.fs_server.specs.Step.{step}
 use Rattle.fs_server.specs.declared.event.ServerEvent.TheVariants.{FromClient, Turn, Recall}
 use Rattle.fs_world.specs.Linked.{FitsDown, FitsUp, IsLinked}
+use Rattle.fs_world.specs.Planned.{IsAnswered}
 use Rattle.fs_world.specs.Served.{Seats, act_noted, client_acts, client_noted, client_turns, heard_in, is_full_down, is_full_up, server_step, server_told, the_server, up_of, with_seat}
 use Rattle.fs_world.specs.declared.seat.Seat.{Seat}
 use Rattle.fs_world.specs.declared.served.Served.{Served}
@@ -86,11 +87,6 @@ message_readable (client.Ask items fresh) h = refl
 message_readable (client.Renew pairs) h = refl
 message_readable (client.Release pairs) h = refl
 message_readable (client.Ship entries) h = entries_readable entries h.1
-
--- the message that came, if one did: what the server's step on it sends was written down, and there was room for it
-abbrev pub IsAnswered : ℕ → Session → List Joined → List ClientMsg → Served → Type 0
-IsAnswered now s (j ∷ js) (m ∷ up) w = FitsDown (step w.server now (FromClient s m)).out.send × (is_full_down (step w.server now (FromClient s m)).out.send w.post ≡ false)
-IsAnswered now s joined up w = Unit {0}
 
 stepped : (w : Served) (s : Session) (now : ℕ) (p : Packet) (js : List Joined) (up : List ClientMsg) → IsAnswered now s js up w → IsStepped now s (heard_in (Client s) p) js up w
 stepped w s now p [] up fits = tt

@@ -1,0 +1,24 @@
+use Rattle.std.proofs.Common.{◌≡◌, refl, ap, sym, ◌∙◌, arith}
+use Rattle.std.specs.Prelude.{slice_get, Some}
+use Rattle.std.proofs.lemmas.Option.{slice_get_within}
+use Rattle.fs_window.specs.Reading.{packet_at}
+use Rattle.fs_window.proofs.Schedule.{in_get}
+use Rattle.fs_world.proofs.served.Served.tell.Goals as goal
+
+pub arrives-requires-clause-sent : goal.arrives-requires-clause-sent
+arrives-requires-clause-sent c =
+    let x = c.in-Some.sent.now in
+    let there : slice_get c.args.self.now.packets.sent c.args.k ≡ Some x = sym c.in-Some.ensures in
+    record {
+      sent = x;
+      among = in_get c.args.self.now.packets.sent c.args.k x there;
+      sender = refl;
+      addressee = refl;
+      read = sym (c.in_ok-packet.ensures.exact ∙ ap packet_at c.as_slice.ensures);
+    }
+
+pub mark-requires : goal.mark-requires
+mark-requires c =
+    let x = c.in-Some.sent.now in
+    let there : slice_get c.args.self.now.packets.sent c.args.k ≡ Some x = sym c.in-Some.ensures in
+    omega (arith, slice_get_within c.args.self.now.packets.sent c.args.k x there, c.in_ok-told.ensures.kept)
