@@ -22,3 +22,4 @@ mod HeardMessages
 mod Arrivals
 pub mod SentNumbers
 mod AtSeat
+pub mod Forms
