@@ -38,3 +38,4 @@ mod HeardMessages
 mod Arrivals
 pub mod SentNumbers
 mod AtSeat
+pub mod Forms

@@ -7,7 +7,6 @@ use Rattle.fs_model.specs.Namespace.{NodeMap}
 use Rattle.fs_msg.specs.declared.core_error.Counter.{Counter}
 use Rattle.fs_msg.specs.declared.core_error.Counter.TheVariants.{Entries}
 use Rattle.fs_msg.specs.declared.item.Item.{Item}
-use Rattle.fs_msg.specs.declared.limits.TheConstants.{LONGEST}
 use Rattle.fs_record.specs.Records.{nodes_of}
 use Rattle.fs_schedule.specs.declared.event.Event.{Event}
 use Rattle.fs_schedule.specs.declared.event.Head.{Head}
@@ -23,7 +22,6 @@ use Rattle.fs_world.specs.Direct as direct
 use Rattle.fs_world.specs.Direct.{first_direct}
 use Rattle.fs_world.specs.Served as served
 use Rattle.fs_world.specs.Served.{first_served}
-use Rattle.fs_world.specs.Term.{IsTerm}
 use Rattle.fs_world.specs.declared.form.Form.{Form}
 use Rattle.fs_world.specs.declared.form.Form.TheVariants.{Direct, Served}
 
@@ -125,11 +123,6 @@ abbrev pub may_happen : Head → What → Bool
 may_happen head.Direct (Do s o) = may_ask o
 may_happen (head.Servers servers skew term) (Do s o) = is_called o
 may_happen h w = true
-
--- the skew and the term of servers are in their ranges
-abbrev pub FitsHead : Head → Type 0
-FitsHead head.Direct = Unit {0}
-FitsHead (head.Servers servers skew term) = (skew ≤ LONGEST) × IsTerm term
 
 -- what callers may ask of a server's clients, and which sessions there are
 abbrev pub FitsServed : What → Type 0

@@ -39,7 +39,8 @@ impl Model for World {
 }
 
 impl World {
-    ghost use Rattle.fs_world.specs.World.{FitsHead, FitsWorld, first_world, journal_of, packets_of, space_of, step};
+    ghost use Rattle.fs_schedule.specs.Spelling.{FitsHead};
+    ghost use Rattle.fs_world.specs.World.{FitsWorld, first_world, journal_of, packets_of, space_of, step};
 
     /// The world of the form before its first event.
     pub fn new(alloc: Global, head: &Head) -> Result<World, Memory>

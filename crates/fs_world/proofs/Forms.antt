@@ -1,0 +1,51 @@
+-- Which events may happen to the world of a schedule.
+use Rattle.std.proofs.Common.{◌≡◌, ℕ, ◌≤◌, true, false, refl}
+use Rattle.std.specs.Prelude.{Some, None, IfSome}
+use Rattle.fs_ident.specs.declared.actor.Peer.TheVariants.{Server, Client}
+use Rattle.fs_ident.specs.declared.actor.Session.{Session}
+use Rattle.fs_ident.specs.declared.limits.TheConstants.{SESSIONS}
+use Rattle.fs_model.specs.declared.op.Op.{Op}
+use Rattle.fs_model.specs.declared.op.Op.TheVariants as op
+use Rattle.fs_schedule.specs.Spelling.{FitsEvent, FitsWhat, has_op, session_in}
+use Rattle.fs_schedule.specs.declared.event.Event.{Event}
+use Rattle.fs_schedule.specs.declared.event.Head.{Head}
+use Rattle.fs_schedule.specs.declared.event.Head.TheVariants as head
+use Rattle.fs_schedule.specs.declared.event.What.{What}
+use Rattle.fs_schedule.specs.declared.event.What.TheVariants.{Join, Do, Tell, Turn, Recall}
+use Rattle.fs_serial.specs.World.{is_called}
+use Rattle.fs_world.specs.World.{FitsServed, FitsWorld, first_world, step}
+use Rattle.fs_world.specs.declared.form.Form.{Form}
+use Rattle.fs_world.specs.declared.form.Form.TheVariants.{Direct, Served}
+
+module _ (servers skew term : ℕ) where
+  called : (o : Op) → has_op (head.Servers servers skew term) o ≡ true → is_called o ≡ true
+  called (op.Lookup dir name) h = refl
+  called (op.List dir) h = refl
+  called (op.Kind file) h = refl
+  called (op.Info file) h = refl
+  called (op.Create dir name kind None) h = refl
+  called (op.Create dir name kind (Some id)) h = absurd (cc)
+  called (op.OpenFile file n modes) h = absurd (cc)
+  called (op.Close file n) h = absurd (cc)
+  called (op.Set file n size stamp) h = absurd (cc)
+  called (op.Delete dir name) h = absurd (cc)
+  called (op.Rename sdir sname ddir dname) h = absurd (cc)
+  called (op.Reap file session) h = absurd (cc)
+
+  served_fits : (what : What) → IfSome (session_in what) (λ (s : Session). (1 ≤ s.0) × (s.0 ≤ SESSIONS)) → FitsWhat (head.Servers servers skew term) what → FitsServed what
+  served_fits (Join s) session fits = session
+  served_fits (Do s o) session fits = called o fits.0
+  served_fits (Tell number) session fits = tt
+  served_fits (Turn (Client s)) session fits = tt
+  served_fits (Turn (Server k)) session fits = tt
+  served_fits (Recall k field) session fits = tt
+
+-- each event of a schedule may happen to the first world of its form
+pub first_fits : (h : Head) (e : Event) → FitsEvent h e → FitsWorld (first_world h) e.what
+first_fits head.Direct e fits = tt
+first_fits (head.Servers servers skew term) e fits = served_fits servers skew term e.what fits.session fits.what
+
+-- and what may happen now may happen later
+pub later_fits : (w : Form) (e : Event) (what : What) → FitsWorld w what → FitsWorld (step w e).world what
+later_fits (Direct w) e what fits = tt
+later_fits (Served w) e what fits = fits
