@@ -63,10 +63,7 @@ impl fmt::Display for Status {
             Status::Usage { word } => write!(f, "word {word} is not understood"),
             Status::BadLine { line } => write!(f, "line {line} is not in the grammar"),
             Status::Skewed { line, earlier } => {
-                write!(
-                    f,
-                    "line {line} is more than the skew before line {earlier}"
-                )
+                write!(f, "line {line} is more than the skew before line {earlier}")
             }
             Status::Limit { which, at } => write!(f, "line {at} passes the limit of {which}"),
             Status::TooLong { limit } => write!(f, "the input has more than {limit} bytes"),
