@@ -13,10 +13,9 @@ use Rattle.fs_schedule.specs.declared.event.What.{What}
 use Rattle.fs_schedule.specs.declared.event.What.TheVariants.{Join, Do, Tell, Turn, Recall}
 use Rattle.fs_schedule.specs.Faults.{AreLinesOf, IsScheduleText}
 use Rattle.fs_schedule.specs.Lines.{lines_of}
-use Rattle.fs_schedule.specs.Spelling as spelling
-use Rattle.fs_schedule.specs.Spelling.{FitsWhat, FitsEvent, has_op}
+use Rattle.fs_schedule.specs.Spelling.{FitsEvent, FitsHead, FitsWhat, has_op}
 use Rattle.fs_serial.specs.World.{is_called}
-use Rattle.fs_world.specs.World.{AllMayHappen, FitsHead, FitsWorld, first_world, may_happen, step}
+use Rattle.fs_world.specs.World.{AllMayHappen, FitsWorld, first_world, may_happen, step}
 use Rattle.fs_world.specs.declared.form.Form.{Form}
 use Rattle.fs_world.specs.declared.form.Form.TheVariants.{Direct, Served}
 use Rattle.farsite.specs.Fitting.{MayHappen}
@@ -74,14 +73,10 @@ pub fits_on : (w : Form) (x : Event) (es : List Event) → MayHappen w es → Ma
 fits_on (Direct w) x es f = f
 fits_on (Served w) x es f = f
 
-head_in : (h : Head) → spelling.FitsHead h → FitsHead h
-head_in head.Direct f = tt
-head_in (head.Servers n k t) f = search
-
 -- the numbers of its first line are in their ranges
 pub head_fits : (s : Schedule) (bytes : List ℕ) → IsScheduleText s bytes → FitsHead s.head
 head_fits s bytes r = in_lines s (lines_of bytes) r.0
   where
     in_lines : (s : Schedule) (lines : List (List ℕ)) → AreLinesOf s lines → FitsHead s.head
     in_lines s [] r = absurd r
-    in_lines s (line ∷ lines) r = head_in s.head r.0.1.0
+    in_lines s (line ∷ lines) r = r.0.1.0

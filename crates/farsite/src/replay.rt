@@ -2,7 +2,8 @@
 ghost use Rattle.std.specs.Prelude.{◌≡◌, ◌++◌, IfOk, OnOk, None, Some, IsErrOf, ℕ};
 ghost use Rattle.fs_msg.specs.declared.core_error.Counter.{Counter as TheCounter};
 ghost use Rattle.fs_report.specs.Report.{outcomes_text, items_text, report_text};
-ghost use Rattle.fs_world.specs.World.{AtCounter, AtPackets, FitsHead, first_world, run_of, stop_of};
+ghost use Rattle.fs_schedule.specs.Spelling.{FitsHead};
+ghost use Rattle.fs_world.specs.World.{AtCounter, AtPackets, first_world, run_of, stop_of};
 ghost use Rattle.farsite.specs.Fitting.{MayHappen};
 ghost use Rattle.farsite.specs.Headline.{report_of};
 ghost use Rattle.farsite.specs.declared.run_error.RunError.TheVariants.{Packets, Spent};

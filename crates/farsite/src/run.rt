@@ -1,7 +1,8 @@
 //! The run of a schedule.
 ghost use Rattle.std.specs.Prelude.{◌≡◌, ℕ, IfOk, OnOk, None, Some, IsErrOf};
 ghost use Rattle.fs_msg.specs.declared.core_error.Counter.{Counter as TheCounter};
-ghost use Rattle.fs_world.specs.World.{AtCounter, AtPackets, FitsHead, first_world, run_of, run_on, stop_in, stop_of};
+ghost use Rattle.fs_schedule.specs.Spelling.{FitsHead};
+ghost use Rattle.fs_world.specs.World.{AtCounter, AtPackets, first_world, run_of, run_on, stop_in, stop_of};
 ghost use Rattle.farsite.specs.Fitting.{MayHappen};
 ghost use Rattle.farsite.specs.declared.run_error.RunError.TheVariants.{Packets, Spent};
 
