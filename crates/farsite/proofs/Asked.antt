@@ -1,8 +1,10 @@
 -- What a schedule asks for is what callers may ask for, and may happen to its world.
 use Rattle.std.proofs.Common.{◌≡◌, true, false, List, [], ◌∷◌, refl, ℕ}
-use Rattle.std.specs.Prelude.{Option, Some, None}
+use Rattle.std.specs.Prelude.{◌≤◌, Option, Some, None, IfSome}
 use Rattle.std.specs.List.{AllByRecursion}
+use Rattle.fs_ident.specs.declared.actor.Session.{Session}
 use Rattle.fs_ident.specs.declared.kind.Kind.{Kind}
+use Rattle.fs_ident.specs.declared.limits.TheConstants.{SESSIONS}
 use Rattle.fs_model.specs.declared.op.Op.{Op}
 use Rattle.fs_model.specs.declared.op.Op.TheVariants as op
 use Rattle.fs_schedule.specs.declared.event.Event.{Event}
@@ -13,9 +15,9 @@ use Rattle.fs_schedule.specs.declared.event.What.{What}
 use Rattle.fs_schedule.specs.declared.event.What.TheVariants.{Join, Do, Tell, Turn, Recall}
 use Rattle.fs_schedule.specs.Faults.{AreLinesOf, IsScheduleText}
 use Rattle.fs_schedule.specs.Lines.{lines_of}
-use Rattle.fs_schedule.specs.Spelling.{FitsEvent, FitsHead, FitsWhat, has_op}
+use Rattle.fs_schedule.specs.Spelling.{FitsEvent, FitsHead, FitsWhat, has_op, session_in}
 use Rattle.fs_serial.specs.World.{is_called}
-use Rattle.fs_world.specs.World.{AllMayHappen, FitsWorld, first_world, may_happen, step}
+use Rattle.fs_world.specs.World.{AllMayHappen, FitsServed, FitsWorld, first_world, may_happen, step}
 use Rattle.fs_world.specs.declared.form.Form.{Form}
 use Rattle.fs_world.specs.declared.form.Form.TheVariants.{Direct, Served}
 use Rattle.farsite.specs.Fitting.{MayHappen}
@@ -53,16 +55,16 @@ pub all_asked : (h : Head) (es : List Event) → AllByRecursion (FitsEvent h) es
 all_asked h [] f = tt
 all_asked h (e ∷ es) f = (what_asked h e.what f.0.what, all_asked h es f.1)
 
+session_fits : (n k t : ℕ) (w : What) → IfSome (session_in w) (λ (s : Session). (1 ≤ s.0) × (s.0 ≤ SESSIONS)) → FitsWhat (head.Servers n k t) w → FitsServed w
+session_fits n k t (Join s) session f = session
+session_fits n k t (Do s o) session f = called n k t o f.0
+session_fits n k t (Tell number) session f = tt
+session_fits n k t (Turn who) session f = tt
+session_fits n k t (Recall j field) session f = tt
+
 what_fits : (h : Head) (e : Event) → FitsEvent h e → FitsWorld (first_world h) e.what
 what_fits head.Direct e f = tt
-what_fits (head.Servers n k t) e f = served n k t e.what f.session f.what
-  where
-    served : (n k t : ℕ) (w : What) → _ → FitsWhat (head.Servers n k t) w → FitsWorld (first_world (head.Servers n k t)) w
-    served n k t (Join s) session f = session
-    served n k t (Do s o) session f = called n k t o f.0
-    served n k t (Tell number) session f = tt
-    served n k t (Turn who) session f = tt
-    served n k t (Recall j field) session f = tt
+what_fits (head.Servers n k t) e f = session_fits n k t e.what f.session f.what
 
 pub all_fit : (h : Head) (es : List Event) → AllByRecursion (FitsEvent h) es → MayHappen (first_world h) es
 all_fit h [] f = tt
