@@ -1,5 +1,6 @@
 -- What a schedule asks for is what callers may ask for, and may happen to its world.
-use Rattle.std.proofs.Common.{◌≡◌, true, false, List, [], ◌∷◌, refl, ℕ}
+use Rattle.std.proofs.Common.{◌≡◌, ◌+◌, ◌<◌, true, List, [], ◌∷◌, refl, ℕ, drop, get_or, length, subst, sym}
+use Rattle.std.proofs.lemmas.List.{drop_more}
 use Rattle.std.specs.Prelude.{◌≤◌, Option, Some, None, IfSome}
 use Rattle.std.specs.List.{AllByRecursion}
 use Rattle.fs_ident.specs.declared.actor.Session.{Session}
@@ -70,10 +71,15 @@ pub all_fit : (h : Head) (es : List Event) → AllByRecursion (FitsEvent h) es �
 all_fit h [] f = tt
 all_fit h (e ∷ es) f = ((f.0.reading, what_fits h e f.0), all_fit h es f.1)
 
--- what fits a world fits it after an event
-pub fits_on : (w : Form) (x : Event) (es : List Event) → MayHappen w es → MayHappen (step w x).world es
+fits_on : (w : Form) (x : Event) (es : List Event) → MayHappen w es → MayHappen (step w x).world es
 fits_on (Direct w) x es f = f
 fits_on (Served w) x es f = f
+
+-- what fits a world fits it after an event
+pub fits_further : (w after : Form) (es : List Event) (i : ℕ) (e : Event) → i < length es → after ≡ (step w e).world → MayHappen w (drop i es) → MayHappen after (drop (i + 1) es)
+fits_further w after es i e lt eq f =
+    let both : MayHappen w (get_or es i e ∷ drop (i + 1) es) = subst (λ (xs : List Event). MayHappen w xs) (drop_more es i e lt) f in
+    subst (λ (v : Form). MayHappen v (drop (i + 1) es)) (sym eq) (fits_on w e (drop (i + 1) es) both.1)
 
 -- the numbers of its first line are in their ranges
 pub head_fits : (s : Schedule) (bytes : List ℕ) → IsScheduleText s bytes → FitsHead s.head

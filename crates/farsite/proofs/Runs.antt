@@ -1,8 +1,10 @@
 -- The loops over events, outcomes, items and lines.
-use Rattle.std.proofs.Common.{◌≡◌, true, false, refl, ℕ, ◌+◌, ◌-◌, ◌<◌, ◌≤◌, List, ◌∷◌, ◌++◌, length, get_or, take, drop, ap, sym, ◌∙◌, append_assoc, arith, subst}
+use Rattle.std.proofs.Common.{◌≡◌, Bool, true, false, refl, ℕ, ◌+◌, ◌-◌, ◌<◌, ◌≤◌, List, ◌∷◌, ◌++◌, length, get_or, take, drop, ap, sym, ◌∙◌, append_assoc, arith, subst}
 use Rattle.std.proofs.lemmas.List.{drop_more, append-nil, drop_all, take-take, length-take}
 use Rattle.std.proofs.Math.Seq.{take-add}
-use Rattle.std.specs.Prelude.{Option, Some, None, nat_lt}
+use Rattle.std.specs.Prelude.{Option, Some, None, nat_lt, if◌then◌else◌, Ok}
+use Rattle.std.specs.Result.{IsErrOf}
+use Rattle.std.proofs.lemmas.Bool.Decides.{nat_tests}
 use Rattle.std.specs.Io.KnownBytes.{Appends}
 use Rattle.fs_io.specs.Bytes.{IsPrefixWritten}
 use Rattle.fs_io.proofs.Known.{appends_more}
@@ -13,28 +15,42 @@ use Rattle.fs_schedule.specs.declared.outcome.Outcome.{Outcome}
 use Rattle.fs_msg.specs.declared.core_error.Counter.{Counter}
 use Rattle.fs_schedule.specs.declared.limits.TheConstants.{PACKETS}
 use Rattle.fs_world.specs.declared.form.Form.{Form}
-use Rattle.fs_world.specs.World.{Run, AtCounter, AtPackets, more, packets_of, run_on, step, stop_in}
+use Rattle.fs_world.specs.World.{Run, AtPackets, more, packets_of, run_on, step, stop_after, stop_at, stop_in}
 
 -- the run goes on with one more event
 pub run_step : (r : Run) (es : List Event) (i : ℕ) (d : Event) → i < length es → run_on r (drop i es) ≡ run_on (more r (get_or es i d)) (drop (i + 1) es)
 run_step r es i d h = rw (drop_more es i d h)
 
--- a counter that is at its end now breaks the run off
-pub spent_here : (w : Form) (line : ℕ) (es : List Event) (i : ℕ) (d : Event) (c : Counter) → i < length es → (step w (get_or es i d)).spent ≡ Some c → stop_in w line (drop i es) ≡ Some (AtCounter c)
-spent_here w line es i d c h t = rw (drop_more es i d h, t)
-
--- so do too many packets
-pub flooded_here : (w : Form) (line : ℕ) (es : List Event) (i : ℕ) (d : Event) → i < length es → (step w (get_or es i d)).spent ≡ None → nat_lt PACKETS (length (packets_of (step w (get_or es i d)).world)) ≡ true → stop_in w line (drop i es) ≡ Some (AtPackets line)
-flooded_here w line es i d h t f = rw (drop_more es i d h, t, f)
-
--- and else it goes on
-pub goes_on : (w : Form) (line : ℕ) (es : List Event) (i : ℕ) (d : Event) → i < length es → (step w (get_or es i d)).spent ≡ None → nat_lt PACKETS (length (packets_of (step w (get_or es i d)).world)) ≡ false → stop_in w line (drop i es) ≡ stop_in (step w (get_or es i d)).world (line + 1) (drop (i + 1) es)
-goes_on w line es i d h t f = rw (drop_more es i d h, t, f)
-
 -- no counter is at its end where none is named
 pub unspent : (o : Option Counter) → ((c : Counter) → o ≡ Some c → ⊥) → o ≡ None
 unspent None h = refl
 unspent (Some c) h = absurd (h c refl)
+
+-- an answer that is there is no error
+pub no_error : {T E : Type 0} (x : T) (d : E) → IsErrOf (Ok x) d → ⊥
+no_error x d h = absurd (cc h)
+
+many : (n : ℕ) → PACKETS < n → nat_lt PACKETS n ≡ true
+many n h = grind (arith, nat_tests)
+
+few : (n : ℕ) → n ≤ PACKETS → nat_lt PACKETS n ≡ false
+few n h = grind (arith, nat_tests)
+
+-- more packets than may be break the run off
+pub flooded : (w after : Form) (line : ℕ) (es : List Event) (i : ℕ) (e : Event) → i < length es → e ≡ get_or es i e → after ≡ (step w e).world → (step w e).spent ≡ None → PACKETS < length (packets_of after) → stop_in w line (drop i es) ≡ Some (AtPackets line)
+flooded w after line es i e lt is eq none more =
+    ap (λ (xs : List Event). stop_in w line xs) (drop_more es i e lt ∙ ap (λ (x : Event). x ∷ drop (i + 1) es) (sym is))
+    ∙ ap (λ (o : Option Counter). stop_at o (stop_after line (packets_of (step w e).world) (stop_in (step w e).world (line + 1) (drop (i + 1) es)))) none
+    ∙ ap (λ (v : Form). stop_after line (packets_of v) (stop_in (step w e).world (line + 1) (drop (i + 1) es))) (sym eq)
+    ∙ ap (λ (b : Bool). if b then Some (AtPackets line) else stop_in (step w e).world (line + 1) (drop (i + 1) es)) (many (length (packets_of after)) more)
+
+-- and else it goes on
+pub goes_on : (w after : Form) (line : ℕ) (es : List Event) (i : ℕ) (e : Event) → i < length es → e ≡ get_or es i e → after ≡ (step w e).world → (step w e).spent ≡ None → length (packets_of after) ≤ PACKETS → stop_in w line (drop i es) ≡ stop_in after (line + 1) (drop (i + 1) es)
+goes_on w after line es i e lt is eq none less =
+    ap (λ (xs : List Event). stop_in w line xs) (drop_more es i e lt ∙ ap (λ (x : Event). x ∷ drop (i + 1) es) (sym is))
+    ∙ ap (λ (o : Option Counter). stop_at o (stop_after line (packets_of (step w e).world) (stop_in (step w e).world (line + 1) (drop (i + 1) es)))) none
+    ∙ ap (λ (v : Form). stop_after line (packets_of v) (stop_in v (line + 1) (drop (i + 1) es))) (sym eq)
+    ∙ ap (λ (b : Bool). if b then Some (AtPackets line) else stop_in after (line + 1) (drop (i + 1) es)) (few (length (packets_of after)) less)
 
 -- one more outcome is written
 pub outcomes_step : (out more total : List ℕ) (os : List Outcome) (i : ℕ) (o : Outcome) → i < length os → get_or os i o ≡ o → more ≡ out ++ outcome_text (i + 1) o → out ++ outcomes_text (i + 1) (drop i os) ≡ total → more ++ outcomes_text (i + 1 + 1) (drop (i + 1) os) ≡ total

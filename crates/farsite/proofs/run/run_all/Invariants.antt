@@ -5,7 +5,7 @@ use Rattle.farsite.proofs.run.run_all.Given as goal
 
 abbrev pub invariant-loop-at : goal.invariant-loop-at
 invariant-loop-at l = record {
-  so_far : run_on (record { world = l.world; outcomes = l.told }) (drop l.at l.e-items) ≡ run_on (record { world = l.initial.world; outcomes = l.initial.told }) l.e-items;
-  stop : stop_in l.world (l.at + 2) (drop l.at l.e-items) ≡ stop_in l.initial.world 2 l.e-items;
-  fits : MayHappen l.world (drop l.at l.e-items);
+  so_far : run_on (record { world = l.world; outcomes = l.told }) (drop l.at l.events) ≡ run_on (record { world = l.initial.world; outcomes = l.initial.told }) l.events;
+  stop : stop_in l.world (l.at + 2) (drop l.at l.events) ≡ stop_in l.initial.world 2 l.events;
+  fits : MayHappen l.world (drop l.at l.events);
 }

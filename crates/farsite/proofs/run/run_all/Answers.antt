@@ -1,0 +1,46 @@
+use Rattle.std.proofs.Common.{◌≡◌, ◌+◌, ◌≤◌, ◌<◌, ℕ, List, [], ◌∷◌, ◌++◌, ap, sym, ◌∙◌, arith, inl, inr, drop, length}
+use Rattle.std.specs.Prelude.{None, Some}
+use Rattle.fs_schedule.specs.declared.event.Event.{Event}
+use Rattle.fs_schedule.specs.declared.limits.TheConstants.{PACKETS}
+use Rattle.fs_schedule.specs.declared.outcome.Outcome.{Outcome}
+use Rattle.fs_world.specs.World.{Run, AtPackets, more, packets_of, run_on, step, stop_in}
+use Rattle.fs_world.specs.declared.form.Form.{Form}
+use Rattle.farsite.proofs.Asked.{fits_further}
+use Rattle.farsite.proofs.Runs.{flooded, goes_on, no_error, run_step, unspent}
+use Rattle.farsite.proofs.run.run_all.Goals as goal
+
+pub returns-then-len-gt-PACKETS-clause-packets : goal.returns-then-len-gt-PACKETS-clause-packets
+returns-then-len-gt-PACKETS-clause-packets c = λ line h.
+    let i = c.loop-at.at in
+    let e = c.index-events-at.result in
+    let none : (step c.loop-at.world e).spent ≡ None = unspent (step c.loop-at.world e).spent (λ k h. elim (c.in-Ok.ensures.only k h) [ inl x ↦ no_error _ _ x | inr x ↦ no_error _ _ x ]) in
+    let count : c.len.result ≡ length (packets_of c.step.new.self) = cc in
+    let more : PACKETS < length (packets_of c.step.new.self) = omega (arith, count) in
+    let same : i + 2 ≡ line = cc h in
+    sym c.loop-at.invariant.stop
+    ∙ flooded c.loop-at.world c.step.new.self (i + 2) c.args.events.now i e c.loop-at-test.true c.index-events-at.is c.in-Ok.ensures.world none more
+    ∙ ap (λ (n : ℕ). Some (AtPackets n)) same
+
+pub loop-at-preserved : goal.loop-at-preserved
+loop-at-preserved c =
+    let items = c.args.events.now in
+    let i = c.loop-at.at in
+    let w = c.loop-at.world in
+    let e = c.index-events-at.result in
+    let rest = drop (i + 1) items in
+    let r : Run = record { world = w; outcomes = c.loop-at.told } in
+    let told : c.push.new.self ≡ c.loop-at.told ++ (step w e).outcome ∷ [] = c.in_ok-push-in-Ok.ensures.ok ∙ ap (λ (o : Outcome). c.loop-at.told ++ o ∷ []) c.in-Ok.ensures.outcome in
+    let none : (step w e).spent ≡ None = unspent (step w e).spent (λ k h. elim (c.in-Ok.ensures.only k h) [ inl x ↦ no_error _ _ x | inr x ↦ no_error _ _ x ]) in
+    let count : c.len.result ≡ length (packets_of c.step.new.self) = cc in
+    let less : length (packets_of c.step.new.self) ≤ PACKETS = omega (arith, count) in
+    let line : i + 1 + 2 ≡ i + 2 + 1 = omega arith in
+    record {
+      so_far = ap (λ (v : Form). run_on (record { world = v; outcomes = c.push.new.self }) rest) c.in-Ok.ensures.world
+          ∙ ap (λ (os : List Outcome). run_on (record { world = (step w e).world; outcomes = os }) rest) told
+          ∙ ap (λ (x : Event). run_on (more r x) rest) c.index-events-at.is
+          ∙ sym (run_step r items i e c.loop-at-test.true) ∙ c.loop-at.invariant.so_far;
+      stop = ap (λ (k : ℕ). stop_in c.step.new.self k rest) line
+          ∙ sym (goes_on w c.step.new.self (i + 2) items i e c.loop-at-test.true c.index-events-at.is c.in-Ok.ensures.world none less)
+          ∙ c.loop-at.invariant.stop;
+      fits = fits_further w c.step.new.self items i e c.loop-at-test.true c.in-Ok.ensures.world c.loop-at.invariant.fits;
+    }
