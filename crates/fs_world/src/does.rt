@@ -1,8 +1,6 @@
 //! A client does what it planned.
 ghost use Rattle.std.specs.Prelude.{◌≡◌, ◌⊎◌, ◌∷◌, [], ◌++◌, true, false, length, take, IfOk, IsErrOf, OnOk, OnErr, Some, None};
 ghost use Rattle.fs_client.specs.Client.{can_commit, committed};
-ghost use Rattle.fs_msg.specs.Ranges.{FitsMessage};
-ghost use Rattle.fs_msg.specs.Readable.{is_readable};
 ghost use Rattle.fs_msg.specs.Spelling.{message};
 ghost use Rattle.fs_msg.specs.declared.core_error.Counter.{Counter as TheCounter};
 ghost use Rattle.fs_msg.specs.declared.core_error.Counter.TheVariants.{Segments};
@@ -10,7 +8,7 @@ ghost use Rattle.fs_msg.specs.declared.core_error.CoreError.TheVariants as error
 ghost use Rattle.fs_msg.specs.declared.msg.Msg.TheVariants as msg;
 ghost use Rattle.fs_window.specs.Post.{post_due, post_pushed};
 ghost use Rattle.fs_window.specs.Undo.{undone};
-ghost use Rattle.fs_world.specs.Linked.{FitsUp};
+ghost use Rattle.fs_world.specs.Linked.{FitsUp, IsWritten};
 ghost use Rattle.fs_world.specs.Packets.{with_sent};
 ghost use Rattle.fs_world.specs.Served.{client_does, is_full_for, is_full_up, post_after, seat_goes, the_server, up_after, with_read};
 
@@ -206,7 +204,7 @@ fn put(
     ensures undo { OnOk result (undone undo.new post.new ≡ undone undo.old post.old) }
     ensures room { OnOk result (
         is_full_for post.old the_server (message (msg.Client m)) ≡ false) }
-    ensures fits { OnOk result (is_readable (msg.Client m) ≡ true → FitsMessage (msg.Client m)) }
+    ensures fits { OnOk result (IsWritten (msg.Client m)) }
     ensures spent { (counter : TheCounter) → IsErrOf result (errors.Spent counter) →
         (counter ≡ Segments) ×
         (is_full_for post.old the_server (message (msg.Client m)) ≡ true) }
@@ -231,7 +229,7 @@ fn put(
 fn spelled(alloc: Global, m: ClientMsg) -> Result<(ClientMsg, Vec<u8>), Memory>
     ensures message { IfOk result (λ x. x.0 ≡ m) }
     ensures text { IfOk result (λ x. x.1.items ≡ message (msg.Client m)) }
-    ensures fits { OnOk result (is_readable (msg.Client m) ≡ true → FitsMessage (msg.Client m)) }
+    ensures fits { OnOk result (IsWritten (msg.Client m)) }
 {
     let whole = Msg::Client(m);
     let mut text = Vec::new(alloc);
