@@ -27,8 +27,8 @@ pub(crate) fn outcome(alloc: Global, who: Option<Peer>, note: Note) -> Result<Ou
     })
 }
 
-/// What is due on an actor's links joins the packets, and the outcome of its one note has their numbers. The links do not
-/// change; they count it as sent by `mark_sent`.
+/// What is due on an actor's links joins the packets, and the outcome of its one note has their numbers. The links do
+/// not change; they count it as sent by `mark_sent`.
 pub(crate) fn send_due(
     alloc: Global,
     who: Peer,

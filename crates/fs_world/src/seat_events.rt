@@ -48,15 +48,18 @@ pub(crate) fn act_in(
         OnOk result (numbered_map_of seats.new ≡ map.insert (numbered_map_of seats.old) s.0
         (client_acts now s op.now seat journal.old packets.old).seat) }
     ensures journal { (seat : TheSeat) → map.get (numbered_map_of seats.old) s.0 ≡ Some seat →
-        OnOk result (journal.new ≡ (client_acts now s op.now seat journal.old packets.old).journal) }
+        OnOk result (journal.new ≡
+        (client_acts now s op.now seat journal.old packets.old).journal) }
     ensures packets { (seat : TheSeat) → map.get (numbered_map_of seats.old) s.0 ≡ Some seat →
-        OnOk result (packets.new ≡ (client_acts now s op.now seat journal.old packets.old).packets) }
+        OnOk result (packets.new ≡
+        (client_acts now s op.now seat journal.old packets.old).packets) }
     ensures room { (seat : TheSeat) → map.get (numbered_map_of seats.old) s.0 ≡ Some seat →
         OnOk result ((client_acts now s op.now seat journal.old packets.old).spent ≡ None) }
     ensures fits { (seat : TheSeat) → map.get (numbered_map_of seats.old) s.0 ≡ Some seat →
         OnOk result (FitsUp (act_plan seat.client now op.now).out.send) }
     ensures spent { (seat : TheSeat) (counter : TheCounter) →
-        map.get (numbered_map_of seats.old) s.0 ≡ Some seat → IsErrOf result (errors.Spent counter) →
+        map.get (numbered_map_of seats.old) s.0 ≡ Some seat →
+        IsErrOf result (errors.Spent counter) →
         (client_acts now s op.now seat journal.old packets.old).spent ≡ Some counter }
     ensures only { (seat : TheSeat) (counter : TheCounter) →
         map.get (numbered_map_of seats.old) s.0 ≡ Some seat →
@@ -98,7 +101,8 @@ pub(crate) fn turn_in(
     ensures fits { (seat : TheSeat) → map.get (numbered_map_of seats.old) s.0 ≡ Some seat →
         OnOk result (FitsUp (turn_plan seat.client now).out.send) }
     ensures spent { (seat : TheSeat) (counter : TheCounter) →
-        map.get (numbered_map_of seats.old) s.0 ≡ Some seat → IsErrOf result (errors.Spent counter) →
+        map.get (numbered_map_of seats.old) s.0 ≡ Some seat →
+        IsErrOf result (errors.Spent counter) →
         (client_turns now s seat journal.old packets.old).spent ≡ Some counter }
     ensures only { (seat : TheSeat) (counter : TheCounter) →
         map.get (numbered_map_of seats.old) s.0 ≡ Some seat →
@@ -145,7 +149,8 @@ pub(crate) fn tell_in(
         map.get (numbered_map_of seats.old) s.0 ≡ Some seat →
         OnOk result (FitsUp (answer_plan seat.client now 0 a).out.send) }
     ensures spent { (seat : TheSeat) (counter : TheCounter) →
-        map.get (numbered_map_of seats.old) s.0 ≡ Some seat → IsErrOf result (errors.Spent counter) →
+        map.get (numbered_map_of seats.old) s.0 ≡ Some seat →
+        IsErrOf result (errors.Spent counter) →
         (client_told now s p.now seat journal.old packets.old).spent ≡ Some counter }
     ensures only { (seat : TheSeat) (counter : TheCounter) →
         map.get (numbered_map_of seats.old) s.0 ≡ Some seat →

@@ -125,7 +125,8 @@ impl Seats {
         ensures outcome { (seat : TheSeat) → map.get self.old s.0 ≡ Some seat →
             IfOk result (λ o. o ≡ (client_acts now s op.now seat journal.old packets.old).outcome) }
         ensures seat { (seat : TheSeat) → map.get self.old s.0 ≡ Some seat → OnOk result (
-            self.new ≡ map.insert self.old s.0 (client_acts now s op.now seat journal.old packets.old).seat) }
+            self.new ≡ map.insert self.old s.0
+            (client_acts now s op.now seat journal.old packets.old).seat) }
         ensures journal { (seat : TheSeat) → map.get self.old s.0 ≡ Some seat → OnOk result (
             journal.new ≡ (client_acts now s op.now seat journal.old packets.old).journal) }
         ensures packets { (seat : TheSeat) → map.get self.old s.0 ≡ Some seat → OnOk result (
@@ -162,7 +163,8 @@ impl Seats {
         ensures outcome { (seat : TheSeat) → map.get self.old s.0 ≡ Some seat →
             IfOk result (λ o. o ≡ (client_turns now s seat journal.old packets.old).outcome) }
         ensures seat { (seat : TheSeat) → map.get self.old s.0 ≡ Some seat → OnOk result (
-            self.new ≡ map.insert self.old s.0 (client_turns now s seat journal.old packets.old).seat) }
+            self.new ≡ map.insert self.old s.0
+            (client_turns now s seat journal.old packets.old).seat) }
         ensures journal { (seat : TheSeat) → map.get self.old s.0 ≡ Some seat → OnOk result (
             journal.new ≡ (client_turns now s seat journal.old packets.old).journal) }
         ensures packets { (seat : TheSeat) → map.get self.old s.0 ≡ Some seat → OnOk result (
@@ -203,7 +205,8 @@ impl Seats {
         ensures outcome { (seat : TheSeat) → map.get self.old s.0 ≡ Some seat →
             IfOk result (λ o. o ≡ (client_told now s p.now seat journal.old packets.old).outcome) }
         ensures seat { (seat : TheSeat) → map.get self.old s.0 ≡ Some seat → OnOk result (
-            self.new ≡ map.insert self.old s.0 (client_told now s p.now seat journal.old packets.old).seat) }
+            self.new ≡ map.insert self.old s.0
+            (client_told now s p.now seat journal.old packets.old).seat) }
         ensures journal { (seat : TheSeat) → map.get self.old s.0 ≡ Some seat → OnOk result (
             journal.new ≡ (client_told now s p.now seat journal.old packets.old).journal) }
         ensures packets { (seat : TheSeat) → map.get self.old s.0 ≡ Some seat → OnOk result (
