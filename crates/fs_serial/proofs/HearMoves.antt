@@ -48,7 +48,8 @@ module _ (skew greatest : ℕ) (s : Sight) (by : Session) (replied : List Item) 
   told_moved (Shipped count e) h = record { seat = seat_shipped skew greatest s by replied c up count e rest h; reserves = same_reserves _ (seen_at by c (Shipped count e ∷ rest)) (shipped_seen skew greatest s by replied c up count e rest h) }
   told_moved (Recall n) h = record { seat = seat_recalled skew greatest s by replied c up n rest h; reserves = same_reserves _ (seen_at by c (Recall n ∷ rest)) (recalled_seen skew greatest s by replied c up n rest h) }
 
-  fits_first : (a : Answer) → Seat skew greatest s by replied c up (a ∷ rest) → fits 0 c.exchange a c ≡ true
+  -- the first answer on its way fits
+  pub fits_first : (a : Answer) → Seat skew greatest s by replied c up (a ∷ rest) → fits 0 c.exchange a c ≡ true
   fits_first (Recall n) h = refl
   fits_first (Granted gs fresh e) h = fits_due c up (Granted gs fresh e) rest (heard c c.exchange up (Granted gs fresh e) rest refl refl h.exchange.one)
   fits_first (Renewed ends e) h = fits_due c up (Renewed ends e) rest (heard c c.exchange up (Renewed ends e) rest refl refl h.exchange.one)

@@ -230,7 +230,7 @@ module _ (greatest : ℕ) (w : World) (by : Session) (h : WorldHolds greatest w)
 all_recalls : (leases : List (LeaseNo × Session)) (m : Peer × Msg) → In m (recalls_of leases) → IsRecallTo m
 all_recalls leases m i = let q = In-map (λ (x : LeaseNo × Session). to_session x.1 (Recall x.0)) m leases i in record { to = q.0.1; number = q.0.0; message = q.1.1 }
 
-one_up : (c : Client) (x : Option Exchange) (up : List ClientMsg) (down : List Answer) (m : ClientMsg) → In m up → OneExchange c x up down → up ≡ m ∷ []
+pub one_up : (c : Client) (x : Option Exchange) (up : List ClientMsg) (down : List Answer) (m : ClientMsg) → In m up → OneExchange c x up down → up ≡ m ∷ []
 one_up c None up down m i h = absurd (subst (λ ms. In m ms) h.0 i)
 one_up c (Some x) up down m i (inl a) = elim (subst (λ ms. In m ms) a.asked i) as (λ _. up ≡ m ∷ []) [ inl e ↦ a.asked ∙ ap (λ k. k ∷ []) (sym e) | inr z ↦ absurd z ]
 one_up c (Some x) up down m i (inr a) = absurd (subst (λ ms. In m ms) a.asked i)

@@ -1,21 +1,30 @@
 -- No event of the server changes its skew, and its clock only at the beginning.
-use Rattle.std.proofs.Common.{◌≡◌, ℕ, Bool, true, false, List, [], ◌∷◌, ◌++◌, map, refl, ◌∙◌}
+use Rattle.std.proofs.Common.{◌≡◌, ℕ, Bool, true, false, List, [], ◌∷◌, ◌++◌, map, cond, refl, ◌∙◌}
 use Rattle.std.specs.Prelude.{Option, Some, None}
+use Rattle.std.specs.List.{list_all}
 use Rattle.fs_ident.specs.declared.actor.Session.{Session}
 use Rattle.fs_field.specs.declared.asked.Asked.{Asked}
 use Rattle.fs_field.specs.declared.asked.Asked.TheVariants as asked_as
 use Rattle.fs_field.specs.declared.field.Field.{Field}
 use Rattle.fs_field.specs.declared.lease_kind.LeaseKind.{LeaseKind}
+use Rattle.fs_field.specs.Field.{tells_no_mode}
 use Rattle.fs_field.specs.Table.{borne_numbers}
 use Rattle.fs_msg.specs.declared.answer.Grant.{Grant}
+use Rattle.fs_msg.specs.declared.client_msg.ClientMsg.{ClientMsg}
+use Rattle.fs_msg.specs.declared.client_msg.ClientMsg.TheVariants.{Ask, Renew, Release, Ship}
 use Rattle.fs_msg.specs.declared.end.End.{End}
 use Rattle.fs_msg.specs.declared.end.End.TheVariants as end
 use Rattle.fs_msg.specs.declared.entry.Entry.{Entry}
 use Rattle.fs_msg.specs.declared.item.Item.{Item}
+use Rattle.fs_record.specs.Effects.{tells_its_effects}
 use Rattle.fs_record.specs.Fresh.{fresh_number, is_directory}
 use Rattle.fs_rows.specs.Answer.{answer}
-use Rattle.fs_server.specs.Asks.{Asking, ask_from, ask_fresh, asked_in, fresh_for, fresh_in, fresh_of, grant_of, kind_for, with_lease}
-use Rattle.fs_server.specs.Ships.{Shipping, first_gone, item_of, ship_from, with_entry}
+use Rattle.fs_server.specs.Asks.{Asking, answered, ask_from, ask_fresh, asked_in, fresh_for, fresh_in, fresh_of, grant_of, kind_for, with_lease}
+use Rattle.fs_server.specs.Server.{strange}
+use Rattle.fs_server.specs.Ships.{Shipping, first_gone, item_of, ship_from, shipped, with_entry}
+use Rattle.fs_server.specs.Step.{event_step, message_step}
+use Rattle.fs_server.specs.declared.event.ServerEvent.{ServerEvent}
+use Rattle.fs_server.specs.declared.event.ServerEvent.TheVariants.{FromClient, Turn, Recall}
 use Rattle.fs_server.specs.declared.state.Server.{Server}
 use Rattle.fs_field.specs.declared.used.Use.{Use}
 
@@ -79,3 +88,22 @@ ships_same by (e ∷ es) s admitted =
       | None ↦ let q = ships_same by es (with_entry by e s) (admitted ++ item_of by e ∷ []) in record { skew = q.skew; last = q.last }
       | Some u ↦ as_it_was s
     ]
+
+-- ## Each event
+
+message_same : (by : Session) (m : ClientMsg) (s : Server) → IsAsBefore s (message_step by m s).server
+message_same by (Ask items dir) s = elim (list_all (λ x. tells_no_mode x.0) items) as (λ b. IsAsBefore s (cond b (answered by (asked_in by items dir s)) (strange s)).server) [
+  | true ↦ asked_same by items dir s
+  | false ↦ as_it_was s
+]
+message_same by (Renew pairs) s = record { skew = refl; last = refl }
+message_same by (Release pairs) s = record { skew = refl; last = refl }
+message_same by (Ship entries) s = elim (list_all (λ (e : Entry). tells_its_effects e.op) entries) as (λ b. IsAsBefore s (cond b (shipped by (ship_from by entries s [])) (strange s)).server) [
+  | true ↦ ships_same by entries s []
+  | false ↦ as_it_was s
+]
+
+pub event_same : (e : ServerEvent) (s : Server) → IsAsBefore s (event_step e s).server
+event_same (FromClient by m) s = message_same by m s
+event_same Turn s = as_it_was s
+event_same (Recall field) s = as_it_was s

@@ -1,5 +1,5 @@
 -- No session has asked for more operations than there were events, so no counter comes to its end.
-use Rattle.std.proofs.Common.{◌≡◌, ℕ, ◌+◌, ◌-◌, ◌^◌, ◌<◌, ◌≤◌, ◌==◌, Bool, true, false, ◌||◌, List, [], ◌∷◌, length, refl, ap, sym, ◌∙◌, cond, arith}
+use Rattle.std.proofs.Common.{◌≡◌, ℕ, ◌+◌, ◌-◌, ◌^◌, ◌<◌, ◌≤◌, ◌==◌, Bool, true, false, if◌then◌else◌, List, [], ◌∷◌, length, refl, ap, sym, ◌∙◌, cond, arith}
 use Rattle.std.proofs.lemmas.Bool.Decides.{nat_tests}
 use Rattle.std.specs.Prelude.{Option, Some, None, unwrap_or}
 use Rattle.std.specs.Ordering.{nat_cmp, eq_by_cmp}
@@ -7,13 +7,17 @@ use Rattle.std.specs.Cmp.{nat_cmp_total}
 use Rattle.std.specs.FinMap.{get, insert, get-insert, get-empty}
 use Rattle.fs_ident.specs.declared.actor.Session.{Session}
 use Rattle.fs_model.specs.declared.op.Op.{Op}
+use Rattle.fs_msg.specs.declared.core_error.Counter.TheVariants.{Entries}
 use Rattle.fs_schedule.specs.declared.event.Event.{Event}
 use Rattle.fs_schedule.specs.declared.event.Head.{Head}
 use Rattle.fs_schedule.specs.declared.event.Head.TheVariants as head
+use Rattle.fs_schedule.specs.declared.event.Schedule.{Schedule}
 use Rattle.fs_schedule.specs.declared.event.What.{What}
-use Rattle.fs_schedule.specs.declared.event.What.TheVariants.{Join, Do}
+use Rattle.fs_schedule.specs.declared.event.What.TheVariants.{Join, Do, Tell, Turn, Recall}
 use Rattle.fs_world.specs.declared.direct.Direct.{Direct}
-use Rattle.fs_world.specs.Direct.{Counts, first_world, is_last, is_spent, meets_spent, step, step_of, join_at, do_at}
+use Rattle.fs_world.specs.Direct.{Counts, do_at, first_direct, is_last, is_spent, join_at, step_of}
+use Rattle.fs_world.specs.World.{Stop, first_world, stop_after, stop_at, stop_in, stop_of}
+use Rattle.fs_world.specs.declared.form.Form.TheVariants as form
 
 -- no count is above this
 abbrev AtMost : ℕ → Counts → Type 0
@@ -43,6 +47,9 @@ do_bounded k w s o (Some n) e h = let here : n ≤ k = h s.0 n e in put k w.aske
 step_bounded : (k : ℕ) (w : Direct) (what : What) → AtMost k w.asked → AtMost (k + 1) (step_of w what).world.asked
 step_bounded k w (Join s) h = join_bounded k w s (get w.asked s.0) h
 step_bounded k w (Do s o) h = do_bounded k w s o (get w.asked s.0) refl h
+step_bounded k w (Tell number) h = more k w.asked h
+step_bounded k w (Turn who) h = more k w.asked h
+step_bounded k w (Recall server field) h = more k w.asked h
 
 below : (n m : ℕ) → n < m → (n == m) ≡ false
 below n m h = grind (arith, nat_tests)
@@ -54,16 +61,26 @@ last_at k (Some n) h lt = let here : n ≤ k = h n refl in below n (2 ^ 64 - 1) 
 spent_at : (k : ℕ) (w : Direct) (what : What) → AtMost k w.asked → k + 1 < 2 ^ 64 → is_spent w what ≡ false
 spent_at k w (Join s) h lt = refl
 spent_at k w (Do s o) h lt = last_at k (get w.asked s.0) (h s.0) lt
+spent_at k w (Tell number) h lt = refl
+spent_at k w (Turn who) h lt = refl
+spent_at k w (Recall server field) h lt = refl
 
-neither : (a b : Bool) → a ≡ false → b ≡ false → (a || b) ≡ false
-neither a b e f = rw (e, f) refl
+goes_by : (spent : Bool) (line : ℕ) (later : Option Stop) → spent ≡ false → later ≡ None → stop_at (if spent then Some Entries else None) (stop_after line [] later) ≡ None
+goes_by true line later e n = absurd (cc)
+goes_by false line later e n = n
 
-spent_none : (k : ℕ) (w : Direct) (es : List Event) → AtMost k w.asked → k + length es < 2 ^ 64 → meets_spent w es ≡ false
-spent_none k w [] h lt = refl
-spent_none k w (e ∷ es) h lt = neither (is_spent w e.what) (meets_spent (step w e).world es) (spent_at k w e.what h (omega arith)) (spent_none (k + 1) (step w e).world es (step_bounded k w e.what h) (omega arith))
+none_spent : (k line : ℕ) (w : Direct) (es : List Event) → AtMost k w.asked → k + length es < 2 ^ 64 → stop_in (form.Direct w) line es ≡ None
+none_spent k line w [] h lt = refl
+none_spent k line w (e ∷ es) h lt =
+    let next : Direct = (step_of w e.what).world in
+    goes_by (is_spent w e.what) line (stop_in (form.Direct next) (line + 1) es) (spent_at k w e.what h (omega arith)) (none_spent (k + 1) (line + 1) next es (step_bounded k w e.what h) (omega arith))
 
 no_count : (n : ℕ) → ◌≡◌ {A = Option ℕ} None (Some n) → n ≤ 0
 no_count n e = absurd (cc)
 
-pub no_counter_is_spent : (h : Head) (es : List Event) → length es < 2 ^ 64 → meets_spent (first_world h) es ≡ false
-no_counter_is_spent head.Direct es lt = spent_none 0 (first_world head.Direct) es (λ s n e. no_count n (sym (get-empty nat_cmp s) ∙ e)) (omega arith)
+by_head : (h : Head) (es : List Event) → h ≡ head.Direct → length es < 2 ^ 64 → stop_in (first_world h) 2 es ≡ None
+by_head head.Direct es e lt = none_spent 0 2 first_direct es (λ s n q. no_count n (sym (get-empty nat_cmp s) ∙ q)) (omega arith)
+by_head (head.Servers servers skew term) es e lt = absurd (cc)
+
+pub no_counter_is_spent : (s : Schedule) → s.head ≡ head.Direct → length s.events < 2 ^ 64 → stop_of s ≡ None
+no_counter_is_spent s direct lt = by_head s.head s.events direct lt

@@ -4,7 +4,7 @@ pub mod Readable
 pub mod Serial
 pub mod Numbered
 pub mod Replies
-pub mod Kept
+pub mod DirectKept
 pub mod Bounded
 pub mod LinkedRows
 pub mod LinkedPair
@@ -23,3 +23,19 @@ mod Arrivals
 pub mod SentNumbers
 mod AtSeat
 pub mod Forms
+pub mod Fine
+pub mod Seen
+pub mod SeenSends
+pub mod Told
+pub mod ServedHolds
+pub mod ServerHolds
+pub mod SessionSteps
+pub mod ServedSteps
+pub mod FirstServed
+pub mod ServedDone
+pub mod GoesOn
+pub mod Runs
+pub mod Whole
+pub mod Right
+pub mod RightSteps
+pub mod RightRuns

@@ -1,5 +1,5 @@
 -- The numbers of each actor's items.
-use Rattle.std.proofs.Common.{◌≡◌, ℕ, ◌+◌, ◌<◌, ◌≤◌, ◌==◌, ◌⊎◌, inl, inr, Bool, true, false, List, [], ◌∷◌, ◌++◌, length, refl, ap, sym, ◌∙◌, cond, arith, length-append, subst}
+use Rattle.std.proofs.Common.{◌≡◌, ℕ, ◌+◌, ◌≤◌, ◌==◌, ◌⊎◌, inl, inr, Bool, true, false, List, [], ◌∷◌, ◌++◌, length, refl, ap, sym, ◌∙◌, cond, arith, length-append, subst}
 use Rattle.std.proofs.lemmas.List.{append-nil}
 use Rattle.std.proofs.lemmas.List.Elements.{filter-append}
 use Rattle.std.proofs.lemmas.Bool.{eqb-true}
@@ -26,7 +26,7 @@ at_least k [] i h m = absurd m
 at_least k (x ∷ xs) i h (inl e) = let same : i.n ≡ x.n = ap (λ (y : Item). y.n) e in omega (arith, h.0)
 at_least k (x ∷ xs) i h (inr m) = omega (arith, at_least (k + 1) xs i h.1 m)
 
-number_of_one : (k : ℕ) (is : List Item) (i j : Item) → AreNumberedFrom k is → In i is → In j is → i.n ≡ j.n → i ≡ j
+pub number_of_one : (k : ℕ) (is : List Item) (i j : Item) → AreNumberedFrom k is → In i is → In j is → i.n ≡ j.n → i ≡ j
 number_of_one k [] i j h a b e = absurd a
 number_of_one k (x ∷ xs) i j h (inl p) (inl q) e = p ∙ sym q
 number_of_one k (x ∷ xs) i j h (inl p) (inr q) e = let same : i.n ≡ x.n = ap (λ (y : Item). y.n) p in absurd (omega (arith, h.0, at_least (k + 1) xs j h.1 q))
@@ -38,7 +38,7 @@ in_filter true p x y ys e t h = rw e h
 in_filter false p x y ys e t (inl q) = absurd (let no : p x ≡ false = ap p q ∙ e in cc)
 in_filter false p x y ys e t (inr h) = rw e h
 
-kept : {X : Type 0} (p : X → Bool) (xs : List X) (x : X) → p x ≡ true → In x xs → In x (filter p xs)
+pub kept : {X : Type 0} (p : X → Bool) (xs : List X) (x : X) → p x ≡ true → In x xs → In x (filter p xs)
 kept p [] x t h = absurd h
 kept p (y ∷ ys) x t (inl e) = in_filter (p y) p x y ys refl t (inl e)
 kept p (y ∷ ys) x t (inr h) = in_filter (p y) p x y ys refl t (inr (kept p ys x t h))

@@ -30,10 +30,10 @@ pub record IsStep (m : NodeMap) (by : Session) (asked : Op) (a : Answer) : Type 
   pub plain : not (is_reap a.op) ≡ true
   pub asks : AsksAccess a.op
 
-create_steps : (b : Bool) (m : NodeMap) (next : Numbers) (by : Session) (dir name : List ℕ) (kind : Kind) (none id : Option (List ℕ))
-    → IsStep m by (op.Create dir name kind none) (if b then with_number_used next dir (answer_of m next by (op.Create dir name kind id)) else answer_of m next by (op.Create dir name kind None))
-create_steps true m next by dir name kind none id = record { reply = refl; space = refl; same = (id, refl); plain = refl; asks = tt }
-create_steps false m next by dir name kind none id = record { reply = refl; space = refl; same = (None, refl); plain = refl; asks = tt }
+create_steps : (b : Bool) (m : NodeMap) (next : Numbers) (by : Session) (dir name : List ℕ) (kind : Kind) (unnamed id : Option (List ℕ))
+    → IsStep m by (op.Create dir name kind unnamed) (if b then with_number_used next dir (answer_of m next by (op.Create dir name kind id)) else answer_of m next by (op.Create dir name kind None))
+create_steps true m next by dir name kind unnamed id = record { reply = refl; space = refl; same = (id, refl); plain = refl; asks = tt }
+create_steps false m next by dir name kind unnamed id = record { reply = refl; space = refl; same = (None, refl); plain = refl; asks = tt }
 
 pub answer_steps : (m : NodeMap) (next : Numbers) (by : Session) (o : Op) → may_ask o ≡ true → IsStep m by o (answer m next by o)
 answer_steps m next by (op.Create dir name kind id) h =

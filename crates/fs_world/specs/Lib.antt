@@ -5,6 +5,7 @@ pub mod Served
 pub mod World
 pub mod Order
 pub mod Safe
+pub mod Refusals
 -- cited by private calls alone
 pub mod Readable
 pub mod Linked

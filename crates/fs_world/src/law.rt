@@ -1,22 +1,38 @@
 //! Laws of every run, over the definitions alone.
-ghost use Rattle.std.specs.Prelude.{◌≡◌, ◌<◌, ◌^◌, false, List, length};
-ghost use Rattle.fs_schedule.specs.declared.event.Head.{Head};
-ghost use Rattle.fs_schedule.specs.declared.event.Event.{Event};
+ghost use Rattle.std.specs.Prelude.{◌≡◌, ◌<◌, ◌^◌, length, None};
+ghost use Rattle.fs_schedule.specs.declared.event.Head.TheVariants as head;
 ghost use Rattle.fs_schedule.specs.declared.event.Schedule.{Schedule};
-ghost use Rattle.fs_world.specs.Direct.{AllMayAsk, first_world, meets_spent, run_of};
 ghost use Rattle.fs_world.specs.Order.{AllAdmitted, told_of};
+ghost use Rattle.fs_world.specs.Refusals.{AllFair, NoneStrange};
 ghost use Rattle.fs_world.specs.Safe.{IsSerial};
+ghost use Rattle.fs_schedule.specs.Skew.{IsTimely};
+ghost use Rattle.fs_world.specs.World.{AllMayHappen, first_world, journal_of, run_of, stop_of};
 
-/// Whatever callers may ask for, the journal is one serial run of the namespace in session order, and every space on its
-/// way is safe. In the direct form every reply that was told is in the journal.
+/// Whatever callers may ask for, and whatever was lost, repeated or reordered on the way, where no clock falls behind another
+/// by more than the skew: the journal is one serial run of the namespace in session order, and every space on its way is
+/// safe. In the direct form, which has no clocks, every reply that was told is in the journal.
 pub fn every_run_is_serial()
-    ensures serial { (s : Schedule) → AllMayAsk s.events → IsSerial s.events (run_of s) }
-    ensures admitted { (s : Schedule) → AllMayAsk s.events →
-        AllAdmitted (run_of s).world.journal (told_of s.events (run_of s).outcomes) }
+    ensures serial { (s : Schedule) → AllMayHappen s.head s.events → IsTimely s.head s.events →
+        IsSerial s.events (run_of s) }
+    ensures admitted { (s : Schedule) → s.head ≡ head.Direct → AllMayHappen s.head s.events →
+        AllAdmitted (journal_of (run_of s).world) (told_of s.events (run_of s).outcomes) }
 {}
 
-/// A run of less than 2^64 events meets no counter at its end.
+/// A run of the direct form of less than 2^64 events is not broken off.
 pub fn no_short_run_is_spent()
-    ensures { (h : Head) (events : List Event) → length events < 2 ^ 64 →
-        meets_spent (first_world h) events ≡ false }
+    ensures { (s : Schedule) → s.head ≡ head.Direct → length s.events < 2 ^ 64 →
+        stop_of s ≡ None }
+{}
+
+/// No server and no client is ever told what no honest actor sends.
+pub fn no_outcome_is_strange()
+    ensures { (s : Schedule) → AllMayHappen s.head s.events → IsTimely s.head s.events →
+        NoneStrange (run_of s).outcomes }
+{}
+
+/// A server refuses an entry only where a lease that it used has no row any more, and that lease had ended; and it holds
+/// back none but those behind a refused one.
+pub fn refusals_are_fair()
+    ensures { (s : Schedule) → AllMayHappen s.head s.events → IsTimely s.head s.events →
+        AllFair (first_world s.head) s.events }
 {}

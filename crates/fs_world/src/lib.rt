@@ -27,5 +27,7 @@ mod term;
 mod tests;
 mod world;
 
-pub use law::{every_run_is_serial, no_short_run_is_spent};
+pub use law::{
+    every_run_is_serial, no_outcome_is_strange, no_short_run_is_spent, refusals_are_fair,
+};
 pub use world::World;

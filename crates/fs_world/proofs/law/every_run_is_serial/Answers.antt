@@ -1,4 +1,4 @@
-use Rattle.fs_world.proofs.Kept.{run_is_serial, told_is_admitted}
+use Rattle.fs_world.proofs.Whole.{run_is_serial, told_is_admitted}
 use Rattle.fs_world.proofs.law.every_run_is_serial.Goals as goal
 
 pub returns : goal.returns

@@ -1,6 +1,5 @@
--- What every event keeps, and so what holds of every run.
-use Rattle.std.proofs.Common.{◌≡◌, ℕ, ◌+◌, true, List, [], ◌∷◌, ◌++◌, length, refl, ap, sym, ◌∙◌, subst, append_assoc, length-append}
-use Rattle.std.proofs.lemmas.List.{append-nil}
+-- What every event of the direct form keeps.
+use Rattle.std.proofs.Common.{◌≡◌, ℕ, ◌+◌, true, List, [], ◌∷◌, ◌++◌, refl, ap, sym, ◌∙◌, subst}
 use Rattle.std.specs.Prelude.{Option, Some, None, unwrap_or}
 use Rattle.std.specs.FinMap.{get, get-empty}
 use Rattle.std.specs.Ordering.{nat_cmp}
@@ -11,22 +10,18 @@ use Rattle.fs_ident.specs.In.{In}
 use Rattle.fs_model.specs.declared.op.Op.{Op}
 use Rattle.fs_model.specs.Asking.{may_ask}
 use Rattle.fs_model.specs.Namespace.{first_space}
-use Rattle.fs_model.proofs.SoundRuns.{first_sound}
 use Rattle.fs_msg.specs.declared.item.Item.{Item}
 use Rattle.fs_msg.specs.Journal.{IsSerialRun}
-use Rattle.fs_schedule.specs.declared.event.Event.{Event}
-use Rattle.fs_schedule.specs.declared.event.Head.{Head}
 use Rattle.fs_schedule.specs.declared.event.Head.TheVariants as head
-use Rattle.fs_schedule.specs.declared.event.Schedule.{Schedule}
 use Rattle.fs_schedule.specs.declared.event.What.{What}
-use Rattle.fs_schedule.specs.declared.event.What.TheVariants.{Join, Do}
+use Rattle.fs_schedule.specs.declared.event.What.TheVariants.{Join, Do, Tell, Turn, Recall}
 use Rattle.fs_world.specs.declared.direct.Direct.{Direct}
-use Rattle.fs_world.specs.Direct.{Answer, Run, Stepped, AllMayAsk, answer, answer_step, join_step, do_at, first_run, item_of, join_at, may_happen, more, run_of, run_on, step_of}
-use Rattle.fs_world.specs.Order.{Told, told_at, told_of, AllAdmitted, HasNumberOf, Agrees, AreNumberedFrom, items_of}
-use Rattle.fs_world.specs.Safe.{IsSerial}
-use Rattle.fs_world.proofs.Serial.{serial_push, IsStep, answer_steps, AllAsk, asks_push, safe_after}
+use Rattle.fs_world.specs.Direct.{Answer, Stepped, answer, answer_step, do_at, first_direct, item_of, join_at, join_step, step_of}
+use Rattle.fs_world.specs.World.{may_happen}
+use Rattle.fs_world.specs.Order.{Told, told_at, AllAdmitted, HasNumberOf, Agrees, AreNumberedFrom, items_of}
+use Rattle.fs_world.proofs.Serial.{serial_push, IsStep, answer_steps, AllAsk, asks_push}
 use Rattle.fs_world.proofs.Numbered.{IsCounted, counted_joined, counted_answered, none_served, one_item}
-use Rattle.fs_world.proofs.Replies.{told_push, admitted_push, admitted_still}
+use Rattle.fs_world.proofs.Replies.{admitted_push, admitted_still}
 
 -- what holds of a world in which this was told
 pub record Holds (told : List Told) (w : Direct) : Type 0 where
@@ -75,63 +70,30 @@ do_holds : (told : List Told) (w : Direct) (s : Session) (o : Op) (c : Option �
 do_holds told w s o None at f h = holds_nothing told w h
 do_holds told w s o (Some n) at f h = holds_answered told w s o n (answer w.space w.next s o) at (answer_steps w.space w.next s o f) h
 
-step_holds : (told : List Told) (w : Direct) (what : What) → may_happen what ≡ true → Holds told w → StepHolds told what (step_of w what)
+pub step_holds : (told : List Told) (w : Direct) (what : What) → may_happen head.Direct what ≡ true → Holds told w → StepHolds told what (step_of w what)
 step_holds told w (Join s) f h = join_holds told w s (get w.asked s.0) refl h
 step_holds told w (Do s o) f h = do_holds told w s o (get w.asked s.0) refl f h
+step_holds told w (Tell number) f h = holds_nothing told w h
+step_holds told w (Turn who) f h = holds_nothing told w h
+step_holds told w (Recall server field) f h = holds_nothing told w h
 
--- ## All events
+-- ## What holds then
 
--- what holds of a run after these events
-record RunHolds (done : List Event) (r : Run) : Type 0 where
-  pub counted : length done ≡ length r.outcomes
-  pub holds : Holds (told_of done r.outcomes) r.world
-
-more_holds : (done : List Event) (r : Run) (e : Event) → may_happen e.what ≡ true → RunHolds done r → RunHolds (done ++ e ∷ []) (more r e)
-more_holds done r e f h = record {
-  counted = length-append done (e ∷ []) ∙ ap (λ n. n + 1) h.counted ∙ sym (length-append r.outcomes ((step_of r.world e.what).outcome ∷ []));
-  holds = subst (λ (ts : List Told). Holds ts (more r e).world) (sym (told_push done r.outcomes e (step_of r.world e.what).outcome h.counted)) (step_holds (told_of done r.outcomes) r.world e.what f h.holds);
+pub first_holds : Holds [] first_direct
+first_holds = record {
+  serial = refl;
+  counted = λ s. record { numbered = tt; counted = ap (λ o. unwrap_or o 0) (sym (get-empty nat_cmp s.0)) };
+  unserved = λ k. refl;
+  admitted = λ t m. absurd m;
+  asking = tt;
 }
 
-run_holds : (done es : List Event) (r : Run) → AllMayAsk es → RunHolds done r → RunHolds (done ++ es) (run_on r es)
-run_holds done [] r f h = subst (λ ds. RunHolds ds r) (sym (append-nil done)) h
-run_holds done (e ∷ es) r f h =
-    subst (λ ds. RunHolds ds (run_on r (e ∷ es))) (append_assoc done (e ∷ []) es)
-    (run_holds (done ++ e ∷ []) es (more r e) f.1 (more_holds done r e f.0 h))
-
-first_holds : (h : Head) → RunHolds [] (first_run h)
-first_holds head.Direct = record {
-  counted = refl;
-  holds = record {
-    serial = refl;
-    counted = λ s. record { numbered = tt; counted = ap (λ o. unwrap_or o 0) (sym (get-empty nat_cmp s.0)) };
-    unserved = λ k. refl;
-    admitted = λ t m. absurd m;
-    asking = tt;
-  };
-}
-
-whole : (s : Schedule) → AllMayAsk s.events → RunHolds s.events (run_of s)
-whole s f = run_holds [] s.events (first_run s.head) f (first_holds s.head)
-
-actors_numbered : (told : List Told) (w : Direct) → Holds told w → (who : Peer) → AreNumberedFrom 1 (items_of who w.journal)
+pub actors_numbered : (told : List Told) (w : Direct) → Holds told w → (who : Peer) → AreNumberedFrom 1 (items_of who w.journal)
 actors_numbered told w h (Server k) = subst (AreNumberedFrom 1) (sym (h.unserved k)) tt
 actors_numbered told w h (Client s) = (h.counted s).numbered
 
 -- an item that has the number of what was told is the one that was told
-agree : (told : List Told) (w : Direct) → Holds told w → (t : Told) (i : Item) → In t told → In i w.journal → HasNumberOf i t → Agrees i t
+pub agree : (told : List Told) (w : Direct) → Holds told w → (t : Told) (i : Item) → In t told → In i w.journal → HasNumberOf i t → Agrees i t
 agree told w h t i m at has =
     let found = h.admitted t m in
     subst (λ (x : Item). Agrees x t) (one_item w.journal t.session found.0 i (h.counted t.session).numbered found.1 at found.2.by has.by (found.2.n ∙ sym has.n)) found.3
-
--- the headline
-pub run_is_serial : (s : Schedule) → AllMayAsk s.events → IsSerial s.events (run_of s)
-run_is_serial s f =
-    let h : Holds (told_of s.events (run_of s).outcomes) (run_of s).world = (whole s f).holds in
-    record {
-      serial = h.serial;
-      ordered = record { numbered = actors_numbered _ _ h; agreeing = agree _ _ h };
-      safe = safe_after first_space (run_of s).world.journal first_sound h.asking;
-    }
-
-pub told_is_admitted : (s : Schedule) → AllMayAsk s.events → AllAdmitted (run_of s).world.journal (told_of s.events (run_of s).outcomes)
-told_is_admitted s f = (whole s f).holds.admitted

@@ -1,0 +1,178 @@
+-- What joins the journal of the servers form: items of sessions, each of which asks for an access where it opens.
+use Rattle.std.proofs.Common.{◌≡◌, ℕ, ◌+◌, ◌/◌, true, false, not, ◌&&◌, List, [], ◌∷◌, ◌++◌, map, cond, refl, inl, inr}
+use Rattle.std.specs.Prelude.{Option, Some, None, is_some}
+use Rattle.std.specs.List.{AllByRecursion, list_all}
+use Rattle.fs_ident.specs.In.{In}
+use Rattle.fs_ident.specs.declared.actor.Peer.{Peer}
+use Rattle.fs_ident.specs.declared.actor.Peer.TheVariants.{Server, Client}
+use Rattle.fs_ident.specs.declared.actor.Session.{Session}
+use Rattle.fs_field.specs.declared.asked.Need.{Need}
+use Rattle.fs_field.specs.declared.asked.Need.TheVariants as need
+use Rattle.fs_field.specs.declared.used.Use.{Use}
+use Rattle.fs_field.specs.Field.{tells_no_mode}
+use Rattle.fs_model.specs.Sound.{AsksAccess, is_change}
+use Rattle.fs_model.specs.Step.{is_empty}
+use Rattle.fs_model.specs.declared.op.Op.{Op}
+use Rattle.fs_model.specs.declared.op.Op.TheVariants as op
+use Rattle.fs_model.specs.declared.reply.Reply.{Reply}
+use Rattle.fs_model.specs.declared.reply.Reply.TheVariants as reply
+use Rattle.fs_record.specs.Effects.{tells_its_effects}
+use Rattle.fs_view.specs.declared.kept.Kept.{Kept}
+use Rattle.fs_view.specs.View.{View, missing_in, reply_in}
+use Rattle.fs_msg.specs.declared.act.Act.TheVariants as act
+use Rattle.fs_msg.specs.declared.act.Busy.TheVariants as busy
+use Rattle.fs_msg.specs.declared.answer.Answer.{Answer}
+use Rattle.fs_msg.specs.declared.answer.Answer.TheVariants.{Granted, Renewed, Released, Shipped, Recall}
+use Rattle.fs_msg.specs.declared.client_msg.ClientMsg.{ClientMsg}
+use Rattle.fs_msg.specs.declared.client_msg.ClientMsg.TheVariants.{Ask, Renew, Release, Ship}
+use Rattle.fs_msg.specs.declared.end.End.TheVariants as end
+use Rattle.fs_msg.specs.declared.entry.Entry.{Entry}
+use Rattle.fs_msg.specs.declared.item.Item.{Item}
+use Rattle.fs_client.specs.Acts.{act_on, act_plan, answer_with, answers, ask_for, asks, full_one, reads, replies, stays, with_id, worth}
+use Rattle.fs_client.specs.Answers.{answer_plan, fits, hear, strange, told}
+use Rattle.fs_client.specs.Client.{begun}
+use Rattle.fs_client.specs.Turns.{ending, idle, release_some, renew_some, returned, ships, turn_free, turn_on, turn_plan}
+use Rattle.fs_client.specs.declared.state.Client.{Client as ClientState}
+use Rattle.fs_server.specs.Asks.{answered, asked_in}
+use Rattle.fs_server.specs.Server.{begun as server_begun, strange as server_strange}
+use Rattle.fs_server.specs.Ships.{Shipping, first_gone, item_of, ship_from, shipped, with_entry}
+use Rattle.fs_server.specs.Step.{message_step, step}
+use Rattle.fs_server.specs.declared.event.ServerEvent.{ServerEvent}
+use Rattle.fs_server.specs.declared.event.ServerEvent.TheVariants.{FromClient, Turn, Recall as TheRecall}
+use Rattle.fs_server.specs.declared.state.Server.{Server as ServerState}
+use Rattle.fs_serial.specs.World.{is_called, pushed}
+
+abbrev pub IsOfSession : Peer → Type 0
+IsOfSession (Server k) = ⊥
+IsOfSession (Client s) = Unit {0}
+
+pub record IsFine (i : Item) : Type 0 where
+  pub by : IsOfSession i.by
+  pub asks : AsksAccess i.op
+
+abbrev pub AllFine : List Item → Type 0
+AllFine items = AllByRecursion IsFine items
+
+pub fine_more : (is js : List Item) → AllFine is → AllFine js → AllFine (is ++ js)
+fine_more [] js h g = g
+fine_more (i ∷ is) js h g = (h.0, fine_more is js h.1 g)
+
+-- what is admitted at once, if anything
+abbrev pub MayBeFine : Option Item → Type 0
+MayBeFine None = Unit {0}
+MayBeFine (Some i) = IsFine i
+
+pub fine_pushed : (o : Option Item) (is : List Item) → MayBeFine o → AllFine is → AllFine (pushed o is)
+fine_pushed None is f h = h
+fine_pushed (Some i) is f h = fine_more is (i ∷ []) h (f, tt)
+
+-- ## What callers ask for
+
+id_asks : (v : View) (now : ℕ) (o : Op) (r : Reply) → is_called o ≡ true → AsksAccess (with_id v now o r)
+id_asks v now (op.Lookup dir name) r h = tt
+id_asks v now (op.List dir) r h = tt
+id_asks v now (op.Kind file) r h = tt
+id_asks v now (op.Info file) r h = tt
+id_asks v now (op.Create dir name kind id) reply.Made h = tt
+id_asks v now (op.Create dir name kind id) r h = tt
+id_asks v now o r h = absurd (cc)
+
+full_fine : (needs : List Need) (c : ClientState) → MayBeFine (full_one needs c).out.admitted
+full_fine [] c = tt
+full_fine (need.Lease field kind ∷ needs) c = full_fine needs c
+full_fine (need.Fresh dir ∷ needs) c = tt
+
+ask_fine : (needs some : List Need) (c : ClientState) → MayBeFine (ask_for needs some c).out.admitted
+ask_fine needs [] c = full_fine needs c
+ask_fine needs (n ∷ ns) c = elim (is_some c.exchange) as (λ b. MayBeFine (cond b (stays (act.Busy busy.Exchange) c) (asks (n ∷ ns) c)).out.admitted) [ true ↦ tt | false ↦ tt ]
+
+answers_fine : (o : Op) (r : Reply) (c : ClientState) → is_called o ≡ true → MayBeFine (answers o r c).out.admitted
+answers_fine o r c h = elim (not (is_change r) && is_empty c.log) as (λ b. MayBeFine (cond b (reads o r c) (replies o r c)).out.admitted) [
+  | true ↦ record { by = tt; asks = id_asks c.view c.last o r h }
+  | false ↦ tt
+]
+
+with_fine : (r : Option Reply) (o : Op) (c : ClientState) → is_called o ≡ true → MayBeFine (answer_with r o c).out.admitted
+with_fine (Some r) o c h = answers_fine o r c h
+with_fine None o c h = ask_fine (missing_in c.view c.last o) (worth c.full (missing_in c.view c.last o)) c
+
+on_fine : (over : Option ℕ) (o : Op) (c : ClientState) → is_called o ≡ true → MayBeFine (act_on over o c).out.admitted
+on_fine (Some n) o c h = tt
+on_fine None o c h = with_fine (reply_in c.view c.last o) o c h
+
+pub act_fine : (c : ClientState) (now : ℕ) (o : Op) → is_called o ≡ true → MayBeFine (act_plan c now o).out.admitted
+act_fine c now o h = let b : ClientState = begun now c in on_fine b.over o b h
+
+-- ## Turns and answers
+
+renew_fine : (ks : List Kept) (c : ClientState) → MayBeFine (renew_some ks c).out.admitted
+renew_fine [] c = tt
+renew_fine (k ∷ ks) c = tt
+
+release_fine : (ks : List Kept) (c : ClientState) → MayBeFine (release_some ks c).out.admitted
+release_fine [] c = renew_fine (ending (c.last + c.term / 2) c.view) c
+release_fine (k ∷ ks) c = tt
+
+free_fine : (c : ClientState) → MayBeFine (turn_free c).out.admitted
+free_fine c = elim (not (is_empty c.log) && not (is_some c.over)) as (λ b. MayBeFine (cond b (ships c) (release_some (returned c.view) c)).out.admitted) [
+  | true ↦ tt
+  | false ↦ release_fine (returned c.view) c
+]
+
+turned_fine : (c : ClientState) → MayBeFine (turn_on c).out.admitted
+turned_fine c = elim (is_some c.exchange) as (λ b. MayBeFine (cond b (idle c) (turn_free c)).out.admitted) [ true ↦ tt | false ↦ free_fine c ]
+
+pub turn_fine : (c : ClientState) (now : ℕ) → MayBeFine (turn_plan c now).out.admitted
+turn_fine c now = turned_fine (begun now c)
+
+told_fine : (a : Answer) (c : ClientState) → MayBeFine (told a c).out.admitted
+told_fine (Granted gs fresh e) c = tt
+told_fine (Renewed rows e) c = tt
+told_fine (Released count e) c = tt
+told_fine (Shipped count e) c = tt
+told_fine (Recall number) c = tt
+
+heard_fine : (a : Answer) (c : ClientState) → MayBeFine (hear 0 a c).out.admitted
+heard_fine a c = elim (fits 0 c.exchange a c) as (λ b. MayBeFine (cond b (told a c) (strange c)).out.admitted) [ true ↦ told_fine a c | false ↦ tt ]
+
+pub answer_fine : (c : ClientState) (now : ℕ) (a : Answer) → MayBeFine (answer_plan c now 0 a).out.admitted
+answer_fine c now a = heard_fine a (begun now c)
+
+-- ## Entries that are handed in
+
+abbrev pub EntriesAsk : List Entry → Type 0
+EntriesAsk es = (e : Entry) → In e es → AsksAccess e.op
+
+pub ships_fine : (by : Session) (es : List Entry) (s : ServerState) (admitted : List Item) → EntriesAsk es → AllFine admitted → AllFine (ship_from by es s admitted).admitted
+ships_fine by [] s admitted a h = h
+ships_fine by (e ∷ es) s admitted a h =
+    elim (first_gone s.rows by e.uses) as (λ (o : Option Use). AllFine
+    (elim o as (λ _. Shipping) [
+      | None ↦ ship_from by es (with_entry by e s) (admitted ++ item_of by e ∷ [])
+      | Some u ↦ record { server = s; admitted = admitted; end = end.Ended e.n u.no u.until s.last; gaps = map (λ (x : Entry). x.n) es }
+    ]).admitted) [
+      | None ↦ ships_fine by es (with_entry by e s) (admitted ++ item_of by e ∷ []) (λ x i. a x (inr i)) (fine_more admitted (item_of by e ∷ []) h (record { by = tt; asks = a e (inl refl) }, tt))
+      | Some u ↦ h
+    ]
+
+abbrev pub MessageAsks : ClientMsg → Type 0
+MessageAsks (Ship entries) = EntriesAsk entries
+MessageAsks m = Unit {0}
+
+message_fine : (by : Session) (m : ClientMsg) (s : ServerState) → MessageAsks m → AllFine (message_step by m s).out.admitted
+message_fine by (Ask items dir) s a = elim (list_all (λ x. tells_no_mode x.0) items) as (λ b. AllFine (cond b (answered by (asked_in by items dir s)) (server_strange s)).out.admitted) [ true ↦ tt | false ↦ tt ]
+message_fine by (Renew pairs) s a = tt
+message_fine by (Release pairs) s a = tt
+message_fine by (Ship entries) s a = elim (list_all (λ (e : Entry). tells_its_effects e.op) entries) as (λ b. AllFine (cond b (shipped by (ship_from by entries s [])) (server_strange s)).out.admitted) [
+  | true ↦ ships_fine by entries s [] a tt
+  | false ↦ tt
+]
+
+abbrev pub EventAsks : ServerEvent → Type 0
+EventAsks (FromClient by m) = MessageAsks m
+EventAsks e = Unit {0}
+
+pub step_fine : (s : ServerState) (now : ℕ) (e : ServerEvent) → EventAsks e → AllFine (step s now e).out.admitted
+step_fine s now (FromClient by m) a = message_fine by m (server_begun now s) a
+step_fine s now Turn a = tt
+step_fine s now (TheRecall field) a = tt

@@ -1,0 +1,80 @@
+-- Every event of every run notes what is right.
+use Rattle.std.proofs.Common.{◌≡◌, ℕ, false, List, [], ◌∷◌, ◌++◌, refl}
+use Rattle.std.specs.Prelude.{Option, Some, None}
+use Rattle.std.specs.FinMap.{get}
+use Rattle.std.specs.List.{AllByRecursion}
+use Rattle.fs_ident.specs.declared.actor.Session.{Session}
+use Rattle.fs_field.specs.declared.row.Row.{Row}
+use Rattle.fs_model.specs.declared.op.Op.{Op}
+use Rattle.fs_msg.specs.declared.note.Note.{Note}
+use Rattle.fs_schedule.specs.declared.event.Event.{Event}
+use Rattle.fs_schedule.specs.declared.event.Head.{Head}
+use Rattle.fs_schedule.specs.declared.event.Head.TheVariants as head
+use Rattle.fs_schedule.specs.declared.event.Schedule.{Schedule}
+use Rattle.fs_schedule.specs.declared.event.What.{What}
+use Rattle.fs_schedule.specs.declared.event.What.TheVariants.{Join, Do}
+use Rattle.fs_schedule.specs.declared.outcome.Outcome.{Outcome}
+use Rattle.fs_world.specs.Direct.{do_at, join_at, step_of}
+use Rattle.fs_world.specs.Order.{Told, told_at}
+use Rattle.fs_world.specs.Refusals.{AllFair, IsFair, NoneStrange, is_strange, rows_of}
+use Rattle.fs_schedule.specs.Skew.{IsTimely}
+use Rattle.fs_world.specs.World.{AllMayHappen, Run, first_run, first_world, more, run_of, run_on, step}
+use Rattle.fs_world.specs.declared.direct.Direct.{Direct as TheDirect}
+use Rattle.fs_world.specs.declared.form.Form.{Form}
+use Rattle.fs_world.specs.declared.form.Form.TheVariants.{Direct, Served}
+use Rattle.fs_world.proofs.GoesOn.{Goes, goes_first, goes_on}
+use Rattle.fs_world.proofs.RightSteps.{AllRight, step_right}
+
+-- ## One event
+
+direct_join : (s : Session) (o : Option ℕ) (w : TheDirect) → AllRight [] (join_at o w s).outcome.notes
+direct_join s None w = (record { plain = refl; fair = tt }, tt)
+direct_join s (Some n) w = (record { plain = refl; fair = tt }, tt)
+
+direct_do : (s : Session) (op : Op) (o : Option ℕ) (w : TheDirect) → AllRight [] (do_at o w s op).outcome.notes
+direct_do s op None w = (record { plain = refl; fair = tt }, tt)
+direct_do s op (Some n) w = (record { plain = refl; fair = tt }, tt)
+
+direct_right : (w : TheDirect) (what : What) → AllRight [] (step_of w what).outcome.notes
+direct_right w (Join s) = direct_join s (get w.asked s.0) w
+direct_right w (Do s o) = direct_do s o (get w.asked s.0) w
+direct_right w what = (record { plain = refl; fair = tt }, tt)
+
+right_at : (h : Head) (e : Event) (es : List Event) (told : List Told) (w : Form) → Goes h (e ∷ es) told w → AllRight (rows_of (step w e).world) (step w e).outcome.notes
+right_at head.Direct e es told (Direct w) g = direct_right w e.what
+right_at (head.Servers servers skew term) e es told (Served w) g = step_right skew g.greatest told w g.holds e.reading g.ahead.0 e.what
+right_at head.Direct e es told (Served w) g = absurd g
+right_at (head.Servers servers skew term) e es told (Direct w) g = absurd g
+
+-- ## All events
+
+all_fair : (rows : List Row) (notes : List Note) → AllRight rows notes → AllByRecursion (IsFair rows) notes
+all_fair rows [] h = tt
+all_fair rows (n ∷ ns) h = (h.0.fair, all_fair rows ns h.1)
+
+all_plain : (rows : List Row) (notes : List Note) → AllRight rows notes → AllByRecursion (λ (n : Note). is_strange n ≡ false) notes
+all_plain rows [] h = tt
+all_plain rows (n ∷ ns) h = (h.0.plain, all_plain rows ns h.1)
+
+fair_from : (h : Head) (es : List Event) (told : List Told) (w : Form) → Goes h es told w → AllFair w es
+fair_from h [] told w g = tt
+fair_from h (e ∷ es) told w g = (
+  all_fair (rows_of (step w e).world) (step w e).outcome.notes (right_at h e es told w g),
+  fair_from h es (told ++ told_at e.what (step w e).outcome.notes) (step w e).world (goes_on h e es told w g),
+)
+
+one_more : (outcomes : List Outcome) (o : Outcome) → NoneStrange outcomes → AllByRecursion (λ (n : Note). is_strange n ≡ false) o.notes → NoneStrange (outcomes ++ o ∷ [])
+one_more [] o h p = (p, tt)
+one_more (x ∷ xs) o h p = (h.0, one_more xs o h.1 p)
+
+plain_from : (h : Head) (es : List Event) (told : List Told) (r : Run) → Goes h es told r.world → NoneStrange r.outcomes → NoneStrange (run_on r es).outcomes
+plain_from h [] told r g p = p
+plain_from h (e ∷ es) told r g p =
+    plain_from h es (told ++ told_at e.what (step r.world e).outcome.notes) (more r e) (goes_on h e es told r.world g)
+    (one_more r.outcomes (step r.world e).outcome p (all_plain (rows_of (step r.world e).world) (step r.world e).outcome.notes (right_at h e es told r.world g)))
+
+pub none_strange : (s : Schedule) → AllMayHappen s.head s.events → IsTimely s.head s.events → NoneStrange (run_of s).outcomes
+none_strange s may timely = plain_from s.head s.events [] (first_run s.head) (goes_first s.head s.events may timely) tt
+
+pub refusals_fair : (s : Schedule) → AllMayHappen s.head s.events → IsTimely s.head s.events → AllFair (first_world s.head) s.events
+refusals_fair s may timely = fair_from s.head s.events [] (first_world s.head) (goes_first s.head s.events may timely)

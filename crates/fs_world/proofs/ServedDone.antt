@@ -1,0 +1,93 @@
+-- What holds of a world of the servers form says of its journal.
+use Rattle.std.proofs.Common.{◌≡◌, ℕ, ◌+◌, Bool, true, false, List, [], ◌∷◌, length, map, cond, refl, ap, sym, ◌∙◌, subst, arith}
+use Rattle.std.proofs.lemmas.Bool.Decides.{nat_tests}
+use Rattle.std.specs.Prelude.{filter}
+use Rattle.fs_ident.specs.In.{In}
+use Rattle.fs_ident.specs.declared.actor.Peer.{Peer}
+use Rattle.fs_ident.specs.declared.actor.Peer.TheVariants.{Server, Client}
+use Rattle.fs_ident.specs.declared.actor.Session.{Session}
+use Rattle.fs_model.specs.Namespace.{first_space}
+use Rattle.fs_msg.specs.Journal.{IsSerialRun}
+use Rattle.fs_msg.specs.declared.item.Item.{Item}
+use Rattle.fs_record.specs.Records.{nodes_of}
+use Rattle.fs_server.specs.Ships.{item_of}
+use Rattle.fs_serial.specs.Numbers.{AreNumbered, all_items, is_session, items_by}
+use Rattle.fs_serial.specs.Settled.{Settled}
+use Rattle.fs_serial.specs.World.{World, settled_at}
+use Rattle.fs_serial.proofs.Facts.{In-front}
+use Rattle.fs_serial.proofs.Outcome.{outcome}
+use Rattle.fs_world.specs.Order.{Agrees, AreNumberedFrom, HasNumberOf, IsInSessionOrder, Told, items_of, same_actor}
+use Rattle.fs_world.specs.declared.served.Served.{Served}
+use Rattle.fs_world.proofs.Fine.{AllFine, IsOfSession}
+use Rattle.fs_world.proofs.Numbered.{kept, number_of_one}
+use Rattle.fs_world.proofs.Seen.{ends_of, turned}
+use Rattle.fs_world.proofs.Serial.{AllAsk}
+use Rattle.fs_world.proofs.SessionSteps.{HoldsOf}
+
+-- ## The items of one actor
+
+same_by : (s : Session) (p : Peer) → same_actor (Client s) p ≡ is_session s p
+same_by s (Server k) = refl
+same_by s (Client t) = turned s.0 t.0
+
+same_filter : {X : Type 0} (p q : X → Bool) (xs : List X) → ((x : X) → p x ≡ q x) → filter p xs ≡ filter q xs
+same_filter p q [] e = refl
+same_filter p q (x ∷ xs) e = ap (λ b. cond b (x ∷ filter p xs) (filter p xs)) (e x) ∙ ap (λ ys. cond (q x) (x ∷ ys) ys) (same_filter p q xs e)
+
+same_items : (s : Session) (journal : List Item) → items_of (Client s) journal ≡ items_by s journal
+same_items s journal = same_filter (λ (i : Item). same_actor (Client s) i.by) (λ (i : Item). is_session s i.by) journal (λ i. same_by s i.by)
+
+not_server : (k : ℕ) (p : Peer) → IsOfSession p → same_actor (Server k) p ≡ false
+not_server k (Server j) h = absurd h
+not_server k (Client s) h = refl
+
+none_served : (k : ℕ) (journal : List Item) → AllFine journal → items_of (Server k) journal ≡ []
+none_served k [] h = refl
+none_served k (i ∷ is) h = ap (λ b. cond b (i ∷ items_of (Server k) is) (items_of (Server k) is)) (not_server k i.by h.0.by) ∙ none_served k is h.1
+
+all_ask : (journal : List Item) → AllFine journal → AllAsk journal
+all_ask [] h = tt
+all_ask (i ∷ is) h = (h.0.asks, all_ask is h.1)
+
+-- ## Numbers
+
+numbered_from : (k : ℕ) (is : List Item) (next : ℕ) → AreNumbered k is next → AreNumberedFrom k is
+numbered_from k [] next h = tt
+numbered_from k (i ∷ is) next h = (h.0, numbered_from (k + 1) is next h.1)
+
+module _ (skew greatest : ℕ) (told : List Told) (w : Served) (h : HoldsOf skew greatest told w) where
+  abbrev seen : World
+  seen = record { server = w.server; journal = w.journal; replied = h.replied; ends = ends_of w.term w.seats }
+
+  abbrev settled : Session → Settled
+  settled s = settled_at s (ends_of w.term w.seats s)
+
+  -- the session's items, and behind them what is in its log
+  told_numbered : (s : Session) → AreNumberedFrom 1 (all_items s w.journal (settled s).log)
+  told_numbered s = numbered_from 1 (all_items s w.journal (settled s).log) (settled s).next (h.world.all.sessions s).numbers
+
+  numbered : (who : Peer) → AreNumberedFrom 1 (items_of who w.journal)
+  numbered (Server k) = subst (AreNumberedFrom 1) (sym (none_served k w.journal h.items)) tt
+  numbered (Client s) = subst (AreNumberedFrom 1) (sym (same_items s w.journal)) (numbered_from 1 (items_by s w.journal) (1 + length (items_by s w.journal)) ((outcome greatest seen h.world).numbered s))
+
+  -- the session's item of the journal is among those that it was told
+  in_told : (s : Session) (i : Item) → In i w.journal → i.by ≡ Client s → In i (h.replied s)
+  in_told s i there by =
+      let own : is_session s i.by ≡ true = ap (is_session s) by ∙ grind (arith, nat_tests) in
+      subst (In i) (h.world.all.sessions s).replies (In-front i (items_by s w.journal) (map (item_of s) (settled s).log) (kept (λ (i : Item). is_session s i.by) w.journal i own there))
+
+  agreeing : (t : Told) (i : Item) → In t told → In i w.journal → HasNumberOf i t → Agrees i t
+  agreeing t i m there has =
+      let s = t.session in
+      let found = h.answered t m in
+      let same : i ≡ found.0 = number_of_one 1 (h.replied s) i found.0 (subst (AreNumberedFrom 1) (h.world.all.sessions s).replies (told_numbered s)) (in_told s i there has.by) found.1 (has.n ∙ sym found.2.n) in
+      subst (λ (x : Item). Agrees x t) (sym same) found.3
+
+  pub served_serial : IsSerialRun first_space w.journal (nodes_of w.server.records)
+  served_serial = (outcome greatest seen h.world).serial
+
+  pub served_ordered : IsInSessionOrder w.journal told
+  served_ordered = record { numbered = numbered; agreeing = agreeing }
+
+  pub served_asks : AllAsk w.journal
+  served_asks = all_ask w.journal h.items

@@ -1,0 +1,5 @@
+use Rattle.fs_world.proofs.RightRuns.{refusals_fair}
+use Rattle.fs_world.proofs.law.refusals_are_fair.Goals as goal
+
+pub returns : goal.returns
+returns c = refusals_fair

@@ -1,0 +1,54 @@
+-- What a server refuses, and that no actor is told what no honest actor sends.
+use Rattle.std.specs.Prelude.{◌≡◌, ◌≢◌, ℕ, ◌≤◌, Bool, true, false, List, [], ◌∷◌}
+use Rattle.std.specs.List.{AllByRecursion}
+use Rattle.fs_ident.specs.In.{In}
+use Rattle.fs_field.specs.declared.row.Row.{Row}
+use Rattle.fs_msg.specs.declared.client_note.ClientNote.TheVariants as client
+use Rattle.fs_msg.specs.declared.end.End.{End}
+use Rattle.fs_msg.specs.declared.end.End.TheVariants as end
+use Rattle.fs_msg.specs.declared.note.Note.{Note}
+use Rattle.fs_msg.specs.declared.note.Note.TheVariants as note
+use Rattle.fs_msg.specs.declared.server_note.ServerNote.TheVariants as server
+use Rattle.fs_schedule.specs.declared.event.Event.{Event}
+use Rattle.fs_schedule.specs.declared.outcome.Outcome.{Outcome}
+use Rattle.fs_world.specs.World.{step}
+use Rattle.fs_world.specs.declared.form.Form.{Form}
+use Rattle.fs_world.specs.declared.form.Form.TheVariants.{Direct, Served}
+
+-- ## Refused entries
+
+-- where an entry is refused, the lease that it used had ended at the reading, and no row has its number
+abbrev pub HadItsTime : List Row → End → Type 0
+HadItsTime rows (end.Ended n lease until now) = (until ≤ now) × ((r : Row) → In r rows → r.no ≢ lease)
+HadItsTime rows e = Unit {0}
+
+-- entries are held back only behind a refused one
+abbrev pub HeldBackFor : List ℕ → End → Type 0
+HeldBackFor gaps (end.Ended n lease until now) = Unit {0}
+HeldBackFor gaps e = gaps ≡ []
+
+-- what is noted where the server has these rows: no entry is refused but for a lease that had ended
+abbrev pub IsFair : List Row → Note → Type 0
+IsFair rows (note.Server (server.Admits count e gaps)) = HeldBackFor gaps e × HadItsTime rows e
+IsFair rows n = Unit {0}
+
+-- in the direct form there are no leases
+abbrev pub rows_of : Form → List Row
+rows_of (Direct w) = []
+rows_of (Served w) = w.server.rows
+
+-- each note of the events is so, one after another, from this world on
+abbrev pub AllFair : Form → List Event → Type 0
+AllFair w [] = Unit {0}
+AllFair w (e ∷ es) = AllByRecursion (IsFair (rows_of (step w e).world)) (step w e).outcome.notes × AllFair (step w e).world es
+
+-- ## Strange messages
+
+-- a server or a client was told what no honest actor sends
+abbrev pub is_strange : Note → Bool
+is_strange (note.Server server.Strange) = true
+is_strange (note.Client client.Strange) = true
+is_strange n = false
+
+abbrev pub NoneStrange : List Outcome → Type 0
+NoneStrange outcomes = AllByRecursion (λ (o : Outcome). AllByRecursion (λ (n : Note). is_strange n ≡ false) o.notes) outcomes
