@@ -1,5 +1,5 @@
 -- A packet that is told: it comes from where it was sent, and every packet stays.
-use Rattle.std.proofs.Common.{◌≡◌, ℕ, ◌≤◌, ◌+◌, ◌++◌, List, [], ◌∷◌, Bool, true, false, length, refl, ap, sym, ◌∙◌, subst, arith, length-append}
+use Rattle.std.proofs.Common.{◌≡◌, ℕ, ◌≤◌, List, [], ◌∷◌, false, length, refl, ap, sym, ◌∙◌, subst, arith, length-append}
 use Rattle.std.specs.Prelude.{Option, Some, None, Result, Ok, Err, OnOk}
 use Rattle.std.specs.FinMap.{get}
 use Rattle.fs_ident.specs.In.{In}
@@ -21,7 +21,7 @@ use Rattle.fs_window.specs.declared.packet.Packet.{Packet}
 use Rattle.fs_window.specs.declared.sent.Sent.{Sent}
 use Rattle.fs_world.specs.Linked.{GoesBetween, IsLinked}
 use Rattle.fs_world.specs.Packets.{Packets, with_sent}
-use Rattle.fs_world.specs.Served.{Stepped, arrives, comes, client_hears, client_told, server_hears, server_step, server_told, heard_in, the_server, told_at, up_of, with_rest}
+use Rattle.fs_world.specs.Served.{Stepped, arrives, comes, client_hears, server_hears, server_step, heard_in, the_server, told_at, up_of, with_rest}
 use Rattle.fs_world.specs.declared.seat.Seat.{Seat}
 use Rattle.fs_world.specs.declared.served.Served.{Served}
 use Rattle.fs_world.proofs.Linked.{tell_client}

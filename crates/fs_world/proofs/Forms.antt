@@ -1,5 +1,5 @@
 -- Which events may happen to the world of a schedule.
-use Rattle.std.proofs.Common.{◌≡◌, ℕ, ◌≤◌, true, false, refl}
+use Rattle.std.proofs.Common.{◌≡◌, ℕ, ◌≤◌, true, refl}
 use Rattle.std.specs.Prelude.{Some, None, IfSome}
 use Rattle.fs_ident.specs.declared.actor.Peer.TheVariants.{Server, Client}
 use Rattle.fs_ident.specs.declared.actor.Session.{Session}

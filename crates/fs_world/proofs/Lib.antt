@@ -13,6 +13,16 @@ pub mod LinkedTies
 pub mod LinkedClient
 pub mod LinkedServer
 pub mod Linked
+mod AllDowns
+mod Popped
+pub mod Marks
+pub mod SeatMaps
+pub mod Spending
+mod HeardMessages
+mod Arrivals
+pub mod SentNumbers
+mod AtSeat
+pub mod Forms
 pub mod Fine
 pub mod Seen
 pub mod SeenSends
@@ -29,13 +39,3 @@ pub mod Whole
 pub mod Right
 pub mod RightSteps
 pub mod RightRuns
-mod AllDowns
-mod Popped
-pub mod Marks
-pub mod SeatMaps
-pub mod Spending
-mod HeardMessages
-mod Arrivals
-pub mod SentNumbers
-mod AtSeat
-pub mod Forms

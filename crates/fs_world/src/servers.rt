@@ -9,7 +9,7 @@ ghost use Rattle.fs_server.specs.Step.{step};
 ghost use Rattle.fs_world.specs.Packets.{with_sent};
 ghost use Rattle.fs_world.specs.Linked.{FitsDown};
 ghost use Rattle.fs_world.specs.Planned.{stepped_by};
-ghost use Rattle.fs_world.specs.Served.{is_full_down, server_does, server_goes, server_step, with_downs, with_pushed};
+ghost use Rattle.fs_world.specs.Served.{is_full_down, server_does, server_goes, server_step, with_downs};
 ghost use Rattle.fs_window.specs.Post.{post_due};
 ghost use Rattle.fs_window.specs.Undo.{undone};
 

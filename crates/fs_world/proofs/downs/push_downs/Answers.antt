@@ -1,4 +1,4 @@
-use Rattle.std.proofs.Common.{◌≡◌, ap, sym, ◌∙◌, arith}
+use Rattle.std.proofs.Common.{ap, sym, ◌∙◌, arith}
 use Rattle.fs_world.specs.Served.{with_down}
 use Rattle.fs_world.proofs.AllDowns.{downs_more}
 use Rattle.fs_world.proofs.downs.push_downs.Goals as goal

@@ -1,5 +1,5 @@
 use Rattle.std.proofs.Common.{◌≡◌, ap, sym, ◌∙◌, subst}
-use Rattle.std.specs.Prelude.{Option, Some, false, OnOk}
+use Rattle.std.specs.Prelude.{Option, Some, OnOk}
 use Rattle.fs_msg.specs.declared.core_error.Counter.TheVariants.{Entries}
 use Rattle.std.specs.FinMap.{get}
 use Rattle.fs_client.specs.Acts.{act_plan, is_act_spent}
