@@ -15,4 +15,6 @@ pub returns-clause-valid : goal.returns-clause-valid
 returns-clause-valid c = invariant_of-self c
 
 pub returns-clause-least : goal.returns-clause-least
-returns-clause-least c = ?
+returns-clause-least c =
+    let table : IsModeTable c.items_mut.result.now.items = subst IsModeTable (sym c.items_mut.ensures.value) c.self.invariant in
+    rw (← c.self.view_is, ← c.items_mut.ensures.value) (other_least c.ask_other.result _ _ _ _ _ table c.ask_other.ensures.answer)
