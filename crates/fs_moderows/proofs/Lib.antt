@@ -1,3 +1,6 @@
 pub mod Tables
 pub mod Witnesses
 pub mod Free
+pub mod Promises
+pub mod Reaps
+pub mod Safe

@@ -70,8 +70,8 @@ pub mapped_table : (f : Row → Row) → ((r : Row) → TellsSame r (f r)) → (
 mapped_table f same rows t = record {
   ordered = ordered_map f (λ r. (same r).number) rows t.ordered;
   of_modes = λ row i.
-    let q : (x : Row) × (In x rows × (row ≡ f x)) = In-map f row rows i in
-    ap (λ (z : Row). is_of_mode z.field z.kind z.promise) q.1.1 ∙ same_shape q.0 (f q.0) (same q.0) ∙ t.of_modes q.0 q.1.0;
+      let q : (x : Row) × (In x rows × (row ≡ f x)) = In-map f row rows i in
+      ap (λ (z : Row). is_of_mode z.field z.kind z.promise) q.1.1 ∙ same_shape q.0 (f q.0) (same q.0) ∙ t.of_modes q.0 q.1.0;
 }
 
 pub renewed_table : (number : LeaseNo) (until : ℕ) (rows : List Row) → IsModeTable rows → IsModeTable (map (renewed_row number until) rows)
@@ -112,10 +112,10 @@ pub answered_table : (asked : Asked) (number : LeaseNo) (session : Session) (fie
 answered_table (Granted told) number session field kind until rows shape new t = put_table (given_row number session field kind until told) rows new (shape told refl) t
 answered_table asked number session field kind until rows shape new t = t
 
-shape_self : (opens : Opens) (rows : List Row) (session : Session) (file : List ℕ) (m : Mode) (told : Option Bool) → answer_self opens rows session file m ≡ Granted told → is_of_mode (SelfW file m) Exclusive told ≡ true
+pub shape_self : (opens : Opens) (rows : List Row) (session : Session) (file : List ℕ) (m : Mode) (told : Option Bool) → answer_self opens rows session file m ≡ Granted told → is_of_mode (SelfW file m) Exclusive told ≡ true
 shape_self opens rows session file m told h = ap (is_of_mode (SelfW file m) Exclusive) (self_value (lock_on (SelfW file m) rows) (find (stands_against_self opens rows session file m) rows) told h)
 
-shape_other : (opens : Opens) (rows : List Row) (session : Session) (file : List ℕ) (m : Mode) (told : Option Bool) → answer_other opens rows session file m ≡ Granted told → is_of_mode (Other file m) Shared told ≡ true
+pub shape_other : (opens : Opens) (rows : List Row) (session : Session) (file : List ℕ) (m : Mode) (told : Option Bool) → answer_other opens rows session file m ≡ Granted told → is_of_mode (Other file m) Shared told ≡ true
 shape_other opens rows session file m told h = ap (is_of_mode (Other file m) Shared) (other_value (lock_on (Other file m) rows) (has_fixed_other opens rows file m session) (find (is_self_of_other file m session) rows) told h)
 
 pub self_table : (opens : Opens) (number : LeaseNo) (session : Session) (file : List ℕ) (m : Mode) (until : ℕ) (rows : List Row) → list_any (has_no number) rows ≡ false → IsModeTable rows

@@ -84,6 +84,9 @@ In_filtered test (y ∷ ys) x i p =
 pub another : (a b c : ℕ) → (a == b) ≡ true → (c == a) ≡ false → (b == c) ≡ false
 another a b c p q = grind (arith, nat_tests)
 
+pub turned : (a b c : ℕ) → (a == b) ≡ true → (b == c) ≡ false → (c == a) ≡ false
+turned a b c p q = grind (arith, nat_tests)
+
 -- both fields are what a session tells of one file
 pub one_file : (h f : List ℕ) (n m : Mode) → is_self h n (SelfW f m) ≡ true → h ≡ f
 one_file h f n m t = same_text h f (sym (both (same h f) (same_mode n m) t).0)
@@ -119,8 +122,8 @@ covered_map f same rows b i =
 
 pub fixed_fewer : (new old : List Row) → Covered new old → (f : List ℕ) (m : Mode) (s : Session) → is_fixed old f m s ≡ true → is_fixed new f m s ≡ true
 fixed_fewer new old c f m s h = fixed_from new f m s (λ b i e.
-  let q : (a : Row) × (In a old × TellsSame a b) = c b i in
-  ap (λ (z : Session). z.0 == s.0) q.1.1.session ∙ fixed_row old f m s q.0 h q.1.0 (ap (is_self f m) (sym q.1.1.field) ∙ e))
+    let q : (a : Row) × (In a old × TellsSame a b) = c b i in
+    ap (λ (z : Session). z.0 == s.0) q.1.1.session ∙ fixed_row old f m s q.0 h q.1.0 (ap (is_self f m) (sym q.1.1.field) ∙ e))
 
 -- a session other than these two that has the mode and cannot change that
 pub record Witness (selves : Selves) (rows : List Row) (f : List ℕ) (m : Mode) (x y : Session) : Type 0 where
@@ -144,10 +147,10 @@ witness selves rows f m x y h =
 
 pub witnessed : (selves : Selves) (rows : List Row) (f : List ℕ) (m : Mode) (x y : Session) → Witness selves rows f m x y → has_fixed selves rows f m x y ≡ true
 witnessed selves rows f m x y w = In_any (serves rows f m x y) (selves f) w.entry w.listed
-  (joined ((not (w.entry.0.0 == x.0) && not (w.entry.0.0 == y.0)) && has w.entry.1 m) (is_fixed rows f m w.entry.0)
+    (joined ((not (w.entry.0.0 == x.0) && not (w.entry.0.0 == y.0)) && has w.entry.1 m) (is_fixed rows f m w.entry.0)
     (joined (not (w.entry.0.0 == x.0) && not (w.entry.0.0 == y.0)) (has w.entry.1 m)
-      (joined (not (w.entry.0.0 == x.0)) (not (w.entry.0.0 == y.0)) (ap not w.not_x) (ap not w.not_y))
-      w.told)
+    (joined (not (w.entry.0.0 == x.0)) (not (w.entry.0.0 == y.0)) (ap not w.not_x) (ap not w.not_y))
+    w.told)
     w.fixed)
 
 -- where sessions stay fixed, so does the witness

@@ -21,9 +21,7 @@ pub fn has_fixed(
 ) -> bool
     ensures { result ≡ has_fixed (λ f. opens.now) rows.now file.now m x y }
 {
-    opens
-        .iter()
-        .any(|e| e.0 != x && e.0 != y && e.1.has(m) && is_fixed(rows, file, m, e.0))
+    opens.iter().any(|e| e.0 != x && e.0 != y && e.1.has(m) && is_fixed(rows, file, m, e.0))
 }
 
 /// Whether no row lets the session change what it tells of the mode on the file.
@@ -39,8 +37,7 @@ fn is_free(rows: &[Row], file: &FileId, m: Mode, session: Session) -> bool
     ensures { result ≡ list_any (λ row. is_self file.now m row.field && (row.session.0 == session.0))
         rows.now }
 {
-    rows.iter()
-        .any(|row| is_self(&row.field, file, m) && row.session == session)
+    rows.iter().any(|row| is_self(&row.field, file, m) && row.session == session)
 }
 
 /// Whether the field is what a session itself tells of the mode on the file.
@@ -62,8 +59,7 @@ pub fn first_self_of_other<'a>(
 ) -> Option<&'a Row>
     ensures { option_copied result ≡ find (is_self_of_other file.now m session) rows.now }
 {
-    rows.iter()
-        .find(|row| is_self(&row.field, file, m) && row.session != session)
+    rows.iter().find(|row| is_self(&row.field, file, m) && row.session != session)
 }
 
 /// The first row that keeps the session from changing what it tells of the mode on the file.
@@ -77,8 +73,7 @@ pub fn first_against_self<'a>(
     ensures { option_copied result ≡
         find (stands_against_self opens.now rows.now session file.now m) rows.now }
 {
-    rows.iter()
-        .find(|row| stands_against_self(opens, rows, session, file, m, row))
+    rows.iter().find(|row| stands_against_self(opens, rows, session, file, m, row))
 }
 
 fn stands_against_self(
@@ -111,7 +106,10 @@ fn meets_self(
         Field::Other(f, n) => {
             f == file
                 && *n == m
-                && can_fail(row.promise, has_fixed(opens, rows, f, *n, row.session, session))
+                && can_fail(
+                    row.promise,
+                    has_fixed(opens, rows, f, *n, row.session, session),
+                )
         }
         _ => false,
     }

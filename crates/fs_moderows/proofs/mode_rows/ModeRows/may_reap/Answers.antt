@@ -8,5 +8,5 @@ pub returns-in-Some-clause-least : goal.returns-in-Some-clause-least
 returns-in-Some-clause-least c =
     let table : IsModeTable c.as_slice-2.result.now = subst IsModeTable (sym c.as_slice-2.ensures) c.self.invariant in
     rw (← c.self.view_is, ← c.as_slice-2.ensures, ← c.as_slice.ensures) (λ blocker h.
-      let same : c.in-Some.row.now.no ≡ blocker = cc in
-      first_is_least _ _ c.in-Some.row.now blocker table (sym c.first_against_reap.ensures ∙ ap option_copied c.in-Some.is) same)
+    let same : c.in-Some.row.now.no ≡ blocker = cc in
+    first_is_least _ _ c.in-Some.row.now blocker table (sym c.first_against_reap.ensures ∙ ap option_copied c.in-Some.is) same)
