@@ -1,6 +1,6 @@
 -- What keeps a table of rows on modes one.
-use Rattle.std.proofs.Common.{◌≡◌, ℕ, Bool, true, false, List, [], refl, ap, cond, sym, ◌∙◌, map, inl, inr}
-use Rattle.std.specs.Prelude.{Option, Some, None, Result, Ok, Err, IfOk, OnErr}
+use Rattle.std.proofs.Common.{◌≡◌, ◌||◌, ℕ, Bool, true, false, List, [], ◌∷◌, refl, ap, cond, sym, ◌∙◌, map, inl, inr}
+use Rattle.std.specs.Prelude.{Option, Some, None, is_some, Result, Ok, Err, IfOk, OnErr}
 use Rattle.std.specs.List.{filter, find, list_any}
 use Rattle.fs_ident.specs.In.{In}
 use Rattle.fs_ident.specs.declared.actor.LeaseNo.{LeaseNo}
@@ -165,3 +165,11 @@ self_least (Err e) opens rows session file m t p blocker h = absurd (cc)
 pub other_least : (asked : Result Asked Memory) (opens : Opens) (rows : List Row) (session : Session) (file : List ℕ) (m : Mode) → IsModeTable rows → IfOk asked (λ a. a ≡ answer_other opens rows session file m) → (blocker : LeaseNo) → asked ≡ Ok (Wait blocker) → IsLeast (is_self_of_other file m session) rows blocker
 other_least (Ok a) opens rows session file m t p blocker h = let e : a ≡ Wait blocker = cc in waiting_other (lock_on (Other file m) rows) (has_fixed_other opens rows file m session) (find (is_self_of_other file m session) rows) (is_self_of_other file m session) rows blocker t refl (sym p ∙ e)
 other_least (Err e) opens rows session file m t p blocker h = absurd (cc)
+
+-- there is a row of the number where one is found
+pub there_is_found : (number : LeaseNo) (rows : List Row) → list_any (has_no number) rows ≡ is_some (find (has_no number) rows)
+there_is_found number [] = refl
+there_is_found number (r ∷ rs) = either (has_no number r) (find (has_no number) rs) (list_any (has_no number) rs) (there_is_found number rs) where
+  either : (b : Bool) (o : Option Row) (c : Bool) → c ≡ is_some o → (b || c) ≡ is_some (cond b (Some r) o)
+  either true o c h = refl
+  either false o c h = h

@@ -5,6 +5,8 @@ mod against;
 mod answers;
 mod law;
 mod mode_rows;
+#[cfg(test)]
+mod tests;
 
 pub use law::{
     asking_for_other_is_safe, asking_for_self_is_safe, kept_promises_are_without_conflict,
