@@ -4,7 +4,6 @@ use Rattle.std.specs.Prelude.{Option, Some, None}
 use Rattle.std.specs.Cmp.{nat_eq_equiv}
 use Rattle.std.specs.List.{find}
 use Rattle.fs_ident.specs.In.{In}
-use Rattle.fs_ident.specs.declared.actor.LeaseNo.{LeaseNo}
 use Rattle.fs_ident.specs.declared.actor.Session.{Session}
 use Rattle.fs_ident.specs.declared.actor.TxnNo.{TxnNo}
 use Rattle.fs_ident.proofs.Booleans.{both, neither}
@@ -18,7 +17,7 @@ use Rattle.fs_field.specs.declared.row.Row.{Row}
 use Rattle.fs_field.specs.Conflict.{Selves, meets, plain_conflict, is_self, is_fixed, has_fixed, can_fail, mode_meets, mode_conflict, NoConflict}
 use Rattle.fs_field.specs.Table.{lock_on, no_before, with_row}
 use Rattle.fs_moderows.specs.Table.{is_of_mode}
-use Rattle.fs_moderows.specs.Answer.{unless_locked, waits_or, answer_self, answer_other, has_fixed_other, is_self_of_other, stands_against_self}
+use Rattle.fs_moderows.specs.Answer.{unless_locked, waits_or, answer_self, answer_other, is_self_of_other, stands_against_self}
 use Rattle.fs_moderows.proofs.Tables.{TellsSame}
 use Rattle.fs_moderows.proofs.Witnesses.{not_true, not_false, second_fails, not_both, neither_holds, turned, one_file, fixed_with, Covered, fixed_fewer, Witness, witness, witnessed, witness_stays, witness_beside, witness_past, witness_of}
 

@@ -4,3 +4,4 @@ pub mod Free
 pub mod Promises
 pub mod Reaps
 pub mod Safe
+pub mod Changes

@@ -1,18 +1,14 @@
 -- Promises of what others tell, and what keeps them.
-use Rattle.std.proofs.Common.{◌≡◌, ◌==◌, not, ◌&&◌, ◌||◌, ◌⊎◌, ℕ, Bool, true, false, List, refl, ap, cond, sym, ◌∙◌, inl, inr, arith}
-use Rattle.std.specs.Prelude.{Option, Some, None, option_map}
+use Rattle.std.proofs.Common.{◌≡◌, ◌==◌, not, ◌&&◌, ℕ, Bool, true, false, List, refl, ap, sym, ◌∙◌, inl, inr, arith}
+use Rattle.std.specs.Prelude.{Option, Some, None}
 use Rattle.std.specs.Cmp.{nat_eq_equiv}
-use Rattle.std.specs.Cmp.Lexicographic.{same_text}
-use Rattle.std.specs.List.{filter, find, list_any}
+use Rattle.std.specs.List.{list_any}
 use Rattle.std.proofs.lemmas.Bool.Decides.{nat_tests}
 use Rattle.fs_ident.specs.In.{In}
-use Rattle.fs_ident.specs.Ident.{same}
-use Rattle.fs_ident.specs.declared.actor.LeaseNo.{LeaseNo}
 use Rattle.fs_ident.specs.declared.actor.Session.{Session}
 use Rattle.fs_ident.proofs.Booleans.{both, neither}
-use Rattle.fs_ident.proofs.Standing.{In-filter, In-put, none_pass}
+use Rattle.fs_ident.proofs.Standing.{In-put}
 use Rattle.fs_modes.specs.declared.modes.Mode.{Mode}
-use Rattle.fs_modes.specs.declared.modes.Modes.{Modes}
 use Rattle.fs_modes.specs.Modes.{has}
 use Rattle.fs_field.specs.declared.field.Field.{Field}
 use Rattle.fs_field.specs.declared.field.Field.TheVariants.{SelfW, Other}
@@ -20,10 +16,10 @@ use Rattle.fs_field.specs.declared.row.Row.{Row}
 use Rattle.fs_field.specs.Conflict.{Selves, is_self, is_fixed, has_fixed, NoConflict}
 use Rattle.fs_field.specs.Table.{no_before, with_row}
 use Rattle.fs_moderows.specs.Answer.{Opens, is_self_of_other, stands_against_self}
-use Rattle.fs_moderows.specs.Kept.{others_have, others_may_have, holds_true, is_kept, KeptPromises, selves_without}
+use Rattle.fs_moderows.specs.Kept.{others_have, others_may_have, holds_true, is_kept, KeptPromises}
 use Rattle.fs_moderows.proofs.Tables.{TellsSame}
-use Rattle.fs_moderows.proofs.Witnesses.{not_true, not_false, second_fails, not_both, neither_holds, any_In, In_any, none_In, In_none, In_filtered, another, turned, fixed_row, fixed_from, fixed_with, Covered, fixed_fewer, Witness, witness, witnessed, witness_stays, witness_beside, witness_past, witness_one, witness_of}
-use Rattle.fs_moderows.proofs.Free.{AreOfModes, Goes, free_goes, goes_free, spare, Found, fixed_other}
+use Rattle.fs_moderows.proofs.Witnesses.{not_true, not_false, second_fails, not_both, neither_holds, In_any, none_In, In_none, another, fixed_from, fixed_with, Covered, fixed_fewer, Witness, witness, witnessed, witness_stays, witness_beside, witness_past, witness_one}
+use Rattle.fs_moderows.proofs.Free.{AreOfModes, goes_free, spare, Found, fixed_other}
 
 -- what was told on a field that tells of others is true
 abbrev pub Holds : Selves → List Row → Session → Field → Option Bool → Type 0
@@ -115,6 +111,12 @@ self_kept selves rows r f m fe none kept a i = elim (In-put (λ z. no_before r.n
   | inr k ↦ holds_kept selves (with_row r rows) a.session a.field a.promise (still_holds selves rows r f m fe a (none a k) (kept_holds selves rows a.session a.field a.promise (kept a k)))
 ]
 
+-- where no row lets another change what it tells, the others are fixed
+pub others_are_fixed : (rows : List Row) (f : List ℕ) (m : Mode) (x s : Session) → ((b : Row) → In b rows → is_self_of_other f m x b ≡ false) → (s.0 == x.0) ≡ false → is_fixed rows f m s ≡ true
+others_are_fixed rows f m x s none apart = fixed_from rows f m s (λ b l t. owner b.session.0 x.0 s.0 (not_false (b.session.0 == x.0) (second_fails (is_self f m b.field) (not (b.session.0 == x.0)) t (none b l))) apart) where
+  owner : (b x e : ℕ) → (b == x) ≡ true → (e == x) ≡ false → (b == e) ≡ false
+  owner b x e p q = grind (arith, nat_tests)
+
 -- where no other is fixed and no row lets another change it, no other has the mode
 none_has : (selves : Selves) (rows : List Row) (f : List ℕ) (m : Mode) (x : Session) → has_fixed selves rows f m x x ≡ false → ((b : Row) → In b rows → is_self_of_other f m x b ≡ false) → others_have (selves f) m x ≡ false
 none_has selves rows f m x unfixed none = In_none (λ e. not (e.0.0 == x.0) && has e.1 m) (selves f) (λ e i.
@@ -123,19 +125,10 @@ none_has selves rows f m x unfixed none = In_none (λ e. not (e.0.0 == x.0) && h
       | true ↦ λ z.
           let q : (not (e.0.0 == x.0) ≡ true) × (has e.1 m ≡ true) = both (not (e.0.0 == x.0)) (has e.1 m) z in
           let apart : (e.0.0 == x.0) ≡ false = not_true (e.0.0 == x.0) q.0 in
-          let there : has_fixed selves rows f m x x ≡ true = witnessed selves rows f m x x (record {
-            entry = e;
-            listed = i;
-            not_x = apart;
-            not_y = apart;
-            told = q.1;
-            fixed = fixed_from rows f m e.0 (λ b l t. owner b.session.0 x.0 e.0.0 (not_false (b.session.0 == x.0) (second_fails (is_self f m b.field) (not (b.session.0 == x.0)) t (none b l))) apart);
-          }) in
+          let there : has_fixed selves rows f m x x ≡ true = witnessed selves rows f m x x (record { entry = e; listed = i; not_x = apart; not_y = apart; told = q.1; fixed = others_are_fixed rows f m x e.0 none apart }) in
           let wrong : true ≡ false = sym there ∙ unfixed in
           absurd (cc)
-    ] refl) where
-      owner : (b x e : ℕ) → (b == x) ≡ true → (e == x) ≡ false → (b == e) ≡ false
-      owner b x e p q = grind (arith, nat_tests)
+    ] refl)
 
 -- what is told at first holds
 first_holds : (selves : Selves) (rows : List Row) (r : Row) (f : List ℕ) (m : Mode) → r.field ≡ Other f m → Found selves rows f m r.session r.promise → holds_true r.promise (has_fixed selves (with_row r rows) f m r.session r.session) (others_may_have (selves f) (with_row r rows) f m r.session) ≡ true

@@ -1,12 +1,11 @@
 -- A session that loses its handles on a file.
-use Rattle.std.proofs.Common.{◌≡◌, ◌==◌, not, ◌&&◌, ◌||◌, ℕ, Bool, true, false, List, refl, ap, cond, sym, ◌∙◌, subst, inl, inr}
+use Rattle.std.proofs.Common.{◌≡◌, ◌==◌, not, ◌&&◌, ℕ, Bool, true, false, List, refl, ap, cond, sym, ◌∙◌, subst}
 use Rattle.std.specs.Prelude.{Option, Some, None, option_map}
 use Rattle.std.specs.Cmp.{nat_eq_equiv}
 use Rattle.std.specs.Cmp.Lexicographic.{same_text}
 use Rattle.std.specs.List.{filter, find, list_any}
 use Rattle.fs_ident.specs.In.{In}
 use Rattle.fs_ident.specs.Ident.{same}
-use Rattle.fs_ident.specs.declared.actor.LeaseNo.{LeaseNo}
 use Rattle.fs_ident.specs.declared.actor.Session.{Session}
 use Rattle.fs_ident.proofs.Booleans.{joined, neither}
 use Rattle.fs_ident.proofs.Standing.{In-filter, none_pass}
@@ -16,9 +15,9 @@ use Rattle.fs_modes.specs.Modes.{has}
 use Rattle.fs_field.specs.declared.field.Field.TheVariants.{Other}
 use Rattle.fs_field.specs.declared.row.Row.{Row}
 use Rattle.fs_field.specs.Conflict.{Selves, has_fixed, NoConflict}
-use Rattle.fs_moderows.specs.Answer.{Opens, is_self_of_other, stands_against_reap, has_mode, is_told_true, rests_on, reap_blocker}
+use Rattle.fs_moderows.specs.Answer.{is_self_of_other, stands_against_reap, has_mode, rests_on, reap_blocker}
 use Rattle.fs_moderows.specs.Kept.{others_have, others_may_have, KeptPromises, selves_without}
-use Rattle.fs_moderows.proofs.Witnesses.{not_true, not_false, second_fails, neither_holds, In_any, none_In, In_none, In_filtered, turned, Witness, witness, witnessed, witness_past, witness_one, witness_of}
+use Rattle.fs_moderows.proofs.Witnesses.{not_false, second_fails, neither_holds, In_any, none_In, In_none, In_filtered, turned, Witness, witness, witnessed, witness_past, witness_one, witness_of}
 use Rattle.fs_moderows.proofs.Free.{AreOfModes, free_goes, goes_free}
 use Rattle.fs_moderows.proofs.Promises.{kept_holds, holds_kept, holds_still}
 

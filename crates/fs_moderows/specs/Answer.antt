@@ -16,7 +16,6 @@ use Rattle.fs_field.specs.declared.field.Field.TheVariants.{SelfW, Other}
 use Rattle.fs_field.specs.declared.lease_kind.LeaseKind.{LeaseKind}
 use Rattle.fs_field.specs.declared.row.Row.{Row}
 use Rattle.fs_field.specs.Conflict.{is_self, has_fixed, mode_meets}
-use Rattle.fs_field.specs.Field.{same_mode}
 use Rattle.fs_field.specs.Table.{lock_on, no_before, with_row}
 
 -- the sessions with handles on a file, and the modes of each

@@ -9,8 +9,8 @@ use Rattle.fs_modes.specs.Modes.{has}
 use Rattle.fs_field.specs.declared.field.Field.{Field}
 use Rattle.fs_field.specs.declared.field.Field.TheVariants.{Other}
 use Rattle.fs_field.specs.declared.row.Row.{Row}
-use Rattle.fs_field.specs.Conflict.{Selves, has_fixed}
-use Rattle.fs_moderows.specs.Answer.{Opens, has_fixed_other, is_self_of_other}
+use Rattle.fs_field.specs.Conflict.{Selves, is_fixed, has_fixed}
+use Rattle.fs_moderows.specs.Answer.{Opens, is_self_of_other, has_mode}
 
 -- another session has the mode
 abbrev pub others_have : Opens → Mode → Session → Bool
@@ -39,3 +39,7 @@ KeptPromises selves rows = (row : Row) → In row rows → is_kept selves rows r
 -- who has handles once the session lost its on the file
 abbrev pub selves_without : List ℕ → Session → Selves → Selves
 selves_without f s selves g = if same g f then filter (λ e. not (e.0.0 == s.0)) (selves g) else selves g
+
+-- handles came or went, and every session that no row lets change whether it has a mode has it as before
+abbrev pub ChangesByRows : List Row → Selves → Selves → Type 0
+ChangesByRows rows before after = (f : List ℕ) (m : Mode) (s : Session) → is_fixed rows f m s ≡ true → has_mode (after f) s m ≡ has_mode (before f) s m

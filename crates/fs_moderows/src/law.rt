@@ -12,7 +12,7 @@ ghost use Rattle.fs_field.specs.declared.row.Row.{Row};
 ghost use Rattle.fs_field.specs.Conflict.{Selves, NoConflict};
 ghost use Rattle.fs_field.specs.Table.{has_no, is_live, renewed_row, locked_row, unlocked_row};
 ghost use Rattle.fs_moderows.specs.Answer.{answer_self, answer_other, given_row, rows_after, reap_blocker};
-ghost use Rattle.fs_moderows.specs.Kept.{KeptPromises, others_have, selves_without};
+ghost use Rattle.fs_moderows.specs.Kept.{ChangesByRows, KeptPromises, others_have, selves_without};
 ghost use Rattle.fs_moderows.specs.Table.{IsModeTable};
 
 /// After a question of a session that would change what it tells, rows are without conflict, and promises kept, where
@@ -79,6 +79,15 @@ pub fn reaps_are_safe()
     ensures kept { (selves : Selves) (rows : List Row) (s : Session) (f : List ℕ) →
         reap_blocker (selves f) rows s f ≡ None → KeptPromises selves rows →
         KeptPromises (selves_without f s selves) rows }
+{}
+
+/// Where handles come or go, and only sessions that a row lets do so come to have a mode or to have it no more, rows are
+/// without conflict, and promises kept, where they were.
+pub fn changes_by_rows_are_safe()
+    ensures free { (rows : List Row) (before changed : Selves) → IsModeTable rows →
+        ChangesByRows rows before changed → NoConflict before rows → NoConflict changed rows }
+    ensures kept { (rows : List Row) (before changed : Selves) →
+        ChangesByRows rows before changed → KeptPromises before rows → KeptPromises changed rows }
 {}
 
 /// Rows whose promises are kept do not conflict.

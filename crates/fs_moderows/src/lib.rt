@@ -9,7 +9,8 @@ mod mode_rows;
 mod tests;
 
 pub use law::{
-    asking_for_other_is_safe, asking_for_self_is_safe, kept_promises_are_without_conflict,
-    promises_are_what_others_have, promises_stay_kept, reaps_are_safe, rows_stay_without_conflict,
+    asking_for_other_is_safe, asking_for_self_is_safe, changes_by_rows_are_safe,
+    kept_promises_are_without_conflict, promises_are_what_others_have, promises_stay_kept,
+    reaps_are_safe, rows_stay_without_conflict,
 };
 pub use mode_rows::ModeRows;

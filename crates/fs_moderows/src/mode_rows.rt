@@ -49,9 +49,9 @@ impl ModeRows {
 
     /// Lets the session change whether it has the mode on the file, or tells what stands against it: a transaction
     /// that keeps a row on that field, else the least row by which another session was told of others what this one
-    /// could make untrue. `selves` has the sessions with handles on the file, each once, with what one of its handles
-    /// has. `no` is the lease's number, which no row has, and `until` the reading at which it ends. `Memory` where
-    /// memory is wanting; the table is as it was then.
+    /// could make untrue. `selves` has the sessions with handles on the file, each once, with the modes of its
+    /// handles together. `no` is the lease's number, which no row has, and `until` the reading at which it ends.
+    /// `Memory` where memory is wanting; the table is as it was then.
     pub fn ask_self(
         &mut self,
         alloc: Global,
@@ -86,8 +86,8 @@ impl ModeRows {
 
     /// Tells the session whether another has the mode on the file, and keeps it so as long as the row stands, or tells
     /// what stands against it: a transaction that keeps a row on that field, else the least row by which another
-    /// session may change what it tells. `selves` has the sessions with handles on the file, each once, with what one
-    /// of its handles has. `no` is the lease's number, which no row has, and `until` the reading at which it ends.
+    /// session may change what it tells. `selves` has the sessions with handles on the file, each once, with the modes
+    /// of its handles together. `no` is the lease's number, which no row has, and `until` the reading at which it ends.
     /// `Memory` where memory is wanting; the table is as it was then.
     pub fn ask_other(
         &mut self,

@@ -4,8 +4,9 @@ ghost use Rattle.std.specs.List.{list_any};
 ghost use Rattle.fs_field.specs.Table.{has_no};
 
 use crate::law::{
-    asking_for_other_is_safe, asking_for_self_is_safe, kept_promises_are_without_conflict,
-    promises_are_what_others_have, promises_stay_kept, reaps_are_safe, rows_stay_without_conflict,
+    asking_for_other_is_safe, asking_for_self_is_safe, changes_by_rows_are_safe,
+    kept_promises_are_without_conflict, promises_are_what_others_have, promises_stay_kept,
+    reaps_are_safe, rows_stay_without_conflict,
 };
 use crate::mode_rows::ModeRows;
 use fs_field::{Asked, Field, LeaseKind, Unknown};
@@ -218,6 +219,7 @@ fn laws() {
     rows_stay_without_conflict();
     promises_stay_kept();
     reaps_are_safe();
+    changes_by_rows_are_safe();
     kept_promises_are_without_conflict();
     promises_are_what_others_have();
 }
