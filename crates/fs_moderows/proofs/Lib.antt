@@ -1,0 +1,7 @@
+pub mod Tables
+pub mod Witnesses
+pub mod Free
+pub mod Promises
+pub mod Reaps
+pub mod Safe
+pub mod Changes

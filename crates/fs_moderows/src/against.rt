@@ -1,0 +1,190 @@
+//! Which rows keep a session from changing what it tells of a mode.
+ghost use Rattle.std.specs.Prelude.{◌≡◌, ◌==◌, ◌&&◌};
+ghost use Rattle.std.specs.List.{find, list_any};
+ghost use Rattle.std.specs.Option.{option_copied};
+ghost use Rattle.fs_field.specs.declared.field.Field.TheVariants.{SelfW};
+ghost use Rattle.fs_field.specs.Conflict.{is_self, is_fixed, has_fixed, can_fail, mode_meets};
+ghost use Rattle.fs_moderows.specs.Answer.{has_mode, is_told_true, rests_on, is_self_of_other, stands_against_self, stands_against_reap};
+
+use fs_field::{Field, Row};
+use fs_ident::{FileId, Session};
+use fs_modes::{Mode, Modes};
+
+/// Whether a session that is neither of the two has the mode on the file, and no row lets it change that.
+pub fn has_fixed(
+    opens: &[(Session, Modes)],
+    rows: &[Row],
+    file: &FileId,
+    m: Mode,
+    x: Session,
+    y: Session,
+) -> bool
+    ensures { result ≡ has_fixed (λ f. opens.now) rows.now file.now m x y }
+{
+    opens.iter().any(|e| e.0 != x && e.0 != y && e.1.has(m) && is_fixed(rows, file, m, e.0))
+}
+
+/// Whether no row lets the session change what it tells of the mode on the file.
+fn is_fixed(rows: &[Row], file: &FileId, m: Mode, session: Session) -> bool
+    ensures { result ≡ is_fixed rows.now file.now m session }
+{
+    let free = is_free(rows, file, m, session);
+    !free
+}
+
+/// Whether a row lets the session change what it tells of the mode on the file.
+fn is_free(rows: &[Row], file: &FileId, m: Mode, session: Session) -> bool
+    ensures { result ≡ list_any (λ row. is_self file.now m row.field && (row.session.0 == session.0))
+        rows.now }
+{
+    rows.iter().any(|row| is_self(&row.field, file, m) && row.session == session)
+}
+
+/// Whether the field is what a session itself tells of the mode on the file.
+fn is_self(field: &Field, file: &FileId, m: Mode) -> bool
+    ensures { result ≡ is_self file.now m field.now }
+{
+    match field {
+        Field::SelfW(f, n) => file == f && m == *n,
+        _ => false,
+    }
+}
+
+/// The first row that lets another session change what it tells of the mode on the file.
+pub fn first_self_of_other<'a>(
+    rows: &'a [Row],
+    file: &FileId,
+    m: Mode,
+    session: Session,
+) -> Option<&'a Row>
+    ensures { option_copied result ≡ find (is_self_of_other file.now m session) rows.now }
+{
+    rows.iter().find(|row| is_self(&row.field, file, m) && row.session != session)
+}
+
+/// The first row that keeps the session from changing what it tells of the mode on the file.
+pub fn first_against_self<'a>(
+    opens: &[(Session, Modes)],
+    rows: &'a [Row],
+    session: Session,
+    file: &FileId,
+    m: Mode,
+) -> Option<&'a Row>
+    ensures { option_copied result ≡
+        find (stands_against_self opens.now rows.now session file.now m) rows.now }
+{
+    rows.iter().find(|row| stands_against_self(opens, rows, session, file, m, row))
+}
+
+fn stands_against_self(
+    opens: &[(Session, Modes)],
+    rows: &[Row],
+    session: Session,
+    file: &FileId,
+    m: Mode,
+    row: &Row,
+) -> bool
+    ensures { result ≡ stands_against_self opens.now rows.now session file.now m row.now }
+{
+    row.session != session && meets_self(opens, rows, row, session, file, m)
+}
+
+/// Whether what the row tells does not go with a lease that lets the session change it.
+fn meets_self(
+    opens: &[(Session, Modes)],
+    rows: &[Row],
+    row: &Row,
+    session: Session,
+    file: &FileId,
+    m: Mode,
+) -> bool
+    ensures { result ≡
+        mode_meets (λ f. opens.now) rows.now row.now.session row.now.field row.now.promise session
+        (SelfW file.now m) }
+{
+    match &row.field {
+        Field::Other(f, n) => {
+            f == file
+                && *n == m
+                && can_fail(
+                    row.promise,
+                    has_fixed(opens, rows, f, *n, row.session, session),
+                )
+        }
+        _ => false,
+    }
+}
+
+/// Whether what was told can become untrue, where a third session is fixed or none is.
+fn can_fail(promise: Option<bool>, fixed: bool) -> bool
+    ensures { result ≡ can_fail promise fixed }
+{
+    match promise {
+        Some(true) => !fixed,
+        _ => true,
+    }
+}
+
+/// The first row that keeps the session from losing its handles on the file.
+pub fn first_against_reap<'a>(
+    opens: &[(Session, Modes)],
+    rows: &'a [Row],
+    session: Session,
+    file: &FileId,
+) -> Option<&'a Row>
+    ensures { option_copied result ≡
+        find (stands_against_reap opens.now rows.now session file.now) rows.now }
+{
+    rows.iter()
+        .find(|row| stands_against_reap(opens, rows, session, file, row))
+}
+
+fn stands_against_reap(
+    opens: &[(Session, Modes)],
+    rows: &[Row],
+    session: Session,
+    file: &FileId,
+    row: &Row,
+) -> bool
+    ensures { result ≡ stands_against_reap opens.now rows.now session file.now row.now }
+{
+    row.session != session && rests_on(opens, rows, session, file, row)
+}
+
+/// Whether what the row tells of the file would become untrue without the session's handles.
+fn rests_on(
+    opens: &[(Session, Modes)],
+    rows: &[Row],
+    session: Session,
+    file: &FileId,
+    row: &Row,
+) -> bool
+    ensures { result ≡ rests_on opens.now rows.now session file.now row.now.session row.now.field
+        row.now.promise }
+{
+    match &row.field {
+        Field::Other(f, m) => {
+            f == file
+                && has_mode(opens, session, *m)
+                && is_told_true(row.promise)
+                && !has_fixed(opens, rows, f, *m, row.session, session)
+        }
+        _ => false,
+    }
+}
+
+/// Whether the session has the mode.
+fn has_mode(opens: &[(Session, Modes)], session: Session, m: Mode) -> bool
+    ensures { result ≡ has_mode opens.now session m }
+{
+    opens.iter().any(|e| e.0 == session && e.1.has(m))
+}
+
+fn is_told_true(promise: Option<bool>) -> bool
+    ensures { result ≡ is_told_true promise }
+{
+    match promise {
+        Some(told) => told,
+        None => false,
+    }
+}

@@ -1,0 +1,297 @@
+//! A table of rows on modes.
+ghost use Rattle.std.specs.Prelude.{◌≡◌, ◌↔◌, [], true, false, not, map, IsOk, IfOk, IfErr, OnOk, OnErr, Some};
+ghost use Rattle.std.specs.List.{filter, find, list_any};
+ghost use Rattle.std.specs.Option.{option_copied};
+ghost use Rattle.fs_ident.specs.declared.actor.LeaseNo.{LeaseNo as Number};
+ghost use Rattle.fs_field.specs.declared.field.Field.TheVariants.{SelfW, Other};
+ghost use Rattle.fs_field.specs.declared.lease_kind.LeaseKind.TheVariants.{Shared, Exclusive};
+ghost use Rattle.fs_field.specs.Table.{has_no, renewed_row, is_live, is_lease, is_unlocked, locked_row, unlocked_row, rows_on, borne_numbers};
+ghost use Rattle.fs_moderows.specs.Answer.{answer_self, answer_other, stands_against_self, stands_against_reap, is_self_of_other, given_row, rows_after, reap_blocker, IsLeast};
+ghost use Rattle.fs_moderows.specs.Table.{IsModeTable};
+
+use crate::against::first_against_reap;
+use crate::answers;
+use fs_field::{Asked, Field, LeaseKind, Row, Unknown, table};
+use fs_ident::{FileId, LeaseNo, List, Memory, Session, Twin, TxnNo};
+use fs_modes::{Mode, Modes};
+use std::alloc::Global;
+use std::marker::Model;
+
+/// The rows on what sessions tell of modes, in order of number: exclusive ones that let a session change what it tells
+/// of a mode, and shared ones that promise a session whether others have it. What stands against a lease depends on
+/// who has handles on the file, which the caller tells.
+#[derive(Debug, Drop)]
+pub struct ModeRows {
+    rows: List<Row>,
+}
+
+impl Model for ModeRows {
+    ghost use Rattle.std.specs.Prelude.{List};
+    ghost use Rattle.fs_field.specs.declared.row.Row.{Row};
+    ghost use Rattle.fs_moderows.specs.Table.{IsModeTable};
+
+    ghost Value = { List Row };
+
+    ghost view = { λ r. r.rows };
+
+    ghost invariant = { λ r. IsModeTable r.rows };
+}
+
+impl ModeRows {
+    /// The empty table, which takes no memory.
+    pub fn new(alloc: Global) -> ModeRows
+        ensures { result ≡ [] }
+    {
+        ModeRows {
+            rows: List::new(alloc),
+        }
+    }
+
+    /// Lets the session change whether it has the mode on the file, or tells what stands against it: a transaction
+    /// that keeps a row on that field, else the least row by which another session was told of others what this one
+    /// could make untrue. `selves` has the sessions with handles on the file, each once, with the modes of its
+    /// handles together. `no` is the lease's number, which no row has, and `until` the reading at which it ends.
+    /// `Memory` where memory is wanting; the table is as it was then.
+    pub fn ask_self(
+        &mut self,
+        alloc: Global,
+        selves: &List<(Session, Modes)>,
+        no: LeaseNo,
+        session: Session,
+        file: &FileId,
+        m: Mode,
+        until: u64,
+    ) -> Result<Asked, Memory>
+        requires new { list_any (has_no no) self.old ≡ false }
+        ensures answer { IfOk result (λ asked. asked ≡
+            answer_self selves.now self.old session file.now m) }
+        ensures rows { IfOk result (λ asked. self.new ≡
+            rows_after asked (given_row no session (SelfW file.now m) Exclusive until) self.old) }
+        ensures err { OnErr result (self.new ≡ self.old) }
+        ensures least { (blocker : Number) → result ≡ Ok (Asked.Wait blocker) →
+            IsLeast (stands_against_self selves.now self.old session file.now m) self.old blocker }
+        ensures valid { IsModeTable self.new }
+    {
+        ask_self(
+            self.rows.items_mut(),
+            alloc,
+            selves.as_slice(),
+            no,
+            session,
+            file,
+            m,
+            until,
+        )
+    }
+
+    /// Tells the session whether another has the mode on the file, and keeps it so as long as the row stands, or tells
+    /// what stands against it: a transaction that keeps a row on that field, else the least row by which another
+    /// session may change what it tells. `selves` has the sessions with handles on the file, each once, with the modes
+    /// of its handles together. `no` is the lease's number, which no row has, and `until` the reading at which it ends.
+    /// `Memory` where memory is wanting; the table is as it was then.
+    pub fn ask_other(
+        &mut self,
+        alloc: Global,
+        selves: &List<(Session, Modes)>,
+        no: LeaseNo,
+        session: Session,
+        file: &FileId,
+        m: Mode,
+        until: u64,
+    ) -> Result<Asked, Memory>
+        requires new { list_any (has_no no) self.old ≡ false }
+        ensures answer { IfOk result (λ asked. asked ≡
+            answer_other selves.now self.old session file.now m) }
+        ensures rows { IfOk result (λ asked. self.new ≡
+            rows_after asked (given_row no session (Other file.now m) Shared until) self.old) }
+        ensures err { OnErr result (self.new ≡ self.old) }
+        ensures least { (blocker : Number) → result ≡ Ok (Asked.Wait blocker) →
+            IsLeast (is_self_of_other file.now m session) self.old blocker }
+        ensures valid { IsModeTable self.new }
+    {
+        ask_other(
+            self.rows.items_mut(),
+            alloc,
+            selves.as_slice(),
+            no,
+            session,
+            file,
+            m,
+            until,
+        )
+    }
+
+    /// The least row by which another session was told that others have a mode on the file, and that would become
+    /// untrue if this session lost its handles on it. None where it may lose them. `selves` is as for `ask_self`.
+    pub fn may_reap(
+        &self,
+        selves: &List<(Session, Modes)>,
+        session: Session,
+        file: &FileId,
+    ) -> Option<LeaseNo>
+        ensures blocker { result ≡ reap_blocker selves.now self.now session file.now }
+        ensures least { (blocker : Number) → result ≡ Some blocker →
+            IsLeast (stands_against_reap selves.now self.now session file.now) self.now blocker }
+    {
+        match first_against_reap(selves.as_slice(), self.rows.as_slice(), session, file) {
+            Some(row) => Some(row.no),
+            None => None,
+        }
+    }
+
+    /// Lets the row of this number end no sooner than `until`; its end is never lowered. `Unknown` where there is
+    /// no such row; the table is as it was then.
+    pub fn renew(&mut self, no: LeaseNo, until: u64) -> Result<(), Unknown>
+        ensures known { IsOk result ↔ (list_any (has_no no) self.old ≡ true) }
+        ensures unknown { IfErr result (λ e. e.no ≡ no) }
+        ensures ok { OnOk result (self.new ≡ map (renewed_row no until) self.old) }
+        ensures err { OnErr result (self.new ≡ self.old) }
+        ensures valid { IsModeTable self.new }
+    {
+        if renew(self.rows.items_mut(), no, until) {
+            Ok(())
+        } else {
+            Err(Unknown { no })
+        }
+    }
+
+    /// Drops the row of this number, and tells whether there was one.
+    pub fn release(&mut self, no: LeaseNo) -> bool
+        ensures found { result ≡ list_any (has_no no) self.old }
+        ensures rows { self.new ≡ filter (λ r. not (has_no no r)) self.old }
+        ensures valid { IsModeTable self.new }
+    {
+        table::release(self.rows.items_mut(), no)
+    }
+
+    /// Drops the rows whose end and the skew are over at the reading `now`, but for those that a transaction keeps.
+    pub fn lapse(&mut self, now: u64, skew: u64)
+        ensures rows { self.new ≡ filter (is_live now skew) self.old }
+        ensures valid { IsModeTable self.new }
+    {
+        table::lapse(self.rows.items_mut(), now, skew);
+    }
+
+    /// Whether there is the row of this lease of the session.
+    pub fn holds(&self, no: LeaseNo, session: Session, field: &Field, kind: LeaseKind) -> bool
+        ensures { result ≡ list_any (is_lease no session field.now kind) self.now }
+    {
+        table::holds(self.rows.as_slice(), no, session, field, kind)
+    }
+
+    /// Lets the transaction keep the row of this number, and tells whether there was one that none kept.
+    pub fn lock(&mut self, no: LeaseNo, txn: TxnNo) -> bool
+        ensures found { result ≡ list_any (is_unlocked no) self.old }
+        ensures rows { self.new ≡ map (locked_row no txn) self.old }
+        ensures valid { IsModeTable self.new }
+    {
+        lock(self.rows.items_mut(), no, txn)
+    }
+
+    /// Lets the transaction keep no row any more.
+    pub fn unlock(&mut self, txn: TxnNo)
+        ensures rows { self.new ≡ map (unlocked_row txn) self.old }
+        ensures valid { IsModeTable self.new }
+    {
+        unlock(self.rows.items_mut(), txn);
+    }
+
+    /// The numbers and sessions of the rows on the field, in order of number, whether a transaction keeps them or
+    /// not.
+    pub fn on(&self, alloc: Global, field: &Field) -> Result<List<(LeaseNo, Session)>, Memory>
+        ensures { IfOk result (λ told. told ≡ rows_on field.now self.now) }
+    {
+        table::rows_on(alloc, self.rows.as_slice(), field)
+    }
+
+    /// The last numbers of the files right below the directory that rows are on, one for each row.
+    pub fn borne(&self, alloc: Global, dir: &FileId) -> Result<List<u32>, Memory>
+        ensures { IfOk result (λ told. told ≡ borne_numbers dir.now self.now) }
+    {
+        table::borne(alloc, self.rows.as_slice(), dir)
+    }
+
+    /// The row of this number.
+    pub fn row(&self, no: LeaseNo) -> Option<&Row>
+        ensures row { option_copied result ≡ find (has_no no) self.now }
+        ensures valid { IsModeTable self.now }
+    {
+        table::row(self.rows.as_slice(), no)
+    }
+}
+
+impl Twin for ModeRows {
+    fn copy(&self, alloc: Global) -> Result<ModeRows, Memory> {
+        Ok(ModeRows {
+            rows: self.rows.copy(alloc)?,
+        })
+    }
+
+    fn discard(self) {}
+}
+
+/// Answers the question, and adds the row where the lease is given.
+fn ask_self(
+    rows: &mut Vec<Row>,
+    alloc: Global,
+    selves: &[(Session, Modes)],
+    no: LeaseNo,
+    session: Session,
+    file: &FileId,
+    m: Mode,
+    until: u64,
+) -> Result<Asked, Memory>
+    ensures answer { IfOk result (λ asked. asked ≡
+        answer_self selves.now rows.old.items session file.now m) }
+    ensures rows { IfOk result (λ asked. rows.new.items ≡
+        rows_after asked (given_row no session (SelfW file.now m) Exclusive until) rows.old.items) }
+    ensures err { OnErr result (rows.new.items ≡ rows.old.items) }
+{
+    let field = Field::SelfW(file.copy(alloc)?, m);
+    let asked = answers::answer_self(selves, rows, session, &field, file, m);
+    answers::give(rows, asked, no, session, field, LeaseKind::Exclusive, until)?;
+    Ok(asked)
+}
+
+fn ask_other(
+    rows: &mut Vec<Row>,
+    alloc: Global,
+    selves: &[(Session, Modes)],
+    no: LeaseNo,
+    session: Session,
+    file: &FileId,
+    m: Mode,
+    until: u64,
+) -> Result<Asked, Memory>
+    ensures answer { IfOk result (λ asked. asked ≡
+        answer_other selves.now rows.old.items session file.now m) }
+    ensures rows { IfOk result (λ asked. rows.new.items ≡
+        rows_after asked (given_row no session (Other file.now m) Shared until) rows.old.items) }
+    ensures err { OnErr result (rows.new.items ≡ rows.old.items) }
+{
+    let field = Field::Other(file.copy(alloc)?, m);
+    let asked = answers::answer_other(selves, rows, session, &field, file, m);
+    answers::give(rows, asked, no, session, field, LeaseKind::Shared, until)?;
+    Ok(asked)
+}
+
+/// The same on the rows as they stand in memory.
+fn renew(rows: &mut Vec<Row>, no: LeaseNo, until: u64) -> bool
+    ensures found { result ≡ list_any (has_no no) rows.old.items }
+    ensures rows { rows.new.items ≡ map (renewed_row no until) rows.old.items }
+{
+    table::renew(rows, no, until)
+}
+
+fn lock(rows: &mut Vec<Row>, no: LeaseNo, txn: TxnNo) -> bool
+    ensures found { result ≡ list_any (is_unlocked no) rows.old.items }
+    ensures rows { rows.new.items ≡ map (locked_row no txn) rows.old.items }
+{
+    table::lock(rows, no, txn)
+}
+
+fn unlock(rows: &mut Vec<Row>, txn: TxnNo)
+    ensures { rows.new.items ≡ map (unlocked_row txn) rows.old.items }
+{
+    table::unlock(rows, txn);
+}

@@ -1,0 +1,449 @@
+//! How questions on modes are answered, and each call.
+ghost use Rattle.std.specs.Prelude.{◌≡◌, ◌<◌, not};
+ghost use Rattle.std.specs.List.{list_any};
+ghost use Rattle.fs_field.specs.Table.{has_no};
+
+use crate::law::{
+    asking_for_other_is_safe, asking_for_self_is_safe, changes_by_rows_are_safe,
+    kept_promises_are_without_conflict, promises_are_what_others_have, promises_stay_kept,
+    reaps_are_safe, rows_stay_without_conflict,
+};
+use crate::mode_rows::ModeRows;
+use fs_field::{Asked, Field, LeaseKind, Unknown};
+use fs_ident::{FileId, LeaseNo, List, Session, Twin, TxnNo};
+use fs_modes::{Mode, Modes};
+use std::alloc::Global;
+use std::test::Fail;
+
+const TXN: TxnNo = TxnNo {
+    server: 0,
+    count: 7,
+};
+
+const WRITES: Modes = Modes {
+    acc_r: false,
+    acc_w: true,
+    acc_d: false,
+    deny_r: false,
+    deny_w: false,
+    deny_d: false,
+};
+
+const READS_AND_WRITES: Modes = Modes {
+    acc_r: true,
+    acc_w: true,
+    acc_d: false,
+    deny_r: false,
+    deny_w: false,
+    deny_d: false,
+};
+
+const TRUE: Asked = Asked::Granted { value: Some(true) };
+
+const FALSE: Asked = Asked::Granted { value: Some(false) };
+
+const GIVEN: Asked = Asked::Granted { value: None };
+
+fn number(count: u64) -> LeaseNo {
+    LeaseNo { server: 0, count }
+}
+
+fn waits(count: u64) -> Asked {
+    Asked::Wait {
+        blocker: number(count),
+    }
+}
+
+/// What a session would know or change.
+#[derive(Clone, Copy)]
+enum Question {
+    SelfW,
+    Other,
+}
+
+/// The question of a session about one mode of the root, and the number of its lease.
+fn ask(
+    alloc: Global,
+    rows: &mut ModeRows,
+    selves: &List<(Session, Modes)>,
+    count: u64,
+    session: u16,
+    question: Question,
+    m: Mode,
+) -> Result<Asked, Fail> {
+    let no = number(count);
+    if !is_new(rows, no) {
+        return Err(Fail::from("the number is taken"));
+    }
+    let file = FileId::root(alloc);
+    let asker = Session(session);
+    let asked = match question {
+        Question::SelfW => rows.ask_self(alloc, selves, no, asker, &file, m, 100)?,
+        Question::Other => rows.ask_other(alloc, selves, no, asker, &file, m, 100)?,
+    };
+    Ok(asked)
+}
+
+#[tactic(auto, using(crate::proofs::Tables::there_is_found))]
+fn is_new(rows: &ModeRows, no: LeaseNo) -> bool
+    ensures { result ≡ not (list_any (has_no no) rows.now) }
+{
+    match rows.row(no) {
+        Some(_) => false,
+        None => true,
+    }
+}
+
+/// These modes of each of the sessions.
+fn opens(alloc: Global, sessions: &[u16], modes: Modes) -> Result<List<(Session, Modes)>, Fail> {
+    let mut told = List::new(alloc);
+    for s in sessions {
+        told.push((Session(*s), modes))?;
+    }
+    Ok(told)
+}
+
+/// The first two have the mode, and each may be gone as long as the other stays.
+#[test]
+fn one_who_stays_keeps_a_promise(rt: HostRuntime) -> Result<(), Fail> {
+    let alloc = rt.alloc();
+    let mut rows = ModeRows::new(alloc);
+    let both = opens(alloc, &[1, 2], WRITES)?;
+    let file = FileId::root(alloc);
+    let third = ask(alloc, &mut rows, &both, 1, 3, Question::Other, Mode::AccW)?;
+    assert_eq!(rt; third, TRUE);
+    let first = ask(alloc, &mut rows, &both, 2, 1, Question::SelfW, Mode::AccW)?;
+    assert_eq!(rt; first, GIVEN);
+    let second = ask(alloc, &mut rows, &both, 3, 2, Question::SelfW, Mode::AccW)?;
+    assert_eq!(rt; second, waits(1));
+    assert_eq!(rt; rows.may_reap(&both, Session(2), &file), Some(number(1)));
+    assert!(rt; rows.release(number(1)));
+    assert_eq!(rt; rows.may_reap(&both, Session(2), &file), None);
+    let second = ask(alloc, &mut rows, &both, 3, 2, Question::SelfW, Mode::AccW)?;
+    assert_eq!(rt; second, GIVEN);
+    Ok(())
+}
+
+/// No one has the mode: another waits to turn it on, and on another mode none waits.
+#[test]
+fn that_none_has_a_mode_is_kept(rt: HostRuntime) -> Result<(), Fail> {
+    let alloc = rt.alloc();
+    let mut rows = ModeRows::new(alloc);
+    let none = List::new(alloc);
+    let first = ask(alloc, &mut rows, &none, 1, 1, Question::Other, Mode::AccW)?;
+    assert_eq!(rt; first, FALSE);
+    let second = ask(alloc, &mut rows, &none, 2, 2, Question::SelfW, Mode::AccW)?;
+    assert_eq!(rt; second, waits(1));
+    let own = ask(alloc, &mut rows, &none, 2, 1, Question::SelfW, Mode::AccW)?;
+    assert_eq!(rt; own, GIVEN);
+    let second = ask(alloc, &mut rows, &none, 3, 2, Question::Other, Mode::AccW)?;
+    assert_eq!(rt; second, waits(2));
+    let second = ask(alloc, &mut rows, &none, 3, 2, Question::SelfW, Mode::DenyW)?;
+    assert_eq!(rt; second, GIVEN);
+    Ok(())
+}
+
+/// The least of the rows of two modes, whatever the order of the modes is.
+#[test]
+fn a_reap_waits_for_the_least_of_all_modes(rt: HostRuntime) -> Result<(), Fail> {
+    let alloc = rt.alloc();
+    let mut rows = ModeRows::new(alloc);
+    let first = opens(alloc, &[1], READS_AND_WRITES)?;
+    let file = FileId::root(alloc);
+    let second = ask(alloc, &mut rows, &first, 3, 2, Question::Other, Mode::AccR)?;
+    assert_eq!(rt; second, TRUE);
+    let second = ask(alloc, &mut rows, &first, 2, 2, Question::Other, Mode::AccW)?;
+    assert_eq!(rt; second, TRUE);
+    assert_eq!(rt; rows.may_reap(&first, Session(1), &file), Some(number(2)));
+    assert_eq!(rt;
+        rows.may_reap(&first, Session(1), &file.child(alloc, 1)?),
+        None
+    );
+    assert_eq!(rt; rows.may_reap(&first, Session(2), &file), None);
+    Ok(())
+}
+
+const ROW: &str = "ModeRows { rows: List { items: [Row { no: LeaseNo { server: 0, count: 1 }, \
+    session: Session(1), field: SelfW(FileId { numbers: [] }, AccW), kind: Exclusive, until: 200, \
+    promise: None, lock: Some(TxnNo { server: 0, count: 7 }) }] } }";
+
+/// A row that a transaction keeps, and each call that takes no memory.
+#[test]
+fn a_row_from_its_grant_to_its_release(rt: HostRuntime) -> Result<(), Fail> {
+    let alloc = rt.alloc();
+    let mut rows = ModeRows::new(alloc);
+    let none = List::new(alloc);
+    ask(alloc, &mut rows, &none, 1, 1, Question::SelfW, Mode::AccW)?;
+    assert_eq!(rt; rows.renew(number(1), 200), Ok(()));
+    assert_eq!(rt; rows.renew(number(2), 200), Err(Unknown { no: number(2) }));
+    assert!(rt; rows.lock(number(1), TXN));
+    assert!(rt; !rows.lock(number(1), TXN));
+    let asked = ask(alloc, &mut rows, &none, 2, 2, Question::SelfW, Mode::AccW)?;
+    assert_eq!(rt; asked, Asked::Locked { txn: TXN });
+    let asked = ask(alloc, &mut rows, &none, 2, 2, Question::Other, Mode::AccW)?;
+    assert_eq!(rt; asked, waits(1));
+    let twin = rows.copy(alloc)?;
+    let text = format!(in alloc; "{twin:?}")?;
+    assert_eq!(rt; text.as_str(), ROW);
+    rows.lapse(u64::MAX, 0);
+    assert!(rt; rows.row(number(1)).is_some());
+    rows.unlock(TXN);
+    rows.lapse(209, 10);
+    assert!(rt; rows.release(number(1)));
+    Ok(())
+}
+
+/// What the rows tell of fields and files.
+#[test]
+fn rows_tell_whole_answers(rt: HostRuntime) -> Result<(), Fail> {
+    let alloc = rt.alloc();
+    let mut rows = ModeRows::new(alloc);
+    let none = List::new(alloc);
+    let root = FileId::root(alloc);
+    let file = root.child(alloc, 3)?;
+    rows.ask_other(alloc, &none, number(1), Session(1), &file, Mode::DenyR, 100)?;
+    let field = Field::Other(file, Mode::DenyR);
+    assert!(rt; rows.holds(number(1), Session(1), &field, LeaseKind::Shared));
+    assert!(rt; !rows.holds(number(1), Session(1), &field, LeaseKind::Exclusive));
+    let on = rows.on(alloc, &field)?;
+    assert_eq!(rt; on.as_slice(), [(number(1), Session(1))].as_slice());
+    let borne = rows.borne(alloc, &root)?;
+    assert_eq!(rt; borne.as_slice(), [3].as_slice());
+    Ok(())
+}
+
+#[test]
+fn laws() {
+    asking_for_self_is_safe();
+    asking_for_other_is_safe();
+    rows_stay_without_conflict();
+    promises_stay_kept();
+    reaps_are_safe();
+    changes_by_rows_are_safe();
+    kept_promises_are_without_conflict();
+    promises_are_what_others_have();
+}
+
+/// Which of three sessions has the mode, which has a row by which it may change that, and what each was told of the
+/// others.
+#[derive(Clone, Copy)]
+struct Case {
+    has: [bool; 3],
+    free: [bool; 3],
+    told: [Option<bool>; 3],
+}
+
+impl Case {
+    /// The case of a number below 1728.
+    fn new(n: usize) -> Case {
+        Case {
+            has: bits(n),
+            free: bits(n / 8),
+            told: [told(n / 64), told(n / 192), told(n / 576)],
+        }
+    }
+
+    /// Whether no one was told that none has the mode where another may turn it on.
+    fn is_possible(&self) -> bool {
+        for x in 0..3 {
+            if self.told[x] == Some(false) && self.first_free(x).is_some() {
+                return false;
+            }
+        }
+        true
+    }
+
+    /// The first session beside this one that may change whether it has the mode.
+    fn first_free(&self, x: usize) -> Option<usize> {
+        for y in 0..3 {
+            if y != x && self.free[y] {
+                return Some(y);
+            }
+        }
+        None
+    }
+
+    /// Whether a session that is neither of the two has the mode and cannot change that.
+    fn has_third(&self, x: usize, y: usize) -> bool {
+        for w in 0..3 {
+            if w != x && w != y && self.has[w] && !self.free[w] {
+                return true;
+            }
+        }
+        false
+    }
+
+    /// The answer to a session that would know whether others have the mode.
+    fn other(&self, x: usize) -> Asked {
+        if self.has_third(x, x) {
+            return TRUE;
+        }
+        match self.first_free(x) {
+            Some(y) => waits(self_count(y)),
+            None => FALSE,
+        }
+    }
+
+    /// The answer to a session that would change whether it has the mode.
+    fn own(&self, y: usize) -> Asked {
+        for x in [2, 1, 0] {
+            if x != y && self.told[x].is_some() {
+                let holds = self.told[x] == Some(true) && self.has_third(x, y);
+                if !holds {
+                    return waits(other_count(x));
+                }
+            }
+        }
+        GIVEN
+    }
+
+    /// What keeps the session from losing its handles.
+    fn reap(&self, s: usize) -> Option<LeaseNo>
+        requires { s < 3 }
+    {
+        if !self.has[s] {
+            return None;
+        }
+        for x in [2, 1, 0] {
+            if x != s && self.told[x] == Some(true) && !self.has_third(x, s) {
+                return Some(number(other_count(x)));
+            }
+        }
+        None
+    }
+}
+
+fn bits(n: usize) -> [bool; 3] {
+    [n % 2 == 1, n / 2 % 2 == 1, n / 4 % 2 == 1]
+}
+
+fn told(n: usize) -> Option<bool> {
+    match n % 3 {
+        0 => None,
+        1 => Some(false),
+        _ => Some(true),
+    }
+}
+
+fn session(s: usize) -> u16 {
+    match s {
+        0 => 1,
+        1 => 2,
+        _ => 3,
+    }
+}
+
+/// The number of the session's row by which it may change what it tells.
+fn self_count(s: usize) -> u64 {
+    match s {
+        0 => 1,
+        1 => 2,
+        _ => 3,
+    }
+}
+
+/// The number of its row on what others tell: a later session has a lesser one.
+fn other_count(s: usize) -> u64 {
+    match s {
+        0 => 6,
+        1 => 5,
+        _ => 4,
+    }
+}
+
+/// The rows of the case: a fourth session has the mode where one was told that another has it.
+fn built(alloc: Global, case: Case) -> Result<ModeRows, Fail> {
+    let mut rows = ModeRows::new(alloc);
+    for s in 0..3 {
+        if case.free[s] {
+            let asked = put(alloc, &mut rows, self_count(s), s, Question::SelfW, &[])?;
+            if asked != GIVEN {
+                return Err(Fail::from("a row of a case is not given"));
+            }
+        }
+    }
+    for s in 0..3 {
+        if let Some(told) = case.told[s] {
+            let others: &[u16] = if told { &[4] } else { &[] };
+            let asked = put(alloc, &mut rows, other_count(s), s, Question::Other, others)?;
+            if asked != (Asked::Granted { value: Some(told) }) {
+                return Err(Fail::from("a row of a case is not given"));
+            }
+        }
+    }
+    Ok(rows)
+}
+
+fn put(
+    alloc: Global,
+    rows: &mut ModeRows,
+    count: u64,
+    s: usize,
+    question: Question,
+    others: &[u16],
+) -> Result<Asked, Fail> {
+    let selves = opens(alloc, others, WRITES)?;
+    ask(
+        alloc,
+        rows,
+        &selves,
+        count,
+        session(s),
+        question,
+        Mode::AccW,
+    )
+}
+
+/// The sessions of the case that have the mode.
+fn who_has(alloc: Global, case: Case) -> Result<List<(Session, Modes)>, Fail> {
+    let mut selves = List::new(alloc);
+    for s in 0..3 {
+        if case.has[s] {
+            selves.push((Session(session(s)), WRITES))?;
+        }
+    }
+    Ok(selves)
+}
+
+/// Whether all answers to the session are those of a plain search.
+fn agrees(alloc: Global, case: Case, s: usize) -> Result<bool, Fail>
+    requires { s < 3 }
+{
+    let mut rows = built(alloc, case)?;
+    let selves = who_has(alloc, case)?;
+    let by = session(s);
+    let blocker = rows.may_reap(&selves, Session(by), &FileId::root(alloc));
+    let own = ask(
+        alloc,
+        &mut rows,
+        &selves,
+        7,
+        by,
+        Question::SelfW,
+        Mode::AccW,
+    )?;
+    rows.release(number(7));
+    let other = ask(
+        alloc,
+        &mut rows,
+        &selves,
+        7,
+        by,
+        Question::Other,
+        Mode::AccW,
+    )?;
+    Ok(blocker == case.reap(s) && own == case.own(s) && other == case.other(s))
+}
+
+#[test]
+fn small_tables(rt: HostRuntime) -> Result<(), Fail> {
+    for n in 0..1728 {
+        let case = Case::new(n);
+        if case.is_possible() {
+            for s in 0..3 {
+                assert!(rt; agrees(rt.alloc(), case, s)?, "case {n}, session {s}");
+            }
+        }
+    }
+    Ok(())
+}
