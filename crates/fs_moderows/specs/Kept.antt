@@ -27,7 +27,7 @@ holds_true (Some true) fixed may = fixed
 holds_true (Some false) fixed may = not may
 holds_true None fixed may = not may
 
--- what the session was told on the field stays true as long as no handle and no row comes or goes
+-- what the session was told of others on the field is so, and stays so where others change what they have by their rows
 abbrev pub is_kept : Selves → List Row → Session → Field → Option Bool → Bool
 is_kept selves rows x (Other f m) promise = holds_true promise (has_fixed selves rows f m x x) (others_may_have (selves f) rows f m x)
 is_kept selves rows x field promise = true
