@@ -12,6 +12,10 @@ use Rattle.fs_schedule.specs.Lines.{lines_of}
 use Rattle.fs_schedule.specs.declared.error.Which.{Which}
 use Rattle.fs_schedule.specs.declared.error.Which.TheVariants.{Bytes, Events, Packets, Sessions}
 use Rattle.fs_schedule.specs.declared.event.Head.{Head}
+use Rattle.fs_schedule.specs.declared.error.ScheduleError.{ScheduleError}
+use Rattle.fs_schedule.specs.declared.error.ScheduleError.TheVariants as schedule
+use Rattle.farsite.specs.Status.{schedule_status}
+use Rattle.farsite.specs.declared.status.Status.TheVariants as status
 use Rattle.farsite.specs.Headline.{IsLimit, IsReplay, report_of}
 
 -- a schedule's report was written
@@ -44,6 +48,13 @@ read_limit Bytes at bytes f = f
 read_limit Sessions at bytes f = f
 read_limit Events at bytes f = f
 read_limit Packets at bytes f = absurd (no_text_floods at (lines_of bytes) f)
+
+-- the status of a limit is that of a limit that was met in reading
+pub limit_told : (e : ScheduleError) (which : Which) (at : ℕ) → schedule_status e ≡ status.Limit which at → e ≡ schedule.Limit which at
+limit_told (schedule.BadLine line) which at h = absurd (cc h)
+limit_told (schedule.Limit w n) which at h = cc h
+limit_told (schedule.Skewed line earlier) which at h = absurd (cc h)
+limit_told schedule.Memory which at h = absurd (cc h)
 
 -- what holds of the bytes that were read holds of those that the source told
 pub as_told : (left : Option (List ℕ)) (bytes : List ℕ) (P : List ℕ → Type 0) → IfSome left (λ xs. bytes ≡ xs) → P bytes → IfSome left P
