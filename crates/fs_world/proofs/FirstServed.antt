@@ -8,7 +8,7 @@ use Rattle.fs_server.specs.Server.{first_server}
 use Rattle.fs_serial.specs.World.{Ends, WorldHolds, first_ends}
 use Rattle.fs_serial.proofs.FirstWorld.{first_all}
 use Rattle.fs_world.specs.Served.{first_served}
-use Rattle.fs_world.proofs.Seen.{ends_in, ends_of}
+use Rattle.fs_world.specs.Parts.{ends_in, ends_of}
 use Rattle.fs_world.proofs.SessionSteps.{HoldsOf}
 
 first_seen : (term : ℕ) → first_ends term ≡ ends_of term empty

@@ -32,7 +32,7 @@ use Rattle.fs_world.specs.Served.{Stepped, arrives, client_hears, comes, do_at, 
 use Rattle.fs_world.specs.declared.seat.Seat.{Seat}
 use Rattle.fs_world.specs.declared.served.Served.{Served}
 use Rattle.fs_world.proofs.Right.{IsRight, answer_right, event_right, turn_right}
-use Rattle.fs_world.proofs.Seen.{ends_in, ends_of}
+use Rattle.fs_world.specs.Parts.{ends_in, ends_of}
 use Rattle.fs_world.proofs.SessionSteps.{HoldsOf}
 
 -- what the event notes is right, of the world after it

@@ -6,24 +6,11 @@ use Rattle.std.specs.Cmp.{nat_cmp_total, unsigned_tied}
 use Rattle.std.specs.FinMap.{get, insert, get-insert}
 use mathlib.Core.Path.{fun_ext}
 use Rattle.fs_ident.specs.declared.actor.Session.{Session}
-use Rattle.fs_msg.specs.declared.item.Item.{Item}
-use Rattle.fs_serial.specs.World.{Ends, World, first_ends, with_ends}
+use Rattle.fs_serial.specs.World.{Ends, first_ends, with_ends}
 use Rattle.fs_serial.proofs.Rowed.{session_is}
+use Rattle.fs_world.specs.Parts.{ends_in, ends_of}
 use Rattle.fs_world.specs.Served.{Seats, first_seat}
 use Rattle.fs_world.specs.declared.seat.Seat.{Seat}
-use Rattle.fs_world.specs.declared.served.Served.{Served}
-
--- the client, and what is on its way; a session that has not joined is as it will join
-abbrev pub ends_in : ℕ → Session → Option Seat → Ends
-ends_in term x None = first_ends term x
-ends_in term x (Some seat) = record { client = seat.client; up = seat.up; down = seat.down }
-
-abbrev pub ends_of : ℕ → Seats → Session → Ends
-ends_of term seats x = ends_in term x (get seats x.0)
-
--- what each session was told is kept beside
-abbrev pub seen : (Session → List Item) → Served → World
-seen replied w = record { server = w.server; journal = w.journal; replied = replied; ends = ends_of w.term w.seats }
 
 -- ## One seat changes
 

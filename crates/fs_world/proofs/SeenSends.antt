@@ -16,7 +16,8 @@ use Rattle.fs_world.specs.Served.{Seats, with_down, with_down_at, with_downs}
 use Rattle.fs_world.specs.declared.seat.Seat.{Seat}
 use Rattle.fs_world.proofs.LinkedRows.{AreAnswersTo, IsAnswerTo}
 use Rattle.fs_world.proofs.LinkedServer.{still_answers}
-use Rattle.fs_world.proofs.Seen.{ends_in, ends_of, ends_put}
+use Rattle.fs_world.specs.Parts.{ends_in, ends_of}
+use Rattle.fs_world.proofs.Seen.{ends_put}
 
 -- ## One message more
 

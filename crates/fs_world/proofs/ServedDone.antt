@@ -20,7 +20,8 @@ use Rattle.fs_world.specs.Order.{Agrees, AreNumberedFrom, HasNumberOf, IsInSessi
 use Rattle.fs_world.specs.declared.served.Served.{Served}
 use Rattle.fs_world.proofs.Fine.{AllFine, IsOfSession}
 use Rattle.fs_world.proofs.Numbered.{kept, number_of_one}
-use Rattle.fs_world.proofs.Seen.{ends_of, turned}
+use Rattle.fs_world.specs.Parts.{ends_of}
+use Rattle.fs_world.proofs.Seen.{turned}
 use Rattle.fs_world.proofs.Serial.{AllAsk}
 use Rattle.fs_world.proofs.SessionSteps.{HoldsOf}
 

@@ -18,7 +18,8 @@ use Rattle.fs_world.specs.Served.{Seats, first_seat}
 use Rattle.fs_world.specs.declared.seat.Seat.{Seat}
 use Rattle.fs_world.proofs.Fine.{AllFine, MayBeFine, fine_pushed}
 use Rattle.fs_world.proofs.LinkedTies.{rows_still}
-use Rattle.fs_world.proofs.Seen.{ends_in, ends_joined, ends_of, ends_put}
+use Rattle.fs_world.specs.Parts.{ends_in, ends_of}
+use Rattle.fs_world.proofs.Seen.{ends_joined, ends_put}
 use Rattle.fs_world.proofs.Told.{AllNew, AllReplied, told_more}
 
 -- of the server, the seats and the journal of a world in which this was told, where no reading was greater

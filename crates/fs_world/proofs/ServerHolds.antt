@@ -27,7 +27,7 @@ use Rattle.fs_world.proofs.LinkedRows.{IsAsked, IsOf, step_of}
 use Rattle.fs_world.proofs.LinkedServer.{joined_downs}
 use Rattle.fs_world.proofs.LinkedTies.{joined_still}
 use Rattle.fs_world.proofs.Fine.{EventAsks, EntriesAsk, MessageAsks, fine_more, step_fine}
-use Rattle.fs_world.proofs.Seen.{ends_in, ends_of}
+use Rattle.fs_world.specs.Parts.{ends_in, ends_of}
 use Rattle.fs_world.proofs.SeenSends.{sends_seen, taken_seen}
 use Rattle.fs_world.proofs.ServedHolds.{Holds}
 

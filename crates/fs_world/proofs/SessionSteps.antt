@@ -26,7 +26,7 @@ use Rattle.fs_world.specs.declared.seat.Seat.{Seat}
 use Rattle.fs_world.specs.declared.served.Served.{Served}
 use Rattle.fs_world.proofs.Fine.{act_fine, answer_fine, turn_fine}
 use Rattle.fs_world.proofs.LinkedTies.{rows_still}
-use Rattle.fs_world.proofs.Seen.{ends_in, ends_of}
+use Rattle.fs_world.specs.Parts.{ends_in, ends_of}
 use Rattle.fs_world.proofs.SeenSends.{ends_changed}
 use Rattle.fs_world.proofs.ServedHolds.{Holds, client_holds, holds_joined, holds_later, holds_untold}
 use Rattle.fs_world.proofs.Told.{act_tells}

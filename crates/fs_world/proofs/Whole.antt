@@ -8,6 +8,7 @@ use Rattle.fs_schedule.specs.declared.event.Head.{Head}
 use Rattle.fs_schedule.specs.declared.event.Head.TheVariants as head
 use Rattle.fs_schedule.specs.declared.event.Schedule.{Schedule}
 use Rattle.fs_world.specs.Order.{AllAdmitted, IsInSessionOrder, Told, told_of}
+use Rattle.fs_world.specs.Parts.{AllPartsHold}
 use Rattle.fs_world.specs.Safe.{IsSerial}
 use Rattle.fs_schedule.specs.Skew.{IsTimely}
 use Rattle.fs_world.specs.World.{AllMayHappen, first_run, journal_of, run_of, space_of}
@@ -38,6 +39,15 @@ pub run_is_serial : (s : Schedule) → AllMayHappen s.head s.events → IsTimely
 run_is_serial s may timely =
     let d = done s.head (told_of s.events (run_of s).outcomes) (run_of s).world (run_goes s may timely) in
     record { serial = d.serial; ordered = d.ordered; safe = safe_after first_space (journal_of (run_of s).world) first_sound d.asks }
+
+parts_of : (h : Head) (told : List Told) (w : Form) → Goes h [] told w → AllPartsHold w
+parts_of head.Direct told (Direct w) g = tt
+parts_of (head.Servers servers skew term) told (Served w) g = (g.greatest, (g.holds.replied, g.holds.world))
+parts_of head.Direct told (Served w) g = absurd g
+parts_of (head.Servers servers skew term) told (Direct w) g = absurd g
+
+pub parts_kept : (s : Schedule) → AllMayHappen s.head s.events → IsTimely s.head s.events → AllPartsHold (run_of s).world
+parts_kept s may timely = parts_of s.head (told_of s.events (run_of s).outcomes) (run_of s).world (run_goes s may timely)
 
 -- ## In the direct form
 

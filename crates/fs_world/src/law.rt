@@ -3,6 +3,7 @@ ghost use Rattle.std.specs.Prelude.{◌≡◌, ◌<◌, ◌^◌, length, None};
 ghost use Rattle.fs_schedule.specs.declared.event.Head.TheVariants as head;
 ghost use Rattle.fs_schedule.specs.declared.event.Schedule.{Schedule};
 ghost use Rattle.fs_world.specs.Order.{AllAdmitted, told_of};
+ghost use Rattle.fs_world.specs.Parts.{AllPartsHold};
 ghost use Rattle.fs_world.specs.Refusals.{AllFair, NoneStrange};
 ghost use Rattle.fs_world.specs.Safe.{IsSerial};
 ghost use Rattle.fs_schedule.specs.Skew.{IsTimely};
@@ -16,6 +17,12 @@ pub fn every_run_is_serial()
         IsSerial s.events (run_of s) }
     ensures admitted { (s : Schedule) → s.head ≡ head.Direct → AllMayHappen s.head s.events →
         AllAdmitted (journal_of (run_of s).world) (told_of s.events (run_of s).outcomes) }
+{}
+
+/// After every event of a run, since each begins a run of its own, all parts of the invariant of a server and its clients hold.
+pub fn every_run_keeps_all_parts()
+    ensures { (s : Schedule) → AllMayHappen s.head s.events → IsTimely s.head s.events →
+        AllPartsHold (run_of s).world }
 {}
 
 /// A run of the direct form of less than 2^64 events is not broken off.

@@ -1,0 +1,5 @@
+use Rattle.fs_world.proofs.Whole.{parts_kept}
+use Rattle.fs_world.proofs.law.every_run_keeps_all_parts.Goals as goal
+
+pub returns : goal.returns
+returns c = parts_kept
