@@ -1,12 +1,12 @@
 -- A world of the servers form as one of a server and its sessions, whatever lies between them.
-use Rattle.std.proofs.Common.{◌≡◌, ℕ, ◌==◌, Bool, true, false, List, cond, refl, ap, sym, ◌∙◌, arith}
+use Rattle.std.proofs.Common.{◌≡◌, ℕ, ◌==◌, Bool, true, false, cond, refl, ap, sym, ◌∙◌, arith}
 use Rattle.std.proofs.lemmas.Bool.Decides.{nat_tests}
 use Rattle.std.specs.Prelude.{Option, Some, None}
 use Rattle.std.specs.Cmp.{nat_cmp_total, unsigned_tied}
 use Rattle.std.specs.FinMap.{get, insert, get-insert}
 use mathlib.Core.Path.{fun_ext}
 use Rattle.fs_ident.specs.declared.actor.Session.{Session}
-use Rattle.fs_serial.specs.World.{Ends, first_ends, with_ends}
+use Rattle.fs_serial.specs.World.{first_ends, with_ends}
 use Rattle.fs_serial.proofs.Rowed.{session_is}
 use Rattle.fs_world.specs.Parts.{ends_in, ends_of}
 use Rattle.fs_world.specs.Served.{Seats, first_seat}
