@@ -27,6 +27,10 @@ pub enum ServerNote {
         end: End,
         gaps: List<u64>,
     },
+    /// So many times a session lost its handles on a file.
+    Reaps {
+        count: u64,
+    },
     /// So many leases were asked back.
     Recalls {
         count: u64,
@@ -57,6 +61,7 @@ impl Twin for ServerNote {
                 end: end.copy(alloc)?,
                 gaps: gaps.copy(alloc)?,
             }),
+            ServerNote::Reaps { count } => Ok(ServerNote::Reaps { count: *count }),
             ServerNote::Recalls { count } => Ok(ServerNote::Recalls { count: *count }),
             ServerNote::Idle => Ok(ServerNote::Idle),
             ServerNote::Strange => Ok(ServerNote::Strange),

@@ -66,6 +66,7 @@ server_note_text (server.Grants count e) = progress_text (codes "grants") count 
 server_note_text (server.Renews count e) = progress_text (codes "renews") count e
 server_note_text (server.Frees count e) = progress_text (codes "frees") count e
 server_note_text (server.Admits count e gaps) = progress_text (codes "admits") count e ++ gaps_text gaps
+server_note_text (server.Reaps count) = codes "reaps " ++ decimal count
 server_note_text (server.Recalls count) = codes "recalls " ++ decimal count
 server_note_text server.Idle = codes "idle"
 server_note_text server.Strange = codes "strange"

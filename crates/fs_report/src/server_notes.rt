@@ -24,6 +24,10 @@ pub(crate) fn put_server_note(
             put_progress(alloc, b"admits", *count, end, out)?;
             put_gaps(alloc, gaps.as_slice(), out)
         }
+        ServerNote::Reaps { count } => {
+            put_bytes(b"reaps", out)?;
+            next_number(alloc, *count, out)
+        }
         ServerNote::Recalls { count } => {
             put_bytes(b"recalls", out)?;
             next_number(alloc, *count, out)

@@ -1,21 +1,22 @@
 -- A question for leases.
-use Rattle.std.specs.Prelude.{ℕ, ◌+◌, Bool, true, false, List, [], ◌∷◌, ◌++◌, length, Option, Some, None, if◌then◌else◌}
-use Rattle.std.specs.List.{find, list_all}
+use Rattle.std.specs.Prelude.{ℕ, ◌+◌, Bool, true, false, List, [], ◌∷◌, ◌++◌, length, Option, Some, None}
+use Rattle.std.specs.List.{find}
 use Rattle.fs_ident.specs.Ident.{child}
 use Rattle.fs_ident.specs.declared.actor.LeaseNo.{LeaseNo}
 use Rattle.fs_ident.specs.declared.actor.Session.{Session}
 use Rattle.fs_ident.specs.declared.actor.Peer.{Peer}
+use Rattle.fs_field.specs.declared.asked.Asked.{Asked}
 use Rattle.fs_field.specs.declared.asked.Asked.TheVariants.{Granted, Wait, Locked}
 use Rattle.fs_field.specs.declared.field.Field.{Field}
-use Rattle.fs_field.specs.declared.field.Field.TheVariants.{Life, Own}
+use Rattle.fs_field.specs.declared.field.Field.TheVariants.{Life, Own, SelfW, Other}
 use Rattle.fs_field.specs.declared.lease_kind.LeaseKind.{LeaseKind}
-use Rattle.fs_field.specs.declared.lease_kind.LeaseKind.TheVariants.{Exclusive}
+use Rattle.fs_field.specs.declared.lease_kind.LeaseKind.TheVariants.{Shared, Exclusive}
 use Rattle.fs_field.specs.declared.row.Row.{Row}
-use Rattle.fs_field.specs.Field.{tells_no_mode}
 use Rattle.fs_field.specs.Table.{has_no, with_row, borne_numbers}
-use Rattle.fs_rows.specs.Answer.{answer, given_row}
+use Rattle.fs_rows.specs.Answer.{answer}
+use Rattle.fs_moderows.specs.Answer.{answer_self, answer_other, given_row}
 use Rattle.fs_record.specs.Fresh.{fresh_number, is_directory, records_after_gift}
-use Rattle.fs_record.specs.ValueOf.{value_of}
+use Rattle.fs_record.specs.ValueOf.{value_of, selves_in}
 use Rattle.fs_msg.specs.declared.answer.Answer.TheVariants as reply
 use Rattle.fs_msg.specs.declared.answer.Grant.{Grant}
 use Rattle.fs_msg.specs.declared.end.End.{End}
@@ -23,16 +24,25 @@ use Rattle.fs_msg.specs.declared.end.End.TheVariants as end
 use Rattle.fs_msg.specs.declared.msg.Msg.{Msg}
 use Rattle.fs_msg.specs.declared.server_note.ServerNote.TheVariants as note
 use Rattle.fs_server.specs.declared.state.Server.{Server}
-use Rattle.fs_server.specs.Server.{Stepped, next_number, end_of, to_session, strange}
+use Rattle.fs_server.specs.Server.{Stepped, next_number, end_of, to_session}
 
--- a session's handles are its own: it alone may lease them
+-- a session's handles are its own, and so is what it tells of a mode: it alone may lease these. What others tell of a
+-- mode is only read
 abbrev pub kind_for : Field → LeaseKind → LeaseKind
 kind_for (Own file) kind = Exclusive
+kind_for (SelfW file m) kind = Exclusive
+kind_for (Other file m) kind = Shared
 kind_for field kind = kind
 
--- one lease more: its number is used up, and its row stands
-abbrev pub with_lease : Session → Field → LeaseKind → Server → Server
-with_lease by field kind s = record s { given = s.given + 1; rows = with_row (given_row (next_number s) by field kind (end_of s)) s.rows }
+-- the answer to the session's question for such a lease; over a mode it depends on who has handles on the file
+abbrev pub answer_to : Session → Field → LeaseKind → Server → Asked
+answer_to by (SelfW file m) kind s = answer_self (selves_in s.records file) s.rows by file m
+answer_to by (Other file m) kind s = answer_other (selves_in s.records file) s.rows by file m
+answer_to by field kind s = answer s.rows by field kind
+
+-- one lease more: its number is used up, and its row stands, with what it promises
+abbrev pub with_lease : Session → Field → LeaseKind → Option Bool → Server → Server
+with_lease by field kind promise s = record s { given = s.given + 1; rows = with_row (given_row (next_number s) by field kind (end_of s) promise) s.rows }
 
 -- what the session is told of that lease
 abbrev pub grant_of : Session → Field → LeaseKind → Server → Grant
@@ -49,8 +59,8 @@ pub record Asking : Type 0 where
 abbrev pub ask_from : Session → List (Field × LeaseKind) → Server → List Grant → Asking
 ask_from by [] s grants = record { server = s; grants = grants; fresh = None; end = end.All }
 ask_from by (x ∷ xs) s grants =
-    elim (answer s.rows by x.0 (kind_for x.0 x.1)) as (λ _. Asking) [
-      | Granted value ↦ ask_from by xs (with_lease by x.0 (kind_for x.0 x.1) s) (grants ++ grant_of by x.0 (kind_for x.0 x.1) s ∷ [])
+    elim (answer_to by x.0 (kind_for x.0 x.1) s) as (λ _. Asking) [
+      | Granted promise ↦ ask_from by xs (with_lease by x.0 (kind_for x.0 x.1) promise s) (grants ++ grant_of by x.0 (kind_for x.0 x.1) s ∷ [])
       | Wait blocker ↦ record { server = s; grants = grants; fresh = None; end = end.Wait blocker }
       | Locked txn ↦ record { server = s; grants = grants; fresh = None; end = end.Locked txn }
     ]
@@ -60,7 +70,7 @@ ask_from by (x ∷ xs) s grants =
 -- it is the directory's next free number; an exclusive lease on its life comes with it
 abbrev pub with_fresh : Session → List ℕ → ℕ → Asking → Asking
 with_fresh by dir k a = record {
-  server = record (with_lease by (Life (child dir k)) Exclusive a.server) { records = records_after_gift a.server.records dir (Some k) };
+  server = record (with_lease by (Life (child dir k)) Exclusive None a.server) { records = records_after_gift a.server.records dir (Some k) };
   grants = a.grants ++ grant_of by (Life (child dir k)) Exclusive a.server ∷ [];
   fresh = Some (child dir k);
   end = end.All;
@@ -110,4 +120,4 @@ answered by a = record {
 }
 
 abbrev pub ask_step : Session → List (Field × LeaseKind) → Option (List ℕ) → Server → Stepped
-ask_step by items dir s = if list_all (λ x. tells_no_mode x.0) items then answered by (asked_in by items dir s) else strange s
+ask_step by items dir s = answered by (asked_in by items dir s)

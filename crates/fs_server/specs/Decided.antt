@@ -12,7 +12,7 @@ use Rattle.fs_server.specs.Server.{Stepped}
 abbrev pub stepped_by : Decided → Server → Stepped
 stepped_by d s = record { server = changed d.change s; out = d.out }
 
--- it can be carried out, and leads to a server with a table of rows
+-- it can be carried out, and leads to a server with its rows in order
 pub record CanDecide (d : Decided) (s : Server) : Type 0 where
   pub change : CanChange d.change s
   pub ready : IsReady (changed d.change s)

@@ -7,9 +7,7 @@ use Rattle.fs_field.specs.declared.field.Field.{Field}
 use Rattle.fs_field.specs.declared.lease_kind.LeaseKind.{LeaseKind}
 use Rattle.fs_field.specs.declared.row.Row.{Row}
 use Rattle.fs_field.specs.Table.{has_no}
-use Rattle.fs_rows.specs.Answer.{answer}
 use Rattle.fs_rows.specs.Granted.{with_rows}
-use Rattle.fs_rows.specs.Table.{IsTable}
 use Rattle.fs_record.specs.ValueOf.{value_of}
 use Rattle.fs_msg.specs.declared.answer.Grant.{Grant}
 use Rattle.fs_msg.specs.declared.end.End.{End}
@@ -17,14 +15,14 @@ use Rattle.fs_server.specs.declared.fresh.Got.{Got}
 use Rattle.fs_server.specs.declared.lent.Lent.{Lent}
 use Rattle.fs_server.specs.declared.state.Server.{Server}
 use Rattle.fs_server.specs.declared.change.Change.TheVariants as change
-use Rattle.fs_server.specs.Asks.{Asking}
-use Rattle.fs_server.specs.Plan.{IsServer, changed}
+use Rattle.fs_server.specs.Asks.{Asking, answer_to}
+use Rattle.fs_server.specs.Plan.{AreRows, IsServer, changed}
 use Rattle.fs_server.specs.Server.{end_of}
 
--- a server, and a table of rows
+-- a server, and its rows in order
 pub record IsReady (s : Server) : Type 0 where
   pub server : IsServer s
-  pub table : IsTable s.rows
+  pub table : AreRows s.rows
 
 -- the server where the leases of these rows are given
 abbrev pub with_leases : List Row → Server → Server
@@ -33,7 +31,7 @@ with_leases rows s = record s { given = s.given + length rows; rows = with_rows 
 -- the rows are those of leases that the session is given, each with the next number
 pub record IsLent (by : Session) (rows : List Row) (s : Server) : Type 0 where
   -- they change no answer to the session
-  pub answers : (field : Field) (kind : LeaseKind) → answer (with_rows rows s.rows) by field kind ≡ answer s.rows by field kind
+  pub answers : (field : Field) (kind : LeaseKind) → answer_to by field kind (with_leases rows s) ≡ answer_to by field kind s
   -- no number was given before
   pub new : (number : LeaseNo) → (number.server ≡ s.me → number.count ≤ s.given) → find (has_no number) (with_rows rows s.rows) ≡ find (has_no number) s.rows
   pub ready : IsReady (with_leases rows s)

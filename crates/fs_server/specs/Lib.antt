@@ -1,10 +1,12 @@
 pub mod Server
 pub mod Asks
 pub mod Pairs
+pub mod Reaps
 pub mod Ships
 pub mod Step
 pub mod Plan
 -- cited by private calls alone
+pub mod Rows
 pub mod Lent
 pub mod Shipped
 pub mod Decided

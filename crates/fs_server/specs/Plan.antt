@@ -1,16 +1,21 @@
 -- What an event changes, once it is read what it comes to.
-use Rattle.std.specs.Prelude.{◌≡◌, ℕ, ◌+◌, ◌<◌, ◌≤◌, ◌^◌, true, List, length, Option, Some, None}
+use Rattle.std.specs.Prelude.{◌≡◌, ℕ, ◌+◌, ◌<◌, ◌≤◌, ◌^◌, ◌||◌, Bool, true, List, length, Option, Some, None}
 use Rattle.std.specs.List.{list_all}
 use Rattle.fs_ident.specs.declared.limits.TheConstants.{LATEST}
 use Rattle.fs_msg.specs.declared.limits.TheConstants.{LONGEST}
-use Rattle.fs_rows.specs.Table.{IsTable}
+use Rattle.fs_ident.specs.In.{In}
+use Rattle.fs_field.specs.Conflict.{NoPlainConflict}
+use Rattle.fs_field.specs.Field.{tells_no_mode}
+use Rattle.fs_field.specs.Table.{is_ordered}
+use Rattle.fs_field.specs.declared.row.Row.{Row}
+use Rattle.fs_moderows.specs.Table.{is_of_mode}
 use Rattle.fs_rows.specs.Given.{AreGiven}
 use Rattle.fs_rows.specs.Granted.{with_rows}
 use Rattle.fs_record.specs.Applied.{records_after_all, is_undoable}
 use Rattle.fs_record.specs.Fresh.{records_after_gift}
 use Rattle.fs_record.specs.Records.{RecordMap}
 use Rattle.fs_server.specs.declared.change.Change.{Change}
-use Rattle.fs_server.specs.declared.change.Change.TheVariants.{Nothing, Grant, Renew, Free, Admit}
+use Rattle.fs_server.specs.declared.change.Change.TheVariants.{Nothing, Grant, Renew, Free, Admit, Reap}
 use Rattle.fs_server.specs.declared.plan.Plan.{Plan}
 use Rattle.fs_server.specs.declared.state.Server.{Server}
 use Rattle.fs_server.specs.Server.{begun}
@@ -29,12 +34,23 @@ changed (Grant rows gift) s = record s { given = s.given + length rows; rows = w
 changed (Renew until numbers) s = record s { rows = renewed_rows until numbers s.rows }
 changed (Free numbers) s = record s { rows = released_rows numbers s.rows }
 changed (Admit effects) s = record s { records = records_after_all s.records effects }
+changed (Reap count effects) s = record s { reaps = s.reaps + count; records = records_after_all s.records effects }
 
 -- the server after the plan: the rows that are over are dropped first
 abbrev pub committed : Plan → Server → Server
 committed p s = changed p.change (begun p.now s)
 
 -- ## What every server is
+
+-- a lease on what sessions tell of modes is as it has to be
+abbrev pub is_shaped : Row → Bool
+is_shaped row = tells_no_mode row.field || is_of_mode row.field row.kind row.promise
+
+-- the rows in order of number; no two of them conflict by their sessions, fields and kinds alone
+pub record AreRows (rows : List Row) : Type 0 where
+  pub ordered : is_ordered rows ≡ true
+  pub shaped : (row : Row) → In row rows → is_shaped row ≡ true
+  pub free : NoPlainConflict rows
 
 -- its readings and terms are in their ranges, and each row of its own has a number that it gave
 pub record IsServer (s : Server) : Type 0 where
@@ -43,6 +59,7 @@ pub record IsServer (s : Server) : Type 0 where
   pub term : s.term ≤ LONGEST
   pub last : s.last ≤ LATEST
   pub given : s.given < 2 ^ 64
+  pub reaps : s.reaps < 2 ^ 64
   pub numbers : AreGiven s.me s.given s.rows
 
 -- ## Which plans can be committed
@@ -50,10 +67,11 @@ pub record IsServer (s : Server) : Type 0 where
 -- the effects of a log can be taken back where memory runs out
 abbrev pub CanChange : Change → Server → Type 0
 CanChange (Admit effects) s = list_all is_undoable effects ≡ true
+CanChange (Reap count effects) s = list_all is_undoable effects ≡ true
 CanChange ch s = Unit {0}
 
--- what it leads to is a server, with a table of rows
+-- what it leads to is a server, with rows in order
 pub record CanCommit (p : Plan) (s : Server) : Type 0 where
   pub change : CanChange p.change s
   pub server : IsServer (committed p s)
-  pub table : IsTable (committed p s).rows
+  pub table : AreRows (committed p s).rows

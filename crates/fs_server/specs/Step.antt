@@ -1,5 +1,5 @@
 -- The step of a server.
-use Rattle.std.specs.Prelude.{ℕ, ◌^◌, nat_le, Bool, List, [], length, map}
+use Rattle.std.specs.Prelude.{ℕ, ◌^◌, nat_le, List, [], length, map, Option, Some, None, if◌then◌else◌}
 use Rattle.fs_ident.specs.declared.actor.LeaseNo.{LeaseNo}
 use Rattle.fs_ident.specs.declared.actor.Session.{Session}
 use Rattle.fs_ident.specs.declared.actor.Peer.{Peer}
@@ -8,14 +8,17 @@ use Rattle.fs_rows.specs.Live.{unlocked_on}
 use Rattle.fs_msg.specs.declared.answer.Answer.TheVariants as reply
 use Rattle.fs_msg.specs.declared.client_msg.ClientMsg.{ClientMsg}
 use Rattle.fs_msg.specs.declared.client_msg.ClientMsg.TheVariants.{Ask, Renew, Release, Ship}
+use Rattle.fs_msg.specs.declared.core_error.Counter.{Counter}
+use Rattle.fs_msg.specs.declared.core_error.Counter.TheVariants.{Leases, Reaps}
 use Rattle.fs_msg.specs.declared.msg.Msg.{Msg}
 use Rattle.fs_msg.specs.declared.server_note.ServerNote.TheVariants as note
 use Rattle.fs_server.specs.declared.event.ServerEvent.{ServerEvent}
 use Rattle.fs_server.specs.declared.event.ServerEvent.TheVariants.{FromClient, Turn, Recall}
 use Rattle.fs_server.specs.declared.state.Server.{Server}
-use Rattle.fs_server.specs.Server.{Stepped, begun, only_noted, to_session}
+use Rattle.fs_server.specs.Server.{Stepped, begun, to_session}
 use Rattle.fs_server.specs.Asks.{ask_step}
 use Rattle.fs_server.specs.Pairs.{renew_step, release_step}
+use Rattle.fs_server.specs.Reaps.{turn_step}
 use Rattle.fs_server.specs.Ships.{ship_step}
 
 -- what a message of a session comes to
@@ -42,13 +45,16 @@ recall_step field s = record {
 
 abbrev pub event_step : ServerEvent → Server → Stepped
 event_step (FromClient by m) s = message_step by m s
-event_step Turn s = only_noted note.Idle s
+event_step Turn s = turn_step s
 event_step (Recall field) s = recall_step field s
 
 -- one event, at the reading that was handed in: the greatest so far counts
 abbrev pub step : Server → ℕ → ServerEvent → Stepped
 step s now e = event_step e (begun now s)
 
--- a lease would have a number above the greatest
-abbrev pub is_spent : Server → ℕ → ServerEvent → Bool
-is_spent s now e = nat_le (2 ^ 64) (step s now e).server.given
+-- the counter that the step would raise above its end
+abbrev pub counter_over : Server → Option Counter
+counter_over s = if nat_le (2 ^ 64) s.given then Some Leases else (if nat_le (2 ^ 64) s.reaps then Some Reaps else None)
+
+abbrev pub spent_by : Server → ℕ → ServerEvent → Option Counter
+spent_by s now e = counter_over (step s now e).server

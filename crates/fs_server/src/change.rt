@@ -24,4 +24,9 @@ pub(crate) enum Change {
     Admit {
         effects: List<Effect>,
     },
+    /// So many reaps, and their effects.
+    Reap {
+        count: u64,
+        effects: List<Effect>,
+    },
 }

@@ -17,6 +17,8 @@ pub(crate) struct Server {
     pub(crate) last: u64,
     /// How many leases were given so far.
     pub(crate) given: u64,
+    /// How often a session lost its handles on a file so far.
+    pub(crate) reaps: u64,
     pub(crate) rows: Rows,
     pub(crate) records: Records,
 }
@@ -29,6 +31,7 @@ impl Twin for Server {
             term: self.term,
             last: self.last,
             given: self.given,
+            reaps: self.reaps,
             rows: self.rows.copy(alloc)?,
             records: self.records.copy(alloc)?,
         })
