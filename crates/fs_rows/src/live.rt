@@ -1,7 +1,9 @@
 //! The rows that are not over at a reading, while the table is only read.
-ghost use Rattle.std.specs.Prelude.{◌≡◌, IfOk};
+ghost use Rattle.std.specs.Prelude.{◌≡◌, ◌==◌, ◌&&◌, IfOk};
 ghost use Rattle.std.specs.List.{filter, find, list_any};
 ghost use Rattle.std.specs.Option.{option_copied};
+ghost use Rattle.fs_field.specs.Field.{same_field};
+ghost use Rattle.fs_field.specs.declared.row.Row.{Row as TheRow};
 ghost use Rattle.fs_field.specs.Table.{has_no, is_lease, is_live, borne_numbers};
 ghost use Rattle.fs_rows.specs.Answer.{answer};
 ghost use Rattle.fs_rows.specs.Live.{unlocked_on};
@@ -34,7 +36,7 @@ impl<'a> Model for Live<'a> {
 
 impl<'a> Live<'a> {
     /// Those of these rows that are not over at the reading `now`.
-    pub(crate) fn at(rows: &'a [Row], now: u64, skew: u64) -> Live<'a>
+    pub fn at(rows: &'a [Row], now: u64, skew: u64) -> Live<'a>
         ensures { result ≡ filter (is_live now skew) rows.now }
     {
         Live {
@@ -63,6 +65,14 @@ impl<'a> Live<'a> {
         ensures { result ≡ list_any (is_lease no session field.now kind) self.now }
     {
         reads::holds(self.rows, self.reading, self.skew, no, session, field, kind)
+    }
+
+    /// Whether there is a row of the session on the field.
+    pub fn has_on(&self, field: &Field, session: Session) -> bool
+        ensures { result ≡ list_any (λ (r : TheRow).
+            same_field r.field field.now && (r.session.0 == session.0)) self.now }
+    {
+        reads::has_on(self.rows, self.reading, self.skew, field, session)
     }
 
     /// The row of this number.

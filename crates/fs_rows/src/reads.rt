@@ -1,8 +1,10 @@
 //! What is read of the rows that are not over at a reading.
-ghost use Rattle.std.specs.Prelude.{◌≡◌, IfOk};
+ghost use Rattle.std.specs.Prelude.{◌≡◌, ◌==◌, ◌&&◌, IfOk};
 ghost use Rattle.std.specs.List.{filter, find, list_any};
 ghost use Rattle.std.specs.Option.{option_copied};
 ghost use Rattle.fs_field.specs.Conflict.{stands_against};
+ghost use Rattle.fs_field.specs.Field.{same_field};
+ghost use Rattle.fs_field.specs.declared.row.Row.{Row as TheRow};
 ghost use Rattle.fs_field.specs.Table.{has_no, is_lease, is_live, lock_on, child_number, borne_numbers};
 ghost use Rattle.fs_rows.specs.Answer.{answer};
 ghost use Rattle.fs_rows.specs.Live.{unlocked_on};
@@ -78,6 +80,17 @@ pub fn has(rows: &[Row], now: u64, skew: u64, no: LeaseNo) -> bool
     rows.iter()
         .filter(|row| is_live(row, now, skew))
         .any(|row| row.no == no)
+}
+
+/// Whether there is a row of the session on the field.
+pub fn has_on(rows: &[Row], now: u64, skew: u64, field: &Field, session: Session) -> bool
+    ensures { result ≡ list_any (λ (r : TheRow).
+        same_field r.field field.now && (r.session.0 == session.0))
+        (filter (is_live now skew) rows.now) }
+{
+    rows.iter()
+        .filter(|row| is_live(row, now, skew))
+        .any(|row| row.field.is(field) && row.session == session)
 }
 
 /// Whether there is the row of this lease of the session.

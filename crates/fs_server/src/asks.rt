@@ -1,18 +1,16 @@
 //! A question for leases.
 ghost use Rattle.std.specs.Prelude.{◌≡◌, ◌^◌, nat_le, true, [], IfOk, IsErrOf};
-ghost use Rattle.std.specs.List.{list_all};
-ghost use Rattle.fs_field.specs.Field.{tells_no_mode};
 ghost use Rattle.fs_msg.specs.declared.core_error.Counter.{Counter as TheCounter};
 ghost use Rattle.fs_msg.specs.declared.core_error.Counter.TheVariants.{Leases};
 ghost use Rattle.fs_msg.specs.declared.core_error.CoreError.TheVariants as errors;
 ghost use Rattle.fs_rows.specs.Granted.{with_rows};
-ghost use Rattle.fs_server.specs.Asks.{answered, ask_from, ask_step, asked_in, kind_for, recalls_at};
+ghost use Rattle.fs_server.specs.Asks.{answer_to, answered, ask_from, ask_step, asked_in, kind_for, recalls_at};
 ghost use Rattle.fs_server.specs.Decided.{CanDecide, stepped_by};
 ghost use Rattle.fs_server.specs.Lent.{IsLent, IsReady, got_by, lent_by};
 
 use crate::begun::Begun;
 use crate::change::Change;
-use crate::decide::{Decided, recall, strange, to_session};
+use crate::decide::{Decided, recall, to_session};
 use crate::fresh::{Got, ask_fresh};
 use crate::lent::{Lent, lend};
 use crate::out::ServerOut;
@@ -36,19 +34,9 @@ pub(crate) fn ask(
         (counter ≡ Leases) ×
         (nat_le (2 ^ 64) (ask_step by items.now dir.now at.now).server.given ≡ true) }
 {
-    if !tell_no_mode(items.as_slice()) {
-        return Ok(strange(alloc));
-    }
     let (lent, end) = ask_items(alloc, at, by, items.as_slice())?;
     let got = ask_fresh(alloc, at, by, dir, lent, end)?;
     Ok(answered(alloc, at, by, got)?)
-}
-
-/// Whether no item names a field of modes.
-fn tell_no_mode(items: &[(Field, LeaseKind)]) -> bool
-    ensures { result ≡ list_all (λ x. tells_no_mode x.0) items.now }
-{
-    items.iter().all(|item| item.0.tells_no_mode())
 }
 
 /// The items in order, up to the first that cannot be given.
@@ -59,7 +47,6 @@ fn ask_items(
     items: &[(Field, LeaseKind)],
 ) -> Result<(Lent, End), CoreError>
     requires ready { IsReady at.now }
-    requires plain { list_all (λ x. tells_no_mode x.0) items.now ≡ true }
     ensures asked { IfOk result (λ got. lent_by got.0 got.1 at.now ≡
         ask_from by items.now at.now []) }
     ensures lent { IfOk result (λ got. IsLent by got.0.rows at.now) }
@@ -75,8 +62,8 @@ fn ask_items(
     };
     for (field, kind) in items {
         let kind = kind_for(field, *kind);
-        match at.rows().answer(by, field, kind) {
-            Asked::Granted { value: _ } => lend(alloc, at, by, field, kind, &mut lent)?,
+        match answer_to(alloc, at, by, field, kind)? {
+            Asked::Granted { value } => lend(alloc, at, by, field, kind, value, &mut lent)?,
             Asked::Wait { blocker } => return Ok((lent, End::Wait { blocker })),
             Asked::Locked { txn } => return Ok((lent, End::Locked { txn })),
         }
@@ -89,8 +76,32 @@ fn kind_for(field: &Field, kind: LeaseKind) -> LeaseKind
     ensures { result ≡ kind_for field.now kind }
 {
     match field {
-        Field::Own(_) => LeaseKind::Exclusive,
+        Field::Own(_) | Field::SelfW(_, _) => LeaseKind::Exclusive,
+        Field::Other(_, _) => LeaseKind::Shared,
         _ => kind,
+    }
+}
+
+/// The answer to the session's question for such a lease.
+fn answer_to(
+    alloc: Global,
+    at: &Begun<'_>,
+    by: Session,
+    field: &Field,
+    kind: LeaseKind,
+) -> Result<Asked, Memory>
+    ensures { IfOk result (λ asked. asked ≡ answer_to by field.now kind at.now) }
+{
+    match field {
+        Field::SelfW(file, m) => {
+            let selves = at.records().selves(alloc, file)?;
+            Ok(at.rows().answer_self(&selves, by, field, file, *m))
+        }
+        Field::Other(file, m) => {
+            let selves = at.records().selves(alloc, file)?;
+            Ok(at.rows().answer_other(&selves, by, field, file, *m))
+        }
+        _ => Ok(at.rows().answer(by, field, kind)),
     }
 }
 

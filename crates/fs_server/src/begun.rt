@@ -5,9 +5,9 @@ ghost use Rattle.fs_server.specs.Lent.{IsReady};
 ghost use Rattle.fs_server.specs.Plan.{IsServer};
 ghost use Rattle.fs_server.specs.Server.{begun, end_of};
 
+use crate::all_live::AllLive;
 use crate::state::Server;
 use fs_record::Records;
-use fs_rows::Live;
 use std::marker::Model;
 
 /// A server at the reading of an event: the rows that are over at it are not seen. Nothing is copied.
@@ -15,7 +15,7 @@ use std::marker::Model;
 pub(crate) struct Begun<'a> {
     server: &'a Server,
     reading: u64,
-    live: Live<'a>,
+    live: AllLive<'a>,
 }
 
 impl<'a> Model for Begun<'a> {
@@ -52,6 +52,13 @@ impl<'a> Begun<'a> {
         self.server.me
     }
 
+    /// How often a session lost its handles on a file so far.
+    pub(crate) fn reaps(&self) -> u64
+        ensures { result ≡ self.now.reaps }
+    {
+        self.server.reaps
+    }
+
     /// How many leases were given so far.
     pub(crate) fn given(&self) -> u64
         ensures { result ≡ self.now.given }
@@ -75,7 +82,7 @@ impl<'a> Begun<'a> {
     }
 
     /// The rows that are not over.
-    pub(crate) fn rows(&self) -> &Live<'a>
+    pub(crate) fn rows(&self) -> &AllLive<'a>
         ensures { result.now ≡ self.now.rows }
     {
         &self.live

@@ -1,20 +1,19 @@
 //! What an event changes is carried out: all of it, or nothing.
-ghost use Rattle.std.specs.Prelude.{◌≡◌, ◌+◌, ◌<◌, ◌^◌, length, map, OnOk, OnErr};
+ghost use Rattle.std.specs.Prelude.{◌≡◌, ◌+◌, ◌<◌, ◌^◌, length, OnOk, OnErr};
 ghost use Rattle.std.specs.List.{filter};
-ghost use Rattle.fs_field.specs.Table.{is_live, renewed_row};
+ghost use Rattle.fs_field.specs.Table.{is_live};
 ghost use Rattle.fs_rows.specs.Granted.{with_rows};
-ghost use Rattle.fs_rows.specs.Table.{IsTable};
 ghost use Rattle.fs_server.specs.Pairs.{released_rows, renewed_rows};
-ghost use Rattle.fs_server.specs.Plan.{CanChange, after_gift, changed};
+ghost use Rattle.fs_server.specs.Plan.{AreRows, CanChange, after_gift, changed};
 ghost use Rattle.fs_server.specs.Lent.{IsReady};
 ghost use Rattle.fs_server.specs.Server.{begun};
 
+use crate::all_rows::AllRows;
 use crate::change::Change;
 use crate::state::Server;
 use fs_field::Row;
 use fs_ident::{FileId, LeaseNo, List, Memory};
 use fs_record::Records;
-use fs_rows::Rows;
 use std::alloc::Global;
 
 /// The rows that are over at the reading are dropped, and the change is carried out.
@@ -45,6 +44,11 @@ pub(crate) fn commit(
             server.records.apply_all(alloc, &effects)?;
             server.rows.lapse(reading, server.skew);
         }
+        Change::Reap { count, effects } => {
+            server.records.apply_all(alloc, &effects)?;
+            server.rows.lapse(reading, server.skew);
+            server.reaps += count;
+        }
     }
     server.last = reading;
     Ok(())
@@ -58,7 +62,7 @@ fn grant(
     rows: List<Row>,
     gift: Option<(FileId, u32)>,
 ) -> Result<(), Memory>
-    requires table { IsTable
+    requires table { AreRows
         (with_rows rows (filter (is_live reading server.old.skew) server.old.rows)) }
     requires given { server.old.given + length rows < 2 ^ 64 }
     ensures ok { OnOk result (server.new ≡ record server.old {
@@ -85,25 +89,16 @@ fn give_number(records: &mut Records, gift: Option<(FileId, u32)>)
 }
 
 /// These leases end no sooner than `until`.
-fn renew_all(rows: &mut Rows, until: u64, numbers: &[LeaseNo])
+fn renew_all(rows: &mut AllRows, until: u64, numbers: &[LeaseNo])
     ensures { rows.new ≡ renewed_rows until numbers.now rows.old }
 {
     for no in numbers {
-        renew_one(rows, *no, until);
-    }
-}
-
-fn renew_one(rows: &mut Rows, no: LeaseNo, until: u64)
-    ensures { rows.new ≡ map (renewed_row no until) rows.old }
-{
-    match rows.renew(no, until) {
-        Ok(()) => {}
-        Err(_) => {}
+        rows.renew(*no, until);
     }
 }
 
 /// These leases are given back.
-fn release_all(rows: &mut Rows, numbers: &[LeaseNo])
+fn release_all(rows: &mut AllRows, numbers: &[LeaseNo])
     ensures { rows.new ≡ released_rows numbers.now rows.old }
 {
     for no in numbers {

@@ -1,14 +1,13 @@
 //! What an event comes to.
-ghost use Rattle.std.specs.Prelude.{◌≡◌, ◌^◌, nat_le, true, [], ◌∷◌, IfOk, IsErrOf};
+ghost use Rattle.std.specs.Prelude.{◌≡◌, [], ◌∷◌, IfOk, IsErrOf, Some};
 ghost use Rattle.fs_msg.specs.declared.answer.Answer.TheVariants as reply;
 ghost use Rattle.fs_msg.specs.declared.core_error.Counter.{Counter as TheCounter};
-ghost use Rattle.fs_msg.specs.declared.core_error.Counter.TheVariants.{Leases};
 ghost use Rattle.fs_msg.specs.declared.core_error.CoreError.TheVariants as errors;
 ghost use Rattle.fs_msg.specs.declared.server_note.ServerNote.TheVariants as note;
 ghost use Rattle.fs_server.specs.Decided.{CanDecide, noted_only, stepped_by};
 ghost use Rattle.fs_server.specs.Lent.{IsReady};
 ghost use Rattle.fs_server.specs.Server.{to_session};
-ghost use Rattle.fs_server.specs.Step.{event_step, message_step};
+ghost use Rattle.fs_server.specs.Step.{counter_over, event_step, message_step};
 
 use crate::asks::ask;
 use crate::begun::Begun;
@@ -16,6 +15,7 @@ use crate::change::Change;
 use crate::event::ServerEvent;
 use crate::out::ServerOut;
 use crate::pairs::{release, renew};
+use crate::reaps::turn;
 use crate::recalls::recall_all;
 use crate::ships::ship;
 use fs_ident::{LeaseNo, List, Memory, Peer, Session};
@@ -35,11 +35,11 @@ pub(crate) fn decide(alloc: Global, at: &Begun<'_>, ev: &ServerEvent) -> Result<
     ensures step { IfOk result (λ d. stepped_by d at.now ≡ event_step ev.now at.now) }
     ensures can { IfOk result (λ d. CanDecide d at.now) }
     ensures spent { (counter : TheCounter) → IsErrOf result (errors.Spent counter) →
-        (counter ≡ Leases) × (nat_le (2 ^ 64) (event_step ev.now at.now).server.given ≡ true) }
+        counter_over (event_step ev.now at.now).server ≡ Some counter }
 {
     match ev {
         ServerEvent::FromClient(by, m) => message(alloc, at, *by, m),
-        ServerEvent::Turn => Ok(only_noted(alloc, ServerNote::Idle)),
+        ServerEvent::Turn => turn(alloc, at),
         ServerEvent::Recall(field) => Ok(recall_all(alloc, at, field)?),
     }
 }
@@ -50,7 +50,7 @@ fn message(alloc: Global, at: &Begun<'_>, by: Session, m: &ClientMsg) -> Result<
     ensures step { IfOk result (λ d. stepped_by d at.now ≡ message_step by m.now at.now) }
     ensures can { IfOk result (λ d. CanDecide d at.now) }
     ensures spent { (counter : TheCounter) → IsErrOf result (errors.Spent counter) →
-        (counter ≡ Leases) × (nat_le (2 ^ 64) (message_step by m.now at.now).server.given ≡ true) }
+        counter_over (message_step by m.now at.now).server ≡ Some counter }
 {
     match m {
         ClientMsg::Ask { items, fresh } => ask(alloc, at, by, items, fresh),

@@ -143,7 +143,7 @@ fn give(
     let gift = Some((dir.copy(alloc)?, k));
     let field = Field::Life(id);
     let mut lent = lent;
-    lend(alloc, at, by, &field, LeaseKind::Exclusive, &mut lent)?;
+    lend(alloc, at, by, &field, LeaseKind::Exclusive, None, &mut lent)?;
     Ok(Got {
         lent,
         fresh: Some(field.into_file()),

@@ -3,8 +3,8 @@ ghost use Rattle.std.specs.Prelude.{◌≡◌, ◌^◌, ◌++◌, [], ◌∷◌,
 ghost use Rattle.fs_msg.specs.declared.core_error.Counter.{Counter as TheCounter};
 ghost use Rattle.fs_msg.specs.declared.core_error.Counter.TheVariants.{Leases};
 ghost use Rattle.fs_msg.specs.declared.core_error.CoreError.TheVariants as errors;
-ghost use Rattle.fs_rows.specs.Answer.{given_row};
-ghost use Rattle.fs_rows.specs.Table.{IsTable};
+ghost use Rattle.fs_moderows.specs.Answer.{given_row};
+ghost use Rattle.fs_server.specs.Plan.{AreRows};
 ghost use Rattle.fs_server.specs.Asks.{grant_of, with_lease};
 ghost use Rattle.fs_server.specs.Lent.{IsLent, IsReady, numbered_grant, with_leases};
 ghost use Rattle.fs_server.specs.Server.{end_of};
@@ -29,20 +29,21 @@ pub(crate) fn lend(
     by: Session,
     field: &Field,
     kind: LeaseKind,
+    promise: Option<bool>,
     lent: &mut Lent,
 ) -> Result<(), CoreError>
     requires ready { IsReady at.now }
     requires so_far { IsLent by lent.old.rows at.now }
-    requires table { IsTable
-        (with_lease by field.now kind (with_leases lent.old.rows at.now)).rows }
+    requires table { AreRows
+        (with_lease by field.now kind promise (with_leases lent.old.rows at.now)).rows }
     ensures rows { OnOk result (with_leases lent.new.rows at.now ≡
-        with_lease by field.now kind (with_leases lent.old.rows at.now)) }
+        with_lease by field.now kind promise (with_leases lent.old.rows at.now)) }
     ensures grants { OnOk result (lent.new.grants ≡ lent.old.grants ++
         grant_of by field.now kind (with_leases lent.old.rows at.now) ∷ []) }
     ensures more { OnOk result (IsLent by lent.new.rows at.now) }
     ensures spent { (counter : TheCounter) → IsErrOf result (errors.Spent counter) →
         (counter ≡ Leases) ×
-        ((with_lease by field.now kind (with_leases lent.old.rows at.now)).given ≡ 2 ^ 64) }
+        ((with_lease by field.now kind promise (with_leases lent.old.rows at.now)).given ≡ 2 ^ 64) }
 {
     let given = at.given() + lent.rows.len() as u64;
     if given == u64::MAX {
@@ -54,7 +55,7 @@ pub(crate) fn lend(
         server: at.me(),
         count: given + 1,
     };
-    add(alloc, at, by, field, kind, no, lent)?;
+    add(alloc, at, by, field, kind, promise, no, lent)?;
     Ok(())
 }
 
@@ -65,12 +66,13 @@ fn add(
     by: Session,
     field: &Field,
     kind: LeaseKind,
+    promise: Option<bool>,
     no: LeaseNo,
     lent: &mut Lent,
 ) -> Result<(), Memory>
     requires { IsReady at.now }
     ensures rows { OnOk result (lent.new.rows ≡
-        lent.old.rows ++ given_row no by field.now kind (end_of at.now) ∷ []) }
+        lent.old.rows ++ given_row no by field.now kind (end_of at.now) promise ∷ []) }
     ensures grants { OnOk result (lent.new.grants ≡ lent.old.grants ++
         numbered_grant no by field.now kind at.now ∷ []) }
 {
@@ -82,7 +84,7 @@ fn add(
         field: field.copy(alloc)?,
         kind,
         until,
-        promise: None,
+        promise,
         lock: None,
     };
     let grant = Grant {

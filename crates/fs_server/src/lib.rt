@@ -10,6 +10,8 @@
 //! - every event scans the rows once for those that are over, when it is carried out.
 #![tactic(auto)]
 
+mod all_live;
+mod all_rows;
 mod asks;
 mod begun;
 mod change;
@@ -21,6 +23,7 @@ mod lent;
 mod out;
 mod pairs;
 mod plan;
+mod reaps;
 mod recalls;
 mod server_core;
 mod ships;

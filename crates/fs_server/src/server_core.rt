@@ -1,11 +1,11 @@
 //! The core of a server as one value.
-ghost use Rattle.std.specs.Prelude.{◌≡◌, ◌<◌, ◌≤◌, ◌⊎◌, true, IfOk, OnOk, OnErr, IsErrOf};
+ghost use Rattle.std.specs.Prelude.{◌≡◌, ◌<◌, ◌≤◌, ◌⊎◌, IfOk, OnOk, OnErr, IsErrOf, Some};
 ghost use Rattle.fs_ident.specs.declared.limits.TheConstants.{LATEST};
 ghost use Rattle.fs_msg.specs.declared.core_error.Counter.{Counter as TheCounter};
-ghost use Rattle.fs_msg.specs.declared.core_error.Counter.TheVariants.{Leases};
 ghost use Rattle.fs_msg.specs.declared.core_error.CoreError.TheVariants as errors;
 ghost use Rattle.fs_msg.specs.declared.limits.TheConstants.{LONGEST};
 
+use crate::all_rows::AllRows;
 use crate::begun::Begun;
 use crate::commits::commit;
 use crate::decide::{Decided, decide};
@@ -16,7 +16,6 @@ use crate::state::Server;
 use fs_ident::{Memory, Twin};
 use fs_msg::CoreError;
 use fs_record::Records;
-use fs_rows::Rows;
 use std::alloc::Global;
 use std::marker::Model;
 
@@ -43,7 +42,7 @@ impl Model for ServerCore {
 impl ServerCore {
     ghost use Rattle.fs_server.specs.Plan.{CanCommit, committed};
     ghost use Rattle.fs_server.specs.Server.{first_server};
-    ghost use Rattle.fs_server.specs.Step.{is_spent, step};
+    ghost use Rattle.fs_server.specs.Step.{spent_by, step};
 
     /// A server before its first event: its number, by how much two clocks may differ, and for how long it gives a
     /// lease, both in milliseconds. Server 0 has the root directory, and no other has a record.
@@ -61,14 +60,15 @@ impl ServerCore {
                 term,
                 last: 0,
                 given: 0,
-                rows: Rows::new(alloc),
+                reaps: 0,
+                rows: AllRows::new(alloc),
                 records: Records::new(alloc, me == 0)?,
             },
         })
     }
 
     /// What the event at the reading `now`, in milliseconds, comes to; nothing is changed. `Spent` where a lease
-    /// would have a number above u64::MAX, and only there.
+    /// or a reap would have a number above u64::MAX, and only there.
     pub fn plan(&self, alloc: Global, now: u64, ev: &ServerEvent) -> Result<Plan, CoreError>
         requires { now ≤ LATEST }
         ensures out { IfOk result (λ p. p.out ≡ (step self.now now ev.now).out) }
@@ -76,9 +76,9 @@ impl ServerCore {
             (step self.now now ev.now).server) }
         ensures can { IfOk result (λ p. CanCommit p self.now) }
         ensures spent { (counter : TheCounter) → IsErrOf result (errors.Spent counter) →
-            (counter ≡ Leases) × (is_spent self.now now ev.now ≡ true) }
-        ensures only { is_spent self.now now ev.now ≡ true →
-            IsErrOf result (errors.Spent Leases) ⊎ IsErrOf result errors.Memory }
+            spent_by self.now now ev.now ≡ Some counter }
+        ensures only { (counter : TheCounter) → spent_by self.now now ev.now ≡ Some counter →
+            IsErrOf result (errors.Spent counter) ⊎ IsErrOf result errors.Memory }
     {
         let at = Begun::at(&self.server, now);
         let Decided { change, out } = decide(alloc, &at, ev)?;
@@ -96,8 +96,8 @@ impl ServerCore {
         commit(alloc, &mut self.server, now, change)
     }
 
-    /// One event at the reading `now`, in milliseconds. `Spent` where a lease would have a number above u64::MAX, and
-    /// only there. After an error the server is as it was.
+    /// One event at the reading `now`, in milliseconds. `Spent` where a lease or a reap would have a number above
+    /// u64::MAX, and only there. After an error the server is as it was.
     pub fn step(
         &mut self,
         alloc: Global,
@@ -108,9 +108,9 @@ impl ServerCore {
         ensures out { IfOk result (λ out. out ≡ (step self.old now ev.now).out) }
         ensures server { OnOk result (self.new ≡ (step self.old now ev.now).server) }
         ensures spent { (counter : TheCounter) → IsErrOf result (errors.Spent counter) →
-            (counter ≡ Leases) × (is_spent self.old now ev.now ≡ true) }
-        ensures only { is_spent self.old now ev.now ≡ true →
-            IsErrOf result (errors.Spent Leases) ⊎ IsErrOf result errors.Memory }
+            spent_by self.old now ev.now ≡ Some counter }
+        ensures only { (counter : TheCounter) → spent_by self.old now ev.now ≡ Some counter →
+            IsErrOf result (errors.Spent counter) ⊎ IsErrOf result errors.Memory }
         ensures err { OnErr result (self.new ≡ self.old) }
     {
         let plan = self.plan(alloc, now, ev)?;
@@ -124,13 +124,6 @@ impl ServerCore {
         ensures { result.now ≡ self.now.records }
     {
         &self.server.records
-    }
-
-    /// The rows of the leases that the server gave.
-    pub fn rows(&self) -> &Rows
-        ensures { result.now ≡ self.now.rows }
-    {
-        &self.server.rows
     }
 }
 

@@ -1,7 +1,7 @@
 //! What a server keeps.
+use crate::all_rows::AllRows;
 use fs_ident::{Memory, Twin};
 use fs_record::Records;
-use fs_rows::Rows;
 use std::alloc::Global;
 
 /// What a server keeps.
@@ -19,7 +19,7 @@ pub(crate) struct Server {
     pub(crate) given: u64,
     /// How often a session lost its handles on a file so far.
     pub(crate) reaps: u64,
-    pub(crate) rows: Rows,
+    pub(crate) rows: AllRows,
     pub(crate) records: Records,
 }
 
