@@ -8,11 +8,9 @@ ghost use Rattle.fs_field.specs.declared.lease_kind.LeaseKind.TheVariants.{Share
 ghost use Rattle.fs_field.specs.Table.{has_no, renewed_row, is_live, is_lease, is_unlocked, locked_row, unlocked_row, rows_on, borne_numbers};
 ghost use Rattle.fs_moderows.specs.Answer.{answer_self, answer_other, stands_against_self, stands_against_reap, is_self_of_other, given_row, rows_after, reap_blocker, IsLeast};
 ghost use Rattle.fs_moderows.specs.Table.{IsModeTable};
-ghost use Rattle.fs_rows.specs.Granted.{with_rows};
 
 use crate::against::first_against_reap;
 use crate::answers;
-use crate::live::Live;
 use fs_field::{Asked, Field, LeaseKind, Row, Unknown, table};
 use fs_ident::{FileId, LeaseNo, List, Memory, Session, Twin, TxnNo};
 use fs_modes::{Mode, Modes};
@@ -139,25 +137,6 @@ impl ModeRows {
             Some(row) => Some(row.no),
             None => None,
         }
-    }
-
-    /// The rows that are not over at the reading `now`: a transaction keeps them, or their end and the skew are not
-    /// over. Nothing is dropped.
-    pub fn live(&self, now: u64, skew: u64) -> Live<'_>
-        ensures rows { result ≡ filter (is_live now skew) self.now }
-        ensures valid { IsModeTable result }
-    {
-        Live::at(self.rows.as_slice(), now, skew)
-    }
-
-    /// Puts in these rows, in order. `Memory` where memory is wanting; the table is as it was then.
-    pub fn put_all(&mut self, alloc: Global, rows: List<Row>) -> Result<(), Memory>
-        requires table { IsModeTable (with_rows rows self.old) }
-        ensures ok { OnOk result (self.new ≡ with_rows rows self.old) }
-        ensures err { OnErr result (self.new ≡ self.old) }
-        ensures valid { IsModeTable self.new }
-    {
-        unreachable!()
     }
 
     /// Lets the row of this number end no sooner than `until`; its end is never lowered. `Unknown` where there is
