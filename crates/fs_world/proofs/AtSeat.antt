@@ -20,10 +20,10 @@ seat_there None h = absurd (cc)
 seat_there (Some seat) h = (seat, refl)
 
 -- where no counter is spent there is room on the link
-pub has_room : (core full : Bool) (counter : Counter) → first_spent core counter full ≡ None → full ≡ false
-has_room true full counter h = absurd (cc)
-has_room false true counter h = absurd (cc)
-has_room false false counter h = refl
+pub has_room : (core : Option Counter) (full : Bool) → first_spent core full ≡ None → full ≡ false
+has_room (Some counter) full h = absurd (cc)
+has_room None true h = absurd (cc)
+has_room None false h = refl
 
 abbrev pub seated : Served → Seats → List Item → Packets → Served
 seated w seats journal packets = record w { seats = seats; journal = journal; packets = packets }

@@ -73,7 +73,7 @@ session_goes w s turn heard n counter seat journal of k h =
 pub session_does : (w : Served) (s : Session) (turn : Bool) (heard : Option Peer) (spent : Bool) (p : Plan Note) (seat : Seat) (journal : List Item) → IsOfServer heard → LogReadable (committed p.ready seat.client) → SendsReadable p.out.send → FitsUp p.out.send → is_full_up p.out.send seat.post ≡ false
     → IsSeated (link_with w.post (Client s)) w.packets.sent s seat → IsLinked w → IsLinked (with_seat s (client_does s turn heard spent p seat journal w.packets) w).world
 session_does w s turn heard spent p seat journal of log readable fits room k h =
-    session_goes w s turn heard p.out.note (first_spent spent Entries (is_full_up p.out.send seat.post)) (seat_after p seat) (with_read p.out.admitted journal) of
+    session_goes w s turn heard p.out.note (first_spent (if spent then Some Entries else None) (is_full_up p.out.send seat.post)) (seat_after p seat) (with_read p.out.admitted journal) of
     (seat_sends (link_with w.post (Client s)) w.packets.sent s seat p.ready p.out.send log readable fits room k) h
 
 -- a session that has joined does what it planned

@@ -23,13 +23,13 @@ use Rattle.fs_msg.specs.Spelling.{message}
 use Rattle.fs_msg.specs.declared.answer.Answer.{Answer}
 use Rattle.fs_msg.specs.declared.client_msg.ClientMsg.{ClientMsg}
 use Rattle.fs_msg.specs.declared.core_error.Counter.{Counter}
-use Rattle.fs_msg.specs.declared.core_error.Counter.TheVariants.{Leases}
+use Rattle.fs_msg.specs.declared.core_error.Counter.{Counter}
 use Rattle.fs_msg.specs.declared.msg.Msg.{Msg}
 use Rattle.fs_msg.specs.declared.msg.Msg.TheVariants as msg
 use Rattle.fs_msg.specs.declared.note.Note.{Note}
 use Rattle.fs_msg.specs.declared.note.Note.TheVariants as note
 use Rattle.fs_server.specs.Server.{Stepped as ServerStepped}
-use Rattle.fs_server.specs.Step.{is_spent, step}
+use Rattle.fs_server.specs.Step.{spent_by, step}
 use Rattle.fs_server.specs.declared.event.ServerEvent.{ServerEvent}
 use Rattle.fs_server.specs.declared.event.ServerEvent.TheVariants.{FromClient}
 use Rattle.fs_world.specs.Linked.{AreOfJoined, AreTied, FitsDown, GoesBetween, HasJoined, IsFirstOf, IsLinked, IsPair, IsSeated, IsWritten, from_session, to_session}
@@ -133,11 +133,11 @@ heard_still xs seats None of = tt
 heard_still xs seats (Some (Client s)) of = joined_downs xs seats s of
 heard_still xs seats (Some (Server k)) of = of
 
-pub server_linked : (w : Served) (turn : Bool) (heard : Option Peer) (spent : Bool) (x : ServerStepped) → IsOfJoined w.seats heard → HandlesOpen x.server.records → AreOfJoined w.seats x.server.rows → AreAnswersTo (HasJoined w.seats) x.out.send → AllReadable x.out.send → FitsDown x.out.send
+pub server_linked : (w : Served) (turn : Bool) (heard : Option Peer) (spent : Option Counter) (x : ServerStepped) → IsOfJoined w.seats heard → HandlesOpen x.server.records → AreOfJoined w.seats x.server.rows → AreAnswersTo (HasJoined w.seats) x.out.send → AllReadable x.out.send → FitsDown x.out.send
     → is_full_down x.out.send w.post ≡ false → IsLinked w → IsLinked (server_does turn heard spent x w).world
 server_linked w turn heard spent x of handles rows answers readable fits room h =
     server_sends (record w { server = x.server; post = with_pushed x.out.send w.post; seats = with_downs x.out.send w.seats; journal = w.journal ++ x.out.admitted })
-    turn heard (note.Server x.out.note) (first_spent spent Leases (is_full_down x.out.send w.post)) (heard_still x.out.send w.seats heard of)
+    turn heard (note.Server x.out.note) (first_spent spent (is_full_down x.out.send w.post)) (heard_still x.out.send w.seats heard of)
     (record {
       ties = tied_downs x.out.send w.post w.seats w.packets.sent answers readable fits room h.ties;
       handles = handles;
@@ -231,4 +231,4 @@ pub step_linked : (w : Served) (turn : Bool) (heard : Option Peer) (now : ℕ) (
     → is_full_down (step w.server now e).out.send w.post ≡ false → IsLinked w → IsLinked (server_step turn heard now e w).world
 step_linked w turn heard now e of asked handles readable fits room h =
     let k = step_of (HasJoined w.seats) w.server now e asked h.rows in
-    server_linked w turn heard (is_spent w.server now e) (step w.server now e) of handles k.rows k.sends readable fits room h
+    server_linked w turn heard (spent_by w.server now e) (step w.server now e) of handles k.rows k.sends readable fits room h

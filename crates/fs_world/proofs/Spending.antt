@@ -1,6 +1,6 @@
 -- The counter that a client's event would have raised above its end.
 use Rattle.std.proofs.Common.{◌≡◌, ◌⊎◌, Bool, true, false, Result, Ok, Err, IsErrOf, refl, ap, inl, inr}
-use Rattle.std.specs.Prelude.{Some}
+use Rattle.std.specs.Prelude.{Some, None}
 use Rattle.fs_msg.specs.declared.core_error.Counter.{Counter}
 use Rattle.fs_msg.specs.declared.core_error.Counter.TheVariants.{Segments}
 use Rattle.fs_msg.specs.declared.core_error.CoreError.{CoreError}
@@ -8,9 +8,9 @@ use Rattle.fs_msg.specs.declared.core_error.CoreError.TheVariants as errors
 use Rattle.fs_world.specs.Served.{first_spent}
 
 -- the counter that is spent is that of the link
-pub spent_link : (c counter : Counter) (full : Bool) → first_spent false c full ≡ Some counter → (full ≡ true) × (Segments ≡ counter)
-spent_link c counter true e = (refl, cc)
-spent_link c counter false e = absurd (cc)
+pub spent_link : (counter : Counter) (full : Bool) → first_spent None full ≡ Some counter → (full ≡ true) × (Segments ≡ counter)
+spent_link counter true e = (refl, cc)
+spent_link counter false e = absurd (cc)
 
 pub not_true : (b : Bool) → (b ≡ true → ⊥) → b ≡ false
 not_true true h = absurd (h refl)

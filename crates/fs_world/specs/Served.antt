@@ -19,7 +19,7 @@ use Rattle.fs_msg.specs.declared.answer.Answer.{Answer}
 use Rattle.fs_msg.specs.declared.client_msg.ClientMsg.{ClientMsg}
 use Rattle.fs_msg.specs.declared.client_note.ClientNote.{ClientNote}
 use Rattle.fs_msg.specs.declared.core_error.Counter.{Counter}
-use Rattle.fs_msg.specs.declared.core_error.Counter.TheVariants.{Entries, Leases, Segments}
+use Rattle.fs_msg.specs.declared.core_error.Counter.TheVariants.{Entries, Segments}
 use Rattle.fs_msg.specs.declared.item.Item.{Item}
 use Rattle.fs_msg.specs.declared.msg.Msg.{Msg}
 use Rattle.fs_msg.specs.declared.msg.Msg.TheVariants as msg
@@ -31,7 +31,7 @@ use Rattle.fs_client.specs.Client.{committed, first_client}
 use Rattle.fs_client.specs.Turns.{turn_plan}
 use Rattle.fs_client.specs.declared.plan.Plan.{Plan}
 use Rattle.fs_server.specs.Server.{Stepped as ServerStepped, first_server}
-use Rattle.fs_server.specs.Step.{step, is_spent}
+use Rattle.fs_server.specs.Step.{step, spent_by}
 use Rattle.fs_server.specs.declared.event.ServerEvent.{ServerEvent}
 use Rattle.fs_server.specs.declared.event.ServerEvent.TheVariants.{FromClient, Turn as TheTurn, Recall as TheRecall}
 use Rattle.fs_schedule.specs.declared.event.What.{What}
@@ -88,10 +88,10 @@ abbrev pub is_full_for : Links → Peer → List ℕ → Bool
 is_full_for links to bytes = nat_le (2 ^ 64) (pushed_to links to + length (cut_of bytes))
 
 -- a counter of the core comes before those of its links
-abbrev pub first_spent : Bool → Counter → Bool → Option Counter
-first_spent true counter segments = Some counter
-first_spent false counter true = Some Segments
-first_spent false counter false = None
+abbrev pub first_spent : Option Counter → Bool → Option Counter
+first_spent (Some counter) segments = Some counter
+first_spent None true = Some Segments
+first_spent None false = None
 
 -- ## A client's events
 
@@ -138,7 +138,7 @@ with_read (Some i) journal = journal ++ i ∷ []
 -- a client does what it planned
 abbrev pub client_does : Session → Bool → Option Peer → Bool → Plan Note → Seat → List Item → Packets → SeatStepped
 client_does s turn heard spent p seat journal packets =
-    seat_goes s turn heard p.out.note (first_spent spent Entries (is_full_up p.out.send seat.post)) (seat_after p seat)
+    seat_goes s turn heard p.out.note (first_spent (if spent then Some Entries else None) (is_full_up p.out.send seat.post)) (seat_after p seat)
     (with_read p.out.admitted journal) packets
 
 -- a plan, with its note among those of worlds
@@ -242,14 +242,14 @@ with_downs [] seats = seats
 with_downs (x ∷ xs) seats = with_downs xs (with_down x seats)
 
 -- the server has taken a step
-abbrev pub server_does : Bool → Option Peer → Bool → ServerStepped → Served → Stepped
+abbrev pub server_does : Bool → Option Peer → Option Counter → ServerStepped → Served → Stepped
 server_does turn heard spent x w =
-    server_goes turn heard (note.Server x.out.note) (first_spent spent Leases (is_full_down x.out.send w.post))
+    server_goes turn heard (note.Server x.out.note) (first_spent spent (is_full_down x.out.send w.post))
     (record w { server = x.server; post = with_pushed x.out.send w.post; seats = with_downs x.out.send w.seats; journal = w.journal ++ x.out.admitted })
 
 -- an event of the server
 abbrev pub server_step : Bool → Option Peer → ℕ → ServerEvent → Served → Stepped
-server_step turn heard now e w = server_does turn heard (is_spent w.server now e) (step w.server now e) w
+server_step turn heard now e w = server_does turn heard (spent_by w.server now e) (step w.server now e) w
 
 -- ## A packet comes to the server
 

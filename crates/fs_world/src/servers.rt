@@ -1,5 +1,5 @@
 //! The server's events.
-ghost use Rattle.std.specs.Prelude.{◌≡◌, ◌≤◌, ◌⊎◌, ◌++◌, true, false, Some, None, IfOk, OnOk, OnErr, IsErrOf};
+ghost use Rattle.std.specs.Prelude.{◌≡◌, ◌≤◌, ◌⊎◌, ◌++◌, true, Some, None, IfOk, OnOk, OnErr, IsErrOf};
 ghost use Rattle.fs_ident.specs.declared.limits.TheConstants.{LATEST};
 ghost use Rattle.fs_msg.specs.declared.core_error.Counter.{Counter as TheCounter};
 ghost use Rattle.fs_msg.specs.declared.core_error.Counter.TheVariants.{Segments};
@@ -73,9 +73,9 @@ impl Served {
     ) -> Result<Outcome, CoreError>
         requires { CanCommit plan self.old.server }
         ensures outcome { IfOk result (λ o. o ≡
-            (server_does turn heard false (stepped_by plan self.old.server) self.old).outcome) }
+            (server_does turn heard None (stepped_by plan self.old.server) self.old).outcome) }
         ensures world { OnOk result (self.new ≡
-            (server_does turn heard false (stepped_by plan self.old.server) self.old).world) }
+            (server_does turn heard None (stepped_by plan self.old.server) self.old).world) }
         ensures fits { OnOk result (FitsDown plan.out.send) }
         ensures spent { (counter : TheCounter) → IsErrOf result (errors.Spent counter) →
             (counter ≡ Segments) × (is_full_down plan.out.send self.old.post ≡ true) }

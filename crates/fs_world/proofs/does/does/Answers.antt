@@ -7,5 +7,5 @@ use Rattle.fs_world.proofs.does.does.Goals as goal
 pub returns-in_err-put_up-clause-only : goal.returns-in_err-put_up-clause-only
 returns-in_err-put_up-clause-only c = λ counter e.
     let p = err_from_is_err_and c.from_residual.result c.from_residual.ensures.1 in
-    let link = spent_link Entries counter (is_full_up c.args.plan.out.send c.args.seat.now.post) e in
+    let link = spent_link counter (is_full_up c.args.plan.out.send c.args.seat.now.post) e in
     rw (p.1, p.2) (refused_as c.in_err-put_up.field-0.0 counter link.1 (c.in_err-put_up.ensures.only link.0))

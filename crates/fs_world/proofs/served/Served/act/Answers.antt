@@ -1,5 +1,5 @@
 use Rattle.std.proofs.Common.{◌≡◌, ap, sym, ◌∙◌, subst}
-use Rattle.std.specs.Prelude.{Option, Some, OnOk}
+use Rattle.std.specs.Prelude.{Option, Some, None, OnOk, if◌then◌else◌}
 use Rattle.fs_msg.specs.declared.core_error.Counter.TheVariants.{Entries}
 use Rattle.std.specs.FinMap.{get}
 use Rattle.fs_client.specs.Acts.{act_plan, is_act_spent}
@@ -28,7 +28,7 @@ returns-clause-linked c =
     let t = there c in
     let x = client_acts c.args.now c.args.s c.args.op.now t.0 w.journal w.packets in
     linked_after c.act.result (seated w c.act.new.self c.act.new.journal c.act.new.packets) (with_seat c.args.s x w) (FitsUp (act_plan t.0.client c.args.now c.args.op.now).out.send)
-    (λ fits room. act_keeps w c.args.s t.0 c.args.now c.args.op.now t.1 (called_plainly c.args.op.now c.requires.called).1 fits (has_room (is_act_spent t.0.client c.args.now c.args.op.now) (is_full_up (act_plan t.0.client c.args.now c.args.op.now).out.send t.0.post) Entries room) c.requires.linked)
+    (λ fits room. act_keeps w c.args.s t.0 c.args.now c.args.op.now t.1 (called_plainly c.args.op.now c.requires.called).1 fits (has_room (if is_act_spent t.0.client c.args.now c.args.op.now then Some Entries else None) (is_full_up (act_plan t.0.client c.args.now c.args.op.now).out.send t.0.post) room) c.requires.linked)
     (world_at c.act.result w c.args.s c.act.new.self c.act.new.journal c.act.new.packets x (c.act.ensures.seat t.0 t.1) (c.act.ensures.journal t.0 t.1) (c.act.ensures.packets t.0 t.1))
     (c.act.ensures.fits t.0 t.1)
     (c.act.ensures.room t.0 t.1)

@@ -1,7 +1,6 @@
 use Rattle.std.proofs.Common.{true}
 use Rattle.std.specs.Prelude.{None}
-use Rattle.fs_msg.specs.declared.core_error.Counter.TheVariants.{Leases}
-use Rattle.fs_server.specs.Step.{is_spent, step}
+use Rattle.fs_server.specs.Step.{spent_by, step}
 use Rattle.fs_server.specs.declared.event.ServerEvent.TheVariants.{Turn}
 use Rattle.fs_world.specs.Linked.{FitsDown}
 use Rattle.fs_world.specs.Served.{is_full_down, server_step}
@@ -14,5 +13,5 @@ returns-clause-linked c =
     let w = c.args.self.now in
     let now = c.args.now in
     linked_after c.server_step.result c.server_step.new.self (server_step true None now Turn w) (FitsDown (step w.server now Turn).out.send)
-    (λ fits room. turn_server w now fits (has_room (is_spent w.server now Turn) (is_full_down (step w.server now Turn).out.send w.post) Leases room) c.requires.linked)
+    (λ fits room. turn_server w now fits (has_room (spent_by w.server now Turn) (is_full_down (step w.server now Turn).out.send w.post) room) c.requires.linked)
     c.server_step.ensures.world c.server_step.ensures.fits c.server_step.ensures.room
