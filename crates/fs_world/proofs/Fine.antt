@@ -3,13 +3,11 @@ use Rattle.std.proofs.Common.{◌≡◌, ℕ, ◌+◌, ◌/◌, true, false, not
 use Rattle.std.specs.Prelude.{Option, Some, None, is_some}
 use Rattle.std.specs.List.{AllByRecursion, list_all}
 use Rattle.fs_ident.specs.In.{In}
-use Rattle.fs_ident.specs.declared.actor.Peer.{Peer}
-use Rattle.fs_ident.specs.declared.actor.Peer.TheVariants.{Server, Client}
+use Rattle.fs_ident.specs.declared.actor.LeaseNo.{LeaseNo}
 use Rattle.fs_ident.specs.declared.actor.Session.{Session}
 use Rattle.fs_field.specs.declared.asked.Need.{Need}
 use Rattle.fs_field.specs.declared.asked.Need.TheVariants as need
 use Rattle.fs_field.specs.declared.used.Use.{Use}
-use Rattle.fs_field.specs.Field.{tells_no_mode}
 use Rattle.fs_model.specs.Sound.{AsksAccess, is_change}
 use Rattle.fs_model.specs.Step.{is_empty}
 use Rattle.fs_model.specs.declared.op.Op.{Op}
@@ -33,7 +31,9 @@ use Rattle.fs_client.specs.Answers.{answer_plan, fits, hear, strange, told}
 use Rattle.fs_client.specs.Client.{begun}
 use Rattle.fs_client.specs.Turns.{ending, idle, release_some, renew_some, returned, ships, turn_free, turn_on, turn_plan}
 use Rattle.fs_client.specs.declared.state.Client.{Client as ClientState}
-use Rattle.fs_server.specs.Asks.{answered, asked_in}
+use Rattle.fs_moderows.specs.Answer.{reap_blocker}
+use Rattle.fs_record.specs.ValueOf.{selves_in}
+use Rattle.fs_server.specs.Reaps.{Reaping, lapsed_in, reap_from, reap_item, turn_over, with_blocker, with_reap}
 use Rattle.fs_server.specs.Server.{begun as server_begun, strange as server_strange}
 use Rattle.fs_server.specs.Ships.{Shipping, first_gone, item_of, ship_from, shipped, with_entry}
 use Rattle.fs_server.specs.Step.{message_step, step}
@@ -42,12 +42,8 @@ use Rattle.fs_server.specs.declared.event.ServerEvent.TheVariants.{FromClient, T
 use Rattle.fs_server.specs.declared.state.Server.{Server as ServerState}
 use Rattle.fs_serial.specs.World.{is_called, pushed}
 
-abbrev pub IsOfSession : Peer → Type 0
-IsOfSession (Server k) = ⊥
-IsOfSession (Client s) = Unit {0}
-
+-- it asks for an access where it opens
 pub record IsFine (i : Item) : Type 0 where
-  pub by : IsOfSession i.by
   pub asks : AsksAccess i.op
 
 abbrev pub AllFine : List Item → Type 0
@@ -75,6 +71,9 @@ id_asks v now (op.Kind file) r h = tt
 id_asks v now (op.Info file) r h = tt
 id_asks v now (op.Create dir name kind id) reply.Made h = tt
 id_asks v now (op.Create dir name kind id) r h = tt
+id_asks v now (op.OpenFile file x modes) r h = h
+id_asks v now (op.Close file x) r h = tt
+id_asks v now (op.Set file x size stamp) r h = tt
 id_asks v now o r h = absurd (cc)
 
 full_fine : (needs : List Need) (c : ClientState) → MayBeFine (full_one needs c).out.admitted
@@ -88,7 +87,7 @@ ask_fine needs (n ∷ ns) c = elim (is_some c.exchange) as (λ b. MayBeFine (con
 
 answers_fine : (o : Op) (r : Reply) (c : ClientState) → is_called o ≡ true → MayBeFine (answers o r c).out.admitted
 answers_fine o r c h = elim (not (is_change r) && is_empty c.log) as (λ b. MayBeFine (cond b (reads o r c) (replies o r c)).out.admitted) [
-  | true ↦ record { by = tt; asks = id_asks c.view c.last o r h }
+  | true ↦ record { asks = id_asks c.view c.last o r h }
   | false ↦ tt
 ]
 
@@ -151,7 +150,7 @@ ships_fine by (e ∷ es) s admitted a h =
       | None ↦ ship_from by es (with_entry by e s) (admitted ++ item_of by e ∷ [])
       | Some u ↦ record { server = s; admitted = admitted; end = end.Ended e.n u.no u.until s.last; gaps = map (λ (x : Entry). x.n) es }
     ]).admitted) [
-      | None ↦ ships_fine by es (with_entry by e s) (admitted ++ item_of by e ∷ []) (λ x i. a x (inr i)) (fine_more admitted (item_of by e ∷ []) h (record { by = tt; asks = a e (inl refl) }, tt))
+      | None ↦ ships_fine by es (with_entry by e s) (admitted ++ item_of by e ∷ []) (λ x i. a x (inr i)) (fine_more admitted (item_of by e ∷ []) h (record { asks = a e (inl refl) }, tt))
       | Some u ↦ h
     ]
 
@@ -160,7 +159,7 @@ MessageAsks (Ship entries) = EntriesAsk entries
 MessageAsks m = Unit {0}
 
 message_fine : (by : Session) (m : ClientMsg) (s : ServerState) → MessageAsks m → AllFine (message_step by m s).out.admitted
-message_fine by (Ask items dir) s a = elim (list_all (λ x. tells_no_mode x.0) items) as (λ b. AllFine (cond b (answered by (asked_in by items dir s)) (server_strange s)).out.admitted) [ true ↦ tt | false ↦ tt ]
+message_fine by (Ask items dir) s a = tt
 message_fine by (Renew pairs) s a = tt
 message_fine by (Release pairs) s a = tt
 message_fine by (Ship entries) s a = elim (list_all (λ (e : Entry). tells_its_effects e.op) entries) as (λ b. AllFine (cond b (shipped by (ship_from by entries s [])) (server_strange s)).out.admitted) [
@@ -168,11 +167,29 @@ message_fine by (Ship entries) s a = elim (list_all (λ (e : Entry). tells_its_e
   | false ↦ tt
 ]
 
+-- a reap opens nothing
+reaps_fine : (xs : List (List ℕ × Session)) (s : ServerState) (admitted : List Item) (blockers : List LeaseNo) → AllFine admitted → AllFine (reap_from xs s admitted blockers).admitted
+reaps_fine [] s admitted blockers h = h
+reaps_fine (x ∷ xs) s admitted blockers h =
+    elim (reap_blocker (selves_in s.records x.0) s.rows x.1 x.0) as (λ (o : Option LeaseNo).
+    AllFine
+    (elim o as (λ _. Reaping) [
+      | None ↦ reap_from xs (with_reap x.0 x.1 s) (admitted ++ reap_item s.me (s.reaps + 1) x.0 x.1 ∷ []) blockers
+      | Some number ↦ reap_from xs s admitted (with_blocker number blockers)
+    ]).admitted) [
+      | None ↦ reaps_fine xs (with_reap x.0 x.1 s) (admitted ++ reap_item s.me (s.reaps + 1) x.0 x.1 ∷ []) blockers (fine_more admitted (reap_item s.me (s.reaps + 1) x.0 x.1 ∷ []) h (record { asks = tt }, tt))
+      | Some number ↦ reaps_fine xs s admitted (with_blocker number blockers) h
+    ]
+
+turn_over_fine : (xs : List (List ℕ × Session)) (s : ServerState) → AllFine (turn_over xs s).out.admitted
+turn_over_fine [] s = tt
+turn_over_fine (x ∷ xs) s = reaps_fine (x ∷ xs) s [] [] tt
+
 abbrev pub EventAsks : ServerEvent → Type 0
 EventAsks (FromClient by m) = MessageAsks m
 EventAsks e = Unit {0}
 
 pub step_fine : (s : ServerState) (now : ℕ) (e : ServerEvent) → EventAsks e → AllFine (step s now e).out.admitted
 step_fine s now (FromClient by m) a = message_fine by m (server_begun now s) a
-step_fine s now Turn a = tt
+step_fine s now Turn a = let b : ServerState = server_begun now s in turn_over_fine (lapsed_in b) b
 step_fine s now (TheRecall field) a = tt

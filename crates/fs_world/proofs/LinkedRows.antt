@@ -1,5 +1,5 @@
 -- Whose rows a server has, and to whom it sends: the sessions that asked.
-use Rattle.std.proofs.Common.{◌≡◌, ℕ, Bool, true, false, List, [], ◌∷◌, ◌++◌, map, not, Option, Some, None, refl, sym, ap, subst, cond, ◌∙◌, inl, inr}
+use Rattle.std.proofs.Common.{◌≡◌, ℕ, ◌+◌, Bool, true, false, List, [], ◌∷◌, ◌++◌, map, not, Option, Some, None, refl, sym, ap, subst, cond, ◌∙◌, inl, inr}
 use Rattle.std.specs.Prelude.{◌&&◌, is_some, nat_lt}
 use Rattle.std.specs.List.{AllByRecursion, filter, find, list_all}
 use Rattle.fs_ident.specs.Ident.{child}
@@ -17,11 +17,12 @@ use Rattle.fs_field.specs.declared.field.Field.TheVariants.{Life}
 use Rattle.fs_field.specs.declared.lease_kind.LeaseKind.{LeaseKind}
 use Rattle.fs_field.specs.declared.lease_kind.LeaseKind.TheVariants.{Exclusive}
 use Rattle.fs_field.specs.declared.row.Row.{Row}
-use Rattle.fs_field.specs.Field.{same_field, tells_no_mode}
+use Rattle.fs_field.specs.Field.{same_field}
 use Rattle.fs_field.specs.Table.{borne_numbers, has_no, is_live, no_before, renewed_row, with_row}
-use Rattle.fs_rows.specs.Answer.{answer}
+use Rattle.fs_moderows.specs.Answer.{reap_blocker}
 use Rattle.fs_rows.specs.Live.{unlocked_on, unlocked_rows_on}
 use Rattle.fs_record.specs.Fresh.{fresh_number, is_directory}
+use Rattle.fs_record.specs.ValueOf.{selves_in}
 use Rattle.fs_msg.specs.declared.answer.Grant.{Grant}
 use Rattle.fs_msg.specs.declared.client_msg.ClientMsg.{ClientMsg}
 use Rattle.fs_msg.specs.declared.client_msg.ClientMsg.TheVariants.{Ask, Renew, Release, Ship}
@@ -32,8 +33,9 @@ use Rattle.fs_msg.specs.declared.item.Item.{Item}
 use Rattle.fs_msg.specs.declared.msg.Msg.{Msg}
 use Rattle.fs_msg.specs.declared.msg.Msg.TheVariants as msg
 use Rattle.fs_record.specs.Effects.{tells_its_effects}
-use Rattle.fs_server.specs.Asks.{Asking, answered, ask_fresh, ask_from, ask_step, asked_in, fresh_for, fresh_in, fresh_of, grant_of, kind_for, recall_of, recalls_at, with_lease}
+use Rattle.fs_server.specs.Asks.{Asking, answer_to, ask_fresh, ask_from, ask_step, asked_in, fresh_for, fresh_in, fresh_of, grant_of, kind_for, recall_of, recalls_at, with_lease}
 use Rattle.fs_server.specs.Pairs.{numbers_in, released_rows, renewed_rows}
+use Rattle.fs_server.specs.Reaps.{Reaping, lapsed_in, reap_from, reap_item, recalls_for, turn_over, with_blocker, with_reap}
 use Rattle.fs_server.specs.Server.{Stepped, begun, end_of, strange}
 use Rattle.fs_server.specs.Ships.{first_gone, item_of, ship_from, ship_step, shipped, with_entry}
 use Rattle.fs_server.specs.Step.{event_step, message_step, recalls_of, step}
@@ -73,8 +75,8 @@ put these new rows h all row i = elim (In-put (λ (r : Row). no_before new.no r.
   | inr j ↦ all row j
 ]
 
-lent : (these : Session → Type 0) (by : Session) (field : Field) (kind : LeaseKind) (s : Server) → these by → AreOf these s.rows → AreOf these (with_lease by field kind s).rows
-lent these by field kind s h all row i = put these _ s.rows h all row i
+lent : (these : Session → Type 0) (by : Session) (field : Field) (kind : LeaseKind) (promise : Option Bool) (s : Server) → these by → AreOf these s.rows → AreOf these (with_lease by field kind promise s).rows
+lent these by field kind promise s h all row i = put these _ s.rows h all row i
 
 session_kept : (n : LeaseNo) (until : ℕ) (r : Row) → (renewed_row n until r).session ≡ r.session
 session_kept n until r = either (has_no n r && nat_lt r.until until)
@@ -101,22 +103,23 @@ pub record IsOf (these : Session → Type 0) (x : Stepped) : Type 0 where
   pub sends : AreAnswersTo these x.out.send
 
 -- the items of a question, one after another
-after_item : (these : Session → Type 0) (by : Session) (x : Field × LeaseKind) (xs : List (Field × LeaseKind)) (s : Server) (grants : List Grant) (asked : Asked) → answer s.rows by x.0 (kind_for x.0 x.1) ≡ asked → AreOf these s.rows
-    → AreOf these (ask_from by xs (with_lease by x.0 (kind_for x.0 x.1) s) (grants ++ grant_of by x.0 (kind_for x.0 x.1) s ∷ [])).server.rows
+after_item : (these : Session → Type 0) (by : Session) (x : Field × LeaseKind) (xs : List (Field × LeaseKind)) (s : Server) (grants : List Grant) (asked : Asked) → answer_to by x.0 (kind_for x.0 x.1) s ≡ asked → AreOf these s.rows
+    → ((promise : Option Bool) → AreOf these (ask_from by xs (with_lease by x.0 (kind_for x.0 x.1) promise s) (grants ++ grant_of by x.0 (kind_for x.0 x.1) s ∷ [])).server.rows)
     → AreOf these (ask_from by (x ∷ xs) s grants).server.rows
-after_item these by x xs s grants (Granted told) e h more = rw (e, ask_from) more
+after_item these by x xs s grants (Granted promise) e h more = rw (e, ask_from) (more promise)
 after_item these by x xs s grants (Wait blocker) e h more = rw (e, ask_from) h
 after_item these by x xs s grants (Locked txn) e h more = rw (e, ask_from) h
 
 after_items : (these : Session → Type 0) (by : Session) (xs : List (Field × LeaseKind)) (s : Server) (grants : List Grant) → these by → AreOf these s.rows → AreOf these (ask_from by xs s grants).server.rows
 after_items these by [] s grants p h = h
 after_items these by (x ∷ xs) s grants p h =
-    after_item these by x xs s grants (answer s.rows by x.0 (kind_for x.0 x.1)) refl h
-    (after_items these by xs (with_lease by x.0 (kind_for x.0 x.1) s) (grants ++ grant_of by x.0 (kind_for x.0 x.1) s ∷ []) p (lent these by x.0 (kind_for x.0 x.1) s p h))
+    let kind = kind_for x.0 x.1 in
+    after_item these by x xs s grants (answer_to by x.0 kind s) refl h
+    (λ promise. after_items these by xs (with_lease by x.0 kind promise s) (grants ++ grant_of by x.0 kind s ∷ []) p (lent these by x.0 kind promise s p h))
 
 -- a new file's identifier
 after_fresh_of : (these : Session → Type 0) (by : Session) (dir : List ℕ) (k : Option ℕ) (a : Asking) → these by → AreOf these a.server.rows → AreOf these (fresh_of by dir k a).server.rows
-after_fresh_of these by dir (Some k) a p h = lent these by (Life (child dir k)) Exclusive a.server p h
+after_fresh_of these by dir (Some k) a p h = lent these by (Life (child dir k)) Exclusive None a.server p h
 after_fresh_of these by dir None a p h = h
 
 after_fresh_in : (these : Session → Type 0) (by : Session) (dir : List ℕ) (b : Bool) (a : Asking) → these by → AreOf these a.server.rows → AreOf these (fresh_in by dir b a).server.rows
@@ -148,20 +151,13 @@ recalled_at these (end.Moved prefix to) rows h = tt
 recalled_at these (end.NoIds full) rows h = tt
 recalled_at these (end.Ended n missed until now) rows h = tt
 
-asked_of : (these : Session → Type 0) (by : Session) (items : List (Field × LeaseKind)) (dir : Option (List ℕ)) (s : Server) → these by → AreOf these s.rows → IsOf these (answered by (asked_in by items dir s))
-asked_of these by items dir s p h =
+ask_of : (these : Session → Type 0) (by : Session) (items : List (Field × LeaseKind)) (dir : Option (List ℕ)) (s : Server) → these by → AreOf these s.rows → IsOf these (ask_step by items dir s)
+ask_of these by items dir s p h =
     let rows : AreOf these (asked_in by items dir s).server.rows = after_fresh these by dir (ask_from by items s []).end (ask_from by items s []) p (after_items these by items s [] p h) in
     record { rows = rows; sends = (p, recalled_at these (asked_in by items dir s).end (asked_in by items dir s).server.rows rows) }
 
 strange_of : (these : Session → Type 0) (s : Server) → AreOf these s.rows → IsOf these (strange s)
 strange_of these s h = record { rows = h; sends = tt }
-
-ask_of : (these : Session → Type 0) (by : Session) (items : List (Field × LeaseKind)) (dir : Option (List ℕ)) (s : Server) → these by → AreOf these s.rows → IsOf these (ask_step by items dir s)
-ask_of these by items dir s p h = either (list_all (λ x. tells_no_mode x.0) items)
-  where
-    either : (b : Bool) → IsOf these (cond b (answered by (asked_in by items dir s)) (strange s))
-    either true = asked_of these by items dir s p h
-    either false = strange_of these s h
 
 -- no entry changes a row
 after_entry : (these : Session → Type 0) (by : Session) (e : Entry) (es : List Entry) (s : Server) (admitted : List Item) (gone : Option Use) → first_gone s.rows by e.uses ≡ gone → AreOf these s.rows
@@ -196,9 +192,40 @@ unlocked these field rows h x i =
     let at = In-map (λ (row : Row). (row.no, row.session)) x (unlocked_rows_on field rows) i in
     subst these (ap (λ (y : LeaseNo × Session). y.1) (sym at.1.1)) (h at.0 (In-filter (λ (row : Row). same_field row.field field && not (is_some row.lock)) at.0 rows at.1.0))
 
+-- ## Reaps
+
+answers_more : (these : Session → Type 0) (xs ys : List (Peer × Msg)) → AreAnswersTo these xs → AreAnswersTo these ys → AreAnswersTo these (xs ++ ys)
+answers_more these [] ys h g = g
+answers_more these (x ∷ xs) ys h g = (h.0, answers_more these xs ys h.1 g)
+
+-- each lease in the way is asked back from the session of its row
+recalled_for : (these : Session → Type 0) (rows : List Row) (ns : List LeaseNo) → AreOf these rows → AreAnswersTo these (recalls_for rows ns)
+recalled_for these rows [] h = tt
+recalled_for these rows (n ∷ ns) h = answers_more these (recall_of n (find (has_no n) rows)) (recalls_for rows ns) (recalled these n (find (has_no n) rows) rows refl h) (recalled_for these rows ns h)
+
+-- a reap changes no row
+reap_rows : (xs : List (List ℕ × Session)) (s : Server) (admitted : List Item) (blockers : List LeaseNo) → (reap_from xs s admitted blockers).server.rows ≡ s.rows
+reap_rows [] s admitted blockers = refl
+reap_rows (x ∷ xs) s admitted blockers =
+    elim (reap_blocker (selves_in s.records x.0) s.rows x.1 x.0) as (λ (o : Option LeaseNo).
+    (elim o as (λ _. Reaping) [
+      | None ↦ reap_from xs (with_reap x.0 x.1 s) (admitted ++ reap_item s.me (s.reaps + 1) x.0 x.1 ∷ []) blockers
+      | Some number ↦ reap_from xs s admitted (with_blocker number blockers)
+    ]).server.rows ≡ s.rows) [
+      | None ↦ reap_rows xs (with_reap x.0 x.1 s) (admitted ++ reap_item s.me (s.reaps + 1) x.0 x.1 ∷ []) blockers
+      | Some number ↦ reap_rows xs s admitted (with_blocker number blockers)
+    ]
+
+turn_of : (these : Session → Type 0) (xs : List (List ℕ × Session)) (s : Server) → AreOf these s.rows → IsOf these (turn_over xs s)
+turn_of these [] s h = record { rows = h; sends = tt }
+turn_of these (x ∷ xs) s h =
+    let all : Reaping = reap_from (x ∷ xs) s [] [] in
+    let rows : AreOf these all.server.rows = subst (AreOf these) (sym (reap_rows (x ∷ xs) s [] [])) h in
+    record { rows = rows; sends = recalled_for these all.server.rows all.blockers rows }
+
 event_of : (these : Session → Type 0) (e : ServerEvent) (s : Server) → IsAsked these e → AreOf these s.rows → IsOf these (event_step e s)
 event_of these (FromClient by m) s p h = message_of these by m s p h
-event_of these Turn s p h = record { rows = h; sends = tt }
+event_of these Turn s p h = turn_of these (lapsed_in s) s h
 event_of these (Recall field) s p h = record { rows = h; sends = recalls_sent these (unlocked_on field s.rows) (unlocked these field s.rows h) }
 
 -- a step keeps the rows of these sessions, and sends to these alone

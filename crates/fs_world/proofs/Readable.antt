@@ -2,6 +2,7 @@
 use Rattle.std.proofs.Common.{◌≡◌, ℕ, zero, suc, ◌+◌, ◌/◌, List, [], ◌∷◌, ◌++◌, Bool, true, false, cond, refl}
 use Rattle.std.specs.Prelude.{Option, Some, None, IfSome, is_some, not, ◌&&◌, map, ◌==◌}
 use Rattle.std.specs.List.{AllByRecursion, find, list_all}
+use Rattle.std.specs.FinMap.{get}
 use Rattle.fs_ident.specs.declared.actor.LeaseNo.{LeaseNo}
 use Rattle.fs_ident.specs.declared.actor.Peer.{Peer}
 use Rattle.fs_ident.specs.declared.actor.Session.{Session}
@@ -11,13 +12,14 @@ use Rattle.fs_field.specs.declared.asked.Asked.{Asked}
 use Rattle.fs_field.specs.declared.asked.Asked.TheVariants.{Granted, Wait, Locked}
 use Rattle.fs_field.specs.declared.asked.Need.{Need}
 use Rattle.fs_field.specs.declared.asked.Need.TheVariants.{Lease, Fresh}
+use Rattle.fs_field.specs.After.{Handles}
+use Rattle.fs_field.specs.declared.effect.Effect.TheVariants.{RemoveHandle}
 use Rattle.fs_field.specs.declared.field.Field.{Field}
 use Rattle.fs_field.specs.declared.field.Field.TheVariants.{Life}
 use Rattle.fs_field.specs.declared.lease_kind.LeaseKind.{LeaseKind}
 use Rattle.fs_field.specs.declared.lease_kind.LeaseKind.TheVariants.{Exclusive}
 use Rattle.fs_field.specs.declared.row.Row.{Row}
 use Rattle.fs_field.specs.declared.used.Use.{Use}
-use Rattle.fs_field.specs.Field.{tells_no_mode}
 use Rattle.fs_field.specs.Table.{borne_numbers, has_no}
 use Rattle.fs_model.specs.Asking.{may_ask}
 use Rattle.fs_model.specs.declared.op.Op.{Op}
@@ -26,9 +28,11 @@ use Rattle.fs_model.specs.declared.reply.Reply.{Reply}
 use Rattle.fs_model.specs.declared.reply.Reply.TheVariants as reply
 use Rattle.fs_model.specs.Sound.{is_change}
 use Rattle.fs_model.specs.Step.{is_empty}
-use Rattle.fs_record.specs.Effects.{effects_of, tells_its_effects}
+use Rattle.fs_moderows.specs.Answer.{reap_blocker}
+use Rattle.fs_record.specs.Effects.{effects_of, reap_effects, tells_its_effects}
 use Rattle.fs_record.specs.Fresh.{fresh_number, is_directory}
-use Rattle.fs_rows.specs.Answer.{answer}
+use Rattle.fs_record.specs.Records.{node_of}
+use Rattle.fs_record.specs.ValueOf.{handles_of, own_of, selves_in}
 use Rattle.fs_rows.specs.Live.{unlocked_on}
 use Rattle.fs_msg.specs.declared.act.Act.TheVariants as act
 use Rattle.fs_msg.specs.declared.act.Busy.TheVariants as busy
@@ -58,12 +62,13 @@ use Rattle.fs_client.specs.Turns.{ending, idle, release_some, renew_some, return
 use Rattle.fs_server.specs.declared.event.ServerEvent.{ServerEvent}
 use Rattle.fs_server.specs.declared.event.ServerEvent.TheVariants.{FromClient, Turn, Recall}
 use Rattle.fs_server.specs.declared.state.Server.{Server}
-use Rattle.fs_server.specs.Asks.{Asking, answered, ask_fresh, ask_from, ask_step, asked_in, fresh_for, fresh_in, fresh_of, grant_of, kind_for, recall_of, recalls_at, with_lease}
+use Rattle.fs_server.specs.Asks.{Asking, answer_to, answered, ask_fresh, ask_from, ask_step, asked_in, fresh_for, fresh_in, fresh_of, grant_of, kind_for, recall_of, recalls_at, with_lease}
+use Rattle.fs_server.specs.Reaps.{Reaping, lapsed_in, reap_from, reap_item, recalls_for, turn_over, with_blocker, with_reap}
 use Rattle.fs_server.specs.Server.{Stepped, begun as begun_server, first_server, strange as strange_server}
 use Rattle.fs_server.specs.Ships.{Shipping, first_gone, item_of, ship_from, ship_step, shipped, with_entry}
 use Rattle.fs_server.specs.Step.{event_step, message_step, recalls_of, step}
 use Rattle.fs_world.specs.Readable.{HandlesOpen, LogReadable}
-use Rattle.fs_world.proofs.OpenHandles.{effects_open, first_open, open_after_all, open_after_gift, value_open}
+use Rattle.fs_world.proofs.OpenHandles.{AddsOpen, effects_open, first_open, open_after_all, open_after_gift, value_open}
 
 -- ## At the beginning
 
@@ -223,14 +228,14 @@ asked_readable : (by : Session) (items : List (Field × LeaseKind)) (s : Server)
 asked_readable by [] s grants open_ h = record { records = open_; grants = h }
 asked_readable by (x ∷ xs) s grants open_ h =
     let kind = kind_for x.0 x.1 in
-    elim (answer s.rows by x.0 kind) as (λ (a : Asked).
+    elim (answer_to by x.0 kind s) as (λ (a : Asked).
     AskingReadable
     (elim a as (λ _. Asking) [
-      | Granted value ↦ ask_from by xs (with_lease by x.0 kind s) (grants ++ grant_of by x.0 kind s ∷ [])
+      | Granted promise ↦ ask_from by xs (with_lease by x.0 kind promise s) (grants ++ grant_of by x.0 kind s ∷ [])
       | Wait blocker ↦ record { server = s; grants = grants; fresh = None; end = end.Wait blocker }
       | Locked txn ↦ record { server = s; grants = grants; fresh = None; end = end.Locked txn }
     ])) [
-      | Granted value ↦ asked_readable by xs (with_lease by x.0 kind s) (grants ++ grant_of by x.0 kind s ∷ []) open_ (one_grant grants (grant_of by x.0 kind s) h (value_open s.records by x.0 open_))
+      | Granted promise ↦ asked_readable by xs (with_lease by x.0 kind promise s) (grants ++ grant_of by x.0 kind s ∷ []) open_ (one_grant grants (grant_of by x.0 kind s) h (value_open s.records by x.0 open_))
       | Wait blocker ↦ record { records = open_; grants = h }
       | Locked txn ↦ record { records = open_; grants = h }
     ]
@@ -272,7 +277,7 @@ answered_readable by a h = record { records = h.records; sends = (h.grants, reca
 ask_step_readable : (by : Session) (items : List (Field × LeaseKind)) (dir : Option (List ℕ)) (s : Server) → HandlesOpen s.records → StepReadable (ask_step by items dir s)
 ask_step_readable by items dir s open_ =
     let a = ask_from by items s [] in
-    either_step (list_all (λ x. tells_no_mode x.0) items) (answered by (asked_in by items dir s)) s (answered_readable by (ask_fresh by dir a.end a) (all_asked_readable by dir a.end a (asked_readable by items s [] open_ refl))) open_
+    answered_readable by (ask_fresh by dir a.end a) (all_asked_readable by dir a.end a (asked_readable by items s [] open_ refl))
 
 -- ## A log that is handed in
 
@@ -291,6 +296,41 @@ shipped_open by (e ∷ es) s admitted h open_ =
 
 ship_step_readable : (by : Session) (es : List Entry) (s : Server) → list_all is_readable_entry es ≡ true → HandlesOpen s.records → StepReadable (ship_step by es s)
 ship_step_readable by es s h open_ = either_step (list_all (λ (e : Entry). tells_its_effects e.op) es) (shipped by (ship_from by es s [])) s (record { records = shipped_open by es s [] h open_; sends = (refl, tt) }) open_
+
+-- ## A turn of the server
+
+sends_more : (xs ys : List (Peer × Msg)) → AllReadable xs → AllReadable ys → AllReadable (xs ++ ys)
+sends_more [] ys h g = g
+sends_more (x ∷ xs) ys h g = (h.0, sends_more xs ys h.1 g)
+
+recalls_for_readable : (rows : List Row) (ns : List LeaseNo) → AllReadable (recalls_for rows ns)
+recalls_for_readable rows [] = tt
+recalls_for_readable rows (n ∷ ns) = sends_more (recall_of n (find (has_no n) rows)) (recalls_for rows ns) (recall_readable n (find (has_no n) rows)) (recalls_for_readable rows ns)
+
+-- a reap adds no handle
+reap_open : (file : List ℕ) (by : Session) (hs : Handles) → AllByRecursion AddsOpen (map (λ h. RemoveHandle file by h.0) hs)
+reap_open file by [] = tt
+reap_open file by (h ∷ hs) = (tt, reap_open file by hs)
+
+reaped_open : (xs : List (List ℕ × Session)) (s : Server) (admitted : List Item) (blockers : List LeaseNo) → HandlesOpen s.records → HandlesOpen (reap_from xs s admitted blockers).server.records
+reaped_open [] s admitted blockers open_ = open_
+reaped_open (x ∷ xs) s admitted blockers open_ =
+    elim (reap_blocker (selves_in s.records x.0) s.rows x.1 x.0) as (λ (o : Option LeaseNo).
+    HandlesOpen
+    (elim o as (λ _. Reaping) [
+      | None ↦ reap_from xs (with_reap x.0 x.1 s) (admitted ++ reap_item s.me (s.reaps + 1) x.0 x.1 ∷ []) blockers
+      | Some number ↦ reap_from xs s admitted (with_blocker number blockers)
+    ]).server.records) [
+      | None ↦ reaped_open xs (with_reap x.0 x.1 s) (admitted ++ reap_item s.me (s.reaps + 1) x.0 x.1 ∷ []) blockers
+          (open_after_all s.records (reap_effects s.records x.0 x.1) (reap_open x.0 x.1 (own_of x.1 (handles_of (node_of (get s.records x.0))))) open_)
+      | Some number ↦ reaped_open xs s admitted (with_blocker number blockers) open_
+    ]
+
+turn_over_readable : (xs : List (List ℕ × Session)) (s : Server) → HandlesOpen s.records → StepReadable (turn_over xs s)
+turn_over_readable [] s open_ = record { records = open_; sends = tt }
+turn_over_readable (x ∷ xs) s open_ =
+    let all : Reaping = reap_from (x ∷ xs) s [] [] in
+    record { records = reaped_open (x ∷ xs) s [] [] open_; sends = recalls_for_readable all.server.rows all.blockers }
 
 -- ## An event
 
@@ -311,7 +351,7 @@ EventReadable e = Unit {0}
 
 event_readable : (e : ServerEvent) (s : Server) → EventReadable e → HandlesOpen s.records → StepReadable (event_step e s)
 event_readable (FromClient by m) s h open_ = message_readable by m s h open_
-event_readable Turn s h open_ = record { records = open_; sends = tt }
+event_readable Turn s h open_ = turn_over_readable (lapsed_in s) s open_
 event_readable (Recall field) s h open_ = record { records = open_; sends = asked_back_readable (unlocked_on field s.rows) }
 
 pub step_keeps_handles : (s : Server) (now : ℕ) (e : ServerEvent) → EventReadable e → HandlesOpen s.records → HandlesOpen (step s now e).server.records

@@ -22,7 +22,7 @@ use Rattle.fs_client.specs.Answers.{answer_plan, strange, told}
 use Rattle.fs_client.specs.Client.{begun}
 use Rattle.fs_client.specs.Turns.{ending, idle, release_some, renew_some, returned, ships, turn_free, turn_on, turn_plan}
 use Rattle.fs_client.specs.declared.state.Client.{Client}
-use Rattle.fs_server.specs.Asks.{answered, asked_in}
+use Rattle.fs_server.specs.Reaps.{lapsed_in, turn_over}
 use Rattle.fs_server.specs.Server.{Stepped, begun as server_begun, strange as server_strange}
 use Rattle.fs_server.specs.Ships.{Shipping, first_gone, item_of, ship_from, shipped, with_entry}
 use Rattle.fs_server.specs.Step.{message_step, step}
@@ -126,12 +126,16 @@ module _ (greatest now : ℕ) (w : World) (h : WorldHolds greatest w) (within : 
       subst (λ b. Right (cond b (shipped by (ship_from by entries s [])) (server_strange s))) (sym plain) (record { plain = refl; fair = ship_fair by entries s [] (refused_ended by entries there) })
 
   message_right : (by : Session) (m : ClientMsg) → In m (w.ends by).up → Right (message_step by m s)
-  message_right by (Ask items dir) there = subst (λ b. Right (cond b (answered by (asked_in by items dir s)) (server_strange s))) (sym ((h.exchanges by).asked items dir there)) (record { plain = refl; fair = tt })
+  message_right by (Ask items dir) there = record { plain = refl; fair = tt }
   message_right by (Renew pairs) there = record { plain = refl; fair = tt }
   message_right by (Release pairs) there = record { plain = refl; fair = tt }
   message_right by (Ship entries) there = ship_right by entries there
 
+  turned_over_right : (xs : List (List ℕ × Session)) → Right (turn_over xs s)
+  turned_over_right [] = record { plain = refl; fair = tt }
+  turned_over_right (x ∷ xs) = record { plain = refl; fair = tt }
+
   pub event_right : (e : ServerEvent) → IsThere e w.ends → Right (step w.server now e)
   event_right (FromClient by m) there = message_right by m there
-  event_right Turn there = record { plain = refl; fair = tt }
+  event_right Turn there = turned_over_right (lapsed_in s)
   event_right (TheRecall field) there = record { plain = refl; fair = tt }

@@ -11,14 +11,14 @@ use Rattle.fs_msg.specs.Journal.{IsSerialRun}
 use Rattle.fs_msg.specs.declared.item.Item.{Item}
 use Rattle.fs_record.specs.Records.{nodes_of}
 use Rattle.fs_server.specs.Ships.{item_of}
-use Rattle.fs_serial.specs.Numbers.{AreNumbered, all_items, is_session, items_by}
+use Rattle.fs_serial.specs.Numbers.{AreNumbered, all_items, is_server, is_session, items_at, items_by}
 use Rattle.fs_serial.specs.Settled.{Settled}
 use Rattle.fs_serial.specs.World.{World, settled_at}
 use Rattle.fs_serial.proofs.Facts.{In-front}
 use Rattle.fs_serial.proofs.Outcome.{outcome}
 use Rattle.fs_world.specs.Order.{Agrees, AreNumberedFrom, HasNumberOf, IsInSessionOrder, Told, items_of, same_actor}
 use Rattle.fs_world.specs.declared.served.Served.{Served}
-use Rattle.fs_world.proofs.Fine.{AllFine, IsOfSession}
+use Rattle.fs_world.proofs.Fine.{AllFine}
 use Rattle.fs_world.proofs.Numbered.{kept, number_of_one}
 use Rattle.fs_world.specs.Parts.{ends_of}
 use Rattle.fs_world.proofs.Seen.{turned}
@@ -38,13 +38,12 @@ same_filter p q (x ∷ xs) e = ap (λ b. cond b (x ∷ filter p xs) (filter p xs
 same_items : (s : Session) (journal : List Item) → items_of (Client s) journal ≡ items_by s journal
 same_items s journal = same_filter (λ (i : Item). same_actor (Client s) i.by) (λ (i : Item). is_session s i.by) journal (λ i. same_by s i.by)
 
-not_server : (k : ℕ) (p : Peer) → IsOfSession p → same_actor (Server k) p ≡ false
-not_server k (Server j) h = absurd h
-not_server k (Client s) h = refl
+same_server : (k : ℕ) (p : Peer) → same_actor (Server k) p ≡ is_server k p
+same_server k (Server j) = turned k j
+same_server k (Client s) = refl
 
-none_served : (k : ℕ) (journal : List Item) → AllFine journal → items_of (Server k) journal ≡ []
-none_served k [] h = refl
-none_served k (i ∷ is) h = ap (λ b. cond b (i ∷ items_of (Server k) is) (items_of (Server k) is)) (not_server k i.by h.0.by) ∙ none_served k is h.1
+same_reaps : (k : ℕ) (journal : List Item) → items_of (Server k) journal ≡ items_at k journal
+same_reaps k journal = same_filter (λ (i : Item). same_actor (Server k) i.by) (λ (i : Item). is_server k i.by) journal (λ i. same_server k i.by)
 
 all_ask : (journal : List Item) → AllFine journal → AllAsk journal
 all_ask [] h = tt
@@ -68,7 +67,7 @@ module _ (skew greatest : ℕ) (told : List Told) (w : Served) (h : HoldsOf skew
   told_numbered s = numbered_from 1 (all_items s w.journal (settled s).log) (settled s).next (h.world.all.sessions s).numbers
 
   numbered : (who : Peer) → AreNumberedFrom 1 (items_of who w.journal)
-  numbered (Server k) = subst (AreNumberedFrom 1) (sym (none_served k w.journal h.items)) tt
+  numbered (Server k) = subst (AreNumberedFrom 1) (sym (same_reaps k w.journal)) (numbered_from 1 (items_at k w.journal) (1 + length (items_at k w.journal)) ((outcome greatest seen h.world).reaped k))
   numbered (Client s) = subst (AreNumberedFrom 1) (sym (same_items s w.journal)) (numbered_from 1 (items_by s w.journal) (1 + length (items_by s w.journal)) ((outcome greatest seen h.world).numbered s))
 
   -- the session's item of the journal is among those that it was told
