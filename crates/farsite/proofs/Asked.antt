@@ -4,10 +4,7 @@ use Rattle.std.proofs.lemmas.List.{drop_more}
 use Rattle.std.specs.Prelude.{◌≤◌, Option, Some, None, IfSome}
 use Rattle.std.specs.List.{AllByRecursion}
 use Rattle.fs_ident.specs.declared.actor.Session.{Session}
-use Rattle.fs_ident.specs.declared.kind.Kind.{Kind}
 use Rattle.fs_ident.specs.declared.limits.TheConstants.{SESSIONS}
-use Rattle.fs_model.specs.declared.op.Op.{Op}
-use Rattle.fs_model.specs.declared.op.Op.TheVariants as op
 use Rattle.fs_schedule.specs.declared.event.Event.{Event}
 use Rattle.fs_schedule.specs.declared.event.Head.{Head}
 use Rattle.fs_schedule.specs.declared.event.Head.TheVariants as head
@@ -16,29 +13,12 @@ use Rattle.fs_schedule.specs.declared.event.What.{What}
 use Rattle.fs_schedule.specs.declared.event.What.TheVariants.{Join, Do, Tell, Turn, Recall}
 use Rattle.fs_schedule.specs.Faults.{AreLinesOf, IsScheduleText}
 use Rattle.fs_schedule.specs.Lines.{lines_of}
-use Rattle.fs_schedule.specs.Spelling.{FitsEvent, FitsHead, FitsWhat, has_op, session_in}
-use Rattle.fs_serial.specs.World.{is_called}
+use Rattle.fs_schedule.specs.Spelling.{FitsEvent, FitsHead, FitsWhat, session_in}
 use Rattle.fs_world.specs.World.{AllMayHappen, FitsServed, FitsWorld, first_world, may_happen, step}
 use Rattle.fs_world.specs.declared.form.Form.{Form}
 use Rattle.fs_world.specs.declared.form.Form.TheVariants.{Direct, Served}
+use Rattle.fs_world.proofs.Forms.{called}
 use Rattle.farsite.specs.Fitting.{MayHappen}
-
-made_without_id : (dir name : List ℕ) (kind : Kind) (id : Option (List ℕ)) (n k t : ℕ) → has_op (head.Servers n k t) (op.Create dir name kind id) ≡ true → is_called (op.Create dir name kind id) ≡ true
-made_without_id dir name kind None n k t h = refl
-made_without_id dir name kind (Some id) n k t h = absurd (cc)
-
-called : (n k t : ℕ) (o : Op) → has_op (head.Servers n k t) o ≡ true → is_called o ≡ true
-called n k t (op.Lookup dir name) h = refl
-called n k t (op.List dir) h = refl
-called n k t (op.Kind file) h = refl
-called n k t (op.Info file) h = refl
-called n k t (op.Create dir name kind id) h = made_without_id dir name kind id n k t h
-called n k t (op.OpenFile file h modes) e = absurd (cc)
-called n k t (op.Close file h) e = absurd (cc)
-called n k t (op.Set file h size stamp) e = absurd (cc)
-called n k t (op.Delete dir name) e = absurd (cc)
-called n k t (op.Rename sdir sname ddir dname) e = absurd (cc)
-called n k t (op.Reap file session) e = absurd (cc)
 
 what_asked : (h : Head) (w : What) → FitsWhat h w → may_happen h w ≡ true
 what_asked head.Direct (Join s) f = refl

@@ -18,16 +18,16 @@ use Rattle.fs_world.specs.declared.form.Form.{Form}
 use Rattle.fs_world.specs.declared.form.Form.TheVariants.{Direct, Served}
 
 module _ (servers skew term : ℕ) where
-  called : (o : Op) → has_op (head.Servers servers skew term) o ≡ true → is_called o ≡ true
+  pub called : (o : Op) → has_op (head.Servers servers skew term) o ≡ true → is_called o ≡ true
   called (op.Lookup dir name) h = refl
   called (op.List dir) h = refl
   called (op.Kind file) h = refl
   called (op.Info file) h = refl
   called (op.Create dir name kind None) h = refl
   called (op.Create dir name kind (Some id)) h = absurd (cc)
-  called (op.OpenFile file n modes) h = absurd (cc)
-  called (op.Close file n) h = absurd (cc)
-  called (op.Set file n size stamp) h = absurd (cc)
+  called (op.OpenFile file n modes) h = h
+  called (op.Close file n) h = refl
+  called (op.Set file n size stamp) h = refl
   called (op.Delete dir name) h = absurd (cc)
   called (op.Rename sdir sname ddir dname) h = absurd (cc)
   called (op.Reap file session) h = absurd (cc)
