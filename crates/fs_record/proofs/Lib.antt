@@ -9,3 +9,5 @@ pub mod NodeMaps
 pub mod Selves
 pub mod AllApplied
 pub mod Undoing
+pub mod Reaping
+pub mod OpenFiles

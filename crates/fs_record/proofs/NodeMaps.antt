@@ -7,7 +7,7 @@ use Rattle.std.specs.FinMap.{get, entries, find, get-entries, get-from_entries, 
 use Rattle.fs_field.specs.declared.effect.Effect.{Effect}
 use Rattle.fs_record.specs.declared.record.Record.{Record}
 use Rattle.fs_record.specs.Records.{RecordMap, nodes_of, node_of}
-use Rattle.fs_record.specs.Applied.{node_change, record_change, records_after, nodes_after, changed_file}
+use Rattle.fs_record.specs.Applied.{node_change, record_change, records_after, nodes_after, changed_file, with_at}
 use Rattle.fs_ident.proofs.MapsOf.{anti}
 use Rattle.fs_record.proofs.Kept.{get_with_at}
 use Rattle.fs_record.proofs.ValueChanges.{change_node}
@@ -23,11 +23,16 @@ find_node q (e ∷ es) = ap (cond (eq_by_cmp (slice_cmp nat_cmp) q e.0) (Some e.
 pub node_there : (m : RecordMap) (id : List ℕ) → get (nodes_of m) id ≡ node_of (get m id)
 node_there m id = get-from_entries nat_list_cmp_total (map (λ e. (e.0, e.1.node)) (entries m)) id ∙ find_node id (entries m) ∙ ap node_of (sym (get-entries m id))
 
+-- what stands at an identifier, without its next number
+pub node_with_at : (m : RecordMap) (k : List ℕ) (o : Option Record) → nodes_of (with_at m k o) ≡ with_at (nodes_of m) k (node_of o)
+node_with_at m k o = same_map nat_list_cmp_total anti _ _ (λ q.
+    node_there (with_at m k o) q
+    ∙ ap node_of (get_with_at m k o q)
+    ∙ chosen (eq_by_cmp (slice_cmp nat_cmp) q k) o (get m q)
+    ∙ ap (cond (eq_by_cmp (slice_cmp nat_cmp) q k) (node_of o)) (sym (node_there m q))
+    ∙ sym (get_with_at (nodes_of m) k (node_of o) q))
+
 pub nodes_alike : (m : RecordMap) (e : Effect) → nodes_of (records_after m e) ≡ nodes_after (nodes_of m) e
-nodes_alike m e = same_map nat_list_cmp_total anti _ _ (λ q.
-    node_there (records_after m e) q
-    ∙ ap node_of (get_with_at m (changed_file e) (record_change e (get m (changed_file e))) q)
-    ∙ chosen (eq_by_cmp (slice_cmp nat_cmp) q (changed_file e)) (record_change e (get m (changed_file e))) (get m q)
-    ∙ ap (λ o. cond (eq_by_cmp (slice_cmp nat_cmp) q (changed_file e)) o (node_of (get m q))) (change_node e (get m (changed_file e)) ∙ ap (node_change e) (sym (node_there m (changed_file e))))
-    ∙ ap (λ o. cond (eq_by_cmp (slice_cmp nat_cmp) q (changed_file e)) (node_change e (get (nodes_of m) (changed_file e))) o) (sym (node_there m q))
-    ∙ sym (get_with_at (nodes_of m) (changed_file e) (node_change e (get (nodes_of m) (changed_file e))) q))
+nodes_alike m e =
+    node_with_at m (changed_file e) (record_change e (get m (changed_file e)))
+    ∙ ap (with_at (nodes_of m) (changed_file e)) (change_node e (get m (changed_file e)) ∙ ap (node_change e) (sym (node_there m (changed_file e))))

@@ -40,20 +40,20 @@ or_or a b c = λ i. record {
 }
 
 -- no handle is of a session before this one
-abbrev from_on : Session → List Handle → Bool
+abbrev pub from_on : Session → List Handle → Bool
 from_on s hs = list_all (λ x. not (nat_lt x.session.0 s.0)) hs
 
 after_one : (x y : Handle) → comes_before x y ≡ true → not (nat_lt y.session.0 x.session.0) ≡ true
 after_one x y h = grind (arith, nat_tests)
 
-from_first : (x : Handle) (xs : List Handle) → is_before_all x xs ≡ true → from_on x.session xs ≡ true
+pub from_first : (x : Handle) (xs : List Handle) → is_before_all x xs ≡ true → from_on x.session xs ≡ true
 from_first x [] h = refl
 from_first x (y ∷ ys) h = joined _ _ (after_one x y (first _ _ h)) (from_first x ys (second _ _ h))
 
 not_before : (s : Session) (x : Handle) → nat_lt s.0 x.session.0 ≡ true → (x.session.0 == s.0) ≡ false
 not_before s x h = grind (arith, nat_tests)
 
-further : (s : Session) (x y : Handle) → nat_lt s.0 x.session.0 ≡ true → not (nat_lt y.session.0 x.session.0) ≡ true → nat_lt s.0 y.session.0 ≡ true
+pub further : (s : Session) (x y : Handle) → nat_lt s.0 x.session.0 ≡ true → not (nat_lt y.session.0 x.session.0) ≡ true → nat_lt s.0 y.session.0 ≡ true
 further s x y h g = grind (arith, nat_tests)
 
 -- a session before all of them has none of them
@@ -64,7 +64,7 @@ none_before s x (y ∷ ys) h g =
     let rest = none_before s x ys h (second _ _ g) in
     (rw b rest.0, rw b rest.1)
 
-rises : (s : Session) (x : Handle) → not (nat_lt x.session.0 s.0) ≡ true → (x.session.0 == s.0) ≡ false → nat_lt s.0 x.session.0 ≡ true
+pub rises : (s : Session) (x : Handle) → not (nat_lt x.session.0 s.0) ≡ true → (x.session.0 == s.0) ≡ false → nat_lt s.0 x.session.0 ≡ true
 rises s x h e = grind (arith, nat_tests)
 
 agree : (a b s : ℕ) → (a == b) ≡ true → (a == s) ≡ (b == s)

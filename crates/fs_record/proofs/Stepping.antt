@@ -96,7 +96,7 @@ open_leads m by file h modes (Some n) e =
     ∙ sym (ap (λ o. with_change_at (with_open by h modes) m file o) e)))
 
 -- a change of a node that is there, in the two forms
-alike : (f : Node → Node) (m : NodeMap) (file : List ℕ) (n : Node) → get m file ≡ Some n → with_at m file (option_map f (get m file)) ≡ with_change f m file
+pub alike : (f : Node → Node) (m : NodeMap) (file : List ℕ) (n : Node) → get m file ≡ Some n → with_at m file (option_map f (get m file)) ≡ with_change f m file
 alike f m file n e = ap (λ (o : Option Node). with_at m file (option_map f o)) e ∙ sym (ap (λ o. with_change_at f m file o) e)
 
 close_leads : (m : NodeMap) (by : Session) (file : List ℕ) (h : ℕ) (o : Option Node) → get m file ≡ o → Leads m by (op.Close file h) (close o m by file h)

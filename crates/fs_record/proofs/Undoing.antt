@@ -38,7 +38,7 @@ twice : {X : Type 0} (b : Bool) (x y o : X) → cond b y (cond b x o) ≡ cond b
 twice true x y o = refl
 twice false x y o = refl
 
-with_at-with_at : {X : Type 0} (m : FinMap (slice_cmp nat_cmp) X) (k : List ℕ) (x y : Option X) → with_at (with_at m k x) k y ≡ with_at m k y
+pub with_at-with_at : {X : Type 0} (m : FinMap (slice_cmp nat_cmp) X) (k : List ℕ) (x y : Option X) → with_at (with_at m k x) k y ≡ with_at m k y
 with_at-with_at m k x y = same_map nat_list_cmp_total anti _ _ (λ q.
     get_with_at (with_at m k x) k y q
     ∙ ap (cond (eq_by_cmp (slice_cmp nat_cmp) q k) y) (get_with_at m k x q)
@@ -49,11 +49,11 @@ as_it_was : {X : Type 0} (b : Bool) (x o : X) → (b ≡ true → x ≡ o) → c
 as_it_was true x o h = h refl
 as_it_was false x o h = refl
 
-with_at_same : {X : Type 0} (m : FinMap (slice_cmp nat_cmp) X) (k : List ℕ) → with_at m k (get m k) ≡ m
+pub with_at_same : {X : Type 0} (m : FinMap (slice_cmp nat_cmp) X) (k : List ℕ) → with_at m k (get m k) ≡ m
 with_at_same m k = same_map nat_list_cmp_total anti _ _ (λ q.
     get_with_at m k (get m k) q ∙ as_it_was (eq_by_cmp (slice_cmp nat_cmp) q k) (get m k) (get m q) (λ t. get_tied nat_list_cmp_total m q k (equal_is _ t)))
 
-get_here : {X : Type 0} (m : FinMap (slice_cmp nat_cmp) X) (k : List ℕ) (x : Option X) → get (with_at m k x) k ≡ x
+pub get_here : {X : Type 0} (m : FinMap (slice_cmp nat_cmp) X) (k : List ℕ) (x : Option X) → get (with_at m k x) k ≡ x
 get_here m k x = get_with_at m k x k ∙ ap (λ b. cond b x (get m k)) (eq_itself k)
 
 -- ## Names

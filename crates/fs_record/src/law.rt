@@ -1,6 +1,7 @@
 //! Laws of records.
-ghost use Rattle.std.specs.Prelude.{◌≡◌, ◌⊎◌, ◌+◌, ◌<◌, ◌≤◌, ◌^◌, ℕ, List, length, Option, Some, None, true, false, is_some, if◌then◌else◌};
+ghost use Rattle.std.specs.Prelude.{◌≡◌, ◌⊎◌, ◌+◌, ◌<◌, ◌≤◌, ◌^◌, ℕ, List, length, Option, Some, None, true, false, not, ◌==◌, is_some, if◌then◌else◌};
 ghost use Rattle.std.specs.FinMap.{get};
+ghost use Rattle.std.specs.List.{filter};
 ghost use Rattle.fs_field.specs.After.{value_after};
 ghost use Rattle.fs_ident.specs.Ident.{same};
 ghost use Rattle.fs_field.specs.declared.effect.Effect.{Effect};
@@ -9,13 +10,14 @@ ghost use Rattle.fs_ident.specs.declared.actor.Session.{Session};
 ghost use Rattle.fs_model.specs.Namespace.{NodeMap};
 ghost use Rattle.fs_model.specs.Step.{step};
 ghost use Rattle.fs_model.specs.declared.op.Op.{Op};
+ghost use Rattle.fs_model.specs.declared.op.Op.TheVariants.{Reap};
 ghost use Rattle.fs_model.specs.declared.reply.Reply.{Reply};
-ghost use Rattle.fs_record.specs.Applied.{records_after, nodes_after, nodes_after_all, has_target};
-ghost use Rattle.fs_record.specs.Effects.{effects_of, tells_its_effects};
+ghost use Rattle.fs_record.specs.Applied.{records_after, records_after_all, nodes_after, nodes_after_all, has_target};
+ghost use Rattle.fs_record.specs.Effects.{effects_of, tells_its_effects, reap_effects};
 ghost use Rattle.fs_record.specs.Fresh.{IsLeastFree, is_borne, fresh_number, records_after_gift};
 ghost use Rattle.fs_record.specs.Records.{RecordMap, AreRecords, nodes_of, node_of, next_of};
 ghost use Rattle.fs_record.specs.Changes.{Change, after_changes, has_record_throughout};
-ghost use Rattle.fs_record.specs.ValueOf.{value_of, is_other, selves_of, has_handle, modes_of, modes_told_of, is_by_session};
+ghost use Rattle.fs_record.specs.ValueOf.{value_of, is_other, selves_in, selves_of, has_handle, modes_of, modes_told_of, is_by_session};
 ghost use Rattle.fs_model.specs.Handles.{handles_are_in_order};
 ghost use Rattle.fs_model.specs.declared.node.Handle.{Handle};
 ghost use Rattle.fs_record.specs.declared.record.Record.{Record};
@@ -83,4 +85,16 @@ pub fn selves_are_by_session()
         (if has_handle s handles then Some (modes_of s handles) else None) }
     ensures rising { (handles : List Handle) → handles_are_in_order handles ≡ true →
         is_by_session (selves_of handles) ≡ true }
+{}
+
+/// The effects of a reap lead to the space that the reap leads to, whoever does it, and the session is told no more of
+/// those with handles on the file.
+pub fn reaps_take_handles()
+    ensures nodes { (m : RecordMap) (by session : Session) (file : List ℕ) →
+        nodes_of (records_after_all m (reap_effects m file session)) ≡
+        (step (nodes_of m) by (Reap file session)).nodes }
+    ensures selves { (m : RecordMap) (session : Session) (file id : List ℕ) → AreRecords m →
+        selves_in (records_after_all m (reap_effects m file session)) id ≡
+        (if same id file then filter (λ e. not (e.0.0 == session.0)) (selves_in m id)
+        else selves_in m id) }
 {}

@@ -1,11 +1,12 @@
 //! What an operation does to fields, by its reply.
-ghost use Rattle.std.specs.Prelude.{◌≡◌, true, [], ◌∷◌, Some, IfOk};
-ghost use Rattle.fs_field.specs.declared.effect.Effect.TheVariants.{SetChild, NewNode};
+ghost use Rattle.std.specs.Prelude.{◌≡◌, true, [], ◌∷◌, map, Some, IfOk};
+ghost use Rattle.fs_field.specs.declared.effect.Effect.TheVariants.{SetChild, NewNode, RemoveHandle};
 ghost use Rattle.fs_record.specs.Effects.{tells_its_effects, effects_of};
+ghost use Rattle.fs_record.specs.ValueOf.{own_of};
 
 use fs_field::Effect;
 use fs_ident::{FileId, Kind, List, Memory, Name, Session, Twin};
-use fs_model::{Op, Reply};
+use fs_model::{Handle, Op, Reply};
 use std::alloc::Global;
 
 /// Whether the operation and its reply tell its effects: it is no rename, no delete and no reap.
@@ -102,5 +103,29 @@ fn single(alloc: Global, e: Effect) -> Result<List<Effect>, Memory>
 {
     let mut told = List::new(alloc);
     told.push(e)?;
+    Ok(told)
+}
+
+/// The effects of a reap: each of the session's handles, of these on the file, is taken away.
+#[tactic(auto, using(crate::proofs::Reaping::reap_step))]
+pub fn reap(
+    alloc: Global,
+    file: &FileId,
+    handles: &[Handle],
+    by: Session,
+) -> Result<List<Effect>, Memory>
+    ensures { IfOk result (λ told. told ≡
+        map (λ h. RemoveHandle file.now by h.0) (own_of by handles.now)) }
+{
+    let mut told = List::new(alloc);
+    for x in handles {
+        if x.session.0 == by.0 {
+            told.push(Effect::RemoveHandle {
+                file: file.copy(alloc)?,
+                session: by,
+                h: x.h,
+            })?;
+        }
+    }
     Ok(told)
 }

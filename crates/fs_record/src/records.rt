@@ -5,6 +5,8 @@ ghost use Rattle.std.specs.List.{list_all};
 ghost use Rattle.std.specs.Option.{option_copied};
 ghost use Rattle.fs_ident.specs.Ident.{child};
 ghost use Rattle.fs_record.specs.Applied.{records_after, records_after_all, has_target, is_undoable};
+ghost use Rattle.fs_record.specs.Effects.{reap_effects};
+ghost use Rattle.fs_record.specs.Opens.{open_files};
 ghost use Rattle.fs_record.specs.Fresh.{fresh_number, is_directory, records_after_gift};
 ghost use Rattle.fs_record.specs.Records.{IsRecord, first_records, AreRecords, root_record};
 ghost use Rattle.fs_record.specs.ValueOf.{value_of, is_other, selves_in};
@@ -14,7 +16,8 @@ ghost use Rattle.fs_ident.specs.declared.actor.Session.{Session as TheSession};
 ghost use Rattle.fs_record.specs.declared.error.FreshError.TheVariants.{NoDir, NoIds};
 
 use crate::error::FreshError;
-use crate::lookups::{files, node, record};
+use crate::lookups::{files, node, open_files, record};
+use crate::op_effects::reap;
 use crate::record::Record;
 use crate::values::{handles, value_at};
 use crate::{changes, handles as opens, numbers, together};
@@ -93,6 +96,13 @@ impl Records {
         files(alloc, &self.records)
     }
 
+    /// The identifiers of the files that sessions have handles on, in order.
+    pub fn open_files(&self, alloc: Global) -> Result<List<FileId>, Memory>
+        ensures { IfOk result (λ ids. ids ≡ open_files self.now) }
+    {
+        open_files(alloc, &self.records)
+    }
+
     /// The value of the field, as the session sees it. A file without a record does not live, and has no names, no
     /// handles, and size and stamp 0.
     pub fn value_of(&self, alloc: Global, session: Session, field: &Field) -> Result<Value, Memory>
@@ -106,6 +116,18 @@ impl Records {
         ensures { IfOk result (λ told. told ≡ selves_in self.now file.now) }
     {
         opens::selves(alloc, handles(node(&self.records, file)))
+    }
+
+    /// The effects of a reap: each of the session's handles on the file is taken away.
+    pub fn reap_effects(
+        &self,
+        alloc: Global,
+        file: &FileId,
+        by: Session,
+    ) -> Result<List<Effect>, Memory>
+        ensures { IfOk result (λ effects. effects ≡ reap_effects self.now file.now by) }
+    {
+        reap(alloc, file, handles(node(&self.records, file)), by)
     }
 
     /// Does the effect. Where its file (for a name its directory) has no record nothing changes, unless the file

@@ -129,10 +129,14 @@ fn busy(alloc: Global) -> Result<Records, Fail> {
 
 /// The root is opened.
 fn open(alloc: Global) -> Effect {
+    open_by(alloc, 2, 1)
+}
+
+fn open_by(alloc: Global, session: u16, h: u32) -> Effect {
     Effect::AddHandle {
         file: FileId::root(alloc),
-        session: Session(2),
-        h: 1,
+        session: Session(session),
+        h,
         modes: Modes::NONE,
     }
 }
@@ -226,5 +230,31 @@ fn effects_are_done_together(rt: HostRuntime) -> Result<(), Fail> {
 fn a_removal_is_not_taken_back(rt: HostRuntime) -> Result<(), Fail> {
     let file = FileId::root(rt.alloc());
     assert!(rt; !is_undoable(&Effect::RemoveNode { file }));
+    Ok(())
+}
+
+/// The root's records, opened by sessions 1 and 2; then session 1 loses its handles.
+fn reaped(alloc: Global) -> Result<Records, Fail> {
+    let root = FileId::root(alloc);
+    let mut records = Records::new(alloc, true)?;
+    for session in [1u16, 2] {
+        records.apply(alloc, &open_by(alloc, session, 1))?;
+        records.apply(alloc, &open_by(alloc, session, 2))?;
+    }
+    let effects = records.reap_effects(alloc, &root, Session(1))?;
+    for e in effects.as_slice() {
+        records.apply(alloc, e)?;
+    }
+    Ok(records)
+}
+
+#[test]
+fn a_session_loses_its_handles(rt: HostRuntime) -> Result<(), Fail> {
+    let alloc = rt.alloc();
+    let records = reaped(alloc)?;
+    let selves = records.selves(alloc, &FileId::root(alloc))?;
+    assert_eq!(rt; shown(alloc, selves)?.as_str(), SELVES);
+    assert_eq!(rt; busy(alloc)?.open_files(alloc)?.len(), 1);
+    assert!(rt; Records::new(alloc, true)?.open_files(alloc)?.is_empty());
     Ok(())
 }

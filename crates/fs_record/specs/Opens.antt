@@ -1,0 +1,15 @@
+-- The files that are open.
+use Rattle.std.specs.Prelude.{ℕ, Bool, not, List, Option}
+use Rattle.std.specs.List.{filter}
+use Rattle.std.specs.FinMap.{get, keys}
+use Rattle.fs_model.specs.declared.node.Node.{Node}
+use Rattle.fs_model.specs.Step.{is_unused}
+use Rattle.fs_record.specs.Records.{RecordMap, node_of}
+
+-- some session has a handle
+abbrev pub is_open : Option Node → Bool
+is_open o = not (is_unused o)
+
+-- the files with handles, in order
+abbrev pub open_files : RecordMap → List (List ℕ)
+open_files m = filter (λ f. is_open (node_of (get m f))) (keys m)
