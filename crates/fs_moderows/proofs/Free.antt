@@ -25,7 +25,8 @@ use Rattle.fs_moderows.proofs.Witnesses.{not_true, not_false, second_fails, not_
 abbrev pub AreOfModes : List Row → Type 0
 AreOfModes rows = (row : Row) → In row rows → is_of_mode row.field row.kind row.promise ≡ true
 
-meets_never : (f : Field) (k : LeaseKind) (p : Option Bool) (g : Field) (l : LeaseKind) → is_of_mode f k p ≡ true → meets f k g l ≡ false
+-- a lease on a mode goes with every other, whoever has a handle
+pub meets_never : (f : Field) (k : LeaseKind) (p : Option Bool) (g : Field) (l : LeaseKind) → is_of_mode f k p ≡ true → meets f k g l ≡ false
 meets_never (SelfW f m) k p (Names g) l h = refl
 meets_never (SelfW f m) k p g l h = refl
 meets_never (Other f m) k p (Names g) l h = refl

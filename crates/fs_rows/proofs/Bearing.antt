@@ -5,7 +5,6 @@ use Rattle.std.specs.Cmp.{nat_eq_equiv}
 use Rattle.std.specs.Cmp.Lexicographic.{same_text}
 use Rattle.std.specs.List.{list_any, cons_option}
 use Rattle.std.proofs.lemmas.List.Folds.{list_any-append}
-use Rattle.fs_ident.specs.declared.actor.LeaseNo.{LeaseNo}
 use Rattle.fs_ident.specs.declared.actor.Session.{Session}
 use Rattle.fs_ident.specs.Ident.{child, same}
 use Rattle.fs_ident.specs.In.{In}
@@ -14,16 +13,12 @@ use Rattle.fs_ident.proofs.Booleans.{neither}
 use Rattle.fs_field.specs.declared.field.Field.{Field}
 use Rattle.fs_field.specs.declared.field.Field.TheVariants.{Life, Child, Names, Info, Own, SelfW, Other}
 use Rattle.fs_field.specs.declared.lease_kind.LeaseKind.{LeaseKind}
-use Rattle.fs_field.specs.declared.lease_kind.LeaseKind.TheVariants.{Exclusive}
 use Rattle.fs_field.specs.declared.row.Row.{Row}
-use Rattle.fs_field.specs.Conflict.{meets}
+use Rattle.fs_field.specs.Conflict.{meets, stands_against}
 use Rattle.fs_field.specs.Field.{file_of}
-use Rattle.fs_field.specs.Table.{has_no, no_before, with_row, child_number, borne_numbers}
+use Rattle.fs_field.specs.Table.{no_before, with_row, child_number, borne_numbers}
 use Rattle.fs_field.proofs.Below.{told}
-use Rattle.fs_rows.specs.Answer.{given_row}
 use Rattle.fs_rows.specs.Granted.{with_rows}
-use Rattle.fs_rows.specs.Table.{IsTable}
-use Rattle.fs_rows.proofs.Kept.{put_table}
 
 -- the number is among these
 abbrev bears : ℕ → List ℕ → Bool
@@ -125,6 +120,6 @@ never : (x y : Bool) → y ≡ false → (x && y) ≡ false
 never true y h = h
 never false y h = refl
 
--- the table stays one where an identifier is given that no row bears
-pub gift_table : (n : LeaseNo) (s : Session) (dir : List ℕ) (k u : ℕ) (rows : List Row) → IsTable rows → list_any (has_no n) rows ≡ false → list_any (λ b. b == k) (borne_numbers dir rows) ≡ false → IsTable (with_row (given_row n s (Life (child dir k)) Exclusive u) rows)
-gift_table n s dir k u rows t new free = put_table (given_row n s (Life (child dir k)) Exclusive u) rows new refl (λ x i. never (not (s.0 == x.session.0)) (meets (Life (child dir k)) Exclusive x.field x.kind) (lives_apart (child dir k) Exclusive x.field x.kind (not_on dir k rows free x i))) t
+-- no row stands against a lease on the life of a file whose number no row bears
+pub gift_goes : (s : Session) (dir : List ℕ) (k : ℕ) (l : LeaseKind) (rows : List Row) → list_any (λ b. b == k) (borne_numbers dir rows) ≡ false → (x : Row) → In x rows → stands_against s (Life (child dir k)) l x ≡ false
+gift_goes s dir k l rows free x i = never (not (s.0 == x.session.0)) (meets (Life (child dir k)) l x.field x.kind) (lives_apart (child dir k) l x.field x.kind (not_on dir k rows free x i))

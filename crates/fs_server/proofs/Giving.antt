@@ -1,6 +1,7 @@
 -- An identifier for a new file, and the lease on its life.
-use Rattle.std.proofs.Common.{◌≡◌, ℕ, ◌+◌, ◌^◌, leb, Bool, true, false, List, [], ◌∷◌, ◌++◌, length, ap, sym, subst, ◌∙◌, arith}
+use Rattle.std.proofs.Common.{◌≡◌, ◌==◌, ◌||◌, ℕ, ◌+◌, ◌^◌, leb, Bool, true, false, List, [], ◌∷◌, ◌++◌, length, refl, ap, sym, subst, ◌∙◌, arith}
 use Rattle.std.proofs.lemmas.Bool.Decides.{nat_tests}
+use Rattle.std.proofs.lemmas.List.Folds.{list_any-append}
 use Rattle.std.specs.Prelude.{Option, Some, None, option_map}
 use Rattle.fs_ident.specs.declared.actor.Session.{Session}
 use Rattle.fs_ident.specs.Ident.{child}
@@ -8,23 +9,24 @@ use Rattle.fs_field.specs.declared.field.Field.TheVariants.{Life}
 use Rattle.fs_field.specs.declared.lease_kind.LeaseKind.TheVariants.{Exclusive}
 use Rattle.fs_field.specs.declared.row.Row.{Row}
 use Rattle.fs_field.specs.Table.{borne_numbers, last_number}
+use Rattle.fs_moderows.specs.Answer.{given_row}
 use Rattle.fs_msg.specs.declared.answer.Grant.{Grant}
 use Rattle.fs_msg.specs.declared.end.End.TheVariants as end
 use Rattle.fs_record.specs.Fresh.{fresh_number, is_borne}
 use Rattle.fs_record.specs.Records.{RecordMap}
-use Rattle.fs_record.proofs.FreshNumbers.{same_number}
 use Rattle.fs_record.proofs.NumbersRise.{number_least}
 use Rattle.fs_rows.specs.Granted.{with_rows}
-use Rattle.fs_rows.specs.Table.{IsTable}
-use Rattle.fs_rows.proofs.Bearing.{bears-with_rows, gift_table}
+use Rattle.fs_rows.proofs.Bearing.{bears-with_rows, gift_goes}
 use Rattle.fs_rows.proofs.Numbers.{given_new}
 use Rattle.fs_server.specs.declared.lent.Lent.{Lent}
 use Rattle.fs_server.specs.declared.state.Server.{Server}
 use Rattle.fs_server.specs.Asks.{Asking, fresh_in, fresh_of, grant_of, with_lease}
 use Rattle.fs_server.specs.Lent.{IsLent, got_by, lent_by, with_leases}
 use Rattle.fs_server.specs.Plan.{after_gift}
+use Rattle.fs_server.specs.Rows.{AreRows}
 use Rattle.fs_server.specs.Server.{next_number, end_of}
 use Rattle.fs_server.proofs.Ends.{last_number-append}
+use Rattle.fs_server.proofs.Kept.{put_rows}
 
 -- the identifier ends with the number that was given
 pub no_end : (dir id : List ℕ) (o : Option ℕ) → Some id ≡ option_map (child dir) o → last_number id ≡ None → ⊥
@@ -44,30 +46,34 @@ given_number dir id (Some j) k e h =
     (ap Some same, is ∙ ap (child dir) same)
 
 -- the rows that stand and those just given bear the same numbers, in whatever order
-pub same_free : (m : RecordMap) (dir : List ℕ) (more rows : List Row) → fresh_number m dir (borne_numbers dir rows ++ borne_numbers dir more) ≡ fresh_number m dir (borne_numbers dir (with_rows more rows))
-same_free m dir more rows = same_number m dir (borne_numbers dir rows ++ borne_numbers dir more) (borne_numbers dir (with_rows more rows)) (λ k. sym (bears-with_rows dir k more rows))
+pub same_borne : (dir told : List ℕ) (more rows : List Row) (k : ℕ) → ((j : ℕ) → is_borne told j ≡ is_borne (borne_numbers dir rows) j) → is_borne (told ++ borne_numbers dir more) k ≡ is_borne (borne_numbers dir (with_rows more rows)) k
+same_borne dir told more rows k h =
+    list_any-append (λ b. b == k) told (borne_numbers dir more)
+    ∙ ap (λ b. b || is_borne (borne_numbers dir more) k) (h k)
+    ∙ sym (list_any-append (λ b. b == k) (borne_numbers dir rows) (borne_numbers dir more))
+    ∙ sym (bears-with_rows dir k more rows)
 
--- the table stays one where the identifier is given
+-- the rows stay in order where the identifier is given
 pub givable : (by : Session) (dir id : List ℕ) (o : Option ℕ) (k : ℕ) (rows : List Row) (s : Server) → IsLent by rows s → o ≡ fresh_number s.records dir (borne_numbers dir (with_rows rows s.rows)) → o ≡ Some k → id ≡ child dir k
-    → IsTable (with_lease by (Life id) Exclusive (with_leases rows s)).rows
+    → AreRows (with_lease by (Life id) Exclusive None (with_leases rows s)).rows
 givable by dir id o k rows s l of e is =
     let free : is_borne (borne_numbers dir (with_rows rows s.rows)) k ≡ false = (number_least s.records dir (borne_numbers dir (with_rows rows s.rows)) k (sym of ∙ e)).free in
-    subst (λ i. IsTable (with_lease by (Life i) Exclusive (with_leases rows s)).rows) (sym is)
-    (gift_table (next_number (with_leases rows s)) by dir k (end_of s) (with_rows rows s.rows) l.ready.table (given_new s.me (s.given + length rows) (with_rows rows s.rows) l.ready.server.numbers) free)
+    subst (λ i. AreRows (with_lease by (Life i) Exclusive None (with_leases rows s)).rows) (sym is)
+    (put_rows (given_row (next_number (with_leases rows s)) by (Life (child dir k)) Exclusive (end_of s) None) (with_rows rows s.rows) (given_new s.me (s.given + length rows) (with_rows rows s.rows) l.ready.server.numbers) refl (gift_goes by dir k Exclusive (with_rows rows s.rows) free) l.ready.table)
 
 -- the answer with a fresh identifier
 abbrev asking : Server → List Grant → List ℕ → List ℕ → ℕ → Server → Asking
 asking srv grants file dir k s = record { server = record srv { records = after_gift (Some (dir, k)) s.records }; grants = grants; fresh = Some file; end = end.All }
 
 pub given_fresh : (by : Session) (dir id file at : List ℕ) (k : ℕ) (o : Option ℕ) (lent new : Lent) (s : Server) → o ≡ Some k → id ≡ child dir k → file ≡ id → at ≡ dir
-    → with_leases new.rows s ≡ with_lease by (Life id) Exclusive (with_leases lent.rows s) → new.grants ≡ lent.grants ++ grant_of by (Life id) Exclusive (with_leases lent.rows s) ∷ []
+    → with_leases new.rows s ≡ with_lease by (Life id) Exclusive None (with_leases lent.rows s) → new.grants ≡ lent.grants ++ grant_of by (Life id) Exclusive (with_leases lent.rows s) ∷ []
     → got_by (record { lent = new; fresh = Some file; gift = Some (at, k); end = end.All }) s ≡ fresh_of by dir o (lent_by lent end.All s)
 given_fresh by dir id file at k o lent new s e is f a rows grants =
     ap (λ srv. asking srv new.grants file at k s) rows
-    ∙ ap (λ gs. asking (with_lease by (Life id) Exclusive (with_leases lent.rows s)) gs file at k s) grants
-    ∙ ap (λ i. asking (with_lease by (Life id) Exclusive (with_leases lent.rows s)) (lent.grants ++ grant_of by (Life id) Exclusive (with_leases lent.rows s) ∷ []) i at k s) f
-    ∙ ap (λ d. asking (with_lease by (Life id) Exclusive (with_leases lent.rows s)) (lent.grants ++ grant_of by (Life id) Exclusive (with_leases lent.rows s) ∷ []) id d k s) a
-    ∙ ap (λ i. asking (with_lease by (Life i) Exclusive (with_leases lent.rows s)) (lent.grants ++ grant_of by (Life i) Exclusive (with_leases lent.rows s) ∷ []) i dir k s) is
+    ∙ ap (λ gs. asking (with_lease by (Life id) Exclusive None (with_leases lent.rows s)) gs file at k s) grants
+    ∙ ap (λ i. asking (with_lease by (Life id) Exclusive None (with_leases lent.rows s)) (lent.grants ++ grant_of by (Life id) Exclusive (with_leases lent.rows s) ∷ []) i at k s) f
+    ∙ ap (λ d. asking (with_lease by (Life id) Exclusive None (with_leases lent.rows s)) (lent.grants ++ grant_of by (Life id) Exclusive (with_leases lent.rows s) ∷ []) id d k s) a
+    ∙ ap (λ i. asking (with_lease by (Life i) Exclusive None (with_leases lent.rows s)) (lent.grants ++ grant_of by (Life i) Exclusive (with_leases lent.rows s) ∷ []) i dir k s) is
     ∙ sym (ap (λ p. fresh_of by dir p (lent_by lent end.All s)) e)
 
 -- the number of the lease would be above the greatest

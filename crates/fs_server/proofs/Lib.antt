@@ -1,4 +1,6 @@
 mod Ends
+mod Own
+mod Kept
 mod Lending
 mod Asking
 mod Giving

@@ -5,40 +5,40 @@ use Rattle.fs_ident.specs.declared.actor.LeaseNo.{LeaseNo}
 use Rattle.fs_field.specs.declared.row.Row.{Row}
 use Rattle.fs_field.specs.Table.{has_no, renewed_row}
 use Rattle.fs_rows.specs.Given.{AreGiven}
-use Rattle.fs_rows.specs.Table.{IsTable}
-use Rattle.fs_rows.proofs.Kept.{filtered_table, renewed_table}
 use Rattle.fs_rows.proofs.Numbers.{given_filter, given_renewed}
 use Rattle.fs_server.specs.declared.change.Change.TheVariants.{Renew, Free}
 use Rattle.fs_server.specs.declared.state.Server.{Server}
 use Rattle.fs_server.specs.Lent.{IsReady}
 use Rattle.fs_server.specs.Pairs.{renewed_rows, released_rows}
 use Rattle.fs_server.specs.Plan.{changed}
+use Rattle.fs_server.specs.Rows.{AreRows}
+use Rattle.fs_server.proofs.Kept.{filtered_rows, renewed_in_order}
 
 -- the server with other rows, each with a number that it gave
-with_other_rows : (s : Server) (rows : List Row) → IsReady s → AreGiven s.me s.given rows → IsTable rows → IsReady (record s { rows = rows })
+with_other_rows : (s : Server) (rows : List Row) → IsReady s → AreGiven s.me s.given rows → AreRows rows → IsReady (record s { rows = rows })
 with_other_rows s rows r n t = record {
-  server = record { few = r.server.few; skew = r.server.skew; term = r.server.term; last = r.server.last; given = r.server.given; numbers = n };
+  server = record { few = r.server.few; skew = r.server.skew; term = r.server.term; last = r.server.last; given = r.server.given; reaps = r.server.reaps; numbers = n };
   table = t;
 }
 
-renewed_tables : (until : ℕ) (numbers : List LeaseNo) (rows : List Row) → IsTable rows → IsTable (renewed_rows until numbers rows)
-renewed_tables until [] rows t = t
-renewed_tables until (n ∷ ns) rows t = renewed_tables until ns (map (renewed_row n until) rows) (renewed_table n until rows t)
+all_renewed : (until : ℕ) (numbers : List LeaseNo) (rows : List Row) → AreRows rows → AreRows (renewed_rows until numbers rows)
+all_renewed until [] rows t = t
+all_renewed until (n ∷ ns) rows t = all_renewed until ns (map (renewed_row n until) rows) (renewed_in_order n until rows t)
 
 renewed_given : (me given until : ℕ) (numbers : List LeaseNo) (rows : List Row) → AreGiven me given rows → AreGiven me given (renewed_rows until numbers rows)
 renewed_given me given until [] rows h = h
 renewed_given me given until (n ∷ ns) rows h = renewed_given me given until ns (map (renewed_row n until) rows) (given_renewed me given n until rows h)
 
 pub renewed_ready : (until : ℕ) (numbers : List LeaseNo) (s : Server) → IsReady s → IsReady (changed (Renew until numbers) s)
-renewed_ready until numbers s r = with_other_rows s (renewed_rows until numbers s.rows) r (renewed_given s.me s.given until numbers s.rows r.server.numbers) (renewed_tables until numbers s.rows r.table)
+renewed_ready until numbers s r = with_other_rows s (renewed_rows until numbers s.rows) r (renewed_given s.me s.given until numbers s.rows r.server.numbers) (all_renewed until numbers s.rows r.table)
 
-released_tables : (numbers : List LeaseNo) (rows : List Row) → IsTable rows → IsTable (released_rows numbers rows)
-released_tables [] rows t = t
-released_tables (n ∷ ns) rows t = released_tables ns (filter (λ r. not (has_no n r)) rows) (filtered_table (λ r. not (has_no n r)) rows t)
+all_released : (numbers : List LeaseNo) (rows : List Row) → AreRows rows → AreRows (released_rows numbers rows)
+all_released [] rows t = t
+all_released (n ∷ ns) rows t = all_released ns (filter (λ r. not (has_no n r)) rows) (filtered_rows (λ r. not (has_no n r)) rows t)
 
 released_given : (me given : ℕ) (numbers : List LeaseNo) (rows : List Row) → AreGiven me given rows → AreGiven me given (released_rows numbers rows)
 released_given me given [] rows h = h
 released_given me given (n ∷ ns) rows h = released_given me given ns (filter (λ r. not (has_no n r)) rows) (given_filter me given (λ r. not (has_no n r)) rows h)
 
 pub released_ready : (numbers : List LeaseNo) (s : Server) → IsReady s → IsReady (changed (Free numbers) s)
-released_ready numbers s r = with_other_rows s (released_rows numbers s.rows) r (released_given s.me s.given numbers s.rows r.server.numbers) (released_tables numbers s.rows r.table)
+released_ready numbers s r = with_other_rows s (released_rows numbers s.rows) r (released_given s.me s.given numbers s.rows r.server.numbers) (all_released numbers s.rows r.table)

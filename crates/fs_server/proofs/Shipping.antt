@@ -60,7 +60,7 @@ pub admit_can : (d : Decided) (effects : List Effect) (s : Server) → list_all 
 admit_can d effects s h r e = record {
   change = subst (λ ch. CanChange ch s) (sym e) h;
   ready = subst (λ ch. IsReady (changed ch s)) (sym e) (record {
-    server = record { few = r.server.few; skew = r.server.skew; term = r.server.term; last = r.server.last; given = r.server.given; numbers = r.server.numbers };
+    server = record { few = r.server.few; skew = r.server.skew; term = r.server.term; last = r.server.last; given = r.server.given; reaps = r.server.reaps; numbers = r.server.numbers };
     table = r.table;
   });
 }

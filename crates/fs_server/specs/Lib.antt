@@ -1,4 +1,5 @@
 pub mod Server
+pub mod Rows
 pub mod Asks
 pub mod Pairs
 pub mod Reaps
@@ -6,7 +7,6 @@ pub mod Ships
 pub mod Step
 pub mod Plan
 -- cited by private calls alone
-pub mod Rows
 pub mod Lent
 pub mod Shipped
 pub mod Decided

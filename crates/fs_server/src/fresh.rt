@@ -1,12 +1,12 @@
 //! An identifier for a new file.
-ghost use Rattle.std.specs.Prelude.{◌≡◌, ◌+◌, ◌^◌, nat_le, true, ◌++◌, Some, None, IfOk, IsErrOf, option_map};
+ghost use Rattle.std.specs.Prelude.{◌≡◌, ◌+◌, ◌^◌, ℕ, nat_le, true, Some, None, IfOk, IsErrOf, option_map};
 ghost use Rattle.fs_ident.specs.Ident.{child};
 ghost use Rattle.fs_field.specs.Table.{borne_numbers, last_number};
 ghost use Rattle.fs_msg.specs.declared.core_error.Counter.{Counter as TheCounter};
 ghost use Rattle.fs_msg.specs.declared.core_error.Counter.TheVariants.{Leases};
 ghost use Rattle.fs_msg.specs.declared.core_error.CoreError.TheVariants as errors;
 ghost use Rattle.fs_msg.specs.declared.end.End.TheVariants.{All};
-ghost use Rattle.fs_record.specs.Fresh.{fresh_number};
+ghost use Rattle.fs_record.specs.Fresh.{fresh_number, is_borne};
 ghost use Rattle.fs_rows.specs.Granted.{with_rows};
 ghost use Rattle.fs_server.specs.Asks.{ask_fresh, fresh_for, fresh_of, recalls_at};
 ghost use Rattle.fs_server.specs.Lent.{IsLent, IsReady, got_by, lent_by, with_leases};
@@ -103,10 +103,11 @@ fn fresh_below(
     }
 }
 
-/// The last numbers of the files right below the directory that rows are on, or that the question was given leases on.
+/// The last numbers of the files right below the directory that rows are on, or that the question was given leases on,
+/// in some order.
 fn borne(alloc: Global, at: &Begun<'_>, dir: &FileId, lent: &Lent) -> Result<List<u32>, Memory>
-    ensures { IfOk result (λ told. told ≡
-        borne_numbers dir.now at.now.rows ++ borne_numbers dir.now lent.now.rows) }
+    ensures { IfOk result (λ told. (k : ℕ) → is_borne told k ≡
+        is_borne (borne_numbers dir.now (with_rows lent.now.rows at.now.rows)) k) }
 {
     let mut told = at.rows().borne(alloc, dir)?;
     let more = table::borne(alloc, lent.rows.as_slice(), dir)?;
