@@ -1,7 +1,8 @@
 -- What keeps a table of rows on modes one.
-use Rattle.std.proofs.Common.{◌≡◌, ◌||◌, ℕ, Bool, true, false, List, [], ◌∷◌, refl, ap, cond, sym, ◌∙◌, map, inl, inr}
-use Rattle.std.specs.Prelude.{Option, Some, None, is_some, Result, Ok, Err, IfOk, OnErr}
+use Rattle.std.proofs.Common.{◌≡◌, ◌||◌, ℕ, ◌+◌, nat_lt, Bool, true, false, List, [], ◌∷◌, refl, ap, cond, sym, ◌∙◌, map, inl, inr, arith}
+use Rattle.std.specs.Prelude.{Option, Some, None, is_some, option_map, Result, Ok, Err, IfOk, OnErr}
 use Rattle.std.specs.List.{filter, find, list_any}
+use Rattle.std.proofs.lemmas.Bool.Decides.{nat_tests}
 use Rattle.fs_ident.specs.In.{In}
 use Rattle.fs_ident.specs.declared.actor.LeaseNo.{LeaseNo}
 use Rattle.fs_ident.specs.declared.actor.TxnNo.{TxnNo}
@@ -17,7 +18,7 @@ use Rattle.fs_field.specs.declared.field.Field.TheVariants.{SelfW, Other}
 use Rattle.fs_field.specs.declared.lease_kind.LeaseKind.{LeaseKind}
 use Rattle.fs_field.specs.declared.lease_kind.LeaseKind.TheVariants.{Shared, Exclusive}
 use Rattle.fs_field.specs.declared.row.Row.{Row}
-use Rattle.fs_field.specs.Table.{has_no, no_before, with_row, renewed_row, locked_row, unlocked_row, lock_on, is_unlocked, is_lock_of}
+use Rattle.fs_field.specs.Table.{has_no, no_before, is_live, with_row, renewed_row, locked_row, unlocked_row, lock_on, is_unlocked, is_lock_of}
 use Rattle.fs_field.proofs.Order.{ordered_filter, ordered_map, ordered_put, found_least}
 use Rattle.fs_moderows.specs.Table.{is_of_mode, IsModeTable}
 use Rattle.fs_moderows.specs.Answer.{Opens, unless_locked, waits_or, answer_self, answer_other, stands_against_self, is_self_of_other, has_fixed_other, given_row, rows_after, IsLeast}
@@ -173,3 +174,19 @@ there_is_found number (r ∷ rs) = either (has_no number r) (find (has_no number
   either : (b : Bool) (o : Option Row) (c : Bool) → c ≡ is_some o → (b || c) ≡ is_some (cond b (Some r) o)
   either true o c h = refl
   either false o c h = h
+
+-- where the first that passes has a number, it is the least
+pub numbered_least : (test : Row → Bool) (rows : List Row) (blocker : LeaseNo) → IsModeTable rows → option_map (λ (row : Row). row.no) (find test rows) ≡ Some blocker → IsLeast test rows blocker
+numbered_least test rows blocker t h = by (find test rows) refl h where
+  by : (first : Option Row) → find test rows ≡ first → option_map (λ (row : Row). row.no) first ≡ Some blocker → IsLeast test rows blocker
+  by (Some row) e g = let same : row.no ≡ blocker = cc in first_is_least test rows row blocker t e same
+  by None e g = absurd (cc)
+
+lives_first : (lock : Option TxnNo) (until : ℕ) → (is_some lock || nat_lt 0 (until + 1)) ≡ true
+lives_first (Some txn) until = refl
+lives_first None until = grind (arith, nat_tests)
+
+-- at the first reading no row is over, where there is some skew
+pub all_live : (rows : List Row) → filter (is_live 0 1) rows ≡ rows
+all_live [] = refl
+all_live (r ∷ rs) = rw (lives_first r.lock r.until) (ap (λ xs. r ∷ xs) (all_live rs))

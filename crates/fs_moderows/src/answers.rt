@@ -6,6 +6,7 @@ ghost use Rattle.fs_field.specs.declared.asked.Asked.TheVariants.{Granted};
 ghost use Rattle.fs_moderows.specs.Answer.{has_fixed_other, is_self_of_other, stands_against_self, unless_locked, waits_or, given_row, rows_after};
 
 use crate::against::{first_against_self, first_self_of_other, has_fixed};
+use crate::live::Live;
 use fs_field::{Asked, Field, LeaseKind, Row, table};
 use fs_ident::{FileId, LeaseNo, Memory, Session};
 use fs_modes::{Mode, Modes};
@@ -13,7 +14,7 @@ use fs_modes::{Mode, Modes};
 /// The answer to a session that would change what it tells of the mode on the file, which is the field.
 pub fn answer_self(
     opens: &[(Session, Modes)],
-    rows: &[Row],
+    rows: &Live<'_>,
     session: Session,
     field: &Field,
     file: &FileId,
@@ -22,7 +23,7 @@ pub fn answer_self(
     ensures { result ≡ unless_locked (lock_on field.now rows.now)
         (waits_or (find (stands_against_self opens.now rows.now session file.now m) rows.now) None) }
 {
-    if let Some(txn) = table::lock_on(rows, field) {
+    if let Some(txn) = rows.lock_on(field) {
         return Asked::Locked { txn };
     }
     match first_against_self(opens, rows, session, file, m) {
@@ -34,7 +35,7 @@ pub fn answer_self(
 /// The answer to a session that would know whether others have the mode on the file, which is the field.
 pub fn answer_other(
     opens: &[(Session, Modes)],
-    rows: &[Row],
+    rows: &Live<'_>,
     session: Session,
     field: &Field,
     file: &FileId,
@@ -44,7 +45,7 @@ pub fn answer_other(
         (if has_fixed_other opens.now rows.now file.now m session then Granted (Some true)
         else waits_or (find (is_self_of_other file.now m session) rows.now) (Some false)) }
 {
-    if let Some(txn) = table::lock_on(rows, field) {
+    if let Some(txn) = rows.lock_on(field) {
         return Asked::Locked { txn };
     }
     if has_fixed(opens, rows, file, m, session, session) {

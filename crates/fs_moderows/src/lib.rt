@@ -4,6 +4,7 @@
 mod against;
 mod answers;
 mod law;
+mod live;
 mod mode_rows;
 #[cfg(test)]
 mod tests;
@@ -13,4 +14,5 @@ pub use law::{
     kept_promises_are_without_conflict, promises_are_what_others_have, promises_stay_kept,
     reaps_are_safe, rows_stay_without_conflict,
 };
+pub use live::Live;
 pub use mode_rows::ModeRows;

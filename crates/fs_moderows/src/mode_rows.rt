@@ -8,12 +8,14 @@ ghost use Rattle.fs_field.specs.declared.lease_kind.LeaseKind.TheVariants.{Share
 ghost use Rattle.fs_field.specs.Table.{has_no, renewed_row, is_live, is_lease, is_unlocked, locked_row, unlocked_row, rows_on, borne_numbers};
 ghost use Rattle.fs_moderows.specs.Answer.{answer_self, answer_other, stands_against_self, stands_against_reap, is_self_of_other, given_row, rows_after, reap_blocker, IsLeast};
 ghost use Rattle.fs_moderows.specs.Table.{IsModeTable};
+ghost use Rattle.fs_rows.specs.Granted.{with_rows};
 
-use crate::against::first_against_reap;
 use crate::answers;
+use crate::live::Live;
 use fs_field::{Asked, Field, LeaseKind, Row, Unknown, table};
 use fs_ident::{FileId, LeaseNo, List, Memory, Session, Twin, TxnNo};
 use fs_modes::{Mode, Modes};
+use fs_rows::put_all;
 use std::alloc::Global;
 use std::marker::Model;
 
@@ -133,10 +135,26 @@ impl ModeRows {
         ensures least { (blocker : Number) → result ≡ Some blocker →
             IsLeast (stands_against_reap selves.now self.now session file.now) self.now blocker }
     {
-        match first_against_reap(selves.as_slice(), self.rows.as_slice(), session, file) {
-            Some(row) => Some(row.no),
-            None => None,
-        }
+        Live::all(self.rows.as_slice()).may_reap(selves, session, file)
+    }
+
+    /// The rows that are not over at the reading `now`: a transaction keeps them, or their end and the skew are not
+    /// over. Nothing is dropped.
+    pub fn live(&self, now: u64, skew: u64) -> Live<'_>
+        ensures rows { result ≡ filter (is_live now skew) self.now }
+        ensures valid { IsModeTable result }
+    {
+        Live::at(self.rows.as_slice(), now, skew)
+    }
+
+    /// Puts in these rows, in order. `Memory` where memory is wanting; the table is as it was then.
+    pub fn put_all(&mut self, alloc: Global, rows: List<Row>) -> Result<(), Memory>
+        requires table { IsModeTable (with_rows rows self.old) }
+        ensures ok { OnOk result (self.new ≡ with_rows rows self.old) }
+        ensures err { OnErr result (self.new ≡ self.old) }
+        ensures valid { IsModeTable self.new }
+    {
+        put_all(self.rows.items_mut(), rows)
     }
 
     /// Lets the row of this number end no sooner than `until`; its end is never lowered. `Unknown` where there is
@@ -248,7 +266,7 @@ fn ask_self(
     ensures err { OnErr result (rows.new.items ≡ rows.old.items) }
 {
     let field = Field::SelfW(file.copy(alloc)?, m);
-    let asked = answers::answer_self(selves, rows, session, &field, file, m);
+    let asked = answers::answer_self(selves, &Live::all(rows), session, &field, file, m);
     answers::give(rows, asked, no, session, field, LeaseKind::Exclusive, until)?;
     Ok(asked)
 }
@@ -270,7 +288,7 @@ fn ask_other(
     ensures err { OnErr result (rows.new.items ≡ rows.old.items) }
 {
     let field = Field::Other(file.copy(alloc)?, m);
-    let asked = answers::answer_other(selves, rows, session, &field, file, m);
+    let asked = answers::answer_other(selves, &Live::all(rows), session, &field, file, m);
     answers::give(rows, asked, no, session, field, LeaseKind::Shared, until)?;
     Ok(asked)
 }

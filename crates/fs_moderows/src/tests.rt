@@ -124,6 +124,38 @@ fn one_who_stays_keeps_a_promise(rt: HostRuntime) -> Result<(), Fail> {
     Ok(())
 }
 
+/// What is read at a reading at which a row is over: nothing stands against a lease then, and no row is dropped.
+#[test]
+fn rows_are_read_at_a_reading(rt: HostRuntime) -> Result<(), Fail> {
+    let alloc = rt.alloc();
+    let mut rows = ModeRows::new(alloc);
+    let both = opens(alloc, &[1, 2], WRITES)?;
+    let one = opens(alloc, &[1], WRITES)?;
+    let file = FileId::root(alloc);
+    ask(alloc, &mut rows, &both, 1, 3, Question::Other, Mode::AccW)?;
+    let own = Field::SelfW(file.copy(alloc)?, Mode::AccW);
+    let others = Field::Other(file.copy(alloc)?, Mode::AccW);
+    let live = rows.live(109, 10);
+    let asked = live.answer_self(&one, Session(1), &own, &file, Mode::AccW);
+    assert_eq!(rt; asked, waits(1));
+    let asked = live.answer_other(&one, Session(2), &others, &file, Mode::AccW);
+    assert_eq!(rt; asked, TRUE);
+    assert_eq!(rt; live.may_reap(&one, Session(1), &file), Some(number(1)));
+    assert!(rt; live.has(number(1)));
+    assert!(rt; live.holds(number(1), Session(3), &others, LeaseKind::Shared));
+    assert!(rt; live.row(number(1)).is_some());
+    let on = live.unlocked_on(alloc, &others)?;
+    assert_eq!(rt; on.as_slice(), [(number(1), Session(3))].as_slice());
+    let borne = live.borne(alloc, &file)?;
+    assert!(rt; borne.is_empty());
+    let over = rows.live(110, 10);
+    let asked = over.answer_self(&one, Session(1), &own, &file, Mode::AccW);
+    assert_eq!(rt; asked, GIVEN);
+    assert_eq!(rt; over.may_reap(&one, Session(1), &file), None);
+    assert!(rt; !over.has(number(1)));
+    Ok(())
+}
+
 /// No one has the mode: another waits to turn it on, and on another mode none waits.
 #[test]
 fn that_none_has_a_mode_is_kept(rt: HostRuntime) -> Result<(), Fail> {

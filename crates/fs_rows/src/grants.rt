@@ -17,7 +17,17 @@ pub fn grant_all(rows: &mut Vec<Row>, now: u64, skew: u64, more: List<Row>) -> R
 {
     rows.reserve(more.len())?;
     keep_live(rows, now, skew);
-    put_all(rows, more);
+    put_each(rows, more);
+    Ok(())
+}
+
+/// Puts in each, in order. Room is made first, and nothing can fail then.
+pub fn put_all(rows: &mut Vec<Row>, others: List<Row>) -> Result<(), Memory>
+    ensures ok { OnOk result (rows.new.items ≡ with_rows others rows.old.items) }
+    ensures err { OnErr result (rows.new.items ≡ rows.old.items) }
+{
+    rows.reserve(others.len())?;
+    put_each(rows, others);
     Ok(())
 }
 
@@ -30,7 +40,7 @@ fn keep_live(rows: &mut Vec<Row>, now: u64, skew: u64)
 }
 
 /// Puts in each, where there is room for all.
-fn put_all(rows: &mut Vec<Row>, more: List<Row>)
+fn put_each(rows: &mut Vec<Row>, more: List<Row>)
     requires { vec_len rows.old + length more ≤ vec_capacity rows.old }
     ensures { rows.new.items ≡ with_rows more rows.old.items }
 {

@@ -10,6 +10,8 @@ mod rows;
 #[cfg(test)]
 mod tests;
 
+pub use grants::put_all;
 pub use law::{numbers_tell_rows_apart, tables_are_without_conflict};
 pub use live::Live;
+pub use reads::is_live;
 pub use rows::Rows;

@@ -4,13 +4,13 @@ ghost use Rattle.std.specs.List.{filter, find, list_any};
 ghost use Rattle.std.specs.Option.{option_copied};
 ghost use Rattle.fs_field.specs.Field.{same_field};
 ghost use Rattle.fs_field.specs.declared.row.Row.{Row as TheRow};
-ghost use Rattle.fs_field.specs.Table.{has_no, is_lease, is_live, borne_numbers};
+ghost use Rattle.fs_field.specs.Table.{has_no, is_lease, is_live, lock_on, borne_numbers};
 ghost use Rattle.fs_rows.specs.Answer.{answer};
 ghost use Rattle.fs_rows.specs.Live.{unlocked_on};
 
 use crate::reads;
 use fs_field::{Asked, Field, LeaseKind, Row};
-use fs_ident::{FileId, LeaseNo, List, Memory, Session};
+use fs_ident::{FileId, LeaseNo, List, Memory, Session, TxnNo};
 use std::alloc::Global;
 use std::marker::Model;
 
@@ -53,6 +53,13 @@ impl<'a> Live<'a> {
         reads::answer(self.rows, self.reading, self.skew, session, field, kind)
     }
 
+    /// The transaction that keeps the first row on the field that one keeps.
+    pub fn lock_on(&self, field: &Field) -> Option<TxnNo>
+        ensures { result ≡ lock_on field.now self.now }
+    {
+        reads::lock_on(self.rows, self.reading, self.skew, field)
+    }
+
     /// Whether there is the row of this number.
     pub fn has(&self, no: LeaseNo) -> bool
         ensures { result ≡ list_any (has_no no) self.now }
@@ -76,7 +83,7 @@ impl<'a> Live<'a> {
     }
 
     /// The row of this number.
-    pub fn row(&self, no: LeaseNo) -> Option<&Row>
+    pub fn row(&self, no: LeaseNo) -> Option<&'a Row>
         ensures { option_copied result ≡ find (has_no no) self.now }
     {
         reads::row(self.rows, self.reading, self.skew, no)

@@ -36,7 +36,7 @@ pub fn answer(
 
 /// The transaction that keeps the first row on the field that one keeps.
 #[tactic(auto, using(crate::proofs::LiveSteps::lock_step))]
-fn lock_on(rows: &[Row], now: u64, skew: u64, field: &Field) -> Option<TxnNo>
+pub fn lock_on(rows: &[Row], now: u64, skew: u64, field: &Field) -> Option<TxnNo>
     ensures { result ≡ lock_on field.now (filter (is_live now skew) rows.now) }
 {
     for row in rows {

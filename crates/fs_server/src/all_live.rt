@@ -14,7 +14,7 @@ ghost use Rattle.fs_server.specs.Rows.{AreRows, both};
 
 use fs_field::{Asked, Field, LeaseKind, Row};
 use fs_ident::{FileId, LeaseNo, List, Memory, Session};
-use fs_moderows::ModeRows;
+use fs_moderows::{Live as LiveOn, ModeRows};
 use fs_modes::{Mode, Modes};
 use fs_rows::{Live as LiveOff, Rows};
 use std::alloc::Global;
@@ -24,7 +24,7 @@ use std::marker::Model;
 #[derive(Drop)]
 pub(crate) struct AllLive<'a> {
     off: LiveOff<'a>,
-    on: LiveOff<'a>,
+    on: LiveOn<'a>,
 }
 
 impl<'a> Model for AllLive<'a> {
@@ -47,7 +47,10 @@ impl<'a> AllLive<'a> {
         requires { AreRows (both off.now on.now) }
         ensures { result ≡ filter (is_live now skew) (both off.now on.now) }
     {
-        unreachable!()
+        AllLive {
+            off: off.live(now, skew),
+            on: on.live(now, skew),
+        }
     }
 
     /// What a question for such a lease would be answered, on a field that is no part of what sessions tell of modes.
@@ -55,7 +58,7 @@ impl<'a> AllLive<'a> {
         requires { tells_no_mode field.now ≡ true }
         ensures { result ≡ answer self.now session field.now kind }
     {
-        unreachable!()
+        self.off.answer(session, field, kind)
     }
 
     /// What a question of the session would be answered that would change what it tells of the mode on the file; the
@@ -72,7 +75,7 @@ impl<'a> AllLive<'a> {
         requires { field.now ≡ SelfW file.now m }
         ensures { result ≡ answer_self selves.now self.now session file.now m }
     {
-        unreachable!()
+        self.on.answer_self(selves, session, field, file, m)
     }
 
     /// What a question of the session would be answered that would know whether others have the mode on the file; the
@@ -88,7 +91,7 @@ impl<'a> AllLive<'a> {
         requires { field.now ≡ Other file.now m }
         ensures { result ≡ answer_other selves.now self.now session file.now m }
     {
-        unreachable!()
+        self.on.answer_other(selves, session, field, file, m)
     }
 
     /// The least row that keeps the session from losing its handles on the file. `selves` is as for `answer_self`.
@@ -100,7 +103,7 @@ impl<'a> AllLive<'a> {
     ) -> Option<LeaseNo>
         ensures { result ≡ reap_blocker selves.now self.now session file.now }
     {
-        unreachable!()
+        self.on.may_reap(selves, session, file)
     }
 
     /// Whether there is a row of the session on the field, which is no part of what sessions tell of modes.
@@ -109,14 +112,14 @@ impl<'a> AllLive<'a> {
         ensures { result ≡ list_any (λ (r : TheRow).
             same_field r.field field.now && (r.session.0 == session.0)) self.now }
     {
-        unreachable!()
+        self.off.has_on(field, session)
     }
 
     /// Whether there is the row of this number.
     pub(crate) fn has(&self, no: LeaseNo) -> bool
         ensures { result ≡ list_any (has_no no) self.now }
     {
-        unreachable!()
+        self.off.has(no) || self.on.has(no)
     }
 
     /// Whether there is the row of this lease of the session.
@@ -129,7 +132,7 @@ impl<'a> AllLive<'a> {
     ) -> bool
         ensures { result ≡ list_any (is_lease no session field.now kind) self.now }
     {
-        unreachable!()
+        self.off.holds(no, session, field, kind) || self.on.holds(no, session, field, kind)
     }
 
     /// The row of this number.

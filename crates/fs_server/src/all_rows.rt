@@ -50,14 +50,15 @@ impl AllRows {
         ensures rows { result ≡ filter (is_live now skew) self.now }
         ensures valid { AreRows result }
     {
-        unreachable!()
+        AllLive::at(&self.off, &self.on, now, skew)
     }
 
     /// Drops the rows whose end and the skew are over at the reading `now`, but for those that a transaction keeps.
     pub(crate) fn lapse(&mut self, now: u64, skew: u64)
         ensures { self.new ≡ filter (is_live now skew) self.old }
     {
-        unreachable!()
+        self.off.lapse(now, skew);
+        self.on.lapse(now, skew);
     }
 
     /// Drops the rows that are over at the reading `now`, as `lapse` does, and puts in these, in order. `Memory`
@@ -87,7 +88,8 @@ impl AllRows {
     pub(crate) fn release(&mut self, no: LeaseNo)
         ensures { self.new ≡ filter (λ r. not (has_no no r)) self.old }
     {
-        unreachable!()
+        self.off.release(no);
+        self.on.release(no);
     }
 }
 

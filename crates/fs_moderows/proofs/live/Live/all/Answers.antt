@@ -1,0 +1,6 @@
+use Rattle.std.proofs.Common.{◌∙◌}
+use Rattle.fs_moderows.proofs.Tables.{all_live}
+use Rattle.fs_moderows.proofs.live.Live.all.Goals as goal
+
+pub returns : goal.returns
+returns c = c.at.ensures ∙ all_live _

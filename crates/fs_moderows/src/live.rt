@@ -1,0 +1,157 @@
+//! The rows that are not over at a reading, while the table is only read.
+ghost use Rattle.std.specs.Prelude.{◌≡◌, IfOk};
+ghost use Rattle.std.specs.List.{filter, find, list_any};
+ghost use Rattle.std.specs.Option.{option_copied};
+ghost use Rattle.fs_field.specs.Table.{has_no, is_lease, is_live, lock_on, borne_numbers};
+ghost use Rattle.fs_field.specs.declared.field.Field.TheVariants.{SelfW, Other};
+ghost use Rattle.fs_moderows.specs.Answer.{answer_self, answer_other, reap_blocker};
+ghost use Rattle.fs_rows.specs.Live.{unlocked_on};
+
+use crate::against::first_against_reap;
+use crate::answers;
+use fs_field::{Asked, Field, LeaseKind, Row};
+use fs_ident::{FileId, LeaseNo, List, Memory, Session, TxnNo};
+use fs_modes::{Mode, Modes};
+use fs_rows::Live as Kept;
+use std::alloc::Global;
+use std::marker::Model;
+
+/// The rows of a table that are not over at a reading: a transaction keeps them, or their end and the skew are not
+/// over. Nothing is copied.
+#[derive(Drop)]
+pub struct Live<'a> {
+    pub(crate) rows: &'a [Row],
+    pub(crate) reading: u64,
+    pub(crate) skew: u64,
+}
+
+impl<'a> Model for Live<'a> {
+    ghost use Rattle.std.specs.Prelude.{List};
+    ghost use Rattle.std.specs.List.{filter};
+    ghost use Rattle.fs_field.specs.declared.row.Row.{Row};
+    ghost use Rattle.fs_field.specs.Table.{is_live};
+
+    ghost Value = { List Row };
+
+    ghost view = { λ l. filter (is_live l.reading l.skew) l.rows.now };
+}
+
+impl<'a> Live<'a> {
+    /// Those of these rows that are not over at the reading `now`.
+    pub(crate) fn at(rows: &'a [Row], now: u64, skew: u64) -> Live<'a>
+        ensures { result ≡ filter (is_live now skew) rows.now }
+    {
+        Live {
+            rows,
+            reading: now,
+            skew,
+        }
+    }
+
+    /// All of these rows: at the first reading and with some skew none is over.
+    pub(crate) fn all(rows: &'a [Row]) -> Live<'a>
+        ensures { result ≡ rows.now }
+    {
+        Live::at(rows, 0, 1)
+    }
+
+    fn kept(&self) -> Kept<'a>
+        ensures { result ≡ self.now }
+    {
+        Kept::at(self.rows, self.reading, self.skew)
+    }
+
+    /// What a question of the session would be answered that would change what it tells of the mode on the file; the
+    /// field is that. `selves` is as for `ModeRows::ask_self`.
+    pub fn answer_self(
+        &self,
+        selves: &List<(Session, Modes)>,
+        session: Session,
+        field: &Field,
+        file: &FileId,
+        m: Mode,
+    ) -> Asked
+        requires { field.now ≡ SelfW file.now m }
+        ensures { result ≡ answer_self selves.now self.now session file.now m }
+    {
+        answers::answer_self(selves.as_slice(), self, session, field, file, m)
+    }
+
+    /// What a question of the session would be answered that would know whether others have the mode on the file; the
+    /// field is that. `selves` is as for `ModeRows::ask_other`.
+    pub fn answer_other(
+        &self,
+        selves: &List<(Session, Modes)>,
+        session: Session,
+        field: &Field,
+        file: &FileId,
+        m: Mode,
+    ) -> Asked
+        requires { field.now ≡ Other file.now m }
+        ensures { result ≡ answer_other selves.now self.now session file.now m }
+    {
+        answers::answer_other(selves.as_slice(), self, session, field, file, m)
+    }
+
+    /// The least row that keeps the session from losing its handles on the file. `selves` is as for
+    /// `ModeRows::may_reap`.
+    pub fn may_reap(
+        &self,
+        selves: &List<(Session, Modes)>,
+        session: Session,
+        file: &FileId,
+    ) -> Option<LeaseNo>
+        ensures { result ≡ reap_blocker selves.now self.now session file.now }
+    {
+        match first_against_reap(selves.as_slice(), self, session, file) {
+            Some(row) => Some(row.no),
+            None => None,
+        }
+    }
+
+    /// The transaction that keeps the first row on the field that one keeps.
+    pub(crate) fn lock_on(&self, field: &Field) -> Option<TxnNo>
+        ensures { result ≡ lock_on field.now self.now }
+    {
+        self.kept().lock_on(field)
+    }
+
+    /// Whether there is the row of this number.
+    pub fn has(&self, no: LeaseNo) -> bool
+        ensures { result ≡ list_any (has_no no) self.now }
+    {
+        self.kept().has(no)
+    }
+
+    /// Whether there is the row of this lease of the session.
+    pub fn holds(&self, no: LeaseNo, session: Session, field: &Field, kind: LeaseKind) -> bool
+        ensures { result ≡ list_any (is_lease no session field.now kind) self.now }
+    {
+        self.kept().holds(no, session, field, kind)
+    }
+
+    /// The row of this number.
+    pub fn row(&self, no: LeaseNo) -> Option<&Row>
+        ensures { option_copied result ≡ find (has_no no) self.now }
+    {
+        self.kept().row(no)
+    }
+
+    /// The last numbers of the files right below the directory that rows are on, one for each row.
+    pub fn borne(&self, alloc: Global, dir: &FileId) -> Result<List<u32>, Memory>
+        ensures { IfOk result (λ told. told ≡ borne_numbers dir.now self.now) }
+    {
+        self.kept().borne(alloc, dir)
+    }
+
+    /// The numbers and sessions of the rows on the field that no transaction keeps, in order of number.
+    pub fn unlocked_on(
+        &self,
+        alloc: Global,
+        field: &Field,
+    ) -> Result<List<(LeaseNo, Session)>, Memory>
+        ensures { IfOk result (λ told. told ≡ unlocked_on field.now self.now) }
+    {
+        self.kept().unlocked_on(alloc, field)
+    }
+}
