@@ -13,10 +13,10 @@ use schedules::{
 use served::{
     FIRST_CREATE, FIRST_CREATE_NOT_SENT, FIRST_CREATE_NOT_SENT_REPORT, FIRST_CREATE_REPORT,
     FIRST_CREATE_TOLD_TWICE, FIRST_CREATE_TOLD_TWICE_REPORT, LEASE_USED_TO_ITS_END,
-    LEASE_USED_TO_ITS_END_REPORT, RECALL_MEETS_PENDING, RECALL_MEETS_PENDING_REPORT,
-    SHIPPED_AT_100, SHIPPED_AT_100_REPORT, SHIPPED_AT_109, SHIPPED_AT_109_REPORT, SHIPPED_AT_110,
-    SHIPPED_AT_110_REPORT, UNBORN_FILE_IS_LEASED, UNBORN_FILE_IS_LEASED_REPORT, WITHIN_SKEW,
-    WITHIN_SKEW_REPORT,
+    LEASE_USED_TO_ITS_END_REPORT, RECALL_MEETS_PENDING, RECALL_MEETS_PENDING_REPORT, SHARING,
+    SHARING_REPORT, SHIPPED_AT_100, SHIPPED_AT_100_REPORT, SHIPPED_AT_109, SHIPPED_AT_109_REPORT,
+    SHIPPED_AT_110, SHIPPED_AT_110_REPORT, UNBORN_FILE_IS_LEASED, UNBORN_FILE_IS_LEASED_REPORT,
+    WITHIN_SKEW, WITHIN_SKEW_REPORT,
 };
 use std::alloc::Global;
 use std::env::{Env, FillError};
@@ -82,7 +82,7 @@ fn reports_to_the_byte(rt: HostRuntime) -> Result<(), Fail> {
     Ok(())
 }
 
-/// A server and its clients: leases, logs, recalls, repeats, and clocks that differ.
+/// A server and its clients: leases, logs, opens, recalls, repeats, and clocks that differ.
 #[test]
 fn reports_of_a_server_to_the_byte(rt: HostRuntime) -> Result<(), Fail> {
     let alloc = rt.alloc();
@@ -92,6 +92,7 @@ fn reports_of_a_server_to_the_byte(rt: HostRuntime) -> Result<(), Fail> {
         (FIRST_CREATE_TOLD_TWICE, FIRST_CREATE_TOLD_TWICE_REPORT),
         (LEASE_USED_TO_ITS_END, LEASE_USED_TO_ITS_END_REPORT),
         (RECALL_MEETS_PENDING, RECALL_MEETS_PENDING_REPORT),
+        (SHARING, SHARING_REPORT),
         (SHIPPED_AT_100, SHIPPED_AT_100_REPORT),
         (SHIPPED_AT_109, SHIPPED_AT_109_REPORT),
         (SHIPPED_AT_110, SHIPPED_AT_110_REPORT),

@@ -47,17 +47,9 @@ verb_first (op.Reap file session) text rest h e = absurd (cc)
 
 -- what another form has may be asked
 served_op : (o : Op) (servers skew term : ℕ) → has_op (Servers servers skew term) o ≡ true → may_ask o ≡ true
-served_op (op.Lookup dir name) servers skew term h = refl
-served_op (op.List dir) servers skew term h = refl
-served_op (op.Kind file) servers skew term h = refl
-served_op (op.Info file) servers skew term h = refl
-served_op (op.Create dir name kind id) servers skew term h = h
-served_op (op.OpenFile file n modes) servers skew term h = absurd (cc)
-served_op (op.Close file n) servers skew term h = refl
-served_op (op.Set file n size stamp) servers skew term h = refl
 served_op (op.Delete dir name) servers skew term h = refl
 served_op (op.Rename sdir sname ddir dname) servers skew term h = refl
-served_op (op.Reap file session) servers skew term h = h
+served_op o servers skew term h = h
 
 -- the direct form has every operation of the others
 pub any_op : (head : Head) (o : Op) → FitsOp head o → FitsOp Direct o

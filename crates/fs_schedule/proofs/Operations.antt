@@ -14,7 +14,9 @@ use Rattle.fs_ident.proofs.Readings.{one_id, id_read, whole_read, id_reading}
 use Rattle.fs_field.specs.declared.field.Field.{Field}
 use Rattle.fs_field.specs.declared.field.Field.TheVariants as field
 use Rattle.fs_modes.specs.declared.modes.Modes.{Modes}
-use Rattle.fs_modes.specs.Letters.{letters, dashed, acc_text, deny_text}
+use Rattle.fs_modes.specs.declared.modes.Mode.{Mode}
+use Rattle.fs_modes.specs.declared.modes.Mode.TheVariants.{AccR, AccW, AccD, DenyR, DenyW, DenyD}
+use Rattle.fs_modes.specs.Letters.{letters, dashed, acc_text, deny_text, mode_text}
 use Rattle.fs_model.specs.declared.op.Op.{Op}
 use Rattle.fs_model.specs.declared.op.Op.TheVariants as op
 use Rattle.fs_schedule.specs.declared.event.Head.TheVariants.{Direct}
@@ -33,6 +35,18 @@ kind_one File File e = refl
 kind_one File Dir e = absurd (cc)
 kind_one Dir File e = absurd (cc)
 kind_one Dir Dir e = refl
+
+texts_differ : (xs ys : List ℕ) → xs ≡ ys → bytes_eq xs ys ≡ false → ⊥
+texts_differ xs ys e f = let t : bytes_eq xs ys ≡ true = (bytes_eq-Decides xs ys).1 e in cc
+
+mode_one : (a b : Mode) → mode_text a ≡ mode_text b → a ≡ b
+mode_one AccR AccR e = refl
+mode_one AccW AccW e = refl
+mode_one AccD AccD e = refl
+mode_one DenyR DenyR e = refl
+mode_one DenyW DenyW e = refl
+mode_one DenyD DenyD e = refl
+mode_one a b e = absurd (texts_differ (mode_text a) (mode_text b) e refl)
 
 -- the letter is among them
 abbrev has_letter : ℕ → List ℕ → Bool
@@ -80,10 +94,7 @@ modes_one m n e k =
 -- ## Operations
 
 pub distinct : (xs ys : List ℕ) (ws vs : List Word) → Bare xs ∷ ws ≡ Bare ys ∷ vs → bytes_eq xs ys ≡ false → ⊥
-distinct xs ys ws vs e f =
-    let same : xs ≡ ys = cc in
-    let t : bytes_eq xs ys ≡ true = (bytes_eq-Decides xs ys).1 same in
-    cc
+distinct xs ys ws vs e f = let same : xs ≡ ys = cc in texts_differ xs ys same f
 
 pub no_reap : false ≡ true → ⊥
 no_reap e = cc
@@ -222,16 +233,26 @@ fields_one (field.Names a) (field.Names b) h k e =
 fields_one (field.Info a) (field.Info b) h k e =
     let t1 : id_text a ≡ id_text b = cc in
     ap (λ (x : List ℕ). field.Info x) (id_one a b h k t1)
+fields_one (field.SelfW a m) (field.SelfW b n) h k e =
+    let t1 : id_text a ≡ id_text b = cc in
+    let q1 : a ≡ b = id_one a b h k t1 in
+    let t2 : mode_text m ≡ mode_text n = cc in
+    let q2 : m ≡ n = mode_one m n t2 in
+    cc
+fields_one (field.Other a m) (field.Other b n) h k e =
+    let t1 : id_text a ≡ id_text b = cc in
+    let q1 : a ≡ b = id_one a b h k t1 in
+    let t2 : mode_text m ≡ mode_text n = cc in
+    let q2 : m ≡ n = mode_one m n t2 in
+    cc
 fields_one (field.Own a) g h k e = absurd h
-fields_one (field.SelfW a m) g h k e = absurd h
-fields_one (field.Other a m) g h k e = absurd h
 fields_one f (field.Own b) h k e = absurd k
-fields_one f (field.SelfW b m) h k e = absurd k
-fields_one f (field.Other b m) h k e = absurd k
 fields_one (field.Life a) g h k e = absurd (distinct (codes "life") _ _ _ e refl)
 fields_one (field.Child a m) g h k e = absurd (distinct (codes "child") _ _ _ e refl)
 fields_one (field.Names a) g h k e = absurd (distinct (codes "names") _ _ _ e refl)
 fields_one (field.Info a) g h k e = absurd (distinct (codes "info") _ _ _ e refl)
+fields_one (field.SelfW a m) g h k e = absurd (distinct (codes "self") _ _ _ e refl)
+fields_one (field.Other a m) g h k e = absurd (distinct (codes "other") _ _ _ e refl)
 
 pub server_one : (j k : ℕ) → j < 2 ^ 8 → k < 2 ^ 8 → server_word j ≡ server_word k → j ≡ k
 server_one j k h f e = let t1 : decimal j ≡ decimal k = cc in decimal_injective j k (omega (arith, h)) (omega (arith, f)) t1

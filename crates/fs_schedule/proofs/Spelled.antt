@@ -16,7 +16,9 @@ use Rattle.fs_ident.specs.IdText.{id_text, step_text}
 use Rattle.fs_ident.specs.Name.{IsName, is_name_byte}
 use Rattle.fs_ident.specs.declared.kind.Kind.{Kind}
 use Rattle.fs_ident.specs.declared.kind.Kind.TheVariants.{File, Dir}
-use Rattle.fs_modes.specs.Letters.{letters, dashed}
+use Rattle.fs_modes.specs.declared.modes.Mode.{Mode}
+use Rattle.fs_modes.specs.declared.modes.Mode.TheVariants.{AccR, AccW, AccD, DenyR, DenyW, DenyD}
+use Rattle.fs_modes.specs.Letters.{letters, dashed, mode_text}
 use Rattle.fs_model.specs.declared.op.Op.{Op}
 use Rattle.fs_model.specs.declared.op.Op.TheVariants as op
 use Rattle.fs_ident.specs.declared.actor.Peer.TheVariants.{Server, Client}
@@ -125,6 +127,14 @@ fits_kind : (k : Kind) → FitsWord (Bare (kind_text k))
 fits_kind File = fits_by (codes "file") refl
 fits_kind Dir = fits_by (codes "dir") refl
 
+fits_mode : (m : Mode) → FitsWord (Bare (mode_text m))
+fits_mode AccR = fits_by (codes "aR") refl
+fits_mode AccW = fits_by (codes "aW") refl
+fits_mode AccD = fits_by (codes "aD") refl
+fits_mode DenyR = fits_by (codes "dR") refl
+fits_mode DenyW = fits_by (codes "dW") refl
+fits_mode DenyD = fits_by (codes "dD") refl
+
 fits_letters : (r w d : Bool) → FitsWord (Bare (letters r w d))
 fits_letters true true true = fits_by (letters true true true) refl
 fits_letters true true false = fits_by (letters true true false) refl
@@ -204,8 +214,8 @@ fits_field (field.Child dir name) h = (fits_by (codes "child") refl, (fits_id di
 fits_field (field.Names dir) h = (fits_by (codes "names") refl, (fits_id dir h, tt))
 fits_field (field.Info file) h = (fits_by (codes "info") refl, (fits_id file h, tt))
 fits_field (field.Own file) h = absurd h
-fits_field (field.SelfW file mode) h = absurd h
-fits_field (field.Other file mode) h = absurd h
+fits_field (field.SelfW file mode) h = (fits_by (codes "self") refl, (fits_id file h, (fits_mode mode, tt)))
+fits_field (field.Other file mode) h = (fits_by (codes "other") refl, (fits_id file h, (fits_mode mode, tt)))
 
 fits_words : (head : Head) (w : What) (digits : List ℕ) → IfSome (session_in w) (λ s. IsNumberOf digits s.0) → FitsWhat head w → AllByRecursion FitsWord (what_words digits w)
 fits_words head (Join s) digits h k = (fits_by (codes "join") refl, (fits_client digits s.0 h, tt))

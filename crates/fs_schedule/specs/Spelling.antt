@@ -12,7 +12,7 @@ use Rattle.fs_ident.specs.declared.actor.Peer.TheVariants.{Server, Client}
 use Rattle.fs_ident.specs.declared.kind.Kind.{Kind}
 use Rattle.fs_ident.specs.declared.kind.Kind.TheVariants.{File, Dir}
 use Rattle.fs_ident.specs.declared.limits.TheConstants.{SESSIONS, LATEST}
-use Rattle.fs_modes.specs.Letters.{acc_text, deny_text}
+use Rattle.fs_modes.specs.Letters.{acc_text, deny_text, mode_text}
 use Rattle.fs_model.specs.Asking.{may_ask}
 use Rattle.fs_model.specs.declared.op.Op.{Op}
 use Rattle.fs_model.specs.declared.op.Op.TheVariants as op
@@ -52,15 +52,12 @@ servers_in (Servers servers skew term) = servers
 abbrev pub IsServerIn : Head → ℕ → Type 0
 IsServerIn head k = (k < servers_in head) × (k < 2 ^ 8)
 
--- the operations that a form has: the direct one all that may be asked
+-- the operations that a form has: all that may be asked, but with servers no delete and no rename yet
 abbrev pub has_op : Head → Op → Bool
 has_op Direct o = may_ask o
-has_op (Servers servers skew term) (op.Lookup dir name) = true
-has_op (Servers servers skew term) (op.List dir) = true
-has_op (Servers servers skew term) (op.Kind file) = true
-has_op (Servers servers skew term) (op.Info file) = true
-has_op (Servers servers skew term) (op.Create dir name kind id) = may_ask (op.Create dir name kind id)
-has_op (Servers servers skew term) o = false
+has_op (Servers servers skew term) (op.Delete dir name) = false
+has_op (Servers servers skew term) (op.Rename sdir sname ddir dname) = false
+has_op (Servers servers skew term) o = may_ask o
 
 -- ## Operations
 
@@ -107,18 +104,18 @@ field_words (field.Child dir name) = Bare (codes "child") ∷ Bare (id_text dir)
 field_words (field.Names dir) = Bare (codes "names") ∷ Bare (id_text dir) ∷ []
 field_words (field.Info file) = Bare (codes "info") ∷ Bare (id_text file) ∷ []
 field_words (field.Own file) = []
-field_words (field.SelfW file mode) = []
-field_words (field.Other file mode) = []
+field_words (field.SelfW file mode) = Bare (codes "self") ∷ Bare (id_text file) ∷ Bare (mode_text mode) ∷ []
+field_words (field.Other file mode) = Bare (codes "other") ∷ Bare (id_text file) ∷ Bare (mode_text mode) ∷ []
 
--- a field of the grammar, its parts in their ranges: those of handles and modes are not in it
+-- a field of the grammar, its parts in their ranges: that of a session's handles is not in it
 abbrev pub FitsField : Field → Type 0
 FitsField (field.Life file) = IsId file
 FitsField (field.Child dir name) = IsId dir × IsName name
 FitsField (field.Names dir) = IsId dir
 FitsField (field.Info file) = IsId file
 FitsField (field.Own file) = ⊥
-FitsField (field.SelfW file mode) = ⊥
-FitsField (field.Other file mode) = ⊥
+FitsField (field.SelfW file mode) = IsId file
+FitsField (field.Other file mode) = IsId file
 
 -- ## Events
 

@@ -4,7 +4,7 @@ ghost use Rattle.fs_schedule.specs.Words.{Bare};
 ghost use Rattle.fs_schedule.specs.Spelling.{field_words, FitsField};
 ghost use Rattle.fs_schedule.specs.Reading.{Reads, words_in};
 
-use crate::operand::{id_at, name_at};
+use crate::operand::{id_at, mode_at, name_at};
 use crate::unread::Unread;
 use crate::word::Word;
 use fs_field::Field;
@@ -29,6 +29,8 @@ fn field_by(alloc: Global, text: &[u8], operands: &[Word]) -> Result<Field, Unre
         b"child" => child_of(alloc, operands),
         b"names" => names_of(alloc, operands),
         b"info" => info_of(alloc, operands),
+        b"self" => self_of(alloc, operands),
+        b"other" => other_of(alloc, operands),
         _ => Err(Unread::Outside),
     }
 }
@@ -72,4 +74,26 @@ fn info_of(alloc: Global, operands: &[Word]) -> Result<Field, Unread>
     };
     let file = id_at(alloc, file)?;
     Ok(Field::Info(file))
+}
+
+fn self_of(alloc: Global, operands: &[Word]) -> Result<Field, Unread>
+    ensures { Reads field_words FitsField result (Bare (codes "self") ∷ words_in operands.now) }
+{
+    let [file, mode] = operands else {
+        return Err(Unread::Outside);
+    };
+    let file = id_at(alloc, file)?;
+    let mode = mode_at(mode)?;
+    Ok(Field::SelfW(file, mode))
+}
+
+fn other_of(alloc: Global, operands: &[Word]) -> Result<Field, Unread>
+    ensures { Reads field_words FitsField result (Bare (codes "other") ∷ words_in operands.now) }
+{
+    let [file, mode] = operands else {
+        return Err(Unread::Outside);
+    };
+    let file = id_at(alloc, file)?;
+    let mode = mode_at(mode)?;
+    Ok(Field::Other(file, mode))
 }

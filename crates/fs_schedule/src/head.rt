@@ -30,9 +30,8 @@ pub fn has_op(head: Head, op: &Op) -> bool
     match head {
         Head::Direct => op.may_be_asked(),
         Head::Servers { .. } => match op {
-            Op::Lookup { .. } | Op::List { .. } | Op::Kind { .. } | Op::Info { .. } => true,
-            Op::Create { .. } => op.may_be_asked(),
-            _ => false,
+            Op::Delete { .. } | Op::Rename { .. } => false,
+            _ => op.may_be_asked(),
         },
     }
 }

@@ -5,7 +5,7 @@ ghost use Rattle.fs_ident.specs.Ident.{IsId};
 ghost use Rattle.fs_ident.specs.IdText.{id_text};
 ghost use Rattle.fs_ident.specs.Name.{IsName};
 ghost use Rattle.fs_modes.specs.Modes.{has_access};
-ghost use Rattle.fs_modes.specs.Letters.{acc_text, deny_text};
+ghost use Rattle.fs_modes.specs.Letters.{acc_text, deny_text, mode_text};
 ghost use Rattle.fs_schedule.specs.Words.{Bare, Quoted};
 ghost use Rattle.fs_schedule.specs.Spelling.{kind_text, packet_word};
 ghost use Rattle.fs_schedule.specs.Reading.{Reads, word_of, words_in, Always};
@@ -14,7 +14,7 @@ use crate::number::number_of;
 use crate::unread::Unread;
 use crate::word::Word;
 use fs_ident::{FileId, IdError, Kind, Name};
-use fs_modes::Modes;
+use fs_modes::{Mode, Modes};
 use std::alloc::Global;
 
 /// Whether the word is these bare bytes.
@@ -112,6 +112,24 @@ pub fn kind_at(word: &Word) -> Result<Kind, Unread>
     match *text {
         b"file" => Ok(Kind::File),
         b"dir" => Ok(Kind::Dir),
+        _ => Err(Unread::Outside),
+    }
+}
+
+/// One of the six modes.
+pub fn mode_at(word: &Word) -> Result<Mode, Unread>
+    ensures { Reads (λ mode. Bare (mode_text mode)) Always result (word_of word.now) }
+{
+    let Word::Bare(text) = word else {
+        return Err(Unread::Outside);
+    };
+    match *text {
+        b"aR" => Ok(Mode::AccR),
+        b"aW" => Ok(Mode::AccW),
+        b"aD" => Ok(Mode::AccD),
+        b"dR" => Ok(Mode::DenyR),
+        b"dW" => Ok(Mode::DenyW),
+        b"dD" => Ok(Mode::DenyD),
         _ => Err(Unread::Outside),
     }
 }

@@ -35,6 +35,9 @@ const SERVED: &str = "farsite 1 servers 1 skew 10 term 100
 7 do c2 kind /1
 7 do c2 info /1
 7 do c2 create / \"a\" dir
+7 do c2 open /1 3 RW D
+7 do c2 close /1 3
+7 do c2 set /1 3 10 5
 7 tell 0
 7 tell 18446744073709551615
 7 tell next
@@ -44,11 +47,13 @@ const SERVED: &str = "farsite 1 servers 1 skew 10 term 100
 7 recall s0 child /1 \"a b\"
 7 recall s0 names /
 7 recall s0 info /1
+7 recall s0 self /1 aR
+7 recall s0 other /1/2 dD
 ";
 
 /// What it is read as.
 const SERVED_SHOWN: &str =
-    "Schedule { head: Servers { servers: 1, skew: 10, term: 100 }, events: List { items: [Event { reading: 0, what: Join(Session(1)) }, Event { reading: 7, what: Do(Session(2), Lookup { dir: FileId { numbers: [] }, name: Name { bytes: [97] } }) }, Event { reading: 7, what: Do(Session(2), List { dir: FileId { numbers: [] } }) }, Event { reading: 7, what: Do(Session(2), Kind { file: FileId { numbers: [1] } }) }, Event { reading: 7, what: Do(Session(2), Info { file: FileId { numbers: [1] } }) }, Event { reading: 7, what: Do(Session(2), Create { dir: FileId { numbers: [] }, name: Name { bytes: [97] }, kind: Dir, id: None }) }, Event { reading: 7, what: Tell(Some(0)) }, Event { reading: 7, what: Tell(Some(18446744073709551615)) }, Event { reading: 7, what: Tell(None) }, Event { reading: 7, what: Turn(Client(Session(1000))) }, Event { reading: 7, what: Turn(Server(0)) }, Event { reading: 7, what: Recall(0, Life(FileId { numbers: [] })) }, Event { reading: 7, what: Recall(0, Child(FileId { numbers: [1] }, Name { bytes: [97, 32, 98] })) }, Event { reading: 7, what: Recall(0, Names(FileId { numbers: [] })) }, Event { reading: 7, what: Recall(0, Info(FileId { numbers: [1] })) }] } }";
+    "Schedule { head: Servers { servers: 1, skew: 10, term: 100 }, events: List { items: [Event { reading: 0, what: Join(Session(1)) }, Event { reading: 7, what: Do(Session(2), Lookup { dir: FileId { numbers: [] }, name: Name { bytes: [97] } }) }, Event { reading: 7, what: Do(Session(2), List { dir: FileId { numbers: [] } }) }, Event { reading: 7, what: Do(Session(2), Kind { file: FileId { numbers: [1] } }) }, Event { reading: 7, what: Do(Session(2), Info { file: FileId { numbers: [1] } }) }, Event { reading: 7, what: Do(Session(2), Create { dir: FileId { numbers: [] }, name: Name { bytes: [97] }, kind: Dir, id: None }) }, Event { reading: 7, what: Do(Session(2), OpenFile { file: FileId { numbers: [1] }, h: 3, modes: Modes { acc_r: true, acc_w: true, acc_d: false, deny_r: false, deny_w: false, deny_d: true } }) }, Event { reading: 7, what: Do(Session(2), Close { file: FileId { numbers: [1] }, h: 3 }) }, Event { reading: 7, what: Do(Session(2), Set { file: FileId { numbers: [1] }, h: 3, size: 10, stamp: 5 }) }, Event { reading: 7, what: Tell(Some(0)) }, Event { reading: 7, what: Tell(Some(18446744073709551615)) }, Event { reading: 7, what: Tell(None) }, Event { reading: 7, what: Turn(Client(Session(1000))) }, Event { reading: 7, what: Turn(Server(0)) }, Event { reading: 7, what: Recall(0, Life(FileId { numbers: [] })) }, Event { reading: 7, what: Recall(0, Child(FileId { numbers: [1] }, Name { bytes: [97, 32, 98] })) }, Event { reading: 7, what: Recall(0, Names(FileId { numbers: [] })) }, Event { reading: 7, what: Recall(0, Info(FileId { numbers: [1] })) }, Event { reading: 7, what: Recall(0, SelfW(FileId { numbers: [1] }, AccR)) }, Event { reading: 7, what: Recall(0, Other(FileId { numbers: [1, 2] }, DenyD)) }] } }";
 
 #[test]
 fn every_event_is_read_and_copied(rt: HostRuntime) -> Result<(), Fail> {
@@ -107,7 +112,7 @@ const REFUSED: [(&str, &str); 36] = [
 ];
 
 /// The same behind the first line of the servers form, with a skew of 10.
-const SERVED_REFUSED: [(&str, &str); 29] = [
+const SERVED_REFUSED: [(&str, &str); 31] = [
     ("2", "0 tell"),
     ("2", "0 tell 00"),
     ("2", "0 tell last"),
@@ -124,12 +129,14 @@ const SERVED_REFUSED: [(&str, &str); 29] = [
     ("2", "0 recall c1 life /"),
     ("2", "0 recall s0 child /"),
     ("2", "0 recall s0 own /1"),
-    ("2", "0 recall s0 self /1 aR"),
-    ("2", "0 recall s0 other /1 aR"),
+    ("2", "0 recall s0 own /1 aR"),
+    ("2", "0 recall s0 self /1"),
+    ("2", "0 recall s0 self /1 aX"),
+    ("2", "0 recall s0 other /1 R"),
+    ("2", "0 recall s0 other /1 aR aW"),
     ("2", "0 move s0 /1 s0"),
-    ("2", "0 do c1 open /1 1 R -"),
-    ("2", "0 do c1 close /1 1"),
-    ("2", "0 do c1 set /1 1 0 0"),
+    ("2", "0 do c1 open /1 1 - R"),
+    ("2", "0 do c1 reap /1 c2"),
     ("2", "0 do c1 delete / \"a\""),
     ("2", "0 do c1 rename / \"a\" / \"b\""),
     ("read", "100 join c1\n90 join c2"),

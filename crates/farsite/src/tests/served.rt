@@ -158,6 +158,129 @@ n /1 dir 0 0 in / \"a\"
 done events 20 journal 2 nodes 2
 ";
 
+pub(super) const SHARING: &[u8] = b"farsite 1 servers 1 skew 10 term 100
+1 join c1
+1 do c1 create / \"f\" file
+1 tell 0
+1 tell 1
+1 do c1 create / \"f\" file
+1 turn c1
+1 tell 3
+1 tell 4
+1 do c1 open /1 1 R WD
+1 tell 6
+1 tell 7
+1 do c1 open /1 1 R WD
+1 tell 9
+1 tell 10
+1 do c1 open /1 1 R WD
+1 turn c1
+1 tell 12
+1 tell 13
+1 tell 14
+1 join c2
+1 do c2 open /1 1 R WD
+1 tell 15
+1 tell 16
+1 turn c1
+1 tell 19
+1 tell 17
+1 do c2 open /1 1 R WD
+1 tell 22
+1 tell 23
+1 do c2 open /1 1 R WD
+1 tell 25
+1 tell 26
+1 do c2 open /1 1 R WD
+1 turn c2
+1 tell 28
+1 tell 29
+1 tell 20
+1 tell 31
+1 join c3
+1 do c3 open /1 1 W -
+1 tell 32
+1 tell 33
+1 tell 34
+1 turn c1
+1 tell 37
+1 do c3 open /1 1 W -
+1 tell 39
+1 tell 40
+1 do c3 open /1 1 W -
+1 do c2 close /1 1
+1 turn c2
+1 tell 42
+1 tell 43
+1 do c3 open /1 1 W -
+";
+
+pub(super) const SHARING_REPORT: &[u8] = b"e1 c1 joined
+e2 c1 asked s0 life / shared, child / \"f\" exclusive, fresh / sends 0
+e3 s0 grants 3 all sends 1
+e4 c1 granted 3 all sends 2
+e5 c1 replied 1 made
+e6 c1 ships 1 s0 sends 3
+e7 s0 admits 1 all sends 4
+e8 c1 shipped 1 all sends 5
+e9 c1 asked s0 own /1, other /1 aW shared, other /1 aD shared, other /1 dR shared sends 6
+e10 s0 grants 4 all sends 7
+e11 c1 granted 4 all sends 8
+e12 c1 asked s0 self /1 aR exclusive, self /1 dW exclusive, self /1 dD exclusive sends 9
+e13 s0 grants 3 all sends 10
+e14 c1 granted 3 all sends 11
+e15 c1 replied 2 opened
+e16 c1 ships 1 s0 sends 12
+e17 s0 admits 1 all sends 13
+e18 c1 shipped 1 all sends 14
+e19 s0 none
+e20 c2 joined
+e21 c2 asked s0 life /1 shared, own /1, other /1 aW shared, other /1 aD shared, other /1 dR shared sends 15
+e22 s0 grants 0 wait s0.3 sends 16 17
+e23 c1 recall s0.3 sends 18
+e24 c1 releases 1 s0 sends 19
+e25 s0 frees 1 all sends 20
+e26 c2 granted 0 wait s0.3 sends 21
+e27 c2 asked s0 life /1 shared, own /1, other /1 aW shared, other /1 aD shared, other /1 dR shared sends 22
+e28 s0 grants 5 all sends 23
+e29 c2 granted 5 all sends 24
+e30 c2 asked s0 self /1 aR exclusive, self /1 dW exclusive, self /1 dD exclusive sends 25
+e31 s0 grants 3 all sends 26
+e32 c2 granted 3 all sends 27
+e33 c2 replied 1 opened
+e34 c2 ships 1 s0 sends 28
+e35 s0 admits 1 all sends 29
+e36 c2 shipped 1 all sends 30
+e37 c1 released 1 all sends 31
+e38 s0 none
+e39 c3 joined
+e40 c3 asked s0 life /1 shared, own /1, other /1 dW shared sends 32
+e41 s0 grants 2 wait s0.9 sends 33 34
+e42 c1 recall s0.9 sends 35
+e43 c3 granted 2 wait s0.9 sends 36
+e44 c1 releases 1 s0 sends 37
+e45 s0 frees 1 all sends 38
+e46 c3 asked s0 other /1 dW shared sends 39
+e47 s0 grants 1 all sends 40
+e48 c3 granted 1 all sends 41
+e49 c3 read 1 sharing
+e50 c2 replied 2 closed
+e51 c2 ships 1 s0 sends 42
+e52 s0 admits 1 all sends 43
+e53 c2 shipped 1 all sends 44
+e54 c3 read 2 sharing
+j1 c1 1 create / \"f\" file /1 made
+j2 c1 2 open /1 1 R WD opened
+j3 c2 1 open /1 1 R WD opened
+j4 c3 1 open /1 1 W - sharing
+j5 c2 2 close /1 1 closed
+j6 c3 2 open /1 1 W - sharing
+n / dir 0 0
+n /1 file 0 0 in / \"f\"
+h /1 c1 1 R WD
+done events 54 journal 6 nodes 2
+";
+
 pub(super) const SHIPPED_AT_100: &[u8] = b"farsite 1 servers 1 skew 10 term 100
 0 join c1
 0 do c1 create / \"a\" dir
