@@ -10,7 +10,6 @@ use Rattle.fs_model.specs.Asking.{may_ask}
 use Rattle.fs_model.specs.Sound.{is_change}
 use Rattle.fs_model.specs.Step.{is_empty}
 use Rattle.fs_model.specs.declared.op.Op.{Op}
-use Rattle.fs_model.specs.declared.op.Op.TheVariants as op
 use Rattle.fs_model.specs.declared.reply.Reply.{Reply}
 use Rattle.fs_msg.specs.declared.act.Act.{Act}
 use Rattle.fs_msg.specs.declared.act.Act.TheVariants as act
@@ -34,23 +33,17 @@ use Rattle.fs_serial.specs.Sight.{Sight}
 use Rattle.fs_serial.specs.Steps.{IsReadNow, IsReplied}
 use Rattle.fs_serial.specs.World.{is_called, message_in, pushed, told_by}
 use Rattle.fs_serial.proofs.ClientSteps.{IsMoved, with_journal}
-use Rattle.fs_serial.proofs.Facts.{items-other}
-use Rattle.fs_serial.proofs.PlainAsks.{asks_plain}
+use Rattle.fs_serial.proofs.Facts.{items-other, reaps-still}
+use Rattle.fs_serial.proofs.PlainAsks.{asks_given}
 use Rattle.fs_serial.proofs.Read.{read_made, read_reserved, read_serial, seat_read, settled_number}
 use Rattle.fs_serial.proofs.ReplyAll.{replied_settled}
 use Rattle.fs_serial.proofs.ReplySeat.{seat_reply}
 use Rattle.fs_serial.proofs.Seats.{Seat, few}
-use Rattle.fs_serial.proofs.Sends.{ArePlain, seat_asks}
+use Rattle.fs_serial.proofs.Sends.{AreOfGivenKinds, seat_asks}
 
 -- what a caller asks for is plain
 pub called_plainly : (o : Op) → is_called o ≡ true → (tells_its_effects o ≡ true) × (may_ask o ≡ true)
-called_plainly (op.Lookup dir name) h = (refl, refl)
-called_plainly (op.List dir) h = (refl, refl)
-called_plainly (op.Kind file) h = (refl, refl)
-called_plainly (op.Info file) h = (refl, refl)
-called_plainly (op.Create dir name kind None) h = (refl, refl)
-called_plainly (op.Create dir name kind (Some id)) h = absurd (cc)
-called_plainly o h = absurd (cc)
+called_plainly o h = both (tells_its_effects o) (may_ask o) h
 
 empty_is : {X : Type 0} (xs : List X) → is_empty xs ≡ true → xs ≡ []
 empty_is [] h = refl
@@ -98,7 +91,7 @@ module _ (skew greatest : ℕ) (s : Sight) (by : Session) (replied : List Item) 
   asking needs is idle = record {
     now = refl;
     moved = record {
-      seat = seat_asks skew greatest s by replied c up down (items_of needs) (fresh_asked needs) idle (subst (λ ns. ArePlain (items_of ns)) (sym is) (asks_plain (known_by c.view c.last) (given_by c.view c.last) c.full o called)) h;
+      seat = seat_asks skew greatest s by replied c up down (items_of needs) (fresh_asked needs) idle (subst (λ ns. AreOfGivenKinds (items_of ns)) (sym is) (asks_given (known_by c.view c.last) (given_by c.view c.last) c.full o called)) h;
       reserves = λ n i r. r;
     };
     servers = servers_stay s;
@@ -152,8 +145,8 @@ module _ (skew greatest : ℕ) (s : Sight) (by : Session) (replied : List Item) 
           reserves = λ n j q. subst (λ (d : Settled). Reserves d.leases n j) (settled_number by (c.next + 1) down (settled_now c)) q;
         };
         servers = record {
-          holds = λ q. record { apart = q.apart; serial = read_serial skew greatest s by replied c up down o r h a t q };
-          fits = λ f. record { off_modes = f.off_modes; given = f.given; sound = f.sound; made = read_made skew greatest s by replied c up down o r h a t f.made };
+          holds = λ q. record { apart = q.apart; promises = q.promises; serial = read_serial skew greatest s by replied c up down o r h a t q; reaped = reaps-still s.reaps s.journal i (λ k. refl) q.reaped };
+          fits = λ f. record { shaped = f.shaped; given = f.given; sound = f.sound; made = read_made skew greatest s by replied c up down o r h a t f.made };
           reserved = λ clients. read_reserved skew greatest s by replied c up down o r h a t (reserved_by clients);
         };
         others = λ x q. items-other x s.journal i q;

@@ -1,5 +1,5 @@
 -- The server admits an entry: all parts of all sessions.
-use Rattle.std.proofs.Common.{◌≡◌, ℕ, ◌==◌, Bool, true, false, List, [], ◌∷◌, ◌++◌, map, sym, ap, ◌∙◌, subst, cond}
+use Rattle.std.proofs.Common.{◌≡◌, ℕ, ◌==◌, Bool, true, false, List, [], ◌∷◌, ◌++◌, map, refl, sym, ap, ◌∙◌, subst, cond}
 use Rattle.std.specs.Prelude.{Option, None, is_some}
 use Rattle.fs_ident.specs.declared.actor.LeaseNo.{LeaseNo}
 use Rattle.fs_ident.specs.declared.actor.Session.{Session}
@@ -15,11 +15,14 @@ use Rattle.fs_record.specs.ValueOf.{value_of}
 use Rattle.fs_serial.specs.Pending.{AllStand, IsAnswer, IsEntry}
 use Rattle.fs_serial.specs.Relies.{Relies}
 use Rattle.fs_serial.specs.Settled.{Lease, Settled, acknowledged, lease_after, effects_in}
-use Rattle.fs_serial.specs.Sight.{Sight, sight_of}
+use Rattle.fs_serial.specs.Rows.{PromisesKept}
+use Rattle.fs_serial.specs.Sight.{Sight, reaps_at, sight_of}
 use Rattle.fs_serial.specs.Steps.{IsAdmitted}
 use Rattle.fs_serial.proofs.Admit as admit
 use Rattle.fs_serial.proofs.AdmitFresh.{fresh_then, made_then}
 use Rattle.fs_serial.proofs.AdmitOthers.{others_rely}
+use Rattle.fs_serial.proofs.AdmitPromises.{promises_admitted}
+use Rattle.fs_serial.proofs.Facts.{reaps-still}
 use Rattle.fs_serial.proofs.Relied.{relied_holds, relied_fits}
 use Rattle.fs_serial.proofs.Rowed.{all_found}
 use Rattle.fs_serial.proofs.Together.{each_session, its_client}
@@ -75,11 +78,14 @@ module _ (skew greatest : ℕ) (s : Server) (journal : List Item) (replied : Ses
   right : IsAnswer (value_of s.records by) e
   right = admit.right skew greatest s journal by (replied by) d.leases e a.rest d.next stand h.servers h.kept holds fits
 
+  promises : PromisesKept (with_entry by e s).records s.rows
+  promises = promises_admitted s by d e stand plain right h.kept.sound.records h.servers.promises
+
   abbrev all : Session → Settled
   all = with_client by then clients
 
   rely : (x : Session) → (by.0 == x.0) ≡ false → Relies skew greatest x (sight_of s journal) after
-  rely x other = others_rely skew greatest s journal by x d.leases e other stand plain right h.servers h.kept
+  rely x other = others_rely skew greatest s journal by x d.leases e other stand plain right h.servers h.kept promises
 
   sessions : (x : Session) → SessionHolds skew greatest after x (replied x) (all x)
   sessions = each_session (λ x c. SessionHolds skew greatest after x (replied x) c) by then clients
@@ -100,9 +106,14 @@ module _ (skew greatest : ℕ) (s : Server) (journal : List Item) (replied : Ses
 
   kept : AllHold skew greatest after replied all
   kept = record {
-    servers = record { apart = h.servers.apart; serial = admit.serial skew greatest s journal by (replied by) d.leases e a.rest d.next stand h.servers h.kept holds fits };
+    servers = record {
+      apart = h.servers.apart;
+      promises = promises;
+      serial = admit.serial skew greatest s journal by (replied by) d.leases e a.rest d.next stand h.servers h.kept holds fits;
+      reaped = reaps-still (reaps_at s) journal (item_of by e) (λ k. refl) h.servers.reaped;
+    };
     kept = record {
-      off_modes = h.kept.off_modes;
+      shaped = h.kept.shaped;
       given = h.kept.given;
       sound = admit.sound skew greatest s journal by (replied by) d.leases e a.rest d.next stand h.servers h.kept holds fits;
       made = made_then s journal by d.leases e plain right h.kept.sound fits.distinct (reserved_by clients) (reserved_by all) fewer (λ n i r. r) still h.reserved h.kept.made;

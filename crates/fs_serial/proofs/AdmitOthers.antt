@@ -1,18 +1,15 @@
 -- The server admits an entry: what another session relies on.
-use Rattle.std.proofs.Common.{◌≡◌, ℕ, ◌==◌, ◌&&◌, not, Bool, true, false, List, [], ◌∷◌, ◌++◌, refl, sym, ap, ◌∙◌, arith}
+use Rattle.std.proofs.Common.{◌≡◌, ℕ, ◌==◌, ◌&&◌, not, Bool, true, false, List, [], ◌∷◌, ◌++◌, refl, sym, ap, ◌∙◌, subst, arith}
 use Rattle.std.specs.Cmp.{nat_eq_equiv}
 use Rattle.fs_ident.specs.In.{In}
 use Rattle.fs_ident.specs.declared.actor.Session.{Session}
 use Rattle.fs_field.specs.declared.asked.Need.{Need}
 use Rattle.fs_field.specs.declared.asked.Need.TheVariants as need
-use Rattle.fs_field.specs.declared.field.Field.{Field}
-use Rattle.fs_field.specs.declared.field.Field.TheVariants.{Other}
 use Rattle.fs_field.specs.declared.lease_kind.LeaseKind.{LeaseKind}
 use Rattle.fs_field.specs.declared.lease_kind.LeaseKind.TheVariants.{Shared, Exclusive}
 use Rattle.fs_field.specs.declared.row.Row.{Row}
 use Rattle.fs_field.specs.declared.used.Use.{Use}
 use Rattle.fs_field.specs.Conflict.{meets, plain_conflict}
-use Rattle.fs_field.specs.Field.{tells_no_mode}
 use Rattle.fs_msg.specs.declared.entry.Entry.{Entry}
 use Rattle.fs_msg.specs.declared.item.Item.{Item}
 use Rattle.fs_record.specs.Records.{nodes_of}
@@ -26,15 +23,12 @@ use Rattle.fs_view.proofs.Unseen.{others_values}
 use Rattle.fs_serial.specs.Parts.{ServersHold, ServersFit}
 use Rattle.fs_serial.specs.Pending.{AllStand, Stands, IsAnswer, IsCovered, IsEntry}
 use Rattle.fs_serial.specs.Relies.{Relies}
-use Rattle.fs_serial.specs.Rows.{NoRowsConflict}
+use Rattle.fs_serial.specs.Rows.{NoRowsConflict, PromisesKept}
 use Rattle.fs_serial.specs.Settled.{Lease}
 use Rattle.fs_serial.specs.Sight.{sight_of}
 use Rattle.fs_serial.proofs.Answered.{answered, covered_there}
 use Rattle.fs_serial.proofs.Facts.{none-In, items-other}
-
-off_modes : (g : Field) → tells_no_mode g ≡ true → is_other g ≡ false
-off_modes (Other f m) h = absurd (cc)
-off_modes g h = refl
+use Rattle.fs_serial.proofs.Promises.{other_stays}
 
 exclusive : (k : LeaseKind) → is_enough k Exclusive ≡ true → k ≡ Exclusive
 exclusive Shared h = absurd (cc)
@@ -63,13 +57,19 @@ no_item_meets rows by r uses (need.Fresh dir) free i other stand c = refl
 
 module _ (skew greatest : ℕ) (s : Server) (journal : List Item) (by y : Session) (leases : List Lease) (e : Entry) (another : (by.0 == y.0) ≡ false)
     (stand : AllStand s.rows by e.uses) (plain : IsEntry leases e) (right : IsAnswer (value_of s.records by) e)
-    (sh : ServersHold (sight_of s journal)) (sf : ServersFit (sight_of s journal)) where
-  -- nothing that a row of the other session is on changes for it
-  same_value : (r : Row) → In r s.rows → r.session ≡ y → value_of (with_entry by e s).records y r.field ≡ value_of s.records y r.field
-  same_value r i own =
-      others_values s.records by y e.op e.reply r.field r.kind sf.sound.records plain.plain (answered s.records by leases e plain right) another (off_modes r.field (sf.off_modes r i))
+    (sh : ServersHold (sight_of s journal)) (sf : ServersFit (sight_of s journal)) (promises : PromisesKept (with_entry by e s).records s.rows) where
+  same_plain : (r : Row) → In r s.rows → r.session ≡ y → is_other r.field ≡ false → value_of (with_entry by e s).records y r.field ≡ value_of s.records y r.field
+  same_plain r i own plainly =
+      others_values s.records by y e.op e.reply r.field r.kind sf.sound.records plain.plain (answered s.records by leases e plain right) another plainly
       (none-In (item_meets r.field r.kind) (walk (known_in (nodes_of s.records) by) always e.op).items (λ n j.
       no_item_meets s.rows by r e.uses n sh.apart i (ap (λ (x : Session). by.0 == x.0) own ∙ another) stand (covered_there s.records by leases e plain right n j)))
+
+  -- nothing that a row of the other session is on changes for it: what its others have of a mode is what it was promised
+  same_value : (r : Row) → In r s.rows → r.session ≡ y → value_of (with_entry by e s).records y r.field ≡ value_of s.records y r.field
+  same_value r i own = elim (is_other r.field) as (λ b. is_other r.field ≡ b → value_of (with_entry by e s).records y r.field ≡ value_of s.records y r.field) [
+    | true ↦ λ t. subst (λ x. value_of (with_entry by e s).records x r.field ≡ value_of s.records x r.field) own (other_stays s.records (with_entry by e s).records s.rows sf.shaped sh.promises promises r i t)
+    | false ↦ same_plain r i own
+  ] refl
 
   pub others_rely : Relies skew greatest y (sight_of s journal) (sight_of (with_entry by e s) (journal ++ item_of by e ∷ []))
   others_rely = record {

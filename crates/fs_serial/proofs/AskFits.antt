@@ -21,8 +21,7 @@ use Rattle.fs_msg.specs.declared.end.End.{End}
 use Rattle.fs_msg.specs.declared.end.End.TheVariants as end
 use Rattle.fs_record.specs.Records.{RecordMap, node_of}
 use Rattle.fs_record.specs.ValueOf.{value_at, value_of}
-use Rattle.fs_rows.specs.Answer.{answer}
-use Rattle.fs_server.specs.Asks.{Asking, ask_from, grant_of, kind_for, with_lease}
+use Rattle.fs_server.specs.Asks.{Asking, answer_to, ask_from, grant_of, kind_for, with_lease}
 use Rattle.fs_server.specs.declared.state.Server.{Server}
 use Rattle.fs_client.specs.Answers.{grants_fit, is_new, is_of_item, rest_fits}
 use Rattle.fs_view.specs.declared.kept.Kept.{Kept}
@@ -82,8 +81,8 @@ module _ (by : Session) (kept : List Kept) where
       joined _ _ (joined _ _ (joined _ _ (same_field_self x.0) (ap (λ y. same_kind y x.1) kind ∙ same_kind_self x.1)) (value_is by s.records x.0))
       (new_number kept before s.given (grant_of by x.0 (kind_for x.0 x.1) s) k b (omega arith))
 
-  more_up : (s : Server) (before : List Grant) (field : Field) (kind : LeaseKind) → GrantsUpTo s.given before → GrantsUpTo (with_lease by field kind s).given (before ++ grant_of by field kind s ∷ [])
-  more_up s before field kind b g i = elim (In-append g before (grant_of by field kind s ∷ []) i) as (λ _. g.no.count ≤ s.given + 1) [
+  more_up : (s : Server) (before : List Grant) (field : Field) (kind : LeaseKind) (promise : Option Bool) → GrantsUpTo s.given before → GrantsUpTo (with_lease by field kind promise s).given (before ++ grant_of by field kind s ∷ [])
+  more_up s before field kind promise b g i = elim (In-append g before (grant_of by field kind s ∷ []) i) as (λ _. g.no.count ≤ s.given + 1) [
     | inl j ↦ let q = b g j in omega arith
     | inr j ↦ elim j as (λ _. g.no.count ≤ s.given + 1) [ inl e ↦ let q = ap (λ (y : Grant). y.no.count) e in omega arith | inr z ↦ absurd z ]
   ]
@@ -108,14 +107,14 @@ module _ (by : Session) (kept : List Kept) where
   given_for (x ∷ xs) s before kinds k b =
       let field = x.0 in
       let kind = kind_for x.0 x.1 in
-      elim (answer s.rows by field kind) as (λ (q : Asked). IsGivenFor (x ∷ xs) before s.given
+      elim (answer_to by field kind s) as (λ (q : Asked). IsGivenFor (x ∷ xs) before s.given
       (elim q as (λ _. Asking) [
-        | Granted value ↦ ask_from by xs (with_lease by field kind s) (before ++ grant_of by field kind s ∷ [])
+        | Granted promise ↦ ask_from by xs (with_lease by field kind promise s) (before ++ grant_of by field kind s ∷ [])
         | Wait blocker ↦ record { server = s; grants = before; fresh = None; end = end.Wait blocker }
         | Locked txn ↦ record { server = s; grants = before; fresh = None; end = end.Locked txn }
       ])) [
-        | Granted value ↦ went_on x xs s before (ask_from by xs (with_lease by field kind s) (before ++ grant_of by field kind s ∷ [])) (fits_item x s before (kinds x (inl refl)) k b)
-            (given_for xs (with_lease by field kind s) (before ++ grant_of by field kind s ∷ []) (λ y i. kinds y (inr i)) (λ y i. let q = k y i in omega arith) (more_up s before field kind b))
+        | Granted promise ↦ went_on x xs s before (ask_from by xs (with_lease by field kind promise s) (before ++ grant_of by field kind s ∷ [])) (fits_item x s before (kinds x (inl refl)) k b)
+            (given_for xs (with_lease by field kind promise s) (before ++ grant_of by field kind s ∷ []) (λ y i. kinds y (inr i)) (λ y i. let q = k y i in omega arith) (more_up s before field kind promise b))
         | Wait blocker ↦ stopped x xs s before (end.Wait blocker) (λ e. cc) b
         | Locked txn ↦ stopped x xs s before (end.Locked txn) (λ e. cc) b
       ]

@@ -1,23 +1,20 @@
 -- The items of a question for leases, one after another.
-use Rattle.std.proofs.Common.{◌≡◌, ℕ, Bool, true, List, [], ◌∷◌, ◌++◌, map, append_assoc, refl, sym, ap, ◌∙◌, subst, inl, inr}
+use Rattle.std.proofs.Common.{◌≡◌, ℕ, Bool, List, [], ◌∷◌, ◌++◌, map, append_assoc, refl, sym, ap, ◌∙◌, subst, inl, inr}
 use Rattle.std.specs.Prelude.{Option, None}
-use Rattle.std.specs.List.{list_all}
 use Rattle.std.proofs.lemmas.List.{map-append}
 use Rattle.fs_ident.specs.In.{In}
 use Rattle.fs_ident.specs.declared.actor.Session.{Session}
-use Rattle.fs_ident.proofs.Booleans.{both}
 use Rattle.fs_field.specs.declared.asked.Asked.{Asked}
 use Rattle.fs_field.specs.declared.asked.Asked.TheVariants.{Granted, Wait, Locked}
 use Rattle.fs_field.specs.declared.field.Field.{Field}
 use Rattle.fs_field.specs.declared.lease_kind.LeaseKind.{LeaseKind}
 use Rattle.fs_field.specs.declared.row.Row.{Row}
-use Rattle.fs_field.specs.Field.{tells_no_mode}
 use Rattle.fs_field.specs.Table.{no_before}
 use Rattle.fs_msg.specs.declared.answer.Grant.{Grant}
 use Rattle.fs_msg.specs.declared.end.End.TheVariants as end
 use Rattle.fs_msg.specs.declared.item.Item.{Item}
-use Rattle.fs_rows.specs.Answer.{answer, given_row}
-use Rattle.fs_server.specs.Asks.{Asking, ask_from, grant_of, kind_for, with_lease}
+use Rattle.fs_moderows.specs.Answer.{given_row}
+use Rattle.fs_server.specs.Asks.{Asking, answer_to, ask_from, grant_of, kind_for, with_lease}
 use Rattle.fs_server.specs.Server.{next_number, end_of}
 use Rattle.fs_server.specs.declared.state.Server.{Server}
 use Rattle.fs_serial.specs.Parts.{with_client}
@@ -47,15 +44,16 @@ module _ (skew greatest : ℕ) (journal : List Item) (replied : Session → List
     pub goes : GoesOn skew greatest (sight_of s journal) replied ends (with_client by (given_so_far grants d) base)
     pub rows : GrantsHaveRows s.rows grants
 
-  one_more : (s : Server) (grants : List Grant) (field : Field) (kind : LeaseKind) (told : Option Bool) → tells_no_mode field ≡ true → answer s.rows by field kind ≡ Granted told → IsAsking s grants → IsAsking (with_lease by field kind s) (grants ++ grant_of by field kind s ∷ [])
-  one_more s grants field kind told plain ok h =
-      let t = with_lease by field kind s in
-      let row = given_row (next_number s) by field kind (end_of s) in
+  one_more : (s : Server) (grants : List Grant) (field : Field) (asked : LeaseKind) (promise : Option Bool) → answer_to by field (kind_for field asked) s ≡ Granted promise → IsAsking s grants → IsAsking (with_lease by field (kind_for field asked) promise s) (grants ++ grant_of by field (kind_for field asked) s ∷ [])
+  one_more s grants field asked promise ok h =
+      let kind = kind_for field asked in
+      let t = with_lease by field kind promise s in
+      let row = given_row (next_number s) by field kind (end_of s) promise in
       let g = grant_of by field kind s in
       record {
         goes = subst (λ (x : Settled). GoesOn skew greatest (sight_of t journal) replied ends (with_client by x base)) (given_more grants g d)
             (goes_again skew greatest (sight_of t journal) replied ends base by (given_so_far grants d) (with_leases (granted None g ∷ []))
-            (item_granted by field kind s journal skew greatest replied ends (with_client by (given_so_far grants d) base) told plain ok h.goes));
+            (item_granted by field asked promise s journal skew greatest replied ends (with_client by (given_so_far grants d) base) ok h.goes));
         rows = λ x i. elim (In-append x grants (g ∷ []) i) as (λ _. (r : Row) × In r t.rows × (r.field ≡ x.field)) [
           | inl j ↦ let r = h.rows x j in (r.0, In-put_still (λ y. no_before row.no y.no) r.0 row s.rows r.1, r.2)
           | inr j ↦ elim j as (λ _. (r : Row) × In r t.rows × (r.field ≡ x.field)) [
@@ -66,25 +64,24 @@ module _ (skew greatest : ℕ) (journal : List Item) (replied : Session → List
       }
 
   -- all that were given, up to the first that could not be
-  pub asked_still : (items : List (Field × LeaseKind)) (s : Server) (grants : List Grant) → list_all (λ x. tells_no_mode x.0) items ≡ true → IsAsking s grants → IsAsking (ask_from by items s grants).server (ask_from by items s grants).grants
-  asked_still [] s grants plain h = h
-  asked_still (x ∷ xs) s grants plain h =
-      let p = both (tells_no_mode x.0) (list_all (λ x. tells_no_mode x.0) xs) plain in
+  pub asked_still : (items : List (Field × LeaseKind)) (s : Server) (grants : List Grant) → IsAsking s grants → IsAsking (ask_from by items s grants).server (ask_from by items s grants).grants
+  asked_still [] s grants h = h
+  asked_still (x ∷ xs) s grants h =
       let field = x.0 in
       let kind = kind_for x.0 x.1 in
-      elim (answer s.rows by field kind) as (λ (a : Asked). answer s.rows by field kind ≡ a →
+      elim (answer_to by field kind s) as (λ (a : Asked). answer_to by field kind s ≡ a →
       IsAsking
       (elim a as (λ _. Asking) [
-        | Granted value ↦ ask_from by xs (with_lease by field kind s) (grants ++ grant_of by field kind s ∷ [])
+        | Granted promise ↦ ask_from by xs (with_lease by field kind promise s) (grants ++ grant_of by field kind s ∷ [])
         | Wait blocker ↦ record { server = s; grants = grants; fresh = None; end = end.Wait blocker }
         | Locked txn ↦ record { server = s; grants = grants; fresh = None; end = end.Locked txn }
       ]).server
       (elim a as (λ _. Asking) [
-        | Granted value ↦ ask_from by xs (with_lease by field kind s) (grants ++ grant_of by field kind s ∷ [])
+        | Granted promise ↦ ask_from by xs (with_lease by field kind promise s) (grants ++ grant_of by field kind s ∷ [])
         | Wait blocker ↦ record { server = s; grants = grants; fresh = None; end = end.Wait blocker }
         | Locked txn ↦ record { server = s; grants = grants; fresh = None; end = end.Locked txn }
       ]).grants) [
-        | Granted value ↦ λ e. asked_still xs (with_lease by field kind s) (grants ++ grant_of by field kind s ∷ []) p.1 (one_more s grants field kind value p.0 e h)
+        | Granted promise ↦ λ e. asked_still xs (with_lease by field kind promise s) (grants ++ grant_of by field kind s ∷ []) (one_more s grants field x.1 promise e h)
         | Wait blocker ↦ λ e. h
         | Locked txn ↦ λ e. h
       ] refl

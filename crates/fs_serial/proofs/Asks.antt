@@ -1,7 +1,6 @@
 -- The whole answer to a question for leases.
 use Rattle.std.proofs.Common.{◌≡◌, ℕ, ◌≤◌, ◌&&◌, Bool, true, false, List, [], ◌∷◌, ◌++◌, map, append-nil, refl, sym, ap, ◌∙◌, subst, arith}
 use Rattle.std.specs.Prelude.{Option, Some, None, option_map}
-use Rattle.std.specs.List.{list_all}
 use Rattle.fs_ident.specs.Ident.{child}
 use Rattle.fs_ident.specs.In.{In}
 use Rattle.fs_ident.specs.declared.actor.Session.{Session}
@@ -10,7 +9,7 @@ use Rattle.fs_field.specs.declared.field.Field.{Field}
 use Rattle.fs_field.specs.declared.field.Field.TheVariants.{Life}
 use Rattle.fs_field.specs.declared.lease_kind.LeaseKind.{LeaseKind}
 use Rattle.fs_field.specs.declared.lease_kind.LeaseKind.TheVariants.{Exclusive}
-use Rattle.fs_field.specs.Field.{same_field, tells_no_mode}
+use Rattle.fs_field.specs.Field.{same_field}
 use Rattle.fs_field.specs.Value.{is_value_of}
 use Rattle.fs_field.specs.Table.{borne_numbers, is_parent}
 use Rattle.fs_msg.specs.declared.answer.Answer.TheVariants.{Granted}
@@ -53,7 +52,7 @@ kept_up_to skew greatest s journal replied ends clients by h k i = at_standing k
     at_standing (Pinned u) e = subst (λ (x : Standing). (number_of x).count ≤ s.given) (sym e) (lease_given (lease_with k u.lease) (ap (λ x. option_map (lease_with k) (lease_of x)) e))
     at_standing (Leaving l) e = (h.carried.returns by k i (ap is_leaving e)).known
 
-module _ (skew greatest : ℕ) (journal : List Item) (replied : Session → List Item) (ends : Session → Ends) (base : Session → Settled) (by : Session) (items : List (Field × LeaseKind)) (dir : Option (List ℕ)) (s : Server) (h : GoesOn skew greatest (sight_of s journal) replied ends base) (plain : list_all (λ x. tells_no_mode x.0) items ≡ true) (kinds : (x : Field × LeaseKind) → In x items → kind_for x.0 x.1 ≡ x.1) where
+module _ (skew greatest : ℕ) (journal : List Item) (replied : Session → List Item) (ends : Session → Ends) (base : Session → Settled) (by : Session) (items : List (Field × LeaseKind)) (dir : Option (List ℕ)) (s : Server) (h : GoesOn skew greatest (sight_of s journal) replied ends base) (kinds : (x : Field × LeaseKind) → In x items → kind_for x.0 x.1 ≡ x.1) where
   abbrev kept : List Kept
   kept = (ends by).client.view.leases
 
@@ -69,7 +68,7 @@ module _ (skew greatest : ℕ) (journal : List Item) (replied : Session → List
   none_so_far = ap (λ ls. let x : Settled = record (base by) { leases = ls } in x) (sym (append-nil (base by).leases))
 
   asking : IsAsking skew greatest journal replied ends base by (base by) a.server a.grants
-  asking = asked_still skew greatest journal replied ends base by (base by) items s [] plain (record {
+  asking = asked_still skew greatest journal replied ends base by (base by) items s [] (record {
     goes = subst (λ c. GoesOn skew greatest (sight_of s journal) replied ends c) (sym (client_same by base) ∙ ap (λ d. with_client by d base) none_so_far) h;
     rows = λ g i. absurd i;
   })

@@ -153,7 +153,6 @@ exchange_still skew greatest given rows by c d more up down now then seen later 
   ships = subst (λ x. ShipsLog x d.log) (sym g.exchange) (subst (ShipsLog c.exchange) (sym g.log) (ships_still c.exchange c.log more h.ships));
   front = λ entries i. let q : IsFront entries seen = h.front entries i in record { rest = q.rest ++ more; log = log ∙ ap (λ es. es ++ more) q.log ∙ append_assoc entries q.rest more; over = over ∙ q.over };
   released = subst (λ x. ReleasesReturned x d.view.leases) (sym g.exchange) (released_still c.exchange c d more g h.released);
-  asked = h.asked;
   kinds = h.kinds;
   returns = returns_still given rows by c d more seen.leases later.leases g seen_fewer h.returns;
   renewals = λ ends e i n until j l k same live. let m = now_fewer l k in h.renewals ends e i n until j m.lease m.held (m.number ∙ same) live;

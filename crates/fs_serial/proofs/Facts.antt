@@ -1,5 +1,5 @@
 -- Facts on lists, walks and records that several kinds of step need.
-use Rattle.std.proofs.Common.{◌≡◌, ℕ, ◌==◌, ◌||◌, Bool, true, false, List, [], ◌∷◌, ◌++◌, ◌⊎◌, map, refl, sym, ap, ◌∙◌, subst, inl, inr, cond, append_assoc, append-nil}
+use Rattle.std.proofs.Common.{◌≡◌, ℕ, ◌+◌, ◌==◌, ◌||◌, Bool, true, false, List, [], ◌∷◌, ◌++◌, ◌⊎◌, map, refl, sym, ap, ◌∙◌, subst, inl, inr, cond, append_assoc, append-nil}
 use Rattle.std.specs.Prelude.{Option, Some, None, is_some}
 use Rattle.std.specs.List.{list_any}
 use Rattle.std.specs.Cmp.{nat_eq_equiv}
@@ -24,7 +24,7 @@ use Rattle.fs_record.proofs.NodeMaps.{node_there, nodes_alike}
 use Rattle.fs_record.specs.Applied.{records_after_all}
 use Rattle.fs_view.specs.Walk.{known_in}
 use Rattle.fs_serial.specs.Fresh.{made, made_in, made_by, or_else, root_kind, IsMade, IsAtOrBelow}
-use Rattle.fs_serial.specs.Numbers.{is_session, items_by}
+use Rattle.fs_serial.specs.Numbers.{AreNumbered, ReapsInOrder, is_server, is_session, items_at, items_by}
 use Rattle.fs_serial.specs.Pending.{known_with}
 
 -- ## Lists
@@ -126,6 +126,13 @@ items-own by is i own = filter-append (λ (i : Item). is_session by i.by) is (i 
 
 pub items-other : (by : Session) (is : List Item) (i : Item) → is_session by i.by ≡ false → items_by by (is ++ i ∷ []) ≡ items_by by is
 items-other by is i other = filter-append (λ (i : Item). is_session by i.by) is (i ∷ []) ∙ ap (λ xs. items_by by is ++ xs) (dropped_if (is_session by i.by) i other) ∙ append-nil (items_by by is)
+
+items-elsewhere : (k : ℕ) (is : List Item) (i : Item) → is_server k i.by ≡ false → items_at k (is ++ i ∷ []) ≡ items_at k is
+items-elsewhere k is i other = filter-append (λ (i : Item). is_server k i.by) is (i ∷ []) ∙ ap (λ xs. items_at k is ++ xs) (dropped_if (is_server k i.by) i other) ∙ append-nil (items_at k is)
+
+-- an item more that is no server's leaves the reaps in order
+pub reaps-still : (reaps : ℕ → ℕ) (is : List Item) (i : Item) → ((k : ℕ) → is_server k i.by ≡ false) → ReapsInOrder reaps is → ReapsInOrder reaps (is ++ i ∷ [])
+reaps-still reaps is i other h k = subst (λ js. AreNumbered 1 js (reaps k + 1)) (sym (items-elsewhere k is i (other k))) (h k)
 
 -- ## Made
 

@@ -1,5 +1,5 @@
 -- All that holds holds at the start.
-use Rattle.std.proofs.Common.{◌≡◌, ℕ, Bool, true, false, List, [], ◌∷◌, ◌++◌, cond, refl, sym, ap, ◌∙◌, subst, arith}
+use Rattle.std.proofs.Common.{◌≡◌, ℕ, ◌+◌, ◌==◌, Bool, true, false, List, [], ◌∷◌, ◌++◌, cond, refl, sym, ap, ◌∙◌, subst, arith}
 use Rattle.std.specs.Prelude.{Option, Some, None}
 use Rattle.std.specs.Ordering.{nat_cmp, eq_by_cmp}
 use Rattle.std.specs.Cmp.Lexicographic.{slice_cmp, nat_list_cmp_total}
@@ -18,8 +18,9 @@ use Rattle.fs_record.proofs.NodeMaps.{node_there}
 use Rattle.fs_record.proofs.NodeValues.{key_is}
 use Rattle.fs_serial.specs.Fresh.{FreshReserved, IsAtOrBelow, IsMade, NodesMade, made, reserved_by}
 use Rattle.fs_serial.specs.Parts.{SessionHolds, SessionFits}
+use Rattle.fs_serial.specs.Numbers.{ReapsInOrder}
 use Rattle.fs_serial.specs.Serial.{AreSound}
-use Rattle.fs_serial.specs.Sight.{sight_of}
+use Rattle.fs_serial.specs.Sight.{reaps_at, sight_of}
 use Rattle.fs_serial.specs.World.{World, WorldHolds, first_world, settled_at}
 
 abbrev records : RecordMap
@@ -62,6 +63,13 @@ module _ (skew term greatest : ℕ) where
   abbrev w : World
   w = first_world skew term
 
+  none_reaped : (b : Bool) → 1 ≡ cond b 0 0 + 1
+  none_reaped true = refl
+  none_reaped false = refl
+
+  first_reaped : ReapsInOrder (reaps_at w.server) []
+  first_reaped k = none_reaped (k == w.server.me)
+
   first_reserved : FreshReserved (reserved_by (λ x. settled_at x (w.ends x))) w.server.records []
   first_reserved = record {
     once = λ x y n k i j r t b. absurd r.held;
@@ -89,8 +97,8 @@ module _ (skew term greatest : ℕ) where
   pub first_all : WorldHolds greatest (first_world skew term)
   first_all = record {
     all = record {
-      servers = record { apart = λ a b i j. absurd i; serial = sym first_nodes };
-      kept = record { off_modes = λ r i. absurd i; given = λ r i. absurd i; sound = first_are_sound; made = first_made };
+      servers = record { apart = λ a b i j. absurd i; promises = λ r i. absurd i; serial = sym first_nodes; reaped = first_reaped };
+      kept = record { shaped = λ r i. absurd i; given = λ r i. absurd i; sound = first_are_sound; made = first_made };
       sessions = first_holds;
       fitting = first_fits;
       reserved = first_reserved;
@@ -103,7 +111,6 @@ module _ (skew term greatest : ℕ) where
       ships = tt;
       front = λ entries i. absurd i;
       released = tt;
-      asked = λ items fresh i. absurd i;
       kinds = λ items fresh i. absurd i;
       returns = λ k i leaving. absurd i;
       renewals = λ ends e i. absurd i;

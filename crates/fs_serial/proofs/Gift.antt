@@ -18,7 +18,7 @@ use Rattle.fs_field.specs.declared.lease_kind.LeaseKind.TheVariants.{Exclusive}
 use Rattle.fs_field.specs.declared.row.Row.{Row}
 use Rattle.fs_field.specs.declared.value.Value.TheVariants as value
 use Rattle.fs_field.specs.Conflict.{meets, NoPlainConflict}
-use Rattle.fs_field.specs.Field.{file_of, same_field, tells_no_mode}
+use Rattle.fs_field.specs.Field.{file_of, same_field}
 use Rattle.fs_field.specs.Table.{no_before, child_number, borne_numbers}
 use Rattle.fs_field.proofs.Below.{told as number_told}
 use Rattle.fs_field.proofs.Leases.{NoPlainConflict-with_row}
@@ -30,7 +30,7 @@ use Rattle.fs_msg.specs.declared.item.Item.{Item}
 use Rattle.fs_record.specs.Fresh.{IsLeastFree, fresh_number, is_directory}
 use Rattle.fs_record.specs.Records.{node_of, next_of}
 use Rattle.fs_record.proofs.NumbersRise.{number_least}
-use Rattle.fs_rows.specs.Answer.{given_row}
+use Rattle.fs_moderows.specs.Answer.{given_row}
 use Rattle.fs_server.specs.Asks.{Asking, grant_of, with_fresh}
 use Rattle.fs_server.specs.Server.{next_number, end_of}
 use Rattle.fs_server.specs.declared.state.Server.{Server}
@@ -44,14 +44,16 @@ use Rattle.fs_serial.specs.Laws.{IsGift, GiftIsRelied, GiftIsTold, GiftKeepsPart
 use Rattle.fs_serial.specs.Leases.{IsFresh, IsRowOf, LeasesGiven}
 use Rattle.fs_serial.specs.Parts.{with_client, ServersHold, ServersFit, SessionHolds, SessionFits}
 use Rattle.fs_serial.specs.Relies.{Relies}
-use Rattle.fs_serial.specs.Rows.{RowsGiven, RowsOffModes}
+use Rattle.fs_serial.specs.Rows.{RowsGiven}
 use Rattle.fs_serial.specs.Settled.{Lease, Settled, granted, told, with_leases}
 use Rattle.fs_serial.specs.Sight.{Sight, sight_of, IsGiven}
 use Rattle.fs_serial.proofs.Children.{parent_child}
 use Rattle.fs_serial.proofs.Facts.{each_more, below_itself, same_is, same_self}
 use Rattle.fs_serial.proofs.GiftReserved.{reserved_still, reserved_then, unmade_dead}
 use Rattle.fs_serial.proofs.GiftedRecords.{made_still, serial_still, sound_still, values_stay}
+use Rattle.fs_serial.proofs.Granting.{shapes_beside}
 use Rattle.fs_serial.proofs.Leased.{IsNewLease, In-put_here, leased_fits, leased_holds, row_relied}
+use Rattle.fs_serial.proofs.Promises.{promises_beside, promises_gift}
 use Rattle.fs_serial.proofs.Together.{each_session}
 use Rattle.fs_serial.proofs.Relied.{relies_for, relied_fits, relied_holds}
 
@@ -118,7 +120,7 @@ module _ (by : Session) (dir : List ℕ) (k : ℕ) (a : Asking) (journal : List 
   t = (with_fresh by dir k a).server
 
   abbrev row : Row
-  row = given_row (next_number s) by (Life (child dir k)) Exclusive (end_of s)
+  row = given_row (next_number s) by (Life (child dir k)) Exclusive (end_of s) None
 
   least : IsLeastFree (next_of (get s.records dir)) (borne_numbers dir s.rows) k
   least = number_least s.records dir (borne_numbers dir s.rows) k number
@@ -132,12 +134,6 @@ module _ (by : Session) (dir : List ℕ) (k : ℕ) (a : Asking) (journal : List 
       (λ x i. never (not (by.0 == x.session.0)) (meets (Life (child dir k)) Exclusive x.field x.kind) (lives_apart (child dir k) Exclusive x.field x.kind (not_on dir k s.rows least.free x i)))
       h.apart
 
-  off_modes : ServersFit (sight_of s journal) → RowsOffModes t.rows
-  off_modes f r i = elim (row_or r i) as (λ _. tells_no_mode r.field ≡ true) [
-    | inl e ↦ ap (λ (x : Row). tells_no_mode x.field) e
-    | inr j ↦ f.off_modes r j
-  ]
-
   rows_given : ServersFit (sight_of s journal) → RowsGiven (sight_of t journal).given t.rows
   rows_given f r i = elim (row_or r i) as (λ _. IsGiven (sight_of t journal).given r.no) [
     | inl e ↦ let c = ap (λ (x : Row). x.no.count) e in omega arith
@@ -145,11 +141,16 @@ module _ (by : Session) (dir : List ℕ) (k : ℕ) (a : Asking) (journal : List 
   ]
 
   pub gift_holds : ServersHold (sight_of s journal) → ServersHold (sight_of t journal)
-  gift_holds h = record { apart = apart h; serial = serial_still s.records dir k journal h.serial }
+  gift_holds h = record {
+    apart = apart h;
+    promises = promises_gift s.records t.rows dir k (promises_beside s.records row s.rows refl h.promises);
+    serial = serial_still s.records dir k journal h.serial;
+    reaped = h.reaped;
+  }
 
   pub gift_fits : ServersFit (sight_of s journal) → ServersFit (sight_of t journal)
   gift_fits f = record {
-    off_modes = off_modes f;
+    shaped = shapes_beside row s.rows refl f.shaped;
     given = rows_given f;
     sound = sound_still s.records dir k (borne_numbers dir s.rows) number f.sound;
     made = made_still s.records dir k journal f.made;

@@ -1,23 +1,18 @@
 -- A session is given a lease that it asked for.
-use Rattle.std.proofs.Common.{◌≡◌, ℕ, Bool, true, List, [], ◌∷◌, ◌⊎◌, refl, sym, ap, ◌∙◌, subst, inl, inr, arith}
-use Rattle.std.specs.Prelude.{Option, Some, None}
-use Rattle.std.specs.List.{find}
+use Rattle.std.proofs.Common.{◌≡◌, ℕ, Bool, List, [], ◌∷◌, ◌⊎◌, refl, sym, ap, subst, inl, inr, arith}
+use Rattle.std.specs.Prelude.{Option, None}
 use Rattle.fs_ident.specs.In.{In}
 use Rattle.fs_ident.specs.declared.actor.LeaseNo.{LeaseNo}
 use Rattle.fs_ident.specs.declared.actor.Session.{Session}
-use Rattle.fs_ident.specs.declared.actor.TxnNo.{TxnNo}
-use Rattle.fs_ident.proofs.Standing.{In-put, none_pass}
+use Rattle.fs_ident.proofs.Standing.{In-put}
 use Rattle.fs_field.specs.declared.asked.Asked.TheVariants.{Granted}
 use Rattle.fs_field.specs.declared.field.Field.{Field}
 use Rattle.fs_field.specs.declared.lease_kind.LeaseKind.{LeaseKind}
 use Rattle.fs_field.specs.declared.row.Row.{Row}
-use Rattle.fs_field.specs.Conflict.{stands_against}
-use Rattle.fs_field.specs.Field.{tells_no_mode}
-use Rattle.fs_field.specs.Table.{lock_on, no_before}
-use Rattle.fs_field.proofs.Leases.{NoPlainConflict-with_row}
+use Rattle.fs_field.specs.Table.{no_before}
 use Rattle.fs_msg.specs.declared.item.Item.{Item}
-use Rattle.fs_rows.specs.Answer.{answer, answer_by, given_row}
-use Rattle.fs_server.specs.Asks.{grant_of, with_lease}
+use Rattle.fs_moderows.specs.Answer.{given_row}
+use Rattle.fs_server.specs.Asks.{answer_to, grant_of, kind_for, with_lease}
 use Rattle.fs_server.specs.Server.{next_number, end_of}
 use Rattle.fs_server.specs.declared.state.Server.{Server}
 use Rattle.fs_serial.specs.Leases.{IsRowOf, LeasesGiven, LeasesMatch}
@@ -27,20 +22,20 @@ use Rattle.fs_serial.specs.Settled.{Lease, Settled, granted, with_leases}
 use Rattle.fs_serial.specs.Sight.{IsGiven, sight_of}
 use Rattle.fs_serial.specs.World.{Ends, GoesOn}
 use Rattle.fs_serial.proofs.Going.{RowsChange, goes_leased, goes_still, reserved_none}
+use Rattle.fs_serial.proofs.Granting.{apart_granted, promises_granted, shapes_granted}
 use Rattle.fs_serial.proofs.Leased.{IsNewLease, In-put_here, row_relied}
 use Rattle.fs_serial.proofs.Relied.{relies_for}
 
-granted_none : (o : Option TxnNo) (p : Option Row) (told : Option Bool) → answer_by o p ≡ Granted told → p ≡ None
-granted_none (Some txn) p told h = absurd (cc)
-granted_none None (Some row) told h = absurd (cc)
-granted_none None None told h = refl
+module _ (by : Session) (field : Field) (asked : LeaseKind) (promise : Option Bool) (s : Server) (journal : List Item) where
+  -- the kind that the server gives
+  abbrev kind : LeaseKind
+  kind = kind_for field asked
 
-module _ (by : Session) (field : Field) (kind : LeaseKind) (s : Server) (journal : List Item) where
   abbrev t : Server
-  t = with_lease by field kind s
+  t = with_lease by field kind promise s
 
   abbrev row : Row
-  row = given_row (next_number s) by field kind (end_of s)
+  row = given_row (next_number s) by field kind (end_of s) promise
 
   -- the lease that the session is told of
   abbrev pub item_lease : Lease
@@ -49,18 +44,17 @@ module _ (by : Session) (field : Field) (kind : LeaseKind) (s : Server) (journal
   row_or : (r : Row) → In r t.rows → (r ≡ row) ⊎ In r s.rows
   row_or r i = In-put (λ x. no_before row.no x.no) r row s.rows i
 
-  pub row_granted : (skew greatest : ℕ) (clients : Session → Settled) (told : Option Bool) → tells_no_mode field ≡ true → answer s.rows by field kind ≡ Granted told
+  pub row_granted : (skew greatest : ℕ) (clients : Session → Settled) → answer_to by field kind s ≡ Granted promise
       → ((x : Session) → LeasesMatch s.rows x (clients x).leases) → RowsChange skew greatest (sight_of s journal) (sight_of t journal) clients
-  row_granted skew greatest clients told plain ok matching = record {
+  row_granted skew greatest clients ok matching = record {
     servers = λ h. record {
-      apart = NoPlainConflict-with_row row s.rows (λ x i. none_pass (stands_against by field kind) s.rows (granted_none (lock_on field s.rows) (find (stands_against by field kind) s.rows) told ok) x i) h.apart;
+      apart = apart_granted s by field asked promise ok h.apart;
+      promises = promises_granted s by field asked promise ok h.promises;
       serial = h.serial;
+      reaped = h.reaped;
     };
     kept = λ f. record {
-      off_modes = λ r i. elim (row_or r i) as (λ _. tells_no_mode r.field ≡ true) [
-        | inl e ↦ ap (λ (x : Row). tells_no_mode x.field) e ∙ plain
-        | inr j ↦ f.off_modes r j
-      ];
+      shaped = shapes_granted s by field asked promise ok f.shaped;
       given = λ r i. elim (row_or r i) as (λ _. IsGiven (sight_of t journal).given r.no) [
         | inl e ↦ let c = ap (λ (x : Row). x.no.count) e in omega arith
         | inr j ↦ let g = f.given r j in omega arith
@@ -87,10 +81,10 @@ module _ (by : Session) (field : Field) (kind : LeaseKind) (s : Server) (journal
     fresh = λ d e. absurd (cc);
   }
 
-  pub item_granted : (skew greatest : ℕ) (replied : Session → List Item) (ends : Session → Ends) (clients : Session → Settled) (told : Option Bool) → tells_no_mode field ≡ true → answer s.rows by field kind ≡ Granted told → GoesOn skew greatest (sight_of s journal) replied ends clients
+  pub item_granted : (skew greatest : ℕ) (replied : Session → List Item) (ends : Session → Ends) (clients : Session → Settled) → answer_to by field kind s ≡ Granted promise → GoesOn skew greatest (sight_of s journal) replied ends clients
       → GoesOn skew greatest (sight_of t journal) replied ends (with_client by (with_leases (item_lease ∷ []) (clients by)) clients)
-  item_granted skew greatest replied ends clients told plain ok h =
-      let change = row_granted skew greatest clients told plain ok (λ x. (h.all.fitting x).matching) in
+  item_granted skew greatest replied ends clients ok h =
+      let change = row_granted skew greatest clients ok (λ x. (h.all.fitting x).matching) in
       let new = item_new (clients by).leases h.all.kept.given (h.all.fitting by).given in
       goes_leased skew greatest (sight_of t journal) replied ends clients by item_lease new
       (λ k i leaving e. let known = (h.carried.returns by k i leaving).known in let c = ap (λ (n : LeaseNo). n.count) e in absurd (omega arith))

@@ -1,13 +1,11 @@
 -- A client gives leases back.
 use Rattle.std.proofs.Common.{◌≡◌, ℕ, ◌≤◌, Bool, true, false, List, [], ◌∷◌, ◌++◌, map, refl, sym, ap, ◌∙◌, subst, inl, inr, cond, arith}
 use Rattle.std.specs.Prelude.{Some, None, option_map, filter}
-use Rattle.std.specs.List.{list_all}
 use Rattle.fs_ident.specs.In.{In}
 use Rattle.fs_ident.specs.declared.actor.LeaseNo.{LeaseNo}
 use Rattle.fs_ident.specs.declared.actor.Session.{Session}
 use Rattle.fs_ident.proofs.Standing.{In-filter, In-map}
 use Rattle.fs_field.specs.declared.used.Use.{Use}
-use Rattle.fs_field.specs.Field.{tells_no_mode}
 use Rattle.fs_lease.specs.Lease.{Lease as Term}
 use Rattle.fs_msg.specs.declared.answer.Answer.{Answer}
 use Rattle.fs_msg.specs.declared.client_msg.ClientMsg.{ClientMsg}
@@ -147,7 +145,6 @@ module _ (skew greatest : ℕ) (s : Sight) (by : Session) (replied : List Item) 
         let q = In-map (λ (k : Kept). number_of k.standing) n ks i in
         let j : In q.0 c.view.leases = In-filter (λ (k : Kept). has_to_go k.recalled k.standing) q.0 c.view.leases q.1.0 in
         subst (IsReturned then.view.leases) (sym q.1.1) (left_all ns c.view q.0 j (subst (λ m. In m ns) q.1.1 i) (unused_returned q.0.recalled q.0.standing (goes_back q.0 q.1.0)));
-    off_modes = λ xs f i. elim i as (λ _. list_all (λ x. tells_no_mode x.0) xs ≡ true) [ inl e ↦ absurd (cc) | inr z ↦ absurd z ];
     kinds = λ xs f i x j. elim i as (λ _. kind_for x.0 x.1 ≡ x.1) [ inl e ↦ absurd (cc) | inr z ↦ absurd z ];
   }
     where

@@ -8,7 +8,6 @@ use Rattle.fs_ident.specs.declared.actor.LeaseNo.{LeaseNo}
 use Rattle.fs_ident.specs.declared.actor.Session.{Session}
 use Rattle.fs_ident.proofs.Standing.{In-filter, In-map}
 use Rattle.fs_field.specs.declared.row.Row.{Row}
-use Rattle.fs_field.specs.Field.{tells_no_mode}
 use Rattle.fs_field.specs.Table.{has_no, is_live, renewed_row, same_no}
 use Rattle.fs_field.proofs.Leases.{NoPlainConflict-filter, NoPlainConflict-map, renewed_same}
 use Rattle.fs_msg.specs.declared.item.Item.{Item}
@@ -21,6 +20,8 @@ use Rattle.fs_serial.specs.Settled.{Lease, Settled}
 use Rattle.fs_serial.specs.Sight.{Sight, IsGiven, sight_of}
 use Rattle.fs_serial.proofs.Facts.{In-mapped}
 use Rattle.fs_serial.proofs.Going.{RowsChange}
+use Rattle.fs_serial.proofs.Granting.{shapes_filtered, shapes_renewed}
+use Rattle.fs_serial.proofs.Promises.{promises_filtered, promises_renewed}
 
 pub In-kept : {X : Type 0} (test : X → Bool) (x : X) (xs : List X) → In x xs → test x ≡ true → In x (filter test xs)
 In-kept test x [] h e = absurd h
@@ -42,8 +43,8 @@ pub fewer_rows : (skew greatest : ℕ) (s : Sight) (clients : Session → Settle
     → ((x : Session) (l : Lease) → In l (clients x).leases → (r : Row) → In r s.rows → r.no ≡ l.no → greatest < r.until + skew → test r ≡ true)
     → RowsChange skew greatest s (with_rows (filter test s.rows) s) clients
 fewer_rows skew greatest s clients test stays = record {
-  servers = λ h. record { apart = NoPlainConflict-filter test s.rows h.apart; serial = h.serial };
-  kept = λ f. record { off_modes = λ r i. f.off_modes r (In-filter test r s.rows i); given = λ r i. f.given r (In-filter test r s.rows i); sound = f.sound; made = f.made };
+  servers = λ h. record { apart = NoPlainConflict-filter test s.rows h.apart; promises = promises_filtered s.records test s.rows h.promises; serial = h.serial; reaped = h.reaped };
+  kept = λ f. record { shaped = shapes_filtered test s.rows f.shaped; given = λ r i. f.given r (In-filter test r s.rows i); sound = f.sound; made = f.made };
   records = refl;
   journal = refl;
   relied = λ x. record {
@@ -107,9 +108,9 @@ ends_then n until r h =
 pub row_renewed : (skew greatest : ℕ) (s : Sight) (clients : Session → Settled) (n : LeaseNo) (until : ℕ) → RowsChange skew greatest s (with_rows (map (renewed_row n until) s.rows) s) clients
 row_renewed skew greatest s clients n until =
     record {
-      servers = λ h. record { apart = NoPlainConflict-map (renewed_row n until) (renewed_same n until) s.rows h.apart; serial = h.serial };
+      servers = λ h. record { apart = NoPlainConflict-map (renewed_row n until) (renewed_same n until) s.rows h.apart; promises = promises_renewed s.records n until s.rows h.promises; serial = h.serial; reaped = h.reaped };
       kept = λ f. record {
-        off_modes = λ r i. let q = In-map (renewed_row n until) r s.rows i in ap (λ (x : Row). tells_no_mode x.field) q.1.1 ∙ ap tells_no_mode (renewed_same n until q.0).field ∙ f.off_modes q.0 q.1.0;
+        shaped = shapes_renewed n until s.rows f.shaped;
         given = λ r i. let q = In-map (renewed_row n until) r s.rows i in subst (λ m. IsGiven s.given m) (sym (ap (λ (x : Row). x.no) q.1.1 ∙ (renewed_same n until q.0).number)) (f.given q.0 q.1.0);
         sound = f.sound;
         made = f.made;

@@ -75,7 +75,6 @@ fit_still skew greatest later_greatest given then rows new x e returns renewals 
   ships = h.ships;
   front = h.front;
   released = h.released;
-  asked = h.asked;
   kinds = h.kinds;
   returns = returns;
   renewals = renewals;
@@ -112,7 +111,6 @@ fit_recalled skew greatest given rows x n e h = record {
   ships = h.ships;
   front = subst (ShipsFront e.up) (sym (settled_recalled x n e)) h.front;
   released = h.released;
-  asked = h.asked;
   kinds = h.kinds;
   returns = subst (λ (d : Settled). ReturnsFit given rows x e.client.view.leases d.leases) (sym (settled_recalled x n e)) h.returns;
   renewals = λ ends end i number until j l k q late. elim (In-append (Renewed ends end) e.down (Recall n ∷ []) i) as (λ _. IsBacked rows number until) [
@@ -197,7 +195,6 @@ module _ (greatest : ℕ) (w : World) (t : Server) (journal : List Item) (by : S
           ships = o.ships;
           front = λ entries i. absurd i;
           released = o.released;
-          asked = λ items fresh i. absurd i;
           kinds = λ items fresh i. absurd i;
           returns = subst (λ (d : Settled). ReturnsFit (sight_of t journal).given t.rows by e.client.view.leases d.leases) (its_client by (told by a (base by)) base ∙ sym (settled-push by e.down a (settled_now e.client))) (goes.carried.returns by);
           renewals = λ ends end i number until j l k q late. elim (In-append (Renewed ends end) e.down (a ∷ []) i) as (λ _. IsBacked t.rows number until) [

@@ -1,16 +1,13 @@
 -- A client sends a question.
 use Rattle.std.proofs.Common.{◌≡◌, ℕ, Bool, true, false, List, [], ◌∷◌, ◌++◌, length, map, refl, sym, ap, ◌∙◌, subst, inl, inr, cond, arith, append-nil}
 use Rattle.std.specs.Prelude.{Option, Some, None, option_map}
-use Rattle.std.specs.List.{list_all}
 use Rattle.fs_ident.specs.In.{In}
 use Rattle.fs_ident.specs.declared.actor.LeaseNo.{LeaseNo}
 use Rattle.fs_ident.specs.declared.actor.Session.{Session}
-use Rattle.fs_ident.proofs.Passing.{In-all}
 use Rattle.fs_ident.proofs.Standing.{In-map}
 use Rattle.fs_field.specs.declared.field.Field.{Field}
 use Rattle.fs_field.specs.declared.lease_kind.LeaseKind.{LeaseKind}
 use Rattle.fs_field.specs.declared.row.Row.{Row}
-use Rattle.fs_field.specs.Field.{tells_no_mode}
 use Rattle.fs_field.specs.Table.{same_no}
 use Rattle.fs_lease.specs.Lease.{Lease as Term}
 use Rattle.fs_msg.specs.declared.answer.Answer.{Answer}
@@ -31,7 +28,7 @@ use Rattle.fs_view.specs.declared.kept.Standing.TheVariants.{Held, Pinned, Leavi
 use Rattle.fs_view.specs.Kept.{number_of, has_number, is_leaving, is_pinned, entries_of, lease_of, leaving}
 use Rattle.fs_view.specs.View.{View, with_leaving}
 use Rattle.fs_serial.specs.Client.{KeptDistinct}
-use Rattle.fs_serial.specs.Exchange.{due, IsQuestion, OneExchange, AsksFirst, ShipsLog, ShipsFront, IsFront, IsReturned, ReleasesReturned, AsksOffModes, AsksGivenKinds, ReturnsFit, RenewalsBacked, ExchangeFits}
+use Rattle.fs_serial.specs.Exchange.{due, IsQuestion, OneExchange, AsksFirst, ShipsLog, ShipsFront, IsFront, IsReturned, ReleasesReturned, AsksGivenKinds, ReturnsFit, RenewalsBacked, ExchangeFits}
 use Rattle.fs_serial.specs.Settled.{Lease, Settled, lease_in, lease_with, settled_now}
 use Rattle.fs_serial.specs.Sight.{Sight}
 use Rattle.fs_serial.proofs.Facts.{In-mapped}
@@ -48,7 +45,6 @@ pub record IsAsking (c : Client) (x : Exchange) (m : ClientMsg) (ks : List Kept)
   pub ships : ShipsLog (Some x) c.log
   pub front : ShipsFront (m ∷ []) d
   pub released : ReleasesReturned (Some x) ks
-  pub off_modes : AsksOffModes (m ∷ [])
   pub kinds : AsksGivenKinds (m ∷ [])
 
 pub asking_exchange : (skew greatest : ℕ) (given : ℕ → ℕ) (rows : List Row) (by : Session) (c d : Client) (x : Exchange) (m : ClientMsg) (up : List ClientMsg) (down : List Answer) (now seen : Settled) → d.exchange ≡ Some x → d.log ≡ c.log → up ≡ [] → due down ≡ [] → IsAsking c x m d.view.leases seen
@@ -61,7 +57,6 @@ asking_exchange skew greatest given rows by c d x m up down now seen e log none 
       ships = subst (λ o. ShipsLog o d.log) (sym e) (subst (ShipsLog (Some x)) (sym log) a.ships);
       front = subst (λ up. ShipsFront up seen) (sym only) a.front;
       released = subst (λ o. ReleasesReturned o d.view.leases) (sym e) a.released;
-      asked = subst AsksOffModes (sym only) a.off_modes;
       kinds = subst AsksGivenKinds (sym only) a.kinds;
       returns = returns;
       renewals = renewals;
@@ -81,24 +76,20 @@ seat_asking skew greatest s by replied c up down x m idle a h =
 
 -- ## A question for leases
 
--- no item is on what sessions tell of modes, and each is of the kind that is given
-abbrev pub ArePlain : List (Field × LeaseKind) → Type 0
-ArePlain items = (x : Field × LeaseKind) → In x items → (tells_no_mode x.0 ≡ true) × (kind_for x.0 x.1 ≡ x.1)
+-- each item is of the kind that is given
+abbrev pub AreOfGivenKinds : List (Field × LeaseKind) → Type 0
+AreOfGivenKinds items = (x : Field × LeaseKind) → In x items → kind_for x.0 x.1 ≡ x.1
 
-pub seat_asks : (skew greatest : ℕ) (s : Sight) (by : Session) (replied : List Item) (c : Client) (up : List ClientMsg) (down : List Answer) (items : List (Field × LeaseKind)) (fresh : Option (List ℕ)) → c.exchange ≡ None → ArePlain items → Seat skew greatest s by replied c up down
+pub seat_asks : (skew greatest : ℕ) (s : Sight) (by : Session) (replied : List Item) (c : Client) (up : List ClientMsg) (down : List Answer) (items : List (Field × LeaseKind)) (fresh : Option (List ℕ)) → c.exchange ≡ None → AreOfGivenKinds items → Seat skew greatest s by replied c up down
     → Seat skew greatest s by replied (with_exchange (Asks home_server items fresh) c) (up ++ Ask items fresh ∷ []) down
-seat_asks skew greatest s by replied c up down items fresh idle plain h = seat_asking skew greatest s by replied c up down (Asks home_server items fresh) (Ask items fresh) idle (record {
+seat_asks skew greatest s by replied c up down items fresh idle given h = seat_asking skew greatest s by replied c up down (Asks home_server items fresh) (Ask items fresh) idle (record {
   question = refl;
   first = refl;
   ships = tt;
   front = λ entries i. elim i as (λ _. IsFront entries (settled_now c)) [ inl e ↦ absurd (cc) | inr z ↦ absurd z ];
   released = tt;
-  off_modes = λ xs f i. elim i as (λ _. list_all (λ x. tells_no_mode x.0) xs ≡ true) [
-    | inl e ↦ let q : xs ≡ items = cc in subst (λ xs. list_all (λ x. tells_no_mode x.0) xs ≡ true) (sym q) (In-all (λ x. tells_no_mode x.0) items (λ x j. (plain x j).0))
-    | inr z ↦ absurd z
-  ];
   kinds = λ xs f i x j. elim i as (λ _. kind_for x.0 x.1 ≡ x.1) [
-    | inl e ↦ let q : xs ≡ items = cc in (plain x (subst (In x) q j)).1
+    | inl e ↦ let q : xs ≡ items = cc in given x (subst (In x) q j)
     | inr z ↦ absurd z
   ];
 }) h
@@ -115,7 +106,6 @@ seat_ships skew greatest s by replied c up down idle open_ h = seat_asking skew 
     | inr z ↦ absurd z
   ];
   released = tt;
-  off_modes = λ xs f i. elim i as (λ _. list_all (λ x. tells_no_mode x.0) xs ≡ true) [ inl e ↦ absurd (cc) | inr z ↦ absurd z ];
   kinds = λ xs f i x j. elim i as (λ _. kind_for x.0 x.1 ≡ x.1) [ inl e ↦ absurd (cc) | inr z ↦ absurd z ];
 }) h
 
@@ -132,7 +122,6 @@ seat_renews skew greatest s by replied c up down ks idle h = seat_asking skew gr
   ships = tt;
   front = λ entries i. elim i as (λ _. IsFront entries (settled_now c)) [ inl e ↦ absurd (cc) | inr z ↦ absurd z ];
   released = tt;
-  off_modes = λ xs f i. elim i as (λ _. list_all (λ x. tells_no_mode x.0) xs ≡ true) [ inl e ↦ absurd (cc) | inr z ↦ absurd z ];
   kinds = λ xs f i x j. elim i as (λ _. kind_for x.0 x.1 ≡ x.1) [ inl e ↦ absurd (cc) | inr z ↦ absurd z ];
 }) h
 

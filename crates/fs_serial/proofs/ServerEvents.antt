@@ -24,7 +24,7 @@ use Rattle.fs_msg.specs.declared.end.End.TheVariants as end
 use Rattle.fs_msg.specs.declared.entry.Entry.{Entry}
 use Rattle.fs_msg.specs.declared.msg.Msg.{Msg}
 use Rattle.fs_record.specs.Effects.{tells_its_effects}
-use Rattle.fs_server.specs.Asks.{answered, ask_step, asked_in, recall_of, recalls_at}
+use Rattle.fs_server.specs.Asks.{answered, asked_in, recalls_at}
 use Rattle.fs_server.specs.Pairs.{ends_told, numbers_in, released_rows, renewed_rows}
 use Rattle.fs_server.specs.Server.{Stepped, begun, end_of, strange, to_session}
 use Rattle.fs_server.specs.Ships.{ship_from, ship_step, shipped}
@@ -52,12 +52,9 @@ use Rattle.fs_serial.proofs.Seats.{settled_none}
 use Rattle.fs_serial.proofs.Sending.{IsRecallTo, asked, goes_of, world_all_recalled, world_answered}
 use Rattle.fs_serial.proofs.ShipLoop.{IsShipped, shipped_still}
 use Rattle.fs_serial.proofs.ServerSame.{asked_same, ships_same}
+use Rattle.fs_serial.proofs.ServerTurn.{recalled_at, turn_keeps}
 
 -- ## Questions for leases
-
-recalled_at : (number : LeaseNo) (o : Option Row) (m : Peer × Msg) → In m (recall_of number o) → IsRecallTo m
-recalled_at number None m i = absurd i
-recalled_at number (Some row) m i = elim i as (λ _. IsRecallTo m) [ inl e ↦ record { to = row.session; number = number; message = e } | inr z ↦ absurd z ]
 
 recalled_for : (e : End) (rows : List Row) (m : Peer × Msg) → In m (recalls_at e rows) → IsRecallTo m
 recalled_for (end.Wait blocker) rows m i = recalled_at blocker (find (has_no blocker) rows) m i
@@ -98,7 +95,7 @@ module _ (greatest : ℕ) (w : World) (by : Session) (h : WorldHolds greatest w)
   world_asked items dir up =
       let there : In (Ask items dir) (w.ends by).up = subst (λ ms. In (Ask items dir) ms) (sym up) (inl refl) in
       let a = asked_in by items dir s in
-      let right = asks.answered_right s.skew greatest w.journal w.replied w.ends base by items dir s (goes_of greatest w h) ((h.exchanges by).asked items dir there) ((h.exchanges by).kinds items dir there) in
+      let right = asks.answered_right s.skew greatest w.journal w.replied w.ends base by items dir s (goes_of greatest w h) ((h.exchanges by).kinds items dir there) in
       let same = asked_same by items dir s in
       let clock = h.clock in
       let last = same.last in
@@ -107,11 +104,6 @@ module _ (greatest : ℕ) (w : World) (by : Session) (h : WorldHolds greatest w)
       (λ ends e q. absurd (cc)) in
       subst (λ js. WorldHolds greatest (record { server = a.server; journal = js; replied = w.replied; ends = with_sent (recalls_at a.end a.server.rows) (with_answer by (Granted a.grants a.fresh a.end) (without_question by w.ends)) })) (sym (append-nil w.journal))
       (world_all_recalled greatest (record { server = a.server; journal = w.journal; replied = w.replied; ends = with_answer by (Granted a.grants a.fresh a.end) (without_question by w.ends) }) (recalls_at a.end a.server.rows) (recalled_for a.end a.server.rows) told)
-
-  asked_step : (items : List (Field × LeaseKind)) (dir : Option (List ℕ)) → (w.ends by).up ≡ Ask items dir ∷ [] → WorldHolds greatest (world_after w by (ask_step by items dir s))
-  asked_step items dir up =
-      let there : In (Ask items dir) (w.ends by).up = subst (λ ms. In (Ask items dir) ms) (sym up) (inl refl) in
-      subst (λ b. WorldHolds greatest (world_after w by (cond b (answered by (asked_in by items dir s)) (strange s)))) (sym ((h.exchanges by).asked items dir there)) (world_asked items dir up)
 
   -- ## Renewals
 
@@ -220,7 +212,7 @@ module _ (greatest : ℕ) (w : World) (by : Session) (h : WorldHolds greatest w)
   -- ## Each message
 
   pub told_message : (m : ClientMsg) → (w.ends by).up ≡ m ∷ [] → WorldHolds greatest (world_after w by (message_step by m s))
-  told_message (Ask items dir) up = asked_step items dir up
+  told_message (Ask items dir) up = world_asked items dir up
   told_message (Renew pairs) up = renewed_step pairs up
   told_message (Release pairs) up = released_step pairs up
   told_message (Ship entries) up = shipped_step entries up
@@ -238,7 +230,7 @@ one_up c (Some x) up down m i (inr a) = absurd (subst (λ ms. In m ms) a.asked i
 -- after the clock was set
 begun_step : (greatest : ℕ) (w : World) (e : ServerEvent) → IsThere e w.ends → WorldHolds greatest w → WorldHolds greatest (record { server = (event_step e w.server).server; journal = w.journal ++ (event_step e w.server).out.admitted; replied = w.replied; ends = with_sent (event_step e w.server).out.send (without_taken e w.ends) })
 begun_step greatest w (event.FromClient by m) there h = told_message greatest w by h m (one_up (w.ends by).client (w.ends by).client.exchange (w.ends by).up (w.ends by).down m there (h.exchanges by).one)
-begun_step greatest w event.Turn there h = subst (λ js. WorldHolds greatest (record { server = w.server; journal = js; replied = w.replied; ends = w.ends })) (sym (append-nil w.journal)) h
+begun_step greatest w event.Turn there h = turn_keeps greatest w h
 begun_step greatest w (event.Recall field) there h =
     subst (λ js. WorldHolds greatest (record { server = w.server; journal = js; replied = w.replied; ends = with_sent (event_step (event.Recall field) w.server).out.send w.ends })) (sym (append-nil w.journal))
     (world_all_recalled greatest w (event_step (event.Recall field) w.server).out.send (all_recalls (unlocked_on field w.server.rows)) h)

@@ -7,7 +7,6 @@ use Rattle.fs_field.specs.declared.asked.Asked.{Asked}
 use Rattle.fs_field.specs.declared.asked.Asked.TheVariants as asked_as
 use Rattle.fs_field.specs.declared.field.Field.{Field}
 use Rattle.fs_field.specs.declared.lease_kind.LeaseKind.{LeaseKind}
-use Rattle.fs_field.specs.Field.{tells_no_mode}
 use Rattle.fs_field.specs.Table.{borne_numbers}
 use Rattle.fs_msg.specs.declared.answer.Grant.{Grant}
 use Rattle.fs_msg.specs.declared.client_msg.ClientMsg.{ClientMsg}
@@ -18,8 +17,7 @@ use Rattle.fs_msg.specs.declared.entry.Entry.{Entry}
 use Rattle.fs_msg.specs.declared.item.Item.{Item}
 use Rattle.fs_record.specs.Effects.{tells_its_effects}
 use Rattle.fs_record.specs.Fresh.{fresh_number, is_directory}
-use Rattle.fs_rows.specs.Answer.{answer}
-use Rattle.fs_server.specs.Asks.{Asking, answered, ask_from, ask_fresh, asked_in, fresh_for, fresh_in, fresh_of, grant_of, kind_for, with_lease}
+use Rattle.fs_server.specs.Asks.{Asking, answer_to, ask_from, ask_fresh, asked_in, fresh_for, fresh_in, fresh_of, grant_of, kind_for, with_lease}
 use Rattle.fs_server.specs.Server.{strange}
 use Rattle.fs_server.specs.Ships.{Shipping, first_gone, item_of, ship_from, shipped, with_entry}
 use Rattle.fs_server.specs.Step.{event_step, message_step}
@@ -27,6 +25,7 @@ use Rattle.fs_server.specs.declared.event.ServerEvent.{ServerEvent}
 use Rattle.fs_server.specs.declared.event.ServerEvent.TheVariants.{FromClient, Turn, Recall}
 use Rattle.fs_server.specs.declared.state.Server.{Server}
 use Rattle.fs_field.specs.declared.used.Use.{Use}
+use Rattle.fs_serial.proofs.ServerTurn.{turn_leaves}
 
 -- ## What a question leaves
 
@@ -43,13 +42,13 @@ asks_same by [] s grants = as_it_was s
 asks_same by (x ∷ xs) s grants =
     let field = x.0 in
     let kind = kind_for x.0 x.1 in
-    elim (answer s.rows by field kind) as (λ (q : Asked). IsAsBefore s
+    elim (answer_to by field kind s) as (λ (q : Asked). IsAsBefore s
     (elim q as (λ _. Asking) [
-      | asked_as.Granted value ↦ ask_from by xs (with_lease by field kind s) (grants ++ grant_of by field kind s ∷ [])
+      | asked_as.Granted promise ↦ ask_from by xs (with_lease by field kind promise s) (grants ++ grant_of by field kind s ∷ [])
       | asked_as.Wait blocker ↦ record { server = s; grants = grants; fresh = None; end = end.Wait blocker }
       | asked_as.Locked txn ↦ record { server = s; grants = grants; fresh = None; end = end.Locked txn }
     ]).server) [
-      | asked_as.Granted value ↦ let q = asks_same by xs (with_lease by field kind s) (grants ++ grant_of by field kind s ∷ []) in record { skew = q.skew; last = q.last }
+      | asked_as.Granted promise ↦ let q = asks_same by xs (with_lease by field kind promise s) (grants ++ grant_of by field kind s ∷ []) in record { skew = q.skew; last = q.last }
       | asked_as.Wait blocker ↦ as_it_was s
       | asked_as.Locked txn ↦ as_it_was s
     ]
@@ -92,10 +91,7 @@ ships_same by (e ∷ es) s admitted =
 -- ## Each event
 
 message_same : (by : Session) (m : ClientMsg) (s : Server) → IsAsBefore s (message_step by m s).server
-message_same by (Ask items dir) s = elim (list_all (λ x. tells_no_mode x.0) items) as (λ b. IsAsBefore s (cond b (answered by (asked_in by items dir s)) (strange s)).server) [
-  | true ↦ asked_same by items dir s
-  | false ↦ as_it_was s
-]
+message_same by (Ask items dir) s = asked_same by items dir s
 message_same by (Renew pairs) s = record { skew = refl; last = refl }
 message_same by (Release pairs) s = record { skew = refl; last = refl }
 message_same by (Ship entries) s = elim (list_all (λ (e : Entry). tells_its_effects e.op) entries) as (λ b. IsAsBefore s (cond b (shipped by (ship_from by entries s [])) (strange s)).server) [
@@ -105,5 +101,5 @@ message_same by (Ship entries) s = elim (list_all (λ (e : Entry). tells_its_eff
 
 pub event_same : (e : ServerEvent) (s : Server) → IsAsBefore s (event_step e s).server
 event_same (FromClient by m) s = message_same by m s
-event_same Turn s = as_it_was s
+event_same Turn s = let q = turn_leaves s in record { skew = q.skew; last = q.last }
 event_same (Recall field) s = as_it_was s

@@ -1,12 +1,10 @@
 -- Parts about messages on their way between a client and its server.
 use Rattle.std.specs.Prelude.{◌≡◌, ◌≢◌, ℕ, ◌+◌, ◌<◌, ◌≤◌, Bool, true, false, not, List, [], ◌∷◌, ◌++◌, length, filter, Option, Some, None, ◌⊎◌}
-use Rattle.std.specs.List.{list_all}
 use Rattle.fs_ident.specs.In.{In}
 use Rattle.fs_ident.specs.declared.actor.LeaseNo.{LeaseNo}
 use Rattle.fs_ident.specs.declared.actor.Session.{Session}
 use Rattle.fs_field.specs.declared.field.Field.{Field}
 use Rattle.fs_field.specs.declared.lease_kind.LeaseKind.{LeaseKind}
-use Rattle.fs_field.specs.Field.{tells_no_mode}
 use Rattle.fs_field.specs.declared.row.Row.{Row}
 use Rattle.fs_msg.specs.declared.answer.Answer.{Answer}
 use Rattle.fs_msg.specs.declared.answer.Answer.TheVariants.{Recall, Renewed, Shipped}
@@ -105,11 +103,8 @@ abbrev pub ReleasesReturned : Option Exchange → List Kept → Type 0
 ReleasesReturned (Some (Releases to numbers)) leases = (n : LeaseNo) → In n numbers → IsReturned leases n
 ReleasesReturned x leases = Unit {0}
 
--- no lease is asked for on what sessions tell of modes
-abbrev pub AsksOffModes : List ClientMsg → Type 0
-AsksOffModes up = (items : List (Field × LeaseKind)) (fresh : Option (List ℕ)) → In (Ask items fresh) up → list_all (λ x. tells_no_mode x.0) items ≡ true
-
--- a lease is asked for of the kind that the server gives: on a session's handles an exclusive one
+-- a lease is asked for of the kind that the server gives: on a session's handles and on what it tells of a mode an
+-- exclusive one, on what others tell a shared one
 abbrev pub AsksGivenKinds : List ClientMsg → Type 0
 AsksGivenKinds up = (items : List (Field × LeaseKind)) (fresh : Option (List ℕ)) → In (Ask items fresh) up → (x : Field × LeaseKind) → In x items → kind_for x.0 x.1 ≡ x.1
 
@@ -139,7 +134,6 @@ pub record ExchangeFits (skew greatest : ℕ) (given : ℕ → ℕ) (rows : List
   pub ships : ShipsLog c.exchange c.log
   pub front : ShipsFront up d
   pub released : ReleasesReturned c.exchange c.view.leases
-  pub asked : AsksOffModes up
   pub kinds : AsksGivenKinds up
   pub returns : ReturnsFit given rows by c.view.leases d.leases
   pub renewals : RenewalsBacked skew greatest rows down now.leases

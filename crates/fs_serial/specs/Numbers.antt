@@ -2,7 +2,7 @@
 use Rattle.std.specs.Prelude.{◌≡◌, ℕ, ◌+◌, Bool, false, ◌==◌, List, [], ◌∷◌, ◌++◌, map, filter}
 use Rattle.fs_ident.specs.declared.actor.Session.{Session}
 use Rattle.fs_ident.specs.declared.actor.Peer.{Peer}
-use Rattle.fs_ident.specs.declared.actor.Peer.TheVariants.{Client}
+use Rattle.fs_ident.specs.declared.actor.Peer.TheVariants.{Client, Server}
 use Rattle.fs_msg.specs.declared.entry.Entry.{Entry}
 use Rattle.fs_msg.specs.declared.item.Item.{Item}
 use Rattle.fs_server.specs.Ships.{item_of}
@@ -31,3 +31,17 @@ NumbersInOrder by journal log next = AreNumbered 1 (all_items by journal log) ne
 -- what the session was told is in the journal, in order, and what is not there yet is in its log
 abbrev pub RepliesKept : Session → List Item → List Entry → List Item → Type 0
 RepliesKept by journal log replied = all_items by journal log ≡ replied
+
+-- ## The reaps of servers
+
+abbrev pub is_server : ℕ → Peer → Bool
+is_server k (Server j) = j == k
+is_server k p = false
+
+-- the server's items of the journal
+abbrev pub items_at : ℕ → List Item → List Item
+items_at k journal = filter (λ (i : Item). is_server k i.by) journal
+
+-- the numbers of each server's reaps are 1, 2 and so on, without a gap
+abbrev pub ReapsInOrder : (ℕ → ℕ) → List Item → Type 0
+ReapsInOrder reaps journal = (k : ℕ) → AreNumbered 1 (items_at k journal) (reaps k + 1)

@@ -5,9 +5,9 @@ use Rattle.fs_msg.specs.declared.item.Item.{Item}
 use Rattle.fs_record.specs.ValueOf.{value_of}
 use Rattle.fs_serial.specs.Fresh.{NodesMade, FreshReserved, reserved_by}
 use Rattle.fs_serial.specs.Leases.{LeasesBacked, LeasesTrue, LeasesGiven, LeasesDistinct, LeasesMatch, FreshLeases}
-use Rattle.fs_serial.specs.Numbers.{NumbersInOrder, RepliesKept}
+use Rattle.fs_serial.specs.Numbers.{NumbersInOrder, ReapsInOrder, RepliesKept}
 use Rattle.fs_serial.specs.Pending.{PendingStand, UsesHeld, UsesBacked, AreEntries, NamedOnce, RefusedGone}
-use Rattle.fs_serial.specs.Rows.{NoRowsConflict, RowsOffModes, RowsGiven}
+use Rattle.fs_serial.specs.Rows.{NoRowsConflict, PromisesKept, RowsShaped, RowsGiven}
 use Rattle.fs_serial.specs.Serial.{JournalSerial, AreSound}
 use Rattle.fs_serial.specs.Settled.{Settled}
 use Rattle.fs_serial.specs.Sight.{Sight}
@@ -17,11 +17,13 @@ use Rattle.fs_serial.specs.Sight.{Sight}
 -- what is promised
 pub record ServersHold (s : Sight) : Type 0 where
   pub apart : NoRowsConflict s.rows
+  pub promises : PromisesKept s.records s.rows
   pub serial : JournalSerial s.journal s.records
+  pub reaped : ReapsInOrder s.reaps s.journal
 
 -- and what keeps it so
 pub record ServersFit (s : Sight) : Type 0 where
-  pub off_modes : RowsOffModes s.rows
+  pub shaped : RowsShaped s.rows
   pub given : RowsGiven s.given s.rows
   pub sound : AreSound s.records
   pub made : NodesMade s.records s.journal

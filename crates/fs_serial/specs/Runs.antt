@@ -5,7 +5,7 @@ use Rattle.fs_model.specs.Sound.{IsSound}
 use Rattle.fs_msg.specs.declared.item.Item.{Item}
 use Rattle.fs_record.specs.Records.{nodes_of}
 use Rattle.fs_server.specs.declared.event.ServerEvent.{ServerEvent}
-use Rattle.fs_serial.specs.Numbers.{AreNumbered, items_by}
+use Rattle.fs_serial.specs.Numbers.{AreNumbered, items_at, items_by}
 use Rattle.fs_serial.specs.Serial.{JournalSerial}
 use Rattle.fs_serial.specs.World.{World, ClientEvent, CanCome, IsThere, after_client, after_server}
 
@@ -51,4 +51,5 @@ pub record IsOneSerialRun (w : World) : Type 0 where
   pub serial : JournalSerial w.journal w.server.records
   pub sound : IsSound (nodes_of w.server.records)
   pub numbered : (x : Session) → AreNumbered 1 (items_by x w.journal) (1 + length (items_by x w.journal))
+  pub reaped : (k : ℕ) → AreNumbered 1 (items_at k w.journal) (1 + length (items_at k w.journal))
   pub told : (x : Session) → IsFrontOf (items_by x w.journal) (w.replied x)

@@ -1,12 +1,13 @@
 -- The server, and for each session its client with what is on its way between the two.
-use Rattle.std.specs.Prelude.{◌≡◌, ℕ, ◌≤◌, ◌==◌, Bool, true, false, List, [], ◌∷◌, ◌++◌, Option, Some, None, option_map, if◌then◌else◌}
+use Rattle.std.specs.Prelude.{◌≡◌, ℕ, ◌≤◌, ◌==◌, ◌&&◌, Bool, true, List, [], ◌∷◌, ◌++◌, Option, Some, None, option_map, if◌then◌else◌}
 use Rattle.fs_ident.specs.In.{In}
 use Rattle.fs_ident.specs.declared.actor.LeaseNo.{LeaseNo}
 use Rattle.fs_ident.specs.declared.actor.Peer.{Peer}
 use Rattle.fs_ident.specs.declared.actor.Peer.TheVariants.{Client as OfSession}
 use Rattle.fs_ident.specs.declared.actor.Session.{Session}
 use Rattle.fs_model.specs.declared.op.Op.{Op}
-use Rattle.fs_model.specs.declared.op.Op.TheVariants as op
+use Rattle.fs_model.specs.Asking.{may_ask}
+use Rattle.fs_record.specs.Effects.{tells_its_effects}
 use Rattle.fs_msg.specs.declared.answer.Answer.{Answer}
 use Rattle.fs_msg.specs.declared.client_msg.ClientMsg.{ClientMsg}
 use Rattle.fs_msg.specs.declared.item.Item.{Item}
@@ -160,14 +161,9 @@ after_client by now (Does o) w = after_plan by (w.ends by).down (act_plan (w.end
 after_client by now Turns w = after_plan by (w.ends by).down (turn_plan (w.ends by).client now) w
 after_client by now (Hears a rest) w = after_plan by rest (answer_plan (w.ends by).client now 0 a) w
 
--- a caller asks for no open, close or set yet, nor for a delete or a rename
+-- a caller may ask for it, and it is no delete or rename, for which no caller asks yet
 abbrev pub is_called : Op → Bool
-is_called (op.Lookup dir name) = true
-is_called (op.List dir) = true
-is_called (op.Kind file) = true
-is_called (op.Info file) = true
-is_called (op.Create dir name kind None) = true
-is_called o = false
+is_called o = tells_its_effects o && may_ask o
 
 -- the event can come
 abbrev pub CanCome : Session → ClientEvent → (Session → Ends) → Type 0

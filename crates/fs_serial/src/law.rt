@@ -1,9 +1,15 @@
 //! Laws of the kinds of step: where all parts hold before it, all parts hold after it.
-ghost use Rattle.std.specs.Prelude.{◌≡◌, ◌≤◌, ◌+◌, ℕ, max, true, List, [], ◌∷◌, ◌++◌};
+ghost use Rattle.std.specs.Prelude.{◌≡◌, ◌≤◌, ◌+◌, ℕ, max, Bool, true, false, List, [], ◌∷◌, ◌++◌, Some, None};
 ghost use Rattle.std.specs.List.{list_all};
 ghost use Rattle.fs_ident.specs.In.{In};
 ghost use Rattle.fs_ident.specs.declared.actor.Session.{Session};
+ghost use Rattle.fs_field.specs.Conflict.{NoConflict};
+ghost use Rattle.fs_field.specs.declared.field.Field.TheVariants.{Other};
+ghost use Rattle.fs_field.specs.declared.row.Row.{Row};
 ghost use Rattle.fs_field.specs.declared.used.Use.{Use};
+ghost use Rattle.fs_field.specs.declared.value.Value.TheVariants as value;
+ghost use Rattle.fs_moderows.specs.Answer.{reap_blocker};
+ghost use Rattle.fs_modes.specs.declared.modes.Mode.{Mode};
 ghost use Rattle.fs_client.specs.Acts.{entry_of, replies};
 ghost use Rattle.fs_client.specs.Client.{changed};
 ghost use Rattle.fs_client.specs.declared.state.Client.{Client};
@@ -14,6 +20,8 @@ ghost use Rattle.fs_msg.specs.declared.client_msg.ClientMsg.TheVariants.{Ship};
 ghost use Rattle.fs_msg.specs.declared.entry.Entry.{Entry};
 ghost use Rattle.fs_msg.specs.declared.item.Item.{Item};
 ghost use Rattle.fs_record.specs.Effects.{tells_its_effects};
+ghost use Rattle.fs_record.specs.ValueOf.{selves_in, value_of};
+ghost use Rattle.fs_server.specs.Reaps.{has_own, reap_item, with_reap};
 ghost use Rattle.fs_server.specs.Ships.{first_gone, item_of, with_entry};
 ghost use Rattle.fs_server.specs.Server.{begun};
 ghost use Rattle.fs_server.specs.Step.{step};
@@ -22,7 +30,7 @@ ghost use Rattle.fs_server.specs.declared.event.ServerEvent.TheVariants.{FromCli
 ghost use Rattle.fs_server.specs.declared.state.Server.{Server};
 ghost use Rattle.fs_serial.specs.Client.{ClientFits};
 ghost use Rattle.fs_serial.specs.Laws.{GiftIsRelied, GiftIsTold, GiftKeepsParts, GiftReturnsNone};
-ghost use Rattle.fs_serial.specs.Parts.{AllHold, SessionFits, with_client, with_replies};
+ghost use Rattle.fs_serial.specs.Parts.{AllHold, ServersFit, ServersHold, SessionFits, with_client, with_replies};
 ghost use Rattle.fs_serial.specs.Settled.{Settled, acknowledged, settled, settled_now};
 ghost use Rattle.fs_serial.specs.Runs.{Dated, IsOneSerialRun, IsRun, greatest_in, run};
 ghost use Rattle.fs_serial.specs.Sight.{Sight, sight_of};
@@ -48,6 +56,30 @@ pub fn an_admitted_entry_keeps_the_parts()
         AllHold skew greatest
         (sight_of (with_entry by e s) (journal ++ item_of by e ∷ [])) replied
         (with_client by (acknowledged by (clients by).log (clients by)) clients) }
+{}
+
+/// A session that let go of the lease on its handles on a file, and that no row keeps from it, loses these handles. The reap
+/// joins the journal with the server's next number.
+pub fn a_reap_keeps_the_parts()
+    ensures { (skew greatest : ℕ) (s : Server) (journal : List Item)
+        (replied : Session → List Item) (clients : Session → Settled) (file : List ℕ)
+        (by : Session) → AllHold skew greatest (sight_of s journal) replied clients →
+        has_own s.rows file by ≡ false →
+        reap_blocker (selves_in s.records file) s.rows by file ≡ None →
+        AllHold skew greatest (sight_of (with_reap file by s)
+        (journal ++ reap_item s.me (s.reaps + 1) file by ∷ [])) replied clients }
+{}
+
+/// No two rows of the servers conflict, in any of the ways in which rows can.
+pub fn rows_are_without_conflict()
+    ensures { (s : Sight) → ServersHold s → ServersFit s → NoConflict (selves_in s.records) s.rows }
+{}
+
+/// What a session was told of the others' modes is what they have, as long as its row stands.
+pub fn what_was_promised_is_so()
+    ensures { (s : Sight) → ServersHold s → (r : Row) → In r s.rows → (f : List ℕ) (m : Mode)
+        (promise : Bool) → r.field ≡ Other f m → r.promise ≡ Some promise →
+        value_of s.records r.session r.field ≡ value.Other promise }
 {}
 
 /// A client that knows the reply to a plain operation answers it, and the entry joins its log, whatever is on its way

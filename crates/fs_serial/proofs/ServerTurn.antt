@@ -1,0 +1,146 @@
+-- A turn of the server: sessions that let go of the lease on their handles lose these, or a lease in the way is asked back.
+use Rattle.std.proofs.Common.{◌≡◌, ℕ, ◌+◌, not, Bool, true, false, List, [], ◌∷◌, ◌++◌, refl, sym, ap, ◌∙◌, subst, cond, append_assoc, append-nil, inl, inr, arith}
+use Rattle.std.specs.Prelude.{Option, Some, None}
+use Rattle.std.specs.List.{filter, find}
+use Rattle.std.specs.FinMap.{keys}
+use Rattle.fs_ident.specs.In.{In}
+use Rattle.fs_ident.specs.declared.actor.LeaseNo.{LeaseNo}
+use Rattle.fs_ident.specs.declared.actor.Peer.{Peer}
+use Rattle.fs_ident.specs.declared.actor.Session.{Session}
+use Rattle.fs_ident.proofs.Standing.{In-map}
+use Rattle.fs_field.specs.declared.row.Row.{Row}
+use Rattle.fs_field.specs.Table.{has_no}
+use Rattle.fs_modes.specs.declared.modes.Modes.{Modes}
+use Rattle.fs_moderows.specs.Answer.{reap_blocker}
+use Rattle.fs_moderows.proofs.Witnesses.{not_true}
+use Rattle.fs_msg.specs.declared.item.Item.{Item}
+use Rattle.fs_msg.specs.declared.msg.Msg.{Msg}
+use Rattle.fs_record.specs.ValueOf.{selves_in}
+use Rattle.fs_server.specs.Asks.{recall_of}
+use Rattle.fs_server.specs.Reaps.{Reaping, has_own, lapsed_among, lapsed_in, lapsed_on, reap_from, reap_item, recalls_for, turn_over, turn_step, with_blocker, with_reap}
+use Rattle.fs_server.specs.Server.{Stepped}
+use Rattle.fs_server.specs.declared.state.Server.{Server}
+use Rattle.fs_serial.specs.Settled.{Settled}
+use Rattle.fs_serial.specs.Sight.{Sight, sight_of}
+use Rattle.fs_serial.specs.World.{Ends, GoesOn, World, WorldHolds, settled_at, with_sent}
+use Rattle.fs_serial.proofs.Facts.{In-append}
+use Rattle.fs_serial.proofs.Going.{carried_still}
+use Rattle.fs_serial.proofs.Reaping.{reap_keeps, reap_relied}
+use Rattle.fs_serial.proofs.Relied.{relies_for}
+use Rattle.fs_serial.proofs.Sending.{IsRecallTo, goes_of, world_all_recalled, world_still}
+
+-- ## Who let go
+
+-- each of these sessions has no row on its handles on the file beside it
+abbrev pub HaveLetGo : List Row → List (List ℕ × Session) → Type 0
+HaveLetGo rows xs = (x : List ℕ × Session) → In x xs → has_own rows x.0 x.1 ≡ false
+
+passes : {X : Type 0} (test : X → Bool) (x : X) (ys : List X) → In x (filter test ys) → test x ≡ true
+passes test x [] h = absurd h
+passes test x (y ∷ ys) h =
+    elim (test y) as (λ b. test y ≡ b → In x (cond b (y ∷ filter test ys) (filter test ys)) → test x ≡ true) [
+      | true ↦ λ t i. elim i [ inl e ↦ ap test e ∙ t | inr j ↦ passes test x ys j ]
+      | false ↦ λ t i. passes test x ys i
+    ] refl h
+
+gone_on : (s : Server) (file : List ℕ) → HaveLetGo s.rows (lapsed_on s file)
+gone_on s file x i =
+    let q = In-map (λ (e : Session × Modes). (file, e.0)) x (filter (λ (e : Session × Modes). not (has_own s.rows file e.0)) (selves_in s.records file)) i in
+    ap (λ (p : List ℕ × Session). has_own s.rows p.0 p.1) q.1.1
+    ∙ not_true (has_own s.rows file q.0.0) (passes (λ (e : Session × Modes). not (has_own s.rows file e.0)) q.0 (selves_in s.records file) q.1.0)
+
+gone_among : (s : Server) (files : List (List ℕ)) → HaveLetGo s.rows (lapsed_among s files)
+gone_among s [] x i = absurd i
+gone_among s (f ∷ fs) x i = elim (In-append x (lapsed_on s f) (lapsed_among s fs) i) as (λ _. has_own s.rows x.0 x.1 ≡ false) [ inl j ↦ gone_on s f x j | inr j ↦ gone_among s fs x j ]
+
+-- ## One reap
+
+-- all that holds while the server takes its steps
+pub goes_reaped : (skew greatest : ℕ) (s : Server) (journal : List Item) (replied : Session → List Item) (ends : Session → Ends) (clients : Session → Settled) (file : List ℕ) (by : Session) → has_own s.rows file by ≡ false → reap_blocker (selves_in s.records file) s.rows by file ≡ None
+    → GoesOn skew greatest (sight_of s journal) replied ends clients → GoesOn skew greatest (sight_of (with_reap file by s) (journal ++ reap_item s.me (s.reaps + 1) file by ∷ [])) replied ends clients
+goes_reaped skew greatest s journal replied ends clients file by gone free h =
+    let after : Sight = sight_of (with_reap file by s) (journal ++ reap_item s.me (s.reaps + 1) file by ∷ []) in
+    record {
+      all = reap_keeps skew greatest s journal replied clients file by h.all gone free;
+      carried = carried_still skew greatest (sight_of s journal) after ends clients
+          (λ x. relies_for skew greatest x (sight_of s journal) after (clients x).leases (h.all.fitting x).matching (reap_relied skew greatest s journal file by h.all.servers h.all.kept gone free x)) h.all.fitting h.carried;
+    }
+
+-- ## All of them
+
+-- the clock, the skew and the rows stay
+pub record IsReaped (s t : Server) : Type 0 where
+  pub skew : t.skew ≡ s.skew
+  pub last : t.last ≡ s.last
+  pub rows : t.rows ≡ s.rows
+
+pub reaps_leave : (xs : List (List ℕ × Session)) (s : Server) (admitted : List Item) (blockers : List LeaseNo) → IsReaped s (reap_from xs s admitted blockers).server
+reaps_leave [] s admitted blockers = record { skew = refl; last = refl; rows = refl }
+reaps_leave (x ∷ xs) s admitted blockers =
+    elim (reap_blocker (selves_in s.records x.0) s.rows x.1 x.0) as (λ (o : Option LeaseNo). IsReaped s
+    (elim o as (λ _. Reaping) [
+      | None ↦ reap_from xs (with_reap x.0 x.1 s) (admitted ++ reap_item s.me (s.reaps + 1) x.0 x.1 ∷ []) blockers
+      | Some number ↦ reap_from xs s admitted (with_blocker number blockers)
+    ]).server) [
+      | None ↦ let q = reaps_leave xs (with_reap x.0 x.1 s) (admitted ++ reap_item s.me (s.reaps + 1) x.0 x.1 ∷ []) blockers in record { skew = q.skew; last = q.last; rows = q.rows }
+      | Some number ↦ reaps_leave xs s admitted (with_blocker number blockers)
+    ]
+
+module _ (skew greatest : ℕ) (journal : List Item) (replied : Session → List Item) (ends : Session → Ends) (clients : Session → Settled) where
+  pub goes_all : (xs : List (List ℕ × Session)) (s : Server) (admitted : List Item) (blockers : List LeaseNo) → HaveLetGo s.rows xs → GoesOn skew greatest (sight_of s (journal ++ admitted)) replied ends clients
+      → GoesOn skew greatest (sight_of (reap_from xs s admitted blockers).server (journal ++ (reap_from xs s admitted blockers).admitted)) replied ends clients
+  goes_all [] s admitted blockers gone h = h
+  goes_all (x ∷ xs) s admitted blockers gone h =
+      let item : Item = reap_item s.me (s.reaps + 1) x.0 x.1 in
+      elim (reap_blocker (selves_in s.records x.0) s.rows x.1 x.0) as (λ (o : Option LeaseNo). reap_blocker (selves_in s.records x.0) s.rows x.1 x.0 ≡ o →
+      let r : Reaping =
+      elim o as (λ _. Reaping) [
+        | None ↦ reap_from xs (with_reap x.0 x.1 s) (admitted ++ item ∷ []) blockers
+        | Some number ↦ reap_from xs s admitted (with_blocker number blockers)
+      ] in
+      GoesOn skew greatest (sight_of r.server (journal ++ r.admitted)) replied ends clients) [
+        | None ↦ λ free. goes_all xs (with_reap x.0 x.1 s) (admitted ++ item ∷ []) blockers (λ y i. gone y (inr i))
+            (subst (λ js. GoesOn skew greatest (sight_of (with_reap x.0 x.1 s) js) replied ends clients) (append_assoc journal admitted (item ∷ []))
+            (goes_reaped skew greatest s (journal ++ admitted) replied ends clients x.0 x.1 (gone x (inl refl)) free h))
+        | Some number ↦ λ held. goes_all xs s admitted (with_blocker number blockers) (λ y i. gone y (inr i)) h
+      ] refl
+
+turn_over_leaves : (xs : List (List ℕ × Session)) (s : Server) → IsReaped s (turn_over xs s).server
+turn_over_leaves [] s = record { skew = refl; last = refl; rows = refl }
+turn_over_leaves (x ∷ xs) s = reaps_leave (x ∷ xs) s [] []
+
+pub turn_leaves : (s : Server) → IsReaped s (turn_step s).server
+turn_leaves s = turn_over_leaves (lapsed_in s) s
+
+-- ## Leases in the way
+
+-- the lease is asked back from the session of its row, where it has one
+pub recalled_at : (number : LeaseNo) (o : Option Row) (m : Peer × Msg) → In m (recall_of number o) → IsRecallTo m
+recalled_at number None m i = absurd i
+recalled_at number (Some row) m i = elim i as (λ _. IsRecallTo m) [ inl e ↦ record { to = row.session; number = number; message = e } | inr z ↦ absurd z ]
+
+recalled_each : (rows : List Row) (ns : List LeaseNo) (m : Peer × Msg) → In m (recalls_for rows ns) → IsRecallTo m
+recalled_each rows [] m i = absurd i
+recalled_each rows (n ∷ ns) m i = elim (In-append m (recall_of n (find (has_no n) rows)) (recalls_for rows ns) i) as (λ _. IsRecallTo m) [ inl j ↦ recalled_at n (find (has_no n) rows) m j | inr j ↦ recalled_each rows ns m j ]
+
+-- ## The turn
+
+-- the world after a step of its server that takes no question
+abbrev pub world_stepped : World → Stepped → World
+world_stepped w st = record { server = st.server; journal = w.journal ++ st.out.admitted; replied = w.replied; ends = with_sent st.out.send w.ends }
+
+turn_over_keeps : (greatest : ℕ) (w : World) (xs : List (List ℕ × Session)) → HaveLetGo w.server.rows xs → WorldHolds greatest w → WorldHolds greatest (world_stepped w (turn_over xs w.server))
+turn_over_keeps greatest w [] gone h = subst (λ js. WorldHolds greatest (record { server = w.server; journal = js; replied = w.replied; ends = w.ends })) (sym (append-nil w.journal)) h
+turn_over_keeps greatest w (x ∷ xs) gone h =
+    let r : Reaping = reap_from (x ∷ xs) w.server [] [] in
+    let same : IsReaped w.server r.server = reaps_leave (x ∷ xs) w.server [] [] in
+    let clients : Session → Settled = λ y. settled_at y (w.ends y) in
+    let clock = h.clock in
+    let last = same.last in
+    let start : GoesOn w.server.skew greatest (sight_of w.server (w.journal ++ [])) w.replied w.ends clients =
+    subst (λ js. GoesOn w.server.skew greatest (sight_of w.server js) w.replied w.ends clients) (sym (append-nil w.journal)) (goes_of greatest w h) in
+    world_all_recalled greatest (record { server = r.server; journal = w.journal ++ r.admitted; replied = w.replied; ends = w.ends }) (recalls_for r.server.rows r.blockers) (recalled_each r.server.rows r.blockers)
+    (world_still greatest w r.server (w.journal ++ r.admitted) same.skew (omega arith) (goes_all w.server.skew greatest w.journal w.replied w.ends clients (x ∷ xs) w.server [] [] gone start) h)
+
+pub turn_keeps : (greatest : ℕ) (w : World) → WorldHolds greatest w → WorldHolds greatest (world_stepped w (turn_step w.server))
+turn_keeps greatest w h = turn_over_keeps greatest w (lapsed_in w.server) (gone_among w.server (keys w.server.records)) h
