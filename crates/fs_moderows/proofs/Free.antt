@@ -73,15 +73,20 @@ free_goes selves rows free a b i j d =
     let q = neither (mode_meets selves rows a.session a.field a.promise b.session b.field) (mode_meets selves rows b.session b.field b.promise a.session a.field) (second_fails (not (a.session.0 == b.session.0)) (mode_meets selves rows a.session a.field a.promise b.session b.field || mode_meets selves rows b.session b.field b.promise a.session a.field) (ap not d) p.1) in
     goes selves rows a.session a.field a.promise b.session b.field q.0
 
+-- two rows that go together both ways do not conflict over a mode
+pub goes_apart : (selves : Selves) (rows : List Row) (a b : Row) → ((a.session.0 == b.session.0) ≡ false → Goes selves rows a.session a.field a.promise b.session b.field) → ((b.session.0 == a.session.0) ≡ false → Goes selves rows b.session b.field b.promise a.session a.field) → mode_conflict selves rows a b ≡ false
+goes_apart selves rows a b k l =
+    not_both (not (a.session.0 == b.session.0)) (mode_meets selves rows a.session a.field a.promise b.session b.field || mode_meets selves rows b.session b.field b.promise a.session a.field) (λ d.
+    let apart : (a.session.0 == b.session.0) ≡ false = not_true (a.session.0 == b.session.0) d in
+    neither_holds (mode_meets selves rows a.session a.field a.promise b.session b.field) (mode_meets selves rows b.session b.field b.promise a.session a.field)
+    (meets_not selves rows a.session a.field a.promise b.session b.field (k apart))
+    (meets_not selves rows b.session b.field b.promise a.session a.field (l (nat_eq_equiv.symm b.session.0 a.session.0 ∙ apart))))
+
 pub goes_free : (selves : Selves) (rows : List Row) → AreOfModes rows → ((a b : Row) → In a rows → In b rows → (a.session.0 == b.session.0) ≡ false → Goes selves rows a.session a.field a.promise b.session b.field) → NoConflict selves rows
 goes_free selves rows shape k a b i j =
     neither_holds (plain_conflict a b) (mode_conflict selves rows a b)
     (not_both (not (a.session.0 == b.session.0)) (meets a.field a.kind b.field b.kind) (λ d. meets_never a.field a.kind a.promise b.field b.kind (shape a i)))
-    (not_both (not (a.session.0 == b.session.0)) (mode_meets selves rows a.session a.field a.promise b.session b.field || mode_meets selves rows b.session b.field b.promise a.session a.field) (λ d.
-    let apart : (a.session.0 == b.session.0) ≡ false = not_true (a.session.0 == b.session.0) d in
-    neither_holds (mode_meets selves rows a.session a.field a.promise b.session b.field) (mode_meets selves rows b.session b.field b.promise a.session a.field)
-    (meets_not selves rows a.session a.field a.promise b.session b.field (k a b i j apart))
-    (meets_not selves rows b.session b.field b.promise a.session a.field (k b a j i (nat_eq_equiv.symm b.session.0 a.session.0 ∙ apart)))))
+    (goes_apart selves rows a b (k a b i j) (k b a j i))
 
 -- rows that go, and rows that tell the same, are no harm
 pub fewer_free : (selves : Selves) (new old : List Row) → Covered new old → AreOfModes new → NoConflict selves old → NoConflict selves new

@@ -13,13 +13,13 @@ use Rattle.fs_modes.specs.Modes.{has}
 use Rattle.fs_field.specs.declared.field.Field.{Field}
 use Rattle.fs_field.specs.declared.field.Field.TheVariants.{SelfW, Other}
 use Rattle.fs_field.specs.declared.row.Row.{Row}
-use Rattle.fs_field.specs.Conflict.{Selves, is_self, is_fixed, has_fixed, NoConflict}
+use Rattle.fs_field.specs.Conflict.{Selves, is_self, is_fixed, has_fixed, mode_conflict, NoConflict}
 use Rattle.fs_field.specs.Table.{no_before, with_row}
 use Rattle.fs_moderows.specs.Answer.{Opens, is_self_of_other, stands_against_self}
 use Rattle.fs_moderows.specs.Kept.{others_have, others_may_have, holds_true, is_kept, KeptPromises}
 use Rattle.fs_moderows.proofs.Tables.{TellsSame}
 use Rattle.fs_moderows.proofs.Witnesses.{not_true, not_false, second_fails, not_both, neither_holds, In_any, none_In, In_none, another, fixed_from, fixed_with, Covered, fixed_fewer, Witness, witness, witnessed, witness_stays, witness_beside, witness_past, witness_one}
-use Rattle.fs_moderows.proofs.Free.{AreOfModes, goes_free, spare, Found, fixed_other}
+use Rattle.fs_moderows.proofs.Free.{AreOfModes, Goes, goes_apart, goes_free, spare, Found, fixed_other}
 
 -- what was told on a field that tells of others is true
 abbrev pub Holds : Selves → List Row → Session → Field → Option Bool → Type 0
@@ -39,7 +39,7 @@ holds_still (Some false) fixed may fixed_then may_then k l h = ap not (l (not_tr
 holds_still None fixed may fixed_then may_then k l h = ap not (l (not_true may h))
 
 -- a row that lets no other change what it tells leaves who can
-may_with : (opens : Opens) (r : Row) (rows : List Row) (h : List ℕ) (n : Mode) (x : Session) → is_self_of_other h n x r ≡ false → others_may_have opens rows h n x ≡ false → others_may_have opens (with_row r rows) h n x ≡ false
+pub may_with : (opens : Opens) (r : Row) (rows : List Row) (h : List ℕ) (n : Mode) (x : Session) → is_self_of_other h n x r ≡ false → others_may_have opens rows h n x ≡ false → others_may_have opens (with_row r rows) h n x ≡ false
 may_with opens r rows h n x k m =
     let q : (others_have opens n x ≡ false) × (list_any (is_self_of_other h n x) rows ≡ false) = neither (others_have opens n x) (list_any (is_self_of_other h n x) rows) m in
     neither_holds (others_have opens n x) (list_any (is_self_of_other h n x) (with_row r rows)) q.0
@@ -170,14 +170,14 @@ promise_is selves rows kept a i f m v fe pe =
     (λ k. (neither (others_have (selves f) m a.session) (list_any (is_self_of_other f m a.session) rows) k).0)
     (ap (λ p. holds_true p (has_fixed selves rows f m a.session a.session) (others_may_have (selves f) rows f m a.session)) (sym pe) ∙ kept_holds selves rows a.session a.field a.promise (kept a i) f m fe)
 
--- rows whose promises are kept do not conflict
 goes_by : (p : Option Bool) (fixed may : Bool) → (may ≡ false → ⊥) → holds_true p fixed may ≡ true → (p ≡ Some true) × (fixed ≡ true)
 goes_by (Some true) fixed may k h = (refl, h)
 goes_by (Some false) fixed may k h = absurd (k (not_true may h))
 goes_by None fixed may k h = absurd (k (not_true may h))
 
-pub kept_free : (selves : Selves) (rows : List Row) → AreOfModes rows → KeptPromises selves rows → NoConflict selves rows
-kept_free selves rows shape kept = goes_free selves rows shape (λ a b i j d h n e t.
+-- where another row lets its session change a mode, a row that tells of that mode tells of a third session
+kept_goes : (selves : Selves) (rows : List Row) → KeptPromises selves rows → (a b : Row) → In a rows → In b rows → (a.session.0 == b.session.0) ≡ false → Goes selves rows a.session a.field a.promise b.session b.field
+kept_goes selves rows kept a b i j d h n e t =
     let q : (a.promise ≡ Some true) × (has_fixed selves rows h n a.session a.session ≡ true) = goes_by a.promise (has_fixed selves rows h n a.session a.session) (others_may_have (selves h) rows h n a.session)
     (λ k.
     let none : is_self_of_other h n a.session b ≡ false = none_In (is_self_of_other h n a.session) rows (neither (others_have (selves h) n a.session) (list_any (is_self_of_other h n a.session) rows) k).1 b j in
@@ -185,4 +185,11 @@ kept_free selves rows shape kept = goes_free selves rows shape (λ a b i j d h n
     let wrong : true ≡ false = sym one ∙ nat_eq_equiv.symm b.session.0 a.session.0 ∙ d in
     absurd (cc))
     (kept_holds selves rows a.session a.field a.promise (kept a i) h n e) in
-    (q.0, witnessed selves rows h n a.session b.session (witness_past selves rows h n a.session a.session b j t (witness selves rows h n a.session a.session q.1))))
+    (q.0, witnessed selves rows h n a.session b.session (witness_past selves rows h n a.session a.session b j t (witness selves rows h n a.session a.session q.1)))
+
+-- rows whose promises are kept do not conflict over a mode, whatever other rows there are
+pub kept_apart : (selves : Selves) (rows : List Row) → KeptPromises selves rows → (a b : Row) → In a rows → In b rows → mode_conflict selves rows a b ≡ false
+kept_apart selves rows kept a b i j = goes_apart selves rows a b (kept_goes selves rows kept a b i j) (kept_goes selves rows kept b a j i)
+
+pub kept_free : (selves : Selves) (rows : List Row) → AreOfModes rows → KeptPromises selves rows → NoConflict selves rows
+kept_free selves rows shape kept = goes_free selves rows shape (kept_goes selves rows kept)

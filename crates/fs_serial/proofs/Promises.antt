@@ -24,8 +24,7 @@ use Rattle.fs_moderows.specs.Kept.{others_have, others_may_have, holds_true, Kep
 use Rattle.fs_moderows.specs.Table.{is_of_mode}
 use Rattle.fs_moderows.proofs.Tables.{renewed_tells}
 use Rattle.fs_moderows.proofs.Witnesses.{not_true, not_false, second_fails, not_both, neither_holds, none_In, In_none, fixed_with, covered_filter, covered_map, witness, witnessed, witness_stays, witness_past}
-use Rattle.fs_moderows.proofs.Free.{Goes}
-use Rattle.fs_moderows.proofs.Promises.{kept_holds, holds_kept, holds_still, fewer_kept, promise_is}
+use Rattle.fs_moderows.proofs.Promises.{kept_apart, kept_holds, holds_kept, holds_still, fewer_kept, may_with, promise_is}
 use Rattle.fs_record.specs.Fresh.{records_after_gift}
 use Rattle.fs_record.specs.Records.{RecordMap}
 use Rattle.fs_record.specs.ValueOf.{value_of, selves_in, selves_of, handles_of, is_other}
@@ -68,37 +67,6 @@ other_stays m after rows shaped before later r i h =
 
 -- ## No conflict
 
-third : (p : Option Bool) (fixed may : Bool) → (may ≡ false → ⊥) → holds_true p fixed may ≡ true → (p ≡ Some true) × (fixed ≡ true)
-third (Some true) fixed may k h = (refl, h)
-third (Some false) fixed may k h = absurd (k (not_true may h))
-third None fixed may k h = absurd (k (not_true may h))
-
--- where another row lets its session change a mode, a row that tells of that mode tells of a third session
-kept_goes : (selves : Selves) (rows : List Row) → KeptPromises selves rows → (a b : Row) → In a rows → In b rows → (a.session.0 == b.session.0) ≡ false → Goes selves rows a.session a.field a.promise b.session b.field
-kept_goes selves rows kept a b i j apart h n e t =
-    let q : (a.promise ≡ Some true) × (has_fixed selves rows h n a.session a.session ≡ true) = third a.promise (has_fixed selves rows h n a.session a.session) (others_may_have (selves h) rows h n a.session)
-    (λ k.
-    let none : is_self_of_other h n a.session b ≡ false = none_In (is_self_of_other h n a.session) rows (neither (others_have (selves h) n a.session) (list_any (is_self_of_other h n a.session) rows) k).1 b j in
-    let one : (b.session.0 == a.session.0) ≡ true = not_false (b.session.0 == a.session.0) (second_fails (is_self h n b.field) (not (b.session.0 == a.session.0)) t none) in
-    let wrong : true ≡ false = sym one ∙ nat_eq_equiv.symm b.session.0 a.session.0 ∙ apart in
-    absurd (cc))
-    (kept_holds selves rows a.session a.field a.promise (kept a i) h n e) in
-    (q.0, witnessed selves rows h n a.session b.session (witness_past selves rows h n a.session a.session b j t (witness selves rows h n a.session a.session q.1)))
-
-meets_not : (selves : Selves) (rows : List Row) (x : Session) (f : Field) (p : Option Bool) (y : Session) (g : Field) → Goes selves rows x f p y g → mode_meets selves rows x f p y g ≡ false
-meets_not selves rows x (Other h n) p y (SelfW g m) k = not_both (same h g && same_mode n m) (can_fail p (has_fixed selves rows h n x y)) (λ t.
-    let q = k h n refl t in
-    ap (λ z. can_fail z (has_fixed selves rows h n x y)) q.0 ∙ ap not q.1)
-meets_not selves rows x f p y g k = refl
-
-kept_apart : (selves : Selves) (rows : List Row) → KeptPromises selves rows → (a b : Row) → In a rows → In b rows → mode_conflict selves rows a b ≡ false
-kept_apart selves rows kept a b i j =
-    not_both (not (a.session.0 == b.session.0)) (mode_meets selves rows a.session a.field a.promise b.session b.field || mode_meets selves rows b.session b.field b.promise a.session a.field) (λ d.
-    let apart : (a.session.0 == b.session.0) ≡ false = not_true (a.session.0 == b.session.0) d in
-    neither_holds (mode_meets selves rows a.session a.field a.promise b.session b.field) (mode_meets selves rows b.session b.field b.promise a.session a.field)
-    (meets_not selves rows a.session a.field a.promise b.session b.field (kept_goes selves rows kept a b i j apart))
-    (meets_not selves rows b.session b.field b.promise a.session a.field (kept_goes selves rows kept b a j i (nat_eq_equiv.symm b.session.0 a.session.0 ∙ apart))))
-
 -- no two rows conflict, plainly or over a mode
 pub no_conflict : (s : Sight) → ServersHold s → ServersFit s → NoConflict (selves_in s.records) s.rows
 no_conflict s h f a b i j = neither_holds (plain_conflict a b) (mode_conflict (selves_in s.records) s.rows a b) (h.apart a b i j) (kept_apart (selves_in s.records) s.rows h.promises a b i j)
@@ -121,15 +89,6 @@ plain_other : (f : List ℕ) (n : Mode) (field : Field) → tells_no_mode field 
 plain_other f n (Other g m) h e = absurd (cc)
 plain_other f n field h e = absurd (cc)
 
-may_beside : (opens : Opens) (r : Row) (rows : List Row) (h : List ℕ) (n : Mode) (x : Session) → is_self_of_other h n x r ≡ false → others_may_have opens rows h n x ≡ false → others_may_have opens (with_row r rows) h n x ≡ false
-may_beside opens r rows h n x none may =
-    let q = neither (others_have opens n x) (list_any (is_self_of_other h n x) rows) may in
-    neither_holds (others_have opens n x) (list_any (is_self_of_other h n x) (with_row r rows)) q.0
-    (In_none (is_self_of_other h n x) (with_row r rows) (λ z i. elim (In-put (λ y. no_before r.no y.no) z r rows i) [
-      | inl e ↦ ap (is_self_of_other h n x) e ∙ none
-      | inr j ↦ none_In (is_self_of_other h n x) rows q.1 z j
-    ]))
-
 -- nor does a row that is on no mode
 pub promises_beside : (m : RecordMap) (r : Row) (rows : List Row) → tells_no_mode r.field ≡ true → PromisesKept m rows → PromisesKept m (with_row r rows)
 promises_beside m r rows plain kept a i = elim (In-put (λ z. no_before r.no z.no) a r rows i) [
@@ -138,7 +97,7 @@ promises_beside m r rows plain kept a i = elim (In-put (λ z. no_before r.no z.n
       let none : is_self h n r.field ≡ false = plain_self h n r.field plain in
       holds_still a.promise (has_fixed (selves_in m) rows h n a.session a.session) (others_may_have (selves_in m h) rows h n a.session) (has_fixed (selves_in m) (with_row r rows) h n a.session a.session) (others_may_have (selves_in m h) (with_row r rows) h n a.session)
       (λ t w. witness_stays (selves_in m) rows (with_row r rows) h n a.session a.session (λ s k. fixed_with r rows h n s (λ u. let wrong : true ≡ false = sym u ∙ none in absurd (cc)) k) w)
-      (may_beside (selves_in m h) r rows h n a.session (ap (λ b. b && not (r.session.0 == a.session.0)) none))
+      (may_with (selves_in m h) r rows h n a.session (ap (λ b. b && not (r.session.0 == a.session.0)) none))
       (kept_holds (selves_in m) rows a.session a.field a.promise (kept a j) h n e))
 ]
 
