@@ -58,6 +58,7 @@ no_item_meets rows by r uses (need.Fresh dir) free i other stand c = refl
 module _ (skew greatest : ℕ) (s : Server) (journal : List Item) (by y : Session) (leases : List Lease) (e : Entry) (another : (by.0 == y.0) ≡ false)
     (stand : AllStand s.rows by e.uses) (plain : IsEntry leases e) (right : IsAnswer (value_of s.records by) e)
     (sh : ServersHold (sight_of s journal)) (sf : ServersFit (sight_of s journal)) (promises : PromisesKept (with_entry by e s).records s.rows) where
+  -- on a field that does not tell of others, since it meets no use of the entry
   same_plain : (r : Row) → In r s.rows → r.session ≡ y → is_other r.field ≡ false → value_of (with_entry by e s).records y r.field ≡ value_of s.records y r.field
   same_plain r i own plainly =
       others_values s.records by y e.op e.reply r.field r.kind sf.sound.records plain.plain (answered s.records by leases e plain right) another plainly

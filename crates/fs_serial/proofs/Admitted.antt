@@ -1,6 +1,6 @@
 -- An entry whose rows stand, behind such entries, is admitted when it comes.
 use Rattle.std.proofs.Common.{◌≡◌, true, List, [], ◌∷◌, ◌++◌, refl, inl}
-use Rattle.std.specs.Prelude.{ℕ, Option, Some, None, length, map}
+use Rattle.std.specs.Prelude.{ℕ, Option, Some, None, map}
 use Rattle.std.specs.List.{list_all}
 use Rattle.fs_ident.specs.In.{In}
 use Rattle.fs_ident.specs.declared.actor.Session.{Session}

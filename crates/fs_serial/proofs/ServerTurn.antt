@@ -1,5 +1,5 @@
 -- A turn of the server: sessions that let go of the lease on their handles lose these, or a lease in the way is asked back.
-use Rattle.std.proofs.Common.{◌≡◌, ℕ, ◌+◌, not, Bool, true, false, List, [], ◌∷◌, ◌++◌, refl, sym, ap, ◌∙◌, subst, cond, append_assoc, append-nil, inl, inr, arith}
+use Rattle.std.proofs.Common.{◌≡◌, ℕ, ◌+◌, not, true, false, List, [], ◌∷◌, ◌++◌, map, refl, sym, ap, ◌∙◌, subst, cond, append_assoc, append-nil, inl, inr, arith}
 use Rattle.std.specs.Prelude.{Option, Some, None}
 use Rattle.std.specs.List.{filter, find}
 use Rattle.std.specs.FinMap.{keys}
@@ -7,12 +7,10 @@ use Rattle.fs_ident.specs.In.{In}
 use Rattle.fs_ident.specs.declared.actor.LeaseNo.{LeaseNo}
 use Rattle.fs_ident.specs.declared.actor.Peer.{Peer}
 use Rattle.fs_ident.specs.declared.actor.Session.{Session}
-use Rattle.fs_ident.proofs.Standing.{In-map}
 use Rattle.fs_field.specs.declared.row.Row.{Row}
 use Rattle.fs_field.specs.Table.{has_no}
 use Rattle.fs_modes.specs.declared.modes.Modes.{Modes}
 use Rattle.fs_moderows.specs.Answer.{reap_blocker}
-use Rattle.fs_moderows.proofs.Witnesses.{not_true}
 use Rattle.fs_msg.specs.declared.item.Item.{Item}
 use Rattle.fs_msg.specs.declared.msg.Msg.{Msg}
 use Rattle.fs_record.specs.ValueOf.{selves_in}
@@ -35,23 +33,18 @@ use Rattle.fs_serial.proofs.Sending.{IsRecallTo, goes_of, world_all_recalled, wo
 abbrev pub HaveLetGo : List Row → List (List ℕ × Session) → Type 0
 HaveLetGo rows xs = (x : List ℕ × Session) → In x xs → has_own rows x.0 x.1 ≡ false
 
-passes : {X : Type 0} (test : X → Bool) (x : X) (ys : List X) → In x (filter test ys) → test x ≡ true
-passes test x [] h = absurd h
-passes test x (y ∷ ys) h =
-    elim (test y) as (λ b. test y ≡ b → In x (cond b (y ∷ filter test ys) (filter test ys)) → test x ≡ true) [
-      | true ↦ λ t i. elim i [ inl e ↦ ap test e ∙ t | inr j ↦ passes test x ys j ]
-      | false ↦ λ t i. passes test x ys i
-    ] refl h
-
-gone_on : (s : Server) (file : List ℕ) → HaveLetGo s.rows (lapsed_on s file)
-gone_on s file x i =
-    let q = In-map (λ (e : Session × Modes). (file, e.0)) x (filter (λ (e : Session × Modes). not (has_own s.rows file e.0)) (selves_in s.records file)) i in
-    ap (λ (p : List ℕ × Session). has_own s.rows p.0 p.1) q.1.1
-    ∙ not_true (has_own s.rows file q.0.0) (passes (λ (e : Session × Modes). not (has_own s.rows file e.0)) q.0 (selves_in s.records file) q.1.0)
+gone_of : (rows : List Row) (file : List ℕ) (es : List (Session × Modes)) → HaveLetGo rows (map (λ (e : Session × Modes). (file, e.0)) (filter (λ (e : Session × Modes). not (has_own rows file e.0)) es))
+gone_of rows file [] x i = absurd i
+gone_of rows file (e ∷ es) x i =
+    let rest : List (Session × Modes) = filter (λ (e : Session × Modes). not (has_own rows file e.0)) es in
+    elim (has_own rows file e.0) as (λ b. has_own rows file e.0 ≡ b → In x (map (λ (e : Session × Modes). (file, e.0)) (cond (not b) (e ∷ rest) rest)) → has_own rows x.0 x.1 ≡ false) [
+      | true ↦ λ t j. gone_of rows file es x j
+      | false ↦ λ t j. elim j as (λ _. has_own rows x.0 x.1 ≡ false) [ inl q ↦ ap (λ (p : List ℕ × Session). has_own rows p.0 p.1) q ∙ t | inr k ↦ gone_of rows file es x k ]
+    ] refl i
 
 gone_among : (s : Server) (files : List (List ℕ)) → HaveLetGo s.rows (lapsed_among s files)
 gone_among s [] x i = absurd i
-gone_among s (f ∷ fs) x i = elim (In-append x (lapsed_on s f) (lapsed_among s fs) i) as (λ _. has_own s.rows x.0 x.1 ≡ false) [ inl j ↦ gone_on s f x j | inr j ↦ gone_among s fs x j ]
+gone_among s (f ∷ fs) x i = elim (In-append x (lapsed_on s f) (lapsed_among s fs) i) as (λ _. has_own s.rows x.0 x.1 ≡ false) [ inl j ↦ gone_of s.rows f (selves_in s.records f) x j | inr j ↦ gone_among s fs x j ]
 
 -- ## One reap
 
