@@ -279,12 +279,12 @@ fn leases_are_renewed_and_released(rt: HostRuntime) -> Result<(), Fail> {
     noted(&mut core, alloc, 0, first_ask(alloc, 1))?;
     let text = told(&mut core, alloc, 60, renew(alloc))?;
     assert_eq!(rt; text.as_str(), RENEWS);
-    let text = noted(&mut core, alloc, 61, Ok(ServerEvent::Turn))?;
+    let text = noted(&mut core, alloc, 60, Ok(ServerEvent::Turn))?;
     assert_eq!(rt; text.as_str(), "Idle");
     let mut twin = core.copy(alloc)?;
     let text = noted(&mut core, alloc, 62, release(alloc))?;
     assert_eq!(rt; text.as_str(), "Frees { count: 2, end: All }");
-    let text = told(&mut core, alloc, 60, renew(alloc))?;
+    let text = told(&mut core, alloc, 62, renew(alloc))?;
     assert_eq!(rt; text.as_str(), RENEWS_NONE);
     let text = told(&mut twin, alloc, 60, renew(alloc))?;
     assert_eq!(rt; text.as_str(), RENEWS);
