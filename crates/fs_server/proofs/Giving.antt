@@ -13,7 +13,6 @@ use Rattle.fs_moderows.specs.Answer.{given_row}
 use Rattle.fs_msg.specs.declared.answer.Grant.{Grant}
 use Rattle.fs_msg.specs.declared.end.End.TheVariants as end
 use Rattle.fs_record.specs.Fresh.{fresh_number, is_borne}
-use Rattle.fs_record.specs.Records.{RecordMap}
 use Rattle.fs_record.proofs.NumbersRise.{number_least}
 use Rattle.fs_rows.specs.Granted.{with_rows}
 use Rattle.fs_rows.proofs.Bearing.{bears-with_rows, gift_goes}

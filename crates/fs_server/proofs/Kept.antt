@@ -1,5 +1,5 @@
 -- What keeps the rows of a server in order.
-use Rattle.std.proofs.Common.{◌≡◌, ◌||◌, ℕ, Bool, true, false, List, [], refl, ap, sym, ◌∙◌, map, inl, inr}
+use Rattle.std.proofs.Common.{◌≡◌, ◌||◌, ℕ, Bool, true, false, List, ap, ◌∙◌, map, inl, inr}
 use Rattle.std.specs.List.{filter, list_any}
 use Rattle.fs_ident.specs.declared.actor.LeaseNo.{LeaseNo}
 use Rattle.fs_ident.specs.In.{In}

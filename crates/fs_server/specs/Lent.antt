@@ -16,8 +16,7 @@ use Rattle.fs_server.specs.declared.lent.Lent.{Lent}
 use Rattle.fs_server.specs.declared.state.Server.{Server}
 use Rattle.fs_server.specs.declared.change.Change.TheVariants as change
 use Rattle.fs_server.specs.Asks.{Asking, answer_to}
-use Rattle.fs_server.specs.Plan.{IsServer, changed}
-use Rattle.fs_server.specs.Rows.{AreRows}
+use Rattle.fs_server.specs.Plan.{AreRows, IsServer, changed}
 use Rattle.fs_server.specs.Server.{end_of}
 
 -- a server, and its rows in order

@@ -14,7 +14,7 @@ use Rattle.fs_server.specs.declared.plan.Plan.{Plan}
 use Rattle.fs_server.specs.declared.state.Server.{Server}
 use Rattle.fs_server.specs.Server.{begun}
 use Rattle.fs_server.specs.Pairs.{renewed_rows, released_rows}
-use Rattle.fs_server.specs.Rows.{AreRows}
+pub use Rattle.fs_server.specs.Rows.{AreRows, is_shaped}
 
 -- ## Changes, without a test
 

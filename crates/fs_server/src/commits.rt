@@ -4,8 +4,7 @@ ghost use Rattle.std.specs.List.{filter};
 ghost use Rattle.fs_field.specs.Table.{is_live};
 ghost use Rattle.fs_rows.specs.Granted.{with_rows};
 ghost use Rattle.fs_server.specs.Pairs.{released_rows, renewed_rows};
-ghost use Rattle.fs_server.specs.Plan.{CanChange, after_gift, changed};
-ghost use Rattle.fs_server.specs.Rows.{AreRows};
+ghost use Rattle.fs_server.specs.Plan.{AreRows, CanChange, after_gift, changed};
 ghost use Rattle.fs_server.specs.Lent.{IsReady};
 ghost use Rattle.fs_server.specs.Server.{begun};
 

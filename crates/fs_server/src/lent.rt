@@ -4,7 +4,7 @@ ghost use Rattle.fs_msg.specs.declared.core_error.Counter.{Counter as TheCounter
 ghost use Rattle.fs_msg.specs.declared.core_error.Counter.TheVariants.{Leases};
 ghost use Rattle.fs_msg.specs.declared.core_error.CoreError.TheVariants as errors;
 ghost use Rattle.fs_moderows.specs.Answer.{given_row};
-ghost use Rattle.fs_server.specs.Rows.{AreRows};
+ghost use Rattle.fs_server.specs.Plan.{AreRows};
 ghost use Rattle.fs_server.specs.Asks.{grant_of, with_lease};
 ghost use Rattle.fs_server.specs.Lent.{IsLent, IsReady, numbered_grant, with_leases};
 ghost use Rattle.fs_server.specs.Server.{end_of};

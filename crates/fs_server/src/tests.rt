@@ -1,4 +1,5 @@
-//! A first create with its leases, the end of a lease, what is asked back, and messages that no honest actor sends.
+//! A first create with its leases, an open with its leases, the end of a lease, what is asked back, and messages that no
+//! honest actor sends.
 ghost use Rattle.std.specs.Prelude.{◌≤◌};
 ghost use Rattle.fs_ident.specs.declared.limits.TheConstants.{LATEST};
 
@@ -7,7 +8,7 @@ use crate::server_core::ServerCore;
 use fs_field::{Field, LeaseKind, Use};
 use fs_ident::{FileId, Kind, LeaseNo, List, Name, Session, Twin};
 use fs_model::{Op, Reply};
-use fs_modes::Mode;
+use fs_modes::{Mode, Modes};
 use fs_msg::{ClientMsg, Entry};
 use std::alloc::Global;
 use std::test::Fail;
@@ -213,10 +214,14 @@ fn leases_are_asked_back(rt: HostRuntime) -> Result<(), Fail> {
     Ok(())
 }
 
+/// The root's first child.
+fn first(alloc: Global) -> Result<FileId, Fail> {
+    Ok(FileId::root(alloc).child(alloc, 1)?)
+}
+
 /// The life of the root's first child, which is not there.
 fn life_of_first(alloc: Global) -> Result<(Field, LeaseKind), Fail> {
-    let first = FileId::root(alloc).child(alloc, 1)?;
-    Ok((Field::Life(first), LeaseKind::Shared))
+    Ok((Field::Life(first(alloc)?), LeaseKind::Shared))
 }
 
 const PASSES: &str =
@@ -262,10 +267,9 @@ fn release(alloc: Global) -> Result<ServerEvent, Fail> {
     Ok(ServerEvent::FromClient(Session(1), ClientMsg::Release { pairs }))
 }
 
-const FIRST: LeaseNo = LeaseNo {
-    server: 0,
-    count: 1,
-};
+const RENEWS_NONE: &str = "ServerOut { note: Renews { count: 2, end: All }, send: List { items: [(\
+    Client(Session(1)), Answer(Renewed { rows: List { items: [(LeaseNo { server: 0, count: 1 }, \
+    None), (LeaseNo { server: 0, count: 9 }, None)] }, end: All }))] }, admitted: List { items: [] } }";
 
 /// Leases are renewed and given back, and nothing is done at a turn.
 #[test]
@@ -275,25 +279,140 @@ fn leases_are_renewed_and_released(rt: HostRuntime) -> Result<(), Fail> {
     noted(&mut core, alloc, 0, first_ask(alloc, 1))?;
     let text = told(&mut core, alloc, 60, renew(alloc))?;
     assert_eq!(rt; text.as_str(), RENEWS);
-    let text = noted(&mut core, alloc, 61, Ok(ServerEvent::Turn))?;
+    let text = noted(&mut core, alloc, 60, Ok(ServerEvent::Turn))?;
     assert_eq!(rt; text.as_str(), "Idle");
-    assert!(rt; core.copy(alloc)?.rows().row(FIRST).is_some());
+    let mut twin = core.copy(alloc)?;
     let text = noted(&mut core, alloc, 62, release(alloc))?;
     assert_eq!(rt; text.as_str(), "Frees { count: 2, end: All }");
-    assert!(rt; core.rows().row(FIRST).is_none());
+    let text = told(&mut core, alloc, 62, renew(alloc))?;
+    assert_eq!(rt; text.as_str(), RENEWS_NONE);
+    let text = told(&mut twin, alloc, 60, renew(alloc))?;
+    assert_eq!(rt; text.as_str(), RENEWS);
     Ok(())
 }
 
-/// A question that names a field of modes.
-fn question_of_modes(alloc: Global) -> Result<ServerEvent, Fail> {
-    let field = Field::SelfW(FileId::root(alloc), Mode::AccR);
-    ask(
-        alloc,
-        1,
-        life(alloc),
-        Some((field, LeaseKind::Shared)),
-        true,
-    )
+/// The session's question for what it tells of the mode on the root's first child.
+fn ask_self(alloc: Global, by: u16, m: Mode) -> Result<ServerEvent, Fail> {
+    let field = Field::SelfW(first(alloc)?, m);
+    ask(alloc, by, (field, LeaseKind::Shared), None, false)
+}
+
+/// The session's question for what others tell of the mode on the root's first child.
+fn ask_other(alloc: Global, by: u16, m: Mode) -> Result<ServerEvent, Fail> {
+    let field = Field::Other(first(alloc)?, m);
+    ask(alloc, by, (field, LeaseKind::Exclusive), None, false)
+}
+
+/// What the first session asks for to open the root's first child: its handles, what it tells of writing, and whether
+/// another denies that.
+fn open_ask(alloc: Global) -> Result<ServerEvent, Fail> {
+    let mut items = List::new(alloc);
+    items.push((Field::Own(first(alloc)?), LeaseKind::Shared))?;
+    items.push((Field::SelfW(first(alloc)?, Mode::AccW), LeaseKind::Shared))?;
+    items.push((
+        Field::Other(first(alloc)?, Mode::DenyW),
+        LeaseKind::Exclusive,
+    ))?;
+    Ok(ServerEvent::FromClient(Session(1), ClientMsg::Ask { items, fresh: None }))
+}
+
+const OPENS: &str =
+    "ServerOut { note: Grants { count: 3, end: All }, send: List { items: [(Client(Session(1)), Answer(Granted { \
+    grants: List { items: [Grant { no: LeaseNo { server: 0, count: 1 }, field: Own(FileId { numbers: [1] }), kind: \
+    Exclusive, until: 100, value: Own(List { items: [] }) }, Grant { no: LeaseNo { server: 0, count: 2 }, field: \
+    SelfW(FileId { numbers: [1] }, AccW), kind: Exclusive, until: 100, value: SelfW }, Grant { no: LeaseNo { server: 0, \
+    count: 3 }, field: Other(FileId { numbers: [1] }, DenyW), kind: Shared, until: 100, value: Other(false) }] }, \
+    fresh: None, end: All }))] }, admitted: List { items: [] } }";
+
+const DENIAL_WAITS: &str =
+    "ServerOut { note: Grants { count: 0, end: Wait { blocker: LeaseNo { server: 0, count: 3 } } }, send: List { items: \
+    [(Client(Session(2)), Answer(Granted { grants: List { items: [] }, fresh: None, end: Wait { blocker: LeaseNo { \
+    server: 0, count: 3 } } })), (Client(Session(1)), Answer(Recall { no: LeaseNo { server: 0, count: 3 } }))] }, \
+    admitted: List { items: [] } }";
+
+/// A session may not deny what another is told that none denies: that lease is asked back.
+#[test]
+fn a_denial_waits_for_an_open(rt: HostRuntime) -> Result<(), Fail> {
+    let alloc = rt.alloc();
+    let mut core = server(alloc)?;
+    let text = told(&mut core, alloc, 0, open_ask(alloc))?;
+    assert_eq!(rt; text.as_str(), OPENS);
+    let text = told(&mut core, alloc, 1, ask_self(alloc, 2, Mode::DenyW))?;
+    assert_eq!(rt; text.as_str(), DENIAL_WAITS);
+    Ok(())
+}
+
+const WRITES: Modes = Modes {
+    acc_w: true,
+    ..Modes::NONE
+};
+
+/// A log in which the session opens the root's first child for writing.
+fn open_log(alloc: Global, by: u16) -> Result<ServerEvent, Fail> {
+    let op = Op::OpenFile {
+        file: first(alloc)?,
+        h: 1,
+        modes: WRITES,
+    };
+    let mut entries = List::new(alloc);
+    entries.push(Entry {
+        n: 3,
+        op,
+        reply: Reply::Opened,
+        uses: List::new(alloc),
+    })?;
+    Ok(ServerEvent::FromClient(Session(by), ClientMsg::Ship { entries }))
+}
+
+/// The root's first child, which the first two sessions have open for writing, with no leases on it.
+fn with_two_writers(alloc: Global) -> Result<ServerCore, Fail> {
+    let mut core = server(alloc)?;
+    noted(&mut core, alloc, 0, first_ask(alloc, 1))?;
+    noted(&mut core, alloc, 0, log(alloc))?;
+    noted(&mut core, alloc, 0, open_log(alloc, 1))?;
+    noted(&mut core, alloc, 0, open_log(alloc, 2))?;
+    Ok(core)
+}
+
+/// The session gives the fourth lease back.
+fn release_fourth(alloc: Global, by: u16) -> Result<ServerEvent, Fail> {
+    let mut pairs = List::new(alloc);
+    pairs.push((
+        first(alloc)?,
+        LeaseNo {
+            server: 0,
+            count: 4,
+        },
+    ))?;
+    Ok(ServerEvent::FromClient(Session(by), ClientMsg::Release { pairs }))
+}
+
+const OTHERS_WRITE: &str =
+    "ServerOut { note: Grants { count: 1, end: All }, send: List { items: [(Client(Session(3)), Answer(Granted { grants: \
+    List { items: [Grant { no: LeaseNo { server: 0, count: 4 }, field: Other(FileId { numbers: [1] }, AccW), kind: \
+    Shared, until: 100, value: Other(true) }] }, fresh: None, end: All }))] }, admitted: List { items: [] } }";
+
+const LAST_WRITER_WAITS: &str =
+    "ServerOut { note: Grants { count: 0, end: Wait { blocker: LeaseNo { server: 0, count: 4 } } }, send: List { items: \
+    [(Client(Session(2)), Answer(Granted { grants: List { items: [] }, fresh: None, end: Wait { blocker: LeaseNo { \
+    server: 0, count: 4 } } })), (Client(Session(3)), Answer(Recall { no: LeaseNo { server: 0, count: 4 } }))] }, \
+    admitted: List { items: [] } }";
+
+/// A session is told that another writes; of two writers one may then stop, and the other only once that is given back.
+#[test]
+fn one_of_two_writers_stays(rt: HostRuntime) -> Result<(), Fail> {
+    let alloc = rt.alloc();
+    let mut core = with_two_writers(alloc)?;
+    let text = told(&mut core, alloc, 0, ask_other(alloc, 3, Mode::AccW))?;
+    assert_eq!(rt; text.as_str(), OTHERS_WRITE);
+    let text = noted(&mut core, alloc, 1, ask_self(alloc, 1, Mode::AccW))?;
+    assert_eq!(rt; text.as_str(), "Grants { count: 1, end: All }");
+    let text = told(&mut core, alloc, 1, ask_self(alloc, 2, Mode::AccW))?;
+    assert_eq!(rt; text.as_str(), LAST_WRITER_WAITS);
+    noted(&mut core, alloc, 2, release_fourth(alloc, 3))?;
+    let text = noted(&mut core, alloc, 2, ask_self(alloc, 2, Mode::AccW))?;
+    assert_eq!(rt; text.as_str(), "Grants { count: 1, end: All }");
+    Ok(())
 }
 
 /// A log with a delete.
@@ -314,8 +433,6 @@ fn delete(alloc: Global) -> Result<Op, Fail> {
 fn what_no_honest_actor_sends_is_strange(rt: HostRuntime) -> Result<(), Fail> {
     let alloc = rt.alloc();
     let mut core = server(alloc)?;
-    let text = noted(&mut core, alloc, 0, question_of_modes(alloc))?;
-    assert_eq!(rt; text.as_str(), "Strange");
     let text = noted(&mut core, alloc, 0, log_of_delete(alloc))?;
     assert_eq!(rt; text.as_str(), "Strange");
     Ok(())
