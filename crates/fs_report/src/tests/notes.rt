@@ -9,7 +9,7 @@ use std::alloc::Global;
 use std::test::Fail;
 
 /// The texts of notes, by their numbers.
-const NOTES: [&[u8]; 34] = [
+const NOTES: [&[u8]; 35] = [
     b"grants 3 all",
     b"grants 1 wait s0.2",
     b"grants 0 locked s0#1",
@@ -19,6 +19,7 @@ const NOTES: [&[u8]; 34] = [
     b"frees 1 all",
     b"admits 1 all",
     b"admits 0 ended 1 s0.1 100 110 gap 2 gap 3",
+    b"reaps 2",
     b"recalls 1",
     b"idle",
     b"strange",
@@ -49,7 +50,7 @@ const NOTES: [&[u8]; 34] = [
 /// Why an answer goes no further, by the number of the note that says so.
 fn end(alloc: Global, k: u64) -> Result<End, Fail> {
     match k {
-        1 | 16 => Ok(End::Wait {
+        1 | 17 => Ok(End::Wait {
             blocker: LeaseNo {
                 server: 0,
                 count: 2,
@@ -68,7 +69,7 @@ fn end(alloc: Global, k: u64) -> Result<End, Fail> {
         4 => Ok(End::NoIds {
             dir: id(alloc, b"/1")?,
         }),
-        8 | 19 => Ok(End::Ended {
+        8 | 20 => Ok(End::Ended {
             n: 1,
             lease: LeaseNo {
                 server: 0,
@@ -105,8 +106,9 @@ fn server_note(alloc: Global, k: u64) -> Result<ServerNote, Fail> {
             end,
             gaps: gaps(alloc, k)?,
         }),
-        9 => Ok(ServerNote::Recalls { count: 1 }),
-        10 => Ok(ServerNote::Idle),
+        9 => Ok(ServerNote::Reaps { count: 2 }),
+        10 => Ok(ServerNote::Recalls { count: 1 }),
+        11 => Ok(ServerNote::Idle),
         _ => Ok(ServerNote::Strange),
     }
 }
@@ -114,15 +116,15 @@ fn server_note(alloc: Global, k: u64) -> Result<ServerNote, Fail> {
 fn client_note(alloc: Global, k: u64) -> Result<ClientNote, Fail> {
     let end = end(alloc, k)?;
     match k {
-        12 => Ok(ClientNote::Ships { count: 1, to: 0 }),
-        13 => Ok(ClientNote::Releases { count: 1, to: 0 }),
-        14 => Ok(ClientNote::Renews { count: 2, to: 0 }),
-        15 => Ok(ClientNote::Idle),
-        16 => Ok(ClientNote::Granted { count: 1, end }),
-        17 => Ok(ClientNote::Renewed { count: 2, end }),
-        18 => Ok(ClientNote::Released { count: 1, end }),
-        19 => Ok(ClientNote::Shipped { count: 0, end }),
-        20 => Ok(ClientNote::Recall {
+        13 => Ok(ClientNote::Ships { count: 1, to: 0 }),
+        14 => Ok(ClientNote::Releases { count: 1, to: 0 }),
+        15 => Ok(ClientNote::Renews { count: 2, to: 0 }),
+        16 => Ok(ClientNote::Idle),
+        17 => Ok(ClientNote::Granted { count: 1, end }),
+        18 => Ok(ClientNote::Renewed { count: 2, end }),
+        19 => Ok(ClientNote::Released { count: 1, end }),
+        20 => Ok(ClientNote::Shipped { count: 0, end }),
+        21 => Ok(ClientNote::Recall {
             no: LeaseNo {
                 server: 0,
                 count: 2,
@@ -154,28 +156,28 @@ fn needs_of_a_rename(alloc: Global) -> Result<List<Need>, Fail> {
 
 fn act(alloc: Global, k: u64) -> Result<Act, Fail> {
     match k {
-        22 => Ok(Act::Replied {
+        23 => Ok(Act::Replied {
             n: 1,
             reply: Reply::Made,
         }),
-        23 => Ok(Act::ReadNow {
+        24 => Ok(Act::ReadNow {
             n: 2,
             reply: Reply::Found(id(alloc, b"/1")?),
         }),
-        24 => Ok(Act::Asked {
+        25 => Ok(Act::Asked {
             needs: needs_of_a_create(alloc)?,
             to: 0,
         }),
-        25 => Ok(Act::Asked {
+        26 => Ok(Act::Asked {
             needs: needs_of_a_rename(alloc)?,
             to: 1,
         }),
-        26 => Ok(Act::Busy {
+        27 => Ok(Act::Busy {
             what: Busy::Exchange,
         }),
-        27 => Ok(Act::Busy { what: Busy::Log }),
-        28 => Ok(Act::Busy { what: Busy::Led }),
-        29 => Ok(Act::NoIds {
+        28 => Ok(Act::Busy { what: Busy::Log }),
+        29 => Ok(Act::Busy { what: Busy::Led }),
+        30 => Ok(Act::NoIds {
             dir: id(alloc, b"/1")?,
         }),
         _ => Ok(Act::Over { n: 1 }),
@@ -184,11 +186,11 @@ fn act(alloc: Global, k: u64) -> Result<Act, Fail> {
 
 fn note(alloc: Global, k: u64) -> Result<Note, Fail> {
     match k {
-        0..=11 => Ok(Note::Server(server_note(alloc, k)?)),
-        12..=21 => Ok(Note::Client(client_note(alloc, k)?)),
-        22..=30 => Ok(Note::Act(act(alloc, k)?)),
-        31 => Ok(Note::None),
-        32 => Ok(Note::Part),
+        0..=12 => Ok(Note::Server(server_note(alloc, k)?)),
+        13..=22 => Ok(Note::Client(client_note(alloc, k)?)),
+        23..=31 => Ok(Note::Act(act(alloc, k)?)),
+        32 => Ok(Note::None),
+        33 => Ok(Note::Part),
         _ => Ok(Note::Strange),
     }
 }
