@@ -260,9 +260,9 @@ e42 c1 recall s0.9 sends 35
 e43 c3 granted 2 wait s0.9 sends 36
 e44 c1 releases 1 s0 sends 37
 e45 s0 frees 1 all sends 38
-e46 c3 asked s0 other /1 dW shared sends 39
-e47 s0 grants 1 all sends 40
-e48 c3 granted 1 all sends 41
+e46 c3 asked s0 other /1 dW shared, self /1 aW exclusive sends 39
+e47 s0 grants 1 wait s0.5 sends 40
+e48 c3 granted 1 wait s0.5 sends 41
 e49 c3 read 1 sharing
 e50 c2 replied 2 closed
 e51 c2 ships 1 s0 sends 42
