@@ -5,7 +5,7 @@
 //! - a question scans the rows once or twice for each item, and finds one record for each (log f); giving the leases
 //!   moves at most `r` rows for each;
 //! - a question over a mode gathers the sessions with handles on the file, and scans the rows on modes for each of them
-//!   that has the mode; one that would change what a session tells, for each row on what others tell of the mode;
+//!   that has the mode; where it would change what a session tells, it does so for each row on what others tell;
 //! - a fresh identifier scans the rows once, and then the numbers that they bear for each number that it tries;
 //! - a renewal and a release scan the rows for each pair, a log for each use up to the first whose row is gone;
 //! - an entry that is admitted finds its records (log f), and a create puts a name among those of its directory;
