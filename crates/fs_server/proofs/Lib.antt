@@ -4,3 +4,4 @@ mod Asking
 mod Giving
 mod Paired
 mod Shipping
+mod Losing

@@ -8,5 +8,6 @@ pub mod Plan
 -- cited by private calls alone
 pub mod Rows
 pub mod Lent
+pub mod Lost
 pub mod Shipped
 pub mod Decided

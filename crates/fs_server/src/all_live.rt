@@ -10,8 +10,7 @@ ghost use Rattle.fs_moderows.specs.Answer.{answer_self, answer_other, reap_block
 ghost use Rattle.fs_rows.specs.Answer.{answer};
 ghost use Rattle.fs_rows.specs.Live.{unlocked_on};
 ghost use Rattle.fs_record.specs.Fresh.{is_borne};
-ghost use Rattle.fs_server.specs.Plan.{AreRows};
-ghost use Rattle.fs_server.specs.Rows.{both};
+ghost use Rattle.fs_server.specs.Rows.{AreRows, both};
 
 use fs_field::{Asked, Field, LeaseKind, Row};
 use fs_ident::{FileId, LeaseNo, List, Memory, Session};
@@ -33,8 +32,7 @@ impl<'a> Model for AllLive<'a> {
     ghost use Rattle.fs_field.specs.declared.row.Row.{Row};
     ghost use Rattle.fs_rows.specs.Table.{IsTable};
     ghost use Rattle.fs_moderows.specs.Table.{IsModeTable};
-    ghost use Rattle.fs_server.specs.Plan.{AreRows};
-    ghost use Rattle.fs_server.specs.Rows.{both};
+    ghost use Rattle.fs_server.specs.Rows.{AreRows, both};
 
     ghost Value = { List Row };
 

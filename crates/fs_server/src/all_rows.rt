@@ -3,7 +3,7 @@ ghost use Rattle.std.specs.Prelude.{◌≡◌, [], not, map, OnOk, OnErr};
 ghost use Rattle.std.specs.List.{filter};
 ghost use Rattle.fs_field.specs.Table.{has_no, renewed_row, is_live};
 ghost use Rattle.fs_rows.specs.Granted.{with_rows};
-ghost use Rattle.fs_server.specs.Plan.{AreRows};
+ghost use Rattle.fs_server.specs.Rows.{AreRows};
 
 use crate::all_live::AllLive;
 use fs_field::Row;
@@ -24,8 +24,7 @@ pub(crate) struct AllRows {
 impl Model for AllRows {
     ghost use Rattle.std.specs.Prelude.{List};
     ghost use Rattle.fs_field.specs.declared.row.Row.{Row};
-    ghost use Rattle.fs_server.specs.Plan.{AreRows};
-    ghost use Rattle.fs_server.specs.Rows.{both};
+    ghost use Rattle.fs_server.specs.Rows.{AreRows, both};
 
     ghost Value = { List Row };
 
