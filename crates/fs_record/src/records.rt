@@ -98,7 +98,8 @@ impl Records {
 
     /// The identifiers of the files that sessions have handles on, in order.
     pub fn open_files(&self, alloc: Global) -> Result<List<FileId>, Memory>
-        ensures { IfOk result (λ ids. ids ≡ open_files self.now) }
+        ensures files { IfOk result (λ ids. ids ≡ open_files self.now) }
+        ensures valid { AreRecords self.now }
     {
         open_files(alloc, &self.records)
     }

@@ -6,3 +6,4 @@ mod Asking
 mod Giving
 mod Paired
 mod Shipping
+mod Losing

@@ -8,5 +8,6 @@ pub mod Step
 pub mod Plan
 -- cited by private calls alone
 pub mod Lent
+pub mod Lost
 pub mod Shipped
 pub mod Decided
