@@ -1,4 +1,7 @@
+pub mod Both
+pub mod Parts
 mod Ends
+mod Kept
 mod Lending
 mod Asking
 mod Giving

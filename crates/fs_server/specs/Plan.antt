@@ -1,14 +1,8 @@
 -- What an event changes, once it is read what it comes to.
-use Rattle.std.specs.Prelude.{◌≡◌, ℕ, ◌+◌, ◌<◌, ◌≤◌, ◌^◌, ◌||◌, Bool, true, List, length, Option, Some, None}
+use Rattle.std.specs.Prelude.{◌≡◌, ℕ, ◌+◌, ◌<◌, ◌≤◌, ◌^◌, true, List, length, Option, Some, None}
 use Rattle.std.specs.List.{list_all}
 use Rattle.fs_ident.specs.declared.limits.TheConstants.{LATEST}
 use Rattle.fs_msg.specs.declared.limits.TheConstants.{LONGEST}
-use Rattle.fs_ident.specs.In.{In}
-use Rattle.fs_field.specs.Conflict.{NoPlainConflict}
-use Rattle.fs_field.specs.Field.{tells_no_mode}
-use Rattle.fs_field.specs.Table.{is_ordered}
-use Rattle.fs_field.specs.declared.row.Row.{Row}
-use Rattle.fs_moderows.specs.Table.{is_of_mode}
 use Rattle.fs_rows.specs.Given.{AreGiven}
 use Rattle.fs_rows.specs.Granted.{with_rows}
 use Rattle.fs_record.specs.Applied.{records_after_all, is_undoable}
@@ -20,6 +14,7 @@ use Rattle.fs_server.specs.declared.plan.Plan.{Plan}
 use Rattle.fs_server.specs.declared.state.Server.{Server}
 use Rattle.fs_server.specs.Server.{begun}
 use Rattle.fs_server.specs.Pairs.{renewed_rows, released_rows}
+pub use Rattle.fs_server.specs.Rows.{AreRows, is_shaped}
 
 -- ## Changes, without a test
 
@@ -41,16 +36,6 @@ abbrev pub committed : Plan → Server → Server
 committed p s = changed p.change (begun p.now s)
 
 -- ## What every server is
-
--- a lease on what sessions tell of modes is as it has to be
-abbrev pub is_shaped : Row → Bool
-is_shaped row = tells_no_mode row.field || is_of_mode row.field row.kind row.promise
-
--- the rows in order of number; no two of them conflict by their sessions, fields and kinds alone
-pub record AreRows (rows : List Row) : Type 0 where
-  pub ordered : is_ordered rows ≡ true
-  pub shaped : (row : Row) → In row rows → is_shaped row ≡ true
-  pub free : NoPlainConflict rows
 
 -- its readings and terms are in their ranges, and each row of its own has a number that it gave
 pub record IsServer (s : Server) : Type 0 where

@@ -1,8 +1,12 @@
 -- The rows of a server, which stand in two tables.
-use Rattle.std.specs.Prelude.{Bool, not, List}
+use Rattle.std.specs.Prelude.{◌≡◌, ◌||◌, Bool, true, not, List}
 use Rattle.std.specs.List.{filter}
+use Rattle.fs_ident.specs.In.{In}
+use Rattle.fs_field.specs.Conflict.{NoPlainConflict}
 use Rattle.fs_field.specs.Field.{tells_no_mode}
+use Rattle.fs_field.specs.Table.{is_ordered}
 use Rattle.fs_field.specs.declared.row.Row.{Row}
+use Rattle.fs_moderows.specs.Table.{is_of_mode}
 use Rattle.fs_rows.specs.Granted.{with_rows}
 
 -- the row is no part of what sessions tell of modes
@@ -18,3 +22,13 @@ rows_on_modes rows = filter (λ r. not (is_off_modes r)) rows
 -- those of both tables, in order of number
 abbrev pub both : List Row → List Row → List Row
 both off on = with_rows on off
+
+-- a lease on what sessions tell of modes is as it has to be
+abbrev pub is_shaped : Row → Bool
+is_shaped row = tells_no_mode row.field || is_of_mode row.field row.kind row.promise
+
+-- the rows in order of number; no two of them conflict by their sessions, fields and kinds alone
+pub record AreRows (rows : List Row) : Type 0 where
+  pub ordered : is_ordered rows ≡ true
+  pub shaped : (row : Row) → In row rows → is_shaped row ≡ true
+  pub free : NoPlainConflict rows
