@@ -9,13 +9,14 @@ ghost use Rattle.fs_field.specs.Table.{has_no, renewed_row, is_live, is_lease, i
 ghost use Rattle.fs_moderows.specs.Answer.{answer_self, answer_other, stands_against_self, stands_against_reap, is_self_of_other, given_row, rows_after, reap_blocker, IsLeast};
 ghost use Rattle.fs_moderows.specs.Table.{IsModeTable};
 ghost use Rattle.fs_rows.specs.Granted.{with_rows};
+ghost use Rattle.fs_rows.specs.Table.{IsTable};
 
 use crate::answers;
 use crate::live::Live;
 use fs_field::{Asked, Field, LeaseKind, Row, Unknown, table};
 use fs_ident::{FileId, LeaseNo, List, Memory, Session, Twin, TxnNo};
 use fs_modes::{Mode, Modes};
-use fs_rows::put_all;
+use fs_rows::{Rows, keep_live, put_each};
 use std::alloc::Global;
 use std::marker::Model;
 
@@ -147,14 +148,35 @@ impl ModeRows {
         Live::at(self.rows.as_slice(), now, skew)
     }
 
-    /// Puts in these rows, in order. `Memory` where memory is wanting; the table is as it was then.
-    pub fn put_all(&mut self, alloc: Global, rows: List<Row>) -> Result<(), Memory>
-        requires table { IsModeTable (with_rows rows self.old) }
-        ensures ok { OnOk result (self.new ≡ with_rows rows self.old) }
+    /// Drops the rows that are over at the reading `now`, as `lapse` does, and puts in these, in order; and the same in
+    /// the table beside, with the others. `Memory` where memory is wanting; both tables are as they were then.
+    pub fn grant_all(
+        &mut self,
+        alloc: Global,
+        now: u64,
+        skew: u64,
+        rows: List<Row>,
+        beside: &mut Rows,
+        others: List<Row>,
+    ) -> Result<(), Memory>
+        requires table { IsModeTable (with_rows rows (filter (is_live now skew) self.old)) }
+        requires beside { IsTable (with_rows others (filter (is_live now skew) beside.old)) }
+        ensures ok { OnOk result (self.new ≡ with_rows rows (filter (is_live now skew) self.old)) }
         ensures err { OnErr result (self.new ≡ self.old) }
         ensures valid { IsModeTable self.new }
+        ensures ok_beside { OnOk result (beside.new ≡
+            with_rows others (filter (is_live now skew) beside.old)) }
+        ensures err_beside { OnErr result (beside.new ≡ beside.old) }
     {
-        put_all(self.rows.items_mut(), rows)
+        grant_all(
+            self.rows.items_mut(),
+            alloc,
+            now,
+            skew,
+            rows,
+            beside,
+            others,
+        )
     }
 
     /// Lets the row of this number end no sooner than `until`; its end is never lowered. `Unknown` where there is
@@ -291,6 +313,31 @@ fn ask_other(
     let asked = answers::answer_other(selves, &Live::all(rows), session, &field, file, m);
     answers::give(rows, asked, no, session, field, LeaseKind::Shared, until)?;
     Ok(asked)
+}
+
+/// Room is made first, then the table beside takes its rows or fails, and the rest cannot fail.
+fn grant_all(
+    rows: &mut Vec<Row>,
+    alloc: Global,
+    now: u64,
+    skew: u64,
+    more: List<Row>,
+    beside: &mut Rows,
+    others: List<Row>,
+) -> Result<(), Memory>
+    requires { IsTable (with_rows others (filter (is_live now skew) beside.old)) }
+    ensures ok { OnOk result (rows.new.items ≡
+        with_rows more (filter (is_live now skew) rows.old.items)) }
+    ensures err { OnErr result (rows.new.items ≡ rows.old.items) }
+    ensures ok_beside { OnOk result (beside.new ≡
+        with_rows others (filter (is_live now skew) beside.old)) }
+    ensures err_beside { OnErr result (beside.new ≡ beside.old) }
+{
+    rows.reserve(more.len())?;
+    beside.grant_all(alloc, now, skew, others)?;
+    keep_live(rows, now, skew);
+    put_each(rows, more);
+    Ok(())
 }
 
 /// The same on the rows as they stand in memory.

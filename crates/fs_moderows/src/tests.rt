@@ -9,9 +9,10 @@ use crate::law::{
     reaps_are_safe, rows_stay_without_conflict,
 };
 use crate::mode_rows::ModeRows;
-use fs_field::{Asked, Field, LeaseKind, Unknown};
+use fs_field::{Asked, Field, LeaseKind, Row, Unknown};
 use fs_ident::{FileId, LeaseNo, List, Session, Twin, TxnNo};
 use fs_modes::{Mode, Modes};
+use fs_rows::Rows;
 use std::alloc::Global;
 use std::test::Fail;
 
@@ -153,6 +154,39 @@ fn rows_are_read_at_a_reading(rt: HostRuntime) -> Result<(), Fail> {
     assert_eq!(rt; asked, GIVEN);
     assert_eq!(rt; over.may_reap(&one, Session(1), &file), None);
     assert!(rt; !over.has(number(1)));
+    Ok(())
+}
+
+/// A row that is over goes, and one comes in each table.
+#[test]
+fn rows_are_granted_in_both_tables(rt: HostRuntime) -> Result<(), Fail> {
+    let alloc = rt.alloc();
+    let mut on = ModeRows::new(alloc);
+    let mut off = Rows::new(alloc);
+    let file = FileId::root(alloc);
+    let mut rows = List::new(alloc);
+    rows.push(Row {
+        no: number(1),
+        session: Session(1),
+        field: Field::SelfW(file.copy(alloc)?, Mode::AccW),
+        kind: LeaseKind::Exclusive,
+        until: 300,
+        promise: None,
+        lock: None,
+    })?;
+    let mut others = List::new(alloc);
+    others.push(Row {
+        no: number(2),
+        session: Session(1),
+        field: Field::Life(file),
+        kind: LeaseKind::Shared,
+        until: 300,
+        promise: None,
+        lock: None,
+    })?;
+    on.grant_all(alloc, 110, 10, rows, &mut off, others)?;
+    assert!(rt; on.row(number(1)).is_some());
+    assert!(rt; off.row(number(2)).is_some());
     Ok(())
 }
 

@@ -21,17 +21,8 @@ pub fn grant_all(rows: &mut Vec<Row>, now: u64, skew: u64, more: List<Row>) -> R
     Ok(())
 }
 
-/// Puts in each, in order. Room is made first, and nothing can fail then.
-pub fn put_all(rows: &mut Vec<Row>, others: List<Row>) -> Result<(), Memory>
-    ensures ok { OnOk result (rows.new.items ≡ with_rows others rows.old.items) }
-    ensures err { OnErr result (rows.new.items ≡ rows.old.items) }
-{
-    rows.reserve(others.len())?;
-    put_each(rows, others);
-    Ok(())
-}
-
-fn keep_live(rows: &mut Vec<Row>, now: u64, skew: u64)
+/// Drops the rows that are over at the reading; the room stays.
+pub fn keep_live(rows: &mut Vec<Row>, now: u64, skew: u64)
     ensures live { rows.new.items ≡ filter (is_live now skew) rows.old.items }
     ensures fewer { vec_len rows.new ≤ vec_len rows.old }
     ensures room { vec_capacity rows.new ≡ vec_capacity rows.old }
@@ -39,8 +30,8 @@ fn keep_live(rows: &mut Vec<Row>, now: u64, skew: u64)
     rows.retain(|row| is_live(row, now, skew));
 }
 
-/// Puts in each, where there is room for all.
-fn put_each(rows: &mut Vec<Row>, more: List<Row>)
+/// Puts in each, in order, where there is room for all.
+pub fn put_each(rows: &mut Vec<Row>, more: List<Row>)
     requires { vec_len rows.old + length more ≤ vec_capacity rows.old }
     ensures { rows.new.items ≡ with_rows more rows.old.items }
 {

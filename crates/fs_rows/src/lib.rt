@@ -10,7 +10,7 @@ mod rows;
 #[cfg(test)]
 mod tests;
 
-pub use grants::put_all;
+pub use grants::{keep_live, put_each};
 pub use law::{numbers_tell_rows_apart, tables_are_without_conflict};
 pub use live::Live;
 pub use reads::is_live;

@@ -1,3 +1,5 @@
+pub mod Both
+pub mod Parts
 mod Ends
 mod Own
 mod Kept

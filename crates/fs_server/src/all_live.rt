@@ -139,7 +139,10 @@ impl<'a> AllLive<'a> {
     pub(crate) fn row(&self, no: LeaseNo) -> Option<&Row>
         ensures { option_copied result ≡ find (has_no no) self.now }
     {
-        unreachable!()
+        match self.off.row(no) {
+            Some(row) => Some(row),
+            None => self.on.row(no),
+        }
     }
 
     /// The last numbers of the files right below the directory that rows are on, one for each row, in some order.
@@ -147,7 +150,10 @@ impl<'a> AllLive<'a> {
         ensures { IfOk result (λ told. (k : ℕ) →
             is_borne told k ≡ is_borne (borne_numbers dir.now self.now) k) }
     {
-        unreachable!()
+        let mut told = self.off.borne(alloc, dir)?;
+        let others = self.on.borne(alloc, dir)?;
+        told.items_mut().extend_from_slice(others.as_slice())?;
+        Ok(told)
     }
 
     /// The numbers and sessions of the rows on the field that no transaction keeps, in order of number.
@@ -158,6 +164,10 @@ impl<'a> AllLive<'a> {
     ) -> Result<List<(LeaseNo, Session)>, Memory>
         ensures { IfOk result (λ told. told ≡ unlocked_on field.now self.now) }
     {
-        unreachable!()
+        if field.tells_no_mode() {
+            self.off.unlocked_on(alloc, field)
+        } else {
+            self.on.unlocked_on(alloc, field)
+        }
     }
 }

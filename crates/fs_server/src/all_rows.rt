@@ -1,9 +1,9 @@
 //! All rows of a server.
-ghost use Rattle.std.specs.Prelude.{◌≡◌, [], not, map, OnOk, OnErr};
+ghost use Rattle.std.specs.Prelude.{◌≡◌, [], not, map, IfOk, OnOk, OnErr};
 ghost use Rattle.std.specs.List.{filter};
 ghost use Rattle.fs_field.specs.Table.{has_no, renewed_row, is_live};
 ghost use Rattle.fs_rows.specs.Granted.{with_rows};
-ghost use Rattle.fs_server.specs.Rows.{AreRows};
+ghost use Rattle.fs_server.specs.Rows.{AreRows, rows_off_modes, rows_on_modes};
 
 use crate::all_live::AllLive;
 use fs_field::Row;
@@ -24,13 +24,15 @@ pub(crate) struct AllRows {
 impl Model for AllRows {
     ghost use Rattle.std.specs.Prelude.{List};
     ghost use Rattle.fs_field.specs.declared.row.Row.{Row};
+    ghost use Rattle.fs_rows.specs.Table.{IsTable};
+    ghost use Rattle.fs_moderows.specs.Table.{IsModeTable};
     ghost use Rattle.fs_server.specs.Rows.{AreRows, both};
 
     ghost Value = { List Row };
 
     ghost view = { λ r. both r.off r.on };
 
-    ghost invariant = { λ r. AreRows (both r.off r.on) };
+    ghost invariant = { λ r. IsTable r.off × (IsModeTable r.on × AreRows (both r.off r.on)) };
 }
 
 impl AllRows {
@@ -74,14 +76,17 @@ impl AllRows {
         ensures ok { OnOk result (self.new ≡ with_rows rows (filter (is_live now skew) self.old)) }
         ensures err { OnErr result (self.new ≡ self.old) }
     {
-        unreachable!()
+        let parts = Parts::of(alloc, rows)?;
+        self.on
+            .grant_all(alloc, now, skew, parts.on, &mut self.off, parts.off)
     }
 
     /// Lets the row of this number, where there is one, end no sooner than `until`; its end is never lowered.
     pub(crate) fn renew(&mut self, no: LeaseNo, until: u64)
         ensures { self.new ≡ map (renewed_row no until) self.old }
     {
-        unreachable!()
+        let _ = self.off.renew(no, until);
+        let _ = self.on.renew(no, until);
     }
 
     /// Drops the row of this number, where there is one.
@@ -90,6 +95,31 @@ impl AllRows {
     {
         self.off.release(no);
         self.on.release(no);
+    }
+}
+
+/// Rows to be put in, by table.
+#[derive(Drop)]
+struct Parts {
+    off: List<Row>,
+    on: List<Row>,
+}
+
+impl Parts {
+    fn of(alloc: Global, rows: List<Row>) -> Result<Parts, Memory>
+        ensures off { IfOk result (λ parts. parts.off ≡ rows_off_modes rows) }
+        ensures on { IfOk result (λ parts. parts.on ≡ rows_on_modes rows) }
+    {
+        let mut off = List::new(alloc);
+        let mut on = List::new(alloc);
+        for row in rows.into_vec() {
+            if row.field.tells_no_mode() {
+                off.push(row)?;
+            } else {
+                on.push(row)?;
+            }
+        }
+        Ok(Parts { off, on })
     }
 }
 
