@@ -1,10 +1,11 @@
 -- Rows in order that stand in two tables.
 use Rattle.std.proofs.Common.{◌≡◌, ◌==◌, not, ◌&&◌, ◌||◌, ℕ, Bool, true, false, List, [], ◌∷◌, refl, ap, cond, sym, ◌∙◌, subst, map, inl, inr, arith}
-use Rattle.std.specs.Prelude.{Option}
-use Rattle.std.specs.List.{filter, list_all}
+use Rattle.std.specs.Prelude.{◌↔◌, Option, Result, Ok, Err, IsOk, OnOk, OnErr}
+use Rattle.std.specs.List.{filter, list_all, list_any}
 use Rattle.std.specs.Ordering.{nat_cmp, is_lt, ordering_then}
 use Rattle.std.proofs.lemmas.Bool.Decides.{nat_tests}
 use Rattle.fs_ident.specs.declared.actor.LeaseNo.{LeaseNo}
+use Rattle.fs_ident.specs.declared.memory.Memory.{Memory}
 use Rattle.fs_ident.specs.In.{In}
 use Rattle.fs_ident.specs.Ordered.{put_before}
 use Rattle.fs_ident.proofs.Booleans.{both as both_hold, first, second, joined}
@@ -14,9 +15,10 @@ use Rattle.fs_field.specs.declared.field.Field.{Field}
 use Rattle.fs_field.specs.declared.field.Field.TheVariants.{Life, Child, Names, Info, Own, SelfW, Other}
 use Rattle.fs_field.specs.declared.lease_kind.LeaseKind.{LeaseKind}
 use Rattle.fs_field.specs.declared.row.Row.{Row}
+use Rattle.fs_field.specs.declared.asked.Unknown.{Unknown}
 use Rattle.fs_field.specs.Field.{tells_no_mode}
-use Rattle.fs_field.specs.Table.{no_before, is_ordered, renewed_row, with_row}
-use Rattle.fs_field.proofs.Leases.{renewed_same, NoPlainConflict-filter}
+use Rattle.fs_field.specs.Table.{has_no, no_before, is_ordered, renewed_row, with_row}
+use Rattle.fs_field.proofs.Leases.{none_renewed, renewed_same, NoPlainConflict-filter}
 use Rattle.fs_field.proofs.Order.{before_trans, ordered_filter}
 use Rattle.fs_moderows.specs.Table.{is_of_mode, IsModeTable}
 use Rattle.fs_rows.specs.Granted.{with_rows}
@@ -230,3 +232,69 @@ on_table rows t = record {
 
 pub are_none : AreRows []
 are_none = record { ordered = refl; shaped = λ r i. absurd i; free = λ a b i j. absurd i }
+
+-- ## What calls make of both tables
+
+-- those that pass stay both tables
+pub filtered_both : (test : Row → Bool) (off on : List Row) → AreBoth off on → both (filter test off) (filter test on) ≡ filter test (both off on)
+filtered_both test off on t = sym (filter_with_rows test on off t.1.1.ordered)
+
+-- a row of the number is renewed where there is one
+pub renewed_if : (r : Result (Unit {0}) Unknown) (number : LeaseNo) (until : ℕ) (old new : List Row) → IsOk r ↔ (list_any (has_no number) old ≡ true) → OnOk r (new ≡ map (renewed_row number until) old) → OnErr r (new ≡ old) → new ≡ map (renewed_row number until) old
+renewed_if (Ok u) number until old new k ok err = ok
+renewed_if (Err e) number until old new k ok err = err ∙ sym (none_renewed number until old (fails (list_any (has_no number) old) (λ h. let wrong : false ≡ true = k.1 h in absurd (cc)))) where
+  fails : (b : Bool) → (b ≡ true → ⊥) → b ≡ false
+  fails true h = absurd (h refl)
+  fails false h = refl
+
+filter_swap : {X : Type 0} (p q : X → Bool) (xs : List X) → filter p (filter q xs) ≡ filter q (filter p xs)
+filter_swap p q [] = refl
+filter_swap p q (x ∷ xs) =
+    elim (p x) as (λ b. p x ≡ b → filter p (cond (q x) (x ∷ filter q xs) (filter q xs)) ≡ filter q (cond b (x ∷ filter p xs) (filter p xs))) [
+      | true ↦ λ e. elim (q x) as (λ b. filter p (cond b (x ∷ filter q xs) (filter q xs)) ≡ cond b (x ∷ filter q (filter p xs)) (filter q (filter p xs))) [
+        | true ↦ ap (λ b. cond b (x ∷ filter p (filter q xs)) (filter p (filter q xs))) e ∙ ap (λ ys. x ∷ ys) (filter_swap p q xs)
+        | false ↦ filter_swap p q xs
+      ]
+      | false ↦ λ e. elim (q x) as (λ b. filter p (cond b (x ∷ filter q xs) (filter q xs)) ≡ filter q (filter p xs)) [
+        | true ↦ ap (λ b. cond b (x ∷ filter p (filter q xs)) (filter p (filter q xs))) e ∙ filter_swap p q xs
+        | false ↦ filter_swap p q xs
+      ]
+    ] refl
+
+-- the rows with several more, of which those that do not pass the test were dropped before
+abbrev pub after : (Row → Bool) → List Row → List Row → List Row → List Row
+after test more off on = with_rows more (filter test (both off on))
+
+pub after_off : (test : Row → Bool) (more off on : List Row) → AreBoth off on → AreRows (after test more off on) → with_rows (rows_off_modes more) (filter test off) ≡ rows_off_modes (after test more off on)
+after_off test more off on t a = sym (filter_with_rows is_off_modes more (filter test (both off on)) a.ordered
+  ∙ ap (with_rows (rows_off_modes more)) (filter_swap is_off_modes test (both off on) ∙ ap (filter test) (off_part off on t.0 t.1.0 t.1.1.ordered)))
+
+pub after_on : (test : Row → Bool) (more off on : List Row) → AreBoth off on → AreRows (after test more off on) → with_rows (rows_on_modes more) (filter test on) ≡ rows_on_modes (after test more off on)
+after_on test more off on t a = sym (filter_with_rows (λ r. not (is_off_modes r)) more (filter test (both off on)) a.ordered
+  ∙ ap (with_rows (rows_on_modes more)) (filter_swap (λ r. not (is_off_modes r)) test (both off on) ∙ ap (filter test) (on_part off on t.0 t.1.0 t.1.1.ordered)))
+
+-- each table takes its part of them
+pub takes_off : (test : Row → Bool) (more off on : List Row) → AreBoth off on → AreRows (after test more off on) → IsTable (with_rows (rows_off_modes more) (filter test off))
+takes_off test more off on t a = subst IsTable (sym (after_off test more off on t a)) (off_table (after test more off on) a)
+
+pub takes_on : (test : Row → Bool) (more off on : List Row) → AreBoth off on → AreRows (after test more off on) → IsModeTable (with_rows (rows_on_modes more) (filter test on))
+takes_on test more off on t a = subst IsModeTable (sym (after_on test more off on t a)) (on_table (after test more off on) a)
+
+-- and both make all
+pub takes_all : (test : Row → Bool) (more off on : List Row) → AreBoth off on → AreRows (after test more off on) → both (with_rows (rows_off_modes more) (filter test off)) (with_rows (rows_on_modes more) (filter test on)) ≡ after test more off on
+takes_all test more off on t a =
+    ap (λ rows. both rows (with_rows (rows_on_modes more) (filter test on))) (after_off test more off on t a)
+    ∙ ap (both (rows_off_modes (after test more off on))) (after_on test more off on t a)
+    ∙ both_parts (after test more off on) a.ordered
+
+pub taken : (test : Row → Bool) (more off on : List Row) → AreBoth off on → AreRows (after test more off on) → AreBoth (with_rows (rows_off_modes more) (filter test off)) (with_rows (rows_on_modes more) (filter test on))
+taken test more off on t a = (takes_off test more off on t a, (takes_on test more off on t a, subst AreRows (sym (takes_all test more off on t a)) a))
+
+-- all or nothing
+pub either_both : (r : Result (Unit {0}) Memory) (off on later_off later_on new_off new_on : List Row) → AreBoth off on → AreBoth later_off later_on → OnOk r (new_on ≡ later_on) → OnErr r (new_on ≡ on) → OnOk r (new_off ≡ later_off) → OnErr r (new_off ≡ off) → AreBoth new_off new_on
+either_both (Ok u) off on later_off later_on new_off new_on old new p q s u' = rw (p, s) new
+either_both (Err e) off on later_off later_on new_off new_on old new p q s u' = rw (q, u') old
+
+pub ok_both : (r : Result (Unit {0}) Memory) (later_off later_on new_off new_on rows : List Row) → both later_off later_on ≡ rows → OnOk r (new_on ≡ later_on) → OnOk r (new_off ≡ later_off) → OnOk r (both new_off new_on ≡ rows)
+ok_both (Ok u) later_off later_on new_off new_on rows e p s = rw (p, s) e
+ok_both (Err x) later_off later_on new_off new_on rows e p s = tt
