@@ -31,9 +31,9 @@ pub record IsReplay (bytes : List ℕ) (before now : Option (List ℕ)) : Type 0
   pub known : NoneStrange (run_of schedule).outcomes
   pub admitted : schedule.head ≡ Direct → AllAdmitted (journal_of (run_of schedule).world) (told_of schedule.events (run_of schedule).outcomes)
 
--- the bytes are a schedule, and a part of its report from the front on was written
+-- the bytes are a schedule, whose run went to its end, and a part of its report from the front on was written
 abbrev pub IsPartOfReplay : List ℕ → Option (List ℕ) → Option (List ℕ) → Type 0
-IsPartOfReplay bytes before now = (s : Schedule) × IsScheduleText s bytes × IsPrefixWritten before now (report_of (run_of s))
+IsPartOfReplay bytes before now = (s : Schedule) × IsScheduleText s bytes × (stop_of s ≡ None) × IsPrefixWritten before now (report_of (run_of s))
 
 -- the bytes are a schedule, whose run is broken off there
 abbrev pub IsStopped : Stop → List ℕ → Type 0
