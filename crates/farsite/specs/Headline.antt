@@ -1,5 +1,5 @@
 -- What every schedule comes to.
-use Rattle.std.specs.Prelude.{◌≡◌, ℕ, true, List, Option, Some, None}
+use Rattle.std.specs.Prelude.{◌≡◌, ℕ, List, Option, Some, None}
 use Rattle.std.specs.Io.KnownBytes.{Appends}
 use Rattle.fs_io.specs.Bytes.{IsPrefixWritten}
 use Rattle.fs_report.specs.Report.{report_text}
