@@ -5,8 +5,9 @@ use Rattle.std.specs.Io.KnownBytes.{Appends}
 use Rattle.fs_schedule.specs.declared.event.Schedule.{Schedule}
 use Rattle.fs_schedule.specs.Faults.{AtLine, FaultsAt, IsFirstFault, IsScheduleText, LinesFaultAt, PassesLimit}
 use Rattle.fs_report.specs.Report.{done_text}
+use Rattle.fs_world.specs.Refusals.{NoneHas, is_link_strange}
 use Rattle.fs_world.specs.World.{AllMayHappen, run_of, stop_of}
-use Rattle.fs_world.proofs.RightRuns.{none_strange, refusals_fair}
+use Rattle.fs_world.proofs.RightRuns.{neither_strange, no_core_strange, refusals_fair}
 use Rattle.fs_world.proofs.Whole.{run_is_serial, told_is_admitted}
 use Rattle.fs_schedule.specs.Lines.{lines_of}
 use Rattle.fs_schedule.specs.declared.error.Which.{Which}
@@ -19,15 +20,15 @@ use Rattle.farsite.specs.declared.status.Status.TheVariants as status
 use Rattle.farsite.specs.Headline.{IsLimit, IsReplay, report_of}
 
 -- a schedule's report was written
-pub replayed : (s : Schedule) (bytes : List ℕ) (a b : Option (List ℕ)) → IsScheduleText s bytes → AllMayHappen s.head s.events → stop_of s ≡ None → Appends a b (report_of (run_of s)) → IsReplay bytes a b
-replayed s bytes a b r f h w = record {
+pub replayed : (s : Schedule) (bytes : List ℕ) (a b : Option (List ℕ)) → IsScheduleText s bytes → AllMayHappen s.head s.events → stop_of s ≡ None → NoneHas is_link_strange (run_of s).outcomes → Appends a b (report_of (run_of s)) → IsReplay bytes a b
+replayed s bytes a b r f h k w = record {
   schedule = s;
   read = r;
   whole = h;
   written = w;
   headline = run_is_serial s f r.1;
   fair = refusals_fair s f r.1;
-  known = none_strange s f r.1;
+  known = neither_strange (run_of s).outcomes k (no_core_strange s f r.1);
   admitted = λ direct. told_is_admitted s direct f;
 }
 

@@ -1,5 +1,5 @@
 -- What every schedule comes to.
-use Rattle.std.specs.Prelude.{◌≡◌, ℕ, true, List, Option, Some, None}
+use Rattle.std.specs.Prelude.{◌≡◌, ℕ, List, Option, Some, None}
 use Rattle.std.specs.Io.KnownBytes.{Appends}
 use Rattle.fs_io.specs.Bytes.{IsPrefixWritten}
 use Rattle.fs_report.specs.Report.{report_text}
@@ -19,8 +19,8 @@ abbrev pub report_of : Run → List ℕ
 report_of r = report_text r.outcomes (journal_of r.world) (space_of r.world)
 
 -- what was written is the report of the schedule that was read, whose run went to its end; its journal is serial; an entry of a
--- log is refused only where a lease that it used had ended, or behind such a one; nobody was told what no honest actor sends;
--- and in the direct form the journal has every reply that was told
+-- log is refused only where a lease that it used had ended, or behind such a one; nothing that was told is strange, neither to
+-- a link nor to a core; and in the direct form the journal has every reply that was told
 pub record IsReplay (bytes : List ℕ) (before now : Option (List ℕ)) : Type 0 where
   pub schedule : Schedule
   pub read : IsScheduleText schedule bytes
@@ -31,9 +31,9 @@ pub record IsReplay (bytes : List ℕ) (before now : Option (List ℕ)) : Type 0
   pub known : NoneStrange (run_of schedule).outcomes
   pub admitted : schedule.head ≡ Direct → AllAdmitted (journal_of (run_of schedule).world) (told_of schedule.events (run_of schedule).outcomes)
 
--- the bytes are a schedule, and a part of its report from the front on was written
+-- the bytes are a schedule, whose run went to its end, and a part of its report from the front on was written
 abbrev pub IsPartOfReplay : List ℕ → Option (List ℕ) → Option (List ℕ) → Type 0
-IsPartOfReplay bytes before now = (s : Schedule) × IsScheduleText s bytes × IsPrefixWritten before now (report_of (run_of s))
+IsPartOfReplay bytes before now = (s : Schedule) × IsScheduleText s bytes × (stop_of s ≡ None) × IsPrefixWritten before now (report_of (run_of s))
 
 -- the bytes are a schedule, whose run is broken off there
 abbrev pub IsStopped : Stop → List ℕ → Type 0

@@ -73,7 +73,7 @@ all_stay (Err e) w new x stays is = tt
 -- ## Where it comes from
 
 module _ (w : Served) (x : Sent) (i : In x w.packets.sent) (h : IsLinked w) where
-  between : (a b : Peer) → x.from ≡ a → x.to ≡ b → GoesBetween w.seats a b
+  pub between : (a b : Peer) → x.from ≡ a → x.to ≡ b → GoesBetween w.seats a b
   between a b from to = subst (λ (q : Peer). GoesBetween w.seats a q) to (subst (λ (q : Peer). GoesBetween w.seats q x.to) from (h.ties.between x i))
 
   pub to_server : (s : Session) (k : ℕ) → x.from ≡ Client s → x.to ≡ Server k → x.to ≡ the_server

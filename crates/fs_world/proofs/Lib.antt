@@ -20,6 +20,7 @@ pub mod SeatMaps
 pub mod Spending
 mod HeardMessages
 mod Arrivals
+mod NothingUnsent
 pub mod SentNumbers
 mod AtSeat
 pub mod Forms

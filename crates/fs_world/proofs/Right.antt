@@ -37,10 +37,10 @@ use Rattle.fs_serial.proofs.Facts.{In-front}
 use Rattle.fs_serial.proofs.HearMoves.{fits_first}
 use Rattle.fs_serial.proofs.Rising.{world_begins, world_later}
 use Rattle.fs_serial.proofs.Seats.{Seat}
-use Rattle.fs_world.specs.Refusals.{HadItsTime, HeldBackFor, IsFair, is_strange}
+use Rattle.fs_world.specs.Refusals.{HadItsTime, HeldBackFor, IsFair, is_core_strange}
 
 pub record IsRight (rows : List Row) (n : Note) : Type 0 where
-  pub plain : is_strange n ≡ false
+  pub plain : is_core_strange n ≡ false
   pub fair : IsFair rows n
 
 -- ## At a client

@@ -1,6 +1,6 @@
 -- Every event of every run notes what is right.
-use Rattle.std.proofs.Common.{◌≡◌, ℕ, false, List, [], ◌∷◌, ◌++◌, refl}
-use Rattle.std.specs.Prelude.{Option, Some, None}
+use Rattle.std.proofs.Common.{◌≡◌, ℕ, Bool, true, false, List, [], ◌∷◌, ◌++◌, refl}
+use Rattle.std.specs.Prelude.{Option, Some, None, ◌||◌}
 use Rattle.std.specs.FinMap.{get}
 use Rattle.std.specs.List.{AllByRecursion}
 use Rattle.fs_ident.specs.declared.actor.Session.{Session}
@@ -16,7 +16,7 @@ use Rattle.fs_schedule.specs.declared.event.What.TheVariants.{Join, Do}
 use Rattle.fs_schedule.specs.declared.outcome.Outcome.{Outcome}
 use Rattle.fs_world.specs.Direct.{do_at, join_at, step_of}
 use Rattle.fs_world.specs.Order.{Told, told_at}
-use Rattle.fs_world.specs.Refusals.{AllFair, IsFair, NoneStrange, is_strange, rows_of}
+use Rattle.fs_world.specs.Refusals.{AllFair, HasNone, IsFair, NoneHas, NoneStrange, is_core_strange, is_link_strange, is_strange, rows_of}
 use Rattle.fs_schedule.specs.Skew.{IsTimely}
 use Rattle.fs_world.specs.World.{AllMayHappen, Run, first_run, first_world, more, run_of, run_on, step}
 use Rattle.fs_world.specs.declared.direct.Direct.{Direct as TheDirect}
@@ -52,7 +52,7 @@ all_fair : (rows : List Row) (notes : List Note) → AllRight rows notes → All
 all_fair rows [] h = tt
 all_fair rows (n ∷ ns) h = (h.0.fair, all_fair rows ns h.1)
 
-all_plain : (rows : List Row) (notes : List Note) → AllRight rows notes → AllByRecursion (λ (n : Note). is_strange n ≡ false) notes
+all_plain : (rows : List Row) (notes : List Note) → AllRight rows notes → AllByRecursion (λ (n : Note). is_core_strange n ≡ false) notes
 all_plain rows [] h = tt
 all_plain rows (n ∷ ns) h = (h.0.plain, all_plain rows ns h.1)
 
@@ -63,18 +63,33 @@ fair_from h (e ∷ es) told w g = (
   fair_from h es (told ++ told_at e.what (step w e).outcome.notes) (step w e).world (goes_on h e es told w g),
 )
 
-one_more : (outcomes : List Outcome) (o : Outcome) → NoneStrange outcomes → AllByRecursion (λ (n : Note). is_strange n ≡ false) o.notes → NoneStrange (outcomes ++ o ∷ [])
-one_more [] o h p = (p, tt)
-one_more (x ∷ xs) o h p = (h.0, one_more xs o h.1 p)
+-- one more outcome has no note of the kind
+pub one_more : (kind : Note → Bool) (outcomes : List Outcome) (o : Outcome) → NoneHas kind outcomes → HasNone kind o → NoneHas kind (outcomes ++ o ∷ [])
+one_more kind [] o h p = (p, tt)
+one_more kind (x ∷ xs) o h p = (h.0, one_more kind xs o h.1 p)
 
-plain_from : (h : Head) (es : List Event) (told : List Told) (r : Run) → Goes h es told r.world → NoneStrange r.outcomes → NoneStrange (run_on r es).outcomes
+plain_from : (h : Head) (es : List Event) (told : List Told) (r : Run) → Goes h es told r.world → NoneHas is_core_strange r.outcomes → NoneHas is_core_strange (run_on r es).outcomes
 plain_from h [] told r g p = p
 plain_from h (e ∷ es) told r g p =
     plain_from h es (told ++ told_at e.what (step r.world e).outcome.notes) (more r e) (goes_on h e es told r.world g)
-    (one_more r.outcomes (step r.world e).outcome p (all_plain (rows_of (step r.world e).world) (step r.world e).outcome.notes (right_at h e es told r.world g)))
+    (one_more is_core_strange r.outcomes (step r.world e).outcome p (all_plain (rows_of (step r.world e).world) (step r.world e).outcome.notes (right_at h e es told r.world g)))
 
-pub none_strange : (s : Schedule) → AllMayHappen s.head s.events → IsTimely s.head s.events → NoneStrange (run_of s).outcomes
-none_strange s may timely = plain_from s.head s.events [] (first_run s.head) (goes_first s.head s.events may timely) tt
+pub no_core_strange : (s : Schedule) → AllMayHappen s.head s.events → IsTimely s.head s.events → NoneHas is_core_strange (run_of s).outcomes
+no_core_strange s may timely = plain_from s.head s.events [] (first_run s.head) (goes_first s.head s.events may timely) tt
 
 pub refusals_fair : (s : Schedule) → AllMayHappen s.head s.events → IsTimely s.head s.events → AllFair (first_world s.head) s.events
 refusals_fair s may timely = fair_from s.head s.events [] (first_world s.head) (goes_first s.head s.events may timely)
+
+-- ## Strange to no link, and to no core
+
+not_either : (a b : Bool) → a ≡ false → b ≡ false → (a || b) ≡ false
+not_either true b p q = absurd (cc p)
+not_either false b p q = q
+
+notes_neither : (notes : List Note) → AllByRecursion (λ (n : Note). is_link_strange n ≡ false) notes → AllByRecursion (λ (n : Note). is_core_strange n ≡ false) notes → AllByRecursion (λ (n : Note). is_strange n ≡ false) notes
+notes_neither [] p q = tt
+notes_neither (n ∷ ns) p q = (not_either (is_link_strange n) (is_core_strange n) p.0 q.0, notes_neither ns p.1 q.1)
+
+pub neither_strange : (outcomes : List Outcome) → NoneHas is_link_strange outcomes → NoneHas is_core_strange outcomes → NoneStrange outcomes
+neither_strange [] p q = tt
+neither_strange (o ∷ os) p q = (notes_neither o.notes p.0 q.0, neither_strange os p.1 q.1)

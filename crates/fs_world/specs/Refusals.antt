@@ -1,5 +1,5 @@
 -- What a server refuses, and that no actor is told what no honest actor sends.
-use Rattle.std.specs.Prelude.{◌≡◌, ◌≢◌, ℕ, ◌≤◌, Bool, true, false, List, [], ◌∷◌}
+use Rattle.std.specs.Prelude.{◌≡◌, ◌≢◌, ℕ, ◌≤◌, Bool, true, false, ◌||◌, List, [], ◌∷◌}
 use Rattle.std.specs.List.{AllByRecursion}
 use Rattle.fs_ident.specs.In.{In}
 use Rattle.fs_field.specs.declared.row.Row.{Row}
@@ -44,11 +44,29 @@ AllFair w (e ∷ es) = AllByRecursion (IsFair (rows_of (step w e).world)) (step 
 
 -- ## Strange messages
 
--- a server or a client was told what no honest actor sends
-abbrev pub is_strange : Note → Bool
-is_strange (note.Server server.Strange) = true
-is_strange (note.Client client.Strange) = true
-is_strange n = false
+-- the core of a server or of a client was told what no honest actor sends
+abbrev pub is_core_strange : Note → Bool
+is_core_strange (note.Server server.Strange) = true
+is_core_strange (note.Client client.Strange) = true
+is_core_strange n = false
 
+-- what came over a link is no packet, or it brought a message while none was on its way
+abbrev pub is_link_strange : Note → Bool
+is_link_strange note.Strange = true
+is_link_strange n = false
+
+-- either of the two
+abbrev pub is_strange : Note → Bool
+is_strange n = is_link_strange n || is_core_strange n
+
+-- no note of the event is of this kind
+abbrev pub HasNone : (Note → Bool) → Outcome → Type 0
+HasNone kind o = AllByRecursion (λ (n : Note). kind n ≡ false) o.notes
+
+-- nor is any of these events
+abbrev pub NoneHas : (Note → Bool) → List Outcome → Type 0
+NoneHas kind outcomes = AllByRecursion (HasNone kind) outcomes
+
+-- nothing that was told was strange
 abbrev pub NoneStrange : List Outcome → Type 0
-NoneStrange outcomes = AllByRecursion (λ (o : Outcome). AllByRecursion (λ (n : Note). is_strange n ≡ false) o.notes) outcomes
+NoneStrange outcomes = NoneHas is_strange outcomes

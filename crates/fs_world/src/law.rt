@@ -4,7 +4,7 @@ ghost use Rattle.fs_schedule.specs.declared.event.Head.TheVariants as head;
 ghost use Rattle.fs_schedule.specs.declared.event.Schedule.{Schedule};
 ghost use Rattle.fs_world.specs.Order.{AllAdmitted, told_of};
 ghost use Rattle.fs_world.specs.Parts.{AllPartsHold};
-ghost use Rattle.fs_world.specs.Refusals.{AllFair, NoneStrange};
+ghost use Rattle.fs_world.specs.Refusals.{AllFair, NoneHas, is_core_strange};
 ghost use Rattle.fs_world.specs.Safe.{IsSerial};
 ghost use Rattle.fs_schedule.specs.Skew.{IsTimely};
 ghost use Rattle.fs_world.specs.World.{AllMayHappen, first_world, journal_of, run_of, stop_of};
@@ -31,10 +31,10 @@ pub fn no_short_run_is_spent()
         stop_of s ≡ None }
 {}
 
-/// No server and no client is ever told what no honest actor sends.
-pub fn no_outcome_is_strange()
+/// No core of a server or of a client is ever told what no honest actor sends.
+pub fn no_core_is_told_what_is_strange()
     ensures { (s : Schedule) → AllMayHappen s.head s.events → IsTimely s.head s.events →
-        NoneStrange (run_of s).outcomes }
+        NoneHas is_core_strange (run_of s).outcomes }
 {}
 
 /// A server refuses an entry only where a lease that it used has no row any more, and that lease had ended; and it holds

@@ -28,7 +28,7 @@ mod tests;
 mod world;
 
 pub use law::{
-    every_run_is_serial, every_run_keeps_all_parts, no_outcome_is_strange, no_short_run_is_spent,
-    refusals_are_fair,
+    every_run_is_serial, every_run_keeps_all_parts, no_core_is_told_what_is_strange,
+    no_short_run_is_spent, refusals_are_fair,
 };
 pub use world::World;

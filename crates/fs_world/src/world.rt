@@ -40,6 +40,7 @@ impl Model for World {
 
 impl World {
     ghost use Rattle.fs_schedule.specs.Spelling.{FitsHead};
+    ghost use Rattle.fs_world.specs.Refusals.{HasNone, is_link_strange};
     ghost use Rattle.fs_world.specs.World.{FitsWorld, first_world, journal_of, packets_of, space_of, step};
 
     /// The world of the form before its first event.
@@ -61,12 +62,13 @@ impl World {
     }
 
     /// One event: what it comes to. `Spent` exactly where the event would raise that counter above its end.
-    /// After an error the world is as it was.
+    /// All that comes over a link was sent over it. After an error the world is as it was.
     pub fn step(&mut self, alloc: Global, event: &Event) -> Result<Outcome, CoreError>
         requires reading { event.now.reading ≤ LATEST }
         requires asked { FitsWorld self.old event.now.what }
         ensures outcome { IfOk result (λ o. o ≡ (step self.old event.now).outcome) }
         ensures world { OnOk result (self.new ≡ (step self.old event.now).world) }
+        ensures known { IfOk result (HasNone is_link_strange) }
         ensures spent { (counter : TheCounter) → IsErrOf result (errors.Spent counter) →
             (step self.old event.now).spent ≡ Some counter }
         ensures only { (counter : TheCounter) → (step self.old event.now).spent ≡ Some counter →

@@ -1,10 +1,12 @@
-use Rattle.std.proofs.Common.{◌≡◌, ◌+◌, ◌≤◌, ◌<◌, ℕ, List, [], ◌∷◌, ◌++◌, ap, sym, ◌∙◌, arith, inl, inr, drop, length}
+use Rattle.std.proofs.Common.{◌≡◌, ◌+◌, ◌≤◌, ◌<◌, ℕ, List, [], ◌∷◌, ◌++◌, ap, sym, subst, ◌∙◌, arith, inl, inr, drop, length}
 use Rattle.std.specs.Prelude.{None, Some}
 use Rattle.fs_schedule.specs.declared.event.Event.{Event}
 use Rattle.fs_schedule.specs.declared.limits.TheConstants.{PACKETS}
 use Rattle.fs_schedule.specs.declared.outcome.Outcome.{Outcome}
+use Rattle.fs_world.specs.Refusals.{NoneHas, is_link_strange}
 use Rattle.fs_world.specs.World.{Run, AtPackets, more, packets_of, run_on, step, stop_in}
 use Rattle.fs_world.specs.declared.form.Form.{Form}
+use Rattle.fs_world.proofs.RightRuns.{one_more}
 use Rattle.farsite.proofs.Asked.{fits_further}
 use Rattle.farsite.proofs.Runs.{flooded, goes_on, no_error, run_step, unspent}
 use Rattle.farsite.proofs.run.run_all.Goals as goal
@@ -43,4 +45,5 @@ loop-at-preserved c =
           ∙ sym (goes_on w c.step.new.self (i + 2) items i e c.loop-at-test.true c.index-events-at.is c.in-Ok.ensures.world none less)
           ∙ c.loop-at.invariant.stop;
       fits = fits_further w c.step.new.self items i e c.loop-at-test.true c.in-Ok.ensures.world c.loop-at.invariant.fits;
+      known = λ known. subst (λ (os : List Outcome). NoneHas is_link_strange os) (sym c.in_ok-push-in-Ok.ensures.ok) (one_more is_link_strange c.loop-at.told c.in-Ok.outcome (c.loop-at.invariant.known known) c.in-Ok.ensures.known);
     }

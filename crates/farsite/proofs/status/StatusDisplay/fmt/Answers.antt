@@ -1,4 +1,4 @@
-use Rattle.std.proofs.Common.{List, ℕ, sym, subst}
+use Rattle.std.proofs.Common.{sym, subst}
 use Rattle.std.specs.Fmt.{HasWritten}
 use Rattle.farsite.specs.declared.status.Status.{Status}
 use Rattle.farsite.specs.Status.{status_text}

@@ -1,0 +1,21 @@
+use Rattle.std.proofs.Common.{sym, subst}
+use Rattle.std.specs.Prelude.{Result, IfOk}
+use Rattle.fs_msg.specs.declared.core_error.CoreError.{CoreError}
+use Rattle.fs_schedule.specs.declared.outcome.Outcome.{Outcome}
+use Rattle.fs_world.specs.Linked.{IsWhole}
+use Rattle.fs_world.specs.Refusals.{HasNone, is_link_strange}
+use Rattle.fs_world.specs.declared.form.Form.{Form}
+use Rattle.fs_world.specs.declared.form.Form.TheVariants.{Direct, Served}
+use Rattle.fs_world.proofs.NothingUnsent.{answered_plain}
+use Rattle.fs_world.proofs.world.World.step.Goals as goal
+use Rattle.fs_world.proofs.world.World.step.Goals.{in-Direct, in-Served}
+
+pub returns-clause-known : goal.returns-clause-known
+returns-clause-known c = elim c.match-self.branch [
+  | in-Direct w ↦
+      subst (λ (r : Result Outcome CoreError). IfOk r (HasNone is_link_strange)) (sym w.result-is)
+      (answered_plain (Direct w.in-Direct.direct) c.args.event.now w.step.result tt w.step.ensures.outcome)
+  | in-Served w ↦
+      subst (λ (r : Result Outcome CoreError). IfOk r (HasNone is_link_strange)) (sym w.result-is)
+      (answered_plain (Served w.in-Served.served) c.args.event.now w.step-in-Served.result (subst (λ (f : Form). IsWhole f) w.in-Served.is c.self.invariant.1) w.step-in-Served.ensures.outcome)
+]
