@@ -1,5 +1,5 @@
 -- Rows in order that stand in two tables.
-use Rattle.std.proofs.Common.{◌≡◌, ◌==◌, not, ◌&&◌, ◌||◌, ℕ, Bool, true, false, List, [], ◌∷◌, refl, ap, cond, sym, ◌∙◌, subst, map, inl, inr, arith}
+use Rattle.std.proofs.Common.{◌≡◌, not, ◌||◌, ℕ, Bool, true, false, List, [], ◌∷◌, refl, ap, cond, sym, ◌∙◌, subst, map, inl, inr, arith}
 use Rattle.std.specs.Prelude.{◌↔◌, Option, Result, Ok, Err, IsOk, OnOk, OnErr}
 use Rattle.std.specs.List.{filter, list_all, list_any}
 use Rattle.std.specs.Ordering.{nat_cmp, is_lt, ordering_then}
@@ -12,7 +12,7 @@ use Rattle.fs_ident.proofs.Booleans.{both as both_hold, first, second, joined}
 use Rattle.fs_ident.proofs.Passing.{all-In, In-all}
 use Rattle.fs_ident.proofs.Standing.{In-filter}
 use Rattle.fs_field.specs.declared.field.Field.{Field}
-use Rattle.fs_field.specs.declared.field.Field.TheVariants.{Life, Child, Names, Info, Own, SelfW, Other}
+use Rattle.fs_field.specs.declared.field.Field.TheVariants.{SelfW, Other}
 use Rattle.fs_field.specs.declared.lease_kind.LeaseKind.{LeaseKind}
 use Rattle.fs_field.specs.declared.row.Row.{Row}
 use Rattle.fs_field.specs.declared.asked.Unknown.{Unknown}
@@ -267,11 +267,11 @@ after test more off on = with_rows more (filter test (both off on))
 
 pub after_off : (test : Row → Bool) (more off on : List Row) → AreBoth off on → AreRows (after test more off on) → with_rows (rows_off_modes more) (filter test off) ≡ rows_off_modes (after test more off on)
 after_off test more off on t a = sym (filter_with_rows is_off_modes more (filter test (both off on)) a.ordered
-  ∙ ap (with_rows (rows_off_modes more)) (filter_swap is_off_modes test (both off on) ∙ ap (filter test) (off_part off on t.0 t.1.0 t.1.1.ordered)))
+    ∙ ap (with_rows (rows_off_modes more)) (filter_swap is_off_modes test (both off on) ∙ ap (filter test) (off_part off on t.0 t.1.0 t.1.1.ordered)))
 
 pub after_on : (test : Row → Bool) (more off on : List Row) → AreBoth off on → AreRows (after test more off on) → with_rows (rows_on_modes more) (filter test on) ≡ rows_on_modes (after test more off on)
 after_on test more off on t a = sym (filter_with_rows (λ r. not (is_off_modes r)) more (filter test (both off on)) a.ordered
-  ∙ ap (with_rows (rows_on_modes more)) (filter_swap (λ r. not (is_off_modes r)) test (both off on) ∙ ap (filter test) (on_part off on t.0 t.1.0 t.1.1.ordered)))
+    ∙ ap (with_rows (rows_on_modes more)) (filter_swap (λ r. not (is_off_modes r)) test (both off on) ∙ ap (filter test) (on_part off on t.0 t.1.0 t.1.1.ordered)))
 
 -- each table takes its part of them
 pub takes_off : (test : Row → Bool) (more off on : List Row) → AreBoth off on → AreRows (after test more off on) → IsTable (with_rows (rows_off_modes more) (filter test off))

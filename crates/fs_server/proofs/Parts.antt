@@ -1,5 +1,5 @@
 -- What is read of rows is read of the part that it is about.
-use Rattle.std.proofs.Common.{◌≡◌, ◌==◌, not, ◌&&◌, ◌||◌, ℕ, Bool, true, false, List, [], ◌∷◌, ◌++◌, refl, ap, cond, sym, ◌∙◌, subst, map, inl, inr, arith}
+use Rattle.std.proofs.Common.{◌≡◌, ◌==◌, not, ◌&&◌, ◌||◌, ℕ, Bool, true, false, List, [], ◌∷◌, refl, ap, cond, sym, ◌∙◌, subst, map, inl, inr, arith}
 use mathlib.Core.Path.{fun_ext}
 use Rattle.std.specs.Prelude.{Option, Some, None, is_some, option_map}
 use Rattle.std.specs.List.{filter, find, list_any}
@@ -40,9 +40,9 @@ find_part test part h (x ∷ xs) =
       | true ↦ λ e. ap (cond (test x) (Some x)) (find_part test part h xs)
       | false ↦ λ e. passed (test x) (λ t. sym (h x t) ∙ e) ∙ find_part test part h xs
     ] refl where
-  passed : (b : Bool) → (b ≡ true → true ≡ false) → cond b (Some x) (find test xs) ≡ find test xs
-  passed true k = let wrong : true ≡ false = k refl in absurd (cc)
-  passed false k = refl
+      passed : (b : Bool) → (b ≡ true → true ≡ false) → cond b (Some x) (find test xs) ≡ find test xs
+      passed true k = let wrong : true ≡ false = k refl in absurd (cc)
+      passed false k = refl
 
 filter_part : {X : Type 0} (test part : X → Bool) → ((x : X) → test x ≡ true → part x ≡ true) → (xs : List X) → filter test xs ≡ filter test (filter part xs)
 filter_part test part h [] = refl
@@ -51,9 +51,9 @@ filter_part test part h (x ∷ xs) =
       | true ↦ λ e. ap (λ ys. cond (test x) (x ∷ ys) (filter test xs)) (filter_part test part h xs) ∙ ap (cond (test x) (x ∷ filter test (filter part xs))) (filter_part test part h xs)
       | false ↦ λ e. passed (test x) (λ t. sym (h x t) ∙ e) ∙ filter_part test part h xs
     ] refl where
-  passed : (b : Bool) → (b ≡ true → true ≡ false) → cond b (x ∷ filter test xs) (filter test xs) ≡ filter test xs
-  passed true k = let wrong : true ≡ false = k refl in absurd (cc)
-  passed false k = refl
+      passed : (b : Bool) → (b ≡ true → true ≡ false) → cond b (x ∷ filter test xs) (filter test xs) ≡ filter test xs
+      passed true k = let wrong : true ≡ false = k refl in absurd (cc)
+      passed false k = refl
 
 any_part : {X : Type 0} (test part : X → Bool) → ((x : X) → test x ≡ true → part x ≡ true) → (xs : List X) → list_any test xs ≡ list_any test (filter part xs)
 any_part test part h xs = sym (any-filter_same test part true h xs)
@@ -65,9 +65,9 @@ lock_part field part h (r ∷ rs) =
       | true ↦ λ e. ap (cond (same_field r.field field && is_some r.lock) r.lock) (lock_part field part h rs)
       | false ↦ λ e. passed (same_field r.field field && is_some r.lock) (λ t. sym (h r t) ∙ e) ∙ lock_part field part h rs
     ] refl where
-  passed : (b : Bool) → (b ≡ true → true ≡ false) → cond b r.lock (lock_on field rs) ≡ lock_on field rs
-  passed true k = let wrong : true ≡ false = k refl in absurd (cc)
-  passed false k = refl
+      passed : (b : Bool) → (b ≡ true → true ≡ false) → cond b r.lock (lock_on field rs) ≡ lock_on field rs
+      passed true k = let wrong : true ≡ false = k refl in absurd (cc)
+      passed false k = refl
 
 -- ## Fields of one part
 
@@ -183,10 +183,10 @@ any_put test before x (y ∷ ys) =
       | true ↦ refl
       | false ↦ ap (λ b. test y || b) (any_put test before x ys) ∙ turned (test y) (test x) (list_any test ys)
     ] where
-  turned : (a b c : Bool) → (a || (b || c)) ≡ (b || (a || c))
-  turned true true c = refl
-  turned true false c = refl
-  turned false b c = refl
+      turned : (a b c : Bool) → (a || (b || c)) ≡ (b || (a || c))
+      turned true true c = refl
+      turned true false c = refl
+      turned false b c = refl
 
 -- with several rows more, one of them passes or one that was there
 pub any_with_rows : (test : Row → Bool) (more rows : List Row) → list_any test (with_rows more rows) ≡ (list_any test rows || list_any test more)
@@ -230,6 +230,7 @@ pub named_on : (number : LeaseNo) (rows off : List Row) → rows_off_modes rows 
 named_on number rows off e h = sym (part rows (λ x i t. unfound x (In_filtered is_off_modes rows x i t))) where
   unfound : (x : Row) → In x (rows_off_modes rows) → has_no number x ≡ false
   unfound x i = none_pass (has_no number) off (sym h) x (subst (In x) e i)
+
   part : (xs : List Row) → ((x : Row) → In x xs → is_off_modes x ≡ true → has_no number x ≡ false) → find (has_no number) xs ≡ find (has_no number) (rows_on_modes xs)
   part [] k = refl
   part (x ∷ xs) k =

@@ -1,4 +1,4 @@
-use Rattle.std.proofs.Common.{◌≡◌, ap, sym, ◌∙◌, subst}
+use Rattle.std.proofs.Common.{ap, sym, ◌∙◌, subst}
 use Rattle.std.specs.List.{filter}
 use Rattle.fs_field.specs.Table.{is_live}
 use Rattle.fs_server.specs.Rows.{AreRows, both}

@@ -13,6 +13,10 @@ returns c = rw (← c.self.view_is)
     ∙ filtered_both (is_live c.args.now c.args.skew) c.self.inside.off c.self.inside.on c.self.invariant)
 
 pub invariant_of-self : goal.invariant_of-self
-invariant_of-self c =
-    (c.lapse.ensures.valid, (c.lapse-2.ensures.valid,
-    subst AreRows (sym (returns c ∙ ap (filter (is_live c.args.now c.args.skew)) (sym c.self.view_is))) (filtered_rows (is_live c.args.now c.args.skew) (both c.self.inside.off c.self.inside.on) c.self.invariant.1.1)))
+invariant_of-self c = (
+  c.lapse.ensures.valid,
+  (
+    c.lapse-2.ensures.valid,
+    subst AreRows (sym (returns c ∙ ap (filter (is_live c.args.now c.args.skew)) (sym c.self.view_is))) (filtered_rows (is_live c.args.now c.args.skew) (both c.self.inside.off c.self.inside.on) c.self.invariant.1.1),
+  ),
+)

@@ -13,6 +13,10 @@ returns c = rw (← c.self.view_is)
     ∙ filtered_both (λ r. not (has_no c.args.no r)) c.self.inside.off c.self.inside.on c.self.invariant)
 
 pub invariant_of-self : goal.invariant_of-self
-invariant_of-self c =
-    (c.release.ensures.valid, (c.release-2.ensures.valid,
-    subst AreRows (sym (returns c ∙ ap (filter (λ r. not (has_no c.args.no r))) (sym c.self.view_is))) (filtered_rows (λ r. not (has_no c.args.no r)) (both c.self.inside.off c.self.inside.on) c.self.invariant.1.1)))
+invariant_of-self c = (
+  c.release.ensures.valid,
+  (
+    c.release-2.ensures.valid,
+    subst AreRows (sym (returns c ∙ ap (filter (λ r. not (has_no c.args.no r))) (sym c.self.view_is))) (filtered_rows (λ r. not (has_no c.args.no r)) (both c.self.inside.off c.self.inside.on) c.self.invariant.1.1),
+  ),
+)

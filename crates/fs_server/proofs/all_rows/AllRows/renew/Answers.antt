@@ -12,6 +12,10 @@ returns c = rw (← c.self.view_is)
     ∙ sym (renewed_both c.args.no c.args.until c.self.inside.off c.self.inside.on))
 
 pub invariant_of-self : goal.invariant_of-self
-invariant_of-self c =
-    (c.renew.ensures.valid, (c.renew-2.ensures.valid,
-    subst AreRows (sym (returns c ∙ ap (map (renewed_row c.args.no c.args.until)) (sym c.self.view_is))) (renewed_in_order c.args.no c.args.until (both c.self.inside.off c.self.inside.on) c.self.invariant.1.1)))
+invariant_of-self c = (
+  c.renew.ensures.valid,
+  (
+    c.renew-2.ensures.valid,
+    subst AreRows (sym (returns c ∙ ap (map (renewed_row c.args.no c.args.until)) (sym c.self.view_is))) (renewed_in_order c.args.no c.args.until (both c.self.inside.off c.self.inside.on) c.self.invariant.1.1),
+  ),
+)
