@@ -1,4 +1,4 @@
-use Rattle.std.proofs.Common.{◌≡◌, ap, ap₂, sym, ◌∙◌, rules}
+use Rattle.std.proofs.Common.{◌≡◌, ap, ap₂, sym, ◌∙◌}
 use Rattle.std.specs.Prelude.{None, not, ◌==◌}
 use Rattle.std.specs.List.{filter}
 use Rattle.fs_ident.specs.declared.actor.Session.{Session}
