@@ -1,4 +1,4 @@
-//! The core of a server: leases, renewals, releases and logs, one event at a time. It knows no clock, no socket and no
+//! The core of a server: leases, renewals, releases, logs and turns, one event at a time. It knows no clock, no socket and no
 //! file.
 //!
 //! An event is planned and then carried out. Neither copies the rows, the records or the core. With `r` rows and `f` files
@@ -9,6 +9,9 @@
 //! - a fresh identifier scans the rows once, and then the numbers that they bear for each number that it tries;
 //! - a renewal and a release scan the rows for each pair, a log for each use up to the first whose row is gone;
 //! - an entry that is admitted finds its records (log f), and a create puts a name among those of its directory;
+//! - a turn looks at every record once for the files that are open, and scans the rows once for each session with handles
+//!   on one of these. For one with no lease on its handles it scans them once more, and for each row that was told of the
+//!   modes of others on the file once for each session with handles on it. A handle that is lost finds its record (log f);
 //! - every event scans the rows once for those that are over, when it is carried out.
 #![tactic(auto)]
 

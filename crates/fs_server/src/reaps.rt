@@ -157,7 +157,10 @@ fn reap(
             counter: Counter::Reaps,
         });
     }
-    add_all(&mut lost.effects, at.records().reap_effects(alloc, file, session)?)?;
+    add_all(
+        &mut lost.effects,
+        at.records().reap_effects(alloc, file, session)?,
+    )?;
     lost.admitted.push(Item {
         by: Peer::Server(at.me()),
         n: so_far + 1,

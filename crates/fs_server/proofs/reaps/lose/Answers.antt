@@ -1,4 +1,4 @@
-use Rattle.std.proofs.Common.{◌≡◌, ap, ap₂, sym, ◌∙◌, rules}
+use Rattle.std.proofs.Common.{◌≡◌, ap, ap₂, sym, ◌∙◌}
 use Rattle.std.specs.Prelude.{None, not, ◌==◌}
 use Rattle.std.specs.List.{filter}
 use Rattle.fs_ident.specs.declared.actor.Session.{Session}
@@ -13,7 +13,7 @@ use Rattle.fs_server.proofs.reaps.lose.Goals as goal
 pub returns-in_ok-reap-in-None-clause-lost : goal.returns-in_ok-reap-in-None-clause-lost
 returns-in_ok-reap-in-None-clause-lost c =
     let none : reap_blocker (selves_in (reaping_by c.args.lost.now c.args.at.now).server.records c.args.file.now) c.args.at.now.rows c.args.session c.args.file.now ≡ None =
-        sym (c.in-None.ensures ∙ ap₂ (λ selves rows. reap_blocker selves rows c.args.session c.args.file.now) c.requires.selves c.rows.ensures) in
+    sym (c.in-None.ensures ∙ ap₂ (λ selves rows. reap_blocker selves rows c.args.session c.args.file.now) c.requires.selves c.rows.ensures) in
     let is : c.reap.new.lost ≡ lost_more c.args.at.now c.args.lost.now c.args.file.now c.args.session = lost_is _ _ _ _ c.in_ok-reap-in-None.ensures.effects c.in_ok-reap-in-None.ensures.admitted c.in_ok-reap-in-None.ensures.blockers in
     ap (λ l. reaping_by l c.args.at.now) is ∙ more_by c.args.at.now c.args.lost.now c.args.file.now c.args.session c.requires.still none
 

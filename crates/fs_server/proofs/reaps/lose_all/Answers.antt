@@ -1,8 +1,7 @@
-use Rattle.std.proofs.Common.{◌≡◌, ap, sym, subst, ◌∙◌, Err, arith}
-use Rattle.std.proofs.lemmas.List.{drop_more}
+use Rattle.std.proofs.Common.{◌≡◌, ap, ◌∙◌, Err, arith}
 use Rattle.std.proofs.lemmas.Result.{err_from_is_err_and}
 use Rattle.fs_msg.specs.declared.core_error.CoreError.TheVariants as errors
-use Rattle.fs_server.proofs.Losing.{AreLosing, losing_at, losing_on, losing_on_spent}
+use Rattle.fs_server.proofs.Losing.{losing_at, losing_on, losing_on_spent}
 use Rattle.fs_server.proofs.reaps.lose_all.Goals as goal
 
 pub returns-in_err-lose_on-clause-spent : goal.returns-in_err-lose_on-clause-spent

@@ -13,8 +13,7 @@ use Rattle.fs_server.proofs.reaps.lose_on.Goals.{then-not-has_on+in_ok-lose, els
 pub loop-session-init : goal.loop-session-init
 loop-session-init c =
     let listed : c.as_slice-session-items.result.now ≡ selves_in c.args.at.now.records c.args.file.now = search rules in
-    let told : c.in_ok-selves.selves ≡ selves_in c.args.at.now.records c.args.file.now = search rules in
-    (
+    let told : c.in_ok-selves.selves ≡ selves_in c.args.at.now.records c.args.file.now = search rules in (
       subst (λ es. IsLosing c.args.at.now c.args.file.now c.args.lost.now es c.args.lost.now c.in_ok-selves.selves) (sym listed) (losing_first c.args.at.now c.args.file.now c.args.lost.now c.in_ok-selves.selves c.requires.valid c.requires.still c.requires.can told),
       ap Own c.in_ok-copy.ensures,
     )

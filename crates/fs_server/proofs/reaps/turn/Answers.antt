@@ -1,4 +1,4 @@
-use Rattle.std.proofs.Common.{◌≡◌, ◌≤◌, ◌^◌, [], ap, sym, subst, ◌∙◌, Err, rules}
+use Rattle.std.proofs.Common.{◌≡◌, ◌≤◌, ◌^◌, [], ap, subst, ◌∙◌, Err, rules}
 use Rattle.std.proofs.lemmas.Result.{err_from_is_err_and}
 use Rattle.fs_msg.specs.declared.core_error.CoreError.TheVariants as errors
 use Rattle.fs_record.specs.Opens.{open_files, are_apart}
