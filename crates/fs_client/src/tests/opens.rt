@@ -1,7 +1,6 @@
 //! An open and a close of the file 1, all at one reading.
 ghost use Rattle.std.specs.Prelude.{◌≡◌, true, IfOk};
 ghost use Rattle.fs_model.specs.Asking.{may_ask};
-ghost use Rattle.fs_modes.specs.Modes.{has_access};
 ghost use Rattle.fs_record.specs.Effects.{tells_its_effects};
 
 use crate::client_core::ClientCore;
@@ -34,23 +33,31 @@ const GUARDS: Modes = Modes {
     ..READS
 };
 
-/// The open of the file under this handle.
-fn open(alloc: Global, h: u32, modes: Modes) -> Result<Op, Fail>
-    requires { has_access modes ≡ true }
-    ensures asked { IfOk result (λ op. may_ask op ≡ true) }
-    ensures plain { IfOk result (λ op. tells_its_effects op ≡ true) }
-{
-    let file = FileId::parse(alloc, b"/1")?;
-    Ok(Op::OpenFile { file, h, modes })
+/// What the user asks for.
+#[derive(Clone, Copy)]
+enum Asking {
+    /// The first handle.
+    Guard,
+    /// A second handle that the first denies.
+    Write,
+    /// A second handle that may stand beside the first.
+    Read,
+    /// The first handle goes.
+    Close,
 }
 
-/// The close of the handle.
-fn close(alloc: Global, h: u32) -> Result<Op, Fail>
+fn op_of(alloc: Global, asking: Asking) -> Result<Op, Fail>
     ensures asked { IfOk result (λ op. may_ask op ≡ true) }
     ensures plain { IfOk result (λ op. tells_its_effects op ≡ true) }
 {
     let file = FileId::parse(alloc, b"/1")?;
-    Ok(Op::Close { file, h })
+    let (h, modes) = match asking {
+        Asking::Guard => (1, GUARDS),
+        Asking::Write => (2, WRITES),
+        Asking::Read => (2, READS),
+        Asking::Close => return Ok(Op::Close { file, h: 1 }),
+    };
+    Ok(Op::OpenFile { file, h, modes })
 }
 
 /// What is asked for, one thing after another.
@@ -73,20 +80,30 @@ fn note_text(alloc: Global, note: &Act) -> Result<String, Fail> {
 }
 
 /// The user asks for the operation, and this comes of it. What is sent is handed back.
-fn acts(
+fn asks(
     rt: &impl Abort,
     alloc: Global,
     core: &mut ClientCore,
-    op: &Op,
+    asking: Asking,
     wanted: &str,
-) -> Result<Option<(u8, ClientMsg)>, Fail>
-    requires asked { may_ask op.now ≡ true }
-    requires plain { tells_its_effects op.now ≡ true }
-{
-    let out = core.act(alloc, NOW, op)?;
+) -> Result<Option<(u8, ClientMsg)>, Fail> {
+    let op = op_of(alloc, asking)?;
+    let out = core.act(alloc, NOW, &op)?;
     let text = note_text(alloc, &out.note)?;
     assert_eq!(rt; text.as_str(), wanted);
     Ok(out.send)
+}
+
+/// The user asks for the operation, and is answered at once.
+fn says(
+    rt: &impl Abort,
+    alloc: Global,
+    core: &mut ClientCore,
+    asking: Asking,
+    wanted: &str,
+) -> Result<(), Fail> {
+    asks(rt, alloc, core, asking, wanted)?;
+    Ok(())
 }
 
 /// What the field says while nobody has the file open.
@@ -131,14 +148,11 @@ fn gets(
     rt: &impl Abort,
     alloc: Global,
     core: &mut ClientCore,
-    op: &Op,
+    asking: Asking,
     wanted: &str,
     counts: &[u64],
-) -> Result<(), Fail>
-    requires asked { may_ask op.now ≡ true }
-    requires plain { tells_its_effects op.now ≡ true }
-{
-    let sent = acts(rt, alloc, core, op, wanted)?;
+) -> Result<(), Fail> {
+    let sent = asks(rt, alloc, core, asking, wanted)?;
     let answer = granted(alloc, counts, sent)?;
     let count = counts.len() as u64;
     hears(rt, alloc, core, NOW, 0, &answer, ("granted", count))
@@ -161,26 +175,25 @@ fn used_by(alloc: Global, entries: &[Entry]) -> Result<List<u64>, Fail> {
     Ok(used)
 }
 
-/// The entries that are handed in.
-fn handed_in(sent: Option<(u8, ClientMsg)>) -> Result<List<Entry>, Fail> {
+/// The numbers of the leases that the entries use that are handed in.
+fn used_in(alloc: Global, sent: Option<(u8, ClientMsg)>) -> Result<List<u64>, Fail> {
     match sent {
-        Some((_, ClientMsg::Ship { entries })) => Ok(entries),
+        Some((_, ClientMsg::Ship { entries })) => used_by(alloc, entries.as_slice()),
         _ => Err(Fail::from("nothing is handed in")),
     }
 }
 
-/// The log is handed in, with entries that use these leases, and is admitted.
+/// The log is handed in, so many entries that use these leases, and is admitted.
 fn ships(
     rt: &impl Abort,
     alloc: Global,
     core: &mut ClientCore,
+    count: u64,
     wanted: &[u64],
 ) -> Result<(), Fail> {
     let out = core.turn(alloc, NOW)?;
-    let entries = handed_in(out.send)?;
-    let used = used_by(alloc, entries.as_slice())?;
+    let used = used_in(alloc, out.send)?;
     assert_eq!(rt; used.as_slice(), wanted);
-    let count = entries.len() as u64;
     hears(rt, alloc, core, NOW, 0, &shipped(count), ("shipped", count))
 }
 
@@ -189,24 +202,29 @@ const OTHERS: &str =
 
 const SELVES: &str = "self /1 aR Exclusive; self /1 dW Exclusive; self /1 dD Exclusive; ";
 
+const OPENED: &str = "Replied { n: 1, reply: Opened }";
+
+const REFUSED: &str = "ReadNow { n: 2, reply: Sharing }";
+
+const OPENED_TOO: &str = "Replied { n: 3, reply: Opened }";
+
+const CLOSED: &str = "Replied { n: 4, reply: Closed }";
+
 /// An open asks for what it keeps from the others, and then, knowing the session's handles, for what it turns on.
 fn opens(rt: &impl Abort, alloc: Global, core: &mut ClientCore) -> Result<(), Fail> {
-    let op = open(alloc, 1, GUARDS)?;
-    gets(rt, alloc, core, &op, OTHERS, [1, 2, 3, 4, 5].as_slice())?;
-    gets(rt, alloc, core, &op, SELVES, [6, 7, 8].as_slice())?;
-    acts(rt, alloc, core, &op, "Replied { n: 1, reply: Opened }")?;
-    ships(rt, alloc, core, [1, 2, 3, 4, 5, 6, 7, 8].as_slice())
+    let counts = [1, 2, 3, 4, 5];
+    gets(rt, alloc, core, Asking::Guard, OTHERS, counts.as_slice())?;
+    gets(rt, alloc, core, Asking::Guard, SELVES, [6, 7, 8].as_slice())?;
+    says(rt, alloc, core, Asking::Guard, OPENED)?;
+    ships(rt, alloc, core, 1, [1, 2, 3, 4, 5, 6, 7, 8].as_slice())
 }
 
 /// An open beside the first is answered at once, and a close turns off only what the other handle does not have.
 fn closes(rt: &impl Abort, alloc: Global, core: &mut ClientCore) -> Result<(), Fail> {
-    let op = open(alloc, 2, WRITES)?;
-    acts(rt, alloc, core, &op, "ReadNow { n: 2, reply: Sharing }")?;
-    let op = open(alloc, 2, READS)?;
-    acts(rt, alloc, core, &op, "Replied { n: 3, reply: Opened }")?;
-    let op = close(alloc, 1)?;
-    acts(rt, alloc, core, &op, "Replied { n: 4, reply: Closed }")?;
-    ships(rt, alloc, core, [1, 2, 5, 2, 7, 8].as_slice())
+    says(rt, alloc, core, Asking::Write, REFUSED)?;
+    says(rt, alloc, core, Asking::Read, OPENED_TOO)?;
+    says(rt, alloc, core, Asking::Close, CLOSED)?;
+    ships(rt, alloc, core, 2, [1, 2, 5, 2, 7, 8].as_slice())
 }
 
 /// One after the other.
