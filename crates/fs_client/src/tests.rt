@@ -4,6 +4,8 @@ ghost use Rattle.fs_ident.specs.declared.limits.TheConstants.{LATEST};
 ghost use Rattle.fs_model.specs.Asking.{may_ask};
 ghost use Rattle.fs_record.specs.Effects.{tells_its_effects};
 
+mod opens;
+
 use crate::client_core::ClientCore;
 use fs_field::{Field, LeaseKind, Value};
 use fs_ident::{FileId, Kind, LeaseNo, List, Name, Session, Twin};
@@ -102,7 +104,7 @@ fn turns(
 }
 
 /// The answer of the server comes.
-fn hears(
+pub(crate) fn hears(
     rt: &impl Abort,
     alloc: Global,
     core: &mut ClientCore,
@@ -200,7 +202,8 @@ fn gets_leases(rt: &impl Abort, alloc: Global, core: &mut ClientCore) -> Result<
     hears(rt, alloc, core, 1, 0, &answer, ("granted", 3))
 }
 
-fn shipped(count: u64) -> Answer {
+/// So many entries are admitted.
+pub(crate) fn shipped(count: u64) -> Answer {
     Answer::Shipped {
         count,
         end: End::All,
