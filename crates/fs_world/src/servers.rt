@@ -1,5 +1,5 @@
 //! The server's events.
-ghost use Rattle.std.specs.Prelude.{◌≡◌, ◌≤◌, ◌⊎◌, ◌++◌, true, Some, None, IfOk, OnOk, OnErr, IsErrOf};
+ghost use Rattle.std.specs.Prelude.{◌≡◌, ◌≤◌, ◌⊎◌, ◌++◌, true, false, Some, None, IfOk, OnOk, OnErr, IsErrOf};
 ghost use Rattle.fs_ident.specs.declared.limits.TheConstants.{LATEST};
 ghost use Rattle.fs_msg.specs.declared.core_error.Counter.{Counter as TheCounter};
 ghost use Rattle.fs_msg.specs.declared.core_error.Counter.TheVariants.{Segments};
