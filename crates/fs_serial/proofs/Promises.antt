@@ -1,14 +1,11 @@
 -- What rows tell their sessions of the others' modes.
 use Rattle.std.proofs.Common.{◌≡◌, ℕ, ◌==◌, ◌&&◌, ◌||◌, not, Bool, true, false, List, map, refl, sym, ap, ◌∙◌, subst, inl, inr}
 use Rattle.std.specs.Prelude.{Option, Some, None, is_some}
-use Rattle.std.specs.Cmp.{nat_eq_equiv}
-use Rattle.std.specs.List.{filter, list_any}
+use Rattle.std.specs.List.{filter}
 use mathlib.Core.Path.{fun_ext}
-use Rattle.fs_ident.specs.Ident.{same}
 use Rattle.fs_ident.specs.In.{In}
 use Rattle.fs_ident.specs.declared.actor.LeaseNo.{LeaseNo}
-use Rattle.fs_ident.specs.declared.actor.Session.{Session}
-use Rattle.fs_ident.proofs.Booleans.{neither, second}
+use Rattle.fs_ident.proofs.Booleans.{second}
 use Rattle.fs_ident.proofs.Standing.{In-put}
 use Rattle.fs_modes.specs.declared.modes.Mode.{Mode}
 use Rattle.fs_field.specs.declared.field.Field.{Field}
@@ -16,14 +13,13 @@ use Rattle.fs_field.specs.declared.field.Field.TheVariants.{SelfW, Other}
 use Rattle.fs_field.specs.declared.lease_kind.LeaseKind.{LeaseKind}
 use Rattle.fs_field.specs.declared.row.Row.{Row}
 use Rattle.fs_field.specs.declared.value.Value.TheVariants as value
-use Rattle.fs_field.specs.Conflict.{Selves, is_self, has_fixed, can_fail, plain_conflict, mode_meets, mode_conflict, NoConflict}
-use Rattle.fs_field.specs.Field.{same_mode, tells_no_mode}
+use Rattle.fs_field.specs.Conflict.{is_self, has_fixed, plain_conflict, mode_conflict, NoConflict}
+use Rattle.fs_field.specs.Field.{tells_no_mode}
 use Rattle.fs_field.specs.Table.{no_before, renewed_row, with_row}
-use Rattle.fs_moderows.specs.Answer.{Opens, is_self_of_other}
-use Rattle.fs_moderows.specs.Kept.{others_have, others_may_have, holds_true, KeptPromises}
+use Rattle.fs_moderows.specs.Kept.{others_may_have, KeptPromises}
 use Rattle.fs_moderows.specs.Table.{is_of_mode}
 use Rattle.fs_moderows.proofs.Tables.{renewed_tells}
-use Rattle.fs_moderows.proofs.Witnesses.{not_true, not_false, second_fails, not_both, neither_holds, none_In, In_none, fixed_with, covered_filter, covered_map, witness, witnessed, witness_stays, witness_past}
+use Rattle.fs_moderows.proofs.Witnesses.{neither_holds, fixed_with, covered_filter, covered_map, witness_stays}
 use Rattle.fs_moderows.proofs.Promises.{kept_apart, kept_holds, holds_kept, holds_still, fewer_kept, may_with, promise_is}
 use Rattle.fs_record.specs.Fresh.{records_after_gift}
 use Rattle.fs_record.specs.Records.{RecordMap}

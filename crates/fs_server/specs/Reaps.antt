@@ -1,5 +1,5 @@
 -- A turn: sessions that let go of the lease on their handles lose these.
-use Rattle.std.specs.Prelude.{ℕ, ◌+◌, ◌==◌, ◌&&◌, Bool, not, List, [], ◌∷◌, ◌++◌, map, filter, length, Option, Some, None}
+use Rattle.std.specs.Prelude.{ℕ, ◌+◌, ◌==◌, ◌&&◌, Bool, not, List, [], ◌∷◌, ◌++◌, map, filter, length, Some, None}
 use Rattle.std.specs.List.{find, list_any}
 use Rattle.std.specs.FinMap.{keys}
 use Rattle.fs_ident.specs.Ordered.{put_before}

@@ -62,7 +62,7 @@ use Rattle.fs_client.specs.Turns.{ending, idle, release_some, renew_some, return
 use Rattle.fs_server.specs.declared.event.ServerEvent.{ServerEvent}
 use Rattle.fs_server.specs.declared.event.ServerEvent.TheVariants.{FromClient, Turn, Recall}
 use Rattle.fs_server.specs.declared.state.Server.{Server}
-use Rattle.fs_server.specs.Asks.{Asking, answer_to, answered, ask_fresh, ask_from, ask_step, asked_in, fresh_for, fresh_in, fresh_of, grant_of, kind_for, recall_of, recalls_at, with_lease}
+use Rattle.fs_server.specs.Asks.{Asking, answer_to, answered, ask_fresh, ask_from, ask_step, fresh_for, fresh_in, fresh_of, grant_of, kind_for, recall_of, recalls_at, with_lease}
 use Rattle.fs_server.specs.Reaps.{Reaping, lapsed_in, reap_from, reap_item, recalls_for, turn_over, with_blocker, with_reap}
 use Rattle.fs_server.specs.Server.{Stepped, begun as begun_server, first_server, strange as strange_server}
 use Rattle.fs_server.specs.Ships.{Shipping, first_gone, item_of, ship_from, ship_step, shipped, with_entry}
