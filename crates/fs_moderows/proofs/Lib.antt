@@ -5,3 +5,4 @@ pub mod Promises
 pub mod Reaps
 pub mod Safe
 pub mod Changes
+mod FoundOnce

@@ -10,6 +10,7 @@ use Rattle.fs_ident.specs.declared.actor.Session.{Session}
 use Rattle.fs_ident.proofs.Booleans.{both, joined, neither}
 use Rattle.fs_ident.proofs.Standing.{In-filter, In-put, In-map}
 use Rattle.fs_modes.specs.declared.modes.Mode.{Mode}
+use Rattle.fs_modes.specs.declared.modes.Mode.TheVariants.{AccR, AccW, AccD, DenyR, DenyW, DenyD}
 use Rattle.fs_modes.specs.declared.modes.Modes.{Modes}
 use Rattle.fs_modes.specs.Modes.{has}
 use Rattle.fs_field.specs.declared.field.Field.TheVariants.{SelfW}
@@ -86,6 +87,15 @@ another a b c p q = grind (arith, nat_tests)
 
 pub turned : (a b c : ℕ) → (a == b) ≡ true → (b == c) ≡ false → (c == a) ≡ false
 turned a b c p q = grind (arith, nat_tests)
+
+pub same_mode_is : (m n : Mode) → same_mode m n ≡ true → m ≡ n
+same_mode_is AccR AccR h = refl
+same_mode_is AccW AccW h = refl
+same_mode_is AccD AccD h = refl
+same_mode_is DenyR DenyR h = refl
+same_mode_is DenyW DenyW h = refl
+same_mode_is DenyD DenyD h = refl
+same_mode_is m n h = absurd (cc)
 
 -- both fields are what a session tells of one file
 pub one_file : (h f : List ℕ) (n m : Mode) → is_self h n (SelfW f m) ≡ true → h ≡ f

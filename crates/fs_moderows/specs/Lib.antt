@@ -1,3 +1,5 @@
 pub mod Table
 pub mod Answer
 pub mod Kept
+-- cited by private calls alone
+pub mod Fixed

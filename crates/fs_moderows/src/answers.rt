@@ -5,7 +5,8 @@ ghost use Rattle.fs_field.specs.Table.{lock_on};
 ghost use Rattle.fs_field.specs.declared.asked.Asked.TheVariants.{Granted};
 ghost use Rattle.fs_moderows.specs.Answer.{has_fixed_other, is_self_of_other, stands_against_self, unless_locked, waits_or, given_row, rows_after};
 
-use crate::against::{first_against_self, first_self_of_other, has_fixed};
+use crate::against::{first_against_self, first_self_of_other};
+use crate::fixed::has_fixed;
 use crate::live::Live;
 use fs_field::{Asked, Field, LeaseKind, Row, table};
 use fs_ident::{FileId, LeaseNo, Memory, Session};

@@ -3,6 +3,7 @@
 
 mod against;
 mod answers;
+mod fixed;
 mod law;
 mod live;
 mod mode_rows;
