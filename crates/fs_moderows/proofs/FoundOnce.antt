@@ -12,7 +12,6 @@ use Rattle.fs_ident.proofs.Booleans.{both, joined}
 use Rattle.fs_ident.proofs.Passing.{found}
 use Rattle.fs_ident.proofs.Standing.{none_pass}
 use Rattle.fs_modes.specs.declared.modes.Mode.{Mode}
-use Rattle.fs_modes.specs.declared.modes.Mode.TheVariants.{AccR, AccW, AccD, DenyR, DenyW, DenyD}
 use Rattle.fs_modes.specs.declared.modes.Modes.{Modes}
 use Rattle.fs_modes.specs.Modes.{has}
 use Rattle.fs_field.specs.declared.field.Field.{Field}
@@ -25,7 +24,7 @@ use Rattle.fs_moderows.specs.Fixed.{has_but, AreFixedBut, is_other, is_other_of_
 use Rattle.fs_moderows.specs.declared.fixed.Fixed.{Fixed}
 use Rattle.fs_moderows.specs.declared.fixed.Fixed.TheVariants.{Nobody, One, Several}
 use Rattle.fs_moderows.specs.declared.fixed.EachMode.{EachMode}
-use Rattle.fs_moderows.proofs.Witnesses.{none_In, not_true, not_both, same_mode_is, Witness, witness, witnessed}
+use Rattle.fs_moderows.proofs.Witnesses.{none_In, not_true, same_mode_is, Witness, witness, witnessed}
 
 -- tests that agree on all items find the same
 find_same : {X : Type 0} (p q : X → Bool) (xs : List X) → ((x : X) → In x xs → p x ≡ q x) → find p xs ≡ find q xs
@@ -131,20 +130,6 @@ rests_none opens rows s f m x promise (Other g n) h t =
     let q : (same g f ≡ true) × (same_mode n m ≡ true) = both (same g f) (same_mode n m) t in
     ap (λ b. (b && has_mode opens s n) && (is_told_true promise && not (has_fixed (λ z. opens) rows g n x s))) q.0 ∙ ap (λ b. b && (is_told_true promise && not (has_fixed (λ z. opens) rows g n x s))) (ap (has_mode opens s) (same_mode_is n m q.1) ∙ h)
 
-rests_same : (opens : Opens) (rows : List Row) (s : Session) (f : List ℕ) (m : Mode) (x : Session) (fixed : Fixed) (promise : Option Bool) (field : Field) → AreFixedBut opens rows f m s fixed → has_mode opens s m ≡ true → is_other f m field ≡ true → rests_on opens rows s f x field promise ≡ rests_by (Some fixed) x promise
-rests_same opens rows s f m x fixed promise (Life a) k h t = absurd (cc)
-rests_same opens rows s f m x fixed promise (Child a n) k h t = absurd (cc)
-rests_same opens rows s f m x fixed promise (Names a) k h t = absurd (cc)
-rests_same opens rows s f m x fixed promise (Info a) k h t = absurd (cc)
-rests_same opens rows s f m x fixed promise (SelfW a n) k h t = absurd (cc)
-rests_same opens rows s f m x fixed promise (Own a) k h t = absurd (cc)
-rests_same opens rows s f m x fixed promise (Other g n) k h t =
-    let q : (same g f ≡ true) × (same_mode n m ≡ true) = both (same g f) (same_mode n m) t in
-    ap (λ b. b && (is_told_true promise && not (has_fixed (λ z. opens) rows g n x s))) (joined (same g f) (has_mode opens s n) q.0 (ap (has_mode opens s) (same_mode_is n m q.1) ∙ h)) ∙ ap (λ b. is_told_true promise && not b) (sym (of_field opens rows f g m n s x fixed k t))
-
-pub tells_fixed : (opens : Opens) (rows : List Row) (s : Session) (f : List ℕ) (m : Mode) (fixed : Fixed) → AreFixedBut opens rows f m s fixed → has_mode opens s m ≡ true → TellsOfMode opens rows s f m (Some fixed)
-tells_fixed opens rows s f m fixed k h row i t = ap (λ b. not (row.session.0 == s.0) && b) (rests_same opens rows s f m row.session fixed row.promise row.field k h t)
-
 pub tells_no_mode : (opens : Opens) (rows : List Row) (s : Session) (f : List ℕ) (m : Mode) → has_mode opens s m ≡ false → TellsOfMode opens rows s f m None
 tells_no_mode opens rows s f m h row i t = ap (λ b. not (row.session.0 == s.0) && b) (rests_none opens rows s f m row.session row.promise row.field h t)
 
@@ -152,14 +137,6 @@ pub tells_none_told : (opens : Opens) (rows : List Row) (s : Session) (f : List 
 tells_none_told opens rows s f m h row i t =
     let own : not (row.session.0 == s.0) ≡ false = sym (ap (λ b. b && not (row.session.0 == s.0)) t) ∙ none_In (is_other_of_other f m s) rows h row i in
     ap (λ b. b && rests_on opens rows s f row.session row.field row.promise) own ∙ ap (λ b. b && false) (sym own)
-
-pub each_tells : (opens : Opens) (rows : List Row) (s : Session) (f : List ℕ) (each : EachMode) → TellsOfMode opens rows s f AccR each.acc_r → TellsOfMode opens rows s f AccW each.acc_w → TellsOfMode opens rows s f AccD each.acc_d → TellsOfMode opens rows s f DenyR each.deny_r → TellsOfMode opens rows s f DenyW each.deny_w → TellsOfMode opens rows s f DenyD each.deny_d → (m : Mode) → TellsOfMode opens rows s f m (of_mode each m)
-each_tells opens rows s f each a b c d e g AccR = a
-each_tells opens rows s f each a b c d e g AccW = b
-each_tells opens rows s f each a b c d e g AccD = c
-each_tells opens rows s f each a b c d e g DenyR = d
-each_tells opens rows s f each a b c d e g DenyW = e
-each_tells opens rows s f each a b c d e g DenyD = g
 
 reap_at : (opens : Opens) (rows : List Row) (s : Session) (f : List ℕ) (each : EachMode) → ((m : Mode) → TellsOfMode opens rows s f m (of_mode each m)) → (row : Row) → In row rows → (field : Field) → row.field ≡ field → (not (row.session.0 == s.0) && rests_by_each each f row.session field row.promise) ≡ (not (row.session.0 == s.0) && rests_on opens rows s f row.session field row.promise)
 reap_at opens rows s f each k row i (Life a) t = refl

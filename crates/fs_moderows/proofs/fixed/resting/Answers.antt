@@ -1,5 +1,5 @@
 use Rattle.std.proofs.Common.{sym, ◌∙◌}
-use Rattle.fs_moderows.proofs.FoundOnce.{tells_no_mode, tells_none_told, tells_fixed}
+use Rattle.fs_moderows.proofs.FoundOnce.{tells_no_mode, tells_none_told}
 use Rattle.fs_moderows.proofs.fixed.resting.Goals.{else-has_mode-via-then-has_mode+else-is_told, else-has_mode-via-else-has_mode}
 use Rattle.fs_moderows.proofs.fixed.resting.Goals as goal
 
