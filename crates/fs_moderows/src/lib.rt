@@ -1,4 +1,8 @@
 //! The rows of a server on what sessions tell of modes.
+//!
+//! What a question costs with r rows, where s sessions with handles on the file have the mode: one on `self` passes over
+//! the rows, and looks at s·r more where a row tells another session of the mode; one on `other` looks at s·r; a reap
+//! passes over the rows for each mode of the session, and looks at s·r where a row tells another of it. None takes memory.
 #![tactic(auto)]
 
 mod against;

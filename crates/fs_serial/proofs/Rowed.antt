@@ -7,8 +7,6 @@ use Rattle.fs_ident.specs.In.{In}
 use Rattle.fs_ident.specs.declared.actor.Session.{Session}
 use Rattle.fs_ident.proofs.Booleans.{both}
 use Rattle.fs_ident.proofs.Standing.{none_pass}
-use Rattle.fs_modes.specs.declared.modes.Mode.{Mode}
-use Rattle.fs_modes.specs.declared.modes.Mode.TheVariants.{AccR, AccW, AccD, DenyR, DenyW, DenyD}
 use Rattle.fs_field.specs.declared.field.Field.{Field}
 use Rattle.fs_field.specs.declared.field.Field.TheVariants.{Life, Child, Names, Info, Own, SelfW, Other}
 use Rattle.fs_field.specs.declared.lease_kind.LeaseKind.{LeaseKind}
@@ -18,18 +16,10 @@ use Rattle.fs_field.specs.declared.used.Use.{Use}
 use Rattle.fs_field.specs.Field.{same_field, same_mode}
 use Rattle.fs_field.specs.Table.{is_lease, same_kind, has_no}
 use Rattle.fs_server.specs.Ships.{has_row, first_gone}
+use Rattle.fs_moderows.proofs.Witnesses.{same_mode_is}
 use Rattle.fs_view.proofs.Places.{same_no_is}
 use Rattle.fs_serial.specs.Pending.{AllStand, Stands}
 use Rattle.fs_serial.proofs.Facts.{any-In, same_is}
-
-same_mode_is : (m n : Mode) → same_mode m n ≡ true → m ≡ n
-same_mode_is AccR AccR h = refl
-same_mode_is AccW AccW h = refl
-same_mode_is AccD AccD h = refl
-same_mode_is DenyR DenyR h = refl
-same_mode_is DenyW DenyW h = refl
-same_mode_is DenyD DenyD h = refl
-same_mode_is m n h = absurd (cc)
 
 pub same_field_is : (f g : Field) → same_field f g ≡ true → f ≡ g
 same_field_is (Life a) (Life b) h = ap Life (same_is a b h)
