@@ -149,7 +149,8 @@ fn stands_by_each(each: &EachMode, session: Session, file: &FileId, row: &Row) -
 
 /// Whether what the row tells of the file would become untrue without the session's handles.
 fn rests_by_each(each: &EachMode, file: &FileId, row: &Row) -> bool
-    ensures { result ≡ rests_by_each each.now file.now row.now.session row.now.field row.now.promise }
+    ensures { result ≡
+        rests_by_each each.now file.now row.now.session row.now.field row.now.promise }
 {
     match &row.field {
         Field::Other(f, m) => f == file && rests_by(each.of(*m), row.session, row.promise),

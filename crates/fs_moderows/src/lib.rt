@@ -1,8 +1,8 @@
 //! The rows of a server on what sessions tell of modes.
 //!
-//! What a question costs with r rows, where s sessions with handles on the file have the mode: one on `self` passes over
-//! the rows, and looks at s·r more where a row tells another session of the mode; one on `other` looks at s·r; a reap
-//! passes over the rows for each mode of the session, and looks at s·r where a row tells another of it. None takes memory.
+//! In the order of what a question costs with r rows and s sessions with handles on the file: one on `self` r, and s·r
+//! where a row tells another session of the mode; one on `other` s·r; a reap s + r, and s·r for each mode of the session
+//! of which a row tells another. In s·r only sessions with the mode count. None takes memory.
 #![tactic(auto)]
 
 mod against;
