@@ -2,7 +2,9 @@
 ghost use Rattle.std.specs.Prelude.{◌≡◌, ℕ, List, Some, IfOk, OnOk, OnErr};
 ghost use Rattle.fs_map.specs.Map.{IsMap, IsPiece, Tells, after_give, after_hint, after_take, first_map, gives, is_given, longest, server_of};
 
-use crate::piece::MapPiece;
+use crate::change::{changed, piece_of};
+use crate::listed::longest;
+use crate::piece::{MapPiece, whole};
 use fs_ident::{FileId, List, Memory, Twin};
 use std::alloc::Global;
 use std::marker::Model;
@@ -29,7 +31,9 @@ impl FileMap {
     pub fn new(alloc: Global) -> Result<FileMap, Memory>
         ensures { IfOk result (λ m. m ≡ first_map) }
     {
-        unreachable!()
+        let mut owners = List::new(alloc);
+        owners.push((FileId::root(alloc), 0))?;
+        Ok(FileMap { owners })
     }
 
     /// The prefixes with their servers.
@@ -45,7 +49,10 @@ impl FileMap {
         ensures longest { longest self.now id.now ≡ Some (result.0.now, result.1) }
         ensures server { server_of self.now id.now ≡ result.1 }
     {
-        unreachable!()
+        match longest(self.owners.as_slice(), id.numbers()) {
+            Some(entry) => (&entry.0, entry.1),
+            None => unreachable!(),
+        }
     }
 
     /// All below the prefix that is `me`'s goes to another server: which identifiers these are. `Memory` where memory
@@ -66,7 +73,9 @@ impl FileMap {
             gives prefix.now p.given id ≡ is_given self.old me prefix.now id) }
         ensures err { OnErr result (self.new ≡ self.old) }
     {
-        unreachable!()
+        let piece = piece_of(alloc, self.owners.as_slice(), me, prefix)?;
+        self.owners = changed(alloc, self.owners.as_slice(), &piece, to)?;
+        Ok(piece)
     }
 
     /// What the piece gives comes to `me`; all else stays as it was known. `Memory` where memory is wanting; the map
@@ -78,7 +87,8 @@ impl FileMap {
         ensures valid { IsMap self.new }
         ensures err { OnErr result (self.new ≡ self.old) }
     {
-        unreachable!()
+        self.owners = changed(alloc, self.owners.as_slice(), piece, me)?;
+        Ok(())
     }
 
     /// All below the prefix is said to be at that server. `Memory` where memory is wanting; the map is as it was
@@ -88,7 +98,9 @@ impl FileMap {
         ensures valid { IsMap self.new }
         ensures err { OnErr result (self.new ≡ self.old) }
     {
-        unreachable!()
+        let whole = whole(alloc, prefix)?;
+        self.owners = changed(alloc, self.owners.as_slice(), &whole, to)?;
+        Ok(())
     }
 }
 

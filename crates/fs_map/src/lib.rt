@@ -4,8 +4,10 @@
 //! searches (32 log p). A change copies the prefixes that it touches, and moves at most `p`.
 #![tactic(auto)]
 
+mod change;
 mod file_map;
 mod law;
+mod listed;
 mod piece;
 #[cfg(test)]
 mod tests;

@@ -1,0 +1,181 @@
+-- A change of a map, and what is given away, differ from what is above only where a list has an entry.
+use Rattle.std.proofs.Common.{◌≡◌, ◌≢◌, ◌∙◌, ◌⊎◌, ℕ, Bool, true, false, List, [], ◌∷◌, ◌++◌, refl, ap, sym, length, inl, inr, cond, subst, arith, length-append, ◌+◌, ◌==◌}
+use Rattle.std.specs.Prelude.{Option, Some, None, ◌&&◌, not, nat_eq, unwrap_or, option_map}
+use Rattle.std.specs.Bool.{Decides, beq}
+use Rattle.std.specs.Cmp.{booleans_Decides, unsigned_Decides}
+use Rattle.fs_ident.specs.Ordered.{Keyed, are_keys_in_order}
+use Rattle.fs_ident.proofs.Booleans.{first, second}
+use Rattle.fs_map.specs.Map.{begins, longest, told_of, IsMap, IsPiece, Owners, Tells, server_of, gives, is_given, after_give, after_hint, after_take}
+use Rattle.fs_map.specs.Change.{at, front, turned, IsNext}
+use Rattle.fs_map.proofs.Prefixes.{itself_or_above, begins_below, front_is}
+use Rattle.fs_map.proofs.Found.{tied, tied_self, longest_above}
+use Rattle.fs_map.proofs.Listing.{Lists, tells, reduced}
+use Rattle.fs_map.proofs.Merging.{IsListedSoFar, left_out, added, begun, ended, only_old}
+
+some_is : {V : Type 0} {v w : V} → Some v ≡ Some w → v ≡ w
+some_is {V} {v} {w} e = cc
+
+told_above : {V : Type 0} (n : ℕ) (ns : List ℕ) (listed : Keyed V) → at (n ∷ ns) listed ≡ None → told_of listed (n ∷ ns) ≡ told_of listed (front n ns)
+told_above n ns listed h = ap (option_map (λ e. e.1)) (longest_above n ns listed h)
+
+pub server_above : (owners : Owners) (n : ℕ) (ns : List ℕ) → at (n ∷ ns) owners ≡ None → server_of owners (n ∷ ns) ≡ server_of owners (front n ns)
+server_above owners n ns h = ap (λ o. unwrap_or o 0) (told_above n ns owners h)
+
+gives_above : (prefix : List ℕ) (given : Keyed Bool) → IsPiece prefix given → (n : ℕ) (ns : List ℕ) → at (n ∷ ns) given ≡ None → gives prefix given (n ∷ ns) ≡ gives prefix given (front n ns)
+gives_above prefix given p n ns h =
+    ap (λ b. b && (unwrap_or (told_of given (n ∷ ns)) false)) same ∙ ap (λ o. begins prefix (front n ns) && (unwrap_or o false)) (told_above n ns given h)
+  where
+    there : at prefix given ≡ Some p.first.0
+    there = ap (at prefix) p.first.2 ∙ ap (λ b. cond b (Some p.first.0) (at prefix p.first.1)) (tied_self prefix)
+    same : begins prefix (n ∷ ns) ≡ begins prefix (front n ns)
+    same = elim (begins prefix (n ∷ ns)) as (λ b. begins prefix (n ∷ ns) ≡ b → b ≡ begins prefix (front n ns)) [
+      | true ↦ λ b. elim (itself_or_above prefix n ns b) [
+        | inl e ↦ let wrong : Some p.first.0 ≡ None = sym there ∙ ap (λ x. at x given) e ∙ h in absurd (cc)
+        | inr c ↦ sym c
+      ]
+      | false ↦ λ b. elim (begins prefix (front n ns)) as (λ c. begins prefix (front n ns) ≡ c → false ≡ c) [
+        | true ↦ λ c. let wrong : true ≡ false = sym (begins_below prefix n ns c) ∙ b in absurd (cc)
+        | false ↦ λ c. refl
+      ] refl
+    ] refl
+
+pub change_above : (owners : Owners) (to : ℕ) (prefix : List ℕ) (given : Keyed Bool) → IsPiece prefix given → (n : ℕ) (ns : List ℕ) → at (n ∷ ns) owners ≡ None → at (n ∷ ns) given ≡ None → begins [] (front n ns) ≡ true → after_take owners to prefix given (n ∷ ns) ≡ after_take owners to prefix given (front n ns)
+change_above owners to prefix given p n ns h k b =
+    ap (λ g. cond g to (server_of owners (n ∷ ns))) (gives_above prefix given p n ns k) ∙ ap (λ s. cond (gives prefix given (front n ns)) to s) (server_above owners n ns h)
+
+-- no second list
+abbrev pub nothing : Keyed Bool
+nothing = []
+
+-- the server has the identifier
+abbrev pub is_mine : Owners → ℕ → List ℕ → Bool
+is_mine owners me id = server_of owners id == me
+
+pub mine_above : (owners : Owners) (me : ℕ) (prefix : List ℕ) (n : ℕ) (ns : List ℕ) → at (n ∷ ns) owners ≡ None → at (n ∷ ns) nothing ≡ None → begins prefix (front n ns) ≡ true → is_mine owners me (n ∷ ns) ≡ is_mine owners me (front n ns)
+mine_above owners me prefix n ns h k b = ap (λ s. s == me) (server_above owners n ns h)
+
+-- ## One place
+
+pub turned_split : {V : Type 0} (same : V → V → Bool) (f : List ℕ → V) (top place above : List ℕ) (x : ℕ) → place ≡ above ++ x ∷ [] → turned same f top place ≡ cond (begins top above && not (same (f above) (f place))) (Some (f place)) None
+turned_split same f top [] above x e = let q : 0 ≡ length above + 1 = ap length e ∙ length-append above (x ∷ []) in absurd (omega arith)
+turned_split same f top (n ∷ ns) above x e = ap (λ (a : List ℕ). cond (begins top a && not (same (f a) (f (n ∷ ns)))) (Some (f (n ∷ ns))) None) (front_is n ns above x e)
+
+pub turned_empty : {V : Type 0} (same : V → V → Bool) (f : List ℕ → V) (top place : List ℕ) → length place ≡ 0 → turned same f top place ≡ None
+turned_empty same f top [] l = refl
+turned_empty same f top (n ∷ ns) l = absurd (omega arith)
+
+module _ {V : Type 0} (same : V → V → Bool) (tests : (x y : V) → Decides (same x y) (x ≡ y)) (f : List ℕ → V) (top : List ℕ) where
+  as_above : (n : ℕ) (ns : List ℕ) → turned same f top (n ∷ ns) ≡ None → begins top (front n ns) ≡ true → f (n ∷ ns) ≡ f (front n ns)
+  as_above n ns t b =
+      elim (same (f (front n ns)) (f (n ∷ ns))) as (λ s. same (f (front n ns)) (f (n ∷ ns)) ≡ s → cond (true && not s) (Some (f (n ∷ ns))) None ≡ None → f (n ∷ ns) ≡ f (front n ns)) [
+        | true ↦ λ s _. sym ((tests (f (front n ns)) (f (n ∷ ns))).0 s)
+        | false ↦ λ s g. absurd (cc)
+      ] refl (ap (λ c. cond (c && not (same (f (front n ns)) (f (n ∷ ns)))) (Some (f (n ∷ ns))) None) (sym b) ∙ t)
+
+  pub stays : (place : List ℕ) → turned same f top place ≡ None → (n : ℕ) (ns : List ℕ) → place ≡ n ∷ ns → begins top (front n ns) ≡ true → f (n ∷ ns) ≡ f (front n ns)
+  stays place t n ns e b = as_above n ns (ap (turned same f top) (sym e) ∙ t) b
+
+  pub turns : (n : ℕ) (ns : List ℕ) (v : V) → turned same f top (n ∷ ns) ≡ Some v → (begins top (front n ns) ≡ true) × (f (front n ns) ≢ f (n ∷ ns)) × (f (n ∷ ns) ≡ v)
+  turns n ns v t =
+      elim (begins top (front n ns)) as (λ b. begins top (front n ns) ≡ b → cond (b && not (same (f (front n ns)) (f (n ∷ ns)))) (Some (f (n ∷ ns))) None ≡ Some v → (begins top (front n ns) ≡ true) × (f (front n ns) ≢ f (n ∷ ns)) × (f (n ∷ ns) ≡ v)) [
+        | false ↦ λ b g. absurd (cc)
+        | true ↦ λ b g. elim (same (f (front n ns)) (f (n ∷ ns))) as (λ s. same (f (front n ns)) (f (n ∷ ns)) ≡ s → cond (true && not s) (Some (f (n ∷ ns))) None ≡ Some v → (begins top (front n ns) ≡ true) × (f (front n ns) ≢ f (n ∷ ns)) × (f (n ∷ ns) ≡ v)) [
+          | true ↦ λ s k. absurd (cc)
+          | false ↦ λ s k. (b, (λ e. let wrong : true ≡ false = sym ((tests (f (front n ns)) (f (n ∷ ns))).1 e) ∙ s in absurd (cc)), some_is k)
+        ] refl g
+      ] refl t
+
+  module _ {A B : Type 0} (listed : Keyed V) (old : Keyed A) (new : Keyed B) (place : List ℕ) (old_rest : Keyed A) (new_rest : Keyed B) (s : IsListedSoFar f top listed old new) (next : IsNext old new place old_rest new_rest) where
+    -- a place that tells what is told above is left out
+    pub passed_by : turned same f top place ≡ None → IsListedSoFar f top listed old_rest new_rest
+    passed_by t = left_out f top listed old new place old_rest new_rest s next (stays place t)
+
+    -- another is listed
+    pub listed_too : (v : V) → turned same f top place ≡ Some v → IsListedSoFar f top (listed ++ (place, v) ∷ []) old_rest new_rest
+    listed_too v t = go place refl
+      where
+        go : (p : List ℕ) → place ≡ p → IsListedSoFar f top (listed ++ (place, v) ∷ []) old_rest new_rest
+        go [] e = let wrong : None ≡ Some v = ap (turned same f top) (sym e) ∙ t in absurd (cc)
+        go (n ∷ ns) e =
+            let q = turns n ns v (ap (turned same f top) (sym e) ∙ t) in
+            let same_entry : (n ∷ ns, f (n ∷ ns)) ≡ (place, v) = ap (λ x. (x, f (n ∷ ns))) (sym e) ∙ ap (λ x. (place, x)) q.2 in
+            let more = added f top listed old new place old_rest new_rest s next n ns e q.0 q.1 in
+            subst (λ (x : List ℕ × V). IsListedSoFar f top (listed ++ x ∷ []) old_rest new_rest) same_entry more
+
+-- ## The whole change
+
+-- a list of the changed servers is a map that tells them
+pub changed_map : (f : List ℕ → ℕ) (owners : Owners) → Lists f [] owners → IsMap owners × Tells owners f
+changed_map f owners l = (reduced f [] owners l, λ id. ap (λ o. unwrap_or o 0) (tells f [] owners l id refl))
+
+-- a list of what the server has is a piece that gives it
+pub piece_given : (owners : Owners) (me : ℕ) (prefix : List ℕ) (given : Keyed Bool) → Lists (is_mine owners me) prefix given → IsPiece prefix given × ((id : List ℕ) → gives prefix given id ≡ is_given owners me prefix id)
+piece_given owners me prefix given l = (reduced (is_mine owners me) prefix given l, same)
+  where
+    same : (id : List ℕ) → gives prefix given id ≡ is_given owners me prefix id
+    same id = elim (begins prefix id) as (λ b. begins prefix id ≡ b → (b && (unwrap_or (told_of given id) false)) ≡ (b && is_mine owners me id)) [
+      | true ↦ λ b. ap (λ o. unwrap_or o false) (tells (is_mine owners me) prefix given l id b)
+      | false ↦ λ b. refl
+    ] refl
+
+-- ## From the top to the end
+
+module _ (owners : Owners) (to : ℕ) (prefix : List ℕ) (given : Keyed Bool) where
+  abbrev changed_to : List ℕ → ℕ
+  changed_to id = after_take owners to prefix given id
+
+  pub change_begun : (listed : Owners) → IsPiece prefix given → listed ≡ ([], after_take owners to prefix given []) ∷ [] → IsListedSoFar (after_take owners to prefix given) [] listed owners given
+  change_begun listed p e = subst (λ l. IsListedSoFar changed_to [] l owners given) (sym e) (begun changed_to [] owners given (change_above owners to prefix given p))
+
+  module _ (listed old : Owners) (new : Keyed Bool) (place : List ℕ) (old_rest : Owners) (new_rest : Keyed Bool) (s : IsListedSoFar (after_take owners to prefix given) [] listed old new) (next : IsNext old new place old_rest new_rest) where
+    pub change_kept : turned nat_eq (after_take owners to prefix given) [] place ≡ None → IsListedSoFar (after_take owners to prefix given) [] listed old_rest new_rest
+    change_kept t = passed_by nat_eq unsigned_Decides changed_to [] listed old new place old_rest new_rest s next t
+
+    pub change_listed : (v : ℕ) (more : Owners) → turned nat_eq (after_take owners to prefix given) [] place ≡ Some v → more ≡ listed ++ (place, v) ∷ [] → IsListedSoFar (after_take owners to prefix given) [] more old_rest new_rest
+    change_listed v more t e = subst (λ l. IsListedSoFar changed_to [] l old_rest new_rest) (sym e) (listed_too nat_eq unsigned_Decides changed_to [] listed old new place old_rest new_rest s next v t)
+
+  pub change_ended : (listed old : Owners) (new : Keyed Bool) → IsListedSoFar (after_take owners to prefix given) [] listed old new → old ≡ [] → new ≡ [] → IsMap listed × Tells listed (after_take owners to prefix given)
+  change_ended listed old new s p q =
+      changed_map changed_to listed (ended changed_to [] listed (subst (λ o. IsListedSoFar changed_to [] listed o nothing) p (subst (IsListedSoFar changed_to [] listed old) q s)))
+
+module _ (owners : Owners) (me : ℕ) (prefix : List ℕ) where
+  pub piece_begun : (given : Keyed Bool) → server_of owners prefix ≡ me → given ≡ (prefix, true) ∷ [] → IsListedSoFar (is_mine owners me) prefix given owners nothing
+  piece_begun given m e =
+      let mine : true ≡ is_mine owners me prefix = sym ((unsigned_Decides (server_of owners prefix) me).1 m) in
+      subst (λ g. IsListedSoFar (is_mine owners me) prefix g owners nothing) (sym (e ∙ ap (λ b. (prefix, b) ∷ []) mine)) (begun (is_mine owners me) prefix owners nothing (mine_above owners me prefix))
+
+  -- the next prefix of the map, where no second list is
+  module _ (given : Keyed Bool) (old : Owners) (e : List ℕ × ℕ) (es : Owners) (s : IsListedSoFar (is_mine owners me) prefix given old nothing) (h : are_keys_in_order old ≡ true) (q : old ≡ e ∷ es) where
+    next : IsNext old nothing e.0 es nothing
+    next = only_old old nothing e es q refl h
+
+    pub piece_order : are_keys_in_order es ≡ true
+    piece_order = next.old_order
+
+    pub piece_kept : turned beq (is_mine owners me) prefix e.0 ≡ None → IsListedSoFar (is_mine owners me) prefix given es nothing
+    piece_kept t = passed_by beq booleans_Decides (is_mine owners me) prefix given old nothing e.0 es nothing s next t
+
+    pub piece_listed : (v : Bool) (more : Keyed Bool) → turned beq (is_mine owners me) prefix e.0 ≡ Some v → more ≡ given ++ (e.0, v) ∷ [] → IsListedSoFar (is_mine owners me) prefix more es nothing
+    piece_listed v more t m = subst (λ g. IsListedSoFar (is_mine owners me) prefix g es nothing) (sym m) (listed_too beq booleans_Decides (is_mine owners me) prefix given old nothing e.0 es nothing s next v t)
+
+  pub piece_ended : (given : Keyed Bool) (old : Owners) → IsListedSoFar (is_mine owners me) prefix given old nothing → old ≡ [] → IsPiece prefix given × ((id : List ℕ) → gives prefix given id ≡ is_given owners me prefix id)
+  piece_ended given old s p = piece_given owners me prefix given (ended (is_mine owners me) prefix given (subst (λ o. IsListedSoFar (is_mine owners me) prefix given o nothing) p s))
+
+
+-- what goes away is what comes to the other
+pub give_is_take : (owners : Owners) (me : ℕ) (prefix : List ℕ) (to : ℕ) (given : Keyed Bool) (new : Owners) → ((id : List ℕ) → gives prefix given id ≡ is_given owners me prefix id) → Tells new (after_take owners to prefix given) → Tells new (after_give owners me prefix to)
+give_is_take owners me prefix to given new same t = λ id. t id ∙ ap (λ b. cond b to (server_of owners id)) (same id)
+
+-- ## All below a prefix
+
+pub whole_piece : (prefix : List ℕ) → IsPiece prefix ((prefix, true) ∷ [])
+whole_piece prefix = reduced (λ _. true) prefix ((prefix, true) ∷ []) (ended {A = Bool} {B = Bool} (λ _. true) prefix ((prefix, true) ∷ []) (begun {A = Bool} {B = Bool} (λ _. true) prefix [] [] (λ n ns p q b. refl)))
+
+pub hint_is_take : (owners : Owners) (prefix : List ℕ) (to : ℕ) (new : Owners) → Tells new (after_take owners to prefix ((prefix, true) ∷ [])) → Tells new (after_hint owners prefix to)
+hint_is_take owners prefix to new t = λ id. t id ∙ ap (λ b. cond b to (server_of owners id)) (whole id)
+  where
+    whole : (id : List ℕ) → gives prefix ((prefix, true) ∷ []) id ≡ begins prefix id
+    whole id = elim (begins prefix id) as (λ b. begins prefix id ≡ b → (b && (unwrap_or (told_of ((prefix, true) ∷ []) id) false)) ≡ b) [
+      | true ↦ λ b. ap (λ c. unwrap_or (option_map (λ (e : List ℕ × Bool). e.1) (cond c (Some (prefix, true)) None)) false) b
+      | false ↦ λ b. refl
+    ] refl
