@@ -1,14 +1,14 @@
 -- A change of a map, and what is given away, differ from what is above only where a list has an entry.
-use Rattle.std.proofs.Common.{◌≡◌, ◌≢◌, ◌∙◌, ◌⊎◌, ℕ, Bool, true, false, List, [], ◌∷◌, ◌++◌, refl, ap, sym, length, inl, inr, cond, subst, arith, length-append, ◌+◌, ◌==◌}
-use Rattle.std.specs.Prelude.{Option, Some, None, ◌&&◌, not, nat_eq, unwrap_or, option_map}
+use Rattle.std.proofs.Common.{◌≡◌, ◌≢◌, ◌∙◌, ℕ, Bool, true, false, List, [], ◌∷◌, ◌++◌, refl, ap, sym, length, inl, inr, cond, subst, arith, length-append, ◌+◌, ◌<◌, ◌≤◌, ◌==◌, suc, get_or, drop, drop-cons}
+use Rattle.std.proofs.Math.ListN.{drop_of_length-le}
+use Rattle.std.specs.Prelude.{Some, None, ◌&&◌, not, nat_eq, unwrap_or, option_map}
 use Rattle.std.specs.Bool.{Decides, beq}
 use Rattle.std.specs.Cmp.{booleans_Decides, unsigned_Decides}
 use Rattle.fs_ident.specs.Ordered.{Keyed, are_keys_in_order}
-use Rattle.fs_ident.proofs.Booleans.{first, second}
-use Rattle.fs_map.specs.Map.{begins, longest, told_of, IsMap, IsPiece, Owners, Tells, server_of, gives, is_given, after_give, after_hint, after_take}
+use Rattle.fs_map.specs.Map.{begins, told_of, IsMap, IsPiece, Owners, Tells, server_of, gives, is_given, after_give, after_hint, after_take}
 use Rattle.fs_map.specs.Change.{at, front, turned, IsNext}
 use Rattle.fs_map.proofs.Prefixes.{itself_or_above, begins_below, front_is}
-use Rattle.fs_map.proofs.Found.{tied, tied_self, longest_above}
+use Rattle.fs_map.proofs.Found.{tied_self, longest_above}
 use Rattle.fs_map.proofs.Listing.{Lists, tells, reduced}
 use Rattle.fs_map.proofs.Merging.{IsListedSoFar, left_out, added, begun, ended, only_old}
 
@@ -27,6 +27,7 @@ gives_above prefix given p n ns h =
   where
     there : at prefix given ≡ Some p.first.0
     there = ap (at prefix) p.first.2 ∙ ap (λ b. cond b (Some p.first.0) (at prefix p.first.1)) (tied_self prefix)
+
     same : begins prefix (n ∷ ns) ≡ begins prefix (front n ns)
     same = elim (begins prefix (n ∷ ns)) as (λ b. begins prefix (n ∷ ns) ≡ b → b ≡ begins prefix (front n ns)) [
       | true ↦ λ b. elim (itself_or_above prefix n ns b) [
@@ -124,8 +125,10 @@ module _ (owners : Owners) (to : ℕ) (prefix : List ℕ) (given : Keyed Bool) w
   abbrev changed_to : List ℕ → ℕ
   changed_to id = after_take owners to prefix given id
 
-  pub change_begun : (listed : Owners) → IsPiece prefix given → listed ≡ ([], after_take owners to prefix given []) ∷ [] → IsListedSoFar (after_take owners to prefix given) [] listed owners given
-  change_begun listed p e = subst (λ l. IsListedSoFar changed_to [] l owners given) (sym e) (begun changed_to [] owners given (change_above owners to prefix given p))
+  pub change_begun : (listed : Owners) (new : Keyed Bool) → IsPiece prefix given → listed ≡ ([], after_take owners to prefix given []) ∷ [] → new ≡ given → IsListedSoFar (after_take owners to prefix given) [] listed owners new
+  change_begun listed new p e q =
+      subst (λ l. IsListedSoFar changed_to [] l owners new) (sym e)
+      (subst (λ n. IsListedSoFar changed_to [] (([], changed_to []) ∷ []) owners n) (sym q) (begun changed_to [] owners given (change_above owners to prefix given p)))
 
   module _ (listed old : Owners) (new : Keyed Bool) (place : List ℕ) (old_rest : Owners) (new_rest : Keyed Bool) (s : IsListedSoFar (after_take owners to prefix given) [] listed old new) (next : IsNext old new place old_rest new_rest) where
     pub change_kept : turned nat_eq (after_take owners to prefix given) [] place ≡ None → IsListedSoFar (after_take owners to prefix given) [] listed old_rest new_rest
@@ -137,6 +140,14 @@ module _ (owners : Owners) (to : ℕ) (prefix : List ℕ) (given : Keyed Bool) w
   pub change_ended : (listed old : Owners) (new : Keyed Bool) → IsListedSoFar (after_take owners to prefix given) [] listed old new → old ≡ [] → new ≡ [] → IsMap listed × Tells listed (after_take owners to prefix given)
   change_ended listed old new s p q =
       changed_map changed_to listed (ended changed_to [] listed (subst (λ o. IsListedSoFar changed_to [] listed o nothing) p (subst (IsListedSoFar changed_to [] listed old) q s)))
+
+pub next_item : {X : Type 0} (l : List X) (i : ℕ) (x : X) → i < length l → x ≡ get_or l i x → drop i l ≡ x ∷ drop (i + 1) l
+next_item l i x within is =
+    let one : suc i ≡ i + 1 = omega arith in
+    drop-cons l i x within ∙ ap (λ y. y ∷ drop (suc i) l) (sym is) ∙ ap (λ n. x ∷ drop n l) one
+
+pub passed_all : {X : Type 0} (l : List X) (i : ℕ) → length l ≤ i → drop i l ≡ []
+passed_all l i h = drop_of_length-le l h
 
 module _ (owners : Owners) (me : ℕ) (prefix : List ℕ) where
   pub piece_begun : (given : Keyed Bool) → server_of owners prefix ≡ me → given ≡ (prefix, true) ∷ [] → IsListedSoFar (is_mine owners me) prefix given owners nothing
@@ -152,8 +163,8 @@ module _ (owners : Owners) (me : ℕ) (prefix : List ℕ) where
     pub piece_order : are_keys_in_order es ≡ true
     piece_order = next.old_order
 
-    pub piece_kept : turned beq (is_mine owners me) prefix e.0 ≡ None → IsListedSoFar (is_mine owners me) prefix given es nothing
-    piece_kept t = passed_by beq booleans_Decides (is_mine owners me) prefix given old nothing e.0 es nothing s next t
+    pub piece_kept : (still : Keyed Bool) → still ≡ given → turned beq (is_mine owners me) prefix e.0 ≡ None → IsListedSoFar (is_mine owners me) prefix still es nothing
+    piece_kept still m t = subst (λ g. IsListedSoFar (is_mine owners me) prefix g es nothing) (sym m) (passed_by beq booleans_Decides (is_mine owners me) prefix given old nothing e.0 es nothing s next t)
 
     pub piece_listed : (v : Bool) (more : Keyed Bool) → turned beq (is_mine owners me) prefix e.0 ≡ Some v → more ≡ given ++ (e.0, v) ∷ [] → IsListedSoFar (is_mine owners me) prefix more es nothing
     piece_listed v more t m = subst (λ g. IsListedSoFar (is_mine owners me) prefix g es nothing) (sym m) (listed_too beq booleans_Decides (is_mine owners me) prefix given old nothing e.0 es nothing s next v t)
@@ -161,18 +172,20 @@ module _ (owners : Owners) (me : ℕ) (prefix : List ℕ) where
   pub piece_ended : (given : Keyed Bool) (old : Owners) → IsListedSoFar (is_mine owners me) prefix given old nothing → old ≡ [] → IsPiece prefix given × ((id : List ℕ) → gives prefix given id ≡ is_given owners me prefix id)
   piece_ended given old s p = piece_given owners me prefix given (ended (is_mine owners me) prefix given (subst (λ o. IsListedSoFar (is_mine owners me) prefix given o nothing) p s))
 
-
 -- what goes away is what comes to the other
 pub give_is_take : (owners : Owners) (me : ℕ) (prefix : List ℕ) (to : ℕ) (given : Keyed Bool) (new : Owners) → ((id : List ℕ) → gives prefix given id ≡ is_given owners me prefix id) → Tells new (after_take owners to prefix given) → Tells new (after_give owners me prefix to)
 give_is_take owners me prefix to given new same t = λ id. t id ∙ ap (λ b. cond b to (server_of owners id)) (same id)
 
 -- ## All below a prefix
 
-pub whole_piece : (prefix : List ℕ) → IsPiece prefix ((prefix, true) ∷ [])
+whole_piece : (prefix : List ℕ) → IsPiece prefix ((prefix, true) ∷ [])
 whole_piece prefix = reduced (λ _. true) prefix ((prefix, true) ∷ []) (ended {A = Bool} {B = Bool} (λ _. true) prefix ((prefix, true) ∷ []) (begun {A = Bool} {B = Bool} (λ _. true) prefix [] [] (λ n ns p q b. refl)))
 
-pub hint_is_take : (owners : Owners) (prefix : List ℕ) (to : ℕ) (new : Owners) → Tells new (after_take owners to prefix ((prefix, true) ∷ [])) → Tells new (after_hint owners prefix to)
-hint_is_take owners prefix to new t = λ id. t id ∙ ap (λ b. cond b to (server_of owners id)) (whole id)
+pub is_whole : (p prefix : List ℕ) (given : Keyed Bool) → p ≡ prefix → given ≡ (prefix, true) ∷ [] → IsPiece p given
+is_whole p prefix given e q = subst (λ x. IsPiece x given) (sym e) (subst (IsPiece prefix) (sym q) (whole_piece prefix))
+
+pub hint_is_take : (owners : Owners) (p prefix : List ℕ) (given : Keyed Bool) (to : ℕ) (new : Owners) → p ≡ prefix → given ≡ (prefix, true) ∷ [] → Tells new (after_take owners to p given) → Tells new (after_hint owners prefix to)
+hint_is_take owners p prefix given to new e q t = λ id. t id ∙ ap (λ x. after_take owners to x given id) e ∙ ap (λ g. after_take owners to prefix g id) q ∙ ap (λ b. cond b to (server_of owners id)) (whole id)
   where
     whole : (id : List ℕ) → gives prefix ((prefix, true) ∷ []) id ≡ begins prefix id
     whole id = elim (begins prefix id) as (λ b. begins prefix id ≡ b → (b && (unwrap_or (told_of ((prefix, true) ∷ []) id) false)) ≡ b) [

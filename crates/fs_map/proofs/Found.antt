@@ -1,23 +1,19 @@
 -- What is found among prefixes in order, and the longest of them.
-use Rattle.std.proofs.Common.{◌≡◌, ◌≢◌, ◌∙◌, ◌⊎◌, ℕ, Bool, true, false, List, [], ◌∷◌, ◌++◌, refl, ap, sym, length, take, inl, inr, arith, cond, subst, suc, ◌+◌, ◌<◌, ◌≤◌, length-append, Result, Ok, Err, IfOk, IfErr}
-use Rattle.std.specs.Prelude.{nat_eq, Option, Some, None, unwrap_or, ◌&&◌, slice_index_or}
-use Rattle.std.specs.Ordering.{nat_cmp, eq_by_cmp, is_eq, is_lt, ordering_reverse}
-use Rattle.std.specs.Cmp.{nat_cmp_total}
+use Rattle.std.proofs.Common.{◌≡◌, ◌∙◌, ◌⊎◌, ℕ, Bool, true, false, List, [], ◌∷◌, ◌++◌, refl, ap, sym, length, inl, inr, arith, cond, subst, ◌+◌, ◌<◌, length-append, Result, Ok, Err, IfOk, IfErr}
+use Rattle.std.specs.Prelude.{Some, None, slice_index_or}
+use Rattle.std.specs.Ordering.{nat_cmp, eq_by_cmp, is_eq}
 use Rattle.std.specs.Cmp.Lexicographic.{slice_cmp, nat_list_cmp_total}
-use Rattle.std.specs.FinMap.Entries.{find, is_sorted, below_all}
 use Rattle.std.specs.List.Sorted.{IsSearchInRange, IsBinarySearchResult}
-use Rattle.std.specs.declared.cmp.Ordering.{Ordering}
-use Rattle.std.specs.declared.cmp.Ordering.TheVariants.{Less, Equal, Greater}
+use Rattle.std.specs.declared.cmp.Ordering.TheVariants.{Less, Equal}
 use Rattle.std.proofs.lemmas.Cmp.{tied_itself}
-use Rattle.fs_ident.specs.Ident.{parent}
 use Rattle.fs_ident.specs.In.{In}
 use Rattle.fs_ident.specs.Ordered.{Keyed, are_keys_in_order}
-use Rattle.fs_ident.proofs.Booleans.{first, second, joined, equal_is, less}
+use Rattle.fs_ident.proofs.Booleans.{first, second, equal_is, less}
 use Rattle.fs_ident.proofs.MapsOf.{anti}
 use Rattle.fs_ident.proofs.Searched.{searched as by_name}
-use Rattle.fs_map.specs.Map.{begins, longest, or_before, told_of}
+use Rattle.fs_map.specs.Map.{begins, longest, or_before}
 use Rattle.fs_map.specs.Change.{at, before_all, front}
-use Rattle.fs_map.proofs.Prefixes.{begins_itself, itself_or_above, begins_below, begins_nothing, both_ways, prefix_first, front_is}
+use Rattle.fs_map.proofs.Prefixes.{begins_itself, itself_or_above, begins_below, begins_nothing, prefix_first, front_is}
 
 abbrev pub Before : List ℕ → List ℕ → Type 0
 Before a b = slice_cmp nat_cmp a b ≡ Less

@@ -1,14 +1,13 @@
 -- The one list of a function: the prefixes at which it differs from its value above, each with its value.
-use Rattle.std.proofs.Common.{◌≡◌, ◌≢◌, ◌∙◌, ◌⊎◌, ℕ, zero, suc, Bool, true, false, List, [], ◌∷◌, ◌++◌, refl, ap, sym, length, take, inl, inr, arith, cond, subst, T, ◌<◌, ◌≤◌}
-use Rattle.std.specs.Prelude.{Option, Some, None, unwrap_or, option_map, ◌&&◌}
+use Rattle.std.proofs.Common.{◌≡◌, ◌≢◌, ◌∙◌, ℕ, zero, suc, true, false, List, [], ◌∷◌, refl, ap, sym, length, inl, inr, arith, cond, subst, T, ◌≤◌}
+use Rattle.std.specs.Prelude.{Option, Some, None, unwrap_or, option_map}
 use Rattle.std.specs.Ordering.{nat_cmp}
 use Rattle.std.specs.Cmp.Lexicographic.{slice_cmp, nat_list_cmp_total}
 use Rattle.std.specs.FinMap.Entries.{same_entries}
 use Rattle.std.proofs.lemmas.List.{length-take-le}
 use Rattle.fs_ident.specs.Ident.{parent}
-use Rattle.fs_ident.specs.In.{In}
 use Rattle.fs_ident.specs.Ordered.{Keyed, are_keys_in_order}
-use Rattle.fs_ident.proofs.Booleans.{first, second}
+use Rattle.fs_ident.proofs.Booleans.{first}
 use Rattle.fs_ident.proofs.MapsOf.{anti}
 use Rattle.fs_map.specs.Map.{begins, longest, or_before, told_of, IsReduced}
 use Rattle.fs_map.specs.Change.{at, front}
@@ -99,7 +98,7 @@ told {V} top listed r d id h =
     let rest : Keyed V = r.first.1 in
     let e : List ℕ × V = (top, r.first.0) in
     let same : told_of listed id ≡ option_map (λ (x : List ℕ × V). x.1) (or_before (longest rest id) (Some e)) =
-        ap (λ l. told_of l id) r.first.2 ∙ ap (λ b. option_map (λ (x : List ℕ × V). x.1) (or_before (longest rest id) (cond b (Some e) None))) h in
+    ap (λ l. told_of l id) r.first.2 ∙ ap (λ b. option_map (λ (x : List ℕ × V). x.1) (or_before (longest rest id) (cond b (Some e) None))) h in
     same ∙ first_there (longest rest id) e d ∙ ap (λ o. Some (unwrap_or o d)) (sym same)
 
 -- and is the list of what it tells
@@ -117,12 +116,16 @@ listing {V} f top listed r t = record {
   where
     here : (id : List ℕ) (v : V) → at id listed ≡ Some v → at id listed ≡ Some v
     here id v h = h
+
     top_value : V
     top_value = r.first.0
+
     top_there : at top listed ≡ Some top_value
     top_there = ap (at top) r.first.2 ∙ ap (λ b. cond b (Some top_value) (at top r.first.1)) (tied_self top)
+
     here_told : (id : List ℕ) (v : V) → at id listed ≡ Some v → told_of listed id ≡ Some v
     here_told id v h = value_of (longest listed id) (longest_itself id v listed r.ordered h)
+
     below : (id : List ℕ) (v : V) → at id listed ≡ Some v → begins top id ≡ true
     below id v h = r.below (id, v) (found_In id v listed h)
 

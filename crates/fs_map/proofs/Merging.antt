@@ -1,10 +1,9 @@
 -- Places in order, taken off one by one, and what has been listed of them so far.
-use Rattle.std.proofs.Common.{◌≡◌, ◌≢◌, ◌∙◌, ◌⊎◌, ℕ, zero, suc, Bool, true, false, List, [], ◌∷◌, ◌++◌, refl, ap, sym, length, take, inl, inr, arith, cond, subst, T, ◌+◌, ◌<◌, ◌≤◌}
-use Rattle.std.specs.Prelude.{Option, Some, None, ◌&&◌}
+use Rattle.std.proofs.Common.{◌≡◌, ◌≢◌, ◌∙◌, ◌⊎◌, ℕ, true, false, List, [], ◌∷◌, ◌++◌, refl, ap, sym, length, inl, inr, arith, cond, subst}
+use Rattle.std.specs.Prelude.{Some, None}
 use Rattle.std.specs.Ordering.{nat_cmp, is_lt, ordering_reverse}
 use Rattle.std.specs.Cmp.Lexicographic.{slice_cmp, nat_list_cmp_total}
 use Rattle.std.specs.FinMap.Entries.{find-append}
-use Rattle.std.specs.declared.cmp.Ordering.{Ordering}
 use Rattle.std.specs.declared.cmp.Ordering.TheVariants.{Less, Equal, Greater}
 use Rattle.fs_ident.specs.In.{In}
 use Rattle.fs_ident.specs.Ordered.{Keyed, are_keys_in_order}
@@ -157,8 +156,7 @@ still_ordered [] e h all = refl
 still_ordered (d ∷ ds) e h all = joined _ _ (still_before d.0 ds e (first _ _ h) (all d (inl refl))) (still_ordered ds e (second _ _ h) (λ x i. all x (inr i)))
 
 module _ {V A B : Type 0} (f : List ℕ → V) (top : List ℕ) (listed : Keyed V) (old : Keyed A) (new : Keyed B) (place : List ℕ) (old_rest : Keyed A) (new_rest : Keyed B)
-  (s : IsListedSoFar f top listed old new) (next : IsNext old new place old_rest new_rest) where
-
+    (s : IsListedSoFar f top listed old new) (next : IsNext old new place old_rest new_rest) where
   -- the place tells what the one above it does, or is not below the top
   pub left_out : ((n : ℕ) (ns : List ℕ) → place ≡ n ∷ ns → begins top (front n ns) ≡ true → f (n ∷ ns) ≡ f (front n ns)) → IsListedSoFar f top listed old_rest new_rest
   left_out same = record {

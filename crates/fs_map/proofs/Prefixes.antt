@@ -1,15 +1,13 @@
 -- With which prefixes an identifier begins.
-use Rattle.std.proofs.Common.{◌≡◌, ◌∙◌, ◌⊎◌, ℕ, Bool, true, false, List, [], ◌∷◌, refl, ap, sym, length, take, inl, inr, arith, cond, subst, ◌++◌, ◌+◌, length-append}
-use Rattle.std.specs.Prelude.{nat_eq, Option, Some, None, unwrap_or, ◌&&◌}
+use Rattle.std.proofs.Common.{◌≡◌, ◌∙◌, ◌⊎◌, ℕ, true, false, List, [], ◌∷◌, refl, ap, sym, length, take, inl, inr, arith, subst, ◌++◌, ◌+◌, length-append}
+use Rattle.std.specs.Prelude.{nat_eq}
 use Rattle.std.specs.Ordering.{nat_cmp}
 use Rattle.std.specs.Cmp.{nat_cmp_total}
 use Rattle.std.specs.Cmp.Lexicographic.{slice_cmp}
 use Rattle.std.proofs.lemmas.Cmp.{tied_itself}
-use Rattle.std.specs.declared.cmp.Ordering.{Ordering}
-use Rattle.std.specs.declared.cmp.Ordering.TheVariants.{Less, Equal, Greater}
+use Rattle.std.specs.declared.cmp.Ordering.TheVariants.{Less, Equal}
 use Rattle.std.proofs.lemmas.Bool.Decides.{nat_tests}
 use Rattle.std.proofs.lemmas.List.{take_at}
-use Rattle.fs_ident.specs.Ident.{parent}
 use Rattle.fs_ident.proofs.Booleans.{first, second, joined}
 use Rattle.fs_map.specs.Map.{begins}
 use Rattle.fs_map.specs.Change.{front}

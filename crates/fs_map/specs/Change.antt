@@ -5,7 +5,7 @@ use Rattle.std.specs.Cmp.Lexicographic.{slice_cmp}
 use Rattle.std.specs.FinMap.Entries.{find, below_all}
 use Rattle.std.specs.declared.cmp.Ordering.TheVariants.{Less}
 use Rattle.fs_ident.specs.Ordered.{Keyed, are_keys_in_order}
-use Rattle.fs_map.specs.Map.{begins, told_of, longest}
+use Rattle.fs_map.specs.Map.{begins}
 
 -- the value of the prefix
 abbrev pub at : {V : Type 0} → List ℕ → Keyed V → Option V

@@ -6,10 +6,10 @@ ghost use Rattle.std.specs.Prelude.{◌≡◌, ◌==◌, ◌&&◌, ◌<◌, ℕ,
 ghost use Rattle.std.specs.Bool.{beq};
 ghost use Rattle.fs_ident.specs.Ordered.{are_keys_in_order};
 ghost use Rattle.fs_map.specs.Change.{turned, IsNext};
-ghost use Rattle.fs_map.specs.Map.{IsMap, IsPiece, Tells, after_take, gives, is_given, server_of};
+ghost use Rattle.fs_map.specs.Map.{IsMap, IsPiece, Tells, after_hint, after_take, gives, is_given, server_of};
 
 use crate::listed::{is_given, server_of};
-use crate::piece::MapPiece;
+use crate::piece::{MapPiece, whole};
 use fs_ident::{FileId, List, Memory, Twin};
 use std::alloc::Global;
 use std::cmp::Ordering;
@@ -55,12 +55,7 @@ fn server_after(owners: &[(FileId, u8)], piece: &MapPiece, to: u8, id: &[u32]) -
 }
 
 /// That server, where it is not the one of the place above.
-fn turned_server(
-    owners: &[(FileId, u8)],
-    piece: &MapPiece,
-    to: u8,
-    place: &FileId,
-) -> Option<u8>
+fn turned_server(owners: &[(FileId, u8)], piece: &MapPiece, to: u8, place: &FileId) -> Option<u8>
     requires owners { IsTrue (are_keys_in_order owners.now) }
     requires given { IsTrue (are_keys_in_order piece.now.given) }
     ensures { result ≡ turned nat_eq (after_take owners.now to piece.now.prefix piece.now.given)
@@ -106,6 +101,21 @@ pub(crate) fn changed(
         new = new_rest;
     }
     Ok(listed)
+}
+
+/// The list of the map after all below a prefix is said to be at a server.
+pub(crate) fn hinted(
+    alloc: Global,
+    owners: &[(FileId, u8)],
+    prefix: &FileId,
+    to: u8,
+) -> Result<List<(FileId, u8)>, Memory>
+    requires { IsMap owners.now }
+    ensures map { IfOk result IsMap }
+    ensures servers { IfOk result (λ l. Tells l (after_hint owners.now prefix.now to)) }
+{
+    let whole = whole(alloc, prefix)?;
+    changed(alloc, owners, &whole, to)
 }
 
 /// Whether the identifier is given, where it is below the prefix and this is not as it is above.

@@ -2,9 +2,9 @@
 ghost use Rattle.std.specs.Prelude.{◌≡◌, ℕ, List, Some, IfOk, OnOk, OnErr};
 ghost use Rattle.fs_map.specs.Map.{IsMap, IsPiece, Tells, after_give, after_hint, after_take, first_map, gives, is_given, longest, server_of};
 
-use crate::change::{changed, piece_of};
+use crate::change::{changed, hinted, piece_of};
 use crate::listed::longest;
-use crate::piece::{MapPiece, whole};
+use crate::piece::MapPiece;
 use fs_ident::{FileId, List, Memory, Twin};
 use std::alloc::Global;
 use std::marker::Model;
@@ -98,8 +98,7 @@ impl FileMap {
         ensures valid { IsMap self.new }
         ensures err { OnErr result (self.new ≡ self.old) }
     {
-        let whole = whole(alloc, prefix)?;
-        self.owners = changed(alloc, self.owners.as_slice(), &whole, to)?;
+        self.owners = hinted(alloc, self.owners.as_slice(), prefix, to)?;
         Ok(())
     }
 }

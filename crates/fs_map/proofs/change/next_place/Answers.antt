@@ -1,4 +1,4 @@
-use Rattle.std.proofs.Common.{sym, ◌∙◌}
+use Rattle.std.proofs.Common.{sym}
 use Rattle.fs_map.proofs.Merging.{empty, only_old, only_new, lesser, alike, greater}
 use Rattle.fs_map.proofs.change.next_place.Goals as goal
 

@@ -1,6 +1,6 @@
-use Rattle.std.proofs.Common.{◌≡◌, ◌∙◌, ℕ, List, [], Bool, true, false, ap, sym, refl, cond}
+use Rattle.std.proofs.Common.{◌≡◌, ◌∙◌, ℕ, List, Bool, true, false, ap, sym}
 use Rattle.std.specs.Prelude.{Some, unwrap_or, ◌&&◌}
-use Rattle.fs_map.specs.Map.{told_of, gives, begins}
+use Rattle.fs_map.specs.Map.{told_of, begins}
 use Rattle.fs_map.proofs.Listing.{told, listing, one_list}
 use Rattle.fs_map.proofs.law.a_piece_is_told_by_what_it_gives.Goals as goal
 
@@ -12,5 +12,6 @@ returns c prefix a b p q same =
   where
     given : List ℕ → Bool
     given id = unwrap_or (told_of a id) false
+
     below : (id : List ℕ) → begins prefix id ≡ true → unwrap_or (told_of b id) false ≡ given id
     below id h = ap (λ x. x && (unwrap_or (told_of b id) false)) (sym h) ∙ sym (same id) ∙ ap (λ x. x && given id) h

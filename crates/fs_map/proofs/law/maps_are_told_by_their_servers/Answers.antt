@@ -1,6 +1,6 @@
-use Rattle.std.proofs.Common.{◌≡◌, ◌∙◌, ℕ, List, [], ap, sym, refl}
+use Rattle.std.proofs.Common.{◌∙◌, [], ap, sym}
 use Rattle.std.specs.Prelude.{Some}
-use Rattle.fs_map.specs.Map.{Owners, IsMap, server_of}
+use Rattle.fs_map.specs.Map.{server_of}
 use Rattle.fs_map.proofs.Listing.{told, listing, one_list}
 use Rattle.fs_map.proofs.law.maps_are_told_by_their_servers.Goals as goal
 
