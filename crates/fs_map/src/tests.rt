@@ -62,9 +62,54 @@ fn shows(
     Ok(())
 }
 
-/// To which server a map sends one who asks for the identifier.
-fn sends(alloc: Global, map: &FileMap, id: &str) -> Result<u8, Fail> {
-    Ok(map.owner(&FileId::parse(alloc, id.as_bytes())?).1)
+/// The two calls, and what they leave.
+fn passes(
+    rt: &impl Abort,
+    alloc: Global,
+    from: &mut FileMap,
+    me: u8,
+    prefix: &str,
+    to: &mut FileMap,
+    you: u8,
+    wanted: [&str; 3],
+) -> Result<(), Fail> {
+    let piece = moves(rt, alloc, from, me, prefix, to, you)?;
+    shows(rt, alloc, &piece, from, to, wanted)
+}
+
+fn two_servers(
+    rt: &impl Abort,
+    alloc: Global,
+    s0: &mut FileMap,
+    s1: &mut FileMap,
+) -> Result<(), Fail> {
+    passes(rt, alloc, s0, 0, "/1", s1, 1, FIRST)?;
+    passes(rt, alloc, s1, 1, "/1/2", s0, 0, SECOND)
+}
+
+fn third_server(
+    rt: &impl Abort,
+    alloc: Global,
+    s0: &mut FileMap,
+    s1: &mut FileMap,
+    s2: &mut FileMap,
+) -> Result<(), Fail> {
+    passes(rt, alloc, s0, 0, "/", s2, 2, THIRD)?;
+    sends(rt, alloc, s2, s0)?;
+    passes(rt, alloc, s2, 2, "/", s1, 1, FOURTH)
+}
+
+/// To which server one who asks for the first file below the root is sent, and then from there.
+fn sends(
+    rt: &impl Abort,
+    alloc: Global,
+    asked: &FileMap,
+    asked_next: &FileMap,
+) -> Result<(), Fail> {
+    let id = FileId::parse(alloc, b"/1")?;
+    assert!(rt; asked.owner(&id).1 == 0);
+    assert!(rt; asked_next.owner(&id).1 == 1);
+    Ok(())
 }
 
 #[test]
@@ -73,17 +118,8 @@ fn three_servers(rt: HostRuntime) -> Result<(), Fail> {
     let mut s0 = FileMap::new(alloc)?;
     let mut s1 = FileMap::new(alloc)?;
     let mut s2 = FileMap::new(alloc)?;
-    let piece = moves(&rt, alloc, &mut s0, 0, "/1", &mut s1, 1)?;
-    shows(&rt, alloc, &piece, &s0, &s1, FIRST)?;
-    let piece = moves(&rt, alloc, &mut s1, 1, "/1/2", &mut s0, 0)?;
-    shows(&rt, alloc, &piece, &s1, &s0, SECOND)?;
-    let piece = moves(&rt, alloc, &mut s0, 0, "/", &mut s2, 2)?;
-    shows(&rt, alloc, &piece, &s0, &s2, THIRD)?;
-    assert_eq!(rt; sends(alloc, &s2, "/1")?, 0);
-    assert_eq!(rt; sends(alloc, &s0, "/1")?, 1);
-    let piece = moves(&rt, alloc, &mut s2, 2, "/", &mut s1, 1)?;
-    shows(&rt, alloc, &piece, &s2, &s1, FOURTH)?;
-    Ok(())
+    two_servers(&rt, alloc, &mut s0, &mut s1)?;
+    third_server(&rt, alloc, &mut s0, &mut s1, &mut s2)
 }
 
 const FIRST: [&str; 3] = ["/1 true, ", "/ s0, /1 s1, ", "/ s0, /1 s1, "];
@@ -184,13 +220,17 @@ const GIVEN: [(&str, bool); 4] = [
     ("/1/3", false),
 ];
 
+/// Whether the piece gives the identifier.
+fn is_given(alloc: Global, piece: &MapPiece, id: &str) -> Result<bool, Fail> {
+    Ok(piece.gives(&FileId::parse(alloc, id.as_bytes())?))
+}
+
 #[test]
 fn a_piece_tells_what_is_given(rt: HostRuntime) -> Result<(), Fail> {
     let alloc = rt.alloc();
-    let piece = with_a_hole(&rt, alloc)?.copy(alloc)?;
+    let piece = with_a_hole(&rt, alloc)?;
     for (id, given) in GIVEN {
-        let id = FileId::parse(alloc, id.as_bytes())?;
-        assert!(rt; piece.gives(&id) == given);
+        assert_eq!(rt; is_given(alloc, &piece, id)?, given);
     }
     Ok(())
 }
