@@ -1,19 +1,16 @@
 -- A change of a map, and what is given away, differ from what is above only where a list has an entry.
-use Rattle.std.proofs.Common.{◌≡◌, ◌≢◌, ◌∙◌, ℕ, Bool, true, false, List, [], ◌∷◌, ◌++◌, refl, ap, sym, length, inl, inr, cond, subst, arith, length-append, ◌+◌, ◌<◌, ◌≤◌, ◌==◌, suc, get_or, drop, drop-cons}
+use Rattle.std.proofs.Common.{◌≡◌, ◌≢◌, ◌∙◌, ℕ, Bool, true, false, List, [], ◌∷◌, ◌++◌, refl, ap, sym, length, inl, inr, cond, subst, arith, ◌+◌, ◌<◌, ◌≤◌, ◌==◌, suc, get_or, drop, drop-cons}
 use Rattle.std.proofs.Math.ListN.{drop_of_length-le}
 use Rattle.std.specs.Prelude.{Some, None, ◌&&◌, not, nat_eq, unwrap_or, option_map}
 use Rattle.std.specs.Bool.{Decides, beq}
 use Rattle.std.specs.Cmp.{booleans_Decides, unsigned_Decides}
 use Rattle.fs_ident.specs.Ordered.{Keyed, are_keys_in_order}
-use Rattle.fs_map.specs.Map.{begins, told_of, IsMap, IsPiece, Owners, Tells, server_of, gives, is_given, after_give, after_hint, after_take}
+use Rattle.fs_map.specs.Map.{begins, told_of, IsMap, IsPiece, Owners, Tells, server_of, gives, is_given, after_take}
 use Rattle.fs_map.specs.Change.{at, front, turned, IsNext}
-use Rattle.fs_map.proofs.Prefixes.{itself_or_above, begins_below, front_is}
+use Rattle.fs_map.proofs.Prefixes.{itself_or_above, begins_below}
 use Rattle.fs_map.proofs.Found.{tied_self, longest_above}
-use Rattle.fs_map.proofs.Listing.{Lists, tells, reduced}
+use Rattle.fs_map.proofs.Listing.{Lists, some_is, tells, reduced}
 use Rattle.fs_map.proofs.Merging.{IsListedSoFar, left_out, added, begun, ended, only_old}
-
-some_is : {V : Type 0} {v w : V} → Some v ≡ Some w → v ≡ w
-some_is {V} {v} {w} e = cc
 
 told_above : {V : Type 0} (n : ℕ) (ns : List ℕ) (listed : Keyed V) → at (n ∷ ns) listed ≡ None → told_of listed (n ∷ ns) ≡ told_of listed (front n ns)
 told_above n ns listed h = ap (option_map (λ e. e.1)) (longest_above n ns listed h)
@@ -56,14 +53,6 @@ pub mine_above : (owners : Owners) (me : ℕ) (prefix : List ℕ) (n : ℕ) (ns 
 mine_above owners me prefix n ns h k b = ap (λ s. s == me) (server_above owners n ns h)
 
 -- ## One place
-
-pub turned_split : {V : Type 0} (same : V → V → Bool) (f : List ℕ → V) (top place above : List ℕ) (x : ℕ) → place ≡ above ++ x ∷ [] → turned same f top place ≡ cond (begins top above && not (same (f above) (f place))) (Some (f place)) None
-turned_split same f top [] above x e = let q : 0 ≡ length above + 1 = ap length e ∙ length-append above (x ∷ []) in absurd (omega arith)
-turned_split same f top (n ∷ ns) above x e = ap (λ (a : List ℕ). cond (begins top a && not (same (f a) (f (n ∷ ns)))) (Some (f (n ∷ ns))) None) (front_is n ns above x e)
-
-pub turned_empty : {V : Type 0} (same : V → V → Bool) (f : List ℕ → V) (top place : List ℕ) → length place ≡ 0 → turned same f top place ≡ None
-turned_empty same f top [] l = refl
-turned_empty same f top (n ∷ ns) l = absurd (omega arith)
 
 module _ {V : Type 0} (same : V → V → Bool) (tests : (x y : V) → Decides (same x y) (x ≡ y)) (f : List ℕ → V) (top : List ℕ) where
   as_above : (n : ℕ) (ns : List ℕ) → turned same f top (n ∷ ns) ≡ None → begins top (front n ns) ≡ true → f (n ∷ ns) ≡ f (front n ns)
@@ -172,10 +161,6 @@ module _ (owners : Owners) (me : ℕ) (prefix : List ℕ) where
   pub piece_ended : (given : Keyed Bool) (old : Owners) → IsListedSoFar (is_mine owners me) prefix given old nothing → old ≡ [] → IsPiece prefix given × ((id : List ℕ) → gives prefix given id ≡ is_given owners me prefix id)
   piece_ended given old s p = piece_given owners me prefix given (ended (is_mine owners me) prefix given (subst (λ o. IsListedSoFar (is_mine owners me) prefix given o nothing) p s))
 
--- what goes away is what comes to the other
-pub give_is_take : (owners : Owners) (me : ℕ) (prefix : List ℕ) (to : ℕ) (given : Keyed Bool) (new : Owners) → ((id : List ℕ) → gives prefix given id ≡ is_given owners me prefix id) → Tells new (after_take owners to prefix given) → Tells new (after_give owners me prefix to)
-give_is_take owners me prefix to given new same t = λ id. t id ∙ ap (λ b. cond b to (server_of owners id)) (same id)
-
 -- ## All below a prefix
 
 whole_piece : (prefix : List ℕ) → IsPiece prefix ((prefix, true) ∷ [])
@@ -183,12 +168,3 @@ whole_piece prefix = reduced (λ _. true) prefix ((prefix, true) ∷ []) (ended 
 
 pub is_whole : (p prefix : List ℕ) (given : Keyed Bool) → p ≡ prefix → given ≡ (prefix, true) ∷ [] → IsPiece p given
 is_whole p prefix given e q = subst (λ x. IsPiece x given) (sym e) (subst (IsPiece prefix) (sym q) (whole_piece prefix))
-
-pub hint_is_take : (owners : Owners) (p prefix : List ℕ) (given : Keyed Bool) (to : ℕ) (new : Owners) → p ≡ prefix → given ≡ (prefix, true) ∷ [] → Tells new (after_take owners to p given) → Tells new (after_hint owners prefix to)
-hint_is_take owners p prefix given to new e q t = λ id. t id ∙ ap (λ x. after_take owners to x given id) e ∙ ap (λ g. after_take owners to prefix g id) q ∙ ap (λ b. cond b to (server_of owners id)) (whole id)
-  where
-    whole : (id : List ℕ) → gives prefix ((prefix, true) ∷ []) id ≡ begins prefix id
-    whole id = elim (begins prefix id) as (λ b. begins prefix id ≡ b → (b && (unwrap_or (told_of ((prefix, true) ∷ []) id) false)) ≡ b) [
-      | true ↦ λ b. ap (λ c. unwrap_or (option_map (λ (e : List ℕ × Bool). e.1) (cond c (Some (prefix, true)) None)) false) b
-      | false ↦ λ b. refl
-    ] refl

@@ -30,7 +30,7 @@ pub record Lists {V : Type 0} (f : List ℕ → V) (top : List ℕ) (listed : Ke
 value_of : {V : Type 0} {k : List ℕ} {v : V} (o : Option (List ℕ × V)) → o ≡ Some (k, v) → option_map (λ (e : List ℕ × V). e.1) o ≡ Some v
 value_of o e = ap (option_map (λ e. e.1)) e
 
-some_is : {V : Type 0} {v w : V} → Some v ≡ Some w → v ≡ w
+pub some_is : {V : Type 0} {v w : V} → Some v ≡ Some w → v ≡ w
 some_is {V} {v} {w} e = cc
 
 shorter : (n : ℕ) (ns : List ℕ) (k : ℕ) → length (n ∷ ns) ≤ suc k → length (front n ns) ≤ k
@@ -106,7 +106,7 @@ pub listing : {V : Type 0} (f : List ℕ → V) (top : List ℕ) (listed : Keyed
 listing {V} f top listed r t = record {
   sound = record {
     ordered = r.ordered;
-    topmost = here top top_value top_there ∙ ap Some (some_is (sym (here_told top top_value top_there) ∙ t top (begins_itself top)));
+    topmost = top_there ∙ ap Some (some_is (sym (here_told top top_value top_there) ∙ t top (begins_itself top)));
     told = λ id v h. some_is (sym (here_told id v h) ∙ t id (below id v h));
     below = below;
     differs = λ n ns v h b e. r.telling (n ∷ ns, v) (found_In (n ∷ ns) v listed h) (front n ns) refl b (t (front n ns) b ∙ ap Some e);
@@ -114,9 +114,6 @@ listing {V} f top listed r t = record {
   whole = λ n ns h b. some_is (sym (t (n ∷ ns) (begins_below top n ns b)) ∙ ap (option_map (λ e. e.1)) (longest_above n ns listed h) ∙ t (front n ns) b);
 }
   where
-    here : (id : List ℕ) (v : V) → at id listed ≡ Some v → at id listed ≡ Some v
-    here id v h = h
-
     top_value : V
     top_value = r.first.0
 

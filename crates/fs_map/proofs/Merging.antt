@@ -13,16 +13,13 @@ use Rattle.fs_map.specs.Map.{begins}
 use Rattle.fs_map.specs.Change.{at, before_all, front, IsNext}
 use Rattle.fs_map.proofs.Prefixes.{begins_itself, begins_above, begins_below, above_differs, both_ways, prefix_first}
 use Rattle.fs_map.proofs.Found.{Before, tied, tied_is, tied_self, apart, In_found}
-use Rattle.fs_map.proofs.Listing.{Sound, Lists}
+use Rattle.fs_map.proofs.Listing.{Sound, Lists, some_is}
 
 -- the places so far are listed, and these are left
 pub record IsListedSoFar {V A B : Type 0} (f : List ℕ → V) (top : List ℕ) (listed : Keyed V) (old : Keyed A) (new : Keyed B) : Type 0 where
   pub sound : Sound f top listed
   pub behind : (id : List ℕ) (v : V) → at id listed ≡ Some v → (id ≡ top) ⊎ ((before_all id old ≡ true) × (before_all id new ≡ true))
   pub whole : (n : ℕ) (ns : List ℕ) → at (n ∷ ns) listed ≡ None → at (n ∷ ns) old ≡ None → at (n ∷ ns) new ≡ None → begins top (front n ns) ≡ true → f (n ∷ ns) ≡ f (front n ns)
-
-some_is : {V : Type 0} {v w : V} → Some v ≡ Some w → v ≡ w
-some_is {V} {v} {w} e = cc
 
 -- ## The next place
 

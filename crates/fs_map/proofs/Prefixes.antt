@@ -1,5 +1,5 @@
 -- With which prefixes an identifier begins.
-use Rattle.std.proofs.Common.{◌≡◌, ◌∙◌, ◌⊎◌, ℕ, true, false, List, [], ◌∷◌, refl, ap, sym, length, take, inl, inr, arith, subst, ◌++◌, ◌+◌, length-append}
+use Rattle.std.proofs.Common.{◌≡◌, ◌∙◌, ◌⊎◌, ℕ, true, false, List, [], ◌∷◌, refl, ap, sym, length, take, inl, inr, arith, ◌++◌, ◌+◌, length-append}
 use Rattle.std.specs.Prelude.{nat_eq}
 use Rattle.std.specs.Ordering.{nat_cmp}
 use Rattle.std.specs.Cmp.{nat_cmp_total}
@@ -46,13 +46,6 @@ pub both_ways : (p q : List ℕ) → begins p q ≡ true → begins q p ≡ true
 both_ways [] q h k = sym (begins_nothing q k)
 both_ways (x ∷ p) [] h k = absurd (cc)
 both_ways (x ∷ p) (y ∷ q) h k = ap (λ l. x ∷ l) (both_ways p q (second _ _ h) (second _ _ k)) ∙ ap (λ m. m ∷ q) (number_is x y (first _ _ h))
-
-pub begins_through : (p q r : List ℕ) → begins p q ≡ true → begins q r ≡ true → begins p r ≡ true
-begins_through [] q r h k = refl
-begins_through (x ∷ p) [] r h k = absurd (cc)
-begins_through (x ∷ p) (y ∷ q) [] h k = absurd (cc)
-begins_through (x ∷ p) (y ∷ q) (z ∷ r) h k =
-    joined _ _ (subst (λ m. nat_eq m z ≡ true) (sym (number_is x y (first _ _ h))) (first _ _ k)) (begins_through p q r (second _ _ h) (second _ _ k))
 
 -- what is above is not the identifier
 pub above_differs : (n : ℕ) (ns : List ℕ) → front n ns ≡ n ∷ ns → ⊥

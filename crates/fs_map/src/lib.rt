@@ -1,7 +1,8 @@
 //! Which server manages which files: for each identifier the server of its longest listed prefix.
 //!
 //! With `p` listed prefixes and identifiers of at most 32 numbers: the server of an identifier is found by at most 33
-//! searches (32 log p). A change copies the prefixes that it touches, and moves at most `p`.
+//! searches (32 log p). A change makes the list anew: by a piece of `q` prefixes it asks the servers of at most `p + q`
+//! places and of those above them, and copies the prefixes that stay listed.
 #![tactic(auto)]
 
 mod change;

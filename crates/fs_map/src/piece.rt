@@ -14,7 +14,7 @@ pub struct MapPiece {
 }
 
 impl MapPiece {
-    /// Whether the identifier is given.
+    /// Whether the identifier is given. It goes over the whole piece, which may be in no order.
     pub fn gives(&self, id: &FileId) -> bool
         ensures { result ≡ gives self.now.prefix self.now.given id.now }
     {
