@@ -1,0 +1,5 @@
+pub mod Prefixes
+pub mod Found
+pub mod Listing
+pub mod Merging
+pub mod Changing

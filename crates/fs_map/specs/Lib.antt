@@ -1,0 +1,3 @@
+pub mod Map
+-- cited by private calls alone
+pub mod Change

@@ -1,0 +1,114 @@
+//! The map of a server or of a client.
+ghost use Rattle.std.specs.Prelude.{◌≡◌, ℕ, List, Some, IfOk, OnOk, OnErr};
+ghost use Rattle.fs_map.specs.Map.{IsMap, IsPiece, Tells, after_give, after_hint, after_take, first_map, gives, is_given, longest, server_of};
+
+use crate::change::{changed, hinted, piece_of};
+use crate::listed::longest;
+use crate::piece::MapPiece;
+use fs_ident::{FileId, List, Memory, Twin};
+use std::alloc::Global;
+use std::marker::Model;
+
+/// Which server manages which files, as far as its holder knows: prefixes in order, each with its server. A prefix is
+/// listed exactly where it is the root, or its server differs from its parent's.
+#[derive(Debug, Drop)]
+pub struct FileMap {
+    owners: List<(FileId, u8)>,
+}
+
+impl Model for FileMap {
+    ghost use Rattle.fs_map.specs.Map.{IsMap, Owners};
+
+    ghost Value = { Owners };
+
+    ghost view = { λ m. m.owners };
+
+    ghost invariant = { λ m. IsMap m.owners };
+}
+
+impl FileMap {
+    /// Everything is at server 0.
+    pub fn new(alloc: Global) -> Result<FileMap, Memory>
+        ensures { IfOk result (λ m. m ≡ first_map) }
+    {
+        let mut owners = List::new(alloc);
+        owners.push((FileId::root(alloc), 0))?;
+        Ok(FileMap { owners })
+    }
+
+    /// The prefixes with their servers.
+    pub fn listed(&self) -> &List<(FileId, u8)>
+        ensures listed { result.now ≡ self.now }
+        ensures valid { IsMap self.now }
+    {
+        &self.owners
+    }
+
+    /// The longest listed prefix of the identifier, and its server, which manages it.
+    pub fn owner(&self, id: &FileId) -> (&FileId, u8)
+        ensures longest { longest self.now id.now ≡ Some (result.0.now, result.1) }
+        ensures server { server_of self.now id.now ≡ result.1 }
+    {
+        match longest(self.owners.as_slice(), id.numbers()) {
+            Some(entry) => (&entry.0, entry.1),
+            None => unreachable!(),
+        }
+    }
+
+    /// All below the prefix that is `me`'s goes to another server: which identifiers these are. `Memory` where memory
+    /// is wanting; the map is as it was then.
+    pub fn give(
+        &mut self,
+        alloc: Global,
+        me: u8,
+        prefix: &FileId,
+        to: u8,
+    ) -> Result<MapPiece, Memory>
+        requires { server_of self.old prefix.now ≡ me }
+        ensures servers { OnOk result (Tells self.new (after_give self.old me prefix.now to)) }
+        ensures valid { IsMap self.new }
+        ensures prefix { IfOk result (λ p. p.prefix ≡ prefix.now) }
+        ensures piece { IfOk result (λ p. IsPiece prefix.now p.given) }
+        ensures given { IfOk result (λ p. (id : List ℕ) →
+            gives prefix.now p.given id ≡ is_given self.old me prefix.now id) }
+        ensures err { OnErr result (self.new ≡ self.old) }
+    {
+        let piece = piece_of(alloc, self.owners.as_slice(), me, prefix)?;
+        self.owners = changed(alloc, self.owners.as_slice(), &piece, to)?;
+        Ok(piece)
+    }
+
+    /// What the piece gives comes to `me`; all else stays as it was known. `Memory` where memory is wanting; the map
+    /// is as it was then.
+    pub fn take(&mut self, alloc: Global, me: u8, piece: &MapPiece) -> Result<(), Memory>
+        requires { IsPiece piece.now.prefix piece.now.given }
+        ensures servers { OnOk result
+            (Tells self.new (after_take self.old me piece.now.prefix piece.now.given)) }
+        ensures valid { IsMap self.new }
+        ensures err { OnErr result (self.new ≡ self.old) }
+    {
+        self.owners = changed(alloc, self.owners.as_slice(), piece, me)?;
+        Ok(())
+    }
+
+    /// All below the prefix is said to be at that server. `Memory` where memory is wanting; the map is as it was
+    /// then.
+    pub fn hint(&mut self, alloc: Global, prefix: &FileId, to: u8) -> Result<(), Memory>
+        ensures servers { OnOk result (Tells self.new (after_hint self.old prefix.now to)) }
+        ensures valid { IsMap self.new }
+        ensures err { OnErr result (self.new ≡ self.old) }
+    {
+        self.owners = hinted(alloc, self.owners.as_slice(), prefix, to)?;
+        Ok(())
+    }
+}
+
+impl Twin for FileMap {
+    fn copy(&self, alloc: Global) -> Result<FileMap, Memory> {
+        Ok(FileMap {
+            owners: self.owners.copy(alloc)?,
+        })
+    }
+
+    fn discard(self) {}
+}
