@@ -7,6 +7,7 @@ use Rattle.std.specs.Cmp.{booleans_Decides, unsigned_Decides}
 use Rattle.fs_ident.specs.Ordered.{Keyed, are_keys_in_order}
 use Rattle.fs_map.specs.Map.{begins, told_of, IsMap, IsPiece, Owners, Tells, server_of, gives, is_given, after_take}
 use Rattle.fs_map.specs.Change.{at, front, turned, IsNext}
+use Rattle.fs_map.specs.Part.{IsPartOf}
 use Rattle.fs_map.proofs.Prefixes.{itself_or_above, begins_below}
 use Rattle.fs_map.proofs.Found.{tied_self, longest_above}
 use Rattle.fs_map.proofs.Listing.{Lists, some_is, tells, reduced}
@@ -18,7 +19,7 @@ told_above n ns listed h = ap (option_map (λ e. e.1)) (longest_above n ns liste
 pub server_above : (owners : Owners) (n : ℕ) (ns : List ℕ) → at (n ∷ ns) owners ≡ None → server_of owners (n ∷ ns) ≡ server_of owners (front n ns)
 server_above owners n ns h = ap (λ o. unwrap_or o 0) (told_above n ns owners h)
 
-gives_above : (prefix : List ℕ) (given : Keyed Bool) → IsPiece prefix given → (n : ℕ) (ns : List ℕ) → at (n ∷ ns) given ≡ None → gives prefix given (n ∷ ns) ≡ gives prefix given (front n ns)
+pub gives_above : (prefix : List ℕ) (given : Keyed Bool) → IsPiece prefix given → (n : ℕ) (ns : List ℕ) → at (n ∷ ns) given ≡ None → gives prefix given (n ∷ ns) ≡ gives prefix given (front n ns)
 gives_above prefix given p n ns h =
     ap (λ b. b && (unwrap_or (told_of given (n ∷ ns)) false)) same ∙ ap (λ o. begins prefix (front n ns) && (unwrap_or o false)) (told_above n ns given h)
   where
@@ -114,21 +115,22 @@ module _ (owners : Owners) (to : ℕ) (prefix : List ℕ) (given : Keyed Bool) w
   abbrev changed_to : List ℕ → ℕ
   changed_to id = after_take owners to prefix given id
 
-  pub change_begun : (listed : Owners) (new : Keyed Bool) → IsPiece prefix given → listed ≡ ([], after_take owners to prefix given []) ∷ [] → new ≡ given → IsListedSoFar (after_take owners to prefix given) [] listed owners new
-  change_begun listed new p e q =
-      subst (λ l. IsListedSoFar changed_to [] l owners new) (sym e)
-      (subst (λ n. IsListedSoFar changed_to [] (([], changed_to []) ∷ []) owners n) (sym q) (begun changed_to [] owners given (change_above owners to prefix given p)))
+  pub change_begun : (listed part : Owners) (new : Keyed Bool) → IsPiece prefix given → IsPartOf prefix part owners → listed ≡ (prefix, after_take owners to prefix given prefix) ∷ [] → new ≡ given → IsListedSoFar (after_take owners to prefix given) prefix listed part new
+  change_begun listed part new p s e q =
+      subst (λ l. IsListedSoFar changed_to prefix l part new) (sym e)
+      (subst (λ n. IsListedSoFar changed_to prefix ((prefix, changed_to prefix) ∷ []) part n) (sym q)
+      (begun changed_to prefix part given (λ n ns h k b. change_above owners to prefix given p n ns (sym (s.same (n ∷ ns) (begins_below prefix n ns b)) ∙ h) k refl)))
 
-  module _ (listed old : Owners) (new : Keyed Bool) (place : List ℕ) (old_rest : Owners) (new_rest : Keyed Bool) (s : IsListedSoFar (after_take owners to prefix given) [] listed old new) (next : IsNext old new place old_rest new_rest) where
-    pub change_kept : turned nat_eq (after_take owners to prefix given) [] place ≡ None → IsListedSoFar (after_take owners to prefix given) [] listed old_rest new_rest
-    change_kept t = passed_by nat_eq unsigned_Decides changed_to [] listed old new place old_rest new_rest s next t
+  module _ (listed old : Owners) (new : Keyed Bool) (place : List ℕ) (old_rest : Owners) (new_rest : Keyed Bool) (s : IsListedSoFar (after_take owners to prefix given) prefix listed old new) (next : IsNext old new place old_rest new_rest) where
+    pub change_kept : turned nat_eq (after_take owners to prefix given) prefix place ≡ None → IsListedSoFar (after_take owners to prefix given) prefix listed old_rest new_rest
+    change_kept t = passed_by nat_eq unsigned_Decides changed_to prefix listed old new place old_rest new_rest s next t
 
-    pub change_listed : (v : ℕ) (more : Owners) → turned nat_eq (after_take owners to prefix given) [] place ≡ Some v → more ≡ listed ++ (place, v) ∷ [] → IsListedSoFar (after_take owners to prefix given) [] more old_rest new_rest
-    change_listed v more t e = subst (λ l. IsListedSoFar changed_to [] l old_rest new_rest) (sym e) (listed_too nat_eq unsigned_Decides changed_to [] listed old new place old_rest new_rest s next v t)
+    pub change_listed : (v : ℕ) (more : Owners) → turned nat_eq (after_take owners to prefix given) prefix place ≡ Some v → more ≡ listed ++ (place, v) ∷ [] → IsListedSoFar (after_take owners to prefix given) prefix more old_rest new_rest
+    change_listed v more t e = subst (λ l. IsListedSoFar changed_to prefix l old_rest new_rest) (sym e) (listed_too nat_eq unsigned_Decides changed_to prefix listed old new place old_rest new_rest s next v t)
 
-  pub change_ended : (listed old : Owners) (new : Keyed Bool) → IsListedSoFar (after_take owners to prefix given) [] listed old new → old ≡ [] → new ≡ [] → IsMap listed × Tells listed (after_take owners to prefix given)
+  pub change_ended : (listed old : Owners) (new : Keyed Bool) → IsListedSoFar (after_take owners to prefix given) prefix listed old new → old ≡ [] → new ≡ [] → Lists (after_take owners to prefix given) prefix listed
   change_ended listed old new s p q =
-      changed_map changed_to listed (ended changed_to [] listed (subst (λ o. IsListedSoFar changed_to [] listed o nothing) p (subst (IsListedSoFar changed_to [] listed old) q s)))
+      ended changed_to prefix listed (subst (λ o. IsListedSoFar changed_to prefix listed o nothing) p (subst (IsListedSoFar changed_to prefix listed old) q s))
 
 pub next_item : {X : Type 0} (l : List X) (i : ℕ) (x : X) → i < length l → x ≡ get_or l i x → drop i l ≡ x ∷ drop (i + 1) l
 next_item l i x within is =
@@ -139,10 +141,11 @@ pub passed_all : {X : Type 0} (l : List X) (i : ℕ) → length l ≤ i → drop
 passed_all l i h = drop_of_length-le l h
 
 module _ (owners : Owners) (me : ℕ) (prefix : List ℕ) where
-  pub piece_begun : (given : Keyed Bool) → server_of owners prefix ≡ me → given ≡ (prefix, true) ∷ [] → IsListedSoFar (is_mine owners me) prefix given owners nothing
-  piece_begun given m e =
+  pub piece_begun : (given : Keyed Bool) (part : Owners) → server_of owners prefix ≡ me → IsPartOf prefix part owners → given ≡ (prefix, true) ∷ [] → IsListedSoFar (is_mine owners me) prefix given part nothing
+  piece_begun given part m s e =
       let mine : true ≡ is_mine owners me prefix = sym ((unsigned_Decides (server_of owners prefix) me).1 m) in
-      subst (λ g. IsListedSoFar (is_mine owners me) prefix g owners nothing) (sym (e ∙ ap (λ b. (prefix, b) ∷ []) mine)) (begun (is_mine owners me) prefix owners nothing (mine_above owners me prefix))
+      subst (λ g. IsListedSoFar (is_mine owners me) prefix g part nothing) (sym (e ∙ ap (λ b. (prefix, b) ∷ []) mine))
+      (begun (is_mine owners me) prefix part nothing (λ n ns h k b. mine_above owners me prefix n ns (sym (s.same (n ∷ ns) (begins_below prefix n ns b)) ∙ h) k b))
 
   -- the next prefix of the map, where no second list is
   module _ (given : Keyed Bool) (old : Owners) (e : List ℕ × ℕ) (es : Owners) (s : IsListedSoFar (is_mine owners me) prefix given old nothing) (h : are_keys_in_order old ≡ true) (q : old ≡ e ∷ es) where

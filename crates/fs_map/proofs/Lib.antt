@@ -3,3 +3,8 @@ pub mod Found
 pub mod Listing
 pub mod Merging
 pub mod Changing
+pub mod Turns
+pub mod Owned
+pub mod Testing
+pub mod Spliced
+pub mod Spans

@@ -33,7 +33,7 @@ value_of o e = ap (option_map (λ e. e.1)) e
 pub some_is : {V : Type 0} {v w : V} → Some v ≡ Some w → v ≡ w
 some_is {V} {v} {w} e = cc
 
-shorter : (n : ℕ) (ns : List ℕ) (k : ℕ) → length (n ∷ ns) ≤ suc k → length (front n ns) ≤ k
+pub shorter : (n : ℕ) (ns : List ℕ) (k : ℕ) → length (n ∷ ns) ≤ suc k → length (front n ns) ≤ k
 shorter n ns k h = let e : length (front n ns) ≡ length ns = length-take-le (length ns) (n ∷ ns) (omega arith) in omega arith
 
 module _ {V : Type 0} (f : List ℕ → V) (top : List ℕ) (listed : Keyed V) (l : Lists f top listed) where

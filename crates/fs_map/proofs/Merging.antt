@@ -30,7 +30,7 @@ skipped id e es other h = elim (tied id e.0) as (λ b. tied id e.0 ≡ b → con
 ] refl
 
 -- a key is before all that another is before
-before_through : {V : Type 0} (a b : List ℕ) (es : Keyed V) → Before a b → before_all b es ≡ true → before_all a es ≡ true
+pub before_through : {V : Type 0} (a b : List ℕ) (es : Keyed V) → Before a b → before_all b es ≡ true → before_all a es ≡ true
 before_through a b [] l h = refl
 before_through a b (e ∷ es) l h = joined _ _ (ap is_lt (nat_list_cmp_total.trans a b e.0 l (less _ (first _ _ h)))) (before_through a b es l (second _ _ h))
 

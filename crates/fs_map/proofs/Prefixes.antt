@@ -12,10 +12,10 @@ use Rattle.fs_ident.proofs.Booleans.{first, second, joined}
 use Rattle.fs_map.specs.Map.{begins}
 use Rattle.fs_map.specs.Change.{front}
 
-number_is : (x y : ℕ) → nat_eq x y ≡ true → x ≡ y
+pub number_is : (x y : ℕ) → nat_eq x y ≡ true → x ≡ y
 number_is x y h = grind (arith, nat_tests)
 
-number_itself : (x : ℕ) → nat_eq x x ≡ true
+pub number_itself : (x : ℕ) → nat_eq x x ≡ true
 number_itself x = grind (arith, nat_tests)
 
 pub begins_itself : (p : List ℕ) → begins p p ≡ true

@@ -1,14 +1,18 @@
 //! The list of a map that has changed, and of what is given away.
 //!
 //! A place is listed where its value differs from that of the place above it. A value can differ there only where a
-//! list from which it comes has an entry.
-ghost use Rattle.std.specs.Prelude.{◌≡◌, ◌==◌, ◌&&◌, ◌<◌, ℕ, Bool, true, [], IsTrue, IfOk, IfSome, IsNone, nat_eq, length};
+//! list from which it comes has an entry. What does not begin with the prefix of a change stays as it is.
+ghost use Rattle.std.specs.Prelude.{◌≡◌, ◌==◌, ◌&&◌, ◌≤◌, ℕ, Bool, true, [], IsTrue, IfOk, IfSome, IsNone, OnOk, OnErr, nat_eq, vec_len};
 ghost use Rattle.std.specs.Bool.{beq};
+ghost use Rattle.std.specs.List.{list_any, splice};
 ghost use Rattle.fs_ident.specs.Ordered.{are_keys_in_order};
 ghost use Rattle.fs_map.specs.Change.{turned, IsNext};
+ghost use Rattle.fs_map.specs.Lists.{map_after_hint, map_after_take, owns_given, piece_of, places_of};
+ghost use Rattle.fs_map.specs.Part.{IsPartOf, is_as_above, new_part, part_after};
 ghost use Rattle.fs_map.specs.Map.{IsMap, IsPiece, Tells, after_hint, after_take, gives, is_given, server_of};
 
 use crate::listed::{is_given, server_of};
+use crate::part::span;
 use crate::piece::{MapPiece, whole};
 use fs_ident::{FileId, List, Memory, Twin};
 use std::alloc::Global;
@@ -54,18 +58,20 @@ fn server_after(owners: &[(FileId, u8)], piece: &MapPiece, to: u8, id: &[u32]) -
     }
 }
 
-/// That server, where it is not the one of the place above.
+/// That server, where the place is below the prefix and this is not the server of the place above.
 fn turned_server(owners: &[(FileId, u8)], piece: &MapPiece, to: u8, place: &FileId) -> Option<u8>
     requires owners { IsTrue (are_keys_in_order owners.now) }
     requires given { IsTrue (are_keys_in_order piece.now.given) }
     ensures { result ≡ turned nat_eq (after_take owners.now to piece.now.prefix piece.now.given)
-        [] place.now }
+        piece.now.prefix place.now }
 {
     match place.numbers().split_last() {
         None => None,
         Some((_, above)) => {
             let server = server_after(owners, piece, to, place.numbers());
-            if server_after(owners, piece, to, above) == server {
+            if !above.starts_with(piece.prefix.numbers())
+                || server_after(owners, piece, to, above) == server
+            {
                 None
             } else {
                 Some(server)
@@ -74,24 +80,24 @@ fn turned_server(owners: &[(FileId, u8)], piece: &MapPiece, to: u8, place: &File
     }
 }
 
-/// The list of the map after what the piece gives has come to a server.
-pub(crate) fn changed(
+/// The list from the piece's prefix on after what the piece gives has come to a server, of which these owners begin
+/// with the prefix.
+fn part_after(
     alloc: Global,
     owners: &[(FileId, u8)],
+    part: &[(FileId, u8)],
     piece: &MapPiece,
     to: u8,
 ) -> Result<List<(FileId, u8)>, Memory>
     requires map { IsMap owners.now }
     requires piece { IsPiece piece.now.prefix piece.now.given }
-    ensures map { IfOk result IsMap }
-    ensures servers { IfOk result (λ l. Tells l
-        (after_take owners.now to piece.now.prefix piece.now.given)) }
+    requires part { IsPartOf piece.now.prefix part.now owners.now }
+    ensures { IfOk result (λ l. l ≡ part_after owners.now to piece.now.prefix piece.now.given) }
 {
-    let root = FileId::root(alloc);
-    let server = server_after(owners, piece, to, root.numbers());
+    let server = server_after(owners, piece, to, piece.prefix.numbers());
     let mut listed = List::new(alloc);
-    listed.push((root, server))?;
-    let mut old = owners;
+    listed.push((piece.prefix.copy(alloc)?, server))?;
+    let mut old = part;
     let mut new = piece.given.as_slice();
     while let Some((place, old_rest, new_rest)) = next_place(old, new) {
         if let Some(server) = turned_server(owners, piece, to, place) {
@@ -103,19 +109,98 @@ pub(crate) fn changed(
     Ok(listed)
 }
 
-/// The list of the map after all below a prefix is said to be at a server.
-pub(crate) fn hinted(
+/// Whether the place above the piece's prefix is at the same server then.
+fn is_as_above(owners: &[(FileId, u8)], piece: &MapPiece, to: u8) -> bool
+    requires owners { IsTrue (are_keys_in_order owners.now) }
+    requires given { IsTrue (are_keys_in_order piece.now.given) }
+    ensures { result ≡
+        is_as_above owners.now to piece.now.prefix piece.now.given piece.now.prefix }
+{
+    let prefix = piece.prefix.numbers();
+    match prefix.split_last() {
+        None => false,
+        Some((_, above)) => {
+            server_after(owners, piece, to, above) == server_after(owners, piece, to, prefix)
+        }
+    }
+}
+
+/// What stands in the place of those owners: the prefix is listed where it is not as the place above.
+fn new_part(
     alloc: Global,
     owners: &[(FileId, u8)],
-    prefix: &FileId,
+    part: &[(FileId, u8)],
+    piece: &MapPiece,
     to: u8,
 ) -> Result<List<(FileId, u8)>, Memory>
-    requires { IsMap owners.now }
-    ensures map { IfOk result IsMap }
-    ensures servers { IfOk result (λ l. Tells l (after_hint owners.now prefix.now to)) }
+    requires map { IsMap owners.now }
+    requires piece { IsPiece piece.now.prefix piece.now.given }
+    requires part { IsPartOf piece.now.prefix part.now owners.now }
+    ensures { IfOk result (λ l. l ≡ new_part owners.now to piece.now.prefix piece.now.given) }
+{
+    let mut listed = part_after(alloc, owners, part, piece, to)?;
+    if is_as_above(owners, piece, to) {
+        listed.remove(0);
+    }
+    Ok(listed)
+}
+
+/// The list of the map after what the piece gives has come to a server. Only what begins with the piece's prefix is
+/// looked at and replaced. `Memory` where memory is wanting; the list is as it was then.
+pub(crate) fn change(
+    alloc: Global,
+    owners: &mut List<(FileId, u8)>,
+    piece: &MapPiece,
+    to: u8,
+) -> Result<(), Memory>
+    requires map { IsMap owners.old }
+    requires piece { IsPiece piece.now.prefix piece.now.given }
+    ensures map { OnOk result
+        (owners.new ≡ map_after_take owners.old to piece.now.prefix piece.now.given) }
+    ensures servers { OnOk result
+        (Tells owners.new (after_take owners.old to piece.now.prefix piece.now.given)) }
+    ensures valid { IsMap owners.new }
+    ensures err { OnErr result (owners.new ≡ owners.old) }
+{
+    let all = owners.as_slice();
+    let (start, end) = span(all, piece.prefix.numbers());
+    let part = new_part(alloc, all, &all[start..end], piece, to)?;
+    replace(owners.items_mut(), start, end, part.into_vec())?;
+    Ok(())
+}
+
+/// The list of the map after all below a prefix is said to be at a server. `Memory` where memory is wanting; the list is
+/// as it was then.
+pub(crate) fn hint_all(
+    alloc: Global,
+    owners: &mut List<(FileId, u8)>,
+    prefix: &FileId,
+    to: u8,
+) -> Result<(), Memory>
+    requires { IsMap owners.old }
+    ensures map { OnOk result (owners.new ≡ map_after_hint owners.old prefix.now to) }
+    ensures servers { OnOk result (Tells owners.new (after_hint owners.old prefix.now to)) }
+    ensures valid { IsMap owners.new }
+    ensures err { OnErr result (owners.new ≡ owners.old) }
 {
     let whole = whole(alloc, prefix)?;
-    changed(alloc, owners, &whole, to)
+    change(alloc, owners, &whole, to)
+}
+
+/// Puts a part into the place of another.
+fn replace(
+    owners: &mut Vec<(FileId, u8)>,
+    start: usize,
+    end: usize,
+    part: Vec<(FileId, u8)>,
+) -> Result<(), Memory>
+    requires start { start ≤ end }
+    requires end { end ≤ vec_len owners.old }
+    ensures ok { OnOk result (owners.new.items ≡ splice owners.old.items start end part.items) }
+    ensures err { OnErr result (owners.new.items ≡ owners.old.items) }
+{
+    owners.splice(start..end, part)?;
+    Ok(())
 }
 
 /// Whether the identifier is given, where it is below the prefix and this is not as it is above.
@@ -137,7 +222,30 @@ fn turned_given(owners: &[(FileId, u8)], me: u8, prefix: &FileId, place: &FileId
     }
 }
 
-/// What a server has below the prefix.
+/// Which identifiers from the prefix on are the server's, where the prefix is, and these owners begin with the prefix.
+fn given_of(
+    alloc: Global,
+    owners: &[(FileId, u8)],
+    part: &[(FileId, u8)],
+    me: u8,
+    prefix: &FileId,
+) -> Result<List<(FileId, bool)>, Memory>
+    requires map { IsMap owners.now }
+    requires mine { server_of owners.now prefix.now ≡ me }
+    requires part { IsPartOf prefix.now part.now owners.now }
+    ensures { IfOk result (λ l. l ≡ piece_of owners.now me prefix.now) }
+{
+    let mut given = List::new(alloc);
+    given.push((prefix.copy(alloc)?, true))?;
+    for (place, _) in part {
+        if let Some(turned) = turned_given(owners, me, prefix, place) {
+            given.push((place.copy(alloc)?, turned))?;
+        }
+    }
+    Ok(given)
+}
+
+/// What a server has below the prefix. Only what begins with it is looked at.
 pub(crate) fn piece_of(
     alloc: Global,
     owners: &[(FileId, u8)],
@@ -147,19 +255,50 @@ pub(crate) fn piece_of(
     requires map { IsMap owners.now }
     requires mine { server_of owners.now prefix.now ≡ me }
     ensures prefix { IfOk result (λ p. p.prefix ≡ prefix.now) }
+    ensures listed { IfOk result (λ p. p.given ≡ piece_of owners.now me prefix.now) }
     ensures piece { IfOk result (λ p. IsPiece prefix.now p.given) }
     ensures given { IfOk result (λ p. (id : List ℕ) →
         gives prefix.now p.given id ≡ is_given owners.now me prefix.now id) }
 {
-    let mut given = List::new(alloc);
-    given.push((prefix.copy(alloc)?, true))?;
-    for (place, _) in owners {
-        if let Some(turned) = turned_given(owners, me, prefix, place) {
-            given.push((place.copy(alloc)?, turned))?;
-        }
-    }
+    let (start, end) = span(owners, prefix.numbers());
+    let given = given_of(alloc, owners, &owners[start..end], me, prefix)?;
     Ok(MapPiece {
         prefix: prefix.copy(alloc)?,
         given,
     })
+}
+
+/// Whether a place of either list is given, and the server's.
+pub(crate) fn owns_given(owners: &[(FileId, u8)], me: u8, piece: &MapPiece) -> bool
+    requires map { IsTrue (are_keys_in_order owners.now) }
+    requires given { IsTrue (are_keys_in_order piece.now.given) }
+    ensures { result ≡ owns_given owners.now me piece.now.prefix piece.now.given }
+{
+    any_is_mine(owners, me, piece, owners) || any_is_mine(owners, me, piece, piece.given.as_slice())
+}
+
+/// Whether one of the listed places is given, and the server's.
+fn any_is_mine<V>(owners: &[(FileId, u8)], me: u8, piece: &MapPiece, listed: &[(FileId, V)]) -> bool
+    requires map { IsTrue (are_keys_in_order owners.now) }
+    requires given { IsTrue (are_keys_in_order piece.now.given) }
+    ensures { result ≡ list_any (λ id. gives piece.now.prefix piece.now.given id
+        && (server_of owners.now id == me)) (places_of listed.now) }
+{
+    for (place, _) in listed {
+        if is_mine(owners, me, piece, place) {
+            return true;
+        }
+    }
+    false
+}
+
+/// Whether the identifier is given, and the server's.
+fn is_mine(owners: &[(FileId, u8)], me: u8, piece: &MapPiece, id: &FileId) -> bool
+    requires map { IsTrue (are_keys_in_order owners.now) }
+    requires given { IsTrue (are_keys_in_order piece.now.given) }
+    ensures { result ≡ (gives piece.now.prefix piece.now.given id.now
+        && (server_of owners.now id.now == me)) }
+{
+    is_given(piece.prefix.numbers(), piece.given.as_slice(), id.numbers())
+        && server_of(owners, id.numbers()) == me
 }

@@ -1,8 +1,9 @@
 //! The map of a server or of a client.
-ghost use Rattle.std.specs.Prelude.{◌≡◌, ℕ, List, Some, IfOk, OnOk, OnErr};
+ghost use Rattle.std.specs.Prelude.{◌≡◌, ◌≢◌, ℕ, List, Some, true, false, IfOk, OnOk, OnErr};
 ghost use Rattle.fs_map.specs.Map.{IsMap, IsPiece, Tells, after_give, after_hint, after_take, first_map, gives, is_given, longest, server_of};
+ghost use Rattle.fs_map.specs.Lists.{map_after_give, map_after_hint, map_after_take, owns_given, piece_of};
 
-use crate::change::{changed, hinted, piece_of};
+use crate::change::{change, hint_all, owns_given, piece_of};
 use crate::listed::longest;
 use crate::piece::MapPiece;
 use fs_ident::{FileId, List, Memory, Twin};
@@ -55,6 +56,50 @@ impl FileMap {
         }
     }
 
+    /// What `me` has below the prefix: which identifiers these are. Nothing changes.
+    pub fn piece(&self, alloc: Global, me: u8, prefix: &FileId) -> Result<MapPiece, Memory>
+        requires { server_of self.now prefix.now ≡ me }
+        ensures prefix { IfOk result (λ p. p.prefix ≡ prefix.now) }
+        ensures listed { IfOk result (λ p. p.given ≡ piece_of self.now me prefix.now) }
+        ensures piece { IfOk result (λ p. IsPiece prefix.now p.given) }
+        ensures given { IfOk result (λ p. (id : List ℕ) →
+            gives prefix.now p.given id ≡ is_given self.now me prefix.now id) }
+    {
+        piece_of(alloc, self.owners.as_slice(), me, prefix)
+    }
+
+    /// Whether some identifier that the piece gives is `me`'s.
+    pub fn owns_given(&self, me: u8, piece: &MapPiece) -> bool
+        requires { IsPiece piece.now.prefix piece.now.given }
+        ensures places { result ≡ owns_given self.now me piece.now.prefix piece.now.given }
+        ensures none { result ≡ false → (id : List ℕ) →
+            gives piece.now.prefix piece.now.given id ≡ true → server_of self.now id ≢ me }
+        ensures some { result ≡ true → (id : List ℕ) ×
+            ((gives piece.now.prefix piece.now.given id ≡ true) × (server_of self.now id ≡ me)) }
+    {
+        owns_given(self.owners.as_slice(), me, piece)
+    }
+
+    /// The map where what the piece gives has come to `me`. Nothing changes here.
+    pub fn with_taken(&self, alloc: Global, me: u8, piece: &MapPiece) -> Result<FileMap, Memory>
+        requires { IsPiece piece.now.prefix piece.now.given }
+        ensures { IfOk result (λ m. m ≡
+            map_after_take self.now me piece.now.prefix piece.now.given) }
+    {
+        let mut map = self.copy(alloc)?;
+        map.take(alloc, me, piece)?;
+        Ok(map)
+    }
+
+    /// The map where all below the prefix is said to be at that server. Nothing changes here.
+    pub fn with_hint(&self, alloc: Global, prefix: &FileId, to: u8) -> Result<FileMap, Memory>
+        ensures { IfOk result (λ m. m ≡ map_after_hint self.now prefix.now to) }
+    {
+        let mut map = self.copy(alloc)?;
+        map.hint(alloc, prefix, to)?;
+        Ok(map)
+    }
+
     /// All below the prefix that is `me`'s goes to another server: which identifiers these are. `Memory` where memory
     /// is wanting; the map is as it was then.
     pub fn give(
@@ -65,16 +110,18 @@ impl FileMap {
         to: u8,
     ) -> Result<MapPiece, Memory>
         requires { server_of self.old prefix.now ≡ me }
+        ensures map { OnOk result (self.new ≡ map_after_give self.old me prefix.now to) }
         ensures servers { OnOk result (Tells self.new (after_give self.old me prefix.now to)) }
         ensures valid { IsMap self.new }
         ensures prefix { IfOk result (λ p. p.prefix ≡ prefix.now) }
+        ensures listed { IfOk result (λ p. p.given ≡ piece_of self.old me prefix.now) }
         ensures piece { IfOk result (λ p. IsPiece prefix.now p.given) }
         ensures given { IfOk result (λ p. (id : List ℕ) →
             gives prefix.now p.given id ≡ is_given self.old me prefix.now id) }
         ensures err { OnErr result (self.new ≡ self.old) }
     {
         let piece = piece_of(alloc, self.owners.as_slice(), me, prefix)?;
-        self.owners = changed(alloc, self.owners.as_slice(), &piece, to)?;
+        change(alloc, &mut self.owners, &piece, to)?;
         Ok(piece)
     }
 
@@ -82,24 +129,25 @@ impl FileMap {
     /// is as it was then.
     pub fn take(&mut self, alloc: Global, me: u8, piece: &MapPiece) -> Result<(), Memory>
         requires { IsPiece piece.now.prefix piece.now.given }
+        ensures map { OnOk result
+            (self.new ≡ map_after_take self.old me piece.now.prefix piece.now.given) }
         ensures servers { OnOk result
             (Tells self.new (after_take self.old me piece.now.prefix piece.now.given)) }
         ensures valid { IsMap self.new }
         ensures err { OnErr result (self.new ≡ self.old) }
     {
-        self.owners = changed(alloc, self.owners.as_slice(), piece, me)?;
-        Ok(())
+        change(alloc, &mut self.owners, piece, me)
     }
 
     /// All below the prefix is said to be at that server. `Memory` where memory is wanting; the map is as it was
     /// then.
     pub fn hint(&mut self, alloc: Global, prefix: &FileId, to: u8) -> Result<(), Memory>
+        ensures map { OnOk result (self.new ≡ map_after_hint self.old prefix.now to) }
         ensures servers { OnOk result (Tells self.new (after_hint self.old prefix.now to)) }
         ensures valid { IsMap self.new }
         ensures err { OnErr result (self.new ≡ self.old) }
     {
-        self.owners = hinted(alloc, self.owners.as_slice(), prefix, to)?;
-        Ok(())
+        hint_all(alloc, &mut self.owners, prefix, to)
     }
 }
 

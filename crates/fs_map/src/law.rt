@@ -1,7 +1,9 @@
 //! Laws of maps.
-ghost use Rattle.std.specs.Prelude.{◌≡◌, ℕ, Bool, List, []};
+ghost use Rattle.std.specs.Prelude.{◌≡◌, ◌≢◌, ◌⊎◌, ℕ, Bool, true, false, List, []};
+ghost use Rattle.fs_ident.specs.In.{In};
 ghost use Rattle.fs_ident.specs.Ordered.{Keyed};
-ghost use Rattle.fs_map.specs.Map.{IsMap, IsPiece, Owners, gives, server_of};
+ghost use Rattle.fs_map.specs.Map.{IsMap, IsPiece, Owners, Tells, after_take, gives, is_given, server_of};
+ghost use Rattle.fs_map.specs.Lists.{map_after_take, owns_given, piece_of, places_of};
 
 /// Two maps that tell the same servers are one: a map is listed in one way alone.
 pub fn maps_are_told_by_their_servers()
@@ -13,4 +15,32 @@ pub fn maps_are_told_by_their_servers()
 pub fn a_piece_is_told_by_what_it_gives()
     ensures { (prefix : List ℕ) (a b : Keyed Bool) → IsPiece prefix a → IsPiece prefix b →
         ((id : List ℕ) → gives prefix a id ≡ gives prefix b id) → a ≡ b }
+{}
+
+/// The list of a changed map, and that of a piece, are the ones that tell what they have to.
+pub fn changed_maps_are_maps()
+    ensures taken { (owners : Owners) (me : ℕ) (prefix : List ℕ) (given : Keyed Bool) →
+        IsMap owners → IsPiece prefix given →
+        IsMap (map_after_take owners me prefix given) ×
+        Tells (map_after_take owners me prefix given) (after_take owners me prefix given) }
+    ensures given { (owners : Owners) (me : ℕ) (prefix : List ℕ) → IsMap owners →
+        server_of owners prefix ≡ me → IsPiece prefix (piece_of owners me prefix) ×
+        ((id : List ℕ) → gives prefix (piece_of owners me prefix) id ≡ is_given owners me prefix id) }
+{}
+
+/// Where no listed place shows that an identifier which is given is the server's, none is.
+pub fn places_show_what_is_owned()
+    ensures { (owners : Owners) (me : ℕ) (prefix : List ℕ) (given : Keyed Bool) →
+        IsMap owners → IsPiece prefix given → owns_given owners me prefix given ≡ false →
+        (id : List ℕ) → gives prefix given id ≡ true → server_of owners id ≢ me }
+{}
+
+/// Each prefix that a changed map lists was listed before, or is listed by the piece.
+pub fn changes_list_nothing_new()
+    ensures taken { (owners : Owners) (me : ℕ) (prefix place : List ℕ) (given : Keyed Bool) →
+        In place (places_of (map_after_take owners me prefix given)) →
+        (place ≡ []) ⊎ (In place (places_of owners) ⊎ In place (places_of given)) }
+    ensures given { (owners : Owners) (me : ℕ) (prefix place : List ℕ) →
+        In place (places_of (piece_of owners me prefix)) →
+        (place ≡ prefix) ⊎ In place (places_of owners) }
 {}

@@ -36,7 +36,7 @@ pub(crate) fn longest<'a, V>(listed: &'a [(FileId, V)], id: &[u32]) -> Option<&'
 }
 
 /// What is told of the identifier of these numbers.
-fn told<V: Copy>(listed: &[(FileId, V)], id: &[u32]) -> Option<V>
+pub(crate) fn told<V: Copy>(listed: &[(FileId, V)], id: &[u32]) -> Option<V>
     requires { IsTrue (are_keys_in_order listed.now) }
     ensures { result ≡ told_of listed.now id.now }
 {

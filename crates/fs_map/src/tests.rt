@@ -29,6 +29,13 @@ fn piece_text(alloc: Global, piece: &MapPiece) -> Result<String, Fail> {
     Ok(text)
 }
 
+/// The prefixes of a map with their servers are these.
+fn tells(rt: &impl Abort, alloc: Global, map: &FileMap, wanted: &str) -> Result<(), Fail> {
+    let text = text(alloc, map)?;
+    assert_eq!(rt; text.as_str(), wanted);
+    Ok(())
+}
+
 /// A server gives what it has below the prefix, and another takes it.
 fn moves(
     rt: &impl Abort,
@@ -160,8 +167,10 @@ fn hints(rt: HostRuntime) -> Result<(), Fail> {
     let alloc = rt.alloc();
     let mut map = FileMap::new(alloc)?;
     for (prefix, to, wanted) in HINTS {
-        map.hint(alloc, &FileId::parse(alloc, prefix.as_bytes())?, to)?;
-        assert_eq!(rt; text(alloc, &map)?.as_str(), wanted);
+        let prefix = FileId::parse(alloc, prefix.as_bytes())?;
+        tells(&rt, alloc, &map.with_hint(alloc, &prefix, to)?, wanted)?;
+        map.hint(alloc, &prefix, to)?;
+        tells(&rt, alloc, &map, wanted)?;
     }
     Ok(())
 }
@@ -209,7 +218,54 @@ fn what_is_not_given_stays_as_it_was_known(rt: HostRuntime) -> Result<(), Fail> 
     let alloc = rt.alloc();
     let piece = with_a_hole(&rt, alloc)?;
     let map = taken(alloc, &piece)?;
-    assert_eq!(rt; text(alloc, &map)?.as_str(), "/ s4, /1 s3, /1/2 s4, ");
+    tells(&rt, alloc, &map, "/ s4, /1 s3, /1/2 s4, ")?;
+    let next = map.with_taken(alloc, 5, &piece)?;
+    tells(&rt, alloc, &next, "/ s5, /1 s3, /1/2 s5, ")?;
+    tells(&rt, alloc, &map, "/ s4, /1 s3, /1/2 s4, ")
+}
+
+/// What the server of the root has.
+fn piece_of_all(rt: &impl Abort, alloc: Global, map: &FileMap, me: u8) -> Result<MapPiece, Fail> {
+    let root = FileId::root(alloc);
+    let owner = map.owner(&root).1;
+    assert!(rt; owner == me);
+    Ok(map.piece(alloc, me, &root)?)
+}
+
+#[test]
+fn a_piece_is_told_before_it_is_given(rt: HostRuntime) -> Result<(), Fail> {
+    let alloc = rt.alloc();
+    let map = hinted(alloc, "/1", 3, "/1/2", 0)?;
+    let told = piece_of_all(&rt, alloc, &map, 0)?;
+    let text = piece_text(alloc, &told)?;
+    assert_eq!(rt; text.as_str(), "/ true, /1 false, /1/2 true, ");
+    tells(&rt, alloc, &map, "/ s0, /1 s3, /1/2 s0, ")
+}
+
+/// A server, and whether something of the piece is its, after these two hints to a map where all is server 0's.
+const OWNED: [(&str, u8, &str, u8, u8, bool); 4] = [
+    ("/", 0, "/", 0, 0, true),
+    ("/", 0, "/", 0, 1, false),
+    ("/", 3, "/1", 0, 0, true),
+    ("/1/2", 3, "/1", 0, 3, false),
+];
+
+/// A map after two hints.
+fn hinted(alloc: Global, first: &str, to: u8, second: &str, next_to: u8) -> Result<FileMap, Fail> {
+    let mut map = FileMap::new(alloc)?;
+    map.hint(alloc, &FileId::parse(alloc, first.as_bytes())?, to)?;
+    map.hint(alloc, &FileId::parse(alloc, second.as_bytes())?, next_to)?;
+    Ok(map)
+}
+
+#[test]
+fn what_is_given_has_owners(rt: HostRuntime) -> Result<(), Fail> {
+    let alloc = rt.alloc();
+    let piece = with_a_hole(&rt, alloc)?;
+    for (first, to, second, next_to, me, owned) in OWNED {
+        let map = hinted(alloc, first, to, second, next_to)?;
+        assert_eq!(rt; map.owns_given(me, &piece), owned);
+    }
     Ok(())
 }
 
@@ -220,9 +276,12 @@ const GIVEN: [(&str, bool); 4] = [
     ("/1/3", false),
 ];
 
-/// Whether the piece gives the identifier.
-fn is_given(alloc: Global, piece: &MapPiece, id: &str) -> Result<bool, Fail> {
-    Ok(piece.gives(&FileId::parse(alloc, id.as_bytes())?))
+/// Whether the piece gives the identifier, as both calls tell.
+fn is_given(alloc: Global, piece: &MapPiece, id: &str) -> Result<(bool, bool), Fail>
+    requires { IsPiece piece.now.prefix piece.now.given }
+{
+    let id = FileId::parse(alloc, id.as_bytes())?;
+    Ok((piece.gives(&id), piece.finds(&id)))
 }
 
 #[test]
@@ -230,7 +289,52 @@ fn a_piece_tells_what_is_given(rt: HostRuntime) -> Result<(), Fail> {
     let alloc = rt.alloc();
     let piece = with_a_hole(&rt, alloc)?;
     for (id, given) in GIVEN {
-        assert_eq!(rt; is_given(alloc, &piece, id)?, given);
+        assert_eq!(rt; is_given(alloc, &piece, id)?, (given, given));
+    }
+    Ok(())
+}
+
+/// A prefix, places with what they tell, whether they are in order, and whether they are a piece of the prefix.
+const LISTS: [(&str, &[(&str, bool)], bool, bool); 8] = [
+    ("/1", &[("/1", true)], true, true),
+    ("/1", &[], true, false),
+    ("/1", &[("/1/2", true)], true, false),
+    ("/", &[("/", true), ("/1", true)], true, false),
+    (
+        "/",
+        &[("/", true), ("/1", false), ("/1/2", true)],
+        true,
+        true,
+    ),
+    (
+        "/",
+        &[("/", true), ("/1/2", false), ("/1", false)],
+        false,
+        false,
+    ),
+    ("/1", &[("/1", true), ("/1", false)], false, false),
+    ("/1", &[("/1", true), ("/2", false)], true, false),
+];
+
+/// The list as it stands, which may be none of a piece.
+fn listed(alloc: Global, prefix: &str, places: &[(&str, bool)]) -> Result<MapPiece, Fail> {
+    let mut given = List::new(alloc);
+    for (place, value) in places {
+        given.push((FileId::parse(alloc, place.as_bytes())?, *value))?;
+    }
+    Ok(MapPiece {
+        prefix: FileId::parse(alloc, prefix.as_bytes())?,
+        given,
+    })
+}
+
+#[test]
+fn the_shortest_list_alone_is_a_piece(rt: HostRuntime) -> Result<(), Fail> {
+    let alloc = rt.alloc();
+    for (prefix, places, ordered, shortest) in LISTS {
+        let piece = listed(alloc, prefix, places)?;
+        assert_eq!(rt; piece.is_in_order(), ordered);
+        assert_eq!(rt; piece.is_piece(), shortest);
     }
     Ok(())
 }

@@ -15,7 +15,7 @@ use Rattle.fs_field.specs.Conflict.{Selves, is_self, is_fixed, has_fixed, NoConf
 use Rattle.fs_moderows.specs.Answer.{is_self_of_other, has_mode}
 use Rattle.fs_moderows.specs.Kept.{others_have, others_may_have, KeptPromises, ChangesByRows}
 use Rattle.fs_moderows.proofs.Witnesses.{not_true, neither_holds, any_In, In_any, none_In, In_none, turned, Witness, witness, witnessed}
-use Rattle.fs_moderows.proofs.Free.{AreOfModes, free_goes, goes_free}
+use Rattle.fs_moderows.proofs.Free.{AreOnModes, free_goes, goes_free}
 use Rattle.fs_moderows.proofs.Promises.{kept_holds, holds_kept, holds_still, others_are_fixed}
 
 one_number : (a b : ℕ) → (a == b) ≡ true → a ≡ b
@@ -72,7 +72,7 @@ changes_kept rows selves changed c kept a i = holds_kept changed rows a.session 
     (still_none rows selves changed c h n a.session)
     (kept_holds selves rows a.session a.field a.promise (kept a i) h n fe))
 
-pub changes_free : (rows : List Row) (selves changed : Selves) → ChangesByRows rows selves changed → AreOfModes rows → NoConflict selves rows → NoConflict changed rows
-changes_free rows selves changed c shape free = goes_free changed rows shape (λ a b i j d h n fe t.
+pub changes_free : (rows : List Row) (selves changed : Selves) → ChangesByRows rows selves changed → AreOnModes rows → NoConflict selves rows → NoConflict changed rows
+changes_free rows selves changed c on free = goes_free changed rows on (λ a b i j d h n fe t.
     let q : (a.promise ≡ Some true) × (has_fixed selves rows h n a.session b.session ≡ true) = free_goes selves rows free a b i j d h n fe t in
     (q.0, still_fixed rows selves changed c h n a.session b.session q.1))

@@ -83,7 +83,7 @@ of_field opens rows f g m n y x fixed k t =
     let q : (same g f ≡ true) × (same_mode n m ≡ true) = both (same g f) (same_mode n m) t in
     k x ∙ ap (λ z. has_fixed (λ h. opens) rows z m x y) (sym (same_text g f (sym q.0))) ∙ ap (λ z. has_fixed (λ h. opens) rows g z x y) (sym (same_mode_is n m q.1))
 
-meets_same : (opens : Opens) (rows : List Row) (f : List ℕ) (m : Mode) (y x : Session) (fixed : Fixed) (promise : Option Bool) → AreFixedBut opens rows f m y fixed → (field : Field) → (is_other f m field && can_fail promise (has_but fixed x)) ≡ mode_meets (λ h. opens) rows x field promise y (SelfW f m)
+pub meets_same : (opens : Opens) (rows : List Row) (f : List ℕ) (m : Mode) (y x : Session) (fixed : Fixed) (promise : Option Bool) → AreFixedBut opens rows f m y fixed → (field : Field) → (is_other f m field && can_fail promise (has_but fixed x)) ≡ mode_meets (λ h. opens) rows x field promise y (SelfW f m)
 meets_same opens rows f m y x fixed promise k (Life a) = refl
 meets_same opens rows f m y x fixed promise k (Child a n) = refl
 meets_same opens rows f m y x fixed promise k (Names a) = refl
@@ -100,7 +100,7 @@ pub self_found : (opens : Opens) (rows : List Row) (f : List ℕ) (m : Mode) (y 
 self_found opens rows f m y fixed k = find_same (stands_by fixed y f m) (stands_against_self opens rows y f m) rows (λ row i. ap (λ b. not (row.session.0 == y.0) && b) (meets_same opens rows f m y row.session fixed row.promise k row.field))
 
 -- a field that is not what others tell of the mode meets no lease on it
-meets_none : (opens : Opens) (rows : List Row) (f : List ℕ) (m : Mode) (y x : Session) (promise : Option Bool) (field : Field) → is_other f m field ≡ false → mode_meets (λ h. opens) rows x field promise y (SelfW f m) ≡ false
+pub meets_none : (opens : Opens) (rows : List Row) (f : List ℕ) (m : Mode) (y x : Session) (promise : Option Bool) (field : Field) → is_other f m field ≡ false → mode_meets (λ h. opens) rows x field promise y (SelfW f m) ≡ false
 meets_none opens rows f m y x promise (Life a) h = refl
 meets_none opens rows f m y x promise (Child a n) h = refl
 meets_none opens rows f m y x promise (Names a) h = refl
@@ -109,7 +109,7 @@ meets_none opens rows f m y x promise (SelfW a n) h = refl
 meets_none opens rows f m y x promise (Own a) h = refl
 meets_none opens rows f m y x promise (Other g n) h = ap (λ b. b && can_fail promise (has_fixed (λ z. opens) rows g n x y)) h
 
-stays_out : (a b c : Bool) → (a && b) ≡ false → (a ≡ false → c ≡ false) → (b && c) ≡ false
+pub stays_out : (a b c : Bool) → (a && b) ≡ false → (a ≡ false → c ≡ false) → (b && c) ≡ false
 stays_out true true c h k = absurd (cc)
 stays_out true false c h k = refl
 stays_out false true c h k = k refl

@@ -14,26 +14,26 @@ use Rattle.fs_field.specs.declared.field.Field.{Field}
 use Rattle.fs_field.specs.declared.field.Field.TheVariants.{Life, Child, Names, Info, Own, SelfW, Other}
 use Rattle.fs_field.specs.declared.lease_kind.LeaseKind.{LeaseKind}
 use Rattle.fs_field.specs.declared.row.Row.{Row}
-use Rattle.fs_field.specs.Conflict.{Selves, meets, plain_conflict, is_self, is_fixed, has_fixed, can_fail, mode_meets, mode_conflict, NoConflict}
+use Rattle.fs_field.specs.Conflict.{Selves, meets, plain_conflict, is_self, is_fixed, has_fixed, can_fail, mode_meets, mode_conflict, conflicts, NoConflict}
+use Rattle.fs_field.specs.Field.{tells_no_mode}
 use Rattle.fs_field.specs.Table.{lock_on, no_before, with_row}
-use Rattle.fs_moderows.specs.Table.{is_of_mode}
 use Rattle.fs_moderows.specs.Answer.{unless_locked, waits_or, answer_self, answer_other, is_self_of_other, stands_against_self}
 use Rattle.fs_moderows.proofs.Tables.{TellsSame}
 use Rattle.fs_moderows.proofs.Witnesses.{not_true, not_false, second_fails, not_both, neither_holds, turned, one_file, fixed_with, Covered, fixed_fewer, Witness, witness, witnessed, witness_stays, witness_beside, witness_past, witness_of}
 
--- every row is on a mode
-abbrev pub AreOfModes : List Row → Type 0
-AreOfModes rows = (row : Row) → In row rows → is_of_mode row.field row.kind row.promise ≡ true
+-- every row is on what sessions tell of modes
+abbrev pub AreOnModes : List Row → Type 0
+AreOnModes rows = (row : Row) → In row rows → tells_no_mode row.field ≡ false
 
 -- a lease on a mode goes with every other, whoever has a handle
-pub meets_never : (f : Field) (k : LeaseKind) (p : Option Bool) (g : Field) (l : LeaseKind) → is_of_mode f k p ≡ true → meets f k g l ≡ false
-meets_never (SelfW f m) k p (Names g) l h = refl
-meets_never (SelfW f m) k p g l h = refl
-meets_never (Other f m) k p (Names g) l h = refl
-meets_never (Other f m) k p g l h = refl
-meets_never f k p g l h = absurd (cc)
+pub meets_never : (f : Field) (k : LeaseKind) (g : Field) (l : LeaseKind) → tells_no_mode f ≡ false → meets f k g l ≡ false
+meets_never (SelfW f m) k (Names g) l h = refl
+meets_never (SelfW f m) k g l h = refl
+meets_never (Other f m) k (Names g) l h = refl
+meets_never (Other f m) k g l h = refl
+meets_never f k g l h = absurd (cc)
 
-meets_is : (selves : Selves) (rows : List Row) (x : Session) (f : List ℕ) (m : Mode) (p : Option Bool) (y : Session) (g : Field) → mode_meets selves rows x (Other f m) p y g ≡ (is_self f m g && can_fail p (has_fixed selves rows f m x y))
+pub meets_is : (selves : Selves) (rows : List Row) (x : Session) (f : List ℕ) (m : Mode) (p : Option Bool) (y : Session) (g : Field) → mode_meets selves rows x (Other f m) p y g ≡ (is_self f m g && can_fail p (has_fixed selves rows f m x y))
 meets_is selves rows x f m p y (Life g) = refl
 meets_is selves rows x f m p y (Child g n) = refl
 meets_is selves rows x f m p y (Names g) = refl
@@ -66,12 +66,15 @@ goes selves rows x f p y g m h n e t =
     (second_fails (is_self h n g) (can_fail p (has_fixed selves rows h n x y)) t
     (sym (meets_is selves rows x h n p y g) ∙ ap (λ z. mode_meets selves rows x z p y g) (sym e) ∙ m))
 
--- two rows of a table without conflict go together
-pub free_goes : (selves : Selves) (rows : List Row) → NoConflict selves rows → (a b : Row) → In a rows → In b rows → (a.session.0 == b.session.0) ≡ false → Goes selves rows a.session a.field a.promise b.session b.field
-free_goes selves rows free a b i j d =
-    let p : (plain_conflict a b ≡ false) × (mode_conflict selves rows a b ≡ false) = neither (plain_conflict a b) (mode_conflict selves rows a b) (free a b i j) in
+-- two rows of two sessions that do not conflict go together
+pub apart_goes : (selves : Selves) (rows : List Row) (a b : Row) → conflicts selves rows a b ≡ false → (a.session.0 == b.session.0) ≡ false → Goes selves rows a.session a.field a.promise b.session b.field
+apart_goes selves rows a b free d =
+    let p : (plain_conflict a b ≡ false) × (mode_conflict selves rows a b ≡ false) = neither (plain_conflict a b) (mode_conflict selves rows a b) free in
     let q = neither (mode_meets selves rows a.session a.field a.promise b.session b.field) (mode_meets selves rows b.session b.field b.promise a.session a.field) (second_fails (not (a.session.0 == b.session.0)) (mode_meets selves rows a.session a.field a.promise b.session b.field || mode_meets selves rows b.session b.field b.promise a.session a.field) (ap not d) p.1) in
     goes selves rows a.session a.field a.promise b.session b.field q.0
+
+pub free_goes : (selves : Selves) (rows : List Row) → NoConflict selves rows → (a b : Row) → In a rows → In b rows → (a.session.0 == b.session.0) ≡ false → Goes selves rows a.session a.field a.promise b.session b.field
+free_goes selves rows free a b i j d = apart_goes selves rows a b (free a b i j) d
 
 -- two rows that go together both ways do not conflict over a mode
 pub goes_apart : (selves : Selves) (rows : List Row) (a b : Row) → ((a.session.0 == b.session.0) ≡ false → Goes selves rows a.session a.field a.promise b.session b.field) → ((b.session.0 == a.session.0) ≡ false → Goes selves rows b.session b.field b.promise a.session a.field) → mode_conflict selves rows a b ≡ false
@@ -82,15 +85,15 @@ goes_apart selves rows a b k l =
     (meets_not selves rows a.session a.field a.promise b.session b.field (k apart))
     (meets_not selves rows b.session b.field b.promise a.session a.field (l (nat_eq_equiv.symm b.session.0 a.session.0 ∙ apart))))
 
-pub goes_free : (selves : Selves) (rows : List Row) → AreOfModes rows → ((a b : Row) → In a rows → In b rows → (a.session.0 == b.session.0) ≡ false → Goes selves rows a.session a.field a.promise b.session b.field) → NoConflict selves rows
-goes_free selves rows shape k a b i j =
+pub goes_free : (selves : Selves) (rows : List Row) → AreOnModes rows → ((a b : Row) → In a rows → In b rows → (a.session.0 == b.session.0) ≡ false → Goes selves rows a.session a.field a.promise b.session b.field) → NoConflict selves rows
+goes_free selves rows on k a b i j =
     neither_holds (plain_conflict a b) (mode_conflict selves rows a b)
-    (not_both (not (a.session.0 == b.session.0)) (meets a.field a.kind b.field b.kind) (λ d. meets_never a.field a.kind a.promise b.field b.kind (shape a i)))
+    (not_both (not (a.session.0 == b.session.0)) (meets a.field a.kind b.field b.kind) (λ d. meets_never a.field a.kind b.field b.kind (on a i)))
     (goes_apart selves rows a b (k a b i j) (k b a j i))
 
 -- rows that go, and rows that tell the same, are no harm
-pub fewer_free : (selves : Selves) (new old : List Row) → Covered new old → AreOfModes new → NoConflict selves old → NoConflict selves new
-fewer_free selves new old c shape free = goes_free selves new shape (λ a b i j d h n e t.
+pub fewer_free : (selves : Selves) (new old : List Row) → Covered new old → AreOnModes new → NoConflict selves old → NoConflict selves new
+fewer_free selves new old c on free = goes_free selves new on (λ a b i j d h n e t.
     let p : (z : Row) × (In z old × TellsSame z a) = c a i in
     let q : (z : Row) × (In z old × TellsSame z b) = c b j in
     let apart : (p.0.session.0 == q.0.session.0) ≡ false = ap (λ (s : Session). s.0 == q.0.session.0) (sym p.1.1.session) ∙ ap (λ (s : Session). a.session.0 == s.0) (sym q.1.1.session) ∙ d in
@@ -136,8 +139,8 @@ still_goes selves rows r f m fe a b l none h n e t j hf =
       })
     ] refl
 
-pub self_free : (selves : Selves) (rows : List Row) (r : Row) (f : List ℕ) (m : Mode) → r.field ≡ SelfW f m → ((a : Row) → In a rows → stands_against_self (selves f) rows r.session f m a ≡ false) → AreOfModes (with_row r rows) → NoConflict selves rows → NoConflict selves (with_row r rows)
-self_free selves rows r f m fe none shape free = goes_free selves (with_row r rows) shape (λ a b i j d h n e t.
+pub self_free : (selves : Selves) (rows : List Row) (r : Row) (f : List ℕ) (m : Mode) → r.field ≡ SelfW f m → ((a : Row) → In a rows → stands_against_self (selves f) rows r.session f m a ≡ false) → AreOnModes (with_row r rows) → NoConflict selves rows → NoConflict selves (with_row r rows)
+self_free selves rows r f m fe none on free = goes_free selves (with_row r rows) on (λ a b i j d h n e t.
     elim (In-put (λ z. no_before r.no z.no) a r rows i) [
       | inl q ↦ let wrong : SelfW f m ≡ Other h n = sym fe ∙ ap (λ (z : Row). z.field) (sym q) ∙ e in absurd (cc)
       | inr k ↦ elim (In-put (λ z. no_before r.no z.no) b r rows j) [
@@ -177,8 +180,8 @@ new_goes selves rows r f m fe found b l d t = elim found [
       absurd (cc)
 ]
 
-pub other_free : (selves : Selves) (rows : List Row) (r : Row) (f : List ℕ) (m : Mode) → r.field ≡ Other f m → Found selves rows f m r.session r.promise → AreOfModes (with_row r rows) → NoConflict selves rows → NoConflict selves (with_row r rows)
-other_free selves rows r f m fe found shape free = goes_free selves (with_row r rows) shape (λ a b i j d h n e t.
+pub other_free : (selves : Selves) (rows : List Row) (r : Row) (f : List ℕ) (m : Mode) → r.field ≡ Other f m → Found selves rows f m r.session r.promise → AreOnModes (with_row r rows) → NoConflict selves rows → NoConflict selves (with_row r rows)
+other_free selves rows r f m fe found on free = goes_free selves (with_row r rows) on (λ a b i j d h n e t.
     elim (In-put (λ z. no_before r.no z.no) b r rows j) [
       | inl q ↦ let wrong : false ≡ true = ap (is_self h n) (sym fe) ∙ ap (λ (z : Row). is_self h n z.field) (sym q) ∙ t in absurd (cc)
       | inr l ↦ elim (In-put (λ z. no_before r.no z.no) a r rows i) [

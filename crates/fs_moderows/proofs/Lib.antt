@@ -5,4 +5,6 @@ pub mod Promises
 pub mod Reaps
 pub mod Safe
 pub mod Changes
+pub mod Moves
 mod FoundOnce
+mod Apart

@@ -19,7 +19,7 @@ use Rattle.fs_moderows.specs.Answer.{Opens, is_self_of_other, stands_against_sel
 use Rattle.fs_moderows.specs.Kept.{others_have, others_may_have, holds_true, is_kept, KeptPromises}
 use Rattle.fs_moderows.proofs.Tables.{TellsSame}
 use Rattle.fs_moderows.proofs.Witnesses.{not_true, not_false, second_fails, not_both, neither_holds, In_any, none_In, In_none, another, fixed_from, fixed_with, Covered, fixed_fewer, Witness, witness, witnessed, witness_stays, witness_beside, witness_past, witness_one}
-use Rattle.fs_moderows.proofs.Free.{AreOfModes, Goes, goes_apart, goes_free, spare, Found, fixed_other}
+use Rattle.fs_moderows.proofs.Free.{AreOnModes, Goes, goes_apart, goes_free, spare, Found, fixed_other}
 
 -- what was told on a field that tells of others is true
 abbrev pub Holds : Selves → List Row → Session → Field → Option Bool → Type 0
@@ -191,5 +191,5 @@ kept_goes selves rows kept a b i j d h n e t =
 pub kept_apart : (selves : Selves) (rows : List Row) → KeptPromises selves rows → (a b : Row) → In a rows → In b rows → mode_conflict selves rows a b ≡ false
 kept_apart selves rows kept a b i j = goes_apart selves rows a b (kept_goes selves rows kept a b i j) (kept_goes selves rows kept b a j i)
 
-pub kept_free : (selves : Selves) (rows : List Row) → AreOfModes rows → KeptPromises selves rows → NoConflict selves rows
-kept_free selves rows shape kept = goes_free selves rows shape (kept_goes selves rows kept)
+pub kept_free : (selves : Selves) (rows : List Row) → AreOnModes rows → KeptPromises selves rows → NoConflict selves rows
+kept_free selves rows on kept = goes_free selves rows on (kept_goes selves rows kept)

@@ -18,7 +18,7 @@ use Rattle.fs_field.specs.Conflict.{Selves, has_fixed, NoConflict}
 use Rattle.fs_moderows.specs.Answer.{is_self_of_other, stands_against_reap, has_mode, rests_on, reap_blocker}
 use Rattle.fs_moderows.specs.Kept.{others_have, others_may_have, KeptPromises, selves_without}
 use Rattle.fs_moderows.proofs.Witnesses.{not_false, second_fails, neither_holds, In_any, none_In, In_none, In_filtered, turned, Witness, witness, witnessed, witness_past, witness_one, witness_of}
-use Rattle.fs_moderows.proofs.Free.{AreOfModes, free_goes, goes_free}
+use Rattle.fs_moderows.proofs.Free.{AreOnModes, free_goes, goes_free}
 use Rattle.fs_moderows.proofs.Promises.{kept_holds, holds_kept, holds_still}
 
 nothing_found : (found : Option Row) → option_map (λ (row : Row). row.no) found ≡ None → found ≡ None
@@ -96,8 +96,8 @@ reap_kept selves rows s f none kept a i = holds_kept (selves_without f s selves)
     (fewer_may f s selves rows h n a.session)
     (kept_holds selves rows a.session a.field a.promise (kept a i) h n fe))
 
-pub reap_free : (selves : Selves) (rows : List Row) (s : Session) (f : List ℕ) → ((a : Row) → In a rows → stands_against_reap (selves f) rows s f a ≡ false) → AreOfModes rows → NoConflict selves rows → NoConflict (selves_without f s selves) rows
-reap_free selves rows s f none shape free = goes_free (selves_without f s selves) rows shape (λ a b i j d h n fe t.
+pub reap_free : (selves : Selves) (rows : List Row) (s : Session) (f : List ℕ) → ((a : Row) → In a rows → stands_against_reap (selves f) rows s f a ≡ false) → AreOnModes rows → NoConflict selves rows → NoConflict (selves_without f s selves) rows
+reap_free selves rows s f none on free = goes_free (selves_without f s selves) rows on (λ a b i j d h n fe t.
     let q : (a.promise ≡ Some true) × (has_fixed selves rows h n a.session b.session ≡ true) = free_goes selves rows free a b i j d h n fe t in
     let w : Witness selves rows h n a.session a.session = witness_one selves rows h n a.session b.session (witness selves rows h n a.session b.session q.1) in
     (q.0, witnessed (selves_without f s selves) rows h n a.session b.session (witness_past (selves_without f s selves) rows h n a.session a.session b j t (in_place f s selves rows a (none a i) h n fe q.0 w))))

@@ -1,8 +1,7 @@
 -- What keeps a table of rows on modes one.
-use Rattle.std.proofs.Common.{◌≡◌, ◌||◌, ℕ, ◌+◌, nat_lt, Bool, true, false, List, [], ◌∷◌, refl, ap, cond, sym, ◌∙◌, map, inl, inr, arith}
+use Rattle.std.proofs.Common.{◌≡◌, ◌||◌, ℕ, Bool, true, false, List, [], ◌∷◌, refl, ap, cond, sym, ◌∙◌, map, inl, inr}
 use Rattle.std.specs.Prelude.{Option, Some, None, is_some, option_map, Result, Ok, Err, IfOk, OnErr}
 use Rattle.std.specs.List.{filter, find, list_any}
-use Rattle.std.proofs.lemmas.Bool.Decides.{nat_tests}
 use Rattle.fs_ident.specs.In.{In}
 use Rattle.fs_ident.specs.declared.actor.LeaseNo.{LeaseNo}
 use Rattle.fs_ident.specs.declared.actor.TxnNo.{TxnNo}
@@ -18,7 +17,8 @@ use Rattle.fs_field.specs.declared.field.Field.TheVariants.{SelfW, Other}
 use Rattle.fs_field.specs.declared.lease_kind.LeaseKind.{LeaseKind}
 use Rattle.fs_field.specs.declared.lease_kind.LeaseKind.TheVariants.{Shared, Exclusive}
 use Rattle.fs_field.specs.declared.row.Row.{Row}
-use Rattle.fs_field.specs.Table.{has_no, no_before, is_live, with_row, renewed_row, locked_row, unlocked_row, lock_on, is_unlocked, is_lock_of}
+use Rattle.fs_field.specs.Field.{tells_no_mode}
+use Rattle.fs_field.specs.Table.{has_no, no_before, with_row, renewed_row, locked_row, unlocked_row, lock_on, is_unlocked, is_lock_of}
 use Rattle.fs_field.proofs.Order.{ordered_filter, ordered_map, ordered_put, found_least}
 use Rattle.fs_moderows.specs.Table.{is_of_mode, IsModeTable}
 use Rattle.fs_moderows.specs.Answer.{Opens, unless_locked, waits_or, answer_self, answer_other, stands_against_self, is_self_of_other, has_fixed_other, given_row, rows_after, IsLeast}
@@ -52,27 +52,21 @@ locked_tells number txn r = kept_by (is_unlocked number r) (Some txn) r
 pub unlocked_tells : (txn : TxnNo) (r : Row) → TellsSame r (unlocked_row txn r)
 unlocked_tells txn r = kept_by (is_lock_of txn r.lock) None r
 
-same_shape : (a b : Row) → TellsSame a b → is_of_mode b.field b.kind b.promise ≡ is_of_mode a.field a.kind a.promise
-same_shape a b s =
-    ap (λ f. is_of_mode f b.kind b.promise) s.field
-    ∙ ap (λ k. is_of_mode a.field k b.promise) s.kind
-    ∙ ap (λ p. is_of_mode a.field a.kind p) s.promise
-
 pub empty_table : IsModeTable []
-empty_table = record { ordered = refl; of_modes = λ row i. absurd i }
+empty_table = record { ordered = refl; on_modes = λ row i. absurd i }
 
 pub filtered_table : (test : Row → Bool) (rows : List Row) → IsModeTable rows → IsModeTable (filter test rows)
 filtered_table test rows t = record {
   ordered = ordered_filter test rows t.ordered;
-  of_modes = λ row i. t.of_modes row (In-filter test row rows i);
+  on_modes = λ row i. t.on_modes row (In-filter test row rows i);
 }
 
 pub mapped_table : (f : Row → Row) → ((r : Row) → TellsSame r (f r)) → (rows : List Row) → IsModeTable rows → IsModeTable (map f rows)
 mapped_table f same rows t = record {
   ordered = ordered_map f (λ r. (same r).number) rows t.ordered;
-  of_modes = λ row i.
+  on_modes = λ row i.
       let q : (x : Row) × (In x rows × (row ≡ f x)) = In-map f row rows i in
-      ap (λ (z : Row). is_of_mode z.field z.kind z.promise) q.1.1 ∙ same_shape q.0 (f q.0) (same q.0) ∙ t.of_modes q.0 q.1.0;
+      ap (λ (z : Row). tells_no_mode z.field) q.1.1 ∙ ap tells_no_mode (same q.0).field ∙ t.on_modes q.0 q.1.0;
 }
 
 pub renewed_table : (number : LeaseNo) (until : ℕ) (rows : List Row) → IsModeTable rows → IsModeTable (map (renewed_row number until) rows)
@@ -85,12 +79,12 @@ pub unlocked_table : (txn : TxnNo) (rows : List Row) → IsModeTable rows → Is
 unlocked_table txn rows t = mapped_table (unlocked_row txn) (unlocked_tells txn) rows t
 
 -- one more row, whose number is new
-put_table : (row : Row) (rows : List Row) → list_any (has_no row.no) rows ≡ false → is_of_mode row.field row.kind row.promise ≡ true → IsModeTable rows → IsModeTable (with_row row rows)
-put_table row rows new shape t = record {
+pub put_table : (row : Row) (rows : List Row) → list_any (has_no row.no) rows ≡ false → tells_no_mode row.field ≡ false → IsModeTable rows → IsModeTable (with_row row rows)
+put_table row rows new on t = record {
   ordered = ordered_put row rows new t.ordered;
-  of_modes = λ x i. elim (In-put (λ r. no_before row.no r.no) x row rows i) [
-    | inl e ↦ ap (λ (z : Row). is_of_mode z.field z.kind z.promise) e ∙ shape
-    | inr j ↦ t.of_modes x j
+  on_modes = λ x i. elim (In-put (λ r. no_before row.no r.no) x row rows i) [
+    | inl e ↦ ap (λ (z : Row). tells_no_mode z.field) e ∙ on
+    | inr j ↦ t.on_modes x j
   ];
 }
 
@@ -106,26 +100,24 @@ other_value None true against told h = let e : Some true ≡ told = cc in sym e
 other_value None false (Some row) told h = absurd (cc)
 other_value None false None told h = let e : Some false ≡ told = cc in sym e
 
--- the table stays one after an answer that gives a row of a mode
-pub answered_table : (asked : Asked) (number : LeaseNo) (session : Session) (field : Field) (kind : LeaseKind) (until : ℕ) (rows : List Row)
-    → ((told : Option Bool) → asked ≡ Granted told → is_of_mode field kind told ≡ true) → list_any (has_no number) rows ≡ false → IsModeTable rows
-    → IsModeTable (rows_after asked (given_row number session field kind until) rows)
-answered_table (Granted told) number session field kind until rows shape new t = put_table (given_row number session field kind until told) rows new (shape told refl) t
-answered_table asked number session field kind until rows shape new t = t
-
 pub shape_self : (opens : Opens) (rows : List Row) (session : Session) (file : List ℕ) (m : Mode) (told : Option Bool) → answer_self opens rows session file m ≡ Granted told → is_of_mode (SelfW file m) Exclusive told ≡ true
 shape_self opens rows session file m told h = ap (is_of_mode (SelfW file m) Exclusive) (self_value (lock_on (SelfW file m) rows) (find (stands_against_self opens rows session file m) rows) told h)
 
 pub shape_other : (opens : Opens) (rows : List Row) (session : Session) (file : List ℕ) (m : Mode) (told : Option Bool) → answer_other opens rows session file m ≡ Granted told → is_of_mode (Other file m) Shared told ≡ true
 shape_other opens rows session file m told h = ap (is_of_mode (Other file m) Shared) (other_value (lock_on (Other file m) rows) (has_fixed_other opens rows file m session) (find (is_self_of_other file m session) rows) told h)
 
+-- the table stays one after an answer that may give a row on a mode
+pub answered_table : (asked : Asked) (number : LeaseNo) (session : Session) (field : Field) (kind : LeaseKind) (until : ℕ) (rows : List Row) → tells_no_mode field ≡ false → list_any (has_no number) rows ≡ false → IsModeTable rows → IsModeTable (rows_after asked (given_row number session field kind until) rows)
+answered_table (Granted told) number session field kind until rows on new t = put_table (given_row number session field kind until told) rows new on t
+answered_table asked number session field kind until rows on new t = t
+
 pub self_table : (opens : Opens) (number : LeaseNo) (session : Session) (file : List ℕ) (m : Mode) (until : ℕ) (rows : List Row) → list_any (has_no number) rows ≡ false → IsModeTable rows
     → IsModeTable (rows_after (answer_self opens rows session file m) (given_row number session (SelfW file m) Exclusive until) rows)
-self_table opens number session file m until rows new t = answered_table (answer_self opens rows session file m) number session (SelfW file m) Exclusive until rows (shape_self opens rows session file m) new t
+self_table opens number session file m until rows new t = answered_table (answer_self opens rows session file m) number session (SelfW file m) Exclusive until rows refl new t
 
 pub other_table : (opens : Opens) (number : LeaseNo) (session : Session) (file : List ℕ) (m : Mode) (until : ℕ) (rows : List Row) → list_any (has_no number) rows ≡ false → IsModeTable rows
     → IsModeTable (rows_after (answer_other opens rows session file m) (given_row number session (Other file m) Shared until) rows)
-other_table opens number session file m until rows new t = answered_table (answer_other opens rows session file m) number session (Other file m) Shared until rows (shape_other opens rows session file m) new t
+other_table opens number session file m until rows new t = answered_table (answer_other opens rows session file m) number session (Other file m) Shared until rows refl new t
 
 -- after a question, whatever it was answered
 pub asked_table : (asked : Result Asked Memory) (answer : Asked) (row_with : Option Bool → Row) (old new : List Row) → IsModeTable old → IsModeTable (rows_after answer row_with old)
@@ -181,12 +173,3 @@ numbered_least test rows blocker t h = by (find test rows) refl h where
   by : (first : Option Row) → find test rows ≡ first → option_map (λ (row : Row). row.no) first ≡ Some blocker → IsLeast test rows blocker
   by (Some row) e g = let same : row.no ≡ blocker = cc in first_is_least test rows row blocker t e same
   by None e g = absurd (cc)
-
-lives_first : (lock : Option TxnNo) (until : ℕ) → (is_some lock || nat_lt 0 (until + 1)) ≡ true
-lives_first (Some txn) until = refl
-lives_first None until = grind (arith, nat_tests)
-
--- at the first reading no row is over, where there is some skew
-pub all_live : (rows : List Row) → filter (is_live 0 1) rows ≡ rows
-all_live [] = refl
-all_live (r ∷ rs) = rw (lives_first r.lock r.until) (ap (λ xs. r ∷ xs) (all_live rs))

@@ -8,6 +8,7 @@ ghost use Rattle.fs_moderows.specs.Answer.{is_told_true, is_self_of_other, stand
 ghost use Rattle.fs_moderows.specs.Fixed.{has_but, is_other, rests_by, rests_by_each, stands_by, stands_by_each};
 
 use crate::fixed::{EachMode, Fixed, each_mode, fixed_but, is_other, is_self, is_told};
+use crate::joined::Joined;
 use crate::live::Live;
 use fs_field::{Field, Row};
 use fs_ident::{FileId, Session};
@@ -43,7 +44,7 @@ fn live_self_of_other<'a>(
         .find(|row| is_self_of_other(row, file, m, session))
 }
 
-fn is_self_of_other(row: &Row, file: &FileId, m: Mode, session: Session) -> bool
+pub fn is_self_of_other(row: &Row, file: &FileId, m: Mode, session: Session) -> bool
     ensures { result ≡ is_self_of_other file.now m session row.now }
 {
     is_self(&row.field, file, m) && row.session != session
@@ -64,7 +65,7 @@ pub fn first_against_self<'a>(
     if !is_told(rows, file, m, session) {
         return None;
     }
-    let fixed = fixed_but(opens, rows, file, m, session);
+    let fixed = fixed_but(opens, &Joined::only(rows), file, m, session);
     live_against_self(rows.rows, rows.reading, rows.skew, fixed, session, file, m)
 }
 
@@ -86,7 +87,7 @@ fn live_against_self<'a>(
         .find(|row| stands_by(fixed, session, file, m, row))
 }
 
-fn stands_by(fixed: Fixed, session: Session, file: &FileId, m: Mode, row: &Row) -> bool
+pub fn stands_by(fixed: Fixed, session: Session, file: &FileId, m: Mode, row: &Row) -> bool
     ensures { result ≡ stands_by fixed session file.now m row.now }
 {
     row.session != session && meets_by(fixed, file, m, row)
@@ -101,7 +102,7 @@ fn meets_by(fixed: Fixed, file: &FileId, m: Mode, row: &Row) -> bool
 }
 
 /// Whether what was told can become untrue, where a third session is fixed or none is.
-fn can_fail(promise: Option<bool>, fixed: bool) -> bool
+pub fn can_fail(promise: Option<bool>, fixed: bool) -> bool
     ensures { result ≡ can_fail promise fixed }
 {
     match promise {

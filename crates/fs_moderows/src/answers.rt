@@ -7,6 +7,7 @@ ghost use Rattle.fs_moderows.specs.Answer.{has_fixed_other, is_self_of_other, st
 
 use crate::against::{first_against_self, first_self_of_other};
 use crate::fixed::has_fixed;
+use crate::joined::Joined;
 use crate::live::Live;
 use fs_field::{Asked, Field, LeaseKind, Row, table};
 use fs_ident::{FileId, LeaseNo, Memory, Session};
@@ -49,7 +50,7 @@ pub fn answer_other(
     if let Some(txn) = rows.lock_on(field) {
         return Asked::Locked { txn };
     }
-    if has_fixed(opens, rows, file, m, session, session) {
+    if has_fixed(opens, &Joined::only(rows), file, m, session, session) {
         return Asked::Granted { value: Some(true) };
     }
     match first_self_of_other(rows, file, m, session) {

@@ -8,6 +8,7 @@ ghost use Rattle.fs_modes.specs.Modes.{has};
 ghost use Rattle.fs_moderows.specs.Answer.{has_mode};
 ghost use Rattle.fs_moderows.specs.Fixed.{has_but, AreFixedBut, of_mode, rests_by, is_other, is_other_of_other, TellsOfMode};
 
+use crate::joined::Joined;
 use crate::live::Live;
 use fs_field::{Field, Row};
 use fs_ident::{FileId, Session};
@@ -39,7 +40,7 @@ impl Fixed {
 /// The sessions but for `y` that have the mode on the file, and no row lets change that.
 pub fn fixed_but(
     opens: &[(Session, Modes)],
-    rows: &Live<'_>,
+    rows: &Joined<'_>,
     file: &FileId,
     m: Mode,
     y: Session,
@@ -61,7 +62,7 @@ pub fn fixed_but(
 /// The first of them, with its modes.
 fn first_fixed<'a>(
     opens: &'a [(Session, Modes)],
-    rows: &Live<'_>,
+    rows: &Joined<'_>,
     file: &FileId,
     m: Mode,
     y: Session,
@@ -77,7 +78,7 @@ fn first_fixed<'a>(
 /// Whether a session that is neither of the two has the mode on the file, and no row lets it change that.
 pub fn has_fixed(
     opens: &[(Session, Modes)],
-    rows: &Live<'_>,
+    rows: &Joined<'_>,
     file: &FileId,
     m: Mode,
     x: Session,
@@ -89,15 +90,31 @@ pub fn has_fixed(
 }
 
 /// Whether no row lets the session change what it tells of the mode on the file.
-fn is_fixed(rows: &Live<'_>, file: &FileId, m: Mode, session: Session) -> bool
+fn is_fixed(rows: &Joined<'_>, file: &FileId, m: Mode, session: Session) -> bool
     ensures { result ≡ is_fixed rows.now file.now m session }
 {
-    let free = is_free(rows.rows, rows.reading, rows.skew, file, m, session);
+    let free = is_free(rows, file, m, session);
     !free
 }
 
-/// Whether a row that is not over lets the session change what it tells of the mode on the file.
-fn is_free(rows: &[Row], now: u64, skew: u64, file: &FileId, m: Mode, session: Session) -> bool
+/// Whether a row lets the session change what it tells of the mode on the file.
+#[tactic(auto, using(crate::proofs::Apart::any_rows))]
+fn is_free(rows: &Joined<'_>, file: &FileId, m: Mode, session: Session) -> bool
+    ensures { result ≡ list_any (λ row. is_self file.now m row.field && (row.session.0 == session.0))
+        rows.now }
+{
+    is_free_among(&rows.came, file, m, session) || is_free_among(&rows.here, file, m, session)
+}
+
+fn is_free_among(rows: &Live<'_>, file: &FileId, m: Mode, session: Session) -> bool
+    ensures { result ≡ list_any (λ row. is_self file.now m row.field && (row.session.0 == session.0))
+        rows.now }
+{
+    is_free_live(rows.rows, rows.reading, rows.skew, file, m, session)
+}
+
+/// Whether one of these that is not over does.
+fn is_free_live(rows: &[Row], now: u64, skew: u64, file: &FileId, m: Mode, session: Session) -> bool
     ensures { result ≡ list_any (λ row. is_self file.now m row.field && (row.session.0 == session.0))
         (filter (is_live now skew) rows.now) }
 {
@@ -213,7 +230,7 @@ fn resting(
     ensures { TellsOfMode opens.now rows.now session file.now m result }
 {
     if has_mode(opens, session, m) && is_told(rows, file, m, session) {
-        Some(fixed_but(opens, rows, file, m, session))
+        Some(fixed_but(opens, &Joined::only(rows), file, m, session))
     } else {
         None
     }

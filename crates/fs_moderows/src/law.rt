@@ -1,5 +1,8 @@
 //! Laws of tables of rows on modes: they stay without conflict, and what was told stays true.
-ghost use Rattle.std.specs.Prelude.{◌≡◌, ℕ, Bool, List, Some, None, map, not, false};
+ghost use Rattle.std.specs.Prelude.{◌≡◌, ℕ, Bool, List, Some, None, map, not, true, false};
+ghost use Rattle.fs_ident.specs.Ordered.{Keyed};
+ghost use Rattle.fs_rows.specs.Granted.{with_rows};
+ghost use Rattle.fs_rows.specs.Moving.{rows_given, rows_left};
 ghost use Rattle.std.specs.List.{filter, list_any};
 ghost use Rattle.fs_ident.specs.In.{In};
 ghost use Rattle.fs_ident.specs.declared.actor.LeaseNo.{LeaseNo};
@@ -13,6 +16,7 @@ ghost use Rattle.fs_field.specs.Conflict.{Selves, NoConflict};
 ghost use Rattle.fs_field.specs.Table.{has_no, is_live, renewed_row, locked_row, unlocked_row};
 ghost use Rattle.fs_moderows.specs.Answer.{answer_self, answer_other, given_row, rows_after, reap_blocker};
 ghost use Rattle.fs_moderows.specs.Kept.{ChangesByRows, KeptPromises, others_have, selves_without};
+ghost use Rattle.fs_moderows.specs.Moving.{are_on_modes, fits};
 ghost use Rattle.fs_moderows.specs.Table.{IsModeTable};
 
 /// After a question of a session that would change what it tells, rows are without conflict, and promises kept, where
@@ -101,4 +105,14 @@ pub fn promises_are_what_others_have()
     ensures { (selves : Selves) (rows : List Row) → KeptPromises selves rows → (row : Row) →
         In row rows → (f : List ℕ) (m : Mode) (promise : Bool) → row.field ≡ Other f m →
         row.promise ≡ Some promise → promise ≡ others_have (selves f) m row.session }
+{}
+
+/// Rows that come beside those of a table, with new numbers that fit, leave it without conflict where it was; and
+/// whatever goes leaves it so.
+pub fn moved_rows_are_safe()
+    ensures came { (selves : Selves) (rows more : List Row) → IsModeTable rows →
+        are_on_modes more ≡ true → fits selves rows more ≡ true →
+        NoConflict selves rows → NoConflict selves (with_rows more rows) }
+    ensures gone { (selves : Selves) (rows : List Row) (prefix : List ℕ) (given : Keyed Bool) →
+        IsModeTable rows → NoConflict selves rows → NoConflict selves (rows_left prefix given rows) }
 {}

@@ -7,7 +7,9 @@
 
 mod against;
 mod answers;
+mod fitting;
 mod fixed;
+mod joined;
 mod law;
 mod live;
 mod mode_rows;
@@ -16,8 +18,8 @@ mod tests;
 
 pub use law::{
     asking_for_other_is_safe, asking_for_self_is_safe, changes_by_rows_are_safe,
-    kept_promises_are_without_conflict, promises_are_what_others_have, promises_stay_kept,
-    reaps_are_safe, rows_stay_without_conflict,
+    kept_promises_are_without_conflict, moved_rows_are_safe, promises_are_what_others_have,
+    promises_stay_kept, reaps_are_safe, rows_stay_without_conflict,
 };
 pub use live::Live;
 pub use mode_rows::ModeRows;

@@ -4,13 +4,18 @@ ghost use Rattle.std.specs.List.{filter, find, list_any};
 ghost use Rattle.std.specs.Option.{option_copied};
 ghost use Rattle.fs_field.specs.Table.{has_no, is_lease, is_live, lock_on, borne_numbers};
 ghost use Rattle.fs_field.specs.declared.field.Field.TheVariants.{SelfW, Other};
+ghost use Rattle.fs_rows.specs.Moving.{are_new, locked_in, rows_given};
+ghost use Rattle.fs_moderows.specs.Moving.{fits, selves_listed};
 ghost use Rattle.fs_moderows.specs.Answer.{answer_self, answer_other, reap_blocker};
 ghost use Rattle.fs_rows.specs.Live.{unlocked_on};
 
 use crate::against::first_against_reap;
 use crate::answers;
+use crate::fitting::are_apart;
+use crate::joined::Joined;
 use fs_field::{Asked, Field, LeaseKind, Row};
 use fs_ident::{FileId, LeaseNo, List, Memory, Session, TxnNo};
+use fs_map::{FileMap, MapPiece};
 use fs_modes::{Mode, Modes};
 use fs_rows::Live as Kept;
 use std::alloc::Global;
@@ -49,7 +54,7 @@ impl<'a> Live<'a> {
     }
 
     /// All of these rows: at the first reading and with some skew none is over.
-    pub(crate) fn all(rows: &'a [Row]) -> Live<'a>
+    pub fn all(rows: &'a [Row]) -> Live<'a>
         ensures { result ≡ rows.now }
     {
         Live::at(rows, 0, 1)
@@ -128,6 +133,36 @@ impl<'a> Live<'a> {
         ensures { result ≡ list_any (is_lease no session field.now kind) self.now }
     {
         self.kept().holds(no, session, field, kind)
+    }
+
+    /// Copies of the rows on files that the piece gives.
+    pub fn given(&self, alloc: Global, piece: &MapPiece) -> Result<List<Row>, Memory>
+        ensures { IfOk result (λ moved. moved ≡
+            rows_given piece.now.prefix piece.now.given self.now) }
+    {
+        self.kept().given(alloc, piece)
+    }
+
+    /// The least transaction that keeps a row on a file that begins with the prefix and is `me`'s.
+    pub fn locked_in(&self, prefix: &FileId, map: &FileMap, me: u8) -> Option<TxnNo>
+        ensures { result ≡ locked_in prefix.now map.now me self.now }
+    {
+        self.kept().locked_in(prefix, map, me)
+    }
+
+    /// As `ModeRows::fits`.
+    pub fn fits(&self, selves: &List<(FileId, List<(Session, Modes)>)>, rows: &List<Row>) -> bool
+        ensures { result ≡ fits (selves_listed selves.now) self.now rows.now }
+    {
+        let came = rows.as_slice();
+        self.kept().fits(rows) && are_apart(selves, &Joined::of(self, came), came)
+    }
+
+    /// Whether the numbers of these rows differ from one another and from all here.
+    pub fn are_new(&self, rows: &List<Row>) -> bool
+        ensures { result ≡ are_new self.now rows.now }
+    {
+        self.kept().are_new(rows)
     }
 
     /// The row of this number.

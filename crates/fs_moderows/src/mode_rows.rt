@@ -6,6 +6,8 @@ ghost use Rattle.fs_ident.specs.declared.actor.LeaseNo.{LeaseNo as Number};
 ghost use Rattle.fs_field.specs.declared.field.Field.TheVariants.{SelfW, Other};
 ghost use Rattle.fs_field.specs.declared.lease_kind.LeaseKind.TheVariants.{Shared, Exclusive};
 ghost use Rattle.fs_field.specs.Table.{has_no, renewed_row, is_live, is_lease, is_unlocked, locked_row, unlocked_row, rows_on, borne_numbers};
+ghost use Rattle.fs_rows.specs.Moving.{are_new, locked_in, rows_given, rows_left};
+ghost use Rattle.fs_moderows.specs.Moving.{are_on_modes, fits, selves_listed};
 ghost use Rattle.fs_moderows.specs.Answer.{answer_self, answer_other, stands_against_self, stands_against_reap, is_self_of_other, given_row, rows_after, reap_blocker, IsLeast};
 ghost use Rattle.fs_moderows.specs.Table.{IsModeTable};
 ghost use Rattle.fs_rows.specs.Granted.{with_rows};
@@ -15,8 +17,9 @@ use crate::answers;
 use crate::live::Live;
 use fs_field::{Asked, Field, LeaseKind, Row, Unknown, table};
 use fs_ident::{FileId, LeaseNo, List, Memory, Session, Twin, TxnNo};
+use fs_map::{FileMap, MapPiece};
 use fs_modes::{Mode, Modes};
-use fs_rows::{Rows, keep_live, put_each};
+use fs_rows::{Rows, drop_given, keep_live, put_each};
 use std::alloc::Global;
 use std::marker::Model;
 
@@ -251,6 +254,57 @@ impl ModeRows {
         table::borne(alloc, self.rows.as_slice(), dir)
     }
 
+    /// Takes the rows on files that the piece gives out of the table: these, in order of number. `Memory` where memory
+    /// is wanting; the table is as it was then.
+    pub fn split(&mut self, alloc: Global, piece: &MapPiece) -> Result<List<Row>, Memory>
+        ensures moved { IfOk result (λ moved. moved ≡
+            rows_given piece.now.prefix piece.now.given self.old) }
+        ensures left { OnOk result (self.new ≡
+            rows_left piece.now.prefix piece.now.given self.old) }
+        ensures err { OnErr result (self.new ≡ self.old) }
+        ensures valid { IsModeTable self.new }
+    {
+        let moved = Live::all(self.rows.as_slice()).given(alloc, piece)?;
+        drop_given(self.rows.items_mut(), piece);
+        Ok(moved)
+    }
+
+    /// Drops the rows on files that the piece gives.
+    pub fn leave(&mut self, piece: &MapPiece)
+        ensures left { self.new ≡ rows_left piece.now.prefix piece.now.given self.old }
+        ensures valid { IsModeTable self.new }
+    {
+        drop_given(self.rows.items_mut(), piece);
+    }
+
+    /// Puts in these rows, which are on what sessions tell of modes and have new numbers. `Memory` where memory is
+    /// wanting; the table is as it was then.
+    pub fn join(&mut self, alloc: Global, rows: List<Row>) -> Result<(), Memory>
+        requires new { are_new self.old rows ≡ true }
+        requires on_modes { are_on_modes rows ≡ true }
+        ensures ok { OnOk result (self.new ≡ with_rows rows self.old) }
+        ensures err { OnErr result (self.new ≡ self.old) }
+        ensures valid { IsModeTable self.new }
+    {
+        join(self.rows.items_mut(), rows)
+    }
+
+    /// Whether these rows conflict neither with one another nor with a row here, all in one table, and their numbers
+    /// differ from one another and from all here. `selves` has files with the sessions that have handles on each, and the
+    /// modes of each session's handles together; a file that is not there has none.
+    pub fn fits(&self, selves: &List<(FileId, List<(Session, Modes)>)>, rows: &List<Row>) -> bool
+        ensures { result ≡ fits (selves_listed selves.now) self.now rows.now }
+    {
+        Live::all(self.rows.as_slice()).fits(selves, rows)
+    }
+
+    /// The least transaction that keeps a row on a file that begins with the prefix and is `me`'s.
+    pub fn locked_in(&self, prefix: &FileId, map: &FileMap, me: u8) -> Option<TxnNo>
+        ensures { result ≡ locked_in prefix.now map.now me self.now }
+    {
+        Live::all(self.rows.as_slice()).locked_in(prefix, map, me)
+    }
+
     /// The row of this number.
     pub fn row(&self, no: LeaseNo) -> Option<&Row>
         ensures row { option_copied result ≡ find (has_no no) self.now }
@@ -337,6 +391,16 @@ fn grant_all(
     beside.grant_all(alloc, now, skew, others)?;
     keep_live(rows, now, skew);
     put_each(rows, more);
+    Ok(())
+}
+
+/// Puts in the rows, in order. Room is made first, and nothing can fail then.
+fn join(rows: &mut Vec<Row>, came: List<Row>) -> Result<(), Memory>
+    ensures ok { OnOk result (rows.new.items ≡ with_rows came rows.old.items) }
+    ensures err { OnErr result (rows.new.items ≡ rows.old.items) }
+{
+    rows.reserve(came.len())?;
+    put_each(rows, came);
     Ok(())
 }
 

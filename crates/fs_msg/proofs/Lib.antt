@@ -3,6 +3,7 @@ pub mod EndWires
 pub mod GrantWires
 pub mod ClientWires
 pub mod AnswerWires
+pub mod PeerWires
 pub mod MessageWires
 pub mod Exact
 pub mod Clauses

@@ -4,10 +4,6 @@ use Rattle.std.specs.Prelude.{◌&&◌, Option, Some, None}
 use Rattle.std.specs.List.{list_all}
 use Rattle.fs_wire.specs.Readable.{option_all, pair_all}
 
-pub always_pairs : {A B : Type 0} (pairs : List (A × B)) → list_all (pair_all (λ _. true) (λ _. true)) pairs ≡ true
-always_pairs [] = refl
-always_pairs (p ∷ pairs) = always_pairs pairs
-
 with_end : {B : Type 0} (o : Option B) (rest : Bool) → rest ≡ true → (option_all (λ _. true) o && rest) ≡ true
 with_end None rest h = h
 with_end (Some x) rest h = h

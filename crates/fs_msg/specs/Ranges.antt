@@ -1,5 +1,8 @@
 -- Which messages have a spelling.
 use Rattle.fs_ident.specs.Ident.{IsId}
+use Rattle.fs_map.specs.declared.piece.MapPiece.{MapPiece}
+use Rattle.fs_record.specs.declared.record.Record.{Record}
+use Rattle.fs_record.specs.declared.parcel.Parcel.{Parcel}
 use Rattle.fs_msg.specs.declared.entry.Entry.{Entry}
 use Rattle.fs_msg.specs.declared.end.End.{End}
 use Rattle.fs_msg.specs.declared.end.End.TheVariants as end_
@@ -8,9 +11,11 @@ use Rattle.fs_msg.specs.declared.answer.Answer.{Answer}
 use Rattle.fs_msg.specs.declared.answer.Answer.TheVariants as answer_
 use Rattle.fs_msg.specs.declared.client_msg.ClientMsg.{ClientMsg}
 use Rattle.fs_msg.specs.declared.client_msg.ClientMsg.TheVariants as client_
+use Rattle.fs_msg.specs.declared.peer_msg.PeerMsg.{PeerMsg}
+use Rattle.fs_msg.specs.declared.peer_msg.PeerMsg.TheVariants as peer_
 use Rattle.fs_msg.specs.declared.msg.Msg.{Msg}
 use Rattle.fs_msg.specs.declared.msg.Msg.TheVariants as msg_
-use Rattle.fs_wire.specs.Ranges.{FitsOne, FitsEight, FitsAlways, FitsOption, FitsList, FitsPair, FitsLease, FitsTransaction, FitsField, FitsValue, FitsOp, FitsReply, FitsUse}
+use Rattle.fs_wire.specs.Ranges.{FitsOne, FitsEight, FitsAlways, FitsOption, FitsList, FitsPair, FitsLease, FitsTransaction, FitsField, FitsValue, FitsOp, FitsReply, FitsUse, FitsRow, FitsNode, FitsNext}
 
 pub record FitsEntry (e : Entry) : Type 0 where
   pub n : FitsEight e.n
@@ -45,6 +50,24 @@ FitsAnswer (answer_.Released count e) = FitsEight count × FitsEnd e
 FitsAnswer (answer_.Shipped count e) = FitsEight count × FitsEnd e
 FitsAnswer (answer_.Recall wanted) = FitsLease wanted
 
+pub record FitsRecord (r : Record) : Type 0 where
+  pub node : FitsNode r.node
+  pub next : FitsNext r.next
+
+pub record FitsPiece (p : MapPiece) : Type 0 where
+  pub prefix : IsId p.prefix
+  pub given : FitsList (FitsPair IsId FitsAlways) p.given
+
+pub record FitsParcel (p : Parcel) : Type 0 where
+  pub prefix : IsId p.prefix
+  pub piece : FitsPiece p.piece
+  pub records : FitsList (FitsPair IsId FitsRecord) p.records
+  pub rows : FitsList FitsRow p.rows
+
+abbrev pub FitsPeerMessage : PeerMsg → Type 0
+FitsPeerMessage (peer_.Parcel p) = FitsParcel p
+
 abbrev pub FitsMessage : Msg → Type 0
 FitsMessage (msg_.Client m) = FitsClientMessage m
 FitsMessage (msg_.Answer a) = FitsAnswer a
+FitsMessage (msg_.Peer m) = FitsPeerMessage m

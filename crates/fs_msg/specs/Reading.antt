@@ -1,5 +1,8 @@
 -- Reading messages from left to right, with the place where it stops.
 use Rattle.std.specs.Prelude.{ℕ, Bool, true, ◌&&◌, ◌||◌, nat_le, ◌==◌}
+use Rattle.fs_map.specs.declared.piece.MapPiece.{MapPiece}
+use Rattle.fs_record.specs.declared.record.Record.{Record}
+use Rattle.fs_record.specs.declared.parcel.Parcel.{Parcel}
 use Rattle.fs_msg.specs.declared.entry.Entry.{Entry}
 use Rattle.fs_msg.specs.declared.end.End.{End}
 use Rattle.fs_msg.specs.declared.end.End.TheVariants as end_
@@ -8,10 +11,12 @@ use Rattle.fs_msg.specs.declared.answer.Answer.{Answer}
 use Rattle.fs_msg.specs.declared.answer.Answer.TheVariants as answer_
 use Rattle.fs_msg.specs.declared.client_msg.ClientMsg.{ClientMsg}
 use Rattle.fs_msg.specs.declared.client_msg.ClientMsg.TheVariants as client_
+use Rattle.fs_msg.specs.declared.peer_msg.PeerMsg.{PeerMsg}
+use Rattle.fs_msg.specs.declared.peer_msg.PeerMsg.TheVariants as peer_
 use Rattle.fs_msg.specs.declared.msg.Msg.{Msg}
 use Rattle.fs_msg.specs.declared.msg.Msg.TheVariants as msg_
-use Rattle.fs_wire.specs.Readers.{Reader, then_at, map_at, always_at, either_at, pair_at, one_at, byte_at, tag_at, eight_at, list_at, option_at}
-use Rattle.fs_wire.specs.Reading.{lease_kind_at, identifier_at, lease_at, transaction_at, field_at, value_at, lease_use_at, op_at, reply_at}
+use Rattle.fs_wire.specs.Readers.{Reader, then_at, map_at, always_at, either_at, pair_at, one_at, byte_at, tag_at, eight_at, list_at, option_at, truth_at}
+use Rattle.fs_wire.specs.Reading.{lease_kind_at, identifier_at, lease_at, transaction_at, field_at, value_at, lease_use_at, op_at, reply_at, row_at, node_at, next_at}
 
 unfoldable pub entry_at : Reader Entry
 entry_at bytes = map_at (λ x. record { n = x.0; op = x.1.0; reply = x.1.1.0; uses = x.1.1.1 }) (pair_at eight_at (pair_at op_at (pair_at reply_at (list_at lease_use_at)))) bytes
@@ -31,15 +36,27 @@ end_at bytes = then_at (tag_at 6) end_of bytes
 unfoldable pub grant_at : Reader Grant
 grant_at bytes = map_at (λ x. record { no = x.0; field = x.1.0; kind = x.1.1.0; until = x.1.1.1.0; value = x.1.1.1.1 }) (pair_at lease_at (pair_at field_at (pair_at lease_kind_at (pair_at eight_at value_at)))) bytes
 
--- the tags of clients' messages, and those of answers
+unfoldable pub record_at : Reader Record
+record_at bytes = map_at (λ x. record { node = x.0; next = x.1 }) (pair_at node_at next_at) bytes
+
+unfoldable pub piece_at : Reader MapPiece
+piece_at bytes = map_at (λ x. record { prefix = x.0; given = x.1 }) (pair_at identifier_at (list_at (pair_at identifier_at truth_at))) bytes
+
+unfoldable pub parcel_at : Reader Parcel
+parcel_at bytes = map_at (λ x. record { prefix = x.0; piece = x.1.0; records = x.1.1.0; rows = x.1.1.1 }) (pair_at identifier_at (pair_at piece_at (pair_at (list_at (pair_at identifier_at record_at)) (list_at row_at)))) bytes
+
+-- the tags of clients' messages, those of answers, and those of messages between servers
 abbrev pub is_client_tag : ℕ → Bool
 is_client_tag b = nat_le 1 b && nat_le b 4
 
 abbrev pub is_answer_tag : ℕ → Bool
 is_answer_tag b = (nat_le 17 b && nat_le b 20) || b == 22
 
+abbrev pub is_peer_tag : ℕ → Bool
+is_peer_tag b = b == 37
+
 abbrev pub is_message_tag : ℕ → Bool
-is_message_tag b = is_client_tag b || is_answer_tag b
+is_message_tag b = is_client_tag b || (is_answer_tag b || is_peer_tag b)
 
 -- what stands behind the tag of a client's message
 abbrev pub client_of : ℕ → Reader ClientMsg
@@ -58,9 +75,16 @@ answer_of tag =
     either_at (tag == 20) (map_at (λ x. answer_.Shipped x.0 x.1) (pair_at eight_at end_at)) (
     map_at (λ x. answer_.Recall x) lease_at))))
 
+-- what stands behind the tag of a message between servers
+abbrev pub peer_of : ℕ → Reader PeerMsg
+peer_of tag = map_at (λ x. peer_.Parcel x) parcel_at
+
 -- what stands behind a tag
 abbrev pub message_of : ℕ → Reader Msg
-message_of tag = either_at (is_client_tag tag) (map_at (λ x. msg_.Client x) (client_of tag)) (map_at (λ x. msg_.Answer x) (answer_of tag))
+message_of tag =
+    either_at (is_client_tag tag) (map_at (λ x. msg_.Client x) (client_of tag)) (
+    either_at (is_answer_tag tag) (map_at (λ x. msg_.Answer x) (answer_of tag)) (
+    map_at (λ x. msg_.Peer x) (peer_of tag)))
 
 unfoldable pub message_at : Reader Msg
 message_at bytes = then_at (one_at true is_message_tag) message_of bytes

@@ -1,5 +1,8 @@
 -- The one spelling of each message, as bytes, with its tag in front.
 use Rattle.std.specs.Prelude.{ℕ, List, [], ◌∷◌, ◌++◌}
+use Rattle.fs_map.specs.declared.piece.MapPiece.{MapPiece}
+use Rattle.fs_record.specs.declared.record.Record.{Record}
+use Rattle.fs_record.specs.declared.parcel.Parcel.{Parcel}
 use Rattle.fs_msg.specs.declared.entry.Entry.{Entry}
 use Rattle.fs_msg.specs.declared.end.End.{End}
 use Rattle.fs_msg.specs.declared.end.End.TheVariants as end_
@@ -8,9 +11,11 @@ use Rattle.fs_msg.specs.declared.answer.Answer.{Answer}
 use Rattle.fs_msg.specs.declared.answer.Answer.TheVariants as answer_
 use Rattle.fs_msg.specs.declared.client_msg.ClientMsg.{ClientMsg}
 use Rattle.fs_msg.specs.declared.client_msg.ClientMsg.TheVariants as client_
+use Rattle.fs_msg.specs.declared.peer_msg.PeerMsg.{PeerMsg}
+use Rattle.fs_msg.specs.declared.peer_msg.PeerMsg.TheVariants as peer_
 use Rattle.fs_msg.specs.declared.msg.Msg.{Msg}
 use Rattle.fs_msg.specs.declared.msg.Msg.TheVariants as msg_
-use Rattle.fs_wire.specs.Spelling.{eight, option, list, pair, identifier, lease, transaction, lease_kind, field, value, op, reply, lease_use}
+use Rattle.fs_wire.specs.Spelling.{truth, eight, option, list, pair, identifier, lease, transaction, lease_kind, field, value, op, reply, lease_use, row, node}
 
 unfoldable pub entry : Entry → List ℕ
 entry e = eight e.n ++ (op e.op ++ (reply e.reply ++ list lease_use e.uses))
@@ -39,6 +44,20 @@ answer (answer_.Released count e) = 19 ∷ eight count ++ end e
 answer (answer_.Shipped count e) = 20 ∷ eight count ++ end e
 answer (answer_.Recall wanted) = 22 ∷ lease wanted
 
+-- a file or a directory, and the next number in it
+unfoldable pub file_record : Record → List ℕ
+file_record r = node r.node ++ eight r.next
+
+unfoldable pub piece : MapPiece → List ℕ
+piece p = identifier p.prefix ++ list (pair identifier truth) p.given
+
+unfoldable pub parcel : Parcel → List ℕ
+parcel p = identifier p.prefix ++ (piece p.piece ++ (list (pair identifier file_record) p.records ++ list row p.rows))
+
+unfoldable pub peer_message : PeerMsg → List ℕ
+peer_message (peer_.Parcel p) = 37 ∷ parcel p
+
 unfoldable pub message : Msg → List ℕ
 message (msg_.Client m) = client_message m
 message (msg_.Answer a) = answer a
+message (msg_.Peer m) = peer_message m

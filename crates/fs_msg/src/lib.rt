@@ -15,7 +15,9 @@ mod law;
 mod limits;
 mod msg;
 mod note;
+mod peer_msg;
 mod reading;
+mod refusal;
 mod server_note;
 #[cfg(test)]
 mod tests;
@@ -34,6 +36,8 @@ pub use law::no_message_begins_another;
 pub use limits::LONGEST;
 pub use msg::Msg;
 pub use note::Note;
+pub use peer_msg::PeerMsg;
 pub use reading::{read, read_whole};
+pub use refusal::Refusal;
 pub use server_note::ServerNote;
 pub use writing::write;

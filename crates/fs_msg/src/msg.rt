@@ -1,6 +1,7 @@
 //! The messages between actors.
 use crate::answer::Answer;
 use crate::client_msg::ClientMsg;
+use crate::peer_msg::PeerMsg;
 use fs_ident::{Memory, Twin};
 use std::alloc::Global;
 
@@ -9,6 +10,7 @@ use std::alloc::Global;
 pub enum Msg {
     Client(ClientMsg),
     Answer(Answer),
+    Peer(PeerMsg),
 }
 
 impl Twin for Msg {
@@ -16,6 +18,7 @@ impl Twin for Msg {
         match self {
             Msg::Client(m) => Ok(Msg::Client(m.copy(alloc)?)),
             Msg::Answer(a) => Ok(Msg::Answer(a.copy(alloc)?)),
+            Msg::Peer(m) => Ok(Msg::Peer(m.copy(alloc)?)),
         }
     }
 

@@ -1,6 +1,7 @@
 //! What a server notes of an event.
 use crate::end::End;
-use fs_ident::{List, Memory, Twin};
+use crate::refusal::Refusal;
+use fs_ident::{FileId, List, Memory, Twin};
 use std::alloc::Global;
 
 /// What a server notes of an event.
@@ -35,6 +36,19 @@ pub enum ServerNote {
     Recalls {
         count: u64,
     },
+    /// What another server handed over below the prefix is here now.
+    Installs {
+        prefix: FileId,
+    },
+    /// What was managed below the prefix goes to another server.
+    Moves {
+        prefix: FileId,
+        to: u8,
+    },
+    /// What was to be handed over stays.
+    Stays {
+        refusal: Refusal,
+    },
     /// There was nothing to do.
     Idle,
     /// No honest actor sends such a message.
@@ -63,6 +77,16 @@ impl Twin for ServerNote {
             }),
             ServerNote::Reaps { count } => Ok(ServerNote::Reaps { count: *count }),
             ServerNote::Recalls { count } => Ok(ServerNote::Recalls { count: *count }),
+            ServerNote::Installs { prefix } => Ok(ServerNote::Installs {
+                prefix: prefix.copy(alloc)?,
+            }),
+            ServerNote::Moves { prefix, to } => Ok(ServerNote::Moves {
+                prefix: prefix.copy(alloc)?,
+                to: *to,
+            }),
+            ServerNote::Stays { refusal } => Ok(ServerNote::Stays {
+                refusal: refusal.copy(alloc)?,
+            }),
             ServerNote::Idle => Ok(ServerNote::Idle),
             ServerNote::Strange => Ok(ServerNote::Strange),
         }

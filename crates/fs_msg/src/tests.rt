@@ -1,6 +1,7 @@
 //! What is told, copied, written and read.
 mod faults;
 mod messages;
+mod parcels;
 
 use crate::error::MsgError;
 use crate::item::Item;

@@ -6,8 +6,13 @@ pub mod ValueChanges
 pub mod Stepping
 pub mod NumbersRise
 pub mod NodeMaps
-pub mod Selves
+pub mod BySession
 pub mod AllApplied
 pub mod Undoing
 pub mod Reaping
 pub mod OpenFiles
+pub mod Parting
+pub mod Coming
+pub mod Rising
+pub mod Returning
+pub mod TakenOut

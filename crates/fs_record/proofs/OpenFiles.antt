@@ -49,7 +49,7 @@ walked [] h = refl
 walked (e ∷ es) h =
     ap₂ (λ b xs. cond (is_open (node_of (cond b (Some e.1) (find (slice_cmp nat_cmp) e.0 es)))) (e.0 ∷ xs) xs) ((eq_by_cmp_equiv nat_list_cmp_total).refl e.0) (passed e es es (first _ _ h) ∙ walked es (second _ _ h))
 
-holds : (b : Bool) → T b → b ≡ true
+pub holds : (b : Bool) → T b → b ≡ true
 holds true h = refl
 holds false h = absurd h
 

@@ -37,7 +37,7 @@ use Rattle.fs_record.proofs.HandleSteps.{own_step}
 use Rattle.fs_record.proofs.Kept.{get_with_at}
 use Rattle.fs_record.proofs.NodeMaps.{node_there, node_with_at}
 use Rattle.fs_record.proofs.NodeValues.{tied}
-use Rattle.fs_record.proofs.Selves.{from_on, from_first, rises}
+use Rattle.fs_record.proofs.BySession.{from_on, from_first, rises}
 use Rattle.fs_record.proofs.Stepping.{alike}
 use Rattle.fs_record.proofs.Undoing.{with_at-with_at, with_at_same, get_here}
 

@@ -5,5 +5,7 @@ pub mod Effects
 pub mod Opens
 pub mod Fresh
 pub mod Changes
+pub mod Moving
 -- cited by private calls alone
 pub mod Undo
+pub mod Walk

@@ -34,7 +34,8 @@ pub fn others_have(handles: &[Handle], session: Session, mode: Mode) -> bool
         .any(|x| x.session.0 != session.0 && x.modes.has(mode))
 }
 
-/// The sessions with handles, each once with what its handles have together.
+/// The sessions with handles, each once with what its handles have together, for handles in order of session. `Memory`
+/// where memory is wanting.
 pub fn selves(alloc: Global, handles: &[Handle]) -> Result<List<(Session, Modes)>, Memory>
     ensures { IfOk result (λ told. told ≡ selves_of handles.now) }
 {

@@ -1,6 +1,8 @@
 //! Laws of records.
-ghost use Rattle.std.specs.Prelude.{◌≡◌, ◌⊎◌, ◌+◌, ◌<◌, ◌≤◌, ◌^◌, ℕ, List, length, Option, Some, None, true, false, not, ◌==◌, is_some, if◌then◌else◌};
-ghost use Rattle.std.specs.FinMap.{get};
+ghost use Rattle.std.specs.Prelude.{◌≡◌, ◌⊎◌, ◌+◌, ◌<◌, ◌≤◌, ◌^◌, ℕ, Bool, List, length, Option, Some, None, true, false, not, ◌==◌, is_some, if◌then◌else◌};
+ghost use Rattle.std.specs.FinMap.{empty, get};
+ghost use Rattle.fs_ident.specs.Ordered.{Keyed};
+ghost use Rattle.fs_map.specs.Map.{gives};
 ghost use Rattle.std.specs.List.{filter};
 ghost use Rattle.fs_field.specs.After.{value_after};
 ghost use Rattle.fs_ident.specs.Ident.{same};
@@ -16,6 +18,7 @@ ghost use Rattle.fs_record.specs.Applied.{records_after, records_after_all, node
 ghost use Rattle.fs_record.specs.Effects.{effects_of, tells_its_effects, reap_effects};
 ghost use Rattle.fs_record.specs.Fresh.{IsLeastFree, is_borne, fresh_number, records_after_gift};
 ghost use Rattle.fs_record.specs.Records.{RecordMap, AreRecords, nodes_of, node_of, next_of};
+ghost use Rattle.fs_record.specs.Moving.{AreEachRecords, are_absent, are_distinct, records_given, records_left, with_records};
 ghost use Rattle.fs_record.specs.Changes.{Change, after_changes, has_record_throughout};
 ghost use Rattle.fs_record.specs.ValueOf.{value_of, is_other, selves_in, selves_of, has_handle, modes_of, modes_told_of, is_by_session};
 ghost use Rattle.fs_model.specs.Handles.{handles_are_in_order};
@@ -97,4 +100,28 @@ pub fn reaps_take_handles()
         selves_in (records_after_all m (reap_effects m file session)) id ≡
         (if same id file then filter (λ e. not (e.0.0 == session.0)) (selves_in m id)
         else selves_in m id) }
+{}
+
+/// What goes and what is left are together what was, each file in one of the two.
+pub fn records_go_or_stay()
+    ensures given { (m : RecordMap) (prefix file : List ℕ) (given : Keyed Bool) →
+        gives prefix given file ≡ true →
+        (get (records_left prefix given m) file ≡ None) ×
+        (get (with_records (records_given prefix given m) empty) file ≡ get m file) }
+    ensures left { (m : RecordMap) (prefix file : List ℕ) (given : Keyed Bool) →
+        gives prefix given file ≡ false →
+        (get (records_left prefix given m) file ≡ get m file) ×
+        (get (with_records (records_given prefix given m) empty) file ≡ None) }
+{}
+
+/// What goes are records of different files, of which none is left; where they come again all is as it was.
+pub fn what_goes_can_come()
+    ensures records { (m : RecordMap) (prefix : List ℕ) (given : Keyed Bool) → AreRecords m →
+        AreEachRecords (records_given prefix given m) }
+    ensures distinct { (m : RecordMap) (prefix : List ℕ) (given : Keyed Bool) →
+        are_distinct (records_given prefix given m) ≡ true }
+    ensures absent { (m : RecordMap) (prefix : List ℕ) (given : Keyed Bool) →
+        are_absent (records_left prefix given m) (records_given prefix given m) ≡ true }
+    ensures again { (m : RecordMap) (prefix : List ℕ) (given : Keyed Bool) →
+        with_records (records_given prefix given m) (records_left prefix given m) ≡ m }
 {}

@@ -4,10 +4,13 @@
 mod changes;
 mod error;
 mod handles;
+mod in_order;
 mod law;
 mod lookups;
+mod moving;
 mod numbers;
 mod op_effects;
+mod parcel;
 mod record;
 mod records;
 #[cfg(test)]
@@ -17,11 +20,14 @@ mod undo;
 mod values;
 
 pub use error::FreshError;
+pub use handles::selves;
 pub use law::{
     effects_are_the_step, effects_keep_next_numbers, gifts_are_least, no_number_is_given_twice,
-    nodes_change_alike, reaps_take_handles, selves_are_by_session, values_follow_effects,
+    nodes_change_alike, reaps_take_handles, records_go_or_stay, selves_are_by_session,
+    values_follow_effects, what_goes_can_come,
 };
 pub use op_effects::{effects, tells_its_effects};
+pub use parcel::Parcel;
 pub use record::Record;
 pub use records::Records;
 pub use undo::is_undoable;

@@ -1,11 +1,13 @@
 //! The records of one server as one value.
-ghost use Rattle.std.specs.Prelude.{◌≡◌, ◌↔◌, true, false, IfOk, OnOk, OnErr, IsErrOf, Some, None, option_map};
+ghost use Rattle.std.specs.Prelude.{◌≡◌, ◌↔◌, true, false, not, IfOk, OnOk, OnErr, IsErrOf, Some, None, option_map};
 ghost use Rattle.std.specs.FinMap as map;
 ghost use Rattle.std.specs.List.{list_all};
 ghost use Rattle.std.specs.Option.{option_copied};
 ghost use Rattle.fs_ident.specs.Ident.{child};
 ghost use Rattle.fs_record.specs.Applied.{records_after, records_after_all, has_target, is_undoable};
 ghost use Rattle.fs_record.specs.Effects.{reap_effects};
+ghost use Rattle.fs_record.specs.Moving.{AreEachRecords, are_absent, are_distinct, records_given, records_left, with_records};
+ghost use Rattle.fs_model.specs.Step.{is_empty};
 ghost use Rattle.fs_record.specs.Opens.{open_files};
 ghost use Rattle.fs_record.specs.Fresh.{fresh_number, is_directory, records_after_gift};
 ghost use Rattle.fs_record.specs.Records.{IsRecord, first_records, AreRecords, root_record};
@@ -20,9 +22,10 @@ use crate::lookups::{files, node, open_files, record};
 use crate::op_effects::reap;
 use crate::record::Record;
 use crate::values::{handles, value_at};
-use crate::{changes, handles as opens, numbers, together};
+use crate::{changes, handles as opens, moving, numbers, together};
 use fs_field::{Effect, Field, Value};
 use fs_ident::{FileId, Kind, List, Memory, Session, Twin, copy_map};
+use fs_map::MapPiece;
 use fs_model::Node;
 use fs_modes::Modes;
 use std::alloc::Global;
@@ -200,6 +203,67 @@ impl Records {
         ensures { self.new ≡ records_after_gift self.old dir.now (Some k) }
     {
         numbers::gift(&mut self.records, dir, k);
+    }
+
+    /// Copies of the records of files that the piece gives, in order of identifier.
+    pub fn given(&self, alloc: Global, piece: &MapPiece) -> Result<List<(FileId, Record)>, Memory>
+        ensures given { IfOk result (λ moved. moved ≡
+            records_given piece.now.prefix piece.now.given self.now) }
+        ensures valid { AreRecords self.now }
+    {
+        moving::given(alloc, &self.records, piece)
+    }
+
+    /// Drops the records of files that the piece gives.
+    pub fn leave(&mut self, piece: &MapPiece)
+        ensures { self.new ≡ records_left piece.now.prefix piece.now.given self.old }
+    {
+        moving::leave(&mut self.records, piece);
+    }
+
+    /// Drops these records, which are those of files that the piece gives: `given` tells them. It searches for each of
+    /// them, and looks at no other.
+    pub fn leave_these(&mut self, piece: &MapPiece, moved: &List<(FileId, Record)>)
+        requires { moved.now ≡ records_given piece.now.prefix piece.now.given self.old }
+        ensures { self.new ≡ records_left piece.now.prefix piece.now.given self.old }
+    {
+        moving::leave_these(&mut self.records, moved.as_slice());
+    }
+
+    /// Whether a file that the piece gives has a record.
+    pub fn has_given(&self, piece: &MapPiece) -> bool
+        ensures { result ≡ not (is_empty (records_given piece.now.prefix piece.now.given self.now)) }
+    {
+        moving::has_given(&self.records, piece)
+    }
+
+    /// Takes the records of files that the piece gives away: these, in order of identifier. `Memory` where memory is
+    /// wanting; the records are as they were then.
+    pub fn split(
+        &mut self,
+        alloc: Global,
+        piece: &MapPiece,
+    ) -> Result<List<(FileId, Record)>, Memory>
+        ensures moved { IfOk result (λ moved. moved ≡
+            records_given piece.now.prefix piece.now.given self.old) }
+        ensures left { OnOk result (self.new ≡
+            records_left piece.now.prefix piece.now.given self.old) }
+        ensures err { OnErr result (self.new ≡ self.old) }
+        ensures valid { AreRecords self.old }
+    {
+        moving::split(alloc, &mut self.records, piece)
+    }
+
+    /// Gives these files their records; none has one here, and none stands twice. `Memory` where memory is wanting; the
+    /// records are as they were then.
+    pub fn join(&mut self, alloc: Global, records: List<(FileId, Record)>) -> Result<(), Memory>
+        requires records { AreEachRecords records }
+        requires distinct { are_distinct records ≡ true }
+        requires absent { are_absent self.old records ≡ true }
+        ensures ok { OnOk result (self.new ≡ with_records records self.old) }
+        ensures err { OnErr result (self.new ≡ self.old) }
+    {
+        moving::join(alloc, &mut self.records, records.into_vec())
     }
 
     /// Whether it is a directory that has a record here.

@@ -2,6 +2,7 @@
 ghost use Rattle.std.specs.Prelude.{◌≡◌, true, IfOk};
 ghost use Rattle.std.specs.List.{list_all};
 ghost use Rattle.fs_record.specs.Applied.{is_undoable};
+ghost use Rattle.fs_record.specs.Records.{IsRecord};
 
 use crate::error::FreshError;
 use crate::op_effects::{effects, tells_its_effects};
@@ -10,6 +11,7 @@ use crate::records::Records;
 use crate::undo::is_undoable;
 use fs_field::{Effect, Field};
 use fs_ident::{FileId, Kind, List, Name, Session, Twin};
+use fs_map::MapPiece;
 use fs_model::{Node, Op, Reply};
 use fs_modes::Modes;
 use std::alloc::Global;
@@ -256,5 +258,147 @@ fn a_session_loses_its_handles(rt: HostRuntime) -> Result<(), Fail> {
     assert_eq!(rt; shown(alloc, selves)?.as_str(), SELVES);
     assert_eq!(rt; busy(alloc)?.open_files(alloc)?.len(), 1);
     assert!(rt; Records::new(alloc, true)?.open_files(alloc)?.is_empty());
+    Ok(())
+}
+
+/// The files of the records that move.
+const FILES: [&str; 7] = ["/", "/1", "/1/2", "/1/2/5", "/1/3", "/10", "/2"];
+
+/// The record of a directory in which so many files were made.
+fn directory(alloc: Global, made: u32) -> Record
+    ensures { IsRecord result }
+{
+    Record {
+        node: Node::new(alloc, Kind::Dir, None),
+        next: u64::from(made) + 1,
+    }
+}
+
+/// The records of these files, each with another next number.
+fn tree(alloc: Global) -> Result<Records, Fail> {
+    let mut records = Records::new(alloc, false)?;
+    let mut made = 0u32;
+    for file in FILES {
+        records.put(
+            FileId::parse(alloc, file.as_bytes())?,
+            directory(alloc, made),
+        )?;
+        made = made.wrapping_add(1);
+    }
+    Ok(records)
+}
+
+/// All from the prefix on, but for what is below the second file, unless that is the prefix too.
+fn piece(alloc: Global, prefix: &str, but: &str) -> Result<MapPiece, Fail> {
+    let mut given = List::new(alloc);
+    given.push((FileId::parse(alloc, prefix.as_bytes())?, true))?;
+    if but != prefix {
+        given.push((FileId::parse(alloc, but.as_bytes())?, false))?;
+    }
+    Ok(MapPiece {
+        prefix: FileId::parse(alloc, prefix.as_bytes())?,
+        given,
+    })
+}
+
+/// The files with their next numbers.
+fn numbered(alloc: Global, moved: &[(FileId, Record)]) -> Result<String, Fail> {
+    let mut text = String::new(alloc);
+    for (file, record) in moved {
+        let entry = format!(in alloc; "{file}:{} ", record.next)?;
+        text.push_str(&entry)?;
+    }
+    Ok(text)
+}
+
+/// All records, as the whole piece gives them.
+fn all_numbered(alloc: Global, records: &Records) -> Result<String, Fail> {
+    let all = records.given(alloc, &piece(alloc, "/", "/")?)?;
+    numbered(alloc, all.as_slice())
+}
+
+/// The prefix, what below it stays, the files that go with their next numbers, and those that are left.
+const MOVES: [(&str, &str, &str, &str); 5] = [
+    (
+        "/1",
+        "/1",
+        "/1:2 /1/2:3 /1/2/5:4 /1/3:5 ",
+        "/:1 /2:7 /10:6 ",
+    ),
+    (
+        "/1",
+        "/1/2",
+        "/1:2 /1/3:5 ",
+        "/:1 /1/2:3 /1/2/5:4 /2:7 /10:6 ",
+    ),
+    (
+        "/1/2/5",
+        "/1/2/5",
+        "/1/2/5:4 ",
+        "/:1 /1:2 /1/2:3 /1/3:5 /2:7 /10:6 ",
+    ),
+    (
+        "/9",
+        "/9",
+        "",
+        "/:1 /1:2 /1/2:3 /1/2/5:4 /1/3:5 /2:7 /10:6 ",
+    ),
+    ("/", "/1", "/:1 /2:7 /10:6 ", "/1:2 /1/2:3 /1/2/5:4 /1/3:5 "),
+];
+
+/// The records of files that the piece gives go, and come again; tells what went and what was left.
+fn moved_and_back(
+    alloc: Global,
+    records: &mut Records,
+    piece: &MapPiece,
+) -> Result<(String, String), Fail> {
+    let moved = records.split(alloc, piece)?;
+    let went = numbered(alloc, moved.as_slice())?;
+    let left = all_numbered(alloc, records)?;
+    records.join(alloc, moved)?;
+    Ok((went, left))
+}
+
+/// Whether those files go and these are left.
+fn moves(
+    alloc: Global,
+    records: &mut Records,
+    (prefix, but, goes, stays): (&str, &str, &str, &str),
+) -> Result<bool, Fail> {
+    let piece = piece(alloc, prefix, but)?;
+    let any = records.has_given(&piece);
+    let (went, left) = moved_and_back(alloc, records, &piece)?;
+    Ok(any != goes.is_empty() && went.as_str() == goes && left.as_str() == stays)
+}
+
+#[test]
+fn records_go_and_come(rt: HostRuntime) -> Result<(), Fail> {
+    let alloc = rt.alloc();
+    let mut records = tree(alloc)?;
+    let before = all_numbered(alloc, &records)?;
+    for row in MOVES {
+        assert!(rt; moves(alloc, &mut records, row)?);
+        assert_eq!(rt; all_numbered(alloc, &records)?.as_str(), before.as_str());
+    }
+    let deepest = piece(alloc, "/1/2/5", "/1/2/5")?;
+    let moved = records.given(alloc, &deepest)?;
+    records.leave_these(&deepest, &moved);
+    assert_eq!(rt;
+        all_numbered(alloc, &records)?.as_str(),
+        "/:1 /1:2 /1/2:3 /1/3:5 /2:7 /10:6 "
+    );
+    records.leave(&piece(alloc, "/1", "/1")?);
+    assert_eq!(rt; all_numbered(alloc, &records)?.as_str(), "/:1 /2:7 /10:6 ");
+    Ok(())
+}
+
+#[test]
+fn new_records_are_in_order(rt: HostRuntime) -> Result<(), Fail> {
+    let alloc = rt.alloc();
+    let records = busy(alloc)?;
+    match records.get(&FileId::root(alloc)) {
+        Some(record) => assert!(rt; record.is_in_order()),
+        None => {}
+    }
     Ok(())
 }

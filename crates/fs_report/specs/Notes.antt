@@ -2,7 +2,7 @@
 use Rattle.std.specs.Prelude.{ℕ, List, [], ◌∷◌, ◌++◌, codes, flat_map}
 use Rattle.std.specs.Fmt.{decimal}
 use Rattle.fs_ident.specs.IdText.{id_text}
-use Rattle.fs_ident.specs.Texts.{server_text, lease_text, txn_text}
+use Rattle.fs_ident.specs.Texts.{server_text, lease_text, txn_text, path_text}
 use Rattle.fs_field.specs.Texts.{field_text}
 use Rattle.fs_field.specs.declared.field.Field.{Field}
 use Rattle.fs_field.specs.declared.field.Field.TheVariants.{Own}
@@ -12,6 +12,8 @@ use Rattle.fs_field.specs.declared.asked.Need.{Need}
 use Rattle.fs_field.specs.declared.asked.Need.TheVariants.{Lease, Fresh}
 use Rattle.fs_msg.specs.declared.end.End.{End}
 use Rattle.fs_msg.specs.declared.end.End.TheVariants as end
+use Rattle.fs_msg.specs.declared.refusal.Refusal.{Refusal}
+use Rattle.fs_msg.specs.declared.refusal.Refusal.TheVariants as refusal
 use Rattle.fs_msg.specs.declared.server_note.ServerNote.{ServerNote}
 use Rattle.fs_msg.specs.declared.server_note.ServerNote.TheVariants as server
 use Rattle.fs_msg.specs.declared.client_note.ClientNote.{ClientNote}
@@ -42,6 +44,15 @@ progress_text word count e = word ++ (codes " " ++ (decimal count ++ (codes " " 
 abbrev pub gaps_text : List ℕ → List ℕ
 gaps_text gaps = flat_map (λ n. codes " gap " ++ decimal n) gaps
 
+-- ## Why a server keeps what it was to hand over
+
+abbrev pub refusal_text : Refusal → List ℕ
+refusal_text (refusal.NotMine prefix to) = codes "notmine " ++ (id_text prefix ++ (codes " " ++ server_text to))
+refusal_text refusal.NoFile = codes "nofile"
+refusal_text refusal.Same = codes "same"
+refusal_text (refusal.Busy txn) = codes "busy " ++ txn_text txn
+refusal_text (refusal.Paths number) = codes "paths " ++ path_text number
+
 -- ## What a client needs
 
 -- the kind of a lease, but nothing for one on a session's own handles
@@ -68,6 +79,9 @@ server_note_text (server.Frees count e) = progress_text (codes "frees") count e
 server_note_text (server.Admits count e gaps) = progress_text (codes "admits") count e ++ gaps_text gaps
 server_note_text (server.Reaps count) = codes "reaps " ++ decimal count
 server_note_text (server.Recalls count) = codes "recalls " ++ decimal count
+server_note_text (server.Installs prefix) = codes "installs " ++ id_text prefix
+server_note_text (server.Moves prefix to) = codes "moves " ++ (id_text prefix ++ (codes " " ++ server_text to))
+server_note_text (server.Stays r) = codes "stays " ++ refusal_text r
 server_note_text server.Idle = codes "idle"
 server_note_text server.Strange = codes "strange"
 

@@ -12,6 +12,7 @@ mod notes;
 mod op_text;
 mod outcomes;
 mod pieces;
+mod refusals;
 mod reply_text;
 mod server_notes;
 mod spaces;

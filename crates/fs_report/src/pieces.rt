@@ -4,10 +4,10 @@ ghost use Rattle.std.specs.Fmt.{decimal};
 ghost use Rattle.fs_ident.specs.IdText.{id_text};
 ghost use Rattle.fs_modes.specs.Letters.{acc_text, deny_text};
 ghost use Rattle.fs_schedule.specs.Spelling.{kind_text};
-ghost use Rattle.fs_ident.specs.Texts.{quoted, session_text, peer_text, lease_text, txn_text};
+ghost use Rattle.fs_ident.specs.Texts.{quoted, session_text, peer_text, lease_text, txn_text, path_text};
 ghost use Rattle.fs_report.specs.Texts.{who_text, id_or_dash};
 
-use fs_ident::{FileId, Kind, LeaseNo, Memory, Name, Peer, Session, TxnNo};
+use fs_ident::{FileId, Kind, LeaseNo, Memory, Name, PathNo, Peer, Session, TxnNo};
 use fs_modes::Modes;
 use std::alloc::Global;
 
@@ -111,6 +111,15 @@ pub(crate) fn next_lease(alloc: Global, no: LeaseNo, out: &mut Vec<u8>) -> Resul
 /// A space and the number of a transaction.
 pub(crate) fn next_txn(alloc: Global, no: TxnNo, out: &mut Vec<u8>) -> Result<(), Memory>
     ensures { OnOk result (out.new.items ≡ out.old.items ++ 32 ∷ txn_text no) }
+{
+    let text = no.to_string(alloc)?;
+    out.push(b' ')?;
+    put_bytes(text.as_bytes(), out)
+}
+
+/// A space and the number of a path lease.
+pub(crate) fn next_path(alloc: Global, no: PathNo, out: &mut Vec<u8>) -> Result<(), Memory>
+    ensures { OnOk result (out.new.items ≡ out.old.items ++ 32 ∷ path_text no) }
 {
     let text = no.to_string(alloc)?;
     out.push(b' ')?;

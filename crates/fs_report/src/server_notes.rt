@@ -3,8 +3,9 @@ ghost use Rattle.std.specs.Prelude.{◌≡◌, ◌++◌, OnOk};
 ghost use Rattle.fs_report.specs.Notes.{gaps_text, server_note_text};
 
 use crate::ends::put_progress;
-use crate::pieces::{next_number, put_bytes};
-use fs_ident::Memory;
+use crate::pieces::{next_id, next_number, next_peer, put_bytes};
+use crate::refusals::next_refusal;
+use fs_ident::{Memory, Peer};
 use fs_msg::ServerNote;
 use std::alloc::Global;
 
@@ -31,6 +32,19 @@ pub(crate) fn put_server_note(
         ServerNote::Recalls { count } => {
             put_bytes(b"recalls", out)?;
             next_number(alloc, *count, out)
+        }
+        ServerNote::Installs { prefix } => {
+            put_bytes(b"installs", out)?;
+            next_id(alloc, prefix, out)
+        }
+        ServerNote::Moves { prefix, to } => {
+            put_bytes(b"moves", out)?;
+            next_id(alloc, prefix, out)?;
+            next_peer(alloc, Peer::Server(*to), out)
+        }
+        ServerNote::Stays { refusal } => {
+            put_bytes(b"stays", out)?;
+            next_refusal(alloc, refusal, out)
         }
         ServerNote::Idle => put_bytes(b"idle", out),
         ServerNote::Strange => put_bytes(b"strange", out),

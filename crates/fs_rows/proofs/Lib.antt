@@ -3,3 +3,5 @@ pub mod Granting
 pub mod Bearing
 pub mod Numbers
 pub mod LiveSteps
+pub mod Comes
+pub mod Goes

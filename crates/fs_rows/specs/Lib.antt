@@ -3,3 +3,4 @@ pub mod Answer
 pub mod Live
 pub mod Granted
 pub mod Given
+pub mod Moving

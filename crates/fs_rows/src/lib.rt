@@ -2,16 +2,19 @@
 #![tactic(auto)]
 
 mod against;
+mod given_files;
 mod grants;
 mod law;
 mod live;
+mod moving;
 mod reads;
 mod rows;
 #[cfg(test)]
 mod tests;
 
 pub use grants::{keep_live, put_each};
-pub use law::{numbers_tell_rows_apart, tables_are_without_conflict};
+pub use law::{numbers_tell_rows_apart, rows_that_move_leave_tables, tables_are_without_conflict};
 pub use live::Live;
+pub use moving::{are_new, copy_given, drop_given, fit, least_lock};
 pub use reads::is_live;
 pub use rows::Rows;

@@ -7,10 +7,12 @@ ghost use Rattle.fs_field.specs.declared.row.Row.{Row as TheRow};
 ghost use Rattle.fs_field.specs.Table.{has_no, is_lease, is_live, lock_on, borne_numbers};
 ghost use Rattle.fs_rows.specs.Answer.{answer};
 ghost use Rattle.fs_rows.specs.Live.{unlocked_on};
+ghost use Rattle.fs_rows.specs.Moving.{are_new, fits, locked_in, rows_given};
 
-use crate::reads;
+use crate::{moving, reads};
 use fs_field::{Asked, Field, LeaseKind, Row};
 use fs_ident::{FileId, LeaseNo, List, Memory, Session, TxnNo};
+use fs_map::{FileMap, MapPiece};
 use std::alloc::Global;
 use std::marker::Model;
 
@@ -80,6 +82,44 @@ impl<'a> Live<'a> {
             same_field r.field field.now && (r.session.0 == session.0)) self.now }
     {
         reads::has_on(self.rows, self.reading, self.skew, field, session)
+    }
+
+    /// All rows of the table: a reading at which none is over.
+    #[tactic(auto, using(crate::proofs::Goes::all_live))]
+    pub fn all(rows: &'a [Row]) -> Live<'a>
+        ensures { result ≡ rows.now }
+    {
+        Live::at(rows, 0, 1)
+    }
+
+    /// Copies of the rows on files that the piece gives.
+    pub fn given(&self, alloc: Global, piece: &MapPiece) -> Result<List<Row>, Memory>
+        ensures { IfOk result (λ moved. moved ≡
+            rows_given piece.now.prefix piece.now.given self.now) }
+    {
+        moving::copy_given(alloc, self.rows, self.reading, self.skew, piece)
+    }
+
+    /// The least transaction that keeps a row on a file that begins with the prefix and is `me`'s.
+    pub fn locked_in(&self, prefix: &FileId, map: &FileMap, me: u8) -> Option<TxnNo>
+        ensures { result ≡ locked_in prefix.now map.now me self.now }
+    {
+        moving::least_lock(self.rows, self.reading, self.skew, prefix, map, me)
+    }
+
+    /// Whether these rows conflict neither with one another nor with a row here, and their numbers differ from one
+    /// another and from all here.
+    pub fn fits(&self, rows: &List<Row>) -> bool
+        ensures { result ≡ fits self.now rows.now }
+    {
+        moving::fit(self.rows, self.reading, self.skew, rows.as_slice())
+    }
+
+    /// Whether the numbers of these rows differ from one another and from all here.
+    pub fn are_new(&self, rows: &List<Row>) -> bool
+        ensures { result ≡ are_new self.now rows.now }
+    {
+        moving::are_new(self.rows, self.reading, self.skew, rows.as_slice())
     }
 
     /// The row of this number.

@@ -5,6 +5,7 @@ ghost use Rattle.std.specs.Option.{option_copied};
 ghost use Rattle.fs_ident.specs.declared.actor.LeaseNo.{LeaseNo};
 ghost use Rattle.fs_field.specs.Field.{tells_no_mode};
 ghost use Rattle.fs_field.specs.Table.{has_no, renewed_row, is_live, is_lease, is_unlocked, locked_row, unlocked_row, rows_on, borne_numbers};
+ghost use Rattle.fs_rows.specs.Moving.{are_off_modes, fits, locked_in, rows_given, rows_left};
 ghost use Rattle.fs_rows.specs.Answer.{answer, given_row, rows_after, IsLeastAgainst};
 ghost use Rattle.fs_rows.specs.Granted.{with_rows};
 ghost use Rattle.fs_rows.specs.Table.{IsTable};
@@ -12,8 +13,10 @@ ghost use Rattle.fs_rows.specs.Table.{IsTable};
 use crate::against::first_against;
 use crate::grants;
 use crate::live::Live;
+use crate::moving::{add_all, drop_given};
 use fs_field::{Asked, Field, LeaseKind, Row, Unknown, table};
 use fs_ident::{FileId, LeaseNo, List, Memory, Session, Twin, TxnNo};
+use fs_map::{FileMap, MapPiece};
 use std::alloc::Global;
 use std::marker::Model;
 
@@ -175,6 +178,56 @@ impl Rows {
         ensures { IfOk result (λ told. told ≡ borne_numbers dir.now self.now) }
     {
         table::borne(alloc, self.rows.as_slice(), dir)
+    }
+
+    /// Takes the rows on files that the piece gives out of the table: these, in order of number. `Memory` where memory
+    /// is wanting; the table is as it was then.
+    pub fn split(&mut self, alloc: Global, piece: &MapPiece) -> Result<List<Row>, Memory>
+        ensures moved { IfOk result (λ moved. moved ≡
+            rows_given piece.now.prefix piece.now.given self.old) }
+        ensures left { OnOk result (self.new ≡
+            rows_left piece.now.prefix piece.now.given self.old) }
+        ensures err { OnErr result (self.new ≡ self.old) }
+        ensures valid { IsTable self.new }
+    {
+        let moved = Live::all(self.rows.as_slice()).given(alloc, piece)?;
+        drop_given(self.rows.items_mut(), piece);
+        Ok(moved)
+    }
+
+    /// Drops the rows on files that the piece gives.
+    pub fn leave(&mut self, piece: &MapPiece)
+        ensures left { self.new ≡ rows_left piece.now.prefix piece.now.given self.old }
+        ensures valid { IsTable self.new }
+    {
+        drop_given(self.rows.items_mut(), piece);
+    }
+
+    /// Puts in these rows, which fit (`fits` is the test) and are no part of what sessions tell of modes. `Memory` where
+    /// memory is wanting; the table is as it was then.
+    pub fn join(&mut self, alloc: Global, rows: List<Row>) -> Result<(), Memory>
+        requires fits { fits self.old rows ≡ true }
+        requires off_modes { are_off_modes rows ≡ true }
+        ensures ok { OnOk result (self.new ≡ with_rows rows self.old) }
+        ensures err { OnErr result (self.new ≡ self.old) }
+        ensures valid { IsTable self.new }
+    {
+        add_all(self.rows.items_mut(), rows)
+    }
+
+    /// Whether these rows conflict neither with one another nor with a row here, and their numbers differ from one
+    /// another and from all here.
+    pub fn fits(&self, rows: &List<Row>) -> bool
+        ensures { result ≡ fits self.now rows.now }
+    {
+        Live::all(self.rows.as_slice()).fits(rows)
+    }
+
+    /// The least transaction that keeps a row on a file that begins with the prefix and is `me`'s.
+    pub fn locked_in(&self, prefix: &FileId, map: &FileMap, me: u8) -> Option<TxnNo>
+        ensures { result ≡ locked_in prefix.now map.now me self.now }
+    {
+        Live::all(self.rows.as_slice()).locked_in(prefix, map, me)
     }
 
     /// The row of this number.

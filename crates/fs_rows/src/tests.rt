@@ -1,11 +1,14 @@
-//! How rows lapse, each call, and which leases go together.
+//! How rows lapse and move, each call, and which leases go together.
 ghost use Rattle.std.specs.Prelude.{◌≡◌, true, IfOk};
 ghost use Rattle.fs_field.specs.Field.{tells_no_mode};
+ghost use Rattle.fs_rows.specs.Moving.{are_off_modes};
 
 use crate::rows::Rows;
 use fs_field::{Asked, Field, LeaseKind, Row, Unknown};
 use fs_ident::{FileId, LeaseNo, List, Name, Session, Twin, TxnNo};
+use fs_map::{FileMap, MapPiece};
 use std::alloc::Global;
+use std::process::Abort;
 use std::test::Fail;
 
 const FIRST: LeaseNo = LeaseNo {
@@ -236,6 +239,161 @@ fn leases_that_go_together(rt: HostRuntime) -> Result<(), Fail> {
                 }
             }
         }
+    }
+    Ok(())
+}
+
+/// Three rows on files of which the second is below the first, each kept by a transaction.
+fn locked_rows(alloc: Global) -> Result<Rows, Fail> {
+    let mut rows = Rows::new(alloc);
+    rows.ask(
+        alloc,
+        FIRST,
+        Session(1),
+        &life_of(alloc, b"/1")?,
+        LeaseKind::Shared,
+        100,
+    )?;
+    rows.ask(
+        alloc,
+        SECOND,
+        Session(1),
+        &life_of(alloc, b"/1/2")?,
+        LeaseKind::Shared,
+        100,
+    )?;
+    rows.ask(
+        alloc,
+        THIRD,
+        Session(1),
+        &life_of(alloc, b"/3")?,
+        LeaseKind::Shared,
+        100,
+    )?;
+    for (no, count) in [(FIRST, 7), (SECOND, 1), (THIRD, 5)] {
+        rows.lock(no, TxnNo { server: 0, count });
+    }
+    Ok(rows)
+}
+
+fn life_of(alloc: Global, file: &[u8]) -> Result<Field, Fail>
+    ensures { IfOk result (λ f. tells_no_mode f ≡ true) }
+{
+    Ok(Field::Life(FileId::parse(alloc, file)?))
+}
+
+/// The map of a server to whom all belongs but the file of the second row.
+fn with_a_hole(alloc: Global) -> Result<FileMap, Fail> {
+    let mut map = FileMap::new(alloc)?;
+    map.hint(alloc, &FileId::parse(alloc, b"/1/2")?, 4)?;
+    Ok(map)
+}
+
+/// What the server has below the prefix goes to another.
+fn given(rt: &impl Abort, alloc: Global, prefix: &FileId) -> Result<MapPiece, Fail> {
+    let mut map = with_a_hole(alloc)?;
+    let owner = map.owner(prefix).1;
+    assert!(rt; owner == 0);
+    Ok(map.give(alloc, 0, prefix, 1)?)
+}
+
+/// The prefix, the least transaction that keeps a row below it that is the server's, and for each row whether it goes.
+const GOES: [(&[u8], Option<u64>, [bool; 3]); 4] = [
+    (b"/", Some(5), [true, false, true]),
+    (b"/1", Some(7), [true, false, false]),
+    (b"/3", Some(5), [false, false, true]),
+    (b"/2", None, [false, false, false]),
+];
+
+/// Whether each of the three stands among these.
+fn stand(rows: &[Row]) -> [bool; 3] {
+    [
+        rows.iter().any(|row| row.no == FIRST),
+        rows.iter().any(|row| row.no == SECOND),
+        rows.iter().any(|row| row.no == THIRD),
+    ]
+}
+
+fn least_lock(alloc: Global, prefix: &FileId) -> Result<Option<u64>, Fail> {
+    let locked = locked_rows(alloc)?.locked_in(prefix, &with_a_hole(alloc)?, 0);
+    Ok(locked.map(|txn| txn.count))
+}
+
+/// Which of the three go, and which go that are only dropped.
+fn go(alloc: Global, piece: &MapPiece) -> Result<([bool; 3], [bool; 3]), Fail> {
+    let mut rows = locked_rows(alloc)?;
+    let mut twin = rows.copy(alloc)?;
+    let moved = rows.split(alloc, piece)?;
+    twin.leave(piece);
+    let left = [FIRST, SECOND, THIRD].map(|no| rows.row(no).is_none() && twin.row(no).is_none());
+    Ok((stand(moved.as_slice()), left))
+}
+
+#[test]
+fn rows_go_with_their_files(rt: HostRuntime) -> Result<(), Fail> {
+    let alloc = rt.alloc();
+    for (prefix, kept, goes) in GOES {
+        let prefix = FileId::parse(alloc, prefix)?;
+        assert_eq!(rt; least_lock(alloc, &prefix)?, kept);
+        let piece = given(&rt, alloc, &prefix)?;
+        assert_eq!(rt; go(alloc, &piece)?, (goes, goes));
+    }
+    Ok(())
+}
+
+/// The number, session, file and kind of a row that comes after one of the second session, exclusive on the fourth
+/// file, with the third number: whether their numbers are new, and whether they fit.
+const COMES: [(LeaseNo, u16, &[u8], LeaseKind, bool, bool); 7] = [
+    (SECOND, 1, b"/3", LeaseKind::Exclusive, true, true),
+    (SECOND, 2, b"/3", LeaseKind::Shared, true, false),
+    (SECOND, 2, b"/5", LeaseKind::Exclusive, true, true),
+    (SECOND, 2, b"/4", LeaseKind::Exclusive, true, true),
+    (SECOND, 1, b"/4", LeaseKind::Shared, true, false),
+    (FIRST, 1, b"/5", LeaseKind::Shared, false, false),
+    (THIRD, 1, b"/5", LeaseKind::Shared, false, false),
+];
+
+fn coming(
+    alloc: Global,
+    no: LeaseNo,
+    session: u16,
+    file: &[u8],
+    kind: LeaseKind,
+) -> Result<Row, Fail>
+    ensures { IfOk result (λ row. tells_no_mode row.field ≡ true) }
+{
+    Ok(Row {
+        no,
+        session: Session(session),
+        field: life_of(alloc, file)?,
+        kind,
+        until: 100,
+        promise: None,
+        lock: None,
+    })
+}
+
+/// Whether the numbers of these rows are new beside an exclusive one on the third file, and whether they fit there.
+fn come(alloc: Global, more: List<Row>) -> Result<(bool, bool), Fail>
+    requires { are_off_modes more ≡ true }
+{
+    let mut rows = one_row(alloc, LeaseKind::Exclusive, 100)?;
+    let new = rows.live(0, 0).are_new(&more);
+    let fits = rows.fits(&more);
+    if fits {
+        rows.join(alloc, more)?;
+    }
+    Ok((new, fits && rows.row(THIRD).is_some()))
+}
+
+#[test]
+fn rows_come_where_they_fit(rt: HostRuntime) -> Result<(), Fail> {
+    let alloc = rt.alloc();
+    for (no, session, file, kind, new, fit) in COMES {
+        let mut more = List::new(alloc);
+        more.push(coming(alloc, THIRD, 2, b"/4", LeaseKind::Exclusive)?)?;
+        more.push(coming(alloc, no, session, file, kind)?)?;
+        assert_eq!(rt; come(alloc, more)?, (new, fit));
     }
     Ok(())
 }

@@ -28,7 +28,6 @@ use Rattle.fs_rows.proofs.Numbers.{given_new}
 use Rattle.fs_moderows.specs.Answer.{given_row, has_fixed_other, is_self_of_other, stands_against_self, unless_locked, waits_or}
 use Rattle.fs_moderows.specs.Table.{is_of_mode}
 use Rattle.fs_moderows.proofs.Free.{meets_never}
-use Rattle.fs_moderows.proofs.Tables.{shape_self, shape_other}
 use Rattle.fs_moderows.proofs.Witnesses.{not_both}
 use Rattle.fs_server.specs.declared.state.Server.{Server}
 use Rattle.fs_server.specs.Asks.{Asking, answer_to, ask_from, grant_of, kind_for, recall_of, with_lease}
@@ -37,22 +36,16 @@ use Rattle.fs_server.specs.Rows.{AreRows}
 use Rattle.fs_server.specs.Server.{next_number, end_of}
 use Rattle.fs_server.proofs.Kept.{put_rows}
 
--- a lease on a mode that is given is as it has to be
-given_shape : (by : Session) (field : Field) (kind : LeaseKind) (promise : Option Bool) (s : Server) → answer_to by field (kind_for field kind) s ≡ Granted promise → (tells_no_mode field || is_of_mode field (kind_for field kind) promise) ≡ true
-given_shape by (SelfW f m) kind promise s e = shape_self (selves_in s.records f) s.rows by f m promise e
-given_shape by (Other f m) kind promise s e = shape_other (selves_in s.records f) s.rows by f m promise e
-given_shape by field kind promise s e = refl
-
 -- no row stands plainly against a lease that is given
 given_goes : (by : Session) (field : Field) (kind : LeaseKind) (promise : Option Bool) (s : Server) → answer_to by field (kind_for field kind) s ≡ Granted promise → (x : Row) → In x s.rows → stands_against by field (kind_for field kind) x ≡ false
-given_goes by (SelfW f m) kind promise s e x i = not_both (not (by.0 == x.session.0)) (meets (SelfW f m) Exclusive x.field x.kind) (λ other. meets_never (SelfW f m) Exclusive promise x.field x.kind (shape_self (selves_in s.records f) s.rows by f m promise e))
-given_goes by (Other f m) kind promise s e x i = not_both (not (by.0 == x.session.0)) (meets (Other f m) Shared x.field x.kind) (λ other. meets_never (Other f m) Shared promise x.field x.kind (shape_other (selves_in s.records f) s.rows by f m promise e))
+given_goes by (SelfW f m) kind promise s e x i = not_both (not (by.0 == x.session.0)) (meets (SelfW f m) Exclusive x.field x.kind) (λ other. meets_never (SelfW f m) Exclusive x.field x.kind refl)
+given_goes by (Other f m) kind promise s e x i = not_both (not (by.0 == x.session.0)) (meets (Other f m) Shared x.field x.kind) (λ other. meets_never (Other f m) Shared x.field x.kind refl)
 given_goes by field kind promise s e x i = granted_goes s.rows by field (kind_for field kind) promise e x i
 
 -- the rows stay in order where the lease is given
 given_rows : (by : Session) (field : Field) (kind : LeaseKind) (promise : Option Bool) (s : Server) → IsReady s → answer_to by field (kind_for field kind) s ≡ Granted promise → AreRows (with_lease by field (kind_for field kind) promise s).rows
 given_rows by field kind promise s r e =
-    put_rows (given_row (next_number s) by field (kind_for field kind) (end_of s) promise) s.rows (given_new s.me s.given s.rows r.server.numbers) (given_shape by field kind promise s e) (given_goes by field kind promise s e) r.table
+    put_rows (given_row (next_number s) by field (kind_for field kind) (end_of s) promise) s.rows (given_new s.me s.given s.rows r.server.numbers) (given_goes by field kind promise s e) r.table
 
 pub lendable : (by : Session) (field : Field) (asked kind : LeaseKind) (promise : Option Bool) (rows : List Row) (s : Server) → IsLent by rows s → kind ≡ kind_for field asked → answer_to by field kind s ≡ Granted promise → AreRows (with_lease by field kind promise (with_leases rows s)).rows
 lendable by field asked kind promise rows s l is e =

@@ -58,7 +58,7 @@ pub givable : (by : Session) (dir id : List ℕ) (o : Option ℕ) (k : ℕ) (row
 givable by dir id o k rows s l of e is =
     let free : is_borne (borne_numbers dir (with_rows rows s.rows)) k ≡ false = (number_least s.records dir (borne_numbers dir (with_rows rows s.rows)) k (sym of ∙ e)).free in
     subst (λ i. AreRows (with_lease by (Life i) Exclusive None (with_leases rows s)).rows) (sym is)
-    (put_rows (given_row (next_number (with_leases rows s)) by (Life (child dir k)) Exclusive (end_of s) None) (with_rows rows s.rows) (given_new s.me (s.given + length rows) (with_rows rows s.rows) l.ready.server.numbers) refl (gift_goes by dir k Exclusive (with_rows rows s.rows) free) l.ready.table)
+    (put_rows (given_row (next_number (with_leases rows s)) by (Life (child dir k)) Exclusive (end_of s) None) (with_rows rows s.rows) (given_new s.me (s.given + length rows) (with_rows rows s.rows) l.ready.server.numbers) (gift_goes by dir k Exclusive (with_rows rows s.rows) free) l.ready.table)
 
 -- the answer with a fresh identifier
 abbrev asking : Server → List Grant → List ℕ → List ℕ → ℕ → Server → Asking

@@ -12,20 +12,7 @@ use Rattle.fs_field.proofs.Leases.{SameLease, NoPlainConflict-filter, NoPlainCon
 use Rattle.fs_field.proofs.Order.{ordered_filter, ordered_map, ordered_put}
 use Rattle.fs_moderows.specs.Table.{is_of_mode}
 use Rattle.fs_moderows.proofs.Tables.{TellsSame, renewed_tells}
-use Rattle.fs_server.specs.Rows.{AreRows, is_shaped}
-
-pub filtered_rows : (test : Row → Bool) (rows : List Row) → AreRows rows → AreRows (filter test rows)
-filtered_rows test rows t = record {
-  ordered = ordered_filter test rows t.ordered;
-  shaped = λ row i. t.shaped row (In-filter test row rows i);
-  free = NoPlainConflict-filter test rows t.free;
-}
-
-same_shape : (a b : Row) → TellsSame a b → is_shaped b ≡ is_shaped a
-same_shape a b s =
-    ap (λ f. tells_no_mode f || is_of_mode f b.kind b.promise) s.field
-    ∙ ap (λ k. tells_no_mode a.field || is_of_mode a.field k b.promise) s.kind
-    ∙ ap (λ p. tells_no_mode a.field || is_of_mode a.field a.kind p) s.promise
+use Rattle.fs_server.specs.Rows.{AreRows}
 
 same_lease : (a b : Row) → TellsSame a b → SameLease a b
 same_lease a b s = record { number = s.number; session = s.session; field = s.field; kind = s.kind }
@@ -33,9 +20,6 @@ same_lease a b s = record { number = s.number; session = s.session; field = s.fi
 pub mapped_rows : (f : Row → Row) → ((r : Row) → TellsSame r (f r)) → (rows : List Row) → AreRows rows → AreRows (map f rows)
 mapped_rows f same rows t = record {
   ordered = ordered_map f (λ r. (same r).number) rows t.ordered;
-  shaped = λ row i.
-      let q : (x : Row) × (In x rows × (row ≡ f x)) = In-map f row rows i in
-      ap is_shaped q.1.1 ∙ same_shape q.0 (f q.0) (same q.0) ∙ t.shaped q.0 q.1.0;
   free = NoPlainConflict-map f (λ r. same_lease r (f r) (same r)) rows t.free;
 }
 
@@ -43,12 +27,8 @@ pub renewed_in_order : (number : LeaseNo) (until : ℕ) (rows : List Row) → Ar
 renewed_in_order number until rows t = mapped_rows (renewed_row number until) (renewed_tells number until) rows t
 
 -- one more row, whose number is new and which conflicts plainly with none
-pub put_rows : (row : Row) (rows : List Row) → list_any (has_no row.no) rows ≡ false → is_shaped row ≡ true → ((x : Row) → In x rows → plain_conflict row x ≡ false) → AreRows rows → AreRows (with_row row rows)
-put_rows row rows new shape free t = record {
+pub put_rows : (row : Row) (rows : List Row) → list_any (has_no row.no) rows ≡ false → ((x : Row) → In x rows → plain_conflict row x ≡ false) → AreRows rows → AreRows (with_row row rows)
+put_rows row rows new free t = record {
   ordered = ordered_put row rows new t.ordered;
-  shaped = λ x i. elim (In-put (λ r. no_before row.no r.no) x row rows i) [
-    | inl e ↦ ap is_shaped e ∙ shape
-    | inr j ↦ t.shaped x j
-  ];
   free = NoPlainConflict-with_row row rows free t.free;
 }

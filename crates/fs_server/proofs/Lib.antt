@@ -1,4 +1,3 @@
-pub mod Both
 pub mod Parts
 mod Ends
 mod Own

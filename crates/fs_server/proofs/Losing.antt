@@ -36,7 +36,7 @@ use Rattle.fs_record.specs.Opens.{is_open, open_files, are_apart}
 use Rattle.fs_record.specs.ValueOf.{handles_of, own_of, selves_of, selves_in, is_by_session}
 use Rattle.fs_record.proofs.AllApplied.{records_after_all-append, after_all_kept}
 use Rattle.fs_record.proofs.Reaping.{reaped_record, reaped_get, reaped_selves, reaps_apart, reap_undoable}
-use Rattle.fs_record.proofs.Selves.{selves_rise}
+use Rattle.fs_record.proofs.BySession.{selves_rise}
 use Rattle.fs_server.specs.declared.reaps.Lost.{Lost}
 use Rattle.fs_server.specs.declared.state.Server.{Server}
 use Rattle.fs_server.specs.Lost.{CanLose, reaping_by, turned_by}

@@ -12,7 +12,8 @@ use Rattle.fs_server.specs.Lent.{IsReady}
 use Rattle.fs_server.specs.Pairs.{renewed_rows, released_rows}
 use Rattle.fs_server.specs.Plan.{changed}
 use Rattle.fs_server.specs.Rows.{AreRows}
-use Rattle.fs_server.proofs.Kept.{filtered_rows, renewed_in_order}
+use Rattle.fs_parcel.proofs.Both.{filtered_rows}
+use Rattle.fs_server.proofs.Kept.{renewed_in_order}
 
 -- the server with other rows, each with a number that it gave
 with_other_rows : (s : Server) (rows : List Row) → IsReady s → AreGiven s.me s.given rows → AreRows rows → IsReady (record s { rows = rows })

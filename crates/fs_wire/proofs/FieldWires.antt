@@ -2,7 +2,6 @@
 use Rattle.std.proofs.Common.{true, ltb, refl, arith}
 use Rattle.std.proofs.lemmas.Bool.{ltb-true, eqb-true}
 use Rattle.std.proofs.Common.{Option, Some, None}
-use Rattle.fs_ident.specs.declared.kind.Kind.{Kind}
 use Rattle.fs_field.specs.declared.field.Field.{Field}
 use Rattle.fs_field.specs.declared.field.Field.TheVariants as field_
 use Rattle.fs_field.specs.declared.value.Value.{Value}
@@ -43,9 +42,10 @@ field-says (field_.Other x m) fits = says-then field_of (says-one true (λ b. lt
 pub field-wire : IsWire field_at FitsField field (λ v. one_tag (field v))
 field-wire = record { reads = field-reads; says = field-says }
 
-any-kind : (k : Option Kind) → FitsOption FitsAlways k
-any-kind None = tt
-any-kind (Some k) = tt
+-- where everything fits, nothing or something does
+pub any-option : {A : Type 0} (o : Option A) → FitsOption FitsAlways o
+any-option None = tt
+any-option (Some x) = tt
 
 value-reads : IsReader value_at (Spelled FitsValue value)
 unfolding value_at value
@@ -60,7 +60,7 @@ value-reads = then-reader (tag_at 7) value_of (IsOne (λ b. ltb b 7)) (Spelled F
 
 value-says : (v : Value) → FitsValue v → Says value_at v (value v) (one_tag (value v))
 unfolding value_at value tag_at either_at
-value-says (value_.Life k) fits = says-then value_of (says-one true (λ b. ltb b 7) 0 refl) (says-map (λ x. value_.Life x) ((plain-option kind-wire).says k (any-kind k)))
+value-says (value_.Life k) fits = says-then value_of (says-one true (λ b. ltb b 7) 0 refl) (says-map (λ x. value_.Life x) ((plain-option kind-wire).says k (any-option k)))
 value-says (value_.Child x) fits = says-then value_of (says-one true (λ b. ltb b 7) 1 refl) (says-map (λ x. value_.Child x) ((plain-option identifier-wire).says x fits))
 value-says (value_.Names ns) fits = says-then value_of (says-one true (λ b. ltb b 7) 2 refl) (says-map (λ x. value_.Names x) ((plain-list name-wire).says ns fits))
 value-says (value_.Info a b) fits = says-then value_of (says-one true (λ b. ltb b 7) 3 refl) (says-map (λ p. value_.Info p.0 p.1) ((plain-pair eight-wire eight-wire).says (a, b) fits))

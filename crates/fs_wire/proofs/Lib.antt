@@ -6,7 +6,9 @@ pub mod Wires
 pub mod NumberWires
 pub mod SmallWires
 pub mod NameWires
+pub mod NextWires
 pub mod FieldWires
+pub mod RowWires
 pub mod OpWires
 pub mod ReplyWires
 pub mod Readable

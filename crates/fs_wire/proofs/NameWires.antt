@@ -135,7 +135,7 @@ step-says n fits =
       same = s.same;
     }
 
-step-wire : IsWire id_number_at IsNumber four (λ n. plain (four n))
+pub step-wire : IsWire id_number_at IsNumber four (λ n. plain (four n))
 step-wire = record { reads = step-reads; says = step-says }
 
 -- ---- identifiers

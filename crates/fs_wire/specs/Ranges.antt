@@ -14,6 +14,9 @@ use Rattle.fs_field.specs.declared.field.Field.TheVariants as field_
 use Rattle.fs_field.specs.declared.value.Value.{Value}
 use Rattle.fs_field.specs.declared.value.Value.TheVariants as value_
 use Rattle.fs_field.specs.declared.used.Use.{Use}
+use Rattle.fs_field.specs.declared.row.Row.{Row}
+use Rattle.fs_model.specs.declared.node.Handle.{Handle}
+use Rattle.fs_model.specs.declared.node.Node.{Node}
 use Rattle.fs_model.specs.declared.op.Op.{Op}
 use Rattle.fs_model.specs.declared.op.Op.TheVariants as op_
 use Rattle.fs_model.specs.declared.reply.Reply.{Reply}
@@ -55,6 +58,10 @@ FitsLease l = FitsOne l.server × FitsEight l.count
 
 abbrev pub FitsTransaction : TxnNo → Type 0
 FitsTransaction t = FitsOne t.server × FitsEight t.count
+
+-- the next number of a directory, which is one above the greatest when none is left
+abbrev pub FitsNext : ℕ → Type 0
+FitsNext n = (1 ≤ n) × (n ≤ 2 ^ 32)
 
 -- the modes of an open: it may do something
 abbrev pub FitsModes : Modes → Type 0
@@ -101,3 +108,22 @@ pub record FitsUse (u : Use) : Type 0 where
   pub field : FitsField u.field
   pub no : FitsLease u.no
   pub until : FitsEight u.until
+
+pub record FitsRow (r : Row) : Type 0 where
+  pub no : FitsLease r.no
+  pub session : FitsSession r.session
+  pub field : FitsField r.field
+  pub until : FitsEight r.until
+  pub lock : FitsOption FitsTransaction r.lock
+
+pub record FitsHandle (o : Handle) : Type 0 where
+  pub session : FitsSession o.session
+  pub h : FitsFour o.h
+  pub modes : FitsModes o.modes
+
+pub record FitsNode (n : Node) : Type 0 where
+  pub parent : FitsOption (FitsPair IsId IsName) n.parent
+  pub children : FitsList (FitsPair IsName IsId) n.children
+  pub size : FitsEight n.size
+  pub stamp : FitsEight n.stamp
+  pub handles : FitsList FitsHandle n.handles

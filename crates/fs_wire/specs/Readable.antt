@@ -1,11 +1,14 @@
 -- Which values are read again from their bytes, beyond what their types say.
-use Rattle.std.specs.Prelude.{Bool, true, ◌&&◌, Option, Some, None, nat_le}
+use Rattle.std.specs.Prelude.{ℕ, Bool, true, ◌&&◌, ◌^◌, Option, Some, None, nat_le}
 use Rattle.std.specs.List.{list_all}
 use Rattle.fs_ident.specs.declared.actor.Session.{Session}
 use Rattle.fs_ident.specs.declared.limits.TheConstants.{SESSIONS}
 use Rattle.fs_modes.specs.Modes.{has_access}
 use Rattle.fs_field.specs.declared.value.Value.{Value}
 use Rattle.fs_field.specs.declared.value.Value.TheVariants as value_
+use Rattle.fs_field.specs.declared.row.Row.{Row}
+use Rattle.fs_model.specs.declared.node.Handle.{Handle}
+use Rattle.fs_model.specs.declared.node.Node.{Node}
 use Rattle.fs_model.specs.declared.op.Op.{Op}
 use Rattle.fs_model.specs.declared.op.Op.TheVariants as op_
 
@@ -32,3 +35,19 @@ is_readable_op o = true
 abbrev pub is_readable_value : Value → Bool
 is_readable_value (value_.Own handles) = list_all (λ h. has_access h.1) handles
 is_readable_value v = true
+
+-- the next number of a directory is from 1 to 2^32
+abbrev pub is_readable_next : ℕ → Bool
+is_readable_next n = nat_le 1 n && nat_le n (2 ^ 32)
+
+-- its session is one that there may be
+abbrev pub is_readable_row : Row → Bool
+is_readable_row r = is_readable_session r.session
+
+-- its session is one that there may be, and it has an access
+abbrev pub is_readable_handle : Handle → Bool
+is_readable_handle h = is_readable_session h.session && has_access h.modes
+
+-- its handles are readable
+abbrev pub is_readable_node : Node → Bool
+is_readable_node n = list_all is_readable_handle n.handles

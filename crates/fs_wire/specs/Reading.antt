@@ -1,5 +1,5 @@
 -- How each value is read.
-use Rattle.std.specs.Prelude.{ℕ, zero, suc, ◌+◌, ◌-◌, ◌*◌, ◌/◌, ◌%◌, Bool, false, not, ◌&&◌, List, length, take, drop, Option, Some, None, Result, Ok, nat_lt, nat_le, ◌==◌, if◌then◌else◌}
+use Rattle.std.specs.Prelude.{ℕ, zero, suc, ◌+◌, ◌-◌, ◌*◌, ◌/◌, ◌%◌, ◌^◌, Bool, false, not, ◌&&◌, List, length, take, drop, Option, Some, None, Result, Ok, nat_lt, nat_le, ◌==◌, if◌then◌else◌}
 use Rattle.fs_ident.specs.Name.{first_bad, is_dots}
 use Rattle.fs_ident.specs.declared.actor.LeaseNo.{LeaseNo}
 use Rattle.fs_ident.specs.declared.actor.TxnNo.{TxnNo}
@@ -17,6 +17,9 @@ use Rattle.fs_field.specs.declared.value.Value.TheVariants as value_
 use Rattle.fs_field.specs.declared.lease_kind.LeaseKind.{LeaseKind}
 use Rattle.fs_field.specs.declared.lease_kind.LeaseKind.TheVariants.{Shared, Exclusive}
 use Rattle.fs_field.specs.declared.used.Use.{Use}
+use Rattle.fs_field.specs.declared.row.Row.{Row}
+use Rattle.fs_model.specs.declared.node.Handle.{Handle}
+use Rattle.fs_model.specs.declared.node.Node.{Node}
 use Rattle.fs_model.specs.declared.op.Op.{Op}
 use Rattle.fs_model.specs.declared.op.Op.TheVariants as op_
 use Rattle.fs_model.specs.declared.reply.Reply.{Reply}
@@ -77,6 +80,18 @@ id_number_at bytes = then_at four_at unless_zero bytes
 unfoldable pub identifier_at : Reader (List ℕ)
 identifier_at bytes = then_at (choice_at 33) (many_at id_number_at) bytes
 
+-- three bytes that are 0
+unfoldable pub zeros_at : Reader ℕ
+zeros_at bytes = then_at (choice_at 1) (λ a. then_at (choice_at 1) (λ b. choice_at 1)) bytes
+
+-- what stands behind the first four bytes of a next number: behind a 0 a number that is not 0, behind a 1 nothing but 0
+abbrev pub next_of : ℕ → Reader ℕ
+next_of flag = either_at (flag == 0) id_number_at (map_at (λ z. 2 ^ 32) (then_at (choice_at 1) (λ a. zeros_at)))
+
+-- a number of eight bytes from 1 to 2^32: it goes wrong at the first byte after which it cannot be one
+unfoldable pub next_at : Reader ℕ
+next_at bytes = then_at zeros_at (λ z. then_at (choice_at 2) next_of) bytes
+
 -- so many bytes of a name: a byte goes wrong that no name holds, and the last one of dots alone
 abbrev pub chars_of : ℕ → List ℕ → Option ℕ → Result (List ℕ × List ℕ) Fault
 chars_of n bytes (Some at) = stop false (length bytes - at)
@@ -124,6 +139,17 @@ value_at bytes = then_at (tag_at 7) value_of bytes
 
 unfoldable pub lease_use_at : Reader Use
 lease_use_at bytes = map_at (λ x. record { field = x.0; kind = x.1.0; no = x.1.1.0; until = x.1.1.1 }) (pair_at field_at (pair_at lease_kind_at (pair_at lease_at eight_at))) bytes
+
+unfoldable pub row_at : Reader Row
+row_at bytes = map_at (λ x. record { no = x.0; session = x.1.0; field = x.1.1.0; kind = x.1.1.1.0; until = x.1.1.1.1.0; promise = x.1.1.1.1.1.0; lock = x.1.1.1.1.1.1 }) (pair_at lease_at (pair_at session_at (pair_at field_at (pair_at lease_kind_at (pair_at eight_at (pair_at (option_at truth_at) (option_at transaction_at))))))) bytes
+
+-- ---- nodes
+
+unfoldable pub handle_at : Reader Handle
+handle_at bytes = map_at (λ x. record { session = x.0; h = x.1.0; modes = x.1.1 }) (pair_at session_at (pair_at four_at modes_at)) bytes
+
+unfoldable pub node_at : Reader Node
+node_at bytes = map_at (λ x. record { kind = x.0; parent = x.1.0; children = x.1.1.0; size = x.1.1.1.0; stamp = x.1.1.1.1.0; handles = x.1.1.1.1.1 }) (pair_at kind_at (pair_at (option_at (pair_at identifier_at name_at)) (pair_at (list_at (pair_at name_at identifier_at)) (pair_at eight_at (pair_at eight_at (list_at handle_at)))))) bytes
 
 -- ---- operations and replies
 

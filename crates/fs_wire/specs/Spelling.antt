@@ -18,6 +18,9 @@ use Rattle.fs_field.specs.declared.value.Value.TheVariants as value_
 use Rattle.fs_field.specs.declared.lease_kind.LeaseKind.{LeaseKind}
 use Rattle.fs_field.specs.declared.lease_kind.LeaseKind.TheVariants.{Shared, Exclusive}
 use Rattle.fs_field.specs.declared.used.Use.{Use}
+use Rattle.fs_field.specs.declared.row.Row.{Row}
+use Rattle.fs_model.specs.declared.node.Handle.{Handle}
+use Rattle.fs_model.specs.declared.node.Node.{Node}
 use Rattle.fs_model.specs.declared.op.Op.{Op}
 use Rattle.fs_model.specs.declared.op.Op.TheVariants as op_
 use Rattle.fs_model.specs.declared.reply.Reply.{Reply}
@@ -146,3 +149,14 @@ reply reply_.Reaped = 25 ∷ []
 
 unfoldable pub lease_use : Use → List ℕ
 lease_use u = field u.field ++ (lease_kind u.kind ++ (lease u.no ++ eight u.until))
+
+-- a lease that was given
+unfoldable pub row : Row → List ℕ
+row r = lease r.no ++ (session r.session ++ (field r.field ++ (lease_kind r.kind ++ (eight r.until ++ (option truth r.promise ++ option transaction r.lock)))))
+
+-- the session, its number for the open, and the modes
+abbrev pub handle : Handle → List ℕ
+handle h = session h.session ++ (four h.h ++ modes h.modes)
+
+unfoldable pub node : Node → List ℕ
+node n = kind n.kind ++ (option (pair identifier name) n.parent ++ (list (pair name identifier) n.children ++ (eight n.size ++ (eight n.stamp ++ list handle n.handles))))

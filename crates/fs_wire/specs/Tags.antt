@@ -2,7 +2,8 @@
 use Rattle.std.specs.Prelude.{ℕ, Bool, true, false, List, [], ◌∷◌, ◌++◌, length, map}
 use Rattle.std.specs.List.{flat_map}
 use Rattle.fs_field.specs.declared.used.Use.{Use}
-use Rattle.fs_wire.specs.Spelling.{eight, lease, lease_kind, field}
+use Rattle.fs_field.specs.declared.row.Row.{Row}
+use Rattle.fs_wire.specs.Spelling.{eight, truth, option, session, lease, transaction, lease_kind, field}
 
 -- no byte is a tag
 abbrev pub plain : List ℕ → List Bool
@@ -19,3 +20,6 @@ list_tags tags xs = plain (eight (length xs)) ++ flat_map tags xs
 
 unfoldable pub lease_use_tags : Use → List Bool
 lease_use_tags u = one_tag (field u.field) ++ (plain (lease_kind u.kind) ++ (plain (lease u.no) ++ plain (eight u.until)))
+
+unfoldable pub row_tags : Row → List Bool
+row_tags r = plain (lease r.no) ++ (plain (session r.session) ++ (one_tag (field r.field) ++ (plain (lease_kind r.kind) ++ (plain (eight r.until) ++ (plain (option truth r.promise) ++ plain (option transaction r.lock))))))

@@ -38,7 +38,7 @@ impl Wire for FileId {
 
 /// A number of an identifier.
 #[tactic(auto, unfolding(crate::specs::Reading::id_number_at, crate::specs::Readers::then_at))]
-fn id_number_of(alloc: Global, bytes: &[u8]) -> Result<(u32, &[u8]), ReadError>
+pub(crate) fn id_number_of(alloc: Global, bytes: &[u8]) -> Result<(u32, &[u8]), ReadError>
     ensures read { Gives (λ x. (x.0, x.1.now)) result (id_number_at bytes.now) }
     ensures valid { IfOk result (λ x. IsNumber x.0) }
 {

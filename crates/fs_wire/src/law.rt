@@ -3,11 +3,13 @@ ghost use Rattle.std.specs.Prelude.{◌≡◌, ◌++◌, ℕ, List, Ok};
 ghost use Rattle.fs_field.specs.declared.field.Field.{Field};
 ghost use Rattle.fs_field.specs.declared.value.Value.{Value};
 ghost use Rattle.fs_field.specs.declared.used.Use.{Use};
+ghost use Rattle.fs_field.specs.declared.row.Row.{Row};
+ghost use Rattle.fs_model.specs.declared.node.Node.{Node};
 ghost use Rattle.fs_model.specs.declared.op.Op.{Op};
 ghost use Rattle.fs_model.specs.declared.reply.Reply.{Reply};
-ghost use Rattle.fs_wire.specs.Spelling.{field, value, op, reply, lease_use};
-ghost use Rattle.fs_wire.specs.Ranges.{IsBytes, FitsField, FitsValue, FitsOp, FitsReply, FitsUse};
-ghost use Rattle.fs_wire.specs.Reading.{field_at, value_at, op_at, reply_at, lease_use_at};
+ghost use Rattle.fs_wire.specs.Spelling.{eight, field, value, op, reply, lease_use, row, node};
+ghost use Rattle.fs_wire.specs.Ranges.{IsBytes, FitsField, FitsValue, FitsOp, FitsReply, FitsUse, FitsRow, FitsNode, FitsNext};
+ghost use Rattle.fs_wire.specs.Reading.{field_at, value_at, op_at, reply_at, lease_use_at, row_at, node_at, next_at};
 
 /// What is spelled is read, whatever follows.
 pub fn what_is_spelled_is_read()
@@ -20,6 +22,11 @@ pub fn what_is_spelled_is_read()
         reply_at (reply v ++ rest) ≡ Ok (v, rest) }
     ensures uses { (v : Use) (rest : List ℕ) → FitsUse v → lease_use_at (lease_use v ++ rest) ≡
         Ok (v, rest) }
+    ensures rows { (v : Row) (rest : List ℕ) → FitsRow v → row_at (row v ++ rest) ≡ Ok (v, rest) }
+    ensures nodes { (v : Node) (rest : List ℕ) → FitsNode v →
+        node_at (node v ++ rest) ≡ Ok (v, rest) }
+    ensures nexts { (n : ℕ) (rest : List ℕ) → FitsNext n →
+        next_at (eight n ++ rest) ≡ Ok (n, rest) }
 {}
 
 /// What is read was spelled so.
@@ -39,4 +46,12 @@ pub fn what_is_read_was_spelled()
     ensures uses { (bytes rest : List ℕ) (v : Use) → IsBytes bytes →
         lease_use_at bytes ≡ Ok (v, rest) →
         FitsUse v × (bytes ≡ lease_use v ++ rest) }
+    ensures rows { (bytes rest : List ℕ) (v : Row) → IsBytes bytes → row_at bytes ≡ Ok (v, rest) →
+        FitsRow v × (bytes ≡ row v ++ rest) }
+    ensures nodes { (bytes rest : List ℕ) (v : Node) → IsBytes bytes →
+        node_at bytes ≡ Ok (v, rest) →
+        FitsNode v × (bytes ≡ node v ++ rest) }
+    ensures nexts { (bytes rest : List ℕ) (n : ℕ) → IsBytes bytes →
+        next_at bytes ≡ Ok (n, rest) →
+        FitsNext n × (bytes ≡ eight n ++ rest) }
 {}

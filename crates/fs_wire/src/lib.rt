@@ -1,4 +1,4 @@
-//! Values as bytes: what can be spelled in bytes and read again, from numbers up to operations and replies.
+//! Values as bytes: what can be spelled in bytes and read again, from numbers up to operations, replies and rows.
 #![tactic(auto)]
 
 mod actors;
@@ -9,10 +9,13 @@ mod law;
 mod lists;
 mod modes;
 mod names;
+mod nexts;
+mod nodes;
 mod numbers;
 mod ops;
 mod puts;
 mod replies;
+mod rows;
 #[cfg(test)]
 mod tests;
 mod uses;
@@ -21,6 +24,7 @@ mod wire;
 
 pub use fault::{Fault, ReadError, stop};
 pub use law::{what_is_read_was_spelled, what_is_spelled_is_read};
+pub use nexts::{next_of, put_next};
 pub use numbers::tag_of;
 pub use puts::{put_tag, put_tag_1, put_tag_2, put_tag_3, put_tag_4};
 pub use wire::Wire;

@@ -1,9 +1,10 @@
 //! The bytes of values, worked out from the table of bytes: each field at its least and at its greatest value.
 use crate::fault::{ReadError, stop};
+use crate::nexts::{next_of, put_next};
 use crate::wire::Wire;
-use fs_field::{Field, Use, Value};
+use fs_field::{Field, Row, Use, Value};
 use fs_ident::{FileId, Kind, LeaseNo, List, Name, Session, TxnNo};
-use fs_model::{Op, Reply};
+use fs_model::{Node, Op, Reply};
 use fs_modes::{Mode, Modes};
 use std::alloc::Global;
 use std::test::*;
@@ -120,6 +121,67 @@ fn uses_and_numbers(rt: HostRuntime) -> Result<(), Fail> {
     assert!(rt; is_spelled_again::<(Kind, Option<bool>)>(alloc, &[1, 1, 0])?);
     assert!(rt; is_spelled_again::<List<u32>>(alloc, &[0, 0, 0, 0, 0, 0, 0, 1, 0, 0, 0, 5])?);
     assert!(rt; is_spelled_again::<Session>(alloc, &[3, 232])?);
+    Ok(())
+}
+
+#[test]
+fn rows(rt: HostRuntime) -> Result<(), Fail> {
+    let table: [&[u8]; 2] = [
+        &[
+            0, 0, 0, 0, 0, 0, 0, 0, 0, 0, 1, 0, 0, 0, 0, 0, 0, 0, 0, 0, 0, 0, 0, 0,
+        ],
+        &[
+            15, 255, 255, 255, 255, 255, 255, 255, 255, 3, 232, 6, 0, 5, 1, 255, 255, 255, 255,
+            255, 255, 255, 255, 1, 1, 1, 15, 0, 0, 0, 0, 0, 0, 0, 9,
+        ],
+    ];
+    assert!(rt; are_spelled_again::<Row>(rt.alloc(), &table)?);
+    Ok(())
+}
+
+#[test]
+fn nodes(rt: HostRuntime) -> Result<(), Fail> {
+    let table: [&[u8]; 2] = [
+        &[
+            1, 0, 0, 0, 0, 0, 0, 0, 0, 0, 0, 0, 0, 0, 0, 0, 0, 0, 0, 0, 0, 0, 0, 0, 0, 0, 0, 0, 0,
+            0, 0, 0, 0, 0,
+        ],
+        &[
+            0, 1, 0, 1, 33, 0, 0, 0, 0, 0, 0, 0, 1, 1, 33, 1, 0, 0, 0, 9, 0, 0, 0, 0, 0, 0, 0, 9,
+            255, 255, 255, 255, 255, 255, 255, 255, 0, 0, 0, 0, 0, 0, 0, 1, 3, 232, 255, 255, 255,
+            255, 63,
+        ],
+    ];
+    assert!(rt; are_spelled_again::<Node>(rt.alloc(), &table)?);
+    Ok(())
+}
+
+#[test]
+fn next_numbers(rt: HostRuntime) -> Result<(), Fail> {
+    let alloc = rt.alloc();
+    let table: [(&[u8], u64); 3] = [
+        (&[0, 0, 0, 0, 0, 0, 0, 1], 1),
+        (&[0, 0, 0, 0, 255, 255, 255, 255], 4294967295),
+        (&[0, 0, 0, 1, 0, 0, 0, 0], 4294967296),
+    ];
+    for (bytes, next) in &table {
+        let (found, rest) = next_of(alloc, bytes)?;
+        assert_eq!(rt; found, *next);
+        assert!(rt; rest.is_empty());
+        let mut out = Vec::new(alloc);
+        put_next(*next, &mut out)?;
+        assert!(rt; out.as_slice() == *bytes);
+    }
+    let faults: [(&[u8], usize); 5] = [
+        (&[0, 0, 1, 0, 0, 0, 0, 0], 6),
+        (&[0, 0, 0, 2, 0, 0, 0, 0], 5),
+        (&[0, 0, 0, 1, 0, 0, 1, 0], 2),
+        (&[0, 0, 0, 0, 0, 0, 0, 0], 1),
+        (&[0, 0, 0, 1, 0, 0, 0], 0),
+    ];
+    for (bytes, left) in &faults {
+        assert_eq!(rt; next_of(alloc, bytes).err(), Some(stop(false, *left)));
+    }
     Ok(())
 }
 

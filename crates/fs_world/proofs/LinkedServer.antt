@@ -88,6 +88,7 @@ joined_down (Client s, msg.Answer a) seats t h = at (get seats s.0)
     at None = h
     at (Some seat) = joined_still seats s t (record seat { down = seat.down ++ a ∷ [] }) h
 joined_down (Client s, msg.Client m) seats t h = h
+joined_down (Client s, msg.Peer m) seats t h = h
 joined_down (Server k, m) seats t h = h
 
 pub joined_downs : (xs : List (Peer × Msg)) (seats : Seats) (t : Session) → HasJoined seats t → HasJoined (with_downs xs seats) t
@@ -97,6 +98,7 @@ joined_downs (x ∷ xs) seats t h = joined_downs xs (with_down x seats) t (joine
 still_answer : (x y : Peer × Msg) (seats : Seats) → IsAnswerTo (HasJoined seats) y → IsAnswerTo (HasJoined (with_down x seats)) y
 still_answer x (Client t, msg.Answer a) seats h = joined_down x seats t h
 still_answer x (Client t, msg.Client m) seats h = h
+still_answer x (Client t, msg.Peer m) seats h = h
 still_answer x (Server k, m) seats h = h
 
 pub still_answers : (x : Peer × Msg) (ys : List (Peer × Msg)) (seats : Seats) → AreAnswersTo (HasJoined seats) ys → AreAnswersTo (HasJoined (with_down x seats)) ys
@@ -107,6 +109,7 @@ tied_down : (x : Peer × Msg) (post : Links) (seats : Seats) (packets : List Sen
     → AreTied post seats packets → AreTied (post_pushed post x.0 (message x.1)) (with_down x seats) packets
 tied_down (Client s, msg.Answer a) post seats packets joined readable written room h = tied_answer s a post seats packets joined readable written room h
 tied_down (Client s, msg.Client m) post seats packets joined readable written room h = absurd joined
+tied_down (Client s, msg.Peer m) post seats packets joined readable written room h = absurd joined
 tied_down (Server k, m) post seats packets joined readable written room h = absurd joined
 
 -- one after another

@@ -79,6 +79,7 @@ module _ (up : List ClientMsg) (k : ℕ) where
       ∙ in_either_order a s.0 seats
       ∙ ap (changed (with_up up) k) (sym (answered_at (get seats s.0) s.0 a seats))
   down_crosses (Client s, msg.Client m) seats = refl
+  down_crosses (Client s, msg.Peer m) seats = refl
   down_crosses (Server j, m) seats = refl
 
   downs_cross : (xs : List (Peer × Msg)) (seats : Seats) → with_downs xs (changed (with_up up) k seats) ≡ changed (with_up up) k (with_downs xs seats)
@@ -95,6 +96,7 @@ up_stays a false o = refl
 down_keeps : (x : Peer × Msg) (seats : Seats) (k : ℕ) → up_of (get (with_down x seats) k) ≡ up_of (get seats k)
 down_keeps (Client s, msg.Answer a) seats k = ap (λ (m : Seats). up_of (get m k)) (answered_at (get seats s.0) s.0 a seats) ∙ ap up_of (get_changed (with_answer a) s.0 seats k) ∙ up_stays a _ (get seats k)
 down_keeps (Client s, msg.Client m) seats k = refl
+down_keeps (Client s, msg.Peer m) seats k = refl
 down_keeps (Server j, m) seats k = refl
 
 downs_keep : (xs : List (Peer × Msg)) (seats : Seats) (k : ℕ) → up_of (get (with_downs xs seats) k) ≡ up_of (get seats k)

@@ -39,6 +39,7 @@ answer_seen term seats s a (Some seat) at h = ends_changed term seats s seat (re
 down_seen : (term : ℕ) (seats : Seats) (m : Peer × Msg) (rest : List (Peer × Msg)) → IsAnswerTo (HasJoined seats) m → with_sent rest (ends_of term (with_down m seats)) ≡ with_sent (m ∷ rest) (ends_of term seats)
 down_seen term seats (Client s, msg.Answer a) rest h = ap (with_sent rest) (answer_seen term seats s a (get seats s.0) refl h)
 down_seen term seats (Client s, msg.Client m) rest h = refl
+down_seen term seats (Client s, msg.Peer m) rest h = refl
 down_seen term seats (Server k, m) rest h = refl
 
 -- ## All of them

@@ -237,5 +237,6 @@ fn spelled(alloc: Global, m: ClientMsg) -> Result<(ClientMsg, Vec<u8>), Memory>
     match whole {
         Msg::Client(m) => Ok((m, text)),
         Msg::Answer(_answer) => unreachable!(),
+        Msg::Peer(_message) => unreachable!(),
     }
 }

@@ -154,7 +154,7 @@ fn read_message(alloc: Global, joined: &Joined) -> Result<Option<ClientMsg>, Mem
     };
     match read_whole(alloc, bytes.as_slice()) {
         Ok(Msg::Client(m)) => Ok(Some(m)),
-        Ok(Msg::Answer(_)) => Ok(None),
+        Ok(Msg::Answer(_) | Msg::Peer(_)) => Ok(None),
         Err(MsgError::Memory) => Err(Memory),
         Err(_) => Ok(None),
     }

@@ -85,7 +85,7 @@ fn read_answer(alloc: Global, joined: &Joined) -> Result<Option<Answer>, Memory>
     };
     match read_whole(alloc, bytes.as_slice()) {
         Ok(Msg::Answer(a)) => Ok(Some(a)),
-        Ok(Msg::Client(_)) => Ok(None),
+        Ok(Msg::Client(_) | Msg::Peer(_)) => Ok(None),
         Err(MsgError::Memory) => Err(Memory),
         Err(_) => Ok(None),
     }

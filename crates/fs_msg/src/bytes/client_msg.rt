@@ -21,7 +21,7 @@ pub(crate) fn is_client_tag(b: u8) -> bool
 }
 
 /// Adds the spelling of a client's request at the end.
-#[tactic(auto, unfolding(crate::specs::Spelling::client_message), using(crate::proofs::Readable::always_pairs))]
+#[tactic(auto, unfolding(crate::specs::Spelling::client_message), using(fs_wire::proofs::Readable::always_pairs))]
 pub(crate) fn put_client(m: &ClientMsg, out: &mut Vec<u8>) -> Result<(), AllocError>
     ensures text { OnOk result (out.new.items ≡ out.old.items ++ client_message m.now) }
     ensures fits { OnOk result (is_readable_request m.now ≡ true → FitsClientMessage m.now) }

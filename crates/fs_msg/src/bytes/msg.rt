@@ -1,5 +1,5 @@
 //! Messages as bytes.
-ghost use Rattle.std.specs.Prelude.{true};
+ghost use Rattle.std.specs.Prelude.{◌≡◌, true};
 ghost use Rattle.fs_wire.specs.Readers.{Gives, one_at};
 ghost use Rattle.fs_msg.specs.Spelling.{message};
 ghost use Rattle.fs_msg.specs.Reading.{is_message_tag, message_at};
@@ -8,9 +8,17 @@ ghost use Rattle.fs_msg.specs.Readable.{is_readable};
 
 use crate::bytes::answer::{answer_of, is_answer_tag, put_answer};
 use crate::bytes::client_msg::{client_of, is_client_tag, put_client};
+use crate::bytes::peer_msg::{is_peer_tag, peer_of, put_peer};
 use crate::msg::Msg;
 use fs_wire::{ReadError, Wire, stop};
 use std::alloc::{AllocError, Global};
+
+/// Whether a message has the tag.
+fn is_message_tag(b: u8) -> bool
+    ensures { result ≡ is_message_tag b }
+{
+    is_client_tag(b) || is_answer_tag(b) || is_peer_tag(b)
+}
 
 /// The tag of a message.
 #[tactic(auto, unfolding(fs_wire::specs::Readers::one_at))]
@@ -19,7 +27,7 @@ fn message_tag_of(bytes: &[u8]) -> Result<(u8, &[u8]), ReadError>
 {
     match bytes {
         [] => Err(stop(true, 0)),
-        [first, rest @ ..] if is_client_tag(*first) || is_answer_tag(*first) => Ok((*first, rest)),
+        [first, rest @ ..] if is_message_tag(*first) => Ok((*first, rest)),
         [_, ..] => Err(stop(true, bytes.len())),
     }
 }
@@ -38,6 +46,7 @@ impl Wire for Msg {
         match self {
             Msg::Client(m) => put_client(m, out),
             Msg::Answer(a) => put_answer(a, out),
+            Msg::Peer(m) => put_peer(m, out),
         }
     }
 
@@ -48,7 +57,11 @@ impl Wire for Msg {
             let (m, rest) = client_of(alloc, tag, rest)?;
             return Ok((Msg::Client(m), rest));
         }
-        let (a, rest) = answer_of(alloc, tag, rest)?;
-        Ok((Msg::Answer(a), rest))
+        if is_answer_tag(tag) {
+            let (a, rest) = answer_of(alloc, tag, rest)?;
+            return Ok((Msg::Answer(a), rest));
+        }
+        let (m, rest) = peer_of(alloc, tag, rest)?;
+        Ok((Msg::Peer(m), rest))
     }
 }

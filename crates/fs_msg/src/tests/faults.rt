@@ -55,6 +55,8 @@ fn faults_of_an_ask(rt: HostRuntime) -> Result<(), Fail> {
 0 21 Some(Tag { at: 0 })\n\
 0 22 Some(Trailing { at: 10 })\n\
 0 23 Some(Tag { at: 0 })\n\
+0 37 Some(Short)\n\
+0 38 Some(Tag { at: 0 })\n\
 1 0 None\n\
 1 1 Some(Short)\n\
 2 0 None\n\
@@ -107,6 +109,8 @@ fn faults_of_a_renewal(rt: HostRuntime) -> Result<(), Fail> {
 0 21 Some(Tag { at: 0 })\n\
 0 22 Some(Trailing { at: 10 })\n\
 0 23 Some(Tag { at: 0 })\n\
+0 37 Some(Range { at: 22 })\n\
+0 38 Some(Tag { at: 0 })\n\
 1 0 None\n\
 1 1 Some(Short)\n\
 2 0 None\n\
@@ -166,6 +170,8 @@ fn faults_of_a_grant(rt: HostRuntime) -> Result<(), Fail> {
 0 21 Some(Tag { at: 0 })\n\
 0 22 Some(Trailing { at: 10 })\n\
 0 23 Some(Tag { at: 0 })\n\
+0 37 Some(Range { at: 29 })\n\
+0 38 Some(Tag { at: 0 })\n\
 1 0 None\n\
 1 1 Some(Short)\n\
 2 0 None\n\
@@ -317,6 +323,8 @@ fn faults_of_an_end(rt: HostRuntime) -> Result<(), Fail> {
 0 21 Some(Tag { at: 0 })\n\
 0 22 Some(Trailing { at: 10 })\n\
 0 23 Some(Tag { at: 0 })\n\
+0 37 Some(Range { at: 18 })\n\
+0 38 Some(Tag { at: 0 })\n\
 1 0 None\n\
 2 0 None\n\
 3 0 None\n\
@@ -362,6 +370,8 @@ fn faults_of_a_shipped_reap(rt: HostRuntime) -> Result<(), Fail> {
 0 21 Some(Tag { at: 0 })\n\
 0 22 Some(Trailing { at: 10 })\n\
 0 23 Some(Tag { at: 0 })\n\
+0 37 Some(Range { at: 16 })\n\
+0 38 Some(Tag { at: 0 })\n\
 1 0 None\n\
 1 1 Some(Short)\n\
 2 0 None\n\

@@ -8,7 +8,7 @@ use std::alloc::Global;
 use std::test::*;
 
 /// Whether all of the bytes are read as a message whose twin is written as these bytes again.
-fn is_spelled_again(alloc: Global, bytes: &[u8]) -> Result<bool, Memory> {
+pub(crate) fn is_spelled_again(alloc: Global, bytes: &[u8]) -> Result<bool, Memory> {
     let Ok(message) = read_whole(alloc, bytes) else {
         return Ok(false);
     };

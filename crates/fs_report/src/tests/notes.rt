@@ -1,15 +1,15 @@
 use crate::notes::put_note;
 use crate::tests::{id, name};
 use fs_field::{Field, LeaseKind, Need};
-use fs_ident::{LeaseNo, List, TxnNo};
+use fs_ident::{LeaseNo, List, PathNo, TxnNo};
 use fs_model::Reply;
 use fs_modes::Mode;
-use fs_msg::{Act, Busy, ClientNote, End, Note, ServerNote};
+use fs_msg::{Act, Busy, ClientNote, End, Note, Refusal, ServerNote};
 use std::alloc::Global;
 use std::test::Fail;
 
 /// The texts of notes, by their numbers.
-const NOTES: [&[u8]; 35] = [
+const NOTES: [&[u8]; 42] = [
     b"grants 3 all",
     b"grants 1 wait s0.2",
     b"grants 0 locked s0#1",
@@ -45,6 +45,13 @@ const NOTES: [&[u8]; 35] = [
     b"none",
     b"part",
     b"strange",
+    b"installs /1",
+    b"moves /1 s1",
+    b"stays notmine /1 s1",
+    b"stays nofile",
+    b"stays same",
+    b"stays busy s0#1",
+    b"stays paths s0@1",
 ];
 
 /// Why an answer goes no further, by the number of the note that says so.
@@ -110,6 +117,45 @@ fn server_note(alloc: Global, k: u64) -> Result<ServerNote, Fail> {
         10 => Ok(ServerNote::Recalls { count: 1 }),
         11 => Ok(ServerNote::Idle),
         _ => Ok(ServerNote::Strange),
+    }
+}
+
+/// Why a server keeps what it was to hand over, by the number of the note that says so.
+fn refusal(alloc: Global, k: u64) -> Result<Refusal, Fail> {
+    match k {
+        37 => Ok(Refusal::NotMine {
+            prefix: id(alloc, b"/1")?,
+            to: 1,
+        }),
+        38 => Ok(Refusal::NoFile),
+        39 => Ok(Refusal::Same),
+        40 => Ok(Refusal::Busy {
+            txn: TxnNo {
+                server: 0,
+                count: 1,
+            },
+        }),
+        _ => Ok(Refusal::Paths {
+            no: PathNo {
+                server: 0,
+                count: 1,
+            },
+        }),
+    }
+}
+
+fn note_of_a_move(alloc: Global, k: u64) -> Result<ServerNote, Fail> {
+    match k {
+        35 => Ok(ServerNote::Installs {
+            prefix: id(alloc, b"/1")?,
+        }),
+        36 => Ok(ServerNote::Moves {
+            prefix: id(alloc, b"/1")?,
+            to: 1,
+        }),
+        _ => Ok(ServerNote::Stays {
+            refusal: refusal(alloc, k)?,
+        }),
     }
 }
 
@@ -191,7 +237,8 @@ fn note(alloc: Global, k: u64) -> Result<Note, Fail> {
         23..=31 => Ok(Note::Act(act(alloc, k)?)),
         32 => Ok(Note::None),
         33 => Ok(Note::Part),
-        _ => Ok(Note::Strange),
+        34 => Ok(Note::Strange),
+        _ => Ok(Note::Server(note_of_a_move(alloc, k)?)),
     }
 }
 

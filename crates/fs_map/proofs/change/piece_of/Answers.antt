@@ -1,29 +1,18 @@
-use Rattle.std.proofs.Common.{◌∙◌, ◌≡◌, ◌+◌, ◌∷◌, [], ◌++◌, ap, rules, drop, arith}
-use Rattle.fs_map.proofs.Changing.{next_item, passed_all, piece_begun, piece_order, piece_kept, piece_listed, piece_ended}
+use Rattle.std.proofs.Common.{ℕ, List, ◌∙◌, ap, subst, sym}
+use Rattle.std.specs.Prelude.{slice_range}
+use Rattle.fs_map.specs.Map.{IsPiece, gives}
+use Rattle.fs_map.specs.Part.{IsPartOf}
+use Rattle.fs_map.proofs.Owned.{piece_piece}
+use Rattle.fs_map.proofs.Spans.{span_part}
 use Rattle.fs_map.proofs.change.piece_of.Goals as goal
-use Rattle.fs_map.proofs.change.piece_of.Goals.{in-Some+in_ok-copy-2+in_ok-push-2, in_default}
 
-pub loop-place-init : goal.loop-place-init
-loop-place-init c = record { listed = piece_begun c.args.owners.now c.args.me c.args.prefix.now _ c.requires.mine (search rules); order = c.requires.map.ordered }
-
-pub loop-place-preserved : goal.loop-place-preserved
-loop-place-preserved c =
-    let here : drop c.loop-place.place-index c.args.owners.now ≡ c.loop-place-item.result ∷ drop (c.loop-place.place-index + 1) c.args.owners.now =
-    next_item c.args.owners.now c.loop-place.place-index c.loop-place-item.result (omega arith) c.loop-place-item.is in
-    let order = piece_order c.args.owners.now c.args.me c.args.prefix.now c.loop-place.given _ _ _ c.loop-place.invariant.listed c.loop-place.invariant.order here in
-    elim c.match-turned_given.branch [
-      | in-Some+in_ok-copy-2+in_ok-push-2 w ↦ record {
-        listed = piece_listed c.args.owners.now c.args.me c.args.prefix.now c.loop-place.given _ _ _ c.loop-place.invariant.listed c.loop-place.invariant.order here w.in-Some.turned _ (search rules) (w.given-is ∙ w.in_ok-push-2.ensures.ok ∙ ap (λ k. c.loop-place.given ++ (k, w.in-Some.turned) ∷ []) w.in_ok-copy-2.ensures);
-        order = order;
-      }
-      | in_default w ↦ record {
-        listed = piece_kept c.args.owners.now c.args.me c.args.prefix.now c.loop-place.given _ _ _ c.loop-place.invariant.listed c.loop-place.invariant.order here _ w.given-is (search rules);
-        order = order;
-      }
-    ]
+pub given_of-requires-clause-part : goal.given_of-requires-clause-part
+given_of-requires-clause-part c =
+    subst (λ (p : List ℕ). IsPartOf p (slice_range c.args.owners.now c.span-start.result.0 c.span-start.result.1) c.args.owners.now) c.numbers.ensures.same
+    (span_part c.args.owners.now c.numbers.result.now c.span-start.result.0 c.span-start.result.1 c.requires.map.ordered c.span-start.ensures)
 
 pub returns-clause-piece : goal.returns-clause-piece
-returns-clause-piece c = (piece_ended c.args.owners.now c.args.me c.args.prefix.now _ _ c.loop-place.invariant.listed (passed_all c.args.owners.now c.loop-place.place-index (omega arith))).0
+returns-clause-piece c = subst (IsPiece c.args.prefix.now) (sym c.in_ok-given.ensures) (piece_piece c.args.owners.now c.args.me c.args.prefix.now c.requires.mine).0
 
 pub returns-clause-given : goal.returns-clause-given
-returns-clause-given c = (piece_ended c.args.owners.now c.args.me c.args.prefix.now _ _ c.loop-place.invariant.listed (passed_all c.args.owners.now c.loop-place.place-index (omega arith))).1
+returns-clause-given c id = ap (λ l. gives c.args.prefix.now l id) c.in_ok-given.ensures ∙ (piece_piece c.args.owners.now c.args.me c.args.prefix.now c.requires.mine).1 id

@@ -1,4 +1,4 @@
-use Rattle.fs_record.proofs.Selves.{selves_told, selves_rise}
+use Rattle.fs_record.proofs.BySession.{selves_told, selves_rise}
 use Rattle.fs_record.proofs.law.selves_are_by_session.Goals as goal
 
 pub returns-clause-told : goal.returns-clause-told

@@ -1,5 +1,5 @@
 use Rattle.std.proofs.Common.{◌∙◌}
-use Rattle.fs_moderows.proofs.Tables.{all_live}
+use Rattle.fs_rows.proofs.Goes.{all_live}
 use Rattle.fs_moderows.proofs.live.Live.all.Goals as goal
 
 pub returns : goal.returns

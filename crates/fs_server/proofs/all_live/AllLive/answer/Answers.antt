@@ -1,7 +1,7 @@
 use Rattle.std.proofs.Common.{◌∙◌}
 use Rattle.fs_rows.specs.Answer.{answer}
 use Rattle.fs_server.specs.Rows.{both}
-use Rattle.fs_server.proofs.Both.{told_off}
+use Rattle.fs_parcel.proofs.Both.{told_off}
 use Rattle.fs_server.proofs.Parts.{answer_off}
 use Rattle.fs_server.proofs.all_live.AllLive.answer.Goals as goal
 

@@ -1,7 +1,7 @@
 use Rattle.std.proofs.Common.{◌∙◌}
 use Rattle.fs_moderows.specs.Answer.{answer_self}
 use Rattle.fs_server.specs.Rows.{both}
-use Rattle.fs_server.proofs.Both.{told_on}
+use Rattle.fs_parcel.proofs.Both.{told_on}
 use Rattle.fs_server.proofs.Parts.{answer_self_modes}
 use Rattle.fs_server.proofs.all_live.AllLive.answer_self.Goals as goal
 

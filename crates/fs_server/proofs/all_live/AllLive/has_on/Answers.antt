@@ -3,7 +3,7 @@ use Rattle.std.specs.List.{list_any}
 use Rattle.fs_field.specs.Field.{same_field}
 use Rattle.fs_field.specs.declared.row.Row.{Row}
 use Rattle.fs_server.specs.Rows.{both}
-use Rattle.fs_server.proofs.Both.{told_off}
+use Rattle.fs_parcel.proofs.Both.{told_off}
 use Rattle.fs_server.proofs.Parts.{has_on_off}
 use Rattle.fs_server.proofs.all_live.AllLive.has_on.Goals as goal
 

@@ -2,7 +2,7 @@ use Rattle.std.proofs.Common.{ap, sym, ◌∙◌}
 use Rattle.std.specs.List.{find}
 use Rattle.fs_field.specs.Table.{has_no}
 use Rattle.fs_server.specs.Rows.{both}
-use Rattle.fs_server.proofs.Both.{off_part, on_part}
+use Rattle.fs_parcel.proofs.Both.{off_part, on_part}
 use Rattle.fs_server.proofs.Parts.{named_off, named_on}
 use Rattle.fs_server.proofs.all_live.AllLive.row.Goals as goal
 

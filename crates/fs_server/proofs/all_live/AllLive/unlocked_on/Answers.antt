@@ -4,7 +4,7 @@ use Rattle.fs_ident.specs.declared.actor.LeaseNo.{LeaseNo}
 use Rattle.fs_ident.specs.declared.actor.Session.{Session}
 use Rattle.fs_rows.specs.Live.{unlocked_on}
 use Rattle.fs_server.specs.Rows.{both}
-use Rattle.fs_server.proofs.Both.{told_off, told_on}
+use Rattle.fs_parcel.proofs.Both.{told_off, told_on}
 use Rattle.fs_server.proofs.Parts.{unlocked_off, unlocked_on_modes}
 use Rattle.fs_server.proofs.all_live.AllLive.unlocked_on.Goals as goal
 

@@ -3,7 +3,7 @@ use Rattle.std.specs.List.{filter}
 use Rattle.fs_field.specs.Table.{is_live}
 use Rattle.fs_rows.specs.Granted.{with_rows}
 use Rattle.fs_server.specs.Rows.{AreRows, both}
-use Rattle.fs_server.proofs.Both.{AreBoth, after, takes_off, takes_on, takes_all, taken, either_both, ok_both}
+use Rattle.fs_parcel.proofs.Both.{AreBoth, after, takes_off, takes_on, takes_all, taken, either_both, ok_both}
 use Rattle.fs_server.proofs.all_rows.AllRows.grant_all.Goals as goal
 
 pub grant_all-requires-clause-table : goal.grant_all-requires-clause-table

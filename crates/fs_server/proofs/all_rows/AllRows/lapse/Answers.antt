@@ -2,8 +2,8 @@ use Rattle.std.proofs.Common.{ap, sym, ◌∙◌, subst}
 use Rattle.std.specs.List.{filter}
 use Rattle.fs_field.specs.Table.{is_live}
 use Rattle.fs_server.specs.Rows.{AreRows, both}
-use Rattle.fs_server.proofs.Both.{filtered_both}
-use Rattle.fs_server.proofs.Kept.{filtered_rows}
+use Rattle.fs_parcel.proofs.Both.{filtered_both}
+use Rattle.fs_parcel.proofs.Both.{filtered_rows}
 use Rattle.fs_server.proofs.all_rows.AllRows.lapse.Goals as goal
 
 pub returns : goal.returns

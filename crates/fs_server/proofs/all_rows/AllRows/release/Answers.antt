@@ -2,8 +2,8 @@ use Rattle.std.proofs.Common.{not, ap, sym, ◌∙◌, subst}
 use Rattle.std.specs.List.{filter}
 use Rattle.fs_field.specs.Table.{has_no}
 use Rattle.fs_server.specs.Rows.{AreRows, both}
-use Rattle.fs_server.proofs.Both.{filtered_both}
-use Rattle.fs_server.proofs.Kept.{filtered_rows}
+use Rattle.fs_parcel.proofs.Both.{filtered_both}
+use Rattle.fs_parcel.proofs.Both.{filtered_rows}
 use Rattle.fs_server.proofs.all_rows.AllRows.release.Goals as goal
 
 pub returns : goal.returns

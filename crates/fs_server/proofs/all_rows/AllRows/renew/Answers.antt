@@ -1,7 +1,7 @@
 use Rattle.std.proofs.Common.{ap, sym, ◌∙◌, subst, map}
 use Rattle.fs_field.specs.Table.{renewed_row}
 use Rattle.fs_server.specs.Rows.{AreRows, both}
-use Rattle.fs_server.proofs.Both.{renewed_both, renewed_if}
+use Rattle.fs_parcel.proofs.Both.{renewed_both, renewed_if}
 use Rattle.fs_server.proofs.Kept.{renewed_in_order}
 use Rattle.fs_server.proofs.all_rows.AllRows.renew.Goals as goal
 

@@ -1,0 +1,42 @@
+-- Messages between servers behind their tags, and what they carry.
+use Rattle.std.proofs.Common.{◌≡◌, ℕ, Bool, true, List, ◌++◌, refl, arith}
+use Rattle.std.proofs.lemmas.Bool.{eqb-true}
+use Rattle.fs_msg.specs.declared.peer_msg.PeerMsg.{PeerMsg}
+use Rattle.fs_msg.specs.declared.peer_msg.PeerMsg.TheVariants as peer_
+use Rattle.fs_wire.specs.Tags.{plain}
+use Rattle.fs_wire.proofs.Readers.{IsOne, IsReader}
+use Rattle.fs_wire.proofs.Says.{says-map}
+use Rattle.fs_wire.proofs.Behind.{IsBehind, behind}
+use Rattle.fs_wire.proofs.Wires.{Spelled, IsWire, arm, pair-wire, plain-pair, remade}
+use Rattle.fs_wire.proofs.NumberWires.{list-wire, plain-list}
+use Rattle.fs_wire.proofs.SmallWires.{truth-wire}
+use Rattle.fs_wire.proofs.NameWires.{identifier-wire}
+use Rattle.fs_wire.proofs.NextWires.{next-wire}
+use Rattle.fs_wire.proofs.RowWires.{node-wire, row-wire}
+use Rattle.fs_msg.specs.Spelling.{file_record, piece, parcel, peer_message}
+use Rattle.fs_msg.specs.Ranges.{FitsRecord, FitsPiece, FitsParcel, FitsPeerMessage}
+use Rattle.fs_msg.specs.Tags.{parcel_tags, peer_tags}
+use Rattle.fs_msg.specs.Reading.{record_at, piece_at, parcel_at, is_peer_tag, peer_of}
+
+pub record-wire : IsWire record_at FitsRecord file_record (λ r. plain (file_record r))
+unfolding record_at file_record
+record-wire = remade _ (λ r. (r.node, r.next)) FitsRecord file_record (λ r. plain (file_record r)) (plain-pair node-wire next-wire)
+    (λ v f. record { node = f.0; next = f.1 }) (λ w f. (f.node, f.next)) (λ v. refl) (λ w s. s)
+
+pub piece-wire : IsWire piece_at FitsPiece piece (λ p. plain (piece p))
+unfolding piece_at piece
+piece-wire = remade _ (λ p. (p.prefix, p.given)) FitsPiece piece (λ p. plain (piece p)) (plain-pair identifier-wire (plain-list (plain-pair identifier-wire truth-wire)))
+    (λ v f. record { prefix = f.0; given = f.1 }) (λ w f. (f.prefix, f.given)) (λ v. refl) (λ w s. s)
+
+pub parcel-wire : IsWire parcel_at FitsParcel parcel parcel_tags
+unfolding parcel_at parcel parcel_tags
+parcel-wire = remade _ (λ p. (p.prefix, (p.piece, (p.records, p.rows)))) FitsParcel parcel parcel_tags (pair-wire identifier-wire (pair-wire piece-wire (pair-wire (plain-list (plain-pair identifier-wire record-wire)) (list-wire row-wire))))
+    (λ v f. record { prefix = f.0; piece = f.1.0; records = f.1.1.0; rows = f.1.1.1 }) (λ w f. (f.prefix, (f.piece, (f.records, f.rows)))) (λ v. refl) (λ w s. s)
+
+pub peer-reads : {test : ℕ → Bool} (tag : ℕ) (t : List ℕ) → IsOne test tag t → is_peer_tag tag ≡ true → IsReader (peer_of tag) (λ w u. Spelled FitsPeerMessage peer_message w (t ++ u))
+unfolding peer_message
+peer-reads tag t q passes = arm _ 37 q (eqb-true tag 37 passes) parcel-wire (λ v f. f) (λ v. refl)
+
+pub peer-says : (m : PeerMsg) → FitsPeerMessage m → IsBehind peer_of is_peer_tag m (peer_message m) (peer_tags m)
+unfolding peer_message peer_tags
+peer-says (peer_.Parcel p) fits = behind 37 (omega arith) refl (says-map (λ x. peer_.Parcel x) (parcel-wire.says p fits)) refl refl

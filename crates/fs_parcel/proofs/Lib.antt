@@ -1,0 +1,12 @@
+pub mod Both
+pub mod Locks
+pub mod Merging
+pub mod Coming
+pub mod Formed
+pub mod Installed
+pub mod Fitted
+pub mod Distinct
+pub mod Refused
+pub mod Parting
+pub mod Quiet
+pub mod Moved

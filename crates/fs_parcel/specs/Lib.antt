@@ -1,0 +1,4 @@
+pub mod Rows
+pub mod Parcel
+-- cited by private calls alone
+pub mod Merged

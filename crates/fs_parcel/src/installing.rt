@@ -1,0 +1,87 @@
+//! Parcels, installed where they come.
+ghost use Rattle.std.specs.Prelude.{◌≡◌, true, OnOk, OnErr};
+ghost use Rattle.std.specs.List.{filter};
+ghost use Rattle.fs_field.specs.Table.{is_live};
+ghost use Rattle.fs_map.specs.Lists.{map_after_take};
+ghost use Rattle.fs_record.specs.Moving.{AreEachRecords, with_records};
+ghost use Rattle.fs_rows.specs.Granted.{with_rows};
+ghost use Rattle.fs_parcel.specs.Parcel.{fits};
+ghost use Rattle.fs_parcel.specs.Rows.{AreRows, both, rows_off_modes, rows_on_modes};
+
+use crate::parts::Parts;
+use crate::tables::both_tables;
+use fs_ident::Memory;
+use fs_map::FileMap;
+use fs_moderows::ModeRows;
+use fs_record::{Parcel, Records};
+use fs_rows::Rows;
+use std::alloc::Global;
+
+/// Puts all of the parcel in its place at `me`, which manages what it gives from now on. `Memory` where memory is
+/// wanting; all is as it was then.
+pub fn install(
+    alloc: Global,
+    records: &mut Records,
+    rows: &mut Rows,
+    modes: &mut ModeRows,
+    map: &mut FileMap,
+    me: u8,
+    p: Parcel,
+) -> Result<(), Memory>
+    requires fits { fits records.old (both rows.old modes.old) map.old me p ≡ true }
+    requires nexts { AreEachRecords p.records }
+    requires rows { AreRows (both rows.old modes.old) }
+    ensures records { OnOk result (records.new ≡ with_records p.records records.old) }
+    ensures rows { OnOk result (rows.new ≡ with_rows (rows_off_modes p.rows) rows.old) }
+    ensures modes { OnOk result (modes.new ≡ with_rows (rows_on_modes p.rows) modes.old) }
+    ensures map { OnOk result (map.new ≡ map_after_take map.old me p.prefix p.piece.given) }
+    ensures err_records { OnErr result (records.new ≡ records.old) }
+    ensures err_rows { OnErr result (rows.new ≡ rows.old) }
+    ensures err_modes { OnErr result (modes.new ≡ modes.old) }
+    ensures err_map { OnErr result (map.new ≡ map.old) }
+{
+    install_at(alloc, records, rows, modes, map, me, 0, 1, p)
+}
+
+/// The same at the reading `now`: the rows that are over are dropped, as `lapse` does.
+pub fn install_at(
+    alloc: Global,
+    records: &mut Records,
+    rows: &mut Rows,
+    modes: &mut ModeRows,
+    map: &mut FileMap,
+    me: u8,
+    now: u64,
+    skew: u64,
+    p: Parcel,
+) -> Result<(), Memory>
+    requires fits { fits records.old (filter (is_live now skew) (both rows.old modes.old)) map.old me p ≡
+        true }
+    requires nexts { AreEachRecords p.records }
+    requires rows { AreRows (both rows.old modes.old) }
+    ensures records { OnOk result (records.new ≡ with_records p.records records.old) }
+    ensures rows { OnOk result (rows.new ≡
+        with_rows (rows_off_modes p.rows) (filter (is_live now skew) rows.old)) }
+    ensures modes { OnOk result (modes.new ≡
+        with_rows (rows_on_modes p.rows) (filter (is_live now skew) modes.old)) }
+    ensures map { OnOk result (map.new ≡ map_after_take map.old me p.prefix p.piece.given) }
+    ensures err_records { OnErr result (records.new ≡ records.old) }
+    ensures err_rows { OnErr result (rows.new ≡ rows.old) }
+    ensures err_modes { OnErr result (modes.new ≡ modes.old) }
+    ensures err_map { OnErr result (map.new ≡ map.old) }
+{
+    both_tables(rows, modes);
+    let taken = map.with_taken(alloc, me, &p.piece)?;
+    let parts = Parts::of(alloc, p.rows)?;
+    records.join(alloc, p.records)?;
+    match modes.grant_all(alloc, now, skew, parts.on, rows, parts.off) {
+        Ok(()) => {
+            *map = taken;
+            Ok(())
+        }
+        Err(wanting) => {
+            records.leave(&p.piece);
+            Err(wanting)
+        }
+    }
+}

@@ -1,0 +1,26 @@
+//! What one server manages below a prefix, on its way to another.
+//!
+//! A move costs what is below the prefix, and one walk over the rows.
+#![tactic(auto)]
+
+mod error;
+mod fitting;
+mod in_order;
+mod installing;
+mod law;
+mod packing;
+mod parts;
+mod refusing;
+mod tables;
+#[cfg(test)]
+mod tests;
+
+pub use error::MoveError;
+pub use fitting::{fits, fits_at};
+pub use installing::{install, install_at};
+pub use law::{
+    moved_rows_are_in_order, moves_are_without_conflict, packed_parcels_are_formed,
+    what_goes_is_below_the_prefix,
+};
+pub use packing::{pack_up, packed};
+pub use refusing::refusal;

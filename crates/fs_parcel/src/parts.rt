@@ -1,0 +1,79 @@
+//! Rows by table, and the rows of both tables in order.
+ghost use Rattle.std.specs.Prelude.{◌≡◌, ◌+◌, ◌<◌, true, reverse, vec_len, IfOk, IsSome};
+ghost use Rattle.fs_field.specs.Table.{is_ordered};
+ghost use Rattle.fs_parcel.specs.Merged.{AreFalling, IsLeastTaken, is_first};
+ghost use Rattle.fs_parcel.specs.Rows.{both, rows_off_modes, rows_on_modes};
+
+use fs_field::Row;
+use fs_ident::{List, Memory};
+use std::alloc::Global;
+
+/// Rows by table: those on what sessions tell of modes, and all others.
+#[derive(Drop)]
+pub(crate) struct Parts {
+    pub(crate) off: List<Row>,
+    pub(crate) on: List<Row>,
+}
+
+impl Parts {
+    pub(crate) fn of(alloc: Global, rows: List<Row>) -> Result<Parts, Memory>
+        ensures off { IfOk result (λ parts. parts.off ≡ rows_off_modes rows) }
+        ensures on { IfOk result (λ parts. parts.on ≡ rows_on_modes rows) }
+    {
+        let mut off = List::new(alloc);
+        let mut on = List::new(alloc);
+        for row in rows.into_vec() {
+            if row.field.tells_no_mode() {
+                off.push(row)?;
+            } else {
+                on.push(row)?;
+            }
+        }
+        Ok(Parts { off, on })
+    }
+}
+
+/// The rows of two tables, each in order of number, as one list in order.
+pub(crate) fn merged(alloc: Global, off: List<Row>, on: List<Row>) -> Result<List<Row>, Memory>
+    requires off { is_ordered off ≡ true }
+    requires on { is_ordered on ≡ true }
+    requires both { is_ordered (both off on) ≡ true }
+    ensures { IfOk result (λ rows. rows ≡ both off on) }
+{
+    let mut falling_off = off.into_vec();
+    let mut falling_on = on.into_vec();
+    falling_off.reverse();
+    falling_on.reverse();
+    let mut rows = List::new(alloc);
+    while let Some(row) = least(&mut falling_off, &mut falling_on) {
+        rows.push(row)?;
+    }
+    Ok(rows)
+}
+
+/// Takes the row of the least number out of two tables in falling order.
+fn least(off: &mut Vec<Row>, on: &mut Vec<Row>) -> Option<Row>
+    requires { AreFalling off.old.items on.old.items }
+    ensures taken { IsLeastTaken result off.old.items on.old.items off.new.items on.new.items }
+    ensures fewer { IsSome result →
+        vec_len off.new + vec_len on.new < vec_len off.old + vec_len on.old }
+{
+    if is_first(off, on) {
+        off.pop()
+    } else {
+        on.pop()
+    }
+}
+
+/// Whether the last row of the first table comes before that of the second, if there is one.
+fn is_first(off: &[Row], on: &[Row]) -> bool
+    ensures { result ≡ is_first (reverse off.now) (reverse on.now) }
+{
+    let Some((a, _)) = off.split_last() else {
+        return false;
+    };
+    let Some((b, _)) = on.split_last() else {
+        return true;
+    };
+    a.no < b.no
+}

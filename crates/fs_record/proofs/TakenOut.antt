@@ -1,0 +1,83 @@
+-- Records that are taken out one after another.
+use Rattle.std.proofs.Common.{◌≡◌, ◌∙◌, ℕ, List, [], ◌∷◌, ◌++◌, Bool, true, false, refl, ap, ap₂, sym, cond, inl, inr, append-nil}
+use Rattle.std.specs.Prelude.{Option, Some, None, not, ◌||◌, is_some}
+use Rattle.std.specs.List.{list_any}
+use Rattle.std.specs.Map.{keys_of, lookup}
+use Rattle.std.specs.BTreeMap.{BTreeMap, is_at}
+use Rattle.std.specs.Ordering.{nat_cmp, eq_by_cmp}
+use Rattle.std.specs.Cmp.Lexicographic.{slice_cmp, nat_list_cmp_total}
+use Rattle.std.specs.declared.cmp.Ordering.TheVariants.{Equal}
+use Rattle.std.specs.FinMap.{get, remove, get-remove, is_sorted, same_map}
+use Rattle.std.specs.FinMap.Entries.{is_some-find}
+use Rattle.fs_ident.specs.In.{In}
+use Rattle.fs_ident.specs.Ordered.{Keyed}
+use Rattle.fs_ident.proofs.Booleans.{first, second}
+use Rattle.fs_ident.specs.Maps.{map_of}
+use Rattle.fs_ident.proofs.MapsOf.{anti, map_of_get}
+use Rattle.fs_map.specs.Map.{gives}
+use Rattle.fs_record.specs.declared.record.Record.{Record}
+use Rattle.fs_record.specs.Records.{RecordMap}
+use Rattle.fs_record.specs.Moving.{records_given, records_left}
+use Rattle.fs_record.specs.Walk.{left_out, taken_out, with_file}
+use Rattle.fs_record.proofs.Parting.{left_at}
+use Rattle.fs_record.proofs.Returning.{below_each, found_given, given_sorted, other, there}
+
+-- one more is the first of what follows
+pub taken_on : (xs : Keyed Record) (file : List ℕ) (o : Option Record) (rest : Keyed Record) → (xs ++ with_file file o []) ++ rest ≡ xs ++ with_file file o rest
+taken_on [] file None rest = refl
+taken_on [] file (Some r) rest = refl
+taken_on (x ∷ xs) file o rest = ap (λ ys. x ∷ ys) (taken_on xs file o rest)
+
+-- ## What is left
+
+either : (a b : Bool) (o : Option Record) → cond b None (cond a None o) ≡ cond (a || b) None o
+either true true o = refl
+either true false o = refl
+either false b o = refl
+
+left_out_at : (files : List (List ℕ)) (m : RecordMap) (q : List ℕ) → get (left_out files m) q ≡ cond (list_any (eq_by_cmp (slice_cmp nat_cmp) q) files) None (get m q)
+left_out_at [] m q = refl
+left_out_at (f ∷ fs) m q =
+    left_out_at fs (remove m f) q
+    ∙ ap (cond (list_any (eq_by_cmp (slice_cmp nat_cmp) q) fs) None) (get-remove nat_list_cmp_total m f q)
+    ∙ either (eq_by_cmp (slice_cmp nat_cmp) q f) (list_any (eq_by_cmp (slice_cmp nat_cmp) q) fs) (get m q)
+
+gone : (b : Bool) (o : Option Record) → cond (is_some (cond b o None)) None o ≡ cond (not b) o None
+gone true None = refl
+gone true (Some r) = refl
+gone false o = refl
+
+pub left_given : (prefix : List ℕ) (given : Keyed Bool) (m : RecordMap) → left_out (keys_of (records_given prefix given m)) m ≡ records_left prefix given m
+left_given prefix given m = same_map nat_list_cmp_total anti _ _ (λ q.
+    left_out_at (keys_of (records_given prefix given m)) m q
+    ∙ ap (λ b. cond b None (get m q)) (sym (is_some-find (slice_cmp nat_cmp) q (records_given prefix given m)) ∙ ap (λ (o : Option Record). is_some o) (found_given prefix given m q))
+    ∙ gone (gives prefix given q) (get m q)
+    ∙ sym (left_at prefix given m q))
+
+-- ## What is taken
+
+all_taken : (es : Keyed Record) (m : RecordMap) → is_sorted (slice_cmp nat_cmp) es ≡ true → ((e : List ℕ × Record) → In e es → get m e.0 ≡ Some e.1) → taken_out (keys_of es) m ≡ es
+all_taken [] m h f = refl
+all_taken (e ∷ es) m h f =
+    ap (λ o. with_file e.0 o (taken_out (keys_of es) (remove m e.0))) (f e (inl refl))
+    ∙ ap (λ rest. e ∷ rest) (all_taken es (remove m e.0) (second _ _ h) (λ x i.
+    get-remove nat_list_cmp_total m e.0 x.0
+    ∙ ap (λ b. cond b None (get m x.0)) (other e.0 x.0 (below_each e.0 es x (first _ _ h) i))
+    ∙ f x (inr i)))
+
+pub taken_given : (prefix : List ℕ) (given : Keyed Bool) (m : RecordMap) → taken_out (keys_of (records_given prefix given m)) m ≡ records_given prefix given m
+taken_given prefix given m = all_taken (records_given prefix given m) m (given_sorted prefix given m) (λ e i. (there prefix given m e i).0)
+
+-- ## One record
+
+pub taken_one : (m : BTreeMap (List ℕ) Record) (file : List ℕ) (e : List ℕ × Record) → slice_cmp nat_cmp file e.0 ≡ Equal → lookup (is_at (slice_cmp nat_cmp file)) m.entries ≡ Some e.1 → e ∷ [] ≡ with_file file (get (map_of m) file) []
+taken_one m file e t v = ap (λ (k : List ℕ). (k, e.1) ∷ []) (sym (anti file e.0 t)) ∙ ap (λ o. with_file file o []) (sym (map_of_get m file ∙ v))
+
+pub taken_none : (xs : Keyed Record) (m : BTreeMap (List ℕ) Record) (file : List ℕ) → lookup (is_at (slice_cmp nat_cmp file)) m.entries ≡ None → xs ≡ xs ++ with_file file (get (map_of m) file) []
+taken_none xs m file v = sym (append-nil xs) ∙ ap (λ o. xs ++ with_file file o []) (sym (map_of_get m file ∙ v))
+
+-- the files of what goes are taken out
+pub left_these : (prefix : List ℕ) (given : Keyed Bool) (moved : Keyed Record) (inside old : RecordMap) (slice : Keyed Record) (new : RecordMap)
+    → inside ≡ old → slice ≡ moved → moved ≡ records_given prefix given old → new ≡ left_out (keys_of slice) inside → new ≡ records_left prefix given old
+left_these prefix given moved inside old slice new v s r e =
+    e ∙ ap₂ (λ (es : Keyed Record) (m : RecordMap). left_out (keys_of es) m) (s ∙ r) v ∙ left_given prefix given old
