@@ -19,6 +19,7 @@ use crate::plan::{Plan, Ready};
 use crate::state::Client;
 use crate::{acts, answers, commits, turns};
 use fs_ident::{FileId, List, Memory, Session, Twin};
+use fs_map::FileMap;
 use fs_model::Op;
 use fs_msg::{Act, Answer, ClientNote, ClientOut, CoreError};
 use fs_view::View;
@@ -61,6 +62,7 @@ impl ClientCore {
                 view: View::new(alloc, session),
                 log: List::new(alloc),
                 exchange: None,
+                hints: FileMap::new(alloc)?,
                 full: List::new(alloc),
                 next: 1,
                 over: None,

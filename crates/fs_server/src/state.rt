@@ -1,6 +1,7 @@
 //! What a server keeps.
 use crate::all_rows::AllRows;
 use fs_ident::{Memory, Twin};
+use fs_map::FileMap;
 use fs_record::Records;
 use std::alloc::Global;
 
@@ -21,6 +22,8 @@ pub(crate) struct Server {
     pub(crate) reaps: u64,
     pub(crate) rows: AllRows,
     pub(crate) records: Records,
+    /// Which server manages which files, as far as it knows.
+    pub(crate) map: FileMap,
 }
 
 impl Twin for Server {
@@ -34,6 +37,7 @@ impl Twin for Server {
             reaps: self.reaps,
             rows: self.rows.copy(alloc)?,
             records: self.records.copy(alloc)?,
+            map: self.map.copy(alloc)?,
         })
     }
 
