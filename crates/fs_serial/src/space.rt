@@ -1,46 +1,34 @@
 //! The namespace that servers hold.
-ghost use Rattle.std.specs.Prelude.{◌≡◌, IfOk, OnOk};
-ghost use Rattle.std.specs.FinMap as map;
+ghost use Rattle.std.specs.Prelude.{◌≡◌, map, IfOk, OnOk};
+ghost use Rattle.std.specs.FinMap as finite;
+ghost use Rattle.fs_ident.specs.In.{In};
 ghost use Rattle.fs_record.specs.Records.{nodes_of};
-ghost use Rattle.fs_serial.specs.Joined.{with_node};
+ghost use Rattle.fs_record.specs.declared.parcel.Parcel.{Parcel as TheParcel};
+ghost use Rattle.fs_record.specs.Moving.{AreEachRecords};
+ghost use Rattle.fs_serial.specs.Joined.{records_of_all, with_node};
 
-use fs_ident::{FileId, Memory, Twin};
+use fs_ident::{FileId, List, Memory, Twin};
 use fs_model::Space;
-use fs_record::Records;
+use fs_record::{Parcel, Records};
 use fs_server::ServerCore;
 use std::alloc::Global;
 
-/// The namespace that the server's records hold.
-pub fn joined(alloc: Global, server: &ServerCore) -> Result<Space, Memory>
-    ensures { IfOk result (λ space. space ≡ nodes_of server.now.records) }
+/// The namespace that the servers and the parcels on their way between them hold together. Where several have one file, the
+/// last counts: no two of honest servers have.
+pub fn joined(
+    alloc: Global,
+    servers: &List<ServerCore>,
+    flying: &List<Parcel>,
+) -> Result<Space, Memory>
+    requires { (p : TheParcel) → In p flying.now → AreEachRecords p.records }
+    ensures { IfOk result (λ space. space ≡ nodes_of (records_of_all servers.now flying.now)) }
 {
-    space_of(alloc, server.records())
-}
-
-/// The records without their next numbers.
-fn space_of(alloc: Global, records: &Records) -> Result<Space, Memory>
-    ensures { IfOk result (λ space. space ≡ nodes_of records.now) }
-{
-    let files = records.files(alloc)?;
     let mut space = Space::empty(alloc);
-    for file in files.as_slice() {
-        put_node(alloc, records, file, &mut space)?;
+    for server in servers.as_slice() {
+        put_records(alloc, server.records(), &mut space)?;
+    }
+    for parcel in flying.as_slice() {
+        put_all(alloc, parcel.records.as_slice(), &mut space)?;
     }
     Ok(space)
-}
-
-/// Gives the file the node of its record, if it has one.
-fn put_node(
-    alloc: Global,
-    records: &Records,
-    file: &FileId,
-    space: &mut Space,
-) -> Result<(), Memory>
-    ensures { OnOk result (space.new ≡
-        with_node file.now (map.get records.now file.now) space.old) }
-{
-    match records.get(file) {
-        Some(record) => space.put(alloc, file, record.node.copy(alloc)?),
-        None => Ok(()),
-    }
 }
