@@ -23,6 +23,7 @@ use Rattle.fs_client.specs.Client.{committed, first_client}
 use Rattle.fs_client.specs.Turns.{turn_plan}
 use Rattle.fs_client.specs.declared.plan.Plan.{Plan}
 use Rattle.fs_client.specs.declared.state.Client.{Client}
+pub use Rattle.fs_serial.specs.declared.flying.Flying.{Flying}
 use Rattle.fs_serial.specs.World.{is_called, pushed, told_by, with_told}
 
 -- ## What stands in it
@@ -33,12 +34,6 @@ pub record Lines : Type 0 where
   pub client : Client
   pub up : List (ℕ × ClientMsg)
   pub down : List (ℕ × Answer)
-
--- what one server hands over to another
-pub record Flying : Type 0 where
-  pub from : ℕ
-  pub to : ℕ
-  pub parcel : Parcel
 
 -- the servers in order of number; the journal, and what each session was told so far, are kept beside
 pub record Cluster : Type 0 where

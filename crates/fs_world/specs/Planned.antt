@@ -2,37 +2,27 @@
 use Rattle.std.specs.Prelude.{◌≡◌, ℕ, false, List, [], ◌∷◌, Option, Some, None}
 use Rattle.fs_ident.specs.In.{In}
 use Rattle.fs_ident.specs.declared.actor.Peer.{Peer}
-use Rattle.fs_ident.specs.declared.actor.Session.{Session}
 use Rattle.fs_frag.specs.declared.joined.Joined.{Joined}
-use Rattle.fs_msg.specs.declared.client_msg.ClientMsg.{ClientMsg}
 use Rattle.fs_server.specs.Plan.{committed}
 use Rattle.fs_server.specs.Server.{Stepped}
 use Rattle.fs_server.specs.Step.{step}
-use Rattle.fs_server.specs.declared.event.ServerEvent.TheVariants.{FromClient}
+use Rattle.fs_server.specs.declared.event.ServerEvent.{ServerEvent}
 use Rattle.fs_server.specs.declared.plan.Plan.{Plan}
 use Rattle.fs_server.specs.declared.state.Server.{Server}
 use Rattle.fs_window.specs.Reading.{packet_at}
 use Rattle.fs_window.specs.declared.packet.Packet.{Packet}
 use Rattle.fs_window.specs.declared.sent.Sent.{Sent}
 use Rattle.fs_world.specs.Linked.{FitsDown}
-use Rattle.fs_world.specs.Served.{is_full_down}
-use Rattle.fs_world.specs.declared.served.Served.{Served}
+use Rattle.fs_world.specs.Served.{ServerStepped, is_full_down}
 
 -- what the plan comes to
 abbrev pub stepped_by : Plan → Server → Stepped
 stepped_by p s = record { server = committed p s; out = p.out }
 
--- the first message on its way from a session, where one came whole
-abbrev pub message_heard : List Joined → List ClientMsg → Option ClientMsg
-message_heard [] up = None
-message_heard (j ∷ js) [] = None
-message_heard (j ∷ js) (m ∷ up) = Some m
-
 -- the message that came, if one did: what the server's step on it sends was written down, and there was room for it
-abbrev pub IsAnswered : ℕ → Session → List Joined → List ClientMsg → Served → Type 0
-IsAnswered now s (j ∷ js) (m ∷ up) w =
-    FitsDown (step w.server now (FromClient s m)).out.send × (is_full_down (step w.server now (FromClient s m)).out.send w.post ≡ false)
-IsAnswered now s joined up w = Unit {0}
+abbrev pub IsAnswered : ℕ → List Joined → Option ServerEvent → ServerStepped → Type 0
+IsAnswered now (j ∷ js) (Some e) x = FitsDown (step x.server now e).out.send × (is_full_down (step x.server now e).out.send x.post ≡ false)
+IsAnswered now joined first x = Unit {0}
 
 -- bytes that are this packet, or none, went from one actor to another
 pub record WasSent (from to : Peer) (packet : Option Packet) (packets : List Sent) : Type 0 where

@@ -21,17 +21,20 @@ use fs_ident::{List, Memory, Peer, Session, Twin};
 use fs_model::Op;
 use fs_msg::{CoreError, Item, Note};
 use fs_schedule::{Outcome, What};
+use fs_serial::Flying;
 use fs_server::{ServerCore, ServerEvent};
 use fs_window::Post;
 use std::alloc::Global;
 
-/// A server with its links, the sessions that have joined, the journal, and the packets that were sent.
+/// Servers with their links, in order of number, the sessions that have joined, the parcels on their way between servers, in
+/// order of sending, the journal, and the packets that were sent.
 pub(crate) struct Served {
-    pub(crate) server: ServerCore,
-    pub(crate) post: Post,
+    pub(crate) servers: List<ServerCore>,
+    pub(crate) posts: List<Post>,
     /// How long a lease lasts.
     pub(crate) term: Term,
     pub(crate) seats: Seats,
+    pub(crate) flying: List<Flying>,
     pub(crate) journal: List<Item>,
     pub(crate) packets: Packets,
 }
