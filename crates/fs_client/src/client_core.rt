@@ -54,6 +54,7 @@ impl ClientCore {
         requires most { term ≤ LONGEST }
         ensures { IfOk result (λ c. c ≡ first_client session term) }
     {
+        let hints = FileMap::new(alloc)?;
         Ok(ClientCore {
             client: Client {
                 session,
@@ -62,7 +63,7 @@ impl ClientCore {
                 view: View::new(alloc, session),
                 log: List::new(alloc),
                 exchange: None,
-                hints: FileMap::new(alloc)?,
+                hints,
                 full: List::new(alloc),
                 next: 1,
                 over: None,
