@@ -7,15 +7,16 @@ mod counts;
 mod direct;
 mod does;
 mod downs;
+mod flights;
 mod form;
 mod goes;
 mod hearing;
 mod hears;
-mod law;
 mod lists;
 mod numbers;
 mod packets;
 mod pushes;
+mod removals;
 mod seat;
 mod seat_events;
 mod seats;
@@ -27,8 +28,4 @@ mod term;
 mod tests;
 mod world;
 
-pub use law::{
-    every_run_is_serial, every_run_keeps_all_parts, no_core_is_told_what_is_strange,
-    no_short_run_is_spent, refusals_are_fair,
-};
 pub use world::World;
