@@ -1,13 +1,12 @@
 -- What a change keeps of a client.
-use Rattle.std.proofs.Common.{◌≡◌, ◌≤◌, ℕ, zero, suc, Bool, true, List, [], ◌∷◌, refl, ap, arith, sym, ◌∙◌, Ok, Err, subst}
-use Rattle.std.specs.Prelude.{Option, Some, None, Result, OnOk, OnErr, max, nat_le, ◌&&◌}
+use Rattle.std.proofs.Common.{◌≡◌, ◌≤◌, ℕ, zero, suc, true, List, [], ◌∷◌, refl, arith, sym, ◌∙◌, Ok, Err, subst}
+use Rattle.std.specs.Prelude.{Option, Some, None, Result, OnOk, OnErr, max, nat_le}
 use Rattle.std.proofs.lemmas.Bool.Decides.{nat_tests}
 use Rattle.fs_ident.proofs.Booleans.{both}
 use Rattle.fs_ident.specs.declared.limits.TheConstants.{LATEST}
 use Rattle.fs_ident.specs.declared.memory.Memory.{Memory}
 use Rattle.fs_msg.specs.declared.entry.Entry.{Entry}
 use Rattle.fs_msg.specs.declared.limits.TheConstants.{LONGEST}
-use Rattle.fs_view.specs.View.{with_first_admitted, without_pins}
 use Rattle.fs_client.specs.declared.change.Change.{Change}
 use Rattle.fs_client.specs.declared.change.Change.TheVariants as change
 use Rattle.fs_client.specs.declared.plan.Ready.{Ready}

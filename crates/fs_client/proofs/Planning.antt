@@ -27,7 +27,7 @@ use Rattle.fs_view.specs.View.{lapsed_at, missing_in, reply_in}
 use Rattle.fs_client.specs.declared.plan.Plan.{Plan}
 use Rattle.fs_client.specs.declared.plan.Ready.{Ready}
 use Rattle.fs_client.specs.declared.state.Client.{Client}
-use Rattle.fs_client.specs.Acts.{act_on, act_plan, answer_with, answers, ask_for, asks, full_one, hinted, is_act_spent, need_file, reads, replies, stays, worth}
+use Rattle.fs_client.specs.Acts.{act_on, act_plan, answer_with, ask_for, asks, full_one, hinted, is_act_spent, need_file, reads, replies, stays, worth}
 use Rattle.fs_client.specs.Answers.{answer_plan, fits, hear, strange, told}
 use Rattle.fs_client.specs.Client.{IsClient, begun, can_change, can_commit}
 use Rattle.fs_client.specs.Turns.{ending, idle, release_some, renew_some, returned, ship_some, turn_free, turn_on, turn_plan}

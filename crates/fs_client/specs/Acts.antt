@@ -1,5 +1,5 @@
 -- What a client makes of an operation.
-use Rattle.std.specs.Prelude.{ℕ, Bool, true, false, not, ◌&&◌, ◌||◌, ◌==◌, List, [], ◌∷◌, length, Option, Some, None, is_some, filter, if◌then◌else◌}
+use Rattle.std.specs.Prelude.{ℕ, Bool, false, not, ◌&&◌, ◌||◌, ◌==◌, List, [], ◌∷◌, length, Option, Some, None, is_some, filter, if◌then◌else◌}
 use Rattle.std.specs.List.{list_any, filter_map}
 use Rattle.fs_ident.specs.Ident.{same}
 use Rattle.fs_ident.specs.declared.actor.Peer.TheVariants.{Client as OfSession}
@@ -19,17 +19,15 @@ use Rattle.fs_record.specs.Effects.{effects_of}
 use Rattle.fs_msg.specs.declared.act.Act.{Act}
 use Rattle.fs_msg.specs.declared.act.Act.TheVariants as act
 use Rattle.fs_msg.specs.declared.act.Busy.TheVariants as busy
-use Rattle.fs_msg.specs.declared.act.ClientOut.{ClientOut}
 use Rattle.fs_msg.specs.declared.client_msg.ClientMsg.TheVariants as client
 use Rattle.fs_msg.specs.declared.entry.Entry.{Entry}
-use Rattle.fs_msg.specs.declared.item.Item.{Item}
 use Rattle.fs_view.specs.View.{View, missing_in, reply_in, uses_in, fresh}
 use Rattle.fs_client.specs.declared.change.Change.{Change}
 use Rattle.fs_client.specs.declared.change.Change.TheVariants as change
 use Rattle.fs_client.specs.declared.exchange.Exchange.TheVariants as exchange
 use Rattle.fs_client.specs.declared.plan.Plan.{Plan}
 use Rattle.fs_client.specs.declared.state.Client.{Client}
-use Rattle.fs_client.specs.Client.{begun, changed, committed, can_change}
+use Rattle.fs_client.specs.Client.{begun, can_change}
 
 -- nothing is sent and nothing admitted
 abbrev pub only_noted : {N : Type 0} → Change → N → Client → Plan N

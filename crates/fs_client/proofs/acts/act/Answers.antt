@@ -1,6 +1,6 @@
 use Rattle.std.proofs.Common.{rules, ◌≡◌}
 use Rattle.std.specs.Prelude.{None}
-use Rattle.fs_view.specs.View.{reply_in, walk_in}
+use Rattle.fs_view.specs.View.{walk_in}
 use Rattle.fs_client.proofs.Needed.{asking_is}
 use Rattle.fs_client.proofs.acts.act.Goals as goal
 
