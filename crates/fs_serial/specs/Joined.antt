@@ -1,6 +1,7 @@
 -- What servers hold together, with the parcels on their way between them.
 use Rattle.std.specs.Prelude.{ℕ, List, [], ◌∷◌, Option, Some, None}
 use Rattle.std.specs.FinMap.{empty, entries, get, insert}
+use Rattle.fs_ident.specs.Ordered.{Keyed}
 use Rattle.fs_field.specs.declared.row.Row.{Row}
 use Rattle.fs_model.specs.Namespace.{NodeMap}
 use Rattle.fs_record.specs.Moving.{with_records}
@@ -48,3 +49,8 @@ with_node file (Some r) m = insert m file r.node
 abbrev pub with_nodes : RecordMap → List (List ℕ) → NodeMap → NodeMap
 with_nodes records [] m = m
 with_nodes records (f ∷ fs) m = with_nodes records fs (with_node f (get records f) m)
+
+-- so has each of these files its own
+abbrev pub with_nodes_in : Keyed Record → NodeMap → NodeMap
+with_nodes_in [] m = m
+with_nodes_in (e ∷ es) m = with_nodes_in es (insert m e.0 e.1.node)

@@ -5,11 +5,11 @@ ghost use Rattle.fs_ident.specs.In.{In};
 ghost use Rattle.fs_record.specs.Records.{nodes_of};
 ghost use Rattle.fs_record.specs.declared.parcel.Parcel.{Parcel as TheParcel};
 ghost use Rattle.fs_record.specs.Moving.{AreEachRecords};
-ghost use Rattle.fs_serial.specs.Joined.{records_of_all, with_node};
+ghost use Rattle.fs_serial.specs.Joined.{records_of_all, with_node, with_nodes, with_nodes_in};
 
 use fs_ident::{FileId, List, Memory, Twin};
 use fs_model::Space;
-use fs_record::{Parcel, Records};
+use fs_record::{Parcel, Record, Records};
 use fs_server::ServerCore;
 use std::alloc::Global;
 
@@ -31,4 +31,43 @@ pub fn joined(
         put_all(alloc, parcel.records.as_slice(), &mut space)?;
     }
     Ok(space)
+}
+
+/// Gives each of the files the node of its record.
+fn put_records(alloc: Global, records: &Records, space: &mut Space) -> Result<(), Memory>
+    ensures { OnOk result (space.new ≡
+        with_nodes records.now (finite.keys records.now) space.old) }
+{
+    let files = records.files(alloc)?;
+    for file in files.as_slice() {
+        put_node(alloc, records, file, space)?;
+    }
+    Ok(())
+}
+
+/// Gives the file the node of its record, if it has one.
+fn put_node(
+    alloc: Global,
+    records: &Records,
+    file: &FileId,
+    space: &mut Space,
+) -> Result<(), Memory>
+    ensures { OnOk result (space.new ≡
+        with_node file.now (finite.get records.now file.now) space.old) }
+{
+    match records.get(file) {
+        Some(record) => space.put(alloc, file, record.node.copy(alloc)?),
+        None => Ok(()),
+    }
+}
+
+/// Gives each of these files the node of its record.
+fn put_all(alloc: Global, records: &[(FileId, Record)], space: &mut Space) -> Result<(), Memory>
+    requires { AreEachRecords records.now }
+    ensures { OnOk result (space.new ≡ with_nodes_in records.now space.old) }
+{
+    for entry in records {
+        space.put(alloc, &entry.0, entry.1.node.copy(alloc)?)?;
+    }
+    Ok(())
 }
