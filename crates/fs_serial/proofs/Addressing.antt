@@ -1,9 +1,7 @@
 -- Questions go where they were addressed, and answers come from there.
-use Rattle.std.proofs.Common.{◌≡◌, ℕ, ◌==◌, not, Bool, true, false, List, [], ◌∷◌, ◌++◌, cond, map, refl, sym, ap, ◌∙◌, subst, inl, inr}
-use Rattle.std.specs.Prelude.{◌⊎◌, Option, Some, None}
-use Rattle.std.specs.List.{filter}
+use Rattle.std.proofs.Common.{◌≡◌, ℕ, ◌==◌, not, true, false, List, [], ◌∷◌, ◌++◌, cond, refl, sym, ap, ◌∙◌, subst, inl, inr}
+use Rattle.std.specs.Prelude.{Option, Some, None}
 use Rattle.fs_ident.specs.In.{In}
-use Rattle.fs_ident.specs.declared.actor.LeaseNo.{LeaseNo}
 use Rattle.fs_ident.specs.declared.actor.Peer.{Peer}
 use Rattle.fs_ident.specs.declared.actor.Peer.TheVariants.{Client as OfSession}
 use Rattle.fs_ident.specs.declared.actor.Session.{Session}
@@ -12,16 +10,15 @@ use Rattle.fs_msg.specs.declared.answer.Answer.TheVariants.{Recall}
 use Rattle.fs_msg.specs.declared.client_msg.ClientMsg.{ClientMsg}
 use Rattle.fs_msg.specs.declared.msg.Msg.{Msg}
 use Rattle.fs_msg.specs.declared.msg.Msg.TheVariants as msg
-use Rattle.fs_server.specs.Server.{to_session}
 use Rattle.fs_client.specs.declared.exchange.Exchange.{Exchange}
 use Rattle.fs_client.specs.declared.state.Client.{Client}
-use Rattle.fs_serial.specs.Cluster.{Lines, is_with, with_answer, with_lines, with_sent, without_first}
+use Rattle.fs_serial.specs.Cluster.{Lines, with_answer, with_sent}
 use Rattle.fs_serial.specs.Exchange.{OneExchange, asked_server, due, is_recall, server_of_question}
 use Rattle.fs_serial.specs.Seen.{IsAddressed}
-use Rattle.fs_serial.proofs.Facts.{In-append, In-behind, In-mapped}
+use Rattle.fs_serial.proofs.Facts.{In-append, In-mapped}
 use Rattle.fs_serial.proofs.Rowed.{session_is}
 use Rattle.fs_serial.proofs.Sending.{IsRecallTo}
-use Rattle.fs_serial.proofs.Traffic.{messages, messages_append}
+use Rattle.fs_serial.proofs.Traffic.{messages}
 
 -- fewer messages, and the same question
 pub addressed_still : (l k : Lines) → k.client.exchange ≡ l.client.exchange → ((m : ℕ × ClientMsg) → In m k.up → In m l.up) → ((m : ℕ × Answer) → In m k.down → In m l.down) → IsAddressed l → IsAddressed k

@@ -1,13 +1,12 @@
 -- Every event of a client keeps all that holds of the cluster.
 use mathlib.Core.Path.{fun_ext}
-use Rattle.std.proofs.Common.{◌≡◌, ℕ, ◌+◌, ◌<◌, ◌≤◌, ◌==◌, Bool, true, false, List, [], ◌∷◌, ◌++◌, length, cond, refl, sym, ap, ◌∙◌, subst, inl, inr, arith}
-use Rattle.std.specs.Prelude.{◌≢◌, ◌⊎◌, Option, Some, None, is_some, slice_get}
+use Rattle.std.proofs.Common.{◌≡◌, ℕ, ◌+◌, ◌<◌, ◌≤◌, ◌==◌, true, false, List, [], ◌∷◌, ◌++◌, length, cond, refl, sym, ap, ◌∙◌, subst, inl, arith}
+use Rattle.std.specs.Prelude.{◌≢◌, Option, Some, None}
 use Rattle.std.specs.List.{find}
 use Rattle.fs_ident.specs.In.{In}
 use Rattle.fs_ident.specs.declared.actor.Session.{Session}
 use Rattle.fs_model.specs.declared.op.Op.{Op}
 use Rattle.fs_msg.specs.declared.answer.Answer.{Answer}
-use Rattle.fs_msg.specs.declared.client_msg.ClientMsg.{ClientMsg}
 use Rattle.fs_msg.specs.declared.client_note.ClientNote.TheVariants as note
 use Rattle.fs_msg.specs.declared.item.Item.{Item}
 use Rattle.fs_server.specs.declared.state.Server.{Server}
@@ -17,19 +16,17 @@ use Rattle.fs_client.specs.Client.{begun, committed}
 use Rattle.fs_client.specs.Turns.{turn_plan}
 use Rattle.fs_client.specs.declared.plan.Plan.{Plan}
 use Rattle.fs_client.specs.declared.state.Client.{Client}
-use Rattle.fs_serial.specs.Cluster.{CanCome, ClientEvent, Cluster, Does, Flying, Hears, Lines, Turns, after_client, after_plan, is_with, parcels_of, with_lines, without_first}
-use Rattle.fs_serial.specs.Exchange.{OneExchange, asked_server, is_recall}
+use Rattle.fs_serial.specs.Cluster.{CanCome, ClientEvent, Cluster, Does, Flying, Hears, Lines, Turns, after_client, after_plan, is_with, with_lines, without_first}
+use Rattle.fs_serial.specs.Exchange.{OneExchange, asked_server}
 use Rattle.fs_serial.specs.Fresh.{IsMade}
-use Rattle.fs_serial.specs.Places.{IsHome, IsSent, PlacesHold, places_for}
+use Rattle.fs_serial.specs.Places.{PlacesHold, places_for}
 use Rattle.fs_serial.specs.Seen.{ClusterHolds, IsAddressed, ends_of, world_of}
 use Rattle.fs_serial.specs.World.{Ends, World, WorldHolds, is_called, message_in, pushed, told_by, with_ends, with_told}
 use Rattle.fs_serial.specs.World as world
 use Rattle.fs_serial.proofs.ClientEvents.{client_keeps, never_strange}
-use Rattle.fs_serial.proofs.Facts.{In-append, In-front, In-behind, session_itself}
+use Rattle.fs_serial.proofs.Facts.{session_itself}
 use Rattle.fs_serial.proofs.Planned.{IsPosted, act_posted, hear_posted, plan_addressed, turn_posted}
 use Rattle.fs_serial.proofs.Reordered.{reordered, with_first}
-use Rattle.fs_serial.proofs.Rowed.{session_is}
-use Rattle.fs_serial.proofs.Servers.{In_at, IsAt}
 use Rattle.fs_serial.proofs.SetAt.{In_without}
 use Rattle.fs_serial.proofs.StepPlaces.{made_still}
 use Rattle.fs_serial.proofs.Traffic.{IsTaken, ends_planned, find_In, messages, messages_append, taken_first}

@@ -1,8 +1,6 @@
 -- Whatever happens, in whatever order, all parts hold, and the journal is one serial run.
-use Rattle.std.proofs.Common.{◌≡◌, ℕ, ◌+◌, ◌≤◌, max, List, [], ◌∷◌, ◌++◌, length, map, append-nil, refl, sym, ap, subst, arith}
+use Rattle.std.proofs.Common.{◌≡◌, ℕ, ◌+◌, ◌≤◌, max, List, [], ◌∷◌, ◌++◌, length, map, append-nil, refl, sym, subst, arith}
 use Rattle.std.specs.Prelude.{Option, Some, None, slice_get}
-use Rattle.fs_ident.specs.In.{In}
-use Rattle.fs_ident.specs.declared.actor.Session.{Session}
 use Rattle.fs_msg.specs.declared.item.Item.{Item}
 use Rattle.fs_server.specs.Ships.{item_of}
 use Rattle.fs_server.specs.declared.event.ServerEvent.{ServerEvent}
@@ -11,7 +9,7 @@ use Rattle.fs_serial.specs.Cluster.{Cluster, IsThere, after_server, after_server
 use Rattle.fs_serial.specs.Numbers.{AreNumbered, items_at, items_by}
 use Rattle.fs_serial.specs.Runs.{AtClient, AtServer, CanHappen, ClusterEvent, Dated, IsOneSerialRun, IsRun, after_event, greatest_in, run}
 use Rattle.fs_serial.specs.Seen.{ClusterHolds, ends_of, world_of}
-use Rattle.fs_serial.specs.World.{World, WorldHolds, settled_at}
+use Rattle.fs_serial.specs.World.{WorldHolds, settled_at}
 use Rattle.fs_serial.proofs.ClusterClients.{client_event, some_server}
 use Rattle.fs_serial.proofs.ClusterSteps.{server_keeps}
 use Rattle.fs_serial.proofs.FirstCluster.{first_all}

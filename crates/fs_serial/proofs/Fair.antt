@@ -1,8 +1,7 @@
 -- A server refuses no entry but for a lease that had ended, and holds back none but behind a refused one.
 use Rattle.std.proofs.Common.{◌≡◌, ℕ, ◌+◌, ◌≤◌, max, Bool, true, false, List, [], ◌∷◌, ◌++◌, cond, map, refl, sym, ap, ◌∙◌, subst, arith}
-use Rattle.std.specs.Prelude.{Option, Some, None, slice_get, slice_set}
+use Rattle.std.specs.Prelude.{Option, Some, None, slice_get}
 use Rattle.std.specs.List.{list_all}
-use Rattle.fs_ident.specs.In.{In}
 use Rattle.fs_ident.specs.declared.actor.Session.{Session}
 use Rattle.fs_field.specs.declared.row.Row.{Row}
 use Rattle.fs_field.specs.declared.used.Use.{Use}
@@ -13,7 +12,7 @@ use Rattle.fs_msg.specs.declared.end.End.TheVariants as end
 use Rattle.fs_msg.specs.declared.entry.Entry.{Entry}
 use Rattle.fs_msg.specs.declared.item.Item.{Item}
 use Rattle.fs_record.specs.Effects.{tells_its_effects}
-use Rattle.fs_server.specs.Server.{Stepped, begun, is_mine, moved, strange}
+use Rattle.fs_server.specs.Server.{begun, is_mine, moved, strange}
 use Rattle.fs_server.specs.Ships.{Shipping, first_gone, item_of, ship_from, ship_step, shipped, with_entry}
 use Rattle.fs_server.specs.Step.{event_step, step}
 use Rattle.fs_server.specs.declared.event.ServerEvent.TheVariants as event
@@ -22,7 +21,6 @@ use Rattle.fs_server.specs.declared.state.Server.{Server}
 use Rattle.fs_serial.specs.Cluster.{Cluster, IsThere, after_step, is_with}
 use Rattle.fs_serial.specs.Refusals.{IsFairNote, IsFairStep, rows_in}
 use Rattle.fs_serial.specs.Seen.{ClusterHolds, with_all, world_of}
-use Rattle.fs_serial.specs.World.{WorldHolds}
 use Rattle.fs_serial.proofs.ClusterRuns.{cluster_later}
 use Rattle.fs_serial.proofs.Ended.{fair_ship}
 use Rattle.fs_serial.proofs.Facts.{In-mapped}

@@ -5,7 +5,7 @@ use Rattle.std.proofs.lemmas.Option.{slice_get_read}
 use Rattle.std.specs.Prelude.{◌⊎◌, Option, Some, None, map}
 use Rattle.std.specs.Ordering.{nat_cmp, eq_by_cmp}
 use Rattle.std.specs.Cmp.Lexicographic.{slice_cmp, nat_list_cmp_total}
-use Rattle.std.specs.FinMap.{get, insert, empty, entries, entries_sorted, from_entries, keys, find, get-empty, get-entries, get-insert, len-empty, len-entries, same_map}
+use Rattle.std.specs.FinMap.{get, insert, empty, entries, entries_sorted, from_entries, keys, find, get-entries, get-insert, len-empty, len-entries, same_map}
 use Rattle.fs_ident.specs.In.{In}
 use Rattle.fs_ident.proofs.Booleans.{equal_is}
 use Rattle.fs_ident.proofs.MapsOf.{anti, put_here}

@@ -1,6 +1,6 @@
 -- At the begin of a server's event its own rows that are over lapse.
-use Rattle.std.proofs.Common.{◌≡◌, ℕ, zero, suc, ◌+◌, ◌<◌, ◌≤◌, ◌==◌, ◌||◌, max, not, nat_lt, Bool, true, false, List, [], ◌∷◌, length, length-set, cond, refl, sym, ap, ◌∙◌, subst, inl, inr, arith}
-use Rattle.std.specs.Prelude.{◌≢◌, ◌⊎◌, Option, Some, is_some, slice_get, slice_set}
+use Rattle.std.proofs.Common.{◌≡◌, ℕ, zero, suc, ◌+◌, ◌≤◌, ◌==◌, ◌||◌, max, not, nat_lt, Bool, true, false, List, [], ◌∷◌, length, length-set, cond, refl, sym, ap, ◌∙◌, subst, inl, inr, arith}
+use Rattle.std.specs.Prelude.{◌≢◌, Some, is_some, slice_get, slice_set}
 use Rattle.std.specs.List.{filter}
 use Rattle.std.proofs.lemmas.Bool.{or_parts}
 use Rattle.std.proofs.lemmas.Bool.Decides.{nat_tests}
@@ -20,13 +20,13 @@ use Rattle.fs_rows.specs.Granted.{with_rows}
 use Rattle.fs_server.specs.Server.{begun, is_mine}
 use Rattle.fs_server.specs.declared.state.Server.{Server}
 use Rattle.fs_serial.specs.Cluster.{Cluster, Flying, parcels_of}
-use Rattle.fs_serial.specs.Joined.{records_of_all, rows_of_all, with_all_of, with_parcels, with_rows_in, with_rows_of}
+use Rattle.fs_serial.specs.Joined.{rows_of_all, with_all_of, with_parcels, with_rows_in, with_rows_of}
 use Rattle.fs_serial.specs.Places.{IsHome, IsSent, PlacesHold, gives_it}
-use Rattle.fs_serial.specs.Seen.{ClusterHolds, given_at, reaps_at, with_all, world_of}
+use Rattle.fs_serial.specs.Seen.{ClusterHolds, given_at, reaps_at, world_of}
 use Rattle.fs_serial.specs.World.{World, WorldHolds}
-use Rattle.fs_serial.proofs.AtHome.{others_rows, parcels_rows, true_is}
+use Rattle.fs_serial.proofs.AtHome.{others_rows, parcels_rows}
 use Rattle.fs_serial.proofs.Rising.{lapse_some_keeps, last_rises}
-use Rattle.fs_serial.proofs.Servers.{In_at, as_many}
+use Rattle.fs_serial.proofs.Servers.{as_many}
 use Rattle.fs_serial.proofs.SetAt.{In_got, In_set, get_here, get_other}
 use Rattle.fs_serial.proofs.Views.{all_views, alike_holds, count_set}
 

@@ -1,9 +1,7 @@
 -- A client's question goes out with its exchange.
-use Rattle.std.proofs.Common.{◌≡◌, ℕ, ◌==◌, not, ◌&&◌, ◌/◌, ◌+◌, Bool, true, false, List, [], ◌∷◌, ◌++◌, cond, refl, sym, ap, ◌∙◌, subst, inl, inr}
+use Rattle.std.proofs.Common.{◌≡◌, ℕ, not, ◌&&◌, ◌/◌, ◌+◌, true, false, List, [], ◌∷◌, cond, refl, ap, ◌∙◌, subst}
 use Rattle.std.specs.Prelude.{Option, Some, None, is_some}
-use Rattle.std.specs.List.{filter}
 use Rattle.fs_ident.specs.In.{In}
-use Rattle.fs_ident.specs.declared.actor.Session.{Session}
 use Rattle.fs_field.specs.declared.asked.Need.{Need}
 use Rattle.fs_field.specs.declared.asked.Need.TheVariants as need
 use Rattle.fs_map.specs.Map.{Owners}
@@ -13,11 +11,9 @@ use Rattle.fs_model.specs.declared.op.Op.{Op}
 use Rattle.fs_model.specs.declared.reply.Reply.{Reply}
 use Rattle.fs_msg.specs.declared.answer.Answer.{Answer}
 use Rattle.fs_msg.specs.declared.answer.Answer.TheVariants.{Granted, Renewed, Released, Shipped, Recall}
-use Rattle.fs_msg.specs.declared.act.Act.{Act}
 use Rattle.fs_msg.specs.declared.act.Act.TheVariants as act
 use Rattle.fs_msg.specs.declared.act.Busy.TheVariants as busy
 use Rattle.fs_msg.specs.declared.client_msg.ClientMsg.{ClientMsg}
-use Rattle.fs_msg.specs.declared.client_note.ClientNote.{ClientNote}
 use Rattle.fs_msg.specs.declared.entry.Entry.{Entry}
 use Rattle.fs_view.specs.declared.kept.Kept.{Kept}
 use Rattle.fs_view.specs.View.{missing_in, reply_in}

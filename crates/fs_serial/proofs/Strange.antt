@@ -1,8 +1,7 @@
 -- No question and no parcel that comes to a server is strange.
-use Rattle.std.proofs.Common.{◌≡◌, ℕ, ◌≤◌, max, Bool, true, false, List, [], ◌∷◌, cond, refl, sym, ap, ◌∙◌, subst}
+use Rattle.std.proofs.Common.{◌≡◌, ℕ, ◌≤◌, max, true, List, [], ◌∷◌, cond, sym, subst}
 use Rattle.std.specs.Prelude.{◌≢◌, Option, Some, None, slice_get}
 use Rattle.std.specs.List.{list_all}
-use Rattle.fs_ident.specs.In.{In}
 use Rattle.fs_ident.specs.declared.actor.Session.{Session}
 use Rattle.fs_msg.specs.declared.client_msg.ClientMsg.{ClientMsg}
 use Rattle.fs_msg.specs.declared.client_msg.ClientMsg.TheVariants.{Ask, Renew, Release, Ship}
@@ -21,7 +20,7 @@ use Rattle.fs_server.specs.declared.event.ServerEvent.{ServerEvent}
 use Rattle.fs_server.specs.declared.event.ServerEvent.TheVariants as event
 use Rattle.fs_server.specs.declared.state.Server.{Server}
 use Rattle.fs_serial.specs.Cluster.{Cluster, IsThere, is_with}
-use Rattle.fs_serial.specs.Seen.{ClusterHolds, counts_of, ends_of, world_of}
+use Rattle.fs_serial.specs.Seen.{ClusterHolds, counts_of, world_of}
 use Rattle.fs_serial.specs.World.{WorldHolds}
 use Rattle.fs_serial.proofs.Arriving.{parcel_fits}
 use Rattle.fs_serial.proofs.ClusterSteps.{there_begun}

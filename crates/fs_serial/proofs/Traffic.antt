@@ -1,6 +1,6 @@
 -- Messages with their servers' numbers, and without.
 use mathlib.Core.Path.{fun_ext}
-use Rattle.std.proofs.Common.{◌≡◌, ℕ, ◌==◌, Bool, true, false, List, [], ◌∷◌, ◌++◌, cond, map, refl, sym, ap, ◌∙◌, subst, inl, inr}
+use Rattle.std.proofs.Common.{◌≡◌, ℕ, ◌==◌, Bool, true, false, List, [], ◌∷◌, ◌++◌, cond, map, refl, ap, ◌∙◌, inl, inr}
 use Rattle.std.specs.Prelude.{◌⊎◌, Option, Some, None}
 use Rattle.std.specs.List.{find}
 use Rattle.fs_ident.specs.In.{In}
@@ -19,7 +19,7 @@ use Rattle.fs_serial.specs.Exchange.{OneExchange}
 use Rattle.fs_serial.specs.Seen.{ends_of}
 use Rattle.fs_serial.specs.World.{Ends, message_in, pushed, with_ends}
 use Rattle.fs_serial.specs.World as world
-use Rattle.fs_serial.proofs.Facts.{In-front, In-behind, In-mapped}
+use Rattle.fs_serial.proofs.Facts.{In-mapped}
 use Rattle.fs_serial.proofs.Rowed.{session_is}
 use Rattle.fs_serial.proofs.ServerEvents.{one_up}
 

@@ -1,6 +1,6 @@
 -- A cluster as one of its servers sees it, and as another does.
 use mathlib.Core.Path.{fun_ext}
-use Rattle.std.proofs.Common.{◌≡◌, ℕ, ◌≤◌, ◌==◌, Bool, true, false, List, cond, refl, sym, ap, ◌∙◌, subst, inl, inr, arith}
+use Rattle.std.proofs.Common.{◌≡◌, ℕ, ◌≤◌, ◌==◌, true, false, List, cond, refl, sym, ap, ◌∙◌, subst, arith}
 use Rattle.std.specs.Prelude.{◌≢◌, Option, Some, slice_get, slice_set}
 use Rattle.std.proofs.lemmas.Bool.Decides.{nat_tests}
 use Rattle.fs_ident.specs.In.{In}
@@ -14,7 +14,7 @@ use Rattle.fs_serial.specs.Cluster.{Cluster}
 use Rattle.fs_serial.specs.Exchange.{ExchangeFits}
 use Rattle.fs_serial.specs.Parts.{AllHold}
 use Rattle.fs_serial.specs.Places.{PlacesHold}
-use Rattle.fs_serial.specs.Seen.{counts_of, given_at, reaps_at, world_of}
+use Rattle.fs_serial.specs.Seen.{given_at, reaps_at, world_of}
 use Rattle.fs_serial.specs.Settled.{settled_now}
 use Rattle.fs_serial.specs.Sight.{Sight, count_with, sight_of}
 use Rattle.fs_serial.specs.World.{Ends, World, WorldHolds, settled_at}

@@ -1,5 +1,5 @@
 -- Where each file is: with one server, or on its way to one.
-use Rattle.std.specs.Prelude.{◌≡◌, ℕ, ◌+◌, ◌<◌, Bool, true, List, filter, length, slice_get, Option, Some, is_some}
+use Rattle.std.specs.Prelude.{◌≡◌, ℕ, ◌+◌, ◌<◌, Bool, true, List, filter, length, slice_get, Some, is_some}
 use Rattle.std.specs.FinMap.{get}
 use Rattle.fs_ident.specs.In.{In}
 use Rattle.fs_field.specs.Field.{file_of}
@@ -10,7 +10,6 @@ use Rattle.fs_map.specs.Map.{IsMap, gives}
 use Rattle.fs_msg.specs.declared.item.Item.{Item}
 use Rattle.fs_parcel.specs.Parcel.{is_formed, is_of_given}
 use Rattle.fs_record.specs.Moving.{AreEachRecords}
-use Rattle.fs_record.specs.declared.parcel.Parcel.{Parcel}
 use Rattle.fs_server.specs.Server.{is_mine}
 use Rattle.fs_server.specs.declared.state.Server.{Server}
 use Rattle.fs_serial.specs.Cluster.{Cluster, Flying, parcels_of}

@@ -1,10 +1,9 @@
-use Rattle.std.proofs.Common.{sym, ap, ◌∙◌, subst, arith}
+use Rattle.std.proofs.Common.{List, ◌∙◌, subst}
 use Rattle.std.specs.FinMap.{empty}
 use Rattle.fs_ident.specs.In.{In}
 use Rattle.fs_ident.specs.Ordered.{Keyed}
 use Rattle.fs_record.specs.declared.parcel.Parcel.{Parcel as TheParcel}
 use Rattle.fs_record.specs.declared.record.Record.{Record}
-use Rattle.std.proofs.Common.{List}
 use Rattle.fs_serial.specs.Joined.{with_all_of}
 use Rattle.fs_serial.proofs.Joining.{more_parcels, more_servers, none_joined, read_In}
 use Rattle.fs_serial.proofs.space.joined.Goals as goal
