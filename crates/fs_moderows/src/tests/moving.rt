@@ -5,7 +5,7 @@ ghost use Rattle.fs_moderows.specs.Moving.{are_on_modes};
 use crate::mode_rows::ModeRows;
 use crate::tests::{TXN, WRITES, number, opens};
 use fs_field::{Field, LeaseKind, Row};
-use fs_ident::{FileId, List, Session, Twin};
+use fs_ident::{FileId, List, Session};
 use fs_map::{FileMap, MapPiece};
 use fs_modes::{Mode, Modes};
 use std::alloc::Global;
@@ -127,16 +127,11 @@ const CASES: [Case; 16] = [
 #[test]
 fn rows_come_where_they_fit(rt: HostRuntime) -> Result<(), Fail> {
     let alloc = rt.alloc();
-    let mut n = 0;
     for (here, more, sessions, fit) in CASES {
         let mut table = ModeRows::new(alloc);
         let selves = writers(alloc, sessions)?;
-        assert!(rt; come(alloc, &mut table, &selves, here)?, "the table {n}");
-        assert!(rt;
-            come(alloc, &mut table, &selves, more)? == fit,
-            "the case {n}"
-        );
-        n += 1;
+        assert!(rt; come(alloc, &mut table, &selves, here)?);
+        assert_eq!(rt; come(alloc, &mut table, &selves, more)?, fit);
     }
     Ok(())
 }
@@ -168,26 +163,60 @@ fn two_rows(alloc: Global) -> Result<ModeRows, Fail> {
     Ok(table)
 }
 
+fn is_kept(alloc: Global, prefix: &FileId) -> Result<bool, Fail> {
+    let table = two_rows(alloc)?;
+    let map = FileMap::new(alloc)?;
+    Ok(table.locked_in(prefix, &map, 0).is_some())
+}
+
+fn is_among(rows: &List<Row>, count: u64) -> bool {
+    rows.as_slice().iter().any(|row| row.no == number(count))
+}
+
+/// Whether the first and the second row are among these.
+fn among(rows: &List<Row>) -> (bool, bool) {
+    (is_among(rows, 1), is_among(rows, 2))
+}
+
+/// Whether they are in the table no more.
+fn gone(table: &ModeRows) -> (bool, bool) {
+    (
+        table.row(number(1)).is_none(),
+        table.row(number(2)).is_none(),
+    )
+}
+
+/// Which of them are read as what would go.
+fn read(alloc: Global, piece: &MapPiece) -> Result<(bool, bool), Fail> {
+    let table = two_rows(alloc)?;
+    let rows = table.live(0, 1).given(alloc, piece)?;
+    Ok(among(&rows))
+}
+
+/// Which of them go, and are gone then.
+fn split(alloc: Global, piece: &MapPiece) -> Result<((bool, bool), (bool, bool)), Fail> {
+    let mut table = two_rows(alloc)?;
+    let rows = table.split(alloc, piece)?;
+    Ok((among(&rows), gone(&table)))
+}
+
+/// Which of them are dropped as what went.
+fn left(alloc: Global, piece: &MapPiece) -> Result<(bool, bool), Fail> {
+    let mut table = two_rows(alloc)?;
+    table.leave(piece);
+    Ok(gone(&table))
+}
+
 #[test]
 fn rows_go_with_their_files(rt: HostRuntime) -> Result<(), Fail> {
     let alloc = rt.alloc();
-    for (prefix, first, second, is_kept) in GOES {
+    for (prefix, first, second, kept) in GOES {
         let piece = given(&rt, alloc, prefix)?;
-        let mut table = two_rows(alloc)?;
-        let mut twin = table.copy(alloc)?;
-        let map = FileMap::new(alloc)?;
-        let lock = table.locked_in(&FileId::parse(alloc, prefix)?, &map, 0);
-        assert!(rt; lock.is_some() == is_kept);
-        let read = table.live(0, 1).given(alloc, &piece)?;
-        let moved = table.split(alloc, &piece)?;
-        twin.leave(&piece);
-        assert_eq!(rt; read.len(), moved.len());
-        for (count, goes) in [(1, first), (2, second)] {
-            let is_among = moved.as_slice().iter().any(|row| row.no == number(count));
-            assert!(rt; is_among == goes);
-            assert!(rt; table.row(number(count)).is_none() == goes);
-            assert!(rt; twin.row(number(count)).is_none() == goes);
-        }
+        let goes = (first, second);
+        assert_eq!(rt; is_kept(alloc, &FileId::parse(alloc, prefix)?)?, kept);
+        assert_eq!(rt; read(alloc, &piece)?, goes);
+        assert_eq!(rt; split(alloc, &piece)?, (goes, goes));
+        assert_eq!(rt; left(alloc, &piece)?, goes);
     }
     Ok(())
 }
