@@ -8,6 +8,7 @@ use Rattle.fs_report.specs.Report.{done_text}
 use Rattle.fs_schedule.proofs.Single.{form_fits}
 use Rattle.fs_world.specs.Refusals.{NoneHas, is_link_strange}
 use Rattle.fs_world.specs.World.{AllMayHappen, run_of, stop_of}
+use Rattle.fs_world.proofs.HeldLaws.{serial_laws}
 use Rattle.fs_world.proofs.RightRuns.{neither_strange, no_core_strange, refusals_fair}
 use Rattle.fs_world.proofs.Whole.{run_is_serial, told_is_admitted}
 use Rattle.fs_schedule.specs.Lines.{lines_of}
@@ -27,10 +28,10 @@ replayed s bytes a b r f h k w = record {
   read = r;
   whole = h;
   written = w;
-  headline = run_is_serial s (form_fits s bytes r) f r.1;
-  fair = refusals_fair s (form_fits s bytes r) f r.1;
-  known = neither_strange (run_of s).outcomes k (no_core_strange s (form_fits s bytes r) f r.1);
-  admitted = λ direct. told_is_admitted s direct f;
+  headline = run_is_serial serial_laws s (form_fits s bytes r) f r.1;
+  fair = refusals_fair serial_laws s (form_fits s bytes r) f r.1;
+  known = neither_strange (run_of s).outcomes k (no_core_strange serial_laws s (form_fits s bytes r) f r.1);
+  admitted = λ direct. told_is_admitted serial_laws s direct f;
 }
 
 -- no line that is read passes the limit of packets

@@ -1,5 +1,5 @@
 //! Laws of the kinds of step: where all parts hold before it, all parts hold after it.
-ghost use Rattle.std.specs.Prelude.{◌≡◌, ◌≢◌, ◌≤◌, ◌+◌, ℕ, max, slice_get, Bool, true, false, List, [], ◌∷◌, ◌++◌, Some, None};
+ghost use Rattle.std.specs.Prelude.{length, ◌≡◌, ◌≢◌, ◌<◌, ◌≤◌, ◌+◌, ℕ, max, slice_get, Bool, true, false, List, [], ◌∷◌, ◌++◌, Some, None};
 ghost use Rattle.std.specs.List.{list_all};
 ghost use Rattle.fs_ident.specs.In.{In};
 ghost use Rattle.fs_ident.specs.declared.actor.Session.{Session};
@@ -21,6 +21,10 @@ ghost use Rattle.fs_msg.specs.declared.entry.Entry.{Entry};
 ghost use Rattle.fs_msg.specs.declared.item.Item.{Item};
 ghost use Rattle.fs_record.specs.Effects.{tells_its_effects};
 ghost use Rattle.fs_record.specs.ValueOf.{selves_in, value_of};
+ghost use Rattle.fs_msg.specs.declared.peer_msg.PeerMsg.TheVariants.{Parcel as OfParcel};
+ghost use Rattle.fs_parcel.specs.Parcel.{move_refusal};
+ghost use Rattle.fs_record.specs.declared.parcel.Parcel.{Parcel};
+ghost use Rattle.fs_server.specs.Moves.{fits_here, hands_over, parcel_at};
 ghost use Rattle.fs_server.specs.Reaps.{has_own, reap_item, with_reap};
 ghost use Rattle.fs_server.specs.Ships.{first_gone, item_of, with_entry};
 ghost use Rattle.fs_server.specs.Server.{begun, is_mine};
@@ -30,18 +34,19 @@ ghost use Rattle.fs_msg.specs.declared.server_note.ServerNote.TheVariants as ser
 ghost use Rattle.fs_client.specs.Answers.{answer_plan};
 ghost use Rattle.fs_server.specs.Step.{step};
 ghost use Rattle.fs_server.specs.declared.event.ServerEvent.{ServerEvent};
-ghost use Rattle.fs_server.specs.declared.event.ServerEvent.TheVariants.{FromClient};
+ghost use Rattle.fs_server.specs.declared.event.ServerEvent.TheVariants.{FromClient, FromPeer, Move};
 ghost use Rattle.fs_server.specs.declared.state.Server.{Server};
 ghost use Rattle.fs_serial.specs.Client.{ClientFits};
-ghost use Rattle.fs_serial.specs.Cluster.{CanCome, ClientEvent, Cluster, IsThere, after_client, after_server, first_cluster};
+ghost use Rattle.fs_serial.specs.Cluster.{CanCome, ClientEvent, Cluster, IsThere, after_client, after_server, after_step, first_cluster};
 ghost use Rattle.fs_serial.specs.Cluster.ClientEvent.{Hears};
 ghost use Rattle.fs_serial.specs.Laws.{GiftIsRelied, GiftIsTold, GiftKeepsParts, GiftReturnsNone};
 ghost use Rattle.fs_serial.specs.Parts.{AllHold, ServersFit, ServersHold, SessionFits, with_client, with_replies};
 ghost use Rattle.fs_serial.specs.Settled.{Settled, acknowledged, settled, settled_now};
-ghost use Rattle.fs_serial.specs.Runs.{Dated, IsOneSerialRun, IsRun, greatest_in, run};
-ghost use Rattle.fs_serial.specs.Seen.{ClusterHolds};
+ghost use Rattle.fs_serial.specs.Places.{PlacesHold};
+ghost use Rattle.fs_serial.specs.Runs.{Dated, IsOneSerialRun, IsRun, greatest_in, held_by, run};
+ghost use Rattle.fs_serial.specs.Seen.{ClusterHolds, with_all};
 ghost use Rattle.fs_serial.specs.Sight.{Counts, Sight, sight_of};
-ghost use Rattle.fs_serial.specs.Refusals.{IsFairStep};
+ghost use Rattle.fs_serial.specs.Refusals.{IsFairStep, rows_in};
 ghost use Rattle.fs_serial.specs.Steps.{AllStand, HadEnded, IsAdmitted, IsReplied};
 
 /// A fresh identifier that a directory gives to a session, with an exclusive lease on the life of the file. Whoever relied
@@ -103,6 +108,38 @@ pub fn a_reply_keeps_the_parts()
     ensures client { (by : Session) (c : Client) (down : List Answer) (o : Op) (r : Reply) →
         IsReplied c down o r → ClientFits by c →
         ClientFits by (changed (replies o r c).ready.change c) }
+{}
+
+/// A server that hands over what it has below a prefix leaves all rows and all records that there are as they were, and
+/// everything at its place.
+pub fn a_move_leaves_all_as_it_was()
+    ensures same { (k : ℕ) (c : Cluster) (s : Server) (prefix : List ℕ) (to : ℕ) →
+        slice_get c.servers k ≡ Some s → PlacesHold c →
+        (rows_in (after_step k (Move prefix to) (hands_over prefix to s) c) ≡ rows_in c) ×
+        (held_by (after_step k (Move prefix to) (hands_over prefix to s) c) ≡ held_by c) }
+    ensures places { (k : ℕ) (c : Cluster) (s : Server) (prefix : List ℕ) (to : ℕ) →
+        slice_get c.servers k ≡ Some s → PlacesHold c → (o : Counts) →
+        ServersFit (sight_of o (with_all s c) c.journal) → to < length c.servers →
+        move_refusal s.records s.rows s.map s.me prefix to None ≡ None →
+        PlacesHold (after_step k (Move prefix to) (hands_over prefix to s) c) }
+{}
+
+/// So does a server that takes a parcel which comes; and every parcel on its way fits where it comes.
+pub fn a_parcel_that_comes_leaves_all_as_it_was()
+    ensures fits { (k from : ℕ) (c : Cluster) (s : Server) (p : Parcel) →
+        slice_get c.servers k ≡ Some s → PlacesHold c →
+        IsThere k (FromPeer from (OfParcel p)) c → (o : Counts) →
+        ServersHold (sight_of o (with_all s c) c.journal) →
+        ServersFit (sight_of o (with_all s c) c.journal) → fits_here p s ≡ true }
+    ensures same { (k from : ℕ) (c : Cluster) (s : Server) (p : Parcel) →
+        slice_get c.servers k ≡ Some s → PlacesHold c →
+        IsThere k (FromPeer from (OfParcel p)) c →
+        (rows_in (after_step k (FromPeer from (OfParcel p)) (parcel_at true p s) c) ≡ rows_in c) ×
+        (held_by (after_step k (FromPeer from (OfParcel p)) (parcel_at true p s) c) ≡ held_by c) }
+    ensures places { (k from : ℕ) (c : Cluster) (s : Server) (p : Parcel) →
+        slice_get c.servers k ≡ Some s → PlacesHold c →
+        IsThere k (FromPeer from (OfParcel p)) c →
+        PlacesHold (after_step k (FromPeer from (OfParcel p)) (parcel_at true p s) c) }
 {}
 
 /// Every event of every server, a question of a session or a parcel of another server that is on its way among them, keeps

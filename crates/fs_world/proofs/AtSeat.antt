@@ -12,7 +12,6 @@ use Rattle.fs_world.specs.Packets.{Packets}
 use Rattle.fs_world.specs.Served.{SeatStepped, Seats, Stepped, first_seat, first_spent, join_at, with_seat}
 use Rattle.fs_world.specs.declared.seat.Seat.{Seat}
 use Rattle.fs_world.specs.declared.served.Served.{Served}
-use Rattle.fs_world.proofs.Linked.{join}
 
 -- it has joined
 pub seat_there : (o : Option Seat) → true ≡ is_some o → (seat : Seat) × (o ≡ Some seat)
@@ -48,8 +47,3 @@ linked_then (Err e) new x h is = tt
 pub none_there : (o : Option Seat) → false ≡ is_some o → o ≡ None
 none_there None h = refl
 none_there (Some seat) h = absurd (cc)
-
-pub join_linked : (w : Served) (s : Session) (seat : Seat) (seats : Seats) → get w.seats s.0 ≡ None → seat ≡ first_seat w.term s → seats ≡ insert w.seats s.0 seat → IsLinked w → IsLinked (record w { seats = seats })
-join_linked w s seat seats none is there h =
-    let joined : IsLinked (join_at None s w).world = subst (λ (o : Option Seat). IsLinked (join_at o s w).world) none (join w s h) in
-    subst (λ (m : Seats). IsLinked (record w { seats = m })) (sym (there ∙ ap (insert w.seats s.0) is)) joined

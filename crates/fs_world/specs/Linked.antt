@@ -23,7 +23,8 @@ use Rattle.fs_msg.specs.declared.msg.Msg.{Msg}
 use Rattle.fs_msg.specs.declared.msg.Msg.TheVariants as msg
 use Rattle.fs_msg.specs.declared.peer_msg.PeerMsg.TheVariants.{Parcel as OfParcel}
 use Rattle.fs_record.specs.Moving.{AreEachRecords}
-use Rattle.fs_serial.specs.Cluster.{Flying, is_between, is_with}
+use Rattle.fs_serial.specs.Cluster.{is_between, is_with}
+use Rattle.fs_serial.specs.declared.flying.Flying.{Flying}
 use Rattle.fs_server.specs.declared.state.Server.{Server as Core}
 use Rattle.fs_window.specs.OnTheWay.{Carries, IsPacketOf}
 use Rattle.fs_window.specs.Packet.{IsPacket, packet_text}
@@ -87,9 +88,9 @@ abbrev pub AreSentOver : Peer → Peer → Link → Link → List Sent → Type 
 AreSentOver a b from to packets = (x : Sent) → In x packets → x.from ≡ a → x.to ≡ b → IsSentOver from to x.bytes
 
 -- one direction of the links of two actors
-pub record IsPair (a b : Peer) (here there : Link) (messages : List Msg) (packets : List Sent) : Type 0 where
+pub record IsPair (a b : Peer) (here there : Link) (messages : List Msg) (sent : List Sent) : Type 0 where
   pub way : IsWay here there messages
-  pub packets : AreSentOver a b here there packets
+  pub packets : AreSentOver a b here there sent
 
 -- ## All links
 
@@ -97,6 +98,8 @@ pub record IsPost (a : Peer) (post : Links) : Type 0 where
   pub me : post.me ≡ a
   pub width : post.width ≡ link_width
   pub links : AreLinks post
+  -- nothing goes to itself
+  pub own : link_with post a ≡ new_link link_width
 
 -- the actor is there
 abbrev pub IsThere : Served → Peer → Type 0
@@ -167,6 +170,7 @@ pub record IsCarried (servers : ℕ) (seats : Seats) (f : Flying) : Type 0 where
 
 pub record IsLinked (w : Served) : Type 0 where
   pub posts : length w.posts ≡ length w.servers
+  pub some : 1 ≤ length w.servers
   pub few : length w.servers ≤ 15
   pub ties : AreTied w
   pub servers : (k : ℕ) (s : Core) → slice_get w.servers k ≡ Some s → IsServed (length w.servers) w.seats k s

@@ -22,7 +22,7 @@ use Rattle.fs_msg.specs.declared.item.Item.{Item}
 use Rattle.fs_msg.specs.declared.msg.Msg.{Msg}
 use Rattle.fs_msg.specs.declared.msg.Msg.TheVariants as msg
 use Rattle.fs_msg.specs.declared.note.Note.TheVariants as note
-use Rattle.fs_serial.specs.Cluster.{Flying}
+use Rattle.fs_serial.specs.declared.flying.Flying.{Flying}
 use Rattle.fs_world.specs.Direct.{outcome_of}
 use Rattle.fs_world.specs.Packets.{Packets}
 use Rattle.fs_world.specs.Served.{Seats, ServerStepped, is_full_down}

@@ -32,7 +32,8 @@ use Rattle.fs_client.specs.Answers.{answer_plan}
 use Rattle.fs_client.specs.Client.{committed, first_client}
 use Rattle.fs_client.specs.Turns.{turn_plan}
 use Rattle.fs_client.specs.declared.plan.Plan.{Plan}
-use Rattle.fs_serial.specs.Cluster.{Flying, first_servers, flying_from, is_between, is_with, without_first}
+use Rattle.fs_serial.specs.Cluster.{first_servers, flying_from, is_between, is_with, without_first}
+use Rattle.fs_serial.specs.declared.flying.Flying.{Flying}
 use Rattle.fs_server.specs.Server.{Stepped as CoreStepped}
 use Rattle.fs_server.specs.Step.{step, spent_by}
 use Rattle.fs_server.specs.declared.event.ServerEvent.{ServerEvent}

@@ -1,5 +1,5 @@
 //! A packet that comes to a server.
-ghost use Rattle.std.specs.Prelude.{◌≡◌, ℕ, ◌≤◌, ◌⊎◌, List as Seq, Option as Maybe, Some, None, IfOk, OnOk, OnErr, IsErrOf, false};
+ghost use Rattle.std.specs.Prelude.{◌≡◌, ℕ, ◌≤◌, ◌⊎◌, List as Seq, Some, None, IfOk, OnOk, OnErr, IsErrOf, false};
 ghost use Rattle.fs_frag.specs.declared.joined.Joined.TheVariants.{Whole};
 ghost use Rattle.fs_ident.specs.declared.actor.Peer.TheVariants.{Client as OfSession, Server as OfServer};
 ghost use Rattle.fs_ident.specs.declared.actor.Session.{Session as TheSession};
@@ -13,12 +13,12 @@ ghost use Rattle.fs_msg.specs.declared.msg.Msg.TheVariants as msg;
 ghost use Rattle.fs_msg.specs.declared.peer_msg.PeerMsg.{PeerMsg as ThePeerMessage};
 ghost use Rattle.fs_server.specs.Step.{CanBeTold, step};
 ghost use Rattle.fs_server.specs.declared.event.ServerEvent.TheVariants as event;
-ghost use Rattle.fs_server.specs.declared.event.ServerEvent.{ServerEvent as TheEvent};
+ghost use Rattle.fs_serial.specs.declared.flying.Flying.{Flying as TheParcel};
 ghost use Rattle.fs_window.specs.Post.{post_accepted};
 ghost use Rattle.fs_world.specs.Hearing.{first_heard};
 ghost use Rattle.fs_world.specs.Linked.{FitsDown};
 ghost use Rattle.fs_world.specs.Planned.{IsAnswered, IsComing, concerns};
-ghost use Rattle.fs_world.specs.Served.{core_step, first_from, server_goes, server_hears, server_told, without_message};
+ghost use Rattle.fs_world.specs.Served.{Seats as TheSeats, core_step, first_from, server_goes, server_hears, server_told, without_message};
 
 use crate::goes::{heard_in, quiet_note, send_due};
 use crate::packets::Packets;
@@ -206,6 +206,7 @@ fn server_takes(
     packets: &mut Packets,
 ) -> Result<Outcome, CoreError>
     requires reading { now ≤ LATEST }
+    requires first { first_from k from seats.old flying.old ≡ Some event.now }
     requires told { CanBeTold event.now }
     ensures outcome { IfOk result (λ o. o ≡
         (core_step k false replied now event.now (without_message k from
@@ -260,8 +261,9 @@ fn server_takes(
 
 /// The event that the first message on its way from the actor is, if one came whole.
 fn event_in(alloc: Global, from: Peer, joined: &[Joined]) -> Result<Option<ServerEvent>, Memory>
-    ensures { (first : Maybe TheEvent) → IsComing joined.now first →
-        IfOk result (λ e. e ≡ first_heard joined.now first) }
+    ensures { (k : ℕ) (seats : TheSeats) (flying : Seq TheParcel) →
+        IsComing joined.now (first_from k from seats flying) →
+        IfOk result (λ e. e ≡ first_heard joined.now (first_from k from seats flying)) }
 {
     match joined {
         [] => Ok(None),

@@ -12,6 +12,7 @@ mod form;
 mod goes;
 mod hearing;
 mod hears;
+mod law;
 mod lists;
 mod numbers;
 mod packets;
@@ -28,4 +29,8 @@ mod term;
 mod tests;
 mod world;
 
+pub use law::{
+    every_run_is_serial, every_run_keeps_all_parts, no_core_is_told_what_is_strange,
+    no_short_run_is_spent, refusals_are_fair,
+};
 pub use world::World;

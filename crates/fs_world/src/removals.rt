@@ -1,5 +1,6 @@
 //! Messages that are no longer on their way.
-ghost use Rattle.std.specs.Prelude.{◌≡◌, ℕ, List as Seq};
+ghost use Rattle.std.specs.Prelude.{◌≡◌, ◌<◌, ◌==◌, length, IfSome};
+ghost use Rattle.std.specs.List.{position};
 ghost use Rattle.fs_serial.specs.Cluster.{is_between, is_with, without_first};
 
 use fs_ident::List;
@@ -9,9 +10,11 @@ use fs_serial::Flying;
 pub(crate) fn remove_first<T: Drop>(messages: &mut List<(u8, T)>, k: u8)
     ensures { messages.new ≡ without_first (is_with k) messages.old }
 {
-    let at = messages.as_slice().iter().position(|m| m.0 == k);
-    if let Some(at) = at {
-        messages.remove(at);
+    match first_with(messages.as_slice(), k) {
+        Some(at) => {
+            messages.remove(at);
+        }
+        None => {}
     }
 }
 
@@ -19,11 +22,26 @@ pub(crate) fn remove_first<T: Drop>(messages: &mut List<(u8, T)>, k: u8)
 pub(crate) fn remove_flying(flying: &mut List<Flying>, from: u8, to: u8)
     ensures { flying.new ≡ without_first (is_between from to) flying.old }
 {
-    let at = flying
-        .as_slice()
-        .iter()
-        .position(|f| f.from == from && f.to == to);
-    if let Some(at) = at {
-        flying.remove(at);
+    match first_between(flying.as_slice(), from, to) {
+        Some(at) => {
+            flying.remove(at);
+        }
+        None => {}
     }
+}
+
+/// The place of the first message to or from the server.
+fn first_with<T>(messages: &[(u8, T)], k: u8) -> Option<usize>
+    ensures same { result ≡ position (is_with k) messages.now }
+    ensures within { IfSome result (λ at. at < length messages.now) }
+{
+    messages.iter().position(|m| m.0 == k)
+}
+
+/// The place of the first parcel from one server to the other.
+fn first_between(flying: &[Flying], from: u8, to: u8) -> Option<usize>
+    ensures same { result ≡ position (is_between from to) flying.now }
+    ensures within { IfSome result (λ at. at < length flying.now) }
+{
+    flying.iter().position(|f| f.from == from && f.to == to)
 }

@@ -5,6 +5,7 @@ ghost use Rattle.fs_ident.specs.declared.limits.TheConstants.{LATEST, SESSIONS};
 ghost use Rattle.fs_msg.specs.declared.core_error.Counter.{Counter as TheCounter};
 ghost use Rattle.fs_msg.specs.declared.core_error.CoreError.TheVariants as errors;
 ghost use Rattle.fs_msg.specs.declared.limits.TheConstants.{LONGEST};
+ghost use Rattle.fs_record.specs.Records.{AreRecords};
 ghost use Rattle.fs_serial.specs.Cluster.{first_servers};
 ghost use Rattle.fs_serial.specs.World.{is_called};
 ghost use Rattle.fs_server.specs.declared.event.ServerEvent.TheVariants.{Move as TheMove, Recall as TheRecall};
@@ -251,6 +252,8 @@ impl Served {
         ensures err { OnErr result (self.new ≡ self.old) }
     {
         let at = k as usize;
+        let core = self.servers.at_mut(at);
+        know_records(core);
         core_step(
             alloc,
             k,
@@ -258,7 +261,7 @@ impl Served {
             None,
             now,
             event,
-            self.servers.at_mut(at),
+            core,
             self.posts.at_mut(at),
             &mut self.seats,
             &mut self.flying,
@@ -280,6 +283,13 @@ impl Served {
         } = self;
         seats.discard();
     }
+}
+
+/// The records of a server are in order, as each look-up tells.
+fn know_records(core: &ServerCore)
+    ensures { AreRecords core.now.records }
+{
+    core.records();
 }
 
 /// So many new servers.
