@@ -1,6 +1,6 @@
 -- What an actor does with what it heard.
-use Rattle.std.proofs.Common.{◌≡◌, ℕ, List, [], ◌∷◌, Bool, true, false, refl, ap, sym, ◌∙◌, subst}
-use Rattle.std.specs.Prelude.{Option, Some, None, Result, Ok, Err, IfOk, option_map, ◌++◌}
+use Rattle.std.proofs.Common.{◌≡◌, ◌≤◌, ℕ, length, arith, List, [], ◌∷◌, Bool, true, false, refl, ap, sym, ◌∙◌, subst}
+use Rattle.std.specs.Prelude.{Option, Some, None, Result, Ok, Err, IfOk, OnOk, option_map, ◌++◌, slice_index_or}
 use Rattle.std.specs.List.{find}
 use Rattle.std.specs.FinMap.{get}
 use Rattle.fs_ident.specs.declared.actor.Peer.{Peer}
@@ -21,7 +21,7 @@ use Rattle.fs_msg.specs.declared.peer_msg.PeerMsg.{PeerMsg}
 use Rattle.fs_msg.specs.declared.peer_msg.PeerMsg.TheVariants.{Parcel as OfParcel}
 use Rattle.fs_serial.specs.Cluster.{flying_from, is_between, is_with, without_first}
 use Rattle.fs_serial.specs.declared.flying.Flying.{Flying}
-use Rattle.fs_server.specs.Step.{CanBeTold, step}
+use Rattle.fs_server.specs.Step.{CanBeTold, spent_by, step}
 use Rattle.fs_server.specs.declared.event.ServerEvent.{ServerEvent}
 use Rattle.fs_server.specs.declared.event.ServerEvent.TheVariants.{FromClient, FromPeer}
 use Rattle.fs_window.specs.declared.heard.Heard.{Heard}
@@ -31,12 +31,15 @@ use Rattle.fs_world.specs.Packets.{Packets}
 use Rattle.fs_world.specs.Planned.{IsAnswered, IsComing, message_of}
 use Rattle.fs_world.specs.Served.{SeatStepped, Seats, ServerStepped, client_does, client_hears, client_noted, core_step, first_from, is_full_down, quiet_note, seat_goes, server_goes, server_hears, up_first, with_downs, without_message, without_up}
 use Rattle.fs_world.specs.declared.seat.Seat.{Seat}
+use Rattle.fs_msg.specs.declared.core_error.CoreError.{CoreError}
+use Rattle.fs_schedule.specs.declared.outcome.Outcome.{Outcome}
+use Rattle.fs_world.proofs.AtSeat.{has_room}
 use Rattle.fs_world.proofs.Linked.{first_answer}
 use Rattle.fs_world.proofs.Popped.{popped_then, taken_then}
 
 -- ## A session
 
-abbrev heard_answer : ℕ → Seat → List Joined → Option Answer
+abbrev pub heard_answer : ℕ → Seat → List Joined → Option Answer
 heard_answer k seat joined = option_map (λ (m : ℕ × Answer). m.1) (first_heard joined (find (is_with k) seat.down))
 
 pub session_hears_none : (now : ℕ) (s : Session) (k : ℕ) (from : Option Peer) (h : Heard) (joined : List Joined) (seat : Seat) (journal : List Item) (packets : Packets)
@@ -111,44 +114,6 @@ first_answered now (j ∷ js) (Some y) x e is fits room =
     let same : e ≡ y = cc in
     subst (λ (z : ServerEvent). FitsDown (step x.server now z).out.send × (is_full_down (step x.server now z).out.send x.post ≡ false)) same (fits, room)
 
--- what was read is the first message on its way
-module _ (r : Result (Option ServerEvent) Memory) (j : Joined) (js : List Joined) where
-  abbrev Reads : Option ServerEvent → Type 0
-  Reads o = IfOk r (λ (read : Option ServerEvent). read ≡ o)
-
-  question : (s : Session) (o : Option ClientMsg)
-      → ((m : ClientMsg) → j ≡ Whole (message (msg.Client m)) → FitsMessage (msg.Client m) → Reads (Some (FromClient s m)))
-      → IsComing (j ∷ js) (option_map (λ (m : ClientMsg). FromClient s m) o) → Reads (option_map (λ (m : ClientMsg). FromClient s m) o)
-  question s None reads comes = absurd comes
-  question s (Some m) reads comes =
-      let same : comes.0 ≡ msg.Client m = (let q = comes.1 in cc) in
-      reads m (subst (λ (x : Msg). j ≡ Whole (message x)) same comes.2) (subst FitsMessage same comes.3)
-
-  parcel : (i : ℕ) (o : Option Flying)
-      → ((m : PeerMsg) → j ≡ Whole (message (msg.Peer m)) → FitsMessage (msg.Peer m) → Reads (Some (FromPeer i m)))
-      → IsComing (j ∷ js) (option_map (λ (f : Flying). FromPeer i (OfParcel f.parcel)) o) → Reads (option_map (λ (f : Flying). FromPeer i (OfParcel f.parcel)) o)
-  parcel i None reads comes = absurd comes
-  parcel i (Some f) reads comes =
-      let same : comes.0 ≡ msg.Peer (OfParcel f.parcel) = (let q = comes.1 in cc) in
-      reads (OfParcel f.parcel) (subst (λ (x : Msg). j ≡ Whole (message x)) same comes.2) (subst FitsMessage same comes.3)
-
-  asked : (s : Session) (k : ℕ) (o : Option Seat)
-      → ((m : ClientMsg) → j ≡ Whole (message (msg.Client m)) → FitsMessage (msg.Client m) → Reads (Some (FromClient s m)))
-      → IsComing (j ∷ js) (up_first k s o) → Reads (up_first k s o)
-  asked s k None reads comes = absurd comes
-  asked s k (Some seat) reads comes = at (find (is_with k) seat.up) comes
-    where
-      at : (o : Option (ℕ × ClientMsg)) → IsComing (j ∷ js) (option_map (λ (m : ℕ × ClientMsg). FromClient s m.1) o) → Reads (option_map (λ (m : ℕ × ClientMsg). FromClient s m.1) o)
-      at None h = absurd h
-      at (Some m) h = question s (Some m.1) reads h
-
-  pub event_read : (from : Peer) (k : ℕ) (seats : Seats) (flying : List Flying)
-      → ((s : Session) (m : ClientMsg) → from ≡ Client s → j ≡ Whole (message (msg.Client m)) → FitsMessage (msg.Client m) → Reads (Some (FromClient s m)))
-      → ((i : ℕ) (m : PeerMsg) → from ≡ Server i → j ≡ Whole (message (msg.Peer m)) → FitsMessage (msg.Peer m) → Reads (Some (FromPeer i m)))
-      → IsComing (j ∷ js) (first_from k from seats flying) → Reads (first_from k from seats flying)
-  event_read (Client s) k seats flying questions parcels comes = asked s k (get seats s.0) (λ m. questions s m refl) comes
-  event_read (Server i) k seats flying questions parcels comes = parcel i (find (is_between i k) flying) (λ m. parcels i m refl) comes
-
 -- ## The message is taken off
 
 abbrev pub sent_by : ServerStepped → ℕ → ServerEvent → List (Peer × Msg)
@@ -178,3 +143,20 @@ pub taken_parcel : (k j : ℕ) (to : Option Peer) (now : ℕ) (e : ServerEvent) 
 taken_parcel k j to now e x flying new first is taken =
     let p = first_there k j (find (is_between j k) x.flying) e first in
     taken ∙ ap (without_first (is_between j k)) is ∙ taken_then (is_between j k) x.flying (flying_from k (sent_by x now e)) p.0 p.1
+
+pub answer_read_at : (r : Result (Option Answer) Memory) (k : ℕ) (seat : Seat) (joined : List Joined) (x : Joined) → 1 ≤ length joined → x ≡ slice_index_or joined 0 x
+    → ((a : Answer) → x ≡ Whole (message (msg.Answer a)) → FitsMessage (msg.Answer a) → IfOk r (λ (read : Option Answer). read ≡ Some a))
+    → IsFirstOf joined (downs_of k (Some seat)) → IfOk r (λ (read : Option Answer). read ≡ heard_answer k seat joined)
+answer_read_at r k seat [] x some is reads first = absurd (omega arith)
+answer_read_at r k seat (j ∷ js) x some is reads first = answer_read r k seat j js (λ a e. reads a (is ∙ e)) first
+
+-- ## It is answered
+
+room_left : (k : ℕ) (from : Peer) (to : Option Peer) (now : ℕ) (e : ServerEvent) (x : ServerStepped) → (core_step k false to now e (without_message k from x)).spent ≡ None → is_full_down (sent_by x now e) x.post ≡ false
+room_left k (Client s) to now e x h = has_room (spent_by x.server now e) (is_full_down (sent_by x now e) x.post) h
+room_left k (Server j) to now e x h = has_room (spent_by x.server now e) (is_full_down (sent_by x now e) x.post) h
+
+pub answered_after : (r : Result Outcome CoreError) (k : ℕ) (from : Peer) (to : Option Peer) (now : ℕ) (joined : List Joined) (first : Option ServerEvent) (x : ServerStepped) (e : ServerEvent) → Some e ≡ first_heard joined first
+    → OnOk r (FitsDown (sent_by x now e)) → OnOk r ((core_step k false to now e (without_message k from x)).spent ≡ None) → OnOk r (IsAnswered now joined first x)
+answered_after (Ok o) k from to now joined first x e is fits room = first_answered now joined first x e is fits (room_left k from to now e x room)
+answered_after (Err o) k from to now joined first x e is fits room = tt

@@ -99,8 +99,8 @@ module _ (n s : ℕ) where
 
 -- the first of these is taken off the front part, where there is one
 pub taken_then : {X : Type 0} (is : X → Bool) (xs ys : List X) (x : X) → find is xs ≡ Some x → without_first is (xs ++ ys) ≡ without_first is xs ++ ys
-taken_then is [] ys x e = absurd (cc)
-taken_then is (z ∷ xs) ys x e = go (is z) refl e (taken_then is xs ys x)
+taken_then {X = X} is [] ys x e = absurd (cc)
+taken_then {X = X} is (z ∷ xs) ys x e = go (is z) refl e (taken_then is xs ys x)
   where
     go : (b : Bool) → is z ≡ b → find is (z ∷ xs) ≡ Some x → (find is xs ≡ Some x → without_first is (xs ++ ys) ≡ without_first is xs ++ ys) → without_first is ((z ∷ xs) ++ ys) ≡ without_first is (z ∷ xs) ++ ys
     go true t e h = rw t refl

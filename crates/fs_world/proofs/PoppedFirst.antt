@@ -6,8 +6,8 @@ use Rattle.std.proofs.lemmas.Iterator.Adapters.{position_from-zero}
 use Rattle.fs_serial.specs.Cluster.{without_first}
 
 from_place : {X : Type 0} (is : X → Bool) (n : ℕ) (xs : List X) (i : ℕ) → position_from is n xs ≡ Some i → (j : ℕ) × (i ≡ n + j) × (remove xs j ≡ without_first is xs)
-from_place is n [] i e = absurd (cc)
-from_place is n (x ∷ xs) i e = go (is x) refl (from_place is (n + 1) xs i)
+from_place {X = X} is n [] i e = absurd (cc)
+from_place {X = X} is n (x ∷ xs) i e = go (is x) refl (from_place is (n + 1) xs i)
   where
     go : (b : Bool) → is x ≡ b → (position_from is (n + 1) xs ≡ Some i → (j : ℕ) × (i ≡ n + 1 + j) × (remove xs j ≡ without_first is xs))
         → (j : ℕ) × (i ≡ n + j) × (remove (x ∷ xs) j ≡ without_first is (x ∷ xs))
@@ -21,8 +21,8 @@ from_place is n (x ∷ xs) i e = go (is x) refl (from_place is (n + 1) xs i)
         (suc p.0, (let q : i ≡ n + 1 + p.0 = p.1 in omega arith), rw t (ap (λ (ys : List X). x ∷ ys) p.2))
 
 nowhere : {X : Type 0} (is : X → Bool) (n : ℕ) (xs : List X) → position_from is n xs ≡ None → xs ≡ without_first is xs
-nowhere is n [] e = refl
-nowhere is n (x ∷ xs) e = go (is x) refl (nowhere is (n + 1) xs)
+nowhere {X = X} is n [] e = refl
+nowhere {X = X} is n (x ∷ xs) e = go (is x) refl (nowhere is (n + 1) xs)
   where
     go : (b : Bool) → is x ≡ b → (position_from is (n + 1) xs ≡ None → xs ≡ without_first is xs) → x ∷ xs ≡ without_first is (x ∷ xs)
     go true t h =
