@@ -1,5 +1,5 @@
 -- What an actor does with what it heard.
-use Rattle.std.proofs.Common.{◌≡◌, ◌≤◌, ℕ, length, arith, List, [], ◌∷◌, Bool, true, false, refl, ap, sym, ◌∙◌, subst}
+use Rattle.std.proofs.Common.{◌≡◌, ◌≤◌, ℕ, length, arith, List, [], ◌∷◌, false, refl, ap, sym, ◌∙◌, subst}
 use Rattle.std.specs.Prelude.{Option, Some, None, Result, Ok, Err, IfOk, OnOk, option_map, ◌++◌, slice_index_or}
 use Rattle.std.specs.List.{find}
 use Rattle.std.specs.FinMap.{get}
@@ -13,23 +13,21 @@ use Rattle.fs_frag.specs.declared.joined.Joined.TheVariants.{Whole}
 use Rattle.fs_msg.specs.Ranges.{FitsMessage}
 use Rattle.fs_msg.specs.Spelling.{message}
 use Rattle.fs_msg.specs.declared.answer.Answer.{Answer}
-use Rattle.fs_msg.specs.declared.client_msg.ClientMsg.{ClientMsg}
 use Rattle.fs_msg.specs.declared.item.Item.{Item}
 use Rattle.fs_msg.specs.declared.msg.Msg.{Msg}
 use Rattle.fs_msg.specs.declared.msg.Msg.TheVariants as msg
-use Rattle.fs_msg.specs.declared.peer_msg.PeerMsg.{PeerMsg}
 use Rattle.fs_msg.specs.declared.peer_msg.PeerMsg.TheVariants.{Parcel as OfParcel}
 use Rattle.fs_serial.specs.Cluster.{flying_from, is_between, is_with, without_first}
 use Rattle.fs_serial.specs.declared.flying.Flying.{Flying}
 use Rattle.fs_server.specs.Step.{CanBeTold, spent_by, step}
 use Rattle.fs_server.specs.declared.event.ServerEvent.{ServerEvent}
-use Rattle.fs_server.specs.declared.event.ServerEvent.TheVariants.{FromClient, FromPeer}
+use Rattle.fs_server.specs.declared.event.ServerEvent.TheVariants.{FromPeer}
 use Rattle.fs_window.specs.declared.heard.Heard.{Heard}
 use Rattle.fs_world.specs.Hearing.{first_heard}
 use Rattle.fs_world.specs.Linked.{FitsDown, IsFirstOf, downs_of}
 use Rattle.fs_world.specs.Packets.{Packets}
-use Rattle.fs_world.specs.Planned.{IsAnswered, IsComing, message_of}
-use Rattle.fs_world.specs.Served.{SeatStepped, Seats, ServerStepped, client_does, client_hears, client_noted, core_step, first_from, is_full_down, quiet_note, seat_goes, server_goes, server_hears, up_first, with_downs, without_message, without_up}
+use Rattle.fs_world.specs.Planned.{IsAnswered, IsComing}
+use Rattle.fs_world.specs.Served.{Seats, ServerStepped, client_does, client_hears, client_noted, core_step, first_from, is_full_down, quiet_note, seat_goes, server_goes, server_hears, with_downs, without_message, without_up}
 use Rattle.fs_world.specs.declared.seat.Seat.{Seat}
 use Rattle.fs_msg.specs.declared.core_error.CoreError.{CoreError}
 use Rattle.fs_schedule.specs.declared.outcome.Outcome.{Outcome}

@@ -43,12 +43,7 @@ pub(crate) fn undo_downs(k: u8, seats: &mut Seats, send: &[(Peer, Msg)])
 }
 
 /// An answer is on its way.
-fn push_down(
-    alloc: Global,
-    k: u8,
-    seats: &mut Seats,
-    sent: &(Peer, Msg),
-) -> Result<(), Memory>
+fn push_down(alloc: Global, k: u8, seats: &mut Seats, sent: &(Peer, Msg)) -> Result<(), Memory>
     ensures ok { OnOk result (seats.new ≡ with_down k sent.now seats.old) }
     ensures err { OnErr result (seats.new ≡ seats.old) }
 {

@@ -97,7 +97,18 @@ pub(crate) fn server_told(
     let mut undo = Undo::new(alloc);
     let heard = post.accept_with_undo(alloc, from, p, &mut undo)?;
     match server_hears(
-        alloc, now, k, from, heard_in(from, p), &heard, core, post, seats, flying, journal, packets,
+        alloc,
+        now,
+        k,
+        from,
+        heard_in(from, p),
+        &heard,
+        core,
+        post,
+        seats,
+        flying,
+        journal,
+        packets,
     ) {
         Ok(told) => Ok(told),
         Err(e) => {

@@ -293,12 +293,7 @@ fn know_records(core: &ServerCore)
 }
 
 /// So many new servers.
-fn new_servers(
-    alloc: Global,
-    count: u8,
-    skew: u64,
-    term: u64,
-) -> Result<List<ServerCore>, Memory>
+fn new_servers(alloc: Global, count: u8, skew: u64, term: u64) -> Result<List<ServerCore>, Memory>
     requires few { count ≤ 15 }
     requires skew { skew ≤ LONGEST }
     requires some { 1 ≤ term }

@@ -1,8 +1,8 @@
-use Rattle.std.proofs.Common.{sym, ◌∙◌, subst}
+use Rattle.std.proofs.Common.{subst}
 use Rattle.std.specs.Prelude.{Some}
 use Rattle.std.specs.FinMap.{get}
 use Rattle.fs_ident.specs.declared.actor.Peer.{Peer}
-use Rattle.fs_ident.specs.declared.actor.Peer.TheVariants.{Client, Server}
+use Rattle.fs_ident.specs.declared.actor.Peer.TheVariants.{Client}
 use Rattle.fs_world.specs.Planned.{WasSent}
 use Rattle.fs_world.specs.Served.{told_at}
 use Rattle.fs_world.proofs.AtSeat.{linked_then, told_linked}
