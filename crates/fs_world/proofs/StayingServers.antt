@@ -10,6 +10,7 @@ use Rattle.fs_model.specs.declared.op.Op.{Op}
 use Rattle.fs_schedule.specs.declared.event.What.{What}
 use Rattle.fs_schedule.specs.declared.event.What.TheVariants.{Join, Do, Tell, Turn, Recall, Move}
 use Rattle.fs_serial.specs.Cluster.{first_servers}
+use Rattle.fs_server.specs.Server.{first_server}
 use Rattle.fs_server.specs.declared.event.ServerEvent.{ServerEvent}
 use Rattle.fs_server.specs.declared.event.ServerEvent.TheVariants.{Turn as TheTurn, Recall as TheRecall, Move as TheMove}
 use Rattle.fs_server.specs.declared.state.Server.{Server as Core}
@@ -25,7 +26,7 @@ use Rattle.fs_world.specs.declared.served.Served.{Served}
 -- so many there are at first
 pub first_count : (n skew term : ℕ) → length (first_servers n skew term) ≡ n
 first_count zero skew term = refl
-first_count (suc n) skew term = omega (arith, length-append (first_servers n skew term) _, first_count n skew term)
+first_count (suc n) skew term = omega (arith, length-append (first_servers n skew term) (first_server n skew term ∷ []), first_count n skew term)
 
 module _ (w : Served) where
   -- as many as before
