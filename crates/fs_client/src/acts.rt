@@ -60,10 +60,10 @@ fn act(alloc: Global, at: &Begun<'_>, op: &Op) -> Result<Plan<Act>, CoreError>
         return Ok(stays(at, Act::Over { n }));
     }
     let Walk { items, reply } = at.walk(alloc, op)?;
-    match reply {
-        Some(reply) => answer(alloc, at, op, reply, &items),
-        None => Ok(ask_for(alloc, at, items)?),
-    }
+    let Some(reply) = reply else {
+        return Ok(ask_for(alloc, at, items)?);
+    };
+    answer(alloc, at, op, reply, &items)
 }
 
 /// The reading and this change, and nothing but this is noted.

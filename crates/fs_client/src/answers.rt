@@ -1,4 +1,4 @@
-//! What a client makes of an answer of its server.
+//! What a client makes of an answer of a server.
 ghost use Rattle.std.specs.Prelude.{◌≡◌, ◌≤◌, true, length, map, take, IfOk};
 ghost use Rattle.fs_ident.specs.declared.limits.TheConstants.{LATEST};
 ghost use Rattle.fs_client.specs.Answers.{answer_plan, below_field, fits, full_told, granted_plan, hear, hints_told, lease_in, leases_in, noted_with, numbers_sent, over_after, released_plan, renewed_plan, shipped_plan, strange, told};

@@ -103,12 +103,7 @@ fn ships(at: &Begun<'_>, to: u8, entries: List<Entry>) -> Plan<ClientNote>
 }
 
 /// The entries at the front that are handed in at the server.
-fn entries_at(
-    alloc: Global,
-    at: &Begun<'_>,
-    to: u8,
-    log: &[Entry],
-) -> Result<List<Entry>, Memory>
+fn entries_at(alloc: Global, at: &Begun<'_>, to: u8, log: &[Entry]) -> Result<List<Entry>, Memory>
     ensures { IfOk result (λ entries. entries ≡ entries_at at.now to log.now) }
 {
     copies(alloc, &log[..count_at(at, to, log)])

@@ -9,7 +9,9 @@ use crate::begun::Begun;
 use crate::client_core::ClientCore;
 use crate::plan::Plan;
 use crate::state::Client;
-use crate::tests::{Asking, Short, act_word, acts, gets_leases, hears, note_word, released, shipped};
+use crate::tests::{
+    Asking, Short, act_word, acts, gets_leases, hears, note_word, released, shipped,
+};
 use fs_field::{Field, LeaseKind, Need, Value};
 use fs_ident::{FileId, Kind, LeaseNo, List, Name, Session, Twin};
 use fs_map::FileMap;
@@ -118,7 +120,7 @@ fn gets_both(rt: &impl Abort, alloc: Global, core: &mut ClientCore) -> Result<()
     hears(rt, alloc, core, 0, 0, &answer, ("granted", 1))
 }
 
-/// Entries of two servers go in three parts.
+/// The entries of two servers go in three parts, in order.
 fn ships(rt: &impl Abort, alloc: Global, core: &mut ClientCore) -> Result<(), Fail> {
     learns(rt, alloc, core)?;
     gets_leases(rt, alloc, core)?;
@@ -193,23 +195,14 @@ fn client(alloc: Global) -> Result<Client, Fail> {
     })
 }
 
-/// Two leases on each of two files, and an identifier below the second.
+/// Two leases on the file 1, one on the root, and an identifier below the root.
 fn needs(alloc: Global) -> Result<List<Need>, Fail> {
     let name = Name::new(alloc, b"a")?;
     let file = FileId::parse(alloc, b"/1")?;
     let mut needs = List::new(alloc);
-    needs.push(Need::Lease(
-        Field::Life(file.copy(alloc)?),
-        LeaseKind::Shared,
-    ))?;
-    needs.push(Need::Lease(
-        Field::Life(FileId::root(alloc)),
-        LeaseKind::Shared,
-    ))?;
-    needs.push(Need::Lease(
-        Field::Child(file, name),
-        LeaseKind::Exclusive,
-    ))?;
+    needs.push(Need::Lease(Field::Life(file.copy(alloc)?), LeaseKind::Shared))?;
+    needs.push(Need::Lease(Field::Life(FileId::root(alloc)), LeaseKind::Shared))?;
+    needs.push(Need::Lease(Field::Child(file, name), LeaseKind::Exclusive))?;
     needs.push(Need::Fresh(FileId::root(alloc)))?;
     Ok(needs)
 }
@@ -223,13 +216,18 @@ fn counts(plan: &Plan<Act>) -> (u64, usize, bool) {
     }
 }
 
+/// What is asked for at the server.
+fn question(alloc: Global, client: &Client, to: u8) -> Result<(u64, usize, bool), Fail> {
+    let needs = needs(alloc)?;
+    let at = Begun::at(client, 0);
+    let plan = acts::asks(alloc, &at, to, needs)?;
+    Ok(counts(&plan))
+}
+
 /// What is asked for at each of the servers.
 fn questions(rt: &impl Abort, alloc: Global, client: &Client) -> Result<(), Fail> {
-    let at = Begun::at(client, 0);
-    let plan = acts::asks(alloc, &at, 0, needs(alloc)?)?;
-    assert_eq!(rt; counts(&plan), (4, 1, true));
-    let plan = acts::asks(alloc, &at, 1, needs(alloc)?)?;
-    assert_eq!(rt; counts(&plan), (4, 2, false));
+    assert_eq!(rt; question(alloc, client, 0)?, (4, 1, true));
+    assert_eq!(rt; question(alloc, client, 1)?, (4, 2, false));
     Ok(())
 }
 
