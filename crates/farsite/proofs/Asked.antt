@@ -1,25 +1,25 @@
 -- What a schedule asks for is what callers may ask for, and may happen to its world.
 use Rattle.std.proofs.Common.{◌≡◌, ◌+◌, ◌<◌, true, List, [], ◌∷◌, refl, ℕ, drop, get_or, length, subst, sym, arith}
 use Rattle.std.proofs.lemmas.List.{drop_more}
-use Rattle.std.specs.Prelude.{◌≤◌, IfSome, nat_lt}
+use Rattle.std.specs.Prelude.{◌≤◌, nat_lt}
 use Rattle.std.proofs.lemmas.Bool.Decides.{nat_tests}
 use Rattle.fs_ident.proofs.Booleans.{joined}
 use Rattle.fs_ident.specs.declared.actor.Peer.TheVariants.{Client, Server}
 use Rattle.std.specs.List.{AllByRecursion}
-use Rattle.fs_ident.specs.declared.actor.Session.{Session}
-use Rattle.fs_ident.specs.declared.limits.TheConstants.{LATEST, SESSIONS}
+use Rattle.fs_ident.specs.declared.limits.TheConstants.{LATEST}
 use Rattle.fs_schedule.specs.declared.event.Event.{Event}
 use Rattle.fs_schedule.specs.declared.event.Head.{Head}
 use Rattle.fs_schedule.specs.declared.event.Head.TheVariants as head
 use Rattle.fs_schedule.specs.declared.event.What.{What}
 use Rattle.fs_schedule.specs.declared.event.What.TheVariants.{Join, Do, Tell, Turn, Recall, Move}
-use Rattle.fs_schedule.specs.Spelling.{FitsEvent, FitsWhat, session_in}
-use Rattle.fs_world.specs.World.{AllMayHappen, FitsServed, FitsWorld, first_world, may_happen, step}
+use Rattle.fs_schedule.specs.Spelling.{FitsEvent, FitsWhat}
+use Rattle.fs_world.specs.World.{AllMayHappen, FitsServed, first_world, may_happen, step}
 use Rattle.fs_world.specs.declared.form.Form.{Form}
 use Rattle.fs_world.specs.declared.form.Form.TheVariants.{Direct, Served}
 use Rattle.fs_world.specs.Served.{step_of}
 use Rattle.fs_world.proofs.Forms.{called}
-use Rattle.fs_world.proofs.StayingServers.{first_count, servers_stay}
+use Rattle.fs_world.proofs.Fitting.{what_fits}
+use Rattle.fs_world.proofs.StayingServers.{servers_stay}
 use Rattle.farsite.specs.Fitting.{MayHappen}
 
 below : (k n : ℕ) → k < n → nat_lt k n ≡ true
@@ -38,24 +38,11 @@ what_asked (head.Servers n k t) (Tell number) f = refl
 what_asked (head.Servers n k t) (Turn (Client s)) f = refl
 what_asked (head.Servers n k t) (Turn (Server j)) f = below j n f.0
 what_asked (head.Servers n k t) (Recall j field) f = below j n f.0.0
-what_asked (head.Servers n k t) (Move j prefix to) f = joined _ _ (below j n f.0.0) (below to n f.1.1.0)
+what_asked (head.Servers n k t) (Move j prefix to) f = joined _ _ (below j n f.0.0) (below to n f.2.0)
 
 pub all_asked : (h : Head) (es : List Event) → AllByRecursion (FitsEvent h) es → AllMayHappen h es
 all_asked h [] f = tt
 all_asked h (e ∷ es) f = (what_asked h e.what f.0.what, all_asked h es f.1)
-
-served_fits : (n k t : ℕ) (w : What) → IfSome (session_in w) (λ (s : Session). (1 ≤ s.0) × (s.0 ≤ SESSIONS)) → FitsWhat (head.Servers n k t) w → FitsServed n w
-served_fits n k t (Join s) session f = session
-served_fits n k t (Do s o) session f = called n k t o f.0
-served_fits n k t (Tell number) session f = tt
-served_fits n k t (Turn (Client s)) session f = tt
-served_fits n k t (Turn (Server j)) session f = f.0
-served_fits n k t (Recall j field) session f = f.0.0
-served_fits n k t (Move j prefix to) session f = (f.0.0, f.1.1.0)
-
-what_fits : (h : Head) (e : Event) → FitsEvent h e → FitsWorld (first_world h) e.what
-what_fits head.Direct e f = tt
-what_fits (head.Servers n k t) e f = subst (λ servers. FitsServed servers e.what) (sym (first_count n k t)) (served_fits n k t e.what f.session f.what)
 
 pub all_fit : (h : Head) (es : List Event) → AllByRecursion (FitsEvent h) es → MayHappen (first_world h) es
 all_fit h [] f = tt

@@ -52,3 +52,4 @@ pub mod RightSteps
 pub mod RightRuns
 pub mod HeldLaws
 pub mod StayingServers
+pub mod Fitting
