@@ -1,24 +1,29 @@
 -- What a schedule asks for is what callers may ask for, and may happen to its world.
-use Rattle.std.proofs.Common.{◌≡◌, ◌+◌, ◌<◌, true, List, [], ◌∷◌, refl, ℕ, drop, get_or, length, subst, sym}
+use Rattle.std.proofs.Common.{◌≡◌, ◌+◌, ◌<◌, true, List, [], ◌∷◌, refl, ℕ, drop, get_or, length, subst, sym, arith}
 use Rattle.std.proofs.lemmas.List.{drop_more}
-use Rattle.std.specs.Prelude.{◌≤◌, IfSome}
+use Rattle.std.specs.Prelude.{◌≤◌, nat_lt}
+use Rattle.std.proofs.lemmas.Bool.Decides.{nat_tests}
+use Rattle.fs_ident.proofs.Booleans.{joined}
+use Rattle.fs_ident.specs.declared.actor.Peer.TheVariants.{Client, Server}
 use Rattle.std.specs.List.{AllByRecursion}
-use Rattle.fs_ident.specs.declared.actor.Session.{Session}
-use Rattle.fs_ident.specs.declared.limits.TheConstants.{SESSIONS}
+use Rattle.fs_ident.specs.declared.limits.TheConstants.{LATEST}
 use Rattle.fs_schedule.specs.declared.event.Event.{Event}
 use Rattle.fs_schedule.specs.declared.event.Head.{Head}
 use Rattle.fs_schedule.specs.declared.event.Head.TheVariants as head
-use Rattle.fs_schedule.specs.declared.event.Schedule.{Schedule}
 use Rattle.fs_schedule.specs.declared.event.What.{What}
-use Rattle.fs_schedule.specs.declared.event.What.TheVariants.{Join, Do, Tell, Turn, Recall}
-use Rattle.fs_schedule.specs.Faults.{AreLinesOf, IsScheduleText}
-use Rattle.fs_schedule.specs.Lines.{lines_of}
-use Rattle.fs_schedule.specs.Spelling.{FitsEvent, FitsHead, FitsWhat, session_in}
-use Rattle.fs_world.specs.World.{AllMayHappen, FitsServed, FitsWorld, first_world, may_happen, step}
+use Rattle.fs_schedule.specs.declared.event.What.TheVariants.{Join, Do, Tell, Turn, Recall, Move}
+use Rattle.fs_schedule.specs.Spelling.{FitsEvent, FitsWhat}
+use Rattle.fs_world.specs.World.{AllMayHappen, FitsServed, first_world, may_happen, step}
 use Rattle.fs_world.specs.declared.form.Form.{Form}
 use Rattle.fs_world.specs.declared.form.Form.TheVariants.{Direct, Served}
+use Rattle.fs_world.specs.Served.{step_of}
 use Rattle.fs_world.proofs.Forms.{called}
+use Rattle.fs_world.proofs.Fitting.{what_fits}
+use Rattle.fs_world.proofs.StayingServers.{servers_stay}
 use Rattle.farsite.specs.Fitting.{MayHappen}
+
+below : (k n : ℕ) → k < n → nat_lt k n ≡ true
+below k n h = grind (arith, nat_tests)
 
 what_asked : (h : Head) (w : What) → FitsWhat h w → may_happen h w ≡ true
 what_asked head.Direct (Join s) f = refl
@@ -26,45 +31,33 @@ what_asked head.Direct (Do s o) f = f.0
 what_asked head.Direct (Tell number) f = refl
 what_asked head.Direct (Turn who) f = refl
 what_asked head.Direct (Recall k field) f = refl
+what_asked head.Direct (Move k prefix to) f = refl
 what_asked (head.Servers n k t) (Join s) f = refl
 what_asked (head.Servers n k t) (Do s o) f = called n k t o f.0
 what_asked (head.Servers n k t) (Tell number) f = refl
-what_asked (head.Servers n k t) (Turn who) f = refl
-what_asked (head.Servers n k t) (Recall j field) f = refl
+what_asked (head.Servers n k t) (Turn (Client s)) f = refl
+what_asked (head.Servers n k t) (Turn (Server j)) f = below j n f.0
+what_asked (head.Servers n k t) (Recall j field) f = below j n f.0.0
+what_asked (head.Servers n k t) (Move j prefix to) f = joined _ _ (below j n f.0.0) (below to n f.2.0)
 
 pub all_asked : (h : Head) (es : List Event) → AllByRecursion (FitsEvent h) es → AllMayHappen h es
 all_asked h [] f = tt
 all_asked h (e ∷ es) f = (what_asked h e.what f.0.what, all_asked h es f.1)
 
-session_fits : (n k t : ℕ) (w : What) → IfSome (session_in w) (λ (s : Session). (1 ≤ s.0) × (s.0 ≤ SESSIONS)) → FitsWhat (head.Servers n k t) w → FitsServed w
-session_fits n k t (Join s) session f = session
-session_fits n k t (Do s o) session f = called n k t o f.0
-session_fits n k t (Tell number) session f = tt
-session_fits n k t (Turn who) session f = tt
-session_fits n k t (Recall j field) session f = tt
-
-what_fits : (h : Head) (e : Event) → FitsEvent h e → FitsWorld (first_world h) e.what
-what_fits head.Direct e f = tt
-what_fits (head.Servers n k t) e f = session_fits n k t e.what f.session f.what
-
 pub all_fit : (h : Head) (es : List Event) → AllByRecursion (FitsEvent h) es → MayHappen (first_world h) es
 all_fit h [] f = tt
 all_fit h (e ∷ es) f = ((f.0.reading, what_fits h e f.0), all_fit h es f.1)
 
+as_many : (n m : ℕ) (es : List Event) → n ≡ m → AllByRecursion (λ (e : Event). (e.reading ≤ LATEST) × FitsServed n e.what) es → AllByRecursion (λ (e : Event). (e.reading ≤ LATEST) × FitsServed m e.what) es
+as_many n m es same f = subst (λ servers. AllByRecursion (λ (e : Event). (e.reading ≤ LATEST) × FitsServed servers e.what) es) same f
+
+-- as many servers are there after an event
 fits_on : (w : Form) (x : Event) (es : List Event) → MayHappen w es → MayHappen (step w x).world es
 fits_on (Direct w) x es f = f
-fits_on (Served w) x es f = f
+fits_on (Served w) x es f = as_many (length w.servers) (length (step_of w x.reading x.what).world.servers) es (sym (servers_stay w x.reading x.what)) f
 
 -- what fits a world fits it after an event
 pub fits_further : (w after : Form) (es : List Event) (i : ℕ) (e : Event) → i < length es → after ≡ (step w e).world → MayHappen w (drop i es) → MayHappen after (drop (i + 1) es)
 fits_further w after es i e lt eq f =
     let both : MayHappen w (get_or es i e ∷ drop (i + 1) es) = subst (λ (xs : List Event). MayHappen w xs) (drop_more es i e lt) f in
     subst (λ (v : Form). MayHappen v (drop (i + 1) es)) (sym eq) (fits_on w e (drop (i + 1) es) both.1)
-
--- the numbers of its first line are in their ranges
-pub head_fits : (s : Schedule) (bytes : List ℕ) → IsScheduleText s bytes → FitsHead s.head
-head_fits s bytes r = in_lines s (lines_of bytes) r.0
-  where
-    in_lines : (s : Schedule) (lines : List (List ℕ)) → AreLinesOf s lines → FitsHead s.head
-    in_lines s [] r = absurd r
-    in_lines s (line ∷ lines) r = r.0.1.0

@@ -5,13 +5,15 @@ use Rattle.std.specs.Io.KnownBytes.{Appends}
 use Rattle.fs_schedule.specs.declared.event.Schedule.{Schedule}
 use Rattle.fs_schedule.specs.Faults.{AtLine, FaultsAt, IsFirstFault, IsScheduleText, LinesFaultAt, PassesLimit}
 use Rattle.fs_report.specs.Report.{done_text}
+use Rattle.fs_schedule.proofs.Single.{form_fits}
 use Rattle.fs_world.specs.Refusals.{NoneHas, is_link_strange}
 use Rattle.fs_world.specs.World.{AllMayHappen, run_of, stop_of}
+use Rattle.fs_world.proofs.HeldLaws.{serial_laws}
 use Rattle.fs_world.proofs.RightRuns.{neither_strange, no_core_strange, refusals_fair}
 use Rattle.fs_world.proofs.Whole.{run_is_serial, told_is_admitted}
 use Rattle.fs_schedule.specs.Lines.{lines_of}
 use Rattle.fs_schedule.specs.declared.error.Which.{Which}
-use Rattle.fs_schedule.specs.declared.error.Which.TheVariants.{Bytes, Events, Packets, Sessions}
+use Rattle.fs_schedule.specs.declared.error.Which.TheVariants.{Bytes, Events, Packets, Servers, Sessions}
 use Rattle.fs_schedule.specs.declared.event.Head.{Head}
 use Rattle.fs_schedule.specs.declared.error.ScheduleError.{ScheduleError}
 use Rattle.fs_schedule.specs.declared.error.ScheduleError.TheVariants as schedule
@@ -26,10 +28,10 @@ replayed s bytes a b r f h k w = record {
   read = r;
   whole = h;
   written = w;
-  headline = run_is_serial s f r.1;
-  fair = refusals_fair s f r.1;
-  known = neither_strange (run_of s).outcomes k (no_core_strange s f r.1);
-  admitted = λ direct. told_is_admitted s direct f;
+  headline = run_is_serial serial_laws s (form_fits s bytes r) f r.1;
+  fair = refusals_fair serial_laws s (form_fits s bytes r) f r.1;
+  known = neither_strange (run_of s).outcomes k (no_core_strange serial_laws s (form_fits s bytes r) f r.1);
+  admitted = λ direct. told_is_admitted serial_laws s direct f;
 }
 
 -- no line that is read passes the limit of packets
@@ -46,6 +48,7 @@ no_text_floods at (line ∷ lines) (inr x) = no_line_floods x.0 at 0 lines x.2
 -- a limit that is met in reading is one
 pub read_limit : (which : Which) (at : ℕ) (bytes : List ℕ) → IsFirstFault (AtLine at (PassesLimit which)) bytes → IsLimit which at bytes
 read_limit Bytes at bytes f = f
+read_limit Servers at bytes f = f
 read_limit Sessions at bytes f = f
 read_limit Events at bytes f = f
 read_limit Packets at bytes f = absurd (no_text_floods at (lines_of bytes) f)

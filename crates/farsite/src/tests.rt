@@ -1,3 +1,4 @@
+mod moves;
 mod schedules;
 mod served;
 
@@ -6,6 +7,7 @@ use crate::top::farsite;
 use crate::{printed, words_of};
 use fs_io::{MemClock, MemSink, MemSource, SureLink};
 use fs_schedule::Which;
+use moves::{DELEGATION, DELEGATION_REPORT, REFUSED_MOVES, REFUSED_MOVES_REPORT};
 use schedules::{
     FIRST, FIRST_REPORT, HEAD, OPENS, OPENS_REPORT, OTHERS, OTHERS_OUTCOMES, RENAMES,
     RENAMES_REPORT, SAVE, SAVE_REPORT,
@@ -82,7 +84,7 @@ fn reports_to_the_byte(rt: HostRuntime) -> Result<(), Fail> {
     Ok(())
 }
 
-/// A server and its clients: leases, logs, opens, recalls, repeats, and clocks that differ.
+/// Servers and clients: leases, logs, opens, recalls, repeats, clocks that differ, and moves.
 #[test]
 fn reports_of_a_server_to_the_byte(rt: HostRuntime) -> Result<(), Fail> {
     let alloc = rt.alloc();
@@ -98,6 +100,8 @@ fn reports_of_a_server_to_the_byte(rt: HostRuntime) -> Result<(), Fail> {
         (SHIPPED_AT_110, SHIPPED_AT_110_REPORT),
         (UNBORN_FILE_IS_LEASED, UNBORN_FILE_IS_LEASED_REPORT),
         (WITHIN_SKEW, WITHIN_SKEW_REPORT),
+        (DELEGATION, DELEGATION_REPORT),
+        (REFUSED_MOVES, REFUSED_MOVES_REPORT),
     ] {
         let (status, written) = replayed(alloc, input, b"", 0, b"")?;
         assert_eq!(rt; status, Status::Done);
@@ -121,7 +125,20 @@ fn skews_and_heads(rt: HostRuntime) -> Result<(), Fail> {
             b"89 join c2\n".as_slice(),
             skewed,
         ),
-        (b"farsite 1 servers 2 skew 10 term 100\n", NONE, line(1)),
+        (b"farsite 1 servers 0 skew 10 term 100\n", NONE, line(1)),
+        (
+            b"farsite 1 servers 16 skew 10 term 100\n",
+            NONE,
+            Status::Limit {
+                which: Which::Servers,
+                at: 1,
+            },
+        ),
+        (
+            b"farsite 1 servers 15 skew 10 term 100\n",
+            b"0 move s0 / s15\n",
+            line(2),
+        ),
         (b"farsite 1 servers 1 skew 10 term 0\n", NONE, line(1)),
         (
             b"farsite 1 servers 1 skew 10 term 100\n",

@@ -6,7 +6,7 @@ use Rattle.fs_view.specs.View.{View, admitted_front, lapsed_at, with_first_admit
 use Rattle.fs_view.proofs.Order.{lapse_before_front, unpin_after_front}
 use Rattle.fs_client.specs.declared.state.Client.{Client}
 use Rattle.fs_client.specs.Admitted.{freed}
-use Rattle.fs_client.specs.Client.{admitted_all, admitted_one, begun, with_shipped}
+use Rattle.fs_client.specs.Client.{admitted_all, begun, with_shipped}
 
 -- the client with this view and this log
 abbrev pub with_log : Client → View → List Entry → Client

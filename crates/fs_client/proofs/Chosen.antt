@@ -1,5 +1,5 @@
 -- Steps of the loops over leases.
-use Rattle.std.proofs.Common.{◌≡◌, ℕ, ◌+◌, ◌<◌, Bool, true, false, List, [], ◌∷◌, refl, cond, length, get_or, drop, map, ap, sym, append-nil, ◌++◌, ◌≤◌, ◌∙◌}
+use Rattle.std.proofs.Common.{◌≡◌, ℕ, ◌+◌, ◌<◌, Bool, true, false, List, ◌∷◌, refl, cond, length, get_or, drop, map, ap, sym, append-nil, ◌++◌, ◌≤◌, ◌∙◌}
 use Rattle.std.specs.List.{filter}
 use Rattle.std.proofs.lemmas.List.{drop_more, drop_all}
 use Rattle.fs_view.specs.declared.kept.Kept.{Kept}

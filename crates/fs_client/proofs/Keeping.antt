@@ -1,18 +1,18 @@
 -- What a change keeps of a client.
-use Rattle.std.proofs.Common.{◌≡◌, ◌≤◌, ℕ, zero, suc, Bool, true, List, [], ◌∷◌, refl, ap, arith, sym, ◌∙◌, Ok, Err, subst}
-use Rattle.std.specs.Prelude.{Option, Result, OnOk, OnErr, max, nat_le, ◌&&◌}
+use Rattle.std.proofs.Common.{◌≡◌, ◌≤◌, ℕ, zero, suc, true, List, [], ◌∷◌, refl, arith, sym, ◌∙◌, Ok, Err, subst}
+use Rattle.std.specs.Prelude.{Option, Some, None, Result, OnOk, OnErr, max, nat_le}
 use Rattle.std.proofs.lemmas.Bool.Decides.{nat_tests}
 use Rattle.fs_ident.proofs.Booleans.{both}
 use Rattle.fs_ident.specs.declared.limits.TheConstants.{LATEST}
 use Rattle.fs_ident.specs.declared.memory.Memory.{Memory}
 use Rattle.fs_msg.specs.declared.entry.Entry.{Entry}
 use Rattle.fs_msg.specs.declared.limits.TheConstants.{LONGEST}
-use Rattle.fs_view.specs.View.{with_first_admitted, without_pins}
 use Rattle.fs_client.specs.declared.change.Change.{Change}
 use Rattle.fs_client.specs.declared.change.Change.TheVariants as change
 use Rattle.fs_client.specs.declared.plan.Ready.{Ready}
 use Rattle.fs_client.specs.declared.state.Client.{Client}
-use Rattle.fs_client.specs.Client.{IsClient, admitted_all, admitted_one, begun, can_change, can_commit, changed, committed}
+use Rattle.fs_map.specs.Map.{Owners}
+use Rattle.fs_client.specs.Client.{IsClient, admitted_all, admitted_one, begun, can_change, can_commit, changed, committed, with_hints}
 
 one_term : (es : List Entry) (c : Client) → (admitted_one c es).term ≡ c.term
 one_term [] c = refl
@@ -54,6 +54,10 @@ same_last (change.Release numbers) c = refl
 same_last (change.Admit count over) c = all_last count c
 same_last (change.Recall number) c = refl
 
+told_client : (h : Option Owners) (c : Client) → IsClient c → IsClient (with_hints h c)
+told_client None c i = i
+told_client (Some hints) c i = record { term = i.term; last = i.last }
+
 greatest : (a b n : ℕ) → a ≤ n → nat_le b n ≡ true → max a b ≤ n
 greatest a b n h g = grind (arith, nat_tests)
 
@@ -61,10 +65,11 @@ greatest a b n h g = grind (arith, nat_tests)
 pub stays_client : (r : Ready) (c : Client) → IsClient c → can_commit r c ≡ true → IsClient (committed r c)
 stays_client r c i h =
     let q : (nat_le r.now LATEST ≡ true) × (can_change r.change (begun r.now c) ≡ true) = both (nat_le r.now LATEST) _ h in
-    record {
+    told_client r.hints (changed r.change (begun r.now c))
+    (record {
       term = subst (λ n. n ≤ LONGEST) (sym (same_term r.change (begun r.now c))) i.term;
       last = subst (λ n. n ≤ LATEST) (sym (same_last r.change (begun r.now c))) (greatest c.last r.now LATEST i.last q.0);
-    }
+    })
 
 pub is_client_still : (res : Result (Unit {0}) Memory) (r : Ready) (old new : Client) → OnOk res (new ≡ committed r old) → OnErr res (new ≡ old) → IsClient old → can_commit r old ≡ true → IsClient new
 is_client_still (Ok u) r old new ok err i h = subst IsClient (sym ok) (stays_client r old i h)

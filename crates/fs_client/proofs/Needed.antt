@@ -1,8 +1,7 @@
 -- Steps of the loops over needs.
-use Rattle.std.proofs.Common.{◌≡◌, ℕ, ◌+◌, ◌<◌, Bool, true, false, List, [], ◌∷◌, refl, ap, cond, length, get_or, drop, arith, sym, ◌∙◌}
-use Rattle.std.specs.Prelude.{Option, Some, None, is_some, unwrap_or, ◌==◌}
-use Rattle.std.proofs.lemmas.Bool.Decides.{nat_tests}
-use Rattle.std.specs.List.{filter_map, cons_option}
+use Rattle.std.proofs.Common.{◌≡◌, ℕ, ◌+◌, ◌<◌, true, false, List, [], ◌∷◌, refl, ap, cond, length, get_or, drop, sym, ◌∙◌}
+use Rattle.std.specs.Prelude.{Some, None, is_some, unwrap_or}
+use Rattle.std.specs.List.{cons_option, slice_get}
 use Rattle.std.proofs.lemmas.List.{drop_more}
 use Rattle.fs_field.specs.declared.asked.Need.{Need}
 use Rattle.fs_field.specs.declared.asked.Need.TheVariants.{Lease, Fresh}
@@ -11,7 +10,11 @@ use Rattle.fs_msg.specs.declared.act.Act.TheVariants as act
 use Rattle.fs_msg.specs.declared.act.Busy.TheVariants as busy
 use Rattle.fs_client.specs.declared.plan.Plan.{Plan}
 use Rattle.fs_client.specs.declared.state.Client.{Client}
-use Rattle.fs_client.specs.Acts.{ask_for, asks, fresh_asked, full_one, item_of, items_of, stays}
+use Rattle.fs_model.specs.declared.op.Op.{Op}
+use Rattle.fs_view.specs.declared.walk.Walk.{Walk}
+use Rattle.fs_view.specs.View.{reply_in, walk_in}
+use Rattle.fs_client.specs.Live.{absent_from}
+use Rattle.fs_client.specs.Acts.{act_on, answer_with, ask_for, asks, fresh_asked, full_one, hinted, item_of, items_of, need_file, stays, worth}
 use Rattle.fs_client.specs.Client.{can_change}
 
 pub items_step : (needs : List Need) (i : ℕ) (d : Need) → i < length needs → items_of (drop i needs) ≡ cons_option (item_of (get_or needs i d)) (items_of (drop (i + 1) needs))
@@ -27,14 +30,22 @@ full_is [] c = refl
 full_is (Lease field kind ∷ needs) c = full_is needs c
 full_is (Fresh dir ∷ needs) c = refl
 
-pub nothing_worth : (needs ns : List Need) (c : Client) → (length ns == 0) ≡ true → ask_for needs ns c ≡ stays (act.NoIds (unwrap_or (fresh_asked needs) [])) c
+pub nothing_worth : (needs ns : List Need) (c : Client) → slice_get ns 0 ≡ None → ask_for needs ns c ≡ stays (act.NoIds (unwrap_or (fresh_asked needs) [])) c
 nothing_worth needs [] c h = full_is needs c
-nothing_worth needs (n ∷ ns) c h = absurd (grind (arith, nat_tests))
+nothing_worth needs (n ∷ ns) c h = absurd (cc h)
 
-pub something_worth : (needs ns : List Need) (c : Client) → (length ns == 0) ≡ false → ask_for needs ns c ≡ cond (is_some c.exchange) (stays (act.Busy busy.Exchange) c) (asks ns c)
-something_worth needs [] c h = absurd (grind (arith, nat_tests))
-something_worth needs (n ∷ ns) c h = refl
+pub something_worth : (needs ns : List Need) (n : Need) (c : Client) → slice_get ns 0 ≡ Some n → ask_for needs ns c ≡ cond (is_some c.exchange) (stays (act.Busy busy.Exchange) c) (asks (hinted c (need_file n)) ns c)
+something_worth needs [] n c h = absurd (cc h)
+something_worth needs (m ∷ ns) n c h = let q : m ≡ n = cc h in ap (λ x. cond (is_some c.exchange) (stays (act.Busy busy.Exchange) c) (asks (hinted c (need_file x)) (m ∷ ns) c)) q
 
 pub asking_can : (needs ns : List Need) (c : Client) → can_change (ask_for needs ns c).ready.change c ≡ true
 asking_can needs [] c = ap (λ (p : Plan Act). can_change p.ready.change c) (full_is needs c)
-asking_can needs (n ∷ ns) c = elim (is_some c.exchange) as (λ b. can_change (cond b (stays (act.Busy busy.Exchange) c) (asks (n ∷ ns) c)).ready.change c ≡ true) [ true ↦ refl | false ↦ refl ]
+asking_can needs (n ∷ ns) c = elim (is_some c.exchange) as (λ b. can_change (cond b (stays (act.Busy busy.Exchange) c) (asks (hinted c (need_file n)) (n ∷ ns) c)).ready.change c ≡ true) [ true ↦ refl | false ↦ refl ]
+
+-- what is missing is asked for
+pub asking_is : (c : Client) (o : Op) (w : Walk) (p : Plan Act) → c.over ≡ None → w ≡ walk_in c.view c.last o → w.reply ≡ None → p ≡ ask_for (absent_from c w.items) (worth c.full (absent_from c w.items)) c → p ≡ act_on c.over o c
+asking_is c o w p h e n q =
+    let r : reply_in c.view c.last o ≡ None = ap (λ (x : Walk). x.reply) (sym e) ∙ n in
+    q
+    ∙ (ap (λ (x : Walk). ask_for (absent_from c x.items) (worth c.full (absent_from c x.items)) c) e
+    ∙ (ap (λ reply. answer_with reply o c) (sym r) ∙ ap (λ over. act_on over o c) (sym h)))

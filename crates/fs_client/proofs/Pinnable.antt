@@ -1,6 +1,6 @@
 -- What is used at a reading, where leases that are over are not seen.
 use Rattle.std.proofs.Common.{◌≡◌, ℕ, Bool, true, List, cond, sym, ap, ◌∙◌}
-use Rattle.std.specs.Prelude.{Option, Some, None}
+use Rattle.std.specs.Prelude.{Some, None}
 use Rattle.std.specs.List.{filter_map}
 use Rattle.fs_field.specs.declared.asked.Need.{Need}
 use Rattle.fs_field.specs.declared.used.Use.{Use}

@@ -17,6 +17,7 @@ use Rattle.fs_msg.specs.declared.act.Busy.TheVariants as busy
 use Rattle.fs_msg.specs.declared.answer.Answer.{Answer}
 use Rattle.fs_msg.specs.declared.answer.Answer.TheVariants.{Granted, Renewed, Released, Shipped, Recall}
 use Rattle.fs_msg.specs.declared.client_note.ClientNote.{ClientNote}
+use Rattle.fs_msg.specs.declared.entry.Entry.{Entry}
 use Rattle.fs_msg.specs.declared.core_error.Counter.{Counter}
 use Rattle.fs_msg.specs.declared.core_error.Counter.TheVariants.{Entries}
 use Rattle.fs_msg.specs.declared.core_error.CoreError.{CoreError}
@@ -26,10 +27,10 @@ use Rattle.fs_view.specs.View.{lapsed_at, missing_in, reply_in}
 use Rattle.fs_client.specs.declared.plan.Plan.{Plan}
 use Rattle.fs_client.specs.declared.plan.Ready.{Ready}
 use Rattle.fs_client.specs.declared.state.Client.{Client}
-use Rattle.fs_client.specs.Acts.{act_on, act_plan, answer_with, answers, ask_for, asks, full_one, is_act_spent, reads, replies, stays, worth}
+use Rattle.fs_client.specs.Acts.{act_on, act_plan, answer_with, ask_for, asks, full_one, hinted, is_act_spent, need_file, reads, replies, stays, worth}
 use Rattle.fs_client.specs.Answers.{answer_plan, fits, hear, strange, told}
 use Rattle.fs_client.specs.Client.{IsClient, begun, can_change, can_commit}
-use Rattle.fs_client.specs.Turns.{ending, idle, release_some, renew_some, returned, ships, turn_free, turn_on, turn_plan}
+use Rattle.fs_client.specs.Turns.{ending, idle, release_some, renew_some, returned, ship_some, turn_free, turn_on, turn_plan}
 
 -- ## A plan has the reading of its event
 
@@ -57,7 +58,7 @@ full_now (Fresh dir ∷ needs) c = refl
 
 ask_now : (needs ns : List Need) (c : Client) → (ask_for needs ns c).ready.now ≡ c.last
 ask_now needs [] c = full_now needs c
-ask_now needs (n ∷ ns) c = elim (is_some c.exchange) as (λ b. (cond b (stays (act.Busy busy.Exchange) c) (asks (n ∷ ns) c)).ready.now ≡ c.last) [ true ↦ refl | false ↦ refl ]
+ask_now needs (n ∷ ns) c = elim (is_some c.exchange) as (λ b. (cond b (stays (act.Busy busy.Exchange) c) (asks (hinted c (need_file n)) (n ∷ ns) c)).ready.now ≡ c.last) [ true ↦ refl | false ↦ refl ]
 
 answer_now : (r : Option Reply) (o : Op) (c : Client) → (answer_with r o c).ready.now ≡ c.last
 answer_now (Some r) o c = elim (not (is_change r) && is_empty c.log) as (λ b. (cond b (reads o r c) (replies o r c)).ready.now ≡ c.last) [ true ↦ refl | false ↦ refl ]
@@ -102,12 +103,16 @@ release_now : (ks : List Kept) (c : Client) → (release_some ks c).ready.now �
 release_now [] c = renew_now (ending _ c.view) c
 release_now (k ∷ ks) c = refl
 
+ship_now : (es : List Entry) (c : Client) → (ship_some es c).ready.now ≡ c.last
+ship_now [] c = refl
+ship_now (e ∷ es) c = refl
+
 either_now : (b : Bool) (p q : Plan ClientNote) (n : ℕ) → p.ready.now ≡ n → q.ready.now ≡ n → (cond b p q).ready.now ≡ n
 either_now true p q n h g = h
 either_now false p q n h g = g
 
 turn_now : (c : Client) → (turn_on c).ready.now ≡ c.last
-turn_now c = either_now (is_some c.exchange) (idle c) (turn_free c) c.last refl (either_now (not (is_empty c.log) && not (is_some c.over)) (ships c) (release_some (returned c.view) c) c.last refl (release_now (returned c.view) c))
+turn_now c = either_now (is_some c.exchange) (idle c) (turn_free c) c.last refl (either_now (not (is_empty c.log) && not (is_some c.over)) (ship_some c.log c) (release_some (returned c.view) c) c.last (ship_now c.log c) (release_now (returned c.view) c))
 
 pub turn_is : (now : ℕ) (c x : Client) (r : Result (Plan ClientNote) Memory) → x ≡ begun now c → IfOk r (λ p. p ≡ turn_on x) → IfOk r (λ p. p ≡ turn_plan c now)
 turn_is now c x (Ok p) e h = h ∙ ap turn_on e

@@ -1,11 +1,13 @@
 -- What a client makes of an operation.
-use Rattle.std.specs.Prelude.{ℕ, Bool, true, false, not, ◌&&◌, ◌||◌, ◌==◌, List, [], ◌∷◌, length, Option, Some, None, is_some, filter, if◌then◌else◌}
+use Rattle.std.specs.Prelude.{ℕ, Bool, false, not, ◌&&◌, ◌||◌, ◌==◌, List, [], ◌∷◌, length, Option, Some, None, is_some, filter, if◌then◌else◌}
 use Rattle.std.specs.List.{list_any, filter_map}
 use Rattle.fs_ident.specs.Ident.{same}
 use Rattle.fs_ident.specs.declared.actor.Peer.TheVariants.{Client as OfSession}
 use Rattle.fs_field.specs.declared.asked.Need.{Need}
 use Rattle.fs_field.specs.declared.asked.Need.TheVariants.{Lease, Fresh}
 use Rattle.fs_field.specs.declared.field.Field.{Field}
+use Rattle.fs_field.specs.Field.{file_of}
+use Rattle.fs_map.specs.Map.{server_of}
 use Rattle.fs_field.specs.declared.lease_kind.LeaseKind.{LeaseKind}
 use Rattle.fs_model.specs.declared.op.Op.{Op}
 use Rattle.fs_model.specs.declared.op.Op.TheVariants as op
@@ -17,21 +19,19 @@ use Rattle.fs_record.specs.Effects.{effects_of}
 use Rattle.fs_msg.specs.declared.act.Act.{Act}
 use Rattle.fs_msg.specs.declared.act.Act.TheVariants as act
 use Rattle.fs_msg.specs.declared.act.Busy.TheVariants as busy
-use Rattle.fs_msg.specs.declared.act.ClientOut.{ClientOut}
 use Rattle.fs_msg.specs.declared.client_msg.ClientMsg.TheVariants as client
 use Rattle.fs_msg.specs.declared.entry.Entry.{Entry}
-use Rattle.fs_msg.specs.declared.item.Item.{Item}
 use Rattle.fs_view.specs.View.{View, missing_in, reply_in, uses_in, fresh}
 use Rattle.fs_client.specs.declared.change.Change.{Change}
 use Rattle.fs_client.specs.declared.change.Change.TheVariants as change
 use Rattle.fs_client.specs.declared.exchange.Exchange.TheVariants as exchange
 use Rattle.fs_client.specs.declared.plan.Plan.{Plan}
 use Rattle.fs_client.specs.declared.state.Client.{Client}
-use Rattle.fs_client.specs.Client.{begun, changed, committed, can_change}
+use Rattle.fs_client.specs.Client.{begun, can_change}
 
 -- nothing is sent and nothing admitted
 abbrev pub only_noted : {N : Type 0} → Change → N → Client → Plan N
-only_noted ch n c = record { ready = record { now = c.last; change = ch }; out = record { note = n; send = None; admitted = None } }
+only_noted ch n c = record { ready = record { now = c.last; change = ch; hints = None }; out = record { note = n; send = None; admitted = None } }
 
 abbrev pub stays : Act → Client → Plan Act
 stays a c = only_noted change.Nothing a c
@@ -64,14 +64,28 @@ fresh_asked [] = None
 fresh_asked (Lease field kind ∷ needs) = fresh_asked needs
 fresh_asked (Fresh dir ∷ needs) = Some dir
 
--- until there are several servers, every question goes to the first
-abbrev pub home_server : ℕ
-home_server = 0
+-- the server that is said to manage the identifier
+abbrev pub hinted : Client → List ℕ → ℕ
+hinted c id = server_of c.hints id
 
-abbrev pub asks : List Need → Client → Plan Act
-asks needs c = record {
-  ready = record { now = c.last; change = change.Ask (exchange.Asks home_server (items_of needs) (fresh_asked needs)) };
-  out = record { note = act.Asked needs home_server; send = Some (home_server, client.Ask (items_of needs) (fresh_asked needs)); admitted = None };
+-- the file of which a need speaks: of an identifier the directory
+abbrev pub need_file : Need → List ℕ
+need_file (Lease field kind) = file_of field
+need_file (Fresh dir) = dir
+
+-- those that are said to be at the server
+abbrev pub needs_at : Client → ℕ → List Need → List Need
+needs_at c to needs = filter (λ n. hinted c (need_file n) == to) needs
+
+-- all that is missing is told, and what is said to be at that server is asked for there
+abbrev pub asks : ℕ → List Need → Client → Plan Act
+asks to needs c = record {
+  ready = record { now = c.last; change = change.Ask (exchange.Asks to (items_of (needs_at c to needs)) (fresh_asked (needs_at c to needs))); hints = None };
+  out = record {
+    note = act.Asked needs to;
+    send = Some (to, client.Ask (items_of (needs_at c to needs)) (fresh_asked (needs_at c to needs)));
+    admitted = None;
+  };
 }
 
 -- what is missing is an identifier in a full directory alone
@@ -80,10 +94,10 @@ full_one [] c = stays (act.NoIds []) c
 full_one (Lease field kind ∷ needs) c = full_one needs c
 full_one (Fresh dir ∷ needs) c = stays (act.NoIds dir) c
 
--- something is missing: nothing of it is worth asking for, or a question stands, or it is asked for
+-- something is missing: nothing of it is worth asking for, or a question stands, or it is asked for at the server of the first
 abbrev pub ask_for : List Need → List Need → Client → Plan Act
 ask_for needs [] c = full_one needs c
-ask_for needs (n ∷ ns) c = if is_some c.exchange then stays (act.Busy busy.Exchange) c else asks (n ∷ ns) c
+ask_for needs (n ∷ ns) c = if is_some c.exchange then stays (act.Busy busy.Exchange) c else asks (hinted c (need_file n)) (n ∷ ns) c
 
 -- ## What is answered
 
@@ -104,7 +118,7 @@ replies o r c = only_noted (change.Reply (entry_of o r c) (effects_of c.session 
 -- it is answered and admitted at once
 abbrev pub reads : Op → Reply → Client → Plan Act
 reads o r c = record {
-  ready = record { now = c.last; change = change.Read };
+  ready = record { now = c.last; change = change.Read; hints = None };
   out = record { note = act.ReadNow c.next r; send = None; admitted = Some (record { by = OfSession c.session; n = c.next; op = with_id c.view c.last o r; reply = r }) };
 }
 

@@ -10,6 +10,8 @@ use Rattle.fs_field.specs.declared.lease_kind.LeaseKind.TheVariants.{Exclusive}
 use Rattle.fs_field.specs.Field.{same_field}
 use Rattle.fs_field.specs.Table.{same_no, same_kind, is_parent}
 use Rattle.fs_field.specs.Value.{is_value_of}
+use Rattle.fs_map.specs.Lists.{map_after_hint}
+use Rattle.fs_map.specs.Map.{Owners}
 use Rattle.fs_msg.specs.declared.answer.Answer.{Answer}
 use Rattle.fs_msg.specs.declared.answer.Answer.TheVariants.{Granted, Renewed, Released, Shipped, Recall}
 use Rattle.fs_msg.specs.declared.answer.Grant.{Grant}
@@ -21,6 +23,7 @@ use Rattle.fs_msg.specs.declared.entry.Entry.{Entry}
 use Rattle.fs_view.specs.declared.kept.Kept.{Kept}
 use Rattle.fs_view.specs.declared.new_lease.NewLease.{NewLease}
 use Rattle.fs_view.specs.Kept.{has_number}
+use Rattle.fs_client.specs.declared.change.Change.{Change}
 use Rattle.fs_client.specs.declared.change.Change.TheVariants as change
 use Rattle.fs_client.specs.declared.exchange.Exchange.{Exchange}
 use Rattle.fs_client.specs.declared.exchange.Exchange.TheVariants.{Asks, Renews, Releases, Ships}
@@ -118,17 +121,26 @@ abbrev pub numbers_sent : Option Exchange → List LeaseNo
 numbers_sent (Some (Releases to numbers)) = numbers
 numbers_sent x = []
 
+-- the answer ends where another server is said to manage what is next
+abbrev pub hints_told : End → Owners → Option Owners
+hints_told (end.Moved prefix to) hints = Some (map_after_hint hints prefix to)
+hints_told e hints = None
+
+-- the change, and what is said
+abbrev pub noted_with : Change → End → ClientNote → Client → Plan ClientNote
+noted_with ch e n c = record { ready = record { now = c.last; change = ch; hints = hints_told e c.hints }; out = record { note = n; send = None; admitted = None } }
+
 abbrev pub granted_plan : List Grant → Option (List ℕ) → End → Client → Plan ClientNote
-granted_plan gs fresh e c = only_noted (change.Grant (leases_in fresh gs) (full_told e)) (note.Granted (length gs) e) c
+granted_plan gs fresh e c = noted_with (change.Grant (leases_in fresh gs) (full_told e)) e (note.Granted (length gs) e) c
 
 abbrev pub renewed_plan : List (LeaseNo × Option ℕ) → End → Client → Plan ClientNote
-renewed_plan rows e c = only_noted (change.Renew rows) (note.Renewed (length rows) e) c
+renewed_plan rows e c = noted_with (change.Renew rows) e (note.Renewed (length rows) e) c
 
 abbrev pub released_plan : ℕ → End → Client → Plan ClientNote
-released_plan count e c = only_noted (change.Release (take count (numbers_sent c.exchange))) (note.Released count e) c
+released_plan count e c = noted_with (change.Release (take count (numbers_sent c.exchange))) e (note.Released count e) c
 
 abbrev pub shipped_plan : ℕ → End → Client → Plan ClientNote
-shipped_plan count e c = only_noted (change.Admit count (over_after e c.over)) (note.Shipped count e) c
+shipped_plan count e c = noted_with (change.Admit count (over_after e c.over)) e (note.Shipped count e) c
 
 -- an answer that fits; all but a recall end the exchange
 abbrev pub told : Answer → Client → Plan ClientNote

@@ -1,11 +1,12 @@
 -- A client: what every event begins with, and what an event can change.
-use Rattle.std.specs.Prelude.{ℕ, zero, suc, ◌+◌, ◌≤◌, max, nat_lt, nat_le, Bool, true, ◌&&◌, List, [], ◌∷◌, ◌++◌, length, Option, Some, None, if◌then◌else◌}
+use Rattle.std.specs.Prelude.{ℕ, zero, suc, ◌+◌, ◌≤◌, max, nat_lt, nat_le, Bool, true, ◌&&◌, List, [], ◌∷◌, ◌++◌, Option, Some, None, if◌then◌else◌}
 use Rattle.std.specs.List.{list_any}
 use Rattle.fs_ident.specs.Ident.{same}
 use Rattle.fs_ident.specs.declared.actor.LeaseNo.{LeaseNo}
 use Rattle.fs_ident.specs.declared.actor.Session.{Session}
 use Rattle.fs_ident.specs.declared.limits.TheConstants.{LATEST}
 use Rattle.fs_field.specs.declared.effect.Effect.{Effect}
+use Rattle.fs_map.specs.Map.{Owners, first_map}
 use Rattle.fs_msg.specs.declared.entry.Entry.{Entry}
 use Rattle.fs_msg.specs.declared.limits.TheConstants.{LONGEST}
 use Rattle.fs_view.specs.declared.new_lease.NewLease.{NewLease}
@@ -17,9 +18,9 @@ use Rattle.fs_client.specs.declared.exchange.Exchange.TheVariants as exchange
 use Rattle.fs_client.specs.declared.plan.Ready.{Ready}
 use Rattle.fs_client.specs.declared.state.Client.{Client}
 
--- a client that has no lease and has answered nothing
+-- a client that has no lease and has answered nothing; it takes everything to be at the first server
 abbrev pub first_client : Session → ℕ → Client
-first_client s term = record { session = s; term = term; last = 0; view = record { session = s; leases = []; pending = [] }; log = []; exchange = None; full = []; next = 1; over = None }
+first_client s term = record { session = s; term = term; last = 0; view = record { session = s; leases = []; pending = [] }; log = []; exchange = None; hints = first_map; full = []; next = 1; over = None }
 
 -- the reading of the event is the greatest so far, and the leases that no entry uses and that are over at it go
 abbrev pub begun : ℕ → Client → Client
@@ -102,9 +103,14 @@ changed (change.Recall number) c = with_recalled number c
 
 -- ## Plans
 
+-- what a server said of who manages what
+abbrev pub with_hints : Option Owners → Client → Client
+with_hints None c = c
+with_hints (Some hints) c = record c { hints = hints }
+
 -- the client after an event that changes this
 abbrev pub committed : Ready → Client → Client
-committed r c = changed r.change (begun r.now c)
+committed r c = with_hints r.hints (changed r.change (begun r.now c))
 
 -- a number is left for the operation
 abbrev pub has_number_left : Client → Bool

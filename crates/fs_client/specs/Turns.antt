@@ -1,11 +1,12 @@
 -- What a client does at its turn.
-use Rattle.std.specs.Prelude.{ℕ, ◌+◌, ◌/◌, Bool, true, false, not, ◌&&◌, nat_le, List, [], ◌∷◌, length, map, filter, Option, Some, None, is_some, if◌then◌else◌}
+use Rattle.std.specs.Prelude.{ℕ, ◌+◌, ◌/◌, ◌==◌, Bool, true, false, not, ◌&&◌, nat_le, List, [], ◌∷◌, length, map, filter, Some, None, is_some, if◌then◌else◌}
 use Rattle.fs_ident.specs.declared.actor.LeaseNo.{LeaseNo}
 use Rattle.fs_model.specs.Step.{is_empty}
-use Rattle.fs_msg.specs.declared.act.ClientOut.{ClientOut}
 use Rattle.fs_msg.specs.declared.client_msg.ClientMsg.{ClientMsg}
 use Rattle.fs_msg.specs.declared.client_msg.ClientMsg.TheVariants as client
 use Rattle.fs_msg.specs.declared.client_note.ClientNote.{ClientNote}
+use Rattle.fs_msg.specs.declared.entry.Entry.{Entry}
+use Rattle.fs_msg.specs.Home.{home_of}
 use Rattle.fs_msg.specs.declared.client_note.ClientNote.TheVariants as note
 use Rattle.fs_view.specs.declared.kept.Kept.{Kept}
 use Rattle.fs_view.specs.declared.kept.Standing.{Standing}
@@ -18,7 +19,7 @@ use Rattle.fs_client.specs.declared.exchange.Exchange.TheVariants as exchange
 use Rattle.fs_client.specs.declared.plan.Plan.{Plan}
 use Rattle.fs_client.specs.declared.state.Client.{Client}
 use Rattle.fs_client.specs.Client.{begun}
-use Rattle.fs_client.specs.Acts.{home_server, only_noted}
+use Rattle.fs_client.specs.Acts.{hinted, only_noted}
 
 -- there is nothing to do
 abbrev pub idle : Client → Plan ClientNote
@@ -31,13 +32,23 @@ pair_of k = (file_in k.standing, number_of k.standing)
 abbrev pub numbers_in : List Kept → List LeaseNo
 numbers_in ks = map (λ (k : Kept). number_of k.standing) ks
 
-abbrev pub sends : ClientNote → ClientMsg → Change → Client → Plan ClientNote
-sends n m ch c = record { ready = record { now = c.last; change = ch }; out = record { note = n; send = Some (home_server, m); admitted = None } }
+abbrev pub sends : ℕ → ClientNote → ClientMsg → Change → Client → Plan ClientNote
+sends to n m ch c = record { ready = record { now = c.last; change = ch; hints = None }; out = record { note = n; send = Some (to, m); admitted = None } }
 
 -- ## The log is handed in
 
-abbrev pub ships : Client → Plan ClientNote
-ships c = sends (note.Ships (length c.log) home_server) (client.Ship c.log) (change.Ask (exchange.Ships home_server (length c.log))) c
+-- the entries at the front that are handed in at the server
+abbrev pub entries_at : Client → ℕ → List Entry → List Entry
+entries_at c to [] = []
+entries_at c to (e ∷ es) = if hinted c (home_of e.op) == to then e ∷ entries_at c to es else []
+
+abbrev pub ships : ℕ → List Entry → Client → Plan ClientNote
+ships to entries c = sends to (note.Ships (length entries) to) (client.Ship entries) (change.Ask (exchange.Ships to (length entries))) c
+
+-- those at the front that are handed in where the first is
+abbrev pub ship_some : List Entry → Client → Plan ClientNote
+ship_some [] c = idle c
+ship_some (e ∷ es) c = ships (hinted c (home_of e.op)) (entries_at c (hinted c (home_of e.op)) (e ∷ es)) c
 
 -- ## Leases go back
 
@@ -50,8 +61,12 @@ has_to_go recalled (Leaving l) = true
 abbrev pub returned : View → List Kept
 returned v = filter (λ (k : Kept). has_to_go k.recalled k.standing) v.leases
 
-abbrev pub releases : List Kept → Client → Plan ClientNote
-releases ks c = sends (note.Releases (length ks) home_server) (client.Release (map pair_of ks)) (change.Leave home_server (numbers_in ks)) c
+-- those on files that are said to be at the server
+abbrev pub kept_at : Client → ℕ → List Kept → List Kept
+kept_at c to ks = filter (λ (k : Kept). hinted c (file_in k.standing) == to) ks
+
+abbrev pub releases : ℕ → List Kept → Client → Plan ClientNote
+releases to ks c = sends to (note.Releases (length ks) to) (client.Release (map pair_of ks)) (change.Leave to (numbers_in ks)) c
 
 -- ## Leases are kept
 
@@ -64,21 +79,21 @@ ends_by soon (Leaving l) = false
 abbrev pub ending : ℕ → View → List Kept
 ending soon v = filter (λ (k : Kept). not k.recalled && ends_by soon k.standing) v.leases
 
-abbrev pub renews : List Kept → Client → Plan ClientNote
-renews ks c = sends (note.Renews (length ks) home_server) (client.Renew (map pair_of ks)) (change.Ask (exchange.Renews home_server (numbers_in ks))) c
+abbrev pub renews : ℕ → List Kept → Client → Plan ClientNote
+renews to ks c = sends to (note.Renews (length ks) to) (client.Renew (map pair_of ks)) (change.Ask (exchange.Renews to (numbers_in ks))) c
 
--- ## The turn: the first of these that there is to do
+-- ## The turn: the first of these that there is to do, at the server of the first lease or entry
 
 abbrev pub renew_some : List Kept → Client → Plan ClientNote
 renew_some [] c = idle c
-renew_some (k ∷ ks) c = renews (k ∷ ks) c
+renew_some (k ∷ ks) c = renews (hinted c (file_in k.standing)) (kept_at c (hinted c (file_in k.standing)) (k ∷ ks)) c
 
 abbrev pub release_some : List Kept → Client → Plan ClientNote
 release_some [] c = renew_some (ending (c.last + c.term / 2) c.view) c
-release_some (k ∷ ks) c = releases (k ∷ ks) c
+release_some (k ∷ ks) c = releases (hinted c (file_in k.standing)) (kept_at c (hinted c (file_in k.standing)) (k ∷ ks)) c
 
 abbrev pub turn_free : Client → Plan ClientNote
-turn_free c = if not (is_empty c.log) && not (is_some c.over) then ships c else release_some (returned c.view) c
+turn_free c = if not (is_empty c.log) && not (is_some c.over) then ship_some c.log c else release_some (returned c.view) c
 
 abbrev pub turn_on : Client → Plan ClientNote
 turn_on c = if is_some c.exchange then idle c else turn_free c

@@ -14,7 +14,7 @@ ghost use Rattle.fs_client.specs.Live.{absent_from};
 use crate::begun::Begun;
 use crate::change::Change;
 use crate::exchange::Exchange;
-use crate::needs::{fresh_asked, full_dir, items_of, worth};
+use crate::needs::{fresh_asked, full_dir, items_of, need_file, needs_at, worth};
 use crate::plan::{Plan, Ready};
 use crate::state::Client;
 use fs_field::{Need, Use};
@@ -24,9 +24,6 @@ use fs_msg::{Act, Busy, ClientMsg, ClientOut, CoreError, Counter, Entry, Item};
 use fs_record::effects;
 use fs_view::Walk;
 use std::alloc::Global;
-
-/// Until there are several servers, every question goes to the first.
-pub(crate) const HOME: u8 = 0;
 
 /// What the operation comes to at the reading; nothing changes.
 pub(crate) fn plan(
@@ -63,10 +60,10 @@ fn act(alloc: Global, at: &Begun<'_>, op: &Op) -> Result<Plan<Act>, CoreError>
         return Ok(stays(at, Act::Over { n }));
     }
     let Walk { items, reply } = at.walk(alloc, op)?;
-    match reply {
-        Some(reply) => answer(alloc, at, op, reply, &items),
-        None => Ok(ask_for(alloc, at, items)?),
-    }
+    let Some(reply) = reply else {
+        return Ok(ask_for(alloc, at, items)?);
+    };
+    answer(alloc, at, op, reply, &items)
 }
 
 /// The reading and this change, and nothing but this is noted.
@@ -77,6 +74,7 @@ pub(crate) fn only_noted<N: Drop>(at: &Begun<'_>, change: Change, note: N) -> Pl
         ready: Ready {
             now: at.reading(),
             change,
+            hints: None,
         },
         out: ClientOut {
             note,
@@ -100,10 +98,11 @@ fn ask_for(alloc: Global, at: &Begun<'_>, items: List<Need>) -> Result<Plan<Act>
 {
     let missing = at.missing_of(items);
     let needs = worth(at.full(), missing.copy(alloc)?);
-    if needs.is_empty() {
+    let Some(first) = needs.as_slice().first() else {
         let dir = full_dir(alloc, missing.as_slice())?;
         return Ok(stays(at, Act::NoIds { dir }));
-    }
+    };
+    let to = at.hinted(need_file(first));
     if at.exchange().is_some() {
         return Ok(stays(
             at,
@@ -112,17 +111,23 @@ fn ask_for(alloc: Global, at: &Begun<'_>, items: List<Need>) -> Result<Plan<Act>
             },
         ));
     }
-    asks(alloc, at, needs)
+    asks(alloc, at, to, needs)
 }
 
-/// It is asked for.
-fn asks(alloc: Global, at: &Begun<'_>, needs: List<Need>) -> Result<Plan<Act>, Memory>
-    ensures { IfOk result (λ p. p ≡ asks needs at.now) }
+/// All that is missing is told, and what is said to be at that server is asked for there.
+pub(crate) fn asks(
+    alloc: Global,
+    at: &Begun<'_>,
+    to: u8,
+    needs: List<Need>,
+) -> Result<Plan<Act>, Memory>
+    ensures { IfOk result (λ p. p ≡ asks to needs at.now) }
 {
-    let items = items_of(alloc, needs.as_slice())?;
-    let fresh = fresh_asked(alloc, needs.as_slice())?;
+    let there = needs_at(at, to, needs.copy(alloc)?);
+    let items = items_of(alloc, there.as_slice())?;
+    let fresh = fresh_asked(alloc, there.as_slice())?;
     let exchange = Exchange::Asks {
-        to: HOME,
+        to,
         items: items.copy(alloc)?,
         fresh: fresh.copy(alloc)?,
     };
@@ -130,10 +135,11 @@ fn asks(alloc: Global, at: &Begun<'_>, needs: List<Need>) -> Result<Plan<Act>, M
         ready: Ready {
             now: at.reading(),
             change: Change::Ask { exchange },
+            hints: None,
         },
         out: ClientOut {
-            note: Act::Asked { needs, to: HOME },
-            send: Some((HOME, ClientMsg::Ask { items, fresh })),
+            note: Act::Asked { needs, to },
+            send: Some((to, ClientMsg::Ask { items, fresh })),
             admitted: None,
         },
     })
@@ -189,6 +195,7 @@ fn reads(alloc: Global, at: &Begun<'_>, op: &Op, reply: Reply) -> Result<Plan<Ac
         ready: Ready {
             now: at.reading(),
             change: Change::Read,
+            hints: None,
         },
         out: ClientOut {
             note: Act::ReadNow {

@@ -1,7 +1,7 @@
-//! What a client makes of an answer of its server.
+//! What a client makes of an answer of a server.
 ghost use Rattle.std.specs.Prelude.{◌≡◌, ◌≤◌, true, length, map, take, IfOk};
 ghost use Rattle.fs_ident.specs.declared.limits.TheConstants.{LATEST};
-ghost use Rattle.fs_client.specs.Answers.{answer_plan, below_field, fits, full_told, granted_plan, hear, lease_in, leases_in, numbers_sent, over_after, released_plan, renewed_plan, shipped_plan, strange, told};
+ghost use Rattle.fs_client.specs.Answers.{answer_plan, below_field, fits, full_told, granted_plan, hear, hints_told, lease_in, leases_in, noted_with, numbers_sent, over_after, released_plan, renewed_plan, shipped_plan, strange, told};
 ghost use Rattle.fs_client.specs.Client.{IsClient, can_change, can_commit};
 
 use crate::acts::only_noted;
@@ -9,11 +9,12 @@ use crate::begun::Begun;
 use crate::change::Change;
 use crate::exchange::Exchange;
 use crate::fits::{fits, is_life};
-use crate::plan::Plan;
+use crate::plan::{Plan, Ready};
 use crate::state::Client;
 use fs_field::Field;
 use fs_ident::{FileId, LeaseNo, List, Memory, Twin};
-use fs_msg::{Answer, ClientNote, End, Grant};
+use fs_map::FileMap;
+use fs_msg::{Answer, ClientNote, ClientOut, End, Grant};
 use fs_view::NewLease;
 use std::alloc::Global;
 
@@ -86,7 +87,7 @@ fn granted(
         count: grants.len() as u64,
         end: end.copy(alloc)?,
     };
-    Ok(only_noted(at, Change::Grant { leases, full }, note))
+    noted_with(alloc, at, Change::Grant { leases, full }, end, note)
 }
 
 fn renewed(
@@ -102,7 +103,7 @@ fn renewed(
         count: ends.len() as u64,
         end: end.copy(alloc)?,
     };
-    Ok(only_noted(at, Change::Renew { ends }, note))
+    noted_with(alloc, at, Change::Renew { ends }, end, note)
 }
 
 fn released(
@@ -118,7 +119,7 @@ fn released(
         count,
         end: end.copy(alloc)?,
     };
-    Ok(only_noted(at, Change::Release { numbers }, note))
+    noted_with(alloc, at, Change::Release { numbers }, end, note)
 }
 
 fn shipped(alloc: Global, at: &Begun<'_>, count: u64, end: &End) -> Result<Plan<ClientNote>, Memory>
@@ -129,7 +130,42 @@ fn shipped(alloc: Global, at: &Begun<'_>, count: u64, end: &End) -> Result<Plan<
         count,
         end: end.copy(alloc)?,
     };
-    Ok(only_noted(at, Change::Admit { count, over }, note))
+    noted_with(alloc, at, Change::Admit { count, over }, end, note)
+}
+
+/// The change, and what the end of the answer says of who manages what.
+fn noted_with(
+    alloc: Global,
+    at: &Begun<'_>,
+    change: Change,
+    end: &End,
+    note: ClientNote,
+) -> Result<Plan<ClientNote>, Memory>
+    ensures { IfOk result (λ p. p ≡ noted_with change end.now note at.now) }
+{
+    let hints = hints_told(alloc, end, at.hints())?;
+    Ok(Plan {
+        ready: Ready {
+            now: at.reading(),
+            change,
+            hints,
+        },
+        out: ClientOut {
+            note,
+            send: None,
+            admitted: None,
+        },
+    })
+}
+
+/// The map once the answer ends where another server is said to manage what is next.
+fn hints_told(alloc: Global, end: &End, hints: &FileMap) -> Result<Option<FileMap>, Memory>
+    ensures { IfOk result (λ told. told ≡ hints_told end.now hints.now) }
+{
+    match end {
+        End::Moved { prefix, to } => Ok(Some(hints.with_hint(alloc, prefix, *to)?)),
+        _ => Ok(None),
+    }
 }
 
 /// The leases that come, each with the directory for which its identifier was given.

@@ -5,6 +5,7 @@ ghost use Rattle.std.specs.Option.{option_copied};
 ghost use Rattle.fs_view.specs.Kept.{has_number};
 ghost use Rattle.fs_view.specs.View.{fresh, item_use, walk_in, given_by, known_by};
 ghost use Rattle.fs_view.specs.Walk.{is_there};
+ghost use Rattle.fs_client.specs.Acts.{hinted};
 ghost use Rattle.fs_client.specs.Client.{begun};
 ghost use Rattle.fs_client.specs.Live.{pinnable};
 ghost use Rattle.fs_client.specs.Turns.{ending, pair_of, returned};
@@ -14,6 +15,7 @@ use crate::live;
 use crate::state::Client;
 use fs_field::{Need, Use};
 use fs_ident::{FileId, LeaseNo, List, Memory, Session};
+use fs_map::FileMap;
 use fs_model::Op;
 use fs_msg::Entry;
 use fs_view::Walk;
@@ -96,6 +98,20 @@ impl<'a> Begun<'a> {
         ensures { result.now ≡ self.now.log }
     {
         &self.client.log
+    }
+
+    /// Which server manages which files, as far as servers said.
+    pub(crate) fn hints(&self) -> &FileMap
+        ensures { result.now ≡ self.now.hints }
+    {
+        &self.client.hints
+    }
+
+    /// The server that is said to manage the identifier.
+    pub(crate) fn hinted(&self, id: &FileId) -> u8
+        ensures { result ≡ hinted self.now id.now }
+    {
+        self.client.hints.owner(id).1
     }
 
     /// The directories that have no number left.

@@ -19,14 +19,15 @@ use crate::plan::{Plan, Ready};
 use crate::state::Client;
 use crate::{acts, answers, commits, turns};
 use fs_ident::{FileId, List, Memory, Session, Twin};
+use fs_map::FileMap;
 use fs_model::Op;
 use fs_msg::{Act, Answer, ClientNote, ClientOut, CoreError};
 use fs_view::View;
 use std::alloc::Global;
 use std::marker::Model;
 
-/// The client of one session. It answers what its leases tell, asks its server for what is missing, and keeps a log of
-/// what its server has not admitted yet. Every reading is in milliseconds, at most 10^15.
+/// The client of one session. It answers what its leases tell, asks for what is missing where the servers said that it
+/// is, and keeps a log of what they have not admitted yet. Every reading is in milliseconds, at most 10^15.
 #[derive(Debug)]
 pub struct ClientCore {
     client: Client,
@@ -44,7 +45,7 @@ impl Model for ClientCore {
 }
 
 impl ClientCore {
-    /// A client that has no lease and has answered nothing. `term` is how long its server's leases last, in
+    /// A client that has no lease and has answered nothing. `term` is how long the servers' leases last, in
     /// milliseconds.
     pub fn new(alloc: Global, session: Session, term: u64) -> Result<ClientCore, Memory>
         requires first { 1 ≤ session.0 }
@@ -53,6 +54,7 @@ impl ClientCore {
         requires most { term ≤ LONGEST }
         ensures { IfOk result (λ c. c ≡ first_client session term) }
     {
+        let hints = FileMap::new(alloc)?;
         Ok(ClientCore {
             client: Client {
                 session,
@@ -61,6 +63,7 @@ impl ClientCore {
                 view: View::new(alloc, session),
                 log: List::new(alloc),
                 exchange: None,
+                hints,
                 full: List::new(alloc),
                 next: 1,
                 over: None,
@@ -93,7 +96,7 @@ impl ClientCore {
         turns::plan(alloc, &self.client, now)
     }
 
-    /// What an answer of the server comes to at the reading; nothing changes.
+    /// What an answer of that server comes to at the reading; nothing changes.
     pub fn plan_answer(
         &self,
         alloc: Global,
@@ -150,7 +153,7 @@ impl ClientCore {
         Ok(out)
     }
 
-    /// What an answer of the server comes to at the reading, and that is done; nothing changed after an error.
+    /// What an answer of that server comes to at the reading, and that is done; nothing changed after an error.
     pub fn on_answer(
         &mut self,
         alloc: Global,

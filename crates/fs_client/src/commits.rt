@@ -1,6 +1,6 @@
 //! What a plan says is done: memory first, then what cannot fail.
 ghost use Rattle.std.specs.Prelude.{◌≡◌, ◌≤◌, true, OnOk, OnErr};
-ghost use Rattle.fs_client.specs.Client.{begun, can_change, can_commit, changed, committed, with_exchange, with_read, with_recalled, with_release, with_released, with_renewed};
+ghost use Rattle.fs_client.specs.Client.{begun, can_change, can_commit, changed, committed, with_exchange, with_hints, with_read, with_recalled, with_release, with_released, with_renewed};
 
 use crate::admits::admit;
 use crate::change::Change;
@@ -11,6 +11,7 @@ use crate::replies::reply;
 use crate::returns::{leave_all, release_all, renew_all};
 use crate::state::Client;
 use fs_ident::{LeaseNo, List, Memory};
+use fs_map::FileMap;
 use std::alloc::Global;
 
 /// What is ready is done to this very client, for which it was planned. `Memory` where memory is wanting; nothing
@@ -20,7 +21,27 @@ pub(crate) fn commit(alloc: Global, client: &mut Client, ready: Ready) -> Result
     ensures ok { OnOk result (client.new ≡ committed ready client.old) }
     ensures err { OnErr result (client.new ≡ client.old) }
 {
-    let Ready { now, change } = ready;
+    let Ready { now, change, hints } = ready;
+    make(alloc, client, now, change)?;
+    keep(client, hints);
+    Ok(())
+}
+
+/// What a server said of who manages what is kept.
+fn keep(client: &mut Client, hints: Option<FileMap>)
+    ensures { client.new ≡ with_hints hints client.old }
+{
+    if let Some(hints) = hints {
+        client.hints = hints;
+    }
+}
+
+/// The change is made.
+fn make(alloc: Global, client: &mut Client, now: u64, change: Change) -> Result<(), Memory>
+    requires { can_change change (begun now client.old) ≡ true }
+    ensures ok { OnOk result (client.new ≡ changed change (begun now client.old)) }
+    ensures err { OnErr result (client.new ≡ client.old) }
+{
     match change {
         Change::Nothing => begin(client, now),
         Change::Read => read(client, now),

@@ -1,4 +1,4 @@
-//! A client: what it answers at once from its leases, what it asks of its server, and what it makes of the answers.
+//! A client: what it answers at once from its leases, what it asks of which server, and what it makes of the answers.
 #![tactic(auto)]
 
 mod acts;

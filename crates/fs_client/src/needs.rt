@@ -1,9 +1,10 @@
 //! What is worth asking for.
-ghost use Rattle.std.specs.Prelude.{◌≡◌, [], unwrap_or, IfOk};
+ghost use Rattle.std.specs.Prelude.{◌≡◌, ◌==◌, [], unwrap_or, IfOk};
 ghost use Rattle.std.specs.List.{list_any};
 ghost use Rattle.fs_ident.specs.Ident.{same};
-ghost use Rattle.fs_client.specs.Acts.{fresh_asked, is_full, is_futile, items_of, worth};
+ghost use Rattle.fs_client.specs.Acts.{fresh_asked, hinted, is_full, is_futile, items_of, need_file, needs_at, worth};
 
+use crate::begun::Begun;
 use fs_field::{Field, LeaseKind, Need};
 use fs_ident::{DEPTH, FileId, List, Memory, Twin};
 use std::alloc::Global;
@@ -44,6 +45,31 @@ fn is_same(other: &FileId, dir: &FileId) -> bool
     ensures { result ≡ same other.now dir.now }
 {
     other == dir
+}
+
+/// The file of which the need speaks: of an identifier the directory.
+pub(crate) fn need_file(need: &Need) -> &FileId
+    ensures { result.now ≡ need_file need.now }
+{
+    match need {
+        Need::Lease(field, _) => field.file(),
+        Need::Fresh(dir) => dir,
+    }
+}
+
+/// Those of the needs that are said to be at the server.
+pub(crate) fn needs_at(at: &Begun<'_>, to: u8, needs: List<Need>) -> List<Need>
+    ensures { result ≡ needs_at at.now to needs }
+{
+    let mut needs = needs.into_vec();
+    needs.retain(|need| is_at(at, to, need));
+    List::from_vec(needs)
+}
+
+fn is_at(at: &Begun<'_>, to: u8, need: &Need) -> bool
+    ensures { result ≡ (hinted at.now (need_file need.now) == to) }
+{
+    at.hinted(need_file(need)) == to
 }
 
 /// The fields and kinds of the leases among the needs.

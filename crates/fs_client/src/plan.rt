@@ -2,13 +2,15 @@
 ghost use Rattle.std.specs.Prelude.{◌≡◌};
 
 use crate::change::Change;
+use fs_map::FileMap;
 use fs_msg::ClientOut;
 
-/// What an event changes, at which reading.
+/// What an event changes, at which reading, and who manages what then, where a server said so.
 #[derive(Debug, Drop)]
 pub struct Ready {
     pub(crate) now: u64,
     pub(crate) change: Change,
+    pub(crate) hints: Option<FileMap>,
 }
 
 /// What an event comes to: what is noted, sent and admitted, and what it changes.

@@ -1,6 +1,7 @@
 //! The state of a client.
 use crate::exchange::Exchange;
 use fs_ident::{FileId, List, Memory, Session, Twin};
+use fs_map::FileMap;
 use fs_msg::Entry;
 use fs_view::View;
 use std::alloc::Global;
@@ -17,6 +18,8 @@ pub(crate) struct Client {
     /// What was answered and is not known to be admitted, in order.
     pub(crate) log: List<Entry>,
     pub(crate) exchange: Option<Exchange>,
+    /// Which server manages which files, as far as servers said.
+    pub(crate) hints: FileMap,
     /// The directories of which a server said that they have no number left.
     pub(crate) full: List<FileId>,
     /// The number of the next operation.
@@ -29,6 +32,7 @@ impl Twin for Client {
     fn copy(&self, alloc: Global) -> Result<Client, Memory> {
         let log = self.log.copy(alloc)?;
         let exchange = self.exchange.copy(alloc)?;
+        let hints = self.hints.copy(alloc)?;
         let full = self.full.copy(alloc)?;
         Ok(Client {
             session: self.session,
@@ -37,6 +41,7 @@ impl Twin for Client {
             view: self.view.copy(alloc)?,
             log,
             exchange,
+            hints,
             full,
             next: self.next,
             over: self.over,
@@ -51,6 +56,7 @@ impl Twin for Client {
             view,
             log: _,
             exchange: _,
+            hints: _,
             full: _,
             next: _,
             over: _,

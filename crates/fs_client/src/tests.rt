@@ -4,6 +4,7 @@ ghost use Rattle.fs_ident.specs.declared.limits.TheConstants.{LATEST};
 ghost use Rattle.fs_model.specs.Asking.{may_ask};
 ghost use Rattle.fs_record.specs.Effects.{tells_its_effects};
 
+mod hints;
 mod opens;
 
 use crate::client_core::ClientCore;
@@ -16,9 +17,9 @@ use std::process::Abort;
 use std::test::Fail;
 
 /// A note in short: its word, and its number.
-type Short = (&'static str, u64);
+pub(crate) type Short = (&'static str, u64);
 
-fn act_word(act: &Act) -> Short {
+pub(crate) fn act_word(act: &Act) -> Short {
     match act {
         Act::Replied { n, .. } => ("replied", *n),
         Act::ReadNow { n, .. } => ("read", *n),
@@ -29,7 +30,7 @@ fn act_word(act: &Act) -> Short {
     }
 }
 
-fn note_word(note: &ClientNote) -> Short {
+pub(crate) fn note_word(note: &ClientNote) -> Short {
     match note {
         ClientNote::Ships { count, .. } => ("ships", *count),
         ClientNote::Releases { count, .. } => ("releases", *count),
@@ -46,7 +47,7 @@ fn note_word(note: &ClientNote) -> Short {
 
 /// An operation of the tests.
 #[derive(Clone, Copy)]
-enum Asking {
+pub(crate) enum Asking {
     Create,
     Lookup,
     Kind,
@@ -73,7 +74,7 @@ fn op_of(alloc: Global, asking: Asking) -> Result<Op, Fail>
 }
 
 /// The user asks for the operation.
-fn acts(
+pub(crate) fn acts(
     rt: &impl Abort,
     alloc: Global,
     core: &mut ClientCore,
@@ -195,7 +196,11 @@ fn granted(alloc: Global, leases: &[(u64, Lease)], id: &str) -> Result<Answer, F
 }
 
 /// A client that has what a create in the root wants.
-fn gets_leases(rt: &impl Abort, alloc: Global, core: &mut ClientCore) -> Result<(), Fail> {
+pub(crate) fn gets_leases(
+    rt: &impl Abort,
+    alloc: Global,
+    core: &mut ClientCore,
+) -> Result<(), Fail> {
     acts(rt, alloc, core, 0, Asking::Create, ("asked", 3))?;
     let leases = [(1, Lease::Root), (2, Lease::Child), (3, Lease::New)];
     let answer = granted(alloc, leases.as_slice(), "/1")?;
@@ -210,7 +215,7 @@ pub(crate) fn shipped(count: u64) -> Answer {
     }
 }
 
-fn released(count: u64) -> Answer {
+pub(crate) fn released(count: u64) -> Answer {
     Answer::Released {
         count,
         end: End::All,

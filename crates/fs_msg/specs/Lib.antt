@@ -1,4 +1,5 @@
 pub mod Journal
+pub mod Home
 pub mod Spelling
 pub mod Ranges
 pub mod Tags

@@ -1,4 +1,4 @@
--- Laws of the digits of sessions.
+-- Laws of the digits of numbers with a limit.
 use Rattle.std.proofs.Common.{◌≡◌, ◌≢◌, ℕ, ◌<◌, ◌≤◌, ◌+◌, ◌-◌, ◌*◌, List, [], ◌∷◌, ◌++◌, length, get_or, take, refl, ap, arith, sym, ◌∙◌, subst}
 use Rattle.std.specs.Prelude.{min}
 use Rattle.std.specs.Char.{digit_value}
@@ -10,9 +10,9 @@ use Rattle.fs_schedule.specs.Spelling.{IsNumberOf}
 use Rattle.fs_schedule.specs.Reading.{capped, IsToldNumber}
 
 -- the digits so far, and what they tell
-pub record IsTold (digits : List ℕ) (n : ℕ) : Type 0 where
+pub record IsTold (most : ℕ) (digits : List ℕ) (n : ℕ) : Type 0 where
   pub all : AllDigits 10 digits
-  pub number : n ≡ capped (digits_value 10 digits)
+  pub number : n ≡ capped most (digits_value 10 digits)
 
 value_push : (ds : List ℕ) (n c : ℕ) → digits_value_after 10 n (ds ++ c ∷ []) ≡ digits_value_after 10 n ds * 10 + digit_value c
 value_push [] n c = refl
@@ -25,20 +25,20 @@ all_push (d ∷ ds) c h k = (h.0, all_push ds c h.1 k)
 digit_is : (d : ℕ) → d < 10 → digit_value (48 + d) ≡ d
 digit_is d low = grind (arith, nat_tests)
 
-pub told_first : (digits : List ℕ) → IsTold (take 0 digits) 0
-told_first digits = record { all = tt; number = refl }
+pub told_first : (most : ℕ) (digits : List ℕ) → IsTold most (take 0 digits) 0
+told_first most digits = record { all = tt; number = omega arith }
 
-pub told_more : (digits : List ℕ) (at n m b d : ℕ) → at < length digits → b ≡ get_or digits at 0 → (d < 10) × (b ≡ 48 + d) → m ≡ min (n * 10 + d) 1001 → IsTold (take at digits) n → IsTold (take (at + 1) digits) m
-told_more digits at n m b d lt e digit q h =
+pub told_more : (most : ℕ) (digits : List ℕ) (at n m b d : ℕ) → at < length digits → b ≡ get_or digits at 0 → (d < 10) × (b ≡ 48 + d) → m ≡ min (n * 10 + d) (most + 1) → IsTold most (take at digits) n → IsTold most (take (at + 1) digits) m
+told_more most digits at n m b d lt e digit q h =
     let is : digit_value b ≡ d = ap digit_value digit.1 ∙ digit_is d digit.0 in
     let value : digits_value 10 (take at digits ++ b ∷ []) ≡ digits_value 10 (take at digits) * 10 + digit_value b = value_push (take at digits) 0 b in
-    let P : List ℕ → Type 0 = λ ds. IsTold ds m in
-    let number : n ≡ min (digits_value 10 (take at digits)) 1001 = h.number in
+    let P : List ℕ → Type 0 = λ ds. IsTold most ds m in
+    let number : n ≡ min (digits_value 10 (take at digits)) (most + 1) = h.number in
     subst P (sym (take_more digits at 0 lt ∙ ap (λ (c : ℕ). take at digits ++ c ∷ []) (sym e))) (record { all = all_push (take at digits) b h.all (omega (arith, digit.0)); number = omega arith })
 
-pub told_whole : (digits : List ℕ) (at n : ℕ) → length digits ≤ at → 0 < length digits → get_or digits 0 0 ≢ 48 → IsTold (take at digits) n → IsToldNumber n digits
-told_whole digits at n le some first h =
-    let P : List ℕ → Type 0 = λ ds. IsTold ds n in
+pub told_whole : (most : ℕ) (digits : List ℕ) (at n : ℕ) → length digits ≤ at → 0 < length digits → get_or digits 0 0 ≢ 48 → IsTold most (take at digits) n → IsToldNumber most n digits
+told_whole most digits at n le some first h =
+    let P : List ℕ → Type 0 = λ ds. IsTold most ds n in
     let k = subst P (take_all at digits le) h in
     (digits_value 10 digits, record { valid = (some, k.all); first = first; value = refl }, k.number)
 
@@ -47,8 +47,8 @@ bad_digit digits at lt h =
     let d = digit_at digits at h lt in
     (omega (arith, d.0), omega (arith, d.1))
 
-pub not_told : (digits : List ℕ) (at n : ℕ) → at < length digits → ((d : ℕ) → d < 10 → get_or digits at 0 ≡ 48 + d → ⊥) → IsToldNumber n digits → ⊥
-not_told digits at n lt none h =
+pub not_told : (most : ℕ) (digits : List ℕ) (at n : ℕ) → at < length digits → ((d : ℕ) → d < 10 → get_or digits at 0 ≡ 48 + d → ⊥) → IsToldNumber most n digits → ⊥
+not_told most digits at n lt none h =
     let d = bad_digit digits at lt h.1.valid.1 in
     none (get_or digits at 0 - 48) (omega (arith, d.1)) (omega (arith, d.0))
 

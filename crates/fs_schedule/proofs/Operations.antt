@@ -27,7 +27,7 @@ use Rattle.fs_schedule.proofs.Spelled.{no_letter}
 
 -- ## Operands
 
-id_one : (a b : List ℕ) → IsId a → IsId b → id_text a ≡ id_text b → a ≡ b
+pub id_one : (a b : List ℕ) → IsId a → IsId b → id_text a ≡ id_text b → a ≡ b
 id_one a b h k e = one_id (id_text a) (id_reading a) a b (id_read a h) (whole_read a) k e
 
 kind_one : (a b : Kind) → kind_text a ≡ kind_text b → a ≡ b

@@ -7,42 +7,66 @@ use Rattle.std.specs.Fmt.{decimal}
 use Rattle.std.proofs.lemmas.Fmt.{decimal_injective}
 use Rattle.fs_ident.specs.declared.actor.Session.{Session}
 use Rattle.fs_ident.specs.declared.limits.TheConstants.{SESSIONS}
+use Rattle.fs_ident.specs.IdText.{id_text}
+use Rattle.fs_schedule.specs.declared.limits.TheConstants.{SERVERS}
 use Rattle.fs_ident.specs.declared.actor.Peer.TheVariants.{Server, Client}
 use Rattle.fs_schedule.specs.Words.{Word, Bare}
 use Rattle.fs_schedule.specs.declared.event.What.{What}
-use Rattle.fs_schedule.specs.declared.event.What.TheVariants.{Join, Do, Tell, Turn, Recall}
+use Rattle.fs_schedule.specs.declared.event.What.TheVariants.{Join, Do, Tell, Turn, Recall, Move}
 use Rattle.fs_schedule.specs.declared.event.Event.{Event}
 use Rattle.fs_schedule.specs.declared.event.Schedule.{Schedule}
 use Rattle.fs_schedule.specs.declared.event.Head.{Head}
-use Rattle.fs_schedule.specs.declared.event.Head.TheVariants.{Direct, Servers}
-use Rattle.fs_schedule.specs.declared.error.Which.TheVariants.{Bytes, Sessions, Events, Packets}
+use Rattle.fs_schedule.specs.declared.event.Head.TheVariants as form
+use Rattle.fs_schedule.specs.declared.error.Which.TheVariants.{Bytes, Servers, Sessions, Events, Packets}
 use Rattle.fs_schedule.specs.Lines.{lines_of}
-use Rattle.fs_schedule.specs.Spelling.{FitsHead, head_words, IsHeadLine, session_in, IsNumberOf, client_word, what_words, FitsWhat, IsSpelled, IsLineOf, names_late, FitsEvent}
+use Rattle.fs_schedule.specs.Spelling.{FitsHead, FitsTimes, IsCountOf, has_many, head_words, IsHeadLine, server_word, session_in, IsNumberOf, client_word, what_words, FitsWhat, IsSpelled, IsLineOf, names_late, FitsEvent}
 use Rattle.fs_schedule.specs.Skew.{IsUntimely}
-use Rattle.fs_schedule.specs.Faults.{IsEventLine, NamesLateSession, Passes, LineFault, PassesLimit, IsOutside, HeadPasses, HeadHas, LineHas, AreEventLines, FaultsAt, AreLinesOf, IsScheduleText, LinesFaultAt, Fault, AtLine, IsSkewed, IsFirstFault}
+use Rattle.fs_schedule.specs.Faults.{IsFormLine, NamesManyServers, IsEventLine, NamesLateSession, Passes, LineFault, PassesLimit, IsOutside, HeadPasses, HeadHas, LineHas, AreEventLines, FaultsAt, AreLinesOf, IsScheduleText, LinesFaultAt, Fault, AtLine, IsSkewed, IsFirstFault}
 use Rattle.fs_schedule.proofs.Cuts.{words_one}
 use Rattle.fs_schedule.proofs.Asked.{any_op}
-use Rattle.fs_schedule.proofs.Operations.{distinct, no_reap, op_one, fields_one, server_one, packet_one}
+use Rattle.fs_schedule.proofs.Operations.{distinct, no_reap, id_one, op_one, fields_one, server_one, packet_one}
 use Rattle.fs_schedule.proofs.Spelled.{are_head_words, are_event_words}
 use Rattle.fs_schedule.proofs.Skews.{one_untimely, timely_or_not}
 use Rattle.fs_schedule.proofs.Digits.{one_number, number_positive}
 
--- ## Events
+-- ## Forms
 
-forms_one : (g h : Head) → FitsHead g → FitsHead h → head_words g ≡ head_words h → g ≡ h
-forms_one Direct Direct p q e = refl
-forms_one Direct (Servers n k t) p q e = absurd (cc)
-forms_one (Servers n k t) Direct p q e = absurd (cc)
-forms_one (Servers n k t) (Servers m j u) p q e =
-    let servers : n ≡ m = p.0 ∙ sym q.0 in
-    let t1 : decimal k ≡ decimal j = cc in
-    let skews : k ≡ j = decimal_injective k j (omega (arith, p.1)) (omega (arith, q.1)) t1 in
+forms_one : (ds es : List ℕ) (g h : Head) → IsCountOf ds g → IsCountOf es h → FitsTimes g → FitsTimes h → head_words ds g ≡ head_words es h → g ≡ h
+forms_one ds es form.Direct form.Direct p q f k e = refl
+forms_one ds es form.Direct (form.Servers n s t) p q f k e = absurd (cc)
+forms_one ds es (form.Servers n s t) form.Direct p q f k e = absurd (cc)
+forms_one ds es (form.Servers n s t) (form.Servers m j u) p q f k e =
+    let digits : ds ≡ es = cc in
+    let P : List ℕ → Type 0 = λ xs. IsNumberOf xs m in
+    let servers : n ≡ m = one_number ds n m p (subst P (sym digits) q) in
+    let t1 : decimal s ≡ decimal j = cc in
+    let skews : s ≡ j = decimal_injective s j (omega (arith, f.0)) (omega (arith, k.0)) t1 in
     let t2 : decimal t ≡ decimal u = cc in
-    let terms : t ≡ u = decimal_injective t u (omega (arith, p.3)) (omega (arith, q.3)) t2 in
+    let terms : t ≡ u = decimal_injective t u (omega (arith, f.2)) (omega (arith, k.2)) t2 in
     cc
 
 head_one : (g h : Head) (line : List ℕ) → IsHeadLine g line → IsHeadLine h line → g ≡ h
-head_one g h line p q = forms_one g h p.0 q.0 (words_one (head_words g) (head_words h) line (are_head_words g line p) (are_head_words h line q))
+head_one g h line p q =
+    let words : p.words ≡ q.words = words_one p.words q.words line (are_head_words g line p) (are_head_words h line q) in
+    forms_one p.form.digits q.form.digits g h p.form.count q.form.count p.form.times q.form.times (sym p.form.spelled ∙ words ∙ q.form.spelled)
+
+in_limit : (most n : ℕ) → nat_lt most n ≡ false → n ≤ most
+in_limit most n e = grind (arith, nat_tests)
+
+many_or_not : (head : Head) (line : List ℕ) → IsFormLine head line → NamesManyServers line → ⊥
+many_or_not head line h k =
+    let same : head ≡ k.0 = head_one head k.0 line h.line_of k.1 in
+    let many : false ≡ true = sym h.limit ∙ ap has_many same ∙ k.2 in
+    no_reap many
+
+-- the numbers of a form that passes are in their ranges
+pub fits_form : (head : Head) (line : List ℕ) → IsFormLine head line → FitsHead head
+fits_form form.Direct line h = tt
+fits_form (form.Servers n s t) line h =
+    let f = h.line_of.form in
+    (number_positive f.digits n f.count, in_limit SERVERS n h.limit, f.times.0, f.times.1, f.times.2)
+
+-- ## Events
 
 digits_one : (ds es : List ℕ) (ws vs : List Word) → client_word ds ∷ ws ≡ client_word es ∷ vs → ds ≡ es
 digits_one ds es ws vs e = cc
@@ -81,11 +105,19 @@ what_one head (Recall m a) (Recall n b) ds es h k f g e =
     let servers : m ≡ n = server_one m n f.0.1 g.0.1 (first_operand _ _ _ _ _ _ e) in
     let fields : a ≡ b = fields_one a b f.1 g.1 (others _ _ _ _ _ _ e) in
     cc
+what_one head (Move a p b) (Move c q d) ds es h k f g e =
+    let froms : a ≡ c = server_one a c f.0.1 g.0.1 (first_operand _ _ _ _ _ _ e) in
+    let t1 : id_text p ≡ id_text q = cc in
+    let prefixes : p ≡ q = id_one p q f.1 g.1 t1 in
+    let t2 : server_word b ≡ server_word d = cc in
+    let tos : b ≡ d = server_one b d f.2.1 g.2.1 t2 in
+    cc
 what_one head (Join s) v ds es h k f g e = absurd (distinct (codes "join") _ _ _ e refl)
 what_one head (Do s o) v ds es h k f g e = absurd (distinct (codes "do") _ _ _ e refl)
 what_one head (Tell a) v ds es h k f g e = absurd (distinct (codes "tell") _ _ _ e refl)
 what_one head (Turn a) v ds es h k f g e = absurd (distinct (codes "turn") _ _ _ e refl)
 what_one head (Recall m a) v ds es h k f g e = absurd (distinct (codes "recall") _ _ _ e refl)
+what_one head (Move a p b) v ds es h k f g e = absurd (distinct (codes "move") _ _ _ e refl)
 
 spelled_one : (head : Head) (w v : What) (words : List Word) → IsSpelled head w words → IsSpelled head v words → w ≡ v
 spelled_one head w v words h k = what_one head w v h.digits k.digits h.session k.session h.fits k.fits (sym h.spelled ∙ k.spelled)
@@ -106,16 +138,14 @@ late_or_not head e line h k =
     let late : false ≡ true = sym h.limit ∙ ap (λ (x : Event). names_late x.what) same ∙ k.2 in
     no_reap late
 
-in_limit : (n : ℕ) → nat_lt SESSIONS n ≡ false → n ≤ SESSIONS
-in_limit n e = grind (arith, nat_tests)
-
 fits_session : (w : What) (ds : List ℕ) → IfSome (session_in w) (λ s. IsNumberOf ds s.0) → names_late w ≡ false → IfSome (session_in w) (λ s. (1 ≤ s.0) × (s.0 ≤ SESSIONS))
-fits_session (Join s) ds h e = (number_positive ds s.0 h, in_limit s.0 e)
-fits_session (Do s o) ds h e = (number_positive ds s.0 h, in_limit s.0 e)
+fits_session (Join s) ds h e = (number_positive ds s.0 h, in_limit SESSIONS s.0 e)
+fits_session (Do s o) ds h e = (number_positive ds s.0 h, in_limit SESSIONS s.0 e)
 fits_session (Tell number) ds h e = tt
-fits_session (Turn (Client s)) ds h e = (number_positive ds s.0 h, in_limit s.0 e)
+fits_session (Turn (Client s)) ds h e = (number_positive ds s.0 h, in_limit SESSIONS s.0 e)
 fits_session (Turn (Server k)) ds h e = tt
 fits_session (Recall k f) ds h e = tt
+fits_session (Move k id j) ds h e = tt
 
 fits_event : (head : Head) (e : Event) (line : List ℕ) → IsEventLine head e line → FitsEvent head e
 fits_event head e line h =
@@ -132,6 +162,8 @@ fits_events head before (e ∷ es) (line ∷ lines) h = (fits_event head e line 
 line_fault_one : (f g : LineFault) (head : Head) (before : ℕ) (line : List ℕ) → LineHas f head before line → LineHas g head before line → f ≡ g
 line_fault_one (PassesLimit Packets) g head before line h k = absurd h
 line_fault_one f (PassesLimit Packets) head before line h k = absurd k
+line_fault_one (PassesLimit Servers) g head before line h k = absurd h
+line_fault_one f (PassesLimit Servers) head before line h k = absurd k
 line_fault_one (PassesLimit Bytes) (PassesLimit Bytes) head before line h k = refl
 line_fault_one (PassesLimit Bytes) (PassesLimit Sessions) head before line h k = absurd (omega (arith, k.0))
 line_fault_one (PassesLimit Bytes) (PassesLimit Events) head before line h k = absurd (omega (arith, k.0))
@@ -153,6 +185,7 @@ no_fault : (f : LineFault) (head : Head) (before : ℕ) (e : Event) (line : List
 no_fault (PassesLimit Bytes) head before e line h p = omega (arith, p.short)
 no_fault (PassesLimit Sessions) head before e line h p = late_or_not head e line p.event h.1
 no_fault (PassesLimit Events) head before e line h p = omega (arith, h.2, p.few)
+no_fault (PassesLimit Servers) head before e line h p = h
 no_fault (PassesLimit Packets) head before e line h p = h
 no_fault IsOutside head before e line h p = h.1 e p.event.line_of
 
@@ -191,20 +224,29 @@ head_fault_one (PassesLimit Packets) g line h k = absurd h
 head_fault_one (PassesLimit Bytes) (PassesLimit Sessions) line h k = absurd k
 head_fault_one (PassesLimit Bytes) (PassesLimit Events) line h k = absurd k
 head_fault_one (PassesLimit Bytes) (PassesLimit Packets) line h k = absurd k
+head_fault_one (PassesLimit Servers) (PassesLimit Sessions) line h k = absurd k
+head_fault_one (PassesLimit Servers) (PassesLimit Events) line h k = absurd k
+head_fault_one (PassesLimit Servers) (PassesLimit Packets) line h k = absurd k
+head_fault_one (PassesLimit Servers) (PassesLimit Bytes) line h k = absurd (omega (arith, h.0))
+head_fault_one (PassesLimit Servers) (PassesLimit Servers) line h k = refl
+head_fault_one (PassesLimit Servers) IsOutside line h k = absurd (k.1 h.1.0 h.1.1)
+head_fault_one (PassesLimit Bytes) (PassesLimit Servers) line h k = absurd (omega (arith, k.0))
 head_fault_one (PassesLimit Bytes) (PassesLimit Bytes) line h k = refl
 head_fault_one (PassesLimit Bytes) IsOutside line h k = absurd (omega (arith, k.0))
 head_fault_one IsOutside (PassesLimit Sessions) line h k = absurd k
 head_fault_one IsOutside (PassesLimit Events) line h k = absurd k
 head_fault_one IsOutside (PassesLimit Packets) line h k = absurd k
+head_fault_one IsOutside (PassesLimit Servers) line h k = absurd (h.1 k.1.0 k.1.1)
 head_fault_one IsOutside (PassesLimit Bytes) line h k = absurd (omega (arith, h.0))
 head_fault_one IsOutside IsOutside line h k = refl
 
 no_head_fault : (f : LineFault) (head : Head) (line : List ℕ) → HeadHas f line → HeadPasses head line → ⊥
 no_head_fault (PassesLimit Bytes) head line h p = omega (arith, p.0)
+no_head_fault (PassesLimit Servers) head line h p = many_or_not head line p.1 h.1
 no_head_fault (PassesLimit Sessions) head line h p = h
 no_head_fault (PassesLimit Events) head line h p = h
 no_head_fault (PassesLimit Packets) head line h p = h
-no_head_fault IsOutside head line h p = h.1 head p.1
+no_head_fault IsOutside head line h p = h.1 head p.1.line_of
 
 text_faults : (f g : LineFault) (m n : ℕ) (lines : List (List ℕ)) → LinesFaultAt f m lines → LinesFaultAt g n lines → (f ≡ g) × (m ≡ n)
 text_faults f g m n [] h k = absurd h
@@ -213,19 +255,19 @@ text_faults f g m n (line ∷ lines) (inl h) (inr k) = absurd (no_head_fault f k
 text_faults f g m n (line ∷ lines) (inr h) (inl k) = absurd (no_head_fault g h.0 line k.1 h.1)
 text_faults f g m n (line ∷ lines) (inr h) (inr k) =
     let P : Head → Type 0 = λ x. FaultsAt g x n 0 lines in
-    faults_one f g h.0 m n 0 lines h.2 (subst P (head_one k.0 h.0 line k.1.1 h.1.1) k.2)
+    faults_one f g h.0 m n 0 lines h.2 (subst P (head_one k.0 h.0 line k.1.1.line_of h.1.1.line_of) k.2)
 
 text_apart : (s : Schedule) (f : LineFault) (at : ℕ) (lines : List (List ℕ)) → AreLinesOf s lines → LinesFaultAt f at lines → ⊥
 text_apart s f at [] h k = k
 text_apart s f at (line ∷ lines) h (inl k) = no_head_fault f s.head line k.1 h.0
 text_apart s f at (line ∷ lines) h (inr k) =
     let P : Head → Type 0 = λ x. FaultsAt f x at 0 lines in
-    apart f s.head at 0 s.events lines h.1 (subst P (head_one k.0 s.head line k.1.1 h.0.1) k.2)
+    apart f s.head at 0 s.events lines h.1 (subst P (head_one k.0 s.head line k.1.1.line_of h.0.1.line_of) k.2)
 
 text_one : (s t : Schedule) (lines : List (List ℕ)) → AreLinesOf s lines → AreLinesOf t lines → s ≡ t
 text_one s t [] h k = absurd h
 text_one s t (line ∷ lines) h k =
-    let q : s.head ≡ t.head = head_one s.head t.head line h.0.1 k.0.1 in
+    let q : s.head ≡ t.head = head_one s.head t.head line h.0.1.line_of k.0.1.line_of in
     let P : Head → Type 0 = λ x. AreEventLines x 0 t.events lines in
     let r : s.events ≡ t.events = events_one s.head 0 s.events t.events lines h.1 (subst P (sym q) k.1) in
     ap (λ (x : Head). let z : Schedule = record { head = x; events = s.events } in z) q ∙ ap (λ (es : List Event). let z : Schedule = record { head = t.head; events = es } in z) r
@@ -262,7 +304,7 @@ all_fit s bytes h = text_fits s (lines_of bytes) h.0
 
 text_form : (s : Schedule) (lines : List (List ℕ)) → AreLinesOf s lines → FitsHead s.head
 text_form s [] h = absurd h
-text_form s (line ∷ lines) h = h.0.1.0
+text_form s (line ∷ lines) h = fits_form s.head line h.0.1
 
 pub form_fits : (s : Schedule) (bytes : List ℕ) → IsScheduleText s bytes → FitsHead s.head
 form_fits s bytes h = text_form s (lines_of bytes) h.0

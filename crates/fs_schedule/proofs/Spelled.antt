@@ -26,13 +26,13 @@ use Rattle.fs_field.specs.declared.field.Field.{Field}
 use Rattle.fs_field.specs.declared.field.Field.TheVariants as field
 use Rattle.fs_schedule.specs.Words.{Word, Bare, Quoted, line_text}
 use Rattle.fs_schedule.specs.declared.event.What.{What}
-use Rattle.fs_schedule.specs.declared.event.What.TheVariants.{Join, Do, Tell, Turn, Recall}
+use Rattle.fs_schedule.specs.declared.event.What.TheVariants.{Join, Do, Tell, Turn, Recall, Move}
 use Rattle.fs_schedule.specs.declared.event.Event.{Event}
 use Rattle.fs_schedule.specs.declared.event.Head.{Head}
 use Rattle.fs_schedule.specs.declared.event.Head.TheVariants.{Direct, Servers}
 use Rattle.fs_schedule.specs.Separated.{Lacks, FitsWord, AreWords, begins_quoted}
-use Rattle.fs_schedule.specs.Spelling.{FitsHead, head_words, IsHeadLine, kind_text, op_words, FitsOp, field_words, FitsField, session_in, IsNumberOf, client_word, server_word, packet_word, what_words, FitsWhat, IsSpelled, IsLineOf}
-use Rattle.fs_schedule.specs.Reading.{IsToldEvent, IsToldLine}
+use Rattle.fs_schedule.specs.Spelling.{FitsTimes, IsCountOf, head_words, IsHeadLine, kind_text, op_words, FitsOp, field_words, FitsField, session_in, IsNumberOf, client_word, server_word, packet_word, what_words, FitsWhat, IsSpelled, IsLineOf}
+use Rattle.fs_schedule.specs.Reading.{IsToldHead, IsToldHeadLine, IsToldEvent, IsToldLine}
 use Rattle.fs_schedule.proofs.Asked.{any_op}
 use Rattle.fs_schedule.proofs.Cuts.{lacks_push, lacks_append, words_one}
 
@@ -162,6 +162,9 @@ digits_lack : (b : ℕ) (ds : List ℕ) → b < 48 → AllDigits 10 ds → Lacks
 digits_lack b [] low h = tt
 digits_lack b (d ∷ ds) low h = (digit_lacks b d low h.0, digits_lack b ds low h.1)
 
+fits_digits : (digits : List ℕ) (n : ℕ) → IsNumberOf digits n → FitsWord (Bare digits)
+fits_digits digits n h = fits_bare digits (digits_lack 32 digits (omega arith) h.valid.1) (digits_lack 34 digits (omega arith) h.valid.1)
+
 fits_client : (digits : List ℕ) (n : ℕ) → IsNumberOf digits n → FitsWord (client_word digits)
 fits_client digits n h = fits_bare (99 ∷ digits) (refl, digits_lack 32 digits (omega arith) h.valid.1) (refl, digits_lack 34 digits (omega arith) h.valid.1)
 
@@ -174,21 +177,24 @@ fits_packet None h = fits_by (codes "next") refl
 
 -- ## Forms
 
-fits_head : (head : Head) → FitsHead head → AllByRecursion FitsWord (head_words head)
-fits_head Direct h = (fits_by (codes "farsite") refl, (fits_by (codes "1") refl, (fits_by (codes "direct") refl, tt)))
-fits_head (Servers servers skew term) h =
-    let n = fits_decimal servers (omega (arith, h.0)) in
-    let k = fits_decimal skew (omega (arith, h.1)) in
-    let t = fits_decimal term (omega (arith, h.3)) in
+fits_head : (digits : List ℕ) (head : Head) → IsCountOf digits head → FitsTimes head → AllByRecursion FitsWord (head_words digits head)
+fits_head digits Direct h f = (fits_by (codes "farsite") refl, (fits_by (codes "1") refl, (fits_by (codes "direct") refl, tt)))
+fits_head digits (Servers servers skew term) h f =
+    let n = fits_digits digits servers h in
+    let k = fits_decimal skew (omega (arith, f.0)) in
+    let t = fits_decimal term (omega (arith, f.2)) in
     (fits_by (codes "farsite") refl, (fits_by (codes "1") refl, (fits_by (codes "servers") refl, (n, (fits_by (codes "skew") refl, (k, (fits_by (codes "term") refl, (t, tt))))))))
 
-some_words : (head : Head) (line : List ℕ) → AllByRecursion FitsWord (head_words head) → line ≡ line_text (head_words head) → AreWords (head_words head) line
-some_words Direct line h e = (h.0, h.1, e)
-some_words (Servers servers skew term) line h e = (h.0, h.1, e)
+some_words : (digits : List ℕ) (head : Head) (line : List ℕ) → AllByRecursion FitsWord (head_words digits head) → line ≡ line_text (head_words digits head) → AreWords (head_words digits head) line
+some_words digits Direct line h e = (h.0, h.1, e)
+some_words digits (Servers servers skew term) line h e = (h.0, h.1, e)
 
 -- the words of the first line are words
-pub are_head_words : (head : Head) (line : List ℕ) → IsHeadLine head line → AreWords (head_words head) line
-are_head_words head line h = some_words head line (fits_head head h.0) h.1
+pub are_head_words : (head : Head) (line : List ℕ) → (h : IsHeadLine head line) → AreWords h.words line
+are_head_words head line h =
+    let f = h.form in
+    let P : List Word → Type 0 = λ ws. AreWords ws line in
+    subst P (sym f.spelled) (some_words f.digits head line (fits_head f.digits head f.count f.times) (h.text ∙ ap line_text f.spelled))
 
 -- ## Operations and events
 
@@ -224,6 +230,7 @@ fits_words head (Tell number) digits h k = (fits_by (codes "tell") refl, (fits_p
 fits_words head (Turn (Client s)) digits h k = (fits_by (codes "turn") refl, (fits_client digits s.0 h, tt))
 fits_words head (Turn (Server n)) digits h k = (fits_by (codes "turn") refl, (fits_server n (omega (arith, k.1)), tt))
 fits_words head (Recall n f) digits h k = (fits_by (codes "recall") refl, (fits_server n (omega (arith, k.0.1)), fits_field f k.1))
+fits_words head (Move n id m) digits h k = (fits_by (codes "move") refl, (fits_server n (omega (arith, k.0.1)), (fits_id id k.1, (fits_server m (omega (arith, k.2.1)), tt))))
 
 fits_what : (head : Head) (w : What) (words : List Word) → IsSpelled head w words → AllByRecursion FitsWord words
 fits_what head w words h = subst (AllByRecursion FitsWord) (sym h.spelled) (fits_words head w h.digits h.session h.fits)
@@ -254,3 +261,19 @@ told_by_words head e ws line a h =
 -- a line of no words tells nothing
 pub told_has_words : (head : Head) (e : Event) (line : List ℕ) → ((ws : List Word) → AreWords ws line → ⊥) → IsToldLine head e line → ⊥
 told_has_words head e line none h = none h.0 (told_words head e h.0 line h.1 h.2)
+
+-- the first line tells what its words tell
+pub told_head_line : (head : Head) (ws : List Word) (line : List ℕ) → AreWords ws line → IsToldHead head ws → IsToldHeadLine head line
+told_head_line head ws line a h = (ws, h, text_of ws line a)
+
+told_head_words : (head : Head) (ws : List Word) (line : List ℕ) → IsToldHead head ws → line ≡ line_text ws → AreWords ws line
+told_head_words head ws line h q = are_head_words h.0 line (record { words = ws; form = h.1; text = q })
+
+pub told_head_by_words : (head : Head) (ws : List Word) (line : List ℕ) → AreWords ws line → IsToldHeadLine head line → IsToldHead head ws
+told_head_by_words head ws line a h =
+    let P : List Word → Type 0 = λ vs. IsToldHead head vs in
+    subst P (words_one h.0 ws line (told_head_words head h.0 line h.1 h.2) a) h.1
+
+-- a first line of no words tells no form
+pub told_head_has_words : (head : Head) (line : List ℕ) → ((ws : List Word) → AreWords ws line → ⊥) → IsToldHeadLine head line → ⊥
+told_head_has_words head line none h = none h.0 (told_head_words head h.0 line h.1 h.2)

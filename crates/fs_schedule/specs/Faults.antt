@@ -4,11 +4,22 @@ use Rattle.fs_schedule.specs.declared.event.Event.{Event}
 use Rattle.fs_schedule.specs.declared.event.Schedule.{Schedule}
 use Rattle.fs_schedule.specs.declared.event.Head.{Head}
 use Rattle.fs_schedule.specs.declared.error.Which.{Which}
-use Rattle.fs_schedule.specs.declared.error.Which.TheVariants.{Bytes, Sessions, Events, Packets}
+use Rattle.fs_schedule.specs.declared.error.Which.TheVariants.{Bytes, Servers, Sessions, Events, Packets}
 use Rattle.fs_schedule.specs.declared.limits.TheConstants.{BYTES, EVENTS}
-use Rattle.fs_schedule.specs.Spelling.{IsHeadLine, IsLineOf, names_late}
+use Rattle.fs_schedule.specs.Spelling.{IsHeadLine, has_many, IsLineOf, names_late}
 use Rattle.fs_schedule.specs.Skew.{IsTimely, IsUntimely}
 use Rattle.fs_schedule.specs.Lines.{lines_of}
+
+-- ## The first line
+
+-- the line names the form, and the number of its servers is within the limit
+pub record IsFormLine (head : Head) (line : List ℕ) : Type 0 where
+  pub line_of : IsHeadLine head line
+  pub limit : has_many head ≡ false
+
+-- the line names a form but for a number of servers above the limit
+abbrev pub NamesManyServers : List ℕ → Type 0
+NamesManyServers line = (head : Head) × IsHeadLine head line × (has_many head ≡ true)
 
 -- ## Lines behind the first
 
@@ -39,22 +50,24 @@ pub data LineFault : Type 0 where
 
 -- the first line passes, and names the form
 abbrev pub HeadPasses : Head → List ℕ → Type 0
-HeadPasses head line = (length line ≤ BYTES) × IsHeadLine head line
+HeadPasses head line = (length line ≤ BYTES) × IsFormLine head line
 
--- the first line has this fault
+-- the first line has this fault; no session stands in it, and it is no event
 abbrev pub HeadHas : LineFault → List ℕ → Type 0
 HeadHas (PassesLimit Bytes) line = BYTES < length line
+HeadHas (PassesLimit Servers) line = (length line ≤ BYTES) × NamesManyServers line
 HeadHas (PassesLimit Sessions) line = ⊥
 HeadHas (PassesLimit Events) line = ⊥
 HeadHas (PassesLimit Packets) line = ⊥
 HeadHas IsOutside line = (length line ≤ BYTES) × ((head : Head) → IsHeadLine head line → ⊥)
 
--- a line after so many events has this fault; packets are counted only in a run
+-- a line after so many events has this fault; servers are counted in the first line, and packets only in a run
 abbrev pub LineHas : LineFault → Head → ℕ → List ℕ → Type 0
 LineHas (PassesLimit Bytes) head before line = BYTES < length line
 LineHas IsOutside head before line = (length line ≤ BYTES) × IsNoEvent head line
 LineHas (PassesLimit Sessions) head before line = (length line ≤ BYTES) × NamesLateSession head line
 LineHas (PassesLimit Events) head before line = (length line ≤ BYTES) × ((e : Event) × IsEventLine head e line) × (EVENTS ≤ before)
+LineHas (PassesLimit Servers) head before line = ⊥
 LineHas (PassesLimit Packets) head before line = ⊥
 
 -- these lines after so many events are these events

@@ -11,11 +11,13 @@ use Rattle.fs_schedule.specs.declared.unread.Unread.TheVariants.{Outside}
 use Rattle.fs_schedule.specs.declared.operation.Verb.{Verb}
 use Rattle.fs_schedule.specs.declared.operation.Verb.TheVariants as verb
 use Rattle.fs_schedule.specs.declared.event.What.{What}
-use Rattle.fs_schedule.specs.declared.event.What.TheVariants.{Join, Do, Tell, Turn, Recall}
+use Rattle.fs_schedule.specs.declared.event.What.TheVariants.{Join, Do, Tell, Turn, Recall, Move}
 use Rattle.fs_schedule.specs.declared.event.Event.{Event}
 use Rattle.fs_schedule.specs.declared.event.Head.{Head}
+use Rattle.fs_schedule.specs.declared.event.Head.TheVariants.{Direct, Servers}
+use Rattle.fs_schedule.specs.declared.limits.TheConstants.{SERVERS}
 use Rattle.fs_schedule.specs.Words.{Word, Bare, Quoted, line_text}
-use Rattle.fs_schedule.specs.Spelling.{IsServerIn, IsNumberOf, client_word, server_word, IsSpelled}
+use Rattle.fs_schedule.specs.Spelling.{IsHeadSpelled, IsServerIn, IsNumberOf, client_word, server_word, IsSpelled}
 
 -- the word that stands at a place of a line
 abbrev pub word_of : Piece → Word
@@ -52,26 +54,47 @@ verb_text verb.Set = codes "set"
 verb_text verb.Delete = codes "delete"
 verb_text verb.Rename = codes "rename"
 
--- ## Sessions, whose numbers are told up to the limit, and every greater one as one more
+-- ## Numbers with a limit, which are told up to it, and every greater one as one more
 
-abbrev pub capped : ℕ → ℕ
-capped n = min n (SESSIONS + 1)
+abbrev pub capped : ℕ → ℕ → ℕ
+capped most n = min n (most + 1)
+
+-- the digits are those of a number that is told as n
+abbrev pub IsToldNumber : ℕ → ℕ → List ℕ → Type 0
+IsToldNumber most n digits = (m : ℕ) × IsNumberOf digits m × (n ≡ capped most m)
+
+-- ## Forms, by how many servers they have
+
+abbrev pub capped_head : Head → Head
+capped_head Direct = Direct
+capped_head (Servers servers skew term) = Servers (capped SERVERS servers) skew term
+
+-- the word is a number of servers that is told as n
+abbrev pub IsToldCount : ℕ → Word → Type 0
+IsToldCount n w = (digits : List ℕ) × (w ≡ Bare digits) × IsToldNumber SERVERS n digits
+
+-- the words tell the form
+abbrev pub IsToldHead : Head → List Word → Type 0
+IsToldHead head words = (full : Head) × IsHeadSpelled full words × (head ≡ capped_head full)
+
+-- the line tells the form
+abbrev pub IsToldHeadLine : Head → List ℕ → Type 0
+IsToldHeadLine head line = (words : List Word) × IsToldHead head words × (line ≡ line_text words)
+
+-- ## Events, by the number of their session
 
 abbrev pub capped_what : What → What
-capped_what (Join s) = Join (record s { 0 = capped s.0 })
-capped_what (Do s o) = Do (record s { 0 = capped s.0 }) o
+capped_what (Join s) = Join (record s { 0 = capped SESSIONS s.0 })
+capped_what (Do s o) = Do (record s { 0 = capped SESSIONS s.0 }) o
 capped_what (Tell number) = Tell number
-capped_what (Turn (Client s)) = Turn (Client (record s { 0 = capped s.0 }))
+capped_what (Turn (Client s)) = Turn (Client (record s { 0 = capped SESSIONS s.0 }))
 capped_what (Turn (Server k)) = Turn (Server k)
 capped_what (Recall k f) = Recall k f
+capped_what (Move at prefix to) = Move at prefix to
 
--- the digits are those of a session whose number is told as n
-abbrev pub IsToldNumber : ℕ → List ℕ → Type 0
-IsToldNumber n digits = (m : ℕ) × IsNumberOf digits m × (n ≡ capped m)
-
--- the word is such a session's
+-- the word is that of a session whose number is told as n
 abbrev pub IsToldSession : ℕ → Word → Type 0
-IsToldSession n w = (digits : List ℕ) × (w ≡ client_word digits) × IsToldNumber n digits
+IsToldSession n w = (digits : List ℕ) × (w ≡ client_word digits) × IsToldNumber SESSIONS n digits
 
 -- the word is that of such a session, or of a server of the form
 abbrev pub IsToldPeer : Head → Peer → Word → Type 0

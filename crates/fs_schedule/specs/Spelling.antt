@@ -19,34 +19,67 @@ use Rattle.fs_model.specs.declared.op.Op.TheVariants as op
 use Rattle.fs_field.specs.declared.field.Field.{Field}
 use Rattle.fs_field.specs.declared.field.Field.TheVariants as field
 use Rattle.fs_msg.specs.declared.limits.TheConstants.{LONGEST}
+use Rattle.fs_schedule.specs.declared.limits.TheConstants.{SERVERS}
 use Rattle.fs_schedule.specs.declared.event.Head.{Head}
 use Rattle.fs_schedule.specs.declared.event.Head.TheVariants.{Direct, Servers}
 use Rattle.fs_schedule.specs.declared.event.What.{What}
-use Rattle.fs_schedule.specs.declared.event.What.TheVariants.{Join, Do, Tell, Turn, Recall}
+use Rattle.fs_schedule.specs.declared.event.What.TheVariants.{Join, Do, Tell, Turn, Recall, Move}
 use Rattle.fs_schedule.specs.declared.event.Event.{Event}
 use Rattle.fs_schedule.specs.Words.{Word, Bare, Quoted, line_text}
 
+-- ## Numbers with a limit
+
+-- the digits of the number, without a leading zero, however great it is
+pub record IsNumberOf (digits : List ℕ) (n : ℕ) : Type 0 where
+  pub valid : IsNumeral 10 digits
+  pub first : slice_index digits 0 ≢ 48
+  pub value : digits_value 10 digits ≡ n
+
 -- ## Forms
 
--- a form of the grammar, its numbers in their ranges: no more than one server is in it yet
+-- a form whose numbers are in their ranges, that of its servers within the limit
 abbrev pub FitsHead : Head → Type 0
 FitsHead Direct = Unit {0}
-FitsHead (Servers servers skew term) = (servers ≡ 1) × (skew ≤ LONGEST) × (1 ≤ term) × (term ≤ LONGEST)
-
-abbrev pub head_words : Head → List Word
-head_words Direct = Bare (codes "farsite") ∷ Bare (codes "1") ∷ Bare (codes "direct") ∷ []
-head_words (Servers servers skew term) =
-    Bare (codes "farsite") ∷ Bare (codes "1") ∷ Bare (codes "servers") ∷ Bare (decimal servers)
-    ∷ Bare (codes "skew") ∷ Bare (decimal skew) ∷ Bare (codes "term") ∷ Bare (decimal term) ∷ []
-
--- the first line of a schedule of this form
-abbrev pub IsHeadLine : Head → List ℕ → Type 0
-IsHeadLine head line = FitsHead head × (line ≡ line_text (head_words head))
+FitsHead (Servers servers skew term) = (1 ≤ servers) × (servers ≤ SERVERS) × (skew ≤ LONGEST) × (1 ≤ term) × (term ≤ LONGEST)
 
 -- how many servers a form has
 abbrev pub servers_in : Head → ℕ
 servers_in Direct = 0
 servers_in (Servers servers skew term) = servers
+
+-- it has more servers than the limit
+abbrev pub has_many : Head → Bool
+has_many head = nat_lt SERVERS (servers_in head)
+
+-- the form's times are in their ranges
+abbrev pub FitsTimes : Head → Type 0
+FitsTimes Direct = Unit {0}
+FitsTimes (Servers servers skew term) = (skew ≤ LONGEST) × (1 ≤ term) × (term ≤ LONGEST)
+
+-- where the form has servers, these are the digits of their number
+abbrev pub IsCountOf : List ℕ → Head → Type 0
+IsCountOf digits Direct = Unit {0}
+IsCountOf digits (Servers servers skew term) = IsNumberOf digits servers
+
+-- the words of a form; if it has servers, these are the digits of their number
+abbrev pub head_words : List ℕ → Head → List Word
+head_words digits Direct = Bare (codes "farsite") ∷ Bare (codes "1") ∷ Bare (codes "direct") ∷ []
+head_words digits (Servers servers skew term) =
+    Bare (codes "farsite") ∷ Bare (codes "1") ∷ Bare (codes "servers") ∷ Bare digits
+    ∷ Bare (codes "skew") ∷ Bare (decimal skew) ∷ Bare (codes "term") ∷ Bare (decimal term) ∷ []
+
+-- the words are those of the form, however many servers it has
+pub record IsHeadSpelled (head : Head) (words : List Word) : Type 0 where
+  pub digits : List ℕ
+  pub count : IsCountOf digits head
+  pub times : FitsTimes head
+  pub spelled : words ≡ head_words digits head
+
+-- the first line of a schedule of this form, however many servers it has
+pub record IsHeadLine (head : Head) (line : List ℕ) : Type 0 where
+  pub words : List Word
+  pub form : IsHeadSpelled head words
+  pub text : line ≡ line_text words
 
 -- one of the form's servers; their numbers have eight bits
 abbrev pub IsServerIn : Head → ℕ → Type 0
@@ -127,6 +160,7 @@ FitsWhat head (Tell number) = (0 < servers_in head) × IfSome number (λ n. n < 
 FitsWhat head (Turn (Client s)) = 0 < servers_in head
 FitsWhat head (Turn (Server k)) = IsServerIn head k
 FitsWhat head (Recall k f) = IsServerIn head k × FitsField f
+FitsWhat head (Move at prefix to) = IsServerIn head at × IsId prefix × IsServerIn head to
 
 -- the session that an event names, where it names one
 abbrev pub session_in : What → Option Session
@@ -136,6 +170,7 @@ session_in (Tell number) = None
 session_in (Turn (Client s)) = Some s
 session_in (Turn (Server k)) = None
 session_in (Recall k f) = None
+session_in (Move at prefix to) = None
 
 -- the word of a client's session whose number has these digits
 abbrev pub client_word : List ℕ → Word
@@ -161,12 +196,7 @@ what_words digits (Do s o) = Bare (codes "do") ∷ client_word digits ∷ op_wor
 what_words digits (Tell number) = Bare (codes "tell") ∷ packet_word number ∷ []
 what_words digits (Turn who) = Bare (codes "turn") ∷ peer_word digits who ∷ []
 what_words digits (Recall k f) = Bare (codes "recall") ∷ server_word k ∷ field_words f
-
--- the digits of the number, without a leading zero, however great it is
-pub record IsNumberOf (digits : List ℕ) (n : ℕ) : Type 0 where
-  pub valid : IsNumeral 10 digits
-  pub first : slice_index digits 0 ≢ 48
-  pub value : digits_value 10 digits ≡ n
+what_words digits (Move at prefix to) = Bare (codes "move") ∷ server_word at ∷ Bare (id_text prefix) ∷ server_word to ∷ []
 
 -- the words are those of what happens, whatever the number of its session
 pub record IsSpelled (head : Head) (w : What) (words : List Word) : Type 0 where
@@ -190,6 +220,7 @@ names_late (Tell number) = false
 names_late (Turn (Client s)) = nat_lt SESSIONS s.0
 names_late (Turn (Server k)) = false
 names_late (Recall k f) = false
+names_late (Move at prefix to) = false
 
 -- ## What every event of a schedule is
 

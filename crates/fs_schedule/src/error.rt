@@ -11,6 +11,8 @@ use thiserror::Error;
 pub enum Which {
     /// Bytes of a line, 4,096.
     Bytes,
+    /// Servers of a form, 15.
+    Servers,
     /// A session's number, 1,000.
     Sessions,
     /// Events of a schedule, 65,536.
@@ -28,6 +30,7 @@ impl fmt::Display for Which {
     fn fmt<W: fmt::Write>(&self, f: &mut fmt::Formatter<W>) -> fmt::Result {
         match self {
             Which::Bytes => f.write_str("bytes"),
+            Which::Servers => f.write_str("servers"),
             Which::Sessions => f.write_str("sessions"),
             Which::Events => f.write_str("events"),
             Which::Packets => f.write_str("packets"),

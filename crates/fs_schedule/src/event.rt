@@ -1,6 +1,6 @@
 //! Schedules and their events.
 use fs_field::Field;
-use fs_ident::{List, Memory, Peer, Session, Twin};
+use fs_ident::{FileId, List, Memory, Peer, Session, Twin};
 use fs_model::Op;
 use std::alloc::Global;
 
@@ -26,6 +26,8 @@ pub enum What {
     Turn(Peer),
     /// The server asks for the leases on the field.
     Recall(u8, Field),
+    /// The server gives what it manages below the prefix to another.
+    Move { at: u8, prefix: FileId, to: u8 },
 }
 
 /// One event, at a reading of a clock in milliseconds, at most 10^15.
@@ -50,6 +52,11 @@ impl Twin for What {
             What::Tell(number) => Ok(What::Tell(*number)),
             What::Turn(who) => Ok(What::Turn(*who)),
             What::Recall(server, field) => Ok(What::Recall(*server, field.copy(alloc)?)),
+            What::Move { at, prefix, to } => Ok(What::Move {
+                at: *at,
+                prefix: prefix.copy(alloc)?,
+                to: *to,
+            }),
         }
     }
 

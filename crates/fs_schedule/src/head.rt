@@ -1,10 +1,12 @@
 //! Forms: what they have, and the first line that names one.
 ghost use Rattle.std.specs.Prelude.{◌≡◌, ◌∷◌, [], codes};
 ghost use Rattle.fs_schedule.specs.Words.{Bare};
-ghost use Rattle.fs_schedule.specs.Spelling.{FitsHead, head_words, IsHeadLine, servers_in, has_op};
-ghost use Rattle.fs_schedule.specs.Reading.{Reads, Tells, word_of, words_in};
+ghost use Rattle.fs_schedule.specs.Spelling.{servers_in, has_many, has_op};
+ghost use Rattle.fs_schedule.specs.Reading.{Tells, word_of, words_in, IsToldCount, IsToldHead, IsToldHeadLine};
 
 use crate::event::Head;
+use crate::limits::SERVERS;
+use crate::number::count_up_to;
 use crate::operand::{count_at, is_bare, number_at};
 use crate::unread::Unread;
 use crate::word::Word;
@@ -23,6 +25,16 @@ pub fn servers_in(head: Head) -> u8
     }
 }
 
+/// Whether it has more servers than the limit.
+pub fn has_many(head: Head) -> bool
+    ensures { result ≡ has_many head }
+{
+    match head {
+        Head::Direct => false,
+        Head::Servers { servers, .. } => SERVERS < servers,
+    }
+}
+
 /// Whether a schedule of the form can ask for the operation.
 pub fn has_op(head: Head, op: &Op) -> bool
     ensures { result ≡ has_op head op.now }
@@ -36,18 +48,18 @@ pub fn has_op(head: Head, op: &Op) -> bool
     }
 }
 
-/// The form that the line names.
+/// The form that the line names, with a number of servers above the limit as one more than the limit.
 pub fn head_at(alloc: Global, line: &[u8]) -> Result<Head, Unread>
-    ensures { Tells IsHeadLine result line.now }
+    ensures { Tells IsToldHeadLine result line.now }
 {
     let words = words_of(alloc, line)?;
     head_of(alloc, words.as_slice())
 }
 
 fn head_of(alloc: Global, words: &[Word]) -> Result<Head, Unread>
-    ensures { Reads head_words FitsHead result (words_in words.now) }
+    ensures { Tells IsToldHead result (words_in words.now) }
 {
-    let [product, version, Word::Bare(form), operands @ ..] = words else {
+    let [product, version, form, operands @ ..] = words else {
         return Err(Unread::Outside);
     };
     if !is_bare(product, b"farsite") {
@@ -60,21 +72,21 @@ fn head_of(alloc: Global, words: &[Word]) -> Result<Head, Unread>
 }
 
 /// The same, where the word that tells the form was read.
-fn head_by(alloc: Global, form: &[u8], operands: &[Word]) -> Result<Head, Unread>
-    ensures { Reads head_words FitsHead result
-        (Bare (codes "farsite") ∷ Bare (codes "1") ∷ Bare form.now ∷ words_in operands.now) }
+fn head_by(alloc: Global, form: &Word, operands: &[Word]) -> Result<Head, Unread>
+    ensures { Tells IsToldHead result
+        (Bare (codes "farsite") ∷ Bare (codes "1") ∷ word_of form.now ∷ words_in operands.now) }
 {
-    if form == b"direct".as_slice() {
+    if is_bare(form, b"direct") {
         return direct_of(operands);
     }
-    if form == b"servers".as_slice() {
+    if is_bare(form, b"servers") {
         return servers_of(alloc, operands);
     }
     Err(Unread::Outside)
 }
 
 fn direct_of(operands: &[Word]) -> Result<Head, Unread>
-    ensures { Reads head_words FitsHead result
+    ensures { Tells IsToldHead result
         (Bare (codes "farsite") ∷ Bare (codes "1") ∷ Bare (codes "direct") ∷ words_in operands.now) }
 {
     match operands {
@@ -84,7 +96,7 @@ fn direct_of(operands: &[Word]) -> Result<Head, Unread>
 }
 
 fn servers_of(alloc: Global, operands: &[Word]) -> Result<Head, Unread>
-    ensures { Reads head_words FitsHead result
+    ensures { Tells IsToldHead result
         (Bare (codes "farsite") ∷ Bare (codes "1") ∷ Bare (codes "servers") ∷ words_in operands.now) }
 {
     let [servers, skew_word, skew, term_word, term] = operands else {
@@ -101,17 +113,28 @@ fn servers_of(alloc: Global, operands: &[Word]) -> Result<Head, Unread>
 
 /// The same, where the words between the numbers were read.
 fn servers_by(alloc: Global, servers: &Word, skew: &Word, term: &Word) -> Result<Head, Unread>
-    ensures { Reads head_words FitsHead result
+    ensures { Tells IsToldHead result
         (Bare (codes "farsite") ∷ Bare (codes "1") ∷ Bare (codes "servers") ∷
         word_of servers.now ∷ Bare (codes "skew") ∷ word_of skew.now ∷
         Bare (codes "term") ∷ word_of term.now ∷ []) }
 {
-    let servers = count_at(alloc, 1, servers)?;
+    let servers = servers_at(servers)?;
     let skew = number_at(alloc, LONGEST, skew)?;
     let term = count_at(alloc, LONGEST, term)?;
     Ok(Head::Servers {
-        servers: servers as u8,
+        servers,
         skew,
         term,
     })
+}
+
+/// How many servers a form has, with every number above the limit as one more than the limit.
+fn servers_at(word: &Word) -> Result<u8, Unread>
+    ensures { Tells IsToldCount result (word_of word.now) }
+{
+    let Word::Bare(digits) = word else {
+        return Err(Unread::Outside);
+    };
+    let number = count_up_to(u16::from(SERVERS), digits)?;
+    Ok(number as u8)
 }

@@ -9,7 +9,7 @@ use crate::actor::{peer_at, server_at};
 use crate::event::{Event, Head, What};
 use crate::field::field_at;
 use crate::head::servers_in;
-use crate::operand::{number_at, packet_at};
+use crate::operand::{id_at, number_at, packet_at};
 use crate::operation::op_at;
 use crate::session::session_at;
 use crate::unread::Unread;
@@ -63,6 +63,7 @@ fn what_by(alloc: Global, head: Head, verb: &[u8], operands: &[Word]) -> Result<
         b"tell" => tell_of(alloc, head, operands),
         b"turn" => turn_of(alloc, head, operands),
         b"recall" => recall_of(alloc, head, operands),
+        b"move" => move_of(alloc, head, operands),
         _ => Err(Unread::Outside),
     }
 }
@@ -164,6 +165,32 @@ fn recall_by(alloc: Global, head: Head, server: &Word, words: &[Word]) -> Result
     Ok(What::Recall(server, field))
 }
 
+fn move_of(alloc: Global, head: Head, operands: &[Word]) -> Result<What, Unread>
+    ensures { Tells (IsToldWhat head) result (Bare (codes "move") ∷ words_in operands.now) }
+{
+    let [server, prefix, other] = operands else {
+        return Err(Unread::Outside);
+    };
+    move_by(alloc, head, server, prefix, other)
+}
+
+/// The same, where there are three operands.
+fn move_by(
+    alloc: Global,
+    head: Head,
+    server: &Word,
+    prefix: &Word,
+    other: &Word,
+) -> Result<What, Unread>
+    ensures { Tells (IsToldWhat head) result
+        (Bare (codes "move") ∷ word_of server.now ∷ word_of prefix.now ∷ word_of other.now ∷ []) }
+{
+    let at = server_at(alloc, head, server)?;
+    let prefix = id_at(alloc, prefix)?;
+    let to = server_at(alloc, head, other)?;
+    Ok(What::Move { at, prefix, to })
+}
+
 /// Whether it names a session above the limit.
 pub fn names_late(what: &What) -> bool
     ensures { result ≡ names_late what.now }
@@ -172,6 +199,7 @@ pub fn names_late(what: &What) -> bool
         What::Join(session) => SESSIONS < session.0,
         What::Do(session, _) => SESSIONS < session.0,
         What::Turn(Peer::Client(session)) => SESSIONS < session.0,
-        What::Tell(_) | What::Turn(Peer::Server(_)) | What::Recall(_, _) => false,
+        What::Tell(_) | What::Turn(Peer::Server(_)) | What::Recall(_, _) | What::Move { .. } =>
+            false,
     }
 }

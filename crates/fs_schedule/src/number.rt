@@ -1,9 +1,10 @@
 //! Numbers in decimal, in their one form.
-ghost use Rattle.std.specs.Prelude.{◌<◌, ◌^◌};
+ghost use Rattle.std.specs.Prelude.{◌≡◌, ◌≤◌, ◌<◌, ◌+◌, ◌*◌, ◌^◌, min};
 ghost use Rattle.std.specs.Fmt.{decimal};
-ghost use Rattle.fs_schedule.specs.Reading.{Reads};
+ghost use Rattle.fs_schedule.specs.Reading.{Reads, Tells, IsToldNumber};
 
 use crate::unread::Unread;
+use fs_ident::SESSIONS;
 use std::alloc::Global;
 use std::str;
 
@@ -23,4 +24,45 @@ pub fn number_of(alloc: Global, digits: &[u8]) -> Result<u64, Unread>
     } else {
         Err(Unread::Outside)
     }
+}
+
+/// A number from 1, however long it is: every one above `most` as one more than `most`.
+pub fn count_up_to(most: u16, digits: &[u8]) -> Result<u16, Unread>
+    requires { most ≤ SESSIONS }
+    ensures { Tells (IsToldNumber most) result digits.now }
+{
+    if digits.is_empty() {
+        return Err(Unread::Outside);
+    }
+    if digits[0] == b'0' {
+        return Err(Unread::Outside);
+    }
+    let mut number = 0;
+    for at in 0..digits.len() {
+        let digit = digit_of(digits[at])?;
+        number = with_digit(most, number, digit);
+    }
+    Ok(number)
+}
+
+fn digit_of(b: u8) -> Result<u8, Unread>
+    ensures { Reads (λ d. 48 + d) (λ d. d < 10) result b }
+{
+    if b < b'0' {
+        return Err(Unread::Outside);
+    }
+    if b'9' < b {
+        return Err(Unread::Outside);
+    }
+    Ok(b - b'0')
+}
+
+fn with_digit(most: u16, n: u16, digit: u8) -> u16
+    requires most { most ≤ SESSIONS }
+    requires number { n ≤ most + 1 }
+    requires digit { digit < 10 }
+    ensures { result ≡ min (n * 10 + digit) (most + 1) }
+{
+    let longer = n * 10 + u16::from(digit);
+    longer.min(most + 1)
 }

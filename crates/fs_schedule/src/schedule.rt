@@ -9,7 +9,7 @@ ghost use Rattle.fs_schedule.specs.Faults.{AtLine, IsSkewed, AreLinesOf, Passes,
 use crate::cut::next_line;
 use crate::error::{ScheduleError, Which};
 use crate::event::{Event, Head, Schedule};
-use crate::head::head_at;
+use crate::head::{has_many, head_at};
 use crate::limits::{BYTES, EVENTS};
 use crate::line::{event_at, names_late};
 use crate::skew::untimely_line;
@@ -67,6 +67,7 @@ fn read_lines(alloc: Global, bytes: &[u8]) -> Result<Schedule, ScheduleError>
 
 fn read_head(alloc: Global, line: &[u8]) -> Result<Head, ScheduleError>
     ensures ok { IfOk result (λ head. HeadPasses head line.now) }
+    ensures form { IfOk result FitsHead }
     ensures bad_line { (n : ℕ) → IsErrOf result (ScheduleError.BadLine n) →
         (n ≡ 1) × HeadHas IsOutside line.now }
     ensures limit { (which : Limited) (n : ℕ) → IsErrOf result (ScheduleError.Limit which n) →
@@ -80,11 +81,18 @@ fn read_head(alloc: Global, line: &[u8]) -> Result<Head, ScheduleError>
             at: 1,
         });
     }
-    match head_at(alloc, line) {
-        Ok(head) => Ok(head),
-        Err(Unread::Outside) => Err(ScheduleError::BadLine { line: 1 }),
-        Err(Unread::Memory) => Err(ScheduleError::Memory),
+    let head = match head_at(alloc, line) {
+        Ok(head) => head,
+        Err(Unread::Outside) => return Err(ScheduleError::BadLine { line: 1 }),
+        Err(Unread::Memory) => return Err(ScheduleError::Memory),
+    };
+    if has_many(head) {
+        return Err(ScheduleError::Limit {
+            which: Which::Servers,
+            at: 1,
+        });
     }
+    Ok(head)
 }
 
 fn read_events(alloc: Global, head: Head, text: &[u8]) -> Result<List<Event>, ScheduleError>

@@ -55,9 +55,36 @@ const SERVED: &str = "farsite 1 servers 1 skew 10 term 100
 const SERVED_SHOWN: &str =
     "Schedule { head: Servers { servers: 1, skew: 10, term: 100 }, events: List { items: [Event { reading: 0, what: Join(Session(1)) }, Event { reading: 7, what: Do(Session(2), Lookup { dir: FileId { numbers: [] }, name: Name { bytes: [97] } }) }, Event { reading: 7, what: Do(Session(2), List { dir: FileId { numbers: [] } }) }, Event { reading: 7, what: Do(Session(2), Kind { file: FileId { numbers: [1] } }) }, Event { reading: 7, what: Do(Session(2), Info { file: FileId { numbers: [1] } }) }, Event { reading: 7, what: Do(Session(2), Create { dir: FileId { numbers: [] }, name: Name { bytes: [97] }, kind: Dir, id: None }) }, Event { reading: 7, what: Do(Session(2), OpenFile { file: FileId { numbers: [1] }, h: 3, modes: Modes { acc_r: true, acc_w: true, acc_d: false, deny_r: false, deny_w: false, deny_d: true } }) }, Event { reading: 7, what: Do(Session(2), Close { file: FileId { numbers: [1] }, h: 3 }) }, Event { reading: 7, what: Do(Session(2), Set { file: FileId { numbers: [1] }, h: 3, size: 10, stamp: 5 }) }, Event { reading: 7, what: Tell(Some(0)) }, Event { reading: 7, what: Tell(Some(18446744073709551615)) }, Event { reading: 7, what: Tell(None) }, Event { reading: 7, what: Turn(Client(Session(1000))) }, Event { reading: 7, what: Turn(Server(0)) }, Event { reading: 7, what: Recall(0, Life(FileId { numbers: [] })) }, Event { reading: 7, what: Recall(0, Child(FileId { numbers: [1] }, Name { bytes: [97, 32, 98] })) }, Event { reading: 7, what: Recall(0, Names(FileId { numbers: [] })) }, Event { reading: 7, what: Recall(0, Info(FileId { numbers: [1] })) }, Event { reading: 7, what: Recall(0, SelfW(FileId { numbers: [1] }, AccR)) }, Event { reading: 7, what: Recall(0, Other(FileId { numbers: [1, 2] }, DenyD)) }] } }";
 
+/// A schedule with two servers: what names the greater one, and moves.
+const TWO: &str = "farsite 1 servers 2 skew 0 term 1
+3 turn s1
+3 recall s1 life /
+3 move s0 /1 s1
+3 move s0 / s0
+3 move s1 /4294967295/2 s0
+";
+
+/// What it is read as.
+const TWO_SHOWN: &str =
+    "Schedule { head: Servers { servers: 2, skew: 0, term: 1 }, events: List { items: [Event { reading: 3, what: Turn(Server(1)) }, Event { reading: 3, what: Recall(1, Life(FileId { numbers: [] })) }, Event { reading: 3, what: Move { at: 0, prefix: FileId { numbers: [1] }, to: 1 } }, Event { reading: 3, what: Move { at: 0, prefix: FileId { numbers: [] }, to: 0 } }, Event { reading: 3, what: Move { at: 1, prefix: FileId { numbers: [4294967295, 2] }, to: 0 } }] } }";
+
+/// A schedule with as many servers as there may be.
+const FIFTEEN: &str = "farsite 1 servers 15 skew 10 term 100
+0 turn s14
+0 move s14 / s10";
+
+/// What it is read as.
+const FIFTEEN_SHOWN: &str =
+    "Schedule { head: Servers { servers: 15, skew: 10, term: 100 }, events: List { items: [Event { reading: 0, what: Turn(Server(14)) }, Event { reading: 0, what: Move { at: 14, prefix: FileId { numbers: [] }, to: 10 } }] } }";
+
 #[test]
 fn every_event_is_read_and_copied(rt: HostRuntime) -> Result<(), Fail> {
-    for (text, wanted) in [(DIRECT, DIRECT_SHOWN), (SERVED, SERVED_SHOWN)] {
+    for (text, wanted) in [
+        (DIRECT, DIRECT_SHOWN),
+        (SERVED, SERVED_SHOWN),
+        (TWO, TWO_SHOWN),
+        (FIFTEEN, FIFTEEN_SHOWN),
+    ] {
         let schedule = read_schedule(rt.alloc(), text.as_bytes())?;
         let twin = schedule.copy(rt.alloc())?;
         let shown = format!(in rt.alloc(); "{schedule:?}")?;
@@ -69,13 +96,36 @@ fn every_event_is_read_and_copied(rt: HostRuntime) -> Result<(), Fail> {
 }
 
 /// Texts that are no schedules, each behind the limit that it passes, or nothing, and its faulty line.
-const REFUSED: [(&str, &str); 36] = [
+const REFUSED: [(&str, &str); 50] = [
     ("1", ""),
     ("1", "\n"),
     ("1", "farsite 1 direct\r\n"),
     ("1", "farsite 1 direct 1\n"),
     ("1", "farsite 1 servers 0 skew 10 term 100\n"),
-    ("1", "farsite 1 servers 2 skew 10 term 100\n"),
+    ("1", "farsite 1 servers 00 skew 10 term 100\n"),
+    ("1", "farsite 1 servers 01 skew 10 term 100\n"),
+    ("1", "farsite 1 servers 016 skew 10 term 100\n"),
+    ("1", "farsite 1 servers +1 skew 10 term 100\n"),
+    ("1", "farsite 1 servers s1 skew 10 term 100\n"),
+    ("1", "farsite 1 servers skew 10 term 100\n"),
+    ("servers 1", "farsite 1 servers 16 skew 10 term 100\n"),
+    (
+        "servers 1",
+        "farsite 1 servers 99999999999999999999999999 skew 10 term 100\n",
+    ),
+    (
+        "servers 1",
+        "farsite 1 servers 16 skew 10 term 100\n0 join c1001",
+    ),
+    ("1", "farsite 1 servers 16 skew 10 term 0\n"),
+    ("1", "farsite 1 servers 16 skew 1000000001 term 100\n"),
+    ("2", "farsite 1 servers 15 skew 10 term 100\n0 turn s15"),
+    (
+        "2",
+        "farsite 1 servers 2 skew 10 term 100\n0 recall s2 life /",
+    ),
+    ("2", "farsite 1 servers 2 skew 10 term 100\n0 move s0 /1 s2"),
+    ("2", "farsite 1 direct\n0 move s0 / s0"),
     ("1", "farsite 1 servers 1 skew 1000000001 term 100\n"),
     ("1", "farsite 1 servers 1 skew 10 term 1000000001\n"),
     ("1", "farsite 1 servers 1 skew 10 term 0\n"),
@@ -112,7 +162,7 @@ const REFUSED: [(&str, &str); 36] = [
 ];
 
 /// The same behind the first line of the servers form, with a skew of 10.
-const SERVED_REFUSED: [(&str, &str); 31] = [
+const SERVED_REFUSED: [(&str, &str); 38] = [
     ("2", "0 tell"),
     ("2", "0 tell 00"),
     ("2", "0 tell last"),
@@ -134,7 +184,14 @@ const SERVED_REFUSED: [(&str, &str); 31] = [
     ("2", "0 recall s0 self /1 aX"),
     ("2", "0 recall s0 other /1 R"),
     ("2", "0 recall s0 other /1 aR aW"),
-    ("2", "0 move s0 /1 s0"),
+    ("read", "0 move s0 /1 s0"),
+    ("2", "0 move s0 /1 s1"),
+    ("2", "0 move s1 /1 s0"),
+    ("2", "0 move s0 /1 c1"),
+    ("2", "0 move s0 /0 s0"),
+    ("2", "0 move s0 s0"),
+    ("2", "0 move s0 /1"),
+    ("2", "0 move s0 /1 s0 s0"),
     ("2", "0 do c1 open /1 1 - R"),
     ("2", "0 do c1 reap /1 c2"),
     ("2", "0 do c1 delete / \"a\""),

@@ -19,7 +19,7 @@ use Rattle.fs_msg.specs.declared.client_msg.ClientMsg.{ClientMsg}
 use Rattle.fs_msg.specs.declared.item.Item.{Item}
 use Rattle.fs_record.specs.Effects.{tells_its_effects}
 use Rattle.fs_server.specs.Ships.{item_of}
-use Rattle.fs_client.specs.Acts.{act_on, answer_with, answers, ask_for, asks, entry_of, fresh_asked, full_one, items_of, reads, replies, stays, with_id, worth}
+use Rattle.fs_client.specs.Acts.{act_on, answer_with, answers, ask_for, asks, entry_of, fresh_asked, full_one, hinted, items_of, need_file, needs_at, reads, replies, stays, with_id, worth}
 use Rattle.fs_client.specs.Client.{changed}
 use Rattle.fs_client.specs.declared.change.Change.TheVariants as change
 use Rattle.fs_client.specs.declared.plan.Plan.{Plan}
@@ -34,7 +34,7 @@ use Rattle.fs_serial.specs.Steps.{IsReadNow, IsReplied}
 use Rattle.fs_serial.specs.World.{is_called, message_in, pushed, told_by}
 use Rattle.fs_serial.proofs.ClientSteps.{IsMoved, with_journal}
 use Rattle.fs_serial.proofs.Facts.{items-other, reaps-still}
-use Rattle.fs_serial.proofs.PlainAsks.{asks_given}
+use Rattle.fs_serial.proofs.PlainAsks.{asks_given, some_given}
 use Rattle.fs_serial.proofs.Read.{read_made, read_reserved, read_serial, seat_read, settled_number}
 use Rattle.fs_serial.proofs.ReplyAll.{replied_settled}
 use Rattle.fs_serial.proofs.ReplySeat.{seat_reply}
@@ -87,11 +87,12 @@ module _ (skew greatest : ℕ) (s : Sight) (by : Session) (replied : List Item) 
   full (need.Lease field kind ∷ needs) = full needs
   full (need.Fresh dir ∷ needs) = stayed (act.NoIds dir)
 
-  asking : (needs : List Need) → needs ≡ worth c.full (missing_in c.view c.last o) → c.exchange ≡ None → IsDone (asks needs c)
-  asking needs is idle = record {
+  asking : (to : ℕ) (needs : List Need) → needs ≡ worth c.full (missing_in c.view c.last o) → c.exchange ≡ None → IsDone (asks to needs c)
+  asking to needs is idle = record {
     now = refl;
     moved = record {
-      seat = seat_asks skew greatest s by replied c up down (items_of needs) (fresh_asked needs) idle (subst (λ ns. AreOfGivenKinds (items_of ns)) (sym is) (asks_given (known_by c.view c.last) (given_by c.view c.last) c.full o called)) h;
+      seat = seat_asks skew greatest s by replied c up down to (items_of (needs_at c to needs)) (fresh_asked (needs_at c to needs)) idle
+          (some_given (λ n. hinted c (need_file n) == to) needs (subst (λ ns. AreOfGivenKinds (items_of ns)) (sym is) (asks_given (known_by c.view c.last) (given_by c.view c.last) c.full o called))) h;
       reserves = λ n i r. r;
     };
     servers = servers_stay s;
@@ -100,9 +101,9 @@ module _ (skew greatest : ℕ) (s : Sight) (by : Session) (replied : List Item) 
 
   asked_for : (missing needs : List Need) → needs ≡ worth c.full (missing_in c.view c.last o) → IsDone (ask_for missing needs c)
   asked_for missing [] is = full missing
-  asked_for missing (n ∷ ns) is = elim (is_some c.exchange) as (λ b. is_some c.exchange ≡ b → IsDone (cond b (stays (act.Busy busy.Exchange) c) (asks (n ∷ ns) c))) [
+  asked_for missing (n ∷ ns) is = elim (is_some c.exchange) as (λ b. is_some c.exchange ≡ b → IsDone (cond b (stays (act.Busy busy.Exchange) c) (asks (hinted c (need_file n)) (n ∷ ns) c))) [
     | true ↦ λ e. stayed (act.Busy busy.Exchange)
-    | false ↦ λ e. asking (n ∷ ns) is (none_is c.exchange e)
+    | false ↦ λ e. asking (hinted c (need_file n)) (n ∷ ns) is (none_is c.exchange e)
   ] refl
 
   -- ## Nothing is missing
@@ -131,7 +132,7 @@ module _ (skew greatest : ℕ) (s : Sight) (by : Session) (replied : List Item) 
   item_is r = ap (λ (x : Session). let y : Item = record { by = OfSession x; n = c.next; op = with_id c.view c.last o r; reply = r } in y) (sym h.client.session)
 
   abbrev IsRead : Reply → Item → Type 0
-  IsRead r item = IsDone (record { ready = record { now = c.last; change = change.Read }; out = record { note = act.ReadNow c.next r; send = None; admitted = Some item } })
+  IsRead r item = IsDone (record { ready = record { now = c.last; change = change.Read; hints = None }; out = record { note = act.ReadNow c.next r; send = None; admitted = Some item } })
 
   reading : (r : Reply) → reply_in c.view c.last o ≡ Some r → is_change r ≡ false → c.log ≡ [] → IsDone (reads o r c)
   reading r e read empty =
@@ -146,7 +147,7 @@ module _ (skew greatest : ℕ) (s : Sight) (by : Session) (replied : List Item) 
         };
         servers = record {
           holds = λ q. record { apart = q.apart; promises = q.promises; serial = read_serial skew greatest s by replied c up down o r h a t q; reaped = reaps-still s.reaps s.journal i (λ k. refl) q.reaped };
-          fits = λ f. record { shaped = f.shaped; given = f.given; sound = f.sound; made = read_made skew greatest s by replied c up down o r h a t f.made };
+          fits = λ f. record { shaped = f.shaped; counted = f.counted; given = f.given; sound = f.sound; made = read_made skew greatest s by replied c up down o r h a t f.made };
           reserved = λ clients. read_reserved skew greatest s by replied c up down o r h a t (reserved_by clients);
         };
         others = λ x q. items-other x s.journal i q;

@@ -34,7 +34,7 @@ use Rattle.fs_serial.specs.Parts.{ServersHold, ServersFit, SessionHolds, Session
 use Rattle.fs_serial.specs.Pending.{AllStand, IsAnswer, PendingStand, HasLease, UsesHeld, IsEntry, NamesItsFile, HasReserved, AreEntries, named_by}
 use Rattle.fs_serial.specs.Serial.{JournalSerial, AreSound}
 use Rattle.fs_serial.specs.Settled.{Lease, lease_after, effects_in}
-use Rattle.fs_serial.specs.Sight.{Sight, sight_of}
+use Rattle.fs_serial.specs.Sight.{Counts, Sight, sight_of}
 use Rattle.fs_serial.proofs.Answered.{answered, leads_there, sound_there, no_reap}
 use Rattle.fs_serial.proofs.Births.{life_after, makes_there, names_made}
 use Rattle.fs_serial.proofs.Facts.{In-mapped, each_image, items-own, serial_push, session_itself}
@@ -90,14 +90,14 @@ still_named by e leases uses o r other n = n
 
 -- ## The parts
 
-module _ (skew greatest : ℕ) (s : Server) (journal : List Item) (by : Session) (replied : List Item) (leases : List Lease) (e : Entry) (es : List Entry) (next : ℕ)
+module _ (o : Counts) (skew greatest : ℕ) (s : Server) (journal : List Item) (by : Session) (replied : List Item) (leases : List Lease) (e : Entry) (es : List Entry) (next : ℕ)
     (stand : AllStand s.rows by e.uses)
-    (sh : ServersHold (sight_of s journal)) (sf : ServersFit (sight_of s journal))
-    (h : SessionHolds skew greatest (sight_of s journal) by replied (record { leases = leases; log = e ∷ es; next = next; over = None }))
-    (f : SessionFits skew greatest (sight_of s journal) by (record { leases = leases; log = e ∷ es; next = next; over = None })) where
+    (sh : ServersHold (sight_of o s journal)) (sf : ServersFit (sight_of o s journal))
+    (h : SessionHolds skew greatest (sight_of o s journal) by replied (record { leases = leases; log = e ∷ es; next = next; over = None }))
+    (f : SessionFits skew greatest (sight_of o s journal) by (record { leases = leases; log = e ∷ es; next = next; over = None })) where
   -- the servers, and the client, after it
   abbrev after : Sight
-  after = sight_of (with_entry by e s) (journal ++ item_of by e ∷ [])
+  after = sight_of o (with_entry by e s) (journal ++ item_of by e ∷ [])
 
   abbrev then : List Lease
   then = map (lease_after by (effects_in by e)) leases
@@ -170,7 +170,7 @@ module _ (skew greatest : ℕ) (s : Server) (journal : List Item) (by : Session)
   entries : AreEntries then es
   entries x i =
       let q : IsEntry leases x = f.entries x (inr i) in
-      record { plain = q.plain; access = q.access; named = still_named by e leases x.uses x.op x.reply (other x i) q.named }
+      record { plain = q.plain; access = q.access; named = still_named by e leases x.uses x.op x.reply (other x i) q.named; home = q.home }
 
   pub fits : SessionFits skew greatest after by (record { leases = then; log = es; next = next; over = None })
   fits = record {

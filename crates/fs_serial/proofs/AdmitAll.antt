@@ -16,7 +16,7 @@ use Rattle.fs_serial.specs.Pending.{AllStand, IsAnswer, IsEntry}
 use Rattle.fs_serial.specs.Relies.{Relies}
 use Rattle.fs_serial.specs.Settled.{Lease, Settled, acknowledged, lease_after, effects_in}
 use Rattle.fs_serial.specs.Rows.{PromisesKept}
-use Rattle.fs_serial.specs.Sight.{Sight, reaps_at, sight_of}
+use Rattle.fs_serial.specs.Sight.{Counts, Sight, count_with, sight_of}
 use Rattle.fs_serial.specs.Steps.{IsAdmitted}
 use Rattle.fs_serial.proofs.Admit as admit
 use Rattle.fs_serial.proofs.AdmitFresh.{fresh_then, made_then}
@@ -43,7 +43,7 @@ fewer_reserved by e leases n id r =
       file = ap (λ (l : Lease). file_of l.field) (sym k.1.1) ∙ r.file;
     }
 
-module _ (skew greatest : ℕ) (s : Server) (journal : List Item) (replied : Session → List Item) (clients : Session → Settled) (by : Session) (e : Entry) (h : AllHold skew greatest (sight_of s journal) replied clients) (a : IsAdmitted s by (clients by) e) where
+module _ (o : Counts) (skew greatest : ℕ) (s : Server) (journal : List Item) (replied : Session → List Item) (clients : Session → Settled) (by : Session) (e : Entry) (h : AllHold skew greatest (sight_of o s journal) replied clients) (a : IsAdmitted s by (clients by) e) where
   abbrev d : Settled
   d = clients by
 
@@ -61,22 +61,22 @@ module _ (skew greatest : ℕ) (s : Server) (journal : List Item) (replied : Ses
   is_then = ap (λ o. let x : Settled = record { leases = map (lease_after by (effects_in by e)) d.leases; log = a.rest; next = d.next; over = o } in x) (sym a.going) ∙ ap (λ l. acknowledged by l d) (sym a.log)
 
   abbrev after : Sight
-  after = sight_of (with_entry by e s) (journal ++ item_of by e ∷ [])
+  after = sight_of o (with_entry by e s) (journal ++ item_of by e ∷ [])
 
   stand : AllStand s.rows by e.uses
   stand = all_found s.rows by e.uses a.found
 
-  holds : SessionHolds skew greatest (sight_of s journal) by (replied by) first
-  holds = subst (SessionHolds skew greatest (sight_of s journal) by (replied by)) is_first (h.sessions by)
+  holds : SessionHolds skew greatest (sight_of o s journal) by (replied by) first
+  holds = subst (SessionHolds skew greatest (sight_of o s journal) by (replied by)) is_first (h.sessions by)
 
-  fits : SessionFits skew greatest (sight_of s journal) by first
-  fits = subst (SessionFits skew greatest (sight_of s journal) by) is_first (h.fitting by)
+  fits : SessionFits skew greatest (sight_of o s journal) by first
+  fits = subst (SessionFits skew greatest (sight_of o s journal) by) is_first (h.fitting by)
 
   plain : IsEntry d.leases e
-  plain = admit.plain skew greatest s journal by (replied by) d.leases e a.rest d.next stand h.servers h.kept holds fits
+  plain = admit.plain o skew greatest s journal by (replied by) d.leases e a.rest d.next stand h.servers h.kept holds fits
 
   right : IsAnswer (value_of s.records by) e
-  right = admit.right skew greatest s journal by (replied by) d.leases e a.rest d.next stand h.servers h.kept holds fits
+  right = admit.right o skew greatest s journal by (replied by) d.leases e a.rest d.next stand h.servers h.kept holds fits
 
   promises : PromisesKept (with_entry by e s).records s.rows
   promises = promises_admitted s by d e stand plain right h.kept.sound.records h.servers.promises
@@ -84,18 +84,18 @@ module _ (skew greatest : ℕ) (s : Server) (journal : List Item) (replied : Ses
   abbrev all : Session → Settled
   all = with_client by then clients
 
-  rely : (x : Session) → (by.0 == x.0) ≡ false → Relies skew greatest x (sight_of s journal) after
-  rely x other = others_rely skew greatest s journal by x d.leases e other stand plain right h.servers h.kept promises
+  rely : (x : Session) → (by.0 == x.0) ≡ false → Relies skew greatest x (sight_of o s journal) after
+  rely x other = others_rely o skew greatest s journal by x d.leases e other stand plain right h.servers h.kept promises
 
   sessions : (x : Session) → SessionHolds skew greatest after x (replied x) (all x)
   sessions = each_session (λ x c. SessionHolds skew greatest after x (replied x) c) by then clients
-      (admit.holds skew greatest s journal by (replied by) d.leases e a.rest d.next stand h.servers h.kept holds fits)
-      (λ x other. relied_holds skew greatest x (sight_of s journal) after (clients x) (rely x other) (h.fitting x) (replied x) (h.sessions x))
+      (admit.holds o skew greatest s journal by (replied by) d.leases e a.rest d.next stand h.servers h.kept holds fits)
+      (λ x other. relied_holds skew greatest x (sight_of o s journal) after (clients x) (rely x other) (h.fitting x) (replied x) (h.sessions x))
 
   fitting : (x : Session) → SessionFits skew greatest after x (all x)
   fitting = each_session (λ x c. SessionFits skew greatest after x c) by then clients
-      (admit.fits skew greatest s journal by (replied by) d.leases e a.rest d.next stand h.servers h.kept holds fits)
-      (λ x other. relied_fits skew greatest x (sight_of s journal) after (clients x) (rely x other) (h.fitting x))
+      (admit.fits o skew greatest s journal by (replied by) d.leases e a.rest d.next stand h.servers h.kept holds fits)
+      (λ x other. relied_fits skew greatest x (sight_of o s journal) after (clients x) (rely x other) (h.fitting x))
 
   -- fewer identifiers are reserved
   fewer : (x : Session) (n : LeaseNo) (i : List ℕ) → reserved_by all x n i → reserved_by clients x n i
@@ -109,13 +109,14 @@ module _ (skew greatest : ℕ) (s : Server) (journal : List Item) (replied : Ses
     servers = record {
       apart = h.servers.apart;
       promises = promises;
-      serial = admit.serial skew greatest s journal by (replied by) d.leases e a.rest d.next stand h.servers h.kept holds fits;
-      reaped = reaps-still (reaps_at s) journal (item_of by e) (λ k. refl) h.servers.reaped;
+      serial = admit.serial o skew greatest s journal by (replied by) d.leases e a.rest d.next stand h.servers h.kept holds fits;
+      reaped = reaps-still (count_with s.me s.reaps o.reaps) journal (item_of by e) (λ k. refl) h.servers.reaped;
     };
     kept = record {
       shaped = h.kept.shaped;
+      counted = h.kept.counted;
       given = h.kept.given;
-      sound = admit.sound skew greatest s journal by (replied by) d.leases e a.rest d.next stand h.servers h.kept holds fits;
+      sound = admit.sound o skew greatest s journal by (replied by) d.leases e a.rest d.next stand h.servers h.kept holds fits;
       made = made_then s journal by d.leases e plain right h.kept.sound fits.distinct (reserved_by clients) (reserved_by all) fewer (λ n i r. r) still h.reserved h.kept.made;
     };
     sessions = sessions;

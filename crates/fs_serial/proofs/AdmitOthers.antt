@@ -25,7 +25,7 @@ use Rattle.fs_serial.specs.Pending.{AllStand, Stands, IsAnswer, IsCovered, IsEnt
 use Rattle.fs_serial.specs.Relies.{Relies}
 use Rattle.fs_serial.specs.Rows.{NoRowsConflict, PromisesKept}
 use Rattle.fs_serial.specs.Settled.{Lease}
-use Rattle.fs_serial.specs.Sight.{sight_of}
+use Rattle.fs_serial.specs.Sight.{Counts, sight_of}
 use Rattle.fs_serial.proofs.Answered.{answered, covered_there}
 use Rattle.fs_serial.proofs.Facts.{none-In, items-other}
 use Rattle.fs_serial.proofs.Promises.{other_stays}
@@ -55,9 +55,9 @@ no_item_meets rows by r uses (need.Lease g Shared) free i other stand c = refl
 no_item_meets rows by r uses (need.Lease g Exclusive) free i other stand c = ap (λ x. meets r.field r.kind x Exclusive) (sym c.field) ∙ not_met rows by r c.used free i other (stand c.used c.among) (exclusive c.used.kind c.enough)
 no_item_meets rows by r uses (need.Fresh dir) free i other stand c = refl
 
-module _ (skew greatest : ℕ) (s : Server) (journal : List Item) (by y : Session) (leases : List Lease) (e : Entry) (another : (by.0 == y.0) ≡ false)
+module _ (o : Counts) (skew greatest : ℕ) (s : Server) (journal : List Item) (by y : Session) (leases : List Lease) (e : Entry) (another : (by.0 == y.0) ≡ false)
     (stand : AllStand s.rows by e.uses) (plain : IsEntry leases e) (right : IsAnswer (value_of s.records by) e)
-    (sh : ServersHold (sight_of s journal)) (sf : ServersFit (sight_of s journal)) (promises : PromisesKept (with_entry by e s).records s.rows) where
+    (sh : ServersHold (sight_of o s journal)) (sf : ServersFit (sight_of o s journal)) (promises : PromisesKept (with_entry by e s).records s.rows) where
   -- on a field that does not tell of others, since it meets no use of the entry
   same_plain : (r : Row) → In r s.rows → r.session ≡ y → is_other r.field ≡ false → value_of (with_entry by e s).records y r.field ≡ value_of s.records y r.field
   same_plain r i own plainly =
@@ -72,7 +72,7 @@ module _ (skew greatest : ℕ) (s : Server) (journal : List Item) (by y : Sessio
     | false ↦ same_plain r i own
   ] refl
 
-  pub others_rely : Relies skew greatest y (sight_of s journal) (sight_of (with_entry by e s) (journal ++ item_of by e ∷ []))
+  pub others_rely : Relies skew greatest y (sight_of o s journal) (sight_of o (with_entry by e s) (journal ++ item_of by e ∷ []))
   others_rely = record {
     given = λ k. omega arith;
     older = λ r i old. record { row = r; stood = i; number = refl; session = refl; field = refl; kind = refl };

@@ -1,5 +1,5 @@
 -- What a session is given fits its question.
-use Rattle.std.proofs.Common.{◌≡◌, ℕ, ◌+◌, ◌≤◌, ◌<◌, ◌==◌, not, ◌&&◌, Bool, true, false, List, [], ◌∷◌, ◌++◌, append_assoc, append-nil, refl, sym, ap, ◌∙◌, inl, inr, arith}
+use Rattle.std.proofs.Common.{◌≡◌, ℕ, ◌+◌, ◌≤◌, ◌<◌, ◌==◌, not, ◌&&◌, Bool, true, false, List, [], ◌∷◌, ◌++◌, append_assoc, append-nil, cond, refl, sym, ap, ◌∙◌, inl, inr, arith}
 use Rattle.std.specs.Prelude.{Option, None}
 use Rattle.std.specs.FinMap.{get}
 use Rattle.std.proofs.lemmas.Bool.Decides.{nat_tests}
@@ -22,10 +22,12 @@ use Rattle.fs_msg.specs.declared.end.End.TheVariants as end
 use Rattle.fs_record.specs.Records.{RecordMap, node_of}
 use Rattle.fs_record.specs.ValueOf.{value_at, value_of}
 use Rattle.fs_server.specs.Asks.{Asking, answer_to, ask_from, grant_of, kind_for, with_lease}
+use Rattle.fs_server.specs.Server.{is_mine, moved}
 use Rattle.fs_server.specs.declared.state.Server.{Server}
 use Rattle.fs_client.specs.Answers.{grants_fit, is_new, is_of_item, rest_fits}
 use Rattle.fs_view.specs.declared.kept.Kept.{Kept}
 use Rattle.fs_view.specs.Kept.{has_number, number_of}
+use Rattle.fs_serial.proofs.Elsewhere.{not_all}
 use Rattle.fs_serial.proofs.Facts.{In-append, none-In}
 use Rattle.fs_serial.proofs.OneLease.{same_field_self, same_kind_self}
 
@@ -42,28 +44,34 @@ value_there by (Other a m) o = refl
 pub value_is : (by : Session) (m : RecordMap) (f : Field) → is_value_of f (value_of m by f) ≡ true
 value_is by m f = value_there by f (node_of (get m (file_of f)))
 
--- no number is above
-abbrev pub KeptUpTo : ℕ → List Kept → Type 0
-KeptUpTo n kept = (k : Kept) → In k kept → (number_of k.standing).count ≤ n
+-- no number that the server gave is above
+abbrev pub KeptUpTo : ℕ → ℕ → List Kept → Type 0
+KeptUpTo me n kept = (k : Kept) → In k kept → (number_of k.standing).server ≡ me → (number_of k.standing).count ≤ n
 
 abbrev pub GrantsUpTo : ℕ → List Grant → Type 0
 GrantsUpTo n grants = (g : Grant) → In g grants → g.no.count ≤ n
 
-other_number : (a b : LeaseNo) → a.count < b.count → same_no a b ≡ false
-other_number a b h = by (a.server == b.server) (let e : (a.count == b.count) ≡ false = grind (arith, nat_tests) in e)
+unequal : (a b : ℕ) → a < b → (a == b) ≡ false
+unequal a b h = grind (arith, nat_tests)
+
+equal : (a b : ℕ) → (a == b) ≡ true → a ≡ b
+equal a b h = grind (arith, nat_tests)
+
+other_number : (a b : LeaseNo) → (a.server ≡ b.server → a.count < b.count) → same_no a b ≡ false
+other_number a b h = by (a.server == b.server) refl
   where
-    by : (x : Bool) → (a.count == b.count) ≡ false → (x && (a.count == b.count)) ≡ false
-    by true e = e
+    by : (x : Bool) → (a.server == b.server) ≡ x → (x && (a.count == b.count)) ≡ false
+    by true e = unequal a.count b.count (h (equal a.server b.server e))
     by false e = refl
 
-pub new_number : (kept : List Kept) (before : List Grant) (n : ℕ) (g : Grant) → KeptUpTo n kept → GrantsUpTo n before → n < g.no.count → is_new kept before g ≡ true
-new_number kept before n g k b h =
-    joined _ _ (ap not (none-In (has_number g.no) kept (λ x i. let q = k x i in other_number (number_of x.standing) g.no (omega arith))))
-    (ap not (none-In (λ (x : Grant). same_no x.no g.no) before (λ x i. let q = b x i in other_number x.no g.no (omega arith))))
+pub new_number : (kept : List Kept) (before : List Grant) (me n : ℕ) (g : Grant) → g.no.server ≡ me → KeptUpTo me n kept → GrantsUpTo n before → n < g.no.count → is_new kept before g ≡ true
+new_number kept before me n g at k b h =
+    joined _ _ (ap not (none-In (has_number g.no) kept (λ x i. other_number (number_of x.standing) g.no (λ e. let q = k x i (e ∙ at) in omega arith))))
+    (ap not (none-In (λ (x : Grant). same_no x.no g.no) before (λ x i. let q = b x i in other_number x.no g.no (λ e. omega arith))))
 
 module _ (by : Session) (kept : List Kept) where
   -- the grants behind those before fit the items
-  pub record IsGivenFor (items : List (Field × LeaseKind)) (before : List Grant) (start : ℕ) (a : Asking) : Type 0 where
+  pub record IsGivenFor (items : List (Field × LeaseKind)) (before : List Grant) (me start : ℕ) (a : Asking) : Type 0 where
     pub new : List Grant
     pub split : a.grants ≡ before ++ new
     pub some : grants_fit items None kept before new ≡ true
@@ -71,15 +79,16 @@ module _ (by : Session) (kept : List Kept) where
     pub all : a.end ≡ end.All → (fresh : Option (List ℕ)) (rest : List Grant) → grants_fit items fresh kept before (new ++ rest) ≡ rest_fits fresh kept (before ++ new) rest
     pub numbers : GrantsUpTo a.server.given a.grants
     pub rises : start ≤ a.server.given
+    pub here : a.server.me ≡ me
     pub none : a.fresh ≡ None
 
-  stopped : (x : Field × LeaseKind) (xs : List (Field × LeaseKind)) (s : Server) (before : List Grant) (e : End) → (e ≡ end.All → ⊥) → GrantsUpTo s.given before → IsGivenFor (x ∷ xs) before s.given (record { server = s; grants = before; fresh = None; end = e })
-  stopped x xs s before e other b = record { new = []; split = sym (append-nil before); some = refl; all = λ q. absurd (other q); numbers = b; rises = omega arith; none = refl }
+  stopped : (x : Field × LeaseKind) (xs : List (Field × LeaseKind)) (s : Server) (before : List Grant) (e : End) → (e ≡ end.All → ⊥) → GrantsUpTo s.given before → IsGivenFor (x ∷ xs) before s.me s.given (record { server = s; grants = before; fresh = None; end = e })
+  stopped x xs s before e other b = record { new = []; split = sym (append-nil before); some = refl; all = λ q. absurd (other q); numbers = b; rises = omega arith; here = refl; none = refl }
 
-  fits_item : (x : Field × LeaseKind) (s : Server) (before : List Grant) → kind_for x.0 x.1 ≡ x.1 → KeptUpTo s.given kept → GrantsUpTo s.given before → (is_of_item x (grant_of by x.0 (kind_for x.0 x.1) s) && is_new kept before (grant_of by x.0 (kind_for x.0 x.1) s)) ≡ true
+  fits_item : (x : Field × LeaseKind) (s : Server) (before : List Grant) → kind_for x.0 x.1 ≡ x.1 → KeptUpTo s.me s.given kept → GrantsUpTo s.given before → (is_of_item x (grant_of by x.0 (kind_for x.0 x.1) s) && is_new kept before (grant_of by x.0 (kind_for x.0 x.1) s)) ≡ true
   fits_item x s before kind k b =
       joined _ _ (joined _ _ (joined _ _ (same_field_self x.0) (ap (λ y. same_kind y x.1) kind ∙ same_kind_self x.1)) (value_is by s.records x.0))
-      (new_number kept before s.given (grant_of by x.0 (kind_for x.0 x.1) s) k b (omega arith))
+      (new_number kept before s.me s.given (grant_of by x.0 (kind_for x.0 x.1) s) refl k b (omega arith))
 
   more_up : (s : Server) (before : List Grant) (field : Field) (kind : LeaseKind) (promise : Option Bool) → GrantsUpTo s.given before → GrantsUpTo (with_lease by field kind promise s).given (before ++ grant_of by field kind s ∷ [])
   more_up s before field kind promise b g i = elim (In-append g before (grant_of by field kind s ∷ []) i) as (λ _. g.no.count ≤ s.given + 1) [
@@ -87,8 +96,8 @@ module _ (by : Session) (kept : List Kept) where
     | inr j ↦ elim j as (λ _. g.no.count ≤ s.given + 1) [ inl e ↦ let q = ap (λ (y : Grant). y.no.count) e in omega arith | inr z ↦ absurd z ]
   ]
 
-  went_on : (x : Field × LeaseKind) (xs : List (Field × LeaseKind)) (s : Server) (before : List Grant) (a : Asking) → (is_of_item x (grant_of by x.0 (kind_for x.0 x.1) s) && is_new kept before (grant_of by x.0 (kind_for x.0 x.1) s)) ≡ true → IsGivenFor xs (before ++ grant_of by x.0 (kind_for x.0 x.1) s ∷ []) (s.given + 1) a
-      → IsGivenFor (x ∷ xs) before s.given a
+  went_on : (x : Field × LeaseKind) (xs : List (Field × LeaseKind)) (s : Server) (before : List Grant) (a : Asking) → (is_of_item x (grant_of by x.0 (kind_for x.0 x.1) s) && is_new kept before (grant_of by x.0 (kind_for x.0 x.1) s)) ≡ true → IsGivenFor xs (before ++ grant_of by x.0 (kind_for x.0 x.1) s ∷ []) s.me (s.given + 1) a
+      → IsGivenFor (x ∷ xs) before s.me s.given a
   went_on x xs s before a good r =
       let g = grant_of by x.0 (kind_for x.0 x.1) s in
       let up = r.rises in
@@ -99,22 +108,29 @@ module _ (by : Session) (kept : List Kept) where
         all = λ e fresh rest. ap (λ b. b && grants_fit xs fresh kept (before ++ g ∷ []) (r.new ++ rest)) good ∙ r.all e fresh rest ∙ ap (λ gs. rest_fits fresh kept gs rest) (append_assoc before (g ∷ []) r.new);
         numbers = r.numbers;
         rises = omega arith;
+        here = r.here;
         none = r.none;
       }
 
-  pub given_for : (items : List (Field × LeaseKind)) (s : Server) (before : List Grant) → ((x : Field × LeaseKind) → In x items → kind_for x.0 x.1 ≡ x.1) → KeptUpTo s.given kept → GrantsUpTo s.given before → IsGivenFor items before s.given (ask_from by items s before)
-  given_for [] s before kinds k b = record { new = []; split = sym (append-nil before); some = refl; all = λ e fresh rest. ap (λ gs. rest_fits fresh kept gs rest) (sym (append-nil before)); numbers = b; rises = omega arith; none = refl }
+  pub given_for : (items : List (Field × LeaseKind)) (s : Server) (before : List Grant) → ((x : Field × LeaseKind) → In x items → kind_for x.0 x.1 ≡ x.1) → KeptUpTo s.me s.given kept → GrantsUpTo s.given before → IsGivenFor items before s.me s.given (ask_from by items s before)
+  given_for [] s before kinds k b = record { new = []; split = sym (append-nil before); some = refl; all = λ e fresh rest. ap (λ gs. rest_fits fresh kept gs rest) (sym (append-nil before)); numbers = b; rises = omega arith; here = refl; none = refl }
   given_for (x ∷ xs) s before kinds k b =
       let field = x.0 in
       let kind = kind_for x.0 x.1 in
-      elim (answer_to by field kind s) as (λ (q : Asked). IsGivenFor (x ∷ xs) before s.given
-      (elim q as (λ _. Asking) [
+      let asked : Asked → Asking =
+      λ q. elim q as (λ _. Asking) [
         | Granted promise ↦ ask_from by xs (with_lease by field kind promise s) (before ++ grant_of by field kind s ∷ [])
         | Wait blocker ↦ record { server = s; grants = before; fresh = None; end = end.Wait blocker }
         | Locked txn ↦ record { server = s; grants = before; fresh = None; end = end.Locked txn }
-      ])) [
-        | Granted promise ↦ went_on x xs s before (ask_from by xs (with_lease by field kind promise s) (before ++ grant_of by field kind s ∷ [])) (fits_item x s before (kinds x (inl refl)) k b)
-            (given_for xs (with_lease by field kind promise s) (before ++ grant_of by field kind s ∷ []) (λ y i. kinds y (inr i)) (λ y i. let q = k y i in omega arith) (more_up s before field kind promise b))
-        | Wait blocker ↦ stopped x xs s before (end.Wait blocker) (λ e. cc) b
-        | Locked txn ↦ stopped x xs s before (end.Locked txn) (λ e. cc) b
+      ] in
+      let away : Asking = record { server = s; grants = before; fresh = None; end = moved s (file_of field) } in
+      elim (is_mine s (file_of field)) as (λ c. IsGivenFor (x ∷ xs) before s.me s.given (cond c (asked (answer_to by field kind s)) away)) [
+        | true ↦
+            elim (answer_to by field kind s) as (λ (q : Asked). IsGivenFor (x ∷ xs) before s.me s.given (asked q)) [
+              | Granted promise ↦ went_on x xs s before (ask_from by xs (with_lease by field kind promise s) (before ++ grant_of by field kind s ∷ [])) (fits_item x s before (kinds x (inl refl)) k b)
+                  (given_for xs (with_lease by field kind promise s) (before ++ grant_of by field kind s ∷ []) (λ y i. kinds y (inr i)) (λ y i at. let q = k y i at in omega arith) (more_up s before field kind promise b))
+              | Wait blocker ↦ stopped x xs s before (end.Wait blocker) (λ e. cc) b
+              | Locked txn ↦ stopped x xs s before (end.Locked txn) (λ e. cc) b
+            ]
+        | false ↦ stopped x xs s before (moved s (file_of field)) (not_all s (file_of field)) b
       ]

@@ -1,5 +1,5 @@
 -- The items of a question for leases, one after another.
-use Rattle.std.proofs.Common.{◌≡◌, ℕ, Bool, List, [], ◌∷◌, ◌++◌, map, append_assoc, refl, sym, ap, ◌∙◌, subst, inl, inr}
+use Rattle.std.proofs.Common.{◌≡◌, ℕ, Bool, true, false, cond, List, [], ◌∷◌, ◌++◌, map, append_assoc, refl, sym, ap, ◌∙◌, subst, inl, inr}
 use Rattle.std.specs.Prelude.{Option, None}
 use Rattle.std.proofs.lemmas.List.{map-append}
 use Rattle.fs_ident.specs.In.{In}
@@ -9,17 +9,18 @@ use Rattle.fs_field.specs.declared.asked.Asked.TheVariants.{Granted, Wait, Locke
 use Rattle.fs_field.specs.declared.field.Field.{Field}
 use Rattle.fs_field.specs.declared.lease_kind.LeaseKind.{LeaseKind}
 use Rattle.fs_field.specs.declared.row.Row.{Row}
+use Rattle.fs_field.specs.Field.{file_of}
 use Rattle.fs_field.specs.Table.{no_before}
 use Rattle.fs_msg.specs.declared.answer.Grant.{Grant}
 use Rattle.fs_msg.specs.declared.end.End.TheVariants as end
 use Rattle.fs_msg.specs.declared.item.Item.{Item}
 use Rattle.fs_moderows.specs.Answer.{given_row}
 use Rattle.fs_server.specs.Asks.{Asking, answer_to, ask_from, grant_of, kind_for, with_lease}
-use Rattle.fs_server.specs.Server.{next_number, end_of}
+use Rattle.fs_server.specs.Server.{next_number, end_of, is_mine, moved}
 use Rattle.fs_server.specs.declared.state.Server.{Server}
 use Rattle.fs_serial.specs.Parts.{with_client}
 use Rattle.fs_serial.specs.Settled.{Settled, granted, with_leases}
-use Rattle.fs_serial.specs.Sight.{sight_of}
+use Rattle.fs_serial.specs.Sight.{Counts, sight_of}
 use Rattle.fs_serial.specs.World.{Ends, GoesOn}
 use Rattle.fs_serial.proofs.Again.{goes_again}
 use Rattle.fs_serial.proofs.Facts.{In-append}
@@ -38,10 +39,10 @@ given_more grants g d =
 abbrev pub GrantsHaveRows : List Row → List Grant → Type 0
 GrantsHaveRows rows grants = (g : Grant) → In g grants → (r : Row) × In r rows × (r.field ≡ g.field)
 
-module _ (skew greatest : ℕ) (journal : List Item) (replied : Session → List Item) (ends : Session → Ends) (base : Session → Settled) (by : Session) (d : Settled) where
+module _ (o : Counts) (skew greatest : ℕ) (journal : List Item) (replied : Session → List Item) (ends : Session → Ends) (base : Session → Settled) (by : Session) (d : Settled) where
   -- what holds after some of the items
   pub record IsAsking (s : Server) (grants : List Grant) : Type 0 where
-    pub goes : GoesOn skew greatest (sight_of s journal) replied ends (with_client by (given_so_far grants d) base)
+    pub goes : GoesOn skew greatest (sight_of o s journal) replied ends (with_client by (given_so_far grants d) base)
     pub rows : GrantsHaveRows s.rows grants
 
   one_more : (s : Server) (grants : List Grant) (field : Field) (asked : LeaseKind) (promise : Option Bool) → answer_to by field (kind_for field asked) s ≡ Granted promise → IsAsking s grants → IsAsking (with_lease by field (kind_for field asked) promise s) (grants ++ grant_of by field (kind_for field asked) s ∷ [])
@@ -51,9 +52,9 @@ module _ (skew greatest : ℕ) (journal : List Item) (replied : Session → List
       let row = given_row (next_number s) by field kind (end_of s) promise in
       let g = grant_of by field kind s in
       record {
-        goes = subst (λ (x : Settled). GoesOn skew greatest (sight_of t journal) replied ends (with_client by x base)) (given_more grants g d)
-            (goes_again skew greatest (sight_of t journal) replied ends base by (given_so_far grants d) (with_leases (granted None g ∷ []))
-            (item_granted by field asked promise s journal skew greatest replied ends (with_client by (given_so_far grants d) base) ok h.goes));
+        goes = subst (λ (x : Settled). GoesOn skew greatest (sight_of o t journal) replied ends (with_client by x base)) (given_more grants g d)
+            (goes_again skew greatest (sight_of o t journal) replied ends base by (given_so_far grants d) (with_leases (granted None g ∷ []))
+            (item_granted o by field asked promise s journal skew greatest replied ends (with_client by (given_so_far grants d) base) ok h.goes));
         rows = λ x i. elim (In-append x grants (g ∷ []) i) as (λ _. (r : Row) × In r t.rows × (r.field ≡ x.field)) [
           | inl j ↦ let r = h.rows x j in (r.0, In-put_still (λ y. no_before row.no y.no) r.0 row s.rows r.1, r.2)
           | inr j ↦ elim j as (λ _. (r : Row) × In r t.rows × (r.field ≡ x.field)) [
@@ -69,19 +70,19 @@ module _ (skew greatest : ℕ) (journal : List Item) (replied : Session → List
   asked_still (x ∷ xs) s grants h =
       let field = x.0 in
       let kind = kind_for x.0 x.1 in
-      elim (answer_to by field kind s) as (λ (a : Asked). answer_to by field kind s ≡ a →
-      IsAsking
-      (elim a as (λ _. Asking) [
+      let here : Asked → Asking =
+      λ a. elim a as (λ _. Asking) [
         | Granted promise ↦ ask_from by xs (with_lease by field kind promise s) (grants ++ grant_of by field kind s ∷ [])
         | Wait blocker ↦ record { server = s; grants = grants; fresh = None; end = end.Wait blocker }
         | Locked txn ↦ record { server = s; grants = grants; fresh = None; end = end.Locked txn }
-      ]).server
-      (elim a as (λ _. Asking) [
-        | Granted promise ↦ ask_from by xs (with_lease by field kind promise s) (grants ++ grant_of by field kind s ∷ [])
-        | Wait blocker ↦ record { server = s; grants = grants; fresh = None; end = end.Wait blocker }
-        | Locked txn ↦ record { server = s; grants = grants; fresh = None; end = end.Locked txn }
-      ]).grants) [
-        | Granted promise ↦ λ e. asked_still xs (with_lease by field kind promise s) (grants ++ grant_of by field kind s ∷ []) (one_more s grants field x.1 promise e h)
-        | Wait blocker ↦ λ e. h
-        | Locked txn ↦ λ e. h
-      ] refl
+      ] in
+      let away : Asking = record { server = s; grants = grants; fresh = None; end = moved s (file_of field) } in
+      elim (is_mine s (file_of field)) as (λ b. IsAsking (cond b (here (answer_to by field kind s)) away).server (cond b (here (answer_to by field kind s)) away).grants) [
+        | true ↦
+            elim (answer_to by field kind s) as (λ (a : Asked). answer_to by field kind s ≡ a → IsAsking (here a).server (here a).grants) [
+              | Granted promise ↦ λ e. asked_still xs (with_lease by field kind promise s) (grants ++ grant_of by field kind s ∷ []) (one_more s grants field x.1 promise e h)
+              | Wait blocker ↦ λ e. h
+              | Locked txn ↦ λ e. h
+            ] refl
+        | false ↦ h
+      ]

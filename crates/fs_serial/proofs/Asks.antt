@@ -1,5 +1,5 @@
 -- The whole answer to a question for leases.
-use Rattle.std.proofs.Common.{◌≡◌, ℕ, ◌≤◌, ◌&&◌, Bool, true, false, List, [], ◌∷◌, ◌++◌, map, append-nil, refl, sym, ap, ◌∙◌, subst, arith}
+use Rattle.std.proofs.Common.{◌≡◌, ℕ, ◌≤◌, ◌&&◌, Bool, true, false, List, [], ◌∷◌, ◌++◌, map, append-nil, cond, refl, sym, ap, ◌∙◌, subst, arith}
 use Rattle.std.specs.Prelude.{Option, Some, None, option_map}
 use Rattle.fs_ident.specs.Ident.{child}
 use Rattle.fs_ident.specs.In.{In}
@@ -18,6 +18,7 @@ use Rattle.fs_msg.specs.declared.end.End.TheVariants as end
 use Rattle.fs_msg.specs.declared.item.Item.{Item}
 use Rattle.fs_record.specs.Fresh.{fresh_number, is_directory}
 use Rattle.fs_server.specs.Asks.{Asking, ask_from, ask_fresh, asked_in, fresh_for, fresh_in, fresh_of, grant_of, kind_for, with_fresh}
+use Rattle.fs_server.specs.Server.{is_mine, moved}
 use Rattle.fs_server.specs.declared.state.Server.{Server}
 use Rattle.fs_client.specs.Answers.{fresh_fits, grants_fit}
 use Rattle.fs_view.specs.declared.kept.Kept.{Kept}
@@ -27,38 +28,46 @@ use Rattle.fs_view.specs.Kept.{is_leaving, lease_of, number_of}
 use Rattle.fs_serial.specs.Laws.{IsGift, with_given}
 use Rattle.fs_serial.specs.Parts.{with_client}
 use Rattle.fs_serial.specs.Settled.{Lease, Settled, granted, lease_in, lease_with, told, with_leases}
-use Rattle.fs_serial.specs.Sight.{Sight, sight_of, IsGiven}
+use Rattle.fs_serial.specs.Sight.{Counts, Sight, sight_of, IsGiven}
 use Rattle.fs_serial.specs.World.{Ends, GoesOn}
 use Rattle.fs_serial.proofs.Again.{client_same, goes_again}
 use Rattle.fs_serial.proofs.AskFits.{GrantsUpTo, IsGivenFor, KeptUpTo, given_for, new_number, value_is}
 use Rattle.fs_serial.proofs.AskLoop.{IsAsking, asked_still, given_so_far}
 use Rattle.fs_serial.proofs.Children.{parent_child}
+use Rattle.fs_serial.proofs.Counting.{count_here, given_by}
 use Rattle.fs_serial.proofs.Facts.{same_self}
 use Rattle.fs_serial.proofs.Gift.{gift_goes, told_with}
 use Rattle.fs_serial.proofs.Knowing.{In-filter_map}
 use Rattle.fs_serial.proofs.OneLease.{same_field_self}
 
 -- each lease that a client has, one that goes back too, has a number that was given
-pub kept_up_to : (skew greatest : ℕ) (s : Server) (journal : List Item) (replied : Session → List Item) (ends : Session → Ends) (clients : Session → Settled) (by : Session) → GoesOn skew greatest (sight_of s journal) replied ends clients → KeptUpTo s.given (ends by).client.view.leases
-kept_up_to skew greatest s journal replied ends clients by h k i = at_standing k.standing refl
+pub kept_given : (o : Counts) (skew greatest : ℕ) (s : Server) (journal : List Item) (replied : Session → List Item) (ends : Session → Ends) (clients : Session → Settled) (by : Session) → GoesOn skew greatest (sight_of o s journal) replied ends clients → (k : Kept) → In k (ends by).client.view.leases → IsGiven (given_by o s) (number_of k.standing)
+kept_given o skew greatest s journal replied ends clients by h k i = at_standing k.standing refl
   where
-    lease_given : (l : Lease) → lease_in k ≡ Some l → l.no.count ≤ s.given
+    lease_given : (l : Lease) → lease_in k ≡ Some l → IsGiven (given_by o s) l.no
     lease_given l e =
         let q = h.carried.later by l (In-filter_map lease_in k l (ends by).client.view.leases i e) in
-        subst (λ n. IsGiven (sight_of s journal).given n) q.number ((h.all.fitting by).given q.lease q.held)
+        subst (λ n. IsGiven (given_by o s) n) q.number ((h.all.fitting by).given q.lease q.held)
 
-    at_standing : (st : Standing) → k.standing ≡ st → (number_of k.standing).count ≤ s.given
-    at_standing (Held l) e = subst (λ (x : Standing). (number_of x).count ≤ s.given) (sym e) (lease_given (lease_with k l) (ap (λ x. option_map (lease_with k) (lease_of x)) e))
-    at_standing (Pinned u) e = subst (λ (x : Standing). (number_of x).count ≤ s.given) (sym e) (lease_given (lease_with k u.lease) (ap (λ x. option_map (lease_with k) (lease_of x)) e))
-    at_standing (Leaving l) e = (h.carried.returns by k i (ap is_leaving e)).known
+    at_standing : (st : Standing) → k.standing ≡ st → IsGiven (given_by o s) (number_of k.standing)
+    at_standing (Held l) e = subst (λ (x : Standing). IsGiven (given_by o s) (number_of x)) (sym e) (lease_given (lease_with k l) (ap (λ x. option_map (lease_with k) (lease_of x)) e))
+    at_standing (Pinned u) e = subst (λ (x : Standing). IsGiven (given_by o s) (number_of x)) (sym e) (lease_given (lease_with k u.lease) (ap (λ x. option_map (lease_with k) (lease_of x)) e))
+    at_standing (Leaving l) e = (h.carried.returns by k i (ap is_leaving e)).fits.known
 
-module _ (skew greatest : ℕ) (journal : List Item) (replied : Session → List Item) (ends : Session → Ends) (base : Session → Settled) (by : Session) (items : List (Field × LeaseKind)) (dir : Option (List ℕ)) (s : Server) (h : GoesOn skew greatest (sight_of s journal) replied ends base) (kinds : (x : Field × LeaseKind) → In x items → kind_for x.0 x.1 ≡ x.1) where
+-- so none that the server gave has a number above
+kept_up_to : (o : Counts) (s : Server) (kept : List Kept) → ((k : Kept) → In k kept → IsGiven (given_by o s) (number_of k.standing)) → KeptUpTo s.me s.given kept
+kept_up_to o s kept given k i at =
+    let here = count_here s.me s.given o.given in
+    let g : (number_of k.standing).count ≤ given_by o s s.me = subst (λ n. (number_of k.standing).count ≤ given_by o s n) at (given k i) in
+    omega arith
+
+module _ (o : Counts) (skew greatest : ℕ) (journal : List Item) (replied : Session → List Item) (ends : Session → Ends) (base : Session → Settled) (by : Session) (items : List (Field × LeaseKind)) (dir : Option (List ℕ)) (s : Server) (h : GoesOn skew greatest (sight_of o s journal) replied ends base) (kinds : (x : Field × LeaseKind) → In x items → kind_for x.0 x.1 ≡ x.1) where
   abbrev kept : List Kept
   kept = (ends by).client.view.leases
 
   -- the question is answered
   pub record IsAnswer (a : Asking) : Type 0 where
-    pub goes : GoesOn skew greatest (sight_of a.server journal) replied ends (with_client by (told by (Granted a.grants a.fresh a.end) (base by)) base)
+    pub goes : GoesOn skew greatest (sight_of o a.server journal) replied ends (with_client by (told by (Granted a.grants a.fresh a.end) (base by)) base)
     pub fits : (fresh_fits dir a.fresh && grants_fit items a.fresh kept [] a.grants) ≡ true
 
   abbrev a : Asking
@@ -67,36 +76,36 @@ module _ (skew greatest : ℕ) (journal : List Item) (replied : Session → List
   none_so_far : base by ≡ given_so_far [] (base by)
   none_so_far = ap (λ ls. let x : Settled = record (base by) { leases = ls } in x) (sym (append-nil (base by).leases))
 
-  asking : IsAsking skew greatest journal replied ends base by (base by) a.server a.grants
-  asking = asked_still skew greatest journal replied ends base by (base by) items s [] (record {
-    goes = subst (λ c. GoesOn skew greatest (sight_of s journal) replied ends c) (sym (client_same by base) ∙ ap (λ d. with_client by d base) none_so_far) h;
+  asking : IsAsking o skew greatest journal replied ends base by (base by) a.server a.grants
+  asking = asked_still o skew greatest journal replied ends base by (base by) items s [] (record {
+    goes = subst (λ c. GoesOn skew greatest (sight_of o s journal) replied ends c) (sym (client_same by base) ∙ ap (λ d. with_client by d base) none_so_far) h;
     rows = λ g i. absurd i;
   })
 
-  fitting : IsGivenFor by kept items [] s.given a
-  fitting = given_for by kept items s [] kinds (kept_up_to skew greatest s journal replied ends base by h) (λ g i. absurd i)
+  fitting : IsGivenFor by kept items [] s.me s.given a
+  fitting = given_for by kept items s [] kinds (kept_up_to o s kept (kept_given o skew greatest s journal replied ends base by h)) (λ g i. absurd i)
 
   -- without an identifier
   bare : (e : End) → IsAnswer (record a { end = e })
   bare e = record {
-    goes = subst (λ fresh. GoesOn skew greatest (sight_of a.server journal) replied ends (with_client by (with_leases (map (granted fresh) a.grants) (base by)) base)) (sym fitting.none) asking.goes;
+    goes = subst (λ fresh. GoesOn skew greatest (sight_of o a.server journal) replied ends (with_client by (with_leases (map (granted fresh) a.grants) (base by)) base)) (sym fitting.none) asking.goes;
     fits = subst (λ fresh. (fresh_fits dir fresh && grants_fit items fresh kept [] a.grants) ≡ true) (sym fitting.none) (ap (grants_fit items None kept []) fitting.split ∙ fitting.some);
   }
 
   -- with one
   given : (d : List ℕ) (k : ℕ) → dir ≡ Some d → a.end ≡ end.All → IsGift d k a.server → IsAnswer (with_fresh by d k a)
   given d k asked all gift =
-      let t : Sight = sight_of (with_fresh by d k a).server journal in
+      let t : Sight = sight_of o (with_fresh by d k a).server journal in
       let c = given_so_far a.grants (base by) in
       let g = grant_of by (Life (child d k)) Exclusive a.server in
       let up = fitting.rises in
-      let goes = goes_again skew greatest t replied ends base by c (with_given by d k a.server) (gift_goes skew greatest a journal replied ends (with_client by c base) by d k gift asking.goes) in
+      let goes = goes_again skew greatest t replied ends base by c (with_given by d k a.server) (gift_goes o skew greatest a journal replied ends (with_client by c base) by d k gift asking.goes) in
       let of_item = joined (same_field (Life (child d k)) (Life (child d k)) && true) (is_value_of (Life (child d k)) g.value) (joined _ _ (same_field_self (Life (child d k))) refl) (value_is by a.server.records (Life (child d k))) in
-      let new = new_number kept fitting.new a.server.given g (λ x i. let q = kept_up_to skew greatest s journal replied ends base by h x i in omega arith) (subst (GrantsUpTo a.server.given) fitting.split fitting.numbers) (omega arith) in
+      let new = new_number kept fitting.new s.me a.server.given g fitting.here (λ x i at. let q = kept_up_to o s kept (kept_given o skew greatest s journal replied ends base by h) x i at in omega arith) (subst (GrantsUpTo a.server.given) fitting.split fitting.numbers) (omega arith) in
       record {
-        goes = subst (λ x. GoesOn skew greatest t replied ends (with_client by x base)) (sym (told_with by d k a journal gift.0 gift.1 (base by) end.All asking.rows)) goes;
+        goes = subst (λ x. GoesOn skew greatest t replied ends (with_client by x base)) (sym (told_with o by d k a journal gift.0 gift.1 (base by) end.All asking.rows)) goes;
         fits = joined _ _
-            (ap (λ o. fresh_fits o (Some (child d k))) asked ∙ ap (is_parent d) (parent_child d k) ∙ same_self d)
+            (ap (λ x. fresh_fits x (Some (child d k))) asked ∙ ap (is_parent d) (parent_child d k) ∙ same_self d)
             (ap (λ gs. grants_fit items (Some (child d k)) kept [] (gs ++ g ∷ [])) fitting.split ∙ fitting.all all (Some (child d k)) (g ∷ []) ∙ joined _ _ of_item new);
       }
 
@@ -108,9 +117,12 @@ module _ (skew greatest : ℕ) (journal : List Item) (replied : Session → List
   in_directory d true asked all e = of_number d (fresh_number a.server.records d (borne_numbers d a.server.rows)) asked all e refl
   in_directory d false asked all e = bare a.end
 
-  for_all : (o : Option (List ℕ)) → dir ≡ o → a.end ≡ end.All → IsAnswer (fresh_for by o a)
+  for_all : (asked : Option (List ℕ)) → dir ≡ asked → a.end ≡ end.All → IsAnswer (fresh_for by asked a)
   for_all None e all = bare a.end
-  for_all (Some d) e all = in_directory d (is_directory a.server.records d) e all refl
+  for_all (Some d) e all = elim (is_mine a.server d) as (λ b. IsAnswer (cond b (fresh_in by d (is_directory a.server.records d) a) (record a { end = moved a.server d }))) [
+    | true ↦ in_directory d (is_directory a.server.records d) e all refl
+    | false ↦ bare (moved a.server d)
+  ]
 
   at_end : (e : End) → a.end ≡ e → IsAnswer (ask_fresh by dir e a)
   at_end end.All all = for_all dir refl all

@@ -1,5 +1,5 @@
 -- What is on its way while a client goes on.
-use Rattle.std.proofs.Common.{◌≡◌, ℕ, zero, suc, ◌≤◌, ◌==◌, ◌&&◌, not, Bool, true, false, List, [], ◌∷◌, ◌++◌, refl, sym, ap, ◌∙◌, subst, inl, inr, arith, append_assoc, length-append}
+use Rattle.std.proofs.Common.{◌≡◌, ℕ, zero, suc, ◌==◌, ◌&&◌, not, Bool, true, false, List, [], ◌∷◌, ◌++◌, refl, sym, ap, ◌∙◌, subst, inl, inr, arith, append_assoc, length-append}
 use Rattle.std.specs.Prelude.{Option, Some, None, nat_le}
 use Rattle.std.specs.List.{list_any}
 use Rattle.fs_ident.specs.In.{In}
@@ -20,12 +20,13 @@ use Rattle.fs_msg.specs.declared.end.End.{End}
 use Rattle.fs_msg.specs.declared.end.End.TheVariants as end
 use Rattle.fs_msg.specs.declared.entry.Entry.{Entry}
 use Rattle.fs_client.specs.Answers.{answer_fits, fresh_fits, grants_fit, rest_fits, is_new, is_of_item, refusal_fits, is_entry_at}
+use Rattle.fs_client.specs.Turns.{pair_of}
 use Rattle.fs_client.specs.declared.exchange.Exchange.{Exchange}
 use Rattle.fs_client.specs.declared.exchange.Exchange.TheVariants.{Asks, Renews, Releases, Ships}
 use Rattle.fs_client.specs.declared.state.Client.{Client}
 use Rattle.fs_view.specs.declared.kept.Kept.{Kept}
 use Rattle.fs_view.specs.Kept.{number_of, has_number, is_leaving}
-use Rattle.fs_serial.specs.Exchange.{OneExchange, AsksFirst, ShipsLog, IsFront, IsReturned, ReleasesReturned, ReturnFits, ReturnsFit, ExchangeFits}
+use Rattle.fs_serial.specs.Exchange.{OneExchange, ShipsLog, IsFront, IsReturned, ReleasesReturned, ReturnFits, ReturnsFit, server_of_question, ExchangeFits}
 use Rattle.fs_serial.specs.Settled.{Lease, Settled}
 use Rattle.fs_serial.specs.World.{HasNumber}
 use Rattle.fs_serial.proofs.Facts.{none-In}
@@ -90,12 +91,19 @@ refusal_still (end.NoIds dir) count log more h = h
 
 -- ## A client that goes on
 
+-- the lease with its file goes back
+pub record WentBack (leases : List Kept) (wanted : List ℕ × LeaseNo) : Type 0 where
+  pub kept : Kept
+  pub among : In kept leases
+  pub pair : pair_of kept ≡ wanted
+  pub leaving : is_leaving kept.standing ≡ true
+
 -- it has no more leases, the same ones go back, and entries come behind its log
 pub record GoesOnAs (c d : Client) (more : List Entry) : Type 0 where
   pub exchange : d.exchange ≡ c.exchange
   pub fewer : FewerNumbers c.view.leases d.view.leases
   pub log : d.log ≡ c.log ++ more
-  pub went : (k : Kept) → In k d.view.leases → is_leaving k.standing ≡ true → IsReturned c.view.leases (number_of k.standing)
+  pub went : (k : Kept) → In k d.view.leases → is_leaving k.standing ≡ true → WentBack c.view.leases (pair_of k)
   pub goes : (k : Kept) → In k c.view.leases → is_leaving k.standing ≡ true → IsReturned d.view.leases (number_of k.standing)
 
 -- an answer that fits still does
@@ -115,7 +123,7 @@ fits_still c d more from x a g h = absurd (cc)
 one_still : (c d : Client) (more : List Entry) (x : Option Exchange) (up : List ClientMsg) (down : List Answer) → GoesOnAs c d more → OneExchange c x up down → OneExchange d x up down
 one_still c d more None up down g h = h
 one_still c d more (Some x) up down g (inl h) = inl h
-one_still c d more (Some x) up down g (inr h) = inr (record { answer = h.answer; told = h.told; asked = h.asked; fits = fits_still c d more 0 x h.answer g h.fits })
+one_still c d more (Some x) up down g (inr h) = inr (record { answer = h.answer; told = h.told; asked = h.asked; fits = fits_still c d more (server_of_question x) x h.answer g h.fits })
 
 ships_still : (x : Option Exchange) (log more : List Entry) → ShipsLog x log → ShipsLog x (log ++ more)
 ships_still None log more h = tt
@@ -138,22 +146,18 @@ FewerLeases old new = (l : Lease) → In l new → HasNumber old l.no
 pub returns_still : (given : ℕ → ℕ) (rows : List Row) (by : Session) (c d : Client) (more : List Entry) (old new : List Lease) → GoesOnAs c d more → FewerLeases old new → ReturnsFit given rows by c.view.leases old → ReturnsFit given rows by d.view.leases new
 returns_still given rows by c d more old new g fewer h k i t =
     let q = g.went k i t in
-    let r : ReturnFits given rows by old (number_of q.kept.standing) = h q.kept q.among q.leaving in
-    record {
-      known = subst (λ n. n.count ≤ given n.server) q.number r.known;
-      alone = λ l j e. let m = fewer l j in r.alone m.lease m.held (m.number ∙ e ∙ sym q.number);
-      own = λ x j e. r.own x j (e ∙ sym q.number);
-    }
+    let r : ReturnFits given rows by old (pair_of k) = subst (ReturnFits given rows by old) q.pair (h q.kept q.among q.leaving) in
+    record { fits = r.fits; alone = λ l j e. let m = fewer l j in r.alone m.lease m.held (m.number ∙ e); own = r.own }
 
 pub exchange_still : (skew greatest : ℕ) (given : ℕ → ℕ) (rows : List Row) (by : Session) (c d : Client) (more : List Entry) (up : List ClientMsg) (down : List Answer) (now then seen later : Settled) → GoesOnAs c d more → FewerLeases now.leases then.leases → FewerLeases seen.leases later.leases → later.log ≡ seen.log ++ more → later.over ≡ seen.over
     → ExchangeFits skew greatest given rows by c up down now seen → ExchangeFits skew greatest given rows by d up down then later
 exchange_still skew greatest given rows by c d more up down now then seen later g now_fewer seen_fewer log over h = record {
   one = subst (λ x. OneExchange d x up down) (sym g.exchange) (one_still c d more c.exchange up down g h.one);
-  first = subst AsksFirst (sym g.exchange) h.first;
   ships = subst (λ x. ShipsLog x d.log) (sym g.exchange) (subst (ShipsLog c.exchange) (sym g.log) (ships_still c.exchange c.log more h.ships));
   front = λ entries i. let q : IsFront entries seen = h.front entries i in record { rest = q.rest ++ more; log = log ∙ ap (λ es. es ++ more) q.log ∙ append_assoc entries q.rest more; over = over ∙ q.over };
   released = subst (λ x. ReleasesReturned x d.view.leases) (sym g.exchange) (released_still c.exchange c d more g h.released);
   kinds = h.kinds;
+  pairs = h.pairs;
   returns = returns_still given rows by c d more seen.leases later.leases g seen_fewer h.returns;
   renewals = λ ends e i n until j l k same live. let m = now_fewer l k in h.renewals ends e i n until j m.lease m.held (m.number ∙ same) live;
 }

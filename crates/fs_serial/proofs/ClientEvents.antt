@@ -1,26 +1,29 @@
 -- The clients' events keep all that holds.
 use Rattle.std.proofs.Common.{◌≡◌, ℕ, ◌+◌, ◌≤◌, not, ◌&&◌, ◌/◌, true, false, List, [], ◌∷◌, cond, refl, sym, ap, ◌∙◌, subst, arith}
-use Rattle.std.specs.Prelude.{Option, None, is_some}
+use Rattle.std.specs.Prelude.{◌≢◌, Option, Some, None, is_some}
 use Rattle.fs_ident.specs.declared.actor.Session.{Session}
 use Rattle.fs_model.specs.Step.{is_empty}
 use Rattle.fs_model.specs.declared.op.Op.{Op}
 use Rattle.fs_msg.specs.declared.answer.Answer.{Answer}
 use Rattle.fs_msg.specs.declared.answer.Answer.TheVariants.{Granted, Renewed, Released, Shipped, Recall}
 use Rattle.fs_msg.specs.declared.client_msg.ClientMsg.{ClientMsg}
+use Rattle.fs_msg.specs.declared.client_note.ClientNote.TheVariants as note
+use Rattle.fs_msg.specs.declared.entry.Entry.{Entry}
 use Rattle.fs_msg.specs.declared.item.Item.{Item}
 use Rattle.fs_client.specs.Acts.{act_on}
-use Rattle.fs_client.specs.Answers.{fits, hear, strange, told}
-use Rattle.fs_client.specs.Client.{begun, changed, committed}
-use Rattle.fs_client.specs.Turns.{ending, idle, release_some, renew_some, returned, ships, turn_free, turn_on}
+use Rattle.fs_client.specs.Answers.{answer_plan, fits, hear, strange, told}
+use Rattle.fs_client.specs.Client.{begun, changed, committed, with_hints}
+use Rattle.fs_client.specs.Turns.{ending, idle, release_some, renew_some, returned, ship_some, turn_free, turn_on}
 use Rattle.fs_client.specs.declared.plan.Plan.{Plan}
 use Rattle.fs_client.specs.declared.state.Client.{Client}
 use Rattle.fs_view.specs.declared.kept.Kept.{Kept}
+use Rattle.fs_serial.specs.Exchange.{asked_server, is_recall}
 use Rattle.fs_serial.specs.Numbers.{items_by}
 use Rattle.fs_serial.specs.Sight.{Sight, sight_of}
 use Rattle.fs_serial.specs.World.{CanCome, is_called, ClientEvent, Does, Ends, Hears, Turns, World, WorldHolds, after_client, after_plan, message_in, pushed, settled_at, told_by}
 use Rattle.fs_serial.proofs.ActMoves.{IsPlanned, ServersMoved, act_moved, servers_stay}
-use Rattle.fs_serial.proofs.ClientSteps.{IsMoved, begun_again, begun_moved, seat_of, with_journal, world_moved}
-use Rattle.fs_serial.proofs.HearMoves.{hear_moved}
+use Rattle.fs_serial.proofs.ClientSteps.{IsMoved, begun_again, begun_moved, hinted_moved, seat_of, with_journal, world_moved}
+use Rattle.fs_serial.proofs.HearMoves.{fits_first, hear_moved}
 use Rattle.fs_serial.proofs.Seats.{Seat}
 use Rattle.fs_serial.proofs.TurnMoves.{turn_moved}
 
@@ -31,19 +34,22 @@ module _ {N : Type 0} (greatest now : ℕ) (w : World) (by : Session) (rest : Li
   c = (w.ends by).client
 
   abbrev s : Sight
-  s = sight_of w.server w.journal
+  s = sight_of w.counts w.server w.journal
 
   abbrev then : List Item
   then = pushed p.out.admitted w.journal
 
   module _ (q : IsPlanned w.server.skew greatest s by (w.replied by) (begun now c) (w.ends by).up (w.ends by).down rest p) where
-    client_is : committed p.ready c ≡ changed p.ready.change (begun now c)
-    client_is = ap (λ n. changed p.ready.change (begun n c)) q.now ∙ ap (changed p.ready.change) (begun_again c now)
+    abbrev d : Client
+    d = changed p.ready.change (begun now c)
+
+    client_is : committed p.ready c ≡ with_hints p.ready.hints d
+    client_is = ap (λ n. with_hints p.ready.hints (changed p.ready.change (begun n c))) q.now ∙ ap (λ x. with_hints p.ready.hints (changed p.ready.change x)) (begun_again c now)
 
     abbrev e : Client → Ends
     e d = record { client = d; up = pushed (message_in p.out.send) (w.ends by).up; down = rest }
 
-    moved : IsMoved w.server.skew greatest s (with_journal then s) by (w.replied by) c (w.ends by).down (told_by by p.ready.change p.out.admitted) (e (changed p.ready.change (begun now c)))
+    moved : IsMoved w.server.skew greatest s (with_journal then s) by (w.replied by) c (w.ends by).down (told_by by p.ready.change p.out.admitted) (e d)
     moved = record {
       seat = q.moved.seat;
       reserves = λ n i r. (begun_moved w.server.skew greatest s by (w.replied by) c (w.ends by).up (w.ends by).down now (seat_of greatest w by h)).reserves n i (q.moved.reserves n i r);
@@ -52,7 +58,8 @@ module _ {N : Type 0} (greatest now : ℕ) (w : World) (by : Session) (rest : Li
     pub plan_keeps : WorldHolds greatest (after_plan by rest p w)
     plan_keeps = world_moved greatest w by then (told_by by p.ready.change p.out.admitted) (e (committed p.ready c)) h q.others (q.servers.holds h.all.servers) (q.servers.fits h.all.kept)
         (q.servers.reserved (λ x. settled_at x (w.ends x)) h.all.reserved)
-        (subst (λ d. IsMoved w.server.skew greatest s (with_journal then s) by (w.replied by) c (w.ends by).down (told_by by p.ready.change p.out.admitted) (e d)) (sym client_is) moved)
+        (subst (λ d. IsMoved w.server.skew greatest s (with_journal then s) by (w.replied by) c (w.ends by).down (told_by by p.ready.change p.out.admitted) (e d)) (sym client_is)
+        (hinted_moved w.server.skew greatest s (with_journal then s) by (w.replied by) c d (pushed (message_in p.out.send) (w.ends by).up) (w.ends by).down rest (told_by by p.ready.change p.out.admitted) p.ready.hints moved))
 
 -- ## Plans that admit nothing and answer nothing
 
@@ -79,8 +86,16 @@ told_quiet by c (Released count e) = record { now = refl; admits = refl; tells =
 told_quiet by c (Shipped count e) = record { now = refl; admits = refl; tells = refl }
 told_quiet by c (Recall n) = record { now = refl; admits = refl; tells = refl }
 
-hear_quiet : (by : Session) (c : Client) (a : Answer) → IsQuiet by c (hear 0 a c)
-hear_quiet by c a = elim (fits 0 c.exchange a c) as (λ b. IsQuiet by c (cond b (told a c) (strange c))) [
+-- what is told is noted
+told_known : (c : Client) (a : Answer) → (told a c).out.note ≢ note.Strange
+told_known c (Granted gs fresh e) h = cc
+told_known c (Renewed ends e) h = cc
+told_known c (Released count e) h = cc
+told_known c (Shipped count e) h = cc
+told_known c (Recall n) h = cc
+
+hear_quiet : (by : Session) (c : Client) (from : ℕ) (a : Answer) → IsQuiet by c (hear from a c)
+hear_quiet by c from a = elim (fits from c.exchange a c) as (λ b. IsQuiet by c (cond b (told a c) (strange c))) [
   | true ↦ told_quiet by c a
   | false ↦ record { now = refl; admits = refl; tells = refl }
 ]
@@ -93,9 +108,13 @@ release_quiet : (by : Session) (c : Client) (ks : List Kept) → IsQuiet by c (r
 release_quiet by c [] = renew_quiet by c (ending (c.last + c.term / 2) c.view)
 release_quiet by c (k ∷ ks) = record { now = refl; admits = refl; tells = refl }
 
+ship_quiet : (by : Session) (c : Client) (es : List Entry) → IsQuiet by c (ship_some es c)
+ship_quiet by c [] = record { now = refl; admits = refl; tells = refl }
+ship_quiet by c (e ∷ es) = record { now = refl; admits = refl; tells = refl }
+
 free_quiet : (by : Session) (c : Client) → IsQuiet by c (turn_free c)
-free_quiet by c = elim (not (is_empty c.log) && not (is_some c.over)) as (λ b. IsQuiet by c (cond b (ships c) (release_some (returned c.view) c))) [
-  | true ↦ record { now = refl; admits = refl; tells = refl }
+free_quiet by c = elim (not (is_empty c.log) && not (is_some c.over)) as (λ b. IsQuiet by c (cond b (ship_some c.log c) (release_some (returned c.view) c))) [
+  | true ↦ ship_quiet by c c.log
   | false ↦ release_quiet by c (returned c.view)
 ]
 
@@ -111,26 +130,33 @@ module _ (greatest now : ℕ) (w : World) (by : Session) (h : WorldHolds greates
   abbrev began : Client
   began = begun now (w.ends by).client
 
-  seat_began : Seat w.server.skew greatest (sight_of w.server w.journal) by (w.replied by) began (w.ends by).up (w.ends by).down
-  seat_began = (begun_moved w.server.skew greatest (sight_of w.server w.journal) by (w.replied by) (w.ends by).client (w.ends by).up (w.ends by).down now (seat_of greatest w by h)).seat
+  seat_began : Seat w.server.skew greatest (sight_of w.counts w.server w.journal) by (w.replied by) began (w.ends by).up (w.ends by).down
+  seat_began = (begun_moved w.server.skew greatest (sight_of w.counts w.server w.journal) by (w.replied by) (w.ends by).client (w.ends by).up (w.ends by).down now (seat_of greatest w by h)).seat
 
   acts : (o : Op) → is_called o ≡ true → greatest ≤ now + w.server.skew → WorldHolds greatest (after_client by now (Does o) w)
   acts o called within = plan_keeps greatest now w by (w.ends by).down (act_on began.over o began) h
-      (act_moved w.server.skew greatest (sight_of w.server w.journal) by (w.replied by) began (w.ends by).up (w.ends by).down o called (omega arith) seat_began)
+      (act_moved w.server.skew greatest (sight_of w.counts w.server w.journal) by (w.replied by) began (w.ends by).up (w.ends by).down o called (omega arith) seat_began)
 
   turns : WorldHolds greatest (after_client by now Turns w)
   turns = plan_keeps greatest now w by (w.ends by).down (turn_on began) h
-      (quiet_planned w.server.skew greatest (sight_of w.server w.journal) by (w.replied by) began (w.ends by).up (w.ends by).down (w.ends by).down (turn_on began) (turn_quiet by began)
-      (turn_moved w.server.skew greatest (sight_of w.server w.journal) by (w.replied by) began (w.ends by).up (w.ends by).down seat_began))
+      (quiet_planned w.server.skew greatest (sight_of w.counts w.server w.journal) by (w.replied by) began (w.ends by).up (w.ends by).down (w.ends by).down (turn_on began) (turn_quiet by began)
+      (turn_moved w.server.skew greatest (sight_of w.counts w.server w.journal) by (w.replied by) began (w.ends by).up (w.ends by).down seat_began))
 
-  hears : (a : Answer) (rest : List Answer) → (w.ends by).down ≡ a ∷ rest → WorldHolds greatest (after_client by now (Hears a rest) w)
-  hears a rest first = plan_keeps greatest now w by rest (hear 0 a began) h
-      (subst (λ down. IsPlanned w.server.skew greatest (sight_of w.server w.journal) by (w.replied by) began (w.ends by).up down rest (hear 0 a began)) (sym first)
-      (quiet_planned w.server.skew greatest (sight_of w.server w.journal) by (w.replied by) began (w.ends by).up (a ∷ rest) rest (hear 0 a began) (hear_quiet by began a)
-      (hear_moved w.server.skew greatest (sight_of w.server w.journal) by (w.replied by) began (w.ends by).up rest a
-      (subst (λ down. Seat w.server.skew greatest (sight_of w.server w.journal) by (w.replied by) began (w.ends by).up down) first seat_began))))
+  hears : (from : ℕ) (a : Answer) (rest : List Answer) → (w.ends by).down ≡ a ∷ rest → (is_recall a ≡ false → asked_server (w.ends by).client.exchange ≡ Some from) → WorldHolds greatest (after_client by now (Hears from a rest) w)
+  hears from a rest first at = plan_keeps greatest now w by rest (hear from a began) h
+      (subst (λ down. IsPlanned w.server.skew greatest (sight_of w.counts w.server w.journal) by (w.replied by) began (w.ends by).up down rest (hear from a began)) (sym first)
+      (quiet_planned w.server.skew greatest (sight_of w.counts w.server w.journal) by (w.replied by) began (w.ends by).up (a ∷ rest) rest (hear from a began) (hear_quiet by began from a)
+      (hear_moved w.server.skew greatest (sight_of w.counts w.server w.journal) by (w.replied by) began (w.ends by).up rest from a at
+      (subst (λ down. Seat w.server.skew greatest (sight_of w.counts w.server w.journal) by (w.replied by) began (w.ends by).up down) first seat_began))))
 
   pub client_keeps : (e : ClientEvent) → CanCome by e w.ends → greatest ≤ now + w.server.skew → WorldHolds greatest (after_client by now e w)
   client_keeps (Does o) can within = acts o can within
   client_keeps Turns can within = turns
-  client_keeps (Hears a rest) can within = hears a rest can
+  client_keeps (Hears from a rest) can within = hears from a rest can.0 can.1
+
+  -- no answer that comes is strange
+  pub never_strange : (from : ℕ) (a : Answer) (rest : List Answer) → CanCome by (Hears from a rest) w.ends → (answer_plan (w.ends by).client now from a).out.note ≢ note.Strange
+  never_strange from a rest can =
+      let fit = fits_first w.server.skew greatest (sight_of w.counts w.server w.journal) by (w.replied by) began (w.ends by).up rest from a can.1
+      (subst (λ down. Seat w.server.skew greatest (sight_of w.counts w.server w.journal) by (w.replied by) began (w.ends by).up down) can.0 seat_began) in
+      subst (λ b. (cond b (told a began) (strange began)).out.note ≢ note.Strange) (sym fit) (told_known began a)

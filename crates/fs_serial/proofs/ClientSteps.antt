@@ -1,28 +1,30 @@
 -- One session's client takes a step.
-use Rattle.std.proofs.Common.{◌≡◌, ℕ, ◌==◌, max, true, false, List, ◌++◌, map, cond, refl, sym, ap, ◌∙◌, subst, arith}
-use Rattle.std.specs.Prelude.{Option, None}
+use Rattle.std.proofs.Common.{◌≡◌, ℕ, ◌==◌, max, true, false, List, [], ◌++◌, append-nil, map, cond, refl, sym, ap, ◌∙◌, subst, arith}
+use Rattle.std.specs.Prelude.{Option, Some, None}
 use Rattle.fs_ident.specs.In.{In}
 use Rattle.fs_ident.specs.declared.actor.LeaseNo.{LeaseNo}
 use Rattle.fs_ident.specs.declared.actor.Session.{Session}
+use Rattle.fs_map.specs.Map.{Owners}
 use Rattle.fs_msg.specs.declared.answer.Answer.{Answer}
 use Rattle.fs_msg.specs.declared.client_msg.ClientMsg.{ClientMsg}
 use Rattle.fs_msg.specs.declared.item.Item.{Item}
 use Rattle.fs_server.specs.Ships.{item_of}
-use Rattle.fs_client.specs.Client.{begun}
+use Rattle.fs_client.specs.Client.{begun, with_hints}
 use Rattle.fs_view.specs.View.{lapsed_at}
 use Rattle.fs_client.specs.declared.state.Client.{Client}
 use Rattle.fs_serial.specs.Fresh.{FreshReserved, Reserves, reserved_by}
 use Rattle.fs_serial.specs.Numbers.{AreNumbered, all_items, items_by}
 use Rattle.fs_serial.specs.Parts.{ServersHold, ServersFit}
-use Rattle.fs_serial.specs.Settled.{Lease}
+use Rattle.fs_serial.specs.Settled.{Lease, settled_now}
 use Rattle.fs_serial.specs.Sight.{Sight, sight_of}
 use Rattle.fs_serial.specs.World.{Ends, World, WorldHolds, pushed, settled_at, with_ends, with_told}
+use Rattle.fs_serial.proofs.Carried.{GoesOnAs, exchange_still}
 use Rattle.fs_serial.proofs.Lapse.{lapse_fewer, seat_lapse}
 use Rattle.fs_serial.proofs.Rowed.{session_is}
 use Rattle.fs_serial.proofs.Seats.{Seat, seen_at}
 use Rattle.fs_serial.proofs.Together.{fewer_reserved}
 
-pub seat_of : (greatest : ℕ) (w : World) (x : Session) → WorldHolds greatest w → Seat w.server.skew greatest (sight_of w.server w.journal) x (w.replied x) (w.ends x).client (w.ends x).up (w.ends x).down
+pub seat_of : (greatest : ℕ) (w : World) (x : Session) → WorldHolds greatest w → Seat w.server.skew greatest (sight_of w.counts w.server w.journal) x (w.replied x) (w.ends x).client (w.ends x).up (w.ends x).down
 seat_of greatest w x h = record { holds = h.all.sessions x; fits = h.all.fitting x; client = h.clients x; exchange = h.exchanges x }
 
 -- the sight with another journal
@@ -58,20 +60,20 @@ each_two P by told e replied ends own others x = elim (by.0 == x.0) as (λ b. (b
   | false ↦ λ q. others x q
 ] refl
 
-module _ (greatest : ℕ) (w : World) (by : Session) (journal : List Item) (told : Option Item) (e : Ends) (h : WorldHolds greatest w) (others : (x : Session) → (by.0 == x.0) ≡ false → items_by x journal ≡ items_by x w.journal) (holds : ServersHold (sight_of w.server journal)) (fits : ServersFit (sight_of w.server journal)) (reserved : FreshReserved (reserved_by (λ x. settled_at x (w.ends x))) w.server.records journal) (moved : IsMoved w.server.skew greatest (sight_of w.server w.journal) (sight_of w.server journal) by (w.replied by) (w.ends by).client (w.ends by).down told e) where
+module _ (greatest : ℕ) (w : World) (by : Session) (journal : List Item) (told : Option Item) (e : Ends) (h : WorldHolds greatest w) (others : (x : Session) → (by.0 == x.0) ≡ false → items_by x journal ≡ items_by x w.journal) (holds : ServersHold (sight_of w.counts w.server journal)) (fits : ServersFit (sight_of w.counts w.server journal)) (reserved : FreshReserved (reserved_by (λ x. settled_at x (w.ends x))) w.server.records journal) (moved : IsMoved w.server.skew greatest (sight_of w.counts w.server w.journal) (sight_of w.counts w.server journal) by (w.replied by) (w.ends by).client (w.ends by).down told e) where
   abbrev ends : Session → Ends
   ends = with_ends by e w.ends
 
-  seats : (x : Session) → Seat w.server.skew greatest (sight_of w.server journal) x (with_told by told w.replied x) (ends x).client (ends x).up (ends x).down
-  seats = each_two (λ x is n. Seat w.server.skew greatest (sight_of w.server journal) x is n.client n.up n.down) by told e w.replied w.ends moved.seat
-      (λ x q. seat_beside w.server.skew greatest (sight_of w.server w.journal) x (w.replied x) (w.ends x).client (w.ends x).up (w.ends x).down journal (others x q) (seat_of greatest w x h))
+  seats : (x : Session) → Seat w.server.skew greatest (sight_of w.counts w.server journal) x (with_told by told w.replied x) (ends x).client (ends x).up (ends x).down
+  seats = each_two (λ x is n. Seat w.server.skew greatest (sight_of w.counts w.server journal) x is n.client n.up n.down) by told e w.replied w.ends moved.seat
+      (λ x q. seat_beside w.server.skew greatest (sight_of w.counts w.server w.journal) x (w.replied x) (w.ends x).client (w.ends x).up (w.ends x).down journal (others x q) (seat_of greatest w x h))
 
   still_reserved : (x : Session) (n : LeaseNo) (i : List ℕ) → reserved_by (λ x. settled_at x (ends x)) x n i → reserved_by (λ x. settled_at x (w.ends x)) x n i
   still_reserved = each_two (λ x is m. (n : LeaseNo) (i : List ℕ) → Reserves (settled_at x m).leases n i → Reserves (settled_at x (w.ends x)).leases n i) by told e w.replied w.ends
       moved.reserves
       (λ x q n i r. r)
 
-  pub world_moved : WorldHolds greatest (record { server = w.server; journal = journal; replied = with_told by told w.replied; ends = ends })
+  pub world_moved : WorldHolds greatest (record { server = w.server; counts = w.counts; journal = journal; replied = with_told by told w.replied; ends = ends })
   world_moved = record {
     all = record {
       servers = holds;
@@ -84,6 +86,33 @@ module _ (greatest : ℕ) (w : World) (by : Session) (journal : List Item) (told
     clients = λ x. (seats x).client;
     exchanges = λ x. (seats x).exchange;
   }
+
+-- ## What a server said of who manages what
+
+-- is of no matter to what holds
+pub hinted_moved : (skew greatest : ℕ) (s t : Sight) (by : Session) (replied : List Item) (c d : Client) (up : List ClientMsg) (down rest : List Answer) (told : Option Item) (hints : Option Owners) → IsMoved skew greatest s t by replied c down told (record { client = d; up = up; down = rest })
+    → IsMoved skew greatest s t by replied c down told (record { client = with_hints hints d; up = up; down = rest })
+hinted_moved skew greatest s t by replied c d up down rest told None m = m
+hinted_moved skew greatest s t by replied c d up down rest told (Some hints) m =
+    let h = m.seat in
+    let n : Client = with_hints (Some hints) d in
+    let same : GoesOnAs d n [] = record {
+      exchange = refl;
+      fewer = λ k i. record { kept = k; among = i; number = refl };
+      log = sym (append-nil d.log);
+      went = λ k i z. record { kept = k; among = i; pair = refl; leaving = z };
+      goes = λ k i z. record { kept = k; among = i; number = refl; leaving = z };
+    } in
+    record {
+      seat = record {
+        holds = h.holds;
+        fits = h.fits;
+        client = record { session = h.client.session; viewed = h.client.viewed; pending = h.client.pending; distinct = h.client.distinct; pinned = h.client.pinned; held = h.client.held };
+        exchange = exchange_still skew greatest t.given t.rows by d n [] up rest (settled_now d) (settled_now n) (seen_at by d rest) (seen_at by n rest) same
+            (λ l i. record { lease = l; held = i; number = refl }) (λ l i. record { lease = l; held = i; number = refl }) (sym (append-nil (seen_at by d rest).log)) refl h.exchange;
+      };
+      reserves = m.reserves;
+    }
 
 -- ## Each event begins with the lapse of leases
 

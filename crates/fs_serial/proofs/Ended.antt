@@ -1,19 +1,30 @@
 -- A refused entry used a lease that had ended.
-use Rattle.std.proofs.Common.{◌≡◌, ℕ, ◌+◌, ◌<◌, ◌≤◌, not, true, false, refl, arith}
-use Rattle.std.specs.Prelude.{◌≢◌, Some, nat_lt}
+use Rattle.std.proofs.Common.{◌≡◌, ℕ, ◌+◌, ◌<◌, ◌≤◌, not, true, false, List, [], ◌∷◌, ◌++◌, cond, map, refl, sym, subst, inl, inr, arith}
+use Rattle.std.specs.Prelude.{◌≢◌, Option, Some, None, nat_lt}
 use Rattle.std.proofs.lemmas.Bool.Decides.{nat_tests}
 use Rattle.fs_ident.specs.In.{In}
 use Rattle.fs_ident.specs.declared.actor.Session.{Session}
 use Rattle.fs_field.specs.declared.row.Row.{Row}
 use Rattle.fs_field.specs.declared.used.Use.{Use}
+use Rattle.fs_map.specs.Map.{longest}
+use Rattle.fs_msg.specs.Home.{home_of}
+use Rattle.fs_msg.specs.declared.client_msg.ClientMsg.TheVariants.{Ship}
+use Rattle.fs_msg.specs.declared.end.End.TheVariants as end
 use Rattle.fs_msg.specs.declared.entry.Entry.{Entry}
-use Rattle.fs_server.specs.Ships.{first_gone, has_row}
+use Rattle.fs_msg.specs.declared.item.Item.{Item}
+use Rattle.fs_server.specs.Server.{is_mine, moved, moved_at, strange}
+use Rattle.fs_server.specs.Ships.{Shipping, first_gone, has_row, item_of, ship_from, ship_step, shipped, with_entry}
+use Rattle.fs_server.specs.declared.state.Server.{Server}
 use Rattle.fs_serial.specs.Leases.{IsBacked}
 use Rattle.fs_serial.specs.Parts.{SessionFits}
 use Rattle.fs_serial.specs.Settled.{Settled}
-use Rattle.fs_serial.specs.Sight.{Sight}
+use Rattle.fs_serial.specs.Sight.{Sight, sight_of}
+use Rattle.fs_serial.specs.Refusals.{HadItsTime, HeldBackFor, IsFairNote}
 use Rattle.fs_serial.specs.Steps.{HadEnded}
+use Rattle.fs_serial.specs.World.{World, WorldHolds, settled_at}
+use Rattle.fs_serial.proofs.Facts.{In-front}
 use Rattle.fs_serial.proofs.Refusing.{found_passes, use_gone}
+use Rattle.fs_serial.proofs.ServerEvents.{all_plain}
 
 less : (a b : ℕ) → nat_lt a b ≡ true → a < b
 less a b h = grind (arith, nat_tests)
@@ -33,3 +44,40 @@ ended skew greatest now s by d e u f i h within =
         | false ↦ λ t. no_less now u.until t
       ] refl;
     }
+
+-- ## A log that is on its way
+
+-- where one of its entries is refused
+pub refused_ended : (greatest now : ℕ) (w : World) (by : Session) (entries : List Entry) → In (Ship entries) (w.ends by).up → WorldHolds greatest w → greatest ≤ now + w.server.skew → (e : Entry) (u : Use) → In e entries → first_gone w.server.rows by e.uses ≡ Some u → HadEnded w.server.rows now e u
+refused_ended greatest now w by entries there h within e u i gone =
+    let front = (h.exchanges by).front entries there in
+    ended w.server.skew greatest now (sight_of w.counts w.server w.journal) by (settled_at by (w.ends by)) e u (h.all.fitting by) (subst (λ es. In e es) (sym front.log) (In-front e entries front.rest i)) gone within
+
+fair_away : (rows : List Row) (o : Option (List ℕ × ℕ)) → HeldBackFor [] (moved_at o) × HadItsTime rows (moved_at o)
+fair_away rows None = (refl, tt)
+fair_away rows (Some x) = (refl, tt)
+
+-- the server's rows and its clock stay while it reads the entries
+fair_from : (by : Session) (es : List Entry) (s : Server) (admitted : List Item) → ((e : Entry) (u : Use) → In e es → first_gone s.rows by e.uses ≡ Some u → HadEnded s.rows s.last e u) → HeldBackFor (ship_from by es s admitted).gaps (ship_from by es s admitted).end × HadItsTime s.rows (ship_from by es s admitted).end
+fair_from by [] s admitted over = (refl, tt)
+fair_from by (e ∷ es) s admitted over =
+    let here : Option Use → Shipping =
+    λ gone. elim gone as (λ _. Shipping) [
+      | None ↦ ship_from by es (with_entry by e s) (admitted ++ item_of by e ∷ [])
+      | Some u ↦ record { server = s; admitted = admitted; end = end.Ended e.n u.no u.until s.last; gaps = map (λ (x : Entry). x.n) es }
+    ] in
+    let away : Shipping = record { server = s; admitted = admitted; end = moved s (home_of e.op); gaps = [] } in
+    elim (is_mine s (home_of e.op)) as (λ b. HeldBackFor (cond b (here (first_gone s.rows by e.uses)) away).gaps (cond b (here (first_gone s.rows by e.uses)) away).end × HadItsTime s.rows (cond b (here (first_gone s.rows by e.uses)) away).end) [
+      | true ↦
+          elim (first_gone s.rows by e.uses) as (λ (gone : Option Use). first_gone s.rows by e.uses ≡ gone → HeldBackFor (here gone).gaps (here gone).end × HadItsTime s.rows (here gone).end) [
+            | None ↦ λ q. fair_from by es (with_entry by e s) (admitted ++ item_of by e ∷ []) (λ x u i. over x u (inr i))
+            | Some u ↦ λ q. let t = over e u (inl refl) q in (tt, (t.ended, t.gone))
+          ] refl
+      | false ↦ fair_away s.rows (longest s.map (home_of e.op))
+    ]
+
+-- what the server notes of it is fair
+pub fair_ship : (greatest : ℕ) (w : World) (by : Session) (entries : List Entry) → In (Ship entries) (w.ends by).up → greatest ≤ w.server.last + w.server.skew → WorldHolds greatest w → IsFairNote w.server.rows (ship_step by entries w.server).out.note
+fair_ship greatest w by entries there within h =
+    let fair = fair_from by entries w.server [] (λ e u i gone. refused_ended greatest w.server.last w by entries there h within e u i gone) in
+    subst (λ b. IsFairNote w.server.rows (cond b (shipped by (ship_from by entries w.server [])) (strange w.server)).out.note) (sym (all_plain greatest w by entries there h)) fair

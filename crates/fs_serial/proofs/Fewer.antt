@@ -94,7 +94,7 @@ module _ (skew greatest : ℕ) (s : Sight) (by : Session) (replied : List Item) 
   held h x i u j = let q : HasLease d.leases u = h x i u j in record { lease = q.lease; held = f.still q.lease q.held (subst these (sym q.number) (used x i u j)); number = q.number; field = q.field; kind = q.kind }
 
   entries : AreEntries d.leases d.log → AreEntries e.leases d.log
-  entries h x i = let q : IsEntry d.leases x = h x i in record { plain = q.plain; access = q.access; named = named_still d.leases e.leases these x.uses x.op x.reply (used x i) f.still q.named }
+  entries h x i = let q : IsEntry d.leases x = h x i in record { plain = q.plain; access = q.access; named = named_still d.leases e.leases these x.uses x.op x.reply (used x i) f.still q.named; home = q.home }
 
   pub fewer_fits : SessionFits skew greatest s by d → SessionFits skew greatest s by e
   fewer_fits h = record {

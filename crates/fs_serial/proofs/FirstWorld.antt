@@ -1,13 +1,15 @@
 -- All that holds holds at the start.
-use Rattle.std.proofs.Common.{◌≡◌, ℕ, ◌+◌, ◌==◌, Bool, true, false, List, [], ◌∷◌, ◌++◌, cond, refl, sym, ap, ◌∙◌, subst, arith}
+use Rattle.std.proofs.Common.{◌≡◌, ℕ, ◌+◌, ◌≤◌, ◌==◌, Bool, true, false, List, [], ◌∷◌, ◌++◌, cond, refl, sym, ap, ◌∙◌, subst, arith}
 use Rattle.std.specs.Prelude.{Option, Some, None}
 use Rattle.std.specs.Ordering.{nat_cmp, eq_by_cmp}
 use Rattle.std.specs.Cmp.Lexicographic.{slice_cmp, nat_list_cmp_total}
 use Rattle.std.specs.FinMap.{empty, get, get-empty, get-insert, same_map}
 use Rattle.fs_ident.specs.Ident.{child}
+use Rattle.fs_ident.specs.In.{In}
 use Rattle.fs_ident.specs.declared.actor.Session.{Session}
 use Rattle.fs_ident.specs.declared.kind.Kind.{Kind}
 use Rattle.fs_ident.proofs.MapsOf.{anti}
+use Rattle.fs_field.specs.declared.row.Row.{Row}
 use Rattle.fs_model.specs.Namespace.{first_space, root_node}
 use Rattle.fs_model.specs.Sound.{IsSound, kind_of}
 use Rattle.fs_model.proofs.SoundRuns.{first_sound}
@@ -16,12 +18,13 @@ use Rattle.fs_record.specs.Records.{RecordMap, first_records, node_of, nodes_of,
 use Rattle.fs_record.proofs.Kept.{kept_empty, kept_insert, root_kept}
 use Rattle.fs_record.proofs.NodeMaps.{node_there}
 use Rattle.fs_record.proofs.NodeValues.{key_is}
+use Rattle.fs_server.specs.declared.state.Server.{Server}
 use Rattle.fs_serial.specs.Fresh.{FreshReserved, IsAtOrBelow, IsMade, NodesMade, made, reserved_by}
-use Rattle.fs_serial.specs.Parts.{SessionHolds, SessionFits}
+use Rattle.fs_serial.specs.Parts.{ServersFit, ServersHold, SessionHolds, SessionFits}
 use Rattle.fs_serial.specs.Numbers.{ReapsInOrder}
-use Rattle.fs_serial.specs.Serial.{AreSound}
-use Rattle.fs_serial.specs.Sight.{reaps_at, sight_of}
-use Rattle.fs_serial.specs.World.{World, WorldHolds, first_world, settled_at}
+use Rattle.fs_serial.specs.Serial.{AreSound, JournalSerial}
+use Rattle.fs_serial.specs.Sight.{Counts, Sight, sight_of}
+use Rattle.fs_serial.specs.World.{World, WorldHolds, first_ends, settled_at}
 
 abbrev records : RecordMap
 records = first_records true
@@ -59,18 +62,41 @@ not_below dir k (n ∷ ns) h p = absurd (cc)
 
 -- ## The world
 
-module _ (skew term greatest : ℕ) where
+none_counted : (b : Bool) (n m : ℕ) → n ≡ 0 → m ≡ 0 → 1 ≡ cond b n m + 1
+none_counted true n m e f = omega arith
+none_counted false n m e f = omega arith
+
+module _ (greatest term : ℕ) (s : Server) (o : Counts) (no_rows : s.rows ≡ []) (first : s.records ≡ records) (no_reaps : s.reaps ≡ 0) (others : (k : ℕ) → o.reaps k ≡ 0) where
   abbrev w : World
-  w = first_world skew term
+  w = record { server = s; counts = o; journal = []; replied = λ x. []; ends = first_ends term }
 
-  none_reaped : (b : Bool) → 1 ≡ cond b 0 0 + 1
-  none_reaped true = refl
-  none_reaped false = refl
+  abbrev sight : Sight
+  sight = sight_of o s []
 
-  first_reaped : ReapsInOrder (reaps_at w.server) []
-  first_reaped k = none_reaped (k == w.server.me)
+  none : (r : Row) → In r s.rows → ⊥
+  none r i = subst (In r) no_rows i
 
-  first_reserved : FreshReserved (reserved_by (λ x. settled_at x (w.ends x))) w.server.records []
+  first_reaped : ReapsInOrder sight.reaps []
+  first_reaped k = none_counted (k == s.me) s.reaps (o.reaps k) no_reaps (others k)
+
+  first_servers : ServersHold sight
+  first_servers = record {
+    apart = λ a b i j. absurd (none a i);
+    promises = λ r i. absurd (none r i);
+    serial = subst (λ m. JournalSerial [] m) (sym first) (sym first_nodes);
+    reaped = first_reaped;
+  }
+
+  first_kept : ServersFit sight
+  first_kept = record {
+    shaped = λ r i. absurd (none r i);
+    counted = λ r i. absurd (none r i);
+    given = λ r i. absurd (none r i);
+    sound = subst AreSound (sym first) first_are_sound;
+    made = subst (λ m. NodesMade m []) (sym first) first_made;
+  }
+
+  first_reserved : FreshReserved (reserved_by (λ x. settled_at x (w.ends x))) s.records []
   first_reserved = record {
     once = λ x y n k i j r t b. absurd r.held;
     unmade = λ x n i j r made b. absurd r.held;
@@ -78,10 +104,10 @@ module _ (skew term greatest : ℕ) where
     reserved_before = λ dir k x n j here free r b. absurd r.held;
   }
 
-  first_holds : (x : Session) → SessionHolds skew greatest (sight_of w.server []) x [] (settled_at x (w.ends x))
-  first_holds x = record { backed = λ l i late. absurd i; telling = λ l i r j e. absurd i; pending = tt; numbers = refl; replies = refl }
+  first_session : (x : Session) → SessionHolds s.skew greatest sight x [] (settled_at x (w.ends x))
+  first_session x = record { backed = λ l i late. absurd i; telling = λ l i r j e. absurd i; pending = tt; numbers = refl; replies = refl }
 
-  first_fits : (x : Session) → SessionFits skew greatest (sight_of w.server []) x (settled_at x (w.ends x))
+  first_fits : (x : Session) → SessionFits s.skew greatest sight x (settled_at x (w.ends x))
   first_fits x = record {
     given = λ l i. absurd i;
     distinct = λ l m i j e. absurd i;
@@ -94,24 +120,18 @@ module _ (skew term greatest : ℕ) where
     refused = λ n e. absurd (cc);
   }
 
-  pub first_all : WorldHolds greatest (first_world skew term)
-  first_all = record {
-    all = record {
-      servers = record { apart = λ a b i j. absurd i; promises = λ r i. absurd i; serial = sym first_nodes; reaped = first_reaped };
-      kept = record { shaped = λ r i. absurd i; given = λ r i. absurd i; sound = first_are_sound; made = first_made };
-      sessions = first_holds;
-      fitting = first_fits;
-      reserved = first_reserved;
-    };
-    clock = omega arith;
+  pub first_holds : s.last ≤ greatest → WorldHolds greatest w
+  first_holds clock = record {
+    all = record { servers = first_servers; kept = first_kept; sessions = first_session; fitting = first_fits; reserved = first_reserved };
+    clock = clock;
     clients = λ x. record { session = refl; viewed = refl; pending = refl; distinct = λ k l i j e. absurd i; pinned = λ k i. absurd i; held = λ e i u j. absurd i };
     exchanges = λ x. record {
       one = (refl, refl);
-      first = tt;
       ships = tt;
       front = λ entries i. absurd i;
       released = tt;
       kinds = λ items fresh i. absurd i;
+      pairs = λ m i. absurd i;
       returns = λ k i leaving. absurd i;
       renewals = λ ends e i. absurd i;
     };

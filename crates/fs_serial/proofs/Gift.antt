@@ -1,5 +1,5 @@
 -- A directory gives an identifier to a session.
-use Rattle.std.proofs.Common.{◌≡◌, ℕ, ◌==◌, not, ◌&&◌, ◌||◌, Bool, true, false, List, [], ◌∷◌, ◌++◌, ◌⊎◌, cond, map, append_assoc, refl, sym, ap, ◌∙◌, subst, inl, inr, arith}
+use Rattle.std.proofs.Common.{◌≡◌, ℕ, ◌≤◌, ◌==◌, not, ◌&&◌, ◌||◌, Bool, true, false, List, [], ◌∷◌, ◌++◌, ◌⊎◌, cond, map, append_assoc, refl, sym, ap, ◌∙◌, subst, inl, inr, arith}
 use Rattle.std.specs.Prelude.{◌≢◌, Option, Some, None}
 use Rattle.std.specs.FinMap.{get}
 use Rattle.std.specs.Cmp.{nat_eq_equiv}
@@ -7,7 +7,6 @@ use Rattle.std.specs.List.{list_any, cons_option}
 use Rattle.std.proofs.lemmas.List.{map-append}
 use Rattle.fs_ident.specs.In.{In}
 use Rattle.fs_ident.specs.Ident.{child, parent, same}
-use Rattle.fs_ident.specs.declared.actor.LeaseNo.{LeaseNo}
 use Rattle.fs_ident.specs.declared.actor.Session.{Session}
 use Rattle.fs_ident.proofs.Booleans.{neither}
 use Rattle.fs_ident.proofs.Standing.{In-put}
@@ -44,16 +43,19 @@ use Rattle.fs_serial.specs.Laws.{IsGift, GiftIsRelied, GiftIsTold, GiftKeepsPart
 use Rattle.fs_serial.specs.Leases.{IsFresh, IsRowOf, LeasesGiven}
 use Rattle.fs_serial.specs.Parts.{with_client, ServersHold, ServersFit, SessionHolds, SessionFits}
 use Rattle.fs_serial.specs.Relies.{Relies}
-use Rattle.fs_serial.specs.Rows.{RowsGiven}
+use Rattle.fs_client.specs.Turns.{pair_of}
+use Rattle.fs_serial.specs.Rows.{RowsCounted, RowsGiven}
 use Rattle.fs_serial.specs.Settled.{Lease, Settled, granted, told, with_leases}
-use Rattle.fs_serial.specs.Sight.{Sight, sight_of, IsGiven}
+use Rattle.fs_serial.specs.Sight.{Counts, Sight, sight_of, IsGiven}
 use Rattle.fs_serial.proofs.Children.{parent_child}
 use Rattle.fs_serial.proofs.Facts.{each_more, below_itself, same_is, same_self}
+use Rattle.fs_serial.proofs.Counting.{given_is_other, next_is_given, next_is_new, one_more_given, still_given}
 use Rattle.fs_serial.proofs.GiftReserved.{reserved_still, reserved_then, unmade_dead}
 use Rattle.fs_serial.proofs.GiftedRecords.{made_still, serial_still, sound_still, values_stay}
 use Rattle.fs_serial.proofs.Granting.{shapes_beside}
 use Rattle.fs_serial.proofs.Leased.{IsNewLease, In-put_here, leased_fits, leased_holds, row_relied}
 use Rattle.fs_serial.proofs.Promises.{promises_beside, promises_gift}
+use Rattle.fs_serial.proofs.Older.{later_pair}
 use Rattle.fs_serial.proofs.Together.{each_session}
 use Rattle.fs_serial.proofs.Relied.{relies_for, relied_fits, relied_holds}
 
@@ -112,7 +114,7 @@ same_file (Other b m) id h = refl
 
 -- ## The gift
 
-module _ (by : Session) (dir : List ℕ) (k : ℕ) (a : Asking) (journal : List Item) (here : is_directory a.server.records dir ≡ true) (number : fresh_number a.server.records dir (borne_numbers dir a.server.rows) ≡ Some k) where
+module _ (o : Counts) (by : Session) (dir : List ℕ) (k : ℕ) (a : Asking) (journal : List Item) (here : is_directory a.server.records dir ≡ true) (number : fresh_number a.server.records dir (borne_numbers dir a.server.rows) ≡ Some k) where
   abbrev s : Server
   s = a.server
 
@@ -129,18 +131,24 @@ module _ (by : Session) (dir : List ℕ) (k : ℕ) (a : Asking) (journal : List 
   row_or : (r : Row) → In r t.rows → (r ≡ row) ⊎ In r s.rows
   row_or r i = In-put (λ x. no_before row.no x.no) r row s.rows i
 
-  apart : ServersHold (sight_of s journal) → NoPlainConflict t.rows
+  apart : ServersHold (sight_of o s journal) → NoPlainConflict t.rows
   apart h = NoPlainConflict-with_row row s.rows
       (λ x i. never (not (by.0 == x.session.0)) (meets (Life (child dir k)) Exclusive x.field x.kind) (lives_apart (child dir k) Exclusive x.field x.kind (not_on dir k s.rows least.free x i)))
       h.apart
 
-  rows_given : ServersFit (sight_of s journal) → RowsGiven (sight_of t journal).given t.rows
-  rows_given f r i = elim (row_or r i) as (λ _. IsGiven (sight_of t journal).given r.no) [
-    | inl e ↦ let c = ap (λ (x : Row). x.no.count) e in omega arith
-    | inr j ↦ let g = f.given r j in omega arith
+  rows_given : ServersFit (sight_of o s journal) → RowsGiven (sight_of o t journal).given t.rows
+  rows_given f r i = elim (row_or r i) as (λ _. IsGiven (sight_of o t journal).given r.no) [
+    | inl e ↦ subst (λ (x : Row). IsGiven (sight_of o t journal).given x.no) (sym e) (next_is_given o s)
+    | inr j ↦ still_given o s r.no (f.given r j)
   ]
 
-  pub gift_holds : ServersHold (sight_of s journal) → ServersHold (sight_of t journal)
+  rows_counted : ServersFit (sight_of o s journal) → RowsCounted t.rows
+  rows_counted f r i = elim (row_or r i) as (λ _. 1 ≤ r.no.count) [
+    | inl e ↦ let c = ap (λ (x : Row). x.no.count) e in omega arith
+    | inr j ↦ f.counted r j
+  ]
+
+  pub gift_holds : ServersHold (sight_of o s journal) → ServersHold (sight_of o t journal)
   gift_holds h = record {
     apart = apart h;
     promises = promises_gift s.records t.rows dir k (promises_beside s.records row s.rows refl h.promises);
@@ -148,16 +156,17 @@ module _ (by : Session) (dir : List ℕ) (k : ℕ) (a : Asking) (journal : List 
     reaped = h.reaped;
   }
 
-  pub gift_fits : ServersFit (sight_of s journal) → ServersFit (sight_of t journal)
+  pub gift_fits : ServersFit (sight_of o s journal) → ServersFit (sight_of o t journal)
   gift_fits f = record {
     shaped = shapes_beside row s.rows refl f.shaped;
+    counted = rows_counted f;
     given = rows_given f;
     sound = sound_still s.records dir k (borne_numbers dir s.rows) number f.sound;
     made = made_still s.records dir k journal f.made;
   }
 
-  pub gift_relied : (skew greatest : ℕ) (x : Session) → Relies skew greatest x (sight_of s journal) (sight_of t journal)
-  gift_relied skew greatest x = row_relied skew greatest x (sight_of s journal) (sight_of t journal) row refl (λ g. absurd (omega arith)) (λ n. omega arith) (λ field. values_stay s.records dir k x field) refl
+  pub gift_relied : (skew greatest : ℕ) (x : Session) → Relies skew greatest x (sight_of o s journal) (sight_of o t journal)
+  gift_relied skew greatest x = row_relied skew greatest x (sight_of o s journal) (sight_of o t journal) row refl (next_is_new o s) (one_more_given o s) (λ field. values_stay s.records dir k x field) refl
 
   -- ## The lease
 
@@ -167,38 +176,38 @@ module _ (by : Session) (dir : List ℕ) (k : ℕ) (a : Asking) (journal : List 
   below_is : l.below ≡ Some dir
   below_is = ap (λ b. cond b (parent (child dir k)) None) (same_self (child dir k)) ∙ parent_child dir k
 
-  dead : (f : ServersFit (sight_of s journal)) (reserved : Reserved) → FreshReserved reserved s.records journal → kind_of (node_of (get s.records (child dir k))) ≡ None
+  dead : (f : ServersFit (sight_of o s journal)) (reserved : Reserved) → FreshReserved reserved s.records journal → kind_of (node_of (get s.records (child dir k))) ≡ None
   dead f reserved r = unmade_dead s.records journal (child dir k) f.made (λ made. r.made_before dir k (child dir k) here least.from made (below_itself (child dir k)))
 
-  fresh : (f : ServersFit (sight_of s journal)) (reserved : Reserved) → FreshReserved reserved s.records journal → (d : List ℕ) → l.below ≡ Some d → IsFresh d l
+  fresh : (f : ServersFit (sight_of o s journal)) (reserved : Reserved) → FreshReserved reserved s.records journal → (d : List ℕ) → l.below ≡ Some d → IsFresh d l
   fresh f reserved r d e =
       let q : Some dir ≡ Some d = sym below_is ∙ e in
       let is : dir ≡ d = cc in
       record { number = k; field = ap (λ x. Life (child x k)) is; kind = refl; base = ap value.Life (dead f reserved r) }
 
-  pub new_lease : (f : ServersFit (sight_of s journal)) (reserved : Reserved) (leases : List Lease) → FreshReserved reserved s.records journal → LeasesGiven (sight_of s journal).given leases → IsNewLease (sight_of t journal) by leases l
+  pub new_lease : (f : ServersFit (sight_of o s journal)) (reserved : Reserved) (leases : List Lease) → FreshReserved reserved s.records journal → LeasesGiven (sight_of o s journal).given leases → IsNewLease (sight_of o t journal) by leases l
   new_lease f reserved leases r given = record {
-    given = omega arith;
-    new = λ j h e. let g = given j h in let c = ap (λ (n : LeaseNo). n.count) e in absurd (omega arith);
+    given = next_is_given o s;
+    new = λ j h e. given_is_other o s j.no (given j h) e;
     row = record { row = row; stands = In-put_here (λ x. no_before row.no x.no) row s.rows; number = refl; lasts = omega arith };
     own = λ r i e. elim (row_or r i) as (λ _. IsRowOf by l.field l.kind r) [
       | inl q ↦ subst (IsRowOf by l.field l.kind) (sym q) (record { session = refl; field = refl; kind = refl })
-      | inr j ↦ let g = f.given r j in let c = ap (λ (n : LeaseNo). n.count) e in absurd (omega arith)
+      | inr j ↦ absurd (given_is_other o s r.no (f.given r j) e)
     ];
     told = sym (values_stay s.records dir k by (Life (child dir k)));
     fresh = fresh f reserved r;
   }
 
   -- what goes back is no lease that is given
-  pub returned_still : (kept : List Kept) (leases : List Lease) → ReturnsFit (sight_of s journal).given s.rows by kept leases → ReturnsFit (sight_of t journal).given t.rows by kept (leases ++ l ∷ [])
+  pub returned_still : (kept : List Kept) (leases : List Lease) → ReturnsFit (sight_of o s journal).given s.rows by kept leases → ReturnsFit (sight_of o t journal).given t.rows by kept (leases ++ l ∷ [])
   returned_still kept leases h j i leaving =
       let q = h j i leaving in
-      let known = q.known in
+      let rely = gift_relied 0 0 by in
       record {
-        known = omega arith;
-        alone = each_more (λ (x : Lease). x.no ≢ number_of j.standing) leases l q.alone (λ e. let c = ap (λ (n : LeaseNo). n.count) e in absurd (omega arith));
-        own = λ r o e. elim (row_or r o) as (λ _. r.session ≡ by) [
-          | inl is ↦ let c = ap (λ (n : LeaseNo). n.count) (sym e ∙ ap (λ (x : Row). x.no) is) in absurd (omega arith)
+        fits = later_pair (sight_of o s journal).given (sight_of o t journal).given s.rows t.rows (record { given = rely.given; older = rely.older }) (pair_of j) q.fits;
+        alone = each_more (λ (x : Lease). x.no ≢ number_of j.standing) leases l q.alone (λ e. given_is_other o s (number_of j.standing) q.fits.known (sym e));
+        own = λ r z e. elim (row_or r z) as (λ _. r.session ≡ by) [
+          | inl is ↦ absurd (given_is_other o s (number_of j.standing) q.fits.known (sym e ∙ ap (λ (x : Row). x.no) is))
           | inr old ↦ q.own r old e
         ];
       }
@@ -220,43 +229,46 @@ module _ (by : Session) (dir : List ℕ) (k : ℕ) (a : Asking) (journal : List 
       ∙ ap (λ ls. let x : Settled = record d { leases = ls } in x) (sym (append_assoc d.leases (map (granted None) a.grants) (l ∷ [])))
 
 pub gift_keeps_parts : GiftKeepsParts
-gift_keeps_parts skew greatest a journal replied clients by dir k all gift =
-    let s : Sight = sight_of a.server journal in
-    let t : Sight = sight_of (with_fresh by dir k a).server journal in
+gift_keeps_parts o skew greatest a journal replied clients by dir k all gift =
+    let s : Sight = sight_of o a.server journal in
+    let t : Sight = sight_of o (with_fresh by dir k a).server journal in
     let l : Lease = lease_given by dir k a.server in
     let least = number_least a.server.records dir (borne_numbers dir a.server.rows) k gift.1 in
-    let relied = gift_relied by dir k a journal gift.0 gift.1 skew greatest in
-    let new = new_lease by dir k a journal gift.0 gift.1 all.kept (reserved_by clients) (clients by).leases all.reserved (all.fitting by).given in
+    let relied = gift_relied o by dir k a journal gift.0 gift.1 skew greatest in
+    let new = new_lease o by dir k a journal gift.0 gift.1 all.kept (reserved_by clients) (clients by).leases all.reserved (all.fitting by).given in
     let fits : (x : Session) → SessionFits skew greatest t x (clients x) = λ x. relied_fits skew greatest x s t (clients x) (relied x) (all.fitting x) in
     let holds : (x : Session) → SessionHolds skew greatest t x (replied x) (clients x) = λ x. relied_holds skew greatest x s t (clients x) (relied x) (all.fitting x) (replied x) (all.sessions x) in
     record {
-      servers = gift_holds by dir k a journal gift.0 gift.1 all.servers;
-      kept = gift_fits by dir k a journal gift.0 gift.1 all.kept;
+      servers = gift_holds o by dir k a journal gift.0 gift.1 all.servers;
+      kept = gift_fits o by dir k a journal gift.0 gift.1 all.kept;
       sessions = each_session (λ x d. SessionHolds skew greatest t x (replied x) d) by (with_leases (l ∷ []) (clients by)) clients (leased_holds skew greatest by t (clients by) l new (fits by) (replied by) (holds by)) (λ x other. holds x);
       fitting = each_session (λ x d. SessionFits skew greatest t x d) by (with_leases (l ∷ []) (clients by)) clients (leased_fits skew greatest by t (clients by) l new (fits by)) (λ x other. fits x);
       reserved = reserved_still a.server.records journal dir k gift.0 least.from all.kept.made (reserved_by clients) (reserved_by (with_client by (with_given by dir k a.server (clients by)) clients)) by (next_number a.server) (reserved_then clients by l) all.reserved;
     }
 
 pub gift_is_relied : GiftIsRelied
-gift_is_relied skew greatest a journal by x dir k gift = gift_relied by dir k a journal gift.0 gift.1 skew greatest x
+gift_is_relied o skew greatest a journal by x dir k gift = gift_relied o by dir k a journal gift.0 gift.1 skew greatest x
 
 pub gift_returns_none : GiftReturnsNone
-gift_returns_none a journal by dir k kept d gift = returned_still by dir k a journal gift.0 gift.1 kept d.leases
+gift_returns_none o a journal by dir k kept d gift = returned_still o by dir k a journal gift.0 gift.1 kept d.leases
+
+none_other : Counts
+none_other = record { given = λ k. 0; reaps = λ k. 0 }
 
 pub gift_is_told : GiftIsTold
-gift_is_told a by dir k d e gift rows = told_with by dir k a [] gift.0 gift.1 d e rows
+gift_is_told a by dir k d e gift rows = told_with none_other by dir k a [] gift.0 gift.1 d e rows
 
 -- while the server's event goes on
-pub gift_goes : (skew greatest : ℕ) (a : Asking) (journal : List Item) (replied : Session → List Item) (ends : Session → Ends) (clients : Session → Settled) (by : Session) (dir : List ℕ) (k : ℕ) → IsGift dir k a.server → GoesOn skew greatest (sight_of a.server journal) replied ends clients
-    → GoesOn skew greatest (sight_of (with_fresh by dir k a).server journal) replied ends (with_client by (with_given by dir k a.server (clients by)) clients)
-gift_goes skew greatest a journal replied ends clients by dir k gift h =
-    let s : Sight = sight_of a.server journal in
-    let t : Sight = sight_of (with_fresh by dir k a).server journal in
-    let relied = gift_relied by dir k a journal gift.0 gift.1 skew greatest in
-    let new = new_lease by dir k a journal gift.0 gift.1 h.all.kept (reserved_by clients) (clients by).leases h.all.reserved (h.all.fitting by).given in
+pub gift_goes : (o : Counts) (skew greatest : ℕ) (a : Asking) (journal : List Item) (replied : Session → List Item) (ends : Session → Ends) (clients : Session → Settled) (by : Session) (dir : List ℕ) (k : ℕ) → IsGift dir k a.server → GoesOn skew greatest (sight_of o a.server journal) replied ends clients
+    → GoesOn skew greatest (sight_of o (with_fresh by dir k a).server journal) replied ends (with_client by (with_given by dir k a.server (clients by)) clients)
+gift_goes o skew greatest a journal replied ends clients by dir k gift h =
+    let s : Sight = sight_of o a.server journal in
+    let t : Sight = sight_of o (with_fresh by dir k a).server journal in
+    let relied = gift_relied o by dir k a journal gift.0 gift.1 skew greatest in
+    let new = new_lease o by dir k a journal gift.0 gift.1 h.all.kept (reserved_by clients) (clients by).leases h.all.reserved (h.all.fitting by).given in
     record {
-      all = gift_keeps_parts skew greatest a journal replied clients by dir k h.all gift;
+      all = gift_keeps_parts o skew greatest a journal replied clients by dir k h.all gift;
       carried = carried_leased skew greatest t replied ends clients by (lease_given by dir k a.server) new
-          (λ j i leaving e. let known = (h.carried.returns by j i leaving).known in let c = ap (λ (n : LeaseNo). n.count) e in absurd (omega arith))
+          (λ j i leaving e. given_is_other o a.server (number_of j.standing) (h.carried.returns by j i leaving).fits.known (sym e))
           (carried_still skew greatest s t ends clients (λ x. relies_for skew greatest x s t (clients x).leases (h.all.fitting x).matching (relied x)) h.all.fitting h.carried);
     }

@@ -58,7 +58,7 @@ pub carried_alike : (skew greatest : ℕ) (s : Sight) (ends : Session → Ends) 
     → AllCarried skew greatest s ends (with_client by d clients)
 carried_alike skew greatest s ends clients by d old new h = record {
   returns = each_session (λ x d. ReturnsFit s.given s.rows x (ends x).client.view.leases d.leases) by d clients
-      (λ k i leaving. let q = h.returns by k i leaving in record { known = q.known; alone = λ l j e. let o = old l j in q.alone o.lease o.held (o.number ∙ e); own = q.own })
+      (λ k i leaving. let q = h.returns by k i leaving in record { fits = q.fits; alone = λ l j e. let o = old l j in q.alone o.lease o.held (o.number ∙ e); own = q.own })
       (λ x other. h.returns x);
   renewals = h.renewals;
   later = each_session (λ x d. (j : Lease) → In j (settled_now (ends x).client).leases → HasNumber d.leases j.no) by d clients
@@ -98,7 +98,7 @@ module _ (skew greatest : ℕ) (t : Sight) (replied : Session → List Item) (en
   pub carried_leased : AllCarried skew greatest t ends clients → AllCarried skew greatest t ends (with_client by d clients)
   carried_leased h = record {
     returns = each_session (λ x d. ReturnsFit t.given t.rows x (ends x).client.view.leases d.leases) by d clients
-        (λ k i leaving. let q = h.returns by k i leaving in record { known = q.known; alone = each_more (λ (j : Lease). j.no ≢ number_of k.standing) (clients by).leases l q.alone (unreturned k i leaving); own = q.own })
+        (λ k i leaving. let q = h.returns by k i leaving in record { fits = q.fits; alone = each_more (λ (j : Lease). j.no ≢ number_of k.standing) (clients by).leases l q.alone (unreturned k i leaving); own = q.own })
         (λ x other. h.returns x);
     renewals = h.renewals;
     later = each_session (λ x d. (j : Lease) → In j (settled_now (ends x).client).leases → HasNumber d.leases j.no) by d clients

@@ -1,8 +1,7 @@
 -- A session is given a lease that it asked for.
-use Rattle.std.proofs.Common.{◌≡◌, ℕ, Bool, List, [], ◌∷◌, ◌⊎◌, refl, sym, ap, subst, inl, inr, arith}
+use Rattle.std.proofs.Common.{◌≡◌, ℕ, ◌≤◌, Bool, List, [], ◌∷◌, ◌⊎◌, refl, sym, ap, subst, inl, inr, arith}
 use Rattle.std.specs.Prelude.{Option, None}
 use Rattle.fs_ident.specs.In.{In}
-use Rattle.fs_ident.specs.declared.actor.LeaseNo.{LeaseNo}
 use Rattle.fs_ident.specs.declared.actor.Session.{Session}
 use Rattle.fs_ident.proofs.Standing.{In-put}
 use Rattle.fs_field.specs.declared.asked.Asked.TheVariants.{Granted}
@@ -15,18 +14,20 @@ use Rattle.fs_moderows.specs.Answer.{given_row}
 use Rattle.fs_server.specs.Asks.{answer_to, grant_of, kind_for, with_lease}
 use Rattle.fs_server.specs.Server.{next_number, end_of}
 use Rattle.fs_server.specs.declared.state.Server.{Server}
+use Rattle.fs_view.specs.Kept.{number_of}
 use Rattle.fs_serial.specs.Leases.{IsRowOf, LeasesGiven, LeasesMatch}
 use Rattle.fs_serial.specs.Rows.{RowsGiven}
 use Rattle.fs_serial.specs.Parts.{with_client}
 use Rattle.fs_serial.specs.Settled.{Lease, Settled, granted, with_leases}
-use Rattle.fs_serial.specs.Sight.{IsGiven, sight_of}
+use Rattle.fs_serial.specs.Sight.{Counts, IsGiven, sight_of}
 use Rattle.fs_serial.specs.World.{Ends, GoesOn}
+use Rattle.fs_serial.proofs.Counting.{given_is_other, next_is_given, next_is_new, one_more_given, still_given}
 use Rattle.fs_serial.proofs.Going.{RowsChange, goes_leased, goes_still, reserved_none}
 use Rattle.fs_serial.proofs.Granting.{apart_granted, promises_granted, shapes_granted}
 use Rattle.fs_serial.proofs.Leased.{IsNewLease, In-put_here, row_relied}
 use Rattle.fs_serial.proofs.Relied.{relies_for}
 
-module _ (by : Session) (field : Field) (asked : LeaseKind) (promise : Option Bool) (s : Server) (journal : List Item) where
+module _ (o : Counts) (by : Session) (field : Field) (asked : LeaseKind) (promise : Option Bool) (s : Server) (journal : List Item) where
   -- the kind that the server gives
   abbrev kind : LeaseKind
   kind = kind_for field asked
@@ -45,7 +46,7 @@ module _ (by : Session) (field : Field) (asked : LeaseKind) (promise : Option Bo
   row_or r i = In-put (λ x. no_before row.no x.no) r row s.rows i
 
   pub row_granted : (skew greatest : ℕ) (clients : Session → Settled) → answer_to by field kind s ≡ Granted promise
-      → ((x : Session) → LeasesMatch s.rows x (clients x).leases) → RowsChange skew greatest (sight_of s journal) (sight_of t journal) clients
+      → ((x : Session) → LeasesMatch s.rows x (clients x).leases) → RowsChange skew greatest (sight_of o s journal) (sight_of o t journal) clients
   row_granted skew greatest clients ok matching = record {
     servers = λ h. record {
       apart = apart_granted s by field asked promise ok h.apart;
@@ -55,38 +56,42 @@ module _ (by : Session) (field : Field) (asked : LeaseKind) (promise : Option Bo
     };
     kept = λ f. record {
       shaped = shapes_granted s by field asked promise ok f.shaped;
-      given = λ r i. elim (row_or r i) as (λ _. IsGiven (sight_of t journal).given r.no) [
+      counted = λ r i. elim (row_or r i) as (λ _. 1 ≤ r.no.count) [
         | inl e ↦ let c = ap (λ (x : Row). x.no.count) e in omega arith
-        | inr j ↦ let g = f.given r j in omega arith
+        | inr j ↦ f.counted r j
+      ];
+      given = λ r i. elim (row_or r i) as (λ _. IsGiven (sight_of o t journal).given r.no) [
+        | inl e ↦ subst (λ (x : Row). IsGiven (sight_of o t journal).given x.no) (sym e) (next_is_given o s)
+        | inr j ↦ still_given o s r.no (f.given r j)
       ];
       sound = f.sound;
       made = f.made;
     };
     records = refl;
     journal = refl;
-    relied = λ x. relies_for skew greatest x (sight_of s journal) (sight_of t journal) (clients x).leases (matching x)
-        (row_relied skew greatest x (sight_of s journal) (sight_of t journal) row refl (λ g. absurd (omega arith)) (λ n. omega arith) (λ f. refl) refl);
+    relied = λ x. relies_for skew greatest x (sight_of o s journal) (sight_of o t journal) (clients x).leases (matching x)
+        (row_relied skew greatest x (sight_of o s journal) (sight_of o t journal) row refl (next_is_new o s) (one_more_given o s) (λ f. refl) refl);
   }
 
-  pub item_new : (leases : List Lease) → RowsGiven (sight_of s journal).given s.rows → LeasesGiven (sight_of s journal).given leases → IsNewLease (sight_of t journal) by leases item_lease
+  pub item_new : (leases : List Lease) → RowsGiven (sight_of o s journal).given s.rows → LeasesGiven (sight_of o s journal).given leases → IsNewLease (sight_of o t journal) by leases item_lease
   item_new leases rows given = record {
-    given = omega arith;
-    new = λ j h e. let g = given j h in let c = ap (λ (n : LeaseNo). n.count) e in absurd (omega arith);
+    given = next_is_given o s;
+    new = λ j h e. given_is_other o s j.no (given j h) e;
     row = record { row = row; stands = In-put_here (λ x. no_before row.no x.no) row s.rows; number = refl; lasts = omega arith };
     own = λ r i e. elim (row_or r i) as (λ _. IsRowOf by field kind r) [
       | inl q ↦ subst (IsRowOf by field kind) (sym q) (record { session = refl; field = refl; kind = refl })
-      | inr j ↦ let g = rows r j in let c = ap (λ (n : LeaseNo). n.count) e in absurd (omega arith)
+      | inr j ↦ absurd (given_is_other o s r.no (rows r j) e)
     ];
     told = refl;
     fresh = λ d e. absurd (cc);
   }
 
-  pub item_granted : (skew greatest : ℕ) (replied : Session → List Item) (ends : Session → Ends) (clients : Session → Settled) → answer_to by field kind s ≡ Granted promise → GoesOn skew greatest (sight_of s journal) replied ends clients
-      → GoesOn skew greatest (sight_of t journal) replied ends (with_client by (with_leases (item_lease ∷ []) (clients by)) clients)
+  pub item_granted : (skew greatest : ℕ) (replied : Session → List Item) (ends : Session → Ends) (clients : Session → Settled) → answer_to by field kind s ≡ Granted promise → GoesOn skew greatest (sight_of o s journal) replied ends clients
+      → GoesOn skew greatest (sight_of o t journal) replied ends (with_client by (with_leases (item_lease ∷ []) (clients by)) clients)
   item_granted skew greatest replied ends clients ok h =
       let change = row_granted skew greatest clients ok (λ x. (h.all.fitting x).matching) in
       let new = item_new (clients by).leases h.all.kept.given (h.all.fitting by).given in
-      goes_leased skew greatest (sight_of t journal) replied ends clients by item_lease new
-      (λ k i leaving e. let known = (h.carried.returns by k i leaving).known in let c = ap (λ (n : LeaseNo). n.count) e in absurd (omega arith))
+      goes_leased skew greatest (sight_of o t journal) replied ends clients by item_lease new
+      (λ k i leaving e. given_is_other o s (number_of k.standing) (h.carried.returns by k i leaving).fits.known (sym e))
       (reserved_none clients by item_lease s.records journal refl h.all.reserved)
-      (goes_still skew greatest (sight_of s journal) (sight_of t journal) replied ends clients change h)
+      (goes_still skew greatest (sight_of o s journal) (sight_of o t journal) replied ends clients change h)

@@ -1,6 +1,6 @@
 -- The first answer on its way comes to its client.
-use Rattle.std.proofs.Common.{◌≡◌, ℕ, true, List, ◌∷◌, refl, sym, ap, ◌∙◌, subst, cond}
-use Rattle.std.specs.Prelude.{None}
+use Rattle.std.proofs.Common.{◌≡◌, ℕ, true, false, List, ◌∷◌, refl, sym, ap, ◌∙◌, subst, cond}
+use Rattle.std.specs.Prelude.{Some, None}
 use Rattle.fs_ident.specs.declared.actor.LeaseNo.{LeaseNo}
 use Rattle.fs_ident.specs.declared.actor.Session.{Session}
 use Rattle.fs_msg.specs.declared.answer.Answer.{Answer}
@@ -8,10 +8,12 @@ use Rattle.fs_msg.specs.declared.answer.Answer.TheVariants.{Granted, Renewed, Re
 use Rattle.fs_msg.specs.declared.client_msg.ClientMsg.{ClientMsg}
 use Rattle.fs_msg.specs.declared.client_note.ClientNote.{ClientNote}
 use Rattle.fs_msg.specs.declared.item.Item.{Item}
-use Rattle.fs_client.specs.Answers.{fits, hear, told, strange}
+use Rattle.fs_client.specs.Answers.{answer_fits, fits, hear, told, strange}
 use Rattle.fs_client.specs.Client.{changed}
+use Rattle.fs_client.specs.declared.exchange.Exchange.{Exchange}
 use Rattle.fs_client.specs.declared.plan.Plan.{Plan}
 use Rattle.fs_client.specs.declared.state.Client.{Client}
+use Rattle.fs_serial.specs.Exchange.{asked_server, is_recall, server_of_question}
 use Rattle.fs_serial.specs.Fresh.{Reserves}
 use Rattle.fs_serial.specs.Settled.{Settled}
 use Rattle.fs_serial.specs.Sight.{Sight}
@@ -24,13 +26,20 @@ use Rattle.fs_serial.proofs.HearsReturned.{seat_recalled, recalled_seen, seat_re
 use Rattle.fs_serial.proofs.HearsShipped.{seat_shipped, shipped_seen}
 use Rattle.fs_serial.proofs.Seats.{Seat, seen_at}
 
--- an answer that is due fits
-pub fits_due : (c : Client) (up : List ClientMsg) (a : Answer) (rest : List Answer) → IsHeard c up a rest → fits 0 c.exchange a c ≡ true
-fits_due c up (Recall n) rest w = refl
-fits_due c up (Granted grants fresh end) rest w = ap (λ x. fits 0 x (Granted grants fresh end) c) w.open_ ∙ w.fits
-fits_due c up (Renewed rows end) rest w = ap (λ x. fits 0 x (Renewed rows end) c) w.open_ ∙ w.fits
-fits_due c up (Released count end) rest w = ap (λ x. fits 0 x (Released count end) c) w.open_ ∙ w.fits
-fits_due c up (Shipped count end) rest w = ap (λ x. fits 0 x (Shipped count end) c) w.open_ ∙ w.fits
+-- the question was sent to the server
+sent_to : (c : Client) (x : Exchange) (from : ℕ) → c.exchange ≡ Some x → asked_server c.exchange ≡ Some from → server_of_question x ≡ from
+sent_to c x from open_ e = let q : Some (server_of_question x) ≡ Some from = ap asked_server (sym open_) ∙ e in cc
+
+-- an answer that is due fits where it comes from the server of the question
+due_from : (c : Client) (up : List ClientMsg) (from : ℕ) (a : Answer) (rest : List Answer) → asked_server c.exchange ≡ Some from → (w : IsHeard c up a rest) → answer_fits from w.exchange a c ≡ true
+due_from c up from a rest e w = subst (λ k. answer_fits k w.exchange a c ≡ true) (sent_to c w.exchange from w.open_ e) w.fits
+
+pub fits_due : (c : Client) (up : List ClientMsg) (from : ℕ) (a : Answer) (rest : List Answer) → asked_server c.exchange ≡ Some from → IsHeard c up a rest → fits from c.exchange a c ≡ true
+fits_due c up from (Recall n) rest e w = refl
+fits_due c up from (Granted grants fresh end) rest e w = ap (λ x. fits from x (Granted grants fresh end) c) w.open_ ∙ due_from c up from (Granted grants fresh end) rest e w
+fits_due c up from (Renewed rows end) rest e w = ap (λ x. fits from x (Renewed rows end) c) w.open_ ∙ due_from c up from (Renewed rows end) rest e w
+fits_due c up from (Released count end) rest e w = ap (λ x. fits from x (Released count end) c) w.open_ ∙ due_from c up from (Released count end) rest e w
+fits_due c up from (Shipped count end) rest e w = ap (λ x. fits from x (Shipped count end) c) w.open_ ∙ due_from c up from (Shipped count end) rest e w
 
 module _ (skew greatest : ℕ) (s : Sight) (by : Session) (replied : List Item) (c : Client) (up : List ClientMsg) (rest : List Answer) where
   -- the session where the client did as planned
@@ -49,13 +58,13 @@ module _ (skew greatest : ℕ) (s : Sight) (by : Session) (replied : List Item) 
   told_moved (Recall n) h = record { seat = seat_recalled skew greatest s by replied c up n rest h; reserves = same_reserves _ (seen_at by c (Recall n ∷ rest)) (recalled_seen skew greatest s by replied c up n rest h) }
 
   -- the first answer on its way fits
-  pub fits_first : (a : Answer) → Seat skew greatest s by replied c up (a ∷ rest) → fits 0 c.exchange a c ≡ true
-  fits_first (Recall n) h = refl
-  fits_first (Granted gs fresh e) h = fits_due c up (Granted gs fresh e) rest (heard c c.exchange up (Granted gs fresh e) rest refl refl h.exchange.one)
-  fits_first (Renewed ends e) h = fits_due c up (Renewed ends e) rest (heard c c.exchange up (Renewed ends e) rest refl refl h.exchange.one)
-  fits_first (Released count e) h = fits_due c up (Released count e) rest (heard c c.exchange up (Released count e) rest refl refl h.exchange.one)
-  fits_first (Shipped count e) h = fits_due c up (Shipped count e) rest (heard c c.exchange up (Shipped count e) rest refl refl h.exchange.one)
+  pub fits_first : (from : ℕ) (a : Answer) → (is_recall a ≡ false → asked_server c.exchange ≡ Some from) → Seat skew greatest s by replied c up (a ∷ rest) → fits from c.exchange a c ≡ true
+  fits_first from (Recall n) at h = refl
+  fits_first from (Granted gs fresh e) at h = fits_due c up from (Granted gs fresh e) rest (at refl) (heard c c.exchange up (Granted gs fresh e) rest refl refl h.exchange.one)
+  fits_first from (Renewed ends e) at h = fits_due c up from (Renewed ends e) rest (at refl) (heard c c.exchange up (Renewed ends e) rest refl refl h.exchange.one)
+  fits_first from (Released count e) at h = fits_due c up from (Released count e) rest (at refl) (heard c c.exchange up (Released count e) rest refl refl h.exchange.one)
+  fits_first from (Shipped count e) at h = fits_due c up from (Shipped count e) rest (at refl) (heard c c.exchange up (Shipped count e) rest refl refl h.exchange.one)
 
   -- the answer is never strange, and the session goes on as it was to
-  pub hear_moved : (a : Answer) → Seat skew greatest s by replied c up (a ∷ rest) → Moves a (hear 0 a c)
-  hear_moved a h = subst (λ b. Moves a (cond b (told a c) (strange c))) (sym (fits_first a h)) (told_moved a h)
+  pub hear_moved : (from : ℕ) (a : Answer) → (is_recall a ≡ false → asked_server c.exchange ≡ Some from) → Seat skew greatest s by replied c up (a ∷ rest) → Moves a (hear from a c)
+  hear_moved from a at h = subst (λ b. Moves a (cond b (told a c) (strange c))) (sym (fits_first from a at h)) (told_moved a h)

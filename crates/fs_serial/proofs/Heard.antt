@@ -12,7 +12,7 @@ use Rattle.fs_msg.specs.declared.end.End.{End}
 use Rattle.fs_client.specs.Answers.{answer_fits}
 use Rattle.fs_client.specs.declared.exchange.Exchange.{Exchange}
 use Rattle.fs_client.specs.declared.state.Client.{Client}
-use Rattle.fs_serial.specs.Exchange.{due, is_recall, OneExchange, AsksFirst, ShipsLog, ReleasesReturned, ReturnsFit, ExchangeFits}
+use Rattle.fs_serial.specs.Exchange.{due, is_recall, OneExchange, ShipsLog, ReleasesReturned, ReturnsFit, ExchangeFits, server_of_question}
 use Rattle.fs_serial.specs.Settled.{Settled}
 
 -- ## The answer that is due
@@ -23,7 +23,7 @@ pub record IsHeard (c : Client) (up : List ClientMsg) (a : Answer) (rest : List 
   pub open_ : c.exchange ≡ Some exchange
   pub asked : up ≡ []
   pub quiet : due rest ≡ []
-  pub fits : answer_fits 0 exchange a c ≡ true
+  pub fits : answer_fits (server_of_question exchange) exchange a c ≡ true
 
 due_first : (a : Answer) (rest : List Answer) → is_recall a ≡ false → due (a ∷ rest) ≡ a ∷ due rest
 due_first a rest h = ap (λ b. cond (not b) (a ∷ due rest) (due rest)) h
@@ -34,7 +34,7 @@ heard c (Some x) up a rest e n (inl h) = absurd (let q : a ∷ due rest ≡ [] =
 heard c (Some x) up a rest e n (inr h) =
     let q : a ∷ due rest ≡ h.answer ∷ [] = sym (due_first a rest n) ∙ h.told in
     let same : h.answer ≡ a = cc in
-    record { exchange = x; open_ = e; asked = h.asked; quiet = cc; fits = subst (λ a. answer_fits 0 x a c ≡ true) same h.fits }
+    record { exchange = x; open_ = e; asked = h.asked; quiet = cc; fits = subst (λ a. answer_fits (server_of_question x) x a c ≡ true) same h.fits }
 
 -- ## Then no question stands
 
@@ -50,11 +50,11 @@ quiet_renewed (Shipped count end ∷ rest) q ends e i = absurd (cc)
 pub quiet_exchange : (skew greatest : ℕ) (given : ℕ → ℕ) (rows : List Row) (by : Session) (c : Client) (rest : List Answer) (now d : Settled) → c.exchange ≡ None → due rest ≡ [] → ReturnsFit given rows by c.view.leases d.leases → ExchangeFits skew greatest given rows by c [] rest now d
 quiet_exchange skew greatest given rows by c rest now d none quiet returns = record {
   one = subst (λ x. OneExchange c x [] rest) (sym none) (refl, quiet);
-  first = subst AsksFirst (sym none) tt;
   ships = subst (λ x. ShipsLog x c.log) (sym none) tt;
   front = λ entries i. absurd i;
   released = subst (λ x. ReleasesReturned x c.view.leases) (sym none) tt;
   kinds = λ items fresh i. absurd i;
+  pairs = λ m i. absurd i;
   returns = returns;
   renewals = λ ends e i. absurd (quiet_renewed rest quiet ends e i);
 }
@@ -69,11 +69,11 @@ one_recall c (Some x) up n rest (inr h) = inr (record { answer = h.answer; told 
 pub recall_exchange : (skew greatest : ℕ) (given : ℕ → ℕ) (rows : List Row) (by : Session) (c : Client) (up : List ClientMsg) (n : LeaseNo) (rest : List Answer) (now d : Settled) → ExchangeFits skew greatest given rows by c up (Recall n ∷ rest) now d → ExchangeFits skew greatest given rows by c up rest now d
 recall_exchange skew greatest given rows by c up n rest now d h = record {
   one = one_recall c c.exchange up n rest h.one;
-  first = h.first;
   ships = h.ships;
   front = h.front;
   released = h.released;
   kinds = h.kinds;
+  pairs = h.pairs;
   returns = h.returns;
   renewals = λ ends e i. h.renewals ends e (inr i);
 }

@@ -24,6 +24,7 @@ use Rattle.fs_msg.specs.declared.item.Item.{Item}
 use Rattle.fs_client.specs.Answers.{answer_fits, fresh_fits, grants_fit, rest_fits, is_new, is_of_item, lease_in, leases_in, full_told}
 use Rattle.fs_client.specs.Client.{with_granted}
 use Rattle.fs_view.specs.View.{kept_new, with_grants}
+use Rattle.fs_client.specs.Turns.{pair_of}
 use Rattle.fs_client.specs.declared.exchange.Exchange.{Exchange}
 use Rattle.fs_client.specs.declared.exchange.Exchange.TheVariants.{Asks, Renews, Releases, Ships}
 use Rattle.fs_view.specs.declared.new_lease.NewLease.{NewLease}
@@ -43,7 +44,7 @@ use Rattle.fs_serial.proofs.Heard.{IsHeard, heard, quiet_exchange}
 use Rattle.fs_serial.proofs.Knowing.{from-filter_map}
 use Rattle.fs_serial.proofs.Lapse.{its_number}
 use Rattle.fs_serial.proofs.OneLease.{same_no_self}
-use Rattle.fs_serial.specs.Exchange.{ExchangeFits, ReturnFits, ReturnsFit}
+use Rattle.fs_serial.specs.Exchange.{ExchangeFits, ReturnFits, ReturnsFit, server_of_question}
 use Rattle.fs_serial.proofs.Seats.{Seat, seen_at, settled_none}
 
 -- ## Numbers that come are new
@@ -70,14 +71,14 @@ grants_new (x ∷ xs) fresh leases before (y ∷ gs) h g i =
     let q = both (is_of_item x y) (is_new leases before y) p.0 in
     elim i as (λ _. list_any (has_number g.no) leases ≡ false) [ inl e ↦ ap (λ (y : Grant). list_any (has_number y.no) leases) e ∙ new_is leases before y q.1 | inr j ↦ grants_new xs fresh leases (before ++ y ∷ []) gs p.1 g j ]
 
-all_new : (c : Client) (x : Exchange) (gs : List Grant) (fresh : Option (List ℕ)) (e : End) → answer_fits 0 x (Granted gs fresh e) c ≡ true → (g : Grant) → In g gs → list_any (has_number g.no) c.view.leases ≡ false
-all_new c (Asks to items asked) gs fresh e h =
-    let p = both (to == 0) (fresh_fits asked fresh && grants_fit items fresh c.view.leases [] gs) h in
+all_new : (c : Client) (from : ℕ) (x : Exchange) (gs : List Grant) (fresh : Option (List ℕ)) (e : End) → answer_fits from x (Granted gs fresh e) c ≡ true → (g : Grant) → In g gs → list_any (has_number g.no) c.view.leases ≡ false
+all_new c from (Asks to items asked) gs fresh e h =
+    let p = both (to == from) (fresh_fits asked fresh && grants_fit items fresh c.view.leases [] gs) h in
     let q = both (fresh_fits asked fresh) (grants_fit items fresh c.view.leases [] gs) p.1 in
     grants_new items fresh c.view.leases [] gs q.1
-all_new c (Renews to numbers) gs fresh e h = absurd (cc)
-all_new c (Releases to numbers) gs fresh e h = absurd (cc)
-all_new c (Ships to count) gs fresh e h = absurd (cc)
+all_new c from (Renews to numbers) gs fresh e h = absurd (cc)
+all_new c from (Releases to numbers) gs fresh e h = absurd (cc)
+all_new c from (Ships to count) gs fresh e h = absurd (cc)
 
 -- ## The leases then
 
@@ -182,12 +183,12 @@ pub seat_granted : (skew greatest : ℕ) (s : Sight) (by : Session) (replied : L
     → Seat skew greatest s by replied (with_granted (leases_in fresh gs) (full_told e) c) up rest
 seat_granted skew greatest s by replied c up gs fresh e rest h =
     let w : IsHeard c up (Granted gs fresh e) rest = heard c c.exchange up (Granted gs fresh e) rest refl refl h.exchange.one in
-    let new = all_new c w.exchange gs fresh e w.fits in
+    let new = all_new c (server_of_question w.exchange) w.exchange gs fresh e w.fits in
     let now = granted_now by c gs fresh e h.client new in
     let seen : seen_at by c (Granted gs fresh e ∷ rest) ≡ seen_at by (with_granted (leases_in fresh gs) (full_told e) c) rest = ap (settled by rest) (sym now) in
     let then : Client = with_granted (leases_in fresh gs) (full_told e) c in
-    let returns : ReturnsFit s.given s.rows by then.view.leases (seen_at by then rest).leases = λ k i t. elim (split by c gs fresh e h.client new k i) as (λ _. ReturnFits s.given s.rows by (seen_at by then rest).leases (number_of k.standing)) [
-      | inl a ↦ subst (λ (d : Settled). ReturnFits s.given s.rows by d.leases (number_of k.standing)) seen (h.exchange.returns k a t)
+    let returns : ReturnsFit s.given s.rows by then.view.leases (seen_at by then rest).leases = λ k i t. elim (split by c gs fresh e h.client new k i) as (λ _. ReturnFits s.given s.rows by (seen_at by then rest).leases (pair_of k)) [
+      | inl a ↦ subst (λ (d : Settled). ReturnFits s.given s.rows by d.leases (pair_of k)) seen (h.exchange.returns k a t)
       | inr a ↦ absurd (let q : false ≡ true = ap (λ (k : Kept). is_leaving k.standing) (sym a.is) ∙ t in cc)
     ] in
     record {
@@ -202,4 +203,4 @@ pub granted_seen : (skew greatest : ℕ) (s : Sight) (by : Session) (replied : L
     → seen_at by (with_granted (leases_in fresh gs) (full_told e) c) rest ≡ seen_at by c (Granted gs fresh e ∷ rest)
 granted_seen skew greatest s by replied c up gs fresh e rest h =
     let w : IsHeard c up (Granted gs fresh e) rest = heard c c.exchange up (Granted gs fresh e) rest refl refl h.exchange.one in
-    ap (settled by rest) (granted_now by c gs fresh e h.client (all_new c w.exchange gs fresh e w.fits))
+    ap (settled by rest) (granted_now by c gs fresh e h.client (all_new c (server_of_question w.exchange) w.exchange gs fresh e w.fits))

@@ -14,18 +14,14 @@ use Rattle.fs_field.specs.declared.value.Value.{Value}
 use Rattle.fs_field.specs.Field.{file_of}
 use Rattle.fs_field.specs.Table.{same_no}
 use Rattle.fs_lease.specs.Lease.{Lease as Term}
-use Rattle.fs_model.specs.declared.op.Op.{Op}
-use Rattle.fs_model.specs.declared.op.Op.TheVariants as op
-use Rattle.fs_model.specs.declared.reply.Reply.{Reply}
-use Rattle.fs_model.specs.declared.reply.Reply.TheVariants as reply
 use Rattle.fs_msg.specs.declared.answer.Answer.{Answer}
 use Rattle.fs_msg.specs.declared.answer.Answer.TheVariants.{Renewed}
 use Rattle.fs_msg.specs.declared.client_msg.ClientMsg.{ClientMsg}
 use Rattle.fs_msg.specs.declared.end.End.{End}
 use Rattle.fs_msg.specs.declared.entry.Entry.{Entry}
 use Rattle.fs_msg.specs.declared.item.Item.{Item}
-use Rattle.fs_record.specs.ValueOf.{value_of}
 use Rattle.fs_client.specs.Client.{renewed_one, renewed_all, with_renewed}
+use Rattle.fs_client.specs.Turns.{pair_of}
 use Rattle.fs_client.specs.declared.state.Client.{Client}
 use Rattle.fs_view.specs.declared.kept.Kept.{Kept}
 use Rattle.fs_view.specs.declared.kept.Standing.{Standing}
@@ -35,109 +31,23 @@ use Rattle.fs_view.specs.View.{View, stands, with_end, without_lease}
 use Rattle.fs_view.proofs.Places.{same_no_is}
 use Rattle.fs_serial.specs.Client.{ClientFits, times_in}
 use Rattle.fs_serial.specs.Exchange.{ExchangeFits, ReturnFits, ReturnsFit}
-use Rattle.fs_serial.specs.Leases.{IsBacked, IsRowOf, IsFresh}
+use Rattle.fs_serial.specs.Leases.{IsBacked}
 use Rattle.fs_serial.specs.Parts.{SessionHolds, SessionFits}
-use Rattle.fs_serial.specs.Pending.{HasLease, UsesHeld, IsEntry, NamesItsFile, HasReserved}
+use Rattle.fs_serial.specs.Pending.{HasLease, UsesHeld}
 use Rattle.fs_serial.specs.Settled.{Lease, Settled, lease_in, settled_now}
-use Rattle.fs_serial.specs.Sight.{Sight, IsGiven}
+use Rattle.fs_serial.specs.Sight.{Sight}
 use Rattle.fs_serial.specs.Fresh.{Reserves}
 use Rattle.fs_serial.specs.World.{HasNumber}
 use Rattle.fs_serial.proofs.Carried.{FewerLeases}
-use Rattle.fs_serial.proofs.Facts.{In-mapped, each_image}
+use Rattle.fs_serial.proofs.Facts.{each_image}
 use Rattle.fs_serial.proofs.Fewer.{HasFewer, fewer_holds, fewer_fits}
 use Rattle.fs_serial.proofs.Heard.{IsHeard, heard, quiet_exchange}
 use Rattle.fs_serial.proofs.Knowing.{In-filter_map, from-filter_map}
 use Rattle.fs_serial.proofs.Lapse.{IsUsed, its_number, used_in}
-use Rattle.fs_serial.proofs.ReplyPins.{distinct_mapped}
+use Rattle.fs_serial.proofs.ReplyPins.{distinct_mapped, pair_in}
+use Rattle.fs_serial.proofs.Retimed.{retimed, with_until, no_same, field_same, below_same, retimed_holds, retimed_fits, held}
 use Rattle.fs_serial.proofs.RowKinds.{In-kept}
 use Rattle.fs_serial.proofs.Seats.{Seat, seen_at, settled_none}
-
--- ## A lease with another end
-
-abbrev pub retimed : LeaseNo → ℕ → Lease → Lease
-retimed n until l = cond (same_no l.no n) (record l { until = until }) l
-
--- all but the end stays
-stays : {X : Type 0} (f : Lease → X) → ((l : Lease) (until : ℕ) → f (record l { until = until }) ≡ f l) → (n : LeaseNo) (until : ℕ) (l : Lease) → f (retimed n until l) ≡ f l
-stays f h n until l = within (same_no l.no n)
-  where
-    within : (b : Bool) → f (cond b (let x : Lease = record l { until = until } in x) l) ≡ f l
-    within true = h l until
-    within false = refl
-
--- the end is the new one, or stays
-pub ends_at : (n : LeaseNo) (until : ℕ) (l : Lease) (P : ℕ → Type 0) → (l.no ≡ n → P until) → P l.until → P (retimed n until l).until
-ends_at n until l P new old = within (same_no l.no n) refl
-  where
-    within : (b : Bool) → same_no l.no n ≡ b → P (cond b (let x : Lease = record l { until = until } in x) l).until
-    within true t = new (same_no_is l.no n t)
-    within false t = old
-
-abbrev with_until : LeaseNo → ℕ → Settled → Settled
-with_until n until d = record d { leases = map (retimed n until) d.leases }
-
-module _ (skew greatest : ℕ) (s : Sight) (by : Session) (replied : List Item) (n : LeaseNo) (until : ℕ) (d : Settled) (backs : (l : Lease) → In l d.leases → l.no ≡ n → greatest < until + skew → IsBacked s.rows n until) where
-  no_same : (l : Lease) → (retimed n until l).no ≡ l.no
-  no_same = stays (λ l. l.no) (λ l u. refl) n until
-
-  field_same : (l : Lease) → (retimed n until l).field ≡ l.field
-  field_same = stays (λ l. l.field) (λ l u. refl) n until
-
-  kind_same : (l : Lease) → (retimed n until l).kind ≡ l.kind
-  kind_same = stays (λ l. l.kind) (λ l u. refl) n until
-
-  base_same : (l : Lease) → (retimed n until l).base ≡ l.base
-  base_same = stays (λ l. l.base) (λ l u. refl) n until
-
-  below_same : (l : Lease) → (retimed n until l).below ≡ l.below
-  below_same = stays (λ l. l.below) (λ l u. refl) n until
-
-  retimed_holds : SessionHolds skew greatest s by replied d → SessionHolds skew greatest s by replied (with_until n until d)
-  retimed_holds h = record {
-    backed = each_image (retimed n until) (λ l. greatest < l.until + skew → IsBacked s.rows l.no l.until) d.leases (λ l i.
-        subst (λ m. greatest < (retimed n until l).until + skew → IsBacked s.rows m (retimed n until l).until) (sym (no_same l))
-        (ends_at n until l (λ u. greatest < u + skew → IsBacked s.rows l.no u) (λ e live. subst (λ m. IsBacked s.rows m until) (sym e) (backs l i e live)) (h.backed l i)));
-    telling = each_image (retimed n until) (λ l. (r : Row) → In r s.rows → r.no ≡ l.no → l.base ≡ value_of s.records by l.field) d.leases (λ l i r j e. base_same l ∙ h.telling l i r j (e ∙ no_same l) ∙ ap (value_of s.records by) (sym (field_same l)));
-    pending = h.pending;
-    numbers = h.numbers;
-    replies = h.replies;
-  }
-
-  held : UsesHeld d.leases d.log → UsesHeld (map (retimed n until) d.leases) d.log
-  held h x i u j =
-      let q : HasLease d.leases u = h x i u j in
-      record { lease = retimed n until q.lease; held = In-mapped (retimed n until) q.lease d.leases q.held; number = no_same q.lease ∙ q.number; field = field_same q.lease ∙ q.field; kind = kind_same q.lease ∙ q.kind }
-
-  named : (uses : List Use) (o : Op) (r : Reply) → NamesItsFile d.leases uses o r → NamesItsFile (map (retimed n until) d.leases) uses o r
-  named uses (op.Create dir name kind (Some id)) reply.Made p =
-      let q : HasReserved d.leases uses dir id = p.reserved in
-      record {
-        reserved = record { lease = retimed n until q.lease; held = In-mapped (retimed n until) q.lease d.leases q.held; below = below_same q.lease ∙ q.below; field = field_same q.lease ∙ q.field; used = q.used; among = q.among; number = q.number ∙ sym (no_same q.lease) };
-        child = p.child;
-      }
-  named uses (op.Create dir name kind None) reply.Made p = p
-  named uses (op.Create dir name kind (Some id)) r p = p
-  named uses o r p = p
-
-  fresh_same : (dir : List ℕ) (l : Lease) → IsFresh dir l → IsFresh dir (retimed n until l)
-  fresh_same dir l f = record { number = f.number; field = field_same l ∙ f.field; kind = kind_same l ∙ f.kind; base = base_same l ∙ f.base }
-
-  retimed_fits : SessionFits skew greatest s by d → SessionFits skew greatest s by (with_until n until d)
-  retimed_fits f = record {
-    given = each_image (retimed n until) (λ l. IsGiven s.given l.no) d.leases (λ l i. subst (IsGiven s.given) (sym (no_same l)) (f.given l i));
-    distinct = λ l m i j e.
-        let p = In-map (retimed n until) l d.leases i in
-        let q = In-map (retimed n until) m d.leases j in
-        p.1.1 ∙ ap (retimed n until) (f.distinct p.0 q.0 p.1.0 q.1.0 (sym (no_same p.0) ∙ ap (λ (x : Lease). x.no) (sym p.1.1) ∙ e ∙ ap (λ (x : Lease). x.no) q.1.1 ∙ no_same q.0)) ∙ sym q.1.1;
-    matching = each_image (retimed n until) (λ l. (r : Row) → In r s.rows → r.no ≡ l.no → IsRowOf by l.field l.kind r) d.leases (λ l i r j e.
-        let q : IsRowOf by l.field l.kind r = f.matching l i r j (e ∙ no_same l) in record { session = q.session; field = q.field ∙ sym (field_same l); kind = q.kind ∙ sym (kind_same l) });
-    fresh = each_image (retimed n until) (λ l. (dir : List ℕ) → l.below ≡ Some dir → IsFresh dir l) d.leases (λ l i dir b. fresh_same dir l (f.fresh l i dir (sym (below_same l) ∙ b)));
-    held = held f.held;
-    backed = f.backed;
-    entries = λ x i. let q : IsEntry d.leases x = f.entries x i in record { plain = q.plain; access = q.access; named = named x.uses x.op x.reply q.named };
-    once = f.once;
-    refused = f.refused;
-  }
 
 -- ## One pair of an answer
 
@@ -148,6 +58,11 @@ end_number : (until : ℕ) (s : Standing) → number_of (renewed until s) ≡ nu
 end_number until (Held l) = refl
 end_number until (Pinned u) = refl
 end_number until (Leaving l) = refl
+
+end_pair : (until : ℕ) (s : Standing) → pair_in (renewed until s) ≡ pair_in s
+end_pair until (Held l) = refl
+end_pair until (Pinned u) = refl
+end_pair until (Leaving l) = refl
 
 end_leaving : (until : ℕ) (s : Standing) → is_leaving (renewed until s) ≡ is_leaving s
 end_leaving until (Held l) = refl
@@ -256,10 +171,10 @@ module _ (skew greatest : ℕ) (s : Sight) (by : Session) (replied : List Item) 
           pinned = each_image (one_end n until) (λ k. entries_of k.standing ≡ times_in (number_of k.standing) c.log) v.leases (λ k i. one_keeps entries_of until (end_entries until) n k ∙ h.client.pinned k i ∙ ap (λ m. times_in m c.log) (sym (number k)));
           held = subst (λ ls. UsesHeld ls c.log) same (held skew greatest s by replied n until d by_lease h.client.held);
         };
-        returns = each_image (one_end n until) (λ k. is_leaving k.standing ≡ true → ReturnFits s.given s.rows by (filter_map lease_in (map (one_end n until) v.leases)) (number_of k.standing)) v.leases (λ k i t.
-            let q : ReturnFits s.given s.rows by (filter_map lease_in v.leases) (number_of k.standing) = h.returns k i (sym (one_keeps is_leaving until (end_leaving until) n k) ∙ t) in
-            subst (ReturnFits s.given s.rows by (filter_map lease_in (map (one_end n until) v.leases))) (sym (number k)) (record {
-              known = q.known;
+        returns = each_image (one_end n until) (λ k. is_leaving k.standing ≡ true → ReturnFits s.given s.rows by (filter_map lease_in (map (one_end n until) v.leases)) (pair_of k)) v.leases (λ k i t.
+            let q : ReturnFits s.given s.rows by (filter_map lease_in v.leases) (pair_of k) = h.returns k i (sym (one_keeps is_leaving until (end_leaving until) n k) ∙ t) in
+            subst (ReturnFits s.given s.rows by (filter_map lease_in (map (one_end n until) v.leases))) (sym (one_keeps pair_in until (end_pair until) n k)) (record {
+              fits = q.fits;
               alone = subst (λ ls. (l : Lease) → In l ls → l.no ≢ number_of k.standing) same (each_image (retimed n until) (λ l. l.no ≢ number_of k.standing) (filter_map lease_in v.leases) (λ l j e. q.alone l j (sym (no_same skew greatest s by replied n until d by_lease l) ∙ e)));
               own = q.own;
             }));
@@ -303,7 +218,7 @@ module _ (skew greatest : ℕ) (s : Sight) (by : Session) (replied : List Item) 
           pinned = λ k i. h.client.pinned k (was k i);
           held = λ x i u j. let q : HasLease d.leases u = h.client.held x i u j in record { lease = q.lease; held = g.still q.lease q.held (record { entry = x; logged = i; used = u; among = j; number = sym q.number }); number = q.number; field = q.field; kind = q.kind };
         };
-        returns = λ k i l. let q = h.returns k (was k i) l in record { known = q.known; alone = λ m j. q.alone m (g.fewer m j); own = q.own };
+        returns = λ k i l. let q = h.returns k (was k i) l in record { fits = q.fits; alone = λ m j. q.alone m (g.fewer m j); own = q.own };
         fewer = λ l i. h.fewer l (g.fewer l i);
         reserves = λ m i r. h.reserves m i (record { lease = r.lease; held = g.fewer r.lease r.held; number = r.number; fresh = r.fresh; file = r.file });
       }

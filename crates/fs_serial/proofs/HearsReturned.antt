@@ -13,6 +13,7 @@ use Rattle.fs_msg.specs.declared.end.End.{End}
 use Rattle.fs_msg.specs.declared.item.Item.{Item}
 use Rattle.fs_client.specs.Answers.{numbers_sent}
 use Rattle.fs_client.specs.Client.{released_all, with_released, with_recalled}
+use Rattle.fs_client.specs.Turns.{pair_of}
 use Rattle.fs_client.specs.declared.exchange.Exchange.{Exchange}
 use Rattle.fs_client.specs.declared.exchange.Exchange.TheVariants.{Asks, Renews, Releases, Ships}
 use Rattle.fs_client.specs.declared.state.Client.{Client}
@@ -31,7 +32,7 @@ use Rattle.fs_serial.specs.Sight.{Sight}
 use Rattle.fs_serial.proofs.Carried.{GoesOnAs, exchange_still}
 use Rattle.fs_serial.proofs.Facts.{In-mapped, each_image}
 use Rattle.fs_serial.proofs.Heard.{IsHeard, heard, quiet_exchange, recall_exchange}
-use Rattle.fs_serial.proofs.ReplyPins.{distinct_mapped}
+use Rattle.fs_serial.proofs.ReplyPins.{distinct_mapped, pair_in}
 use Rattle.fs_serial.proofs.Seats.{Seat, seen_at}
 
 -- ## A recall
@@ -64,6 +65,9 @@ module _ (skew greatest : ℕ) (s : Sight) (by : Session) (replied : List Item) 
   number : (k : Kept) → number_of (one_recall n k).standing ≡ number_of k.standing
   number k = ap number_of (recall_standing n k)
 
+  pair : (k : Kept) → pair_of (one_recall n k) ≡ pair_of k
+  pair k = ap pair_in (recall_standing n k)
+
   now : settled_now recalled ≡ settled_now c
   now = ap (λ ls. let x : Settled = record { leases = ls; log = c.log; next = c.next; over = c.over } in x) (same_leases (one_recall n) (recall_lease n) c.view.leases)
 
@@ -77,7 +81,7 @@ module _ (skew greatest : ℕ) (s : Sight) (by : Session) (replied : List Item) 
     log = sym (append-nil c.log);
     went = λ k i t.
         let q = In-map (one_recall n) k c.view.leases i in
-        record { kept = q.0; among = q.1.0; number = sym (number q.0) ∙ ap (λ (k : Kept). number_of k.standing) (sym q.1.1); leaving = sym (ap is_leaving (recall_standing n q.0)) ∙ ap (λ (k : Kept). is_leaving k.standing) (sym q.1.1) ∙ t };
+        record { kept = q.0; among = q.1.0; pair = sym (pair q.0) ∙ ap pair_of (sym q.1.1); leaving = sym (ap is_leaving (recall_standing n q.0)) ∙ ap (λ (k : Kept). is_leaving k.standing) (sym q.1.1) ∙ t };
     goes = λ k i t. record { kept = one_recall n k; among = In-mapped (one_recall n) k c.view.leases i; number = number k; leaving = ap is_leaving (recall_standing n k) ∙ t };
   }
 
@@ -156,7 +160,7 @@ seat_released skew greatest s by replied c up count e rest h =
     let q : HasReturned c.view then_.view = all_returned ns c.view going in
     let now : settled_now then_ ≡ settled_now c = ap (λ ls. let x : Settled = record { leases = ls; log = c.log; next = c.next; over = c.over } in x) q.same in
     let seen : seen_at by c (Released count e ∷ rest) ≡ seen_at by then_ rest = ap (settled by rest) (sym now) in
-    let returns : ReturnsFit s.given s.rows by then_.view.leases (seen_at by then_ rest).leases = λ k i t. subst (λ (d : Settled). ReturnFits s.given s.rows by d.leases (number_of k.standing)) seen (h.exchange.returns k (q.was k i) t) in
+    let returns : ReturnsFit s.given s.rows by then_.view.leases (seen_at by then_ rest).leases = λ k i t. subst (λ (d : Settled). ReturnFits s.given s.rows by d.leases (pair_of k)) seen (h.exchange.returns k (q.was k i) t) in
     record {
       holds = subst (SessionHolds skew greatest s by replied) seen h.holds;
       fits = subst (SessionFits skew greatest s by) seen h.fits;

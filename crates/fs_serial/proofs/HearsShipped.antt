@@ -10,6 +10,7 @@ use Rattle.fs_ident.proofs.Standing.{In-map}
 use Rattle.fs_field.specs.declared.effect.Effect.{Effect}
 use Rattle.fs_field.specs.declared.used.Use.{Use}
 use Rattle.fs_field.specs.declared.value.Value.{Value}
+use Rattle.fs_field.specs.Field.{file_of}
 use Rattle.fs_field.specs.Table.{same_no}
 use Rattle.fs_lease.specs.Lease.{Lease as Term, InUse}
 use Rattle.fs_msg.specs.declared.answer.Answer.{Answer}
@@ -20,6 +21,7 @@ use Rattle.fs_msg.specs.declared.entry.Entry.{Entry}
 use Rattle.fs_msg.specs.declared.item.Item.{Item}
 use Rattle.fs_client.specs.Answers.{over_after}
 use Rattle.fs_client.specs.Client.{admitted_one, admitted_all, with_shipped}
+use Rattle.fs_client.specs.Turns.{pair_of}
 use Rattle.fs_client.specs.declared.state.Client.{Client}
 use Rattle.fs_view.specs.declared.kept.Kept.{Kept}
 use Rattle.fs_view.specs.declared.kept.Standing.{Standing}
@@ -34,7 +36,7 @@ use Rattle.fs_serial.specs.Settled.{Lease, Settled, lease_in, lease_after, effec
 use Rattle.fs_serial.specs.Sight.{Sight}
 use Rattle.fs_serial.proofs.Facts.{In-mapped, each_image}
 use Rattle.fs_serial.proofs.Heard.{IsHeard, heard, quiet_exchange}
-use Rattle.fs_serial.proofs.ReplyPins.{distinct_mapped, turned}
+use Rattle.fs_serial.proofs.ReplyPins.{distinct_mapped, pair_in, turned}
 use Rattle.fs_serial.proofs.Seats.{Seat, seen_at}
 
 -- ## One use less
@@ -54,6 +56,9 @@ free_keeps f held pinned (Pinned u) = within (u.entries == 1)
 
 free_number : (s : Standing) → number_of (unpinned s) ≡ number_of s
 free_number = free_keeps number_of (λ l. refl) (λ u w e. ap (λ (l : Term). l.no) e)
+
+free_pair : (s : Standing) → pair_in (unpinned s) ≡ pair_in s
+free_pair = free_keeps pair_in (λ l. refl) (λ u w e. ap (λ (l : Term). let p : List ℕ × LeaseNo = (file_of l.field, l.no) in p) e)
 
 free_leaving : (s : Standing) → is_leaving (unpinned s) ≡ is_leaving s
 free_leaving = free_keeps is_leaving (λ l. refl) (λ u w e. refl)
@@ -100,18 +105,18 @@ distinct_all (u ∷ us) ks h = distinct_all us (unpinned_at u.no ks) (distinct_m
 pub record WasKept (ks : List Kept) (k : Kept) : Type 0 where
   pub kept : Kept
   pub among : In kept ks
-  pub number : number_of kept.standing ≡ number_of k.standing
+  pub pair : pair_of kept ≡ pair_of k
   pub leaving : is_leaving kept.standing ≡ is_leaving k.standing
 
 was_all : (us : List Use) (ks : List Kept) (k : Kept) → In k (unpinned_all us ks) → WasKept ks k
-was_all [] ks k i = record { kept = k; among = i; number = refl; leaving = refl }
+was_all [] ks k i = record { kept = k; among = i; pair = refl; leaving = refl }
 was_all (u ∷ us) ks k i =
     let q = was_all us (unpinned_at u.no ks) k i in
     let p = In-map (one_unpin u.no) q.kept ks q.among in
     record {
       kept = p.0;
       among = p.1.0;
-      number = sym (one_keeps number_of free_number u.no p.0) ∙ ap (λ (x : Kept). number_of x.standing) (sym p.1.1) ∙ q.number;
+      pair = sym (one_keeps pair_in free_pair u.no p.0) ∙ ap pair_of (sym p.1.1) ∙ q.pair;
       leaving = sym (one_keeps is_leaving free_leaving u.no p.0) ∙ ap (λ (x : Kept). is_leaving x.standing) (sym p.1.1) ∙ q.leaving;
     }
 
@@ -186,7 +191,7 @@ module _ (by : Session) (c : Client) (x : Entry) (es : List Entry) (first : c.lo
   was k i =
       let q = was_all x.uses (map (knowing by eff) c.view.leases) k i in
       let p = In-map (knowing by eff) q.kept c.view.leases q.among in
-      record { kept = p.0; among = p.1.0; number = ap (λ (y : Kept). number_of y.standing) (sym p.1.1) ∙ q.number; leaving = ap (λ (y : Kept). is_leaving y.standing) (sym p.1.1) ∙ q.leaving }
+      record { kept = p.0; among = p.1.0; pair = ap pair_of (sym p.1.1) ∙ q.pair; leaving = ap (λ (y : Kept). is_leaving y.standing) (sym p.1.1) ∙ q.leaving }
 
   one_client : ClientFits by then
   one_client = record {
@@ -208,19 +213,19 @@ pub record HasAdmitted (by : Session) (c d : Client) (later : Settled) : Type 0 
   pub was : (k : Kept) → In k d.view.leases → WasKept c.view.leases k
 
 one_admitted : (by : Session) (c : Client) (log : List Entry) → c.log ≡ log → ClientFits by c → HasAdmitted by c (admitted_one c c.log) (acknowledged by c.log (settled_now c))
-one_admitted by c [] e f = subst (λ es. HasAdmitted by c (admitted_one c es) (acknowledged by es (settled_now c))) (sym e) (record { settled = refl; client = f; was = λ k i. record { kept = k; among = i; number = refl; leaving = refl } })
+one_admitted by c [] e f = subst (λ es. HasAdmitted by c (admitted_one c es) (acknowledged by es (settled_now c))) (sym e) (record { settled = refl; client = f; was = λ k i. record { kept = k; among = i; pair = refl; leaving = refl } })
 one_admitted by c (x ∷ es) e f = subst (λ d. HasAdmitted by c d (acknowledged by c.log (settled_now c))) (is_then by c x es e f) (subst (λ l. HasAdmitted by c (then by c x es e f) (acknowledged by l (settled_now c))) (sym e)
     (record { settled = one_settled by c x es e f; client = one_client by c x es e f; was = was by c x es e f }))
 
 all_admitted : (by : Session) (k : ℕ) (c : Client) → ClientFits by c → HasAdmitted by c (admitted_all k c) (acknowledged_all by k (settled_now c))
-all_admitted by zero c f = record { settled = refl; client = f; was = λ k i. record { kept = k; among = i; number = refl; leaving = refl } }
+all_admitted by zero c f = record { settled = refl; client = f; was = λ k i. record { kept = k; among = i; pair = refl; leaving = refl } }
 all_admitted by (suc k) c f =
     let p = one_admitted by c c.log refl f in
     let q = all_admitted by k (admitted_one c c.log) p.client in
     record {
       settled = q.settled ∙ ap (acknowledged_all by k) p.settled;
       client = q.client;
-      was = λ x i. let a = q.was x i in let b = p.was a.kept a.among in record { kept = b.kept; among = b.among; number = b.number ∙ a.number; leaving = b.leaving ∙ a.leaving };
+      was = λ x i. let a = q.was x i in let b = p.was a.kept a.among in record { kept = b.kept; among = b.among; pair = b.pair ∙ a.pair; leaving = b.leaving ∙ a.leaving };
     }
 
 -- all that holds of its session
@@ -233,7 +238,7 @@ seat_shipped skew greatest s by replied c up count e rest h =
     let seen : seen_at by c (Shipped count e ∷ rest) ≡ seen_at by then_ rest = ap (settled by rest) (sym now) in
     let returns : ReturnsFit s.given s.rows by then_.view.leases (seen_at by then_ rest).leases = λ k i t.
     let p = q.was k i in
-    subst (λ n. ReturnFits s.given s.rows by (seen_at by then_ rest).leases n) p.number (subst (λ (d : Settled). ReturnFits s.given s.rows by d.leases (number_of p.kept.standing)) seen (h.exchange.returns p.kept p.among (p.leaving ∙ t))) in
+    subst (λ n. ReturnFits s.given s.rows by (seen_at by then_ rest).leases n) p.pair (subst (λ (d : Settled). ReturnFits s.given s.rows by d.leases (pair_of p.kept)) seen (h.exchange.returns p.kept p.among (p.leaving ∙ t))) in
     record {
       holds = subst (SessionHolds skew greatest s by replied) seen h.holds;
       fits = subst (SessionFits skew greatest s by) seen h.fits;

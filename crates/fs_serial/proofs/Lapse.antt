@@ -125,7 +125,7 @@ module _ (by : Session) (c : Client) (now : ℕ) (f : ClientFits by c) where
     exchange = refl;
     fewer = λ k i. record { kept = k; among = was k i; number = refl };
     log = sym (append-nil c.log);
-    went = λ k i t. record { kept = k; among = was k i; number = refl; leaving = t };
+    went = λ k i t. record { kept = k; among = was k i; pair = refl; leaving = t };
     goes = λ k i t. record { kept = k; among = stays k i (leaving_stays at k.standing t); number = refl; leaving = t };
   }
 

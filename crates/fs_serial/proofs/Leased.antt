@@ -88,7 +88,7 @@ module _ (skew greatest : ℕ) (by : Session) (t : Sight) (d : Settled) (l : Lea
     fresh = each_more (λ (k : Lease). (dir : List ℕ) → k.below ≡ Some dir → IsFresh dir k) d.leases l f.fresh fits.fresh;
     held = λ e h u i. let q = f.held e h u i in record { lease = q.lease; held = In-front q.lease d.leases (l ∷ []) q.held; number = q.number; field = q.field; kind = q.kind };
     backed = f.backed;
-    entries = λ e h. let q = f.entries e h in record { plain = q.plain; access = q.access; named = names_still d.leases (l ∷ []) e.uses e.op e.reply q.named };
+    entries = λ e h. let q = f.entries e h in record { plain = q.plain; access = q.access; named = names_still d.leases (l ∷ []) e.uses e.op e.reply q.named; home = q.home };
     once = f.once;
     refused = f.refused;
   }

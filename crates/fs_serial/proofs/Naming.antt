@@ -136,7 +136,7 @@ deeper_behind : (n : Need) (b : Bool) (w : Walk) (x : Need) → In x w.items →
 deeper_behind n true w x i = inr i
 deeper_behind n false w x i = inr i
 
-reply_behind : (n : Need) (b : Bool) (w : Walk) (r : Reply) → (behind n b w).reply ≡ Some r → w.reply ≡ Some r
+pub reply_behind : (n : Need) (b : Bool) (w : Walk) (r : Reply) → (behind n b w).reply ≡ Some r → w.reply ≡ Some r
 reply_behind n true w r h = h
 reply_behind n false w r h = absurd (cc)
 

@@ -11,14 +11,16 @@ use Rattle.fs_field.specs.Table.{has_no, renewed_row, same_no}
 use Rattle.fs_field.proofs.Leases.{renewed_same}
 use Rattle.fs_msg.specs.declared.item.Item.{Item}
 use Rattle.fs_server.specs.Pairs.{end_told, ends_told, released_rows, renewed_rows}
+use Rattle.fs_view.specs.Kept.{number_of}
 use Rattle.fs_view.proofs.Places.{same_no_is}
-use Rattle.fs_serial.specs.Exchange.{IsReturned, ReturnFits}
+use Rattle.fs_client.specs.Turns.{pair_of}
+use Rattle.fs_serial.specs.Exchange.{IsReturned}
 use Rattle.fs_serial.specs.Leases.{IsBacked}
 use Rattle.fs_serial.specs.Settled.{Settled}
 use Rattle.fs_serial.specs.Sight.{Sight}
 use Rattle.fs_serial.specs.World.{Ends, GoesOn}
 use Rattle.fs_serial.proofs.Facts.{In-mapped, any-In}
-use Rattle.fs_serial.proofs.Going.{goes_still}
+use Rattle.fs_serial.proofs.Going.{RowsChange, goes_still}
 use Rattle.fs_serial.proofs.RowKinds.{ends_no_sooner, ends_then, row_goes, row_renewed, with_rows}
 
 -- ## Renewals
@@ -69,13 +71,15 @@ ends_backed until ns rows n end i =
 
 -- ## Releases
 
-returned_fits : (skew greatest : ℕ) (s : Sight) (replied : Session → List Item) (ends : Session → Ends) (clients : Session → Settled) (by : Session) (n : LeaseNo) → GoesOn skew greatest s replied ends clients → IsReturned (ends by).client.view.leases n → ReturnFits s.given s.rows by (clients by).leases n
-returned_fits skew greatest s replied ends clients by n h r = subst (ReturnFits s.given s.rows by (clients by).leases) r.number (h.carried.returns by r.kept r.among r.leaving)
-
 pub rows_released : (skew greatest : ℕ) (s : Sight) (replied : Session → List Item) (ends : Session → Ends) (clients : Session → Settled) (by : Session) (ns : List LeaseNo) (rows : List Row) → ((n : LeaseNo) → In n ns → IsReturned (ends by).client.view.leases n) → GoesOn skew greatest (with_rows rows s) replied ends clients
     → GoesOn skew greatest (with_rows (released_rows ns rows) s) replied ends clients
 rows_released skew greatest s replied ends clients by [] rows back h = h
 rows_released skew greatest s replied ends clients by (n ∷ ns) rows back h =
     rows_released skew greatest s replied ends clients by ns (filter (λ r. not (has_no n r)) rows) (λ m i. back m (inr i))
     (goes_still skew greatest (with_rows rows s) (with_rows (filter (λ r. not (has_no n r)) rows) s) replied ends clients
-    (row_goes skew greatest (with_rows rows s) replied clients by n h.all (returned_fits skew greatest (with_rows rows s) replied ends clients by n h (back n (inl refl)))) h)
+    (row_gone rows n (back n (inl refl)) h) h)
+  where
+    row_gone : (rows : List Row) (n : LeaseNo) → IsReturned (ends by).client.view.leases n → GoesOn skew greatest (with_rows rows s) replied ends clients → RowsChange skew greatest (with_rows rows s) (with_rows (filter (λ r. not (has_no n r)) rows) s) clients
+    row_gone rows n r h =
+        let x : RowsChange skew greatest (with_rows rows s) (with_rows (filter (λ z. not (has_no (number_of r.kept.standing) z)) rows) s) clients = row_goes skew greatest (with_rows rows s) replied clients by (pair_of r.kept) h.all (h.carried.returns by r.kept r.among r.leaving) in
+        subst (λ m. RowsChange skew greatest (with_rows rows s) (with_rows (filter (λ z. not (has_no m z)) rows) s) clients) r.number x

@@ -157,7 +157,7 @@ module _ (skew greatest : ℕ) (s : Sight) (by : Session) (replied : List Item) 
     exchange = refl;
     fewer = λ k i. record { kept = k; among = i; number = refl };
     log = sym (append-nil c.log);
-    went = λ k i z. record { kept = k; among = i; number = refl; leaving = z };
+    went = λ k i z. record { kept = k; among = i; pair = refl; leaving = z };
     goes = λ k i z. record { kept = k; among = i; number = refl; leaving = z };
   }
 

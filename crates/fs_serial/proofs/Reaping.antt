@@ -37,7 +37,7 @@ use Rattle.fs_serial.specs.Relies.{Relies}
 use Rattle.fs_serial.specs.Rows.{PromisesKept, RowsShaped}
 use Rattle.fs_serial.specs.Serial.{AreSound, JournalSerial}
 use Rattle.fs_serial.specs.Settled.{Settled}
-use Rattle.fs_serial.specs.Sight.{Sight, reaps_at, sight_of}
+use Rattle.fs_serial.specs.Sight.{Counts, Sight, sight_of}
 use Rattle.fs_serial.proofs.Facts.{items-other, made-append, made_before, records_all, serial_push}
 use Rattle.fs_serial.proofs.Relied.{relied_fits, relied_holds}
 use Rattle.fs_serial.proofs.Reply.{number_more}
@@ -89,23 +89,23 @@ value_same m rows file by shaped before kept gone x r i own =
 
 -- ## Numbers of reaps
 
-one_reap : (b : Bool) (is : List Item) (n : ℕ) (i : Item) → i.n ≡ n + 1 → AreNumbered 1 is (cond b n 0 + 1) → AreNumbered 1 (is ++ cond b (i ∷ []) []) (cond b (n + 1) 0 + 1)
-one_reap true is n i e h = number_more 1 is (n + 1) i h e
-one_reap false is n i e h = subst (λ js. AreNumbered 1 js 1) (sym (append-nil is)) h
+one_reap : (b : Bool) (is : List Item) (n others : ℕ) (i : Item) → i.n ≡ n + 1 → AreNumbered 1 is (cond b n others + 1) → AreNumbered 1 (is ++ cond b (i ∷ []) []) (cond b (n + 1) others + 1)
+one_reap true is n others i e h = number_more 1 is (n + 1) i h e
+one_reap false is n others i e h = subst (λ js. AreNumbered 1 js (others + 1)) (sym (append-nil is)) h
 
-module _ (skew greatest : ℕ) (s : Server) (journal : List Item) (file : List ℕ) (by : Session) (sh : ServersHold (sight_of s journal)) (sf : ServersFit (sight_of s journal))
+module _ (o : Counts) (skew greatest : ℕ) (s : Server) (journal : List Item) (file : List ℕ) (by : Session) (sh : ServersHold (sight_of o s journal)) (sf : ServersFit (sight_of o s journal))
     (gone : has_own s.rows file by ≡ false) (free : reap_blocker (selves_in s.records file) s.rows by file ≡ None) where
   abbrev item : Item
   item = reap_item s.me (s.reaps + 1) file by
 
   abbrev after : Sight
-  after = sight_of (with_reap file by s) (journal ++ item ∷ [])
+  after = sight_of o (with_reap file by s) (journal ++ item ∷ [])
 
   promises : PromisesKept after.records s.rows
   promises = promises_reaped s.records s.rows file by sf.sound.records free sh.promises
 
   -- whoever relies on what was before can go on, also the session that loses its handles
-  pub reap_relied : (x : Session) → Relies skew greatest x (sight_of s journal) after
+  pub reap_relied : (x : Session) → Relies skew greatest x (sight_of o s journal) after
   reap_relied x = record {
     given = λ k. omega arith;
     older = λ r i old. record { row = r; stood = i; number = refl; session = refl; field = refl; kind = refl };
@@ -123,7 +123,7 @@ module _ (skew greatest : ℕ) (s : Server) (journal : List Item) (file : List �
   reaped k =
       let more : items_at k after.journal ≡ items_at k journal ++ cond (k == s.me) (item ∷ []) [] =
       filter-append (λ (i : Item). is_server k i.by) journal (item ∷ []) ∙ ap (λ b. items_at k journal ++ cond b (item ∷ []) []) (nat_eq_equiv.symm s.me k) in
-      subst (λ is. AreNumbered 1 is (reaps_at (with_reap file by s) k + 1)) (sym more) (one_reap (k == s.me) (items_at k journal) s.reaps item refl (sh.reaped k))
+      subst (λ is. AreNumbered 1 is (after.reaps k + 1)) (sym more) (one_reap (k == s.me) (items_at k journal) s.reaps (o.reaps k) item refl (sh.reaped k))
 
   sound : AreSound after.records
   sound = record {
@@ -132,13 +132,13 @@ module _ (skew greatest : ℕ) (s : Server) (journal : List Item) (file : List �
   }
 
   made_still : NodesMade after.records after.journal
-  made_still id kind p = made-append journal item id ∙ ap (λ o. or_else o None) (sf.made id kind (sym (kind_same s.records file by id) ∙ p))
+  made_still id kind p = made-append journal item id ∙ ap (λ x. or_else x None) (sf.made id kind (sym (kind_same s.records file by id) ∙ p))
 
   pub reap_holds : ServersHold after
   reap_holds = record { apart = sh.apart; promises = promises; serial = serial; reaped = reaped }
 
   pub reap_fits : ServersFit after
-  reap_fits = record { shaped = sf.shaped; given = sf.given; sound = sound; made = made_still }
+  reap_fits = record { shaped = sf.shaped; counted = sf.counted; given = sf.given; sound = sound; made = made_still }
 
   -- ## Identifiers
 
@@ -161,15 +161,15 @@ module _ (skew greatest : ℕ) (s : Server) (journal : List Item) (file : List �
 
 -- ## All parts
 
-pub reap_keeps : (skew greatest : ℕ) (s : Server) (journal : List Item) (replied : Session → List Item) (clients : Session → Settled) (file : List ℕ) (by : Session) → AllHold skew greatest (sight_of s journal) replied clients → has_own s.rows file by ≡ false
-    → reap_blocker (selves_in s.records file) s.rows by file ≡ None → AllHold skew greatest (sight_of (with_reap file by s) (journal ++ reap_item s.me (s.reaps + 1) file by ∷ [])) replied clients
-reap_keeps skew greatest s journal replied clients file by h gone free =
-    let after : Sight = sight_of (with_reap file by s) (journal ++ reap_item s.me (s.reaps + 1) file by ∷ []) in
-    let rely : (x : Session) → Relies skew greatest x (sight_of s journal) after = reap_relied skew greatest s journal file by h.servers h.kept gone free in
+pub reap_keeps : (o : Counts) (skew greatest : ℕ) (s : Server) (journal : List Item) (replied : Session → List Item) (clients : Session → Settled) (file : List ℕ) (by : Session) → AllHold skew greatest (sight_of o s journal) replied clients → has_own s.rows file by ≡ false
+    → reap_blocker (selves_in s.records file) s.rows by file ≡ None → AllHold skew greatest (sight_of o (with_reap file by s) (journal ++ reap_item s.me (s.reaps + 1) file by ∷ [])) replied clients
+reap_keeps o skew greatest s journal replied clients file by h gone free =
+    let after : Sight = sight_of o (with_reap file by s) (journal ++ reap_item s.me (s.reaps + 1) file by ∷ []) in
+    let rely : (x : Session) → Relies skew greatest x (sight_of o s journal) after = reap_relied o skew greatest s journal file by h.servers h.kept gone free in
     record {
-      servers = reap_holds skew greatest s journal file by h.servers h.kept gone free;
-      kept = reap_fits skew greatest s journal file by h.servers h.kept gone free;
-      sessions = λ x. relied_holds skew greatest x (sight_of s journal) after (clients x) (rely x) (h.fitting x) (replied x) (h.sessions x);
-      fitting = λ x. relied_fits skew greatest x (sight_of s journal) after (clients x) (rely x) (h.fitting x);
-      reserved = reap_reserved skew greatest s journal file by h.servers h.kept gone free (reserved_by clients) h.reserved;
+      servers = reap_holds o skew greatest s journal file by h.servers h.kept gone free;
+      kept = reap_fits o skew greatest s journal file by h.servers h.kept gone free;
+      sessions = λ x. relied_holds skew greatest x (sight_of o s journal) after (clients x) (rely x) (h.fitting x) (replied x) (h.sessions x);
+      fitting = λ x. relied_fits skew greatest x (sight_of o s journal) after (clients x) (rely x) (h.fitting x);
+      reserved = reap_reserved o skew greatest s journal file by h.servers h.kept gone free (reserved_by clients) h.reserved;
     }

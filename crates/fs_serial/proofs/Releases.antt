@@ -12,7 +12,6 @@ use Rattle.fs_msg.specs.declared.client_msg.ClientMsg.{ClientMsg}
 use Rattle.fs_msg.specs.declared.client_msg.ClientMsg.TheVariants.{Release}
 use Rattle.fs_msg.specs.declared.entry.Entry.{Entry}
 use Rattle.fs_msg.specs.declared.item.Item.{Item}
-use Rattle.fs_client.specs.Acts.{home_server}
 use Rattle.fs_client.specs.Client.{with_release}
 use Rattle.fs_client.specs.Turns.{pair_of, numbers_in, returned, has_to_go}
 use Rattle.fs_client.specs.declared.exchange.Exchange.TheVariants.{Releases}
@@ -23,13 +22,14 @@ use Rattle.fs_view.specs.declared.kept.Standing.{Standing}
 use Rattle.fs_view.specs.declared.kept.Standing.TheVariants.{Held, Pinned, Leaving}
 use Rattle.fs_view.specs.Kept.{number_of, is_leaving, is_pinned, entries_of, lease_of}
 use Rattle.fs_serial.specs.Client.{KeptDistinct, times_in}
-use Rattle.fs_serial.specs.Exchange.{due, IsFront, IsReturned, ReturnFits, ReturnsFit}
+use Rattle.fs_serial.specs.Exchange.{due, IsFront, IsReturned, PairFits, ReturnFits, ReturnsFit}
 use Rattle.fs_serial.specs.Parts.{SessionHolds, SessionFits}
 use Rattle.fs_serial.specs.Pending.{HasLease}
 use Rattle.fs_serial.specs.Settled.{Lease, Settled, lease_in, lease_with, settled_now}
 use Rattle.fs_serial.specs.Sight.{Sight}
 use Rattle.fs_serial.proofs.Fewer.{HasFewer, fewer_holds, fewer_fits}
 use Rattle.fs_serial.proofs.Heard.{quiet_renewed}
+use Rattle.fs_serial.proofs.KeptPairs.{kept_pair, releases_pairs}
 use Rattle.fs_serial.proofs.Knowing.{In-filter_map, from-filter_map}
 use Rattle.fs_serial.proofs.Lapse.{IsUsed, its_number, used_in}
 use Rattle.fs_serial.proofs.Seats.{Seat, seen_at, idle_due, settled_none}
@@ -64,15 +64,15 @@ In-passed test x (y ∷ ys) h =
       | false ↦ λ e i. In-passed test x ys i
     ] refl h
 
-module _ (skew greatest : ℕ) (s : Sight) (by : Session) (replied : List Item) (c : Client) (up : List ClientMsg) (down : List Answer) (idle : c.exchange ≡ None) (h : Seat skew greatest s by replied c up down) where
-  abbrev ks : List Kept
-  ks = returned c.view
-
+module _ (skew greatest : ℕ) (s : Sight) (by : Session) (replied : List Item) (c : Client) (up : List ClientMsg) (down : List Answer) (to : ℕ) (ks : List Kept) (these : (k : Kept) → In k ks → In k (returned c.view)) (idle : c.exchange ≡ None) (h : Seat skew greatest s by replied c up down) where
   abbrev ns : List LeaseNo
   ns = numbers_in ks
 
   abbrev then : Client
-  then = with_release home_server ns c
+  then = with_release to ns c
+
+  among : (k : Kept) → In k ks → In k c.view.leases
+  among k i = In-filter (λ (k : Kept). has_to_go k.recalled k.standing) k c.view.leases (these k i)
 
   none : (up ≡ []) × (due down ≡ [])
   none = idle_due c c.exchange up down idle h.exchange.one
@@ -107,11 +107,11 @@ module _ (skew greatest : ℕ) (s : Sight) (by : Session) (replied : List Item) 
   distinct = all_distinct ns c.view h.client.distinct
 
   -- an old one
-  still_returned : (k : Kept) → ReturnFits s.given s.rows by (settled_now c).leases (number_of k.standing) → ReturnFits s.given s.rows by (settled_now then).leases (number_of k.standing)
-  still_returned k q = record { known = q.known; alone = λ m i. q.alone m (fewer.fewer m i); own = q.own }
+  still_returned : (k : Kept) → ReturnFits s.given s.rows by (settled_now c).leases (pair_of k) → ReturnFits s.given s.rows by (settled_now then).leases (pair_of k)
+  still_returned k q = record { fits = q.fits; alone = λ m i. q.alone m (fewer.fewer m i); own = q.own }
 
   -- a new one
-  new_returned : (k : Kept) → In k then.view.leases → is_leaving k.standing ≡ true → (q : CameFrom c.view.leases k) → is_leaving q.kept.standing ≡ false → ReturnFits s.given s.rows by (settled_now then).leases (number_of k.standing)
+  new_returned : (k : Kept) → In k then.view.leases → is_leaving k.standing ≡ true → (q : CameFrom c.view.leases k) → is_leaving q.kept.standing ≡ false → ReturnFits s.given s.rows by (settled_now then).leases (pair_of k)
   new_returned k i t q stays =
       let p : HasTerm q.kept.standing = has_term q.kept.standing stays in
       let l : Lease = lease_with q.kept p.term in
@@ -119,7 +119,7 @@ module _ (skew greatest : ℕ) (s : Sight) (by : Session) (replied : List Item) 
       let there : In l (seen_at by c down).leases = subst (λ (d : Settled). In l d.leases) (sym now) (In-filter_map lease_in q.kept l c.view.leases q.among is) in
       let no : l.no ≡ number_of k.standing = sym (its_number q.kept l is) ∙ q.number in
       record {
-        known = subst (λ n. n.count ≤ s.given n.server) no (h.fits.given l there);
+        fits = subst (PairFits s.given s.rows) q.pair (kept_pair skew greatest s by replied c up down idle h q.kept q.among);
         alone = λ m j e.
             let x = from-filter_map lease_in m then.view.leases j in
             let same : x.0 ≡ k = distinct x.0 k x.1 i (its_number x.0 m x.2 ∙ e) in
@@ -130,26 +130,26 @@ module _ (skew greatest : ℕ) (s : Sight) (by : Session) (replied : List Item) 
   returns : ReturnsFit s.given s.rows by then.view.leases (settled_now then).leases
   returns k i t =
       let q : CameFrom c.view.leases k = came_all ns c.view k i in
-      elim (is_leaving q.kept.standing) as (λ b. is_leaving q.kept.standing ≡ b → ReturnFits s.given s.rows by (settled_now then).leases (number_of k.standing)) [
-        | true ↦ λ z. still_returned k (subst (ReturnFits s.given s.rows by (settled_now c).leases) q.number (subst (λ (d : Settled). ReturnFits s.given s.rows by d.leases (number_of q.kept.standing)) now (h.exchange.returns q.kept q.among z)))
+      elim (is_leaving q.kept.standing) as (λ b. is_leaving q.kept.standing ≡ b → ReturnFits s.given s.rows by (settled_now then).leases (pair_of k)) [
+        | true ↦ λ z. still_returned k (subst (ReturnFits s.given s.rows by (settled_now c).leases) q.pair (subst (λ (d : Settled). ReturnFits s.given s.rows by d.leases (pair_of q.kept)) now (h.exchange.returns q.kept q.among z)))
         | false ↦ λ z. new_returned k i t q z
       ] refl
 
-  asks : IsAsking c (Releases home_server ns) (Release (map pair_of ks)) then.view.leases (settled_now then)
+  asks : IsAsking s.given s.rows c (Releases to ns) (Release (map pair_of ks)) then.view.leases (settled_now then)
   asks = record {
     question = pair_numbers_of ks;
-    first = refl;
     ships = tt;
     front = λ entries i. elim i as (λ _. IsFront entries (settled_now then)) [ inl e ↦ absurd (cc) | inr z ↦ absurd z ];
     released = λ n i.
         let q = In-map (λ (k : Kept). number_of k.standing) n ks i in
-        let j : In q.0 c.view.leases = In-filter (λ (k : Kept). has_to_go k.recalled k.standing) q.0 c.view.leases q.1.0 in
+        let j : In q.0 c.view.leases = among q.0 q.1.0 in
         subst (IsReturned then.view.leases) (sym q.1.1) (left_all ns c.view q.0 j (subst (λ m. In m ns) q.1.1 i) (unused_returned q.0.recalled q.0.standing (goes_back q.0 q.1.0)));
     kinds = λ xs f i x j. elim i as (λ _. kind_for x.0 x.1 ≡ x.1) [ inl e ↦ absurd (cc) | inr z ↦ absurd z ];
+    pairs = releases_pairs s.given s.rows ks (λ k i. kept_pair skew greatest s by replied c up down idle h k (among k i));
   }
     where
       goes_back : (k : Kept) → In k ks → has_to_go k.recalled k.standing ≡ true
-      goes_back k i = In-passed (λ (k : Kept). has_to_go k.recalled k.standing) k c.view.leases i
+      goes_back k i = In-passed (λ (k : Kept). has_to_go k.recalled k.standing) k c.view.leases (these k i)
 
   pub seat_releases : Seat skew greatest s by replied then (up ++ Release (map pair_of ks) ∷ []) down
   seat_releases = record {
@@ -163,8 +163,8 @@ module _ (skew greatest : ℕ) (s : Sight) (by : Session) (replied : List Item) 
       pinned = λ k i. let q : CameFrom c.view.leases k = came_all ns c.view k i in sym q.entries ∙ h.client.pinned q.kept q.among ∙ ap (λ n. times_in n c.log) q.number;
       held = λ x i u j. let q : HasLease (settled_now c).leases u = h.client.held x i u j in record { lease = q.lease; held = fewer.still q.lease q.held (record { entry = x; logged = i; used = u; among = j; number = sym q.number }); number = q.number; field = q.field; kind = q.kind };
     };
-    exchange = asking_exchange skew greatest s.given s.rows by c then (Releases home_server ns) (Release (map pair_of ks)) up down (settled_now then) (seen_at by then down) refl refl none.0 none.1
-        (subst (IsAsking c (Releases home_server ns) (Release (map pair_of ks)) then.view.leases) (sym later) asks)
+    exchange = asking_exchange skew greatest s.given s.rows by c then (Releases to ns) (Release (map pair_of ks)) up down (settled_now then) (seen_at by then down) refl refl none.0 none.1
+        (subst (IsAsking s.given s.rows c (Releases to ns) (Release (map pair_of ks)) then.view.leases) (sym later) asks)
         (subst (λ (d : Settled). ReturnsFit s.given s.rows by then.view.leases d.leases) (sym later) returns)
         (λ ends e i. absurd (quiet_renewed down none.1 ends e i));
   }

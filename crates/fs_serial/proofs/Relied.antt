@@ -15,12 +15,12 @@ use Rattle.fs_msg.specs.declared.entry.Entry.{Entry}
 use Rattle.fs_msg.specs.declared.item.Item.{Item}
 use Rattle.fs_record.specs.ValueOf.{value_of}
 use Rattle.fs_view.specs.declared.kept.Kept.{Kept}
-use Rattle.fs_view.specs.Kept.{number_of}
 use Rattle.fs_view.specs.Laws.{HasToo}
 use Rattle.fs_view.specs.Script.{script_of}
 use Rattle.fs_view.specs.View.{value_after_all}
 use Rattle.fs_view.specs.Walk.{walk, always}
 use Rattle.fs_view.proofs.Walks.{alike}
+use Rattle.fs_client.specs.Turns.{pair_of}
 use Rattle.fs_serial.specs.Exchange.{ReturnsFit, RenewalsBacked}
 use Rattle.fs_serial.specs.Leases.{IsBacked, LeasesBacked, LeasesTrue, LeasesMatch}
 use Rattle.fs_server.specs.Ships.{item_of}
@@ -30,6 +30,7 @@ use Rattle.fs_serial.specs.Pending.{AllStand, IsAnswer, IsCovered, PendingStand,
 use Rattle.fs_serial.specs.Relies.{Relies, Stood}
 use Rattle.fs_serial.specs.Settled.{Lease, Settled, effects_in}
 use Rattle.fs_serial.specs.Sight.{Sight, IsGiven}
+use Rattle.fs_serial.proofs.Older.{later_pair}
 
 -- ## Answers
 
@@ -175,9 +176,9 @@ module _ (skew greatest : ℕ) (by : Session) (s t : Sight) (d : Settled) (rely 
   still_returns kept h k i leaving =
       let q = h k i leaving in
       record {
-        known = still_given (number_of k.standing) q.known;
+        fits = later_pair s.given t.given s.rows t.rows (record { given = rely.given; older = rely.older }) (pair_of k) q.fits;
         alone = q.alone;
-        own = λ r j e. let p = rely.older r j (subst (λ n. IsGiven s.given n) (sym e) q.known) in sym p.session ∙ q.own p.row p.stood (p.number ∙ e);
+        own = λ r j e. let p = rely.older r j (subst (λ n. IsGiven s.given n) (sym e) q.fits.known) in sym p.session ∙ q.own p.row p.stood (p.number ∙ e);
       }
 
   -- a renewal on its way to a lease whose image the session has

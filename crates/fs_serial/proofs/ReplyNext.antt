@@ -1,5 +1,5 @@
 -- A client's next entry, by what its leases tell.
-use Rattle.std.proofs.Common.{◌≡◌, ℕ, ◌+◌, ◌==◌, ◌&&◌, Bool, true, false, not, List, [], ◌∷◌, ◌++◌, length, map, refl, sym, ap, ◌∙◌, subst, inl, inr, cond, arith, length-append}
+use Rattle.std.proofs.Common.{◌≡◌, ℕ, ◌+◌, ◌==◌, ◌&&◌, Bool, true, false, not, List, [], ◌∷◌, ◌++◌, ◌⊎◌, length, map, refl, sym, ap, ◌∙◌, subst, inl, inr, cond, arith, length-append}
 use Rattle.std.specs.Prelude.{Option, Some, None, is_some, nat_lt, option_map}
 use Rattle.std.specs.List.{list_any}
 use Rattle.std.proofs.Math.Seq.{take-append_seam}
@@ -30,6 +30,7 @@ use Rattle.fs_model.specs.declared.reply.Reply.TheVariants as reply
 use Rattle.fs_model.proofs.SoundRuns.{asks_access}
 use Rattle.fs_msg.specs.declared.answer.Answer.{Answer}
 use Rattle.fs_msg.specs.declared.entry.Entry.{Entry}
+use Rattle.fs_msg.specs.Home.{home_of}
 use Rattle.fs_record.specs.Effects.{tells_its_effects}
 use Rattle.fs_client.specs.Acts.{entry_of}
 use Rattle.fs_client.specs.declared.state.Client.{Client}
@@ -39,17 +40,19 @@ use Rattle.fs_view.specs.declared.kept.Standing.TheVariants.{Held, Pinned, Leavi
 use Rattle.fs_view.specs.Kept.{lease_of, use_of, is_enough, file_in, makes, is_pending, is_unused_in}
 use Rattle.fs_view.specs.Laws.{HasToo}
 use Rattle.fs_view.specs.Script.{script_of}
-use Rattle.fs_view.specs.View.{View, known_by, given_by, fresh, walk_in, reply_in, value_after_log}
+use Rattle.fs_view.specs.View.{View, known_by, given_by, fresh, item_use, walk_in, reply_in, value_after_log}
 use Rattle.fs_view.specs.Walk.{walk, always}
 use Rattle.fs_view.proofs.Walks.{alike}
 use Rattle.fs_serial.specs.Client.{ClientFits}
 use Rattle.fs_serial.specs.Fresh.{made_by, or_else}
 use Rattle.fs_serial.specs.Leases.{IsFresh, FreshLeases}
-use Rattle.fs_serial.specs.Pending.{known_with, IsAnswer, AreEntries, NamesItsFile, named_by}
+use Rattle.fs_serial.specs.Pending.{known_with, IsAnswer, AreEntries, NamesItsFile, UsesAtHome, named_by}
 use Rattle.fs_serial.specs.Settled.{Lease, Settled, lease_in, lease_with, settled_now, settled, effects_in}
+use Rattle.fs_serial.specs.World.{is_called}
 use Rattle.fs_serial.proofs.Births.{life_after, makes_there}
 use Rattle.fs_serial.proofs.Facts.{same_is, same_self}
-use Rattle.fs_serial.proofs.Knowing.{In-filter_map, all_there, IsKnown, known_by_lease, IsOffered, offered_by_lease, used_there, IsUseOf, use_from}
+use Rattle.fs_serial.proofs.HomeAsks.{IsGivenHere, MayGive, called_home, given_home, home_with_id, items_home, names_fresh}
+use Rattle.fs_serial.proofs.Knowing.{In-filter_map, all_there, from-filter_map, IsKnown, known_by_lease, IsOffered, offered_by_lease, used_there, IsUseOf, use_from}
 use Rattle.fs_serial.proofs.Naming.{Covers, IsGivenFor, IsNamedFor, named_for, names_its_file, plain_with_id, access_with_id, right_with_id}
 use Rattle.fs_serial.proofs.Reply.{IsNext, IsOfLease, value_seen}
 use Rattle.fs_serial.proofs.Settling.{Later, later, is_made_by_log, settled_log, settled_next}
@@ -151,6 +154,7 @@ module _ (by : Session) (c : Client) (answers : List Answer) (o : Op) (r : Reply
     pub number : lease.no ≡ used.no
     pub on : used.field ≡ lease.field
     pub of : used.kind ≡ lease.kind
+    pub item : item_use v c.last (need.Fresh dir) ≡ Some used
     -- no entry of the log makes it, nor of what will be left of it
     pub unmade : is_made_by_log by id c.log ≡ false
     pub unmade_later : is_made_by_log by id d.log ≡ false
@@ -181,6 +185,7 @@ module _ (by : Session) (c : Client) (answers : List Answer) (o : Op) (r : Reply
         number = p.number;
         on = sym p.field;
         of = sym p.kind;
+        item = q.used;
         unmade = ap (λ i. is_made_by_log by i c.log) (sym file) ∙ unmade;
         unmade_later = ap (λ i. is_made_by_log by i d.log) (sym file) ∙ p.unmade unmade;
       }
@@ -226,6 +231,29 @@ module _ (by : Session) (c : Client) (answers : List Answer) (o : Op) (r : Reply
     right : IsAnswer values e
     right = let q = right_with_id values e.uses v c.last o r plain may (ap (λ w. w.reply) walked ∙ replied) covers given_for in record { reply = q.reply; covered = q.covered }
 
+  -- ### Where it is handed in
+
+  at_home : UsesAtHome e.op e.uses
+  at_home u i =
+      let q = from-filter_map (item_use v c.last) u (walk_in v c.last o).items i in
+      subst (λ home. (file_of u.field ≡ home) ⊎ (named_by e.op ≡ Some (file_of u.field))) (sym (home_with_id v c.last o r)) (of_item q.0 q.1 q.2)
+    where
+      called : is_called o ≡ true
+      called = joined (tells_its_effects o) (may_ask o) plain may
+
+      of_item : (n : Need) → In n (walk_in v c.last o).items → item_use v c.last n ≡ Some u → (file_of u.field ≡ home_of o) ⊎ (named_by e.op ≡ Some (file_of u.field))
+      of_item (need.Lease field kind) j is =
+          let k : IsKnown v c.last field kind = known_by_lease v c.last field kind (all_there (known_by v c.last) (given_by v c.last) (script_of o) there (need.Lease field kind) j) in
+          let same : use_of k.serving.lease ≡ u = cc (k.used, is) in
+          let home = items_home (MayGive o) (known_by v c.last) (given_by v c.last) (home_of o) (script_of o) (called_home o called) (need.Lease field kind) j in
+          inl (ap (λ (x : Use). file_of x.field) (sym same) ∙ ap file_of k.serving.on ∙ home.1)
+      of_item (need.Fresh dir) j is =
+          let q : IsReservedFor dir = reserved_for dir j in
+          let same : q.used ≡ u = cc (q.item, is) in
+          let g : IsGivenHere (MayGive o) (home_of o) dir r = given_home (MayGive o) (known_by v c.last) (given_by v c.last) (home_of o) (script_of o) (called_home o called) dir r j replied in
+          let file : file_of u.field ≡ q.id = ap (λ (x : Use). file_of x.field) (sym same) ∙ ap file_of (q.on ∙ q.field) in
+          inr (names_fresh v c.last o r g.allowed g.made ∙ ap (fresh v c.last) (sym g.below) ∙ q.offered ∙ ap Some (sym file))
+
   -- ### The entry
 
   named : NamesItsFile d.leases e.uses e.op r
@@ -247,6 +275,6 @@ module _ (by : Session) (c : Client) (answers : List Answer) (o : Op) (r : Reply
     number = sym (settled_next by answers (settled_now c));
     of_lease = of_lease;
     right = right;
-    entry = record { plain = plain_with_id v c.last o r plain; access = access_with_id v c.last o r (asks_access o may); named = named };
+    entry = record { plain = plain_with_id v c.last o r plain; access = access_with_id v c.last o r (asks_access o may); named = named; home = at_home };
     once = once;
   }

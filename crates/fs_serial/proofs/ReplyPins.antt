@@ -19,7 +19,7 @@ use Rattle.fs_client.specs.declared.state.Client.{Client}
 use Rattle.fs_view.specs.declared.kept.Kept.{Kept}
 use Rattle.fs_view.specs.declared.kept.Standing.{Standing}
 use Rattle.fs_view.specs.declared.kept.Standing.TheVariants.{Held, Pinned, Leaving}
-use Rattle.fs_view.specs.Kept.{number_of, entries_of, lease_of, has_number, is_leaving, pinned}
+use Rattle.fs_view.specs.Kept.{number_of, entries_of, file_in, lease_of, has_number, is_leaving, pinned}
 use Rattle.fs_view.specs.View.{pinned_at, pinned_all}
 use Rattle.fs_view.proofs.Places.{same_no_is}
 use Rattle.fs_serial.specs.Client.{ClientFits, KeptDistinct, times_used, times_in}
@@ -38,6 +38,15 @@ pub pin_number : (s : Standing) → number_of (pinned s) ≡ number_of s
 pin_number (Held l) = refl
 pin_number (Pinned u) = refl
 pin_number (Leaving l) = refl
+
+-- the file and the number, as a message names them
+abbrev pub pair_in : Standing → List ℕ × LeaseNo
+pair_in s = (file_in s, number_of s)
+
+pub pin_pair : (s : Standing) → pair_in (pinned s) ≡ pair_in s
+pin_pair (Held l) = refl
+pin_pair (Pinned u) = refl
+pin_pair (Leaving l) = refl
 
 pub pin_leaving : (s : Standing) → is_leaving (pinned s) ≡ is_leaving s
 pin_leaving (Held l) = refl

@@ -1,6 +1,7 @@
 -- A client answers an operation: all that holds of its session.
 use Rattle.std.proofs.Common.{◌≡◌, ℕ, List, [], ◌∷◌, ◌++◌, refl, sym, ap, ◌∙◌, subst}
 use Rattle.fs_ident.specs.In.{In}
+use Rattle.fs_ident.specs.declared.actor.LeaseNo.{LeaseNo}
 use Rattle.fs_ident.specs.declared.actor.Session.{Session}
 use Rattle.fs_ident.proofs.Standing.{In-map}
 use Rattle.fs_field.specs.declared.used.Use.{Use}
@@ -12,6 +13,7 @@ use Rattle.fs_msg.specs.declared.entry.Entry.{Entry}
 use Rattle.fs_msg.specs.declared.item.Item.{Item}
 use Rattle.fs_client.specs.Acts.{entry_of, replies}
 use Rattle.fs_client.specs.Client.{changed}
+use Rattle.fs_client.specs.Turns.{pair_of}
 use Rattle.fs_client.specs.declared.state.Client.{Client}
 use Rattle.fs_record.specs.Effects.{effects_of}
 use Rattle.fs_server.specs.Ships.{item_of}
@@ -28,17 +30,17 @@ use Rattle.fs_serial.proofs.Facts.{In-mapped}
 use Rattle.fs_serial.proofs.Reply.{with_last, reply_holds, reply_fits}
 use Rattle.fs_serial.proofs.ReplyAll.{replied_client, replied_settled}
 use Rattle.fs_serial.proofs.ReplyNext.{next}
-use Rattle.fs_serial.proofs.ReplyPins.{one_pin, one_keeps, pin_number, pin_leaving, reply_settled}
+use Rattle.fs_serial.proofs.ReplyPins.{one_pin, one_keeps, pair_in, pin_number, pin_pair, pin_leaving, reply_settled}
 use Rattle.fs_serial.proofs.Seats.{Seat, seen_at}
 
--- ## Pinned leases keep their numbers, and which go back
+-- ## Pinned leases keep their numbers and files, and which go back
 
-pinned_before : (us : List Use) (ks : List Kept) (k : Kept) → In k (pinned_all us ks) → (j : Kept) × In j ks × (number_of j.standing ≡ number_of k.standing) × (is_leaving j.standing ≡ is_leaving k.standing)
+pinned_before : (us : List Use) (ks : List Kept) (k : Kept) → In k (pinned_all us ks) → (j : Kept) × In j ks × (pair_of j ≡ pair_of k) × (is_leaving j.standing ≡ is_leaving k.standing)
 pinned_before [] ks k i = (k, i, refl, refl)
 pinned_before (u ∷ us) ks k i =
     let q = pinned_before us (pinned_at u.no ks) k i in
     let p = In-map (one_pin u.no) q.0 ks q.1 in
-    (p.0, p.1.0, sym (one_keeps number_of pin_number u.no p.0) ∙ ap (λ (x : Kept). number_of x.standing) (sym p.1.1) ∙ q.2, sym (one_keeps is_leaving pin_leaving u.no p.0) ∙ ap (λ (x : Kept). is_leaving x.standing) (sym p.1.1) ∙ q.3)
+    (p.0, p.1.0, sym (one_keeps pair_in pin_pair u.no p.0) ∙ ap pair_of (sym p.1.1) ∙ q.2, sym (one_keeps is_leaving pin_leaving u.no p.0) ∙ ap (λ (x : Kept). is_leaving x.standing) (sym p.1.1) ∙ q.3)
 
 pinned_after : (us : List Use) (ks : List Kept) (k : Kept) → In k ks → (j : Kept) × In j (pinned_all us ks) × (number_of j.standing ≡ number_of k.standing) × (is_leaving j.standing ≡ is_leaving k.standing)
 pinned_after [] ks k i = (k, i, refl, refl)
@@ -59,9 +61,9 @@ module _ (skew greatest : ℕ) (s : Sight) (by : Session) (replied : List Item) 
   goes_on : GoesOnAs c then (e ∷ [])
   goes_on = record {
     exchange = refl;
-    fewer = λ k i. let q = pinned_before e.uses c.view.leases k i in record { kept = q.0; among = q.1; number = q.2 };
+    fewer = λ k i. let q = pinned_before e.uses c.view.leases k i in record { kept = q.0; among = q.1; number = ap (λ (p : List ℕ × LeaseNo). p.1) q.2 };
     log = refl;
-    went = λ k i t. let q = pinned_before e.uses c.view.leases k i in record { kept = q.0; among = q.1; number = q.2; leaving = q.3 ∙ t };
+    went = λ k i t. let q = pinned_before e.uses c.view.leases k i in record { kept = q.0; among = q.1; pair = q.2; leaving = q.3 ∙ t };
     goes = λ k i t. let q = pinned_after e.uses c.view.leases k i in record { kept = q.0; among = q.1; number = q.2; leaving = q.3 ∙ t };
   }
 

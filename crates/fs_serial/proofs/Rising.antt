@@ -1,13 +1,22 @@
 -- The greatest reading rises, and the server drops the rows that have ended.
-use Rattle.std.proofs.Common.{ℕ, ◌≤◌, max, List, refl, arith}
+use Rattle.std.proofs.Common.{◌≡◌, ℕ, ◌+◌, ◌≤◌, ◌||◌, nat_lt, max, Bool, true, false, List, filter, refl, arith}
+use Rattle.std.specs.Prelude.{is_some}
+use Rattle.std.proofs.lemmas.Bool.Decides.{nat_tests}
+use Rattle.fs_ident.specs.In.{In}
 use Rattle.fs_ident.specs.declared.actor.Session.{Session}
+use Rattle.fs_ident.proofs.Standing.{In-filter}
+use Rattle.fs_field.specs.declared.row.Row.{Row}
+use Rattle.fs_field.specs.Table.{is_live}
 use Rattle.fs_msg.specs.declared.item.Item.{Item}
 use Rattle.fs_server.specs.Server.{begun}
+use Rattle.fs_server.specs.declared.state.Server.{Server}
 use Rattle.fs_serial.specs.Parts.{AllHold, SessionHolds, SessionFits}
 use Rattle.fs_serial.specs.Settled.{Settled}
-use Rattle.fs_serial.specs.Sight.{Sight, sight_of}
+use Rattle.fs_serial.specs.Sight.{Counts, Sight, sight_of}
 use Rattle.fs_serial.specs.World.{World, WorldHolds, settled_at}
+use Rattle.fs_serial.proofs.Counting.{given_by}
 use Rattle.fs_serial.proofs.Going.{goes_still}
+use Rattle.fs_serial.proofs.Older.{IsLater, later_among, stood_here}
 use Rattle.fs_serial.proofs.RowKinds.{rows_lapse}
 use Rattle.fs_serial.proofs.Sending.{fit_still, goes_of, world_still}
 
@@ -40,16 +49,44 @@ module _ (skew greatest later : ℕ) (rises : greatest ≤ later) where
 
 pub world_later : (greatest later : ℕ) (w : World) → greatest ≤ later → WorldHolds greatest w → WorldHolds later w
 world_later greatest later w rises h = record {
-  all = all_later w.server.skew greatest later rises (sight_of w.server w.journal) w.replied (λ x. settled_at x (w.ends x)) h.all;
+  all = all_later w.server.skew greatest later rises (sight_of w.counts w.server w.journal) w.replied (λ x. settled_at x (w.ends x)) h.all;
   clock = let c = h.clock in omega arith;
   clients = h.clients;
-  exchanges = λ x. fit_still w.server.skew greatest later (sight_of w.server w.journal).given (sight_of w.server w.journal).given w.server.rows w.server.rows x (w.ends x) (h.exchanges x).returns
+  exchanges = λ x. fit_still w.server.skew greatest later (sight_of w.counts w.server w.journal).given (sight_of w.counts w.server w.journal).given w.server.rows w.server.rows x (w.ends x) (h.exchanges x).pairs (h.exchanges x).returns
       (λ ends e i n until j l k q late. (h.exchanges x).renewals ends e i n until j l k q (omega arith)) (h.exchanges x);
 }
 
+-- ## Rows go
+
+later_kept : (o : Counts) (s : Server) (keep : Row → Bool) → IsLater (given_by o s) (given_by o s) s.rows (filter keep s.rows)
+later_kept o s keep = later_among (given_by o s) (given_by o s) s.rows (filter keep s.rows) (λ k. omega arith) (λ r i. stood_here s.rows r (In-filter keep r s.rows i))
+
+-- those that had ended at the greatest reading
+pub lapse_some_keeps : (greatest : ℕ) (w : World) (keep : Row → Bool) → ((r : Row) → In r w.server.rows → keep r ≡ false → r.until + w.server.skew ≤ greatest) → WorldHolds greatest w → WorldHolds greatest (record w { server = record w.server { rows = filter keep w.server.rows } })
+lapse_some_keeps greatest w keep over h =
+    let t : Server = record w.server { rows = filter keep w.server.rows } in
+    world_still greatest w t w.journal refl h.clock (later_kept w.counts w.server keep)
+    (goes_still w.server.skew greatest (sight_of w.counts w.server w.journal) (sight_of w.counts t w.journal) w.replied w.ends (λ x. settled_at x (w.ends x))
+    (rows_lapse greatest w.counts w.server w.journal (λ x. settled_at x (w.ends x)) keep over) (goes_of greatest w h)) h
+
+-- the server's last reading is another, no greater than the greatest
+pub last_rises : (greatest last : ℕ) (w : World) → last ≤ greatest → WorldHolds greatest w → WorldHolds greatest (record w { server = record w.server { last = last } })
+last_rises greatest last w before h = record { all = h.all; clock = before; clients = h.clients; exchanges = h.exchanges }
+
+or_true : (a b : Bool) → (a || b) ≡ false → b ≡ false
+or_true true b h = absurd (cc)
+or_true false b h = h
+
+at_most : (a b : ℕ) → nat_lt a b ≡ false → b ≤ a
+at_most a b h = grind (arith, nat_tests)
+
+-- the row that is not live had ended
+ended_then : (now skew greatest : ℕ) (r : Row) → now ≤ greatest → is_live now skew r ≡ false → r.until + skew ≤ greatest
+ended_then now skew greatest r before h = let p = at_most now (r.until + skew) (or_true (is_some r.lock) (nat_lt now (r.until + skew)) h) in omega arith
+
 -- each event of the server begins so
-pub world_begins : (greatest now : ℕ) (w : World) → max w.server.last now ≤ greatest → WorldHolds greatest w → WorldHolds greatest (record { server = begun now w.server; journal = w.journal; replied = w.replied; ends = w.ends })
+pub world_begins : (greatest now : ℕ) (w : World) → max w.server.last now ≤ greatest → WorldHolds greatest w → WorldHolds greatest (record { server = begun now w.server; counts = w.counts; journal = w.journal; replied = w.replied; ends = w.ends })
 world_begins greatest now w before h =
-    world_still greatest w (begun now w.server) w.journal refl before
-    (goes_still w.server.skew greatest (sight_of w.server w.journal) (sight_of (begun now w.server) w.journal) w.replied w.ends (λ x. settled_at x (w.ends x))
-    (rows_lapse greatest now w.server w.journal (λ x. settled_at x (w.ends x)) before) (goes_of greatest w h)) h
+    let last = max w.server.last now in
+    let v : World = record w { server = record w.server { rows = filter (is_live last w.server.skew) w.server.rows } } in
+    last_rises greatest last v before (lapse_some_keeps greatest w (is_live last w.server.skew) (λ r i dead. ended_then last w.server.skew greatest r before dead) h)

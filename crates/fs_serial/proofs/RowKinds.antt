@@ -1,6 +1,6 @@
 -- Rows that end, rows that are renewed, and rows that go back.
-use Rattle.std.proofs.Common.{◌≡◌, ℕ, ◌+◌, ◌<◌, ◌≤◌, not, ◌&&◌, ◌||◌, nat_lt, max, Bool, true, false, List, [], ◌∷◌, cond, map, refl, sym, ap, ◌∙◌, subst, inl, inr, arith}
-use Rattle.std.specs.Prelude.{◌≢◌, is_some}
+use Rattle.std.proofs.Common.{◌≡◌, ℕ, ◌+◌, ◌<◌, ◌≤◌, not, ◌&&◌, nat_lt, Bool, true, false, List, [], ◌∷◌, cond, map, refl, sym, ap, ◌∙◌, subst, inl, inr, arith}
+use Rattle.std.specs.Prelude.{◌≢◌}
 use Rattle.std.specs.List.{filter}
 use Rattle.std.proofs.lemmas.Bool.Decides.{nat_tests}
 use Rattle.fs_ident.specs.In.{In}
@@ -8,16 +8,15 @@ use Rattle.fs_ident.specs.declared.actor.LeaseNo.{LeaseNo}
 use Rattle.fs_ident.specs.declared.actor.Session.{Session}
 use Rattle.fs_ident.proofs.Standing.{In-filter, In-map}
 use Rattle.fs_field.specs.declared.row.Row.{Row}
-use Rattle.fs_field.specs.Table.{has_no, is_live, renewed_row, same_no}
+use Rattle.fs_field.specs.Table.{has_no, renewed_row, same_no}
 use Rattle.fs_field.proofs.Leases.{NoPlainConflict-filter, NoPlainConflict-map, renewed_same}
 use Rattle.fs_msg.specs.declared.item.Item.{Item}
-use Rattle.fs_server.specs.Server.{begun}
 use Rattle.fs_server.specs.declared.state.Server.{Server}
 use Rattle.fs_view.proofs.Places.{same_no_is}
 use Rattle.fs_serial.specs.Exchange.{ReturnFits}
 use Rattle.fs_serial.specs.Parts.{AllHold}
 use Rattle.fs_serial.specs.Settled.{Lease, Settled}
-use Rattle.fs_serial.specs.Sight.{Sight, IsGiven, sight_of}
+use Rattle.fs_serial.specs.Sight.{Counts, Sight, IsGiven, sight_of}
 use Rattle.fs_serial.proofs.Facts.{In-mapped}
 use Rattle.fs_serial.proofs.Going.{RowsChange}
 use Rattle.fs_serial.proofs.Granting.{shapes_filtered, shapes_renewed}
@@ -44,7 +43,7 @@ pub fewer_rows : (skew greatest : ℕ) (s : Sight) (clients : Session → Settle
     → RowsChange skew greatest s (with_rows (filter test s.rows) s) clients
 fewer_rows skew greatest s clients test stays = record {
   servers = λ h. record { apart = NoPlainConflict-filter test s.rows h.apart; promises = promises_filtered s.records test s.rows h.promises; serial = h.serial; reaped = h.reaped };
-  kept = λ f. record { shaped = shapes_filtered test s.rows f.shaped; given = λ r i. f.given r (In-filter test r s.rows i); sound = f.sound; made = f.made };
+  kept = λ f. record { shaped = shapes_filtered test s.rows f.shaped; counted = λ r i. f.counted r (In-filter test r s.rows i); given = λ r i. f.given r (In-filter test r s.rows i); sound = f.sound; made = f.made };
   records = refl;
   journal = refl;
   relied = λ x. record {
@@ -56,16 +55,15 @@ fewer_rows skew greatest s clients test stays = record {
   };
 }
 
-live_still : (now skew greatest : ℕ) (r : Row) → now ≤ greatest → greatest < r.until + skew → is_live now skew r ≡ true
-live_still now skew greatest r before late = or_true (is_some r.lock) (nat_lt now (r.until + skew)) (grind (arith, nat_tests))
-  where
-    or_true : (a b : Bool) → b ≡ true → (a || b) ≡ true
-    or_true true b h = refl
-    or_true false b h = h
+-- a row that has ended with all its leases is of no matter
+ended_or : (skew greatest : ℕ) (r : Row) (b : Bool) → greatest < r.until + skew → (b ≡ false → r.until + skew ≤ greatest) → b ≡ true
+ended_or skew greatest r true late over = refl
+ended_or skew greatest r false late over = let q : r.until + skew ≤ greatest = over refl in absurd (omega arith)
 
 -- rows that have ended at the greatest reading so far
-pub rows_lapse : (greatest now : ℕ) (s : Server) (journal : List Item) (clients : Session → Settled) → max s.last now ≤ greatest → RowsChange s.skew greatest (sight_of s journal) (sight_of (begun now s) journal) clients
-rows_lapse greatest now s journal clients before = fewer_rows s.skew greatest (sight_of s journal) clients (is_live (max s.last now) s.skew) (λ x l h r i e late. live_still (max s.last now) s.skew greatest r before late)
+pub rows_lapse : (greatest : ℕ) (o : Counts) (s : Server) (journal : List Item) (clients : Session → Settled) (keep : Row → Bool) → ((r : Row) → In r s.rows → keep r ≡ false → r.until + s.skew ≤ greatest)
+    → RowsChange s.skew greatest (sight_of o s journal) (with_rows (filter keep s.rows) (sight_of o s journal)) clients
+rows_lapse greatest o s journal clients keep over = fewer_rows s.skew greatest (sight_of o s journal) clients keep (λ x l h r i e late. ended_or s.skew greatest r (keep r) late (over r i))
 
 not_same : (a b : LeaseNo) → a ≢ b → not (same_no a b) ≡ true
 not_same a b h =
@@ -75,10 +73,10 @@ not_same a b h =
     ] refl
 
 -- the row of a lease that goes back
-pub row_goes : (skew greatest : ℕ) (s : Sight) (replied : Session → List Item) (clients : Session → Settled) (by : Session) (n : LeaseNo) → AllHold skew greatest s replied clients → ReturnFits s.given s.rows by (clients by).leases n
-    → RowsChange skew greatest s (with_rows (filter (λ r. not (has_no n r)) s.rows) s) clients
-row_goes skew greatest s replied clients by n h back =
-    fewer_rows skew greatest s clients (λ r. not (has_no n r)) (λ x l held r i e late. not_same r.no n (λ q.
+pub row_goes : (skew greatest : ℕ) (s : Sight) (replied : Session → List Item) (clients : Session → Settled) (by : Session) (p : List ℕ × LeaseNo) → AllHold skew greatest s replied clients → ReturnFits s.given s.rows by (clients by).leases p
+    → RowsChange skew greatest s (with_rows (filter (λ r. not (has_no p.1 r)) s.rows) s) clients
+row_goes skew greatest s replied clients by p h back =
+    fewer_rows skew greatest s clients (λ r. not (has_no p.1 r)) (λ x l held r i e late. not_same r.no p.1 (λ q.
     let own : x ≡ by = sym ((h.fitting x).matching l held r i e).session ∙ back.own r i q in
     let mine : In l (clients by).leases = subst (λ y. In l (clients y).leases) own held in
     back.alone l mine (sym e ∙ q)))
@@ -111,6 +109,7 @@ row_renewed skew greatest s clients n until =
       servers = λ h. record { apart = NoPlainConflict-map (renewed_row n until) (renewed_same n until) s.rows h.apart; promises = promises_renewed s.records n until s.rows h.promises; serial = h.serial; reaped = h.reaped };
       kept = λ f. record {
         shaped = shapes_renewed n until s.rows f.shaped;
+        counted = λ r i. let q = In-map (renewed_row n until) r s.rows i in let same : r.no.count ≡ q.0.no.count = ap (λ (x : Row). x.no.count) q.1.1 ∙ ap (λ (m : LeaseNo). m.count) (renewed_same n until q.0).number in let c = f.counted q.0 q.1.0 in omega arith;
         given = λ r i. let q = In-map (renewed_row n until) r s.rows i in subst (λ m. IsGiven s.given m) (sym (ap (λ (x : Row). x.no) q.1.1 ∙ (renewed_same n until q.0).number)) (f.given q.0 q.1.0);
         sound = f.sound;
         made = f.made;

@@ -13,7 +13,7 @@ use Rattle.fs_client.specs.declared.exchange.Exchange.{Exchange}
 use Rattle.fs_client.specs.declared.exchange.Exchange.TheVariants.{Asks, Renews, Releases, Ships}
 use Rattle.fs_client.specs.declared.state.Client.{Client}
 use Rattle.fs_serial.specs.Client.{ClientFits}
-use Rattle.fs_serial.specs.Exchange.{due, admitted_in, OneExchange, ShipsLog, ExchangeFits}
+use Rattle.fs_serial.specs.Exchange.{due, admitted_in, OneExchange, ShipsLog, ExchangeFits, server_of_question}
 use Rattle.fs_serial.specs.Parts.{SessionHolds, SessionFits}
 use Rattle.fs_serial.specs.Settled.{Settled, settled, settled_now, told}
 use Rattle.fs_serial.specs.Sight.{Sight}
@@ -72,19 +72,19 @@ none_admitted (Recall number) h = refl
 at_most : (a b : ℕ) → nat_le a b ≡ true → a ≤ b
 at_most a b h = grind (arith, nat_tests)
 
-few_by : (c : Client) (x : Exchange) (a : Answer) → answer_fits 0 x a c ≡ true → ShipsLog (Some x) c.log → admitted_in (a ∷ []) ≤ length c.log
-few_by c (Ships to sent) (Shipped count end) h n =
-    let le : nat_le count sent ≡ true = first (nat_le count sent) (refusal_fits end count c.log) (second (to == 0) (nat_le count sent && refusal_fits end count c.log) h) in
+few_by : (c : Client) (from : ℕ) (x : Exchange) (a : Answer) → answer_fits from x a c ≡ true → ShipsLog (Some x) c.log → admitted_in (a ∷ []) ≤ length c.log
+few_by c from (Ships to sent) (Shipped count end) h n =
+    let le : nat_le count sent ≡ true = first (nat_le count sent) (refusal_fits end count c.log) (second (to == from) (nat_le count sent && refusal_fits end count c.log) h) in
     let p : count ≤ sent = at_most count sent le in omega arith
-few_by c (Asks to items fresh) (Granted grants given end) h n = omega arith
-few_by c (Renews to numbers) (Renewed rows end) h n = omega arith
-few_by c (Releases to numbers) (Released count end) h n = omega arith
-few_by c x a h n = absurd (cc)
+few_by c from (Asks to items fresh) (Granted grants given end) h n = omega arith
+few_by c from (Renews to numbers) (Renewed rows end) h n = omega arith
+few_by c from (Releases to numbers) (Released count end) h n = omega arith
+few_by c from x a h n = absurd (cc)
 
 few_one : (c : Client) (x : Option Exchange) (up : List ClientMsg) (down : List Answer) → OneExchange c x up down → ShipsLog x c.log → admitted_in (due down) ≤ length c.log
 few_one c None up down h n = let q = ap admitted_in h.1 in omega arith
 few_one c (Some x) up down (inl h) n = let q = ap admitted_in h.silent in omega arith
-few_one c (Some x) up down (inr h) n = let q = ap admitted_in h.told in let p = few_by c x h.answer h.fits n in omega arith
+few_one c (Some x) up down (inr h) n = let q = ap admitted_in h.told in let p = few_by c (server_of_question x) x h.answer h.fits n in omega arith
 
 pub few : (skew greatest : ℕ) (s : Sight) (by : Session) (replied : List Item) (c : Client) (up : List ClientMsg) (down : List Answer) → Seat skew greatest s by replied c up down → admitted_in down ≤ length c.log
 few skew greatest s by replied c up down h = let p = few_one c c.exchange up down h.exchange.one h.exchange.ships in let q = admitted_due down in omega arith

@@ -20,13 +20,14 @@ use Rattle.fs_client.specs.Answers.{answer_fits}
 use Rattle.fs_client.specs.declared.exchange.Exchange.{Exchange}
 use Rattle.fs_client.specs.declared.state.Client.{Client}
 use Rattle.fs_serial.specs.Client.{ClientFits}
-use Rattle.fs_serial.specs.Exchange.{due, is_recall, ExchangeFits, IsQuestion, OneExchange, RenewalsBacked, ReturnsFit, ShipsFront}
+use Rattle.fs_serial.specs.Exchange.{due, is_recall, ExchangeFits, IsQuestion, OneExchange, PairsFit, RenewalsBacked, ReturnsFit, ShipsFront, server_of_question}
 use Rattle.fs_serial.specs.Leases.{IsBacked}
 use Rattle.fs_serial.specs.Parts.{AllHold, with_client}
 use Rattle.fs_serial.specs.Settled.{Settled, settled, settled_now, told}
 use Rattle.fs_serial.specs.Sight.{sight_of}
 use Rattle.fs_serial.specs.World.{Ends, GoesOn, World, WorldHolds, settled_at, with_answer, with_sent, without_question}
 use Rattle.fs_serial.proofs.Facts.{In-append}
+use Rattle.fs_serial.proofs.Older.{IsLater, later_pairs}
 use Rattle.fs_serial.proofs.Rowed.{session_is}
 use Rattle.fs_serial.proofs.Settling.{later}
 use Rattle.fs_serial.proofs.Together.{its_client, other_client}
@@ -48,7 +49,7 @@ abbrev pub EndsFit : ℕ → ℕ → (ℕ → ℕ) → List Row → Session → 
 EndsFit skew greatest given rows x e = ExchangeFits skew greatest given rows x e.client e.up e.down (settled_now e.client) (settled_at x e)
 
 -- what holds of each session's ends where one session's change
-each_end : (P : Session → Ends → Type 0) (to : Session) (f : Ends → Ends) (ends : Session → Ends) → ((x : Session) → (to.0 == x.0) ≡ true → P x (f (ends x))) → ((x : Session) → (to.0 == x.0) ≡ false → P x (ends x)) → (x : Session) → P x (cond (to.0 == x.0) (f (ends x)) (ends x))
+pub each_end : (P : Session → Ends → Type 0) (to : Session) (f : Ends → Ends) (ends : Session → Ends) → ((x : Session) → (to.0 == x.0) ≡ true → P x (f (ends x))) → ((x : Session) → (to.0 == x.0) ≡ false → P x (ends x)) → (x : Session) → P x (cond (to.0 == x.0) (f (ends x)) (ends x))
 each_end P to f ends own others x = elim (to.0 == x.0) as (λ b. (to.0 == x.0) ≡ b → P x (cond b (f (ends x)) (ends x))) [
   | true ↦ λ t. own x t
   | false ↦ λ t. others x t
@@ -56,7 +57,7 @@ each_end P to f ends own others x = elim (to.0 == x.0) as (λ b. (to.0 == x.0) �
 
 -- ## What holds between events holds while one goes on
 
-pub goes_of : (greatest : ℕ) (w : World) → WorldHolds greatest w → GoesOn w.server.skew greatest (sight_of w.server w.journal) w.replied w.ends (λ x. settled_at x (w.ends x))
+pub goes_of : (greatest : ℕ) (w : World) → WorldHolds greatest w → GoesOn w.server.skew greatest (sight_of w.counts w.server w.journal) w.replied w.ends (λ x. settled_at x (w.ends x))
 goes_of greatest w h = record {
   all = h.all;
   carried = record {
@@ -67,28 +68,28 @@ goes_of greatest w h = record {
 }
 
 -- the ends stay, and only what stands at the server has changed
-pub fit_still : (skew greatest later_greatest : ℕ) (given then : ℕ → ℕ) (rows new : List Row) (x : Session) (e : Ends) → ReturnsFit then new x e.client.view.leases (settled_at x e).leases → RenewalsBacked skew later_greatest new e.down (settled_now e.client).leases
+pub fit_still : (skew greatest later_greatest : ℕ) (given then : ℕ → ℕ) (rows new : List Row) (x : Session) (e : Ends) → PairsFit then new e.up → ReturnsFit then new x e.client.view.leases (settled_at x e).leases → RenewalsBacked skew later_greatest new e.down (settled_now e.client).leases
     → EndsFit skew greatest given rows x e → EndsFit skew later_greatest then new x e
-fit_still skew greatest later_greatest given then rows new x e returns renewals h = record {
+fit_still skew greatest later_greatest given then rows new x e pairs returns renewals h = record {
   one = h.one;
-  first = h.first;
   ships = h.ships;
   front = h.front;
   released = h.released;
   kinds = h.kinds;
+  pairs = pairs;
   returns = returns;
   renewals = renewals;
 }
 
 -- the server changed, and nothing is on its way
-pub world_still : (greatest : ℕ) (w : World) (t : Server) (journal : List Item) → t.skew ≡ w.server.skew → t.last ≤ greatest → GoesOn w.server.skew greatest (sight_of t journal) w.replied w.ends (λ x. settled_at x (w.ends x)) → WorldHolds greatest w
-    → WorldHolds greatest (record { server = t; journal = journal; replied = w.replied; ends = w.ends })
-world_still greatest w t journal skew clock goes h = record {
-  all = subst (λ k. AllHold k greatest (sight_of t journal) w.replied (λ x. settled_at x (w.ends x))) (sym skew) goes.all;
+pub world_still : (greatest : ℕ) (w : World) (t : Server) (journal : List Item) → t.skew ≡ w.server.skew → t.last ≤ greatest → IsLater (sight_of w.counts w.server w.journal).given (sight_of w.counts t journal).given w.server.rows t.rows → GoesOn w.server.skew greatest (sight_of w.counts t journal) w.replied w.ends (λ x. settled_at x (w.ends x)) → WorldHolds greatest w
+    → WorldHolds greatest (record { server = t; counts = w.counts; journal = journal; replied = w.replied; ends = w.ends })
+world_still greatest w t journal skew clock later goes h = record {
+  all = subst (λ k. AllHold k greatest (sight_of w.counts t journal) w.replied (λ x. settled_at x (w.ends x))) (sym skew) goes.all;
   clock = clock;
   clients = h.clients;
-  exchanges = λ x. subst (λ k. EndsFit k greatest (sight_of t journal).given t.rows x (w.ends x)) (sym skew)
-      (fit_still w.server.skew greatest greatest (sight_of w.server w.journal).given (sight_of t journal).given w.server.rows t.rows x (w.ends x) (goes.carried.returns x) (goes.carried.renewals x) (h.exchanges x));
+  exchanges = λ x. subst (λ k. EndsFit k greatest (sight_of w.counts t journal).given t.rows x (w.ends x)) (sym skew)
+      (fit_still w.server.skew greatest greatest (sight_of w.counts w.server w.journal).given (sight_of w.counts t journal).given w.server.rows t.rows x (w.ends x) (later_pairs (sight_of w.counts w.server w.journal).given (sight_of w.counts t journal).given w.server.rows t.rows later (w.ends x).up (h.exchanges x).pairs) (goes.carried.returns x) (goes.carried.renewals x) (h.exchanges x));
 }
 
 -- ## A lease is asked back
@@ -107,11 +108,11 @@ one_recalled c (Some x) up down n (inr a) = inr (record { answer = a.answer; tol
 fit_recalled : (skew greatest : ℕ) (given : ℕ → ℕ) (rows : List Row) (x : Session) (n : LeaseNo) (e : Ends) → EndsFit skew greatest given rows x e → EndsFit skew greatest given rows x (recalled n e)
 fit_recalled skew greatest given rows x n e h = record {
   one = one_recalled e.client e.client.exchange e.up e.down n h.one;
-  first = h.first;
   ships = h.ships;
   front = subst (ShipsFront e.up) (sym (settled_recalled x n e)) h.front;
   released = h.released;
   kinds = h.kinds;
+  pairs = h.pairs;
   returns = subst (λ (d : Settled). ReturnsFit given rows x e.client.view.leases d.leases) (sym (settled_recalled x n e)) h.returns;
   renewals = λ ends end i number until j l k q late. elim (In-append (Renewed ends end) e.down (Recall n ∷ []) i) as (λ _. IsBacked rows number until) [
     | inl o ↦ h.renewals ends end o number until j l k q late
@@ -119,15 +120,15 @@ fit_recalled skew greatest given rows x n e h = record {
   ];
 }
 
-pub world_recalled : (greatest : ℕ) (w : World) (to : Session) (n : LeaseNo) → WorldHolds greatest w → WorldHolds greatest (record { server = w.server; journal = w.journal; replied = w.replied; ends = with_answer to (Recall n) w.ends })
+pub world_recalled : (greatest : ℕ) (w : World) (to : Session) (n : LeaseNo) → WorldHolds greatest w → WorldHolds greatest (record { server = w.server; counts = w.counts; journal = w.journal; replied = w.replied; ends = with_answer to (Recall n) w.ends })
 world_recalled greatest w to n h =
     let same : (λ x. settled_at x (with_answer to (Recall n) w.ends x)) ≡ (λ x. settled_at x (w.ends x)) = fun_ext (each_end (λ x e. settled_at x e ≡ settled_at x (w.ends x)) to (recalled n) w.ends (λ x t. settled_recalled x n (w.ends x)) (λ x t. refl)) in
     record {
-      all = subst (λ (c : Session → Settled). AllHold w.server.skew greatest (sight_of w.server w.journal) w.replied c) (sym same) h.all;
+      all = subst (λ (c : Session → Settled). AllHold w.server.skew greatest (sight_of w.counts w.server w.journal) w.replied c) (sym same) h.all;
       clock = h.clock;
       clients = each_end (λ x e. ClientFits x e.client) to (recalled n) w.ends (λ x t. h.clients x) (λ x t. h.clients x);
-      exchanges = each_end (λ x e. EndsFit w.server.skew greatest (sight_of w.server w.journal).given w.server.rows x e) to (recalled n) w.ends
-          (λ x t. fit_recalled w.server.skew greatest (sight_of w.server w.journal).given w.server.rows x n (w.ends x) (h.exchanges x))
+      exchanges = each_end (λ x e. EndsFit w.server.skew greatest (sight_of w.counts w.server w.journal).given w.server.rows x e) to (recalled n) w.ends
+          (λ x t. fit_recalled w.server.skew greatest (sight_of w.counts w.server w.journal).given w.server.rows x n (w.ends x) (h.exchanges x))
           (λ x t. h.exchanges x);
     }
 
@@ -136,12 +137,12 @@ pub record IsRecallTo (m : Peer × Msg) : Type 0 where
   pub number : LeaseNo
   pub message : m ≡ to_session to (Recall number)
 
-pub world_all_recalled : (greatest : ℕ) (w : World) (messages : List (Peer × Msg)) → ((m : Peer × Msg) → In m messages → IsRecallTo m) → WorldHolds greatest w → WorldHolds greatest (record { server = w.server; journal = w.journal; replied = w.replied; ends = with_sent messages w.ends })
+pub world_all_recalled : (greatest : ℕ) (w : World) (messages : List (Peer × Msg)) → ((m : Peer × Msg) → In m messages → IsRecallTo m) → WorldHolds greatest w → WorldHolds greatest (record { server = w.server; counts = w.counts; journal = w.journal; replied = w.replied; ends = with_sent messages w.ends })
 world_all_recalled greatest w [] are h = h
 world_all_recalled greatest w (m ∷ rest) are h =
     let q = are m (inl refl) in
-    subst (λ (k : Peer × Msg). WorldHolds greatest (record { server = w.server; journal = w.journal; replied = w.replied; ends = with_sent (k ∷ rest) w.ends })) (sym q.message)
-    (world_all_recalled greatest (record { server = w.server; journal = w.journal; replied = w.replied; ends = with_answer q.to (Recall q.number) w.ends }) rest (λ k i. are k (inr i)) (world_recalled greatest w q.to q.number h))
+    subst (λ (k : Peer × Msg). WorldHolds greatest (record { server = w.server; counts = w.counts; journal = w.journal; replied = w.replied; ends = with_sent (k ∷ rest) w.ends })) (sym q.message)
+    (world_all_recalled greatest (record { server = w.server; counts = w.counts; journal = w.journal; replied = w.replied; ends = with_answer q.to (Recall q.number) w.ends }) rest (λ k i. are k (inr i)) (world_recalled greatest w q.to q.number h))
 
 -- ## A question is answered
 
@@ -179,8 +180,8 @@ module _ (greatest : ℕ) (w : World) (t : Server) (journal : List Item) (by : S
       (λ x q. settled-push x (w.ends x).down a (settled_now (w.ends x).client) ∙ subst (λ y. told y a (base y) ≡ with_client by (told by a (base by)) base y) (session_is by x q) (sym (its_client by (told by a (base by)) base)))
       (λ x q. sym (other_client by x (told by a (base by)) base q)))
 
-  module _ (skew : t.skew ≡ w.server.skew) (clock : t.last ≤ greatest) (goes : GoesOn w.server.skew greatest (sight_of t journal) w.replied w.ends (with_client by (told by a (base by)) base)) (answers : is_recall a ≡ false) (fits : (x : Exchange) → (w.ends by).client.exchange ≡ Some x → IsQuestion x m → answer_fits 0 x a (w.ends by).client ≡ true) (renewals : (ends : List (LeaseNo × Option ℕ)) (e : End) → a ≡ Renewed ends e → (n : LeaseNo) (until : ℕ) → In (n, Some until) ends → IsBacked t.rows n until) where
-    own_fit : EndsFit w.server.skew greatest (sight_of t journal).given t.rows by (taken a (w.ends by))
+  module _ (skew : t.skew ≡ w.server.skew) (clock : t.last ≤ greatest) (later_then : IsLater (sight_of w.counts w.server w.journal).given (sight_of w.counts t journal).given w.server.rows t.rows) (goes : GoesOn w.server.skew greatest (sight_of w.counts t journal) w.replied w.ends (with_client by (told by a (base by)) base)) (answers : is_recall a ≡ false) (fits : (x : Exchange) → (w.ends by).client.exchange ≡ Some x → IsQuestion x m → answer_fits (server_of_question x) x a (w.ends by).client ≡ true) (renewals : (ends : List (LeaseNo × Option ℕ)) (e : End) → a ≡ Renewed ends e → (n : LeaseNo) (until : ℕ) → In (n, Some until) ends → IsBacked t.rows n until) where
+    own_fit : EndsFit w.server.skew greatest (sight_of w.counts t journal).given t.rows by (taken a (w.ends by))
     own_fit =
         let e = w.ends by in
         let o = h.exchanges by in
@@ -191,31 +192,32 @@ module _ (greatest : ℕ) (w : World) (t : Server) (journal : List Item) (by : S
             asked = refl;
             fits = fits asked.exchange asked.stands asked.question;
           }));
-          first = o.first;
           ships = o.ships;
           front = λ entries i. absurd i;
           released = o.released;
           kinds = λ items fresh i. absurd i;
-          returns = subst (λ (d : Settled). ReturnsFit (sight_of t journal).given t.rows by e.client.view.leases d.leases) (its_client by (told by a (base by)) base ∙ sym (settled-push by e.down a (settled_now e.client))) (goes.carried.returns by);
+          pairs = λ m i. absurd i;
+          returns = subst (λ (d : Settled). ReturnsFit (sight_of w.counts t journal).given t.rows by e.client.view.leases d.leases) (its_client by (told by a (base by)) base ∙ sym (settled-push by e.down a (settled_now e.client))) (goes.carried.returns by);
           renewals = λ ends end i number until j l k q late. elim (In-append (Renewed ends end) e.down (a ∷ []) i) as (λ _. IsBacked t.rows number until) [
             | inl old ↦ goes.carried.renewals by ends end old number until j l k q late
             | inr new ↦ elim new as (λ _. IsBacked t.rows number until) [ inl z ↦ renewals ends end (sym z) number until j | inr z ↦ absurd z ]
           ];
         }
 
-    other_fit : (x : Session) → (by.0 == x.0) ≡ false → EndsFit w.server.skew greatest (sight_of t journal).given t.rows x (w.ends x)
-    other_fit x q = fit_still w.server.skew greatest greatest (sight_of w.server w.journal).given (sight_of t journal).given w.server.rows t.rows x (w.ends x)
-        (subst (λ (d : Settled). ReturnsFit (sight_of t journal).given t.rows x (w.ends x).client.view.leases d.leases) (other_client by x (told by a (base by)) base q) (goes.carried.returns x))
+    other_fit : (x : Session) → (by.0 == x.0) ≡ false → EndsFit w.server.skew greatest (sight_of w.counts t journal).given t.rows x (w.ends x)
+    other_fit x q = fit_still w.server.skew greatest greatest (sight_of w.counts w.server w.journal).given (sight_of w.counts t journal).given w.server.rows t.rows x (w.ends x)
+        (later_pairs (sight_of w.counts w.server w.journal).given (sight_of w.counts t journal).given w.server.rows t.rows later_then (w.ends x).up (h.exchanges x).pairs)
+        (subst (λ (d : Settled). ReturnsFit (sight_of w.counts t journal).given t.rows x (w.ends x).client.view.leases d.leases) (other_client by x (told by a (base by)) base q) (goes.carried.returns x))
         (goes.carried.renewals x) (h.exchanges x)
 
-    pub world_answered : WorldHolds greatest (record { server = t; journal = journal; replied = w.replied; ends = with_answer by a (without_question by w.ends) })
-    world_answered = subst (λ (ends : Session → Ends). WorldHolds greatest (record { server = t; journal = journal; replied = w.replied; ends = ends })) (sym ends_are) (record {
-      all = subst (λ k. AllHold k greatest (sight_of t journal) w.replied (λ (x : Session). settled_at x (cond (by.0 == x.0) (taken a (w.ends x)) (w.ends x)))) (sym skew)
-          (subst (λ (c : Session → Settled). AllHold w.server.skew greatest (sight_of t journal) w.replied c) (sym settled_are) goes.all);
+    pub world_answered : WorldHolds greatest (record { server = t; counts = w.counts; journal = journal; replied = w.replied; ends = with_answer by a (without_question by w.ends) })
+    world_answered = subst (λ (ends : Session → Ends). WorldHolds greatest (record { server = t; counts = w.counts; journal = journal; replied = w.replied; ends = ends })) (sym ends_are) (record {
+      all = subst (λ k. AllHold k greatest (sight_of w.counts t journal) w.replied (λ (x : Session). settled_at x (cond (by.0 == x.0) (taken a (w.ends x)) (w.ends x)))) (sym skew)
+          (subst (λ (c : Session → Settled). AllHold w.server.skew greatest (sight_of w.counts t journal) w.replied c) (sym settled_are) goes.all);
       clock = clock;
       clients = each_end (λ x e. ClientFits x e.client) by (taken a) w.ends (λ x q. h.clients x) (λ x q. h.clients x);
-      exchanges = subst (λ k. (x : Session) → EndsFit k greatest (sight_of t journal).given t.rows x (cond (by.0 == x.0) (taken a (w.ends x)) (w.ends x))) (sym skew)
-          (each_end (λ x e. EndsFit w.server.skew greatest (sight_of t journal).given t.rows x e) by (taken a) w.ends
-          (λ x q. subst (λ y. EndsFit w.server.skew greatest (sight_of t journal).given t.rows y (taken a (w.ends y))) (session_is by x q) own_fit)
+      exchanges = subst (λ k. (x : Session) → EndsFit k greatest (sight_of w.counts t journal).given t.rows x (cond (by.0 == x.0) (taken a (w.ends x)) (w.ends x))) (sym skew)
+          (each_end (λ x e. EndsFit w.server.skew greatest (sight_of w.counts t journal).given t.rows x e) by (taken a) w.ends
+          (λ x q. subst (λ y. EndsFit w.server.skew greatest (sight_of w.counts t journal).given t.rows y (taken a (w.ends y))) (session_is by x q) own_fit)
           other_fit);
     })

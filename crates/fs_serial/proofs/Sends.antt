@@ -1,5 +1,5 @@
 -- A client sends a question.
-use Rattle.std.proofs.Common.{◌≡◌, ℕ, Bool, true, false, List, [], ◌∷◌, ◌++◌, length, map, refl, sym, ap, ◌∙◌, subst, inl, inr, cond, arith, append-nil}
+use Rattle.std.proofs.Common.{◌≡◌, ℕ, Bool, true, false, List, [], ◌∷◌, ◌++◌, length, map, refl, sym, ap, ◌∙◌, subst, inl, inr, cond, arith, length-append}
 use Rattle.std.specs.Prelude.{Option, Some, None, option_map}
 use Rattle.fs_ident.specs.In.{In}
 use Rattle.fs_ident.specs.declared.actor.LeaseNo.{LeaseNo}
@@ -13,8 +13,8 @@ use Rattle.fs_lease.specs.Lease.{Lease as Term}
 use Rattle.fs_msg.specs.declared.answer.Answer.{Answer}
 use Rattle.fs_msg.specs.declared.client_msg.ClientMsg.{ClientMsg}
 use Rattle.fs_msg.specs.declared.client_msg.ClientMsg.TheVariants.{Ask, Renew, Ship}
+use Rattle.fs_msg.specs.declared.entry.Entry.{Entry}
 use Rattle.fs_msg.specs.declared.item.Item.{Item}
-use Rattle.fs_client.specs.Acts.{home_server}
 use Rattle.fs_client.specs.Client.{with_exchange, leaving_all}
 use Rattle.fs_client.specs.Turns.{pair_of, numbers_in, has_to_go}
 use Rattle.fs_client.specs.declared.exchange.Exchange.{Exchange}
@@ -28,42 +28,43 @@ use Rattle.fs_view.specs.declared.kept.Standing.TheVariants.{Held, Pinned, Leavi
 use Rattle.fs_view.specs.Kept.{number_of, has_number, is_leaving, is_pinned, entries_of, lease_of, leaving}
 use Rattle.fs_view.specs.View.{View, with_leaving}
 use Rattle.fs_serial.specs.Client.{KeptDistinct}
-use Rattle.fs_serial.specs.Exchange.{due, IsQuestion, OneExchange, AsksFirst, ShipsLog, ShipsFront, IsFront, IsReturned, ReleasesReturned, AsksGivenKinds, ReturnsFit, RenewalsBacked, ExchangeFits}
+use Rattle.fs_serial.specs.Exchange.{due, IsQuestion, OneExchange, PairsFit, ShipsLog, ShipsFront, IsFront, IsReturned, ReleasesReturned, AsksGivenKinds, ReturnsFit, RenewalsBacked, ExchangeFits}
 use Rattle.fs_serial.specs.Settled.{Lease, Settled, lease_in, lease_with, settled_now}
 use Rattle.fs_serial.specs.Sight.{Sight}
 use Rattle.fs_serial.proofs.Facts.{In-mapped}
+use Rattle.fs_serial.proofs.KeptPairs.{kept_pair, no_pairs, renews_pairs}
 use Rattle.fs_serial.proofs.OneLease.{same_no_self}
-use Rattle.fs_serial.proofs.ReplyPins.{distinct_mapped}
+use Rattle.fs_serial.proofs.ReplyPins.{distinct_mapped, pair_in}
 use Rattle.fs_serial.proofs.Seats.{Seat, seen_at, idle_due, settled_none}
 
 -- ## One question
 
 -- what a question has to meet
-pub record IsAsking (c : Client) (x : Exchange) (m : ClientMsg) (ks : List Kept) (d : Settled) : Type 0 where
+pub record IsAsking (given : ℕ → ℕ) (rows : List Row) (c : Client) (x : Exchange) (m : ClientMsg) (ks : List Kept) (d : Settled) : Type 0 where
   pub question : IsQuestion x m
-  pub first : AsksFirst (Some x)
   pub ships : ShipsLog (Some x) c.log
   pub front : ShipsFront (m ∷ []) d
   pub released : ReleasesReturned (Some x) ks
   pub kinds : AsksGivenKinds (m ∷ [])
+  pub pairs : PairsFit given rows (m ∷ [])
 
-pub asking_exchange : (skew greatest : ℕ) (given : ℕ → ℕ) (rows : List Row) (by : Session) (c d : Client) (x : Exchange) (m : ClientMsg) (up : List ClientMsg) (down : List Answer) (now seen : Settled) → d.exchange ≡ Some x → d.log ≡ c.log → up ≡ [] → due down ≡ [] → IsAsking c x m d.view.leases seen
+pub asking_exchange : (skew greatest : ℕ) (given : ℕ → ℕ) (rows : List Row) (by : Session) (c d : Client) (x : Exchange) (m : ClientMsg) (up : List ClientMsg) (down : List Answer) (now seen : Settled) → d.exchange ≡ Some x → d.log ≡ c.log → up ≡ [] → due down ≡ [] → IsAsking given rows c x m d.view.leases seen
     → ReturnsFit given rows by d.view.leases seen.leases → RenewalsBacked skew greatest rows down now.leases → ExchangeFits skew greatest given rows by d (up ++ m ∷ []) down now seen
 asking_exchange skew greatest given rows by c d x m up down now seen e log none silent a returns renewals =
     let only : up ++ m ∷ [] ≡ m ∷ [] = ap (λ up. up ++ m ∷ []) none in
     record {
       one = subst (λ o. OneExchange d o (up ++ m ∷ []) down) (sym e) (inl (record { message = m; asked = only; question = a.question; silent = silent }));
-      first = subst AsksFirst (sym e) a.first;
       ships = subst (λ o. ShipsLog o d.log) (sym e) (subst (ShipsLog (Some x)) (sym log) a.ships);
       front = subst (λ up. ShipsFront up seen) (sym only) a.front;
       released = subst (λ o. ReleasesReturned o d.view.leases) (sym e) a.released;
       kinds = subst AsksGivenKinds (sym only) a.kinds;
+      pairs = subst (PairsFit given rows) (sym only) a.pairs;
       returns = returns;
       renewals = renewals;
     }
 
 -- a question that leaves the client's leases
-pub seat_asking : (skew greatest : ℕ) (s : Sight) (by : Session) (replied : List Item) (c : Client) (up : List ClientMsg) (down : List Answer) (x : Exchange) (m : ClientMsg) → c.exchange ≡ None → IsAsking c x m c.view.leases (settled_now c) → Seat skew greatest s by replied c up down → Seat skew greatest s by replied (with_exchange x c) (up ++ m ∷ []) down
+pub seat_asking : (skew greatest : ℕ) (s : Sight) (by : Session) (replied : List Item) (c : Client) (up : List ClientMsg) (down : List Answer) (x : Exchange) (m : ClientMsg) → c.exchange ≡ None → IsAsking s.given s.rows c x m c.view.leases (settled_now c) → Seat skew greatest s by replied c up down → Seat skew greatest s by replied (with_exchange x c) (up ++ m ∷ []) down
 seat_asking skew greatest s by replied c up down x m idle a h =
     let q = idle_due c c.exchange up down idle h.exchange.one in
     let now : settled_now c ≡ seen_at by c down = sym (settled_none by down (settled_now c) q.1) in
@@ -71,7 +72,7 @@ seat_asking skew greatest s by replied c up down x m idle a h =
       holds = h.holds;
       fits = h.fits;
       client = record { session = h.client.session; viewed = h.client.viewed; pending = h.client.pending; distinct = h.client.distinct; pinned = h.client.pinned; held = h.client.held };
-      exchange = asking_exchange skew greatest s.given s.rows by c (with_exchange x c) x m up down (settled_now c) (seen_at by c down) refl refl q.0 q.1 (subst (IsAsking c x m c.view.leases) now a) h.exchange.returns h.exchange.renewals;
+      exchange = asking_exchange skew greatest s.given s.rows by c (with_exchange x c) x m up down (settled_now c) (seen_at by c down) refl refl q.0 q.1 (subst (IsAsking s.given s.rows c x m c.view.leases) now a) h.exchange.returns h.exchange.renewals;
     }
 
 -- ## A question for leases
@@ -80,11 +81,10 @@ seat_asking skew greatest s by replied c up down x m idle a h =
 abbrev pub AreOfGivenKinds : List (Field × LeaseKind) → Type 0
 AreOfGivenKinds items = (x : Field × LeaseKind) → In x items → kind_for x.0 x.1 ≡ x.1
 
-pub seat_asks : (skew greatest : ℕ) (s : Sight) (by : Session) (replied : List Item) (c : Client) (up : List ClientMsg) (down : List Answer) (items : List (Field × LeaseKind)) (fresh : Option (List ℕ)) → c.exchange ≡ None → AreOfGivenKinds items → Seat skew greatest s by replied c up down
-    → Seat skew greatest s by replied (with_exchange (Asks home_server items fresh) c) (up ++ Ask items fresh ∷ []) down
-seat_asks skew greatest s by replied c up down items fresh idle given h = seat_asking skew greatest s by replied c up down (Asks home_server items fresh) (Ask items fresh) idle (record {
+pub seat_asks : (skew greatest : ℕ) (s : Sight) (by : Session) (replied : List Item) (c : Client) (up : List ClientMsg) (down : List Answer) (to : ℕ) (items : List (Field × LeaseKind)) (fresh : Option (List ℕ)) → c.exchange ≡ None → AreOfGivenKinds items → Seat skew greatest s by replied c up down
+    → Seat skew greatest s by replied (with_exchange (Asks to items fresh) c) (up ++ Ask items fresh ∷ []) down
+seat_asks skew greatest s by replied c up down to items fresh idle given h = seat_asking skew greatest s by replied c up down (Asks to items fresh) (Ask items fresh) idle (record {
   question = refl;
-  first = refl;
   ships = tt;
   front = λ entries i. elim i as (λ _. IsFront entries (settled_now c)) [ inl e ↦ absurd (cc) | inr z ↦ absurd z ];
   released = tt;
@@ -92,21 +92,24 @@ seat_asks skew greatest s by replied c up down items fresh idle given h = seat_a
     | inl e ↦ let q : xs ≡ items = cc in given x (subst (In x) q j)
     | inr z ↦ absurd z
   ];
+  pairs = no_pairs s.given s.rows (Ask items fresh) refl;
 }) h
 
 -- ## The log is handed in
 
-pub seat_ships : (skew greatest : ℕ) (s : Sight) (by : Session) (replied : List Item) (c : Client) (up : List ClientMsg) (down : List Answer) → c.exchange ≡ None → c.over ≡ None → Seat skew greatest s by replied c up down → Seat skew greatest s by replied (with_exchange (Ships home_server (length c.log)) c) (up ++ Ship c.log ∷ []) down
-seat_ships skew greatest s by replied c up down idle open_ h = seat_asking skew greatest s by replied c up down (Ships home_server (length c.log)) (Ship c.log) idle (record {
+-- entries at the front of it
+pub seat_ships : (skew greatest : ℕ) (s : Sight) (by : Session) (replied : List Item) (c : Client) (up : List ClientMsg) (down : List Answer) (to : ℕ) (sent rest : List Entry) → c.log ≡ sent ++ rest → c.exchange ≡ None → c.over ≡ None → Seat skew greatest s by replied c up down
+    → Seat skew greatest s by replied (with_exchange (Ships to (length sent)) c) (up ++ Ship sent ∷ []) down
+seat_ships skew greatest s by replied c up down to sent rest log idle open_ h = seat_asking skew greatest s by replied c up down (Ships to (length sent)) (Ship sent) idle (record {
   question = refl;
-  first = refl;
-  ships = omega arith;
+  ships = let n = ap length log in let m = length-append sent rest in omega arith;
   front = λ entries i. elim i as (λ _. IsFront entries (settled_now c)) [
-    | inl e ↦ let q : entries ≡ c.log = cc in record { rest = []; log = sym (append-nil entries ∙ q); over = open_ }
+    | inl e ↦ let q : entries ≡ sent = cc in record { rest = rest; log = log ∙ ap (λ es. es ++ rest) (sym q); over = open_ }
     | inr z ↦ absurd z
   ];
   released = tt;
   kinds = λ xs f i x j. elim i as (λ _. kind_for x.0 x.1 ≡ x.1) [ inl e ↦ absurd (cc) | inr z ↦ absurd z ];
+  pairs = no_pairs s.given s.rows (Ship sent) refl;
 }) h
 
 -- ## Leases are renewed
@@ -115,14 +118,15 @@ pub pair_numbers_of : (ks : List Kept) → pair_numbers (map pair_of ks) ≡ num
 pair_numbers_of [] = refl
 pair_numbers_of (k ∷ ks) = ap (λ ns. number_of k.standing ∷ ns) (pair_numbers_of ks)
 
-pub seat_renews : (skew greatest : ℕ) (s : Sight) (by : Session) (replied : List Item) (c : Client) (up : List ClientMsg) (down : List Answer) (ks : List Kept) → c.exchange ≡ None → Seat skew greatest s by replied c up down → Seat skew greatest s by replied (with_exchange (Renews home_server (numbers_in ks)) c) (up ++ Renew (map pair_of ks) ∷ []) down
-seat_renews skew greatest s by replied c up down ks idle h = seat_asking skew greatest s by replied c up down (Renews home_server (numbers_in ks)) (Renew (map pair_of ks)) idle (record {
+pub seat_renews : (skew greatest : ℕ) (s : Sight) (by : Session) (replied : List Item) (c : Client) (up : List ClientMsg) (down : List Answer) (to : ℕ) (ks : List Kept) → ((k : Kept) → In k ks → In k c.view.leases) → c.exchange ≡ None → Seat skew greatest s by replied c up down
+    → Seat skew greatest s by replied (with_exchange (Renews to (numbers_in ks)) c) (up ++ Renew (map pair_of ks) ∷ []) down
+seat_renews skew greatest s by replied c up down to ks among idle h = seat_asking skew greatest s by replied c up down (Renews to (numbers_in ks)) (Renew (map pair_of ks)) idle (record {
   question = pair_numbers_of ks;
-  first = refl;
   ships = tt;
   front = λ entries i. elim i as (λ _. IsFront entries (settled_now c)) [ inl e ↦ absurd (cc) | inr z ↦ absurd z ];
   released = tt;
   kinds = λ xs f i x j. elim i as (λ _. kind_for x.0 x.1 ≡ x.1) [ inl e ↦ absurd (cc) | inr z ↦ absurd z ];
+  pairs = renews_pairs s.given s.rows ks (λ k i. kept_pair skew greatest s by replied c up down idle h k (among k i));
 }) h
 
 -- ## Leases go back
@@ -134,6 +138,11 @@ leave_number : (s : Standing) → number_of (leaving s) ≡ number_of s
 leave_number (Held l) = refl
 leave_number (Pinned u) = refl
 leave_number (Leaving l) = refl
+
+leave_pair : (s : Standing) → pair_in (leaving s) ≡ pair_in s
+leave_pair (Held l) = refl
+leave_pair (Pinned u) = refl
+leave_pair (Leaving l) = refl
 
 leave_entries : (s : Standing) → entries_of (leaving s) ≡ entries_of s
 leave_entries (Held l) = refl
@@ -174,6 +183,7 @@ pub record CameFrom (ks : List Kept) (k : Kept) : Type 0 where
   pub kept : Kept
   pub among : In kept ks
   pub number : number_of kept.standing ≡ number_of k.standing
+  pub pair : pair_of kept ≡ pair_of k
   pub entries : entries_of kept.standing ≡ entries_of k.standing
   pub lease : (l : Lease) → lease_in k ≡ Some l → lease_in kept ≡ Some l
 
@@ -189,7 +199,7 @@ one_lease n k l = within (has_number n k)
     within false h = h
 
 pub came_all : (ns : List LeaseNo) (v : View) (k : Kept) → In k (leaving_all ns v).leases → CameFrom v.leases k
-came_all [] v k i = record { kept = k; among = i; number = refl; entries = refl; lease = λ l h. h }
+came_all [] v k i = record { kept = k; among = i; number = refl; pair = refl; entries = refl; lease = λ l h. h }
 came_all (n ∷ ns) v k i =
     let q = came_all ns (with_leaving n v) k i in
     let p = In-map (one_leaves n) q.kept v.leases q.among in
@@ -197,6 +207,7 @@ came_all (n ∷ ns) v k i =
       kept = p.0;
       among = p.1.0;
       number = sym (one_keeps number_of leave_number n p.0) ∙ ap (λ (x : Kept). number_of x.standing) (sym p.1.1) ∙ q.number;
+      pair = sym (one_keeps pair_in leave_pair n p.0) ∙ ap pair_of (sym p.1.1) ∙ q.pair;
       entries = sym (one_keeps entries_of leave_entries n p.0) ∙ ap (λ (x : Kept). entries_of x.standing) (sym p.1.1) ∙ q.entries;
       lease = λ l h. one_lease n p.0 l (ap lease_in (sym p.1.1) ∙ q.lease l h);
     }

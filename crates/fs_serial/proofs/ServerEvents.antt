@@ -1,9 +1,9 @@
 -- The server's events keep all that holds.
-use Rattle.std.proofs.Common.{◌≡◌, ℕ, ◌≤◌, ◌==◌, ◌&&◌, max, true, List, [], ◌∷◌, ◌++◌, length, map, append-nil, cond, refl, sym, ap, ◌∙◌, subst, inl, inr, arith}
+use Rattle.std.proofs.Common.{◌≡◌, ℕ, ◌≤◌, ◌&&◌, max, true, false, List, [], ◌∷◌, ◌++◌, length, map, append-nil, cond, refl, sym, ap, ◌∙◌, subst, inl, inr, arith}
 use Rattle.std.specs.Prelude.{Option, Some, None, nat_le}
+use Rattle.std.specs.Cmp.{nat_eq_equiv}
 use Rattle.std.specs.List.{find, list_all}
 use Rattle.std.proofs.lemmas.Bool.Decides.{nat_tests}
-use Rattle.std.proofs.lemmas.List.{length-map}
 use Rattle.fs_ident.specs.In.{In}
 use Rattle.fs_ident.specs.declared.actor.LeaseNo.{LeaseNo}
 use Rattle.fs_ident.specs.declared.actor.Peer.{Peer}
@@ -25,11 +25,10 @@ use Rattle.fs_msg.specs.declared.entry.Entry.{Entry}
 use Rattle.fs_msg.specs.declared.msg.Msg.{Msg}
 use Rattle.fs_record.specs.Effects.{tells_its_effects}
 use Rattle.fs_server.specs.Asks.{answered, asked_in, recalls_at}
-use Rattle.fs_server.specs.Pairs.{ends_told, numbers_in, released_rows, renewed_rows}
-use Rattle.fs_server.specs.Server.{Stepped, begun, end_of, strange, to_session}
+use Rattle.fs_server.specs.Pairs.{ends_told, numbers_in, pairs_end, pairs_here, released_rows, renewed_rows}
+use Rattle.fs_server.specs.Server.{Stepped, begun, end_of, is_mine, strange, to_session}
 use Rattle.fs_server.specs.Ships.{ship_from, ship_step, shipped}
-use Rattle.fs_rows.specs.Live.{unlocked_on}
-use Rattle.fs_server.specs.Step.{event_step, message_step, recalls_of}
+use Rattle.fs_server.specs.Step.{event_step, message_step, recalled_on, recalls_of}
 use Rattle.fs_server.specs.declared.event.ServerEvent.{ServerEvent}
 use Rattle.fs_server.specs.declared.event.ServerEvent.TheVariants as event
 use Rattle.fs_server.specs.declared.state.Server.{Server}
@@ -37,14 +36,16 @@ use Rattle.fs_client.specs.Answers.{answer_fits, begins_numbers, fresh_fits, gra
 use Rattle.fs_client.specs.declared.exchange.Exchange.{Exchange}
 use Rattle.fs_client.specs.declared.exchange.Exchange.TheVariants.{Asks, Renews, Releases, Ships}
 use Rattle.fs_client.specs.declared.state.Client.{Client}
-use Rattle.fs_serial.specs.Exchange.{AsksFirst, IsQuestion, IsReturned, OneExchange, ReleasesReturned}
+use Rattle.fs_serial.specs.Exchange.{IsQuestion, IsReturned, OneExchange, ReleasesReturned, server_of_question}
 use Rattle.fs_serial.specs.Parts.{with_client}
 use Rattle.fs_serial.specs.Settled.{Settled, acknowledged_all, settled_now, told, with_over}
 use Rattle.fs_serial.specs.Sight.{Sight, sight_of}
 use Rattle.fs_serial.specs.World.{GoesOn, IsThere, World, WorldHolds, after_server, settled_at, with_answer, with_sent, without_question, without_taken}
 use Rattle.fs_serial.proofs.Again.{client_same}
 use Rattle.fs_serial.proofs.Asks as asks
+use Rattle.fs_serial.proofs.Counting.{given_by}
 use Rattle.fs_serial.proofs.Facts.{In-front}
+use Rattle.fs_serial.proofs.LaterSteps.{asked_follows, released_later, renewed_later, ships_follow}
 use Rattle.fs_serial.proofs.OneLease.{same_no_self}
 use Rattle.fs_serial.proofs.PairLoops.{ends_backed, rows_released, rows_renewed}
 use Rattle.fs_serial.proofs.Rising.{world_begins}
@@ -60,26 +61,58 @@ recalled_for : (e : End) (rows : List Row) (m : Peer × Msg) → In m (recalls_a
 recalled_for (end.Wait blocker) rows m i = recalled_at blocker (find (has_no blocker) rows) m i
 recalled_for e rows m i = absurd i
 
--- the exchange that stands is one with the first server
-first_of : (x : Exchange) (o : Option Exchange) → o ≡ Some x → AsksFirst o → AsksFirst (Some x)
-first_of x o e h = subst AsksFirst e h
-
-same_first : (to : ℕ) → to ≡ 0 → (to == 0) ≡ true
-same_first to e = grind (arith, nat_tests)
-
-ask_fits : (x : Exchange) (c : Client) (items : List (Field × LeaseKind)) (dir : Option (List ℕ)) (grants : List Grant) (given : Option (List ℕ)) (e : End) → AsksFirst (Some x) → IsQuestion x (Ask items dir) → (fresh_fits dir given && grants_fit items given c.view.leases [] grants) ≡ true
-    → answer_fits 0 x (Granted grants given e) c ≡ true
-ask_fits (Asks to items2 dir2) c items dir grants given e first q h =
+ask_fits : (x : Exchange) (c : Client) (items : List (Field × LeaseKind)) (dir : Option (List ℕ)) (grants : List Grant) (given : Option (List ℕ)) (e : End) → IsQuestion x (Ask items dir) → (fresh_fits dir given && grants_fit items given c.view.leases [] grants) ≡ true
+    → answer_fits (server_of_question x) x (Granted grants given e) c ≡ true
+ask_fits (Asks to items2 dir2) c items dir grants given e q h =
     let i : items ≡ items2 = cc in
     let d : dir ≡ dir2 = cc in
-    joined _ _ (same_first to first) (subst (λ o. (fresh_fits o given && grants_fit items2 given c.view.leases [] grants) ≡ true) d (subst (λ is. (fresh_fits dir given && grants_fit is given c.view.leases [] grants) ≡ true) i h))
-ask_fits (Renews to numbers) c items dir grants given e first q h = absurd q
-ask_fits (Releases to numbers) c items dir grants given e first q h = absurd q
-ask_fits (Ships to count) c items dir grants given e first q h = absurd q
+    joined _ _ (nat_eq_equiv.refl to) (subst (λ o. (fresh_fits o given && grants_fit items2 given c.view.leases [] grants) ≡ true) d (subst (λ is. (fresh_fits dir given && grants_fit is given c.view.leases [] grants) ≡ true) i h))
+ask_fits (Renews to numbers) c items dir grants given e q h = absurd q
+ask_fits (Releases to numbers) c items dir grants given e q h = absurd q
+ask_fits (Ships to count) c items dir grants given e q h = absurd q
+
+at_most : (a b : ℕ) → a ≤ b → nat_le a b ≡ true
+at_most a b h = grind (arith, nat_tests)
+
+-- ## The pairs up to the first that is with another server
+
+here_among : (s : Server) (pairs : List (List ℕ × LeaseNo)) (n : LeaseNo) → In n (numbers_in (pairs_here s pairs)) → In n (numbers_in pairs)
+here_among s [] n i = i
+here_among s (p ∷ ps) n i = elim (is_mine s p.0) as (λ b. In n (numbers_in (cond b (p ∷ pairs_here s ps) [])) → In n (p.1 ∷ numbers_in ps)) [
+  | true ↦ λ j. elim j as (λ _. In n (p.1 ∷ numbers_in ps)) [ inl e ↦ inl e | inr k ↦ inr (here_among s ps n k) ]
+  | false ↦ λ j. absurd j
+] i
+
+few_here : (s : Server) (pairs : List (List ℕ × LeaseNo)) → length (numbers_in (pairs_here s pairs)) ≤ length (numbers_in pairs)
+few_here s [] = omega arith
+few_here s (p ∷ ps) = elim (is_mine s p.0) as (λ b. length (numbers_in (cond b (p ∷ pairs_here s ps) [])) ≤ length (numbers_in (p ∷ ps))) [
+  | true ↦ let q = few_here s ps in omega arith
+  | false ↦ omega arith
+]
+
+-- what is told of them begins with the numbers that were sent
+begins_here : (s : Server) (until : ℕ) (rows : List Row) (pairs : List (List ℕ × LeaseNo)) → begins_numbers (numbers_in pairs) (map (λ (r : LeaseNo × Option ℕ). r.0) (ends_told until (numbers_in (pairs_here s pairs)) rows)) ≡ true
+begins_here s until rows [] = refl
+begins_here s until rows (p ∷ ps) = elim (is_mine s p.0) as (λ b. begins_numbers (p.1 ∷ numbers_in ps) (map (λ (r : LeaseNo × Option ℕ). r.0) (ends_told until (numbers_in (cond b (p ∷ pairs_here s ps) [])) rows)) ≡ true) [
+  | true ↦ joined _ _ (same_no_self p.1) (begins_here s until rows ps)
+  | false ↦ refl
+]
+
+-- ## A log on its way
+
+each_plain : (entries : List Entry) → ((e : Entry) → In e entries → tells_its_effects e.op ≡ true) → list_all (λ (e : Entry). tells_its_effects e.op) entries ≡ true
+each_plain [] f = refl
+each_plain (e ∷ es) f = joined _ _ (f e (inl refl)) (each_plain es (λ x i. f x (inr i)))
+
+-- a log that is on its way tells its effects
+pub all_plain : (greatest : ℕ) (w : World) (by : Session) (entries : List Entry) → In (Ship entries) (w.ends by).up → WorldHolds greatest w → list_all (λ (e : Entry). tells_its_effects e.op) entries ≡ true
+all_plain greatest w by entries there h =
+    let front = (h.exchanges by).front entries there in
+    each_plain entries (λ e i. ((h.all.fitting by).entries e (subst (λ es. In e es) (sym front.log) (In-front e entries front.rest i))).plain)
 
 -- the world after a step of its server that is told the session
 abbrev world_after : World → Session → Stepped → World
-world_after w by st = record { server = st.server; journal = w.journal ++ st.out.admitted; replied = w.replied; ends = with_sent st.out.send (without_question by w.ends) }
+world_after w by st = record { server = st.server; counts = w.counts; journal = w.journal ++ st.out.admitted; replied = w.replied; ends = with_sent st.out.send (without_question by w.ends) }
 
 module _ (greatest : ℕ) (w : World) (by : Session) (h : WorldHolds greatest w) where
   abbrev s : Server
@@ -95,27 +128,23 @@ module _ (greatest : ℕ) (w : World) (by : Session) (h : WorldHolds greatest w)
   world_asked items dir up =
       let there : In (Ask items dir) (w.ends by).up = subst (λ ms. In (Ask items dir) ms) (sym up) (inl refl) in
       let a = asked_in by items dir s in
-      let right = asks.answered_right s.skew greatest w.journal w.replied w.ends base by items dir s (goes_of greatest w h) ((h.exchanges by).kinds items dir there) in
+      let right = asks.answered_right w.counts s.skew greatest w.journal w.replied w.ends base by items dir s (goes_of greatest w h) ((h.exchanges by).kinds items dir there) in
       let same = asked_same by items dir s in
       let clock = h.clock in
       let last = same.last in
-      let told = world_answered greatest w a.server w.journal by (Ask items dir) (Granted a.grants a.fresh a.end) up h same.skew (omega arith) right.goes refl
-      (λ x e q. ask_fits x c items dir a.grants a.fresh a.end (first_of x c.exchange e (h.exchanges by).first) q right.fits)
+      let told = world_answered greatest w a.server w.journal by (Ask items dir) (Granted a.grants a.fresh a.end) up h same.skew (omega arith) (asked_follows w.counts by items dir s) right.goes refl
+      (λ x e q. ask_fits x c items dir a.grants a.fresh a.end q right.fits)
       (λ ends e q. absurd (cc)) in
-      subst (λ js. WorldHolds greatest (record { server = a.server; journal = js; replied = w.replied; ends = with_sent (recalls_at a.end a.server.rows) (with_answer by (Granted a.grants a.fresh a.end) (without_question by w.ends)) })) (sym (append-nil w.journal))
-      (world_all_recalled greatest (record { server = a.server; journal = w.journal; replied = w.replied; ends = with_answer by (Granted a.grants a.fresh a.end) (without_question by w.ends) }) (recalls_at a.end a.server.rows) (recalled_for a.end a.server.rows) told)
+      subst (λ js. WorldHolds greatest (record { server = a.server; counts = w.counts; journal = js; replied = w.replied; ends = with_sent (recalls_at a.end a.server.rows) (with_answer by (Granted a.grants a.fresh a.end) (without_question by w.ends)) })) (sym (append-nil w.journal))
+      (world_all_recalled greatest (record { server = a.server; counts = w.counts; journal = w.journal; replied = w.replied; ends = with_answer by (Granted a.grants a.fresh a.end) (without_question by w.ends) }) (recalls_at a.end a.server.rows) (recalled_for a.end a.server.rows) told)
 
   -- ## Renewals
 
-  begins_self : (until : ℕ) (ns : List LeaseNo) (rows : List Row) → begins_numbers ns (map (λ (r : LeaseNo × Option ℕ). r.0) (ends_told until ns rows)) ≡ true
-  begins_self until [] rows = refl
-  begins_self until (n ∷ ns) rows = joined _ _ (same_no_self n) (begins_self until ns rows)
-
-  renew_fits : (x : Exchange) (pairs : List (List ℕ × LeaseNo)) (until : ℕ) (e : End) → AsksFirst (Some x) → IsQuestion x (Renew pairs) → answer_fits 0 x (Renewed (ends_told until (numbers_in pairs) s.rows) e) c ≡ true
-  renew_fits (Renews to numbers) pairs until e first q = joined _ _ (same_first to first) (ap (λ ns. begins_numbers ns (map (λ (r : LeaseNo × Option ℕ). r.0) (ends_told until (numbers_in pairs) s.rows))) (sym q) ∙ begins_self until (numbers_in pairs) s.rows)
-  renew_fits (Asks to items fresh) pairs until e first q = absurd (cc)
-  renew_fits (Releases to numbers) pairs until e first q = absurd q
-  renew_fits (Ships to count) pairs until e first q = absurd q
+  renew_fits : (x : Exchange) (pairs : List (List ℕ × LeaseNo)) (until : ℕ) (e : End) → IsQuestion x (Renew pairs) → answer_fits (server_of_question x) x (Renewed (ends_told until (numbers_in (pairs_here s pairs)) s.rows) e) c ≡ true
+  renew_fits (Renews to numbers) pairs until e q = joined _ _ (nat_eq_equiv.refl to) (ap (λ ns. begins_numbers ns (map (λ (r : LeaseNo × Option ℕ). r.0) (ends_told until (numbers_in (pairs_here s pairs)) s.rows))) (sym q) ∙ begins_here s until s.rows pairs)
+  renew_fits (Asks to items fresh) pairs until e q = absurd (cc)
+  renew_fits (Releases to numbers) pairs until e q = absurd q
+  renew_fits (Ships to count) pairs until e q = absurd q
 
   unchanged : (a : Answer) (t : Sight) → told by a (base by) ≡ base by → GoesOn s.skew greatest t w.replied w.ends base → GoesOn s.skew greatest t w.replied w.ends (with_client by (told by a (base by)) base)
   unchanged a t e g = subst (λ k. GoesOn s.skew greatest t w.replied w.ends k) (sym (ap (λ d. with_client by d base) e ∙ client_same by base)) g
@@ -123,25 +152,28 @@ module _ (greatest : ℕ) (w : World) (by : Session) (h : WorldHolds greatest w)
   renewed_step : (pairs : List (List ℕ × LeaseNo)) → (w.ends by).up ≡ Renew pairs ∷ [] → WorldHolds greatest (world_after w by (message_step by (Renew pairs) s))
   renewed_step pairs up =
       let until = end_of s in
-      let ns = numbers_in pairs in
+      let ns = numbers_in (pairs_here s pairs) in
+      let e = pairs_end s pairs in
       let t : Server = record s { rows = renewed_rows until ns s.rows } in
-      let a = Renewed (ends_told until ns s.rows) end.All in
-      subst (λ js. WorldHolds greatest (record { server = t; journal = js; replied = w.replied; ends = with_answer by a (without_question by w.ends) })) (sym (append-nil w.journal))
-      (world_answered greatest w t w.journal by (Renew pairs) a up h refl h.clock
-      (unchanged a (sight_of t w.journal) refl (rows_renewed s.skew greatest (sight_of s w.journal) w.replied w.ends base until ns s.rows (goes_of greatest w h)))
+      let a = Renewed (ends_told until ns s.rows) e in
+      subst (λ js. WorldHolds greatest (record { server = t; counts = w.counts; journal = js; replied = w.replied; ends = with_answer by a (without_question by w.ends) })) (sym (append-nil w.journal))
+      (world_answered greatest w t w.journal by (Renew pairs) a up h refl h.clock (renewed_later (given_by w.counts s) until ns s.rows)
+      (unchanged a (sight_of w.counts t w.journal) refl (rows_renewed s.skew greatest (sight_of w.counts s w.journal) w.replied w.ends base until ns s.rows (goes_of greatest w h)))
       refl
-      (λ x e q. renew_fits x pairs until end.All (first_of x c.exchange e (h.exchanges by).first) q)
-      (λ ends e q n u i. let same : ends_told until ns s.rows ≡ ends = cc in ends_backed until ns s.rows n u (subst (λ es. In (n, Some u) es) (sym same) i)))
+      (λ x z q. renew_fits x pairs until e q)
+      (λ ends z q n u i. let same : ends_told until ns s.rows ≡ ends = cc in ends_backed until ns s.rows n u (subst (λ es. In (n, Some u) es) (sym same) i)))
 
   -- ## Releases
 
-  release_fits : (x : Exchange) (pairs : List (List ℕ × LeaseNo)) (e : End) → AsksFirst (Some x) → IsQuestion x (Release pairs) → answer_fits 0 x (Released (length pairs) e) c ≡ true
-  release_fits (Releases to numbers) pairs e first q =
-      let n : length pairs ≡ length numbers = sym (length-map pairs (λ (p : List ℕ × LeaseNo). p.1)) ∙ ap length q in
-      joined _ _ (same_first to first) (grind (arith, nat_tests))
-  release_fits (Asks to items fresh) pairs e first q = absurd (cc)
-  release_fits (Renews to numbers) pairs e first q = absurd q
-  release_fits (Ships to count) pairs e first q = absurd q
+  release_fits : (x : Exchange) (pairs : List (List ℕ × LeaseNo)) (e : End) → IsQuestion x (Release pairs) → answer_fits (server_of_question x) x (Released (length (numbers_in (pairs_here s pairs))) e) c ≡ true
+  release_fits (Releases to numbers) pairs e q =
+      let few = few_here s pairs in
+      let all = ap length q in
+      let le : nat_le (length (numbers_in (pairs_here s pairs))) (length numbers) ≡ true = at_most (length (numbers_in (pairs_here s pairs))) (length numbers) (omega arith) in
+      joined _ _ (nat_eq_equiv.refl to) le
+  release_fits (Asks to items fresh) pairs e q = absurd (cc)
+  release_fits (Renews to numbers) pairs e q = absurd q
+  release_fits (Ships to count) pairs e q = absurd q
 
   returned_by : (x : Exchange) (pairs : List (List ℕ × LeaseNo)) → IsQuestion x (Release pairs) → ReleasesReturned (Some x) c.view.leases → (n : LeaseNo) → In n (numbers_in pairs) → IsReturned c.view.leases n
   returned_by (Releases to numbers) pairs q r n i = r n (subst (λ ns. In n ns) q i)
@@ -151,31 +183,28 @@ module _ (greatest : ℕ) (w : World) (by : Session) (h : WorldHolds greatest w)
 
   released_step : (pairs : List (List ℕ × LeaseNo)) → (w.ends by).up ≡ Release pairs ∷ [] → WorldHolds greatest (world_after w by (message_step by (Release pairs) s))
   released_step pairs up =
-      let ns = numbers_in pairs in
+      let ns = numbers_in (pairs_here s pairs) in
+      let e = pairs_end s pairs in
       let t : Server = record s { rows = released_rows ns s.rows } in
-      let a = Released (length pairs) end.All in
+      let a = Released (length ns) e in
       let o = asked greatest w t w.journal by (Release pairs) a up h in
       let back = returned_by o.exchange pairs o.question (subst (λ x. ReleasesReturned x c.view.leases) o.stands (h.exchanges by).released) in
-      subst (λ js. WorldHolds greatest (record { server = t; journal = js; replied = w.replied; ends = with_answer by a (without_question by w.ends) })) (sym (append-nil w.journal))
-      (world_answered greatest w t w.journal by (Release pairs) a up h refl h.clock
-      (unchanged a (sight_of t w.journal) refl (rows_released s.skew greatest (sight_of s w.journal) w.replied w.ends base by ns s.rows back (goes_of greatest w h)))
+      subst (λ js. WorldHolds greatest (record { server = t; counts = w.counts; journal = js; replied = w.replied; ends = with_answer by a (without_question by w.ends) })) (sym (append-nil w.journal))
+      (world_answered greatest w t w.journal by (Release pairs) a up h refl h.clock (released_later (given_by w.counts s) ns s.rows)
+      (unchanged a (sight_of w.counts t w.journal) refl (rows_released s.skew greatest (sight_of w.counts s w.journal) w.replied w.ends base by ns s.rows (λ n i. back n (here_among s pairs n i)) (goes_of greatest w h)))
       refl
-      (λ x e q. release_fits x pairs end.All (first_of x c.exchange e (h.exchanges by).first) q)
-      (λ ends e q. absurd (cc)))
+      (λ x z q. release_fits x pairs e q)
+      (λ ends z q. absurd (cc)))
 
   -- ## Logs
 
-  ship_fits : (x : Exchange) (entries : List Entry) (count : ℕ) (e : End) → AsksFirst (Some x) → IsQuestion x (Ship entries) → count ≤ length entries → refusal_fits e count c.log ≡ true → answer_fits 0 x (Shipped count e) c ≡ true
-  ship_fits (Ships to sent) entries count e first q few fits =
+  ship_fits : (x : Exchange) (entries : List Entry) (count : ℕ) (e : End) → IsQuestion x (Ship entries) → count ≤ length entries → refusal_fits e count c.log ≡ true → answer_fits (server_of_question x) x (Shipped count e) c ≡ true
+  ship_fits (Ships to sent) entries count e q few fits =
       let le : nat_le count sent ≡ true = grind (arith, nat_tests) in
-      joined _ _ (same_first to first) (joined _ _ le fits)
-  ship_fits (Asks to items fresh) entries count e first q few fits = absurd (cc)
-  ship_fits (Renews to numbers) entries count e first q few fits = absurd q
-  ship_fits (Releases to numbers) entries count e first q few fits = absurd q
-
-  all_plain : (entries : List Entry) → ((e : Entry) → In e entries → tells_its_effects e.op ≡ true) → list_all (λ (e : Entry). tells_its_effects e.op) entries ≡ true
-  all_plain [] f = refl
-  all_plain (e ∷ es) f = joined _ _ (f e (inl refl)) (all_plain es (λ x i. f x (inr i)))
+      joined _ _ (nat_eq_equiv.refl to) (joined _ _ le fits)
+  ship_fits (Asks to items fresh) entries count e q few fits = absurd (cc)
+  ship_fits (Renews to numbers) entries count e q few fits = absurd q
+  ship_fits (Releases to numbers) entries count e q few fits = absurd q
 
   world_shipped : (entries : List Entry) → (w.ends by).up ≡ Ship entries ∷ [] → WorldHolds greatest (world_after w by (shipped by (ship_from by entries s [])))
   world_shipped entries up =
@@ -183,10 +212,10 @@ module _ (greatest : ℕ) (w : World) (by : Session) (h : WorldHolds greatest w)
       let front = (h.exchanges by).front entries there in
       let d = base by in
       let x = ship_from by entries s [] in
-      let start : GoesOn s.skew greatest (sight_of s (w.journal ++ [])) w.replied w.ends (with_client by d base) =
-      subst (λ js. GoesOn s.skew greatest (sight_of s js) w.replied w.ends (with_client by d base)) (sym (append-nil w.journal))
-      (subst (λ k. GoesOn s.skew greatest (sight_of s w.journal) w.replied w.ends k) (sym (client_same by base)) (goes_of greatest w h)) in
-      let r : IsShipped s.skew greatest w.journal w.replied w.ends base by entries d [] x = shipped_still s.skew greatest w.journal w.replied w.ends base by entries front.rest s [] d front.log front.over start in
+      let start : GoesOn s.skew greatest (sight_of w.counts s (w.journal ++ [])) w.replied w.ends (with_client by d base) =
+      subst (λ js. GoesOn s.skew greatest (sight_of w.counts s js) w.replied w.ends (with_client by d base)) (sym (append-nil w.journal))
+      (subst (λ k. GoesOn s.skew greatest (sight_of w.counts s w.journal) w.replied w.ends k) (sym (client_same by base)) (goes_of greatest w h)) in
+      let r : IsShipped w.counts s.skew greatest w.journal w.replied w.ends base by entries d [] x = shipped_still w.counts s.skew greatest w.journal w.replied w.ends base by entries front.rest s [] d front.log front.over start in
       let count : length x.admitted ≡ length r.more = ap length r.split in
       let same = ships_same by entries s [] in
       let clock = h.clock in
@@ -196,17 +225,16 @@ module _ (greatest : ℕ) (w : World) (by : Session) (h : WorldHolds greatest w)
       let log : c.log ≡ d.log = sym (ap (λ (k : Settled). k.log) (settled_none by (w.ends by).down (settled_now c) o.silent)) in
       let fits : refusal_fits x.end (length x.admitted) c.log ≡ true = ap (refusal_fits x.end (length x.admitted)) log ∙ ap (λ n. refusal_fits x.end n d.log) count ∙ r.fits in
       let few = r.few in
-      world_answered greatest w x.server (w.journal ++ x.admitted) by (Ship entries) a up h same.skew (omega arith)
-      (subst (λ n. GoesOn s.skew greatest (sight_of x.server (w.journal ++ x.admitted)) w.replied w.ends (with_client by (with_over (over_after x.end d.over) (acknowledged_all by n d)) base)) (sym count) r.goes)
+      world_answered greatest w x.server (w.journal ++ x.admitted) by (Ship entries) a up h same.skew (omega arith) (ships_follow w.counts by entries s [])
+      (subst (λ n. GoesOn s.skew greatest (sight_of w.counts x.server (w.journal ++ x.admitted)) w.replied w.ends (with_client by (with_over (over_after x.end d.over) (acknowledged_all by n d)) base)) (sym count) r.goes)
       refl
-      (λ y e q. ship_fits y entries (length x.admitted) x.end (first_of y c.exchange e (h.exchanges by).first) q (omega arith) fits)
+      (λ y e q. ship_fits y entries (length x.admitted) x.end q (omega arith) fits)
       (λ ends e q. absurd (cc))
 
   shipped_step : (entries : List Entry) → (w.ends by).up ≡ Ship entries ∷ [] → WorldHolds greatest (world_after w by (ship_step by entries s))
   shipped_step entries up =
       let there : In (Ship entries) (w.ends by).up = subst (λ ms. In (Ship entries) ms) (sym up) (inl refl) in
-      let front = (h.exchanges by).front entries there in
-      let plain = all_plain entries (λ e i. ((h.all.fitting by).entries e (subst (λ es. In e es) (sym front.log) (In-front e entries front.rest i))).plain) in
+      let plain = all_plain greatest w by entries there h in
       subst (λ b. WorldHolds greatest (world_after w by (cond b (shipped by (ship_from by entries s [])) (strange s)))) (sym plain) (world_shipped entries up)
 
   -- ## Each message
@@ -227,14 +255,25 @@ one_up c None up down m i h = absurd (subst (λ ms. In m ms) h.0 i)
 one_up c (Some x) up down m i (inl a) = elim (subst (λ ms. In m ms) a.asked i) as (λ _. up ≡ m ∷ []) [ inl e ↦ a.asked ∙ ap (λ k. k ∷ []) (sym e) | inr z ↦ absurd z ]
 one_up c (Some x) up down m i (inr a) = absurd (subst (λ ms. In m ms) a.asked i)
 
--- after the clock was set
-begun_step : (greatest : ℕ) (w : World) (e : ServerEvent) → IsThere e w.ends → WorldHolds greatest w → WorldHolds greatest (record { server = (event_step e w.server).server; journal = w.journal ++ (event_step e w.server).out.admitted; replied = w.replied; ends = with_sent (event_step e w.server).out.send (without_taken e w.ends) })
-begun_step greatest w (event.FromClient by m) there h = told_message greatest w by h m (one_up (w.ends by).client (w.ends by).client.exchange (w.ends by).up (w.ends by).down m there (h.exchanges by).one)
-begun_step greatest w event.Turn there h = turn_keeps greatest w h
-begun_step greatest w (event.Recall field) there h =
-    subst (λ js. WorldHolds greatest (record { server = w.server; journal = js; replied = w.replied; ends = with_sent (event_step (event.Recall field) w.server).out.send w.ends })) (sym (append-nil w.journal))
-    (world_all_recalled greatest w (event_step (event.Recall field) w.server).out.send (all_recalls (unlocked_on field w.server.rows)) h)
+-- the world after an event, once the clock was set
+abbrev pub after_begun : ServerEvent → World → World
+after_begun e w = record {
+  server = (event_step e w.server).server;
+  counts = w.counts;
+  journal = w.journal ++ (event_step e w.server).out.admitted;
+  replied = w.replied;
+  ends = with_sent (event_step e w.server).out.send (without_taken e w.ends);
+}
+
+pub begun_keeps : (greatest : ℕ) (w : World) (e : ServerEvent) → IsThere e w.ends → WorldHolds greatest w → WorldHolds greatest (after_begun e w)
+begun_keeps greatest w (event.FromClient by m) there h = told_message greatest w by h m (one_up (w.ends by).client (w.ends by).client.exchange (w.ends by).up (w.ends by).down m there (h.exchanges by).one)
+begun_keeps greatest w (event.FromPeer from m) there h = absurd there
+begun_keeps greatest w (event.Move prefix to) there h = absurd there
+begun_keeps greatest w event.Turn there h = turn_keeps greatest w h
+begun_keeps greatest w (event.Recall field) there h =
+    subst (λ js. WorldHolds greatest (record { server = w.server; counts = w.counts; journal = js; replied = w.replied; ends = with_sent (event_step (event.Recall field) w.server).out.send w.ends })) (sym (append-nil w.journal))
+    (world_all_recalled greatest w (event_step (event.Recall field) w.server).out.send (all_recalls (recalled_on field w.server)) h)
 
 pub server_keeps : (greatest now : ℕ) (e : ServerEvent) (w : World) → max w.server.last now ≤ greatest → IsThere e w.ends → WorldHolds greatest w → WorldHolds greatest (after_server now e w)
 server_keeps greatest now e w before there h =
-    begun_step greatest (record { server = begun now w.server; journal = w.journal; replied = w.replied; ends = w.ends }) e there (world_begins greatest now w before h)
+    begun_keeps greatest (record { server = begun now w.server; counts = w.counts; journal = w.journal; replied = w.replied; ends = w.ends }) e there (world_begins greatest now w before h)

@@ -1,4 +1,4 @@
--- No event of the server changes its skew, and its clock only at the beginning.
+-- No event of the server changes its number and its skew, and its clock only at the beginning.
 use Rattle.std.proofs.Common.{◌≡◌, ℕ, Bool, true, false, List, [], ◌∷◌, ◌++◌, map, cond, refl, ◌∙◌}
 use Rattle.std.specs.Prelude.{Option, Some, None}
 use Rattle.std.specs.List.{list_all}
@@ -7,6 +7,7 @@ use Rattle.fs_field.specs.declared.asked.Asked.{Asked}
 use Rattle.fs_field.specs.declared.asked.Asked.TheVariants as asked_as
 use Rattle.fs_field.specs.declared.field.Field.{Field}
 use Rattle.fs_field.specs.declared.lease_kind.LeaseKind.{LeaseKind}
+use Rattle.fs_field.specs.Field.{file_of}
 use Rattle.fs_field.specs.Table.{borne_numbers}
 use Rattle.fs_msg.specs.declared.answer.Grant.{Grant}
 use Rattle.fs_msg.specs.declared.client_msg.ClientMsg.{ClientMsg}
@@ -14,47 +15,60 @@ use Rattle.fs_msg.specs.declared.client_msg.ClientMsg.TheVariants.{Ask, Renew, R
 use Rattle.fs_msg.specs.declared.end.End.{End}
 use Rattle.fs_msg.specs.declared.end.End.TheVariants as end
 use Rattle.fs_msg.specs.declared.entry.Entry.{Entry}
+use Rattle.fs_msg.specs.Home.{home_of}
 use Rattle.fs_msg.specs.declared.item.Item.{Item}
+use Rattle.fs_msg.specs.declared.peer_msg.PeerMsg.{PeerMsg}
+use Rattle.fs_msg.specs.declared.peer_msg.PeerMsg.TheVariants.{Parcel}
+use Rattle.fs_parcel.specs.Parcel.{move_refusal}
+use Rattle.fs_parcel.specs.declared.error.MoveError.{MoveError}
 use Rattle.fs_record.specs.Effects.{tells_its_effects}
 use Rattle.fs_record.specs.Fresh.{fresh_number, is_directory}
 use Rattle.fs_server.specs.Asks.{Asking, answer_to, ask_from, ask_fresh, asked_in, fresh_for, fresh_in, fresh_of, grant_of, kind_for, with_lease}
-use Rattle.fs_server.specs.Server.{strange}
+use Rattle.fs_server.specs.Moves.{fits_here, move_at, parcel_at, peer_step}
+use Rattle.fs_server.specs.Server.{is_mine, moved, strange}
 use Rattle.fs_server.specs.Ships.{Shipping, first_gone, item_of, ship_from, shipped, with_entry}
 use Rattle.fs_server.specs.Step.{event_step, message_step}
 use Rattle.fs_server.specs.declared.event.ServerEvent.{ServerEvent}
-use Rattle.fs_server.specs.declared.event.ServerEvent.TheVariants.{FromClient, Turn, Recall}
+use Rattle.fs_server.specs.declared.event.ServerEvent.TheVariants.{FromClient, FromPeer, Move, Turn, Recall}
 use Rattle.fs_server.specs.declared.state.Server.{Server}
 use Rattle.fs_field.specs.declared.used.Use.{Use}
 use Rattle.fs_serial.proofs.ServerTurn.{turn_leaves}
 
 -- ## What a question leaves
 
--- the clock and the skew stay
+-- the number, the clock and the skew stay
 pub record IsAsBefore (s t : Server) : Type 0 where
   pub skew : t.skew ≡ s.skew
   pub last : t.last ≡ s.last
+  pub me : t.me ≡ s.me
 
 as_it_was : (s : Server) → IsAsBefore s s
-as_it_was s = record { skew = refl; last = refl }
+as_it_was s = record { skew = refl; last = refl; me = refl }
 
 asks_same : (by : Session) (items : List (Field × LeaseKind)) (s : Server) (grants : List Grant) → IsAsBefore s (ask_from by items s grants).server
 asks_same by [] s grants = as_it_was s
 asks_same by (x ∷ xs) s grants =
     let field = x.0 in
     let kind = kind_for x.0 x.1 in
-    elim (answer_to by field kind s) as (λ (q : Asked). IsAsBefore s
-    (elim q as (λ _. Asking) [
+    let asked : Asked → Asking =
+    λ q. elim q as (λ _. Asking) [
       | asked_as.Granted promise ↦ ask_from by xs (with_lease by field kind promise s) (grants ++ grant_of by field kind s ∷ [])
       | asked_as.Wait blocker ↦ record { server = s; grants = grants; fresh = None; end = end.Wait blocker }
       | asked_as.Locked txn ↦ record { server = s; grants = grants; fresh = None; end = end.Locked txn }
-    ]).server) [
-      | asked_as.Granted promise ↦ let q = asks_same by xs (with_lease by field kind promise s) (grants ++ grant_of by field kind s ∷ []) in record { skew = q.skew; last = q.last }
-      | asked_as.Wait blocker ↦ as_it_was s
-      | asked_as.Locked txn ↦ as_it_was s
+    ] in
+    let away : Asking = record { server = s; grants = grants; fresh = None; end = moved s (file_of field) } in
+    elim (is_mine s (file_of field)) as (λ b. IsAsBefore s (cond b (asked (answer_to by field kind s)) away).server) [
+      | true ↦
+          elim (answer_to by field kind s) as (λ (q : Asked). IsAsBefore s (asked q).server) [
+            | asked_as.Granted promise ↦ let q = asks_same by xs (with_lease by field kind promise s) (grants ++ grant_of by field kind s ∷ []) in record { skew = q.skew; last = q.last; me = q.me }
+            | asked_as.Wait blocker ↦ as_it_was s
+            | asked_as.Locked txn ↦ as_it_was s
+          ]
+      | false ↦ as_it_was s
     ]
 
 fresh_same : (by : Session) (dir : List ℕ) (k : Option ℕ) (a : Asking) → IsAsBefore a.server (fresh_of by dir k a).server
-fresh_same by dir (Some k) a = record { skew = refl; last = refl }
+fresh_same by dir (Some k) a = record { skew = refl; last = refl; me = refl }
 fresh_same by dir None a = as_it_was a.server
 
 in_same : (by : Session) (dir : List ℕ) (b : Bool) (a : Asking) → IsAsBefore a.server (fresh_in by dir b a).server
@@ -63,7 +77,10 @@ in_same by dir false a = as_it_was a.server
 
 for_same : (by : Session) (o : Option (List ℕ)) (a : Asking) → IsAsBefore a.server (fresh_for by o a).server
 for_same by None a = as_it_was a.server
-for_same by (Some dir) a = in_same by dir (is_directory a.server.records dir) a
+for_same by (Some dir) a = elim (is_mine a.server dir) as (λ b. IsAsBefore a.server (cond b (fresh_in by dir (is_directory a.server.records dir) a) (record a { end = moved a.server dir })).server) [
+  | true ↦ in_same by dir (is_directory a.server.records dir) a
+  | false ↦ as_it_was a.server
+]
 
 end_same : (by : Session) (o : Option (List ℕ)) (e : End) (a : Asking) → IsAsBefore a.server (ask_fresh by o e a).server
 end_same by o end.All a = for_same by o a
@@ -74,32 +91,50 @@ asked_same by items dir s =
     let a = ask_from by items s [] in
     let p = asks_same by items s [] in
     let q = end_same by dir a.end a in
-    record { skew = q.skew ∙ p.skew; last = q.last ∙ p.last }
+    record { skew = q.skew ∙ p.skew; last = q.last ∙ p.last; me = q.me ∙ p.me }
 
 pub ships_same : (by : Session) (es : List Entry) (s : Server) (admitted : List Item) → IsAsBefore s (ship_from by es s admitted).server
 ships_same by [] s admitted = as_it_was s
 ships_same by (e ∷ es) s admitted =
-    elim (first_gone s.rows by e.uses) as (λ (o : Option Use). IsAsBefore s
-    (elim o as (λ _. Shipping) [
+    let here : Option Use → Shipping =
+    λ gone. elim gone as (λ _. Shipping) [
       | None ↦ ship_from by es (with_entry by e s) (admitted ++ item_of by e ∷ [])
       | Some u ↦ record { server = s; admitted = admitted; end = end.Ended e.n u.no u.until s.last; gaps = map (λ (x : Entry). x.n) es }
-    ]).server) [
-      | None ↦ let q = ships_same by es (with_entry by e s) (admitted ++ item_of by e ∷ []) in record { skew = q.skew; last = q.last }
-      | Some u ↦ as_it_was s
+    ] in
+    let away : Shipping = record { server = s; admitted = admitted; end = moved s (home_of e.op); gaps = [] } in
+    elim (is_mine s (home_of e.op)) as (λ b. IsAsBefore s (cond b (here (first_gone s.rows by e.uses)) away).server) [
+      | true ↦
+          elim (first_gone s.rows by e.uses) as (λ (gone : Option Use). IsAsBefore s (here gone).server) [
+            | None ↦ let q = ships_same by es (with_entry by e s) (admitted ++ item_of by e ∷ []) in record { skew = q.skew; last = q.last; me = q.me }
+            | Some u ↦ as_it_was s
+          ]
+      | false ↦ as_it_was s
     ]
 
 -- ## Each event
 
 message_same : (by : Session) (m : ClientMsg) (s : Server) → IsAsBefore s (message_step by m s).server
 message_same by (Ask items dir) s = asked_same by items dir s
-message_same by (Renew pairs) s = record { skew = refl; last = refl }
-message_same by (Release pairs) s = record { skew = refl; last = refl }
+message_same by (Renew pairs) s = record { skew = refl; last = refl; me = refl }
+message_same by (Release pairs) s = record { skew = refl; last = refl; me = refl }
 message_same by (Ship entries) s = elim (list_all (λ (e : Entry). tells_its_effects e.op) entries) as (λ b. IsAsBefore s (cond b (shipped by (ship_from by entries s [])) (strange s)).server) [
   | true ↦ ships_same by entries s []
   | false ↦ as_it_was s
 ]
 
+peer_same : (m : PeerMsg) (s : Server) → IsAsBefore s (peer_step m s).server
+peer_same (Parcel p) s = elim (fits_here p s) as (λ b. IsAsBefore s (parcel_at b p s).server) [
+  | true ↦ record { skew = refl; last = refl; me = refl }
+  | false ↦ as_it_was s
+]
+
+move_same : (why : Option MoveError) (prefix : List ℕ) (to : ℕ) (s : Server) → IsAsBefore s (move_at why prefix to s).server
+move_same None prefix to s = record { skew = refl; last = refl; me = refl }
+move_same (Some why) prefix to s = as_it_was s
+
 pub event_same : (e : ServerEvent) (s : Server) → IsAsBefore s (event_step e s).server
 event_same (FromClient by m) s = message_same by m s
-event_same Turn s = let q = turn_leaves s in record { skew = q.skew; last = q.last }
+event_same Turn s = let q = turn_leaves s in record { skew = q.skew; last = q.last; me = q.me }
+event_same (FromPeer from m) s = peer_same m s
 event_same (Recall field) s = as_it_was s
+event_same (Move prefix to) s = move_same (move_refusal s.records s.rows s.map s.me prefix to None) prefix to s

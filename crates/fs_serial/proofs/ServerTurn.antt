@@ -19,10 +19,12 @@ use Rattle.fs_server.specs.Reaps.{Reaping, has_own, lapsed_among, lapsed_in, lap
 use Rattle.fs_server.specs.Server.{Stepped}
 use Rattle.fs_server.specs.declared.state.Server.{Server}
 use Rattle.fs_serial.specs.Settled.{Settled}
-use Rattle.fs_serial.specs.Sight.{Sight, sight_of}
+use Rattle.fs_serial.specs.Sight.{Counts, Sight, count_with, sight_of}
 use Rattle.fs_serial.specs.World.{Ends, GoesOn, World, WorldHolds, settled_at, with_sent}
+use Rattle.fs_serial.proofs.Counting.{given_by}
 use Rattle.fs_serial.proofs.Facts.{In-append}
 use Rattle.fs_serial.proofs.Going.{carried_still}
+use Rattle.fs_serial.proofs.Older.{IsLater, later_itself}
 use Rattle.fs_serial.proofs.Reaping.{reap_keeps, reap_relied}
 use Rattle.fs_serial.proofs.Relied.{relies_for}
 use Rattle.fs_serial.proofs.Sending.{IsRecallTo, goes_of, world_all_recalled, world_still}
@@ -49,58 +51,67 @@ gone_among s (f ∷ fs) x i = elim (In-append x (lapsed_on s f) (lapsed_among s 
 -- ## One reap
 
 -- all that holds while the server takes its steps
-pub goes_reaped : (skew greatest : ℕ) (s : Server) (journal : List Item) (replied : Session → List Item) (ends : Session → Ends) (clients : Session → Settled) (file : List ℕ) (by : Session) → has_own s.rows file by ≡ false → reap_blocker (selves_in s.records file) s.rows by file ≡ None
-    → GoesOn skew greatest (sight_of s journal) replied ends clients → GoesOn skew greatest (sight_of (with_reap file by s) (journal ++ reap_item s.me (s.reaps + 1) file by ∷ [])) replied ends clients
-goes_reaped skew greatest s journal replied ends clients file by gone free h =
-    let after : Sight = sight_of (with_reap file by s) (journal ++ reap_item s.me (s.reaps + 1) file by ∷ []) in
+pub goes_reaped : (o : Counts) (skew greatest : ℕ) (s : Server) (journal : List Item) (replied : Session → List Item) (ends : Session → Ends) (clients : Session → Settled) (file : List ℕ) (by : Session) → has_own s.rows file by ≡ false → reap_blocker (selves_in s.records file) s.rows by file ≡ None
+    → GoesOn skew greatest (sight_of o s journal) replied ends clients → GoesOn skew greatest (sight_of o (with_reap file by s) (journal ++ reap_item s.me (s.reaps + 1) file by ∷ [])) replied ends clients
+goes_reaped o skew greatest s journal replied ends clients file by gone free h =
+    let after : Sight = sight_of o (with_reap file by s) (journal ++ reap_item s.me (s.reaps + 1) file by ∷ []) in
     record {
-      all = reap_keeps skew greatest s journal replied clients file by h.all gone free;
-      carried = carried_still skew greatest (sight_of s journal) after ends clients
-          (λ x. relies_for skew greatest x (sight_of s journal) after (clients x).leases (h.all.fitting x).matching (reap_relied skew greatest s journal file by h.all.servers h.all.kept gone free x)) h.all.fitting h.carried;
+      all = reap_keeps o skew greatest s journal replied clients file by h.all gone free;
+      carried = carried_still skew greatest (sight_of o s journal) after ends clients
+          (λ x. relies_for skew greatest x (sight_of o s journal) after (clients x).leases (h.all.fitting x).matching (reap_relied o skew greatest s journal file by h.all.servers h.all.kept gone free x)) h.all.fitting h.carried;
     }
 
 -- ## All of them
 
--- the clock, the skew and the rows stay
+-- the clock, the skew, the rows and what was given stay
 pub record IsReaped (s t : Server) : Type 0 where
   pub skew : t.skew ≡ s.skew
   pub last : t.last ≡ s.last
   pub rows : t.rows ≡ s.rows
+  pub me : t.me ≡ s.me
+  pub given : t.given ≡ s.given
 
 pub reaps_leave : (xs : List (List ℕ × Session)) (s : Server) (admitted : List Item) (blockers : List LeaseNo) → IsReaped s (reap_from xs s admitted blockers).server
-reaps_leave [] s admitted blockers = record { skew = refl; last = refl; rows = refl }
+reaps_leave [] s admitted blockers = record { skew = refl; last = refl; rows = refl; me = refl; given = refl }
 reaps_leave (x ∷ xs) s admitted blockers =
     elim (reap_blocker (selves_in s.records x.0) s.rows x.1 x.0) as (λ (o : Option LeaseNo). IsReaped s
     (elim o as (λ _. Reaping) [
       | None ↦ reap_from xs (with_reap x.0 x.1 s) (admitted ++ reap_item s.me (s.reaps + 1) x.0 x.1 ∷ []) blockers
       | Some number ↦ reap_from xs s admitted (with_blocker number blockers)
     ]).server) [
-      | None ↦ let q = reaps_leave xs (with_reap x.0 x.1 s) (admitted ++ reap_item s.me (s.reaps + 1) x.0 x.1 ∷ []) blockers in record { skew = q.skew; last = q.last; rows = q.rows }
+      | None ↦ let q = reaps_leave xs (with_reap x.0 x.1 s) (admitted ++ reap_item s.me (s.reaps + 1) x.0 x.1 ∷ []) blockers in record { skew = q.skew; last = q.last; rows = q.rows; me = q.me; given = q.given }
       | Some number ↦ reaps_leave xs s admitted (with_blocker number blockers)
     ]
 
-module _ (skew greatest : ℕ) (journal : List Item) (replied : Session → List Item) (ends : Session → Ends) (clients : Session → Settled) where
-  pub goes_all : (xs : List (List ℕ × Session)) (s : Server) (admitted : List Item) (blockers : List LeaseNo) → HaveLetGo s.rows xs → GoesOn skew greatest (sight_of s (journal ++ admitted)) replied ends clients
-      → GoesOn skew greatest (sight_of (reap_from xs s admitted blockers).server (journal ++ (reap_from xs s admitted blockers).admitted)) replied ends clients
+module _ (o : Counts) (skew greatest : ℕ) (journal : List Item) (replied : Session → List Item) (ends : Session → Ends) (clients : Session → Settled) where
+  pub goes_all : (xs : List (List ℕ × Session)) (s : Server) (admitted : List Item) (blockers : List LeaseNo) → HaveLetGo s.rows xs → GoesOn skew greatest (sight_of o s (journal ++ admitted)) replied ends clients
+      → GoesOn skew greatest (sight_of o (reap_from xs s admitted blockers).server (journal ++ (reap_from xs s admitted blockers).admitted)) replied ends clients
   goes_all [] s admitted blockers gone h = h
   goes_all (x ∷ xs) s admitted blockers gone h =
       let item : Item = reap_item s.me (s.reaps + 1) x.0 x.1 in
-      elim (reap_blocker (selves_in s.records x.0) s.rows x.1 x.0) as (λ (o : Option LeaseNo). reap_blocker (selves_in s.records x.0) s.rows x.1 x.0 ≡ o →
+      elim (reap_blocker (selves_in s.records x.0) s.rows x.1 x.0) as (λ (blocker : Option LeaseNo). reap_blocker (selves_in s.records x.0) s.rows x.1 x.0 ≡ blocker →
       let r : Reaping =
-      elim o as (λ _. Reaping) [
+      elim blocker as (λ _. Reaping) [
         | None ↦ reap_from xs (with_reap x.0 x.1 s) (admitted ++ item ∷ []) blockers
         | Some number ↦ reap_from xs s admitted (with_blocker number blockers)
       ] in
-      GoesOn skew greatest (sight_of r.server (journal ++ r.admitted)) replied ends clients) [
+      GoesOn skew greatest (sight_of o r.server (journal ++ r.admitted)) replied ends clients) [
         | None ↦ λ free. goes_all xs (with_reap x.0 x.1 s) (admitted ++ item ∷ []) blockers (λ y i. gone y (inr i))
-            (subst (λ js. GoesOn skew greatest (sight_of (with_reap x.0 x.1 s) js) replied ends clients) (append_assoc journal admitted (item ∷ []))
-            (goes_reaped skew greatest s (journal ++ admitted) replied ends clients x.0 x.1 (gone x (inl refl)) free h))
+            (subst (λ js. GoesOn skew greatest (sight_of o (with_reap x.0 x.1 s) js) replied ends clients) (append_assoc journal admitted (item ∷ []))
+            (goes_reaped o skew greatest s (journal ++ admitted) replied ends clients x.0 x.1 (gone x (inl refl)) free h))
         | Some number ↦ λ held. goes_all xs s admitted (with_blocker number blockers) (λ y i. gone y (inr i)) h
       ] refl
 
 turn_over_leaves : (xs : List (List ℕ × Session)) (s : Server) → IsReaped s (turn_over xs s).server
-turn_over_leaves [] s = record { skew = refl; last = refl; rows = refl }
+turn_over_leaves [] s = record { skew = refl; last = refl; rows = refl; me = refl; given = refl }
 turn_over_leaves (x ∷ xs) s = reaps_leave (x ∷ xs) s [] []
+
+-- no row is new
+pub later_reaped : (o : Counts) (s t : Server) → IsReaped s t → IsLater (given_by o s) (given_by o t) s.rows t.rows
+later_reaped o s t q =
+    subst (λ rows. IsLater (given_by o s) (given_by o t) s.rows rows) (sym q.rows)
+    (subst (λ me. IsLater (given_by o s) (count_with me t.given o.given) s.rows s.rows) (sym q.me)
+    (subst (λ n. IsLater (given_by o s) (count_with s.me n o.given) s.rows s.rows) (sym q.given) (later_itself (given_by o s) s.rows)))
 
 pub turn_leaves : (s : Server) → IsReaped s (turn_step s).server
 turn_leaves s = turn_over_leaves (lapsed_in s) s
@@ -120,20 +131,21 @@ recalled_each rows (n ∷ ns) m i = elim (In-append m (recall_of n (find (has_no
 
 -- the world after a step of its server that takes no question
 abbrev pub world_stepped : World → Stepped → World
-world_stepped w st = record { server = st.server; journal = w.journal ++ st.out.admitted; replied = w.replied; ends = with_sent st.out.send w.ends }
+world_stepped w st = record { server = st.server; counts = w.counts; journal = w.journal ++ st.out.admitted; replied = w.replied; ends = with_sent st.out.send w.ends }
 
-turn_over_keeps : (greatest : ℕ) (w : World) (xs : List (List ℕ × Session)) → HaveLetGo w.server.rows xs → WorldHolds greatest w → WorldHolds greatest (world_stepped w (turn_over xs w.server))
-turn_over_keeps greatest w [] gone h = subst (λ js. WorldHolds greatest (record { server = w.server; journal = js; replied = w.replied; ends = w.ends })) (sym (append-nil w.journal)) h
-turn_over_keeps greatest w (x ∷ xs) gone h =
+-- those of them that may
+pub turn_some_keeps : (greatest : ℕ) (w : World) (xs : List (List ℕ × Session)) → HaveLetGo w.server.rows xs → WorldHolds greatest w → WorldHolds greatest (world_stepped w (turn_over xs w.server))
+turn_some_keeps greatest w [] gone h = subst (λ js. WorldHolds greatest (record { server = w.server; counts = w.counts; journal = js; replied = w.replied; ends = w.ends })) (sym (append-nil w.journal)) h
+turn_some_keeps greatest w (x ∷ xs) gone h =
     let r : Reaping = reap_from (x ∷ xs) w.server [] [] in
     let same : IsReaped w.server r.server = reaps_leave (x ∷ xs) w.server [] [] in
     let clients : Session → Settled = λ y. settled_at y (w.ends y) in
     let clock = h.clock in
     let last = same.last in
-    let start : GoesOn w.server.skew greatest (sight_of w.server (w.journal ++ [])) w.replied w.ends clients =
-    subst (λ js. GoesOn w.server.skew greatest (sight_of w.server js) w.replied w.ends clients) (sym (append-nil w.journal)) (goes_of greatest w h) in
-    world_all_recalled greatest (record { server = r.server; journal = w.journal ++ r.admitted; replied = w.replied; ends = w.ends }) (recalls_for r.server.rows r.blockers) (recalled_each r.server.rows r.blockers)
-    (world_still greatest w r.server (w.journal ++ r.admitted) same.skew (omega arith) (goes_all w.server.skew greatest w.journal w.replied w.ends clients (x ∷ xs) w.server [] [] gone start) h)
+    let start : GoesOn w.server.skew greatest (sight_of w.counts w.server (w.journal ++ [])) w.replied w.ends clients =
+    subst (λ js. GoesOn w.server.skew greatest (sight_of w.counts w.server js) w.replied w.ends clients) (sym (append-nil w.journal)) (goes_of greatest w h) in
+    world_all_recalled greatest (record { server = r.server; counts = w.counts; journal = w.journal ++ r.admitted; replied = w.replied; ends = w.ends }) (recalls_for r.server.rows r.blockers) (recalled_each r.server.rows r.blockers)
+    (world_still greatest w r.server (w.journal ++ r.admitted) same.skew (omega arith) (later_reaped w.counts w.server r.server same) (goes_all w.counts w.server.skew greatest w.journal w.replied w.ends clients (x ∷ xs) w.server [] [] gone start) h)
 
 pub turn_keeps : (greatest : ℕ) (w : World) → WorldHolds greatest w → WorldHolds greatest (world_stepped w (turn_step w.server))
-turn_keeps greatest w h = turn_over_keeps greatest w (lapsed_in w.server) (gone_among w.server (keys w.server.records)) h
+turn_keeps greatest w h = turn_some_keeps greatest w (lapsed_in w.server) (gone_among w.server (keys w.server.records)) h

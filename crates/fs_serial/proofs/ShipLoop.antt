@@ -1,5 +1,5 @@
 -- The entries of a log that is handed in, one after another.
-use Rattle.std.proofs.Common.{◌≡◌, ℕ, suc, ◌≤◌, true, List, [], ◌∷◌, ◌++◌, length, map, append_assoc, append-nil, refl, sym, ap, ◌∙◌, subst, arith}
+use Rattle.std.proofs.Common.{◌≡◌, ℕ, suc, ◌≤◌, true, false, cond, List, [], ◌∷◌, ◌++◌, length, map, append_assoc, append-nil, refl, sym, ap, ◌∙◌, subst, arith}
 use Rattle.std.specs.Prelude.{Option, Some, None}
 use Rattle.std.specs.Cmp.{nat_eq_equiv}
 use Rattle.fs_ident.specs.In.{In}
@@ -11,15 +11,18 @@ use Rattle.fs_msg.specs.declared.end.End.TheVariants as end
 use Rattle.fs_msg.specs.declared.entry.Entry.{Entry}
 use Rattle.fs_msg.specs.declared.item.Item.{Item}
 use Rattle.fs_server.specs.Ships.{Shipping, first_gone, item_of, ship_from, with_entry}
+use Rattle.fs_msg.specs.Home.{home_of}
+use Rattle.fs_server.specs.Server.{is_mine, moved}
 use Rattle.fs_server.specs.declared.state.Server.{Server}
 use Rattle.fs_client.specs.Answers.{over_after, refusal_fits}
 use Rattle.fs_serial.specs.Parts.{with_client}
 use Rattle.fs_serial.specs.Settled.{Lease, Settled, acknowledged, acknowledged_all, effects_in, lease_after, with_over}
-use Rattle.fs_serial.specs.Sight.{sight_of}
+use Rattle.fs_serial.specs.Sight.{Counts, sight_of}
 use Rattle.fs_serial.specs.Steps.{IsAdmitted}
 use Rattle.fs_serial.specs.World.{Ends, GoesOn, HasNumber}
 use Rattle.fs_serial.proofs.AdmitAll.{admit_kept}
 use Rattle.fs_serial.proofs.Again.{goes_again}
+use Rattle.fs_serial.proofs.Elsewhere.{none_refused, over_still}
 use Rattle.fs_serial.proofs.Facts.{In-mapped}
 use Rattle.fs_serial.proofs.Going.{carried_alike}
 use Rattle.fs_serial.proofs.Refusing.{entry_refused}
@@ -35,11 +38,11 @@ numbers_there : (by : Session) (es : List Entry) (d : Settled) (l : Lease) → I
 numbers_there by [] d l i = record { lease = l; held = i; number = refl }
 numbers_there by (e ∷ es) d l i = record { lease = lease_after by (effects_in by e) l; held = In-mapped (lease_after by (effects_in by e)) l d.leases i; number = refl }
 
-pub entry_admitted : (skew greatest : ℕ) (s : Server) (journal : List Item) (replied : Session → List Item) (ends : Session → Ends) (clients : Session → Settled) (by : Session) (e : Entry) → IsAdmitted s by (clients by) e → GoesOn skew greatest (sight_of s journal) replied ends clients
-    → GoesOn skew greatest (sight_of (with_entry by e s) (journal ++ item_of by e ∷ [])) replied ends (with_client by (acknowledged by (clients by).log (clients by)) clients)
-entry_admitted skew greatest s journal replied ends clients by e a h =
-    let c = carried_alike skew greatest (sight_of s journal) ends clients by (acknowledged by (clients by).log (clients by)) (numbers_kept by (clients by).log (clients by)) (numbers_there by (clients by).log (clients by)) h.carried in
-    record { all = admit_kept skew greatest s journal replied clients by e h.all a; carried = record { returns = c.returns; renewals = c.renewals; later = c.later } }
+pub entry_admitted : (o : Counts) (skew greatest : ℕ) (s : Server) (journal : List Item) (replied : Session → List Item) (ends : Session → Ends) (clients : Session → Settled) (by : Session) (e : Entry) → IsAdmitted s by (clients by) e → GoesOn skew greatest (sight_of o s journal) replied ends clients
+    → GoesOn skew greatest (sight_of o (with_entry by e s) (journal ++ item_of by e ∷ [])) replied ends (with_client by (acknowledged by (clients by).log (clients by)) clients)
+entry_admitted o skew greatest s journal replied ends clients by e a h =
+    let c = carried_alike skew greatest (sight_of o s journal) ends clients by (acknowledged by (clients by).log (clients by)) (numbers_kept by (clients by).log (clients by)) (numbers_there by (clients by).log (clients by)) h.carried in
+    record { all = admit_kept o skew greatest s journal replied clients by e h.all a; carried = record { returns = c.returns; renewals = c.renewals; later = c.later } }
 
 -- ## One after another
 
@@ -47,23 +50,23 @@ refusal_step : (e : End) (k : ℕ) (x : Entry) (log : List Entry) → refusal_fi
 refusal_step (end.Ended n lease until now) k x log = refl
 refusal_step e k x log = refl
 
-module _ (skew greatest : ℕ) (journal : List Item) (replied : Session → List Item) (ends : Session → Ends) (base : Session → Settled) (by : Session) where
+module _ (o : Counts) (skew greatest : ℕ) (journal : List Item) (replied : Session → List Item) (ends : Session → Ends) (base : Session → Settled) (by : Session) where
   -- what comes of the entries, behind those that were admitted before
   pub record IsShipped (es : List Entry) (d : Settled) (admitted : List Item) (x : Shipping) : Type 0 where
     pub more : List Item
     pub split : x.admitted ≡ admitted ++ more
-    pub goes : GoesOn skew greatest (sight_of x.server (journal ++ x.admitted)) replied ends (with_client by (with_over (over_after x.end d.over) (acknowledged_all by (length more) d)) base)
+    pub goes : GoesOn skew greatest (sight_of o x.server (journal ++ x.admitted)) replied ends (with_client by (with_over (over_after x.end d.over) (acknowledged_all by (length more) d)) base)
     pub few : length more ≤ length es
     pub fits : refusal_fits x.end (length more) d.log ≡ true
 
-  admitted_then : (e : Entry) (es rest : List Entry) (s : Server) (admitted : List Item) (d : Settled) → d.log ≡ e ∷ (es ++ rest) → d.over ≡ None → first_gone s.rows by e.uses ≡ None → GoesOn skew greatest (sight_of s (journal ++ admitted)) replied ends (with_client by d base)
-      → GoesOn skew greatest (sight_of (with_entry by e s) (journal ++ (admitted ++ item_of by e ∷ []))) replied ends (with_client by (acknowledged by (e ∷ (es ++ rest)) d) base)
+  admitted_then : (e : Entry) (es rest : List Entry) (s : Server) (admitted : List Item) (d : Settled) → d.log ≡ e ∷ (es ++ rest) → d.over ≡ None → first_gone s.rows by e.uses ≡ None → GoesOn skew greatest (sight_of o s (journal ++ admitted)) replied ends (with_client by d base)
+      → GoesOn skew greatest (sight_of o (with_entry by e s) (journal ++ (admitted ++ item_of by e ∷ []))) replied ends (with_client by (acknowledged by (e ∷ (es ++ rest)) d) base)
   admitted_then e es rest s admitted d log over found h =
       let t = with_entry by e s in
       let is : IsAdmitted s by (with_client by d base by) e = subst (λ c. IsAdmitted s by c e) (sym (its_client by d base)) (record { rest = es ++ rest; log = log; going = over; found = found }) in
-      let after = goes_again skew greatest (sight_of t ((journal ++ admitted) ++ item_of by e ∷ [])) replied ends base by d (λ c. acknowledged by c.log c) (entry_admitted skew greatest s (journal ++ admitted) replied ends (with_client by d base) by e is h) in
-      subst (λ js. GoesOn skew greatest (sight_of t js) replied ends (with_client by (acknowledged by (e ∷ (es ++ rest)) d) base)) (append_assoc journal admitted (item_of by e ∷ []))
-      (subst (λ log. GoesOn skew greatest (sight_of t ((journal ++ admitted) ++ item_of by e ∷ [])) replied ends (with_client by (acknowledged by log d) base)) log after)
+      let after = goes_again skew greatest (sight_of o t ((journal ++ admitted) ++ item_of by e ∷ [])) replied ends base by d (λ c. acknowledged by c.log c) (entry_admitted o skew greatest s (journal ++ admitted) replied ends (with_client by d base) by e is h) in
+      subst (λ js. GoesOn skew greatest (sight_of o t js) replied ends (with_client by (acknowledged by (e ∷ (es ++ rest)) d) base)) (append_assoc journal admitted (item_of by e ∷ []))
+      (subst (λ log. GoesOn skew greatest (sight_of o t ((journal ++ admitted) ++ item_of by e ∷ [])) replied ends (with_client by (acknowledged by log d) base)) log after)
 
   went_on : (e : Entry) (es rest : List Entry) (admitted : List Item) (d : Settled) (x : Shipping) → d.log ≡ e ∷ (es ++ rest) → IsShipped es (acknowledged by (e ∷ (es ++ rest)) d) (admitted ++ item_of by e ∷ []) x → IsShipped (e ∷ es) d admitted x
   went_on e es rest admitted d x log r =
@@ -71,31 +74,48 @@ module _ (skew greatest : ℕ) (journal : List Item) (replied : Session → List
       record {
         more = item_of by e ∷ r.more;
         split = r.split ∙ append_assoc admitted (item_of by e ∷ []) r.more;
-        goes = subst (λ log. GoesOn skew greatest (sight_of x.server (journal ++ x.admitted)) replied ends (with_client by (with_over (over_after x.end d.over) (acknowledged_all by (length r.more) (acknowledged by log d))) base)) (sym log) r.goes;
+        goes = subst (λ log. GoesOn skew greatest (sight_of o x.server (journal ++ x.admitted)) replied ends (with_client by (with_over (over_after x.end d.over) (acknowledged_all by (length r.more) (acknowledged by log d))) base)) (sym log) r.goes;
         few = omega arith;
         fits = ap (refusal_fits x.end (suc (length r.more))) log ∙ refusal_step x.end (length r.more) e (es ++ rest) ∙ r.fits;
       }
 
-  refused_then : (e : Entry) (es rest : List Entry) (s : Server) (admitted : List Item) (d : Settled) (u : Use) (gaps : List ℕ) → d.log ≡ e ∷ (es ++ rest) → first_gone s.rows by e.uses ≡ Some u → GoesOn skew greatest (sight_of s (journal ++ admitted)) replied ends (with_client by d base)
+  refused_then : (e : Entry) (es rest : List Entry) (s : Server) (admitted : List Item) (d : Settled) (u : Use) (gaps : List ℕ) → d.log ≡ e ∷ (es ++ rest) → first_gone s.rows by e.uses ≡ Some u → GoesOn skew greatest (sight_of o s (journal ++ admitted)) replied ends (with_client by d base)
       → IsShipped (e ∷ es) d admitted (record { server = s; admitted = admitted; end = end.Ended e.n u.no u.until s.last; gaps = gaps })
   refused_then e es rest s admitted d u gaps log gone h = record {
     more = [];
     split = sym (append-nil admitted);
-    goes = goes_again skew greatest (sight_of s (journal ++ admitted)) replied ends base by d (with_over (Some e.n))
-        (entry_refused skew greatest (sight_of s (journal ++ admitted)) replied ends (with_client by d base) by e (es ++ rest) u (ap (λ (c : Settled). c.log) (its_client by d base) ∙ log) gone h);
+    goes = goes_again skew greatest (sight_of o s (journal ++ admitted)) replied ends base by d (with_over (Some e.n))
+        (entry_refused skew greatest (sight_of o s (journal ++ admitted)) replied ends (with_client by d base) by e (es ++ rest) u (ap (λ (c : Settled). c.log) (its_client by d base) ∙ log) gone h);
     few = omega arith;
     fits = ap (refusal_fits (end.Ended e.n u.no u.until s.last) 0) log ∙ nat_eq_equiv.refl e.n;
   }
 
-  pub shipped_still : (es rest : List Entry) (s : Server) (admitted : List Item) (d : Settled) → d.log ≡ es ++ rest → d.over ≡ None → GoesOn skew greatest (sight_of s (journal ++ admitted)) replied ends (with_client by d base) → IsShipped es d admitted (ship_from by es s admitted)
+  -- handed in at the wrong server
+  away_then : (e : Entry) (es : List Entry) (s : Server) (admitted : List Item) (d : Settled) → GoesOn skew greatest (sight_of o s (journal ++ admitted)) replied ends (with_client by d base)
+      → IsShipped (e ∷ es) d admitted (record { server = s; admitted = admitted; end = moved s (home_of e.op); gaps = [] })
+  away_then e es s admitted d h = record {
+    more = [];
+    split = sym (append-nil admitted);
+    goes = subst (λ n. GoesOn skew greatest (sight_of o s (journal ++ admitted)) replied ends (with_client by (with_over n d) base)) (sym (over_still s (home_of e.op) d.over)) h;
+    few = omega arith;
+    fits = none_refused s (home_of e.op) 0 d.log;
+  }
+
+  pub shipped_still : (es rest : List Entry) (s : Server) (admitted : List Item) (d : Settled) → d.log ≡ es ++ rest → d.over ≡ None → GoesOn skew greatest (sight_of o s (journal ++ admitted)) replied ends (with_client by d base) → IsShipped es d admitted (ship_from by es s admitted)
   shipped_still [] rest s admitted d log over h = record { more = []; split = sym (append-nil admitted); goes = h; few = omega arith; fits = refl }
   shipped_still (e ∷ es) rest s admitted d log over h =
-      elim (first_gone s.rows by e.uses) as (λ (o : Option Use). first_gone s.rows by e.uses ≡ o → IsShipped (e ∷ es) d admitted
-      (elim o as (λ _. Shipping) [
+      let here : Option Use → Shipping =
+      λ gone. elim gone as (λ _. Shipping) [
         | None ↦ ship_from by es (with_entry by e s) (admitted ++ item_of by e ∷ [])
         | Some u ↦ record { server = s; admitted = admitted; end = end.Ended e.n u.no u.until s.last; gaps = map (λ (x : Entry). x.n) es }
-      ])) [
-        | None ↦ λ q. went_on e es rest admitted d (ship_from by es (with_entry by e s) (admitted ++ item_of by e ∷ [])) log
-            (shipped_still es rest (with_entry by e s) (admitted ++ item_of by e ∷ []) (acknowledged by (e ∷ (es ++ rest)) d) refl over (admitted_then e es rest s admitted d log over q h))
-        | Some u ↦ λ q. refused_then e es rest s admitted d u (map (λ (x : Entry). x.n) es) log q h
-      ] refl
+      ] in
+      let away : Shipping = record { server = s; admitted = admitted; end = moved s (home_of e.op); gaps = [] } in
+      elim (is_mine s (home_of e.op)) as (λ b. IsShipped (e ∷ es) d admitted (cond b (here (first_gone s.rows by e.uses)) away)) [
+        | true ↦
+            elim (first_gone s.rows by e.uses) as (λ (gone : Option Use). first_gone s.rows by e.uses ≡ gone → IsShipped (e ∷ es) d admitted (here gone)) [
+              | None ↦ λ q. went_on e es rest admitted d (ship_from by es (with_entry by e s) (admitted ++ item_of by e ∷ [])) log
+                  (shipped_still es rest (with_entry by e s) (admitted ++ item_of by e ∷ []) (acknowledged by (e ∷ (es ++ rest)) d) refl over (admitted_then e es rest s admitted d log over q h))
+              | Some u ↦ λ q. refused_then e es rest s admitted d u (map (λ (x : Entry). x.n) es) log q h
+            ] refl
+        | false ↦ away_then e es s admitted d h
+      ]

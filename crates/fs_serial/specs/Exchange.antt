@@ -1,9 +1,10 @@
 -- Parts about messages on their way between a client and its server.
-use Rattle.std.specs.Prelude.{◌≡◌, ◌≢◌, ℕ, ◌+◌, ◌<◌, ◌≤◌, Bool, true, false, not, List, [], ◌∷◌, ◌++◌, length, filter, Option, Some, None, ◌⊎◌}
+use Rattle.std.specs.Prelude.{◌≡◌, ◌≢◌, ℕ, ◌+◌, ◌<◌, ◌≤◌, Bool, true, false, not, List, [], ◌∷◌, ◌++◌, length, filter, Option, Some, None, option_map, ◌⊎◌}
 use Rattle.fs_ident.specs.In.{In}
 use Rattle.fs_ident.specs.declared.actor.LeaseNo.{LeaseNo}
 use Rattle.fs_ident.specs.declared.actor.Session.{Session}
 use Rattle.fs_field.specs.declared.field.Field.{Field}
+use Rattle.fs_field.specs.Field.{file_of}
 use Rattle.fs_field.specs.declared.lease_kind.LeaseKind.{LeaseKind}
 use Rattle.fs_field.specs.declared.row.Row.{Row}
 use Rattle.fs_msg.specs.declared.answer.Answer.{Answer}
@@ -17,6 +18,7 @@ use Rattle.fs_server.specs.Pairs.{numbers_in}
 use Rattle.fs_view.specs.declared.kept.Kept.{Kept}
 use Rattle.fs_view.specs.Kept.{number_of, is_leaving}
 use Rattle.fs_client.specs.Answers.{answer_fits}
+use Rattle.fs_client.specs.Turns.{pair_of}
 use Rattle.fs_client.specs.declared.exchange.Exchange.{Exchange}
 use Rattle.fs_client.specs.declared.exchange.Exchange.TheVariants.{Asks, Renews, Releases, Ships}
 use Rattle.fs_client.specs.declared.state.Client.{Client}
@@ -33,6 +35,16 @@ is_recall a = false
 -- the answers that are due: all but recalls
 abbrev pub due : List Answer → List Answer
 due answers = filter (λ a. not (is_recall a)) answers
+
+-- the server to which the question was sent
+abbrev pub server_of_question : Exchange → ℕ
+server_of_question (Asks to items fresh) = to
+server_of_question (Renews to numbers) = to
+server_of_question (Releases to numbers) = to
+server_of_question (Ships to count) = to
+
+abbrev pub asked_server : Option Exchange → Option ℕ
+asked_server x = option_map server_of_question x
 
 -- the question as it was sent
 abbrev pub IsQuestion : Exchange → ClientMsg → Type 0
@@ -54,20 +66,12 @@ pub record IsAnswered (c : Client) (x : Exchange) (up : List ClientMsg) (down : 
   pub answer : Answer
   pub told : due down ≡ answer ∷ []
   pub asked : up ≡ []
-  pub fits : answer_fits 0 x answer c ≡ true
+  pub fits : answer_fits (server_of_question x) x answer c ≡ true
 
 -- no question stands and nothing is on its way but recalls, or the question is on its way, or the one answer that fits
 abbrev pub OneExchange : Client → Option Exchange → List ClientMsg → List Answer → Type 0
 OneExchange c None up down = (up ≡ []) × (due down ≡ [])
 OneExchange c (Some x) up down = IsAsked x up down ⊎ IsAnswered c x up down
-
--- the question is one to the first server: there is no other yet
-abbrev pub AsksFirst : Option Exchange → Type 0
-AsksFirst None = Unit {0}
-AsksFirst (Some (Asks to items fresh)) = to ≡ 0
-AsksFirst (Some (Renews to numbers)) = to ≡ 0
-AsksFirst (Some (Releases to numbers)) = to ≡ 0
-AsksFirst (Some (Ships to count)) = to ≡ 0
 
 -- no more entries are shipped than there are
 abbrev pub ShipsLog : Option Exchange → List Entry → Type 0
@@ -110,14 +114,28 @@ AsksGivenKinds up = (items : List (Field × LeaseKind)) (fresh : Option (List �
 
 -- ## Leases that go back, and renewals on their way
 
--- a lease that goes back has a number that was given, no other lease has it, and a row with it is the session's
-pub record ReturnFits (given : ℕ → ℕ) (rows : List Row) (by : Session) (leases : List Lease) (number : LeaseNo) : Type 0 where
-  pub known : IsGiven given number
-  pub alone : (l : Lease) → In l leases → l.no ≢ number
-  pub own : (r : Row) → In r rows → r.no ≡ number → r.session ≡ by
+-- the number was given, and the row with it, if there is one, is on the file
+pub record PairFits (given : ℕ → ℕ) (rows : List Row) (pair : List ℕ × LeaseNo) : Type 0 where
+  pub known : IsGiven given pair.1
+  pub place : (r : Row) → In r rows → r.no ≡ pair.1 → file_of r.field ≡ pair.0
+
+-- a lease that goes back is such a pair, no other lease has its number, and a row with it is the session's
+pub record ReturnFits (given : ℕ → ℕ) (rows : List Row) (by : Session) (leases : List Lease) (pair : List ℕ × LeaseNo) : Type 0 where
+  pub fits : PairFits given rows pair
+  pub alone : (l : Lease) → In l leases → l.no ≢ pair.1
+  pub own : (r : Row) → In r rows → r.no ≡ pair.1 → r.session ≡ by
 
 abbrev pub ReturnsFit : (ℕ → ℕ) → List Row → Session → List Kept → List Lease → Type 0
-ReturnsFit given rows by kept leases = (k : Kept) → In k kept → is_leaving k.standing ≡ true → ReturnFits given rows by leases (number_of k.standing)
+ReturnsFit given rows by kept leases = (k : Kept) → In k kept → is_leaving k.standing ≡ true → ReturnFits given rows by leases (pair_of k)
+
+-- what is told with a number is its file
+abbrev pub pairs_in : ClientMsg → List (List ℕ × LeaseNo)
+pairs_in (Renew pairs) = pairs
+pairs_in (Release pairs) = pairs
+pairs_in m = []
+
+abbrev pub PairsFit : (ℕ → ℕ) → List Row → List ClientMsg → Type 0
+PairsFit given rows up = (m : ClientMsg) → In m up → (p : List ℕ × LeaseNo) → In p (pairs_in m) → PairFits given rows p
 
 -- where a renewal is on its way to a lease that the client has, the row ends no sooner, or the lease has ended
 abbrev pub RenewalsBacked : ℕ → ℕ → List Row → List Answer → List Lease → Type 0
@@ -130,10 +148,10 @@ RenewalsBacked skew greatest rows down leases =
 
 pub record ExchangeFits (skew greatest : ℕ) (given : ℕ → ℕ) (rows : List Row) (by : Session) (c : Client) (up : List ClientMsg) (down : List Answer) (now d : Settled) : Type 0 where
   pub one : OneExchange c c.exchange up down
-  pub first : AsksFirst c.exchange
   pub ships : ShipsLog c.exchange c.log
   pub front : ShipsFront up d
   pub released : ReleasesReturned c.exchange c.view.leases
   pub kinds : AsksGivenKinds up
+  pub pairs : PairsFit given rows up
   pub returns : ReturnsFit given rows by c.view.leases d.leases
   pub renewals : RenewalsBacked skew greatest rows down now.leases

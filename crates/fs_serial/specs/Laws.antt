@@ -19,7 +19,7 @@ use Rattle.fs_serial.specs.Exchange.{ReturnsFit}
 use Rattle.fs_serial.specs.Parts.{AllHold, with_client}
 use Rattle.fs_serial.specs.Relies.{Relies}
 use Rattle.fs_serial.specs.Settled.{Lease, Settled, granted, told, with_leases}
-use Rattle.fs_serial.specs.Sight.{sight_of}
+use Rattle.fs_serial.specs.Sight.{Counts, sight_of}
 
 -- ## The gift of an identifier
 
@@ -37,22 +37,22 @@ IsGift dir k s = (is_directory s.records dir ≡ true) × (fresh_number s.record
 -- the session gets it with an exclusive lease on the life of the file
 abbrev pub GiftKeepsParts : Type 0
 GiftKeepsParts =
-    (skew greatest : ℕ) (a : Asking) (journal : List Item) (replied : Session → List Item) (clients : Session → Settled) (by : Session) (dir : List ℕ) (k : ℕ)
-    → AllHold skew greatest (sight_of a.server journal) replied clients → IsGift dir k a.server
-    → AllHold skew greatest (sight_of (with_fresh by dir k a).server journal) replied (with_client by (with_given by dir k a.server (clients by)) clients)
+    (o : Counts) (skew greatest : ℕ) (a : Asking) (journal : List Item) (replied : Session → List Item) (clients : Session → Settled) (by : Session) (dir : List ℕ) (k : ℕ)
+    → AllHold skew greatest (sight_of o a.server journal) replied clients → IsGift dir k a.server
+    → AllHold skew greatest (sight_of o (with_fresh by dir k a).server journal) replied (with_client by (with_given by dir k a.server (clients by)) clients)
 
 -- whoever relies on what was before can go on
 abbrev pub GiftIsRelied : Type 0
 GiftIsRelied =
-    (skew greatest : ℕ) (a : Asking) (journal : List Item) (by x : Session) (dir : List ℕ) (k : ℕ)
-    → IsGift dir k a.server → Relies skew greatest x (sight_of a.server journal) (sight_of (with_fresh by dir k a).server journal)
+    (o : Counts) (skew greatest : ℕ) (a : Asking) (journal : List Item) (by x : Session) (dir : List ℕ) (k : ℕ)
+    → IsGift dir k a.server → Relies skew greatest x (sight_of o a.server journal) (sight_of o (with_fresh by dir k a).server journal)
 
 -- what goes back is no lease that is given
 abbrev pub GiftReturnsNone : Type 0
 GiftReturnsNone =
-    (a : Asking) (journal : List Item) (by : Session) (dir : List ℕ) (k : ℕ) (kept : List Kept) (d : Settled)
-    → IsGift dir k a.server → ReturnsFit (sight_of a.server journal).given a.server.rows by kept d.leases
-    → ReturnsFit (sight_of (with_fresh by dir k a).server journal).given (with_fresh by dir k a).server.rows by kept (with_given by dir k a.server d).leases
+    (o : Counts) (a : Asking) (journal : List Item) (by : Session) (dir : List ℕ) (k : ℕ) (kept : List Kept) (d : Settled)
+    → IsGift dir k a.server → ReturnsFit (sight_of o a.server journal).given a.server.rows by kept d.leases
+    → ReturnsFit (sight_of o (with_fresh by dir k a).server journal).given (with_fresh by dir k a).server.rows by kept (with_given by dir k a.server d).leases
 
 -- what the session is told with the identifier is the lease that comes with it, behind those that it is given before
 abbrev pub GiftIsTold : Type 0

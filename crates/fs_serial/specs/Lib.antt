@@ -13,6 +13,9 @@ pub mod Exchange
 pub mod Steps
 pub mod Laws
 pub mod World
-pub mod Runs
--- cited by private calls alone
 pub mod Joined
+pub mod Cluster
+pub mod Places
+pub mod Seen
+pub mod Runs
+pub mod Refusals

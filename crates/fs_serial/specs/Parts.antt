@@ -7,7 +7,7 @@ use Rattle.fs_serial.specs.Fresh.{NodesMade, FreshReserved, reserved_by}
 use Rattle.fs_serial.specs.Leases.{LeasesBacked, LeasesTrue, LeasesGiven, LeasesDistinct, LeasesMatch, FreshLeases}
 use Rattle.fs_serial.specs.Numbers.{NumbersInOrder, ReapsInOrder, RepliesKept}
 use Rattle.fs_serial.specs.Pending.{PendingStand, UsesHeld, UsesBacked, AreEntries, NamedOnce, RefusedGone}
-use Rattle.fs_serial.specs.Rows.{NoRowsConflict, PromisesKept, RowsShaped, RowsGiven}
+use Rattle.fs_serial.specs.Rows.{NoRowsConflict, PromisesKept, RowsCounted, RowsShaped, RowsGiven}
 use Rattle.fs_serial.specs.Serial.{JournalSerial, AreSound}
 use Rattle.fs_serial.specs.Settled.{Settled}
 use Rattle.fs_serial.specs.Sight.{Sight}
@@ -24,6 +24,7 @@ pub record ServersHold (s : Sight) : Type 0 where
 -- and what keeps it so
 pub record ServersFit (s : Sight) : Type 0 where
   pub shaped : RowsShaped s.rows
+  pub counted : RowsCounted s.rows
   pub given : RowsGiven s.given s.rows
   pub sound : AreSound s.records
   pub made : NodesMade s.records s.journal

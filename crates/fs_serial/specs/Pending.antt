@@ -1,10 +1,11 @@
 -- Parts about the entries of a log.
-use Rattle.std.specs.Prelude.{◌≡◌, ◌≢◌, ℕ, ◌+◌, ◌<◌, true, List, [], ◌∷◌, Option, Some, None}
+use Rattle.std.specs.Prelude.{◌≡◌, ◌≢◌, ℕ, ◌+◌, ◌<◌, true, List, [], ◌∷◌, Option, Some, None, ◌⊎◌}
 use Rattle.fs_ident.specs.In.{In}
 use Rattle.fs_ident.specs.declared.actor.Session.{Session}
 use Rattle.fs_field.specs.declared.asked.Need.{Need}
 use Rattle.fs_field.specs.declared.asked.Need.TheVariants as need
 use Rattle.fs_field.specs.declared.field.Field.{Field}
+use Rattle.fs_field.specs.Field.{file_of}
 use Rattle.fs_field.specs.declared.field.Field.TheVariants.{Life}
 use Rattle.fs_field.specs.declared.lease_kind.LeaseKind.{LeaseKind}
 use Rattle.fs_field.specs.declared.row.Row.{Row}
@@ -17,6 +18,7 @@ use Rattle.fs_model.specs.declared.op.Op.TheVariants as op
 use Rattle.fs_model.specs.declared.reply.Reply.{Reply}
 use Rattle.fs_model.specs.declared.reply.Reply.TheVariants as reply
 use Rattle.fs_record.specs.Effects.{tells_its_effects}
+use Rattle.fs_msg.specs.Home.{home_of}
 use Rattle.fs_msg.specs.declared.entry.Entry.{Entry}
 use Rattle.fs_view.specs.Kept.{is_enough}
 use Rattle.fs_view.specs.View.{value_after_all}
@@ -107,19 +109,24 @@ NamesItsFile leases uses (op.Create dir name kind None) reply.Made = ⊥
 NamesItsFile leases uses (op.Create dir name kind (Some id)) r = ⊥
 NamesItsFile leases uses o r = Unit {0}
 
+-- the identifier that a create names
+abbrev pub named_by : Op → Option (List ℕ)
+named_by (op.Create dir name kind id) = id
+named_by o = None
+
+-- each lease that was used is on the file where the entry is handed in, or on the one that it makes
+abbrev pub UsesAtHome : Op → List Use → Type 0
+UsesAtHome o uses = (u : Use) → In u uses → (file_of u.field ≡ home_of o) ⊎ (named_by o ≡ Some (file_of u.field))
+
 -- what may stand in a log
 pub record IsEntry (leases : List Lease) (e : Entry) : Type 0 where
   pub plain : tells_its_effects e.op ≡ true
   pub access : AsksAccess e.op
   pub named : NamesItsFile leases e.uses e.op e.reply
+  pub home : UsesAtHome e.op e.uses
 
 abbrev pub AreEntries : List Lease → List Entry → Type 0
 AreEntries leases log = (e : Entry) → In e log → IsEntry leases e
-
--- the identifier that a create names
-abbrev pub named_by : Op → Option (List ℕ)
-named_by (op.Create dir name kind id) = id
-named_by o = None
 
 -- no two entries name one identifier
 abbrev pub NamedOnce : List Entry → Type 0

@@ -1,5 +1,5 @@
 -- Parts about rows alone.
-use Rattle.std.specs.Prelude.{◌≡◌, ℕ, true, List}
+use Rattle.std.specs.Prelude.{◌≡◌, ◌≤◌, ℕ, true, List}
 use Rattle.fs_field.specs.declared.row.Row.{Row}
 use Rattle.fs_field.specs.Conflict.{NoPlainConflict}
 use Rattle.fs_ident.specs.In.{In}
@@ -21,6 +21,10 @@ PromisesKept m rows = KeptPromises (selves_in m) rows
 -- a row on what sessions tell of modes is as it has to be
 abbrev pub RowsShaped : List Row → Type 0
 RowsShaped rows = (r : Row) → In r rows → is_shaped r ≡ true
+
+-- the numbers of leases begin with 1
+abbrev pub RowsCounted : List Row → Type 0
+RowsCounted rows = (r : Row) → In r rows → 1 ≤ r.no.count
 
 -- each row has a number that was given
 abbrev pub RowsGiven : (ℕ → ℕ) → List Row → Type 0

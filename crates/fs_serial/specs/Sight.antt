@@ -14,13 +14,24 @@ pub record Sight : Type 0 where
   pub reaps : ℕ → ℕ
   pub journal : List Item
 
--- no other server made any
-abbrev pub reaps_at : Server → ℕ → ℕ
-reaps_at s k = if k == s.me then s.reaps else 0
+-- how many leases each server gave, and how many reaps it made
+pub record Counts : Type 0 where
+  pub given : ℕ → ℕ
+  pub reaps : ℕ → ℕ
 
--- with one server it is that one's
-abbrev pub sight_of : Server → List Item → Sight
-sight_of s journal = record { rows = s.rows; records = s.records; given = λ k. s.given; reaps = reaps_at s; journal = journal }
+-- one server's count, and those of the others
+abbrev pub count_with : ℕ → ℕ → (ℕ → ℕ) → ℕ → ℕ
+count_with me count others k = if k == me then count else others k
+
+-- where one server has all rows and records
+abbrev pub sight_of : Counts → Server → List Item → Sight
+sight_of others s journal = record {
+  rows = s.rows;
+  records = s.records;
+  given = count_with s.me s.given others.given;
+  reaps = count_with s.me s.reaps others.reaps;
+  journal = journal;
+}
 
 -- its server gave the number
 abbrev pub IsGiven : (ℕ → ℕ) → LeaseNo → Type 0

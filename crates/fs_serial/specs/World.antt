@@ -1,5 +1,5 @@
 -- The server, and for each session its client with what is on its way between the two.
-use Rattle.std.specs.Prelude.{◌≡◌, ℕ, ◌≤◌, ◌==◌, ◌&&◌, Bool, true, List, [], ◌∷◌, ◌++◌, Option, Some, None, option_map, if◌then◌else◌}
+use Rattle.std.specs.Prelude.{◌≡◌, ℕ, ◌≤◌, ◌==◌, ◌&&◌, Bool, true, false, List, [], ◌∷◌, ◌++◌, Option, Some, None, option_map, if◌then◌else◌}
 use Rattle.fs_ident.specs.In.{In}
 use Rattle.fs_ident.specs.declared.actor.LeaseNo.{LeaseNo}
 use Rattle.fs_ident.specs.declared.actor.Peer.{Peer}
@@ -14,9 +14,8 @@ use Rattle.fs_msg.specs.declared.item.Item.{Item}
 use Rattle.fs_msg.specs.declared.msg.Msg.{Msg}
 use Rattle.fs_msg.specs.declared.msg.Msg.TheVariants as msg
 use Rattle.fs_server.specs.declared.event.ServerEvent.{ServerEvent}
-use Rattle.fs_server.specs.declared.event.ServerEvent.TheVariants.{FromClient}
+use Rattle.fs_server.specs.declared.event.ServerEvent.TheVariants.{FromClient, FromPeer, Move}
 use Rattle.fs_server.specs.declared.state.Server.{Server}
-use Rattle.fs_server.specs.Server.{first_server}
 use Rattle.fs_server.specs.Ships.{item_of}
 use Rattle.fs_server.specs.Step.{step}
 use Rattle.fs_client.specs.Acts.{act_plan}
@@ -28,10 +27,10 @@ use Rattle.fs_client.specs.declared.change.Change.TheVariants as change
 use Rattle.fs_client.specs.declared.plan.Plan.{Plan}
 use Rattle.fs_client.specs.declared.state.Client.{Client}
 use Rattle.fs_serial.specs.Client.{ClientFits}
-use Rattle.fs_serial.specs.Exchange.{ExchangeFits, ReturnsFit, RenewalsBacked}
+use Rattle.fs_serial.specs.Exchange.{ExchangeFits, ReturnsFit, RenewalsBacked, asked_server, is_recall}
 use Rattle.fs_serial.specs.Parts.{AllHold}
 use Rattle.fs_serial.specs.Settled.{Lease, Settled, settled, settled_now}
-use Rattle.fs_serial.specs.Sight.{Sight, sight_of}
+use Rattle.fs_serial.specs.Sight.{Counts, Sight, sight_of}
 
 -- the client, the questions that are on their way to the server, and the answers on their way back
 pub record Ends : Type 0 where
@@ -43,19 +42,17 @@ pub record Ends : Type 0 where
 abbrev pub settled_at : Session → Ends → Settled
 settled_at x e = settled x e.down (settled_now e.client)
 
--- the journal, and what each session was told so far, are kept beside
+-- how many leases and reaps other servers made, the journal, and what each session was told so far, are kept beside
 pub record World : Type 0 where
   pub server : Server
+  pub counts : Counts
   pub journal : List Item
   pub replied : Session → List Item
   pub ends : Session → Ends
 
--- the server is new, and so is each session
+-- each session is new
 abbrev pub first_ends : ℕ → Session → Ends
 first_ends term x = record { client = first_client x term; up = []; down = [] }
-
-abbrev pub first_world : ℕ → ℕ → World
-first_world skew term = record { server = first_server 0 skew term; journal = []; replied = λ x. []; ends = first_ends term }
 
 -- ## Answers on their way
 
@@ -93,11 +90,11 @@ pub record GoesOn (skew greatest : ℕ) (s : Sight) (replied : Session → List 
 
 -- all that holds between events, where no reading was greater
 pub record WorldHolds (greatest : ℕ) (w : World) : Type 0 where
-  pub all : AllHold w.server.skew greatest (sight_of w.server w.journal) w.replied (λ x. settled_at x (w.ends x))
+  pub all : AllHold w.server.skew greatest (sight_of w.counts w.server w.journal) w.replied (λ x. settled_at x (w.ends x))
   pub clock : w.server.last ≤ greatest
   pub clients : (x : Session) → ClientFits x (w.ends x).client
   pub exchanges : (x : Session)
-      → ExchangeFits w.server.skew greatest (sight_of w.server w.journal).given w.server.rows x (w.ends x).client (w.ends x).up (w.ends x).down (settled_now (w.ends x).client) (settled_at x (w.ends x))
+      → ExchangeFits w.server.skew greatest (sight_of w.counts w.server w.journal).given w.server.rows x (w.ends x).client (w.ends x).up (w.ends x).down (settled_now (w.ends x).client) (settled_at x (w.ends x))
 
 -- ## The server's events
 
@@ -106,14 +103,17 @@ abbrev pub without_taken : ServerEvent → (Session → Ends) → Session → En
 without_taken (FromClient by m) ends = without_question by ends
 without_taken e ends = ends
 
--- it is on its way before
+-- it is on its way before; what goes from server to server is no matter of one that has all
 abbrev pub IsThere : ServerEvent → (Session → Ends) → Type 0
 IsThere (FromClient by m) ends = In m (ends by).up
+IsThere (FromPeer from m) ends = ⊥
+IsThere (Move prefix to) ends = ⊥
 IsThere e ends = Unit {0}
 
 abbrev pub after_server : ℕ → ServerEvent → World → World
 after_server now e w = record {
   server = (step w.server now e).server;
+  counts = w.counts;
   journal = w.journal ++ (step w.server now e).out.admitted;
   replied = w.replied;
   ends = with_sent (step w.server now e).out.send (without_taken e w.ends);
@@ -144,6 +144,7 @@ message_in sent = option_map (λ (m : ℕ × ClientMsg). m.1) sent
 abbrev pub after_plan : {N : Type 0} → Session → List Answer → Plan N → World → World
 after_plan by rest p w = record {
   server = w.server;
+  counts = w.counts;
   journal = pushed p.out.admitted w.journal;
   replied = with_told by (told_by by p.ready.change p.out.admitted) w.replied;
   ends = with_ends by (record { client = committed p.ready (w.ends by).client; up = pushed (message_in p.out.send) (w.ends by).up; down = rest }) w.ends;
@@ -153,20 +154,20 @@ pub data ClientEvent : Type 0 where
   -- the session's caller asks for an operation
   Does : (o : Op) → ClientEvent
   Turns : ClientEvent
-  -- the first answer on its way comes, and these come behind it
-  Hears : (answer : Answer) → (rest : List Answer) → ClientEvent
+  -- the first answer on its way comes from that server, and these come behind it
+  Hears : (from : ℕ) → (answer : Answer) → (rest : List Answer) → ClientEvent
 
 abbrev pub after_client : Session → ℕ → ClientEvent → World → World
 after_client by now (Does o) w = after_plan by (w.ends by).down (act_plan (w.ends by).client now o) w
 after_client by now Turns w = after_plan by (w.ends by).down (turn_plan (w.ends by).client now) w
-after_client by now (Hears a rest) w = after_plan by rest (answer_plan (w.ends by).client now 0 a) w
+after_client by now (Hears from a rest) w = after_plan by rest (answer_plan (w.ends by).client now from a) w
 
 -- a caller may ask for it, and it is no delete or rename, for which no caller asks yet
 abbrev pub is_called : Op → Bool
 is_called o = tells_its_effects o && may_ask o
 
--- the event can come
+-- the event can come; an answer comes from the server of the question
 abbrev pub CanCome : Session → ClientEvent → (Session → Ends) → Type 0
 CanCome by (Does o) ends = is_called o ≡ true
 CanCome by Turns ends = Unit {0}
-CanCome by (Hears a rest) ends = (ends by).down ≡ a ∷ rest
+CanCome by (Hears from a rest) ends = ((ends by).down ≡ a ∷ rest) × (is_recall a ≡ false → asked_server (ends by).client.exchange ≡ Some from)

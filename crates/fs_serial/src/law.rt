@@ -1,5 +1,5 @@
 //! Laws of the kinds of step: where all parts hold before it, all parts hold after it.
-ghost use Rattle.std.specs.Prelude.{◌≡◌, ◌≤◌, ◌+◌, ℕ, max, Bool, true, false, List, [], ◌∷◌, ◌++◌, Some, None};
+ghost use Rattle.std.specs.Prelude.{length, ◌≡◌, ◌≢◌, ◌<◌, ◌≤◌, ◌+◌, ℕ, max, slice_get, Bool, true, false, List, [], ◌∷◌, ◌++◌, Some, None};
 ghost use Rattle.std.specs.List.{list_all};
 ghost use Rattle.fs_ident.specs.In.{In};
 ghost use Rattle.fs_ident.specs.declared.actor.Session.{Session};
@@ -21,21 +21,33 @@ ghost use Rattle.fs_msg.specs.declared.entry.Entry.{Entry};
 ghost use Rattle.fs_msg.specs.declared.item.Item.{Item};
 ghost use Rattle.fs_record.specs.Effects.{tells_its_effects};
 ghost use Rattle.fs_record.specs.ValueOf.{selves_in, value_of};
+ghost use Rattle.fs_msg.specs.declared.peer_msg.PeerMsg.TheVariants.{Parcel as OfParcel};
+ghost use Rattle.fs_parcel.specs.Parcel.{move_refusal};
+ghost use Rattle.fs_record.specs.declared.parcel.Parcel.{Parcel};
+ghost use Rattle.fs_server.specs.Moves.{fits_here, hands_over, parcel_at};
 ghost use Rattle.fs_server.specs.Reaps.{has_own, reap_item, with_reap};
 ghost use Rattle.fs_server.specs.Ships.{first_gone, item_of, with_entry};
-ghost use Rattle.fs_server.specs.Server.{begun};
+ghost use Rattle.fs_server.specs.Server.{begun, is_mine};
+ghost use Rattle.fs_msg.specs.Home.{home_of};
+ghost use Rattle.fs_msg.specs.declared.client_note.ClientNote.TheVariants as client;
+ghost use Rattle.fs_msg.specs.declared.server_note.ServerNote.TheVariants as server;
+ghost use Rattle.fs_client.specs.Answers.{answer_plan};
 ghost use Rattle.fs_server.specs.Step.{step};
 ghost use Rattle.fs_server.specs.declared.event.ServerEvent.{ServerEvent};
-ghost use Rattle.fs_server.specs.declared.event.ServerEvent.TheVariants.{FromClient};
+ghost use Rattle.fs_server.specs.declared.event.ServerEvent.TheVariants.{FromClient, FromPeer, Move};
 ghost use Rattle.fs_server.specs.declared.state.Server.{Server};
 ghost use Rattle.fs_serial.specs.Client.{ClientFits};
+ghost use Rattle.fs_serial.specs.Cluster.{CanCome, ClientEvent, Cluster, IsThere, after_client, after_server, after_step, first_cluster};
+ghost use Rattle.fs_serial.specs.Cluster.ClientEvent.{Hears};
 ghost use Rattle.fs_serial.specs.Laws.{GiftIsRelied, GiftIsTold, GiftKeepsParts, GiftReturnsNone};
 ghost use Rattle.fs_serial.specs.Parts.{AllHold, ServersFit, ServersHold, SessionFits, with_client, with_replies};
 ghost use Rattle.fs_serial.specs.Settled.{Settled, acknowledged, settled, settled_now};
-ghost use Rattle.fs_serial.specs.Runs.{Dated, IsOneSerialRun, IsRun, greatest_in, run};
-ghost use Rattle.fs_serial.specs.Sight.{Sight, sight_of};
+ghost use Rattle.fs_serial.specs.Places.{PlacesHold};
+ghost use Rattle.fs_serial.specs.Runs.{Dated, IsOneSerialRun, IsRun, greatest_in, held_by, run};
+ghost use Rattle.fs_serial.specs.Seen.{ClusterHolds, with_all};
+ghost use Rattle.fs_serial.specs.Sight.{Counts, Sight, sight_of};
+ghost use Rattle.fs_serial.specs.Refusals.{IsFairStep, rows_in};
 ghost use Rattle.fs_serial.specs.Steps.{AllStand, HadEnded, IsAdmitted, IsReplied};
-ghost use Rattle.fs_serial.specs.World.{CanCome, ClientEvent, IsThere, World, WorldHolds, after_client, after_server, first_world};
 
 /// A fresh identifier that a directory gives to a session, with an exclusive lease on the life of the file. Whoever relied
 /// on what was before can go on, no lease that goes back is given, and the session is told just that lease.
@@ -49,24 +61,24 @@ pub fn a_gift_keeps_the_parts()
 /// An entry that is admitted: it stands first in the log of a session that is not over, and the server finds a row
 /// for each lease that it used. Its effects join the records, it joins the journal, and its client will know so.
 pub fn an_admitted_entry_keeps_the_parts()
-    ensures { (skew greatest : ℕ) (s : Server) (journal : List Item)
+    ensures { (o : Counts) (skew greatest : ℕ) (s : Server) (journal : List Item)
         (replied : Session → List Item) (clients : Session → Settled) (by : Session) (e : Entry) →
-        AllHold skew greatest (sight_of s journal) replied clients →
+        AllHold skew greatest (sight_of o s journal) replied clients →
         IsAdmitted s by (clients by) e →
         AllHold skew greatest
-        (sight_of (with_entry by e s) (journal ++ item_of by e ∷ [])) replied
+        (sight_of o (with_entry by e s) (journal ++ item_of by e ∷ [])) replied
         (with_client by (acknowledged by (clients by).log (clients by)) clients) }
 {}
 
 /// A session that let go of the lease on its handles on a file, and that no row keeps from it, loses these handles. The reap
 /// joins the journal with the server's next number.
 pub fn a_reap_keeps_the_parts()
-    ensures { (skew greatest : ℕ) (s : Server) (journal : List Item)
+    ensures { (o : Counts) (skew greatest : ℕ) (s : Server) (journal : List Item)
         (replied : Session → List Item) (clients : Session → Settled) (file : List ℕ)
-        (by : Session) → AllHold skew greatest (sight_of s journal) replied clients →
+        (by : Session) → AllHold skew greatest (sight_of o s journal) replied clients →
         has_own s.rows file by ≡ false →
         reap_blocker (selves_in s.records file) s.rows by file ≡ None →
-        AllHold skew greatest (sight_of (with_reap file by s)
+        AllHold skew greatest (sight_of o (with_reap file by s)
         (journal ++ reap_item s.me (s.reaps + 1) file by ∷ [])) replied clients }
 {}
 
@@ -98,28 +110,70 @@ pub fn a_reply_keeps_the_parts()
         ClientFits by (changed (replies o r c).ready.change c) }
 {}
 
-/// Every event of the server, a question of a session that is on its way among them, keeps all that holds of the server
-/// and of all sessions, as long as no reading was greater than the greatest; and that may rise.
+/// A server that hands over what it has below a prefix leaves all rows and all records that there are as they were, and
+/// everything at its place.
+pub fn a_move_leaves_all_as_it_was()
+    ensures same { (k : ℕ) (c : Cluster) (s : Server) (prefix : List ℕ) (to : ℕ) →
+        slice_get c.servers k ≡ Some s → PlacesHold c →
+        (rows_in (after_step k (Move prefix to) (hands_over prefix to s) c) ≡ rows_in c) ×
+        (held_by (after_step k (Move prefix to) (hands_over prefix to s) c) ≡ held_by c) }
+    ensures places { (k : ℕ) (c : Cluster) (s : Server) (prefix : List ℕ) (to : ℕ) →
+        slice_get c.servers k ≡ Some s → PlacesHold c → (o : Counts) →
+        ServersFit (sight_of o (with_all s c) c.journal) → to < length c.servers →
+        move_refusal s.records s.rows s.map s.me prefix to None ≡ None →
+        PlacesHold (after_step k (Move prefix to) (hands_over prefix to s) c) }
+{}
+
+/// So does a server that takes a parcel which comes; and every parcel on its way fits where it comes.
+pub fn a_parcel_that_comes_leaves_all_as_it_was()
+    ensures fits { (k from : ℕ) (c : Cluster) (s : Server) (p : Parcel) →
+        slice_get c.servers k ≡ Some s → PlacesHold c →
+        IsThere k (FromPeer from (OfParcel p)) c → (o : Counts) →
+        ServersHold (sight_of o (with_all s c) c.journal) →
+        ServersFit (sight_of o (with_all s c) c.journal) → fits_here p s ≡ true }
+    ensures same { (k from : ℕ) (c : Cluster) (s : Server) (p : Parcel) →
+        slice_get c.servers k ≡ Some s → PlacesHold c →
+        IsThere k (FromPeer from (OfParcel p)) c →
+        (rows_in (after_step k (FromPeer from (OfParcel p)) (parcel_at true p s) c) ≡ rows_in c) ×
+        (held_by (after_step k (FromPeer from (OfParcel p)) (parcel_at true p s) c) ≡ held_by c) }
+    ensures places { (k from : ℕ) (c : Cluster) (s : Server) (p : Parcel) →
+        slice_get c.servers k ≡ Some s → PlacesHold c →
+        IsThere k (FromPeer from (OfParcel p)) c →
+        PlacesHold (after_step k (FromPeer from (OfParcel p)) (parcel_at true p s) c) }
+{}
+
+/// Every event of every server, a question of a session or a parcel of another server that is on its way among them, keeps
+/// all that holds of the servers and of all sessions, as long as no reading was greater than the greatest; and that may rise.
 pub fn the_servers_events_keep_all_parts()
-    ensures event { (greatest now : ℕ) (e : ServerEvent) (w : World) →
-        max w.server.last now ≤ greatest → IsThere e w.ends → WorldHolds greatest w →
-        WorldHolds greatest (after_server now e w) }
-    ensures rises { (greatest later : ℕ) (w : World) → greatest ≤ later → WorldHolds greatest w →
-        WorldHolds later w }
+    ensures event { (skew greatest now k : ℕ) (e : ServerEvent) (s : Server) (c : Cluster) →
+        slice_get c.servers k ≡ Some s → max s.last now ≤ greatest → IsThere k e c →
+        ClusterHolds skew greatest c → ClusterHolds skew greatest (after_server now k e c) }
+    ensures rises { (skew greatest later : ℕ) (c : Cluster) → greatest ≤ later →
+        ClusterHolds skew greatest c → ClusterHolds skew later c }
 {}
 
-/// Every event of a client keeps all that holds: an operation that its caller asks for, a turn, and an answer that comes. An
-/// answer that comes is never strange to it. The clock of a client that answers at once is behind the greatest reading by
-/// no more than the skew.
+/// Every event of a client keeps all that holds: an operation that its caller asks for, a turn, and an answer that comes. The
+/// clock of a client that answers at once is behind the greatest reading by no more than the skew.
 pub fn the_clients_events_keep_all_parts()
-    ensures { (greatest now : ℕ) (w : World) (by : Session) → WorldHolds greatest w →
-        (e : ClientEvent) → CanCome by e w.ends → greatest ≤ now + w.server.skew →
-        WorldHolds greatest (after_client by now e w) }
+    ensures { (skew greatest now : ℕ) (c : Cluster) (by : Session) → ClusterHolds skew greatest c →
+        (e : ClientEvent) → CanCome by e c → greatest ≤ now + skew →
+        ClusterHolds skew greatest (after_client by now e c) }
 {}
 
-/// At the start, with one new server, no session that has a lease and nothing on its way, all parts hold.
-pub fn the_first_world_has_all_parts()
-    ensures { (skew term greatest : ℕ) → WorldHolds greatest (first_world skew term) }
+/// Nothing that comes is strange: no answer to a client, and no question or parcel to a server.
+pub fn nothing_that_comes_is_strange()
+    ensures server { (skew greatest now k : ℕ) (e : ServerEvent) (s : Server) (c : Cluster) →
+        slice_get c.servers k ≡ Some s → max s.last now ≤ greatest → IsThere k e c →
+        ClusterHolds skew greatest c → (step s now e).out.note ≢ server.Strange }
+    ensures client { (skew greatest now from : ℕ) (a : Answer) (by : Session) (c : Cluster) →
+        CanCome by (Hears from a) c → ClusterHolds skew greatest c →
+        (answer_plan (c.lines by).client now from a).out.note ≢ client.Strange }
+{}
+
+/// At the start, with new servers, no session that has a lease and nothing on its way, all parts hold.
+pub fn the_first_cluster_has_all_parts()
+    ensures { (servers skew term greatest : ℕ) → 1 ≤ servers →
+        ClusterHolds skew greatest (first_cluster servers skew term) }
 {}
 
 /// An entry is refused only where a lease that it used has no row, and that lease had ended at the server's reading, as
@@ -131,24 +185,37 @@ pub fn a_refused_entry_had_ended()
         HadEnded s.rows now e u }
 {}
 
-/// Of a log that is handed in, an entry is admitted in that very event where the rows of the leases that it used stand, and those of
-/// each entry before it.
+/// A server admits no entry, and refuses none, but as the laws of entries say: where it refuses one, a lease that the entry used has no
+/// row with any server, and had ended at the reading; and it holds back none but those behind a refused one.
+pub fn refusals_are_fair()
+    ensures { (skew greatest now k : ℕ) (by : Session) (entries : List Entry) (s : Server)
+        (c : Cluster) → slice_get c.servers k ≡ Some s → greatest ≤ now + skew →
+        IsThere k (FromClient by (Ship entries)) c → ClusterHolds skew greatest c →
+        IsFairStep now k (FromClient by (Ship entries)) s c }
+{}
+
+/// Of a log that is handed in where its entries belong, an entry is admitted in that very event where the rows of the leases that it
+/// used stand, and those of each entry before it.
 pub fn a_standing_entry_is_admitted()
     ensures { (s : Server) (now : ℕ) (by : Session) (front rest : List Entry) (e : Entry) →
         list_all (λ (x : Entry). tells_its_effects x.op) (front ++ e ∷ rest) ≡ true →
+        list_all (λ (x : Entry). is_mine s (home_of x.op)) (front ++ e ∷ []) ≡ true →
         AllStand (begun now s).rows by (front ++ e ∷ []) →
         In (item_of by e) (step s now (FromClient by (Ship (front ++ e ∷ rest)))).out.admitted }
 {}
 
-/// Whatever happens, in whatever order: every event of a run keeps all that holds.
+/// Whatever happens, in whatever order: every event of a run keeps all that holds. So each identifier has one place, and each row
+/// and record is with the server that manages its file, or in the parcel that gives it.
 pub fn every_run_keeps_all_parts()
-    ensures { (greatest : ℕ) (events : List Dated) (w : World) → WorldHolds greatest w →
-        IsRun greatest events w → WorldHolds (greatest_in greatest events) (run events w) }
+    ensures { (skew greatest : ℕ) (events : List Dated) (c : Cluster) →
+        ClusterHolds skew greatest c → IsRun skew greatest events c →
+        ClusterHolds skew (greatest_in greatest events) (run events c) }
 {}
 
-/// The journal of every run is one serial run of the namespace, in the order of each session, to the space that the server
-/// holds, which is sound; and what each session was told is what the journal has, as far as the journal goes.
+/// The journal of every run is one serial run of the namespace, in the order of each session, to the space that the servers
+/// hold together, which is sound; and what each session was told is what the journal has, as far as the journal goes.
 pub fn every_run_is_one_serial_run()
-    ensures { (skew term : ℕ) (events : List Dated) → IsRun 0 events (first_world skew term) →
-        IsOneSerialRun (run events (first_world skew term)) }
+    ensures { (servers skew term : ℕ) (events : List Dated) → 1 ≤ servers →
+        IsRun skew 0 events (first_cluster servers skew term) →
+        IsOneSerialRun (run events (first_cluster servers skew term)) }
 {}

@@ -1,5 +1,5 @@
 -- What is read of rows is read of the part that it is about.
-use Rattle.std.proofs.Common.{◌≡◌, ◌==◌, not, ◌&&◌, ◌||◌, ℕ, Bool, true, false, List, [], ◌∷◌, refl, ap, cond, sym, ◌∙◌, subst, map, inl, inr, arith}
+use Rattle.std.proofs.Common.{◌≡◌, ◌==◌, not, ◌&&◌, ℕ, Bool, true, false, List, [], ◌∷◌, refl, ap, cond, sym, ◌∙◌, subst, map, inl, inr, arith}
 use mathlib.Core.Path.{fun_ext}
 use Rattle.std.specs.Prelude.{Option, Some, None, is_some, option_map}
 use Rattle.std.specs.List.{filter, find, list_any}
@@ -9,7 +9,6 @@ use Rattle.fs_ident.specs.declared.actor.LeaseNo.{LeaseNo}
 use Rattle.fs_ident.specs.declared.actor.Session.{Session}
 use Rattle.fs_ident.specs.Ident.{same}
 use Rattle.fs_ident.specs.In.{In}
-use Rattle.fs_ident.specs.Ordered.{put_before}
 use Rattle.fs_ident.proofs.Booleans.{first, second}
 use Rattle.fs_ident.proofs.Passing.{found}
 use Rattle.fs_ident.proofs.Standing.{In-filter, none_pass}
@@ -22,12 +21,11 @@ use Rattle.fs_field.specs.declared.lease_kind.LeaseKind.{LeaseKind}
 use Rattle.fs_field.specs.declared.row.Row.{Row}
 use Rattle.fs_field.specs.Conflict.{Selves, stands_against, meets, is_self, is_fixed, has_fixed, can_fail, mode_meets}
 use Rattle.fs_field.specs.Field.{same_field, same_mode, tells_no_mode}
-use Rattle.fs_field.specs.Table.{same_no, has_no, is_ordered, lock_on, no_before, with_row}
+use Rattle.fs_field.specs.Table.{same_no, has_no, is_ordered, lock_on}
 use Rattle.fs_field.proofs.Order.{one_of_number}
 use Rattle.fs_moderows.specs.Answer.{Opens, unless_locked, waits_or, answer_self, answer_other, has_fixed_other, is_self_of_other, stands_against_self, has_mode, is_told_true, rests_on, stands_against_reap, reap_blocker}
 use Rattle.fs_moderows.proofs.Witnesses.{In_filtered}
 use Rattle.fs_rows.specs.Answer.{answer_by, answer}
-use Rattle.fs_rows.specs.Granted.{with_rows}
 use Rattle.fs_rows.specs.Live.{unlocked_on}
 use Rattle.fs_server.specs.Rows.{is_off_modes, rows_off_modes, rows_on_modes}
 
@@ -173,32 +171,6 @@ pub reap_modes : (opens : Opens) (rows : List Row) (s : Session) (f : List ℕ) 
 reap_modes opens rows s f =
     ap (option_map (λ (row : Row). row.no)) (find_part (stands_against_reap opens rows s f) (λ r. not (is_off_modes r)) (λ r t. rests_on_on opens rows s f r.session r.field r.promise (second (not (r.session.0 == s.0)) (rests_on opens rows s f r.session r.field r.promise) t)) rows
     ∙ ap (λ test. find test (rows_on_modes rows)) (fun_ext (λ (r : Row). ap (λ b. not (r.session.0 == s.0) && b) (rests_modes opens rows s f r.session r.field r.promise))))
-
--- ## Tests of all rows
-
-any_put : {X : Type 0} (test before : X → Bool) (x : X) (xs : List X) → list_any test (put_before before x xs) ≡ (test x || list_any test xs)
-any_put test before x [] = refl
-any_put test before x (y ∷ ys) =
-    elim (before y) as (λ b. list_any test (cond b (x ∷ y ∷ ys) (y ∷ put_before before x ys)) ≡ (test x || (test y || list_any test ys))) [
-      | true ↦ refl
-      | false ↦ ap (λ b. test y || b) (any_put test before x ys) ∙ turned (test y) (test x) (list_any test ys)
-    ] where
-      turned : (a b c : Bool) → (a || (b || c)) ≡ (b || (a || c))
-      turned true true c = refl
-      turned true false c = refl
-      turned false b c = refl
-
--- with several rows more, one of them passes or one that was there
-pub any_with_rows : (test : Row → Bool) (more rows : List Row) → list_any test (with_rows more rows) ≡ (list_any test rows || list_any test more)
-any_with_rows test [] rows = alone (list_any test rows) where
-  alone : (b : Bool) → b ≡ (b || false)
-  alone true = refl
-  alone false = refl
-any_with_rows test (r ∷ rs) rows = any_with_rows test rs (with_row r rows) ∙ ap (λ b. b || list_any test rs) (any_put test (λ s. no_before r.no s.no) r rows) ∙ turned (test r) (list_any test rows) (list_any test rs) where
-  turned : (a b c : Bool) → ((a || b) || c) ≡ (b || (a || c))
-  turned true true c = refl
-  turned true false c = refl
-  turned false b c = refl
 
 -- ## The row of a number
 

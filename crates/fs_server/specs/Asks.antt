@@ -1,5 +1,5 @@
 -- A question for leases.
-use Rattle.std.specs.Prelude.{ℕ, ◌+◌, Bool, true, false, List, [], ◌∷◌, ◌++◌, length, Option, Some, None}
+use Rattle.std.specs.Prelude.{ℕ, ◌+◌, Bool, true, false, List, [], ◌∷◌, ◌++◌, length, Option, Some, None, if◌then◌else◌}
 use Rattle.std.specs.List.{find}
 use Rattle.fs_ident.specs.Ident.{child}
 use Rattle.fs_ident.specs.declared.actor.LeaseNo.{LeaseNo}
@@ -12,6 +12,7 @@ use Rattle.fs_field.specs.declared.field.Field.TheVariants.{Life, Own, SelfW, Ot
 use Rattle.fs_field.specs.declared.lease_kind.LeaseKind.{LeaseKind}
 use Rattle.fs_field.specs.declared.lease_kind.LeaseKind.TheVariants.{Shared, Exclusive}
 use Rattle.fs_field.specs.declared.row.Row.{Row}
+use Rattle.fs_field.specs.Field.{file_of}
 use Rattle.fs_field.specs.Table.{has_no, with_row, borne_numbers}
 use Rattle.fs_rows.specs.Answer.{answer}
 use Rattle.fs_moderows.specs.Answer.{answer_self, answer_other, given_row}
@@ -24,7 +25,7 @@ use Rattle.fs_msg.specs.declared.end.End.TheVariants as end
 use Rattle.fs_msg.specs.declared.msg.Msg.{Msg}
 use Rattle.fs_msg.specs.declared.server_note.ServerNote.TheVariants as note
 use Rattle.fs_server.specs.declared.state.Server.{Server}
-use Rattle.fs_server.specs.Server.{Stepped, next_number, end_of, to_session}
+use Rattle.fs_server.specs.Server.{Stepped, next_number, end_of, is_mine, moved, to_session}
 
 -- a session's handles are its own, and so is what it tells of a mode: it alone may lease these. What others tell of a
 -- mode is only read
@@ -55,15 +56,17 @@ pub record Asking : Type 0 where
   pub fresh : Option (List ℕ)
   pub end : End
 
--- the items in order, up to the first that cannot be given
+-- the items in order, up to the first that cannot be given, or whose file is with another server
 abbrev pub ask_from : Session → List (Field × LeaseKind) → Server → List Grant → Asking
 ask_from by [] s grants = record { server = s; grants = grants; fresh = None; end = end.All }
 ask_from by (x ∷ xs) s grants =
+    if is_mine s (file_of x.0) then
     elim (answer_to by x.0 (kind_for x.0 x.1) s) as (λ _. Asking) [
       | Granted promise ↦ ask_from by xs (with_lease by x.0 (kind_for x.0 x.1) promise s) (grants ++ grant_of by x.0 (kind_for x.0 x.1) s ∷ [])
       | Wait blocker ↦ record { server = s; grants = grants; fresh = None; end = end.Wait blocker }
       | Locked txn ↦ record { server = s; grants = grants; fresh = None; end = end.Locked txn }
     ]
+    else record { server = s; grants = grants; fresh = None; end = moved s (file_of x.0) }
 
 -- ## An identifier for a new file
 
@@ -80,14 +83,15 @@ abbrev pub fresh_of : Session → List ℕ → Option ℕ → Asking → Asking
 fresh_of by dir (Some k) a = with_fresh by dir k a
 fresh_of by dir None a = record a { end = end.NoIds dir }
 
--- a directory that is not here gives none, and is not spoken of
+-- one that is no directory gives none, and is not spoken of
 abbrev pub fresh_in : Session → List ℕ → Bool → Asking → Asking
 fresh_in by dir true a = fresh_of by dir (fresh_number a.server.records dir (borne_numbers dir a.server.rows)) a
 fresh_in by dir false a = a
 
 abbrev pub fresh_for : Session → Option (List ℕ) → Asking → Asking
 fresh_for by None a = a
-fresh_for by (Some dir) a = fresh_in by dir (is_directory a.server.records dir) a
+fresh_for by (Some dir) a =
+    if is_mine a.server dir then fresh_in by dir (is_directory a.server.records dir) a else record a { end = moved a.server dir }
 
 -- only where all items were given
 abbrev pub ask_fresh : Session → Option (List ℕ) → End → Asking → Asking

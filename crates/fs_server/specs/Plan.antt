@@ -5,14 +5,18 @@ use Rattle.fs_ident.specs.declared.limits.TheConstants.{LATEST}
 use Rattle.fs_msg.specs.declared.limits.TheConstants.{LONGEST}
 use Rattle.fs_rows.specs.Given.{AreGiven}
 use Rattle.fs_rows.specs.Granted.{with_rows}
+use Rattle.fs_rows.specs.Moving.{rows_left}
 use Rattle.fs_record.specs.Applied.{records_after_all, is_undoable}
 use Rattle.fs_record.specs.Fresh.{records_after_gift}
+use Rattle.fs_parcel.specs.Parcel.{fits}
+use Rattle.fs_record.specs.Moving.{AreEachRecords, records_left}
 use Rattle.fs_record.specs.Records.{RecordMap}
 use Rattle.fs_server.specs.declared.change.Change.{Change}
-use Rattle.fs_server.specs.declared.change.Change.TheVariants.{Nothing, Grant, Renew, Free, Admit, Reap}
+use Rattle.fs_server.specs.declared.change.Change.TheVariants.{Nothing, Grant, Renew, Free, Admit, Reap, Leave, Install}
 use Rattle.fs_server.specs.declared.plan.Plan.{Plan}
 use Rattle.fs_server.specs.declared.state.Server.{Server}
 use Rattle.fs_server.specs.Server.{begun}
+use Rattle.fs_server.specs.Moves.{installed}
 use Rattle.fs_server.specs.Pairs.{renewed_rows, released_rows}
 pub use Rattle.fs_server.specs.Rows.{AreRows, is_shaped}
 
@@ -30,6 +34,12 @@ changed (Renew until numbers) s = record s { rows = renewed_rows until numbers s
 changed (Free numbers) s = record s { rows = released_rows numbers s.rows }
 changed (Admit effects) s = record s { records = records_after_all s.records effects }
 changed (Reap count effects) s = record s { reaps = s.reaps + count; records = records_after_all s.records effects }
+changed (Leave map piece) s = record s {
+  records = records_left piece.prefix piece.given s.records;
+  rows = rows_left piece.prefix piece.given s.rows;
+  map = map;
+}
+changed (Install p) s = installed p s
 
 -- the server after the plan: the rows that are over are dropped first
 abbrev pub committed : Plan → Server → Server
@@ -49,14 +59,15 @@ pub record IsServer (s : Server) : Type 0 where
 
 -- ## Which plans can be committed
 
--- the effects of a log can be taken back where memory runs out
+-- the effects of a log can be taken back where memory runs out; a parcel fits
 abbrev pub CanChange : Change → Server → Type 0
 CanChange (Admit effects) s = list_all is_undoable effects ≡ true
 CanChange (Reap count effects) s = list_all is_undoable effects ≡ true
+CanChange (Install p) s = (fits s.records s.rows s.map s.me p ≡ true) × AreEachRecords p.records
 CanChange ch s = Unit {0}
 
 -- what it leads to is a server, with rows in order
 pub record CanCommit (p : Plan) (s : Server) : Type 0 where
-  pub change : CanChange p.change s
+  pub change : CanChange p.change (begun p.now s)
   pub server : IsServer (committed p s)
   pub table : AreRows (committed p s).rows

@@ -13,9 +13,10 @@ use Rattle.fs_msg.specs.declared.end.End.{End}
 use Rattle.fs_msg.specs.declared.end.End.TheVariants as end
 use Rattle.fs_msg.specs.declared.entry.Entry.{Entry}
 use Rattle.fs_msg.specs.declared.item.Item.{Item}
+use Rattle.fs_msg.specs.Home.{home_of}
 use Rattle.fs_msg.specs.declared.server_note.ServerNote.TheVariants as note
 use Rattle.fs_server.specs.declared.state.Server.{Server}
-use Rattle.fs_server.specs.Server.{Stepped, to_session, strange}
+use Rattle.fs_server.specs.Server.{Stepped, is_mine, moved, to_session, strange}
 
 -- the row of the lease that the entry used stands
 abbrev pub has_row : List Row → Session → Use → Bool
@@ -40,14 +41,16 @@ pub record Shipping : Type 0 where
   -- the numbers of the entries behind a refused one
   pub gaps : List ℕ
 
--- the entries in order, up to the first that used a lease whose row is gone
+-- the entries in order, up to the first that is handed in at the wrong server, or that used a lease whose row is gone
 abbrev pub ship_from : Session → List Entry → Server → List Item → Shipping
 ship_from by [] s admitted = record { server = s; admitted = admitted; end = end.All; gaps = [] }
 ship_from by (e ∷ es) s admitted =
+    if is_mine s (home_of e.op) then
     elim (first_gone s.rows by e.uses) as (λ _. Shipping) [
       | None ↦ ship_from by es (with_entry by e s) (admitted ++ item_of by e ∷ [])
       | Some u ↦ record { server = s; admitted = admitted; end = end.Ended e.n u.no u.until s.last; gaps = map (λ (x : Entry). x.n) es }
     ]
+    else record { server = s; admitted = admitted; end = moved s (home_of e.op); gaps = [] }
 
 abbrev pub shipped : Session → Shipping → Stepped
 shipped by x = record {

@@ -1,6 +1,8 @@
 //! What an event changes.
 use fs_field::{Effect, Row};
 use fs_ident::{FileId, LeaseNo, List};
+use fs_map::{FileMap, MapPiece};
+use fs_record::Parcel;
 
 /// What an event changes, beside the rows that are over.
 #[derive(Drop)]
@@ -28,5 +30,14 @@ pub(crate) enum Change {
     Reap {
         count: u64,
         effects: List<Effect>,
+    },
+    /// What the piece gives goes to another server; the map is this then.
+    Leave {
+        map: FileMap,
+        piece: MapPiece,
+    },
+    /// What another server hands over is put in its place.
+    Install {
+        parcel: Parcel,
     },
 }

@@ -14,6 +14,7 @@ use crate::out::ServerOut;
 use crate::plan::Plan;
 use crate::state::Server;
 use fs_ident::{Memory, Twin};
+use fs_map::FileMap;
 use fs_msg::CoreError;
 use fs_record::Records;
 use std::alloc::Global;
@@ -42,10 +43,12 @@ impl Model for ServerCore {
 impl ServerCore {
     ghost use Rattle.fs_server.specs.Plan.{CanCommit, committed};
     ghost use Rattle.fs_server.specs.Server.{first_server};
-    ghost use Rattle.fs_server.specs.Step.{spent_by, step};
+    ghost use Rattle.fs_server.specs.Step.{CanBeTold, spent_by, step};
+    ghost use Rattle.fs_map.specs.Map.{IsMap};
+    ghost use Rattle.fs_record.specs.Records.{AreRecords};
 
     /// A server before its first event: its number, by how much two clocks may differ, and for how long it gives a
-    /// lease, both in milliseconds. Server 0 has the root directory, and no other has a record.
+    /// lease, both in milliseconds. Server 0 has the root directory and manages everything, as each of them knows.
     pub fn new(alloc: Global, me: u8, skew: u64, term: u64) -> Result<ServerCore, Memory>
         requires few { me < 15 }
         requires skew { skew ≤ LONGEST }
@@ -63,6 +66,7 @@ impl ServerCore {
                 reaps: 0,
                 rows: AllRows::new(alloc),
                 records: Records::new(alloc, me == 0)?,
+                map: FileMap::new(alloc)?,
             },
         })
     }
@@ -70,7 +74,8 @@ impl ServerCore {
     /// What the event at the reading `now`, in milliseconds, comes to; nothing is changed. `Spent` where a lease
     /// or a reap would have a number above u64::MAX, and only there.
     pub fn plan(&self, alloc: Global, now: u64, ev: &ServerEvent) -> Result<Plan, CoreError>
-        requires { now ≤ LATEST }
+        requires reading { now ≤ LATEST }
+        requires told { CanBeTold ev.now }
         ensures out { IfOk result (λ p. p.out ≡ (step self.now now ev.now).out) }
         ensures server { IfOk result (λ p. committed p self.now ≡
             (step self.now now ev.now).server) }
@@ -104,7 +109,8 @@ impl ServerCore {
         now: u64,
         ev: &ServerEvent,
     ) -> Result<ServerOut, CoreError>
-        requires { now ≤ LATEST }
+        requires reading { now ≤ LATEST }
+        requires told { CanBeTold ev.now }
         ensures out { IfOk result (λ out. out ≡ (step self.old now ev.now).out) }
         ensures server { OnOk result (self.new ≡ (step self.old now ev.now).server) }
         ensures spent { (counter : TheCounter) → IsErrOf result (errors.Spent counter) →
@@ -121,9 +127,18 @@ impl ServerCore {
 
     /// The records of the server's files.
     pub fn records(&self) -> &Records
-        ensures { result.now ≡ self.now.records }
+        ensures records { result.now ≡ self.now.records }
+        ensures valid { AreRecords self.now.records }
     {
-        &self.server.records
+        self.server.known_records()
+    }
+
+    /// Which server manages which files, as far as this one knows.
+    pub fn map(&self) -> &FileMap
+        ensures map { result.now ≡ self.now.map }
+        ensures valid { IsMap self.now.map }
+    {
+        self.server.known_map()
     }
 }
 

@@ -5,13 +5,13 @@ use Rattle.fs_ident.specs.declared.actor.Peer.{Peer}
 use Rattle.fs_msg.specs.declared.msg.Msg.{Msg}
 use Rattle.fs_world.specs.Served.{Seats, with_down, with_downs}
 
-with_downs-append : (xs ys : List (Peer × Msg)) (seats : Seats) → with_downs (xs ++ ys) seats ≡ with_downs ys (with_downs xs seats)
-with_downs-append [] ys seats = refl
-with_downs-append (x ∷ xs) ys seats = with_downs-append xs ys (with_down x seats)
+with_downs-append : (k : ℕ) (xs ys : List (Peer × Msg)) (seats : Seats) → with_downs k (xs ++ ys) seats ≡ with_downs k ys (with_downs k xs seats)
+with_downs-append k [] ys seats = refl
+with_downs-append k (x ∷ xs) ys seats = with_downs-append k xs ys (with_down k x seats)
 
 -- one more of them
-pub downs_more : (send : List (Peer × Msg)) (k : ℕ) (x : Peer × Msg) (seats : Seats) → k < length send → x ≡ get_or send k x → with_downs (take (k + 1) send) seats ≡ with_down x (with_downs (take k send) seats)
-downs_more send k x seats below is =
-    ap (λ (xs : List (Peer × Msg)). with_downs xs seats) (take_more send k x below)
-    ∙ with_downs-append (take k send) (get_or send k x ∷ []) seats
-    ∙ ap (λ (y : Peer × Msg). with_down y (with_downs (take k send) seats)) (sym is)
+pub downs_more : (k : ℕ) (send : List (Peer × Msg)) (n : ℕ) (x : Peer × Msg) (seats : Seats) → n < length send → x ≡ get_or send n x → with_downs k (take (n + 1) send) seats ≡ with_down k x (with_downs k (take n send) seats)
+downs_more k send n x seats below is =
+    ap (λ (xs : List (Peer × Msg)). with_downs k xs seats) (take_more send n x below)
+    ∙ with_downs-append k (take n send) (get_or send n x ∷ []) seats
+    ∙ ap (λ (y : Peer × Msg). with_down k y (with_downs k (take n send) seats)) (sym is)

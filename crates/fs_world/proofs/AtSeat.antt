@@ -1,18 +1,22 @@
 -- What happened at a seat, in the world.
-use Rattle.std.proofs.Common.{◌≡◌, Bool, true, false, List, refl, ap, sym, ◌∙◌, subst}
+use Rattle.std.proofs.Common.{◌≡◌, ◌≤◌, ℕ, Bool, true, false, List, refl, ap, sym, ◌∙◌, subst}
 use Rattle.std.specs.Prelude.{Option, Some, None, Result, Ok, Err, OnOk, is_some}
 use Rattle.std.specs.FinMap.{get, insert}
+use Rattle.fs_ident.specs.declared.actor.Peer.TheVariants.{Client, Server}
 use Rattle.fs_ident.specs.declared.actor.Session.{Session}
+use Rattle.fs_ident.specs.declared.limits.TheConstants.{SESSIONS}
+use Rattle.fs_window.specs.declared.packet.Packet.{Packet}
+use Rattle.fs_world.specs.Planned.{WasSent}
 use Rattle.fs_msg.specs.declared.core_error.CoreError.{CoreError}
 use Rattle.fs_msg.specs.declared.core_error.Counter.{Counter}
 use Rattle.fs_msg.specs.declared.item.Item.{Item}
 use Rattle.fs_schedule.specs.declared.outcome.Outcome.{Outcome}
 use Rattle.fs_world.specs.Linked.{IsLinked}
 use Rattle.fs_world.specs.Packets.{Packets}
-use Rattle.fs_world.specs.Served.{SeatStepped, Seats, Stepped, first_seat, first_spent, join_at, with_seat}
+use Rattle.fs_world.specs.Served.{SeatStepped, Seats, Stepped, first_seat, first_spent, join_at, told_at, with_seat}
 use Rattle.fs_world.specs.declared.seat.Seat.{Seat}
 use Rattle.fs_world.specs.declared.served.Served.{Served}
-use Rattle.fs_world.proofs.Linked.{join}
+use Rattle.fs_world.proofs.Linked.{join_linked, told_seat_linked}
 
 -- it has joined
 pub seat_there : (o : Option Seat) → true ≡ is_some o → (seat : Seat) × (o ≡ Some seat)
@@ -49,7 +53,15 @@ pub none_there : (o : Option Seat) → false ≡ is_some o → o ≡ None
 none_there None h = refl
 none_there (Some seat) h = absurd (cc)
 
-pub join_linked : (w : Served) (s : Session) (seat : Seat) (seats : Seats) → get w.seats s.0 ≡ None → seat ≡ first_seat w.term s → seats ≡ insert w.seats s.0 seat → IsLinked w → IsLinked (record w { seats = seats })
-join_linked w s seat seats none is there h =
-    let joined : IsLinked (join_at None s w).world = subst (λ (o : Option Seat). IsLinked (join_at o s w).world) none (join w s h) in
+pub joined_after : (w : Served) (s : Session) (seat : Seat) (seats : Seats) → get w.seats s.0 ≡ None → seat ≡ first_seat w.term s → seats ≡ insert w.seats s.0 seat → 1 ≤ s.0 → s.0 ≤ SESSIONS → IsLinked w → IsLinked (record w { seats = seats })
+joined_after w s seat seats none is there first few h =
+    let joined : IsLinked (join_at None s w).world = subst (λ (o : Option Seat). IsLinked (join_at o s w).world) none (join_linked w s first few h) in
     subst (λ (m : Seats). IsLinked (record w { seats = m })) (sym (there ∙ ap (insert w.seats s.0) is)) joined
+
+-- a packet of a server comes to a session, if it has joined
+pub told_linked : (w : Served) (s : Session) (now k : ℕ) (p : Packet) → WasSent (Server k) (Client s) (Some p) w.packets.sent → IsLinked w → IsLinked (told_at (get w.seats s.0) now s k p w).world
+told_linked w s now k p x h = go (get w.seats s.0) refl
+  where
+    go : (o : Option Seat) → get w.seats s.0 ≡ o → IsLinked (told_at o now s k p w).world
+    go None e = h
+    go (Some seat) e = told_seat_linked w s seat now k p e x h

@@ -13,7 +13,7 @@ use Rattle.fs_schedule.specs.declared.event.Head.{Head}
 use Rattle.fs_schedule.specs.declared.event.Head.TheVariants as head
 use Rattle.fs_schedule.specs.declared.event.Schedule.{Schedule}
 use Rattle.fs_schedule.specs.declared.event.What.{What}
-use Rattle.fs_schedule.specs.declared.event.What.TheVariants.{Join, Do, Tell, Turn, Recall}
+use Rattle.fs_schedule.specs.declared.event.What.TheVariants.{Join, Do, Tell, Turn, Recall, Move}
 use Rattle.fs_world.specs.declared.direct.Direct.{Direct}
 use Rattle.fs_world.specs.Direct.{Counts, do_at, first_direct, is_last, is_spent, join_at, step_of}
 use Rattle.fs_world.specs.World.{Stop, first_world, stop_after, stop_at, stop_in, stop_of}
@@ -50,6 +50,7 @@ step_bounded k w (Do s o) h = do_bounded k w s o (get w.asked s.0) refl h
 step_bounded k w (Tell number) h = more k w.asked h
 step_bounded k w (Turn who) h = more k w.asked h
 step_bounded k w (Recall server field) h = more k w.asked h
+step_bounded k w (Move at prefix to) h = more k w.asked h
 
 below : (n m : ℕ) → n < m → (n == m) ≡ false
 below n m h = grind (arith, nat_tests)
@@ -64,6 +65,7 @@ spent_at k w (Do s o) h lt = last_at k (get w.asked s.0) (h s.0) lt
 spent_at k w (Tell number) h lt = refl
 spent_at k w (Turn who) h lt = refl
 spent_at k w (Recall server field) h lt = refl
+spent_at k w (Move at prefix to) h lt = refl
 
 goes_by : (spent : Bool) (line : ℕ) (later : Option Stop) → spent ≡ false → later ≡ None → stop_at (if spent then Some Entries else None) (stop_after line [] later) ≡ None
 goes_by true line later e n = absurd (cc)

@@ -14,7 +14,7 @@ use Rattle.fs_msg.specs.declared.item.Item.{Item}
 use Rattle.fs_msg.specs.Journal.{IsSerialRun}
 use Rattle.fs_schedule.specs.declared.event.Head.TheVariants as head
 use Rattle.fs_schedule.specs.declared.event.What.{What}
-use Rattle.fs_schedule.specs.declared.event.What.TheVariants.{Join, Do, Tell, Turn, Recall}
+use Rattle.fs_schedule.specs.declared.event.What.TheVariants.{Join, Do, Tell, Turn, Recall, Move}
 use Rattle.fs_world.specs.declared.direct.Direct.{Direct}
 use Rattle.fs_world.specs.Direct.{Answer, Stepped, answer, answer_step, do_at, first_direct, item_of, join_at, join_step, step_of}
 use Rattle.fs_world.specs.World.{may_happen}
@@ -76,6 +76,7 @@ step_holds told w (Do s o) f h = do_holds told w s o (get w.asked s.0) refl f h
 step_holds told w (Tell number) f h = holds_nothing told w h
 step_holds told w (Turn who) f h = holds_nothing told w h
 step_holds told w (Recall server field) f h = holds_nothing told w h
+step_holds told w (Move at prefix to) f h = holds_nothing told w h
 
 -- ## What holds then
 

@@ -1,5 +1,5 @@
 -- What joins the journal of the servers form: items of sessions, each of which asks for an access where it opens.
-use Rattle.std.proofs.Common.{◌≡◌, ℕ, ◌+◌, ◌/◌, true, false, not, ◌&&◌, List, [], ◌∷◌, ◌++◌, map, cond, refl, inl, inr}
+use Rattle.std.proofs.Common.{◌≡◌, ℕ, ◌+◌, ◌/◌, Bool, true, false, not, ◌&&◌, List, [], ◌∷◌, ◌++◌, map, cond, refl, inl, inr}
 use Rattle.std.specs.Prelude.{Option, Some, None, is_some}
 use Rattle.std.specs.List.{AllByRecursion, list_all}
 use Rattle.fs_ident.specs.In.{In}
@@ -19,6 +19,7 @@ use Rattle.fs_view.specs.declared.kept.Kept.{Kept}
 use Rattle.fs_view.specs.View.{View, missing_in, reply_in}
 use Rattle.fs_msg.specs.declared.act.Act.TheVariants as act
 use Rattle.fs_msg.specs.declared.act.Busy.TheVariants as busy
+use Rattle.fs_msg.specs.Home.{home_of}
 use Rattle.fs_msg.specs.declared.answer.Answer.{Answer}
 use Rattle.fs_msg.specs.declared.answer.Answer.TheVariants.{Granted, Renewed, Released, Shipped, Recall}
 use Rattle.fs_msg.specs.declared.client_msg.ClientMsg.{ClientMsg}
@@ -26,19 +27,24 @@ use Rattle.fs_msg.specs.declared.client_msg.ClientMsg.TheVariants.{Ask, Renew, R
 use Rattle.fs_msg.specs.declared.end.End.TheVariants as end
 use Rattle.fs_msg.specs.declared.entry.Entry.{Entry}
 use Rattle.fs_msg.specs.declared.item.Item.{Item}
-use Rattle.fs_client.specs.Acts.{act_on, act_plan, answer_with, answers, ask_for, asks, full_one, reads, replies, stays, with_id, worth}
+use Rattle.fs_client.specs.Acts.{act_on, act_plan, answer_with, answers, ask_for, asks, full_one, hinted, need_file, reads, replies, stays, with_id, worth}
 use Rattle.fs_client.specs.Answers.{answer_plan, fits, hear, strange, told}
 use Rattle.fs_client.specs.Client.{begun}
-use Rattle.fs_client.specs.Turns.{ending, idle, release_some, renew_some, returned, ships, turn_free, turn_on, turn_plan}
+use Rattle.fs_client.specs.Turns.{ending, idle, release_some, renew_some, returned, ship_some, turn_free, turn_on, turn_plan}
 use Rattle.fs_client.specs.declared.state.Client.{Client as ClientState}
 use Rattle.fs_moderows.specs.Answer.{reap_blocker}
 use Rattle.fs_record.specs.ValueOf.{selves_in}
+use Rattle.fs_parcel.specs.Parcel.{move_refusal}
+use Rattle.fs_parcel.specs.declared.error.MoveError.{MoveError}
+use Rattle.fs_record.specs.declared.parcel.Parcel.{Parcel}
+use Rattle.fs_msg.specs.declared.peer_msg.PeerMsg.TheVariants.{Parcel as OfParcel}
+use Rattle.fs_server.specs.Moves.{fits_here, move_at, parcel_at}
 use Rattle.fs_server.specs.Reaps.{Reaping, lapsed_in, reap_from, reap_item, turn_over, with_blocker, with_reap}
-use Rattle.fs_server.specs.Server.{begun as server_begun, strange as server_strange}
+use Rattle.fs_server.specs.Server.{begun as server_begun, is_mine, moved, strange as server_strange}
 use Rattle.fs_server.specs.Ships.{Shipping, first_gone, item_of, ship_from, shipped, with_entry}
 use Rattle.fs_server.specs.Step.{message_step, step}
 use Rattle.fs_server.specs.declared.event.ServerEvent.{ServerEvent}
-use Rattle.fs_server.specs.declared.event.ServerEvent.TheVariants.{FromClient, Turn, Recall as TheRecall}
+use Rattle.fs_server.specs.declared.event.ServerEvent.TheVariants.{FromClient, FromPeer, Turn, Recall as TheRecall, Move}
 use Rattle.fs_server.specs.declared.state.Server.{Server as ServerState}
 use Rattle.fs_serial.specs.World.{is_called, pushed}
 
@@ -83,7 +89,7 @@ full_fine (need.Fresh dir ∷ needs) c = tt
 
 ask_fine : (needs some : List Need) (c : ClientState) → MayBeFine (ask_for needs some c).out.admitted
 ask_fine needs [] c = full_fine needs c
-ask_fine needs (n ∷ ns) c = elim (is_some c.exchange) as (λ b. MayBeFine (cond b (stays (act.Busy busy.Exchange) c) (asks (n ∷ ns) c)).out.admitted) [ true ↦ tt | false ↦ tt ]
+ask_fine needs (n ∷ ns) c = elim (is_some c.exchange) as (λ b. MayBeFine (cond b (stays (act.Busy busy.Exchange) c) (asks (hinted c (need_file n)) (n ∷ ns) c)).out.admitted) [ true ↦ tt | false ↦ tt ]
 
 answers_fine : (o : Op) (r : Reply) (c : ClientState) → is_called o ≡ true → MayBeFine (answers o r c).out.admitted
 answers_fine o r c h = elim (not (is_change r) && is_empty c.log) as (λ b. MayBeFine (cond b (reads o r c) (replies o r c)).out.admitted) [
@@ -112,9 +118,13 @@ release_fine : (ks : List Kept) (c : ClientState) → MayBeFine (release_some ks
 release_fine [] c = renew_fine (ending (c.last + c.term / 2) c.view) c
 release_fine (k ∷ ks) c = tt
 
+ship_fine : (es : List Entry) (c : ClientState) → MayBeFine (ship_some es c).out.admitted
+ship_fine [] c = tt
+ship_fine (e ∷ es) c = tt
+
 free_fine : (c : ClientState) → MayBeFine (turn_free c).out.admitted
-free_fine c = elim (not (is_empty c.log) && not (is_some c.over)) as (λ b. MayBeFine (cond b (ships c) (release_some (returned c.view) c)).out.admitted) [
-  | true ↦ tt
+free_fine c = elim (not (is_empty c.log) && not (is_some c.over)) as (λ b. MayBeFine (cond b (ship_some c.log c) (release_some (returned c.view) c)).out.admitted) [
+  | true ↦ ship_fine c.log c
   | false ↦ release_fine (returned c.view) c
 ]
 
@@ -131,11 +141,11 @@ told_fine (Released count e) c = tt
 told_fine (Shipped count e) c = tt
 told_fine (Recall number) c = tt
 
-heard_fine : (a : Answer) (c : ClientState) → MayBeFine (hear 0 a c).out.admitted
-heard_fine a c = elim (fits 0 c.exchange a c) as (λ b. MayBeFine (cond b (told a c) (strange c)).out.admitted) [ true ↦ told_fine a c | false ↦ tt ]
+heard_fine : (from : ℕ) (a : Answer) (c : ClientState) → MayBeFine (hear from a c).out.admitted
+heard_fine from a c = elim (fits from c.exchange a c) as (λ b. MayBeFine (cond b (told a c) (strange c)).out.admitted) [ true ↦ told_fine a c | false ↦ tt ]
 
-pub answer_fine : (c : ClientState) (now : ℕ) (a : Answer) → MayBeFine (answer_plan c now 0 a).out.admitted
-answer_fine c now a = heard_fine a (begun now c)
+pub answer_fine : (c : ClientState) (now from : ℕ) (a : Answer) → MayBeFine (answer_plan c now from a).out.admitted
+answer_fine c now from a = heard_fine from a (begun now c)
 
 -- ## Entries that are handed in
 
@@ -145,13 +155,23 @@ EntriesAsk es = (e : Entry) → In e es → AsksAccess e.op
 pub ships_fine : (by : Session) (es : List Entry) (s : ServerState) (admitted : List Item) → EntriesAsk es → AllFine admitted → AllFine (ship_from by es s admitted).admitted
 ships_fine by [] s admitted a h = h
 ships_fine by (e ∷ es) s admitted a h =
-    elim (first_gone s.rows by e.uses) as (λ (o : Option Use). AllFine
-    (elim o as (λ _. Shipping) [
+    elim (is_mine s (home_of e.op)) as (λ (b : Bool). AllFine
+    (cond b
+    (elim (first_gone s.rows by e.uses) as (λ _. Shipping) [
       | None ↦ ship_from by es (with_entry by e s) (admitted ++ item_of by e ∷ [])
       | Some u ↦ record { server = s; admitted = admitted; end = end.Ended e.n u.no u.until s.last; gaps = map (λ (x : Entry). x.n) es }
-    ]).admitted) [
-      | None ↦ ships_fine by es (with_entry by e s) (admitted ++ item_of by e ∷ []) (λ x i. a x (inr i)) (fine_more admitted (item_of by e ∷ []) h (record { asks = a e (inl refl) }, tt))
-      | Some u ↦ h
+    ])
+    (record { server = s; admitted = admitted; end = moved s (home_of e.op); gaps = [] })).admitted) [
+      | true ↦
+          elim (first_gone s.rows by e.uses) as (λ (o : Option Use). AllFine
+          (elim o as (λ _. Shipping) [
+            | None ↦ ship_from by es (with_entry by e s) (admitted ++ item_of by e ∷ [])
+            | Some u ↦ record { server = s; admitted = admitted; end = end.Ended e.n u.no u.until s.last; gaps = map (λ (x : Entry). x.n) es }
+          ]).admitted) [
+            | None ↦ ships_fine by es (with_entry by e s) (admitted ++ item_of by e ∷ []) (λ x i. a x (inr i)) (fine_more admitted (item_of by e ∷ []) h (record { asks = a e (inl refl) }, tt))
+            | Some u ↦ h
+          ]
+      | false ↦ h
     ]
 
 abbrev pub MessageAsks : ClientMsg → Type 0
@@ -185,6 +205,14 @@ turn_over_fine : (xs : List (List ℕ × Session)) (s : ServerState) → AllFine
 turn_over_fine [] s = tt
 turn_over_fine (x ∷ xs) s = reaps_fine (x ∷ xs) s [] [] tt
 
+move_fine : (o : Option MoveError) (prefix : List ℕ) (to : ℕ) (s : ServerState) → AllFine (move_at o prefix to s).out.admitted
+move_fine (Some why) prefix to s = tt
+move_fine None prefix to s = tt
+
+parcel_fine : (b : Bool) (p : Parcel) (s : ServerState) → AllFine (parcel_at b p s).out.admitted
+parcel_fine true p s = tt
+parcel_fine false p s = tt
+
 abbrev pub EventAsks : ServerEvent → Type 0
 EventAsks (FromClient by m) = MessageAsks m
 EventAsks e = Unit {0}
@@ -193,3 +221,5 @@ pub step_fine : (s : ServerState) (now : ℕ) (e : ServerEvent) → EventAsks e 
 step_fine s now (FromClient by m) a = message_fine by m (server_begun now s) a
 step_fine s now Turn a = let b : ServerState = server_begun now s in turn_over_fine (lapsed_in b) b
 step_fine s now (TheRecall field) a = tt
+step_fine s now (FromPeer from (OfParcel p)) a = let b : ServerState = server_begun now s in parcel_fine (fits_here p b) p b
+step_fine s now (Move prefix to) a = let b : ServerState = server_begun now s in move_fine (move_refusal b.records b.rows b.map b.me prefix to None) prefix to b

@@ -1,25 +1,44 @@
 -- What holds holds of the first world of the servers form.
-use Rattle.std.proofs.Common.{◌≡◌, ℕ, [], refl, ap, sym, subst}
+use Rattle.std.proofs.Common.{◌≡◌, ℕ, zero, suc, ◌≤◌, [], ◌∷◌, length, length-append, inl, inr, ◌⊎◌, refl, ap, sym, ◌∙◌, subst, arith}
 use Rattle.std.specs.FinMap.{empty, get-empty}
 use Rattle.std.specs.Ordering.{nat_cmp}
 use mathlib.Core.Path.{fun_ext}
+use Rattle.fs_ident.specs.In.{In}
 use Rattle.fs_ident.specs.declared.actor.Session.{Session}
 use Rattle.fs_server.specs.Server.{first_server}
-use Rattle.fs_serial.specs.World.{Ends, WorldHolds, first_ends}
-use Rattle.fs_serial.proofs.FirstWorld.{first_all}
+use Rattle.fs_server.specs.declared.state.Server.{Server}
+use Rattle.fs_serial.specs.Cluster.{Lines, first_lines, first_servers}
+use Rattle.fs_serial.specs.Seen.{ClusterHolds}
+use Rattle.fs_world.specs.Parts.{lines_in, lines_of}
 use Rattle.fs_world.specs.Served.{first_served}
-use Rattle.fs_world.specs.Parts.{ends_in, ends_of}
+use Rattle.fs_world.proofs.Replies.{in_parts}
+use Rattle.fs_world.proofs.SerialLaws.{SerialLaws}
 use Rattle.fs_world.proofs.SessionSteps.{HoldsOf}
 
-first_seen : (term : ℕ) → first_ends term ≡ ends_of term empty
-first_seen term = fun_ext (λ x. ap (ends_in term x) (sym (get-empty nat_cmp x.0)))
+first_seen : (term : ℕ) → first_lines term ≡ lines_of term empty
+first_seen term = fun_ext (λ x. ap (lines_in term x) (sym (get-empty nat_cmp x.0)))
 
-pub first_holds : (skew term : ℕ) → HoldsOf skew 0 [] (first_served skew term)
-first_holds skew term = record {
+first_many : (servers skew term : ℕ) → length (first_servers servers skew term) ≡ servers
+first_many zero skew term = refl
+first_many (suc k) skew term = let before = first_many k skew term in length-append (first_servers k skew term) (first_server k skew term ∷ []) ∙ (omega (arith, before))
+
+-- a new server has no row
+no_rows : (servers skew term : ℕ) (s : Server) → In s (first_servers servers skew term) → s.rows ≡ []
+no_rows zero skew term s i = absurd i
+no_rows (suc k) skew term s i = either (in_parts s (first_servers k skew term) (first_server k skew term ∷ []) i) (no_rows k skew term s)
+  where
+    either : In s (first_servers k skew term) ⊎ In s (first_server k skew term ∷ []) → (In s (first_servers k skew term) → s.rows ≡ []) → s.rows ≡ []
+    either (inl i) before = before i
+    either (inr (inl e)) before = ap (λ (x : Server). x.rows) e
+    either (inr (inr z)) before = absurd z
+
+pub first_holds : (laws : SerialLaws) (servers skew term : ℕ) → 1 ≤ servers → HoldsOf servers skew 0 [] (first_served servers skew term)
+first_holds laws servers skew term some = record {
   replied = λ x. [];
-  world = subst (λ (ends : Session → Ends). WorldHolds 0 (record { server = first_server 0 skew term; journal = []; replied = λ x. []; ends = ends })) (first_seen term) (first_all skew term 0);
-  skewed = refl;
-  rows = λ r i. absurd i;
+  cluster = subst (λ (lines : Session → Lines). ClusterHolds skew 0 (record { servers = first_servers servers skew term; flying = []; journal = []; replied = λ x. []; lines = lines })) (first_seen term) (laws.first servers skew term 0 some);
+  many = first_many servers skew term;
+  rows = λ s i row j. absurd (subst (In row) (no_rows servers skew term s i) j);
+  parcels = λ f i. absurd i;
   answered = λ t i. absurd i;
   items = tt;
 }

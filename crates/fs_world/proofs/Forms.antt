@@ -1,4 +1,4 @@
--- Which events may happen to the world of a schedule.
+-- Which operations callers may ask for.
 use Rattle.std.proofs.Common.{◌≡◌, ℕ, ◌≤◌, true, refl}
 use Rattle.std.specs.Prelude.{Some, None, IfSome}
 use Rattle.fs_ident.specs.declared.actor.Peer.TheVariants.{Server, Client}
@@ -31,21 +31,3 @@ module _ (servers skew term : ℕ) where
   called (op.Delete dir name) h = absurd (cc)
   called (op.Rename sdir sname ddir dname) h = absurd (cc)
   called (op.Reap file session) h = absurd (cc)
-
-  served_fits : (what : What) → IfSome (session_in what) (λ (s : Session). (1 ≤ s.0) × (s.0 ≤ SESSIONS)) → FitsWhat (head.Servers servers skew term) what → FitsServed what
-  served_fits (Join s) session fits = session
-  served_fits (Do s o) session fits = called o fits.0
-  served_fits (Tell number) session fits = tt
-  served_fits (Turn (Client s)) session fits = tt
-  served_fits (Turn (Server k)) session fits = tt
-  served_fits (Recall k field) session fits = tt
-
--- each event of a schedule may happen to the first world of its form
-pub first_fits : (h : Head) (e : Event) → FitsEvent h e → FitsWorld (first_world h) e.what
-first_fits head.Direct e fits = tt
-first_fits (head.Servers servers skew term) e fits = served_fits servers skew term e.what fits.session fits.what
-
--- and what may happen now may happen later
-pub later_fits : (w : Form) (e : Event) (what : What) → FitsWorld w what → FitsWorld (step w e).world what
-later_fits (Direct w) e what fits = tt
-later_fits (Served w) e what fits = fits

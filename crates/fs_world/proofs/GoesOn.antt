@@ -6,6 +6,7 @@ use Rattle.fs_schedule.specs.declared.event.Head.{Head}
 use Rattle.fs_schedule.specs.declared.event.Head.TheVariants as head
 use Rattle.fs_world.specs.Order.{Told, told_at}
 use Rattle.fs_schedule.specs.Skew.{IsTimely, IsWithinSkew}
+use Rattle.fs_schedule.specs.Spelling.{FitsHead}
 use Rattle.fs_world.specs.World.{AllMayHappen, first_world, step}
 use Rattle.fs_world.specs.declared.form.Form.{Form}
 use Rattle.fs_world.specs.declared.form.Form.TheVariants.{Direct, Served}
@@ -13,6 +14,7 @@ use Rattle.fs_world.specs.declared.served.Served.{Served as TheServed}
 use Rattle.fs_world.proofs.DirectKept as direct
 use Rattle.fs_world.proofs.FirstServed.{first_holds}
 use Rattle.fs_world.proofs.ServedSteps.{step_holds}
+use Rattle.fs_world.proofs.SerialLaws.{SerialLaws}
 use Rattle.fs_world.proofs.SessionSteps.{HoldsOf}
 
 -- no reading so far is ahead of one to come by more than the skew
@@ -21,7 +23,8 @@ IsAhead greatest skew es = AllByRecursion (λ (e : Event). greatest ≤ e.readin
 
 pub record ServedGoes (servers skew term : ℕ) (es : List Event) (told : List Told) (w : TheServed) : Type 0 where
   pub greatest : ℕ
-  pub holds : HoldsOf skew greatest told w
+  pub some : 1 ≤ servers
+  pub holds : HoldsOf servers skew greatest told w
   pub called : AllMayHappen (head.Servers servers skew term) es
   pub within : IsWithinSkew skew es
   pub ahead : IsAhead greatest skew es
@@ -38,20 +41,21 @@ still_ahead : (greatest now skew : ℕ) (es : List Event) → IsAhead greatest s
 still_ahead greatest now skew [] a b = tt
 still_ahead greatest now skew (e ∷ es) a b = let p = a.0 in let q = b.0 in (omega arith, still_ahead greatest now skew es a.1 b.1)
 
-served_goes : (servers skew term : ℕ) (e : Event) (es : List Event) (told : List Told) (w : TheServed) → ServedGoes servers skew term (e ∷ es) told w → Goes (head.Servers servers skew term) es (told ++ told_at e.what (step (Served w) e).outcome.notes) (step (Served w) e).world
-served_goes servers skew term e es told w h = record {
+served_goes : (laws : SerialLaws) (servers skew term : ℕ) (e : Event) (es : List Event) (told : List Told) (w : TheServed) → ServedGoes servers skew term (e ∷ es) told w → Goes (head.Servers servers skew term) es (told ++ told_at e.what (step (Served w) e).outcome.notes) (step (Served w) e).world
+served_goes laws servers skew term e es told w h = record {
+  some = h.some;
   greatest = max h.greatest e.reading;
-  holds = step_holds skew h.greatest told w h.holds e.reading h.ahead.0 servers term e.what h.called.0;
+  holds = step_holds laws servers skew h.greatest told w h.holds e.reading h.ahead.0 h.some term e.what h.called.0;
   called = h.called.1;
   within = h.within.1;
   ahead = still_ahead h.greatest e.reading skew es h.ahead.1 h.within.0;
 }
 
-pub goes_on : (h : Head) (e : Event) (es : List Event) (told : List Told) (w : Form) → Goes h (e ∷ es) told w → Goes h es (told ++ told_at e.what (step w e).outcome.notes) (step w e).world
-goes_on head.Direct e es told (Direct w) g = (g.0.1, direct.step_holds told w e.what g.0.0 g.1)
-goes_on (head.Servers servers skew term) e es told (Served w) g = served_goes servers skew term e es told w g
-goes_on head.Direct e es told (Served w) g = absurd g
-goes_on (head.Servers servers skew term) e es told (Direct w) g = absurd g
+pub goes_on : (laws : SerialLaws) (h : Head) (e : Event) (es : List Event) (told : List Told) (w : Form) → Goes h (e ∷ es) told w → Goes h es (told ++ told_at e.what (step w e).outcome.notes) (step w e).world
+goes_on laws head.Direct e es told (Direct w) g = (g.0.1, direct.step_holds told w e.what g.0.0 g.1)
+goes_on laws (head.Servers servers skew term) e es told (Served w) g = served_goes laws servers skew term e es told w g
+goes_on laws head.Direct e es told (Served w) g = absurd g
+goes_on laws (head.Servers servers skew term) e es told (Direct w) g = absurd g
 
 -- ## The first world
 
@@ -59,6 +63,6 @@ none_ahead : (skew : ℕ) (es : List Event) → IsAhead 0 skew es
 none_ahead skew [] = tt
 none_ahead skew (e ∷ es) = (omega arith, none_ahead skew es)
 
-pub goes_first : (h : Head) (es : List Event) → AllMayHappen h es → IsTimely h es → Goes h es [] (first_world h)
-goes_first head.Direct es called timely = (called, direct.first_holds)
-goes_first (head.Servers servers skew term) es called timely = record { greatest = 0; holds = first_holds skew term; called = called; within = timely; ahead = none_ahead skew es }
+pub goes_first : (laws : SerialLaws) (h : Head) (es : List Event) → FitsHead h → AllMayHappen h es → IsTimely h es → Goes h es [] (first_world h)
+goes_first laws head.Direct es fits called timely = (called, direct.first_holds)
+goes_first laws (head.Servers servers skew term) es fits called timely = record { greatest = 0; some = fits.0; holds = first_holds laws servers skew term fits.0; called = called; within = timely; ahead = none_ahead skew es }

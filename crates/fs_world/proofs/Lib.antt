@@ -1,30 +1,40 @@
 pub mod Creates
-pub mod OpenHandles
-pub mod Readable
-pub mod Serial
-pub mod Numbered
-pub mod Replies
-pub mod DirectKept
-pub mod Bounded
-pub mod LinkedRows
-pub mod LinkedPair
-pub mod LinkedSeat
-pub mod LinkedTies
-pub mod LinkedClient
-pub mod LinkedServer
-pub mod Linked
 mod AllDowns
 mod Popped
 pub mod Marks
 pub mod SeatMaps
 pub mod Spending
-mod HeardMessages
-mod Arrivals
-mod NothingUnsent
 pub mod SentNumbers
+mod PushedFlying
+mod PoppedFirst
 mod AtSeat
+mod AtServer
+mod AtHearing
+pub mod OpenHandles
+pub mod NamedMaps
+pub mod NamedClients
+pub mod NamedServers
+pub mod LinkedLists
+pub mod LinkedPair
+pub mod LinkedChange
+pub mod LinkedSeats
+pub mod LinkedServed
+pub mod LinkedFirst
+pub mod LinkedSession
+pub mod LinkedCore
+pub mod Linked
+pub mod Arrivals
+pub mod NothingUnsent
+pub mod Serial
+pub mod Numbered
+pub mod Replies
+pub mod DirectKept
+pub mod Bounded
 pub mod Forms
 pub mod Fine
+pub mod SeenLists
+pub mod SeenRows
+pub mod SerialLaws
 pub mod Seen
 pub mod SeenSends
 pub mod Told
@@ -40,3 +50,6 @@ pub mod Whole
 pub mod Right
 pub mod RightSteps
 pub mod RightRuns
+pub mod HeldLaws
+pub mod StayingServers
+pub mod Fitting

@@ -1,5 +1,5 @@
 -- The links of two actors with each other: what is pushed, what goes out, and what comes.
-use Rattle.std.proofs.Common.{◌≡◌, ℕ, ◌+◌, ◌<◌, ◌≤◌, ◌^◌, Bool, true, false, List, [], ◌∷◌, ◌++◌, length, map, Option, Some, None, refl, sym, ap, subst, cond, ◌∙◌, arith}
+use Rattle.std.proofs.Common.{◌≡◌, ℕ, ◌+◌, ◌<◌, ◌≤◌, ◌^◌, Bool, true, false, List, [], ◌∷◌, ◌++◌, length, map, Option, Some, None, sym, ap, subst, cond, ◌∙◌, arith}
 use Rattle.std.specs.List.{AllByRecursion}
 use Rattle.std.specs.Prelude.{Result, Ok, Err, ◌==◌}
 use Rattle.std.proofs.lemmas.List.{map-append}
@@ -25,35 +25,29 @@ use Rattle.fs_window.proofs.ReadBack.{written}
 use Rattle.fs_msg.specs.Ranges.{FitsMessage}
 use Rattle.fs_msg.specs.Spelling.{message}
 use Rattle.fs_msg.specs.declared.msg.Msg.{Msg}
-use Rattle.fs_world.specs.Linked.{AreSentOver, IsFirstOf, IsPair, IsSentOver, IsWay}
+use Rattle.fs_world.specs.Linked.{IsFirstOf, IsPair, IsSentOver, IsWay}
 
--- from the other end
-pub turned : (a b : Peer) (here there : Link) (out back : List Msg) (packets : List Sent) → IsPair a b here there out back packets → IsPair b a there here back out packets
-turned a b here there out back packets h = record { out = h.back; back = h.out; going = h.coming; coming = h.going }
+-- both directions: these messages go out, and those come back
+pub record BothWays (a b : Peer) (here there : Link) (out back : List Msg) (packets : List Sent) : Type 0 where
+  pub going : IsPair a b here there out packets
+  pub coming : IsPair b a there here back packets
 
--- no packet goes between the two
+-- no packet goes from the one to the other
 abbrev pub GoesElsewhere : Peer → Peer → List Sent → Type 0
 GoesElsewhere a b packets = (x : Sent) → In x packets → x.from ≡ a → x.to ≡ b → ⊥
 
 -- two new links
-pub pair_new : (a b : Peer) (v w : ℕ) (packets : List Sent) → GoesElsewhere a b packets → GoesElsewhere b a packets → IsPair a b (new_link v) (new_link w) [] [] packets
-pair_new a b v w packets g k = record {
-  out = record { carries = carries_new v w; fits = tt };
-  back = record { carries = carries_new w v; fits = tt };
-  going = λ x i e f. absurd (g x i e f);
-  coming = λ x i e f. absurd (k x i e f);
+pub both_new : (a b : Peer) (v w : ℕ) (packets : List Sent) → GoesElsewhere a b packets → GoesElsewhere b a packets → BothWays a b (new_link v) (new_link w) [] [] packets
+both_new a b v w packets g k = record {
+  going = record { way = record { carries = carries_new v w; fits = tt }; packets = λ x i e f. absurd (g x i e f) };
+  coming = record { way = record { carries = carries_new w v; fits = tt }; packets = λ x i e f. absurd (k x i e f) };
 }
 
 -- packets go out elsewhere
-still : (a b : Peer) (from to : Link) (packets more : List Sent) → GoesElsewhere a b more → AreSentOver a b from to packets → AreSentOver a b from to (packets ++ more)
-still a b from to packets more g h x i e f = in_both x packets more (IsSentOver from to x.bytes) (λ j. h x j e f) (λ j. absurd (g x j e f)) i
-
-pub pair_elsewhere : (a b : Peer) (here there : Link) (out back : List Msg) (packets more : List Sent) → GoesElsewhere a b more → GoesElsewhere b a more → IsPair a b here there out back packets → IsPair a b here there out back (packets ++ more)
-pair_elsewhere a b here there out back packets more g k h = record {
-  out = h.out;
-  back = h.back;
-  going = still a b here there packets more g h.going;
-  coming = still b a there here packets more k h.coming;
+pub pair_elsewhere : (a b : Peer) (from to : Link) (messages : List Msg) (packets more : List Sent) → GoesElsewhere a b more → IsPair a b from to messages packets → IsPair a b from to messages (packets ++ more)
+pair_elsewhere a b from to messages packets more g h = record {
+  way = h.way;
+  packets = λ x i e f. in_both x packets more (IsSentOver from to x.bytes) (λ j. h.packets x j e f) (λ j. absurd (g x j e f)) i;
 }
 
 -- ## A message is pushed
@@ -62,21 +56,25 @@ fits_more : (ms : List Msg) (m : Msg) → AllByRecursion FitsMessage ms → Fits
 fits_more [] m h f = (f, tt)
 fits_more (x ∷ xs) m h f = (h.0, fits_more xs m h.1 f)
 
-pub pair_pushed : (a b : Peer) (here there : Link) (out back : List Msg) (packets : List Sent) (m : Msg) → FitsMessage m → length (message m) < 2 ^ 64 → pushed_count here.window + length (cut_of (message m)) < 2 ^ 64
-    → IsPair a b here there out back packets → IsPair a b (link_pushed here (message m)) there (out ++ m ∷ []) back packets
-pair_pushed a b here there out back packets m fits short room h = record {
-  out = record {
-    carries = subst (λ (ms : List (List ℕ)). Carries (link_pushed here (message m)) there ms) (sym (map-append message out (m ∷ [])))
-        (carries_pushed here there (map message out) (message m) short room h.out.carries);
-    fits = fits_more out m h.out.fits fits;
+pub both_pushed : (a b : Peer) (here there : Link) (out back : List Msg) (packets : List Sent) (m : Msg) → FitsMessage m → length (message m) < 2 ^ 64 → pushed_count here.window + length (cut_of (message m)) < 2 ^ 64
+    → BothWays a b here there out back packets → BothWays a b (link_pushed here (message m)) there (out ++ m ∷ []) back packets
+both_pushed a b here there out back packets m fits short room h = record {
+  going = record {
+    way = record {
+      carries = subst (λ (ms : List (List ℕ)). Carries (link_pushed here (message m)) there ms) (sym (map-append message out (m ∷ [])))
+          (carries_pushed here there (map message out) (message m) short room h.going.way.carries);
+      fits = fits_more out m h.going.way.fits fits;
+    };
+    packets = λ x i e f. going (h.going.packets x i e f);
   };
-  back = record { carries = carries_other_pushed there here (map message back) (message m) h.back.carries; fits = h.back.fits };
-  going = λ x i e f. going (h.going x i e f);
-  coming = λ x i e f. coming (h.coming x i e f);
+  coming = record {
+    way = record { carries = carries_other_pushed there here (map message back) (message m) h.coming.way.carries; fits = h.coming.way.fits };
+    packets = λ x i e f. coming (h.coming.packets x i e f);
+  };
 }
   where
     going : {bytes : List ℕ} → IsSentOver here there bytes → IsSentOver (link_pushed here (message m)) there bytes
-    going q = record { packet = q.packet; spelled = q.spelled; text = q.text; of = packet_pushed here.window there.window (cut_of (message m)) q.packet h.out.carries.direction q.of }
+    going q = record { packet = q.packet; spelled = q.spelled; text = q.text; of = packet_pushed here.window there.window (cut_of (message m)) q.packet h.going.way.carries.direction q.of }
 
     coming : {bytes : List ℕ} → IsSentOver there here bytes → IsSentOver there (link_pushed here (message m)) bytes
     coming q = record { packet = q.packet; spelled = q.spelled; text = q.text; of = packet_other_pushed there.window here.window (cut_of (message m)) q.packet q.of }
@@ -91,17 +89,21 @@ pub record IsDue (here : Link) (bytes : List ℕ) : Type 0 where
   pub due : In packet (due_of here.window again heard)
   pub text : bytes ≡ packet_text packet
 
-pub pair_due : (a b : Peer) (here there : Link) (out back : List Msg) (packets more : List Sent) → ((x : Sent) → In x more → x.from ≡ a → x.to ≡ b → IsDue here x.bytes) → GoesElsewhere b a more
-    → IsPair a b here there out back packets → IsPair a b (link_sent here) there out back (packets ++ more)
-pair_due a b here there out back packets more due elsewhere h = record {
-  out = record { carries = carries_sent here there (map message out) h.out.carries; fits = h.out.fits };
-  back = record { carries = carries_other_sent there here (map message back) h.back.carries; fits = h.back.fits };
-  going = λ x i e f. in_both x packets more (IsSentOver (link_sent here) there x.bytes) (λ j. going (h.going x j e f)) (λ j. made (due x j e f)) i;
-  coming = λ x i e f. in_both x packets more (IsSentOver there (link_sent here) x.bytes) (λ j. coming (h.coming x j e f)) (λ j. absurd (elsewhere x j e f)) i;
+pub both_due : (a b : Peer) (here there : Link) (out back : List Msg) (packets more : List Sent) → ((x : Sent) → In x more → x.from ≡ a → x.to ≡ b → IsDue here x.bytes) → GoesElsewhere b a more
+    → BothWays a b here there out back packets → BothWays a b (link_sent here) there out back (packets ++ more)
+both_due a b here there out back packets more due elsewhere h = record {
+  going = record {
+    way = record { carries = carries_sent here there (map message out) h.going.way.carries; fits = h.going.way.fits };
+    packets = λ x i e f. in_both x packets more (IsSentOver (link_sent here) there x.bytes) (λ j. going (h.going.packets x j e f)) (λ j. made (due x j e f)) i;
+  };
+  coming = record {
+    way = record { carries = carries_other_sent there here (map message back) h.coming.way.carries; fits = h.coming.way.fits };
+    packets = λ x i e f. in_both x packets more (IsSentOver there (link_sent here) x.bytes) (λ j. coming (h.coming.packets x j e f)) (λ j. absurd (elsewhere x j e f)) i;
+  };
 }
   where
     going : {bytes : List ℕ} → IsSentOver here there bytes → IsSentOver (link_sent here) there bytes
-    going q = record { packet = q.packet; spelled = q.spelled; text = q.text; of = packet_sent here.window there.window q.packet h.out.carries.direction q.of }
+    going q = record { packet = q.packet; spelled = q.spelled; text = q.text; of = packet_sent here.window there.window q.packet h.going.way.carries.direction q.of }
 
     coming : {bytes : List ℕ} → IsSentOver there here bytes → IsSentOver there (link_sent here) bytes
     coming q = record { packet = q.packet; spelled = q.spelled; text = q.text; of = packet_other_sent there.window here.window q.packet q.of }
@@ -109,9 +111,9 @@ pair_due a b here there out back packets more due elsewhere h = record {
     made : {bytes : List ℕ} → IsDue here bytes → IsSentOver (link_sent here) there bytes
     made q = record {
       packet = q.packet;
-      spelled = made_fits here there (map message out) (map message back) q.again q.heard q.packet h.out.carries h.back.carries q.due;
+      spelled = made_fits here there (map message out) (map message back) q.again q.heard q.packet h.going.way.carries h.coming.way.carries q.due;
       text = q.text;
-      of = packet_sent here.window there.window q.packet h.out.carries.direction (made_packet here.window there.window q.again q.heard q.packet h.out.carries.direction q.due);
+      of = packet_sent here.window there.window q.packet h.going.way.carries.direction (made_packet here.window there.window q.again q.heard q.packet h.going.way.carries.direction q.due);
     }
 
 -- ## A packet comes
@@ -125,11 +127,6 @@ abbrev pub rest_of : {X : Type 0} → List Joined → List X → List X
 rest_of [] ms = ms
 rest_of (j ∷ js) [] = []
 rest_of (j ∷ js) (m ∷ ms) = ms
-
-pub rest_mapped : {X Y : Type 0} (f : X → Y) (js : List Joined) (xs : List X) → map f (rest_of js xs) ≡ rest_of js (map f xs)
-rest_mapped f [] xs = refl
-rest_mapped f (j ∷ js) [] = refl
-rest_mapped f (j ∷ js) (x ∷ xs) = refl
 
 -- a packet completes no more than one message
 one_answer : (r : Result (Option (List ℕ)) FragError) → length (joined_of (r ∷ [])) ≤ 1
@@ -170,22 +167,26 @@ heard_first from to ms p q h =
     (t.rest, (parted (heard_on to p).joined t.whole t.rest ms t.joined (few_given to.joiner to.window.got p.body) t.all h.fits, t.carries))
 
 -- what it completes is the first message on its way
-pub first_joined : (a b : Peer) (here there : Link) (out back : List Msg) (packets : List Sent) (p : Packet) → IsPacketOf there.window here.window p → IsPair a b here there out back packets → IsFirstOf (heard_on here p).joined back
-first_joined a b here there out back packets p q h = (heard_first there here back p q h.back).1.0.first
+pub first_joined : (from to : Link) (messages : List Msg) (p : Packet) → IsPacketOf from.window to.window p → IsWay from to messages → IsFirstOf (heard_on to p).joined messages
+first_joined from to messages p q h = (heard_first from to messages p q h).1.0.first
 
-pub pair_accepted : (a b : Peer) (here there : Link) (out back : List Msg) (packets : List Sent) (p : Packet) → IsPacketOf there.window here.window p → IsPair a b here there out back packets
-    → IsPair a b (link_accepted here p) there out (rest_of (heard_on here p).joined back) packets
-pair_accepted a b here there out back packets p q h =
-    let t = heard_first there here back p q h.back in
+pub both_accepted : (a b : Peer) (here there : Link) (out back : List Msg) (packets : List Sent) (p : Packet) → IsPacketOf there.window here.window p → BothWays a b here there out back packets
+    → BothWays a b (link_accepted here p) there out (rest_of (heard_on here p).joined back) packets
+both_accepted a b here there out back packets p q h =
+    let t = heard_first there here back p q h.coming.way in
     record {
-      out = record { carries = carries_back here there (map message out) p q.ack h.out.carries; fits = h.out.fits };
-      back = record { carries = subst (λ (ms : List (List ℕ)). Carries there (link_accepted here p) ms) t.1.0.rest t.1.1; fits = t.1.0.fits };
-      going = λ x i e f. going (h.going x i e f);
-      coming = λ x i e f. coming (h.coming x i e f);
+      going = record {
+        way = record { carries = carries_back here there (map message out) p q.ack h.going.way.carries; fits = h.going.way.fits };
+        packets = λ x i e f. going (h.going.packets x i e f);
+      };
+      coming = record {
+        way = record { carries = subst (λ (ms : List (List ℕ)). Carries there (link_accepted here p) ms) t.1.0.rest t.1.1; fits = t.1.0.fits };
+        packets = λ x i e f. coming (h.coming.packets x i e f);
+      };
     }
   where
     going : {bytes : List ℕ} → IsSentOver here there bytes → IsSentOver (link_accepted here p) there bytes
-    going r = record { packet = r.packet; spelled = r.spelled; text = r.text; of = packet_back here.window there.window p r.packet h.out.carries.direction h.back.carries.direction q r.of }
+    going r = record { packet = r.packet; spelled = r.spelled; text = r.text; of = packet_back here.window there.window p r.packet h.going.way.carries.direction h.coming.way.carries.direction q r.of }
 
     coming : {bytes : List ℕ} → IsSentOver there here bytes → IsSentOver there (link_accepted here p) bytes
-    coming r = record { packet = r.packet; spelled = r.spelled; text = r.text; of = packet_told there.window here.window p r.packet h.back.carries.direction q r.of }
+    coming r = record { packet = r.packet; spelled = r.spelled; text = r.text; of = packet_told there.window here.window p r.packet h.coming.way.carries.direction q r.of }

@@ -1,13 +1,13 @@
--- What leaves an access to every handle of the records.
-use Rattle.std.proofs.Common.{◌≡◌, ℕ, ◌+◌, List, [], ◌∷◌, Bool, true, false, cond, refl, sym, subst}
+-- What leaves every handle of the records readable: its session is one that there may be, and it has an access.
+use Rattle.std.proofs.Common.{◌≡◌, ℕ, ◌+◌, List, [], ◌∷◌, Bool, true, false, cond, refl, sym, subst, inl, inr}
 use Rattle.std.specs.Prelude.{Option, Some, None, IfSome, filter, not, option_map, ◌==◌}
 use Rattle.std.specs.List.{AllByRecursion, list_all}
 use Rattle.std.specs.Ordering.{nat_cmp}
 use Rattle.std.specs.Cmp.Lexicographic.{slice_cmp}
 use Rattle.std.specs.FinMap.{empty, get, get-empty}
-use Rattle.fs_ident.specs.Ordered.{put_before}
+use Rattle.fs_ident.specs.Ordered.{Keyed, put_before}
 use Rattle.fs_ident.specs.declared.actor.Session.{Session}
-use Rattle.fs_ident.proofs.Booleans.{joined}
+use Rattle.fs_ident.proofs.Booleans.{joined, second}
 use Rattle.fs_modes.specs.Modes.{has_access}
 use Rattle.fs_field.specs.declared.effect.Effect.{Effect}
 use Rattle.fs_field.specs.declared.effect.Effect.TheVariants.{SetChild, SetParent, NewNode, RemoveNode, AddHandle, RemoveHandle, SetInfo}
@@ -24,11 +24,14 @@ use Rattle.fs_record.specs.declared.record.Record.{Record}
 use Rattle.fs_record.specs.Applied.{changed_file, node_change, record_change, records_after, records_after_all, with_at}
 use Rattle.fs_record.specs.Effects.{effects_of}
 use Rattle.fs_record.specs.Fresh.{records_after_gift, with_next}
+use Rattle.fs_record.specs.Moving.{records_given, records_left, with_records}
 use Rattle.fs_record.specs.Records.{RecordMap, first_records, next_of, node_of}
 use Rattle.fs_record.specs.ValueOf.{handles_of, own_of, value_of}
 use Rattle.fs_record.proofs.Kept.{get_with_at}
-use Rattle.fs_wire.specs.Readable.{is_readable_op, is_readable_value}
-use Rattle.fs_world.specs.Readable.{HandlesOpen, HasOpenHandles}
+use Rattle.fs_record.proofs.Parting.{left_at}
+use Rattle.fs_record.proofs.Returning.{there}
+use Rattle.fs_wire.specs.Readable.{is_readable_handle, is_readable_op, is_readable_session, is_readable_value}
+use Rattle.fs_world.specs.Readable.{HandlesOpen, HasOpenHandles, RecordsOpen}
 
 -- ## Lists
 
@@ -51,14 +54,14 @@ each_put P test x (y ∷ ys) p h =
 -- ## A node
 
 abbrev IsOpen : Handle → Type 0
-IsOpen h = has_access h.modes ≡ true
+IsOpen h = is_readable_handle h ≡ true
 
 abbrev AreOpen : Option Node → Type 0
 AreOpen o = IfSome o (λ n. AllByRecursion IsOpen n.handles)
 
--- a handle that the effect adds has an access
+-- a handle that the effect adds is readable
 abbrev pub AddsOpen : Effect → Type 0
-AddsOpen (AddHandle file session h modes) = has_access modes ≡ true
+AddsOpen (AddHandle file session h modes) = (is_readable_session session ≡ true) × (has_access modes ≡ true)
 AddsOpen e = Unit {0}
 
 node_open : (e : Effect) (o : Option Node) → AddsOpen e → AreOpen o → AreOpen (node_change e o)
@@ -72,7 +75,7 @@ node_open (RemoveNode file) o own h = tt
 node_open (AddHandle file session h modes) None own x = tt
 node_open (AddHandle file session h modes) (Some n) own x =
     let new : Handle = record { session = session; h = h; modes = modes } in
-    each_put IsOpen (comes_before new) new (without_handle n.handles session h) own (each_left IsOpen (λ y. not (is_at session h y)) n.handles x)
+    each_put IsOpen (comes_before new) new (without_handle n.handles session h) (joined _ _ own.0 own.1) (each_left IsOpen (λ y. not (is_at session h y)) n.handles x)
 node_open (RemoveHandle file session h) None own x = tt
 node_open (RemoveHandle file session h) (Some n) own x = each_left IsOpen (λ y. not (is_at session h y)) n.handles x
 node_open (SetInfo file size stamp) None own h = tt
@@ -122,21 +125,39 @@ pub first_open : (b : Bool) → HandlesOpen (first_records b)
 first_open true = open_at empty [] (Some _) open_empty tt
 first_open false = open_empty
 
+-- ## What goes, and what comes
+
+pub open_left : (prefix : List ℕ) (given : Keyed Bool) (m : RecordMap) → HandlesOpen m → HandlesOpen (records_left prefix given m)
+open_left prefix given m s q = subst (λ (o : Option Record). IfSome o HasOpenHandles) (sym (left_at prefix given m q)) (chosen _ (get m q) None (s q) tt)
+
+open_one : (o : Option Record) (r : Record) → o ≡ Some r → IfSome o HasOpenHandles → HasOpenHandles r
+open_one o r e h = subst (λ (x : Option Record). IfSome x HasOpenHandles) e h
+
+pub open_given : (prefix : List ℕ) (given : Keyed Bool) (m : RecordMap) → HandlesOpen m → RecordsOpen (records_given prefix given m)
+open_given prefix given m s e i = open_one (get m e.0) e.1 (there prefix given m e i).0 (s e.0)
+
+open_insert : (m : RecordMap) (file : List ℕ) (r : Record) → HandlesOpen m → HasOpenHandles r → HandlesOpen (with_at m file (Some r))
+open_insert m file r s h = open_at m file (Some r) s h
+
+pub open_with : (records : Keyed Record) (m : RecordMap) → RecordsOpen records → HandlesOpen m → HandlesOpen (with_records records m)
+open_with [] m own s = s
+open_with (e ∷ es) m own s = open_with es (with_at m e.0 (Some e.1)) (λ f i. own f (inr i)) (open_insert m e.0 e.1 s (own e (inl refl)))
+
 -- ## What is added, and what is told
 
--- the effects of an operation that is readable
-pub effects_open : (by : Session) (o : Op) (r : Reply) → is_readable_op o ≡ true → AllByRecursion AddsOpen (effects_of by o r)
-effects_open by (op.Create dir name kind (Some id)) reply.Made h = (tt, (tt, tt))
-effects_open by (op.OpenFile file x modes) reply.Opened h = (h, tt)
-effects_open by (op.Close file x) reply.Closed h = (tt, tt)
-effects_open by (op.Set file x size stamp) reply.Set h = (tt, tt)
-effects_open by o r h = tt
+-- the effects of an operation that is readable, of a session that there may be
+pub effects_open : (by : Session) (o : Op) (r : Reply) → is_readable_session by ≡ true → is_readable_op o ≡ true → AllByRecursion AddsOpen (effects_of by o r)
+effects_open by (op.Create dir name kind (Some id)) reply.Made own h = (tt, (tt, tt))
+effects_open by (op.OpenFile file x modes) reply.Opened own h = ((own, h), tt)
+effects_open by (op.Close file x) reply.Closed own h = (tt, tt)
+effects_open by (op.Set file x size stamp) reply.Set own h = (tt, tt)
+effects_open by o r own h = tt
 
 own_open : (by : Session) (xs : List Handle) → AllByRecursion IsOpen xs → list_all (λ h. has_access h.1) (own_of by xs) ≡ true
 own_open by [] h = refl
 own_open by (x ∷ xs) h =
     elim (x.session.0 == by.0) as (λ b. list_all (λ h. has_access h.1) (cond b ((x.h, x.modes) ∷ own_of by xs) (own_of by xs)) ≡ true) [
-      | true ↦ joined _ _ h.0 (own_open by xs h.1)
+      | true ↦ joined _ _ (second _ _ h.0) (own_open by xs h.1)
       | false ↦ own_open by xs h.1
     ]
 

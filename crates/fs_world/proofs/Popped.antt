@@ -1,6 +1,7 @@
--- A message that is taken off its way does not concern the answers that go their way.
-use Rattle.std.proofs.Common.{◌≡◌, ℕ, List, [], ◌∷◌, Bool, true, false, refl, ap, sym, ◌∙◌, cond, drop, subst}
+-- A message that is taken off its way does not concern the messages that go their way.
+use Rattle.std.proofs.Common.{◌≡◌, ℕ, List, [], ◌∷◌, Bool, true, false, refl, ap, sym, ◌∙◌, cond}
 use Rattle.std.specs.Prelude.{Option, Some, None, option_map, ◌++◌}
+use Rattle.std.specs.List.{find}
 use Rattle.std.specs.Ordering.{nat_cmp, eq_by_cmp}
 use Rattle.std.specs.Cmp.{nat_cmp_total}
 use Rattle.std.specs.FinMap.{get, insert, get-insert, get_tied, same_map, nat_cmp-IsAntisymmetric}
@@ -8,14 +9,11 @@ use Rattle.fs_ident.proofs.Booleans.{equal_is}
 use Rattle.fs_ident.specs.declared.actor.Peer.{Peer}
 use Rattle.fs_ident.specs.declared.actor.Peer.TheVariants.{Server, Client}
 use Rattle.fs_msg.specs.declared.answer.Answer.{Answer}
-use Rattle.fs_msg.specs.declared.client_msg.ClientMsg.{ClientMsg}
 use Rattle.fs_msg.specs.declared.msg.Msg.{Msg}
 use Rattle.fs_msg.specs.declared.msg.Msg.TheVariants as msg
-use Rattle.fs_server.specs.Step.{step}
-use Rattle.fs_server.specs.declared.event.ServerEvent.{ServerEvent}
-use Rattle.fs_world.specs.Served.{Seats, server_step, up_of, with_down, with_down_at, with_downs, with_rest}
+use Rattle.fs_serial.specs.Cluster.{is_with, without_first}
+use Rattle.fs_world.specs.Served.{Seats, with_down, with_down_at, with_downs, without_up}
 use Rattle.fs_world.specs.declared.seat.Seat.{Seat}
-use Rattle.fs_world.specs.declared.served.Served.{Served}
 
 -- ## A seat that is changed where it stands
 
@@ -42,109 +40,68 @@ get_changed f k seats q = go (get seats k) refl
     go None e = absent f _ (get seats q) (λ t. sym (get_tied nat_cmp_total seats q k (equal_is _ t)) ∙ e)
     go (Some seat) e = get-insert nat_cmp_total seats k (f seat) q ∙ found f _ seat (get seats k) (get seats q) (λ t. sym (get_tied nat_cmp_total seats q k (equal_is _ t)) ∙ e)
 
-abbrev with_up : List ClientMsg → Seat → Seat
-with_up up seat = record seat { up = up }
+abbrev popped : ℕ → Seat → Seat
+popped n seat = record seat { up = without_first (is_with n) seat.up }
 
-abbrev with_answer : Answer → Seat → Seat
-with_answer a seat = record seat { down = seat.down ++ a ∷ [] }
+abbrev answered : ℕ × Answer → Seat → Seat
+answered a seat = record seat { down = seat.down ++ a ∷ [] }
 
-answered_at : (o : Option Seat) (k : ℕ) (a : Answer) (seats : Seats) → with_down_at o k a seats ≡ changed_at (with_answer a) o k seats
+answered_at : (o : Option Seat) (k : ℕ) (a : ℕ × Answer) (seats : Seats) → with_down_at o k a seats ≡ changed_at (answered a) o k seats
 answered_at None k a seats = refl
 answered_at (Some seat) k a seats = refl
 
+popped_at : (o : Option Seat) (n s : ℕ) (seats : Seats) → without_up n o s seats ≡ changed_at (popped n) o s seats
+popped_at None n s seats = refl
+popped_at (Some seat) n s seats = refl
+
 -- ## Both changes, in either order
 
-both : (up : List ClientMsg) (a : Answer) (o : Option Seat) → option_map (with_answer a) (option_map (with_up up) o) ≡ option_map (with_up up) (option_map (with_answer a) o)
-both up a None = refl
-both up a (Some seat) = refl
+both : (n : ℕ) (a : ℕ × Answer) (o : Option Seat) → option_map (answered a) (option_map (popped n) o) ≡ option_map (popped n) (option_map (answered a) o)
+both n a None = refl
+both n a (Some seat) = refl
 
-crossed : (up : List ClientMsg) (a : Answer) (o : Option Seat) (b c : Bool) → cond b (option_map (with_answer a) (cond c (option_map (with_up up) o) o)) (cond c (option_map (with_up up) o) o) ≡ cond c (option_map (with_up up) (cond b (option_map (with_answer a) o) o)) (cond b (option_map (with_answer a) o) o)
-crossed up a o true true = both up a o
-crossed up a o true false = refl
-crossed up a o false true = refl
-crossed up a o false false = refl
+crossed : (n : ℕ) (a : ℕ × Answer) (o : Option Seat) (b c : Bool) → cond b (option_map (answered a) (cond c (option_map (popped n) o) o)) (cond c (option_map (popped n) o) o) ≡ cond c (option_map (popped n) (cond b (option_map (answered a) o) o)) (cond b (option_map (answered a) o) o)
+crossed n a o true true = both n a o
+crossed n a o true false = refl
+crossed n a o false true = refl
+crossed n a o false false = refl
 
-module _ (up : List ClientMsg) (k : ℕ) where
-  in_either_order : (a : Answer) (j : ℕ) (seats : Seats) → changed (with_answer a) j (changed (with_up up) k seats) ≡ changed (with_up up) k (changed (with_answer a) j seats)
+module _ (n s : ℕ) where
+  in_either_order : (a : ℕ × Answer) (j : ℕ) (seats : Seats) → changed (answered a) j (changed (popped n) s seats) ≡ changed (popped n) s (changed (answered a) j seats)
   in_either_order a j seats = same_map nat_cmp_total nat_cmp-IsAntisymmetric _ _ (λ q.
-      get_changed (with_answer a) j (changed (with_up up) k seats) q
-      ∙ ap (λ o. cond (eq_by_cmp nat_cmp q j) (option_map (with_answer a) o) o) (get_changed (with_up up) k seats q)
-      ∙ crossed up a (get seats q) (eq_by_cmp nat_cmp q j) (eq_by_cmp nat_cmp q k)
-      ∙ sym (get_changed (with_up up) k (changed (with_answer a) j seats) q
-      ∙ ap (λ o. cond (eq_by_cmp nat_cmp q k) (option_map (with_up up) o) o) (get_changed (with_answer a) j seats q)))
+      get_changed (answered a) j (changed (popped n) s seats) q
+      ∙ ap (λ o. cond (eq_by_cmp nat_cmp q j) (option_map (answered a) o) o) (get_changed (popped n) s seats q)
+      ∙ crossed n a (get seats q) (eq_by_cmp nat_cmp q j) (eq_by_cmp nat_cmp q s)
+      ∙ sym (get_changed (popped n) s (changed (answered a) j seats) q
+      ∙ ap (λ o. cond (eq_by_cmp nat_cmp q s) (option_map (popped n) o) o) (get_changed (answered a) j seats q)))
 
-  down_crosses : (x : Peer × Msg) (seats : Seats) → with_down x (changed (with_up up) k seats) ≡ changed (with_up up) k (with_down x seats)
-  down_crosses (Client s, msg.Answer a) seats =
-      answered_at (get (changed (with_up up) k seats) s.0) s.0 a (changed (with_up up) k seats)
-      ∙ in_either_order a s.0 seats
-      ∙ ap (changed (with_up up) k) (sym (answered_at (get seats s.0) s.0 a seats))
-  down_crosses (Client s, msg.Client m) seats = refl
-  down_crosses (Client s, msg.Peer m) seats = refl
-  down_crosses (Server j, m) seats = refl
+  down_crosses : (k : ℕ) (x : Peer × Msg) (seats : Seats) → with_down k x (changed (popped n) s seats) ≡ changed (popped n) s (with_down k x seats)
+  down_crosses k (Client t, msg.Answer a) seats =
+      answered_at (get (changed (popped n) s seats) t.0) t.0 (k, a) (changed (popped n) s seats)
+      ∙ in_either_order (k, a) t.0 seats
+      ∙ ap (changed (popped n) s) (sym (answered_at (get seats t.0) t.0 (k, a) seats))
+  down_crosses k (Client t, msg.Client m) seats = refl
+  down_crosses k (Client t, msg.Peer m) seats = refl
+  down_crosses k (Server j, m) seats = refl
 
-  downs_cross : (xs : List (Peer × Msg)) (seats : Seats) → with_downs xs (changed (with_up up) k seats) ≡ changed (with_up up) k (with_downs xs seats)
-  downs_cross [] seats = refl
-  downs_cross (x ∷ xs) seats = ap (with_downs xs) (down_crosses x seats) ∙ downs_cross xs (with_down x seats)
+  downs_cross : (k : ℕ) (xs : List (Peer × Msg)) (seats : Seats) → with_downs k xs (changed (popped n) s seats) ≡ changed (popped n) s (with_downs k xs seats)
+  downs_cross k [] seats = refl
+  downs_cross k (x ∷ xs) seats = ap (with_downs k xs) (down_crosses k x seats) ∙ downs_cross k xs (with_down k x seats)
 
--- ## The messages on their way to the server stay
+  -- whether the message is taken before or after, the same stands there
+  pub popped_then : (k : ℕ) (xs : List (Peer × Msg)) (seats : Seats) → without_up n (get (with_downs k xs seats) s) s (with_downs k xs seats) ≡ with_downs k xs (without_up n (get seats s) s seats)
+  popped_then k xs seats =
+      popped_at (get (with_downs k xs seats) s) n s (with_downs k xs seats)
+      ∙ sym (downs_cross k xs seats)
+      ∙ ap (with_downs k xs) (sym (popped_at (get seats s) n s seats))
 
-up_stays : (a : Answer) (b : Bool) (o : Option Seat) → up_of (cond b (option_map (with_answer a) o) o) ≡ up_of o
-up_stays a true None = refl
-up_stays a true (Some seat) = refl
-up_stays a false o = refl
+-- ## One of a list
 
-down_keeps : (x : Peer × Msg) (seats : Seats) (k : ℕ) → up_of (get (with_down x seats) k) ≡ up_of (get seats k)
-down_keeps (Client s, msg.Answer a) seats k = ap (λ (m : Seats). up_of (get m k)) (answered_at (get seats s.0) s.0 a seats) ∙ ap up_of (get_changed (with_answer a) s.0 seats k) ∙ up_stays a _ (get seats k)
-down_keeps (Client s, msg.Client m) seats k = refl
-down_keeps (Client s, msg.Peer m) seats k = refl
-down_keeps (Server j, m) seats k = refl
-
-downs_keep : (xs : List (Peer × Msg)) (seats : Seats) (k : ℕ) → up_of (get (with_downs xs seats) k) ≡ up_of (get seats k)
-downs_keep [] seats k = refl
-downs_keep (x ∷ xs) seats k = downs_keep xs (with_down x seats) k ∙ down_keeps x seats k
-
--- ## The first message is taken
-
--- the first message on its way is taken off
-abbrev pub IsPopped : ℕ → Seats → Seats → Type 0
-IsPopped k old new = (seat : Seat) → get old k ≡ Some seat → new ≡ insert old k (record seat { up = drop 1 seat.up })
-
-popped_is : (k : ℕ) (old new : Seats) (m : ClientMsg) (up : List ClientMsg) → up_of (get old k) ≡ m ∷ up → IsPopped k old new → new ≡ changed (with_up up) k old
-popped_is k old new m up e popped = go (get old k) refl e
+-- the first of these is taken off the front part, where there is one
+pub taken_then : {X : Type 0} (is : X → Bool) (xs ys : List X) (x : X) → find is xs ≡ Some x → without_first is (xs ++ ys) ≡ without_first is xs ++ ys
+taken_then {X = X} is [] ys x e = absurd (cc)
+taken_then {X = X} is (z ∷ xs) ys x e = go (is z) refl e (taken_then is xs ys x)
   where
-    go : (o : Option Seat) → get old k ≡ o → up_of o ≡ m ∷ up → new ≡ changed_at (with_up up) o k old
-    go None is e = absurd (cc)
-    go (Some seat) is e = popped seat is ∙ ap (λ (us : List ClientMsg). insert old k (record seat { up = drop 1 us })) e
-
-rest_at : (o : Option Seat) (k : ℕ) (up : List ClientMsg) (w : Served) → with_rest o k up w ≡ record w { seats = changed_at (with_up up) o k w.seats }
-rest_at None k up w = refl
-rest_at (Some seat) k up w = refl
-
--- whether it is taken before or after, the same stands there
-popped_rest : (w : Served) (k : ℕ) (m : ClientMsg) (up : List ClientMsg) (xs : List (Peer × Msg)) (new : Seats) → up_of (get w.seats k) ≡ m ∷ up → IsPopped k (with_downs xs w.seats) new → new ≡ with_downs xs (with_rest (get w.seats k) k up w).seats
-popped_rest w k m up xs new e popped =
-    popped_is k (with_downs xs w.seats) new m up (downs_keep xs w.seats k ∙ e) popped
-    ∙ sym (downs_cross up k xs w.seats)
-    ∙ ap (λ (v : Served). with_downs xs v.seats) (sym (rest_at (get w.seats k) k up w))
-
-module _ (from : Option Peer) (now : ℕ) (e : ServerEvent) where
-  -- the step does not read what is on its way
-  abbrev sent_by : Served → List (Peer × Msg)
-  sent_by w = (step w.server now e).out.send
-
-  world_at_rest : (o : Option Seat) (k : ℕ) (up : List ClientMsg) (w : Served) → record ((server_step false from now e w).world) { seats = with_downs (sent_by w) (with_rest o k up w).seats } ≡ (server_step false from now e (with_rest o k up w)).world
-  world_at_rest None k up w = refl
-  world_at_rest (Some seat) k up w = refl
-
-  pub spent_at_rest : (o : Option Seat) (k : ℕ) (up : List ClientMsg) (w : Served) → (server_step false from now e (with_rest o k up w)).spent ≡ (server_step false from now e w).spent
-  spent_at_rest None k up w = refl
-  spent_at_rest (Some seat) k up w = refl
-
-  pub taken_world : (w : Served) (k : ℕ) (m : ClientMsg) (up : List ClientMsg) (new : Served) (seats : Seats) → up_of (get w.seats k) ≡ m ∷ up → new ≡ (server_step false from now e w).world → IsPopped k new.seats seats
-      → record new { seats = seats } ≡ (server_step false from now e (with_rest (get w.seats k) k up w)).world
-  taken_world w k m up new seats first is popped =
-      let own : IsPopped k (with_downs (sent_by w) w.seats) seats = subst (λ (v : Served). IsPopped k v.seats seats) is popped in
-      let there : seats ≡ with_downs (sent_by w) (with_rest (get w.seats k) k up w).seats = popped_rest w k m up (sent_by w) seats first own in
-      ap (λ (v : Served). record v { seats = seats }) is
-      ∙ ap (λ (s : Seats). record ((server_step false from now e w).world) { seats = s }) there
-      ∙ world_at_rest (get w.seats k) k up w
+    go : (b : Bool) → is z ≡ b → find is (z ∷ xs) ≡ Some x → (find is xs ≡ Some x → without_first is (xs ++ ys) ≡ without_first is xs ++ ys) → without_first is ((z ∷ xs) ++ ys) ≡ without_first is (z ∷ xs) ++ ys
+    go true t e h = rw t refl
+    go false t e h = rw t (ap (λ (zs : List X). z ∷ zs) (h (rw t at e)))

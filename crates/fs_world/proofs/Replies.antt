@@ -14,16 +14,16 @@ told_push [] (p ∷ ps) e o h = absurd (omega arith)
 told_push (d ∷ ds) [] e o h = absurd (omega arith)
 told_push (d ∷ ds) (p ∷ ps) e o h = ap (λ (ts : List Told). told_at d.what p.notes ++ ts) (told_push ds ps e o (omega arith)) ∙ sym (append_assoc (told_at d.what p.notes) (told_of ds ps) (told_at e.what o.notes))
 
-in_grown : {X : Type 0} (x : X) (xs ys : List X) → In x xs → In x (xs ++ ys)
+pub in_grown : {X : Type 0} (x : X) (xs ys : List X) → In x xs → In x (xs ++ ys)
 in_grown x [] ys h = absurd h
 in_grown x (z ∷ zs) ys (inl e) = inl e
 in_grown x (z ∷ zs) ys (inr h) = inr (in_grown x zs ys h)
 
-in_last : {X : Type 0} (xs : List X) (x : X) → In x (xs ++ x ∷ [])
+pub in_last : {X : Type 0} (xs : List X) (x : X) → In x (xs ++ x ∷ [])
 in_last [] x = inl refl
 in_last (z ∷ zs) x = inr (in_last zs x)
 
-in_parts : {X : Type 0} (x : X) (xs ys : List X) → In x (xs ++ ys) → In x xs ⊎ In x ys
+pub in_parts : {X : Type 0} (x : X) (xs ys : List X) → In x (xs ++ ys) → In x xs ⊎ In x ys
 in_parts x [] ys h = inr h
 in_parts x (z ∷ zs) ys (inl e) = inl (inl e)
 in_parts x (z ∷ zs) ys (inr h) = further (in_parts x zs ys h)

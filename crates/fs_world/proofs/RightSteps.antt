@@ -1,39 +1,51 @@
--- Every event of a world notes what is right.
-use Rattle.std.proofs.Common.{◌≡◌, ℕ, ◌+◌, ◌≤◌, ◌==◌, Bool, true, false, cond, List, [], ◌∷◌, refl, ap, sym, ◌∙◌, subst, inl}
-use Rattle.std.specs.Prelude.{Option, Some, None, slice_get}
+-- Every event of a world of the servers form notes what is right.
+use Rattle.std.proofs.Common.{◌≡◌, ℕ, ◌+◌, ◌==◌, ◌≤◌, ◌<◌, true, false, List, [], ◌∷◌, length, cond, refl, ap, ◌∙◌, subst}
+use Rattle.std.specs.Prelude.{Option, Some, None, nat_lt, slice_get}
 use Rattle.std.specs.FinMap.{get}
-use Rattle.std.specs.List.{AllByRecursion}
-use Rattle.fs_ident.specs.In.{In}
+use Rattle.std.specs.List.{AllByRecursion, find}
 use Rattle.fs_ident.specs.declared.actor.Peer.{Peer}
 use Rattle.fs_ident.specs.declared.actor.Peer.TheVariants.{Server, Client}
 use Rattle.fs_ident.specs.declared.actor.Session.{Session}
+use Rattle.fs_ident.proofs.Booleans.{both}
+use Rattle.fs_field.specs.declared.field.Field.{Field}
 use Rattle.fs_field.specs.declared.row.Row.{Row}
 use Rattle.fs_frag.specs.declared.joined.Joined.{Joined}
+use Rattle.fs_model.specs.declared.op.Op.{Op}
 use Rattle.fs_window.specs.Post.{Links, post_accepted}
 use Rattle.fs_window.specs.Reading.{packet_at}
 use Rattle.fs_window.specs.declared.heard.Heard.{Heard}
 use Rattle.fs_window.specs.declared.packet.Packet.{Packet}
 use Rattle.fs_window.specs.declared.sent.Sent.{Sent}
-use Rattle.fs_model.specs.declared.op.Op.{Op}
 use Rattle.fs_msg.specs.declared.answer.Answer.{Answer}
 use Rattle.fs_msg.specs.declared.client_msg.ClientMsg.{ClientMsg}
 use Rattle.fs_msg.specs.declared.note.Note.{Note}
 use Rattle.fs_msg.specs.declared.note.Note.TheVariants as note
+use Rattle.fs_msg.specs.declared.peer_msg.PeerMsg.TheVariants.{Parcel as OfParcel}
 use Rattle.fs_client.specs.Answers.{answer_plan}
 use Rattle.fs_server.specs.Step.{step}
 use Rattle.fs_server.specs.declared.event.ServerEvent.{ServerEvent}
-use Rattle.fs_server.specs.declared.event.ServerEvent.TheVariants.{FromClient, Turn as TheTurn, Recall as TheRecall}
+use Rattle.fs_server.specs.declared.event.ServerEvent.TheVariants.{FromClient, FromPeer, Turn as TheTurn, Recall as TheRecall, Move as TheMove}
+use Rattle.fs_server.specs.declared.state.Server.{Server as Core}
+use Rattle.fs_schedule.specs.declared.event.Head.TheVariants.{Servers}
 use Rattle.fs_schedule.specs.declared.event.What.{What}
-use Rattle.fs_schedule.specs.declared.event.What.TheVariants.{Join, Do, Tell, Turn, Recall}
-use Rattle.fs_serial.specs.World.{Ends, IsThere, World}
+use Rattle.fs_schedule.specs.declared.event.What.TheVariants.{Join, Do, Tell, Turn, Recall, Move}
+use Rattle.fs_serial.specs.Cluster.{Cluster, IsThere, Lines, after_step, is_between, is_with, parcels_of}
+use Rattle.fs_serial.specs.Refusals.{rows_in}
+use Rattle.fs_serial.specs.Joined.{rows_of_all}
+use Rattle.fs_serial.specs.declared.flying.Flying.{Flying}
 use Rattle.fs_world.specs.Order.{Told}
 use Rattle.fs_world.specs.Packets.{first_untold}
-use Rattle.fs_world.specs.Served.{Stepped, arrives, client_hears, comes, do_at, heard_in, join_at, quiet_note, server_hears, server_step, step_of, tell_at, the_server, told_at, turn_at, up_of, with_rest, with_seat}
+use Rattle.fs_world.specs.Parts.{lines_in, lines_of}
+use Rattle.fs_world.specs.Served.{Stepped, arrives, at_server, client_hears, comes, do_at, first_from, heard_in, join_at, quiet_note, server_hears, server_step_at, server_told, server_told_at, step_of, tell_at, told_at, turn_at, up_first, with_seat, with_server}
+use Rattle.fs_world.specs.World.{may_happen}
 use Rattle.fs_world.specs.declared.seat.Seat.{Seat}
 use Rattle.fs_world.specs.declared.served.Served.{Served}
-use Rattle.fs_world.proofs.Right.{IsRight, answer_right, event_right, turn_right}
-use Rattle.fs_world.specs.Parts.{ends_in, ends_of}
-use Rattle.fs_world.proofs.SessionSteps.{HoldsOf}
+use Rattle.fs_world.proofs.Right.{IsRight, event_right, plain_client, turn_right}
+use Rattle.fs_world.proofs.SerialLaws.{SerialLaws}
+use Rattle.fs_world.proofs.ServedHolds.{cluster_of}
+use Rattle.fs_world.proofs.ServedSteps.{to_there}
+use Rattle.fs_world.proofs.ServerHolds.{clock, parcel_there, question_there}
+use Rattle.fs_world.proofs.SessionSteps.{HoldsOf, answer_found, parts_of}
 
 -- what the event notes is right, of the world after it
 abbrev pub AllRight : List Row → List Note → Type 0
@@ -45,12 +57,15 @@ quiet rows x = elim (x.fresh == 0) as (λ b. AllRight rows (cond b note.None not
   | false ↦ (record { plain = refl; fair = tt }, tt)
 ]
 
-module _ (skew greatest : ℕ) (told : List Told) (w : Served) (h : HoldsOf skew greatest told w) (now : ℕ) (within : greatest ≤ now + skew) where
-  abbrev Right : Stepped → Type 0
-  Right x = AllRight x.world.server.rows x.outcome.notes
+module _ (laws : SerialLaws) (count skew greatest : ℕ) (told : List Told) (w : Served) (h : HoldsOf count skew greatest told w) (now : ℕ) (within : greatest ≤ now + skew) (some : 1 ≤ count) where
+  abbrev rows_at : Served → List Row
+  rows_at v = rows_of_all v.servers (parcels_of v.flying)
 
-  abbrev seen : World
-  seen = record { server = w.server; journal = w.journal; replied = h.replied; ends = ends_of w.term w.seats }
+  abbrev Right : Stepped → Type 0
+  Right x = AllRight (rows_at x.world) x.outcome.notes
+
+  abbrev seen : Cluster
+  seen = cluster_of h.replied (parts_of w)
 
   -- ## At a session
 
@@ -64,48 +79,93 @@ module _ (skew greatest : ℕ) (told : List Told) (w : Served) (h : HoldsOf skew
 
   turns_right : (s : Session) (o : Option Seat) → Right (turn_at o now s w)
   turns_right s None = (record { plain = refl; fair = tt }, tt)
-  turns_right s (Some seat) = (turn_right w.server.rows seat.client now, tt)
+  turns_right s (Some seat) = (turn_right (rows_at w) seat.client now, tt)
 
-  hears_right : (s : Session) (seat : Seat) (heard : Option Peer) (x : Heard) (js : List Joined) (links : Links) (down : List Answer) → get w.seats s.0 ≡ Some seat → seat.down ≡ down → Right (with_seat s (client_hears now s heard x js down (record seat { post = links }) w.journal w.packets) w)
-  hears_right s seat heard x [] links down at e = quiet w.server.rows x
-  hears_right s seat heard x (j ∷ js) links [] at e = (record { plain = refl; fair = tt }, tt)
-  hears_right s seat heard x (j ∷ js) links (a ∷ rest) at e =
-      let own : ends_of w.term w.seats s ≡ ends_in w.term s (Some seat) = ap (ends_in w.term s) at in (
-        subst (λ (n : Ends). IsRight w.server.rows (note.Client (answer_plan n.client now 0 a).out.note)) own
-            (answer_right w.server.rows greatest seen s now a rest (ap (λ (n : Ends). n.down) own ∙ e) h.world),
+  hears_right : (s : Session) (k : ℕ) (seat : Seat) (heard : Option Peer) (x : Heard) (js : List Joined) (links : Links) (first : Option (ℕ × Answer)) → get w.seats s.0 ≡ Some seat → find (is_with k) seat.down ≡ first
+      → Right (with_seat s (client_hears now s k heard x js first (record seat { post = links }) w.journal w.packets) w)
+  hears_right s k seat heard x [] links first at e = quiet (rows_at w) x
+  hears_right s k seat heard x (j ∷ js) links None at e = (record { plain = refl; fair = tt }, tt)
+  hears_right s k seat heard x (j ∷ js) links (Some m) at e =
+      let own : lines_of w.term w.seats s ≡ lines_in w.term s (Some seat) = ap (lines_in w.term s) at in (
+        subst (λ (n : Lines). IsRight (rows_at w) (note.Client (answer_plan n.client now k m.1).out.note)) own
+            (plain_client (rows_at w) (answer_plan (lines_of w.term w.seats s).client now k m.1).out.note
+            (laws.client_plain skew greatest now k m.1 s seen (ap (λ (n : Lines). find (is_with k) n.down) own ∙ answer_found k seat.down m e) h.cluster)),
         tt,
       )
 
-  told_right : (s : Session) (p : Packet) (o : Option Seat) → get w.seats s.0 ≡ o → Right (told_at o now s p w)
-  told_right s p None at = (record { plain = refl; fair = tt }, tt)
-  told_right s p (Some seat) at = let a = post_accepted seat.post the_server p in hears_right s seat (heard_in the_server p) a.heard a.heard.joined a.links seat.down at refl
+  told_right : (s : Session) (k : ℕ) (p : Packet) (o : Option Seat) → get w.seats s.0 ≡ o → Right (told_at o now s k p w)
+  told_right s k p None at = (record { plain = refl; fair = tt }, tt)
+  told_right s k p (Some seat) at = let a = post_accepted seat.post (Server k) p in hears_right s k seat (heard_in (Server k) p) a.heard a.heard.joined a.links (find (is_with k) seat.down) at refl
 
-  -- ## At the server
+  -- ## At a server that there is
 
-  server_right : (e : ServerEvent) → IsThere e (ends_of w.term w.seats) → (turn : Bool) (heard : Option Peer) (v : Served) → v.server ≡ w.server → Right (server_step turn heard now e v)
-  server_right e there turn heard v same = subst (λ s. AllRight (step s now e).server.rows (note.Server (step s now e).out.note ∷ [])) (sym same)
-      (event_right greatest now seen h.world (subst (λ k. greatest ≤ now + k) (sym h.skewed) within) e there, tt)
+  module _ (k : ℕ) (c : Core) (post : Links) (at : slice_get w.servers k ≡ Some c) where
+    abbrev hearing : Peer → Option Peer → Heard → List Joined → Option ServerEvent → Links → Stepped
+    hearing from heard x js first links = with_server k (server_hears now k from heard x js first (record (at_server c post w) { post = links })) w
 
-  message_right : (s : Session) (heard : Option Peer) (links : Links) (m : ClientMsg) (rest : List ClientMsg) (o : Option Seat) → get w.seats s.0 ≡ o → up_of o ≡ m ∷ rest → Right (server_step false heard now (FromClient s m) (with_rest o s.0 rest (record w { post = links })))
-  message_right s heard links m rest None at up = absurd (cc)
-  message_right s heard links m rest (Some seat) at up =
-      let first : (ends_of w.term w.seats s).up ≡ m ∷ rest = ap (λ (n : Ends). n.up) (ap (ends_in w.term s) at) ∙ up in
-      server_right (FromClient s m) (subst (In m) (sym first) (inl refl)) false heard (with_rest (Some seat) s.0 rest (record w { post = links })) refl
+    event : (e : ServerEvent) → IsThere k e seen → IsRight (rows_in (after_step k e (step c now e) seen)) (note.Server (step c now e).out.note)
+    event e = event_right laws skew greatest now k c seen at h.cluster (clock laws count skew greatest told (parts_of w) h now k c at) within e
 
-  server_hears_right : (s : Session) (heard : Option Peer) (x : Heard) (js : List Joined) (links : Links) (up : List ClientMsg) → up_of (get w.seats s.0) ≡ up → Right (server_hears now s heard x js up (record w { post = links }))
-  server_hears_right s heard x [] links up e = quiet w.server.rows x
-  server_hears_right s heard x (j ∷ js) links [] e = (record { plain = refl; fair = tt }, tt)
-  server_hears_right s heard x (j ∷ js) links (m ∷ rest) e = message_right s heard links m rest (get w.seats s.0) refl e
+    message_right : (s : Session) (seat : Seat) (heard : Option Peer) (x : Heard) (j : Joined) (js : List Joined) (links : Links) (o : Option (ℕ × ClientMsg)) → get w.seats s.0 ≡ Some seat → find (is_with k) seat.up ≡ o
+        → Right (hearing (Client s) heard x (j ∷ js) (elim o as (λ _. Option ServerEvent) [ None ↦ None | Some m ↦ Some (FromClient s m.1) ]) links)
+    message_right s seat heard x j js links None is first = (record { plain = refl; fair = tt }, tt)
+    message_right s seat heard x j js links (Some m) is first = (event (FromClient s m.1) (question_there laws count skew greatest told (parts_of w) h now k c at s seat m is first), tt)
+
+    session_right : (s : Session) (o : Option Seat) → get w.seats s.0 ≡ o → (heard : Option Peer) (x : Heard) (js : List Joined) (links : Links) → Right (hearing (Client s) heard x js (up_first k s o) links)
+    session_right s o is heard x [] links = quiet _ x
+    session_right s None is heard x (j ∷ js) links = (record { plain = refl; fair = tt }, tt)
+    session_right s (Some seat) is heard x (j ∷ js) links = message_right s seat heard x j js links (find (is_with k) seat.up) is refl
+
+    parcel_right : (i : ℕ) (heard : Option Peer) (x : Heard) (j : Joined) (js : List Joined) (links : Links) (o : Option Flying) → find (is_between i k) w.flying ≡ o
+        → Right (hearing (Server i) heard x (j ∷ js) (elim o as (λ _. Option ServerEvent) [ None ↦ None | Some f ↦ Some (FromPeer i (OfParcel f.parcel)) ]) links)
+    parcel_right i heard x j js links None first = (record { plain = refl; fair = tt }, tt)
+    parcel_right i heard x j js links (Some f) first = (event (FromPeer i (OfParcel f.parcel)) (parcel_there laws count skew greatest told (parts_of w) h now k c at i f first), tt)
+
+    peer_right : (i : ℕ) (heard : Option Peer) (x : Heard) (js : List Joined) (links : Links) → Right (hearing (Server i) heard x js (first_from k (Server i) w.seats w.flying) links)
+    peer_right i heard x [] links = quiet _ x
+    peer_right i heard x (j ∷ js) links = parcel_right i heard x j js links (find (is_between i k) w.flying) refl
+
+    told_server : (from : Peer) (p : Packet) → Right (with_server k (server_told now k from p (at_server c post w)) w)
+    told_server (Client s) p =
+        let a = post_accepted post (Client s) p in
+        session_right s (get w.seats s.0) refl (heard_in (Client s) p) a.heard a.heard.joined a.links
+    told_server (Server i) p =
+        let a = post_accepted post (Server i) p in
+        peer_right i (heard_in (Server i) p) a.heard a.heard.joined a.links
+
+  -- ## At any server
+
+  told_at_server : (k : ℕ) (from : Peer) (p : Packet) (c : Option Core) (post : Option Links) → slice_get w.servers k ≡ c → Right (server_told_at c post now k from p w)
+  told_at_server k from p (Some c) (Some post) at = told_server k c post at from p
+  told_at_server k from p (Some c) None at = (record { plain = refl; fair = tt }, tt)
+  told_at_server k from p None (Some post) at = (record { plain = refl; fair = tt }, tt)
+  told_at_server k from p None None at = (record { plain = refl; fair = tt }, tt)
+
+  turn_at_server : (k : ℕ) (c : Option Core) (post : Option Links) → slice_get w.servers k ≡ c → Right (server_step_at c post k true now TheTurn w)
+  turn_at_server k (Some c) (Some post) at = (event k c post at TheTurn tt, tt)
+  turn_at_server k (Some c) None at = (record { plain = refl; fair = tt }, tt)
+  turn_at_server k None (Some post) at = (record { plain = refl; fair = tt }, tt)
+  turn_at_server k None None at = (record { plain = refl; fair = tt }, tt)
+
+  recall_at_server : (k : ℕ) (field : Field) (c : Option Core) (post : Option Links) → slice_get w.servers k ≡ c → Right (server_step_at c post k false now (TheRecall field) w)
+  recall_at_server k field (Some c) (Some post) at = (event k c post at (TheRecall field) tt, tt)
+  recall_at_server k field (Some c) None at = (record { plain = refl; fair = tt }, tt)
+  recall_at_server k field None (Some post) at = (record { plain = refl; fair = tt }, tt)
+  recall_at_server k field None None at = (record { plain = refl; fair = tt }, tt)
+
+  move_at_server : (k : ℕ) (prefix : List ℕ) (to : ℕ) (c : Option Core) (post : Option Links) → slice_get w.servers k ≡ c → to < length w.servers → Right (server_step_at c post k false now (TheMove prefix to) w)
+  move_at_server k prefix to (Some c) (Some post) at few = (event k c post at (TheMove prefix to) few, tt)
+  move_at_server k prefix to (Some c) None at few = (record { plain = refl; fair = tt }, tt)
+  move_at_server k prefix to None (Some post) at few = (record { plain = refl; fair = tt }, tt)
+  move_at_server k prefix to None None at few = (record { plain = refl; fair = tt }, tt)
 
   -- ## Each event
 
   comes_right : (from to : Peer) (p : Packet) → Right (comes now from to p w)
-  comes_right (Client s) (Server k) p =
-      let a = post_accepted w.post (Client s) p in
-      server_hears_right s (heard_in (Client s) p) a.heard a.heard.joined a.links (up_of (get w.seats s.0)) refl
-  comes_right (Client r) (Client s) p = told_right s p (get w.seats s.0) refl
-  comes_right (Server j) (Client s) p = told_right s p (get w.seats s.0) refl
-  comes_right (Server j) (Server k) p = (record { plain = refl; fair = tt }, tt)
+  comes_right (Client s) (Server k) p = told_at_server k (Client s) p (slice_get w.servers k) (slice_get w.posts k) refl
+  comes_right (Server j) (Server k) p = told_at_server k (Server j) p (slice_get w.servers k) (slice_get w.posts k) refl
+  comes_right (Server j) (Client s) p = told_right s j p (get w.seats s.0) refl
+  comes_right (Client r) (Client s) p = (record { plain = refl; fair = tt }, tt)
 
   arrives_right : (from to : Peer) (p : Option Packet) → Right (arrives now from to p w)
   arrives_right from to None = (record { plain = refl; fair = tt }, tt)
@@ -115,11 +175,13 @@ module _ (skew greatest : ℕ) (told : List Told) (w : Served) (h : HoldsOf skew
   tell_right None k = (record { plain = refl; fair = tt }, tt)
   tell_right (Some x) k = arrives_right x.from x.to (packet_at x.bytes)
 
-  pub step_right : (what : What) → Right (step_of w now what)
-  step_right (Join s) = join_right s (get w.seats s.0)
-  step_right (Do s o) = do_right s o (get w.seats s.0)
-  step_right (Tell None) = tell_right (slice_get w.packets.sent (first_untold w.packets.told)) (first_untold w.packets.told)
-  step_right (Tell (Some k)) = tell_right (slice_get w.packets.sent k) k
-  step_right (Turn (Client s)) = turns_right s (get w.seats s.0)
-  step_right (Turn (Server k)) = server_right TheTurn tt true None w refl
-  step_right (Recall k field) = server_right (TheRecall field) tt false None w refl
+  pub step_right : (term : ℕ) (what : What) → may_happen (Servers count skew term) what ≡ true → Right (step_of w now what)
+  step_right term (Join s) may = join_right s (get w.seats s.0)
+  step_right term (Do s o) may = do_right s o (get w.seats s.0)
+  step_right term (Tell None) may = tell_right (slice_get w.packets.sent (first_untold w.packets.told)) (first_untold w.packets.told)
+  step_right term (Tell (Some k)) may = tell_right (slice_get w.packets.sent k) k
+  step_right term (Turn (Client s)) may = turns_right s (get w.seats s.0)
+  step_right term (Turn (Server k)) may = turn_at_server k (slice_get w.servers k) (slice_get w.posts k) refl
+  step_right term (Recall k field) may = recall_at_server k field (slice_get w.servers k) (slice_get w.posts k) refl
+  step_right term (Move k prefix to) may =
+      move_at_server k prefix to (slice_get w.servers k) (slice_get w.posts k) refl (to_there laws count skew greatest told w h now within some to (both (nat_lt k count) (nat_lt to count) may).1)

@@ -39,14 +39,14 @@ numbered_put_here m k v = get-insert nat_cmp_total m k v k ∙ ap (λ b. cond b 
 abbrev without_last : Seat → Seat
 without_last seat = record seat { down = take (length seat.down - 1) seat.down }
 
-abbrev with_last : Seat → Answer → Seat
+abbrev with_last : Seat → ℕ × Answer → Seat
 with_last seat a = record seat { down = seat.down ++ a ∷ [] }
 
-last_taken : (seat : Seat) (a : Answer) → without_last (with_last seat a) ≡ seat
-last_taken seat a = ap (λ (down : List Answer). let s : Seat = record seat { down = down } in s) (take_at seat.down (a ∷ []) (length (seat.down ++ a ∷ []) - 1) (omega (arith, length-append seat.down (a ∷ []))))
+last_taken : (seat : Seat) (a : ℕ × Answer) → without_last (with_last seat a) ≡ seat
+last_taken seat a = ap (λ (down : List (ℕ × Answer)). let s : Seat = record seat { down = down } in s) (take_at seat.down (a ∷ []) (length (seat.down ++ a ∷ []) - 1) (omega (arith, length-append seat.down (a ∷ []))))
 
 -- an answer that was put on its way to a session is taken back
-pub taken_back : (seats old new : Seats) (k : ℕ) (a : Answer) → old ≡ with_down_at (get seats k) k a seats
+pub taken_back : (seats old new : Seats) (k : ℕ) (a : ℕ × Answer) → old ≡ with_down_at (get seats k) k a seats
     → ((seat : Seat) → get old k ≡ Some seat → new ≡ insert old k (without_last seat)) → (get old k ≡ None → new ≡ old) → new ≡ seats
 taken_back seats old new k a e joined other = at (get seats k) refl
   where

@@ -1,6 +1,5 @@
 -- What holds of a world of the servers form says of its journal.
-use Rattle.std.proofs.Common.{◌≡◌, ℕ, ◌+◌, Bool, true, List, [], ◌∷◌, length, map, cond, refl, ap, sym, ◌∙◌, subst, arith}
-use Rattle.std.proofs.lemmas.Bool.Decides.{nat_tests}
+use Rattle.std.proofs.Common.{◌≡◌, ℕ, ◌+◌, ◌≤◌, Bool, true, List, [], ◌∷◌, ◌++◌, map, cond, refl, ap, sym, ◌∙◌, subst}
 use Rattle.std.specs.Prelude.{filter}
 use Rattle.fs_ident.specs.In.{In}
 use Rattle.fs_ident.specs.declared.actor.Peer.{Peer}
@@ -11,19 +10,23 @@ use Rattle.fs_msg.specs.Journal.{IsSerialRun}
 use Rattle.fs_msg.specs.declared.item.Item.{Item}
 use Rattle.fs_record.specs.Records.{nodes_of}
 use Rattle.fs_server.specs.Ships.{item_of}
+use Rattle.fs_server.specs.declared.state.Server.{Server as Core}
+use Rattle.fs_serial.specs.Cluster.{Cluster, parcels_of}
+use Rattle.fs_serial.specs.Joined.{records_of_all}
 use Rattle.fs_serial.specs.Numbers.{AreNumbered, all_items, is_server, is_session, items_at, items_by}
+use Rattle.fs_serial.specs.Seen.{ends_of, world_of}
 use Rattle.fs_serial.specs.Settled.{Settled}
-use Rattle.fs_serial.specs.World.{World, settled_at}
-use Rattle.fs_serial.proofs.Facts.{In-front}
-use Rattle.fs_serial.proofs.Outcome.{outcome}
+use Rattle.fs_serial.specs.World.{WorldHolds, settled_at}
 use Rattle.fs_world.specs.Order.{Agrees, AreNumberedFrom, HasNumberOf, IsInSessionOrder, Told, items_of, same_actor}
+use Rattle.fs_world.specs.Parts.{lines_of}
 use Rattle.fs_world.specs.declared.served.Served.{Served}
 use Rattle.fs_world.proofs.Fine.{AllFine}
 use Rattle.fs_world.proofs.Numbered.{kept, number_of_one}
-use Rattle.fs_world.specs.Parts.{ends_of}
-use Rattle.fs_world.proofs.Seen.{turned}
+use Rattle.fs_world.proofs.Replies.{in_grown}
+use Rattle.fs_world.proofs.Seen.{own_number, turned}
 use Rattle.fs_world.proofs.Serial.{AllAsk}
-use Rattle.fs_world.proofs.SessionSteps.{HoldsOf}
+use Rattle.fs_world.proofs.ServedHolds.{a_server, cluster_of}
+use Rattle.fs_world.proofs.SessionSteps.{HoldsOf, parts_of}
 
 -- ## The items of one actor
 
@@ -55,36 +58,46 @@ numbered_from : (k : ℕ) (is : List Item) (next : ℕ) → AreNumbered k is nex
 numbered_from k [] next h = tt
 numbered_from k (i ∷ is) next h = (h.0, numbered_from (k + 1) is next h.1)
 
-module _ (skew greatest : ℕ) (told : List Told) (w : Served) (h : HoldsOf skew greatest told w) where
-  abbrev seen : World
-  seen = record { server = w.server; journal = w.journal; replied = h.replied; ends = ends_of w.term w.seats }
+numbered_front : (k : ℕ) (is more : List Item) → AreNumberedFrom k (is ++ more) → AreNumberedFrom k is
+numbered_front k [] more h = tt
+numbered_front k (i ∷ is) more h = (h.0, numbered_front (k + 1) is more h.1)
+
+module _ (count skew greatest : ℕ) (told : List Told) (w : Served) (h : HoldsOf count skew greatest told w) (some : 1 ≤ count) where
+  abbrev seen : Cluster
+  seen = cluster_of h.replied (parts_of w)
+
+  server : (s : Core) × In s w.servers
+  server = a_server w.servers (subst (λ (n : ℕ). 1 ≤ n) (sym h.many) some)
+
+  holds : WorldHolds greatest (world_of server.0 seen)
+  holds = h.cluster.parts server.0 server.1
 
   abbrev settled : Session → Settled
-  settled s = settled_at s (ends_of w.term w.seats s)
+  settled s = settled_at s (ends_of (lines_of w.term w.seats s))
 
   -- the session's items, and behind them what is in its log
   told_numbered : (s : Session) → AreNumberedFrom 1 (all_items s w.journal (settled s).log)
-  told_numbered s = numbered_from 1 (all_items s w.journal (settled s).log) (settled s).next (h.world.all.sessions s).numbers
+  told_numbered s = numbered_from 1 (all_items s w.journal (settled s).log) (settled s).next (holds.all.sessions s).numbers
 
   numbered : (who : Peer) → AreNumberedFrom 1 (items_of who w.journal)
-  numbered (Server k) = subst (AreNumberedFrom 1) (sym (same_reaps k w.journal)) (numbered_from 1 (items_at k w.journal) (1 + length (items_at k w.journal)) ((outcome greatest seen h.world).reaped k))
-  numbered (Client s) = subst (AreNumberedFrom 1) (sym (same_items s w.journal)) (numbered_from 1 (items_by s w.journal) (1 + length (items_by s w.journal)) ((outcome greatest seen h.world).numbered s))
+  numbered (Server k) = subst (AreNumberedFrom 1) (sym (same_reaps k w.journal)) (numbered_from 1 (items_at k w.journal) _ (holds.all.servers.reaped k))
+  numbered (Client s) = subst (AreNumberedFrom 1) (sym (same_items s w.journal)) (numbered_front 1 (items_by s w.journal) (map (item_of s) (settled s).log) (told_numbered s))
 
   -- the session's item of the journal is among those that it was told
   in_told : (s : Session) (i : Item) → In i w.journal → i.by ≡ Client s → In i (h.replied s)
   in_told s i there by =
-      let own : is_session s i.by ≡ true = ap (is_session s) by ∙ grind (arith, nat_tests) in
-      subst (In i) (h.world.all.sessions s).replies (In-front i (items_by s w.journal) (map (item_of s) (settled s).log) (kept (λ (i : Item). is_session s i.by) w.journal i own there))
+      let own : is_session s i.by ≡ true = ap (is_session s) by ∙ own_number s.0 in
+      subst (In i) (holds.all.sessions s).replies (in_grown i (items_by s w.journal) (map (item_of s) (settled s).log) (kept (λ (i : Item). is_session s i.by) w.journal i own there))
 
   agreeing : (t : Told) (i : Item) → In t told → In i w.journal → HasNumberOf i t → Agrees i t
   agreeing t i m there has =
       let s = t.session in
       let found = h.answered t m in
-      let same : i ≡ found.0 = number_of_one 1 (h.replied s) i found.0 (subst (AreNumberedFrom 1) (h.world.all.sessions s).replies (told_numbered s)) (in_told s i there has.by) found.1 (has.n ∙ sym found.2.n) in
+      let same : i ≡ found.0 = number_of_one 1 (h.replied s) i found.0 (subst (AreNumberedFrom 1) (holds.all.sessions s).replies (told_numbered s)) (in_told s i there has.by) found.1 (has.n ∙ sym found.2.n) in
       subst (λ (x : Item). Agrees x t) (sym same) found.3
 
-  pub served_serial : IsSerialRun first_space w.journal (nodes_of w.server.records)
-  served_serial = (outcome greatest seen h.world).serial
+  pub served_serial : IsSerialRun first_space w.journal (nodes_of (records_of_all w.servers (parcels_of w.flying)))
+  served_serial = holds.all.servers.serial
 
   pub served_ordered : IsInSessionOrder w.journal told
   served_ordered = record { numbered = numbered; agreeing = agreeing }

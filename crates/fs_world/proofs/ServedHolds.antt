@@ -1,92 +1,130 @@
 -- What holds of a world of the servers form between events, and what a client's event makes of it.
-use Rattle.std.proofs.Common.{◌≡◌, ℕ, ◌+◌, ◌≤◌, max, List, [], ◌++◌, ap, sym, ◌∙◌, subst, arith}
+use Rattle.std.proofs.Common.{◌≡◌, ℕ, ◌+◌, ◌≤◌, max, List, [], ◌∷◌, ◌++◌, length, inl, refl, ap, sym, ◌∙◌, subst, arith}
 use Rattle.std.proofs.lemmas.List.{append-nil}
-use Rattle.std.specs.Prelude.{Some, None}
+use Rattle.std.specs.Prelude.{Option, Some, None}
 use Rattle.std.specs.FinMap.{get, insert}
+use Rattle.fs_ident.specs.In.{In}
 use Rattle.fs_ident.specs.declared.actor.Session.{Session}
 use Rattle.fs_msg.specs.declared.answer.Answer.{Answer}
 use Rattle.fs_msg.specs.declared.item.Item.{Item}
 use Rattle.fs_client.specs.Client.{committed}
 use Rattle.fs_client.specs.declared.plan.Plan.{Plan}
 use Rattle.fs_server.specs.declared.state.Server.{Server}
-use Rattle.fs_serial.specs.World.{CanCome, ClientEvent, Ends, World, WorldHolds, after_client, after_plan, message_in, pushed, told_by, with_ends, with_told}
-use Rattle.fs_serial.proofs.ClientEvents.{client_keeps}
-use Rattle.fs_serial.proofs.Rising.{world_later}
-use Rattle.fs_world.specs.Linked.{AreOfJoined}
+use Rattle.fs_serial.specs.Cluster.{CanCome, ClientEvent, Cluster, Lines, after_client, after_plan, with_lines}
+use Rattle.fs_serial.specs.Seen.{ClusterHolds}
+use Rattle.fs_serial.specs.World.{pushed, told_by, with_told}
+use Rattle.fs_serial.specs.declared.flying.Flying.{Flying}
+use Rattle.fs_world.specs.Linked.{AreOfJoined, HasJoined}
 use Rattle.fs_world.specs.Order.{Told}
+use Rattle.fs_world.specs.Parts.{lines_in, lines_of}
 use Rattle.fs_world.specs.Served.{Seats, first_seat}
 use Rattle.fs_world.specs.declared.seat.Seat.{Seat}
 use Rattle.fs_world.proofs.Fine.{AllFine, MayBeFine, fine_pushed}
-use Rattle.fs_world.proofs.LinkedTies.{rows_still}
-use Rattle.fs_world.specs.Parts.{ends_in, ends_of}
-use Rattle.fs_world.proofs.Seen.{ends_joined, ends_put}
+use Rattle.fs_world.proofs.Seen.{joined_still, lines_joined, lines_put, lines_same}
+use Rattle.fs_world.proofs.SerialLaws.{SerialLaws}
 use Rattle.fs_world.proofs.Told.{AllNew, AllReplied, told_more}
 
--- of the server, the seats and the journal of a world in which this was told, where no reading was greater
-pub record Holds (skew greatest : ℕ) (told : List Told) (term : ℕ) (server : Server) (seats : Seats) (journal : List Item) : Type 0 where
-  pub replied : Session → List Item
-  pub world : WorldHolds greatest (record { server = server; journal = journal; replied = replied; ends = ends_of term seats })
-  pub skewed : server.skew ≡ skew
-  pub rows : AreOfJoined seats server.rows
-  pub answered : AllReplied replied told
-  pub items : AllFine journal
+-- what a world has that servers and sessions know of: so many servers, the seats, the parcels on their way, the journal
+pub record Parts : Type 0 where
+  pub term : ℕ
+  pub servers : List Server
+  pub seats : Seats
+  pub flying : List Flying
+  pub journal : List Item
 
-pub holds_later : (skew greatest later : ℕ) (told : List Told) (term : ℕ) (server : Server) (seats : Seats) (journal : List Item) → greatest ≤ later → Holds skew greatest told term server seats journal → Holds skew later told term server seats journal
-holds_later skew greatest later told term server seats journal rises h = record {
-  replied = h.replied;
-  world = world_later greatest later (record { server = server; journal = journal; replied = h.replied; ends = ends_of term seats }) rises h.world;
-  skewed = h.skewed;
-  rows = h.rows;
-  answered = h.answered;
-  items = h.items;
-}
+abbrev pub cluster_of : (Session → List Item) → Parts → Cluster
+cluster_of replied p = record { servers = p.servers; flying = p.flying; journal = p.journal; replied = replied; lines = lines_of p.term p.seats }
+
+-- of these parts of a world of so many servers in which this was told, where no reading was greater
+pub record Holds (count skew greatest : ℕ) (told : List Told) (p : Parts) : Type 0 where
+  pub replied : Session → List Item
+  pub cluster : ClusterHolds skew greatest (cluster_of replied p)
+  pub many : length p.servers ≡ count
+  pub rows : (s : Server) → In s p.servers → AreOfJoined p.seats s.rows
+  pub parcels : (f : Flying) → In f p.flying → AreOfJoined p.seats f.parcel.rows
+  pub answered : AllReplied replied told
+  pub items : AllFine p.journal
+
+-- there is a server
+pub a_server : (servers : List Server) → 1 ≤ length servers → (s : Server) × In s servers
+a_server [] some = absurd (omega arith)
+a_server (s ∷ ss) some = (s, inl refl)
 
 -- where nothing was told
-pub holds_untold : (skew greatest : ℕ) (told : List Told) (term : ℕ) (server : Server) (seats : Seats) (journal : List Item) → Holds skew greatest told term server seats journal → Holds skew greatest (told ++ []) term server seats journal
-holds_untold skew greatest told term server seats journal h = subst (λ ts. Holds skew greatest ts term server seats journal) (sym (append-nil told)) h
+pub holds_untold : (count skew greatest : ℕ) (told : List Told) (p : Parts) → Holds count skew greatest told p → Holds count skew greatest (told ++ []) p
+holds_untold count skew greatest told p h = subst (λ ts. Holds count skew greatest ts p) (sym (append-nil told)) h
 
--- a session joins
-pub holds_joined : (skew greatest : ℕ) (told : List Told) (term : ℕ) (server : Server) (seats : Seats) (journal : List Item) (s : Session) → get seats s.0 ≡ None → Holds skew greatest told term server seats journal → Holds skew greatest told term server (insert seats s.0 (first_seat term s)) journal
-holds_joined skew greatest told term server seats journal s none h = record {
-  replied = h.replied;
-  world = subst (λ (ends : Session → Ends). WorldHolds greatest (record { server = server; journal = journal; replied = h.replied; ends = ends })) (sym (ends_joined term seats s none)) h.world;
-  skewed = h.skewed;
-  rows = rows_still seats s (first_seat term s) server.rows h.rows;
-  answered = h.answered;
-  items = h.items;
-}
+abbrev pub with_seats : Seats → Parts → Parts
+with_seats seats p = record p { seats = seats }
 
--- ## A client's event
+module _ (laws : SerialLaws) (count skew greatest : ℕ) (told : List Told) (p : Parts) (h : Holds count skew greatest told p) where
+  pub holds_later : (later : ℕ) → greatest ≤ later → Holds count skew later told p
+  holds_later later rises = record {
+    replied = h.replied;
+    cluster = laws.rises skew greatest later (cluster_of h.replied p) rises h.cluster;
+    many = h.many;
+    rows = h.rows;
+    parcels = h.parcels;
+    answered = h.answered;
+    items = h.items;
+  }
 
-module _ (skew greatest : ℕ) (told : List Told) (term : ℕ) (server : Server) (seats : Seats) (journal : List Item) (s : Session) (seat : Seat) (at : get seats s.0 ≡ Some seat) (h : Holds skew greatest told term server seats journal) where
-  abbrev w : World
-  w = record { server = server; journal = journal; replied = h.replied; ends = ends_of term seats }
+  -- other seats, with the same lines
+  pub holds_seated : (seats : Seats) → ((x : Session) → HasJoined p.seats x → HasJoined seats x) → lines_of p.term seats ≡ lines_of p.term p.seats → Holds count skew greatest told (with_seats seats p)
+  holds_seated seats stay same = record {
+    replied = h.replied;
+    cluster = subst (λ (lines : Session → Lines). ClusterHolds skew greatest (record { servers = p.servers; flying = p.flying; journal = p.journal; replied = h.replied; lines = lines })) (sym same) h.cluster;
+    many = h.many;
+    rows = λ s i row j. stay row.session (h.rows s i row j);
+    parcels = λ f i row j. stay row.session (h.parcels f i row j);
+    answered = h.answered;
+    items = h.items;
+  }
 
-  pub own : ends_of term seats s ≡ ends_in term s (Some seat)
-  own = ap (ends_in term s) at
+  -- a session joins
+  pub holds_joined : (s : Session) → get p.seats s.0 ≡ None → Holds count skew greatest told (with_seats (insert p.seats s.0 (first_seat p.term s)) p)
+  holds_joined s none = holds_seated (insert p.seats s.0 (first_seat p.term s)) (λ x i. joined_still p.seats s x (first_seat p.term s) i) (lines_joined p.term p.seats s none)
 
-  -- the session's ends after a plan
-  abbrev pub planned : {N : Type 0} → List Answer → Plan N → Ends
-  planned rest p = record { client = committed p.ready seat.client; up = pushed (message_in p.out.send) seat.up; down = rest }
+  module _ (s : Session) (seat : Seat) (at : get p.seats s.0 ≡ Some seat) where
+    -- nothing but its links changes at a session
+    pub holds_posted : (next : Seat) → lines_in p.term s (Some next) ≡ lines_in p.term s (Some seat) → Holds count skew greatest told (with_seats (insert p.seats s.0 next) p)
+    holds_posted next e = holds_seated (insert p.seats s.0 next) (λ x i. joined_still p.seats s x next i) (lines_same p.term p.seats s seat next at e)
 
-  plan_seen : {N : Type 0} (rest : List Answer) (p : Plan N) (next : Seat) → ends_in term s (Some next) ≡ planned rest p
-      → after_plan s rest p w ≡ record { server = server; journal = pushed p.out.admitted journal; replied = with_told s (told_by s p.ready.change p.out.admitted) h.replied; ends = ends_of term (insert seats s.0 next) }
-  plan_seen rest p next e =
-      ap (λ (ends : Session → Ends). let v : World = record { server = server; journal = pushed p.out.admitted journal; replied = with_told s (told_by s p.ready.change p.out.admitted) h.replied; ends = ends } in v)
-      (ap (λ (n : Ends). with_ends s (record { client = committed p.ready n.client; up = pushed (message_in p.out.send) n.up; down = rest }) (ends_of term seats)) own
-      ∙ ap (λ (n : Ends). with_ends s n (ends_of term seats)) (sym e)
-      ∙ sym (ends_put term seats s next))
+    -- ## A client's event
 
-  module _ (now : ℕ) (within : greatest ≤ now + skew) where
-    pub client_holds : {N : Type 0} (event : ClientEvent) (rest : List Answer) (p : Plan N) (next : Seat) (new : List Told) → after_client s now event w ≡ after_plan s rest p w → CanCome s event w.ends → ends_in term s (Some next) ≡ planned rest p
-        → MayBeFine p.out.admitted → AllNew s (told_by s p.ready.change p.out.admitted) new
-        → Holds skew (max greatest now) (told ++ new) term server (insert seats s.0 next) (pushed p.out.admitted journal)
-    client_holds event rest p next new does can e fine tells = record {
-      replied = with_told s (told_by s p.ready.change p.out.admitted) h.replied;
-      world = subst (λ (v : World). WorldHolds (max greatest now) v) (does ∙ plan_seen rest p next e)
-          (world_later greatest (max greatest now) (after_client s now event w) (omega arith) (client_keeps greatest now w s h.world event can (subst (λ k. greatest ≤ now + k) (sym h.skewed) within)));
-      skewed = h.skewed;
-      rows = rows_still seats s next server.rows h.rows;
-      answered = told_more s (told_by s p.ready.change p.out.admitted) h.replied told new h.answered tells;
-      items = fine_pushed p.out.admitted journal fine h.items;
-    }
+    pub own : lines_of p.term p.seats s ≡ lines_in p.term s (Some seat)
+    own = ap (lines_in p.term s) at
+
+    -- the session's lines after a plan
+    abbrev pub planned : {N : Type 0} → List (ℕ × Answer) → Plan N → Lines
+    planned rest plan = record { client = committed plan.ready seat.client; up = pushed plan.out.send seat.up; down = rest }
+
+    abbrev after : Option Item → (Session → List Item) → (Session → Lines) → Cluster
+    after admitted replied lines = record { servers = p.servers; flying = p.flying; journal = pushed admitted p.journal; replied = replied; lines = lines }
+
+    plan_seen : {N : Type 0} (rest : List (ℕ × Answer)) (plan : Plan N) (next : Seat) → lines_in p.term s (Some next) ≡ planned rest plan
+        → after_plan s rest plan (cluster_of h.replied p) ≡ after plan.out.admitted (with_told s (told_by s plan.ready.change plan.out.admitted) h.replied) (lines_of p.term (insert p.seats s.0 next))
+    plan_seen rest plan next e =
+        ap (λ (lines : Session → Lines). after plan.out.admitted (with_told s (told_by s plan.ready.change plan.out.admitted) h.replied) lines)
+        (ap (λ (n : Lines). with_lines s (record { client = committed plan.ready n.client; up = pushed plan.out.send n.up; down = rest }) (lines_of p.term p.seats)) own
+        ∙ ap (λ (n : Lines). with_lines s n (lines_of p.term p.seats)) (sym e)
+        ∙ sym (lines_put p.term p.seats s next))
+
+    module _ (now : ℕ) (within : greatest ≤ now + skew) where
+      abbrev pub with_plan : Seat → Option Item → Parts
+      with_plan next admitted = record p { seats = insert p.seats s.0 next; journal = pushed admitted p.journal }
+
+      pub client_holds : {N : Type 0} (event : ClientEvent) (rest : List (ℕ × Answer)) (plan : Plan N) (next : Seat) (new : List Told) → after_client s now event (cluster_of h.replied p) ≡ after_plan s rest plan (cluster_of h.replied p)
+          → CanCome s event (cluster_of h.replied p) → lines_in p.term s (Some next) ≡ planned rest plan
+          → MayBeFine plan.out.admitted → AllNew s (told_by s plan.ready.change plan.out.admitted) new
+          → Holds count skew (max greatest now) (told ++ new) (with_plan next plan.out.admitted)
+      client_holds event rest plan next new does can e fine tells = record {
+        replied = with_told s (told_by s plan.ready.change plan.out.admitted) h.replied;
+        cluster = subst (λ (c : Cluster). ClusterHolds skew (max greatest now) c) (does ∙ plan_seen rest plan next e)
+            (laws.rises skew greatest (max greatest now) (after_client s now event (cluster_of h.replied p)) (omega arith) (laws.client skew greatest now (cluster_of h.replied p) s h.cluster event can within));
+        many = h.many;
+        rows = λ x i row j. joined_still p.seats s row.session next (h.rows x i row j);
+        parcels = λ f i row j. joined_still p.seats s row.session next (h.parcels f i row j);
+        answered = told_more s (told_by s plan.ready.change plan.out.admitted) h.replied told new h.answered tells;
+        items = fine_pushed plan.out.admitted p.journal fine h.items;
+      }

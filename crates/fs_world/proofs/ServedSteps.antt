@@ -1,74 +1,170 @@
 -- Every event of a world of the servers form keeps what holds of it.
-use Rattle.std.proofs.Common.{◌≡◌, ℕ, ◌+◌, ◌≤◌, true, false, List, [], ◌∷◌, refl}
-use Rattle.std.specs.Prelude.{Option, Some, None, slice_get}
+use Rattle.std.proofs.Common.{◌≡◌, ℕ, ◌+◌, ◌≤◌, ◌<◌, max, Bool, true, false, List, [], ◌∷◌, length, refl, sym, subst, arith}
+use Rattle.std.proofs.lemmas.Bool.Decides.{nat_tests}
+use Rattle.std.specs.Prelude.{Option, Some, None, nat_lt, slice_get, slice_set}
 use Rattle.std.specs.FinMap.{get}
+use Rattle.std.specs.List.{find}
 use Rattle.fs_ident.specs.declared.actor.Peer.{Peer}
 use Rattle.fs_ident.specs.declared.actor.Peer.TheVariants.{Server, Client}
 use Rattle.fs_ident.specs.declared.actor.Session.{Session}
+use Rattle.fs_ident.proofs.Booleans.{both}
 use Rattle.fs_frag.specs.declared.joined.Joined.{Joined}
 use Rattle.fs_window.specs.Post.{Links, post_accepted}
 use Rattle.fs_window.specs.Reading.{packet_at}
 use Rattle.fs_window.specs.declared.heard.Heard.{Heard}
 use Rattle.fs_window.specs.declared.packet.Packet.{Packet}
 use Rattle.fs_window.specs.declared.sent.Sent.{Sent}
+use Rattle.fs_field.specs.declared.field.Field.{Field}
 use Rattle.fs_msg.specs.declared.client_msg.ClientMsg.{ClientMsg}
+use Rattle.fs_msg.specs.declared.peer_msg.PeerMsg.TheVariants.{Parcel as OfParcel}
 use Rattle.fs_schedule.specs.declared.event.Head.TheVariants.{Servers}
 use Rattle.fs_schedule.specs.declared.event.What.{What}
-use Rattle.fs_schedule.specs.declared.event.What.TheVariants.{Join, Do, Tell, Turn, Recall}
-use Rattle.fs_server.specs.declared.event.ServerEvent.TheVariants.{FromClient, Turn as TheTurn, Recall as TheRecall}
+use Rattle.fs_schedule.specs.declared.event.What.TheVariants.{Join, Do, Tell, Turn, Recall, Move}
+use Rattle.fs_server.specs.declared.event.ServerEvent.{ServerEvent}
+use Rattle.fs_server.specs.declared.event.ServerEvent.TheVariants.{FromClient, FromPeer, Turn as TheTurn, Recall as TheRecall, Move as TheMove}
+use Rattle.fs_server.specs.declared.state.Server.{Server as Core}
+use Rattle.fs_serial.specs.Cluster.{IsThere, is_between, is_with, without_question}
+use Rattle.fs_serial.specs.declared.flying.Flying.{Flying}
 use Rattle.fs_world.specs.Order.{Told, told_at as told_in}
 use Rattle.fs_world.specs.Packets.{first_untold}
-use Rattle.fs_world.specs.Served.{arrives, comes, heard_in, server_hears, server_step, server_told, step_of, tell_at, up_of, with_rest}
+use Rattle.fs_world.specs.Parts.{lines_of}
+use Rattle.fs_world.specs.Served.{arrives, at_server, comes, first_from, heard_in, server_hears, server_step_at, server_told, server_told_at, step_of, tell_at, up_first, with_server, without_up}
 use Rattle.fs_world.specs.World.{may_happen}
 use Rattle.fs_world.specs.declared.seat.Seat.{Seat}
 use Rattle.fs_world.specs.declared.served.Served.{Served}
-use Rattle.fs_world.proofs.ServerHolds.{message_holds, recall_holds, turn_holds as server_turn_holds}
-use Rattle.fs_world.proofs.SessionSteps.{HoldsOf, Then, do_holds, join_holds, still, told_holds, turn_holds, untold}
+use Rattle.fs_world.proofs.SeenLists.{set_itself}
+use Rattle.fs_world.proofs.SeenRows.{IsAsked}
+use Rattle.fs_world.specs.Linked.{HasJoined}
+use Rattle.fs_world.proofs.SerialLaws.{SerialLaws}
+use Rattle.fs_world.proofs.ServedHolds.{Holds, cluster_of}
+use Rattle.fs_world.proofs.ServerHolds.{after_core, message_holds, parcel_of_joined, parcel_there, server_holds}
+use Rattle.fs_world.proofs.SessionSteps.{HoldsOf, Then, do_holds, join_holds, later, parts_of, still, told_holds, turn_holds, untold}
 
-module _ (skew greatest : ℕ) (told : List Told) (w : Served) (h : HoldsOf skew greatest told w) (now : ℕ) (within : greatest ≤ now + skew) where
+-- what the test says
+pub is_less : (a b : ℕ) → nat_lt a b ≡ true → a < b
+is_less a b e = grind (arith, nat_tests, e)
+
+module _ (laws : SerialLaws) (count skew greatest : ℕ) (told : List Told) (w : Served) (h : HoldsOf count skew greatest told w) (now : ℕ) (within : greatest ≤ now + skew) (some : 1 ≤ count) where
   abbrev Is : Served → Type 0
-  Is v = Then skew greatest told w h now within [] v
+  Is v = Then laws count skew greatest told w h now within some [] v
 
-  -- ## A packet comes to the server
+  abbrev same : Is w
+  same = still laws count skew greatest told w h now within some
 
-  message_then : (s : Session) (heard : Option Peer) (links : Links) (m : ClientMsg) (rest : List ClientMsg) (o : Option Seat) → get w.seats s.0 ≡ o → up_of o ≡ m ∷ rest → Is (server_step false heard now (FromClient s m) (with_rest o s.0 rest (record w { post = links }))).world
-  message_then s heard links m rest None at up = absurd (cc)
-  message_then s heard links m rest (Some seat) at up =
-      untold skew greatest told w h now within (server_step false heard now (FromClient s m) (with_rest (Some seat) s.0 rest (record w { post = links }))).world
-      (message_holds skew greatest told w.term w.server w.seats w.journal h now within s seat m rest at up)
+  abbrev quietly : (v : Served) → HoldsOf count skew (max greatest now) told v → Is v
+  quietly v x = untold laws count skew greatest told w h now within some v x
 
-  server_hears_then : (s : Session) (heard : Option Peer) (x : Heard) (js : List Joined) (links : Links) (up : List ClientMsg) → up_of (get w.seats s.0) ≡ up → Is (server_hears now s heard x js up (record w { post = links })).world
-  server_hears_then s heard x [] links up e = still skew greatest told w h now within
-  server_hears_then s heard x (j ∷ js) links [] e = still skew greatest told w h now within
-  server_hears_then s heard x (j ∷ js) links (m ∷ rest) e = message_then s heard links m rest (get w.seats s.0) refl e
+  -- ## At a server that there is
 
-  to_server : (s : Session) (p : Packet) → Is (server_told now s p w).world
-  to_server s p =
-      let a = post_accepted w.post (Client s) p in
-      server_hears_then s (heard_in (Client s) p) a.heard a.heard.joined a.links (up_of (get w.seats s.0)) refl
+  module _ (k : ℕ) (c : Core) (post : Links) (at : slice_get w.servers k ≡ Some c) where
+    -- nothing but its links changes
+    unchanged : Holds count skew (max greatest now) told (record (parts_of w) { servers = slice_set w.servers k c })
+    unchanged = subst (λ (servers : List Core). Holds count skew (max greatest now) told (record (parts_of w) { servers = servers })) (sym (set_itself w.servers k c at)) (later laws count skew greatest told w h now within some)
+
+    abbrev hearing : Peer → Option Peer → Heard → List Joined → Option ServerEvent → Links → Served
+    hearing from heard x js first links = (with_server k (server_hears now k from heard x js first (record (at_server c post w) { post = links })) w).world
+
+    quiet_hears : (from : Peer) (heard : Option Peer) (x : Heard) (first : Option ServerEvent) (links : Links) → Is (hearing from heard x [] first links)
+    quiet_hears from heard x first links = quietly (hearing from heard x [] first links) unchanged
+
+    none_hears : (from : Peer) (heard : Option Peer) (x : Heard) (j : Joined) (js : List Joined) (links : Links) → Is (hearing from heard x (j ∷ js) None links)
+    none_hears from heard x j js links = quietly (hearing from heard x (j ∷ js) None links) unchanged
+
+    -- a session's message, if one is there
+    message_then : (s : Session) (seat : Seat) (heard : Option Peer) (x : Heard) (j : Joined) (js : List Joined) (links : Links) (o : Option (ℕ × ClientMsg)) → get w.seats s.0 ≡ Some seat → find (is_with k) seat.up ≡ o
+        → Is (hearing (Client s) heard x (j ∷ js) (elim o as (λ _. Option ServerEvent) [ None ↦ None | Some m ↦ Some (FromClient s m.1) ]) links)
+    message_then s seat heard x j js links None is first = none_hears (Client s) heard x j js links
+    message_then s seat heard x j js links (Some m) is first =
+        quietly (hearing (Client s) heard x (j ∷ js) (Some (FromClient s m.1)) links)
+        (subst (λ (o : Option Seat). Holds count skew (max greatest now) told (after_core laws count skew greatest told (parts_of w) h now k c at (FromClient s m.1) (without_up k o s.0 w.seats))) (sym is)
+        (message_holds laws count skew greatest told (parts_of w) h now k c at s seat m is first))
+
+    session_hears : (s : Session) (o : Option Seat) → get w.seats s.0 ≡ o → (heard : Option Peer) (x : Heard) (js : List Joined) (links : Links) → Is (hearing (Client s) heard x js (up_first k s o) links)
+    session_hears s o is heard x [] links = quiet_hears (Client s) heard x (up_first k s o) links
+    session_hears s None is heard x (j ∷ js) links = none_hears (Client s) heard x j js links
+    session_hears s (Some seat) is heard x (j ∷ js) links = message_then s seat heard x j js links (find (is_with k) seat.up) is refl
+
+    -- a parcel, if one is there
+    parcel_then : (i : ℕ) (heard : Option Peer) (x : Heard) (j : Joined) (js : List Joined) (links : Links) (o : Option Flying) → find (is_between i k) w.flying ≡ o
+        → Is (hearing (Server i) heard x (j ∷ js) (elim o as (λ _. Option ServerEvent) [ None ↦ None | Some f ↦ Some (FromPeer i (OfParcel f.parcel)) ]) links)
+    parcel_then i heard x j js links None first = none_hears (Server i) heard x j js links
+    parcel_then i heard x j js links (Some f) first =
+        quietly (hearing (Server i) heard x (j ∷ js) (Some (FromPeer i (OfParcel f.parcel))) links)
+        (server_holds laws count skew greatest told (parts_of w) h now k c at (FromPeer i (OfParcel f.parcel)) w.seats refl (λ x i. i)
+        (parcel_there laws count skew greatest told (parts_of w) h now k c at i f first)
+        (parcel_of_joined laws count skew greatest told (parts_of w) h now k c at i f first))
+
+    server_hears_then : (i : ℕ) (heard : Option Peer) (x : Heard) (js : List Joined) (links : Links) → Is (hearing (Server i) heard x js (first_from k (Server i) w.seats w.flying) links)
+    server_hears_then i heard x [] links = quiet_hears (Server i) heard x (first_from k (Server i) w.seats w.flying) links
+    server_hears_then i heard x (j ∷ js) links = parcel_then i heard x j js links (find (is_between i k) w.flying) refl
+
+    told_server : (from : Peer) (p : Packet) → Is (with_server k (server_told now k from p (at_server c post w)) w).world
+    told_server (Client s) p =
+        let a = post_accepted post (Client s) p in
+        session_hears s (get w.seats s.0) refl (heard_in (Client s) p) a.heard a.heard.joined a.links
+    told_server (Server i) p =
+        let a = post_accepted post (Server i) p in
+        server_hears_then i (heard_in (Server i) p) a.heard a.heard.joined a.links
+
+    -- what no message brings
+    own_step : (turn : Bool) (e : ServerEvent) → lines_of w.term w.seats ≡ without_question k e (lines_of w.term w.seats) → IsThere k e (cluster_of h.replied (parts_of w)) → IsAsked (HasJoined w.seats) e
+        → Holds count skew (max greatest now) told (after_core laws count skew greatest told (parts_of w) h now k c at e w.seats)
+    own_step turn e taken there asker = server_holds laws count skew greatest told (parts_of w) h now k c at e w.seats taken (λ x i. i) there asker
+
+  -- ## At any server
+
+  told_at_server : (k : ℕ) (from : Peer) (p : Packet) (c : Option Core) (post : Option Links) → slice_get w.servers k ≡ c → Is (server_told_at c post now k from p w).world
+  told_at_server k from p (Some c) (Some post) at = told_server k c post at from p
+  told_at_server k from p (Some c) None at = same
+  told_at_server k from p None (Some post) at = same
+  told_at_server k from p None None at = same
+
+  turn_at_server : (k : ℕ) (c : Option Core) (post : Option Links) → slice_get w.servers k ≡ c → Is (server_step_at c post k true now TheTurn w).world
+  turn_at_server k (Some c) (Some post) at = quietly (server_step_at (Some c) (Some post) k true now TheTurn w).world (own_step k c post at true TheTurn refl tt tt)
+  turn_at_server k (Some c) None at = same
+  turn_at_server k None (Some post) at = same
+  turn_at_server k None None at = same
+
+  recall_at_server : (k : ℕ) (field : Field) (c : Option Core) (post : Option Links) → slice_get w.servers k ≡ c → Is (server_step_at c post k false now (TheRecall field) w).world
+  recall_at_server k field (Some c) (Some post) at = quietly (server_step_at (Some c) (Some post) k false now (TheRecall field) w).world (own_step k c post at false (TheRecall field) refl tt tt)
+  recall_at_server k field (Some c) None at = same
+  recall_at_server k field None (Some post) at = same
+  recall_at_server k field None None at = same
+
+  move_at_server : (k : ℕ) (prefix : List ℕ) (to : ℕ) (c : Option Core) (post : Option Links) → slice_get w.servers k ≡ c → to < length w.servers → Is (server_step_at c post k false now (TheMove prefix to) w).world
+  move_at_server k prefix to (Some c) (Some post) at few = quietly (server_step_at (Some c) (Some post) k false now (TheMove prefix to) w).world (own_step k c post at false (TheMove prefix to) refl few tt)
+  move_at_server k prefix to (Some c) None at few = same
+  move_at_server k prefix to None (Some post) at few = same
+  move_at_server k prefix to None None at few = same
+
+  -- ## A packet is told
 
   comes_then : (from to : Peer) (p : Packet) → Is (comes now from to p w).world
-  comes_then (Client s) (Server k) p = to_server s p
-  comes_then (Client r) (Client s) p = told_holds skew greatest told w h now within s p (get w.seats s.0) refl
-  comes_then (Server j) (Client s) p = told_holds skew greatest told w h now within s p (get w.seats s.0) refl
-  comes_then (Server j) (Server k) p = still skew greatest told w h now within
+  comes_then (Client s) (Server k) p = told_at_server k (Client s) p (slice_get w.servers k) (slice_get w.posts k) refl
+  comes_then (Server j) (Server k) p = told_at_server k (Server j) p (slice_get w.servers k) (slice_get w.posts k) refl
+  comes_then (Server j) (Client s) p = told_holds laws count skew greatest told w h now within some s j p (get w.seats s.0) refl
+  comes_then (Client r) (Client s) p = same
 
   arrives_then : (from to : Peer) (p : Option Packet) → Is (arrives now from to p w).world
-  arrives_then from to None = still skew greatest told w h now within
+  arrives_then from to None = same
   arrives_then from to (Some p) = comes_then from to p
 
   -- that it counts as told is of no matter
   tell_then : (o : Option Sent) (k : ℕ) → Is (tell_at o now k w).world
-  tell_then None k = still skew greatest told w h now within
+  tell_then None k = same
   tell_then (Some x) k = arrives_then x.from x.to (packet_at x.bytes)
 
   -- ## Each event
 
-  pub step_holds : (servers term : ℕ) (what : What) → may_happen (Servers servers skew term) what ≡ true → Then skew greatest told w h now within (told_in what (step_of w now what).outcome.notes) (step_of w now what).world
-  step_holds servers term (Join s) may = join_holds skew greatest told w h now within s (get w.seats s.0) refl
-  step_holds servers term (Do s o) may = do_holds skew greatest told w h now within s o (get w.seats s.0) refl may
-  step_holds servers term (Tell None) may = tell_then (slice_get w.packets.sent (first_untold w.packets.told)) (first_untold w.packets.told)
-  step_holds servers term (Tell (Some k)) may = tell_then (slice_get w.packets.sent k) k
-  step_holds servers term (Turn (Client s)) may = turn_holds skew greatest told w h now within s (get w.seats s.0) refl
-  step_holds servers term (Turn (Server k)) may = untold skew greatest told w h now within (server_step true None now TheTurn w).world (server_turn_holds skew greatest told w.term w.server w.seats w.journal h now within)
-  step_holds servers term (Recall k field) may = untold skew greatest told w h now within (server_step false None now (TheRecall field) w).world (recall_holds skew greatest told w.term w.server w.seats w.journal h now within field)
+  pub to_there : (to : ℕ) → nat_lt to count ≡ true → to < length w.servers
+  to_there to e = subst (λ (n : ℕ). to < n) (sym h.many) (is_less to count e)
+
+  pub step_holds : (term : ℕ) (what : What) → may_happen (Servers count skew term) what ≡ true → Then laws count skew greatest told w h now within some (told_in what (step_of w now what).outcome.notes) (step_of w now what).world
+  step_holds term (Join s) may = join_holds laws count skew greatest told w h now within some s (get w.seats s.0) refl
+  step_holds term (Do s o) may = do_holds laws count skew greatest told w h now within some s o (get w.seats s.0) refl may
+  step_holds term (Tell None) may = tell_then (slice_get w.packets.sent (first_untold w.packets.told)) (first_untold w.packets.told)
+  step_holds term (Tell (Some k)) may = tell_then (slice_get w.packets.sent k) k
+  step_holds term (Turn (Client s)) may = turn_holds laws count skew greatest told w h now within some s (get w.seats s.0) refl
+  step_holds term (Turn (Server k)) may = turn_at_server k (slice_get w.servers k) (slice_get w.posts k) refl
+  step_holds term (Recall k field) may = recall_at_server k field (slice_get w.servers k) (slice_get w.posts k) refl
+  step_holds term (Move k prefix to) may = move_at_server k prefix to (slice_get w.servers k) (slice_get w.posts k) refl (to_there to (both (nat_lt k count) (nat_lt to count) may).1)

@@ -1,109 +1,164 @@
--- What an event of the server makes of what holds of a world of the servers form.
-use Rattle.std.proofs.Common.{◌≡◌, ℕ, ◌+◌, ◌≤◌, max, List, [], ◌∷◌, ◌++◌, refl, ap, sym, ◌∙◌, subst, inl, arith}
-use Rattle.std.specs.Prelude.{Some}
+-- What an event of a server makes of what holds of a world of the servers form.
+use Rattle.std.proofs.Common.{◌≡◌, ℕ, ◌≤◌, ◌==◌, max, List, [], ◌∷◌, ◌++◌, map, ap, sym, ◌∙◌, subst, inl, inr, arith}
+use Rattle.std.proofs.lemmas.Bool.{eqb-true}
+use Rattle.std.specs.Prelude.{Option, Some, slice_get, slice_set}
 use Rattle.std.specs.FinMap.{get, insert}
+use Rattle.std.specs.List.{find}
 use Rattle.fs_ident.specs.In.{In}
 use Rattle.fs_ident.specs.declared.actor.Session.{Session}
-use Rattle.fs_field.specs.declared.field.Field.{Field}
+use Rattle.fs_ident.proofs.Booleans.{both}
+use Rattle.fs_ident.proofs.Passing.{found}
 use Rattle.fs_msg.specs.declared.client_msg.ClientMsg.{ClientMsg}
 use Rattle.fs_msg.specs.declared.client_msg.ClientMsg.TheVariants.{Ask, Renew, Release, Ship}
 use Rattle.fs_msg.specs.declared.entry.Entry.{Entry}
-use Rattle.fs_msg.specs.declared.item.Item.{Item}
-use Rattle.fs_server.specs.Server.{begun}
+use Rattle.fs_msg.specs.declared.peer_msg.PeerMsg.TheVariants.{Parcel as OfParcel}
 use Rattle.fs_server.specs.Step.{step}
 use Rattle.fs_server.specs.declared.event.ServerEvent.{ServerEvent}
-use Rattle.fs_server.specs.declared.event.ServerEvent.TheVariants.{FromClient, Turn, Recall}
+use Rattle.fs_server.specs.declared.event.ServerEvent.TheVariants.{FromClient, FromPeer, Turn, Recall, Move}
 use Rattle.fs_server.specs.declared.state.Server.{Server}
-use Rattle.fs_serial.specs.World.{Ends, IsThere, World, WorldHolds, after_server, with_sent, without_taken}
-use Rattle.fs_serial.proofs.Facts.{In-front}
-use Rattle.fs_serial.proofs.Rising.{world_later}
-use Rattle.fs_serial.proofs.ServerEvents.{one_up, server_keeps}
-use Rattle.fs_serial.proofs.ServerSame.{event_same}
+use Rattle.fs_serial.specs.Cluster.{Cluster, IsThere, Lines, after_server, after_server_at, flying_from, is_between, is_with, with_lines, with_sent, without_first, without_parcel, without_question}
+use Rattle.fs_serial.specs.Seen.{ClusterHolds, ends_of}
+use Rattle.fs_serial.specs.declared.flying.Flying.{Flying}
 use Rattle.fs_world.specs.Linked.{HasJoined}
 use Rattle.fs_world.specs.Order.{Told}
+use Rattle.fs_world.specs.Parts.{lines_in, lines_of}
 use Rattle.fs_world.specs.Served.{Seats, with_downs}
 use Rattle.fs_world.specs.declared.seat.Seat.{Seat}
-use Rattle.fs_world.proofs.LinkedRows.{IsAsked, IsOf, step_of}
-use Rattle.fs_world.proofs.LinkedServer.{joined_downs}
-use Rattle.fs_world.proofs.LinkedTies.{joined_still}
-use Rattle.fs_world.proofs.Fine.{EventAsks, EntriesAsk, MessageAsks, fine_more, step_fine}
-use Rattle.fs_world.specs.Parts.{ends_in, ends_of}
-use Rattle.fs_world.proofs.SeenSends.{sends_seen, taken_seen}
-use Rattle.fs_world.proofs.ServedHolds.{Holds}
+use Rattle.fs_world.proofs.Fine.{EntriesAsk, EventAsks, MessageAsks, fine_more, step_fine}
+use Rattle.fs_world.proofs.Replies.{in_grown, in_parts}
+use Rattle.fs_world.proofs.Seen.{joined_still, lines_put}
+use Rattle.fs_world.proofs.SeenLists.{got_in, left_in, set_in, set_length}
+use Rattle.fs_world.proofs.SeenRows.{IsAsked, IsOf, step_of}
+use Rattle.fs_world.proofs.SeenSends.{downs_joined, parcels_of_these, sends_seen}
+use Rattle.fs_world.proofs.SerialLaws.{SerialLaws}
+use Rattle.fs_world.proofs.ServedHolds.{Holds, Parts, cluster_of}
 
-module _ (skew greatest : ℕ) (told : List Told) (term : ℕ) (server : Server) (seats : Seats) (journal : List Item) (h : Holds skew greatest told term server seats journal) (now : ℕ) (within : greatest ≤ now + skew) where
-  abbrev w : World
-  w = record { server = server; journal = journal; replied = h.replied; ends = ends_of term seats }
+in_mapped : {X Y : Type 0} (f : X → Y) (x : X) (xs : List X) → In x xs → In (f x) (map f xs)
+in_mapped f x [] i = i
+in_mapped f x (y ∷ ys) (inl e) = inl (ap f e)
+in_mapped f x (y ∷ ys) (inr i) = inr (in_mapped f x ys i)
 
-  -- what is handed in asks for an access where it opens
-  entries_ask : (by : Session) (entries : List Entry) → In (Ship entries) (ends_of term seats by).up → EntriesAsk entries
+module _ (laws : SerialLaws) (count skew greatest : ℕ) (told : List Told) (p : Parts) (h : Holds count skew greatest told p) (now : ℕ) (k : ℕ) (s : Server) (at : slice_get p.servers k ≡ Some s) where
+  abbrev pub c : Cluster
+  c = cluster_of h.replied p
+
+  server_in : In s p.servers
+  server_in = got_in p.servers k s at
+
+  -- the server's readings were no greater
+  pub clock : s.last ≤ greatest
+  clock = (h.cluster.parts s server_in).clock
+
+  pub later_holds : ClusterHolds skew (max greatest now) c
+  later_holds = laws.rises skew greatest (max greatest now) c (omega arith) h.cluster
+
+  pub in_time : max s.last now ≤ max greatest now
+  in_time = let last = clock in omega arith
+
+  -- ## What is handed in asks for an access where it opens
+
+  entries_ask : (by : Session) (entries : List Entry) → In (Ship entries) (ends_of (lines_of p.term p.seats by)).up → EntriesAsk entries
   entries_ask by entries there e i =
-      let front = (h.world.exchanges by).front entries there in
-      ((h.world.all.fitting by).entries e (subst (λ es. In e es) (sym front.log) (In-front e entries front.rest i))).access
+      let parts = h.cluster.parts s server_in in
+      let front = (parts.exchanges by).front entries there in
+      ((parts.all.fitting by).entries e (subst (λ es. In e es) (sym front.log) (in_grown e entries front.rest i))).access
 
-  message_asks : (by : Session) (m : ClientMsg) → In m (ends_of term seats by).up → MessageAsks m
+  message_asks : (by : Session) (m : ClientMsg) → In m (ends_of (lines_of p.term p.seats by)).up → MessageAsks m
   message_asks by (Ship entries) there = entries_ask by entries there
   message_asks by (Ask items dir) there = tt
   message_asks by (Renew pairs) there = tt
   message_asks by (Release pairs) there = tt
 
-  event_asks : (e : ServerEvent) → IsThere e (ends_of term seats) → EventAsks e
-  event_asks (FromClient by m) there = message_asks by m there
+  event_asks : (e : ServerEvent) → IsThere k e c → EventAsks e
+  event_asks (FromClient by m) there = message_asks by m (in_mapped (λ (x : ℕ × ClientMsg). x.1) (k, m) (lines_of p.term p.seats by).up (found (is_with k) (lines_of p.term p.seats by).up (k, m) there).0)
+  event_asks (FromPeer from m) there = tt
   event_asks Turn there = tt
   event_asks (Recall field) there = tt
+  event_asks (Move prefix to) there = tt
 
-  -- these seats are as the server finds them
-  module _ (e : ServerEvent) (before : Seats) (taken : ends_of term before ≡ without_taken e (ends_of term seats)) (stay : (x : Session) → HasJoined seats x → HasJoined before x) (there : IsThere e (ends_of term seats)) (asker : IsAsked (HasJoined before) e) where
-    abbrev then : Server
-    then = (step server now e).server
+  -- ## An event, whose message is gone from these seats
 
-    step_is : IsOf (HasJoined before) (step server now e)
-    step_is = step_of (HasJoined before) server now e asker (λ row i. stay row.session (h.rows row i))
+  abbrev pub after_core : ServerEvent → Seats → Parts
+  after_core e before = record p {
+    servers = slice_set p.servers k (step s now e).server;
+    seats = with_downs k (step s now e).out.send before;
+    flying = without_parcel k e p.flying ++ flying_from k (step s now e).out.send;
+    journal = p.journal ++ (step s now e).out.admitted;
+  }
 
-    step_seen : after_server now e w ≡ record { server = then; journal = journal ++ (step server now e).out.admitted; replied = h.replied; ends = ends_of term (with_downs (step server now e).out.send before) }
-    step_seen = ap (λ (ends : Session → Ends). let v : World = record { server = then; journal = journal ++ (step server now e).out.admitted; replied = h.replied; ends = ends } in v)
-        (ap (with_sent (step server now e).out.send) (sym taken) ∙ sym (sends_seen term (step server now e).out.send before step_is.sends))
+  module _ (e : ServerEvent) (before : Seats) (taken : lines_of p.term before ≡ without_question k e (lines_of p.term p.seats)) (stay : (x : Session) → HasJoined p.seats x → HasJoined before x) (there : IsThere k e c) (asker : IsAsked (HasJoined before) e) where
+    step_is : IsOf (HasJoined before) (step s now e)
+    step_is = step_of (HasJoined before) s now e asker (λ row i. stay row.session (h.rows s server_in row i))
 
-    pub server_holds : Holds skew (max greatest now) told term then (with_downs (step server now e).out.send before) (journal ++ (step server now e).out.admitted)
-    server_holds =
-        let clock = h.world.clock in
-        record {
-          replied = h.replied;
-          world = subst (λ (v : World). WorldHolds (max greatest now) v) step_seen
-              (server_keeps (max greatest now) now e w (omega arith) there (world_later greatest (max greatest now) w (omega arith) h.world));
-          skewed = (event_same e (begun now server)).skew ∙ h.skewed;
-          rows = λ row i. joined_downs (step server now e).out.send before row.session (step_is.rows row i);
-          answered = h.answered;
-          items = fine_more journal (step server now e).out.admitted h.items (step_fine server now e (event_asks e there));
-        }
+    abbrev stepped : (Session → Lines) → Cluster
+    stepped lines = record { servers = slice_set p.servers k (step s now e).server; flying = without_parcel k e p.flying ++ flying_from k (step s now e).out.send; journal = p.journal ++ (step s now e).out.admitted; replied = h.replied; lines = lines }
+
+    pub core_seen : after_server now k e c ≡ cluster_of h.replied (after_core e before)
+    core_seen =
+        ap (λ (o : Option Server). after_server_at o now k e c) at
+        ∙ ap (λ (lines : Session → Lines). stepped lines) (ap (with_sent k (step s now e).out.send) (sym taken) ∙ sym (sends_seen p.term k (step s now e).out.send before step_is.sends))
+
+    joined_then : (x : Session) → HasJoined before x → HasJoined (after_core e before).seats x
+    joined_then x i = downs_joined k (step s now e).out.send before x i
+
+    left_there : (e : ServerEvent) (f : Flying) → In f (without_parcel k e p.flying) → In f p.flying
+    left_there (FromPeer from m) f i = left_in (is_between from k) f p.flying i
+    left_there (FromClient by m) f i = i
+    left_there Turn f i = i
+    left_there (Recall field) f i = i
+    left_there (Move prefix to) f i = i
+
+    pub server_holds : Holds count skew (max greatest now) told (after_core e before)
+    server_holds = record {
+      replied = h.replied;
+      cluster = subst (λ (d : Cluster). ClusterHolds skew (max greatest now) d) core_seen (laws.event skew (max greatest now) now k e s c at in_time there later_holds);
+      many = set_length p.servers k (step s now e).server ∙ h.many;
+      rows = rows;
+      parcels = parcels;
+      answered = h.answered;
+      items = fine_more p.journal (step s now e).out.admitted h.items (step_fine s now e (event_asks e there));
+    }
+      where
+        rows : (x : Server) → In x (after_core e before).servers → (row : _) → In row x.rows → HasJoined (after_core e before).seats row.session
+        rows x i row j = elim (set_in p.servers k (step s now e).server x i) as (λ _. HasJoined (after_core e before).seats row.session) [
+          | inl same ↦ joined_then row.session (step_is.rows row (subst (λ (y : Server). In row y.rows) same j))
+          | inr old ↦ joined_then row.session (stay row.session (h.rows x old row j))
+        ]
+
+        parcels : (f : Flying) → In f (after_core e before).flying → (row : _) → In row f.parcel.rows → HasJoined (after_core e before).seats row.session
+        parcels f i row j = elim (in_parts f (without_parcel k e p.flying) (flying_from k (step s now e).out.send) i) as (λ _. HasJoined (after_core e before).seats row.session) [
+          | inl old ↦ joined_then row.session (stay row.session (h.parcels f (left_there e f old) row j))
+          | inr new ↦ joined_then row.session (parcels_of_these (HasJoined before) k (step s now e).out.send step_is.sends f new row j)
+        ]
 
   -- ## A message that comes
 
-  nothing_behind : (m : ClientMsg) (rest up : List ClientMsg) → up ≡ m ∷ rest → up ≡ m ∷ [] → rest ≡ []
-  nothing_behind m rest up a b = cc
+  -- the question of the session is there, as it was found
+  pub question_there : (by : Session) (seat : Seat) (m : ℕ × ClientMsg) → get p.seats by.0 ≡ Some seat → find (is_with k) seat.up ≡ Some m → IsThere k (FromClient by m.1) c
+  question_there by seat m is first =
+      ap (λ (n : Lines). find (is_with k) n.up) (ap (lines_in p.term by) is) ∙ first
+      ∙ ap (λ (j : ℕ). let o : Option (ℕ × ClientMsg) = Some (j, m.1) in o) (eqb-true m.0 k (found (is_with k) seat.up m first).1)
 
-  module _ (by : Session) (seat : Seat) (m : ClientMsg) (rest : List ClientMsg) (at : get seats by.0 ≡ Some seat) (up : seat.up ≡ m ∷ rest) where
-    first_up : (ends_of term seats by).up ≡ m ∷ rest
-    first_up = ap (λ (n : Ends). n.up) (ap (ends_in term by) at) ∙ up
+  pub question_taken : (by : Session) (seat : Seat) (m : ClientMsg) → get p.seats by.0 ≡ Some seat
+      → lines_of p.term (insert p.seats by.0 (record seat { up = without_first (is_with k) seat.up })) ≡ without_question k (FromClient by m) (lines_of p.term p.seats)
+  question_taken by seat m is =
+      lines_put p.term p.seats by (record seat { up = without_first (is_with k) seat.up })
+      ∙ ap (λ (n : Lines). with_lines by (record n { up = without_first (is_with k) n.up }) (lines_of p.term p.seats)) (sym (ap (lines_in p.term by) is))
 
-    there : In m (ends_of term seats by).up
-    there = subst (In m) (sym first_up) (inl refl)
+  pub message_holds : (by : Session) (seat : Seat) (m : ℕ × ClientMsg) → get p.seats by.0 ≡ Some seat → find (is_with k) seat.up ≡ Some m
+      → Holds count skew (max greatest now) told (after_core (FromClient by m.1) (insert p.seats by.0 (record seat { up = without_first (is_with k) seat.up })))
+  message_holds by seat m is first = server_holds (FromClient by m.1) (insert p.seats by.0 (record seat { up = without_first (is_with k) seat.up }))
+      (question_taken by seat m.1 is) (λ x i. joined_still p.seats by x (record seat { up = without_first (is_with k) seat.up }) i) (question_there by seat m is first)
+      (joined_still p.seats by by (record seat { up = without_first (is_with k) seat.up }) (seat, is))
 
-    none : rest ≡ []
-    none = nothing_behind m rest (ends_of term seats by).up first_up (one_up (ends_of term seats by).client (ends_of term seats by).client.exchange (ends_of term seats by).up (ends_of term seats by).down m there (h.world.exchanges by).one)
+  -- the parcel is there, as it was found
+  parcel_is : (j : ℕ) (f : Flying) → f.from ≡ j → f.to ≡ k → f ≡ record { from = j; to = k; parcel = f.parcel }
+  parcel_is j f a b = ap (λ (i : ℕ). let g : Flying = record { from = i; to = f.to; parcel = f.parcel } in g) a ∙ ap (λ (i : ℕ). let g : Flying = record { from = j; to = i; parcel = f.parcel } in g) b
 
-    abbrev before : Seats
-    before = insert seats by.0 (record seat { up = rest })
+  pub parcel_there : (j : ℕ) (f : Flying) → find (is_between j k) p.flying ≡ Some f → IsThere k (FromPeer j (OfParcel f.parcel)) c
+  parcel_there j f first =
+      let is = both (f.from == j) (f.to == k) (found (is_between j k) p.flying f first).1 in
+      first ∙ ap (λ (g : Flying). let o : Option Flying = Some g in o) (parcel_is j f (eqb-true f.from j is.0) (eqb-true f.to k is.1))
 
-    pub message_holds : Holds skew (max greatest now) told term (step server now (FromClient by m)).server (with_downs (step server now (FromClient by m)).out.send before) (journal ++ (step server now (FromClient by m)).out.admitted)
-    message_holds = server_holds (FromClient by m) before
-        (ap (λ (us : List ClientMsg). ends_of term (insert seats by.0 (record seat { up = us }))) none ∙ taken_seen term seats by seat at)
-        (λ x i. joined_still seats by x (record seat { up = rest }) i) there (joined_still seats by by (record seat { up = rest }) (seat, at))
-
-  -- ## What the server does of itself
-
-  pub turn_holds : Holds skew (max greatest now) told term (step server now Turn).server (with_downs (step server now Turn).out.send seats) (journal ++ (step server now Turn).out.admitted)
-  turn_holds = server_holds Turn seats refl (λ x i. i) tt tt
-
-  pub recall_holds : (field : Field) → Holds skew (max greatest now) told term (step server now (Recall field)).server (with_downs (step server now (Recall field)).out.send seats) (journal ++ (step server now (Recall field)).out.admitted)
-  recall_holds field = server_holds (Recall field) seats refl (λ x i. i) tt tt
+  pub parcel_of_joined : (j : ℕ) (f : Flying) → find (is_between j k) p.flying ≡ Some f → IsAsked (HasJoined p.seats) (FromPeer j (OfParcel f.parcel))
+  parcel_of_joined j f first = h.parcels f (found (is_between j k) p.flying f first).0

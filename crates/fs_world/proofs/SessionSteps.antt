@@ -1,10 +1,13 @@
 -- Every event of a session keeps what holds of a world of the servers form.
-use Rattle.std.proofs.Common.{◌≡◌, ℕ, ◌+◌, ◌≤◌, ◌==◌, max, Bool, true, false, List, [], ◌∷◌, ◌++◌, cond, refl, ap, sym, ◌∙◌, subst, arith}
+use Rattle.std.proofs.Common.{◌≡◌, ℕ, ◌+◌, ◌≤◌, max, true, List, [], ◌∷◌, ◌++◌, refl, ap, sym, ◌∙◌, subst, arith}
+use Rattle.std.proofs.lemmas.Bool.{eqb-true}
 use Rattle.std.specs.Prelude.{Option, Some, None}
 use Rattle.std.specs.FinMap.{get, insert}
-use mathlib.Core.Path.{fun_ext}
+use Rattle.std.specs.List.{find}
 use Rattle.fs_ident.specs.declared.actor.Peer.{Peer}
+use Rattle.fs_ident.specs.declared.actor.Peer.TheVariants.{Server}
 use Rattle.fs_ident.specs.declared.actor.Session.{Session}
+use Rattle.fs_ident.proofs.Passing.{found}
 use Rattle.fs_frag.specs.declared.joined.Joined.{Joined}
 use Rattle.fs_window.specs.Post.{Links, post_accepted}
 use Rattle.fs_window.specs.declared.heard.Heard.{Heard}
@@ -19,23 +22,27 @@ use Rattle.fs_client.specs.Answers.{answer_plan}
 use Rattle.fs_client.specs.Client.{committed}
 use Rattle.fs_client.specs.Turns.{turn_plan}
 use Rattle.fs_client.specs.declared.plan.Plan.{Plan}
-use Rattle.fs_serial.specs.World.{Does, Ends, Hears, Turns, World, WorldHolds, after_plan, is_called, message_in, pushed}
+use Rattle.fs_serial.specs.Cluster.{Cluster, Lines, after_plan, is_with, without_first}
+use Rattle.fs_serial.specs.Cluster.ClientEvent.{Does, Hears, Turns}
+use Rattle.fs_serial.specs.World.{is_called, pushed}
 use Rattle.fs_world.specs.Order.{Told, replies_in}
-use Rattle.fs_world.specs.Served.{client_acts, client_hears, client_told, client_turns, do_at, heard_in, join_at, the_server, told_at, turn_at, up_after, with_read, with_seat}
+use Rattle.fs_world.specs.Parts.{lines_in, lines_of}
+use Rattle.fs_world.specs.Served.{client_acts, client_hears, client_told, client_turns, do_at, heard_in, join_at, told_at, turn_at, up_after, with_read, with_seat}
 use Rattle.fs_world.specs.declared.seat.Seat.{Seat}
 use Rattle.fs_world.specs.declared.served.Served.{Served}
 use Rattle.fs_world.proofs.Fine.{act_fine, answer_fine, turn_fine}
-use Rattle.fs_world.proofs.LinkedTies.{rows_still}
-use Rattle.fs_world.specs.Parts.{ends_in, ends_of}
-use Rattle.fs_world.proofs.SeenSends.{ends_changed}
-use Rattle.fs_world.proofs.ServedHolds.{Holds, client_holds, holds_joined, holds_later, holds_untold}
+use Rattle.fs_world.proofs.SerialLaws.{SerialLaws}
+use Rattle.fs_world.proofs.ServedHolds.{Holds, Parts, a_server, client_holds, cluster_of, holds_joined, holds_later, holds_posted, holds_untold, with_seats}
 use Rattle.fs_world.proofs.Told.{act_tells}
 
-abbrev pub HoldsOf : ℕ → ℕ → List Told → Served → Type 0
-HoldsOf skew greatest told w = Holds skew greatest told w.term w.server w.seats w.journal
+abbrev pub parts_of : Served → Parts
+parts_of w = record { term = w.term; servers = w.servers; seats = w.seats; flying = w.flying; journal = w.journal }
+
+abbrev pub HoldsOf : ℕ → ℕ → ℕ → List Told → Served → Type 0
+HoldsOf count skew greatest told w = Holds count skew greatest told (parts_of w)
 
 -- as two definitions write it
-up_pushed : (send : Option (ℕ × ClientMsg)) (up : List ClientMsg) → up_after send up ≡ pushed (message_in send) up
+up_pushed : (send : Option (ℕ × ClientMsg)) (up : List (ℕ × ClientMsg)) → up_after send up ≡ pushed send up
 up_pushed None up = refl
 up_pushed (Some m) up = refl
 
@@ -43,75 +50,77 @@ read_pushed : (o : Option Item) (journal : List Item) → pushed o journal ≡ w
 read_pushed None journal = refl
 read_pushed (Some i) journal = refl
 
-module _ (skew greatest : ℕ) (told : List Told) (w : Served) (h : HoldsOf skew greatest told w) (now : ℕ) (within : greatest ≤ now + skew) where
+-- the answer is the first of the server's, as it was found
+pub answer_found : (k : ℕ) (down : List (ℕ × Answer)) (m : ℕ × Answer) → find (is_with k) down ≡ Some m → find (is_with k) down ≡ Some (k, m.1)
+answer_found k down m first = first ∙ ap (λ (j : ℕ). let o : Option (ℕ × Answer) = Some (j, m.1) in o) (eqb-true m.0 k (found (is_with k) down m first).1)
+
+module _ (laws : SerialLaws) (count skew greatest : ℕ) (told : List Told) (w : Served) (h : HoldsOf count skew greatest told w) (now : ℕ) (within : greatest ≤ now + skew) (some : 1 ≤ count) where
   -- this was told, and the world is this
   abbrev pub Then : List Told → Served → Type 0
-  Then new v = HoldsOf skew (max greatest now) (told ++ new) v
+  Then new v = HoldsOf count skew (max greatest now) (told ++ new) v
 
-  pub later : HoldsOf skew (max greatest now) told w
-  later = holds_later skew greatest (max greatest now) told w.term w.server w.seats w.journal (omega arith) h
+  pub later : HoldsOf count skew (max greatest now) told w
+  later = holds_later laws count skew greatest told (parts_of w) h (max greatest now) (omega arith)
 
-  pub untold : (v : Served) → HoldsOf skew (max greatest now) told v → Then [] v
-  untold v k = holds_untold skew (max greatest now) told v.term v.server v.seats v.journal k
+  pub untold : (v : Served) → HoldsOf count skew (max greatest now) told v → Then [] v
+  untold v k = holds_untold count skew (max greatest now) told (parts_of v) k
 
   pub still : Then [] w
   still = untold w later
 
-  abbrev seen : World
-  seen = record { server = w.server; journal = w.journal; replied = h.replied; ends = ends_of w.term w.seats }
+  abbrev seen : Cluster
+  seen = cluster_of h.replied (parts_of w)
 
   module _ (s : Session) (seat : Seat) (at : get w.seats s.0 ≡ Some seat) where
-    abbrev sits : Ends
-    sits = ends_in w.term s (Some seat)
+    abbrev sits : Lines
+    sits = lines_in w.term s (Some seat)
 
-    own : ends_of w.term w.seats s ≡ sits
-    own = ap (ends_in w.term s) at
+    own : lines_of w.term w.seats s ≡ sits
+    own = ap (lines_in w.term s) at
+
+    owned : seat.client.session ≡ s
+    owned =
+        let server = a_server w.servers (subst (λ (n : ℕ). 1 ≤ n) (sym h.many) some) in
+        ap (λ (n : Lines). n.client.session) (sym own) ∙ ((h.cluster.parts server.0 server.1).clients s).session
 
     -- ## Nothing but the links changes
 
-    same_ends : (b : Bool) (n : Ends) → cond b n n ≡ n
-    same_ends true n = refl
-    same_ends false n = refl
-
-    posted : (next : Seat) → ends_in w.term s (Some next) ≡ sits → Holds skew (max greatest now) (told ++ []) w.term w.server (insert w.seats s.0 next) w.journal
-    posted next e = record {
-      replied = still.replied;
-      world = subst (λ (ends : Session → Ends). WorldHolds (max greatest now) (record { server = w.server; journal = w.journal; replied = still.replied; ends = ends }))
-          (sym (ends_changed w.term w.seats s seat next (λ n. n) at e ∙ fun_ext (λ (x : Session). same_ends (s.0 == x.0) (ends_of w.term w.seats x)))) still.world;
-      skewed = still.skewed;
-      rows = rows_still w.seats s next w.server.rows still.rows;
-      answered = still.answered;
-      items = still.items;
-    }
+    posted : (next : Seat) → lines_in w.term s (Some next) ≡ sits → Holds count skew (max greatest now) (told ++ []) (with_seats (insert w.seats s.0 next) (parts_of w))
+    posted next e = holds_untold count skew (max greatest now) told (with_seats (insert w.seats s.0 next) (parts_of w)) (holds_posted laws count skew (max greatest now) told (parts_of w) later s seat at next e)
 
     -- ## The client does something
 
-    -- the seat is as planned
-    as_planned : {N : Type 0} (p : Plan N) (next : Seat) (rest : List Answer) → ends_in w.term s (Some next) ≡ record { client = committed p.ready seat.client; up = up_after p.out.send seat.up; down = rest }
-        → ends_in w.term s (Some next) ≡ record { client = committed p.ready seat.client; up = pushed (message_in p.out.send) seat.up; down = rest }
-    as_planned p next rest e = e ∙ ap (λ up. let n : Ends = record { client = committed p.ready seat.client; up = up; down = rest } in n) (up_pushed p.out.send seat.up)
+    abbrev lines_after : {N : Type 0} → Plan N → List (ℕ × ClientMsg) → List (ℕ × Answer) → Lines
+    lines_after p up rest = record { client = committed p.ready seat.client; up = up; down = rest }
 
-    journal_is : (o : Option Item) (new : List Told) (next : Seat) → Holds skew (max greatest now) (told ++ new) w.term w.server (insert w.seats s.0 next) (pushed o w.journal) → Holds skew (max greatest now) (told ++ new) w.term w.server (insert w.seats s.0 next) (with_read o w.journal)
-    journal_is o new next k = subst (λ journal. Holds skew (max greatest now) (told ++ new) w.term w.server (insert w.seats s.0 next) journal) (read_pushed o w.journal) k
+    -- the seat is as planned
+    as_planned : {N : Type 0} (p : Plan N) (next : Seat) (rest : List (ℕ × Answer)) → lines_in w.term s (Some next) ≡ lines_after p (up_after p.out.send seat.up) rest → lines_in w.term s (Some next) ≡ lines_after p (pushed p.out.send seat.up) rest
+    as_planned p next rest e = e ∙ ap (λ (up : List (ℕ × ClientMsg)). lines_after p up rest) (up_pushed p.out.send seat.up)
+
+    abbrev parts_with : Seat → List Item → Parts
+    parts_with next journal = record (parts_of w) { seats = insert w.seats s.0 next; journal = journal }
+
+    journal_is : (o : Option Item) (new : List Told) (next : Seat) → Holds count skew (max greatest now) (told ++ new) (parts_with next (pushed o w.journal)) → Holds count skew (max greatest now) (told ++ new) (parts_with next (with_read o w.journal))
+    journal_is o new next k = subst (λ journal. Holds count skew (max greatest now) (told ++ new) (parts_with next journal)) (read_pushed o w.journal) k
 
     acts : (o : Op) → is_called o ≡ true → Then (replies_in s o (note.Act (act_plan seat.client now o).out.note ∷ [])) (with_seat s (client_acts now s o seat w.journal w.packets) w).world
     acts o called =
         let p = act_plan seat.client now o in
         let next = (client_acts now s o seat w.journal w.packets).seat in
         let new = replies_in s o (note.Act p.out.note ∷ []) in
-        journal_is p.out.admitted new next (client_holds skew greatest told w.term w.server w.seats w.journal s seat at h now within (Does o) seat.down p next new
-        (ap (λ (n : Ends). after_plan s n.down (act_plan n.client now o) seen) own)
+        journal_is p.out.admitted new next (client_holds laws count skew greatest told (parts_of w) h s seat at now within (Does o) seat.down p next new
+        (ap (λ (n : Lines). after_plan s n.down (act_plan n.client now o) seen) own)
         called
         (as_planned p next seat.down refl)
         (act_fine seat.client now o called)
-        (act_tells s o seat.client now (ap (λ (n : Ends). n.client.session) (sym own) ∙ (h.world.clients s).session)))
+        (act_tells s o seat.client now owned))
 
     turns : Then [] (with_seat s (client_turns now s seat w.journal w.packets) w).world
     turns =
         let p = turn_plan seat.client now in
         let next = (client_turns now s seat w.journal w.packets).seat in
-        journal_is p.out.admitted [] next (client_holds skew greatest told w.term w.server w.seats w.journal s seat at h now within Turns seat.down p next []
-        (ap (λ (n : Ends). after_plan s n.down (turn_plan n.client now) seen) own)
+        journal_is p.out.admitted [] next (client_holds laws count skew greatest told (parts_of w) h s seat at now within Turns seat.down p next []
+        (ap (λ (n : Lines). after_plan s n.down (turn_plan n.client now) seen) own)
         tt
         (as_planned p next seat.down refl)
         (turn_fine seat.client now)
@@ -119,31 +128,32 @@ module _ (skew greatest : ℕ) (told : List Told) (w : Served) (h : HoldsOf skew
 
     -- ## A packet comes
 
-    answered : (heard : Option Peer) (x : Heard) (j : Joined) (js : List Joined) (links : Links) (a : Answer) (rest : List Answer) → seat.down ≡ a ∷ rest → Then [] (with_seat s (client_hears now s heard x (j ∷ js) (a ∷ rest) (record seat { post = links }) w.journal w.packets) w).world
-    answered heard x j js links a rest down =
-        let p = answer_plan seat.client now 0 a in
-        let next = (client_hears now s heard x (j ∷ js) (a ∷ rest) (record seat { post = links }) w.journal w.packets).seat in
-        journal_is p.out.admitted [] next (client_holds skew greatest told w.term w.server w.seats w.journal s seat at h now within (Hears a rest) rest p next []
-        (ap (λ (n : Ends). after_plan s rest (answer_plan n.client now 0 a) seen) own)
-        (ap (λ (n : Ends). n.down) own ∙ down)
+    answered : (k : ℕ) (heard : Option Peer) (x : Heard) (j : Joined) (js : List Joined) (links : Links) (m : ℕ × Answer) → find (is_with k) seat.down ≡ Some m → Then [] (with_seat s (client_hears now s k heard x (j ∷ js) (Some m) (record seat { post = links }) w.journal w.packets) w).world
+    answered k heard x j js links m first =
+        let p = answer_plan seat.client now k m.1 in
+        let next = (client_hears now s k heard x (j ∷ js) (Some m) (record seat { post = links }) w.journal w.packets).seat in
+        let rest = without_first (is_with k) seat.down in
+        journal_is p.out.admitted [] next (client_holds laws count skew greatest told (parts_of w) h s seat at now within (Hears k m.1) rest p next []
+        (ap (λ (n : Lines). after_plan s (without_first (is_with k) n.down) (answer_plan n.client now k m.1) seen) own)
+        (ap (λ (n : Lines). find (is_with k) n.down) own ∙ answer_found k seat.down m first)
         (as_planned p next rest refl)
-        (answer_fine seat.client now a)
+        (answer_fine seat.client now k m.1)
         (λ t i. absurd i))
 
-    hears : (heard : Option Peer) (x : Heard) (js : List Joined) (links : Links) (down : List Answer) → seat.down ≡ down → Then [] (with_seat s (client_hears now s heard x js down (record seat { post = links }) w.journal w.packets) w).world
-    hears heard x [] links down e = posted (client_hears now s heard x [] down (record seat { post = links }) w.journal w.packets).seat refl
-    hears heard x (j ∷ js) links [] e = posted (client_hears now s heard x (j ∷ js) [] (record seat { post = links }) w.journal w.packets).seat refl
-    hears heard x (j ∷ js) links (a ∷ rest) e = answered heard x j js links a rest e
+    hears : (k : ℕ) (heard : Option Peer) (x : Heard) (js : List Joined) (links : Links) (first : Option (ℕ × Answer)) → find (is_with k) seat.down ≡ first → Then [] (with_seat s (client_hears now s k heard x js first (record seat { post = links }) w.journal w.packets) w).world
+    hears k heard x [] links first e = posted (client_hears now s k heard x [] first (record seat { post = links }) w.journal w.packets).seat refl
+    hears k heard x (j ∷ js) links None e = posted (client_hears now s k heard x (j ∷ js) None (record seat { post = links }) w.journal w.packets).seat refl
+    hears k heard x (j ∷ js) links (Some m) e = answered k heard x j js links m e
 
-    comes : (p : Packet) → Then [] (with_seat s (client_told now s p seat w.journal w.packets) w).world
-    comes p =
-        let a = post_accepted seat.post the_server p in
-        hears (heard_in the_server p) a.heard a.heard.joined a.links seat.down refl
+    comes : (k : ℕ) (p : Packet) → Then [] (with_seat s (client_told now s k p seat w.journal w.packets) w).world
+    comes k p =
+        let a = post_accepted seat.post (Server k) p in
+        hears k (heard_in (Server k) p) a.heard a.heard.joined a.links (find (is_with k) seat.down) refl
 
   -- ## Each event at a session
 
   pub join_holds : (s : Session) (o : Option Seat) → get w.seats s.0 ≡ o → Then [] (join_at o s w).world
-  join_holds s None at = untold (join_at None s w).world (holds_joined skew (max greatest now) told w.term w.server w.seats w.journal s at later)
+  join_holds s None at = untold (join_at None s w).world (holds_joined laws count skew (max greatest now) told (parts_of w) later s at)
   join_holds s (Some seat) at = still
 
   pub do_holds : (s : Session) (op : Op) (o : Option Seat) → get w.seats s.0 ≡ o → is_called op ≡ true → Then (replies_in s op (do_at o now s op w).outcome.notes) (do_at o now s op w).world
@@ -154,6 +164,6 @@ module _ (skew greatest : ℕ) (told : List Told) (w : Served) (h : HoldsOf skew
   turn_holds s None at = still
   turn_holds s (Some seat) at = turns s seat at
 
-  pub told_holds : (s : Session) (p : Packet) (o : Option Seat) → get w.seats s.0 ≡ o → Then [] (told_at o now s p w).world
-  told_holds s p None at = still
-  told_holds s p (Some seat) at = comes s seat at p
+  pub told_holds : (s : Session) (k : ℕ) (p : Packet) (o : Option Seat) → get w.seats s.0 ≡ o → Then [] (told_at o now s k p w).world
+  told_holds s k p None at = still
+  told_holds s k p (Some seat) at = comes s seat at k p

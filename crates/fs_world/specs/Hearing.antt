@@ -1,10 +1,8 @@
--- What a session hears of the messages on their way to it.
-use Rattle.std.specs.Prelude.{List, [], ◌∷◌, Option, Some, None}
+-- What an actor hears of the messages on their way to it.
+use Rattle.std.specs.Prelude.{ℕ, List, [], ◌∷◌, Option, Some, None}
 use Rattle.fs_frag.specs.declared.joined.Joined.{Joined}
-use Rattle.fs_msg.specs.declared.answer.Answer.{Answer}
 
--- the first answer on its way, where a message came whole
-abbrev pub answer_heard : List Joined → List Answer → Option Answer
-answer_heard [] down = None
-answer_heard (j ∷ js) [] = None
-answer_heard (j ∷ js) (a ∷ down) = Some a
+-- the first message on its way, where a message came whole
+abbrev pub first_heard : {X : Type 0} → List Joined → Option X → Option X
+first_heard [] first = None
+first_heard (j ∷ js) first = first

@@ -1,6 +1,6 @@
--- What holds of the links between a server and its clients, whatever was lost, repeated or reordered: they carry the very
+-- What holds of the links between servers and clients, whatever was lost, repeated or reordered: they carry the very
 -- messages that are on their way, and these can be read.
-use Rattle.std.specs.Prelude.{◌≡◌, ℕ, ◌<◌, ◌^◌, true, false, List, [], ◌∷◌, map, length, Option, Some, None}
+use Rattle.std.specs.Prelude.{◌≡◌, ◌≢◌, ℕ, ◌<◌, ◌^◌, ◌≤◌, true, false, List, [], ◌∷◌, map, filter, length, slice_get, Option, Some, None, option_map}
 use Rattle.std.specs.List.{AllByRecursion}
 use Rattle.std.specs.FinMap.{get}
 use Rattle.fs_ident.specs.In.{In}
@@ -10,34 +10,66 @@ use Rattle.fs_ident.specs.declared.actor.Session.{Session}
 use Rattle.fs_field.specs.declared.row.Row.{Row}
 use Rattle.fs_frag.specs.declared.joined.Joined.{Joined}
 use Rattle.fs_frag.specs.declared.joined.Joined.TheVariants.{Whole}
-use Rattle.fs_window.specs.declared.link.Link.{Link}
-use Rattle.fs_window.specs.declared.packet.Packet.{Packet}
-use Rattle.fs_window.specs.declared.sent.Sent.{Sent}
-use Rattle.fs_window.specs.OnTheWay.{Carries, IsPacketOf}
-use Rattle.fs_window.specs.Packet.{IsPacket, packet_text}
-use Rattle.fs_window.specs.Peers.{same_peer}
-use Rattle.fs_window.specs.Post.{AreLinks, Links, link_with, new_link}
+use Rattle.fs_map.specs.Map.{Owners}
 use Rattle.fs_msg.specs.Ranges.{FitsMessage}
 use Rattle.fs_msg.specs.Readable.{is_readable}
 use Rattle.fs_msg.specs.Spelling.{message}
 use Rattle.fs_msg.specs.declared.answer.Answer.{Answer}
+use Rattle.fs_msg.specs.declared.answer.Answer.TheVariants.{Granted, Renewed, Released, Shipped}
 use Rattle.fs_msg.specs.declared.client_msg.ClientMsg.{ClientMsg}
+use Rattle.fs_msg.specs.declared.end.End.{End}
+use Rattle.fs_msg.specs.declared.end.End.TheVariants.{Moved}
 use Rattle.fs_msg.specs.declared.msg.Msg.{Msg}
 use Rattle.fs_msg.specs.declared.msg.Msg.TheVariants as msg
-use Rattle.fs_world.specs.Readable.{LogReadable, HandlesOpen}
-use Rattle.fs_world.specs.Served.{Seats, the_server, link_width}
+use Rattle.fs_msg.specs.declared.peer_msg.PeerMsg.TheVariants.{Parcel as OfParcel}
+use Rattle.fs_record.specs.Moving.{AreEachRecords}
+use Rattle.fs_serial.specs.Cluster.{is_between, is_with}
+use Rattle.fs_serial.specs.declared.flying.Flying.{Flying}
+use Rattle.fs_server.specs.declared.state.Server.{Server as Core}
+use Rattle.fs_window.specs.OnTheWay.{Carries, IsPacketOf}
+use Rattle.fs_window.specs.Packet.{IsPacket, packet_text}
+use Rattle.fs_window.specs.Peers.{same_peer}
+use Rattle.fs_window.specs.Post.{AreLinks, Links, link_with, new_link}
+use Rattle.fs_window.specs.declared.link.Link.{Link}
+use Rattle.fs_window.specs.declared.packet.Packet.{Packet}
+use Rattle.fs_window.specs.declared.sent.Sent.{Sent}
+use Rattle.fs_wire.specs.Readable.{is_readable_session}
+use Rattle.fs_world.specs.Readable.{HandlesOpen, LogReadable, RecordsOpen}
+use Rattle.fs_world.specs.Served.{Seats, link_width}
 use Rattle.fs_world.specs.declared.form.Form.{Form}
 use Rattle.fs_world.specs.declared.form.Form.TheVariants as form
 use Rattle.fs_world.specs.declared.seat.Seat.{Seat}
 use Rattle.fs_world.specs.declared.served.Served.{Served}
 
-abbrev pub from_session : List ClientMsg → List Msg
-from_session up = map (λ (m : ClientMsg). msg.Client m) up
+-- ## Who there is, and what is on its way between two
 
-abbrev pub to_session : List Answer → List Msg
-to_session down = map (λ (a : Answer). msg.Answer a) down
+abbrev pub seat_post : Option Seat → Option Links
+seat_post seat = option_map (λ (x : Seat). x.post) seat
 
--- ## One pair of links
+-- the links of an actor, if there is one: of a session that has joined, or of a server
+abbrev pub post_of : Served → Peer → Option Links
+post_of w (Client s) = seat_post (get w.seats s.0)
+post_of w (Server k) = slice_get w.posts k
+
+abbrev pub ups_of : ℕ → Option Seat → List Msg
+ups_of k None = []
+ups_of k (Some seat) = map (λ (m : ℕ × ClientMsg). msg.Client m.1) (filter (is_with k) seat.up)
+
+abbrev pub downs_of : ℕ → Option Seat → List Msg
+downs_of k None = []
+downs_of k (Some seat) = map (λ (m : ℕ × Answer). msg.Answer m.1) (filter (is_with k) seat.down)
+
+abbrev pub parcels_between : ℕ → ℕ → List Flying → List Msg
+parcels_between j k flying = map (λ (f : Flying). msg.Peer (OfParcel f.parcel)) (filter (is_between j k) flying)
+
+-- the messages from one actor to another, in order
+abbrev pub between : Served → Peer → Peer → List Msg
+between w (Client s) (Server k) = ups_of k (get w.seats s.0)
+between w (Server k) (Client s) = downs_of k (get w.seats s.0)
+between w (Server j) (Server k) = parcels_between j k w.flying
+between w (Client s) (Client t) = []
+
+-- ## The links of two actors
 
 -- these messages are on their way from one end of a link to the other, and each can be read
 pub record IsWay (from to : Link) (messages : List Msg) : Type 0 where
@@ -55,55 +87,95 @@ pub record IsSentOver (from to : Link) (bytes : List ℕ) : Type 0 where
 abbrev pub AreSentOver : Peer → Peer → Link → Link → List Sent → Type 0
 AreSentOver a b from to packets = (x : Sent) → In x packets → x.from ≡ a → x.to ≡ b → IsSentOver from to x.bytes
 
--- the links of two actors with each other: these messages are on their way from the first to the second, and these back
-pub record IsPair (a b : Peer) (here there : Link) (to_there to_here : List Msg) (packets : List Sent) : Type 0 where
-  pub out : IsWay here there to_there
-  pub back : IsWay there here to_here
-  pub going : AreSentOver a b here there packets
-  pub coming : AreSentOver b a there here packets
+-- one direction of the links of two actors
+pub record IsPair (a b : Peer) (here there : Link) (messages : List Msg) (sent : List Sent) : Type 0 where
+  pub way : IsWay here there messages
+  pub packets : AreSentOver a b here there sent
 
--- ## A session and the server
+-- ## All links
 
--- a session has one link, with the server, whose link with it is this one
-pub record IsSeated (there : Link) (packets : List Sent) (s : Session) (seat : Seat) : Type 0 where
-  pub me : seat.post.me ≡ Client s
-  pub width : seat.post.width ≡ link_width
-  pub session : seat.client.session ≡ s
-  pub links : AreLinks seat.post
-  pub alone : (other : Peer) → same_peer other the_server ≡ false → link_with seat.post other ≡ new_link link_width
-  pub pair : IsPair (Client s) the_server (link_with seat.post the_server) there (from_session seat.up) (to_session seat.down) packets
-  pub log : LogReadable seat.client
+pub record IsPost (a : Peer) (post : Links) : Type 0 where
+  pub me : post.me ≡ a
+  pub width : post.width ≡ link_width
+  pub links : AreLinks post
+  -- nothing goes to itself
+  pub own : link_with post a ≡ new_link link_width
 
-abbrev pub HasJoined : Seats → Session → Type 0
-HasJoined seats s = (seat : Seat) × (get seats s.0 ≡ Some seat)
+-- the actor is there
+abbrev pub IsThere : Served → Peer → Type 0
+IsThere w a = (post : Links) × (post_of w a ≡ Some post)
 
--- a packet goes between the server and a session that has joined
-abbrev pub GoesBetween : Seats → Peer → Peer → Type 0
-GoesBetween seats (Client s) (Server k) = (k ≡ 0) × HasJoined seats s
-GoesBetween seats (Server k) (Client s) = (k ≡ 0) × HasJoined seats s
-GoesBetween seats a b = ⊥
+pub record GoesBetween (w : Served) (x : Sent) : Type 0 where
+  pub from : IsThere w x.from
+  pub to : IsThere w x.to
+  pub apart : same_peer x.from x.to ≡ false
+
+-- the links of all actors carry what is on its way, and nothing was sent to, or heard of, an actor that is not there
+pub record AreTied (w : Served) : Type 0 where
+  pub posts : (a : Peer) (post : Links) → post_of w a ≡ Some post → IsPost a post
+  pub pairs : (a b : Peer) (p q : Links) → same_peer a b ≡ false → post_of w a ≡ Some p → post_of w b ≡ Some q → IsPair a b (link_with p b) (link_with q a) (between w a b) w.packets.sent
+  pub alone : (a b : Peer) (p : Links) → post_of w a ≡ Some p → post_of w b ≡ None → link_with p b ≡ new_link link_width
+  pub between : (x : Sent) → In x w.packets.sent → GoesBetween w x
+
+-- ## What is told of servers
+
+-- each server that the map names is there
+abbrev pub AreNamed : ℕ → Owners → Type 0
+AreNamed servers map = (e : List ℕ × ℕ) → In e map → e.1 < servers
+
+abbrev pub IsNamedEnd : ℕ → End → Type 0
+IsNamedEnd servers (Moved prefix to) = to < servers
+IsNamedEnd servers e = Unit {0}
+
+abbrev pub IsNamedAnswer : ℕ → Answer → Type 0
+IsNamedAnswer servers (Granted grants fresh e) = IsNamedEnd servers e
+IsNamedAnswer servers (Renewed rows e) = IsNamedEnd servers e
+IsNamedAnswer servers (Released count e) = IsNamedEnd servers e
+IsNamedAnswer servers (Shipped count e) = IsNamedEnd servers e
+IsNamedAnswer servers a = Unit {0}
 
 -- ## All of it
 
--- the server's links with each session, and with no other actor
-pub record AreTied (post : Links) (seats : Seats) (packets : List Sent) : Type 0 where
-  pub me : post.me ≡ the_server
-  pub width : post.width ≡ link_width
-  pub links : AreLinks post
-  pub alone : (k : ℕ) → link_with post (Server k) ≡ new_link link_width
-  pub seated : (s : Session) (seat : Seat) → get seats s.0 ≡ Some seat → IsSeated (link_with post (Client s)) packets s seat
-  -- nothing was sent to, or heard of, a session that has not joined
-  pub unjoined : (s : Session) → get seats s.0 ≡ None → link_with post (Client s) ≡ new_link link_width
-  pub between : (x : Sent) → In x packets → GoesBetween seats x.from x.to
+abbrev pub HasJoined : Seats → Session → Type 0
+HasJoined seats s = (seat : Seat) × (get seats s.0 ≡ Some seat)
 
 -- each row is of a session that has joined
 abbrev pub AreOfJoined : Seats → List Row → Type 0
 AreOfJoined seats rows = (row : Row) → In row rows → HasJoined seats row.session
 
+-- a server knows only of servers that there are, has rows of sessions that have joined, and handles that can be told
+pub record IsServed (servers : ℕ) (seats : Seats) (k : ℕ) (s : Core) : Type 0 where
+  pub me : s.me ≡ k
+  pub named : AreNamed servers s.map
+  pub handles : HandlesOpen s.records
+  pub rows : AreOfJoined seats s.rows
+
+-- a session asks servers that there are, and is told of such
+pub record IsSeated (servers : ℕ) (s : Session) (seat : Seat) : Type 0 where
+  pub number : is_readable_session s ≡ true
+  pub session : seat.client.session ≡ s
+  pub log : LogReadable seat.client
+  pub hints : AreNamed servers seat.client.hints
+  pub up : (m : ℕ × ClientMsg) → In m seat.up → m.0 < servers
+  pub down : (m : ℕ × Answer) → In m seat.down → (m.0 < servers) × IsNamedAnswer servers m.1
+
+-- so is a parcel, which goes from one server to another
+pub record IsCarried (servers : ℕ) (seats : Seats) (f : Flying) : Type 0 where
+  pub from : f.from < servers
+  pub to : f.to < servers
+  pub apart : f.from ≢ f.to
+  pub each : AreEachRecords f.parcel.records
+  pub handles : RecordsOpen f.parcel.records
+  pub rows : AreOfJoined seats f.parcel.rows
+
 pub record IsLinked (w : Served) : Type 0 where
-  pub ties : AreTied w.post w.seats w.packets.sent
-  pub handles : HandlesOpen w.server.records
-  pub rows : AreOfJoined w.seats w.server.rows
+  pub posts : length w.posts ≡ length w.servers
+  pub some : 1 ≤ length w.servers
+  pub few : length w.servers ≤ 15
+  pub ties : AreTied w
+  pub servers : (k : ℕ) (s : Core) → slice_get w.servers k ≡ Some s → IsServed (length w.servers) w.seats k s
+  pub seats : (s : Session) (seat : Seat) → get w.seats s.0 ≡ Some seat → IsSeated (length w.servers) s seat
+  pub flying : (f : Flying) → In f w.flying → IsCarried (length w.servers) w.seats f
 
 -- ## What a core is told
 

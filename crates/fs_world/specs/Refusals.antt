@@ -1,15 +1,15 @@
 -- What a server refuses, and that no actor is told what no honest actor sends.
-use Rattle.std.specs.Prelude.{◌≡◌, ◌≢◌, ℕ, ◌≤◌, Bool, true, false, ◌||◌, List, [], ◌∷◌}
+use Rattle.std.specs.Prelude.{◌≡◌, Bool, true, false, ◌||◌, List, [], ◌∷◌}
 use Rattle.std.specs.List.{AllByRecursion}
-use Rattle.fs_ident.specs.In.{In}
 use Rattle.fs_field.specs.declared.row.Row.{Row}
 use Rattle.fs_msg.specs.declared.client_note.ClientNote.TheVariants as client
-use Rattle.fs_msg.specs.declared.end.End.{End}
-use Rattle.fs_msg.specs.declared.end.End.TheVariants as end
 use Rattle.fs_msg.specs.declared.note.Note.{Note}
 use Rattle.fs_msg.specs.declared.note.Note.TheVariants as note
 use Rattle.fs_msg.specs.declared.server_note.ServerNote.TheVariants as server
 use Rattle.fs_schedule.specs.declared.event.Event.{Event}
+use Rattle.fs_serial.specs.Cluster.{parcels_of}
+use Rattle.fs_serial.specs.Joined.{rows_of_all}
+use Rattle.fs_serial.specs.Refusals.{IsFairNote}
 use Rattle.fs_schedule.specs.declared.outcome.Outcome.{Outcome}
 use Rattle.fs_world.specs.World.{step}
 use Rattle.fs_world.specs.declared.form.Form.{Form}
@@ -17,25 +17,15 @@ use Rattle.fs_world.specs.declared.form.Form.TheVariants.{Direct, Served}
 
 -- ## Refused entries
 
--- where an entry is refused, the lease that it used had ended at the reading, and no row has its number
-abbrev pub HadItsTime : List Row → End → Type 0
-HadItsTime rows (end.Ended n lease until now) = (until ≤ now) × ((r : Row) → In r rows → r.no ≢ lease)
-HadItsTime rows e = Unit {0}
-
--- entries are held back only behind a refused one
-abbrev pub HeldBackFor : List ℕ → End → Type 0
-HeldBackFor gaps (end.Ended n lease until now) = Unit {0}
-HeldBackFor gaps e = gaps ≡ []
-
--- what is noted where the server has these rows: no entry is refused but for a lease that had ended
+-- what is noted where these are all rows: no entry is refused but for a lease that had ended
 abbrev pub IsFair : List Row → Note → Type 0
-IsFair rows (note.Server (server.Admits count e gaps)) = HeldBackFor gaps e × HadItsTime rows e
+IsFair rows (note.Server n) = IsFairNote rows n
 IsFair rows n = Unit {0}
 
--- in the direct form there are no leases
+-- all rows of the servers and of the parcels on their way; in the direct form there are no leases
 abbrev pub rows_of : Form → List Row
 rows_of (Direct w) = []
-rows_of (Served w) = w.server.rows
+rows_of (Served w) = rows_of_all w.servers (parcels_of w.flying)
 
 -- each note of the events is so, one after another, from this world on
 abbrev pub AllFair : Form → List Event → Type 0

@@ -1,5 +1,5 @@
 -- The world of a schedule, whatever its form: its events, one after another.
-use Rattle.std.specs.Prelude.{◌≡◌, ℕ, ◌+◌, ◌≤◌, Bool, true, nat_lt, List, [], ◌∷◌, ◌++◌, length, Option, Some, None, if◌then◌else◌}
+use Rattle.std.specs.Prelude.{◌≡◌, ℕ, ◌+◌, ◌<◌, ◌≤◌, ◌&&◌, Bool, true, nat_lt, List, [], ◌∷◌, ◌++◌, length, Option, Some, None, if◌then◌else◌}
 use Rattle.std.specs.List.{AllByRecursion}
 use Rattle.fs_ident.specs.declared.limits.TheConstants.{SESSIONS}
 use Rattle.fs_model.specs.Asking.{may_ask}
@@ -13,9 +13,12 @@ use Rattle.fs_schedule.specs.declared.event.Head.{Head}
 use Rattle.fs_schedule.specs.declared.event.Head.TheVariants as head
 use Rattle.fs_schedule.specs.declared.event.Schedule.{Schedule}
 use Rattle.fs_schedule.specs.declared.event.What.{What}
-use Rattle.fs_schedule.specs.declared.event.What.TheVariants.{Do, Join}
+use Rattle.fs_schedule.specs.declared.event.What.TheVariants.{Do, Join, Move, Recall, Turn}
 use Rattle.fs_schedule.specs.declared.limits.TheConstants.{PACKETS}
 use Rattle.fs_schedule.specs.declared.outcome.Outcome.{Outcome}
+use Rattle.fs_ident.specs.declared.actor.Peer.TheVariants.{Server}
+use Rattle.fs_serial.specs.Cluster.{parcels_of}
+use Rattle.fs_serial.specs.Joined.{records_of_all}
 use Rattle.fs_serial.specs.World.{is_called}
 use Rattle.fs_window.specs.declared.sent.Sent.{Sent}
 use Rattle.fs_world.specs.Direct as direct
@@ -28,7 +31,7 @@ use Rattle.fs_world.specs.declared.form.Form.TheVariants.{Direct, Served}
 -- a world of the form before its first event
 abbrev pub first_world : Head → Form
 first_world head.Direct = Direct first_direct
-first_world (head.Servers servers skew term) = Served (first_served skew term)
+first_world (head.Servers servers skew term) = Served (first_served servers skew term)
 
 -- ## What stands in it
 
@@ -44,7 +47,7 @@ packets_of (Served w) = w.packets.sent
 -- the namespace that the servers hold together
 abbrev pub space_of : Form → NodeMap
 space_of (Direct w) = w.space
-space_of (Served w) = nodes_of w.server.records
+space_of (Served w) = nodes_of (records_of_all w.servers (parcels_of w.flying))
 
 -- ## One event
 
@@ -118,22 +121,28 @@ stop_of s = stop_in (first_world s.head) 2 s.events
 
 -- ## What callers may ask
 
--- an event of the form: with servers, callers ask for no open, close or set yet, nor for a delete or a rename
+-- an event of the form: with servers, callers ask for no delete or rename yet, and an event is one of servers that there are
 abbrev pub may_happen : Head → What → Bool
 may_happen head.Direct (Do s o) = may_ask o
 may_happen (head.Servers servers skew term) (Do s o) = is_called o
+may_happen (head.Servers servers skew term) (Turn (Server k)) = nat_lt k servers
+may_happen (head.Servers servers skew term) (Recall k field) = nat_lt k servers
+may_happen (head.Servers servers skew term) (Move k prefix to) = nat_lt k servers && nat_lt to servers
 may_happen h w = true
 
--- what callers may ask of a server's clients, and which sessions there are
-abbrev pub FitsServed : What → Type 0
-FitsServed (Join s) = (1 ≤ s.0) × (s.0 ≤ SESSIONS)
-FitsServed (Do s o) = is_called o ≡ true
-FitsServed what = Unit {0}
+-- what callers may ask of clients, and which sessions there are; so many servers are there
+abbrev pub FitsServed : ℕ → What → Type 0
+FitsServed servers (Join s) = (1 ≤ s.0) × (s.0 ≤ SESSIONS)
+FitsServed servers (Do s o) = is_called o ≡ true
+FitsServed servers (Turn (Server k)) = k < servers
+FitsServed servers (Recall k field) = k < servers
+FitsServed servers (Move k prefix to) = (k < servers) × (to < servers)
+FitsServed servers what = Unit {0}
 
 -- the event may happen to the world
 abbrev pub FitsWorld : Form → What → Type 0
 FitsWorld (Direct w) what = Unit {0}
-FitsWorld (Served w) what = FitsServed what
+FitsWorld (Served w) what = FitsServed (length w.servers) what
 
 -- each operation of the events is one that a caller may ask for
 abbrev pub AllMayHappen : Head → List Event → Type 0

@@ -1,5 +1,6 @@
-//! A session's events: its user's operation, its turn, and a packet of its server.
+//! A session's events: its user's operation, its turn, and a packet of a server.
 ghost use Rattle.std.specs.Prelude.{◌≡◌, ◌≤◌, ◌⊎◌, true, IfOk, IsErrOf, OnOk, OnErr, Some, None};
+ghost use Rattle.fs_ident.specs.declared.actor.Peer.TheVariants.{Server};
 ghost use Rattle.fs_ident.specs.declared.limits.TheConstants.{LATEST};
 ghost use Rattle.fs_model.specs.Asking.{may_ask};
 ghost use Rattle.fs_msg.specs.declared.answer.Answer.{Answer as TheAnswer};
@@ -10,8 +11,8 @@ ghost use Rattle.fs_client.specs.Acts.{act_plan};
 ghost use Rattle.fs_client.specs.Answers.{answer_plan};
 ghost use Rattle.fs_client.specs.Turns.{turn_plan};
 ghost use Rattle.fs_window.specs.Post.{post_accepted};
-ghost use Rattle.fs_world.specs.Linked.{FitsUp, IsFirstOf, to_session};
-ghost use Rattle.fs_world.specs.Served.{client_acts, client_told, client_turns, the_server};
+ghost use Rattle.fs_world.specs.Linked.{FitsUp, IsFirstOf, downs_of};
+ghost use Rattle.fs_world.specs.Served.{client_acts, client_told, client_turns};
 
 use crate::does::does;
 use crate::goes::heard_in;
@@ -135,47 +136,49 @@ pub(crate) fn turns(
     )
 }
 
-/// A packet of the server comes to the session. After an error all is as it was.
+/// A packet of the server of number `k` comes to the session. After an error all is as it was.
 pub(crate) fn told(
     alloc: Global,
     now: u64,
     s: Session,
+    k: u8,
     p: &Packet,
     seat: &mut Seat,
     journal: &mut List<Item>,
     packets: &mut Packets,
 ) -> Result<Outcome, CoreError>
     requires reading { now ≤ LATEST }
-    requires comes { IsFirstOf (post_accepted seat.old.post the_server p.now).heard.joined
-        (to_session seat.old.down) }
+    requires comes { IsFirstOf (post_accepted seat.old.post (Server k) p.now).heard.joined
+        (downs_of k (Some seat.old)) }
     ensures outcome { IfOk result (λ o. o ≡
-        (client_told now s p.now seat.old journal.old packets.old).outcome) }
+        (client_told now s k p.now seat.old journal.old packets.old).outcome) }
     ensures seat { OnOk result (seat.new ≡
-        (client_told now s p.now seat.old journal.old packets.old).seat) }
+        (client_told now s k p.now seat.old journal.old packets.old).seat) }
     ensures journal { OnOk result (journal.new ≡
-        (client_told now s p.now seat.old journal.old packets.old).journal) }
+        (client_told now s k p.now seat.old journal.old packets.old).journal) }
     ensures packets { OnOk result (packets.new ≡
-        (client_told now s p.now seat.old journal.old packets.old).packets) }
+        (client_told now s k p.now seat.old journal.old packets.old).packets) }
     ensures room { OnOk result (
-        (client_told now s p.now seat.old journal.old packets.old).spent ≡ None) }
+        (client_told now s k p.now seat.old journal.old packets.old).spent ≡ None) }
     ensures fits { (a : TheAnswer) →
-        OnOk result (FitsUp (answer_plan seat.old.client now 0 a).out.send) }
+        OnOk result (FitsUp (answer_plan seat.old.client now k a).out.send) }
     ensures spent { (counter : TheCounter) → IsErrOf result (errors.Spent counter) →
-        (client_told now s p.now seat.old journal.old packets.old).spent ≡ Some counter }
+        (client_told now s k p.now seat.old journal.old packets.old).spent ≡ Some counter }
     ensures only { (counter : TheCounter) →
-        (client_told now s p.now seat.old journal.old packets.old).spent ≡ Some counter →
+        (client_told now s k p.now seat.old journal.old packets.old).spent ≡ Some counter →
         IsErrOf result (errors.Spent counter) ⊎ IsErrOf result errors.Memory }
     ensures err_seat { OnErr result (seat.new ≡ seat.old) }
     ensures err_journal { OnErr result (journal.new ≡ journal.old) }
     ensures err_packets { OnErr result (packets.new ≡ packets.old) }
 {
-    let server = Peer::Server(0);
+    let server = Peer::Server(k);
     let mut undo = Undo::new(alloc);
     let heard = seat.post.accept_with_undo(alloc, server, p, &mut undo)?;
     match hears(
         alloc,
         now,
         s,
+        k,
         heard_in(server, p),
         &heard,
         seat,

@@ -50,7 +50,7 @@ impl Direct {
         match what {
             What::Join(s) => Ok(self.join(alloc, *s)?),
             What::Do(s, op) => self.act(alloc, *s, op),
-            What::Tell(_) | What::Turn(_) | What::Recall(_, _) => {
+            What::Tell(_) | What::Turn(_) | What::Recall(_, _) | What::Move { .. } => {
                 Ok(outcome(alloc, None, Note::Nothing)?)
             }
         }

@@ -1,6 +1,7 @@
 //! A client does what it planned.
 ghost use Rattle.std.specs.Prelude.{◌≡◌, ◌⊎◌, ◌∷◌, [], ◌++◌, true, false, length, take, IfOk, IsErrOf, OnOk, OnErr, Some, None};
 ghost use Rattle.fs_client.specs.Client.{can_commit, committed};
+ghost use Rattle.fs_ident.specs.declared.actor.Peer.TheVariants.{Server};
 ghost use Rattle.fs_msg.specs.Spelling.{message};
 ghost use Rattle.fs_msg.specs.declared.core_error.Counter.{Counter as TheCounter};
 ghost use Rattle.fs_msg.specs.declared.core_error.Counter.TheVariants.{Segments};
@@ -10,7 +11,7 @@ ghost use Rattle.fs_window.specs.Post.{post_due, post_pushed};
 ghost use Rattle.fs_window.specs.Undo.{undone};
 ghost use Rattle.fs_world.specs.Linked.{FitsUp, IsWritten};
 ghost use Rattle.fs_world.specs.Packets.{with_sent};
-ghost use Rattle.fs_world.specs.Served.{client_does, is_full_for, is_full_up, post_after, seat_goes, the_server, up_after, with_read};
+ghost use Rattle.fs_world.specs.Served.{client_does, is_full_for, is_full_up, post_after, seat_goes, up_after, with_read};
 
 use crate::goes::{refusal, send_due};
 use crate::packets::Packets;
@@ -163,12 +164,12 @@ fn push_read(admitted: Option<Item>, journal: &mut List<Item>) -> Result<(), Mem
     }
 }
 
-/// What a session sends goes onto its link, and is on its way.
+/// What a session sends goes onto its link with the server, and is on its way.
 fn put_up(
     alloc: Global,
     send: Option<(u8, ClientMsg)>,
     post: &mut Post,
-    up: &mut List<ClientMsg>,
+    up: &mut List<(u8, ClientMsg)>,
     undo: &mut Undo,
 ) -> Result<(), CoreError>
     ensures post { OnOk result (post.new ≡ post_after send post.old) }
@@ -185,38 +186,39 @@ fn put_up(
     ensures err_up { OnErr result (up.new ≡ up.old) }
 {
     match send {
-        Some((_, m)) => put(alloc, m, post, up, undo),
+        Some((to, m)) => put(alloc, to, m, post, up, undo),
         None => Ok(()),
     }
 }
 
-/// A message of the session goes onto its link, and is on its way.
+/// A message of the session goes onto its link with the server, and is on its way.
 fn put(
     alloc: Global,
+    to: u8,
     m: ClientMsg,
     post: &mut Post,
-    up: &mut List<ClientMsg>,
+    up: &mut List<(u8, ClientMsg)>,
     undo: &mut Undo,
 ) -> Result<(), CoreError>
     ensures post { OnOk result (post.new ≡
-        post_pushed post.old the_server (message (msg.Client m))) }
-    ensures up { OnOk result (up.new ≡ up.old ++ m ∷ []) }
+        post_pushed post.old (Server to) (message (msg.Client m))) }
+    ensures up { OnOk result (up.new ≡ up.old ++ (to, m) ∷ []) }
     ensures undo { OnOk result (undone undo.new post.new ≡ undone undo.old post.old) }
     ensures room { OnOk result (
-        is_full_for post.old the_server (message (msg.Client m)) ≡ false) }
+        is_full_for post.old (Server to) (message (msg.Client m)) ≡ false) }
     ensures fits { OnOk result (IsWritten (msg.Client m)) }
     ensures spent { (counter : TheCounter) → IsErrOf result (errors.Spent counter) →
         (counter ≡ Segments) ×
-        (is_full_for post.old the_server (message (msg.Client m)) ≡ true) }
-    ensures only { is_full_for post.old the_server (message (msg.Client m)) ≡ true →
+        (is_full_for post.old (Server to) (message (msg.Client m)) ≡ true) }
+    ensures only { is_full_for post.old (Server to) (message (msg.Client m)) ≡ true →
         IsErrOf result (errors.Spent Segments) ⊎ IsErrOf result errors.Memory }
     ensures err_post { OnErr result (post.new ≡ post.old) }
     ensures err_up { OnErr result (up.new ≡ up.old) }
 {
     let before = up.len();
     let (m, text) = spelled(alloc, m)?;
-    up.push(m)?;
-    match post.push_with_undo(alloc, Peer::Server(0), &text, undo) {
+    up.push((to, m))?;
+    match post.push_with_undo(alloc, Peer::Server(to), &text, undo) {
         Ok(()) => Ok(()),
         Err(e) => {
             up.truncate(before);

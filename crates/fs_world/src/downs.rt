@@ -1,4 +1,4 @@
-//! Answers on their way from the server.
+//! Answers on their way from a server.
 ghost use Rattle.std.specs.Prelude.{◌≡◌, OnOk, OnErr};
 ghost use Rattle.fs_world.specs.Served.{Seats as TheSeats, with_down, with_downs};
 
@@ -7,22 +7,23 @@ use fs_ident::{Memory, Peer, Twin};
 use fs_msg::Msg;
 use std::alloc::Global;
 
-/// The answers among these messages are on their way to the sessions that have joined: all of them, or none where memory
-/// is wanting.
+/// The answers among these messages of the server are on their way to the sessions that have joined: all of them, or none
+/// where memory is wanting.
 pub(crate) fn push_downs(
     alloc: Global,
+    k: u8,
     seats: &mut Seats,
     send: &[(Peer, Msg)],
 ) -> Result<(), Memory>
-    ensures ok { OnOk result (seats.new ≡ with_downs send.now seats.old) }
+    ensures ok { OnOk result (seats.new ≡ with_downs k send.now seats.old) }
     ensures err { OnErr result (seats.new ≡ seats.old) }
 {
     let mut pushed = 0;
     while pushed < send.len() {
-        match push_down(alloc, seats, &send[pushed]) {
+        match push_down(alloc, k, seats, &send[pushed]) {
             Ok(()) => pushed += 1,
             Err(e) => {
-                undo_downs(seats, &send[..pushed]);
+                undo_downs(k, seats, &send[..pushed]);
                 return Err(e);
             }
         }
@@ -31,30 +32,30 @@ pub(crate) fn push_downs(
 }
 
 /// Undoes `push_downs` of these messages. Takes no memory.
-pub(crate) fn undo_downs(seats: &mut Seats, send: &[(Peer, Msg)])
-    ensures { (before : TheSeats) → seats.old ≡ with_downs send.now before → seats.new ≡ before }
+pub(crate) fn undo_downs(k: u8, seats: &mut Seats, send: &[(Peer, Msg)])
+    ensures { (before : TheSeats) → seats.old ≡ with_downs k send.now before → seats.new ≡ before }
 {
     let mut left = send.len();
     while left > 0 {
         left -= 1;
-        undo_down(seats, &send[left]);
+        undo_down(k, seats, &send[left]);
     }
 }
 
 /// An answer is on its way.
-fn push_down(alloc: Global, seats: &mut Seats, sent: &(Peer, Msg)) -> Result<(), Memory>
-    ensures ok { OnOk result (seats.new ≡ with_down sent.now seats.old) }
+fn push_down(alloc: Global, k: u8, seats: &mut Seats, sent: &(Peer, Msg)) -> Result<(), Memory>
+    ensures ok { OnOk result (seats.new ≡ with_down k sent.now seats.old) }
     ensures err { OnErr result (seats.new ≡ seats.old) }
 {
     match sent {
-        (Peer::Client(s), Msg::Answer(a)) => seats.push_down(*s, a.copy(alloc)?),
+        (Peer::Client(s), Msg::Answer(a)) => seats.push_down(*s, (k, a.copy(alloc)?)),
         _ => Ok(()),
     }
 }
 
 /// Undoes that.
-fn undo_down(seats: &mut Seats, sent: &(Peer, Msg))
-    ensures { (before : TheSeats) → seats.old ≡ with_down sent.now before → seats.new ≡ before }
+fn undo_down(k: u8, seats: &mut Seats, sent: &(Peer, Msg))
+    ensures { (before : TheSeats) → seats.old ≡ with_down k sent.now before → seats.new ≡ before }
 {
     match sent {
         (Peer::Client(s), Msg::Answer(_)) => seats.unpush_down(*s),

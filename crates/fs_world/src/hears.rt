@@ -1,6 +1,6 @@
-//! What a session hears in the packets of its server.
-ghost use Rattle.std.specs.Prelude.{◌≡◌, ◌≤◌, ◌<◌, ◌⊎◌, ◌∷◌, [], false, length, IfOk, IsErrOf, OnOk, OnErr, Some, None};
-ghost use Rattle.std.specs.List.{remove};
+//! What a session hears in the packets of a server.
+ghost use Rattle.std.specs.Prelude.{◌≡◌, ℕ, ◌≤◌, ◌⊎◌, [], false, option_map, IfOk, IsErrOf, OnOk, OnErr, Some, None};
+ghost use Rattle.std.specs.List.{find};
 ghost use Rattle.fs_ident.specs.declared.limits.TheConstants.{LATEST};
 ghost use Rattle.fs_frag.specs.declared.joined.Joined.TheVariants.{Whole};
 ghost use Rattle.fs_msg.specs.Ranges.{FitsMessage};
@@ -10,13 +10,16 @@ ghost use Rattle.fs_msg.specs.declared.core_error.Counter.{Counter as TheCounter
 ghost use Rattle.fs_msg.specs.declared.core_error.CoreError.TheVariants as errors;
 ghost use Rattle.fs_msg.specs.declared.msg.Msg.TheVariants as msg;
 ghost use Rattle.fs_client.specs.Answers.{answer_plan};
-ghost use Rattle.fs_world.specs.Hearing.{answer_heard};
-ghost use Rattle.fs_world.specs.Linked.{IsFirstOf, to_session};
+ghost use Rattle.fs_serial.specs.Cluster.{is_with, without_first};
+ghost use Rattle.fs_world.specs.Hearing.{first_heard};
+ghost use Rattle.fs_world.specs.Linked.{IsFirstOf, downs_of};
+ghost use Rattle.fs_world.specs.declared.seat.Seat.{Seat as TheSeat};
 ghost use Rattle.fs_world.specs.Served.{client_does, client_hears, client_noted, seat_goes};
 
 use crate::does::does;
 use crate::goes::{quiet_note, send_due};
 use crate::packets::Packets;
+use crate::removals::remove_first;
 use crate::seat::Seat;
 use fs_client::Plan;
 use fs_ident::{List, Memory, Peer, Session};
@@ -30,6 +33,7 @@ pub(crate) fn hears(
     alloc: Global,
     now: u64,
     s: Session,
+    k: u8,
     from: Option<Peer>,
     heard: &Heard,
     seat: &mut Seat,
@@ -37,37 +41,38 @@ pub(crate) fn hears(
     packets: &mut Packets,
 ) -> Result<Outcome, CoreError>
     requires reading { now ≤ LATEST }
-    requires comes { IsFirstOf heard.now.joined (to_session seat.old.down) }
-    ensures outcome { IfOk result (λ o. o ≡ (client_hears now s from heard.now heard.now.joined
-        seat.old.down seat.old journal.old packets.old).outcome) }
-    ensures seat { OnOk result (seat.new ≡ (client_hears now s from heard.now heard.now.joined
-        seat.old.down seat.old journal.old packets.old).seat) }
-    ensures journal { OnOk result (journal.new ≡ (client_hears now s from heard.now
-        heard.now.joined seat.old.down seat.old journal.old packets.old).journal) }
-    ensures packets { OnOk result (packets.new ≡ (client_hears now s from heard.now
-        heard.now.joined seat.old.down seat.old journal.old packets.old).packets) }
-    ensures room { OnOk result ((client_hears now s from heard.now heard.now.joined
-        seat.old.down seat.old journal.old packets.old).spent ≡ None) }
+    requires comes { IsFirstOf heard.now.joined (downs_of k (Some seat.old)) }
+    ensures outcome { IfOk result (λ o. o ≡ (client_hears now s k from heard.now heard.now.joined
+        (find (is_with k) seat.old.down) seat.old journal.old packets.old).outcome) }
+    ensures seat { OnOk result (seat.new ≡ (client_hears now s k from heard.now heard.now.joined
+        (find (is_with k) seat.old.down) seat.old journal.old packets.old).seat) }
+    ensures journal { OnOk result (journal.new ≡ (client_hears now s k from heard.now
+        heard.now.joined (find (is_with k) seat.old.down) seat.old journal.old packets.old).journal) }
+    ensures packets { OnOk result (packets.new ≡ (client_hears now s k from heard.now
+        heard.now.joined (find (is_with k) seat.old.down) seat.old journal.old packets.old).packets) }
+    ensures room { OnOk result ((client_hears now s k from heard.now heard.now.joined
+        (find (is_with k) seat.old.down) seat.old journal.old packets.old).spent ≡ None) }
     ensures spent { (counter : TheCounter) → IsErrOf result (errors.Spent counter) →
-        (client_hears now s from heard.now heard.now.joined
-        seat.old.down seat.old journal.old packets.old).spent ≡ Some counter }
-    ensures only { (counter : TheCounter) → (client_hears now s from heard.now heard.now.joined
-        seat.old.down seat.old journal.old packets.old).spent ≡ Some counter →
+        (client_hears now s k from heard.now heard.now.joined
+        (find (is_with k) seat.old.down) seat.old journal.old packets.old).spent ≡ Some counter }
+    ensures only { (counter : TheCounter) → (client_hears now s k from heard.now heard.now.joined
+        (find (is_with k) seat.old.down) seat.old journal.old packets.old).spent ≡ Some counter →
         IsErrOf result (errors.Spent counter) ⊎ IsErrOf result errors.Memory }
     ensures err_seat { OnErr result (seat.new ≡ seat.old) }
     ensures err_journal { OnErr result (journal.new ≡ journal.old) }
     ensures err_packets { OnErr result (packets.new ≡ packets.old) }
 {
-    match answer_in(alloc, heard.joined.as_slice(), seat.down.as_slice())? {
+    match answer_in(alloc, heard.joined.as_slice())? {
         None => Ok(hears_nothing(alloc, s, from, quiet_note(heard), seat, packets)?),
-        Some(a) => hears_answer(alloc, now, s, from, &a, seat, journal, packets),
+        Some(a) => hears_answer(alloc, now, s, k, from, &a, seat, journal, packets),
     }
 }
 
-/// The answer that is the first message, if there is one.
-fn answer_in(alloc: Global, joined: &[Joined], down: &[Answer]) -> Result<Option<Answer>, Memory>
-    requires { IsFirstOf joined.now (to_session down.now) }
-    ensures { IfOk result (λ a. a ≡ answer_heard joined.now down.now) }
+/// The answer that is the first message, if one came whole.
+fn answer_in(alloc: Global, joined: &[Joined]) -> Result<Option<Answer>, Memory>
+    ensures { (k : ℕ) (seat : TheSeat) → IsFirstOf joined.now (downs_of k (Some seat)) →
+        IfOk result (λ a. a ≡ option_map (λ m. m.1) (first_heard joined.now
+        (find (is_with k) seat.down))) }
 {
     match joined {
         [] => Ok(None),
@@ -127,6 +132,7 @@ fn hears_answer(
     alloc: Global,
     now: u64,
     s: Session,
+    k: u8,
     from: Option<Peer>,
     a: &Answer,
     seat: &mut Seat,
@@ -134,35 +140,34 @@ fn hears_answer(
     packets: &mut Packets,
 ) -> Result<Outcome, CoreError>
     requires reading { now ≤ LATEST }
-    requires some { 0 < length seat.old.down }
     ensures outcome { IfOk result (λ o. o ≡ (client_does s false from false
-        (client_noted (answer_plan seat.old.client now 0 a.now))
+        (client_noted (answer_plan seat.old.client now k a.now))
         seat.old journal.old packets.old).outcome) }
     ensures seat { OnOk result (seat.new ≡ (client_does s false from false
-        (client_noted (answer_plan seat.old.client now 0 a.now))
-        (record seat.old { down = remove seat.old.down 0 }) journal.old packets.old).seat) }
+        (client_noted (answer_plan seat.old.client now k a.now))
+        (record seat.old { down = without_first (is_with k) seat.old.down }) journal.old packets.old).seat) }
     ensures journal { OnOk result (journal.new ≡ (client_does s false from false
-        (client_noted (answer_plan seat.old.client now 0 a.now))
+        (client_noted (answer_plan seat.old.client now k a.now))
         seat.old journal.old packets.old).journal) }
     ensures packets { OnOk result (packets.new ≡ (client_does s false from false
-        (client_noted (answer_plan seat.old.client now 0 a.now))
+        (client_noted (answer_plan seat.old.client now k a.now))
         seat.old journal.old packets.old).packets) }
     ensures room { OnOk result ((client_does s false from false
-        (client_noted (answer_plan seat.old.client now 0 a.now))
+        (client_noted (answer_plan seat.old.client now k a.now))
         seat.old journal.old packets.old).spent ≡ None) }
     ensures spent { (counter : TheCounter) → IsErrOf result (errors.Spent counter) →
         (client_does s false from false
-        (client_noted (answer_plan seat.old.client now 0 a.now))
+        (client_noted (answer_plan seat.old.client now k a.now))
         seat.old journal.old packets.old).spent ≡ Some counter }
     ensures only { (counter : TheCounter) → (client_does s false from false
-        (client_noted (answer_plan seat.old.client now 0 a.now))
+        (client_noted (answer_plan seat.old.client now k a.now))
         seat.old journal.old packets.old).spent ≡ Some counter →
         IsErrOf result (errors.Spent counter) ⊎ IsErrOf result errors.Memory }
     ensures err_seat { OnErr result (seat.new ≡ seat.old) }
     ensures err_journal { OnErr result (journal.new ≡ journal.old) }
     ensures err_packets { OnErr result (packets.new ≡ packets.old) }
 {
-    let Plan { ready, out } = seat.client.plan_answer(alloc, now, 0, a)?;
+    let Plan { ready, out } = seat.client.plan_answer(alloc, now, k, a)?;
     let ClientOut {
         note,
         send,
@@ -183,6 +188,6 @@ fn hears_answer(
         journal,
         packets,
     )?;
-    seat.down.remove(0);
+    remove_first(&mut seat.down, k);
     Ok(outcome)
 }

@@ -13,15 +13,15 @@ use std::alloc::Global;
 /// How many segments are on their way on each link at once.
 pub(crate) const LINK_WIDTH: u64 = 1;
 
-/// A client, its links, and the messages on their way between it and the server.
+/// A client, its links, and the messages on their way between it and servers, each with the server's number.
 #[derive(Debug)]
 pub(crate) struct Seat {
     pub(crate) client: ClientCore,
     pub(crate) post: Post,
-    /// From the session to the server, in order.
-    pub(crate) up: List<ClientMsg>,
-    /// From the server to the session, in order.
-    pub(crate) down: List<Answer>,
+    /// From the session to servers, in order.
+    pub(crate) up: List<(u8, ClientMsg)>,
+    /// From servers to the session, in order.
+    pub(crate) down: List<(u8, Answer)>,
 }
 
 impl Seat {

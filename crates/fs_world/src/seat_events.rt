@@ -2,6 +2,7 @@
 ghost use Rattle.std.specs.Prelude.{◌≡◌, ◌≤◌, ◌⊎◌, true, IfOk, IsErrOf, OnOk, OnErr, IsSome, Some, None};
 ghost use Rattle.std.specs.FinMap as map;
 ghost use Rattle.fs_ident.specs.Maps.{numbered_map_of};
+ghost use Rattle.fs_ident.specs.declared.actor.Peer.TheVariants.{Server};
 ghost use Rattle.fs_ident.specs.declared.limits.TheConstants.{LATEST};
 ghost use Rattle.fs_model.specs.Asking.{may_ask};
 ghost use Rattle.fs_msg.specs.declared.answer.Answer.{Answer as TheAnswer};
@@ -12,8 +13,8 @@ ghost use Rattle.fs_client.specs.Acts.{act_plan};
 ghost use Rattle.fs_client.specs.Answers.{answer_plan};
 ghost use Rattle.fs_client.specs.Turns.{turn_plan};
 ghost use Rattle.fs_window.specs.Post.{post_accepted};
-ghost use Rattle.fs_world.specs.Linked.{FitsUp, IsFirstOf, to_session};
-ghost use Rattle.fs_world.specs.Served.{client_acts, client_told, client_turns, the_server};
+ghost use Rattle.fs_world.specs.Linked.{FitsUp, IsFirstOf, downs_of};
+ghost use Rattle.fs_world.specs.Served.{client_acts, client_told, client_turns};
 ghost use Rattle.fs_world.specs.declared.seat.Seat.{Seat as TheSeat};
 
 use crate::clients::{acts, told, turns};
@@ -118,13 +119,14 @@ pub(crate) fn turn_in(
     }
 }
 
-/// A packet of the server comes to a session. After an error all is as it was.
+/// A packet of the server of number `k` comes to a session. After an error all is as it was.
 #[tactic(auto, using(crate::proofs::SeatMaps::seat_changes))]
 pub(crate) fn tell_in(
     alloc: Global,
     seats: &mut BTreeMap<u16, Seat>,
     now: u64,
     s: Session,
+    k: u8,
     p: &Packet,
     journal: &mut List<Item>,
     packets: &mut Packets,
@@ -132,36 +134,36 @@ pub(crate) fn tell_in(
     requires reading { now ≤ LATEST }
     requires joined { IsSome (map.get (numbered_map_of seats.old) s.0) }
     requires comes { (seat : TheSeat) → map.get (numbered_map_of seats.old) s.0 ≡ Some seat →
-        IsFirstOf (post_accepted seat.post the_server p.now).heard.joined
-        (to_session seat.down) }
+        IsFirstOf (post_accepted seat.post (Server k) p.now).heard.joined
+        (downs_of k (Some seat)) }
     ensures outcome { (seat : TheSeat) → map.get (numbered_map_of seats.old) s.0 ≡ Some seat →
-        IfOk result (λ o. o ≡ (client_told now s p.now seat journal.old packets.old).outcome) }
+        IfOk result (λ o. o ≡ (client_told now s k p.now seat journal.old packets.old).outcome) }
     ensures seat { (seat : TheSeat) → map.get (numbered_map_of seats.old) s.0 ≡ Some seat →
         OnOk result (numbered_map_of seats.new ≡ map.insert (numbered_map_of seats.old) s.0
-        (client_told now s p.now seat journal.old packets.old).seat) }
+        (client_told now s k p.now seat journal.old packets.old).seat) }
     ensures journal { (seat : TheSeat) → map.get (numbered_map_of seats.old) s.0 ≡ Some seat →
-        OnOk result (journal.new ≡ (client_told now s p.now seat journal.old packets.old).journal) }
+        OnOk result (journal.new ≡ (client_told now s k p.now seat journal.old packets.old).journal) }
     ensures packets { (seat : TheSeat) → map.get (numbered_map_of seats.old) s.0 ≡ Some seat →
-        OnOk result (packets.new ≡ (client_told now s p.now seat journal.old packets.old).packets) }
+        OnOk result (packets.new ≡ (client_told now s k p.now seat journal.old packets.old).packets) }
     ensures room { (seat : TheSeat) → map.get (numbered_map_of seats.old) s.0 ≡ Some seat →
-        OnOk result ((client_told now s p.now seat journal.old packets.old).spent ≡ None) }
+        OnOk result ((client_told now s k p.now seat journal.old packets.old).spent ≡ None) }
     ensures fits { (seat : TheSeat) → (a : TheAnswer) →
         map.get (numbered_map_of seats.old) s.0 ≡ Some seat →
-        OnOk result (FitsUp (answer_plan seat.client now 0 a).out.send) }
+        OnOk result (FitsUp (answer_plan seat.client now k a).out.send) }
     ensures spent { (seat : TheSeat) (counter : TheCounter) →
         map.get (numbered_map_of seats.old) s.0 ≡ Some seat →
         IsErrOf result (errors.Spent counter) →
-        (client_told now s p.now seat journal.old packets.old).spent ≡ Some counter }
+        (client_told now s k p.now seat journal.old packets.old).spent ≡ Some counter }
     ensures only { (seat : TheSeat) (counter : TheCounter) →
         map.get (numbered_map_of seats.old) s.0 ≡ Some seat →
-        (client_told now s p.now seat journal.old packets.old).spent ≡ Some counter →
+        (client_told now s k p.now seat journal.old packets.old).spent ≡ Some counter →
         IsErrOf result (errors.Spent counter) ⊎ IsErrOf result errors.Memory }
     ensures err_seats { OnErr result (numbered_map_of seats.new ≡ numbered_map_of seats.old) }
     ensures err_journal { OnErr result (journal.new ≡ journal.old) }
     ensures err_packets { OnErr result (packets.new ≡ packets.old) }
 {
     match seats.get_mut(&s.0) {
-        Some(seat) => told(alloc, now, s, p, seat, journal, packets),
+        Some(seat) => told(alloc, now, s, k, p, seat, journal, packets),
         None => unreachable!(),
     }
 }

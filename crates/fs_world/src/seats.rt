@@ -1,8 +1,9 @@
 //! The sessions that have joined.
-ghost use Rattle.std.specs.Prelude.{◌≡◌, ◌≤◌, ◌-◌, ◌⊎◌, true, drop, is_some, length, take, IfOk, IsErrOf, OnOk, OnErr, IsSome, Some, None};
+ghost use Rattle.std.specs.Prelude.{◌≡◌, ℕ, ◌≤◌, ◌-◌, ◌⊎◌, true, is_some, length, take, IfOk, IsErrOf, OnOk, OnErr, IsSome, Some, None};
 ghost use Rattle.std.specs.FinMap as map;
 ghost use Rattle.std.specs.Option.{option_copied};
 ghost use Rattle.fs_ident.specs.Maps.{numbered_map_of};
+ghost use Rattle.fs_ident.specs.declared.actor.Peer.TheVariants.{Server};
 ghost use Rattle.fs_ident.specs.declared.limits.TheConstants.{LATEST};
 ghost use Rattle.fs_model.specs.Asking.{may_ask};
 ghost use Rattle.fs_msg.specs.declared.answer.Answer.{Answer as TheAnswer};
@@ -13,11 +14,12 @@ ghost use Rattle.fs_client.specs.Acts.{act_plan};
 ghost use Rattle.fs_client.specs.Answers.{answer_plan};
 ghost use Rattle.fs_client.specs.Turns.{turn_plan};
 ghost use Rattle.fs_window.specs.Post.{post_accepted};
-ghost use Rattle.fs_world.specs.Linked.{FitsUp, IsFirstOf, to_session};
-ghost use Rattle.fs_world.specs.Served.{Seats as TheSeats, client_acts, client_told, client_turns, the_server, with_down_at};
+ghost use Rattle.fs_world.specs.Linked.{FitsUp, IsFirstOf, downs_of};
+ghost use Rattle.fs_world.specs.Served.{Seats as TheSeats, client_acts, client_told, client_turns, with_down_at, without_up};
 ghost use Rattle.fs_world.specs.declared.seat.Seat.{Seat as TheSeat};
 
 use crate::packets::Packets;
+use crate::removals::remove_first;
 use crate::seat::Seat;
 use crate::seat_events::{act_in, tell_in, turn_in};
 use fs_ident::{List, Memory, Session};
@@ -83,29 +85,27 @@ impl Seats {
     }
 
     /// One answer more is on its way to the session, if it has joined.
-    pub(crate) fn push_down(&mut self, s: Session, a: Answer) -> Result<(), Memory>
+    pub(crate) fn push_down(&mut self, s: Session, m: (u8, Answer)) -> Result<(), Memory>
         ensures ok { OnOk result (self.new ≡
-            with_down_at (map.get self.old s.0) s.0 a self.old) }
+            with_down_at (map.get self.old s.0) s.0 m self.old) }
         ensures err { OnErr result (self.new ≡ self.old) }
     {
-        push_down_in(&mut self.seats, s.0, a)
+        push_down_in(&mut self.seats, s.0, m)
     }
 
     /// Undoes a `push_down`. Takes no memory.
     pub(crate) fn unpush_down(&mut self, s: Session)
-        ensures { (seats : TheSeats) (a : TheAnswer) →
-            self.old ≡ with_down_at (map.get seats s.0) s.0 a seats → self.new ≡ seats }
+        ensures { (seats : TheSeats) (m : ℕ × TheAnswer) →
+            self.old ≡ with_down_at (map.get seats s.0) s.0 m seats → self.new ≡ seats }
     {
         unpush_down_in(&mut self.seats, s.0);
     }
 
-    /// The first message on its way from the session is no longer on its way. Takes no memory.
-    pub(crate) fn pop_up(&mut self, s: Session)
-        ensures joined { (seat : TheSeat) → map.get self.old s.0 ≡ Some seat →
-            self.new ≡ map.insert self.old s.0 (record seat { up = drop 1 seat.up }) }
-        ensures other { map.get self.old s.0 ≡ None → self.new ≡ self.old }
+    /// The first message on its way from the session to the server is no longer on its way. Takes no memory.
+    pub(crate) fn pop_up(&mut self, s: Session, k: u8)
+        ensures { self.new ≡ without_up k (map.get self.old s.0) s.0 self.old }
     {
-        pop_up_in(&mut self.seats, s.0);
+        pop_up_in(&mut self.seats, s.0, k);
     }
 
     /// The operation of the user of a session that has joined. After an error all is as it was.
@@ -187,12 +187,13 @@ impl Seats {
         turn_in(alloc, &mut self.seats, now, s, journal, packets)
     }
 
-    /// A packet of the server comes to a session that has joined. After an error all is as it was.
+    /// A packet of the server of number `k` comes to a session that has joined. After an error all is as it was.
     pub(crate) fn tell(
         &mut self,
         alloc: Global,
         now: u64,
         s: Session,
+        k: u8,
         p: &Packet,
         journal: &mut List<Item>,
         packets: &mut Packets,
@@ -200,34 +201,34 @@ impl Seats {
         requires reading { now ≤ LATEST }
         requires joined { IsSome (map.get self.old s.0) }
         requires comes { (seat : TheSeat) → map.get self.old s.0 ≡ Some seat →
-            IsFirstOf (post_accepted seat.post the_server p.now).heard.joined
-            (to_session seat.down) }
+            IsFirstOf (post_accepted seat.post (Server k) p.now).heard.joined
+            (downs_of k (Some seat)) }
         ensures outcome { (seat : TheSeat) → map.get self.old s.0 ≡ Some seat →
-            IfOk result (λ o. o ≡ (client_told now s p.now seat journal.old packets.old).outcome) }
+            IfOk result (λ o. o ≡ (client_told now s k p.now seat journal.old packets.old).outcome) }
         ensures seat { (seat : TheSeat) → map.get self.old s.0 ≡ Some seat → OnOk result (
             self.new ≡ map.insert self.old s.0
-            (client_told now s p.now seat journal.old packets.old).seat) }
+            (client_told now s k p.now seat journal.old packets.old).seat) }
         ensures journal { (seat : TheSeat) → map.get self.old s.0 ≡ Some seat → OnOk result (
-            journal.new ≡ (client_told now s p.now seat journal.old packets.old).journal) }
+            journal.new ≡ (client_told now s k p.now seat journal.old packets.old).journal) }
         ensures packets { (seat : TheSeat) → map.get self.old s.0 ≡ Some seat → OnOk result (
-            packets.new ≡ (client_told now s p.now seat journal.old packets.old).packets) }
+            packets.new ≡ (client_told now s k p.now seat journal.old packets.old).packets) }
         ensures room { (seat : TheSeat) → map.get self.old s.0 ≡ Some seat → OnOk result (
-            (client_told now s p.now seat journal.old packets.old).spent ≡ None) }
+            (client_told now s k p.now seat journal.old packets.old).spent ≡ None) }
         ensures fits { (seat : TheSeat) → (a : TheAnswer) →
             map.get self.old s.0 ≡ Some seat →
-            OnOk result (FitsUp (answer_plan seat.client now 0 a).out.send) }
+            OnOk result (FitsUp (answer_plan seat.client now k a).out.send) }
         ensures spent { (seat : TheSeat) (counter : TheCounter) →
             map.get self.old s.0 ≡ Some seat → IsErrOf result (errors.Spent counter) →
-            (client_told now s p.now seat journal.old packets.old).spent ≡ Some counter }
+            (client_told now s k p.now seat journal.old packets.old).spent ≡ Some counter }
         ensures only { (seat : TheSeat) (counter : TheCounter) →
             map.get self.old s.0 ≡ Some seat →
-            (client_told now s p.now seat journal.old packets.old).spent ≡ Some counter →
+            (client_told now s k p.now seat journal.old packets.old).spent ≡ Some counter →
             IsErrOf result (errors.Spent counter) ⊎ IsErrOf result errors.Memory }
         ensures err_seats { OnErr result (self.new ≡ self.old) }
         ensures err_journal { OnErr result (journal.new ≡ journal.old) }
         ensures err_packets { OnErr result (packets.new ≡ packets.old) }
     {
-        tell_in(alloc, &mut self.seats, now, s, p, journal, packets)
+        tell_in(alloc, &mut self.seats, now, s, k, p, journal, packets)
     }
 
     /// Gives up every lease of the clients.
@@ -272,13 +273,17 @@ fn add_in(seats: &mut BTreeMap<u16, Seat>, session: u16, seat: Seat) -> Result<(
 }
 
 #[tactic(auto, using(crate::proofs::SeatMaps::seat_changes))]
-fn push_down_in(seats: &mut BTreeMap<u16, Seat>, session: u16, a: Answer) -> Result<(), Memory>
+fn push_down_in(
+    seats: &mut BTreeMap<u16, Seat>,
+    session: u16,
+    m: (u8, Answer),
+) -> Result<(), Memory>
     ensures ok { OnOk result (numbered_map_of seats.new ≡ with_down_at
-        (map.get (numbered_map_of seats.old) session) session a (numbered_map_of seats.old)) }
+        (map.get (numbered_map_of seats.old) session) session m (numbered_map_of seats.old)) }
     ensures err { OnErr result (numbered_map_of seats.new ≡ numbered_map_of seats.old) }
 {
     match seats.get_mut(&session) {
-        Some(seat) => seat.down.push(a),
+        Some(seat) => seat.down.push(m),
         None => Ok(()),
     }
 }
@@ -301,19 +306,12 @@ fn unpush_down_in(seats: &mut BTreeMap<u16, Seat>, session: u16)
 }
 
 #[tactic(auto, using(crate::proofs::SeatMaps::seat_changes))]
-fn pop_up_in(seats: &mut BTreeMap<u16, Seat>, session: u16)
-    ensures joined { (seat : TheSeat) → map.get (numbered_map_of seats.old) session ≡ Some seat →
-        numbered_map_of seats.new ≡ map.insert (numbered_map_of seats.old) session
-        (record seat { up = drop 1 seat.up }) }
-    ensures other { map.get (numbered_map_of seats.old) session ≡ None →
-        numbered_map_of seats.new ≡ numbered_map_of seats.old }
+fn pop_up_in(seats: &mut BTreeMap<u16, Seat>, session: u16, k: u8)
+    ensures { numbered_map_of seats.new ≡ without_up k
+        (map.get (numbered_map_of seats.old) session) session (numbered_map_of seats.old) }
 {
     match seats.get_mut(&session) {
-        Some(seat) => {
-            if !seat.up.is_empty() {
-                seat.up.remove(0);
-            }
-        }
+        Some(seat) => remove_first(&mut seat.up, k),
         None => {}
     }
 }

@@ -1,57 +1,66 @@
 //! The world of a schedule of the servers form.
-ghost use Rattle.std.specs.Prelude.{◌≡◌, ◌≤◌, ◌⊎◌, true, Some, None, IfOk, OnOk, OnErr, IsErrOf, false};
+ghost use Rattle.std.specs.Prelude.{◌≡◌, ◌<◌, ◌≤◌, ◌⊎◌, length, true, Some, None, IfOk, OnOk, OnErr, IsErrOf, false};
 ghost use Rattle.std.specs.FinMap as map;
 ghost use Rattle.fs_ident.specs.declared.limits.TheConstants.{LATEST, SESSIONS};
 ghost use Rattle.fs_msg.specs.declared.core_error.Counter.{Counter as TheCounter};
 ghost use Rattle.fs_msg.specs.declared.core_error.CoreError.TheVariants as errors;
 ghost use Rattle.fs_msg.specs.declared.limits.TheConstants.{LONGEST};
+ghost use Rattle.fs_record.specs.Records.{AreRecords};
+ghost use Rattle.fs_serial.specs.Cluster.{first_servers};
 ghost use Rattle.fs_serial.specs.World.{is_called};
-ghost use Rattle.fs_server.specs.declared.event.ServerEvent.TheVariants.{Recall as TheRecall, Turn as TheTurn};
+ghost use Rattle.fs_server.specs.declared.event.ServerEvent.TheVariants.{Move as TheMove, Recall as TheRecall};
 ghost use Rattle.fs_world.specs.Linked.{IsLinked};
-ghost use Rattle.fs_world.specs.Served.{do_at, first_served, join_at, server_step, step_of, turn_at};
+ghost use Rattle.fs_world.specs.Served.{do_at, first_posts, first_served, join_at, server_step, step_of, turn_at};
+ghost use Rattle.fs_world.specs.Planned.{IsOwn};
 ghost use Rattle.fs_world.specs.World.{FitsServed};
 
 use crate::goes::outcome;
 use crate::packets::Packets;
 use crate::seat::{LINK_WIDTH, Seat};
 use crate::seats::Seats;
+use crate::servers::core_step;
 use crate::term::Term;
 use fs_field::Field;
-use fs_ident::{List, Memory, Peer, Session, Twin};
+use fs_ident::{FileId, List, Memory, Peer, Session, Twin};
 use fs_model::Op;
 use fs_msg::{CoreError, Item, Note};
 use fs_schedule::{Outcome, What};
+use fs_serial::Flying;
 use fs_server::{ServerCore, ServerEvent};
 use fs_window::Post;
 use std::alloc::Global;
 
-/// A server with its links, the sessions that have joined, the journal, and the packets that were sent.
+/// Servers with their links, in order of number, the sessions that have joined, the parcels on their way between servers, in
+/// order of sending, the journal, and the packets that were sent.
 pub(crate) struct Served {
-    pub(crate) server: ServerCore,
-    pub(crate) post: Post,
+    pub(crate) servers: List<ServerCore>,
+    pub(crate) posts: List<Post>,
     /// How long a lease lasts.
     pub(crate) term: Term,
     pub(crate) seats: Seats,
+    pub(crate) flying: List<Flying>,
     pub(crate) journal: List<Item>,
     pub(crate) packets: Packets,
 }
 
 impl Served {
-    /// A world before its first event: by how much two clocks may differ, and how long a lease lasts, both in
-    /// milliseconds.
-    pub(crate) fn new(alloc: Global, skew: u64, term: u64) -> Result<Served, Memory>
+    /// A world before its first event: how many servers there are, by how much two clocks may differ, and how long a lease
+    /// lasts, both in milliseconds.
+    pub(crate) fn new(alloc: Global, servers: u8, skew: u64, term: u64) -> Result<Served, Memory>
+        requires one { 1 ≤ servers }
+        requires few { servers ≤ 15 }
         requires skew { skew ≤ LONGEST }
         requires some { 1 ≤ term }
         requires most { term ≤ LONGEST }
-        ensures world { IfOk result (λ w. w ≡ first_served skew term) }
+        ensures world { IfOk result (λ w. w ≡ first_served servers skew term) }
         ensures linked { IfOk result (λ w. IsLinked w) }
     {
-        let post = Post::new(alloc, Peer::Server(0), LINK_WIDTH)?;
         Ok(Served {
-            server: ServerCore::new(alloc, 0, skew, term)?,
-            post,
+            servers: new_servers(alloc, servers, skew, term)?,
+            posts: new_posts(alloc, servers)?,
             term: Term::new(term),
             seats: Seats::new(alloc),
+            flying: List::new(alloc),
             journal: List::new(alloc),
             packets: Packets::new(alloc),
         })
@@ -65,7 +74,7 @@ impl Served {
         what: &What,
     ) -> Result<Outcome, CoreError>
         requires reading { now ≤ LATEST }
-        requires fits { FitsServed what.now }
+        requires fits { FitsServed (length self.old.servers) what.now }
         requires linked { IsLinked self.old }
         ensures outcome { IfOk result (λ o. o ≡ (step_of self.old now what.now).outcome) }
         ensures world { OnOk result (self.new ≡ (step_of self.old now what.now).world) }
@@ -83,8 +92,11 @@ impl Served {
             What::Tell(None) => self.tell_next(alloc, now),
             What::Tell(Some(k)) => self.tell(alloc, now, *k),
             What::Turn(Peer::Client(s)) => self.client_turn(alloc, now, *s),
-            What::Turn(Peer::Server(_)) => self.server_turn(alloc, now),
-            What::Recall(_, field) => self.recall(alloc, now, field),
+            What::Turn(Peer::Server(k)) => {
+                self.server_step(alloc, *k, true, now, &ServerEvent::Turn)
+            }
+            What::Recall(k, field) => self.recall(alloc, now, *k, field),
+            What::Move { at, prefix, to } => self.hand_over(alloc, now, *at, prefix, *to),
         }
     }
 
@@ -155,55 +167,153 @@ impl Served {
             .turn(alloc, now, s, &mut self.journal, &mut self.packets)
     }
 
-    /// The turn of the server.
-    fn server_turn(&mut self, alloc: Global, now: u64) -> Result<Outcome, CoreError>
+    /// The server of number `k` asks for the leases on the field.
+    fn recall(
+        &mut self,
+        alloc: Global,
+        now: u64,
+        k: u8,
+        field: &Field,
+    ) -> Result<Outcome, CoreError>
         requires reading { now ≤ LATEST }
+        requires there { k < length self.old.servers }
         requires linked { IsLinked self.old }
         ensures outcome { IfOk result (λ o. o ≡
-            (server_step true None now TheTurn self.old).outcome) }
+            (server_step k false now (TheRecall field.now) self.old).outcome) }
         ensures world { OnOk result (self.new ≡
-            (server_step true None now TheTurn self.old).world) }
+            (server_step k false now (TheRecall field.now) self.old).world) }
         ensures linked { OnOk result (IsLinked self.new) }
         ensures spent { (counter : TheCounter) → IsErrOf result (errors.Spent counter) →
-            (server_step true None now TheTurn self.old).spent ≡ Some counter }
+            (server_step k false now (TheRecall field.now) self.old).spent ≡ Some counter }
         ensures only { (counter : TheCounter) →
-            (server_step true None now TheTurn self.old).spent ≡ Some counter →
-            IsErrOf result (errors.Spent counter) ⊎ IsErrOf result errors.Memory }
-        ensures err { OnErr result (self.new ≡ self.old) }
-    {
-        self.server_step(alloc, true, None, now, &ServerEvent::Turn)
-    }
-
-    /// The server asks for the leases on the field.
-    fn recall(&mut self, alloc: Global, now: u64, field: &Field) -> Result<Outcome, CoreError>
-        requires reading { now ≤ LATEST }
-        requires linked { IsLinked self.old }
-        ensures outcome { IfOk result (λ o. o ≡
-            (server_step false None now (TheRecall field.now) self.old).outcome) }
-        ensures world { OnOk result (self.new ≡
-            (server_step false None now (TheRecall field.now) self.old).world) }
-        ensures linked { OnOk result (IsLinked self.new) }
-        ensures spent { (counter : TheCounter) → IsErrOf result (errors.Spent counter) →
-            (server_step false None now (TheRecall field.now) self.old).spent ≡ Some counter }
-        ensures only { (counter : TheCounter) →
-            (server_step false None now (TheRecall field.now) self.old).spent ≡ Some counter →
+            (server_step k false now (TheRecall field.now) self.old).spent ≡ Some counter →
             IsErrOf result (errors.Spent counter) ⊎ IsErrOf result errors.Memory }
         ensures err { OnErr result (self.new ≡ self.old) }
     {
         let event = ServerEvent::Recall(field.copy(alloc)?);
-        self.server_step(alloc, false, None, now, &event)
+        self.server_step(alloc, k, false, now, &event)
+    }
+
+    /// The server of number `k` is to hand over what it manages below the prefix.
+    fn hand_over(
+        &mut self,
+        alloc: Global,
+        now: u64,
+        k: u8,
+        prefix: &FileId,
+        to: u8,
+    ) -> Result<Outcome, CoreError>
+        requires reading { now ≤ LATEST }
+        requires there { k < length self.old.servers }
+        requires other { to < length self.old.servers }
+        requires linked { IsLinked self.old }
+        ensures outcome { IfOk result (λ o. o ≡
+            (server_step k false now (TheMove prefix.now to) self.old).outcome) }
+        ensures world { OnOk result (self.new ≡
+            (server_step k false now (TheMove prefix.now to) self.old).world) }
+        ensures linked { OnOk result (IsLinked self.new) }
+        ensures spent { (counter : TheCounter) → IsErrOf result (errors.Spent counter) →
+            (server_step k false now (TheMove prefix.now to) self.old).spent ≡ Some counter }
+        ensures only { (counter : TheCounter) →
+            (server_step k false now (TheMove prefix.now to) self.old).spent ≡ Some counter →
+            IsErrOf result (errors.Spent counter) ⊎ IsErrOf result errors.Memory }
+        ensures err { OnErr result (self.new ≡ self.old) }
+    {
+        let event = ServerEvent::Move {
+            prefix: prefix.copy(alloc)?,
+            to,
+        };
+        self.server_step(alloc, k, false, now, &event)
+    }
+
+    /// An event of the server of number `k`, of its own.
+    fn server_step(
+        &mut self,
+        alloc: Global,
+        k: u8,
+        turn: bool,
+        now: u64,
+        event: &ServerEvent,
+    ) -> Result<Outcome, CoreError>
+        requires reading { now ≤ LATEST }
+        requires there { k < length self.old.servers }
+        requires own { IsOwn (length self.old.servers) event.now }
+        requires linked { IsLinked self.old }
+        ensures outcome { IfOk result (λ o. o ≡
+            (server_step k turn now event.now self.old).outcome) }
+        ensures world { OnOk result (self.new ≡
+            (server_step k turn now event.now self.old).world) }
+        ensures linked { OnOk result (IsLinked self.new) }
+        ensures spent { (counter : TheCounter) → IsErrOf result (errors.Spent counter) →
+            (server_step k turn now event.now self.old).spent ≡ Some counter }
+        ensures only { (counter : TheCounter) →
+            (server_step k turn now event.now self.old).spent ≡ Some counter →
+            IsErrOf result (errors.Spent counter) ⊎ IsErrOf result errors.Memory }
+        ensures err { OnErr result (self.new ≡ self.old) }
+    {
+        let at = k as usize;
+        let core = self.servers.at_mut(at);
+        know_records(core);
+        core_step(
+            alloc,
+            k,
+            turn,
+            None,
+            now,
+            event,
+            core,
+            self.posts.at_mut(at),
+            &mut self.seats,
+            &mut self.flying,
+            &mut self.journal,
+            &mut self.packets,
+        )
     }
 
     /// Gives up every lease of the clients.
     pub(crate) fn discard(self) {
         let Served {
-            server: _,
-            post: _,
+            servers: _,
+            posts: _,
             term: _,
             seats,
+            flying: _,
             journal: _,
             packets: _,
         } = self;
         seats.discard();
     }
+}
+
+/// The records of a server are in order, as each look-up tells.
+fn know_records(core: &ServerCore)
+    ensures { AreRecords core.now.records }
+{
+    core.records();
+}
+
+/// So many new servers.
+fn new_servers(alloc: Global, count: u8, skew: u64, term: u64) -> Result<List<ServerCore>, Memory>
+    requires few { count ≤ 15 }
+    requires skew { skew ≤ LONGEST }
+    requires some { 1 ≤ term }
+    requires most { term ≤ LONGEST }
+    ensures { IfOk result (λ servers. servers ≡ first_servers count skew term) }
+{
+    let mut servers = List::new(alloc);
+    for me in 0..count {
+        servers.push(ServerCore::new(alloc, me, skew, term)?)?;
+    }
+    Ok(servers)
+}
+
+/// The links of so many servers.
+fn new_posts(alloc: Global, count: u8) -> Result<List<Post>, Memory>
+    ensures { IfOk result (λ posts. posts ≡ first_posts count) }
+{
+    let mut posts = List::new(alloc);
+    for me in 0..count {
+        posts.push(Post::new(alloc, Peer::Server(me), LINK_WIDTH)?)?;
+    }
+    Ok(posts)
 }

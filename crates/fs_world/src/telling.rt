@@ -1,17 +1,20 @@
 //! A packet that reaches its addressee.
-ghost use Rattle.std.specs.Prelude.{◌≡◌, ◌≤◌, ◌⊎◌, Some, None, IfOk, OnOk, OnErr, IsErrOf, length};
+ghost use Rattle.std.specs.Prelude.{◌≡◌, ◌≤◌, ◌⊎◌, Some, None, IfOk, OnOk, OnErr, IsErrOf, length, slice_get};
 ghost use Rattle.std.specs.FinMap as map;
 ghost use Rattle.fs_ident.specs.declared.limits.TheConstants.{LATEST};
 ghost use Rattle.fs_msg.specs.declared.core_error.Counter.{Counter as TheCounter};
 ghost use Rattle.fs_msg.specs.declared.core_error.CoreError.TheVariants as errors;
-ghost use Rattle.fs_window.specs.Post.{post_accepted};
-ghost use Rattle.fs_world.specs.Linked.{IsFirstOf, IsLinked, to_session};
+ghost use Rattle.fs_window.specs.Post.{Links, post_accepted};
+ghost use Rattle.fs_ident.specs.declared.actor.Peer.TheVariants.{Server};
+ghost use Rattle.fs_server.specs.declared.state.Server.{Server as TheCore};
+ghost use Rattle.fs_world.specs.Linked.{IsFirstOf, IsLinked, downs_of};
 ghost use Rattle.fs_world.specs.Packets.{first_untold};
-ghost use Rattle.fs_world.specs.Planned.{WasSent};
-ghost use Rattle.fs_world.specs.Served.{arrives, comes, tell, the_server, told_at};
+ghost use Rattle.fs_world.specs.Planned.{IsAnswered, IsComing, WasSent};
+ghost use Rattle.fs_world.specs.Served.{arrives, at_server, comes, first_from, server_told_at, tell, told_at};
 ghost use Rattle.fs_world.specs.declared.seat.Seat.{Seat as TheSeat};
 
 use crate::goes::outcome;
+use crate::hearing::server_told;
 use crate::served::Served;
 use fs_ident::{Peer, Session};
 use fs_msg::{CoreError, Note};
@@ -115,35 +118,86 @@ impl Served {
             IsErrOf result (errors.Spent counter) ⊎ IsErrOf result errors.Memory }
         ensures err { OnErr result (self.new ≡ self.old) }
     {
-        match to {
-            Peer::Client(s) => self.client_told(alloc, now, s, p),
-            Peer::Server(_) => match from {
-                Peer::Client(s) => self.server_told(alloc, now, s, p),
-                Peer::Server(_) => Ok(outcome(alloc, None, Note::Nothing)?),
-            },
+        match (from, to) {
+            (_, Peer::Server(k)) => self.server_told(alloc, now, k, from, p),
+            (Peer::Server(k), Peer::Client(s)) => self.client_told(alloc, now, s, k, p),
+            (Peer::Client(_), Peer::Client(_)) => Ok(outcome(alloc, None, Note::Nothing)?),
         }
     }
 
-    /// A packet of the server comes to the session, if it has joined.
+    /// A packet of the actor comes to the server of number `k`, if there is one.
+    fn server_told(
+        &mut self,
+        alloc: Global,
+        now: u64,
+        k: u8,
+        from: Peer,
+        p: &Packet,
+    ) -> Result<Outcome, CoreError>
+        requires reading { now ≤ LATEST }
+        requires comes { (post : Links) → slice_get self.old.posts k ≡ Some post →
+            IsComing (post_accepted post from p.now).heard.joined
+            (first_from k from self.old.seats self.old.flying) }
+        requires posts { length self.old.posts ≡ length self.old.servers }
+        ensures outcome { IfOk result (λ o. o ≡ (server_told_at (slice_get self.old.servers k)
+            (slice_get self.old.posts k) now k from p.now self.old).outcome) }
+        ensures world { OnOk result (self.new ≡ (server_told_at (slice_get self.old.servers k)
+            (slice_get self.old.posts k) now k from p.now self.old).world) }
+        ensures fits { (core : TheCore) (post : Links) →
+            slice_get self.old.servers k ≡ Some core → slice_get self.old.posts k ≡ Some post →
+            OnOk result (IsAnswered now (post_accepted post from p.now).heard.joined
+            (first_from k from self.old.seats self.old.flying)
+            (at_server core (post_accepted post from p.now).links self.old)) }
+        ensures spent { (counter : TheCounter) → IsErrOf result (errors.Spent counter) →
+            (server_told_at (slice_get self.old.servers k)
+            (slice_get self.old.posts k) now k from p.now self.old).spent ≡ Some counter }
+        ensures only { (counter : TheCounter) → (server_told_at (slice_get self.old.servers k)
+            (slice_get self.old.posts k) now k from p.now self.old).spent ≡ Some counter →
+            IsErrOf result (errors.Spent counter) ⊎ IsErrOf result errors.Memory }
+        ensures room { OnOk result ((server_told_at (slice_get self.old.servers k)
+            (slice_get self.old.posts k) now k from p.now self.old).spent ≡ None) }
+        ensures err { OnErr result (self.new ≡ self.old) }
+    {
+        let at = k as usize;
+        if at >= self.servers.len() {
+            return Ok(outcome(alloc, None, Note::Nothing)?);
+        }
+        server_told(
+            alloc,
+            now,
+            k,
+            from,
+            p,
+            self.servers.at_mut(at),
+            self.posts.at_mut(at),
+            &mut self.seats,
+            &mut self.flying,
+            &mut self.journal,
+            &mut self.packets,
+        )
+    }
+
+    /// A packet of the server of number `k` comes to the session, if it has joined.
     fn client_told(
         &mut self,
         alloc: Global,
         now: u64,
         s: Session,
+        k: u8,
         p: &Packet,
     ) -> Result<Outcome, CoreError>
         requires reading { now ≤ LATEST }
         requires comes { (seat : TheSeat) → map.get self.old.seats s.0 ≡ Some seat →
-            IsFirstOf (post_accepted seat.post the_server p.now).heard.joined
-            (to_session seat.down) }
+            IsFirstOf (post_accepted seat.post (Server k) p.now).heard.joined
+            (downs_of k (Some seat)) }
         ensures outcome { IfOk result (λ o. o ≡
-            (told_at (map.get self.old.seats s.0) now s p.now self.old).outcome) }
+            (told_at (map.get self.old.seats s.0) now s k p.now self.old).outcome) }
         ensures world { OnOk result (self.new ≡
-            (told_at (map.get self.old.seats s.0) now s p.now self.old).world) }
+            (told_at (map.get self.old.seats s.0) now s k p.now self.old).world) }
         ensures spent { (counter : TheCounter) → IsErrOf result (errors.Spent counter) →
-            (told_at (map.get self.old.seats s.0) now s p.now self.old).spent ≡ Some counter }
+            (told_at (map.get self.old.seats s.0) now s k p.now self.old).spent ≡ Some counter }
         ensures only { (counter : TheCounter) →
-            (told_at (map.get self.old.seats s.0) now s p.now self.old).spent ≡ Some counter →
+            (told_at (map.get self.old.seats s.0) now s k p.now self.old).spent ≡ Some counter →
             IsErrOf result (errors.Spent counter) ⊎ IsErrOf result errors.Memory }
         ensures err { OnErr result (self.new ≡ self.old) }
     {
@@ -151,6 +205,6 @@ impl Served {
             return Ok(outcome(alloc, None, Note::Nothing)?);
         }
         self.seats
-            .tell(alloc, now, s, p, &mut self.journal, &mut self.packets)
+            .tell(alloc, now, s, k, p, &mut self.journal, &mut self.packets)
     }
 }

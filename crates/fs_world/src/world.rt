@@ -3,6 +3,7 @@ ghost use Rattle.std.specs.Prelude.{◌≡◌, ◌≤◌, ◌⊎◌, Some, IfOk,
 ghost use Rattle.fs_ident.specs.declared.limits.TheConstants.{LATEST};
 ghost use Rattle.fs_msg.specs.declared.core_error.Counter.{Counter as TheCounter};
 ghost use Rattle.fs_msg.specs.declared.core_error.CoreError.TheVariants as errors;
+ghost use Rattle.fs_serial.specs.Cluster.{parcels_of};
 
 use crate::direct::Direct;
 use crate::form::Form;
@@ -10,8 +11,9 @@ use crate::served::Served;
 use fs_ident::{List, Memory, Twin};
 use fs_model::Space;
 use fs_msg::{CoreError, Item};
+use fs_record::Parcel;
 use fs_schedule::{Event, Head, Outcome};
-use fs_serial::joined;
+use fs_serial::{Flying, joined};
 use fs_window::Sent;
 use std::alloc::Global;
 use std::marker::Model;
@@ -54,8 +56,12 @@ impl World {
                 let form = Form::Direct(Direct::new(alloc)?);
                 Ok(World { form, none })
             }
-            Head::Servers { skew, term, .. } => {
-                let form = Form::Served(Served::new(alloc, skew, term)?);
+            Head::Servers {
+                servers,
+                skew,
+                term,
+            } => {
+                let form = Form::Served(Served::new(alloc, servers, skew, term)?);
                 Ok(World { form, none })
             }
         }
@@ -107,7 +113,10 @@ impl World {
     {
         match &self.form {
             Form::Direct(direct) => direct.space.copy(alloc),
-            Form::Served(served) => joined(alloc, &served.server),
+            Form::Served(served) => {
+                let parcels = parcels_of(alloc, served.flying.as_slice())?;
+                joined(alloc, &served.servers, &parcels)
+            }
         }
     }
 
@@ -119,4 +128,15 @@ impl World {
             Form::Served(served) => served.discard(),
         }
     }
+}
+
+/// The parcels on their way.
+fn parcels_of(alloc: Global, flying: &[Flying]) -> Result<List<Parcel>, Memory>
+    ensures { IfOk result (λ parcels. parcels ≡ parcels_of flying.now) }
+{
+    let mut parcels = List::new(alloc);
+    for f in flying {
+        parcels.push(f.parcel.copy(alloc)?)?;
+    }
+    Ok(parcels)
 }

@@ -1,9 +1,12 @@
 use Rattle.std.proofs.Common.{◌≡◌, ℕ, List, ◌∙◌, subst, sym}
 use Rattle.std.specs.Io.KnownBytes.{Appends}
 use Rattle.fs_schedule.specs.declared.error.ScheduleError.TheVariants as schedule
-use Rattle.farsite.proofs.Asked.{all_asked}
+use Rattle.farsite.proofs.Asked.{all_asked, all_fit}
 use Rattle.farsite.proofs.Done.{limit_told, read_limit, replayed}
 use Rattle.farsite.proofs.top.replay.Goals as goal
+
+pub report_of-requires-clause-events : goal.report_of-requires-clause-events
+report_of-requires-clause-events g c = all_fit c.in-Ok.schedule.head c.in-Ok.schedule.events c.in-Ok.ensures.fits
 
 pub returns-in-Ok-write_lines-clause-done : goal.returns-in-Ok-write_lines-clause-done
 returns-in-Ok-write_lines-clause-done g c = λ _.

@@ -8,4 +8,4 @@ use Rattle.fs_schedule.proofs.session.session_at.Goals as goal
 pub returns : goal.returns
 returns c =
     let word : word_of c.args.word.now ≡ client_word c.in-Some.digits.now = ap word_of c.in-Bare.is ∙ ap (λ (xs : List ℕ). Bare xs) c.in-Some.ensures.found in
-    subst (Tells IsToldSession c.number_of.result) (sym word) (tells_session c.number_of.result c.in-Some.digits.now c.number_of.ensures)
+    subst (Tells IsToldSession c.count_up_to.result) (sym word) (tells_session c.count_up_to.result c.in-Some.digits.now c.count_up_to.ensures)

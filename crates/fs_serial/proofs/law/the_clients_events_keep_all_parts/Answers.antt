@@ -1,5 +1,5 @@
-use Rattle.fs_serial.proofs.ClientEvents.{client_keeps}
+use Rattle.fs_serial.proofs.ClusterClients.{client_event}
 use Rattle.fs_serial.proofs.law.the_clients_events_keep_all_parts.Goals as goal
 
 pub returns : goal.returns
-returns c = client_keeps
+returns c = λ skew greatest now k by h e can within. client_event skew greatest k by h now e can within

@@ -1,9 +1,9 @@
-use Rattle.fs_serial.proofs.Rising.{world_later}
-use Rattle.fs_serial.proofs.ServerEvents.{server_keeps}
+use Rattle.fs_serial.proofs.ClusterRuns.{cluster_later}
+use Rattle.fs_serial.proofs.ClusterSteps.{server_keeps}
 use Rattle.fs_serial.proofs.law.the_servers_events_keep_all_parts.Goals as goal
 
 pub returns-clause-event : goal.returns-clause-event
 returns-clause-event c = server_keeps
 
 pub returns-clause-rises : goal.returns-clause-rises
-returns-clause-rises c = world_later
+returns-clause-rises c = cluster_later

@@ -7,6 +7,6 @@ pub loop-pushed-preserved : goal.loop-pushed-preserved
 loop-pushed-preserved c = record {
   within = omega arith;
   seats = c.in-Ok.ensures.ok
-      ∙ ap (with_down c.index-send-pushed.result) c.loop-pushed.invariant.seats
-      ∙ sym (downs_more c.args.send.now c.loop-pushed.pushed c.index-send-pushed.result c.args.seats.now c.loop-pushed-test.true c.index-send-pushed.is);
+      ∙ ap (with_down c.args.k c.index-send-pushed.result) c.loop-pushed.invariant.seats
+      ∙ sym (downs_more c.args.k c.args.send.now c.loop-pushed.pushed c.index-send-pushed.result c.args.seats.now c.loop-pushed-test.true c.index-send-pushed.is);
 }

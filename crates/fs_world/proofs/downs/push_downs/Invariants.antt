@@ -5,7 +5,7 @@ use Rattle.fs_world.proofs.downs.push_downs.Given as goal
 abbrev pub invariant-loop-pushed : goal.invariant-loop-pushed
 invariant-loop-pushed l = record {
   within : l.pushed ≤ length l.send;
-  seats : l.seats ≡ with_downs (take l.pushed l.send) l.fn.seats;
+  seats : l.seats ≡ with_downs l.k (take l.pushed l.send) l.fn.seats;
 }
 
 abbrev pub decreases-loop-pushed : goal.decreases-loop-pushed

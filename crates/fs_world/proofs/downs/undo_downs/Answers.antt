@@ -11,8 +11,8 @@ loop-left-preserved c =
     let below : rest < length send = omega arith in
     record {
       within = omega arith;
-      seats = λ before begun. c.undo_down.ensures (with_downs (take rest send) before)
+      seats = λ before begun. c.undo_down.ensures (with_downs c.args.k (take rest send) before)
           (c.loop-left.invariant.seats before begun
-          ∙ ap (λ (n : ℕ). with_downs (take n send) before) all
-          ∙ downs_more send rest c.index-send-left.result before below c.index-send-left.is);
+          ∙ ap (λ (n : ℕ). with_downs c.args.k (take n send) before) all
+          ∙ downs_more c.args.k send rest c.index-send-left.result before below c.index-send-left.is);
     }

@@ -5,7 +5,7 @@ use Rattle.fs_world.proofs.downs.undo_downs.Given as goal
 abbrev pub invariant-loop-left : goal.invariant-loop-left
 invariant-loop-left l = record {
   within : l.left ≤ length l.send;
-  seats : (before : Seats) → l.fn.seats ≡ with_downs l.send before → l.seats ≡ with_downs (take l.left l.send) before;
+  seats : (before : Seats) → l.fn.seats ≡ with_downs l.k l.send before → l.seats ≡ with_downs l.k (take l.left l.send) before;
 }
 
 abbrev pub decreases-loop-left : goal.decreases-loop-left

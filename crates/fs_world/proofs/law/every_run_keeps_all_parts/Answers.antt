@@ -1,5 +1,6 @@
+use Rattle.fs_world.proofs.HeldLaws.{serial_laws}
 use Rattle.fs_world.proofs.Whole.{parts_kept}
 use Rattle.fs_world.proofs.law.every_run_keeps_all_parts.Goals as goal
 
 pub returns : goal.returns
-returns c = parts_kept
+returns c = parts_kept serial_laws

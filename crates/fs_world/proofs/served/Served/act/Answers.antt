@@ -3,12 +3,11 @@ use Rattle.std.specs.Prelude.{Option, Some, None, OnOk, if◌then◌else◌}
 use Rattle.fs_msg.specs.declared.core_error.Counter.TheVariants.{Entries}
 use Rattle.std.specs.FinMap.{get}
 use Rattle.fs_client.specs.Acts.{act_plan, is_act_spent}
-use Rattle.fs_serial.proofs.ActMoves.{called_plainly}
 use Rattle.fs_world.specs.Linked.{FitsUp}
 use Rattle.fs_world.specs.Served.{client_acts, do_at, is_full_up, with_seat}
 use Rattle.fs_world.specs.declared.seat.Seat.{Seat}
 use Rattle.fs_world.proofs.AtSeat.{has_room, linked_after, seat_there, seated, world_at}
-use Rattle.fs_world.proofs.Linked.{act as act_keeps}
+use Rattle.fs_world.proofs.Linked.{act_linked}
 use Rattle.fs_world.proofs.served.Served.act.Goals as goal
 
 -- the session's seat
@@ -28,7 +27,7 @@ returns-clause-linked c =
     let t = there c in
     let x = client_acts c.args.now c.args.s c.args.op.now t.0 w.journal w.packets in
     linked_after c.act.result (seated w c.act.new.self c.act.new.journal c.act.new.packets) (with_seat c.args.s x w) (FitsUp (act_plan t.0.client c.args.now c.args.op.now).out.send)
-    (λ fits room. act_keeps w c.args.s t.0 c.args.now c.args.op.now t.1 (called_plainly c.args.op.now c.requires.called).1 fits (has_room (if is_act_spent t.0.client c.args.now c.args.op.now then Some Entries else None) (is_full_up (act_plan t.0.client c.args.now c.args.op.now).out.send t.0.post) room) c.requires.linked)
+    (λ fits room. act_linked w c.args.s t.0 c.args.now c.args.op.now t.1 c.requires.called fits (has_room (if is_act_spent t.0.client c.args.now c.args.op.now then Some Entries else None) (is_full_up (act_plan t.0.client c.args.now c.args.op.now).out.send t.0.post) room) c.requires.linked)
     (world_at c.act.result w c.args.s c.act.new.self c.act.new.journal c.act.new.packets x (c.act.ensures.seat t.0 t.1) (c.act.ensures.journal t.0 t.1) (c.act.ensures.packets t.0 t.1))
     (c.act.ensures.fits t.0 t.1)
     (c.act.ensures.room t.0 t.1)

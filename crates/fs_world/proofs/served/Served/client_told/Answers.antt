@@ -14,21 +14,21 @@ there c = seat_there _ (sym c.if-not-has.false ∙ c.has.ensures)
 pub returns-clause-outcome : goal.returns-clause-outcome
 returns-clause-outcome c =
     let t = there c in
-    subst (λ (o : Option Seat). IfOk c.tell.result (λ (x : Outcome). x ≡ (told_at o c.args.now c.args.s c.args.p.now c.args.self.now).outcome)) (sym t.1) (c.tell.ensures.outcome t.0 t.1)
+    subst (λ (o : Option Seat). IfOk c.tell.result (λ (x : Outcome). x ≡ (told_at o c.args.now c.args.s c.args.k c.args.p.now c.args.self.now).outcome)) (sym t.1) (c.tell.ensures.outcome t.0 t.1)
 
 pub returns-clause-world : goal.returns-clause-world
 returns-clause-world c =
     let w = c.args.self.now in
     let t = there c in
-    subst (λ (o : Option Seat). OnOk c.tell.result (seated w c.tell.new.self c.tell.new.journal c.tell.new.packets ≡ (told_at o c.args.now c.args.s c.args.p.now w).world)) (sym t.1)
-    (world_at c.tell.result w c.args.s c.tell.new.self c.tell.new.journal c.tell.new.packets (client_told c.args.now c.args.s c.args.p.now t.0 w.journal w.packets) (c.tell.ensures.seat t.0 t.1) (c.tell.ensures.journal t.0 t.1) (c.tell.ensures.packets t.0 t.1))
+    subst (λ (o : Option Seat). OnOk c.tell.result (seated w c.tell.new.self c.tell.new.journal c.tell.new.packets ≡ (told_at o c.args.now c.args.s c.args.k c.args.p.now w).world)) (sym t.1)
+    (world_at c.tell.result w c.args.s c.tell.new.self c.tell.new.journal c.tell.new.packets (client_told c.args.now c.args.s c.args.k c.args.p.now t.0 w.journal w.packets) (c.tell.ensures.seat t.0 t.1) (c.tell.ensures.journal t.0 t.1) (c.tell.ensures.packets t.0 t.1))
 
 pub returns-clause-spent : goal.returns-clause-spent
 returns-clause-spent c counter e =
     let t = there c in
-    ap (λ (o : Option Seat). (told_at o c.args.now c.args.s c.args.p.now c.args.self.now).spent) t.1 ∙ c.tell.ensures.spent t.0 counter t.1 e
+    ap (λ (o : Option Seat). (told_at o c.args.now c.args.s c.args.k c.args.p.now c.args.self.now).spent) t.1 ∙ c.tell.ensures.spent t.0 counter t.1 e
 
 pub returns-clause-only : goal.returns-clause-only
 returns-clause-only c counter e =
     let t = there c in
-    c.tell.ensures.only t.0 counter t.1 (sym (ap (λ (o : Option Seat). (told_at o c.args.now c.args.s c.args.p.now c.args.self.now).spent) t.1) ∙ e)
+    c.tell.ensures.only t.0 counter t.1 (sym (ap (λ (o : Option Seat). (told_at o c.args.now c.args.s c.args.k c.args.p.now c.args.self.now).spent) t.1) ∙ e)

@@ -6,7 +6,7 @@ use Rattle.fs_world.specs.Linked.{FitsUp}
 use Rattle.fs_world.specs.Served.{client_turns, is_full_up, turn_at, with_seat}
 use Rattle.fs_world.specs.declared.seat.Seat.{Seat}
 use Rattle.fs_world.proofs.AtSeat.{has_room, linked_after, seat_there, seated, world_at}
-use Rattle.fs_world.proofs.Linked.{turn as turn_keeps}
+use Rattle.fs_world.proofs.Linked.{turn_linked}
 use Rattle.fs_world.proofs.served.Served.client_turn.Goals as goal
 
 -- the session's seat
@@ -26,7 +26,7 @@ returns-clause-linked c =
     let t = there c in
     let x = client_turns c.args.now c.args.s t.0 w.journal w.packets in
     linked_after c.turn.result (seated w c.turn.new.self c.turn.new.journal c.turn.new.packets) (with_seat c.args.s x w) (FitsUp (turn_plan t.0.client c.args.now).out.send)
-    (λ fits room. turn_keeps w c.args.s t.0 c.args.now t.1 fits (has_room None (is_full_up (turn_plan t.0.client c.args.now).out.send t.0.post) room) c.requires.linked)
+    (λ fits room. turn_linked w c.args.s t.0 c.args.now t.1 fits (has_room None (is_full_up (turn_plan t.0.client c.args.now).out.send t.0.post) room) c.requires.linked)
     (world_at c.turn.result w c.args.s c.turn.new.self c.turn.new.journal c.turn.new.packets x (c.turn.ensures.seat t.0 t.1) (c.turn.ensures.journal t.0 t.1) (c.turn.ensures.packets t.0 t.1))
     (c.turn.ensures.fits t.0 t.1)
     (c.turn.ensures.room t.0 t.1)

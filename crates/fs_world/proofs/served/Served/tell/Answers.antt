@@ -1,4 +1,8 @@
-use Rattle.std.proofs.Common.{◌≡◌, refl, ap, sym, ◌∙◌, arith}
+use Rattle.std.proofs.Common.{◌≡◌, refl, ap, sym, ◌∙◌, arith, subst}
+use Rattle.fs_world.specs.Linked.{IsLinked}
+use Rattle.fs_world.specs.Packets.{Packets}
+use Rattle.fs_world.specs.declared.served.Served.{Served}
+use Rattle.fs_world.proofs.Linked.{mark_linked}
 use Rattle.std.specs.Prelude.{slice_get, Some}
 use Rattle.std.proofs.lemmas.Option.{slice_get_within}
 use Rattle.fs_window.specs.Reading.{packet_at}
@@ -22,3 +26,8 @@ mark-requires c =
     let x = c.in-Some.sent.now in
     let there : slice_get c.args.self.now.packets.sent c.args.k ≡ Some x = sym c.in-Some.ensures in
     omega (arith, slice_get_within c.args.self.now.packets.sent c.args.k x there, c.in_ok-told.ensures.kept)
+
+pub returns-clause-linked : goal.returns-clause-linked
+returns-clause-linked c =
+    let v : Served = c.arrives.new.self in
+    subst (λ (p : Packets). IsLinked (record v { packets = p })) (sym c.mark.ensures) (mark_linked v c.args.k c.in_ok-told.ensures.linked)

@@ -1,0 +1,87 @@
+//! Reports with several servers.
+
+/// A directory is handed over while a client works in it.
+pub(super) const DELEGATION: &[u8] = b"farsite 1 servers 2 skew 10 term 100
+1 join c1
+1 do c1 create / \"a\" dir
+1 tell 0
+1 tell 1
+1 do c1 create / \"a\" dir
+1 turn c1
+1 tell 3
+1 tell 4
+1 move s0 /1 s1
+1 do c1 kind /1
+1 do c1 lookup /1 \"x\"
+1 tell 7
+1 tell 8
+1 do c1 lookup /1 \"x\"
+1 tell 6
+1 tell 11
+1 tell 10
+1 tell 12
+1 do c1 lookup /1 \"x\"
+";
+
+pub(super) const DELEGATION_REPORT: &[u8] = b"e1 c1 joined
+e2 c1 asked s0 life / shared, child / \"a\" exclusive, fresh / sends 0
+e3 s0 grants 3 all sends 1
+e4 c1 granted 3 all sends 2
+e5 c1 replied 1 made
+e6 c1 ships 1 s0 sends 3
+e7 s0 admits 1 all sends 4
+e8 c1 shipped 1 all sends 5
+e9 s0 moves /1 s1 sends 6
+e10 c1 read 2 isdir
+e11 c1 asked s0 child /1 \"x\" shared sends 7
+e12 s0 grants 0 moved /1 s1 sends 8
+e13 c1 granted 0 moved /1 s1 sends 9
+e14 c1 asked s1 child /1 \"x\" shared sends 10
+e15 s1 installs /1 sends 11
+e16 s0 none
+e17 s1 grants 1 all sends 12
+e18 c1 granted 1 all sends 13
+e19 c1 read 3 noname
+j1 c1 1 create / \"a\" dir /1 made
+j2 c1 2 kind /1 isdir
+j3 c1 3 lookup /1 \"x\" noname
+n / dir 0 0
+n /1 dir 0 0 in / \"a\"
+done events 19 journal 3 nodes 2
+";
+
+/// Moves that are refused, and one that is not.
+pub(super) const REFUSED_MOVES: &[u8] = b"farsite 1 servers 2 skew 10 term 100
+1 join c1
+1 do c1 create / \"a\" dir
+1 tell 0
+1 tell 1
+1 do c1 create / \"a\" dir
+1 turn c1
+1 tell 3
+1 tell 4
+1 move s0 /2 s1
+1 move s0 /1 s0
+1 move s1 /1 s0
+1 move s0 /1 s1
+1 move s0 /1 s1
+";
+
+pub(super) const REFUSED_MOVES_REPORT: &[u8] = b"e1 c1 joined
+e2 c1 asked s0 life / shared, child / \"a\" exclusive, fresh / sends 0
+e3 s0 grants 3 all sends 1
+e4 c1 granted 3 all sends 2
+e5 c1 replied 1 made
+e6 c1 ships 1 s0 sends 3
+e7 s0 admits 1 all sends 4
+e8 c1 shipped 1 all sends 5
+e9 s0 stays nofile
+e10 s0 stays same
+e11 s1 stays notmine / s0
+e12 s0 moves /1 s1 sends 6
+e13 s0 stays notmine /1 s1
+j1 c1 1 create / \"a\" dir /1 made
+n / dir 0 0
+n /1 dir 0 0 in / \"a\"
+done events 13 journal 1 nodes 2
+";

@@ -1,0 +1,105 @@
+-- A server answers the session that asked, and sends recalls.
+use Rattle.std.proofs.Common.{◌≡◌, ℕ, Bool, true, false, List, [], ◌∷◌, length, cond, ap, ◌∙◌, inl, inr}
+use Rattle.std.specs.Prelude.{Option, Some, None}
+use Rattle.std.specs.List.{find, list_all}
+use Rattle.fs_ident.specs.In.{In}
+use Rattle.fs_ident.specs.declared.actor.LeaseNo.{LeaseNo}
+use Rattle.fs_ident.specs.declared.actor.Peer.{Peer}
+use Rattle.fs_ident.specs.declared.actor.Peer.TheVariants.{Client as OfSession, Server as OfServer}
+use Rattle.fs_ident.specs.declared.actor.Session.{Session}
+use Rattle.fs_ident.proofs.Standing.{In-map}
+use Rattle.fs_field.specs.declared.row.Row.{Row}
+use Rattle.fs_field.specs.Table.{has_no}
+use Rattle.fs_msg.specs.declared.answer.Answer.{Answer}
+use Rattle.fs_msg.specs.declared.answer.Answer.TheVariants.{Granted, Shipped, Recall}
+use Rattle.fs_msg.specs.declared.client_msg.ClientMsg.{ClientMsg}
+use Rattle.fs_msg.specs.declared.client_msg.ClientMsg.TheVariants.{Ask, Renew, Release, Ship}
+use Rattle.fs_msg.specs.declared.end.End.{End}
+use Rattle.fs_msg.specs.declared.end.End.TheVariants as end
+use Rattle.fs_msg.specs.declared.entry.Entry.{Entry}
+use Rattle.fs_msg.specs.declared.msg.Msg.{Msg}
+use Rattle.fs_msg.specs.declared.peer_msg.PeerMsg.TheVariants as peer
+use Rattle.fs_parcel.specs.Parcel.{move_refusal}
+use Rattle.fs_parcel.specs.declared.error.MoveError.{MoveError}
+use Rattle.fs_record.specs.Effects.{tells_its_effects}
+use Rattle.fs_record.specs.declared.parcel.Parcel.{Parcel}
+use Rattle.fs_server.specs.Asks.{asked_in, recall_of, recalls_at}
+use Rattle.fs_server.specs.Moves.{fits_here, move_at, parcel_at}
+use Rattle.fs_server.specs.Reaps.{lapsed_in, reap_from, recalls_for, turn_over}
+use Rattle.fs_server.specs.Server.{strange, to_session}
+use Rattle.fs_server.specs.Ships.{ship_from, shipped}
+use Rattle.fs_server.specs.Step.{event_step, recalled_on, recalls_of}
+use Rattle.fs_server.specs.declared.event.ServerEvent.{ServerEvent}
+use Rattle.fs_server.specs.declared.event.ServerEvent.TheVariants as event
+use Rattle.fs_server.specs.declared.state.Server.{Server}
+use Rattle.fs_serial.proofs.Addressing.{AreDue, recalls_due}
+use Rattle.fs_serial.proofs.Facts.{In-append}
+use Rattle.fs_serial.proofs.Sending.{IsRecallTo}
+
+-- ## Recalls
+
+recall_at : (number : LeaseNo) (o : Option Row) (m : Peer × Msg) → In m (recall_of number o) → IsRecallTo m
+recall_at number None m i = absurd i
+recall_at number (Some row) m i = elim i as (λ _. IsRecallTo m) [ inl e ↦ record { to = row.session; number = number; message = e } | inr z ↦ absurd z ]
+
+recall_with : (e : End) (rows : List Row) (m : Peer × Msg) → In m (recalls_at e rows) → IsRecallTo m
+recall_with (end.Wait blocker) rows m i = recall_at blocker (find (has_no blocker) rows) m i
+recall_with e rows m i = absurd i
+
+recall_each : (rows : List Row) (ns : List LeaseNo) (m : Peer × Msg) → In m (recalls_for rows ns) → IsRecallTo m
+recall_each rows [] m i = absurd i
+recall_each rows (n ∷ ns) m i = elim (In-append m (recall_of n (find (has_no n) rows)) (recalls_for rows ns) i) as (λ _. IsRecallTo m) [ inl j ↦ recall_at n (find (has_no n) rows) m j | inr j ↦ recall_each rows ns m j ]
+
+recall_all : (leases : List (LeaseNo × Session)) (m : Peer × Msg) → In m (recalls_of leases) → IsRecallTo m
+recall_all leases m i = let q = In-map (λ (x : LeaseNo × Session). to_session x.1 (Recall x.0)) m leases i in record { to = q.0.1; number = q.0.0; message = q.1.1 }
+
+-- ## Answers
+
+module _ (k : ℕ) (asked : Session → Option ℕ) where
+  -- one answer to the session that asked, and recalls behind it
+  one_due : (by : Session) (a : Answer) (rest : List (Peer × Msg)) → asked by ≡ Some k → ((m : Peer × Msg) → In m rest → IsRecallTo m) → AreDue k (to_session by a ∷ rest) asked
+  one_due by a rest due are to b (inl e) d =
+      let same : OfSession to ≡ OfSession by = ap (λ (p : Peer × Msg). p.0) e in
+      let is : to ≡ by = cc in
+      ap asked is ∙ due
+  one_due by a rest due are to b (inr i) d = recalls_due k rest asked are to b i d
+
+  none_due : AreDue k [] asked
+  none_due to a i d = absurd i
+
+  ship_due : (by : Session) (entries : List Entry) (s : Server) (b : Bool) → asked by ≡ Some k → AreDue k (cond b (shipped by (ship_from by entries s [])) (strange s)).out.send asked
+  ship_due by entries s true due = let x = ship_from by entries s [] in one_due by (Shipped (length x.admitted) x.end) [] due (λ m i. absurd i)
+  ship_due by entries s false due = none_due
+
+  message_due : (by : Session) (m : ClientMsg) (s : Server) → asked by ≡ Some k → AreDue k (event_step (event.FromClient by m) s).out.send asked
+  message_due by (Ask items dir) s due = let a = asked_in by items dir s in one_due by (Granted a.grants a.fresh a.end) (recalls_at a.end a.server.rows) due (recall_with a.end a.server.rows)
+  message_due by (Renew pairs) s due = λ to b i d. one_due by _ [] due (λ m j. absurd j) to b i d
+  message_due by (Release pairs) s due = λ to b i d. one_due by _ [] due (λ m j. absurd j) to b i d
+  message_due by (Ship entries) s due = ship_due by entries s (list_all (λ (e : Entry). tells_its_effects e.op) entries) due
+
+  turn_due : (xs : List (List ℕ × Session)) (s : Server) → AreDue k (turn_over xs s).out.send asked
+  turn_due [] s = none_due
+  turn_due (x ∷ xs) s = let r = reap_from (x ∷ xs) s [] [] in recalls_due k (recalls_for r.server.rows r.blockers) asked (recall_each r.server.rows r.blockers)
+
+  parcel_due : (b : Bool) (p : Parcel) (s : Server) → AreDue k (parcel_at b p s).out.send asked
+  parcel_due true p s = none_due
+  parcel_due false p s = none_due
+
+  move_due : (o : Option MoveError) (prefix : List ℕ) (to : ℕ) (s : Server) → AreDue k (move_at o prefix to s).out.send asked
+  move_due None prefix to s = λ x a i d. elim i as (λ _. asked x ≡ Some k) [
+    | inl e ↦ let same : OfSession x ≡ OfServer to = ap (λ (p : Peer × Msg). p.0) e in absurd (cc)
+    | inr z ↦ absurd z
+  ]
+  move_due (Some why) prefix to s = none_due
+
+  -- the session that is told asked
+  abbrev pub HasAsked : ServerEvent → Type 0
+  HasAsked (event.FromClient by m) = asked by ≡ Some k
+  HasAsked e = Unit {0}
+
+  pub event_due : (e : ServerEvent) (s : Server) → HasAsked e → AreDue k (event_step e s).out.send asked
+  event_due (event.FromClient by m) s due = message_due by m s due
+  event_due (event.FromPeer from (peer.Parcel p)) s due = parcel_due (fits_here p s) p s
+  event_due event.Turn s due = turn_due (lapsed_in s) s
+  event_due (event.Recall field) s due = recalls_due k (recalls_of (recalled_on field s)) asked (recall_all (recalled_on field s))
+  event_due (event.Move prefix to) s due = move_due (move_refusal s.records s.rows s.map s.me prefix to None) prefix to s

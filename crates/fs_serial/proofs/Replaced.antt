@@ -1,0 +1,51 @@
+-- Everything is at its place after a server took the place of another and parcels came or went.
+use Rattle.std.proofs.Common.{◌≡◌, ℕ, List, [], ◌++◌, length, length-set, ap, sym, ◌∙◌, subst, inl, inr, append-nil}
+use Rattle.std.specs.Prelude.{Some, slice_get, slice_set}
+use Rattle.fs_ident.specs.In.{In}
+use Rattle.fs_ident.specs.declared.actor.Session.{Session}
+use Rattle.fs_field.specs.Table.{is_ordered}
+use Rattle.fs_server.specs.declared.state.Server.{Server}
+use Rattle.fs_serial.specs.Cluster.{Cluster, Flying, Lines, parcels_of}
+use Rattle.fs_serial.specs.Joined.{rows_of_all}
+use Rattle.fs_serial.specs.Places.{IsHome, IsSent, OnePlace, PlacesHold}
+use Rattle.fs_serial.proofs.SetAt.{In_set, get_set}
+
+-- the cluster then: no entry joined the journal
+abbrev pub replaced : ℕ → Server → List Flying → (Session → Lines) → Cluster → Cluster
+replaced k t flying lines c = record {
+  servers = slice_set c.servers k t;
+  flying = flying;
+  journal = c.journal ++ [];
+  replied = c.replied;
+  lines = lines;
+}
+
+module _ (c : Cluster) (h : PlacesHold c) (k : ℕ) (s t : Server) (at : slice_get c.servers k ≡ Some s) (flying : List Flying) (lines : Session → Lines) where
+  home_then : IsHome c.journal t → (x : Server) → In x (slice_set c.servers k t) → IsHome (c.journal ++ []) x
+  home_then own x i = subst (λ j. IsHome j x) (sym (append-nil c.journal)) (elim (In_set c.servers k t x i) as (λ _. IsHome c.journal x) [
+    | inl e ↦ subst (IsHome c.journal) (sym e) own
+    | inr j ↦ h.homes x j
+  ])
+
+  sent_then : ((f : Flying) → In f flying → IsSent (length c.servers) c.journal f) → (f : Flying) → In f flying → IsSent (length (slice_set c.servers k t)) (c.journal ++ []) f
+  sent_then each f i =
+      subst (λ n. IsSent n (c.journal ++ []) f) (sym (length-set c.servers k t))
+      (subst (λ j. IsSent (length c.servers) j f) (sym (append-nil c.journal)) (each f i))
+
+  numbered_then : t.me ≡ s.me → (j : ℕ) (x : Server) → slice_get (slice_set c.servers k t) j ≡ Some x → x.me ≡ j
+  numbered_then me j x e = elim (get_set c.servers k j t x e) as (λ _. x.me ≡ j) [
+    | inl q ↦ ap (λ (y : Server). y.me) q.1 ∙ me ∙ h.numbered k s at ∙ q.0
+    | inr g ↦ h.numbered j x g
+  ]
+
+  pub replaced_places : t.me ≡ s.me → OnePlace (slice_set c.servers k t) flying → IsHome c.journal t
+      → ((f : Flying) → In f flying → IsSent (length c.servers) c.journal f)
+      → rows_of_all (slice_set c.servers k t) (parcels_of flying) ≡ rows_of_all c.servers (parcels_of c.flying)
+      → PlacesHold (replaced k t flying lines c)
+  replaced_places me one own each rows = record {
+    one = one;
+    homes = home_then own;
+    sent = sent_then each;
+    ordered = ap is_ordered rows ∙ h.ordered;
+    numbered = numbered_then me;
+  }

@@ -1,0 +1,68 @@
+-- No question and no parcel that comes to a server is strange.
+use Rattle.std.proofs.Common.{◌≡◌, ℕ, ◌≤◌, max, true, List, [], ◌∷◌, cond, sym, subst}
+use Rattle.std.specs.Prelude.{◌≢◌, Option, Some, None, slice_get}
+use Rattle.std.specs.List.{list_all}
+use Rattle.fs_ident.specs.declared.actor.Session.{Session}
+use Rattle.fs_msg.specs.declared.client_msg.ClientMsg.{ClientMsg}
+use Rattle.fs_msg.specs.declared.client_msg.ClientMsg.TheVariants.{Ask, Renew, Release, Ship}
+use Rattle.fs_msg.specs.declared.entry.Entry.{Entry}
+use Rattle.fs_msg.specs.declared.peer_msg.PeerMsg.TheVariants as peer
+use Rattle.fs_msg.specs.declared.server_note.ServerNote.TheVariants.{Strange}
+use Rattle.fs_parcel.specs.Parcel.{move_refusal}
+use Rattle.fs_parcel.specs.declared.error.MoveError.{MoveError}
+use Rattle.fs_record.specs.Effects.{tells_its_effects}
+use Rattle.fs_server.specs.Moves.{fits_here, move_at, parcel_at}
+use Rattle.fs_server.specs.Reaps.{lapsed_in, turn_over}
+use Rattle.fs_server.specs.Server.{begun, strange}
+use Rattle.fs_server.specs.Ships.{ship_from, shipped}
+use Rattle.fs_server.specs.Step.{event_step, message_step, step}
+use Rattle.fs_server.specs.declared.event.ServerEvent.{ServerEvent}
+use Rattle.fs_server.specs.declared.event.ServerEvent.TheVariants as event
+use Rattle.fs_server.specs.declared.state.Server.{Server}
+use Rattle.fs_serial.specs.Cluster.{Cluster, IsThere, is_with}
+use Rattle.fs_serial.specs.Seen.{ClusterHolds, counts_of, world_of}
+use Rattle.fs_serial.specs.World.{WorldHolds}
+use Rattle.fs_serial.proofs.Arriving.{parcel_fits}
+use Rattle.fs_serial.proofs.ClusterSteps.{there_begun}
+use Rattle.fs_serial.proofs.Facts.{In-mapped}
+use Rattle.fs_serial.proofs.Lapsing.{begins, begun_at}
+use Rattle.fs_serial.proofs.ServerEvents.{all_plain}
+use Rattle.fs_serial.proofs.SetAt.{In_got, get_here}
+use Rattle.fs_serial.proofs.Traffic.{find_In}
+
+turn_note : (xs : List (List ℕ × Session)) (s : Server) → (turn_over xs s).out.note ≢ Strange
+turn_note [] s e = absurd (cc)
+turn_note (x ∷ xs) s e = absurd (cc)
+
+move_note : (o : Option MoveError) (prefix : List ℕ) (to : ℕ) (s : Server) → (move_at o prefix to s).out.note ≢ Strange
+move_note None prefix to s e = absurd (cc)
+move_note (Some why) prefix to s e = absurd (cc)
+
+ship_note : (by : Session) (entries : List Entry) (s : Server) → list_all (λ (e : Entry). tells_its_effects e.op) entries ≡ true → (message_step by (Ship entries) s).out.note ≢ Strange
+ship_note by entries s plain =
+    subst (λ b. (cond b (shipped by (ship_from by entries s [])) (strange s)).out.note ≢ Strange) (sym plain) (λ e. absurd (cc))
+
+-- a server that has begun
+module _ (skew greatest k : ℕ) (c : Cluster) (s : Server) (at : slice_get c.servers k ≡ Some s) (h : ClusterHolds skew greatest c) where
+  view : WorldHolds greatest (world_of s c)
+  view = h.parts s (In_got c.servers k s at)
+
+  message_note : (by : Session) (m : ClientMsg) → IsThere k (event.FromClient by m) c → (message_step by m s).out.note ≢ Strange
+  message_note by (Ask items dir) there = λ e. absurd (cc)
+  message_note by (Renew pairs) there = λ e. absurd (cc)
+  message_note by (Release pairs) there = λ e. absurd (cc)
+  message_note by (Ship entries) there =
+      ship_note by entries s (all_plain greatest (world_of s c) by entries (In-mapped (λ (n : ℕ × ClientMsg). n.1) (k, Ship entries) (c.lines by).up (find_In (is_with k) (c.lines by).up (k, Ship entries) there)) view)
+
+  event_note : (e : ServerEvent) → IsThere k e c → (event_step e s).out.note ≢ Strange
+  event_note (event.FromClient by m) there = message_note by m there
+  event_note (event.FromPeer from (peer.Parcel p)) there =
+      let fits : fits_here p s ≡ true = parcel_fits k from c s p at h.places there (counts_of c.servers) view.all.servers view.all.kept in
+      subst (λ b. (parcel_at b p s).out.note ≢ Strange) (sym fits) (λ e. absurd (cc))
+  event_note event.Turn there = turn_note (lapsed_in s) s
+  event_note (event.Recall field) there = λ e. absurd (cc)
+  event_note (event.Move prefix to) there = move_note (move_refusal s.records s.rows s.map s.me prefix to None) prefix to s
+
+pub none_strange : (skew greatest now k : ℕ) (e : ServerEvent) (s : Server) (c : Cluster) → slice_get c.servers k ≡ Some s → max s.last now ≤ greatest → IsThere k e c → ClusterHolds skew greatest c → (step s now e).out.note ≢ Strange
+none_strange skew greatest now k e s c at before there h =
+    event_note skew greatest k (begun_at now k s c) (begun now s) (get_here c.servers k s (begun now s) at) (begins skew greatest now k s c at before h) e (there_begun now k s e c there)

@@ -1,0 +1,5 @@
+use Rattle.fs_serial.proofs.Fair.{fair}
+use Rattle.fs_serial.proofs.law.refusals_are_fair.Goals as goal
+
+pub returns : goal.returns
+returns c = fair

@@ -1,5 +1,0 @@
-use Rattle.fs_serial.proofs.FirstWorld.{first_all}
-use Rattle.fs_serial.proofs.law.the_first_world_has_all_parts.Goals as goal
-
-pub returns : goal.returns
-returns c = first_all

@@ -1,0 +1,106 @@
+-- What happened at a server, in the world.
+use Rattle.std.proofs.Common.{◌≡◌, ℕ, ◌<◌, Bool, List, [], ◌∷◌, length, refl, ap, ap₂, sym, ◌∙◌, subst, inl, inr}
+use Rattle.std.specs.Prelude.{Option, Some, None, Result, Ok, Err, OnOk, OnErr, slice_get, slice_set, slice_index_or}
+use Rattle.std.proofs.lemmas.List.{set-get_or}
+use Rattle.std.proofs.lemmas.Option.{slice_get_read}
+use Rattle.fs_ident.specs.declared.actor.Peer.{Peer}
+use Rattle.fs_ident.specs.declared.actor.Peer.TheVariants.{Server}
+use Rattle.fs_ident.specs.In.{In}
+use Rattle.fs_record.specs.Moving.{AreEachRecords}
+use Rattle.fs_record.specs.Records.{AreRecords}
+use Rattle.fs_record.specs.declared.parcel.Parcel.{Parcel}
+use Rattle.fs_serial.specs.Cluster.{parcels_of}
+use Rattle.fs_server.specs.Step.{spent_by, step}
+use Rattle.fs_msg.specs.declared.core_error.CoreError.{CoreError}
+use Rattle.fs_msg.specs.declared.item.Item.{Item}
+use Rattle.fs_schedule.specs.declared.outcome.Outcome.{Outcome}
+use Rattle.fs_serial.specs.declared.flying.Flying.{Flying}
+use Rattle.fs_server.specs.declared.event.ServerEvent.{ServerEvent}
+use Rattle.fs_server.specs.declared.state.Server.{Server as Core}
+use Rattle.fs_window.specs.Post.{Links, post_accepted}
+use Rattle.fs_window.specs.declared.packet.Packet.{Packet}
+use Rattle.fs_world.specs.Linked.{FitsDown, IsLinked}
+use Rattle.fs_world.specs.Packets.{Packets}
+use Rattle.fs_world.specs.Planned.{IsAnswered, IsOwn, WasSent}
+use Rattle.fs_world.specs.Served.{Seats, ServerStepped, at_server, core_step, first_from, is_full_down, server_step, server_step_at, server_told, server_told_at, with_server}
+use Rattle.fs_world.specs.declared.served.Served.{Served}
+use Rattle.fs_world.proofs.AtSeat.{has_room}
+use Rattle.fs_world.proofs.Linked.{own_event, server_linked, told_server_linked}
+
+-- what is lent out of a list stands there
+pub item_there : {X : Type 0} (xs : List X) (k : ℕ) (x : X) → k < length xs → x ≡ slice_index_or xs k x → slice_get xs k ≡ Some x
+item_there xs k x below is = slice_get_read xs (length xs) k x refl below is
+
+pub item_kept : {X : Type 0} (xs : List X) (k : ℕ) (x : X) → x ≡ slice_index_or xs k x → slice_set xs k x ≡ xs
+item_kept xs k x is = ap (slice_set xs k) is ∙ set-get_or xs k x
+
+abbrev pub served_by : Served → ℕ → Core → Links → Seats → List Flying → List Item → Packets → Served
+served_by w k s post seats flying journal packets = record w {
+  servers = slice_set w.servers k s;
+  posts = slice_set w.posts k post;
+  seats = seats;
+  flying = flying;
+  journal = journal;
+  packets = packets;
+}
+
+-- where all that the event concerns is what it leaves
+pub world_by : (r : Result Outcome CoreError) (w : Served) (k : ℕ) (s : Core) (post : Links) (seats : Seats) (flying : List Flying) (journal : List Item) (packets : Packets) (x : ServerStepped)
+    → OnOk r (s ≡ x.server) → OnOk r (post ≡ x.post) → OnOk r (seats ≡ x.seats) → OnOk r (flying ≡ x.flying) → OnOk r (journal ≡ x.journal) → OnOk r (packets ≡ x.packets)
+    → OnOk r (served_by w k s post seats flying journal packets ≡ (with_server k x w).world)
+world_by (Ok o) w k s post seats flying journal packets x a b d e f g = λ i. served_by w k (a i) (b i) (d i) (e i) (f i) (g i)
+world_by (Err o) w k s post seats flying journal packets x a b d e f g = tt
+
+-- where it is as before, so is the world
+pub world_kept : (r : Result Outcome CoreError) (w : Served) (k : ℕ) (s core : Core) (post links : Links) (seats : Seats) (flying : List Flying) (journal : List Item) (packets : Packets)
+    → core ≡ slice_index_or w.servers k core → links ≡ slice_index_or w.posts k links
+    → OnErr r (s ≡ core) → OnErr r (post ≡ links) → OnErr r (seats ≡ w.seats) → OnErr r (flying ≡ w.flying) → OnErr r (journal ≡ w.journal) → OnErr r (packets ≡ w.packets)
+    → OnErr r (served_by w k s post seats flying journal packets ≡ w)
+world_kept (Ok o) w k s core post links seats flying journal packets there tied a b d e f g = tt
+world_kept (Err o) w k s core post links seats flying journal packets there tied a b d e f g =
+    let first : served_by w k s post seats flying journal packets ≡ served_by w k core links w.seats w.flying w.journal w.packets = λ i. served_by w k (a i) (b i) (d i) (e i) (f i) (g i) in
+    first ∙ ap₂ (λ (servers : List Core) (posts : List Links). let v : Served = record w { servers = servers; posts = posts } in v) (item_kept w.servers k core there) (item_kept w.posts k links tied)
+
+-- the event of a server that there is
+pub step_there : (w : Served) (k : ℕ) (turn : Bool) (now : ℕ) (e : ServerEvent) (s : Core) (post : Links) → slice_get w.servers k ≡ Some s → slice_get w.posts k ≡ Some post
+    → server_step k turn now e w ≡ with_server k (core_step k turn None now e (at_server s post w)) w
+step_there w k turn now e s post there tied = ap₂ (λ (a : Option Core) (b : Option Links). server_step_at a b k turn now e w) there tied
+
+pub told_there : (w : Served) (k now : ℕ) (from : Peer) (p : Packet) (s : Core) (post : Links) → slice_get w.servers k ≡ Some s → slice_get w.posts k ≡ Some post
+    → server_told_at (slice_get w.servers k) (slice_get w.posts k) now k from p w ≡ with_server k (server_told now k from p (at_server s post w)) w
+told_there w k now from p s post there tied = ap₂ (λ (a : Option Core) (b : Option Links). server_told_at a b now k from p w) there tied
+
+-- ## The links after it
+
+pub own_after : (r : Result Outcome CoreError) (w new : Served) (k : ℕ) (turn : Bool) (now : ℕ) (e : ServerEvent) (s : Core) (post : Links) → slice_get w.servers k ≡ Some s → slice_get w.posts k ≡ Some post
+    → IsOwn (length w.servers) e → AreRecords s.records → IsLinked w
+    → OnOk r (new ≡ (server_step k turn now e w).world) → OnOk r (FitsDown (step s now e).out.send) → OnOk r ((core_step k turn None now e (at_server s post w)).spent ≡ None) → OnOk r (IsLinked new)
+own_after (Ok o) w new k turn now e s post there tied own valid h is fits room =
+    subst IsLinked (sym is) (server_linked w k s post turn now e there tied (own_event (length w.servers) s e own valid) fits (has_room (spent_by s now e) (is_full_down (step s now e).out.send post) room) h)
+own_after (Err o) w new k turn now e s post there tied own valid h is fits room = tt
+
+told_server_at : (w : Served) (k now : ℕ) (from : Peer) (p : Packet) → WasSent from (Server k) (Some p) w.packets.sent
+    → ((s : Core) (post : Links) → slice_get w.servers k ≡ Some s → slice_get w.posts k ≡ Some post → IsAnswered now (post_accepted post from p).heard.joined (first_from k from w.seats w.flying) (at_server s (post_accepted post from p).links w))
+    → IsLinked w → IsLinked (server_told_at (slice_get w.servers k) (slice_get w.posts k) now k from p w).world
+told_server_at w k now from p x fits h = go (slice_get w.servers k) (slice_get w.posts k) refl refl
+  where
+    go : (a : Option Core) (b : Option Links) → slice_get w.servers k ≡ a → slice_get w.posts k ≡ b → IsLinked (server_told_at a b now k from p w).world
+    go None b e f = h
+    go (Some s) None e f = h
+    go (Some s) (Some post) e f = told_server_linked w k s post now from p e f x (fits s post e f) h
+
+pub told_after : (r : Result Outcome CoreError) (w new : Served) (k now : ℕ) (from : Peer) (p : Packet) → WasSent from (Server k) (Some p) w.packets.sent
+    → ((s : Core) (post : Links) → slice_get w.servers k ≡ Some s → slice_get w.posts k ≡ Some post → OnOk r (IsAnswered now (post_accepted post from p).heard.joined (first_from k from w.seats w.flying) (at_server s (post_accepted post from p).links w)))
+    → IsLinked w → OnOk r (new ≡ (server_told_at (slice_get w.servers k) (slice_get w.posts k) now k from p w).world) → OnOk r (IsLinked new)
+told_after (Ok o) w new k now from p x fits h is = subst IsLinked (sym is) (told_server_at w k now from p x fits h)
+told_after (Err o) w new k now from p x fits h is = tt
+
+-- ## Parcels on their way
+
+of_flying : (flying : List Flying) → ((f : Flying) → In f flying → AreEachRecords f.parcel.records) → (p : Parcel) → In p (parcels_of flying) → AreEachRecords p.records
+of_flying [] h p i = absurd i
+of_flying (f ∷ fs) h p (inl e) = subst (λ (q : Parcel). AreEachRecords q.records) (sym e) (h f (inl refl))
+of_flying (f ∷ fs) h p (inr i) = of_flying fs (λ g j. h g (inr j)) p i
+
+pub parcels_apart : (w : Served) → IsLinked w → (parcels : List Parcel) → parcels ≡ parcels_of w.flying → (p : Parcel) → In p parcels → AreEachRecords p.records
+parcels_apart w h parcels is p i = of_flying w.flying (λ f j. (h.flying f j).each) p (subst (λ (ps : List Parcel). In p ps) is i)

@@ -1,0 +1,443 @@
+-- What happens at a server keeps what holds of the links, and what comes to it is the first message on its way.
+use Rattle.std.proofs.Common.{◌≡◌, ◌∙◌, ◌<◌, ◌≤◌, ◌==◌, ℕ, Bool, true, false, List, [], ◌∷◌, ◌++◌, length, map, Option, Some, None, refl, sym, ap, subst, cond, inl, inr, arith}
+use Rattle.std.specs.Prelude.{◌&&◌, is_some, nat_le, option_map, slice_get, slice_set}
+use Rattle.std.specs.FinMap.{get, insert}
+use Rattle.std.specs.List.{AllByRecursion, find, list_all}
+use Rattle.std.proofs.lemmas.Bool.{eqb-true}
+use Rattle.std.proofs.lemmas.Bool.Decides.{nat_tests}
+use Rattle.std.proofs.lemmas.List.{length-set}
+use Rattle.fs_ident.specs.In.{In}
+use Rattle.fs_ident.specs.declared.actor.Peer.{Peer}
+use Rattle.fs_ident.specs.declared.actor.Peer.TheVariants.{Server, Client}
+use Rattle.fs_ident.specs.declared.actor.Session.{Session}
+use Rattle.fs_ident.proofs.Booleans.{joined as both_joined}
+use Rattle.fs_ident.proofs.Passing.{found}
+use Rattle.fs_frag.specs.declared.joined.Joined.{Joined}
+use Rattle.fs_frag.specs.declared.joined.Joined.TheVariants.{Whole}
+use Rattle.fs_model.specs.declared.op.Op.{Op}
+use Rattle.fs_model.specs.declared.op.Op.TheVariants as op
+use Rattle.fs_window.specs.declared.heard.Heard.{Heard}
+use Rattle.fs_window.specs.declared.packet.Packet.{Packet}
+use Rattle.fs_window.specs.Peers.{same_peer}
+use Rattle.fs_window.specs.Post.{Links, post_accepted}
+use Rattle.fs_window.proofs.Lists.{some_is}
+use Rattle.fs_window.proofs.OneStep.{in_both}
+use Rattle.fs_wire.specs.Ranges.{FitsOp}
+use Rattle.fs_wire.specs.Readable.{is_readable_op}
+use Rattle.fs_msg.specs.Ranges.{FitsEntry, FitsMessage}
+use Rattle.fs_msg.specs.Readable.{is_readable, is_readable_entry}
+use Rattle.fs_msg.specs.Spelling.{message}
+use Rattle.fs_msg.specs.declared.answer.Answer.{Answer}
+use Rattle.fs_msg.specs.declared.client_msg.ClientMsg.{ClientMsg}
+use Rattle.fs_msg.specs.declared.client_msg.ClientMsg.TheVariants as client
+use Rattle.fs_msg.specs.declared.core_error.Counter.{Counter}
+use Rattle.fs_msg.specs.declared.entry.Entry.{Entry}
+use Rattle.fs_msg.specs.declared.item.Item.{Item}
+use Rattle.fs_msg.specs.declared.msg.Msg.{Msg}
+use Rattle.fs_msg.specs.declared.msg.Msg.TheVariants as msg
+use Rattle.fs_msg.specs.declared.note.Note.{Note}
+use Rattle.fs_msg.specs.declared.note.Note.TheVariants as note
+use Rattle.fs_msg.specs.declared.peer_msg.PeerMsg.TheVariants.{Parcel as OfParcel}
+use Rattle.fs_record.specs.Records.{AreRecords}
+use Rattle.fs_serial.specs.Cluster.{flying_from, is_between, is_with, without_first}
+use Rattle.fs_serial.specs.declared.flying.Flying.{Flying}
+use Rattle.fs_server.specs.Server.{Stepped as CoreStepped}
+use Rattle.fs_server.specs.Step.{CanBeTold, spent_by, step}
+use Rattle.fs_server.specs.declared.event.ServerEvent.{ServerEvent}
+use Rattle.fs_server.specs.declared.event.ServerEvent.TheVariants.{FromClient, FromPeer, Move, Recall, Turn}
+use Rattle.fs_server.specs.declared.state.Server.{Server as Core}
+use Rattle.fs_world.specs.Linked.{AreTied, FitsDown, HasJoined, IsCarried, IsFirstOf, IsLinked, IsNamedAnswer, IsSeated, IsServed, between, parcels_between, seat_post, ups_of}
+use Rattle.fs_world.specs.Planned.{IsAnswered, IsComing, IsOwn, WasSent, message_of}
+use Rattle.fs_world.specs.Served.{Seats, ServerStepped, at_server, core_step, first_from, first_spent, heard_in, is_full_down, quiet_note, server_goes, server_hears, server_step, server_step_at, server_told, up_first, with_down, with_down_at, with_downs, with_pushed, with_server, without_up}
+use Rattle.fs_world.specs.declared.seat.Seat.{Seat}
+use Rattle.fs_world.specs.declared.served.Served.{Served}
+use Rattle.fs_world.proofs.LinkedChange.{IsHeard, first_of, other_way, tied_alike}
+use Rattle.fs_world.proofs.LinkedLists.{In-more, In-without, found_first, got_set, set_same, within}
+use Rattle.fs_world.proofs.LinkedSeats.{all_put, got_here, joined_still, put_same, taken}
+use Rattle.fs_world.proofs.LinkedServed.{joined_all, other_post, server_due, server_hears_server, server_hears_session, server_sends, serving}
+use Rattle.fs_world.proofs.NamedServers.{AreSent, IsBrought, IsStepped, step_goes}
+use Rattle.fs_world.proofs.LinkedFirst.{AllSeated, carried_then, posts_there, readable_in, served_then}
+use Rattle.fs_world.proofs.LinkedSession.{packet_of, went}
+
+-- ## What can be spelled can be read
+
+session_readable : (n greatest : ℕ) → 1 ≤ n → n ≤ greatest → (nat_le 1 n && nat_le n greatest) ≡ true
+session_readable n greatest some few = grind (arith, nat_tests)
+
+op_readable : (o : Op) → FitsOp o → is_readable_op o ≡ true
+op_readable (op.OpenFile file n modes) h = h.2
+op_readable (op.Reap file s) h = session_readable s.0 _ h.1.0 h.1.1
+op_readable (op.Lookup dir name) h = refl
+op_readable (op.List dir) h = refl
+op_readable (op.Kind file) h = refl
+op_readable (op.Info file) h = refl
+op_readable (op.Create dir name kind id) h = refl
+op_readable (op.Close file n) h = refl
+op_readable (op.Set file n size stamp) h = refl
+op_readable (op.Delete dir name) h = refl
+op_readable (op.Rename sdir sname ddir dname) h = refl
+
+entries_readable : (es : List Entry) → AllByRecursion FitsEntry es → list_all is_readable_entry es ≡ true
+entries_readable [] h = refl
+entries_readable (e ∷ es) h = both_joined (is_readable_entry e) (list_all is_readable_entry es) (op_readable e.op h.0.op) (entries_readable es h.1)
+
+message_readable : (m : ClientMsg) → FitsMessage (msg.Client m) → is_readable (msg.Client m) ≡ true
+message_readable (client.Ask items fresh) h = refl
+message_readable (client.Renew pairs) h = refl
+message_readable (client.Release pairs) h = refl
+message_readable (client.Ship entries) h = entries_readable entries h.1
+
+-- ## While a server is at its step
+
+-- what holds of the world while its server is so far
+pub record IsGoing (w : Served) (k : ℕ) (x : ServerStepped) : Type 0 where
+  pub tied : AreTied (serving k x w)
+  pub server : IsServed (length w.servers) x.seats k x.server
+  pub seats : AllSeated (length w.servers) x.seats
+  pub flying : (f : Flying) → In f x.flying → IsCarried (length w.servers) x.seats f
+  pub joined : (t : Session) → HasJoined w.seats t → HasJoined x.seats t
+
+-- the step is not begun
+serving_same : (w : Served) (k : ℕ) (c : Core) (post : Links) → slice_get w.servers k ≡ Some c → slice_get w.posts k ≡ Some post → serving k (at_server c post w) w ≡ w
+serving_same w k c post e f =
+    ap (λ (cs : List Core). cores cs (slice_set w.posts k post)) (set_same w.servers k c e) ∙ ap (λ (ps : List Links). cores w.servers ps) (set_same w.posts k post f)
+  where
+    cores : List Core → List Links → Served
+    cores cs ps = record w { servers = cs; posts = ps }
+
+begins : (w : Served) (k : ℕ) (c : Core) (post : Links) → slice_get w.servers k ≡ Some c → slice_get w.posts k ≡ Some post → IsLinked w → IsGoing w k (at_server c post w)
+begins w k c post e f h = record {
+  tied = subst AreTied (sym (serving_same w k c post e f)) h.ties;
+  server = h.servers k c e;
+  seats = h.seats;
+  flying = h.flying;
+  joined = λ t g. g;
+}
+
+-- it is over
+going_linked : (w : Served) (k : ℕ) (x : ServerStepped) → k < length w.servers → IsGoing w k x → IsLinked w → IsLinked (serving k x w)
+going_linked w k x few g h =
+    let len : length (slice_set w.servers k x.server) ≡ length w.servers = length-set w.servers k x.server in
+    let some = h.some in
+    let most = h.few in
+    record {
+      posts = length-set w.posts k x.post ∙ h.posts ∙ sym len;
+      some = omega (arith, len);
+      few = omega (arith, len);
+      ties = g.tied;
+      servers = λ j c i. subst (λ (n : ℕ). IsServed n x.seats j c) (sym len) (core j c (sym (got_set w.servers k j x.server few) ∙ i));
+      seats = λ s seat i. subst (λ (n : ℕ). IsSeated n s seat) (sym len) (g.seats s seat i);
+      flying = λ f i. subst (λ (n : ℕ). IsCarried n x.seats f) (sym len) (g.flying f i);
+    }
+  where
+    core : (j : ℕ) (c : Core) → cond (j == k) (Some x.server) (slice_get w.servers j) ≡ Some c → IsServed (length w.servers) x.seats j c
+    core j c = either (j == k) refl
+      where
+        either : (b : Bool) → (j == k) ≡ b → cond b (Some x.server) (slice_get w.servers j) ≡ Some c → IsServed (length w.servers) x.seats j c
+        either true e i = subst (λ (n : ℕ). IsServed (length w.servers) x.seats n c) (sym (eqb-true j k e)) (subst (λ (d : Core). IsServed (length w.servers) x.seats k d) (some_is x.server c i) g.server)
+        either false e i = served_then (length w.servers) w.seats x.seats j c g.joined (h.servers j c i)
+
+-- ## What goes out
+
+-- whoever was heard has joined, or is another server that there is
+abbrev pub IsOther : ℕ → Seats → ℕ → Option Peer → Type 0
+IsOther servers seats k None = Unit {0}
+IsOther servers seats k (Some (Client s)) = HasJoined seats s
+IsOther servers seats k (Some (Server j)) = (j < servers) × (same_peer (Server j) (Server k) ≡ false)
+
+other_still : (servers : ℕ) (a b : Seats) (k : ℕ) (heard : Option Peer) → ((t : Session) → HasJoined a t → HasJoined b t) → IsOther servers a k heard → IsOther servers b k heard
+other_still servers a b k None g of = tt
+other_still servers a b k (Some (Client s)) g of = g s of
+other_still servers a b k (Some (Server j)) g of = of
+
+module _ (w : Served) (k : ℕ) (few : k < length w.servers) (h : IsLinked w) where
+  abbrev server_count : ℕ
+  server_count = length w.servers
+
+  there : k < length w.posts
+  there = subst (λ (n : ℕ). k < n) (sym h.posts) few
+
+  heard_there : (x : ServerStepped) (heard : Option Peer) → IsOther server_count x.seats k heard → IsHeard (serving k x w) (Server k) heard
+  heard_there x None of = tt
+  heard_there x (Some (Client s)) of = ((of.0.post, ap seat_post of.1), refl)
+  heard_there x (Some (Server j)) of = let q = posts_there w h j of.0 in ((q.0, other_post w k there x j of.1 ∙ q.1), of.1)
+
+  -- what is due goes out
+  due_goes : (x : ServerStepped) (turn : Bool) (heard : Option Peer) (n : Note) (spent : Option Counter) → IsOther server_count x.seats k heard → IsGoing w k x → IsGoing w k (server_goes k turn heard n spent x)
+  due_goes x turn heard n spent of g = record {
+    tied = server_due w k there x (server_goes k turn heard n spent x) turn heard refl refl refl refl (heard_there x heard of) g.tied;
+    server = g.server;
+    seats = g.seats;
+    flying = g.flying;
+    joined = g.joined;
+  }
+
+  -- ## The server takes a step
+
+  down_seated : (s : Session) (seat : Seat) (a : Answer) → IsNamedAnswer server_count a → IsSeated server_count s seat → IsSeated server_count s (record seat { down = seat.down ++ (k, a) ∷ [] })
+  down_seated s seat a named g = record {
+    number = g.number;
+    session = g.session;
+    log = g.log;
+    hints = g.hints;
+    up = g.up;
+    down = λ m i. In-more m seat.down (k, a) ((m.0 < server_count) × IsNamedAnswer server_count m.1) (λ j. g.down m j)
+        (λ e. subst (λ (y : ℕ × Answer). (y.0 < server_count) × IsNamedAnswer server_count y.1) (sym e) (few, named)) i;
+  }
+
+  downs_seated : (seats : Seats) (xs : List (Peer × Msg)) (m : Seats) → AreSent server_count seats k xs → AllSeated server_count m → AllSeated server_count (with_downs k xs m)
+  downs_seated seats [] m sent g = g
+  downs_seated seats ((Client s, msg.Answer a) ∷ xs) m sent g = downs_seated seats xs (with_down k (Client s, msg.Answer a) m) sent.1 (at (get m s.0) refl)
+    where
+      at : (o : Option Seat) → get m s.0 ≡ o → AllSeated server_count (with_down_at o s.0 (k, a) m)
+      at None e = g
+      at (Some seat) e = all_put (IsSeated server_count) m s (record seat { down = seat.down ++ (k, a) ∷ [] }) (down_seated s seat a sent.0.1 (g s seat e)) g
+  downs_seated seats ((Client s, msg.Client c) ∷ xs) m sent g = absurd sent.0
+  downs_seated seats ((Client s, msg.Peer c) ∷ xs) m sent g = absurd sent.0
+  downs_seated seats ((Server to, c) ∷ xs) m sent g = downs_seated seats xs m sent.1 g
+
+  flying_carried : (seats : Seats) (xs : List (Peer × Msg)) → AreSent server_count seats k xs → (f : Flying) → In f (flying_from k xs) → IsCarried server_count seats f
+  flying_carried seats [] sent f i = absurd i
+  flying_carried seats ((Client s, msg.Answer a) ∷ xs) sent f i = flying_carried seats xs sent.1 f i
+  flying_carried seats ((Client s, msg.Client c) ∷ xs) sent f i = absurd sent.0
+  flying_carried seats ((Client s, msg.Peer c) ∷ xs) sent f i = absurd sent.0
+  flying_carried seats ((Server to, msg.Answer a) ∷ xs) sent f i = absurd sent.0
+  flying_carried seats ((Server to, msg.Client c) ∷ xs) sent f i = absurd sent.0
+  flying_carried seats ((Server to, msg.Peer (OfParcel p)) ∷ xs) sent f (inl e) = subst (λ (y : Flying). IsCarried server_count seats y) (sym e) sent.0
+  flying_carried seats ((Server to, msg.Peer (OfParcel p)) ∷ xs) sent f (inr i) = flying_carried seats xs sent.1 f i
+
+  pub core_goes : (x : ServerStepped) (turn : Bool) (heard : Option Peer) (now : ℕ) (e : ServerEvent) → IsOther server_count x.seats k heard → IsBrought server_count x.seats x.server e → FitsDown (step x.server now e).out.send → is_full_down (step x.server now e).out.send x.post ≡ false
+      → IsGoing w k x → IsGoing w k (core_step k turn heard now e x)
+  core_goes x turn heard now e of brought fits room g =
+      let y : CoreStepped = step x.server now e in
+      let k_step : IsStepped server_count x.seats k y = step_goes server_count x.seats k few (readable_in server_count x.seats g.seats) x.server now e brought g.server in
+      let still = joined_all w k there server_count x.seats (posts_there w h) (readable_in server_count x.seats g.seats) y.out.send x.seats in
+      due_goes (record x { server = y.server; post = with_pushed y.out.send x.post; seats = with_downs k y.out.send x.seats; flying = x.flying ++ flying_from k y.out.send; journal = x.journal ++ y.out.admitted })
+      turn heard (note.Server y.out.note) (first_spent (spent_by x.server now e) (is_full_down y.out.send x.post))
+      (other_still server_count x.seats (with_downs k y.out.send x.seats) k heard still of)
+      (record {
+        tied = tied_same (with_pushed y.out.send x.post) (with_downs k y.out.send x.seats) (x.flying ++ flying_from k y.out.send) y.server (x.journal ++ y.out.admitted) (server_sends w k there server_count x.seats (posts_there w h) (readable_in server_count x.seats g.seats) y.out.send x (λ t j. j) k_step.sends fits room g.tied);
+        server = served_then server_count x.seats (with_downs k y.out.send x.seats) k y.server still k_step.server;
+        seats = downs_seated x.seats y.out.send x.seats k_step.sends g.seats;
+        flying = λ f i. carried_then server_count x.seats (with_downs k y.out.send x.seats) f still (in_both f x.flying (flying_from k y.out.send) (IsCarried server_count x.seats f) (λ j. g.flying f j) (λ j. flying_carried x.seats y.out.send k_step.sends f j) i);
+        joined = λ t j. still t (g.joined t j);
+      })
+    where
+      -- the server and the journal have no part in the links
+      tied_same : (post : Links) (seats : Seats) (flying : List Flying) (server : Core) (journal : List Item) → AreTied (serving k (record x { post = post; seats = seats; flying = flying }) w) → AreTied (serving k (record x { server = server; post = post; seats = seats; flying = flying; journal = journal }) w)
+      tied_same post seats flying server journal t =
+          let a = record x { post = post; seats = seats; flying = flying } in
+          let b = record x { server = server; post = post; seats = seats; flying = flying; journal = journal } in
+          tied_alike (serving k a w) (serving k b w) refl refl refl refl t
+
+  -- ## A packet comes
+
+  of_other : (x : ServerStepped) (from : Peer) (p : Packet) → IsOther server_count x.seats k (Some from) → IsOther server_count x.seats k (heard_in from p)
+  of_other x from p of = either (is_some p.body)
+    where
+      either : (b : Bool) → IsOther server_count x.seats k (cond b (Some from) None)
+      either true = of
+      either false = tt
+
+  -- of a session
+  session_comes : (x : ServerStepped) (s : Session) (seat : Seat) (now : ℕ) (heard : Option Peer) (count : Heard) (post : Links) (joined : List Joined) (o : Option (ℕ × ClientMsg))
+      → get x.seats s.0 ≡ Some seat → find (is_with k) seat.up ≡ o → IsOther server_count x.seats k heard → IsFirstOf joined (ups_of k (Some seat))
+      → IsGoing w k (record x { post = post; seats = insert x.seats s.0 (record seat { up = taken joined (is_with k) seat.up }) })
+      → IsAnswered now joined (option_map (λ (m : ℕ × ClientMsg). FromClient s m.1) o) (record x { post = post })
+      → IsGoing w k (server_hears now k (Client s) heard count joined (option_map (λ (m : ℕ × ClientMsg). FromClient s m.1) o) (record x { post = post }))
+  session_comes x s seat now heard count post [] o is e of f g answered =
+      due_goes (record x { post = post }) false heard (quiet_note count) None of (subst (λ (seats : Seats). IsGoing w k (record x { post = post; seats = seats })) (put_same x.seats s seat is) g)
+  session_comes x s seat now heard count post (j ∷ js) None is e of f g answered =
+      absurd (subst (λ (ms : List (ℕ × ClientMsg)). IsFirstOf (j ∷ js) (map (λ (m : ℕ × ClientMsg). msg.Client m.1) ms)) (found_first (is_with k) seat.up None e).1 f)
+  session_comes x s seat now heard count post (j ∷ js) (Some m) is e of f g answered =
+      let here = subst (λ (ms : List (ℕ × ClientMsg)). IsFirstOf (j ∷ js) (map (λ (m : ℕ × ClientMsg). msg.Client m.1) ms)) (found_first (is_with k) seat.up (Some m) e).1 f in
+      let left : Seat = record seat { up = without_first (is_with k) seat.up } in
+      subst (λ (o : Option Seat). IsGoing w k (core_step k false heard now (FromClient s m.1) (record x { post = post; seats = without_up k o s.0 x.seats }))) (sym is)
+      (core_goes (record x { post = post; seats = insert x.seats s.0 left }) false heard now (FromClient s m.1)
+      (other_still server_count x.seats (insert x.seats s.0 left) k heard (λ t q. joined_still x.seats s t left q) of)
+      ((left, got_here x.seats s left), message_readable m.1 here.1) answered.0 answered.1 g)
+
+  -- of another server
+  server_comes : (x : ServerStepped) (i : ℕ) (now : ℕ) (heard : Option Peer) (count : Heard) (post : Links) (joined : List Joined) (o : Option Flying)
+      → find (is_between i k) x.flying ≡ o → IsOther server_count x.seats k heard → IsFirstOf joined (parcels_between i k x.flying) → ((f : Flying) → o ≡ Some f → IsCarried server_count x.seats f)
+      → IsGoing w k (record x { post = post; flying = taken joined (is_between i k) x.flying })
+      → IsAnswered now joined (option_map (λ (f : Flying). FromPeer i (OfParcel f.parcel)) o) (record x { post = post })
+      → IsGoing w k (server_hears now k (Server i) heard count joined (option_map (λ (f : Flying). FromPeer i (OfParcel f.parcel)) o) (record x { post = post }))
+  server_comes x i now heard count post [] o e of f carried g answered = due_goes (record x { post = post }) false heard (quiet_note count) None of g
+  server_comes x i now heard count post (j ∷ js) None e of f carried g answered =
+      absurd (subst (λ (ms : List Flying). IsFirstOf (j ∷ js) (map (λ (f : Flying). msg.Peer (OfParcel f.parcel)) ms)) (found_first (is_between i k) x.flying None e).1 f)
+  server_comes x i now heard count post (j ∷ js) (Some p) e of f carried g answered =
+      let c = carried p refl in
+      core_goes (record x { post = post; flying = without_first (is_between i k) x.flying }) false heard now (FromPeer i (OfParcel p.parcel)) of (c.handles, c.rows) answered.0 answered.1 g
+
+-- ## An event of a server
+
+-- one of its own, and no message
+abbrev pub IsOwnEvent : ℕ → Core → ServerEvent → Type 0
+IsOwnEvent servers c Turn = Unit {0}
+IsOwnEvent servers c (Recall field) = Unit {0}
+IsOwnEvent servers c (Move prefix to) = (to < servers) × AreRecords c.records
+IsOwnEvent servers c (FromClient by m) = ⊥
+IsOwnEvent servers c (FromPeer from m) = ⊥
+
+pub own_event : (servers : ℕ) (c : Core) (e : ServerEvent) → IsOwn servers e → AreRecords c.records → IsOwnEvent servers c e
+own_event servers c Turn own valid = tt
+own_event servers c (Recall field) own valid = tt
+own_event servers c (Move prefix to) own valid = (own, valid)
+own_event servers c (FromClient by m) own valid = absurd own
+own_event servers c (FromPeer from m) own valid = absurd own
+
+own_brought : (servers : ℕ) (seats : Seats) (c : Core) (e : ServerEvent) → IsOwnEvent servers c e → IsBrought servers seats c e
+own_brought servers seats c Turn own = tt
+own_brought servers seats c (Recall field) own = tt
+own_brought servers seats c (Move prefix to) own = own
+own_brought servers seats c (FromClient by m) own = absurd own
+own_brought servers seats c (FromPeer from m) own = absurd own
+
+pub server_linked : (w : Served) (k : ℕ) (c : Core) (post : Links) (turn : Bool) (now : ℕ) (e : ServerEvent) → slice_get w.servers k ≡ Some c → slice_get w.posts k ≡ Some post → IsOwnEvent (length w.servers) c e
+    → FitsDown (step c now e).out.send → is_full_down (step c now e).out.send post ≡ false → IsLinked w → IsLinked (server_step k turn now e w).world
+server_linked w k c post turn now e i j own fits room h =
+    let few = within w.servers k c i in
+    let x : ServerStepped = at_server c post w in
+    subst (λ (o : Option Core). IsLinked (server_step_at o (slice_get w.posts k) k turn now e w).world) (sym i)
+    (subst (λ (o : Option Links). IsLinked (server_step_at (Some c) o k turn now e w).world) (sym j)
+    (going_linked w k (core_step k turn None now e x) few (core_goes w k few h x turn None now e tt (own_brought (length w.servers) w.seats c e own) fits room (begins w k c post i j h)) h))
+
+-- ## A packet comes to a server
+
+pub told_server_first : (w : Served) (k : ℕ) (post : Links) (from : Peer) (p : Packet) → slice_get w.posts k ≡ Some post → WasSent from (Server k) (Some p) w.packets.sent
+    → IsLinked w → IsFirstOf (post_accepted post from p).heard.joined (between w from (Server k))
+told_server_first w k post from p e x h =
+    let g = went w from (Server k) p x h in
+    first_of (Server k) from post g.from.0 p w e g.from.1 (other_way from (Server k) g.apart) (packet_of w from (Server k) g.from.0 post p g.from.1 e x h) h.ties
+
+-- the session that has these links
+seat_there : (w : Served) (s : Session) (q : Links) → seat_post (get w.seats s.0) ≡ Some q → (seat : Seat) × (get w.seats s.0 ≡ Some seat)
+seat_there w s q e = at (get w.seats s.0) refl e
+  where
+    at : (o : Option Seat) → get w.seats s.0 ≡ o → seat_post o ≡ Some q → (seat : Seat) × (get w.seats s.0 ≡ Some seat)
+    at None i f = absurd (cc)
+    at (Some seat) i f = (seat, i)
+
+up_seated : (servers : ℕ) (s : Session) (seat : Seat) (joined : List Joined) (is : ℕ × ClientMsg → Bool) → IsSeated servers s seat → IsSeated servers s (record seat { up = taken joined is seat.up })
+up_seated servers s seat [] is g = g
+up_seated servers s seat (j ∷ js) is g = record { number = g.number; session = g.session; log = g.log; hints = g.hints; up = λ m i. g.up m (In-without is m seat.up i); down = g.down }
+
+In-taken : (joined : List Joined) (is : Flying → Bool) (f : Flying) (flying : List Flying) → In f (taken joined is flying) → In f flying
+In-taken [] is f flying i = i
+In-taken (j ∷ js) is f flying i = In-without is f flying i
+
+pub told_server_linked : (w : Served) (k : ℕ) (c : Core) (post : Links) (now : ℕ) (from : Peer) (p : Packet) → slice_get w.servers k ≡ Some c → slice_get w.posts k ≡ Some post → WasSent from (Server k) (Some p) w.packets.sent
+    → IsAnswered now (post_accepted post from p).heard.joined (first_from k from w.seats w.flying) (record (at_server c post w) { post = (post_accepted post from p).links })
+    → IsLinked w → IsLinked (with_server k (server_told now k from p (at_server c post w)) w).world
+told_server_linked w k c post now (Client s) p i e x answered h =
+    let few = within w.servers k c i in
+    let y : ServerStepped = at_server c post w in
+    let g = went w (Client s) (Server k) p x h in
+    let there = seat_there w s g.from.0 g.from.1 in
+    let seat = there.0 in
+    let is = there.1 in
+    let a = post_accepted post (Client s) p in
+    let n = length w.servers in
+    let start = begins w k c post i e h in
+    let first : up_first k s (get w.seats s.0) ≡ option_map (λ (m : ℕ × ClientMsg). FromClient s m.1) (find (is_with k) seat.up) = ap (up_first k s) is in
+    let left : Seat = record seat { up = taken a.heard.joined (is_with k) seat.up } in
+    going_linked w k (server_told now k (Client s) p y) few
+    (subst (λ (o : Option ServerEvent). IsGoing w k (server_hears now k (Client s) (heard_in (Client s) p) a.heard a.heard.joined o (record y { post = a.links }))) (sym first)
+    (session_comes w k few h y s seat now (heard_in (Client s) p) a.heard a.links a.heard.joined (find (is_with k) seat.up) is refl (of_other w k few h y (Client s) p (seat, is))
+    (subst (λ (o : Option Seat). IsFirstOf a.heard.joined (ups_of k o)) is (told_server_first w k post (Client s) p e x h))
+    (record {
+      tied = server_hears_session w k (within w.posts k post e) s seat p y is (packet_of w (Client s) (Server k) seat.post post p (ap seat_post is) e x h) start.tied;
+      server = served_then n w.seats (insert w.seats s.0 left) k c (λ t q. joined_still w.seats s t left q) start.server;
+      seats = all_put (IsSeated n) w.seats s left (up_seated n s seat a.heard.joined (is_with k) (h.seats s seat is)) h.seats;
+      flying = λ f j. carried_then n w.seats (insert w.seats s.0 left) f (λ t q. joined_still w.seats s t left q) (h.flying f j);
+      joined = λ t q. joined_still w.seats s t left q;
+    })
+    (subst (λ (o : Option ServerEvent). IsAnswered now a.heard.joined o (record y { post = a.links })) first answered)))
+    h
+told_server_linked w k c post now (Server i) p at e x answered h =
+    let few = within w.servers k c at in
+    let y : ServerStepped = at_server c post w in
+    let g = went w (Server i) (Server k) p x h in
+    let a = post_accepted post (Server i) p in
+    let n = length w.servers in
+    let start = begins w k c post at e h in
+    let from_few : i < n = subst (λ (m : ℕ). i < m) h.posts (within w.posts i g.from.0 g.from.1) in
+    going_linked w k (server_told now k (Server i) p y) few
+    (server_comes w k few h y i now (heard_in (Server i) p) a.heard a.links a.heard.joined (find (is_between i k) w.flying) refl (of_other w k few h y (Server i) p (from_few, g.apart))
+    (told_server_first w k post (Server i) p e x h) (λ f q. h.flying f (found (is_between i k) w.flying f q).0)
+    (record {
+      tied = server_hears_server w k (within w.posts k post e) i g.from.0 p y g.from.1 g.apart (other_way (Server i) (Server k) g.apart) (packet_of w (Server i) (Server k) g.from.0 post p g.from.1 e x h) start.tied;
+      server = start.server;
+      seats = h.seats;
+      flying = λ f j. h.flying f (In-taken a.heard.joined (is_between i k) f w.flying j);
+      joined = λ t q. q;
+    })
+    answered)
+    h
+
+-- ## What a server is told
+
+-- what is joined is the message of this event, as it was sent
+pub record IsOf (j : Joined) (e : ServerEvent) : Type 0 where
+  pub sent : Msg
+  pub is : message_of e ≡ Some sent
+  pub joined : j ≡ Whole (message sent)
+  pub fits : FitsMessage sent
+
+-- what is joined is the first message, and that one is found
+pub first_event : (w : Served) (k : ℕ) (from : Peer) (j : Joined) (js : List Joined) → IsFirstOf (j ∷ js) (between w from (Server k)) → (e : ServerEvent) × (first_from k from w.seats w.flying ≡ Some e) × IsOf j e
+first_event w k (Client s) j js f = seat_of (get w.seats s.0) f
+  where
+    event : ℕ × ClientMsg → ServerEvent
+    event m = FromClient s m.1
+
+    seat_of : (o : Option Seat) → IsFirstOf (j ∷ js) (ups_of k o) → (e : ServerEvent) × (up_first k s o ≡ Some e) × IsOf j e
+    seat_of None g = absurd g
+    seat_of (Some seat) g = at (find (is_with k) seat.up) refl
+      where
+        at : (o : Option (ℕ × ClientMsg)) → find (is_with k) seat.up ≡ o → (e : ServerEvent) × (option_map event (find (is_with k) seat.up) ≡ Some e) × IsOf j e
+        at None e = absurd (subst (λ (ms : List (ℕ × ClientMsg)). IsFirstOf (j ∷ js) (map (λ (m : ℕ × ClientMsg). msg.Client m.1) ms)) (found_first (is_with k) seat.up None e).1 g)
+        at (Some m) e =
+            let here = subst (λ (ms : List (ℕ × ClientMsg)). IsFirstOf (j ∷ js) (map (λ (m : ℕ × ClientMsg). msg.Client m.1) ms)) (found_first (is_with k) seat.up (Some m) e).1 g in
+            (FromClient s m.1, ap (λ (o : Option (ℕ × ClientMsg)). option_map event o) e, record { sent = msg.Client m.1; is = refl; joined = here.0; fits = here.1 })
+first_event w k (Server i) j js f = at (find (is_between i k) w.flying) refl
+  where
+    event : Flying → ServerEvent
+    event x = FromPeer i (OfParcel x.parcel)
+
+    at : (o : Option Flying) → find (is_between i k) w.flying ≡ o → (e : ServerEvent) × (option_map event (find (is_between i k) w.flying) ≡ Some e) × IsOf j e
+    at None e = absurd (subst (λ (ms : List Flying). IsFirstOf (j ∷ js) (map (λ (f : Flying). msg.Peer (OfParcel f.parcel)) ms)) (found_first (is_between i k) w.flying None e).1 f)
+    at (Some m) e =
+        let here = subst (λ (ms : List Flying). IsFirstOf (j ∷ js) (map (λ (f : Flying). msg.Peer (OfParcel f.parcel)) ms)) (found_first (is_between i k) w.flying (Some m) e).1 f in
+        (FromPeer i (OfParcel m.parcel), ap (λ (o : Option Flying). option_map event o) e, record { sent = msg.Peer (OfParcel m.parcel); is = refl; joined = here.0; fits = here.1 })
+
+-- it can be told to the server's core
+pub first_can_be_told : (w : Served) (k : ℕ) (from : Peer) (e : ServerEvent) → first_from k from w.seats w.flying ≡ Some e → IsLinked w → CanBeTold e
+first_can_be_told w k (Client s) e f h = seat_of (get w.seats s.0) f
+  where
+    at : (o : Option (ℕ × ClientMsg)) → option_map (λ (m : ℕ × ClientMsg). FromClient s m.1) o ≡ Some e → CanBeTold e
+    at None g = absurd (cc)
+    at (Some m) g = subst CanBeTold (some_is (FromClient s m.1) e g) tt
+
+    seat_of : (o : Option Seat) → up_first k s o ≡ Some e → CanBeTold e
+    seat_of None g = absurd (cc)
+    seat_of (Some seat) g = at (find (is_with k) seat.up) g
+first_can_be_told w k (Server i) e f h = at (find (is_between i k) w.flying) refl f
+  where
+    at : (o : Option Flying) → find (is_between i k) w.flying ≡ o → option_map (λ (f : Flying). FromPeer i (OfParcel f.parcel)) o ≡ Some e → CanBeTold e
+    at None q g = absurd (cc)
+    at (Some m) q g =
+        let c = h.flying m (found (is_between i k) w.flying m q).0 in
+        subst CanBeTold (some_is (FromPeer i (OfParcel m.parcel)) e g) (λ d n. let r = c.each d n in (r.least, r.most))
+
+-- what comes to a server is the message of its first event, as it was sent, and it can be told
+pub told_server_comes : (w : Served) (k : ℕ) (post : Links) (from : Peer) (p : Packet) → slice_get w.posts k ≡ Some post → WasSent from (Server k) (Some p) w.packets.sent
+    → IsLinked w → IsComing (post_accepted post from p).heard.joined (first_from k from w.seats w.flying)
+told_server_comes w k post from p e x h = at (post_accepted post from p).heard.joined (told_server_first w k post from p e x h)
+  where
+    at : (joined : List Joined) → IsFirstOf joined (between w from (Server k)) → IsComing joined (first_from k from w.seats w.flying)
+    at [] f = tt
+    at (j ∷ js) f =
+        let r = first_event w k from j js f in
+        subst (λ (o : Option ServerEvent). IsComing (j ∷ js) o) (sym r.1) (r.2.sent, r.2.is, r.2.joined, r.2.fits, first_can_be_told w k from r.0 r.1 h)

@@ -1,0 +1,150 @@
+-- What holds of the links holds of the first world, and of one where a session joins or a packet was told.
+use Rattle.std.proofs.Common.{◌≡◌, ◌∙◌, ◌<◌, ◌≤◌, ℕ, zero, suc, true, List, [], ◌∷◌, length, Option, Some, None, refl, sym, ap, subst, inl, inr, arith, length-append}
+use Rattle.std.specs.Prelude.{◌&&◌, nat_le, slice_get}
+use Rattle.std.specs.FinMap.{empty, get, get-empty, insert}
+use Rattle.std.specs.Ordering.{nat_cmp}
+use Rattle.std.proofs.lemmas.Bool.Decides.{nat_tests}
+use Rattle.fs_ident.specs.declared.actor.Peer.{Peer}
+use Rattle.fs_ident.specs.declared.actor.Peer.TheVariants.{Server, Client}
+use Rattle.fs_ident.specs.declared.actor.Session.{Session}
+use Rattle.fs_ident.specs.declared.limits.TheConstants.{SESSIONS}
+use Rattle.fs_window.specs.Post.{Links, link_with, new_link, no_links}
+use Rattle.fs_wire.specs.Readable.{is_readable_session}
+use Rattle.fs_msg.specs.declared.msg.Msg.{Msg}
+use Rattle.fs_serial.specs.Cluster.{first_servers}
+use Rattle.fs_serial.specs.declared.flying.Flying.{Flying}
+use Rattle.fs_server.specs.Server.{first_server}
+use Rattle.fs_server.specs.declared.state.Server.{Server as Core}
+use Rattle.fs_world.specs.Linked.{AreTied, HasJoined, IsCarried, IsLinked, IsPair, IsPost, IsSeated, IsServed, between, downs_of, post_of, seat_post, ups_of}
+use Rattle.fs_world.specs.Packets.{with_told}
+use Rattle.fs_world.specs.Served.{Seats, first_posts, first_seat, first_served, join_at, link_width}
+use Rattle.fs_world.specs.declared.seat.Seat.{Seat}
+use Rattle.fs_world.specs.declared.served.Served.{Served}
+use Rattle.fs_world.proofs.LinkedChange.{none_there, tied_alike}
+use Rattle.fs_world.proofs.LinkedLists.{one_more_there, one_there}
+use Rattle.fs_world.proofs.LinkedPair.{both_new}
+use Rattle.fs_world.proofs.LinkedSeats.{AtAll, all_put, joined_still, seat_joins}
+use Rattle.fs_world.proofs.NamedClients.{answer_silent, first_fine}
+pub use Rattle.fs_world.proofs.NamedClients.{answer_silent}
+use Rattle.fs_world.proofs.NamedServers.{first_served_core}
+
+-- ## Whoever has joined stays
+
+pub served_then : (servers : ℕ) (a b : Seats) (k : ℕ) (s : Core) → ((t : Session) → HasJoined a t → HasJoined b t) → IsServed servers a k s → IsServed servers b k s
+served_then servers a b k s g h = record { me = h.me; named = h.named; handles = h.handles; rows = λ row i. g row.session (h.rows row i) }
+
+pub carried_then : (servers : ℕ) (a b : Seats) (f : Flying) → ((t : Session) → HasJoined a t → HasJoined b t) → IsCarried servers a f → IsCarried servers b f
+carried_then servers a b f g h = record { from = h.from; to = h.to; apart = h.apart; each = h.each; handles = h.handles; rows = λ row i. g row.session (h.rows row i) }
+
+abbrev pub AllSeated : ℕ → Seats → Type 0
+AllSeated servers seats = AtAll (IsSeated servers) seats
+
+pub readable_in : (servers : ℕ) (seats : Seats) → AllSeated servers seats → (s : Session) → HasJoined seats s → is_readable_session s ≡ true
+readable_in servers seats h s j = (h s j.0 j.1).number
+
+-- the links of each server that there is
+pub posts_there : (w : Served) → IsLinked w → (k : ℕ) → k < length w.servers → (q : Links) × (slice_get w.posts k ≡ Some q)
+posts_there w h k few = one_there w.posts k (subst (λ (n : ℕ). k < n) (sym h.posts) few)
+
+-- ## The first world
+
+first_length : (n skew term : ℕ) → length (first_servers n skew term) ≡ n
+first_length zero skew term = refl
+first_length (suc n) skew term = length-append (first_servers n skew term) (first_server n skew term ∷ []) ∙ omega (arith, first_length n skew term)
+
+posts_length : (n : ℕ) → length (first_posts n) ≡ n
+posts_length zero = refl
+posts_length (suc n) = length-append (first_posts n) (no_links (Server n) link_width ∷ []) ∙ omega (arith, posts_length n)
+
+first_post : (n k : ℕ) (post : Links) → slice_get (first_posts n) k ≡ Some post → post ≡ no_links (Server k) link_width
+first_post zero k post h = absurd (cc)
+first_post (suc n) k post h = elim (one_more_there (first_posts n) (no_links (Server n) link_width) k post h) [
+  | inl e ↦ first_post n k post e
+  | inr q ↦ sym q.1 ∙ ap (λ (j : ℕ). no_links (Server j) link_width) (sym (q.0 ∙ posts_length n))
+]
+
+first_core : (n k skew term : ℕ) (s : Core) → slice_get (first_servers n skew term) k ≡ Some s → s ≡ first_server k skew term
+first_core zero k skew term s h = absurd (cc)
+first_core (suc n) k skew term s h = elim (one_more_there (first_servers n skew term) (first_server n skew term) k s h) [
+  | inl e ↦ first_core n k skew term s e
+  | inr q ↦ sym q.1 ∙ ap (λ (j : ℕ). first_server j skew term) (sym (q.0 ∙ first_length n skew term))
+]
+
+first_peer : (n skew term : ℕ) (a : Peer) (post : Links) → post_of (first_served n skew term) a ≡ Some post → post ≡ no_links a link_width
+first_peer n skew term (Server k) post e = first_post n k post e
+first_peer n skew term (Client s) post e = absurd (none_there post (sym e ∙ ap seat_post (get-empty nat_cmp s.0)))
+
+first_between : (n skew term : ℕ) (a b : Peer) → between (first_served n skew term) a b ≡ []
+first_between n skew term (Client s) (Server k) = ap (ups_of k) (get-empty nat_cmp s.0)
+first_between n skew term (Server k) (Client s) = ap (downs_of k) (get-empty nat_cmp s.0)
+first_between n skew term (Server j) (Server k) = refl
+first_between n skew term (Client s) (Client t) = refl
+
+first_tied : (n skew term : ℕ) → AreTied (first_served n skew term)
+first_tied n skew term = record {
+  posts = λ a post e. subst (λ (p : Links). IsPost a p) (sym (first_peer n skew term a post e)) (record { me = refl; width = refl; links = record { wide = omega arith; narrow = omega arith; ordered = refl }; own = refl });
+  pairs = λ a b p q f e g.
+      subst (λ (x : Links). IsPair a b (link_with x b) (link_with q a) (between (first_served n skew term) a b) []) (sym (first_peer n skew term a p e))
+      (subst (λ (x : Links). IsPair a b (new_link link_width) (link_with x a) (between (first_served n skew term) a b) []) (sym (first_peer n skew term b q g))
+      (subst (λ (ms : List Msg). IsPair a b (new_link link_width) (new_link link_width) ms []) (sym (first_between n skew term a b))
+      (both_new a b link_width link_width [] (λ x i e f. absurd i) (λ x i e f. absurd i)).going));
+  alone = λ a b p e g. ap (λ (x : Links). link_with x b) (first_peer n skew term a p e);
+  between = λ x i. absurd i;
+}
+
+no_seat : (seat : Seat) → ◌≡◌ {A = Option Seat} (Some seat) None → ⊥
+no_seat seat e = absurd (cc)
+
+pub first_linked : (n skew term : ℕ) → 1 ≤ n → n ≤ 15 → IsLinked (first_served n skew term)
+first_linked n skew term some few =
+    let len = first_length n skew term in
+    record {
+      posts = posts_length n ∙ sym len;
+      some = omega (arith, len);
+      few = omega (arith, len);
+      ties = first_tied n skew term;
+      servers = λ k s e. subst (λ (m : ℕ). IsServed m empty k s) (sym len) (subst (λ (x : Core). IsServed n empty k x) (sym (first_core n k skew term s e)) (first_served_core n empty k skew term (omega arith)));
+      seats = λ s seat e. absurd (no_seat seat (sym e ∙ get-empty nat_cmp s.0));
+      flying = λ f i. absurd i;
+    }
+
+-- ## A session joins
+
+first_seated : (servers : ℕ) (s : Session) (term : ℕ) → 0 < servers → is_readable_session s ≡ true → IsSeated servers s (first_seat term s)
+first_seated servers s term some readable =
+    let c = first_fine servers s term some in
+    record { number = readable; session = refl; log = c.log; hints = c.hints; up = λ m i. absurd i; down = λ m i. absurd i }
+
+joins : (w : Served) (s : Session) (o : Option Seat) → get w.seats s.0 ≡ o → is_readable_session s ≡ true → IsLinked w → IsLinked (join_at o s w).world
+joins w s None e readable h =
+    let seat = first_seat w.term s in
+    let n = length w.servers in
+    record {
+      posts = h.posts;
+      some = h.some;
+      few = h.few;
+      ties = seat_joins w s w.term e h.ties;
+      servers = λ k c i. served_then n w.seats (insert w.seats s.0 seat) k c (λ t g. joined_still w.seats s t seat g) (h.servers k c i);
+      seats = all_put (IsSeated n) w.seats s seat (first_seated n s w.term (let some = h.some in omega arith) readable) h.seats;
+      flying = λ f i. carried_then n w.seats (insert w.seats s.0 seat) f (λ t g. joined_still w.seats s t seat g) (h.flying f i);
+    }
+joins w s (Some seat) e readable h = h
+
+session_readable : (n greatest : ℕ) → 1 ≤ n → n ≤ greatest → (nat_le 1 n && nat_le n greatest) ≡ true
+session_readable n greatest some few = grind (arith, nat_tests)
+
+pub join_linked : (w : Served) (s : Session) → 1 ≤ s.0 → s.0 ≤ SESSIONS → IsLinked w → IsLinked (join_at (get w.seats s.0) s w).world
+join_linked w s some few h = joins w s (get w.seats s.0) refl (session_readable s.0 SESSIONS some few) h
+
+-- ## A mark at a packet
+
+pub mark_linked : (w : Served) (j : ℕ) → IsLinked w → IsLinked (record w { packets = with_told j w.packets })
+mark_linked w j h = record {
+  posts = h.posts;
+  some = h.some;
+  few = h.few;
+  ties = tied_alike w (record w { packets = with_told j w.packets }) refl refl refl refl h.ties;
+  servers = h.servers;
+  seats = h.seats;
+  flying = h.flying;
+}

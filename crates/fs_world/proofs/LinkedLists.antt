@@ -1,0 +1,118 @@
+-- The first of some items, and what is set in a list or put at a session.
+use Rattle.std.proofs.Common.{◌≡◌, ℕ, zero, suc, ◌<◌, ◌==◌, Bool, true, false, List, [], ◌∷◌, ◌++◌, length, map, filter, Option, Some, None, refl, sym, ap, cond, ◌∙◌, inl, inr, arith}
+use Rattle.std.specs.Prelude.{◌⊎◌, slice_get, slice_set}
+use Rattle.std.specs.List.{find}
+use Rattle.std.proofs.lemmas.Bool.Decides.{nat_tests}
+use Rattle.std.proofs.lemmas.List.{map-append}
+use Rattle.std.proofs.lemmas.List.Elements.{filter-append}
+use Rattle.fs_ident.specs.In.{In}
+use Rattle.fs_serial.specs.Cluster.{without_first}
+
+-- ## The first that passes a test
+
+abbrev pub behind : {X : Type 0} → List X → List X
+behind [] = []
+behind (x ∷ xs) = xs
+
+-- of those that pass, the first is gone
+pub first_gone : {X : Type 0} (is : X → Bool) (xs : List X) → filter is (without_first is xs) ≡ behind (filter is xs)
+first_gone is [] = refl
+first_gone {X} is (x ∷ xs) = either (is x) refl (first_gone is xs)
+  where
+    either : (b : Bool) → is x ≡ b → filter is (without_first is xs) ≡ behind (filter is xs) → filter is (cond b xs (x ∷ without_first is xs)) ≡ behind (cond b (x ∷ filter is xs) (filter is xs))
+    either true e rest = refl
+    either false e rest = ap (λ (t : Bool). cond t (x ∷ filter is (without_first is xs)) (filter is (without_first is xs))) e ∙ rest
+
+-- of those that pass another test, all are there
+pub others_there : {X : Type 0} (is other : X → Bool) (xs : List X) → ((x : X) → is x ≡ true → other x ≡ false) → filter other (without_first is xs) ≡ filter other xs
+others_there is other [] g = refl
+others_there {X} is other (x ∷ xs) g = either (is x) refl (others_there is other xs g)
+  where
+    either : (b : Bool) → is x ≡ b → filter other (without_first is xs) ≡ filter other xs → filter other (cond b xs (x ∷ without_first is xs)) ≡ cond (other x) (x ∷ filter other xs) (filter other xs)
+    either true e rest = sym (ap (λ (t : Bool). cond t (x ∷ filter other xs) (filter other xs)) (g x e))
+    either false e rest = ap (λ (ys : List X). cond (other x) (x ∷ ys) ys) rest
+
+-- what is left was there
+pub In-without : {X : Type 0} (is : X → Bool) (y : X) (xs : List X) → In y (without_first is xs) → In y xs
+In-without is y [] i = i
+In-without {X} is y (x ∷ xs) i = either (is x) (λ j. In-without is y xs j) i
+  where
+    either : (b : Bool) → (In y (without_first is xs) → In y xs) → In y (cond b xs (x ∷ without_first is xs)) → In y (x ∷ xs)
+    either true rest j = inr j
+    either false rest (inl e) = inl e
+    either false rest (inr j) = inr (rest j)
+
+-- the first that is found is the first of those that pass
+abbrev pub first_before : {X : Type 0} → Option X → List X → List X
+first_before None rest = []
+first_before (Some x) rest = x ∷ rest
+
+pub found_first : {X : Type 0} (is : X → Bool) (xs : List X) (o : Option X) → find is xs ≡ o → (rest : List X) × (filter is xs ≡ first_before o rest)
+found_first is [] None e = ([], refl)
+found_first is [] (Some y) e = absurd (cc)
+found_first {X} is (x ∷ xs) o e = either (is x) o (λ q. found_first is xs o q) e
+  where
+    either : (b : Bool) (o : Option X) → (find is xs ≡ o → (rest : List X) × (filter is xs ≡ first_before o rest)) → cond b (Some x) (find is xs) ≡ o → (rest : List X) × (cond b (x ∷ filter is xs) (filter is xs) ≡ first_before o rest)
+    either true None more f = absurd (cc)
+    either true (Some y) more f = let same : x ≡ y = cc in (filter is xs, ap (λ (z : X). z ∷ filter is xs) same)
+    either false o more f = more f
+
+-- one more of them
+pub one_more : {X Y : Type 0} (f : X → Y) (is : X → Bool) (xs : List X) (x : X) → is x ≡ true → map f (filter is (xs ++ x ∷ [])) ≡ map f (filter is xs) ++ f x ∷ []
+one_more {X} f is xs x e =
+    ap (λ (ys : List X). map f ys) (filter-append is xs (x ∷ []))
+    ∙ map-append f (filter is xs) (filter is (x ∷ []))
+    ∙ ap (λ (t : Bool). map f (filter is xs) ++ map f (cond t (x ∷ []) [])) e
+
+-- one more that is none of them
+pub no_more : {X : Type 0} (is : X → Bool) (xs : List X) (x : X) → is x ≡ false → filter is (xs ++ x ∷ []) ≡ filter is xs
+no_more is [] x e = ap (λ (t : Bool). cond t (x ∷ []) []) e
+no_more {X} is (y ∷ ys) x e = ap (λ (zs : List X). cond (is y) (y ∷ zs) zs) (no_more is ys x e)
+
+pub In-more : {X : Type 0} (y : X) (xs : List X) (x : X) (P : Type 0) → (In y xs → P) → (y ≡ x → P) → In y (xs ++ x ∷ []) → P
+In-more y [] x P g h (inl e) = h e
+In-more y [] x P g h (inr i) = absurd i
+In-more y (z ∷ zs) x P g h (inl e) = g (inl e)
+In-more y (z ∷ zs) x P g h (inr i) = In-more y zs x P (λ j. g (inr j)) h i
+
+-- ## What is set in a list
+
+none_same : (j : ℕ) → (suc j == 0) ≡ false
+none_same j = grind (arith, nat_tests)
+
+same_none : (k : ℕ) → (0 == suc k) ≡ false
+same_none k = grind (arith, nat_tests)
+
+both_more : (j k : ℕ) → (suc j == suc k) ≡ (j == k)
+both_more j k = grind (arith, nat_tests)
+
+pub got_set : {X : Type 0} (xs : List X) (k j : ℕ) (x : X) → k < length xs → slice_get (slice_set xs k x) j ≡ cond (j == k) (Some x) (slice_get xs j)
+got_set [] k j x h = absurd (omega arith)
+got_set (y ∷ ys) zero zero x h = refl
+got_set (y ∷ ys) zero (suc j) x h = ap (λ (b : Bool). cond b (Some x) (slice_get ys j)) (sym (none_same j))
+got_set (y ∷ ys) (suc k) zero x h = ap (λ (b : Bool). cond b (Some x) (Some y)) (sym (same_none k))
+got_set (y ∷ ys) (suc k) (suc j) x h = got_set ys k j x (omega arith) ∙ ap (λ (b : Bool). cond b (Some x) (slice_get ys j)) (sym (both_more j k))
+
+pub set_same : {X : Type 0} (xs : List X) (k : ℕ) (x : X) → slice_get xs k ≡ Some x → slice_set xs k x ≡ xs
+set_same [] k x h = absurd (cc)
+set_same {X} (y ∷ ys) zero x h = let same : y ≡ x = cc in ap (λ (z : X). z ∷ ys) (sym same)
+set_same {X} (y ∷ ys) (suc k) x h = ap (λ (zs : List X). y ∷ zs) (set_same ys k x h)
+
+pub within : {X : Type 0} (xs : List X) (k : ℕ) (x : X) → slice_get xs k ≡ Some x → k < length xs
+within [] k x h = absurd (cc)
+within (y ∷ ys) zero x h = omega arith
+within (y ∷ ys) (suc k) x h = let r = within ys k x h in omega (arith, r)
+
+pub one_there : {X : Type 0} (xs : List X) (k : ℕ) → k < length xs → (x : X) × (slice_get xs k ≡ Some x)
+one_there [] k h = absurd (omega arith)
+one_there (y ∷ ys) zero h = (y, refl)
+one_there (y ∷ ys) (suc k) h = one_there ys k (omega arith)
+
+pub one_more_there : {X : Type 0} (xs : List X) (x : X) (k : ℕ) (y : X) → slice_get (xs ++ x ∷ []) k ≡ Some y → (slice_get xs k ≡ Some y) ⊎ ((k ≡ length xs) × (x ≡ y))
+one_more_there [] x zero y h = inr (refl, cc)
+one_more_there [] x (suc k) y h = absurd (cc)
+one_more_there (z ∷ zs) x zero y h = inl h
+one_more_there (z ∷ zs) x (suc k) y h = elim (one_more_there zs x k y h) [
+  | inl e ↦ inl e
+  | inr q ↦ inr (ap suc q.0, q.1)
+]

@@ -1,0 +1,243 @@
+-- What happens at a session keeps what holds of the links, and what comes to it is the first answer on its way.
+use Rattle.std.proofs.Common.{◌≡◌, ◌∙◌, ◌<◌, ℕ, Bool, true, false, List, [], ◌∷◌, length, map, Option, Some, None, refl, sym, ap, subst, cond, arith}
+use Rattle.std.specs.Prelude.{is_some}
+use Rattle.std.specs.FinMap.{get, insert}
+use Rattle.std.specs.List.{find}
+use Rattle.std.proofs.lemmas.Bool.{eqb-true}
+use Rattle.fs_ident.specs.In.{In}
+use Rattle.fs_ident.specs.declared.actor.Peer.{Peer}
+use Rattle.fs_ident.specs.declared.actor.Peer.TheVariants.{Server, Client}
+use Rattle.fs_ident.specs.declared.actor.Session.{Session}
+use Rattle.fs_ident.proofs.Passing.{found}
+use Rattle.fs_frag.specs.declared.joined.Joined.{Joined}
+use Rattle.fs_frag.specs.declared.joined.Joined.TheVariants.{Whole}
+use Rattle.fs_model.specs.declared.op.Op.{Op}
+use Rattle.fs_window.specs.declared.heard.Heard.{Heard}
+use Rattle.fs_window.specs.declared.link.Link.{Link}
+use Rattle.fs_window.specs.declared.packet.Packet.{Packet}
+use Rattle.fs_window.specs.declared.sent.Sent.{Sent}
+use Rattle.fs_window.specs.OnTheWay.{IsPacketOf}
+use Rattle.fs_window.specs.Peers.{same_peer}
+use Rattle.fs_window.specs.Post.{Links, link_with, post_accepted, post_due}
+use Rattle.fs_window.specs.Reading.{packet_at}
+use Rattle.fs_window.proofs.ReadBack.{written}
+use Rattle.fs_msg.specs.Ranges.{FitsMessage}
+use Rattle.fs_msg.specs.Spelling.{message}
+use Rattle.fs_msg.specs.declared.answer.Answer.{Answer}
+use Rattle.fs_msg.specs.declared.client_msg.ClientMsg.{ClientMsg}
+use Rattle.fs_msg.specs.declared.core_error.Counter.{Counter}
+use Rattle.fs_msg.specs.declared.item.Item.{Item}
+use Rattle.fs_msg.specs.declared.msg.Msg.{Msg}
+use Rattle.fs_msg.specs.declared.msg.Msg.TheVariants as msg
+use Rattle.fs_msg.specs.declared.note.Note.{Note}
+use Rattle.fs_client.specs.Acts.{act_plan, is_act_spent}
+use Rattle.fs_client.specs.Answers.{answer_plan}
+use Rattle.fs_client.specs.Client.{committed}
+use Rattle.fs_client.specs.Turns.{turn_plan}
+use Rattle.fs_client.specs.declared.plan.Plan.{Plan}
+use Rattle.fs_serial.specs.Cluster.{is_with, without_first}
+use Rattle.fs_serial.specs.World.{is_called}
+use Rattle.fs_world.specs.Linked.{AreTied, FitsUp, GoesBetween, IsFirstOf, IsLinked, IsNamedAnswer, IsSeated, IsSentOver, IsThere, downs_of, post_of, seat_post}
+use Rattle.fs_world.specs.Packets.{Packets, with_sent}
+use Rattle.fs_world.specs.Planned.{WasSent}
+use Rattle.fs_world.specs.Served.{Seats, act_noted, client_acts, client_does, client_hears, client_noted, client_told, client_turns, heard_in, is_full_up, post_after, quiet_note, seat_after, seat_goes, up_after, with_read, with_seat}
+use Rattle.fs_world.specs.declared.seat.Seat.{Seat}
+use Rattle.fs_world.specs.declared.served.Served.{Served}
+use Rattle.fs_world.proofs.LinkedChange.{IsHeard, first_of}
+use Rattle.fs_world.proofs.LinkedLists.{In-more, In-without, found_first, within}
+use Rattle.fs_world.proofs.LinkedPair.{read_of}
+use Rattle.fs_world.proofs.LinkedSeats.{all_put, joined_still, put_same, seat_accepts, seat_due, seat_sends, seated, taken}
+use Rattle.fs_world.proofs.NamedClients.{IsFine, IsPlanned, SendsFine, act_fine, answer_fine, answer_silent, committed_fine, session_kept, turn_fine}
+pub use Rattle.fs_world.proofs.NamedClients.{answer_silent}
+use Rattle.fs_world.proofs.LinkedFirst.{carried_then, posts_there, served_then}
+
+-- ## A session's links
+
+-- what holds of a world where this stands at the session
+record IsSitting (w : Served) (s : Session) (seat : Seat) (journal : List Item) (packets : Packets) : Type 0 where
+  tied : AreTied (seated s seat journal packets w)
+  here : IsSeated (length w.servers) s seat
+
+sits : (w : Served) (s : Session) (seat : Seat) → get w.seats s.0 ≡ Some seat → IsLinked w → IsSitting w s seat w.journal w.packets
+sits w s seat e h = record {
+  tied = subst (λ (seats : Seats). AreTied (record w { seats = seats })) (sym (put_same w.seats s seat e)) h.ties;
+  here = h.seats s seat e;
+}
+
+sitting_linked : (w : Served) (s : Session) (seat : Seat) (journal : List Item) (packets : Packets) → IsSitting w s seat journal packets → IsLinked w → IsLinked (seated s seat journal packets w)
+sitting_linked w s seat journal packets k h =
+    let n = length w.servers in
+    record {
+      posts = h.posts;
+      some = h.some;
+      few = h.few;
+      ties = k.tied;
+      servers = λ j c i. served_then n w.seats (insert w.seats s.0 seat) j c (λ t g. joined_still w.seats s t seat g) (h.servers j c i);
+      seats = all_put (IsSeated n) w.seats s seat k.here h.seats;
+      flying = λ f i. carried_then n w.seats (insert w.seats s.0 seat) f (λ t g. joined_still w.seats s t seat g) (h.flying f i);
+    }
+
+-- ## What happens at a session
+
+-- whoever was heard is a server that there is
+abbrev pub IsOfServer : Served → Option Peer → Type 0
+IsOfServer w None = Unit {0}
+IsOfServer w (Some (Server k)) = k < length w.servers
+IsOfServer w (Some (Client s)) = ⊥
+
+heard_there : (w : Served) (s : Session) (seat : Seat) (journal : List Item) (packets : Packets) (heard : Option Peer) → IsOfServer w heard → IsLinked w → IsHeard (seated s seat journal packets w) (Client s) heard
+heard_there w s seat journal packets None of h = tt
+heard_there w s seat journal packets (Some (Server k)) of h = (posts_there w h k of, refl)
+heard_there w s seat journal packets (Some (Client t)) of h = absurd of
+
+-- what is due goes out
+session_goes : (w : Served) (s : Session) (turn : Bool) (heard : Option Peer) (n : Note) (spent : Option Counter) (seat : Seat) (journal : List Item) (packets : Packets) → IsOfServer w heard → IsSitting w s seat journal packets → IsLinked w
+    → IsLinked (with_seat s (seat_goes s turn heard n spent seat journal packets) w).world
+session_goes w s turn heard n spent seat journal packets of k h =
+    let now : Seat = record seat { post = (post_due seat.post turn heard).links } in
+    sitting_linked w s now journal (with_sent (post_due seat.post turn heard).sent packets) (record {
+      tied = seat_due w s seat now journal journal packets (with_sent (post_due seat.post turn heard).sent packets) turn heard refl refl refl refl (heard_there w s seat journal packets heard of h) k.tied;
+      here = record { number = k.here.number; session = k.here.session; log = k.here.log; hints = k.here.hints; up = k.here.up; down = k.here.down };
+    }) h
+
+up_named : (servers : ℕ) (send : Option (ℕ × ClientMsg)) (up : List (ℕ × ClientMsg)) → SendsFine servers send → ((m : ℕ × ClientMsg) → In m up → m.0 < servers) → (m : ℕ × ClientMsg) → In m (up_after send up) → m.0 < servers
+up_named servers None up fine h m i = h m i
+up_named servers (Some x) up fine h m i = In-more m up x (m.0 < servers) (λ j. h m j) (λ e. subst (λ (y : ℕ × ClientMsg). y.0 < servers) (sym e) fine.0) i
+
+-- the client does what it planned
+session_does : (w : Served) (s : Session) (turn : Bool) (heard : Option Peer) (spent : Bool) (p : Plan Note) (seat : Seat) (journal : List Item) (packets : Packets) → IsOfServer w heard → IsPlanned (length w.servers) p → FitsUp p.out.send → is_full_up p.out.send seat.post ≡ false
+    → IsSitting w s seat journal packets → IsLinked w → IsLinked (with_seat s (client_does s turn heard spent p seat journal packets) w).world
+session_does w s turn heard spent p seat journal packets of planned fits room k h =
+    let n = length w.servers in
+    let sent : Seat = record seat { post = post_after p.out.send seat.post; up = up_after p.out.send seat.up } in
+    let due = post_due (seat_after p seat).post turn heard in
+    let now : Seat = record (seat_after p seat) { post = due.links } in
+    let fine : IsFine n (committed p.ready seat.client) = committed_fine n p seat.client planned (record { log = k.here.log; hints = k.here.hints }) in
+    sitting_linked w s now (with_read p.out.admitted journal) (with_sent due.sent packets) (record {
+      tied = seat_due w s sent now journal (with_read p.out.admitted journal) packets (with_sent due.sent packets) turn heard refl refl refl refl (heard_there w s sent journal packets heard of h)
+          (seat_sends w s seat journal packets n p.out.send (λ j few. posts_there w h j few) planned.sends fits room k.tied);
+      here = record {
+        number = k.here.number;
+        session = session_kept p.ready seat.client ∙ k.here.session;
+        log = fine.log;
+        hints = fine.hints;
+        up = up_named n p.out.send seat.up planned.sends k.here.up;
+        down = k.here.down;
+      };
+    }) h
+
+zero_below : (w : Served) → IsLinked w → 0 < length w.servers
+zero_below w h = let some = h.some in omega arith
+
+fine_at : (w : Served) (s : Session) (seat : Seat) → get w.seats s.0 ≡ Some seat → IsLinked w → IsFine (length w.servers) seat.client
+fine_at w s seat e h = let k = h.seats s seat e in record { log = k.log; hints = k.hints }
+
+-- the session's user asks for an operation
+pub act_linked : (w : Served) (s : Session) (seat : Seat) (now : ℕ) (o : Op) → get w.seats s.0 ≡ Some seat → is_called o ≡ true → FitsUp (act_plan seat.client now o).out.send → is_full_up (act_plan seat.client now o).out.send seat.post ≡ false
+    → IsLinked w → IsLinked (with_seat s (client_acts now s o seat w.journal w.packets) w).world
+act_linked w s seat now o e called fits room h =
+    let planned = act_fine (length w.servers) (zero_below w h) seat.client now o called (fine_at w s seat e h) in
+    session_does w s false None (is_act_spent seat.client now o) (act_noted (act_plan seat.client now o)) seat w.journal w.packets tt (record { joins = planned.joins; hints = planned.hints; sends = planned.sends }) fits room (sits w s seat e h) h
+
+pub turn_linked : (w : Served) (s : Session) (seat : Seat) (now : ℕ) → get w.seats s.0 ≡ Some seat → FitsUp (turn_plan seat.client now).out.send → is_full_up (turn_plan seat.client now).out.send seat.post ≡ false
+    → IsLinked w → IsLinked (with_seat s (client_turns now s seat w.journal w.packets) w).world
+turn_linked w s seat now e fits room h =
+    let planned = turn_fine (length w.servers) (zero_below w h) seat.client now (fine_at w s seat e h) in
+    session_does w s true None false (client_noted (turn_plan seat.client now)) seat w.journal w.packets tt (record { joins = planned.joins; hints = planned.hints; sends = planned.sends }) fits room (sits w s seat e h) h
+
+-- ## What was sent
+
+pub sent_between : (w : Served) (x : Sent) → In x w.packets.sent → IsLinked w → GoesBetween w x
+sent_between w x i h = h.ties.between x i
+
+-- it went from one to another, and both are there
+pub record WentBetween (w : Served) (a b : Peer) : Type 0 where
+  pub from : IsThere w a
+  pub to : IsThere w b
+  pub apart : same_peer a b ≡ false
+
+pub went : (w : Served) (a b : Peer) (p : Packet) → WasSent a b (Some p) w.packets.sent → IsLinked w → WentBetween w a b
+went w a b p x h =
+    let g = h.ties.between x.sent x.among in
+    record {
+      from = subst (IsThere w) x.sender g.from;
+      to = subst (IsThere w) x.addressee g.to;
+      apart = subst (λ (c : Peer). same_peer c b ≡ false) x.sender (subst (λ (c : Peer). same_peer x.sent.from c ≡ false) x.addressee g.apart);
+    }
+
+pub packet_of : (w : Served) (a b : Peer) (p q : Links) (packet : Packet) → post_of w a ≡ Some p → post_of w b ≡ Some q → WasSent a b (Some packet) w.packets.sent → IsLinked w → IsPacketOf (link_with p b).window (link_with q a).window packet
+packet_of w a b p q packet i j x h =
+    let g = went w a b packet x h in
+    read_of (link_with p b) (link_with q a) x.sent.bytes packet x.read ((h.ties.pairs a b p q g.apart i j).packets x.sent x.among x.sender x.addressee)
+
+-- what was sent is a packet
+text_read : (a b : Link) (bytes : List ℕ) → IsSentOver a b bytes → (p : Packet) × (packet_at bytes ≡ Some p)
+text_read a b bytes q = (q.packet, ap packet_at q.text ∙ written q.packet q.spelled)
+
+pub sent_read : (w : Served) (x : Sent) → In x w.packets.sent → IsLinked w → (p : Packet) × (packet_at x.bytes ≡ Some p)
+sent_read w x i h =
+    let g = h.ties.between x i in
+    text_read (link_with g.from.0 x.to) (link_with g.to.0 x.from) x.bytes ((h.ties.pairs x.from x.to g.from.0 g.to.0 g.apart g.from.1 g.to.1).packets x i refl refl)
+
+-- ## A packet of a server comes to a session
+
+pub told_seat_first : (w : Served) (s : Session) (seat : Seat) (k : ℕ) (p : Packet) → get w.seats s.0 ≡ Some seat → WasSent (Server k) (Client s) (Some p) w.packets.sent
+    → IsLinked w → IsFirstOf (post_accepted seat.post (Server k) p).heard.joined (downs_of k (Some seat))
+told_seat_first w s seat k p e x h =
+    let g = went w (Server k) (Client s) p x h in
+    subst (λ (o : Option Seat). IsFirstOf (post_accepted seat.post (Server k) p).heard.joined (downs_of k o)) e
+    (first_of (Client s) (Server k) seat.post g.from.0 p w (ap seat_post e) g.from.1 refl (packet_of w (Server k) (Client s) g.from.0 seat.post p g.from.1 (ap seat_post e) x h) h.ties)
+
+-- what is joined is the first answer, and that one is found
+pub first_answer : (k : ℕ) (seat : Seat) (j : Joined) (js : List Joined) → IsFirstOf (j ∷ js) (downs_of k (Some seat))
+    → (a : Answer) × (find (is_with k) seat.down ≡ Some (k, a)) × (j ≡ Whole (message (msg.Answer a))) × FitsMessage (msg.Answer a)
+first_answer k seat j js f = at (find (is_with k) seat.down) refl
+  where
+    g : ℕ × Answer → Msg
+    g m = msg.Answer m.1
+
+    at : (o : Option (ℕ × Answer)) → find (is_with k) seat.down ≡ o → (a : Answer) × (find (is_with k) seat.down ≡ Some (k, a)) × (j ≡ Whole (message (msg.Answer a))) × FitsMessage (msg.Answer a)
+    at None e = absurd (subst (λ (ms : List (ℕ × Answer)). IsFirstOf (j ∷ js) (map g ms)) (found_first (is_with k) seat.down None e).1 f)
+    at (Some m) e =
+        let here = subst (λ (ms : List (ℕ × Answer)). IsFirstOf (j ∷ js) (map g ms)) (found_first (is_with k) seat.down (Some m) e).1 f in
+        let same : m.0 ≡ k = eqb-true m.0 k (found (is_with k) seat.down m e).1 in
+        (m.1, e ∙ ap (λ (n : ℕ). Some (n, m.1)) same, here.0, here.1)
+
+of_server : (w : Served) (k : ℕ) (p : Packet) → k < length w.servers → IsOfServer w (heard_in (Server k) p)
+of_server w k p few = either (is_some p.body)
+  where
+    either : (b : Bool) → IsOfServer w (cond b (Some (Server k)) None)
+    either true = few
+    either false = tt
+
+down_taken : (servers : ℕ) (joined : List Joined) (is : ℕ × Answer → Bool) (down : List (ℕ × Answer)) → ((m : ℕ × Answer) → In m down → (m.0 < servers) × IsNamedAnswer servers m.1) → (m : ℕ × Answer) → In m (taken joined is down) → (m.0 < servers) × IsNamedAnswer servers m.1
+down_taken servers [] is down h m i = h m i
+down_taken servers (j ∷ js) is down h m i = h m (In-without is m down i)
+
+session_hears : (w : Served) (s : Session) (now k : ℕ) (heard : Option Peer) (count : Heard) (joined : List Joined) (o : Option (ℕ × Answer)) (seat : Seat) (journal : List Item) (packets : Packets)
+    → find (is_with k) seat.down ≡ o → IsOfServer w heard → IsFirstOf joined (downs_of k (Some seat)) → ((m : ℕ × Answer) → o ≡ Some m → IsNamedAnswer (length w.servers) m.1)
+    → IsSitting w s (record seat { down = taken joined (is_with k) seat.down }) journal packets → IsLinked w → IsLinked (with_seat s (client_hears now s k heard count joined o seat journal packets) w).world
+session_hears w s now k heard count [] o seat journal packets e of f named sitting h = session_goes w s false heard (quiet_note count) None seat journal packets of sitting h
+session_hears w s now k heard count (j ∷ js) None seat journal packets e of f named sitting h =
+    absurd (subst (λ (ms : List (ℕ × Answer)). IsFirstOf (j ∷ js) (map (λ (m : ℕ × Answer). msg.Answer m.1) ms)) (found_first (is_with k) seat.down None e).1 f)
+session_hears w s now k heard count (j ∷ js) (Some m) seat journal packets e of f named sitting h =
+    let left : Seat = record seat { down = without_first (is_with k) seat.down } in
+    let none : None ≡ (answer_plan seat.client now k m.1).out.send = sym (answer_silent seat.client now k m.1) in
+    let planned = answer_fine (length w.servers) (zero_below w h) seat.client now k m.1 (named m refl) (record { log = sitting.here.log; hints = sitting.here.hints }) in
+    session_does w s false heard false (client_noted (answer_plan seat.client now k m.1)) left journal packets of (record { joins = planned.joins; hints = planned.hints; sends = planned.sends })
+    (subst (λ (x : Option (ℕ × ClientMsg)). FitsUp x) none tt) (subst (λ (x : Option (ℕ × ClientMsg)). is_full_up x seat.post ≡ false) none refl) sitting h
+
+pub told_seat_linked : (w : Served) (s : Session) (seat : Seat) (now k : ℕ) (p : Packet) → get w.seats s.0 ≡ Some seat → WasSent (Server k) (Client s) (Some p) w.packets.sent
+    → IsLinked w → IsLinked (with_seat s (client_told now s k p seat w.journal w.packets) w).world
+told_seat_linked w s seat now k p e x h =
+    let g = went w (Server k) (Client s) p x h in
+    let a = post_accepted seat.post (Server k) p in
+    let few : k < length w.servers = subst (λ (n : ℕ). k < n) h.posts (within w.posts k g.from.0 g.from.1) in
+    let start = sits w s seat e h in
+    let k_seat = h.seats s seat e in
+    session_hears w s now k (heard_in (Server k) p) a.heard a.heard.joined (find (is_with k) seat.down) (record seat { post = a.links }) w.journal w.packets refl (of_server w k p few) (told_seat_first w s seat k p e x h)
+    (λ m q. (k_seat.down m (found (is_with k) seat.down m q).0).1)
+    (record {
+      tied = seat_accepts w s seat k g.from.0 p w.journal w.packets g.from.1 (packet_of w (Server k) (Client s) g.from.0 seat.post p g.from.1 (ap seat_post e) x h) start.tied;
+      here = record { number = k_seat.number; session = k_seat.session; log = k_seat.log; hints = k_seat.hints; up = k_seat.up; down = down_taken (length w.servers) a.heard.joined (is_with k) seat.down k_seat.down };
+    }) h

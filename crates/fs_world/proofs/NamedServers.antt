@@ -1,0 +1,455 @@
+-- What a server has and sends: it knows of servers that there are, has rows of sessions that have joined, and its handles
+-- can be told; what it sends goes to such sessions and to other servers, and can be read.
+use Rattle.std.proofs.Common.{◌≡◌, ◌≢◌, ◌∙◌, ◌<◌, ◌≤◌, ◌^◌, ℕ, ◌+◌, Bool, true, false, List, [], ◌∷◌, ◌++◌, map, not, Option, Some, None, refl, sym, ap, subst, cond, inl, inr, arith}
+use Rattle.std.specs.Prelude.{◌&&◌, ◌==◌, is_some, nat_le, nat_lt}
+use Rattle.std.specs.FinMap.{get}
+use Rattle.std.specs.List.{AllByRecursion, filter, find, list_all}
+use Rattle.std.proofs.lemmas.Bool.Decides.{nat_tests}
+use Rattle.fs_ident.specs.Ident.{child}
+use Rattle.fs_ident.specs.In.{In}
+use Rattle.fs_ident.specs.declared.actor.LeaseNo.{LeaseNo}
+use Rattle.fs_ident.specs.declared.actor.Peer.{Peer}
+use Rattle.fs_ident.specs.declared.actor.Peer.TheVariants.{Client, Server}
+use Rattle.fs_ident.specs.declared.actor.Session.{Session}
+use Rattle.fs_ident.proofs.Booleans.{first, joined, second}
+use Rattle.fs_ident.proofs.Passing.{In-all, found}
+use Rattle.fs_ident.proofs.Standing.{In-filter, In-map, In-put}
+use Rattle.fs_field.specs.After.{Handles}
+use Rattle.fs_field.specs.Field.{file_of, same_field}
+use Rattle.fs_field.specs.Table.{borne_numbers, has_no, is_live, no_before, renewed_row, with_row}
+use Rattle.fs_field.specs.declared.asked.Asked.{Asked}
+use Rattle.fs_field.specs.declared.asked.Asked.TheVariants.{Granted, Wait, Locked}
+use Rattle.fs_field.specs.declared.effect.Effect.TheVariants.{RemoveHandle}
+use Rattle.fs_field.specs.declared.field.Field.{Field}
+use Rattle.fs_field.specs.declared.field.Field.TheVariants.{Life}
+use Rattle.fs_field.specs.declared.lease_kind.LeaseKind.{LeaseKind}
+use Rattle.fs_field.specs.declared.lease_kind.LeaseKind.TheVariants.{Exclusive}
+use Rattle.fs_field.specs.declared.row.Row.{Row}
+use Rattle.fs_field.specs.declared.used.Use.{Use}
+use Rattle.fs_map.specs.Lists.{piece_of}
+use Rattle.fs_model.specs.declared.node.Handle.{Handle}
+use Rattle.fs_moderows.specs.Answer.{reap_blocker}
+use Rattle.fs_parcel.specs.Parcel.{move_refusal, not_mine}
+use Rattle.fs_parcel.specs.declared.error.MoveError.{MoveError}
+use Rattle.fs_parcel.specs.declared.error.MoveError.TheVariants as move
+use Rattle.fs_record.specs.Effects.{effects_of, reap_effects, tells_its_effects}
+use Rattle.fs_record.specs.Fresh.{fresh_number, is_directory}
+use Rattle.fs_record.specs.Records.{AreRecords, IsRecord, node_of}
+use Rattle.fs_record.specs.ValueOf.{handles_of, own_of, selves_in}
+use Rattle.fs_record.specs.declared.parcel.Parcel.{Parcel}
+use Rattle.fs_record.specs.declared.record.Record.{Record}
+use Rattle.fs_record.proofs.Returning.{given_each}
+use Rattle.fs_rows.specs.Granted.{with_rows}
+use Rattle.fs_rows.specs.Live.{unlocked_on, unlocked_rows_on}
+use Rattle.fs_rows.specs.Moving.{is_on_given}
+use Rattle.fs_msg.specs.Home.{home_of}
+use Rattle.fs_msg.specs.Readable.{is_readable, is_readable_answer, is_readable_entry, is_readable_grant, is_readable_parcel, is_readable_record}
+use Rattle.fs_msg.specs.declared.answer.Grant.{Grant}
+use Rattle.fs_msg.specs.declared.client_msg.ClientMsg.{ClientMsg}
+use Rattle.fs_msg.specs.declared.client_msg.ClientMsg.TheVariants.{Ask, Renew, Release, Ship}
+use Rattle.fs_msg.specs.declared.end.End.{End}
+use Rattle.fs_msg.specs.declared.end.End.TheVariants as end
+use Rattle.fs_msg.specs.declared.entry.Entry.{Entry}
+use Rattle.fs_msg.specs.declared.item.Item.{Item}
+use Rattle.fs_msg.specs.declared.msg.Msg.{Msg}
+use Rattle.fs_msg.specs.declared.msg.Msg.TheVariants as msg
+use Rattle.fs_msg.specs.declared.peer_msg.PeerMsg.TheVariants.{Parcel as OfParcel}
+use Rattle.fs_serial.specs.declared.flying.Flying.{Flying}
+use Rattle.fs_server.specs.Asks.{Asking, answer_to, ask_fresh, ask_from, ask_step, asked_in, fresh_for, fresh_in, fresh_of, grant_of, kind_for, recall_of, recalls_at, with_lease}
+use Rattle.fs_server.specs.Moves.{fits_here, move_at, parcel_at}
+use Rattle.fs_server.specs.Pairs.{numbers_in, pairs_end, pairs_here, released_rows, renewed_rows}
+use Rattle.fs_server.specs.Reaps.{Reaping, lapsed_in, reap_from, reap_item, recalls_for, turn_over, with_blocker, with_reap}
+use Rattle.fs_server.specs.Server.{Stepped, begun, end_of, first_server, is_mine, moved, strange}
+use Rattle.fs_server.specs.Ships.{Shipping, first_gone, item_of, ship_from, ship_step, shipped, with_entry}
+use Rattle.fs_server.specs.Step.{event_step, message_step, recalls_of, step}
+use Rattle.fs_server.specs.declared.event.ServerEvent.{ServerEvent}
+use Rattle.fs_server.specs.declared.event.ServerEvent.TheVariants.{FromClient, FromPeer, Move, Recall, Turn}
+use Rattle.fs_server.specs.declared.state.Server.{Server as Core}
+use Rattle.fs_wire.specs.Readable.{is_readable_handle, is_readable_row, is_readable_session}
+use Rattle.fs_world.specs.Linked.{AreOfJoined, HasJoined, IsCarried, IsNamedAnswer, IsNamedEnd, IsServed}
+use Rattle.fs_world.specs.Readable.{HasOpenHandles, RecordsOpen}
+use Rattle.fs_world.specs.Served.{Seats}
+use Rattle.fs_world.proofs.NamedMaps.{moved_named, named_first, named_give, named_take}
+use Rattle.fs_world.proofs.OpenHandles.{AddsOpen, effects_open, first_open, open_after_all, open_after_gift, open_given, open_left, open_with, value_open}
+
+-- ## Rows, of sessions of which something holds
+
+abbrev pub AreOf : (Session → Type 0) → List Row → Type 0
+AreOf these rows = (row : Row) → In row rows → these row.session
+
+filtered : (these : Session → Type 0) (test : Row → Bool) (rows : List Row) → AreOf these rows → AreOf these (filter test rows)
+filtered these test rows h row i = h row (In-filter test row rows i)
+
+put : (these : Session → Type 0) (new : Row) (rows : List Row) → these new.session → AreOf these rows → AreOf these (with_row new rows)
+put these new rows h all row i = elim (In-put (λ (r : Row). no_before new.no r.no) row new rows i) [
+  | inl e ↦ subst these (ap (λ (r : Row). r.session) (sym e)) h
+  | inr j ↦ all row j
+]
+
+put_all : (these : Session → Type 0) (more rows : List Row) → AreOf these more → AreOf these rows → AreOf these (with_rows more rows)
+put_all these [] rows h all = all
+put_all these (r ∷ rs) rows h all = put_all these rs (with_row r rows) (λ x i. h x (inr i)) (put these r rows (h r (inl refl)) all)
+
+session_kept : (n : LeaseNo) (until : ℕ) (r : Row) → (renewed_row n until r).session ≡ r.session
+session_kept n until r = either (has_no n r && nat_lt r.until until)
+  where
+    either : (b : Bool) → (cond b (record r { until = until }) r).session ≡ r.session
+    either true = refl
+    either false = refl
+
+renewed : (these : Session → Type 0) (until : ℕ) (ns : List LeaseNo) (rows : List Row) → AreOf these rows → AreOf these (renewed_rows until ns rows)
+renewed these until [] rows h = h
+renewed these until (n ∷ ns) rows h = renewed these until ns (map (renewed_row n until) rows) (λ row i.
+    let at = In-map (renewed_row n until) row rows i in
+    subst these (sym (ap (λ (r : Row). r.session) at.1.1 ∙ session_kept n until at.0)) (h at.0 at.1.0))
+
+released : (these : Session → Type 0) (ns : List LeaseNo) (rows : List Row) → AreOf these rows → AreOf these (released_rows ns rows)
+released these [] rows h = h
+released these (n ∷ ns) rows h = released these ns (filter (λ r. not (has_no n r)) rows) (filtered these (λ r. not (has_no n r)) rows h)
+
+-- ## What is sent
+
+-- an answer to a session that has joined, which names servers that there are and can be read, or a parcel for another server
+abbrev pub IsSent : ℕ → Seats → ℕ → Peer × Msg → Type 0
+IsSent servers seats k (Client s, msg.Answer a) = HasJoined seats s × IsNamedAnswer servers a × (is_readable_answer a ≡ true)
+IsSent servers seats k (Server to, msg.Peer (OfParcel p)) = IsCarried servers seats (record { from = k; to = to; parcel = p })
+IsSent servers seats k x = ⊥
+
+abbrev pub AreSent : ℕ → Seats → ℕ → List (Peer × Msg) → Type 0
+AreSent servers seats k messages = AllByRecursion (IsSent servers seats k) messages
+
+-- a step leaves such a server, and sends such messages
+pub record IsStepped (servers : ℕ) (seats : Seats) (k : ℕ) (x : Stepped) : Type 0 where
+  pub server : IsServed servers seats k x.server
+  pub sends : AreSent servers seats k x.out.send
+
+-- what the event brings is of a session that has joined, and can be read; or it is a parcel on its way
+abbrev pub IsBrought : ℕ → Seats → Core → ServerEvent → Type 0
+IsBrought servers seats s (FromClient by m) = HasJoined seats by × (is_readable (msg.Client m) ≡ true)
+IsBrought servers seats s (FromPeer from (OfParcel p)) = RecordsOpen p.records × AreOfJoined seats p.rows
+IsBrought servers seats s (Move prefix to) = (to < servers) × AreRecords s.records
+IsBrought servers seats s Turn = Unit {0}
+IsBrought servers seats s (Recall field) = Unit {0}
+
+-- ## A parcel can be read
+
+handles_pass : (hs : List Handle) → AllByRecursion (λ (h : Handle). is_readable_handle h ≡ true) hs → list_all is_readable_handle hs ≡ true
+handles_pass [] h = refl
+handles_pass (x ∷ xs) h = joined _ _ h.0 (handles_pass xs h.1)
+
+between : (n least most : ℕ) → least ≤ n → n ≤ most → (nat_le least n && nat_le n most) ≡ true
+between n least most some few = grind (arith, nat_tests)
+
+record_passes : (r : Record) → HasOpenHandles r → IsRecord r → is_readable_record r ≡ true
+record_passes r h own = joined _ _ (handles_pass r.node.handles h) (between r.next 1 (2 ^ 32) own.least own.most)
+
+pub parcel_readable : (servers : ℕ) (seats : Seats) (f : Flying) → ((s : Session) → HasJoined seats s → is_readable_session s ≡ true) → IsCarried servers seats f → is_readable_parcel f.parcel ≡ true
+parcel_readable servers seats f readable h =
+    joined _ _ (In-all (λ (e : List ℕ × Record). is_readable_record e.1) f.parcel.records (λ e i. record_passes e.1 (h.handles e i) (h.each e i)))
+    (In-all is_readable_row f.parcel.rows (λ row i. readable row.session (h.rows row i)))
+
+pub sent_readable : (servers : ℕ) (seats : Seats) (k : ℕ) (x : Peer × Msg) → ((s : Session) → HasJoined seats s → is_readable_session s ≡ true) → IsSent servers seats k x → is_readable x.1 ≡ true
+sent_readable servers seats k (Client s, msg.Answer a) readable h = h.2
+sent_readable servers seats k (Client s, msg.Client m) readable h = absurd h
+sent_readable servers seats k (Client s, msg.Peer m) readable h = absurd h
+sent_readable servers seats k (Server to, msg.Answer a) readable h = absurd h
+sent_readable servers seats k (Server to, msg.Client m) readable h = absurd h
+sent_readable servers seats k (Server to, msg.Peer (OfParcel p)) readable h = parcel_readable servers seats (record { from = k; to = to; parcel = p }) readable h
+
+-- ## Steps
+
+pub first_served_core : (servers : ℕ) (seats : Seats) (k skew term : ℕ) → 0 < servers → IsServed servers seats k (first_server k skew term)
+first_served_core servers seats k skew term some = record { me = refl; named = named_first servers some; handles = first_open (k == 0); rows = λ row i. absurd i }
+
+module _ (servers : ℕ) (seats : Seats) (k : ℕ) (some : k < servers) (readable : (s : Session) → HasJoined seats s → is_readable_session s ≡ true) where
+  abbrev Fine : Core → Type 0
+  Fine s = IsServed servers seats k s
+
+  abbrev Goes : Stepped → Type 0
+  Goes x = IsStepped servers seats k x
+
+  -- with other rows, or other records
+  with_others : (s : Core) (rows : List Row) → Fine s → AreOf (HasJoined seats) rows → Fine (record s { rows = rows })
+  with_others s rows h g = record { me = h.me; named = h.named; handles = h.handles; rows = g }
+
+  begun_fine : (now : ℕ) (s : Core) → Fine s → Fine (begun now s)
+  begun_fine now s h = record { me = h.me; named = h.named; handles = h.handles; rows = filtered (HasJoined seats) (is_live (begun now s).last s.skew) s.rows h.rows }
+
+  moved_end : (s : Core) (id : List ℕ) → Fine s → IsNamedEnd servers (moved s id)
+  moved_end s id h = moved_named servers s id (omega (arith, some)) h.named
+
+  strange_goes : (s : Core) → Fine s → Goes (strange s)
+  strange_goes s h = record { server = h; sends = tt }
+
+  either_goes : (b : Bool) (x y : Stepped) → Goes x → Goes y → Goes (cond b x y)
+  either_goes true x y h g = h
+  either_goes false x y h g = g
+
+  -- ## A question
+
+  lease_fine : (by : Session) (field : Field) (kind : LeaseKind) (promise : Option Bool) (s : Core) → HasJoined seats by → Fine s → Fine (with_lease by field kind promise s)
+  lease_fine by field kind promise s of h = record { me = h.me; named = h.named; handles = h.handles; rows = put (HasJoined seats) _ s.rows of h.rows }
+
+  -- the server, and the answer so far
+  record IsAsking (a : Asking) : Type 0 where
+    server : Fine a.server
+    grants : list_all is_readable_grant a.grants ≡ true
+    end : IsNamedEnd servers a.end
+
+  either_asking : (b : Bool) (x y : Asking) → IsAsking x → IsAsking y → IsAsking (cond b x y)
+  either_asking true x y h g = h
+  either_asking false x y h g = g
+
+  one_grant : (gs : List Grant) (g : Grant) → list_all is_readable_grant gs ≡ true → is_readable_grant g ≡ true → list_all is_readable_grant (gs ++ g ∷ []) ≡ true
+  one_grant [] g h own = joined _ _ own refl
+  one_grant (x ∷ gs) g h own = joined _ _ (first _ _ h) (one_grant gs g (second _ _ h) own)
+
+  asked_fine : (by : Session) (items : List (Field × LeaseKind)) (s : Core) (grants : List Grant) → HasJoined seats by → Fine s → list_all is_readable_grant grants ≡ true → IsAsking (ask_from by items s grants)
+  asked_fine by [] s grants of h g = record { server = h; grants = g; end = tt }
+  asked_fine by (x ∷ xs) s grants of h g =
+      let kind = kind_for x.0 x.1 in
+      either_asking (is_mine s (file_of x.0))
+      (elim (answer_to by x.0 kind s) as (λ _. Asking) [
+        | Granted promise ↦ ask_from by xs (with_lease by x.0 kind promise s) (grants ++ grant_of by x.0 kind s ∷ [])
+        | Wait blocker ↦ record { server = s; grants = grants; fresh = None; end = end.Wait blocker }
+        | Locked txn ↦ record { server = s; grants = grants; fresh = None; end = end.Locked txn }
+      ])
+      (record { server = s; grants = grants; fresh = None; end = moved s (file_of x.0) })
+      (elim (answer_to by x.0 kind s) as (λ (a : Asked).
+      IsAsking
+      (elim a as (λ _. Asking) [
+        | Granted promise ↦ ask_from by xs (with_lease by x.0 kind promise s) (grants ++ grant_of by x.0 kind s ∷ [])
+        | Wait blocker ↦ record { server = s; grants = grants; fresh = None; end = end.Wait blocker }
+        | Locked txn ↦ record { server = s; grants = grants; fresh = None; end = end.Locked txn }
+      ])) [
+        | Granted promise ↦ asked_fine by xs (with_lease by x.0 kind promise s) (grants ++ grant_of by x.0 kind s ∷ []) of (lease_fine by x.0 kind promise s of h) (one_grant grants (grant_of by x.0 kind s) g (value_open s.records by x.0 h.handles))
+        | Wait blocker ↦ record { server = h; grants = g; end = tt }
+        | Locked txn ↦ record { server = h; grants = g; end = tt }
+      ])
+      (record { server = h; grants = g; end = moved_end s (file_of x.0) h })
+
+  fresh_fine : (by : Session) (dir : List ℕ) (o : Option ℕ) (a : Asking) → HasJoined seats by → IsAsking a → IsAsking (fresh_of by dir o a)
+  fresh_fine by dir None a of h = record { server = h.server; grants = h.grants; end = tt }
+  fresh_fine by dir (Some n) a of h =
+      let lent = lease_fine by (Life (child dir n)) Exclusive None a.server of h.server in
+      record {
+        server = record { me = lent.me; named = lent.named; handles = open_after_gift a.server.records dir n h.server.handles; rows = lent.rows };
+        grants = one_grant a.grants (grant_of by (Life (child dir n)) Exclusive a.server) h.grants (value_open a.server.records by (Life (child dir n)) h.server.handles);
+        end = tt;
+      }
+
+  there_fine : (by : Session) (dir : List ℕ) (b : Bool) (a : Asking) → HasJoined seats by → IsAsking a → IsAsking (fresh_in by dir b a)
+  there_fine by dir true a of h = fresh_fine by dir (fresh_number a.server.records dir (borne_numbers dir a.server.rows)) a of h
+  there_fine by dir false a of h = h
+
+  wanted_fine : (by : Session) (dir : Option (List ℕ)) (a : Asking) → HasJoined seats by → IsAsking a → IsAsking (fresh_for by dir a)
+  wanted_fine by None a of h = h
+  wanted_fine by (Some dir) a of h =
+      either_asking (is_mine a.server dir) (fresh_in by dir (is_directory a.server.records dir) a) (record a { end = moved a.server dir })
+      (there_fine by dir (is_directory a.server.records dir) a of h) (record { server = h.server; grants = h.grants; end = moved_end a.server dir h.server })
+
+  all_asked_fine : (by : Session) (dir : Option (List ℕ)) (e : End) (a : Asking) → HasJoined seats by → IsAsking a → IsAsking (ask_fresh by dir e a)
+  all_asked_fine by dir end.All a of h = wanted_fine by dir a of h
+  all_asked_fine by dir e a of h = h
+
+  -- what stands in the way is asked back from the session of its row
+  recalled : (blocker : LeaseNo) (o : Option Row) (rows : List Row) → find (has_no blocker) rows ≡ o → AreOf (HasJoined seats) rows → AreSent servers seats k (recall_of blocker o)
+  recalled blocker None rows e h = tt
+  recalled blocker (Some row) rows e h = ((h row (found (has_no blocker) rows row e).0, tt, refl), tt)
+
+  recalled_at : (e : End) (rows : List Row) → AreOf (HasJoined seats) rows → AreSent servers seats k (recalls_at e rows)
+  recalled_at end.All rows h = tt
+  recalled_at (end.Wait blocker) rows h = recalled blocker (find (has_no blocker) rows) rows refl h
+  recalled_at (end.Locked txn) rows h = tt
+  recalled_at (end.Moved prefix to) rows h = tt
+  recalled_at (end.NoIds full) rows h = tt
+  recalled_at (end.Ended n missed until now) rows h = tt
+
+  ask_goes : (by : Session) (items : List (Field × LeaseKind)) (dir : Option (List ℕ)) (s : Core) → HasJoined seats by → Fine s → Goes (ask_step by items dir s)
+  ask_goes by items dir s of h =
+      let a = ask_from by items s [] in
+      let all : IsAsking (asked_in by items dir s) = all_asked_fine by dir a.end a of (asked_fine by items s [] of h refl) in
+      record { server = all.server; sends = ((of, all.end, all.grants), recalled_at (asked_in by items dir s).end (asked_in by items dir s).server.rows all.server.rows) }
+
+  -- ## Renewals and releases
+
+  pairs_fine : (s : Core) (pairs : List (List ℕ × LeaseNo)) → Fine s → IsNamedEnd servers (pairs_end s pairs)
+  pairs_fine s [] h = tt
+  pairs_fine s (p ∷ ps) h = either (is_mine s p.0) (pairs_fine s ps h)
+    where
+      either : (b : Bool) → IsNamedEnd servers (pairs_end s ps) → IsNamedEnd servers (cond b (pairs_end s ps) (moved s p.0))
+      either true rest = rest
+      either false rest = moved_end s p.0 h
+
+  -- ## A log that is handed in
+
+  -- the server, and the answer so far
+  record IsShipping (x : Shipping) : Type 0 where
+    server : Fine x.server
+    end : IsNamedEnd servers x.end
+
+  either_shipping : (b : Bool) (x y : Shipping) → IsShipping x → IsShipping y → IsShipping (cond b x y)
+  either_shipping true x y h g = h
+  either_shipping false x y h g = g
+
+  entries_fine : (by : Session) (es : List Entry) (s : Core) (admitted : List Item) → HasJoined seats by → list_all is_readable_entry es ≡ true → Fine s → IsShipping (ship_from by es s admitted)
+  entries_fine by [] s admitted of r h = record { server = h; end = tt }
+  entries_fine by (e ∷ es) s admitted of r h =
+      either_shipping (is_mine s (home_of e.op))
+      (elim (first_gone s.rows by e.uses) as (λ _. Shipping) [
+        | None ↦ ship_from by es (with_entry by e s) (admitted ++ item_of by e ∷ [])
+        | Some u ↦ record { server = s; admitted = admitted; end = end.Ended e.n u.no u.until s.last; gaps = map (λ (x : Entry). x.n) es }
+      ])
+      (record { server = s; admitted = admitted; end = moved s (home_of e.op); gaps = [] })
+      (elim (first_gone s.rows by e.uses) as (λ (o : Option Use).
+      IsShipping
+      (elim o as (λ _. Shipping) [
+        | None ↦ ship_from by es (with_entry by e s) (admitted ++ item_of by e ∷ [])
+        | Some u ↦ record { server = s; admitted = admitted; end = end.Ended e.n u.no u.until s.last; gaps = map (λ (x : Entry). x.n) es }
+      ])) [
+        | None ↦ entries_fine by es (with_entry by e s) (admitted ++ item_of by e ∷ []) of (second _ _ r)
+            (record { me = h.me; named = h.named; handles = open_after_all s.records (effects_of by e.op e.reply) (effects_open by e.op e.reply (readable by of) (first _ _ r)) h.handles; rows = h.rows })
+        | Some u ↦ record { server = h; end = tt }
+      ])
+      (record { server = h; end = moved_end s (home_of e.op) h })
+
+  ship_goes : (by : Session) (entries : List Entry) (s : Core) → HasJoined seats by → list_all is_readable_entry entries ≡ true → Fine s → Goes (ship_step by entries s)
+  ship_goes by entries s of r h =
+      let all : IsShipping (ship_from by entries s []) = entries_fine by entries s [] of r h in
+      either_goes (list_all (λ (e : Entry). tells_its_effects e.op) entries) (shipped by (ship_from by entries s [])) (strange s) (record { server = all.server; sends = ((of, all.end, refl), tt) }) (strange_goes s h)
+
+  message_goes : (by : Session) (m : ClientMsg) (s : Core) → HasJoined seats by → is_readable (msg.Client m) ≡ true → Fine s → Goes (message_step by m s)
+  message_goes by (Ask items fresh) s of r h = ask_goes by items fresh s of h
+  message_goes by (Renew pairs) s of r h = record {
+    server = with_others s (renewed_rows (end_of s) (numbers_in (pairs_here s pairs)) s.rows) h (renewed (HasJoined seats) (end_of s) (numbers_in (pairs_here s pairs)) s.rows h.rows);
+    sends = ((of, pairs_fine s pairs h, refl), tt);
+  }
+  message_goes by (Release pairs) s of r h = record {
+    server = with_others s (released_rows (numbers_in (pairs_here s pairs)) s.rows) h (released (HasJoined seats) (numbers_in (pairs_here s pairs)) s.rows h.rows);
+    sends = ((of, pairs_fine s pairs h, refl), tt);
+  }
+  message_goes by (Ship entries) s of r h = ship_goes by entries s of r h
+
+  -- ## Leases are asked back
+
+  recalls_sent : (leases : List (LeaseNo × Session)) → ((x : LeaseNo × Session) → In x leases → HasJoined seats x.1) → AreSent servers seats k (recalls_of leases)
+  recalls_sent [] h = tt
+  recalls_sent (x ∷ xs) h = ((h x (inl refl), tt, refl), recalls_sent xs (λ y i. h y (inr i)))
+
+  unlocked : (field : Field) (rows : List Row) → AreOf (HasJoined seats) rows → (x : LeaseNo × Session) → In x (unlocked_on field rows) → HasJoined seats x.1
+  unlocked field rows h x i =
+      let at = In-map (λ (row : Row). (row.no, row.session)) x (unlocked_rows_on field rows) i in
+      subst (HasJoined seats) (ap (λ (y : LeaseNo × Session). y.1) (sym at.1.1)) (h at.0 (In-filter (λ (row : Row). same_field row.field field && not (is_some row.lock)) at.0 rows at.1.0))
+
+  recall_sent : (b : Bool) (field : Field) (rows : List Row) → AreOf (HasJoined seats) rows → AreSent servers seats k (recalls_of (cond b (unlocked_on field rows) []))
+  recall_sent true field rows h = recalls_sent (unlocked_on field rows) (unlocked field rows h)
+  recall_sent false field rows h = tt
+
+  -- ## Reaps
+
+  sent_more : (xs ys : List (Peer × Msg)) → AreSent servers seats k xs → AreSent servers seats k ys → AreSent servers seats k (xs ++ ys)
+  sent_more [] ys h g = g
+  sent_more (x ∷ xs) ys h g = (h.0, sent_more xs ys h.1 g)
+
+  -- each lease in the way is asked back from the session of its row
+  recalled_for : (rows : List Row) (ns : List LeaseNo) → AreOf (HasJoined seats) rows → AreSent servers seats k (recalls_for rows ns)
+  recalled_for rows [] h = tt
+  recalled_for rows (n ∷ ns) h = sent_more (recall_of n (find (has_no n) rows)) (recalls_for rows ns) (recalled n (find (has_no n) rows) rows refl h) (recalled_for rows ns h)
+
+  -- a reap adds no handle
+  reap_open : (file : List ℕ) (by : Session) (hs : Handles) → AllByRecursion AddsOpen (map (λ h. RemoveHandle file by h.0) hs)
+  reap_open file by [] = tt
+  reap_open file by (h ∷ hs) = (tt, reap_open file by hs)
+
+  reaped_fine : (xs : List (List ℕ × Session)) (s : Core) (admitted : List Item) (blockers : List LeaseNo) → Fine s → Fine (reap_from xs s admitted blockers).server
+  reaped_fine [] s admitted blockers h = h
+  reaped_fine (x ∷ xs) s admitted blockers h =
+      elim (reap_blocker (selves_in s.records x.0) s.rows x.1 x.0) as (λ (o : Option LeaseNo).
+      Fine
+      (elim o as (λ _. Reaping) [
+        | None ↦ reap_from xs (with_reap x.0 x.1 s) (admitted ++ reap_item s.me (s.reaps + 1) x.0 x.1 ∷ []) blockers
+        | Some number ↦ reap_from xs s admitted (with_blocker number blockers)
+      ]).server) [
+        | None ↦ reaped_fine xs (with_reap x.0 x.1 s) (admitted ++ reap_item s.me (s.reaps + 1) x.0 x.1 ∷ []) blockers
+            (record { me = h.me; named = h.named; handles = open_after_all s.records (reap_effects s.records x.0 x.1) (reap_open x.0 x.1 (own_of x.1 (handles_of (node_of (get s.records x.0))))) h.handles; rows = h.rows })
+        | Some number ↦ reaped_fine xs s admitted (with_blocker number blockers) h
+      ]
+
+  turn_goes : (xs : List (List ℕ × Session)) (s : Core) → Fine s → Goes (turn_over xs s)
+  turn_goes [] s h = record { server = h; sends = tt }
+  turn_goes (x ∷ xs) s h =
+      let all : Reaping = reap_from (x ∷ xs) s [] [] in
+      let fine : Fine all.server = reaped_fine (x ∷ xs) s [] [] h in
+      record { server = fine; sends = recalled_for all.server.rows all.blockers fine.rows }
+
+  -- ## Moves
+
+  -- it moves to another server
+  not_same : (mine here same : Bool) (e : Option (List ℕ × ℕ)) (later : Option MoveError) → cond (not mine) (Some (not_mine e)) (cond (not here) (Some move.NoFile) (cond same (Some move.Same) later)) ≡ None → same ≡ false
+  not_same false here same e later h = absurd (cc)
+  not_same true false same e later h = absurd (cc)
+  not_same true true true e later h = absurd (cc)
+  not_same true true false e later h = refl
+
+  differ : (to : ℕ) (s : Core) → Fine s → (to == s.me) ≡ false → k ≢ to
+  differ to s h e q = let same : (to == s.me) ≡ true = ap (λ (n : ℕ). to == n) (h.me ∙ q) ∙ refl_of to in absurd (cc)
+    where
+      refl_of : (n : ℕ) → (n == n) ≡ true
+      refl_of n = grind (arith, nat_tests)
+
+  moves_goes : (prefix : List ℕ) (to : ℕ) (s : Core) (o : Option MoveError) → move_refusal s.records s.rows s.map s.me prefix to None ≡ o → to < servers → AreRecords s.records → Fine s → Goes (move_at o prefix to s)
+  moves_goes prefix to s (Some why) e few valid h = record { server = h; sends = tt }
+  moves_goes prefix to s None e few valid h =
+      let piece = piece_of s.map s.me prefix in
+      record {
+        server = record {
+          me = h.me;
+          named = named_give servers s.map s.me prefix to few h.named;
+          handles = open_left prefix piece s.records h.handles;
+          rows = filtered (HasJoined seats) (λ r. not (is_on_given prefix piece r)) s.rows h.rows;
+        };
+        sends = (
+          record {
+            from = some;
+            to = few;
+            apart = differ to s h (not_same _ _ (to == s.me) _ _ e);
+            each = given_each prefix piece s.records valid;
+            handles = open_given prefix piece s.records h.handles;
+            rows = filtered (HasJoined seats) (is_on_given prefix piece) s.rows h.rows;
+          },
+          tt,
+        );
+      }
+
+  -- ## A parcel comes
+
+  parcel_goes : (b : Bool) (p : Parcel) (s : Core) → RecordsOpen p.records → AreOf (HasJoined seats) p.rows → Fine s → Goes (parcel_at b p s)
+  parcel_goes true p s open_ of h = record {
+    server = record {
+      me = h.me;
+      named = named_take servers s.map s.me p.prefix p.piece.given (subst (λ (n : ℕ). n < servers) (sym h.me) some) h.named;
+      handles = open_with p.records s.records open_ h.handles;
+      rows = put_all (HasJoined seats) p.rows s.rows of h.rows;
+    };
+    sends = tt;
+  }
+  parcel_goes false p s open_ of h = strange_goes s h
+
+  -- ## An event
+
+  event_goes : (e : ServerEvent) (s : Core) → IsBrought servers seats s e → Fine s → Goes (event_step e s)
+  event_goes (FromClient by m) s b h = message_goes by m s b.0 b.1 h
+  event_goes (FromPeer from (OfParcel p)) s b h = parcel_goes (fits_here p s) p s b.0 b.1 h
+  event_goes Turn s b h = turn_goes (lapsed_in s) s h
+  event_goes (Recall field) s b h = record { server = h; sends = recall_sent (is_mine s (file_of field)) field s.rows h.rows }
+  event_goes (Move prefix to) s b h = moves_goes prefix to s (move_refusal s.records s.rows s.map s.me prefix to None) refl b.0 b.1 h
+
+  pub step_goes : (s : Core) (now : ℕ) (e : ServerEvent) → IsBrought servers seats s e → Fine s → Goes (step s now e)
+  step_goes s now e b h = event_goes e (begun now s) (still e b) (begun_fine now s h)
+    where
+      still : (e : ServerEvent) → IsBrought servers seats s e → IsBrought servers seats (begun now s) e
+      still (FromClient by m) b = b
+      still (FromPeer from (OfParcel p)) b = b
+      still Turn b = b
+      still (Recall field) b = b
+      still (Move prefix to) b = b

@@ -1,0 +1,300 @@
+-- Whose rows a server has, and to whom it sends: the sessions that asked.
+use Rattle.std.proofs.Common.{◌≡◌, ℕ, ◌+◌, Bool, true, false, List, [], ◌∷◌, ◌++◌, map, not, Option, Some, None, refl, sym, ap, subst, cond, ◌∙◌, inl, inr}
+use Rattle.std.specs.Prelude.{◌&&◌, is_some, nat_lt}
+use Rattle.std.specs.List.{AllByRecursion, filter, find, list_all}
+use Rattle.fs_ident.specs.Ident.{child}
+use Rattle.fs_ident.specs.In.{In}
+use Rattle.fs_ident.specs.declared.actor.LeaseNo.{LeaseNo}
+use Rattle.fs_ident.specs.declared.actor.Peer.{Peer}
+use Rattle.fs_ident.specs.declared.actor.Peer.TheVariants.{Client, Server as OfServer}
+use Rattle.fs_ident.specs.declared.actor.Session.{Session}
+use Rattle.fs_ident.proofs.Passing.{found}
+use Rattle.fs_ident.proofs.Standing.{In-filter, In-map, In-put}
+use Rattle.fs_field.specs.declared.asked.Asked.{Asked}
+use Rattle.fs_field.specs.declared.asked.Asked.TheVariants.{Granted, Wait, Locked}
+use Rattle.fs_field.specs.declared.field.Field.{Field}
+use Rattle.fs_field.specs.declared.field.Field.TheVariants.{Life}
+use Rattle.fs_field.specs.declared.lease_kind.LeaseKind.{LeaseKind}
+use Rattle.fs_field.specs.declared.lease_kind.LeaseKind.TheVariants.{Exclusive}
+use Rattle.fs_field.specs.declared.row.Row.{Row}
+use Rattle.fs_field.specs.Field.{file_of, same_field}
+use Rattle.fs_field.specs.Table.{borne_numbers, has_no, is_live, no_before, renewed_row, with_row}
+use Rattle.fs_map.specs.Lists.{piece_of}
+use Rattle.fs_moderows.specs.Answer.{reap_blocker}
+use Rattle.fs_parcel.specs.Parcel.{move_refusal}
+use Rattle.fs_parcel.specs.declared.error.MoveError.{MoveError}
+use Rattle.fs_rows.specs.Granted.{with_rows}
+use Rattle.fs_rows.specs.Live.{unlocked_on, unlocked_rows_on}
+use Rattle.fs_rows.specs.Moving.{is_on_given}
+use Rattle.fs_record.specs.Fresh.{fresh_number, is_directory}
+use Rattle.fs_record.specs.ValueOf.{selves_in}
+use Rattle.fs_record.specs.declared.parcel.Parcel.{Parcel}
+use Rattle.fs_msg.specs.Home.{home_of}
+use Rattle.fs_msg.specs.declared.answer.Grant.{Grant}
+use Rattle.fs_msg.specs.declared.client_msg.ClientMsg.{ClientMsg}
+use Rattle.fs_msg.specs.declared.client_msg.ClientMsg.TheVariants.{Ask, Renew, Release, Ship}
+use Rattle.fs_msg.specs.declared.end.End.{End}
+use Rattle.fs_msg.specs.declared.end.End.TheVariants as end
+use Rattle.fs_msg.specs.declared.entry.Entry.{Entry}
+use Rattle.fs_msg.specs.declared.item.Item.{Item}
+use Rattle.fs_msg.specs.declared.msg.Msg.{Msg}
+use Rattle.fs_msg.specs.declared.msg.Msg.TheVariants as msg
+use Rattle.fs_msg.specs.declared.peer_msg.PeerMsg.TheVariants.{Parcel as OfParcel}
+use Rattle.fs_record.specs.Effects.{tells_its_effects}
+use Rattle.fs_server.specs.Asks.{Asking, answer_to, ask_fresh, ask_from, ask_step, asked_in, fresh_for, fresh_in, fresh_of, grant_of, kind_for, recall_of, recalls_at, with_lease}
+use Rattle.fs_server.specs.Moves.{fits_here, move_at, parcel_at}
+use Rattle.fs_server.specs.Pairs.{numbers_in, pairs_here, released_rows, renewed_rows}
+use Rattle.fs_server.specs.Reaps.{Reaping, lapsed_in, reap_from, reap_item, recalls_for, turn_over, with_blocker, with_reap}
+use Rattle.fs_server.specs.Server.{Stepped, begun, end_of, is_mine, moved, strange}
+use Rattle.fs_server.specs.Ships.{Shipping, first_gone, item_of, ship_from, ship_step, shipped, with_entry}
+use Rattle.fs_server.specs.Step.{event_step, message_step, recalls_of, step}
+use Rattle.fs_server.specs.declared.event.ServerEvent.{ServerEvent}
+use Rattle.fs_server.specs.declared.event.ServerEvent.TheVariants.{FromClient, FromPeer, Turn, Recall, Move}
+use Rattle.fs_server.specs.declared.state.Server.{Server}
+use Rattle.fs_field.specs.declared.used.Use.{Use}
+
+-- each row is of one of these sessions
+abbrev pub AreOf : (Session → Type 0) → List Row → Type 0
+AreOf these rows = (row : Row) → In row rows → these row.session
+
+-- it goes to one of these sessions, or is a parcel with rows of these
+abbrev pub IsSentTo : (Session → Type 0) → Peer × Msg → Type 0
+IsSentTo these (Client s, msg.Answer a) = these s
+IsSentTo these (OfServer to, msg.Peer (OfParcel p)) = AreOf these p.rows
+IsSentTo these x = ⊥
+
+abbrev pub AreSentTo : (Session → Type 0) → List (Peer × Msg) → Type 0
+AreSentTo these messages = AllByRecursion (λ (x : Peer × Msg). IsSentTo these x) messages
+
+module _ (these : Session → Type 0) where
+  -- the session that the event is of, if it is of one, is one of these, and so are those of the rows that come
+  abbrev pub IsAsked : ServerEvent → Type 0
+  IsAsked (FromClient by m) = these by
+  IsAsked (FromPeer from (OfParcel p)) = AreOf these p.rows
+  IsAsked e = Unit {0}
+
+  -- the rows that a step leaves are of these sessions, and so is whoever it sends to
+  pub record IsOf (x : Stepped) : Type 0 where
+    pub rows : AreOf these x.server.rows
+    pub sends : AreSentTo these x.out.send
+
+  -- ## Rows
+
+  filtered : (test : Row → Bool) (rows : List Row) → AreOf these rows → AreOf these (filter test rows)
+  filtered test rows h row i = h row (In-filter test row rows i)
+
+  put : (new : Row) (rows : List Row) → these new.session → AreOf these rows → AreOf these (with_row new rows)
+  put new rows h all row i = elim (In-put (λ (r : Row). no_before new.no r.no) row new rows i) [
+    | inl e ↦ subst these (ap (λ (r : Row). r.session) (sym e)) h
+    | inr j ↦ all row j
+  ]
+
+  put_all : (more rows : List Row) → AreOf these more → AreOf these rows → AreOf these (with_rows more rows)
+  put_all [] rows h all = all
+  put_all (r ∷ rs) rows h all = put_all rs (with_row r rows) (λ x i. h x (inr i)) (put r rows (h r (inl refl)) all)
+
+  lent : (by : Session) (field : Field) (kind : LeaseKind) (promise : Option Bool) (s : Server) → these by → AreOf these s.rows → AreOf these (with_lease by field kind promise s).rows
+  lent by field kind promise s h all row i = put _ s.rows h all row i
+
+  session_kept : (n : LeaseNo) (until : ℕ) (r : Row) → (renewed_row n until r).session ≡ r.session
+  session_kept n until r = either (has_no n r && nat_lt r.until until)
+    where
+      either : (b : Bool) → (cond b (record r { until = until }) r).session ≡ r.session
+      either true = refl
+      either false = refl
+
+  renewed : (until : ℕ) (ns : List LeaseNo) (rows : List Row) → AreOf these rows → AreOf these (renewed_rows until ns rows)
+  renewed until [] rows h = h
+  renewed until (n ∷ ns) rows h = renewed until ns (map (renewed_row n until) rows) (λ row i.
+      let at = In-map (renewed_row n until) row rows i in
+      subst these (sym (ap (λ (r : Row). r.session) at.1.1 ∙ session_kept n until at.0)) (h at.0 at.1.0))
+
+  released : (ns : List LeaseNo) (rows : List Row) → AreOf these rows → AreOf these (released_rows ns rows)
+  released [] rows h = h
+  released (n ∷ ns) rows h = released ns (filter (λ r. not (has_no n r)) rows) (filtered (λ r. not (has_no n r)) rows h)
+
+  -- ## A question
+
+  after_items : (by : Session) (xs : List (Field × LeaseKind)) (s : Server) (grants : List Grant) → these by → AreOf these s.rows → AreOf these (ask_from by xs s grants).server.rows
+  after_items by [] s grants p h = h
+  after_items by (x ∷ xs) s grants p h =
+      let kind = kind_for x.0 x.1 in
+      elim (is_mine s (file_of x.0)) as (λ (b : Bool). AreOf these
+      (cond b
+      (elim (answer_to by x.0 kind s) as (λ _. Asking) [
+        | Granted promise ↦ ask_from by xs (with_lease by x.0 kind promise s) (grants ++ grant_of by x.0 kind s ∷ [])
+        | Wait blocker ↦ record { server = s; grants = grants; fresh = None; end = end.Wait blocker }
+        | Locked txn ↦ record { server = s; grants = grants; fresh = None; end = end.Locked txn }
+      ])
+      (record { server = s; grants = grants; fresh = None; end = moved s (file_of x.0) })).server.rows) [
+        | true ↦
+            elim (answer_to by x.0 kind s) as (λ (a : Asked). AreOf these
+            (elim a as (λ _. Asking) [
+              | Granted promise ↦ ask_from by xs (with_lease by x.0 kind promise s) (grants ++ grant_of by x.0 kind s ∷ [])
+              | Wait blocker ↦ record { server = s; grants = grants; fresh = None; end = end.Wait blocker }
+              | Locked txn ↦ record { server = s; grants = grants; fresh = None; end = end.Locked txn }
+            ]).server.rows) [
+              | Granted promise ↦ after_items by xs (with_lease by x.0 kind promise s) (grants ++ grant_of by x.0 kind s ∷ []) p (lent by x.0 kind promise s p h)
+              | Wait blocker ↦ h
+              | Locked txn ↦ h
+            ]
+        | false ↦ h
+      ]
+
+  -- a new file's identifier
+  after_fresh_of : (by : Session) (dir : List ℕ) (k : Option ℕ) (a : Asking) → these by → AreOf these a.server.rows → AreOf these (fresh_of by dir k a).server.rows
+  after_fresh_of by dir (Some k) a p h = lent by (Life (child dir k)) Exclusive None a.server p h
+  after_fresh_of by dir None a p h = h
+
+  after_fresh_in : (by : Session) (dir : List ℕ) (b : Bool) (a : Asking) → these by → AreOf these a.server.rows → AreOf these (fresh_in by dir b a).server.rows
+  after_fresh_in by dir true a p h = after_fresh_of by dir (fresh_number a.server.records dir (borne_numbers dir a.server.rows)) a p h
+  after_fresh_in by dir false a p h = h
+
+  after_fresh_for : (by : Session) (dir : Option (List ℕ)) (a : Asking) → these by → AreOf these a.server.rows → AreOf these (fresh_for by dir a).server.rows
+  after_fresh_for by None a p h = h
+  after_fresh_for by (Some dir) a p h =
+      elim (is_mine a.server dir) as (λ (b : Bool). AreOf these (cond b (fresh_in by dir (is_directory a.server.records dir) a) (record a { end = moved a.server dir })).server.rows) [
+        | true ↦ after_fresh_in by dir (is_directory a.server.records dir) a p h
+        | false ↦ h
+      ]
+
+  after_fresh : (by : Session) (dir : Option (List ℕ)) (e : End) (a : Asking) → these by → AreOf these a.server.rows → AreOf these (ask_fresh by dir e a).server.rows
+  after_fresh by dir end.All a p h = after_fresh_for by dir a p h
+  after_fresh by dir (end.Wait blocker) a p h = h
+  after_fresh by dir (end.Locked txn) a p h = h
+  after_fresh by dir (end.Moved prefix to) a p h = h
+  after_fresh by dir (end.NoIds full) a p h = h
+  after_fresh by dir (end.Ended n missed until now) a p h = h
+
+  -- what stands in the way is asked back from the session of its row
+  recalled : (blocker : LeaseNo) (o : Option Row) (rows : List Row) → find (has_no blocker) rows ≡ o → AreOf these rows → AreSentTo these (recall_of blocker o)
+  recalled blocker None rows e h = tt
+  recalled blocker (Some row) rows e h = (h row (found (has_no blocker) rows row e).0, tt)
+
+  recalled_at : (e : End) (rows : List Row) → AreOf these rows → AreSentTo these (recalls_at e rows)
+  recalled_at end.All rows h = tt
+  recalled_at (end.Wait blocker) rows h = recalled blocker (find (has_no blocker) rows) rows refl h
+  recalled_at (end.Locked txn) rows h = tt
+  recalled_at (end.Moved prefix to) rows h = tt
+  recalled_at (end.NoIds full) rows h = tt
+  recalled_at (end.Ended n missed until now) rows h = tt
+
+  ask_of : (by : Session) (items : List (Field × LeaseKind)) (dir : Option (List ℕ)) (s : Server) → these by → AreOf these s.rows → IsOf (ask_step by items dir s)
+  ask_of by items dir s p h =
+      let rows : AreOf these (asked_in by items dir s).server.rows = after_fresh by dir (ask_from by items s []).end (ask_from by items s []) p (after_items by items s [] p h) in
+      record { rows = rows; sends = (p, recalled_at (asked_in by items dir s).end (asked_in by items dir s).server.rows rows) }
+
+  -- ## Other messages
+
+  strange_of : (s : Server) → AreOf these s.rows → IsOf (strange s)
+  strange_of s h = record { rows = h; sends = tt }
+
+  -- no entry changes a row
+  after_entries : (by : Session) (es : List Entry) (s : Server) (admitted : List Item) → AreOf these s.rows → AreOf these (ship_from by es s admitted).server.rows
+  after_entries by [] s admitted h = h
+  after_entries by (e ∷ es) s admitted h =
+      elim (is_mine s (home_of e.op)) as (λ (b : Bool). AreOf these
+      (cond b
+      (elim (first_gone s.rows by e.uses) as (λ _. Shipping) [
+        | None ↦ ship_from by es (with_entry by e s) (admitted ++ item_of by e ∷ [])
+        | Some u ↦ record { server = s; admitted = admitted; end = end.Ended e.n u.no u.until s.last; gaps = map (λ (x : Entry). x.n) es }
+      ])
+      (record { server = s; admitted = admitted; end = moved s (home_of e.op); gaps = [] })).server.rows) [
+        | true ↦
+            elim (first_gone s.rows by e.uses) as (λ (o : Option Use). AreOf these
+            (elim o as (λ _. Shipping) [
+              | None ↦ ship_from by es (with_entry by e s) (admitted ++ item_of by e ∷ [])
+              | Some u ↦ record { server = s; admitted = admitted; end = end.Ended e.n u.no u.until s.last; gaps = map (λ (x : Entry). x.n) es }
+            ]).server.rows) [
+              | None ↦ after_entries by es (with_entry by e s) (admitted ++ item_of by e ∷ []) h
+              | Some u ↦ h
+            ]
+        | false ↦ h
+      ]
+
+  ship_of : (by : Session) (entries : List Entry) (s : Server) → these by → AreOf these s.rows → IsOf (ship_step by entries s)
+  ship_of by entries s p h = either (list_all (λ (e : Entry). tells_its_effects e.op) entries)
+    where
+      either : (b : Bool) → IsOf (cond b (shipped by (ship_from by entries s [])) (strange s))
+      either true = record { rows = after_entries by entries s [] h; sends = (p, tt) }
+      either false = strange_of s h
+
+  message_of : (by : Session) (m : ClientMsg) (s : Server) → these by → AreOf these s.rows → IsOf (message_step by m s)
+  message_of by (Ask items fresh) s p h = ask_of by items fresh s p h
+  message_of by (Renew pairs) s p h = record { rows = renewed (end_of s) (numbers_in (pairs_here s pairs)) s.rows h; sends = (p, tt) }
+  message_of by (Release pairs) s p h = record { rows = released (numbers_in (pairs_here s pairs)) s.rows h; sends = (p, tt) }
+  message_of by (Ship entries) s p h = ship_of by entries s p h
+
+  -- ## Leases are asked back from the sessions of their rows
+
+  recalls_sent : (leases : List (LeaseNo × Session)) → ((x : LeaseNo × Session) → In x leases → these x.1) → AreSentTo these (recalls_of leases)
+  recalls_sent [] h = tt
+  recalls_sent (x ∷ xs) h = (h x (inl refl), recalls_sent xs (λ y i. h y (inr i)))
+
+  unlocked : (field : Field) (rows : List Row) → AreOf these rows → (x : LeaseNo × Session) → In x (unlocked_on field rows) → these x.1
+  unlocked field rows h x i =
+      let at = In-map (λ (row : Row). (row.no, row.session)) x (unlocked_rows_on field rows) i in
+      subst these (ap (λ (y : LeaseNo × Session). y.1) (sym at.1.1)) (h at.0 (In-filter (λ (row : Row). same_field row.field field && not (is_some row.lock)) at.0 rows at.1.0))
+
+  recall_sent : (b : Bool) (field : Field) (rows : List Row) → AreOf these rows → AreSentTo these (recalls_of (cond b (unlocked_on field rows) []))
+  recall_sent true field rows h = recalls_sent (unlocked_on field rows) (unlocked field rows h)
+  recall_sent false field rows h = tt
+
+  -- ## Reaps
+
+  sent_more : (xs ys : List (Peer × Msg)) → AreSentTo these xs → AreSentTo these ys → AreSentTo these (xs ++ ys)
+  sent_more [] ys h g = g
+  sent_more (x ∷ xs) ys h g = (h.0, sent_more xs ys h.1 g)
+
+  -- each lease in the way is asked back from the session of its row
+  recalled_for : (rows : List Row) (ns : List LeaseNo) → AreOf these rows → AreSentTo these (recalls_for rows ns)
+  recalled_for rows [] h = tt
+  recalled_for rows (n ∷ ns) h = sent_more (recall_of n (find (has_no n) rows)) (recalls_for rows ns) (recalled n (find (has_no n) rows) rows refl h) (recalled_for rows ns h)
+
+  -- a reap changes no row
+  reap_rows : (xs : List (List ℕ × Session)) (s : Server) (admitted : List Item) (blockers : List LeaseNo) → (reap_from xs s admitted blockers).server.rows ≡ s.rows
+  reap_rows [] s admitted blockers = refl
+  reap_rows (x ∷ xs) s admitted blockers =
+      elim (reap_blocker (selves_in s.records x.0) s.rows x.1 x.0) as (λ (o : Option LeaseNo).
+      (elim o as (λ _. Reaping) [
+        | None ↦ reap_from xs (with_reap x.0 x.1 s) (admitted ++ reap_item s.me (s.reaps + 1) x.0 x.1 ∷ []) blockers
+        | Some number ↦ reap_from xs s admitted (with_blocker number blockers)
+      ]).server.rows ≡ s.rows) [
+        | None ↦ reap_rows xs (with_reap x.0 x.1 s) (admitted ++ reap_item s.me (s.reaps + 1) x.0 x.1 ∷ []) blockers
+        | Some number ↦ reap_rows xs s admitted (with_blocker number blockers)
+      ]
+
+  turn_of : (xs : List (List ℕ × Session)) (s : Server) → AreOf these s.rows → IsOf (turn_over xs s)
+  turn_of [] s h = record { rows = h; sends = tt }
+  turn_of (x ∷ xs) s h =
+      let all : Reaping = reap_from (x ∷ xs) s [] [] in
+      let rows : AreOf these all.server.rows = subst (AreOf these) (sym (reap_rows (x ∷ xs) s [] [])) h in
+      record { rows = rows; sends = recalled_for all.server.rows all.blockers rows }
+
+  -- ## Moves
+
+  move_of : (o : Option MoveError) (prefix : List ℕ) (to : ℕ) (s : Server) → AreOf these s.rows → IsOf (move_at o prefix to s)
+  move_of (Some why) prefix to s h = record { rows = h; sends = tt }
+  move_of None prefix to s h =
+      let piece = piece_of s.map s.me prefix in
+      record {
+        rows = filtered (λ r. not (is_on_given prefix piece r)) s.rows h;
+        sends = (filtered (is_on_given prefix piece) s.rows h, tt);
+      }
+
+  parcel_of : (b : Bool) (p : Parcel) (s : Server) → AreOf these p.rows → AreOf these s.rows → IsOf (parcel_at b p s)
+  parcel_of true p s come h = record { rows = put_all p.rows s.rows come h; sends = tt }
+  parcel_of false p s come h = strange_of s h
+
+  -- ## An event
+
+  event_of : (e : ServerEvent) (s : Server) → IsAsked e → AreOf these s.rows → IsOf (event_step e s)
+  event_of (FromClient by m) s p h = message_of by m s p h
+  event_of (FromPeer from (OfParcel p)) s come h = parcel_of (fits_here p s) p s come h
+  event_of Turn s p h = turn_of (lapsed_in s) s h
+  event_of (Recall field) s p h = record { rows = h; sends = recall_sent (is_mine s (file_of field)) field s.rows h }
+  event_of (Move prefix to) s p h = move_of (move_refusal s.records s.rows s.map s.me prefix to None) prefix to s h
+
+  -- a step keeps the rows of these sessions, and sends to these alone
+  pub step_of : (s : Server) (now : ℕ) (e : ServerEvent) → IsAsked e → AreOf these s.rows → IsOf (step s now e)
+  step_of s now e p h = event_of e (begun now s) p (filtered (is_live (begun now s).last s.skew) s.rows h)

@@ -1,0 +1,47 @@
+//! Messages that are no longer on their way.
+ghost use Rattle.std.specs.Prelude.{◌≡◌, ◌<◌, ◌==◌, length, IfSome};
+ghost use Rattle.std.specs.List.{position};
+ghost use Rattle.fs_serial.specs.Cluster.{is_between, is_with, without_first};
+
+use fs_ident::List;
+use fs_serial::Flying;
+
+/// The first message to or from the server, if there is one, is taken off. Takes no memory.
+pub(crate) fn remove_first<T: Drop>(messages: &mut List<(u8, T)>, k: u8)
+    ensures { messages.new ≡ without_first (is_with k) messages.old }
+{
+    match first_with(messages.as_slice(), k) {
+        Some(at) => {
+            messages.remove(at);
+        }
+        None => {}
+    }
+}
+
+/// The first parcel from one server to the other, if there is one, is taken off. Takes no memory.
+pub(crate) fn remove_flying(flying: &mut List<Flying>, from: u8, to: u8)
+    ensures { flying.new ≡ without_first (is_between from to) flying.old }
+{
+    match first_between(flying.as_slice(), from, to) {
+        Some(at) => {
+            flying.remove(at);
+        }
+        None => {}
+    }
+}
+
+/// The place of the first message to or from the server.
+fn first_with<T>(messages: &[(u8, T)], k: u8) -> Option<usize>
+    ensures same { result ≡ position (is_with k) messages.now }
+    ensures within { IfSome result (λ at. at < length messages.now) }
+{
+    messages.iter().position(|m| m.0 == k)
+}
+
+/// The place of the first parcel from one server to the other.
+fn first_between(flying: &[Flying], from: u8, to: u8) -> Option<usize>
+    ensures same { result ≡ position (is_between from to) flying.now }
+    ensures within { IfSome result (λ at. at < length flying.now) }
+{
+    flying.iter().position(|f| f.from == from && f.to == to)
+}
