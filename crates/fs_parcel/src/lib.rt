@@ -23,4 +23,5 @@ pub use law::{
     what_goes_is_below_the_prefix,
 };
 pub use packing::{pack_up, packed};
+pub use parts::Parts;
 pub use refusing::refusal;

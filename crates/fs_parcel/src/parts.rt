@@ -8,15 +8,18 @@ use fs_field::Row;
 use fs_ident::{List, Memory};
 use std::alloc::Global;
 
-/// Rows by table: those on what sessions tell of modes, and all others.
+/// Rows by table.
 #[derive(Drop)]
-pub(crate) struct Parts {
-    pub(crate) off: List<Row>,
-    pub(crate) on: List<Row>,
+pub struct Parts {
+    /// Those that are on no part of what sessions tell of modes.
+    pub off: List<Row>,
+    /// Those on what sessions tell of modes.
+    pub on: List<Row>,
 }
 
 impl Parts {
-    pub(crate) fn of(alloc: Global, rows: List<Row>) -> Result<Parts, Memory>
+    /// The rows by table, each part in the order in which they stand.
+    pub fn of(alloc: Global, rows: List<Row>) -> Result<Parts, Memory>
         ensures off { IfOk result (λ parts. parts.off ≡ rows_off_modes rows) }
         ensures on { IfOk result (λ parts. parts.on ≡ rows_on_modes rows) }
     {

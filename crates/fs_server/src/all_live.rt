@@ -8,7 +8,9 @@ ghost use Rattle.fs_field.specs.declared.field.Field.TheVariants.{SelfW, Other};
 ghost use Rattle.fs_field.specs.declared.row.Row.{Row as TheRow};
 ghost use Rattle.fs_moderows.specs.Answer.{answer_self, answer_other, reap_blocker};
 ghost use Rattle.fs_rows.specs.Answer.{answer};
+ghost use Rattle.fs_moderows.specs.Table.{IsModeTable};
 ghost use Rattle.fs_rows.specs.Live.{unlocked_on};
+ghost use Rattle.fs_rows.specs.Table.{IsTable};
 ghost use Rattle.fs_record.specs.Fresh.{is_borne};
 ghost use Rattle.fs_server.specs.Rows.{AreRows, both};
 
@@ -51,6 +53,16 @@ impl<'a> AllLive<'a> {
             off: off.live(now, skew),
             on: on.live(now, skew),
         }
+    }
+
+    /// Those of each table.
+    pub(crate) fn tables(&self) -> (&LiveOff<'a>, &LiveOn<'a>)
+        ensures rows { both result.0.now result.1.now ≡ self.now }
+        ensures off { IsTable result.0.now }
+        ensures on { IsModeTable result.1.now }
+        ensures valid { AreRows self.now }
+    {
+        (&self.off, &self.on)
     }
 
     /// What a question for such a lease would be answered, on a field that is no part of what sessions tell of modes.

@@ -1,14 +1,21 @@
 //! All rows of a server.
-ghost use Rattle.std.specs.Prelude.{◌≡◌, [], not, map, IfOk, OnOk, OnErr};
+ghost use Rattle.std.specs.Prelude.{◌≡◌, [], not, map, true, OnOk, OnErr};
 ghost use Rattle.std.specs.List.{filter};
 ghost use Rattle.fs_field.specs.Table.{has_no, renewed_row, is_live};
+ghost use Rattle.fs_map.specs.Lists.{map_after_take};
+ghost use Rattle.fs_parcel.specs.Parcel.{fits};
+ghost use Rattle.fs_record.specs.Moving.{AreEachRecords, with_records};
 ghost use Rattle.fs_rows.specs.Granted.{with_rows};
-ghost use Rattle.fs_server.specs.Rows.{AreRows, rows_off_modes, rows_on_modes};
+ghost use Rattle.fs_rows.specs.Moving.{rows_left};
+ghost use Rattle.fs_server.specs.Rows.{AreRows};
 
 use crate::all_live::AllLive;
 use fs_field::Row;
 use fs_ident::{LeaseNo, List, Memory, Twin};
+use fs_map::{FileMap, MapPiece};
 use fs_moderows::ModeRows;
+use fs_parcel::{Parts, install_at};
+use fs_record::{Parcel, Records};
 use fs_rows::Rows;
 use std::alloc::Global;
 use std::marker::Model;
@@ -96,30 +103,48 @@ impl AllRows {
         self.off.release(no);
         self.on.release(no);
     }
-}
 
-/// Rows to be put in, by table.
-#[derive(Drop)]
-struct Parts {
-    off: List<Row>,
-    on: List<Row>,
-}
-
-impl Parts {
-    fn of(alloc: Global, rows: List<Row>) -> Result<Parts, Memory>
-        ensures off { IfOk result (λ parts. parts.off ≡ rows_off_modes rows) }
-        ensures on { IfOk result (λ parts. parts.on ≡ rows_on_modes rows) }
+    /// Drops the rows on files that the piece gives.
+    pub(crate) fn leave(&mut self, piece: &MapPiece)
+        ensures { self.new ≡ rows_left piece.now.prefix piece.now.given self.old }
     {
-        let mut off = List::new(alloc);
-        let mut on = List::new(alloc);
-        for row in rows.into_vec() {
-            if row.field.tells_no_mode() {
-                off.push(row)?;
-            } else {
-                on.push(row)?;
-            }
-        }
-        Ok(Parts { off, on })
+        self.off.leave(piece);
+        self.on.leave(piece);
+    }
+
+    /// Drops the rows that are over at the reading `now`, as `lapse` does, and puts all of the parcel, which fits among
+    /// the others, in its place at `me`. `Memory` where memory is wanting; all is as it was then.
+    pub(crate) fn install(
+        &mut self,
+        alloc: Global,
+        records: &mut Records,
+        map: &mut FileMap,
+        me: u8,
+        now: u64,
+        skew: u64,
+        p: Parcel,
+    ) -> Result<(), Memory>
+        requires fits { fits records.old (filter (is_live now skew) self.old) map.old me p ≡ true }
+        requires nexts { AreEachRecords p.records }
+        ensures rows { OnOk result
+            (self.new ≡ with_rows p.rows (filter (is_live now skew) self.old)) }
+        ensures records { OnOk result (records.new ≡ with_records p.records records.old) }
+        ensures map { OnOk result (map.new ≡ map_after_take map.old me p.prefix p.piece.given) }
+        ensures err_rows { OnErr result (self.new ≡ self.old) }
+        ensures err_records { OnErr result (records.new ≡ records.old) }
+        ensures err_map { OnErr result (map.new ≡ map.old) }
+    {
+        install_at(
+            alloc,
+            records,
+            &mut self.off,
+            &mut self.on,
+            map,
+            me,
+            now,
+            skew,
+            p,
+        )
     }
 }
 

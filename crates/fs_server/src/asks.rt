@@ -39,7 +39,7 @@ pub(crate) fn ask(
     Ok(answered(alloc, at, by, got)?)
 }
 
-/// The items in order, up to the first that cannot be given.
+/// The items in order, up to the first that cannot be given, or whose file is with another server.
 fn ask_items(
     alloc: Global,
     at: &Begun<'_>,
@@ -61,6 +61,10 @@ fn ask_items(
         grants: List::new(alloc),
     };
     for (field, kind) in items {
+        if !at.is_mine(field.file()) {
+            let end = at.moved(alloc, field.file())?;
+            return Ok((lent, end));
+        }
         let kind = kind_for(field, *kind);
         match answer_to(alloc, at, by, field, kind)? {
             Asked::Granted { value } => lend(alloc, at, by, field, kind, value, &mut lent)?,

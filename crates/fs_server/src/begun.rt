@@ -1,13 +1,17 @@
 //! A server at the reading of an event, while it is only read.
-ghost use Rattle.std.specs.Prelude.{◌≡◌, ◌≤◌};
+ghost use Rattle.std.specs.Prelude.{◌≡◌, ◌≤◌, IfOk};
 ghost use Rattle.fs_ident.specs.declared.limits.TheConstants.{LATEST};
 ghost use Rattle.fs_server.specs.Lent.{IsReady};
 ghost use Rattle.fs_server.specs.Plan.{IsServer};
-ghost use Rattle.fs_server.specs.Server.{begun, end_of};
+ghost use Rattle.fs_server.specs.Server.{begun, end_of, is_mine, moved};
 
 use crate::all_live::AllLive;
 use crate::state::Server;
+use fs_ident::{FileId, Memory, Twin};
+use fs_map::FileMap;
+use fs_msg::End;
 use fs_record::Records;
+use std::alloc::Global;
 use std::marker::Model;
 
 /// A server at the reading of an event: the rows that are over at it are not seen. Nothing is copied.
@@ -92,5 +96,30 @@ impl<'a> Begun<'a> {
         ensures { result.now ≡ self.now.records }
     {
         &self.server.records
+    }
+
+    /// Which server manages which files, as far as this one knows.
+    pub(crate) fn map(&self) -> &FileMap
+        ensures { result.now ≡ self.now.map }
+    {
+        &self.server.map
+    }
+
+    /// Whether the server manages the identifier.
+    pub(crate) fn is_mine(&self, id: &FileId) -> bool
+        ensures { result ≡ is_mine self.now id.now }
+    {
+        self.server.map.owner(id).1 == self.server.me
+    }
+
+    /// Where the identifier is said to be: at the server of the longest prefix that the map lists.
+    pub(crate) fn moved(&self, alloc: Global, id: &FileId) -> Result<End, Memory>
+        ensures { IfOk result (λ end. end ≡ moved self.now id.now) }
+    {
+        let (prefix, to) = self.server.map.owner(id);
+        Ok(End::Moved {
+            prefix: prefix.copy(alloc)?,
+            to,
+        })
     }
 }

@@ -1,8 +1,12 @@
 //! What an event changes is carried out: all of it, or nothing.
-ghost use Rattle.std.specs.Prelude.{◌≡◌, ◌+◌, ◌<◌, ◌^◌, length, OnOk, OnErr};
+ghost use Rattle.std.specs.Prelude.{◌≡◌, ◌+◌, ◌<◌, ◌^◌, length, true, OnOk, OnErr};
 ghost use Rattle.std.specs.List.{filter};
 ghost use Rattle.fs_field.specs.Table.{is_live};
+ghost use Rattle.fs_map.specs.Lists.{map_after_take};
+ghost use Rattle.fs_parcel.specs.Parcel.{fits};
+ghost use Rattle.fs_record.specs.Moving.{AreEachRecords, records_left, with_records};
 ghost use Rattle.fs_rows.specs.Granted.{with_rows};
+ghost use Rattle.fs_rows.specs.Moving.{rows_left};
 ghost use Rattle.fs_server.specs.Pairs.{released_rows, renewed_rows};
 ghost use Rattle.fs_server.specs.Plan.{AreRows, CanChange, after_gift, changed};
 ghost use Rattle.fs_server.specs.Lent.{IsReady};
@@ -13,7 +17,8 @@ use crate::change::Change;
 use crate::state::Server;
 use fs_field::Row;
 use fs_ident::{FileId, LeaseNo, List, Memory};
-use fs_record::Records;
+use fs_map::{FileMap, MapPiece};
+use fs_record::{Parcel, Records};
 use std::alloc::Global;
 
 /// The rows that are over at the reading are dropped, and the change is carried out.
@@ -49,6 +54,8 @@ pub(crate) fn commit(
             server.rows.lapse(reading, server.skew);
             server.reaps += count;
         }
+        Change::Leave { map, piece } => leave(server, reading, map, &piece),
+        Change::Install { parcel } => install(alloc, server, reading, parcel)?,
     }
     server.last = reading;
     Ok(())
@@ -86,6 +93,45 @@ fn give_number(records: &mut Records, gift: Option<(FileId, u32)>)
     if let Some((dir, k)) = gift {
         records.gift(&dir, k);
     }
+}
+
+/// What the piece gives is gone, and the map is this.
+fn leave(server: &mut Server, reading: u64, map: FileMap, piece: &MapPiece)
+    ensures { server.new ≡ record server.old {
+      records = records_left piece.now.prefix piece.now.given server.old.records;
+      rows = rows_left piece.now.prefix piece.now.given
+        (filter (is_live reading server.old.skew) server.old.rows);
+      map = map;
+    } }
+{
+    server.rows.lapse(reading, server.skew);
+    server.rows.leave(piece);
+    server.records.leave(piece);
+    server.map = map;
+}
+
+/// All of the parcel is here.
+fn install(alloc: Global, server: &mut Server, reading: u64, p: Parcel) -> Result<(), Memory>
+    requires fits { fits server.old.records
+        (filter (is_live reading server.old.skew) server.old.rows) server.old.map server.old.me p ≡
+        true }
+    requires nexts { AreEachRecords p.records }
+    ensures ok { OnOk result (server.new ≡ record server.old {
+      records = with_records p.records server.old.records;
+      rows = with_rows p.rows (filter (is_live reading server.old.skew) server.old.rows);
+      map = map_after_take server.old.map server.old.me p.prefix p.piece.given;
+    }) }
+    ensures err { OnErr result (server.new ≡ server.old) }
+{
+    server.rows.install(
+        alloc,
+        &mut server.records,
+        &mut server.map,
+        server.me,
+        reading,
+        server.skew,
+        p,
+    )
 }
 
 /// These leases end no sooner than `until`.

@@ -7,19 +7,20 @@ ghost use Rattle.fs_msg.specs.declared.server_note.ServerNote.TheVariants as not
 ghost use Rattle.fs_server.specs.Decided.{CanDecide, noted_only, stepped_by};
 ghost use Rattle.fs_server.specs.Lent.{IsReady};
 ghost use Rattle.fs_server.specs.Server.{to_session};
-ghost use Rattle.fs_server.specs.Step.{counter_over, event_step, message_step};
+ghost use Rattle.fs_server.specs.Step.{CanBeTold, counter_over, event_step, message_step};
 
 use crate::asks::ask;
 use crate::begun::Begun;
 use crate::change::Change;
 use crate::event::ServerEvent;
+use crate::moves::{installs, move_to};
 use crate::out::ServerOut;
 use crate::pairs::{release, renew};
 use crate::reaps::turn;
 use crate::recalls::recall_all;
 use crate::ships::ship;
 use fs_ident::{LeaseNo, List, Memory, Peer, Session};
-use fs_msg::{Answer, ClientMsg, CoreError, Msg, ServerNote};
+use fs_msg::{Answer, ClientMsg, CoreError, Msg, PeerMsg, ServerNote};
 use std::alloc::Global;
 
 /// What an event was decided to come to.
@@ -31,7 +32,8 @@ pub(crate) struct Decided {
 
 /// What the event comes to.
 pub(crate) fn decide(alloc: Global, at: &Begun<'_>, ev: &ServerEvent) -> Result<Decided, CoreError>
-    requires { IsReady at.now }
+    requires ready { IsReady at.now }
+    requires told { CanBeTold ev.now }
     ensures step { IfOk result (λ d. stepped_by d at.now ≡ event_step ev.now at.now) }
     ensures can { IfOk result (λ d. CanDecide d at.now) }
     ensures spent { (counter : TheCounter) → IsErrOf result (errors.Spent counter) →
@@ -41,6 +43,8 @@ pub(crate) fn decide(alloc: Global, at: &Begun<'_>, ev: &ServerEvent) -> Result<
         ServerEvent::FromClient(by, m) => message(alloc, at, *by, m),
         ServerEvent::Turn => turn(alloc, at),
         ServerEvent::Recall(field) => Ok(recall_all(alloc, at, field)?),
+        ServerEvent::FromPeer(_, PeerMsg::Parcel { parcel }) => Ok(installs(alloc, at, parcel)?),
+        ServerEvent::Move { prefix, to } => Ok(move_to(alloc, at, prefix, *to)?),
     }
 }
 

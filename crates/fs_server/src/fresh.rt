@@ -6,9 +6,9 @@ ghost use Rattle.fs_msg.specs.declared.core_error.Counter.{Counter as TheCounter
 ghost use Rattle.fs_msg.specs.declared.core_error.Counter.TheVariants.{Leases};
 ghost use Rattle.fs_msg.specs.declared.core_error.CoreError.TheVariants as errors;
 ghost use Rattle.fs_msg.specs.declared.end.End.TheVariants.{All};
-ghost use Rattle.fs_record.specs.Fresh.{fresh_number, is_borne};
+ghost use Rattle.fs_record.specs.Fresh.{fresh_number, is_borne, is_directory};
 ghost use Rattle.fs_rows.specs.Granted.{with_rows};
-ghost use Rattle.fs_server.specs.Asks.{ask_fresh, fresh_for, fresh_of, recalls_at};
+ghost use Rattle.fs_server.specs.Asks.{ask_fresh, fresh_for, fresh_in, fresh_of, recalls_at};
 ghost use Rattle.fs_server.specs.Lent.{IsLent, IsReady, got_by, lent_by, with_leases};
 
 use crate::begun::Begun;
@@ -72,7 +72,7 @@ fn without(lent: Lent, end: End) -> Got
     }
 }
 
-/// An identifier below the directory. One that is not here gives none, and is not spoken of.
+/// An identifier below the directory, which may be with another server.
 fn fresh_below(
     alloc: Global,
     at: &Begun<'_>,
@@ -90,6 +90,34 @@ fn fresh_below(
     ensures spent { (counter : TheCounter) → IsErrOf result (errors.Spent counter) →
         (counter ≡ Leases) × (nat_le (2 ^ 64)
         (fresh_for by (Some dir.now) (lent_by lent All at.now)).server.given ≡ true) }
+{
+    if at.is_mine(dir) {
+        fresh_in(alloc, at, by, dir, lent)
+    } else {
+        let end = at.moved(alloc, dir)?;
+        Ok(without(lent, end))
+    }
+}
+
+/// An identifier below what is managed here. One that is no directory gives none, and is not spoken of.
+fn fresh_in(
+    alloc: Global,
+    at: &Begun<'_>,
+    by: Session,
+    dir: &FileId,
+    lent: Lent,
+) -> Result<Got, CoreError>
+    requires ready { IsReady at.now }
+    requires so_far { IsLent by lent.rows at.now }
+    ensures asked { IfOk result (λ got. got_by got at.now ≡
+        fresh_in by dir.now (is_directory at.now.records dir.now) (lent_by lent All at.now)) }
+    ensures recalls { IfOk result (λ got.
+        recalls_at got.end (with_rows got.lent.rows at.now.rows) ≡ recalls_at got.end at.now.rows) }
+    ensures ready { IfOk result (λ got. IsReady (got_by got at.now).server) }
+    ensures spent { (counter : TheCounter) → IsErrOf result (errors.Spent counter) →
+        (counter ≡ Leases) × (nat_le (2 ^ 64)
+        (fresh_in by dir.now (is_directory at.now.records dir.now)
+        (lent_by lent All at.now)).server.given ≡ true) }
 {
     let borne = borne(alloc, at, dir, &lent)?;
     match at.records().fresh_id(alloc, dir, &borne) {

@@ -25,6 +25,7 @@ mod decide;
 mod event;
 mod fresh;
 mod lent;
+mod moves;
 mod out;
 mod pairs;
 mod plan;

@@ -2,13 +2,13 @@
 ghost use Rattle.std.specs.Prelude.{◌≡◌, IfOk};
 ghost use Rattle.fs_server.specs.Decided.{CanDecide, stepped_by};
 ghost use Rattle.fs_server.specs.Lent.{IsReady};
-ghost use Rattle.fs_server.specs.Pairs.{end_told, ends_told, numbers_in, release_step, renew_step};
+ghost use Rattle.fs_server.specs.Pairs.{end_told, ends_told, numbers_in, pairs_end, pairs_here, release_step, renew_step};
 
 use crate::begun::Begun;
 use crate::change::Change;
 use crate::decide::{Decided, only, to_session};
 use crate::out::ServerOut;
-use fs_ident::{FileId, LeaseNo, List, Memory, Session};
+use fs_ident::{FileId, LeaseNo, List, Memory, Session, Twin};
 use fs_msg::{Answer, End, ServerNote};
 use std::alloc::Global;
 
@@ -24,16 +24,16 @@ pub(crate) fn renew(
     ensures can { IfOk result (λ d. CanDecide d at.now) }
 {
     let until = at.end();
-    let numbers = numbers_in(alloc, pairs.as_slice())?;
+    let (numbers, end) = pairs_here(alloc, at, pairs.as_slice())?;
     let rows = ends_told(alloc, at, until, numbers.as_slice())?;
-    let end = End::All;
+    let note = ServerNote::Renews {
+        count: numbers.len() as u64,
+        end: end.copy(alloc)?,
+    };
     Ok(Decided {
         change: Change::Renew { until, numbers },
         out: ServerOut {
-            note: ServerNote::Renews {
-                count: pairs.len() as u64,
-                end: End::All,
-            },
+            note,
             send: only(alloc, to_session(by, Answer::Renewed { rows, end }))?,
             admitted: List::new(alloc),
         },
@@ -51,31 +51,39 @@ pub(crate) fn release(
     ensures step { IfOk result (λ d. stepped_by d at.now ≡ release_step by pairs.now at.now) }
     ensures can { IfOk result (λ d. CanDecide d at.now) }
 {
-    let count = pairs.len() as u64;
-    let numbers = numbers_in(alloc, pairs.as_slice())?;
-    let end = End::All;
+    let (numbers, end) = pairs_here(alloc, at, pairs.as_slice())?;
+    let count = numbers.len() as u64;
+    let note = ServerNote::Frees {
+        count,
+        end: end.copy(alloc)?,
+    };
     Ok(Decided {
         change: Change::Free { numbers },
         out: ServerOut {
-            note: ServerNote::Frees {
-                count,
-                end: End::All,
-            },
+            note,
             send: only(alloc, to_session(by, Answer::Released { count, end }))?,
             admitted: List::new(alloc),
         },
     })
 }
 
-/// The numbers of the pairs.
-fn numbers_in(alloc: Global, pairs: &[(FileId, LeaseNo)]) -> Result<List<LeaseNo>, Memory>
-    ensures { IfOk result (λ numbers. numbers ≡ numbers_in pairs.now) }
+/// The numbers of the pairs up to the first whose file is with another server, and why no more.
+fn pairs_here(
+    alloc: Global,
+    at: &Begun<'_>,
+    pairs: &[(FileId, LeaseNo)],
+) -> Result<(List<LeaseNo>, End), Memory>
+    ensures numbers { IfOk result (λ got. got.0 ≡ numbers_in (pairs_here at.now pairs.now)) }
+    ensures end { IfOk result (λ got. got.1 ≡ pairs_end at.now pairs.now) }
 {
     let mut numbers = List::new(alloc);
-    for (_, no) in pairs {
+    for (file, no) in pairs {
+        if !at.is_mine(file) {
+            return Ok((numbers, at.moved(alloc, file)?));
+        }
         numbers.push(*no)?;
     }
-    Ok(numbers)
+    Ok((numbers, End::All))
 }
 
 /// The new ends of the leases; none of one whose row is not there.

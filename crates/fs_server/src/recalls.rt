@@ -2,7 +2,7 @@
 ghost use Rattle.std.specs.Prelude.{◌≡◌, IfOk};
 ghost use Rattle.fs_server.specs.Decided.{CanDecide, stepped_by};
 ghost use Rattle.fs_server.specs.Lent.{IsReady};
-ghost use Rattle.fs_server.specs.Step.{recall_step, recalls_of};
+ghost use Rattle.fs_server.specs.Step.{recall_step, recalled_on, recalls_of};
 
 use crate::begun::Begun;
 use crate::change::Change;
@@ -19,7 +19,7 @@ pub(crate) fn recall_all(alloc: Global, at: &Begun<'_>, field: &Field) -> Result
     ensures step { IfOk result (λ d. stepped_by d at.now ≡ recall_step field.now at.now) }
     ensures can { IfOk result (λ d. CanDecide d at.now) }
 {
-    let leases = at.rows().unlocked_on(alloc, field)?;
+    let leases = recalled_on(alloc, at, field)?;
     Ok(Decided {
         change: Change::Nothing,
         out: ServerOut {
@@ -30,6 +30,21 @@ pub(crate) fn recall_all(alloc: Global, at: &Begun<'_>, field: &Field) -> Result
             admitted: List::new(alloc),
         },
     })
+}
+
+/// The leases on the field whose rows no transaction keeps; a field that is with another server has none.
+fn recalled_on(
+    alloc: Global,
+    at: &Begun<'_>,
+    field: &Field,
+) -> Result<List<(LeaseNo, Session)>, Memory>
+    ensures { IfOk result (λ leases. leases ≡ recalled_on field.now at.now) }
+{
+    if at.is_mine(field.file()) {
+        at.rows().unlocked_on(alloc, field)
+    } else {
+        Ok(List::new(alloc))
+    }
 }
 
 /// Each of the leases is asked back from its session.

@@ -18,7 +18,7 @@ use crate::decide::{Decided, only, strange, to_session};
 use crate::out::ServerOut;
 use fs_field::{Effect, Use};
 use fs_ident::{List, Memory, Peer, Session, Twin};
-use fs_msg::{Answer, End, Entry, Item, ServerNote};
+use fs_msg::{Answer, End, Entry, Item, ServerNote, home_of};
 use fs_record::{effects, tells_its_effects};
 use std::alloc::Global;
 
@@ -54,7 +54,8 @@ fn tell_their_effects(entries: &[Entry]) -> bool
     entries.iter().all(|entry| tells_its_effects(&entry.op))
 }
 
-/// The entries in order, up to the first that used a lease whose row is gone, and the numbers of those behind it.
+/// The entries in order, up to the first that is handed in at the wrong server, or that used a lease whose row is gone, and
+/// the numbers of those behind the latter.
 fn ship_entries(
     alloc: Global,
     at: &Begun<'_>,
@@ -71,6 +72,10 @@ fn ship_entries(
         admitted: List::new(alloc),
     };
     for (i, entry) in entries.iter().enumerate() {
+        let home = home_of(&entry.op);
+        if !at.is_mine(home) {
+            return Ok((taken, at.moved(alloc, home)?, List::new(alloc)));
+        }
         if let Some(gone) = first_gone(at, by, entry.uses.as_slice()) {
             let end = End::Ended {
                 n: entry.n,

@@ -1,21 +1,65 @@
 //! A first create with its leases, an open with its leases, the end of a lease, what is asked back, and messages that no
 //! honest actor sends.
-ghost use Rattle.std.specs.Prelude.{◌≤◌};
+ghost use Rattle.std.specs.Prelude.{◌≡◌, ◌≤◌, true};
 ghost use Rattle.fs_ident.specs.declared.limits.TheConstants.{LATEST};
+ghost use Rattle.fs_server.specs.Step.{AreNumbersLeft, CanBeTold};
+
+mod moves;
 
 use crate::event::ServerEvent;
+use crate::out::ServerOut;
 use crate::server_core::ServerCore;
 use fs_field::{Field, LeaseKind, Use};
 use fs_ident::{FileId, Kind, LeaseNo, List, Name, Session, Twin};
 use fs_model::{Op, Reply};
 use fs_modes::{Mode, Modes};
-use fs_msg::{ClientMsg, Entry};
+use fs_msg::{ClientMsg, Entry, PeerMsg};
+use fs_record::Record;
 use std::alloc::Global;
 use std::test::Fail;
 
 /// The first server, where clocks differ by up to 10 and leases are given for 100.
 fn server(alloc: Global) -> Result<ServerCore, Fail> {
     Ok(ServerCore::new(alloc, 0, 10, 100)?)
+}
+
+/// What the event at the reading comes to.
+fn step(
+    core: &mut ServerCore,
+    alloc: Global,
+    now: u64,
+    ev: Result<ServerEvent, Fail>,
+) -> Result<ServerOut, Fail>
+    requires { now ≤ LATEST }
+{
+    let ev = ev?;
+    if !can_be_told(&ev) {
+        return Err(Fail::from("no event"));
+    }
+    Ok(core.step(alloc, now, &ev)?)
+}
+
+/// Whether it can be read from bytes.
+fn can_be_told(ev: &ServerEvent) -> bool
+    ensures { result ≡ true → CanBeTold ev.now }
+{
+    match ev {
+        ServerEvent::FromPeer(_, PeerMsg::Parcel { parcel }) => are_numbers_left(parcel.records.as_slice()),
+        _ => true,
+    }
+}
+
+fn are_numbers_left(records: &[(FileId, Record)]) -> bool
+    ensures { result ≡ true → AreNumbersLeft records.now }
+{
+    let mut rest = records;
+    while let Some((first, later)) = rest.split_first() {
+        if first.1.next < 1 || first.1.next > 4294967296 {
+            return false;
+        }
+        rest = later;
+    }
+    true
 }
 
 /// What the event at the reading comes to, from a copy.
@@ -27,7 +71,7 @@ fn told(
 ) -> Result<String, Fail>
     requires { now ≤ LATEST }
 {
-    let out = core.step(alloc, now, &ev?)?.copy(alloc)?;
+    let out = step(core, alloc, now, ev)?.copy(alloc)?;
     Ok(format!(in alloc; "{out:?}")?)
 }
 
@@ -40,7 +84,7 @@ fn noted(
 ) -> Result<String, Fail>
     requires { now ≤ LATEST }
 {
-    let out = core.step(alloc, now, &ev?)?;
+    let out = step(core, alloc, now, ev)?;
     Ok(format!(in alloc; "{:?}", out.note)?)
 }
 
@@ -53,7 +97,11 @@ fn noted_in_two(
 ) -> Result<String, Fail>
     requires { now ≤ LATEST }
 {
-    let plan = core.plan(alloc, now, &ev?.copy(alloc)?)?;
+    let ev = ev?.copy(alloc)?;
+    if !can_be_told(&ev) {
+        return Err(Fail::from("no event"));
+    }
+    let plan = core.plan(alloc, now, &ev)?;
     let text = format!(in alloc; "{:?}", plan.out.note)?;
     core.commit(alloc, plan)?;
     Ok(text)

@@ -1,9 +1,0 @@
-use Rattle.std.proofs.Common.{◌≡◌, ◌++◌}
-use Rattle.std.specs.Vec.Iter.{into_iter_items}
-use Rattle.fs_server.specs.Rows.{rows_off_modes, rows_on_modes}
-use Rattle.fs_server.proofs.all_rows.Parts.of.Given as goal
-
-abbrev pub invariant-loop-row : goal.invariant-loop-row
-invariant-loop-row l =
-    (l.off ++ rows_off_modes (into_iter_items l.row-iterator) ≡ rows_off_modes l.fn.rows)
-    × (l.on ++ rows_on_modes (into_iter_items l.row-iterator) ≡ rows_on_modes l.fn.rows)
