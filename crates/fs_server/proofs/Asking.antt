@@ -17,8 +17,9 @@ use Rattle.fs_field.specs.declared.lease_kind.LeaseKind.{LeaseKind}
 use Rattle.fs_field.specs.declared.lease_kind.LeaseKind.TheVariants.{Shared, Exclusive}
 use Rattle.fs_field.specs.declared.row.Row.{Row}
 use Rattle.fs_field.specs.Conflict.{meets, stands_against}
-use Rattle.fs_field.specs.Field.{tells_no_mode}
+use Rattle.fs_field.specs.Field.{file_of}
 use Rattle.fs_field.specs.Table.{has_no, lock_on}
+use Rattle.fs_map.specs.Map.{longest}
 use Rattle.fs_msg.specs.declared.answer.Grant.{Grant}
 use Rattle.fs_record.specs.ValueOf.{selves_in}
 use Rattle.fs_rows.specs.Answer.{answer_by}
@@ -30,10 +31,10 @@ use Rattle.fs_moderows.specs.Table.{is_of_mode}
 use Rattle.fs_moderows.proofs.Free.{meets_never}
 use Rattle.fs_moderows.proofs.Witnesses.{not_both}
 use Rattle.fs_server.specs.declared.state.Server.{Server}
-use Rattle.fs_server.specs.Asks.{Asking, answer_to, ask_from, grant_of, kind_for, recall_of, with_lease}
+use Rattle.fs_server.specs.Asks.{Asking, answer_to, ask_from, grant_of, kind_for, recall_of, recalls_at, with_lease}
 use Rattle.fs_server.specs.Lent.{IsLent, IsReady, with_leases}
 use Rattle.fs_server.specs.Rows.{AreRows}
-use Rattle.fs_server.specs.Server.{next_number, end_of}
+use Rattle.fs_server.specs.Server.{next_number, end_of, is_mine, moved, moved_at}
 use Rattle.fs_server.proofs.Kept.{put_rows}
 
 -- no row stands plainly against a lease that is given
@@ -61,29 +62,37 @@ pub rest_passes : {X : Type 0} (test : X → Bool) (xs : List X) (i : ℕ) (d : 
 rest_passes test xs i d h e = both_rest (test (get_or xs i d)) (list_all test (drop (i + 1) xs)) (ap (list_all test) (sym (drop_more xs i d h)) ∙ e)
 
 -- leases are only added
-after_answer : (by : Session) (x : Field × LeaseKind) (xs : List (Field × LeaseKind)) (s : Server) (grants : List Grant) (asked : Asked) → answer_to by x.0 (kind_for x.0 x.1) s ≡ asked
+after_answer : (by : Session) (x : Field × LeaseKind) (xs : List (Field × LeaseKind)) (s : Server) (grants : List Grant) (asked : Asked) → is_mine s (file_of x.0) ≡ true → answer_to by x.0 (kind_for x.0 x.1) s ≡ asked
     → ((promise : Option Bool) → (with_lease by x.0 (kind_for x.0 x.1) promise s).given ≤ (ask_from by xs (with_lease by x.0 (kind_for x.0 x.1) promise s) (grants ++ grant_of by x.0 (kind_for x.0 x.1) s ∷ [])).server.given)
     → s.given ≤ (ask_from by (x ∷ xs) s grants).server.given
-after_answer by x xs s grants (Granted promise) e h = let more : s.given + 1 ≤ (ask_from by xs (with_lease by x.0 (kind_for x.0 x.1) promise s) (grants ++ grant_of by x.0 (kind_for x.0 x.1) s ∷ [])).server.given = h promise in rw (e, ask_from) (omega arith)
-after_answer by x xs s grants (Wait blocker) e h = rw (e, ask_from) (omega arith)
-after_answer by x xs s grants (Locked txn) e h = rw (e, ask_from) (omega arith)
+after_answer by x xs s grants (Granted promise) mine e h = let more : s.given + 1 ≤ (ask_from by xs (with_lease by x.0 (kind_for x.0 x.1) promise s) (grants ++ grant_of by x.0 (kind_for x.0 x.1) s ∷ [])).server.given = h promise in rw (mine, e, ask_from) (omega arith)
+after_answer by x xs s grants (Wait blocker) mine e h = rw (mine, e, ask_from) (omega arith)
+after_answer by x xs s grants (Locked txn) mine e h = rw (mine, e, ask_from) (omega arith)
+
+-- the item's file is here, or with another server
+after_item : (by : Session) (x : Field × LeaseKind) (xs : List (Field × LeaseKind)) (s : Server) (grants : List Grant) (b : Bool) → is_mine s (file_of x.0) ≡ b
+    → ((promise : Option Bool) → (with_lease by x.0 (kind_for x.0 x.1) promise s).given ≤ (ask_from by xs (with_lease by x.0 (kind_for x.0 x.1) promise s) (grants ++ grant_of by x.0 (kind_for x.0 x.1) s ∷ [])).server.given)
+    → s.given ≤ (ask_from by (x ∷ xs) s grants).server.given
+after_item by x xs s grants true mine h = after_answer by x xs s grants (answer_to by x.0 (kind_for x.0 x.1) s) mine refl h
+after_item by x xs s grants false mine h = rw (mine, ask_from) (omega arith)
 
 pub ask_given : (by : Session) (xs : List (Field × LeaseKind)) (s : Server) (grants : List Grant) → s.given ≤ (ask_from by xs s grants).server.given
 ask_given by [] s grants = omega arith
-ask_given by (x ∷ xs) s grants = after_answer by x xs s grants (answer_to by x.0 (kind_for x.0 x.1) s) refl (λ promise. ask_given by xs (with_lease by x.0 (kind_for x.0 x.1) promise s) (grants ++ grant_of by x.0 (kind_for x.0 x.1) s ∷ []))
+ask_given by (x ∷ xs) s grants = after_item by x xs s grants (is_mine s (file_of x.0)) refl (λ promise. ask_given by xs (with_lease by x.0 (kind_for x.0 x.1) promise s) (grants ++ grant_of by x.0 (kind_for x.0 x.1) s ∷ []))
 
-granted_item : (by : Session) (x : Field × LeaseKind) (xs : List (Field × LeaseKind)) (s : Server) (grants : List Grant) (promise : Option Bool) → answer_to by x.0 (kind_for x.0 x.1) s ≡ Granted promise → (with_lease by x.0 (kind_for x.0 x.1) promise s).given ≤ (ask_from by (x ∷ xs) s grants).server.given
-granted_item by x xs s grants promise e = rw (e, ask_from) (ask_given by xs (with_lease by x.0 (kind_for x.0 x.1) promise s) (grants ++ grant_of by x.0 (kind_for x.0 x.1) s ∷ []))
+granted_item : (by : Session) (x : Field × LeaseKind) (xs : List (Field × LeaseKind)) (s : Server) (grants : List Grant) (promise : Option Bool) → is_mine s (file_of x.0) ≡ true → answer_to by x.0 (kind_for x.0 x.1) s ≡ Granted promise → (with_lease by x.0 (kind_for x.0 x.1) promise s).given ≤ (ask_from by (x ∷ xs) s grants).server.given
+granted_item by x xs s grants promise mine e = rw (mine, e, ask_from) (ask_given by xs (with_lease by x.0 (kind_for x.0 x.1) promise s) (grants ++ grant_of by x.0 (kind_for x.0 x.1) s ∷ []))
 
 -- the next item would get a number above the greatest
 pub spent_item : (by : Session) (items : List (Field × LeaseKind)) (i : ℕ) (x : Field × LeaseKind) (kind : LeaseKind) (rows : List Row) (grants : List Grant) (s : Server) (promise : Option Bool) → i < length items → x ≡ get_or items i x → kind ≡ kind_for x.0 x.1 → IsLent by rows s
+    → is_mine s (file_of x.0) ≡ true
     → answer_to by x.0 kind s ≡ Granted promise
     → ask_from by (drop i items) (with_leases rows s) grants ≡ ask_from by items s []
     → (with_leases rows s).given + 1 ≡ 2 ^ 64
     → leb (2 ^ 64) (ask_from by items s []).server.given ≡ true
-spent_item by items i x kind rows grants s promise h is of l e same full =
+spent_item by items i x kind rows grants s promise h is of l mine e same full =
     let more : (with_leases rows s).given + 1 ≤ (ask_from by (x ∷ drop (i + 1) items) (with_leases rows s) grants).server.given =
-    granted_item by x (drop (i + 1) items) (with_leases rows s) grants promise (l.answers x.0 (kind_for x.0 x.1) ∙ ap (λ k. answer_to by x.0 k s) (sym of) ∙ e) in
+    granted_item by x (drop (i + 1) items) (with_leases rows s) grants promise mine (l.answers x.0 (kind_for x.0 x.1) ∙ ap (λ k. answer_to by x.0 k s) (sym of) ∙ e) in
     let all : (ask_from by (x ∷ drop (i + 1) items) (with_leases rows s) grants).server.given ≡ (ask_from by items s []).server.given =
     ap (λ y. (ask_from by (y ∷ drop (i + 1) items) (with_leases rows s) grants).server.given) is
     ∙ ap (λ ys. (ask_from by ys (with_leases rows s) grants).server.given) (sym (drop_more items i x h)) ∙ ap (λ (a : Asking). a.server.given) same in
@@ -123,3 +132,10 @@ pub same_blocker : (by : Session) (field : Field) (kind : LeaseKind) (rows : Lis
 same_blocker by field kind rows s blocker r l e =
     let w : Stands blocker s.rows = blocker_stands by field kind s blocker e in
     ap (recall_of blocker) (l.new blocker (λ here. subst (λ (n : LeaseNo). n.count ≤ s.given) w.1.1 (r.server.numbers w.0 w.1.0 (ap (λ (n : LeaseNo). n.server) w.1.1 ∙ here))))
+
+-- where the next file is with another server nothing is asked back
+pub moved_recalls : (s : Server) (id : List ℕ) (rows : List Row) → recalls_at (moved s id) rows ≡ []
+moved_recalls s id rows = told (longest s.map id) where
+  told : (o : Option (List ℕ × ℕ)) → recalls_at (moved_at o) rows ≡ []
+  told None = refl
+  told (Some e) = refl

@@ -7,4 +7,5 @@ mod Asking
 mod Giving
 mod Paired
 mod Shipping
+mod Moving
 mod Losing

@@ -174,32 +174,6 @@ reap_modes opens rows s f =
     ap (option_map (λ (row : Row). row.no)) (find_part (stands_against_reap opens rows s f) (λ r. not (is_off_modes r)) (λ r t. rests_on_on opens rows s f r.session r.field r.promise (second (not (r.session.0 == s.0)) (rests_on opens rows s f r.session r.field r.promise) t)) rows
     ∙ ap (λ test. find test (rows_on_modes rows)) (fun_ext (λ (r : Row). ap (λ b. not (r.session.0 == s.0) && b) (rests_modes opens rows s f r.session r.field r.promise))))
 
--- ## Tests of all rows
-
-any_put : {X : Type 0} (test before : X → Bool) (x : X) (xs : List X) → list_any test (put_before before x xs) ≡ (test x || list_any test xs)
-any_put test before x [] = refl
-any_put test before x (y ∷ ys) =
-    elim (before y) as (λ b. list_any test (cond b (x ∷ y ∷ ys) (y ∷ put_before before x ys)) ≡ (test x || (test y || list_any test ys))) [
-      | true ↦ refl
-      | false ↦ ap (λ b. test y || b) (any_put test before x ys) ∙ turned (test y) (test x) (list_any test ys)
-    ] where
-      turned : (a b c : Bool) → (a || (b || c)) ≡ (b || (a || c))
-      turned true true c = refl
-      turned true false c = refl
-      turned false b c = refl
-
--- with several rows more, one of them passes or one that was there
-pub any_with_rows : (test : Row → Bool) (more rows : List Row) → list_any test (with_rows more rows) ≡ (list_any test rows || list_any test more)
-any_with_rows test [] rows = alone (list_any test rows) where
-  alone : (b : Bool) → b ≡ (b || false)
-  alone true = refl
-  alone false = refl
-any_with_rows test (r ∷ rs) rows = any_with_rows test rs (with_row r rows) ∙ ap (λ b. b || list_any test rs) (any_put test (λ s. no_before r.no s.no) r rows) ∙ turned (test r) (list_any test rows) (list_any test rs) where
-  turned : (a b c : Bool) → ((a || b) || c) ≡ (b || (a || c))
-  turned true true c = refl
-  turned true false c = refl
-  turned false b c = refl
-
 -- ## The row of a number
 
 same_server : (a b c d : ℕ) → ((a == b) && (c == d)) ≡ true → a ≡ b

@@ -130,7 +130,7 @@ impl ServerCore {
         ensures records { result.now ≡ self.now.records }
         ensures valid { AreRecords self.now.records }
     {
-        &self.server.records
+        self.server.known_records()
     }
 
     /// Which server manages which files, as far as this one knows.
@@ -138,7 +138,7 @@ impl ServerCore {
         ensures map { result.now ≡ self.now.map }
         ensures valid { IsMap self.now.map }
     {
-        &self.server.map
+        self.server.known_map()
     }
 }
 

@@ -1,4 +1,8 @@
 //! What a server keeps.
+ghost use Rattle.std.specs.Prelude.{◌≡◌};
+ghost use Rattle.fs_map.specs.Map.{IsMap};
+ghost use Rattle.fs_record.specs.Records.{AreRecords};
+
 use crate::all_rows::AllRows;
 use fs_ident::{Memory, Twin};
 use fs_map::FileMap;
@@ -24,6 +28,30 @@ pub(crate) struct Server {
     pub(crate) records: Records,
     /// Which server manages which files, as far as it knows.
     pub(crate) map: FileMap,
+}
+
+impl Server {
+    /// The records, which are known to be in order.
+    pub(crate) fn known_records(&self) -> &Records
+        ensures records { result.now ≡ self.now.records }
+        ensures valid { AreRecords self.now.records }
+    {
+        match self.map.listed().as_slice().first() {
+            // each look-up tells it
+            Some((root, _)) => self.records.get(root),
+            None => unreachable!(),
+        };
+        &self.records
+    }
+
+    /// The map, which is known to be one.
+    pub(crate) fn known_map(&self) -> &FileMap
+        ensures map { result.now ≡ self.now.map }
+        ensures valid { IsMap self.now.map }
+    {
+        self.map.listed();
+        &self.map
+    }
 }
 
 impl Twin for Server {

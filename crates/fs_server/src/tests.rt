@@ -1,6 +1,6 @@
 //! A first create with its leases, an open with its leases, the end of a lease, what is asked back, and messages that no
 //! honest actor sends.
-ghost use Rattle.std.specs.Prelude.{◌≡◌, ◌≤◌, true};
+ghost use Rattle.std.specs.Prelude.{◌≡◌, ◌≤◌, ◌^◌, true};
 ghost use Rattle.fs_ident.specs.declared.limits.TheConstants.{LATEST};
 ghost use Rattle.fs_server.specs.Step.{AreNumbersLeft, CanBeTold};
 
@@ -54,12 +54,18 @@ fn are_numbers_left(records: &[(FileId, Record)]) -> bool
 {
     let mut rest = records;
     while let Some((first, later)) = rest.split_first() {
-        if first.1.next < 1 || first.1.next > 4294967296 {
+        if !is_number_left(&first.1) {
             return false;
         }
         rest = later;
     }
     true
+}
+
+fn is_number_left(kept: &Record) -> bool
+    ensures { result ≡ true → (1 ≤ kept.now.next) × (kept.now.next ≤ 2 ^ 32) }
+{
+    kept.next >= 1 && kept.next <= 4294967296
 }
 
 /// What the event at the reading comes to, from a copy.

@@ -1,8 +1,10 @@
-use Rattle.std.proofs.Common.{◌≡◌, ap, sym, subst, ◌∙◌, Err, arith}
+use Rattle.std.proofs.Common.{◌≡◌, true, ap, sym, subst, ◌∙◌, Err, arith}
 use Rattle.std.proofs.lemmas.Result.{err_from_is_err_and}
+use Rattle.fs_field.specs.Field.{file_of}
 use Rattle.fs_msg.specs.declared.core_error.CoreError.TheVariants as errors
 use Rattle.fs_server.specs.Asks.{ask_from}
 use Rattle.fs_server.specs.Lent.{IsLent, with_leases}
+use Rattle.fs_server.specs.Server.{is_mine}
 use Rattle.fs_server.proofs.Lending.{none_lent, lent_none}
 use Rattle.fs_server.proofs.Asking.{lendable, spent_item, same_blocker}
 use Rattle.fs_server.proofs.asks.ask_items.Goals as goal
@@ -22,9 +24,10 @@ pub returns-in_err-lend-in-Granted-clause-spent : goal.returns-in_err-lend-in-Gr
 returns-in_err-lend-in-Granted-clause-spent c counter h =
     let p = err_from_is_err_and c.from_residual-in_err-lend-in-Granted.result c.from_residual-in_err-lend-in-Granted.ensures.1 in
     let e : c.in_err-lend-in-Granted.field-0.0 ≡ errors.Spent counter = cc in
+    let mine : is_mine c.args.at.now (file_of c.loop-field-item.result.0) ≡ true = ap (is_mine c.args.at.now) (sym c.file.ensures) ∙ sym c.is_mine.ensures ∙ c.if-not-is_mine.false in
     let q = c.lend.ensures.spent counter (c.in_err-lend-in-Granted.was ∙ ap Err e) in (
       q.0,
-      spent_item c.args.by c.args.items.now c.loop-field.field-index c.loop-field-item.result c.kind_for-kind.result c.loop-field.lent.rows c.loop-field.lent.grants c.args.at.now c.in-Granted.value (omega arith) c.loop-field-item.is c.kind_for-kind.ensures c.loop-field.invariant.lent
+      spent_item c.args.by c.args.items.now c.loop-field.field-index c.loop-field-item.result c.kind_for-kind.result c.loop-field.lent.rows c.loop-field.lent.grants c.args.at.now c.in-Granted.value (omega arith) c.loop-field-item.is c.kind_for-kind.ensures c.loop-field.invariant.lent mine
           (sym c.in_ok-value.ensures ∙ c.in-Granted.is) c.loop-field.invariant.asked q.1,
     )
 

@@ -1,7 +1,7 @@
 use Rattle.std.proofs.Common.{◌||◌, ap, sym, ◌∙◌}
 use Rattle.std.specs.List.{list_any}
 use Rattle.fs_field.specs.Table.{is_lease}
-use Rattle.fs_server.proofs.Parts.{any_with_rows}
+use Rattle.fs_parcel.proofs.Coming.{any_with_rows}
 use Rattle.fs_server.proofs.all_live.AllLive.holds.Goals as goal
 
 pub returns-then-holds : goal.returns-then-holds

@@ -9,7 +9,7 @@ use Rattle.fs_record.proofs.FreshNumbers.{same_number}
 use Rattle.fs_rows.specs.Granted.{with_rows}
 use Rattle.fs_server.specs.Lent.{got_by, lent_by}
 use Rattle.fs_server.proofs.Giving.{spent_fresh, none_left}
-use Rattle.fs_server.proofs.fresh.fresh_below.Goals as goal
+use Rattle.fs_server.proofs.fresh.fresh_in.Goals as goal
 
 pub give-requires-clause-fresh : goal.give-requires-clause-fresh
 give-requires-clause-fresh c =
