@@ -3,6 +3,7 @@ ghost use Rattle.std.specs.Prelude.{◌≡◌, [], ◌∷◌, IfOk, IsErrOf, Som
 ghost use Rattle.fs_msg.specs.declared.answer.Answer.TheVariants as reply;
 ghost use Rattle.fs_msg.specs.declared.core_error.Counter.{Counter as TheCounter};
 ghost use Rattle.fs_msg.specs.declared.core_error.CoreError.TheVariants as errors;
+ghost use Rattle.fs_msg.specs.declared.peer_msg.PeerMsg.TheVariants as peer;
 ghost use Rattle.fs_msg.specs.declared.server_note.ServerNote.TheVariants as note;
 ghost use Rattle.fs_server.specs.Decided.{CanDecide, noted_only, stepped_by};
 ghost use Rattle.fs_server.specs.Lent.{IsReady};
@@ -21,6 +22,7 @@ use crate::recalls::recall_all;
 use crate::ships::ship;
 use fs_ident::{LeaseNo, List, Memory, Peer, Session};
 use fs_msg::{Answer, ClientMsg, CoreError, Msg, PeerMsg, ServerNote};
+use fs_record::Parcel;
 use std::alloc::Global;
 
 /// What an event was decided to come to.
@@ -43,8 +45,17 @@ pub(crate) fn decide(alloc: Global, at: &Begun<'_>, ev: &ServerEvent) -> Result<
         ServerEvent::FromClient(by, m) => message(alloc, at, *by, m),
         ServerEvent::Turn => turn(alloc, at),
         ServerEvent::Recall(field) => Ok(recall_all(alloc, at, field)?),
-        ServerEvent::FromPeer(_, PeerMsg::Parcel { parcel }) => Ok(installs(alloc, at, parcel)?),
+        ServerEvent::FromPeer(_, m) => Ok(installs(alloc, at, parcel(m))?),
         ServerEvent::Move { prefix, to } => Ok(move_to(alloc, at, prefix, *to)?),
+    }
+}
+
+/// The parcel that the message hands over.
+fn parcel(m: &PeerMsg) -> &Parcel
+    ensures { m.now ≡ peer.Parcel result.now }
+{
+    match m {
+        PeerMsg::Parcel { parcel } => parcel,
     }
 }
 
