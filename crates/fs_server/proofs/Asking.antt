@@ -1,5 +1,5 @@
 -- The items of a question, one after another.
-use Rattle.std.proofs.Common.{◌≡◌, ◌==◌, not, ◌&&◌, ◌||◌, ℕ, ◌+◌, ◌<◌, ◌≤◌, ◌^◌, leb, Bool, true, false, cond, List, [], ◌∷◌, ◌++◌, length, drop, get_or, refl, ap, sym, subst, ◌∙◌, arith}
+use Rattle.std.proofs.Common.{◌≡◌, ◌==◌, not, ◌&&◌, ℕ, ◌+◌, ◌<◌, ◌≤◌, ◌^◌, leb, Bool, true, false, cond, List, [], ◌∷◌, ◌++◌, length, drop, get_or, refl, ap, sym, subst, ◌∙◌, arith}
 use Rattle.std.specs.Prelude.{Option, Some, None}
 use Rattle.std.specs.List.{find, list_all}
 use Rattle.std.proofs.lemmas.Bool.Decides.{nat_tests}
@@ -27,7 +27,6 @@ use Rattle.fs_rows.specs.Granted.{with_rows}
 use Rattle.fs_rows.proofs.Granting.{granted_goes}
 use Rattle.fs_rows.proofs.Numbers.{given_new}
 use Rattle.fs_moderows.specs.Answer.{given_row, has_fixed_other, is_self_of_other, stands_against_self, unless_locked, waits_or}
-use Rattle.fs_moderows.specs.Table.{is_of_mode}
 use Rattle.fs_moderows.proofs.Free.{meets_never}
 use Rattle.fs_moderows.proofs.Witnesses.{not_both}
 use Rattle.fs_server.specs.declared.state.Server.{Server}

@@ -1,16 +1,13 @@
 -- What keeps the rows of a server in order.
-use Rattle.std.proofs.Common.{◌≡◌, ◌||◌, ℕ, Bool, true, false, List, ap, ◌∙◌, map, inl, inr}
-use Rattle.std.specs.List.{filter, list_any}
+use Rattle.std.proofs.Common.{◌≡◌, ℕ, false, List, map}
+use Rattle.std.specs.List.{list_any}
 use Rattle.fs_ident.specs.declared.actor.LeaseNo.{LeaseNo}
 use Rattle.fs_ident.specs.In.{In}
-use Rattle.fs_ident.proofs.Standing.{In-filter, In-put, In-map}
 use Rattle.fs_field.specs.declared.row.Row.{Row}
 use Rattle.fs_field.specs.Conflict.{plain_conflict}
-use Rattle.fs_field.specs.Field.{tells_no_mode}
-use Rattle.fs_field.specs.Table.{has_no, no_before, renewed_row, with_row}
-use Rattle.fs_field.proofs.Leases.{SameLease, NoPlainConflict-filter, NoPlainConflict-map, NoPlainConflict-with_row}
-use Rattle.fs_field.proofs.Order.{ordered_filter, ordered_map, ordered_put}
-use Rattle.fs_moderows.specs.Table.{is_of_mode}
+use Rattle.fs_field.specs.Table.{has_no, renewed_row, with_row}
+use Rattle.fs_field.proofs.Leases.{SameLease, NoPlainConflict-map, NoPlainConflict-with_row}
+use Rattle.fs_field.proofs.Order.{ordered_map, ordered_put}
 use Rattle.fs_moderows.proofs.Tables.{TellsSame, renewed_tells}
 use Rattle.fs_server.specs.Rows.{AreRows}
 

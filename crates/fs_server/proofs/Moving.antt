@@ -1,12 +1,11 @@
 -- What goes to another server, and what comes from one.
-use Rattle.std.proofs.Common.{◌≡◌, ◌==◌, not, ◌&&◌, ◌||◌, ℕ, ◌≤◌, ◌^◌, Bool, true, List, [], ◌∷◌, refl, ap, sym, subst, ◌∙◌, inl, inr, arith}
+use Rattle.std.proofs.Common.{◌≡◌, ◌==◌, not, ◌&&◌, ◌||◌, ℕ, ◌≤◌, Bool, true, List, [], ◌∷◌, refl, ap, sym, subst, ◌∙◌, inl, inr, arith}
 use Rattle.std.specs.Prelude.{nat_le}
-use Rattle.std.specs.List.{filter, list_all}
+use Rattle.std.specs.List.{list_all}
 use Rattle.std.proofs.lemmas.Bool.Decides.{nat_tests}
 use Rattle.fs_ident.specs.declared.actor.LeaseNo.{LeaseNo}
 use Rattle.fs_ident.specs.declared.actor.Peer.{Peer}
 use Rattle.fs_ident.specs.declared.actor.Peer.TheVariants.{Server as OfServer}
-use Rattle.fs_ident.specs.In.{In}
 use Rattle.fs_ident.proofs.Booleans.{both as both_hold, second}
 use Rattle.fs_ident.proofs.Passing.{all-In}
 use Rattle.fs_ident.proofs.Standing.{In-put}
@@ -33,7 +32,7 @@ use Rattle.fs_rows.proofs.Numbers.{given_filter}
 use Rattle.fs_parcel.specs.Parcel.{fits, is_formed, is_in_order, parcel_of}
 use Rattle.fs_parcel.specs.Rows.{both}
 use Rattle.fs_parcel.proofs.Both.{filtered_rows}
-use Rattle.fs_parcel.proofs.Formed.{Fitting, fitting}
+use Rattle.fs_parcel.proofs.Formed.{fitting}
 use Rattle.fs_parcel.proofs.Installed.{all_rows}
 use Rattle.fs_server.specs.declared.change.Change.TheVariants.{Leave, Install}
 use Rattle.fs_server.specs.declared.state.Server.{Server}

@@ -1,5 +1,5 @@
 -- What is read of rows is read of the part that it is about.
-use Rattle.std.proofs.Common.{◌≡◌, ◌==◌, not, ◌&&◌, ◌||◌, ℕ, Bool, true, false, List, [], ◌∷◌, refl, ap, cond, sym, ◌∙◌, subst, map, inl, inr, arith}
+use Rattle.std.proofs.Common.{◌≡◌, ◌==◌, not, ◌&&◌, ℕ, Bool, true, false, List, [], ◌∷◌, refl, ap, cond, sym, ◌∙◌, subst, map, inl, inr, arith}
 use mathlib.Core.Path.{fun_ext}
 use Rattle.std.specs.Prelude.{Option, Some, None, is_some, option_map}
 use Rattle.std.specs.List.{filter, find, list_any}
@@ -9,7 +9,6 @@ use Rattle.fs_ident.specs.declared.actor.LeaseNo.{LeaseNo}
 use Rattle.fs_ident.specs.declared.actor.Session.{Session}
 use Rattle.fs_ident.specs.Ident.{same}
 use Rattle.fs_ident.specs.In.{In}
-use Rattle.fs_ident.specs.Ordered.{put_before}
 use Rattle.fs_ident.proofs.Booleans.{first, second}
 use Rattle.fs_ident.proofs.Passing.{found}
 use Rattle.fs_ident.proofs.Standing.{In-filter, none_pass}
@@ -22,12 +21,11 @@ use Rattle.fs_field.specs.declared.lease_kind.LeaseKind.{LeaseKind}
 use Rattle.fs_field.specs.declared.row.Row.{Row}
 use Rattle.fs_field.specs.Conflict.{Selves, stands_against, meets, is_self, is_fixed, has_fixed, can_fail, mode_meets}
 use Rattle.fs_field.specs.Field.{same_field, same_mode, tells_no_mode}
-use Rattle.fs_field.specs.Table.{same_no, has_no, is_ordered, lock_on, no_before, with_row}
+use Rattle.fs_field.specs.Table.{same_no, has_no, is_ordered, lock_on}
 use Rattle.fs_field.proofs.Order.{one_of_number}
 use Rattle.fs_moderows.specs.Answer.{Opens, unless_locked, waits_or, answer_self, answer_other, has_fixed_other, is_self_of_other, stands_against_self, has_mode, is_told_true, rests_on, stands_against_reap, reap_blocker}
 use Rattle.fs_moderows.proofs.Witnesses.{In_filtered}
 use Rattle.fs_rows.specs.Answer.{answer_by, answer}
-use Rattle.fs_rows.specs.Granted.{with_rows}
 use Rattle.fs_rows.specs.Live.{unlocked_on}
 use Rattle.fs_server.specs.Rows.{is_off_modes, rows_off_modes, rows_on_modes}
 

@@ -61,11 +61,11 @@ abbrev pub ask_from : Session → List (Field × LeaseKind) → Server → List 
 ask_from by [] s grants = record { server = s; grants = grants; fresh = None; end = end.All }
 ask_from by (x ∷ xs) s grants =
     if is_mine s (file_of x.0) then
-      elim (answer_to by x.0 (kind_for x.0 x.1) s) as (λ _. Asking) [
-        | Granted promise ↦ ask_from by xs (with_lease by x.0 (kind_for x.0 x.1) promise s) (grants ++ grant_of by x.0 (kind_for x.0 x.1) s ∷ [])
-        | Wait blocker ↦ record { server = s; grants = grants; fresh = None; end = end.Wait blocker }
-        | Locked txn ↦ record { server = s; grants = grants; fresh = None; end = end.Locked txn }
-      ]
+    elim (answer_to by x.0 (kind_for x.0 x.1) s) as (λ _. Asking) [
+      | Granted promise ↦ ask_from by xs (with_lease by x.0 (kind_for x.0 x.1) promise s) (grants ++ grant_of by x.0 (kind_for x.0 x.1) s ∷ [])
+      | Wait blocker ↦ record { server = s; grants = grants; fresh = None; end = end.Wait blocker }
+      | Locked txn ↦ record { server = s; grants = grants; fresh = None; end = end.Locked txn }
+    ]
     else record { server = s; grants = grants; fresh = None; end = moved s (file_of x.0) }
 
 -- ## An identifier for a new file

@@ -46,10 +46,10 @@ abbrev pub ship_from : Session → List Entry → Server → List Item → Shipp
 ship_from by [] s admitted = record { server = s; admitted = admitted; end = end.All; gaps = [] }
 ship_from by (e ∷ es) s admitted =
     if is_mine s (home_of e.op) then
-      elim (first_gone s.rows by e.uses) as (λ _. Shipping) [
-        | None ↦ ship_from by es (with_entry by e s) (admitted ++ item_of by e ∷ [])
-        | Some u ↦ record { server = s; admitted = admitted; end = end.Ended e.n u.no u.until s.last; gaps = map (λ (x : Entry). x.n) es }
-      ]
+    elim (first_gone s.rows by e.uses) as (λ _. Shipping) [
+      | None ↦ ship_from by es (with_entry by e s) (admitted ++ item_of by e ∷ [])
+      | Some u ↦ record { server = s; admitted = admitted; end = end.Ended e.n u.no u.until s.last; gaps = map (λ (x : Entry). x.n) es }
+    ]
     else record { server = s; admitted = admitted; end = moved s (home_of e.op); gaps = [] }
 
 abbrev pub shipped : Session → Shipping → Stepped

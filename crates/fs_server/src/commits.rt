@@ -100,7 +100,7 @@ fn leave(server: &mut Server, reading: u64, map: FileMap, piece: &MapPiece)
     ensures { server.new ≡ record server.old {
       records = records_left piece.now.prefix piece.now.given server.old.records;
       rows = rows_left piece.now.prefix piece.now.given
-        (filter (is_live reading server.old.skew) server.old.rows);
+          (filter (is_live reading server.old.skew) server.old.rows);
       map = map;
     } }
 {

@@ -51,7 +51,7 @@ pub(crate) fn decide(alloc: Global, at: &Begun<'_>, ev: &ServerEvent) -> Result<
 }
 
 /// The parcel that the message hands over.
-fn parcel(m: &PeerMsg) -> &Parcel
+pub(crate) fn parcel(m: &PeerMsg) -> &Parcel
     ensures { m.now ≡ peer.Parcel result.now }
 {
     match m {

@@ -82,12 +82,7 @@ fn refusal_of(why: MoveError) -> Refusal
 }
 
 /// A copy of all that the server has below the prefix, which it manages, goes to the other.
-fn hands_over(
-    alloc: Global,
-    at: &Begun<'_>,
-    prefix: &FileId,
-    to: u8,
-) -> Result<Decided, Memory>
+fn hands_over(alloc: Global, at: &Begun<'_>, prefix: &FileId, to: u8) -> Result<Decided, Memory>
     requires ready { IsReady at.now }
     requires mine { server_of at.now.map prefix.now ≡ at.now.me }
     ensures step { IfOk result (λ d. stepped_by d at.now ≡ hands_over prefix.now to at.now) }

@@ -54,8 +54,8 @@ fn tell_their_effects(entries: &[Entry]) -> bool
     entries.iter().all(|entry| tells_its_effects(&entry.op))
 }
 
-/// The entries in order, up to the first that is handed in at the wrong server, or that used a lease whose row is gone, and
-/// the numbers of those behind the latter.
+/// The entries in order, up to the first that is handed in at the wrong server, or that used a lease whose row is gone,
+/// and the numbers of those behind the latter.
 fn ship_entries(
     alloc: Global,
     at: &Begun<'_>,

@@ -6,6 +6,7 @@ ghost use Rattle.fs_server.specs.Step.{AreNumbersLeft, CanBeTold};
 
 mod moves;
 
+use crate::decide::parcel;
 use crate::event::ServerEvent;
 use crate::out::ServerOut;
 use crate::server_core::ServerCore;
@@ -13,7 +14,7 @@ use fs_field::{Field, LeaseKind, Use};
 use fs_ident::{FileId, Kind, LeaseNo, List, Name, Session, Twin};
 use fs_model::{Op, Reply};
 use fs_modes::{Mode, Modes};
-use fs_msg::{ClientMsg, Entry, PeerMsg};
+use fs_msg::{ClientMsg, Entry};
 use fs_record::Record;
 use std::alloc::Global;
 use std::test::Fail;
@@ -44,8 +45,11 @@ fn can_be_told(ev: &ServerEvent) -> bool
     ensures { result ≡ true → CanBeTold ev.now }
 {
     match ev {
-        ServerEvent::FromPeer(_, PeerMsg::Parcel { parcel }) => are_numbers_left(parcel.records.as_slice()),
-        _ => true,
+        ServerEvent::FromPeer(_, m) => are_numbers_left(parcel(m).records.as_slice()),
+        ServerEvent::FromClient(_, _)
+        | ServerEvent::Turn
+        | ServerEvent::Recall(_)
+        | ServerEvent::Move { .. } => true,
     }
 }
 

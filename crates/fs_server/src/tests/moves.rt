@@ -34,9 +34,10 @@ fn map_text(core: &ServerCore, alloc: Global) -> Result<String, Fail> {
     Ok(text)
 }
 
-const MOVED: &str = "ServerOut { note: Grants { count: 0, end: Moved { prefix: FileId { numbers: [] }, to: 0 } }, send: List { items: \
-    [(Client(Session(1)), Answer(Granted { grants: List { items: [] }, fresh: None, end: Moved { prefix: FileId { numbers: [] }, \
-    to: 0 } }))] }, admitted: List { items: [] } }";
+const MOVED: &str =
+    "ServerOut { note: Grants { count: 0, end: Moved { prefix: FileId { numbers: [] }, to: 0 } }, send: List { \
+    items: [(Client(Session(1)), Answer(Granted { grants: List { items: [] }, fresh: None, end: Moved { prefix: \
+    FileId { numbers: [] }, to: 0 } }))] }, admitted: List { items: [] } }";
 
 /// What is with another server is not answered.
 #[test]
@@ -46,9 +47,15 @@ fn what_is_elsewhere_is_moved(rt: HostRuntime) -> Result<(), Fail> {
     let text = told(&mut core, alloc, 0, first_ask(alloc, 1))?;
     assert_eq!(rt; text.as_str(), MOVED);
     let text = noted(&mut core, alloc, 0, log(alloc))?;
-    assert_eq!(rt; text.as_str(), "Admits { count: 0, end: Moved { prefix: FileId { numbers: [] }, to: 0 }, gaps: List { items: [] } }");
+    assert_eq!(rt;
+        text.as_str(),
+        "Admits { count: 0, end: Moved { prefix: FileId { numbers: [] }, to: 0 }, gaps: List { items: [] } }"
+    );
     let text = noted(&mut core, alloc, 0, renew(alloc))?;
-    assert_eq!(rt; text.as_str(), "Renews { count: 0, end: Moved { prefix: FileId { numbers: [] }, to: 0 } }");
+    assert_eq!(rt;
+        text.as_str(),
+        "Renews { count: 0, end: Moved { prefix: FileId { numbers: [] }, to: 0 } }"
+    );
     let text = noted(&mut core, alloc, 0, Ok(ServerEvent::Recall(life(alloc).0)))?;
     assert_eq!(rt; text.as_str(), "Recalls { count: 0 }");
     Ok(())
@@ -76,38 +83,77 @@ fn handed_over(core: &mut ServerCore, alloc: Global, now: u64) -> Result<PeerMsg
     Err(Fail::from("no parcel"))
 }
 
-const LEAVES: &str = "ServerOut { note: Moves { prefix: FileId { numbers: [1] }, to: 1 }, send: List { items: [(Server(1), \
-    Peer(Parcel { parcel: Parcel { prefix: FileId { numbers: [1] }, piece: MapPiece { prefix: FileId { numbers: [1] }, given: \
-    List { items: [(FileId { numbers: [1] }, true)] } }, records: List { items: [(FileId { numbers: [1] }, Record { node: Node { \
-    kind: File, parent: Some((FileId { numbers: [] }, Name { bytes: [97] })), children: List { items: [] }, size: 0, stamp: 0, \
-    handles: List { items: [Handle { session: Session(1), h: 1, modes: Modes { acc_r: false, acc_w: true, acc_d: false, \
-    deny_r: false, deny_w: false, deny_d: false } }] } }, next: 1 })] }, rows: List { items: [Row { no: LeaseNo { server: 0, \
-    count: 3 }, session: Session(1), field: Life(FileId { numbers: [1] }), kind: Exclusive, until: 100, promise: None, lock: \
-    None }] } } }))] }, admitted: List { items: [] } }";
+const LEAVES: &str =
+    "ServerOut { note: Moves { prefix: FileId { numbers: [1] }, to: 1 }, send: List { items: [(Server(1), Peer(\
+    Parcel { parcel: Parcel { prefix: FileId { numbers: [1] }, piece: MapPiece { prefix: FileId { numbers: [1] }, \
+    given: List { items: [(FileId { numbers: [1] }, true)] } }, records: List { items: [(FileId { numbers: [1] }, \
+    Record { node: Node { kind: File, parent: Some((FileId { numbers: [] }, Name { bytes: [97] })), children: List { \
+    items: [] }, size: 0, stamp: 0, handles: List { items: [Handle { session: Session(1), h: 1, modes: Modes { \
+    acc_r: false, acc_w: true, acc_d: false, deny_r: false, deny_w: false, deny_d: false } }] } }, next: 1 })] }, \
+    rows: List { items: [Row { no: LeaseNo { server: 0, count: 3 }, session: Session(1), field: Life(FileId { \
+    numbers: [1] }), kind: Exclusive, until: 100, promise: None, lock: None }] } } }))] }, admitted: List { items: [] } }";
 
-/// A file goes to another server with its leases, and is asked for there.
+/// What goes is all of the file, with its leases.
 #[test]
 fn a_file_goes_to_another_server(rt: HostRuntime) -> Result<(), Fail> {
     let alloc = rt.alloc();
     let mut from = with_first(alloc)?;
-    let text = told(&mut from.copy(alloc)?, alloc, 6, move_to(alloc, "/1", 1))?;
+    let text = told(&mut from, alloc, 6, move_to(alloc, "/1", 1))?;
     assert_eq!(rt; text.as_str(), LEAVES);
-    let m = handed_over(&mut from, alloc, 6)?;
+    Ok(())
+}
+
+/// Where it was the file is known to be with the other server.
+#[test]
+fn a_file_is_gone_where_it_was(rt: HostRuntime) -> Result<(), Fail> {
+    let alloc = rt.alloc();
+    let mut from = with_first(alloc)?;
+    handed_over(&mut from, alloc, 6)?;
     assert_eq!(rt; map_text(&from, alloc)?.as_str(), "/ s0 /1 s1 ");
     assert!(rt; !has_file(&from, alloc)?);
     let both = ask(alloc, 2, life(alloc), Some(life_of_first(alloc)?), false);
     let text = noted(&mut from, alloc, 7, both)?;
-    assert_eq!(rt; text.as_str(), "Grants { count: 1, end: Moved { prefix: FileId { numbers: [1] }, to: 1 } }");
+    assert_eq!(rt;
+        text.as_str(),
+        "Grants { count: 1, end: Moved { prefix: FileId { numbers: [1] }, to: 1 } }"
+    );
+    Ok(())
+}
+
+/// What is noted of the message from the first server.
+fn come(to: &mut ServerCore, alloc: Global, m: PeerMsg) -> Result<String, Fail> {
+    noted(to, alloc, 7, Ok(ServerEvent::FromPeer(0, m)))
+}
+
+/// Where it came the file is asked for, and its lease is in the way of others; it comes once.
+#[test]
+fn a_file_is_here_where_it_came(rt: HostRuntime) -> Result<(), Fail> {
+    let alloc = rt.alloc();
+    let m = handed_over(&mut with_first(alloc)?, alloc, 6)?;
     let mut to = other(alloc)?;
-    let text = noted(&mut to, alloc, 7, Ok(ServerEvent::FromPeer(0, m.copy(alloc)?)))?;
-    assert_eq!(rt; text.as_str(), "Installs { prefix: FileId { numbers: [1] } }");
+    let text = come(&mut to, alloc, m.copy(alloc)?)?;
+    assert_eq!(rt;
+        text.as_str(),
+        "Installs { prefix: FileId { numbers: [1] } }"
+    );
     assert_eq!(rt; map_text(&to, alloc)?.as_str(), "/ s0 /1 s1 ");
     assert!(rt; has_file(&to, alloc)?);
-    let text = noted(&mut to, alloc, 8, ask(alloc, 2, life_of_first(alloc)?, None, false))?;
-    assert_eq!(rt; text.as_str(), "Grants { count: 0, end: Wait { blocker: LeaseNo { server: 0, count: 3 } } }");
-    let text = noted(&mut to, alloc, 9, Ok(ServerEvent::FromPeer(0, m)))?;
-    assert_eq!(rt; text.as_str(), "Strange");
+    let one = ask(alloc, 2, life_of_first(alloc)?, None, false);
+    let text = noted(&mut to, alloc, 8, one)?;
+    assert_eq!(rt;
+        text.as_str(),
+        "Grants { count: 0, end: Wait { blocker: LeaseNo { server: 0, count: 3 } } }"
+    );
+    assert_eq!(rt; come(&mut to, alloc, m)?.as_str(), "Strange");
     Ok(())
+}
+
+/// What is noted where the session asks for an identifier below the root.
+fn asked_below_root(core: &mut ServerCore, alloc: Global) -> Result<String, Fail> {
+    let items = List::new(alloc);
+    let fresh = Some(FileId::root(alloc));
+    let ev = ServerEvent::FromClient(Session(1), ClientMsg::Ask { items, fresh });
+    noted(core, alloc, 1, Ok(ev))
 }
 
 /// A fresh identifier is given by the server that has the directory alone.
@@ -116,16 +162,16 @@ fn a_fresh_identifier_is_given_where_its_directory_is(rt: HostRuntime) -> Result
     let alloc = rt.alloc();
     let mut core = server(alloc)?;
     noted(&mut core, alloc, 0, move_to(alloc, "/", 1))?;
-    let mut to = other(alloc)?;
-    let nothing = ServerEvent::FromClient(Session(1), ClientMsg::Ask {
-        items: List::new(alloc),
-        fresh: Some(FileId::root(alloc)),
-    });
-    for (at, wanted) in [(&mut core, "1"), (&mut to, "0")] {
-        let text = noted(at, alloc, 1, Ok(nothing.copy(alloc)?))?;
-        let moved = format!(in alloc; "Grants {{ count: 0, end: Moved {{ prefix: FileId {{ numbers: [] }}, to: {wanted} }} }}")?;
-        assert_eq!(rt; text.as_str(), moved.as_str());
-    }
+    let text = asked_below_root(&mut core, alloc)?;
+    assert_eq!(rt;
+        text.as_str(),
+        "Grants { count: 0, end: Moved { prefix: FileId { numbers: [] }, to: 1 } }"
+    );
+    let text = asked_below_root(&mut other(alloc)?, alloc)?;
+    assert_eq!(rt;
+        text.as_str(),
+        "Grants { count: 0, end: Moved { prefix: FileId { numbers: [] }, to: 0 } }"
+    );
     Ok(())
 }
 
@@ -133,7 +179,10 @@ fn a_fresh_identifier_is_given_where_its_directory_is(rt: HostRuntime) -> Result
 fn never_given(m: PeerMsg) -> PeerMsg {
     let PeerMsg::Parcel { mut parcel } = m;
     for row in parcel.rows.items_mut() {
-        row.no = LeaseNo { server: 1, count: 1 };
+        row.no = LeaseNo {
+            server: 1,
+            count: 1,
+        };
     }
     PeerMsg::Parcel { parcel }
 }
@@ -144,7 +193,7 @@ fn a_parcel_that_does_not_fit_is_strange(rt: HostRuntime) -> Result<(), Fail> {
     let alloc = rt.alloc();
     let m = handed_over(&mut with_first(alloc)?, alloc, 6)?;
     let mut to = other(alloc)?;
-    let text = noted(&mut to, alloc, 7, Ok(ServerEvent::FromPeer(0, never_given(m))))?;
+    let text = come(&mut to, alloc, never_given(m))?;
     assert_eq!(rt; text.as_str(), "Strange");
     assert_eq!(rt; map_text(&to, alloc)?.as_str(), "/ s0 ");
     assert!(rt; !has_file(&to, alloc)?);
@@ -167,6 +216,9 @@ fn it_is_told_why_what_was_to_go_stays(rt: HostRuntime) -> Result<(), Fail> {
         assert_eq!(rt; text.as_str(), wanted);
     }
     let text = noted(&mut core, alloc, 6, move_to(alloc, "/1", 1))?;
-    assert_eq!(rt; text.as_str(), "Stays { refusal: NotMine { prefix: FileId { numbers: [1] }, to: 1 } }");
+    assert_eq!(rt;
+        text.as_str(),
+        "Stays { refusal: NotMine { prefix: FileId { numbers: [1] }, to: 1 } }"
+    );
     Ok(())
 }

@@ -1,6 +1,5 @@
 use Rattle.std.proofs.Common.{◌≡◌, ap, sym, ◌∙◌}
 use Rattle.fs_map.specs.Lists.{map_after_take}
-use Rattle.fs_parcel.specs.Parcel.{parcel_of}
 use Rattle.fs_record.specs.declared.parcel.Parcel.{Parcel}
 use Rattle.fs_server.specs.declared.state.Server.{Server}
 use Rattle.fs_server.proofs.Moving.{goes_piece, handed_over, left_ready, packed_here, told_over}
