@@ -120,31 +120,60 @@ fn a_file_is_gone_where_it_was(rt: HostRuntime) -> Result<(), Fail> {
     Ok(())
 }
 
+/// The parcel of that file.
+fn parcel_of_first(alloc: Global) -> Result<PeerMsg, Fail> {
+    let mut from = with_first(alloc)?;
+    handed_over(&mut from, alloc, 6)
+}
+
 /// What is noted of the message from the first server.
 fn come(to: &mut ServerCore, alloc: Global, m: PeerMsg) -> Result<String, Fail> {
     noted(to, alloc, 7, Ok(ServerEvent::FromPeer(0, m)))
 }
 
-/// Where it came the file is asked for, and its lease is in the way of others; it comes once.
+/// Where it came the file is.
 #[test]
 fn a_file_is_here_where_it_came(rt: HostRuntime) -> Result<(), Fail> {
     let alloc = rt.alloc();
-    let m = handed_over(&mut with_first(alloc)?, alloc, 6)?;
     let mut to = other(alloc)?;
-    let text = come(&mut to, alloc, m.copy(alloc)?)?;
+    let text = come(&mut to, alloc, parcel_of_first(alloc)?)?;
     assert_eq!(rt;
         text.as_str(),
         "Installs { prefix: FileId { numbers: [1] } }"
     );
     assert_eq!(rt; map_text(&to, alloc)?.as_str(), "/ s0 /1 s1 ");
     assert!(rt; has_file(&to, alloc)?);
+    Ok(())
+}
+
+/// The second server with the file that came to it.
+fn with_moved(alloc: Global) -> Result<ServerCore, Fail> {
+    let mut to = other(alloc)?;
+    come(&mut to, alloc, parcel_of_first(alloc)?)?;
+    Ok(to)
+}
+
+/// Its lease is in the way of others there.
+#[test]
+fn a_lease_is_where_its_file_came(rt: HostRuntime) -> Result<(), Fail> {
+    let alloc = rt.alloc();
+    let mut to = with_moved(alloc)?;
     let one = ask(alloc, 2, life_of_first(alloc)?, None, false);
     let text = noted(&mut to, alloc, 8, one)?;
     assert_eq!(rt;
         text.as_str(),
         "Grants { count: 0, end: Wait { blocker: LeaseNo { server: 0, count: 3 } } }"
     );
-    assert_eq!(rt; come(&mut to, alloc, m)?.as_str(), "Strange");
+    Ok(())
+}
+
+/// A parcel that came twice is taken once.
+#[test]
+fn a_parcel_comes_once(rt: HostRuntime) -> Result<(), Fail> {
+    let alloc = rt.alloc();
+    let mut to = with_moved(alloc)?;
+    let text = come(&mut to, alloc, parcel_of_first(alloc)?)?;
+    assert_eq!(rt; text.as_str(), "Strange");
     Ok(())
 }
 
@@ -160,17 +189,24 @@ fn asked_below_root(core: &mut ServerCore, alloc: Global) -> Result<String, Fail
 #[test]
 fn a_fresh_identifier_is_given_where_its_directory_is(rt: HostRuntime) -> Result<(), Fail> {
     let alloc = rt.alloc();
+    let text = asked_below_root(&mut other(alloc)?, alloc)?;
+    assert_eq!(rt;
+        text.as_str(),
+        "Grants { count: 0, end: Moved { prefix: FileId { numbers: [] }, to: 0 } }"
+    );
+    Ok(())
+}
+
+/// Where the root went its fresh identifiers are given.
+#[test]
+fn a_fresh_identifier_is_given_where_its_directory_went(rt: HostRuntime) -> Result<(), Fail> {
+    let alloc = rt.alloc();
     let mut core = server(alloc)?;
     noted(&mut core, alloc, 0, move_to(alloc, "/", 1))?;
     let text = asked_below_root(&mut core, alloc)?;
     assert_eq!(rt;
         text.as_str(),
         "Grants { count: 0, end: Moved { prefix: FileId { numbers: [] }, to: 1 } }"
-    );
-    let text = asked_below_root(&mut other(alloc)?, alloc)?;
-    assert_eq!(rt;
-        text.as_str(),
-        "Grants { count: 0, end: Moved { prefix: FileId { numbers: [] }, to: 0 } }"
     );
     Ok(())
 }
@@ -191,9 +227,8 @@ fn never_given(m: PeerMsg) -> PeerMsg {
 #[test]
 fn a_parcel_that_does_not_fit_is_strange(rt: HostRuntime) -> Result<(), Fail> {
     let alloc = rt.alloc();
-    let m = handed_over(&mut with_first(alloc)?, alloc, 6)?;
     let mut to = other(alloc)?;
-    let text = come(&mut to, alloc, never_given(m))?;
+    let text = come(&mut to, alloc, never_given(parcel_of_first(alloc)?))?;
     assert_eq!(rt; text.as_str(), "Strange");
     assert_eq!(rt; map_text(&to, alloc)?.as_str(), "/ s0 ");
     assert!(rt; !has_file(&to, alloc)?);
