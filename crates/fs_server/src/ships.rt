@@ -7,8 +7,10 @@ ghost use Rattle.fs_record.specs.Applied.{is_undoable};
 ghost use Rattle.fs_server.specs.declared.change.Change.TheVariants as change;
 ghost use Rattle.fs_server.specs.declared.state.Server.{Server as TheServer};
 ghost use Rattle.fs_record.specs.Effects.{effects_of, tells_its_effects};
+ghost use Rattle.fs_msg.specs.Home.{home_of};
 ghost use Rattle.fs_server.specs.Decided.{CanDecide, stepped_by};
 ghost use Rattle.fs_server.specs.Lent.{IsReady};
+ghost use Rattle.fs_server.specs.Server.{is_mine};
 ghost use Rattle.fs_server.specs.Shipped.{shipped_by};
 ghost use Rattle.fs_server.specs.Ships.{first_gone, has_row, item_of, ship_from, ship_step, shipped};
 
@@ -18,6 +20,7 @@ use crate::decide::{Decided, only, strange, to_session};
 use crate::out::ServerOut;
 use fs_field::{Effect, Use};
 use fs_ident::{List, Memory, Peer, Session, Twin};
+use fs_model::Op;
 use fs_msg::{Answer, End, Entry, Item, ServerNote, home_of};
 use fs_record::{effects, tells_its_effects};
 use std::alloc::Global;
@@ -72,9 +75,12 @@ fn ship_entries(
         admitted: List::new(alloc),
     };
     for (i, entry) in entries.iter().enumerate() {
-        let home = home_of(&entry.op);
-        if !at.is_mine(home) {
-            return Ok((taken, at.moved(alloc, home)?, List::new(alloc)));
+        if !is_here(at, &entry.op) {
+            return Ok((
+                taken,
+                at.moved(alloc, home_of(&entry.op))?,
+                List::new(alloc),
+            ));
         }
         if let Some(gone) = first_gone(at, by, entry.uses.as_slice()) {
             let end = End::Ended {
@@ -88,6 +94,13 @@ fn ship_entries(
         take(alloc, by, entry, &mut taken)?;
     }
     Ok((taken, End::All, List::new(alloc)))
+}
+
+/// Whether the operation is handed in where it is to be.
+fn is_here(at: &Begun<'_>, op: &Op) -> bool
+    ensures { result ≡ is_mine at.now (home_of op.now) }
+{
+    at.is_mine(home_of(op))
 }
 
 /// The first use without its row.

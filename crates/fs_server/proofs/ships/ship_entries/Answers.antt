@@ -17,7 +17,7 @@ pub loop-i-preserved : goal.loop-i-preserved
 loop-i-preserved c =
     let e : Entry = c.index-entries-i.result in
     let none : first_gone c.args.at.now.rows c.args.by e.uses ≡ None = ap (first_gone c.args.at.now.rows c.args.by) (sym c.as_slice.ensures) ∙ sym c.in_default.ensures in
-    let mine : is_mine c.args.at.now (home_of e.op) ≡ true = ap (is_mine c.args.at.now) (sym c.home_of-home.ensures) ∙ sym c.is_mine.ensures ∙ c.if-not-is_mine.false in
+    let mine : is_mine c.args.at.now (home_of e.op) ≡ true = sym c.is_here.ensures ∙ c.if-not-is_here.false in
     record {
       shipped = ap (λ es. ship_from c.args.by (drop (c.loop-i.i + 1) c.args.entries.now) (changed (Admit es) c.args.at.now) c.take.new.taken.admitted) c.in_ok-take.ensures.effects
           ∙ ap (λ items. ship_from c.args.by (drop (c.loop-i.i + 1) c.args.entries.now) (changed (Admit (c.loop-i.taken.effects ++ effects_of c.args.by e.op e.reply)) c.args.at.now) items) c.in_ok-take.ensures.admitted
