@@ -21,9 +21,11 @@ use Rattle.fs_msg.specs.declared.msg.Msg.TheVariants as msg
 use Rattle.fs_msg.specs.declared.peer_msg.PeerMsg.TheVariants as peer
 use Rattle.fs_msg.specs.declared.server_note.ServerNote.TheVariants as note
 use Rattle.fs_ident.specs.Ident.{same}
-use Rattle.fs_record.specs.Moving.{AreEachRecords, are_distinct}
+use Rattle.fs_ident.specs.Ordered.{Keyed}
+use Rattle.fs_record.specs.Moving.{AreEachRecords, are_distinct, records_given}
 use Rattle.fs_record.specs.Records.{RecordMap}
 use Rattle.fs_record.specs.declared.parcel.Parcel.{Parcel}
+use Rattle.fs_record.specs.declared.record.Record.{Record}
 use Rattle.fs_record.proofs.Rising.{test_order}
 use Rattle.fs_rows.specs.Given.{AreGiven}
 use Rattle.fs_rows.specs.Granted.{with_rows}
@@ -58,12 +60,20 @@ pub goes_piece : (prefix : List ℕ) (p : Parcel) (s : Server) → server_of s.m
 goes_piece prefix p s mine e = subst (λ (x : Parcel). IsPiece x.piece.prefix x.piece.given) (sym e) (piece_piece s.map s.me prefix mine).0
 
 -- what goes is all that the server has below the prefix
-pub handed_over : (prefix : List ℕ) (to : ℕ) (p : Parcel) (m : Owners) (piece : MapPiece) (s : Server) → p ≡ parcel_of s.records s.rows s.map s.me prefix → m ≡ map_after_take s.map to p.piece.prefix p.piece.given → piece ≡ p.piece
-    → changed (Leave m piece) s ≡ without_given prefix to s
-handed_over prefix to p m piece s parcel known same =
-    ap (λ x. changed (Leave m x) s) same
-    ∙ ap (λ x. changed (Leave x p.piece) s) known
-    ∙ ap (λ (x : Parcel). changed (Leave (map_after_take s.map to x.piece.prefix x.piece.given) x.piece) s) parcel
+pub handed_over : (prefix : List ℕ) (to : ℕ) (p : Parcel) (m : Owners) (piece : MapPiece) (moved : Keyed Record) (s : Server) → p ≡ parcel_of s.records s.rows s.map s.me prefix → m ≡ map_after_take s.map to p.piece.prefix p.piece.given → piece ≡ p.piece
+    → changed (Leave m piece moved) s ≡ without_given prefix to s
+handed_over prefix to p m piece moved s parcel known same =
+    ap (λ x. changed (Leave m x moved) s) same
+    ∙ ap (λ x. changed (Leave x p.piece moved) s) known
+    ∙ ap (λ (x : Parcel). changed (Leave (map_after_take s.map to x.piece.prefix x.piece.given) x.piece moved) s) parcel
+
+-- the records that leave are those of its piece
+pub moved_over : (prefix : List ℕ) (p : Parcel) (piece : MapPiece) (moved : Keyed Record) (s : Server) → p ≡ parcel_of s.records s.rows s.map s.me prefix → piece ≡ p.piece → moved ≡ p.records
+    → moved ≡ records_given piece.prefix piece.given s.records
+moved_over prefix p piece moved s parcel same copied =
+    copied
+    ∙ ap (λ (x : Parcel). x.records) parcel
+    ∙ sym (ap (λ (x : MapPiece). records_given x.prefix x.given s.records) (same ∙ ap (λ (x : Parcel). x.piece) parcel))
 
 -- and it is told and sent
 pub told_over : (prefix copy : List ℕ) (to : ℕ) (p : Parcel) (server : Server) (send : List (Peer × Msg)) (admitted : List Item) (s : Server) → server ≡ without_given prefix to s → copy ≡ prefix → send ≡ (OfServer to, msg.Peer (peer.Parcel p)) ∷ [] → p ≡ parcel_of s.records s.rows s.map s.me prefix → admitted ≡ []
@@ -71,8 +81,8 @@ pub told_over : (prefix copy : List ℕ) (to : ℕ) (p : Parcel) (server : Serve
 told_over prefix copy to p server send admitted s a b d e f = rw (a, b, d, e, f) refl
 
 -- what is left is a server, with rows in order
-pub left_ready : (m : Owners) (piece : MapPiece) (s : Server) → IsReady s → IsReady (changed (Leave m piece) s)
-left_ready m piece s r = record {
+pub left_ready : (m : Owners) (piece : MapPiece) (moved : Keyed Record) (s : Server) → IsReady s → IsReady (changed (Leave m piece moved) s)
+left_ready m piece moved s r = record {
   server = record {
     few = r.server.few;
     skew = r.server.skew;

@@ -9,7 +9,7 @@ use Rattle.fs_rows.specs.Moving.{rows_left}
 use Rattle.fs_record.specs.Applied.{records_after_all, is_undoable}
 use Rattle.fs_record.specs.Fresh.{records_after_gift}
 use Rattle.fs_parcel.specs.Parcel.{fits}
-use Rattle.fs_record.specs.Moving.{AreEachRecords, records_left}
+use Rattle.fs_record.specs.Moving.{AreEachRecords, records_given, records_left}
 use Rattle.fs_record.specs.Records.{RecordMap}
 use Rattle.fs_server.specs.declared.change.Change.{Change}
 use Rattle.fs_server.specs.declared.change.Change.TheVariants.{Nothing, Grant, Renew, Free, Admit, Reap, Leave, Install}
@@ -34,7 +34,7 @@ changed (Renew until numbers) s = record s { rows = renewed_rows until numbers s
 changed (Free numbers) s = record s { rows = released_rows numbers s.rows }
 changed (Admit effects) s = record s { records = records_after_all s.records effects }
 changed (Reap count effects) s = record s { reaps = s.reaps + count; records = records_after_all s.records effects }
-changed (Leave map piece) s = record s {
+changed (Leave map piece moved) s = record s {
   records = records_left piece.prefix piece.given s.records;
   rows = rows_left piece.prefix piece.given s.rows;
   map = map;
@@ -59,10 +59,11 @@ pub record IsServer (s : Server) : Type 0 where
 
 -- ## Which plans can be committed
 
--- the effects of a log can be taken back where memory runs out; a parcel fits
+-- the effects of a log can be taken back where memory runs out; the records that go are those of the piece; a parcel fits
 abbrev pub CanChange : Change → Server → Type 0
 CanChange (Admit effects) s = list_all is_undoable effects ≡ true
 CanChange (Reap count effects) s = list_all is_undoable effects ≡ true
+CanChange (Leave map piece moved) s = moved ≡ records_given piece.prefix piece.given s.records
 CanChange (Install p) s = (fits s.records s.rows s.map s.me p ≡ true) × AreEachRecords p.records
 CanChange ch s = Unit {0}
 

@@ -2,7 +2,7 @@
 use fs_field::{Effect, Row};
 use fs_ident::{FileId, LeaseNo, List};
 use fs_map::{FileMap, MapPiece};
-use fs_record::Parcel;
+use fs_record::{Parcel, Record};
 
 /// What an event changes, beside the rows that are over.
 #[derive(Drop)]
@@ -31,10 +31,11 @@ pub(crate) enum Change {
         count: u64,
         effects: List<Effect>,
     },
-    /// What the piece gives goes to another server; the map is this then.
+    /// What the piece gives goes to another server, these records among it; the map is this then.
     Leave {
         map: FileMap,
         piece: MapPiece,
+        moved: List<(FileId, Record)>,
     },
     /// What another server hands over is put in its place.
     Install {

@@ -4,7 +4,7 @@ ghost use Rattle.std.specs.List.{filter};
 ghost use Rattle.fs_field.specs.Table.{is_live};
 ghost use Rattle.fs_map.specs.Lists.{map_after_take};
 ghost use Rattle.fs_parcel.specs.Parcel.{fits};
-ghost use Rattle.fs_record.specs.Moving.{AreEachRecords, records_left, with_records};
+ghost use Rattle.fs_record.specs.Moving.{AreEachRecords, records_given, records_left, with_records};
 ghost use Rattle.fs_rows.specs.Granted.{with_rows};
 ghost use Rattle.fs_rows.specs.Moving.{rows_left};
 ghost use Rattle.fs_server.specs.Pairs.{released_rows, renewed_rows};
@@ -18,7 +18,7 @@ use crate::state::Server;
 use fs_field::Row;
 use fs_ident::{FileId, LeaseNo, List, Memory};
 use fs_map::{FileMap, MapPiece};
-use fs_record::{Parcel, Records};
+use fs_record::{Parcel, Record, Records};
 use std::alloc::Global;
 
 /// The rows that are over at the reading are dropped, and the change is carried out.
@@ -54,7 +54,7 @@ pub(crate) fn commit(
             server.rows.lapse(reading, server.skew);
             server.reaps += count;
         }
-        Change::Leave { map, piece } => leave(server, reading, map, &piece),
+        Change::Leave { map, piece, moved } => leave(server, reading, map, &piece, &moved),
         Change::Install { parcel } => install(alloc, server, reading, parcel)?,
     }
     server.last = reading;
@@ -95,8 +95,15 @@ fn give_number(records: &mut Records, gift: Option<(FileId, u32)>)
     }
 }
 
-/// What the piece gives is gone, and the map is this.
-fn leave(server: &mut Server, reading: u64, map: FileMap, piece: &MapPiece)
+/// What the piece gives is gone, and the map is this. Of the records only those that go are looked at.
+fn leave(
+    server: &mut Server,
+    reading: u64,
+    map: FileMap,
+    piece: &MapPiece,
+    moved: &List<(FileId, Record)>,
+)
+    requires { moved.now ≡ records_given piece.now.prefix piece.now.given server.old.records }
     ensures { server.new ≡ record server.old {
       records = records_left piece.now.prefix piece.now.given server.old.records;
       rows = rows_left piece.now.prefix piece.now.given
@@ -106,7 +113,7 @@ fn leave(server: &mut Server, reading: u64, map: FileMap, piece: &MapPiece)
 {
     server.rows.lapse(reading, server.skew);
     server.rows.leave(piece);
-    server.records.leave(piece);
+    server.records.leave_these(piece, moved);
     server.map = map;
 }
 
