@@ -18,8 +18,6 @@ mod plan;
 mod replies;
 mod returns;
 mod state;
-#[cfg(test)]
-mod tests;
 mod turns;
 
 pub use client_core::ClientCore;

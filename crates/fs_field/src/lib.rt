@@ -12,8 +12,6 @@ mod names;
 mod path;
 mod row;
 pub mod table;
-#[cfg(test)]
-mod tests;
 mod texts;
 mod used;
 mod value;

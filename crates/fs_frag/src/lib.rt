@@ -7,8 +7,6 @@ mod joined;
 mod joiner;
 mod law;
 mod segment;
-#[cfg(test)]
-mod tests;
 
 pub use cutting::{cut, segment_count};
 pub use error::FragError;

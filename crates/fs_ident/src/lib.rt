@@ -13,8 +13,6 @@ mod maps;
 mod memory;
 mod name;
 mod ordered;
-#[cfg(test)]
-mod tests;
 mod texts;
 mod twin;
 

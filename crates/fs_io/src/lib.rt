@@ -19,8 +19,6 @@ mod store;
 mod sure_link;
 mod sure_sink;
 mod sure_source;
-#[cfg(test)]
-mod tests;
 mod writing;
 
 pub use addr::Addr;

@@ -5,8 +5,6 @@
 mod held;
 mod leaving;
 mod pinned;
-#[cfg(test)]
-mod tests;
 
 pub use held::Held;
 pub use leaving::Leaving;

@@ -12,8 +12,6 @@ mod law;
 mod listed;
 mod part;
 mod piece;
-#[cfg(test)]
-mod tests;
 
 pub use file_map::FileMap;
 pub use law::{

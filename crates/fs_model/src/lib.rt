@@ -17,8 +17,6 @@ mod renames;
 mod reply;
 mod space;
 mod steps;
-#[cfg(test)]
-mod tests;
 
 pub use law::{
     every_ancestor_is_listed, first_space_is_sound, no_file_is_its_own_ancestor,

@@ -13,8 +13,6 @@ mod joined;
 mod law;
 mod live;
 mod mode_rows;
-#[cfg(test)]
-mod tests;
 
 pub use law::{
     asking_for_other_is_safe, asking_for_self_is_safe, changes_by_rows_are_safe,

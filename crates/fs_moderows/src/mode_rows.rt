@@ -151,6 +151,15 @@ impl ModeRows {
         Live::at(self.rows.as_slice(), now, skew)
     }
 
+    /// All rows, to be read: at the first reading and with some skew none is over.
+    #[tactic(auto, using(fs_rows::proofs::Goes::all_live))]
+    pub fn all(&self) -> Live<'_>
+        ensures same { result ≡ self.now }
+        ensures valid { IsModeTable self.now }
+    {
+        self.live(0, 1)
+    }
+
     /// Drops the rows that are over at the reading `now`, as `lapse` does, and puts in these, in order; and the same in
     /// the table beside, with the others. `Memory` where memory is wanting; both tables are as they were then.
     pub fn grant_all(

@@ -4,8 +4,6 @@
 mod law;
 mod letters;
 mod modes;
-#[cfg(test)]
-mod tests;
 
 pub use law::{conflicts_are_mutual, none_has_no_mode};
 pub use modes::{Mode, Modes};

@@ -20,8 +20,6 @@ mod peer_msg;
 mod reading;
 mod refusal;
 mod server_note;
-#[cfg(test)]
-mod tests;
 mod writing;
 
 pub use act::{Act, Busy, ClientOut};

@@ -16,7 +16,6 @@ ghost use Rattle.fs_parcel.specs.Rows.{AreRows, both};
 
 use crate::in_order::files_rise;
 use crate::parts::Parts;
-use crate::tables::{all_off, all_on};
 use fs_field::Row;
 use fs_ident::{FileId, List, Memory, Session, Twin};
 use fs_map::{FileMap, MapPiece};
@@ -43,7 +42,7 @@ pub fn fits(
     ensures { IfOk result (λ fit. fit ≡
         fits records.now (both rows.now modes.now) map.now me p.now) }
 {
-    fits_at(alloc, records, &all_off(rows), &all_on(modes), map, me, p)
+    fits_at(alloc, records, &rows.all(), &modes.all(), map, me, p)
 }
 
 /// The same, among the rows that are not over at a reading.

@@ -9,7 +9,6 @@ ghost use Rattle.fs_parcel.specs.Parcel.{fits};
 ghost use Rattle.fs_parcel.specs.Rows.{AreRows, both, rows_off_modes, rows_on_modes};
 
 use crate::parts::Parts;
-use crate::tables::both_tables;
 use fs_ident::Memory;
 use fs_map::FileMap;
 use fs_moderows::ModeRows;
@@ -70,7 +69,8 @@ pub fn install_at(
     ensures err_modes { OnErr result (modes.new ≡ modes.old) }
     ensures err_map { OnErr result (map.new ≡ map.old) }
 {
-    both_tables(rows, modes);
+    rows.all();
+    modes.all();
     let taken = map.with_taken(alloc, me, &p.piece)?;
     let parts = Parts::of(alloc, p.rows)?;
     records.join(alloc, p.records)?;

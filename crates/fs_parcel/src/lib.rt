@@ -11,9 +11,6 @@ mod law;
 mod packing;
 mod parts;
 mod refusing;
-mod tables;
-#[cfg(test)]
-mod tests;
 
 pub use error::MoveError;
 pub use fitting::{fits, fits_at};

@@ -14,7 +14,6 @@ ghost use Rattle.fs_parcel.specs.declared.error.MoveError.TheVariants.{Memory as
 use crate::error::MoveError;
 use crate::parts::merged;
 use crate::refusing::refusal;
-use crate::tables::{all_off, all_on};
 use fs_ident::{FileId, Memory, PathNo, Twin};
 use fs_map::{FileMap, MapPiece};
 use fs_moderows::{Live as LiveOn, ModeRows};
@@ -104,8 +103,8 @@ pub fn pack_up(
     ensures err_modes { OnErr result (modes.new ≡ modes.old) }
     ensures err_map { OnErr result (map.new ≡ map.old) }
 {
-    let off = all_off(rows);
-    let on = all_on(modes);
+    let off = rows.all();
+    let on = modes.all();
     if let Some(why) = refusal(alloc, records, &off, &on, map, me, prefix, to, through)? {
         return Err(why);
     }

@@ -13,8 +13,6 @@ mod op_effects;
 mod parcel;
 mod record;
 mod records;
-#[cfg(test)]
-mod tests;
 mod together;
 mod undo;
 mod values;

@@ -76,7 +76,7 @@ impl Records {
     }
 
     /// Gives the file this record, whatever it had.
-    pub(crate) fn put(&mut self, id: FileId, kept: Record) -> Result<(), Memory>
+    pub fn put(&mut self, id: FileId, kept: Record) -> Result<(), Memory>
         requires { IsRecord kept }
         ensures ok { OnOk result (self.new ≡ map.insert self.old id kept) }
         ensures err { OnErr result (self.new ≡ self.old) }

@@ -16,10 +16,11 @@ mod refusals;
 mod reply_text;
 mod server_notes;
 mod spaces;
-#[cfg(test)]
-mod tests;
 
 pub use done::done_line;
 pub use items::item_line;
+pub use node_lines::put_file;
+pub use notes::put_note;
 pub use outcomes::outcome_line;
+pub use reply_text::put_reply;
 pub use spaces::space_lines;

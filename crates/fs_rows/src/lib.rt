@@ -9,8 +9,6 @@ mod live;
 mod moving;
 mod reads;
 mod rows;
-#[cfg(test)]
-mod tests;
 
 pub use grants::{keep_live, put_each};
 pub use law::{numbers_tell_rows_apart, rows_that_move_leave_tables, tables_are_without_conflict};

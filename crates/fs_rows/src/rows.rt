@@ -91,6 +91,15 @@ impl Rows {
         Live::at(self.rows.as_slice(), now, skew)
     }
 
+    /// All rows, to be read: at the first reading and with some skew none is over.
+    #[tactic(auto, using(crate::proofs::Goes::all_live))]
+    pub fn all(&self) -> Live<'_>
+        ensures same { result ≡ self.now }
+        ensures valid { IsTable self.now }
+    {
+        self.live(0, 1)
+    }
+
     /// Drops the rows that are over at the reading `now`, as `lapse` does, and puts in these, in order. `Memory`
     /// where memory is wanting; the table is as it was then.
     pub fn grant_all(

@@ -17,8 +17,6 @@ mod outcome;
 mod schedule;
 mod session;
 mod skew;
-#[cfg(test)]
-mod tests;
 mod unread;
 mod word;
 mod words;

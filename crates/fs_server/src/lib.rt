@@ -39,8 +39,6 @@ mod recalls;
 mod server_core;
 mod ships;
 mod state;
-#[cfg(test)]
-mod tests;
 
 pub use event::ServerEvent;
 pub use out::ServerOut;

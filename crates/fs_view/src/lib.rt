@@ -13,8 +13,6 @@ mod rename;
 mod room;
 mod seen;
 mod table;
-#[cfg(test)]
-mod tests;
 mod told;
 mod view;
 mod walk;

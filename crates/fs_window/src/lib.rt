@@ -11,8 +11,6 @@ mod peers;
 mod post;
 mod queue;
 mod sent;
-#[cfg(test)]
-mod tests;
 mod undo;
 mod window;
 

@@ -16,8 +16,6 @@ mod ops;
 mod puts;
 mod replies;
 mod rows;
-#[cfg(test)]
-mod tests;
 mod uses;
 mod values;
 mod wire;

@@ -25,8 +25,6 @@ mod served;
 mod servers;
 mod telling;
 mod term;
-#[cfg(test)]
-mod tests;
 mod world;
 
 pub use law::{

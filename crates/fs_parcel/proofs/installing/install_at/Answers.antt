@@ -24,7 +24,7 @@ grant_all-requires-clause-table c =
     let on = c.args.modes.now in
     let f = fitting c.args.records.now (filter live (both off on)) c.args.map.now c.args.me c.args.p c.requires.fits in
     let a : AreRows (after live c.args.p.rows off on) = all_rows _ _ _ _ c.args.p f (filtered_rows live (both off on) c.requires.rows) in
-    rw c.in_ok-parts.ensures.on (takes_on live c.args.p.rows off on (c.both_tables.ensures.off, (c.both_tables.ensures.on, c.requires.rows)) a)
+    rw c.in_ok-parts.ensures.on (takes_on live c.args.p.rows off on (c.all.ensures.valid, (c.all-2.ensures.valid, c.requires.rows)) a)
 
 pub grant_all-requires-clause-beside : goal.grant_all-requires-clause-beside
 grant_all-requires-clause-beside c =
@@ -33,7 +33,7 @@ grant_all-requires-clause-beside c =
     let on = c.args.modes.now in
     let f = fitting c.args.records.now (filter live (both off on)) c.args.map.now c.args.me c.args.p c.requires.fits in
     let a : AreRows (after live c.args.p.rows off on) = all_rows _ _ _ _ c.args.p f (filtered_rows live (both off on) c.requires.rows) in
-    rw c.in_ok-parts.ensures.off (takes_off live c.args.p.rows off on (c.both_tables.ensures.off, (c.both_tables.ensures.on, c.requires.rows)) a)
+    rw c.in_ok-parts.ensures.off (takes_off live c.args.p.rows off on (c.all.ensures.valid, (c.all-2.ensures.valid, c.requires.rows)) a)
 
 pub returns-clause-err_records : goal.returns-clause-err_records
 returns-clause-err_records c =

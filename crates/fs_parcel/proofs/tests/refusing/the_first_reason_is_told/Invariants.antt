@@ -1,6 +1,0 @@
-use Rattle.fs_parcel.specs.Rows.{AreRows, both}
-use Rattle.fs_parcel.proofs.tests.refusing.the_first_reason_is_told.Given as goal
-
--- the rows stay in order
-abbrev pub invariant-loop-prefix : goal.invariant-loop-prefix
-invariant-loop-prefix g l = AreRows (both l.s.rows l.s.modes)

@@ -1,0 +1,9 @@
+//! Tests of clients, servers and the world that they make.
+#![tactic(auto)]
+
+#[cfg(test)]
+mod client;
+#[cfg(test)]
+mod server;
+#[cfg(test)]
+mod world;

@@ -1,0 +1,331 @@
+mod notes;
+
+use fs_ident::{FileId, IdError, Kind, List, Memory, Name, Peer, Session};
+use fs_model::{Handle, Node, Op, Reply, Space};
+use fs_modes::Modes;
+use fs_msg::{Item, Note};
+use fs_report::{done_line, item_line, outcome_line, put_file, put_reply, space_lines};
+use fs_schedule::Outcome;
+use std::alloc::Global;
+use std::process::Abort;
+use std::test::Fail;
+
+/// The identifier that is written like this.
+pub(crate) fn id(alloc: Global, text: &[u8]) -> Result<FileId, IdError> {
+    FileId::parse(alloc, text)
+}
+
+/// The name of these bytes.
+pub(crate) fn name(alloc: Global, bytes: &[u8]) -> Result<Name, IdError> {
+    Name::new(alloc, bytes)
+}
+
+/// These accesses and denials: read 1, write 2, delete 4.
+fn modes(acc: u8, deny: u8) -> Modes {
+    Modes::new(acc, deny).unwrap_or(Modes::NONE)
+}
+
+/// A list of two names.
+fn names(alloc: Global) -> Result<List<Name>, Fail> {
+    let mut names = List::new(alloc);
+    names.push(name(alloc, b"a")?)?;
+    names.push(name(alloc, b"b c")?)?;
+    Ok(names)
+}
+
+/// The reply of this number: those that hold something, then those that do not.
+fn reply(alloc: Global, k: u64) -> Result<Reply, Fail> {
+    match k {
+        0 => Ok(Reply::Found(id(alloc, b"/1/3")?)),
+        1 => Ok(Reply::Names(List::new(alloc))),
+        2 => Ok(Reply::Names(names(alloc)?)),
+        3 => Ok(Reply::Info { size: 10, stamp: 5 }),
+        _ => Ok(bare_reply(k)),
+    }
+}
+
+fn bare_reply(k: u64) -> Reply {
+    match k {
+        4 => Reply::Gone,
+        5 => Reply::NotDir,
+        6 => Reply::GoneTo,
+        7 => Reply::NotDirTo,
+        8 => Reply::NoName,
+        9 => Reply::IsFile,
+        10 => Reply::IsDir,
+        11 => Reply::Exists,
+        12 => Reply::BadId,
+        13 => Reply::Made,
+        14 => Reply::HandleUsed,
+        15 => Reply::Sharing,
+        16 => Reply::Opened,
+        17 => Reply::NoHandle,
+        18 => Reply::Closed,
+        19 => Reply::NoAccess,
+        20 => Reply::Set,
+        21 => Reply::NotEmpty,
+        22 => Reply::InUse,
+        23 => Reply::Deleted,
+        24 => Reply::Cycle,
+        25 => Reply::Renamed,
+        _ => Reply::Reaped,
+    }
+}
+
+/// The texts of the replies, by their numbers.
+const REPLIES: [&[u8]; 27] = [
+    b"found /1/3",
+    b"names",
+    b"names \"a\" \"b c\"",
+    b"info 10 5",
+    b"gone",
+    b"notdir",
+    b"goneto",
+    b"notdirto",
+    b"noname",
+    b"isfile",
+    b"isdir",
+    b"exists",
+    b"badid",
+    b"made",
+    b"handleused",
+    b"sharing",
+    b"opened",
+    b"nohandle",
+    b"closed",
+    b"noaccess",
+    b"set",
+    b"notempty",
+    b"inuse",
+    b"deleted",
+    b"cycle",
+    b"renamed",
+    b"reaped",
+];
+
+#[test]
+fn writes_replies(rt: HostRuntime) -> Result<(), Fail> {
+    let alloc = rt.alloc();
+    let mut k = 0;
+    for text in REPLIES {
+        let mut out = Vec::new(alloc);
+        put_reply(alloc, &reply(alloc, k)?, &mut out)?;
+        assert_eq!(rt; out.as_slice(), text);
+        k = k.saturating_add(1);
+    }
+    Ok(())
+}
+
+/// The outcome that the line of this number tells.
+fn outcome(alloc: Global, k: u64) -> Result<Outcome, Memory> {
+    let mut notes = List::new(alloc);
+    let mut sent = List::new(alloc);
+    let who = match k {
+        1 => {
+            notes.push(Note::Joined)?;
+            Some(Peer::Client(Session(1)))
+        }
+        2 => {
+            let reply = Reply::Made;
+            notes.push(Note::Answered { n: 1, reply })?;
+            Some(Peer::Client(Session(1)))
+        }
+        9 => {
+            notes.push(Note::Joined)?;
+            notes.push(Note::Nothing)?;
+            sent.push(4)?;
+            sent.push(5)?;
+            Some(Peer::Server(0))
+        }
+        _ => {
+            notes.push(Note::Nothing)?;
+            None
+        }
+    };
+    Ok(Outcome { who, notes, sent })
+}
+
+#[test]
+fn writes_outcomes(rt: HostRuntime) -> Result<(), Fail> {
+    let alloc = rt.alloc();
+    for (k, text) in [
+        (1, b"e1 c1 joined\n".as_slice()),
+        (2, b"e2 c1 answered 1 made\n"),
+        (9, b"e9 s0 joined; nothing sends 4 5\n"),
+        (10, b"e10 - nothing\n"),
+    ] {
+        let mut out = Vec::from_slice(alloc, b"e0\n")?;
+        outcome_line(alloc, k, &outcome(alloc, k)?, &mut out)?;
+        assert!(rt; out.starts_with(b"e0\n"));
+        assert_eq!(rt; &out[3..], text);
+    }
+    Ok(())
+}
+
+/// The operation that the line of this number tells.
+fn op(alloc: Global, k: u64) -> Result<Op, IdError> {
+    let file = id(alloc, b"/1")?;
+    match k {
+        1 | 2 | 3 | 4 | 13 => op_on_name(alloc, k),
+        5 => Ok(Op::List { dir: file }),
+        6 => Ok(Op::Kind { file }),
+        7 => Ok(Op::Info { file }),
+        8 => Ok(Op::OpenFile {
+            file,
+            h: 1,
+            modes: modes(1, 6),
+        }),
+        9 => Ok(Op::OpenFile {
+            file,
+            h: 2,
+            modes: modes(2, 0),
+        }),
+        10 => Ok(Op::Close { file, h: 1 }),
+        11 => Ok(Op::Set {
+            file,
+            h: 1,
+            size: 10,
+            stamp: 5,
+        }),
+        _ => Ok(Op::Reap {
+            file,
+            session: Session(2),
+        }),
+    }
+}
+
+/// The same where it has a name.
+fn op_on_name(alloc: Global, k: u64) -> Result<Op, IdError> {
+    let dir = id(alloc, b"/")?;
+    let name = name(alloc, b"a")?;
+    match k {
+        1 => Ok(Op::Create {
+            dir,
+            name,
+            kind: Kind::Dir,
+            id: Some(id(alloc, b"/1")?),
+        }),
+        2 => Ok(Op::Lookup { dir, name }),
+        13 => Ok(Op::Delete { dir, name }),
+        3 => Ok(Op::Create {
+            dir,
+            name,
+            kind: Kind::File,
+            id: None,
+        }),
+        _ => Ok(Op::Rename {
+            sdir: dir,
+            sname: name,
+            ddir: id(alloc, b"/1/1")?,
+            dname: Name::new(alloc, b"c")?,
+        }),
+    }
+}
+
+#[test]
+fn writes_items(rt: HostRuntime) -> Result<(), Fail> {
+    let alloc = rt.alloc();
+    for (k, text) in [
+        (1, b"j1 c1 1 create / \"a\" dir /1 exists\n".as_slice()),
+        (2, b"j2 c1 2 lookup / \"a\" exists\n"),
+        (3, b"j3 c1 3 create / \"a\" file - exists\n"),
+        (4, b"j4 c1 4 rename / \"a\" /1/1 \"c\" exists\n"),
+        (5, b"j5 c1 5 list /1 exists\n"),
+        (6, b"j6 c1 6 kind /1 exists\n"),
+        (7, b"j7 c1 7 info /1 exists\n"),
+        (8, b"j8 c1 8 open /1 1 R WD exists\n"),
+        (9, b"j9 c1 9 open /1 2 W - exists\n"),
+        (10, b"j10 c1 10 close /1 1 exists\n"),
+        (11, b"j11 c1 11 set /1 1 10 5 exists\n"),
+        (12, b"j12 c1 12 reap /1 c2 exists\n"),
+        (13, b"j13 c1 13 delete / \"a\" exists\n"),
+    ] {
+        let mut out = Vec::from_slice(alloc, b"j0\n")?;
+        let item = Item {
+            by: Peer::Client(Session(1)),
+            n: k,
+            op: op(alloc, k)?,
+            reply: Reply::Exists,
+        };
+        item_line(alloc, k, &item, &mut out)?;
+        assert!(rt; out.starts_with(b"j0\n"));
+        assert_eq!(rt; &out[3..], text);
+    }
+    Ok(())
+}
+
+/// A file in a directory, with a handle of each of two sessions where it is no directory itself.
+fn node(alloc: Global, kind: Kind, dir: &[u8], as_name: &[u8]) -> Result<Node, Fail> {
+    let mut handles = List::new(alloc);
+    if kind == Kind::File {
+        for session in [Session(1), Session(2)] {
+            handles.push(Handle {
+                session,
+                h: 1,
+                modes: modes(1, 6),
+            })?;
+        }
+    }
+    Ok(Node {
+        kind,
+        parent: Some((id(alloc, dir)?, name(alloc, as_name)?)),
+        children: List::new(alloc),
+        size: 10,
+        stamp: 5,
+        handles,
+    })
+}
+
+#[test]
+fn writes_files(rt: HostRuntime) -> Result<(), Fail> {
+    let alloc = rt.alloc();
+    let file = id(alloc, b"/1")?;
+    let mut out = Vec::new(alloc);
+    put_file(
+        alloc,
+        &file,
+        &node(alloc, Kind::Dir, b"/1/1", b"c")?,
+        &mut out,
+    )?;
+    assert_eq!(rt; out.as_slice(), b"n /1 dir 10 5 in /1/1 \"c\"\n".as_slice());
+    out.clear();
+    put_file(
+        alloc,
+        &file,
+        &node(alloc, Kind::File, b"/", b"f")?,
+        &mut out,
+    )?;
+    assert_eq!(rt;
+        out.as_slice(),
+        b"n /1 file 10 5 in / \"f\"\nh /1 c1 1 R WD\nh /1 c2 1 R WD\n".as_slice()
+    );
+    Ok(())
+}
+
+#[test]
+fn writes_the_last_line(rt: HostRuntime) -> Result<(), Fail> {
+    let alloc = rt.alloc();
+    let mut out = Vec::new(alloc);
+    done_line(alloc, 4, 3, 2, &mut out)?;
+    assert_eq!(rt;
+        out.as_slice(),
+        b"done events 4 journal 3 nodes 2\n".as_slice()
+    );
+    Ok(())
+}
+
+#[test]
+fn writes_spaces(rt: HostRuntime) -> Result<(), Fail> {
+    let alloc = rt.alloc();
+    let mut space = Space::new(alloc)?;
+    for k in [1, 8] {
+        space.step(alloc, Session(1), &op(alloc, k)?)?;
+    }
+    let mut out = Vec::new(alloc);
+    space_lines(alloc, &space, &mut out)?;
+    assert_eq!(rt;
+        out.as_slice(),
+        b"n / dir 0 0\nn /1 dir 0 0 in / \"a\"\nh /1 c1 1 R WD\n".as_slice()
+    );
+    Ok(())
+}

@@ -1,0 +1,256 @@
+use crate::report::{id, name};
+use fs_field::{Field, LeaseKind, Need};
+use fs_ident::{LeaseNo, List, PathNo, TxnNo};
+use fs_model::Reply;
+use fs_modes::Mode;
+use fs_msg::{Act, Busy, ClientNote, End, Note, Refusal, ServerNote};
+use fs_report::put_note;
+use std::alloc::Global;
+use std::test::Fail;
+
+/// The texts of notes, by their numbers.
+const NOTES: [&[u8]; 42] = [
+    b"grants 3 all",
+    b"grants 1 wait s0.2",
+    b"grants 0 locked s0#1",
+    b"grants 0 moved /1 s1",
+    b"grants 2 noids /1",
+    b"renews 2 all",
+    b"frees 1 all",
+    b"admits 1 all",
+    b"admits 0 ended 1 s0.1 100 110 gap 2 gap 3",
+    b"reaps 2",
+    b"recalls 1",
+    b"idle",
+    b"strange",
+    b"ships 1 s0",
+    b"releases 1 s0",
+    b"renews 2 s0",
+    b"idle",
+    b"granted 1 wait s0.2",
+    b"renewed 2 all",
+    b"released 1 all",
+    b"shipped 0 ended 1 s0.1 100 110",
+    b"recall s0.2",
+    b"strange",
+    b"replied 1 made",
+    b"read 2 found /1",
+    b"asked s0 life / shared, child / \"a\" exclusive, fresh /",
+    b"asked s1 own /1, other /1 dD shared",
+    b"busy exchange",
+    b"busy log",
+    b"busy led",
+    b"noids /1",
+    b"over 1",
+    b"none",
+    b"part",
+    b"strange",
+    b"installs /1",
+    b"moves /1 s1",
+    b"stays notmine /1 s1",
+    b"stays nofile",
+    b"stays same",
+    b"stays busy s0#1",
+    b"stays paths s0@1",
+];
+
+/// Why an answer goes no further, by the number of the note that says so.
+fn end(alloc: Global, k: u64) -> Result<End, Fail> {
+    match k {
+        1 | 17 => Ok(End::Wait {
+            blocker: LeaseNo {
+                server: 0,
+                count: 2,
+            },
+        }),
+        2 => Ok(End::Locked {
+            txn: TxnNo {
+                server: 0,
+                count: 1,
+            },
+        }),
+        3 => Ok(End::Moved {
+            prefix: id(alloc, b"/1")?,
+            to: 1,
+        }),
+        4 => Ok(End::NoIds {
+            dir: id(alloc, b"/1")?,
+        }),
+        8 | 20 => Ok(End::Ended {
+            n: 1,
+            lease: LeaseNo {
+                server: 0,
+                count: 1,
+            },
+            until: 100,
+            now: 110,
+        }),
+        _ => Ok(End::All),
+    }
+}
+
+/// The numbers of two entries behind a refused one, where the note tells of one.
+fn gaps(alloc: Global, k: u64) -> Result<List<u64>, Fail> {
+    let mut gaps = List::new(alloc);
+    if k == 8 {
+        gaps.push(2)?;
+        gaps.push(3)?;
+    }
+    Ok(gaps)
+}
+
+fn server_note(alloc: Global, k: u64) -> Result<ServerNote, Fail> {
+    let end = end(alloc, k)?;
+    match k {
+        0 => Ok(ServerNote::Grants { count: 3, end }),
+        1 => Ok(ServerNote::Grants { count: 1, end }),
+        2 | 3 => Ok(ServerNote::Grants { count: 0, end }),
+        4 => Ok(ServerNote::Grants { count: 2, end }),
+        5 => Ok(ServerNote::Renews { count: 2, end }),
+        6 => Ok(ServerNote::Frees { count: 1, end }),
+        7 | 8 => Ok(ServerNote::Admits {
+            count: 8_u64.saturating_sub(k),
+            end,
+            gaps: gaps(alloc, k)?,
+        }),
+        9 => Ok(ServerNote::Reaps { count: 2 }),
+        10 => Ok(ServerNote::Recalls { count: 1 }),
+        11 => Ok(ServerNote::Idle),
+        _ => Ok(ServerNote::Strange),
+    }
+}
+
+/// Why a server keeps what it was to hand over, by the number of the note that says so.
+fn refusal(alloc: Global, k: u64) -> Result<Refusal, Fail> {
+    match k {
+        37 => Ok(Refusal::NotMine {
+            prefix: id(alloc, b"/1")?,
+            to: 1,
+        }),
+        38 => Ok(Refusal::NoFile),
+        39 => Ok(Refusal::Same),
+        40 => Ok(Refusal::Busy {
+            txn: TxnNo {
+                server: 0,
+                count: 1,
+            },
+        }),
+        _ => Ok(Refusal::Paths {
+            no: PathNo {
+                server: 0,
+                count: 1,
+            },
+        }),
+    }
+}
+
+fn note_of_a_move(alloc: Global, k: u64) -> Result<ServerNote, Fail> {
+    match k {
+        35 => Ok(ServerNote::Installs {
+            prefix: id(alloc, b"/1")?,
+        }),
+        36 => Ok(ServerNote::Moves {
+            prefix: id(alloc, b"/1")?,
+            to: 1,
+        }),
+        _ => Ok(ServerNote::Stays {
+            refusal: refusal(alloc, k)?,
+        }),
+    }
+}
+
+fn client_note(alloc: Global, k: u64) -> Result<ClientNote, Fail> {
+    let end = end(alloc, k)?;
+    match k {
+        13 => Ok(ClientNote::Ships { count: 1, to: 0 }),
+        14 => Ok(ClientNote::Releases { count: 1, to: 0 }),
+        15 => Ok(ClientNote::Renews { count: 2, to: 0 }),
+        16 => Ok(ClientNote::Idle),
+        17 => Ok(ClientNote::Granted { count: 1, end }),
+        18 => Ok(ClientNote::Renewed { count: 2, end }),
+        19 => Ok(ClientNote::Released { count: 1, end }),
+        20 => Ok(ClientNote::Shipped { count: 0, end }),
+        21 => Ok(ClientNote::Recall {
+            no: LeaseNo {
+                server: 0,
+                count: 2,
+            },
+        }),
+        _ => Ok(ClientNote::Strange),
+    }
+}
+
+/// What the create of a name in the root needs.
+fn needs_of_a_create(alloc: Global) -> Result<List<Need>, Fail> {
+    let mut needs = List::new(alloc);
+    needs.push(Need::Lease(Field::Life(id(alloc, b"/")?), LeaseKind::Shared))?;
+    let child = Field::Child(id(alloc, b"/")?, name(alloc, b"a")?);
+    needs.push(Need::Lease(child, LeaseKind::Exclusive))?;
+    needs.push(Need::Fresh(id(alloc, b"/")?))?;
+    Ok(needs)
+}
+
+/// What a rename needs of the file that it moves.
+fn needs_of_a_rename(alloc: Global) -> Result<List<Need>, Fail> {
+    let mut needs = List::new(alloc);
+    let own = Field::Own(id(alloc, b"/1")?);
+    needs.push(Need::Lease(own, LeaseKind::Exclusive))?;
+    let other = Field::Other(id(alloc, b"/1")?, Mode::DenyD);
+    needs.push(Need::Lease(other, LeaseKind::Shared))?;
+    Ok(needs)
+}
+
+fn act(alloc: Global, k: u64) -> Result<Act, Fail> {
+    match k {
+        23 => Ok(Act::Replied {
+            n: 1,
+            reply: Reply::Made,
+        }),
+        24 => Ok(Act::ReadNow {
+            n: 2,
+            reply: Reply::Found(id(alloc, b"/1")?),
+        }),
+        25 => Ok(Act::Asked {
+            needs: needs_of_a_create(alloc)?,
+            to: 0,
+        }),
+        26 => Ok(Act::Asked {
+            needs: needs_of_a_rename(alloc)?,
+            to: 1,
+        }),
+        27 => Ok(Act::Busy {
+            what: Busy::Exchange,
+        }),
+        28 => Ok(Act::Busy { what: Busy::Log }),
+        29 => Ok(Act::Busy { what: Busy::Led }),
+        30 => Ok(Act::NoIds {
+            dir: id(alloc, b"/1")?,
+        }),
+        _ => Ok(Act::Over { n: 1 }),
+    }
+}
+
+fn note(alloc: Global, k: u64) -> Result<Note, Fail> {
+    match k {
+        0..=12 => Ok(Note::Server(server_note(alloc, k)?)),
+        13..=22 => Ok(Note::Client(client_note(alloc, k)?)),
+        23..=31 => Ok(Note::Act(act(alloc, k)?)),
+        32 => Ok(Note::None),
+        33 => Ok(Note::Part),
+        34 => Ok(Note::Strange),
+        _ => Ok(Note::Server(note_of_a_move(alloc, k)?)),
+    }
+}
+
+#[test]
+fn writes_notes(rt: HostRuntime) -> Result<(), Fail> {
+    let alloc = rt.alloc();
+    let mut k = 0;
+    for text in NOTES {
+        let mut out = Vec::new(alloc);
+        put_note(alloc, &note(alloc, k)?, &mut out)?;
+        assert_eq!(rt; out.as_slice(), text);
+        k = k.saturating_add(1);
+    }
+    Ok(())
+}

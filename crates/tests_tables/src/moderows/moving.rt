@@ -1,0 +1,222 @@
+//! Rows that go to another server, and rows that come from one.
+ghost use Rattle.std.specs.Prelude.{◌≡◌};
+ghost use Rattle.fs_moderows.specs.Moving.{are_on_modes};
+
+use crate::moderows::{TXN, WRITES, number, opens};
+use fs_field::{Field, LeaseKind, Row};
+use fs_ident::{FileId, List, Session};
+use fs_map::{FileMap, MapPiece};
+use fs_moderows::ModeRows;
+use fs_modes::{Mode, Modes};
+use std::alloc::Global;
+use std::process::Abort;
+use std::test::Fail;
+
+/// That a session may change whether it writes a file, or what it was told of others that do.
+#[derive(Clone, Copy)]
+enum Tells {
+    Own,
+    Others(Option<bool>),
+}
+
+/// A row: its number, its session, its file and what it tells.
+type Told = (u64, u16, &'static [u8], Tells);
+
+const FILE: &[u8] = b"/1";
+
+fn row(alloc: Global, told: Told) -> Result<Row, Fail> {
+    let (count, session, file, tells) = told;
+    let file = FileId::parse(alloc, file)?;
+    let (field, kind, promise) = match tells {
+        Tells::Own => (Field::SelfW(file, Mode::AccW), LeaseKind::Exclusive, None),
+        Tells::Others(promise) => (Field::Other(file, Mode::AccW), LeaseKind::Shared, promise),
+    };
+    Ok(Row {
+        no: number(count),
+        session: Session(session),
+        field,
+        kind,
+        until: 100,
+        promise,
+        lock: None,
+    })
+}
+
+fn rows(alloc: Global, told: &[Told]) -> Result<List<Row>, Fail> {
+    let mut rows = List::new(alloc);
+    for one in told {
+        rows.push(row(alloc, *one)?)?;
+    }
+    Ok(rows)
+}
+
+fn are_on_modes(rows: &List<Row>) -> bool
+    ensures { result ≡ are_on_modes rows.now }
+{
+    rows.as_slice().iter().all(|row| !row.field.tells_no_mode())
+}
+
+/// Who has handles on which file.
+type Selves = List<(FileId, List<(Session, Modes)>)>;
+
+/// These sessions write the file.
+fn writers(alloc: Global, sessions: &[u16]) -> Result<Selves, Fail> {
+    let mut selves = List::new(alloc);
+    selves.push((FileId::parse(alloc, FILE)?, opens(alloc, sessions, WRITES)?))?;
+    Ok(selves)
+}
+
+/// Whether the rows fit, and are in the table then.
+fn come(alloc: Global, table: &mut ModeRows, selves: &Selves, told: &[Told]) -> Result<bool, Fail> {
+    let more = rows(alloc, told)?;
+    if !are_on_modes(&more) {
+        return Err(Fail::from("a row is on no mode"));
+    }
+    if !table.fits(selves, &more) {
+        return Ok(false);
+    }
+    table.join(alloc, more)?;
+    Ok(true)
+}
+
+/// The rows of a table, those that come, the sessions that write the file 1, and whether they fit.
+type Case = (&'static [Told], &'static [Told], &'static [u16], bool);
+
+/// The first session may begin to write, or stop.
+const OWN: Told = (1, 1, FILE, Tells::Own);
+
+/// The second was told that another writes, that none does, and nothing.
+const TRUE: Told = (2, 2, FILE, Tells::Others(Some(true)));
+
+const FALSE: Told = (2, 2, FILE, Tells::Others(Some(false)));
+
+const NOTHING: Told = (2, 2, FILE, Tells::Others(None));
+
+/// The third may stop writing.
+const THIRD: Told = (3, 3, FILE, Tells::Own);
+
+const CASES: [Case; 16] = [
+    (&[], &[OWN, FALSE], &[], false),
+    (&[], &[FALSE, OWN], &[], false),
+    (&[OWN], &[FALSE], &[3], false),
+    (&[FALSE], &[OWN], &[3], false),
+    (&[OWN], &[NOTHING], &[3], false),
+    (&[OWN], &[TRUE], &[1, 3], true),
+    (&[TRUE], &[OWN], &[1, 3], true),
+    (&[OWN], &[TRUE], &[1, 2], false),
+    (&[TRUE], &[OWN], &[1, 2], false),
+    (&[OWN, THIRD], &[TRUE], &[1, 3], false),
+    (&[OWN], &[TRUE, THIRD], &[1, 3, 4], true),
+    (&[TRUE, OWN], &[THIRD], &[1, 3], false),
+    (&[TRUE], &[OWN, THIRD], &[1, 3], false),
+    (
+        &[OWN],
+        &[(2, 1, FILE, Tells::Others(Some(false)))],
+        &[],
+        true,
+    ),
+    (
+        &[OWN],
+        &[(2, 2, b"/2", Tells::Others(Some(false)))],
+        &[],
+        true,
+    ),
+    (&[OWN], &[(1, 3, FILE, Tells::Own)], &[], false),
+];
+
+#[test]
+fn rows_come_where_they_fit(rt: HostRuntime) -> Result<(), Fail> {
+    let alloc = rt.alloc();
+    for (here, more, sessions, fit) in CASES {
+        let mut table = ModeRows::new(alloc);
+        let selves = writers(alloc, sessions)?;
+        assert!(rt; come(alloc, &mut table, &selves, here)?);
+        assert_eq!(rt; come(alloc, &mut table, &selves, more)?, fit);
+    }
+    Ok(())
+}
+
+/// What is below the prefix goes to another server.
+fn given(rt: &impl Abort, alloc: Global, prefix: &[u8]) -> Result<MapPiece, Fail> {
+    let prefix = FileId::parse(alloc, prefix)?;
+    let mut map = FileMap::new(alloc)?;
+    let owner = map.owner(&prefix).1;
+    assert!(rt; owner == 0);
+    Ok(map.give(alloc, 0, &prefix, 1)?)
+}
+
+/// The prefix, whether the first and the second row go, and whether the lock on the first keeps them.
+const GOES: [(&[u8], bool, bool, bool); 4] = [
+    (b"/", true, true, true),
+    (b"/1", true, false, true),
+    (b"/2", false, true, false),
+    (b"/3", false, false, false),
+];
+
+/// A row on the first file, which a transaction keeps, and one on a file below the second.
+fn two_rows(alloc: Global) -> Result<ModeRows, Fail> {
+    let mut table = ModeRows::new(alloc);
+    let none = List::new(alloc);
+    let second = (2, 2, b"/2/1".as_slice(), Tells::Others(Some(false)));
+    come(alloc, &mut table, &none, &[OWN, second])?;
+    table.lock(number(1), TXN);
+    Ok(table)
+}
+
+fn is_kept(alloc: Global, prefix: &FileId) -> Result<bool, Fail> {
+    let table = two_rows(alloc)?;
+    let map = FileMap::new(alloc)?;
+    Ok(table.locked_in(prefix, &map, 0).is_some())
+}
+
+fn is_among(rows: &List<Row>, count: u64) -> bool {
+    rows.as_slice().iter().any(|row| row.no == number(count))
+}
+
+/// Whether the first and the second row are among these.
+fn among(rows: &List<Row>) -> (bool, bool) {
+    (is_among(rows, 1), is_among(rows, 2))
+}
+
+/// Whether they are in the table no more.
+fn gone(table: &ModeRows) -> (bool, bool) {
+    (
+        table.row(number(1)).is_none(),
+        table.row(number(2)).is_none(),
+    )
+}
+
+/// Which of them are read as what would go.
+fn read(alloc: Global, piece: &MapPiece) -> Result<(bool, bool), Fail> {
+    let table = two_rows(alloc)?;
+    let rows = table.live(0, 1).given(alloc, piece)?;
+    Ok(among(&rows))
+}
+
+/// Which of them go, and are gone then.
+fn split(alloc: Global, piece: &MapPiece) -> Result<((bool, bool), (bool, bool)), Fail> {
+    let mut table = two_rows(alloc)?;
+    let rows = table.split(alloc, piece)?;
+    Ok((among(&rows), gone(&table)))
+}
+
+/// Which of them are dropped as what went.
+fn left(alloc: Global, piece: &MapPiece) -> Result<(bool, bool), Fail> {
+    let mut table = two_rows(alloc)?;
+    table.leave(piece);
+    Ok(gone(&table))
+}
+
+#[test]
+fn rows_go_with_their_files(rt: HostRuntime) -> Result<(), Fail> {
+    let alloc = rt.alloc();
+    for (prefix, first, second, kept) in GOES {
+        let piece = given(&rt, alloc, prefix)?;
+        let goes = (first, second);
+        assert_eq!(rt; is_kept(alloc, &FileId::parse(alloc, prefix)?)?, kept);
+        assert_eq!(rt; read(alloc, &piece)?, goes);
+        assert_eq!(rt; split(alloc, &piece)?, (goes, goes));
+        assert_eq!(rt; left(alloc, &piece)?, goes);
+    }
+    Ok(())
+}

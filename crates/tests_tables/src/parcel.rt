@@ -1,0 +1,213 @@
+//! Parcels made by hand, and servers that they come to.
+ghost use Rattle.std.specs.Prelude.{◌≡◌, true, IfOk, OnOk};
+ghost use Rattle.fs_record.specs.Moving.{AreEachRecords};
+ghost use Rattle.fs_record.specs.Records.{IsRecord};
+ghost use Rattle.fs_parcel.specs.Rows.{AreRows, both};
+
+mod fitting;
+mod moving;
+mod refusing;
+mod shown;
+
+use fs_field::{Field, LeaseKind, Row};
+use fs_ident::{FileId, Kind, LeaseNo, List, Name, Session, TxnNo};
+use fs_map::{FileMap, MapPiece};
+use fs_model::{Handle, Node};
+use fs_moderows::ModeRows;
+use fs_modes::{Mode, Modes};
+use fs_parcel::{fits, install};
+use fs_record::{Parcel, Record, Records};
+use fs_rows::Rows;
+use std::alloc::Global;
+use std::test::Fail;
+
+/// The transaction that keeps rows.
+const TXN: TxnNo = TxnNo {
+    server: 0,
+    count: 7,
+};
+
+const WRITES: Modes = Modes {
+    acc_r: false,
+    acc_w: true,
+    acc_d: false,
+    deny_r: false,
+    deny_w: false,
+    deny_d: false,
+};
+
+/// What a row is on: the life of a file, which a transaction may keep; whether its session writes a file; and what it
+/// was told of others that do.
+#[derive(Clone, Copy)]
+enum On {
+    Life,
+    KeptLife,
+    Own,
+    Others(Option<bool>),
+}
+
+/// A row: its number, its session, its file and what it is on.
+type Told = (u64, u16, &'static str, On);
+
+/// A record: its file, the names in it, each of one letter, and the sessions that write it.
+type Kept = (&'static str, &'static [u8], &'static [u16]);
+
+/// A parcel: its prefix, which identifiers it gives, its records and its rows.
+type Sent = (
+    &'static str,
+    &'static [(&'static str, bool)],
+    &'static [Kept],
+    &'static [Told],
+);
+
+fn id(alloc: Global, text: &str) -> Result<FileId, Fail> {
+    Ok(FileId::parse(alloc, text.as_bytes())?)
+}
+
+fn row(alloc: Global, (count, session, file, on): Told) -> Result<Row, Fail> {
+    let file = id(alloc, file)?;
+    let (field, kind, promise) = match on {
+        On::Life | On::KeptLife => (Field::Life(file), LeaseKind::Exclusive, None),
+        On::Own => (Field::SelfW(file, Mode::AccW), LeaseKind::Exclusive, None),
+        On::Others(promise) => (Field::Other(file, Mode::AccW), LeaseKind::Shared, promise),
+    };
+    Ok(Row {
+        no: LeaseNo { server: 0, count },
+        session: Session(session),
+        field,
+        kind,
+        until: 100,
+        promise,
+        lock: lock(on),
+    })
+}
+
+fn lock(on: On) -> Option<TxnNo> {
+    match on {
+        On::KeptLife => Some(TXN),
+        _ => None,
+    }
+}
+
+fn record(alloc: Global, names: &[u8], writers: &[u16]) -> Result<Record, Fail> {
+    let mut node = Node::new(alloc, Kind::Dir, None);
+    for letter in names {
+        let name = Name::new(alloc, &[*letter])?;
+        node.children.push((name, FileId::root(alloc)))?;
+    }
+    for session in writers {
+        node.handles.push(Handle {
+            session: Session(*session),
+            h: 1,
+            modes: WRITES,
+        })?;
+    }
+    Ok(Record { node, next: 1 })
+}
+
+fn records(alloc: Global, kept: &[Kept]) -> Result<List<(FileId, Record)>, Fail> {
+    let mut records = List::new(alloc);
+    for (file, names, writers) in kept {
+        records.push((id(alloc, file)?, record(alloc, names, writers)?))?;
+    }
+    Ok(records)
+}
+
+fn rows(alloc: Global, told: &[Told]) -> Result<List<Row>, Fail> {
+    let mut rows = List::new(alloc);
+    for one in told {
+        rows.push(row(alloc, *one)?)?;
+    }
+    Ok(rows)
+}
+
+fn piece(alloc: Global, prefix: &str, places: &[(&str, bool)]) -> Result<MapPiece, Fail> {
+    let mut given = List::new(alloc);
+    for (place, value) in places {
+        given.push((id(alloc, place)?, *value))?;
+    }
+    Ok(MapPiece {
+        prefix: id(alloc, prefix)?,
+        given,
+    })
+}
+
+fn parcel(alloc: Global, (prefix, given, kept, told): Sent) -> Result<Parcel, Fail> {
+    Ok(Parcel {
+        prefix: id(alloc, prefix)?,
+        piece: piece(alloc, prefix, given)?,
+        records: records(alloc, kept)?,
+        rows: rows(alloc, told)?,
+    })
+}
+
+/// A server: its number and its tables.
+#[derive(Drop)]
+struct Server {
+    me: u8,
+    records: Records,
+    rows: Rows,
+    modes: ModeRows,
+    map: FileMap,
+}
+
+/// A server with no record and no row; it knows of this other one as that of all files.
+fn begun(alloc: Global, me: u8, other: u8) -> Result<Server, Fail>
+    ensures { IfOk result (λ s. AreRows (both s.rows s.modes)) }
+{
+    let mut map = FileMap::new(alloc)?;
+    map.hint(alloc, &FileId::root(alloc), other)?;
+    Ok(Server {
+        me,
+        records: Records::new(alloc, false)?,
+        rows: Rows::new(alloc),
+        modes: ModeRows::new(alloc),
+        map,
+    })
+}
+
+/// Whether the parcel fits, and is put in its place then.
+fn come(alloc: Global, s: &mut Server, p: Parcel) -> Result<bool, Fail>
+    requires { AreRows (both s.old.rows s.old.modes) }
+    ensures { OnOk result (AreRows (both s.new.rows s.new.modes)) }
+{
+    s.rows.all();
+    s.modes.all();
+    if !fits(alloc, &s.records, &s.rows, &s.modes, &s.map, s.me, &p)? {
+        return Ok(false);
+    }
+    if !are_records(p.records.as_slice()) {
+        return Err(Fail::from("no record"));
+    }
+    let me = s.me;
+    install(
+        alloc,
+        &mut s.records,
+        &mut s.rows,
+        &mut s.modes,
+        &mut s.map,
+        me,
+        p,
+    )?;
+    Ok(true)
+}
+
+/// Whether each is a record.
+fn are_records(records: &[(FileId, Record)]) -> bool
+    ensures { result ≡ true → AreEachRecords records.now }
+{
+    let mut rest = records;
+    while let Some((first, later)) = rest.split_first() {
+        if !is_record(&first.1) {
+            return false;
+        }
+        rest = later;
+    }
+    true
+}
+
+fn is_record(kept: &Record) -> bool
+    ensures { result ≡ true → IsRecord kept.now }
+{
+    kept.next >= 1 && kept.next <= 4294967296 && kept.is_in_order()
+}

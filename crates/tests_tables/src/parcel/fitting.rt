@@ -1,0 +1,187 @@
+//! Which parcels fit.
+ghost use Rattle.std.specs.Prelude.{◌≡◌, IfOk};
+ghost use Rattle.fs_parcel.specs.Rows.{AreRows, both};
+
+use crate::parcel::shown::server_text;
+use crate::parcel::{On, Sent, Server, are_records, begun, come, id, parcel};
+use fs_ident::FileId;
+use fs_parcel::{fits_at, install_at};
+use fs_record::Parcel;
+use std::alloc::Global;
+use std::process::Abort;
+use std::test::Fail;
+
+/// What came once, of which the rows are left: one of each table.
+const OLD: Sent = (
+    "/1",
+    &[("/1", true)],
+    &[("/1", b"", &[])],
+    &[(1, 1, "/1/2", On::Life), (2, 1, "/1/2", On::Own)],
+);
+
+/// What came once and is left: a file.
+const FILE: Sent = ("/5", &[("/5", true)], &[("/5", b"", &[])], &[]);
+
+/// Server 1 with these rows and this file. Of both parcels it manages nothing more.
+fn here(rt: &impl Abort, alloc: Global) -> Result<Server, Fail>
+    ensures { IfOk result (λ s. AreRows (both s.rows s.modes)) }
+{
+    let mut s = begun(alloc, 1, 0)?;
+    assert!(rt; come(alloc, &mut s, parcel(alloc, OLD)?)?);
+    let gone = parcel(alloc, OLD)?;
+    s.records.leave(&gone.piece);
+    assert!(rt; come(alloc, &mut s, parcel(alloc, FILE)?)?);
+    s.map.hint(alloc, &FileId::root(alloc), 0)?;
+    s.map.hint(alloc, &id(alloc, "/7")?, 1)?;
+    Ok(s)
+}
+
+const HERE: &str = "/ s0 /7 s1 | /5:0 | 1 | 2 ";
+
+const WHOLE: &[(&str, bool)] = &[("/1", true)];
+
+/// Parcels, and whether they fit.
+const CASES: [(Sent, bool); 20] = [
+    // one of each kind of row, and another that lets both stand
+    (
+        (
+            "/1",
+            WHOLE,
+            &[("/1", b"ab", &[]), ("/1/3", b"", &[1, 3])],
+            &[
+                (3, 1, "/1/1", On::Life),
+                (4, 1, "/1/3", On::Own),
+                (5, 2, "/1/3", On::Others(Some(true))),
+            ],
+        ),
+        true,
+    ),
+    (("/1", WHOLE, &[], &[(3, 1, "/1/2", On::Life)]), true),
+    (("/1", &[("/1", true), ("/1/2", false)], &[], &[]), true),
+    // the piece is not reduced, or does not begin with the prefix
+    (("/1", &[("/1", true), ("/1/2", true)], &[], &[]), false),
+    (("/1", &[("/1/2", true)], &[], &[]), false),
+    // a record or a row of another file
+    (("/1", WHOLE, &[("/2", b"", &[])], &[]), false),
+    (("/1", WHOLE, &[], &[(3, 1, "/2", On::Life)]), false),
+    (
+        (
+            "/1",
+            &[("/1", true), ("/1/3", false)],
+            &[("/1/3", b"", &[])],
+            &[],
+        ),
+        false,
+    ),
+    // two records of one file, and two rows of one number
+    (
+        ("/1", WHOLE, &[("/1", b"", &[]), ("/1", b"", &[])], &[]),
+        false,
+    ),
+    (
+        (
+            "/1",
+            WHOLE,
+            &[],
+            &[(3, 1, "/1/1", On::Life), (3, 1, "/1/3", On::Own)],
+        ),
+        false,
+    ),
+    // names or handles that do not rise
+    (("/1", WHOLE, &[("/1", b"ba", &[])], &[]), false),
+    (("/1", WHOLE, &[("/1", b"", &[3, 1])], &[]), false),
+    // an identifier is managed here, or has a record here
+    (("/7/1", &[("/7/1", true)], &[], &[]), false),
+    (("/5", &[("/5", true)], &[], &[]), false),
+    // a conflict with a row here
+    (("/1", WHOLE, &[], &[(3, 2, "/1/2", On::Life)]), false),
+    (
+        ("/1", WHOLE, &[], &[(3, 2, "/1/2", On::Others(None))]),
+        false,
+    ),
+    // a conflict within the parcel
+    (
+        (
+            "/1",
+            WHOLE,
+            &[],
+            &[(3, 1, "/1/1", On::Life), (4, 2, "/1/1", On::Life)],
+        ),
+        false,
+    ),
+    (
+        (
+            "/1",
+            WHOLE,
+            &[("/1/3", b"", &[])],
+            &[
+                (4, 1, "/1/3", On::Own),
+                (5, 2, "/1/3", On::Others(Some(true))),
+            ],
+        ),
+        false,
+    ),
+    // a number that stands here, in the other table
+    (("/1", WHOLE, &[], &[(2, 1, "/1/1", On::Life)]), false),
+    (("/1", WHOLE, &[], &[(1, 1, "/1/1", On::Own)]), false),
+];
+
+#[test]
+fn parcels_of_honest_servers_fit(rt: HostRuntime) -> Result<(), Fail> {
+    let alloc = rt.alloc();
+    assert_eq!(rt; server_text(alloc, &here(&rt, alloc)?)?.as_str(), HERE);
+    let mut n = 0u32;
+    for (sent, fit) in CASES {
+        let mut s = here(&rt, alloc)?;
+        let came = come(alloc, &mut s, parcel(alloc, sent)?)?;
+        assert_eq!(rt; came, fit, "the case {n}");
+        n = n.wrapping_add(1);
+    }
+    Ok(())
+}
+
+/// Whether the parcel fits at the reading, and is put in its place then.
+fn come_at(alloc: Global, s: &mut Server, now: u64, p: Parcel) -> Result<bool, Fail>
+    requires { AreRows (both s.old.rows s.old.modes) }
+{
+    s.rows.all();
+    s.modes.all();
+    let off = s.rows.live(now, 10);
+    let on = s.modes.live(now, 10);
+    if !fits_at(alloc, &s.records, &off, &on, &s.map, s.me, &p)? {
+        return Ok(false);
+    }
+    if !are_records(p.records.as_slice()) {
+        return Err(Fail::from("no record"));
+    }
+    let me = s.me;
+    install_at(
+        alloc,
+        &mut s.records,
+        &mut s.rows,
+        &mut s.modes,
+        &mut s.map,
+        me,
+        now,
+        10,
+        p,
+    )?;
+    Ok(true)
+}
+
+/// What conflicts with a row that is over as soon as the skew is.
+const CONFLICTS: Sent = ("/1", WHOLE, &[], &[(3, 2, "/1/2", On::Life)]);
+
+const CAME: &str = "/ s0 /1 s1 /7 s1 | /5:0 | 3 | ";
+
+#[test]
+fn rows_that_are_over_do_not_conflict(rt: HostRuntime) -> Result<(), Fail> {
+    let alloc = rt.alloc();
+    for (now, fit, text) in [(109, false, HERE), (110, true, CAME)] {
+        let mut s = here(&rt, alloc)?;
+        let came = come_at(alloc, &mut s, now, parcel(alloc, CONFLICTS)?)?;
+        assert_eq!(rt; came, fit);
+        assert_eq!(rt; server_text(alloc, &s)?.as_str(), text);
+    }
+    Ok(())
+}

@@ -1,0 +1,146 @@
+//! A directory goes from one server to another.
+ghost use Rattle.std.specs.Prelude.{◌≡◌, IfOk, OnOk};
+ghost use Rattle.fs_parcel.specs.Rows.{AreRows, both};
+
+use crate::parcel::shown::{parcel_text, server_text};
+use crate::parcel::{On, Sent, Server, begun, come, id, parcel};
+use fs_ident::{FileId, PathNo};
+use fs_parcel::{MoveError, pack_up, packed, refusal};
+use fs_record::Parcel;
+use std::alloc::Global;
+use std::process::Abort;
+use std::test::Fail;
+
+/// All but what is below one file, which another server has: a directory with a file in it, which the second session
+/// writes, and another one, with a row of each table on either.
+const ALL: Sent = (
+    "/",
+    &[("/", true), ("/1/3", false)],
+    &[
+        ("/", b"ab", &[]),
+        ("/1", b"a", &[]),
+        ("/1/2", b"", &[2]),
+        ("/2", b"", &[]),
+    ],
+    &[
+        (1, 1, "/1/2", On::Life),
+        (2, 1, "/1/2", On::Others(Some(true))),
+        (3, 1, "/2", On::Life),
+        (4, 2, "/2", On::Own),
+    ],
+);
+
+/// Server 0 with these files, which came from server 9.
+pub(super) fn first_server(rt: &impl Abort, alloc: Global, sent: Sent) -> Result<Server, Fail>
+    ensures { IfOk result (λ s. AreRows (both s.rows s.modes)) }
+{
+    let mut s = begun(alloc, 0, 9)?;
+    assert!(rt; come(alloc, &mut s, parcel(alloc, sent)?)?);
+    Ok(s)
+}
+
+/// What the server has below the prefix goes to another.
+pub(super) fn go(
+    alloc: Global,
+    s: &mut Server,
+    prefix: &FileId,
+    to: u8,
+    through: Option<PathNo>,
+) -> Result<Parcel, MoveError>
+    requires { AreRows (both s.old.rows s.old.modes) }
+    ensures { AreRows (both s.new.rows s.new.modes) }
+{
+    s.rows.all();
+    s.modes.all();
+    let me = s.me;
+    pack_up(
+        alloc,
+        &mut s.records,
+        &mut s.rows,
+        &mut s.modes,
+        &mut s.map,
+        me,
+        prefix,
+        to,
+        through,
+    )
+}
+
+/// What went, or why nothing did.
+pub(super) fn went(
+    alloc: Global,
+    s: &mut Server,
+    prefix: &str,
+    to: u8,
+    through: Option<PathNo>,
+) -> Result<String, Fail>
+    requires { AreRows (both s.old.rows s.old.modes) }
+    ensures { AreRows (both s.new.rows s.new.modes) }
+{
+    match go(alloc, s, &id(alloc, prefix)?, to, through) {
+        Ok(p) => parcel_text(alloc, &p),
+        Err(why) => Ok(format!(in alloc; "{why}")?),
+    }
+}
+
+/// A copy of what would go.
+fn copied(alloc: Global, s: &Server, prefix: &FileId) -> Result<Parcel, Fail>
+    requires { AreRows (both s.now.rows s.now.modes) }
+{
+    if s.map.owner(prefix).1 != s.me {
+        return Err(Fail::from("the prefix is at another server"));
+    }
+    let off = s.rows.all();
+    let on = s.modes.all();
+    Ok(packed(alloc, &s.records, &off, &on, &s.map, s.me, prefix)?)
+}
+
+/// Whether it may go, if no path lease goes through.
+fn may_go(alloc: Global, s: &Server, prefix: &FileId, to: u8) -> Result<bool, Fail> {
+    let off = s.rows.all();
+    let on = s.modes.all();
+    let why = refusal(alloc, &s.records, &off, &on, &s.map, s.me, prefix, to, None)?;
+    Ok(why.is_none())
+}
+
+const PARCEL: &str = "/1 true /1/3 false | /1:1 /1/2:0 | 1 2 ";
+
+const LEFT: &str = "/ s0 /1 s1 /1/3 s9 | /:2 /2:0 | 3 | 4 ";
+
+const CAME: &str = "/ s0 /1 s1 /1/3 s0 | /1:1 /1/2:0 | 1 | 2 ";
+
+/// The first directory goes from one to the other.
+fn moves(rt: &impl Abort, alloc: Global, s0: &mut Server, s1: &mut Server) -> Result<(), Fail>
+    requires from { AreRows (both s0.old.rows s0.old.modes) }
+    requires to { AreRows (both s1.old.rows s1.old.modes) }
+    ensures { OnOk result (AreRows (both s0.new.rows s0.new.modes)) }
+{
+    let p = go(alloc, s0, &id(alloc, "/1")?, 1, None)?;
+    assert_eq!(rt; parcel_text(alloc, &p)?.as_str(), PARCEL);
+    assert!(rt; come(alloc, s1, p)?);
+    Ok(())
+}
+
+#[test]
+fn a_directory_goes_to_another_server(rt: HostRuntime) -> Result<(), Fail> {
+    let alloc = rt.alloc();
+    let mut s0 = first_server(&rt, alloc, ALL)?;
+    let mut s1 = begun(alloc, 1, 0)?;
+    moves(&rt, alloc, &mut s0, &mut s1)?;
+    assert_eq!(rt; server_text(alloc, &s0)?.as_str(), LEFT);
+    assert_eq!(rt; server_text(alloc, &s1)?.as_str(), CAME);
+    let again = went(alloc, &mut s0, "/1", 1, None)?;
+    assert_eq!(rt; again.as_str(), "/1 is at s1");
+    Ok(())
+}
+
+#[test]
+fn what_would_go_is_read(rt: HostRuntime) -> Result<(), Fail> {
+    let alloc = rt.alloc();
+    let s0 = first_server(&rt, alloc, ALL)?;
+    let prefix = id(alloc, "/1")?;
+    assert!(rt; may_go(alloc, &s0, &prefix, 1)?);
+    let p = copied(alloc, &s0, &prefix)?;
+    assert_eq!(rt; parcel_text(alloc, &p)?.as_str(), PARCEL);
+    Ok(())
+}

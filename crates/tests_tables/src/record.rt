@@ -1,0 +1,400 @@
+//! Ample memory is enough, copies compared whole, and a few values from outside.
+ghost use Rattle.std.specs.Prelude.{◌≡◌, true, IfOk};
+ghost use Rattle.std.specs.List.{list_all};
+ghost use Rattle.fs_record.specs.Applied.{is_undoable};
+ghost use Rattle.fs_record.specs.Records.{IsRecord};
+
+use fs_field::{Effect, Field};
+use fs_ident::{FileId, Kind, List, Name, Session, Twin};
+use fs_map::MapPiece;
+use fs_model::{Node, Op, Reply};
+use fs_modes::Modes;
+use fs_record::{FreshError, Record, Records, effects, is_undoable, tells_its_effects};
+use std::alloc::Global;
+use std::fmt::Debug;
+use std::test::Fail;
+
+/// How the value is written for programmers.
+fn shown<T: Debug + Drop>(alloc: Global, x: T) -> Result<String, Fail> {
+    Ok(format!(in alloc; "{x:?}")?)
+}
+
+/// The records of one directory, so deep, with this next number.
+fn one_directory(alloc: Global, dir: &FileId, next: u64) -> Result<Records, Fail> {
+    let mut records = Records::new(alloc, false)?;
+    if next < 1 || next > 4294967296 {
+        return Ok(records);
+    }
+    let record = Record {
+        node: Node::new(alloc, Kind::Dir, None),
+        next,
+    };
+    records.put(dir.copy(alloc)?, record)?;
+    Ok(records)
+}
+
+/// The last number of the identifier that a directory gives, so deep, with this next number; 0 for `NoIds` and
+/// 4294967296 for `NoDir`, which a next number of 0 stands for too.
+fn given(alloc: Global, depth: usize, next: u64, borne: u32) -> Result<u64, Fail> {
+    let mut dir = FileId::root(alloc);
+    for _ in 0..depth {
+        dir = dir.child(alloc, 7)?;
+    }
+    let mut records = one_directory(alloc, &dir, next)?;
+    let mut numbers = List::new(alloc);
+    numbers.push(borne)?;
+    match records.fresh(alloc, &dir, &numbers) {
+        Ok(id) => Ok(last(&id)),
+        Err(FreshError::NoIds) => Ok(0),
+        Err(FreshError::NoDir) => Ok(4294967296),
+        Err(FreshError::Memory) => Err(Fail::from("memory")),
+    }
+}
+
+fn last(id: &FileId) -> u64 {
+    match id.numbers().last() {
+        Some(k) => u64::from(*k),
+        None => 0,
+    }
+}
+
+/// Depth, next number, a number that is borne, and what is given.
+const GIFTS: [(usize, u64, u32, u64); 7] = [
+    (0, 1, 2, 1),
+    (0, 1, 1, 2),
+    (0, 4294967295, 1, 4294967295),
+    (0, 4294967296, 1, 0),
+    (31, 1, 2, 1),
+    (32, 1, 2, 0),
+    (0, 0, 1, 4294967296),
+];
+
+#[test]
+fn numbers_are_given(rt: HostRuntime) -> Result<(), Fail> {
+    for (depth, next, borne, number) in GIFTS {
+        assert_eq!(rt; given(rt.alloc(), depth, next, borne)?, number);
+    }
+    Ok(())
+}
+
+fn create(alloc: Global) -> Result<Op, Fail> {
+    Ok(Op::Create {
+        dir: FileId::root(alloc),
+        name: Name::new(alloc, b"a")?,
+        kind: Kind::Dir,
+        id: Some(FileId::root(alloc).child(alloc, 1)?),
+    })
+}
+
+const CREATED: &str =
+    "List { items: [SetChild { dir: FileId { numbers: [] }, name: Name { bytes: [97] }, to: \
+    Some(FileId { numbers: [1] }) }, NewNode { file: FileId { numbers: [1] }, kind: Dir, dir: \
+    FileId { numbers: [] }, name: Name { bytes: [97] } }] }";
+
+/// The effects of the operation, if it and its reply tell them.
+#[tactic(auto, using(crate::proofs::Undoing::plain_effects))]
+fn told(alloc: Global, op: &Op, reply: Reply) -> Result<List<Effect>, Fail>
+    ensures { IfOk result (λ told. list_all is_undoable told ≡ true) }
+{
+    if tells_its_effects(op) {
+        return Ok(effects(alloc, Session(1), op, &reply)?);
+    }
+    Err(Fail::from("the effects are not told"))
+}
+
+#[test]
+fn a_create_has_two_effects(rt: HostRuntime) -> Result<(), Fail> {
+    let alloc = rt.alloc();
+    let told = told(alloc, &create(alloc)?, Reply::Made)?;
+    assert_eq!(rt; shown(alloc, told)?.as_str(), CREATED);
+    let reap = Op::Reap {
+        file: FileId::root(alloc),
+        session: Session(1),
+    };
+    assert!(rt; !tells_its_effects(&reap));
+    Ok(())
+}
+
+/// The records after a directory was made below the root, and the root was opened.
+fn busy(alloc: Global) -> Result<Records, Fail> {
+    let mut records = Records::new(alloc, true)?;
+    for e in told(alloc, &create(alloc)?, Reply::Made)?.as_slice() {
+        records.apply(alloc, e)?;
+    }
+    records.apply(alloc, &open(alloc))?;
+    Ok(records)
+}
+
+/// The root is opened.
+fn open(alloc: Global) -> Effect {
+    open_by(alloc, 2, 1)
+}
+
+fn open_by(alloc: Global, session: u16, h: u32) -> Effect {
+    Effect::AddHandle {
+        file: FileId::root(alloc),
+        session: Session(session),
+        h,
+        modes: Modes::NONE,
+    }
+}
+
+/// The files, and the record of each.
+fn content(alloc: Global, records: &Records) -> Result<String, Fail> {
+    let files = records.files(alloc)?;
+    let mut text = format!(in alloc; "{files:?}")?;
+    for file in files.as_slice() {
+        let record = format!(in alloc; " {:?}", records.get(file))?;
+        text.push_str(&record)?;
+    }
+    Ok(text)
+}
+
+const BUSY: &str =
+    "List { items: [FileId { numbers: [] }, FileId { numbers: [1] }] } Some(Record { node: \
+    Node { kind: Dir, parent: None, children: List { items: [(Name { bytes: [97] }, FileId { \
+    numbers: [1] })] }, size: 0, stamp: 0, handles: List { items: [Handle { session: \
+    Session(2), h: 1, modes: Modes { acc_r: false, acc_w: false, acc_d: false, deny_r: false, \
+    deny_w: false, deny_d: false } }] } }, next: 1 }) Some(Record { node: Node { kind: Dir, \
+    parent: Some((FileId { numbers: [] }, Name { bytes: [97] })), children: List { items: [] \
+    }, size: 0, stamp: 0, handles: List { items: [] } }, next: 1 })";
+
+#[test]
+fn records_are_copied(rt: HostRuntime) -> Result<(), Fail> {
+    let alloc = rt.alloc();
+    let twin = busy(alloc)?.copy(alloc)?;
+    assert_eq!(rt; content(alloc, &twin)?.as_str(), BUSY);
+    Ok(())
+}
+
+/// What the session sees of its handles on the root.
+fn own(alloc: Global, session: u16) -> Result<String, Fail> {
+    let field = Field::Own(FileId::root(alloc));
+    let value = busy(alloc)?.value_of(alloc, Session(session), &field)?;
+    shown(alloc, value)
+}
+
+const OPEN: &str =
+    "Own(List { items: [(1, Modes { acc_r: false, acc_w: false, acc_d: false, deny_r: false, \
+    deny_w: false, deny_d: false })] })";
+
+const SELVES: &str =
+    "List { items: [(Session(2), Modes { acc_r: false, acc_w: false, acc_d: false, deny_r: \
+    false, deny_w: false, deny_d: false })] }";
+
+#[test]
+fn a_handle_is_seen(rt: HostRuntime) -> Result<(), Fail> {
+    let alloc = rt.alloc();
+    assert_eq!(rt; own(alloc, 2)?.as_str(), OPEN);
+    assert_eq!(rt; own(alloc, 1)?.as_str(), "Own(List { items: [] })");
+    let selves = busy(alloc)?.selves(alloc, &FileId::root(alloc))?;
+    assert_eq!(rt; shown(alloc, selves)?.as_str(), SELVES);
+    Ok(())
+}
+
+/// The number that the root would give.
+fn next_number(alloc: Global, records: &Records) -> Result<u64, Fail> {
+    match records.fresh_id(alloc, &FileId::root(alloc), &List::new(alloc)) {
+        Ok(id) => Ok(last(&id)),
+        Err(_) => Err(Fail::from("no number")),
+    }
+}
+
+#[test]
+fn a_number_is_read_and_then_given(rt: HostRuntime) -> Result<(), Fail> {
+    let alloc = rt.alloc();
+    let root = FileId::root(alloc);
+    let mut records = Records::new(alloc, true)?;
+    assert!(rt; records.is_directory(&root));
+    assert_eq!(rt; next_number(alloc, &records)?, 1);
+    assert_eq!(rt; next_number(alloc, &records)?, 1);
+    records.gift(&root, 7);
+    assert_eq!(rt; next_number(alloc, &records)?, 8);
+    Ok(())
+}
+
+/// The same as one after the other.
+#[test]
+fn effects_are_done_together(rt: HostRuntime) -> Result<(), Fail> {
+    let alloc = rt.alloc();
+    let mut records = Records::new(alloc, true)?;
+    records.apply_all(alloc, &told(alloc, &create(alloc)?, Reply::Made)?)?;
+    records.apply(alloc, &open(alloc))?;
+    assert_eq!(rt; content(alloc, &records)?.as_str(), BUSY);
+    Ok(())
+}
+
+#[test]
+fn a_removal_is_not_taken_back(rt: HostRuntime) -> Result<(), Fail> {
+    let file = FileId::root(rt.alloc());
+    assert!(rt; !is_undoable(&Effect::RemoveNode { file }));
+    Ok(())
+}
+
+/// The root's records, opened by sessions 1 and 2; then session 1 loses its handles.
+fn reaped(alloc: Global) -> Result<Records, Fail> {
+    let root = FileId::root(alloc);
+    let mut records = Records::new(alloc, true)?;
+    for session in [1u16, 2] {
+        records.apply(alloc, &open_by(alloc, session, 1))?;
+        records.apply(alloc, &open_by(alloc, session, 2))?;
+    }
+    let effects = records.reap_effects(alloc, &root, Session(1))?;
+    for e in effects.as_slice() {
+        records.apply(alloc, e)?;
+    }
+    Ok(records)
+}
+
+#[test]
+fn a_session_loses_its_handles(rt: HostRuntime) -> Result<(), Fail> {
+    let alloc = rt.alloc();
+    let records = reaped(alloc)?;
+    let selves = records.selves(alloc, &FileId::root(alloc))?;
+    assert_eq!(rt; shown(alloc, selves)?.as_str(), SELVES);
+    assert_eq!(rt; busy(alloc)?.open_files(alloc)?.len(), 1);
+    assert!(rt; Records::new(alloc, true)?.open_files(alloc)?.is_empty());
+    Ok(())
+}
+
+/// The files of the records that move.
+const FILES: [&str; 7] = ["/", "/1", "/1/2", "/1/2/5", "/1/3", "/10", "/2"];
+
+/// The record of a directory in which so many files were made.
+fn directory(alloc: Global, made: u32) -> Record
+    ensures { IsRecord result }
+{
+    Record {
+        node: Node::new(alloc, Kind::Dir, None),
+        next: u64::from(made) + 1,
+    }
+}
+
+/// The records of these files, each with another next number.
+fn tree(alloc: Global) -> Result<Records, Fail> {
+    let mut records = Records::new(alloc, false)?;
+    let mut made = 0u32;
+    for file in FILES {
+        records.put(
+            FileId::parse(alloc, file.as_bytes())?,
+            directory(alloc, made),
+        )?;
+        made = made.wrapping_add(1);
+    }
+    Ok(records)
+}
+
+/// All from the prefix on, but for what is below the second file, unless that is the prefix too.
+fn piece(alloc: Global, prefix: &str, but: &str) -> Result<MapPiece, Fail> {
+    let mut given = List::new(alloc);
+    given.push((FileId::parse(alloc, prefix.as_bytes())?, true))?;
+    if but != prefix {
+        given.push((FileId::parse(alloc, but.as_bytes())?, false))?;
+    }
+    Ok(MapPiece {
+        prefix: FileId::parse(alloc, prefix.as_bytes())?,
+        given,
+    })
+}
+
+/// The files with their next numbers.
+fn numbered(alloc: Global, moved: &[(FileId, Record)]) -> Result<String, Fail> {
+    let mut text = String::new(alloc);
+    for (file, record) in moved {
+        let entry = format!(in alloc; "{file}:{} ", record.next)?;
+        text.push_str(&entry)?;
+    }
+    Ok(text)
+}
+
+/// All records, as the whole piece gives them.
+fn all_numbered(alloc: Global, records: &Records) -> Result<String, Fail> {
+    let all = records.given(alloc, &piece(alloc, "/", "/")?)?;
+    numbered(alloc, all.as_slice())
+}
+
+/// The prefix, what below it stays, the files that go with their next numbers, and those that are left.
+const MOVES: [(&str, &str, &str, &str); 5] = [
+    (
+        "/1",
+        "/1",
+        "/1:2 /1/2:3 /1/2/5:4 /1/3:5 ",
+        "/:1 /2:7 /10:6 ",
+    ),
+    (
+        "/1",
+        "/1/2",
+        "/1:2 /1/3:5 ",
+        "/:1 /1/2:3 /1/2/5:4 /2:7 /10:6 ",
+    ),
+    (
+        "/1/2/5",
+        "/1/2/5",
+        "/1/2/5:4 ",
+        "/:1 /1:2 /1/2:3 /1/3:5 /2:7 /10:6 ",
+    ),
+    (
+        "/9",
+        "/9",
+        "",
+        "/:1 /1:2 /1/2:3 /1/2/5:4 /1/3:5 /2:7 /10:6 ",
+    ),
+    ("/", "/1", "/:1 /2:7 /10:6 ", "/1:2 /1/2:3 /1/2/5:4 /1/3:5 "),
+];
+
+/// The records of files that the piece gives go, and come again; tells what went and what was left.
+fn moved_and_back(
+    alloc: Global,
+    records: &mut Records,
+    piece: &MapPiece,
+) -> Result<(String, String), Fail> {
+    let moved = records.split(alloc, piece)?;
+    let went = numbered(alloc, moved.as_slice())?;
+    let left = all_numbered(alloc, records)?;
+    records.join(alloc, moved)?;
+    Ok((went, left))
+}
+
+/// Whether those files go and these are left.
+fn moves(
+    alloc: Global,
+    records: &mut Records,
+    (prefix, but, goes, stays): (&str, &str, &str, &str),
+) -> Result<bool, Fail> {
+    let piece = piece(alloc, prefix, but)?;
+    let any = records.has_given(&piece);
+    let (went, left) = moved_and_back(alloc, records, &piece)?;
+    Ok(any != goes.is_empty() && went.as_str() == goes && left.as_str() == stays)
+}
+
+#[test]
+fn records_go_and_come(rt: HostRuntime) -> Result<(), Fail> {
+    let alloc = rt.alloc();
+    let mut records = tree(alloc)?;
+    let before = all_numbered(alloc, &records)?;
+    for row in MOVES {
+        assert!(rt; moves(alloc, &mut records, row)?);
+        assert_eq!(rt; all_numbered(alloc, &records)?.as_str(), before.as_str());
+    }
+    let deepest = piece(alloc, "/1/2/5", "/1/2/5")?;
+    let moved = records.given(alloc, &deepest)?;
+    records.leave_these(&deepest, &moved);
+    assert_eq!(rt;
+        all_numbered(alloc, &records)?.as_str(),
+        "/:1 /1:2 /1/2:3 /1/3:5 /2:7 /10:6 "
+    );
+    records.leave(&piece(alloc, "/1", "/1")?);
+    assert_eq!(rt; all_numbered(alloc, &records)?.as_str(), "/:1 /2:7 /10:6 ");
+    Ok(())
+}
+
+#[test]
+fn new_records_are_in_order(rt: HostRuntime) -> Result<(), Fail> {
+    let alloc = rt.alloc();
+    let records = busy(alloc)?;
+    match records.get(&FileId::root(alloc)) {
+        Some(record) => assert!(rt; record.is_in_order()),
+        None => {}
+    }
+    Ok(())
+}
