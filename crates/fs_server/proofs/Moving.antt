@@ -11,7 +11,7 @@ use Rattle.fs_ident.proofs.Passing.{all-In}
 use Rattle.fs_ident.proofs.Standing.{In-put}
 use Rattle.fs_field.specs.Table.{no_before, with_row}
 use Rattle.fs_field.specs.declared.row.Row.{Row}
-use Rattle.fs_map.specs.Lists.{is_piece, map_after_take}
+use Rattle.fs_map.specs.Lists.{is_piece}
 use Rattle.fs_map.specs.Map.{IsPiece, Owners, server_of}
 use Rattle.fs_map.specs.declared.piece.MapPiece.{MapPiece}
 use Rattle.fs_map.proofs.Owned.{piece_piece}
@@ -56,16 +56,15 @@ packed_here prefix records off on rows map me p s a b d e f g =
     ∙ ap (λ x. parcel_of s.records s.rows s.map x prefix) f
 
 -- its piece is one
-pub goes_piece : (prefix : List ℕ) (p : Parcel) (s : Server) → server_of s.map prefix ≡ s.me → p ≡ parcel_of s.records s.rows s.map s.me prefix → IsPiece p.piece.prefix p.piece.given
-goes_piece prefix p s mine e = subst (λ (x : Parcel). IsPiece x.piece.prefix x.piece.given) (sym e) (piece_piece s.map s.me prefix mine).0
+pub goes_piece : (prefix : List ℕ) (p : Parcel) (piece : MapPiece) (s : Server) → server_of s.map prefix ≡ s.me → p ≡ parcel_of s.records s.rows s.map s.me prefix → piece ≡ p.piece → IsPiece piece.prefix piece.given
+goes_piece prefix p piece s mine e same = subst (λ (x : MapPiece). IsPiece x.prefix x.given) (sym (same ∙ ap (λ (x : Parcel). x.piece) e)) (piece_piece s.map s.me prefix mine).0
 
 -- what goes is all that the server has below the prefix
-pub handed_over : (prefix : List ℕ) (to : ℕ) (p : Parcel) (m : Owners) (piece : MapPiece) (moved : Keyed Record) (s : Server) → p ≡ parcel_of s.records s.rows s.map s.me prefix → m ≡ map_after_take s.map to p.piece.prefix p.piece.given → piece ≡ p.piece
-    → changed (Leave m piece moved) s ≡ without_given prefix to s
-handed_over prefix to p m piece moved s parcel known same =
-    ap (λ x. changed (Leave m x moved) s) same
-    ∙ ap (λ x. changed (Leave x p.piece moved) s) known
-    ∙ ap (λ (x : Parcel). changed (Leave (map_after_take s.map to x.piece.prefix x.piece.given) x.piece moved) s) parcel
+pub handed_over : (prefix : List ℕ) (to : ℕ) (p : Parcel) (piece : MapPiece) (moved : Keyed Record) (s : Server) → p ≡ parcel_of s.records s.rows s.map s.me prefix → piece ≡ p.piece
+    → changed (Leave to piece moved) s ≡ without_given prefix to s
+handed_over prefix to p piece moved s parcel same =
+    ap (λ x. changed (Leave to x moved) s) same
+    ∙ ap (λ (x : Parcel). changed (Leave to x.piece moved) s) parcel
 
 -- the records that leave are those of its piece
 pub moved_over : (prefix : List ℕ) (p : Parcel) (piece : MapPiece) (moved : Keyed Record) (s : Server) → p ≡ parcel_of s.records s.rows s.map s.me prefix → piece ≡ p.piece → moved ≡ p.records
@@ -81,8 +80,8 @@ pub told_over : (prefix copy : List ℕ) (to : ℕ) (p : Parcel) (server : Serve
 told_over prefix copy to p server send admitted s a b d e f = rw (a, b, d, e, f) refl
 
 -- what is left is a server, with rows in order
-pub left_ready : (m : Owners) (piece : MapPiece) (moved : Keyed Record) (s : Server) → IsReady s → IsReady (changed (Leave m piece moved) s)
-left_ready m piece moved s r = record {
+pub left_ready : (to : ℕ) (piece : MapPiece) (moved : Keyed Record) (s : Server) → IsReady s → IsReady (changed (Leave to piece moved) s)
+left_ready to piece moved s r = record {
   server = record {
     few = r.server.few;
     skew = r.server.skew;

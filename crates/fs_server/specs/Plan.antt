@@ -3,6 +3,8 @@ use Rattle.std.specs.Prelude.{◌≡◌, ℕ, ◌+◌, ◌<◌, ◌≤◌, ◌^�
 use Rattle.std.specs.List.{list_all}
 use Rattle.fs_ident.specs.declared.limits.TheConstants.{LATEST}
 use Rattle.fs_msg.specs.declared.limits.TheConstants.{LONGEST}
+use Rattle.fs_map.specs.Lists.{map_after_take}
+use Rattle.fs_map.specs.Map.{IsPiece}
 use Rattle.fs_rows.specs.Given.{AreGiven}
 use Rattle.fs_rows.specs.Granted.{with_rows}
 use Rattle.fs_rows.specs.Moving.{rows_left}
@@ -34,10 +36,10 @@ changed (Renew until numbers) s = record s { rows = renewed_rows until numbers s
 changed (Free numbers) s = record s { rows = released_rows numbers s.rows }
 changed (Admit effects) s = record s { records = records_after_all s.records effects }
 changed (Reap count effects) s = record s { reaps = s.reaps + count; records = records_after_all s.records effects }
-changed (Leave map piece moved) s = record s {
+changed (Leave to piece moved) s = record s {
   records = records_left piece.prefix piece.given s.records;
   rows = rows_left piece.prefix piece.given s.rows;
-  map = map;
+  map = map_after_take s.map to piece.prefix piece.given;
 }
 changed (Install p) s = installed p s
 
@@ -59,11 +61,11 @@ pub record IsServer (s : Server) : Type 0 where
 
 -- ## Which plans can be committed
 
--- the effects of a log can be taken back where memory runs out; the records that go are those of the piece; a parcel fits
+-- the effects of a log can be taken back where memory runs out; what goes is a piece, and the records are those that it gives; a parcel fits
 abbrev pub CanChange : Change → Server → Type 0
 CanChange (Admit effects) s = list_all is_undoable effects ≡ true
 CanChange (Reap count effects) s = list_all is_undoable effects ≡ true
-CanChange (Leave map piece moved) s = moved ≡ records_given piece.prefix piece.given s.records
+CanChange (Leave to piece moved) s = IsPiece piece.prefix piece.given × (moved ≡ records_given piece.prefix piece.given s.records)
 CanChange (Install p) s = (fits s.records s.rows s.map s.me p ≡ true) × AreEachRecords p.records
 CanChange ch s = Unit {0}
 

@@ -1,7 +1,7 @@
 //! What an event changes.
 use fs_field::{Effect, Row};
 use fs_ident::{FileId, LeaseNo, List};
-use fs_map::{FileMap, MapPiece};
+use fs_map::MapPiece;
 use fs_record::{Parcel, Record};
 
 /// What an event changes, beside the rows that are over.
@@ -31,9 +31,9 @@ pub(crate) enum Change {
         count: u64,
         effects: List<Effect>,
     },
-    /// What the piece gives goes to another server, these records among it; the map is this then.
+    /// What the piece gives goes to that server, these records among it.
     Leave {
-        map: FileMap,
+        to: u8,
         piece: MapPiece,
         moved: List<(FileId, Record)>,
     },

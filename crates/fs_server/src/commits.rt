@@ -3,6 +3,7 @@ ghost use Rattle.std.specs.Prelude.{◌≡◌, ◌+◌, ◌<◌, ◌^◌, length
 ghost use Rattle.std.specs.List.{filter};
 ghost use Rattle.fs_field.specs.Table.{is_live};
 ghost use Rattle.fs_map.specs.Lists.{map_after_take};
+ghost use Rattle.fs_map.specs.Map.{IsPiece};
 ghost use Rattle.fs_parcel.specs.Parcel.{fits};
 ghost use Rattle.fs_record.specs.Moving.{AreEachRecords, records_given, records_left, with_records};
 ghost use Rattle.fs_rows.specs.Granted.{with_rows};
@@ -17,7 +18,7 @@ use crate::change::Change;
 use crate::state::Server;
 use fs_field::Row;
 use fs_ident::{FileId, LeaseNo, List, Memory};
-use fs_map::{FileMap, MapPiece};
+use fs_map::MapPiece;
 use fs_record::{Parcel, Record, Records};
 use std::alloc::Global;
 
@@ -54,7 +55,7 @@ pub(crate) fn commit(
             server.rows.lapse(reading, server.skew);
             server.reaps += count;
         }
-        Change::Leave { map, piece, moved } => leave(server, reading, map, &piece, &moved),
+        Change::Leave { to, piece, moved } => leave(alloc, server, reading, to, &piece, &moved)?,
         Change::Install { parcel } => install(alloc, server, reading, parcel)?,
     }
     server.last = reading;
@@ -95,26 +96,31 @@ fn give_number(records: &mut Records, gift: Option<(FileId, u32)>)
     }
 }
 
-/// What the piece gives is gone, and the map is this. Of the records only those that go are looked at.
+/// What the piece gives is at the other server. Of the records only those that go are looked at.
 fn leave(
+    alloc: Global,
     server: &mut Server,
     reading: u64,
-    map: FileMap,
+    to: u8,
     piece: &MapPiece,
     moved: &List<(FileId, Record)>,
-)
-    requires { moved.now ≡ records_given piece.now.prefix piece.now.given server.old.records }
-    ensures { server.new ≡ record server.old {
+) -> Result<(), Memory>
+    requires piece { IsPiece piece.now.prefix piece.now.given }
+    requires moved { moved.now ≡
+        records_given piece.now.prefix piece.now.given server.old.records }
+    ensures ok { OnOk result (server.new ≡ record server.old {
       records = records_left piece.now.prefix piece.now.given server.old.records;
       rows = rows_left piece.now.prefix piece.now.given
           (filter (is_live reading server.old.skew) server.old.rows);
-      map = map;
-    } }
+      map = map_after_take server.old.map to piece.now.prefix piece.now.given;
+    }) }
+    ensures err { OnErr result (server.new ≡ server.old) }
 {
+    server.map.take(alloc, to, piece)?;
     server.rows.lapse(reading, server.skew);
     server.rows.leave(piece);
     server.records.leave_these(piece, moved);
-    server.map = map;
+    Ok(())
 }
 
 /// All of the parcel is here.

@@ -13,8 +13,9 @@
 //! - a turn looks at every record once for the files that are open, and scans the rows once for each session with handles
 //!   on one of these. For one with no lease on its handles it scans them once more, and for each row that was told of the
 //!   modes of others on the file once for each session with handles on it. A handle that is lost finds its record (log f);
-//! - a move scans the rows twice, for what keeps it and for what goes; it copies what goes, and the map. When it is
-//!   carried out it scans the rows once more, and looks at every record once;
+//! - a move scans the rows twice, for what keeps it and for what goes, and copies what goes, its records twice. When it is
+//!   carried out it scans the rows once more, and finds each record that goes (log f); the part of the map below its
+//!   prefix is written anew;
 //! - a parcel is copied, and so is the map, of which each place is looked for in the parcel. Each of its rows is
 //!   compared with all rows, and moves at most `r`; each of its records finds its place (log f);
 //! - every event scans the rows once for those that are over, when it is carried out.

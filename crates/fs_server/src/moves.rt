@@ -90,7 +90,6 @@ fn hands_over(alloc: Global, at: &Begun<'_>, prefix: &FileId, to: u8) -> Result<
 {
     let (off, on) = at.rows().tables();
     let parcel = packed(alloc, at.records(), off, on, at.map(), at.me(), prefix)?;
-    let map = at.map().with_taken(alloc, to, &parcel.piece)?;
     let piece = parcel.piece.copy(alloc)?;
     let moved = parcel.records.copy(alloc)?;
     let note = ServerNote::Moves {
@@ -99,7 +98,7 @@ fn hands_over(alloc: Global, at: &Begun<'_>, prefix: &FileId, to: u8) -> Result<
     };
     let sent = Msg::Peer(PeerMsg::Parcel { parcel });
     Ok(Decided {
-        change: Change::Leave { map, piece, moved },
+        change: Change::Leave { to, piece, moved },
         out: ServerOut {
             note,
             send: only(alloc, (Peer::Server(to), sent))?,
