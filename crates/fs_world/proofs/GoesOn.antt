@@ -1,10 +1,11 @@
 -- What holds of every world of a schedule, whatever its form.
-use Rattle.std.proofs.Common.{ℕ, ◌+◌, ◌≤◌, max, List, [], ◌∷◌, ◌++◌, arith}
+use Rattle.std.proofs.Common.{◌≡◌, ℕ, ◌+◌, ◌≤◌, max, refl, List, [], ◌∷◌, ◌++◌, arith}
 use Rattle.std.specs.List.{AllByRecursion}
 use Rattle.fs_schedule.specs.declared.event.Event.{Event}
 use Rattle.fs_schedule.specs.declared.event.Head.{Head}
 use Rattle.fs_schedule.specs.declared.event.Head.TheVariants as head
 use Rattle.fs_world.specs.Order.{Told, told_at}
+use Rattle.fs_world.specs.Parts.{greatest_of}
 use Rattle.fs_schedule.specs.Skew.{IsTimely, IsWithinSkew}
 use Rattle.fs_schedule.specs.Spelling.{FitsHead}
 use Rattle.fs_world.specs.World.{AllMayHappen, first_world, step}
@@ -21,19 +22,21 @@ use Rattle.fs_world.proofs.SessionSteps.{HoldsOf}
 abbrev pub IsAhead : ℕ → ℕ → List Event → Type 0
 IsAhead greatest skew es = AllByRecursion (λ (e : Event). greatest ≤ e.reading + skew) es
 
-pub record ServedGoes (servers skew term : ℕ) (es : List Event) (told : List Told) (w : TheServed) : Type 0 where
+-- of the greatest reading `top` of the whole run
+pub record ServedGoes (top servers skew term : ℕ) (es : List Event) (told : List Told) (w : TheServed) : Type 0 where
   pub greatest : ℕ
   pub some : 1 ≤ servers
   pub holds : HoldsOf servers skew greatest told w
   pub called : AllMayHappen (head.Servers servers skew term) es
   pub within : IsWithinSkew skew es
   pub ahead : IsAhead greatest skew es
+  pub highest : greatest_of greatest es ≡ top
 
 -- while these events are to come, where this was told
-abbrev pub Goes : Head → List Event → List Told → Form → Type 0
-Goes head.Direct es told (Direct w) = AllMayHappen head.Direct es × direct.Holds told w
-Goes (head.Servers servers skew term) es told (Served w) = ServedGoes servers skew term es told w
-Goes h es told w = ⊥
+abbrev pub Goes : ℕ → Head → List Event → List Told → Form → Type 0
+Goes top head.Direct es told (Direct w) = AllMayHappen head.Direct es × direct.Holds told w
+Goes top (head.Servers servers skew term) es told (Served w) = ServedGoes top servers skew term es told w
+Goes top h es told w = ⊥
 
 -- ## One event
 
@@ -41,21 +44,22 @@ still_ahead : (greatest now skew : ℕ) (es : List Event) → IsAhead greatest s
 still_ahead greatest now skew [] a b = tt
 still_ahead greatest now skew (e ∷ es) a b = let p = a.0 in let q = b.0 in (omega arith, still_ahead greatest now skew es a.1 b.1)
 
-served_goes : (laws : SerialLaws) (servers skew term : ℕ) (e : Event) (es : List Event) (told : List Told) (w : TheServed) → ServedGoes servers skew term (e ∷ es) told w → Goes (head.Servers servers skew term) es (told ++ told_at e.what (step (Served w) e).outcome.notes) (step (Served w) e).world
-served_goes laws servers skew term e es told w h = record {
+served_goes : (laws : SerialLaws) (top servers skew term : ℕ) (e : Event) (es : List Event) (told : List Told) (w : TheServed) → ServedGoes top servers skew term (e ∷ es) told w → Goes top (head.Servers servers skew term) es (told ++ told_at e.what (step (Served w) e).outcome.notes) (step (Served w) e).world
+served_goes laws top servers skew term e es told w h = record {
   some = h.some;
   greatest = max h.greatest e.reading;
   holds = step_holds laws servers skew h.greatest told w h.holds e.reading h.ahead.0 h.some term e.what h.called.0;
   called = h.called.1;
   within = h.within.1;
   ahead = still_ahead h.greatest e.reading skew es h.ahead.1 h.within.0;
+  highest = h.highest;
 }
 
-pub goes_on : (laws : SerialLaws) (h : Head) (e : Event) (es : List Event) (told : List Told) (w : Form) → Goes h (e ∷ es) told w → Goes h es (told ++ told_at e.what (step w e).outcome.notes) (step w e).world
-goes_on laws head.Direct e es told (Direct w) g = (g.0.1, direct.step_holds told w e.what g.0.0 g.1)
-goes_on laws (head.Servers servers skew term) e es told (Served w) g = served_goes laws servers skew term e es told w g
-goes_on laws head.Direct e es told (Served w) g = absurd g
-goes_on laws (head.Servers servers skew term) e es told (Direct w) g = absurd g
+pub goes_on : (laws : SerialLaws) (top : ℕ) (h : Head) (e : Event) (es : List Event) (told : List Told) (w : Form) → Goes top h (e ∷ es) told w → Goes top h es (told ++ told_at e.what (step w e).outcome.notes) (step w e).world
+goes_on laws top head.Direct e es told (Direct w) g = (g.0.1, direct.step_holds told w e.what g.0.0 g.1)
+goes_on laws top (head.Servers servers skew term) e es told (Served w) g = served_goes laws top servers skew term e es told w g
+goes_on laws top head.Direct e es told (Served w) g = absurd g
+goes_on laws top (head.Servers servers skew term) e es told (Direct w) g = absurd g
 
 -- ## The first world
 
@@ -63,6 +67,6 @@ none_ahead : (skew : ℕ) (es : List Event) → IsAhead 0 skew es
 none_ahead skew [] = tt
 none_ahead skew (e ∷ es) = (omega arith, none_ahead skew es)
 
-pub goes_first : (laws : SerialLaws) (h : Head) (es : List Event) → FitsHead h → AllMayHappen h es → IsTimely h es → Goes h es [] (first_world h)
+pub goes_first : (laws : SerialLaws) (h : Head) (es : List Event) → FitsHead h → AllMayHappen h es → IsTimely h es → Goes (greatest_of 0 es) h es [] (first_world h)
 goes_first laws head.Direct es fits called timely = (called, direct.first_holds)
-goes_first laws (head.Servers servers skew term) es fits called timely = record { greatest = 0; some = fits.0; holds = first_holds laws servers skew term fits.0; called = called; within = timely; ahead = none_ahead skew es }
+goes_first laws (head.Servers servers skew term) es fits called timely = record { greatest = 0; some = fits.0; holds = first_holds laws servers skew term fits.0; called = called; within = timely; ahead = none_ahead skew es; highest = refl }

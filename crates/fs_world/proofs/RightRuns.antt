@@ -23,6 +23,7 @@ use Rattle.fs_world.specs.World.{AllMayHappen, Run, first_run, first_world, more
 use Rattle.fs_world.specs.declared.direct.Direct.{Direct as TheDirect}
 use Rattle.fs_world.specs.declared.form.Form.{Form}
 use Rattle.fs_world.specs.declared.form.Form.TheVariants.{Direct, Served}
+use Rattle.fs_world.specs.Parts.{greatest_of}
 use Rattle.fs_world.proofs.GoesOn.{Goes, goes_first, goes_on}
 use Rattle.fs_world.proofs.SerialLaws.{SerialLaws}
 use Rattle.fs_world.proofs.RightSteps.{AllRight, step_right}
@@ -42,11 +43,11 @@ direct_right w (Join s) = direct_join s (get w.asked s.0) w
 direct_right w (Do s o) = direct_do s o (get w.asked s.0) w
 direct_right w what = (record { plain = refl; fair = tt }, tt)
 
-right_at : (laws : SerialLaws) (h : Head) (e : Event) (es : List Event) (told : List Told) (w : Form) → Goes h (e ∷ es) told w → AllRight (rows_of (step w e).world) (step w e).outcome.notes
-right_at laws head.Direct e es told (Direct w) g = direct_right w e.what
-right_at laws (head.Servers servers skew term) e es told (Served w) g = step_right laws servers skew g.greatest told w g.holds e.reading g.ahead.0 g.some term e.what g.called.0
-right_at laws head.Direct e es told (Served w) g = absurd g
-right_at laws (head.Servers servers skew term) e es told (Direct w) g = absurd g
+right_at : (laws : SerialLaws) (top : ℕ) (h : Head) (e : Event) (es : List Event) (told : List Told) (w : Form) → Goes top h (e ∷ es) told w → AllRight (rows_of (step w e).world) (step w e).outcome.notes
+right_at laws top head.Direct e es told (Direct w) g = direct_right w e.what
+right_at laws top (head.Servers servers skew term) e es told (Served w) g = step_right laws servers skew g.greatest told w g.holds e.reading g.ahead.0 g.some term e.what g.called.0
+right_at laws top head.Direct e es told (Served w) g = absurd g
+right_at laws top (head.Servers servers skew term) e es told (Direct w) g = absurd g
 
 -- ## All events
 
@@ -58,11 +59,11 @@ all_plain : (rows : List Row) (notes : List Note) → AllRight rows notes → Al
 all_plain rows [] h = tt
 all_plain rows (n ∷ ns) h = (h.0.plain, all_plain rows ns h.1)
 
-fair_from : (laws : SerialLaws) (h : Head) (es : List Event) (told : List Told) (w : Form) → Goes h es told w → AllFair w es
-fair_from laws h [] told w g = tt
-fair_from laws h (e ∷ es) told w g = (
-  all_fair (rows_of (step w e).world) (step w e).outcome.notes (right_at laws h e es told w g),
-  fair_from laws h es (told ++ told_at e.what (step w e).outcome.notes) (step w e).world (goes_on laws h e es told w g),
+fair_from : (laws : SerialLaws) (top : ℕ) (h : Head) (es : List Event) (told : List Told) (w : Form) → Goes top h es told w → AllFair w es
+fair_from laws top h [] told w g = tt
+fair_from laws top h (e ∷ es) told w g = (
+  all_fair (rows_of (step w e).world) (step w e).outcome.notes (right_at laws top h e es told w g),
+  fair_from laws top h es (told ++ told_at e.what (step w e).outcome.notes) (step w e).world (goes_on laws top h e es told w g),
 )
 
 -- one more outcome has no note of the kind
@@ -70,17 +71,17 @@ pub one_more : (kind : Note → Bool) (outcomes : List Outcome) (o : Outcome) �
 one_more kind [] o h p = (p, tt)
 one_more kind (x ∷ xs) o h p = (h.0, one_more kind xs o h.1 p)
 
-plain_from : (laws : SerialLaws) (h : Head) (es : List Event) (told : List Told) (r : Run) → Goes h es told r.world → NoneHas is_core_strange r.outcomes → NoneHas is_core_strange (run_on r es).outcomes
-plain_from laws h [] told r g p = p
-plain_from laws h (e ∷ es) told r g p =
-    plain_from laws h es (told ++ told_at e.what (step r.world e).outcome.notes) (more r e) (goes_on laws h e es told r.world g)
-    (one_more is_core_strange r.outcomes (step r.world e).outcome p (all_plain (rows_of (step r.world e).world) (step r.world e).outcome.notes (right_at laws h e es told r.world g)))
+plain_from : (laws : SerialLaws) (top : ℕ) (h : Head) (es : List Event) (told : List Told) (r : Run) → Goes top h es told r.world → NoneHas is_core_strange r.outcomes → NoneHas is_core_strange (run_on r es).outcomes
+plain_from laws top h [] told r g p = p
+plain_from laws top h (e ∷ es) told r g p =
+    plain_from laws top h es (told ++ told_at e.what (step r.world e).outcome.notes) (more r e) (goes_on laws top h e es told r.world g)
+    (one_more is_core_strange r.outcomes (step r.world e).outcome p (all_plain (rows_of (step r.world e).world) (step r.world e).outcome.notes (right_at laws top h e es told r.world g)))
 
 pub no_core_strange : (laws : SerialLaws) (s : Schedule) → FitsHead s.head → AllMayHappen s.head s.events → IsTimely s.head s.events → NoneHas is_core_strange (run_of s).outcomes
-no_core_strange laws s fits may timely = plain_from laws s.head s.events [] (first_run s.head) (goes_first laws s.head s.events fits may timely) tt
+no_core_strange laws s fits may timely = plain_from laws (greatest_of 0 s.events) s.head s.events [] (first_run s.head) (goes_first laws s.head s.events fits may timely) tt
 
 pub refusals_fair : (laws : SerialLaws) (s : Schedule) → FitsHead s.head → AllMayHappen s.head s.events → IsTimely s.head s.events → AllFair (first_world s.head) s.events
-refusals_fair laws s fits may timely = fair_from laws s.head s.events [] (first_world s.head) (goes_first laws s.head s.events fits may timely)
+refusals_fair laws s fits may timely = fair_from laws (greatest_of 0 s.events) s.head s.events [] (first_world s.head) (goes_first laws s.head s.events fits may timely)
 
 -- ## Strange to no link, and to no core
 

@@ -21,11 +21,11 @@ pub fn every_run_is_serial()
         AllAdmitted (journal_of (run_of s).world) (told_of s.events (run_of s).outcomes) }
 {}
 
-/// After every event of a run, since each begins a run of its own, all parts of the invariant of the servers and their
-/// clients hold.
+/// After every event of a run, since each ends a run of its own, all parts of the invariant of the servers and their
+/// clients hold, for the skew of the head and the greatest reading so far.
 pub fn every_run_keeps_all_parts()
     ensures { (s : Schedule) → FitsHead s.head → AllMayHappen s.head s.events →
-        IsTimely s.head s.events → AllPartsHold (run_of s).world }
+        IsTimely s.head s.events → AllPartsHold s.head s.events (run_of s).world }
 {}
 
 /// A run of the direct form of less than 2^64 events is not broken off.
