@@ -7,7 +7,9 @@ use crate::top::farsite;
 use crate::{printed, words_of};
 use fs_io::{MemClock, MemSink, MemSource, SureLink};
 use fs_schedule::Which;
-use moves::{DELEGATION, DELEGATION_REPORT, REFUSED_MOVES, REFUSED_MOVES_REPORT};
+use moves::{
+    DELEGATION, DELEGATION_REPORT, REFUSED_MOVES, REFUSED_MOVES_REPORT, SENT_ON, SENT_ON_REPORT,
+};
 use schedules::{
     FIRST, FIRST_REPORT, HEAD, OPENS, OPENS_REPORT, OTHERS, OTHERS_OUTCOMES, RENAMES,
     RENAMES_REPORT, SAVE, SAVE_REPORT,
@@ -102,6 +104,7 @@ fn reports_of_a_server_to_the_byte(rt: HostRuntime) -> Result<(), Fail> {
         (WITHIN_SKEW, WITHIN_SKEW_REPORT),
         (DELEGATION, DELEGATION_REPORT),
         (REFUSED_MOVES, REFUSED_MOVES_REPORT),
+        (SENT_ON, SENT_ON_REPORT),
     ] {
         let (status, written) = replayed(alloc, input, b"", 0, b"")?;
         assert_eq!(rt; status, Status::Done);

@@ -46,10 +46,12 @@ pub(crate) fn hears(
         (find (is_with k) seat.old.down) seat.old journal.old packets.old).outcome) }
     ensures seat { OnOk result (seat.new ≡ (client_hears now s k from heard.now heard.now.joined
         (find (is_with k) seat.old.down) seat.old journal.old packets.old).seat) }
-    ensures journal { OnOk result (journal.new ≡ (client_hears now s k from heard.now
-        heard.now.joined (find (is_with k) seat.old.down) seat.old journal.old packets.old).journal) }
-    ensures packets { OnOk result (packets.new ≡ (client_hears now s k from heard.now
-        heard.now.joined (find (is_with k) seat.old.down) seat.old journal.old packets.old).packets) }
+    ensures journal { OnOk result (journal.new ≡
+        (client_hears now s k from heard.now heard.now.joined
+        (find (is_with k) seat.old.down) seat.old journal.old packets.old).journal) }
+    ensures packets { OnOk result (packets.new ≡
+        (client_hears now s k from heard.now heard.now.joined
+        (find (is_with k) seat.old.down) seat.old journal.old packets.old).packets) }
     ensures room { OnOk result ((client_hears now s k from heard.now heard.now.joined
         (find (is_with k) seat.old.down) seat.old journal.old packets.old).spent ≡ None) }
     ensures spent { (counter : TheCounter) → IsErrOf result (errors.Spent counter) →
@@ -145,7 +147,8 @@ fn hears_answer(
         seat.old journal.old packets.old).outcome) }
     ensures seat { OnOk result (seat.new ≡ (client_does s false from false
         (client_noted (answer_plan seat.old.client now k a.now))
-        (record seat.old { down = without_first (is_with k) seat.old.down }) journal.old packets.old).seat) }
+        (record seat.old { down = without_first (is_with k) seat.old.down })
+        journal.old packets.old).seat) }
     ensures journal { OnOk result (journal.new ≡ (client_does s false from false
         (client_noted (answer_plan seat.old.client now k a.now))
         seat.old journal.old packets.old).journal) }

@@ -142,9 +142,11 @@ pub(crate) fn tell_in(
         OnOk result (numbered_map_of seats.new ≡ map.insert (numbered_map_of seats.old) s.0
         (client_told now s k p.now seat journal.old packets.old).seat) }
     ensures journal { (seat : TheSeat) → map.get (numbered_map_of seats.old) s.0 ≡ Some seat →
-        OnOk result (journal.new ≡ (client_told now s k p.now seat journal.old packets.old).journal) }
+        OnOk result (journal.new ≡
+        (client_told now s k p.now seat journal.old packets.old).journal) }
     ensures packets { (seat : TheSeat) → map.get (numbered_map_of seats.old) s.0 ≡ Some seat →
-        OnOk result (packets.new ≡ (client_told now s k p.now seat journal.old packets.old).packets) }
+        OnOk result (packets.new ≡
+        (client_told now s k p.now seat journal.old packets.old).packets) }
     ensures room { (seat : TheSeat) → map.get (numbered_map_of seats.old) s.0 ≡ Some seat →
         OnOk result ((client_told now s k p.now seat journal.old packets.old).spent ≡ None) }
     ensures fits { (seat : TheSeat) → (a : TheAnswer) →

@@ -204,7 +204,8 @@ impl Seats {
             IsFirstOf (post_accepted seat.post (Server k) p.now).heard.joined
             (downs_of k (Some seat)) }
         ensures outcome { (seat : TheSeat) → map.get self.old s.0 ≡ Some seat →
-            IfOk result (λ o. o ≡ (client_told now s k p.now seat journal.old packets.old).outcome) }
+            IfOk result (λ o. o ≡
+            (client_told now s k p.now seat journal.old packets.old).outcome) }
         ensures seat { (seat : TheSeat) → map.get self.old s.0 ≡ Some seat → OnOk result (
             self.new ≡ map.insert self.old s.0
             (client_told now s k p.now seat journal.old packets.old).seat) }

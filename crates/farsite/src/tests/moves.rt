@@ -85,3 +85,64 @@ n / dir 0 0
 n /1 dir 0 0 in / \"a\"
 done events 13 journal 1 nodes 2
 ";
+
+/// A client that asks by what it knew is sent on, from server to server.
+pub(super) const SENT_ON: &[u8] = b"farsite 1 servers 3 skew 10 term 100
+1 join c1
+1 do c1 create / \"a\" dir
+1 tell 0
+1 tell 1
+1 do c1 create / \"a\" dir
+1 turn c1
+1 tell 3
+1 tell 4
+1 move s0 /1 s1
+1 move s0 / s2
+1 tell 6
+1 tell 7
+1 do c1 lookup / \"b\"
+1 tell 10
+1 tell 11
+1 do c1 lookup /1 \"x\"
+1 tell 13
+1 tell 14
+1 do c1 lookup /1 \"x\"
+1 tell 16
+1 tell 17
+1 do c1 lookup /1 \"x\"
+1 tell 19
+1 tell 20
+1 do c1 lookup /1 \"x\"
+";
+
+pub(super) const SENT_ON_REPORT: &[u8] = b"e1 c1 joined
+e2 c1 asked s0 life / shared, child / \"a\" exclusive, fresh / sends 0
+e3 s0 grants 3 all sends 1
+e4 c1 granted 3 all sends 2
+e5 c1 replied 1 made
+e6 c1 ships 1 s0 sends 3
+e7 s0 admits 1 all sends 4
+e8 c1 shipped 1 all sends 5
+e9 s0 moves /1 s1 sends 6
+e10 s0 moves / s2 sends 7
+e11 s1 installs /1 sends 8
+e12 s2 installs / sends 9
+e13 c1 asked s0 child / \"b\" shared sends 10
+e14 s0 grants 0 moved / s2 sends 11
+e15 c1 granted 0 moved / s2 sends 12
+e16 c1 asked s2 child /1 \"x\" shared sends 13
+e17 s2 grants 0 moved /1 s0 sends 14
+e18 c1 granted 0 moved /1 s0 sends 15
+e19 c1 asked s0 child /1 \"x\" shared sends 16
+e20 s0 grants 0 moved /1 s1 sends 17
+e21 c1 granted 0 moved /1 s1 sends 18
+e22 c1 asked s1 child /1 \"x\" shared sends 19
+e23 s1 grants 1 all sends 20
+e24 c1 granted 1 all sends 21
+e25 c1 read 2 noname
+j1 c1 1 create / \"a\" dir /1 made
+j2 c1 2 lookup /1 \"x\" noname
+n / dir 0 0
+n /1 dir 0 0 in / \"a\"
+done events 25 journal 2 nodes 2
+";
