@@ -18,12 +18,12 @@ use fs_rows::Rows;
 use std::alloc::Global;
 use std::test::Fail;
 
-const TXN: TxnNo = TxnNo {
+pub(crate) const TXN: TxnNo = TxnNo {
     server: 0,
     count: 7,
 };
 
-const WRITES: Modes = Modes {
+pub(crate) const WRITES: Modes = Modes {
     acc_r: false,
     acc_w: true,
     acc_d: false,

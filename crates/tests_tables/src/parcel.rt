@@ -9,37 +9,23 @@ mod moving;
 mod refusing;
 mod shown;
 
+use crate::moderows::{TXN, WRITES};
 use fs_field::{Field, LeaseKind, Row};
 use fs_ident::{FileId, Kind, LeaseNo, List, Name, Session, TxnNo};
 use fs_map::{FileMap, MapPiece};
 use fs_model::{Handle, Node};
 use fs_moderows::ModeRows;
-use fs_modes::{Mode, Modes};
+use fs_modes::Mode;
 use fs_parcel::{fits, install};
 use fs_record::{Parcel, Record, Records};
 use fs_rows::Rows;
 use std::alloc::Global;
 use std::test::Fail;
 
-/// The transaction that keeps rows.
-const TXN: TxnNo = TxnNo {
-    server: 0,
-    count: 7,
-};
-
-const WRITES: Modes = Modes {
-    acc_r: false,
-    acc_w: true,
-    acc_d: false,
-    deny_r: false,
-    deny_w: false,
-    deny_d: false,
-};
-
 /// What a row is on: the life of a file, which a transaction may keep; whether its session writes a file; and what it
 /// was told of others that do.
 #[derive(Clone, Copy)]
-enum On {
+pub(crate) enum On {
     Life,
     KeptLife,
     Own,
@@ -47,7 +33,7 @@ enum On {
 }
 
 /// A row: its number, its session, its file and what it is on.
-type Told = (u64, u16, &'static str, On);
+pub(crate) type Told = (u64, u16, &'static str, On);
 
 /// A record: its file, the names in it, each of one letter, and the sessions that write it.
 type Kept = (&'static str, &'static [u8], &'static [u16]);
@@ -64,7 +50,7 @@ fn id(alloc: Global, text: &str) -> Result<FileId, Fail> {
     Ok(FileId::parse(alloc, text.as_bytes())?)
 }
 
-fn row(alloc: Global, (count, session, file, on): Told) -> Result<Row, Fail> {
+pub(crate) fn row(alloc: Global, (count, session, file, on): Told) -> Result<Row, Fail> {
     let file = id(alloc, file)?;
     let (field, kind, promise) = match on {
         On::Life | On::KeptLife => (Field::Life(file), LeaseKind::Exclusive, None),
@@ -113,7 +99,7 @@ fn records(alloc: Global, kept: &[Kept]) -> Result<List<(FileId, Record)>, Fail>
     Ok(records)
 }
 
-fn rows(alloc: Global, told: &[Told]) -> Result<List<Row>, Fail> {
+pub(crate) fn rows(alloc: Global, told: &[Told]) -> Result<List<Row>, Fail> {
     let mut rows = List::new(alloc);
     for one in told {
         rows.push(row(alloc, *one)?)?;

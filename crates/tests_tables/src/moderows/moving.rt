@@ -3,52 +3,17 @@ ghost use Rattle.std.specs.Prelude.{◌≡◌};
 ghost use Rattle.fs_moderows.specs.Moving.{are_on_modes};
 
 use crate::moderows::{TXN, WRITES, number, opens};
-use fs_field::{Field, LeaseKind, Row};
+use crate::parcel::{On, Told, row, rows};
+use fs_field::Row;
 use fs_ident::{FileId, List, Session};
 use fs_map::{FileMap, MapPiece};
 use fs_moderows::ModeRows;
-use fs_modes::{Mode, Modes};
+use fs_modes::Modes;
 use std::alloc::Global;
 use std::process::Abort;
 use std::test::Fail;
 
-/// That a session may change whether it writes a file, or what it was told of others that do.
-#[derive(Clone, Copy)]
-enum Tells {
-    Own,
-    Others(Option<bool>),
-}
-
-/// A row: its number, its session, its file and what it tells.
-type Told = (u64, u16, &'static [u8], Tells);
-
-const FILE: &[u8] = b"/1";
-
-fn row(alloc: Global, told: Told) -> Result<Row, Fail> {
-    let (count, session, file, tells) = told;
-    let file = FileId::parse(alloc, file)?;
-    let (field, kind, promise) = match tells {
-        Tells::Own => (Field::SelfW(file, Mode::AccW), LeaseKind::Exclusive, None),
-        Tells::Others(promise) => (Field::Other(file, Mode::AccW), LeaseKind::Shared, promise),
-    };
-    Ok(Row {
-        no: number(count),
-        session: Session(session),
-        field,
-        kind,
-        until: 100,
-        promise,
-        lock: None,
-    })
-}
-
-fn rows(alloc: Global, told: &[Told]) -> Result<List<Row>, Fail> {
-    let mut rows = List::new(alloc);
-    for one in told {
-        rows.push(row(alloc, *one)?)?;
-    }
-    Ok(rows)
-}
+const FILE: &str = "/1";
 
 fn are_on_modes(rows: &List<Row>) -> bool
     ensures { result ≡ are_on_modes rows.now }
@@ -62,7 +27,10 @@ type Selves = List<(FileId, List<(Session, Modes)>)>;
 /// These sessions write the file.
 fn writers(alloc: Global, sessions: &[u16]) -> Result<Selves, Fail> {
     let mut selves = List::new(alloc);
-    selves.push((FileId::parse(alloc, FILE)?, opens(alloc, sessions, WRITES)?))?;
+    selves.push((
+        FileId::parse(alloc, FILE.as_bytes())?,
+        opens(alloc, sessions, WRITES)?,
+    ))?;
     Ok(selves)
 }
 
@@ -83,17 +51,17 @@ fn come(alloc: Global, table: &mut ModeRows, selves: &Selves, told: &[Told]) -> 
 type Case = (&'static [Told], &'static [Told], &'static [u16], bool);
 
 /// The first session may begin to write, or stop.
-const OWN: Told = (1, 1, FILE, Tells::Own);
+const OWN: Told = (1, 1, FILE, On::Own);
 
 /// The second was told that another writes, that none does, and nothing.
-const TRUE: Told = (2, 2, FILE, Tells::Others(Some(true)));
+const TRUE: Told = (2, 2, FILE, On::Others(Some(true)));
 
-const FALSE: Told = (2, 2, FILE, Tells::Others(Some(false)));
+const FALSE: Told = (2, 2, FILE, On::Others(Some(false)));
 
-const NOTHING: Told = (2, 2, FILE, Tells::Others(None));
+const NOTHING: Told = (2, 2, FILE, On::Others(None));
 
 /// The third may stop writing.
-const THIRD: Told = (3, 3, FILE, Tells::Own);
+const THIRD: Told = (3, 3, FILE, On::Own);
 
 const CASES: [Case; 16] = [
     (&[], &[OWN, FALSE], &[], false),
@@ -109,19 +77,9 @@ const CASES: [Case; 16] = [
     (&[OWN], &[TRUE, THIRD], &[1, 3, 4], true),
     (&[TRUE, OWN], &[THIRD], &[1, 3], false),
     (&[TRUE], &[OWN, THIRD], &[1, 3], false),
-    (
-        &[OWN],
-        &[(2, 1, FILE, Tells::Others(Some(false)))],
-        &[],
-        true,
-    ),
-    (
-        &[OWN],
-        &[(2, 2, b"/2", Tells::Others(Some(false)))],
-        &[],
-        true,
-    ),
-    (&[OWN], &[(1, 3, FILE, Tells::Own)], &[], false),
+    (&[OWN], &[(2, 1, FILE, On::Others(Some(false)))], &[], true),
+    (&[OWN], &[(2, 2, "/2", On::Others(Some(false)))], &[], true),
+    (&[OWN], &[(1, 3, FILE, On::Own)], &[], false),
 ];
 
 #[test]
@@ -157,7 +115,7 @@ const GOES: [(&[u8], bool, bool, bool); 4] = [
 fn two_rows(alloc: Global) -> Result<ModeRows, Fail> {
     let mut table = ModeRows::new(alloc);
     let none = List::new(alloc);
-    let second = (2, 2, b"/2/1".as_slice(), Tells::Others(Some(false)));
+    let second = (2, 2, "/2/1", On::Others(Some(false)));
     come(alloc, &mut table, &none, &[OWN, second])?;
     table.lock(number(1), TXN);
     Ok(table)
