@@ -10,10 +10,10 @@ ghost use Rattle.fs_moderows.specs.Fixed.{has_but, AreFixedBut, of_mode, rests_b
 
 use crate::joined::Joined;
 use crate::live::Live;
+use fs_field::table::is_live;
 use fs_field::{Field, Row};
 use fs_ident::{FileId, Session};
 use fs_modes::{Mode, Modes};
-use fs_rows::is_live;
 
 /// The sessions but for one that have a mode on a file and that no row lets change that. They depend on the file and
 /// the mode alone, so a question finds them once and not for each row.
