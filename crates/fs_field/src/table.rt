@@ -44,7 +44,7 @@ pub fn put(rows: &mut Vec<Row>, row: Row) -> Result<(), Memory>
 }
 
 /// Where the first row with a greater number stands, or the length.
-fn place(rows: &[Row], no: LeaseNo) -> usize
+pub fn place(rows: &[Row], no: LeaseNo) -> usize
     ensures place { result ≡ unwrap_or (position (λ r. no_before no r.no) rows.now)
         (length rows.now) }
     ensures within { result ≤ length rows.now }
@@ -112,7 +112,8 @@ pub fn lapse(rows: &mut Vec<Row>, now: u64, skew: u64)
     rows.retain(|row| is_live(row, now, skew));
 }
 
-fn is_live(row: &Row, now: u64, skew: u64) -> bool
+/// Whether the row is not over: a transaction keeps it, or its end and the skew are not over.
+pub fn is_live(row: &Row, now: u64, skew: u64) -> bool
     ensures { result ≡ is_live now skew row.now }
 {
     row.lock.is_some() || now < skew || now - skew < row.until
@@ -126,7 +127,8 @@ pub fn holds(rows: &[Row], no: LeaseNo, session: Session, field: &Field, kind: L
         .any(|row| is_lease(row, no, session, field, kind))
 }
 
-fn is_lease(row: &Row, no: LeaseNo, session: Session, field: &Field, kind: LeaseKind) -> bool
+/// Whether the row is that of this lease of the session.
+pub fn is_lease(row: &Row, no: LeaseNo, session: Session, field: &Field, kind: LeaseKind) -> bool
     ensures { result ≡ is_lease no session field.now kind row.now }
 {
     row.no == no && row.session == session && row.field.is(field) && row.kind == kind
@@ -238,7 +240,7 @@ pub fn borne(alloc: Global, rows: &[Row], dir: &FileId) -> Result<List<u32>, Mem
 }
 
 /// The last number of the file, where it stands right below the directory.
-fn child_number(dir: &FileId, file: &FileId) -> Option<u32>
+pub fn child_number(dir: &FileId, file: &FileId) -> Option<u32>
     ensures { result ≡ child_number dir.now file.now }
 {
     let place = dir.numbers();

@@ -1,5 +1,5 @@
 pub mod Map
 pub mod Lists
--- cited by private calls alone
 pub mod Change
+-- cited by private calls alone
 pub mod Part

@@ -25,7 +25,8 @@ pub fn changed_maps_are_maps()
         Tells (map_after_take owners me prefix given) (after_take owners me prefix given) }
     ensures given { (owners : Owners) (me : ℕ) (prefix : List ℕ) → IsMap owners →
         server_of owners prefix ≡ me → IsPiece prefix (piece_of owners me prefix) ×
-        ((id : List ℕ) → gives prefix (piece_of owners me prefix) id ≡ is_given owners me prefix id) }
+        ((id : List ℕ) →
+        gives prefix (piece_of owners me prefix) id ≡ is_given owners me prefix id) }
 {}
 
 /// Where no listed place shows that an identifier which is given is the server's, none is.

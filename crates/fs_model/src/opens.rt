@@ -78,9 +78,11 @@ pub fn set(
 ) -> Reply
     requires { IsSpace (map_of nodes.old) }
     ensures reply { result ≡
-        (set (map.get (map_of nodes.old) file.now) (map_of nodes.old) by file.now h size stamp).reply }
+        (set (map.get (map_of nodes.old) file.now) (map_of nodes.old)
+        by file.now h size stamp).reply }
     ensures nodes { map_of nodes.new ≡
-        (set (map.get (map_of nodes.old) file.now) (map_of nodes.old) by file.now h size stamp).nodes }
+        (set (map.get (map_of nodes.old) file.now) (map_of nodes.old)
+        by file.now h size stamp).nodes }
 {
     let Some(node) = node_at(nodes, file) else {
         return Reply::NoHandle;

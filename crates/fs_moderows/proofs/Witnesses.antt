@@ -7,7 +7,7 @@ use Rattle.std.proofs.lemmas.Bool.Decides.{nat_tests}
 use Rattle.fs_ident.specs.In.{In}
 use Rattle.fs_ident.specs.Ident.{same}
 use Rattle.fs_ident.specs.declared.actor.Session.{Session}
-use Rattle.fs_ident.proofs.Booleans.{both, joined, neither}
+use Rattle.fs_ident.proofs.Booleans.{both, joined}
 use Rattle.fs_ident.proofs.Standing.{In-filter, In-put, In-map}
 use Rattle.fs_modes.specs.declared.modes.Mode.{Mode}
 use Rattle.fs_modes.specs.declared.modes.Mode.TheVariants.{AccR, AccW, AccD, DenyR, DenyW, DenyD}
@@ -18,6 +18,7 @@ use Rattle.fs_field.specs.declared.row.Row.{Row}
 use Rattle.fs_field.specs.Conflict.{Selves, is_self, is_fixed, has_fixed}
 use Rattle.fs_field.specs.Field.{same_mode}
 use Rattle.fs_field.specs.Table.{no_before, with_row}
+use Rattle.fs_rows.proofs.Comes.{none_does}
 use Rattle.fs_moderows.proofs.Tables.{TellsSame, tells_same_itself}
 
 pub not_true : (b : Bool) → not b ≡ true → b ≡ false
@@ -60,10 +61,7 @@ In_any test (y ∷ ys) x i p = elim i [
 ]
 
 pub none_In : {X : Type 0} (test : X → Bool) (xs : List X) → list_any test xs ≡ false → (x : X) → In x xs → test x ≡ false
-none_In test [] h x i = absurd i
-none_In test (y ∷ ys) h x i =
-    let q : (test y ≡ false) × (list_any test ys ≡ false) = neither (test y) (list_any test ys) h in
-    elim i [ inl e ↦ ap test e ∙ q.0 | inr j ↦ none_In test ys q.1 x j ]
+none_In test xs h x i = none_does test xs h x i
 
 pub In_none : {X : Type 0} (test : X → Bool) (xs : List X) → ((x : X) → In x xs → test x ≡ false) → list_any test xs ≡ false
 In_none test [] k = refl

@@ -10,10 +10,10 @@ ghost use Rattle.fs_moderows.specs.Fixed.{has_but, is_other, rests_by, rests_by_
 use crate::fixed::{EachMode, Fixed, each_mode, fixed_but, is_other, is_self, is_told};
 use crate::joined::Joined;
 use crate::live::Live;
+use fs_field::table::is_live;
 use fs_field::{Field, Row};
 use fs_ident::{FileId, Session};
 use fs_modes::{Mode, Modes};
-use fs_rows::is_live;
 
 /// The first row that lets another session change what it tells of the mode on the file.
 pub fn first_self_of_other<'a>(

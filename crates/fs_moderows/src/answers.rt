@@ -23,7 +23,8 @@ pub fn answer_self(
     m: Mode,
 ) -> Asked
     ensures { result ≡ unless_locked (lock_on field.now rows.now)
-        (waits_or (find (stands_against_self opens.now rows.now session file.now m) rows.now) None) }
+        (waits_or (find (stands_against_self opens.now rows.now session file.now m) rows.now)
+        None) }
 {
     if let Some(txn) = rows.lock_on(field) {
         return Asked::Locked { txn };

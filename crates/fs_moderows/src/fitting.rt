@@ -13,10 +13,10 @@ use crate::against::{can_fail, is_self_of_other, stands_by};
 use crate::fixed::{Fixed, fixed_but, has_fixed, is_told};
 use crate::joined::Joined;
 use crate::live::Live;
+use fs_field::table::is_live;
 use fs_field::{Field, Row};
 use fs_ident::{FileId, List, Session};
 use fs_modes::{Mode, Modes};
-use fs_rows::is_live;
 
 /// Whether none of these conflicts over a mode with a row of the table that they come into.
 pub fn are_apart(

@@ -10,10 +10,10 @@ ghost use Rattle.fs_moderows.specs.Fixed.{has_but, AreFixedBut, of_mode, rests_b
 
 use crate::joined::Joined;
 use crate::live::Live;
+use fs_field::table::is_live;
 use fs_field::{Field, Row};
 use fs_ident::{FileId, Session};
 use fs_modes::{Mode, Modes};
-use fs_rows::is_live;
 
 /// The sessions but for one that have a mode on a file and that no row lets change that. They depend on the file and
 /// the mode alone, so a question finds them once and not for each row.
@@ -100,14 +100,16 @@ fn is_fixed(rows: &Joined<'_>, file: &FileId, m: Mode, session: Session) -> bool
 /// Whether a row lets the session change what it tells of the mode on the file.
 #[tactic(auto, using(crate::proofs::Apart::any_rows))]
 fn is_free(rows: &Joined<'_>, file: &FileId, m: Mode, session: Session) -> bool
-    ensures { result ≡ list_any (λ row. is_self file.now m row.field && (row.session.0 == session.0))
+    ensures { result ≡
+        list_any (λ row. is_self file.now m row.field && (row.session.0 == session.0))
         rows.now }
 {
     is_free_among(&rows.came, file, m, session) || is_free_among(&rows.here, file, m, session)
 }
 
 fn is_free_among(rows: &Live<'_>, file: &FileId, m: Mode, session: Session) -> bool
-    ensures { result ≡ list_any (λ row. is_self file.now m row.field && (row.session.0 == session.0))
+    ensures { result ≡
+        list_any (λ row. is_self file.now m row.field && (row.session.0 == session.0))
         rows.now }
 {
     is_free_live(rows.rows, rows.reading, rows.skew, file, m, session)
@@ -115,7 +117,8 @@ fn is_free_among(rows: &Live<'_>, file: &FileId, m: Mode, session: Session) -> b
 
 /// Whether one of these that is not over does.
 fn is_free_live(rows: &[Row], now: u64, skew: u64, file: &FileId, m: Mode, session: Session) -> bool
-    ensures { result ≡ list_any (λ row. is_self file.now m row.field && (row.session.0 == session.0))
+    ensures { result ≡
+        list_any (λ row. is_self file.now m row.field && (row.session.0 == session.0))
         (filter (is_live now skew) rows.now) }
 {
     rows.iter()

@@ -55,7 +55,8 @@ pub fn rows_stay_without_conflict()
         IsModeTable rows → NoConflict selves rows →
         NoConflict selves (map (renewed_row no until) rows) }
     ensures locked { (selves : Selves) (rows : List Row) (no : LeaseNo) (txn : TxnNo) →
-        IsModeTable rows → NoConflict selves rows → NoConflict selves (map (locked_row no txn) rows) }
+        IsModeTable rows → NoConflict selves rows →
+        NoConflict selves (map (locked_row no txn) rows) }
     ensures unlocked { (selves : Selves) (rows : List Row) (txn : TxnNo) → IsModeTable rows →
         NoConflict selves rows → NoConflict selves (map (unlocked_row txn) rows) }
 {}
@@ -114,5 +115,6 @@ pub fn moved_rows_are_safe()
         are_on_modes more ≡ true → fits selves rows more ≡ true →
         NoConflict selves rows → NoConflict selves (with_rows more rows) }
     ensures gone { (selves : Selves) (rows : List Row) (prefix : List ℕ) (given : Keyed Bool) →
-        IsModeTable rows → NoConflict selves rows → NoConflict selves (rows_left prefix given rows) }
+        IsModeTable rows → NoConflict selves rows →
+        NoConflict selves (rows_left prefix given rows) }
 {}

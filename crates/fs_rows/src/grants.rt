@@ -1,12 +1,12 @@
 //! Several rows more at once, and those that are over dropped.
-ghost use Rattle.std.specs.Prelude.{◌≡◌, ◌+◌, ◌<◌, ◌≤◌, length, unwrap_or, vec_len, vec_capacity, OnOk, OnErr, IfSome};
-ghost use Rattle.std.specs.List.{filter, position};
-ghost use Rattle.fs_field.specs.Table.{is_live, no_before, with_row};
+ghost use Rattle.std.specs.Prelude.{◌≡◌, ◌+◌, ◌<◌, ◌≤◌, length, vec_len, vec_capacity, OnOk, OnErr};
+ghost use Rattle.std.specs.List.{filter};
+ghost use Rattle.fs_field.specs.Table.{is_live, with_row};
 ghost use Rattle.fs_rows.specs.Granted.{with_rows};
 
-use crate::reads::is_live;
 use fs_field::Row;
-use fs_ident::{LeaseNo, List, Memory};
+use fs_field::table::{is_live, place};
+use fs_ident::{List, Memory};
 
 /// Drops the rows that are over at the reading, and puts in the others, in order. Room is made first, and nothing can
 /// fail then.
@@ -52,23 +52,4 @@ fn put(rows: &mut Vec<Row>, row: Row)
         Ok(()) => {}
         Err(_) => unreachable!(),
     }
-}
-
-/// Where the first row with a greater number stands, or the length.
-fn place(rows: &[Row], no: LeaseNo) -> usize
-    ensures place { result ≡ unwrap_or (position (λ r. no_before no r.no) rows.now)
-        (length rows.now) }
-    ensures within { result ≤ length rows.now }
-{
-    match first_after(rows, no) {
-        Some(at) => at,
-        None => rows.len(),
-    }
-}
-
-fn first_after(rows: &[Row], no: LeaseNo) -> Option<usize>
-    ensures same { result ≡ position (λ r. no_before no r.no) rows.now }
-    ensures within { IfSome result (λ at. at < length rows.now) }
-{
-    rows.iter().position(|other| no < other.no)
 }

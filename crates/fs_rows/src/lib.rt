@@ -14,5 +14,4 @@ pub use grants::{keep_live, put_each};
 pub use law::{numbers_tell_rows_apart, rows_that_move_leave_tables, tables_are_without_conflict};
 pub use live::Live;
 pub use moving::{are_new, copy_given, drop_given, fit, least_lock};
-pub use reads::is_live;
 pub use rows::Rows;

@@ -9,8 +9,9 @@ ghost use Rattle.fs_rows.specs.Moving.{are_new, fits, is_new, least_of, lock_bel
 use crate::against::stands_against;
 use crate::given_files::GivenFiles;
 use crate::grants::put_each;
-use crate::reads::{self, is_live};
-use fs_field::{Row, table};
+use crate::reads;
+use fs_field::Row;
+use fs_field::table::{self, is_live};
 use fs_ident::{FileId, List, Memory, Twin, TxnNo};
 use fs_map::{FileMap, MapPiece};
 use std::alloc::Global;

@@ -10,6 +10,7 @@ ghost use Rattle.fs_rows.specs.Answer.{answer};
 ghost use Rattle.fs_rows.specs.Live.{unlocked_on};
 
 use crate::against::stands_against;
+use fs_field::table::{child_number, is_lease, is_live};
 use fs_field::{Asked, Field, LeaseKind, Row};
 use fs_ident::{FileId, LeaseNo, List, Memory, Session, TxnNo};
 use std::alloc::Global;
@@ -153,28 +154,4 @@ pub fn unlocked_on(
         }
     }
     Ok(told)
-}
-
-/// Whether the row is not over.
-pub fn is_live(row: &Row, now: u64, skew: u64) -> bool
-    ensures { result ≡ is_live now skew row.now }
-{
-    row.lock.is_some() || now < skew || now - skew < row.until
-}
-
-fn is_lease(row: &Row, no: LeaseNo, session: Session, field: &Field, kind: LeaseKind) -> bool
-    ensures { result ≡ is_lease no session field.now kind row.now }
-{
-    row.no == no && row.session == session && row.field.is(field) && row.kind == kind
-}
-
-/// The last number of the file, where it stands right below the directory.
-fn child_number(dir: &FileId, file: &FileId) -> Option<u32>
-    ensures { result ≡ child_number dir.now file.now }
-{
-    let place = dir.numbers();
-    match file.numbers().split_last() {
-        None => None,
-        Some((k, front)) => { if front == place { Some(*k) } else { None } }
-    }
 }
