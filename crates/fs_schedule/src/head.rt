@@ -87,7 +87,8 @@ fn head_by(alloc: Global, form: &Word, operands: &[Word]) -> Result<Head, Unread
 
 fn direct_of(operands: &[Word]) -> Result<Head, Unread>
     ensures { Tells IsToldHead result
-        (Bare (codes "farsite") ∷ Bare (codes "1") ∷ Bare (codes "direct") ∷ words_in operands.now) }
+        (Bare (codes "farsite") ∷ Bare (codes "1") ∷ Bare (codes "direct") ∷
+        words_in operands.now) }
 {
     match operands {
         [] => Ok(Head::Direct),
@@ -97,7 +98,8 @@ fn direct_of(operands: &[Word]) -> Result<Head, Unread>
 
 fn servers_of(alloc: Global, operands: &[Word]) -> Result<Head, Unread>
     ensures { Tells IsToldHead result
-        (Bare (codes "farsite") ∷ Bare (codes "1") ∷ Bare (codes "servers") ∷ words_in operands.now) }
+        (Bare (codes "farsite") ∷ Bare (codes "1") ∷ Bare (codes "servers") ∷
+        words_in operands.now) }
 {
     let [servers, skew_word, skew, term_word, term] = operands else {
         return Err(Unread::Outside);
