@@ -5,14 +5,13 @@ ghost use Rattle.fs_schedule.specs.Spelling.{servers_in, has_many, has_op};
 ghost use Rattle.fs_schedule.specs.Reading.{Tells, word_of, words_in, IsToldCount, IsToldHead, IsToldHeadLine};
 
 use crate::event::Head;
-use crate::limits::SERVERS;
 use crate::number::count_up_to;
 use crate::operand::{count_at, is_bare, number_at};
 use crate::unread::Unread;
 use crate::word::Word;
 use crate::words::words_of;
 use fs_model::Op;
-use fs_msg::LONGEST;
+use fs_msg::{LONGEST, SERVERS};
 use std::alloc::Global;
 
 /// How many servers the form has.
