@@ -2,6 +2,7 @@
 ghost use Rattle.std.specs.Prelude.{◌≡◌, ◌≢◌, ◌↔◌, ◌+◌, ◌<◌, ◌≤◌, ℕ, false, map, length, IfSome, string_bytes};
 ghost use Rattle.std.specs.Io.KnownBytes.{IsAtEnd};
 ghost use Rattle.fs_io.specs.Faults.{Rose};
+ghost use Rattle.fs_io.specs.declared.reading.TheConstants.{LIMIT};
 ghost use Rattle.fs_msg.specs.declared.core_error.Counter.{Counter};
 ghost use Rattle.fs_schedule.specs.Faults.{AtLine, IsFirstFault, IsOutside, IsSkewed};
 ghost use Rattle.fs_schedule.specs.declared.error.Which.{Which as Limited};
@@ -48,9 +49,9 @@ pub fn farsite<S: Source, K: Sink, C: Clock, L: Link>(
     ensures spent { (counter : Counter) → result ≡ Status.Spent counter →
         IfSome (S.left input.old) (λ bytes. IsStopped (AtCounter counter) bytes) }
     ensures short { IsReadWhole result →
-        IfSome (S.left input.old) (λ bytes. length bytes ≤ 16777216) }
-    ensures too_long { (limit : ℕ) → result ≡ Status.TooLong limit → (limit ≡ 16777216) ×
-        IfSome (S.left input.old) (λ bytes. 16777216 < length bytes) }
+        IfSome (S.left input.old) (λ bytes. length bytes ≤ LIMIT) }
+    ensures too_long { (limit : ℕ) → result ≡ Status.TooLong limit → (limit ≡ LIMIT) ×
+        IfSome (S.left input.old) (λ bytes. LIMIT < length bytes) }
     ensures read_fault { result ≡ Status.ReadFault →
         Rose (S.faults input.old) (S.faults input.new) }
     ensures write_fault { result ≡ Status.WriteFault → Rose (K.faults out.old) (K.faults out.new) }

@@ -42,7 +42,7 @@ pub fn any_denies_delete(handles: &[Handle]) -> bool
 }
 
 /// By session, and then by number.
-fn comes_before(a: Handle, b: Handle) -> bool
+pub fn comes_before(a: Handle, b: Handle) -> bool
     ensures { result ≡ comes_before a b }
 {
     a.session.0 < b.session.0 || a.session.0 == b.session.0 && a.h < b.h

@@ -33,7 +33,7 @@ pub use error::MsgError;
 pub use home::home_of;
 pub use item::Item;
 pub use law::no_message_begins_another;
-pub use limits::LONGEST;
+pub use limits::{LONGEST, SERVERS};
 pub use msg::Msg;
 pub use note::Note;
 pub use peer_msg::PeerMsg;

@@ -25,7 +25,7 @@ use Rattle.fs_parcel.specs.Rows.{AreRows, is_off_modes, rows_off_modes, rows_on_
 
 -- ## Numbers
 
-later : (a b c d : ℕ) → is_lt (ordering_then (nat_cmp a c) (nat_cmp b d)) ≡ true → is_lt (ordering_then (nat_cmp c a) (nat_cmp d b)) ≡ false
+pub later : (a b c d : ℕ) → is_lt (ordering_then (nat_cmp a c) (nat_cmp b d)) ≡ true → is_lt (ordering_then (nat_cmp c a) (nat_cmp d b)) ≡ false
 later a b c d h = grind (arith, nat_tests)
 
 -- of two numbers only one comes first

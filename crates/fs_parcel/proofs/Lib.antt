@@ -5,7 +5,6 @@ pub mod Coming
 pub mod Formed
 pub mod Installed
 pub mod Fitted
-pub mod Distinct
 pub mod Refused
 pub mod Parting
 pub mod Quiet

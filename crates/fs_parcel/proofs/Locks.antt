@@ -11,11 +11,9 @@ use Rattle.fs_rows.specs.Granted.{with_rows}
 use Rattle.fs_rows.specs.Moving.{txn_before, lesser, least_of, lock_below, locked_in}
 use Rattle.fs_rows.proofs.Goes.{least_assoc}
 use Rattle.fs_parcel.specs.Rows.{both}
+use Rattle.fs_parcel.proofs.Both.{later}
 
 -- ## The lesser of two
-
-later : (a b c d : ℕ) → is_lt (ordering_then (nat_cmp a c) (nat_cmp b d)) ≡ true → is_lt (ordering_then (nat_cmp c a) (nat_cmp d b)) ≡ false
-later a b c d h = grind (arith, nat_tests)
 
 one_server : (a b c d : ℕ) → is_lt (ordering_then (nat_cmp a c) (nat_cmp b d)) ≡ false → is_lt (ordering_then (nat_cmp c a) (nat_cmp d b)) ≡ false → a ≡ c
 one_server a b c d h k = grind (arith, nat_tests)

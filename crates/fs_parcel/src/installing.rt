@@ -54,8 +54,8 @@ pub fn install_at(
     skew: u64,
     p: Parcel,
 ) -> Result<(), Memory>
-    requires fits { fits records.old (filter (is_live now skew) (both rows.old modes.old)) map.old me p ≡
-        true }
+    requires fits { fits records.old
+        (filter (is_live now skew) (both rows.old modes.old)) map.old me p ≡ true }
     requires nexts { AreEachRecords p.records }
     requires rows { AreRows (both rows.old modes.old) }
     ensures records { OnOk result (records.new ≡ with_records p.records records.old) }

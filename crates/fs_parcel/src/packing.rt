@@ -94,10 +94,11 @@ pub fn pack_up(
         (modes.new ≡ rows_left prefix.now (piece_of map.old me prefix.now) modes.old) }
     ensures map { OnOk result (map.new ≡ map_after_give map.old me prefix.now to) }
     ensures refused { (e : TheError) → e ≢ Wanting → IsErrOf result e →
-        move_refusal records.old (both rows.old modes.old) map.old me prefix.now to through ≡ Some e }
+        move_refusal records.old (both rows.old modes.old) map.old me prefix.now to through ≡
+        Some e }
     ensures only { (e : TheError) →
-        move_refusal records.old (both rows.old modes.old) map.old me prefix.now to through ≡ Some e →
-        IsErrOf result e ⊎ IsErrOf result Wanting }
+        move_refusal records.old (both rows.old modes.old) map.old me prefix.now to through ≡
+        Some e → IsErrOf result e ⊎ IsErrOf result Wanting }
     ensures err_records { OnErr result (records.new ≡ records.old) }
     ensures err_rows { OnErr result (rows.new ≡ rows.old) }
     ensures err_modes { OnErr result (modes.new ≡ modes.old) }

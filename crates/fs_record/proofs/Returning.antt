@@ -35,7 +35,7 @@ none_same k (e ∷ es) h =
     let q : same e.0 k ≡ false = sym (tied e.0 k) ∙ other k e.0 (less _ (first _ _ h)) in
     ap₂ (λ a b. a || b) q (none_same k es (second _ _ h))
 
-all_distinct : (es : Keyed Record) → is_sorted (slice_cmp nat_cmp) es ≡ true → are_distinct es ≡ true
+pub all_distinct : (es : Keyed Record) → is_sorted (slice_cmp nat_cmp) es ≡ true → are_distinct es ≡ true
 all_distinct [] h = refl
 all_distinct (e ∷ es) h = joined _ _ (ap not (none_same e.0 es (first _ _ h))) (all_distinct es (second _ _ h))
 

@@ -64,7 +64,7 @@ pub fn apply(
             };
             return open(records, file, handle);
         }
-        Effect::RemoveHandle { file, session, h } => close(alloc, records, file, *session, *h),
+        Effect::RemoveHandle { file, session, h } => close(records, file, *session, *h),
         Effect::SetInfo { file, size, stamp } => set(records, file, *size, *stamp),
     }
     Ok(())
@@ -187,13 +187,7 @@ fn open(records: &mut BTreeMap<FileId, Record>, file: &FileId, handle: Handle) -
 
 /// Takes away what the session has under the handle.
 #[tactic(auto, using(fs_ident::proofs::MapsOf::maps, fs_ident::proofs::MapsOf::map_of_absent))]
-fn close(
-    alloc: Global,
-    records: &mut BTreeMap<FileId, Record>,
-    file: &FileId,
-    session: Session,
-    h: u32,
-)
+fn close(records: &mut BTreeMap<FileId, Record>, file: &FileId, session: Session, h: u32)
     ensures { map_of records.new ≡
         records_after (map_of records.old) (RemoveHandle file.now session h) }
 {

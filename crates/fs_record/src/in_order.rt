@@ -4,10 +4,10 @@ ghost use Rattle.std.specs.Cmp.Lexicographic.{slice_cmp};
 ghost use Rattle.std.specs.FinMap.Entries.{below_all};
 ghost use Rattle.std.specs.Ordering.{nat_cmp};
 ghost use Rattle.fs_ident.specs.Ordered.{are_keys_in_order};
-ghost use Rattle.fs_model.specs.Handles.{comes_before, handles_are_in_order, is_before_all};
+ghost use Rattle.fs_model.specs.Handles.{handles_are_in_order, is_before_all};
 
 use fs_ident::{FileId, Name};
-use fs_model::{Handle, Node};
+use fs_model::{Handle, Node, handles};
 use std::cmp::Ordering;
 
 /// Whether the children rise strictly by name, and the handles by session and number.
@@ -59,17 +59,10 @@ fn handles_rise_from(first: Handle, rest: &[Handle]) -> bool
 {
     let mut last = first;
     for x in rest {
-        if !comes_before(last, *x) {
+        if !handles::comes_before(last, *x) {
             return false;
         }
         last = *x;
     }
     true
-}
-
-/// By session, and then by number.
-fn comes_before(a: Handle, b: Handle) -> bool
-    ensures { result ≡ comes_before a b }
-{
-    a.session.0 < b.session.0 || a.session.0 == b.session.0 && a.h < b.h
 }

@@ -232,7 +232,8 @@ impl Records {
 
     /// Whether a file that the piece gives has a record.
     pub fn has_given(&self, piece: &MapPiece) -> bool
-        ensures { result ≡ not (is_empty (records_given piece.now.prefix piece.now.given self.now)) }
+        ensures { result ≡
+            not (is_empty (records_given piece.now.prefix piece.now.given self.now)) }
     {
         moving::has_given(&self.records, piece)
     }

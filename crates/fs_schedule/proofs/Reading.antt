@@ -13,7 +13,8 @@ use Rattle.fs_schedule.specs.declared.event.Head.{Head}
 use Rattle.fs_schedule.specs.declared.event.Head.TheVariants as form
 use Rattle.fs_schedule.specs.declared.error.Which.{Which}
 use Rattle.fs_schedule.specs.declared.error.Which.TheVariants.{Bytes, Servers, Sessions, Events, Packets}
-use Rattle.fs_schedule.specs.declared.limits.TheConstants.{BYTES, SERVERS, EVENTS}
+use Rattle.fs_msg.specs.declared.limits.TheConstants.{SERVERS}
+use Rattle.fs_schedule.specs.declared.limits.TheConstants.{BYTES, EVENTS}
 use Rattle.fs_schedule.specs.Words.{Bare, line_text}
 use Rattle.fs_schedule.specs.Spelling.{IsHeadLine, has_many, IsLineOf, names_late}
 use Rattle.fs_schedule.specs.Reading.{capped, capped_head, capped_what, IsToldHeadLine, IsToldLine}

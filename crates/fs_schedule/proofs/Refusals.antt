@@ -13,8 +13,7 @@ use Rattle.fs_schedule.specs.declared.event.Head.TheVariants.{Direct, Servers}
 use Rattle.fs_ident.specs.Ident.{IsId}
 use Rattle.fs_ident.specs.IdText.{id_text}
 use Rattle.fs_ident.specs.declared.limits.TheConstants.{SESSIONS}
-use Rattle.fs_msg.specs.declared.limits.TheConstants.{LONGEST}
-use Rattle.fs_schedule.specs.declared.limits.TheConstants.{SERVERS}
+use Rattle.fs_msg.specs.declared.limits.TheConstants.{LONGEST, SERVERS}
 use Rattle.fs_ident.specs.declared.actor.Session.{Session}
 use Rattle.fs_ident.specs.declared.actor.Peer.{Peer}
 use Rattle.fs_ident.specs.declared.actor.Peer.TheVariants.{Server, Client}

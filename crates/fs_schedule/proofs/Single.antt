@@ -8,7 +8,7 @@ use Rattle.std.proofs.lemmas.Fmt.{decimal_injective}
 use Rattle.fs_ident.specs.declared.actor.Session.{Session}
 use Rattle.fs_ident.specs.declared.limits.TheConstants.{SESSIONS}
 use Rattle.fs_ident.specs.IdText.{id_text}
-use Rattle.fs_schedule.specs.declared.limits.TheConstants.{SERVERS}
+use Rattle.fs_msg.specs.declared.limits.TheConstants.{SERVERS}
 use Rattle.fs_ident.specs.declared.actor.Peer.TheVariants.{Server, Client}
 use Rattle.fs_schedule.specs.Words.{Word, Bare}
 use Rattle.fs_schedule.specs.declared.event.What.{What}

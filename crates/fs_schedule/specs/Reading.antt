@@ -15,7 +15,7 @@ use Rattle.fs_schedule.specs.declared.event.What.TheVariants.{Join, Do, Tell, Tu
 use Rattle.fs_schedule.specs.declared.event.Event.{Event}
 use Rattle.fs_schedule.specs.declared.event.Head.{Head}
 use Rattle.fs_schedule.specs.declared.event.Head.TheVariants.{Direct, Servers}
-use Rattle.fs_schedule.specs.declared.limits.TheConstants.{SERVERS}
+use Rattle.fs_msg.specs.declared.limits.TheConstants.{SERVERS}
 use Rattle.fs_schedule.specs.Words.{Word, Bare, Quoted, line_text}
 use Rattle.fs_schedule.specs.Spelling.{IsHeadSpelled, IsServerIn, IsNumberOf, client_word, server_word, IsSpelled}
 

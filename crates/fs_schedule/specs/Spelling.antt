@@ -18,8 +18,7 @@ use Rattle.fs_model.specs.declared.op.Op.{Op}
 use Rattle.fs_model.specs.declared.op.Op.TheVariants as op
 use Rattle.fs_field.specs.declared.field.Field.{Field}
 use Rattle.fs_field.specs.declared.field.Field.TheVariants as field
-use Rattle.fs_msg.specs.declared.limits.TheConstants.{LONGEST}
-use Rattle.fs_schedule.specs.declared.limits.TheConstants.{SERVERS}
+use Rattle.fs_msg.specs.declared.limits.TheConstants.{LONGEST, SERVERS}
 use Rattle.fs_schedule.specs.declared.event.Head.{Head}
 use Rattle.fs_schedule.specs.declared.event.Head.TheVariants.{Direct, Servers}
 use Rattle.fs_schedule.specs.declared.event.What.{What}

@@ -5,14 +5,13 @@ ghost use Rattle.fs_schedule.specs.Spelling.{servers_in, has_many, has_op};
 ghost use Rattle.fs_schedule.specs.Reading.{Tells, word_of, words_in, IsToldCount, IsToldHead, IsToldHeadLine};
 
 use crate::event::Head;
-use crate::limits::SERVERS;
 use crate::number::count_up_to;
 use crate::operand::{count_at, is_bare, number_at};
 use crate::unread::Unread;
 use crate::word::Word;
 use crate::words::words_of;
 use fs_model::Op;
-use fs_msg::LONGEST;
+use fs_msg::{LONGEST, SERVERS};
 use std::alloc::Global;
 
 /// How many servers the form has.
@@ -87,7 +86,8 @@ fn head_by(alloc: Global, form: &Word, operands: &[Word]) -> Result<Head, Unread
 
 fn direct_of(operands: &[Word]) -> Result<Head, Unread>
     ensures { Tells IsToldHead result
-        (Bare (codes "farsite") ∷ Bare (codes "1") ∷ Bare (codes "direct") ∷ words_in operands.now) }
+        (Bare (codes "farsite") ∷ Bare (codes "1") ∷ Bare (codes "direct") ∷
+        words_in operands.now) }
 {
     match operands {
         [] => Ok(Head::Direct),
@@ -97,7 +97,8 @@ fn direct_of(operands: &[Word]) -> Result<Head, Unread>
 
 fn servers_of(alloc: Global, operands: &[Word]) -> Result<Head, Unread>
     ensures { Tells IsToldHead result
-        (Bare (codes "farsite") ∷ Bare (codes "1") ∷ Bare (codes "servers") ∷ words_in operands.now) }
+        (Bare (codes "farsite") ∷ Bare (codes "1") ∷ Bare (codes "servers") ∷
+        words_in operands.now) }
 {
     let [servers, skew_word, skew, term_word, term] = operands else {
         return Err(Unread::Outside);

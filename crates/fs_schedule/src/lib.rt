@@ -24,6 +24,6 @@ mod words;
 pub use error::{ScheduleError, Which};
 pub use event::{Event, Head, Schedule, What};
 pub use law::one_reading;
-pub use limits::{BYTES, EVENTS, PACKETS, SERVERS};
+pub use limits::{BYTES, EVENTS, PACKETS};
 pub use outcome::Outcome;
 pub use schedule::read_schedule;

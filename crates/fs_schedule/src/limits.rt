@@ -3,9 +3,6 @@
 /// The most bytes of a line.
 pub const BYTES: usize = 4096;
 
-/// The most servers of a form.
-pub const SERVERS: u8 = 15;
-
 /// The most events of a schedule.
 pub const EVENTS: usize = 65_536;
 

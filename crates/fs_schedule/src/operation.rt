@@ -81,7 +81,8 @@ fn verb_of(text: &[u8]) -> Result<Verb, Unread>
 }
 
 fn op_of(alloc: Global, verb: Verb, operands: &[Word]) -> Result<Op, Unread>
-    ensures { Reads op_words (FitsOp Direct) result (Bare (verb_text verb) ∷ words_in operands.now) }
+    ensures { Reads op_words (FitsOp Direct) result
+        (Bare (verb_text verb) ∷ words_in operands.now) }
 {
     match verb {
         Verb::Lookup => lookup_of(alloc, operands),
@@ -199,8 +200,9 @@ fn set_of(alloc: Global, operands: &[Word]) -> Result<Op, Unread>
 
 /// The same, where the file and the handle were read.
 fn set_to(alloc: Global, file: FileId, h: u32, operands: &[Word]) -> Result<Op, Unread>
-    ensures { Reads op_words (FitsOp Direct) result (Bare (verb_text verb.Set) ∷ Bare (id_text file) ∷
-        Bare (decimal h) ∷ words_in operands.now) }
+    ensures { Reads op_words (FitsOp Direct) result
+        (Bare (verb_text verb.Set) ∷ Bare (id_text file) ∷ Bare (decimal h) ∷
+        words_in operands.now) }
 {
     let [size, stamp] = operands else {
         return Err(Unread::Outside);
@@ -241,8 +243,9 @@ fn rename_of(alloc: Global, operands: &[Word]) -> Result<Op, Unread>
 
 /// The same, where the place that it leaves was read.
 fn rename_to(alloc: Global, sdir: FileId, sname: Name, operands: &[Word]) -> Result<Op, Unread>
-    ensures { Reads op_words (FitsOp Direct) result (Bare (verb_text verb.Rename) ∷ Bare (id_text sdir) ∷
-        Quoted sname ∷ words_in operands.now) }
+    ensures { Reads op_words (FitsOp Direct) result
+        (Bare (verb_text verb.Rename) ∷ Bare (id_text sdir) ∷ Quoted sname ∷
+        words_in operands.now) }
 {
     let [ddir, dname] = operands else {
         return Err(Unread::Outside);

@@ -2,7 +2,7 @@
 use Rattle.std.specs.Prelude.{◌≡◌, ℕ, ◌+◌, ◌<◌, ◌≤◌, ◌^◌, true, List, length, Option, Some, None}
 use Rattle.std.specs.List.{list_all}
 use Rattle.fs_ident.specs.declared.limits.TheConstants.{LATEST}
-use Rattle.fs_msg.specs.declared.limits.TheConstants.{LONGEST}
+use Rattle.fs_msg.specs.declared.limits.TheConstants.{LONGEST, SERVERS}
 use Rattle.fs_map.specs.Lists.{map_after_take}
 use Rattle.fs_map.specs.Map.{IsPiece}
 use Rattle.fs_rows.specs.Given.{AreGiven}
@@ -51,7 +51,7 @@ committed p s = changed p.change (begun p.now s)
 
 -- its readings and terms are in their ranges, and each row of its own has a number that it gave
 pub record IsServer (s : Server) : Type 0 where
-  pub few : s.me < 15
+  pub few : s.me < SERVERS
   pub skew : s.skew ≤ LONGEST
   pub term : s.term ≤ LONGEST
   pub last : s.last ≤ LATEST

@@ -3,7 +3,7 @@ ghost use Rattle.std.specs.Prelude.{◌≡◌, ◌<◌, ◌≤◌, ◌⊎◌, If
 ghost use Rattle.fs_ident.specs.declared.limits.TheConstants.{LATEST};
 ghost use Rattle.fs_msg.specs.declared.core_error.Counter.{Counter as TheCounter};
 ghost use Rattle.fs_msg.specs.declared.core_error.CoreError.TheVariants as errors;
-ghost use Rattle.fs_msg.specs.declared.limits.TheConstants.{LONGEST};
+ghost use Rattle.fs_msg.specs.declared.limits.TheConstants.{LONGEST, SERVERS};
 
 use crate::all_rows::AllRows;
 use crate::begun::Begun;
@@ -50,7 +50,7 @@ impl ServerCore {
     /// A server before its first event: its number, by how much two clocks may differ, and for how long it gives a
     /// lease, both in milliseconds. Server 0 has the root directory and manages everything, as each of them knows.
     pub fn new(alloc: Global, me: u8, skew: u64, term: u64) -> Result<ServerCore, Memory>
-        requires few { me < 15 }
+        requires few { me < SERVERS }
         requires skew { skew ≤ LONGEST }
         requires some { 1 ≤ term }
         requires term { term ≤ LONGEST }

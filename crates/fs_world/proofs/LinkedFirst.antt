@@ -10,6 +10,7 @@ use Rattle.fs_ident.specs.declared.actor.Session.{Session}
 use Rattle.fs_ident.specs.declared.limits.TheConstants.{SESSIONS}
 use Rattle.fs_window.specs.Post.{Links, link_with, new_link, no_links}
 use Rattle.fs_wire.specs.Readable.{is_readable_session}
+use Rattle.fs_msg.specs.declared.limits.TheConstants.{SERVERS}
 use Rattle.fs_msg.specs.declared.msg.Msg.{Msg}
 use Rattle.fs_serial.specs.Cluster.{first_servers}
 use Rattle.fs_serial.specs.declared.flying.Flying.{Flying}
@@ -95,7 +96,7 @@ first_tied n skew term = record {
 no_seat : (seat : Seat) → ◌≡◌ {A = Option Seat} (Some seat) None → ⊥
 no_seat seat e = absurd (cc)
 
-pub first_linked : (n skew term : ℕ) → 1 ≤ n → n ≤ 15 → IsLinked (first_served n skew term)
+pub first_linked : (n skew term : ℕ) → 1 ≤ n → n ≤ SERVERS → IsLinked (first_served n skew term)
 first_linked n skew term some few =
     let len = first_length n skew term in
     record {

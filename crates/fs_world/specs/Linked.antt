@@ -19,6 +19,7 @@ use Rattle.fs_msg.specs.declared.answer.Answer.TheVariants.{Granted, Renewed, Re
 use Rattle.fs_msg.specs.declared.client_msg.ClientMsg.{ClientMsg}
 use Rattle.fs_msg.specs.declared.end.End.{End}
 use Rattle.fs_msg.specs.declared.end.End.TheVariants.{Moved}
+use Rattle.fs_msg.specs.declared.limits.TheConstants.{SERVERS}
 use Rattle.fs_msg.specs.declared.msg.Msg.{Msg}
 use Rattle.fs_msg.specs.declared.msg.Msg.TheVariants as msg
 use Rattle.fs_msg.specs.declared.peer_msg.PeerMsg.TheVariants.{Parcel as OfParcel}
@@ -171,7 +172,7 @@ pub record IsCarried (servers : ℕ) (seats : Seats) (f : Flying) : Type 0 where
 pub record IsLinked (w : Served) : Type 0 where
   pub posts : length w.posts ≡ length w.servers
   pub some : 1 ≤ length w.servers
-  pub few : length w.servers ≤ 15
+  pub few : length w.servers ≤ SERVERS
   pub ties : AreTied w
   pub servers : (k : ℕ) (s : Core) → slice_get w.servers k ≡ Some s → IsServed (length w.servers) w.seats k s
   pub seats : (s : Session) (seat : Seat) → get w.seats s.0 ≡ Some seat → IsSeated (length w.servers) s seat

@@ -4,7 +4,7 @@ ghost use Rattle.std.specs.FinMap as map;
 ghost use Rattle.fs_ident.specs.declared.limits.TheConstants.{LATEST, SESSIONS};
 ghost use Rattle.fs_msg.specs.declared.core_error.Counter.{Counter as TheCounter};
 ghost use Rattle.fs_msg.specs.declared.core_error.CoreError.TheVariants as errors;
-ghost use Rattle.fs_msg.specs.declared.limits.TheConstants.{LONGEST};
+ghost use Rattle.fs_msg.specs.declared.limits.TheConstants.{LONGEST, SERVERS};
 ghost use Rattle.fs_record.specs.Records.{AreRecords};
 ghost use Rattle.fs_serial.specs.Cluster.{first_servers};
 ghost use Rattle.fs_serial.specs.World.{is_called};
@@ -48,7 +48,7 @@ impl Served {
     /// lasts, both in milliseconds.
     pub(crate) fn new(alloc: Global, servers: u8, skew: u64, term: u64) -> Result<Served, Memory>
         requires one { 1 ≤ servers }
-        requires few { servers ≤ 15 }
+        requires few { servers ≤ SERVERS }
         requires skew { skew ≤ LONGEST }
         requires some { 1 ≤ term }
         requires most { term ≤ LONGEST }
@@ -294,7 +294,7 @@ fn know_records(core: &ServerCore)
 
 /// So many new servers.
 fn new_servers(alloc: Global, count: u8, skew: u64, term: u64) -> Result<List<ServerCore>, Memory>
-    requires few { count ≤ 15 }
+    requires few { count ≤ SERVERS }
     requires skew { skew ≤ LONGEST }
     requires some { 1 ≤ term }
     requires most { term ≤ LONGEST }

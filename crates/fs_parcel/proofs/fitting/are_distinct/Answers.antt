@@ -1,5 +1,5 @@
 use Rattle.std.proofs.Common.{◌∙◌, sym}
-use Rattle.fs_parcel.proofs.Distinct.{all_distinct}
+use Rattle.fs_record.proofs.Returning.{all_distinct}
 use Rattle.fs_parcel.proofs.fitting.are_distinct.Goals as goal
 
 pub returns-then-files_rise : goal.returns-then-files_rise
