@@ -123,11 +123,6 @@ held_none (Held l) h = refl
 held_none (Pinned u) h = absurd (cc)
 held_none (Leaving l) h = absurd (cc)
 
-not_held : (s : Standing) → is_leaving s ≡ true → is_held s ≡ false
-not_held (Held l) h = absurd (cc)
-not_held (Pinned u) h = absurd (cc)
-not_held (Leaving l) h = refl
-
 -- the lease of that number is held
 pub record IsHeldThere (ks : List Kept) (n : LeaseNo) : Type 0 where
   pub kept : Kept

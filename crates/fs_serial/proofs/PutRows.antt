@@ -44,13 +44,6 @@ not_first a b y q p =
       | false ↦ λ e. refl
     ] refl
 
-later : (a b c d : ℕ) → is_lt (ordering_then (nat_cmp a c) (nat_cmp b d)) ≡ true → is_lt (ordering_then (nat_cmp c a) (nat_cmp d b)) ≡ false
-later a b c d h = grind (arith, nat_tests)
-
--- of two numbers only one comes first
-not_back : (a b : LeaseNo) → no_before a b ≡ true → no_before b a ≡ false
-not_back a b h = later a.server a.count b.server b.count h
-
 turned : {X : Type 0} (b : Bool) (x y : X) → cond (not b) x y ≡ cond b y x
 turned true x y = refl
 turned false x y = refl

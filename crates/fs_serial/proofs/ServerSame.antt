@@ -1,7 +1,6 @@
--- No event of the server changes its number and its skew, and its clock only at the beginning.
+-- No question and no log changes the server's number, its skew and its clock.
 use Rattle.std.proofs.Common.{◌≡◌, ℕ, Bool, true, false, List, [], ◌∷◌, ◌++◌, map, cond, refl, ◌∙◌}
 use Rattle.std.specs.Prelude.{Option, Some, None}
-use Rattle.std.specs.List.{list_all}
 use Rattle.fs_ident.specs.declared.actor.Session.{Session}
 use Rattle.fs_field.specs.declared.asked.Asked.{Asked}
 use Rattle.fs_field.specs.declared.asked.Asked.TheVariants as asked_as
@@ -10,29 +9,17 @@ use Rattle.fs_field.specs.declared.lease_kind.LeaseKind.{LeaseKind}
 use Rattle.fs_field.specs.Field.{file_of}
 use Rattle.fs_field.specs.Table.{borne_numbers}
 use Rattle.fs_msg.specs.declared.answer.Grant.{Grant}
-use Rattle.fs_msg.specs.declared.client_msg.ClientMsg.{ClientMsg}
-use Rattle.fs_msg.specs.declared.client_msg.ClientMsg.TheVariants.{Ask, Renew, Release, Ship}
 use Rattle.fs_msg.specs.declared.end.End.{End}
 use Rattle.fs_msg.specs.declared.end.End.TheVariants as end
 use Rattle.fs_msg.specs.declared.entry.Entry.{Entry}
 use Rattle.fs_msg.specs.Home.{home_of}
 use Rattle.fs_msg.specs.declared.item.Item.{Item}
-use Rattle.fs_msg.specs.declared.peer_msg.PeerMsg.{PeerMsg}
-use Rattle.fs_msg.specs.declared.peer_msg.PeerMsg.TheVariants.{Parcel}
-use Rattle.fs_parcel.specs.Parcel.{move_refusal}
-use Rattle.fs_parcel.specs.declared.error.MoveError.{MoveError}
-use Rattle.fs_record.specs.Effects.{tells_its_effects}
 use Rattle.fs_record.specs.Fresh.{fresh_number, is_directory}
 use Rattle.fs_server.specs.Asks.{Asking, answer_to, ask_from, ask_fresh, asked_in, fresh_for, fresh_in, fresh_of, grant_of, kind_for, with_lease}
-use Rattle.fs_server.specs.Moves.{fits_here, move_at, parcel_at, peer_step}
-use Rattle.fs_server.specs.Server.{is_mine, moved, strange}
-use Rattle.fs_server.specs.Ships.{Shipping, first_gone, item_of, ship_from, shipped, with_entry}
-use Rattle.fs_server.specs.Step.{event_step, message_step}
-use Rattle.fs_server.specs.declared.event.ServerEvent.{ServerEvent}
-use Rattle.fs_server.specs.declared.event.ServerEvent.TheVariants.{FromClient, FromPeer, Move, Turn, Recall}
+use Rattle.fs_server.specs.Server.{is_mine, moved}
+use Rattle.fs_server.specs.Ships.{Shipping, first_gone, item_of, ship_from, with_entry}
 use Rattle.fs_server.specs.declared.state.Server.{Server}
 use Rattle.fs_field.specs.declared.used.Use.{Use}
-use Rattle.fs_serial.proofs.ServerTurn.{turn_leaves}
 
 -- ## What a question leaves
 
@@ -110,31 +97,3 @@ ships_same by (e ∷ es) s admitted =
           ]
       | false ↦ as_it_was s
     ]
-
--- ## Each event
-
-message_same : (by : Session) (m : ClientMsg) (s : Server) → IsAsBefore s (message_step by m s).server
-message_same by (Ask items dir) s = asked_same by items dir s
-message_same by (Renew pairs) s = record { skew = refl; last = refl; me = refl }
-message_same by (Release pairs) s = record { skew = refl; last = refl; me = refl }
-message_same by (Ship entries) s = elim (list_all (λ (e : Entry). tells_its_effects e.op) entries) as (λ b. IsAsBefore s (cond b (shipped by (ship_from by entries s [])) (strange s)).server) [
-  | true ↦ ships_same by entries s []
-  | false ↦ as_it_was s
-]
-
-peer_same : (m : PeerMsg) (s : Server) → IsAsBefore s (peer_step m s).server
-peer_same (Parcel p) s = elim (fits_here p s) as (λ b. IsAsBefore s (parcel_at b p s).server) [
-  | true ↦ record { skew = refl; last = refl; me = refl }
-  | false ↦ as_it_was s
-]
-
-move_same : (why : Option MoveError) (prefix : List ℕ) (to : ℕ) (s : Server) → IsAsBefore s (move_at why prefix to s).server
-move_same None prefix to s = record { skew = refl; last = refl; me = refl }
-move_same (Some why) prefix to s = as_it_was s
-
-pub event_same : (e : ServerEvent) (s : Server) → IsAsBefore s (event_step e s).server
-event_same (FromClient by m) s = message_same by m s
-event_same Turn s = let q = turn_leaves s in record { skew = q.skew; last = q.last; me = q.me }
-event_same (FromPeer from m) s = peer_same m s
-event_same (Recall field) s = as_it_was s
-event_same (Move prefix to) s = move_same (move_refusal s.records s.rows s.map s.me prefix to None) prefix to s

@@ -102,19 +102,12 @@ module _ (o : Counts) (skew greatest : ℕ) (journal : List Item) (replied : Ses
         | Some number ↦ λ held. goes_all xs s admitted (with_blocker number blockers) (λ y i. gone y (inr i)) h
       ] refl
 
-turn_over_leaves : (xs : List (List ℕ × Session)) (s : Server) → IsReaped s (turn_over xs s).server
-turn_over_leaves [] s = record { skew = refl; last = refl; rows = refl; me = refl; given = refl }
-turn_over_leaves (x ∷ xs) s = reaps_leave (x ∷ xs) s [] []
-
 -- no row is new
 pub later_reaped : (o : Counts) (s t : Server) → IsReaped s t → IsLater (given_by o s) (given_by o t) s.rows t.rows
 later_reaped o s t q =
     subst (λ rows. IsLater (given_by o s) (given_by o t) s.rows rows) (sym q.rows)
     (subst (λ me. IsLater (given_by o s) (count_with me t.given o.given) s.rows s.rows) (sym q.me)
     (subst (λ n. IsLater (given_by o s) (count_with s.me n o.given) s.rows s.rows) (sym q.given) (later_itself (given_by o s) s.rows)))
-
-pub turn_leaves : (s : Server) → IsReaped s (turn_step s).server
-turn_leaves s = turn_over_leaves (lapsed_in s) s
 
 -- ## Leases in the way
 
