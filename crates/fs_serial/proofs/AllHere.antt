@@ -4,12 +4,12 @@ use Rattle.std.specs.Prelude.{Some, slice_get}
 use Rattle.fs_ident.specs.In.{In}
 use Rattle.fs_field.specs.declared.row.Row.{Row}
 use Rattle.fs_field.specs.Field.{file_of}
+use Rattle.fs_moderows.proofs.Moves.{came_or_was}
 use Rattle.fs_server.specs.Server.{is_mine}
 use Rattle.fs_server.specs.declared.state.Server.{Server}
 use Rattle.fs_serial.specs.Cluster.{Cluster, parcels_of}
 use Rattle.fs_serial.specs.Joined.{rows_of_all}
 use Rattle.fs_serial.specs.Places.{PlacesHold}
-use Rattle.fs_serial.proofs.PutRows.{In-puts}
 use Rattle.fs_serial.proofs.Rest.{IsApart, Rest, joined}
 use Rattle.fs_serial.proofs.RestOf.{IsBetween, all_here, apart_of, between, rest_of}
 
@@ -31,7 +31,7 @@ module _ (k : ℕ) (c : Cluster) (s : Server) (is : slice_get c.servers k ≡ So
 
   -- each row on a file that is managed here is here
   pub row_at_home : (r : Row) → In r all_rows → is_mine s (file_of r.field) ≡ true → In r s.rows
-  row_at_home r i mine = elim (In-puts r rest.rows s.rows (subst (In r) rows_are i)) as (λ _. In r s.rows) [
+  row_at_home r i mine = elim (came_or_was r rest.rows s.rows (subst (In r) rows_are i)) as (λ _. In r s.rows) [
     | inl j ↦ let wrong : true ≡ false = sym mine ∙ apart.rows r j in absurd (cc)
     | inr j ↦ j
   ]
