@@ -36,7 +36,8 @@ use Rattle.fs_serial.specs.Settled.{Lease, Settled, lease_in, lease_after, effec
 use Rattle.fs_serial.specs.Sight.{Sight}
 use Rattle.fs_serial.proofs.Facts.{In-mapped, each_image}
 use Rattle.fs_serial.proofs.Heard.{IsHeard, heard, quiet_exchange}
-use Rattle.fs_serial.proofs.ReplyPins.{distinct_mapped, pair_in, turned}
+use Rattle.fs_serial.proofs.PutRows.{same_no_symm}
+use Rattle.fs_serial.proofs.ReplyPins.{distinct_mapped, pair_in}
 use Rattle.fs_serial.proofs.Seats.{Seat, seen_at}
 
 -- ## One use less
@@ -128,7 +129,7 @@ more_if b n = cond b (n + 1) n
 counted_one : (u : Use) (ks : List Kept) (count : LeaseNo → ℕ) → ((k : Kept) → In k ks → entries_of k.standing ≡ more_if (same_no u.no (number_of k.standing)) (count (number_of k.standing)))
     → (k : Kept) → In k (unpinned_at u.no ks) → entries_of k.standing ≡ count (number_of k.standing)
 counted_one u ks count h = each_image (one_unpin u.no) (λ k. entries_of k.standing ≡ count (number_of k.standing)) ks (λ k i.
-    within k (has_number u.no k) refl (h k i ∙ ap (λ b. more_if b (count (number_of k.standing))) (turned u.no (number_of k.standing)))
+    within k (has_number u.no k) refl (h k i ∙ ap (λ b. more_if b (count (number_of k.standing))) (same_no_symm u.no (number_of k.standing)))
     ∙ ap count (sym (one_keeps number_of free_number u.no k)))
   where
     within : (k : Kept) (b : Bool) → has_number u.no k ≡ b → entries_of k.standing ≡ more_if (has_number u.no k) (count (number_of k.standing)) → entries_of (cond b (let x : Kept = record k { standing = unpinned k.standing } in x) k).standing ≡ count (number_of k.standing)

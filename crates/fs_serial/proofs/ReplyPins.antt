@@ -1,8 +1,7 @@
 -- A client answers: its leases are in use by one entry more.
-use Rattle.std.proofs.Common.{◌≡◌, ℕ, ◌+◌, ◌==◌, ◌&&◌, Bool, true, false, List, [], ◌∷◌, ◌++◌, map, refl, sym, ap, ◌∙◌, subst, inl, inr, cond, arith}
+use Rattle.std.proofs.Common.{◌≡◌, ℕ, ◌+◌, Bool, true, false, List, [], ◌∷◌, ◌++◌, map, refl, sym, ap, ◌∙◌, subst, inl, inr, cond, arith}
 use Rattle.std.specs.Prelude.{option_map}
 use Rattle.std.specs.List.{filter_map, cons_option}
-use Rattle.std.specs.Cmp.{nat_eq_equiv}
 use Rattle.std.proofs.lemmas.List.{map-append}
 use Rattle.fs_ident.specs.In.{In}
 use Rattle.fs_ident.specs.declared.actor.LeaseNo.{LeaseNo}
@@ -26,6 +25,7 @@ use Rattle.fs_serial.specs.Client.{ClientFits, KeptDistinct, times_used, times_i
 use Rattle.fs_serial.specs.Settled.{Lease, Settled, lease_in, effects_in, settled_now}
 use Rattle.fs_serial.specs.Pending.{HasLease, UsesHeld}
 use Rattle.fs_serial.proofs.Facts.{each_image, each_more}
+use Rattle.fs_serial.proofs.PutRows.{same_no_symm}
 use Rattle.fs_serial.proofs.Reply.{with_last}
 
 -- ## One use more
@@ -109,9 +109,6 @@ InHand us ks = (u : Use) → In u us → (k : Kept) → In k ks → number_of k.
 in_hand_still : (us : List Use) (n : LeaseNo) (ks : List Kept) → InHand us ks → InHand us (pinned_at n ks)
 in_hand_still us n ks h u i = each_image (one_pin n) (λ k. number_of k.standing ≡ u.no → is_leaving k.standing ≡ false) ks (λ k j e. one_keeps is_leaving pin_leaving n k ∙ h u i k j (sym (one_keeps number_of pin_number n k) ∙ e))
 
-pub turned : (a b : LeaseNo) → same_no a b ≡ same_no b a
-turned a b = ap (λ x. x && (a.count == b.count)) (nat_eq_equiv.symm a.server b.server) ∙ ap (λ x. (b.server == a.server) && x) (nat_eq_equiv.symm a.count b.count)
-
 abbrev one_more : Bool → ℕ → ℕ
 one_more b n = cond b (n + 1) n
 
@@ -120,7 +117,7 @@ counted_one : (u : Use) (ks : List Kept) (count : LeaseNo → ℕ) → ((k : Kep
 counted_one u ks count hand h = each_image (one_pin u.no) (λ k. entries_of k.standing ≡ one_more (same_no u.no (number_of k.standing)) (count (number_of k.standing))) ks (λ k i.
     let number : number_of (one_pin u.no k).standing ≡ number_of k.standing = one_keeps number_of pin_number u.no k in
     within k i (has_number u.no k) refl
-    ∙ ap (λ b. one_more b (count (number_of k.standing))) (turned (number_of k.standing) u.no)
+    ∙ ap (λ b. one_more b (count (number_of k.standing))) (same_no_symm (number_of k.standing) u.no)
     ∙ ap (λ n. one_more (same_no u.no n) (count n)) (sym number))
   where
     within : (k : Kept) → In k ks → (b : Bool) → has_number u.no k ≡ b → entries_of (cond b (let x : Kept = record k { standing = pinned k.standing } in x) k).standing ≡ one_more b (count (number_of k.standing))
