@@ -60,11 +60,11 @@ pin_lease (Held l) = refl
 pin_lease (Pinned u) = refl
 pin_lease (Leaving l) = refl
 
--- what a pin keeps of a standing, it keeps of the lease
-pub one_keeps : {X : Type 0} (f : Standing → X) → ((s : Standing) → f (pinned s) ≡ f s) → (n : LeaseNo) (k : Kept) → f (with_pin n k).standing ≡ f k.standing
-one_keeps f h n k = within (has_number n k)
+-- what a change keeps of a standing, it keeps of the lease of that number
+pub one_keeps : {X : Type 0} (f : Standing → X) (g : Standing → Standing) → ((s : Standing) → f (g s) ≡ f s) → (n : LeaseNo) (k : Kept) → f (cond (has_number n k) (let x : Kept = record k { standing = g k.standing } in x) k).standing ≡ f k.standing
+one_keeps f g h n k = within (has_number n k)
   where
-    within : (b : Bool) → f (cond b (let x : Kept = record k { standing = pinned k.standing } in x) k).standing ≡ f k.standing
+    within : (b : Bool) → f (cond b (let x : Kept = record k { standing = g k.standing } in x) k).standing ≡ f k.standing
     within true = h k.standing
     within false = refl
 
@@ -77,7 +77,7 @@ pin_in n k = within (has_number n k)
     within true = ap (λ o. option_map (λ (l : Term). let x : Lease = record { no = l.no; field = l.field; kind = l.kind; until = l.until; base = k.base; below = k.below } in x) o) (pin_lease k.standing)
     within false = refl
 
-same_leases : (f : Kept → Kept) → ((k : Kept) → lease_in (f k) ≡ lease_in k) → (ks : List Kept) → filter_map lease_in (map f ks) ≡ filter_map lease_in ks
+pub same_leases : (f : Kept → Kept) → ((k : Kept) → lease_in (f k) ≡ lease_in k) → (ks : List Kept) → filter_map lease_in (map f ks) ≡ filter_map lease_in ks
 same_leases f h [] = refl
 same_leases f h (k ∷ ks) = ap (λ o. cons_option o (filter_map lease_in (map f ks))) (h k) ∙ ap (cons_option (lease_in k)) (same_leases f h ks)
 
@@ -95,7 +95,7 @@ distinct_mapped f same ks h k l i j e =
 
 distinct_all : (us : List Use) (ks : List Kept) → KeptDistinct ks → KeptDistinct (pinned_all us ks)
 distinct_all [] ks h = h
-distinct_all (u ∷ us) ks h = distinct_all us (pinned_at u.no ks) (distinct_mapped (with_pin u.no) (one_keeps number_of pin_number u.no) ks h)
+distinct_all (u ∷ us) ks h = distinct_all us (pinned_at u.no ks) (distinct_mapped (with_pin u.no) (one_keeps number_of pinned pin_number u.no) ks h)
 
 -- ## Counts
 
@@ -104,7 +104,7 @@ abbrev pub InHand : List Use → List Kept → Type 0
 InHand us ks = (u : Use) → In u us → (k : Kept) → In k ks → number_of k.standing ≡ u.no → is_leaving k.standing ≡ false
 
 in_hand_still : (us : List Use) (n : LeaseNo) (ks : List Kept) → InHand us ks → InHand us (pinned_at n ks)
-in_hand_still us n ks h u i = each_image (with_pin n) (λ k. number_of k.standing ≡ u.no → is_leaving k.standing ≡ false) ks (λ k j e. one_keeps is_leaving pin_leaving n k ∙ h u i k j (sym (one_keeps number_of pin_number n k) ∙ e))
+in_hand_still us n ks h u i = each_image (with_pin n) (λ k. number_of k.standing ≡ u.no → is_leaving k.standing ≡ false) ks (λ k j e. one_keeps is_leaving pinned pin_leaving n k ∙ h u i k j (sym (one_keeps number_of pinned pin_number n k) ∙ e))
 
 abbrev one_more : Bool → ℕ → ℕ
 one_more b n = cond b (n + 1) n
@@ -112,7 +112,7 @@ one_more b n = cond b (n + 1) n
 counted_one : (u : Use) (ks : List Kept) (count : LeaseNo → ℕ) → ((k : Kept) → In k ks → number_of k.standing ≡ u.no → is_leaving k.standing ≡ false) → ((k : Kept) → In k ks → entries_of k.standing ≡ count (number_of k.standing))
     → (k : Kept) → In k (pinned_at u.no ks) → entries_of k.standing ≡ one_more (same_no u.no (number_of k.standing)) (count (number_of k.standing))
 counted_one u ks count hand h = each_image (with_pin u.no) (λ k. entries_of k.standing ≡ one_more (same_no u.no (number_of k.standing)) (count (number_of k.standing))) ks (λ k i.
-    let number : number_of (with_pin u.no k).standing ≡ number_of k.standing = one_keeps number_of pin_number u.no k in
+    let number : number_of (with_pin u.no k).standing ≡ number_of k.standing = one_keeps number_of pinned pin_number u.no k in
     within k i (has_number u.no k) refl
     ∙ ap (λ b. one_more b (count (number_of k.standing))) (same_no_symm (number_of k.standing) u.no)
     ∙ ap (λ n. one_more (same_no u.no n) (count n)) (sym number))
