@@ -40,7 +40,7 @@ use Rattle.fs_serial.proofs.Again.{client_same}
 use Rattle.fs_serial.proofs.Asks as asks
 use Rattle.fs_serial.proofs.Counting.{given_by}
 use Rattle.fs_serial.proofs.Facts.{In-front}
-use Rattle.fs_serial.proofs.LaterSteps.{asked_follows, released_later, renewed_later, ships_follow}
+use Rattle.fs_serial.proofs.LaterSteps.{released_later, renewed_later}
 use Rattle.fs_serial.proofs.OneLease.{same_no_self}
 use Rattle.fs_serial.proofs.PairLoops.{ends_backed, rows_released, rows_renewed}
 use Rattle.fs_serial.proofs.Rising.{world_begins}
@@ -123,7 +123,7 @@ module _ (greatest : ℕ) (w : World) (by : Session) (h : WorldHolds greatest w)
       let same = asked_same by items dir s in
       let clock = h.clock in
       let last = same.last in
-      let told = world_answered greatest w a.server w.journal by (Ask items dir) (Granted a.grants a.fresh a.end) up h same.skew (omega arith) (asked_follows w.counts by items dir s) right.goes refl
+      let told = world_answered greatest w a.server w.journal by (Ask items dir) (Granted a.grants a.fresh a.end) up h same.skew (omega arith) (same.later w.counts) right.goes refl
       (λ x e q. ask_fits x c items dir a.grants a.fresh a.end q right.fits)
       (λ ends e q. absurd (cc)) in
       subst (λ js. WorldHolds greatest (record { server = a.server; counts = w.counts; journal = js; replied = w.replied; ends = with_sent (recalls_at a.end a.server.rows) (with_answer by (Granted a.grants a.fresh a.end) (without_question by w.ends)) })) (sym (append-nil w.journal))
@@ -216,7 +216,7 @@ module _ (greatest : ℕ) (w : World) (by : Session) (h : WorldHolds greatest w)
       let log : c.log ≡ d.log = sym (ap (λ (k : Settled). k.log) (settled_none by (w.ends by).down (settled_now c) o.silent)) in
       let fits : refusal_fits x.end (length x.admitted) c.log ≡ true = ap (refusal_fits x.end (length x.admitted)) log ∙ ap (λ n. refusal_fits x.end n d.log) count ∙ r.fits in
       let few = r.few in
-      world_answered greatest w x.server (w.journal ++ x.admitted) by (Ship entries) a up h same.skew (omega arith) (ships_follow w.counts by entries s [])
+      world_answered greatest w x.server (w.journal ++ x.admitted) by (Ship entries) a up h same.skew (omega arith) (same.later w.counts)
       (subst (λ n. GoesOn s.skew greatest (sight_of w.counts x.server (w.journal ++ x.admitted)) w.replied w.ends (with_client by (with_over (over_after x.end d.over) (acknowledged_all by n d)) base)) (sym count) r.goes)
       refl
       (λ y e q. ship_fits y entries (length x.admitted) x.end q (omega arith) fits)
