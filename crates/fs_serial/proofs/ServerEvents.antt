@@ -1,5 +1,5 @@
 -- The server's events keep all that holds.
-use Rattle.std.proofs.Common.{◌≡◌, ℕ, ◌≤◌, ◌&&◌, max, true, false, List, [], ◌∷◌, ◌++◌, length, map, append-nil, cond, refl, sym, ap, ◌∙◌, subst, inl, inr, arith}
+use Rattle.std.proofs.Common.{◌≡◌, ℕ, ◌≤◌, ◌&&◌, true, false, List, [], ◌∷◌, ◌++◌, length, map, append-nil, cond, refl, sym, ap, ◌∙◌, subst, inl, inr, arith}
 use Rattle.std.specs.Prelude.{Option, Some, None, nat_le}
 use Rattle.std.specs.Cmp.{nat_eq_equiv}
 use Rattle.std.specs.List.{list_all}
@@ -21,7 +21,7 @@ use Rattle.fs_msg.specs.declared.entry.Entry.{Entry}
 use Rattle.fs_record.specs.Effects.{tells_its_effects}
 use Rattle.fs_server.specs.Asks.{answered, asked_in, recalls_at}
 use Rattle.fs_server.specs.Pairs.{ends_told, numbers_in, pairs_end, pairs_here, released_rows, renewed_rows}
-use Rattle.fs_server.specs.Server.{Stepped, begun, end_of, is_mine, strange}
+use Rattle.fs_server.specs.Server.{Stepped, end_of, is_mine, strange}
 use Rattle.fs_server.specs.Ships.{ship_from, ship_step, shipped}
 use Rattle.fs_server.specs.Step.{event_step, message_step, recalled_on}
 use Rattle.fs_server.specs.declared.event.ServerEvent.{ServerEvent}
@@ -35,7 +35,7 @@ use Rattle.fs_serial.specs.Exchange.{IsQuestion, IsReturned, OneExchange, Releas
 use Rattle.fs_serial.specs.Parts.{with_client}
 use Rattle.fs_serial.specs.Settled.{Settled, acknowledged_all, settled_now, told, with_over}
 use Rattle.fs_serial.specs.Sight.{Sight, sight_of}
-use Rattle.fs_serial.specs.World.{GoesOn, IsThere, World, WorldHolds, after_server, settled_at, with_answer, with_sent, without_question, without_taken}
+use Rattle.fs_serial.specs.World.{GoesOn, IsThere, World, WorldHolds, settled_at, with_answer, with_sent, without_question, without_taken}
 use Rattle.fs_serial.proofs.Again.{client_same}
 use Rattle.fs_serial.proofs.Asks as asks
 use Rattle.fs_serial.proofs.Counting.{given_by}
@@ -43,7 +43,6 @@ use Rattle.fs_serial.proofs.Facts.{In-front}
 use Rattle.fs_serial.proofs.LaterSteps.{released_later, renewed_later}
 use Rattle.fs_serial.proofs.OneLease.{same_no_self}
 use Rattle.fs_serial.proofs.PairLoops.{ends_backed, rows_released, rows_renewed}
-use Rattle.fs_serial.proofs.Rising.{world_begins}
 use Rattle.fs_serial.proofs.Seats.{settled_none}
 use Rattle.fs_serial.proofs.Sending.{asked, goes_of, recall_all, recall_with, world_all_recalled, world_answered}
 use Rattle.fs_serial.proofs.ShipLoop.{IsShipped, shipped_still}
@@ -261,7 +260,3 @@ begun_keeps greatest w event.Turn there h = turn_keeps greatest w h
 begun_keeps greatest w (event.Recall field) there h =
     subst (λ js. WorldHolds greatest (record { server = w.server; counts = w.counts; journal = js; replied = w.replied; ends = with_sent (event_step (event.Recall field) w.server).out.send w.ends })) (sym (append-nil w.journal))
     (world_all_recalled greatest w (event_step (event.Recall field) w.server).out.send (recall_all (recalled_on field w.server)) h)
-
-pub server_keeps : (greatest now : ℕ) (e : ServerEvent) (w : World) → max w.server.last now ≤ greatest → IsThere e w.ends → WorldHolds greatest w → WorldHolds greatest (after_server now e w)
-server_keeps greatest now e w before there h =
-    begun_keeps greatest (record { server = begun now w.server; counts = w.counts; journal = w.journal; replied = w.replied; ends = w.ends }) e there (world_begins greatest now w before h)
