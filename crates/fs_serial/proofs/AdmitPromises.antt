@@ -6,7 +6,6 @@ use Rattle.std.specs.FinMap.{get}
 use Rattle.std.specs.List.{filter, list_any}
 use Rattle.fs_ident.specs.In.{In}
 use Rattle.fs_ident.specs.Ident.{same}
-use Rattle.fs_ident.specs.Ordered.{put_before}
 use Rattle.fs_ident.specs.declared.actor.Session.{Session}
 use Rattle.fs_ident.specs.declared.kind.Kind.{Kind}
 use Rattle.fs_ident.specs.declared.kind.Kind.TheVariants.{File, Dir}
@@ -43,6 +42,7 @@ use Rattle.fs_record.specs.Effects.{effects_of}
 use Rattle.fs_record.specs.Records.{RecordMap, AreRecords, node_of, nodes_of}
 use Rattle.fs_record.specs.ValueOf.{value_of, own_of, handles_of, selves_in}
 use Rattle.fs_record.proofs.NodeMaps.{node_there}
+use Rattle.fs_rows.proofs.Comes.{any_put}
 use Rattle.fs_server.specs.Ships.{with_entry}
 use Rattle.fs_server.specs.declared.state.Server.{Server}
 use Rattle.fs_view.specs.Laws.{item_meets}
@@ -90,19 +90,6 @@ unlisted modes m none = elim (has modes m) as (λ b. has modes m ≡ b → b ≡
 
 abbrev has_it : Mode → ℕ × Modes → Bool
 has_it m x = has x.1 m
-
-swap : (a b c : Bool) → (a || (b || c)) ≡ (b || (a || c))
-swap true true c = refl
-swap true false c = refl
-swap false b c = refl
-
-any_put : {X : Type 0} (test before : X → Bool) (new : X) (xs : List X) → list_any test (put_before before new xs) ≡ (test new || list_any test xs)
-any_put test before new [] = refl
-any_put test before new (x ∷ xs) =
-    elim (before x) as (λ b. list_any test (cond b (new ∷ x ∷ xs) (x ∷ put_before before new xs)) ≡ (test new || (test x || list_any test xs))) [
-      | true ↦ refl
-      | false ↦ ap (λ b. test x || b) (any_put test before new xs) ∙ swap (test x) (test new) (list_any test xs)
-    ]
 
 -- a handle that is not there need not be taken away
 nothing_under : (test : ℕ × Modes → Bool) (own : Handles) (h : ℕ) → is_some (modes_under own h) ≡ false → list_any test (without_handle own h) ≡ list_any test own

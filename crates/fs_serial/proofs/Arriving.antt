@@ -7,7 +7,7 @@ use Rattle.fs_ident.proofs.Passing.{found}
 use Rattle.fs_msg.specs.declared.peer_msg.PeerMsg.TheVariants as peer
 use Rattle.fs_msg.specs.declared.server_note.ServerNote.TheVariants as note
 use Rattle.fs_record.specs.declared.parcel.Parcel.{Parcel}
-use Rattle.fs_server.specs.Moves.{fits_here, installed, parcel_at, peer_step}
+use Rattle.fs_server.specs.Moves.{fits_here, installed}
 use Rattle.fs_server.specs.Server.{only_noted}
 use Rattle.fs_server.specs.declared.event.ServerEvent.TheVariants.{FromPeer}
 use Rattle.fs_server.specs.declared.state.Server.{Server}
@@ -83,13 +83,6 @@ pub parcel_fits : (k from : ℕ) (c : Cluster) (s : Server) (p : Parcel) → sli
     → (o : Counts) → ServersHold (sight_of o (with_all s c) c.journal) → ServersFit (sight_of o (with_all s c) c.journal)
     → fits_here p s ≡ true
 parcel_fits k from c s p at h way o hold fit = flying_fits c h s (here k from c s p at h way) (comes k from c s p at h way) (flies k from c s p at h way) o hold fit
-
--- so it is installed
-pub parcel_installs : (k from : ℕ) (c : Cluster) (s : Server) (p : Parcel) → slice_get c.servers k ≡ Some s → PlacesHold c
-    → find (is_between from k) c.flying ≡ Some (record { from = from; to = k; parcel = p })
-    → (o : Counts) → ServersHold (sight_of o (with_all s c) c.journal) → ServersFit (sight_of o (with_all s c) c.journal)
-    → peer_step (peer.Parcel p) s ≡ only_noted (note.Installs p.prefix) (installed p s)
-parcel_installs k from c s p at h way o hold fit = ap (λ b. parcel_at b p s) (parcel_fits k from c s p at h way o hold fit)
 
 -- all rows and records are as before
 pub arriving_same : (k from : ℕ) (c : Cluster) (s : Server) (p : Parcel) → slice_get c.servers k ≡ Some s → PlacesHold c

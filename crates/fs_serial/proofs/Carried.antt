@@ -1,17 +1,18 @@
 -- What is on its way while a client goes on.
-use Rattle.std.proofs.Common.{◌≡◌, ℕ, zero, suc, ◌==◌, ◌&&◌, not, Bool, true, false, List, [], ◌∷◌, ◌++◌, refl, sym, ap, ◌∙◌, subst, inl, inr, arith, append_assoc, length-append}
+use Rattle.std.proofs.Common.{◌≡◌, ℕ, zero, suc, ◌==◌, ◌&&◌, not, true, false, List, [], ◌∷◌, ◌++◌, refl, sym, ap, ◌∙◌, subst, inl, inr, arith, append_assoc, length-append}
 use Rattle.std.specs.Prelude.{Option, Some, None, nat_le}
 use Rattle.std.specs.List.{list_any}
 use Rattle.fs_ident.specs.In.{In}
 use Rattle.fs_ident.specs.declared.actor.LeaseNo.{LeaseNo}
 use Rattle.fs_ident.specs.declared.actor.Session.{Session}
-use Rattle.fs_ident.proofs.Booleans.{both, neither, joined}
+use Rattle.fs_ident.proofs.Booleans.{both, joined}
 use Rattle.fs_field.specs.declared.field.Field.{Field}
 use Rattle.fs_field.specs.declared.field.Field.TheVariants.{Life}
 use Rattle.fs_field.specs.declared.lease_kind.LeaseKind.{LeaseKind}
 use Rattle.fs_field.specs.declared.lease_kind.LeaseKind.TheVariants.{Exclusive}
 use Rattle.fs_field.specs.declared.row.Row.{Row}
 use Rattle.fs_field.specs.Table.{same_no}
+use Rattle.fs_moderows.proofs.Witnesses.{none_In, not_true}
 use Rattle.fs_msg.specs.declared.answer.Answer.{Answer}
 use Rattle.fs_msg.specs.declared.answer.Answer.TheVariants.{Granted, Renewed, Released, Shipped}
 use Rattle.fs_msg.specs.declared.answer.Grant.{Grant}
@@ -41,18 +42,8 @@ pub record IsNumbered (ks : List Kept) (wanted : LeaseNo) : Type 0 where
 abbrev pub FewerNumbers : List Kept → List Kept → Type 0
 FewerNumbers old new = (k : Kept) → In k new → IsNumbered old (number_of k.standing)
 
-pub none_of : {X : Type 0} (test : X → Bool) (xs : List X) → list_any test xs ≡ false → (x : X) → In x xs → test x ≡ false
-none_of test [] h x i = absurd i
-none_of test (y ∷ ys) h x i =
-    let q = neither (test y) (list_any test ys) h in
-    elim i as (λ _. test x ≡ false) [ inl e ↦ ap test e ∙ q.0 | inr j ↦ none_of test ys q.1 x j ]
-
 still_none : (old new : List Kept) (n : LeaseNo) → FewerNumbers old new → list_any (has_number n) old ≡ false → list_any (has_number n) new ≡ false
-still_none old new n fewer h = none-In (has_number n) new (λ k i. let j = fewer k i in ap (λ m. same_no m n) (sym j.number) ∙ none_of (has_number n) old h j.kept j.among)
-
-not_true : (b : Bool) → not b ≡ true → b ≡ false
-not_true true h = absurd (cc)
-not_true false h = refl
+still_none old new n fewer h = none-In (has_number n) new (λ k i. let j = fewer k i in ap (λ m. same_no m n) (sym j.number) ∙ none_In (has_number n) old h j.kept j.among)
 
 new_still : (old new : List Kept) (before : List Grant) (g : Grant) → FewerNumbers old new → is_new old before g ≡ true → is_new new before g ≡ true
 new_still old new before g fewer h =

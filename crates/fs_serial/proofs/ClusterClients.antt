@@ -5,6 +5,7 @@ use Rattle.std.specs.Prelude.{◌≢◌, Option, Some, None}
 use Rattle.std.specs.List.{find}
 use Rattle.fs_ident.specs.In.{In}
 use Rattle.fs_ident.specs.declared.actor.Session.{Session}
+use Rattle.fs_ident.proofs.Passing.{found}
 use Rattle.fs_model.specs.declared.op.Op.{Op}
 use Rattle.fs_msg.specs.declared.answer.Answer.{Answer}
 use Rattle.fs_msg.specs.declared.client_note.ClientNote.TheVariants as note
@@ -29,7 +30,7 @@ use Rattle.fs_serial.proofs.Planned.{IsPosted, act_posted, hear_posted, plan_add
 use Rattle.fs_serial.proofs.Reordered.{reordered, with_first}
 use Rattle.fs_serial.proofs.SetAt.{In_without}
 use Rattle.fs_serial.proofs.StepPlaces.{made_still}
-use Rattle.fs_serial.proofs.Traffic.{IsTaken, ends_planned, find_In, messages, messages_append, taken_first}
+use Rattle.fs_serial.proofs.Traffic.{IsTaken, ends_planned, messages, messages_append, taken_first}
 
 -- ## What was made stays so
 
@@ -126,7 +127,7 @@ module _ (c : Cluster) (s : Server) (by : Session) where
     here = ends_here by its_ends ends
 
     pub first_comes : world.CanCome by (world.Hears from a (front ++ back)) first.ends
-    first_comes = (ap (λ (e : Ends). e.down) here, λ d. ap (λ (e : Ends). asked_server e.client.exchange) here ∙ addressed.down (from, a) (find_In (is_with from) l.down (from, a) coming) d)
+    first_comes = (ap (λ (e : Ends). e.down) here, λ d. ap (λ (e : Ends). asked_server e.client.exchange) here ∙ addressed.down (from, a) (found (is_with from) l.down (from, a) coming).0 d)
 
     same_client : (first.ends by).client ≡ l.client
     same_client = ap (λ (e : Ends). e.client) here

@@ -4,6 +4,7 @@ use Rattle.std.proofs.Common.{◌≡◌, ℕ, ◌<◌, ◌≤◌, ◌==◌, max,
 use Rattle.std.specs.Prelude.{Option, Some, None, slice_get, slice_set}
 use Rattle.fs_ident.specs.In.{In}
 use Rattle.fs_ident.specs.declared.actor.Session.{Session}
+use Rattle.fs_ident.proofs.Passing.{found}
 use Rattle.fs_msg.specs.declared.client_msg.ClientMsg.{ClientMsg}
 use Rattle.fs_msg.specs.declared.peer_msg.PeerMsg.TheVariants as peer
 use Rattle.fs_msg.specs.declared.server_note.ServerNote.{ServerNote}
@@ -42,7 +43,7 @@ use Rattle.fs_serial.proofs.ServerEvents.{begun_keeps}
 use Rattle.fs_serial.proofs.ServerTurn.{turn_some_keeps}
 use Rattle.fs_serial.proofs.SetAt.{In_got, In_set, In_without, get_here, set_twice}
 use Rattle.fs_serial.proofs.StepPlaces.{step_places}
-use Rattle.fs_serial.proofs.Traffic.{ends_sent, ends_taken, find_In, messages}
+use Rattle.fs_serial.proofs.Traffic.{ends_sent, ends_taken, messages}
 use Rattle.fs_serial.proofs.Views.{all_views, alike_holds, count_set}
 
 -- ## What moves sends no session anything
@@ -85,7 +86,7 @@ taken_addressed k e lines h x = h x
 
 has_asked : (k : ℕ) (e : ServerEvent) (c : Cluster) → IsThere k e c → ((x : Session) → IsAddressed (c.lines x)) → HasAsked k (λ x. asked_server (without_question k e c.lines x).client.exchange) e
 has_asked k (event.FromClient by m) c there h =
-    ap (λ (d : Client). asked_server d.exchange) (same_client k (event.FromClient by m) c.lines by) ∙ (h by).up (k, m) (find_In (is_with k) (c.lines by).up (k, m) there)
+    ap (λ (d : Client). asked_server d.exchange) (same_client k (event.FromClient by m) c.lines by) ∙ (h by).up (k, m) (found (is_with k) (c.lines by).up (k, m) there).0
 has_asked k (event.FromPeer from m) c there h = tt
 has_asked k event.Turn c there h = tt
 has_asked k (event.Recall field) c there h = tt
@@ -176,7 +177,7 @@ module _ (skew greatest k : ℕ) (c : Cluster) (s : Server) (at : slice_get c.se
   asked_event : (by : Session) (m : ClientMsg) → IsThere k (event.FromClient by m) c → ClusterHolds skew greatest (after_step k (event.FromClient by m) (event_step (event.FromClient by m) s) c)
   asked_event by m there =
       let e = event.FromClient by m in
-      let coming : world.IsThere e (world_of s c).ends = In-mapped (λ (n : ℕ × ClientMsg). n.1) (k, m) (c.lines by).up (find_In (is_with k) (c.lines by).up (k, m) there) in
+      let coming : world.IsThere e (world_of s c).ends = In-mapped (λ (n : ℕ × ClientMsg). n.1) (k, m) (c.lines by).up (found (is_with k) (c.lines by).up (k, m) there).0 in
       same_step e there (event_step e s) (event_step e (with_all s c)) refl (begun_same greatest k c s e at h.places view coming (λ z. absurd (cc))) (begun_keeps greatest (world_of s c) e coming view)
 
   pub step_keeps : (e : ServerEvent) → IsThere k e c → ClusterHolds skew greatest (after_step k e (event_step e s) c)

@@ -22,12 +22,12 @@ use Rattle.fs_server.specs.declared.state.Server.{Server}
 use Rattle.fs_serial.specs.Cluster.{Cluster, Flying, parcels_of}
 use Rattle.fs_serial.specs.Places.{IsHome, PlacesHold, gives_it}
 use Rattle.fs_serial.proofs.Counted.{at_least, one_if, total}
-use Rattle.fs_serial.proofs.Facts.{In-mapped}
+use Rattle.fs_serial.proofs.Facts.{In-mapped, there_is}
 use Rattle.fs_serial.proofs.HeldRecords.{HasRecord, IsOneOf, put_all}
-use Rattle.fs_serial.proofs.HeldRows.{with_new, with_old}
 use Rattle.fs_serial.proofs.Listed.{map_made}
 use Rattle.fs_serial.proofs.OnePlaces.{not_both, one_record, record_sent, row_sent}
 use Rattle.fs_serial.proofs.Parted.{AreManaged, ArePartsOf}
+use Rattle.fs_serial.proofs.PutRows.{In-puts_here, In-puts_still}
 use Rattle.fs_serial.proofs.Times.{AreOnce, all_once, once_ordered, times, times_in, times_with}
 
 itself : (o : Option Record) → IsOneOf (λ r. o ≡ Some r) o
@@ -37,10 +37,6 @@ itself (Some r) = refl
 only_then : (P : Record → Type 0) (o : Option Record) (r : Record) → ((t : Record) → P r → P t → r ≡ t) → P r → IsOneOf P o → o ≡ Some r
 only_then P None r one p k = absurd (k r p)
 only_then P (Some t) r one p k = ap Some (sym (one t p k))
-
-there_is : (o : Option Record) → is_some o ≡ true → (r : Record) × (o ≡ Some r)
-there_is None h = absurd (cc)
-there_is (Some r) h = (r, refl)
 
 module _ (c : Cluster) (h : PlacesHold c) (s : Server) (i : In s c.servers) (f : Flying) (j : In f c.flying) where
   abbrev all_of : Server
@@ -87,8 +83,8 @@ module _ (c : Cluster) (h : PlacesHold c) (s : Server) (i : In s c.servers) (f :
   pub came_parts : ArePartsOf all_of s f
   came_parts = record {
     rows_part = row_had;
-    rows_left = λ r k. with_old f.parcel.rows s.rows r k;
-    rows_gone = λ r k. with_new f.parcel.rows s.rows r k;
+    rows_left = λ r k. In-puts_still r f.parcel.rows s.rows k;
+    rows_gone = λ r k. In-puts_here r f.parcel.rows s.rows k;
     times = λ n. times_with n f.parcel.rows s.rows;
     records_part = had;
     records_left = λ id r e. has id r (inl e);

@@ -1,21 +1,15 @@
 -- A server answers the session that asked, and sends recalls.
 use Rattle.std.proofs.Common.{◌≡◌, ℕ, Bool, true, false, List, [], ◌∷◌, length, cond, ap, ◌∙◌, inl, inr}
 use Rattle.std.specs.Prelude.{Option, Some, None}
-use Rattle.std.specs.List.{find, list_all}
+use Rattle.std.specs.List.{list_all}
 use Rattle.fs_ident.specs.In.{In}
-use Rattle.fs_ident.specs.declared.actor.LeaseNo.{LeaseNo}
 use Rattle.fs_ident.specs.declared.actor.Peer.{Peer}
 use Rattle.fs_ident.specs.declared.actor.Peer.TheVariants.{Client as OfSession, Server as OfServer}
 use Rattle.fs_ident.specs.declared.actor.Session.{Session}
-use Rattle.fs_ident.proofs.Standing.{In-map}
-use Rattle.fs_field.specs.declared.row.Row.{Row}
-use Rattle.fs_field.specs.Table.{has_no}
 use Rattle.fs_msg.specs.declared.answer.Answer.{Answer}
-use Rattle.fs_msg.specs.declared.answer.Answer.TheVariants.{Granted, Shipped, Recall}
+use Rattle.fs_msg.specs.declared.answer.Answer.TheVariants.{Granted, Shipped}
 use Rattle.fs_msg.specs.declared.client_msg.ClientMsg.{ClientMsg}
 use Rattle.fs_msg.specs.declared.client_msg.ClientMsg.TheVariants.{Ask, Renew, Release, Ship}
-use Rattle.fs_msg.specs.declared.end.End.{End}
-use Rattle.fs_msg.specs.declared.end.End.TheVariants as end
 use Rattle.fs_msg.specs.declared.entry.Entry.{Entry}
 use Rattle.fs_msg.specs.declared.msg.Msg.{Msg}
 use Rattle.fs_msg.specs.declared.peer_msg.PeerMsg.TheVariants as peer
@@ -23,7 +17,7 @@ use Rattle.fs_parcel.specs.Parcel.{move_refusal}
 use Rattle.fs_parcel.specs.declared.error.MoveError.{MoveError}
 use Rattle.fs_record.specs.Effects.{tells_its_effects}
 use Rattle.fs_record.specs.declared.parcel.Parcel.{Parcel}
-use Rattle.fs_server.specs.Asks.{asked_in, recall_of, recalls_at}
+use Rattle.fs_server.specs.Asks.{asked_in, recalls_at}
 use Rattle.fs_server.specs.Moves.{fits_here, move_at, parcel_at}
 use Rattle.fs_server.specs.Reaps.{lapsed_in, reap_from, recalls_for, turn_over}
 use Rattle.fs_server.specs.Server.{strange, to_session}
@@ -33,25 +27,7 @@ use Rattle.fs_server.specs.declared.event.ServerEvent.{ServerEvent}
 use Rattle.fs_server.specs.declared.event.ServerEvent.TheVariants as event
 use Rattle.fs_server.specs.declared.state.Server.{Server}
 use Rattle.fs_serial.proofs.Addressing.{AreDue, recalls_due}
-use Rattle.fs_serial.proofs.Facts.{In-append}
-use Rattle.fs_serial.proofs.Sending.{IsRecallTo}
-
--- ## Recalls
-
-recall_at : (number : LeaseNo) (o : Option Row) (m : Peer × Msg) → In m (recall_of number o) → IsRecallTo m
-recall_at number None m i = absurd i
-recall_at number (Some row) m i = elim i as (λ _. IsRecallTo m) [ inl e ↦ record { to = row.session; number = number; message = e } | inr z ↦ absurd z ]
-
-recall_with : (e : End) (rows : List Row) (m : Peer × Msg) → In m (recalls_at e rows) → IsRecallTo m
-recall_with (end.Wait blocker) rows m i = recall_at blocker (find (has_no blocker) rows) m i
-recall_with e rows m i = absurd i
-
-recall_each : (rows : List Row) (ns : List LeaseNo) (m : Peer × Msg) → In m (recalls_for rows ns) → IsRecallTo m
-recall_each rows [] m i = absurd i
-recall_each rows (n ∷ ns) m i = elim (In-append m (recall_of n (find (has_no n) rows)) (recalls_for rows ns) i) as (λ _. IsRecallTo m) [ inl j ↦ recall_at n (find (has_no n) rows) m j | inr j ↦ recall_each rows ns m j ]
-
-recall_all : (leases : List (LeaseNo × Session)) (m : Peer × Msg) → In m (recalls_of leases) → IsRecallTo m
-recall_all leases m i = let q = In-map (λ (x : LeaseNo × Session). to_session x.1 (Recall x.0)) m leases i in record { to = q.0.1; number = q.0.0; message = q.1.1 }
+use Rattle.fs_serial.proofs.Sending.{IsRecallTo, recall_all, recall_each, recall_with}
 
 -- ## Answers
 

@@ -4,6 +4,7 @@ use Rattle.std.specs.Prelude.{◌≢◌, Option, Some, None, nat_lt}
 use Rattle.std.proofs.lemmas.Bool.Decides.{nat_tests}
 use Rattle.fs_ident.specs.In.{In}
 use Rattle.fs_ident.specs.declared.actor.Session.{Session}
+use Rattle.fs_ident.proofs.Passing.{found}
 use Rattle.fs_field.specs.declared.row.Row.{Row}
 use Rattle.fs_field.specs.declared.used.Use.{Use}
 use Rattle.fs_map.specs.Map.{longest}
@@ -23,7 +24,7 @@ use Rattle.fs_serial.specs.Refusals.{HadItsTime, HeldBackFor, IsFairNote}
 use Rattle.fs_serial.specs.Steps.{HadEnded}
 use Rattle.fs_serial.specs.World.{World, WorldHolds, settled_at}
 use Rattle.fs_serial.proofs.Facts.{In-front}
-use Rattle.fs_serial.proofs.Refusing.{found_passes, use_gone}
+use Rattle.fs_serial.proofs.Refusing.{use_gone}
 use Rattle.fs_serial.proofs.ServerEvents.{all_plain}
 
 less : (a b : ℕ) → nat_lt a b ≡ true → a < b
@@ -34,7 +35,7 @@ no_less a b h = grind (arith, nat_tests)
 
 pub ended : (skew greatest now : ℕ) (s : Sight) (by : Session) (d : Settled) (e : Entry) (u : Use) → SessionFits skew greatest s by d → In e d.log → first_gone s.rows by e.uses ≡ Some u → greatest ≤ now + skew → HadEnded s.rows now e u
 ended skew greatest now s by d e u f i h within =
-    let q = found_passes (λ u. not (has_row s.rows by u)) e.uses u h in
+    let q = found (λ u. not (has_row s.rows by u)) e.uses u h in
     let gone : (r : Row) → In r s.rows → r.no ≢ u.no = use_gone skew greatest s by d e u f i q.0 q.1 in
     record {
       used = q.0;

@@ -71,6 +71,10 @@ pub none-In : {X : Type 0} (test : X → Bool) (xs : List X) → ((x : X) → In
 none-In test [] f = refl
 none-In test (y ∷ ys) f = ap (λ b. b || list_any test ys) (f y (inl refl)) ∙ none-In test ys (λ x i. f x (inr i))
 
+pub there_is : {X : Type 0} (o : Option X) → is_some o ≡ true → (x : X) × (o ≡ Some x)
+there_is None h = absurd (cc)
+there_is (Some x) h = (x, refl)
+
 -- ## Identifiers
 
 pub same_is : (a b : List ℕ) → same a b ≡ true → a ≡ b
@@ -136,7 +140,7 @@ reaps-still reaps is i other h k = subst (λ js. AreNumbered 1 js (reaps k + 1))
 
 -- ## Made
 
-or_none : (a : Option Kind) → or_else a None ≡ a
+pub or_none : (a : Option Kind) → or_else a None ≡ a
 or_none None = refl
 or_none (Some k) = refl
 

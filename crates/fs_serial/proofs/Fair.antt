@@ -3,6 +3,7 @@ use Rattle.std.proofs.Common.{◌≡◌, ℕ, ◌+◌, ◌≤◌, max, Bool, tru
 use Rattle.std.specs.Prelude.{Option, Some, None, slice_get}
 use Rattle.std.specs.List.{list_all}
 use Rattle.fs_ident.specs.declared.actor.Session.{Session}
+use Rattle.fs_ident.proofs.Passing.{found}
 use Rattle.fs_field.specs.declared.row.Row.{Row}
 use Rattle.fs_field.specs.declared.used.Use.{Use}
 use Rattle.fs_msg.specs.Home.{home_of}
@@ -27,7 +28,6 @@ use Rattle.fs_serial.proofs.Facts.{In-mapped}
 use Rattle.fs_serial.proofs.Lapsing.{begins, begun_at}
 use Rattle.fs_serial.proofs.SameStep.{IsSameStep, begun_same}
 use Rattle.fs_serial.proofs.SetAt.{In_got, get_here, set_twice}
-use Rattle.fs_serial.proofs.Traffic.{find_In}
 
 -- ## A log changes no row
 
@@ -61,7 +61,7 @@ begun_fair skew greatest k by entries s c at within there h =
     let e = event.FromClient by (Ship entries) in
     let i = In_got c.servers k s at in
     let view = h.parts s i in
-    let coming = In-mapped (λ (n : ℕ × ClientMsg). n.1) (k, Ship entries) (c.lines by).up (find_In (is_with k) (c.lines by).up (k, Ship entries) there) in
+    let coming = In-mapped (λ (n : ℕ × ClientMsg). n.1) (k, Ship entries) (c.lines by).up (found (is_with k) (c.lines by).up (k, Ship entries) there).0 in
     let same : IsSameStep k e s (event_step e s) (event_step e (with_all s c)) c = begun_same greatest k c s e at h.places view coming (λ z. absurd (cc)) in
     let near : greatest ≤ s.last + s.skew = subst (λ n. greatest ≤ s.last + n) (sym (h.skewed s i)) within in
     let fair : IsFairNote (with_all s c).rows (ship_step by entries (with_all s c)).out.note = fair_ship greatest (world_of s c) by entries coming near view in

@@ -9,7 +9,7 @@ use Rattle.fs_ident.specs.declared.actor.TxnNo.{TxnNo}
 use Rattle.fs_ident.proofs.Standing.{In-filter, In-map, In-put, none_pass}
 use Rattle.fs_field.specs.declared.asked.Asked.TheVariants.{Granted}
 use Rattle.fs_field.specs.declared.field.Field.{Field}
-use Rattle.fs_field.specs.declared.field.Field.TheVariants.{Names, SelfW, Other}
+use Rattle.fs_field.specs.declared.field.Field.TheVariants.{SelfW, Other}
 use Rattle.fs_field.specs.declared.lease_kind.LeaseKind.{LeaseKind}
 use Rattle.fs_field.specs.declared.lease_kind.LeaseKind.TheVariants.{Shared, Exclusive}
 use Rattle.fs_field.specs.declared.row.Row.{Row}
@@ -21,7 +21,7 @@ use Rattle.fs_moderows.specs.Answer.{given_row}
 use Rattle.fs_moderows.specs.Table.{is_of_mode}
 use Rattle.fs_moderows.proofs.Tables.{TellsSame, renewed_tells, shape_self, shape_other}
 use Rattle.fs_moderows.proofs.Witnesses.{not_both}
-use Rattle.fs_moderows.proofs.Free.{none_against, found_other}
+use Rattle.fs_moderows.proofs.Free.{none_against, found_other, meets_never}
 use Rattle.fs_moderows.proofs.Promises.{self_kept, other_kept}
 use Rattle.fs_record.specs.ValueOf.{selves_in}
 use Rattle.fs_rows.specs.Answer.{answer_by}
@@ -80,17 +80,10 @@ nothing_against (Some txn) p told h = absurd (cc)
 nothing_against None (Some row) told h = absurd (cc)
 nothing_against None None told h = refl
 
-unmet : (f : Field) (k : LeaseKind) (g : Field) (l : LeaseKind) → tells_no_mode f ≡ false → meets f k g l ≡ false
-unmet (SelfW f m) k (Names g) l h = refl
-unmet (SelfW f m) k g l h = refl
-unmet (Other f m) k (Names g) l h = refl
-unmet (Other f m) k g l h = refl
-unmet f k g l h = absurd (cc)
-
 -- it goes with all rows that are there
 beside : (s : Server) (by : Session) (field : Field) (kind : LeaseKind) (promise : Option Bool) → answer_to by field (kind_for field kind) s ≡ Granted promise → (x : Row) → In x s.rows → plain_conflict (row_of s by field kind promise) x ≡ false
-beside s by (SelfW f m) kind promise ok x i = not_both (not (by.0 == x.session.0)) (meets (SelfW f m) Exclusive x.field x.kind) (λ d. unmet (SelfW f m) Exclusive x.field x.kind refl)
-beside s by (Other f m) kind promise ok x i = not_both (not (by.0 == x.session.0)) (meets (Other f m) Shared x.field x.kind) (λ d. unmet (Other f m) Shared x.field x.kind refl)
+beside s by (SelfW f m) kind promise ok x i = not_both (not (by.0 == x.session.0)) (meets (SelfW f m) Exclusive x.field x.kind) (λ d. meets_never (SelfW f m) Exclusive x.field x.kind refl)
+beside s by (Other f m) kind promise ok x i = not_both (not (by.0 == x.session.0)) (meets (Other f m) Shared x.field x.kind) (λ d. meets_never (Other f m) Shared x.field x.kind refl)
 beside s by field kind promise ok x i = none_pass (stands_against by field (kind_for field kind)) s.rows (nothing_against (lock_on field s.rows) (find (stands_against by field (kind_for field kind)) s.rows) promise ok) x i
 
 pub apart_granted : (s : Server) (by : Session) (field : Field) (kind : LeaseKind) (promise : Option Bool) → answer_to by field (kind_for field kind) s ≡ Granted promise → NoRowsConflict s.rows → NoRowsConflict (with_lease by field (kind_for field kind) promise s).rows

@@ -44,7 +44,7 @@ use Rattle.fs_serial.proofs.Fewer.{HasFewer, fewer_holds, fewer_fits}
 use Rattle.fs_serial.proofs.Heard.{IsHeard, heard, quiet_exchange}
 use Rattle.fs_serial.proofs.Knowing.{In-filter_map, from-filter_map}
 use Rattle.fs_serial.proofs.Lapse.{IsUsed, its_number, used_in}
-use Rattle.fs_serial.proofs.ReplyPins.{distinct_mapped, pair_in}
+use Rattle.fs_serial.proofs.ReplyPins.{distinct_mapped, one_keeps, pair_in}
 use Rattle.fs_serial.proofs.Retimed.{retimed, with_until, no_same, field_same, below_same, retimed_holds, retimed_fits, held}
 use Rattle.fs_serial.proofs.RowKinds.{In-kept}
 use Rattle.fs_serial.proofs.Seats.{Seat, seen_at, settled_none}
@@ -73,13 +73,6 @@ end_entries : (until : ℕ) (s : Standing) → entries_of (renewed until s) ≡ 
 end_entries until (Held l) = refl
 end_entries until (Pinned u) = refl
 end_entries until (Leaving l) = refl
-
-one_keeps : {X : Type 0} (f : Standing → X) (until : ℕ) → ((s : Standing) → f (renewed until s) ≡ f s) → (n : LeaseNo) (k : Kept) → f (one_end n until k).standing ≡ f k.standing
-one_keeps f until h n k = within (has_number n k)
-  where
-    within : (b : Bool) → f (cond b (let x : Kept = record k { standing = renewed until k.standing } in x) k).standing ≡ f k.standing
-    within true = h k.standing
-    within false = refl
 
 abbrev lease_by : Value → Option (List ℕ) → Term → Lease
 lease_by base below l = record { no = l.no; field = l.field; kind = l.kind; until = l.until; base = base; below = below }
@@ -123,11 +116,6 @@ held_none (Held l) h = refl
 held_none (Pinned u) h = absurd (cc)
 held_none (Leaving l) h = absurd (cc)
 
-not_held : (s : Standing) → is_leaving s ≡ true → is_held s ≡ false
-not_held (Held l) h = absurd (cc)
-not_held (Pinned u) h = absurd (cc)
-not_held (Leaving l) h = refl
-
 -- the lease of that number is held
 pub record IsHeldThere (ks : List Kept) (n : LeaseNo) : Type 0 where
   pub kept : Kept
@@ -159,7 +147,7 @@ module _ (skew greatest : ℕ) (s : Sight) (by : Session) (replied : List Item) 
       let same : map (retimed n until) (filter_map lease_in v.leases) ≡ filter_map lease_in (map (one_end n until) v.leases) = sym (end_leases n until v.leases) in
       let seen : with_until n until d ≡ settled_now (record c { view = with_end n until v }) = ap (λ ls. let x : Settled = record { leases = ls; log = c.log; next = c.next; over = c.over } in x) same in
       let by_lease : (l : Lease) → In l d.leases → l.no ≡ n → greatest < until + skew → IsBacked s.rows n until = backs in
-      let number : (k : Kept) → number_of (one_end n until k).standing ≡ number_of k.standing = one_keeps number_of until (end_number until) n in
+      let number : (k : Kept) → number_of (one_end n until k).standing ≡ number_of k.standing = one_keeps number_of (renewed until) (end_number until) n in
       record {
         holds = subst (SessionHolds skew greatest s by replied) seen (retimed_holds skew greatest s by replied n until d by_lease h.holds);
         fits = subst (SessionFits skew greatest s by) seen (retimed_fits skew greatest s by replied n until d by_lease h.fits);
@@ -168,12 +156,12 @@ module _ (skew greatest : ℕ) (s : Sight) (by : Session) (replied : List Item) 
           viewed = h.client.viewed;
           pending = h.client.pending;
           distinct = distinct_mapped (one_end n until) number v.leases h.client.distinct;
-          pinned = each_image (one_end n until) (λ k. entries_of k.standing ≡ times_in (number_of k.standing) c.log) v.leases (λ k i. one_keeps entries_of until (end_entries until) n k ∙ h.client.pinned k i ∙ ap (λ m. times_in m c.log) (sym (number k)));
+          pinned = each_image (one_end n until) (λ k. entries_of k.standing ≡ times_in (number_of k.standing) c.log) v.leases (λ k i. one_keeps entries_of (renewed until) (end_entries until) n k ∙ h.client.pinned k i ∙ ap (λ m. times_in m c.log) (sym (number k)));
           held = subst (λ ls. UsesHeld ls c.log) same (held skew greatest s by replied n until d by_lease h.client.held);
         };
         returns = each_image (one_end n until) (λ k. is_leaving k.standing ≡ true → ReturnFits s.given s.rows by (filter_map lease_in (map (one_end n until) v.leases)) (pair_of k)) v.leases (λ k i t.
-            let q : ReturnFits s.given s.rows by (filter_map lease_in v.leases) (pair_of k) = h.returns k i (sym (one_keeps is_leaving until (end_leaving until) n k) ∙ t) in
-            subst (ReturnFits s.given s.rows by (filter_map lease_in (map (one_end n until) v.leases))) (sym (one_keeps pair_in until (end_pair until) n k)) (record {
+            let q : ReturnFits s.given s.rows by (filter_map lease_in v.leases) (pair_of k) = h.returns k i (sym (one_keeps is_leaving (renewed until) (end_leaving until) n k) ∙ t) in
+            subst (ReturnFits s.given s.rows by (filter_map lease_in (map (one_end n until) v.leases))) (sym (one_keeps pair_in (renewed until) (end_pair until) n k)) (record {
               fits = q.fits;
               alone = subst (λ ls. (l : Lease) → In l ls → l.no ≢ number_of k.standing) same (each_image (retimed n until) (λ l. l.no ≢ number_of k.standing) (filter_map lease_in v.leases) (λ l j e. q.alone l j (sym (no_same skew greatest s by replied n until d by_lease l) ∙ e)));
               own = q.own;

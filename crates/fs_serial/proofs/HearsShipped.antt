@@ -36,7 +36,8 @@ use Rattle.fs_serial.specs.Settled.{Lease, Settled, lease_in, lease_after, effec
 use Rattle.fs_serial.specs.Sight.{Sight}
 use Rattle.fs_serial.proofs.Facts.{In-mapped, each_image}
 use Rattle.fs_serial.proofs.Heard.{IsHeard, heard, quiet_exchange}
-use Rattle.fs_serial.proofs.ReplyPins.{distinct_mapped, pair_in, turned}
+use Rattle.fs_serial.proofs.PutRows.{same_no_symm}
+use Rattle.fs_serial.proofs.ReplyPins.{distinct_mapped, one_keeps, pair_in, same_leases}
 use Rattle.fs_serial.proofs.Seats.{Seat, seen_at}
 
 -- ## One use less
@@ -75,13 +76,6 @@ free_entries (Pinned u) n h = within (u.entries == 1) refl
     within true t = let q : u.entries ≡ 1 = grind (arith, nat_tests) in omega arith
     within false t = omega arith
 
-one_keeps : {X : Type 0} (f : Standing → X) → ((s : Standing) → f (unpinned s) ≡ f s) → (n : LeaseNo) (k : Kept) → f (one_unpin n k).standing ≡ f k.standing
-one_keeps f h n k = within (has_number n k)
-  where
-    within : (b : Bool) → f (cond b (let x : Kept = record k { standing = unpinned k.standing } in x) k).standing ≡ f k.standing
-    within true = h k.standing
-    within false = refl
-
 unpin_in : (n : LeaseNo) (k : Kept) → lease_in (one_unpin n k) ≡ lease_in k
 unpin_in n k = within (has_number n k)
   where
@@ -89,17 +83,13 @@ unpin_in n k = within (has_number n k)
     within true = ap (λ o. option_map (λ (l : Term). let x : Lease = record { no = l.no; field = l.field; kind = l.kind; until = l.until; base = k.base; below = k.below } in x) o) (free_lease k.standing)
     within false = refl
 
-same_leases : (f : Kept → Kept) → ((k : Kept) → lease_in (f k) ≡ lease_in k) → (ks : List Kept) → filter_map lease_in (map f ks) ≡ filter_map lease_in ks
-same_leases f h [] = refl
-same_leases f h (k ∷ ks) = ap (λ o. cons_option o (filter_map lease_in (map f ks))) (h k) ∙ ap (cons_option (lease_in k)) (same_leases f h ks)
-
 unpinned_leases : (us : List Use) (ks : List Kept) → filter_map lease_in (unpinned_all us ks) ≡ filter_map lease_in ks
 unpinned_leases [] ks = refl
 unpinned_leases (u ∷ us) ks = unpinned_leases us (unpinned_at u.no ks) ∙ same_leases (one_unpin u.no) (unpin_in u.no) ks
 
 distinct_all : (us : List Use) (ks : List Kept) → KeptDistinct ks → KeptDistinct (unpinned_all us ks)
 distinct_all [] ks h = h
-distinct_all (u ∷ us) ks h = distinct_all us (unpinned_at u.no ks) (distinct_mapped (one_unpin u.no) (one_keeps number_of free_number u.no) ks h)
+distinct_all (u ∷ us) ks h = distinct_all us (unpinned_at u.no ks) (distinct_mapped (one_unpin u.no) (one_keeps number_of unpinned free_number u.no) ks h)
 
 -- what a lease was before, and that it goes back where it did
 pub record WasKept (ks : List Kept) (k : Kept) : Type 0 where
@@ -116,8 +106,8 @@ was_all (u ∷ us) ks k i =
     record {
       kept = p.0;
       among = p.1.0;
-      pair = sym (one_keeps pair_in free_pair u.no p.0) ∙ ap pair_of (sym p.1.1) ∙ q.pair;
-      leaving = sym (one_keeps is_leaving free_leaving u.no p.0) ∙ ap (λ (x : Kept). is_leaving x.standing) (sym p.1.1) ∙ q.leaving;
+      pair = sym (one_keeps pair_in unpinned free_pair u.no p.0) ∙ ap pair_of (sym p.1.1) ∙ q.pair;
+      leaving = sym (one_keeps is_leaving unpinned free_leaving u.no p.0) ∙ ap (λ (x : Kept). is_leaving x.standing) (sym p.1.1) ∙ q.leaving;
     }
 
 -- ## Counts
@@ -128,8 +118,8 @@ more_if b n = cond b (n + 1) n
 counted_one : (u : Use) (ks : List Kept) (count : LeaseNo → ℕ) → ((k : Kept) → In k ks → entries_of k.standing ≡ more_if (same_no u.no (number_of k.standing)) (count (number_of k.standing)))
     → (k : Kept) → In k (unpinned_at u.no ks) → entries_of k.standing ≡ count (number_of k.standing)
 counted_one u ks count h = each_image (one_unpin u.no) (λ k. entries_of k.standing ≡ count (number_of k.standing)) ks (λ k i.
-    within k (has_number u.no k) refl (h k i ∙ ap (λ b. more_if b (count (number_of k.standing))) (turned u.no (number_of k.standing)))
-    ∙ ap count (sym (one_keeps number_of free_number u.no k)))
+    within k (has_number u.no k) refl (h k i ∙ ap (λ b. more_if b (count (number_of k.standing))) (same_no_symm u.no (number_of k.standing)))
+    ∙ ap count (sym (one_keeps number_of unpinned free_number u.no k)))
   where
     within : (k : Kept) (b : Bool) → has_number u.no k ≡ b → entries_of k.standing ≡ more_if (has_number u.no k) (count (number_of k.standing)) → entries_of (cond b (let x : Kept = record k { standing = unpinned k.standing } in x) k).standing ≡ count (number_of k.standing)
     within k true t e = free_entries k.standing (count (number_of k.standing)) (e ∙ ap (λ b. more_if b (count (number_of k.standing))) t)

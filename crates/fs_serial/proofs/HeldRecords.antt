@@ -148,14 +148,6 @@ has_record servers parcels one id r h = go (get (records_of_all servers parcels)
     go None k = absurd (k r h)
     go (Some t) k = ap Some (one id t r k h)
 
--- where nobody has one there is none
-pub no_record : (servers : List Server) (parcels : List Parcel) (id : List ℕ) → ((r : Record) → HasRecord servers parcels id r → ⊥) → get (records_of_all servers parcels) id ≡ None
-no_record servers parcels id n = go (get (records_of_all servers parcels) id) (record_of_all servers parcels id)
-  where
-    go : (o : Option Record) → IsOneOf (HasRecord servers parcels id) o → o ≡ None
-    go None k = refl
-    go (Some t) k = absurd (n t k)
-
 -- where the same records are had, and nobody has another of a file, the records of all are the same
 pub same_records : (servers later : List Server) (parcels now : List Parcel) → IsOneRecord servers parcels
     → ((id : List ℕ) (r : Record) → HasRecord servers parcels id r → HasRecord later now id r) → ((id : List ℕ) (r : Record) → HasRecord later now id r → HasRecord servers parcels id r)

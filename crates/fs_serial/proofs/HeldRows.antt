@@ -1,46 +1,21 @@
 -- The rows of all: those that some server or some parcel has.
-use Rattle.std.proofs.Common.{◌≡◌, ◌⊎◌, ◌≤◌, ℕ, Bool, true, false, List, [], ◌∷◌, refl, ap, sym, ◌∙◌, subst, inl, inr, cond, arith}
-use Rattle.std.specs.List.{list_all}
+use Rattle.std.proofs.Common.{◌≡◌, ◌⊎◌, ◌≤◌, ℕ, true, false, List, [], ◌∷◌, refl, ap, sym, ◌∙◌, subst, inl, inr, arith}
 use Rattle.std.specs.Ordering.{nat_cmp, is_lt, ordering_then}
 use Rattle.std.proofs.lemmas.Bool.Decides.{nat_tests}
 use Rattle.fs_ident.specs.In.{In}
-use Rattle.fs_ident.specs.Ordered.{put_before}
 use Rattle.fs_ident.specs.declared.actor.LeaseNo.{LeaseNo}
 use Rattle.fs_ident.proofs.Booleans.{both as both_hold}
 use Rattle.fs_ident.proofs.Passing.{all-In}
-use Rattle.fs_field.specs.Table.{is_ordered, no_before, with_row}
+use Rattle.fs_field.specs.Table.{is_ordered, no_before}
 use Rattle.fs_field.specs.declared.row.Row.{Row}
 use Rattle.fs_moderows.proofs.Moves.{came_or_was}
+use Rattle.fs_parcel.proofs.Both.{leads}
 use Rattle.fs_record.specs.declared.parcel.Parcel.{Parcel}
 use Rattle.fs_rows.specs.Granted.{with_rows}
 use Rattle.fs_server.specs.declared.state.Server.{Server}
 use Rattle.fs_serial.specs.Joined.{rows_of_all, with_rows_in, with_rows_of}
+use Rattle.fs_serial.proofs.PutRows.{In-puts_here, In-puts_still}
 use Rattle.fs_serial.proofs.Times.{all_ordered, times_in}
-
--- ## What is put in
-
-put_new : {X : Type 0} (test : X → Bool) (x : X) (xs : List X) → In x (put_before test x xs)
-put_new test x [] = inl refl
-put_new test x (y ∷ ys) = elim (test y) as (λ b. In x (cond b (x ∷ y ∷ ys) (y ∷ put_before test x ys))) [
-  | true ↦ inl refl
-  | false ↦ inr (put_new test x ys)
-]
-
-put_old : {X : Type 0} (test : X → Bool) (x z : X) (xs : List X) → In z xs → In z (put_before test x xs)
-put_old test x z [] i = absurd i
-put_old test x z (y ∷ ys) i = elim (test y) as (λ b. In z (cond b (x ∷ y ∷ ys) (y ∷ put_before test x ys))) [
-  | true ↦ inr i
-  | false ↦ elim i as (λ _. (z ≡ y) ⊎ In z (put_before test x ys)) [ inl e ↦ inl e | inr j ↦ inr (put_old test x z ys j) ]
-]
-
-pub with_old : (more rows : List Row) (r : Row) → In r rows → In r (with_rows more rows)
-with_old [] rows r i = i
-with_old (m ∷ ms) rows r i = with_old ms (with_row m rows) r (put_old (λ x. no_before m.no x.no) m r rows i)
-
-pub with_new : (more rows : List Row) (r : Row) → In r more → In r (with_rows more rows)
-with_new [] rows r i = absurd i
-with_new (m ∷ ms) rows r (inl e) = with_old ms (with_row m rows) r (subst (λ x. In x (with_row m rows)) (sym e) (put_new (λ x. no_before m.no x.no) m rows))
-with_new (m ∷ ms) rows r (inr i) = with_new ms (with_row m rows) r i
 
 -- ## Who has a row
 
@@ -55,20 +30,20 @@ HasRow servers parcels r = IsAtServer servers r ⊎ IsInParcel parcels r
 
 server_kept : (servers : List Server) (rows : List Row) (r : Row) → In r rows → In r (with_rows_of servers rows)
 server_kept [] rows r i = i
-server_kept (s ∷ ss) rows r i = server_kept ss (with_rows s.rows rows) r (with_old s.rows rows r i)
+server_kept (s ∷ ss) rows r i = server_kept ss (with_rows s.rows rows) r (In-puts_still r s.rows rows i)
 
 server_has : (servers : List Server) (rows : List Row) (r : Row) (s : Server) → In s servers → In r s.rows → In r (with_rows_of servers rows)
 server_has [] rows r s i j = absurd i
-server_has (t ∷ ts) rows r s (inl e) j = server_kept ts (with_rows t.rows rows) r (with_new t.rows rows r (subst (λ (x : Server). In r x.rows) e j))
+server_has (t ∷ ts) rows r s (inl e) j = server_kept ts (with_rows t.rows rows) r (In-puts_here r t.rows rows (subst (λ (x : Server). In r x.rows) e j))
 server_has (t ∷ ts) rows r s (inr i) j = server_has ts (with_rows t.rows rows) r s i j
 
 parcel_kept : (parcels : List Parcel) (rows : List Row) (r : Row) → In r rows → In r (with_rows_in parcels rows)
 parcel_kept [] rows r i = i
-parcel_kept (p ∷ ps) rows r i = parcel_kept ps (with_rows p.rows rows) r (with_old p.rows rows r i)
+parcel_kept (p ∷ ps) rows r i = parcel_kept ps (with_rows p.rows rows) r (In-puts_still r p.rows rows i)
 
 parcel_has : (parcels : List Parcel) (rows : List Row) (r : Row) (p : Parcel) → In p parcels → In r p.rows → In r (with_rows_in parcels rows)
 parcel_has [] rows r p i j = absurd i
-parcel_has (q ∷ qs) rows r p (inl e) j = parcel_kept qs (with_rows q.rows rows) r (with_new q.rows rows r (subst (λ (x : Parcel). In r x.rows) e j))
+parcel_has (q ∷ qs) rows r p (inl e) j = parcel_kept qs (with_rows q.rows rows) r (In-puts_here r q.rows rows (subst (λ (x : Parcel). In r x.rows) e j))
 parcel_has (q ∷ qs) rows r p (inr i) j = parcel_has qs (with_rows q.rows rows) r p i j
 
 pub row_of_all : (servers : List Server) (parcels : List Parcel) (r : Row) → HasRow servers parcels r → In r (rows_of_all servers parcels)
@@ -102,9 +77,6 @@ not_both_first a b c d h = grind (arith, nat_tests)
 
 never_first : (a b : ℕ) → is_lt (ordering_then (nat_cmp a a) (nat_cmp b b)) ≡ false
 never_first a b = grind (arith, nat_tests)
-
-abbrev leads : Row → List Row → Bool
-leads r rows = list_all (λ s. no_before r.no s.no) rows
 
 -- the first of both is one
 one_first : (x y : Row) (xs ys : List Row) → leads x xs ≡ true → leads y ys ≡ true → (x ≡ y) ⊎ In x ys → (y ≡ x) ⊎ In y xs → x ≡ y

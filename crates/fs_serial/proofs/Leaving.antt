@@ -43,7 +43,7 @@ use Rattle.fs_serial.specs.Runs.{held_by}
 use Rattle.fs_serial.specs.Seen.{with_all}
 use Rattle.fs_serial.specs.Sight.{Counts, sight_of}
 use Rattle.fs_serial.proofs.Counted.{total, total_append, total_set}
-use Rattle.fs_serial.proofs.Facts.{In-append, In-behind, In-front}
+use Rattle.fs_serial.proofs.Facts.{In-append, In-behind, In-front, there_is}
 use Rattle.fs_serial.proofs.GoingParts.{going, managed, parts, still_mine}
 use Rattle.fs_serial.proofs.HeldRecords.{has_record, same_records}
 use Rattle.fs_serial.proofs.HeldRows.{same_rows}
@@ -130,10 +130,6 @@ can_move s prefix to h =
       lives = b.0;
       other = no (to == s.me) _ _ b.1;
     }
-
-there_is : (o : Option Record) → is_some o ≡ true → (r : Record) × (o ≡ Some r)
-there_is None h = absurd (cc)
-there_is (Some r) h = (r, refl)
 
 -- ## At its place
 

@@ -1,6 +1,6 @@
 -- What rows tell their sessions of the others' modes.
 use Rattle.std.proofs.Common.{◌≡◌, ℕ, ◌==◌, ◌&&◌, ◌||◌, not, Bool, true, false, List, map, refl, sym, ap, ◌∙◌, subst, inl, inr}
-use Rattle.std.specs.Prelude.{Option, Some, None, is_some}
+use Rattle.std.specs.Prelude.{Option, Some, is_some}
 use Rattle.std.specs.List.{filter}
 use mathlib.Core.Path.{fun_ext}
 use Rattle.fs_ident.specs.In.{In}
@@ -28,14 +28,11 @@ use Rattle.fs_server.specs.Plan.{is_shaped}
 use Rattle.fs_serial.specs.Parts.{ServersHold, ServersFit}
 use Rattle.fs_serial.specs.Rows.{PromisesKept, RowsShaped}
 use Rattle.fs_serial.specs.Sight.{Sight}
+use Rattle.fs_serial.proofs.Facts.{there_is}
 use Rattle.fs_serial.proofs.GiftedRecords.{node_stays}
 use Rattle.fs_serial.proofs.Modes.{others_alike}
 
 -- ## What was promised
-
-is_told : (o : Option Bool) → is_some o ≡ true → (p : Bool) × (o ≡ Some p)
-is_told None h = absurd (cc)
-is_told (Some p) h = (p, refl)
 
 promised_on : (field : Field) (kind : LeaseKind) (promise : Option Bool) → (tells_no_mode field || is_of_mode field kind promise) ≡ true → (f : List ℕ) (mode : Mode) → field ≡ Other f mode → is_some promise ≡ true
 promised_on (Other g n) kind promise h f mode e = second _ (is_some promise) h
@@ -43,7 +40,7 @@ promised_on field kind promise h f mode e = absurd (cc)
 
 -- a row on what others tell of a mode promises it
 pub promised : (r : Row) → is_shaped r ≡ true → (f : List ℕ) (mode : Mode) → r.field ≡ Other f mode → (p : Bool) × (r.promise ≡ Some p)
-promised r h f mode e = is_told r.promise (promised_on r.field r.kind r.promise h f mode e)
+promised r h f mode e = there_is r.promise (promised_on r.field r.kind r.promise h f mode e)
 
 -- and that is so
 pub promise_true : (m : RecordMap) (rows : List Row) → PromisesKept m rows → (r : Row) → In r rows → (f : List ℕ) (mode : Mode) (p : Bool) → r.field ≡ Other f mode → r.promise ≡ Some p → value_of m r.session r.field ≡ value.Other p

@@ -1,12 +1,11 @@
 -- Rows that are put among others: in which order does not matter, where no two have one number.
-use Rattle.std.proofs.Common.{◌≡◌, ℕ, ◌==◌, ◌&&◌, not, Bool, true, false, List, [], ◌∷◌, ◌++◌, ◌⊎◌, refl, ap, cond, subst, sym, ◌∙◌, inl, inr, arith}
+use Rattle.std.proofs.Common.{◌≡◌, ℕ, ◌==◌, ◌&&◌, not, Bool, true, false, List, [], ◌∷◌, ◌++◌, refl, ap, cond, subst, sym, ◌∙◌, inl, inr, arith}
 use Rattle.std.specs.Ordering.{nat_cmp, is_lt, ordering_then}
 use Rattle.std.proofs.lemmas.Bool.Decides.{nat_tests}
 use Rattle.fs_ident.specs.declared.actor.LeaseNo.{LeaseNo}
 use Rattle.fs_ident.specs.In.{In}
 use Rattle.fs_ident.proofs.Booleans.{both}
 use Rattle.fs_ident.proofs.Passing.{all-In}
-use Rattle.fs_ident.proofs.Standing.{In-put}
 use Rattle.fs_field.specs.declared.row.Row.{Row}
 use Rattle.fs_field.specs.Table.{has_no, is_ordered, no_before, same_no, with_row}
 use Rattle.fs_field.proofs.Order.{before_trans}
@@ -43,13 +42,6 @@ not_first a b y q p =
       | true ↦ λ e. let wrong : true ≡ false = sym (before_trans a b y e q) ∙ p in absurd (cc)
       | false ↦ λ e. refl
     ] refl
-
-later : (a b c d : ℕ) → is_lt (ordering_then (nat_cmp a c) (nat_cmp b d)) ≡ true → is_lt (ordering_then (nat_cmp c a) (nat_cmp d b)) ≡ false
-later a b c d h = grind (arith, nat_tests)
-
--- of two numbers only one comes first
-not_back : (a b : LeaseNo) → no_before a b ≡ true → no_before b a ≡ false
-not_back a b h = later a.server a.count b.server b.count h
 
 turned : {X : Type 0} (b : Bool) (x y : X) → cond (not b) x y ≡ cond b y x
 turned true x y = refl
@@ -107,13 +99,6 @@ puts-append [] ys rows = refl
 puts-append (x ∷ xs) ys rows = puts-append xs ys (with_row x rows)
 
 -- ## What stands among them
-
-pub In-puts : (x : Row) (xs rows : List Row) → In x (with_rows xs rows) → In x xs ⊎ In x rows
-In-puts x [] rows i = inr i
-In-puts x (y ∷ ys) rows i = elim (In-puts x ys (with_row y rows) i) as (λ _. In x (y ∷ ys) ⊎ In x rows) [
-  | inl j ↦ inl (inr j)
-  | inr j ↦ elim (In-put (λ r. no_before y.no r.no) x y rows j) as (λ _. In x (y ∷ ys) ⊎ In x rows) [ inl e ↦ inl (inl e) | inr k ↦ inr k ]
-]
 
 pub In-puts_still : (x : Row) (xs rows : List Row) → In x rows → In x (with_rows xs rows)
 In-puts_still x [] rows i = i

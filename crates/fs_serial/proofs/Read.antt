@@ -38,7 +38,7 @@ use Rattle.fs_serial.specs.Sight.{Sight}
 use Rattle.fs_serial.specs.Steps.{IsReplied, IsReadNow}
 use Rattle.fs_serial.proofs.Answered.{answered, no_reap}
 use Rattle.fs_serial.proofs.Carried.{GoesOnAs, exchange_still}
-use Rattle.fs_serial.proofs.Facts.{items-own, made-append, made_before, serial_push, session_itself}
+use Rattle.fs_serial.proofs.Facts.{items-own, made-append, made_before, or_none, serial_push, session_itself}
 use Rattle.fs_serial.proofs.Knowing.{IsUseOf, use_from}
 use Rattle.fs_serial.proofs.Reply.{IsNext, IsOfLease, number_more}
 use Rattle.fs_serial.proofs.ReplyNext.{next}
@@ -78,10 +78,6 @@ unmade_read o r id h m = absurd (cc)
 no_kind : (a : Option Kind) → (is_some a ≡ true → ⊥) → a ≡ None
 no_kind None h = refl
 no_kind (Some k) h = absurd (h refl)
-
-or_none : (a : Option Kind) → or_else a None ≡ a
-or_none None = refl
-or_none (Some k) = refl
 
 less : (a b : ℕ) → nat_lt a b ≡ true → a < b
 less a b h = grind (arith, nat_tests)

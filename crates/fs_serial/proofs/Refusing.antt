@@ -1,13 +1,14 @@
 -- The server refuses an entry: a lease that it used has no row.
-use Rattle.std.proofs.Common.{◌≡◌, ℕ, not, ◌||◌, Bool, true, false, List, [], ◌∷◌, cond, refl, sym, ap, ◌∙◌, subst, inl, inr}
+use Rattle.std.proofs.Common.{◌≡◌, ℕ, not, Bool, true, false, List, [], ◌∷◌, refl, sym, ◌∙◌, subst, inl}
 use Rattle.std.specs.Prelude.{◌≢◌, Some}
-use Rattle.std.specs.List.{find, list_any}
 use Rattle.fs_ident.specs.In.{In}
 use Rattle.fs_ident.specs.declared.actor.LeaseNo.{LeaseNo}
 use Rattle.fs_ident.specs.declared.actor.Session.{Session}
+use Rattle.fs_ident.proofs.Passing.{found}
 use Rattle.fs_field.specs.declared.row.Row.{Row}
 use Rattle.fs_field.specs.declared.used.Use.{Use}
 use Rattle.fs_field.specs.Table.{is_lease}
+use Rattle.fs_moderows.proofs.Witnesses.{In_any}
 use Rattle.fs_msg.specs.declared.entry.Entry.{Entry}
 use Rattle.fs_msg.specs.declared.item.Item.{Item}
 use Rattle.fs_server.specs.Ships.{first_gone, has_row}
@@ -20,24 +21,6 @@ use Rattle.fs_serial.proofs.Going.{carried_alike}
 use Rattle.fs_serial.proofs.OneLease.{lease_is}
 use Rattle.fs_serial.proofs.Together.{each_session}
 
-pub found_passes : {X : Type 0} (test : X → Bool) (xs : List X) (x : X) → find test xs ≡ Some x → In x xs × (test x ≡ true)
-found_passes test [] x h = absurd (cc)
-found_passes test (y ∷ ys) x h =
-    elim (test y) as (λ b. test y ≡ b → cond b (Some y) (find test ys) ≡ Some x → In x (y ∷ ys) × (test x ≡ true)) [
-      | true ↦ λ e g. let q : y ≡ x = cc in (inl (sym q), ap test (sym q) ∙ e)
-      | false ↦ λ e g. let q = found_passes test ys x g in (inr q.0, q.1)
-    ] refl h
-
--- a row of the lease would have been found
-any_here : {X : Type 0} (test : X → Bool) (xs : List X) (x : X) → In x xs → test x ≡ true → list_any test xs ≡ true
-any_here test [] x h e = absurd h
-any_here test (y ∷ ys) x (inl q) e = ap (λ b. b || list_any test ys) (ap test (sym q) ∙ e)
-any_here test (y ∷ ys) x (inr h) e = ap (λ b. test y || b) (any_here test ys x h e) ∙ or_true (test y)
-  where
-    or_true : (a : Bool) → (a || true) ≡ true
-    or_true true = refl
-    or_true false = refl
-
 no_row : (a : Bool) → not a ≡ true → a ≡ true → ⊥
 no_row true h e = absurd (cc)
 no_row false h e = absurd (cc)
@@ -47,7 +30,7 @@ pub use_gone : (skew greatest : ℕ) (s : Sight) (by : Session) (d : Settled) (e
 use_gone skew greatest s by d e u f i j gone r k n =
     let l = f.held e i u j in
     let m = f.matching l.lease l.held r k (n ∙ sym l.number) in
-    no_row (has_row s.rows by u) gone (any_here (is_lease u.no by u.field u.kind) s.rows r k (lease_is r u by n m.session (m.field ∙ l.field) (m.kind ∙ l.kind)))
+    no_row (has_row s.rows by u) gone (In_any (is_lease u.no by u.field u.kind) s.rows r k (lease_is r u by n m.session (m.field ∙ l.field) (m.kind ∙ l.kind)))
 
 module _ (skew greatest : ℕ) (s : Sight) (replied : Session → List Item) (ends : Session → Ends) (clients : Session → Settled) (by : Session) (e : Entry) (rest : List Entry) (u : Use) (log : (clients by).log ≡ e ∷ rest) (gone : first_gone s.rows by e.uses ≡ Some u) where
   abbrev d : Settled
@@ -55,7 +38,7 @@ module _ (skew greatest : ℕ) (s : Sight) (replied : Session → List Item) (en
 
   refused_fits : SessionFits skew greatest s by (clients by) → SessionFits skew greatest s by d
   refused_fits f =
-      let q = found_passes (λ u. not (has_row s.rows by u)) e.uses u gone in
+      let q = found (λ u. not (has_row s.rows by u)) e.uses u gone in
       record {
         given = f.given;
         distinct = f.distinct;

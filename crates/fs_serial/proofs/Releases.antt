@@ -1,6 +1,6 @@
 -- A client gives leases back.
-use Rattle.std.proofs.Common.{◌≡◌, ℕ, ◌≤◌, Bool, true, false, List, [], ◌∷◌, ◌++◌, map, refl, sym, ap, ◌∙◌, subst, inl, inr, cond, arith}
-use Rattle.std.specs.Prelude.{Some, None, option_map, filter}
+use Rattle.std.proofs.Common.{◌≡◌, ℕ, ◌≤◌, true, false, List, [], ◌∷◌, ◌++◌, map, refl, sym, ap, ◌∙◌, subst, inl, inr, arith}
+use Rattle.std.specs.Prelude.{Some, None, option_map}
 use Rattle.fs_ident.specs.In.{In}
 use Rattle.fs_ident.specs.declared.actor.LeaseNo.{LeaseNo}
 use Rattle.fs_ident.specs.declared.actor.Session.{Session}
@@ -16,6 +16,7 @@ use Rattle.fs_client.specs.Client.{with_release}
 use Rattle.fs_client.specs.Turns.{pair_of, numbers_in, returned, has_to_go}
 use Rattle.fs_client.specs.declared.exchange.Exchange.TheVariants.{Releases}
 use Rattle.fs_client.specs.declared.state.Client.{Client}
+use Rattle.fs_parcel.proofs.Both.{passing}
 use Rattle.fs_server.specs.Asks.{kind_for}
 use Rattle.fs_view.specs.declared.kept.Kept.{Kept}
 use Rattle.fs_view.specs.declared.kept.Standing.{Standing}
@@ -54,15 +55,6 @@ gone_lease : (k : Kept) (s : Standing) (l : Lease) → k.standing ≡ s → is_l
 gone_lease k (Held x) l e t h = absurd (cc)
 gone_lease k (Pinned u) l e t h = absurd (cc)
 gone_lease k (Leaving x) l e t h = absurd (let q : None ≡ Some l = sym (ap (λ s. option_map (lease_with k) (lease_of s)) e) ∙ h in cc)
-
--- what is left of a list passes the test
-In-passed : {X : Type 0} (test : X → Bool) (x : X) (ys : List X) → In x (filter test ys) → test x ≡ true
-In-passed test x [] h = absurd h
-In-passed test x (y ∷ ys) h =
-    elim (test y) as (λ b. test y ≡ b → In x (cond b (y ∷ filter test ys) (filter test ys)) → test x ≡ true) [
-      | true ↦ λ e i. elim i as (λ _. test x ≡ true) [ inl q ↦ ap test q ∙ e | inr j ↦ In-passed test x ys j ]
-      | false ↦ λ e i. In-passed test x ys i
-    ] refl h
 
 module _ (skew greatest : ℕ) (s : Sight) (by : Session) (replied : List Item) (c : Client) (up : List ClientMsg) (down : List Answer) (to : ℕ) (ks : List Kept) (these : (k : Kept) → In k ks → In k (returned c.view)) (idle : c.exchange ≡ None) (h : Seat skew greatest s by replied c up down) where
   abbrev ns : List LeaseNo
@@ -149,7 +141,7 @@ module _ (skew greatest : ℕ) (s : Sight) (by : Session) (replied : List Item) 
   }
     where
       goes_back : (k : Kept) → In k ks → has_to_go k.recalled k.standing ≡ true
-      goes_back k i = In-passed (λ (k : Kept). has_to_go k.recalled k.standing) k c.view.leases (these k i)
+      goes_back k i = passing (λ (k : Kept). has_to_go k.recalled k.standing) c.view.leases k (these k i)
 
   pub seat_releases : Seat skew greatest s by replied then (up ++ Release (map pair_of ks) ∷ []) down
   seat_releases = record {

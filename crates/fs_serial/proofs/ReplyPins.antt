@@ -1,8 +1,7 @@
 -- A client answers: its leases are in use by one entry more.
-use Rattle.std.proofs.Common.{◌≡◌, ℕ, ◌+◌, ◌==◌, ◌&&◌, Bool, true, false, List, [], ◌∷◌, ◌++◌, map, refl, sym, ap, ◌∙◌, subst, inl, inr, cond, arith}
+use Rattle.std.proofs.Common.{◌≡◌, ℕ, ◌+◌, Bool, true, false, List, [], ◌∷◌, ◌++◌, map, refl, sym, ap, ◌∙◌, subst, inl, inr, cond, arith}
 use Rattle.std.specs.Prelude.{option_map}
 use Rattle.std.specs.List.{filter_map, cons_option}
-use Rattle.std.specs.Cmp.{nat_eq_equiv}
 use Rattle.std.proofs.lemmas.List.{map-append}
 use Rattle.fs_ident.specs.In.{In}
 use Rattle.fs_ident.specs.declared.actor.LeaseNo.{LeaseNo}
@@ -21,18 +20,16 @@ use Rattle.fs_view.specs.declared.kept.Standing.{Standing}
 use Rattle.fs_view.specs.declared.kept.Standing.TheVariants.{Held, Pinned, Leaving}
 use Rattle.fs_view.specs.Kept.{number_of, entries_of, file_in, lease_of, has_number, is_leaving, pinned}
 use Rattle.fs_view.specs.View.{pinned_at, pinned_all}
+use Rattle.fs_view.proofs.Pins.{with_pin}
 use Rattle.fs_view.proofs.Places.{same_no_is}
 use Rattle.fs_serial.specs.Client.{ClientFits, KeptDistinct, times_used, times_in}
 use Rattle.fs_serial.specs.Settled.{Lease, Settled, lease_in, effects_in, settled_now}
 use Rattle.fs_serial.specs.Pending.{HasLease, UsesHeld}
 use Rattle.fs_serial.proofs.Facts.{each_image, each_more}
+use Rattle.fs_serial.proofs.PutRows.{same_no_symm}
 use Rattle.fs_serial.proofs.Reply.{with_last}
 
 -- ## One use more
-
--- what becomes of a lease when an entry uses the one of that number
-abbrev pub one_pin : LeaseNo → Kept → Kept
-one_pin n k = cond (has_number n k) (record k { standing = pinned k.standing }) k
 
 pub pin_number : (s : Standing) → number_of (pinned s) ≡ number_of s
 pin_number (Held l) = refl
@@ -63,30 +60,30 @@ pin_lease (Held l) = refl
 pin_lease (Pinned u) = refl
 pin_lease (Leaving l) = refl
 
--- what a pin keeps of a standing, it keeps of the lease
-pub one_keeps : {X : Type 0} (f : Standing → X) → ((s : Standing) → f (pinned s) ≡ f s) → (n : LeaseNo) (k : Kept) → f (one_pin n k).standing ≡ f k.standing
-one_keeps f h n k = within (has_number n k)
+-- what a change keeps of a standing, it keeps of the lease of that number
+pub one_keeps : {X : Type 0} (f : Standing → X) (g : Standing → Standing) → ((s : Standing) → f (g s) ≡ f s) → (n : LeaseNo) (k : Kept) → f (cond (has_number n k) (let x : Kept = record k { standing = g k.standing } in x) k).standing ≡ f k.standing
+one_keeps f g h n k = within (has_number n k)
   where
-    within : (b : Bool) → f (cond b (let x : Kept = record k { standing = pinned k.standing } in x) k).standing ≡ f k.standing
+    within : (b : Bool) → f (cond b (let x : Kept = record k { standing = g k.standing } in x) k).standing ≡ f k.standing
     within true = h k.standing
     within false = refl
 
 -- ## Leases as servers see them
 
-pin_in : (n : LeaseNo) (k : Kept) → lease_in (one_pin n k) ≡ lease_in k
+pin_in : (n : LeaseNo) (k : Kept) → lease_in (with_pin n k) ≡ lease_in k
 pin_in n k = within (has_number n k)
   where
     within : (b : Bool) → lease_in (cond b (let x : Kept = record k { standing = pinned k.standing } in x) k) ≡ lease_in k
     within true = ap (λ o. option_map (λ (l : Term). let x : Lease = record { no = l.no; field = l.field; kind = l.kind; until = l.until; base = k.base; below = k.below } in x) o) (pin_lease k.standing)
     within false = refl
 
-same_leases : (f : Kept → Kept) → ((k : Kept) → lease_in (f k) ≡ lease_in k) → (ks : List Kept) → filter_map lease_in (map f ks) ≡ filter_map lease_in ks
+pub same_leases : (f : Kept → Kept) → ((k : Kept) → lease_in (f k) ≡ lease_in k) → (ks : List Kept) → filter_map lease_in (map f ks) ≡ filter_map lease_in ks
 same_leases f h [] = refl
 same_leases f h (k ∷ ks) = ap (λ o. cons_option o (filter_map lease_in (map f ks))) (h k) ∙ ap (cons_option (lease_in k)) (same_leases f h ks)
 
 pub pinned_leases : (us : List Use) (ks : List Kept) → filter_map lease_in (pinned_all us ks) ≡ filter_map lease_in ks
 pinned_leases [] ks = refl
-pinned_leases (u ∷ us) ks = pinned_leases us (pinned_at u.no ks) ∙ same_leases (one_pin u.no) (pin_in u.no) ks
+pinned_leases (u ∷ us) ks = pinned_leases us (pinned_at u.no ks) ∙ same_leases (with_pin u.no) (pin_in u.no) ks
 
 -- ## Numbers
 
@@ -98,7 +95,7 @@ distinct_mapped f same ks h k l i j e =
 
 distinct_all : (us : List Use) (ks : List Kept) → KeptDistinct ks → KeptDistinct (pinned_all us ks)
 distinct_all [] ks h = h
-distinct_all (u ∷ us) ks h = distinct_all us (pinned_at u.no ks) (distinct_mapped (one_pin u.no) (one_keeps number_of pin_number u.no) ks h)
+distinct_all (u ∷ us) ks h = distinct_all us (pinned_at u.no ks) (distinct_mapped (with_pin u.no) (one_keeps number_of pinned pin_number u.no) ks h)
 
 -- ## Counts
 
@@ -107,20 +104,17 @@ abbrev pub InHand : List Use → List Kept → Type 0
 InHand us ks = (u : Use) → In u us → (k : Kept) → In k ks → number_of k.standing ≡ u.no → is_leaving k.standing ≡ false
 
 in_hand_still : (us : List Use) (n : LeaseNo) (ks : List Kept) → InHand us ks → InHand us (pinned_at n ks)
-in_hand_still us n ks h u i = each_image (one_pin n) (λ k. number_of k.standing ≡ u.no → is_leaving k.standing ≡ false) ks (λ k j e. one_keeps is_leaving pin_leaving n k ∙ h u i k j (sym (one_keeps number_of pin_number n k) ∙ e))
-
-pub turned : (a b : LeaseNo) → same_no a b ≡ same_no b a
-turned a b = ap (λ x. x && (a.count == b.count)) (nat_eq_equiv.symm a.server b.server) ∙ ap (λ x. (b.server == a.server) && x) (nat_eq_equiv.symm a.count b.count)
+in_hand_still us n ks h u i = each_image (with_pin n) (λ k. number_of k.standing ≡ u.no → is_leaving k.standing ≡ false) ks (λ k j e. one_keeps is_leaving pinned pin_leaving n k ∙ h u i k j (sym (one_keeps number_of pinned pin_number n k) ∙ e))
 
 abbrev one_more : Bool → ℕ → ℕ
 one_more b n = cond b (n + 1) n
 
 counted_one : (u : Use) (ks : List Kept) (count : LeaseNo → ℕ) → ((k : Kept) → In k ks → number_of k.standing ≡ u.no → is_leaving k.standing ≡ false) → ((k : Kept) → In k ks → entries_of k.standing ≡ count (number_of k.standing))
     → (k : Kept) → In k (pinned_at u.no ks) → entries_of k.standing ≡ one_more (same_no u.no (number_of k.standing)) (count (number_of k.standing))
-counted_one u ks count hand h = each_image (one_pin u.no) (λ k. entries_of k.standing ≡ one_more (same_no u.no (number_of k.standing)) (count (number_of k.standing))) ks (λ k i.
-    let number : number_of (one_pin u.no k).standing ≡ number_of k.standing = one_keeps number_of pin_number u.no k in
+counted_one u ks count hand h = each_image (with_pin u.no) (λ k. entries_of k.standing ≡ one_more (same_no u.no (number_of k.standing)) (count (number_of k.standing))) ks (λ k i.
+    let number : number_of (with_pin u.no k).standing ≡ number_of k.standing = one_keeps number_of pinned pin_number u.no k in
     within k i (has_number u.no k) refl
-    ∙ ap (λ b. one_more b (count (number_of k.standing))) (turned (number_of k.standing) u.no)
+    ∙ ap (λ b. one_more b (count (number_of k.standing))) (same_no_symm (number_of k.standing) u.no)
     ∙ ap (λ n. one_more (same_no u.no n) (count n)) (sym number))
   where
     within : (k : Kept) → In k ks → (b : Bool) → has_number u.no k ≡ b → entries_of (cond b (let x : Kept = record k { standing = pinned k.standing } in x) k).standing ≡ one_more b (count (number_of k.standing))

@@ -1,14 +1,10 @@
 -- The greatest reading rises, and the server drops the rows that have ended.
-use Rattle.std.proofs.Common.{◌≡◌, ℕ, ◌+◌, ◌≤◌, ◌||◌, nat_lt, max, Bool, true, false, List, filter, refl, arith}
-use Rattle.std.specs.Prelude.{is_some}
-use Rattle.std.proofs.lemmas.Bool.Decides.{nat_tests}
+use Rattle.std.proofs.Common.{◌≡◌, ℕ, ◌+◌, ◌≤◌, Bool, false, List, filter, refl, arith}
 use Rattle.fs_ident.specs.In.{In}
 use Rattle.fs_ident.specs.declared.actor.Session.{Session}
 use Rattle.fs_ident.proofs.Standing.{In-filter}
 use Rattle.fs_field.specs.declared.row.Row.{Row}
-use Rattle.fs_field.specs.Table.{is_live}
 use Rattle.fs_msg.specs.declared.item.Item.{Item}
-use Rattle.fs_server.specs.Server.{begun}
 use Rattle.fs_server.specs.declared.state.Server.{Server}
 use Rattle.fs_serial.specs.Parts.{AllHold, SessionHolds, SessionFits}
 use Rattle.fs_serial.specs.Settled.{Settled}
@@ -72,21 +68,3 @@ lapse_some_keeps greatest w keep over h =
 -- the server's last reading is another, no greater than the greatest
 pub last_rises : (greatest last : ℕ) (w : World) → last ≤ greatest → WorldHolds greatest w → WorldHolds greatest (record w { server = record w.server { last = last } })
 last_rises greatest last w before h = record { all = h.all; clock = before; clients = h.clients; exchanges = h.exchanges }
-
-or_true : (a b : Bool) → (a || b) ≡ false → b ≡ false
-or_true true b h = absurd (cc)
-or_true false b h = h
-
-at_most : (a b : ℕ) → nat_lt a b ≡ false → b ≤ a
-at_most a b h = grind (arith, nat_tests)
-
--- the row that is not live had ended
-ended_then : (now skew greatest : ℕ) (r : Row) → now ≤ greatest → is_live now skew r ≡ false → r.until + skew ≤ greatest
-ended_then now skew greatest r before h = let p = at_most now (r.until + skew) (or_true (is_some r.lock) (nat_lt now (r.until + skew)) h) in omega arith
-
--- each event of the server begins so
-pub world_begins : (greatest now : ℕ) (w : World) → max w.server.last now ≤ greatest → WorldHolds greatest w → WorldHolds greatest (record { server = begun now w.server; counts = w.counts; journal = w.journal; replied = w.replied; ends = w.ends })
-world_begins greatest now w before h =
-    let last = max w.server.last now in
-    let v : World = record w { server = record w.server { rows = filter (is_live last w.server.skew) w.server.rows } } in
-    last_rises greatest last v before (lapse_some_keeps greatest w (is_live last w.server.skew) (λ r i dead. ended_then last w.server.skew greatest r before dead) h)

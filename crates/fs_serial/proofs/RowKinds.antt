@@ -6,6 +6,7 @@ use Rattle.std.proofs.lemmas.Bool.Decides.{nat_tests}
 use Rattle.fs_ident.specs.In.{In}
 use Rattle.fs_ident.specs.declared.actor.LeaseNo.{LeaseNo}
 use Rattle.fs_ident.specs.declared.actor.Session.{Session}
+use Rattle.fs_ident.proofs.Booleans.{second}
 use Rattle.fs_ident.proofs.Standing.{In-filter, In-map}
 use Rattle.fs_field.specs.declared.row.Row.{Row}
 use Rattle.fs_field.specs.Table.{has_no, renewed_row, same_no}
@@ -86,10 +87,6 @@ row_goes skew greatest s replied clients by p h back =
 later_end : (b : Bool) (until : ℕ) (r : Row) → (b ≡ true → r.until < until) → r.until ≤ (cond b (record r { until = until }) r).until
 later_end true until r h = let q : r.until < until = h refl in omega arith
 later_end false until r h = omega arith
-
-second : (a b : Bool) → (a && b) ≡ true → b ≡ true
-second true b h = h
-second false b h = absurd (cc)
 
 pub ends_no_sooner : (n : LeaseNo) (until : ℕ) (r : Row) → r.until ≤ (renewed_row n until r).until
 ends_no_sooner n until r = later_end (has_no n r && nat_lt r.until until) until r (λ t. let q : nat_lt r.until until ≡ true = second (has_no n r) (nat_lt r.until until) t in grind (arith, nat_tests))

@@ -52,22 +52,12 @@ admitted_due (Recall number ∷ rest) = admitted_due rest
 pub settled_none : (by : Session) (down : List Answer) (d : Settled) → due down ≡ [] → settled by down d ≡ d
 settled_none by down d e = settled_due by down d ∙ ap (λ as_. settled by as_ d) e
 
-pub settled_one : (by : Session) (down : List Answer) (a : Answer) (d : Settled) → due down ≡ a ∷ [] → settled by down d ≡ told by a d
-settled_one by down a d e = settled_due by down d ∙ ap (λ as_. settled by as_ d) e
-
 -- without a question nothing is due
 pub idle_due : (c : Client) (x : Option Exchange) (up : List ClientMsg) (down : List Answer) → x ≡ None → OneExchange c x up down → (up ≡ []) × (due down ≡ [])
 idle_due c None up down e h = h
 idle_due c (Some x) up down e h = absurd (cc)
 
 -- ## No more is acknowledged than there is
-
-none_admitted : (a : Answer) → ((count : ℕ) (end : _) → a ≡ Shipped count end → ⊥) → admitted_in (a ∷ []) ≡ 0
-none_admitted (Granted grants fresh end) h = refl
-none_admitted (Renewed rows end) h = refl
-none_admitted (Released count end) h = refl
-none_admitted (Shipped count end) h = absurd (h count end refl)
-none_admitted (Recall number) h = refl
 
 at_most : (a b : ℕ) → nat_le a b ≡ true → a ≤ b
 at_most a b h = grind (arith, nat_tests)

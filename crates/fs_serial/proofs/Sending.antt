@@ -1,20 +1,27 @@
 -- Answers are put on their way.
 use Rattle.std.proofs.Common.{◌≡◌, ℕ, ◌≤◌, ◌==◌, not, Bool, true, false, List, [], ◌∷◌, ◌++◌, cond, refl, sym, ap, ◌∙◌, subst, inl, inr, append-nil}
 use Rattle.std.specs.Prelude.{Option, Some, None}
+use Rattle.std.specs.List.{find}
 use Rattle.std.proofs.lemmas.List.Elements.{filter-append}
 use mathlib.Core.Path.{fun_ext}
 use Rattle.fs_ident.specs.In.{In}
 use Rattle.fs_ident.specs.declared.actor.LeaseNo.{LeaseNo}
 use Rattle.fs_ident.specs.declared.actor.Peer.{Peer}
 use Rattle.fs_ident.specs.declared.actor.Session.{Session}
+use Rattle.fs_ident.proofs.Standing.{In-map}
 use Rattle.fs_field.specs.declared.row.Row.{Row}
+use Rattle.fs_field.specs.Table.{has_no}
 use Rattle.fs_msg.specs.declared.answer.Answer.{Answer}
 use Rattle.fs_msg.specs.declared.answer.Answer.TheVariants.{Renewed, Recall}
 use Rattle.fs_msg.specs.declared.client_msg.ClientMsg.{ClientMsg}
 use Rattle.fs_msg.specs.declared.end.End.{End}
+use Rattle.fs_msg.specs.declared.end.End.TheVariants.{Wait}
 use Rattle.fs_msg.specs.declared.item.Item.{Item}
 use Rattle.fs_msg.specs.declared.msg.Msg.{Msg}
+use Rattle.fs_server.specs.Asks.{recall_of, recalls_at}
+use Rattle.fs_server.specs.Reaps.{recalls_for}
 use Rattle.fs_server.specs.Server.{to_session}
+use Rattle.fs_server.specs.Step.{recalls_of}
 use Rattle.fs_server.specs.declared.state.Server.{Server}
 use Rattle.fs_client.specs.Answers.{answer_fits}
 use Rattle.fs_client.specs.declared.exchange.Exchange.{Exchange}
@@ -136,6 +143,22 @@ pub record IsRecallTo (m : Peer × Msg) : Type 0 where
   pub to : Session
   pub number : LeaseNo
   pub message : m ≡ to_session to (Recall number)
+
+-- the lease is asked back from the session of its row, where it has one
+recall_at : (number : LeaseNo) (o : Option Row) (m : Peer × Msg) → In m (recall_of number o) → IsRecallTo m
+recall_at number None m i = absurd i
+recall_at number (Some row) m i = elim i as (λ _. IsRecallTo m) [ inl e ↦ record { to = row.session; number = number; message = e } | inr z ↦ absurd z ]
+
+pub recall_with : (e : End) (rows : List Row) (m : Peer × Msg) → In m (recalls_at e rows) → IsRecallTo m
+recall_with (Wait blocker) rows m i = recall_at blocker (find (has_no blocker) rows) m i
+recall_with e rows m i = absurd i
+
+pub recall_each : (rows : List Row) (ns : List LeaseNo) (m : Peer × Msg) → In m (recalls_for rows ns) → IsRecallTo m
+recall_each rows [] m i = absurd i
+recall_each rows (n ∷ ns) m i = elim (In-append m (recall_of n (find (has_no n) rows)) (recalls_for rows ns) i) as (λ _. IsRecallTo m) [ inl j ↦ recall_at n (find (has_no n) rows) m j | inr j ↦ recall_each rows ns m j ]
+
+pub recall_all : (leases : List (LeaseNo × Session)) (m : Peer × Msg) → In m (recalls_of leases) → IsRecallTo m
+recall_all leases m i = let q = In-map (λ (x : LeaseNo × Session). to_session x.1 (Recall x.0)) m leases i in record { to = q.0.1; number = q.0.0; message = q.1.1 }
 
 pub world_all_recalled : (greatest : ℕ) (w : World) (messages : List (Peer × Msg)) → ((m : Peer × Msg) → In m messages → IsRecallTo m) → WorldHolds greatest w → WorldHolds greatest (record { server = w.server; counts = w.counts; journal = w.journal; replied = w.replied; ends = with_sent messages w.ends })
 world_all_recalled greatest w [] are h = h

@@ -34,7 +34,7 @@ use Rattle.fs_serial.specs.Sight.{Sight}
 use Rattle.fs_serial.proofs.Facts.{In-mapped}
 use Rattle.fs_serial.proofs.KeptPairs.{kept_pair, no_pairs, renews_pairs}
 use Rattle.fs_serial.proofs.OneLease.{same_no_self}
-use Rattle.fs_serial.proofs.ReplyPins.{distinct_mapped, pair_in}
+use Rattle.fs_serial.proofs.ReplyPins.{distinct_mapped, one_keeps, pair_in}
 use Rattle.fs_serial.proofs.Seats.{Seat, seen_at, idle_due, settled_none}
 
 -- ## One question
@@ -165,13 +165,6 @@ unused_goes (Held l) h = refl
 unused_goes (Pinned u) h = absurd (cc)
 unused_goes (Leaving l) h = refl
 
-one_keeps : {X : Type 0} (f : Standing → X) → ((s : Standing) → f (leaving s) ≡ f s) → (n : LeaseNo) (k : Kept) → f (one_leaves n k).standing ≡ f k.standing
-one_keeps f h n k = within (has_number n k)
-  where
-    within : (b : Bool) → f (cond b (let x : Kept = record k { standing = leaving k.standing } in x) k).standing ≡ f k.standing
-    within true = h k.standing
-    within false = refl
-
 -- the lease of one that is left is as it was
 leave_lease : (s : Standing) (l : Term) → lease_of (leaving s) ≡ Some l → lease_of s ≡ Some l
 leave_lease (Held x) l h = absurd (cc)
@@ -206,9 +199,9 @@ came_all (n ∷ ns) v k i =
     record {
       kept = p.0;
       among = p.1.0;
-      number = sym (one_keeps number_of leave_number n p.0) ∙ ap (λ (x : Kept). number_of x.standing) (sym p.1.1) ∙ q.number;
-      pair = sym (one_keeps pair_in leave_pair n p.0) ∙ ap pair_of (sym p.1.1) ∙ q.pair;
-      entries = sym (one_keeps entries_of leave_entries n p.0) ∙ ap (λ (x : Kept). entries_of x.standing) (sym p.1.1) ∙ q.entries;
+      number = sym (one_keeps number_of leaving leave_number n p.0) ∙ ap (λ (x : Kept). number_of x.standing) (sym p.1.1) ∙ q.number;
+      pair = sym (one_keeps pair_in leaving leave_pair n p.0) ∙ ap pair_of (sym p.1.1) ∙ q.pair;
+      entries = sym (one_keeps entries_of leaving leave_entries n p.0) ∙ ap (λ (x : Kept). entries_of x.standing) (sym p.1.1) ∙ q.entries;
       lease = λ l h. one_lease n p.0 l (ap lease_in (sym p.1.1) ∙ q.lease l h);
     }
 
@@ -246,9 +239,9 @@ goes_all (n ∷ ns) v k i =
     record {
       kept = q.kept;
       among = q.among;
-      number = q.number ∙ one_keeps number_of leave_number n k;
+      number = q.number ∙ one_keeps number_of leaving leave_number n k;
       leaving = λ h. q.leaving (one_goes n k h);
-      pinned = λ h. q.pinned (one_keeps is_pinned leave_pinned n k ∙ h) ∙ one_stays n k h;
+      pinned = λ h. q.pinned (one_keeps is_pinned leaving leave_pinned n k ∙ h) ∙ one_stays n k h;
     }
 
 -- an unused lease of these numbers goes back then
@@ -258,11 +251,11 @@ left_all (n ∷ ns) v k i (inl e) h =
     let there : has_number n k ≡ true = ap (λ m. same_no m n) e ∙ same_no_self n in
     let goes : is_leaving (one_leaves n k).standing ≡ true = ap (λ b. is_leaving (cond b (let x : Kept = record k { standing = leaving k.standing } in x) k).standing) there ∙ unused_goes k.standing h in
     let q = goes_all ns (with_leaving n v) (one_leaves n k) (In-mapped (one_leaves n) k v.leases i) in
-    record { kept = q.kept; among = q.among; number = q.number ∙ one_keeps number_of leave_number n k; leaving = q.leaving goes }
+    record { kept = q.kept; among = q.among; number = q.number ∙ one_keeps number_of leaving leave_number n k; leaving = q.leaving goes }
 left_all (n ∷ ns) v k i (inr j) h =
-    let number : number_of (one_leaves n k).standing ≡ number_of k.standing = one_keeps number_of leave_number n k in
+    let number : number_of (one_leaves n k).standing ≡ number_of k.standing = one_keeps number_of leaving leave_number n k in
     subst (IsReturned (leaving_all ns (with_leaving n v)).leases) number
-    (left_all ns (with_leaving n v) (one_leaves n k) (In-mapped (one_leaves n) k v.leases i) (subst (λ m. In m ns) (sym number) j) (one_keeps is_pinned leave_pinned n k ∙ h))
+    (left_all ns (with_leaving n v) (one_leaves n k) (In-mapped (one_leaves n) k v.leases i) (subst (λ m. In m ns) (sym number) j) (one_keeps is_pinned leaving leave_pinned n k ∙ h))
 
 pub all_session : (ns : List LeaseNo) (v : View) → (leaving_all ns v).session ≡ v.session
 all_session [] v = refl
@@ -274,7 +267,7 @@ all_pending (n ∷ ns) v = all_pending ns (with_leaving n v)
 
 pub all_distinct : (ns : List LeaseNo) (v : View) → KeptDistinct v.leases → KeptDistinct (leaving_all ns v).leases
 all_distinct [] v h = h
-all_distinct (n ∷ ns) v h = all_distinct ns (with_leaving n v) (distinct_mapped (one_leaves n) (one_keeps number_of leave_number n) v.leases h)
+all_distinct (n ∷ ns) v h = all_distinct ns (with_leaving n v) (distinct_mapped (one_leaves n) (one_keeps number_of leaving leave_number n) v.leases h)
 
 -- what has to go back no entry uses
 pub unused_returned : (recalled : Bool) (s : Standing) → has_to_go recalled s ≡ true → is_pinned s ≡ false

@@ -1,34 +1,29 @@
 -- The server's events keep all that holds.
-use Rattle.std.proofs.Common.{◌≡◌, ℕ, ◌≤◌, ◌&&◌, max, true, false, List, [], ◌∷◌, ◌++◌, length, map, append-nil, cond, refl, sym, ap, ◌∙◌, subst, inl, inr, arith}
+use Rattle.std.proofs.Common.{◌≡◌, ℕ, ◌≤◌, ◌&&◌, true, false, List, [], ◌∷◌, ◌++◌, length, map, append-nil, cond, refl, sym, ap, ◌∙◌, subst, inl, inr, arith}
 use Rattle.std.specs.Prelude.{Option, Some, None, nat_le}
 use Rattle.std.specs.Cmp.{nat_eq_equiv}
-use Rattle.std.specs.List.{find, list_all}
+use Rattle.std.specs.List.{list_all}
 use Rattle.std.proofs.lemmas.Bool.Decides.{nat_tests}
 use Rattle.fs_ident.specs.In.{In}
 use Rattle.fs_ident.specs.declared.actor.LeaseNo.{LeaseNo}
-use Rattle.fs_ident.specs.declared.actor.Peer.{Peer}
 use Rattle.fs_ident.specs.declared.actor.Session.{Session}
 use Rattle.fs_ident.proofs.Booleans.{joined}
-use Rattle.fs_ident.proofs.Standing.{In-map}
 use Rattle.fs_field.specs.declared.field.Field.{Field}
 use Rattle.fs_field.specs.declared.lease_kind.LeaseKind.{LeaseKind}
 use Rattle.fs_field.specs.declared.row.Row.{Row}
-use Rattle.fs_field.specs.Table.{has_no}
 use Rattle.fs_msg.specs.declared.answer.Answer.{Answer}
-use Rattle.fs_msg.specs.declared.answer.Answer.TheVariants.{Granted, Renewed, Released, Shipped, Recall}
+use Rattle.fs_msg.specs.declared.answer.Answer.TheVariants.{Granted, Renewed, Released, Shipped}
 use Rattle.fs_msg.specs.declared.answer.Grant.{Grant}
 use Rattle.fs_msg.specs.declared.client_msg.ClientMsg.{ClientMsg}
 use Rattle.fs_msg.specs.declared.client_msg.ClientMsg.TheVariants.{Ask, Renew, Release, Ship}
 use Rattle.fs_msg.specs.declared.end.End.{End}
-use Rattle.fs_msg.specs.declared.end.End.TheVariants as end
 use Rattle.fs_msg.specs.declared.entry.Entry.{Entry}
-use Rattle.fs_msg.specs.declared.msg.Msg.{Msg}
 use Rattle.fs_record.specs.Effects.{tells_its_effects}
 use Rattle.fs_server.specs.Asks.{answered, asked_in, recalls_at}
 use Rattle.fs_server.specs.Pairs.{ends_told, numbers_in, pairs_end, pairs_here, released_rows, renewed_rows}
-use Rattle.fs_server.specs.Server.{Stepped, begun, end_of, is_mine, strange, to_session}
+use Rattle.fs_server.specs.Server.{Stepped, end_of, is_mine, strange}
 use Rattle.fs_server.specs.Ships.{ship_from, ship_step, shipped}
-use Rattle.fs_server.specs.Step.{event_step, message_step, recalled_on, recalls_of}
+use Rattle.fs_server.specs.Step.{event_step, message_step, recalled_on}
 use Rattle.fs_server.specs.declared.event.ServerEvent.{ServerEvent}
 use Rattle.fs_server.specs.declared.event.ServerEvent.TheVariants as event
 use Rattle.fs_server.specs.declared.state.Server.{Server}
@@ -40,26 +35,21 @@ use Rattle.fs_serial.specs.Exchange.{IsQuestion, IsReturned, OneExchange, Releas
 use Rattle.fs_serial.specs.Parts.{with_client}
 use Rattle.fs_serial.specs.Settled.{Settled, acknowledged_all, settled_now, told, with_over}
 use Rattle.fs_serial.specs.Sight.{Sight, sight_of}
-use Rattle.fs_serial.specs.World.{GoesOn, IsThere, World, WorldHolds, after_server, settled_at, with_answer, with_sent, without_question, without_taken}
+use Rattle.fs_serial.specs.World.{GoesOn, IsThere, World, WorldHolds, settled_at, with_answer, with_sent, without_question, without_taken}
 use Rattle.fs_serial.proofs.Again.{client_same}
 use Rattle.fs_serial.proofs.Asks as asks
 use Rattle.fs_serial.proofs.Counting.{given_by}
 use Rattle.fs_serial.proofs.Facts.{In-front}
-use Rattle.fs_serial.proofs.LaterSteps.{asked_follows, released_later, renewed_later, ships_follow}
+use Rattle.fs_serial.proofs.LaterSteps.{released_later, renewed_later}
 use Rattle.fs_serial.proofs.OneLease.{same_no_self}
 use Rattle.fs_serial.proofs.PairLoops.{ends_backed, rows_released, rows_renewed}
-use Rattle.fs_serial.proofs.Rising.{world_begins}
 use Rattle.fs_serial.proofs.Seats.{settled_none}
-use Rattle.fs_serial.proofs.Sending.{IsRecallTo, asked, goes_of, world_all_recalled, world_answered}
+use Rattle.fs_serial.proofs.Sending.{asked, goes_of, recall_all, recall_with, world_all_recalled, world_answered}
 use Rattle.fs_serial.proofs.ShipLoop.{IsShipped, shipped_still}
 use Rattle.fs_serial.proofs.ServerSame.{asked_same, ships_same}
-use Rattle.fs_serial.proofs.ServerTurn.{recalled_at, turn_keeps}
+use Rattle.fs_serial.proofs.ServerTurn.{turn_keeps}
 
 -- ## Questions for leases
-
-recalled_for : (e : End) (rows : List Row) (m : Peer × Msg) → In m (recalls_at e rows) → IsRecallTo m
-recalled_for (end.Wait blocker) rows m i = recalled_at blocker (find (has_no blocker) rows) m i
-recalled_for e rows m i = absurd i
 
 ask_fits : (x : Exchange) (c : Client) (items : List (Field × LeaseKind)) (dir : Option (List ℕ)) (grants : List Grant) (given : Option (List ℕ)) (e : End) → IsQuestion x (Ask items dir) → (fresh_fits dir given && grants_fit items given c.view.leases [] grants) ≡ true
     → answer_fits (server_of_question x) x (Granted grants given e) c ≡ true
@@ -132,11 +122,11 @@ module _ (greatest : ℕ) (w : World) (by : Session) (h : WorldHolds greatest w)
       let same = asked_same by items dir s in
       let clock = h.clock in
       let last = same.last in
-      let told = world_answered greatest w a.server w.journal by (Ask items dir) (Granted a.grants a.fresh a.end) up h same.skew (omega arith) (asked_follows w.counts by items dir s) right.goes refl
+      let told = world_answered greatest w a.server w.journal by (Ask items dir) (Granted a.grants a.fresh a.end) up h same.skew (omega arith) (same.later w.counts) right.goes refl
       (λ x e q. ask_fits x c items dir a.grants a.fresh a.end q right.fits)
       (λ ends e q. absurd (cc)) in
       subst (λ js. WorldHolds greatest (record { server = a.server; counts = w.counts; journal = js; replied = w.replied; ends = with_sent (recalls_at a.end a.server.rows) (with_answer by (Granted a.grants a.fresh a.end) (without_question by w.ends)) })) (sym (append-nil w.journal))
-      (world_all_recalled greatest (record { server = a.server; counts = w.counts; journal = w.journal; replied = w.replied; ends = with_answer by (Granted a.grants a.fresh a.end) (without_question by w.ends) }) (recalls_at a.end a.server.rows) (recalled_for a.end a.server.rows) told)
+      (world_all_recalled greatest (record { server = a.server; counts = w.counts; journal = w.journal; replied = w.replied; ends = with_answer by (Granted a.grants a.fresh a.end) (without_question by w.ends) }) (recalls_at a.end a.server.rows) (recall_with a.end a.server.rows) told)
 
   -- ## Renewals
 
@@ -225,7 +215,7 @@ module _ (greatest : ℕ) (w : World) (by : Session) (h : WorldHolds greatest w)
       let log : c.log ≡ d.log = sym (ap (λ (k : Settled). k.log) (settled_none by (w.ends by).down (settled_now c) o.silent)) in
       let fits : refusal_fits x.end (length x.admitted) c.log ≡ true = ap (refusal_fits x.end (length x.admitted)) log ∙ ap (λ n. refusal_fits x.end n d.log) count ∙ r.fits in
       let few = r.few in
-      world_answered greatest w x.server (w.journal ++ x.admitted) by (Ship entries) a up h same.skew (omega arith) (ships_follow w.counts by entries s [])
+      world_answered greatest w x.server (w.journal ++ x.admitted) by (Ship entries) a up h same.skew (omega arith) (same.later w.counts)
       (subst (λ n. GoesOn s.skew greatest (sight_of w.counts x.server (w.journal ++ x.admitted)) w.replied w.ends (with_client by (with_over (over_after x.end d.over) (acknowledged_all by n d)) base)) (sym count) r.goes)
       refl
       (λ y e q. ship_fits y entries (length x.admitted) x.end q (omega arith) fits)
@@ -246,9 +236,6 @@ module _ (greatest : ℕ) (w : World) (by : Session) (h : WorldHolds greatest w)
   told_message (Ship entries) up = shipped_step entries up
 
 -- ## Each event
-
-all_recalls : (leases : List (LeaseNo × Session)) (m : Peer × Msg) → In m (recalls_of leases) → IsRecallTo m
-all_recalls leases m i = let q = In-map (λ (x : LeaseNo × Session). to_session x.1 (Recall x.0)) m leases i in record { to = q.0.1; number = q.0.0; message = q.1.1 }
 
 pub one_up : (c : Client) (x : Option Exchange) (up : List ClientMsg) (down : List Answer) (m : ClientMsg) → In m up → OneExchange c x up down → up ≡ m ∷ []
 one_up c None up down m i h = absurd (subst (λ ms. In m ms) h.0 i)
@@ -272,8 +259,4 @@ begun_keeps greatest w (event.Move prefix to) there h = absurd there
 begun_keeps greatest w event.Turn there h = turn_keeps greatest w h
 begun_keeps greatest w (event.Recall field) there h =
     subst (λ js. WorldHolds greatest (record { server = w.server; counts = w.counts; journal = js; replied = w.replied; ends = with_sent (event_step (event.Recall field) w.server).out.send w.ends })) (sym (append-nil w.journal))
-    (world_all_recalled greatest w (event_step (event.Recall field) w.server).out.send (all_recalls (recalled_on field w.server)) h)
-
-pub server_keeps : (greatest now : ℕ) (e : ServerEvent) (w : World) → max w.server.last now ≤ greatest → IsThere e w.ends → WorldHolds greatest w → WorldHolds greatest (after_server now e w)
-server_keeps greatest now e w before there h =
-    begun_keeps greatest (record { server = begun now w.server; counts = w.counts; journal = w.journal; replied = w.replied; ends = w.ends }) e there (world_begins greatest now w before h)
+    (world_all_recalled greatest w (event_step (event.Recall field) w.server).out.send (recall_all (recalled_on field w.server)) h)

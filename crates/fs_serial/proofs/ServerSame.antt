@@ -1,49 +1,60 @@
--- No event of the server changes its number and its skew, and its clock only at the beginning.
-use Rattle.std.proofs.Common.{◌≡◌, ℕ, Bool, true, false, List, [], ◌∷◌, ◌++◌, map, cond, refl, ◌∙◌}
+-- No question and no log changes the server's skew and its clock, or makes a row with an old number.
+use Rattle.std.proofs.Common.{◌≡◌, ℕ, ◌+◌, Bool, true, false, List, [], ◌∷◌, ◌++◌, map, cond, refl, ap, ◌∙◌, subst, inl, inr}
 use Rattle.std.specs.Prelude.{Option, Some, None}
-use Rattle.std.specs.List.{list_all}
 use Rattle.fs_ident.specs.declared.actor.Session.{Session}
+use Rattle.fs_ident.proofs.Standing.{In-put}
 use Rattle.fs_field.specs.declared.asked.Asked.{Asked}
 use Rattle.fs_field.specs.declared.asked.Asked.TheVariants as asked_as
 use Rattle.fs_field.specs.declared.field.Field.{Field}
 use Rattle.fs_field.specs.declared.lease_kind.LeaseKind.{LeaseKind}
+use Rattle.fs_field.specs.declared.row.Row.{Row}
+use Rattle.fs_field.specs.declared.used.Use.{Use}
 use Rattle.fs_field.specs.Field.{file_of}
-use Rattle.fs_field.specs.Table.{borne_numbers}
+use Rattle.fs_field.specs.Table.{borne_numbers, no_before, with_row}
 use Rattle.fs_msg.specs.declared.answer.Grant.{Grant}
-use Rattle.fs_msg.specs.declared.client_msg.ClientMsg.{ClientMsg}
-use Rattle.fs_msg.specs.declared.client_msg.ClientMsg.TheVariants.{Ask, Renew, Release, Ship}
 use Rattle.fs_msg.specs.declared.end.End.{End}
 use Rattle.fs_msg.specs.declared.end.End.TheVariants as end
 use Rattle.fs_msg.specs.declared.entry.Entry.{Entry}
 use Rattle.fs_msg.specs.Home.{home_of}
 use Rattle.fs_msg.specs.declared.item.Item.{Item}
-use Rattle.fs_msg.specs.declared.peer_msg.PeerMsg.{PeerMsg}
-use Rattle.fs_msg.specs.declared.peer_msg.PeerMsg.TheVariants.{Parcel}
-use Rattle.fs_parcel.specs.Parcel.{move_refusal}
-use Rattle.fs_parcel.specs.declared.error.MoveError.{MoveError}
-use Rattle.fs_record.specs.Effects.{tells_its_effects}
 use Rattle.fs_record.specs.Fresh.{fresh_number, is_directory}
 use Rattle.fs_server.specs.Asks.{Asking, answer_to, ask_from, ask_fresh, asked_in, fresh_for, fresh_in, fresh_of, grant_of, kind_for, with_lease}
-use Rattle.fs_server.specs.Moves.{fits_here, move_at, parcel_at, peer_step}
-use Rattle.fs_server.specs.Server.{is_mine, moved, strange}
-use Rattle.fs_server.specs.Ships.{Shipping, first_gone, item_of, ship_from, shipped, with_entry}
-use Rattle.fs_server.specs.Step.{event_step, message_step}
-use Rattle.fs_server.specs.declared.event.ServerEvent.{ServerEvent}
-use Rattle.fs_server.specs.declared.event.ServerEvent.TheVariants.{FromClient, FromPeer, Move, Turn, Recall}
+use Rattle.fs_server.specs.Server.{is_mine, moved, next_number}
+use Rattle.fs_server.specs.Ships.{Shipping, first_gone, item_of, ship_from, with_entry}
 use Rattle.fs_server.specs.declared.state.Server.{Server}
-use Rattle.fs_field.specs.declared.used.Use.{Use}
-use Rattle.fs_serial.proofs.ServerTurn.{turn_leaves}
+use Rattle.fs_serial.specs.Relies.{Stood}
+use Rattle.fs_serial.specs.Sight.{Counts, IsGiven, count_with}
+use Rattle.fs_serial.proofs.Counting.{given_by, next_is_new, one_more_given}
+use Rattle.fs_serial.proofs.Older.{IsLater, later_again, later_itself, stood_here}
+
+-- ## A row with the next number
+
+row_later : (o : Counts) (s : Server) (row : Row) → row.no ≡ next_number s → IsLater (given_by o s) (count_with s.me (s.given + 1) o.given) s.rows (with_row row s.rows)
+row_later o s row next = record {
+  given = one_more_given o s;
+  older = λ r i g. elim (In-put (λ x. no_before row.no x.no) r row s.rows i) as (λ _. Stood s.rows r) [
+    | inl e ↦ absurd (next_is_new o s (subst (λ n. IsGiven (given_by o s) n) (ap (λ (x : Row). x.no) e ∙ next) g))
+    | inr j ↦ stood_here s.rows r j
+  ];
+}
 
 -- ## What a question leaves
 
--- the number, the clock and the skew stay
+-- the clock and the skew stay, and no row with an old number is new
 pub record IsAsBefore (s t : Server) : Type 0 where
   pub skew : t.skew ≡ s.skew
   pub last : t.last ≡ s.last
-  pub me : t.me ≡ s.me
+  pub later : (o : Counts) → IsLater (given_by o s) (given_by o t) s.rows t.rows
 
 as_it_was : (s : Server) → IsAsBefore s s
-as_it_was s = record { skew = refl; last = refl; me = refl }
+as_it_was s = record { skew = refl; last = refl; later = λ o. later_itself (given_by o s) s.rows }
+
+as_again : (s t u : Server) → IsAsBefore s t → IsAsBefore t u → IsAsBefore s u
+as_again s t u p q = record {
+  skew = q.skew ∙ p.skew;
+  last = q.last ∙ p.last;
+  later = λ o. later_again (given_by o s) (given_by o t) (given_by o u) s.rows t.rows u.rows (p.later o) (q.later o);
+}
 
 asks_same : (by : Session) (items : List (Field × LeaseKind)) (s : Server) (grants : List Grant) → IsAsBefore s (ask_from by items s grants).server
 asks_same by [] s grants = as_it_was s
@@ -60,7 +71,11 @@ asks_same by (x ∷ xs) s grants =
     elim (is_mine s (file_of field)) as (λ b. IsAsBefore s (cond b (asked (answer_to by field kind s)) away).server) [
       | true ↦
           elim (answer_to by field kind s) as (λ (q : Asked). IsAsBefore s (asked q).server) [
-            | asked_as.Granted promise ↦ let q = asks_same by xs (with_lease by field kind promise s) (grants ++ grant_of by field kind s ∷ []) in record { skew = q.skew; last = q.last; me = q.me }
+            | asked_as.Granted promise ↦
+                let t = with_lease by field kind promise s in
+                as_again s t (ask_from by xs t (grants ++ grant_of by field kind s ∷ [])).server
+                (record { skew = refl; last = refl; later = λ o. row_later o s _ refl })
+                (asks_same by xs t (grants ++ grant_of by field kind s ∷ []))
             | asked_as.Wait blocker ↦ as_it_was s
             | asked_as.Locked txn ↦ as_it_was s
           ]
@@ -68,7 +83,7 @@ asks_same by (x ∷ xs) s grants =
     ]
 
 fresh_same : (by : Session) (dir : List ℕ) (k : Option ℕ) (a : Asking) → IsAsBefore a.server (fresh_of by dir k a).server
-fresh_same by dir (Some k) a = record { skew = refl; last = refl; me = refl }
+fresh_same by dir (Some k) a = record { skew = refl; last = refl; later = λ o. row_later o a.server _ refl }
 fresh_same by dir None a = as_it_was a.server
 
 in_same : (by : Session) (dir : List ℕ) (b : Bool) (a : Asking) → IsAsBefore a.server (fresh_in by dir b a).server
@@ -89,9 +104,7 @@ end_same by o e a = as_it_was a.server
 pub asked_same : (by : Session) (items : List (Field × LeaseKind)) (dir : Option (List ℕ)) (s : Server) → IsAsBefore s (asked_in by items dir s).server
 asked_same by items dir s =
     let a = ask_from by items s [] in
-    let p = asks_same by items s [] in
-    let q = end_same by dir a.end a in
-    record { skew = q.skew ∙ p.skew; last = q.last ∙ p.last; me = q.me ∙ p.me }
+    as_again s a.server (asked_in by items dir s).server (asks_same by items s []) (end_same by dir a.end a)
 
 pub ships_same : (by : Session) (es : List Entry) (s : Server) (admitted : List Item) → IsAsBefore s (ship_from by es s admitted).server
 ships_same by [] s admitted = as_it_was s
@@ -105,36 +118,8 @@ ships_same by (e ∷ es) s admitted =
     elim (is_mine s (home_of e.op)) as (λ b. IsAsBefore s (cond b (here (first_gone s.rows by e.uses)) away).server) [
       | true ↦
           elim (first_gone s.rows by e.uses) as (λ (gone : Option Use). IsAsBefore s (here gone).server) [
-            | None ↦ let q = ships_same by es (with_entry by e s) (admitted ++ item_of by e ∷ []) in record { skew = q.skew; last = q.last; me = q.me }
+            | None ↦ let q = ships_same by es (with_entry by e s) (admitted ++ item_of by e ∷ []) in record { skew = q.skew; last = q.last; later = q.later }
             | Some u ↦ as_it_was s
           ]
       | false ↦ as_it_was s
     ]
-
--- ## Each event
-
-message_same : (by : Session) (m : ClientMsg) (s : Server) → IsAsBefore s (message_step by m s).server
-message_same by (Ask items dir) s = asked_same by items dir s
-message_same by (Renew pairs) s = record { skew = refl; last = refl; me = refl }
-message_same by (Release pairs) s = record { skew = refl; last = refl; me = refl }
-message_same by (Ship entries) s = elim (list_all (λ (e : Entry). tells_its_effects e.op) entries) as (λ b. IsAsBefore s (cond b (shipped by (ship_from by entries s [])) (strange s)).server) [
-  | true ↦ ships_same by entries s []
-  | false ↦ as_it_was s
-]
-
-peer_same : (m : PeerMsg) (s : Server) → IsAsBefore s (peer_step m s).server
-peer_same (Parcel p) s = elim (fits_here p s) as (λ b. IsAsBefore s (parcel_at b p s).server) [
-  | true ↦ record { skew = refl; last = refl; me = refl }
-  | false ↦ as_it_was s
-]
-
-move_same : (why : Option MoveError) (prefix : List ℕ) (to : ℕ) (s : Server) → IsAsBefore s (move_at why prefix to s).server
-move_same None prefix to s = record { skew = refl; last = refl; me = refl }
-move_same (Some why) prefix to s = as_it_was s
-
-pub event_same : (e : ServerEvent) (s : Server) → IsAsBefore s (event_step e s).server
-event_same (FromClient by m) s = message_same by m s
-event_same Turn s = let q = turn_leaves s in record { skew = q.skew; last = q.last; me = q.me }
-event_same (FromPeer from m) s = peer_same m s
-event_same (Recall field) s = as_it_was s
-event_same (Move prefix to) s = move_same (move_refusal s.records s.rows s.map s.me prefix to None) prefix to s

@@ -1,20 +1,16 @@
 -- A turn of the server: sessions that let go of the lease on their handles lose these, or a lease in the way is asked back.
 use Rattle.std.proofs.Common.{◌≡◌, ℕ, ◌+◌, not, true, false, List, [], ◌∷◌, ◌++◌, map, refl, sym, ap, ◌∙◌, subst, cond, append_assoc, append-nil, inl, inr, arith}
 use Rattle.std.specs.Prelude.{Option, Some, None}
-use Rattle.std.specs.List.{filter, find}
+use Rattle.std.specs.List.{filter}
 use Rattle.std.specs.FinMap.{keys}
 use Rattle.fs_ident.specs.In.{In}
 use Rattle.fs_ident.specs.declared.actor.LeaseNo.{LeaseNo}
-use Rattle.fs_ident.specs.declared.actor.Peer.{Peer}
 use Rattle.fs_ident.specs.declared.actor.Session.{Session}
 use Rattle.fs_field.specs.declared.row.Row.{Row}
-use Rattle.fs_field.specs.Table.{has_no}
 use Rattle.fs_modes.specs.declared.modes.Modes.{Modes}
 use Rattle.fs_moderows.specs.Answer.{reap_blocker}
 use Rattle.fs_msg.specs.declared.item.Item.{Item}
-use Rattle.fs_msg.specs.declared.msg.Msg.{Msg}
 use Rattle.fs_record.specs.ValueOf.{selves_in}
-use Rattle.fs_server.specs.Asks.{recall_of}
 use Rattle.fs_server.specs.Reaps.{Reaping, has_own, lapsed_among, lapsed_in, lapsed_on, reap_from, reap_item, recalls_for, turn_over, turn_step, with_blocker, with_reap}
 use Rattle.fs_server.specs.Server.{Stepped}
 use Rattle.fs_server.specs.declared.state.Server.{Server}
@@ -27,7 +23,7 @@ use Rattle.fs_serial.proofs.Going.{carried_still}
 use Rattle.fs_serial.proofs.Older.{IsLater, later_itself}
 use Rattle.fs_serial.proofs.Reaping.{reap_keeps, reap_relied}
 use Rattle.fs_serial.proofs.Relied.{relies_for}
-use Rattle.fs_serial.proofs.Sending.{IsRecallTo, goes_of, world_all_recalled, world_still}
+use Rattle.fs_serial.proofs.Sending.{goes_of, recall_each, world_all_recalled, world_still}
 
 -- ## Who let go
 
@@ -102,30 +98,12 @@ module _ (o : Counts) (skew greatest : ℕ) (journal : List Item) (replied : Ses
         | Some number ↦ λ held. goes_all xs s admitted (with_blocker number blockers) (λ y i. gone y (inr i)) h
       ] refl
 
-turn_over_leaves : (xs : List (List ℕ × Session)) (s : Server) → IsReaped s (turn_over xs s).server
-turn_over_leaves [] s = record { skew = refl; last = refl; rows = refl; me = refl; given = refl }
-turn_over_leaves (x ∷ xs) s = reaps_leave (x ∷ xs) s [] []
-
 -- no row is new
 pub later_reaped : (o : Counts) (s t : Server) → IsReaped s t → IsLater (given_by o s) (given_by o t) s.rows t.rows
 later_reaped o s t q =
     subst (λ rows. IsLater (given_by o s) (given_by o t) s.rows rows) (sym q.rows)
     (subst (λ me. IsLater (given_by o s) (count_with me t.given o.given) s.rows s.rows) (sym q.me)
     (subst (λ n. IsLater (given_by o s) (count_with s.me n o.given) s.rows s.rows) (sym q.given) (later_itself (given_by o s) s.rows)))
-
-pub turn_leaves : (s : Server) → IsReaped s (turn_step s).server
-turn_leaves s = turn_over_leaves (lapsed_in s) s
-
--- ## Leases in the way
-
--- the lease is asked back from the session of its row, where it has one
-pub recalled_at : (number : LeaseNo) (o : Option Row) (m : Peer × Msg) → In m (recall_of number o) → IsRecallTo m
-recalled_at number None m i = absurd i
-recalled_at number (Some row) m i = elim i as (λ _. IsRecallTo m) [ inl e ↦ record { to = row.session; number = number; message = e } | inr z ↦ absurd z ]
-
-recalled_each : (rows : List Row) (ns : List LeaseNo) (m : Peer × Msg) → In m (recalls_for rows ns) → IsRecallTo m
-recalled_each rows [] m i = absurd i
-recalled_each rows (n ∷ ns) m i = elim (In-append m (recall_of n (find (has_no n) rows)) (recalls_for rows ns) i) as (λ _. IsRecallTo m) [ inl j ↦ recalled_at n (find (has_no n) rows) m j | inr j ↦ recalled_each rows ns m j ]
 
 -- ## The turn
 
@@ -144,7 +122,7 @@ turn_some_keeps greatest w (x ∷ xs) gone h =
     let last = same.last in
     let start : GoesOn w.server.skew greatest (sight_of w.counts w.server (w.journal ++ [])) w.replied w.ends clients =
     subst (λ js. GoesOn w.server.skew greatest (sight_of w.counts w.server js) w.replied w.ends clients) (sym (append-nil w.journal)) (goes_of greatest w h) in
-    world_all_recalled greatest (record { server = r.server; counts = w.counts; journal = w.journal ++ r.admitted; replied = w.replied; ends = w.ends }) (recalls_for r.server.rows r.blockers) (recalled_each r.server.rows r.blockers)
+    world_all_recalled greatest (record { server = r.server; counts = w.counts; journal = w.journal ++ r.admitted; replied = w.replied; ends = w.ends }) (recalls_for r.server.rows r.blockers) (recall_each r.server.rows r.blockers)
     (world_still greatest w r.server (w.journal ++ r.admitted) same.skew (omega arith) (later_reaped w.counts w.server r.server same) (goes_all w.counts w.server.skew greatest w.journal w.replied w.ends clients (x ∷ xs) w.server [] [] gone start) h)
 
 pub turn_keeps : (greatest : ℕ) (w : World) → WorldHolds greatest w → WorldHolds greatest (world_stepped w (turn_step w.server))

@@ -20,10 +20,6 @@ use Rattle.fs_serial.proofs.SameStep.{IsSameStep}
 
 -- ## What was made stays made
 
-or_some : (a b : Option Kind) → is_some a ≡ true → is_some (or_else a b) ≡ true
-or_some None b h = absurd (cc)
-or_some (Some k) b h = refl
-
 or_more : (a b d : Option Kind) → (is_some b ≡ true → is_some d ≡ true) → is_some (or_else a b) ≡ true → is_some (or_else a d) ≡ true
 or_more None b d f h = f h
 or_more (Some k) b d f h = refl

@@ -3,6 +3,7 @@ use Rattle.std.proofs.Common.{◌≡◌, ℕ, ◌≤◌, max, true, List, [], �
 use Rattle.std.specs.Prelude.{◌≢◌, Option, Some, None, slice_get}
 use Rattle.std.specs.List.{list_all}
 use Rattle.fs_ident.specs.declared.actor.Session.{Session}
+use Rattle.fs_ident.proofs.Passing.{found}
 use Rattle.fs_msg.specs.declared.client_msg.ClientMsg.{ClientMsg}
 use Rattle.fs_msg.specs.declared.client_msg.ClientMsg.TheVariants.{Ask, Renew, Release, Ship}
 use Rattle.fs_msg.specs.declared.entry.Entry.{Entry}
@@ -28,7 +29,6 @@ use Rattle.fs_serial.proofs.Facts.{In-mapped}
 use Rattle.fs_serial.proofs.Lapsing.{begins, begun_at}
 use Rattle.fs_serial.proofs.ServerEvents.{all_plain}
 use Rattle.fs_serial.proofs.SetAt.{In_got, get_here}
-use Rattle.fs_serial.proofs.Traffic.{find_In}
 
 turn_note : (xs : List (List ℕ × Session)) (s : Server) → (turn_over xs s).out.note ≢ Strange
 turn_note [] s e = absurd (cc)
@@ -52,7 +52,7 @@ module _ (skew greatest k : ℕ) (c : Cluster) (s : Server) (at : slice_get c.se
   message_note by (Renew pairs) there = λ e. absurd (cc)
   message_note by (Release pairs) there = λ e. absurd (cc)
   message_note by (Ship entries) there =
-      ship_note by entries s (all_plain greatest (world_of s c) by entries (In-mapped (λ (n : ℕ × ClientMsg). n.1) (k, Ship entries) (c.lines by).up (find_In (is_with k) (c.lines by).up (k, Ship entries) there)) view)
+      ship_note by entries s (all_plain greatest (world_of s c) by entries (In-mapped (λ (n : ℕ × ClientMsg). n.1) (k, Ship entries) (c.lines by).up (found (is_with k) (c.lines by).up (k, Ship entries) there).0) view)
 
   event_note : (e : ServerEvent) → IsThere k e c → (event_step e s).out.note ≢ Strange
   event_note (event.FromClient by m) there = message_note by m there

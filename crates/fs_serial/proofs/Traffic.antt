@@ -1,12 +1,12 @@
 -- Messages with their servers' numbers, and without.
 use mathlib.Core.Path.{fun_ext}
-use Rattle.std.proofs.Common.{◌≡◌, ℕ, ◌==◌, Bool, true, false, List, [], ◌∷◌, ◌++◌, cond, map, refl, ap, ◌∙◌, inl, inr}
-use Rattle.std.specs.Prelude.{◌⊎◌, Option, Some, None}
+use Rattle.std.proofs.Common.{◌≡◌, ℕ, ◌==◌, Bool, true, false, List, [], ◌∷◌, ◌++◌, cond, map, refl, ap, ◌∙◌}
+use Rattle.std.specs.Prelude.{Option, Some, None}
 use Rattle.std.specs.List.{find}
-use Rattle.fs_ident.specs.In.{In}
 use Rattle.fs_ident.specs.declared.actor.Peer.{Peer}
 use Rattle.fs_ident.specs.declared.actor.Peer.TheVariants.{Client as OfSession}
 use Rattle.fs_ident.specs.declared.actor.Session.{Session}
+use Rattle.fs_ident.proofs.Passing.{found}
 use Rattle.fs_msg.specs.declared.answer.Answer.{Answer}
 use Rattle.fs_msg.specs.declared.client_msg.ClientMsg.{ClientMsg}
 use Rattle.fs_msg.specs.declared.msg.Msg.{Msg}
@@ -31,15 +31,6 @@ messages_append [] b = refl
 messages_append (m ∷ a) b = ap (λ ms. m.1 ∷ ms) (messages_append a b)
 
 -- ## The first of a server
-
-pub find_In : {X : Type 0} (is : X → Bool) (xs : List X) (x : X) → find is xs ≡ Some x → In x xs
-find_In is [] x e = absurd (cc)
-find_In is (y ∷ ys) x e =
-    let rest = find_In is ys x in
-    elim (is y) as (λ b. cond b (Some y) (find is ys) ≡ Some x → (x ≡ y) ⊎ In x ys) [
-      | true ↦ λ q. let same : x ≡ y = cc in inl same
-      | false ↦ λ q. inr (rest q)
-    ] e
 
 -- it stands between these, and they are left
 pub record IsTaken {X : Type 0} (is : X → Bool) (xs : List X) (x : X) : Type 0 where
@@ -79,7 +70,7 @@ alone (u ∷ []) k m e f =
 alone (u ∷ v ∷ us) k m e f = absurd (cc)
 
 pub one_question : (l : Lines) (k : ℕ) (m : ClientMsg) → find (is_with k) l.up ≡ Some (k, m) → OneExchange l.client l.client.exchange (messages l.up) (ends_of l).down → IsAlone k l.up m
-one_question l k m f one = alone l.up k m (one_up l.client l.client.exchange (messages l.up) (ends_of l).down m (In-mapped (λ (x : ℕ × ClientMsg). x.1) (k, m) l.up (find_In (is_with k) l.up (k, m) f)) one) f
+one_question l k m f one = alone l.up k m (one_up l.client l.client.exchange (messages l.up) (ends_of l).down m (In-mapped (λ (x : ℕ × ClientMsg). x.1) (k, m) l.up (found (is_with k) l.up (k, m) f).0) one) f
 
 -- ## Both ends of the lines, as a server's events change them
 
