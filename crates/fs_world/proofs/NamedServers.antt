@@ -1,9 +1,9 @@
 -- What a server has and sends: it knows of servers that there are, has rows of sessions that have joined, and its handles
 -- can be told; what it sends goes to such sessions and to other servers, and can be read.
 use Rattle.std.proofs.Common.{◌≡◌, ◌≢◌, ◌∙◌, ◌<◌, ◌≤◌, ◌^◌, ℕ, ◌+◌, Bool, true, false, List, [], ◌∷◌, ◌++◌, map, not, Option, Some, None, refl, sym, ap, subst, cond, inl, inr, arith}
-use Rattle.std.specs.Prelude.{◌&&◌, ◌==◌, is_some, nat_le, nat_lt}
+use Rattle.std.specs.Prelude.{◌&&◌, ◌==◌, nat_le}
 use Rattle.std.specs.FinMap.{get}
-use Rattle.std.specs.List.{AllByRecursion, filter, find, list_all}
+use Rattle.std.specs.List.{AllByRecursion, find, list_all}
 use Rattle.std.proofs.lemmas.Bool.Decides.{nat_tests}
 use Rattle.fs_ident.specs.Ident.{child}
 use Rattle.fs_ident.specs.In.{In}
@@ -13,10 +13,9 @@ use Rattle.fs_ident.specs.declared.actor.Peer.TheVariants.{Client, Server}
 use Rattle.fs_ident.specs.declared.actor.Session.{Session}
 use Rattle.fs_ident.proofs.Booleans.{first, joined, second}
 use Rattle.fs_ident.proofs.Passing.{In-all, found}
-use Rattle.fs_ident.proofs.Standing.{In-filter, In-map, In-put}
 use Rattle.fs_field.specs.After.{Handles}
-use Rattle.fs_field.specs.Field.{file_of, same_field}
-use Rattle.fs_field.specs.Table.{borne_numbers, has_no, is_live, no_before, renewed_row, with_row}
+use Rattle.fs_field.specs.Field.{file_of}
+use Rattle.fs_field.specs.Table.{borne_numbers, has_no, is_live}
 use Rattle.fs_field.specs.declared.asked.Asked.{Asked}
 use Rattle.fs_field.specs.declared.asked.Asked.TheVariants.{Granted, Wait, Locked}
 use Rattle.fs_field.specs.declared.effect.Effect.TheVariants.{RemoveHandle}
@@ -39,8 +38,7 @@ use Rattle.fs_record.specs.ValueOf.{handles_of, own_of, selves_in}
 use Rattle.fs_record.specs.declared.parcel.Parcel.{Parcel}
 use Rattle.fs_record.specs.declared.record.Record.{Record}
 use Rattle.fs_record.proofs.Returning.{given_each}
-use Rattle.fs_rows.specs.Granted.{with_rows}
-use Rattle.fs_rows.specs.Live.{unlocked_on, unlocked_rows_on}
+use Rattle.fs_rows.specs.Live.{unlocked_on}
 use Rattle.fs_rows.specs.Moving.{is_on_given}
 use Rattle.fs_msg.specs.Home.{home_of}
 use Rattle.fs_msg.specs.Readable.{is_readable, is_readable_answer, is_readable_entry, is_readable_grant, is_readable_parcel, is_readable_record}
@@ -71,41 +69,7 @@ use Rattle.fs_world.specs.Readable.{HasOpenHandles, RecordsOpen}
 use Rattle.fs_world.specs.Served.{Seats}
 use Rattle.fs_world.proofs.NamedMaps.{moved_named, named_first, named_give, named_take}
 use Rattle.fs_world.proofs.OpenHandles.{AddsOpen, effects_open, first_open, open_after_all, open_after_gift, open_given, open_left, open_with, value_open}
-
--- ## Rows, of sessions of which something holds
-
-abbrev pub AreOf : (Session → Type 0) → List Row → Type 0
-AreOf these rows = (row : Row) → In row rows → these row.session
-
-filtered : (these : Session → Type 0) (test : Row → Bool) (rows : List Row) → AreOf these rows → AreOf these (filter test rows)
-filtered these test rows h row i = h row (In-filter test row rows i)
-
-put : (these : Session → Type 0) (new : Row) (rows : List Row) → these new.session → AreOf these rows → AreOf these (with_row new rows)
-put these new rows h all row i = elim (In-put (λ (r : Row). no_before new.no r.no) row new rows i) [
-  | inl e ↦ subst these (ap (λ (r : Row). r.session) (sym e)) h
-  | inr j ↦ all row j
-]
-
-put_all : (these : Session → Type 0) (more rows : List Row) → AreOf these more → AreOf these rows → AreOf these (with_rows more rows)
-put_all these [] rows h all = all
-put_all these (r ∷ rs) rows h all = put_all these rs (with_row r rows) (λ x i. h x (inr i)) (put these r rows (h r (inl refl)) all)
-
-session_kept : (n : LeaseNo) (until : ℕ) (r : Row) → (renewed_row n until r).session ≡ r.session
-session_kept n until r = either (has_no n r && nat_lt r.until until)
-  where
-    either : (b : Bool) → (cond b (record r { until = until }) r).session ≡ r.session
-    either true = refl
-    either false = refl
-
-renewed : (these : Session → Type 0) (until : ℕ) (ns : List LeaseNo) (rows : List Row) → AreOf these rows → AreOf these (renewed_rows until ns rows)
-renewed these until [] rows h = h
-renewed these until (n ∷ ns) rows h = renewed these until ns (map (renewed_row n until) rows) (λ row i.
-    let at = In-map (renewed_row n until) row rows i in
-    subst these (sym (ap (λ (r : Row). r.session) at.1.1 ∙ session_kept n until at.0)) (h at.0 at.1.0))
-
-released : (these : Session → Type 0) (ns : List LeaseNo) (rows : List Row) → AreOf these rows → AreOf these (released_rows ns rows)
-released these [] rows h = h
-released these (n ∷ ns) rows h = released these ns (filter (λ r. not (has_no n r)) rows) (filtered these (λ r. not (has_no n r)) rows h)
+use Rattle.fs_world.proofs.SeenRows.{AreOf, filtered, put, put_all, released, renewed, unlocked}
 
 -- ## What is sent
 
@@ -336,13 +300,8 @@ module _ (servers : ℕ) (seats : Seats) (k : ℕ) (some : k < servers) (readabl
   recalls_sent [] h = tt
   recalls_sent (x ∷ xs) h = ((h x (inl refl), tt, refl), recalls_sent xs (λ y i. h y (inr i)))
 
-  unlocked : (field : Field) (rows : List Row) → AreOf (HasJoined seats) rows → (x : LeaseNo × Session) → In x (unlocked_on field rows) → HasJoined seats x.1
-  unlocked field rows h x i =
-      let at = In-map (λ (row : Row). (row.no, row.session)) x (unlocked_rows_on field rows) i in
-      subst (HasJoined seats) (ap (λ (y : LeaseNo × Session). y.1) (sym at.1.1)) (h at.0 (In-filter (λ (row : Row). same_field row.field field && not (is_some row.lock)) at.0 rows at.1.0))
-
   recall_sent : (b : Bool) (field : Field) (rows : List Row) → AreOf (HasJoined seats) rows → AreSent servers seats k (recalls_of (cond b (unlocked_on field rows) []))
-  recall_sent true field rows h = recalls_sent (unlocked_on field rows) (unlocked field rows h)
+  recall_sent true field rows h = recalls_sent (unlocked_on field rows) (unlocked (HasJoined seats) field rows h)
   recall_sent false field rows h = tt
 
   -- ## Reaps

@@ -80,16 +80,16 @@ module _ (these : Session → Type 0) where
 
   -- ## Rows
 
-  filtered : (test : Row → Bool) (rows : List Row) → AreOf these rows → AreOf these (filter test rows)
+  pub filtered : (test : Row → Bool) (rows : List Row) → AreOf these rows → AreOf these (filter test rows)
   filtered test rows h row i = h row (In-filter test row rows i)
 
-  put : (new : Row) (rows : List Row) → these new.session → AreOf these rows → AreOf these (with_row new rows)
+  pub put : (new : Row) (rows : List Row) → these new.session → AreOf these rows → AreOf these (with_row new rows)
   put new rows h all row i = elim (In-put (λ (r : Row). no_before new.no r.no) row new rows i) [
     | inl e ↦ subst these (ap (λ (r : Row). r.session) (sym e)) h
     | inr j ↦ all row j
   ]
 
-  put_all : (more rows : List Row) → AreOf these more → AreOf these rows → AreOf these (with_rows more rows)
+  pub put_all : (more rows : List Row) → AreOf these more → AreOf these rows → AreOf these (with_rows more rows)
   put_all [] rows h all = all
   put_all (r ∷ rs) rows h all = put_all rs (with_row r rows) (λ x i. h x (inr i)) (put r rows (h r (inl refl)) all)
 
@@ -103,13 +103,13 @@ module _ (these : Session → Type 0) where
       either true = refl
       either false = refl
 
-  renewed : (until : ℕ) (ns : List LeaseNo) (rows : List Row) → AreOf these rows → AreOf these (renewed_rows until ns rows)
+  pub renewed : (until : ℕ) (ns : List LeaseNo) (rows : List Row) → AreOf these rows → AreOf these (renewed_rows until ns rows)
   renewed until [] rows h = h
   renewed until (n ∷ ns) rows h = renewed until ns (map (renewed_row n until) rows) (λ row i.
       let at = In-map (renewed_row n until) row rows i in
       subst these (sym (ap (λ (r : Row). r.session) at.1.1 ∙ session_kept n until at.0)) (h at.0 at.1.0))
 
-  released : (ns : List LeaseNo) (rows : List Row) → AreOf these rows → AreOf these (released_rows ns rows)
+  pub released : (ns : List LeaseNo) (rows : List Row) → AreOf these rows → AreOf these (released_rows ns rows)
   released [] rows h = h
   released (n ∷ ns) rows h = released ns (filter (λ r. not (has_no n r)) rows) (filtered (λ r. not (has_no n r)) rows h)
 
@@ -231,7 +231,7 @@ module _ (these : Session → Type 0) where
   recalls_sent [] h = tt
   recalls_sent (x ∷ xs) h = (h x (inl refl), recalls_sent xs (λ y i. h y (inr i)))
 
-  unlocked : (field : Field) (rows : List Row) → AreOf these rows → (x : LeaseNo × Session) → In x (unlocked_on field rows) → these x.1
+  pub unlocked : (field : Field) (rows : List Row) → AreOf these rows → (x : LeaseNo × Session) → In x (unlocked_on field rows) → these x.1
   unlocked field rows h x i =
       let at = In-map (λ (row : Row). (row.no, row.session)) x (unlocked_rows_on field rows) i in
       subst these (ap (λ (y : LeaseNo × Session). y.1) (sym at.1.1)) (h at.0 (In-filter (λ (row : Row). same_field row.field field && not (is_some row.lock)) at.0 rows at.1.0))
