@@ -5,7 +5,6 @@ pub mod Marks
 pub mod SeatMaps
 pub mod Spending
 pub mod SentNumbers
-mod PushedFlying
 mod PoppedFirst
 mod AtSeat
 mod AtServer
