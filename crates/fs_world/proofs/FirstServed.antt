@@ -9,9 +9,9 @@ use Rattle.fs_server.specs.Server.{first_server}
 use Rattle.fs_server.specs.declared.state.Server.{Server}
 use Rattle.fs_serial.specs.Cluster.{Lines, first_lines, first_servers}
 use Rattle.fs_serial.specs.Seen.{ClusterHolds}
+use Rattle.fs_serial.proofs.Facts.{In-append}
 use Rattle.fs_world.specs.Parts.{lines_in, lines_of}
 use Rattle.fs_world.specs.Served.{first_served}
-use Rattle.fs_world.proofs.Replies.{in_parts}
 use Rattle.fs_world.proofs.SerialLaws.{SerialLaws}
 use Rattle.fs_world.proofs.SessionSteps.{HoldsOf}
 
@@ -25,7 +25,7 @@ first_many (suc k) skew term = let before = first_many k skew term in length-app
 -- a new server has no row
 no_rows : (servers skew term : ℕ) (s : Server) → In s (first_servers servers skew term) → s.rows ≡ []
 no_rows zero skew term s i = absurd i
-no_rows (suc k) skew term s i = either (in_parts s (first_servers k skew term) (first_server k skew term ∷ []) i) (no_rows k skew term s)
+no_rows (suc k) skew term s i = either (In-append s (first_servers k skew term) (first_server k skew term ∷ []) i) (no_rows k skew term s)
   where
     either : In s (first_servers k skew term) ⊎ In s (first_server k skew term ∷ []) → (In s (first_servers k skew term) → s.rows ≡ []) → s.rows ≡ []
     either (inl i) before = before i

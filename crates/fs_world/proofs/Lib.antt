@@ -31,7 +31,6 @@ pub mod DirectKept
 pub mod Bounded
 pub mod Forms
 pub mod Fine
-pub mod SeenLists
 pub mod SeenRows
 pub mod SerialLaws
 pub mod Seen

@@ -46,13 +46,14 @@ use Rattle.fs_server.specs.Step.{CanBeTold, spent_by, step}
 use Rattle.fs_server.specs.declared.event.ServerEvent.{ServerEvent}
 use Rattle.fs_server.specs.declared.event.ServerEvent.TheVariants.{FromClient, FromPeer, Move, Recall, Turn}
 use Rattle.fs_server.specs.declared.state.Server.{Server as Core}
+use Rattle.fs_serial.proofs.SetAt.{In_without, set_same}
 use Rattle.fs_world.specs.Linked.{AreTied, FitsDown, HasJoined, IsCarried, IsFirstOf, IsLinked, IsNamedAnswer, IsSeated, IsServed, between, parcels_between, seat_post, ups_of}
 use Rattle.fs_world.specs.Planned.{IsAnswered, IsComing, IsOwn, WasSent, message_of}
 use Rattle.fs_world.specs.Served.{Seats, ServerStepped, at_server, core_step, first_from, first_spent, heard_in, is_full_down, quiet_note, server_goes, server_hears, server_step, server_step_at, server_told, up_first, with_down, with_down_at, with_downs, with_pushed, with_server, without_up}
 use Rattle.fs_world.specs.declared.seat.Seat.{Seat}
 use Rattle.fs_world.specs.declared.served.Served.{Served}
 use Rattle.fs_world.proofs.LinkedChange.{IsHeard, first_of, other_way, tied_alike}
-use Rattle.fs_world.proofs.LinkedLists.{In-more, In-without, found_first, got_set, set_same, within}
+use Rattle.fs_world.proofs.LinkedLists.{In-more, found_first, got_set, within}
 use Rattle.fs_world.proofs.LinkedSeats.{all_put, got_here, joined_still, put_same, taken}
 use Rattle.fs_world.proofs.LinkedServed.{joined_all, other_post, server_due, server_hears_server, server_hears_session, server_sends, serving}
 use Rattle.fs_world.proofs.NamedServers.{AreSent, IsBrought, IsStepped, step_goes}
@@ -321,11 +322,11 @@ seat_there w s q e = at (get w.seats s.0) refl e
 
 up_seated : (servers : ℕ) (s : Session) (seat : Seat) (joined : List Joined) (is : ℕ × ClientMsg → Bool) → IsSeated servers s seat → IsSeated servers s (record seat { up = taken joined is seat.up })
 up_seated servers s seat [] is g = g
-up_seated servers s seat (j ∷ js) is g = record { number = g.number; session = g.session; log = g.log; hints = g.hints; up = λ m i. g.up m (In-without is m seat.up i); down = g.down }
+up_seated servers s seat (j ∷ js) is g = record { number = g.number; session = g.session; log = g.log; hints = g.hints; up = λ m i. g.up m (In_without is seat.up m i); down = g.down }
 
 In-taken : (joined : List Joined) (is : Flying → Bool) (f : Flying) (flying : List Flying) → In f (taken joined is flying) → In f flying
 In-taken [] is f flying i = i
-In-taken (j ∷ js) is f flying i = In-without is f flying i
+In-taken (j ∷ js) is f flying i = In_without is flying f i
 
 pub told_server_linked : (w : Served) (k : ℕ) (c : Core) (post : Links) (now : ℕ) (from : Peer) (p : Packet) → slice_get w.servers k ≡ Some c → slice_get w.posts k ≡ Some post → WasSent from (Server k) (Some p) w.packets.sent
     → IsAnswered now (post_accepted post from p).heard.joined (first_from k from w.seats w.flying) (record (at_server c post w) { post = (post_accepted post from p).links })

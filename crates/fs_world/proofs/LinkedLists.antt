@@ -32,16 +32,6 @@ others_there {X} is other (x ∷ xs) g = either (is x) refl (others_there is oth
     either true e rest = sym (ap (λ (t : Bool). cond t (x ∷ filter other xs) (filter other xs)) (g x e))
     either false e rest = ap (λ (ys : List X). cond (other x) (x ∷ ys) ys) rest
 
--- what is left was there
-pub In-without : {X : Type 0} (is : X → Bool) (y : X) (xs : List X) → In y (without_first is xs) → In y xs
-In-without is y [] i = i
-In-without {X} is y (x ∷ xs) i = either (is x) (λ j. In-without is y xs j) i
-  where
-    either : (b : Bool) → (In y (without_first is xs) → In y xs) → In y (cond b xs (x ∷ without_first is xs)) → In y (x ∷ xs)
-    either true rest j = inr j
-    either false rest (inl e) = inl e
-    either false rest (inr j) = inr (rest j)
-
 -- the first that is found is the first of those that pass
 abbrev pub first_before : {X : Type 0} → Option X → List X → List X
 first_before None rest = []
@@ -92,11 +82,6 @@ got_set (y ∷ ys) zero zero x h = refl
 got_set (y ∷ ys) zero (suc j) x h = ap (λ (b : Bool). cond b (Some x) (slice_get ys j)) (sym (none_same j))
 got_set (y ∷ ys) (suc k) zero x h = ap (λ (b : Bool). cond b (Some x) (Some y)) (sym (same_none k))
 got_set (y ∷ ys) (suc k) (suc j) x h = got_set ys k j x (omega arith) ∙ ap (λ (b : Bool). cond b (Some x) (slice_get ys j)) (sym (both_more j k))
-
-pub set_same : {X : Type 0} (xs : List X) (k : ℕ) (x : X) → slice_get xs k ≡ Some x → slice_set xs k x ≡ xs
-set_same [] k x h = absurd (cc)
-set_same {X} (y ∷ ys) zero x h = let same : y ≡ x = cc in ap (λ (z : X). z ∷ ys) (sym same)
-set_same {X} (y ∷ ys) (suc k) x h = ap (λ (zs : List X). y ∷ zs) (set_same ys k x h)
 
 pub within : {X : Type 0} (xs : List X) (k : ℕ) (x : X) → slice_get xs k ≡ Some x → k < length xs
 within [] k x h = absurd (cc)

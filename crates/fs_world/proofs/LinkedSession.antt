@@ -37,6 +37,7 @@ use Rattle.fs_client.specs.Turns.{turn_plan}
 use Rattle.fs_client.specs.declared.plan.Plan.{Plan}
 use Rattle.fs_serial.specs.Cluster.{is_with, without_first}
 use Rattle.fs_serial.specs.World.{is_called}
+use Rattle.fs_serial.proofs.SetAt.{In_without}
 use Rattle.fs_world.specs.Linked.{AreTied, FitsUp, GoesBetween, IsFirstOf, IsLinked, IsNamedAnswer, IsSeated, IsSentOver, IsThere, downs_of, post_of, seat_post}
 use Rattle.fs_world.specs.Packets.{Packets, with_sent}
 use Rattle.fs_world.specs.Planned.{WasSent}
@@ -44,7 +45,7 @@ use Rattle.fs_world.specs.Served.{Seats, act_noted, client_acts, client_does, cl
 use Rattle.fs_world.specs.declared.seat.Seat.{Seat}
 use Rattle.fs_world.specs.declared.served.Served.{Served}
 use Rattle.fs_world.proofs.LinkedChange.{IsHeard, first_of}
-use Rattle.fs_world.proofs.LinkedLists.{In-more, In-without, found_first, within}
+use Rattle.fs_world.proofs.LinkedLists.{In-more, found_first, within}
 use Rattle.fs_world.proofs.LinkedPair.{read_of}
 use Rattle.fs_world.proofs.LinkedSeats.{all_put, joined_still, put_same, seat_accepts, seat_due, seat_sends, seated, taken}
 use Rattle.fs_world.proofs.NamedClients.{IsFine, IsPlanned, SendsFine, act_fine, answer_fine, answer_silent, committed_fine, session_kept, turn_fine}
@@ -212,7 +213,7 @@ of_server w k p few = either (is_some p.body)
 
 down_taken : (servers : ℕ) (joined : List Joined) (is : ℕ × Answer → Bool) (down : List (ℕ × Answer)) → ((m : ℕ × Answer) → In m down → (m.0 < servers) × IsNamedAnswer servers m.1) → (m : ℕ × Answer) → In m (taken joined is down) → (m.0 < servers) × IsNamedAnswer servers m.1
 down_taken servers [] is down h m i = h m i
-down_taken servers (j ∷ js) is down h m i = h m (In-without is m down i)
+down_taken servers (j ∷ js) is down h m i = h m (In_without is down m i)
 
 session_hears : (w : Served) (s : Session) (now k : ℕ) (heard : Option Peer) (count : Heard) (joined : List Joined) (o : Option (ℕ × Answer)) (seat : Seat) (journal : List Item) (packets : Packets)
     → find (is_with k) seat.down ≡ o → IsOfServer w heard → IsFirstOf joined (downs_of k (Some seat)) → ((m : ℕ × Answer) → o ≡ Some m → IsNamedAnswer (length w.servers) m.1)
