@@ -54,11 +54,13 @@ use Rattle.fs_world.specs.declared.seat.Seat.{Seat}
 use Rattle.fs_world.specs.declared.served.Served.{Served}
 use Rattle.fs_world.proofs.LinkedChange.{IsHeard, first_of, other_way, tied_alike}
 use Rattle.fs_world.proofs.LinkedLists.{In-more, found_first, got_set, within}
-use Rattle.fs_world.proofs.LinkedSeats.{all_put, got_here, joined_still, put_same, taken}
-use Rattle.fs_world.proofs.LinkedServed.{joined_all, other_post, server_due, server_hears_server, server_hears_session, server_sends, serving}
+use Rattle.fs_world.proofs.LinkedSeats.{all_put, got_here, put_same, taken}
+use Rattle.fs_world.proofs.LinkedServed.{other_post, server_due, server_hears_server, server_hears_session, server_sends, serving}
 use Rattle.fs_world.proofs.NamedServers.{AreSent, IsBrought, IsStepped, step_goes}
 use Rattle.fs_world.proofs.LinkedFirst.{AllSeated, carried_then, posts_there, readable_in, served_then}
 use Rattle.fs_world.proofs.LinkedSession.{packet_of, went}
+use Rattle.fs_world.proofs.Seen.{joined_still}
+use Rattle.fs_world.proofs.SeenSends.{downs_joined}
 
 -- ## What can be spelled can be read
 
@@ -212,7 +214,7 @@ module _ (w : Served) (k : ℕ) (few : k < length w.servers) (h : IsLinked w) wh
   core_goes x turn heard now e of brought fits room g =
       let y : CoreStepped = step x.server now e in
       let k_step : IsStepped server_count x.seats k y = step_goes server_count x.seats k few (readable_in server_count x.seats g.seats) x.server now e brought g.server in
-      let still = joined_all w k there server_count x.seats (posts_there w h) (readable_in server_count x.seats g.seats) y.out.send x.seats in
+      let still = downs_joined k y.out.send x.seats in
       due_goes (record x { server = y.server; post = with_pushed y.out.send x.post; seats = with_downs k y.out.send x.seats; flying = x.flying ++ flying_from k y.out.send; journal = x.journal ++ y.out.admitted })
       turn heard (note.Server y.out.note) (first_spent (spent_by x.server now e) (is_full_down y.out.send x.post))
       (other_still server_count x.seats (with_downs k y.out.send x.seats) k heard still of)

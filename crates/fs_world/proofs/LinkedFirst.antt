@@ -23,10 +23,11 @@ use Rattle.fs_world.specs.declared.served.Served.{Served}
 use Rattle.fs_world.proofs.LinkedChange.{none_there, tied_alike}
 use Rattle.fs_world.proofs.LinkedLists.{one_more_there, one_there}
 use Rattle.fs_world.proofs.LinkedPair.{both_new}
-use Rattle.fs_world.proofs.LinkedSeats.{AtAll, all_put, joined_still, seat_joins}
-use Rattle.fs_world.proofs.NamedClients.{answer_silent, first_fine}
+use Rattle.fs_world.proofs.LinkedSeats.{AtAll, all_put, seat_joins}
+use Rattle.fs_world.proofs.NamedClients.{first_fine}
 pub use Rattle.fs_world.proofs.NamedClients.{answer_silent}
 use Rattle.fs_world.proofs.NamedServers.{first_served_core}
+use Rattle.fs_world.proofs.Seen.{joined_still}
 
 -- ## Whoever has joined stays
 

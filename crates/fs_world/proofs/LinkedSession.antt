@@ -47,10 +47,11 @@ use Rattle.fs_world.specs.declared.served.Served.{Served}
 use Rattle.fs_world.proofs.LinkedChange.{IsHeard, first_of}
 use Rattle.fs_world.proofs.LinkedLists.{In-more, found_first, within}
 use Rattle.fs_world.proofs.LinkedPair.{read_of}
-use Rattle.fs_world.proofs.LinkedSeats.{all_put, joined_still, put_same, seat_accepts, seat_due, seat_sends, seated, taken}
+use Rattle.fs_world.proofs.LinkedSeats.{all_put, put_same, seat_accepts, seat_due, seat_sends, seated, taken}
 use Rattle.fs_world.proofs.NamedClients.{IsFine, IsPlanned, SendsFine, act_fine, answer_fine, answer_silent, committed_fine, session_kept, turn_fine}
 pub use Rattle.fs_world.proofs.NamedClients.{answer_silent}
 use Rattle.fs_world.proofs.LinkedFirst.{carried_then, posts_there, served_then}
+use Rattle.fs_world.proofs.Seen.{joined_still}
 
 -- ## A session's links
 
