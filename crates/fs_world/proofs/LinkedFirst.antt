@@ -28,6 +28,7 @@ use Rattle.fs_world.proofs.NamedClients.{first_fine}
 pub use Rattle.fs_world.proofs.NamedClients.{answer_silent}
 use Rattle.fs_world.proofs.NamedServers.{first_served_core}
 use Rattle.fs_world.proofs.Seen.{joined_still}
+use Rattle.fs_world.proofs.StayingServers.{first_count}
 
 -- ## Whoever has joined stays
 
@@ -49,10 +50,6 @@ posts_there w h k few = one_there w.posts k (subst (λ (n : ℕ). k < n) (sym h.
 
 -- ## The first world
 
-first_length : (n skew term : ℕ) → length (first_servers n skew term) ≡ n
-first_length zero skew term = refl
-first_length (suc n) skew term = length-append (first_servers n skew term) (first_server n skew term ∷ []) ∙ omega (arith, first_length n skew term)
-
 posts_length : (n : ℕ) → length (first_posts n) ≡ n
 posts_length zero = refl
 posts_length (suc n) = length-append (first_posts n) (no_links (Server n) link_width ∷ []) ∙ omega (arith, posts_length n)
@@ -68,7 +65,7 @@ first_core : (n k skew term : ℕ) (s : Core) → slice_get (first_servers n ske
 first_core zero k skew term s h = absurd (cc)
 first_core (suc n) k skew term s h = elim (one_more_there (first_servers n skew term) (first_server n skew term) k s h) [
   | inl e ↦ first_core n k skew term s e
-  | inr q ↦ sym q.1 ∙ ap (λ (j : ℕ). first_server j skew term) (sym (q.0 ∙ first_length n skew term))
+  | inr q ↦ sym q.1 ∙ ap (λ (j : ℕ). first_server j skew term) (sym (q.0 ∙ first_count n skew term))
 ]
 
 first_peer : (n skew term : ℕ) (a : Peer) (post : Links) → post_of (first_served n skew term) a ≡ Some post → post ≡ no_links a link_width
@@ -98,7 +95,7 @@ no_seat seat e = absurd (cc)
 
 pub first_linked : (n skew term : ℕ) → 1 ≤ n → n ≤ 15 → IsLinked (first_served n skew term)
 first_linked n skew term some few =
-    let len = first_length n skew term in
+    let len = first_count n skew term in
     record {
       posts = posts_length n ∙ sym len;
       some = omega (arith, len);
