@@ -1,10 +1,9 @@
 -- What happens at a server keeps what holds of the links, and what comes to it is the first message on its way.
-use Rattle.std.proofs.Common.{◌≡◌, ◌∙◌, ◌<◌, ◌≤◌, ◌==◌, ℕ, Bool, true, false, List, [], ◌∷◌, ◌++◌, length, map, Option, Some, None, refl, sym, ap, subst, cond, inl, inr, arith}
-use Rattle.std.specs.Prelude.{◌&&◌, is_some, nat_le, option_map, slice_get, slice_set}
+use Rattle.std.proofs.Common.{◌≡◌, ◌∙◌, ◌<◌, ◌==◌, ℕ, Bool, true, false, List, [], ◌∷◌, ◌++◌, length, map, Option, Some, None, refl, sym, ap, subst, cond, inl, inr, arith}
+use Rattle.std.specs.Prelude.{is_some, option_map, slice_get, slice_set}
 use Rattle.std.specs.FinMap.{get, insert}
 use Rattle.std.specs.List.{AllByRecursion, find, list_all}
 use Rattle.std.proofs.lemmas.Bool.{eqb-true}
-use Rattle.std.proofs.lemmas.Bool.Decides.{nat_tests}
 use Rattle.std.proofs.lemmas.List.{length-set}
 use Rattle.fs_ident.specs.In.{In}
 use Rattle.fs_ident.specs.declared.actor.Peer.{Peer}
@@ -56,7 +55,7 @@ use Rattle.fs_world.proofs.LinkedChange.{IsHeard, first_of, other_way, tied_alik
 use Rattle.fs_world.proofs.LinkedLists.{In-more, found_first, got_set, within}
 use Rattle.fs_world.proofs.LinkedSeats.{all_put, got_here, put_same, taken}
 use Rattle.fs_world.proofs.LinkedServed.{other_post, server_due, server_hears_server, server_hears_session, server_sends, serving}
-use Rattle.fs_world.proofs.NamedServers.{AreSent, IsBrought, IsStepped, step_goes}
+use Rattle.fs_world.proofs.NamedServers.{AreSent, IsBrought, IsStepped, in_range, step_goes}
 use Rattle.fs_world.proofs.LinkedFirst.{AllSeated, carried_then, posts_there, readable_in, served_then}
 use Rattle.fs_world.proofs.LinkedSession.{packet_of, went}
 use Rattle.fs_world.proofs.Seen.{joined_still}
@@ -64,12 +63,9 @@ use Rattle.fs_world.proofs.SeenSends.{downs_joined}
 
 -- ## What can be spelled can be read
 
-session_readable : (n greatest : ℕ) → 1 ≤ n → n ≤ greatest → (nat_le 1 n && nat_le n greatest) ≡ true
-session_readable n greatest some few = grind (arith, nat_tests)
-
 op_readable : (o : Op) → FitsOp o → is_readable_op o ≡ true
 op_readable (op.OpenFile file n modes) h = h.2
-op_readable (op.Reap file s) h = session_readable s.0 _ h.1.0 h.1.1
+op_readable (op.Reap file s) h = in_range s.0 1 _ h.1.0 h.1.1
 op_readable (op.Lookup dir name) h = refl
 op_readable (op.List dir) h = refl
 op_readable (op.Kind file) h = refl

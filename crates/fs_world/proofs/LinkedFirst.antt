@@ -1,9 +1,8 @@
 -- What holds of the links holds of the first world, and of one where a session joins or a packet was told.
 use Rattle.std.proofs.Common.{◌≡◌, ◌∙◌, ◌<◌, ◌≤◌, ℕ, zero, suc, true, List, [], ◌∷◌, length, Option, Some, None, refl, sym, ap, subst, inl, inr, arith, length-append}
-use Rattle.std.specs.Prelude.{◌&&◌, nat_le, slice_get}
+use Rattle.std.specs.Prelude.{slice_get}
 use Rattle.std.specs.FinMap.{empty, get, get-empty, insert}
 use Rattle.std.specs.Ordering.{nat_cmp}
-use Rattle.std.proofs.lemmas.Bool.Decides.{nat_tests}
 use Rattle.fs_ident.specs.declared.actor.Peer.{Peer}
 use Rattle.fs_ident.specs.declared.actor.Peer.TheVariants.{Server, Client}
 use Rattle.fs_ident.specs.declared.actor.Session.{Session}
@@ -26,7 +25,7 @@ use Rattle.fs_world.proofs.LinkedPair.{both_new}
 use Rattle.fs_world.proofs.LinkedSeats.{AtAll, all_put, seat_joins}
 use Rattle.fs_world.proofs.NamedClients.{first_fine}
 pub use Rattle.fs_world.proofs.NamedClients.{answer_silent}
-use Rattle.fs_world.proofs.NamedServers.{first_served_core}
+use Rattle.fs_world.proofs.NamedServers.{first_served_core, in_range}
 use Rattle.fs_world.proofs.Seen.{joined_still}
 use Rattle.fs_world.proofs.StayingServers.{first_count}
 
@@ -128,11 +127,8 @@ joins w s None e readable h =
     }
 joins w s (Some seat) e readable h = h
 
-session_readable : (n greatest : ℕ) → 1 ≤ n → n ≤ greatest → (nat_le 1 n && nat_le n greatest) ≡ true
-session_readable n greatest some few = grind (arith, nat_tests)
-
 pub join_linked : (w : Served) (s : Session) → 1 ≤ s.0 → s.0 ≤ SESSIONS → IsLinked w → IsLinked (join_at (get w.seats s.0) s w).world
-join_linked w s some few h = joins w s (get w.seats s.0) refl (session_readable s.0 SESSIONS some few) h
+join_linked w s some few h = joins w s (get w.seats s.0) refl (in_range s.0 1 SESSIONS some few) h
 
 -- ## A mark at a packet
 

@@ -101,11 +101,12 @@ handles_pass : (hs : List Handle) → AllByRecursion (λ (h : Handle). is_readab
 handles_pass [] h = refl
 handles_pass (x ∷ xs) h = joined _ _ h.0 (handles_pass xs h.1)
 
-between : (n least most : ℕ) → least ≤ n → n ≤ most → (nat_le least n && nat_le n most) ≡ true
-between n least most some few = grind (arith, nat_tests)
+-- a number in a range passes the test for it
+pub in_range : (n least most : ℕ) → least ≤ n → n ≤ most → (nat_le least n && nat_le n most) ≡ true
+in_range n least most some few = grind (arith, nat_tests)
 
 record_passes : (r : Record) → HasOpenHandles r → IsRecord r → is_readable_record r ≡ true
-record_passes r h own = joined _ _ (handles_pass r.node.handles h) (between r.next 1 (2 ^ 32) own.least own.most)
+record_passes r h own = joined _ _ (handles_pass r.node.handles h) (in_range r.next 1 (2 ^ 32) own.least own.most)
 
 pub parcel_readable : (servers : ℕ) (seats : Seats) (f : Flying) → ((s : Session) → HasJoined seats s → is_readable_session s ≡ true) → IsCarried servers seats f → is_readable_parcel f.parcel ≡ true
 parcel_readable servers seats f readable h =
