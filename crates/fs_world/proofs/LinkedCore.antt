@@ -1,5 +1,5 @@
 -- What happens at a server keeps what holds of the links, and what comes to it is the first message on its way.
-use Rattle.std.proofs.Common.{◌≡◌, ◌∙◌, ◌<◌, ◌==◌, ℕ, Bool, true, false, List, [], ◌∷◌, ◌++◌, length, map, Option, Some, None, refl, sym, ap, subst, cond, inl, inr, arith}
+use Rattle.std.proofs.Common.{◌≡◌, ◌∙◌, ◌<◌, ◌==◌, ℕ, Bool, true, false, List, [], ◌∷◌, ◌++◌, length, Option, Some, None, refl, sym, ap, subst, cond, inl, inr, arith}
 use Rattle.std.specs.Prelude.{is_some, option_map, slice_get, slice_set}
 use Rattle.std.specs.FinMap.{get, insert}
 use Rattle.std.specs.List.{AllByRecursion, find, list_all}
@@ -52,7 +52,7 @@ use Rattle.fs_world.specs.Served.{Seats, ServerStepped, at_server, core_step, fi
 use Rattle.fs_world.specs.declared.seat.Seat.{Seat}
 use Rattle.fs_world.specs.declared.served.Served.{Served}
 use Rattle.fs_world.proofs.LinkedChange.{IsHeard, first_of, other_way, tied_alike}
-use Rattle.fs_world.proofs.LinkedLists.{In-more, found_first, got_set, within}
+use Rattle.fs_world.proofs.LinkedLists.{In-more, found_joined, got_set, within}
 use Rattle.fs_world.proofs.LinkedSeats.{all_put, got_here, put_same, taken}
 use Rattle.fs_world.proofs.LinkedServed.{other_post, server_due, server_hears_server, server_hears_session, server_sends, serving}
 use Rattle.fs_world.proofs.NamedServers.{AreSent, IsBrought, IsStepped, in_range, step_goes}
@@ -247,9 +247,9 @@ module _ (w : Served) (k : ℕ) (few : k < length w.servers) (h : IsLinked w) wh
   session_comes x s seat now heard count post [] o is e of f g answered =
       due_goes (record x { post = post }) false heard (quiet_note count) None of (subst (λ (seats : Seats). IsGoing w k (record x { post = post; seats = seats })) (put_same x.seats s seat is) g)
   session_comes x s seat now heard count post (j ∷ js) None is e of f g answered =
-      absurd (subst (λ (ms : List (ℕ × ClientMsg)). IsFirstOf (j ∷ js) (map (λ (m : ℕ × ClientMsg). msg.Client m.1) ms)) (found_first (is_with k) seat.up None e).1 f)
+      absurd (found_joined (λ (m : ℕ × ClientMsg). msg.Client m.1) (is_with k) seat.up (j ∷ js) None e f)
   session_comes x s seat now heard count post (j ∷ js) (Some m) is e of f g answered =
-      let here = subst (λ (ms : List (ℕ × ClientMsg)). IsFirstOf (j ∷ js) (map (λ (m : ℕ × ClientMsg). msg.Client m.1) ms)) (found_first (is_with k) seat.up (Some m) e).1 f in
+      let here = found_joined (λ (m : ℕ × ClientMsg). msg.Client m.1) (is_with k) seat.up (j ∷ js) (Some m) e f in
       let left : Seat = record seat { up = without_first (is_with k) seat.up } in
       subst (λ (o : Option Seat). IsGoing w k (core_step k false heard now (FromClient s m.1) (record x { post = post; seats = without_up k o s.0 x.seats }))) (sym is)
       (core_goes (record x { post = post; seats = insert x.seats s.0 left }) false heard now (FromClient s m.1)
@@ -264,7 +264,7 @@ module _ (w : Served) (k : ℕ) (few : k < length w.servers) (h : IsLinked w) wh
       → IsGoing w k (server_hears now k (Server i) heard count joined (option_map (λ (f : Flying). FromPeer i (OfParcel f.parcel)) o) (record x { post = post }))
   server_comes x i now heard count post [] o e of f carried g answered = due_goes (record x { post = post }) false heard (quiet_note count) None of g
   server_comes x i now heard count post (j ∷ js) None e of f carried g answered =
-      absurd (subst (λ (ms : List Flying). IsFirstOf (j ∷ js) (map (λ (f : Flying). msg.Peer (OfParcel f.parcel)) ms)) (found_first (is_between i k) x.flying None e).1 f)
+      absurd (found_joined (λ (f : Flying). msg.Peer (OfParcel f.parcel)) (is_between i k) x.flying (j ∷ js) None e f)
   server_comes x i now heard count post (j ∷ js) (Some p) e of f carried g answered =
       let c = carried p refl in
       core_goes (record x { post = post; flying = without_first (is_between i k) x.flying }) false heard now (FromPeer i (OfParcel p.parcel)) of (c.handles, c.rows) answered.0 answered.1 g
@@ -396,9 +396,9 @@ first_event w k (Client s) j js f = seat_of (get w.seats s.0) f
     seat_of (Some seat) g = at (find (is_with k) seat.up) refl
       where
         at : (o : Option (ℕ × ClientMsg)) → find (is_with k) seat.up ≡ o → (e : ServerEvent) × (option_map event (find (is_with k) seat.up) ≡ Some e) × IsOf j e
-        at None e = absurd (subst (λ (ms : List (ℕ × ClientMsg)). IsFirstOf (j ∷ js) (map (λ (m : ℕ × ClientMsg). msg.Client m.1) ms)) (found_first (is_with k) seat.up None e).1 g)
+        at None e = absurd (found_joined (λ (m : ℕ × ClientMsg). msg.Client m.1) (is_with k) seat.up (j ∷ js) None e g)
         at (Some m) e =
-            let here = subst (λ (ms : List (ℕ × ClientMsg)). IsFirstOf (j ∷ js) (map (λ (m : ℕ × ClientMsg). msg.Client m.1) ms)) (found_first (is_with k) seat.up (Some m) e).1 g in
+            let here = found_joined (λ (m : ℕ × ClientMsg). msg.Client m.1) (is_with k) seat.up (j ∷ js) (Some m) e g in
             (FromClient s m.1, ap (λ (o : Option (ℕ × ClientMsg)). option_map event o) e, record { sent = msg.Client m.1; is = refl; joined = here.0; fits = here.1 })
 first_event w k (Server i) j js f = at (find (is_between i k) w.flying) refl
   where
@@ -406,9 +406,9 @@ first_event w k (Server i) j js f = at (find (is_between i k) w.flying) refl
     event x = FromPeer i (OfParcel x.parcel)
 
     at : (o : Option Flying) → find (is_between i k) w.flying ≡ o → (e : ServerEvent) × (option_map event (find (is_between i k) w.flying) ≡ Some e) × IsOf j e
-    at None e = absurd (subst (λ (ms : List Flying). IsFirstOf (j ∷ js) (map (λ (f : Flying). msg.Peer (OfParcel f.parcel)) ms)) (found_first (is_between i k) w.flying None e).1 f)
+    at None e = absurd (found_joined (λ (f : Flying). msg.Peer (OfParcel f.parcel)) (is_between i k) w.flying (j ∷ js) None e f)
     at (Some m) e =
-        let here = subst (λ (ms : List Flying). IsFirstOf (j ∷ js) (map (λ (f : Flying). msg.Peer (OfParcel f.parcel)) ms)) (found_first (is_between i k) w.flying (Some m) e).1 f in
+        let here = found_joined (λ (f : Flying). msg.Peer (OfParcel f.parcel)) (is_between i k) w.flying (j ∷ js) (Some m) e f in
         (FromPeer i (OfParcel m.parcel), ap (λ (o : Option Flying). option_map event o) e, record { sent = msg.Peer (OfParcel m.parcel); is = refl; joined = here.0; fits = here.1 })
 
 -- it can be told to the server's core

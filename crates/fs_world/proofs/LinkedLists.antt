@@ -1,12 +1,15 @@
 -- The first of some items, and what is set in a list or put at a session.
-use Rattle.std.proofs.Common.{◌≡◌, ℕ, zero, suc, ◌<◌, ◌==◌, Bool, true, false, List, [], ◌∷◌, ◌++◌, length, map, filter, Option, Some, None, refl, sym, ap, cond, ◌∙◌, inl, inr, arith}
+use Rattle.std.proofs.Common.{◌≡◌, ℕ, zero, suc, ◌<◌, ◌==◌, Bool, true, false, List, [], ◌∷◌, ◌++◌, length, map, filter, Option, Some, None, refl, sym, ap, subst, cond, ◌∙◌, inl, inr, arith}
 use Rattle.std.specs.Prelude.{◌⊎◌, slice_get, slice_set}
 use Rattle.std.specs.List.{find}
 use Rattle.std.proofs.lemmas.Bool.Decides.{nat_tests}
 use Rattle.std.proofs.lemmas.List.{map-append}
 use Rattle.std.proofs.lemmas.List.Elements.{filter-append}
 use Rattle.fs_ident.specs.In.{In}
+use Rattle.fs_frag.specs.declared.joined.Joined.{Joined}
+use Rattle.fs_msg.specs.declared.msg.Msg.{Msg}
 use Rattle.fs_serial.specs.Cluster.{without_first}
+use Rattle.fs_world.specs.Linked.{IsFirstOf}
 
 -- ## The first that passes a test
 
@@ -46,6 +49,10 @@ found_first {X} is (x ∷ xs) o e = either (is x) o (λ q. found_first is xs o q
     either true None more f = absurd (cc)
     either true (Some y) more f = let same : x ≡ y = cc in (filter is xs, ap (λ (z : X). z ∷ filter is xs) same)
     either false o more f = more f
+
+-- what is joined is of the one that is found
+pub found_joined : {X : Type 0} (g : X → Msg) (is : X → Bool) (xs : List X) (joined : List Joined) (o : Option X) (e : find is xs ≡ o) → IsFirstOf joined (map g (filter is xs)) → IsFirstOf joined (map g (first_before o (found_first is xs o e).0))
+found_joined {X} g is xs joined o e f = subst (λ (ys : List X). IsFirstOf joined (map g ys)) (found_first is xs o e).1 f
 
 -- one more of them
 pub one_more : {X Y : Type 0} (f : X → Y) (is : X → Bool) (xs : List X) (x : X) → is x ≡ true → map f (filter is (xs ++ x ∷ [])) ≡ map f (filter is xs) ++ f x ∷ []
