@@ -1,6 +1,6 @@
 -- The loops over events, outcomes, items and lines.
-use Rattle.std.proofs.Common.{◌≡◌, Bool, true, false, refl, ℕ, ◌+◌, ◌-◌, ◌<◌, ◌≤◌, List, ◌∷◌, ◌++◌, length, get_or, take, drop, ap, sym, ◌∙◌, append_assoc, arith, subst}
-use Rattle.std.proofs.lemmas.List.{drop_more, append-nil, drop_all, take-take, length-take}
+use Rattle.std.proofs.Common.{◌≡◌, Bool, true, false, refl, ℕ, ◌+◌, ◌-◌, ◌<◌, ◌≤◌, List, ◌∷◌, length, get_or, take, drop, ap, sym, ◌∙◌, arith, subst}
+use Rattle.std.proofs.lemmas.List.{drop_more, take-take, length-take}
 use Rattle.std.proofs.Math.Seq.{take-add}
 use Rattle.std.specs.Prelude.{Option, Some, None, nat_lt, if◌then◌else◌, Ok}
 use Rattle.std.specs.Result.{IsErrOf}
@@ -8,10 +8,7 @@ use Rattle.std.proofs.lemmas.Bool.Decides.{nat_tests}
 use Rattle.std.specs.Io.KnownBytes.{Appends}
 use Rattle.fs_io.specs.Bytes.{IsPrefixWritten}
 use Rattle.fs_io.proofs.Known.{appends_more}
-use Rattle.fs_msg.specs.declared.item.Item.{Item}
-use Rattle.fs_report.specs.Report.{outcome_text, outcomes_text, item_text, items_text}
 use Rattle.fs_schedule.specs.declared.event.Event.{Event}
-use Rattle.fs_schedule.specs.declared.outcome.Outcome.{Outcome}
 use Rattle.fs_msg.specs.declared.core_error.Counter.{Counter}
 use Rattle.fs_schedule.specs.declared.limits.TheConstants.{PACKETS}
 use Rattle.fs_world.specs.declared.form.Form.{Form}
@@ -51,28 +48,6 @@ goes_on w after line es i e lt is eq none less =
     ∙ ap (λ (o : Option Counter). stop_at o (stop_after line (packets_of (step w e).world) (stop_in (step w e).world (line + 1) (drop (i + 1) es)))) none
     ∙ ap (λ (v : Form). stop_after line (packets_of v) (stop_in v (line + 1) (drop (i + 1) es))) (sym eq)
     ∙ ap (λ (b : Bool). if b then Some (AtPackets line) else stop_in after (line + 1) (drop (i + 1) es)) (few (length (packets_of after)) less)
-
--- one more outcome is written
-pub outcomes_step : (out more total : List ℕ) (os : List Outcome) (i : ℕ) (o : Outcome) → i < length os → get_or os i o ≡ o → more ≡ out ++ outcome_text (i + 1) o → out ++ outcomes_text (i + 1) (drop i os) ≡ total → more ++ outcomes_text (i + 1 + 1) (drop (i + 1) os) ≡ total
-outcomes_step out more total os i o lt is e h =
-    ap (λ (xs : List ℕ). xs ++ outcomes_text (i + 1 + 1) (drop (i + 1) os)) e
-    ∙ append_assoc out (outcome_text (i + 1) o) (outcomes_text (i + 1 + 1) (drop (i + 1) os))
-    ∙ sym (ap (λ (es : List Outcome). out ++ outcomes_text (i + 1) es) (drop_more os i o lt ∙ ap (λ (x : Outcome). x ∷ drop (i + 1) os) is))
-    ∙ h
-
-pub outcomes_done : (out total : List ℕ) (os : List Outcome) (i : ℕ) → length os ≤ i → out ++ outcomes_text (i + 1) (drop i os) ≡ total → out ≡ total
-outcomes_done out total os i le h = sym (append-nil out) ∙ sym (ap (λ (es : List Outcome). out ++ outcomes_text (i + 1) es) (drop_all i os le)) ∙ h
-
--- one more item is written
-pub items_step : (out more total : List ℕ) (is : List Item) (i : ℕ) (x : Item) → i < length is → get_or is i x ≡ x → more ≡ out ++ item_text (i + 1) x → out ++ items_text (i + 1) (drop i is) ≡ total → more ++ items_text (i + 1 + 1) (drop (i + 1) is) ≡ total
-items_step out more total is i x lt same e h =
-    ap (λ (xs : List ℕ). xs ++ items_text (i + 1 + 1) (drop (i + 1) is)) e
-    ∙ append_assoc out (item_text (i + 1) x) (items_text (i + 1 + 1) (drop (i + 1) is))
-    ∙ sym (ap (λ (es : List Item). out ++ items_text (i + 1) es) (drop_more is i x lt ∙ ap (λ (y : Item). y ∷ drop (i + 1) is) same))
-    ∙ h
-
-pub items_done : (out total : List ℕ) (is : List Item) (i : ℕ) → length is ≤ i → out ++ items_text (i + 1) (drop i is) ≡ total → out ≡ total
-items_done out total is i le h = sym (append-nil out) ∙ sym (ap (λ (es : List Item). out ++ items_text (i + 1) es) (drop_all i is le)) ∙ h
 
 -- one more line is written
 pub lines_step : (a b c : Option (List ℕ)) (lines : List ℕ) (at end : ℕ) → at ≤ end → Appends a b (take at lines) → Appends b c (take (end - at) (drop at lines)) → Appends a c (take end lines)

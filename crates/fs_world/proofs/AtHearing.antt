@@ -1,6 +1,6 @@
 -- What an actor does with what it heard.
 use Rattle.std.proofs.Common.{◌≡◌, ◌≤◌, ℕ, length, arith, List, [], ◌∷◌, false, refl, ap, sym, ◌∙◌, subst}
-use Rattle.std.specs.Prelude.{Option, Some, None, Result, Ok, Err, IfOk, OnOk, option_map, ◌++◌, slice_index_or}
+use Rattle.std.specs.Prelude.{Option, Some, None, Result, Ok, Err, IfOk, OnOk, option_map, slice_index_or}
 use Rattle.std.specs.List.{find}
 use Rattle.std.specs.FinMap.{get}
 use Rattle.fs_ident.specs.declared.actor.Peer.{Peer}
@@ -16,24 +16,21 @@ use Rattle.fs_msg.specs.declared.answer.Answer.{Answer}
 use Rattle.fs_msg.specs.declared.item.Item.{Item}
 use Rattle.fs_msg.specs.declared.msg.Msg.{Msg}
 use Rattle.fs_msg.specs.declared.msg.Msg.TheVariants as msg
-use Rattle.fs_msg.specs.declared.peer_msg.PeerMsg.TheVariants.{Parcel as OfParcel}
-use Rattle.fs_serial.specs.Cluster.{flying_from, is_between, is_with, without_first}
-use Rattle.fs_serial.specs.declared.flying.Flying.{Flying}
-use Rattle.fs_server.specs.Step.{CanBeTold, spent_by, step}
+use Rattle.fs_serial.specs.Cluster.{is_with, without_first}
+use Rattle.fs_server.specs.Step.{spent_by, step}
 use Rattle.fs_server.specs.declared.event.ServerEvent.{ServerEvent}
-use Rattle.fs_server.specs.declared.event.ServerEvent.TheVariants.{FromPeer}
 use Rattle.fs_window.specs.declared.heard.Heard.{Heard}
 use Rattle.fs_world.specs.Hearing.{first_heard}
 use Rattle.fs_world.specs.Linked.{FitsDown, IsFirstOf, downs_of}
 use Rattle.fs_world.specs.Packets.{Packets}
-use Rattle.fs_world.specs.Planned.{IsAnswered, IsComing}
-use Rattle.fs_world.specs.Served.{Seats, ServerStepped, client_does, client_hears, client_noted, core_step, first_from, is_full_down, quiet_note, seat_goes, server_goes, server_hears, with_downs, without_message, without_up}
+use Rattle.fs_world.specs.Planned.{IsAnswered}
+use Rattle.fs_world.specs.Served.{Seats, ServerStepped, client_does, client_hears, client_noted, core_step, is_full_down, quiet_note, seat_goes, without_message, without_up}
 use Rattle.fs_world.specs.declared.seat.Seat.{Seat}
 use Rattle.fs_msg.specs.declared.core_error.CoreError.{CoreError}
 use Rattle.fs_schedule.specs.declared.outcome.Outcome.{Outcome}
 use Rattle.fs_world.proofs.AtSeat.{has_room}
 use Rattle.fs_world.proofs.Linked.{first_answer}
-use Rattle.fs_world.proofs.Popped.{popped_then, taken_then}
+use Rattle.fs_world.proofs.Popped.{popped_then}
 
 -- ## A session
 
@@ -74,36 +71,6 @@ answer_read r k seat j js reads first =
 
 -- ## A server
 
-pub server_hears_none : (now k : ℕ) (from : Peer) (to : Option Peer) (h : Heard) (joined : List Joined) (first : Option ServerEvent) (x : ServerStepped)
-    → IsComing joined first → None ≡ first_heard joined first → server_hears now k from to h joined first x ≡ server_goes k false to (quiet_note h) None x
-server_hears_none now k from to h [] first x comes e = refl
-server_hears_none now k from to h (j ∷ js) None x comes e = absurd comes
-server_hears_none now k from to h (j ∷ js) (Some y) x comes e = absurd (cc)
-
-pub none_answered : (now : ℕ) (joined : List Joined) (first : Option ServerEvent) (x : ServerStepped) → None ≡ first_heard joined first → IsAnswered now joined first x
-none_answered now [] first x e = tt
-none_answered now (j ∷ js) None x e = tt
-none_answered now (j ∷ js) (Some y) x e = absurd (cc)
-
-pub is_first : (joined : List Joined) (first : Option ServerEvent) (e : ServerEvent) → Some e ≡ first_heard joined first → first ≡ Some e
-is_first [] first e h = absurd (cc)
-is_first (j ∷ js) first e h = sym h
-
-pub can_be_told : (joined : List Joined) (first : Option ServerEvent) (e : ServerEvent) → IsComing joined first → Some e ≡ first_heard joined first → CanBeTold e
-can_be_told [] first e comes h = absurd (cc)
-can_be_told (j ∷ js) None e comes h = absurd comes
-can_be_told (j ∷ js) (Some y) e comes h =
-    let same : y ≡ e = cc in
-    subst CanBeTold same comes.4
-
-pub server_hears_first : (now k : ℕ) (from : Peer) (to : Option Peer) (h : Heard) (joined : List Joined) (first : Option ServerEvent) (x : ServerStepped) (e : ServerEvent)
-    → Some e ≡ first_heard joined first → server_hears now k from to h joined first x ≡ core_step k false to now e (without_message k from x)
-server_hears_first now k from to h [] first x e is = absurd (cc)
-server_hears_first now k from to h (j ∷ js) None x e is = absurd (cc)
-server_hears_first now k from to h (j ∷ js) (Some y) x e is =
-    let same : y ≡ e = cc in
-    ap (λ (z : ServerEvent). core_step k false to now z (without_message k from x)) same
-
 pub first_answered : (now : ℕ) (joined : List Joined) (first : Option ServerEvent) (x : ServerStepped) (e : ServerEvent) → Some e ≡ first_heard joined first
     → FitsDown (step x.server now e).out.send → is_full_down (step x.server now e).out.send x.post ≡ false → IsAnswered now joined first x
 first_answered now [] first x e is fits room = tt
@@ -117,30 +84,11 @@ first_answered now (j ∷ js) (Some y) x e is fits room =
 abbrev pub sent_by : ServerStepped → ℕ → ServerEvent → List (Peer × Msg)
 sent_by x now e = (step x.server now e).out.send
 
-pub taken_step : (k : ℕ) (from : Peer) (to : Option Peer) (now : ℕ) (e : ServerEvent) (x : ServerStepped)
-    → core_step k false to now e (without_message k from x) ≡ record (core_step k false to now e x) {
-      seats = with_downs k (sent_by x now e) (without_message k from x).seats;
-      flying = (without_message k from x).flying ++ flying_from k (sent_by x now e);
-    }
-taken_step k (Client s) to now e x = refl
-taken_step k (Server j) to now e x = refl
-
 pub taken_question : (k : ℕ) (s : Session) (to : Option Peer) (now : ℕ) (e : ServerEvent) (x : ServerStepped) (seats new : Seats)
     → seats ≡ (core_step k false to now e x).seats → new ≡ without_up k (get seats s.0) s.0 seats
     → new ≡ (core_step k false to now e (without_message k (Client s) x)).seats
 taken_question k s to now e x seats new is taken =
     taken ∙ ap (λ (m : Seats). without_up k (get m s.0) s.0 m) is ∙ popped_then k s.0 k (sent_by x now e) x.seats
-
-first_there : (k j : ℕ) (o : Option Flying) (e : ServerEvent) → option_map (λ (f : Flying). FromPeer j (OfParcel f.parcel)) o ≡ Some e → (f : Flying) × (o ≡ Some f)
-first_there k j None e h = absurd (cc)
-first_there k j (Some f) e h = (f, refl)
-
-pub taken_parcel : (k j : ℕ) (to : Option Peer) (now : ℕ) (e : ServerEvent) (x : ServerStepped) (flying new : List Flying)
-    → first_from k (Server j) x.seats x.flying ≡ Some e → flying ≡ (core_step k false to now e x).flying → new ≡ without_first (is_between j k) flying
-    → new ≡ (core_step k false to now e (without_message k (Server j) x)).flying
-taken_parcel k j to now e x flying new first is taken =
-    let p = first_there k j (find (is_between j k) x.flying) e first in
-    taken ∙ ap (without_first (is_between j k)) is ∙ taken_then (is_between j k) x.flying (flying_from k (sent_by x now e)) p.0 p.1
 
 pub answer_read_at : (r : Result (Option Answer) Memory) (k : ℕ) (seat : Seat) (joined : List Joined) (x : Joined) → 1 ≤ length joined → x ≡ slice_index_or joined 0 x
     → ((a : Answer) → x ≡ Whole (message (msg.Answer a)) → FitsMessage (msg.Answer a) → IfOk r (λ (read : Option Answer). read ≡ Some a))

@@ -1,7 +1,6 @@
 -- What happened at a server, in the world.
-use Rattle.std.proofs.Common.{◌≡◌, ℕ, ◌<◌, Bool, List, [], ◌∷◌, length, refl, ap, ap₂, sym, ◌∙◌, subst, inl, inr}
-use Rattle.std.specs.Prelude.{Option, Some, None, Result, Ok, Err, OnOk, OnErr, slice_get, slice_set, slice_index_or}
-use Rattle.std.proofs.lemmas.List.{set-get_or}
+use Rattle.std.proofs.Common.{◌≡◌, ℕ, ◌<◌, Bool, List, [], ◌∷◌, length, refl, ap₂, sym, subst, inl, inr}
+use Rattle.std.specs.Prelude.{Option, Some, None, Result, Ok, Err, OnOk, slice_get, slice_set, slice_index_or}
 use Rattle.std.proofs.lemmas.Option.{slice_get_read}
 use Rattle.fs_ident.specs.declared.actor.Peer.{Peer}
 use Rattle.fs_ident.specs.declared.actor.Peer.TheVariants.{Server}
@@ -22,7 +21,7 @@ use Rattle.fs_window.specs.declared.packet.Packet.{Packet}
 use Rattle.fs_world.specs.Linked.{FitsDown, IsLinked}
 use Rattle.fs_world.specs.Packets.{Packets}
 use Rattle.fs_world.specs.Planned.{IsAnswered, IsOwn, WasSent}
-use Rattle.fs_world.specs.Served.{Seats, ServerStepped, at_server, core_step, first_from, is_full_down, server_step, server_step_at, server_told, server_told_at, with_server}
+use Rattle.fs_world.specs.Served.{Seats, ServerStepped, at_server, core_step, first_from, is_full_down, server_step, server_step_at, server_told_at, with_server}
 use Rattle.fs_world.specs.declared.served.Served.{Served}
 use Rattle.fs_world.proofs.AtSeat.{has_room}
 use Rattle.fs_world.proofs.Linked.{own_event, server_linked, told_server_linked}
@@ -30,9 +29,6 @@ use Rattle.fs_world.proofs.Linked.{own_event, server_linked, told_server_linked}
 -- what is lent out of a list stands there
 pub item_there : {X : Type 0} (xs : List X) (k : ℕ) (x : X) → k < length xs → x ≡ slice_index_or xs k x → slice_get xs k ≡ Some x
 item_there xs k x below is = slice_get_read xs (length xs) k x refl below is
-
-pub item_kept : {X : Type 0} (xs : List X) (k : ℕ) (x : X) → x ≡ slice_index_or xs k x → slice_set xs k x ≡ xs
-item_kept xs k x is = ap (slice_set xs k) is ∙ set-get_or xs k x
 
 abbrev pub served_by : Served → ℕ → Core → Links → Seats → List Flying → List Item → Packets → Served
 served_by w k s post seats flying journal packets = record w {
@@ -51,24 +47,10 @@ pub world_by : (r : Result Outcome CoreError) (w : Served) (k : ℕ) (s : Core) 
 world_by (Ok o) w k s post seats flying journal packets x a b d e f g = λ i. served_by w k (a i) (b i) (d i) (e i) (f i) (g i)
 world_by (Err o) w k s post seats flying journal packets x a b d e f g = tt
 
--- where it is as before, so is the world
-pub world_kept : (r : Result Outcome CoreError) (w : Served) (k : ℕ) (s core : Core) (post links : Links) (seats : Seats) (flying : List Flying) (journal : List Item) (packets : Packets)
-    → core ≡ slice_index_or w.servers k core → links ≡ slice_index_or w.posts k links
-    → OnErr r (s ≡ core) → OnErr r (post ≡ links) → OnErr r (seats ≡ w.seats) → OnErr r (flying ≡ w.flying) → OnErr r (journal ≡ w.journal) → OnErr r (packets ≡ w.packets)
-    → OnErr r (served_by w k s post seats flying journal packets ≡ w)
-world_kept (Ok o) w k s core post links seats flying journal packets there tied a b d e f g = tt
-world_kept (Err o) w k s core post links seats flying journal packets there tied a b d e f g =
-    let first : served_by w k s post seats flying journal packets ≡ served_by w k core links w.seats w.flying w.journal w.packets = λ i. served_by w k (a i) (b i) (d i) (e i) (f i) (g i) in
-    first ∙ ap₂ (λ (servers : List Core) (posts : List Links). let v : Served = record w { servers = servers; posts = posts } in v) (item_kept w.servers k core there) (item_kept w.posts k links tied)
-
 -- the event of a server that there is
 pub step_there : (w : Served) (k : ℕ) (turn : Bool) (now : ℕ) (e : ServerEvent) (s : Core) (post : Links) → slice_get w.servers k ≡ Some s → slice_get w.posts k ≡ Some post
     → server_step k turn now e w ≡ with_server k (core_step k turn None now e (at_server s post w)) w
 step_there w k turn now e s post there tied = ap₂ (λ (a : Option Core) (b : Option Links). server_step_at a b k turn now e w) there tied
-
-pub told_there : (w : Served) (k now : ℕ) (from : Peer) (p : Packet) (s : Core) (post : Links) → slice_get w.servers k ≡ Some s → slice_get w.posts k ≡ Some post
-    → server_told_at (slice_get w.servers k) (slice_get w.posts k) now k from p w ≡ with_server k (server_told now k from p (at_server s post w)) w
-told_there w k now from p s post there tied = ap₂ (λ (a : Option Core) (b : Option Links). server_told_at a b now k from p w) there tied
 
 -- ## The links after it
 

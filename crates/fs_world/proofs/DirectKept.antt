@@ -45,9 +45,6 @@ holds_begun told w s none h = record {
   asking = h.asking;
 }
 
-told_as : Session → Op → ℕ → Answer → Told
-told_as s o n a = record { session = s; n = n; asked = o; reply = a.reply }
-
 holds_answered : (told : List Told) (w : Direct) (s : Session) (o : Op) (n : ℕ) (a : Answer) → get w.asked s.0 ≡ Some n → IsStep w.space s o a → Holds told w
     → Holds (told ++ record { session = s; n = n + 1; asked = o; reply = a.reply } ∷ []) (answer_step w s (n + 1) a).world
 holds_answered told w s o n a some steps h = record {

@@ -1,5 +1,5 @@
 -- What holds holds of the first world of the servers form.
-use Rattle.std.proofs.Common.{◌≡◌, ℕ, zero, suc, ◌≤◌, [], ◌∷◌, length, length-append, inl, inr, ◌⊎◌, refl, ap, sym, ◌∙◌, subst, arith}
+use Rattle.std.proofs.Common.{◌≡◌, ℕ, zero, suc, ◌≤◌, [], ◌∷◌, inl, inr, ◌⊎◌, ap, sym, subst}
 use Rattle.std.specs.FinMap.{empty, get-empty}
 use Rattle.std.specs.Ordering.{nat_cmp}
 use mathlib.Core.Path.{fun_ext}
@@ -9,23 +9,20 @@ use Rattle.fs_server.specs.Server.{first_server}
 use Rattle.fs_server.specs.declared.state.Server.{Server}
 use Rattle.fs_serial.specs.Cluster.{Lines, first_lines, first_servers}
 use Rattle.fs_serial.specs.Seen.{ClusterHolds}
+use Rattle.fs_serial.proofs.Facts.{In-append}
 use Rattle.fs_world.specs.Parts.{lines_in, lines_of}
 use Rattle.fs_world.specs.Served.{first_served}
-use Rattle.fs_world.proofs.Replies.{in_parts}
 use Rattle.fs_world.proofs.SerialLaws.{SerialLaws}
 use Rattle.fs_world.proofs.SessionSteps.{HoldsOf}
+use Rattle.fs_world.proofs.StayingServers.{first_count}
 
 first_seen : (term : ℕ) → first_lines term ≡ lines_of term empty
 first_seen term = fun_ext (λ x. ap (lines_in term x) (sym (get-empty nat_cmp x.0)))
 
-first_many : (servers skew term : ℕ) → length (first_servers servers skew term) ≡ servers
-first_many zero skew term = refl
-first_many (suc k) skew term = let before = first_many k skew term in length-append (first_servers k skew term) (first_server k skew term ∷ []) ∙ (omega (arith, before))
-
 -- a new server has no row
 no_rows : (servers skew term : ℕ) (s : Server) → In s (first_servers servers skew term) → s.rows ≡ []
 no_rows zero skew term s i = absurd i
-no_rows (suc k) skew term s i = either (in_parts s (first_servers k skew term) (first_server k skew term ∷ []) i) (no_rows k skew term s)
+no_rows (suc k) skew term s i = either (In-append s (first_servers k skew term) (first_server k skew term ∷ []) i) (no_rows k skew term s)
   where
     either : In s (first_servers k skew term) ⊎ In s (first_server k skew term ∷ []) → (In s (first_servers k skew term) → s.rows ≡ []) → s.rows ≡ []
     either (inl i) before = before i
@@ -36,7 +33,7 @@ pub first_holds : (laws : SerialLaws) (servers skew term : ℕ) → 1 ≤ server
 first_holds laws servers skew term some = record {
   replied = λ x. [];
   cluster = subst (λ (lines : Session → Lines). ClusterHolds skew 0 (record { servers = first_servers servers skew term; flying = []; journal = []; replied = λ x. []; lines = lines })) (first_seen term) (laws.first servers skew term 0 some);
-  many = first_many servers skew term;
+  many = first_count servers skew term;
   rows = λ s i row j. absurd (subst (In row) (no_rows servers skew term s i) j);
   parcels = λ f i. absurd i;
   answered = λ t i. absurd i;

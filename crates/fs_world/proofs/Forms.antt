@@ -1,21 +1,11 @@
 -- Which operations callers may ask for.
-use Rattle.std.proofs.Common.{◌≡◌, ℕ, ◌≤◌, true, refl}
-use Rattle.std.specs.Prelude.{Some, None, IfSome}
-use Rattle.fs_ident.specs.declared.actor.Peer.TheVariants.{Server, Client}
-use Rattle.fs_ident.specs.declared.actor.Session.{Session}
-use Rattle.fs_ident.specs.declared.limits.TheConstants.{SESSIONS}
+use Rattle.std.proofs.Common.{◌≡◌, ℕ, true, refl}
+use Rattle.std.specs.Prelude.{Some, None}
 use Rattle.fs_model.specs.declared.op.Op.{Op}
 use Rattle.fs_model.specs.declared.op.Op.TheVariants as op
-use Rattle.fs_schedule.specs.Spelling.{FitsEvent, FitsWhat, has_op, session_in}
-use Rattle.fs_schedule.specs.declared.event.Event.{Event}
-use Rattle.fs_schedule.specs.declared.event.Head.{Head}
+use Rattle.fs_schedule.specs.Spelling.{has_op}
 use Rattle.fs_schedule.specs.declared.event.Head.TheVariants as head
-use Rattle.fs_schedule.specs.declared.event.What.{What}
-use Rattle.fs_schedule.specs.declared.event.What.TheVariants.{Join, Do, Tell, Turn, Recall}
 use Rattle.fs_serial.specs.World.{is_called}
-use Rattle.fs_world.specs.World.{FitsServed, FitsWorld, first_world, step}
-use Rattle.fs_world.specs.declared.form.Form.{Form}
-use Rattle.fs_world.specs.declared.form.Form.TheVariants.{Direct, Served}
 
 module _ (servers skew term : ℕ) where
   pub called : (o : Op) → has_op (head.Servers servers skew term) o ≡ true → is_called o ≡ true

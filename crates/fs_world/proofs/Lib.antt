@@ -5,7 +5,6 @@ pub mod Marks
 pub mod SeatMaps
 pub mod Spending
 pub mod SentNumbers
-mod PushedFlying
 mod PoppedFirst
 mod AtSeat
 mod AtServer
@@ -32,7 +31,6 @@ pub mod DirectKept
 pub mod Bounded
 pub mod Forms
 pub mod Fine
-pub mod SeenLists
 pub mod SeenRows
 pub mod SerialLaws
 pub mod Seen

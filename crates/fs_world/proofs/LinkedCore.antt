@@ -1,10 +1,9 @@
 -- What happens at a server keeps what holds of the links, and what comes to it is the first message on its way.
-use Rattle.std.proofs.Common.{◌≡◌, ◌∙◌, ◌<◌, ◌≤◌, ◌==◌, ℕ, Bool, true, false, List, [], ◌∷◌, ◌++◌, length, map, Option, Some, None, refl, sym, ap, subst, cond, inl, inr, arith}
-use Rattle.std.specs.Prelude.{◌&&◌, is_some, nat_le, option_map, slice_get, slice_set}
+use Rattle.std.proofs.Common.{◌≡◌, ◌∙◌, ◌<◌, ◌==◌, ℕ, Bool, true, false, List, [], ◌∷◌, ◌++◌, length, Option, Some, None, refl, sym, ap, subst, cond, inl, inr, arith}
+use Rattle.std.specs.Prelude.{is_some, option_map, slice_get, slice_set}
 use Rattle.std.specs.FinMap.{get, insert}
 use Rattle.std.specs.List.{AllByRecursion, find, list_all}
 use Rattle.std.proofs.lemmas.Bool.{eqb-true}
-use Rattle.std.proofs.lemmas.Bool.Decides.{nat_tests}
 use Rattle.std.proofs.lemmas.List.{length-set}
 use Rattle.fs_ident.specs.In.{In}
 use Rattle.fs_ident.specs.declared.actor.Peer.{Peer}
@@ -46,27 +45,27 @@ use Rattle.fs_server.specs.Step.{CanBeTold, spent_by, step}
 use Rattle.fs_server.specs.declared.event.ServerEvent.{ServerEvent}
 use Rattle.fs_server.specs.declared.event.ServerEvent.TheVariants.{FromClient, FromPeer, Move, Recall, Turn}
 use Rattle.fs_server.specs.declared.state.Server.{Server as Core}
+use Rattle.fs_serial.proofs.SetAt.{In_without, set_same}
 use Rattle.fs_world.specs.Linked.{AreTied, FitsDown, HasJoined, IsCarried, IsFirstOf, IsLinked, IsNamedAnswer, IsSeated, IsServed, between, parcels_between, seat_post, ups_of}
 use Rattle.fs_world.specs.Planned.{IsAnswered, IsComing, IsOwn, WasSent, message_of}
 use Rattle.fs_world.specs.Served.{Seats, ServerStepped, at_server, core_step, first_from, first_spent, heard_in, is_full_down, quiet_note, server_goes, server_hears, server_step, server_step_at, server_told, up_first, with_down, with_down_at, with_downs, with_pushed, with_server, without_up}
 use Rattle.fs_world.specs.declared.seat.Seat.{Seat}
 use Rattle.fs_world.specs.declared.served.Served.{Served}
 use Rattle.fs_world.proofs.LinkedChange.{IsHeard, first_of, other_way, tied_alike}
-use Rattle.fs_world.proofs.LinkedLists.{In-more, In-without, found_first, got_set, set_same, within}
-use Rattle.fs_world.proofs.LinkedSeats.{all_put, got_here, joined_still, put_same, taken}
-use Rattle.fs_world.proofs.LinkedServed.{joined_all, other_post, server_due, server_hears_server, server_hears_session, server_sends, serving}
-use Rattle.fs_world.proofs.NamedServers.{AreSent, IsBrought, IsStepped, step_goes}
+use Rattle.fs_world.proofs.LinkedLists.{In-more, found_joined, got_set, within}
+use Rattle.fs_world.proofs.LinkedSeats.{all_put, got_here, put_same, taken}
+use Rattle.fs_world.proofs.LinkedServed.{other_post, server_due, server_hears_server, server_hears_session, server_sends, serving}
+use Rattle.fs_world.proofs.NamedServers.{AreSent, IsBrought, IsStepped, in_range, step_goes}
 use Rattle.fs_world.proofs.LinkedFirst.{AllSeated, carried_then, posts_there, readable_in, served_then}
 use Rattle.fs_world.proofs.LinkedSession.{packet_of, went}
+use Rattle.fs_world.proofs.Seen.{joined_still}
+use Rattle.fs_world.proofs.SeenSends.{downs_joined}
 
 -- ## What can be spelled can be read
 
-session_readable : (n greatest : ℕ) → 1 ≤ n → n ≤ greatest → (nat_le 1 n && nat_le n greatest) ≡ true
-session_readable n greatest some few = grind (arith, nat_tests)
-
 op_readable : (o : Op) → FitsOp o → is_readable_op o ≡ true
 op_readable (op.OpenFile file n modes) h = h.2
-op_readable (op.Reap file s) h = session_readable s.0 _ h.1.0 h.1.1
+op_readable (op.Reap file s) h = in_range s.0 1 _ h.1.0 h.1.1
 op_readable (op.Lookup dir name) h = refl
 op_readable (op.List dir) h = refl
 op_readable (op.Kind file) h = refl
@@ -211,7 +210,7 @@ module _ (w : Served) (k : ℕ) (few : k < length w.servers) (h : IsLinked w) wh
   core_goes x turn heard now e of brought fits room g =
       let y : CoreStepped = step x.server now e in
       let k_step : IsStepped server_count x.seats k y = step_goes server_count x.seats k few (readable_in server_count x.seats g.seats) x.server now e brought g.server in
-      let still = joined_all w k there server_count x.seats (posts_there w h) (readable_in server_count x.seats g.seats) y.out.send x.seats in
+      let still = downs_joined k y.out.send x.seats in
       due_goes (record x { server = y.server; post = with_pushed y.out.send x.post; seats = with_downs k y.out.send x.seats; flying = x.flying ++ flying_from k y.out.send; journal = x.journal ++ y.out.admitted })
       turn heard (note.Server y.out.note) (first_spent (spent_by x.server now e) (is_full_down y.out.send x.post))
       (other_still server_count x.seats (with_downs k y.out.send x.seats) k heard still of)
@@ -248,9 +247,9 @@ module _ (w : Served) (k : ℕ) (few : k < length w.servers) (h : IsLinked w) wh
   session_comes x s seat now heard count post [] o is e of f g answered =
       due_goes (record x { post = post }) false heard (quiet_note count) None of (subst (λ (seats : Seats). IsGoing w k (record x { post = post; seats = seats })) (put_same x.seats s seat is) g)
   session_comes x s seat now heard count post (j ∷ js) None is e of f g answered =
-      absurd (subst (λ (ms : List (ℕ × ClientMsg)). IsFirstOf (j ∷ js) (map (λ (m : ℕ × ClientMsg). msg.Client m.1) ms)) (found_first (is_with k) seat.up None e).1 f)
+      absurd (found_joined (λ (m : ℕ × ClientMsg). msg.Client m.1) (is_with k) seat.up (j ∷ js) None e f)
   session_comes x s seat now heard count post (j ∷ js) (Some m) is e of f g answered =
-      let here = subst (λ (ms : List (ℕ × ClientMsg)). IsFirstOf (j ∷ js) (map (λ (m : ℕ × ClientMsg). msg.Client m.1) ms)) (found_first (is_with k) seat.up (Some m) e).1 f in
+      let here = found_joined (λ (m : ℕ × ClientMsg). msg.Client m.1) (is_with k) seat.up (j ∷ js) (Some m) e f in
       let left : Seat = record seat { up = without_first (is_with k) seat.up } in
       subst (λ (o : Option Seat). IsGoing w k (core_step k false heard now (FromClient s m.1) (record x { post = post; seats = without_up k o s.0 x.seats }))) (sym is)
       (core_goes (record x { post = post; seats = insert x.seats s.0 left }) false heard now (FromClient s m.1)
@@ -265,7 +264,7 @@ module _ (w : Served) (k : ℕ) (few : k < length w.servers) (h : IsLinked w) wh
       → IsGoing w k (server_hears now k (Server i) heard count joined (option_map (λ (f : Flying). FromPeer i (OfParcel f.parcel)) o) (record x { post = post }))
   server_comes x i now heard count post [] o e of f carried g answered = due_goes (record x { post = post }) false heard (quiet_note count) None of g
   server_comes x i now heard count post (j ∷ js) None e of f carried g answered =
-      absurd (subst (λ (ms : List Flying). IsFirstOf (j ∷ js) (map (λ (f : Flying). msg.Peer (OfParcel f.parcel)) ms)) (found_first (is_between i k) x.flying None e).1 f)
+      absurd (found_joined (λ (f : Flying). msg.Peer (OfParcel f.parcel)) (is_between i k) x.flying (j ∷ js) None e f)
   server_comes x i now heard count post (j ∷ js) (Some p) e of f carried g answered =
       let c = carried p refl in
       core_goes (record x { post = post; flying = without_first (is_between i k) x.flying }) false heard now (FromPeer i (OfParcel p.parcel)) of (c.handles, c.rows) answered.0 answered.1 g
@@ -321,11 +320,11 @@ seat_there w s q e = at (get w.seats s.0) refl e
 
 up_seated : (servers : ℕ) (s : Session) (seat : Seat) (joined : List Joined) (is : ℕ × ClientMsg → Bool) → IsSeated servers s seat → IsSeated servers s (record seat { up = taken joined is seat.up })
 up_seated servers s seat [] is g = g
-up_seated servers s seat (j ∷ js) is g = record { number = g.number; session = g.session; log = g.log; hints = g.hints; up = λ m i. g.up m (In-without is m seat.up i); down = g.down }
+up_seated servers s seat (j ∷ js) is g = record { number = g.number; session = g.session; log = g.log; hints = g.hints; up = λ m i. g.up m (In_without is seat.up m i); down = g.down }
 
 In-taken : (joined : List Joined) (is : Flying → Bool) (f : Flying) (flying : List Flying) → In f (taken joined is flying) → In f flying
 In-taken [] is f flying i = i
-In-taken (j ∷ js) is f flying i = In-without is f flying i
+In-taken (j ∷ js) is f flying i = In_without is flying f i
 
 pub told_server_linked : (w : Served) (k : ℕ) (c : Core) (post : Links) (now : ℕ) (from : Peer) (p : Packet) → slice_get w.servers k ≡ Some c → slice_get w.posts k ≡ Some post → WasSent from (Server k) (Some p) w.packets.sent
     → IsAnswered now (post_accepted post from p).heard.joined (first_from k from w.seats w.flying) (record (at_server c post w) { post = (post_accepted post from p).links })
@@ -397,9 +396,9 @@ first_event w k (Client s) j js f = seat_of (get w.seats s.0) f
     seat_of (Some seat) g = at (find (is_with k) seat.up) refl
       where
         at : (o : Option (ℕ × ClientMsg)) → find (is_with k) seat.up ≡ o → (e : ServerEvent) × (option_map event (find (is_with k) seat.up) ≡ Some e) × IsOf j e
-        at None e = absurd (subst (λ (ms : List (ℕ × ClientMsg)). IsFirstOf (j ∷ js) (map (λ (m : ℕ × ClientMsg). msg.Client m.1) ms)) (found_first (is_with k) seat.up None e).1 g)
+        at None e = absurd (found_joined (λ (m : ℕ × ClientMsg). msg.Client m.1) (is_with k) seat.up (j ∷ js) None e g)
         at (Some m) e =
-            let here = subst (λ (ms : List (ℕ × ClientMsg)). IsFirstOf (j ∷ js) (map (λ (m : ℕ × ClientMsg). msg.Client m.1) ms)) (found_first (is_with k) seat.up (Some m) e).1 g in
+            let here = found_joined (λ (m : ℕ × ClientMsg). msg.Client m.1) (is_with k) seat.up (j ∷ js) (Some m) e g in
             (FromClient s m.1, ap (λ (o : Option (ℕ × ClientMsg)). option_map event o) e, record { sent = msg.Client m.1; is = refl; joined = here.0; fits = here.1 })
 first_event w k (Server i) j js f = at (find (is_between i k) w.flying) refl
   where
@@ -407,9 +406,9 @@ first_event w k (Server i) j js f = at (find (is_between i k) w.flying) refl
     event x = FromPeer i (OfParcel x.parcel)
 
     at : (o : Option Flying) → find (is_between i k) w.flying ≡ o → (e : ServerEvent) × (option_map event (find (is_between i k) w.flying) ≡ Some e) × IsOf j e
-    at None e = absurd (subst (λ (ms : List Flying). IsFirstOf (j ∷ js) (map (λ (f : Flying). msg.Peer (OfParcel f.parcel)) ms)) (found_first (is_between i k) w.flying None e).1 f)
+    at None e = absurd (found_joined (λ (f : Flying). msg.Peer (OfParcel f.parcel)) (is_between i k) w.flying (j ∷ js) None e f)
     at (Some m) e =
-        let here = subst (λ (ms : List Flying). IsFirstOf (j ∷ js) (map (λ (f : Flying). msg.Peer (OfParcel f.parcel)) ms)) (found_first (is_between i k) w.flying (Some m) e).1 f in
+        let here = found_joined (λ (f : Flying). msg.Peer (OfParcel f.parcel)) (is_between i k) w.flying (j ∷ js) (Some m) e f in
         (FromPeer i (OfParcel m.parcel), ap (λ (o : Option Flying). option_map event o) e, record { sent = msg.Peer (OfParcel m.parcel); is = refl; joined = here.0; fits = here.1 })
 
 -- it can be told to the server's core

@@ -1,9 +1,8 @@
 -- What holds of the links holds of the first world, and of one where a session joins or a packet was told.
 use Rattle.std.proofs.Common.{◌≡◌, ◌∙◌, ◌<◌, ◌≤◌, ℕ, zero, suc, true, List, [], ◌∷◌, length, Option, Some, None, refl, sym, ap, subst, inl, inr, arith, length-append}
-use Rattle.std.specs.Prelude.{◌&&◌, nat_le, slice_get}
+use Rattle.std.specs.Prelude.{slice_get}
 use Rattle.std.specs.FinMap.{empty, get, get-empty, insert}
 use Rattle.std.specs.Ordering.{nat_cmp}
-use Rattle.std.proofs.lemmas.Bool.Decides.{nat_tests}
 use Rattle.fs_ident.specs.declared.actor.Peer.{Peer}
 use Rattle.fs_ident.specs.declared.actor.Peer.TheVariants.{Server, Client}
 use Rattle.fs_ident.specs.declared.actor.Session.{Session}
@@ -24,10 +23,12 @@ use Rattle.fs_world.specs.declared.served.Served.{Served}
 use Rattle.fs_world.proofs.LinkedChange.{none_there, tied_alike}
 use Rattle.fs_world.proofs.LinkedLists.{one_more_there, one_there}
 use Rattle.fs_world.proofs.LinkedPair.{both_new}
-use Rattle.fs_world.proofs.LinkedSeats.{AtAll, all_put, joined_still, seat_joins}
-use Rattle.fs_world.proofs.NamedClients.{answer_silent, first_fine}
+use Rattle.fs_world.proofs.LinkedSeats.{AtAll, all_put, seat_joins}
+use Rattle.fs_world.proofs.NamedClients.{first_fine}
 pub use Rattle.fs_world.proofs.NamedClients.{answer_silent}
-use Rattle.fs_world.proofs.NamedServers.{first_served_core}
+use Rattle.fs_world.proofs.NamedServers.{first_served_core, in_range}
+use Rattle.fs_world.proofs.Seen.{joined_still}
+use Rattle.fs_world.proofs.StayingServers.{first_count}
 
 -- ## Whoever has joined stays
 
@@ -49,10 +50,6 @@ posts_there w h k few = one_there w.posts k (subst (λ (n : ℕ). k < n) (sym h.
 
 -- ## The first world
 
-first_length : (n skew term : ℕ) → length (first_servers n skew term) ≡ n
-first_length zero skew term = refl
-first_length (suc n) skew term = length-append (first_servers n skew term) (first_server n skew term ∷ []) ∙ omega (arith, first_length n skew term)
-
 posts_length : (n : ℕ) → length (first_posts n) ≡ n
 posts_length zero = refl
 posts_length (suc n) = length-append (first_posts n) (no_links (Server n) link_width ∷ []) ∙ omega (arith, posts_length n)
@@ -68,7 +65,7 @@ first_core : (n k skew term : ℕ) (s : Core) → slice_get (first_servers n ske
 first_core zero k skew term s h = absurd (cc)
 first_core (suc n) k skew term s h = elim (one_more_there (first_servers n skew term) (first_server n skew term) k s h) [
   | inl e ↦ first_core n k skew term s e
-  | inr q ↦ sym q.1 ∙ ap (λ (j : ℕ). first_server j skew term) (sym (q.0 ∙ first_length n skew term))
+  | inr q ↦ sym q.1 ∙ ap (λ (j : ℕ). first_server j skew term) (sym (q.0 ∙ first_count n skew term))
 ]
 
 first_peer : (n skew term : ℕ) (a : Peer) (post : Links) → post_of (first_served n skew term) a ≡ Some post → post ≡ no_links a link_width
@@ -98,7 +95,7 @@ no_seat seat e = absurd (cc)
 
 pub first_linked : (n skew term : ℕ) → 1 ≤ n → n ≤ SERVERS → IsLinked (first_served n skew term)
 first_linked n skew term some few =
-    let len = first_length n skew term in
+    let len = first_count n skew term in
     record {
       posts = posts_length n ∙ sym len;
       some = omega (arith, len);
@@ -131,11 +128,8 @@ joins w s None e readable h =
     }
 joins w s (Some seat) e readable h = h
 
-session_readable : (n greatest : ℕ) → 1 ≤ n → n ≤ greatest → (nat_le 1 n && nat_le n greatest) ≡ true
-session_readable n greatest some few = grind (arith, nat_tests)
-
 pub join_linked : (w : Served) (s : Session) → 1 ≤ s.0 → s.0 ≤ SESSIONS → IsLinked w → IsLinked (join_at (get w.seats s.0) s w).world
-join_linked w s some few h = joins w s (get w.seats s.0) refl (session_readable s.0 SESSIONS some few) h
+join_linked w s some few h = joins w s (get w.seats s.0) refl (in_range s.0 1 SESSIONS some few) h
 
 -- ## A mark at a packet
 

@@ -1,12 +1,15 @@
 -- The first of some items, and what is set in a list or put at a session.
-use Rattle.std.proofs.Common.{◌≡◌, ℕ, zero, suc, ◌<◌, ◌==◌, Bool, true, false, List, [], ◌∷◌, ◌++◌, length, map, filter, Option, Some, None, refl, sym, ap, cond, ◌∙◌, inl, inr, arith}
+use Rattle.std.proofs.Common.{◌≡◌, ℕ, zero, suc, ◌<◌, ◌==◌, Bool, true, false, List, [], ◌∷◌, ◌++◌, length, map, filter, Option, Some, None, refl, sym, ap, subst, cond, ◌∙◌, inl, inr, arith}
 use Rattle.std.specs.Prelude.{◌⊎◌, slice_get, slice_set}
 use Rattle.std.specs.List.{find}
 use Rattle.std.proofs.lemmas.Bool.Decides.{nat_tests}
 use Rattle.std.proofs.lemmas.List.{map-append}
 use Rattle.std.proofs.lemmas.List.Elements.{filter-append}
 use Rattle.fs_ident.specs.In.{In}
+use Rattle.fs_frag.specs.declared.joined.Joined.{Joined}
+use Rattle.fs_msg.specs.declared.msg.Msg.{Msg}
 use Rattle.fs_serial.specs.Cluster.{without_first}
+use Rattle.fs_world.specs.Linked.{IsFirstOf}
 
 -- ## The first that passes a test
 
@@ -32,16 +35,6 @@ others_there {X} is other (x ∷ xs) g = either (is x) refl (others_there is oth
     either true e rest = sym (ap (λ (t : Bool). cond t (x ∷ filter other xs) (filter other xs)) (g x e))
     either false e rest = ap (λ (ys : List X). cond (other x) (x ∷ ys) ys) rest
 
--- what is left was there
-pub In-without : {X : Type 0} (is : X → Bool) (y : X) (xs : List X) → In y (without_first is xs) → In y xs
-In-without is y [] i = i
-In-without {X} is y (x ∷ xs) i = either (is x) (λ j. In-without is y xs j) i
-  where
-    either : (b : Bool) → (In y (without_first is xs) → In y xs) → In y (cond b xs (x ∷ without_first is xs)) → In y (x ∷ xs)
-    either true rest j = inr j
-    either false rest (inl e) = inl e
-    either false rest (inr j) = inr (rest j)
-
 -- the first that is found is the first of those that pass
 abbrev pub first_before : {X : Type 0} → Option X → List X → List X
 first_before None rest = []
@@ -56,6 +49,10 @@ found_first {X} is (x ∷ xs) o e = either (is x) o (λ q. found_first is xs o q
     either true None more f = absurd (cc)
     either true (Some y) more f = let same : x ≡ y = cc in (filter is xs, ap (λ (z : X). z ∷ filter is xs) same)
     either false o more f = more f
+
+-- what is joined is of the one that is found
+pub found_joined : {X : Type 0} (g : X → Msg) (is : X → Bool) (xs : List X) (joined : List Joined) (o : Option X) (e : find is xs ≡ o) → IsFirstOf joined (map g (filter is xs)) → IsFirstOf joined (map g (first_before o (found_first is xs o e).0))
+found_joined {X} g is xs joined o e f = subst (λ (ys : List X). IsFirstOf joined (map g ys)) (found_first is xs o e).1 f
 
 -- one more of them
 pub one_more : {X Y : Type 0} (f : X → Y) (is : X → Bool) (xs : List X) (x : X) → is x ≡ true → map f (filter is (xs ++ x ∷ [])) ≡ map f (filter is xs) ++ f x ∷ []
@@ -92,11 +89,6 @@ got_set (y ∷ ys) zero zero x h = refl
 got_set (y ∷ ys) zero (suc j) x h = ap (λ (b : Bool). cond b (Some x) (slice_get ys j)) (sym (none_same j))
 got_set (y ∷ ys) (suc k) zero x h = ap (λ (b : Bool). cond b (Some x) (Some y)) (sym (same_none k))
 got_set (y ∷ ys) (suc k) (suc j) x h = got_set ys k j x (omega arith) ∙ ap (λ (b : Bool). cond b (Some x) (slice_get ys j)) (sym (both_more j k))
-
-pub set_same : {X : Type 0} (xs : List X) (k : ℕ) (x : X) → slice_get xs k ≡ Some x → slice_set xs k x ≡ xs
-set_same [] k x h = absurd (cc)
-set_same {X} (y ∷ ys) zero x h = let same : y ≡ x = cc in ap (λ (z : X). z ∷ ys) (sym same)
-set_same {X} (y ∷ ys) (suc k) x h = ap (λ (zs : List X). y ∷ zs) (set_same ys k x h)
 
 pub within : {X : Type 0} (xs : List X) (k : ℕ) (x : X) → slice_get xs k ≡ Some x → k < length xs
 within [] k x h = absurd (cc)

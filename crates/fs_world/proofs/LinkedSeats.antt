@@ -24,7 +24,7 @@ use Rattle.fs_msg.specs.declared.item.Item.{Item}
 use Rattle.fs_msg.specs.declared.msg.Msg.{Msg}
 use Rattle.fs_msg.specs.declared.msg.Msg.TheVariants as msg
 use Rattle.fs_serial.specs.Cluster.{is_with, without_first}
-use Rattle.fs_world.specs.Linked.{AreTied, FitsUp, HasJoined, between, downs_of, post_of, seat_post, ups_of}
+use Rattle.fs_world.specs.Linked.{AreTied, FitsUp, between, downs_of, post_of, seat_post, ups_of}
 use Rattle.fs_world.specs.Packets.{Packets, with_sent}
 use Rattle.fs_world.specs.Served.{Seats, first_seat, is_full_up, post_after, up_after}
 use Rattle.fs_world.specs.declared.seat.Seat.{Seat}
@@ -84,14 +84,6 @@ unseen f seats s old new e t =
     either : (b : Bool) → f (cond b (Some new) (get seats t)) ≡ f (cond b (Some old) (get seats t))
     either true = e
     either false = refl
-
--- whoever has joined stays
-pub joined_still : (seats : Seats) (s t : Session) (seat : Seat) → HasJoined seats t → HasJoined (insert seats s.0 seat) t
-joined_still seats s t seat h = either (same_peer (Client t) (Client s)) refl
-  where
-    either : (b : Bool) → same_peer (Client t) (Client s) ≡ b → HasJoined (insert seats s.0 seat) t
-    either true e = (seat, ap (λ (x : Session). get (insert seats s.0 seat) x.0) (session_is t s e) ∙ got_here seats s seat)
-    either false e = (h.0, got_there seats s t seat e ∙ h.1)
 
 -- what holds of this session's seat now, and held of all others', holds of each
 abbrev pub AtAll : (Session → Seat → Type 0) → Seats → Type 0

@@ -1,5 +1,5 @@
 -- What happens at a server: what others see of it, and what happens to the links.
-use Rattle.std.proofs.Common.{◌≡◌, ◌≢◌, ◌∙◌, ◌<◌, ◌==◌, ℕ, Bool, true, false, List, [], ◌∷◌, ◌++◌, length, map, Option, Some, None, refl, sym, ap, subst, cond, append-nil, append_assoc, arith}
+use Rattle.std.proofs.Common.{◌≡◌, ◌≢◌, ◌∙◌, ◌<◌, ◌==◌, ℕ, Bool, true, false, List, [], ◌∷◌, ◌++◌, length, map, Option, Some, refl, sym, ap, subst, cond, append-nil, append_assoc, arith}
 use Rattle.std.specs.Cmp.{nat_cmp_total}
 use Rattle.std.specs.FinMap.{get, get-insert, get_tied, insert}
 use Rattle.std.specs.Ordering.{eq_by_cmp, nat_cmp}
@@ -34,8 +34,9 @@ use Rattle.fs_world.specs.declared.served.Served.{Served}
 use Rattle.fs_world.proofs.LinkedChange.{Changes, IsHeard, peer_is, tied_accepted, tied_due, tied_pushed}
 use Rattle.fs_world.proofs.LinkedLists.{got_set, no_more, one_more}
 use Rattle.fs_world.proofs.LinkedPair.{rest_of}
-use Rattle.fs_world.proofs.LinkedSeats.{got_here, joined_still, number_apart, others_taken, rest_taken, taken, turned_apart, with_other}
+use Rattle.fs_world.proofs.LinkedSeats.{got_here, number_apart, others_taken, rest_taken, taken, turned_apart, with_other}
 use Rattle.fs_world.proofs.NamedServers.{AreSent, sent_readable}
+use Rattle.fs_world.proofs.SeenSends.{down_joined}
 
 -- the world while the server is so far
 abbrev pub serving : ℕ → ServerStepped → Served → Served
@@ -214,26 +215,12 @@ module _ (w : Served) (k : ℕ) (there : k < length w.posts) where
   sending xs x = record x { post = with_pushed xs x.post; seats = with_downs k xs x.seats; flying = x.flying ++ flying_from k xs }
 
   module _ (servers : ℕ) (seats : Seats) (posts : (j : ℕ) → j < servers → (q : Links) × (slice_get w.posts j ≡ Some q)) (readable : (s : Session) → HasJoined seats s → is_readable_session s ≡ true) where
-    joined_then : (x : Peer × Msg) (m : Seats) (t : Session) → HasJoined m t → HasJoined (with_down k x m) t
-    joined_then (Client s, msg.Answer a) m t h = now (get m s.0)
-      where
-        now : (o : Option Seat) → HasJoined (with_down_at o s.0 (k, a) m) t
-        now None = h
-        now (Some seat) = joined_still m s t (record seat { down = seat.down ++ (k, a) ∷ [] }) h
-    joined_then (Client s, msg.Client c) m t h = h
-    joined_then (Client s, msg.Peer c) m t h = h
-    joined_then (Server j, c) m t h = h
-
-    pub joined_all : (xs : List (Peer × Msg)) (m : Seats) (t : Session) → HasJoined m t → HasJoined (with_downs k xs m) t
-    joined_all [] m t h = h
-    joined_all (x ∷ xs) m t h = joined_all xs (with_down k x m) t (joined_then x m t h)
-
     pub server_sends : (xs : List (Peer × Msg)) (x : ServerStepped) → ((t : Session) → HasJoined seats t → HasJoined x.seats t) → AreSent servers seats k xs → FitsDown xs → is_full_down xs x.post ≡ false → AreTied (at x) → AreTied (at (sending xs x))
     server_sends [] x joined sent fits room h = subst (λ (fs : List Flying). AreTied (at (record x { flying = fs }))) (sym (append-nil x.flying)) h
     server_sends ((Client s, msg.Answer a) ∷ xs) x joined sent fits room h =
         let rooms = neither (is_full_for x.post (Client s) (message (msg.Answer a))) (is_full_down xs (post_pushed x.post (Client s) (message (msg.Answer a)))) room in
         let seat = joined s sent.0.0 in
-        server_sends xs (answering s a x) (λ t g. joined_then (Client s, msg.Answer a) x.seats t (joined t g)) sent.1 fits.1 rooms.1 (answered s a x seat.0 seat.1 sent.0.2 fits.0 rooms.0 h)
+        server_sends xs (answering s a x) (λ t g. down_joined k (Client s, msg.Answer a) x.seats t (joined t g)) sent.1 fits.1 rooms.1 (answered s a x seat.0 seat.1 sent.0.2 fits.0 rooms.0 h)
     server_sends ((Client s, msg.Client m) ∷ xs) x joined sent fits room h = absurd sent.0
     server_sends ((Client s, msg.Peer m) ∷ xs) x joined sent fits room h = absurd sent.0
     server_sends ((Server to, msg.Peer (OfParcel p)) ∷ xs) x joined sent fits room h =

@@ -1,5 +1,5 @@
 -- What happens at a session keeps what holds of the links, and what comes to it is the first answer on its way.
-use Rattle.std.proofs.Common.{◌≡◌, ◌∙◌, ◌<◌, ℕ, Bool, true, false, List, [], ◌∷◌, length, map, Option, Some, None, refl, sym, ap, subst, cond, arith}
+use Rattle.std.proofs.Common.{◌≡◌, ◌∙◌, ◌<◌, ℕ, Bool, true, false, List, [], ◌∷◌, length, Option, Some, None, refl, sym, ap, subst, cond, arith}
 use Rattle.std.specs.Prelude.{is_some}
 use Rattle.std.specs.FinMap.{get, insert}
 use Rattle.std.specs.List.{find}
@@ -37,6 +37,7 @@ use Rattle.fs_client.specs.Turns.{turn_plan}
 use Rattle.fs_client.specs.declared.plan.Plan.{Plan}
 use Rattle.fs_serial.specs.Cluster.{is_with, without_first}
 use Rattle.fs_serial.specs.World.{is_called}
+use Rattle.fs_serial.proofs.SetAt.{In_without}
 use Rattle.fs_world.specs.Linked.{AreTied, FitsUp, GoesBetween, IsFirstOf, IsLinked, IsNamedAnswer, IsSeated, IsSentOver, IsThere, downs_of, post_of, seat_post}
 use Rattle.fs_world.specs.Packets.{Packets, with_sent}
 use Rattle.fs_world.specs.Planned.{WasSent}
@@ -44,12 +45,13 @@ use Rattle.fs_world.specs.Served.{Seats, act_noted, client_acts, client_does, cl
 use Rattle.fs_world.specs.declared.seat.Seat.{Seat}
 use Rattle.fs_world.specs.declared.served.Served.{Served}
 use Rattle.fs_world.proofs.LinkedChange.{IsHeard, first_of}
-use Rattle.fs_world.proofs.LinkedLists.{In-more, In-without, found_first, within}
+use Rattle.fs_world.proofs.LinkedLists.{In-more, found_joined, within}
 use Rattle.fs_world.proofs.LinkedPair.{read_of}
-use Rattle.fs_world.proofs.LinkedSeats.{all_put, joined_still, put_same, seat_accepts, seat_due, seat_sends, seated, taken}
+use Rattle.fs_world.proofs.LinkedSeats.{all_put, put_same, seat_accepts, seat_due, seat_sends, seated, taken}
 use Rattle.fs_world.proofs.NamedClients.{IsFine, IsPlanned, SendsFine, act_fine, answer_fine, answer_silent, committed_fine, session_kept, turn_fine}
 pub use Rattle.fs_world.proofs.NamedClients.{answer_silent}
 use Rattle.fs_world.proofs.LinkedFirst.{carried_then, posts_there, served_then}
+use Rattle.fs_world.proofs.Seen.{joined_still}
 
 -- ## A session's links
 
@@ -197,9 +199,9 @@ first_answer k seat j js f = at (find (is_with k) seat.down) refl
     g m = msg.Answer m.1
 
     at : (o : Option (ℕ × Answer)) → find (is_with k) seat.down ≡ o → (a : Answer) × (find (is_with k) seat.down ≡ Some (k, a)) × (j ≡ Whole (message (msg.Answer a))) × FitsMessage (msg.Answer a)
-    at None e = absurd (subst (λ (ms : List (ℕ × Answer)). IsFirstOf (j ∷ js) (map g ms)) (found_first (is_with k) seat.down None e).1 f)
+    at None e = absurd (found_joined g (is_with k) seat.down (j ∷ js) None e f)
     at (Some m) e =
-        let here = subst (λ (ms : List (ℕ × Answer)). IsFirstOf (j ∷ js) (map g ms)) (found_first (is_with k) seat.down (Some m) e).1 f in
+        let here = found_joined g (is_with k) seat.down (j ∷ js) (Some m) e f in
         let same : m.0 ≡ k = eqb-true m.0 k (found (is_with k) seat.down m e).1 in
         (m.1, e ∙ ap (λ (n : ℕ). Some (n, m.1)) same, here.0, here.1)
 
@@ -212,14 +214,14 @@ of_server w k p few = either (is_some p.body)
 
 down_taken : (servers : ℕ) (joined : List Joined) (is : ℕ × Answer → Bool) (down : List (ℕ × Answer)) → ((m : ℕ × Answer) → In m down → (m.0 < servers) × IsNamedAnswer servers m.1) → (m : ℕ × Answer) → In m (taken joined is down) → (m.0 < servers) × IsNamedAnswer servers m.1
 down_taken servers [] is down h m i = h m i
-down_taken servers (j ∷ js) is down h m i = h m (In-without is m down i)
+down_taken servers (j ∷ js) is down h m i = h m (In_without is down m i)
 
 session_hears : (w : Served) (s : Session) (now k : ℕ) (heard : Option Peer) (count : Heard) (joined : List Joined) (o : Option (ℕ × Answer)) (seat : Seat) (journal : List Item) (packets : Packets)
     → find (is_with k) seat.down ≡ o → IsOfServer w heard → IsFirstOf joined (downs_of k (Some seat)) → ((m : ℕ × Answer) → o ≡ Some m → IsNamedAnswer (length w.servers) m.1)
     → IsSitting w s (record seat { down = taken joined (is_with k) seat.down }) journal packets → IsLinked w → IsLinked (with_seat s (client_hears now s k heard count joined o seat journal packets) w).world
 session_hears w s now k heard count [] o seat journal packets e of f named sitting h = session_goes w s false heard (quiet_note count) None seat journal packets of sitting h
 session_hears w s now k heard count (j ∷ js) None seat journal packets e of f named sitting h =
-    absurd (subst (λ (ms : List (ℕ × Answer)). IsFirstOf (j ∷ js) (map (λ (m : ℕ × Answer). msg.Answer m.1) ms)) (found_first (is_with k) seat.down None e).1 f)
+    absurd (found_joined (λ (m : ℕ × Answer). msg.Answer m.1) (is_with k) seat.down (j ∷ js) None e f)
 session_hears w s now k heard count (j ∷ js) (Some m) seat journal packets e of f named sitting h =
     let left : Seat = record seat { down = without_first (is_with k) seat.down } in
     let none : None ≡ (answer_plan seat.client now k m.1).out.send = sym (answer_silent seat.client now k m.1) in

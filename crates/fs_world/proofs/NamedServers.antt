@@ -1,22 +1,20 @@
 -- What a server has and sends: it knows of servers that there are, has rows of sessions that have joined, and its handles
 -- can be told; what it sends goes to such sessions and to other servers, and can be read.
-use Rattle.std.proofs.Common.{◌≡◌, ◌≢◌, ◌∙◌, ◌<◌, ◌≤◌, ◌^◌, ℕ, ◌+◌, Bool, true, false, List, [], ◌∷◌, ◌++◌, map, not, Option, Some, None, refl, sym, ap, subst, cond, inl, inr, arith}
-use Rattle.std.specs.Prelude.{◌&&◌, ◌==◌, is_some, nat_le, nat_lt}
+use Rattle.std.proofs.Common.{◌≡◌, ◌≢◌, ◌∙◌, ◌<◌, ◌≤◌, ◌^◌, ℕ, ◌+◌, Bool, true, false, List, [], ◌∷◌, ◌++◌, map, not, Option, Some, None, refl, sym, ap, subst, cond, arith}
+use Rattle.std.specs.Prelude.{◌&&◌, ◌==◌, nat_le}
 use Rattle.std.specs.FinMap.{get}
-use Rattle.std.specs.List.{AllByRecursion, filter, find, list_all}
+use Rattle.std.specs.List.{AllByRecursion, list_all}
 use Rattle.std.proofs.lemmas.Bool.Decides.{nat_tests}
 use Rattle.fs_ident.specs.Ident.{child}
-use Rattle.fs_ident.specs.In.{In}
 use Rattle.fs_ident.specs.declared.actor.LeaseNo.{LeaseNo}
 use Rattle.fs_ident.specs.declared.actor.Peer.{Peer}
 use Rattle.fs_ident.specs.declared.actor.Peer.TheVariants.{Client, Server}
 use Rattle.fs_ident.specs.declared.actor.Session.{Session}
 use Rattle.fs_ident.proofs.Booleans.{first, joined, second}
-use Rattle.fs_ident.proofs.Passing.{In-all, found}
-use Rattle.fs_ident.proofs.Standing.{In-filter, In-map, In-put}
+use Rattle.fs_ident.proofs.Passing.{In-all}
 use Rattle.fs_field.specs.After.{Handles}
-use Rattle.fs_field.specs.Field.{file_of, same_field}
-use Rattle.fs_field.specs.Table.{borne_numbers, has_no, is_live, no_before, renewed_row, with_row}
+use Rattle.fs_field.specs.Field.{file_of}
+use Rattle.fs_field.specs.Table.{borne_numbers, is_live}
 use Rattle.fs_field.specs.declared.asked.Asked.{Asked}
 use Rattle.fs_field.specs.declared.asked.Asked.TheVariants.{Granted, Wait, Locked}
 use Rattle.fs_field.specs.declared.effect.Effect.TheVariants.{RemoveHandle}
@@ -39,8 +37,6 @@ use Rattle.fs_record.specs.ValueOf.{handles_of, own_of, selves_in}
 use Rattle.fs_record.specs.declared.parcel.Parcel.{Parcel}
 use Rattle.fs_record.specs.declared.record.Record.{Record}
 use Rattle.fs_record.proofs.Returning.{given_each}
-use Rattle.fs_rows.specs.Granted.{with_rows}
-use Rattle.fs_rows.specs.Live.{unlocked_on, unlocked_rows_on}
 use Rattle.fs_rows.specs.Moving.{is_on_given}
 use Rattle.fs_msg.specs.Home.{home_of}
 use Rattle.fs_msg.specs.Readable.{is_readable, is_readable_answer, is_readable_entry, is_readable_grant, is_readable_parcel, is_readable_record}
@@ -55,13 +51,13 @@ use Rattle.fs_msg.specs.declared.msg.Msg.{Msg}
 use Rattle.fs_msg.specs.declared.msg.Msg.TheVariants as msg
 use Rattle.fs_msg.specs.declared.peer_msg.PeerMsg.TheVariants.{Parcel as OfParcel}
 use Rattle.fs_serial.specs.declared.flying.Flying.{Flying}
-use Rattle.fs_server.specs.Asks.{Asking, answer_to, ask_fresh, ask_from, ask_step, asked_in, fresh_for, fresh_in, fresh_of, grant_of, kind_for, recall_of, recalls_at, with_lease}
+use Rattle.fs_server.specs.Asks.{Asking, answer_to, ask_fresh, ask_from, ask_step, asked_in, fresh_for, fresh_in, fresh_of, grant_of, kind_for, with_lease}
 use Rattle.fs_server.specs.Moves.{fits_here, move_at, parcel_at}
 use Rattle.fs_server.specs.Pairs.{numbers_in, pairs_end, pairs_here, released_rows, renewed_rows}
-use Rattle.fs_server.specs.Reaps.{Reaping, lapsed_in, reap_from, reap_item, recalls_for, turn_over, with_blocker, with_reap}
+use Rattle.fs_server.specs.Reaps.{Reaping, lapsed_in, reap_from, reap_item, turn_over, with_blocker, with_reap}
 use Rattle.fs_server.specs.Server.{Stepped, begun, end_of, first_server, is_mine, moved, strange}
 use Rattle.fs_server.specs.Ships.{Shipping, first_gone, item_of, ship_from, ship_step, shipped, with_entry}
-use Rattle.fs_server.specs.Step.{event_step, message_step, recalls_of, step}
+use Rattle.fs_server.specs.Step.{event_step, message_step, step}
 use Rattle.fs_server.specs.declared.event.ServerEvent.{ServerEvent}
 use Rattle.fs_server.specs.declared.event.ServerEvent.TheVariants.{FromClient, FromPeer, Move, Recall, Turn}
 use Rattle.fs_server.specs.declared.state.Server.{Server as Core}
@@ -71,41 +67,7 @@ use Rattle.fs_world.specs.Readable.{HasOpenHandles, RecordsOpen}
 use Rattle.fs_world.specs.Served.{Seats}
 use Rattle.fs_world.proofs.NamedMaps.{moved_named, named_first, named_give, named_take}
 use Rattle.fs_world.proofs.OpenHandles.{AddsOpen, effects_open, first_open, open_after_all, open_after_gift, open_given, open_left, open_with, value_open}
-
--- ## Rows, of sessions of which something holds
-
-abbrev pub AreOf : (Session → Type 0) → List Row → Type 0
-AreOf these rows = (row : Row) → In row rows → these row.session
-
-filtered : (these : Session → Type 0) (test : Row → Bool) (rows : List Row) → AreOf these rows → AreOf these (filter test rows)
-filtered these test rows h row i = h row (In-filter test row rows i)
-
-put : (these : Session → Type 0) (new : Row) (rows : List Row) → these new.session → AreOf these rows → AreOf these (with_row new rows)
-put these new rows h all row i = elim (In-put (λ (r : Row). no_before new.no r.no) row new rows i) [
-  | inl e ↦ subst these (ap (λ (r : Row). r.session) (sym e)) h
-  | inr j ↦ all row j
-]
-
-put_all : (these : Session → Type 0) (more rows : List Row) → AreOf these more → AreOf these rows → AreOf these (with_rows more rows)
-put_all these [] rows h all = all
-put_all these (r ∷ rs) rows h all = put_all these rs (with_row r rows) (λ x i. h x (inr i)) (put these r rows (h r (inl refl)) all)
-
-session_kept : (n : LeaseNo) (until : ℕ) (r : Row) → (renewed_row n until r).session ≡ r.session
-session_kept n until r = either (has_no n r && nat_lt r.until until)
-  where
-    either : (b : Bool) → (cond b (record r { until = until }) r).session ≡ r.session
-    either true = refl
-    either false = refl
-
-renewed : (these : Session → Type 0) (until : ℕ) (ns : List LeaseNo) (rows : List Row) → AreOf these rows → AreOf these (renewed_rows until ns rows)
-renewed these until [] rows h = h
-renewed these until (n ∷ ns) rows h = renewed these until ns (map (renewed_row n until) rows) (λ row i.
-    let at = In-map (renewed_row n until) row rows i in
-    subst these (sym (ap (λ (r : Row). r.session) at.1.1 ∙ session_kept n until at.0)) (h at.0 at.1.0))
-
-released : (these : Session → Type 0) (ns : List LeaseNo) (rows : List Row) → AreOf these rows → AreOf these (released_rows ns rows)
-released these [] rows h = h
-released these (n ∷ ns) rows h = released these ns (filter (λ r. not (has_no n r)) rows) (filtered these (λ r. not (has_no n r)) rows h)
+use Rattle.fs_world.proofs.SeenRows.{AreOf, filtered, put, put_all, recall_sent, recalled_at, recalled_for, released, renewed}
 
 -- ## What is sent
 
@@ -137,11 +99,12 @@ handles_pass : (hs : List Handle) → AllByRecursion (λ (h : Handle). is_readab
 handles_pass [] h = refl
 handles_pass (x ∷ xs) h = joined _ _ h.0 (handles_pass xs h.1)
 
-between : (n least most : ℕ) → least ≤ n → n ≤ most → (nat_le least n && nat_le n most) ≡ true
-between n least most some few = grind (arith, nat_tests)
+-- a number in a range passes the test for it
+pub in_range : (n least most : ℕ) → least ≤ n → n ≤ most → (nat_le least n && nat_le n most) ≡ true
+in_range n least most some few = grind (arith, nat_tests)
 
 record_passes : (r : Record) → HasOpenHandles r → IsRecord r → is_readable_record r ≡ true
-record_passes r h own = joined _ _ (handles_pass r.node.handles h) (between r.next 1 (2 ^ 32) own.least own.most)
+record_passes r h own = joined _ _ (handles_pass r.node.handles h) (in_range r.next 1 (2 ^ 32) own.least own.most)
 
 pub parcel_readable : (servers : ℕ) (seats : Seats) (f : Flying) → ((s : Session) → HasJoined seats s → is_readable_session s ≡ true) → IsCarried servers seats f → is_readable_parcel f.parcel ≡ true
 parcel_readable servers seats f readable h =
@@ -252,24 +215,11 @@ module _ (servers : ℕ) (seats : Seats) (k : ℕ) (some : k < servers) (readabl
   all_asked_fine by dir end.All a of h = wanted_fine by dir a of h
   all_asked_fine by dir e a of h = h
 
-  -- what stands in the way is asked back from the session of its row
-  recalled : (blocker : LeaseNo) (o : Option Row) (rows : List Row) → find (has_no blocker) rows ≡ o → AreOf (HasJoined seats) rows → AreSent servers seats k (recall_of blocker o)
-  recalled blocker None rows e h = tt
-  recalled blocker (Some row) rows e h = ((h row (found (has_no blocker) rows row e).0, tt, refl), tt)
-
-  recalled_at : (e : End) (rows : List Row) → AreOf (HasJoined seats) rows → AreSent servers seats k (recalls_at e rows)
-  recalled_at end.All rows h = tt
-  recalled_at (end.Wait blocker) rows h = recalled blocker (find (has_no blocker) rows) rows refl h
-  recalled_at (end.Locked txn) rows h = tt
-  recalled_at (end.Moved prefix to) rows h = tt
-  recalled_at (end.NoIds full) rows h = tt
-  recalled_at (end.Ended n missed until now) rows h = tt
-
   ask_goes : (by : Session) (items : List (Field × LeaseKind)) (dir : Option (List ℕ)) (s : Core) → HasJoined seats by → Fine s → Goes (ask_step by items dir s)
   ask_goes by items dir s of h =
       let a = ask_from by items s [] in
       let all : IsAsking (asked_in by items dir s) = all_asked_fine by dir a.end a of (asked_fine by items s [] of h refl) in
-      record { server = all.server; sends = ((of, all.end, all.grants), recalled_at (asked_in by items dir s).end (asked_in by items dir s).server.rows all.server.rows) }
+      record { server = all.server; sends = ((of, all.end, all.grants), recalled_at (HasJoined seats) (IsSent servers seats k) (λ s n h. (h, tt, refl)) (asked_in by items dir s).end (asked_in by items dir s).server.rows all.server.rows) }
 
   -- ## Renewals and releases
 
@@ -330,31 +280,7 @@ module _ (servers : ℕ) (seats : Seats) (k : ℕ) (some : k < servers) (readabl
   }
   message_goes by (Ship entries) s of r h = ship_goes by entries s of r h
 
-  -- ## Leases are asked back
-
-  recalls_sent : (leases : List (LeaseNo × Session)) → ((x : LeaseNo × Session) → In x leases → HasJoined seats x.1) → AreSent servers seats k (recalls_of leases)
-  recalls_sent [] h = tt
-  recalls_sent (x ∷ xs) h = ((h x (inl refl), tt, refl), recalls_sent xs (λ y i. h y (inr i)))
-
-  unlocked : (field : Field) (rows : List Row) → AreOf (HasJoined seats) rows → (x : LeaseNo × Session) → In x (unlocked_on field rows) → HasJoined seats x.1
-  unlocked field rows h x i =
-      let at = In-map (λ (row : Row). (row.no, row.session)) x (unlocked_rows_on field rows) i in
-      subst (HasJoined seats) (ap (λ (y : LeaseNo × Session). y.1) (sym at.1.1)) (h at.0 (In-filter (λ (row : Row). same_field row.field field && not (is_some row.lock)) at.0 rows at.1.0))
-
-  recall_sent : (b : Bool) (field : Field) (rows : List Row) → AreOf (HasJoined seats) rows → AreSent servers seats k (recalls_of (cond b (unlocked_on field rows) []))
-  recall_sent true field rows h = recalls_sent (unlocked_on field rows) (unlocked field rows h)
-  recall_sent false field rows h = tt
-
   -- ## Reaps
-
-  sent_more : (xs ys : List (Peer × Msg)) → AreSent servers seats k xs → AreSent servers seats k ys → AreSent servers seats k (xs ++ ys)
-  sent_more [] ys h g = g
-  sent_more (x ∷ xs) ys h g = (h.0, sent_more xs ys h.1 g)
-
-  -- each lease in the way is asked back from the session of its row
-  recalled_for : (rows : List Row) (ns : List LeaseNo) → AreOf (HasJoined seats) rows → AreSent servers seats k (recalls_for rows ns)
-  recalled_for rows [] h = tt
-  recalled_for rows (n ∷ ns) h = sent_more (recall_of n (find (has_no n) rows)) (recalls_for rows ns) (recalled n (find (has_no n) rows) rows refl h) (recalled_for rows ns h)
 
   -- a reap adds no handle
   reap_open : (file : List ℕ) (by : Session) (hs : Handles) → AllByRecursion AddsOpen (map (λ h. RemoveHandle file by h.0) hs)
@@ -380,7 +306,7 @@ module _ (servers : ℕ) (seats : Seats) (k : ℕ) (some : k < servers) (readabl
   turn_goes (x ∷ xs) s h =
       let all : Reaping = reap_from (x ∷ xs) s [] [] in
       let fine : Fine all.server = reaped_fine (x ∷ xs) s [] [] h in
-      record { server = fine; sends = recalled_for all.server.rows all.blockers fine.rows }
+      record { server = fine; sends = recalled_for (HasJoined seats) (IsSent servers seats k) (λ s n h. (h, tt, refl)) all.server.rows all.blockers fine.rows }
 
   -- ## Moves
 
@@ -441,7 +367,7 @@ module _ (servers : ℕ) (seats : Seats) (k : ℕ) (some : k < servers) (readabl
   event_goes (FromClient by m) s b h = message_goes by m s b.0 b.1 h
   event_goes (FromPeer from (OfParcel p)) s b h = parcel_goes (fits_here p s) p s b.0 b.1 h
   event_goes Turn s b h = turn_goes (lapsed_in s) s h
-  event_goes (Recall field) s b h = record { server = h; sends = recall_sent (is_mine s (file_of field)) field s.rows h.rows }
+  event_goes (Recall field) s b h = record { server = h; sends = recall_sent (HasJoined seats) (IsSent servers seats k) (λ s n h. (h, tt, refl)) (is_mine s (file_of field)) field s.rows h.rows }
   event_goes (Move prefix to) s b h = moves_goes prefix to s (move_refusal s.records s.rows s.map s.me prefix to None) refl b.0 b.1 h
 
   pub step_goes : (s : Core) (now : ℕ) (e : ServerEvent) → IsBrought servers seats s e → Fine s → Goes (step s now e)

@@ -1,7 +1,6 @@
 -- A message that is taken off its way does not concern the messages that go their way.
 use Rattle.std.proofs.Common.{◌≡◌, ℕ, List, [], ◌∷◌, Bool, true, false, refl, ap, sym, ◌∙◌, cond}
 use Rattle.std.specs.Prelude.{Option, Some, None, option_map, ◌++◌}
-use Rattle.std.specs.List.{find}
 use Rattle.std.specs.Ordering.{nat_cmp, eq_by_cmp}
 use Rattle.std.specs.Cmp.{nat_cmp_total}
 use Rattle.std.specs.FinMap.{get, insert, get-insert, get_tied, same_map, nat_cmp-IsAntisymmetric}
@@ -94,14 +93,3 @@ module _ (n s : ℕ) where
       popped_at (get (with_downs k xs seats) s) n s (with_downs k xs seats)
       ∙ sym (downs_cross k xs seats)
       ∙ ap (with_downs k xs) (sym (popped_at (get seats s) n s seats))
-
--- ## One of a list
-
--- the first of these is taken off the front part, where there is one
-pub taken_then : {X : Type 0} (is : X → Bool) (xs ys : List X) (x : X) → find is xs ≡ Some x → without_first is (xs ++ ys) ≡ without_first is xs ++ ys
-taken_then {X = X} is [] ys x e = absurd (cc)
-taken_then {X = X} is (z ∷ xs) ys x e = go (is z) refl e (taken_then is xs ys x)
-  where
-    go : (b : Bool) → is z ≡ b → find is (z ∷ xs) ≡ Some x → (find is xs ≡ Some x → without_first is (xs ++ ys) ≡ without_first is xs ++ ys) → without_first is ((z ∷ xs) ++ ys) ≡ without_first is (z ∷ xs) ++ ys
-    go true t e h = rw t refl
-    go false t e h = rw t (ap (λ (zs : List X). z ∷ zs) (h (rw t at e)))

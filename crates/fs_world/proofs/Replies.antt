@@ -5,6 +5,7 @@ use Rattle.fs_ident.specs.In.{In}
 use Rattle.fs_msg.specs.declared.item.Item.{Item}
 use Rattle.fs_schedule.specs.declared.event.Event.{Event}
 use Rattle.fs_schedule.specs.declared.outcome.Outcome.{Outcome}
+use Rattle.fs_serial.proofs.Facts.{In-append, In-front}
 use Rattle.fs_world.specs.Order.{Told, told_at, told_of, IsAdmitted, AllAdmitted, HasNumberOf, Agrees}
 
 -- one more event, with its outcome
@@ -14,30 +15,16 @@ told_push [] (p ∷ ps) e o h = absurd (omega arith)
 told_push (d ∷ ds) [] e o h = absurd (omega arith)
 told_push (d ∷ ds) (p ∷ ps) e o h = ap (λ (ts : List Told). told_at d.what p.notes ++ ts) (told_push ds ps e o (omega arith)) ∙ sym (append_assoc (told_at d.what p.notes) (told_of ds ps) (told_at e.what o.notes))
 
-pub in_grown : {X : Type 0} (x : X) (xs ys : List X) → In x xs → In x (xs ++ ys)
-in_grown x [] ys h = absurd h
-in_grown x (z ∷ zs) ys (inl e) = inl e
-in_grown x (z ∷ zs) ys (inr h) = inr (in_grown x zs ys h)
-
 pub in_last : {X : Type 0} (xs : List X) (x : X) → In x (xs ++ x ∷ [])
 in_last [] x = inl refl
 in_last (z ∷ zs) x = inr (in_last zs x)
 
-pub in_parts : {X : Type 0} (x : X) (xs ys : List X) → In x (xs ++ ys) → In x xs ⊎ In x ys
-in_parts x [] ys h = inr h
-in_parts x (z ∷ zs) ys (inl e) = inl (inl e)
-in_parts x (z ∷ zs) ys (inr h) = further (in_parts x zs ys h)
-  where
-    further : In x zs ⊎ In x ys → In x (z ∷ zs) ⊎ In x ys
-    further (inl m) = inl (inr m)
-    further (inr m) = inr m
-
 grown : (j : List Item) (i : Item) (t : Told) → IsAdmitted j t → IsAdmitted (j ++ i ∷ []) t
-grown j i t h = (h.0, in_grown h.0 j (i ∷ []) h.1, h.2, h.3)
+grown j i t h = (h.0, In-front h.0 j (i ∷ []) h.1, h.2, h.3)
 
 -- one more item, and what was told of it
 pub admitted_push : (j : List Item) (told : List Told) (i : Item) (t : Told) → HasNumberOf i t → Agrees i t → AllAdmitted j told → AllAdmitted (j ++ i ∷ []) (told ++ t ∷ [])
-admitted_push j told i t number agrees h = λ x m. either x (in_parts x told (t ∷ []) m)
+admitted_push j told i t number agrees h = λ x m. either x (In-append x told (t ∷ []) m)
   where
     either : (x : Told) → In x told ⊎ In x (t ∷ []) → IsAdmitted (j ++ i ∷ []) x
     either x (inl m) = grown j i x (h x m)

@@ -30,6 +30,7 @@ use Rattle.fs_record.specs.Fresh.{fresh_number, is_directory}
 use Rattle.fs_record.specs.ValueOf.{selves_in}
 use Rattle.fs_record.specs.declared.parcel.Parcel.{Parcel}
 use Rattle.fs_msg.specs.Home.{home_of}
+use Rattle.fs_msg.specs.declared.answer.Answer.TheVariants as reply
 use Rattle.fs_msg.specs.declared.answer.Grant.{Grant}
 use Rattle.fs_msg.specs.declared.client_msg.ClientMsg.{ClientMsg}
 use Rattle.fs_msg.specs.declared.client_msg.ClientMsg.TheVariants.{Ask, Renew, Release, Ship}
@@ -45,7 +46,7 @@ use Rattle.fs_server.specs.Asks.{Asking, answer_to, ask_fresh, ask_from, ask_ste
 use Rattle.fs_server.specs.Moves.{fits_here, move_at, parcel_at}
 use Rattle.fs_server.specs.Pairs.{numbers_in, pairs_here, released_rows, renewed_rows}
 use Rattle.fs_server.specs.Reaps.{Reaping, lapsed_in, reap_from, reap_item, recalls_for, turn_over, with_blocker, with_reap}
-use Rattle.fs_server.specs.Server.{Stepped, begun, end_of, is_mine, moved, strange}
+use Rattle.fs_server.specs.Server.{Stepped, begun, end_of, is_mine, moved, strange, to_session}
 use Rattle.fs_server.specs.Ships.{Shipping, first_gone, item_of, ship_from, ship_step, shipped, with_entry}
 use Rattle.fs_server.specs.Step.{event_step, message_step, recalls_of, step}
 use Rattle.fs_server.specs.declared.event.ServerEvent.{ServerEvent}
@@ -66,6 +67,49 @@ IsSentTo these x = ⊥
 abbrev pub AreSentTo : (Session → Type 0) → List (Peer × Msg) → Type 0
 AreSentTo these messages = AllByRecursion (λ (x : Peer × Msg). IsSentTo these x) messages
 
+-- ## Leases are asked back from the sessions of their rows
+
+-- one that no transaction keeps is of one of these
+unlocked : (these : Session → Type 0) (field : Field) (rows : List Row) → AreOf these rows → (x : LeaseNo × Session) → In x (unlocked_on field rows) → these x.1
+unlocked these field rows h x i =
+    let at = In-map (λ (row : Row). (row.no, row.session)) x (unlocked_rows_on field rows) i in
+    subst these (ap (λ (y : LeaseNo × Session). y.1) (sym at.1.1)) (h at.0 (In-filter (λ (row : Row). same_field row.field field && not (is_some row.lock)) at.0 rows at.1.0))
+
+-- what holds where one of these is asked for a lease holds of all that is sent so
+module _ (these : Session → Type 0) (P : Peer × Msg → Type 0) (recall : (s : Session) (n : LeaseNo) → these s → P (to_session s (reply.Recall n))) where
+  abbrev ArePassed : List (Peer × Msg) → Type 0
+  ArePassed messages = AllByRecursion P messages
+
+  -- what stands in the way
+  recalled : (blocker : LeaseNo) (o : Option Row) (rows : List Row) → find (has_no blocker) rows ≡ o → AreOf these rows → ArePassed (recall_of blocker o)
+  recalled blocker None rows e h = tt
+  recalled blocker (Some row) rows e h = (recall row.session blocker (h row (found (has_no blocker) rows row e).0), tt)
+
+  pub recalled_at : (e : End) (rows : List Row) → AreOf these rows → ArePassed (recalls_at e rows)
+  recalled_at end.All rows h = tt
+  recalled_at (end.Wait blocker) rows h = recalled blocker (find (has_no blocker) rows) rows refl h
+  recalled_at (end.Locked txn) rows h = tt
+  recalled_at (end.Moved prefix to) rows h = tt
+  recalled_at (end.NoIds full) rows h = tt
+  recalled_at (end.Ended n missed until now) rows h = tt
+
+  passed_more : (xs ys : List (Peer × Msg)) → ArePassed xs → ArePassed ys → ArePassed (xs ++ ys)
+  passed_more [] ys h g = g
+  passed_more (x ∷ xs) ys h g = (h.0, passed_more xs ys h.1 g)
+
+  -- each of those in the way
+  pub recalled_for : (rows : List Row) (ns : List LeaseNo) → AreOf these rows → ArePassed (recalls_for rows ns)
+  recalled_for rows [] h = tt
+  recalled_for rows (n ∷ ns) h = passed_more (recall_of n (find (has_no n) rows)) (recalls_for rows ns) (recalled n (find (has_no n) rows) rows refl h) (recalled_for rows ns h)
+
+  recalls_sent : (leases : List (LeaseNo × Session)) → ((x : LeaseNo × Session) → In x leases → these x.1) → ArePassed (recalls_of leases)
+  recalls_sent [] h = tt
+  recalls_sent (x ∷ xs) h = (recall x.1 x.0 (h x (inl refl)), recalls_sent xs (λ y i. h y (inr i)))
+
+  pub recall_sent : (b : Bool) (field : Field) (rows : List Row) → AreOf these rows → ArePassed (recalls_of (cond b (unlocked_on field rows) []))
+  recall_sent true field rows h = recalls_sent (unlocked_on field rows) (unlocked these field rows h)
+  recall_sent false field rows h = tt
+
 module _ (these : Session → Type 0) where
   -- the session that the event is of, if it is of one, is one of these, and so are those of the rows that come
   abbrev pub IsAsked : ServerEvent → Type 0
@@ -80,16 +124,16 @@ module _ (these : Session → Type 0) where
 
   -- ## Rows
 
-  filtered : (test : Row → Bool) (rows : List Row) → AreOf these rows → AreOf these (filter test rows)
+  pub filtered : (test : Row → Bool) (rows : List Row) → AreOf these rows → AreOf these (filter test rows)
   filtered test rows h row i = h row (In-filter test row rows i)
 
-  put : (new : Row) (rows : List Row) → these new.session → AreOf these rows → AreOf these (with_row new rows)
+  pub put : (new : Row) (rows : List Row) → these new.session → AreOf these rows → AreOf these (with_row new rows)
   put new rows h all row i = elim (In-put (λ (r : Row). no_before new.no r.no) row new rows i) [
     | inl e ↦ subst these (ap (λ (r : Row). r.session) (sym e)) h
     | inr j ↦ all row j
   ]
 
-  put_all : (more rows : List Row) → AreOf these more → AreOf these rows → AreOf these (with_rows more rows)
+  pub put_all : (more rows : List Row) → AreOf these more → AreOf these rows → AreOf these (with_rows more rows)
   put_all [] rows h all = all
   put_all (r ∷ rs) rows h all = put_all rs (with_row r rows) (λ x i. h x (inr i)) (put r rows (h r (inl refl)) all)
 
@@ -103,13 +147,13 @@ module _ (these : Session → Type 0) where
       either true = refl
       either false = refl
 
-  renewed : (until : ℕ) (ns : List LeaseNo) (rows : List Row) → AreOf these rows → AreOf these (renewed_rows until ns rows)
+  pub renewed : (until : ℕ) (ns : List LeaseNo) (rows : List Row) → AreOf these rows → AreOf these (renewed_rows until ns rows)
   renewed until [] rows h = h
   renewed until (n ∷ ns) rows h = renewed until ns (map (renewed_row n until) rows) (λ row i.
       let at = In-map (renewed_row n until) row rows i in
       subst these (sym (ap (λ (r : Row). r.session) at.1.1 ∙ session_kept n until at.0)) (h at.0 at.1.0))
 
-  released : (ns : List LeaseNo) (rows : List Row) → AreOf these rows → AreOf these (released_rows ns rows)
+  pub released : (ns : List LeaseNo) (rows : List Row) → AreOf these rows → AreOf these (released_rows ns rows)
   released [] rows h = h
   released (n ∷ ns) rows h = released ns (filter (λ r. not (has_no n r)) rows) (filtered (λ r. not (has_no n r)) rows h)
 
@@ -166,23 +210,10 @@ module _ (these : Session → Type 0) where
   after_fresh by dir (end.NoIds full) a p h = h
   after_fresh by dir (end.Ended n missed until now) a p h = h
 
-  -- what stands in the way is asked back from the session of its row
-  recalled : (blocker : LeaseNo) (o : Option Row) (rows : List Row) → find (has_no blocker) rows ≡ o → AreOf these rows → AreSentTo these (recall_of blocker o)
-  recalled blocker None rows e h = tt
-  recalled blocker (Some row) rows e h = (h row (found (has_no blocker) rows row e).0, tt)
-
-  recalled_at : (e : End) (rows : List Row) → AreOf these rows → AreSentTo these (recalls_at e rows)
-  recalled_at end.All rows h = tt
-  recalled_at (end.Wait blocker) rows h = recalled blocker (find (has_no blocker) rows) rows refl h
-  recalled_at (end.Locked txn) rows h = tt
-  recalled_at (end.Moved prefix to) rows h = tt
-  recalled_at (end.NoIds full) rows h = tt
-  recalled_at (end.Ended n missed until now) rows h = tt
-
   ask_of : (by : Session) (items : List (Field × LeaseKind)) (dir : Option (List ℕ)) (s : Server) → these by → AreOf these s.rows → IsOf (ask_step by items dir s)
   ask_of by items dir s p h =
       let rows : AreOf these (asked_in by items dir s).server.rows = after_fresh by dir (ask_from by items s []).end (ask_from by items s []) p (after_items by items s [] p h) in
-      record { rows = rows; sends = (p, recalled_at (asked_in by items dir s).end (asked_in by items dir s).server.rows rows) }
+      record { rows = rows; sends = (p, recalled_at these (λ (x : Peer × Msg). IsSentTo these x) (λ s n h. h) (asked_in by items dir s).end (asked_in by items dir s).server.rows rows) }
 
   -- ## Other messages
 
@@ -225,31 +256,7 @@ module _ (these : Session → Type 0) where
   message_of by (Release pairs) s p h = record { rows = released (numbers_in (pairs_here s pairs)) s.rows h; sends = (p, tt) }
   message_of by (Ship entries) s p h = ship_of by entries s p h
 
-  -- ## Leases are asked back from the sessions of their rows
-
-  recalls_sent : (leases : List (LeaseNo × Session)) → ((x : LeaseNo × Session) → In x leases → these x.1) → AreSentTo these (recalls_of leases)
-  recalls_sent [] h = tt
-  recalls_sent (x ∷ xs) h = (h x (inl refl), recalls_sent xs (λ y i. h y (inr i)))
-
-  unlocked : (field : Field) (rows : List Row) → AreOf these rows → (x : LeaseNo × Session) → In x (unlocked_on field rows) → these x.1
-  unlocked field rows h x i =
-      let at = In-map (λ (row : Row). (row.no, row.session)) x (unlocked_rows_on field rows) i in
-      subst these (ap (λ (y : LeaseNo × Session). y.1) (sym at.1.1)) (h at.0 (In-filter (λ (row : Row). same_field row.field field && not (is_some row.lock)) at.0 rows at.1.0))
-
-  recall_sent : (b : Bool) (field : Field) (rows : List Row) → AreOf these rows → AreSentTo these (recalls_of (cond b (unlocked_on field rows) []))
-  recall_sent true field rows h = recalls_sent (unlocked_on field rows) (unlocked field rows h)
-  recall_sent false field rows h = tt
-
   -- ## Reaps
-
-  sent_more : (xs ys : List (Peer × Msg)) → AreSentTo these xs → AreSentTo these ys → AreSentTo these (xs ++ ys)
-  sent_more [] ys h g = g
-  sent_more (x ∷ xs) ys h g = (h.0, sent_more xs ys h.1 g)
-
-  -- each lease in the way is asked back from the session of its row
-  recalled_for : (rows : List Row) (ns : List LeaseNo) → AreOf these rows → AreSentTo these (recalls_for rows ns)
-  recalled_for rows [] h = tt
-  recalled_for rows (n ∷ ns) h = sent_more (recall_of n (find (has_no n) rows)) (recalls_for rows ns) (recalled n (find (has_no n) rows) rows refl h) (recalled_for rows ns h)
 
   -- a reap changes no row
   reap_rows : (xs : List (List ℕ × Session)) (s : Server) (admitted : List Item) (blockers : List LeaseNo) → (reap_from xs s admitted blockers).server.rows ≡ s.rows
@@ -269,7 +276,7 @@ module _ (these : Session → Type 0) where
   turn_of (x ∷ xs) s h =
       let all : Reaping = reap_from (x ∷ xs) s [] [] in
       let rows : AreOf these all.server.rows = subst (AreOf these) (sym (reap_rows (x ∷ xs) s [] [])) h in
-      record { rows = rows; sends = recalled_for all.server.rows all.blockers rows }
+      record { rows = rows; sends = recalled_for these (λ (x : Peer × Msg). IsSentTo these x) (λ s n h. h) all.server.rows all.blockers rows }
 
   -- ## Moves
 
@@ -292,7 +299,7 @@ module _ (these : Session → Type 0) where
   event_of (FromClient by m) s p h = message_of by m s p h
   event_of (FromPeer from (OfParcel p)) s come h = parcel_of (fits_here p s) p s come h
   event_of Turn s p h = turn_of (lapsed_in s) s h
-  event_of (Recall field) s p h = record { rows = h; sends = recall_sent (is_mine s (file_of field)) field s.rows h }
+  event_of (Recall field) s p h = record { rows = h; sends = recall_sent these (λ (x : Peer × Msg). IsSentTo these x) (λ s n h. h) (is_mine s (file_of field)) field s.rows h }
   event_of (Move prefix to) s p h = move_of (move_refusal s.records s.rows s.map s.me prefix to None) prefix to s h
 
   -- a step keeps the rows of these sessions, and sends to these alone

@@ -25,7 +25,7 @@ down_joined_at : (k : ℕ) (o : Option Seat) (s : Session) (a : Answer) (seats :
 down_joined_at k None s a seats x h = h
 down_joined_at k (Some seat) s a seats x h = joined_still seats s x (record seat { down = seat.down ++ (k, a) ∷ [] }) h
 
-down_joined : (k : ℕ) (m : Peer × Msg) (seats : Seats) (x : Session) → HasJoined seats x → HasJoined (with_down k m seats) x
+pub down_joined : (k : ℕ) (m : Peer × Msg) (seats : Seats) (x : Session) → HasJoined seats x → HasJoined (with_down k m seats) x
 down_joined k (Client s, msg.Answer a) seats x h = down_joined_at k (get seats s.0) s a seats x h
 down_joined k (Client s, msg.Client m) seats x h = h
 down_joined k (Client s, msg.Peer m) seats x h = h

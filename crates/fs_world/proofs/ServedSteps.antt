@@ -25,6 +25,7 @@ use Rattle.fs_server.specs.declared.event.ServerEvent.TheVariants.{FromClient, F
 use Rattle.fs_server.specs.declared.state.Server.{Server as Core}
 use Rattle.fs_serial.specs.Cluster.{IsThere, is_between, is_with, without_question}
 use Rattle.fs_serial.specs.declared.flying.Flying.{Flying}
+use Rattle.fs_serial.proofs.SetAt.{set_same}
 use Rattle.fs_world.specs.Order.{Told, told_at as told_in}
 use Rattle.fs_world.specs.Packets.{first_untold}
 use Rattle.fs_world.specs.Parts.{lines_of}
@@ -32,7 +33,6 @@ use Rattle.fs_world.specs.Served.{arrives, at_server, comes, first_from, heard_i
 use Rattle.fs_world.specs.World.{may_happen}
 use Rattle.fs_world.specs.declared.seat.Seat.{Seat}
 use Rattle.fs_world.specs.declared.served.Served.{Served}
-use Rattle.fs_world.proofs.SeenLists.{set_itself}
 use Rattle.fs_world.proofs.SeenRows.{IsAsked}
 use Rattle.fs_world.specs.Linked.{HasJoined}
 use Rattle.fs_world.proofs.SerialLaws.{SerialLaws}
@@ -59,7 +59,7 @@ module _ (laws : SerialLaws) (count skew greatest : ℕ) (told : List Told) (w :
   module _ (k : ℕ) (c : Core) (post : Links) (at : slice_get w.servers k ≡ Some c) where
     -- nothing but its links changes
     unchanged : Holds count skew (max greatest now) told (record (parts_of w) { servers = slice_set w.servers k c })
-    unchanged = subst (λ (servers : List Core). Holds count skew (max greatest now) told (record (parts_of w) { servers = servers })) (sym (set_itself w.servers k c at)) (later laws count skew greatest told w h now within some)
+    unchanged = subst (λ (servers : List Core). Holds count skew (max greatest now) told (record (parts_of w) { servers = servers })) (sym (set_same w.servers k c at)) (later laws count skew greatest told w h now within some)
 
     abbrev hearing : Peer → Option Peer → Heard → List Joined → Option ServerEvent → Links → Served
     hearing from heard x js first links = (with_server k (server_hears now k from heard x js first (record (at_server c post w) { post = links })) w).world

@@ -1,6 +1,7 @@
 -- What an event of a server makes of what holds of a world of the servers form.
-use Rattle.std.proofs.Common.{◌≡◌, ℕ, ◌≤◌, ◌==◌, max, List, [], ◌∷◌, ◌++◌, map, ap, sym, ◌∙◌, subst, inl, inr, arith}
+use Rattle.std.proofs.Common.{◌≡◌, ℕ, ◌≤◌, ◌==◌, max, List, ◌++◌, ap, sym, ◌∙◌, subst, inl, inr, arith}
 use Rattle.std.proofs.lemmas.Bool.{eqb-true}
+use Rattle.std.proofs.lemmas.List.{length-set}
 use Rattle.std.specs.Prelude.{Option, Some, slice_get, slice_set}
 use Rattle.std.specs.FinMap.{get, insert}
 use Rattle.std.specs.List.{find}
@@ -19,31 +20,26 @@ use Rattle.fs_server.specs.declared.state.Server.{Server}
 use Rattle.fs_serial.specs.Cluster.{Cluster, IsThere, Lines, after_server, after_server_at, flying_from, is_between, is_with, with_lines, with_sent, without_first, without_parcel, without_question}
 use Rattle.fs_serial.specs.Seen.{ClusterHolds, ends_of}
 use Rattle.fs_serial.specs.declared.flying.Flying.{Flying}
+use Rattle.fs_serial.proofs.Facts.{In-append, In-front, In-mapped}
+use Rattle.fs_serial.proofs.SetAt.{In_got, In_set, In_without}
 use Rattle.fs_world.specs.Linked.{HasJoined}
 use Rattle.fs_world.specs.Order.{Told}
 use Rattle.fs_world.specs.Parts.{lines_in, lines_of}
 use Rattle.fs_world.specs.Served.{Seats, with_downs}
 use Rattle.fs_world.specs.declared.seat.Seat.{Seat}
 use Rattle.fs_world.proofs.Fine.{EntriesAsk, EventAsks, MessageAsks, fine_more, step_fine}
-use Rattle.fs_world.proofs.Replies.{in_grown, in_parts}
 use Rattle.fs_world.proofs.Seen.{joined_still, lines_put}
-use Rattle.fs_world.proofs.SeenLists.{got_in, left_in, set_in, set_length}
 use Rattle.fs_world.proofs.SeenRows.{IsAsked, IsOf, step_of}
 use Rattle.fs_world.proofs.SeenSends.{downs_joined, parcels_of_these, sends_seen}
 use Rattle.fs_world.proofs.SerialLaws.{SerialLaws}
 use Rattle.fs_world.proofs.ServedHolds.{Holds, Parts, cluster_of}
-
-in_mapped : {X Y : Type 0} (f : X → Y) (x : X) (xs : List X) → In x xs → In (f x) (map f xs)
-in_mapped f x [] i = i
-in_mapped f x (y ∷ ys) (inl e) = inl (ap f e)
-in_mapped f x (y ∷ ys) (inr i) = inr (in_mapped f x ys i)
 
 module _ (laws : SerialLaws) (count skew greatest : ℕ) (told : List Told) (p : Parts) (h : Holds count skew greatest told p) (now : ℕ) (k : ℕ) (s : Server) (at : slice_get p.servers k ≡ Some s) where
   abbrev pub c : Cluster
   c = cluster_of h.replied p
 
   server_in : In s p.servers
-  server_in = got_in p.servers k s at
+  server_in = In_got p.servers k s at
 
   -- the server's readings were no greater
   pub clock : s.last ≤ greatest
@@ -61,7 +57,7 @@ module _ (laws : SerialLaws) (count skew greatest : ℕ) (told : List Told) (p :
   entries_ask by entries there e i =
       let parts = h.cluster.parts s server_in in
       let front = (parts.exchanges by).front entries there in
-      ((parts.all.fitting by).entries e (subst (λ es. In e es) (sym front.log) (in_grown e entries front.rest i))).access
+      ((parts.all.fitting by).entries e (subst (λ es. In e es) (sym front.log) (In-front e entries front.rest i))).access
 
   message_asks : (by : Session) (m : ClientMsg) → In m (ends_of (lines_of p.term p.seats by)).up → MessageAsks m
   message_asks by (Ship entries) there = entries_ask by entries there
@@ -70,7 +66,7 @@ module _ (laws : SerialLaws) (count skew greatest : ℕ) (told : List Told) (p :
   message_asks by (Release pairs) there = tt
 
   event_asks : (e : ServerEvent) → IsThere k e c → EventAsks e
-  event_asks (FromClient by m) there = message_asks by m (in_mapped (λ (x : ℕ × ClientMsg). x.1) (k, m) (lines_of p.term p.seats by).up (found (is_with k) (lines_of p.term p.seats by).up (k, m) there).0)
+  event_asks (FromClient by m) there = message_asks by m (In-mapped (λ (x : ℕ × ClientMsg). x.1) (k, m) (lines_of p.term p.seats by).up (found (is_with k) (lines_of p.term p.seats by).up (k, m) there).0)
   event_asks (FromPeer from m) there = tt
   event_asks Turn there = tt
   event_asks (Recall field) there = tt
@@ -102,7 +98,7 @@ module _ (laws : SerialLaws) (count skew greatest : ℕ) (told : List Told) (p :
     joined_then x i = downs_joined k (step s now e).out.send before x i
 
     left_there : (e : ServerEvent) (f : Flying) → In f (without_parcel k e p.flying) → In f p.flying
-    left_there (FromPeer from m) f i = left_in (is_between from k) f p.flying i
+    left_there (FromPeer from m) f i = In_without (is_between from k) p.flying f i
     left_there (FromClient by m) f i = i
     left_there Turn f i = i
     left_there (Recall field) f i = i
@@ -112,7 +108,7 @@ module _ (laws : SerialLaws) (count skew greatest : ℕ) (told : List Told) (p :
     server_holds = record {
       replied = h.replied;
       cluster = subst (λ (d : Cluster). ClusterHolds skew (max greatest now) d) core_seen (laws.event skew (max greatest now) now k e s c at in_time there later_holds);
-      many = set_length p.servers k (step s now e).server ∙ h.many;
+      many = length-set p.servers k (step s now e).server ∙ h.many;
       rows = rows;
       parcels = parcels;
       answered = h.answered;
@@ -120,13 +116,13 @@ module _ (laws : SerialLaws) (count skew greatest : ℕ) (told : List Told) (p :
     }
       where
         rows : (x : Server) → In x (after_core e before).servers → (row : _) → In row x.rows → HasJoined (after_core e before).seats row.session
-        rows x i row j = elim (set_in p.servers k (step s now e).server x i) as (λ _. HasJoined (after_core e before).seats row.session) [
+        rows x i row j = elim (In_set p.servers k (step s now e).server x i) as (λ _. HasJoined (after_core e before).seats row.session) [
           | inl same ↦ joined_then row.session (step_is.rows row (subst (λ (y : Server). In row y.rows) same j))
           | inr old ↦ joined_then row.session (stay row.session (h.rows x old row j))
         ]
 
         parcels : (f : Flying) → In f (after_core e before).flying → (row : _) → In row f.parcel.rows → HasJoined (after_core e before).seats row.session
-        parcels f i row j = elim (in_parts f (without_parcel k e p.flying) (flying_from k (step s now e).out.send) i) as (λ _. HasJoined (after_core e before).seats row.session) [
+        parcels f i row j = elim (In-append f (without_parcel k e p.flying) (flying_from k (step s now e).out.send) i) as (λ _. HasJoined (after_core e before).seats row.session) [
           | inl old ↦ joined_then row.session (stay row.session (h.parcels f (left_there e f old) row j))
           | inr new ↦ joined_then row.session (parcels_of_these (HasJoined before) k (step s now e).out.send step_is.sends f new row j)
         ]

@@ -23,10 +23,9 @@ use Rattle.fs_client.specs.Client.{begun}
 use Rattle.fs_client.specs.declared.plan.Plan.{Plan}
 use Rattle.fs_client.specs.declared.state.Client.{Client as ClientState}
 use Rattle.fs_serial.specs.World.{pushed, told_by, with_told}
+use Rattle.fs_serial.proofs.Facts.{In-append, In-behind, In-front}
 use Rattle.fs_world.specs.Order.{Agrees, HasNumberOf, IsAdmitted, SameButId, Told, replies_in}
-use Rattle.fs_world.proofs.Replies.{in_grown, in_parts}
 use Rattle.fs_world.proofs.Seen.{own_number}
-use Rattle.fs_world.proofs.SeenLists.{in_behind}
 
 -- each reply that was told is among those of its session
 abbrev pub AllReplied : (Session → List Item) → List Told → Type 0
@@ -47,7 +46,7 @@ AllNew s told new = (t : Told) → In t new → IsNew s told t
 
 in_pushed : (o : Option Item) (i : Item) (is : List Item) → In i is → In i (pushed o is)
 in_pushed None i is h = h
-in_pushed (Some j) i is h = in_grown i is (j ∷ []) h
+in_pushed (Some j) i is h = In-front i is (j ∷ []) h
 
 in_told : (s : Session) (o : Option Item) (replied : Session → List Item) (x : Session) (b : Bool) (i : Item) → In i (replied x) → In i (cond b (pushed o (replied x)) (replied x))
 in_told s o replied x true i h = in_pushed o i (replied x) h
@@ -57,14 +56,14 @@ replied_then : (s : Session) (o : Option Item) (replied : Session → List Item)
 replied_then s o replied t h = (h.0, in_told s o replied t.session (s.0 == t.session.0) h.0 h.1, h.2, h.3)
 
 new_there : (s : Session) (i : Item) (replied : Session → List Item) → In i (with_told s (Some i) replied s)
-new_there s i replied = subst (λ b. In i (cond b (replied s ++ i ∷ []) (replied s))) (sym (own_number s.0)) (in_behind i (replied s) (i ∷ []) (inl refl))
+new_there s i replied = subst (λ b. In i (cond b (replied s ++ i ∷ []) (replied s))) (sym (own_number s.0)) (In-behind i (replied s) (i ∷ []) (inl refl))
 
 replied_new : (s : Session) (o : Option Item) (replied : Session → List Item) (t : Told) → IsNew s o t → IsAdmitted (with_told s o replied t.session) t
 replied_new s o replied t h =
     (h.item, subst (λ (x : Session). In h.item (with_told s o replied x)) (sym h.session) (subst (λ (p : Option Item). In h.item (with_told s p replied s)) (sym h.is) (new_there s h.item replied)), h.number, h.agrees)
 
 pub told_more : (s : Session) (o : Option Item) (replied : Session → List Item) (told new : List Told) → AllReplied replied told → AllNew s o new → AllReplied (with_told s o replied) (told ++ new)
-told_more s o replied told new h g t i = elim (in_parts t told new i) as (λ _. IsAdmitted (with_told s o replied t.session) t) [
+told_more s o replied told new h g t i = elim (In-append t told new i) as (λ _. IsAdmitted (with_told s o replied t.session) t) [
   | inl old ↦ replied_then s o replied t (h t old)
   | inr one ↦ replied_new s o replied t (g t one)
 ]
