@@ -87,7 +87,7 @@ fn ask(
     Ok(asked)
 }
 
-#[tactic(auto, using(crate::proofs::Tables::there_is_found))]
+#[tactic(auto, using(fs_moderows::proofs::Tables::there_is_found))]
 fn is_new(rows: &ModeRows, no: LeaseNo) -> bool
     ensures { result ≡ not (list_any (has_no no) rows.now) }
 {

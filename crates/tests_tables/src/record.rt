@@ -92,7 +92,7 @@ const CREATED: &str =
     FileId { numbers: [] }, name: Name { bytes: [97] } }] }";
 
 /// The effects of the operation, if it and its reply tell them.
-#[tactic(auto, using(crate::proofs::Undoing::plain_effects))]
+#[tactic(auto, using(fs_record::proofs::Undoing::plain_effects))]
 fn told(alloc: Global, op: &Op, reply: Reply) -> Result<List<Effect>, Fail>
     ensures { IfOk result (λ told. list_all is_undoable told ≡ true) }
 {
