@@ -2,6 +2,7 @@
 //! honest actor sends.
 ghost use Rattle.std.specs.Prelude.{◌≡◌, ◌≤◌, ◌^◌, true};
 ghost use Rattle.fs_ident.specs.declared.limits.TheConstants.{LATEST};
+ghost use Rattle.fs_msg.specs.declared.peer_msg.PeerMsg.TheVariants as peer;
 ghost use Rattle.fs_server.specs.Step.{AreNumbersLeft, CanBeTold};
 
 mod moves;
@@ -11,7 +12,7 @@ use fs_ident::{FileId, Kind, LeaseNo, List, Name, Session, Twin};
 use fs_model::{Op, Reply};
 use fs_modes::{Mode, Modes};
 use fs_msg::{ClientMsg, Entry, PeerMsg};
-use fs_record::Record;
+use fs_record::{Parcel, Record};
 use fs_server::{ServerCore, ServerEvent, ServerOut};
 use std::alloc::Global;
 use std::test::Fail;
@@ -42,13 +43,20 @@ fn can_be_told(ev: &ServerEvent) -> bool
     ensures { result ≡ true → CanBeTold ev.now }
 {
     match ev {
-        ServerEvent::FromPeer(_, PeerMsg::Parcel { parcel }) => {
-            are_numbers_left(parcel.records.as_slice())
-        }
+        ServerEvent::FromPeer(_, m) => are_numbers_left(parcel(m).records.as_slice()),
         ServerEvent::FromClient(_, _)
         | ServerEvent::Turn
         | ServerEvent::Recall(_)
         | ServerEvent::Move { .. } => true,
+    }
+}
+
+/// The parcel that the message hands over.
+fn parcel(m: &PeerMsg) -> &Parcel
+    ensures { m.now ≡ peer.Parcel result.now }
+{
+    match m {
+        PeerMsg::Parcel { parcel } => parcel,
     }
 }
 
