@@ -19,8 +19,5 @@ mod spaces;
 
 pub use done::done_line;
 pub use items::item_line;
-pub use node_lines::put_file;
-pub use notes::put_note;
 pub use outcomes::outcome_line;
-pub use reply_text::put_reply;
 pub use spaces::space_lines;

@@ -10,7 +10,12 @@ use fs_model::{Handle, Node};
 use std::alloc::Global;
 
 /// A node's line and those of its handles.
-pub fn put_file(alloc: Global, id: &FileId, node: &Node, out: &mut Vec<u8>) -> Result<(), Memory>
+pub(crate) fn put_file(
+    alloc: Global,
+    id: &FileId,
+    node: &Node,
+    out: &mut Vec<u8>,
+) -> Result<(), Memory>
     ensures { OnOk result (out.new.items ≡ out.old.items ++ file_text id.now (Some node.now)) }
 {
     put_node(alloc, id, node, out)?;

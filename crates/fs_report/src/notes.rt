@@ -12,7 +12,7 @@ use fs_msg::Note;
 use std::alloc::Global;
 
 /// A note.
-pub fn put_note(alloc: Global, note: &Note, out: &mut Vec<u8>) -> Result<(), Memory>
+pub(crate) fn put_note(alloc: Global, note: &Note, out: &mut Vec<u8>) -> Result<(), Memory>
     ensures { OnOk result (out.new.items ≡ out.old.items ++ note_text note.now) }
 {
     match note {

@@ -17,7 +17,7 @@ pub(crate) fn next_reply(alloc: Global, reply: &Reply, out: &mut Vec<u8>) -> Res
 }
 
 /// A reply.
-pub fn put_reply(alloc: Global, reply: &Reply, out: &mut Vec<u8>) -> Result<(), Memory>
+pub(crate) fn put_reply(alloc: Global, reply: &Reply, out: &mut Vec<u8>) -> Result<(), Memory>
     ensures { OnOk result (out.new.items ≡ out.old.items ++ reply_text reply.now) }
 {
     match reply {

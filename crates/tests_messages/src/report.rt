@@ -4,7 +4,7 @@ use fs_ident::{FileId, IdError, Kind, List, Memory, Name, Peer, Session};
 use fs_model::{Handle, Node, Op, Reply, Space};
 use fs_modes::Modes;
 use fs_msg::{Item, Note};
-use fs_report::{done_line, item_line, outcome_line, put_file, put_reply, space_lines};
+use fs_report::{done_line, item_line, outcome_line, space_lines};
 use fs_schedule::Outcome;
 use std::alloc::Global;
 use std::process::Abort;
@@ -103,14 +103,29 @@ const REPLIES: [&[u8]; 27] = [
     b"reaped",
 ];
 
+/// The line of the text behind a head.
+pub(crate) fn line(alloc: Global, head: &[u8], text: &[u8]) -> Result<Vec<u8>, Fail> {
+    let mut line = Vec::from_slice(alloc, head)?;
+    line.extend_from_slice(text)?;
+    line.push(b'\n')?;
+    Ok(line)
+}
+
 #[test]
 fn writes_replies(rt: HostRuntime) -> Result<(), Fail> {
     let alloc = rt.alloc();
     let mut k = 0;
     for text in REPLIES {
         let mut out = Vec::new(alloc);
-        put_reply(alloc, &reply(alloc, k)?, &mut out)?;
-        assert_eq!(rt; out.as_slice(), text);
+        let item = Item {
+            by: Peer::Client(Session(1)),
+            n: 1,
+            op: op(alloc, 6)?,
+            reply: reply(alloc, k)?,
+        };
+        item_line(alloc, 1, &item, &mut out)?;
+        let wanted = line(alloc, b"j1 c1 1 kind /1 ", text)?;
+        assert_eq!(rt; out.as_slice(), wanted.as_slice());
         k = k.saturating_add(1);
     }
     Ok(())
@@ -276,25 +291,21 @@ fn node(alloc: Global, kind: Kind, dir: &[u8], as_name: &[u8]) -> Result<Node, F
     })
 }
 
+/// The lines of a space that has this node alone.
+fn lines_of(alloc: Global, node: Node) -> Result<Vec<u8>, Fail> {
+    let mut space = Space::empty(alloc);
+    space.put(alloc, &id(alloc, b"/1")?, node)?;
+    let mut out = Vec::new(alloc);
+    space_lines(alloc, &space, &mut out)?;
+    Ok(out)
+}
+
 #[test]
 fn writes_files(rt: HostRuntime) -> Result<(), Fail> {
     let alloc = rt.alloc();
-    let file = id(alloc, b"/1")?;
-    let mut out = Vec::new(alloc);
-    put_file(
-        alloc,
-        &file,
-        &node(alloc, Kind::Dir, b"/1/1", b"c")?,
-        &mut out,
-    )?;
+    let out = lines_of(alloc, node(alloc, Kind::Dir, b"/1/1", b"c")?)?;
     assert_eq!(rt; out.as_slice(), b"n /1 dir 10 5 in /1/1 \"c\"\n".as_slice());
-    out.clear();
-    put_file(
-        alloc,
-        &file,
-        &node(alloc, Kind::File, b"/", b"f")?,
-        &mut out,
-    )?;
+    let out = lines_of(alloc, node(alloc, Kind::File, b"/", b"f")?)?;
     assert_eq!(rt;
         out.as_slice(),
         b"n /1 file 10 5 in / \"f\"\nh /1 c1 1 R WD\nh /1 c2 1 R WD\n".as_slice()

@@ -1,10 +1,11 @@
-use crate::report::{id, name};
+use crate::report::{id, line, name};
 use fs_field::{Field, LeaseKind, Need};
-use fs_ident::{LeaseNo, List, PathNo, TxnNo};
+use fs_ident::{LeaseNo, List, PathNo, Peer, Session, TxnNo};
 use fs_model::Reply;
 use fs_modes::Mode;
 use fs_msg::{Act, Busy, ClientNote, End, Note, Refusal, ServerNote};
-use fs_report::put_note;
+use fs_report::outcome_line;
+use fs_schedule::Outcome;
 use std::alloc::Global;
 use std::test::Fail;
 
@@ -247,9 +248,17 @@ fn writes_notes(rt: HostRuntime) -> Result<(), Fail> {
     let alloc = rt.alloc();
     let mut k = 0;
     for text in NOTES {
+        let mut notes = List::new(alloc);
+        notes.push(note(alloc, k)?)?;
+        let outcome = Outcome {
+            who: Some(Peer::Client(Session(1))),
+            notes,
+            sent: List::new(alloc),
+        };
         let mut out = Vec::new(alloc);
-        put_note(alloc, &note(alloc, k)?, &mut out)?;
-        assert_eq!(rt; out.as_slice(), text);
+        outcome_line(alloc, 1, &outcome, &mut out)?;
+        let wanted = line(alloc, b"e1 c1 ", text)?;
+        assert_eq!(rt; out.as_slice(), wanted.as_slice());
         k = k.saturating_add(1);
     }
     Ok(())
