@@ -17,9 +17,9 @@ FitsWord (Bare bytes) = Lacks 32 bytes × (begins_quoted bytes ≡ false)
 FitsWord (Quoted name) = Lacks 34 name
 
 -- the bytes behind a separator, if it stands there
-abbrev pub joined : ℕ → Option (List ℕ) → List ℕ
-joined b None = []
-joined b (Some bytes) = b ∷ bytes
+abbrev pub rest_from : ℕ → Option (List ℕ) → List ℕ
+rest_from b None = []
+rest_from b (Some bytes) = b ∷ bytes
 
 -- the line is made of these words, of one at least
 abbrev pub AreWords : List Word → List ℕ → Type 0

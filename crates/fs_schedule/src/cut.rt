@@ -1,11 +1,11 @@
 //! Bytes cut at a separator.
 ghost use Rattle.std.specs.Prelude.{◌≡◌, ◌<◌, ◌++◌, ◌∷◌, length, option_map, IfSome};
-ghost use Rattle.fs_schedule.specs.Separated.{Lacks, joined};
+ghost use Rattle.fs_schedule.specs.Separated.{Lacks, rest_from};
 ghost use Rattle.fs_schedule.specs.Lines.{lines_of, lines_after};
 
 /// The bytes before the first `b`, and those behind it where it is there.
 pub fn cut(bytes: &[u8], b: u8) -> (&[u8], Option<&[u8]>)
-    ensures whole { bytes.now ≡ result.0.now ++ joined b (option_map (λ r. r.now) result.1) }
+    ensures whole { bytes.now ≡ result.0.now ++ rest_from b (option_map (λ r. r.now) result.1) }
     ensures front { Lacks b result.0.now }
 {
     for at in 0..bytes.len() {

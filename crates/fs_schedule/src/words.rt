@@ -2,7 +2,7 @@
 ghost use Rattle.std.specs.Prelude.{◌≡◌, ◌++◌, ◌∷◌, List as Seq, ℕ, Option, option_map, IfOk, IfSome, IfNone, IsErrOf};
 ghost use Rattle.fs_schedule.specs.declared.unread.Unread.TheVariants.{Outside};
 ghost use Rattle.fs_schedule.specs.Words.{Word as Spelled, word_text};
-ghost use Rattle.fs_schedule.specs.Separated.{FitsWord, AreWords, joined};
+ghost use Rattle.fs_schedule.specs.Separated.{FitsWord, AreWords, rest_from};
 ghost use Rattle.fs_schedule.specs.Reading.{word_of, words_in};
 
 use crate::cut::cut;
@@ -34,9 +34,9 @@ pub fn words_of<'a>(alloc: Global, line: &'a [u8]) -> Result<List<Word<'a>>, Unr
 fn next_word<'a>(bytes: &'a [u8]) -> Option<(Word<'a>, Option<&'a [u8]>)>
     ensures fits { IfSome result (λ p. FitsWord (word_of p.0)) }
     ensures found { IfSome result
-        (λ p. bytes.now ≡ word_text (word_of p.0) ++ joined 32 (option_map (λ r. r.now) p.1)) }
+        (λ p. bytes.now ≡ word_text (word_of p.0) ++ rest_from 32 (option_map (λ r. r.now) p.1)) }
     ensures none { IfNone result ((w : Spelled) (more : Option (Seq ℕ)) → FitsWord w →
-        bytes.now ≡ word_text w ++ joined 32 more → ⊥) }
+        bytes.now ≡ word_text w ++ rest_from 32 more → ⊥) }
 {
     match bytes {
         [b'"', quoted @ ..] => quoted_word(quoted),
@@ -51,9 +51,9 @@ fn next_word<'a>(bytes: &'a [u8]) -> Option<(Word<'a>, Option<&'a [u8]>)>
 fn quoted_word<'a>(bytes: &'a [u8]) -> Option<(Word<'a>, Option<&'a [u8]>)>
     ensures fits { IfSome result (λ p. FitsWord (word_of p.0)) }
     ensures found { IfSome result
-        (λ p. 34 ∷ bytes.now ≡ word_text (word_of p.0) ++ joined 32 (option_map (λ r. r.now) p.1)) }
+        (λ p. 34 ∷ bytes.now ≡ word_text (word_of p.0) ++ rest_from 32 (option_map (λ r. r.now) p.1)) }
     ensures none { IfNone result ((w : Spelled) (more : Option (Seq ℕ)) → FitsWord w →
-        34 ∷ bytes.now ≡ word_text w ++ joined 32 more → ⊥) }
+        34 ∷ bytes.now ≡ word_text w ++ rest_from 32 more → ⊥) }
 {
     let (name, rest) = cut(bytes, b'"');
     let Some(rest) = rest else {
@@ -67,8 +67,8 @@ fn quoted_word<'a>(bytes: &'a [u8]) -> Option<(Word<'a>, Option<&'a [u8]>)>
 
 /// What stands behind a word that ends here: nothing, or a space and more.
 fn behind_space(bytes: &[u8]) -> Option<Option<&[u8]>>
-    ensures found { IfSome result (λ o. bytes.now ≡ joined 32 (option_map (λ r. r.now) o)) }
-    ensures none { IfNone result ((o : Option (Seq ℕ)) → bytes.now ≡ joined 32 o → ⊥) }
+    ensures found { IfSome result (λ o. bytes.now ≡ rest_from 32 (option_map (λ r. r.now) o)) }
+    ensures none { IfNone result ((o : Option (Seq ℕ)) → bytes.now ≡ rest_from 32 o → ⊥) }
 {
     match bytes {
         [] => Some(None),
