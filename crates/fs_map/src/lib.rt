@@ -12,6 +12,7 @@ mod law;
 mod listed;
 mod part;
 mod piece;
+mod taking;
 
 pub use file_map::FileMap;
 pub use law::{
@@ -19,3 +20,4 @@ pub use law::{
     maps_are_told_by_their_servers, places_show_what_is_owned,
 };
 pub use piece::MapPiece;
+pub use taking::Taking;
