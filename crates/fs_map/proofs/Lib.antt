@@ -8,4 +8,4 @@ pub mod Owned
 pub mod Testing
 pub mod Spliced
 pub mod Spans
-pub mod Filled
+pub mod Replaced

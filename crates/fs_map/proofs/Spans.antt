@@ -16,7 +16,7 @@ use Rattle.fs_ident.proofs.MapsOf.{anti}
 use Rattle.fs_map.specs.Map.{begins, gives, IsMap, IsPiece, Owners, server_of, after_take, told_of}
 use Rattle.fs_map.specs.Change.{at, before_all, front}
 use Rattle.fs_map.specs.Lists.{map_after_take, owns_given, places_of, turns}
-use Rattle.fs_map.specs.Part.{IsSpan, IsPartOf, filled, part_after, is_as_above, new_part}
+use Rattle.fs_map.specs.Part.{IsSpan, IsPartOf, with_part_replaced, part_after, is_as_above, new_part}
 use Rattle.fs_map.proofs.Found.{Before, tied, tied_is, apart, one_way, found_after}
 use Rattle.fs_map.proofs.Prefixes.{begins_itself}
 use Rattle.fs_map.proofs.Listing.{Lists, told, listing, one_list}
@@ -212,12 +212,12 @@ span_is owners prefix start count within_all within_rest earlier inside later = 
 
 -- the new part, behind the list, in the place of the old one
 pub readied : (owners : Owners) (me : ℕ) (prefix : List ℕ) (given : Keyed Bool) → IsMap owners → IsPiece prefix given → (listed : Owners) → listed ≡ owners → (numbers : List ℕ) → numbers ≡ prefix → (start end : ℕ) → IsSpan listed numbers start end
-    → (new old part : Owners) → new ≡ old ++ part → old ≡ owners → part ≡ new_part listed me prefix given → filled new start end (length listed) ≡ map_after_take owners me prefix given
+    → (new old part : Owners) → new ≡ old ++ part → old ≡ owners → part ≡ new_part listed me prefix given → with_part_replaced new start end (length listed) ≡ map_after_take owners me prefix given
 readied owners me prefix given m p listed same numbers is start end s new old part put before made =
     let span : IsSpan owners prefix start end = subst (λ n. IsSpan owners n start end) is (subst (λ o. IsSpan o numbers start end) same s) in
     let whole : new ≡ owners ++ part = put ∙ ap (λ o. o ++ part) before in
     let size : length owners ≡ length listed = sym (ap length same) in
-    ap (λ l. filled l start end (length listed)) whole
+    ap (λ l. with_part_replaced l start end (length listed)) whole
     ∙ ap (λ o. splice o start end (drop (length listed) (owners ++ part))) (take_at owners part (length listed) size)
     ∙ ap (splice owners start end) (drop_at owners part (length listed) size ∙ made ∙ ap (λ o. new_part o me prefix given) same)
     ∙ splice_is owners me prefix given p m start end span

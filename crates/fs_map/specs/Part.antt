@@ -44,17 +44,17 @@ new_part owners me prefix given =
 
 -- ## In the place of the part
 
--- behind the list, of that length, stands what is to come into the place of its part
-pub record IsGap {X : Type 0} (xs : List X) (start end kept : ℕ) : Type 0 where
+-- of the list so many items are kept, and among these is the part; what is to come into its place stands behind them
+pub record AreBounds {X : Type 0} (xs : List X) (start end kept : ℕ) : Type 0 where
   pub ordered : start ≤ end
   pub within : end ≤ kept
   pub behind : kept ≤ length xs
 
--- the list with what stands behind it in the place of its part
-abbrev pub filled : {X : Type 0} → List X → ℕ → ℕ → ℕ → List X
-filled xs start end kept = splice (take kept xs) start end (drop kept xs)
+-- the items that are kept, with what stands behind them in the place of the part
+abbrev pub with_part_replaced : {X : Type 0} → List X → ℕ → ℕ → ℕ → List X
+with_part_replaced xs start end kept = splice (take kept xs) start end (drop kept xs)
 
 -- the last items first, then those between, then the first ones
-abbrev pub turned_about : {X : Type 0} → List X → ℕ → ℕ → List X
-turned_about xs gone added =
+abbrev pub with_ends_exchanged : {X : Type 0} → List X → ℕ → ℕ → List X
+with_ends_exchanged xs gone added =
     drop (length xs - added) xs ++ (drop gone (take (length xs - added) xs) ++ take gone xs)

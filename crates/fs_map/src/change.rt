@@ -14,7 +14,7 @@ ghost use Rattle.fs_map.specs.Map.{IsMap, IsPiece, Tells, after_hint, after_take
 use crate::listed::{is_given, server_of};
 use crate::part::span;
 use crate::piece::{MapPiece, whole};
-use crate::taking::{begin, fill};
+use crate::taking::{begin, replace_part};
 use fs_ident::{FileId, List, Memory, Twin};
 use std::alloc::Global;
 use std::cmp::Ordering;
@@ -163,8 +163,8 @@ pub(crate) fn change(
     ensures valid { IsMap owners.new }
     ensures err { OnErr result (owners.new ≡ owners.old) }
 {
-    let gap = begin(alloc, owners, piece, to)?;
-    fill(owners.items_mut(), gap);
+    let bounds = begin(alloc, owners, piece, to)?;
+    replace_part(owners.items_mut(), bounds);
     Ok(())
 }
 

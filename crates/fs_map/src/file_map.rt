@@ -138,8 +138,9 @@ impl FileMap {
         change(alloc, &mut self.owners, piece, me)
     }
 
-    /// Takes the map out, ready for what the piece gives to come to `me`; the first map stands in its place until the one
-    /// that comes of it is put there. `Memory` where memory is wanting; the map is as it was then.
+    /// Begins what `take` does: the map is taken out, and the first map stands in its place. What is handed out takes no
+    /// more memory to become the map after the change, or to become the map as it was. `Memory` where memory is wanting;
+    /// the map is as it was then.
     pub fn begin_take(&mut self, alloc: Global, me: u8, piece: &MapPiece) -> Result<Taking, Memory>
         requires { IsPiece piece.now.prefix piece.now.given }
         ensures before { IfOk result (λ t. t.before ≡ self.old) }
@@ -149,8 +150,8 @@ impl FileMap {
         ensures err { OnErr result (self.new ≡ self.old) }
     {
         let first = FileMap::new(alloc)?;
-        let gap = begin(alloc, &mut self.owners, piece, me)?;
-        Ok(Taking::new(mem::replace(&mut self.owners, first.owners), gap))
+        let bounds = begin(alloc, &mut self.owners, piece, me)?;
+        Ok(Taking::new(mem::replace(&mut self.owners, first.owners), bounds))
     }
 
     /// All below the prefix is said to be at that server. `Memory` where memory is wanting; the map is as it was

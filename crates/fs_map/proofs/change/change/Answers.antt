@@ -1,11 +1,11 @@
 use Rattle.std.proofs.Common.{◌∙◌, ap, subst, sym}
 use Rattle.fs_map.specs.Map.{IsMap, Owners, Tells, after_take}
-use Rattle.fs_map.specs.Part.{filled}
+use Rattle.fs_map.specs.Part.{with_part_replaced}
 use Rattle.fs_map.proofs.Owned.{taken_map}
 use Rattle.fs_map.proofs.change.change.Goals as goal
 
 pub returns-clause-map : goal.returns-clause-map
-returns-clause-map c = c.fill.ensures ∙ ap (λ l. filled l c.in_ok-gap.gap.start c.in_ok-gap.gap.end c.in_ok-gap.gap.kept) c.items_mut.ensures.value ∙ c.in_ok-gap.ensures.after
+returns-clause-map c = c.replace_part.ensures ∙ ap (λ l. with_part_replaced l c.in_ok-bounds.bounds.start c.in_ok-bounds.bounds.end c.in_ok-bounds.bounds.kept) c.items_mut.ensures.value ∙ c.in_ok-bounds.ensures.after
 
 pub returns-clause-servers : goal.returns-clause-servers
 returns-clause-servers c =
