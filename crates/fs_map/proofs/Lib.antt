@@ -8,3 +8,4 @@ pub mod Owned
 pub mod Testing
 pub mod Spliced
 pub mod Spans
+pub mod Replaced

@@ -1,28 +1,28 @@
 -- The part of a map's list that begins with a prefix, and what the list is with another in its place.
-use Rattle.std.proofs.Common.{◌≡◌, ◌∙◌, ◌⊎◌, ℕ, zero, suc, Bool, true, false, List, [], ◌∷◌, ◌++◌, refl, ap, sym, length, inl, inr, cond, subst, arith, ◌≤◌, ◌<◌, ◌+◌, ◌-◌, take, drop, get_or}
-use Rattle.std.specs.Prelude.{Some, None, ◌&&◌, nat_eq, slice_range, unwrap_or}
+use Rattle.std.proofs.Common.{◌≡◌, ◌∙◌, ◌⊎◌, ℕ, zero, suc, Bool, true, false, List, [], ◌∷◌, ◌++◌, refl, ap, sym, length, inl, inr, cond, subst, arith, ◌≤◌, ◌<◌, ◌+◌, ◌-◌, ◌==◌, take, drop, get_or}
+use Rattle.std.specs.Prelude.{Some, None, ◌&&◌, ◌||◌, nat_eq, slice_range, unwrap_or}
 use Rattle.std.specs.Cmp.{unsigned_Decides}
-use Rattle.std.specs.List.{splice}
+use Rattle.std.specs.List.{splice, list_any}
 use Rattle.std.specs.List.Sorted.{IsPartitionedBy, IsPartitionPoint}
 use Rattle.std.specs.Ordering.{nat_cmp, is_lt, ordering_reverse}
 use Rattle.std.specs.Cmp.Lexicographic.{slice_cmp, nat_list_cmp_total}
 use Rattle.std.specs.declared.cmp.Ordering.TheVariants.{Less, Equal, Greater}
-use Rattle.std.proofs.lemmas.List.{take-append-drop, length-drop, drop-drop}
-use Rattle.std.proofs.lemmas.List.Folds.{drop_split}
+use Rattle.std.proofs.lemmas.List.{take-append-drop, take_at, drop_at, length-drop, drop-drop, map-append}
+use Rattle.std.proofs.lemmas.List.Folds.{drop_split, list_any-append}
 use Rattle.fs_ident.specs.In.{In}
 use Rattle.fs_ident.specs.Ordered.{Keyed, are_keys_in_order}
 use Rattle.fs_ident.proofs.Booleans.{first, second, less}
 use Rattle.fs_ident.proofs.MapsOf.{anti}
-use Rattle.fs_map.specs.Map.{begins, IsMap, IsPiece, Owners, server_of, after_take, told_of}
+use Rattle.fs_map.specs.Map.{begins, gives, IsMap, IsPiece, Owners, server_of, after_take, told_of}
 use Rattle.fs_map.specs.Change.{at, before_all, front}
-use Rattle.fs_map.specs.Lists.{map_after_take, places_of, turns}
-use Rattle.fs_map.specs.Part.{IsSpan, IsPartOf, part_after, is_as_above, new_part}
+use Rattle.fs_map.specs.Lists.{map_after_take, owns_given, places_of, turns}
+use Rattle.fs_map.specs.Part.{IsSpan, IsPartOf, with_part_replaced, part_after, is_as_above, new_part}
 use Rattle.fs_map.proofs.Found.{Before, tied, tied_is, apart, one_way, found_after}
 use Rattle.fs_map.proofs.Prefixes.{begins_itself}
 use Rattle.fs_map.proofs.Listing.{Lists, told, listing, one_list}
 use Rattle.fs_map.proofs.Turns.{turns_order}
 use Rattle.fs_map.proofs.Owned.{taken_lists, part_lists}
-use Rattle.fs_map.proofs.Spliced.{Stands, spliced, within, order_front, order_back, behind}
+use Rattle.fs_map.proofs.Spliced.{Stands, spliced, within, order_front, order_back, behind, not_begun}
 
 in_three : {X : Type 0} (xs : List X) (start end : ℕ) → start ≤ end → xs ≡ take start xs ++ (slice_range xs start end ++ drop end xs)
 in_three xs start end h = sym (take-append-drop start xs) ∙ ap (λ ys. take start xs ++ ys) (drop_split xs start end h)
@@ -210,9 +210,53 @@ span_is owners prefix start count within_all within_rest earlier inside later = 
     len : (start + count) - start ≡ count
     len = omega arith
 
--- what stands there after the part was replaced
-pub replaced : (owners : Owners) (me : ℕ) (prefix : List ℕ) (given : Keyed Bool) → IsMap owners → IsPiece prefix given → (all : Owners) → all ≡ owners → (numbers : List ℕ) → numbers ≡ prefix → (start end : ℕ) → IsSpan all numbers start end
-    → (new old part : Owners) → new ≡ splice old start end part → old ≡ owners → part ≡ new_part all me prefix given → new ≡ map_after_take owners me prefix given
-replaced owners me prefix given m p all same numbers is start end s new old part put before made =
+-- the new part, behind the list, in the place of the old one
+pub readied : (owners : Owners) (me : ℕ) (prefix : List ℕ) (given : Keyed Bool) → IsMap owners → IsPiece prefix given → (listed : Owners) → listed ≡ owners → (numbers : List ℕ) → numbers ≡ prefix → (start end : ℕ) → IsSpan listed numbers start end
+    → (new old part : Owners) → new ≡ old ++ part → old ≡ owners → part ≡ new_part listed me prefix given → with_part_replaced new start end (length listed) ≡ map_after_take owners me prefix given
+readied owners me prefix given m p listed same numbers is start end s new old part put before made =
     let span : IsSpan owners prefix start end = subst (λ n. IsSpan owners n start end) is (subst (λ o. IsSpan o numbers start end) same s) in
-    put ∙ ap (λ o. splice o start end part) before ∙ ap (splice owners start end) (made ∙ ap (λ o. new_part o me prefix given) same) ∙ splice_is owners me prefix given p m start end span
+    let whole : new ≡ owners ++ part = put ∙ ap (λ o. o ++ part) before in
+    let size : length owners ≡ length listed = sym (ap length same) in
+    ap (λ l. with_part_replaced l start end (length listed)) whole
+    ∙ ap (λ o. splice o start end (drop (length listed) (owners ++ part))) (take_at owners part (length listed) size)
+    ∙ ap (splice owners start end) (drop_at owners part (length listed) size ∙ made ∙ ap (λ o. new_part o me prefix given) same)
+    ∙ splice_is owners me prefix given p m start end span
+
+-- ## What is given
+
+module _ (owners : Owners) (me : ℕ) (prefix : List ℕ) (given : Keyed Bool) where
+  abbrev shows : List ℕ → Bool
+  shows id = gives prefix given id && (server_of owners id == me)
+
+  abbrev pub shown : {V : Type 0} → Keyed V → Bool
+  shown listed = list_any shows (places_of listed)
+
+  -- what does not begin with the prefix is not given
+  none_shown : (xs : Owners) → ((e : List ℕ × ℕ) → In e xs → begins prefix e.0 ≡ false) → shown xs ≡ false
+  none_shown [] h = refl
+  none_shown (e ∷ xs) h =
+      ap (λ b. ((b && (unwrap_or (told_of given e.0) false)) && (server_of owners e.0 == me)) || shown xs) (h e (inl refl))
+      ∙ none_shown xs (λ d i. h d (inr i))
+
+  shown_both : (xs ys : Owners) → shown (xs ++ ys) ≡ (shown xs || shown ys)
+  shown_both xs ys = ap (list_any shows) (map-append (λ e. e.0) xs ys) ∙ list_any-append shows (places_of xs) (places_of ys)
+
+  -- so of the map's places those of the part tell all
+  pub shown_within : (start end : ℕ) → IsSpan owners prefix start end → (here : Bool) → here ≡ shown (slice_range owners start end) → (here || shown given) ≡ owns_given owners me prefix given
+  shown_within start end s here is =
+      let before = take start owners in
+      let part = slice_range owners start end in
+      let later = drop end owners in
+      let none_before : shown before ≡ false = none_shown before (λ e i. not_before e.0 (s.split.earlier e i)) in
+      let none_later : shown later ≡ false = none_shown later (λ e i. (s.split.later e i).1) in
+      let all : shown owners ≡ shown part =
+      ap (λ xs. shown xs) (in_three owners start end s.ordered) ∙ shown_both before (part ++ later) ∙ ap (λ b. b || shown (part ++ later)) none_before
+      ∙ shown_both part later ∙ ap (λ b. shown part || b) none_later ∙ or_nothing (shown part) in
+      ap (λ b. b || shown given) (is ∙ sym all) ∙ sym (list_any-append shows (places_of owners) (places_of given))
+    where
+      or_nothing : (b : Bool) → (b || false) ≡ b
+      or_nothing true = refl
+      or_nothing false = refl
+
+      not_before : (id : List ℕ) → Before id prefix → begins prefix id ≡ false
+      not_before id l = elim (begins prefix id) as (λ b. begins prefix id ≡ b → b ≡ false) [ true ↦ λ b. absurd (not_begun prefix id l b) | false ↦ λ b. refl ] refl

@@ -76,7 +76,7 @@ behind (x ∷ p) (y ∷ q) (z ∷ r) b l n =
     ] refl l
 
 -- a prefix is none of what comes before it
-not_begun : (p q : List ℕ) → Before q p → begins p q ≡ true → ⊥
+pub not_begun : (p q : List ℕ) → Before q p → begins p q ≡ true → ⊥
 not_begun p q l b = elim (prefix_first p q b) [ inl e ↦ apart q p l (sym e) | inr m ↦ one_way q p l m ]
 
 module _ {V : Type 0} (prefix : List ℕ) (before part later : Keyed V) (s : IsSplit prefix before part later) where

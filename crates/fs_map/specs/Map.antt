@@ -79,3 +79,8 @@ after_hint owners prefix to id = if begins prefix id then to else server_of owne
 -- the map tells these servers
 abbrev pub Tells : Owners → (List ℕ → ℕ) → Type 0
 Tells owners servers = (id : List ℕ) → server_of owners id ≡ servers id
+
+-- a map, and what a change makes of it
+pub record MapChange : Type 0 where
+  pub before : Owners
+  pub after : Owners

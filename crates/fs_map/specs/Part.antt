@@ -1,5 +1,6 @@
 -- The part of a map's list that a change touches.
-use Rattle.std.specs.Prelude.{◌≡◌, ℕ, Bool, true, false, ◌≤◌, List, [], ◌∷◌, ◌++◌, length, take, drop, slice_range, nat_eq, if◌then◌else◌}
+use Rattle.std.specs.Prelude.{◌≡◌, ℕ, Bool, true, false, ◌≤◌, List, [], ◌∷◌, ◌++◌, ◌-◌, length, take, drop, slice_range, nat_eq, if◌then◌else◌}
+use Rattle.std.specs.List.{splice}
 use Rattle.std.specs.Ordering.{nat_cmp}
 use Rattle.std.specs.Cmp.Lexicographic.{slice_cmp}
 use Rattle.std.specs.declared.cmp.Ordering.TheVariants.{Less}
@@ -40,3 +41,20 @@ is_as_above owners me prefix given (n ∷ ns) = nat_eq (after_take owners me pre
 abbrev pub new_part : Owners → ℕ → List ℕ → Keyed Bool → Owners
 new_part owners me prefix given =
     if is_as_above owners me prefix given prefix then turns nat_eq (after_take owners me prefix given) prefix (places_of owners ++ places_of given) else part_after owners me prefix given
+
+-- ## In the place of the part
+
+-- of the list so many items are kept, and among these is the part; what is to come into its place stands behind them
+pub record AreBounds {X : Type 0} (xs : List X) (start end kept : ℕ) : Type 0 where
+  pub ordered : start ≤ end
+  pub within : end ≤ kept
+  pub behind : kept ≤ length xs
+
+-- the items that are kept, with what stands behind them in the place of the part
+abbrev pub with_part_replaced : {X : Type 0} → List X → ℕ → ℕ → ℕ → List X
+with_part_replaced xs start end kept = splice (take kept xs) start end (drop kept xs)
+
+-- the last items first, then those between, then the first ones
+abbrev pub with_ends_exchanged : {X : Type 0} → List X → ℕ → ℕ → List X
+with_ends_exchanged xs gone added =
+    drop (length xs - added) xs ++ (drop gone (take (length xs - added) xs) ++ take gone xs)

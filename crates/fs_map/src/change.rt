@@ -14,6 +14,7 @@ ghost use Rattle.fs_map.specs.Map.{IsMap, IsPiece, Tells, after_hint, after_take
 use crate::listed::{is_given, server_of};
 use crate::part::span;
 use crate::piece::{MapPiece, whole};
+use crate::taking::{begin, replace_part};
 use fs_ident::{FileId, List, Memory, Twin};
 use std::alloc::Global;
 use std::cmp::Ordering;
@@ -126,7 +127,7 @@ fn is_as_above(owners: &[(FileId, u8)], piece: &MapPiece, to: u8) -> bool
 }
 
 /// What stands in the place of those owners: the prefix is listed where it is not as the place above.
-fn new_part(
+pub(crate) fn new_part(
     alloc: Global,
     owners: &[(FileId, u8)],
     part: &[(FileId, u8)],
@@ -162,10 +163,8 @@ pub(crate) fn change(
     ensures valid { IsMap owners.new }
     ensures err { OnErr result (owners.new ≡ owners.old) }
 {
-    let all = owners.as_slice();
-    let (start, end) = span(all, piece.prefix.numbers());
-    let part = new_part(alloc, all, &all[start..end], piece, to)?;
-    replace(owners.items_mut(), start, end, part.into_vec())?;
+    let bounds = begin(alloc, owners, piece, to)?;
+    replace_part(owners.items_mut(), bounds);
     Ok(())
 }
 
@@ -185,22 +184,6 @@ pub(crate) fn hint_all(
 {
     let whole = whole(alloc, prefix)?;
     change(alloc, owners, &whole, to)
-}
-
-/// Puts a part into the place of another.
-fn replace(
-    owners: &mut Vec<(FileId, u8)>,
-    start: usize,
-    end: usize,
-    part: Vec<(FileId, u8)>,
-) -> Result<(), Memory>
-    requires start { start ≤ end }
-    requires end { end ≤ vec_len owners.old }
-    ensures ok { OnOk result (owners.new.items ≡ splice owners.old.items start end part.items) }
-    ensures err { OnErr result (owners.new.items ≡ owners.old.items) }
-{
-    owners.splice(start..end, part)?;
-    Ok(())
 }
 
 /// Whether the identifier is given, where it is below the prefix and this is not as it is above.
@@ -268,13 +251,16 @@ pub(crate) fn piece_of(
     })
 }
 
-/// Whether a place of either list is given, and the server's.
+/// Whether a place of either list is given, and the server's. Of the map's only what begins with the prefix is looked at,
+/// since nothing else is given.
 pub(crate) fn owns_given(owners: &[(FileId, u8)], me: u8, piece: &MapPiece) -> bool
     requires map { IsTrue (are_keys_in_order owners.now) }
     requires given { IsTrue (are_keys_in_order piece.now.given) }
     ensures { result ≡ owns_given owners.now me piece.now.prefix piece.now.given }
 {
-    any_is_mine(owners, me, piece, owners) || any_is_mine(owners, me, piece, piece.given.as_slice())
+    let (start, end) = span(owners, piece.prefix.numbers());
+    any_is_mine(owners, me, piece, &owners[start..end])
+        || any_is_mine(owners, me, piece, piece.given.as_slice())
 }
 
 /// Whether one of the listed places is given, and the server's.

@@ -6,9 +6,11 @@ ghost use Rattle.fs_map.specs.Lists.{map_after_give, map_after_hint, map_after_t
 use crate::change::{change, hint_all, owns_given, piece_of};
 use crate::listed::longest;
 use crate::piece::MapPiece;
+use crate::taking::{Taking, begin};
 use fs_ident::{FileId, List, Memory, Twin};
 use std::alloc::Global;
 use std::marker::Model;
+use std::mem;
 
 /// Which server manages which files, as far as its holder knows: prefixes in order, each with its server. A prefix is
 /// listed exactly where it is the root, or its server differs from its parent's.
@@ -35,6 +37,14 @@ impl FileMap {
         let mut owners = List::new(alloc);
         owners.push((FileId::root(alloc), 0))?;
         Ok(FileMap { owners })
+    }
+
+    /// The map of this list.
+    pub(crate) fn of(owners: List<(FileId, u8)>) -> FileMap
+        requires { IsMap owners }
+        ensures { result ≡ owners }
+    {
+        FileMap { owners }
     }
 
     /// The prefixes with their servers.
@@ -78,17 +88,6 @@ impl FileMap {
             ((gives piece.now.prefix piece.now.given id ≡ true) × (server_of self.now id ≡ me)) }
     {
         owns_given(self.owners.as_slice(), me, piece)
-    }
-
-    /// The map where what the piece gives has come to `me`. Nothing changes here.
-    pub fn with_taken(&self, alloc: Global, me: u8, piece: &MapPiece) -> Result<FileMap, Memory>
-        requires { IsPiece piece.now.prefix piece.now.given }
-        ensures { IfOk result (λ m. m ≡
-            map_after_take self.now me piece.now.prefix piece.now.given) }
-    {
-        let mut map = self.copy(alloc)?;
-        map.take(alloc, me, piece)?;
-        Ok(map)
     }
 
     /// The map where all below the prefix is said to be at that server. Nothing changes here.
@@ -137,6 +136,22 @@ impl FileMap {
         ensures err { OnErr result (self.new ≡ self.old) }
     {
         change(alloc, &mut self.owners, piece, me)
+    }
+
+    /// Begins what `take` does: the map is taken out, and the first map stands in its place. What is handed out takes no
+    /// more memory to become the map after the change, or to become the map as it was. `Memory` where memory is wanting;
+    /// the map is as it was then.
+    pub fn begin_take(&mut self, alloc: Global, me: u8, piece: &MapPiece) -> Result<Taking, Memory>
+        requires { IsPiece piece.now.prefix piece.now.given }
+        ensures before { IfOk result (λ t. t.before ≡ self.old) }
+        ensures after { IfOk result (λ t. t.after ≡
+            map_after_take self.old me piece.now.prefix piece.now.given) }
+        ensures placeholder { OnOk result (self.new ≡ first_map) }
+        ensures err { OnErr result (self.new ≡ self.old) }
+    {
+        let first = FileMap::new(alloc)?;
+        let bounds = begin(alloc, &mut self.owners, piece, me)?;
+        Ok(Taking::new(mem::replace(&mut self.owners, first.owners), bounds))
     }
 
     /// All below the prefix is said to be at that server. `Memory` where memory is wanting; the map is as it was

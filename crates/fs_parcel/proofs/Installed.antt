@@ -73,13 +73,6 @@ module _ (records : RecordMap) (rows : List Row) (map : Owners) (me : ℕ) (p : 
   pub came_elsewhere : (q : List ℕ) → gives p.prefix p.piece.given q ≡ false → get (with_records p.records records) q ≡ get records q
   came_elsewhere q h = other_stays q h p.records record_given records
 
-  -- taken away again they leave what was
-  pub taken_back : records_left p.prefix p.piece.given (with_records p.records records) ≡ records
-  taken_back = same_map nat_list_cmp_total anti _ _ (λ q. elim (gives p.prefix p.piece.given q) as (λ b. gives p.prefix p.piece.given q ≡ b → get (records_left p.prefix p.piece.given (with_records p.records records)) q ≡ get records q) [
-    | true ↦ λ h. (goes (with_records p.records records) p.prefix q p.piece.given h).0 ∙ sym (none_here q h)
-    | false ↦ λ h. (stays (with_records p.records records) p.prefix q p.piece.given h).0 ∙ came_elsewhere q h
-  ] refl)
-
   -- ## Rows
 
   rows_parts : (are_new rows p.rows ≡ true) × ((off_fits (rows_off_modes rows) (rows_off_modes p.rows) ≡ true) × (on_modes.fits (selves_listed (selves_of_records p.records)) (rows_on_modes rows) (rows_on_modes p.rows) ≡ true))

@@ -3,8 +3,10 @@ ghost use Rattle.std.specs.Prelude.{◌≡◌, true, OnOk, OnErr};
 ghost use Rattle.std.specs.List.{filter};
 ghost use Rattle.fs_field.specs.Table.{is_live};
 ghost use Rattle.fs_map.specs.Lists.{map_after_take};
-ghost use Rattle.fs_record.specs.Moving.{AreEachRecords, with_records};
+ghost use Rattle.fs_moderows.specs.Table.{IsModeTable};
+ghost use Rattle.fs_record.specs.Moving.{AreEachRecords, are_absent, are_distinct, with_records};
 ghost use Rattle.fs_rows.specs.Granted.{with_rows};
+ghost use Rattle.fs_rows.specs.Table.{IsTable};
 ghost use Rattle.fs_parcel.specs.Parcel.{fits};
 ghost use Rattle.fs_parcel.specs.Rows.{AreRows, both, rows_off_modes, rows_on_modes};
 
@@ -71,16 +73,51 @@ pub fn install_at(
 {
     rows.all();
     modes.all();
-    let taken = map.with_taken(alloc, me, &p.piece)?;
-    let parts = Parts::of(alloc, p.rows)?;
-    records.join(alloc, p.records)?;
-    match modes.grant_all(alloc, now, skew, parts.on, rows, parts.off) {
+    let taking = map.begin_take(alloc, me, &p.piece)?;
+    match put_in(alloc, records, rows, modes, now, skew, p) {
         Ok(()) => {
-            *map = taken;
+            *map = taking.finish();
             Ok(())
         }
         Err(wanting) => {
-            records.leave(&p.piece);
+            *map = taking.give_up();
+            Err(wanting)
+        }
+    }
+}
+
+/// The parcel's records and rows come into their tables, or none of them where memory is wanting.
+fn put_in(
+    alloc: Global,
+    records: &mut Records,
+    rows: &mut Rows,
+    modes: &mut ModeRows,
+    now: u64,
+    skew: u64,
+    p: Parcel,
+) -> Result<(), Memory>
+    requires nexts { AreEachRecords p.records }
+    requires distinct { are_distinct p.records ≡ true }
+    requires absent { are_absent records.old p.records ≡ true }
+    requires off { IsTable
+        (with_rows (rows_off_modes p.rows) (filter (is_live now skew) rows.old)) }
+    requires on { IsModeTable
+        (with_rows (rows_on_modes p.rows) (filter (is_live now skew) modes.old)) }
+    ensures records { OnOk result (records.new ≡ with_records p.records records.old) }
+    ensures rows { OnOk result (rows.new ≡
+        with_rows (rows_off_modes p.rows) (filter (is_live now skew) rows.old)) }
+    ensures modes { OnOk result (modes.new ≡
+        with_rows (rows_on_modes p.rows) (filter (is_live now skew) modes.old)) }
+    ensures err_records { OnErr result (records.new ≡ records.old) }
+    ensures err_rows { OnErr result (rows.new ≡ rows.old) }
+    ensures err_modes { OnErr result (modes.new ≡ modes.old) }
+{
+    let parts = Parts::of(alloc, p.rows)?;
+    let came = records.join(alloc, p.records)?;
+    match modes.grant_all(alloc, now, skew, parts.on, rows, parts.off) {
+        Ok(()) => Ok(()),
+        Err(wanting) => {
+            records.leave_files(&came);
             Err(wanting)
         }
     }

@@ -1,7 +1,7 @@
 //! What one server manages below a prefix, on its way to another.
 //!
-//! A move costs what is below the prefix and three walks over the rows. Where a parcel comes, the map is copied, each of its places
-//! is looked for in the parcel, and each row that comes is compared with all that are there.
+//! A move costs what is below the prefix and three walks over the rows. Where a parcel comes, of the map and of the records only
+//! what is below its prefix is looked at, and each row that comes is compared with all that are there.
 #![tactic(auto)]
 
 mod error;

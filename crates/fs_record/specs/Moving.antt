@@ -1,7 +1,7 @@
 -- Records that go to another server, and records that come from one.
 use Rattle.std.specs.Prelude.{ℕ, Bool, true, not, ◌&&◌, List, [], ◌∷◌, is_some}
 use Rattle.std.specs.List.{filter, list_all, list_any}
-use Rattle.std.specs.FinMap.{get, insert, entries, from_entries}
+use Rattle.std.specs.FinMap.{get, insert, remove, entries, from_entries}
 use Rattle.fs_ident.specs.Ident.{same}
 use Rattle.fs_ident.specs.In.{In}
 use Rattle.fs_ident.specs.Ordered.{Keyed}
@@ -18,6 +18,11 @@ records_given prefix given m = filter (λ e. gives prefix given e.0) (entries m)
 -- the records of all others
 abbrev pub records_left : List ℕ → Keyed Bool → RecordMap → RecordMap
 records_left prefix given m = from_entries (filter (λ e. not (gives prefix given e.0)) (entries m))
+
+-- the records without those of these files
+abbrev pub records_without : List (List ℕ) → RecordMap → RecordMap
+records_without [] m = m
+records_without (file ∷ files) m = records_without files (remove m file)
 
 -- ## What comes
 

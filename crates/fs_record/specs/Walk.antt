@@ -25,8 +25,3 @@ with_file file (Some r) rest = (file, r) ∷ rest
 abbrev pub taken_out : List (List ℕ) → RecordMap → Keyed Record
 taken_out [] m = []
 taken_out (file ∷ files) m = with_file file (get m file) (taken_out files (remove m file))
-
--- the records without those of these files
-abbrev pub left_out : List (List ℕ) → RecordMap → RecordMap
-left_out [] m = m
-left_out (file ∷ files) m = left_out files (remove m file)

@@ -8,8 +8,8 @@ ghost use Rattle.fs_ident.specs.Maps.{map_of};
 ghost use Rattle.fs_ident.specs.Ordered.{are_keys_in_order};
 ghost use Rattle.fs_map.specs.Map.{gives};
 ghost use Rattle.fs_model.specs.Step.{is_empty};
-ghost use Rattle.fs_record.specs.Moving.{are_absent, are_distinct, records_given, records_left, with_records};
-ghost use Rattle.fs_record.specs.Walk.{left_out, taken_back, taken_out, with_file};
+ghost use Rattle.fs_record.specs.Moving.{are_absent, are_distinct, records_given, records_left, records_without, with_records};
+ghost use Rattle.fs_record.specs.Walk.{taken_back, taken_out, with_file};
 
 use crate::changes::{add, remove};
 use crate::record::Record;
@@ -69,18 +69,18 @@ pub fn has_given(records: &BTreeMap<FileId, Record>, piece: &MapPiece) -> bool
     false
 }
 
-/// Drops the records of files that the piece gives.
-pub fn leave(records: &mut BTreeMap<FileId, Record>, piece: &MapPiece)
-    ensures { map_of records.new ≡
-        records_left piece.now.prefix piece.now.given (map_of records.old) }
+/// Drops the records of these files, and looks at no other.
+pub fn leave_files(records: &mut BTreeMap<FileId, Record>, files: &[FileId])
+    ensures { map_of records.new ≡ records_without files.now (map_of records.old) }
 {
-    let ordered = piece.is_in_order();
-    records.retain(|id, _| !is_given(piece, ordered, id));
+    for gone in files {
+        remove(records, gone);
+    }
 }
 
-/// Drops the records of these files, and looks at no other.
+/// The same, of the files of these records.
 pub fn leave_these(records: &mut BTreeMap<FileId, Record>, moved: &[(FileId, Record)])
-    ensures { map_of records.new ≡ left_out (keys_of moved.now) (map_of records.old) }
+    ensures { map_of records.new ≡ records_without (keys_of moved.now) (map_of records.old) }
 {
     for (file, _) in moved {
         remove(records, file);
@@ -137,7 +137,7 @@ fn take_out(
     requires { vec_len moved.old + length files.now ≤ vec_capacity moved.old }
     ensures moved { moved.new.items ≡
         moved.old.items ++ taken_out files.now (map_of records.old) }
-    ensures left { map_of records.new ≡ left_out files.now (map_of records.old) }
+    ensures left { map_of records.new ≡ records_without files.now (map_of records.old) }
 {
     for file in files {
         take_one(records, file, moved);
@@ -166,14 +166,15 @@ fn take_one(
     }
 }
 
-/// Gives these files their records. Where memory is wanting those that came are taken away again.
+/// Gives these files their records; these are the files. Where memory is wanting those that came are taken away again.
 pub fn join(
     alloc: Global,
     records: &mut BTreeMap<FileId, Record>,
     more: Vec<(FileId, Record)>,
-) -> Result<(), Memory>
+) -> Result<List<FileId>, Memory>
     requires distinct { are_distinct more.items ≡ true }
     requires absent { are_absent (map_of records.old) more.items ≡ true }
+    ensures files { IfOk result (λ files. files ≡ keys_of more.items) }
     ensures ok { OnOk result (map_of records.new ≡ with_records more.items (map_of records.old)) }
     ensures err { OnErr result (map_of records.new ≡ map_of records.old) }
 {
@@ -187,7 +188,7 @@ pub fn join(
             }
         }
     }
-    Ok(())
+    Ok(List::from_vec(came))
 }
 
 /// Gives the file this record, and notes the file.

@@ -2,11 +2,12 @@
 ghost use Rattle.std.specs.Prelude.{◌≡◌, ◌↔◌, true, false, not, IfOk, OnOk, OnErr, IsErrOf, Some, None, option_map};
 ghost use Rattle.std.specs.FinMap as map;
 ghost use Rattle.std.specs.List.{list_all};
+ghost use Rattle.std.specs.Map.{keys_of};
 ghost use Rattle.std.specs.Option.{option_copied};
 ghost use Rattle.fs_ident.specs.Ident.{child};
 ghost use Rattle.fs_record.specs.Applied.{records_after, records_after_all, has_target, is_undoable};
 ghost use Rattle.fs_record.specs.Effects.{reap_effects};
-ghost use Rattle.fs_record.specs.Moving.{AreEachRecords, are_absent, are_distinct, records_given, records_left, with_records};
+ghost use Rattle.fs_record.specs.Moving.{AreEachRecords, are_absent, are_distinct, records_given, records_left, records_without, with_records};
 ghost use Rattle.fs_model.specs.Step.{is_empty};
 ghost use Rattle.fs_record.specs.Opens.{open_files};
 ghost use Rattle.fs_record.specs.Fresh.{fresh_number, is_directory, records_after_gift};
@@ -214,11 +215,11 @@ impl Records {
         moving::given(alloc, &self.records, piece)
     }
 
-    /// Drops the records of files that the piece gives.
-    pub fn leave(&mut self, piece: &MapPiece)
-        ensures { self.new ≡ records_left piece.now.prefix piece.now.given self.old }
+    /// Drops the records of these files. It searches for each of them, and looks at no other.
+    pub fn leave_files(&mut self, files: &List<FileId>)
+        ensures { self.new ≡ records_without files.now self.old }
     {
-        moving::leave(&mut self.records, piece);
+        moving::leave_files(&mut self.records, files.as_slice());
     }
 
     /// Drops these records, which are those of files that the piece gives: `given` tells them. It searches for each of
@@ -255,12 +256,17 @@ impl Records {
         moving::split(alloc, &mut self.records, piece)
     }
 
-    /// Gives these files their records; none has one here, and none stands twice. `Memory` where memory is wanting; the
-    /// records are as they were then.
-    pub fn join(&mut self, alloc: Global, records: List<(FileId, Record)>) -> Result<(), Memory>
+    /// Gives these files their records, and tells the files; none has one here, and none stands twice. `Memory` where
+    /// memory is wanting; the records are as they were then.
+    pub fn join(
+        &mut self,
+        alloc: Global,
+        records: List<(FileId, Record)>,
+    ) -> Result<List<FileId>, Memory>
         requires records { AreEachRecords records }
         requires distinct { are_distinct records ≡ true }
         requires absent { are_absent self.old records ≡ true }
+        ensures files { IfOk result (λ files. files ≡ keys_of records) }
         ensures ok { OnOk result (self.new ≡ with_records records self.old) }
         ensures err { OnErr result (self.new ≡ self.old) }
     {

@@ -217,10 +217,35 @@ fn what_is_not_given_stays_as_it_was_known(rt: HostRuntime) -> Result<(), Fail> 
     let alloc = rt.alloc();
     let piece = with_a_hole(&rt, alloc)?;
     let map = taken(alloc, &piece)?;
-    tells(&rt, alloc, &map, "/ s4, /1 s3, /1/2 s4, ")?;
-    let next = map.with_taken(alloc, 5, &piece)?;
-    tells(&rt, alloc, &next, "/ s5, /1 s3, /1/2 s5, ")?;
     tells(&rt, alloc, &map, "/ s4, /1 s3, /1/2 s4, ")
+}
+
+/// A map that takes the piece, and gives it up where not `kept`.
+fn takes(
+    alloc: Global,
+    mut map: FileMap,
+    me: u8,
+    piece: &MapPiece,
+    kept: bool,
+) -> Result<FileMap, Fail>
+    requires { IsPiece piece.now.prefix piece.now.given }
+{
+    let taking = map.begin_take(alloc, me, piece)?;
+    Ok(if kept { taking.finish() } else { taking.give_up() })
+}
+
+#[test]
+fn a_change_is_made_or_given_up(rt: HostRuntime) -> Result<(), Fail> {
+    let alloc = rt.alloc();
+    let mut map = hinted(alloc, "/3", 2, "/3/4", 1)?;
+    map.hint(alloc, &FileId::parse(alloc, b"/1")?, 1)?;
+    map.hint(alloc, &FileId::parse(alloc, b"/5")?, 1)?;
+    let piece = listed(alloc, "/3", &[("/3", true)])?;
+    assert!(rt; piece.is_piece());
+    map = takes(alloc, map, 7, &piece, false)?;
+    tells(&rt, alloc, &map, "/ s0, /1 s1, /3 s2, /3/4 s1, /5 s1, ")?;
+    map = takes(alloc, map, 7, &piece, true)?;
+    tells(&rt, alloc, &map, "/ s0, /1 s1, /3 s7, /5 s1, ")
 }
 
 /// What the server of the root has.

@@ -383,8 +383,13 @@ fn records_go_and_come(rt: HostRuntime) -> Result<(), Fail> {
         all_numbered(alloc, &records)?.as_str(),
         "/:1 /1:2 /1/2:3 /1/3:5 /2:7 /10:6 "
     );
-    records.leave(&piece(alloc, "/1", "/1")?);
-    assert_eq!(rt; all_numbered(alloc, &records)?.as_str(), "/:1 /2:7 /10:6 ");
+    let mut files = List::new(alloc);
+    files.push(FileId::parse(alloc, b"/1/2")?)?;
+    records.leave_files(&files);
+    assert_eq!(rt;
+        all_numbered(alloc, &records)?.as_str(),
+        "/:1 /1:2 /1/3:5 /2:7 /10:6 "
+    );
     Ok(())
 }
 

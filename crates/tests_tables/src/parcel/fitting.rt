@@ -4,7 +4,7 @@ ghost use Rattle.fs_parcel.specs.Rows.{AreRows, both};
 
 use crate::parcel::shown::server_text;
 use crate::parcel::{On, Sent, Server, are_records, begun, come, id, parcel};
-use fs_ident::FileId;
+use fs_ident::{FileId, List};
 use fs_parcel::{fits_at, install_at};
 use fs_record::Parcel;
 use std::alloc::Global;
@@ -28,8 +28,9 @@ fn here(rt: &impl Abort, alloc: Global) -> Result<Server, Fail>
 {
     let mut s = begun(alloc, 1, 0)?;
     assert!(rt; come(alloc, &mut s, parcel(alloc, OLD)?)?);
-    let gone = parcel(alloc, OLD)?;
-    s.records.leave(&gone.piece);
+    let mut gone = List::new(alloc);
+    gone.push(id(alloc, "/1")?)?;
+    s.records.leave_files(&gone);
     assert!(rt; come(alloc, &mut s, parcel(alloc, FILE)?)?);
     s.map.hint(alloc, &FileId::root(alloc), 0)?;
     s.map.hint(alloc, &id(alloc, "/7")?, 1)?;

@@ -1,5 +1,6 @@
-use Rattle.std.proofs.Common.{◌≡◌, ◌∙◌, ◌∷◌, true, List, ℕ, ap, sym}
+use Rattle.std.proofs.Common.{◌≡◌, ◌∙◌, [], ◌∷◌, ◌++◌, true, List, ℕ, ap, sym, append_assoc}
 use Rattle.std.specs.FinMap.{insert}
+use Rattle.std.specs.Map.{keys_of}
 use Rattle.std.specs.Vec.Iter.{into_iter_items}
 use Rattle.fs_ident.specs.Maps.{map_of}
 use Rattle.fs_ident.specs.Ordered.{Keyed}
@@ -24,6 +25,10 @@ loop-entry-preserved c =
       same = ap (with_records es) added ∙ ap (λ (xs : Keyed Record). with_records xs m) (sym items) ∙ c.loop-entry.invariant.same;
       distinct = second _ _ distinct;
       absent = ap (λ (n : RecordMap). are_absent n es) added ∙ come_next m e es distinct absent;
+      named = ap (λ (files : List (List ℕ)). files ++ keys_of es) c.in-Ok.ensures.noted
+          ∙ append_assoc c.loop-entry.came.items (e.0 ∷ []) (keys_of es)
+          ∙ ap (λ (xs : Keyed Record). c.loop-entry.came.items ++ keys_of xs) (sym items)
+          ∙ c.loop-entry.invariant.named;
       back = ap (taken_back c.add_noted.new.came.items) added
           ∙ ap (λ (files : List (List ℕ)). taken_back files (insert m e.0 e.1)) c.in-Ok.ensures.noted
           ∙ back_again c.loop-entry.came.items m e es absent

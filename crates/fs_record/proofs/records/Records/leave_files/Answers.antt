@@ -1,0 +1,8 @@
+use Rattle.std.proofs.Common.{sym, subst}
+use Rattle.fs_ident.specs.Maps.{map_of}
+use Rattle.fs_record.specs.Records.{AreRecords}
+use Rattle.fs_record.proofs.TakenOut.{without_kept}
+use Rattle.fs_record.proofs.records.Records.leave_files.Goals as goal
+
+pub invariant_of-self : goal.invariant_of-self
+invariant_of-self c = subst AreRecords (sym c.leave_files.ensures) (without_kept c.as_slice.result.now (map_of c.self.inside.records) c.self.invariant)
