@@ -113,7 +113,7 @@ fn put_in(
     ensures err_modes { OnErr result (modes.new ≡ modes.old) }
 {
     let parts = Parts::of(alloc, p.rows)?;
-    let came = records.join(alloc, p.records)?;
+    let came = records.join_noting(alloc, p.records)?;
     match modes.grant_all(alloc, now, skew, parts.on, rows, parts.off) {
         Ok(()) => Ok(()),
         Err(wanting) => {

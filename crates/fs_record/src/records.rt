@@ -256,9 +256,21 @@ impl Records {
         moving::split(alloc, &mut self.records, piece)
     }
 
-    /// Gives these files their records, and tells the files; none has one here, and none stands twice. `Memory` where
-    /// memory is wanting; the records are as they were then.
-    pub fn join(
+    /// Gives these files their records; none has one here, and none stands twice. `Memory` where memory is wanting; the
+    /// records are as they were then.
+    pub fn join(&mut self, alloc: Global, records: List<(FileId, Record)>) -> Result<(), Memory>
+        requires records { AreEachRecords records }
+        requires distinct { are_distinct records ≡ true }
+        requires absent { are_absent self.old records ≡ true }
+        ensures ok { OnOk result (self.new ≡ with_records records self.old) }
+        ensures err { OnErr result (self.new ≡ self.old) }
+    {
+        self.join_noting(alloc, records)?;
+        Ok(())
+    }
+
+    /// The same: which files these are.
+    pub fn join_noting(
         &mut self,
         alloc: Global,
         records: List<(FileId, Record)>,

@@ -3,7 +3,7 @@ use Rattle.fs_ident.specs.Maps.{map_of}
 use Rattle.fs_record.specs.Moving.{with_records, AreEachRecords}
 use Rattle.fs_record.proofs.Kept.{either_kept}
 use Rattle.fs_record.proofs.Coming.{with_kept}
-use Rattle.fs_record.proofs.records.Records.join.Goals as goal
+use Rattle.fs_record.proofs.records.Records.join_noting.Goals as goal
 
 pub invariant_of-self : goal.invariant_of-self
 invariant_of-self c =
