@@ -2,13 +2,12 @@
 use Rattle.std.proofs.Common.{◌≡◌, ℕ, Bool, true, false, not, ◌&&◌, List, [], ◌∷◌, refl, ap, sym, cond, ◌∙◌, inl, inr}
 use Rattle.std.specs.Prelude.{Option, Some, None, is_some}
 use Rattle.std.specs.Cmp.Lexicographic.{slice_cmp, nat_list_cmp_total}
-use Rattle.std.specs.FinMap.{empty, get, get-empty, get-insert, insert, same_map}
+use Rattle.std.specs.FinMap.{empty, get, get-empty, get-insert, insert}
 use Rattle.std.specs.List.{list_all}
 use Rattle.std.specs.Ordering.{eq_by_cmp, nat_cmp}
 use Rattle.fs_ident.specs.In.{In}
 use Rattle.fs_ident.specs.Ordered.{Keyed}
 use Rattle.fs_ident.proofs.Booleans.{both as both_hold, first, second}
-use Rattle.fs_ident.proofs.MapsOf.{anti}
 use Rattle.fs_ident.proofs.Passing.{all-In, In-all}
 use Rattle.fs_field.specs.declared.row.Row.{Row}
 use Rattle.fs_map.specs.Lists.{owns_given}
@@ -16,11 +15,11 @@ use Rattle.fs_map.specs.Map.{Owners, gives}
 use Rattle.fs_model.specs.Step.{is_empty}
 use Rattle.fs_moderows.specs.Moving.{selves_listed}
 use Rattle.fs_moderows.specs.Moving as on_modes
-use Rattle.fs_record.specs.Moving.{are_absent, records_given, records_left, with_records}
+use Rattle.fs_record.specs.Moving.{are_absent, records_given, with_records}
 use Rattle.fs_record.specs.Records.{RecordMap}
 use Rattle.fs_record.specs.declared.parcel.Parcel.{Parcel}
 use Rattle.fs_record.specs.declared.record.Record.{Record}
-use Rattle.fs_record.proofs.Coming.{goes, stays}
+use Rattle.fs_record.proofs.Coming.{goes}
 use Rattle.fs_record.proofs.NodeValues.{key_is}
 use Rattle.fs_rows.specs.Granted.{with_rows}
 use Rattle.fs_rows.specs.Moving.{are_new, fits as off_fits, is_on_given}
