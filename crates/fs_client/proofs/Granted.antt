@@ -7,6 +7,7 @@ use Rattle.fs_client.specs.declared.plan.Plan.{Plan}
 use Rattle.std.specs.List.{list_any}
 use Rattle.std.proofs.lemmas.List.{take_more, map-append}
 use Rattle.fs_ident.specs.declared.actor.LeaseNo.{LeaseNo}
+use Rattle.fs_ident.proofs.Booleans.{both}
 use Rattle.fs_field.specs.declared.field.Field.{Field}
 use Rattle.fs_field.specs.declared.lease_kind.LeaseKind.{LeaseKind}
 use Rattle.fs_field.specs.Table.{same_no}
@@ -60,10 +61,6 @@ more_kept fresh leases [] g = refl
 more_kept fresh leases (b ∷ bs) g = more_kept fresh (leases ++ kept_new (lease_in fresh b) ∷ []) bs g
 
 -- ## Tests that pass
-
-both : (a b : Bool) → (a && b) ≡ true → (a ≡ true) × (b ≡ true)
-both true b h = (refl, h)
-both false b h = absurd (cc)
 
 neither : (a b : Bool) → (not a && not b) ≡ true → not (a || b) ≡ true
 neither true b h = absurd (cc)

@@ -34,7 +34,7 @@ use Rattle.fs_client.specs.Turns.{ending, idle, release_some, renew_some, return
 
 -- ## A plan has the reading of its event
 
-max_again : (a b : ℕ) → max a (max a b) ≡ max a b
+pub max_again : (a b : ℕ) → max a (max a b) ≡ max a b
 max_again a b = omega arith
 
 begun_again : (now : ℕ) (c : Client) → begun (max c.last now) c ≡ begun now c

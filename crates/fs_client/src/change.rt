@@ -1,9 +1,10 @@
 //! What an event changes at a client.
 use crate::exchange::Exchange;
 use fs_field::Effect;
-use fs_ident::{FileId, LeaseNo, List};
+use fs_ident::{FileId, LeaseNo, List, Memory, Twin};
 use fs_msg::Entry;
 use fs_view::NewLease;
+use std::alloc::Global;
 
 /// What an event changes, beside the reading and the leases that are over at it.
 #[derive(Debug, Drop)]
@@ -48,4 +49,41 @@ pub enum Change {
     Recall {
         no: LeaseNo,
     },
+}
+
+impl Twin for Change {
+    fn copy(&self, alloc: Global) -> Result<Change, Memory> {
+        match self {
+            Change::Nothing => Ok(Change::Nothing),
+            Change::Read => Ok(Change::Read),
+            Change::Reply { entry, effects } => Ok(Change::Reply {
+                entry: entry.copy(alloc)?,
+                effects: effects.copy(alloc)?,
+            }),
+            Change::Ask { exchange } => Ok(Change::Ask {
+                exchange: exchange.copy(alloc)?,
+            }),
+            Change::Leave { to, numbers } => Ok(Change::Leave {
+                to: *to,
+                numbers: numbers.copy(alloc)?,
+            }),
+            Change::Grant { leases, full } => Ok(Change::Grant {
+                leases: leases.copy(alloc)?,
+                full: full.copy(alloc)?,
+            }),
+            Change::Renew { ends } => Ok(Change::Renew {
+                ends: ends.copy(alloc)?,
+            }),
+            Change::Release { numbers } => Ok(Change::Release {
+                numbers: numbers.copy(alloc)?,
+            }),
+            Change::Admit { count, over } => Ok(Change::Admit {
+                count: *count,
+                over: *over,
+            }),
+            Change::Recall { no } => Ok(Change::Recall { no: *no }),
+        }
+    }
+
+    fn discard(self) {}
 }

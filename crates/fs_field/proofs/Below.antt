@@ -5,7 +5,7 @@ use Rattle.std.specs.Cmp.Lexicographic.{same_text, nat_list_eq_equiv}
 use Rattle.fs_ident.specs.Ident.{child, same}
 use Rattle.fs_field.specs.Table.{child_number, last_number}
 
-front_is : (n : ℕ) (ns : List ℕ) (k : ℕ) → take (length (ns ++ k ∷ [])) (n ∷ (ns ++ k ∷ [])) ≡ n ∷ ns
+pub front_is : (n : ℕ) (ns : List ℕ) (k : ℕ) → take (length (ns ++ k ∷ [])) (n ∷ (ns ++ k ∷ [])) ≡ n ∷ ns
 front_is n [] k = refl
 front_is n (m ∷ ns) k = ap (λ zs. n ∷ zs) (front_is m ns k)
 

@@ -4,4 +4,5 @@ pub mod Rows
 pub mod Below
 pub mod Conflicts
 pub mod Order
+pub mod SameNo
 pub mod Leases

@@ -19,13 +19,13 @@ not_both n name other h e = ap (λ m. same m name) (same_text n other (sym e)) �
 turned : (name other : List ℕ) → same other name ≡ false → same name other ≡ false
 turned name other h = nat_list_eq_equiv.symm name other ∙ h
 
-swapped : (a b c : Bool) → (a || (b || c)) ≡ (b || (a || c))
+pub swapped : (a b c : Bool) → (a || (b || c)) ≡ (b || (a || c))
 swapped true true c = refl
 swapped true false c = refl
 swapped false true c = refl
 swapped false false c = refl
 
-any_put : {X : Type 0} (test first : X → Bool) (x : X) (xs : List X) → list_any test (put_before first x xs) ≡ (test x || list_any test xs)
+pub any_put : {X : Type 0} (test first : X → Bool) (x : X) (xs : List X) → list_any test (put_before first x xs) ≡ (test x || list_any test xs)
 any_put test first x [] = refl
 any_put test first x (y ∷ ys) =
     elim (first y) as (λ b. list_any test (cond b (x ∷ y ∷ ys) (y ∷ put_before first x ys)) ≡ (test x || (test y || list_any test ys))) [

@@ -18,9 +18,9 @@ use Rattle.fs_field.specs.Conflict.{Selves, meets, is_self, has_fixed, can_fail,
 use Rattle.fs_field.specs.Field.{same_mode}
 use Rattle.fs_field.specs.Table.{no_before, with_row}
 use Rattle.fs_field.proofs.Conflicts.{plain_mutual}
+use Rattle.fs_field.proofs.Named.{any_put}
 use Rattle.fs_rows.specs.Granted.{with_rows}
 use Rattle.fs_rows.specs.Moving.{is_new, are_new, stands_beside, fits as fit_plainly}
-use Rattle.fs_rows.proofs.Comes.{any_put}
 use Rattle.fs_moderows.specs.Answer.{Opens, is_self_of_other, stands_against_self}
 use Rattle.fs_moderows.specs.Fixed.{AreFixedBut, is_other, is_other_of_other, stands_by}
 use Rattle.fs_moderows.specs.declared.fixed.Fixed.{Fixed}

@@ -27,7 +27,7 @@ use Rattle.fs_moderows.specs.declared.fixed.EachMode.{EachMode}
 use Rattle.fs_moderows.proofs.Witnesses.{none_In, not_true, same_mode_is, Witness, witness, witnessed}
 
 -- tests that agree on all items find the same
-find_same : {X : Type 0} (p q : X → Bool) (xs : List X) → ((x : X) → In x xs → p x ≡ q x) → find p xs ≡ find q xs
+pub find_same : {X : Type 0} (p q : X → Bool) (xs : List X) → ((x : X) → In x xs → p x ≡ q x) → find p xs ≡ find q xs
 find_same p q [] k = refl
 find_same p q (y ∷ ys) k = ap (λ b. cond b (Some y) (find p ys)) (k y (inl refl)) ∙ ap (cond (q y) (Some y)) (find_same p q ys (λ x i. k x (inr i)))
 

@@ -6,5 +6,5 @@ pub mod Reaps
 pub mod Safe
 pub mod Changes
 pub mod Moves
-mod FoundOnce
+pub mod FoundOnce
 mod Apart

@@ -52,9 +52,6 @@ locked_tells number txn r = kept_by (is_unlocked number r) (Some txn) r
 pub unlocked_tells : (txn : TxnNo) (r : Row) → TellsSame r (unlocked_row txn r)
 unlocked_tells txn r = kept_by (is_lock_of txn r.lock) None r
 
-pub empty_table : IsModeTable []
-empty_table = record { ordered = refl; on_modes = λ row i. absurd i }
-
 pub filtered_table : (test : Row → Bool) (rows : List Row) → IsModeTable rows → IsModeTable (filter test rows)
 filtered_table test rows t = record {
   ordered = ordered_filter test rows t.ordered;

@@ -83,38 +83,50 @@ pub record Answers {A : Type 0} (bytes : List ℕ) (s : Result A MsgError) : Typ
   pub from : (e : MsgError) → ((at : ℕ) → e ≡ errors.Trailing at → ⊥) → s ≡ Err e → (f : Fault) × (message_at bytes ≡ Err f) × (error_at (length bytes) f.left f.tag ≡ e)
   pub to : (f : Fault) → message_at bytes ≡ Err f → s ≡ Err (error_at (length bytes) f.left f.tag)
 
-module _ {A : Type 0} (bytes : List ℕ) (fits : IsBytes bytes) (s : Result A MsgError) (answers : Answers bytes s) (r : Result A MsgError) (given : IsAnswer r s) where
+-- what an error tells of the bytes, and which error they have
+pub record TellsFaults {A : Type 0} (bytes : List ℕ) (r : Result A MsgError) : Type 0 where
   pub short : IsErrOf r errors.Short → IsProperMessagePrefix bytes
+  pub cut : IsProperMessagePrefix bytes → IsErrOrMemory r errors.Short
+  pub tag : (at : ℕ) → IsErrOf r (errors.Tag at) → GoWrongAt bytes at × IsTagPlace (take at bytes)
+  pub at_tag : (at : ℕ) → GoWrongAt bytes at → IsTagPlace (take at bytes) → IsErrOrMemory r (errors.Tag at)
+  pub range : (at : ℕ) → IsErrOf r (errors.Range at) → GoWrongAt bytes at × (IsTagPlace (take at bytes) → ⊥)
+  pub at_other : (at : ℕ) → GoWrongAt bytes at → (IsTagPlace (take at bytes) → ⊥) → IsErrOrMemory r (errors.Range at)
+
+module _ {A : Type 0} (bytes : List ℕ) (fits : IsBytes bytes) (s : Result A MsgError) (answers : Answers bytes s) (r : Result A MsgError) (given : IsAnswer r s) where
+  short : IsErrOf r errors.Short → IsProperMessagePrefix bytes
   short h =
       let a = answers.from errors.Short (λ at k. absurd cc) (err-is r s errors.Short (λ k. absurd cc) given h) in
       too-few bytes a.0 fits a.1 (short-of (length bytes) a.0.left a.0.tag a.2)
 
-  pub cut : IsProperMessagePrefix bytes → IsErrOrMemory r errors.Short
+  cut : IsProperMessagePrefix bytes → IsErrOrMemory r errors.Short
   cut p = is-err r s errors.Short given (answers.to (record { left = 0; tag = get_or (tags_of p.whole) (length bytes) false }) (cut-short bytes p))
 
-  pub tag : (at : ℕ) → IsErrOf r (errors.Tag at) → GoWrongAt bytes at × IsTagPlace (take at bytes)
+  tag : (at : ℕ) → IsErrOf r (errors.Tag at) → GoWrongAt bytes at × IsTagPlace (take at bytes)
   tag at h =
       let a = answers.from (errors.Tag at) (λ k e. absurd cc) (err-is r s (errors.Tag at) (λ k. absurd cc) given h) in
       let t = tag-of (length bytes) a.0.left a.0.tag at a.2 in
       let w = wrong bytes a.0 fits a.1 t.0.some at t.0.place in
       (w.go, w.place t.1)
 
-  pub range : (at : ℕ) → IsErrOf r (errors.Range at) → GoWrongAt bytes at × (IsTagPlace (take at bytes) → ⊥)
+  range : (at : ℕ) → IsErrOf r (errors.Range at) → GoWrongAt bytes at × (IsTagPlace (take at bytes) → ⊥)
   range at h =
       let a = answers.from (errors.Range at) (λ k e. absurd cc) (err-is r s (errors.Range at) (λ k. absurd cc) given h) in
       let t = range-of (length bytes) a.0.left a.0.tag at a.2 in
       let w = wrong bytes a.0 fits a.1 t.0.some at t.0.place in
       (w.go, λ p. let yes = w.other p in let not_so = t.1 in absurd cc)
 
-  pub is_tag : (at : ℕ) → GoWrongAt bytes at → IsTagPlace (take at bytes) → IsErrOrMemory r (errors.Tag at)
+  is_tag : (at : ℕ) → GoWrongAt bytes at → IsTagPlace (take at bytes) → IsErrOrMemory r (errors.Tag at)
   is_tag at g p =
       let k = stops bytes at fits g in
       is-err r s (errors.Tag at) given (answers.to k.fault k.read ∙ ap (λ (z : MsgError). Err z) (at-tag (length bytes) k.fault.left k.fault.tag at k.some k.place (k.tag p)))
 
-  pub is_other : (at : ℕ) → GoWrongAt bytes at → (IsTagPlace (take at bytes) → ⊥) → IsErrOrMemory r (errors.Range at)
+  is_other : (at : ℕ) → GoWrongAt bytes at → (IsTagPlace (take at bytes) → ⊥) → IsErrOrMemory r (errors.Range at)
   is_other at g p =
       let k = stops bytes at fits g in
       is-err r s (errors.Range at) given (answers.to k.fault k.read ∙ ap (λ (z : MsgError). Err z) (at-range (length bytes) k.fault.left k.fault.tag at k.some k.place (λ h. p (k.other h))))
+
+  pub faults_told : TellsFaults bytes r
+  faults_told = record { short = short; cut = cut; tag = tag; at_tag = is_tag; range = range; at_other = is_other }
 
 -- ---- a message at the front
 

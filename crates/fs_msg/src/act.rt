@@ -67,3 +67,15 @@ impl Twin for Act {
 
     fn discard(self) {}
 }
+
+impl<N: Twin + Drop> Twin for ClientOut<N> {
+    fn copy(&self, alloc: Global) -> Result<ClientOut<N>, Memory> {
+        Ok(ClientOut {
+            note: self.note.copy(alloc)?,
+            send: self.send.copy(alloc)?,
+            admitted: self.admitted.copy(alloc)?,
+        })
+    }
+
+    fn discard(self) {}
+}

@@ -60,7 +60,7 @@ all_behind x (r ∷ rs) rows h =
     ap (with_rows rs) (behind x r rows q.0) ∙ all_behind x rs (with_row r rows) q.1
 
 -- rows in order make themselves
-alone : (rows : List Row) → is_ordered rows ≡ true → with_rows rows [] ≡ rows
+pub alone : (rows : List Row) → is_ordered rows ≡ true → with_rows rows [] ≡ rows
 alone [] h = refl
 alone (r ∷ rs) h =
     let q : (leads r rs ≡ true) × (is_ordered rs ≡ true) = both_hold (leads r rs) (is_ordered rs) h in
@@ -158,7 +158,7 @@ renewed_both number until off on = map_with_rows (renewed_row number until) (λ 
 
 -- ## The parts of both tables
 
-all_pass : (p : Row → Bool) (rows : List Row) → ((r : Row) → In r rows → p r ≡ true) → filter p rows ≡ rows
+pub all_pass : (p : Row → Bool) (rows : List Row) → ((r : Row) → In r rows → p r ≡ true) → filter p rows ≡ rows
 all_pass p [] h = refl
 all_pass p (r ∷ rs) h = ap (λ b. cond b (r ∷ filter p rs) (filter p rs)) (h r (inl refl)) ∙ ap (λ rows. r ∷ rows) (all_pass p rs (λ x i. h x (inr i)))
 

@@ -5,7 +5,7 @@ ghost use Rattle.fs_parcel.specs.Merged.{AreFalling, IsLeastTaken, is_first};
 ghost use Rattle.fs_parcel.specs.Rows.{both, rows_off_modes, rows_on_modes};
 
 use fs_field::Row;
-use fs_ident::{List, Memory};
+use fs_ident::{List, Memory, Twin};
 use std::alloc::Global;
 
 /// Rows by table.
@@ -34,6 +34,17 @@ impl Parts {
         }
         Ok(Parts { off, on })
     }
+}
+
+impl Twin for Parts {
+    fn copy(&self, alloc: Global) -> Result<Parts, Memory> {
+        Ok(Parts {
+            off: self.off.copy(alloc)?,
+            on: self.on.copy(alloc)?,
+        })
+    }
+
+    fn discard(self) {}
 }
 
 /// The rows of two tables, each in order of number, as one list in order.

@@ -1,5 +1,6 @@
 -- Records that come, and those that are taken away again.
 use Rattle.std.proofs.Common.{◌≡◌, ◌∙◌, ℕ, List, [], ◌∷◌, ◌++◌, Bool, true, false, refl, ap, sym, subst, cond, inl, inr}
+use Rattle.std.proofs.lemmas.Bool.{not-true}
 use Rattle.std.specs.Prelude.{Option, Some, None, not, is_some, IfSome}
 use Rattle.std.specs.List.{list_any}
 use Rattle.std.specs.Ordering.{nat_cmp, eq_by_cmp, is_eq}
@@ -31,12 +32,8 @@ still_absent m e (f ∷ fs) d h =
     let q : get (insert m e.0 e.1) f.0 ≡ get m f.0 = get-insert nat_list_cmp_total m e.0 e.1 f.0 ∙ ap (λ b. cond b (Some e.1) (get m f.0)) (tied f.0 e.0 ∙ p.0) in
     joined _ _ (ap (λ (o : Option Record). not (is_some o)) q ∙ first _ _ h) (still_absent m e fs p.1 (second _ _ h))
 
-is_false : (b : Bool) → not b ≡ true → b ≡ false
-is_false true h = absurd (cc)
-is_false false h = refl
-
 pub come_next : (m : RecordMap) (e : List ℕ × Record) (es : Keyed Record) → are_distinct (e ∷ es) ≡ true → are_absent m (e ∷ es) ≡ true → are_absent (insert m e.0 e.1) es ≡ true
-come_next m e es d h = still_absent m e es (is_false _ (first _ _ d)) (second _ _ h)
+come_next m e es d h = still_absent m e es (not-true _ (first _ _ d)) (second _ _ h)
 
 pub with_kept : (m : RecordMap) (es : Keyed Record) → AreRecords m → AreEachRecords es → AreRecords (with_records es m)
 with_kept m [] s own = s
@@ -86,7 +83,7 @@ come_at q (e ∷ es) m h =
       | false ↦ λ t. refl
     ] refl
 
-or_none : (o : Option Record) → or_else o None ≡ o
+pub or_none : (o : Option Record) → or_else o None ≡ o
 or_none None = refl
 or_none (Some r) = refl
 

@@ -10,7 +10,6 @@ use Rattle.std.specs.declared.cmp.Ordering.{Ordering}
 use Rattle.std.specs.declared.cmp.Ordering.TheVariants.{Less, Equal, Greater}
 use Rattle.std.proofs.lemmas.Bool.Decides.{nat_tests}
 use Rattle.fs_ident.specs.declared.actor.Session.{Session}
-use Rattle.fs_modes.specs.declared.modes.Modes.{Modes}
 use Rattle.fs_ident.specs.Ident.{same}
 use Rattle.fs_ident.specs.Ordered.{are_keys_in_order, put_before}
 use Rattle.fs_field.specs.After.{is_before, is_above, with_name, without_name}
@@ -85,7 +84,7 @@ names_less name (c ∷ cs) =
 pub child_put : (other name id : List ℕ) (cs : Children) → child_at (with_child cs name id) other ≡ cond (same other name) (Some id) (child_at cs other)
 child_put other name id cs = find-put (slice_cmp nat_cmp) nat_list_cmp_total other name id cs ∙ ap (λ b. cond b (Some id) (child_at cs other)) (tied other name)
 
-turned : {A : Type 0} (b : Bool) (x y : A) → cond (not b) x y ≡ cond b y x
+pub turned : {A : Type 0} (b : Bool) (x y : A) → cond (not b) x y ≡ cond b y x
 turned true x y = refl
 turned false x y = refl
 
@@ -96,9 +95,6 @@ child_less other name cs =
     ∙ ap (λ b. cond b None (child_at cs other)) ((eq_by_cmp_equiv nat_list_cmp_total).symm name other ∙ tied other name)
 
 -- ## Handles
-
-abbrev other_than : ℕ → ℕ × Modes → Bool
-other_than h x = not (x.0 == h)
 
 -- the session's own handles without one of them
 pub own_less : (s : Session) (h : ℕ) (hs : List Handle) → own_of s (without_handle hs s h) ≡ field.without_handle (own_of s hs) h

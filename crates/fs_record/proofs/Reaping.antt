@@ -2,7 +2,7 @@
 use Rattle.std.proofs.Common.{◌≡◌, ℕ, List, [], ◌∷◌, ◌+◌, ◌<◌, Bool, true, false, refl, ap, sym, ◌∙◌, cond, map, length, get_or, drop, inl, inr, arith, subst}
 use Rattle.std.specs.Prelude.{Option, Some, None, option_map, IfSome, not, ◌==◌, ◌&&◌, ◌||◌, nat_lt}
 use Rattle.std.specs.List.{filter, list_any, list_all}
-use Rattle.std.specs.Cmp.Lexicographic.{nat_list_eq_equiv, same_text}
+use Rattle.std.specs.Cmp.Lexicographic.{same_text}
 use Rattle.std.specs.FinMap.{get}
 use Rattle.std.proofs.lemmas.Bool.Decides.{nat_tests}
 use Rattle.std.proofs.lemmas.List.Elements.{filter_agree}
@@ -64,9 +64,6 @@ agree p q [] h = refl
 agree p q (y ∷ ys) h = ap (λ b. cond b (y ∷ filter p ys) (filter p ys)) (h y (inl refl)) ∙ ap (λ hs. cond (q y) (y ∷ hs) hs) (agree p q ys (λ z i. h z (inr i)))
 
 module _ (x : Session) where
-  abbrev pub is_others : Handle → Bool
-  is_others y = not (y.session.0 == x.0)
-
   -- without the session's handles of these numbers, one after another
   abbrev less_each : Handles → List Handle → List Handle
   less_each [] hs = hs
@@ -282,14 +279,6 @@ module _ (x : Session) where
       by true t h = h ∙ ap (λ b. cond b ((z.h, z.modes) ∷ own_of y zs) (own_of y zs)) (sym (third z.session.0 x.0 y.0 t e))
       by false t h = ap (λ os. cond (z.session.0 == y.0) ((z.h, z.modes) ∷ os) os) h
 
-  own_none : (hs : List Handle) → own_of x (without_session hs x) ≡ []
-  own_none [] = refl
-  own_none (z ∷ zs) = by (z.session.0 == x.0) refl (own_none zs)
-    where
-      by : (b : Bool) → (z.session.0 == x.0) ≡ b → own_of x (without_session zs x) ≡ [] → own_of x (cond (not b) (z ∷ without_session zs x) (without_session zs x)) ≡ []
-      by true t h = h
-      by false t h = ap (λ b. cond b ((z.h, z.modes) ∷ own_of x (without_session zs x)) (own_of x (without_session zs x))) t ∙ h
-
   own_reaped : (y : Session) (o : Option Record) → (y.0 == x.0) ≡ false → own_of y (handles_of (node_of (reaped_record o))) ≡ own_of y (handles_of (node_of o))
   own_reaped y None e = refl
   own_reaped y (Some r) e = own_left y r.node.handles e
@@ -352,17 +341,6 @@ module _ (x : Session) where
   reaped_own_value m f field h = reaped_at_each (λ o p. value_at x field (node_of o) ≡ value_at x field (node_of p)) m f (file_of field)
       (λ t. own_value_reaped f field (get m (file_of field)) t h)
       (λ t. refl)
-
-  none_reaped : (o : Option Record) → own_of x (handles_of (node_of (reaped_record o))) ≡ []
-  none_reaped None = refl
-  none_reaped (Some r) = own_none r.node.handles
-
-  itself_same : (f : List ℕ) → same f f ≡ true
-  itself_same f = nat_list_eq_equiv.refl f
-
-  -- of which it has none any more
-  pub reaped_own : (m : RecordMap) (f : List ℕ) → value_of (records_after_all m (reap_effects m f x)) x (Own f) ≡ value.Own []
-  reaped_own m f = ap (λ o. value.Own (own_of x (handles_of (node_of o)))) (reaped_get m f f ∙ ap (λ b. cond b (reaped_record (get m f)) (get m f)) (itself_same f)) ∙ ap value.Own (none_reaped (get m f))
 
 -- ## The loop over the handles
 

@@ -24,12 +24,6 @@ use Rattle.fs_record.proofs.NodeValues.{key_is}
 use Rattle.fs_record.proofs.Parting.{left_at}
 use Rattle.fs_record.proofs.Returning.{below_each, found_given, given_sorted, other, there}
 
--- one more is the first of what follows
-pub taken_on : (xs : Keyed Record) (file : List ℕ) (o : Option Record) (rest : Keyed Record) → (xs ++ with_file file o []) ++ rest ≡ xs ++ with_file file o rest
-taken_on [] file None rest = refl
-taken_on [] file (Some r) rest = refl
-taken_on (x ∷ xs) file o rest = ap (λ ys. x ∷ ys) (taken_on xs file o rest)
-
 -- ## What is left
 
 either : (a b : Bool) (o : Option Record) → cond b None (cond a None o) ≡ cond (a || b) None o

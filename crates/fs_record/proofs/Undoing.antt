@@ -180,17 +180,3 @@ plain_effects by (op.Set file h size stamp) reply.Set = refl
 plain_effects by o r = refl
 
 -- ## Names of the changes
-
-unlinked_by : (dir name : List ℕ) (o : Option Record) → record_change (SetChild dir name None) o ≡ with_part (part.Child name None) o
-unlinked_by dir name None = refl
-unlinked_by dir name (Some r) = refl
-
-pub unlinked : (m : RecordMap) (dir name : List ℕ) → records_after m (SetChild dir name None) ≡ with_at m dir (with_part (part.Child name None) (get m dir))
-unlinked m dir name = ap (with_at m dir) (unlinked_by dir name (get m dir))
-
-set_by : (file : List ℕ) (size stamp : ℕ) (o : Option Record) → record_change (SetInfo file size stamp) o ≡ with_part (part.Info size stamp) o
-set_by file size stamp None = refl
-set_by file size stamp (Some r) = refl
-
-pub info_set : (m : RecordMap) (file : List ℕ) (size stamp : ℕ) → records_after m (SetInfo file size stamp) ≡ with_at m file (with_part (part.Info size stamp) (get m file))
-info_set m file size stamp = ap (with_at m file) (set_by file size stamp (get m file))

@@ -1,10 +1,11 @@
 -- The value of a field after an effect.
 use Rattle.std.proofs.Common.{◌≡◌, ℕ, List, [], Bool, true, false, refl, ap, sym, ◌∙◌, subst, cond, arith}
-use Rattle.std.specs.Prelude.{Result, Ok, Err, OnOk, Option, Some, None, IfSome, option_map, not, ◌==◌, ◌&&◌, ◌||◌, is_some}
+use Rattle.std.specs.Prelude.{Result, Ok, Err, OnOk, Option, Some, None, IfSome, option_map, not, ◌==◌, ◌||◌, is_some}
 use Rattle.std.specs.Ordering.{nat_cmp, eq_by_cmp}
 use Rattle.std.specs.Cmp.Lexicographic.{slice_cmp, same_text}
 use Rattle.std.specs.FinMap.{get}
 use Rattle.std.proofs.lemmas.Bool.Decides.{nat_tests}
+use Rattle.std.proofs.lemmas.Bool.{and_left}
 use Rattle.fs_ident.specs.declared.actor.Session.{Session}
 use Rattle.fs_ident.specs.declared.kind.Kind.{Kind}
 use Rattle.fs_modes.specs.declared.modes.Modes.{Modes}
@@ -81,7 +82,7 @@ info_told f (AddHandle file session k modes) n h = refl
 info_told f (RemoveHandle file session k) n h = refl
 info_told f (SetInfo file size stamp) n h = then_is (same f file) (size, stamp) (n.size, n.stamp) h
 
-one_session : (a b : Session) → (a.0 == b.0) ≡ true → a ≡ b
+pub one_session : (a b : Session) → (a.0 == b.0) ≡ true → a ≡ b
 one_session a b e = let q : a.0 ≡ b.0 = grind (arith, nat_tests) in ap (λ (n : ℕ). let r : Session = record { 0 = n } in r) q
 
 abbrev opened_by : Session → ℕ → Modes → Handle
@@ -132,9 +133,6 @@ born s (Other f m) file kind dir name o h = absurd (cc o)
 
 -- ## Every other file
 
-unless_both : (b c : Bool) → b ≡ false → (b && c) ≡ false
-unless_both b c h = rw h
-
 elsewhere_node : (file : List ℕ) (field : Field) → same (file_of field) file ≡ false → touches_node file field ≡ false
 elsewhere_node file (Life f) h = h
 elsewhere_node file (Child f n) h = h
@@ -147,7 +145,7 @@ elsewhere_node file (Other f m) h = refl
 elsewhere : (e : Effect) (field : Field) → same (file_of field) (changed_file e) ≡ false → touches e field ≡ false
 elsewhere (NewNode file kind dir name) field h = elsewhere_node file field h
 elsewhere (RemoveNode file) field h = elsewhere_node file field h
-elsewhere (SetChild dir name to) (Child d n) h = unless_both (same d dir) (same n name) h
+elsewhere (SetChild dir name to) (Child d n) h = and_left (same d dir) (same n name) h
 elsewhere (SetChild dir name to) (Names d) h = h
 elsewhere (SetChild dir name to) (Life f) h = refl
 elsewhere (SetChild dir name to) (Info f) h = refl

@@ -1,10 +1,11 @@
 -- Which numbers the files of rows bear.
-use Rattle.std.proofs.Common.{◌≡◌, ◌==◌, not, ◌&&◌, ◌||◌, ℕ, Bool, true, false, List, [], ◌∷◌, ◌++◌, refl, ap, cond, sym, ◌∙◌, inl, inr}
+use Rattle.std.proofs.Common.{◌≡◌, ◌==◌, not, ◌||◌, ℕ, Bool, true, false, List, [], ◌∷◌, ◌++◌, refl, ap, cond, sym, ◌∙◌, inl, inr}
 use Rattle.std.specs.Prelude.{Option, Some, None}
 use Rattle.std.specs.Cmp.{nat_eq_equiv}
 use Rattle.std.specs.Cmp.Lexicographic.{same_text}
 use Rattle.std.specs.List.{list_any, cons_option}
 use Rattle.std.proofs.lemmas.List.Folds.{list_any-append}
+use Rattle.std.proofs.lemmas.Bool.{and_right}
 use Rattle.fs_ident.specs.declared.actor.Session.{Session}
 use Rattle.fs_ident.specs.Ident.{child, same}
 use Rattle.fs_ident.specs.In.{In}
@@ -18,6 +19,7 @@ use Rattle.fs_field.specs.Conflict.{meets, stands_against}
 use Rattle.fs_field.specs.Field.{file_of}
 use Rattle.fs_field.specs.Table.{no_before, with_row, child_number, borne_numbers}
 use Rattle.fs_field.proofs.Below.{told}
+use Rattle.fs_field.proofs.Named.{swapped as or_swapped}
 use Rattle.fs_rows.specs.Granted.{with_rows}
 
 -- the number is among these
@@ -30,12 +32,7 @@ number_below dir r = child_number dir (file_of r.field)
 swapped : (k : ℕ) (o p : Option ℕ) (ns : List ℕ) → bears k (cons_option o (cons_option p ns)) ≡ bears k (cons_option p (cons_option o ns))
 swapped k None p ns = refl
 swapped k (Some a) None ns = refl
-swapped k (Some a) (Some b) ns = either (a == k) (b == k) (bears k ns) where
-  either : (x y z : Bool) → (x || (y || z)) ≡ (y || (x || z))
-  either true true z = refl
-  either true false z = refl
-  either false true z = refl
-  either false false z = refl
+swapped k (Some a) (Some b) ns = or_swapped (a == k) (b == k) (bears k ns)
 
 under : (k : ℕ) (o : Option ℕ) (ms ns : List ℕ) → bears k ms ≡ bears k ns → bears k (cons_option o ms) ≡ bears k (cons_option o ns)
 under k None ms ns h = h
@@ -53,13 +50,6 @@ put_bears dir k first r (y ∷ ys) =
 -- with one row more, the number is that of its file or was borne
 pub bears-with_row : (dir : List ℕ) (k : ℕ) (r : Row) (rows : List Row) → list_any (λ b. b == k) (borne_numbers dir (with_row r rows)) ≡ list_any (λ b. b == k) (cons_option (child_number dir (file_of r.field)) (borne_numbers dir rows))
 bears-with_row dir k r rows = put_bears dir k (λ x. no_before r.no x.no) r rows
-
-pub borne_numbers-append : (dir : List ℕ) (a b : List Row) → borne_numbers dir (a ++ b) ≡ borne_numbers dir a ++ borne_numbers dir b
-borne_numbers-append dir [] b = refl
-borne_numbers-append dir (r ∷ rs) b = ap (cons_option (child_number dir (file_of r.field))) (borne_numbers-append dir rs b) ∙ pushed (child_number dir (file_of r.field)) (borne_numbers dir rs) (borne_numbers dir b) where
-  pushed : (o : Option ℕ) (ms ns : List ℕ) → cons_option o (ms ++ ns) ≡ cons_option o ms ++ ns
-  pushed None ms ns = refl
-  pushed (Some n) ms ns = refl
 
 either_end : (k : ℕ) (o : Option ℕ) (ms ns : List ℕ) → bears k (cons_option o ms ++ ns) ≡ bears k (ms ++ cons_option o ns)
 either_end k None ms ns = refl
@@ -88,7 +78,7 @@ borne_behind k None ns h = h
 borne_behind k (Some n) ns h = (neither (n == k) (bears k ns) h).1
 
 -- where the number is not borne no row is on a file with it
-not_on : (dir : List ℕ) (k : ℕ) (rows : List Row) → bears k (borne_numbers dir rows) ≡ false → (x : Row) → In x rows → file_of x.field ≡ child dir k → ⊥
+pub not_on : (dir : List ℕ) (k : ℕ) (rows : List Row) → bears k (borne_numbers dir rows) ≡ false → (x : Row) → In x rows → file_of x.field ≡ child dir k → ⊥
 not_on dir k [] h x i e = i
 not_on dir k (r ∷ rs) h x i e =
     elim i [
@@ -116,10 +106,6 @@ lives_apart c k (Own b) l h = refl
 lives_apart c k (SelfW b m) l h = refl
 lives_apart c k (Other b m) l h = refl
 
-never : (x y : Bool) → y ≡ false → (x && y) ≡ false
-never true y h = h
-never false y h = refl
-
 -- no row stands against a lease on the life of a file whose number no row bears
 pub gift_goes : (s : Session) (dir : List ℕ) (k : ℕ) (l : LeaseKind) (rows : List Row) → list_any (λ b. b == k) (borne_numbers dir rows) ≡ false → (x : Row) → In x rows → stands_against s (Life (child dir k)) l x ≡ false
-gift_goes s dir k l rows free x i = never (not (s.0 == x.session.0)) (meets (Life (child dir k)) l x.field x.kind) (lives_apart (child dir k) l x.field x.kind (not_on dir k rows free x i))
+gift_goes s dir k l rows free x i = and_right (not (s.0 == x.session.0)) (meets (Life (child dir k)) l x.field x.kind) (lives_apart (child dir k) l x.field x.kind (not_on dir k rows free x i))

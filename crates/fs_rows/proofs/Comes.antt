@@ -1,34 +1,20 @@
 -- Rows that come from another server: the last one stands beside all before it.
-use Rattle.std.proofs.Common.{◌≡◌, not, ◌&&◌, ◌||◌, Bool, true, false, List, [], ◌∷◌, ◌++◌, refl, ap, cond, ◌∙◌, inl, inr}
+use Rattle.std.proofs.Common.{◌≡◌, not, ◌&&◌, ◌||◌, Bool, true, false, List, [], ◌∷◌, ◌++◌, refl, ap, ◌∙◌, inl, inr}
+use Rattle.std.proofs.lemmas.Bool.{not-true}
 use Rattle.std.specs.Prelude.{Result, Ok, Err, OnOk, OnErr}
 use Rattle.std.specs.List.{list_any}
 use Rattle.fs_ident.specs.declared.memory.Memory.{Memory}
 use Rattle.fs_ident.specs.In.{In}
-use Rattle.fs_ident.specs.Ordered.{put_before}
 use Rattle.fs_ident.proofs.Booleans.{both, neither}
 use Rattle.fs_field.specs.Conflict.{plain_conflict}
 use Rattle.fs_field.specs.Field.{tells_no_mode}
 use Rattle.fs_field.specs.declared.row.Row.{Row}
 use Rattle.fs_field.specs.Table.{has_no, no_before, with_row}
+pub use Rattle.fs_field.proofs.Named.{any_put}
 use Rattle.fs_rows.specs.Granted.{with_rows}
 use Rattle.fs_rows.specs.Moving.{is_new, stands_beside, fits, are_new, are_off_modes}
 use Rattle.fs_rows.specs.Table.{IsTable}
 use Rattle.fs_rows.proofs.Kept.{put_table}
-
-swap : (x y z : Bool) → (x || (y || z)) ≡ (y || (x || z))
-swap true true z = refl
-swap true false z = refl
-swap false true z = refl
-swap false false z = refl
-
--- an item passes where the one that is put in does, or one that was there
-pub any_put : {X : Type 0} (test first : X → Bool) (x : X) (xs : List X) → list_any test (put_before first x xs) ≡ (test x || list_any test xs)
-any_put test first x [] = refl
-any_put test first x (y ∷ ys) =
-    elim (first y) as (λ b. list_any test (cond b (x ∷ y ∷ ys) (y ∷ put_before first x ys)) ≡ (test x || (test y || list_any test ys))) [
-      | true ↦ refl
-      | false ↦ ap (λ b. test y || b) (any_put test first x ys) ∙ swap (test y) (test x) (list_any test ys)
-    ]
 
 -- what is said of the item and the first list goes over to the second
 passed : (a r s : Bool) → (not (a || r) && not s) ≡ (not r && not (a || s))
@@ -88,10 +74,6 @@ none_does test (y ∷ ys) h x i =
     let q : (test y ≡ false) × (list_any test ys ≡ false) = neither (test y) (list_any test ys) h in
     elim i [ inl e ↦ ap test e ∙ q.0 | inr j ↦ none_does test ys q.1 x j ]
 
-fails : (b : Bool) → not b ≡ true → b ≡ false
-fails true h = absurd (cc)
-fails false h = refl
-
 -- rows that fit leave a table
 pub came_table : (rows more : List Row) → IsTable rows → are_off_modes more ≡ true → fits rows more ≡ true → IsTable (with_rows more rows)
 came_table rows [] t off fit = t
@@ -99,8 +81,8 @@ came_table rows (m ∷ ms) t off fit =
     let o : (tells_no_mode m.field ≡ true) × (are_off_modes ms ≡ true) = both (tells_no_mode m.field) (are_off_modes ms) off in
     let f : (stands_beside rows m ≡ true) × (fits (with_row m rows) ms ≡ true) = both (stands_beside rows m) (fits (with_row m rows) ms) fit in
     let b : (is_new rows m ≡ true) × (free rows m ≡ true) = both (is_new rows m) (free rows m) f.0 in
-    let new : list_any (has_no m.no) rows ≡ false = fails (list_any (has_no m.no) rows) b.0 in
-    let quiet : list_any (plain_conflict m) rows ≡ false = fails (list_any (plain_conflict m) rows) b.1 in
+    let new : list_any (has_no m.no) rows ≡ false = not-true (list_any (has_no m.no) rows) b.0 in
+    let quiet : list_any (plain_conflict m) rows ≡ false = not-true (list_any (plain_conflict m) rows) b.1 in
     came_table (with_row m rows) ms (put_table m rows new o.0 (none_does (plain_conflict m) rows quiet) t) o.1 f.1
 
 pub joined_table : (result : Result (Unit {0}) Memory) (old new more : List Row) → OnOk result (new ≡ with_rows more old) → OnErr result (new ≡ old) → IsTable old → are_off_modes more ≡ true → fits old more ≡ true → IsTable new

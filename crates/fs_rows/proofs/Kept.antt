@@ -1,5 +1,5 @@
 -- What keeps a table one.
-use Rattle.std.proofs.Common.{◌≡◌, ℕ, Bool, true, false, List, [], refl, ap, sym, ◌∙◌, map, inl, inr}
+use Rattle.std.proofs.Common.{◌≡◌, ℕ, Bool, true, false, List, refl, ap, sym, ◌∙◌, map, inl, inr}
 use Rattle.std.specs.Prelude.{Option, Some, None, Result, Ok, Err, IfOk, OnErr}
 use Rattle.std.specs.List.{filter, find, list_any}
 use Rattle.fs_ident.specs.declared.actor.LeaseNo.{LeaseNo}
@@ -21,9 +21,6 @@ use Rattle.fs_rows.specs.Answer.{answer_by, answer, given_row, rows_after, IsLea
 use Rattle.fs_field.proofs.Order.{ordered_filter, ordered_map, ordered_put, found_least}
 use Rattle.fs_ident.proofs.Passing.{found}
 use Rattle.fs_field.proofs.Leases.{SameLease, renewed_same, locked_same, unlocked_same, NoPlainConflict-filter, NoPlainConflict-map, NoPlainConflict-with_row}
-
-pub empty_table : IsTable []
-empty_table = record { ordered = refl; off_modes = λ row i. absurd i; free = λ a b i j. absurd i }
 
 pub filtered_table : (test : Row → Bool) (rows : List Row) → IsTable rows → IsTable (filter test rows)
 filtered_table test rows t = record {

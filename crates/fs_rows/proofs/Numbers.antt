@@ -25,9 +25,6 @@ given_map me given f same rows h row i e =
 pub given_renewed : (me given : ℕ) (n : LeaseNo) (u : ℕ) (rows : List Row) → AreGiven me given rows → AreGiven me given (map (renewed_row n u) rows)
 given_renewed me given n u rows h = given_map me given (renewed_row n u) (renewed_same n u) rows h
 
-pub given_more : (me given later : ℕ) (rows : List Row) → given ≤ later → AreGiven me given rows → AreGiven me later rows
-given_more me given later rows le h row i e = let bound : row.no.count ≤ given = h row i e in omega arith
-
 -- the next number is given
 pub given_next : (me given : ℕ) (row : Row) (rows : List Row) → row.no.count ≡ given + 1 → AreGiven me given rows → AreGiven me (given + 1) (with_row row rows)
 given_next me given row rows c h x i e =

@@ -1,9 +1,8 @@
 -- Laws of cutting bytes at a separator, and of the lines and words that are cut off.
-use Rattle.std.proofs.Common.{◌≡◌, ℕ, ◌<◌, ◌+◌, ◌==◌, Bool, true, false, List, [], ◌∷◌, ◌++◌, refl, ap, arith, sym, ◌∙◌, subst, cond, append_assoc, length, take, get_or}
+use Rattle.std.proofs.Common.{◌≡◌, ℕ, ◌==◌, Bool, true, false, List, [], ◌∷◌, ◌++◌, refl, ap, arith, sym, ◌∙◌, cond, append_assoc, length, take}
 use Rattle.std.specs.Prelude.{Option, Some, None}
 use Rattle.std.specs.List.{AllByRecursion}
 use Rattle.std.proofs.lemmas.Bool.Decides.{nat_tests}
-use Rattle.std.proofs.lemmas.List.{take_more}
 use Rattle.fs_schedule.specs.Words.{Word, Bare, Quoted}
 use Rattle.fs_schedule.specs.Words.{word_text, line_text}
 use Rattle.fs_schedule.specs.Separated.{Lacks, rest_from, FitsWord, AreWords, begins_quoted}
@@ -18,9 +17,6 @@ lacks_push b (x ∷ xs) y h e = (h.0, lacks_push b xs y h.1 e)
 pub lacks_append : (b : ℕ) (xs ys : List ℕ) → Lacks b xs → Lacks b ys → Lacks b (xs ++ ys)
 lacks_append b [] ys h k = k
 lacks_append b (x ∷ xs) ys h k = (h.0, lacks_append b xs ys h.1 k)
-
-pub lacks_more : (b : ℕ) (xs : List ℕ) (i : ℕ) → i < length xs → Lacks b (take i xs) → (get_or xs i 0 == b) ≡ false → Lacks b (take (i + 1) xs)
-lacks_more b xs i lt h e = subst (Lacks b) (sym (take_more xs i 0 lt)) (lacks_push b (take i xs) (get_or xs i 0) h e)
 
 differs : (x b : ℕ) → (x == b) ≡ false → b ≡ x → ⊥
 differs x b f e = grind (arith, nat_tests)
@@ -130,9 +126,6 @@ pub record IsSplit (words : List Word) (rest line : List ℕ) : Type 0 where
   pub forth : (v : Word) (vs : List Word) → rest ≡ line_text (v ∷ vs) → line ≡ line_text (words ++ v ∷ vs)
   pub back : (ws : List Word) → AreWords ws line → (vs : List Word) × AreWords vs rest
 
-pub split_first : (line : List ℕ) → IsSplit [] line line
-split_first line = record { fits = tt; forth = λ v vs e. e; back = λ ws h. (ws, h) }
-
 fits_push : (ws : List Word) (w : Word) → AllByRecursion FitsWord ws → FitsWord w → AllByRecursion FitsWord (ws ++ w ∷ [])
 fits_push [] w h k = (k, tt)
 fits_push (v ∷ vs) w h k = (h.0, fits_push vs w h.1 k)
@@ -155,13 +148,6 @@ split_more words w rest more line h k e = record {
   forth = λ v vs q. h.forth w (v ∷ vs) (e ∙ ap (λ (xs : List ℕ). word_text w ++ 32 ∷ xs) q) ∙ sym (ap line_text (append_assoc words (w ∷ []) (v ∷ vs)));
   back = λ ws a. let b = h.back ws a in behind_first w b.0 rest more k e b.1;
 }
-
-are_words : (ws : List Word) (w : Word) (line : List ℕ) → AllByRecursion FitsWord (ws ++ w ∷ []) → line ≡ line_text (ws ++ w ∷ []) → AreWords (ws ++ w ∷ []) line
-are_words [] w line h e = (h.0, tt, e)
-are_words (v ∷ vs) w line h e = (h.0, h.1, e)
-
-pub split_last : (words : List Word) (w : Word) (rest line : List ℕ) → IsSplit words rest line → FitsWord w → rest ≡ word_text w ++ rest_from 32 None → AreWords (words ++ w ∷ []) line
-split_last words w rest line h k e = are_words words w line (fits_push words w h.fits k) (h.forth w [] e)
 
 pub no_split : (words ws : List Word) (rest line : List ℕ) → IsSplit words rest line → ((w : Word) (more : Option (List ℕ)) → FitsWord w → rest ≡ word_text w ++ rest_from 32 more → ⊥) → AreWords ws line → ⊥
 no_split words ws rest line h none a = let b = h.back ws a in none_first b.0 b.1

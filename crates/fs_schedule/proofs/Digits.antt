@@ -4,7 +4,7 @@ use Rattle.std.specs.Prelude.{min}
 use Rattle.std.specs.Char.{digit_value}
 use Rattle.std.specs.Str.Parse.{AllDigits, digits_value, digits_value_after}
 use Rattle.std.proofs.lemmas.Bool.Decides.{nat_tests}
-use Rattle.std.proofs.lemmas.List.{take_more, take_all}
+use Rattle.std.proofs.lemmas.List.{take_more}
 use Rattle.std.proofs.lemmas.Str.Parse.{digit_at, digit_from_value}
 use Rattle.fs_schedule.specs.Spelling.{IsNumberOf}
 use Rattle.fs_schedule.specs.Reading.{capped, IsToldNumber}
@@ -25,9 +25,6 @@ all_push (d ∷ ds) c h k = (h.0, all_push ds c h.1 k)
 digit_is : (d : ℕ) → d < 10 → digit_value (48 + d) ≡ d
 digit_is d low = grind (arith, nat_tests)
 
-pub told_first : (most : ℕ) (digits : List ℕ) → IsTold most (take 0 digits) 0
-told_first most digits = record { all = tt; number = omega arith }
-
 pub told_more : (most : ℕ) (digits : List ℕ) (at n m b d : ℕ) → at < length digits → b ≡ get_or digits at 0 → (d < 10) × (b ≡ 48 + d) → m ≡ min (n * 10 + d) (most + 1) → IsTold most (take at digits) n → IsTold most (take (at + 1) digits) m
 told_more most digits at n m b d lt e digit q h =
     let is : digit_value b ≡ d = ap digit_value digit.1 ∙ digit_is d digit.0 in
@@ -35,12 +32,6 @@ told_more most digits at n m b d lt e digit q h =
     let P : List ℕ → Type 0 = λ ds. IsTold most ds m in
     let number : n ≡ min (digits_value 10 (take at digits)) (most + 1) = h.number in
     subst P (sym (take_more digits at 0 lt ∙ ap (λ (c : ℕ). take at digits ++ c ∷ []) (sym e))) (record { all = all_push (take at digits) b h.all (omega (arith, digit.0)); number = omega arith })
-
-pub told_whole : (most : ℕ) (digits : List ℕ) (at n : ℕ) → length digits ≤ at → 0 < length digits → get_or digits 0 0 ≢ 48 → IsTold most (take at digits) n → IsToldNumber most n digits
-told_whole most digits at n le some first h =
-    let P : List ℕ → Type 0 = λ ds. IsTold most ds n in
-    let k = subst P (take_all at digits le) h in
-    (digits_value 10 digits, record { valid = (some, k.all); first = first; value = refl }, k.number)
 
 bad_digit : (digits : List ℕ) (at : ℕ) → at < length digits → AllDigits 10 digits → (48 ≤ get_or digits at 0) × (get_or digits at 0 ≤ 57)
 bad_digit digits at lt h =

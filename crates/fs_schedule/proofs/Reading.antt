@@ -1,7 +1,6 @@
 -- Laws of reading the lines behind the first one after another.
-use Rattle.std.proofs.Common.{◌≡◌, ℕ, ◌≤◌, ◌+◌, nat_lt, true, false, List, [], ◌∷◌, ◌++◌, length, refl, ap, arith, sym, ◌∙◌, subst, append_assoc, inl, inr}
+use Rattle.std.proofs.Common.{◌≡◌, ℕ, ◌≤◌, ◌+◌, nat_lt, true, false, List, ◌∷◌, ◌++◌, length, refl, ap, arith, sym, ◌∙◌, subst}
 use Rattle.std.specs.Fmt.{decimal}
-use Rattle.std.proofs.lemmas.List.{length_push}
 use Rattle.std.proofs.lemmas.Bool.Decides.{nat_tests}
 use Rattle.fs_ident.specs.declared.limits.TheConstants.{SESSIONS}
 use Rattle.fs_ident.specs.declared.actor.Session.{Session}
@@ -18,39 +17,13 @@ use Rattle.fs_schedule.specs.declared.limits.TheConstants.{BYTES, EVENTS}
 use Rattle.fs_schedule.specs.Words.{Bare, line_text}
 use Rattle.fs_schedule.specs.Spelling.{IsHeadLine, has_many, IsLineOf, names_late}
 use Rattle.fs_schedule.specs.Reading.{capped, capped_head, capped_what, IsToldHeadLine, IsToldLine}
-use Rattle.fs_schedule.specs.Faults.{IsFormLine, NamesManyServers, HeadHas, IsEventLine, NamesLateSession, Passes, LineFault, PassesLimit, AreEventLines, FaultsAt, LineHas}
+use Rattle.fs_schedule.specs.Faults.{IsFormLine, NamesManyServers, HeadHas, IsEventLine, NamesLateSession, LineFault, PassesLimit, AreEventLines, FaultsAt, LineHas}
 
 -- the events of the lines before those that are left
 pub record IsReadSoFar (head : Head) (events : List Event) (left all : List (List ℕ)) : Type 0 where
   pub few : length events ≤ EVENTS
   pub forth : (es : List Event) → AreEventLines head (length events) es left → AreEventLines head 0 (events ++ es) all
   pub fault : (f : LineFault) (at : ℕ) → FaultsAt f head at (length events) left → FaultsAt f head at 0 all
-
-pub read_first : (head : Head) (all : List (List ℕ)) → IsReadSoFar head [] all all
-read_first head all = record { few = omega arith; forth = λ es h. h; fault = λ f at h. h }
-
-pub read_more : (head : Head) (events : List Event) (e : Event) (line : List ℕ) (left before all : List (List ℕ)) → before ≡ line ∷ left → IsReadSoFar head events before all → Passes head (length events) e line → IsReadSoFar head (events ++ e ∷ []) left all
-read_more head events e line left before all q h k =
-    let n : length (events ++ e ∷ []) ≡ length events + 1 = length_push events e in
-    let P : List (List ℕ) → Type 0 = λ ls. IsReadSoFar head events ls all in
-    let g = subst P q h in
-    record {
-      few = omega (arith, k.few);
-      forth = λ es a. let R : List Event → Type 0 = λ xs. AreEventLines head 0 xs all in subst R (sym (append_assoc events (e ∷ []) es)) (g.forth (e ∷ es) (k, rw n at a));
-      fault = λ f at a. g.fault f at (inr ((e, k), rw n at a));
-    }
-
-pub read_last : (head : Head) (events : List Event) (e : Event) (line : List ℕ) (before all : List (List ℕ)) → before ≡ line ∷ [] → IsReadSoFar head events before all → Passes head (length events) e line → AreEventLines head 0 (events ++ e ∷ []) all
-read_last head events e line before all q h k =
-    let P : List (List ℕ) → Type 0 = λ ls. IsReadSoFar head events ls all in
-    let g = subst P q h in
-    g.forth (e ∷ []) (k, refl)
-
-pub fault_here : (head : Head) (events : List Event) (f : LineFault) (at : ℕ) (line : List ℕ) (left before all : List (List ℕ)) → before ≡ line ∷ left → IsReadSoFar head events before all → (at ≡ length events + 2) × LineHas f head (length events) line → FaultsAt f head at 0 all
-fault_here head events f at line left before all q h k =
-    let P : List (List ℕ) → Type 0 = λ ls. IsReadSoFar head events ls all in
-    let g = subst P q h in
-    g.fault f at (inl k)
 
 -- ## One line behind the first
 

@@ -26,6 +26,7 @@ use Rattle.std.specs.Fmt.{decimal}
 use Rattle.fs_schedule.proofs.Asked.{bare_one}
 use Rattle.fs_schedule.proofs.Operations.{distinct}
 use Rattle.fs_schedule.proofs.Spelled.{told_head_line, told_head_by_words, told_line, told_by_words}
+use Rattle.fs_schedule.proofs.Single.{first_operand, behind}
 
 pub no_error : false ≡ true → ⊥
 no_error e = cc
@@ -155,9 +156,6 @@ told_move head k id j w v u h f g =
     let whole : Bare (codes "move") ∷ w ∷ v ∷ u ∷ [] ≡ Bare (codes "move") ∷ server_word k ∷ Bare (id_text id) ∷ server_word j ∷ [] = cc in
     (Move k id j, record { digits = []; session = tt; fits = (h.0, f.0, g.0); spelled = whole }, refl)
 
-first_operand : (w v s t : Word) (ws vs : List Word) → w ∷ s ∷ ws ≡ v ∷ t ∷ vs → s ≡ t
-first_operand w v s t ws vs e = cc
-
 -- the words of a session's event are told, where its session is
 join_told : (head : Head) (w : What) (s : Word) (ws : List Word) → IsToldWhat head w (Bare (codes "join") ∷ s ∷ ws) → (n : ℕ) × IsToldSession n s
 join_told head w s ws (Join t, spelled, same) = (capped SESSIONS t.0, (spelled.digits, first_operand _ _ _ _ _ _ spelled.spelled, (t.0, spelled.session, refl)))
@@ -186,9 +184,6 @@ no_peer head (Client s) w text q server session h = session s.0 h
 no_peer head (Server k) w text q server session h = server (decimal k) (bare_one _ _ (sym q ∙ h.1))
 
 -- ## Events and lines
-
-behind : (w v : Word) (ws vs : List Word) → w ∷ ws ≡ v ∷ vs → ws ≡ vs
-behind w v ws vs e = cc
 
 pub no_event : (head : Head) (e : Event) (first : Word) (ws : List Word) → ((w : What) → IsToldWhat head w ws → ⊥) → IsToldEvent head e (first ∷ ws) → ⊥
 no_event head e first ws none h =

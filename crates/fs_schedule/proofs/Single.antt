@@ -74,7 +74,7 @@ digits_one ds es ws vs e = cc
 others : (w v x y : Word) (ws vs : List Word) → w ∷ x ∷ ws ≡ v ∷ y ∷ vs → ws ≡ vs
 others w v x y ws vs e = cc
 
-behind : (w v : Word) (ws vs : List Word) → w ∷ ws ≡ v ∷ vs → ws ≡ vs
+pub behind : (w v : Word) (ws vs : List Word) → w ∷ ws ≡ v ∷ vs → ws ≡ vs
 behind w v ws vs e = cc
 
 session_one : (s t : Session) (ds es : List ℕ) → IsNumberOf ds s.0 → IsNumberOf es t.0 → ds ≡ es → s ≡ t
@@ -83,7 +83,7 @@ session_one s t ds es h k e =
     let q : s.0 ≡ t.0 = one_number ds s.0 t.0 h (subst P (sym e) k) in
     ap (λ (n : ℕ). let r : Session = record { 0 = n } in r) q
 
-first_operand : (w v x y : Word) (ws vs : List Word) → w ∷ x ∷ ws ≡ v ∷ y ∷ vs → x ≡ y
+pub first_operand : (w v x y : Word) (ws vs : List Word) → w ∷ x ∷ ws ≡ v ∷ y ∷ vs → x ≡ y
 first_operand w v x y ws vs e = cc
 
 -- a session is no server

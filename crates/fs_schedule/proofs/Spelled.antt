@@ -22,6 +22,7 @@ use Rattle.fs_modes.specs.Letters.{letters, dashed, mode_text}
 use Rattle.fs_model.specs.declared.op.Op.{Op}
 use Rattle.fs_model.specs.declared.op.Op.TheVariants as op
 use Rattle.fs_ident.specs.declared.actor.Peer.TheVariants.{Server, Client}
+use Rattle.fs_ident.proofs.Booleans.{both}
 use Rattle.fs_field.specs.declared.field.Field.{Field}
 use Rattle.fs_field.specs.declared.field.Field.TheVariants as field
 use Rattle.fs_schedule.specs.Words.{Word, Bare, Quoted, line_text}
@@ -49,10 +50,6 @@ fits_parts : (b c : Bool) → (not b && not c) ≡ true → (b ≡ false) × (c 
 fits_parts true c e = absurd (cc)
 fits_parts false true e = absurd (cc)
 fits_parts false false e = (refl, refl)
-
-both : (a b : Bool) → (a && b) ≡ true → (a ≡ true) × (b ≡ true)
-both true b e = (refl, e)
-both false b e = absurd (cc)
 
 plain_bytes : (xs : List ℕ) → list_all (λ x. not (x == 32) && not (x == 34)) xs ≡ true → Lacks 32 xs × Lacks 34 xs
 plain_bytes [] e = (tt, tt)

@@ -1,5 +1,6 @@
 -- What a client makes of an operation.
-use Rattle.std.proofs.Common.{◌≡◌, ℕ, ◌+◌, ◌≤◌, ◌==◌, not, ◌&&◌, Bool, true, false, List, [], ◌∷◌, cond, refl, sym, ap, subst}
+use Rattle.std.proofs.Common.{◌≡◌, ℕ, ◌+◌, ◌≤◌, ◌==◌, not, ◌&&◌, true, false, List, [], ◌∷◌, cond, refl, sym, ap, subst}
+use Rattle.std.proofs.lemmas.Bool.{not-true}
 use Rattle.std.specs.Prelude.{Option, Some, None, is_some}
 use Rattle.fs_ident.specs.declared.actor.Peer.TheVariants.{Client as OfSession}
 use Rattle.fs_ident.specs.declared.actor.Session.{Session}
@@ -40,6 +41,7 @@ use Rattle.fs_serial.proofs.ReplyAll.{replied_settled}
 use Rattle.fs_serial.proofs.ReplySeat.{seat_reply}
 use Rattle.fs_serial.proofs.Seats.{Seat, few}
 use Rattle.fs_serial.proofs.Sends.{AreOfGivenKinds, seat_asks}
+use Rattle.fs_serial.proofs.Admit.{not_some}
 
 -- what a caller asks for is plain
 pub called_plainly : (o : Op) → is_called o ≡ true → (tells_its_effects o ≡ true) × (may_ask o ≡ true)
@@ -48,14 +50,6 @@ called_plainly o h = both (tells_its_effects o) (may_ask o) h
 empty_is : {X : Type 0} (xs : List X) → is_empty xs ≡ true → xs ≡ []
 empty_is [] h = refl
 empty_is (x ∷ xs) h = absurd (cc)
-
-none_is : {X : Type 0} (o : Option X) → is_some o ≡ false → o ≡ None
-none_is None h = refl
-none_is (Some x) h = absurd (cc)
-
-not_is : (b : Bool) → not b ≡ true → b ≡ false
-not_is true h = absurd (cc)
-not_is false h = refl
 
 -- what an item more does to the servers' parts
 pub record ServersMoved (s t : Sight) : Type 0 where
@@ -103,7 +97,7 @@ module _ (skew greatest : ℕ) (s : Sight) (by : Session) (replied : List Item) 
   asked_for missing [] is = full missing
   asked_for missing (n ∷ ns) is = elim (is_some c.exchange) as (λ b. is_some c.exchange ≡ b → IsDone (cond b (stays (act.Busy busy.Exchange) c) (asks (hinted c (need_file n)) (n ∷ ns) c))) [
     | true ↦ λ e. stayed (act.Busy busy.Exchange)
-    | false ↦ λ e. asking (hinted c (need_file n)) (n ∷ ns) is (none_is c.exchange e)
+    | false ↦ λ e. asking (hinted c (need_file n)) (n ∷ ns) is (not_some c.exchange e)
   ] refl
 
   -- ## Nothing is missing
@@ -155,7 +149,7 @@ module _ (skew greatest : ℕ) (s : Sight) (by : Session) (replied : List Item) 
 
   answering : (r : Reply) → reply_in c.view c.last o ≡ Some r → IsDone (answers o r c)
   answering r e = elim (not (is_change r) && is_empty c.log) as (λ b. (not (is_change r) && is_empty c.log) ≡ b → IsDone (cond b (reads o r c) (replies o r c))) [
-    | true ↦ λ q. let p = both (not (is_change r)) (is_empty c.log) q in reading r e (not_is (is_change r) p.0) (empty_is c.log p.1)
+    | true ↦ λ q. let p = both (not (is_change r)) (is_empty c.log) q in reading r e (not-true (is_change r) p.0) (empty_is c.log p.1)
     | false ↦ λ q. replying r e
   ] refl
 

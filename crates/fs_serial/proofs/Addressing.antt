@@ -5,6 +5,7 @@ use Rattle.fs_ident.specs.In.{In}
 use Rattle.fs_ident.specs.declared.actor.Peer.{Peer}
 use Rattle.fs_ident.specs.declared.actor.Peer.TheVariants.{Client as OfSession}
 use Rattle.fs_ident.specs.declared.actor.Session.{Session}
+use Rattle.fs_record.proofs.ValueChanges.{one_session}
 use Rattle.fs_msg.specs.declared.answer.Answer.{Answer}
 use Rattle.fs_msg.specs.declared.answer.Answer.TheVariants.{Recall}
 use Rattle.fs_msg.specs.declared.client_msg.ClientMsg.{ClientMsg}
@@ -16,7 +17,6 @@ use Rattle.fs_serial.specs.Cluster.{Lines, with_answer, with_sent}
 use Rattle.fs_serial.specs.Exchange.{OneExchange, asked_server, due, is_recall, server_of_question}
 use Rattle.fs_serial.specs.Seen.{IsAddressed}
 use Rattle.fs_serial.proofs.Facts.{In-append, In-mapped}
-use Rattle.fs_serial.proofs.Rowed.{session_is}
 use Rattle.fs_serial.proofs.Sending.{IsRecallTo}
 use Rattle.fs_serial.proofs.Traffic.{messages}
 
@@ -50,7 +50,7 @@ one_more k a l due h = record {
 
 answer_addressed : (k : ℕ) (to : Session) (a : Answer) (lines : Session → Lines) → (is_recall a ≡ false → asked_server (lines to).client.exchange ≡ Some k) → ((x : Session) → IsAddressed (lines x)) → (x : Session) → IsAddressed (with_answer k to a lines x)
 answer_addressed k to a lines due h x = elim (to.0 == x.0) as (λ b. (to.0 == x.0) ≡ b → IsAddressed (cond b (record (lines x) { down = (lines x).down ++ (k, a) ∷ [] }) (lines x))) [
-  | true ↦ λ t. one_more k a (lines x) (subst (λ y. is_recall a ≡ false → asked_server (lines y).client.exchange ≡ Some k) (session_is to x t) due) (h x)
+  | true ↦ λ t. one_more k a (lines x) (subst (λ y. is_recall a ≡ false → asked_server (lines y).client.exchange ≡ Some k) (one_session to x t) due) (h x)
   | false ↦ λ t. h x
 ] refl
 

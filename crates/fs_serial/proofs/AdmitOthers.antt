@@ -10,6 +10,7 @@ use Rattle.fs_field.specs.declared.lease_kind.LeaseKind.TheVariants.{Shared, Exc
 use Rattle.fs_field.specs.declared.row.Row.{Row}
 use Rattle.fs_field.specs.declared.used.Use.{Use}
 use Rattle.fs_field.specs.Conflict.{meets, plain_conflict}
+use Rattle.fs_moderows.proofs.Witnesses.{In_none}
 use Rattle.fs_msg.specs.declared.entry.Entry.{Entry}
 use Rattle.fs_msg.specs.declared.item.Item.{Item}
 use Rattle.fs_record.specs.Records.{nodes_of}
@@ -27,7 +28,7 @@ use Rattle.fs_serial.specs.Rows.{NoRowsConflict, PromisesKept}
 use Rattle.fs_serial.specs.Settled.{Lease}
 use Rattle.fs_serial.specs.Sight.{Counts, sight_of}
 use Rattle.fs_serial.proofs.Answered.{answered, covered_there}
-use Rattle.fs_serial.proofs.Facts.{none-In, items-other}
+use Rattle.fs_serial.proofs.Facts.{items-other}
 use Rattle.fs_serial.proofs.Promises.{other_stays}
 
 exclusive : (k : LeaseKind) → is_enough k Exclusive ≡ true → k ≡ Exclusive
@@ -62,7 +63,7 @@ module _ (o : Counts) (skew greatest : ℕ) (s : Server) (journal : List Item) (
   same_plain : (r : Row) → In r s.rows → r.session ≡ y → is_other r.field ≡ false → value_of (with_entry by e s).records y r.field ≡ value_of s.records y r.field
   same_plain r i own plainly =
       others_values s.records by y e.op e.reply r.field r.kind sf.sound.records plain.plain (answered s.records by leases e plain right) another plainly
-      (none-In (item_meets r.field r.kind) (walk (known_in (nodes_of s.records) by) always e.op).items (λ n j.
+      (In_none (item_meets r.field r.kind) (walk (known_in (nodes_of s.records) by) always e.op).items (λ n j.
       no_item_meets s.rows by r e.uses n sh.apart i (ap (λ (x : Session). by.0 == x.0) own ∙ another) stand (covered_there s.records by leases e plain right n j)))
 
   -- nothing that a row of the other session is on changes for it: what its others have of a mode is what it was promised

@@ -25,6 +25,7 @@ use Rattle.fs_field.specs.declared.value.Value.TheVariants as value
 use Rattle.fs_field.specs.After.{Handles, is_above, with_handle, without_handle}
 use Rattle.fs_field.specs.Conflict.{is_self, is_fixed}
 use Rattle.fs_field.specs.Field.{mode_rank, same_mode}
+use Rattle.fs_field.proofs.Named.{any_put}
 use Rattle.fs_model.specs.Children.{child_at}
 use Rattle.fs_model.specs.Step.{step, is_child, create, create_in, create_as, reply_alone, with_new_node}
 use Rattle.fs_model.specs.declared.node.Node.{Node}
@@ -35,14 +36,14 @@ use Rattle.fs_model.specs.declared.reply.Reply.TheVariants as reply
 use Rattle.fs_moderows.specs.Answer.{has_mode}
 use Rattle.fs_moderows.specs.Kept.{ChangesByRows}
 use Rattle.fs_moderows.proofs.Changes.{changes_kept}
-use Rattle.fs_moderows.proofs.Witnesses.{any_In, In_any, In_filtered, fixed_row}
+use Rattle.fs_moderows.proofs.Witnesses.{any_In, In_any, In_filtered, fixed_row, In_none}
 use Rattle.fs_msg.specs.declared.entry.Entry.{Entry}
 use Rattle.fs_record.specs.Applied.{records_after_all}
 use Rattle.fs_record.specs.Effects.{effects_of}
 use Rattle.fs_record.specs.Records.{RecordMap, AreRecords, node_of, nodes_of}
 use Rattle.fs_record.specs.ValueOf.{value_of, own_of, handles_of, selves_in}
 use Rattle.fs_record.proofs.NodeMaps.{node_there}
-use Rattle.fs_rows.proofs.Comes.{any_put}
+use Rattle.fs_record.proofs.ValueChanges.{one_session}
 use Rattle.fs_server.specs.Ships.{with_entry}
 use Rattle.fs_server.specs.declared.state.Server.{Server}
 use Rattle.fs_view.specs.Laws.{item_meets}
@@ -56,9 +57,8 @@ use Rattle.fs_serial.specs.Pending.{AllStand, IsAnswer, IsEntry, Stands, HasUse,
 use Rattle.fs_serial.specs.Rows.{PromisesKept}
 use Rattle.fs_serial.specs.Settled.{Lease, Settled}
 use Rattle.fs_serial.proofs.Answered.{answered}
-use Rattle.fs_serial.proofs.Facts.{none-In, same_is, same_self}
+use Rattle.fs_serial.proofs.Facts.{same_is, same_self}
 use Rattle.fs_serial.proofs.Modes.{has_all, mode_by_own}
-use Rattle.fs_serial.proofs.Rowed.{session_is}
 
 -- ## Modes that are turned on and off
 
@@ -300,13 +300,13 @@ module _ (s : Server) (by : Session) (leases : List Lease) (e : Entry) (stand : 
       mode_by_own after f mode x
       ∙ ap (λ v. list_any (has_it mode) (own_in s.records by v))
       (others_values s.records by x e.op e.reply (Own f) Shared records plain.plain (answered s.records by leases e plain right) other refl
-      (none-In (item_meets (Own f) Shared) (walk (known_in (nodes_of s.records) by) always e.op).items (λ n j. own_unmet f n)))
+      (In_none (item_meets (Own f) Shared) (walk (known_in (nodes_of s.records) by) always e.op).items (λ n j. own_unmet f n)))
       ∙ sym (mode_by_own s.records f mode x)
 
   changes : ChangesByRows s.rows (selves_in s.records) (selves_in after)
   changes f mode x fixed = elim (by.0 == x.0) as (λ b. (by.0 == x.0) ≡ b → has_mode (selves_in after f) x mode ≡ has_mode (selves_in s.records f) x mode) [
     | true ↦ λ t.
-        let is : by ≡ x = session_is by x t in
+        let is : by ≡ x = one_session by x t in
         subst (λ y. has_mode (selves_in after f) y mode ≡ has_mode (selves_in s.records f) y mode) is (own_fixed f mode (subst (λ y. is_fixed s.rows f mode y ≡ true) (sym is) fixed))
     | false ↦ λ t. others_fixed f mode x t
   ] refl

@@ -1,54 +1,27 @@
 -- An entry whose rows stand, behind such entries, is admitted when it comes.
-use Rattle.std.proofs.Common.{◌≡◌, Bool, true, false, List, [], ◌∷◌, ◌++◌, cond, refl, inl}
-use Rattle.std.specs.Prelude.{ℕ, Option, Some, None, map}
+use Rattle.std.proofs.Common.{◌≡◌, true, List, [], ◌∷◌, ◌++◌, refl, inl, sym, subst}
+use Rattle.std.specs.Prelude.{ℕ}
 use Rattle.std.specs.List.{list_all}
 use Rattle.fs_ident.specs.In.{In}
 use Rattle.fs_ident.specs.declared.actor.Session.{Session}
 use Rattle.fs_ident.proofs.Booleans.{both}
-use Rattle.fs_field.specs.declared.used.Use.{Use}
 use Rattle.fs_msg.specs.declared.client_msg.ClientMsg.TheVariants.{Ship}
-use Rattle.fs_msg.specs.declared.end.End.TheVariants as end
 use Rattle.fs_msg.specs.declared.entry.Entry.{Entry}
 use Rattle.fs_msg.specs.Home.{home_of}
 use Rattle.fs_msg.specs.declared.item.Item.{Item}
 use Rattle.fs_record.specs.Effects.{tells_its_effects}
-use Rattle.fs_server.specs.Server.{begun, is_mine, moved}
-use Rattle.fs_server.specs.Ships.{Shipping, first_gone, item_of, ship_from, with_entry}
+use Rattle.fs_server.specs.Server.{begun, is_mine}
+use Rattle.fs_server.specs.Ships.{item_of, ship_from, with_entry}
 use Rattle.fs_server.specs.Step.{step}
 use Rattle.fs_server.specs.declared.event.ServerEvent.TheVariants.{FromClient}
 use Rattle.fs_server.specs.declared.state.Server.{Server}
+use Rattle.fs_server.proofs.OneByOne.{each_entry, entry_taken}
 use Rattle.fs_serial.specs.Steps.{AllStand}
 use Rattle.fs_serial.proofs.Facts.{In-behind, In-front}
 
 -- what was admitted stays so
 still_admitted : (by : Session) (es : List Entry) (s : Server) (admitted : List Item) (i : Item) → In i admitted → In i (ship_from by es s admitted).admitted
-still_admitted by [] s admitted i h = h
-still_admitted by (e ∷ es) s admitted i h =
-    let here : Option Use → Shipping =
-    λ gone. elim gone as (λ _. Shipping) [
-      | None ↦ ship_from by es (with_entry by e s) (admitted ++ item_of by e ∷ [])
-      | Some u ↦ record { server = s; admitted = admitted; end = end.Ended e.n u.no u.until s.last; gaps = map (λ (x : Entry). x.n) es }
-    ] in
-    let away : Shipping = record { server = s; admitted = admitted; end = moved s (home_of e.op); gaps = [] } in
-    elim (is_mine s (home_of e.op)) as (λ b. In i (cond b (here (first_gone s.rows by e.uses)) away).admitted) [
-      | true ↦
-          elim (first_gone s.rows by e.uses) as (λ (gone : Option Use). In i (here gone).admitted) [
-            | None ↦ still_admitted by es (with_entry by e s) (admitted ++ item_of by e ∷ []) i (In-front i admitted (item_of by e ∷ []) h)
-            | Some u ↦ h
-          ]
-      | false ↦ h
-    ]
-
-taken_where_found : (by : Session) (e : Entry) (es : List Entry) (s : Server) (admitted : List Item) (i : Item) (mine : Bool) (gone : Option Use) → mine ≡ true → gone ≡ None → In i (ship_from by es (with_entry by e s) (admitted ++ item_of by e ∷ [])).admitted
-    → In i (cond mine
-    (elim gone as (λ _. Shipping) [
-      | None ↦ ship_from by es (with_entry by e s) (admitted ++ item_of by e ∷ [])
-      | Some u ↦ record { server = s; admitted = admitted; end = end.Ended e.n u.no u.until s.last; gaps = map (λ (x : Entry). x.n) es }
-    ])
-    (record { server = s; admitted = admitted; end = moved s (home_of e.op); gaps = [] })).admitted
-taken_where_found by e es s admitted i true None m h x = x
-taken_where_found by e es s admitted i true (Some u) m h x = absurd (cc h)
-taken_where_found by e es s admitted i false gone m h x = absurd (cc m)
+still_admitted by es s admitted i = each_entry by (λ es s admitted x. In i admitted → In i x.admitted) (λ s admitted h. h) (λ e es s admitted x mine none p h. p (In-front i admitted (item_of by e ∷ []) h)) (λ e es s admitted at gaps why h. h) es s admitted
 
 -- each of them is handed in where it belongs
 abbrev AreMine : Server → List Entry → Type 0
@@ -56,12 +29,11 @@ AreMine s entries = list_all (λ (x : Entry). is_mine s (home_of x.op)) entries 
 
 in_its_turn : (by : Session) (front : List Entry) (e : Entry) (rest : List Entry) (s : Server) (admitted : List Item) → AreMine s (front ++ e ∷ []) → AllStand s.rows by (front ++ e ∷ []) → In (item_of by e) (ship_from by (front ++ e ∷ rest) s admitted).admitted
 in_its_turn by [] e rest s admitted mine h =
-    taken_where_found by e rest s admitted (item_of by e) (is_mine s (home_of e.op)) (first_gone s.rows by e.uses) (both (is_mine s (home_of e.op)) true mine).0 h.0
+    subst (λ x. In (item_of by e) x.admitted) (sym (entry_taken by e rest s admitted (both (is_mine s (home_of e.op)) true mine).0 h.0))
     (still_admitted by rest (with_entry by e s) (admitted ++ item_of by e ∷ []) (item_of by e) (In-behind (item_of by e) admitted (item_of by e ∷ []) (inl refl)))
 in_its_turn by (f ∷ fs) e rest s admitted mine h =
     let m = both (is_mine s (home_of f.op)) (list_all (λ (x : Entry). is_mine s (home_of x.op)) (fs ++ e ∷ [])) mine in
-    taken_where_found by f (fs ++ e ∷ rest) s admitted (item_of by e) (is_mine s (home_of f.op)) (first_gone s.rows by f.uses) m.0 h.0
-    (in_its_turn by fs e rest (with_entry by f s) (admitted ++ item_of by f ∷ []) m.1 h.1)
+    subst (λ x. In (item_of by e) x.admitted) (sym (entry_taken by f (fs ++ e ∷ rest) s admitted m.0 h.0)) (in_its_turn by fs e rest (with_entry by f s) (admitted ++ item_of by f ∷ []) m.1 h.1)
 
 pub admitted_at_once : (s : Server) (now : ℕ) (by : Session) (front rest : List Entry) (e : Entry) → list_all (λ (x : Entry). tells_its_effects x.op) (front ++ e ∷ rest) ≡ true → AreMine s (front ++ e ∷ []) → AllStand (begun now s).rows by (front ++ e ∷ [])
     → In (item_of by e) (step s now (FromClient by (Ship (front ++ e ∷ rest)))).out.admitted

@@ -2,12 +2,12 @@
 use Rattle.std.proofs.Common.{◌≡◌, ℕ, ◌==◌, Bool, true, false, List, refl, ap, subst, cond}
 use mathlib.Core.Path.{fun_ext}
 use Rattle.fs_ident.specs.declared.actor.Session.{Session}
+use Rattle.fs_record.proofs.ValueChanges.{one_session}
 use Rattle.fs_msg.specs.declared.item.Item.{Item}
 use Rattle.fs_serial.specs.Parts.{with_client}
 use Rattle.fs_serial.specs.Settled.{Settled}
 use Rattle.fs_serial.specs.Sight.{Sight}
 use Rattle.fs_serial.specs.World.{Ends, GoesOn}
-use Rattle.fs_serial.proofs.Rowed.{session_is}
 use Rattle.fs_serial.proofs.Together.{its_client}
 
 twice : {X : Type 0} (b : Bool) (x y z : X) → cond b x (cond b y z) ≡ cond b x z
@@ -18,7 +18,7 @@ pub client_again : (by : Session) (c d : Settled) (clients : Session → Settled
 client_again by c d clients = fun_ext (λ x. twice (by.0 == x.0) d c (clients x))
 
 its_own : {X : Type 0} (by x : Session) (clients : Session → X) (b : Bool) → (by.0 == x.0) ≡ b → cond b (clients by) (clients x) ≡ clients x
-its_own by x clients true e = ap clients (session_is by x e)
+its_own by x clients true e = ap clients (one_session by x e)
 its_own by x clients false e = refl
 
 pub client_same : (by : Session) (clients : Session → Settled) → with_client by (clients by) clients ≡ clients

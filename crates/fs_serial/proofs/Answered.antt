@@ -23,6 +23,7 @@ use Rattle.fs_record.specs.Effects.{effects_of, tells_its_effects}
 use Rattle.fs_record.specs.Records.{RecordMap, nodes_of}
 use Rattle.fs_record.specs.ValueOf.{value_of}
 use Rattle.fs_record.proofs.Stepping.{effects_lead}
+use Rattle.fs_record.proofs.AllApplied.{after_all_kept}
 use Rattle.fs_record.specs.Applied.{records_after_all}
 use Rattle.fs_view.specs.Laws.{IsNewWhereMade}
 use Rattle.fs_view.specs.Script.{unless, no_dir, taken_name, made_reply, ask_place, new_file}
@@ -31,7 +32,7 @@ use Rattle.fs_view.proofs.Replies.{reply_along, replies}
 use Rattle.fs_serial.specs.Pending.{IsAnswer, IsCovered, IsEntry, NamesItsFile}
 use Rattle.fs_serial.specs.Serial.{AreSound}
 use Rattle.fs_serial.specs.Settled.{Lease}
-use Rattle.fs_serial.proofs.Facts.{known_nodes, nodes_all, records_all}
+use Rattle.fs_serial.proofs.Facts.{known_nodes, nodes_all}
 
 -- a create that comes to Made in a space names a file that does not live there
 new_absent : (m : NodeMap) (id : List ℕ) (o : Option Node) → get m id ≡ o → made_reply (Some (kind_of o)) ≡ reply.Made → get m id ≡ None
@@ -76,5 +77,5 @@ module _ (m : RecordMap) (by : Session) (leases : List Lease) (e : Entry) (plain
   pub sound_there : AreSound m → AreSound (records_after_all m (effects_of by e.op e.reply))
   sound_there s = record {
     space = subst IsSound (sym leads_there) (step_sound (nodes_of m) by e.op s.space plain.access);
-    records = records_all m (effects_of by e.op e.reply) s.records;
+    records = after_all_kept m (effects_of by e.op e.reply) s.records;
   }

@@ -1,14 +1,13 @@
 -- What a session is given fits its question.
-use Rattle.std.proofs.Common.{◌≡◌, ℕ, ◌+◌, ◌≤◌, ◌<◌, ◌==◌, not, ◌&&◌, Bool, true, false, List, [], ◌∷◌, ◌++◌, append_assoc, append-nil, cond, refl, sym, ap, ◌∙◌, inl, inr, arith}
+use Rattle.std.proofs.Common.{◌≡◌, ℕ, ◌+◌, ◌≤◌, ◌<◌, ◌==◌, not, ◌&&◌, Bool, true, false, List, [], ◌∷◌, ◌++◌, append_assoc, append-nil, refl, sym, ap, ◌∙◌, inl, inr, arith}
 use Rattle.std.specs.Prelude.{Option, None}
 use Rattle.std.specs.FinMap.{get}
 use Rattle.std.proofs.lemmas.Bool.Decides.{nat_tests}
+use Rattle.std.proofs.lemmas.Bool.{eqb-true}
 use Rattle.fs_ident.specs.In.{In}
 use Rattle.fs_ident.specs.declared.actor.LeaseNo.{LeaseNo}
 use Rattle.fs_ident.specs.declared.actor.Session.{Session}
 use Rattle.fs_ident.proofs.Booleans.{joined}
-use Rattle.fs_field.specs.declared.asked.Asked.{Asked}
-use Rattle.fs_field.specs.declared.asked.Asked.TheVariants.{Granted, Wait, Locked}
 use Rattle.fs_field.specs.declared.field.Field.{Field}
 use Rattle.fs_field.specs.declared.field.Field.TheVariants.{Life, Child, Names, Info, Own, SelfW, Other}
 use Rattle.fs_field.specs.declared.lease_kind.LeaseKind.{LeaseKind}
@@ -16,19 +15,20 @@ use Rattle.fs_field.specs.Field.{file_of}
 use Rattle.fs_field.specs.Table.{same_kind, same_no}
 use Rattle.fs_field.specs.Value.{is_value_of}
 use Rattle.fs_model.specs.declared.node.Node.{Node}
+use Rattle.fs_moderows.proofs.Witnesses.{In_none}
 use Rattle.fs_msg.specs.declared.answer.Grant.{Grant}
 use Rattle.fs_msg.specs.declared.end.End.{End}
 use Rattle.fs_msg.specs.declared.end.End.TheVariants as end
 use Rattle.fs_record.specs.Records.{RecordMap, node_of}
 use Rattle.fs_record.specs.ValueOf.{value_at, value_of}
-use Rattle.fs_server.specs.Asks.{Asking, answer_to, ask_from, grant_of, kind_for, with_lease}
-use Rattle.fs_server.specs.Server.{is_mine, moved}
+use Rattle.fs_server.specs.Asks.{Asking, ask_from, grant_of, kind_for, with_lease}
 use Rattle.fs_server.specs.declared.state.Server.{Server}
+use Rattle.fs_server.proofs.OneByOne.{AskEnds, Items, each_item, elsewhere, kept_off, waits}
 use Rattle.fs_client.specs.Answers.{grants_fit, is_new, is_of_item, rest_fits}
 use Rattle.fs_view.specs.declared.kept.Kept.{Kept}
 use Rattle.fs_view.specs.Kept.{has_number, number_of}
 use Rattle.fs_serial.proofs.Elsewhere.{not_all}
-use Rattle.fs_serial.proofs.Facts.{In-append, none-In}
+use Rattle.fs_serial.proofs.Facts.{In-append}
 use Rattle.fs_serial.proofs.OneLease.{same_field_self, same_kind_self}
 
 -- the value of a field is one of its kind
@@ -54,20 +54,17 @@ GrantsUpTo n grants = (g : Grant) → In g grants → g.no.count ≤ n
 unequal : (a b : ℕ) → a < b → (a == b) ≡ false
 unequal a b h = grind (arith, nat_tests)
 
-equal : (a b : ℕ) → (a == b) ≡ true → a ≡ b
-equal a b h = grind (arith, nat_tests)
-
 other_number : (a b : LeaseNo) → (a.server ≡ b.server → a.count < b.count) → same_no a b ≡ false
 other_number a b h = by (a.server == b.server) refl
   where
     by : (x : Bool) → (a.server == b.server) ≡ x → (x && (a.count == b.count)) ≡ false
-    by true e = unequal a.count b.count (h (equal a.server b.server e))
+    by true e = unequal a.count b.count (h (eqb-true a.server b.server e))
     by false e = refl
 
 pub new_number : (kept : List Kept) (before : List Grant) (me n : ℕ) (g : Grant) → g.no.server ≡ me → KeptUpTo me n kept → GrantsUpTo n before → n < g.no.count → is_new kept before g ≡ true
 new_number kept before me n g at k b h =
-    joined _ _ (ap not (none-In (has_number g.no) kept (λ x i. other_number (number_of x.standing) g.no (λ e. let q = k x i (e ∙ at) in omega arith))))
-    (ap not (none-In (λ (x : Grant). same_no x.no g.no) before (λ x i. let q = b x i in other_number x.no g.no (λ e. omega arith))))
+    joined _ _ (ap not (In_none (has_number g.no) kept (λ x i. other_number (number_of x.standing) g.no (λ e. let q = k x i (e ∙ at) in omega arith))))
+    (ap not (In_none (λ (x : Grant). same_no x.no g.no) before (λ x i. let q = b x i in other_number x.no g.no (λ e. omega arith))))
 
 module _ (by : Session) (kept : List Kept) where
   -- the grants behind those before fit the items
@@ -112,25 +109,13 @@ module _ (by : Session) (kept : List Kept) where
         none = r.none;
       }
 
-  pub given_for : (items : List (Field × LeaseKind)) (s : Server) (before : List Grant) → ((x : Field × LeaseKind) → In x items → kind_for x.0 x.1 ≡ x.1) → KeptUpTo s.me s.given kept → GrantsUpTo s.given before → IsGivenFor items before s.me s.given (ask_from by items s before)
-  given_for [] s before kinds k b = record { new = []; split = sym (append-nil before); some = refl; all = λ e fresh rest. ap (λ gs. rest_fits fresh kept gs rest) (sym (append-nil before)); numbers = b; rises = omega arith; here = refl; none = refl }
-  given_for (x ∷ xs) s before kinds k b =
-      let field = x.0 in
-      let kind = kind_for x.0 x.1 in
-      let asked : Asked → Asking =
-      λ q. elim q as (λ _. Asking) [
-        | Granted promise ↦ ask_from by xs (with_lease by field kind promise s) (before ++ grant_of by field kind s ∷ [])
-        | Wait blocker ↦ record { server = s; grants = before; fresh = None; end = end.Wait blocker }
-        | Locked txn ↦ record { server = s; grants = before; fresh = None; end = end.Locked txn }
-      ] in
-      let away : Asking = record { server = s; grants = before; fresh = None; end = moved s (file_of field) } in
-      elim (is_mine s (file_of field)) as (λ c. IsGivenFor (x ∷ xs) before s.me s.given (cond c (asked (answer_to by field kind s)) away)) [
-        | true ↦
-            elim (answer_to by field kind s) as (λ (q : Asked). IsGivenFor (x ∷ xs) before s.me s.given (asked q)) [
-              | Granted promise ↦ went_on x xs s before (ask_from by xs (with_lease by field kind promise s) (before ++ grant_of by field kind s ∷ [])) (fits_item x s before (kinds x (inl refl)) k b)
-                  (given_for xs (with_lease by field kind promise s) (before ++ grant_of by field kind s ∷ []) (λ y i. kinds y (inr i)) (λ y i at. let q = k y i at in omega arith) (more_up s before field kind promise b))
-              | Wait blocker ↦ stopped x xs s before (end.Wait blocker) (λ e. cc) b
-              | Locked txn ↦ stopped x xs s before (end.Locked txn) (λ e. cc) b
-            ]
-        | false ↦ stopped x xs s before (moved s (file_of field)) (not_all s (file_of field)) b
-      ]
+  ended_early : (x : Field × LeaseKind) (s : Server) (at : End) → AskEnds by x s at → at ≡ end.All → ⊥
+  ended_early x s at (waits n mine e) q = absurd (cc)
+  ended_early x s at (kept_off txn mine e) q = absurd (cc)
+  ended_early x s at (elsewhere mine) q = not_all s (file_of x.0) q
+
+  pub given_for : (items : Items) (s : Server) (before : List Grant) → ((x : Field × LeaseKind) → In x items → kind_for x.0 x.1 ≡ x.1) → KeptUpTo s.me s.given kept → GrantsUpTo s.given before → IsGivenFor items before s.me s.given (ask_from by items s before)
+  given_for = each_item by (λ items s before a. ((x : Field × LeaseKind) → In x items → kind_for x.0 x.1 ≡ x.1) → KeptUpTo s.me s.given kept → GrantsUpTo s.given before → IsGivenFor items before s.me s.given a)
+      (λ s before kinds k b. record { new = []; split = sym (append-nil before); some = refl; all = λ e fresh rest. ap (λ gs. rest_fits fresh kept gs rest) (sym (append-nil before)); numbers = b; rises = omega arith; here = refl; none = refl })
+      (λ x xs s before promise a mine e p kinds k b. went_on x xs s before a (fits_item x s before (kinds x (inl refl)) k b) (p (λ y i. kinds y (inr i)) (λ y i at. let q = k y i at in omega arith) (more_up s before x.0 (kind_for x.0 x.1) promise b)))
+      (λ x xs s before at why kinds k b. stopped x xs s before at (ended_early x s at why) b)

@@ -1,23 +1,21 @@
 -- The items of a question for leases, one after another.
-use Rattle.std.proofs.Common.{◌≡◌, ℕ, Bool, true, false, cond, List, [], ◌∷◌, ◌++◌, map, append_assoc, refl, sym, ap, ◌∙◌, subst, inl, inr}
+use Rattle.std.proofs.Common.{◌≡◌, ℕ, Bool, List, [], ◌∷◌, ◌++◌, map, append_assoc, sym, ap, ◌∙◌, subst, inl, inr}
 use Rattle.std.specs.Prelude.{Option, None}
 use Rattle.std.proofs.lemmas.List.{map-append}
 use Rattle.fs_ident.specs.In.{In}
 use Rattle.fs_ident.specs.declared.actor.Session.{Session}
-use Rattle.fs_field.specs.declared.asked.Asked.{Asked}
-use Rattle.fs_field.specs.declared.asked.Asked.TheVariants.{Granted, Wait, Locked}
+use Rattle.fs_field.specs.declared.asked.Asked.TheVariants.{Granted}
 use Rattle.fs_field.specs.declared.field.Field.{Field}
 use Rattle.fs_field.specs.declared.lease_kind.LeaseKind.{LeaseKind}
 use Rattle.fs_field.specs.declared.row.Row.{Row}
-use Rattle.fs_field.specs.Field.{file_of}
 use Rattle.fs_field.specs.Table.{no_before}
 use Rattle.fs_msg.specs.declared.answer.Grant.{Grant}
-use Rattle.fs_msg.specs.declared.end.End.TheVariants as end
 use Rattle.fs_msg.specs.declared.item.Item.{Item}
 use Rattle.fs_moderows.specs.Answer.{given_row}
-use Rattle.fs_server.specs.Asks.{Asking, answer_to, ask_from, grant_of, kind_for, with_lease}
-use Rattle.fs_server.specs.Server.{next_number, end_of, is_mine, moved}
+use Rattle.fs_server.specs.Asks.{answer_to, ask_from, grant_of, kind_for, with_lease}
+use Rattle.fs_server.specs.Server.{next_number, end_of}
 use Rattle.fs_server.specs.declared.state.Server.{Server}
+use Rattle.fs_server.proofs.OneByOne.{Items, each_item}
 use Rattle.fs_serial.specs.Parts.{with_client}
 use Rattle.fs_serial.specs.Settled.{Settled, granted, with_leases}
 use Rattle.fs_serial.specs.Sight.{Counts, sight_of}
@@ -65,24 +63,5 @@ module _ (o : Counts) (skew greatest : ℕ) (journal : List Item) (replied : Ses
       }
 
   -- all that were given, up to the first that could not be
-  pub asked_still : (items : List (Field × LeaseKind)) (s : Server) (grants : List Grant) → IsAsking s grants → IsAsking (ask_from by items s grants).server (ask_from by items s grants).grants
-  asked_still [] s grants h = h
-  asked_still (x ∷ xs) s grants h =
-      let field = x.0 in
-      let kind = kind_for x.0 x.1 in
-      let here : Asked → Asking =
-      λ a. elim a as (λ _. Asking) [
-        | Granted promise ↦ ask_from by xs (with_lease by field kind promise s) (grants ++ grant_of by field kind s ∷ [])
-        | Wait blocker ↦ record { server = s; grants = grants; fresh = None; end = end.Wait blocker }
-        | Locked txn ↦ record { server = s; grants = grants; fresh = None; end = end.Locked txn }
-      ] in
-      let away : Asking = record { server = s; grants = grants; fresh = None; end = moved s (file_of field) } in
-      elim (is_mine s (file_of field)) as (λ b. IsAsking (cond b (here (answer_to by field kind s)) away).server (cond b (here (answer_to by field kind s)) away).grants) [
-        | true ↦
-            elim (answer_to by field kind s) as (λ (a : Asked). answer_to by field kind s ≡ a → IsAsking (here a).server (here a).grants) [
-              | Granted promise ↦ λ e. asked_still xs (with_lease by field kind promise s) (grants ++ grant_of by field kind s ∷ []) (one_more s grants field x.1 promise e h)
-              | Wait blocker ↦ λ e. h
-              | Locked txn ↦ λ e. h
-            ] refl
-        | false ↦ h
-      ]
+  pub asked_still : (items : Items) (s : Server) (grants : List Grant) → IsAsking s grants → IsAsking (ask_from by items s grants).server (ask_from by items s grants).grants
+  asked_still = each_item by (λ items s grants a. IsAsking s grants → IsAsking a.server a.grants) (λ s grants h. h) (λ x xs s grants promise a mine e p h. p (one_more s grants x.0 x.1 promise e h)) (λ x xs s grants at why h. h)

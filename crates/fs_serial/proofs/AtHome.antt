@@ -1,5 +1,6 @@
 -- Where everything is at its place, what others have is on files that are not managed here.
-use Rattle.std.proofs.Common.{◌≡◌, ℕ, Bool, true, false, List, length, refl, sym, ap, ◌∙◌, subst}
+use Rattle.std.proofs.Common.{◌≡◌, ℕ, true, false, List, length, sym, ap, ◌∙◌, subst}
+use Rattle.std.proofs.lemmas.Bool.{false_from_ne_true}
 use Rattle.std.specs.Prelude.{◌≢◌, Some, slice_get}
 use Rattle.fs_ident.specs.In.{In}
 use Rattle.fs_ident.proofs.Standing.{In-map}
@@ -13,14 +14,10 @@ use Rattle.fs_serial.specs.Places.{PlacesHold}
 use Rattle.fs_serial.proofs.OnePlaces.{not_both, one_server, row_sent}
 use Rattle.fs_serial.proofs.SetAt.{In_got}
 
-pub true_is : (b : Bool) → (b ≡ true → ⊥) → b ≡ false
-true_is true h = absurd (h refl)
-true_is false h = refl
-
 module _ (c : Cluster) (k : ℕ) (s : Server) (at : slice_get c.servers k ≡ Some s) (places : PlacesHold c) where
   -- what another server manages is not managed here
   elsewhere : (id : List ℕ) (j : ℕ) (t : Server) → slice_get c.servers j ≡ Some t → j ≢ k → is_mine t id ≡ true → is_mine s id ≡ false
-  elsewhere id j t there other own = true_is (is_mine s id) (λ here.
+  elsewhere id j t there other own = false_from_ne_true (is_mine s id) (λ here.
       let same : t ≡ s = one_server c.servers c.flying places.one id t s (In_got c.servers j t there) (In_got c.servers k s at) own here in
       other (sym (places.numbered j t there) ∙ ap (λ (u : Server). u.me) same ∙ places.numbered k s at))
 
@@ -31,4 +28,4 @@ module _ (c : Cluster) (k : ℕ) (s : Server) (at : slice_get c.servers k ≡ So
   parcels_rows p i r j =
       let q = In-map (λ (f : Flying). f.parcel) p c.flying i in
       let gives = row_sent (length c.servers) c.journal q.0 (places.sent q.0 q.1.0) r (subst (λ (x : Parcel). In r x.rows) q.1.1 j) in
-      true_is (is_mine s (file_of r.field)) (λ here. not_both c.servers c.flying places.one (file_of r.field) s q.0 (In_got c.servers k s at) q.1.0 here gives)
+      false_from_ne_true (is_mine s (file_of r.field)) (λ here. not_both c.servers c.flying places.one (file_of r.field) s q.0 (In_got c.servers k s at) q.1.0 here gives)

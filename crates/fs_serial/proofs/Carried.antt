@@ -12,7 +12,7 @@ use Rattle.fs_field.specs.declared.lease_kind.LeaseKind.{LeaseKind}
 use Rattle.fs_field.specs.declared.lease_kind.LeaseKind.TheVariants.{Exclusive}
 use Rattle.fs_field.specs.declared.row.Row.{Row}
 use Rattle.fs_field.specs.Table.{same_no}
-use Rattle.fs_moderows.proofs.Witnesses.{none_In, not_true}
+use Rattle.fs_moderows.proofs.Witnesses.{none_In, not_true, In_none}
 use Rattle.fs_msg.specs.declared.answer.Answer.{Answer}
 use Rattle.fs_msg.specs.declared.answer.Answer.TheVariants.{Granted, Renewed, Released, Shipped}
 use Rattle.fs_msg.specs.declared.answer.Grant.{Grant}
@@ -30,7 +30,6 @@ use Rattle.fs_view.specs.Kept.{number_of, has_number, is_leaving}
 use Rattle.fs_serial.specs.Exchange.{OneExchange, ShipsLog, IsFront, IsReturned, ReleasesReturned, ReturnFits, ReturnsFit, server_of_question, ExchangeFits}
 use Rattle.fs_serial.specs.Settled.{Lease, Settled}
 use Rattle.fs_serial.specs.World.{HasNumber}
-use Rattle.fs_serial.proofs.Facts.{none-In}
 
 -- ## Fewer numbers
 
@@ -43,7 +42,7 @@ abbrev pub FewerNumbers : List Kept → List Kept → Type 0
 FewerNumbers old new = (k : Kept) → In k new → IsNumbered old (number_of k.standing)
 
 still_none : (old new : List Kept) (n : LeaseNo) → FewerNumbers old new → list_any (has_number n) old ≡ false → list_any (has_number n) new ≡ false
-still_none old new n fewer h = none-In (has_number n) new (λ k i. let j = fewer k i in ap (λ m. same_no m n) (sym j.number) ∙ none_In (has_number n) old h j.kept j.among)
+still_none old new n fewer h = In_none (has_number n) new (λ k i. let j = fewer k i in ap (λ m. same_no m n) (sym j.number) ∙ none_In (has_number n) old h j.kept j.among)
 
 new_still : (old new : List Kept) (before : List Grant) (g : Grant) → FewerNumbers old new → is_new old before g ≡ true → is_new new before g ≡ true
 new_still old new before g fewer h =

@@ -1,12 +1,9 @@
 -- Identifiers right below a directory.
-use Rattle.std.proofs.Common.{◌≡◌, ℕ, List, [], ◌∷◌, ◌++◌, length, take, refl, sym, ap, ◌∙◌, ◌⊎◌, inl, inr}
+use Rattle.std.proofs.Common.{◌≡◌, ℕ, List, [], ◌∷◌, ◌++◌, refl, sym, ap, ◌∙◌, ◌⊎◌, inl, inr}
 use Rattle.std.specs.Prelude.{Some}
 use Rattle.fs_ident.specs.Ident.{child, parent}
+use Rattle.fs_field.proofs.Below.{front_is}
 use Rattle.fs_serial.specs.Fresh.{IsAtOrBelow}
-
-front_is : (n : ℕ) (ns : List ℕ) (k : ℕ) → take (length (ns ++ k ∷ [])) (n ∷ (ns ++ k ∷ [])) ≡ n ∷ ns
-front_is n [] k = refl
-front_is n (m ∷ ns) k = ap (λ zs. n ∷ zs) (front_is m ns k)
 
 pub parent_child : (dir : List ℕ) (k : ℕ) → parent (child dir k) ≡ Some dir
 parent_child [] k = refl

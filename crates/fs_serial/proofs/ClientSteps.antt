@@ -1,10 +1,11 @@
 -- One session's client takes a step.
-use Rattle.std.proofs.Common.{◌≡◌, ℕ, ◌==◌, max, true, false, List, [], ◌++◌, append-nil, map, cond, refl, sym, ap, ◌∙◌, subst, arith}
+use Rattle.std.proofs.Common.{◌≡◌, ℕ, ◌==◌, true, false, List, [], ◌++◌, append-nil, map, cond, refl, sym, ap, ◌∙◌, subst}
 use Rattle.std.specs.Prelude.{Option, Some, None}
 use Rattle.fs_ident.specs.In.{In}
 use Rattle.fs_ident.specs.declared.actor.LeaseNo.{LeaseNo}
 use Rattle.fs_ident.specs.declared.actor.Session.{Session}
 use Rattle.fs_map.specs.Map.{Owners}
+use Rattle.fs_record.proofs.ValueChanges.{one_session}
 use Rattle.fs_msg.specs.declared.answer.Answer.{Answer}
 use Rattle.fs_msg.specs.declared.client_msg.ClientMsg.{ClientMsg}
 use Rattle.fs_msg.specs.declared.item.Item.{Item}
@@ -12,6 +13,7 @@ use Rattle.fs_server.specs.Ships.{item_of}
 use Rattle.fs_client.specs.Client.{begun, with_hints}
 use Rattle.fs_view.specs.View.{lapsed_at}
 use Rattle.fs_client.specs.declared.state.Client.{Client}
+use Rattle.fs_client.proofs.Planning.{max_again}
 use Rattle.fs_serial.specs.Fresh.{FreshReserved, Reserves, reserved_by}
 use Rattle.fs_serial.specs.Numbers.{AreNumbered, all_items, items_by}
 use Rattle.fs_serial.specs.Parts.{ServersHold, ServersFit}
@@ -20,7 +22,6 @@ use Rattle.fs_serial.specs.Sight.{Sight, sight_of}
 use Rattle.fs_serial.specs.World.{Ends, World, WorldHolds, pushed, settled_at, with_ends, with_told}
 use Rattle.fs_serial.proofs.Carried.{GoesOnAs, exchange_still}
 use Rattle.fs_serial.proofs.Lapse.{lapse_fewer, seat_lapse}
-use Rattle.fs_serial.proofs.Rowed.{session_is}
 use Rattle.fs_serial.proofs.Seats.{Seat, seen_at}
 use Rattle.fs_serial.proofs.Together.{fewer_reserved}
 
@@ -56,7 +57,7 @@ reserves_in old new fewer n i r = record { lease = r.lease; held = fewer r.lease
 each_two : (P : Session → List Item → Ends → Type 0) (by : Session) (told : Option Item) (e : Ends) (replied : Session → List Item) (ends : Session → Ends) → P by (pushed told (replied by)) e → ((x : Session) → (by.0 == x.0) ≡ false → P x (replied x) (ends x)) → (x : Session)
     → P x (cond (by.0 == x.0) (pushed told (replied x)) (replied x)) (cond (by.0 == x.0) e (ends x))
 each_two P by told e replied ends own others x = elim (by.0 == x.0) as (λ b. (by.0 == x.0) ≡ b → P x (cond b (pushed told (replied x)) (replied x)) (cond b e (ends x))) [
-  | true ↦ λ q. subst (λ y. P y (pushed told (replied y)) e) (session_is by x q) own
+  | true ↦ λ q. subst (λ y. P y (pushed told (replied y)) e) (one_session by x q) own
   | false ↦ λ q. others x q
 ] refl
 
@@ -122,9 +123,6 @@ begun_moved skew greatest s by replied c up down now h = record {
   reserves = reserves_in (seen_at by c down).leases (seen_at by (begun now c) down).leases (lapse_fewer by c now h.client down).fewer;
 }
 
-latest : (a b : ℕ) → max a (max a b) ≡ max a b
-latest a b = omega arith
-
 -- the reading of the event is the greatest so far
 pub begun_again : (c : Client) (now : ℕ) → begun (begun now c).last c ≡ begun now c
-begun_again c now = ap (λ n. let x : Client = record c { last = n; view = lapsed_at n c.view } in x) (latest c.last now)
+begun_again c now = ap (λ n. let x : Client = record c { last = n; view = lapsed_at n c.view } in x) (max_again c.last now)

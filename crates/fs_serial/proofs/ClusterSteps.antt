@@ -12,6 +12,7 @@ use Rattle.fs_msg.specs.declared.server_note.ServerNote.TheVariants as note
 use Rattle.fs_parcel.specs.Parcel.{move_refusal}
 use Rattle.fs_parcel.specs.declared.error.MoveError.{MoveError}
 use Rattle.fs_record.specs.declared.parcel.Parcel.{Parcel}
+use Rattle.fs_record.proofs.ValueChanges.{one_session}
 use Rattle.fs_server.specs.Moves.{fits_here, installed, move_at, parcel_at}
 use Rattle.fs_server.specs.Reaps.{lapsed_in, turn_over, turn_step}
 use Rattle.fs_server.specs.Server.{Stepped, begun, only_noted}
@@ -37,7 +38,6 @@ use Rattle.fs_serial.proofs.Facts.{In-mapped}
 use Rattle.fs_serial.proofs.Lapsing.{begins, begun_at}
 use Rattle.fs_serial.proofs.Leaving.{move_places, move_same}
 use Rattle.fs_serial.proofs.LetGo.{all_let_go}
-use Rattle.fs_serial.proofs.Rowed.{session_is}
 use Rattle.fs_serial.proofs.SameStep.{IsSameStep, begun_same, turn_same}
 use Rattle.fs_serial.proofs.ServerEvents.{begun_keeps}
 use Rattle.fs_serial.proofs.ServerTurn.{turn_some_keeps}
@@ -70,7 +70,7 @@ same_client : (k : ℕ) (e : ServerEvent) (lines : Session → Lines) (x : Sessi
 same_client k (event.FromClient by m) lines x =
     let l : Lines = record (lines by) { up = without_first (is_with k) (lines by).up } in
     elim (by.0 == x.0) as (λ b. (by.0 == x.0) ≡ b → (cond b l (lines x)).client ≡ (lines x).client) [
-      | true ↦ λ t. ap (λ y. (lines y).client) (session_is by x t)
+      | true ↦ λ t. ap (λ y. (lines y).client) (one_session by x t)
       | false ↦ λ t. refl
     ] refl
 same_client k e lines x = refl

@@ -1,7 +1,7 @@
 -- A refused entry used a lease that had ended.
-use Rattle.std.proofs.Common.{◌≡◌, ℕ, ◌+◌, ◌<◌, ◌≤◌, not, true, false, List, [], ◌∷◌, ◌++◌, cond, map, refl, sym, subst, inl, inr, arith}
+use Rattle.std.proofs.Common.{◌≡◌, ℕ, ◌+◌, ◌<◌, ◌≤◌, not, true, false, List, [], cond, refl, sym, subst, inl, inr, arith}
 use Rattle.std.specs.Prelude.{◌≢◌, Option, Some, None, nat_lt}
-use Rattle.std.proofs.lemmas.Bool.Decides.{nat_tests}
+use Rattle.std.proofs.lemmas.Bool.{ltb-true, ltb-false}
 use Rattle.fs_ident.specs.In.{In}
 use Rattle.fs_ident.specs.declared.actor.Session.{Session}
 use Rattle.fs_ident.proofs.Passing.{found}
@@ -10,12 +10,13 @@ use Rattle.fs_field.specs.declared.used.Use.{Use}
 use Rattle.fs_map.specs.Map.{longest}
 use Rattle.fs_msg.specs.Home.{home_of}
 use Rattle.fs_msg.specs.declared.client_msg.ClientMsg.TheVariants.{Ship}
-use Rattle.fs_msg.specs.declared.end.End.TheVariants as end
 use Rattle.fs_msg.specs.declared.entry.Entry.{Entry}
 use Rattle.fs_msg.specs.declared.item.Item.{Item}
-use Rattle.fs_server.specs.Server.{is_mine, moved, moved_at, strange}
-use Rattle.fs_server.specs.Ships.{Shipping, first_gone, has_row, item_of, ship_from, ship_step, shipped, with_entry}
+use Rattle.fs_msg.specs.declared.end.End.{End}
+use Rattle.fs_server.specs.Server.{moved_at, strange}
+use Rattle.fs_server.specs.Ships.{first_gone, has_row, ship_from, ship_step, shipped}
 use Rattle.fs_server.specs.declared.state.Server.{Server}
+use Rattle.fs_server.proofs.OneByOne.{ShipEnds, each_entry, misplaced, refused}
 use Rattle.fs_serial.specs.Leases.{IsBacked}
 use Rattle.fs_serial.specs.Parts.{SessionFits}
 use Rattle.fs_serial.specs.Settled.{Settled}
@@ -27,12 +28,6 @@ use Rattle.fs_serial.proofs.Facts.{In-front}
 use Rattle.fs_serial.proofs.Refusing.{use_gone}
 use Rattle.fs_serial.proofs.ServerEvents.{all_plain}
 
-less : (a b : ℕ) → nat_lt a b ≡ true → a < b
-less a b h = grind (arith, nat_tests)
-
-no_less : (a b : ℕ) → nat_lt a b ≡ false → b ≤ a
-no_less a b h = grind (arith, nat_tests)
-
 pub ended : (skew greatest now : ℕ) (s : Sight) (by : Session) (d : Settled) (e : Entry) (u : Use) → SessionFits skew greatest s by d → In e d.log → first_gone s.rows by e.uses ≡ Some u → greatest ≤ now + skew → HadEnded s.rows now e u
 ended skew greatest now s by d e u f i h within =
     let q = found (λ u. not (has_row s.rows by u)) e.uses u h in
@@ -41,8 +36,8 @@ ended skew greatest now s by d e u f i h within =
       used = q.0;
       gone = gone;
       ended = elim (nat_lt now u.until) as (λ b. nat_lt now u.until ≡ b → u.until ≤ now) [
-        | true ↦ λ t. let p : now < u.until = less now u.until t in let b : IsBacked s.rows u.no u.until = f.backed e i u q.0 (omega arith) in absurd (gone b.row b.stands b.number)
-        | false ↦ λ t. no_less now u.until t
+        | true ↦ λ t. let p : now < u.until = ltb-true now u.until t in let b : IsBacked s.rows u.no u.until = f.backed e i u q.0 (omega arith) in absurd (gone b.row b.stands b.number)
+        | false ↦ λ t. ltb-false now u.until t
       ] refl;
     }
 
@@ -58,24 +53,16 @@ fair_away : (rows : List Row) (o : Option (List ℕ × ℕ)) → HeldBackFor [] 
 fair_away rows None = (refl, tt)
 fair_away rows (Some x) = (refl, tt)
 
+fair_end : (by : Session) (e : Entry) (es : List Entry) (s : Server) → ((u : Use) → first_gone s.rows by e.uses ≡ Some u → HadEnded s.rows s.last e u) → (at : End) (gaps : List ℕ) → ShipEnds by e es s at gaps → HeldBackFor gaps at × HadItsTime s.rows at
+fair_end by e es s over at gaps (refused u mine gone) = let t = over u gone in (tt, (t.ended, t.gone))
+fair_end by e es s over at gaps (misplaced mine) = fair_away s.rows (longest s.map (home_of e.op))
+
 -- the server's rows and its clock stay while it reads the entries
 fair_from : (by : Session) (es : List Entry) (s : Server) (admitted : List Item) → ((e : Entry) (u : Use) → In e es → first_gone s.rows by e.uses ≡ Some u → HadEnded s.rows s.last e u) → HeldBackFor (ship_from by es s admitted).gaps (ship_from by es s admitted).end × HadItsTime s.rows (ship_from by es s admitted).end
-fair_from by [] s admitted over = (refl, tt)
-fair_from by (e ∷ es) s admitted over =
-    let here : Option Use → Shipping =
-    λ gone. elim gone as (λ _. Shipping) [
-      | None ↦ ship_from by es (with_entry by e s) (admitted ++ item_of by e ∷ [])
-      | Some u ↦ record { server = s; admitted = admitted; end = end.Ended e.n u.no u.until s.last; gaps = map (λ (x : Entry). x.n) es }
-    ] in
-    let away : Shipping = record { server = s; admitted = admitted; end = moved s (home_of e.op); gaps = [] } in
-    elim (is_mine s (home_of e.op)) as (λ b. HeldBackFor (cond b (here (first_gone s.rows by e.uses)) away).gaps (cond b (here (first_gone s.rows by e.uses)) away).end × HadItsTime s.rows (cond b (here (first_gone s.rows by e.uses)) away).end) [
-      | true ↦
-          elim (first_gone s.rows by e.uses) as (λ (gone : Option Use). first_gone s.rows by e.uses ≡ gone → HeldBackFor (here gone).gaps (here gone).end × HadItsTime s.rows (here gone).end) [
-            | None ↦ λ q. fair_from by es (with_entry by e s) (admitted ++ item_of by e ∷ []) (λ x u i. over x u (inr i))
-            | Some u ↦ λ q. let t = over e u (inl refl) q in (tt, (t.ended, t.gone))
-          ] refl
-      | false ↦ fair_away s.rows (longest s.map (home_of e.op))
-    ]
+fair_from by = each_entry by (λ es s admitted x. ((e : Entry) (u : Use) → In e es → first_gone s.rows by e.uses ≡ Some u → HadEnded s.rows s.last e u) → HeldBackFor x.gaps x.end × HadItsTime s.rows x.end)
+    (λ s admitted over. (refl, tt))
+    (λ e es s admitted x mine none p over. p (λ f u i. over f u (inr i)))
+    (λ e es s admitted at gaps why over. fair_end by e es s (λ u. over e u (inl refl)) at gaps why)
 
 -- what the server notes of it is fair
 pub fair_ship : (greatest : ℕ) (w : World) (by : Session) (entries : List Entry) → In (Ship entries) (w.ends by).up → greatest ≤ w.server.last + w.server.skew → WorldHolds greatest w → IsFairNote w.server.rows (ship_step by entries w.server).out.note

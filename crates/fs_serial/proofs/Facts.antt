@@ -17,9 +17,8 @@ use Rattle.fs_msg.specs.Journal.{IsSerialRun, item_step, may_admit}
 use Rattle.fs_msg.specs.declared.item.Item.{Item}
 use Rattle.fs_model.specs.Namespace.{NodeMap}
 use Rattle.fs_record.specs.Applied.{records_after, nodes_after_all}
-use Rattle.fs_record.specs.Records.{RecordMap, AreRecords, nodes_of}
+use Rattle.fs_record.specs.Records.{RecordMap, nodes_of}
 use Rattle.fs_record.specs.ValueOf.{value_of, value_at}
-use Rattle.fs_record.proofs.Kept.{after_kept}
 use Rattle.fs_record.proofs.NodeMaps.{node_there, nodes_alike}
 use Rattle.fs_record.specs.Applied.{records_after_all}
 use Rattle.fs_view.specs.Walk.{known_in}
@@ -67,10 +66,6 @@ any-In test (y ∷ ys) h =
       | false ↦ λ e g. let q = any-In test ys g in (q.0, inr q.1, q.2)
     ] refl h
 
-pub none-In : {X : Type 0} (test : X → Bool) (xs : List X) → ((x : X) → In x xs → test x ≡ false) → list_any test xs ≡ false
-none-In test [] f = refl
-none-In test (y ∷ ys) f = ap (λ b. b || list_any test ys) (f y (inl refl)) ∙ none-In test ys (λ x i. f x (inr i))
-
 pub there_is : {X : Type 0} (o : Option X) → is_some o ≡ true → (x : X) × (o ≡ Some x)
 there_is None h = absurd (cc)
 there_is (Some x) h = (x, refl)
@@ -106,10 +101,6 @@ known_nodes m by = fun_ext (λ field. fun_ext (λ kind. ap (λ o. Some (value_at
 pub nodes_all : (m : RecordMap) (es : List Effect) → nodes_of (records_after_all m es) ≡ nodes_after_all (nodes_of m) es
 nodes_all m [] = refl
 nodes_all m (e ∷ es) = nodes_all (records_after m e) es ∙ ap (λ n. nodes_after_all n es) (nodes_alike m e)
-
-pub records_all : (m : RecordMap) (es : List Effect) → AreRecords m → AreRecords (records_after_all m es)
-records_all m [] h = h
-records_all m (e ∷ es) h = records_all (records_after m e) es (after_kept m e h)
 
 -- ## Journals
 

@@ -1,24 +1,21 @@
 -- A server refuses no entry but for a lease that had ended, and holds back none but behind a refused one.
-use Rattle.std.proofs.Common.{◌≡◌, ℕ, ◌+◌, ◌≤◌, max, Bool, true, false, List, [], ◌∷◌, ◌++◌, cond, map, refl, sym, ap, ◌∙◌, subst, arith}
-use Rattle.std.specs.Prelude.{Option, Some, None, slice_get}
+use Rattle.std.proofs.Common.{◌≡◌, ℕ, ◌+◌, ◌≤◌, max, true, false, List, [], cond, refl, sym, ap, ◌∙◌, subst, arith}
+use Rattle.std.specs.Prelude.{Some, slice_get}
 use Rattle.std.specs.List.{list_all}
 use Rattle.fs_ident.specs.declared.actor.Session.{Session}
 use Rattle.fs_ident.proofs.Passing.{found}
 use Rattle.fs_field.specs.declared.row.Row.{Row}
-use Rattle.fs_field.specs.declared.used.Use.{Use}
-use Rattle.fs_msg.specs.Home.{home_of}
 use Rattle.fs_msg.specs.declared.client_msg.ClientMsg.{ClientMsg}
 use Rattle.fs_msg.specs.declared.client_msg.ClientMsg.TheVariants.{Ship}
-use Rattle.fs_msg.specs.declared.end.End.TheVariants as end
 use Rattle.fs_msg.specs.declared.entry.Entry.{Entry}
-use Rattle.fs_msg.specs.declared.item.Item.{Item}
 use Rattle.fs_record.specs.Effects.{tells_its_effects}
-use Rattle.fs_server.specs.Server.{begun, is_mine, moved, strange}
-use Rattle.fs_server.specs.Ships.{Shipping, first_gone, item_of, ship_from, ship_step, shipped, with_entry}
+use Rattle.fs_server.specs.Server.{begun, strange}
+use Rattle.fs_server.specs.Ships.{ship_from, ship_step, shipped}
 use Rattle.fs_server.specs.Step.{event_step, step}
 use Rattle.fs_server.specs.declared.event.ServerEvent.TheVariants as event
 use Rattle.fs_server.specs.declared.out.ServerOut.{ServerOut}
 use Rattle.fs_server.specs.declared.state.Server.{Server}
+use Rattle.fs_server.proofs.OneByOne.{ships_leave}
 use Rattle.fs_serial.specs.Cluster.{Cluster, IsThere, after_step, is_with}
 use Rattle.fs_serial.specs.Refusals.{IsFairNote, IsFairStep, rows_in}
 use Rattle.fs_serial.specs.Seen.{ClusterHolds, with_all, world_of}
@@ -31,27 +28,8 @@ use Rattle.fs_serial.proofs.SetAt.{In_got, get_here, set_twice}
 
 -- ## A log changes no row
 
-ships_rows : (by : Session) (es : List Entry) (s : Server) (admitted : List Item) → (ship_from by es s admitted).server.rows ≡ s.rows
-ships_rows by [] s admitted = refl
-ships_rows by (e ∷ es) s admitted =
-    elim (is_mine s (home_of e.op)) as (λ (b : Bool). (cond b
-    (elim (first_gone s.rows by e.uses) as (λ _. Shipping) [
-      | None ↦ ship_from by es (with_entry by e s) (admitted ++ item_of by e ∷ [])
-      | Some u ↦ record { server = s; admitted = admitted; end = end.Ended e.n u.no u.until s.last; gaps = map (λ (x : Entry). x.n) es }
-    ])
-    (record { server = s; admitted = admitted; end = moved s (home_of e.op); gaps = [] })).server.rows ≡ s.rows) [
-      | true ↦ elim (first_gone s.rows by e.uses) as (λ (o : Option Use). (elim o as (λ _. Shipping) [
-        | None ↦ ship_from by es (with_entry by e s) (admitted ++ item_of by e ∷ [])
-        | Some u ↦ record { server = s; admitted = admitted; end = end.Ended e.n u.no u.until s.last; gaps = map (λ (x : Entry). x.n) es }
-      ]).server.rows ≡ s.rows) [
-        | None ↦ ships_rows by es (with_entry by e s) (admitted ++ item_of by e ∷ [])
-        | Some u ↦ refl
-      ]
-      | false ↦ refl
-    ]
-
 step_rows : (by : Session) (es : List Entry) (s : Server) → (ship_step by es s).server.rows ≡ s.rows
-step_rows by es s = elim (list_all (λ (e : Entry). tells_its_effects e.op) es) as (λ b. (cond b (shipped by (ship_from by es s [])) (strange s)).server.rows ≡ s.rows) [ true ↦ ships_rows by es s [] | false ↦ refl ]
+step_rows by es s = elim (list_all (λ (e : Entry). tells_its_effects e.op) es) as (λ b. (cond b (shipped by (ship_from by es s [])) (strange s)).server.rows ≡ s.rows) [ true ↦ ap (λ t. t.rows) (ships_leave by es s []) | false ↦ refl ]
 
 -- ## One that has begun
 

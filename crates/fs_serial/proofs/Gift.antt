@@ -1,27 +1,24 @@
 -- A directory gives an identifier to a session.
-use Rattle.std.proofs.Common.{◌≡◌, ℕ, ◌≤◌, ◌==◌, not, ◌&&◌, ◌||◌, Bool, true, false, List, [], ◌∷◌, ◌++◌, ◌⊎◌, cond, map, append_assoc, refl, sym, ap, ◌∙◌, subst, inl, inr, arith}
-use Rattle.std.specs.Prelude.{◌≢◌, Option, Some, None}
+use Rattle.std.proofs.Common.{◌≡◌, ℕ, ◌≤◌, true, false, List, [], ◌∷◌, ◌++◌, ◌⊎◌, cond, map, append_assoc, refl, sym, ap, ◌∙◌, subst, inl, inr, arith}
+use Rattle.std.specs.Prelude.{◌≢◌, Some, None}
 use Rattle.std.specs.FinMap.{get}
-use Rattle.std.specs.Cmp.{nat_eq_equiv}
-use Rattle.std.specs.List.{list_any, cons_option}
 use Rattle.std.proofs.lemmas.List.{map-append}
+use Rattle.std.proofs.lemmas.Bool.{false_from_ne_true}
 use Rattle.fs_ident.specs.In.{In}
 use Rattle.fs_ident.specs.Ident.{child, parent, same}
 use Rattle.fs_ident.specs.declared.actor.Session.{Session}
-use Rattle.fs_ident.proofs.Booleans.{neither}
 use Rattle.fs_ident.proofs.Standing.{In-put}
 use Rattle.fs_field.specs.declared.field.Field.{Field}
 use Rattle.fs_field.specs.declared.field.Field.TheVariants.{Life, Child, Names, Info, Own, SelfW, Other}
-use Rattle.fs_field.specs.declared.lease_kind.LeaseKind.{LeaseKind}
 use Rattle.fs_field.specs.declared.lease_kind.LeaseKind.TheVariants.{Exclusive}
 use Rattle.fs_field.specs.declared.row.Row.{Row}
 use Rattle.fs_field.specs.declared.value.Value.TheVariants as value
-use Rattle.fs_field.specs.Conflict.{meets, NoPlainConflict}
+use Rattle.fs_field.specs.Conflict.{NoPlainConflict}
 use Rattle.fs_field.specs.Field.{file_of, same_field}
-use Rattle.fs_field.specs.Table.{no_before, child_number, borne_numbers}
-use Rattle.fs_field.proofs.Below.{told as number_told}
+use Rattle.fs_field.specs.Table.{no_before, borne_numbers}
 use Rattle.fs_field.proofs.Leases.{NoPlainConflict-with_row}
 use Rattle.fs_model.specs.Sound.{kind_of}
+use Rattle.fs_rows.proofs.Bearing.{gift_goes as gift_alone, not_on}
 use Rattle.fs_msg.specs.declared.answer.Answer.TheVariants.{Granted}
 use Rattle.fs_msg.specs.declared.answer.Grant.{Grant}
 use Rattle.fs_msg.specs.declared.end.End.{End}
@@ -59,52 +56,8 @@ use Rattle.fs_serial.proofs.Older.{later_pair}
 use Rattle.fs_serial.proofs.Together.{each_session}
 use Rattle.fs_serial.proofs.Relied.{relies_for, relied_fits, relied_holds}
 
--- ## No row is on a file whose number none bears
-
-abbrev bears : ℕ → List ℕ → Bool
-bears k numbers = list_any (λ b. b == k) numbers
-
-borne_here : (k : ℕ) (o : Option ℕ) (ns : List ℕ) → o ≡ Some k → bears k (cons_option o ns) ≡ true
-borne_here k o ns e = ap (λ p. bears k (cons_option p ns)) e ∙ ap (λ b. b || bears k ns) (nat_eq_equiv.refl k)
-
-borne_behind : (k : ℕ) (o : Option ℕ) (ns : List ℕ) → bears k (cons_option o ns) ≡ false → bears k ns ≡ false
-borne_behind k None ns h = h
-borne_behind k (Some n) ns h = (neither (n == k) (bears k ns) h).1
-
-pub not_on : (dir : List ℕ) (k : ℕ) (rows : List Row) → bears k (borne_numbers dir rows) ≡ false → (x : Row) → In x rows → file_of x.field ≡ child dir k → ⊥
-not_on dir k [] h x i e = i
-not_on dir k (r ∷ rs) h x i e =
-    elim i as (λ _. ⊥) [
-      | inl q ↦
-          let here : child_number dir (file_of r.field) ≡ Some k = ap (λ (z : Row). child_number dir (file_of z.field)) (sym q) ∙ ap (child_number dir) e ∙ number_told dir k in
-          let wrong : true ≡ false = sym (borne_here k (child_number dir (file_of r.field)) (borne_numbers dir rs) here) ∙ h in
-          absurd (cc)
-      | inr j ↦ not_on dir k rs (borne_behind k (child_number dir (file_of r.field)) (borne_numbers dir rs) h) x j e
-    ]
-
-another : (a b : List ℕ) → (b ≡ a → ⊥) → same a b ≡ false
-another a b h =
-    elim (same a b) as (λ c. same a b ≡ c → c ≡ false) [
-      | true ↦ λ e. absurd (h (sym (same_is a b e)))
-      | false ↦ λ e. refl
-    ] refl
-
--- a lease on the life of a file goes with those on the fields of others
-lives_apart : (c : List ℕ) (k : LeaseKind) (g : Field) (l : LeaseKind) → (file_of g ≡ c → ⊥) → meets (Life c) k g l ≡ false
-lives_apart c k (Life b) l h = rw (another c b h) refl
-lives_apart c k (Child b n) l h = refl
-lives_apart c k (Names b) l h = refl
-lives_apart c k (Info b) l h = refl
-lives_apart c k (Own b) l h = refl
-lives_apart c k (SelfW b m) l h = refl
-lives_apart c k (Other b m) l h = refl
-
-never : (x y : Bool) → y ≡ false → (x && y) ≡ false
-never true y h = h
-never false y h = refl
-
 same_file : (g : Field) (id : List ℕ) → (file_of g ≡ id → ⊥) → same_field g (Life id) ≡ false
-same_file (Life b) id h = another b id (λ e. h (sym e))
+same_file (Life b) id h = false_from_ne_true (same b id) (λ e. h (same_is b id e))
 same_file (Child b n) id h = refl
 same_file (Names b) id h = refl
 same_file (Info b) id h = refl
@@ -132,9 +85,7 @@ module _ (o : Counts) (by : Session) (dir : List ℕ) (k : ℕ) (a : Asking) (jo
   row_or r i = In-put (λ x. no_before row.no x.no) r row s.rows i
 
   apart : ServersHold (sight_of o s journal) → NoPlainConflict t.rows
-  apart h = NoPlainConflict-with_row row s.rows
-      (λ x i. never (not (by.0 == x.session.0)) (meets (Life (child dir k)) Exclusive x.field x.kind) (lives_apart (child dir k) Exclusive x.field x.kind (not_on dir k s.rows least.free x i)))
-      h.apart
+  apart h = NoPlainConflict-with_row row s.rows (gift_alone by dir k Exclusive s.rows least.free) h.apart
 
   rows_given : ServersFit (sight_of o s journal) → RowsGiven (sight_of o t journal).given t.rows
   rows_given f r i = elim (row_or r i) as (λ _. IsGiven (sight_of o t journal).given r.no) [

@@ -1,34 +1,29 @@
 -- The row of a lease that is given.
-use Rattle.std.proofs.Common.{◌≡◌, ℕ, ◌==◌, ◌||◌, not, Bool, true, false, List, map, refl, ap, ◌∙◌, inl, inr}
-use Rattle.std.specs.Prelude.{Option, Some, None}
-use Rattle.std.specs.List.{filter, find}
-use Rattle.fs_ident.specs.In.{In}
+use Rattle.std.proofs.Common.{◌≡◌, ℕ, ◌||◌, Bool, true, List, map, refl, ap, ◌∙◌, inl, inr}
+use Rattle.std.specs.Prelude.{Option}
+use Rattle.std.specs.List.{filter}
 use Rattle.fs_ident.specs.declared.actor.LeaseNo.{LeaseNo}
 use Rattle.fs_ident.specs.declared.actor.Session.{Session}
-use Rattle.fs_ident.specs.declared.actor.TxnNo.{TxnNo}
-use Rattle.fs_ident.proofs.Standing.{In-filter, In-map, In-put, none_pass}
+use Rattle.fs_ident.proofs.Standing.{In-filter, In-map, In-put}
 use Rattle.fs_field.specs.declared.asked.Asked.TheVariants.{Granted}
 use Rattle.fs_field.specs.declared.field.Field.{Field}
 use Rattle.fs_field.specs.declared.field.Field.TheVariants.{SelfW, Other}
 use Rattle.fs_field.specs.declared.lease_kind.LeaseKind.{LeaseKind}
-use Rattle.fs_field.specs.declared.lease_kind.LeaseKind.TheVariants.{Shared, Exclusive}
 use Rattle.fs_field.specs.declared.row.Row.{Row}
-use Rattle.fs_field.specs.Conflict.{meets, stands_against, plain_conflict}
 use Rattle.fs_field.specs.Field.{tells_no_mode}
-use Rattle.fs_field.specs.Table.{lock_on, no_before, renewed_row, with_row}
+use Rattle.fs_field.specs.Table.{no_before, renewed_row, with_row}
 use Rattle.fs_field.proofs.Leases.{NoPlainConflict-with_row}
 use Rattle.fs_moderows.specs.Answer.{given_row}
 use Rattle.fs_moderows.specs.Table.{is_of_mode}
 use Rattle.fs_moderows.proofs.Tables.{TellsSame, renewed_tells, shape_self, shape_other}
-use Rattle.fs_moderows.proofs.Witnesses.{not_both}
-use Rattle.fs_moderows.proofs.Free.{none_against, found_other, meets_never}
+use Rattle.fs_moderows.proofs.Free.{none_against, found_other}
 use Rattle.fs_moderows.proofs.Promises.{self_kept, other_kept}
 use Rattle.fs_record.specs.ValueOf.{selves_in}
-use Rattle.fs_rows.specs.Answer.{answer_by}
 use Rattle.fs_server.specs.Asks.{answer_to, kind_for, with_lease}
 use Rattle.fs_server.specs.Plan.{is_shaped}
 use Rattle.fs_server.specs.Server.{next_number, end_of}
 use Rattle.fs_server.specs.declared.state.Server.{Server}
+use Rattle.fs_server.proofs.Answered.{given_goes}
 use Rattle.fs_serial.specs.Rows.{NoRowsConflict, PromisesKept, RowsShaped}
 use Rattle.fs_serial.proofs.Promises.{promises_beside}
 
@@ -75,16 +70,5 @@ shapes_renewed n until rows shaped x i =
 
 -- ## No conflict
 
-nothing_against : (o : Option TxnNo) (p : Option Row) (told : Option Bool) → answer_by o p ≡ Granted told → p ≡ None
-nothing_against (Some txn) p told h = absurd (cc)
-nothing_against None (Some row) told h = absurd (cc)
-nothing_against None None told h = refl
-
--- it goes with all rows that are there
-beside : (s : Server) (by : Session) (field : Field) (kind : LeaseKind) (promise : Option Bool) → answer_to by field (kind_for field kind) s ≡ Granted promise → (x : Row) → In x s.rows → plain_conflict (row_of s by field kind promise) x ≡ false
-beside s by (SelfW f m) kind promise ok x i = not_both (not (by.0 == x.session.0)) (meets (SelfW f m) Exclusive x.field x.kind) (λ d. meets_never (SelfW f m) Exclusive x.field x.kind refl)
-beside s by (Other f m) kind promise ok x i = not_both (not (by.0 == x.session.0)) (meets (Other f m) Shared x.field x.kind) (λ d. meets_never (Other f m) Shared x.field x.kind refl)
-beside s by field kind promise ok x i = none_pass (stands_against by field (kind_for field kind)) s.rows (nothing_against (lock_on field s.rows) (find (stands_against by field (kind_for field kind)) s.rows) promise ok) x i
-
 pub apart_granted : (s : Server) (by : Session) (field : Field) (kind : LeaseKind) (promise : Option Bool) → answer_to by field (kind_for field kind) s ≡ Granted promise → NoRowsConflict s.rows → NoRowsConflict (with_lease by field (kind_for field kind) promise s).rows
-apart_granted s by field kind promise ok = NoPlainConflict-with_row (row_of s by field kind promise) s.rows (beside s by field kind promise ok)
+apart_granted s by field kind promise ok = NoPlainConflict-with_row (row_of s by field kind promise) s.rows (given_goes by field kind promise s ok)

@@ -1,8 +1,9 @@
 -- Leases come to their client.
-use Rattle.std.proofs.Common.{◌≡◌, ℕ, ◌+◌, ◌==◌, ◌&&◌, ◌⊎◌, not, Bool, true, false, List, [], ◌∷◌, ◌++◌, map, refl, sym, ap, ◌∙◌, subst, inl, inr, cond, arith, append_assoc, append-nil}
+use Rattle.std.proofs.Common.{◌≡◌, ℕ, ◌+◌, ◌==◌, ◌&&◌, ◌⊎◌, not, true, false, List, [], ◌∷◌, ◌++◌, map, refl, sym, ap, ◌∙◌, subst, inl, inr, cond, arith, append_assoc, append-nil}
 use Rattle.std.specs.Prelude.{Option, Some, None}
 use Rattle.std.specs.List.{list_any, filter_map}
 use Rattle.std.proofs.lemmas.List.Elements.{filter_map-append}
+use Rattle.std.proofs.lemmas.Bool.{not-true}
 use Rattle.fs_ident.specs.In.{In}
 use Rattle.fs_ident.specs.declared.actor.LeaseNo.{LeaseNo}
 use Rattle.fs_ident.specs.declared.actor.Session.{Session}
@@ -14,6 +15,7 @@ use Rattle.fs_field.specs.declared.lease_kind.LeaseKind.{LeaseKind}
 use Rattle.fs_field.specs.declared.lease_kind.LeaseKind.TheVariants.{Exclusive}
 use Rattle.fs_field.specs.declared.used.Use.{Use}
 use Rattle.fs_field.specs.Table.{same_no}
+use Rattle.fs_field.proofs.SameNo.{same_no_self}
 use Rattle.fs_moderows.proofs.Witnesses.{none_In}
 use Rattle.fs_msg.specs.declared.answer.Answer.{Answer}
 use Rattle.fs_msg.specs.declared.answer.Answer.TheVariants.{Granted}
@@ -43,18 +45,13 @@ use Rattle.fs_serial.proofs.Facts.{In-append, In-front, In-behind, In-mapped}
 use Rattle.fs_serial.proofs.Heard.{IsHeard, heard, quiet_exchange}
 use Rattle.fs_serial.proofs.Knowing.{from-filter_map}
 use Rattle.fs_serial.proofs.Lapse.{its_number}
-use Rattle.fs_serial.proofs.OneLease.{same_no_self}
 use Rattle.fs_serial.specs.Exchange.{ExchangeFits, ReturnFits, ReturnsFit, server_of_question}
 use Rattle.fs_serial.proofs.Seats.{Seat, seen_at, settled_none}
 
 -- ## Numbers that come are new
 
-not_true : (b : Bool) → not b ≡ true → b ≡ false
-not_true true h = absurd (cc)
-not_true false h = refl
-
 new_is : (leases : List Kept) (before : List Grant) (g : Grant) → is_new leases before g ≡ true → list_any (has_number g.no) leases ≡ false
-new_is leases before g h = not_true (list_any (has_number g.no) leases) (both (not (list_any (has_number g.no) leases)) _ h).0
+new_is leases before g h = not-true (list_any (has_number g.no) leases) (both (not (list_any (has_number g.no) leases)) _ h).0
 
 rest_new : (fresh : Option (List ℕ)) (leases : List Kept) (before gs : List Grant) → rest_fits fresh leases before gs ≡ true → (g : Grant) → In g gs → list_any (has_number g.no) leases ≡ false
 rest_new fresh leases before [] h g i = absurd i

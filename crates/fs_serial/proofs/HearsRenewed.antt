@@ -1,5 +1,6 @@
 -- A client hears the new ends of leases.
 use Rattle.std.proofs.Common.{◌≡◌, ℕ, ◌+◌, ◌<◌, not, Bool, true, false, List, [], ◌∷◌, map, refl, sym, ap, ◌∙◌, subst, inl, inr, cond, arith}
+use Rattle.std.proofs.lemmas.Bool.{false_from_ne_true}
 use Rattle.std.specs.Prelude.{◌≢◌, Option, Some, None, is_some, find, option_map}
 use Rattle.std.specs.Option.{option_map_or}
 use Rattle.std.specs.List.{filter_map, cons_option}
@@ -13,6 +14,7 @@ use Rattle.fs_field.specs.declared.used.Use.{Use}
 use Rattle.fs_field.specs.declared.value.Value.{Value}
 use Rattle.fs_field.specs.Field.{file_of}
 use Rattle.fs_field.specs.Table.{same_no}
+use Rattle.fs_field.proofs.SameNo.{same_no_is}
 use Rattle.fs_lease.specs.Lease.{Lease as Term}
 use Rattle.fs_msg.specs.declared.answer.Answer.{Answer}
 use Rattle.fs_msg.specs.declared.answer.Answer.TheVariants.{Renewed}
@@ -28,7 +30,7 @@ use Rattle.fs_view.specs.declared.kept.Standing.{Standing}
 use Rattle.fs_view.specs.declared.kept.Standing.TheVariants.{Held, Pinned, Leaving}
 use Rattle.fs_view.specs.Kept.{number_of, has_number, is_leaving, is_held, entries_of, lease_of, renewed}
 use Rattle.fs_view.specs.View.{View, stands, with_end, without_lease}
-use Rattle.fs_view.proofs.Places.{same_no_is}
+use Rattle.fs_view.proofs.Changed.{renewed_number}
 use Rattle.fs_serial.specs.Client.{ClientFits, times_in}
 use Rattle.fs_serial.specs.Exchange.{ExchangeFits, ReturnFits, ReturnsFit}
 use Rattle.fs_serial.specs.Leases.{IsBacked}
@@ -53,11 +55,6 @@ use Rattle.fs_serial.proofs.Seats.{Seat, seen_at, settled_none}
 
 abbrev one_end : LeaseNo → ℕ → Kept → Kept
 one_end n until k = cond (has_number n k) (record k { standing = renewed until k.standing }) k
-
-end_number : (until : ℕ) (s : Standing) → number_of (renewed until s) ≡ number_of s
-end_number until (Held l) = refl
-end_number until (Pinned u) = refl
-end_number until (Leaving l) = refl
 
 end_pair : (until : ℕ) (s : Standing) → pair_in (renewed until s) ≡ pair_in s
 end_pair until (Held l) = refl
@@ -129,12 +126,8 @@ the_held ks n (Some k) e t =
     let q = found (has_number n) ks k e in
     record { kept = k; among = q.0; number = same_no_is (number_of k.standing) n q.1; held = ap (λ o. option_map_or (λ (k : Kept). is_held k.standing) o false) (sym e) ∙ t }
 
-differs : (b : Bool) → (b ≡ true → ⊥) → b ≡ false
-differs true h = absurd (h refl)
-differs false h = refl
-
 other_number : (n : LeaseNo) (log : List Entry) (k : Kept) (l : Lease) → times_in n log ≡ 0 → IsUsed log l.no → number_of k.standing ≡ l.no → not (has_number n k) ≡ true
-other_number n log k l none u e = ap not (differs (has_number n k) (λ p. let more = used_in n log u.entry u.logged u.used u.among (u.number ∙ sym e ∙ same_no_is (number_of k.standing) n p) in absurd (omega arith)))
+other_number n log k l none u e = ap not (false_from_ne_true (has_number n k) (λ p. let more = used_in n log u.entry u.logged u.used u.among (u.number ∙ sym e ∙ same_no_is (number_of k.standing) n p) in absurd (omega arith)))
 
 module _ (skew greatest : ℕ) (s : Sight) (by : Session) (replied : List Item) (c : Client) (v : View) (n : LeaseNo) (h : HasView skew greatest s by replied c v) where
   abbrev at : Client
@@ -147,7 +140,7 @@ module _ (skew greatest : ℕ) (s : Sight) (by : Session) (replied : List Item) 
       let same : map (retimed n until) (filter_map lease_in v.leases) ≡ filter_map lease_in (map (one_end n until) v.leases) = sym (end_leases n until v.leases) in
       let seen : with_until n until d ≡ settled_now (record c { view = with_end n until v }) = ap (λ ls. let x : Settled = record { leases = ls; log = c.log; next = c.next; over = c.over } in x) same in
       let by_lease : (l : Lease) → In l d.leases → l.no ≡ n → greatest < until + skew → IsBacked s.rows n until = backs in
-      let number : (k : Kept) → number_of (one_end n until k).standing ≡ number_of k.standing = one_keeps number_of (renewed until) (end_number until) n in
+      let number : (k : Kept) → number_of (one_end n until k).standing ≡ number_of k.standing = one_keeps number_of (renewed until) (renewed_number until) n in
       record {
         holds = subst (SessionHolds skew greatest s by replied) seen (retimed_holds skew greatest s by replied n until d by_lease h.holds);
         fits = subst (SessionFits skew greatest s by) seen (retimed_fits skew greatest s by replied n until d by_lease h.fits);

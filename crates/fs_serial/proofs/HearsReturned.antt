@@ -1,11 +1,12 @@
 -- A client hears that a lease is asked back, or that leases came back to their server.
-use Rattle.std.proofs.Common.{◌≡◌, ℕ, zero, suc, not, Bool, true, false, List, [], ◌∷◌, take, map, refl, sym, ap, ◌∙◌, subst, inl, inr, cond, append-nil}
+use Rattle.std.proofs.Common.{◌≡◌, ℕ, zero, suc, not, Bool, true, false, List, [], ◌∷◌, take, refl, sym, ap, ◌∙◌, subst, inl, inr, cond, append-nil}
 use Rattle.std.specs.Prelude.{Option, Some, None, filter, option_map}
 use Rattle.std.specs.List.{filter_map, cons_option}
 use Rattle.fs_ident.specs.In.{In}
 use Rattle.fs_ident.specs.declared.actor.LeaseNo.{LeaseNo}
 use Rattle.fs_ident.specs.declared.actor.Session.{Session}
 use Rattle.fs_ident.proofs.Standing.{In-filter, In-map}
+use Rattle.fs_field.proofs.SameNo.{same_no_is}
 use Rattle.fs_msg.specs.declared.answer.Answer.{Answer}
 use Rattle.fs_msg.specs.declared.answer.Answer.TheVariants.{Released, Recall}
 use Rattle.fs_msg.specs.declared.client_msg.ClientMsg.{ClientMsg}
@@ -22,7 +23,6 @@ use Rattle.fs_view.specs.declared.kept.Standing.{Standing}
 use Rattle.fs_view.specs.declared.kept.Standing.TheVariants.{Held, Pinned, Leaving}
 use Rattle.fs_view.specs.Kept.{number_of, has_number, is_leaving, entries_of, lease_of, recalled_as}
 use Rattle.fs_view.specs.View.{View, without_lease}
-use Rattle.fs_view.proofs.Places.{same_no_is}
 use Rattle.fs_serial.specs.Client.{times_in}
 use Rattle.fs_serial.specs.Exchange.{IsReturned, ReleasesReturned, ExchangeFits, ReturnFits, ReturnsFit}
 use Rattle.fs_serial.specs.Parts.{SessionHolds, SessionFits}
@@ -32,7 +32,7 @@ use Rattle.fs_serial.specs.Sight.{Sight}
 use Rattle.fs_serial.proofs.Carried.{GoesOnAs, exchange_still}
 use Rattle.fs_serial.proofs.Facts.{In-mapped, each_image}
 use Rattle.fs_serial.proofs.Heard.{IsHeard, heard, quiet_exchange, recall_exchange}
-use Rattle.fs_serial.proofs.ReplyPins.{distinct_mapped, pair_in}
+use Rattle.fs_serial.proofs.ReplyPins.{distinct_mapped, pair_in, same_leases}
 use Rattle.fs_serial.proofs.Seats.{Seat, seen_at}
 
 -- ## A recall
@@ -53,10 +53,6 @@ recall_lease n k = within (has_number n k)
     within : (b : Bool) → lease_in (cond b (let x : Kept = record k { recalled = recalled_as k.standing k.recalled } in x) k) ≡ lease_in k
     within true = refl
     within false = refl
-
-pub same_leases : (f : Kept → Kept) → ((k : Kept) → lease_in (f k) ≡ lease_in k) → (ks : List Kept) → filter_map lease_in (map f ks) ≡ filter_map lease_in ks
-same_leases f h [] = refl
-same_leases f h (k ∷ ks) = ap (λ o. cons_option o (filter_map lease_in (map f ks))) (h k) ∙ ap (cons_option (lease_in k)) (same_leases f h ks)
 
 module _ (skew greatest : ℕ) (s : Sight) (by : Session) (replied : List Item) (c : Client) (up : List ClientMsg) (n : LeaseNo) (rest : List Answer) (h : Seat skew greatest s by replied c up (Recall n ∷ rest)) where
   abbrev recalled : Client

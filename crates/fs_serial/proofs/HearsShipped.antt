@@ -12,6 +12,7 @@ use Rattle.fs_field.specs.declared.used.Use.{Use}
 use Rattle.fs_field.specs.declared.value.Value.{Value}
 use Rattle.fs_field.specs.Field.{file_of}
 use Rattle.fs_field.specs.Table.{same_no}
+use Rattle.fs_field.proofs.SameNo.{same_no_symm}
 use Rattle.fs_lease.specs.Lease.{Lease as Term, InUse}
 use Rattle.fs_msg.specs.declared.answer.Answer.{Answer}
 use Rattle.fs_msg.specs.declared.answer.Answer.TheVariants.{Shipped}
@@ -28,6 +29,7 @@ use Rattle.fs_view.specs.declared.kept.Standing.{Standing}
 use Rattle.fs_view.specs.declared.kept.Standing.TheVariants.{Held, Pinned, Leaving}
 use Rattle.fs_view.specs.Kept.{number_of, has_number, is_leaving, entries_of, lease_of, unpinned}
 use Rattle.fs_view.specs.View.{View, base_after, below_after, knowing, first_admitted, unpinned_at, unpinned_all}
+use Rattle.fs_view.proofs.Changed.{unpinned_number}
 use Rattle.fs_serial.specs.Client.{ClientFits, KeptDistinct, times_used, times_in}
 use Rattle.fs_serial.specs.Exchange.{ExchangeFits, ReturnFits, ReturnsFit}
 use Rattle.fs_serial.specs.Parts.{SessionHolds, SessionFits}
@@ -36,7 +38,6 @@ use Rattle.fs_serial.specs.Settled.{Lease, Settled, lease_in, lease_after, effec
 use Rattle.fs_serial.specs.Sight.{Sight}
 use Rattle.fs_serial.proofs.Facts.{In-mapped, each_image}
 use Rattle.fs_serial.proofs.Heard.{IsHeard, heard, quiet_exchange}
-use Rattle.fs_serial.proofs.PutRows.{same_no_symm}
 use Rattle.fs_serial.proofs.ReplyPins.{distinct_mapped, one_keeps, pair_in, same_leases}
 use Rattle.fs_serial.proofs.Seats.{Seat, seen_at}
 
@@ -54,9 +55,6 @@ free_keeps f held pinned (Pinned u) = within (u.entries == 1)
     within : (b : Bool) → f (cond b (Held u.lease) (Pinned (record u { entries = u.entries - 1 }))) ≡ f (Pinned u)
     within true = held u.lease ∙ pinned (record { lease = u.lease; entries = 1 }) u refl
     within false = pinned (record u { entries = u.entries - 1 }) u refl
-
-free_number : (s : Standing) → number_of (unpinned s) ≡ number_of s
-free_number = free_keeps number_of (λ l. refl) (λ u w e. ap (λ (l : Term). l.no) e)
 
 free_pair : (s : Standing) → pair_in (unpinned s) ≡ pair_in s
 free_pair = free_keeps pair_in (λ l. refl) (λ u w e. ap (λ (l : Term). let p : List ℕ × LeaseNo = (file_of l.field, l.no) in p) e)
@@ -89,7 +87,7 @@ unpinned_leases (u ∷ us) ks = unpinned_leases us (unpinned_at u.no ks) ∙ sam
 
 distinct_all : (us : List Use) (ks : List Kept) → KeptDistinct ks → KeptDistinct (unpinned_all us ks)
 distinct_all [] ks h = h
-distinct_all (u ∷ us) ks h = distinct_all us (unpinned_at u.no ks) (distinct_mapped (one_unpin u.no) (one_keeps number_of unpinned free_number u.no) ks h)
+distinct_all (u ∷ us) ks h = distinct_all us (unpinned_at u.no ks) (distinct_mapped (one_unpin u.no) (one_keeps number_of unpinned unpinned_number u.no) ks h)
 
 -- what a lease was before, and that it goes back where it did
 pub record WasKept (ks : List Kept) (k : Kept) : Type 0 where
@@ -119,7 +117,7 @@ counted_one : (u : Use) (ks : List Kept) (count : LeaseNo → ℕ) → ((k : Kep
     → (k : Kept) → In k (unpinned_at u.no ks) → entries_of k.standing ≡ count (number_of k.standing)
 counted_one u ks count h = each_image (one_unpin u.no) (λ k. entries_of k.standing ≡ count (number_of k.standing)) ks (λ k i.
     within k (has_number u.no k) refl (h k i ∙ ap (λ b. more_if b (count (number_of k.standing))) (same_no_symm u.no (number_of k.standing)))
-    ∙ ap count (sym (one_keeps number_of unpinned free_number u.no k)))
+    ∙ ap count (sym (one_keeps number_of unpinned unpinned_number u.no k)))
   where
     within : (k : Kept) (b : Bool) → has_number u.no k ≡ b → entries_of k.standing ≡ more_if (has_number u.no k) (count (number_of k.standing)) → entries_of (cond b (let x : Kept = record k { standing = unpinned k.standing } in x) k).standing ≡ count (number_of k.standing)
     within k true t e = free_entries k.standing (count (number_of k.standing)) (e ∙ ap (λ b. more_if b (count (number_of k.standing))) t)

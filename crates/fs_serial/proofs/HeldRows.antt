@@ -9,7 +9,7 @@ use Rattle.fs_ident.proofs.Passing.{all-In}
 use Rattle.fs_field.specs.Table.{is_ordered, no_before}
 use Rattle.fs_field.specs.declared.row.Row.{Row}
 use Rattle.fs_moderows.proofs.Moves.{came_or_was}
-use Rattle.fs_parcel.proofs.Both.{leads}
+use Rattle.fs_parcel.proofs.Both.{leads, later}
 use Rattle.fs_record.specs.declared.parcel.Parcel.{Parcel}
 use Rattle.fs_rows.specs.Granted.{with_rows}
 use Rattle.fs_server.specs.declared.state.Server.{Server}
@@ -72,9 +72,6 @@ all_has_row servers parcels r i = elim (of_parcel parcels (with_rows_of servers 
 
 -- ## Lists in order with the same rows
 
-not_both_first : (a b c d : ℕ) → is_lt (ordering_then (nat_cmp a c) (nat_cmp b d)) ≡ true → is_lt (ordering_then (nat_cmp c a) (nat_cmp d b)) ≡ false
-not_both_first a b c d h = grind (arith, nat_tests)
-
 never_first : (a b : ℕ) → is_lt (ordering_then (nat_cmp a a) (nat_cmp b b)) ≡ false
 never_first a b = grind (arith, nat_tests)
 
@@ -83,7 +80,7 @@ one_first : (x y : Row) (xs ys : List Row) → leads x xs ≡ true → leads y y
 one_first x y xs ys p q (inl e) j = e
 one_first x y xs ys p q (inr i) (inl e) = sym e
 one_first x y xs ys p q (inr i) (inr j) =
-    let wrong : true ≡ false = sym (all-In (λ s. no_before y.no s.no) ys q x i) ∙ not_both_first x.no.server x.no.count y.no.server y.no.count (all-In (λ s. no_before x.no s.no) xs p y j) in
+    let wrong : true ≡ false = sym (all-In (λ s. no_before y.no s.no) ys q x i) ∙ later x.no.server x.no.count y.no.server y.no.count (all-In (λ s. no_before x.no s.no) xs p y j) in
     absurd (cc)
 
 -- what is behind the first in one list is behind it in the other

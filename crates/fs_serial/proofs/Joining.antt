@@ -1,5 +1,5 @@
 -- The namespace that is made file by file.
-use Rattle.std.proofs.Common.{◌≡◌, ℕ, ◌+◌, ◌<◌, List, [], ◌∷◌, ◌++◌, length, take, get_or, Bool, true, false, refl, ap, sym, ◌∙◌, cond, inl, inr, arith}
+use Rattle.std.proofs.Common.{◌≡◌, ℕ, ◌+◌, ◌<◌, List, [], ◌∷◌, ◌++◌, length, take, get_or, Bool, true, false, refl, ap, sym, ◌∙◌, cond, inl, inr}
 use Rattle.std.proofs.lemmas.List.{take_more}
 use Rattle.std.proofs.lemmas.Option.{slice_get_read}
 use Rattle.std.specs.Prelude.{◌⊎◌, Option, Some, None, map}
@@ -13,6 +13,7 @@ use Rattle.fs_model.specs.Namespace.{NodeMap}
 use Rattle.fs_record.specs.declared.record.Record.{Record}
 use Rattle.fs_model.specs.declared.node.Node.{Node}
 use Rattle.fs_ident.specs.Ordered.{Keyed}
+use Rattle.fs_map.proofs.Merging.{empty as no_entries}
 use Rattle.fs_record.specs.Moving.{with_records}
 use Rattle.fs_record.specs.Records.{RecordMap, node_of, nodes_of}
 use Rattle.fs_record.proofs.Coming.{come_at, or_else}
@@ -121,10 +122,6 @@ pub parcel_joined : (parcels : List Parcel) (p : Parcel) (m : RecordMap) → wit
 parcel_joined parcels p m = nodes_listed p.records (with_parcels parcels m) ∙ ap nodes_of (sym (one_parcel parcels p m))
 
 -- no record has no node
-no_entries : {X : Type 0} (es : List X) → length es ≡ 0 → es ≡ []
-no_entries [] h = refl
-no_entries (e ∷ es) h = absurd (omega arith)
-
 pub none_entered : entries {K = List ℕ} {X = Record} {R = slice_cmp nat_cmp} empty ≡ []
 none_entered = no_entries _ (sym (len-entries {K = List ℕ} {X = Record} {R = slice_cmp nat_cmp} empty) ∙ len-empty (slice_cmp nat_cmp) Record)
 

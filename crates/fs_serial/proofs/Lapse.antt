@@ -7,6 +7,7 @@ use Rattle.fs_ident.specs.declared.actor.Session.{Session}
 use Rattle.fs_ident.proofs.Standing.{In-filter}
 use Rattle.fs_field.specs.declared.used.Use.{Use}
 use Rattle.fs_field.specs.Table.{same_no}
+use Rattle.fs_field.proofs.SameNo.{same_no_self}
 use Rattle.fs_lease.specs.Lease.{Lease as Term}
 use Rattle.fs_msg.specs.declared.answer.Answer.{Answer}
 use Rattle.fs_msg.specs.declared.client_msg.ClientMsg.{ClientMsg}
@@ -25,7 +26,6 @@ use Rattle.fs_serial.specs.Sight.{Sight}
 use Rattle.fs_serial.proofs.Carried.{GoesOnAs, exchange_still}
 use Rattle.fs_serial.proofs.Fewer.{HasFewer, settled_fewer, fewer_holds, fewer_fits}
 use Rattle.fs_serial.proofs.Knowing.{In-filter_map, from-filter_map}
-use Rattle.fs_serial.proofs.OneLease.{same_no_self}
 use Rattle.fs_serial.proofs.RowKinds.{In-kept}
 use Rattle.fs_serial.proofs.Seats.{Seat, seen_at}
 use Rattle.fs_serial.proofs.Settling.{settled_log}
@@ -69,14 +69,14 @@ leaving_stays now (Held l) h = absurd (cc)
 leaving_stays now (Pinned u) h = absurd (cc)
 leaving_stays now (Leaving l) h = refl
 
+pub number_there : (s : Standing) (t : Term) → lease_of s ≡ Some t → number_of s ≡ t.no
+number_there (Held x) t e = let q : x ≡ t = cc in ap (λ (l : Term). l.no) q
+number_there (Pinned u) t e = let q : u.lease ≡ t = cc in ap (λ (l : Term). l.no) q
+number_there (Leaving x) t e = absurd (cc)
+
 number_in : (k : Kept) (l : Lease) (o : Option Term) → lease_of k.standing ≡ o → option_map (lease_with k) o ≡ Some l → number_of k.standing ≡ l.no
 number_in k l None e h = absurd (cc)
-number_in k l (Some t) e h = its k.standing t e ∙ ap (λ (x : Lease). x.no) (let q : lease_with k t ≡ l = cc in q)
-  where
-    its : (s : Standing) (t : Term) → lease_of s ≡ Some t → number_of s ≡ t.no
-    its (Held x) t e = let q : x ≡ t = cc in ap (λ (l : Term). l.no) q
-    its (Pinned u) t e = let q : u.lease ≡ t = cc in ap (λ (l : Term). l.no) q
-    its (Leaving x) t e = absurd (cc)
+number_in k l (Some t) e h = number_there k.standing t e ∙ ap (λ (x : Lease). x.no) (let q : lease_with k t ≡ l = cc in q)
 
 pub its_number : (k : Kept) (l : Lease) → lease_in k ≡ Some l → number_of k.standing ≡ l.no
 its_number k l h = number_in k l (lease_of k.standing) refl h

@@ -2,8 +2,7 @@
 use Rattle.std.proofs.Common.{◌≡◌, ℕ, zero, suc, ◌+◌, ◌≤◌, ◌==◌, ◌||◌, max, not, nat_lt, Bool, true, false, List, [], ◌∷◌, length, length-set, cond, refl, sym, ap, ◌∙◌, subst, inl, inr, arith}
 use Rattle.std.specs.Prelude.{◌≢◌, Some, is_some, slice_get, slice_set}
 use Rattle.std.specs.List.{filter}
-use Rattle.std.proofs.lemmas.Bool.{or_parts}
-use Rattle.std.proofs.lemmas.Bool.Decides.{nat_tests}
+use Rattle.std.proofs.lemmas.Bool.{or_parts, eqb-true, eqb-false, ltb-false}
 use Rattle.std.specs.FinMap.{empty, entries}
 use Rattle.fs_ident.specs.In.{In}
 use Rattle.fs_ident.proofs.Standing.{In-filter}
@@ -104,24 +103,15 @@ places_set c k s t at p map me home ordered = record {
   ordered = ordered;
   numbered = λ j u e. elim (j == k) as (λ b. (j == k) ≡ b → u.me ≡ j) [
     | true ↦ λ q.
-        let same : j ≡ k = same_place j k q in
+        let same : j ≡ k = eqb-true j k q in
         let here : Some t ≡ Some u = sym (get_here c.servers k s t at) ∙ ap (slice_get (slice_set c.servers k t)) (sym same) ∙ e in
         let is : u ≡ t = cc in
         ap (λ (v : Server). v.me) is ∙ me ∙ p.numbered k s at ∙ sym same
-    | false ↦ λ q. p.numbered j u (sym (get_other c.servers k j t (λ w. other_place j k q (sym w))) ∙ e)
+    | false ↦ λ q. p.numbered j u (sym (get_other c.servers k j t (λ w. eqb-false j k q (sym w))) ∙ e)
   ] refl;
 }
-  where
-    same_place : (j k : ℕ) → (j == k) ≡ true → j ≡ k
-    same_place j k h = grind (arith, nat_tests)
-
-    other_place : (j k : ℕ) → (j == k) ≡ false → j ≢ k
-    other_place j k h e = grind (arith, nat_tests)
 
 -- ## The lapse
-
-not_less : (a b : ℕ) → nat_lt a b ≡ false → b ≤ a
-not_less a b h = grind (arith, nat_tests)
 
 abbrev pub begun_at : ℕ → ℕ → Server → Cluster → Cluster
 begun_at now k s c = record c { servers = slice_set c.servers k (begun now s) }
@@ -143,7 +133,7 @@ module _ (skew greatest now k : ℕ) (s : Server) (c : Cluster) (at : slice_get 
   over : (r : Row) → keep r ≡ false → r.until + s.skew ≤ greatest
   over r e =
       let live = (or_parts (not (is_mine s (file_of r.field))) (is_live (max s.last now) s.skew r) e).1 in
-      let late : r.until + s.skew ≤ max s.last now = not_less (max s.last now) (r.until + s.skew) (or_parts (is_some r.lock) (nat_lt (max s.last now) (r.until + s.skew)) live).1 in
+      let late : r.until + s.skew ≤ max s.last now = ltb-false (max s.last now) (r.until + s.skew) (or_parts (is_some r.lock) (nat_lt (max s.last now) (r.until + s.skew)) live).1 in
       omega arith
 
   rows_are : rows_of_all then.servers (parcels_of c.flying) ≡ filter keep (rows_of_all c.servers (parcels_of c.flying))

@@ -33,7 +33,7 @@ all_renewed until (n ∷ ns) rows r i =
 pub renewed_later : (given : ℕ → ℕ) (until : ℕ) (ns : List LeaseNo) (rows : List Row) → IsLater given given rows (renewed_rows until ns rows)
 renewed_later given until ns rows = later_among given given rows (renewed_rows until ns rows) (λ k. omega arith) (all_renewed until ns rows)
 
-all_released : (ns : List LeaseNo) (rows : List Row) (r : Row) → In r (released_rows ns rows) → In r rows
+pub all_released : (ns : List LeaseNo) (rows : List Row) (r : Row) → In r (released_rows ns rows) → In r rows
 all_released [] rows r i = i
 all_released (n ∷ ns) rows r i = In-filter (λ x. not (has_no n x)) r rows (all_released ns (filter (λ x. not (has_no n x)) rows) r i)
 

@@ -1,8 +1,8 @@
 -- The modes that sessions have, told in one way and another.
-use Rattle.std.proofs.Common.{◌≡◌, ℕ, ◌==◌, ◌&&◌, ◌||◌, not, Bool, true, false, List, [], ◌∷◌, refl, sym, ap, ◌∙◌, cond, arith}
+use Rattle.std.proofs.Common.{◌≡◌, ℕ, ◌==◌, ◌&&◌, ◌||◌, not, Bool, true, false, List, [], ◌∷◌, refl, sym, ap, ◌∙◌, cond}
 use Rattle.std.specs.List.{list_any}
 use Rattle.std.specs.FinMap.{get}
-use Rattle.std.proofs.lemmas.Bool.Decides.{nat_tests}
+use Rattle.std.proofs.lemmas.Bool.{eqb-true}
 use Rattle.fs_ident.specs.declared.actor.Session.{Session}
 use Rattle.fs_modes.specs.declared.modes.Mode.{Mode}
 use Rattle.fs_modes.specs.declared.modes.Mode.TheVariants.{AccR, AccW, AccD, DenyR, DenyW, DenyD}
@@ -47,9 +47,6 @@ split true true b rest = refl
 split true false b rest = refl
 split false a b rest = refl
 
-one_number : (a b : ℕ) → (a == b) ≡ true → a ≡ b
-one_number a b h = grind (arith, nat_tests)
-
 from_handles : (test : ℕ → Bool) (m : Mode) (s : Session) (modes : Modes) (hs : List Handle) → list_any (told test m) (selves_from s modes hs) ≡ ((test s.0 && has modes m) || list_any (holds test m) hs)
 from_handles test m s modes [] = refl
 from_handles test m s modes (x ∷ xs) =
@@ -63,7 +60,7 @@ from_handles test m s modes (x ∷ xs) =
         p
         ∙ ap (λ b. (test s.0 && b) || list_any (holds test m) xs) (or_has modes x.modes m)
         ∙ split (test s.0) (has modes m) (has x.modes m) (list_any (holds test m) xs)
-        ∙ ap (λ n. (test s.0 && has modes m) || ((test n && has x.modes m) || list_any (holds test m) xs)) (sym (one_number x.session.0 s.0 e))
+        ∙ ap (λ n. (test s.0 && has modes m) || ((test n && has x.modes m) || list_any (holds test m) xs)) (sym (eqb-true x.session.0 s.0 e))
     within false e p q = ap (λ b. (test s.0 && has modes m) || b) q
 
 of_handles : (test : ℕ → Bool) (m : Mode) (hs : List Handle) → list_any (told test m) (selves_of hs) ≡ list_any (holds test m) hs

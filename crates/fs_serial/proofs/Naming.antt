@@ -29,6 +29,7 @@ use Rattle.fs_view.specs.Told.{life_told, child_told, own_told, is_other_told, m
 use Rattle.fs_view.specs.View.{View, fresh}
 use Rattle.fs_view.specs.declared.walk.Walk.{Walk}
 use Rattle.fs_view.specs.Walk.{Known, Given, walk_along, walk, behind, always}
+use Rattle.fs_view.proofs.Walks.{first_behind}
 use Rattle.fs_model.specs.Sound.{AsksAccess}
 use Rattle.fs_serial.specs.Pending.{known_with, HasUse, IsCovered, NamesItsFile, NamesReserved, named_by}
 use Rattle.fs_serial.specs.Settled.{Lease}
@@ -128,10 +129,6 @@ create_unmade : (w : Field → Value) (uses : List Use) (r : Reply) (dir name : 
 create_unmade w uses r dir name kind other h cover = right_behind w uses r (Life dir) _ _ (cover (Life dir) _ (inl refl)) (dir_unmade w uses r dir name (life_told (Some (w (Life dir)))) other h (λ field kind i. cover field kind (inr i)))
 
 -- where it is Made, an identifier was asked for
-pub first_behind : (n : Need) (b : Bool) (w : Walk) → In n (behind n b w).items
-first_behind n true w = inl refl
-first_behind n false w = inl refl
-
 deeper_behind : (n : Need) (b : Bool) (w : Walk) (x : Need) → In x w.items → In x (behind n b w).items
 deeper_behind n true w x i = inr i
 deeper_behind n false w x i = inr i

@@ -2,7 +2,6 @@
 use Rattle.std.proofs.Common.{◌≡◌, ◌==◌, ◌&&◌, true, refl, ap, ◌∙◌}
 use Rattle.std.specs.Cmp.{nat_eq_equiv}
 use Rattle.std.specs.Cmp.Lexicographic.{nat_list_eq_equiv}
-use Rattle.fs_ident.specs.declared.actor.LeaseNo.{LeaseNo}
 use Rattle.fs_ident.specs.declared.actor.Session.{Session}
 use Rattle.fs_ident.proofs.Booleans.{joined}
 use Rattle.fs_modes.specs.declared.modes.Mode.{Mode}
@@ -14,9 +13,7 @@ use Rattle.fs_field.specs.declared.row.Row.{Row}
 use Rattle.fs_field.specs.declared.used.Use.{Use}
 use Rattle.fs_field.specs.Field.{same_field, same_mode, mode_rank}
 use Rattle.fs_field.specs.Table.{is_lease, has_no, same_no, same_kind}
-
-pub same_no_self : (n : LeaseNo) → same_no n n ≡ true
-same_no_self n = joined _ _ (nat_eq_equiv.refl n.server) (nat_eq_equiv.refl n.count)
+use Rattle.fs_field.proofs.SameNo.{same_no_self}
 
 same_mode_self : (m : Mode) → same_mode m m ≡ true
 same_mode_self m = nat_eq_equiv.refl (mode_rank m)

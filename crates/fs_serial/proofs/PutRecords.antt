@@ -15,7 +15,7 @@ use Rattle.fs_record.specs.Fresh.{records_after_gift, with_next}
 use Rattle.fs_record.specs.Moving.{with_records}
 use Rattle.fs_record.specs.Records.{RecordMap}
 use Rattle.fs_record.specs.declared.record.Record.{Record}
-use Rattle.fs_record.proofs.Coming.{come_at, or_else}
+use Rattle.fs_record.proofs.Coming.{come_at, or_else, or_none}
 use Rattle.fs_record.proofs.Kept.{get_with_at}
 use Rattle.fs_record.proofs.NodeValues.{key_is}
 
@@ -65,16 +65,12 @@ pub records_swap : (xs ys : Keyed Record) (m : RecordMap) → ((e : List ℕ × 
 records_swap [] ys m h = refl
 records_swap (e ∷ es) ys m h = ap (with_records es) (sym (at_past ys m e.0 (Some e.1) (h e (inl refl)))) ∙ records_swap es ys (insert m e.0 e.1) (λ x i. h x (inr i))
 
-or_nothing : (o : Option Record) → or_else o None ≡ o
-or_nothing None = refl
-or_nothing (Some r) = refl
-
 -- the records of a map make it
 pub records_alone : (m : RecordMap) → with_records (entries m) empty ≡ m
 records_alone m = same_map nat_list_cmp_total anti _ _ (λ q.
     come_at q (entries m) empty (holds _ (entries_sorted m))
     ∙ ap (or_else (find (slice_cmp nat_cmp) q (entries m))) (get-empty (slice_cmp nat_cmp) q)
-    ∙ or_nothing (find (slice_cmp nat_cmp) q (entries m))
+    ∙ or_none (find (slice_cmp nat_cmp) q (entries m))
     ∙ sym (get-entries m q))
 
 -- what stands among the entries has a record

@@ -1,5 +1,5 @@
 -- Rows that are put among others: in which order does not matter, where no two have one number.
-use Rattle.std.proofs.Common.{◌≡◌, ℕ, ◌==◌, ◌&&◌, not, Bool, true, false, List, [], ◌∷◌, ◌++◌, refl, ap, cond, subst, sym, ◌∙◌, inl, inr, arith}
+use Rattle.std.proofs.Common.{◌≡◌, ℕ, ◌==◌, ◌&&◌, not, true, false, List, [], ◌∷◌, ◌++◌, refl, ap, cond, subst, sym, ◌∙◌, inl, inr, arith}
 use Rattle.std.specs.Ordering.{nat_cmp, is_lt, ordering_then}
 use Rattle.std.proofs.lemmas.Bool.Decides.{nat_tests}
 use Rattle.fs_ident.specs.declared.actor.LeaseNo.{LeaseNo}
@@ -9,8 +9,10 @@ use Rattle.fs_ident.proofs.Passing.{all-In}
 use Rattle.fs_field.specs.declared.row.Row.{Row}
 use Rattle.fs_field.specs.Table.{has_no, is_ordered, no_before, same_no, with_row}
 use Rattle.fs_field.proofs.Order.{before_trans}
+use Rattle.fs_field.proofs.SameNo.{same_no_symm}
 use Rattle.fs_rows.specs.Granted.{with_rows}
-use Rattle.fs_parcel.proofs.Both.{all_behind, leads, ordered_before}
+use Rattle.fs_record.proofs.NodeValues.{turned}
+use Rattle.fs_parcel.proofs.Both.{leads, ordered_before}
 use Rattle.fs_serial.proofs.Leased.{In-put_here, In-put_still}
 
 -- ## Two rows
@@ -29,12 +31,6 @@ differing a b c d h = grind (arith, nat_tests)
 before_differs : (a b : LeaseNo) → no_before a b ≡ true → same_no b a ≡ false
 before_differs a b h = differing a.server a.count b.server b.count h
 
-turned_same : (a b c d : ℕ) → ((a == c) && (b == d)) ≡ ((c == a) && (d == b))
-turned_same a b c d = grind (arith, nat_tests)
-
-pub same_no_symm : (a b : LeaseNo) → same_no a b ≡ same_no b a
-same_no_symm a b = turned_same a.server a.count b.server b.count
-
 -- what does not come before a number does not come before one that is before it
 not_first : (a b y : LeaseNo) → no_before b y ≡ true → no_before a y ≡ false → no_before a b ≡ false
 not_first a b y q p =
@@ -42,10 +38,6 @@ not_first a b y q p =
       | true ↦ λ e. let wrong : true ≡ false = sym (before_trans a b y e q) ∙ p in absurd (cc)
       | false ↦ λ e. refl
     ] refl
-
-turned : {X : Type 0} (b : Bool) (x y : X) → cond (not b) x y ≡ cond b y x
-turned true x y = refl
-turned false x y = refl
 
 -- two rows with different numbers, each put in
 pub put_swap : (a b : Row) (rows : List Row) → same_no a.no b.no ≡ false → with_row a (with_row b rows) ≡ with_row b (with_row a rows)
@@ -86,13 +78,6 @@ put_past a (x ∷ xs) rows h = ap (with_rows xs) (put_swap x a rows (h x (inl re
 pub puts_swap : (xs ys rows : List Row) → ((x : Row) → In x xs → IsOther x ys) → with_rows xs (with_rows ys rows) ≡ with_rows ys (with_rows xs rows)
 puts_swap [] ys rows h = refl
 puts_swap (x ∷ xs) ys rows h = ap (with_rows xs) (sym (put_past x ys rows (h x (inl refl)))) ∙ puts_swap xs ys (with_row x rows) (λ a i. h a (inr i))
-
--- rows in order make themselves
-pub puts_alone : (rows : List Row) → is_ordered rows ≡ true → with_rows rows [] ≡ rows
-puts_alone [] h = refl
-puts_alone (r ∷ rs) h =
-    let q : (leads r rs ≡ true) × (is_ordered rs ≡ true) = both (leads r rs) (is_ordered rs) h in
-    all_behind r rs [] q.0 ∙ ap (λ rows. r ∷ rows) (puts_alone rs q.1)
 
 pub puts-append : (xs ys rows : List Row) → with_rows (xs ++ ys) rows ≡ with_rows ys (with_rows xs rows)
 puts-append [] ys rows = refl

@@ -1,7 +1,7 @@
 -- A client with an empty log answers a read, which is admitted at once.
 use Rattle.std.proofs.Common.{◌≡◌, ℕ, zero, suc, ◌+◌, ◌<◌, true, false, List, [], ◌∷◌, ◌++◌, map, refl, sym, ap, ◌∙◌, subst, inl, inr, arith, append-nil}
-use Rattle.std.specs.Prelude.{Option, Some, None, is_some, nat_lt}
-use Rattle.std.proofs.lemmas.Bool.Decides.{nat_tests}
+use Rattle.std.specs.Prelude.{Option, Some, None, is_some}
+use Rattle.std.proofs.lemmas.Bool.{ltb-true}
 use Rattle.fs_ident.specs.In.{In}
 use Rattle.fs_ident.specs.declared.actor.Session.{Session}
 use Rattle.fs_ident.specs.declared.kind.Kind.{Kind}
@@ -79,9 +79,6 @@ no_kind : (a : Option Kind) → (is_some a ≡ true → ⊥) → a ≡ None
 no_kind None h = refl
 no_kind (Some k) h = absurd (h refl)
 
-less : (a b : ℕ) → nat_lt a b ≡ true → a < b
-less a b h = grind (arith, nat_tests)
-
 -- ## Its session
 
 module _ (skew greatest : ℕ) (s : Sight) (by : Session) (replied : List Item) (c : Client) (up : List ClientMsg) (down : List Answer) (o : Op) (r : Reply) (h : Seat skew greatest s by replied c up down) (a : IsReplied c down o r) (t : IsReadNow skew greatest c r) where
@@ -107,7 +104,7 @@ module _ (skew greatest : ℕ) (s : Sight) (by : Session) (replied : List Item) 
       let q : IsUseOf c.view c.last u = use_from c.view c.last o u (ap is_some a.reply) i in
       let it : l ≡ w.lease = h.fits.distinct l w.lease held w.held (same ∙ sym w.number) in
       let until : l.until ≡ q.lease.until = ap (λ (l : Lease). l.until) it ∙ w.until ∙ sym (ap (λ (u : Use). u.until) q.used) in
-      let live : c.last < q.lease.until = less c.last q.lease.until q.live in
+      let live : c.last < q.lease.until = ltb-true c.last q.lease.until q.live in
       let within = t.within in
       let b : IsBacked s.rows l.no l.until = h.holds.backed l held (omega arith) in
       sym (h.holds.telling l held b.row b.stands b.number) ∙ sym (ap (λ es. value_after_log by l.field l.base (map (effects_in by) es)) none))

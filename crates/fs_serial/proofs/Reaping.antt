@@ -28,6 +28,8 @@ use Rattle.fs_record.specs.Fresh.{is_dir, is_directory}
 use Rattle.fs_record.specs.Records.{RecordMap, AreRecords, node_of, next_of, nodes_of}
 use Rattle.fs_record.specs.ValueOf.{selves_in, value_of, is_other}
 use Rattle.fs_record.proofs.Reaping.{reaped_next, reaped_nodes, reaped_own_value, reaped_selves, reaped_value}
+use Rattle.fs_record.proofs.AllApplied.{after_all_kept}
+use Rattle.fs_record.proofs.ValueChanges.{one_session}
 use Rattle.fs_server.specs.Reaps.{has_own, reap_item, with_reap}
 use Rattle.fs_server.specs.declared.state.Server.{Server}
 use Rattle.fs_serial.specs.Fresh.{FreshReserved, IsMade, NodesMade, Reserved, or_else, reserved_by}
@@ -38,10 +40,9 @@ use Rattle.fs_serial.specs.Rows.{PromisesKept, RowsShaped}
 use Rattle.fs_serial.specs.Serial.{AreSound, JournalSerial}
 use Rattle.fs_serial.specs.Settled.{Settled}
 use Rattle.fs_serial.specs.Sight.{Counts, Sight, sight_of}
-use Rattle.fs_serial.proofs.Facts.{items-other, made-append, made_before, records_all, serial_push}
+use Rattle.fs_serial.proofs.Facts.{items-other, made-append, made_before, serial_push}
 use Rattle.fs_serial.proofs.Relied.{relied_fits, relied_holds}
 use Rattle.fs_serial.proofs.Reply.{number_more}
-use Rattle.fs_serial.proofs.Rowed.{session_is}
 use Rattle.fs_serial.proofs.Promises.{other_stays}
 
 -- ## The records after it
@@ -81,7 +82,7 @@ value_same m rows file by shaped before kept gone x r i own =
       | true ↦ λ t. subst (λ y. value_of (records_reaped m file by) y r.field ≡ value_of m y r.field) own (other_stays m (records_reaped m file by) rows shaped before kept r i t)
       | false ↦ λ t. elim (x.0 == by.0) as (λ b. (x.0 == by.0) ≡ b → value_of (records_reaped m file by) x r.field ≡ value_of m x r.field) [
         | true ↦ λ u.
-            let is : x ≡ by = session_is x by u in
+            let is : x ≡ by = one_session x by u in
             subst (λ y. value_of (records_reaped m file by) y r.field ≡ value_of m y r.field) (sym is) (reaped_own_value by m file r.field (not_own rows file by gone r i (own ∙ is)))
         | false ↦ λ u. reaped_value by m file x r.field u (ap (λ b. b && same (file_of r.field) file) t)
       ] refl
@@ -128,7 +129,7 @@ module _ (o : Counts) (skew greatest : ℕ) (s : Server) (journal : List Item) (
   sound : AreSound after.records
   sound = record {
     space = subst IsSound (sym (reaped_nodes by s.records by file)) (step_sound (nodes_of s.records) by (op.Reap file by) sf.sound.space tt);
-    records = records_all s.records (reap_effects s.records file by) sf.sound.records;
+    records = after_all_kept s.records (reap_effects s.records file by) sf.sound.records;
   }
 
   made_still : NodesMade after.records after.journal

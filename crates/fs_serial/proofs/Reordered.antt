@@ -5,6 +5,7 @@ use Rattle.std.proofs.lemmas.List.Elements.{filter-append}
 use mathlib.Core.Path.{fun_ext}
 use Rattle.fs_ident.specs.In.{In}
 use Rattle.fs_ident.specs.declared.actor.Session.{Session}
+use Rattle.fs_record.proofs.ValueChanges.{one_session}
 use Rattle.fs_msg.specs.declared.answer.Answer.{Answer}
 use Rattle.fs_msg.specs.declared.answer.Answer.TheVariants.{Renewed}
 use Rattle.fs_msg.specs.declared.client_msg.ClientMsg.{ClientMsg}
@@ -17,7 +18,6 @@ use Rattle.fs_serial.specs.Settled.{Settled, settled, settled_now}
 use Rattle.fs_serial.specs.Sight.{sight_of}
 use Rattle.fs_serial.specs.World.{Ends, World, WorldHolds, settled_at, with_ends}
 use Rattle.fs_serial.proofs.Facts.{In-append, In-behind, In-front}
-use Rattle.fs_serial.proofs.Rowed.{session_is}
 use Rattle.fs_serial.proofs.Seats.{settled_due}
 use Rattle.fs_serial.proofs.Sending.{EndsFit, each_end}
 
@@ -108,11 +108,11 @@ module _ (greatest : ℕ) (w : World) (by : Session) (front back : List Answer) 
       }
 
   of_by : (P : Session → Ends → Type 0) → P by new → ((x : Session) → P x (w.ends x)) → (x : Session) → P x (with_ends by new w.ends x)
-  of_by P own others = each_end P by (λ z. new) w.ends (λ x t. subst (λ y. P y new) (session_is by x t) own) (λ x t. others x)
+  of_by P own others = each_end P by (λ z. new) w.ends (λ x t. subst (λ y. P y new) (one_session by x t) own) (λ x t. others x)
 
   pub reordered : WorldHolds greatest (with_first by (a ∷ (front ++ back)) w)
   reordered =
-      let same : (λ x. settled_at x (with_ends by new w.ends x)) ≡ (λ x. settled_at x (w.ends x)) = fun_ext (each_end (λ x n. settled_at x n ≡ settled_at x (w.ends x)) by (λ z. new) w.ends (λ x t. subst (λ y. settled_at y new ≡ settled_at y (w.ends y)) (session_is by x t) settled_same) (λ x t. refl)) in
+      let same : (λ x. settled_at x (with_ends by new w.ends x)) ≡ (λ x. settled_at x (w.ends x)) = fun_ext (each_end (λ x n. settled_at x n ≡ settled_at x (w.ends x)) by (λ z. new) w.ends (λ x t. subst (λ y. settled_at y new ≡ settled_at y (w.ends y)) (one_session by x t) settled_same) (λ x t. refl)) in
       record {
         all = subst (λ (c : Session → Settled). AllHold w.server.skew greatest (sight_of w.counts w.server w.journal) w.replied c) (sym same) h.all;
         clock = h.clock;

@@ -18,7 +18,7 @@ use Rattle.fs_server.specs.Ships.{item_of}
 use Rattle.fs_view.specs.declared.kept.Kept.{Kept}
 use Rattle.fs_view.specs.declared.kept.Standing.{Standing}
 use Rattle.fs_view.specs.declared.kept.Standing.TheVariants.{Held, Pinned, Leaving}
-use Rattle.fs_view.specs.Kept.{lease_of, number_of, is_leaving}
+use Rattle.fs_view.specs.Kept.{lease_of, is_leaving}
 use Rattle.fs_serial.specs.Client.{ClientFits}
 use Rattle.fs_serial.specs.Fresh.{Reserves}
 use Rattle.fs_serial.specs.Parts.{AllHold, SessionHolds, SessionFits, with_client, with_replies}
@@ -32,23 +32,19 @@ use Rattle.fs_serial.proofs.ReplyNext.{next}
 use Rattle.fs_serial.proofs.ReplyPins.{InHand, reply_client, reply_settled}
 use Rattle.fs_serial.proofs.Settling.{settled_last}
 use Rattle.fs_serial.proofs.Together.{client_changes}
+use Rattle.fs_serial.proofs.Lapse.{number_there}
 
 not_leaving : (s : Standing) (l : Term) → lease_of s ≡ Some l → is_leaving s ≡ false
 not_leaving (Held x) l e = refl
 not_leaving (Pinned u) l e = refl
 not_leaving (Leaving x) l e = absurd (cc)
 
-its_number : (s : Standing) (l : Term) → lease_of s ≡ Some l → number_of s ≡ l.no
-its_number (Held x) l e = let q : x ≡ l = cc in ap (λ (l : Term). l.no) q
-its_number (Pinned u) l e = let q : u.lease ≡ l = cc in ap (λ (l : Term). l.no) q
-its_number (Leaving x) l e = absurd (cc)
-
 module _ (by : Session) (c : Client) (down : List Answer) (o : Op) (r : Reply) (a : IsReplied c down o r) (f : ClientFits by c) where
   -- no lease that it uses goes back
   pub in_hand : InHand (entry_of o r c).uses c.view.leases
   in_hand u i k j e =
       let q : IsUseOf c.view c.last u = use_from c.view c.last o u (ap is_some a.reply) i in
-      let same : k ≡ q.kept = f.distinct k q.kept j q.among (e ∙ ap (λ (u : Use). u.no) (sym q.used) ∙ sym (its_number q.kept.standing q.lease q.is)) in
+      let same : k ≡ q.kept = f.distinct k q.kept j q.among (e ∙ ap (λ (u : Use). u.no) (sym q.used) ∙ sym (number_there q.kept.standing q.lease q.is)) in
       ap (λ (k : Kept). is_leaving k.standing) same ∙ not_leaving q.kept.standing q.lease q.is
 
   own : (u : Use) → In u (entry_of o r c).uses → HasLease (settled_now c).leases u

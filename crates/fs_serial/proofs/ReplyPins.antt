@@ -10,6 +10,7 @@ use Rattle.fs_ident.proofs.Standing.{In-map}
 use Rattle.fs_field.specs.declared.effect.Effect.{Effect}
 use Rattle.fs_field.specs.declared.used.Use.{Use}
 use Rattle.fs_field.specs.Table.{same_no}
+use Rattle.fs_field.proofs.SameNo.{same_no_is, same_no_symm}
 use Rattle.fs_lease.specs.Lease.{Lease as Term}
 use Rattle.fs_msg.specs.declared.entry.Entry.{Entry}
 use Rattle.fs_record.specs.Effects.{effects_of}
@@ -21,20 +22,14 @@ use Rattle.fs_view.specs.declared.kept.Standing.TheVariants.{Held, Pinned, Leavi
 use Rattle.fs_view.specs.Kept.{number_of, entries_of, file_in, lease_of, has_number, is_leaving, pinned}
 use Rattle.fs_view.specs.View.{pinned_at, pinned_all}
 use Rattle.fs_view.proofs.Pins.{with_pin}
-use Rattle.fs_view.proofs.Places.{same_no_is}
+use Rattle.fs_view.proofs.Changed.{pinned_number}
 use Rattle.fs_serial.specs.Client.{ClientFits, KeptDistinct, times_used, times_in}
 use Rattle.fs_serial.specs.Settled.{Lease, Settled, lease_in, effects_in, settled_now}
 use Rattle.fs_serial.specs.Pending.{HasLease, UsesHeld}
 use Rattle.fs_serial.proofs.Facts.{each_image, each_more}
-use Rattle.fs_serial.proofs.PutRows.{same_no_symm}
 use Rattle.fs_serial.proofs.Reply.{with_last}
 
 -- ## One use more
-
-pub pin_number : (s : Standing) → number_of (pinned s) ≡ number_of s
-pin_number (Held l) = refl
-pin_number (Pinned u) = refl
-pin_number (Leaving l) = refl
 
 -- the file and the number, as a message names them
 abbrev pub pair_in : Standing → List ℕ × LeaseNo
@@ -95,7 +90,7 @@ distinct_mapped f same ks h k l i j e =
 
 distinct_all : (us : List Use) (ks : List Kept) → KeptDistinct ks → KeptDistinct (pinned_all us ks)
 distinct_all [] ks h = h
-distinct_all (u ∷ us) ks h = distinct_all us (pinned_at u.no ks) (distinct_mapped (with_pin u.no) (one_keeps number_of pinned pin_number u.no) ks h)
+distinct_all (u ∷ us) ks h = distinct_all us (pinned_at u.no ks) (distinct_mapped (with_pin u.no) (one_keeps number_of pinned pinned_number u.no) ks h)
 
 -- ## Counts
 
@@ -104,7 +99,7 @@ abbrev pub InHand : List Use → List Kept → Type 0
 InHand us ks = (u : Use) → In u us → (k : Kept) → In k ks → number_of k.standing ≡ u.no → is_leaving k.standing ≡ false
 
 in_hand_still : (us : List Use) (n : LeaseNo) (ks : List Kept) → InHand us ks → InHand us (pinned_at n ks)
-in_hand_still us n ks h u i = each_image (with_pin n) (λ k. number_of k.standing ≡ u.no → is_leaving k.standing ≡ false) ks (λ k j e. one_keeps is_leaving pinned pin_leaving n k ∙ h u i k j (sym (one_keeps number_of pinned pin_number n k) ∙ e))
+in_hand_still us n ks h u i = each_image (with_pin n) (λ k. number_of k.standing ≡ u.no → is_leaving k.standing ≡ false) ks (λ k j e. one_keeps is_leaving pinned pin_leaving n k ∙ h u i k j (sym (one_keeps number_of pinned pinned_number n k) ∙ e))
 
 abbrev one_more : Bool → ℕ → ℕ
 one_more b n = cond b (n + 1) n
@@ -112,7 +107,7 @@ one_more b n = cond b (n + 1) n
 counted_one : (u : Use) (ks : List Kept) (count : LeaseNo → ℕ) → ((k : Kept) → In k ks → number_of k.standing ≡ u.no → is_leaving k.standing ≡ false) → ((k : Kept) → In k ks → entries_of k.standing ≡ count (number_of k.standing))
     → (k : Kept) → In k (pinned_at u.no ks) → entries_of k.standing ≡ one_more (same_no u.no (number_of k.standing)) (count (number_of k.standing))
 counted_one u ks count hand h = each_image (with_pin u.no) (λ k. entries_of k.standing ≡ one_more (same_no u.no (number_of k.standing)) (count (number_of k.standing))) ks (λ k i.
-    let number : number_of (with_pin u.no k).standing ≡ number_of k.standing = one_keeps number_of pinned pin_number u.no k in
+    let number : number_of (with_pin u.no k).standing ≡ number_of k.standing = one_keeps number_of pinned pinned_number u.no k in
     within k i (has_number u.no k) refl
     ∙ ap (λ b. one_more b (count (number_of k.standing))) (same_no_symm (number_of k.standing) u.no)
     ∙ ap (λ n. one_more (same_no u.no n) (count n)) (sym number))

@@ -21,6 +21,7 @@ use Rattle.fs_view.specs.declared.kept.Kept.{Kept}
 use Rattle.fs_view.specs.Kept.{number_of, is_leaving, pinned}
 use Rattle.fs_view.specs.View.{pinned_at, pinned_all}
 use Rattle.fs_view.proofs.Pins.{with_pin}
+use Rattle.fs_view.proofs.Changed.{pinned_number}
 use Rattle.fs_serial.specs.Exchange.{ExchangeFits}
 use Rattle.fs_serial.specs.Parts.{SessionHolds, SessionFits}
 use Rattle.fs_serial.specs.Settled.{Settled, settled_now}
@@ -31,7 +32,7 @@ use Rattle.fs_serial.proofs.Facts.{In-mapped}
 use Rattle.fs_serial.proofs.Reply.{with_last, reply_holds, reply_fits}
 use Rattle.fs_serial.proofs.ReplyAll.{replied_client, replied_settled}
 use Rattle.fs_serial.proofs.ReplyNext.{next}
-use Rattle.fs_serial.proofs.ReplyPins.{one_keeps, pair_in, pin_number, pin_pair, pin_leaving, reply_settled}
+use Rattle.fs_serial.proofs.ReplyPins.{one_keeps, pair_in, pin_pair, pin_leaving, reply_settled}
 use Rattle.fs_serial.proofs.Seats.{Seat, seen_at}
 
 -- ## Pinned leases keep their numbers and files, and which go back
@@ -47,7 +48,7 @@ pinned_after : (us : List Use) (ks : List Kept) (k : Kept) → In k ks → (j : 
 pinned_after [] ks k i = (k, i, refl, refl)
 pinned_after (u ∷ us) ks k i =
     let q = pinned_after us (pinned_at u.no ks) (with_pin u.no k) (In-mapped (with_pin u.no) k ks i) in
-    (q.0, q.1, q.2 ∙ one_keeps number_of pinned pin_number u.no k, q.3 ∙ one_keeps is_leaving pinned pin_leaving u.no k)
+    (q.0, q.1, q.2 ∙ one_keeps number_of pinned pinned_number u.no k, q.3 ∙ one_keeps is_leaving pinned pin_leaving u.no k)
 
 module _ (skew greatest : ℕ) (s : Sight) (by : Session) (replied : List Item) (c : Client) (up : List ClientMsg) (down : List Answer) (o : Op) (r : Reply) (h : Seat skew greatest s by replied c up down) (a : IsReplied c down o r) where
   abbrev e : Entry

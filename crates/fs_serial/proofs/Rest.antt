@@ -17,6 +17,7 @@ use Rattle.fs_field.specs.declared.row.Row.{Row}
 use Rattle.fs_field.specs.Field.{file_of}
 use Rattle.fs_field.specs.Table.{has_no, is_ordered, no_before}
 use Rattle.fs_field.proofs.Order.{ordered_put}
+use Rattle.fs_field.proofs.SameNo.{same_no_symm}
 use Rattle.fs_map.specs.Map.{server_of}
 use Rattle.fs_moderows.specs.Answer.{answer_other, answer_self, given_row}
 use Rattle.fs_record.specs.Applied.{changed_file, records_after_all}
@@ -33,7 +34,7 @@ use Rattle.fs_server.specs.Server.{end_of, is_mine, next_number}
 use Rattle.fs_server.specs.declared.state.Server.{Server}
 use Rattle.fs_serial.proofs.Facts.{same_is}
 use Rattle.fs_serial.proofs.PutRecords.{AreOn, AreOther, effects_home, effects_past, get_past}
-use Rattle.fs_serial.proofs.PutRows.{In-puts_here, IsOther, puts_other, put_past, same_no_symm}
+use Rattle.fs_serial.proofs.PutRows.{In-puts_here, IsOther, puts_other, put_past}
 use Rattle.fs_serial.proofs.Unseen.{AreOff, answer_past, find_past, other_past, self_past}
 
 pub record Rest : Type 0 where

@@ -4,6 +4,7 @@ use Rattle.std.specs.Prelude.{Some, slice_get, slice_set}
 use Rattle.std.specs.List.{filter, list_all}
 use Rattle.std.specs.FinMap.{empty, entries}
 use Rattle.std.proofs.lemmas.List.Elements.{filter-append}
+use Rattle.std.proofs.lemmas.Bool.{false_from_ne_true}
 use Rattle.fs_ident.specs.In.{In}
 use Rattle.fs_ident.specs.Ordered.{Keyed}
 use Rattle.fs_ident.proofs.Booleans.{both}
@@ -12,8 +13,9 @@ use Rattle.fs_ident.proofs.Standing.{In-map}
 use Rattle.fs_field.specs.declared.row.Row.{Row}
 use Rattle.fs_field.specs.Field.{file_of}
 use Rattle.fs_field.specs.Table.{is_ordered}
+use Rattle.fs_field.proofs.SameNo.{same_no_symm}
 use Rattle.fs_map.specs.Map.{gives}
-use Rattle.fs_parcel.proofs.Both.{ordered_before}
+use Rattle.fs_parcel.proofs.Both.{ordered_before, alone}
 use Rattle.fs_record.specs.Moving.{with_records}
 use Rattle.fs_record.specs.Records.{RecordMap}
 use Rattle.fs_record.specs.declared.parcel.Parcel.{Parcel}
@@ -28,7 +30,7 @@ use Rattle.fs_serial.specs.Places.{IsHome, PlacesHold, gives_it, places_for}
 use Rattle.fs_serial.specs.Seen.{with_all}
 use Rattle.fs_serial.proofs.Facts.{In-append, In-behind, In-front}
 use Rattle.fs_serial.proofs.PutRecords.{AreOther, entry_has, records-append, records_alone, records_swap}
-use Rattle.fs_serial.proofs.PutRows.{In-puts_here, IsOther, puts-append, puts_alone, puts_other, puts_swap, same_no_symm}
+use Rattle.fs_serial.proofs.PutRows.{In-puts_here, IsOther, puts-append, puts_other, puts_swap}
 use Rattle.fs_serial.proofs.Rest.{IsApart, Rest, joined}
 
 -- ## A server among the others
@@ -107,7 +109,7 @@ module _ (front back : List Server) (parcels : List Parcel) (t : Server) where
   pub rows_joined : is_ordered t.rows ≡ true → ((x : Row) → In x (rows_of_servers front) → IsOther x t.rows) → rows_of_all (front ++ t ∷ back) parcels ≡ with_rows (rest_of front back parcels).rows t.rows
   rows_joined o h =
       in_order
-      ∙ ap (λ rows. with_rows (rows_of_parcels parcels) (with_rows (rows_of_servers back) rows)) (sym (puts_swap (rows_of_servers front) t.rows [] h) ∙ ap (with_rows (rows_of_servers front)) (puts_alone t.rows o))
+      ∙ ap (λ rows. with_rows (rows_of_parcels parcels) (with_rows (rows_of_servers back) rows)) (sym (puts_swap (rows_of_servers front) t.rows [] h) ∙ ap (with_rows (rows_of_servers front)) (alone t.rows o))
       ∙ sym (puts-append (rows_of_servers front) (rows_of_servers back ++ rows_of_parcels parcels) t.rows ∙ puts-append (rows_of_servers back) (rows_of_parcels parcels) (with_rows (rows_of_servers front) t.rows))
 
   -- where all rows are in order, those of the server have other numbers than those before it
@@ -157,10 +159,6 @@ count_some test x (y ∷ ys) i h =
       ]
     ] refl
 
-false_if : (b : Bool) → (b ≡ true → ⊥) → b ≡ false
-false_if true h = absurd (h refl)
-false_if false h = refl
-
 module _ (front back : List Server) (flying : List Flying) (s : Server) (id : List ℕ) (one : places_for id (front ++ s ∷ back) flying ≡ 1) (mine : is_mine s id ≡ true) where
   abbrev manages : Server → Bool
   manages t = is_mine t id
@@ -177,13 +175,13 @@ module _ (front back : List Server) (flying : List Flying) (s : Server) (id : Li
       one_more xs = omega arith
 
   pub not_front : (t : Server) → In t front → is_mine t id ≡ false
-  not_front t i = false_if (is_mine t id) (λ h. let l = count_some manages t front i h in let c = counted in absurd (omega arith))
+  not_front t i = false_from_ne_true (is_mine t id) (λ h. let l = count_some manages t front i h in let c = counted in absurd (omega arith))
 
   pub not_back : (t : Server) → In t back → is_mine t id ≡ false
-  not_back t i = false_if (is_mine t id) (λ h. let l = count_some manages t back i h in let c = counted in absurd (omega arith))
+  not_back t i = false_from_ne_true (is_mine t id) (λ h. let l = count_some manages t back i h in let c = counted in absurd (omega arith))
 
   pub not_flying : (f : Flying) → In f flying → gives_it id f ≡ false
-  not_flying f i = false_if (gives_it id f) (λ h. let l = count_some (gives_it id) f flying i h in let c = counted in absurd (omega arith))
+  not_flying f i = false_from_ne_true (gives_it id f) (λ h. let l = count_some (gives_it id) f flying i h in let c = counted in absurd (omega arith))
 
 -- a row of several servers is one of them
 row_of : (ss : List Server) (r : Row) → In r (rows_of_servers ss) → (t : Server) × In t ss × In r t.rows
@@ -279,8 +277,8 @@ module _ (c : Cluster) (k : ℕ) (s : Server) (places : PlacesHold c) (b : IsBet
   -- the rest is apart from the server
   pub apart_of : IsApart rest s
   apart_of = record {
-    rows = λ r i. false_if (is_mine s (file_of r.field)) (off_rows r i);
-    records = λ e i. false_if (is_mine s e.0) (off_files e i);
+    rows = λ r i. false_from_ne_true (is_mine s (file_of r.field)) (off_rows r i);
+    records = λ e i. false_from_ne_true (is_mine s e.0) (off_files e i);
     own_rows = own_home.rows;
     own_records = own_home.records;
     ordered = subst (λ rows. is_ordered rows ≡ true) (rows_joined b.front b.back parcels s own_home.ordered (front_other b.front b.back parcels s all_ordered)) all_ordered;

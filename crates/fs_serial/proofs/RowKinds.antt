@@ -11,9 +11,9 @@ use Rattle.fs_ident.proofs.Standing.{In-filter, In-map}
 use Rattle.fs_field.specs.declared.row.Row.{Row}
 use Rattle.fs_field.specs.Table.{has_no, renewed_row, same_no}
 use Rattle.fs_field.proofs.Leases.{NoPlainConflict-filter, NoPlainConflict-map, renewed_same}
+use Rattle.fs_field.proofs.SameNo.{same_no_is}
 use Rattle.fs_msg.specs.declared.item.Item.{Item}
 use Rattle.fs_server.specs.declared.state.Server.{Server}
-use Rattle.fs_view.proofs.Places.{same_no_is}
 use Rattle.fs_serial.specs.Exchange.{ReturnFits}
 use Rattle.fs_serial.specs.Parts.{AllHold}
 use Rattle.fs_serial.specs.Settled.{Lease, Settled}

@@ -1,7 +1,7 @@
 -- The rows that the server finds for the uses of an entry.
-use Rattle.std.proofs.Common.{◌≡◌, ℕ, ◌==◌, ◌&&◌, not, Bool, true, false, List, refl, ap, ap₂, arith}
+use Rattle.std.proofs.Common.{◌≡◌, ◌==◌, ◌&&◌, not, true, List, refl, ap, ap₂}
 use Rattle.std.specs.Prelude.{None}
-use Rattle.std.proofs.lemmas.Bool.Decides.{nat_tests}
+use Rattle.std.proofs.lemmas.Bool.{not-false}
 use Rattle.fs_ident.specs.Ident.{same}
 use Rattle.fs_ident.specs.In.{In}
 use Rattle.fs_ident.specs.declared.actor.Session.{Session}
@@ -15,9 +15,10 @@ use Rattle.fs_field.specs.declared.row.Row.{Row}
 use Rattle.fs_field.specs.declared.used.Use.{Use}
 use Rattle.fs_field.specs.Field.{same_field, same_mode}
 use Rattle.fs_field.specs.Table.{is_lease, same_kind, has_no}
+use Rattle.fs_field.proofs.SameNo.{same_no_is}
 use Rattle.fs_server.specs.Ships.{has_row, first_gone}
 use Rattle.fs_moderows.proofs.Witnesses.{same_mode_is}
-use Rattle.fs_view.proofs.Places.{same_no_is}
+use Rattle.fs_record.proofs.ValueChanges.{one_session}
 use Rattle.fs_serial.specs.Pending.{AllStand, Stands}
 use Rattle.fs_serial.proofs.Facts.{any-In, same_is}
 
@@ -36,25 +37,15 @@ same_kind_is Shared Shared h = refl
 same_kind_is Exclusive Exclusive h = refl
 same_kind_is k l h = absurd (cc)
 
-same_number : (a b : ℕ) → (a == b) ≡ true → a ≡ b
-same_number a b h = grind (arith, nat_tests)
-
-pub session_is : (a b : Session) → (a.0 == b.0) ≡ true → a ≡ b
-session_is a b h = ap (λ n. let s : Session = record { 0 = n } in s) (same_number a.0 b.0 h)
-
 pub row_is : (rows : List Row) (by : Session) (u : Use) (r : Row) → In r rows → is_lease u.no by u.field u.kind r ≡ true → Stands rows by u
 row_is rows by u r i h =
     let p = both ((has_no u.no r && (r.session.0 == by.0)) && same_field r.field u.field) (same_kind r.kind u.kind) h in
     let q = both (has_no u.no r && (r.session.0 == by.0)) (same_field r.field u.field) p.0 in
     let k = both (has_no u.no r) (r.session.0 == by.0) q.0 in
-    record { row = r; stands = i; number = same_no_is r.no u.no k.0; session = session_is r.session by k.1; field = same_field_is r.field u.field q.1; kind = same_kind_is r.kind u.kind p.1 }
-
-not_false : (b : Bool) → not b ≡ false → b ≡ true
-not_false true h = refl
-not_false false h = absurd (cc)
+    record { row = r; stands = i; number = same_no_is r.no u.no k.0; session = one_session r.session by k.1; field = same_field_is r.field u.field q.1; kind = same_kind_is r.kind u.kind p.1 }
 
 -- where no use is without its row, each has one
 pub all_found : (rows : List Row) (by : Session) (uses : List Use) → first_gone rows by uses ≡ None → AllStand rows by uses
 all_found rows by uses h u i =
-    let q = any-In (is_lease u.no by u.field u.kind) rows (not_false (has_row rows by u) (none_pass (λ u. not (has_row rows by u)) uses h u i)) in
+    let q = any-In (is_lease u.no by u.field u.kind) rows (not-false (has_row rows by u) (none_pass (λ u. not (has_row rows by u)) uses h u i)) in
     row_is rows by u q.0 q.1 q.2

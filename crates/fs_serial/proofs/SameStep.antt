@@ -12,6 +12,7 @@ use Rattle.fs_field.specs.declared.lease_kind.LeaseKind.{LeaseKind}
 use Rattle.fs_field.specs.declared.used.Use.{Use}
 use Rattle.fs_field.specs.Field.{file_of}
 use Rattle.fs_field.specs.Table.{has_no, is_ordered}
+use Rattle.fs_field.proofs.SameNo.{same_no_is}
 use Rattle.fs_map.specs.Change.{at}
 use Rattle.fs_map.specs.Lists.{places_of}
 use Rattle.fs_map.specs.Map.{IsMap}
@@ -39,7 +40,6 @@ use Rattle.fs_server.specs.Step.{event_step, recall_step}
 use Rattle.fs_server.specs.declared.event.ServerEvent.{ServerEvent}
 use Rattle.fs_server.specs.declared.event.ServerEvent.TheVariants.{FromClient, FromPeer, Move, Recall, Turn}
 use Rattle.fs_server.specs.declared.state.Server.{Server}
-use Rattle.fs_view.proofs.Places.{same_no_is}
 use Rattle.fs_serial.specs.Cluster.{Cluster, Flying, after_step, parcels_of, without_parcel}
 use Rattle.fs_serial.specs.Exchange.{pairs_in}
 use Rattle.fs_serial.specs.Fresh.{IsAtOrBelow, IsMade}

@@ -11,6 +11,7 @@ use Rattle.fs_ident.specs.declared.actor.Session.{Session}
 use Rattle.fs_ident.proofs.Standing.{In-map}
 use Rattle.fs_field.specs.declared.row.Row.{Row}
 use Rattle.fs_field.specs.Table.{has_no}
+use Rattle.fs_record.proofs.ValueChanges.{one_session}
 use Rattle.fs_msg.specs.declared.answer.Answer.{Answer}
 use Rattle.fs_msg.specs.declared.answer.Answer.TheVariants.{Renewed, Recall}
 use Rattle.fs_msg.specs.declared.client_msg.ClientMsg.{ClientMsg}
@@ -35,7 +36,6 @@ use Rattle.fs_serial.specs.Sight.{sight_of}
 use Rattle.fs_serial.specs.World.{Ends, GoesOn, World, WorldHolds, settled_at, with_answer, with_sent, without_question}
 use Rattle.fs_serial.proofs.Facts.{In-append}
 use Rattle.fs_serial.proofs.Older.{IsLater, later_pairs}
-use Rattle.fs_serial.proofs.Rowed.{session_is}
 use Rattle.fs_serial.proofs.Settling.{later}
 use Rattle.fs_serial.proofs.Together.{its_client, other_client}
 
@@ -200,7 +200,7 @@ module _ (greatest : ℕ) (w : World) (t : Server) (journal : List Item) (by : S
 
   settled_are : (λ (x : Session). settled_at x (cond (by.0 == x.0) (taken a (w.ends x)) (w.ends x))) ≡ with_client by (told by a (base by)) base
   settled_are = fun_ext (each_end (λ x e. settled_at x e ≡ with_client by (told by a (base by)) base x) by (taken a) w.ends
-      (λ x q. settled-push x (w.ends x).down a (settled_now (w.ends x).client) ∙ subst (λ y. told y a (base y) ≡ with_client by (told by a (base by)) base y) (session_is by x q) (sym (its_client by (told by a (base by)) base)))
+      (λ x q. settled-push x (w.ends x).down a (settled_now (w.ends x).client) ∙ subst (λ y. told y a (base y) ≡ with_client by (told by a (base by)) base y) (one_session by x q) (sym (its_client by (told by a (base by)) base)))
       (λ x q. sym (other_client by x (told by a (base by)) base q)))
 
   module _ (skew : t.skew ≡ w.server.skew) (clock : t.last ≤ greatest) (later_then : IsLater (sight_of w.counts w.server w.journal).given (sight_of w.counts t journal).given w.server.rows t.rows) (goes : GoesOn w.server.skew greatest (sight_of w.counts t journal) w.replied w.ends (with_client by (told by a (base by)) base)) (answers : is_recall a ≡ false) (fits : (x : Exchange) → (w.ends by).client.exchange ≡ Some x → IsQuestion x m → answer_fits (server_of_question x) x a (w.ends by).client ≡ true) (renewals : (ends : List (LeaseNo × Option ℕ)) (e : End) → a ≡ Renewed ends e → (n : LeaseNo) (until : ℕ) → In (n, Some until) ends → IsBacked t.rows n until) where
@@ -241,6 +241,6 @@ module _ (greatest : ℕ) (w : World) (t : Server) (journal : List Item) (by : S
       clients = each_end (λ x e. ClientFits x e.client) by (taken a) w.ends (λ x q. h.clients x) (λ x q. h.clients x);
       exchanges = subst (λ k. (x : Session) → EndsFit k greatest (sight_of w.counts t journal).given t.rows x (cond (by.0 == x.0) (taken a (w.ends x)) (w.ends x))) (sym skew)
           (each_end (λ x e. EndsFit w.server.skew greatest (sight_of w.counts t journal).given t.rows x e) by (taken a) w.ends
-          (λ x q. subst (λ y. EndsFit w.server.skew greatest (sight_of w.counts t journal).given t.rows y (taken a (w.ends y))) (session_is by x q) own_fit)
+          (λ x q. subst (λ y. EndsFit w.server.skew greatest (sight_of w.counts t journal).given t.rows y (taken a (w.ends y))) (one_session by x q) own_fit)
           other_fit);
     })

@@ -9,6 +9,7 @@ use Rattle.fs_field.specs.declared.field.Field.{Field}
 use Rattle.fs_field.specs.declared.lease_kind.LeaseKind.{LeaseKind}
 use Rattle.fs_field.specs.declared.row.Row.{Row}
 use Rattle.fs_field.specs.Table.{same_no}
+use Rattle.fs_field.proofs.SameNo.{same_no_self}
 use Rattle.fs_lease.specs.Lease.{Lease as Term}
 use Rattle.fs_msg.specs.declared.answer.Answer.{Answer}
 use Rattle.fs_msg.specs.declared.client_msg.ClientMsg.{ClientMsg}
@@ -27,13 +28,13 @@ use Rattle.fs_view.specs.declared.kept.Standing.{Standing}
 use Rattle.fs_view.specs.declared.kept.Standing.TheVariants.{Held, Pinned, Leaving}
 use Rattle.fs_view.specs.Kept.{number_of, has_number, is_leaving, is_pinned, entries_of, lease_of, leaving}
 use Rattle.fs_view.specs.View.{View, with_leaving}
+use Rattle.fs_view.proofs.Changed.{leaving_number}
 use Rattle.fs_serial.specs.Client.{KeptDistinct}
 use Rattle.fs_serial.specs.Exchange.{due, IsQuestion, OneExchange, PairsFit, ShipsLog, ShipsFront, IsFront, IsReturned, ReleasesReturned, AsksGivenKinds, ReturnsFit, RenewalsBacked, ExchangeFits}
 use Rattle.fs_serial.specs.Settled.{Lease, Settled, lease_in, lease_with, settled_now}
 use Rattle.fs_serial.specs.Sight.{Sight}
 use Rattle.fs_serial.proofs.Facts.{In-mapped}
 use Rattle.fs_serial.proofs.KeptPairs.{kept_pair, no_pairs, renews_pairs}
-use Rattle.fs_serial.proofs.OneLease.{same_no_self}
 use Rattle.fs_serial.proofs.ReplyPins.{distinct_mapped, one_keeps, pair_in}
 use Rattle.fs_serial.proofs.Seats.{Seat, seen_at, idle_due, settled_none}
 
@@ -134,11 +135,6 @@ seat_renews skew greatest s by replied c up down to ks among idle h = seat_askin
 abbrev one_leaves : LeaseNo → Kept → Kept
 one_leaves n k = cond (has_number n k) (record k { standing = leaving k.standing }) k
 
-leave_number : (s : Standing) → number_of (leaving s) ≡ number_of s
-leave_number (Held l) = refl
-leave_number (Pinned u) = refl
-leave_number (Leaving l) = refl
-
 leave_pair : (s : Standing) → pair_in (leaving s) ≡ pair_in s
 leave_pair (Held l) = refl
 leave_pair (Pinned u) = refl
@@ -199,7 +195,7 @@ came_all (n ∷ ns) v k i =
     record {
       kept = p.0;
       among = p.1.0;
-      number = sym (one_keeps number_of leaving leave_number n p.0) ∙ ap (λ (x : Kept). number_of x.standing) (sym p.1.1) ∙ q.number;
+      number = sym (one_keeps number_of leaving leaving_number n p.0) ∙ ap (λ (x : Kept). number_of x.standing) (sym p.1.1) ∙ q.number;
       pair = sym (one_keeps pair_in leaving leave_pair n p.0) ∙ ap pair_of (sym p.1.1) ∙ q.pair;
       entries = sym (one_keeps entries_of leaving leave_entries n p.0) ∙ ap (λ (x : Kept). entries_of x.standing) (sym p.1.1) ∙ q.entries;
       lease = λ l h. one_lease n p.0 l (ap lease_in (sym p.1.1) ∙ q.lease l h);
@@ -239,7 +235,7 @@ goes_all (n ∷ ns) v k i =
     record {
       kept = q.kept;
       among = q.among;
-      number = q.number ∙ one_keeps number_of leaving leave_number n k;
+      number = q.number ∙ one_keeps number_of leaving leaving_number n k;
       leaving = λ h. q.leaving (one_goes n k h);
       pinned = λ h. q.pinned (one_keeps is_pinned leaving leave_pinned n k ∙ h) ∙ one_stays n k h;
     }
@@ -251,9 +247,9 @@ left_all (n ∷ ns) v k i (inl e) h =
     let there : has_number n k ≡ true = ap (λ m. same_no m n) e ∙ same_no_self n in
     let goes : is_leaving (one_leaves n k).standing ≡ true = ap (λ b. is_leaving (cond b (let x : Kept = record k { standing = leaving k.standing } in x) k).standing) there ∙ unused_goes k.standing h in
     let q = goes_all ns (with_leaving n v) (one_leaves n k) (In-mapped (one_leaves n) k v.leases i) in
-    record { kept = q.kept; among = q.among; number = q.number ∙ one_keeps number_of leaving leave_number n k; leaving = q.leaving goes }
+    record { kept = q.kept; among = q.among; number = q.number ∙ one_keeps number_of leaving leaving_number n k; leaving = q.leaving goes }
 left_all (n ∷ ns) v k i (inr j) h =
-    let number : number_of (one_leaves n k).standing ≡ number_of k.standing = one_keeps number_of leaving leave_number n k in
+    let number : number_of (one_leaves n k).standing ≡ number_of k.standing = one_keeps number_of leaving leaving_number n k in
     subst (IsReturned (leaving_all ns (with_leaving n v)).leases) number
     (left_all ns (with_leaving n v) (one_leaves n k) (In-mapped (one_leaves n) k v.leases i) (subst (λ m. In m ns) (sym number) j) (one_keeps is_pinned leaving leave_pinned n k ∙ h))
 
@@ -267,7 +263,7 @@ all_pending (n ∷ ns) v = all_pending ns (with_leaving n v)
 
 pub all_distinct : (ns : List LeaseNo) (v : View) → KeptDistinct v.leases → KeptDistinct (leaving_all ns v).leases
 all_distinct [] v h = h
-all_distinct (n ∷ ns) v h = all_distinct ns (with_leaving n v) (distinct_mapped (one_leaves n) (one_keeps number_of leaving leave_number n) v.leases h)
+all_distinct (n ∷ ns) v h = all_distinct ns (with_leaving n v) (distinct_mapped (one_leaves n) (one_keeps number_of leaving leaving_number n) v.leases h)
 
 -- what has to go back no entry uses
 pub unused_returned : (recalled : Bool) (s : Standing) → has_to_go recalled s ≡ true → is_pinned s ≡ false

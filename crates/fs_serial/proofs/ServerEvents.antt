@@ -11,6 +11,7 @@ use Rattle.fs_ident.proofs.Booleans.{joined}
 use Rattle.fs_field.specs.declared.field.Field.{Field}
 use Rattle.fs_field.specs.declared.lease_kind.LeaseKind.{LeaseKind}
 use Rattle.fs_field.specs.declared.row.Row.{Row}
+use Rattle.fs_field.proofs.SameNo.{same_no_self}
 use Rattle.fs_msg.specs.declared.answer.Answer.{Answer}
 use Rattle.fs_msg.specs.declared.answer.Answer.TheVariants.{Granted, Renewed, Released, Shipped}
 use Rattle.fs_msg.specs.declared.answer.Grant.{Grant}
@@ -41,7 +42,6 @@ use Rattle.fs_serial.proofs.Asks as asks
 use Rattle.fs_serial.proofs.Counting.{given_by}
 use Rattle.fs_serial.proofs.Facts.{In-front}
 use Rattle.fs_serial.proofs.LaterSteps.{released_later, renewed_later}
-use Rattle.fs_serial.proofs.OneLease.{same_no_self}
 use Rattle.fs_serial.proofs.PairLoops.{ends_backed, rows_released, rows_renewed}
 use Rattle.fs_serial.proofs.Seats.{settled_none}
 use Rattle.fs_serial.proofs.Sending.{asked, goes_of, recall_all, recall_with, world_all_recalled, world_answered}
@@ -205,7 +205,7 @@ module _ (greatest : ℕ) (w : World) (by : Session) (h : WorldHolds greatest w)
       let start : GoesOn s.skew greatest (sight_of w.counts s (w.journal ++ [])) w.replied w.ends (with_client by d base) =
       subst (λ js. GoesOn s.skew greatest (sight_of w.counts s js) w.replied w.ends (with_client by d base)) (sym (append-nil w.journal))
       (subst (λ k. GoesOn s.skew greatest (sight_of w.counts s w.journal) w.replied w.ends k) (sym (client_same by base)) (goes_of greatest w h)) in
-      let r : IsShipped w.counts s.skew greatest w.journal w.replied w.ends base by entries d [] x = shipped_still w.counts s.skew greatest w.journal w.replied w.ends base by entries front.rest s [] d front.log front.over start in
+      let r : IsShipped w.counts s.skew greatest w.journal w.replied w.ends base by entries d [] x = shipped_still w.counts s.skew greatest w.journal w.replied w.ends base by entries s [] front.rest d front.log front.over start in
       let count : length x.admitted ≡ length r.more = ap length r.split in
       let same = ships_same by entries s [] in
       let clock = h.clock in

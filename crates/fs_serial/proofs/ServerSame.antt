@@ -1,27 +1,23 @@
 -- No question and no log changes the server's skew and its clock, or makes a row with an old number.
-use Rattle.std.proofs.Common.{◌≡◌, ℕ, ◌+◌, Bool, true, false, List, [], ◌∷◌, ◌++◌, map, cond, refl, ap, ◌∙◌, subst, inl, inr}
+use Rattle.std.proofs.Common.{◌≡◌, ℕ, ◌+◌, Bool, true, false, List, [], cond, refl, ap, ◌∙◌, subst, inl, inr, sym}
 use Rattle.std.specs.Prelude.{Option, Some, None}
 use Rattle.fs_ident.specs.declared.actor.Session.{Session}
 use Rattle.fs_ident.proofs.Standing.{In-put}
-use Rattle.fs_field.specs.declared.asked.Asked.{Asked}
-use Rattle.fs_field.specs.declared.asked.Asked.TheVariants as asked_as
 use Rattle.fs_field.specs.declared.field.Field.{Field}
 use Rattle.fs_field.specs.declared.lease_kind.LeaseKind.{LeaseKind}
 use Rattle.fs_field.specs.declared.row.Row.{Row}
-use Rattle.fs_field.specs.declared.used.Use.{Use}
-use Rattle.fs_field.specs.Field.{file_of}
 use Rattle.fs_field.specs.Table.{borne_numbers, no_before, with_row}
 use Rattle.fs_msg.specs.declared.answer.Grant.{Grant}
 use Rattle.fs_msg.specs.declared.end.End.{End}
 use Rattle.fs_msg.specs.declared.end.End.TheVariants as end
 use Rattle.fs_msg.specs.declared.entry.Entry.{Entry}
-use Rattle.fs_msg.specs.Home.{home_of}
 use Rattle.fs_msg.specs.declared.item.Item.{Item}
 use Rattle.fs_record.specs.Fresh.{fresh_number, is_directory}
-use Rattle.fs_server.specs.Asks.{Asking, answer_to, ask_from, ask_fresh, asked_in, fresh_for, fresh_in, fresh_of, grant_of, kind_for, with_lease}
+use Rattle.fs_server.specs.Asks.{Asking, ask_from, ask_fresh, asked_in, fresh_for, fresh_in, fresh_of}
 use Rattle.fs_server.specs.Server.{is_mine, moved, next_number}
-use Rattle.fs_server.specs.Ships.{Shipping, first_gone, item_of, ship_from, with_entry}
+use Rattle.fs_server.specs.Ships.{ship_from}
 use Rattle.fs_server.specs.declared.state.Server.{Server}
+use Rattle.fs_server.proofs.OneByOne.{Items, each_item, ships_leave, with_item}
 use Rattle.fs_serial.specs.Relies.{Stood}
 use Rattle.fs_serial.specs.Sight.{Counts, IsGiven, count_with}
 use Rattle.fs_serial.proofs.Counting.{given_by, next_is_new, one_more_given}
@@ -56,31 +52,10 @@ as_again s t u p q = record {
   later = λ o. later_again (given_by o s) (given_by o t) (given_by o u) s.rows t.rows u.rows (p.later o) (q.later o);
 }
 
-asks_same : (by : Session) (items : List (Field × LeaseKind)) (s : Server) (grants : List Grant) → IsAsBefore s (ask_from by items s grants).server
-asks_same by [] s grants = as_it_was s
-asks_same by (x ∷ xs) s grants =
-    let field = x.0 in
-    let kind = kind_for x.0 x.1 in
-    let asked : Asked → Asking =
-    λ q. elim q as (λ _. Asking) [
-      | asked_as.Granted promise ↦ ask_from by xs (with_lease by field kind promise s) (grants ++ grant_of by field kind s ∷ [])
-      | asked_as.Wait blocker ↦ record { server = s; grants = grants; fresh = None; end = end.Wait blocker }
-      | asked_as.Locked txn ↦ record { server = s; grants = grants; fresh = None; end = end.Locked txn }
-    ] in
-    let away : Asking = record { server = s; grants = grants; fresh = None; end = moved s (file_of field) } in
-    elim (is_mine s (file_of field)) as (λ b. IsAsBefore s (cond b (asked (answer_to by field kind s)) away).server) [
-      | true ↦
-          elim (answer_to by field kind s) as (λ (q : Asked). IsAsBefore s (asked q).server) [
-            | asked_as.Granted promise ↦
-                let t = with_lease by field kind promise s in
-                as_again s t (ask_from by xs t (grants ++ grant_of by field kind s ∷ [])).server
-                (record { skew = refl; last = refl; later = λ o. row_later o s _ refl })
-                (asks_same by xs t (grants ++ grant_of by field kind s ∷ []))
-            | asked_as.Wait blocker ↦ as_it_was s
-            | asked_as.Locked txn ↦ as_it_was s
-          ]
-      | false ↦ as_it_was s
-    ]
+asks_same : (by : Session) (items : Items) (s : Server) (grants : List Grant) → IsAsBefore s (ask_from by items s grants).server
+asks_same by = each_item by (λ items s grants a. IsAsBefore s a.server) (λ s grants. as_it_was s)
+    (λ x xs s grants promise a mine e p. as_again s (with_item by x promise s) a.server (record { skew = refl; last = refl; later = λ o. row_later o s _ refl }) p)
+    (λ x xs s grants at why. as_it_was s)
 
 fresh_same : (by : Session) (dir : List ℕ) (k : Option ℕ) (a : Asking) → IsAsBefore a.server (fresh_of by dir k a).server
 fresh_same by dir (Some k) a = record { skew = refl; last = refl; later = λ o. row_later o a.server _ refl }
@@ -107,19 +82,4 @@ asked_same by items dir s =
     as_again s a.server (asked_in by items dir s).server (asks_same by items s []) (end_same by dir a.end a)
 
 pub ships_same : (by : Session) (es : List Entry) (s : Server) (admitted : List Item) → IsAsBefore s (ship_from by es s admitted).server
-ships_same by [] s admitted = as_it_was s
-ships_same by (e ∷ es) s admitted =
-    let here : Option Use → Shipping =
-    λ gone. elim gone as (λ _. Shipping) [
-      | None ↦ ship_from by es (with_entry by e s) (admitted ++ item_of by e ∷ [])
-      | Some u ↦ record { server = s; admitted = admitted; end = end.Ended e.n u.no u.until s.last; gaps = map (λ (x : Entry). x.n) es }
-    ] in
-    let away : Shipping = record { server = s; admitted = admitted; end = moved s (home_of e.op); gaps = [] } in
-    elim (is_mine s (home_of e.op)) as (λ b. IsAsBefore s (cond b (here (first_gone s.rows by e.uses)) away).server) [
-      | true ↦
-          elim (first_gone s.rows by e.uses) as (λ (gone : Option Use). IsAsBefore s (here gone).server) [
-            | None ↦ let q = ships_same by es (with_entry by e s) (admitted ++ item_of by e ∷ []) in record { skew = q.skew; last = q.last; later = q.later }
-            | Some u ↦ as_it_was s
-          ]
-      | false ↦ as_it_was s
-    ]
+ships_same by es s admitted = subst (IsAsBefore s) (sym (ships_leave by es s admitted)) (record { skew = refl; last = refl; later = λ o. later_itself (given_by o s) s.rows })

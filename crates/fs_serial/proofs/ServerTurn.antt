@@ -1,6 +1,6 @@
 -- A turn of the server: sessions that let go of the lease on their handles lose these, or a lease in the way is asked back.
 use Rattle.std.proofs.Common.{◌≡◌, ℕ, ◌+◌, not, true, false, List, [], ◌∷◌, ◌++◌, map, refl, sym, ap, ◌∙◌, subst, cond, append_assoc, append-nil, inl, inr, arith}
-use Rattle.std.specs.Prelude.{Option, Some, None}
+use Rattle.std.specs.Prelude.{None}
 use Rattle.std.specs.List.{filter}
 use Rattle.std.specs.FinMap.{keys}
 use Rattle.fs_ident.specs.In.{In}
@@ -11,11 +11,12 @@ use Rattle.fs_modes.specs.declared.modes.Modes.{Modes}
 use Rattle.fs_moderows.specs.Answer.{reap_blocker}
 use Rattle.fs_msg.specs.declared.item.Item.{Item}
 use Rattle.fs_record.specs.ValueOf.{selves_in}
-use Rattle.fs_server.specs.Reaps.{Reaping, has_own, lapsed_among, lapsed_in, lapsed_on, reap_from, reap_item, recalls_for, turn_over, turn_step, with_blocker, with_reap}
+use Rattle.fs_server.specs.Reaps.{Reaping, has_own, lapsed_among, lapsed_in, lapsed_on, reap_from, reap_item, recalls_for, turn_over, turn_step, with_reap}
 use Rattle.fs_server.specs.Server.{Stepped}
 use Rattle.fs_server.specs.declared.state.Server.{Server}
+use Rattle.fs_server.proofs.OneByOne.{Lapsed, each_lapsed, reaps_leave}
 use Rattle.fs_serial.specs.Settled.{Settled}
-use Rattle.fs_serial.specs.Sight.{Counts, Sight, count_with, sight_of}
+use Rattle.fs_serial.specs.Sight.{Counts, Sight, sight_of}
 use Rattle.fs_serial.specs.World.{Ends, GoesOn, World, WorldHolds, settled_at, with_sent}
 use Rattle.fs_serial.proofs.Counting.{given_by}
 use Rattle.fs_serial.proofs.Facts.{In-append}
@@ -59,51 +60,19 @@ goes_reaped o skew greatest s journal replied ends clients file by gone free h =
 
 -- ## All of them
 
--- the clock, the skew, the rows and what was given stay
-pub record IsReaped (s t : Server) : Type 0 where
-  pub skew : t.skew ≡ s.skew
-  pub last : t.last ≡ s.last
-  pub rows : t.rows ≡ s.rows
-  pub me : t.me ≡ s.me
-  pub given : t.given ≡ s.given
-
-pub reaps_leave : (xs : List (List ℕ × Session)) (s : Server) (admitted : List Item) (blockers : List LeaseNo) → IsReaped s (reap_from xs s admitted blockers).server
-reaps_leave [] s admitted blockers = record { skew = refl; last = refl; rows = refl; me = refl; given = refl }
-reaps_leave (x ∷ xs) s admitted blockers =
-    elim (reap_blocker (selves_in s.records x.0) s.rows x.1 x.0) as (λ (o : Option LeaseNo). IsReaped s
-    (elim o as (λ _. Reaping) [
-      | None ↦ reap_from xs (with_reap x.0 x.1 s) (admitted ++ reap_item s.me (s.reaps + 1) x.0 x.1 ∷ []) blockers
-      | Some number ↦ reap_from xs s admitted (with_blocker number blockers)
-    ]).server) [
-      | None ↦ let q = reaps_leave xs (with_reap x.0 x.1 s) (admitted ++ reap_item s.me (s.reaps + 1) x.0 x.1 ∷ []) blockers in record { skew = q.skew; last = q.last; rows = q.rows; me = q.me; given = q.given }
-      | Some number ↦ reaps_leave xs s admitted (with_blocker number blockers)
-    ]
-
 module _ (o : Counts) (skew greatest : ℕ) (journal : List Item) (replied : Session → List Item) (ends : Session → Ends) (clients : Session → Settled) where
-  pub goes_all : (xs : List (List ℕ × Session)) (s : Server) (admitted : List Item) (blockers : List LeaseNo) → HaveLetGo s.rows xs → GoesOn skew greatest (sight_of o s (journal ++ admitted)) replied ends clients
+  pub goes_all : (xs : Lapsed) (s : Server) (admitted : List Item) (blockers : List LeaseNo) → HaveLetGo s.rows xs → GoesOn skew greatest (sight_of o s (journal ++ admitted)) replied ends clients
       → GoesOn skew greatest (sight_of o (reap_from xs s admitted blockers).server (journal ++ (reap_from xs s admitted blockers).admitted)) replied ends clients
-  goes_all [] s admitted blockers gone h = h
-  goes_all (x ∷ xs) s admitted blockers gone h =
-      let item : Item = reap_item s.me (s.reaps + 1) x.0 x.1 in
-      elim (reap_blocker (selves_in s.records x.0) s.rows x.1 x.0) as (λ (blocker : Option LeaseNo). reap_blocker (selves_in s.records x.0) s.rows x.1 x.0 ≡ blocker →
-      let r : Reaping =
-      elim blocker as (λ _. Reaping) [
-        | None ↦ reap_from xs (with_reap x.0 x.1 s) (admitted ++ item ∷ []) blockers
-        | Some number ↦ reap_from xs s admitted (with_blocker number blockers)
-      ] in
-      GoesOn skew greatest (sight_of o r.server (journal ++ r.admitted)) replied ends clients) [
-        | None ↦ λ free. goes_all xs (with_reap x.0 x.1 s) (admitted ++ item ∷ []) blockers (λ y i. gone y (inr i))
-            (subst (λ js. GoesOn skew greatest (sight_of o (with_reap x.0 x.1 s) js) replied ends clients) (append_assoc journal admitted (item ∷ []))
-            (goes_reaped o skew greatest s (journal ++ admitted) replied ends clients x.0 x.1 (gone x (inl refl)) free h))
-        | Some number ↦ λ held. goes_all xs s admitted (with_blocker number blockers) (λ y i. gone y (inr i)) h
-      ] refl
+  goes_all = each_lapsed (λ xs s admitted blockers r. HaveLetGo s.rows xs → GoesOn skew greatest (sight_of o s (journal ++ admitted)) replied ends clients → GoesOn skew greatest (sight_of o r.server (journal ++ r.admitted)) replied ends clients)
+      (λ s admitted blockers gone h. h)
+      (λ f x xs s admitted blockers r free p gone h. p (λ y i. gone y (inr i))
+      (subst (λ js. GoesOn skew greatest (sight_of o (with_reap f x s) js) replied ends clients) (append_assoc journal admitted (reap_item s.me (s.reaps + 1) f x ∷ []))
+      (goes_reaped o skew greatest s (journal ++ admitted) replied ends clients f x (gone (f, x) (inl refl)) free h)))
+      (λ f x xs s admitted blockers r number held p gone h. p (λ y i. gone y (inr i)) h)
 
 -- no row is new
-pub later_reaped : (o : Counts) (s t : Server) → IsReaped s t → IsLater (given_by o s) (given_by o t) s.rows t.rows
-later_reaped o s t q =
-    subst (λ rows. IsLater (given_by o s) (given_by o t) s.rows rows) (sym q.rows)
-    (subst (λ me. IsLater (given_by o s) (count_with me t.given o.given) s.rows s.rows) (sym q.me)
-    (subst (λ n. IsLater (given_by o s) (count_with s.me n o.given) s.rows s.rows) (sym q.given) (later_itself (given_by o s) s.rows)))
+later_reaped : (o : Counts) (s t : Server) → t ≡ record s { reaps = t.reaps; records = t.records } → IsLater (given_by o s) (given_by o t) s.rows t.rows
+later_reaped o s t q = subst (λ t. IsLater (given_by o s) (given_by o t) s.rows t.rows) (sym q) (later_itself (given_by o s) s.rows)
 
 -- ## The turn
 
@@ -116,14 +85,14 @@ pub turn_some_keeps : (greatest : ℕ) (w : World) (xs : List (List ℕ × Sessi
 turn_some_keeps greatest w [] gone h = subst (λ js. WorldHolds greatest (record { server = w.server; counts = w.counts; journal = js; replied = w.replied; ends = w.ends })) (sym (append-nil w.journal)) h
 turn_some_keeps greatest w (x ∷ xs) gone h =
     let r : Reaping = reap_from (x ∷ xs) w.server [] [] in
-    let same : IsReaped w.server r.server = reaps_leave (x ∷ xs) w.server [] [] in
+    let same : r.server ≡ record (w.server) { reaps = r.server.reaps; records = r.server.records } = reaps_leave (x ∷ xs) w.server [] [] in
     let clients : Session → Settled = λ y. settled_at y (w.ends y) in
     let clock = h.clock in
-    let last = same.last in
+    let last = ap (λ t. t.last) same in
     let start : GoesOn w.server.skew greatest (sight_of w.counts w.server (w.journal ++ [])) w.replied w.ends clients =
     subst (λ js. GoesOn w.server.skew greatest (sight_of w.counts w.server js) w.replied w.ends clients) (sym (append-nil w.journal)) (goes_of greatest w h) in
     world_all_recalled greatest (record { server = r.server; counts = w.counts; journal = w.journal ++ r.admitted; replied = w.replied; ends = w.ends }) (recalls_for r.server.rows r.blockers) (recall_each r.server.rows r.blockers)
-    (world_still greatest w r.server (w.journal ++ r.admitted) same.skew (omega arith) (later_reaped w.counts w.server r.server same) (goes_all w.counts w.server.skew greatest w.journal w.replied w.ends clients (x ∷ xs) w.server [] [] gone start) h)
+    (world_still greatest w r.server (w.journal ++ r.admitted) (ap (λ t. t.skew) same) (omega arith) (later_reaped w.counts w.server r.server same) (goes_all w.counts w.server.skew greatest w.journal w.replied w.ends clients (x ∷ xs) w.server [] [] gone start) h)
 
 pub turn_keeps : (greatest : ℕ) (w : World) → WorldHolds greatest w → WorldHolds greatest (world_stepped w (turn_step w.server))
 turn_keeps greatest w h = turn_some_keeps greatest w (lapsed_in w.server) (gone_among w.server (keys w.server.records)) h

@@ -1,6 +1,6 @@
 -- The entries of a log that is handed in, one after another.
-use Rattle.std.proofs.Common.{◌≡◌, ℕ, suc, ◌≤◌, true, false, cond, List, [], ◌∷◌, ◌++◌, length, map, append_assoc, append-nil, refl, sym, ap, ◌∙◌, subst, arith}
-use Rattle.std.specs.Prelude.{Option, Some, None}
+use Rattle.std.proofs.Common.{◌≡◌, ℕ, suc, ◌≤◌, true, List, [], ◌∷◌, ◌++◌, length, map, append_assoc, append-nil, refl, sym, ap, ◌∙◌, subst, arith}
+use Rattle.std.specs.Prelude.{Some, None}
 use Rattle.std.specs.Cmp.{nat_eq_equiv}
 use Rattle.fs_ident.specs.In.{In}
 use Rattle.fs_ident.specs.declared.actor.Session.{Session}
@@ -12,8 +12,9 @@ use Rattle.fs_msg.specs.declared.entry.Entry.{Entry}
 use Rattle.fs_msg.specs.declared.item.Item.{Item}
 use Rattle.fs_server.specs.Ships.{Shipping, first_gone, item_of, ship_from, with_entry}
 use Rattle.fs_msg.specs.Home.{home_of}
-use Rattle.fs_server.specs.Server.{is_mine, moved}
+use Rattle.fs_server.specs.Server.{moved}
 use Rattle.fs_server.specs.declared.state.Server.{Server}
+use Rattle.fs_server.proofs.OneByOne.{ShipEnds, each_entry, misplaced, refused}
 use Rattle.fs_client.specs.Answers.{over_after, refusal_fits}
 use Rattle.fs_serial.specs.Parts.{with_client}
 use Rattle.fs_serial.specs.Settled.{Lease, Settled, acknowledged, acknowledged_all, effects_in, lease_after, with_over}
@@ -101,21 +102,13 @@ module _ (o : Counts) (skew greatest : ℕ) (journal : List Item) (replied : Ses
     fits = none_refused s (home_of e.op) 0 d.log;
   }
 
-  pub shipped_still : (es rest : List Entry) (s : Server) (admitted : List Item) (d : Settled) → d.log ≡ es ++ rest → d.over ≡ None → GoesOn skew greatest (sight_of o s (journal ++ admitted)) replied ends (with_client by d base) → IsShipped es d admitted (ship_from by es s admitted)
-  shipped_still [] rest s admitted d log over h = record { more = []; split = sym (append-nil admitted); goes = h; few = omega arith; fits = refl }
-  shipped_still (e ∷ es) rest s admitted d log over h =
-      let here : Option Use → Shipping =
-      λ gone. elim gone as (λ _. Shipping) [
-        | None ↦ ship_from by es (with_entry by e s) (admitted ++ item_of by e ∷ [])
-        | Some u ↦ record { server = s; admitted = admitted; end = end.Ended e.n u.no u.until s.last; gaps = map (λ (x : Entry). x.n) es }
-      ] in
-      let away : Shipping = record { server = s; admitted = admitted; end = moved s (home_of e.op); gaps = [] } in
-      elim (is_mine s (home_of e.op)) as (λ b. IsShipped (e ∷ es) d admitted (cond b (here (first_gone s.rows by e.uses)) away)) [
-        | true ↦
-            elim (first_gone s.rows by e.uses) as (λ (gone : Option Use). first_gone s.rows by e.uses ≡ gone → IsShipped (e ∷ es) d admitted (here gone)) [
-              | None ↦ λ q. went_on e es rest admitted d (ship_from by es (with_entry by e s) (admitted ++ item_of by e ∷ [])) log
-                  (shipped_still es rest (with_entry by e s) (admitted ++ item_of by e ∷ []) (acknowledged by (e ∷ (es ++ rest)) d) refl over (admitted_then e es rest s admitted d log over q h))
-              | Some u ↦ λ q. refused_then e es rest s admitted d u (map (λ (x : Entry). x.n) es) log q h
-            ] refl
-        | false ↦ away_then e es s admitted d h
-      ]
+  ends_then : (e : Entry) (es rest : List Entry) (s : Server) (admitted : List Item) (d : Settled) (at : End) (gaps : List ℕ) → ShipEnds by e es s at gaps → d.log ≡ e ∷ (es ++ rest) → GoesOn skew greatest (sight_of o s (journal ++ admitted)) replied ends (with_client by d base)
+      → IsShipped (e ∷ es) d admitted (record { server = s; admitted = admitted; end = at; gaps = gaps })
+  ends_then e es rest s admitted d at gaps (refused u mine gone) log h = refused_then e es rest s admitted d u (map (λ (x : Entry). x.n) es) log gone h
+  ends_then e es rest s admitted d at gaps (misplaced mine) log h = away_then e es s admitted d h
+
+  pub shipped_still : (es : List Entry) (s : Server) (admitted : List Item) (rest : List Entry) (d : Settled) → d.log ≡ es ++ rest → d.over ≡ None → GoesOn skew greatest (sight_of o s (journal ++ admitted)) replied ends (with_client by d base) → IsShipped es d admitted (ship_from by es s admitted)
+  shipped_still = each_entry by (λ es s admitted x. (rest : List Entry) (d : Settled) → d.log ≡ es ++ rest → d.over ≡ None → GoesOn skew greatest (sight_of o s (journal ++ admitted)) replied ends (with_client by d base) → IsShipped es d admitted x)
+      (λ s admitted rest d log over h. record { more = []; split = sym (append-nil admitted); goes = h; few = omega arith; fits = refl })
+      (λ e es s admitted x mine none p rest d log over h. went_on e es rest admitted d x log (p rest (acknowledged by (e ∷ (es ++ rest)) d) refl over (admitted_then e es rest s admitted d log over none h)))
+      (λ e es s admitted at gaps why rest d log over h. ends_then e es rest s admitted d at gaps why log h)

@@ -6,23 +6,16 @@ use Rattle.std.specs.FinMap.{get}
 use Rattle.std.proofs.lemmas.List.Folds.{list_any-append}
 use Rattle.fs_ident.specs.In.{In}
 use Rattle.fs_ident.specs.Ident.{child}
-use Rattle.fs_ident.specs.declared.actor.LeaseNo.{LeaseNo}
 use Rattle.fs_ident.specs.declared.actor.Peer.{Peer}
 use Rattle.fs_ident.specs.declared.actor.Session.{Session}
-use Rattle.fs_ident.specs.declared.actor.TxnNo.{TxnNo}
-use Rattle.fs_ident.proofs.Passing.{found}
-use Rattle.fs_field.specs.declared.asked.Asked.{Asked}
-use Rattle.fs_field.specs.declared.asked.Asked.TheVariants.{Granted, Wait, Locked}
 use Rattle.fs_field.specs.declared.field.Field.{Field}
-use Rattle.fs_field.specs.declared.field.Field.TheVariants.{Life, SelfW, Other}
+use Rattle.fs_field.specs.declared.field.Field.TheVariants.{Life}
 use Rattle.fs_field.specs.declared.lease_kind.LeaseKind.{LeaseKind}
 use Rattle.fs_field.specs.declared.lease_kind.LeaseKind.TheVariants.{Exclusive}
 use Rattle.fs_field.specs.declared.row.Row.{Row}
-use Rattle.fs_field.specs.Conflict.{stands_against}
 use Rattle.fs_field.specs.Field.{file_of}
-use Rattle.fs_field.specs.Table.{borne_numbers, child_number, has_no, lock_on}
+use Rattle.fs_field.specs.Table.{borne_numbers, child_number, has_no}
 use Rattle.fs_field.proofs.Below.{only}
-use Rattle.fs_moderows.specs.Answer.{has_fixed_other, is_self_of_other, stands_against_self, unless_locked, waits_or}
 use Rattle.fs_msg.specs.declared.answer.Answer.TheVariants as reply
 use Rattle.fs_msg.specs.declared.answer.Grant.{Grant}
 use Rattle.fs_msg.specs.declared.end.End.{End}
@@ -36,24 +29,20 @@ use Rattle.fs_record.proofs.NumbersRise.{number_least}
 use Rattle.fs_map.specs.Map.{longest}
 use Rattle.fs_map.proofs.Prefixes.{number_is}
 use Rattle.fs_model.specs.Sound.{kind_of}
-use Rattle.fs_record.specs.ValueOf.{selves_in}
-use Rattle.fs_rows.specs.Answer.{answer_by}
 use Rattle.fs_rows.specs.Granted.{with_rows}
 use Rattle.fs_rows.proofs.Bearing.{bears-with_rows}
-use Rattle.fs_server.specs.Asks.{Asking, answer_to, answered, ask_fresh, ask_from, ask_step, asked_in, fresh_for, fresh_in, fresh_of, grant_of, kind_for, recall_of, recalls_at, with_fresh, with_lease}
+use Rattle.fs_server.specs.Asks.{Asking, answered, ask_fresh, ask_from, ask_step, asked_in, fresh_for, fresh_in, fresh_of, grant_of, kind_for, recall_of, recalls_at, with_fresh, with_lease}
 use Rattle.fs_server.specs.Server.{is_mine, moved, moved_at, to_session}
 use Rattle.fs_server.specs.declared.out.ServerOut.{ServerOut}
 use Rattle.fs_server.specs.declared.state.Server.{Server}
+use Rattle.fs_server.proofs.OneByOne.{AskEnds, Items, answer_at, ask_ends, asks_leave, each_item, elsewhere, item_given, kept_off, waits, with_grant, with_item}
+use Rattle.fs_server.proofs.Answered.{IsRowed, blocker_rowed}
 use Rattle.fs_serial.specs.Cluster.{flying_from}
 use Rattle.fs_serial.proofs.PutRecords.{gift_home, gift_past}
 use Rattle.fs_serial.proofs.Rest.{IsApart, IsCounted, IsSelf, Rest, answer_here, found_here, itself, joined, lease_counted, lease_joined, mine_still, off_records, record_here, value_here}
 use Rattle.fs_serial.proofs.Sim.{IsSim, recall_alone}
 
 -- ## A lease in the way
-
--- it has a row among these
-abbrev pub IsRowed : LeaseNo → List Row → Type 0
-IsRowed n rows = (r : Row) × In r rows × (r.no ≡ n)
 
 abbrev pub HasBlocker : End → List Row → Type 0
 HasBlocker (end.Wait n) rows = IsRowed n rows
@@ -62,29 +51,6 @@ HasBlocker e rows = Unit {0}
 moved_blocks : (o : Option (List ℕ × ℕ)) (rows : List Row) → HasBlocker (moved_at o) rows
 moved_blocks None rows = tt
 moved_blocks (Some e) rows = tt
-
-waits_at : (test : Row → Bool) (rows : List Row) (o : Option Row) (value : Option Bool) (n : LeaseNo) → find test rows ≡ o → waits_or o value ≡ Wait n → IsRowed n rows
-waits_at test rows (Some r) value n e h = let same : r.no ≡ n = cc in (r, (found test rows r e).0, same)
-waits_at test rows None value n e h = absurd (cc)
-
-unlocked_waits : (lock : Option TxnNo) (asked : Asked) (n : LeaseNo) → unless_locked lock asked ≡ Wait n → asked ≡ Wait n
-unlocked_waits (Some txn) asked n h = absurd (cc)
-unlocked_waits None asked n h = h
-
-other_waits : (test : Row → Bool) (rows : List Row) (fixed : Bool) (n : LeaseNo) → cond fixed (Granted (Some true)) (waits_or (find test rows) (Some false)) ≡ Wait n → IsRowed n rows
-other_waits test rows true n h = absurd (cc)
-other_waits test rows false n h = waits_at test rows (find test rows) (Some false) n refl h
-
-plain_waits : (test : Row → Bool) (rows : List Row) (lock : Option TxnNo) (o : Option Row) (n : LeaseNo) → find test rows ≡ o → answer_by lock o ≡ Wait n → IsRowed n rows
-plain_waits test rows (Some txn) o n e h = absurd (cc)
-plain_waits test rows None (Some r) n e h = let same : r.no ≡ n = cc in (r, (found test rows r e).0, same)
-plain_waits test rows None None n e h = absurd (cc)
-
--- what an answer waits for is the lease of a row here
-waits_here : (by : Session) (field : Field) (kind : LeaseKind) (s : Server) (n : LeaseNo) → answer_to by field kind s ≡ Wait n → IsRowed n s.rows
-waits_here by (SelfW file m) kind s n h = waits_at (stands_against_self (selves_in s.records file) s.rows by file m) s.rows (find (stands_against_self (selves_in s.records file) s.rows by file m) s.rows) None n refl (unlocked_waits (lock_on (SelfW file m) s.rows) (waits_or (find (stands_against_self (selves_in s.records file) s.rows by file m) s.rows) None) n h)
-waits_here by (Other file m) kind s n h = other_waits (is_self_of_other file m by) s.rows (has_fixed_other (selves_in s.records file) s.rows file m by) n (unlocked_waits (lock_on (Other file m) s.rows) (cond (has_fixed_other (selves_in s.records file) s.rows file m by) (Granted (Some true)) (waits_or (find (is_self_of_other file m by) s.rows) (Some false))) n h)
-waits_here by field kind s n h = plain_waits (stands_against by field kind) s.rows (lock_on field s.rows) (find (stands_against by field kind) s.rows) n refl h
 
 -- ## Item by item
 
@@ -98,41 +64,34 @@ pub record IsSameAsking (rest : Rest) (s : Server) (big small : Asking) : Type 0
   pub self : IsSelf s small.server
   pub blocked : HasBlocker small.end small.server.rows
 
-module _ (by : Session) where
-  abbrev after_answer : Field → LeaseKind → List (Field × LeaseKind) → Server → List Grant → Asked → Asking
-  after_answer field kind xs s grants a = elim a as (λ _. Asking) [
-    | Granted promise ↦ ask_from by xs (with_lease by field kind promise s) (grants ++ grant_of by field kind s ∷ [])
-    | Wait blocker ↦ record { server = s; grants = grants; fresh = None; end = end.Wait blocker }
-    | Locked txn ↦ record { server = s; grants = grants; fresh = None; end = end.Locked txn }
-  ]
-
 module _ (rest : Rest) (by : Session) where
   grant_here : (s : Server) → IsApart rest s → (field : Field) (kind : LeaseKind) → is_mine s (file_of field) ≡ true → grant_of by field kind (joined rest s) ≡ grant_of by field kind s
   grant_here s a field kind mine = ap (λ v. let g : Grant = record (grant_of by field kind s) { value = v } in g) (value_here rest s a by field mine)
 
-  pub asked_same : (items : List (Field × LeaseKind)) (s : Server) (grants : List Grant) → IsCounted rest s → IsSameAsking rest s (ask_from by items (joined rest s) grants) (ask_from by items s grants)
-  asked_same [] s grants h = record { same = refl; counted = h; self = itself s; blocked = tt }
-  asked_same (x ∷ xs) s grants h =
-      let field = x.0 in
+  there : (s : Server) → IsCounted rest s → (x : Field × LeaseKind) → is_mine s (file_of x.0) ≡ true → answer_at by x (joined rest s) ≡ answer_at by x s
+  there s h x mine = answer_here rest s h.apart by x.0 (kind_for x.0 x.1) mine
+
+  -- the question ends there at the same item, for the same reason
+  ends_same : (s : Server) → IsCounted rest s → (x : Field × LeaseKind) (xs : Items) (grants : List Grant) (at : End) → AskEnds by x s at → IsSameAsking rest s (ask_from by (x ∷ xs) (joined rest s) grants) (record { server = s; grants = grants; fresh = None; end = at })
+  ends_same s h x xs grants at (waits n mine e) = record { same = ask_ends by x xs (joined rest s) grants (end.Wait n) (waits n mine (there s h x mine ∙ e)); counted = h; self = itself s; blocked = blocker_rowed by x.0 (kind_for x.0 x.1) s n e }
+  ends_same s h x xs grants at (kept_off txn mine e) = record { same = ask_ends by x xs (joined rest s) grants (end.Locked txn) (kept_off txn mine (there s h x mine ∙ e)); counted = h; self = itself s; blocked = tt }
+  ends_same s h x xs grants at (elsewhere mine) = record { same = ask_ends by x xs (joined rest s) grants (moved s (file_of x.0)) (elsewhere mine); counted = h; self = itself s; blocked = moved_blocks (longest s.map (file_of x.0)) s.rows }
+
+  pub asked_same : (items : Items) (s : Server) (grants : List Grant) → IsCounted rest s → IsSameAsking rest s (ask_from by items (joined rest s) grants) (ask_from by items s grants)
+  asked_same = each_item by (λ items s grants a. IsCounted rest s → IsSameAsking rest s (ask_from by items (joined rest s) grants) a)
+      (λ s grants h. record { same = refl; counted = h; self = itself s; blocked = tt })
+      (λ x xs s grants promise a mine e p h.
       let kind = kind_for x.0 x.1 in
-      elim (is_mine s (file_of field)) as (λ b. is_mine s (file_of field) ≡ b → IsSameAsking rest s
-      (cond b (after_answer by field kind xs (joined rest s) grants (answer_to by field kind (joined rest s))) (record { server = joined rest s; grants = grants; fresh = None; end = moved s (file_of field) }))
-      (cond b (after_answer by field kind xs s grants (answer_to by field kind s)) (record { server = s; grants = grants; fresh = None; end = moved s (file_of field) }))) [
-        | true ↦ λ mine. subst (λ o. IsSameAsking rest s (after_answer by field kind xs (joined rest s) grants o) (after_answer by field kind xs s grants (answer_to by field kind s))) (sym (answer_here rest s h.apart by field kind mine))
-            (elim (answer_to by field kind s) as (λ o. answer_to by field kind s ≡ o → IsSameAsking rest s (after_answer by field kind xs (joined rest s) grants o) (after_answer by field kind xs s grants o)) [
-              | Granted promise ↦ λ e.
-                  let q = asked_same xs (with_lease by field kind promise s) (grants ++ grant_of by field kind s ∷ []) (lease_counted rest s h by field kind promise mine) in
-                  record {
-                    same = ap₂ (λ t g. ask_from by xs t (grants ++ g ∷ [])) (lease_joined rest s h by field kind promise) (grant_here s h.apart field kind mine) ∙ q.same;
-                    counted = q.counted;
-                    self = record { me = q.self.me; skew = q.self.skew; last = q.self.last; map = q.self.map };
-                    blocked = q.blocked;
-                  }
-              | Wait blocker ↦ λ e. record { same = refl; counted = h; self = itself s; blocked = waits_here by field kind s blocker e }
-              | Locked txn ↦ λ e. record { same = refl; counted = h; self = itself s; blocked = tt }
-            ] refl)
-        | false ↦ λ mine. record { same = refl; counted = h; self = itself s; blocked = moved_blocks (longest s.map (file_of field)) s.rows }
-      ] refl
+      let q : IsSameAsking rest (with_item by x promise s) (ask_from by xs (joined rest (with_item by x promise s)) (with_grant by x s grants)) a = p (lease_counted rest s h by x.0 kind promise mine) in
+      record {
+        same = item_given by x xs (joined rest s) grants promise mine (there s h x mine ∙ e)
+            ∙ ap₂ (λ t g. ask_from by xs t (grants ++ g ∷ [])) (lease_joined rest s h by x.0 kind promise) (grant_here s h.apart x.0 kind mine)
+            ∙ q.same;
+        counted = q.counted;
+        self = record { me = q.self.me; skew = q.self.skew; last = q.self.last; map = q.self.map };
+        blocked = q.blocked;
+      })
+      (λ x xs s grants at why h. ends_same s h x xs grants at why)
 
 -- ## A fresh identifier
 
@@ -178,22 +137,6 @@ module _ (rest : Rest) (by : Session) (dir : List ℕ) (s : Server) (h : IsCount
 
   gift_server : (k : ℕ) → with_records rest.records (records_after_gift s.records dir (Some k)) ≡ records_after_gift (with_records rest.records s.records) dir (Some k)
   gift_server k = gift_past rest.records s.records dir k (off_records rest s h.apart dir mine)
-
--- no item changes a record
-asked_records : (by : Session) (items : List (Field × LeaseKind)) (s : Server) (grants : List Grant) → (ask_from by items s grants).server.records ≡ s.records
-asked_records by [] s grants = refl
-asked_records by (x ∷ xs) s grants =
-    let field = x.0 in
-    let kind = kind_for x.0 x.1 in
-    elim (is_mine s (file_of field)) as (λ b.
-    (cond b (after_answer by field kind xs s grants (answer_to by field kind s)) (record { server = s; grants = grants; fresh = None; end = moved s (file_of field) })).server.records ≡ s.records) [
-      | true ↦ elim (answer_to by field kind s) as (λ o. (after_answer by field kind xs s grants o).server.records ≡ s.records) [
-        | Granted promise ↦ asked_records by xs (with_lease by field kind promise s) (grants ++ grant_of by field kind s ∷ [])
-        | Wait blocker ↦ refl
-        | Locked txn ↦ refl
-      ]
-      | false ↦ refl
-    ]
 
 module _ (rest : Rest) (by : Session) (s : Server) (a : Asking) (q : IsSameAsking rest s (asking_joined rest a) a) where
   bare : (e : End) → HasBlocker e a.server.rows → IsSameAsking rest s (record (asking_joined rest a) { end = e }) (record a { end = e })
@@ -287,4 +230,4 @@ ask_sim rest by items dir s h fresh =
     let bare : IsSameAsking rest s (asking_joined rest a) a = subst (λ b. IsSameAsking rest s b a) q.same q in
     answered_sim rest by s (asked_in by items dir (joined rest s)) (asked_in by items dir s)
     (subst (λ b. IsSameAsking rest s (ask_fresh by dir b.end b) (ask_fresh by dir a.end a)) (sym q.same)
-    (at_end rest by s a bare dir (λ d e. still_fresh s a.server d q.self (asked_records by items s []) (fresh d e)) a.end))
+    (at_end rest by s a bare dir (λ d e. still_fresh s a.server d q.self (ap (λ t. t.records) (asks_leave by items s [])) (fresh d e)) a.end))

@@ -5,7 +5,7 @@ use Rattle.std.specs.List.{filter}
 use Rattle.fs_ident.specs.In.{In}
 use Rattle.fs_ident.specs.declared.actor.LeaseNo.{LeaseNo}
 use Rattle.fs_ident.specs.declared.actor.Session.{Session}
-use Rattle.fs_ident.proofs.Standing.{In-filter, In-map}
+use Rattle.fs_ident.proofs.Standing.{In-map}
 use Rattle.fs_field.specs.declared.field.Field.{Field}
 use Rattle.fs_field.specs.declared.row.Row.{Row}
 use Rattle.fs_field.specs.Field.{file_of}
@@ -15,18 +15,19 @@ use Rattle.fs_field.proofs.Order.{ordered_filter, ordered_map}
 use Rattle.fs_msg.specs.declared.answer.Answer.TheVariants as reply
 use Rattle.fs_msg.specs.declared.end.End.{End}
 use Rattle.fs_msg.specs.declared.server_note.ServerNote.TheVariants as note
-use Rattle.fs_parcel.proofs.Both.{filter_with_rows, map_with_rows}
+use Rattle.fs_parcel.proofs.Both.{filter_with_rows, map_with_rows, all_pass}
 use Rattle.fs_rows.specs.Granted.{with_rows}
 use Rattle.fs_rows.specs.Live.{unlocked_on}
+use Rattle.fs_moderows.proofs.Witnesses.{In_none}
 use Rattle.fs_server.specs.Pairs.{ends_told, numbers_in, pairs_end, pairs_here, release_step, released_here, released_rows, renew_step, renewed_here, renewed_rows}
 use Rattle.fs_server.specs.Server.{end_of, is_mine, moved, to_session}
 use Rattle.fs_server.specs.Step.{recall_step, recalled_on, recalls_of}
 use Rattle.fs_server.specs.declared.out.ServerOut.{ServerOut}
 use Rattle.fs_server.specs.declared.state.Server.{Server}
-use Rattle.fs_serial.proofs.Facts.{none-In}
 use Rattle.fs_serial.proofs.Rest.{IsApart, Rest, itself, joined, off_file}
 use Rattle.fs_serial.proofs.Sim.{IsSim, recalls_quiet}
 use Rattle.fs_serial.proofs.Unseen.{any_past, unlocked_past}
+use Rattle.fs_serial.proofs.LaterSteps.{all_released}
 
 -- ## Numbers that no row has
 
@@ -56,7 +57,7 @@ renewed_past until [] xs rows h = refl
 renewed_past until (n ∷ ns) xs rows h =
     ap (renewed_rows until ns) (
     map_with_rows (renewed_row n until) (λ r. (renewed_same n until r).number) xs rows
-    ∙ ap (λ ys. with_rows ys (map (renewed_row n until) rows)) (none_renewed n until xs (none-In (has_no n) xs (h n (inl refl)))))
+    ∙ ap (λ ys. with_rows ys (map (renewed_row n until) rows)) (none_renewed n until xs (In_none (has_no n) xs (h n (inl refl)))))
     ∙ renewed_past until ns xs (map (renewed_row n until) rows) (λ m i. h m (inr i))
 
 renewed_ordered : (until : ℕ) (ns : List LeaseNo) (rows : List Row) → is_ordered rows ≡ true → is_ordered (renewed_rows until ns rows) ≡ true
@@ -109,10 +110,6 @@ renew_sim rest by pairs s a h =
 
 -- ## Releases
 
-all_pass : (test : Row → Bool) (rows : List Row) → ((r : Row) → In r rows → test r ≡ true) → filter test rows ≡ rows
-all_pass test [] h = refl
-all_pass test (r ∷ rs) h = ap (λ b. cond b (r ∷ filter test rs) (filter test rs)) (h r (inl refl)) ∙ ap (λ rows. r ∷ rows) (all_pass test rs (λ x i. h x (inr i)))
-
 abbrev other_than : LeaseNo → Row → Bool
 other_than n r = not (has_no n r)
 
@@ -129,10 +126,6 @@ released_past (n ∷ ns) xs rows o h =
     let rest = released_past ns xs (filter (other_than n) rows) (subst (λ ys. is_ordered ys ≡ true) one (ordered_filter (other_than n) (with_rows xs rows) o)) (λ m i. h m (inr i)) in
     (ap (released_rows ns) one ∙ rest.0, rest.1)
 
-released_in : (ns : List LeaseNo) (rows : List Row) (r : Row) → In r (released_rows ns rows) → In r rows
-released_in [] rows r i = i
-released_in (n ∷ ns) rows r i = In-filter (other_than n) r rows (released_in ns (filter (other_than n) rows) r i)
-
 released_sim : (rest : Rest) (by : Session) (numbers : List LeaseNo) (e : End) (s : Server) → IsApart rest s → AreAbsent numbers rest.rows → IsSim rest s (released_here by numbers e (joined rest s)) (released_here by numbers e s)
 released_sim rest by numbers e s a h =
     let q = released_past numbers rest.rows s.rows a.ordered h in
@@ -142,7 +135,7 @@ released_sim rest by numbers e s a h =
       apart = record {
         rows = a.rows;
         records = a.records;
-        own_rows = λ r i. a.own_rows r (released_in numbers s.rows r i);
+        own_rows = λ r i. a.own_rows r (all_released numbers s.rows r i);
         own_records = a.own_records;
         ordered = q.1;
       };

@@ -1,20 +1,21 @@
 -- A log that is handed in comes to the same at the server that has all.
-use Rattle.std.proofs.Common.{◌≡◌, ◌==◌, ◌&&◌, not, Bool, true, false, List, [], ◌∷◌, ◌++◌, map, refl, ap, ap₂, cond, subst, sym, ◌∙◌, inl, inr}
-use Rattle.std.specs.Prelude.{Option, Some, None}
-use Rattle.std.specs.List.{find, list_all}
+use Rattle.std.proofs.Common.{◌≡◌, ◌==◌, ◌&&◌, not, Bool, true, false, List, [], ◌∷◌, ◌++◌, refl, ap, cond, subst, sym, ◌∙◌, inl, inr, ℕ}
+use Rattle.std.specs.List.{list_all}
 use Rattle.fs_ident.specs.In.{In}
 use Rattle.fs_ident.specs.declared.actor.Session.{Session}
 use Rattle.fs_field.specs.declared.used.Use.{Use}
 use Rattle.fs_field.specs.Field.{file_of, same_field}
 use Rattle.fs_field.specs.Table.{has_no, is_lease, same_kind}
+use Rattle.fs_moderows.proofs.FoundOnce.{find_same}
 use Rattle.fs_msg.specs.Home.{home_of}
-use Rattle.fs_msg.specs.declared.end.End.TheVariants as end
 use Rattle.fs_msg.specs.declared.entry.Entry.{Entry}
 use Rattle.fs_msg.specs.declared.item.Item.{Item}
+use Rattle.fs_msg.specs.declared.end.End.{End}
 use Rattle.fs_record.specs.Effects.{effects_of, tells_its_effects}
-use Rattle.fs_server.specs.Server.{is_mine, moved, strange}
+use Rattle.fs_server.specs.Server.{is_mine, strange}
 use Rattle.fs_server.specs.Ships.{Shipping, first_gone, has_row, item_of, ship_from, ship_step, shipped, with_entry}
 use Rattle.fs_server.specs.declared.state.Server.{Server}
+use Rattle.fs_server.proofs.OneByOne.{ShipEnds, each_entry, entry_taken, misplaced, refused, ship_ends}
 use Rattle.fs_serial.proofs.PutRecords.{AreOn}
 use Rattle.fs_serial.proofs.Rest.{IsApart, IsSelf, Rest, effects_apart, effects_joined, itself, joined, off_file}
 use Rattle.fs_serial.proofs.Sim.{IsSim}
@@ -38,12 +39,8 @@ third false b y h = refl
 row_same : (rest : Rest) (s : Server) (by : Session) (u : Use) → IsApart rest s → is_mine s (file_of u.field) ≡ true → has_row (joined rest s).rows by u ≡ has_row s.rows by u
 row_same rest s by u a mine = any_past (is_lease u.no by u.field u.kind) rest.rows s.rows (λ r i. third (has_no u.no r && (r.session.0 == by.0)) (same_field r.field u.field) (same_kind r.kind u.kind) (other_field r.field u.field (off_file rest s a (file_of u.field) mine r i)))
 
-find_alike : {X : Type 0} (p q : X → Bool) (xs : List X) → ((x : X) → In x xs → p x ≡ q x) → find p xs ≡ find q xs
-find_alike p q [] h = refl
-find_alike p q (x ∷ xs) h = ap₂ (λ b o. cond b (Some x) o) (h x (inl refl)) (find_alike p q xs (λ y i. h y (inr i)))
-
 gone_same : (rest : Rest) (s : Server) (by : Session) (uses : List Use) → IsApart rest s → ((u : Use) → In u uses → is_mine s (file_of u.field) ≡ true) → first_gone (joined rest s).rows by uses ≡ first_gone s.rows by uses
-gone_same rest s by uses a mine = find_alike (λ u. not (has_row (joined rest s).rows by u)) (λ u. not (has_row s.rows by u)) uses (λ u i. ap not (row_same rest s by u a (mine u i)))
+gone_same rest s by uses a mine = find_same (λ u. not (has_row (joined rest s).rows by u)) (λ u. not (has_row s.rows by u)) uses (λ u i. ap not (row_same rest s by u a (mine u i)))
 
 entry_joined : (rest : Rest) (s : Server) (by : Session) (e : Entry) → IsApart rest s → IsEntryHere s by e → with_entry by e (joined rest s) ≡ joined rest (with_entry by e s)
 entry_joined rest s by e a h = ap (λ records. let t : Server = record (joined rest s) { records = records } in t) (effects_joined rest s a (effects_of by e.op e.reply) h.changed)
@@ -67,33 +64,23 @@ pub record IsSameShipping (rest : Rest) (s : Server) (big small : Shipping) : Ty
   pub apart : IsApart rest small.server
   pub self : IsSelf s small.server
 
-abbrev after_uses : Session → Entry → List Entry → Server → List Item → Option Use → Shipping
-after_uses by e es s admitted o = elim o as (λ _. Shipping) [
-  | None ↦ ship_from by es (with_entry by e s) (admitted ++ item_of by e ∷ [])
-  | Some u ↦ record { server = s; admitted = admitted; end = end.Ended e.n u.no u.until s.last; gaps = map (λ (x : Entry). x.n) es }
-]
+-- the log ends there at the same entry, for the same reason
+ends_same : (rest : Rest) (by : Session) (e : Entry) (es : List Entry) (s : Server) → (is_mine s (home_of e.op) ≡ true → IsEntryHere s by e) → IsApart rest s → (at : End) (gaps : List ℕ) → ShipEnds by e es s at gaps → ShipEnds by e es (joined rest s) at gaps
+ends_same rest by e es s here a at gaps (refused u mine h) = refused u mine (gone_same rest s by e.uses a (here mine).used ∙ h)
+ends_same rest by e es s here a at gaps (misplaced mine) = misplaced mine
 
 shipped_same : (rest : Rest) (by : Session) (entries : List Entry) (s : Server) (admitted : List Item) → IsApart rest s → AreEntriesHere s by entries → IsSameShipping rest s (ship_from by entries (joined rest s) admitted) (ship_from by entries s admitted)
-shipped_same rest by [] s admitted a h = record { same = refl; apart = a; self = itself s }
-shipped_same rest by (e ∷ es) s admitted a h =
-    elim (is_mine s (home_of e.op)) as (λ b. is_mine s (home_of e.op) ≡ b → IsSameShipping rest s
-    (cond b (after_uses by e es (joined rest s) admitted (first_gone (joined rest s).rows by e.uses)) (record { server = joined rest s; admitted = admitted; end = moved s (home_of e.op); gaps = [] }))
-    (cond b (after_uses by e es s admitted (first_gone s.rows by e.uses)) (record { server = s; admitted = admitted; end = moved s (home_of e.op); gaps = [] }))) [
-      | true ↦ λ mine.
-          let here : IsEntryHere s by e = h e (inl refl) mine in
-          subst (λ o. IsSameShipping rest s (after_uses by e es (joined rest s) admitted o) (after_uses by e es s admitted (first_gone s.rows by e.uses))) (sym (gone_same rest s by e.uses a here.used))
-          (elim (first_gone s.rows by e.uses) as (λ o. IsSameShipping rest s (after_uses by e es (joined rest s) admitted o) (after_uses by e es s admitted o)) [
-            | None ↦
-                let q = shipped_same rest by es (with_entry by e s) (admitted ++ item_of by e ∷ []) (entry_apart rest s by e a here) (λ f i m. let k = h f (inr i) m in record { used = k.used; changed = k.changed }) in
-                record {
-                  same = ap (λ t. ship_from by es t (admitted ++ item_of by e ∷ [])) (entry_joined rest s by e a here) ∙ q.same;
-                  apart = q.apart;
-                  self = record { me = q.self.me; skew = q.self.skew; last = q.self.last; map = q.self.map };
-                }
-            | Some u ↦ record { same = refl; apart = a; self = itself s }
-          ])
-      | false ↦ λ mine. record { same = refl; apart = a; self = itself s }
-    ] refl
+shipped_same rest by = each_entry by (λ entries s admitted x. IsApart rest s → AreEntriesHere s by entries → IsSameShipping rest s (ship_from by entries (joined rest s) admitted) x)
+    (λ s admitted a h. record { same = refl; apart = a; self = itself s })
+    (λ e es s admitted x mine none p a h.
+    let here : IsEntryHere s by e = h e (inl refl) mine in
+    let q : IsSameShipping rest (with_entry by e s) (ship_from by es (joined rest (with_entry by e s)) (admitted ++ item_of by e ∷ [])) x = p (entry_apart rest s by e a here) (λ f i m. let k = h f (inr i) m in record { used = k.used; changed = k.changed }) in
+    record {
+      same = entry_taken by e es (joined rest s) admitted mine (gone_same rest s by e.uses a here.used ∙ none) ∙ ap (λ t. ship_from by es t (admitted ++ item_of by e ∷ [])) (entry_joined rest s by e a here) ∙ q.same;
+      apart = q.apart;
+      self = record { me = q.self.me; skew = q.self.skew; last = q.self.last; map = q.self.map };
+    })
+    (λ e es s admitted at gaps why a h. record { same = ship_ends by e es (joined rest s) admitted at gaps (ends_same rest by e es s (h e (inl refl)) a at gaps why); apart = a; self = itself s })
 
 pub ship_sim : (rest : Rest) (by : Session) (entries : List Entry) (s : Server) → IsApart rest s → AreEntriesHere s by entries → IsSim rest s (ship_step by entries (joined rest s)) (ship_step by entries s)
 ship_sim rest by entries s a h =

@@ -27,12 +27,13 @@ use Rattle.fs_server.specs.Asks.{recall_of}
 use Rattle.fs_server.specs.Server.{is_mine}
 use Rattle.fs_server.specs.declared.out.ServerOut.{ServerOut}
 use Rattle.fs_server.specs.declared.state.Server.{Server}
+use Rattle.fs_server.proofs.OneByOne.{Lapsed, each_lapsed, reap_done, reap_kept_off}
+use Rattle.fs_server.proofs.Answered.{IsRowed}
 use Rattle.fs_serial.specs.Cluster.{flying_from}
 use Rattle.fs_serial.proofs.Facts.{In-append}
 use Rattle.fs_serial.proofs.PutRecords.{AreOn, entry_has}
 use Rattle.fs_serial.proofs.Rest.{IsApart, IsSelf, Rest, effects_apart, effects_joined, found_here, itself, joined, off_file, record_here, selves_here}
 use Rattle.fs_serial.proofs.Sim.{IsSim, recall_quiet}
-use Rattle.fs_serial.proofs.SimAsk.{IsRowed}
 use Rattle.fs_serial.proofs.Unseen.{reap_past}
 
 -- ## One reap
@@ -83,32 +84,26 @@ pub record IsSameReaping (rest : Rest) (s : Server) (big small : Reaping) : Type
   pub self : IsSelf s small.server
   pub blocked : AreRowed small.blockers small.server.rows
 
-abbrev after_blocker : List ℕ × Session → List (List ℕ × Session) → Server → List Item → List LeaseNo → Option LeaseNo → Reaping
-after_blocker x xs s admitted blockers o = elim o as (λ _. Reaping) [
-  | None ↦ reap_from xs (with_reap x.0 x.1 s) (admitted ++ reap_item s.me (s.reaps + 1) x.0 x.1 ∷ []) blockers
-  | Some number ↦ reap_from xs s admitted (with_blocker number blockers)
-]
-
-reaps_same : (rest : Rest) (xs : List (List ℕ × Session)) (s : Server) (admitted : List Item) (blockers : List LeaseNo) → IsApart rest s → AreFilesHere s xs → AreRowed blockers s.rows → IsSameReaping rest s (reap_from xs (joined rest s) admitted blockers) (reap_from xs s admitted blockers)
-reaps_same rest [] s admitted blockers a h b = record { same = refl; apart = a; self = itself s; blocked = b }
-reaps_same rest (x ∷ xs) s admitted blockers a h b =
-    let mine : is_mine s x.0 ≡ true = h x (inl refl) in
-    subst (λ o. IsSameReaping rest s (after_blocker x xs (joined rest s) admitted blockers o) (reap_from (x ∷ xs) s admitted blockers)) (sym (blocker_same rest s x.0 x.1 a mine))
-    (elim (reap_blocker (selves_in s.records x.0) s.rows x.1 x.0) as (λ o. reap_blocker (selves_in s.records x.0) s.rows x.1 x.0 ≡ o → IsSameReaping rest s (after_blocker x xs (joined rest s) admitted blockers o) (after_blocker x xs s admitted blockers o)) [
-      | None ↦ λ e.
-          let q = reaps_same rest xs (with_reap x.0 x.1 s) (admitted ++ reap_item s.me (s.reaps + 1) x.0 x.1 ∷ []) blockers (reap_apart rest s x.0 x.1 a mine) (λ y i. h y (inr i)) b in
-          record {
-            same = ap (λ t. reap_from xs t (admitted ++ reap_item s.me (s.reaps + 1) x.0 x.1 ∷ []) blockers) (reap_joined rest s x.0 x.1 a mine) ∙ q.same;
-            apart = q.apart;
-            self = record { me = q.self.me; skew = q.self.skew; last = q.self.last; map = q.self.map };
-            blocked = q.blocked;
-          }
-      | Some number ↦ λ e. reaps_same rest xs s admitted (with_blocker number blockers) a (λ y i. h y (inr i)) (λ n i.
-          elim (In-put (no_before number) n number blockers i) as (λ _. IsRowed n s.rows) [
-            | inl q ↦ subst (λ m. IsRowed m s.rows) (sym q) (blocked_by (stands_against_reap (selves_in s.records x.0) s.rows x.1 x.0) s.rows (find (stands_against_reap (selves_in s.records x.0) s.rows x.1 x.0) s.rows) number refl e)
-            | inr j ↦ b n j
-          ])
-    ] refl)
+reaps_same : (rest : Rest) (xs : Lapsed) (s : Server) (admitted : List Item) (blockers : List LeaseNo) → IsApart rest s → AreFilesHere s xs → AreRowed blockers s.rows → IsSameReaping rest s (reap_from xs (joined rest s) admitted blockers) (reap_from xs s admitted blockers)
+reaps_same rest = each_lapsed (λ xs s admitted blockers r. IsApart rest s → AreFilesHere s xs → AreRowed blockers s.rows → IsSameReaping rest s (reap_from xs (joined rest s) admitted blockers) r)
+    (λ s admitted blockers a h b. record { same = refl; apart = a; self = itself s; blocked = b })
+    (λ f x xs s admitted blockers r e p a h b.
+    let mine : is_mine s f ≡ true = h (f, x) (inl refl) in
+    let q : IsSameReaping rest (with_reap f x s) (reap_from xs (joined rest (with_reap f x s)) (admitted ++ reap_item s.me (s.reaps + 1) f x ∷ []) blockers) r = p (reap_apart rest s f x a mine) (λ y i. h y (inr i)) b in
+    record {
+      same = reap_done f x xs (joined rest s) admitted blockers (blocker_same rest s f x a mine ∙ e) ∙ ap (λ t. reap_from xs t (admitted ++ reap_item s.me (s.reaps + 1) f x ∷ []) blockers) (reap_joined rest s f x a mine) ∙ q.same;
+      apart = q.apart;
+      self = record { me = q.self.me; skew = q.self.skew; last = q.self.last; map = q.self.map };
+      blocked = q.blocked;
+    })
+    (λ f x xs s admitted blockers r number e p a h b.
+    let mine : is_mine s f ≡ true = h (f, x) (inl refl) in
+    let q : IsSameReaping rest s (reap_from xs (joined rest s) admitted (with_blocker number blockers)) r = p a (λ y i. h y (inr i)) (λ n i.
+    elim (In-put (no_before number) n number blockers i) as (λ _. IsRowed n s.rows) [
+      | inl q ↦ subst (λ m. IsRowed m s.rows) (sym q) (blocked_by (stands_against_reap (selves_in s.records f) s.rows x f) s.rows (find (stands_against_reap (selves_in s.records f) s.rows x f) s.rows) number refl e)
+      | inr j ↦ b n j
+    ]) in
+    record { same = reap_kept_off f x xs (joined rest s) admitted blockers number (blocker_same rest s f x a mine ∙ e) ∙ q.same; apart = q.apart; self = q.self; blocked = q.blocked })
 
 recalls_same : (rest : Rest) (s : Server) (ns : List LeaseNo) → IsApart rest s → AreRowed ns s.rows → recalls_for s.rows ns ≡ recalls_for (joined rest s).rows ns
 recalls_same rest s [] a h = refl

@@ -1,15 +1,15 @@
 -- How many rows have a number: where none has that of another, rows that are put together are in order.
 use Rattle.std.proofs.Common.{◌≡◌, ◌==◌, ◌+◌, ◌≤◌, ◌&&◌, not, ℕ, Bool, true, false, List, [], ◌∷◌, refl, ap, subst, cond, arith}
 use Rattle.std.specs.List.{filter, list_all, list_any}
-use Rattle.std.specs.Cmp.{nat_eq_equiv}
 use Rattle.std.specs.Ordering.{nat_cmp, is_lt, ordering_then}
 use Rattle.std.proofs.lemmas.Bool.Decides.{nat_tests}
 use Rattle.fs_ident.specs.declared.actor.LeaseNo.{LeaseNo}
 use Rattle.fs_ident.proofs.Booleans.{both as both_hold, joined}
 use Rattle.fs_ident.proofs.Passing.{all-In}
-use Rattle.fs_field.specs.Table.{has_no, is_ordered, no_before, same_no, with_row}
+use Rattle.fs_field.specs.Table.{has_no, is_ordered, no_before, with_row}
 use Rattle.fs_field.specs.declared.row.Row.{Row}
 use Rattle.fs_field.proofs.Order.{ordered_put}
+use Rattle.fs_field.proofs.SameNo.{same_no_self}
 use Rattle.fs_record.specs.declared.parcel.Parcel.{Parcel}
 use Rattle.fs_rows.specs.Granted.{with_rows}
 use Rattle.fs_rows.specs.Moving.{are_new, is_new}
@@ -44,13 +44,10 @@ times_parts n test (r ∷ rs) =
 
 -- ## In order
 
-no_itself : (n : LeaseNo) → same_no n n ≡ true
-no_itself n = joined (n.server == n.server) (n.count == n.count) (nat_eq_equiv.refl n.server) (nat_eq_equiv.refl n.count)
-
 -- a row's number is its own
 pub new_once : (m : Row) (ms rows : List Row) → times m.no (m ∷ ms) + times m.no rows ≤ 1 → list_any (has_no m.no) rows ≡ false
 new_once m ms rows h =
-    let own : one_if (has_no m.no m) ≡ 1 = ap one_if (no_itself m.no) in
+    let own : one_if (has_no m.no m) ≡ 1 = ap one_if (same_no_self m.no) in
     none_of (has_no m.no) rows (omega arith)
 
 -- where no number is there twice

@@ -4,17 +4,17 @@ use Rattle.fs_ident.specs.declared.actor.LeaseNo.{LeaseNo}
 use Rattle.fs_ident.specs.declared.actor.Session.{Session}
 use Rattle.fs_msg.specs.declared.item.Item.{Item}
 use Rattle.fs_record.specs.Records.{RecordMap}
+use Rattle.fs_record.proofs.ValueChanges.{one_session}
 use Rattle.fs_serial.specs.Fresh.{FreshReserved, Reserved, Reserves, reserved_by}
 use Rattle.fs_serial.specs.Parts.{AllHold, SessionHolds, SessionFits, with_client, with_replies}
 use Rattle.fs_serial.specs.Settled.{Settled}
 use Rattle.fs_serial.specs.Sight.{Sight}
 use Rattle.fs_serial.proofs.Facts.{session_itself}
-use Rattle.fs_serial.proofs.Rowed.{session_is}
 
 -- what holds of the changed client, and of all others, holds of all
 pub each_session : {X : Type 0} (P : Session → X → Type 0) (by : Session) (d : X) (clients : Session → X) → P by d → ((x : Session) → (by.0 == x.0) ≡ false → P x (clients x)) → (x : Session) → P x (cond (by.0 == x.0) d (clients x))
 each_session P by d clients own others x = elim (by.0 == x.0) as (λ b. (by.0 == x.0) ≡ b → P x (cond b d (clients x))) [
-  | true ↦ λ t. subst (λ y. P y d) (session_is by x t) own
+  | true ↦ λ t. subst (λ y. P y d) (one_session by x t) own
   | false ↦ λ t. others x t
 ] refl
 
@@ -43,7 +43,7 @@ client_changes skew greatest s replied clients by more d h holds fits fewer = re
   servers = h.servers;
   kept = h.kept;
   sessions = λ x. elim (by.0 == x.0) as (λ b. (by.0 == x.0) ≡ b → SessionHolds skew greatest s x (cond b more (replied x)) (cond b d (clients x))) [
-    | true ↦ λ t. subst (λ y. SessionHolds skew greatest s y more d) (session_is by x t) holds
+    | true ↦ λ t. subst (λ y. SessionHolds skew greatest s y more d) (one_session by x t) holds
     | false ↦ λ t. h.sessions x
   ] refl;
   fitting = each_session (λ x c. SessionFits skew greatest s x c) by d clients fits (λ x other. h.fitting x);

@@ -7,6 +7,7 @@ use Rattle.fs_ident.specs.declared.actor.Peer.{Peer}
 use Rattle.fs_ident.specs.declared.actor.Peer.TheVariants.{Client as OfSession}
 use Rattle.fs_ident.specs.declared.actor.Session.{Session}
 use Rattle.fs_ident.proofs.Passing.{found}
+use Rattle.fs_record.proofs.ValueChanges.{one_session}
 use Rattle.fs_msg.specs.declared.answer.Answer.{Answer}
 use Rattle.fs_msg.specs.declared.client_msg.ClientMsg.{ClientMsg}
 use Rattle.fs_msg.specs.declared.msg.Msg.{Msg}
@@ -20,7 +21,6 @@ use Rattle.fs_serial.specs.Seen.{ends_of}
 use Rattle.fs_serial.specs.World.{Ends, message_in, pushed, with_ends}
 use Rattle.fs_serial.specs.World as world
 use Rattle.fs_serial.proofs.Facts.{In-mapped}
-use Rattle.fs_serial.proofs.Rowed.{session_is}
 use Rattle.fs_serial.proofs.ServerEvents.{one_up}
 
 abbrev pub messages : {X : Type 0} → List (ℕ × X) → List X
@@ -94,7 +94,7 @@ ends_asked k by m lines one x =
     let l : Lines = record (lines by) { up = without_first (is_with k) (lines by).up } in
     elim (by.0 == x.0) as (λ b. (by.0 == x.0) ≡ b → ends_of (cond b l (lines x)) ≡ cond b (record (ends_of (lines x)) { up = [] }) (ends_of (lines x))) [
       | true ↦ λ t. ap (λ up. let e : Ends = record { client = (lines by).client; up = messages up; down = messages (lines by).down } in e) one.left
-          ∙ ap (λ y. let e : Ends = record { client = (lines y).client; up = []; down = messages (lines y).down } in e) (session_is by x t)
+          ∙ ap (λ y. let e : Ends = record { client = (lines y).client; up = []; down = messages (lines y).down } in e) (one_session by x t)
       | false ↦ λ t. refl
     ] refl
 

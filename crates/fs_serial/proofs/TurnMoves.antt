@@ -1,6 +1,7 @@
 -- A client's turn.
 use Rattle.std.proofs.Common.{◌≡◌, ℕ, ◌&&◌, ◌==◌, ◌+◌, ◌/◌, not, Bool, true, false, List, [], ◌∷◌, ◌++◌, refl, sym, ap, ◌∙◌, subst, cond}
-use Rattle.std.specs.Prelude.{Option, Some, None, is_some}
+use Rattle.std.proofs.lemmas.Bool.{not-true}
+use Rattle.std.specs.Prelude.{None, is_some}
 use Rattle.fs_ident.specs.declared.actor.Session.{Session}
 use Rattle.fs_ident.specs.In.{In}
 use Rattle.fs_ident.proofs.Booleans.{both}
@@ -25,14 +26,7 @@ use Rattle.fs_serial.proofs.ClientSteps.{IsMoved, reserves_in}
 use Rattle.fs_serial.proofs.Releases.{seat_releases, releases_fewer}
 use Rattle.fs_serial.proofs.Seats.{Seat, seen_at}
 use Rattle.fs_serial.proofs.Sends.{seat_ships, seat_renews}
-
-none_is : {X : Type 0} (o : Option X) → is_some o ≡ false → o ≡ None
-none_is None h = refl
-none_is (Some x) h = absurd (cc)
-
-not_some : {X : Type 0} (o : Option X) → not (is_some o) ≡ true → o ≡ None
-not_some None h = refl
-not_some (Some x) h = absurd (cc)
+use Rattle.fs_serial.proofs.Admit.{not_some}
 
 -- these stand first
 record HasFront (front all : List Entry) : Type 0 where
@@ -81,12 +75,12 @@ module _ (skew greatest : ℕ) (s : Sight) (by : Session) (replied : List Item) 
       }
 
   goes_on : c.exchange ≡ None → (b : Bool) → (not (is_empty c.log) && not (is_some c.over)) ≡ b → Moves (cond b (ship_some c.log c) (release_some (returned c.view) c))
-  goes_on idle true e = hands_in idle (not_some c.over (both (not (is_empty c.log)) (not (is_some c.over)) e).1) c.log refl
+  goes_on idle true e = hands_in idle (not_some c.over (not-true (is_some c.over) (both (not (is_empty c.log)) (not (is_some c.over)) e).1)) c.log refl
   goes_on idle false e = gives_some idle (returned c.view) refl
 
   by_exchange : (b : Bool) → is_some c.exchange ≡ b → Moves (cond b (idle c) (turn_free c))
   by_exchange true e = stays
-  by_exchange false e = goes_on (none_is c.exchange e) (not (is_empty c.log) && not (is_some c.over)) refl
+  by_exchange false e = goes_on (not_some c.exchange e) (not (is_empty c.log) && not (is_some c.over)) refl
 
   pub turn_moved : Moves (turn_on c)
   turn_moved = by_exchange (is_some c.exchange) refl

@@ -1,8 +1,8 @@
 -- A cluster as one of its servers sees it, and as another does.
 use mathlib.Core.Path.{fun_ext}
-use Rattle.std.proofs.Common.{◌≡◌, ℕ, ◌≤◌, ◌==◌, true, false, List, cond, refl, sym, ap, ◌∙◌, subst, arith}
-use Rattle.std.specs.Prelude.{◌≢◌, Option, Some, slice_get, slice_set}
-use Rattle.std.proofs.lemmas.Bool.Decides.{nat_tests}
+use Rattle.std.proofs.Common.{◌≡◌, ℕ, ◌≤◌, ◌==◌, true, false, List, cond, refl, sym, ap, ◌∙◌, subst}
+use Rattle.std.specs.Prelude.{Option, Some, slice_get, slice_set}
+use Rattle.std.proofs.lemmas.Bool.{eqb-true, eqb-false}
 use Rattle.fs_ident.specs.In.{In}
 use Rattle.fs_ident.specs.declared.actor.Session.{Session}
 use Rattle.fs_field.specs.declared.row.Row.{Row}
@@ -73,17 +73,11 @@ alike_holds greatest w v q clock h =
 
 -- ## One cluster
 
-same_place : (j me : ℕ) → (j == me) ≡ true → j ≡ me
-same_place j me h = grind (arith, nat_tests)
-
-other_place : (j me : ℕ) → (j == me) ≡ false → j ≢ me
-other_place j me h e = grind (arith, nat_tests)
-
 -- where the server stands at its place, its own count is as that of all
 count_at_place : (f : Option Server → ℕ) (servers : List Server) (k me : ℕ) (s : Server) → slice_get servers k ≡ Some s → me ≡ k → (j : ℕ) → count_with me (f (Some s)) (λ i. f (slice_get servers i)) j ≡ f (slice_get servers j)
 count_at_place f servers k me s at is j =
     elim (j == me) as (λ b. (j == me) ≡ b → cond b (f (Some s)) (f (slice_get servers j)) ≡ f (slice_get servers j)) [
-      | true ↦ λ t. let q : j ≡ k = same_place j me t ∙ is in ap f (sym at) ∙ ap (λ i. f (slice_get servers i)) (sym q)
+      | true ↦ λ t. let q : j ≡ k = eqb-true j me t ∙ is in ap f (sym at) ∙ ap (λ i. f (slice_get servers i)) (sym q)
       | false ↦ λ t. refl
     ] refl
 
@@ -92,7 +86,7 @@ pub count_set : (f : Option Server → ℕ) (servers : List Server) (k me count 
 count_set f servers k me count t is j =
     elim (j == me) as (λ b. (j == me) ≡ b → cond b count (f (slice_get (slice_set servers k t) j)) ≡ cond b count (f (slice_get servers j))) [
       | true ↦ λ q. refl
-      | false ↦ λ q. ap f (get_other servers k j t (λ e. other_place j me q (sym e ∙ sym is)))
+      | false ↦ λ q. ap f (get_other servers k j t (λ e. eqb-false j me q (sym e ∙ sym is)))
     ] refl
 
 pub other_view : (greatest : ℕ) (c : Cluster) (s t : Server) (i j : ℕ) → slice_get c.servers i ≡ Some s → s.me ≡ i → slice_get c.servers j ≡ Some t → t.me ≡ j → t.skew ≡ s.skew → t.last ≤ greatest → WorldHolds greatest (world_of s c) → WorldHolds greatest (world_of t c)

@@ -17,7 +17,6 @@ use Rattle.fs_server.specs.declared.event.ServerEvent.{ServerEvent}
 use Rattle.fs_server.specs.declared.event.ServerEvent.TheVariants.{FromClient, FromPeer, Move}
 use Rattle.fs_server.specs.declared.state.Server.{Server}
 use Rattle.fs_server.specs.Ships.{item_of}
-use Rattle.fs_server.specs.Step.{step}
 use Rattle.fs_client.specs.Acts.{act_plan}
 use Rattle.fs_client.specs.Answers.{answer_plan}
 use Rattle.fs_client.specs.Client.{committed, first_client}
@@ -109,15 +108,6 @@ IsThere (FromClient by m) ends = In m (ends by).up
 IsThere (FromPeer from m) ends = ⊥
 IsThere (Move prefix to) ends = ⊥
 IsThere e ends = Unit {0}
-
-abbrev pub after_server : ℕ → ServerEvent → World → World
-after_server now e w = record {
-  server = (step w.server now e).server;
-  counts = w.counts;
-  journal = w.journal ++ (step w.server now e).out.admitted;
-  replied = w.replied;
-  ends = with_sent (step w.server now e).out.send (without_taken e w.ends);
-}
 
 -- ## A client's events
 

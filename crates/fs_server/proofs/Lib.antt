@@ -1,5 +1,7 @@
 pub mod Parts
 mod Ends
+pub mod OneByOne
+pub mod Answered
 mod Own
 mod Kept
 mod Lending

@@ -40,63 +40,28 @@ use Rattle.fs_record.proofs.BySession.{selves_rise}
 use Rattle.fs_server.specs.declared.reaps.Lost.{Lost}
 use Rattle.fs_server.specs.declared.state.Server.{Server}
 use Rattle.fs_server.specs.Lost.{CanLose, reaping_by, turned_by}
-use Rattle.fs_server.specs.Reaps.{Reaping, has_own, lapsed_on, lapsed_among, lapsed_in, reap_item, with_reap, with_blocker, reap_from, reaped, turn_over, turn_step}
+use Rattle.fs_server.specs.Reaps.{Reaping, has_own, lapsed_on, lapsed_among, lapsed_in, reap_item, with_blocker, reap_from, reaped, turn_over, turn_step}
 use Rattle.fs_server.specs.Server.{only_noted}
 use Rattle.fs_server.specs.Step.{counter_over}
-
-abbrev Lapsed : Type 0
-Lapsed = List (List ℕ × Session)
-
--- ## One session
-
-module _ (f : List ℕ) (x : Session) (xs : Lapsed) (t : Server) (admitted : List Item) (blockers : List LeaseNo) where
-  pub reap_done : reap_blocker (selves_in t.records f) t.rows x f ≡ None → reap_from ((f, x) ∷ xs) t admitted blockers ≡ reap_from xs (with_reap f x t) (admitted ++ reap_item t.me (t.reaps + 1) f x ∷ []) blockers
-  reap_done h = rw (h, reap_from) refl
-
-  pub reap_kept_off : (number : LeaseNo) → reap_blocker (selves_in t.records f) t.rows x f ≡ Some number → reap_from ((f, x) ∷ xs) t admitted blockers ≡ reap_from xs t admitted (with_blocker number blockers)
-  reap_kept_off number h = rw (h, reap_from) refl
-
--- ## What is so after each turn, by the answer for one session
-
-module _ (P : Lapsed → Server → List Item → List LeaseNo → Type 0)
-    (none : (t : Server) (admitted : List Item) (blockers : List LeaseNo) → P [] t admitted blockers)
-    (done : (f : List ℕ) (x : Session) (xs : Lapsed) (t : Server) (admitted : List Item) (blockers : List LeaseNo) → reap_blocker (selves_in t.records f) t.rows x f ≡ None → P xs (with_reap f x t) (admitted ++ reap_item t.me (t.reaps + 1) f x ∷ []) blockers → P ((f, x) ∷ xs) t admitted blockers)
-    (off : (f : List ℕ) (x : Session) (xs : Lapsed) (t : Server) (admitted : List Item) (blockers : List LeaseNo) (number : LeaseNo) → reap_blocker (selves_in t.records f) t.rows x f ≡ Some number → P xs t admitted (with_blocker number blockers) → P ((f, x) ∷ xs) t admitted blockers) where
-  each : (xs : Lapsed) (t : Server) (admitted : List Item) (blockers : List LeaseNo) → P xs t admitted blockers
-  each [] t admitted blockers = none t admitted blockers
-  each (x ∷ xs) t admitted blockers = by (reap_blocker (selves_in t.records x.0) t.rows x.1 x.0) refl (each xs (with_reap x.0 x.1 t) (admitted ++ reap_item t.me (t.reaps + 1) x.0 x.1 ∷ []) blockers) (λ number. each xs t admitted (with_blocker number blockers))
-    where
-      by : (o : Option LeaseNo) → reap_blocker (selves_in t.records x.0) t.rows x.1 x.0 ≡ o → P xs (with_reap x.0 x.1 t) (admitted ++ reap_item t.me (t.reaps + 1) x.0 x.1 ∷ []) blockers → ((number : LeaseNo) → P xs t admitted (with_blocker number blockers)) → P (x ∷ xs) t admitted blockers
-      by None e p q = done x.0 x.1 xs t admitted blockers e p
-      by (Some number) e p q = off x.0 x.1 xs t admitted blockers number e (q number)
+use Rattle.fs_server.proofs.OneByOne.{Lapsed, each_lapsed, reap_done, reap_kept_off, reaps_leave}
 
 -- some, and then the others
 abbrev goes_on : Lapsed → Reaping → Reaping
 goes_on ys r = reap_from ys r.server r.admitted r.blockers
 
 pub reap_from-append : (xs ys : Lapsed) (t : Server) (admitted : List Item) (blockers : List LeaseNo) → reap_from (xs ++ ys) t admitted blockers ≡ goes_on ys (reap_from xs t admitted blockers)
-reap_from-append xs ys t admitted blockers = each (λ xs t admitted blockers. reap_from (xs ++ ys) t admitted blockers ≡ goes_on ys (reap_from xs t admitted blockers))
+reap_from-append xs ys = each_lapsed (λ xs t admitted blockers r. reap_from (xs ++ ys) t admitted blockers ≡ goes_on ys r)
     (λ t admitted blockers. refl)
-    (λ f x xs t admitted blockers e p. reap_done f x (xs ++ ys) t admitted blockers e ∙ p ∙ ap (goes_on ys) (sym (reap_done f x xs t admitted blockers e)))
-    (λ f x xs t admitted blockers number e p. reap_kept_off f x (xs ++ ys) t admitted blockers number e ∙ p ∙ ap (goes_on ys) (sym (reap_kept_off f x xs t admitted blockers number e)))
-    xs t admitted blockers
+    (λ f x xs t admitted blockers r e p. reap_done f x (xs ++ ys) t admitted blockers e ∙ p)
+    (λ f x xs t admitted blockers r number e p. reap_kept_off f x (xs ++ ys) t admitted blockers number e ∙ p)
+    xs
 
 -- reaps are only added
 pub reaps_rise : (xs : Lapsed) (t : Server) (admitted : List Item) (blockers : List LeaseNo) → t.reaps ≤ (reap_from xs t admitted blockers).server.reaps
-reaps_rise = each (λ xs t admitted blockers. t.reaps ≤ (reap_from xs t admitted blockers).server.reaps)
-    (λ t admitted blockers. omega arith)
-    (λ f x xs t admitted blockers e p. subst (λ r. t.reaps ≤ r.server.reaps) (sym (reap_done f x xs t admitted blockers e)) (one_more _ _ p))
-    (λ f x xs t admitted blockers number e p. subst (λ r. t.reaps ≤ r.server.reaps) (sym (reap_kept_off f x xs t admitted blockers number e)) p)
+reaps_rise = each_lapsed (λ xs t admitted blockers r. t.reaps ≤ r.server.reaps) (λ t admitted blockers. omega arith) (λ f x xs t admitted blockers r e p. one_more t.reaps r.server.reaps p) (λ f x xs t admitted blockers r number e p. p)
   where
     one_more : (a b : ℕ) → a + 1 ≤ b → a ≤ b
     one_more a b h = omega arith
-
--- no lease is given
-pub given_stays : (xs : Lapsed) (t : Server) (admitted : List Item) (blockers : List LeaseNo) → (reap_from xs t admitted blockers).server.given ≡ t.given
-given_stays = each (λ xs t admitted blockers. (reap_from xs t admitted blockers).server.given ≡ t.given)
-    (λ t admitted blockers. refl)
-    (λ f x xs t admitted blockers e p. ap (λ r. r.server.given) (reap_done f x xs t admitted blockers e) ∙ p)
-    (λ f x xs t admitted blockers number e p. ap (λ r. r.server.given) (reap_kept_off f x xs t admitted blockers number e) ∙ p)
 
 longer : (number : LeaseNo) (blockers : List LeaseNo) → length (with_blocker number blockers) ≡ length blockers + 1
 longer number [] = refl
@@ -107,10 +72,10 @@ longer number (b ∷ bs) = elim (no_before number b) as (λ c. length (cond c (n
 
 -- each session is reaped, or a lease is in the way
 pub each_told : (xs : Lapsed) (t : Server) (admitted : List Item) (blockers : List LeaseNo) → length (reap_from xs t admitted blockers).admitted + length (reap_from xs t admitted blockers).blockers ≡ (length admitted + length blockers) + length xs
-each_told = each (λ xs t admitted blockers. length (reap_from xs t admitted blockers).admitted + length (reap_from xs t admitted blockers).blockers ≡ (length admitted + length blockers) + length xs)
+each_told = each_lapsed (λ xs t admitted blockers r. length r.admitted + length r.blockers ≡ (length admitted + length blockers) + length xs)
     (λ t admitted blockers. omega arith)
-    (λ f x xs t admitted blockers e p. ap (λ r. length r.admitted + length r.blockers) (reap_done f x xs t admitted blockers e) ∙ p ∙ omega (arith, length-append admitted (reap_item t.me (t.reaps + 1) f x ∷ [])))
-    (λ f x xs t admitted blockers number e p. ap (λ r. length r.admitted + length r.blockers) (reap_kept_off f x xs t admitted blockers number e) ∙ p ∙ omega (arith, longer number blockers))
+    (λ f x xs t admitted blockers r e p. p ∙ omega (arith, length-append admitted (reap_item t.me (t.reaps + 1) f x ∷ [])))
+    (λ f x xs t admitted blockers r number e p. p ∙ omega (arith, longer number blockers))
 
 -- ## Apart
 
@@ -279,23 +244,6 @@ pub record AreLosing (s : Server) (files rest : List (List ℕ)) (l : Lost) : Ty
   pub still : (g : List ℕ) → In g rest → get (reaping_by l s).server.records g ≡ get s.records g
   pub apart : are_apart rest ≡ true
 
-abbrev nothing_lost : Lost
-nothing_lost = record { effects = []; admitted = []; blockers = [] }
-
-as_before : (s : Server) → (reaping_by nothing_lost s).server ≡ s
-as_before s = λ i. record s { reaps = same_count s.reaps i }
-  where
-    same_count : (n : ℕ) → n + 0 ≡ n
-    same_count n = omega arith
-
-pub losing_none : (s : Server) (files : List (List ℕ)) (l : Lost) → l ≡ nothing_lost → s.reaps < 2 ^ 64 → are_apart files ≡ true → AreLosing s files files l
-losing_none s files l e few apart = subst (AreLosing s files files) (sym e) (record {
-  lost = ap (λ t. reap_from (lapsed_among s files) t [] []) (as_before s);
-  can = record { undoable = refl; few = omega arith };
-  still = λ g i. refl;
-  apart = apart;
-})
-
 -- at this place
 pub losing_at : (s : Server) (files : List (List ℕ)) (i : ℕ) (f : List ℕ) (l : Lost) → i < length files → f ≡ get_or files i f → AreLosing s files (drop i files) l → AreLosing s files (f ∷ drop (i + 1) files) l
 losing_at s files i f l h is k = subst (λ rest. AreLosing s files rest l) (drop_more files i f h ∙ ap (λ g. g ∷ drop (i + 1) files) (sym is)) k
@@ -368,5 +316,5 @@ over given reaps g r = grind (arith, nat_tests)
 pub turn_spent : (s : Server) (counter : Counter) → s.given < 2 ^ 64 → counter ≡ Reaps → 2 ^ 64 ≤ (reap_from (lapsed_among s (open_files s.records)) s [] []).server.reaps → counter_over (turn_step s).server ≡ Some counter
 turn_spent s counter g is h =
     ap counter_over (turn_server (lapsed_in s) s ∙ ap (λ xs. (reap_from xs s [] []).server) (sym (lapsed_open s)))
-    ∙ over _ _ (subst (λ n. n < 2 ^ 64) (sym (given_stays (lapsed_among s (open_files s.records)) s [] [])) g) h
+    ∙ over _ _ (subst (λ n. n < 2 ^ 64) (sym (ap (λ t. t.given) (reaps_leave (lapsed_among s (open_files s.records)) s [] []))) g) h
     ∙ ap Some (sym is)

@@ -1,9 +1,8 @@
 -- What is read of rows is read of the part that it is about.
-use Rattle.std.proofs.Common.{◌≡◌, ◌==◌, not, ◌&&◌, ℕ, Bool, true, false, List, [], ◌∷◌, refl, ap, cond, sym, ◌∙◌, subst, map, inl, inr, arith}
+use Rattle.std.proofs.Common.{◌≡◌, ◌==◌, not, ◌&&◌, ℕ, Bool, true, false, List, [], ◌∷◌, refl, ap, cond, sym, ◌∙◌, subst, map, inl, inr}
 use mathlib.Core.Path.{fun_ext}
 use Rattle.std.specs.Prelude.{Option, Some, None, is_some, option_map}
 use Rattle.std.specs.List.{filter, find, list_any}
-use Rattle.std.proofs.lemmas.Bool.Decides.{nat_tests}
 use Rattle.std.proofs.lemmas.Map.Views.{any-filter_same}
 use Rattle.fs_ident.specs.declared.actor.LeaseNo.{LeaseNo}
 use Rattle.fs_ident.specs.declared.actor.Session.{Session}
@@ -21,8 +20,9 @@ use Rattle.fs_field.specs.declared.lease_kind.LeaseKind.{LeaseKind}
 use Rattle.fs_field.specs.declared.row.Row.{Row}
 use Rattle.fs_field.specs.Conflict.{Selves, stands_against, meets, is_self, is_fixed, has_fixed, can_fail, mode_meets}
 use Rattle.fs_field.specs.Field.{same_field, same_mode, tells_no_mode}
-use Rattle.fs_field.specs.Table.{same_no, has_no, is_ordered, lock_on}
+use Rattle.fs_field.specs.Table.{has_no, is_ordered, lock_on}
 use Rattle.fs_field.proofs.Order.{one_of_number}
+use Rattle.fs_field.proofs.SameNo.{same_no_is}
 use Rattle.fs_moderows.specs.Answer.{Opens, unless_locked, waits_or, answer_self, answer_other, has_fixed_other, is_self_of_other, stands_against_self, has_mode, is_told_true, rests_on, stands_against_reap, reap_blocker}
 use Rattle.fs_moderows.proofs.Witnesses.{In_filtered}
 use Rattle.fs_rows.specs.Answer.{answer_by, answer}
@@ -174,17 +174,6 @@ reap_modes opens rows s f =
 
 -- ## The row of a number
 
-same_server : (a b c d : ℕ) → ((a == b) && (c == d)) ≡ true → a ≡ b
-same_server a b c d h = grind (arith, nat_tests)
-
-same_count : (a b c d : ℕ) → ((a == b) && (c == d)) ≡ true → c ≡ d
-same_count a b c d h = grind (arith, nat_tests)
-
-one_number : (a b : LeaseNo) → same_no a b ≡ true → a ≡ b
-one_number a b h =
-    ap (λ s. let n : LeaseNo = record { server = s; count = a.count } in n) (same_server a.server b.server a.count b.count h)
-    ∙ ap (λ k. let n : LeaseNo = record { server = b.server; count = k } in n) (same_count a.server b.server a.count b.count h)
-
 -- the row that is found off modes is that of all rows
 pub named_off : (number : LeaseNo) (rows off : List Row) (r : Row) → is_ordered rows ≡ true → rows_off_modes rows ≡ off → Some r ≡ find (has_no number) off → Some r ≡ find (has_no number) rows
 named_off number rows off r o e h =
@@ -194,7 +183,7 @@ named_off number rows off r o e h =
       | None ↦ λ g. let wrong : true ≡ false = sym one.1 ∙ none_pass (has_no number) rows g r here in absurd (cc)
       | Some x ↦ λ g.
           let two : In x rows × (has_no number x ≡ true) = found (has_no number) rows x g in
-          ap Some (one_of_number rows o r x here two.0 (one_number r.no number one.1 ∙ sym (one_number x.no number two.1)))
+          ap Some (one_of_number rows o r x here two.0 (same_no_is r.no number one.1 ∙ sym (same_no_is x.no number two.1)))
     ] refl
 
 -- where none is found off modes, it is that on modes

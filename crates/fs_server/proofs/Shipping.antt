@@ -1,13 +1,11 @@
 -- The entries of a log, one after another.
-use Rattle.std.proofs.Common.{◌≡◌, ◌&&◌, ◌<◌, ◌+◌, ℕ, true, false, List, [], ◌∷◌, ◌++◌, length, drop, get_or, map, refl, ap, sym, subst, ◌∙◌}
-use Rattle.std.specs.Prelude.{Some, None}
+use Rattle.std.proofs.Common.{◌≡◌, ◌&&◌, ◌<◌, ◌+◌, ℕ, true, List, [], ◌∷◌, ◌++◌, length, drop, get_or, ap, sym, subst, ◌∙◌}
+use Rattle.std.specs.Prelude.{None}
 use Rattle.std.specs.List.{list_all}
 use Rattle.std.proofs.lemmas.List.{drop_more}
 use Rattle.std.proofs.lemmas.List.Folds.{list_all-append}
 use Rattle.fs_ident.specs.declared.actor.Session.{Session}
 use Rattle.fs_field.specs.declared.effect.Effect.{Effect}
-use Rattle.fs_field.specs.declared.used.Use.{Use}
-use Rattle.fs_msg.specs.declared.end.End.TheVariants as end
 use Rattle.fs_msg.specs.declared.entry.Entry.{Entry}
 use Rattle.fs_msg.specs.declared.item.Item.{Item}
 use Rattle.fs_msg.specs.Home.{home_of}
@@ -22,8 +20,9 @@ use Rattle.fs_server.specs.declared.state.Server.{Server}
 use Rattle.fs_server.specs.Decided.{CanDecide}
 use Rattle.fs_server.specs.Lent.{IsReady}
 use Rattle.fs_server.specs.Plan.{CanChange, changed}
-use Rattle.fs_server.specs.Server.{is_mine, moved}
+use Rattle.fs_server.specs.Server.{is_mine}
 use Rattle.fs_server.specs.Ships.{first_gone, item_of, ship_from, with_entry}
+use Rattle.fs_server.proofs.OneByOne.{entry_taken}
 
 -- one entry more is admitted
 admit-append : (by : Session) (e : Entry) (effects : List Effect) (s : Server) → changed (Admit (effects ++ effects_of by e.op e.reply)) s ≡ with_entry by e (changed (Admit effects) s)
@@ -33,41 +32,14 @@ admit-append by e effects s = ap (λ (m : RecordMap). let t : Server = record s 
 pub more_undoable : (by : Session) (e : Entry) (effects : List Effect) → list_all is_undoable effects ≡ true → list_all is_undoable (effects ++ effects_of by e.op e.reply) ≡ true
 more_undoable by e effects h = list_all-append is_undoable effects (effects_of by e.op e.reply) ∙ ap (λ b. b && list_all is_undoable (effects_of by e.op e.reply)) h ∙ plain_effects by e.op e.reply
 
-taken_entry : (by : Session) (e : Entry) (es : List Entry) (s : Server) (admitted : List Item) → is_mine s (home_of e.op) ≡ true → first_gone s.rows by e.uses ≡ None → ship_from by (e ∷ es) s admitted ≡ ship_from by es (with_entry by e s) (admitted ++ item_of by e ∷ [])
-taken_entry by e es s admitted mine h = rw (mine, h, ship_from) refl
-
-moved_entry : (by : Session) (e : Entry) (es : List Entry) (s : Server) (admitted : List Item) → is_mine s (home_of e.op) ≡ false
-    → ship_from by (e ∷ es) s admitted ≡ record { server = s; admitted = admitted; end = moved s (home_of e.op); gaps = [] }
-moved_entry by e es s admitted mine = rw (mine, ship_from) refl
-
-gone_entry : (by : Session) (e : Entry) (es : List Entry) (s : Server) (admitted : List Item) (u : Use) → is_mine s (home_of e.op) ≡ true → first_gone s.rows by e.uses ≡ Some u
-    → ship_from by (e ∷ es) s admitted ≡ record { server = s; admitted = admitted; end = end.Ended e.n u.no u.until s.last; gaps = map (λ (x : Entry). x.n) es }
-gone_entry by e es s admitted u mine h = rw (mine, h, ship_from) refl
-
 -- the entry at this place is admitted
 pub ship_more : (by : Session) (entries : List Entry) (i : ℕ) (e : Entry) (effects : List Effect) (admitted : List Item) (s : Server) → i < length entries → e ≡ get_or entries i e → is_mine s (home_of e.op) ≡ true → first_gone s.rows by e.uses ≡ None
     → ship_from by (drop i entries) (changed (Admit effects) s) admitted ≡ ship_from by (drop (i + 1) entries) (changed (Admit (effects ++ effects_of by e.op e.reply)) s) (admitted ++ item_of by e ∷ [])
 ship_more by entries i e effects admitted s h is mine none =
     ap (λ es. ship_from by es (changed (Admit effects) s) admitted) (drop_more entries i e h)
     ∙ ap (λ x. ship_from by (x ∷ drop (i + 1) entries) (changed (Admit effects) s) admitted) (sym is)
-    ∙ taken_entry by e (drop (i + 1) entries) (changed (Admit effects) s) admitted mine none
+    ∙ entry_taken by e (drop (i + 1) entries) (changed (Admit effects) s) admitted mine none
     ∙ sym (ap (λ t. ship_from by (drop (i + 1) entries) t (admitted ++ item_of by e ∷ [])) (admit-append by e effects s))
-
--- the entry at this place used a lease whose row is gone
-pub ship_ended : (by : Session) (entries : List Entry) (i : ℕ) (e : Entry) (effects : List Effect) (admitted : List Item) (s : Server) (u : Use) → i < length entries → e ≡ get_or entries i e → is_mine s (home_of e.op) ≡ true → first_gone s.rows by e.uses ≡ Some u
-    → ship_from by (drop i entries) (changed (Admit effects) s) admitted ≡ record { server = changed (Admit effects) s; admitted = admitted; end = end.Ended e.n u.no u.until s.last; gaps = map (λ (x : Entry). x.n) (drop (i + 1) entries) }
-ship_ended by entries i e effects admitted s u h is mine gone =
-    ap (λ es. ship_from by es (changed (Admit effects) s) admitted) (drop_more entries i e h)
-    ∙ ap (λ x. ship_from by (x ∷ drop (i + 1) entries) (changed (Admit effects) s) admitted) (sym is)
-    ∙ gone_entry by e (drop (i + 1) entries) (changed (Admit effects) s) admitted u mine gone
-
--- the entry at this place is handed in at the wrong server
-pub ship_moved : (by : Session) (entries : List Entry) (i : ℕ) (e : Entry) (effects : List Effect) (admitted : List Item) (s : Server) → i < length entries → e ≡ get_or entries i e → is_mine s (home_of e.op) ≡ false
-    → ship_from by (drop i entries) (changed (Admit effects) s) admitted ≡ record { server = changed (Admit effects) s; admitted = admitted; end = moved s (home_of e.op); gaps = [] }
-ship_moved by entries i e effects admitted s h is mine =
-    ap (λ es. ship_from by es (changed (Admit effects) s) admitted) (drop_more entries i e h)
-    ∙ ap (λ x. ship_from by (x ∷ drop (i + 1) entries) (changed (Admit effects) s) admitted) (sym is)
-    ∙ moved_entry by e (drop (i + 1) entries) (changed (Admit effects) s) admitted mine
 
 -- a plan that admits such effects can be carried out
 pub admit_can : (d : Decided) (effects : List Effect) (s : Server) → list_all is_undoable effects ≡ true → IsReady s → d.change ≡ Admit effects → CanDecide d s

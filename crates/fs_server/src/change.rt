@@ -1,8 +1,9 @@
 //! What an event changes.
 use fs_field::{Effect, Row};
-use fs_ident::{FileId, LeaseNo, List};
+use fs_ident::{FileId, LeaseNo, List, Memory, Twin};
 use fs_map::MapPiece;
 use fs_record::{Parcel, Record};
+use std::alloc::Global;
 
 /// What an event changes, beside the rows that are over.
 #[derive(Drop)]
@@ -41,4 +42,40 @@ pub(crate) enum Change {
     Install {
         parcel: Parcel,
     },
+}
+
+impl Twin for Change {
+    fn copy(&self, alloc: Global) -> Result<Change, Memory> {
+        match self {
+            Change::Nothing => Ok(Change::Nothing),
+            Change::Grant { rows, gift } => Ok(Change::Grant {
+                rows: rows.copy(alloc)?,
+                gift: gift.copy(alloc)?,
+            }),
+            Change::Renew { until, numbers } => Ok(Change::Renew {
+                until: *until,
+                numbers: numbers.copy(alloc)?,
+            }),
+            Change::Free { numbers } => Ok(Change::Free {
+                numbers: numbers.copy(alloc)?,
+            }),
+            Change::Admit { effects } => Ok(Change::Admit {
+                effects: effects.copy(alloc)?,
+            }),
+            Change::Reap { count, effects } => Ok(Change::Reap {
+                count: *count,
+                effects: effects.copy(alloc)?,
+            }),
+            Change::Leave { to, piece, moved } => Ok(Change::Leave {
+                to: *to,
+                piece: piece.copy(alloc)?,
+                moved: moved.copy(alloc)?,
+            }),
+            Change::Install { parcel } => Ok(Change::Install {
+                parcel: parcel.copy(alloc)?,
+            }),
+        }
+    }
+
+    fn discard(self) {}
 }

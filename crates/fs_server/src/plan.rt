@@ -3,6 +3,8 @@ ghost use Rattle.std.specs.Prelude.{◌≡◌};
 
 use crate::change::Change;
 use crate::out::ServerOut;
+use fs_ident::{Memory, Twin};
+use std::alloc::Global;
 
 /// What an event comes to: its answer, and what is still to be changed.
 #[derive(Drop)]
@@ -25,4 +27,16 @@ impl Plan {
     {
         (self.now, self.change, self.out)
     }
+}
+
+impl Twin for Plan {
+    fn copy(&self, alloc: Global) -> Result<Plan, Memory> {
+        Ok(Plan {
+            now: self.now,
+            change: self.change.copy(alloc)?,
+            out: self.out.copy(alloc)?,
+        })
+    }
+
+    fn discard(self) {}
 }

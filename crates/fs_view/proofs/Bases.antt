@@ -15,7 +15,7 @@ use Rattle.fs_view.specs.declared.kept.Kept.{Kept}
 use Rattle.fs_view.specs.declared.kept.Standing.{Standing}
 use Rattle.fs_view.specs.declared.kept.Standing.TheVariants.{Held, Pinned, Leaving}
 use Rattle.fs_view.specs.Kept.{makes, is_pending, number_of}
-use Rattle.fs_view.specs.View.{View, are_distinct, value_after_all, value_after_log, base_after, below_after, knowing, with_first_admitted, admitted_front}
+use Rattle.fs_view.specs.View.{View, are_distinct, value_after_all, value_after_log, base_after, below_after, knowing, admitted_front}
 use Rattle.fs_ident.specs.declared.memory.Memory.{Memory}
 use Rattle.fs_view.proofs.Places.{distinct_map, distinct_mapped}
 use Rattle.fs_view.specs.Admit.{knowing_all, base_after_log, below_after_log, with_base, with_bases}
@@ -35,7 +35,7 @@ untouched_by_log s field v (es ∷ log) h =
 
 -- ## What a lease comes to
 
-abbrev kept : Standing → Value → Bool → Option (List ℕ) → Kept
+abbrev pub kept : Standing → Value → Bool → Option (List ℕ) → Kept
 kept st base recalled below = record { standing = st; base = base; recalled = recalled; below = below }
 
 either : (a b : Bool) (x : Option (List ℕ)) → cond b None (cond a None x) ≡ cond (a || b) None x
@@ -84,7 +84,7 @@ all_then : (s : Session) (es : List Effect) (log : List (List Effect)) (ks : Lis
 all_then s es log [] = refl
 all_then s es log (k ∷ ks) = ap (λ rest. knowing_all s log (knowing s es k) ∷ rest) (all_then s es log ks)
 
-abbrev viewed : Session → List Kept → List (List Effect) → View
+abbrev pub viewed : Session → List Kept → List (List Effect) → View
 viewed s ks log = record { session = s; leases = ks; pending = log }
 
 front_of : (n : ℕ) (s : Session) (ks : List Kept) (log : List (List Effect)) → admitted_front n (viewed s ks log) ≡ viewed s (map (knowing_all s (take n log)) ks) (drop n log)
@@ -95,9 +95,6 @@ front_of (suc n) s ks [] = front_of n s ks [] ∙ nothing n
     nothing zero = refl
     nothing (suc n) = refl
 front_of (suc n) s ks (es ∷ log) = front_of n s (map (knowing s es) ks) log ∙ ap (λ xs. viewed s xs (drop n log)) (all_then s es (take n log) ks)
-
-pub front_admitted : (n : ℕ) (v : View) → admitted_front n v ≡ record { session = v.session; leases = map (knowing_all v.session (take n v.pending)) v.leases; pending = drop n v.pending }
-front_admitted n v = front_of n v.session v.leases v.pending
 
 -- ## Numbers stay
 

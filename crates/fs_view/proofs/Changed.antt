@@ -9,7 +9,7 @@ use Rattle.fs_view.specs.declared.kept.Standing.TheVariants.{Held, Pinned, Leavi
 use Rattle.fs_view.specs.Kept.{number_of, pinned, unpinned, leaving, renewed}
 use Rattle.fs_view.specs.Change.{changed}
 
-pinned_number : (s : Standing) → number_of (pinned s) ≡ number_of s
+pub pinned_number : (s : Standing) → number_of (pinned s) ≡ number_of s
 pinned_number (Held l) = refl
 pinned_number (Pinned u) = refl
 pinned_number (Leaving l) = refl
@@ -18,17 +18,17 @@ unpinned_by : (b : Bool) (u : InUse) → number_of (cond b (Held u.lease) (Pinne
 unpinned_by true u = refl
 unpinned_by false u = refl
 
-unpinned_number : (s : Standing) → number_of (unpinned s) ≡ number_of s
+pub unpinned_number : (s : Standing) → number_of (unpinned s) ≡ number_of s
 unpinned_number (Held l) = refl
 unpinned_number (Pinned u) = unpinned_by (u.entries == 1) u
 unpinned_number (Leaving l) = refl
 
-leaving_number : (s : Standing) → number_of (leaving s) ≡ number_of s
+pub leaving_number : (s : Standing) → number_of (leaving s) ≡ number_of s
 leaving_number (Held l) = refl
 leaving_number (Pinned u) = refl
 leaving_number (Leaving l) = refl
 
-renewed_number : (until : ℕ) (s : Standing) → number_of (renewed until s) ≡ number_of s
+pub renewed_number : (until : ℕ) (s : Standing) → number_of (renewed until s) ≡ number_of s
 renewed_number until (Held l) = refl
 renewed_number until (Pinned u) = refl
 renewed_number until (Leaving l) = refl

@@ -9,6 +9,7 @@ use Rattle.fs_modes.specs.declared.modes.Modes.{Modes}
 use Rattle.fs_modes.specs.Modes.{has, opposing, conflicts}
 use Rattle.fs_model.specs.declared.node.Handle.{Handle}
 use Rattle.fs_model.specs.Handles.{handle_at, any_conflicts}
+use Rattle.fs_field.proofs.Named.{swapped}
 use Rattle.fs_record.specs.ValueOf.{own_of, others_have}
 use Rattle.fs_view.specs.Told.{modes_under, own_conflicts, modes_listed}
 
@@ -25,11 +26,6 @@ or_assoc : (a b c : Bool) → (a || (b || c)) ≡ ((a || b) || c)
 or_assoc true b c = refl
 or_assoc false b c = refl
 
-or_swap : (a b c : Bool) → (a || (b || c)) ≡ (b || (a || c))
-or_swap true true c = refl
-or_swap true false c = refl
-or_swap false b c = refl
-
 -- a handle conflicts: one of the session's own, or one of another session
 pub split : (s : Session) (modes : Modes) (hs : List Handle) → any_conflicts hs modes ≡ (own_conflicts (own_of s hs) modes || list_any (λ x. not (x.session.0 == s.0) && conflicts x.modes modes) hs)
 split s modes [] = refl
@@ -37,7 +33,7 @@ split s modes (x ∷ xs) =
     ap (λ b. conflicts x.modes modes || b) (split s modes xs) ∙
     elim (x.session.0 == s.0) as (λ b. (conflicts x.modes modes || (own_conflicts (own_of s xs) modes || list_any (λ y. not (y.session.0 == s.0) && conflicts y.modes modes) xs)) ≡ (own_conflicts (cond b ((x.h, x.modes) ∷ own_of s xs) (own_of s xs)) modes || ((not b && conflicts x.modes modes) || list_any (λ y. not (y.session.0 == s.0) && conflicts y.modes modes) xs))) [
       | true ↦ or_assoc (conflicts x.modes modes) (own_conflicts (own_of s xs) modes) _
-      | false ↦ or_swap (conflicts x.modes modes) (own_conflicts (own_of s xs) modes) _
+      | false ↦ swapped (conflicts x.modes modes) (own_conflicts (own_of s xs) modes) _
     ]
 
 any_filter : (p q : Mode → Bool) (ms : List Mode) → list_any q (filter p ms) ≡ list_any (λ m. p m && q m) ms

@@ -1,9 +1,8 @@
 -- Pins that are counted, and pins after leases lapsed.
-use Rattle.std.proofs.Common.{◌≡◌, ℕ, ◌+◌, ◌<◌, ◌&&◌, Bool, true, false, not, List, [], ◌∷◌, ◌++◌, ◌⊎◌, refl, ap, cond, suc, length, get_or, take, drop, arith, sym, ◌∙◌, inl, inr, zero-add, add_assoc, add-zero}
-use Rattle.std.specs.Prelude.{Option, Some, None, nat_lt, nat_le, option_map}
+use Rattle.std.proofs.Common.{◌≡◌, ℕ, ◌+◌, ◌&&◌, Bool, true, false, not, List, [], ◌∷◌, ◌++◌, ◌⊎◌, refl, ap, cond, arith, sym, ◌∙◌, inl, inr, zero-add, add_assoc, add-zero}
+use Rattle.std.specs.Prelude.{Option, Some, None, nat_lt, option_map}
 use Rattle.std.specs.Option.{option_map_or, option_and_then}
 use Rattle.std.specs.List.{find, filter, filter_map, list_all, cons_option}
-use Rattle.std.proofs.lemmas.List.{take_more, drop_more}
 use Rattle.std.proofs.lemmas.Bool.Decides.{nat_tests}
 use Rattle.fs_ident.proofs.Booleans.{both, joined}
 use Rattle.fs_ident.specs.In.{In}
@@ -15,13 +14,13 @@ use Rattle.fs_field.specs.declared.field.Field.{Field}
 use Rattle.fs_field.specs.declared.lease_kind.LeaseKind.{LeaseKind}
 use Rattle.fs_field.specs.declared.used.Use.{Use}
 use Rattle.fs_field.specs.Table.{is_parent, same_no}
+use Rattle.fs_field.proofs.SameNo.{same_no_is, same_no_symm}
 use Rattle.fs_view.specs.declared.kept.Kept.{Kept}
 use Rattle.fs_view.specs.declared.kept.Standing.{Standing}
 use Rattle.fs_view.specs.declared.kept.Standing.TheVariants.{Held, Pinned, Leaving}
 use Rattle.fs_view.specs.Kept.{number_of, has_number, has_ended, is_better, is_unused_in, offers, pinned, serves, takes_pin, use_in}
 use Rattle.fs_view.specs.Pins.{takes_after, times_in, can_pin_after}
 use Rattle.fs_view.specs.View.{View, are_distinct, can_pin_all, lapsed_at, offered, pinned_all, pinned_at, stands, taken, taken_from, item_use}
-use Rattle.fs_view.proofs.Places.{same_no_is}
 use Rattle.fs_view.proofs.Pins.{with_pin, find_pinned, stands_there, found_in, from_none, used_by}
 use Rattle.fs_view.proofs.Lapsed.{is_live_at}
 
@@ -54,10 +53,7 @@ after_found : (m : ℕ) (number other : LeaseNo) (ks : List Kept) (o : Option Ke
 after_found m number other ks None e = refl
 after_found m number other ks (Some k) e =
     let is : number_of k.standing ≡ number = same_no_is (number_of k.standing) number (found_has (has_number number) ks k e) in
-    pinned_takes m (has_number other k) k ∙ ap (λ b. takes_after (cond b 1 0 + m) k.standing) (ap (λ (n : LeaseNo). same_no n other) is ∙ swapped number other)
-  where
-    swapped : (a b : LeaseNo) → same_no a b ≡ same_no b a
-    swapped a b = grind (arith, nat_tests)
+    pinned_takes m (has_number other k) k ∙ ap (λ b. takes_after (cond b 1 0 + m) k.standing) (ap (λ (n : LeaseNo). same_no n other) is ∙ same_no_symm number other)
 
 one_pin : (m : ℕ) (number other : LeaseNo) (ks : List Kept) → stands (takes_after m) number (pinned_at other ks) ≡ stands (takes_after (cond (same_no other number) 1 0 + m)) number ks
 one_pin m number other ks = ap (λ (o : Option Kept). option_map_or (λ (k : Kept). takes_after m k.standing) o false) (find_pinned number other ks) ∙ after_found m number other ks (find (has_number number) ks) refl
@@ -83,13 +79,6 @@ counted before (u ∷ us) ks =
 
 pub pins_counted : (uses : List Use) (ks : List Kept) → can_pin_after [] uses ks ≡ can_pin_all uses ks
 pins_counted uses ks = sym (counted [] uses ks)
-
--- one use more
-pub pin_step : (uses : List Use) (i : ℕ) (u : Use) (ks : List Kept) → i < length uses → u ≡ get_or uses i u → can_pin_after (take i uses) (drop i uses) ks ≡ (stands (takes_after (times_in u.no (take i uses))) u.no ks && can_pin_after (take (i + 1) uses) (drop (i + 1) uses) ks)
-pin_step uses i u ks h e =
-    let d : drop i uses ≡ u ∷ drop (i + 1) uses = drop_more uses i u h ∙ ap (λ (x : Use). x ∷ drop (i + 1) uses) (sym e) in
-    let t : take (i + 1) uses ≡ take i uses ++ u ∷ [] = take_more uses i u h ∙ ap (λ (x : Use). take i uses ++ x ∷ []) (sym e) in
-    ap (λ (xs : List Use). can_pin_after (take i uses) xs ks) d ∙ ap (λ (xs : List Use). stands (takes_after (times_in u.no (take i uses))) u.no ks && can_pin_after xs (drop (i + 1) uses) ks) (sym t)
 
 -- ## What is used at a reading is not over at it
 

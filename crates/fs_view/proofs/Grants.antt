@@ -1,5 +1,5 @@
 -- Leases that are granted, one after another.
-use Rattle.std.proofs.Common.{◌≡◌, ℕ, ◌+◌, ◌≤◌, ◌&&◌, Bool, true, false, not, List, [], ◌∷◌, ◌++◌, refl, ap, length, map, sym, ◌∙◌}
+use Rattle.std.proofs.Common.{◌≡◌, ◌&&◌, true, not, List, [], ◌∷◌, ◌++◌, ap, map, sym, ◌∙◌, append_assoc}
 use Rattle.std.specs.List.{list_any}
 use Rattle.fs_ident.proofs.Booleans.{both}
 use Rattle.fs_field.specs.Value.{is_value_of}
@@ -8,10 +8,6 @@ use Rattle.fs_view.specs.declared.new_lease.NewLease.{NewLease}
 use Rattle.fs_view.specs.Kept.{has_number}
 use Rattle.fs_view.specs.View.{are_distinct, can_grant_all, kept_new}
 use Rattle.fs_view.proofs.Places.{not_true, distinct_append}
-
-append_one : (xs : List Kept) (x : Kept) (ys : List Kept) → (xs ++ x ∷ []) ++ ys ≡ xs ++ x ∷ ys
-append_one [] x ys = refl
-append_one (y ∷ xs) x ys = ap (λ rest. y ∷ rest) (append_one xs x ys)
 
 -- what adding leases one after another keeps
 pub record Adding (new : List NewLease) (leases all : List Kept) : Type 0 where
@@ -28,5 +24,5 @@ one_added x rest new k before after all e is put a =
     record {
       fits = ap (can_grant_all rest) there ∙ q.1;
       distinct = ap are_distinct there ∙ distinct_append before (kept_new x) (not_true (list_any (has_number x.no) before) p.1) a.distinct;
-      added = ap (λ xs. xs ++ map kept_new rest) there ∙ (append_one before (kept_new x) (map kept_new rest) ∙ (ap (λ xs. before ++ map kept_new xs) (sym e) ∙ a.added));
+      added = ap (λ xs. xs ++ map kept_new rest) there ∙ (append_assoc before (kept_new x ∷ []) (map kept_new rest) ∙ (ap (λ xs. before ++ map kept_new xs) (sym e) ∙ a.added));
     }

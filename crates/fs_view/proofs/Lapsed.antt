@@ -1,11 +1,10 @@
 -- What is over at a reading serves for nothing at it: reads pass over it.
-use Rattle.std.proofs.Common.{◌≡◌, ℕ, ◌&&◌, ◌||◌, ◌<◌, Bool, true, false, not, List, [], ◌∷◌, refl, ap, cond, arith, sym, ◌∙◌}
-use Rattle.std.specs.Prelude.{Option, Some, None, nat_lt, nat_le, option_map, is_some}
-use Rattle.std.specs.Option.{option_and_then, option_map_or}
-use Rattle.std.specs.List.{find, filter, filter_map, list_all, list_any, cons_option}
+use Rattle.std.proofs.Common.{◌≡◌, ℕ, ◌&&◌, ◌||◌, Bool, true, false, not, List, [], ◌∷◌, refl, ap, cond, arith, sym, ◌∙◌}
+use Rattle.std.specs.Prelude.{Option, Some, None, option_map, is_some}
+use Rattle.std.specs.Option.{option_and_then}
+use Rattle.std.specs.List.{find, filter, filter_map, list_any}
 use Rattle.std.proofs.lemmas.Bool.Decides.{nat_tests}
-use Rattle.fs_ident.proofs.Booleans.{both, joined}
-use Rattle.fs_ident.specs.declared.actor.LeaseNo.{LeaseNo}
+use Rattle.std.proofs.lemmas.Bool.{and_right}
 use Rattle.fs_field.specs.declared.asked.Need.{Need}
 use Rattle.fs_field.specs.declared.asked.Need.TheVariants as need
 use Rattle.fs_field.specs.declared.effect.Effect.{Effect}
@@ -17,8 +16,8 @@ use Rattle.fs_view.specs.declared.kept.Kept.{Kept}
 use Rattle.fs_view.specs.declared.kept.Standing.{Standing}
 use Rattle.fs_view.specs.declared.kept.Standing.TheVariants.{Held, Pinned, Leaving}
 use Rattle.fs_view.specs.Kept.{has_ended, is_better, is_unused_in, offers, serves, use_in, file_in}
-use Rattle.fs_view.specs.View.{View, lapsed_at, taken, taken_from, offered, known_by, given_by, fresh, item_use, uses_in, walk_in, missing_in, reply_in, value_after_log}
-use Rattle.fs_view.specs.Walk.{Known, Given, is_there, missing, walk}
+use Rattle.fs_view.specs.View.{View, lapsed_at, taken, taken_from, offered, known_by, given_by, fresh, item_use, uses_in, walk_in, value_after_log}
+use Rattle.fs_view.specs.Walk.{Known, Given, is_there, walk}
 
 -- the lease is not over at the reading, or an entry uses it, or it goes back
 abbrev pub is_live_at : ℕ → Kept → Bool
@@ -42,15 +41,11 @@ taken_still now field kind best (k ∷ ks) =
       | false ↦ λ e. taken_still now field kind (cond (serves now field kind k.standing && is_better k best) (Some k) best) ks
     ] refl
 
-no_offer : (b c : Bool) → c ≡ false → (b && c) ≡ false
-no_offer true c h = h
-no_offer false c h = refl
-
 found_still : (now : ℕ) (dir : List ℕ) (log : List (List Effect)) (ks : List Kept) → find (offers now dir log) (filter (is_live_at now) ks) ≡ find (offers now dir log) ks
 found_still now dir log [] = refl
 found_still now dir log (k ∷ ks) =
     elim (has_ended now k.standing) as (λ b. has_ended now k.standing ≡ b → find (offers now dir log) (cond (not b) (k ∷ filter (is_live_at now) ks) (filter (is_live_at now) ks)) ≡ cond (offers now dir log k) (Some k) (find (offers now dir log) ks)) [
-      | true ↦ λ e. found_still now dir log ks ∙ sym (ap (λ b. cond b (Some k) (find (offers now dir log) ks)) (no_offer _ (is_unused_in now log k.standing) (ended_unused now log k.standing e)))
+      | true ↦ λ e. found_still now dir log ks ∙ sym (ap (λ b. cond b (Some k) (find (offers now dir log) ks)) (and_right _ (is_unused_in now log k.standing) (ended_unused now log k.standing e)))
       | false ↦ λ e. ap (cond (offers now dir log k) (Some k)) (found_still now dir log ks)
     ] refl
 
@@ -79,12 +74,6 @@ fresh_passes now v dir = ap (option_map (λ (k : Kept). file_in k.standing)) (of
 
 pub walk_passes : (now : ℕ) (v : View) (o : Op) → walk_in (lapsed_at now v) now o ≡ walk_in v now o
 walk_passes now v o = ap (λ (known : Known). walk known (given_by (lapsed_at now v) now) o) (known_passes now v) ∙ ap (λ (given : Given). walk (known_by v now) given o) (given_passes now v)
-
-pub missing_passes : (now : ℕ) (v : View) (o : Op) → missing_in (lapsed_at now v) now o ≡ missing_in v now o
-missing_passes now v o = ap (λ (known : Known). missing known (given_by (lapsed_at now v) now) o) (known_passes now v) ∙ ap (λ (given : Given). missing (known_by v now) given o) (given_passes now v)
-
-pub reply_passes : (now : ℕ) (v : View) (o : Op) → reply_in (lapsed_at now v) now o ≡ reply_in v now o
-reply_passes now v o = ap (λ w. w.reply) (walk_passes now v o)
 
 item_use_passes : (now : ℕ) (v : View) (n : Need) → item_use (lapsed_at now v) now n ≡ item_use v now n
 item_use_passes now v (need.Lease field kind) = ap (option_and_then (λ (k : Kept). use_in k.standing)) (taken_passes now v field kind)

@@ -8,6 +8,7 @@ use Rattle.fs_ident.specs.Ident.{same}
 use Rattle.fs_ident.specs.declared.actor.Session.{Session}
 use Rattle.fs_ident.specs.declared.kind.Kind.{Kind}
 use Rattle.fs_ident.specs.declared.kind.Kind.TheVariants.{File, Dir}
+use Rattle.fs_ident.proofs.Booleans.{first}
 use Rattle.fs_modes.specs.Modes.{has_access}
 use Rattle.fs_modes.specs.declared.modes.Mode.TheVariants.{AccR, AccW, AccD, DenyD}
 use Rattle.fs_field.specs.After.{Handles}
@@ -44,17 +45,13 @@ some_access false false true false true z false h = refl
 some_access false false true false false z false h = refl
 some_access false false false x y z false h = absurd (cc h)
 
-and_left : (a b : Bool) → (a && b) ≡ true → a ≡ true
-and_left true b h = refl
-and_left false b h = absurd (cc h)
-
 -- where handles have an access, the session's own and the accesses of the others tell whether there are any
 any_handle : (s : Session) (hs : List Handle) → all_have_access hs ≡ true → (not (is_empty (own_of s hs)) || list_any (λ md. others_have s md hs) accesses) ≡ not (is_empty hs)
 any_handle s [] h = refl
 any_handle s (x ∷ xs) h =
     elim (x.session.0 == s.0) as (λ b. (not (is_empty (cond b ((x.h, x.modes) ∷ own_of s xs) (own_of s xs))) || (((not b && x.modes.acc_r) || others_have s AccR xs) || (((not b && x.modes.acc_w) || others_have s AccW xs) || (((not b && x.modes.acc_d) || others_have s AccD xs) || false)))) ≡ true) [
       | true ↦ refl
-      | false ↦ some_access x.modes.acc_r x.modes.acc_w x.modes.acc_d (others_have s AccR xs) (others_have s AccW xs) (others_have s AccD xs) (not (is_empty (own_of s xs))) (and_left (has_access x.modes) (all_have_access xs) h)
+      | false ↦ some_access x.modes.acc_r x.modes.acc_w x.modes.acc_d (others_have s AccR xs) (others_have s AccW xs) (others_have s AccD xs) (not (is_empty (own_of s xs))) (first (has_access x.modes) (all_have_access xs) h)
     ]
 
 used : (o : Option Node) → not (is_empty (handles_of o)) ≡ not (is_unused o)

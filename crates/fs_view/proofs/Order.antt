@@ -1,7 +1,7 @@
 -- Steps of a view that can change places.
-use Rattle.std.proofs.Common.{◌≡◌, ℕ, ◌-◌, ◌==◌, Bool, true, false, not, List, [], ◌∷◌, ◌++◌, zero, suc, refl, ap, cond, map, sym, ◌∙◌}
-use Rattle.std.specs.Prelude.{Option, None}
-use Rattle.std.specs.List.{filter, list_any}
+use Rattle.std.proofs.Common.{◌≡◌, ℕ, ◌-◌, ◌==◌, Bool, true, false, List, [], ◌∷◌, ◌++◌, zero, suc, refl, ap, cond, map, sym, ◌∙◌, append_assoc}
+use Rattle.std.specs.Prelude.{None}
+use Rattle.std.specs.List.{filter}
 use Rattle.std.proofs.lemmas.List.{append-nil}
 use Rattle.fs_ident.specs.declared.actor.LeaseNo.{LeaseNo}
 use Rattle.fs_ident.specs.declared.actor.Session.{Session}
@@ -13,9 +13,10 @@ use Rattle.fs_view.specs.declared.kept.Kept.{Kept}
 use Rattle.fs_view.specs.declared.kept.Standing.{Standing}
 use Rattle.fs_view.specs.declared.kept.Standing.TheVariants.{Held, Pinned, Leaving}
 use Rattle.fs_view.specs.declared.new_lease.NewLease.{NewLease}
-use Rattle.fs_view.specs.Kept.{has_ended, has_number, unpinned}
+use Rattle.fs_view.specs.Kept.{has_number, unpinned}
 use Rattle.fs_view.specs.View.{View, admitted_front, base_after, first_admitted, is_made_in, knowing, kept_new, lapsed_at, unpinned_all, unpinned_at, with_first_admitted, with_grants, without_pins}
 use Rattle.fs_view.proofs.Lapsed.{is_live_at}
+use Rattle.fs_view.proofs.Bases.{kept, viewed}
 
 -- ## Leases lapse before or after entries are admitted
 
@@ -25,9 +26,6 @@ live_known now s es (k ∷ ks) = elim (is_live_at now k) as (λ b. cond b (knowi
   | true ↦ ap (λ rest. knowing s es k ∷ rest) (live_known now s es ks)
   | false ↦ live_known now s es ks
 ]
-
-abbrev viewed : Session → List Kept → List (List Effect) → View
-viewed s ks log = record { session = s; leases = ks; pending = log }
 
 lapse_first : (now : ℕ) (s : Session) (ks : List Kept) (log : List (List Effect)) → lapsed_at now (first_admitted log (viewed s ks log)) ≡ first_admitted log (viewed s (filter (is_live_at now) ks) log)
 lapse_first now s ks [] = refl
@@ -57,9 +55,6 @@ same_made es (Held l) = refl
 same_made es (Pinned u) = free_made es (u.entries == 1) u
 same_made es (Leaving l) = refl
 
-abbrev kept : Standing → Value → Bool → Option (List ℕ) → Kept
-kept st base recalled below = record { standing = st; base = base; recalled = recalled; below = below }
-
 known_free : (s : Session) (es : List Effect) (b : Bool) (k : Kept) → knowing s es (cond b (record k { standing = unpinned k.standing }) k) ≡ cond b (record (knowing s es k) { standing = unpinned k.standing }) (knowing s es k)
 known_free s es true k =
     ap (λ (v : Value). kept (unpinned k.standing) v k.recalled (cond (is_made_in es (unpinned k.standing)) None k.below)) (same_base s es k.base k.standing)
@@ -86,8 +81,4 @@ unpin_after_front (suc n) uses v = ap (admitted_front n) (free_first uses v.sess
 
 pub grants_are : (ls : List NewLease) (v : View) → with_grants ls v ≡ record v { leases = v.leases ++ map kept_new ls }
 grants_are [] v = ap (λ xs. viewed v.session xs v.pending) (sym (append-nil v.leases))
-grants_are (l ∷ ls) v = grants_are ls (viewed v.session (v.leases ++ kept_new l ∷ []) v.pending) ∙ ap (λ xs. viewed v.session xs v.pending) (append_one v.leases (kept_new l) (map kept_new ls))
-  where
-    append_one : (xs : List Kept) (x : Kept) (ys : List Kept) → (xs ++ x ∷ []) ++ ys ≡ xs ++ x ∷ ys
-    append_one [] x ys = refl
-    append_one (y ∷ xs) x ys = ap (λ rest. y ∷ rest) (append_one xs x ys)
+grants_are (l ∷ ls) v = grants_are ls (viewed v.session (v.leases ++ kept_new l ∷ []) v.pending) ∙ ap (λ xs. viewed v.session xs v.pending) (append_assoc v.leases (kept_new l ∷ []) (map kept_new ls))

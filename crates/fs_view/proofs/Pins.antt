@@ -3,7 +3,6 @@ use Rattle.std.proofs.Common.{◌≡◌, ℕ, ◌+◌, ◌&&◌, ◌||◌, Bool,
 use Rattle.std.specs.Prelude.{Option, Some, None, nat_le, option_map}
 use Rattle.std.specs.Option.{option_map_or, option_and_then}
 use Rattle.std.specs.List.{find, list_any, list_all, filter_map, cons_option}
-use Rattle.std.proofs.lemmas.Bool.{eq-eqb}
 use Rattle.std.proofs.lemmas.Bool.Decides.{nat_tests}
 use Rattle.fs_ident.proofs.Booleans.{both, joined}
 use Rattle.fs_ident.specs.In.{In}
@@ -14,24 +13,21 @@ use Rattle.fs_field.specs.declared.field.Field.{Field}
 use Rattle.fs_field.specs.declared.lease_kind.LeaseKind.{LeaseKind}
 use Rattle.fs_field.specs.declared.used.Use.{Use}
 use Rattle.fs_field.specs.Table.{same_no}
+use Rattle.fs_field.proofs.SameNo.{same_no_symm, same_no_self}
 use Rattle.fs_model.specs.declared.op.Op.{Op}
 use Rattle.fs_view.specs.declared.kept.Kept.{Kept}
 use Rattle.fs_view.specs.declared.kept.Standing.{Standing}
 use Rattle.fs_view.specs.declared.kept.Standing.TheVariants.{Held, Pinned, Leaving}
-use Rattle.fs_view.specs.Kept.{number_of, has_number, entries_of, pinned, is_held, takes_pin, use_of, use_in, serves, is_better, offers}
+use Rattle.fs_view.specs.Kept.{number_of, has_number, entries_of, pinned, takes_pin, use_of, use_in, serves, is_better, offers}
 use Rattle.fs_view.specs.View.{View, are_distinct, stands, is_in_hand, pinned_at, can_pin_all, taken, taken_from, offered, item_use, uses_in, walk_in}
 use Rattle.fs_view.specs.Laws.{have_room}
 use Rattle.fs_view.proofs.Places.{not_true}
+use Rattle.fs_view.proofs.Changed.{pinned_number}
 
 -- ## A pin changes no number, and takes no lease out of hand
 
 abbrev pub with_pin : LeaseNo → Kept → Kept
 with_pin number k = cond (has_number number k) (record k { standing = pinned k.standing }) k
-
-pinned_number : (s : Standing) → number_of (pinned s) ≡ number_of s
-pinned_number (Held l) = refl
-pinned_number (Pinned u) = refl
-pinned_number (Leaving l) = refl
 
 pinned_hand : (s : Standing) → is_in_hand (pinned s) ≡ is_in_hand s
 pinned_hand (Held l) = refl
@@ -122,24 +118,18 @@ any_there n k (j ∷ ks) i h = elim i [
   | inr r ↦ ap (λ b. has_number n j || b) (any_there n k ks r h) ∙ grind (arith, nat_tests)
 ]
 
-same_sym : (a b : LeaseNo) → same_no a b ≡ same_no b a
-same_sym a b = grind (arith, nat_tests)
-
-itself : (a : LeaseNo) → same_no a a ≡ true
-itself a = joined _ _ (eq-eqb a.server a.server refl) (eq-eqb a.count a.count refl)
-
 pub stands_there : (test : Standing → Bool) (k : Kept) (ks : List Kept) → In k ks → are_distinct ks ≡ true → test k.standing ≡ true → stands test (number_of k.standing) ks ≡ true
 stands_there test k [] i d h = absurd i
 stands_there test k (j ∷ ks) i d h =
     let q : (not (list_any (has_number (number_of j.standing)) ks) ≡ true) × (are_distinct ks ≡ true) = both _ (are_distinct ks) d in
     elim i [
       | inl e ↦
-          let here : has_number (number_of k.standing) j ≡ true = ap (λ (x : Kept). has_number (number_of k.standing) x) (sym e) ∙ itself (number_of k.standing) in
+          let here : has_number (number_of k.standing) j ≡ true = ap (λ (x : Kept). has_number (number_of k.standing) x) (sym e) ∙ same_no_self (number_of k.standing) in
           ap (λ b. option_map_or (λ (x : Kept). test x.standing) (cond b (Some j) (find (has_number (number_of k.standing)) ks)) false) here ∙ (ap (λ (x : Kept). test x.standing) (sym e) ∙ h)
       | inr r ↦
           elim (has_number (number_of k.standing) j) as (λ b. has_number (number_of k.standing) j ≡ b → option_map_or (λ (x : Kept). test x.standing) (cond b (Some j) (find (has_number (number_of k.standing)) ks)) false ≡ true) [
             | true ↦ λ t.
-                let any : list_any (has_number (number_of j.standing)) ks ≡ true = any_there (number_of j.standing) k ks r (same_sym (number_of k.standing) (number_of j.standing) ∙ t) in
+                let any : list_any (has_number (number_of j.standing)) ks ≡ true = any_there (number_of j.standing) k ks r (same_no_symm (number_of k.standing) (number_of j.standing) ∙ t) in
                 let none : list_any (has_number (number_of j.standing)) ks ≡ false = not_true _ q.0 in
                 absurd (cc)
             | false ↦ λ t. stands_there test k ks r q.1 h
@@ -195,15 +185,3 @@ all_in_hand v now (n ∷ ns) d = with_more v (item_use v now n) (filter_map (ite
 
 pub pins_fit : (v : View) (now : ℕ) (o : Op) → are_distinct v.leases ≡ true → have_room (length (uses_in v now o)) v.leases ≡ true → can_pin_all (uses_in v now o) v.leases ≡ true
 pins_fit v now o d h = all_pin (uses_in v now o) v.leases (all_in_hand v now (walk_in v now o).items d) h
-
--- a lease that is held can be pinned
-held_takes : (s : Standing) → is_held s ≡ true → takes_pin s ≡ true
-held_takes (Held l) h = refl
-held_takes (Pinned u) h = absurd (cc)
-held_takes (Leaving l) h = absurd (cc)
-
-pub held_fits : (number : LeaseNo) (ks : List Kept) → stands is_held number ks ≡ true → stands takes_pin number ks ≡ true
-held_fits number ks h = elim (find (has_number number) ks) as (λ o. option_map_or (λ (k : Kept). is_held k.standing) o false ≡ true → option_map_or (λ (k : Kept). takes_pin k.standing) o false ≡ true) [
-  | None ↦ λ g. absurd (cc)
-  | Some k ↦ λ g. held_takes k.standing g
-] h

@@ -1,13 +1,13 @@
 -- The lease of a number, by its place.
-use Rattle.std.proofs.Common.{◌≡◌, ℕ, ◌+◌, ◌&&◌, ◌||◌, ◌==◌, Bool, true, false, not, List, [], ◌∷◌, ◌++◌, refl, ap, cond, zero, suc, length, get_or, map, arith, sym, ◌∙◌, subst}
+use Rattle.std.proofs.Common.{◌≡◌, ℕ, ◌+◌, ◌&&◌, ◌||◌, Bool, true, false, not, List, [], ◌∷◌, ◌++◌, refl, ap, cond, zero, suc, length, get_or, map, arith, sym, ◌∙◌, subst}
 use Rattle.std.specs.Prelude.{Option, Some, None, nat_lt, option_map, IfSome, Result, Ok, Err, OnOk, OnErr}
 use Rattle.fs_ident.specs.declared.memory.Memory.{Memory}
 use Rattle.std.specs.List.{find, filter, list_any, position, position_or_len, insert, remove}
-use Rattle.std.proofs.lemmas.Bool.{eqb-true}
 use Rattle.std.proofs.lemmas.Bool.Decides.{nat_tests}
 use Rattle.fs_ident.proofs.Booleans.{both, neither}
 use Rattle.fs_ident.specs.declared.actor.LeaseNo.{LeaseNo}
 use Rattle.fs_field.specs.Table.{same_no}
+use Rattle.fs_field.proofs.SameNo.{same_no_is, same_no_symm}
 use Rattle.fs_view.specs.declared.kept.Kept.{Kept}
 use Rattle.fs_view.specs.Kept.{number_of, has_number}
 use Rattle.fs_view.specs.View.{are_distinct, at_number}
@@ -15,14 +15,6 @@ use Rattle.fs_view.specs.View.{are_distinct, at_number}
 pub not_true : (b : Bool) → not b ≡ true → b ≡ false
 not_true true h = absurd (cc)
 not_true false h = refl
-
--- one number alone tells a lease
-pub same_no_is : (a b : LeaseNo) → same_no a b ≡ true → a ≡ b
-same_no_is a b h =
-    let q : ((a.server == b.server) ≡ true) × ((a.count == b.count) ≡ true) = both (a.server == b.server) (a.count == b.count) h in
-    let s : a.server ≡ b.server = eqb-true a.server b.server q.0 in
-    let t : a.count ≡ b.count = eqb-true a.count b.count q.1 in
-    ap (λ (n : ℕ). let x : LeaseNo = record { server = n; count = a.count } in x) s ∙ ap (λ (n : ℕ). let x : LeaseNo = record { server = b.server; count = n } in x) t
 
 -- the first that passes stands there
 abbrev pub IsFirst : (Kept → Bool) → List Kept → ℕ → Type 0
@@ -141,10 +133,6 @@ distinct_filter test (k ∷ ks) h =
       | false ↦ distinct_filter test ks q.1
     ]
 
--- one lease more, of a new number
-same_sym : (a b : LeaseNo) → same_no a b ≡ same_no b a
-same_sym a b = grind (arith, nat_tests)
-
 any_append : (n : LeaseNo) (ks : List Kept) (k : Kept) → list_any (has_number n) (ks ++ k ∷ []) ≡ (list_any (has_number n) ks || has_number n k)
 any_append n [] k = grind (arith, nat_tests)
 any_append n (j ∷ ks) k = ap (λ b. has_number n j || b) (any_append n ks k) ∙ grind (arith, nat_tests)
@@ -154,7 +142,7 @@ distinct_append [] k h d = refl
 distinct_append (j ∷ ks) k h d =
     let q : (not (list_any (has_number (number_of j.standing)) ks) ≡ true) × (are_distinct ks ≡ true) = both _ (are_distinct ks) d in
     let p : (has_number (number_of k.standing) j ≡ false) × (list_any (has_number (number_of k.standing)) ks ≡ false) = neither (has_number (number_of k.standing) j) _ h in
-    ap (λ b. not b && are_distinct (ks ++ k ∷ [])) (any_append (number_of j.standing) ks k ∙ (ap (λ b. b || has_number (number_of j.standing) k) (not_true (list_any (has_number (number_of j.standing)) ks) q.0) ∙ (same_sym (number_of k.standing) (number_of j.standing) ∙ p.0))) ∙ distinct_append ks k p.1 q.1
+    ap (λ b. not b && are_distinct (ks ++ k ∷ [])) (any_append (number_of j.standing) ks k ∙ (ap (λ b. b || has_number (number_of j.standing) k) (not_true (list_any (has_number (number_of j.standing)) ks) q.0) ∙ (same_no_symm (number_of k.standing) (number_of j.standing) ∙ p.0))) ∙ distinct_append ks k p.1 q.1
 
 -- ## What is found at a place
 

@@ -1,5 +1,6 @@
 -- What other sessions do not see of an operation.
 use Rattle.std.proofs.Common.{◌≡◌, ℕ, ◌&&◌, ◌||◌, ◌==◌, Bool, true, false, not, List, refl, ap, cond, sym, ◌∙◌, subst}
+use Rattle.std.proofs.lemmas.Bool.{and_right}
 use Rattle.std.specs.Prelude.{Option, Some, None, is_some}
 use Rattle.std.specs.List.{list_any}
 use Rattle.std.specs.FinMap.{get}
@@ -50,10 +51,6 @@ front : (x c : Bool) → ((x && true) || c) ≡ false → x ≡ false
 front true c h = absurd (cc)
 front false c h = refl
 
-and_off : (a b : Bool) → b ≡ false → (a && b) ≡ false
-and_off true b h = h
-and_off false b h = refl
-
 -- ## What no exclusive item meets is not touched
 
 child_untouched : (field : Field) (kind : LeaseKind) (dir name : List ℕ) (to : Option (List ℕ)) → meets field kind (Child dir name) Exclusive ≡ false → touches (SetChild dir name to) field ≡ false
@@ -98,7 +95,7 @@ handle_added m s y (Names f) file h modes apart = refl
 handle_added m s y (Info f) file h modes apart = refl
 handle_added m s y (Own f) file h modes apart =
     let own = own_of y (handles_of (node_of (get m f))) in
-    ap (λ b. value.Own (cond b (field.with_handle own h modes) own)) (and_off (same f file) (s.0 == y.0) apart)
+    ap (λ b. value.Own (cond b (field.with_handle own h modes) own)) (and_right (same f file) (s.0 == y.0) apart)
 handle_added m s y (SelfW f md) file h modes apart = refl
 handle_added m s y (Other f md) file h modes apart = refl
 
@@ -109,7 +106,7 @@ handle_gone m s y (Names f) file h apart = refl
 handle_gone m s y (Info f) file h apart = refl
 handle_gone m s y (Own f) file h apart =
     let own = own_of y (handles_of (node_of (get m f))) in
-    ap (λ b. value.Own (cond b (field.without_handle own h) own)) (and_off (same f file) (s.0 == y.0) apart)
+    ap (λ b. value.Own (cond b (field.without_handle own h) own)) (and_right (same f file) (s.0 == y.0) apart)
 handle_gone m s y (SelfW f md) file h apart = refl
 handle_gone m s y (Other f md) file h apart = refl
 

@@ -35,7 +35,7 @@ items_behind : (need x : Need) (b : Bool) (rest : Walk) → In x rest.items → 
 items_behind need x true rest i = inr i
 items_behind need x false rest i = inr i
 
-first_behind : (need : Need) (b : Bool) (rest : Walk) → In need (behind need b rest).items
+pub first_behind : (need : Need) (b : Bool) (rest : Walk) → In need (behind need b rest).items
 first_behind need true rest = inl refl
 first_behind need false rest = inl refl
 

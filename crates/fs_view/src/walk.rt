@@ -44,6 +44,17 @@ impl Walk {
     }
 }
 
+impl Twin for Walk {
+    fn copy(&self, alloc: Global) -> Result<Walk, Memory> {
+        Ok(Walk {
+            items: self.items.copy(alloc)?,
+            reply: self.reply.copy(alloc)?,
+        })
+    }
+
+    fn discard(self) {}
+}
+
 impl Item {
     /// The walk with this item before it.
     pub fn before(self, walk: Walk) -> Result<Walk, Memory>

@@ -25,15 +25,19 @@ use Rattle.fs_wire.proofs.NumberWires.{byte-wire, eight-wire}
 
 -- ---- one byte below a limit, made into something
 
-module _ {A : Type 0} (limit : ℕ) (make : ℕ → A) (text : A → List ℕ) (back : A → ℕ) (some : 0 < limit)
-    (spells : (b : ℕ) → b < limit → b ∷ [] ≡ text (make b))
-    (within : (v : A) → back v < limit) (again : (v : A) → make (back v) ≡ v) where
+-- a number below the limit makes the value
+abbrev IsMadeBelow : {A : Type 0} → ℕ → (ℕ → A) → A → Type 0
+IsMadeBelow limit make v = (b : ℕ) × (b < limit) × (make b ≡ v)
+
+module _ {A : Type 0} (limit : ℕ) (make : ℕ → A) (text : A → List ℕ) (some : 0 < limit)
+    (spells : (b : ℕ) → b < limit → b ∷ [] ≡ text (make b)) (made : (v : A) → IsMadeBelow limit make v) where
   choice-says : (v : A) → Says (map_at make (choice_at limit)) v (text v) (plain (text v))
   unfolding choice_at
   choice-says v =
-      let made : Says (map_at make (choice_at limit)) (make (back v)) (back v ∷ []) (false ∷ []) = says-map make (says-one false (λ b. ltb b limit) (back v) (lt-ltb _ _ (within v))) in
-      let texted : Says (map_at make (choice_at limit)) (make (back v)) (text (make (back v))) (plain (text (make (back v)))) = subst (λ (z : List ℕ). Says (map_at make (choice_at limit)) (make (back v)) z (plain z)) (spells (back v) (within v)) made in
-      subst (λ (z : A). Says (map_at make (choice_at limit)) z (text z) (plain (text z))) (again v) texted
+      let m : (b : ℕ) × (b < limit) × (make b ≡ v) = made v in
+      let told : Says (map_at make (choice_at limit)) (make m.0) (m.0 ∷ []) (false ∷ []) = says-map make (says-one false (λ b. ltb b limit) m.0 (lt-ltb _ _ m.1)) in
+      let texted : Says (map_at make (choice_at limit)) (make m.0) (text (make m.0)) (plain (text (make m.0))) = subst (λ (z : List ℕ). Says (map_at make (choice_at limit)) (make m.0) z (plain z)) (spells m.0 m.1) told in
+      subst (λ (z : A). Says (map_at make (choice_at limit)) z (text z) (plain (text z))) m.2 texted
 
   pub choice-wire : IsWire (map_at make (choice_at limit)) FitsAlways text (λ v. plain (text v))
   choice-wire = record {
@@ -42,102 +46,45 @@ module _ {A : Type 0} (limit : ℕ) (make : ℕ → A) (text : A → List ℕ) (
     says = λ v fits. choice-says v;
   }
 
-truth_back : Bool → ℕ
-truth_back false = 0
-truth_back true = 1
+-- what is so of 0 and of 1
+below_two : (P : ℕ → Type 0) → P 0 → P 1 → (b : ℕ) → b < 2 → P b
+below_two P none one zero lt = none
+below_two P none one (suc zero) lt = one
+below_two P none one (suc (suc n)) lt = absurd (omega arith)
 
-truth-again : (v : Bool) → truth_of (truth_back v) ≡ v
-unfolding truth_back
-truth-again false = refl
-truth-again true = refl
-
-truth-within : (v : Bool) → truth_back v < 2
-unfolding truth_back
-truth-within false = omega arith
-truth-within true = omega arith
-
-truth-spells : (b : ℕ) → b < 2 → b ∷ [] ≡ truth (truth_of b)
-truth-spells zero lt = refl
-truth-spells (suc zero) lt = refl
-truth-spells (suc (suc n)) lt = absurd (omega arith)
+truth-made : (v : Bool) → IsMadeBelow 2 truth_of v
+truth-made false = (0, omega arith, refl)
+truth-made true = (1, omega arith, refl)
 
 pub truth-wire : IsWire truth_at FitsAlways truth (λ v. plain (truth v))
 unfolding truth_at
-truth-wire = choice-wire 2 truth_of truth truth_back (omega arith) truth-spells truth-within truth-again
+truth-wire = choice-wire 2 truth_of truth (omega arith) (below_two (λ b. b ∷ [] ≡ truth (truth_of b)) refl refl) truth-made
 
-kind_back : Kind → ℕ
-kind_back File = 0
-kind_back Dir = 1
-
-kind-again : (v : Kind) → kind_of (kind_back v) ≡ v
-unfolding kind_back
-kind-again File = refl
-kind-again Dir = refl
-
-kind-within : (v : Kind) → kind_back v < 2
-unfolding kind_back
-kind-within File = omega arith
-kind-within Dir = omega arith
-
-kind-spells : (b : ℕ) → b < 2 → b ∷ [] ≡ kind (kind_of b)
-kind-spells zero lt = refl
-kind-spells (suc zero) lt = refl
-kind-spells (suc (suc n)) lt = absurd (omega arith)
+kind-made : (v : Kind) → IsMadeBelow 2 kind_of v
+kind-made File = (0, omega arith, refl)
+kind-made Dir = (1, omega arith, refl)
 
 pub kind-wire : IsWire kind_at FitsAlways kind (λ v. plain (kind v))
 unfolding kind_at
-kind-wire = choice-wire 2 kind_of kind kind_back (omega arith) kind-spells kind-within kind-again
+kind-wire = choice-wire 2 kind_of kind (omega arith) (below_two (λ b. b ∷ [] ≡ kind (kind_of b)) refl refl) kind-made
 
-lease_kind_back : LeaseKind → ℕ
-lease_kind_back Shared = 0
-lease_kind_back Exclusive = 1
-
-lease_kind-again : (v : LeaseKind) → lease_kind_of (lease_kind_back v) ≡ v
-unfolding lease_kind_back
-lease_kind-again Shared = refl
-lease_kind-again Exclusive = refl
-
-lease_kind-within : (v : LeaseKind) → lease_kind_back v < 2
-unfolding lease_kind_back
-lease_kind-within Shared = omega arith
-lease_kind-within Exclusive = omega arith
-
-lease_kind-spells : (b : ℕ) → b < 2 → b ∷ [] ≡ lease_kind (lease_kind_of b)
-lease_kind-spells zero lt = refl
-lease_kind-spells (suc zero) lt = refl
-lease_kind-spells (suc (suc n)) lt = absurd (omega arith)
+lease_kind-made : (v : LeaseKind) → IsMadeBelow 2 lease_kind_of v
+lease_kind-made Shared = (0, omega arith, refl)
+lease_kind-made Exclusive = (1, omega arith, refl)
 
 pub lease_kind-wire : IsWire lease_kind_at FitsAlways lease_kind (λ v. plain (lease_kind v))
 unfolding lease_kind_at
-lease_kind-wire = choice-wire 2 lease_kind_of lease_kind lease_kind_back (omega arith) lease_kind-spells lease_kind-within lease_kind-again
+lease_kind-wire = choice-wire 2 lease_kind_of lease_kind (omega arith) (below_two (λ b. b ∷ [] ≡ lease_kind (lease_kind_of b)) refl refl) lease_kind-made
 
 -- ---- modes
 
-mode_back : Mode → ℕ
-mode_back AccR = 0
-mode_back AccW = 1
-mode_back AccD = 2
-mode_back DenyR = 3
-mode_back DenyW = 4
-mode_back DenyD = 5
-
-mode-again : (v : Mode) → mode_of (mode_back v) ≡ v
-unfolding mode_back
-mode-again AccR = refl
-mode-again AccW = refl
-mode-again AccD = refl
-mode-again DenyR = refl
-mode-again DenyW = refl
-mode-again DenyD = refl
-
-mode-within : (v : Mode) → mode_back v < 6
-unfolding mode_back
-mode-within AccR = omega arith
-mode-within AccW = omega arith
-mode-within AccD = omega arith
-mode-within DenyR = omega arith
-mode-within DenyW = omega arith
-mode-within DenyD = omega arith
+mode-made : (v : Mode) → IsMadeBelow 6 mode_of v
+mode-made AccR = (0, omega arith, refl)
+mode-made AccW = (1, omega arith, refl)
+mode-made AccD = (2, omega arith, refl)
+mode-made DenyR = (3, omega arith, refl)
+mode-made DenyW = (4, omega arith, refl)
+mode-made DenyD = (5, omega arith, refl)
 
 mode-spells : (b : ℕ) → b < 6 → b ∷ [] ≡ mode (mode_of b)
 mode-spells zero lt = refl
@@ -150,7 +97,7 @@ mode-spells (suc (suc (suc (suc (suc (suc n)))))) lt = absurd (omega arith)
 
 pub mode-wire : IsWire mode_at FitsAlways mode (λ v. plain (mode v))
 unfolding mode_at
-mode-wire = choice-wire 6 mode_of mode mode_back (omega arith) mode-spells mode-within mode-again
+mode-wire = choice-wire 6 mode_of mode (omega arith) mode-spells mode-made
 
 abbrev byte_of : Modes → ℕ
 byte_of m = acc_of m + deny_of m * 8

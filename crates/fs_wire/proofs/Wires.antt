@@ -1,13 +1,14 @@
 -- A reader, what fits, its text and its tags belong together; and they do so still when they are put together.
-use Rattle.std.proofs.Common.{◌≡◌, ℕ, zero, suc, ◌<◌, ◌≤◌, Bool, true, false, ltb, eqb, List, [], ◌∷◌, ◌++◌, length, get_or, flat_map, Option, Some, None, Ok, refl, sym, ap, subst, ◌∙◌, arith}
+use Rattle.std.proofs.Common.{◌≡◌, ℕ, zero, suc, ◌<◌, ◌≤◌, Bool, true, false, ltb, eqb, List, [], ◌∷◌, ◌++◌, length, get_or, flat_map, Option, Some, None, refl, sym, ap, subst, ◌∙◌, arith}
 use Rattle.std.specs.List.{AllByRecursion}
 use Rattle.std.proofs.lemmas.Bool.{eqb-true, eqb-false, ltb-true, lt-ltb}
 use Rattle.std.proofs.lemmas.List.{append-nil}
 use Rattle.std.proofs.lemmas.List.Concat.{flat_map-cons}
 use Rattle.fs_wire.specs.Spelling.{option, pair}
-use Rattle.fs_wire.specs.Ranges.{IsBytes, FitsOption, FitsPair}
+use Rattle.fs_wire.specs.Ranges.{FitsOption, FitsPair}
 use Rattle.fs_wire.specs.Tags.{plain}
 use Rattle.fs_wire.specs.Readers.{Reader, map_at, always_at, either_at, choice_at, tag_at, many_at, pair_at, option_at}
+use Rattle.fs_wire.specs.Laws.{IsReadBack, WasSpelled}
 use Rattle.fs_wire.proofs.Readers.{IsReader, IsOne, then-reader, map-reader, always-reader, either-reader, one-reader}
 use Rattle.fs_wire.proofs.Says.{Says, says-then, says-map, says-always, says-one}
 
@@ -21,10 +22,13 @@ pub record IsWire {A : Type 0} (read : Reader A) (Fits : A → Type 0) (text : A
   pub says : (v : A) → Fits v → Says read v (text v) (tags v)
 
 -- what is read was spelled so
-pub was_spelled : {A : Type 0} {read : Reader A} {Fits : A → Type 0} {text : A → List ℕ} {tags : A → List Bool} → IsWire read Fits text tags → (bytes rest : List ℕ) (v : A) → IsBytes bytes → read bytes ≡ Ok (v, rest) → Fits v × (bytes ≡ text v ++ rest)
+pub was_spelled : {A : Type 0} {read : Reader A} {Fits : A → Type 0} {text : A → List ℕ} {tags : A → List Bool} → IsWire read Fits text tags → WasSpelled read Fits text
 was_spelled w bytes rest v fits e =
     let t = w.reads.took bytes (v, rest) fits e in
     (t.is.fits, t.parts ∙ ap (λ (z : List ℕ). z ++ rest) t.is.text_is)
+
+pub is_read_back : {A : Type 0} {read : Reader A} {Fits : A → Type 0} {text : A → List ℕ} {tags : A → List Bool} → IsWire read Fits text tags → IsReadBack read Fits text
+is_read_back w v rest fits = (w.says v fits).again rest
 
 -- the same tags in other words
 pub retagged : {A : Type 0} {read : Reader A} {Fits : A → Type 0} {text : A → List ℕ} (f g : A → List Bool) → IsWire read Fits text f → ((v : A) → f v ≡ g v) → IsWire read Fits text g

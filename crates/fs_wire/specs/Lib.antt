@@ -4,3 +4,4 @@ pub mod Tags
 pub mod Readers
 pub mod Reading
 pub mod Readable
+pub mod Laws

@@ -1,4 +1,4 @@
-use Rattle.std.proofs.Common.{◌≡◌, sym}
+use Rattle.std.proofs.Common.{sym}
 use Rattle.fs_record.specs.declared.parcel.Parcel.{Parcel}
 use Rattle.fs_server.specs.declared.state.Server.{Server}
 use Rattle.fs_server.proofs.Moving.{goes_piece, handed_over, left_ready, moved_over, packed_here, told_over}

@@ -1,5 +1,3 @@
-use Rattle.std.proofs.Common.{◌≡◌, ◌∷◌, [], map, ap, ◌∙◌}
-use Rattle.std.specs.Prelude.{OnOk}
 use Rattle.fs_view.proofs.Bases.{still_distinct}
 use Rattle.fs_view.proofs.view.View.admit.Goals as goal
 

@@ -1,4 +1,4 @@
-use Rattle.std.proofs.Common.{ap, take, drop, map, sym, ◌∙◌}
+use Rattle.std.proofs.Common.{ap, take, drop, map, ◌∙◌}
 use Rattle.fs_view.specs.Admit.{knowing_all}
 use Rattle.fs_view.proofs.Bases.{known_distinct, front_at}
 use Rattle.fs_view.proofs.view.View.admit_front.Goals as goal
