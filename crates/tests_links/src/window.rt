@@ -1,3 +1,4 @@
+use crate::same;
 use fs_frag::{Segment, cut};
 use fs_ident::{List, Memory, Peer, Session, Twin};
 use fs_window::{
@@ -6,7 +7,8 @@ use fs_window::{
     segments_stay_in_order, write_packet,
 };
 use std::alloc::Global;
-use std::test::*;
+use std::process::Abort;
+use std::test::Fail;
 
 /// The first packet of an end to which an Ask for the life of the root is pushed.
 const FIRST: [u8; 39] = [
@@ -14,12 +16,15 @@ const FIRST: [u8; 39] = [
     0, 0, 0, 0, 1, 0, 0, 0, 0,
 ];
 
-fn packet(rt: HostRuntime, number: u64, byte: u8) -> Result<Packet, Fail> {
-    let segment = Segment::new(rt.alloc(), &[byte])?.ok_or("it is one")?;
+fn packet(alloc: Global, number: u64, byte: u8) -> Result<Packet, Fail> {
     Ok(Packet {
         ack: 0,
-        body: Some((number, segment)),
+        body: Some((number, segment(alloc, byte)?)),
     })
+}
+
+fn segment(alloc: Global, byte: u8) -> Result<Segment, Fail> {
+    Ok(Segment::new(alloc, &[byte])?.ok_or("it is one")?)
 }
 
 /// The bytes of the packets of a new end to which the message is pushed.
@@ -45,133 +50,246 @@ fn bytes_again(alloc: Global, bytes: &[u8]) -> Result<Vec<u8>, Memory> {
 
 #[test]
 fn bytes_of_packets(rt: HostRuntime) -> Result<(), Fail> {
+    let alloc = rt.alloc();
     let message = [1, 0, 0, 0, 0, 0, 0, 0, 1, 0, 0, 0, 0];
-    assert_eq!(rt;
-        first_bytes(rt.alloc(), &message)?.as_slice(),
-        FIRST.as_slice()
-    );
-    for (bytes, again) in [(FIRST.as_slice(), FIRST.as_slice()), (&FIRST[..18], &[])] {
-        assert_eq!(rt; bytes_again(rt.alloc(), bytes)?.as_slice(), again);
-    }
+    same(&rt, first_bytes(alloc, &message)?.as_slice(), &FIRST);
+    same(&rt, bytes_again(alloc, &FIRST)?.as_slice(), &FIRST);
+    same(&rt, bytes_again(alloc, &FIRST[..18])?.as_slice(), &[]);
     Ok(())
+}
+
+/// How many segments the packet of this number gives, as it is told before it comes and when it comes.
+fn given(alloc: Global, window: &mut Window, number: u64) -> Result<(usize, usize), Fail> {
+    let packet = packet(alloc, number, 7)?;
+    let told = window.gives(alloc, &packet)?.len();
+    Ok((told, window.accept(alloc, &packet)?.len()))
 }
 
 #[test]
 fn each_segment_once_and_in_order(rt: HostRuntime) -> Result<(), Fail> {
     let alloc = rt.alloc();
     let mut window = Window::new(alloc, 1).copy(alloc)?;
-    for (number, given) in [(1, 0), (0, 1), (0, 0), (1, 1), (1, 0)] {
-        let packet = packet(rt, number, 7)?;
-        let first = window.gives(alloc, &packet)?;
-        let segments = window.accept(alloc, &packet)?;
-        assert_eq!(rt; first.len(), given, "at {number}");
-        assert_eq!(rt; segments.len(), given, "at {number}");
+    for (number, count) in [(1, 0), (0, 1), (0, 0), (1, 1), (1, 0)] {
+        same(&rt, given(alloc, &mut window, number)?, (count, count));
     }
-    assert_eq!(rt; window.got(), 2);
+    same(&rt, window.got(), 2);
+    Ok(())
+}
+
+#[test]
+fn laws() {
     in_order();
     segments_stay_in_order();
     packets_stay_honest();
     packets_are_read_back();
     messages_stay_in_order();
     each_actor_has_a_link();
-    Ok(())
 }
+
+/// An end to which two segments are pushed.
+fn two_pushed(alloc: Global) -> Result<Window, Fail> {
+    let mut window = Window::new(alloc, 1);
+    window.push(alloc, segment(alloc, 65)?)?;
+    window.push(alloc, segment(alloc, 66)?)?;
+    Ok(window)
+}
+
+/// What goes after so many segments were acknowledged: how many packets, whether the last has a segment, and its number.
+fn due(
+    alloc: Global,
+    window: &mut Window,
+    ack: u64,
+    turn: bool,
+    heard: bool,
+) -> Result<(usize, bool, u64), Fail> {
+    window.accept(alloc, &Packet { ack, body: None })?;
+    Ok(numbered(window.due(alloc, turn, heard)?.as_slice()))
+}
+
+fn numbered(packets: &[Packet]) -> (usize, bool, u64) {
+    match packets.last() {
+        Some(
+            Packet {
+                body: Some((number, _)),
+                ..
+            },
+        ) => (packets.len(), true, *number),
+        _ => (packets.len(), false, 0),
+    }
+}
+
+/// What is acknowledged, whether it is a turn, whether a packet was heard, and what goes.
+const DUE: [(u64, bool, bool, (usize, bool, u64)); 6] = [
+    (0, false, false, (1, true, 0)),
+    (0, false, false, (0, false, 0)),
+    (0, false, true, (1, false, 0)),
+    (0, true, true, (1, true, 0)),
+    (1, false, false, (1, true, 1)),
+    (2, true, false, (0, false, 0)),
+];
 
 #[test]
 fn what_is_due(rt: HostRuntime) -> Result<(), Fail> {
-    let alloc = rt.alloc();
-    let mut window = Window::new(alloc, 1);
-    for byte in [65, 66] {
-        let segment = Segment::new(alloc, &[byte])?.ok_or("it is one")?;
-        window.push(alloc, segment)?;
-    }
-    assert_eq!(rt; window.pushed(), 2);
-    for (again, heard, ack, numbers) in [
-        (false, false, 0, Some(Some(0))),
-        (false, false, 0, None),
-        (false, true, 0, Some(None)),
-        (true, true, 0, Some(Some(0))),
-        (false, false, 1, Some(Some(1))),
-        (true, false, 2, None),
-    ] {
-        let told = Packet { ack, body: None };
-        window.accept(alloc, &told)?;
-        let packets = window.due(alloc, again, heard)?;
-        let mut found = None;
-        for packet in packets.as_slice() {
-            assert!(rt; found.is_none());
-            found = Some(packet.body.as_ref().map(|body| body.0));
-        }
-        assert_eq!(rt; found, numbers, "at {ack}");
+    let mut window = two_pushed(rt.alloc())?;
+    same(&rt, window.pushed(), 2);
+    for (ack, turn, heard, goes) in DUE {
+        same(&rt, due(rt.alloc(), &mut window, ack, turn, heard)?, goes);
     }
     Ok(())
+}
+
+fn sent(alloc: Global) -> Result<Sent, Fail> {
+    Ok(Sent {
+        from: SERVER,
+        to: CLIENT,
+        bytes: List::from_vec(FIRST.to_vec(alloc)?),
+    })
 }
 
 #[test]
 fn copies_what_was_sent(rt: HostRuntime) -> Result<(), Fail> {
-    let sent = Sent {
-        from: Peer::Server(1),
-        to: Peer::Client(Session(2)),
-        bytes: List::from_vec(FIRST.to_vec(rt.alloc())?),
-    };
-    let twin = sent.copy(rt.alloc())?;
-    assert!(rt; twin.from == sent.from && twin.to == sent.to);
-    assert_eq!(rt; twin.bytes.as_slice(), FIRST.as_slice());
+    let twin = sent(rt.alloc())?.copy(rt.alloc())?;
+    same(&rt, (twin.from, twin.to), (SERVER, CLIENT));
+    same(&rt, twin.bytes.as_slice(), &FIRST);
     Ok(())
 }
 
+const SERVER: Peer = Peer::Server(0);
+
+const CLIENT: Peer = Peer::Client(Session(1));
+
 /// How many segments the first packet gave, and how many messages.
-fn told(alloc: Global, to: &mut Post, from: Peer, sent: &List<Sent>) -> Result<(u64, usize), Fail> {
-    let sent = sent.as_slice().first().ok_or("one is sent")?;
-    let packet = read_packet(alloc, sent.bytes.as_slice())?.ok_or("it is a packet")?;
+fn told(alloc: Global, to: &mut Post, from: Peer, sent: &[Sent]) -> Result<(u64, usize), Fail> {
+    match sent.first() {
+        Some(first) => heard(alloc, to, from, first.bytes.as_slice()),
+        None => Err(Fail::from("none is sent")),
+    }
+}
+
+fn heard(alloc: Global, to: &mut Post, from: Peer, bytes: &[u8]) -> Result<(u64, usize), Fail> {
+    let packet = read_packet(alloc, bytes)?.ok_or("it is a packet")?;
     let heard = to.accept(alloc, from, &packet)?;
     Ok((heard.fresh, heard.joined.len()))
+}
+
+/// What the client sends, told at the server. A turn sends again what was not acknowledged.
+fn goes(
+    alloc: Global,
+    client: &mut Post,
+    server: &mut Post,
+    turn: bool,
+) -> Result<(u64, usize), Fail> {
+    let sent = client.due(alloc, turn, None)?;
+    told(alloc, server, CLIENT, sent.as_slice())
+}
+
+/// What the server answers, told at the client.
+fn comes(alloc: Global, client: &mut Post, server: &mut Post) -> Result<(u64, usize), Fail> {
+    let sent = server.due(alloc, false, Some(CLIENT))?;
+    told(alloc, client, SERVER, sent.as_slice())
+}
+
+/// A segment is told twice and answered, and makes so many messages whole.
+fn exchange(
+    rt: &impl Abort,
+    alloc: Global,
+    client: &mut Post,
+    server: &mut Post,
+    whole: usize,
+) -> Result<(), Fail> {
+    same(rt, goes(alloc, client, server, false)?, (1, whole));
+    same(rt, goes(alloc, client, server, true)?, (0, 0));
+    same(rt, comes(alloc, client, server)?, (0, 0));
+    Ok(())
+}
+
+/// A client that sends two messages, of one segment and of two.
+fn sender(alloc: Global) -> Result<Post, Fail> {
+    let mut client = Post::new(alloc, CLIENT, 1)?;
+    client.push(alloc, SERVER, &[7; 1016])?;
+    client.push(alloc, SERVER, &[8; 1017])?;
+    Ok(client)
+}
+
+/// Whether nothing is left to send, of a copy too.
+fn is_done(alloc: Global, post: &Post) -> Result<(bool, bool), Fail> {
+    let mut twin = post.copy(alloc)?;
+    let done = post.packets(alloc, true, None)?.is_empty();
+    Ok((done, twin.due(alloc, true, None)?.is_empty()))
+}
+
+fn exchanges(
+    rt: &impl Abort,
+    alloc: Global,
+    client: &mut Post,
+    server: &mut Post,
+) -> Result<(), Fail> {
+    same(rt, client.pushed(SERVER), 3);
+    same(rt, server.pushed(CLIENT), 0);
+    exchange(rt, alloc, client, server, 1)?;
+    exchange(rt, alloc, client, server, 0)?;
+    exchange(rt, alloc, client, server, 1)?;
+    same(rt, server.got(CLIENT), 3);
+    same(rt, is_done(alloc, client)?, (true, true));
+    same(rt, is_done(alloc, server)?, (true, true));
+    Ok(())
 }
 
 #[test]
 fn messages_over_a_network(rt: HostRuntime) -> Result<(), Fail> {
     let alloc = rt.alloc();
-    let server = Peer::Server(0);
-    let client = Peer::Client(Session(1));
-    let mut left = Post::new(alloc, client, 1)?;
-    let mut right = Post::new(alloc, server, 1)?;
-    left.push(alloc, server, &[7; 1016])?;
-    left.push(alloc, server, &[8; 1017])?;
-    assert_eq!(rt; (left.pushed(server), right.pushed(client)), (3, 0));
-    // Each segment is told twice: a turn sends again what was not acknowledged.
-    for whole in [1, 0, 1] {
-        let sent = left.due(alloc, false, None)?;
-        let again = left.due(alloc, true, None)?;
-        assert_eq!(rt; told(alloc, &mut right, client, &sent)?, (1, whole));
-        assert_eq!(rt; told(alloc, &mut right, client, &again)?, (0, 0));
-        let answer = right.due(alloc, false, Some(client))?;
-        assert_eq!(rt; told(alloc, &mut left, server, &answer)?, (0, 0));
-    }
-    assert_eq!(rt; right.got(client), 3);
-    assert!(rt; left.due(alloc, true, None)?.is_empty());
-    assert!(rt; right.copy(alloc)?.due(alloc, true, None)?.is_empty());
-    Ok(())
+    let mut client = sender(alloc)?;
+    let mut server = Post::new(alloc, SERVER, 1)?;
+    exchanges(&rt, alloc, &mut client, &mut server)
+}
+
+/// A client that pushed one segment and heard one.
+fn begun(alloc: Global) -> Result<Post, Fail> {
+    let mut post = Post::new(alloc, CLIENT, 1)?;
+    post.push(alloc, SERVER, &[65])?;
+    post.accept(alloc, SERVER, &packet(alloc, 0, 7)?)?;
+    Ok(post)
+}
+
+/// Pushes to the server and to another, and hears a segment; tells how many segments were new.
+fn goes_on(alloc: Global, post: &mut Post, undo: &mut Undo) -> Result<u64, Fail> {
+    post.push_with_undo(alloc, SERVER, &[66], undo)?;
+    post.push_with_undo(alloc, Peer::Server(1), &[67], undo)?;
+    let packet = packet(alloc, 1, 8)?;
+    Ok(post.accept_with_undo(alloc, SERVER, &packet, undo)?.fresh)
+}
+
+/// How many segments are pushed to the server and to the other, and how many the server's packets gave.
+fn counts(post: &Post) -> [u64; 3] {
+    [
+        post.pushed(SERVER),
+        post.pushed(Peer::Server(1)),
+        post.got(SERVER),
+    ]
 }
 
 #[test]
 fn what_was_done_is_undone(rt: HostRuntime) -> Result<(), Fail> {
     let alloc = rt.alloc();
-    let server = Peer::Server(0);
-    let mut post = Post::new(alloc, Peer::Client(Session(1)), 1)?;
-    post.push(alloc, server, &[65])?;
-    post.accept(alloc, server, &packet(rt, 0, 7)?)?;
+    let mut post = begun(alloc)?;
     let mut undo = Undo::new(alloc);
-    post.push_with_undo(alloc, server, &[66], &mut undo)?;
-    post.push_with_undo(alloc, Peer::Server(1), &[67], &mut undo)?;
-    let heard = post.accept_with_undo(alloc, server, &packet(rt, 1, 8)?, &mut undo)?;
-    assert_eq!(rt; heard.fresh, 1);
-    assert_eq!(rt; (post.pushed(server), post.got(server)), (2, 2));
-    assert_eq!(rt; post.pushed(Peer::Server(1)), 1);
+    same(&rt, goes_on(alloc, &mut post, &mut undo)?, 1);
+    same(&rt, counts(&post), [2, 1, 2]);
     post.undo(undo);
-    assert_eq!(rt; (post.pushed(server), post.got(server)), (1, 1));
-    assert_eq!(rt; post.pushed(Peer::Server(1)), 0);
-    assert_eq!(rt; post.packets(alloc, false, None)?.len(), 1);
+    same(&rt, counts(&post), [1, 0, 1]);
+    Ok(())
+}
+
+/// How many packets are to go before and after they are marked as sent.
+fn marked(alloc: Global, post: &mut Post) -> Result<(usize, usize), Fail> {
+    let before = post.packets(alloc, false, None)?.len();
     post.mark_sent();
-    assert!(rt; post.packets(alloc, false, None)?.is_empty());
+    Ok((before, post.packets(alloc, false, None)?.len()))
+}
+
+#[test]
+fn what_is_marked_is_not_due(rt: HostRuntime) -> Result<(), Fail> {
+    let mut post = begun(rt.alloc())?;
+    same(&rt, marked(rt.alloc(), &mut post)?, (1, 0));
     Ok(())
 }

@@ -3,7 +3,9 @@ ghost use Rattle.std.specs.Prelude.{◌≡◌, true, IfOk};
 ghost use Rattle.fs_model.specs.Asking.{may_ask};
 ghost use Rattle.fs_record.specs.Effects.{tells_its_effects};
 
-use crate::client::{hears, shipped};
+use crate::client::hears;
+use crate::client::said::shipped;
+use crate::same;
 use fs_client::ClientCore;
 use fs_field::{Field, LeaseKind, Need, Use, Value};
 use fs_ident::{FileId, Kind, LeaseNo, List, Session, Twin};
@@ -90,7 +92,7 @@ fn asks(
     let op = op_of(alloc, asking)?;
     let out = core.act(alloc, NOW, &op)?;
     let text = note_text(alloc, &out.note)?;
-    assert_eq!(rt; text.as_str(), wanted);
+    same(rt, text.as_str(), wanted);
     Ok(out.send)
 }
 
@@ -154,8 +156,9 @@ fn gets(
 ) -> Result<(), Fail> {
     let sent = asks(rt, alloc, core, asking, wanted)?;
     let answer = granted(alloc, counts, sent)?;
-    let count = counts.len() as u64;
-    hears(rt, alloc, core, NOW, 0, &answer, ("granted", count))
+    let heard = hears(alloc, core, NOW, 0, &answer)?;
+    same(rt, heard, ("granted", counts.len() as u64, None));
+    Ok(())
 }
 
 /// The numbers of the leases that the entry uses, behind these.
@@ -193,8 +196,10 @@ fn ships(
 ) -> Result<(), Fail> {
     let out = core.turn(alloc, NOW)?;
     let used = used_in(alloc, out.send)?;
-    assert_eq!(rt; used.as_slice(), wanted);
-    hears(rt, alloc, core, NOW, 0, &shipped(count), ("shipped", count))
+    same(rt, used.as_slice(), wanted);
+    let heard = hears(alloc, core, NOW, 0, &shipped(count))?;
+    same(rt, heard, ("shipped", count, None));
+    Ok(())
 }
 
 const OTHERS: &str =
