@@ -4,12 +4,8 @@ ghost use Rattle.fs_parcel.specs.Rows.{AreRows, both};
 
 use crate::parcel::shown::is_written;
 use crate::parcel::{On, Sent, Server, are_records, begun, come, id, parcel};
-<<<<<<< HEAD
-use fs_ident::{FileId, List};
-=======
 use crate::same;
-use fs_ident::FileId;
->>>>>>> 5e15f1824117a19e25f22ccfa55e3c831133245b
+use fs_ident::{FileId, List};
 use fs_parcel::{fits_at, install_at};
 use fs_record::Parcel;
 use std::alloc::Global;
@@ -43,17 +39,11 @@ fn here(alloc: Global) -> Result<Server, Fail>
     ensures { IfOk result (λ s. AreRows (both s.rows s.modes)) }
 {
     let mut s = begun(alloc, 1, 0)?;
-<<<<<<< HEAD
-    assert!(rt; come(alloc, &mut s, parcel(alloc, OLD)?)?);
+    must_come(alloc, &mut s, OLD)?;
     let mut gone = List::new(alloc);
     gone.push(id(alloc, "/1")?)?;
     s.records.leave_files(&gone);
-    assert!(rt; come(alloc, &mut s, parcel(alloc, FILE)?)?);
-=======
-    must_come(alloc, &mut s, OLD)?;
-    s.records.leave(&parcel(alloc, OLD)?.piece);
     must_come(alloc, &mut s, FILE)?;
->>>>>>> 5e15f1824117a19e25f22ccfa55e3c831133245b
     s.map.hint(alloc, &FileId::root(alloc), 0)?;
     s.map.hint(alloc, &id(alloc, "/7")?, 1)?;
     Ok(s)
