@@ -1,12 +1,13 @@
 //! Copies compared whole, texts, and a few effects.
+use crate::{is_copied, same, shows};
 use fs_field::{
     Asked, Effect, Field, LeaseKind, Need, Part, PathAnswer, Row, Unknown, Use, Value, Vote, apply,
     table, touches,
 };
-use fs_ident::{FileId, Kind, LeaseNo, List, Name, PathNo, Session, Twin, TxnNo};
+use fs_ident::{FileId, Kind, LeaseNo, List, Name, PathNo, Session, TxnNo};
 use fs_modes::{Mode, Modes};
 use std::alloc::Global;
-use std::fmt::Debug;
+use std::process::Abort;
 use std::test::Fail;
 
 const NO: LeaseNo = LeaseNo {
@@ -18,16 +19,6 @@ const TXN: TxnNo = TxnNo {
     server: 2,
     count: 9,
 };
-
-/// Whether a copy of the value reads as the value does.
-fn is_copied<T: Twin + Debug + Drop>(alloc: Global, x: T) -> Result<bool, Fail> {
-    let twin = x.copy(alloc)?;
-    let text = format!(in alloc; "{twin:?}");
-    twin.discard();
-    let copied = text?;
-    let wanted = format!(in alloc; "{x:?}")?;
-    Ok(copied == wanted)
-}
 
 fn root(alloc: Global) -> FileId {
     FileId::root(alloc)
@@ -65,66 +56,110 @@ const TEXTS: [&str; 7] = [
     "other / dD",
 ];
 
+/// The field is so written, and is on a mode or not.
+fn is_written(
+    rt: &impl Abort,
+    alloc: Global,
+    field: &Field,
+    text: &str,
+    on_mode: bool,
+) -> Result<(), Fail> {
+    let written = format!(in alloc; "{field}")?;
+    same(
+        rt,
+        (written.as_str(), field.tells_no_mode()),
+        (text, !on_mode),
+    );
+    is_copied(rt, alloc, field)
+}
+
 #[test]
 fn fields_are_written_and_copied(rt: HostRuntime) -> Result<(), Fail> {
-    let alloc = rt.alloc();
     for (line, text) in TEXTS.iter().enumerate() {
-        let field = field(alloc, line)?;
-        let written = format!(in alloc; "{field}")?;
-        assert_eq!(rt; written.as_str(), *text);
-        assert_eq!(rt; field.tells_no_mode(), line < 5);
-        assert!(rt; is_copied(alloc, field)?);
+        is_written(&rt, rt.alloc(), &field(rt.alloc(), line)?, *text, line >= 5)?;
     }
+    Ok(())
+}
+
+#[test]
+fn an_unknown_number_is_written(rt: HostRuntime) -> Result<(), Fail> {
     let unknown = Unknown { no: NO };
-    let written = format!(in alloc; "{unknown}")?;
-    assert_eq!(rt; written.as_str(), "there is no row with the number s1.7");
+    let written = unknown.to_string(rt.alloc())?;
+    same(
+        &rt,
+        written.as_str(),
+        "there is no row with the number s1.7",
+    );
     Ok(())
 }
 
 /// An effect of each kind, in order.
 fn effect(alloc: Global, line: usize) -> Result<Effect, Fail> {
-    let (session, h) = (Session(3), 4);
     match line {
-        0 => Ok(Effect::SetChild {
-            dir: root(alloc),
-            name: name(alloc)?,
-            to: Some(file(alloc)?),
-        }),
-        1 => Ok(Effect::SetParent {
-            file: file(alloc)?,
-            dir: root(alloc),
-            name: name(alloc)?,
-        }),
-        2 => Ok(Effect::NewNode {
-            file: file(alloc)?,
-            kind: Kind::Dir,
-            dir: root(alloc),
-            name: name(alloc)?,
-        }),
+        0 => set_child(alloc),
+        1 => set_parent(alloc),
+        2 => new_node(alloc),
         3 => Ok(Effect::RemoveNode { file: file(alloc)? }),
-        4 => Ok(Effect::AddHandle {
-            file: file(alloc)?,
-            session,
-            h,
-            modes: Modes::NONE,
-        }),
-        5 => Ok(Effect::RemoveHandle {
-            file: file(alloc)?,
-            session,
-            h,
-        }),
-        _ => Ok(Effect::SetInfo {
-            file: root(alloc),
-            size: 10,
-            stamp: 5,
-        }),
+        4 => add_handle(alloc),
+        5 => remove_handle(alloc),
+        _ => Ok(set_info(alloc)),
+    }
+}
+
+fn set_child(alloc: Global) -> Result<Effect, Fail> {
+    Ok(Effect::SetChild {
+        dir: root(alloc),
+        name: name(alloc)?,
+        to: Some(file(alloc)?),
+    })
+}
+
+fn set_parent(alloc: Global) -> Result<Effect, Fail> {
+    Ok(Effect::SetParent {
+        file: file(alloc)?,
+        dir: root(alloc),
+        name: name(alloc)?,
+    })
+}
+
+fn new_node(alloc: Global) -> Result<Effect, Fail> {
+    Ok(Effect::NewNode {
+        file: file(alloc)?,
+        kind: Kind::Dir,
+        dir: root(alloc),
+        name: name(alloc)?,
+    })
+}
+
+fn add_handle(alloc: Global) -> Result<Effect, Fail> {
+    Ok(Effect::AddHandle {
+        file: file(alloc)?,
+        session: Session(3),
+        h: 4,
+        modes: Modes::NONE,
+    })
+}
+
+fn remove_handle(alloc: Global) -> Result<Effect, Fail> {
+    Ok(Effect::RemoveHandle {
+        file: file(alloc)?,
+        session: Session(3),
+        h: 4,
+    })
+}
+
+fn set_info(alloc: Global) -> Effect {
+    Effect::SetInfo {
+        file: root(alloc),
+        size: 10,
+        stamp: 5,
     }
 }
 
 #[test]
 fn effects_are_copied(rt: HostRuntime) -> Result<(), Fail> {
     for line in 0..7 {
-        assert!(rt; is_copied(rt.alloc(), effect(rt.alloc(), line)?)?);
+        is_copied(&rt, rt.alloc(), &effect(rt.alloc(), line)?)?;
     }
     Ok(())
 }
@@ -153,51 +188,63 @@ fn value(alloc: Global, line: usize) -> Result<Value, Fail> {
 fn values_are_copied(rt: HostRuntime) -> Result<(), Fail> {
     for line in 0..7 {
         let value = value(rt.alloc(), line)?;
-        assert!(rt; value.is_of(&field(rt.alloc(), line)?));
-        assert!(rt; is_copied(rt.alloc(), value)?);
+        same(&rt, value.is_of(&field(rt.alloc(), line)?), true);
+        is_copied(&rt, rt.alloc(), &value)?;
     }
     Ok(())
 }
 
-/// Answers of servers, in no order.
+/// A vote of each kind but the first, in order.
+fn vote(alloc: Global, line: usize) -> Result<Vote, Fail> {
+    match line {
+        0 => Ok(Vote::Ended {
+            lease: NO,
+            until: 8,
+            now: 9,
+        }),
+        1 => Ok(Vote::PathsOut {
+            no: PathNo {
+                server: 3,
+                count: 1,
+            },
+        }),
+        _ => Ok(Vote::Moved {
+            prefix: file(alloc)?,
+            to: 2,
+        }),
+    }
+}
+
 #[test]
-fn answers_are_copied(rt: HostRuntime) -> Result<(), Fail> {
-    let alloc = rt.alloc();
-    let ended = Vote::Ended {
-        lease: NO,
-        until: 8,
-        now: 9,
-    };
-    assert!(rt; is_copied(alloc, ended)?);
-    let out = Vote::PathsOut {
-        no: PathNo {
-            server: 3,
-            count: 1,
-        },
-    };
-    assert!(rt; is_copied(alloc, out)?);
-    assert!(rt; is_copied(alloc, Asked::Wait { blocker: NO })?);
-    assert!(rt; is_copied(alloc, Asked::Granted { value: Some(true) })?);
-    assert!(rt; is_copied(alloc, LeaseKind::Exclusive)?);
+fn votes_are_copied(rt: HostRuntime) -> Result<(), Fail> {
+    for line in 0..3 {
+        is_copied(&rt, rt.alloc(), &vote(rt.alloc(), line)?)?;
+    }
     Ok(())
 }
 
 #[test]
-fn moved_and_paths_are_copied(rt: HostRuntime) -> Result<(), Fail> {
-    let alloc = rt.alloc();
-    let moved = Vote::Moved {
-        prefix: file(alloc)?,
-        to: 2,
-    };
-    assert!(rt; is_copied(alloc, moved)?);
-    let path = PathAnswer::Path(single(alloc, file(alloc)?)?);
-    assert!(rt; is_copied(alloc, path)?);
-    let frozen = PathAnswer::Frozen {
+fn answers_are_copied(rt: HostRuntime) -> Result<(), Fail> {
+    is_copied(&rt, rt.alloc(), &Asked::Wait { blocker: NO })?;
+    is_copied(&rt, rt.alloc(), &Asked::Granted { value: Some(true) })?;
+    is_copied(&rt, rt.alloc(), &LeaseKind::Exclusive)
+}
+
+fn path(alloc: Global) -> Result<PathAnswer, Fail> {
+    Ok(PathAnswer::Path(single(alloc, file(alloc)?)?))
+}
+
+fn frozen(alloc: Global) -> Result<PathAnswer, Fail> {
+    Ok(PathAnswer::Frozen {
         file: file(alloc)?,
         txn: TXN,
-    };
-    assert!(rt; is_copied(alloc, frozen)?);
-    Ok(())
+    })
+}
+
+#[test]
+fn paths_are_copied(rt: HostRuntime) -> Result<(), Fail> {
+    is_copied(&rt, rt.alloc(), &path(rt.alloc())?)?;
+    is_copied(&rt, rt.alloc(), &frozen(rt.alloc())?)
 }
 
 /// The row of the lease with this count.
@@ -231,59 +278,70 @@ fn part(alloc: Global) -> Result<Part, Fail> {
     })
 }
 
-#[test]
-fn leases_are_copied(rt: HostRuntime) -> Result<(), Fail> {
-    let alloc = rt.alloc();
-    assert!(rt; is_copied(alloc, row(field(alloc, 1)?, 7))?);
-    assert!(rt; is_copied(alloc, Need::Lease(field(alloc, 5)?, LeaseKind::Exclusive))?);
-    assert!(rt; is_copied(alloc, Need::Fresh(file(alloc)?))?);
-    assert!(rt; is_copied(alloc, part(alloc)?)?);
-    Ok(())
+fn need(alloc: Global) -> Result<Need, Fail> {
+    Ok(Need::Lease(field(alloc, 5)?, LeaseKind::Exclusive))
 }
 
 #[test]
-fn rows_tell_whole_answers(rt: HostRuntime) -> Result<(), Fail> {
-    let alloc = rt.alloc();
+fn leases_are_copied(rt: HostRuntime) -> Result<(), Fail> {
+    is_copied(&rt, rt.alloc(), &row(field(rt.alloc(), 1)?, 7))?;
+    is_copied(&rt, rt.alloc(), &need(rt.alloc())?)?;
+    is_copied(&rt, rt.alloc(), &Need::Fresh(file(rt.alloc())?))?;
+    is_copied(&rt, rt.alloc(), &part(rt.alloc())?)
+}
+
+/// Two rows on the fifth field, and one on the first.
+fn three_rows(alloc: Global) -> Result<Vec<Row>, Fail> {
     let mut rows = Vec::new(alloc);
     table::put(&mut rows, row(field(alloc, 4)?, 7))?;
     table::put(&mut rows, row(field(alloc, 4)?, 3))?;
     table::put(&mut rows, row(field(alloc, 0)?, 5))?;
-    let on = table::rows_on(alloc, &rows, &field(alloc, 4)?)?;
-    let no = |count| LeaseNo { server: 1, count };
-    let wanted = Vec::from_array(alloc, [(no(3), Session(2)), (no(7), Session(2))])?;
-    assert_eq!(rt; on.as_slice(), wanted.as_slice());
-    let borne = table::borne(alloc, &rows, &root(alloc))?;
-    assert_eq!(rt; borne.as_slice(), [5, 5].as_slice());
-    Ok(())
+    Ok(rows)
+}
+
+const ON: &str =
+    "List { items: [(LeaseNo { server: 1, count: 3 }, Session(2)), (LeaseNo { server: 1, count: \
+    7 }, Session(2))] }";
+
+#[test]
+fn rows_tell_whole_answers(rt: HostRuntime) -> Result<(), Fail> {
+    let rows = three_rows(rt.alloc())?;
+    let on = table::rows_on(rt.alloc(), &rows, &field(rt.alloc(), 4)?)?;
+    shows(&rt, rt.alloc(), &on, ON)?;
+    let borne = table::borne(rt.alloc(), &rows, &root(rt.alloc()))?;
+    shows(&rt, rt.alloc(), &borne, "List { items: [5, 5] }")
+}
+
+/// The value of the field after the effect of the first session.
+fn applied(alloc: Global, mut value: Value, field: &Field, e: &Effect) -> Result<Value, Fail> {
+    apply(alloc, &mut value, field, Session(1), e)?;
+    Ok(value)
 }
 
 #[test]
 fn size_and_stamp_are_set(rt: HostRuntime) -> Result<(), Fail> {
-    let alloc = rt.alloc();
-    let field = Field::Info(root(alloc));
-    let e = effect(alloc, 6)?;
-    assert!(rt; touches(&e, &field));
-    let mut value = Value::Info(0, 0);
-    apply(alloc, &mut value, &field, Session(1), &e)?;
-    assert!(rt; matches!(&value, Value::Info(10, 5)));
-    Ok(())
+    let field = Field::Info(root(rt.alloc()));
+    let e = set_info(rt.alloc());
+    same(&rt, touches(&e, &field), true);
+    shows(
+        &rt,
+        rt.alloc(),
+        &applied(rt.alloc(), Value::Info(0, 0), &field, &e)?,
+        "Info(10, 5)",
+    )
 }
 
-/// The names that the value has.
-fn listed(value: &Value) -> &[Name] {
-    match value {
-        Value::Names(names) => names.as_slice(),
-        _ => &[],
-    }
-}
+const ADDED: &str = "Names(List { items: [Name { bytes: [97, 32, 98] }, Name { bytes: [98] }] })";
 
 #[test]
 fn a_name_is_added(rt: HostRuntime) -> Result<(), Fail> {
-    let alloc = rt.alloc();
-    let field = Field::Names(root(alloc));
-    let mut value = Value::Names(single(alloc, Name::new(alloc, b"b")?)?);
-    apply(alloc, &mut value, &field, Session(1), &effect(alloc, 0)?)?;
-    let wanted = Vec::from_array(alloc, [name(alloc)?, Name::new(alloc, b"b")?])?;
-    assert!(rt; listed(&value) == wanted.as_slice());
-    Ok(())
+    let field = Field::Names(root(rt.alloc()));
+    let value = Value::Names(single(rt.alloc(), Name::new(rt.alloc(), b"b")?)?);
+    let e = set_child(rt.alloc())?;
+    shows(
+        &rt,
+        rt.alloc(),
+        &applied(rt.alloc(), value, &field, &e)?,
+        ADDED,
+    )
 }

@@ -1,8 +1,13 @@
+ghost use Rattle.std.specs.Prelude.{◌≡◌, length};
+
+use crate::{is_copied, same};
 use fs_ident::{
     DEPTH, FileId, IdError, Kind, LeaseNo, List, Memory, Name, PathNo, Peer, Session, Twin, TxnNo,
     number_in_front, search_by_name,
 };
 use std::alloc::Global;
+use std::fmt::Debug;
+use std::process::Abort;
 use std::test::Fail;
 
 /// The identifier with so many ones.
@@ -14,170 +19,247 @@ fn ones(alloc: Global, depth: usize) -> Result<FileId, IdError> {
     Ok(id)
 }
 
-#[test]
-fn numbers_identifiers(rt: HostRuntime) -> Result<(), Fail> {
-    let alloc = rt.alloc();
-    let root = FileId::root(alloc);
-    let one = root.child(alloc, 1)?;
-    let three = one.child(alloc, 3)?;
-    assert_eq!(rt; three.numbers(), [1, 3].as_slice());
-    assert!(rt; root < one && one < three);
-    assert!(rt; three.begins(&one) && three.begins(&three) && !one.begins(&three));
-    assert!(rt; three.copy(alloc)? == three);
-    assert!(rt; three.parent(alloc)? == Some(one));
-    assert!(rt; root.parent(alloc)?.is_none());
-    assert_eq!(rt; root.child(alloc, 0).err(), Some(IdError::Zero));
-    let deepest = ones(alloc, DEPTH)?;
-    for k in [0, 1, u32::MAX] {
-        assert_eq!(rt; deepest.child(alloc, k).err(), Some(IdError::Deep));
-    }
+/// The numbers, the order and the parents of the root, a file below it, and a file below that.
+fn are_numbered(
+    rt: &impl Abort,
+    alloc: Global,
+    root: &FileId,
+    one: &FileId,
+    three: &FileId,
+) -> Result<(), Fail> {
+    same(rt, three.numbers(), &[1, 3]);
+    same(rt, (root < one, one < three), (true, true));
+    same(
+        rt,
+        (three.begins(one), three.begins(three), one.begins(three)),
+        (true, true, false),
+    );
+    same(rt, &three.copy(alloc)?, three);
+    same(rt, three.parent(alloc)?.as_ref(), Some(one));
+    same(rt, root.parent(alloc)?.is_none(), true);
     Ok(())
 }
 
 #[test]
-fn reads_and_prints_identifiers(rt: HostRuntime) -> Result<(), Fail> {
-    let alloc = rt.alloc();
-    let deepest = b"/1".repeat(alloc, DEPTH)?;
-    for text in [
-        b"/".as_slice(),
-        b"/5",
-        b"/1/3",
-        b"/4294967295/10",
-        deepest.as_slice(),
-    ] {
-        let mut out = Vec::from_slice(alloc, b"id ")?;
-        FileId::parse(alloc, text)?.print(alloc, &mut out)?;
-        assert!(rt; out.starts_with(b"id "));
-        assert_eq!(rt; &out[3..], text);
+fn numbers_identifiers(rt: HostRuntime) -> Result<(), Fail> {
+    let root = FileId::root(rt.alloc());
+    let one = root.child(rt.alloc(), 1)?;
+    let three = one.child(rt.alloc(), 3)?;
+    are_numbered(&rt, rt.alloc(), &root, &one, &three)
+}
+
+#[test]
+fn refuses_numbers(rt: HostRuntime) -> Result<(), Fail> {
+    let deepest = ones(rt.alloc(), DEPTH)?;
+    for k in [0, 1, u32::MAX] {
+        same(&rt, deepest.child(rt.alloc(), k).err(), Some(IdError::Deep));
     }
+    let root = FileId::root(rt.alloc());
+    same(&rt, root.child(rt.alloc(), 0).err(), Some(IdError::Zero));
     Ok(())
+}
+
+/// The text of an identifier behind what was there, and the same text again.
+fn reads(rt: &impl Abort, alloc: Global, text: &[u8]) -> Result<(), Fail> {
+    let mut out = Vec::from_slice(alloc, b"id ")?;
+    FileId::parse(alloc, text)?.print(alloc, &mut out)?;
+    same(rt, out.split_at(3), (b"id ", text));
+    Ok(())
+}
+
+const IDS: [&[u8]; 4] = [b"/", b"/5", b"/1/3", b"/4294967295/10"];
+
+#[test]
+fn reads_and_prints_identifiers(rt: HostRuntime) -> Result<(), Fail> {
+    for text in IDS {
+        reads(&rt, rt.alloc(), text)?;
+    }
+    reads(&rt, rt.alloc(), &b"/1".repeat(rt.alloc(), DEPTH)?)
+}
+
+/// Texts of no identifier, and where they go wrong.
+const BAD_TEXTS: [(&[u8], usize); 12] = [
+    (b"", 0),
+    (b"x", 0),
+    (b"1/3", 0),
+    (b"//", 1),
+    (b"/0", 1),
+    (b"/-1", 1),
+    (b"/1/", 3),
+    (b"/1/03", 3),
+    (b"/12x", 3),
+    (b"/1/3 ", 4),
+    (b"/4294967296", 10),
+    (b"/42949672950", 11),
+];
+
+fn is_no_id(rt: &impl Abort, alloc: Global, text: &[u8], at: usize) {
+    same(
+        rt,
+        FileId::parse(alloc, text).err(),
+        Some(IdError::BadText { at }),
+    );
 }
 
 #[test]
 fn refuses_texts(rt: HostRuntime) -> Result<(), Fail> {
-    let alloc = rt.alloc();
-    let deeper = b"/1".repeat(alloc, DEPTH + 1)?;
-    let rows = [
-        (b"".as_slice(), 0),
-        (b"x", 0),
-        (b"1/3", 0),
-        (b"//", 1),
-        (b"/0", 1),
-        (b"/-1", 1),
-        (b"/1/", 3),
-        (b"/1/03", 3),
-        (b"/12x", 3),
-        (b"/1/3 ", 4),
-        (b"/4294967296", 10),
-        (b"/42949672950", 11),
-        (deeper.as_slice(), 64),
-    ];
-    for (text, at) in rows {
-        assert_eq!(rt;
-            FileId::parse(alloc, text).err(),
-            Some(IdError::BadText { at })
-        );
+    for (text, at) in BAD_TEXTS {
+        is_no_id(&rt, rt.alloc(), text, at);
     }
+    is_no_id(&rt, rt.alloc(), &b"/1".repeat(rt.alloc(), DEPTH + 1)?, 64);
+    Ok(())
+}
+
+const NAMES: [&[u8]; 4] = [b"a", b"...", b" ", b"~!"];
+
+/// A name of these bytes, and a copy.
+fn takes(rt: &impl Abort, alloc: Global, bytes: &[u8]) -> Result<(), Fail> {
+    let name = Name::new(alloc, bytes)?;
+    same(rt, name.bytes(), bytes);
+    same(rt, &name.copy(alloc)?, &name);
     Ok(())
 }
 
 #[test]
 fn takes_names(rt: HostRuntime) -> Result<(), Fail> {
-    let alloc = rt.alloc();
-    let longest = b"a".repeat(alloc, 255)?;
-    for bytes in [b"a".as_slice(), b"...", b" ", b"~!", longest.as_slice()] {
-        let name = Name::new(alloc, bytes)?;
-        assert_eq!(rt; name.bytes(), bytes);
-        assert!(rt; name.copy(alloc)? == name);
+    for bytes in NAMES {
+        takes(&rt, rt.alloc(), bytes)?;
     }
-    let longer = b"a".repeat(alloc, 256)?;
-    let rows = [
-        (b"".as_slice(), 0),
-        (b".", 0),
-        (b"..", 0),
-        (b"a:b", 1),
-        (b"a\x7f", 1),
-        (b"ab\x1f:", 2),
-        (b"abc\xff", 3),
-        (longer.as_slice(), 255),
-    ];
-    for (bytes, at) in rows {
-        assert_eq!(rt;
-            Name::new(alloc, bytes).err(),
-            Some(IdError::BadName { at })
-        );
+    takes(&rt, rt.alloc(), &b"a".repeat(rt.alloc(), 255)?)
+}
+
+/// Bytes of no name, and where they go wrong.
+const BAD_NAMES: [(&[u8], usize); 7] = [
+    (b"", 0),
+    (b".", 0),
+    (b"..", 0),
+    (b"a:b", 1),
+    (b"a\x7f", 1),
+    (b"ab\x1f:", 2),
+    (b"abc\xff", 3),
+];
+
+fn is_no_name(rt: &impl Abort, alloc: Global, bytes: &[u8], at: usize) {
+    same(
+        rt,
+        Name::new(alloc, bytes).err(),
+        Some(IdError::BadName { at }),
+    );
+}
+
+#[test]
+fn refuses_names(rt: HostRuntime) -> Result<(), Fail> {
+    for (bytes, at) in BAD_NAMES {
+        is_no_name(&rt, rt.alloc(), bytes, at);
     }
     for b in b"\\/:*?\"<>|\0\n" {
-        assert_eq!(rt;
-            Name::new(alloc, &[b'a', b'b', *b]).err(),
-            Some(IdError::BadName { at: 2 })
-        );
+        is_no_name(&rt, rt.alloc(), &[b'a', b'b', *b], 2);
     }
+    is_no_name(&rt, rt.alloc(), &b"a".repeat(rt.alloc(), 256)?, 255);
     Ok(())
+}
+
+/// A list of one item, with one before it and one behind it.
+fn list_of_three(alloc: Global) -> Result<List<u32>, Fail> {
+    let mut list = List::new(alloc);
+    list.push(3)?;
+    list.insert(0, 1)?;
+    if list.offer(4).is_err() {
+        return Err(Fail::from("memory"));
+    }
+    Ok(list)
+}
+
+/// The second item alone, with another value.
+fn change(rt: &impl Abort, list: &mut List<u32>)
+    requires { length list.old ≡ 3 }
+{
+    same(rt, list.replace(1, 2), 3);
+    *list.at_mut(2) = 5;
+    same(rt, list.items_mut().pop(), Some(5));
+    same(rt, list.remove(0), 1);
+    list.truncate(1);
 }
 
 #[test]
 fn keeps_lists(rt: HostRuntime) -> Result<(), Fail> {
-    let mut list = List::new(rt.alloc());
-    list.push(3)?;
-    list.insert(0, 1)?;
-    assert!(rt; list.offer(4).is_ok());
-    assert_eq!(rt; list.as_slice(), [1, 3, 4].as_slice());
-    assert_eq!(rt; list.replace(1, 2), 3);
-    *list.at_mut(2) = 5;
-    assert_eq!(rt; list.items_mut().pop(), Some(5));
-    assert_eq!(rt; list.remove(0), 1);
-    list.truncate(1);
-    assert_eq!(rt; list.into_vec().as_slice(), [2u32].as_slice());
+    let mut list = list_of_three(rt.alloc())?;
+    same(&rt, list.as_slice(), &[1, 3, 4]);
+    if list.len() != 3 {
+        return Err(Fail::from("three items"));
+    }
+    change(&rt, &mut list);
+    same(&rt, list.into_vec().as_slice(), &[2]);
     Ok(())
+}
+
+/// A copy is the value.
+fn is_twin<T: Twin + PartialEq + Debug + Drop>(
+    rt: &impl Abort,
+    alloc: Global,
+    x: T,
+) -> Result<(), Fail> {
+    same(rt, x.copy(alloc)?, x);
+    Ok(())
+}
+
+#[test]
+fn makes_twins_of_lists(rt: HostRuntime) -> Result<(), Fail> {
+    let pairs = Vec::from_array(rt.alloc(), [(1u32, Some(true)), (2, None)])?;
+    is_copied(&rt, rt.alloc(), &List::from_vec(pairs))
 }
 
 #[test]
 fn makes_twins(rt: HostRuntime) -> Result<(), Fail> {
-    let alloc = rt.alloc();
-    let pairs = List::from_vec(Vec::from_array(alloc, [(1u32, Some(true)), (2, None)])?);
-    assert_eq!(rt; pairs.copy(alloc)?.as_slice(), pairs.as_slice());
-    let actors = ((Session(1), Peer::Server(0)), (Some(Kind::Dir), 3u64));
-    assert!(rt; actors.copy(alloc)? == actors);
-    let numbers = (
-        (
-            LeaseNo {
-                server: 0,
-                count: 1,
-            },
-            TxnNo {
-                server: 1,
-                count: 2,
-            },
-        ),
-        (
-            PathNo {
-                server: 2,
-                count: 3,
-            },
-            4u8,
-        ),
+    let server = 1;
+    let count = 2;
+    is_twin(&rt, rt.alloc(), (Session(1), Peer::Server(0)))?;
+    is_twin(&rt, rt.alloc(), (Some(Kind::Dir), 3u64))?;
+    is_twin(
+        &rt,
+        rt.alloc(),
+        (LeaseNo { server, count }, TxnNo { server, count }),
+    )?;
+    is_twin(&rt, rt.alloc(), (PathNo { server, count }, 4u8))
+}
+
+/// The text of an actor or of a number.
+fn prints(rt: &impl Abort, text: &String, wanted: &str) {
+    same(rt, text.as_str(), wanted);
+}
+
+#[test]
+fn prints_actors(rt: HostRuntime) -> Result<(), Fail> {
+    prints(&rt, &Session(7).to_string(rt.alloc())?, "c7");
+    prints(&rt, &Peer::Server(0).to_string(rt.alloc())?, "s0");
+    prints(
+        &rt,
+        &Peer::Client(Session(1000)).to_string(rt.alloc())?,
+        "c1000",
     );
-    assert!(rt; numbers.copy(alloc)? == numbers);
+    prints(&rt, &Memory.to_string(rt.alloc())?, "memory is wanting");
     Ok(())
 }
 
 #[test]
-fn prints_actors_and_numbers(rt: HostRuntime) -> Result<(), Fail> {
-    let alloc = rt.alloc();
+fn prints_numbers(rt: HostRuntime) -> Result<(), Fail> {
     let server = 4;
     let count = 19;
-    for (text, spelled) in [
-        (Session(7).to_string(alloc)?, "c7"),
-        (Peer::Server(0).to_string(alloc)?, "s0"),
-        (Peer::Client(Session(1000)).to_string(alloc)?, "c1000"),
-        (LeaseNo { server, count }.to_string(alloc)?, "s4.19"),
-        (TxnNo { server, count }.to_string(alloc)?, "s4#19"),
-        (PathNo { server, count }.to_string(alloc)?, "s4@19"),
-        (Memory.to_string(alloc)?, "memory is wanting"),
-    ] {
-        assert_eq!(rt; text.as_str(), spelled);
-    }
+    prints(
+        &rt,
+        &LeaseNo { server, count }.to_string(rt.alloc())?,
+        "s4.19",
+    );
+    prints(
+        &rt,
+        &TxnNo { server, count }.to_string(rt.alloc())?,
+        "s4#19",
+    );
+    prints(
+        &rt,
+        &PathNo { server, count }.to_string(rt.alloc())?,
+        "s4@19",
+    );
     Ok(())
 }
 
@@ -213,26 +295,27 @@ fn copied_number(alloc: Global, number: u32) -> Option<u32> {
 }
 
 #[test]
-fn copies_what_may_not_be_dropped(rt: HostRuntime) -> Result<(), Fail> {
-    assert_eq!(rt; copied_number(rt.alloc(), 5), Some(5));
-    Ok(())
+fn copies_what_may_not_be_dropped(rt: HostRuntime) {
+    same(&rt, copied_number(rt.alloc(), 5), Some(5));
 }
 
 #[test]
-fn reads_eight_bytes(rt: HostRuntime) -> Result<(), Fail> {
+fn reads_eight_bytes(rt: HostRuntime) {
     let bytes = [0, 0, 0, 0, 0, 0, 1, 2, 9];
-    assert!(rt; number_in_front(&bytes[..7]).is_none());
-    assert_eq!(rt; number_in_front(&bytes[..8]), Some((258, [].as_slice())));
-    assert_eq!(rt; number_in_front(&bytes), Some((258, [9].as_slice())));
-    Ok(())
+    same(&rt, number_in_front(&bytes[..7]), None);
+    same(&rt, number_in_front(&bytes[..8]), Some((258, &[])));
+    same(&rt, number_in_front(&bytes), Some((258, &[9])));
 }
 
 #[test]
 fn finds_a_name(rt: HostRuntime) -> Result<(), Fail> {
-    let alloc = rt.alloc();
-    let entries = [(Name::new(alloc, b"b")?, 1u8)];
+    let entries = [(Name::new(rt.alloc(), b"b")?, 1u8)];
     for (name, found) in [(b"a", Err(0)), (b"b", Ok(0)), (b"c", Err(1))] {
-        assert_eq!(rt; search_by_name(&entries, &Name::new(alloc, name)?), found);
+        same(
+            &rt,
+            search_by_name(&entries, &Name::new(rt.alloc(), name)?),
+            found,
+        );
     }
     Ok(())
 }

@@ -2,6 +2,7 @@
 ghost use Rattle.std.specs.Prelude.{IfOk};
 ghost use Rattle.fs_map.specs.Map.{IsPiece};
 
+use crate::same;
 use fs_ident::{DEPTH, FileId, List, Twin};
 use fs_map::{FileMap, MapPiece};
 use std::alloc::Global;
@@ -31,78 +32,42 @@ fn piece_text(alloc: Global, piece: &MapPiece) -> Result<String, Fail> {
 /// The prefixes of a map with their servers are these.
 fn tells(rt: &impl Abort, alloc: Global, map: &FileMap, wanted: &str) -> Result<(), Fail> {
     let text = text(alloc, map)?;
-    assert_eq!(rt; text.as_str(), wanted);
+    same(rt, text.as_str(), wanted);
     Ok(())
 }
 
-/// A server gives what it has below the prefix, and another takes it.
-fn moves(
-    rt: &impl Abort,
-    alloc: Global,
-    from: &mut FileMap,
-    me: u8,
-    prefix: &str,
-    to: &mut FileMap,
-    you: u8,
-) -> Result<MapPiece, Fail> {
+/// The prefixes of a piece are these.
+fn gives(rt: &impl Abort, alloc: Global, piece: &MapPiece, wanted: &str) -> Result<(), Fail> {
+    let text = piece_text(alloc, piece)?;
+    same(rt, text.as_str(), wanted);
+    Ok(())
+}
+
+/// A server gives what it has below the prefix.
+fn given(alloc: Global, from: &mut FileMap, me: u8, prefix: &str, you: u8) -> Result<MapPiece, Fail>
+    ensures { IfOk result (λ p. IsPiece p.prefix p.given) }
+{
     let prefix = FileId::parse(alloc, prefix.as_bytes())?;
-    let owner = from.owner(&prefix).1;
-    assert!(rt; owner == me);
-    let piece = from.give(alloc, me, &prefix, you)?;
-    to.take(alloc, you, &piece)?;
-    Ok(piece)
+    if from.owner(&prefix).1 != me {
+        return Err(Fail::from("it is another's"));
+    }
+    Ok(from.give(alloc, me, &prefix, you)?)
 }
 
-/// What was given, and both maps after it.
-fn shows(
-    rt: &impl Abort,
-    alloc: Global,
-    piece: &MapPiece,
-    from: &FileMap,
-    to: &FileMap,
-    wanted: [&str; 3],
-) -> Result<(), Fail> {
-    assert_eq!(rt; piece_text(alloc, piece)?.as_str(), wanted[0]);
-    assert_eq!(rt; text(alloc, from)?.as_str(), wanted[1]);
-    assert_eq!(rt; text(alloc, to)?.as_str(), wanted[2]);
-    Ok(())
-}
-
-/// The two calls, and what they leave.
+/// What is given, and both maps after another took it.
 fn passes(
     rt: &impl Abort,
     alloc: Global,
-    from: &mut FileMap,
-    me: u8,
+    (from, me): (&mut FileMap, u8),
     prefix: &str,
-    to: &mut FileMap,
-    you: u8,
+    (to, you): (&mut FileMap, u8),
     wanted: [&str; 3],
 ) -> Result<(), Fail> {
-    let piece = moves(rt, alloc, from, me, prefix, to, you)?;
-    shows(rt, alloc, &piece, from, to, wanted)
-}
-
-fn two_servers(
-    rt: &impl Abort,
-    alloc: Global,
-    s0: &mut FileMap,
-    s1: &mut FileMap,
-) -> Result<(), Fail> {
-    passes(rt, alloc, s0, 0, "/1", s1, 1, FIRST)?;
-    passes(rt, alloc, s1, 1, "/1/2", s0, 0, SECOND)
-}
-
-fn third_server(
-    rt: &impl Abort,
-    alloc: Global,
-    s0: &mut FileMap,
-    s1: &mut FileMap,
-    s2: &mut FileMap,
-) -> Result<(), Fail> {
-    passes(rt, alloc, s0, 0, "/", s2, 2, THIRD)?;
-    sends(rt, alloc, s2, s0)?;
-    passes(rt, alloc, s2, 2, "/", s1, 1, FOURTH)
+    let piece = given(alloc, from, me, prefix, you)?;
+    to.take(alloc, you, &piece)?;
+    gives(rt, alloc, &piece, wanted[0])?;
+    tells(rt, alloc, from, wanted[1])?;
+    tells(rt, alloc, to, wanted[2])
 }
 
 /// To which server one who asks for the first file below the root is sent, and then from there.
@@ -113,19 +78,30 @@ fn sends(
     asked_next: &FileMap,
 ) -> Result<(), Fail> {
     let id = FileId::parse(alloc, b"/1")?;
-    assert!(rt; asked.owner(&id).1 == 0);
-    assert!(rt; asked_next.owner(&id).1 == 1);
+    same(rt, (asked.owner(&id).1, asked_next.owner(&id).1), (0, 1));
     Ok(())
+}
+
+fn three_servers_pass(
+    rt: &impl Abort,
+    alloc: Global,
+    s0: &mut FileMap,
+    s1: &mut FileMap,
+    s2: &mut FileMap,
+) -> Result<(), Fail> {
+    passes(rt, alloc, (s0, 0), "/1", (s1, 1), FIRST)?;
+    passes(rt, alloc, (s1, 1), "/1/2", (s0, 0), SECOND)?;
+    passes(rt, alloc, (s0, 0), "/", (s2, 2), THIRD)?;
+    sends(rt, alloc, s2, s0)?;
+    passes(rt, alloc, (s2, 2), "/", (s1, 1), FOURTH)
 }
 
 #[test]
 fn three_servers(rt: HostRuntime) -> Result<(), Fail> {
-    let alloc = rt.alloc();
-    let mut s0 = FileMap::new(alloc)?;
-    let mut s1 = FileMap::new(alloc)?;
-    let mut s2 = FileMap::new(alloc)?;
-    two_servers(&rt, alloc, &mut s0, &mut s1)?;
-    third_server(&rt, alloc, &mut s0, &mut s1, &mut s2)
+    let mut s0 = FileMap::new(rt.alloc())?;
+    let mut s1 = FileMap::new(rt.alloc())?;
+    let mut s2 = FileMap::new(rt.alloc())?;
+    three_servers_pass(&rt, rt.alloc(), &mut s0, &mut s1, &mut s2)
 }
 
 const FIRST: [&str; 3] = ["/1 true, ", "/ s0, /1 s1, ", "/ s0, /1 s1, "];
@@ -161,41 +137,62 @@ const HINTS: [(&str, u8, &str); 8] = [
     ("/", 1, "/ s1, "),
 ];
 
+fn takes_hint(
+    rt: &impl Abort,
+    alloc: Global,
+    map: &mut FileMap,
+    prefix: &FileId,
+    to: u8,
+    wanted: &str,
+) -> Result<(), Fail> {
+    tells(rt, alloc, &map.with_hint(alloc, prefix, to)?, wanted)?;
+    map.hint(alloc, prefix, to)?;
+    tells(rt, alloc, map, wanted)
+}
+
 #[test]
 fn hints(rt: HostRuntime) -> Result<(), Fail> {
-    let alloc = rt.alloc();
-    let mut map = FileMap::new(alloc)?;
+    let mut map = FileMap::new(rt.alloc())?;
     for (prefix, to, wanted) in HINTS {
-        let prefix = FileId::parse(alloc, prefix.as_bytes())?;
-        tells(&rt, alloc, &map.with_hint(alloc, &prefix, to)?, wanted)?;
-        map.hint(alloc, &prefix, to)?;
-        tells(&rt, alloc, &map, wanted)?;
+        let prefix = FileId::parse(rt.alloc(), prefix.as_bytes())?;
+        takes_hint(&rt, rt.alloc(), &mut map, &prefix, to, wanted)?;
     }
+    Ok(())
+}
+
+fn hint_deepest(
+    rt: &impl Abort,
+    alloc: Global,
+    map: &mut FileMap,
+    root: &FileId,
+    deepest: &FileId,
+) -> Result<(), Fail> {
+    same(rt, map.owner(deepest), (root, 0));
+    map.hint(alloc, deepest, 5)?;
+    same(rt, map.owner(deepest), (deepest, 5));
+    same(rt, map.copy(alloc)?.owner(root), (root, 0));
     Ok(())
 }
 
 /// The root and the deepest identifier.
 #[test]
 fn from_the_root_to_the_deepest(rt: HostRuntime) -> Result<(), Fail> {
-    let alloc = rt.alloc();
-    let root = FileId::root(alloc);
-    let deepest = FileId::parse(alloc, &b"/7".repeat(alloc, DEPTH)?)?;
-    let mut map = FileMap::new(alloc)?;
-    assert!(rt; map.owner(&deepest) == (&root, 0));
-    map.hint(alloc, &deepest, 5)?;
-    assert!(rt; map.owner(&deepest) == (&deepest, 5));
-    let twin = map.copy(alloc)?;
-    assert!(rt; twin.owner(&root) == (&root, 0));
-    Ok(())
+    let deepest = FileId::parse(rt.alloc(), &b"/7".repeat(rt.alloc(), DEPTH)?)?;
+    let mut map = FileMap::new(rt.alloc())?;
+    hint_deepest(
+        &rt,
+        rt.alloc(),
+        &mut map,
+        &FileId::root(rt.alloc()),
+        &deepest,
+    )
 }
 
 /// All from the root on but what is below its first file, of which the part below the second file there is given.
 fn with_a_hole(rt: &impl Abort, alloc: Global) -> Result<MapPiece, Fail>
     ensures { IfOk result (λ p. IsPiece p.prefix p.given) }
 {
-    let mut s0 = FileMap::new(alloc)?;
-    s0.hint(alloc, &FileId::parse(alloc, b"/1")?, 9)?;
-    s0.hint(alloc, &FileId::parse(alloc, b"/1/2")?, 0)?;
+    let mut s0 = hinted(alloc, "/1", 9, "/1/2", 0)?;
     let root = FileId::root(alloc);
     let owner = s0.owner(&root).1;
     assert!(rt; owner == 0);
@@ -249,21 +246,20 @@ fn a_change_is_made_or_given_up(rt: HostRuntime) -> Result<(), Fail> {
 }
 
 /// What the server of the root has.
-fn piece_of_all(rt: &impl Abort, alloc: Global, map: &FileMap, me: u8) -> Result<MapPiece, Fail> {
+fn piece_of_all(alloc: Global, map: &FileMap, me: u8) -> Result<MapPiece, Fail> {
     let root = FileId::root(alloc);
-    let owner = map.owner(&root).1;
-    assert!(rt; owner == me);
+    if map.owner(&root).1 != me {
+        return Err(Fail::from("it is another's"));
+    }
     Ok(map.piece(alloc, me, &root)?)
 }
 
 #[test]
 fn a_piece_is_told_before_it_is_given(rt: HostRuntime) -> Result<(), Fail> {
-    let alloc = rt.alloc();
-    let map = hinted(alloc, "/1", 3, "/1/2", 0)?;
-    let told = piece_of_all(&rt, alloc, &map, 0)?;
-    let text = piece_text(alloc, &told)?;
-    assert_eq!(rt; text.as_str(), "/ true, /1 false, /1/2 true, ");
-    tells(&rt, alloc, &map, "/ s0, /1 s3, /1/2 s0, ")
+    let map = hinted(rt.alloc(), "/1", 3, "/1/2", 0)?;
+    let told = piece_of_all(rt.alloc(), &map, 0)?;
+    gives(&rt, rt.alloc(), &told, "/ true, /1 false, /1/2 true, ")?;
+    tells(&rt, rt.alloc(), &map, "/ s0, /1 s3, /1/2 s0, ")
 }
 
 /// A server, and whether something of the piece is its, after these two hints to a map where all is server 0's.
@@ -288,7 +284,7 @@ fn what_is_given_has_owners(rt: HostRuntime) -> Result<(), Fail> {
     let piece = with_a_hole(&rt, alloc)?;
     for (first, to, second, next_to, me, owned) in OWNED {
         let map = hinted(alloc, first, to, second, next_to)?;
-        assert_eq!(rt; map.owns_given(me, &piece), owned);
+        same(&rt, map.owns_given(me, &piece), owned);
     }
     Ok(())
 }
@@ -313,7 +309,7 @@ fn a_piece_tells_what_is_given(rt: HostRuntime) -> Result<(), Fail> {
     let alloc = rt.alloc();
     let piece = with_a_hole(&rt, alloc)?;
     for (id, given) in GIVEN {
-        assert_eq!(rt; is_given(alloc, &piece, id)?, (given, given));
+        same(&rt, is_given(alloc, &piece, id)?, (given, given));
     }
     Ok(())
 }
@@ -357,8 +353,11 @@ fn the_shortest_list_alone_is_a_piece(rt: HostRuntime) -> Result<(), Fail> {
     let alloc = rt.alloc();
     for (prefix, places, ordered, shortest) in LISTS {
         let piece = listed(alloc, prefix, places)?;
-        assert_eq!(rt; piece.is_in_order(), ordered);
-        assert_eq!(rt; piece.is_piece(), shortest);
+        same(
+            &rt,
+            (piece.is_in_order(), piece.is_piece()),
+            (ordered, shortest),
+        );
     }
     Ok(())
 }

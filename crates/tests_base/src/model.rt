@@ -2,10 +2,12 @@
 ghost use Rattle.std.specs.Prelude.{IfOk};
 ghost use Rattle.fs_model.specs.Namespace.{IsInOrder};
 
+use crate::{same, shows};
 use fs_ident::{FileId, Kind, Memory, Name, Session, Twin};
 use fs_model::{Handle, Node, Op, Space};
 use fs_modes::Modes;
 use std::alloc::Global;
+use std::process::Abort;
 use std::test::Fail;
 
 /// The reply to a copy of the operation, as it prints.
@@ -46,31 +48,44 @@ fn open(alloc: Global) -> Op {
     Op::OpenFile { file, h, modes }
 }
 
+/// The operation is so replied.
+fn replies(
+    rt: &impl Abort,
+    alloc: Global,
+    space: &mut Space,
+    op: Op,
+    wanted: &str,
+) -> Result<(), Fail> {
+    let reply = told(alloc, space, op)?;
+    same(rt, reply.as_str(), wanted);
+    Ok(())
+}
+
+const NAMES: &str = "Names(List { items: [Name { bytes: [97] }] })";
+
+fn makes(rt: &impl Abort, alloc: Global, space: &mut Space) -> Result<(), Fail> {
+    replies(rt, alloc, space, create(alloc)?, "Made")?;
+    replies(
+        rt,
+        alloc,
+        space,
+        look_up(alloc)?,
+        "Found(FileId { numbers: [1] })",
+    )?;
+    replies(rt, alloc, space, list(alloc), NAMES)
+}
+
 #[test]
 fn a_directory_is_made_and_found(rt: HostRuntime) -> Result<(), Fail> {
-    let alloc = rt.alloc();
-    let mut space = Space::new(alloc)?;
-    let reply = told(alloc, &mut space, create(alloc)?)?;
-    assert_eq!(rt; reply.as_str(), "Made");
-    let reply = told(alloc, &mut space, look_up(alloc)?)?;
-    assert_eq!(rt; reply.as_str(), "Found(FileId { numbers: [1] })");
-    let reply = told(alloc, &mut space, list(alloc))?;
-    assert_eq!(rt;
-        reply.as_str(),
-        "Names(List { items: [Name { bytes: [97] }] })"
-    );
-    Ok(())
+    let mut space = Space::new(rt.alloc())?;
+    makes(&rt, rt.alloc(), &mut space)
 }
 
 #[test]
 fn a_file_is_opened_once(rt: HostRuntime) -> Result<(), Fail> {
-    let alloc = rt.alloc();
-    let mut space = Space::new(alloc)?;
-    let reply = told(alloc, &mut space, open(alloc))?;
-    assert_eq!(rt; reply.as_str(), "Opened");
-    let reply = told(alloc, &mut space, open(alloc))?;
-    assert_eq!(rt; reply.as_str(), "HandleUsed");
-    Ok(())
+    let mut space = Space::new(rt.alloc())?;
+    replies(&rt, rt.alloc(), &mut space, open(rt.alloc()), "Opened")?;
+    replies(&rt, rt.alloc(), &mut space, open(rt.alloc()), "HandleUsed")
 }
 
 /// A node with one of each.
@@ -97,22 +112,30 @@ fn space_of(alloc: Global, id: &FileId, node: &Node) -> Result<Space, Memory>
     space.copy(alloc)
 }
 
-fn printed(alloc: Global, node: Option<&Node>) -> Result<String, Fail> {
-    Ok(format!(in alloc; "{node:?}")?)
+/// The space has the node alone.
+fn has(
+    rt: &impl Abort,
+    alloc: Global,
+    space: &Space,
+    id: &FileId,
+    whole: &Node,
+) -> Result<(), Fail> {
+    let wanted = format!(in alloc; "{:?}", Some(whole))?;
+    shows(rt, alloc, &space.node(id), wanted.as_str())?;
+    shows(
+        rt,
+        alloc,
+        &space.files(alloc)?,
+        "List { items: [FileId { numbers: [7] }] }",
+    )?;
+    same(rt, space.len(), 1);
+    Ok(())
 }
 
 #[test]
 fn a_node_is_put_and_copied_whole(rt: HostRuntime) -> Result<(), Fail> {
-    let alloc = rt.alloc();
-    let id = FileId::root(alloc).child(alloc, 7)?;
-    let name = Name::new(alloc, b"b")?;
-    let whole = node(alloc, &id, &name)?;
-    let space = space_of(alloc, &id, &whole)?;
-    let text = printed(alloc, space.node(&id))?;
-    let want = printed(alloc, Some(&whole))?;
-    assert_eq!(rt; text.as_str(), want.as_str());
-    let files = space.files(alloc)?;
-    assert!(rt; files.as_slice().contains(&id));
-    assert_eq!(rt; space.len(), 1);
-    Ok(())
+    let id = FileId::root(rt.alloc()).child(rt.alloc(), 7)?;
+    let whole = node(rt.alloc(), &id, &Name::new(rt.alloc(), b"b")?)?;
+    let space = space_of(rt.alloc(), &id, &whole)?;
+    has(&rt, rt.alloc(), &space, &id, &whole)
 }
