@@ -14,45 +14,32 @@ use Rattle.fs_client.specs.declared.state.Client.{Client}
 use Rattle.fs_map.specs.Map.{Owners}
 use Rattle.fs_client.specs.Client.{IsClient, admitted_all, admitted_one, begun, can_change, can_commit, changed, committed, with_hints}
 
-one_term : (es : List Entry) (c : Client) → (admitted_one c es).term ≡ c.term
-one_term [] c = refl
-one_term (e ∷ es) c = refl
+-- its term and its last reading stay
+abbrev KeepsTerm : Client → Client → Type 0
+KeepsTerm old new = (new.term ≡ old.term) × (new.last ≡ old.last)
 
-one_last : (es : List Entry) (c : Client) → (admitted_one c es).last ≡ c.last
-one_last [] c = refl
-one_last (e ∷ es) c = refl
+one_admitted : (es : List Entry) (c : Client) → KeepsTerm c (admitted_one c es)
+one_admitted [] c = (refl, refl)
+one_admitted (e ∷ es) c = (refl, refl)
 
-all_term : (k : ℕ) (c : Client) → (admitted_all k c).term ≡ c.term
-all_term zero c = refl
-all_term (suc k) c = all_term k (admitted_one c c.log) ∙ one_term c.log c
+all_admitted : (k : ℕ) (c : Client) → KeepsTerm c (admitted_all k c)
+all_admitted zero c = (refl, refl)
+all_admitted (suc k) c =
+    let one : KeepsTerm c (admitted_one c c.log) = one_admitted c.log c in
+    let rest : KeepsTerm (admitted_one c c.log) (admitted_all k (admitted_one c c.log)) = all_admitted k (admitted_one c c.log) in
+    (rest.0 ∙ one.0, rest.1 ∙ one.1)
 
-all_last : (k : ℕ) (c : Client) → (admitted_all k c).last ≡ c.last
-all_last zero c = refl
-all_last (suc k) c = all_last k (admitted_one c c.log) ∙ one_last c.log c
-
-same_term : (ch : Change) (c : Client) → (changed ch c).term ≡ c.term
-same_term change.Nothing c = refl
-same_term change.Read c = refl
-same_term (change.Reply entry effects) c = refl
-same_term (change.Ask x) c = refl
-same_term (change.Leave to numbers) c = refl
-same_term (change.Grant leases full) c = refl
-same_term (change.Renew ends) c = refl
-same_term (change.Release numbers) c = refl
-same_term (change.Admit count over) c = all_term count c
-same_term (change.Recall number) c = refl
-
-same_last : (ch : Change) (c : Client) → (changed ch c).last ≡ c.last
-same_last change.Nothing c = refl
-same_last change.Read c = refl
-same_last (change.Reply entry effects) c = refl
-same_last (change.Ask x) c = refl
-same_last (change.Leave to numbers) c = refl
-same_last (change.Grant leases full) c = refl
-same_last (change.Renew ends) c = refl
-same_last (change.Release numbers) c = refl
-same_last (change.Admit count over) c = all_last count c
-same_last (change.Recall number) c = refl
+keeps_term : (ch : Change) (c : Client) → KeepsTerm c (changed ch c)
+keeps_term change.Nothing c = (refl, refl)
+keeps_term change.Read c = (refl, refl)
+keeps_term (change.Reply entry effects) c = (refl, refl)
+keeps_term (change.Ask x) c = (refl, refl)
+keeps_term (change.Leave to numbers) c = (refl, refl)
+keeps_term (change.Grant leases full) c = (refl, refl)
+keeps_term (change.Renew ends) c = (refl, refl)
+keeps_term (change.Release numbers) c = (refl, refl)
+keeps_term (change.Admit count over) c = all_admitted count c
+keeps_term (change.Recall number) c = (refl, refl)
 
 told_client : (h : Option Owners) (c : Client) → IsClient c → IsClient (with_hints h c)
 told_client None c i = i
@@ -67,8 +54,8 @@ stays_client r c i h =
     let q : (nat_le r.now LATEST ≡ true) × (can_change r.change (begun r.now c) ≡ true) = both (nat_le r.now LATEST) _ h in
     told_client r.hints (changed r.change (begun r.now c))
     (record {
-      term = subst (λ n. n ≤ LONGEST) (sym (same_term r.change (begun r.now c))) i.term;
-      last = subst (λ n. n ≤ LATEST) (sym (same_last r.change (begun r.now c))) (greatest c.last r.now LATEST i.last q.0);
+      term = subst (λ n. n ≤ LONGEST) (sym (keeps_term r.change (begun r.now c)).0) i.term;
+      last = subst (λ n. n ≤ LATEST) (sym (keeps_term r.change (begun r.now c)).1) (greatest c.last r.now LATEST i.last q.0);
     })
 
 pub is_client_still : (res : Result (Unit {0}) Memory) (r : Ready) (old new : Client) → OnOk res (new ≡ committed r old) → OnErr res (new ≡ old) → IsClient old → can_commit r old ≡ true → IsClient new

@@ -1,7 +1,7 @@
 -- A refused entry used a lease that had ended.
 use Rattle.std.proofs.Common.{◌≡◌, ℕ, ◌+◌, ◌<◌, ◌≤◌, not, true, false, List, [], cond, refl, sym, subst, inl, inr, arith}
-use Rattle.std.specs.Prelude.{◌≢◌, Option, Some, None, nat_lt}
 use Rattle.std.proofs.lemmas.Bool.{ltb-true, ltb-false}
+use Rattle.std.specs.Prelude.{◌≢◌, Option, Some, None, nat_lt}
 use Rattle.fs_ident.specs.In.{In}
 use Rattle.fs_ident.specs.declared.actor.Session.{Session}
 use Rattle.fs_ident.proofs.Passing.{found}

@@ -1,7 +1,7 @@
 -- The rows that the server finds for the uses of an entry.
 use Rattle.std.proofs.Common.{◌≡◌, ◌==◌, ◌&&◌, not, true, List, refl, ap, ap₂}
-use Rattle.std.specs.Prelude.{None}
 use Rattle.std.proofs.lemmas.Bool.{not-false}
+use Rattle.std.specs.Prelude.{None}
 use Rattle.fs_ident.specs.Ident.{same}
 use Rattle.fs_ident.specs.In.{In}
 use Rattle.fs_ident.specs.declared.actor.Session.{Session}

@@ -1,15 +1,20 @@
--- What keeps the rows of a server in order.
+-- What keeps a server one, and its rows in order.
 use Rattle.std.proofs.Common.{◌≡◌, ℕ, false, List, map}
 use Rattle.std.specs.List.{list_any}
 use Rattle.fs_ident.specs.declared.actor.LeaseNo.{LeaseNo}
 use Rattle.fs_ident.specs.In.{In}
+use Rattle.fs_map.specs.Map.{Owners}
 use Rattle.fs_field.specs.declared.row.Row.{Row}
 use Rattle.fs_field.specs.Conflict.{plain_conflict}
 use Rattle.fs_field.specs.Table.{has_no, renewed_row, with_row}
 use Rattle.fs_field.proofs.Leases.{SameLease, NoPlainConflict-map, NoPlainConflict-with_row}
 use Rattle.fs_field.proofs.Order.{ordered_map, ordered_put}
+use Rattle.fs_rows.specs.Given.{AreGiven}
 use Rattle.fs_moderows.proofs.Tables.{TellsSame, renewed_tells}
+use Rattle.fs_record.specs.Records.{RecordMap}
 use Rattle.fs_server.specs.Rows.{AreRows}
+use Rattle.fs_server.specs.declared.state.Server.{Server}
+use Rattle.fs_server.specs.Lent.{IsReady}
 
 same_lease : (a b : Row) → TellsSame a b → SameLease a b
 same_lease a b s = record { number = s.number; session = s.session; field = s.field; kind = s.kind }
@@ -28,4 +33,11 @@ pub put_rows : (row : Row) (rows : List Row) → list_any (has_no row.no) rows �
 put_rows row rows new free t = record {
   ordered = ordered_put row rows new t.ordered;
   free = NoPlainConflict-with_row row rows free t.free;
+}
+
+-- the server with other rows, each with a number that it gave, other records and another map
+pub with_others : (s : Server) (rows : List Row) (records : RecordMap) (map : Owners) → IsReady s → AreGiven s.me s.given rows → AreRows rows → IsReady (record s { rows = rows; records = records; map = map })
+with_others s rows records map r n t = record {
+  server = record { few = r.server.few; skew = r.server.skew; term = r.server.term; last = r.server.last; given = r.server.given; reaps = r.server.reaps; numbers = n };
+  table = t;
 }

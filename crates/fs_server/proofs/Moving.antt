@@ -11,7 +11,7 @@ use Rattle.fs_ident.proofs.Passing.{all-In}
 use Rattle.fs_ident.proofs.Standing.{In-put}
 use Rattle.fs_field.specs.Table.{no_before, with_row}
 use Rattle.fs_field.specs.declared.row.Row.{Row}
-use Rattle.fs_map.specs.Lists.{is_piece}
+use Rattle.fs_map.specs.Lists.{is_piece, map_after_take}
 use Rattle.fs_map.specs.Map.{IsPiece, Owners, server_of}
 use Rattle.fs_map.specs.declared.piece.MapPiece.{MapPiece}
 use Rattle.fs_map.proofs.Owned.{piece_piece}
@@ -22,14 +22,14 @@ use Rattle.fs_msg.specs.declared.peer_msg.PeerMsg.TheVariants as peer
 use Rattle.fs_msg.specs.declared.server_note.ServerNote.TheVariants as note
 use Rattle.fs_ident.specs.Ident.{same}
 use Rattle.fs_ident.specs.Ordered.{Keyed}
-use Rattle.fs_record.specs.Moving.{AreEachRecords, are_distinct, records_given}
+use Rattle.fs_record.specs.Moving.{AreEachRecords, are_distinct, records_given, records_left, with_records}
 use Rattle.fs_record.specs.Records.{RecordMap}
 use Rattle.fs_record.specs.declared.parcel.Parcel.{Parcel}
 use Rattle.fs_record.specs.declared.record.Record.{Record}
 use Rattle.fs_record.proofs.Rising.{test_order}
 use Rattle.fs_rows.specs.Given.{AreGiven}
 use Rattle.fs_rows.specs.Granted.{with_rows}
-use Rattle.fs_rows.specs.Moving.{is_on_given}
+use Rattle.fs_rows.specs.Moving.{is_on_given, rows_left}
 use Rattle.fs_rows.proofs.Numbers.{given_filter}
 use Rattle.fs_parcel.specs.Parcel.{fits, is_formed, is_in_order, parcel_of}
 use Rattle.fs_parcel.specs.Rows.{both}
@@ -42,6 +42,7 @@ use Rattle.fs_server.specs.Lent.{IsReady}
 use Rattle.fs_server.specs.Moves.{fits_here, hands_over, was_given, without_given}
 use Rattle.fs_server.specs.Plan.{changed}
 use Rattle.fs_server.specs.Step.{AreNumbersLeft}
+use Rattle.fs_server.proofs.Kept.{with_others}
 
 -- ## A move
 
@@ -81,18 +82,9 @@ told_over prefix copy to p server send admitted s a b d e f = rw (a, b, d, e, f)
 
 -- what is left is a server, with rows in order
 pub left_ready : (to : ℕ) (piece : MapPiece) (moved : Keyed Record) (s : Server) → IsReady s → IsReady (changed (Leave to piece moved) s)
-left_ready to piece moved s r = record {
-  server = record {
-    few = r.server.few;
-    skew = r.server.skew;
-    term = r.server.term;
-    last = r.server.last;
-    given = r.server.given;
-    reaps = r.server.reaps;
-    numbers = given_filter s.me s.given (λ row. not (is_on_given piece.prefix piece.given row)) s.rows r.server.numbers;
-  };
-  table = filtered_rows (λ row. not (is_on_given piece.prefix piece.given row)) s.rows r.table;
-}
+left_ready to piece moved s r = with_others s (rows_left piece.prefix piece.given s.rows) (records_left piece.prefix piece.given s.records) (map_after_take s.map to piece.prefix piece.given) r
+    (given_filter s.me s.given (λ row. not (is_on_given piece.prefix piece.given row)) s.rows r.server.numbers)
+    (filtered_rows (λ row. not (is_on_given piece.prefix piece.given row)) s.rows r.table)
 
 -- ## A parcel
 
@@ -123,18 +115,8 @@ fitted p s h = both_hold (fits s.records s.rows s.map s.me p) (list_all (was_giv
 -- where the parcel fits, what it leads to is a server, with rows in order
 pub installed_ready : (p : Parcel) (s : Server) → fits_here p s ≡ true → IsReady s → IsReady (changed (Install p) s)
 installed_ready p s h r =
-    let q = fitted p s h in record {
-      server = record {
-        few = r.server.few;
-        skew = r.server.skew;
-        term = r.server.term;
-        last = r.server.last;
-        given = r.server.given;
-        reaps = r.server.reaps;
-        numbers = given_come s.me s.given p.rows s.rows q.1 r.server.numbers;
-      };
-      table = all_rows s.records s.rows s.map s.me p (fitting s.records s.rows s.map s.me p q.0) r.table;
-    }
+    let q = fitted p s h in
+    with_others s (with_rows p.rows s.rows) (with_records p.records s.records) (map_after_take s.map s.me p.prefix p.piece.given) r (given_come s.me s.given p.rows s.rows q.1 r.server.numbers) (all_rows s.records s.rows s.map s.me p (fitting s.records s.rows s.map s.me p q.0) r.table)
 
 each_records : (p : Parcel) → AreNumbersLeft p.records → is_formed p ≡ true → AreEachRecords p.records
 each_records p left h e i =

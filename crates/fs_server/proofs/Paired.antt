@@ -13,14 +13,7 @@ use Rattle.fs_server.specs.Pairs.{renewed_rows, released_rows}
 use Rattle.fs_server.specs.Plan.{changed}
 use Rattle.fs_server.specs.Rows.{AreRows}
 use Rattle.fs_parcel.proofs.Both.{filtered_rows}
-use Rattle.fs_server.proofs.Kept.{renewed_in_order}
-
--- the server with other rows, each with a number that it gave
-with_other_rows : (s : Server) (rows : List Row) → IsReady s → AreGiven s.me s.given rows → AreRows rows → IsReady (record s { rows = rows })
-with_other_rows s rows r n t = record {
-  server = record { few = r.server.few; skew = r.server.skew; term = r.server.term; last = r.server.last; given = r.server.given; reaps = r.server.reaps; numbers = n };
-  table = t;
-}
+use Rattle.fs_server.proofs.Kept.{renewed_in_order, with_others}
 
 all_renewed : (until : ℕ) (numbers : List LeaseNo) (rows : List Row) → AreRows rows → AreRows (renewed_rows until numbers rows)
 all_renewed until [] rows t = t
@@ -31,7 +24,7 @@ renewed_given me given until [] rows h = h
 renewed_given me given until (n ∷ ns) rows h = renewed_given me given until ns (map (renewed_row n until) rows) (given_renewed me given n until rows h)
 
 pub renewed_ready : (until : ℕ) (numbers : List LeaseNo) (s : Server) → IsReady s → IsReady (changed (Renew until numbers) s)
-renewed_ready until numbers s r = with_other_rows s (renewed_rows until numbers s.rows) r (renewed_given s.me s.given until numbers s.rows r.server.numbers) (all_renewed until numbers s.rows r.table)
+renewed_ready until numbers s r = with_others s (renewed_rows until numbers s.rows) s.records s.map r (renewed_given s.me s.given until numbers s.rows r.server.numbers) (all_renewed until numbers s.rows r.table)
 
 all_released : (numbers : List LeaseNo) (rows : List Row) → AreRows rows → AreRows (released_rows numbers rows)
 all_released [] rows t = t
@@ -42,4 +35,4 @@ released_given me given [] rows h = h
 released_given me given (n ∷ ns) rows h = released_given me given ns (filter (λ r. not (has_no n r)) rows) (given_filter me given (λ r. not (has_no n r)) rows h)
 
 pub released_ready : (numbers : List LeaseNo) (s : Server) → IsReady s → IsReady (changed (Free numbers) s)
-released_ready numbers s r = with_other_rows s (released_rows numbers s.rows) r (released_given s.me s.given numbers s.rows r.server.numbers) (all_released numbers s.rows r.table)
+released_ready numbers s r = with_others s (released_rows numbers s.rows) s.records s.map r (released_given s.me s.given numbers s.rows r.server.numbers) (all_released numbers s.rows r.table)

@@ -9,7 +9,7 @@ use Rattle.fs_field.specs.declared.effect.Effect.{Effect}
 use Rattle.fs_msg.specs.declared.entry.Entry.{Entry}
 use Rattle.fs_msg.specs.declared.item.Item.{Item}
 use Rattle.fs_msg.specs.Home.{home_of}
-use Rattle.fs_record.specs.Applied.{is_undoable}
+use Rattle.fs_record.specs.Applied.{is_undoable, records_after_all}
 use Rattle.fs_record.specs.Effects.{effects_of}
 use Rattle.fs_record.specs.Records.{RecordMap}
 use Rattle.fs_record.proofs.AllApplied.{records_after_all-append}
@@ -23,6 +23,7 @@ use Rattle.fs_server.specs.Plan.{CanChange, changed}
 use Rattle.fs_server.specs.Server.{is_mine}
 use Rattle.fs_server.specs.Ships.{first_gone, item_of, ship_from, with_entry}
 use Rattle.fs_server.proofs.OneByOne.{entry_taken}
+use Rattle.fs_server.proofs.Kept.{with_others}
 
 -- one entry more is admitted
 admit-append : (by : Session) (e : Entry) (effects : List Effect) (s : Server) → changed (Admit (effects ++ effects_of by e.op e.reply)) s ≡ with_entry by e (changed (Admit effects) s)
@@ -45,8 +46,5 @@ ship_more by entries i e effects admitted s h is mine none =
 pub admit_can : (d : Decided) (effects : List Effect) (s : Server) → list_all is_undoable effects ≡ true → IsReady s → d.change ≡ Admit effects → CanDecide d s
 admit_can d effects s h r e = record {
   change = subst (λ ch. CanChange ch s) (sym e) h;
-  ready = subst (λ ch. IsReady (changed ch s)) (sym e) (record {
-    server = record { few = r.server.few; skew = r.server.skew; term = r.server.term; last = r.server.last; given = r.server.given; reaps = r.server.reaps; numbers = r.server.numbers };
-    table = r.table;
-  });
+  ready = subst (λ ch. IsReady (changed ch s)) (sym e) (with_others s s.rows (records_after_all s.records effects) s.map r r.server.numbers r.table);
 }
