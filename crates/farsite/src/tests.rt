@@ -24,30 +24,49 @@ use served::{
 };
 use std::alloc::Global;
 use std::env::{Env, FillError};
-use std::fmt::Display;
+use std::fmt::{Debug, Display};
 use std::io;
+use std::process::Abort;
 use std::test::Fail;
 
 /// The room that the sinks of these tests have.
 const ROOM: usize = 100_000;
 
-/// How a call ends whose reads and writes fail at these calls, and what is written.
-fn called(
-    alloc: Global,
-    words: &[&str],
-    input: Vec<u8>,
-    reads: &[u64],
-    writes: &[u64],
-) -> Result<(Status, Vec<u8>), Fail> {
+fn same<T: PartialEq + Debug + Drop>(rt: &impl Abort, found: T, wanted: T) {
+    assert_eq!(rt; found, wanted);
+}
+
+fn words(alloc: Global, words: &[&str]) -> Result<Vec<String>, Fail> {
     let mut all = Vec::new(alloc);
     for word in words {
         all.push(String::from_str(alloc, word)?)?;
     }
-    let mut source = MemSource::new(input, Vec::from_slice(alloc, reads)?);
-    let mut sink = MemSink::new(alloc, ROOM, Vec::from_slice(alloc, writes)?)?;
+    Ok(all)
+}
+
+/// How a call ends with these words.
+fn ended(
+    alloc: Global,
+    words: &[String],
+    source: &mut MemSource,
+    sink: &mut MemSink,
+) -> Result<Status, Fail> {
     let mut clock = MemClock::new(Vec::new(alloc));
     let mut link = SureLink::new(alloc, Vec::new(alloc), 0)?;
-    let status = farsite(alloc, &all, &mut source, &mut sink, &mut clock, &mut link);
+    Ok(farsite(alloc, words, source, sink, &mut clock, &mut link))
+}
+
+/// How a call ends whose reads and writes fail at these calls, and what is written.
+fn called(
+    alloc: Global,
+    given: &[&str],
+    input: Vec<u8>,
+    reads: &[u64],
+    writes: &[u64],
+) -> Result<(Status, Vec<u8>), Fail> {
+    let mut source = MemSource::new(input, Vec::from_slice(alloc, reads)?);
+    let mut sink = MemSink::new(alloc, ROOM, Vec::from_slice(alloc, writes)?)?;
+    let status = ended(alloc, &words(alloc, given)?, &mut source, &mut sink)?;
     Ok((status, Vec::from_slice(alloc, sink.bytes())?))
 }
 
@@ -67,221 +86,331 @@ fn replayed(
     called(alloc, &["replay"], bytes, &[], &[])
 }
 
-#[test]
-fn reports_to_the_byte(rt: HostRuntime) -> Result<(), Fail> {
-    let alloc = rt.alloc();
-    for (input, report) in [
-        (FIRST, FIRST_REPORT),
-        (RENAMES, RENAMES_REPORT),
-        (OPENS, OPENS_REPORT),
-        (SAVE, SAVE_REPORT),
-    ] {
-        let (status, written) = replayed(alloc, input, b"", 0, b"")?;
-        assert_eq!(rt; status, Status::Done);
-        assert_eq!(rt; written.as_slice(), report);
-    }
-    let (status, written) = replayed(alloc, OTHERS, b"", 0, b"")?;
-    assert_eq!(rt; status, Status::Done);
-    assert!(rt; written.starts_with(OTHERS_OUTCOMES));
+/// The report of the schedule.
+fn reports(rt: &impl Abort, alloc: Global, input: &[u8], report: &[u8]) -> Result<(), Fail> {
+    let (status, written) = replayed(alloc, input, NONE, 0, NONE)?;
+    same(rt, status, Status::Done);
+    same(rt, written.as_slice(), report);
     Ok(())
 }
 
-/// Servers and clients: leases, logs, opens, recalls, repeats, clocks that differ, and moves.
+#[test]
+fn reports_to_the_byte(rt: HostRuntime) -> Result<(), Fail> {
+    reports(&rt, rt.alloc(), FIRST, FIRST_REPORT)?;
+    reports(&rt, rt.alloc(), RENAMES, RENAMES_REPORT)?;
+    reports(&rt, rt.alloc(), OPENS, OPENS_REPORT)?;
+    reports(&rt, rt.alloc(), SAVE, SAVE_REPORT)
+}
+
+#[test]
+fn outcomes_to_the_byte(rt: HostRuntime) -> Result<(), Fail> {
+    let (status, written) = replayed(rt.alloc(), OTHERS, NONE, 0, NONE)?;
+    same(&rt, status, Status::Done);
+    same(&rt, written.starts_with(OTHERS_OUTCOMES), true);
+    Ok(())
+}
+
+/// A server and its clients: leases, logs, opens, recalls and repeats.
 #[test]
 fn reports_of_a_server_to_the_byte(rt: HostRuntime) -> Result<(), Fail> {
     let alloc = rt.alloc();
-    for (input, report) in [
-        (FIRST_CREATE, FIRST_CREATE_REPORT),
-        (FIRST_CREATE_NOT_SENT, FIRST_CREATE_NOT_SENT_REPORT),
-        (FIRST_CREATE_TOLD_TWICE, FIRST_CREATE_TOLD_TWICE_REPORT),
-        (LEASE_USED_TO_ITS_END, LEASE_USED_TO_ITS_END_REPORT),
-        (RECALL_MEETS_PENDING, RECALL_MEETS_PENDING_REPORT),
-        (SHARING, SHARING_REPORT),
-        (SHIPPED_AT_100, SHIPPED_AT_100_REPORT),
-        (SHIPPED_AT_109, SHIPPED_AT_109_REPORT),
-        (SHIPPED_AT_110, SHIPPED_AT_110_REPORT),
-        (UNBORN_FILE_IS_LEASED, UNBORN_FILE_IS_LEASED_REPORT),
-        (WITHIN_SKEW, WITHIN_SKEW_REPORT),
-        (DELEGATION, DELEGATION_REPORT),
-        (REFUSED_MOVES, REFUSED_MOVES_REPORT),
-        (SENT_ON, SENT_ON_REPORT),
-    ] {
-        let (status, written) = replayed(alloc, input, b"", 0, b"")?;
-        assert_eq!(rt; status, Status::Done);
-        assert_eq!(rt; written.as_slice(), report);
-    }
+    reports(&rt, alloc, FIRST_CREATE, FIRST_CREATE_REPORT)?;
+    reports(
+        &rt,
+        alloc,
+        FIRST_CREATE_NOT_SENT,
+        FIRST_CREATE_NOT_SENT_REPORT,
+    )?;
+    reports(
+        &rt,
+        alloc,
+        FIRST_CREATE_TOLD_TWICE,
+        FIRST_CREATE_TOLD_TWICE_REPORT,
+    )?;
+    reports(
+        &rt,
+        alloc,
+        RECALL_MEETS_PENDING,
+        RECALL_MEETS_PENDING_REPORT,
+    )?;
+    reports(&rt, alloc, SHARING, SHARING_REPORT)?;
+    reports(
+        &rt,
+        alloc,
+        UNBORN_FILE_IS_LEASED,
+        UNBORN_FILE_IS_LEASED_REPORT,
+    )
+}
+
+/// Clocks that differ, and leases that end.
+#[test]
+fn reports_of_readings_to_the_byte(rt: HostRuntime) -> Result<(), Fail> {
+    let alloc = rt.alloc();
+    reports(
+        &rt,
+        alloc,
+        LEASE_USED_TO_ITS_END,
+        LEASE_USED_TO_ITS_END_REPORT,
+    )?;
+    reports(&rt, alloc, SHIPPED_AT_100, SHIPPED_AT_100_REPORT)?;
+    reports(&rt, alloc, SHIPPED_AT_109, SHIPPED_AT_109_REPORT)?;
+    reports(&rt, alloc, SHIPPED_AT_110, SHIPPED_AT_110_REPORT)?;
+    reports(&rt, alloc, WITHIN_SKEW, WITHIN_SKEW_REPORT)
+}
+
+#[test]
+fn reports_of_moves_to_the_byte(rt: HostRuntime) -> Result<(), Fail> {
+    reports(&rt, rt.alloc(), DELEGATION, DELEGATION_REPORT)?;
+    reports(&rt, rt.alloc(), REFUSED_MOVES, REFUSED_MOVES_REPORT)?;
+    reports(&rt, rt.alloc(), SENT_ON, SENT_ON_REPORT)
+}
+
+/// How a replay ends that writes nothing.
+fn refuses(
+    rt: &impl Abort,
+    alloc: Global,
+    head: &[u8],
+    copy: &[u8],
+    times: usize,
+    tail: &[u8],
+    wanted: Status,
+) -> Result<(), Fail> {
+    let (status, written) = replayed(alloc, head, copy, times, tail)?;
+    same(rt, status, wanted);
+    same(rt, written.len(), 0);
     Ok(())
 }
 
 /// A clock that reads more than the skew behind an earlier reading, and heads that no form has.
+const SKEWS_AND_HEADS: [(&[u8], &[u8], Status); 6] = [
+    (
+        b"farsite 1 servers 1 skew 10 term 100\n100 join c1\n",
+        b"89 join c2\n",
+        Status::Skewed {
+            line: 3,
+            earlier: 2,
+        },
+    ),
+    (
+        b"farsite 1 servers 0 skew 10 term 100\n",
+        NONE,
+        Status::BadLine { line: 1 },
+    ),
+    (
+        b"farsite 1 servers 16 skew 10 term 100\n",
+        NONE,
+        Status::Limit {
+            which: Which::Servers,
+            at: 1,
+        },
+    ),
+    (
+        b"farsite 1 servers 15 skew 10 term 100\n",
+        b"0 move s0 / s15\n",
+        Status::BadLine { line: 2 },
+    ),
+    (
+        b"farsite 1 servers 1 skew 10 term 0\n",
+        NONE,
+        Status::BadLine { line: 1 },
+    ),
+    (
+        b"farsite 1 servers 1 skew 10 term 100\n",
+        b"0 do c1 delete / \"a\"\n",
+        Status::BadLine { line: 2 },
+    ),
+];
+
 #[test]
 fn skews_and_heads(rt: HostRuntime) -> Result<(), Fail> {
-    let alloc = rt.alloc();
-    let skewed = Status::Skewed {
-        line: 3,
-        earlier: 2,
-    };
-    let line = |line: u64| Status::BadLine { line };
-    for (head, tail, want) in [
-        (
-            b"farsite 1 servers 1 skew 10 term 100\n100 join c1\n".as_slice(),
-            b"89 join c2\n".as_slice(),
-            skewed,
-        ),
-        (b"farsite 1 servers 0 skew 10 term 100\n", NONE, line(1)),
-        (
-            b"farsite 1 servers 16 skew 10 term 100\n",
-            NONE,
-            Status::Limit {
-                which: Which::Servers,
-                at: 1,
-            },
-        ),
-        (
-            b"farsite 1 servers 15 skew 10 term 100\n",
-            b"0 move s0 / s15\n",
-            line(2),
-        ),
-        (b"farsite 1 servers 1 skew 10 term 0\n", NONE, line(1)),
-        (
-            b"farsite 1 servers 1 skew 10 term 100\n",
-            b"0 do c1 delete / \"a\"\n",
-            line(2),
-        ),
-    ] {
-        let (status, written) = replayed(alloc, head, NONE, 0, tail)?;
-        assert_eq!(rt; status, want);
-        assert!(rt; written.is_empty());
+    for (head, tail, wanted) in SKEWS_AND_HEADS {
+        refuses(&rt, rt.alloc(), head, NONE, 0, tail, wanted)?;
     }
+    Ok(())
+}
+
+/// How many lines are written, and whether the report begins with them.
+fn begun(written: &[u8], report: &[u8]) -> (usize, bool) {
+    let lines = written.iter().filter(|b| **b == b'\n').count();
+    (lines, report.starts_with(written))
+}
+
+/// The write of this number fails: so many lines less one are written.
+fn is_cut_off(
+    rt: &impl Abort,
+    alloc: Global,
+    input: &[u8],
+    report: &[u8],
+    call: u64,
+) -> Result<(), Fail> {
+    let input = Vec::from_slice(alloc, input)?;
+    let (status, written) = called(alloc, &["replay"], input, &[], &[call])?;
+    same(rt, status, Status::WriteFault);
+    let (lines, begins) = begun(written.as_slice(), report);
+    same(rt, (lines as u64, begins), (call.saturating_sub(1), true));
+    Ok(())
+}
+
+/// The read of this number fails: nothing is written.
+fn is_unread(rt: &impl Abort, alloc: Global, input: &[u8], call: u64) -> Result<(), Fail> {
+    let input = Vec::from_slice(alloc, input)?;
+    let (status, written) = called(alloc, &["replay"], input, &[call], &[])?;
+    same(rt, status, Status::ReadFault);
+    same(rt, written.len(), 0);
     Ok(())
 }
 
 /// A report of a server whose third line cannot be written, and a schedule that cannot be read.
 #[test]
 fn a_server_whose_report_is_cut_off(rt: HostRuntime) -> Result<(), Fail> {
-    let alloc = rt.alloc();
-    let input = Vec::from_slice(alloc, FIRST_CREATE)?;
-    let (status, written) = called(alloc, &["replay"], input, &[], &[3])?;
-    assert_eq!(rt; status, Status::WriteFault);
-    assert!(rt; FIRST_CREATE_REPORT.starts_with(written.as_slice()));
-    assert_eq!(rt; written.iter().filter(|b| **b == b'\n').count(), 2);
-    let input = Vec::from_slice(alloc, FIRST_CREATE)?;
-    let (status, written) = called(alloc, &["replay"], input, &[1], &[])?;
-    assert_eq!(rt; status, Status::ReadFault);
-    assert!(rt; written.is_empty());
+    is_cut_off(&rt, rt.alloc(), FIRST_CREATE, FIRST_CREATE_REPORT, 3)?;
+    is_unread(&rt, rt.alloc(), FIRST_CREATE, 1)
+}
+
+/// A create in the directory so deep.
+fn add_create(bytes: &mut Vec<u8>, depth: usize) -> Result<(), Fail> {
+    bytes.extend_from_slice(b"0 do c1 create /")?;
+    for at in 0..depth {
+        bytes.extend_from_slice(if at == 0 { b"1" } else { b"/1" })?;
+    }
+    bytes.extend_from_slice(b" \"d\" dir\n")?;
     Ok(())
 }
 
 /// No directory is deeper than 32 names.
 #[test]
 fn the_deepest_directory(rt: HostRuntime) -> Result<(), Fail> {
-    let alloc = rt.alloc();
-    let mut bytes = Vec::from_slice(alloc, HEAD)?;
-    let mut id = Vec::new(alloc);
-    for _ in 0..33u32 {
-        bytes.extend_from_slice(b"0 do c1 create ")?;
-        bytes.extend_from_slice(if id.is_empty() { b"/" } else { &id })?;
-        bytes.extend_from_slice(b" \"d\" dir\n")?;
-        id.extend_from_slice(b"/1")?;
+    let mut bytes = Vec::from_slice(rt.alloc(), HEAD)?;
+    for depth in 0..33 {
+        add_create(&mut bytes, depth)?;
     }
-    let (status, written) = called(alloc, &["replay"], bytes, &[], &[])?;
-    assert_eq!(rt; status, Status::Done);
-    assert!(rt; written.ends_with(b"done events 34 journal 33 nodes 33\n"));
+    let (status, written) = replayed(rt.alloc(), &bytes, NONE, 0, NONE)?;
+    same(&rt, status, Status::Done);
+    same(
+        &rt,
+        written.ends_with(b"done events 34 journal 33 nodes 33\n"),
+        true,
+    );
     Ok(())
 }
 
 const NONE: &[u8] = b"";
 
+const CREATE: &[u8] = b"farsite 1 direct\n0 do c1 create / \"";
+
+/// A head, how many times `x` is behind it, a tail, and how the replay ends.
+const FAULTY: [(&[u8], usize, &[u8], Status); 8] = [
+    (NONE, 0, NONE, Status::BadLine { line: 1 }),
+    (NONE, 0, b"\n", Status::BadLine { line: 1 }),
+    (
+        HEAD,
+        0,
+        b"0 do c1 create / \"a:b\" dir\n",
+        Status::BadLine { line: 3 },
+    ),
+    (CREATE, 256, b"\" dir\n", Status::BadLine { line: 2 }),
+    (HEAD, 4_096, NONE, Status::BadLine { line: 3 }),
+    (
+        HEAD,
+        4_097,
+        NONE,
+        Status::Limit {
+            which: Which::Bytes,
+            at: 3,
+        },
+    ),
+    (
+        HEAD,
+        0,
+        b"0 join c1001\nx\n",
+        Status::Limit {
+            which: Which::Sessions,
+            at: 3,
+        },
+    ),
+    (HEAD, 0, b"x\n0 join c1001\n", Status::BadLine { line: 3 }),
+];
+
 #[test]
 fn faulty_lines(rt: HostRuntime) -> Result<(), Fail> {
-    let alloc = rt.alloc();
-    let line = |line: u64| Status::BadLine { line };
-    let limit = |which: Which| Status::Limit { which, at: 3 };
-    let create = b"farsite 1 direct\n0 do c1 create / \"".as_slice();
-    let end = b"\" dir\n".as_slice();
-    for (head, times, tail, want) in [
-        (NONE, 0, NONE, line(1)),
-        (NONE, 0, b"\n".as_slice(), line(1)),
-        (
-            HEAD,
-            0,
-            b"0 do c1 create / \"a:b\" dir\n".as_slice(),
-            line(3),
-        ),
-        (create, 255, end, Status::Done),
-        (create, 256, end, line(2)),
-        (HEAD, 4_096, NONE, line(3)),
-        (HEAD, 4_097, NONE, limit(Which::Bytes)),
-        (
-            HEAD,
-            0,
-            b"0 join c1001\nx\n".as_slice(),
-            limit(Which::Sessions),
-        ),
-        (HEAD, 0, b"x\n0 join c1001\n".as_slice(), line(3)),
-    ] {
-        let (status, written) = replayed(alloc, head, b"x", times, tail)?;
-        assert_eq!(rt; status, want);
-        assert_eq!(rt; written.is_empty(), want != Status::Done);
+    for (head, times, tail, wanted) in FAULTY {
+        refuses(&rt, rt.alloc(), head, b"x", times, tail, wanted)?;
     }
     Ok(())
 }
 
 #[test]
+fn the_longest_name(rt: HostRuntime) -> Result<(), Fail> {
+    let (status, written) = replayed(rt.alloc(), CREATE, b"x", 255, b"\" dir\n")?;
+    same(&rt, status, Status::Done);
+    same(&rt, written.is_empty(), false);
+    Ok(())
+}
+
+/// What is repeated behind a head, how many times, and how the replay ends.
+const TOO_MUCH: [(&[u8], usize, Status); 2] = [
+    (
+        b"0 join c1\n",
+        65_537,
+        Status::Limit {
+            which: Which::Events,
+            at: 65_538,
+        },
+    ),
+    (b"x", 16_777_200, Status::TooLong { limit: 16_777_216 }),
+];
+
+#[test]
 fn limits_of_the_input(rt: HostRuntime) -> Result<(), Fail> {
-    let alloc = rt.alloc();
-    let events = Status::Limit {
-        which: Which::Events,
-        at: 65_538,
-    };
-    let long = Status::TooLong { limit: 16_777_216 };
-    for (copy, times, want) in [
-        (b"0 join c1\n".as_slice(), 65_537, events),
-        (b"x".as_slice(), 16_777_200, long),
-    ] {
-        let (status, written) = replayed(alloc, b"farsite 1 direct\n", copy, times, b"")?;
-        assert_eq!(rt; status, want);
-        assert!(rt; written.is_empty());
+    for (copy, times, wanted) in TOO_MUCH {
+        refuses(
+            &rt,
+            rt.alloc(),
+            b"farsite 1 direct\n",
+            copy,
+            times,
+            NONE,
+            wanted,
+        )?;
     }
     Ok(())
+}
+
+/// A schedule that is read in four parts.
+fn long(alloc: Global) -> Result<Vec<u8>, Fail> {
+    let mut long = Vec::from_slice(alloc, HEAD)?;
+    for _ in 0..1_000 {
+        long.extend_from_slice(b"0 join c1\n")?;
+    }
+    Ok(long)
 }
 
 /// Each read fails in turn, and each write.
 #[test]
 fn sources_and_sinks_that_fail(rt: HostRuntime) -> Result<(), Fail> {
-    let alloc = rt.alloc();
-    let mut long = Vec::from_slice(alloc, HEAD)?;
-    for _ in 0..1_000u32 {
-        long.extend_from_slice(b"0 join c1\n")?;
-    }
+    let long = long(rt.alloc())?;
     for call in 1..=4u64 {
-        let input = Vec::from_slice(alloc, &long)?;
-        let (status, written) = called(alloc, &["replay"], input, &[call], &[])?;
-        assert_eq!(rt; status, Status::ReadFault);
-        assert!(rt; written.is_empty());
+        is_unread(&rt, rt.alloc(), &long, call)?;
     }
     for call in 1..=10u64 {
-        let input = Vec::from_slice(alloc, FIRST)?;
-        let (status, written) = called(alloc, &["replay"], input, &[], &[call])?;
-        assert_eq!(rt; status, Status::WriteFault);
-        assert!(rt; FIRST_REPORT.starts_with(written.as_slice()));
-        let lines = written.iter().filter(|b| **b == b'\n').count();
-        assert_eq!(rt; lines as u64 + 1, call);
+        is_cut_off(&rt, rt.alloc(), FIRST, FIRST_REPORT, call)?;
     }
+    Ok(())
+}
+
+/// Which word is of no form: nothing is written then.
+fn is_no_form(rt: &impl Abort, alloc: Global, given: &[&str], word: u64) -> Result<(), Fail> {
+    let input = Vec::from_slice(alloc, FIRST)?;
+    let (status, written) = called(alloc, given, input, &[], &[])?;
+    same(rt, status, Status::Usage { word });
+    same(rt, written.len(), 0);
     Ok(())
 }
 
 #[test]
 fn words_that_are_no_form(rt: HostRuntime) -> Result<(), Fail> {
-    let alloc = rt.alloc();
-    let input = Vec::from_slice(alloc, FIRST)?;
-    let (status, _) = called(alloc, &[], input, &[], &[])?;
-    assert_eq!(rt; status, Status::Usage { word: 1 });
-    let input = Vec::from_slice(alloc, FIRST)?;
-    let (status, written) = called(alloc, &["replay", "x"], input, &[], &[])?;
-    assert_eq!(rt; status, Status::Usage { word: 2 });
-    assert!(rt; written.is_empty());
-    Ok(())
+    is_no_form(&rt, rt.alloc(), &[], 1)?;
+    is_no_form(&rt, rt.alloc(), &["replay", "x"], 2)
 }
 
 /// Standard output is full, and the words are long ones, the second of which is not text.
@@ -322,12 +451,30 @@ impl Env for Poor {
     }
 }
 
+/// Whether the word is all `a`.
+fn is_plain(word: &str) -> bool {
+    word.as_bytes().iter().all(|b| *b == b'a')
+}
+
+/// The lengths of two words, and whether they are all `a`.
+fn told(words: &[String]) -> Result<[(bool, bool); 2], Fail> {
+    match words {
+        [first, second] => Ok([
+            (is_plain(first.as_str()), first.is_empty()),
+            (is_plain(second.as_str()), second.is_empty()),
+        ]),
+        _ => Err(Fail::from("there are not two words")),
+    }
+}
+
 #[test]
-fn words_that_are_not_text_and_a_full_output(rt: HostRuntime) -> Result<(), Fail> {
+fn words_that_are_not_text(rt: HostRuntime) -> Result<(), Fail> {
     let words = words_of(rt.alloc(), &Poor)?;
-    assert_eq!(rt; words.len(), 2);
-    assert!(rt; words[0].as_bytes().iter().all(|b| *b == b'a'));
-    assert!(rt; words[1].len() > 0);
-    assert_eq!(rt; printed(&Poor, "text"), Status::WriteFault);
+    same(&rt, told(&words)?, [(true, false), (false, false)]);
     Ok(())
+}
+
+#[test]
+fn a_full_output(rt: HostRuntime) {
+    same(&rt, printed(&Poor, "text"), Status::WriteFault);
 }

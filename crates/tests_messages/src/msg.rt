@@ -3,6 +3,7 @@ mod faults;
 mod messages;
 mod parcels;
 
+use crate::shows;
 use fs_ident::{FileId, Peer, Session, Twin};
 use fs_model::{Op, Reply};
 use fs_msg::{Item, MsgError, Note, read_whole};
@@ -14,25 +15,24 @@ pub(crate) fn fault_of(alloc: Global, bytes: &[u8]) -> Option<MsgError> {
     read_whole(alloc, bytes).err()
 }
 
-#[test]
-fn an_item_is_copied(rt: HostRuntime) -> Result<(), Fail> {
-    let item = Item {
+fn item(alloc: Global) -> Item {
+    Item {
         by: Peer::Client(Session(1)),
         n: 2,
         op: Op::Kind {
-            file: FileId::root(rt.alloc()),
+            file: FileId::root(alloc),
         },
         reply: Reply::IsDir,
-    };
-    let Item { by, n, op, reply } = item.copy(rt.alloc())?;
-    assert_eq!(rt; by, Peer::Client(Session(1)));
-    assert_eq!(rt; n, 2);
-    let Op::Kind { file } = op else {
-        return Err(Fail::from("it is another"));
-    };
-    assert_eq!(rt; file, FileId::root(rt.alloc()));
-    assert!(rt; matches!(reply, Reply::IsDir));
-    Ok(())
+    }
+}
+
+const ITEM: &str =
+    "Item { by: Client(Session(1)), n: 2, op: Kind { file: FileId { numbers: [] } }, \
+    reply: IsDir }";
+
+#[test]
+fn an_item_is_copied(rt: HostRuntime) -> Result<(), Fail> {
+    shows(&rt, rt.alloc(), &item(rt.alloc()).copy(rt.alloc())?, ITEM)
 }
 
 #[test]
@@ -41,15 +41,10 @@ fn a_note_is_copied(rt: HostRuntime) -> Result<(), Fail> {
         n: 2,
         reply: Reply::IsDir,
     };
-    let twin = note.copy(rt.alloc())?;
-    assert!(rt;
-        matches!(
-            twin,
-            Note::Answered {
-                n: 2,
-                reply: Reply::IsDir
-            }
-        )
-    );
-    Ok(())
+    shows(
+        &rt,
+        rt.alloc(),
+        &note.copy(rt.alloc())?,
+        "Answered { n: 2, reply: IsDir }",
+    )
 }

@@ -1,7 +1,9 @@
 //! Schedules that are read, and texts that are refused.
+use crate::{same, shows};
 use fs_ident::Twin;
 use fs_schedule::{ScheduleError, read_schedule};
 use std::alloc::Global;
+use std::process::Abort;
 use std::test::Fail;
 
 /// A schedule of the direct form with an event of each kind.
@@ -76,22 +78,19 @@ const FIFTEEN: &str = "farsite 1 servers 15 skew 10 term 100
 const FIFTEEN_SHOWN: &str =
     "Schedule { head: Servers { servers: 15, skew: 10, term: 100 }, events: List { items: [Event { reading: 0, what: Turn(Server(14)) }, Event { reading: 0, what: Move { at: 14, prefix: FileId { numbers: [] }, to: 10 } }] } }";
 
+/// The text is read as this, and a copy is the same.
+fn is_read(rt: &impl Abort, alloc: Global, text: &str, wanted: &str) -> Result<(), Fail> {
+    let schedule = read_schedule(alloc, text.as_bytes())?;
+    shows(rt, alloc, &schedule, wanted)?;
+    shows(rt, alloc, &schedule.copy(alloc)?, wanted)
+}
+
 #[test]
 fn every_event_is_read_and_copied(rt: HostRuntime) -> Result<(), Fail> {
-    for (text, wanted) in [
-        (DIRECT, DIRECT_SHOWN),
-        (SERVED, SERVED_SHOWN),
-        (TWO, TWO_SHOWN),
-        (FIFTEEN, FIFTEEN_SHOWN),
-    ] {
-        let schedule = read_schedule(rt.alloc(), text.as_bytes())?;
-        let twin = schedule.copy(rt.alloc())?;
-        let shown = format!(in rt.alloc(); "{schedule:?}")?;
-        assert_eq!(rt; shown.as_str(), wanted);
-        let shown = format!(in rt.alloc(); "{twin:?}")?;
-        assert_eq!(rt; shown.as_str(), wanted);
-    }
-    Ok(())
+    is_read(&rt, rt.alloc(), DIRECT, DIRECT_SHOWN)?;
+    is_read(&rt, rt.alloc(), SERVED, SERVED_SHOWN)?;
+    is_read(&rt, rt.alloc(), TWO, TWO_SHOWN)?;
+    is_read(&rt, rt.alloc(), FIFTEEN, FIFTEEN_SHOWN)
 }
 
 /// Texts that are no schedules, each behind the limit that it passes, or nothing, and its faulty line.
@@ -213,66 +212,84 @@ const SERVED_REFUSED: [(&str, &str); 38] = [
 
 /// What comes of a text: `read`, a line, the limit that it passes and its line, or what else is wrong.
 fn told_of(alloc: Global, text: &[u8]) -> Result<String, Fail> {
-    let told = match read_schedule(alloc, text) {
-        Ok(_) => format!(in alloc; "read")?,
-        Err(ScheduleError::BadLine { line }) => format!(in alloc; "{line}")?,
-        Err(ScheduleError::Limit { which, at }) => format!(in alloc; "{which} {at}")?,
-        Err(other) => format!(in alloc; "{other}")?,
-    };
-    Ok(told)
+    match read_schedule(alloc, text) {
+        Ok(_) => Ok(format!(in alloc; "read")?),
+        Err(ScheduleError::BadLine { line }) => Ok(format!(in alloc; "{line}")?),
+        Err(ScheduleError::Limit { which, at }) => Ok(format!(in alloc; "{which} {at}")?),
+        Err(other) => Ok(format!(in alloc; "{other}")?),
+    }
+}
+
+/// This comes of the text.
+fn is_told(rt: &impl Abort, alloc: Global, text: &str, wanted: &str) -> Result<(), Fail> {
+    let told = told_of(alloc, text.as_bytes())?;
+    same(rt, (text, told.as_str()), (text, wanted));
+    Ok(())
+}
+
+/// This comes of the lines of the servers form.
+fn is_told_served(rt: &impl Abort, alloc: Global, lines: &str, wanted: &str) -> Result<(), Fail> {
+    let text = format!(in alloc; "farsite 1 servers 1 skew 10 term 100\n{lines}")?;
+    is_told(rt, alloc, text.as_str(), wanted)
 }
 
 #[test]
 fn the_first_fault_is_told(rt: HostRuntime) -> Result<(), Fail> {
     for (wanted, text) in REFUSED {
-        let told = told_of(rt.alloc(), text.as_bytes())?;
-        assert_eq!(rt; told.as_str(), wanted, "at {text}");
+        is_told(&rt, rt.alloc(), text, wanted)?;
     }
     for (wanted, lines) in SERVED_REFUSED {
-        let text = format!(in rt.alloc(); "farsite 1 servers 1 skew 10 term 100\n{lines}")?;
-        let told = told_of(rt.alloc(), text.as_bytes())?;
-        assert_eq!(rt; told.as_str(), wanted, "at {lines}");
+        is_told_served(&rt, rt.alloc(), lines, wanted)?;
     }
     Ok(())
 }
 
-/// The one line of a schedule that has so many bytes is refused for this.
-fn refusal(alloc: Global, length: usize) -> Result<Option<ScheduleError>, Fail> {
-    let mut text = Vec::new(alloc);
-    text.extend_from_slice(b"farsite 1 direct\n")?;
-    for _ in 0..length {
-        text.push(b'x')?;
+/// A schedule of the direct form with so many times this behind its head.
+fn repeated(alloc: Global, piece: &[u8], times: usize) -> Result<Vec<u8>, Fail> {
+    let mut text = Vec::from_slice(alloc, b"farsite 1 direct\n")?;
+    for _ in 0..times {
+        text.extend_from_slice(piece)?;
     }
-    Ok(read_schedule(alloc, &text).err())
+    Ok(text)
+}
+
+/// Why the schedule whose one line has so many bytes is refused.
+fn is_refused(rt: &impl Abort, alloc: Global, length: usize, wanted: &str) -> Result<(), Fail> {
+    let text = repeated(alloc, b"x", length)?;
+    match read_schedule(alloc, &text) {
+        Ok(_) => Err(Fail::from("it is read")),
+        Err(why) => is_written(rt, alloc, why, wanted),
+    }
+}
+
+fn is_written(
+    rt: &impl Abort,
+    alloc: Global,
+    why: ScheduleError,
+    wanted: &str,
+) -> Result<(), Fail> {
+    let told = format!(in alloc; "{why}")?;
+    same(rt, told.as_str(), wanted);
+    Ok(())
 }
 
 #[test]
 fn lines_have_a_length(rt: HostRuntime) -> Result<(), Fail> {
-    for (length, wanted) in [
-        (4_096, "line 2 is not in the grammar"),
-        (4_097, "line 2 passes the limit of bytes"),
-    ] {
-        let refused = refusal(rt.alloc(), length)?;
-        assert!(rt; refused.is_some());
-        if let Some(refused) = refused {
-            let told = format!(in rt.alloc(); "{refused}")?;
-            assert_eq!(rt; told.as_str(), wanted);
-        }
+    is_refused(&rt, rt.alloc(), 4_096, "line 2 is not in the grammar")?;
+    is_refused(&rt, rt.alloc(), 4_097, "line 2 passes the limit of bytes")
+}
+
+/// How many events so many lines are; none where they are refused.
+fn events(alloc: Global, lines: usize) -> Result<usize, Fail> {
+    match read_schedule(alloc, &repeated(alloc, b"0 join c1\n", lines)?) {
+        Ok(schedule) => Ok(schedule.events.len()),
+        Err(_) => Ok(0),
     }
-    Ok(())
 }
 
 #[test]
 fn schedules_have_a_length(rt: HostRuntime) -> Result<(), Fail> {
-    let mut text = Vec::new(rt.alloc());
-    text.extend_from_slice(b"farsite 1 direct\n")?;
-    for _ in 0..65_536 {
-        text.extend_from_slice(b"0 join c1\n")?;
-    }
-    let events = read_schedule(rt.alloc(), &text)?.events.len();
-    assert_eq!(rt; events, 65_536);
-    text.extend_from_slice(b"0 join c1")?;
-    let refused = read_schedule(rt.alloc(), &text).is_err();
-    assert!(rt; refused);
+    same(&rt, events(rt.alloc(), 65_536)?, 65_536);
+    same(&rt, events(rt.alloc(), 65_537)?, 0);
     Ok(())
 }

@@ -3,9 +3,11 @@
 //! The tables come from a second reader of the table of bytes, which goes byte by byte and stands apart from this crate.
 //! A line has a place, the first of the bytes that come to the same when they stand there, and what they come to.
 use crate::msg::fault_of;
+use crate::same;
 use fs_msg::MsgError;
 use std::alloc::Global;
-use std::test::*;
+use std::process::Abort;
+use std::test::Fail;
 
 /// Whether each cut is too short.
 fn is_short_where_cut(alloc: Global, bytes: &[u8]) -> bool {
@@ -43,10 +45,17 @@ fn add_place(alloc: Global, bytes: &[u8], place: usize, text: &mut String) -> Re
     Ok(())
 }
 
-#[test]
-fn faults_of_an_ask(rt: HostRuntime) -> Result<(), Fail> {
-    let bytes = [1, 0, 0, 0, 0, 0, 0, 0, 1, 0, 0, 0, 0];
-    let wanted = "0 0 Some(Tag { at: 0 })\n\
+/// Each cut is too short, and each change of one byte comes to this.
+fn has_faults(rt: &impl Abort, alloc: Global, bytes: &[u8], wanted: &str) -> Result<(), Fail> {
+    same(rt, is_short_where_cut(alloc, bytes), true);
+    let faults = faults_of(alloc, bytes)?;
+    same(rt, faults.as_str(), wanted);
+    Ok(())
+}
+
+const ASK: [u8; 13] = [1, 0, 0, 0, 0, 0, 0, 0, 1, 0, 0, 0, 0];
+
+const ASK_FAULTS: &str = "0 0 Some(Tag { at: 0 })\n\
 0 1 None\n\
 0 2 Some(Short)\n\
 0 5 Some(Tag { at: 0 })\n\
@@ -88,17 +97,17 @@ fn faults_of_an_ask(rt: HostRuntime) -> Result<(), Fail> {
 12 1 Some(Short)\n\
 12 2 Some(Range { at: 12 })\n\
         ";
-    assert!(rt; is_short_where_cut(rt.alloc(), &bytes));
-    assert_eq!(rt; faults_of(rt.alloc(), &bytes)?.as_str(), wanted);
-    Ok(())
-}
 
 #[test]
-fn faults_of_a_renewal(rt: HostRuntime) -> Result<(), Fail> {
-    let bytes = [
-        2, 0, 0, 0, 0, 0, 0, 0, 1, 1, 0, 0, 0, 1, 3, 0, 0, 0, 0, 0, 0, 0, 5,
-    ];
-    let wanted = "0 0 Some(Tag { at: 0 })\n\
+fn faults_of_an_ask(rt: HostRuntime) -> Result<(), Fail> {
+    has_faults(&rt, rt.alloc(), &ASK, ASK_FAULTS)
+}
+
+const RENEWAL: [u8; 23] = [
+    2, 0, 0, 0, 0, 0, 0, 0, 1, 1, 0, 0, 0, 1, 3, 0, 0, 0, 0, 0, 0, 0, 5,
+];
+
+const RENEWAL_FAULTS: &str = "0 0 Some(Tag { at: 0 })\n\
 0 1 Some(Range { at: 11 })\n\
 0 2 None\n\
 0 4 Some(Range { at: 19 })\n\
@@ -148,18 +157,18 @@ fn faults_of_a_renewal(rt: HostRuntime) -> Result<(), Fail> {
 21 0 None\n\
 22 0 None\n\
         ";
-    assert!(rt; is_short_where_cut(rt.alloc(), &bytes));
-    assert_eq!(rt; faults_of(rt.alloc(), &bytes)?.as_str(), wanted);
-    Ok(())
-}
 
 #[test]
-fn faults_of_a_grant(rt: HostRuntime) -> Result<(), Fail> {
-    let bytes = [
-        17, 0, 0, 0, 0, 0, 0, 0, 1, 2, 0, 0, 0, 0, 0, 0, 0, 3, 1, 0, 3, 46, 46, 97, 1, 0, 0, 0, 0,
-        0, 0, 0, 9, 1, 1, 1, 0, 0, 1, 2, 0, 0,
-    ];
-    let wanted = "0 0 Some(Tag { at: 0 })\n\
+fn faults_of_a_renewal(rt: HostRuntime) -> Result<(), Fail> {
+    has_faults(&rt, rt.alloc(), &RENEWAL, RENEWAL_FAULTS)
+}
+
+const GRANT: [u8; 42] = [
+    17, 0, 0, 0, 0, 0, 0, 0, 1, 2, 0, 0, 0, 0, 0, 0, 0, 3, 1, 0, 3, 46, 46, 97, 1, 0, 0, 0, 0, 0,
+    0, 0, 9, 1, 1, 1, 0, 0, 1, 2, 0, 0,
+];
+
+const GRANT_FAULTS: &str = "0 0 Some(Tag { at: 0 })\n\
 0 1 Some(Trailing { at: 13 })\n\
 0 2 Some(Range { at: 13 })\n\
 0 4 Some(Tag { at: 23 })\n\
@@ -304,15 +313,15 @@ fn faults_of_a_grant(rt: HostRuntime) -> Result<(), Fail> {
 41 1 Some(Short)\n\
 41 6 Some(Tag { at: 41 })\n\
         ";
-    assert!(rt; is_short_where_cut(rt.alloc(), &bytes));
-    assert_eq!(rt; faults_of(rt.alloc(), &bytes)?.as_str(), wanted);
-    Ok(())
-}
 
 #[test]
-fn faults_of_an_end(rt: HostRuntime) -> Result<(), Fail> {
-    let bytes = [20, 0, 0, 0, 0, 0, 0, 0, 1, 2, 1, 0, 0, 0, 0, 0, 0, 0, 2];
-    let wanted = "0 0 Some(Tag { at: 0 })\n\
+fn faults_of_a_grant(rt: HostRuntime) -> Result<(), Fail> {
+    has_faults(&rt, rt.alloc(), &GRANT, GRANT_FAULTS)
+}
+
+const END: [u8; 19] = [20, 0, 0, 0, 0, 0, 0, 0, 1, 2, 1, 0, 0, 0, 0, 0, 0, 0, 2];
+
+const END_FAULTS: &str = "0 0 Some(Tag { at: 0 })\n\
 0 1 Some(Range { at: 14 })\n\
 0 2 Some(Range { at: 17 })\n\
 0 4 Some(Short)\n\
@@ -348,18 +357,17 @@ fn faults_of_an_end(rt: HostRuntime) -> Result<(), Fail> {
 17 0 None\n\
 18 0 None\n\
         ";
-    assert!(rt; is_short_where_cut(rt.alloc(), &bytes));
-    assert_eq!(rt; faults_of(rt.alloc(), &bytes)?.as_str(), wanted);
-    Ok(())
-}
 
 #[test]
-fn faults_of_a_shipped_reap(rt: HostRuntime) -> Result<(), Fail> {
-    let bytes = [
-        4, 0, 0, 0, 0, 0, 0, 0, 1, 0, 0, 0, 0, 0, 0, 0, 2, 10, 0, 3, 232, 25, 0, 0, 0, 0, 0, 0, 0,
-        0,
-    ];
-    let wanted = "0 0 Some(Tag { at: 0 })\n\
+fn faults_of_an_end(rt: HostRuntime) -> Result<(), Fail> {
+    has_faults(&rt, rt.alloc(), &END, END_FAULTS)
+}
+
+const SHIPPED_REAP: [u8; 30] = [
+    4, 0, 0, 0, 0, 0, 0, 0, 1, 0, 0, 0, 0, 0, 0, 0, 2, 10, 0, 3, 232, 25, 0, 0, 0, 0, 0, 0, 0, 0,
+];
+
+const SHIPPED_REAP_FAULTS: &str = "0 0 Some(Tag { at: 0 })\n\
 0 1 Some(Trailing { at: 13 })\n\
 0 2 Some(Trailing { at: 19 })\n\
 0 4 None\n\
@@ -436,7 +444,8 @@ fn faults_of_a_shipped_reap(rt: HostRuntime) -> Result<(), Fail> {
 29 0 None\n\
 29 1 Some(Short)\n\
         ";
-    assert!(rt; is_short_where_cut(rt.alloc(), &bytes));
-    assert_eq!(rt; faults_of(rt.alloc(), &bytes)?.as_str(), wanted);
-    Ok(())
+
+#[test]
+fn faults_of_a_shipped_reap(rt: HostRuntime) -> Result<(), Fail> {
+    has_faults(&rt, rt.alloc(), &SHIPPED_REAP, SHIPPED_REAP_FAULTS)
 }

@@ -1,9 +1,10 @@
 //! The bytes of parcels, worked out from the table of bytes, and the places of faults in a next number.
 use crate::msg::fault_of;
 use crate::msg::messages::is_spelled_again;
+use crate::same;
 use fs_msg::MsgError;
 use std::alloc::Global;
-use std::test::*;
+use std::test::Fail;
 
 /// The fault where a byte of a message is another, if there is one.
 fn changed_fault_of(
@@ -19,51 +20,63 @@ fn changed_fault_of(
     Ok(fault_of(alloc, &changed))
 }
 
+const NOTHING: [u8; 27] = [
+    37, 0, 0, 0, 0, 0, 0, 0, 0, 0, 0, 0, 0, 0, 0, 0, 0, 0, 0, 0, 0, 0, 0, 0, 0, 0, 0,
+];
+
 #[test]
 fn nothing_is_handed_over(rt: HostRuntime) -> Result<(), Fail> {
-    let bytes = [
-        37, 0, 0, 0, 0, 0, 0, 0, 0, 0, 0, 0, 0, 0, 0, 0, 0, 0, 0, 0, 0, 0, 0, 0, 0, 0, 0,
-    ];
-    assert!(rt; is_spelled_again(rt.alloc(), &bytes)?);
+    same(&rt, is_spelled_again(rt.alloc(), &NOTHING)?, true);
     Ok(())
 }
 
+const WHOLE: [u8; 143] = [
+    // The tag, the prefix, and all from it on.
+    37, 1, 0, 0, 0, 7, 1, 0, 0, 0, 7, 0, 0, 0, 0, 0, 0, 0, 1, 1, 0, 0, 0, 7, 1,
+    // One record: a file with a parent, a child, a size, a stamp and a handle.
+    0, 0, 0, 0, 0, 0, 0, 1, 1, 0, 0, 0, 7, 0, 1, 0, 1, 33, 0, 0, 0, 0, 0, 0, 0, 1, 1, 33, 1, 0, 0,
+    0, 9, 0, 0, 0, 0, 0, 0, 0, 9, 255, 255, 255, 255, 255, 255, 255, 255, 0, 0, 0, 0, 0, 0, 0, 1,
+    0, 1, 255, 255, 255, 255, 63,
+    // Its next number, from the 89th byte on.
+    0, 0, 0, 1, 0, 0, 0, 0,
+    // One row.
+    0, 0, 0, 0, 0, 0, 0, 1, 15, 0, 0, 0, 0, 0, 0, 0, 2, 0, 1, 0, 1, 0, 0, 0, 7, 1, 255, 255, 255,
+    255, 255, 255, 255, 255, 1, 1, 1, 15, 0, 0, 0, 0, 0, 0, 0, 3,
+];
+
 #[test]
 fn a_file_and_a_row_are_handed_over(rt: HostRuntime) -> Result<(), Fail> {
-    let alloc = rt.alloc();
-    let bytes = [
-        // The tag, the prefix, and all from it on.
-        37, 1, 0, 0, 0, 7, 1, 0, 0, 0, 7, 0, 0, 0, 0, 0, 0, 0, 1, 1, 0, 0, 0, 7, 1,
-        // One record: a file with a parent, a child, a size, a stamp and a handle.
-        0, 0, 0, 0, 0, 0, 0, 1, 1, 0, 0, 0, 7, 0, 1, 0, 1, 33, 0, 0, 0, 0, 0, 0, 0, 1, 1, 33, 1, 0,
-        0, 0, 9, 0, 0, 0, 0, 0, 0, 0, 9, 255, 255, 255, 255, 255, 255, 255, 255, 0, 0, 0, 0, 0, 0,
-        0, 1, 0, 1, 255, 255, 255, 255, 63,
-        // Its next number, from the 89th byte on.
-        0, 0, 0, 1, 0, 0, 0, 0,
-        // One row.
-        0, 0, 0, 0, 0, 0, 0, 1, 15, 0, 0, 0, 0, 0, 0, 0, 2, 0, 1, 0, 1, 0, 0, 0, 7, 1, 255, 255,
-        255, 255, 255, 255, 255, 255, 1, 1, 1, 15, 0, 0, 0, 0, 0, 0, 0, 3,
-    ];
-    assert!(rt; is_spelled_again(alloc, &bytes)?);
-    for place in 0..bytes.len() {
-        assert_eq!(rt; fault_of(alloc, &bytes[..place]), Some(MsgError::Short));
+    same(&rt, is_spelled_again(rt.alloc(), &WHOLE)?, true);
+    for place in 0..WHOLE.len() {
+        same(
+            &rt,
+            fault_of(rt.alloc(), &WHOLE[..place]),
+            Some(MsgError::Short),
+        );
     }
-    // The number goes wrong at the first byte after which it cannot be from 1 to 4294967296.
-    let table: [(usize, u8, usize); 10] = [
-        (89, 1, 89),
-        (90, 1, 90),
-        (91, 255, 91),
-        (92, 0, 96),
-        (92, 2, 92),
-        (92, 255, 92),
-        (93, 1, 93),
-        (94, 1, 94),
-        (95, 1, 95),
-        (96, 1, 96),
-    ];
-    for (place, byte, at) in &table {
-        let fault = changed_fault_of(alloc, &bytes, *place, *byte)?;
-        assert_eq!(rt; fault, Some(MsgError::Range { at: *at }));
+    Ok(())
+}
+
+/// A next number goes wrong at the first byte after which it cannot be from 1 to 4294967296: the place of a byte, what
+/// stands there, and where it goes wrong.
+const FAULTS: [(usize, u8, usize); 10] = [
+    (89, 1, 89),
+    (90, 1, 90),
+    (91, 255, 91),
+    (92, 0, 96),
+    (92, 2, 92),
+    (92, 255, 92),
+    (93, 1, 93),
+    (94, 1, 94),
+    (95, 1, 95),
+    (96, 1, 96),
+];
+
+#[test]
+fn a_next_number_is_in_its_range(rt: HostRuntime) -> Result<(), Fail> {
+    for (place, byte, at) in FAULTS {
+        let fault = changed_fault_of(rt.alloc(), &WHOLE, place, byte)?;
+        same(&rt, fault, Some(MsgError::Range { at }));
     }
     Ok(())
 }

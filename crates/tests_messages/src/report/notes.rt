@@ -1,4 +1,5 @@
 use crate::report::{id, line, name};
+use crate::same;
 use fs_field::{Field, LeaseKind, Need};
 use fs_ident::{LeaseNo, List, PathNo, Peer, Session, TxnNo};
 use fs_model::Reply;
@@ -7,6 +8,7 @@ use fs_msg::{Act, Busy, ClientNote, End, Note, Refusal, ServerNote};
 use fs_report::outcome_line;
 use fs_schedule::Outcome;
 use std::alloc::Global;
+use std::process::Abort;
 use std::test::Fail;
 
 /// The texts of notes, by their numbers.
@@ -243,23 +245,30 @@ fn note(alloc: Global, k: u64) -> Result<Note, Fail> {
     }
 }
 
+/// The note of this number, and nothing that is sent.
+fn outcome(alloc: Global, k: u64) -> Result<Outcome, Fail> {
+    let mut notes = List::new(alloc);
+    notes.push(note(alloc, k)?)?;
+    Ok(Outcome {
+        who: Some(Peer::Client(Session(1))),
+        notes,
+        sent: List::new(alloc),
+    })
+}
+
+/// The note of this number is so written.
+fn writes_note(rt: &impl Abort, alloc: Global, k: u64, text: &[u8]) -> Result<(), Fail> {
+    let mut out = Vec::new(alloc);
+    outcome_line(alloc, 1, &outcome(alloc, k)?, &mut out)?;
+    let wanted = line(alloc, b"e1 c1 ", text)?;
+    same(rt, out.as_slice(), wanted.as_slice());
+    Ok(())
+}
+
 #[test]
 fn writes_notes(rt: HostRuntime) -> Result<(), Fail> {
-    let alloc = rt.alloc();
-    let mut k = 0;
-    for text in NOTES {
-        let mut notes = List::new(alloc);
-        notes.push(note(alloc, k)?)?;
-        let outcome = Outcome {
-            who: Some(Peer::Client(Session(1))),
-            notes,
-            sent: List::new(alloc),
-        };
-        let mut out = Vec::new(alloc);
-        outcome_line(alloc, 1, &outcome, &mut out)?;
-        let wanted = line(alloc, b"e1 c1 ", text)?;
-        assert_eq!(rt; out.as_slice(), wanted.as_slice());
-        k = k.saturating_add(1);
+    for (k, text) in NOTES.iter().enumerate() {
+        writes_note(&rt, rt.alloc(), k as u64, *text)?;
     }
     Ok(())
 }
