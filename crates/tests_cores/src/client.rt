@@ -9,7 +9,7 @@ mod opens;
 mod said;
 
 use crate::same;
-use fs_client::ClientCore;
+use fs_client::{ClientCore, Plan};
 use fs_ident::{FileId, Kind, LATEST, Name, Session, Twin};
 use fs_model::Op;
 use fs_msg::{Act, Answer, ClientMsg, ClientNote};
@@ -29,11 +29,12 @@ pub(crate) enum Asking {
     Kind(&'static str),
 }
 
-/// What comes to a client: an operation of its user, a turn, or the answer of a server.
+/// What comes to a client: an operation of its user, a turn, also by a copy of its plan, or the answer of a server.
 #[derive(Clone, Copy)]
 pub(crate) enum Comes {
     Act(Asking),
     Turn,
+    PlannedTurn,
     Heard(u8, Says),
 }
 
@@ -159,6 +160,19 @@ fn turns(alloc: Global, core: &mut ClientCore, now: u64) -> Result<Short, Fail>
     ))
 }
 
+/// The turn in two calls, by a copy of its plan.
+fn plans_turn(alloc: Global, core: &mut ClientCore, now: u64) -> Result<Short, Fail>
+    requires { now ≤ LATEST }
+{
+    let Plan { ready, out } = core.plan_turn(alloc, now)?.copy(alloc)?;
+    core.commit(alloc, ready)?;
+    Ok((
+        note_word(&out.note),
+        note_number(&out.note),
+        sent_to(&out.send),
+    ))
+}
+
 fn hears(
     alloc: Global,
     core: &mut ClientCore,
@@ -183,6 +197,7 @@ fn noted(alloc: Global, core: &mut ClientCore, now: u64, comes: Comes) -> Result
     match comes {
         Comes::Act(asking) => acts(alloc, core, now, asking),
         Comes::Turn => turns(alloc, core, now),
+        Comes::PlannedTurn => plans_turn(alloc, core, now),
         Comes::Heard(from, says) => hears(alloc, core, now, from, &answer(alloc, says)?),
     }
 }
@@ -227,7 +242,7 @@ const CREATES: [Line; 5] = [
         ("granted", 3, None),
     ),
     (2, Comes::Act(Asking::Create), ("replied", 1, None)),
-    (3, Comes::Turn, ("ships", 1, Some(0))),
+    (3, Comes::PlannedTurn, ("ships", 1, Some(0))),
     (3, Comes::Turn, ("idle", 0, None)),
 ];
 

@@ -90,7 +90,7 @@ fn noted(alloc: Global, core: &mut ServerCore, now: u64, ev: &ServerEvent) -> Re
     Ok(format!(in alloc; "{:?}", out.note)?)
 }
 
-/// The same of a copy of the event, in two calls.
+/// The same of copies of the event and of its plan, in two calls.
 fn noted_in_two(
     alloc: Global,
     core: &mut ServerCore,
@@ -101,7 +101,7 @@ fn noted_in_two(
     if now > LATEST || !can_be_told(&ev) {
         return Err(Fail::from("no event"));
     }
-    let plan = core.plan(alloc, now, &ev)?;
+    let plan = core.plan(alloc, now, &ev)?.copy(alloc)?;
     let text = format!(in alloc; "{:?}", plan.out.note)?;
     core.commit(alloc, plan)?;
     Ok(text)

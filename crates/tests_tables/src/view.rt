@@ -258,7 +258,7 @@ fn gives_back(rt: &impl Abort, alloc: Global, view: &mut View) -> Result<(), Fai
     view.recall(FIRST);
     view.renew(FIRST, 200);
     view.lapse(199);
-    same(rt, view.leases(alloc)?.len(), 1);
+    same(rt, view.leases(alloc)?.copy(alloc)?.len(), 1);
     view.leave(FIRST);
     same(rt, view.is_leaving(FIRST), true);
     view.lapse(200);
@@ -345,12 +345,12 @@ fn root_life(alloc: Global) -> Result<List<NewLease>, Fail>
 
 const NAMES_ARE_MISSING: &str = "List { items: [Lease(Names(FileId { numbers: [] }), Shared)] }";
 
-/// One walk tells what is missing, and what is used.
+/// One walk, of which this is a copy, tells what is missing, and what is used.
 fn walks(rt: &impl Abort, alloc: Global, view: &View) -> Result<(), Fail> {
     let op = Op::List {
         dir: FileId::root(alloc),
     };
-    let walk = view.walk(alloc, 99, &op)?;
+    let walk = view.walk(alloc, 99, &op)?.copy(alloc)?;
     same(rt, walk.reply.is_none(), true);
     same(rt, view.uses_of(alloc, 99, &walk.items)?.len(), 1);
     shows(

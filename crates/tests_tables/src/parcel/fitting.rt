@@ -5,8 +5,8 @@ ghost use Rattle.fs_parcel.specs.Rows.{AreRows, both};
 use crate::parcel::shown::is_written;
 use crate::parcel::{On, Sent, Server, are_records, begun, come, id, parcel};
 use crate::same;
-use fs_ident::{FileId, List};
-use fs_parcel::{fits_at, install_at};
+use fs_ident::{FileId, List, Twin};
+use fs_parcel::{Parts, fits_at, install_at};
 use fs_record::Parcel;
 use std::alloc::Global;
 use std::process::Abort;
@@ -205,4 +205,16 @@ fn comes_at(rt: &impl Abort, alloc: Global, now: u64, fit: bool, wanted: &str) -
 fn rows_that_are_over_do_not_conflict(rt: HostRuntime) -> Result<(), Fail> {
     comes_at(&rt, rt.alloc(), 109, false, HERE)?;
     comes_at(&rt, rt.alloc(), 110, true, CAME)
+}
+
+/// How many of the rows are of each table, as a copy has it.
+fn by_table(alloc: Global, sent: Sent) -> Result<(usize, usize), Fail> {
+    let parts = Parts::of(alloc, parcel(alloc, sent)?.rows)?.copy(alloc)?;
+    Ok((parts.off.len(), parts.on.len()))
+}
+
+#[test]
+fn rows_go_to_their_tables(rt: HostRuntime) -> Result<(), Fail> {
+    same(&rt, by_table(rt.alloc(), OLD)?, (1, 1));
+    Ok(())
 }
