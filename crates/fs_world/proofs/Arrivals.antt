@@ -1,6 +1,6 @@
 -- A packet that is told: every packet stays.
 use Rattle.std.proofs.Common.{◌≡◌, ℕ, ◌≤◌, List, [], ◌∷◌, length, refl, sym, subst, arith, length-append}
-use Rattle.std.specs.Prelude.{Option, Some, None, Result, Ok, Err, OnOk, false, slice_get}
+use Rattle.std.specs.Prelude.{Option, Some, None, Result, Ok, Err, IfOk, OnOk, false, slice_get}
 use Rattle.std.specs.FinMap.{get}
 use Rattle.std.specs.List.{find}
 use Rattle.fs_ident.specs.declared.actor.Peer.{Peer}
@@ -19,6 +19,7 @@ use Rattle.fs_window.specs.declared.heard.Heard.{Heard}
 use Rattle.fs_window.specs.declared.packet.Packet.{Packet}
 use Rattle.fs_window.specs.declared.sent.Sent.{Sent}
 use Rattle.fs_world.specs.Packets.{Packets, with_sent}
+use Rattle.fs_world.specs.Calls.{world_left}
 use Rattle.fs_world.specs.Served.{ServerStepped, Stepped, arrives, at_server, client_hears, comes, core_step, first_from, heard_in, server_hears, server_told_at, told_at, without_message}
 use Rattle.fs_world.specs.declared.seat.Seat.{Seat}
 use Rattle.fs_world.specs.declared.served.Served.{Served}
@@ -65,6 +66,6 @@ pub arrives_stays : (now : ℕ) (from to : Peer) (o : Option Packet) (w : Served
 arrives_stays now from to None w = omega arith
 arrives_stays now from to (Some p) w = comes_stays now from to p w
 
-pub all_stay : (r : Result Outcome CoreError) (w new : Served) (x : Stepped) → length w.packets.sent ≤ length x.world.packets.sent → OnOk r (new ≡ x.world) → OnOk r (length w.packets.sent ≤ length new.packets.sent)
-all_stay (Ok o) w new x stays is = subst (λ (v : Served). length w.packets.sent ≤ length v.packets.sent) (sym is) stays
+pub all_stay : (r : Result Outcome CoreError) (w new : Served) (x : Stepped) → length w.packets.sent ≤ length x.world.packets.sent → IfOk r (λ told. world_left told new ≡ x) → OnOk r (length w.packets.sent ≤ length new.packets.sent)
+all_stay (Ok o) w new x stays is = subst (λ (v : Stepped). length w.packets.sent ≤ length v.world.packets.sent) (sym is) stays
 all_stay (Err e) w new x stays is = tt

@@ -1,6 +1,6 @@
 -- What happened at a seat, in the world.
 use Rattle.std.proofs.Common.{◌≡◌, ◌≤◌, ℕ, Bool, true, false, List, refl, ap, sym, ◌∙◌, subst}
-use Rattle.std.specs.Prelude.{Option, Some, None, Result, Ok, Err, OnOk, is_some}
+use Rattle.std.specs.Prelude.{Option, Some, None, Result, Ok, Err, IfOk, OnOk, OnErr, is_some}
 use Rattle.std.specs.FinMap.{get, insert}
 use Rattle.fs_ident.specs.declared.actor.Peer.TheVariants.{Client, Server}
 use Rattle.fs_ident.specs.declared.actor.Session.{Session}
@@ -11,17 +11,14 @@ use Rattle.fs_msg.specs.declared.core_error.CoreError.{CoreError}
 use Rattle.fs_msg.specs.declared.core_error.Counter.{Counter}
 use Rattle.fs_msg.specs.declared.item.Item.{Item}
 use Rattle.fs_schedule.specs.declared.outcome.Outcome.{Outcome}
+use Rattle.fs_world.specs.Calls.{seat_found, seat_left, world_left}
 use Rattle.fs_world.specs.Linked.{IsLinked}
 use Rattle.fs_world.specs.Packets.{Packets}
 use Rattle.fs_world.specs.Served.{SeatStepped, Seats, Stepped, first_seat, first_spent, join_at, told_at, with_seat}
 use Rattle.fs_world.specs.declared.seat.Seat.{Seat}
 use Rattle.fs_world.specs.declared.served.Served.{Served}
 use Rattle.fs_world.proofs.Linked.{join_linked, told_seat_linked}
-
--- it has joined
-pub seat_there : (o : Option Seat) → true ≡ is_some o → (seat : Seat) × (o ≡ Some seat)
-seat_there None h = absurd (cc)
-seat_there (Some seat) h = (seat, refl)
+use Rattle.fs_world.proofs.SeatMaps.{put_same}
 
 -- where no counter is spent there is room on the link
 pub has_room : (core : Option Counter) (full : Bool) → first_spent core full ≡ None → full ≡ false
@@ -29,23 +26,36 @@ has_room (Some counter) full h = absurd (cc)
 has_room None true h = absurd (cc)
 has_room None false h = refl
 
-abbrev pub seated : Served → Seats → List Item → Packets → Served
-seated w seats journal packets = record w { seats = seats; journal = journal; packets = packets }
+-- the world with what stands at the session
+abbrev pub seated : Served → Session → Seat → List Item → Packets → Served
+seated w s seat journal packets = record w { seats = insert w.seats s.0 seat; journal = journal; packets = packets }
 
--- where all that stands there is what the event leaves
-pub world_at : (r : Result Outcome CoreError) (w : Served) (s : Session) (seats : Seats) (journal : List Item) (packets : Packets) (x : SeatStepped)
-    → OnOk r (seats ≡ insert w.seats s.0 x.seat) → OnOk r (journal ≡ x.journal) → OnOk r (packets ≡ x.packets)
-    → OnOk r (seated w seats journal packets ≡ (with_seat s x w).world)
-world_at (Ok o) w s seats journal packets x e f g = λ i. seated w (e i) (f i) (g i)
-world_at (Err o) w s seats journal packets x e f g = tt
+-- what an event leaves at a session, in the world
+pub seated_at : (r : Result Outcome CoreError) (w : Served) (s : Session) (seat : Seat) (journal : List Item) (packets : Packets) (x : SeatStepped)
+    → IfOk r (λ told. seat_left told seat journal packets ≡ x) → IfOk r (λ told. world_left told (seated w s seat journal packets) ≡ with_seat s x w)
+seated_at (Ok o) w s seat journal packets x e = ap (λ (y : SeatStepped). with_seat s y w) e
+seated_at (Err o) w s seat journal packets x e = tt
+
+-- where the call found all of it and left it so, the world is as it was
+pub seated_back : (r : Result Outcome CoreError) (w : Served) (s : Session) (old new : Seat) (journal : List Item) (packets : Packets)
+    → Some old ≡ get w.seats s.0 → OnErr r (seat_found new journal packets ≡ seat_found old w.journal w.packets) → OnErr r (seated w s new journal packets ≡ w)
+seated_back (Ok o) w s old new journal packets at e = tt
+seated_back (Err o) w s old new journal packets at e =
+    ap (λ (x : SeatStepped). seated w s x.seat x.journal x.packets) e
+    ∙ ap (λ (m : Seats). let v : Served = record w { seats = m } in v) (put_same w.seats s.0 old old (sym at) refl)
+
+-- what the event came to
+pub told_then : (r : Result Outcome CoreError) (new : Served) (x : Stepped) → IfOk r (λ told. world_left told new ≡ x) → IfOk r (λ told. told ≡ x.outcome)
+told_then (Ok o) new x e = ap (λ (y : Stepped). y.outcome) e
+told_then (Err e) new x is = tt
 
 -- after an event that was carried out, where it would hold of what the event comes to
-pub linked_after : (r : Result Outcome CoreError) (new : Served) (x : Stepped) (Fits : Type 0) → (Fits → x.spent ≡ None → IsLinked x.world) → OnOk r (new ≡ x.world) → OnOk r Fits → OnOk r (x.spent ≡ None) → OnOk r (IsLinked new)
-linked_after (Ok o) new x Fits keeps is fits room = subst IsLinked (sym is) (keeps fits room)
-linked_after (Err e) new x Fits keeps is fits room = tt
+pub linked_after : (r : Result Outcome CoreError) (new : Served) (x : Stepped) (Fits : Type 0) → (Fits → x.spent ≡ None → IsLinked x.world) → IfOk r (λ told. world_left told new ≡ x) → OnOk r Fits → OnOk r (IsLinked new)
+linked_after (Ok o) new x Fits keeps is fits = subst IsLinked (sym (ap (λ (y : Stepped). y.world) is)) (keeps fits (sym (ap (λ (y : Stepped). y.spent) is)))
+linked_after (Err e) new x Fits keeps is fits = tt
 
-pub linked_then : (r : Result Outcome CoreError) (new : Served) (x : Stepped) → IsLinked x.world → OnOk r (new ≡ x.world) → OnOk r (IsLinked new)
-linked_then (Ok o) new x h is = subst IsLinked (sym is) h
+pub linked_then : (r : Result Outcome CoreError) (new : Served) (x : Stepped) → IsLinked x.world → IfOk r (λ told. world_left told new ≡ x) → OnOk r (IsLinked new)
+linked_then (Ok o) new x h is = subst IsLinked (sym (ap (λ (y : Stepped). y.world) is)) h
 linked_then (Err e) new x h is = tt
 
 -- it has not joined

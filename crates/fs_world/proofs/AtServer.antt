@@ -1,6 +1,6 @@
 -- What happened at a server, in the world.
-use Rattle.std.proofs.Common.{◌≡◌, ℕ, ◌<◌, Bool, List, [], ◌∷◌, length, refl, ap₂, sym, subst, inl, inr}
-use Rattle.std.specs.Prelude.{Option, Some, None, Result, Ok, Err, OnOk, slice_get, slice_set, slice_index_or}
+use Rattle.std.proofs.Common.{◌≡◌, ℕ, ◌<◌, Bool, List, [], ◌∷◌, length, refl, ap, ap₂, sym, ◌∙◌, subst, inl, inr}
+use Rattle.std.specs.Prelude.{Option, Some, None, Result, Ok, Err, IfOk, OnOk, slice_get, slice_set, slice_index_or}
 use Rattle.std.proofs.lemmas.Option.{slice_get_read}
 use Rattle.fs_ident.specs.declared.actor.Peer.{Peer}
 use Rattle.fs_ident.specs.declared.actor.Peer.TheVariants.{Server}
@@ -18,12 +18,13 @@ use Rattle.fs_server.specs.declared.event.ServerEvent.{ServerEvent}
 use Rattle.fs_server.specs.declared.state.Server.{Server as Core}
 use Rattle.fs_window.specs.Post.{Links, post_accepted}
 use Rattle.fs_window.specs.declared.packet.Packet.{Packet}
+use Rattle.fs_world.specs.Calls.{server_left, world_left}
 use Rattle.fs_world.specs.Linked.{FitsDown, IsLinked}
 use Rattle.fs_world.specs.Packets.{Packets}
 use Rattle.fs_world.specs.Planned.{IsAnswered, IsOwn, WasSent}
-use Rattle.fs_world.specs.Served.{Seats, ServerStepped, at_server, core_step, first_from, is_full_down, server_step, server_step_at, server_told_at, with_server}
+use Rattle.fs_world.specs.Served.{Seats, ServerStepped, Stepped, at_server, core_step, first_from, is_full_down, server_step, server_step_at, server_told_at, with_server}
 use Rattle.fs_world.specs.declared.served.Served.{Served}
-use Rattle.fs_world.proofs.AtSeat.{has_room}
+use Rattle.fs_world.proofs.AtSeat.{has_room, linked_after}
 use Rattle.fs_world.proofs.Linked.{own_event, server_linked, told_server_linked}
 
 -- what is lent out of a list stands there
@@ -40,12 +41,11 @@ served_by w k s post seats flying journal packets = record w {
   packets = packets;
 }
 
--- where all that the event concerns is what it leaves
-pub world_by : (r : Result Outcome CoreError) (w : Served) (k : ℕ) (s : Core) (post : Links) (seats : Seats) (flying : List Flying) (journal : List Item) (packets : Packets) (x : ServerStepped)
-    → OnOk r (s ≡ x.server) → OnOk r (post ≡ x.post) → OnOk r (seats ≡ x.seats) → OnOk r (flying ≡ x.flying) → OnOk r (journal ≡ x.journal) → OnOk r (packets ≡ x.packets)
-    → OnOk r (served_by w k s post seats flying journal packets ≡ (with_server k x w).world)
-world_by (Ok o) w k s post seats flying journal packets x a b d e f g = λ i. served_by w k (a i) (b i) (d i) (e i) (f i) (g i)
-world_by (Err o) w k s post seats flying journal packets x a b d e f g = tt
+-- what an event leaves at a server, in the world
+pub served_at : (r : Result Outcome CoreError) (w : Served) (k : ℕ) (s : Core) (post : Links) (seats : Seats) (flying : List Flying) (journal : List Item) (packets : Packets) (x : ServerStepped)
+    → IfOk r (λ told. server_left told s post seats flying journal packets ≡ x) → IfOk r (λ told. world_left told (served_by w k s post seats flying journal packets) ≡ with_server k x w)
+served_at (Ok o) w k s post seats flying journal packets x e = ap (λ (y : ServerStepped). with_server k y w) e
+served_at (Err o) w k s post seats flying journal packets x e = tt
 
 -- the event of a server that there is
 pub step_there : (w : Served) (k : ℕ) (turn : Bool) (now : ℕ) (e : ServerEvent) (s : Core) (post : Links) → slice_get w.servers k ≡ Some s → slice_get w.posts k ≡ Some post
@@ -56,10 +56,13 @@ step_there w k turn now e s post there tied = ap₂ (λ (a : Option Core) (b : O
 
 pub own_after : (r : Result Outcome CoreError) (w new : Served) (k : ℕ) (turn : Bool) (now : ℕ) (e : ServerEvent) (s : Core) (post : Links) → slice_get w.servers k ≡ Some s → slice_get w.posts k ≡ Some post
     → IsOwn (length w.servers) e → AreRecords s.records → IsLinked w
-    → OnOk r (new ≡ (server_step k turn now e w).world) → OnOk r (FitsDown (step s now e).out.send) → OnOk r ((core_step k turn None now e (at_server s post w)).spent ≡ None) → OnOk r (IsLinked new)
-own_after (Ok o) w new k turn now e s post there tied own valid h is fits room =
-    subst IsLinked (sym is) (server_linked w k s post turn now e there tied (own_event (length w.servers) s e own valid) fits (has_room (spent_by s now e) (is_full_down (step s now e).out.send post) room) h)
-own_after (Err o) w new k turn now e s post there tied own valid h is fits room = tt
+    → IfOk r (λ told. world_left told new ≡ server_step k turn now e w) → OnOk r (FitsDown (step s now e).out.send) → OnOk r (IsLinked new)
+own_after r w new k turn now e s post there tied own valid h is fits =
+    linked_after r new (server_step k turn now e w) (FitsDown (step s now e).out.send)
+    (λ fit none.
+    let room = sym (ap (λ (y : Stepped). y.spent) (step_there w k turn now e s post there tied)) ∙ none in
+    server_linked w k s post turn now e there tied (own_event (length w.servers) s e own valid) fit (has_room (spent_by s now e) (is_full_down (step s now e).out.send post) room) h)
+    is fits
 
 told_server_at : (w : Served) (k now : ℕ) (from : Peer) (p : Packet) → WasSent from (Server k) (Some p) w.packets.sent
     → ((s : Core) (post : Links) → slice_get w.servers k ≡ Some s → slice_get w.posts k ≡ Some post → IsAnswered now (post_accepted post from p).heard.joined (first_from k from w.seats w.flying) (at_server s (post_accepted post from p).links w))
@@ -73,8 +76,8 @@ told_server_at w k now from p x fits h = go (slice_get w.servers k) (slice_get w
 
 pub told_after : (r : Result Outcome CoreError) (w new : Served) (k now : ℕ) (from : Peer) (p : Packet) → WasSent from (Server k) (Some p) w.packets.sent
     → ((s : Core) (post : Links) → slice_get w.servers k ≡ Some s → slice_get w.posts k ≡ Some post → OnOk r (IsAnswered now (post_accepted post from p).heard.joined (first_from k from w.seats w.flying) (at_server s (post_accepted post from p).links w)))
-    → IsLinked w → OnOk r (new ≡ (server_told_at (slice_get w.servers k) (slice_get w.posts k) now k from p w).world) → OnOk r (IsLinked new)
-told_after (Ok o) w new k now from p x fits h is = subst IsLinked (sym is) (told_server_at w k now from p x fits h)
+    → IsLinked w → IfOk r (λ told. world_left told new ≡ server_told_at (slice_get w.servers k) (slice_get w.posts k) now k from p w) → OnOk r (IsLinked new)
+told_after (Ok o) w new k now from p x fits h is = subst IsLinked (sym (ap (λ (y : Stepped). y.world) is)) (told_server_at w k now from p x fits h)
 told_after (Err o) w new k now from p x fits h is = tt
 
 -- ## Parcels on their way

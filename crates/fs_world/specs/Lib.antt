@@ -12,3 +12,4 @@ pub mod Readable
 pub mod Linked
 pub mod Planned
 pub mod Hearing
+pub mod Calls

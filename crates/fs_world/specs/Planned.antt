@@ -14,31 +14,12 @@ use Rattle.fs_window.specs.Reading.{packet_at}
 use Rattle.fs_window.specs.declared.packet.Packet.{Packet}
 use Rattle.fs_window.specs.declared.sent.Sent.{Sent}
 use Rattle.fs_world.specs.Linked.{FitsDown}
-use Rattle.fs_window.specs.Post.{Links}
 use Rattle.fs_frag.specs.declared.joined.Joined.TheVariants.{Whole}
 use Rattle.fs_msg.specs.Ranges.{FitsMessage}
 use Rattle.fs_msg.specs.Spelling.{message}
-use Rattle.fs_msg.specs.declared.item.Item.{Item}
 use Rattle.fs_msg.specs.declared.msg.Msg.{Msg}
 use Rattle.fs_msg.specs.declared.msg.Msg.TheVariants as msg
-use Rattle.fs_msg.specs.declared.note.Note.TheVariants as note
-use Rattle.fs_serial.specs.declared.flying.Flying.{Flying}
-use Rattle.fs_world.specs.Direct.{outcome_of}
-use Rattle.fs_world.specs.Packets.{Packets}
-use Rattle.fs_world.specs.Served.{Seats, ServerStepped, is_full_down}
-
--- what an event of a server concerns
-abbrev pub concerns : Server → Links → Seats → List Flying → List Item → Packets → ServerStepped
-concerns s post seats flying journal packets = record {
-  server = s;
-  post = post;
-  seats = seats;
-  flying = flying;
-  journal = journal;
-  packets = packets;
-  outcome = outcome_of None note.Nothing;
-  spent = None;
-}
+use Rattle.fs_world.specs.Served.{ServerStepped, is_full_down}
 
 -- what the plan comes to
 abbrev pub stepped_by : Plan → Server → Stepped

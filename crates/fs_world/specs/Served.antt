@@ -309,18 +309,21 @@ server_told now k from p x = server_accepts now k from (heard_in from p) (post_a
 
 -- ## Where servers stand in the world
 
--- what an event of the server concerns
-abbrev pub at_server : Core → Links → Served → ServerStepped
-at_server s post w = record {
+-- what an event of a server finds
+abbrev pub server_found : Core → Links → Seats → List Flying → List Item → Packets → ServerStepped
+server_found s post seats flying journal packets = record {
   server = s;
   post = post;
-  seats = w.seats;
-  flying = w.flying;
-  journal = w.journal;
-  packets = w.packets;
+  seats = seats;
+  flying = flying;
+  journal = journal;
+  packets = packets;
   outcome = outcome_of None note.Nothing;
   spent = None;
 }
+
+abbrev pub at_server : Core → Links → Served → ServerStepped
+at_server s post w = server_found s post w.seats w.flying w.journal w.packets
 
 abbrev pub with_server : ℕ → ServerStepped → Served → Stepped
 with_server k x w = record {

@@ -3,7 +3,8 @@ ghost use Rattle.std.specs.Prelude.{◌≡◌, OnOk, OnErr, IsSome};
 ghost use Rattle.std.specs.FinMap as map;
 ghost use Rattle.fs_ident.specs.Maps.{numbered_map_of};
 
-use fs_ident::{Memory, Session};
+use crate::by_session::{copy_all, put};
+use fs_ident::{Memory, Session, Twin};
 use std::alloc::Global;
 use std::collections::BTreeMap;
 use std::marker::Model;
@@ -51,7 +52,7 @@ impl Counts {
         ensures ok { OnOk result (self.new ≡ map.insert self.old s.0 count) }
         ensures err { OnErr result (self.new ≡ self.old) }
     {
-        set_in(&mut self.asked, s.0, count)
+        put(&mut self.asked, s.0, count)
     }
 
     /// Puts another count of a session that has one, which takes no memory.
@@ -63,21 +64,21 @@ impl Counts {
     }
 }
 
+impl Twin for Counts {
+    fn copy(&self, alloc: Global) -> Result<Counts, Memory> {
+        Ok(Counts {
+            asked: copy_all(alloc, &self.asked)?,
+        })
+    }
+
+    fn discard(self) {}
+}
+
 #[tactic(auto, using(fs_ident::proofs::MapsOf::numbered_maps))]
 fn count_in(asked: &BTreeMap<u16, u64>, session: u16) -> Option<u64>
     ensures { result ≡ map.get (numbered_map_of asked.now) session }
 {
     asked.get(&session).copied()
-}
-
-#[tactic(auto, using(fs_ident::proofs::MapsOf::numbered_maps))]
-fn set_in(asked: &mut BTreeMap<u16, u64>, session: u16, count: u64) -> Result<(), Memory>
-    ensures ok { OnOk result (numbered_map_of asked.new ≡
-        map.insert (numbered_map_of asked.old) session count) }
-    ensures err { OnErr result (numbered_map_of asked.new ≡ numbered_map_of asked.old) }
-{
-    asked.insert(session, count)?;
-    Ok(())
 }
 
 #[tactic(auto, using(fs_ident::proofs::MapsOf::numbered_changes))]

@@ -5,7 +5,7 @@ ghost use Rattle.std.specs.FinMap as map;
 use crate::counts::Counts;
 use crate::goes::outcome;
 use crate::numbers::Numbers;
-use fs_ident::{List, Memory, Peer, Session};
+use fs_ident::{List, Memory, Peer, Session, Twin};
 use fs_model::{Op, Space};
 use fs_msg::{CoreError, Counter, Item, Note};
 use fs_schedule::{Outcome, What};
@@ -110,4 +110,21 @@ impl Direct {
         told.notes.replace(0, Note::Answered { n, reply });
         Ok(told)
     }
+}
+
+impl Twin for Direct {
+    fn copy(&self, alloc: Global) -> Result<Direct, Memory> {
+        let space = self.space.copy(alloc)?;
+        let next = self.next.copy(alloc)?;
+        let asked = self.asked.copy(alloc)?;
+        let journal = self.journal.copy(alloc)?;
+        Ok(Direct {
+            space,
+            next,
+            asked,
+            journal,
+        })
+    }
+
+    fn discard(self) {}
 }

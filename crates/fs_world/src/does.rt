@@ -9,6 +9,7 @@ ghost use Rattle.fs_msg.specs.declared.core_error.CoreError.TheVariants as error
 ghost use Rattle.fs_msg.specs.declared.msg.Msg.TheVariants as msg;
 ghost use Rattle.fs_window.specs.Post.{post_due, post_pushed};
 ghost use Rattle.fs_window.specs.Undo.{undone};
+ghost use Rattle.fs_world.specs.Calls.{Spends, seat_found, seat_left};
 ghost use Rattle.fs_world.specs.Linked.{FitsUp, IsWritten};
 ghost use Rattle.fs_world.specs.Packets.{with_sent};
 ghost use Rattle.fs_world.specs.Served.{client_does, is_full_for, is_full_up, post_after, seat_goes, up_after, with_read};
@@ -35,27 +36,13 @@ pub(crate) fn does(
     packets: &mut Packets,
 ) -> Result<Outcome, CoreError>
     requires { can_commit plan.ready seat.old.client ≡ true }
-    ensures outcome { IfOk result (λ o. o ≡
-        (client_does s turn heard false plan seat.old journal.old packets.old).outcome) }
-    ensures seat { OnOk result (seat.new ≡
-        (client_does s turn heard false plan seat.old journal.old packets.old).seat) }
-    ensures journal { OnOk result (journal.new ≡
-        (client_does s turn heard false plan seat.old journal.old packets.old).journal) }
-    ensures packets { OnOk result (packets.new ≡
-        (client_does s turn heard false plan seat.old journal.old packets.old).packets) }
-    ensures room { OnOk result (
-        (client_does s turn heard false plan seat.old journal.old packets.old).spent ≡ None) }
+    ensures done { IfOk result (λ told. seat_left told seat.new journal.new packets.new ≡
+        client_does s turn heard false plan seat.old journal.old packets.old) }
     ensures fits { OnOk result (FitsUp plan.out.send) }
-    ensures spent { (counter : TheCounter) → IsErrOf result (errors.Spent counter) →
-        (client_does s turn heard false plan seat.old journal.old packets.old).spent
-        ≡ Some counter }
-    ensures only { (counter : TheCounter) →
-        (client_does s turn heard false plan seat.old journal.old packets.old).spent
-        ≡ Some counter →
-        IsErrOf result (errors.Spent counter) ⊎ IsErrOf result errors.Memory }
-    ensures err_seat { OnErr result (seat.new ≡ seat.old) }
-    ensures err_journal { OnErr result (journal.new ≡ journal.old) }
-    ensures err_packets { OnErr result (packets.new ≡ packets.old) }
+    ensures spends { Spends result
+        (client_does s turn heard false plan seat.old journal.old packets.old).spent }
+    ensures err { OnErr result (seat_found seat.new journal.new packets.new ≡
+        seat_found seat.old journal.old packets.old) }
 {
     let Plan { ready, out } = plan;
     let ClientOut {
@@ -92,29 +79,16 @@ fn goes(
     packets: &mut Packets,
 ) -> Result<Outcome, Memory>
     requires { can_commit ready seat.old.client ≡ true }
-    ensures outcome { IfOk result (λ o. o ≡
-        (seat_goes s turn heard note None seat.old journal.old packets.old).outcome) }
-    ensures seat { OnOk result (seat.new ≡ record seat.old {
-      client = committed ready seat.old.client;
-      post = (post_due seat.old.post turn heard).links;
-    }) }
-    ensures journal { OnOk result (journal.new ≡ with_read admitted journal.old) }
-    ensures packets { OnOk result (packets.new ≡
-        with_sent (post_due seat.old.post turn heard).sent packets.old) }
-    ensures err_seat { OnErr result (seat.new ≡ seat.old) }
-    ensures err_journal { OnErr result (journal.new ≡ journal.old) }
-    ensures err_packets { OnErr result (packets.new ≡ packets.old) }
+    ensures done { IfOk result (λ told. seat_left told seat.new journal.new packets.new ≡
+        seat_goes s turn heard note None
+        (record seat.old { client = committed ready seat.old.client })
+        (with_read admitted journal.old) packets.old) }
+    ensures err { OnErr result (seat_found seat.new journal.new packets.new ≡
+        seat_found seat.old journal.old packets.old) }
 {
     let before = packets.sent().len();
-    let outcome = send_due(
-        alloc,
-        Peer::Client(s),
-        turn,
-        heard,
-        note,
-        &seat.post,
-        packets,
-    )?;
+    let who = Peer::Client(s);
+    let outcome = send_due(alloc, who, turn, heard, note, &seat.post, packets)?;
     match admit(alloc, admitted, ready, &mut seat.client, journal) {
         Ok(()) => {
             seat.post.mark_sent();

@@ -2,6 +2,7 @@
 #![tactic(auto)]
 
 mod answers;
+mod by_session;
 mod clients;
 mod counts;
 mod direct;
@@ -14,12 +15,13 @@ mod hearing;
 mod hears;
 mod law;
 mod lists;
+mod noted;
 mod numbers;
 mod packets;
 mod pushes;
+mod reads;
 mod removals;
 mod seat;
-mod seat_events;
 mod seats;
 mod served;
 mod servers;

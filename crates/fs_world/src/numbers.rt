@@ -4,7 +4,7 @@ ghost use Rattle.std.specs.FinMap as map;
 ghost use Rattle.fs_ident.specs.Maps.{map_of};
 ghost use Rattle.fs_world.specs.Direct.{Numbers as TheNumbers, next_of};
 
-use fs_ident::{FileId, Memory, Twin};
+use fs_ident::{FileId, Memory, Twin, copy_map};
 use std::alloc::Global;
 use std::collections::BTreeMap;
 use std::marker::Model;
@@ -74,6 +74,16 @@ impl Numbers {
             None => remove_in(&mut self.next, dir),
         }
     }
+}
+
+impl Twin for Numbers {
+    fn copy(&self, alloc: Global) -> Result<Numbers, Memory> {
+        Ok(Numbers {
+            next: copy_map(alloc, &self.next)?,
+        })
+    }
+
+    fn discard(self) {}
 }
 
 #[tactic(auto, using(fs_ident::proofs::MapsOf::maps))]

@@ -5,7 +5,7 @@ ghost use Rattle.fs_window.specs.declared.sent.Sent.{Sent as ThePacket};
 ghost use Rattle.fs_world.specs.Packets.{Packets as ThePackets, first_untold, no_packets, with_sent, with_told};
 
 use crate::lists::append;
-use fs_ident::{List, Memory};
+use fs_ident::{List, Memory, Twin};
 use fs_window::Sent;
 use std::alloc::Global;
 use std::marker::Model;
@@ -89,6 +89,20 @@ impl Packets {
         self.told.truncate(len);
         self.next = self.next.min(len);
     }
+}
+
+impl Twin for Packets {
+    fn copy(&self, alloc: Global) -> Result<Packets, Memory> {
+        let sent = self.sent.copy(alloc)?;
+        let told = self.told.copy(alloc)?;
+        Ok(Packets {
+            sent,
+            told,
+            next: self.next,
+        })
+    }
+
+    fn discard(self) {}
 }
 
 /// A mark for each of the packets: it was not told.

@@ -5,7 +5,7 @@ ghost use Rattle.fs_world.specs.Served.{first_seat};
 
 use crate::term::Term;
 use fs_client::ClientCore;
-use fs_ident::{List, Memory, Peer, Session};
+use fs_ident::{List, Memory, Peer, Session, Twin};
 use fs_msg::{Answer, ClientMsg};
 use fs_window::Post;
 use std::alloc::Global;
@@ -39,9 +39,22 @@ impl Seat {
             down: List::new(alloc),
         })
     }
+}
 
-    /// Gives up every lease of the client.
-    pub(crate) fn discard(self) {
+impl Twin for Seat {
+    fn copy(&self, alloc: Global) -> Result<Seat, Memory> {
+        let post = self.post.copy(alloc)?;
+        let up = self.up.copy(alloc)?;
+        let down = self.down.copy(alloc)?;
+        Ok(Seat {
+            client: self.client.copy(alloc)?,
+            post,
+            up,
+            down,
+        })
+    }
+
+    fn discard(self) {
         let Seat {
             client,
             post: _,

@@ -1,19 +1,19 @@
 //! The world of a schedule of the servers form.
-ghost use Rattle.std.specs.Prelude.{◌≡◌, ◌<◌, ◌≤◌, ◌⊎◌, length, true, Some, None, IfOk, OnOk, OnErr, IsErrOf, false};
+ghost use Rattle.std.specs.Prelude.{◌≡◌, ◌<◌, ◌≤◌, length, true, IfOk, OnOk, OnErr, false};
 ghost use Rattle.std.specs.FinMap as map;
 ghost use Rattle.fs_ident.specs.declared.limits.TheConstants.{LATEST, SESSIONS};
-ghost use Rattle.fs_msg.specs.declared.core_error.Counter.{Counter as TheCounter};
-ghost use Rattle.fs_msg.specs.declared.core_error.CoreError.TheVariants as errors;
 ghost use Rattle.fs_msg.specs.declared.limits.TheConstants.{LONGEST, SERVERS};
 ghost use Rattle.fs_record.specs.Records.{AreRecords};
 ghost use Rattle.fs_serial.specs.Cluster.{first_servers};
 ghost use Rattle.fs_serial.specs.World.{is_called};
 ghost use Rattle.fs_server.specs.declared.event.ServerEvent.TheVariants.{Move as TheMove, Recall as TheRecall};
+ghost use Rattle.fs_world.specs.Calls.{Spends, world_left};
 ghost use Rattle.fs_world.specs.Linked.{IsLinked};
 ghost use Rattle.fs_world.specs.Served.{do_at, first_posts, first_served, join_at, server_step, step_of, turn_at};
 ghost use Rattle.fs_world.specs.Planned.{IsOwn};
 ghost use Rattle.fs_world.specs.World.{FitsServed};
 
+use crate::clients::{acts, turns};
 use crate::goes::outcome;
 use crate::packets::Packets;
 use crate::seat::{LINK_WIDTH, Seat};
@@ -76,14 +76,10 @@ impl Served {
         requires reading { now ≤ LATEST }
         requires fits { FitsServed (length self.old.servers) what.now }
         requires linked { IsLinked self.old }
-        ensures outcome { IfOk result (λ o. o ≡ (step_of self.old now what.now).outcome) }
-        ensures world { OnOk result (self.new ≡ (step_of self.old now what.now).world) }
+        ensures done { IfOk result (λ told. world_left told self.new ≡
+            step_of self.old now what.now) }
         ensures linked { OnOk result (IsLinked self.new) }
-        ensures spent { (counter : TheCounter) → IsErrOf result (errors.Spent counter) →
-            (step_of self.old now what.now).spent ≡ Some counter }
-        ensures only { (counter : TheCounter) →
-            (step_of self.old now what.now).spent ≡ Some counter →
-            IsErrOf result (errors.Spent counter) ⊎ IsErrOf result errors.Memory }
+        ensures spends { Spends result (step_of self.old now what.now).spent }
         ensures err { OnErr result (self.new ≡ self.old) }
     {
         match what {
@@ -105,10 +101,8 @@ impl Served {
         requires first { 1 ≤ s.0 }
         requires few { s.0 ≤ SESSIONS }
         requires linked { IsLinked self.old }
-        ensures outcome { IfOk result (λ o. o ≡
-            (join_at (map.get self.old.seats s.0) s self.old).outcome) }
-        ensures world { OnOk result (self.new ≡
-            (join_at (map.get self.old.seats s.0) s self.old).world) }
+        ensures done { IfOk result (λ told. world_left told self.new ≡
+            join_at (map.get self.old.seats s.0) s self.old) }
         ensures linked { OnOk result (IsLinked self.new) }
         ensures err { OnErr result (self.new ≡ self.old) }
     {
@@ -125,46 +119,41 @@ impl Served {
         requires reading { now ≤ LATEST }
         requires called { is_called op.now ≡ true }
         requires linked { IsLinked self.old }
-        ensures outcome { IfOk result (λ o. o ≡
-            (do_at (map.get self.old.seats s.0) now s op.now self.old).outcome) }
-        ensures world { OnOk result (self.new ≡
-            (do_at (map.get self.old.seats s.0) now s op.now self.old).world) }
+        ensures done { IfOk result (λ told. world_left told self.new ≡
+            do_at (map.get self.old.seats s.0) now s op.now self.old) }
         ensures linked { OnOk result (IsLinked self.new) }
-        ensures spent { (counter : TheCounter) → IsErrOf result (errors.Spent counter) →
-            (do_at (map.get self.old.seats s.0) now s op.now self.old).spent ≡ Some counter }
-        ensures only { (counter : TheCounter) →
-            (do_at (map.get self.old.seats s.0) now s op.now self.old).spent ≡ Some counter →
-            IsErrOf result (errors.Spent counter) ⊎ IsErrOf result errors.Memory }
+        ensures spends { Spends result
+            (do_at (map.get self.old.seats s.0) now s op.now self.old).spent }
         ensures err { OnErr result (self.new ≡ self.old) }
     {
-        if !self.seats.has(s) {
-            return Ok(outcome(alloc, None, Note::Nothing)?);
+        match self.seats.get_mut(s) {
+            Some(seat) => acts(
+                alloc,
+                now,
+                s,
+                op,
+                seat,
+                &mut self.journal,
+                &mut self.packets,
+            ),
+            None => Ok(outcome(alloc, None, Note::Nothing)?),
         }
-        self.seats
-            .act(alloc, now, s, op, &mut self.journal, &mut self.packets)
     }
 
     /// The turn of the session's client, if it has joined.
     fn client_turn(&mut self, alloc: Global, now: u64, s: Session) -> Result<Outcome, CoreError>
         requires reading { now ≤ LATEST }
         requires linked { IsLinked self.old }
-        ensures outcome { IfOk result (λ o. o ≡
-            (turn_at (map.get self.old.seats s.0) now s self.old).outcome) }
-        ensures world { OnOk result (self.new ≡
-            (turn_at (map.get self.old.seats s.0) now s self.old).world) }
+        ensures done { IfOk result (λ told. world_left told self.new ≡
+            turn_at (map.get self.old.seats s.0) now s self.old) }
         ensures linked { OnOk result (IsLinked self.new) }
-        ensures spent { (counter : TheCounter) → IsErrOf result (errors.Spent counter) →
-            (turn_at (map.get self.old.seats s.0) now s self.old).spent ≡ Some counter }
-        ensures only { (counter : TheCounter) →
-            (turn_at (map.get self.old.seats s.0) now s self.old).spent ≡ Some counter →
-            IsErrOf result (errors.Spent counter) ⊎ IsErrOf result errors.Memory }
+        ensures spends { Spends result (turn_at (map.get self.old.seats s.0) now s self.old).spent }
         ensures err { OnErr result (self.new ≡ self.old) }
     {
-        if !self.seats.has(s) {
-            return Ok(outcome(alloc, None, Note::Nothing)?);
+        match self.seats.get_mut(s) {
+            Some(seat) => turns(alloc, now, s, seat, &mut self.journal, &mut self.packets),
+            None => Ok(outcome(alloc, None, Note::Nothing)?),
         }
-        self.seats
-            .turn(alloc, now, s, &mut self.journal, &mut self.packets)
     }
 
     /// The server of number `k` asks for the leases on the field.
@@ -178,16 +167,11 @@ impl Served {
         requires reading { now ≤ LATEST }
         requires there { k < length self.old.servers }
         requires linked { IsLinked self.old }
-        ensures outcome { IfOk result (λ o. o ≡
-            (server_step k false now (TheRecall field.now) self.old).outcome) }
-        ensures world { OnOk result (self.new ≡
-            (server_step k false now (TheRecall field.now) self.old).world) }
+        ensures done { IfOk result (λ told. world_left told self.new ≡
+            server_step k false now (TheRecall field.now) self.old) }
         ensures linked { OnOk result (IsLinked self.new) }
-        ensures spent { (counter : TheCounter) → IsErrOf result (errors.Spent counter) →
-            (server_step k false now (TheRecall field.now) self.old).spent ≡ Some counter }
-        ensures only { (counter : TheCounter) →
-            (server_step k false now (TheRecall field.now) self.old).spent ≡ Some counter →
-            IsErrOf result (errors.Spent counter) ⊎ IsErrOf result errors.Memory }
+        ensures spends { Spends result
+            (server_step k false now (TheRecall field.now) self.old).spent }
         ensures err { OnErr result (self.new ≡ self.old) }
     {
         let event = ServerEvent::Recall(field.copy(alloc)?);
@@ -207,16 +191,11 @@ impl Served {
         requires there { k < length self.old.servers }
         requires other { to < length self.old.servers }
         requires linked { IsLinked self.old }
-        ensures outcome { IfOk result (λ o. o ≡
-            (server_step k false now (TheMove prefix.now to) self.old).outcome) }
-        ensures world { OnOk result (self.new ≡
-            (server_step k false now (TheMove prefix.now to) self.old).world) }
+        ensures done { IfOk result (λ told. world_left told self.new ≡
+            server_step k false now (TheMove prefix.now to) self.old) }
         ensures linked { OnOk result (IsLinked self.new) }
-        ensures spent { (counter : TheCounter) → IsErrOf result (errors.Spent counter) →
-            (server_step k false now (TheMove prefix.now to) self.old).spent ≡ Some counter }
-        ensures only { (counter : TheCounter) →
-            (server_step k false now (TheMove prefix.now to) self.old).spent ≡ Some counter →
-            IsErrOf result (errors.Spent counter) ⊎ IsErrOf result errors.Memory }
+        ensures spends { Spends result
+            (server_step k false now (TheMove prefix.now to) self.old).spent }
         ensures err { OnErr result (self.new ≡ self.old) }
     {
         let event = ServerEvent::Move {
@@ -239,16 +218,10 @@ impl Served {
         requires there { k < length self.old.servers }
         requires own { IsOwn (length self.old.servers) event.now }
         requires linked { IsLinked self.old }
-        ensures outcome { IfOk result (λ o. o ≡
-            (server_step k turn now event.now self.old).outcome) }
-        ensures world { OnOk result (self.new ≡
-            (server_step k turn now event.now self.old).world) }
+        ensures done { IfOk result (λ told. world_left told self.new ≡
+            server_step k turn now event.now self.old) }
         ensures linked { OnOk result (IsLinked self.new) }
-        ensures spent { (counter : TheCounter) → IsErrOf result (errors.Spent counter) →
-            (server_step k turn now event.now self.old).spent ≡ Some counter }
-        ensures only { (counter : TheCounter) →
-            (server_step k turn now event.now self.old).spent ≡ Some counter →
-            IsErrOf result (errors.Spent counter) ⊎ IsErrOf result errors.Memory }
+        ensures spends { Spends result (server_step k turn now event.now self.old).spent }
         ensures err { OnErr result (self.new ≡ self.old) }
     {
         let at = k as usize;
@@ -269,9 +242,28 @@ impl Served {
             &mut self.packets,
         )
     }
+}
 
-    /// Gives up every lease of the clients.
-    pub(crate) fn discard(self) {
+impl Twin for Served {
+    fn copy(&self, alloc: Global) -> Result<Served, Memory> {
+        let servers = self.servers.copy(alloc)?;
+        let posts = self.posts.copy(alloc)?;
+        let term = self.term.copy(alloc)?;
+        let flying = self.flying.copy(alloc)?;
+        let journal = self.journal.copy(alloc)?;
+        let packets = self.packets.copy(alloc)?;
+        Ok(Served {
+            seats: self.seats.copy(alloc)?,
+            servers,
+            posts,
+            term,
+            flying,
+            journal,
+            packets,
+        })
+    }
+
+    fn discard(self) {
         let Served {
             servers: _,
             posts: _,

@@ -1,5 +1,5 @@
 //! A server's events.
-ghost use Rattle.std.specs.Prelude.{◌≡◌, ◌≤◌, ◌⊎◌, ◌++◌, true, false, Some, None, IfOk, OnOk, OnErr, IsErrOf};
+ghost use Rattle.std.specs.Prelude.{◌≡◌, ◌≤◌, ◌++◌, true, None, IfOk, OnOk, OnErr, IsErrOf};
 ghost use Rattle.fs_ident.specs.declared.limits.TheConstants.{LATEST};
 ghost use Rattle.fs_msg.specs.declared.core_error.Counter.{Counter as TheCounter};
 ghost use Rattle.fs_msg.specs.declared.core_error.Counter.TheVariants.{Segments};
@@ -8,9 +8,10 @@ ghost use Rattle.fs_serial.specs.Cluster.{flying_from};
 ghost use Rattle.fs_server.specs.Plan.{CanCommit, committed};
 ghost use Rattle.fs_server.specs.Step.{CanBeTold, step};
 ghost use Rattle.fs_window.specs.Undo.{undone};
+ghost use Rattle.fs_world.specs.Calls.{Spends, server_left, with_plan};
 ghost use Rattle.fs_world.specs.Linked.{FitsDown};
-ghost use Rattle.fs_world.specs.Planned.{concerns, stepped_by};
-ghost use Rattle.fs_world.specs.Served.{core_step, is_full_down, server_does, server_goes, with_downs};
+ghost use Rattle.fs_world.specs.Planned.{stepped_by};
+ghost use Rattle.fs_world.specs.Served.{core_step, is_full_down, server_does, server_found, server_goes, with_downs};
 
 use crate::downs::{push_downs, undo_downs};
 use crate::flights::push_flying;
@@ -45,46 +46,16 @@ pub(crate) fn core_step(
 ) -> Result<Outcome, CoreError>
     requires reading { now ≤ LATEST }
     requires told { CanBeTold event.now }
-    ensures outcome { IfOk result (λ o. o ≡
-        (core_step k turn heard now event.now
-        (concerns core.old post.old seats.old flying.old journal.old packets.old)).outcome) }
-    ensures server { OnOk result (core.new ≡
-        (core_step k turn heard now event.now
-        (concerns core.old post.old seats.old flying.old journal.old packets.old)).server) }
-    ensures post { OnOk result (post.new ≡
-        (core_step k turn heard now event.now
-        (concerns core.old post.old seats.old flying.old journal.old packets.old)).post) }
-    ensures seats { OnOk result (seats.new ≡
-        (core_step k turn heard now event.now
-        (concerns core.old post.old seats.old flying.old journal.old packets.old)).seats) }
-    ensures flying { OnOk result (flying.new ≡
-        (core_step k turn heard now event.now
-        (concerns core.old post.old seats.old flying.old journal.old packets.old)).flying) }
-    ensures journal { OnOk result (journal.new ≡
-        (core_step k turn heard now event.now
-        (concerns core.old post.old seats.old flying.old journal.old packets.old)).journal) }
-    ensures packets { OnOk result (packets.new ≡
-        (core_step k turn heard now event.now
-        (concerns core.old post.old seats.old flying.old journal.old packets.old)).packets) }
+    ensures done { IfOk result (λ told.
+        server_left told core.new post.new seats.new flying.new journal.new packets.new ≡
+        core_step k turn heard now event.now
+        (server_found core.old post.old seats.old flying.old journal.old packets.old)) }
     ensures fits { OnOk result (FitsDown (step core.old now event.now).out.send) }
-    ensures spent { (counter : TheCounter) → IsErrOf result (errors.Spent counter) →
-        (core_step k turn heard now event.now
-        (concerns core.old post.old seats.old flying.old journal.old packets.old)).spent
-        ≡ Some counter }
-    ensures only { (counter : TheCounter) →
-        (core_step k turn heard now event.now
-        (concerns core.old post.old seats.old flying.old journal.old packets.old)).spent
-        ≡ Some counter →
-        IsErrOf result (errors.Spent counter) ⊎ IsErrOf result errors.Memory }
-    ensures room { OnOk result (
-        (core_step k turn heard now event.now
-        (concerns core.old post.old seats.old flying.old journal.old packets.old)).spent ≡ None) }
-    ensures err_server { OnErr result (core.new ≡ core.old) }
-    ensures err_post { OnErr result (post.new ≡ post.old) }
-    ensures err_seats { OnErr result (seats.new ≡ seats.old) }
-    ensures err_flying { OnErr result (flying.new ≡ flying.old) }
-    ensures err_journal { OnErr result (journal.new ≡ journal.old) }
-    ensures err_packets { OnErr result (packets.new ≡ packets.old) }
+    ensures spends { Spends result (core_step k turn heard now event.now
+        (server_found core.old post.old seats.old flying.old journal.old packets.old)).spent }
+    ensures err { OnErr result (
+        server_found core.new post.new seats.new flying.new journal.new packets.new ≡
+        server_found core.old post.old seats.old flying.old journal.old packets.old) }
 {
     let plan = core.plan(alloc, now, event)?;
     let mut undo = Undo::new(alloc);
@@ -115,37 +86,17 @@ fn carry_out(
     packets: &mut Packets,
 ) -> Result<Outcome, CoreError>
     requires { CanCommit plan core.old }
-    ensures outcome { IfOk result (λ o. o ≡
-        (server_does k turn heard None (stepped_by plan core.old)
-        (concerns core.old post.old seats.old flying.old journal.old packets.old)).outcome) }
-    ensures server { OnOk result (core.new ≡
-        (server_does k turn heard None (stepped_by plan core.old)
-        (concerns core.old post.old seats.old flying.old journal.old packets.old)).server) }
-    ensures post { OnOk result (post.new ≡
-        (server_does k turn heard None (stepped_by plan core.old)
-        (concerns core.old post.old seats.old flying.old journal.old packets.old)).post) }
-    ensures seats { OnOk result (seats.new ≡
-        (server_does k turn heard None (stepped_by plan core.old)
-        (concerns core.old post.old seats.old flying.old journal.old packets.old)).seats) }
-    ensures flying { OnOk result (flying.new ≡
-        (server_does k turn heard None (stepped_by plan core.old)
-        (concerns core.old post.old seats.old flying.old journal.old packets.old)).flying) }
-    ensures journal { OnOk result (journal.new ≡
-        (server_does k turn heard None (stepped_by plan core.old)
-        (concerns core.old post.old seats.old flying.old journal.old packets.old)).journal) }
-    ensures packets { OnOk result (packets.new ≡
-        (server_does k turn heard None (stepped_by plan core.old)
-        (concerns core.old post.old seats.old flying.old journal.old packets.old)).packets) }
+    ensures done { IfOk result (λ told.
+        server_left told core.new post.new seats.new flying.new journal.new packets.new ≡
+        server_does k turn heard None (stepped_by plan core.old)
+        (server_found core.old post.old seats.old flying.old journal.old packets.old)) }
     ensures fits { OnOk result (FitsDown plan.out.send) }
     ensures spent { (counter : TheCounter) → IsErrOf result (errors.Spent counter) →
         (counter ≡ Segments) × (is_full_down plan.out.send post.old ≡ true) }
-    ensures room { OnOk result (is_full_down plan.out.send post.old ≡ false) }
-    ensures err_server { OnErr result (core.new ≡ core.old) }
     ensures undo { OnErr result (undone undo.new post.new ≡ undone undo.old post.old) }
-    ensures err_seats { OnErr result (seats.new ≡ seats.old) }
-    ensures err_flying { OnErr result (flying.new ≡ flying.old) }
-    ensures err_journal { OnErr result (journal.new ≡ journal.old) }
-    ensures err_packets { OnErr result (packets.new ≡ packets.old) }
+    ensures err { OnErr result (
+        server_found core.new post.old seats.new flying.new journal.new packets.new ≡
+        server_found core.old post.old seats.old flying.old journal.old packets.old) }
 {
     let mut plan = plan;
     push_all(alloc, post, plan.out.send.as_slice(), undo)?;
@@ -172,22 +123,13 @@ fn send(
     packets: &mut Packets,
 ) -> Result<Outcome, Memory>
     requires { CanCommit plan core.old }
-    ensures outcome { IfOk result (λ o. o ≡ (server_goes k turn heard note None
-        (concerns core.old post.old seats.old flying.old journal.old packets.old)).outcome) }
-    ensures server { OnOk result (core.new ≡ committed plan core.old) }
-    ensures post { OnOk result (post.new ≡ (server_goes k turn heard note None
-        (concerns core.old post.old seats.old flying.old journal.old packets.old)).post) }
-    ensures seats { OnOk result (seats.new ≡ with_downs k plan.out.send seats.old) }
-    ensures flying { OnOk result (flying.new ≡ flying.old ++ flying_from k plan.out.send) }
-    ensures journal { OnOk result (journal.new ≡ journal.old ++ plan.out.admitted) }
-    ensures packets { OnOk result (packets.new ≡ (server_goes k turn heard note None
-        (concerns core.old post.old seats.old flying.old journal.old packets.old)).packets) }
-    ensures err_server { OnErr result (core.new ≡ core.old) }
-    ensures err_post { OnErr result (post.new ≡ post.old) }
-    ensures err_seats { OnErr result (seats.new ≡ seats.old) }
-    ensures err_flying { OnErr result (flying.new ≡ flying.old) }
-    ensures err_journal { OnErr result (journal.new ≡ journal.old) }
-    ensures err_packets { OnErr result (packets.new ≡ packets.old) }
+    ensures done { IfOk result (λ told.
+        server_left told core.new post.new seats.new flying.new journal.new packets.new ≡
+        server_goes k turn heard note None (with_plan k plan
+        (server_found core.old post.old seats.old flying.old journal.old packets.old))) }
+    ensures err { OnErr result (
+        server_found core.new post.new seats.new flying.new journal.new packets.new ≡
+        server_found core.old post.old seats.old flying.old journal.old packets.old) }
 {
     let before = packets.sent().len();
     let told = send_due(alloc, Peer::Server(k), turn, heard, note, post, packets)?;
@@ -225,67 +167,25 @@ fn admit(
     ensures err_journal { OnErr result (journal.new ≡ journal.old) }
 {
     let mut plan = plan;
-    let before = journal.len();
     let admitted = mem::replace(&mut plan.out.admitted, List::new(alloc));
-    append(journal, admitted)?;
-    match tell(alloc, k, plan, core, seats, flying) {
-        Ok(()) => Ok(()),
-        Err(e) => {
-            journal.truncate(before);
-            Err(e)
-        }
-    }
-}
-
-/// The server's messages are on their way, and it changes as planned.
-fn tell(
-    alloc: Global,
-    k: u8,
-    plan: Plan,
-    core: &mut ServerCore,
-    seats: &mut Seats,
-    flying: &mut List<Flying>,
-) -> Result<(), Memory>
-    requires { CanCommit plan core.old }
-    ensures server { OnOk result (core.new ≡ committed plan core.old) }
-    ensures seats { OnOk result (seats.new ≡ with_downs k plan.out.send seats.old) }
-    ensures flying { OnOk result (flying.new ≡ flying.old ++ flying_from k plan.out.send) }
-    ensures err_server { OnErr result (core.new ≡ core.old) }
-    ensures err_seats { OnErr result (seats.new ≡ seats.old) }
-    ensures err_flying { OnErr result (flying.new ≡ flying.old) }
-{
-    let before = flying.len();
-    push_flying(alloc, k, flying, plan.out.send.as_slice())?;
-    match answer(alloc, k, plan, core, seats) {
-        Ok(()) => Ok(()),
-        Err(e) => {
-            flying.truncate(before);
-            Err(e)
-        }
-    }
-}
-
-/// The server's answers are on their way, and it changes as planned.
-fn answer(
-    alloc: Global,
-    k: u8,
-    plan: Plan,
-    core: &mut ServerCore,
-    seats: &mut Seats,
-) -> Result<(), Memory>
-    requires { CanCommit plan core.old }
-    ensures server { OnOk result (core.new ≡ committed plan core.old) }
-    ensures seats { OnOk result (seats.new ≡ with_downs k plan.out.send seats.old) }
-    ensures err_server { OnErr result (core.new ≡ core.old) }
-    ensures err_seats { OnErr result (seats.new ≡ seats.old) }
-{
-    let mut plan = plan;
     let send = mem::replace(&mut plan.out.send, List::new(alloc));
-    push_downs(alloc, k, seats, send.as_slice())?;
+    let (items, parcels) = (journal.len(), flying.len());
+    append(journal, admitted)?;
+    if let Err(e) = push_flying(alloc, k, flying, send.as_slice()) {
+        journal.truncate(items);
+        return Err(e);
+    }
+    if let Err(e) = push_downs(alloc, k, seats, send.as_slice()) {
+        flying.truncate(parcels);
+        journal.truncate(items);
+        return Err(e);
+    }
     match core.commit(alloc, plan) {
         Ok(()) => Ok(()),
         Err(e) => {
             undo_downs(k, seats, send.as_slice());
+            flying.truncate(parcels);
+            journal.truncate(items);
             Err(e)
         }
     }

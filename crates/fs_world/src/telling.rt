@@ -1,18 +1,18 @@
 //! A packet that reaches its addressee.
-ghost use Rattle.std.specs.Prelude.{◌≡◌, ◌≤◌, ◌⊎◌, Some, None, IfOk, OnOk, OnErr, IsErrOf, length, slice_get};
+ghost use Rattle.std.specs.Prelude.{◌≡◌, ◌≤◌, Some, IfOk, OnOk, OnErr, length, slice_get};
 ghost use Rattle.std.specs.FinMap as map;
 ghost use Rattle.fs_ident.specs.declared.limits.TheConstants.{LATEST};
-ghost use Rattle.fs_msg.specs.declared.core_error.Counter.{Counter as TheCounter};
-ghost use Rattle.fs_msg.specs.declared.core_error.CoreError.TheVariants as errors;
 ghost use Rattle.fs_window.specs.Post.{Links, post_accepted};
 ghost use Rattle.fs_ident.specs.declared.actor.Peer.TheVariants.{Server};
 ghost use Rattle.fs_server.specs.declared.state.Server.{Server as TheCore};
+ghost use Rattle.fs_world.specs.Calls.{Spends, world_left};
 ghost use Rattle.fs_world.specs.Linked.{IsFirstOf, IsLinked, downs_of};
 ghost use Rattle.fs_world.specs.Packets.{first_untold};
 ghost use Rattle.fs_world.specs.Planned.{IsAnswered, IsComing, WasSent};
 ghost use Rattle.fs_world.specs.Served.{arrives, at_server, comes, first_from, server_told_at, tell, told_at};
 ghost use Rattle.fs_world.specs.declared.seat.Seat.{Seat as TheSeat};
 
+use crate::clients::told;
 use crate::goes::outcome;
 use crate::hearing::server_told;
 use crate::served::Served;
@@ -27,16 +27,11 @@ impl Served {
     pub(crate) fn tell_next(&mut self, alloc: Global, now: u64) -> Result<Outcome, CoreError>
         requires reading { now ≤ LATEST }
         requires linked { IsLinked self.old }
-        ensures outcome { IfOk result (λ o. o ≡
-            (tell now (first_untold self.old.packets.told) self.old).outcome) }
-        ensures world { OnOk result (self.new ≡
-            (tell now (first_untold self.old.packets.told) self.old).world) }
+        ensures done { IfOk result (λ told. world_left told self.new ≡
+            tell now (first_untold self.old.packets.told) self.old) }
         ensures linked { OnOk result (IsLinked self.new) }
-        ensures spent { (counter : TheCounter) → IsErrOf result (errors.Spent counter) →
-            (tell now (first_untold self.old.packets.told) self.old).spent ≡ Some counter }
-        ensures only { (counter : TheCounter) →
-            (tell now (first_untold self.old.packets.told) self.old).spent ≡ Some counter →
-            IsErrOf result (errors.Spent counter) ⊎ IsErrOf result errors.Memory }
+        ensures spends { Spends result
+            (tell now (first_untold self.old.packets.told) self.old).spent }
         ensures err { OnErr result (self.new ≡ self.old) }
     {
         let next = self.packets.first_untold();
@@ -47,13 +42,9 @@ impl Served {
     pub(crate) fn tell(&mut self, alloc: Global, now: u64, k: u64) -> Result<Outcome, CoreError>
         requires reading { now ≤ LATEST }
         requires linked { IsLinked self.old }
-        ensures outcome { IfOk result (λ o. o ≡ (tell now k self.old).outcome) }
-        ensures world { OnOk result (self.new ≡ (tell now k self.old).world) }
+        ensures done { IfOk result (λ told. world_left told self.new ≡ tell now k self.old) }
         ensures linked { OnOk result (IsLinked self.new) }
-        ensures spent { (counter : TheCounter) → IsErrOf result (errors.Spent counter) →
-            (tell now k self.old).spent ≡ Some counter }
-        ensures only { (counter : TheCounter) → (tell now k self.old).spent ≡ Some counter →
-            IsErrOf result (errors.Spent counter) ⊎ IsErrOf result errors.Memory }
+        ensures spends { Spends result (tell now k self.old).spent }
         ensures err { OnErr result (self.new ≡ self.old) }
     {
         let Some(sent) = self.packets.get(k) else {
@@ -78,16 +69,12 @@ impl Served {
         requires reading { now ≤ LATEST }
         requires sent { WasSent from to packet self.old.packets.sent }
         requires linked { IsLinked self.old }
-        ensures outcome { IfOk result (λ o. o ≡ (arrives now from to packet self.old).outcome) }
-        ensures world { OnOk result (self.new ≡ (arrives now from to packet self.old).world) }
+        ensures done { IfOk result (λ told. world_left told self.new ≡
+            arrives now from to packet self.old) }
         ensures linked { OnOk result (IsLinked self.new) }
         ensures kept { OnOk result
             (length self.old.packets.sent ≤ length self.new.packets.sent) }
-        ensures spent { (counter : TheCounter) → IsErrOf result (errors.Spent counter) →
-            (arrives now from to packet self.old).spent ≡ Some counter }
-        ensures only { (counter : TheCounter) →
-            (arrives now from to packet self.old).spent ≡ Some counter →
-            IsErrOf result (errors.Spent counter) ⊎ IsErrOf result errors.Memory }
+        ensures spends { Spends result (arrives now from to packet self.old).spent }
         ensures err { OnErr result (self.new ≡ self.old) }
     {
         match packet {
@@ -108,14 +95,10 @@ impl Served {
         requires reading { now ≤ LATEST }
         requires sent { WasSent from to (Some p.now) self.old.packets.sent }
         requires linked { IsLinked self.old }
-        ensures outcome { IfOk result (λ o. o ≡ (comes now from to p.now self.old).outcome) }
-        ensures world { OnOk result (self.new ≡ (comes now from to p.now self.old).world) }
+        ensures done { IfOk result (λ told. world_left told self.new ≡
+            comes now from to p.now self.old) }
         ensures linked { OnOk result (IsLinked self.new) }
-        ensures spent { (counter : TheCounter) → IsErrOf result (errors.Spent counter) →
-            (comes now from to p.now self.old).spent ≡ Some counter }
-        ensures only { (counter : TheCounter) →
-            (comes now from to p.now self.old).spent ≡ Some counter →
-            IsErrOf result (errors.Spent counter) ⊎ IsErrOf result errors.Memory }
+        ensures spends { Spends result (comes now from to p.now self.old).spent }
         ensures err { OnErr result (self.new ≡ self.old) }
     {
         match (from, to) {
@@ -139,23 +122,17 @@ impl Served {
             IsComing (post_accepted post from p.now).heard.joined
             (first_from k from self.old.seats self.old.flying) }
         requires posts { length self.old.posts ≡ length self.old.servers }
-        ensures outcome { IfOk result (λ o. o ≡ (server_told_at (slice_get self.old.servers k)
-            (slice_get self.old.posts k) now k from p.now self.old).outcome) }
-        ensures world { OnOk result (self.new ≡ (server_told_at (slice_get self.old.servers k)
-            (slice_get self.old.posts k) now k from p.now self.old).world) }
+        ensures done { IfOk result (λ told. world_left told self.new ≡
+            server_told_at (slice_get self.old.servers k) (slice_get self.old.posts k) now k from
+            p.now self.old) }
         ensures fits { (core : TheCore) (post : Links) →
             slice_get self.old.servers k ≡ Some core → slice_get self.old.posts k ≡ Some post →
             OnOk result (IsAnswered now (post_accepted post from p.now).heard.joined
             (first_from k from self.old.seats self.old.flying)
             (at_server core (post_accepted post from p.now).links self.old)) }
-        ensures spent { (counter : TheCounter) → IsErrOf result (errors.Spent counter) →
-            (server_told_at (slice_get self.old.servers k)
-            (slice_get self.old.posts k) now k from p.now self.old).spent ≡ Some counter }
-        ensures only { (counter : TheCounter) → (server_told_at (slice_get self.old.servers k)
-            (slice_get self.old.posts k) now k from p.now self.old).spent ≡ Some counter →
-            IsErrOf result (errors.Spent counter) ⊎ IsErrOf result errors.Memory }
-        ensures room { OnOk result ((server_told_at (slice_get self.old.servers k)
-            (slice_get self.old.posts k) now k from p.now self.old).spent ≡ None) }
+        ensures spends { Spends result
+            (server_told_at (slice_get self.old.servers k) (slice_get self.old.posts k) now k from
+            p.now self.old).spent }
         ensures err { OnErr result (self.new ≡ self.old) }
     {
         let at = k as usize;
@@ -190,21 +167,24 @@ impl Served {
         requires comes { (seat : TheSeat) → map.get self.old.seats s.0 ≡ Some seat →
             IsFirstOf (post_accepted seat.post (Server k) p.now).heard.joined
             (downs_of k (Some seat)) }
-        ensures outcome { IfOk result (λ o. o ≡
-            (told_at (map.get self.old.seats s.0) now s k p.now self.old).outcome) }
-        ensures world { OnOk result (self.new ≡
-            (told_at (map.get self.old.seats s.0) now s k p.now self.old).world) }
-        ensures spent { (counter : TheCounter) → IsErrOf result (errors.Spent counter) →
-            (told_at (map.get self.old.seats s.0) now s k p.now self.old).spent ≡ Some counter }
-        ensures only { (counter : TheCounter) →
-            (told_at (map.get self.old.seats s.0) now s k p.now self.old).spent ≡ Some counter →
-            IsErrOf result (errors.Spent counter) ⊎ IsErrOf result errors.Memory }
+        ensures done { IfOk result (λ told. world_left told self.new ≡
+            told_at (map.get self.old.seats s.0) now s k p.now self.old) }
+        ensures spends { Spends result
+            (told_at (map.get self.old.seats s.0) now s k p.now self.old).spent }
         ensures err { OnErr result (self.new ≡ self.old) }
     {
-        if !self.seats.has(s) {
-            return Ok(outcome(alloc, None, Note::Nothing)?);
+        match self.seats.get_mut(s) {
+            Some(seat) => told(
+                alloc,
+                now,
+                s,
+                k,
+                p,
+                seat,
+                &mut self.journal,
+                &mut self.packets,
+            ),
+            None => Ok(outcome(alloc, None, Note::Nothing)?),
         }
-        self.seats
-            .tell(alloc, now, s, k, p, &mut self.journal, &mut self.packets)
     }
 }

@@ -2,6 +2,8 @@
 ghost use Rattle.std.specs.Prelude.{◌≡◌, ◌≤◌};
 ghost use Rattle.fs_msg.specs.declared.limits.TheConstants.{LONGEST};
 
+use fs_ident::{Memory, Twin};
+use std::alloc::Global;
 use std::marker::Model;
 
 /// How long a lease lasts, in milliseconds, from 1 to `LONGEST`.
@@ -37,4 +39,14 @@ impl Term {
     {
         self.millis
     }
+}
+
+impl Twin for Term {
+    fn copy(&self, _: Global) -> Result<Term, Memory> {
+        Ok(Term {
+            millis: self.millis,
+        })
+    }
+
+    fn discard(self) {}
 }

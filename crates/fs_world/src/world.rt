@@ -123,10 +123,20 @@ impl World {
     /// Gives the world up, with every lease of its clients.
     pub fn discard(self) {
         let World { form, none: _ } = self;
-        match form {
-            Form::Direct(_) => {}
-            Form::Served(served) => served.discard(),
-        }
+        form.discard();
+    }
+}
+
+impl Twin for World {
+    fn copy(&self, alloc: Global) -> Result<World, Memory> {
+        Ok(World {
+            form: self.form.copy(alloc)?,
+            none: List::new(alloc),
+        })
+    }
+
+    fn discard(self) {
+        World::discard(self)
     }
 }
 

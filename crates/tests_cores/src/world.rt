@@ -4,6 +4,7 @@ ghost use Rattle.std.specs.List.{AllByRecursion};
 ghost use Rattle.fs_schedule.specs.Spelling.{FitsEvent};
 ghost use Rattle.fs_world.specs.World.{first_world};
 
+use fs_ident::Twin;
 use fs_schedule::{Schedule, read_schedule};
 use fs_world::World;
 use std::alloc::Global;
@@ -23,15 +24,29 @@ fn run(alloc: Global, world: &mut World, schedule: &Schedule) -> Result<(), Fail
     Ok(())
 }
 
-/// The counts after the schedule of the text.
+/// The counts after the schedule of the text, in a copy of its world.
 fn counts(alloc: Global, text: &[u8]) -> Result<Counts, Fail> {
     let schedule = read_schedule(alloc, text)?;
     let mut world = World::new(alloc, &schedule.head)?;
     let ran = run(alloc, &mut world, &schedule);
+    let copied = world.copy(alloc);
+    world.discard();
+    match (ran, copied) {
+        (Ok(()), Ok(twin)) => counted(alloc, twin),
+        (Ok(()), Err(e)) => Err(e.into()),
+        (Err(e), Ok(twin)) => {
+            twin.discard();
+            Err(e)
+        }
+        (Err(e), Err(_)) => Err(e),
+    }
+}
+
+/// The counts of the world, which is given up.
+fn counted(alloc: Global, world: World) -> Result<Counts, Fail> {
     let (items, packets) = (world.journal().len(), world.packets().len());
     let space = world.space(alloc);
     world.discard();
-    ran?;
     Ok((items, packets, space?.len()))
 }
 

@@ -1,20 +1,27 @@
-use Rattle.std.proofs.Common.{ap, sym, ◌∙◌, false}
+use Rattle.std.proofs.Common.{◌≡◌, ap, sym, ◌∙◌, subst, false}
+use Rattle.std.specs.Prelude.{Some}
 use Rattle.fs_ident.specs.declared.actor.Peer.{Peer}
-use Rattle.fs_world.specs.Planned.{concerns}
-use Rattle.fs_world.specs.Served.{core_step, without_message}
-use Rattle.fs_world.proofs.AtHearing.{taken_question}
+use Rattle.fs_world.specs.Calls.{server_left}
+use Rattle.fs_world.specs.Served.{core_step, first_from, server_found, without_message}
+use Rattle.fs_world.proofs.AtHearing.{taken_parcel, taken_question}
 use Rattle.fs_world.proofs.hearing.server_takes.Goals as goal
 use Rattle.fs_world.proofs.hearing.server_takes.Goals.{in-Client, in-Server}
 
-pub returns-clause-seats : goal.returns-clause-seats
-returns-clause-seats c =
+pub returns-clause-done : goal.returns-clause-done
+returns-clause-done c =
     let a = c.args in
-    let x = concerns a.core.now a.post.now a.seats.now a.flying.now a.journal.now a.packets.now in
+    let n = c.core_step.new in
+    let told = c.in_ok-told.told in
+    let x = server_found a.core.now a.post.now a.seats.now a.flying.now a.journal.now a.packets.now in
+    let y = server_left told n.core n.post n.seats n.flying n.journal n.packets in
     elim c.match-from.branch [
       | in-Client w ↦
-          w.seats-is ∙ taken_question a.k w.in-Client.s a.replied a.now a.event.now x c.core_step.new.seats w.pop_up.new.self c.in_ok-told.ensures.seats w.pop_up.ensures
-          ∙ sym (ap (λ (f : Peer). (core_step a.k false a.replied a.now a.event.now (without_message a.k f x)).seats) w.in-Client.is)
+          (λ i. server_left told n.core n.post (w.seats-is i) (w.flying-is i) n.journal n.packets)
+          ∙ taken_question a.k w.in-Client.s a.replied a.now a.event.now x y w.pop_up.new.self c.in_ok-told.ensures.done w.pop_up.ensures
+          ∙ sym (ap (λ (f : Peer). core_step a.k false a.replied a.now a.event.now (without_message a.k f x)) w.in-Client.is)
       | in-Server w ↦
-          w.seats-is ∙ c.in_ok-told.ensures.seats
-          ∙ sym (ap (λ (f : Peer). (core_step a.k false a.replied a.now a.event.now (without_message a.k f x)).seats) w.in-Server.is)
+          let first = subst (λ (f : Peer). first_from a.k f a.seats.now a.flying.now ≡ Some a.event.now) w.in-Server.is c.requires.first in
+          (λ i. server_left told n.core n.post (w.seats-is i) (w.flying-is i) n.journal n.packets)
+          ∙ taken_parcel a.k w.in-Server.j a.replied a.now a.event.now x y w.remove_flying.new.flying first c.in_ok-told.ensures.done w.remove_flying.ensures
+          ∙ sym (ap (λ (f : Peer). core_step a.k false a.replied a.now a.event.now (without_message a.k f x)) w.in-Server.is)
     ]

@@ -1,6 +1,12 @@
-use Rattle.std.proofs.Common.{◌∙◌}
-use Rattle.fs_world.proofs.SeatMaps.{taken_back}
+use Rattle.std.proofs.Common.{sym, ap, ◌∙◌, ℕ, ◌-◌, take}
+use Rattle.fs_world.proofs.SeatMaps.{none_taken_back, taken_back}
 use Rattle.fs_world.proofs.seats.Seats.unpush_down.Goals as goal
 
-pub returns : goal.returns
-returns c = λ seats a e. taken_back seats _ _ c.args.s.0 a (c.self.view_is ∙ e) c.unpush_down_in.ensures.joined c.unpush_down_in.ensures.other
+pub returns-in-Some : goal.returns-in-Some
+returns-in-Some c = λ seats a e.
+    let seat = c.in-Some.seat.now in
+    taken_back seats c.args.self.now seat c.args.s.0 a c.truncate.new.self e (sym c.in-Some.ensures.value)
+    (c.truncate.ensures ∙ ap (λ (n : ℕ). take n seat.down) (c.saturating_sub.ensures ∙ ap (λ (n : ℕ). n - 1) c.len-len.ensures))
+
+pub returns-in-None : goal.returns-in-None
+returns-in-None c = λ seats a e. none_taken_back seats c.args.self.now c.args.s.0 a e (sym c.in-None.ensures.value)

@@ -32,7 +32,7 @@ returns-in_default-Server-clause-linked c =
     let a = c.args in
     let w = a.self.now in
     let x = subst (λ (q : Peer). WasSent a.from q (Some a.p.now) w.packets.sent) c.in_default-Server.is-1 c.requires.sent in
-    told_after c.server_told.result w c.server_told.new.self c.in_default-Server.k a.now a.from a.p.now x c.server_told.ensures.fits c.requires.linked c.server_told.ensures.world
+    told_after c.server_told.result w c.server_told.new.self c.in_default-Server.k a.now a.from a.p.now x c.server_told.ensures.fits c.requires.linked c.server_told.ensures.done
 
 pub returns-in-Server-Client-clause-linked : goal.returns-in-Server-Client-clause-linked
 returns-in-Server-Client-clause-linked c =
@@ -42,4 +42,4 @@ returns-in-Server-Client-clause-linked c =
     let s = c.in-Server-Client.s in
     let to = subst (λ (q : Peer). WasSent a.from q (Some a.p.now) w.packets.sent) c.in-Server-Client.is-1 c.requires.sent in
     let x = subst (λ (q : Peer). WasSent q (Client s) (Some a.p.now) w.packets.sent) c.in-Server-Client.is-0 to in
-    linked_then c.client_told.result c.client_told.new.self (told_at (get w.seats s.0) a.now s k a.p.now w) (told_linked w s a.now k a.p.now x c.requires.linked) c.client_told.ensures.world
+    linked_then c.client_told.result c.client_told.new.self (told_at (get w.seats s.0) a.now s k a.p.now w) (told_linked w s a.now k a.p.now x c.requires.linked) c.client_told.ensures.done

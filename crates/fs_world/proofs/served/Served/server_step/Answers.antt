@@ -1,8 +1,9 @@
-use Rattle.std.proofs.Common.{◌≡◌, ◌<◌, length, ap, sym, ◌∙◌, subst, arith}
-use Rattle.std.specs.Prelude.{Some, None, OnOk, slice_get}
+use Rattle.std.proofs.Common.{◌≡◌, ◌<◌, length, sym, subst, arith}
+use Rattle.std.specs.Prelude.{Some, None, IfOk, slice_get}
+use Rattle.fs_world.specs.Calls.{world_left}
 use Rattle.fs_world.specs.Served.{Stepped, at_server, core_step, server_step, with_server}
 use Rattle.fs_world.specs.declared.served.Served.{Served}
-use Rattle.fs_world.proofs.AtServer.{item_there, own_after, served_by, step_there, world_by}
+use Rattle.fs_world.proofs.AtServer.{item_there, own_after, served_at, served_by, step_there}
 use Rattle.fs_world.proofs.served.Served.server_step.Goals as goal
 
 there : (c : goal.After-self-2-1) → slice_get c.args.self.now.servers c.args.k ≡ Some c.at_mut-core.result.now
@@ -16,20 +17,25 @@ tied c =
 is_step : (c : goal.After-self-2-1) → server_step c.args.k c.args.turn c.args.now c.args.event.now c.args.self.now ≡ with_server c.args.k (core_step c.args.k c.args.turn None c.args.now c.args.event.now (at_server c.at_mut-core.result.now c.at_mut.result.now c.args.self.now)) c.args.self.now
 is_step c = step_there c.args.self.now c.args.k c.args.turn c.args.now c.args.event.now c.at_mut-core.result.now c.at_mut.result.now (there c) (tied c)
 
+abbrev new : (c : goal.After-self-2-1) → Served
+new c =
+    let n = c.core_step.new in
+    served_by c.args.self.now c.args.k n.core n.post n.seats n.flying n.journal n.packets
+
+done : (c : goal.After-self-2-1) → IfOk c.core_step.result (λ told. world_left told (new c) ≡ server_step c.args.k c.args.turn c.args.now c.args.event.now c.args.self.now)
+done c =
+    let a = c.args in
+    let n = c.core_step.new in
+    subst (λ (y : Stepped). IfOk c.core_step.result (λ told. world_left told (new c) ≡ y)) (sym (is_step c))
+    (served_at c.core_step.result a.self.now a.k n.core n.post n.seats n.flying n.journal n.packets (core_step a.k a.turn None a.now a.event.now (at_server c.at_mut-core.result.now c.at_mut.result.now a.self.now)) c.core_step.ensures.done)
+
+pub returns-clause-done : goal.returns-clause-done
+returns-clause-done c = done c
+
 pub returns-clause-linked : goal.returns-clause-linked
 returns-clause-linked c =
     let a = c.args in
-    let w = a.self.now in
-    let e = c.core_step.ensures in
-    let n = c.core_step.new in
-    let x = core_step a.k a.turn None a.now a.event.now (at_server c.at_mut-core.result.now c.at_mut.result.now w) in
-    let new : Served = served_by w a.k n.core n.post n.seats n.flying n.journal n.packets in
-    own_after c.core_step.result w new a.k a.turn a.now a.event.now c.at_mut-core.result.now c.at_mut.result.now (there c) (tied c) c.requires.own c.know_records.ensures c.requires.linked
-    (subst (λ (y : Stepped). OnOk c.core_step.result (new ≡ y.world)) (sym (is_step c)) (world_by c.core_step.result w a.k n.core n.post n.seats n.flying n.journal n.packets x e.server e.post e.seats e.flying e.journal e.packets))
-    e.fits e.room
+    own_after c.core_step.result a.self.now (new c) a.k a.turn a.now a.event.now c.at_mut-core.result.now c.at_mut.result.now (there c) (tied c) c.requires.own c.know_records.ensures c.requires.linked (done c) c.core_step.ensures.fits
 
-pub returns-clause-spent : goal.returns-clause-spent
-returns-clause-spent c counter e = ap (λ (x : Stepped). x.spent) (is_step c) ∙ c.core_step.ensures.spent counter e
-
-pub returns-clause-only : goal.returns-clause-only
-returns-clause-only c counter e = c.core_step.ensures.only counter (sym (ap (λ (x : Stepped). x.spent) (is_step c)) ∙ e)
+pub returns-clause-spends : goal.returns-clause-spends
+returns-clause-spends c = rw (is_step c) c.core_step.ensures.spends

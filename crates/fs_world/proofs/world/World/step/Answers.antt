@@ -6,6 +6,8 @@ use Rattle.fs_world.specs.Linked.{IsWhole}
 use Rattle.fs_world.specs.Refusals.{HasNone, is_link_strange}
 use Rattle.fs_world.specs.declared.form.Form.{Form}
 use Rattle.fs_world.specs.declared.form.Form.TheVariants.{Direct, Served}
+use Rattle.fs_world.specs.Served.{step_of}
+use Rattle.fs_world.proofs.AtSeat.{told_then}
 use Rattle.fs_world.proofs.NothingUnsent.{answered_plain}
 use Rattle.fs_world.proofs.world.World.step.Goals as goal
 use Rattle.fs_world.proofs.world.World.step.Goals.{in-Direct, in-Served}
@@ -17,5 +19,5 @@ returns-clause-known c = elim c.match-self.branch [
       (answered_plain (Direct w.in-Direct.direct) c.args.event.now w.step.result tt w.step.ensures.outcome)
   | in-Served w ↦
       subst (λ (r : Result Outcome CoreError). IfOk r (HasNone is_link_strange)) (sym w.result-is)
-      (answered_plain (Served w.in-Served.served) c.args.event.now w.step-in-Served.result (subst (λ (f : Form). IsWhole f) w.in-Served.is c.self.invariant.1) w.step-in-Served.ensures.outcome)
+      (answered_plain (Served w.in-Served.served) c.args.event.now w.step-in-Served.result (subst (λ (f : Form). IsWhole f) w.in-Served.is c.self.invariant.1) (told_then w.step-in-Served.result w.step-in-Served.new.self (step_of w.in-Served.served c.args.event.now.reading c.args.event.now.what) w.step-in-Served.ensures.done))
 ]

@@ -1,7 +1,0 @@
-use Rattle.std.proofs.Common.{ap, ◌∙◌}
-use Rattle.std.specs.FinMap.{get}
-use Rattle.fs_world.specs.Served.{Seats}
-use Rattle.fs_world.proofs.seats.Seats.turn.Goals as goal
-
-pub returns-clause-only : goal.returns-clause-only
-returns-clause-only c = λ seat counter at e. c.turn_in.ensures.only seat counter (ap (λ (m : Seats). get m c.args.s.0) c.self.view_is ∙ at) e
