@@ -1,22 +1,20 @@
 //! A first create with its leases, an open with its leases, the end of a lease, what is asked back, and messages that no
-//! honest actor sends, by scripts.
+//! honest actor sends.
 ghost use Rattle.std.specs.Prelude.{◌≡◌, ◌≤◌, ◌^◌, true};
 ghost use Rattle.fs_ident.specs.declared.limits.TheConstants.{LATEST};
 ghost use Rattle.fs_msg.specs.declared.peer_msg.PeerMsg.TheVariants as peer;
 ghost use Rattle.fs_server.specs.Step.{AreNumbersLeft, CanBeTold};
 
-mod events;
 mod moves;
 
-use crate::same;
-use events::{Event, Says, event};
-use fs_ident::{FileId, LATEST, Twin};
-use fs_modes::Mode;
-use fs_msg::PeerMsg;
+use fs_field::{Field, LeaseKind, Use};
+use fs_ident::{FileId, Kind, LeaseNo, List, Name, Session, Twin};
+use fs_model::{Op, Reply};
+use fs_modes::{Mode, Modes};
+use fs_msg::{ClientMsg, Entry, PeerMsg};
 use fs_record::{Parcel, Record};
 use fs_server::{ServerCore, ServerEvent, ServerOut};
 use std::alloc::Global;
-use std::process::Abort;
 use std::test::Fail;
 
 /// The first server, where clocks differ by up to 10 and leases are given for 100.
@@ -26,15 +24,18 @@ fn server(alloc: Global) -> Result<ServerCore, Fail> {
 
 /// What the event at the reading comes to.
 fn step(
-    alloc: Global,
     core: &mut ServerCore,
+    alloc: Global,
     now: u64,
-    ev: &ServerEvent,
-) -> Result<ServerOut, Fail> {
-    if now > LATEST || !can_be_told(ev) {
+    ev: Result<ServerEvent, Fail>,
+) -> Result<ServerOut, Fail>
+    requires { now ≤ LATEST }
+{
+    let ev = ev?;
+    if !can_be_told(&ev) {
         return Err(Fail::from("no event"));
     }
-    Ok(core.step(alloc, now, ev)?)
+    Ok(core.step(alloc, now, &ev)?)
 }
 
 /// Whether it can be read from bytes.
@@ -79,26 +80,42 @@ fn is_number_left(kept: &Record) -> bool
 }
 
 /// What the event at the reading comes to, from a copy.
-fn told(alloc: Global, core: &mut ServerCore, now: u64, ev: &ServerEvent) -> Result<String, Fail> {
-    let out = step(alloc, core, now, ev)?.copy(alloc)?;
+fn told(
+    core: &mut ServerCore,
+    alloc: Global,
+    now: u64,
+    ev: Result<ServerEvent, Fail>,
+) -> Result<String, Fail>
+    requires { now ≤ LATEST }
+{
+    let out = step(core, alloc, now, ev)?.copy(alloc)?;
     Ok(format!(in alloc; "{out:?}")?)
 }
 
 /// What is noted of the event at the reading.
-fn noted(alloc: Global, core: &mut ServerCore, now: u64, ev: &ServerEvent) -> Result<String, Fail> {
-    let out = step(alloc, core, now, ev)?;
+fn noted(
+    core: &mut ServerCore,
+    alloc: Global,
+    now: u64,
+    ev: Result<ServerEvent, Fail>,
+) -> Result<String, Fail>
+    requires { now ≤ LATEST }
+{
+    let out = step(core, alloc, now, ev)?;
     Ok(format!(in alloc; "{:?}", out.note)?)
 }
 
-/// The same of copies of the event and of its plan, in two calls.
+/// The same of a copy of the event, in two calls.
 fn noted_in_two(
-    alloc: Global,
     core: &mut ServerCore,
+    alloc: Global,
     now: u64,
-    ev: &ServerEvent,
-) -> Result<String, Fail> {
-    let ev = ev.copy(alloc)?;
-    if now > LATEST || !can_be_told(&ev) {
+    ev: Result<ServerEvent, Fail>,
+) -> Result<String, Fail>
+    requires { now ≤ LATEST }
+{
+    let ev = ev?.copy(alloc)?;
+    if !can_be_told(&ev) {
         return Err(Fail::from("no event"));
     }
     let plan = core.plan(alloc, now, &ev)?.copy(alloc)?;
@@ -107,60 +124,82 @@ fn noted_in_two(
     Ok(text)
 }
 
-/// What is looked at: all that an event comes to, what is noted of it, the same in two calls, or nothing.
-#[derive(Clone, Copy)]
-enum Seen {
-    All(&'static str),
-    Note(&'static str),
-    InTwo(&'static str),
-    Nothing,
-}
-
-/// A line of a script: a reading, an event, and what is seen of it.
-type Line = (u64, Event, Seen);
-
-/// The line, as it is wanted and as it is found.
-fn line(
-    rt: &impl Abort,
+/// The session's question for one lease or two, and perhaps for an identifier below the root.
+fn ask(
     alloc: Global,
-    core: &mut ServerCore,
-    now: u64,
-    ev: &ServerEvent,
-    seen: Seen,
-) -> Result<(), Fail> {
-    match seen {
-        Seen::All(wanted) => is_text(rt, &told(alloc, core, now, ev)?, wanted),
-        Seen::Note(wanted) => is_text(rt, &noted(alloc, core, now, ev)?, wanted),
-        Seen::InTwo(wanted) => is_text(rt, &noted_in_two(alloc, core, now, ev)?, wanted),
-        Seen::Nothing => {
-            step(alloc, core, now, ev)?;
-        }
+    by: u16,
+    first: (Field, LeaseKind),
+    second: Option<(Field, LeaseKind)>,
+    fresh: bool,
+) -> Result<ServerEvent, Fail> {
+    let mut items = List::new(alloc);
+    items.push(first)?;
+    if let Some(second) = second {
+        items.push(second)?;
     }
-    Ok(())
+    let fresh = if fresh {
+        Some(FileId::root(alloc))
+    } else {
+        None
+    };
+    Ok(ServerEvent::FromClient(Session(by), ClientMsg::Ask { items, fresh }))
 }
 
-fn is_text(rt: &impl Abort, found: &String, wanted: &str) {
-    same(rt, found.as_str(), wanted);
+fn life(alloc: Global) -> (Field, LeaseKind) {
+    (Field::Life(FileId::root(alloc)), LeaseKind::Shared)
 }
 
-/// All that comes to the server, line by line.
-fn plays(
-    rt: &impl Abort,
-    alloc: Global,
-    core: &mut ServerCore,
-    script: &[Line],
-) -> Result<(), Fail> {
-    for (now, one, seen) in script {
-        let ev = event(alloc, *one)?;
-        line(rt, alloc, core, *now, &ev, *seen)?;
+fn child(alloc: Global) -> Result<(Field, LeaseKind), Fail> {
+    let name = Name::new(alloc, b"a")?;
+    Ok((
+        Field::Child(FileId::root(alloc), name),
+        LeaseKind::Exclusive,
+    ))
+}
+
+/// What a create of a file in the root asks for.
+fn first_ask(alloc: Global, by: u16) -> Result<ServerEvent, Fail> {
+    ask(alloc, by, life(alloc), Some(child(alloc)?), true)
+}
+
+/// The lease of this number on the life of the root.
+fn used(alloc: Global, count: u64) -> Use {
+    Use {
+        field: Field::Life(FileId::root(alloc)),
+        kind: LeaseKind::Shared,
+        no: LeaseNo { server: 0, count },
+        until: 100,
     }
-    Ok(())
 }
 
-/// The script of the first server.
-fn plays_first(rt: &impl Abort, alloc: Global, script: &[Line]) -> Result<(), Fail> {
-    let mut core = server(alloc)?;
-    plays(rt, alloc, &mut core, script)
+fn entry(alloc: Global, n: u64, op: Op, reply: Reply) -> Result<Entry, Fail> {
+    let mut uses = List::new(alloc);
+    uses.push(used(alloc, 1))?;
+    Ok(Entry { n, op, reply, uses })
+}
+
+/// The create of a file in the root.
+fn create(alloc: Global) -> Result<Op, Fail> {
+    Ok(Op::Create {
+        dir: FileId::root(alloc),
+        name: Name::new(alloc, b"a")?,
+        kind: Kind::File,
+        id: Some(FileId::parse(alloc, b"/1")?),
+    })
+}
+
+/// A log of the create, and of a look at the root behind it.
+fn log(alloc: Global) -> Result<ServerEvent, Fail> {
+    let mut entries = List::new(alloc);
+    entries.push(entry(alloc, 1, create(alloc)?, Reply::Made)?)?;
+    entries.push(entry(alloc, 2, look(alloc), Reply::IsDir)?)?;
+    Ok(ServerEvent::FromClient(Session(1), ClientMsg::Ship { entries }))
+}
+
+fn look(alloc: Global) -> Op {
+    Op::Kind {
+        file: FileId::root(alloc),
+    }
 }
 
 const FIRST_LEASES: &str = "ServerOut { note: Grants { count: 3, end: All }, send: List { items: [(\
@@ -175,31 +214,21 @@ const FIRST_LEASES: &str = "ServerOut { note: Grants { count: 3, end: All }, sen
 
 const ADMITS: &str = "Admits { count: 2, end: All, gaps: List { items: [] } }";
 
-/// The leases of a first create.
-const ASKS: [Line; 1] = [(
-    0,
-    Event::From(1, Says::AskToCreate),
-    Seen::All(FIRST_LEASES),
-)];
-
-/// Its log.
-const HANDS_IN: [Line; 1] = [(5, Event::From(1, Says::Log), Seen::InTwo(ADMITS))];
-
-fn creates(rt: &impl Abort, alloc: Global, core: &mut ServerCore) -> Result<(), Fail> {
-    plays(rt, alloc, core, &ASKS)?;
-    same(rt, has_file(alloc, core)?, false);
-    plays(rt, alloc, core, &HANDS_IN)?;
-    same(rt, has_file(alloc, core)?, true);
+/// The leases of a first create, and its log.
+#[test]
+fn a_first_create(rt: HostRuntime) -> Result<(), Fail> {
+    let alloc = rt.alloc();
+    let mut core = server(alloc)?;
+    let text = told(&mut core, alloc, 0, first_ask(alloc, 1))?;
+    assert_eq!(rt; text.as_str(), FIRST_LEASES);
+    assert!(rt; !has_file(&core, alloc)?);
+    let text = noted_in_two(&mut core, alloc, 5, log(alloc))?;
+    assert_eq!(rt; text.as_str(), ADMITS);
+    assert!(rt; has_file(&core, alloc)?);
     Ok(())
 }
 
-#[test]
-fn a_first_create(rt: HostRuntime) -> Result<(), Fail> {
-    let mut core = server(rt.alloc())?;
-    creates(&rt, rt.alloc(), &mut core)
-}
-
-fn has_file(alloc: Global, core: &ServerCore) -> Result<bool, Fail> {
+fn has_file(core: &ServerCore, alloc: Global) -> Result<bool, Fail> {
     let file = FileId::parse(alloc, b"/1")?;
     Ok(core.records().get(&file).is_some())
 }
@@ -207,21 +236,22 @@ fn has_file(alloc: Global, core: &ServerCore) -> Result<bool, Fail> {
 const ENDS: &str = "Admits { count: 0, end: Ended { n: 1, lease: LeaseNo { server: 0, count: 1 }, \
     until: 100, now: 110 }, gaps: List { items: [2] } }";
 
-/// The log comes in time, and too late.
-const IN_TIME: [Line; 2] = [
-    (0, Event::From(1, Says::AskToCreate), Seen::Nothing),
-    (109, Event::From(1, Says::Log), Seen::Note(ADMITS)),
-];
-
-const LATE: [Line; 2] = [
-    (0, Event::From(1, Says::AskToCreate), Seen::Nothing),
-    (110, Event::From(1, Says::Log), Seen::Note(ENDS)),
-];
+/// What is noted of the log at the reading, after the first create's leases at 0.
+fn ended(alloc: Global, now: u64) -> Result<String, Fail>
+    requires { now ≤ LATEST }
+{
+    let mut core = server(alloc)?;
+    noted(&mut core, alloc, 0, first_ask(alloc, 1))?;
+    noted(&mut core, alloc, now, log(alloc))
+}
 
 #[test]
 fn a_row_stands_until_its_end_and_the_skew(rt: HostRuntime) -> Result<(), Fail> {
-    plays_first(&rt, rt.alloc(), &IN_TIME)?;
-    plays_first(&rt, rt.alloc(), &LATE)
+    let text = ended(rt.alloc(), 109)?;
+    assert_eq!(rt; text.as_str(), ADMITS);
+    let text = ended(rt.alloc(), 110)?;
+    assert_eq!(rt; text.as_str(), ENDS);
+    Ok(())
 }
 
 const WAITS: &str =
@@ -237,15 +267,26 @@ const RECALLS: &str = "ServerOut { note: Recalls { count: 1 }, send: List { item
     items: [] } }";
 
 /// What stands in the way of another session is asked back, and so are the leases on a field.
-const ASKED_BACK: [Line; 3] = [
-    (0, Event::From(1, Says::AskToCreate), Seen::Nothing),
-    (50, Event::RecallRoot, Seen::All(RECALLS)),
-    (50, Event::From(2, Says::AskToCreate), Seen::All(WAITS)),
-];
-
 #[test]
 fn leases_are_asked_back(rt: HostRuntime) -> Result<(), Fail> {
-    plays_first(&rt, rt.alloc(), &ASKED_BACK)
+    let alloc = rt.alloc();
+    let mut core = server(alloc)?;
+    noted(&mut core, alloc, 0, first_ask(alloc, 1))?;
+    let text = told(&mut core, alloc, 50, Ok(ServerEvent::Recall(life(alloc).0)))?;
+    assert_eq!(rt; text.as_str(), RECALLS);
+    let text = told(&mut core, alloc, 50, first_ask(alloc, 2))?;
+    assert_eq!(rt; text.as_str(), WAITS);
+    Ok(())
+}
+
+/// The root's first child.
+fn first(alloc: Global) -> Result<FileId, Fail> {
+    Ok(FileId::root(alloc).child(alloc, 1)?)
+}
+
+/// The life of the root's first child, which is not there.
+fn life_of_first(alloc: Global) -> Result<(Field, LeaseKind), Fail> {
+    Ok((Field::Life(first(alloc)?), LeaseKind::Shared))
 }
 
 const PASSES: &str =
@@ -256,14 +297,24 @@ const PASSES: &str =
     List { items: [] } }";
 
 /// A number of a new file that a row bears is passed over.
-const PASSED_OVER: [Line; 2] = [
-    (0, Event::From(1, Says::AskFirst), Seen::Nothing),
-    (0, Event::From(2, Says::AskRootAndFresh), Seen::All(PASSES)),
-];
-
 #[test]
 fn a_number_that_a_row_bears_is_passed_over(rt: HostRuntime) -> Result<(), Fail> {
-    plays_first(&rt, rt.alloc(), &PASSED_OVER)
+    let alloc = rt.alloc();
+    let mut core = server(alloc)?;
+    let first = ask(alloc, 1, life_of_first(alloc)?, None, false);
+    noted(&mut core, alloc, 0, first)?;
+    let text = told(&mut core, alloc, 0, ask(alloc, 2, life(alloc), None, true))?;
+    assert_eq!(rt; text.as_str(), PASSES);
+    Ok(())
+}
+
+/// The first lease with its file, and one that was never given.
+fn pairs(alloc: Global) -> Result<List<(FileId, LeaseNo)>, Fail> {
+    let mut pairs = List::new(alloc);
+    for count in [1, 9] {
+        pairs.push((FileId::root(alloc), LeaseNo { server: 0, count }))?;
+    }
+    Ok(pairs)
 }
 
 const RENEWS: &str = "ServerOut { note: Renews { count: 2, end: All }, send: List { items: [(\
@@ -271,41 +322,63 @@ const RENEWS: &str = "ServerOut { note: Renews { count: 2, end: All }, send: Lis
     Some(160)), (LeaseNo { server: 0, count: 9 }, None)] }, end: All }))] }, admitted: List { items: [] \
     } }";
 
+fn renew(alloc: Global) -> Result<ServerEvent, Fail> {
+    let pairs = pairs(alloc)?;
+    Ok(ServerEvent::FromClient(Session(1), ClientMsg::Renew { pairs }))
+}
+
+fn release(alloc: Global) -> Result<ServerEvent, Fail> {
+    let pairs = pairs(alloc)?;
+    Ok(ServerEvent::FromClient(Session(1), ClientMsg::Release { pairs }))
+}
+
 const RENEWS_NONE: &str = "ServerOut { note: Renews { count: 2, end: All }, send: List { items: [(\
     Client(Session(1)), Answer(Renewed { rows: List { items: [(LeaseNo { server: 0, count: 1 }, \
     None), (LeaseNo { server: 0, count: 9 }, None)] }, end: All }))] }, admitted: List { items: [] } }";
 
-/// Leases are renewed, and nothing is done at a turn.
-const RENEWED: [Line; 3] = [
-    (0, Event::From(1, Says::AskToCreate), Seen::Nothing),
-    (60, Event::From(1, Says::Renew), Seen::All(RENEWS)),
-    (60, Event::Turn, Seen::Note("Idle")),
-];
-
-/// They are given back.
-const RELEASED: [Line; 2] = [
-    (
-        62,
-        Event::From(1, Says::Release),
-        Seen::Note("Frees { count: 2, end: All }"),
-    ),
-    (62, Event::From(1, Says::Renew), Seen::All(RENEWS_NONE)),
-];
-
-/// A copy from before has them still.
-const OF_TWIN: [Line; 1] = [(60, Event::From(1, Says::Renew), Seen::All(RENEWS))];
-
-fn renews(rt: &impl Abort, alloc: Global, core: &mut ServerCore) -> Result<(), Fail> {
-    plays(rt, alloc, core, &RENEWED)?;
-    let mut twin = core.copy(alloc)?;
-    plays(rt, alloc, core, &RELEASED)?;
-    plays(rt, alloc, &mut twin, &OF_TWIN)
-}
-
+/// Leases are renewed and given back, and nothing is done at a turn.
 #[test]
 fn leases_are_renewed_and_released(rt: HostRuntime) -> Result<(), Fail> {
-    let mut core = server(rt.alloc())?;
-    renews(&rt, rt.alloc(), &mut core)
+    let alloc = rt.alloc();
+    let mut core = server(alloc)?;
+    noted(&mut core, alloc, 0, first_ask(alloc, 1))?;
+    let text = told(&mut core, alloc, 60, renew(alloc))?;
+    assert_eq!(rt; text.as_str(), RENEWS);
+    let text = noted(&mut core, alloc, 60, Ok(ServerEvent::Turn))?;
+    assert_eq!(rt; text.as_str(), "Idle");
+    let mut twin = core.copy(alloc)?;
+    let text = noted(&mut core, alloc, 62, release(alloc))?;
+    assert_eq!(rt; text.as_str(), "Frees { count: 2, end: All }");
+    let text = told(&mut core, alloc, 62, renew(alloc))?;
+    assert_eq!(rt; text.as_str(), RENEWS_NONE);
+    let text = told(&mut twin, alloc, 60, renew(alloc))?;
+    assert_eq!(rt; text.as_str(), RENEWS);
+    Ok(())
+}
+
+/// The session's question for what it tells of the mode on the root's first child.
+fn ask_self(alloc: Global, by: u16, m: Mode) -> Result<ServerEvent, Fail> {
+    let field = Field::SelfW(first(alloc)?, m);
+    ask(alloc, by, (field, LeaseKind::Shared), None, false)
+}
+
+/// The session's question for what others tell of the mode on the root's first child.
+fn ask_other(alloc: Global, by: u16, m: Mode) -> Result<ServerEvent, Fail> {
+    let field = Field::Other(first(alloc)?, m);
+    ask(alloc, by, (field, LeaseKind::Exclusive), None, false)
+}
+
+/// What the first session asks for to open the root's first child: its handles, what it tells of writing, and whether
+/// another denies that.
+fn open_ask(alloc: Global) -> Result<ServerEvent, Fail> {
+    let mut items = List::new(alloc);
+    items.push((Field::Own(first(alloc)?), LeaseKind::Shared))?;
+    items.push((Field::SelfW(first(alloc)?, Mode::AccW), LeaseKind::Shared))?;
+    items.push((
+        Field::Other(first(alloc)?, Mode::DenyW),
+        LeaseKind::Exclusive,
+    ))?;
+    Ok(ServerEvent::FromClient(Session(1), ClientMsg::Ask { items, fresh: None }))
 }
 
 const OPENS: &str =
@@ -323,18 +396,60 @@ const DENIAL_WAITS: &str =
     admitted: List { items: [] } }";
 
 /// A session may not deny what another is told that none denies: that lease is asked back.
-const DENIED: [Line; 2] = [
-    (0, Event::From(1, Says::AskToOpen), Seen::All(OPENS)),
-    (
-        1,
-        Event::From(2, Says::AskSelf(Mode::DenyW)),
-        Seen::All(DENIAL_WAITS),
-    ),
-];
-
 #[test]
 fn a_denial_waits_for_an_open(rt: HostRuntime) -> Result<(), Fail> {
-    plays_first(&rt, rt.alloc(), &DENIED)
+    let alloc = rt.alloc();
+    let mut core = server(alloc)?;
+    let text = told(&mut core, alloc, 0, open_ask(alloc))?;
+    assert_eq!(rt; text.as_str(), OPENS);
+    let text = told(&mut core, alloc, 1, ask_self(alloc, 2, Mode::DenyW))?;
+    assert_eq!(rt; text.as_str(), DENIAL_WAITS);
+    Ok(())
+}
+
+const WRITES: Modes = Modes {
+    acc_w: true,
+    ..Modes::NONE
+};
+
+/// A log in which the session opens the root's first child for writing.
+fn open_log(alloc: Global, by: u16) -> Result<ServerEvent, Fail> {
+    let op = Op::OpenFile {
+        file: first(alloc)?,
+        h: 1,
+        modes: WRITES,
+    };
+    let mut entries = List::new(alloc);
+    entries.push(Entry {
+        n: 3,
+        op,
+        reply: Reply::Opened,
+        uses: List::new(alloc),
+    })?;
+    Ok(ServerEvent::FromClient(Session(by), ClientMsg::Ship { entries }))
+}
+
+/// The root's first child, which the first two sessions have open for writing, with no leases on it.
+fn with_two_writers(alloc: Global) -> Result<ServerCore, Fail> {
+    let mut core = server(alloc)?;
+    noted(&mut core, alloc, 0, first_ask(alloc, 1))?;
+    noted(&mut core, alloc, 0, log(alloc))?;
+    noted(&mut core, alloc, 0, open_log(alloc, 1))?;
+    noted(&mut core, alloc, 0, open_log(alloc, 2))?;
+    Ok(core)
+}
+
+/// The session gives the fourth lease back.
+fn release_fourth(alloc: Global, by: u16) -> Result<ServerEvent, Fail> {
+    let mut pairs = List::new(alloc);
+    pairs.push((
+        first(alloc)?,
+        LeaseNo {
+            server: 0,
+            count: 4,
+        },
+    ))?;
+    Ok(ServerEvent::FromClient(Session(by), ClientMsg::Release { pairs }))
 }
 
 const OTHERS_WRITE: &str =
@@ -348,47 +463,42 @@ const LAST_WRITER_WAITS: &str =
     server: 0, count: 4 } } })), (Client(Session(3)), Answer(Recall { no: LeaseNo { server: 0, count: 4 } }))] }, \
     admitted: List { items: [] } }";
 
-const ONE_GRANT: &str = "Grants { count: 1, end: All }";
-
-/// The root's first child, which the first two sessions have open for writing, with no leases on it. A session is told
-/// that another writes; of two writers one may then stop, and the other only once that is given back.
-const TWO_WRITERS: [Line; 9] = [
-    (0, Event::From(1, Says::AskToCreate), Seen::Nothing),
-    (0, Event::From(1, Says::Log), Seen::Nothing),
-    (0, Event::From(1, Says::LogOfOpen), Seen::Nothing),
-    (0, Event::From(2, Says::LogOfOpen), Seen::Nothing),
-    (
-        0,
-        Event::From(3, Says::AskOther(Mode::AccW)),
-        Seen::All(OTHERS_WRITE),
-    ),
-    (
-        1,
-        Event::From(1, Says::AskSelf(Mode::AccW)),
-        Seen::Note(ONE_GRANT),
-    ),
-    (
-        1,
-        Event::From(2, Says::AskSelf(Mode::AccW)),
-        Seen::All(LAST_WRITER_WAITS),
-    ),
-    (2, Event::From(3, Says::ReleaseFourth), Seen::Nothing),
-    (
-        2,
-        Event::From(2, Says::AskSelf(Mode::AccW)),
-        Seen::Note(ONE_GRANT),
-    ),
-];
-
+/// A session is told that another writes; of two writers one may then stop, and the other only once that is given back.
 #[test]
 fn one_of_two_writers_stays(rt: HostRuntime) -> Result<(), Fail> {
-    plays_first(&rt, rt.alloc(), &TWO_WRITERS)
+    let alloc = rt.alloc();
+    let mut core = with_two_writers(alloc)?;
+    let text = told(&mut core, alloc, 0, ask_other(alloc, 3, Mode::AccW))?;
+    assert_eq!(rt; text.as_str(), OTHERS_WRITE);
+    let text = noted(&mut core, alloc, 1, ask_self(alloc, 1, Mode::AccW))?;
+    assert_eq!(rt; text.as_str(), "Grants { count: 1, end: All }");
+    let text = told(&mut core, alloc, 1, ask_self(alloc, 2, Mode::AccW))?;
+    assert_eq!(rt; text.as_str(), LAST_WRITER_WAITS);
+    noted(&mut core, alloc, 2, release_fourth(alloc, 3))?;
+    let text = noted(&mut core, alloc, 2, ask_self(alloc, 2, Mode::AccW))?;
+    assert_eq!(rt; text.as_str(), "Grants { count: 1, end: All }");
+    Ok(())
 }
 
 /// A log with a delete.
-const DELETES: [Line; 1] = [(0, Event::From(1, Says::LogOfDelete), Seen::Note("Strange"))];
+fn log_of_delete(alloc: Global) -> Result<ServerEvent, Fail> {
+    let mut entries = List::new(alloc);
+    entries.push(entry(alloc, 1, delete(alloc)?, Reply::Deleted)?)?;
+    Ok(ServerEvent::FromClient(Session(1), ClientMsg::Ship { entries }))
+}
+
+fn delete(alloc: Global) -> Result<Op, Fail> {
+    Ok(Op::Delete {
+        dir: FileId::root(alloc),
+        name: Name::new(alloc, b"a")?,
+    })
+}
 
 #[test]
 fn what_no_honest_actor_sends_is_strange(rt: HostRuntime) -> Result<(), Fail> {
-    plays_first(&rt, rt.alloc(), &DELETES)
+    let alloc = rt.alloc();
+    let mut core = server(alloc)?;
+    let text = noted(&mut core, alloc, 0, log_of_delete(alloc))?;
+    assert_eq!(rt; text.as_str(), "Strange");
+    Ok(())
 }

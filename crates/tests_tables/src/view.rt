@@ -3,10 +3,10 @@ ghost use Rattle.std.specs.Prelude.{◌≡◌, [], true, IfOk};
 ghost use Rattle.fs_record.specs.Effects.{tells_its_effects};
 ghost use Rattle.fs_view.specs.View.{can_grant_all, lapsed_at};
 
-use crate::{same, shows};
-use fs_field::{Field, LeaseKind, Use, Value};
-use fs_ident::{FileId, Kind, LeaseNo, List, Memory, Name, Session, Twin};
+use fs_field::{Field, LeaseKind, Need, Use, Value};
+use fs_ident::{FileId, Kind, LeaseNo, List, Name, Session, Twin};
 use fs_model::{Op, Reply};
+use fs_modes::Mode;
 use fs_record::effects;
 use fs_view::{NewLease, View};
 use std::alloc::Global;
@@ -19,55 +19,34 @@ const FIRST: LeaseNo = LeaseNo {
     count: 1,
 };
 
-/// Adds an exclusive lease, if its number is new and the value fits.
+/// Adds a lease, if its number is new and the value fits.
 fn give(
-    alloc: Global,
     view: &mut View,
+    alloc: Global,
     count: u64,
+    until: u64,
     field: &Field,
     value: Value,
-    below: Option<&FileId>,
 ) -> Result<(), Fail> {
     let no = LeaseNo { server: 0, count };
     if view.has(no) || !value.is_of(field) {
         return Err(Fail::from("no such lease"));
     }
-    view.grant(alloc, no, field, LeaseKind::Exclusive, 100, value, below)?;
-    Ok(())
-}
-
-/// Adds a shared lease on the life of the root, a directory, if its number is new.
-fn give_root(alloc: Global, view: &mut View, count: u64, until: u64) -> Result<(), Fail> {
-    let no = LeaseNo { server: 0, count };
-    if view.has(no) {
-        return Err(Fail::from("no such lease"));
-    }
-    let life = Field::Life(FileId::root(alloc));
-    let value = Value::Life(Some(Kind::Dir));
-    view.grant(alloc, no, &life, LeaseKind::Shared, until, value, None)?;
-    Ok(())
-}
-
-/// Adds the second lease, on the name in the root.
-fn give_child(alloc: Global, view: &mut View, to: Option<FileId>) -> Result<(), Fail> {
-    let child = Field::Child(FileId::root(alloc), Name::new(alloc, b"a")?);
-    give(alloc, view, 2, &child, Value::Child(to), None)
-}
-
-/// Adds the third lease, on the life of the first file.
-fn give_file(alloc: Global, view: &mut View, kind: Option<Kind>) -> Result<(), Fail> {
-    let life = Field::Life(first(alloc)?);
+    let kind = match field {
+        Field::Life(file) if file.numbers().is_empty() => LeaseKind::Shared,
+        _ => LeaseKind::Exclusive,
+    };
     let root = FileId::root(alloc);
-    give(alloc, view, 3, &life, Value::Life(kind), Some(&root))
-}
-
-/// The first file below the root.
-fn first(alloc: Global) -> Result<FileId, Fail> {
-    Ok(FileId::root(alloc).child(alloc, 1)?)
+    let below = match field {
+        Field::Life(file) if !file.numbers().is_empty() => Some(&root),
+        _ => None,
+    };
+    view.grant(alloc, no, field, kind, until, value, below)?;
+    Ok(())
 }
 
 /// The reply at the reading, if nothing is missing.
-fn reply_at(alloc: Global, view: &View, now: u64, op: &Op) -> Result<Option<Reply>, Fail> {
+fn reply_at(view: &View, alloc: Global, now: u64, op: &Op) -> Result<Option<Reply>, Fail> {
     let needs = view.missing(alloc, now, op)?;
     if !needs.is_empty() {
         return Ok(None);
@@ -75,68 +54,44 @@ fn reply_at(alloc: Global, view: &View, now: u64, op: &Op) -> Result<Option<Repl
     Ok(Some(view.reply(alloc, now, op)?))
 }
 
-/// So it is replied at the reading; not at all where something is missing.
-fn replies(
-    rt: &impl Abort,
-    alloc: Global,
-    view: &View,
-    now: u64,
-    op: &Op,
-    wanted: &str,
-) -> Result<(), Fail> {
-    shows(rt, alloc, &reply_at(alloc, view, now, op)?, wanted)
-}
-
-/// The uses at the reading, if nothing is missing.
-fn uses_at(alloc: Global, view: &View, now: u64, op: &Op) -> Result<List<Use>, Fail> {
-    let needs = view.missing(alloc, now, op)?;
-    if !needs.is_empty() {
-        return Ok(List::new(alloc));
-    }
-    Ok(view.uses(alloc, now, op)?)
-}
-
 /// The numbers of the leases that are used at the reading.
-fn used_at(alloc: Global, view: &View, now: u64, op: &Op) -> Result<List<u64>, Fail> {
+fn used_at(view: &View, alloc: Global, now: u64, op: &Op) -> Result<List<u64>, Fail> {
     let mut counts = List::new(alloc);
-    for u in uses_at(alloc, view, now, op)?.as_slice() {
-        counts.push(u.no.count)?;
+    let needs = view.missing(alloc, now, op)?;
+    if needs.is_empty() {
+        for u in view.uses(alloc, now, op)?.as_slice() {
+            counts.push(u.no.count)?;
+        }
     }
     Ok(counts)
 }
 
-/// So much is missing at the reading.
-fn misses(
-    rt: &impl Abort,
-    alloc: Global,
-    view: &View,
-    now: u64,
-    op: &Op,
-    wanted: &str,
-) -> Result<(), Fail> {
-    shows(rt, alloc, &view.missing(alloc, now, op)?, wanted)
-}
-
-const ROOT_IS_MISSING: &str = "List { items: [Lease(Life(FileId { numbers: [] }), Shared)] }";
-
 /// Three leases on one field: the one that ends last is used, and of two that end together the one with the lesser
 /// number, up to its last reading.
 fn choice(rt: &impl Abort, alloc: Global, view: &mut View) -> Result<(), Fail> {
-    give_root(alloc, view, 1, 100)?;
-    give_root(alloc, view, 3, 200)?;
-    give_root(alloc, view, 2, 200)?;
+    let life = Field::Life(FileId::root(alloc));
+    for (count, until) in [(1, 100), (3, 200), (2, 200)] {
+        give(
+            view,
+            alloc,
+            count,
+            until,
+            &life,
+            Value::Life(Some(Kind::Dir)),
+        )?;
+    }
     let op = Op::Kind {
         file: FileId::root(alloc),
     };
-    shows(
-        rt,
-        alloc,
-        &used_at(alloc, view, 50, &op)?,
-        "List { items: [2] }",
-    )?;
-    replies(rt, alloc, view, 199, &op, "Some(IsDir)")?;
-    replies(rt, alloc, view, 200, &op, "None")?;
-    misses(rt, alloc, view, 200, &op, ROOT_IS_MISSING)
+    assert_eq!(rt; used_at(view, alloc, 50, &op)?.as_slice(), [2].as_slice());
+    assert!(rt; matches!(reply_at(view, alloc, 199, &op)?, Some(Reply::IsDir)));
+    assert!(rt; reply_at(view, alloc, 200, &op)?.is_none());
+    let needs = view.missing(alloc, 200, &op)?;
+    assert_eq!(rt;
+        needs.as_slice(),
+        [Need::Lease(life, LeaseKind::Shared)].as_slice()
+    );
+    Ok(())
 }
 
 #[test]
@@ -159,44 +114,31 @@ fn create(alloc: Global, id: Option<FileId>) -> Result<Op, Fail>
     })
 }
 
-/// The log has the create of the first file.
-fn append(alloc: Global, view: &mut View) -> Result<(), Fail> {
-    let op = create(alloc, Some(first(alloc)?))?;
-    let told = effects(alloc, Session(1), &op, &Reply::Made)?;
-    view.append(told)?;
-    Ok(())
-}
-
-/// The name is there, and the identifier is offered no more.
-fn is_made(rt: &impl Abort, alloc: Global, view: &View, op: &Op) -> Result<(), Fail> {
-    same(rt, view.fresh(50, &FileId::root(alloc)).is_none(), true);
-    replies(rt, alloc, view, 50, op, "Some(Exists)")
-}
-
 /// A file is made once: then the log shows it, and its identifier is offered no more.
 fn creates(rt: &impl Abort, alloc: Global, view: &mut View) -> Result<(), Fail> {
-    give_root(alloc, view, 1, 100)?;
-    give_child(alloc, view, None)?;
-    give_file(alloc, view, None)?;
     let root = FileId::root(alloc);
-    shows(
-        rt,
-        alloc,
-        &view.fresh(50, &root),
-        "Some(FileId { numbers: [1] })",
-    )?;
+    let file = FileId::parse(alloc, b"/1")?;
+    let child = Field::Child(root.copy(alloc)?, Name::new(alloc, b"a")?);
+    let life = Field::Life(root.copy(alloc)?);
+    give(view, alloc, 1, 100, &life, Value::Life(Some(Kind::Dir)))?;
+    give(view, alloc, 2, 100, &child, Value::Child(None))?;
+    let made = Field::Life(file.copy(alloc)?);
+    give(view, alloc, 3, 100, &made, Value::Life(None))?;
+    assert_eq!(rt; view.fresh(50, &root), Some(&file));
     let op = create(alloc, None)?;
-    replies(rt, alloc, view, 50, &op, "Some(Made)")?;
-    shows(
-        rt,
-        alloc,
-        &used_at(alloc, view, 50, &op)?,
-        "List { items: [1, 2, 3] }",
-    )?;
-    append(alloc, view)?;
-    is_made(rt, alloc, view, &op)?;
+    assert!(rt; matches!(reply_at(view, alloc, 50, &op)?, Some(Reply::Made)));
+    assert_eq!(rt;
+        used_at(view, alloc, 50, &op)?.as_slice(),
+        [1, 2, 3].as_slice()
+    );
+    let told = effects(alloc, Session(1), &create(alloc, Some(file))?, &Reply::Made)?;
+    view.append(told)?;
+    assert_eq!(rt; view.fresh(50, &root), None);
+    assert!(rt; matches!(reply_at(view, alloc, 50, &op)?, Some(Reply::Exists)));
     view.admit_front(alloc, 1)?;
-    is_made(rt, alloc, view, &op)
+    assert_eq!(rt; view.fresh(50, &root), None);
+    assert!(rt; matches!(reply_at(view, alloc, 50, &op)?, Some(Reply::Exists)));
+    Ok(())
 }
 
 #[test]
@@ -207,41 +149,67 @@ fn an_identifier_is_offered_once(rt: HostRuntime) -> Result<(), Fail> {
     done
 }
 
-/// The needs of a delete that are of the file's children and handles.
-const OF_FILE: &str =
-    "List { items: [Lease(Names(FileId { numbers: [1] }), Shared), Lease(Own(FileId { numbers: \
-    [1] }), Exclusive), Lease(Other(FileId { numbers: [1] }, AccR), Shared), Lease(Other(FileId { \
-    numbers: [1] }, AccW), Shared), Lease(Other(FileId { numbers: [1] }, AccD), Shared)] }";
-
-/// The needs of a rename that are of the new name and of the file's handles.
-const OF_RENAME: &str =
-    "List { items: [Lease(Child(FileId { numbers: [] }, Name { bytes: [98] }), Exclusive), \
-    Lease(Own(FileId { numbers: [1] }), Exclusive), Lease(Other(FileId { numbers: [1] }, DenyD), \
-    Shared)] }";
-
-fn delete(alloc: Global) -> Result<Op, Fail> {
-    Ok(Op::Delete {
-        dir: FileId::root(alloc),
-        name: Name::new(alloc, b"a")?,
-    })
-}
-
-fn rename(alloc: Global) -> Result<Op, Fail> {
-    Ok(Op::Rename {
-        sdir: FileId::root(alloc),
-        sname: Name::new(alloc, b"a")?,
-        ddir: FileId::root(alloc),
-        dname: Name::new(alloc, b"b")?,
-    })
+/// Whether these are the needs of a delete that are of the file's children and handles.
+fn of_file(alloc: Global, file: &FileId, needs: &[Need]) -> Result<bool, Fail> {
+    let fields = [
+        Need::Lease(Field::Names(file.copy(alloc)?), LeaseKind::Shared),
+        Need::Lease(Field::Own(file.copy(alloc)?), LeaseKind::Exclusive),
+        Need::Lease(
+            Field::Other(file.copy(alloc)?, Mode::AccR),
+            LeaseKind::Shared,
+        ),
+        Need::Lease(
+            Field::Other(file.copy(alloc)?, Mode::AccW),
+            LeaseKind::Shared,
+        ),
+        Need::Lease(
+            Field::Other(file.copy(alloc)?, Mode::AccD),
+            LeaseKind::Shared,
+        ),
+    ];
+    Ok(needs == fields.as_slice())
 }
 
 /// A delete and a rename of a file whose place and life are known.
 fn removals(rt: &impl Abort, alloc: Global, view: &mut View) -> Result<(), Fail> {
-    give_root(alloc, view, 1, 100)?;
-    give_child(alloc, view, Some(first(alloc)?))?;
-    give_file(alloc, view, Some(Kind::File))?;
-    misses(rt, alloc, view, 50, &delete(alloc)?, OF_FILE)?;
-    misses(rt, alloc, view, 50, &rename(alloc)?, OF_RENAME)
+    let root = FileId::root(alloc);
+    let file = FileId::parse(alloc, b"/1")?;
+    let life = Field::Life(root.copy(alloc)?);
+    give(view, alloc, 1, 100, &life, Value::Life(Some(Kind::Dir)))?;
+    let child = Field::Child(root.copy(alloc)?, Name::new(alloc, b"a")?);
+    give(
+        view,
+        alloc,
+        2,
+        100,
+        &child,
+        Value::Child(Some(file.copy(alloc)?)),
+    )?;
+    let life = Field::Life(file.copy(alloc)?);
+    give(view, alloc, 3, 100, &life, Value::Life(Some(Kind::File)))?;
+    let delete = Op::Delete {
+        dir: root.copy(alloc)?,
+        name: Name::new(alloc, b"a")?,
+    };
+    let needs = view.missing(alloc, 50, &delete)?;
+    assert!(rt; of_file(alloc, &file, needs.as_slice())?);
+    let rename = Op::Rename {
+        sdir: root.copy(alloc)?,
+        sname: Name::new(alloc, b"a")?,
+        ddir: root.copy(alloc)?,
+        dname: Name::new(alloc, b"b")?,
+    };
+    let needs = view.missing(alloc, 50, &rename)?;
+    let fields = [
+        Need::Lease(
+            Field::Child(root, Name::new(alloc, b"b")?),
+            LeaseKind::Exclusive,
+        ),
+        Need::Lease(Field::Own(file.copy(alloc)?), LeaseKind::Exclusive),
+        Need::Lease(Field::Other(file, Mode::DenyD), LeaseKind::Shared),
+    ];
+    assert_eq!(rt; needs.as_slice(), fields.as_slice());
+    Ok(())
 }
 
 #[test]
@@ -254,16 +222,18 @@ fn removals_need_the_handles_too(rt: HostRuntime) -> Result<(), Fail> {
 
 /// A lease is recalled, renewed, given back and released.
 fn gives_back(rt: &impl Abort, alloc: Global, view: &mut View) -> Result<(), Fail> {
-    give_root(alloc, view, 1, 100)?;
+    let life = Field::Life(FileId::root(alloc));
+    give(view, alloc, 1, 100, &life, Value::Life(Some(Kind::Dir)))?;
     view.recall(FIRST);
     view.renew(FIRST, 200);
     view.lapse(199);
-    same(rt, view.leases(alloc)?.copy(alloc)?.len(), 1);
+    let seen = view.leases(alloc)?.copy(alloc)?;
+    assert_eq!(rt; seen.len(), 1);
     view.leave(FIRST);
-    same(rt, view.is_leaving(FIRST), true);
+    assert!(rt; view.is_leaving(FIRST));
     view.lapse(200);
     view.released(FIRST);
-    same(rt, view.has(FIRST), false);
+    assert!(rt; !view.has(FIRST));
     Ok(())
 }
 
@@ -287,35 +257,24 @@ fn first_use(alloc: Global) -> Result<List<Use>, Fail> {
     Ok(uses)
 }
 
-/// The lease is pinned, if it is there.
-fn pin(view: &mut View, uses: &List<Use>) -> Result<(), Fail> {
-    if !view.can_pin(uses) {
-        return Err(Fail::from("it was granted"));
-    }
-    view.pin(uses);
-    Ok(())
-}
-
-/// Whether a copy has the first lease.
-fn twin_has(alloc: Global, view: &View) -> Result<bool, Memory> {
-    let twin = view.copy(alloc)?;
-    let found = twin.has(FIRST);
-    twin.discard();
-    Ok(found)
-}
-
 /// A lease that an entry uses stays when its time is over, in a copy too, and when its row is gone.
 fn pins(rt: &impl Abort, alloc: Global, view: &mut View) -> Result<(), Fail> {
-    give_root(alloc, view, 1, 100)?;
+    let life = Field::Life(FileId::root(alloc));
+    give(view, alloc, 1, 100, &life, Value::Life(Some(Kind::Dir)))?;
     let uses = first_use(alloc)?;
-    pin(view, &uses)?;
+    if !view.can_pin(&uses) {
+        return Err(Fail::from("it was granted"));
+    }
+    view.pin(&uses);
     view.lapse(100);
     view.give_up(FIRST);
-    same(rt, (view.has(FIRST), view.is_held(FIRST)), (true, false));
-    same(rt, twin_has(alloc, view)?, true);
+    assert!(rt; view.has(FIRST) && !view.is_held(FIRST));
+    let twin = view.copy(alloc)?;
+    assert!(rt; twin.has(FIRST));
+    twin.discard();
     view.unpin(&uses);
     view.give_up(FIRST);
-    same(rt, view.has(FIRST), false);
+    assert!(rt; !view.has(FIRST));
     Ok(())
 }
 
@@ -343,22 +302,19 @@ fn root_life(alloc: Global) -> Result<List<NewLease>, Fail>
     Ok(leases)
 }
 
-const NAMES_ARE_MISSING: &str = "List { items: [Lease(Names(FileId { numbers: [] }), Shared)] }";
-
-/// One walk, of which this is a copy, tells what is missing, and what is used.
+/// One walk tells what is missing, and what is used.
 fn walks(rt: &impl Abort, alloc: Global, view: &View) -> Result<(), Fail> {
     let op = Op::List {
         dir: FileId::root(alloc),
     };
     let walk = view.walk(alloc, 99, &op)?.copy(alloc)?;
-    same(rt, walk.reply.is_none(), true);
-    same(rt, view.uses_of(alloc, 99, &walk.items)?.len(), 1);
-    shows(
-        rt,
-        alloc,
-        &view.missing_of(99, walk.items),
-        NAMES_ARE_MISSING,
-    )
+    assert!(rt; walk.reply.is_none());
+    let uses = view.uses_of(alloc, 99, &walk.items)?;
+    assert_eq!(rt; uses.len(), 1);
+    let names = Need::Lease(Field::Names(FileId::root(alloc)), LeaseKind::Shared);
+    let missing = view.missing_of(99, walk.items);
+    assert_eq!(rt; missing.as_slice(), [names].as_slice());
+    Ok(())
 }
 
 /// Leases that come together.
@@ -371,7 +327,7 @@ fn grants(
     requires { can_grant_all leases (lapsed_at 0 view.old).leases ≡ true }
 {
     view.grant_all(0, leases)?;
-    same(rt, view.kept().len(), 1);
+    assert_eq!(rt; view.kept().len(), 1);
     walks(rt, alloc, view)
 }
 

@@ -3,9 +3,7 @@ ghost use Rattle.std.specs.Prelude.{◌≡◌, true, IfOk};
 ghost use Rattle.fs_model.specs.Asking.{may_ask};
 ghost use Rattle.fs_record.specs.Effects.{tells_its_effects};
 
-use crate::client::hears;
-use crate::client::said::shipped;
-use crate::same;
+use crate::client::{hears, shipped};
 use fs_client::ClientCore;
 use fs_field::{Field, LeaseKind, Need, Use, Value};
 use fs_ident::{FileId, Kind, LeaseNo, List, Session, Twin};
@@ -92,7 +90,7 @@ fn asks(
     let op = op_of(alloc, asking)?;
     let out = core.act(alloc, NOW, &op)?;
     let text = note_text(alloc, &out.note)?;
-    same(rt, text.as_str(), wanted);
+    assert_eq!(rt; text.as_str(), wanted);
     Ok(out.send)
 }
 
@@ -156,9 +154,8 @@ fn gets(
 ) -> Result<(), Fail> {
     let sent = asks(rt, alloc, core, asking, wanted)?;
     let answer = granted(alloc, counts, sent)?;
-    let heard = hears(alloc, core, NOW, 0, &answer)?;
-    same(rt, heard, ("granted", counts.len() as u64, None));
-    Ok(())
+    let count = counts.len() as u64;
+    hears(rt, alloc, core, NOW, 0, &answer, ("granted", count))
 }
 
 /// The numbers of the leases that the entry uses, behind these.
@@ -196,10 +193,8 @@ fn ships(
 ) -> Result<(), Fail> {
     let out = core.turn(alloc, NOW)?;
     let used = used_in(alloc, out.send)?;
-    same(rt, used.as_slice(), wanted);
-    let heard = hears(alloc, core, NOW, 0, &shipped(count))?;
-    same(rt, heard, ("shipped", count, None));
-    Ok(())
+    assert_eq!(rt; used.as_slice(), wanted);
+    hears(rt, alloc, core, NOW, 0, &shipped(count), ("shipped", count))
 }
 
 const OTHERS: &str =
