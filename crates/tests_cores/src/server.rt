@@ -118,7 +118,7 @@ fn noted_in_two(
     if !can_be_told(&ev) {
         return Err(Fail::from("no event"));
     }
-    let plan = core.plan(alloc, now, &ev)?.copy(alloc)?;
+    let plan = core.plan(alloc, now, &ev)?;
     let text = format!(in alloc; "{:?}", plan.out.note)?;
     core.commit(alloc, plan)?;
     Ok(text)

@@ -5,6 +5,7 @@ use fs_ident::{FileId, IdError, Kind, List, Memory, Name, Peer, Session};
 use fs_model::{Handle, Node, Op, Reply, Space};
 use fs_modes::Modes;
 use fs_msg::{Item, Note};
+use fs_record::Record;
 use fs_report::{done_line, item_line, outcome_line, space_lines};
 use fs_schedule::Outcome;
 use std::alloc::Global;
@@ -356,8 +357,12 @@ fn writes_space(rt: &impl Abort, alloc: Global, space: &Space, wanted: &[u8]) ->
 
 /// The space that has this node alone is so written.
 fn writes_node(rt: &impl Abort, alloc: Global, node: Node, wanted: &[u8]) -> Result<(), Fail> {
+    let record = Record { node, next: 1 };
+    if !record.is_in_order() {
+        return Err(Fail::from("no node of a space"));
+    }
     let mut space = Space::empty(alloc);
-    space.put(alloc, &id(alloc, b"/1")?, node)?;
+    space.put(alloc, &id(alloc, b"/1")?, record.node)?;
     writes_space(rt, alloc, &space, wanted)
 }
 
