@@ -228,7 +228,11 @@ fn takes(
     requires { IsPiece piece.now.prefix piece.now.given }
 {
     let taking = map.begin_take(alloc, me, piece)?;
-    Ok(if kept { taking.finish() } else { taking.give_up() })
+    Ok(if kept {
+        taking.finish()
+    } else {
+        taking.give_up()
+    })
 }
 
 #[test]
