@@ -12,6 +12,7 @@ use Rattle.fs_ident.specs.declared.actor.Peer.TheVariants.{Client, Server}
 use Rattle.fs_ident.specs.declared.actor.Session.{Session}
 use Rattle.fs_ident.proofs.Booleans.{first, joined, second}
 use Rattle.fs_ident.proofs.Passing.{In-all}
+use Rattle.fs_ident.proofs.Same.{itself}
 use Rattle.fs_field.specs.After.{Handles}
 use Rattle.fs_field.specs.Field.{file_of}
 use Rattle.fs_field.specs.Table.{borne_numbers, is_live}
@@ -318,10 +319,7 @@ module _ (servers : ℕ) (seats : Seats) (k : ℕ) (some : k < servers) (readabl
   not_same true true false e later h = refl
 
   differ : (to : ℕ) (s : Core) → Fine s → (to == s.me) ≡ false → k ≢ to
-  differ to s h e q = let same : (to == s.me) ≡ true = ap (λ (n : ℕ). to == n) (h.me ∙ q) ∙ refl_of to in absurd (cc)
-    where
-      refl_of : (n : ℕ) → (n == n) ≡ true
-      refl_of n = grind (arith, nat_tests)
+  differ to s h e q = let same : (to == s.me) ≡ true = ap (λ (n : ℕ). to == n) (h.me ∙ q) ∙ itself to in absurd (cc)
 
   moves_goes : (prefix : List ℕ) (to : ℕ) (s : Core) (o : Option MoveError) → move_refusal s.records s.rows s.map s.me prefix to None ≡ o → to < servers → AreRecords s.records → Fine s → Goes (move_at o prefix to s)
   moves_goes prefix to s (Some why) e few valid h = record { server = h; sends = tt }
