@@ -1,8 +1,8 @@
 -- Conflicts of rows.
-use Rattle.std.proofs.Common.{◌≡◌, ◌==◌, not, ◌&&◌, ◌||◌, Bool, true, false, List, refl, ap, sym, ◌∙◌}
+use Rattle.std.proofs.Common.{◌≡◌, ◌==◌, not, ◌&&◌, ◌||◌, Bool, true, false, ℕ, List, refl, ap, sym, ◌∙◌}
 use Rattle.std.proofs.Math.Bool.{or_comm, and-false, or-false}
 use Rattle.std.specs.Cmp.{nat_eq_equiv}
-use Rattle.std.specs.Cmp.Lexicographic.{nat_list_eq_equiv}
+use Rattle.std.specs.Cmp.Lexicographic.{nat_list_eq_equiv, same_text}
 use Rattle.std.specs.Prelude.{Option, Some, None}
 use Rattle.fs_field.specs.declared.field.Field.{Field}
 use Rattle.fs_field.specs.declared.field.Field.TheVariants.{Life, Child, Names, Info, Own, SelfW, Other}
@@ -11,8 +11,10 @@ use Rattle.fs_field.specs.declared.row.Row.{Row}
 use Rattle.fs_ident.specs.declared.actor.Session.{Session}
 use Rattle.fs_ident.specs.Ident.{same}
 use Rattle.fs_ident.specs.In.{In}
-use Rattle.fs_field.specs.Conflict.{Selves, one_shared, names_over, meets, is_exclusive, plain_conflict, mode_meets, mode_conflict, conflicts, NoConflict, NoPlainConflict}
-use Rattle.fs_field.specs.Field.{tells_no_mode}
+use Rattle.fs_ident.proofs.Booleans.{first}
+use Rattle.fs_modes.specs.declared.modes.Mode.{Mode}
+use Rattle.fs_field.specs.Conflict.{Selves, is_self, one_shared, names_over, meets, is_exclusive, plain_conflict, mode_meets, mode_conflict, conflicts, NoConflict, NoPlainConflict}
+use Rattle.fs_field.specs.Field.{file_of, same_mode, tells_no_mode}
 
 shared_mutual : (f g : Field) → one_shared f g ≡ one_shared g f
 shared_mutual (Life a) (Life b) = nat_list_eq_equiv.symm a b
