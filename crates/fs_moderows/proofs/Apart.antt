@@ -25,6 +25,7 @@ use Rattle.fs_field.proofs.Named.{any_put}
 use Rattle.fs_field.proofs.Leases.{not_itself}
 use Rattle.fs_rows.specs.Granted.{with_rows}
 use Rattle.fs_rows.specs.Moving.{is_new, are_new, stands_beside, fits as fit_plainly}
+use Rattle.fs_rows.proofs.Comes.{plainly_free}
 use Rattle.fs_moderows.specs.Answer.{Opens, is_self_of_other, stands_against_self}
 use Rattle.fs_moderows.specs.Fixed.{AreFixedBut, is_other, is_other_of_other, stands_by}
 use Rattle.fs_moderows.specs.declared.fixed.Fixed.{Fixed}
@@ -166,11 +167,7 @@ listed_first (e ∷ es) file = elim (same e.0 file) as (λ b. cond b e.1 (selves
 
 -- ## All that come
 
--- none of these conflicts with the row, plainly
-abbrev plainly_free : List Row → Row → Bool
-plainly_free rows a = not (list_any (plain_conflict a) rows)
-
--- and none over a mode
+-- none of these conflicts with the row over a mode
 abbrev free_over_modes : Selves → List Row → Row → Bool
 free_over_modes selves rows a = not (list_any (mode_conflict selves rows a) rows)
 

@@ -72,7 +72,7 @@ same_mode_is m n h = absurd (cc)
 pub one_file : (h f : List ℕ) (n m : Mode) → is_self h n (SelfW f m) ≡ true → h ≡ f
 one_file h f n m t = same_text h f (sym (both (same h f) (same_mode n m) t).0)
 
-abbrev lets : List ℕ → Mode → Session → Row → Bool
+abbrev pub lets : List ℕ → Mode → Session → Row → Bool
 lets f m s row = is_self f m row.field && (row.session.0 == s.0)
 
 -- a row that lets a session change what it tells is of no session that is fixed

@@ -27,7 +27,7 @@ use Rattle.fs_record.proofs.NodeValues.{tied}
 use Rattle.fs_record.specs.declared.parcel.Parcel.{Parcel}
 use Rattle.fs_map.specs.Map.{Owners, gives}
 use Rattle.fs_moderows.proofs.Moves.{came_or_was}
-use Rattle.fs_moderows.proofs.Witnesses.{In_filtered, In_none, not_both}
+use Rattle.fs_moderows.proofs.Witnesses.{In_filtered, In_none, not_both, lets}
 use Rattle.fs_field.proofs.Conflicts.{conflicts_mutual, self_on, self_file}
 use Rattle.fs_ident.proofs.Passing.{all-In}
 use Rattle.fs_ident.proofs.Standing.{In-filter, none_any}
@@ -130,9 +130,6 @@ meets_off_second selves rows x y (Other f m) (Info g) promise h = refl
 meets_off_second selves rows x y (Other f m) (Own g) promise h = refl
 meets_off_second selves rows x y (Other f m) (Other g n) promise h = absurd (cc)
 meets_off_second selves rows x y f g promise h = refl
-
-abbrev lets : List ℕ → Mode → Session → Row → Bool
-lets f m s r = is_self f m r.field && (r.session.0 == s.0)
 
 -- ## From pairs to all
 

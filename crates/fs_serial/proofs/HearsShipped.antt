@@ -134,7 +134,7 @@ counted_all (u ∷ us) ks count h k i = counted_all us (unpinned_at u.no ks) cou
 
 -- ## Values
 
-abbrev lease_by : Value → Option (List ℕ) → Term → Lease
+abbrev pub lease_by : Value → Option (List ℕ) → Term → Lease
 lease_by base below l = record { no = l.no; field = l.field; kind = l.kind; until = l.until; base = base; below = below }
 
 know_parts : (by : Session) (es : List Effect) (s : Standing) (base : Value) (below : Option (List ℕ)) → option_map (lease_by (base_after by es s base) (below_after es s below)) (lease_of s) ≡ option_map (lease_after by es) (option_map (lease_by base below) (lease_of s))
