@@ -126,8 +126,6 @@ bodies_from from to ack n (suc k) (w ∷ ws) h low e p i =
       | inr j ↦ bodies_from from to ack (n + 1) k ws h (omega arith) (ap (λ (x : ℕ). drop x from.waiting) (sym next) ∙ drop_next from.waiting (n - old) w ws e) p j
     ]
 
-]
-
 in_due : (l : LinkEnd) (again heard : Bool) (p : Packet) (P : Packet → Type 0) → ((q : Packet) → In q (packets_from l.got l.sent (unsent l)) → P q) → ((q : Packet) → In q (packets_from l.got l.acked (unacked l)) → P q)
     → P (record { ack = l.got; body = None }) → In p (due_of l again heard) → P p
 in_due l again heard p P new old alone i = either (with_bodies l again) heard (λ j. In-both p (packets_from l.got l.sent (unsent l)) (cond again (packets_from l.got l.acked (unacked l)) []) (P p) (new p) (chosen again) j) i

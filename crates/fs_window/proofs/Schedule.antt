@@ -36,8 +36,6 @@ record AreSound (here there : End) : Type 0 where
   out : IsSound here there
   back : IsSound there here
 
-]
-
 push_step : (here there : End) (ss : List (List ℕ)) (b : Bool) → leb (2 ^ 64) (pushed_count here.link + length ss) ≡ b → AreSound here there → AreSound (pushed_on b here ss) there
 push_step here there ss true e h = h
 push_step here there ss false e h =
