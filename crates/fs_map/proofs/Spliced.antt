@@ -8,13 +8,13 @@ use Rattle.std.specs.declared.cmp.Ordering.TheVariants.{Less, Equal, Greater}
 use Rattle.fs_ident.specs.In.{In}
 use Rattle.fs_ident.specs.Ordered.{Keyed, are_keys_in_order}
 use Rattle.fs_ident.proofs.Booleans.{first, second, joined}
+use Rattle.fs_ident.proofs.Standing.{In-append}
 use Rattle.fs_map.specs.Map.{begins}
 use Rattle.fs_map.specs.Change.{at, before_all, front}
 use Rattle.fs_map.specs.Part.{IsSplit}
 use Rattle.fs_map.proofs.Prefixes.{begins_itself, itself_or_above, begins_below, begins_nothing, prefix_first, above_differs, both_ways, begins_above, number_is, number_itself}
 use Rattle.fs_map.proofs.Found.{Before, tied, tied_is, tied_self, apart, one_way, found_In, In_found}
 use Rattle.fs_map.proofs.Listing.{Lists}
-use Rattle.fs_map.proofs.Turns.{either_In}
 
 -- ## Lists one behind the other
 
@@ -141,7 +141,7 @@ module _ {V : Type 0} (f g : List ℕ → V) (prefix : List ℕ) (before old lat
   whole_order =
       order_both before (part ++ later) (order_front before (old ++ later) l.sound.ordered)
       (order_both part later k.order (order_back old later (order_back before (old ++ later) l.sound.ordered)) (λ d e i j. behind prefix d.0 e.0 (In_part d i) (s.later e j).0 (s.later e j).1))
-      (λ d e i j. elim (either_In e part later j) [
+      (λ d e i j. elim (In-append e part later j) [
         | inl m ↦ elim (prefix_first prefix e.0 (In_part e m)) [ inl q ↦ subst (Before d.0) q (s.earlier d i) | inr q ↦ nat_list_cmp_total.trans d.0 prefix e.0 (s.earlier d i) q ]
         | inr m ↦ nat_list_cmp_total.trans d.0 prefix e.0 (s.earlier d i) (s.later e m).0
       ])
