@@ -181,23 +181,26 @@ fn other_answer(
 
 const ON: &str = "List { items: [(LeaseNo { server: 0, count: 1 }, Session(3))] }";
 
+/// What is read of the field of the row before that is over.
+fn reads_field(rt: &impl Abort, alloc: Global, live: &Live<'_>, field: &Field) -> Result<(), Fail> {
+    let holds = live.holds(number(1), Session(3), field, LeaseKind::Shared);
+    same(rt, holds, true);
+    shows(rt, alloc, &live.unlocked_on(alloc, field)?, ON)
+}
+
+/// How many numbers below the root the rows tell.
+fn borne(alloc: Global, live: &Live<'_>) -> Result<usize, Memory> {
+    let root = FileId::root(alloc);
+    Ok(live.borne(alloc, &root)?.len())
+}
+
 /// The row, as it is read before it is over.
 fn reads_row(rt: &impl Abort, alloc: Global, live: &Live<'_>) -> Result<(), Fail> {
-    let others = Field::Other(FileId::root(alloc), Mode::AccW);
     same(rt, live.has(number(1)), true);
-    same(
-        rt,
-        live.holds(number(1), Session(3), &others, LeaseKind::Shared),
-        true,
-    );
     same(rt, live.row(number(1)).is_some(), true);
-    shows(rt, alloc, &live.unlocked_on(alloc, &others)?, ON)?;
-    same(
-        rt,
-        live.borne(alloc, &FileId::root(alloc))?.is_empty(),
-        true,
-    );
-    Ok(())
+    same(rt, borne(alloc, live)?, 0);
+    let others = Field::Other(FileId::root(alloc), Mode::AccW);
+    reads_field(rt, alloc, live, &others)
 }
 
 /// What stands against a lease while the row is read, and what stands against it no more.

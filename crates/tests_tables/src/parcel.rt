@@ -133,7 +133,11 @@ pub(crate) fn rows(alloc: Global, told: &[Told]) -> Result<List<Row>, Fail> {
     Ok(rows)
 }
 
-fn piece(alloc: Global, prefix: &str, places: &[(&str, bool)]) -> Result<MapPiece, Fail> {
+pub(crate) fn piece(
+    alloc: Global,
+    prefix: &str,
+    places: &[(&str, bool)],
+) -> Result<MapPiece, Fail> {
     let mut given = List::new(alloc);
     for (place, value) in places {
         given.push((id(alloc, place)?, *value))?;

@@ -4,10 +4,10 @@ ghost use Rattle.std.specs.List.{list_all};
 ghost use Rattle.fs_record.specs.Applied.{is_undoable};
 ghost use Rattle.fs_record.specs.Records.{IsRecord};
 
-use crate::parcel::id;
+use crate::parcel::{id, piece as pieces};
 use crate::{same, shows};
 use fs_field::{Effect, Field};
-use fs_ident::{FileId, Kind, List, Name, Session, Twin};
+use fs_ident::{FileId, Kind, List, Memory, Name, Session, Twin};
 use fs_map::MapPiece;
 use fs_model::{Node, Op, Reply};
 use fs_modes::Modes;
@@ -44,9 +44,14 @@ fn deep(alloc: Global, depth: usize) -> Result<FileId, Fail> {
 fn given(alloc: Global, depth: usize, next: u64, borne: u32) -> Result<u64, Fail> {
     let dir = deep(alloc, depth)?;
     let mut records = one_directory(alloc, &dir, next)?;
+    gift(alloc, &mut records, &dir, borne)
+}
+
+/// The same of these records.
+fn gift(alloc: Global, records: &mut Records, dir: &FileId, borne: u32) -> Result<u64, Fail> {
     let mut numbers = List::new(alloc);
     numbers.push(borne)?;
-    match records.fresh(alloc, &dir, &numbers) {
+    match records.fresh(alloc, dir, &numbers) {
         Ok(id) => Ok(last(&id)),
         Err(FreshError::NoIds) => Ok(0),
         Err(FreshError::NoDir) => Ok(4294967296),
@@ -105,9 +110,17 @@ fn told(alloc: Global, op: &Op, reply: Reply) -> Result<List<Effect>, Fail>
     Err(Fail::from("the effects are not told"))
 }
 
+/// The effects of making a directory below the root.
+fn made(alloc: Global) -> Result<List<Effect>, Fail>
+    ensures { IfOk result (λ told. list_all is_undoable told ≡ true) }
+{
+    let op = create(alloc)?;
+    told(alloc, &op, Reply::Made)
+}
+
 #[test]
 fn a_create_has_two_effects(rt: HostRuntime) -> Result<(), Fail> {
-    let told = told(rt.alloc(), &create(rt.alloc())?, Reply::Made)?;
+    let told = made(rt.alloc())?;
     shows(&rt, rt.alloc(), &told, CREATED)
 }
 
@@ -121,34 +134,37 @@ fn a_reap_does_not_tell_its_effects(rt: HostRuntime) -> Result<(), Fail> {
     Ok(())
 }
 
-/// The effects of making a directory below the root, one after the other.
-fn make(alloc: Global, records: &mut Records) -> Result<(), Fail> {
-    for e in told(alloc, &create(alloc)?, Reply::Made)?.as_slice() {
+/// These effects are done one after the other.
+fn apply_each(alloc: Global, records: &mut Records, effects: &[Effect]) -> Result<(), Fail> {
+    for e in effects {
         records.apply(alloc, e)?;
     }
     Ok(())
+}
+
+/// A directory is made below the root.
+fn make(alloc: Global, records: &mut Records) -> Result<(), Fail> {
+    let effects = made(alloc)?;
+    apply_each(alloc, records, effects.as_slice())
+}
+
+/// The session opens the root.
+fn open(alloc: Global, records: &mut Records, session: u16, h: u32) -> Result<(), Memory> {
+    let effect = Effect::AddHandle {
+        file: FileId::root(alloc),
+        session: Session(session),
+        h,
+        modes: Modes::NONE,
+    };
+    records.apply(alloc, &effect)
 }
 
 /// The records after a directory was made below the root, and the root was opened.
 fn busy(alloc: Global) -> Result<Records, Fail> {
     let mut records = Records::new(alloc, true)?;
     make(alloc, &mut records)?;
-    records.apply(alloc, &open(alloc))?;
+    open(alloc, &mut records, 2, 1)?;
     Ok(records)
-}
-
-/// The root is opened.
-fn open(alloc: Global) -> Effect {
-    open_by(alloc, 2, 1)
-}
-
-fn open_by(alloc: Global, session: u16, h: u32) -> Effect {
-    Effect::AddHandle {
-        file: FileId::root(alloc),
-        session: Session(session),
-        h,
-        modes: Modes::NONE,
-    }
 }
 
 /// The files, and the record of each.
@@ -192,26 +208,30 @@ const SELVES: &str =
     "List { items: [(Session(2), Modes { acc_r: false, acc_w: false, acc_d: false, deny_r: \
     false, deny_w: false, deny_d: false })] }";
 
-fn are_seen(rt: &impl Abort, alloc: Global, records: &Records) -> Result<(), Fail> {
+/// So the session sees its handles on the root.
+fn own_is(
+    rt: &impl Abort,
+    alloc: Global,
+    records: &Records,
+    session: u16,
+    wanted: &str,
+) -> Result<(), Fail> {
     let field = Field::Own(FileId::root(alloc));
-    shows(
-        rt,
-        alloc,
-        &records.value_of(alloc, Session(2), &field)?,
-        OPEN,
-    )?;
-    shows(
-        rt,
-        alloc,
-        &records.value_of(alloc, Session(1), &field)?,
-        "Own(List { items: [] })",
-    )?;
-    shows(
-        rt,
-        alloc,
-        &records.selves(alloc, &FileId::root(alloc))?,
-        SELVES,
-    )?;
+    let own = records.value_of(alloc, Session(session), &field)?;
+    shows(rt, alloc, &own, wanted)
+}
+
+/// So the modes of each session on the root are written.
+fn selves_are(rt: &impl Abort, alloc: Global, records: &Records, wanted: &str) -> Result<(), Fail> {
+    let root = FileId::root(alloc);
+    let selves = records.selves(alloc, &root)?;
+    shows(rt, alloc, &selves, wanted)
+}
+
+fn are_seen(rt: &impl Abort, alloc: Global, records: &Records) -> Result<(), Fail> {
+    own_is(rt, alloc, records, 2, OPEN)?;
+    own_is(rt, alloc, records, 1, "Own(List { items: [] })")?;
+    selves_are(rt, alloc, records, SELVES)?;
     same(rt, records.open_files(alloc)?.len(), 1);
     Ok(())
 }
@@ -250,10 +270,10 @@ fn a_number_is_read_and_then_given(rt: HostRuntime) -> Result<(), Fail> {
     are_given(&rt, rt.alloc(), &mut records, &FileId::root(rt.alloc()))
 }
 
-/// The effects of making the directory, all at once.
+/// The directory is made by all its effects at once.
 fn make_together(alloc: Global, records: &mut Records) -> Result<(), Fail> {
-    let told = told(alloc, &create(alloc)?, Reply::Made)?;
-    records.apply_all(alloc, &told)?;
+    let effects = made(alloc)?;
+    records.apply_all(alloc, &effects)?;
     Ok(())
 }
 
@@ -262,7 +282,7 @@ fn make_together(alloc: Global, records: &mut Records) -> Result<(), Fail> {
 fn effects_are_done_together(rt: HostRuntime) -> Result<(), Fail> {
     let mut records = Records::new(rt.alloc(), true)?;
     make_together(rt.alloc(), &mut records)?;
-    records.apply(rt.alloc(), &open(rt.alloc()))?;
+    open(rt.alloc(), &mut records, 2, 1)?;
     has(&rt, rt.alloc(), &records, BUSY)
 }
 
@@ -274,19 +294,16 @@ fn a_removal_is_not_taken_back(rt: HostRuntime) -> Result<(), Fail> {
 }
 
 /// The session opens the root twice.
-fn open_twice(alloc: Global, records: &mut Records, session: u16) -> Result<(), Fail> {
-    records.apply(alloc, &open_by(alloc, session, 1))?;
-    records.apply(alloc, &open_by(alloc, session, 2))?;
-    Ok(())
+fn open_twice(alloc: Global, records: &mut Records, session: u16) -> Result<(), Memory> {
+    open(alloc, records, session, 1)?;
+    open(alloc, records, session, 2)
 }
 
 /// The first session loses its handles on the root.
 fn reap(alloc: Global, records: &mut Records) -> Result<(), Fail> {
     let root = FileId::root(alloc);
-    for e in records.reap_effects(alloc, &root, Session(1))?.as_slice() {
-        records.apply(alloc, e)?;
-    }
-    Ok(())
+    let effects = records.reap_effects(alloc, &root, Session(1))?;
+    apply_each(alloc, records, effects.as_slice())
 }
 
 /// The root's records, opened by sessions 1 and 2; then session 1 loses its handles.
@@ -301,12 +318,7 @@ fn reaped(alloc: Global) -> Result<Records, Fail> {
 #[test]
 fn a_session_loses_its_handles(rt: HostRuntime) -> Result<(), Fail> {
     let records = reaped(rt.alloc())?;
-    shows(
-        &rt,
-        rt.alloc(),
-        &records.selves(rt.alloc(), &FileId::root(rt.alloc()))?,
-        SELVES,
-    )
+    selves_are(&rt, rt.alloc(), &records, SELVES)
 }
 
 #[test]
@@ -342,15 +354,10 @@ fn tree(alloc: Global) -> Result<Records, Fail> {
 
 /// All from the prefix on, but for what is below the second file, unless that is the prefix too.
 fn piece(alloc: Global, prefix: &str, but: &str) -> Result<MapPiece, Fail> {
-    let mut given = List::new(alloc);
-    given.push((id(alloc, prefix)?, true))?;
-    if but != prefix {
-        given.push((id(alloc, but)?, false))?;
+    if but == prefix {
+        return pieces(alloc, prefix, &[(prefix, true)]);
     }
-    Ok(MapPiece {
-        prefix: id(alloc, prefix)?,
-        given,
-    })
+    pieces(alloc, prefix, &[(prefix, true), (but, false)])
 }
 
 /// The files with their next numbers.

@@ -263,6 +263,18 @@ fn waits_by(letter: u8, held: LeaseKind, asked: LeaseKind) -> bool {
     }
 }
 
+/// The session's question for a lease on the field of the line.
+fn ask_line(
+    alloc: Global,
+    rows: &mut Rows,
+    no: LeaseNo,
+    session: u16,
+    (line, kind): (usize, LeaseKind),
+) -> Result<Asked, Fail> {
+    let field = field(alloc, line)?;
+    ask(alloc, rows, no, session, &field, kind)
+}
+
 /// Whether the session waits for a lease where the first session has one.
 fn waits(
     alloc: Global,
@@ -271,9 +283,9 @@ fn waits(
     asked: (usize, LeaseKind),
 ) -> Result<bool, Fail> {
     let mut rows = Rows::new(alloc);
-    ask(alloc, &mut rows, FIRST, 1, &field(alloc, held.0)?, held.1)?;
-    let second = field(alloc, asked.0)?;
-    Ok(ask(alloc, &mut rows, SECOND, session, &second, asked.1)? == Asked::Wait { blocker: FIRST })
+    ask_line(alloc, &mut rows, FIRST, 1, held)?;
+    let asked = ask_line(alloc, &mut rows, SECOND, session, asked)?;
+    Ok(asked == Asked::Wait { blocker: FIRST })
 }
 
 const KINDS: [(LeaseKind, LeaseKind); 4] = [

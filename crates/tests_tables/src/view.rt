@@ -4,7 +4,7 @@ ghost use Rattle.fs_record.specs.Effects.{tells_its_effects};
 ghost use Rattle.fs_view.specs.View.{can_grant_all, lapsed_at};
 
 use crate::{same, shows};
-use fs_field::{Field, LeaseKind, Need, Use, Value};
+use fs_field::{Effect, Field, LeaseKind, Need, Use, Value};
 use fs_ident::{FileId, Kind, LeaseNo, List, Name, Session, Twin};
 use fs_model::{Op, Reply};
 use fs_record::effects;
@@ -177,11 +177,16 @@ fn create(alloc: Global, id: Option<FileId>) -> Result<Op, Fail>
     })
 }
 
+/// What the create of the first file does.
+fn made(alloc: Global) -> Result<List<Effect>, Fail> {
+    let op = create(alloc, Some(first(alloc)?))?;
+    Ok(effects(alloc, Session(1), &op, &Reply::Made)?)
+}
+
 /// The log has the create of the first file.
 fn append(alloc: Global, view: &mut View) -> Result<(), Fail> {
-    let op = create(alloc, Some(first(alloc)?))?;
-    let told = effects(alloc, Session(1), &op, &Reply::Made)?;
-    view.append(told)?;
+    let effects = made(alloc)?;
+    view.append(effects)?;
     Ok(())
 }
 
@@ -271,11 +276,21 @@ fn know_file(alloc: Global, view: &mut View) -> Result<(), Fail> {
     give_file(alloc, view, Some(Kind::File))
 }
 
+fn delete_misses(rt: &impl Abort, alloc: Global, view: &View) -> Result<(), Fail> {
+    let op = delete(alloc)?;
+    misses(rt, alloc, view, 50, &op, OF_FILE)
+}
+
+fn rename_misses(rt: &impl Abort, alloc: Global, view: &View) -> Result<(), Fail> {
+    let op = rename(alloc)?;
+    misses(rt, alloc, view, 50, &op, OF_RENAME)
+}
+
 /// A delete and a rename of that file.
 fn removals(rt: &impl Abort, alloc: Global, view: &mut View) -> Result<(), Fail> {
     know_file(alloc, view)?;
-    misses(rt, alloc, view, 50, &delete(alloc)?, OF_FILE)?;
-    misses(rt, alloc, view, 50, &rename(alloc)?, OF_RENAME)
+    delete_misses(rt, alloc, view)?;
+    rename_misses(rt, alloc, view)
 }
 
 #[test]
@@ -415,30 +430,37 @@ const NAMES_ARE_MISSING: &str = "List { items: [Lease(Names(FileId { numbers: []
 const WALK: &str = "Walk { items: List { items: [Lease(Life(FileId { numbers: [] }), Shared), \
     Lease(Names(FileId { numbers: [] }), Shared)] }, reply: None }";
 
-/// A copy of the walk of a list of the root.
+/// A copy of the walk of the operation.
+fn walk_of(alloc: Global, view: &View, op: &Op) -> Result<Walk, Fail> {
+    let walk = view.walk(alloc, 99, op)?;
+    Ok(walk.copy(alloc)?)
+}
+
 fn list_walk(alloc: Global, view: &View) -> Result<Walk, Fail> {
     let op = Op::List {
         dir: FileId::root(alloc),
     };
-    Ok(view.walk(alloc, 99, &op)?.copy(alloc)?)
+    walk_of(alloc, view, &op)
 }
 
-/// So many leases are used for the items.
+/// How many leases are used for the items.
 fn used(alloc: Global, view: &View, items: &List<Need>) -> Result<usize, Fail> {
     Ok(view.uses_of(alloc, 99, items)?.len())
+}
+
+/// So the walk is written, and one lease is used for it.
+fn is_walked(rt: &impl Abort, alloc: Global, view: &View, walk: &Walk) -> Result<(), Fail> {
+    shows(rt, alloc, walk, WALK)?;
+    same(rt, used(alloc, view, &walk.items)?, 1);
+    Ok(())
 }
 
 /// One walk tells what is missing, and what is used.
 fn walks(rt: &impl Abort, alloc: Global, view: &View) -> Result<(), Fail> {
     let walk = list_walk(alloc, view)?;
-    shows(rt, alloc, &walk, WALK)?;
-    same(rt, used(alloc, view, &walk.items)?, 1);
-    shows(
-        rt,
-        alloc,
-        &view.missing_of(99, walk.items),
-        NAMES_ARE_MISSING,
-    )
+    is_walked(rt, alloc, view, &walk)?;
+    let missing = view.missing_of(99, walk.items);
+    shows(rt, alloc, &missing, NAMES_ARE_MISSING)
 }
 
 /// Leases that come together.

@@ -5,7 +5,7 @@ ghost use Rattle.fs_rows.specs.Moving.{are_off_modes};
 
 use crate::rows::{FIRST, SECOND, THIRD, ask, one_row};
 use crate::same;
-use fs_field::{Field, LeaseKind, Row};
+use fs_field::{Asked, Field, LeaseKind, Row};
 use fs_ident::{FileId, LeaseNo, List, Session, Twin, TxnNo};
 use fs_map::{FileMap, MapPiece};
 use fs_rows::Rows;
@@ -22,16 +22,15 @@ fn locked_rows(alloc: Global) -> Result<Rows, Fail> {
     Ok(rows)
 }
 
+/// The first session's question for a lease on the life of the file.
+fn ask_life(alloc: Global, rows: &mut Rows, no: LeaseNo, file: &[u8]) -> Result<Asked, Fail> {
+    let life = life_of(alloc, file)?;
+    ask(alloc, rows, no, 1, &life, LeaseKind::Shared)
+}
+
 /// A row on the life of the file, which the transaction of this count keeps.
 fn keep(alloc: Global, rows: &mut Rows, no: LeaseNo, file: &[u8], count: u64) -> Result<(), Fail> {
-    ask(
-        alloc,
-        rows,
-        no,
-        1,
-        &life_of(alloc, file)?,
-        LeaseKind::Shared,
-    )?;
+    ask_life(alloc, rows, no, file)?;
     rows.lock(no, TxnNo { server: 0, count });
     Ok(())
 }
@@ -66,18 +65,27 @@ const GOES: [(&[u8], Option<u64>, [bool; 3]); 4] = [
     (b"/2", None, [false, false, false]),
 ];
 
+fn is_among(rows: &[Row], no: LeaseNo) -> bool {
+    rows.iter().any(|row| row.no == no)
+}
+
 /// Whether each of the three stands among these.
 fn stand(rows: &[Row]) -> [bool; 3] {
     [
-        rows.iter().any(|row| row.no == FIRST),
-        rows.iter().any(|row| row.no == SECOND),
-        rows.iter().any(|row| row.no == THIRD),
+        is_among(rows, FIRST),
+        is_among(rows, SECOND),
+        is_among(rows, THIRD),
     ]
 }
 
+/// The least transaction that keeps a row below the prefix, by its count.
 fn least_lock(alloc: Global, prefix: &FileId) -> Result<Option<u64>, Fail> {
-    let locked = locked_rows(alloc)?.locked_in(prefix, &with_a_hole(alloc)?, 0);
-    Ok(locked.map(|txn| txn.count))
+    let map = with_a_hole(alloc)?;
+    let rows = locked_rows(alloc)?;
+    match rows.locked_in(prefix, &map, 0) {
+        Some(txn) => Ok(Some(txn.count)),
+        None => Ok(None),
+    }
 }
 
 /// Which of the three are in the table no more.
