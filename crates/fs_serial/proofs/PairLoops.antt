@@ -44,7 +44,7 @@ backed_renewed until (n ∷ ns) rows number end b = backed_renewed until ns (map
 backed_now : (rows : List Row) (n : LeaseNo) (until : ℕ) → list_any (has_no n) rows ≡ true → IsBacked (map (renewed_row n until) rows) n until
 backed_now rows n until h =
     let q = any_In (has_no n) rows h in
-    record { row = renewed_row n until q.0; stands = In-mapped (renewed_row n until) q.0 rows q.1; number = (renewed_same n until q.0).number ∙ same_no_is q.0.no n q.2; lasts = ends_then n until q.0 q.2 }
+    record { row = renewed_row n until q.0; stands = In-mapped (renewed_row n until) q.0 rows q.1.0; number = (renewed_same n until q.0).number ∙ same_no_is q.0.no n q.1.1; lasts = ends_then n until q.0 q.1.1 }
 
 any_then : (n m : LeaseNo) (until : ℕ) (rows : List Row) → list_any (has_no m) (map (renewed_row n until) rows) ≡ list_any (has_no m) rows
 any_then n m until [] = refl

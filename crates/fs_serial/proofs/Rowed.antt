@@ -47,4 +47,4 @@ row_is rows by u r i h =
 pub all_found : (rows : List Row) (by : Session) (uses : List Use) → first_gone rows by uses ≡ None → AllStand rows by uses
 all_found rows by uses h u i =
     let q = any_In (is_lease u.no by u.field u.kind) rows (not-false (has_row rows by u) (none_pass (λ u. not (has_row rows by u)) uses h u i)) in
-    row_is rows by u q.0 q.1 q.2
+    row_is rows by u q.0 q.1.0 q.1.1
