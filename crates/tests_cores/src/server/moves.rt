@@ -1,7 +1,8 @@
 //! What is with another server, what goes to one, and what comes from one.
 use crate::forms::{reads, same, spend, text_of};
 use crate::server::{
-    Event, Line, Seen, can_be_told, event_of, has_file, plays, plays_first, plays_on, said, server,
+    ADMITS, ADMITS_ONE, Event, Line, Seen, THREE_GRANTS, can_be_told, event_of, has_file, plays,
+    plays_first, plays_on, said, server,
 };
 use fs_msg::write;
 use fs_server::{ServerCore, ServerEvent, ServerOut};
@@ -77,17 +78,16 @@ fn a_fresh_identifier_is_given_where_its_directory_went(rt: HostRuntime) -> Resu
     plays_first(&rt, rt.alloc(), ROOT_WENT)
 }
 
-const GRANTED: &str = "Grants { count: 3, end: All }";
-
-const ADMITTED: &str = "Admits { count: 2, end: All, gaps: List { items: [] } }";
-
-const OPENED: &str = "Admits { count: 1, end: All, gaps: List { items: [] } }";
-
 /// The root's first child, its life leased to the first session, and open for writing.
 const MAKES: &[Line] = &[
-    (0, Event::From(1, said::ASK_TO_CREATE), Seen::Note, GRANTED),
-    (5, Event::From(1, said::LOG), Seen::Note, ADMITTED),
-    (5, Event::From(1, said::LOG_OF_OPEN), Seen::Note, OPENED),
+    (
+        0,
+        Event::From(1, said::ASK_TO_CREATE),
+        Seen::Note,
+        THREE_GRANTS,
+    ),
+    (5, Event::From(1, said::LOG), Seen::Note, ADMITS),
+    (5, Event::From(1, said::LOG_OF_OPEN), Seen::Note, ADMITS_ONE),
 ];
 
 const LEAVES: &str =
