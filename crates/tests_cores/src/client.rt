@@ -1,16 +1,18 @@
 //! A client and the answers of its servers, by scripts.
-ghost use Rattle.std.specs.Prelude.{◌≡◌, ◌≤◌, true, IfOk};
+ghost use Rattle.std.specs.Prelude.{◌≡◌, ◌≤◌, true};
 ghost use Rattle.fs_ident.specs.declared.limits.TheConstants.{LATEST};
 ghost use Rattle.fs_model.specs.Asking.{may_ask};
 ghost use Rattle.fs_record.specs.Effects.{tells_its_effects};
 
+mod asked;
 mod hints;
 mod opens;
 mod said;
 
 use crate::forms::{copied, none_such, reads, same, spend, text_of};
+use asked::{Asking, op_of};
 use fs_client::{ClientCore, Plan};
-use fs_ident::{FileId, Kind, LATEST, Name, Session, Twin};
+use fs_ident::{LATEST, Session, Twin};
 use fs_model::Op;
 use fs_msg::{Act, Answer, ClientMsg, ClientNote, ClientOut, Msg, read_whole};
 use std::alloc::Global;
@@ -19,16 +21,6 @@ use std::test::Fail;
 
 /// A note in short: its word and its number, and to which server something is sent.
 pub(crate) type Short = (&'static str, u64, Option<u8>);
-
-/// An operation of the tests.
-#[derive(Clone, Copy)]
-pub(crate) enum Asking {
-    /// Of the directory `a` in the root.
-    Create,
-    /// Of `a` in the root.
-    Lookup,
-    Kind(&'static str),
-}
 
 /// What comes to a client: an operation of its user, a turn, or the bytes of an answer of the server.
 #[derive(Clone, Copy)]
@@ -89,27 +81,6 @@ fn acted(out: &ClientOut<Act>) -> Short {
 fn noted(out: &ClientOut<ClientNote>) -> Short {
     let (word, number) = note_word(&out.note);
     (word, number, sent_to(&out.send))
-}
-
-fn op_of(alloc: Global, asking: Asking) -> Result<Op, Fail>
-    ensures asked { IfOk result (λ op. may_ask op ≡ true) }
-    ensures plain { IfOk result (λ op. tells_its_effects op ≡ true) }
-{
-    match asking {
-        Asking::Create => Ok(Op::Create {
-            dir: FileId::root(alloc),
-            name: Name::new(alloc, b"a")?,
-            kind: Kind::Dir,
-            id: None,
-        }),
-        Asking::Lookup => Ok(Op::Lookup {
-            dir: FileId::root(alloc),
-            name: Name::new(alloc, b"a")?,
-        }),
-        Asking::Kind(file) => Ok(Op::Kind {
-            file: FileId::parse(alloc, file.as_bytes())?,
-        }),
-    }
 }
 
 fn acts(

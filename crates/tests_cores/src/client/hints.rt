@@ -1,5 +1,6 @@
 //! Files that servers say are with another one: the file 1 is with server 1.
-use crate::client::{Asking, Comes, Line, plays_new, said};
+use crate::client::asked::Asking;
+use crate::client::{Comes, Line, plays_new, said};
 use std::test::Fail;
 
 /// The client hears that the file 1 is with server 1, asks there, and has a lease of each server then.

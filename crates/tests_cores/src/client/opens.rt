@@ -52,13 +52,24 @@ fn op_of(alloc: Global, asking: Asking) -> Result<Op, Fail>
     ensures plain { IfOk result (λ op. tells_its_effects op ≡ true) }
 {
     let file = FileId::parse(alloc, b"/1")?;
-    let (h, modes) = match asking {
-        Asking::Guard => (1, GUARDS),
-        Asking::Write => (2, WRITES),
-        Asking::Read => (2, READS),
-        Asking::Close => return Ok(Op::Close { file, h: 1 }),
-    };
-    Ok(Op::OpenFile { file, h, modes })
+    match asking {
+        Asking::Guard => Ok(Op::OpenFile {
+            file,
+            h: 1,
+            modes: GUARDS,
+        }),
+        Asking::Write => Ok(Op::OpenFile {
+            file,
+            h: 2,
+            modes: WRITES,
+        }),
+        Asking::Read => Ok(Op::OpenFile {
+            file,
+            h: 2,
+            modes: READS,
+        }),
+        Asking::Close => Ok(Op::Close { file, h: 1 }),
+    }
 }
 
 /// What is noted of it.
