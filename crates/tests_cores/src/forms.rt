@@ -26,11 +26,6 @@ pub(crate) fn text_of<T: Debug>(alloc: Global, x: &T) -> Result<String, Fail> {
     Ok(format!(in alloc; "{x:?}")?)
 }
 
-/// The same of a value that is let go.
-pub(crate) fn shown<T: Debug + Drop>(alloc: Global, x: T) -> Result<String, Fail> {
-    text_of(alloc, &x)
-}
-
 /// A copy of the value, which is let go.
 pub(crate) fn copied<T: Twin + Drop>(alloc: Global, x: T) -> Result<T, Memory>
     ensures { IfOk result (λ twin. twin ≡ x) }

@@ -1,5 +1,5 @@
 //! A server and what comes to it, by scripts: a first create with its leases, the end of a lease, what is asked back, and messages that no honest actor sends.
-ghost use Rattle.std.specs.Prelude.{◌≡◌, ◌≤◌, ◌^◌, true, IfOk};
+ghost use Rattle.std.specs.Prelude.{◌≡◌, ◌≤◌, ◌^◌, true};
 ghost use Rattle.fs_ident.specs.declared.limits.TheConstants.{LATEST};
 ghost use Rattle.fs_msg.specs.declared.peer_msg.PeerMsg.TheVariants as peer;
 ghost use Rattle.fs_server.specs.Step.{AreNumbersLeft, CanBeTold};
@@ -8,12 +8,12 @@ mod moves;
 mod opens;
 mod said;
 
-use crate::forms::{copied, none_such, reads, same, shown, spend, text_of};
+use crate::forms::{copied, none_such, reads, same, spend};
 use fs_field::Field;
 use fs_ident::{FileId, LATEST, Memory, Session, Twin};
 use fs_msg::{Msg, PeerMsg, read_whole};
 use fs_record::{Parcel, Record};
-use fs_server::{Plan, ServerCore, ServerEvent, ServerOut};
+use fs_server::{ServerCore, ServerEvent, ServerOut};
 use std::alloc::Global;
 use std::process::Abort;
 use std::test::Fail;
@@ -32,12 +32,18 @@ enum Event {
     Move(&'static str, u8),
 }
 
-/// What is looked at: all that a copy of the event comes to, what is noted of it, or that in two calls, by a copy of the plan.
+/// How it is told: by one call, or by a plan of which a copy is committed.
+#[derive(Clone, Copy)]
+enum Way {
+    AtOnce,
+    Planned,
+}
+
+/// What is looked at: all that it comes to, from a copy, or what is noted of it.
 #[derive(Clone, Copy)]
 enum Seen {
     All,
     Note,
-    Planned,
 }
 
 /// A line of a script: a reading, an event, and what is seen of it.
@@ -118,16 +124,17 @@ fn is_number_left(kept: &Record) -> bool
     kept.next >= 1 && kept.next <= 4294967296
 }
 
-/// What is seen of the event at the reading.
+/// What is seen of a copy of the event at the reading.
 fn come(
     alloc: Global,
     core: &mut ServerCore,
     now: u64,
     event: Event,
+    way: Way,
     seen: Seen,
 ) -> Result<String, Fail> {
     let ev = copied(alloc, event_of(alloc, event)?)?;
-    let text = told(alloc, core, now, &ev, seen);
+    let text = told(alloc, core, now, &ev, way, seen);
     spend(ev);
     text
 }
@@ -137,51 +144,55 @@ fn told(
     core: &mut ServerCore,
     now: u64,
     ev: &ServerEvent,
+    way: Way,
     seen: Seen,
 ) -> Result<String, Fail> {
     if now > LATEST || !can_be_told(ev) {
         return Err(Fail::from("it is no event"));
     }
-    match seen {
-        Seen::All => all(alloc, core, now, ev),
-        Seen::Note => noted(alloc, core, now, ev),
-        Seen::Planned => planned(alloc, core, now, ev),
+    match way {
+        Way::AtOnce => step(alloc, core, now, ev, seen),
+        Way::Planned => plan_step(alloc, core, now, ev, seen),
     }
 }
 
-/// What the event at the reading comes to, from a copy.
-fn all(alloc: Global, core: &mut ServerCore, now: u64, ev: &ServerEvent) -> Result<String, Fail>
+fn step(
+    alloc: Global,
+    core: &mut ServerCore,
+    now: u64,
+    ev: &ServerEvent,
+    seen: Seen,
+) -> Result<String, Fail>
     requires reading { now ≤ LATEST }
     requires told { CanBeTold ev.now }
 {
-    shown(alloc, copied(alloc, core.step(alloc, now, ev)?)?)
-}
-
-/// What is noted of the event at the reading.
-fn noted(alloc: Global, core: &mut ServerCore, now: u64, ev: &ServerEvent) -> Result<String, Fail>
-    requires reading { now ≤ LATEST }
-    requires told { CanBeTold ev.now }
-{
-    let out = core.step(alloc, now, ev)?;
-    let text = text_of(alloc, &out.note);
+    let out = copied(alloc, core.step(alloc, now, ev)?)?;
+    let text = text_seen(alloc, &out, seen);
     spend(out);
-    text
+    Ok(text?)
 }
 
-/// The same in two calls, by a copy of the plan.
-fn planned(alloc: Global, core: &mut ServerCore, now: u64, ev: &ServerEvent) -> Result<String, Fail>
+fn plan_step(
+    alloc: Global,
+    core: &mut ServerCore,
+    now: u64,
+    ev: &ServerEvent,
+    seen: Seen,
+) -> Result<String, Fail>
     requires reading { now ≤ LATEST }
     requires told { CanBeTold ev.now }
 {
     let plan = copied(alloc, core.plan(alloc, now, ev)?)?;
-    let text = plan_text(alloc, &plan);
+    let text = text_seen(alloc, &plan.out, seen);
     core.commit(alloc, plan)?;
     Ok(text?)
 }
 
-/// What is to be noted.
-fn plan_text(alloc: Global, plan: &Plan) -> Result<String, Memory> {
-    Ok(format!(in alloc; "{:?}", plan.out.note)?)
+fn text_seen(alloc: Global, out: &ServerOut, seen: Seen) -> Result<String, Memory> {
+    match seen {
+        Seen::All => Ok(format!(in alloc; "{out:?}")?),
+        Seen::Note => Ok(format!(in alloc; "{:?}", out.note)?),
+    }
 }
 
 /// All that comes to the server, line by line.
@@ -189,25 +200,35 @@ fn plays(
     rt: &impl Abort,
     alloc: Global,
     core: &mut ServerCore,
+    way: Way,
     script: &[Line],
 ) -> Result<(), Fail> {
     for (now, event, seen, wanted) in script {
-        reads(rt, come(alloc, core, *now, *event, *seen)?, wanted);
+        reads(rt, come(alloc, core, *now, *event, way, *seen)?, wanted);
     }
     Ok(())
 }
 
 /// The script of a server, which is let go.
-fn plays_on(rt: &impl Abort, alloc: Global, core: ServerCore, script: &[Line]) -> Result<(), Fail> {
+fn plays_on(
+    rt: &impl Abort,
+    alloc: Global,
+    core: ServerCore,
+    way: Way,
+    script: &[Line],
+) -> Result<(), Fail> {
     let mut core = core;
-    let done = plays(rt, alloc, &mut core, script);
+    let done = plays(rt, alloc, &mut core, way, script);
     spend(core);
     done
 }
 
-/// The script of the first server.
+/// The script of the first server, in either way.
 fn plays_first(rt: &impl Abort, alloc: Global, script: &[Line]) -> Result<(), Fail> {
-    plays_on(rt, alloc, server(alloc)?, script)
+    for way in [Way::AtOnce, Way::Planned] {
+        plays_on(rt, alloc, server(alloc)?, way, script)?;
+    }
+    Ok(())
 }
 
 fn has_file(alloc: Global, core: &ServerCore) -> Result<bool, Fail> {
@@ -227,6 +248,12 @@ const FIRST_LEASES: &str = "ServerOut { note: Grants { count: 3, end: All }, sen
     Exclusive, until: 100, value: Life(None) }] }, fresh: Some(FileId { numbers: [1] }), end: All \
     }))] }, admitted: List { items: [] } }";
 
+const ADMITS_ALL: &str =
+    "ServerOut { note: Admits { count: 2, end: All, gaps: List { items: [] } }, send: List { items: [(Client(Session(1)), \
+    Answer(Shipped { count: 2, end: All }))] }, admitted: List { items: [Item { by: Client(Session(1)), n: 1, op: Create { \
+    dir: FileId { numbers: [] }, name: Name { bytes: [97] }, kind: File, id: Some(FileId { numbers: [1] }) }, reply: Made }, \
+    Item { by: Client(Session(1)), n: 2, op: Kind { file: FileId { numbers: [] } }, reply: IsDir }] } }";
+
 const ADMITS: &str = "Admits { count: 2, end: All, gaps: List { items: [] } }";
 
 /// The leases of a first create.
@@ -238,22 +265,27 @@ const ASKS: &[Line] = &[(
 )];
 
 /// Its log.
-const HANDS_IN: &[Line] = &[(5, Event::From(1, said::LOG), Seen::Planned, ADMITS)];
+const HANDS_IN: &[Line] = &[(5, Event::From(1, said::LOG), Seen::All, ADMITS_ALL)];
 
-fn creates(rt: &impl Abort, alloc: Global, core: &mut ServerCore) -> Result<(), Fail> {
-    plays(rt, alloc, core, ASKS)?;
+fn creates(rt: &impl Abort, alloc: Global, core: &mut ServerCore, way: Way) -> Result<(), Fail> {
+    plays(rt, alloc, core, way, ASKS)?;
     same(rt, has_file(alloc, core)?, false);
-    plays(rt, alloc, core, HANDS_IN)?;
+    plays(rt, alloc, core, way, HANDS_IN)?;
     same(rt, has_file(alloc, core)?, true);
     Ok(())
 }
 
-#[test]
-fn a_first_create(rt: HostRuntime) -> Result<(), Fail> {
-    let mut core = server(rt.alloc())?;
-    let done = creates(&rt, rt.alloc(), &mut core);
+fn creates_in(rt: &impl Abort, alloc: Global, way: Way) -> Result<(), Fail> {
+    let mut core = server(alloc)?;
+    let done = creates(rt, alloc, &mut core, way);
     spend(core);
     done
+}
+
+#[test]
+fn a_first_create(rt: HostRuntime) -> Result<(), Fail> {
+    creates_in(&rt, rt.alloc(), Way::AtOnce)?;
+    creates_in(&rt, rt.alloc(), Way::Planned)
 }
 
 const ENDS: &str = "Admits { count: 0, end: Ended { n: 1, lease: LeaseNo { server: 0, count: 1 }, \
@@ -385,8 +417,8 @@ fn releases(
     core: &mut ServerCore,
     twin: ServerCore,
 ) -> Result<(), Fail> {
-    match plays(rt, alloc, core, RELEASED) {
-        Ok(()) => plays_on(rt, alloc, twin, OF_TWIN),
+    match plays(rt, alloc, core, Way::AtOnce, RELEASED) {
+        Ok(()) => plays_on(rt, alloc, twin, Way::AtOnce, OF_TWIN),
         Err(e) => {
             spend(twin);
             Err(e)
@@ -395,7 +427,7 @@ fn releases(
 }
 
 fn renews(rt: &impl Abort, alloc: Global, core: &mut ServerCore) -> Result<(), Fail> {
-    plays(rt, alloc, core, RENEWED)?;
+    plays(rt, alloc, core, Way::AtOnce, RENEWED)?;
     let twin = core.copy(alloc)?;
     releases(rt, alloc, core, twin)
 }

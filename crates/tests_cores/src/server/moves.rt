@@ -1,8 +1,8 @@
 //! What is with another server, what goes to one, and what comes from one.
 use crate::forms::{reads, same, spend, text_of};
 use crate::server::{
-    ADMITS, ADMITS_ONE, Event, Line, Seen, THREE_GRANTS, can_be_told, event_of, has_file, plays,
-    plays_first, plays_on, said, server,
+    ADMITS, ADMITS_ONE, Event, Line, Seen, THREE_GRANTS, Way, can_be_told, event_of, has_file,
+    plays, plays_first, plays_on, said, server,
 };
 use fs_msg::write;
 use fs_server::{ServerCore, ServerEvent, ServerOut};
@@ -59,7 +59,8 @@ const ELSEWHERE: &[Line] = &[
 
 #[test]
 fn what_is_elsewhere_is_moved(rt: HostRuntime) -> Result<(), Fail> {
-    plays_on(&rt, rt.alloc(), other(rt.alloc())?, ELSEWHERE)
+    plays_on(&rt, rt.alloc(), other(rt.alloc())?, Way::AtOnce, ELSEWHERE)?;
+    plays_on(&rt, rt.alloc(), other(rt.alloc())?, Way::Planned, ELSEWHERE)
 }
 
 const ROOT_MOVES: &str = "Moves { prefix: FileId { numbers: [] }, to: 1 }";
@@ -115,10 +116,10 @@ const LEFT: &[Line] = &[(
 )];
 
 fn leaves(rt: &impl Abort, alloc: Global, from: &mut ServerCore) -> Result<(), Fail> {
-    plays(rt, alloc, from, MAKES)?;
-    plays(rt, alloc, from, LEAVING)?;
+    plays(rt, alloc, from, Way::AtOnce, MAKES)?;
+    plays(rt, alloc, from, Way::AtOnce, LEAVING)?;
     is_here(rt, alloc, from, false, FILE_BY_1)?;
-    plays(rt, alloc, from, LEFT)
+    plays(rt, alloc, from, Way::AtOnce, LEFT)
 }
 
 #[test]
@@ -158,7 +159,7 @@ fn handed_over(alloc: Global, core: &mut ServerCore) -> Result<Vec<u8>, Fail> {
 
 /// They are those of the parcel that comes to the other server in the tests below.
 fn hands_over(rt: &impl Abort, alloc: Global, from: &mut ServerCore) -> Result<(), Fail> {
-    plays(rt, alloc, from, MAKES)?;
+    plays(rt, alloc, from, Way::AtOnce, MAKES)?;
     let bytes = handed_over(alloc, from)?;
     same(rt, bytes.as_slice(), said::PARCEL);
     Ok(())
@@ -186,25 +187,30 @@ const CAME: &[Line] = &[
     (8, Event::From(2, said::ASK_FIRST), Seen::Note, FIRST_WAITS),
 ];
 
-fn comes(rt: &impl Abort, alloc: Global, to: &mut ServerCore) -> Result<(), Fail> {
-    plays(rt, alloc, to, COMES)?;
+fn comes(rt: &impl Abort, alloc: Global, to: &mut ServerCore, way: Way) -> Result<(), Fail> {
+    plays(rt, alloc, to, way, COMES)?;
     is_here(rt, alloc, to, true, FILE_BY_1)?;
-    plays(rt, alloc, to, CAME)
+    plays(rt, alloc, to, way, CAME)
+}
+
+fn comes_in(rt: &impl Abort, alloc: Global, way: Way) -> Result<(), Fail> {
+    let mut to = other(alloc)?;
+    let done = comes(rt, alloc, &mut to, way);
+    spend(to);
+    done
 }
 
 #[test]
 fn a_file_comes_once(rt: HostRuntime) -> Result<(), Fail> {
-    let mut to = other(rt.alloc())?;
-    let done = comes(&rt, rt.alloc(), &mut to);
-    spend(to);
-    done
+    comes_in(&rt, rt.alloc(), Way::AtOnce)?;
+    comes_in(&rt, rt.alloc(), Way::Planned)
 }
 
 /// A parcel that no honest server sends changes nothing.
 const ODD: &[Line] = &[(7, Event::Peer(0, said::ODD_PARCEL), Seen::Note, "Strange")];
 
 fn is_strange(rt: &impl Abort, alloc: Global, to: &mut ServerCore) -> Result<(), Fail> {
-    plays(rt, alloc, to, ODD)?;
+    plays(rt, alloc, to, Way::AtOnce, ODD)?;
     is_here(rt, alloc, to, false, ALL_BY_0)
 }
 
@@ -215,8 +221,6 @@ fn a_parcel_that_does_not_fit_is_strange(rt: HostRuntime) -> Result<(), Fail> {
     spend(to);
     done
 }
-
-const FILE_MOVES: &str = "Moves { prefix: FileId { numbers: [1] }, to: 1 }";
 
 const MOVED_BEFORE: &str = "Stays { refusal: NotMine { prefix: FileId { numbers: [1] }, to: 1 } }";
 
@@ -234,13 +238,13 @@ const STAYS: &[Line] = &[
         Seen::Note,
         "Stays { refusal: Same }",
     ),
-    (6, Event::Move("/1", 1), Seen::Planned, FILE_MOVES),
+    (6, Event::Move("/1", 1), Seen::All, LEAVES),
     (6, Event::Move("/1", 1), Seen::Note, MOVED_BEFORE),
 ];
 
 fn stays(rt: &impl Abort, alloc: Global, core: &mut ServerCore) -> Result<(), Fail> {
-    plays(rt, alloc, core, MAKES)?;
-    plays(rt, alloc, core, STAYS)
+    plays(rt, alloc, core, Way::Planned, MAKES)?;
+    plays(rt, alloc, core, Way::Planned, STAYS)
 }
 
 #[test]
