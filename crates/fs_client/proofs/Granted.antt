@@ -6,6 +6,7 @@ use Rattle.fs_msg.specs.declared.client_note.ClientNote.{ClientNote}
 use Rattle.fs_client.specs.declared.plan.Plan.{Plan}
 use Rattle.std.specs.List.{list_any}
 use Rattle.std.proofs.lemmas.List.{take_more, map-append}
+use Rattle.std.proofs.Math.Bool.{or_assoc, or-false}
 use Rattle.fs_ident.specs.declared.actor.LeaseNo.{LeaseNo}
 use Rattle.fs_ident.proofs.Booleans.{both}
 use Rattle.fs_field.specs.declared.field.Field.{Field}
@@ -34,23 +35,15 @@ abbrev pub kept_with : Option (List ℕ) → List Kept → List Grant → List K
 kept_with fresh leases [] = leases
 kept_with fresh leases (g ∷ gs) = kept_with fresh (leases ++ kept_new (lease_in fresh g) ∷ []) gs
 
-or_assoc : (a b c : Bool) → ((a || b) || c) ≡ (a || (b || c))
-or_assoc true b c = refl
-or_assoc false b c = refl
-
-or_false : (a : Bool) → (a || false) ≡ a
-or_false true = refl
-or_false false = refl
-
 any_one : (f : Kept → Bool) (xs : List Kept) (x : Kept) → list_any f (xs ++ x ∷ []) ≡ (list_any f xs || f x)
-any_one f [] x = or_false (f x)
+any_one f [] x = or-false (f x)
 any_one f (y ∷ xs) x = ap (λ b. f y || b) (any_one f xs x) ∙ sym (or_assoc (f y) (list_any f xs) (f x))
 
 abbrev pub has_no_of : LeaseNo → Grant → Bool
 has_no_of n b = same_no b.no n
 
 any_kept : (fresh : Option (List ℕ)) (n : LeaseNo) (leases : List Kept) (before : List Grant) → list_any (has_number n) (kept_with fresh leases before) ≡ (list_any (has_number n) leases || list_any (has_no_of n) before)
-any_kept fresh n leases [] = sym (or_false (list_any (has_number n) leases))
+any_kept fresh n leases [] = sym (or-false (list_any (has_number n) leases))
 any_kept fresh n leases (g ∷ gs) =
     any_kept fresh n (leases ++ kept_new (lease_in fresh g) ∷ []) gs
     ∙ ap (λ b. b || list_any (has_no_of n) gs) (any_one (has_number n) leases (kept_new (lease_in fresh g)))

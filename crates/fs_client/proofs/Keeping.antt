@@ -14,32 +14,33 @@ use Rattle.fs_client.specs.declared.state.Client.{Client}
 use Rattle.fs_map.specs.Map.{Owners}
 use Rattle.fs_client.specs.Client.{IsClient, admitted_all, admitted_one, begun, can_change, can_commit, changed, committed, with_hints}
 
--- its term and its last reading stay
-abbrev KeepsTerm : Client → Client → Type 0
-KeepsTerm old new = (new.term ≡ old.term) × (new.last ≡ old.last)
+-- whose client it is, its hints, its term and its last reading stay
+abbrev pub Keeps : Client → Client → Type 0
+Keeps old new = (new.session ≡ old.session) × (new.hints ≡ old.hints) × (new.term ≡ old.term) × (new.last ≡ old.last)
 
-one_admitted : (es : List Entry) (c : Client) → KeepsTerm c (admitted_one c es)
-one_admitted [] c = (refl, refl)
-one_admitted (e ∷ es) c = (refl, refl)
+one_admitted : (es : List Entry) (c : Client) → Keeps c (admitted_one c es)
+one_admitted [] c = (refl, refl, refl, refl)
+one_admitted (e ∷ es) c = (refl, refl, refl, refl)
 
-all_admitted : (k : ℕ) (c : Client) → KeepsTerm c (admitted_all k c)
-all_admitted zero c = (refl, refl)
+all_admitted : (k : ℕ) (c : Client) → Keeps c (admitted_all k c)
+all_admitted zero c = (refl, refl, refl, refl)
 all_admitted (suc k) c =
-    let one : KeepsTerm c (admitted_one c c.log) = one_admitted c.log c in
-    let rest : KeepsTerm (admitted_one c c.log) (admitted_all k (admitted_one c c.log)) = all_admitted k (admitted_one c c.log) in
-    (rest.0 ∙ one.0, rest.1 ∙ one.1)
+    let one : Keeps c (admitted_one c c.log) = one_admitted c.log c in
+    let rest : Keeps (admitted_one c c.log) (admitted_all k (admitted_one c c.log)) = all_admitted k (admitted_one c c.log) in
+    (rest.0 ∙ one.0, rest.1 ∙ one.1, rest.2 ∙ one.2, rest.3 ∙ one.3)
 
-keeps_term : (ch : Change) (c : Client) → KeepsTerm c (changed ch c)
-keeps_term change.Nothing c = (refl, refl)
-keeps_term change.Read c = (refl, refl)
-keeps_term (change.Reply entry effects) c = (refl, refl)
-keeps_term (change.Ask x) c = (refl, refl)
-keeps_term (change.Leave to numbers) c = (refl, refl)
-keeps_term (change.Grant leases full) c = (refl, refl)
-keeps_term (change.Renew ends) c = (refl, refl)
-keeps_term (change.Release numbers) c = (refl, refl)
-keeps_term (change.Admit count over) c = all_admitted count c
-keeps_term (change.Recall number) c = (refl, refl)
+-- no change but a hint changes the hints
+pub keeps : (ch : Change) (c : Client) → Keeps c (changed ch c)
+keeps change.Nothing c = (refl, refl, refl, refl)
+keeps change.Read c = (refl, refl, refl, refl)
+keeps (change.Reply entry effects) c = (refl, refl, refl, refl)
+keeps (change.Ask x) c = (refl, refl, refl, refl)
+keeps (change.Leave to numbers) c = (refl, refl, refl, refl)
+keeps (change.Grant leases full) c = (refl, refl, refl, refl)
+keeps (change.Renew ends) c = (refl, refl, refl, refl)
+keeps (change.Release numbers) c = (refl, refl, refl, refl)
+keeps (change.Admit count over) c = all_admitted count c
+keeps (change.Recall number) c = (refl, refl, refl, refl)
 
 told_client : (h : Option Owners) (c : Client) → IsClient c → IsClient (with_hints h c)
 told_client None c i = i
@@ -54,8 +55,8 @@ stays_client r c i h =
     let q : (nat_le r.now LATEST ≡ true) × (can_change r.change (begun r.now c) ≡ true) = both (nat_le r.now LATEST) _ h in
     told_client r.hints (changed r.change (begun r.now c))
     (record {
-      term = subst (λ n. n ≤ LONGEST) (sym (keeps_term r.change (begun r.now c)).0) i.term;
-      last = subst (λ n. n ≤ LATEST) (sym (keeps_term r.change (begun r.now c)).1) (greatest c.last r.now LATEST i.last q.0);
+      term = subst (λ n. n ≤ LONGEST) (sym (keeps r.change (begun r.now c)).2) i.term;
+      last = subst (λ n. n ≤ LATEST) (sym (keeps r.change (begun r.now c)).3) (greatest c.last r.now LATEST i.last q.0);
     })
 
 pub is_client_still : (res : Result (Unit {0}) Memory) (r : Ready) (old new : Client) → OnOk res (new ≡ committed r old) → OnErr res (new ≡ old) → IsClient old → can_commit r old ≡ true → IsClient new

@@ -1,8 +1,8 @@
 -- Conflicts of rows.
-use Rattle.std.proofs.Common.{◌≡◌, ◌==◌, not, ◌&&◌, ◌||◌, Bool, true, false, List, refl, ap, sym, ◌∙◌}
-use Rattle.std.proofs.Math.Bool.{or_comm}
+use Rattle.std.proofs.Common.{◌≡◌, ◌==◌, not, ◌&&◌, ◌||◌, Bool, true, false, ℕ, List, refl, ap, sym, ◌∙◌}
+use Rattle.std.proofs.Math.Bool.{or_comm, and-false, or-false}
 use Rattle.std.specs.Cmp.{nat_eq_equiv}
-use Rattle.std.specs.Cmp.Lexicographic.{nat_list_eq_equiv}
+use Rattle.std.specs.Cmp.Lexicographic.{nat_list_eq_equiv, same_text}
 use Rattle.std.specs.Prelude.{Option, Some, None}
 use Rattle.fs_field.specs.declared.field.Field.{Field}
 use Rattle.fs_field.specs.declared.field.Field.TheVariants.{Life, Child, Names, Info, Own, SelfW, Other}
@@ -11,8 +11,10 @@ use Rattle.fs_field.specs.declared.row.Row.{Row}
 use Rattle.fs_ident.specs.declared.actor.Session.{Session}
 use Rattle.fs_ident.specs.Ident.{same}
 use Rattle.fs_ident.specs.In.{In}
-use Rattle.fs_field.specs.Conflict.{Selves, one_shared, names_over, meets, is_exclusive, plain_conflict, mode_meets, mode_conflict, conflicts, NoConflict, NoPlainConflict}
-use Rattle.fs_field.specs.Field.{tells_no_mode}
+use Rattle.fs_ident.proofs.Booleans.{first}
+use Rattle.fs_modes.specs.declared.modes.Mode.{Mode}
+use Rattle.fs_field.specs.Conflict.{Selves, is_self, one_shared, names_over, meets, is_exclusive, plain_conflict, mode_meets, mode_conflict, conflicts, NoConflict, NoPlainConflict}
+use Rattle.fs_field.specs.Field.{file_of, same_mode, tells_no_mode}
 
 shared_mutual : (f g : Field) → one_shared f g ≡ one_shared g f
 shared_mutual (Life a) (Life b) = nat_list_eq_equiv.symm a b
@@ -66,14 +68,6 @@ conflicts_mutual selves rows a b =
     ap (λ x. x || mode_conflict selves rows a b) (plain_mutual a b)
     ∙ ap (λ x. plain_conflict b a || x) (mode_mutual selves rows a b)
 
-never : (x : Bool) → (x && false) ≡ false
-never true = refl
-never false = refl
-
-or_never : (x : Bool) → (x || false) ≡ x
-or_never true = refl
-or_never false = refl
-
 off_modes : (selves : Selves) (rows : List Row) (x : Session) (f : Field) (p : Option Bool) (y : Session) (g : Field) → tells_no_mode f ≡ true → mode_meets selves rows x f p y g ≡ false
 off_modes selves rows x (Life f) p y g h = refl
 off_modes selves rows x (Child f n) p y g h = refl
@@ -90,8 +84,8 @@ pub plain_is_all : (selves : Selves) (rows : List Row) (a b : Row) → tells_no_
 plain_is_all selves rows a b ha hb =
     ap (λ x. plain_conflict a b || (not (a.session.0 == b.session.0) && (x || mode_meets selves rows b.session b.field b.promise a.session a.field))) (no_promise selves rows a b ha)
     ∙ ap (λ x. plain_conflict a b || (not (a.session.0 == b.session.0) && x)) (no_promise selves rows b a hb)
-    ∙ ap (λ x. plain_conflict a b || x) (never (not (a.session.0 == b.session.0)))
-    ∙ or_never (plain_conflict a b)
+    ∙ ap (λ x. plain_conflict a b || x) (and-false (not (a.session.0 == b.session.0)))
+    ∙ or-false (plain_conflict a b)
 
 pub all_are_plain : (selves : Selves) (rows : List Row) → ((row : Row) → In row rows → tells_no_mode row.field ≡ true) → NoConflict selves rows → NoPlainConflict rows
 all_are_plain selves rows plain free a b ia ib = sym (plain_is_all selves rows a b (plain a ia) (plain b ib)) ∙ free a b ia ib
@@ -102,3 +96,14 @@ plain_are_all selves rows plain quiet a b ia ib = plain_is_all selves rows a b (
 pub as_false : (selves : Selves) (rows : List Row) (x y : Session) (f g : Field) → mode_meets selves rows x f None y g ≡ mode_meets selves rows x f (Some false) y g
 as_false selves rows x y (Other f m) (SelfW g n) = refl
 as_false selves rows x y f g = refl
+
+-- ## What a row tells of modes
+
+-- a row by which a session changes what it tells of the file is on it, and tells of a mode
+pub self_file : (f : List ℕ) (m : Mode) (g : Field) → is_self f m g ≡ true → file_of g ≡ f
+self_file f m (SelfW g n) h = sym (same_text f g (sym (first (same f g) (same_mode m n) h)))
+self_file f m g h = absurd (cc)
+
+pub self_on : (f : List ℕ) (m : Mode) (g : Field) → is_self f m g ≡ true → not (tells_no_mode g) ≡ true
+self_on f m (SelfW g n) h = refl
+self_on f m g h = absurd (cc)

@@ -6,11 +6,9 @@ use Rattle.std.specs.Cmp.Lexicographic.{same_text, nat_list_eq_equiv}
 use Rattle.std.proofs.lemmas.Map.Views.{any-filter_same}
 use Rattle.fs_ident.specs.Ident.{same}
 use Rattle.fs_ident.specs.Ordered.{put_before}
+use Rattle.fs_ident.proofs.Same.{same_self}
 use Rattle.fs_field.specs.After.{with_name, without_name, names_after, is_before}
 use Rattle.fs_field.specs.declared.effect.Effect.TheVariants.{SetChild}
-
-same_itself : (a : List ℕ) → same a a ≡ true
-same_itself a = nat_list_eq_equiv.refl a
 
 -- no name is the same as two that differ
 not_both : (n name other : List ℕ) → same other name ≡ false → same n other ≡ true → same n name ≡ false
@@ -37,7 +35,7 @@ named_with : (name : List ℕ) (names : List (List ℕ)) → list_any (λ n. sam
 named_with name names =
     elim (list_any (λ n. same n name) names) as (λ b. list_any (λ n. same n name) names ≡ b → list_any (λ n. same n name) (cond b names (put_before (is_before name) name names)) ≡ true) [
       | true ↦ λ e. e
-      | false ↦ λ e. any_put (λ n. same n name) (is_before name) name names ∙ ap (λ b. b || list_any (λ n. same n name) names) (same_itself name)
+      | false ↦ λ e. any_put (λ n. same n name) (is_before name) name names ∙ ap (λ b. b || list_any (λ n. same n name) names) (same_self name)
     ] refl
 
 others_with : (name other : List ℕ) (names : List (List ℕ)) → same other name ≡ false → list_any (λ n. same n other) (with_name names name) ≡ list_any (λ n. same n other) names
@@ -54,9 +52,9 @@ others_without : (name other : List ℕ) (names : List (List ℕ)) → same othe
 others_without name other names h = any-filter_same (λ n. same n other) (λ n. not (same n name)) true (λ n e. ap not (not_both n name other h e)) names
 
 pub named : (d name : List ℕ) (names : List (List ℕ)) (to : Option (List ℕ)) → list_any (λ n. same n name) (names_after d names (SetChild d name to)) ≡ is_some to
-named d name names (Some f) = ap (λ b. list_any (λ n. same n name) (cond b (with_name names name) names)) (same_itself d) ∙ named_with name names
-named d name names None = ap (λ b. list_any (λ n. same n name) (cond b (without_name names name) names)) (same_itself d) ∙ named_without name names
+named d name names (Some f) = ap (λ b. list_any (λ n. same n name) (cond b (with_name names name) names)) (same_self d) ∙ named_with name names
+named d name names None = ap (λ b. list_any (λ n. same n name) (cond b (without_name names name) names)) (same_self d) ∙ named_without name names
 
 pub others : (d name other : List ℕ) (names : List (List ℕ)) (to : Option (List ℕ)) → same other name ≡ false → list_any (λ n. same n other) (names_after d names (SetChild d name to)) ≡ list_any (λ n. same n other) names
-others d name other names (Some f) h = ap (λ b. list_any (λ n. same n other) (cond b (with_name names name) names)) (same_itself d) ∙ others_with name other names h
-others d name other names None h = ap (λ b. list_any (λ n. same n other) (cond b (without_name names name) names)) (same_itself d) ∙ others_without name other names h
+others d name other names (Some f) h = ap (λ b. list_any (λ n. same n other) (cond b (with_name names name) names)) (same_self d) ∙ others_with name other names h
+others d name other names None h = ap (λ b. list_any (λ n. same n other) (cond b (without_name names name) names)) (same_self d) ∙ others_without name other names h

@@ -1,4 +1,6 @@
 //! What an admitted operation does to fields.
+ghost use Rattle.std.specs.Prelude.{◌≡◌, IfOk};
+
 use fs_ident::{FileId, Kind, Memory, Name, Session, Twin};
 use fs_modes::Modes;
 use std::alloc::Global;
@@ -53,27 +55,31 @@ pub enum Effect {
 impl Twin for Effect {
     fn copy(&self, alloc: Global) -> Result<Effect, Memory> {
         match self {
-            Effect::SetChild { dir, name, to } => Ok(Effect::SetChild {
-                dir: dir.copy(alloc)?,
-                name: name.copy(alloc)?,
-                to: to.copy(alloc)?,
-            }),
-            Effect::SetParent { file, dir, name } => Ok(Effect::SetParent {
-                file: file.copy(alloc)?,
-                dir: dir.copy(alloc)?,
-                name: name.copy(alloc)?,
-            }),
+            Effect::SetChild { dir, name, to } => {
+                let to = to.copy(alloc)?;
+                let (dir, name) = place(alloc, dir, name)?;
+                Ok(Effect::SetChild { dir, name, to })
+            }
+            Effect::SetParent { file, dir, name } => {
+                let file = file.copy(alloc)?;
+                let (dir, name) = place(alloc, dir, name)?;
+                Ok(Effect::SetParent { file, dir, name })
+            }
             Effect::NewNode {
                 file,
                 kind,
                 dir,
                 name,
-            } => Ok(Effect::NewNode {
-                file: file.copy(alloc)?,
-                kind: *kind,
-                dir: dir.copy(alloc)?,
-                name: name.copy(alloc)?,
-            }),
+            } => {
+                let file = file.copy(alloc)?;
+                let (dir, name) = place(alloc, dir, name)?;
+                Ok(Effect::NewNode {
+                    file,
+                    kind: *kind,
+                    dir,
+                    name,
+                })
+            }
             Effect::RemoveNode { file } => Ok(Effect::RemoveNode {
                 file: file.copy(alloc)?,
             }),
@@ -102,4 +108,12 @@ impl Twin for Effect {
     }
 
     fn discard(self) {}
+}
+
+/// Copies of both.
+fn place(alloc: Global, dir: &FileId, name: &Name) -> Result<(FileId, Name), Memory>
+    ensures { IfOk result (λ both. both ≡ (dir.now, name.now)) }
+{
+    let dir = dir.copy(alloc)?;
+    Ok((dir, name.copy(alloc)?))
 }

@@ -8,9 +8,7 @@ use Rattle.std.proofs.lemmas.List.{take_more}
 use Rattle.std.proofs.lemmas.Str.{encode_ascii}
 use Rattle.fs_ident.proofs.Booleans.{both}
 use Rattle.fs_ident.specs.Name.{IsName, is_name_byte, is_reserved}
-
-none_before : (n l : ℕ) → cond (nat_lt n l) (Some n) None ≡ None → l ≤ n
-none_before n l h = grind (arith, nat_tests)
+use Rattle.fs_ident.proofs.Options.{none_before}
 
 is_printed : (b : ℕ) → not (is_name_byte b) ≡ false → b < 128
 is_printed b h = elim (is_name_byte b) as (λ t. is_name_byte b ≡ t → not t ≡ false → b < 128) [

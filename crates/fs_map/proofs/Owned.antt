@@ -10,6 +10,7 @@ use Rattle.std.specs.FinMap.Entries.{is_some-find}
 use Rattle.std.proofs.lemmas.List.Folds.{list_any-append}
 use Rattle.fs_ident.specs.Ordered.{Keyed}
 use Rattle.fs_ident.proofs.Booleans.{neither, joined, first, second}
+use Rattle.fs_ident.proofs.Options.{not_some}
 use Rattle.fs_map.specs.Map.{begins, told_of, IsMap, IsPiece, Owners, Tells, server_of, gives, is_given, after_take}
 use Rattle.fs_map.specs.Change.{at, front}
 use Rattle.fs_map.specs.Lists.{places_of, turns, map_after_take, piece_of, owns_given}
@@ -18,10 +19,6 @@ use Rattle.fs_map.proofs.Listing.{shorter, Lists, told, listing, one_list}
 use Rattle.fs_map.proofs.Found.{tied, tied_is, tied_self}
 use Rattle.fs_map.proofs.Changing.{change_above, mine_above, server_above, gives_above, is_mine, changed_map, piece_given}
 use Rattle.fs_map.proofs.Turns.{is_one_of, turns_list}
-
-not_some : {X : Type 0} (o : Option X) → is_some o ≡ false → o ≡ None
-not_some None h = refl
-not_some (Some x) h = absurd (cc)
 
 -- what is no place of a list has no value there
 pub unlisted : {V : Type 0} (id : List ℕ) (listed : Keyed V) → is_one_of id (places_of listed) ≡ false → at id listed ≡ None

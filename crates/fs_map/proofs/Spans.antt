@@ -9,6 +9,7 @@ use Rattle.std.specs.Cmp.Lexicographic.{slice_cmp, nat_list_cmp_total}
 use Rattle.std.specs.declared.cmp.Ordering.TheVariants.{Less, Equal, Greater}
 use Rattle.std.proofs.lemmas.List.{take-append-drop, take_at, drop_at, length-drop, drop-drop, map-append}
 use Rattle.std.proofs.lemmas.List.Folds.{drop_split, list_any-append}
+use Rattle.std.proofs.Math.Bool.{or-false}
 use Rattle.fs_ident.specs.In.{In}
 use Rattle.fs_ident.specs.Ordered.{Keyed, are_keys_in_order}
 use Rattle.fs_ident.proofs.Booleans.{first, second, less}
@@ -251,12 +252,8 @@ module _ (owners : Owners) (me : ℕ) (prefix : List ℕ) (given : Keyed Bool) w
       let none_later : shown later ≡ false = none_shown later (λ e i. (s.split.later e i).1) in
       let all : shown owners ≡ shown part =
       ap (λ xs. shown xs) (in_three owners start end s.ordered) ∙ shown_both before (part ++ later) ∙ ap (λ b. b || shown (part ++ later)) none_before
-      ∙ shown_both part later ∙ ap (λ b. shown part || b) none_later ∙ or_nothing (shown part) in
+      ∙ shown_both part later ∙ ap (λ b. shown part || b) none_later ∙ or-false (shown part) in
       ap (λ b. b || shown given) (is ∙ sym all) ∙ sym (list_any-append shows (places_of owners) (places_of given))
     where
-      or_nothing : (b : Bool) → (b || false) ≡ b
-      or_nothing true = refl
-      or_nothing false = refl
-
       not_before : (id : List ℕ) → Before id prefix → begins prefix id ≡ false
       not_before id l = elim (begins prefix id) as (λ b. begins prefix id ≡ b → b ≡ false) [ true ↦ λ b. absurd (not_begun prefix id l b) | false ↦ λ b. refl ] refl

@@ -8,27 +8,23 @@ use Rattle.std.specs.declared.cmp.Ordering.TheVariants.{Less, Equal, Greater}
 use Rattle.fs_ident.specs.In.{In}
 use Rattle.fs_ident.specs.Ordered.{Keyed, are_keys_in_order}
 use Rattle.fs_ident.proofs.Booleans.{first, second, joined}
-use Rattle.fs_map.specs.Map.{begins}
+use Rattle.fs_ident.proofs.Standing.{In-append}
+use Rattle.fs_map.specs.Map.{begins, or_before}
 use Rattle.fs_map.specs.Change.{at, before_all, front}
 use Rattle.fs_map.specs.Part.{IsSplit}
 use Rattle.fs_map.proofs.Prefixes.{begins_itself, itself_or_above, begins_below, begins_nothing, prefix_first, above_differs, both_ways, begins_above, number_is, number_itself}
 use Rattle.fs_map.proofs.Found.{Before, tied, tied_is, tied_self, apart, one_way, found_In, In_found}
 use Rattle.fs_map.proofs.Listing.{Lists}
-use Rattle.fs_map.proofs.Turns.{either_In}
 
 -- ## Lists one behind the other
 
-abbrev first_of : {X : Type 0} → Option X → Option X → Option X
-first_of (Some x) o = Some x
-first_of None o = o
-
-first_alone : {X : Type 0} (o p : Option X) → p ≡ None → first_of o p ≡ o
+first_alone : {X : Type 0} (o p : Option X) → p ≡ None → or_before o p ≡ o
 first_alone (Some x) p e = refl
 first_alone None p e = e
 
-at_append : {V : Type 0} (id : List ℕ) (xs ys : Keyed V) → at id (xs ++ ys) ≡ first_of (at id xs) (at id ys)
+at_append : {V : Type 0} (id : List ℕ) (xs ys : Keyed V) → at id (xs ++ ys) ≡ or_before (at id xs) (at id ys)
 at_append id [] ys = refl
-at_append id (x ∷ xs) ys = elim (tied id x.0) as (λ b. cond b (Some x.1) (at id (xs ++ ys)) ≡ first_of (cond b (Some x.1) (at id xs)) (at id ys)) [ true ↦ refl | false ↦ at_append id xs ys ]
+at_append id (x ∷ xs) ys = elim (tied id x.0) as (λ b. cond b (Some x.1) (at id (xs ++ ys)) ≡ or_before (cond b (Some x.1) (at id xs)) (at id ys)) [ true ↦ refl | false ↦ at_append id xs ys ]
 
 pub absent : {V : Type 0} (id : List ℕ) (xs : Keyed V) → ((e : List ℕ × V) → In e xs → id ≡ e.0 → ⊥) → at id xs ≡ None
 absent id xs h = elim (at id xs) as (λ o. at id xs ≡ o → o ≡ None) [
@@ -92,12 +88,12 @@ module _ {V : Type 0} (prefix : List ℕ) (before part later : Keyed V) (s : IsS
   -- what begins with the prefix is in the part, and all else is not
   pub within : (id : List ℕ) → begins prefix id ≡ true → at id (before ++ (part ++ later)) ≡ at id part
   within id b =
-      at_append id before (part ++ later) ∙ ap (λ o. first_of o (at id (part ++ later))) (none_before id b)
+      at_append id before (part ++ later) ∙ ap (λ o. or_before o (at id (part ++ later))) (none_before id b)
       ∙ at_append id part later ∙ first_alone (at id part) (at id later) (none_later id b)
 
   pub beside : (id : List ℕ) → begins prefix id ≡ false → at id (before ++ (part ++ later)) ≡ at id (before ++ later)
   beside id b =
-      at_append id before (part ++ later) ∙ ap (first_of (at id before)) (at_append id part later ∙ ap (λ o. first_of o (at id later)) (none_inside id b))
+      at_append id before (part ++ later) ∙ ap (or_before (at id before)) (at_append id part later ∙ ap (λ o. or_before o (at id later)) (none_inside id b))
       ∙ sym (at_append id before later)
 
 -- ## What stands in the place of the part
@@ -141,7 +137,7 @@ module _ {V : Type 0} (f g : List ℕ → V) (prefix : List ℕ) (before old lat
   whole_order =
       order_both before (part ++ later) (order_front before (old ++ later) l.sound.ordered)
       (order_both part later k.order (order_back old later (order_back before (old ++ later) l.sound.ordered)) (λ d e i j. behind prefix d.0 e.0 (In_part d i) (s.later e j).0 (s.later e j).1))
-      (λ d e i j. elim (either_In e part later j) [
+      (λ d e i j. elim (In-append e part later j) [
         | inl m ↦ elim (prefix_first prefix e.0 (In_part e m)) [ inl q ↦ subst (Before d.0) q (s.earlier d i) | inr q ↦ nat_list_cmp_total.trans d.0 prefix e.0 (s.earlier d i) q ]
         | inr m ↦ nat_list_cmp_total.trans d.0 prefix e.0 (s.earlier d i) (s.later e m).0
       ])

@@ -7,8 +7,9 @@ use Rattle.std.specs.Cmp.Lexicographic.{slice_cmp}
 use Rattle.std.proofs.lemmas.Slice.Eq.{slice_eq-Decides}
 use Rattle.fs_ident.specs.Ident.{parent, same}
 use Rattle.fs_ident.specs.Ordered.{Keyed, are_keys_in_order}
-use Rattle.fs_ident.proofs.Booleans.{first, second, joined}
+use Rattle.fs_ident.proofs.Booleans.{first, second, joined, and_never, denied}
 use Rattle.fs_ident.proofs.Passing.{all-In, In-all}
+use Rattle.fs_ident.proofs.Same.{same_is}
 use Rattle.fs_map.specs.Map.{begins, told_of, IsPiece}
 use Rattle.fs_map.specs.Change.{before_all, front}
 use Rattle.fs_map.specs.Lists.{is_value, tells_alike, tells_anew, begins_at, is_piece}
@@ -19,16 +20,12 @@ use Rattle.fs_map.proofs.Changing.{next_item}
 
 -- ## In order
 
-no_more : (a b : Bool) → (a && (false && b)) ≡ false
-no_more true b = refl
-no_more false b = refl
-
 -- the next one is behind the last, so what is left is behind the last if it is behind the next
 rises_next : (last : List ℕ) (e : List ℕ × Bool) (es : Keyed Bool) → Before last e.0 → (before_all last (e ∷ es) && are_keys_in_order (e ∷ es)) ≡ (before_all e.0 es && are_keys_in_order es)
 rises_next last e es l =
     elim (before_all e.0 es) as (λ b. before_all e.0 es ≡ b → ((is_lt (slice_cmp nat_cmp last e.0) && before_all last es) && (b && are_keys_in_order es)) ≡ (b && are_keys_in_order es)) [
       | true ↦ λ h. ap (λ c. c && are_keys_in_order es) (joined _ _ (ap is_lt l) (before_through last e.0 es l h))
-      | false ↦ λ h. no_more (is_lt (slice_cmp nat_cmp last e.0) && before_all last es) (are_keys_in_order es)
+      | false ↦ λ h. and_never (is_lt (slice_cmp nat_cmp last e.0) && before_all last es) (are_keys_in_order es)
     ] refl
 
 pub rises_on : (last : List ℕ) (rest : Keyed Bool) (i : ℕ) (e : List ℕ × Bool) → i < length rest → e ≡ get_or rest i e → Before last e.0
@@ -37,19 +34,12 @@ rises_on last rest i e within is l = ap (λ es. before_all last es && are_keys_i
 
 -- ## The shortest list
 
-same_is : (a b : List ℕ) → same a b ≡ true → a ≡ b
-same_is a b h = (slice_eq-Decides unsigned_Decides a b (same a b) refl).0 h
-
 same_itself : (a b : List ℕ) → a ≡ b → same a b ≡ true
 same_itself a b e = (slice_eq-Decides unsigned_Decides a b (same a b) refl).1 e
 
 not_false : (b : Bool) → (b ≡ true → ⊥) → not b ≡ true
 not_false true h = absurd (h refl)
 not_false false h = refl
-
-not_true : (b : Bool) → not b ≡ true → b ≡ true → ⊥
-not_true true h e = absurd (cc)
-not_true false h e = absurd (cc)
 
 value_there : (o : Option Bool) (v : Bool) → is_value o v ≡ true → o ≡ Some v
 value_there None v h = absurd (cc)
@@ -64,7 +54,7 @@ module _ (top : List ℕ) (listed : Keyed Bool) where
   anew_telling e h above p b q =
       elim (same e.0 top) as (λ s. same e.0 top ≡ s → (s || not (tells_alike listed (parent e.0) e.1)) ≡ true → ⊥) [
         | true ↦ λ s _. above_top e.0 above p b (same_is e.0 top s)
-        | false ↦ λ s n. not_true _ n (ap (λ o. tells_alike listed o e.1) p ∙ value_is (told_of listed above) e.1 q)
+        | false ↦ λ s n. denied _ n (ap (λ o. tells_alike listed o e.1) p ∙ value_is (told_of listed above) e.1 q)
       ] refl (second (begins top e.0) _ h)
     where
       above_top : (id up : List ℕ) → parent id ≡ Some up → begins top up ≡ true → id ≡ top → ⊥

@@ -9,7 +9,7 @@ use Rattle.std.specs.FinMap.Entries.{put, by_order, find-put, is_sorted-put}
 use Rattle.std.specs.declared.cmp.Ordering.TheVariants.{Less, Equal, Greater}
 use Rattle.fs_ident.specs.In.{In}
 use Rattle.fs_ident.specs.Ordered.{Keyed, are_keys_in_order}
-use Rattle.fs_ident.proofs.Booleans.{joined}
+use Rattle.fs_ident.proofs.Booleans.{joined, holds}
 use Rattle.fs_map.specs.Map.{begins}
 use Rattle.fs_map.specs.Change.{at, before_all, front, turned}
 use Rattle.fs_map.specs.Lists.{places_of, turns, with_turn}
@@ -24,11 +24,7 @@ is_one_of id places = list_any (tied id) places
 
 order : {V : Type 0} (place : List ℕ) (o : Option V) (listed : Keyed V) → are_keys_in_order listed ≡ true → are_keys_in_order (with_turn place o listed) ≡ true
 order place None listed h = h
-order place (Some v) listed h = is_true _ (is_sorted-put (slice_cmp nat_cmp) nat_list_cmp_total place v listed (subst T (sym h) tt))
-  where
-    is_true : (b : Bool) → T b → b ≡ true
-    is_true true t = refl
-    is_true false t = absurd t
+order place (Some v) listed h = holds _ (is_sorted-put (slice_cmp nat_cmp) nat_list_cmp_total place v listed (subst T (sym h) tt))
 
 -- what is put before or behind others stands there
 after_all : {V : Type 0} (x : List ℕ) (listed : Keyed V) → ((e : List ℕ × V) → In e listed → Before x e.0) → before_all x listed ≡ true
@@ -145,7 +141,3 @@ turn_In p x ps es h (Some v) i = elim (put_In x p v es i) [ inl q ↦ inl q | in
 pub turns_In : {V : Type 0} (alike : V → V → Bool) (f : List ℕ → V) (top : List ℕ) (places : List (List ℕ)) (x : List ℕ) → In x (places_of (turns alike f top places)) → In x places
 turns_In alike f top [] x i = i
 turns_In alike f top (p ∷ ps) x i = turn_In p x ps (turns alike f top ps) (turns_In alike f top ps x) (turned alike f top p) i
-
-pub either_In : {X : Type 0} (x : X) (xs ys : List X) → In x (xs ++ ys) → In x xs ⊎ In x ys
-either_In x [] ys i = inr i
-either_In x (y ∷ xs) ys i = elim i as (λ _. ((x ≡ y) ⊎ In x xs) ⊎ In x ys) [ inl e ↦ inl (inl e) | inr j ↦ elim (either_In x xs ys j) [ inl k ↦ inl (inr k) | inr k ↦ inr k ] ]

@@ -3,6 +3,7 @@ use Rattle.std.proofs.Common.{◌≡◌, ℕ, zero, suc, ◌+◌, ◌-◌, ◌<�
 use Rattle.std.specs.Prelude.{Some, None, ◌||◌}
 use Rattle.std.specs.FinMap.{get}
 use Rattle.std.specs.Cmp.Lexicographic.{pointwise}
+use Rattle.std.proofs.Math.Bool.{or-false}
 use Rattle.fs_model.specs.Ancestors.{directory_of, ancestors_within, is_among}
 use Rattle.fs_model.specs.Namespace.{NodeMap}
 
@@ -23,8 +24,4 @@ reaches_up n i m file at up lt e is =
     rw (one, e, is)
 
 pub reaches_last : (n i : ℕ) (m : NodeMap) (file at : List ℕ) → n - i ≡ 0 → reaches (n - i) m file at ≡ pointwise nat_eq at file
-reaches_last n i m file at e = rw e (over (pointwise nat_eq at file))
-  where
-    over : (b : Bool) → (b || false) ≡ b
-    over true = refl
-    over false = refl
+reaches_last n i m file at e = rw e (or-false (pointwise nat_eq at file))

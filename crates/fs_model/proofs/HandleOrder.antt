@@ -6,6 +6,7 @@ use Rattle.std.proofs.lemmas.Bool.Decides.{nat_tests}
 use Rattle.std.proofs.lemmas.List.Quantifiers.{position-Some}
 use Rattle.fs_ident.proofs.Booleans.{first, second, joined}
 use Rattle.fs_ident.specs.declared.actor.Session.{Session}
+use Rattle.fs_ident.proofs.Options.{none_before}
 use Rattle.fs_modes.specs.declared.modes.Modes.{Modes}
 use Rattle.fs_model.specs.declared.node.Handle.{Handle}
 use Rattle.fs_model.specs.Handles.{is_at, comes_before, is_before_all, handles_are_in_order, handle_at, with_handle, without_handle}
@@ -32,11 +33,8 @@ module _ (session : Session) (h : ℕ) where
         | false ↦ λ l. none_of_all xs (omega arith)
       ] l
 
-  past_end : (n l : ℕ) → cond (nat_lt n l) (Some n) None ≡ None → l ≤ n
-  past_end n l e = grind (arith, nat_tests)
-
   pub handle_absent : (xs : List Handle) → position (is_at session h) xs ≡ None → handle_at xs session h ≡ None
-  handle_absent xs e = none_of_all xs (past_end _ _ e)
+  handle_absent xs e = none_of_all xs (none_before _ _ e)
 
 -- ## Order
 

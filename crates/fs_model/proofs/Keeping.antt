@@ -8,6 +8,8 @@ use Rattle.std.specs.FinMap.Entries.{is_sorted-put, is_sorted-where_key}
 use Rattle.fs_ident.specs.declared.actor.Session.{Session}
 use Rattle.fs_ident.specs.declared.kind.Kind.{Kind}
 use Rattle.fs_ident.specs.declared.kind.Kind.TheVariants.{File, Dir}
+use Rattle.fs_ident.proofs.Options.{not_some}
+use Rattle.fs_ident.proofs.Booleans.{held, holds}
 use Rattle.fs_modes.specs.declared.modes.Modes.{Modes}
 use Rattle.fs_model.specs.declared.node.Node.{Node}
 use Rattle.fs_model.specs.declared.op.Op.{Op}
@@ -20,14 +22,6 @@ use Rattle.fs_model.specs.Step.{Stepped, step, with_link, without_link, at_place
 use Rattle.fs_model.proofs.HandleOrder.{with_handle_in_order, filter_in_order}
 use Rattle.fs_model.proofs.Spaces.{in_order_at, IsSpace-insert, IsSpace-remove, IsSpace-with_change}
 
-held : (b : Bool) → b ≡ true → T b
-held true e = tt
-held false e = absurd (cc)
-
-true_from : (b : Bool) → T b → b ≡ true
-true_from true h = refl
-true_from false h = absurd h
-
 -- ## Changes of one node
 
 pub fresh_in_order : (kind : Kind) (parent : Option (List ℕ × List ℕ)) → IsInOrder (fresh_node kind parent)
@@ -35,13 +29,13 @@ fresh_in_order kind parent = record { children = refl; handles = refl }
 
 pub with_link_in_order : (name id : List ℕ) (n : Node) → IsInOrder n → IsInOrder (with_link name id n)
 with_link_in_order name id n own = record {
-  children = true_from _ (is_sorted-put (slice_cmp nat_cmp) nat_list_cmp_total name id n.children (held _ own.children));
+  children = holds _ (is_sorted-put (slice_cmp nat_cmp) nat_list_cmp_total name id n.children (held _ own.children));
   handles = own.handles;
 }
 
 pub without_link_in_order : (name : List ℕ) (n : Node) → IsInOrder n → IsInOrder (without_link name n)
 without_link_in_order name n own = record {
-  children = true_from _ (is_sorted-where_key (slice_cmp nat_cmp) (λ other. not (eq_by_cmp (slice_cmp nat_cmp) name other)) n.children (held _ own.children));
+  children = holds _ (is_sorted-where_key (slice_cmp nat_cmp) (λ other. not (eq_by_cmp (slice_cmp nat_cmp) name other)) n.children (held _ own.children));
   handles = own.handles;
 }
 
@@ -82,10 +76,6 @@ create_kept (Some d) m dir name kind id s = within d.kind
     within File = s
     within Dir = kept_if (is_some (child_at d.children name)) _ _ (λ e. s) (λ e. as_id id)
 
-none_from : (o : Option Modes) → is_some o ≡ false → o ≡ None
-none_from None e = refl
-none_from (Some m) e = absurd (cc)
-
 with_open_kept : (m : NodeMap) (by : Session) (file : List ℕ) (h : ℕ) (modes : Modes) (n : Node) → get m file ≡ Some n → handle_at n.handles by h ≡ None → IsSpace m → IsSpace (with_change (with_open by h modes) m file)
 with_open_kept m by file h modes n e free s =
     subst (λ o. IsSpace (with_change_at (with_open by h modes) m file o)) (sym e) (IsSpace-insert m file (with_open by h modes n) s (with_open_in_order by h modes n free (in_order_at m s file n e)))
@@ -94,7 +84,7 @@ open_kept : (o : Option Node) (m : NodeMap) (by : Session) (file : List ℕ) (h 
 open_kept None m by file h modes e s = s
 open_kept (Some n) m by file h modes e s =
     kept_if (is_some (handle_at n.handles by h)) _ _ (λ _. s) (λ free.
-    kept_if (any_conflicts n.handles modes) _ _ (λ _. s) (λ _. with_open_kept m by file h modes n e (none_from _ free) s))
+    kept_if (any_conflicts n.handles modes) _ _ (λ _. s) (λ _. with_open_kept m by file h modes n e (not_some _ free) s))
 
 close_kept : (o : Option Node) (m : NodeMap) (by : Session) (file : List ℕ) (h : ℕ) → IsSpace m → IsSpace (close o m by file h).nodes
 close_kept None m by file h s = s

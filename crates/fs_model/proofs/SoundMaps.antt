@@ -9,23 +9,19 @@ use Rattle.std.specs.Cmp.{eq_by_cmp_equiv}
 use Rattle.std.specs.Cmp.Lexicographic.{slice_cmp, nat_list_cmp_total}
 use Rattle.std.specs.declared.cmp.Ordering.{Ordering}
 use Rattle.std.specs.declared.cmp.Ordering.TheVariants.{Less, Equal, Greater}
+use Rattle.fs_ident.proofs.Booleans.{equal_is}
 use Rattle.fs_model.specs.declared.node.Node.{Node}
 use Rattle.fs_model.specs.Namespace.{NodeMap, with_change, with_change_at}
 use Rattle.fs_model.specs.Children.{Children, child_at, with_child, without_child}
 use Rattle.fs_model.specs.Sound.{child_of}
 use Rattle.fs_model.specs.Step.{with_link, without_link}
 
-equal_if_eq : (o : Ordering) → is_eq o ≡ true → o ≡ Equal
-equal_if_eq Less e = absurd (cc)
-equal_if_eq Equal e = refl
-equal_if_eq Greater e = absurd (cc)
-
 -- the test of keys
 abbrev pub same : List ℕ → List ℕ → Bool
 same x y = eq_by_cmp (slice_cmp nat_cmp) x y
 
 pub same_is : (x y : List ℕ) → same x y ≡ true → x ≡ y
-same_is x y e = slice_cmp-IsAntisymmetric nat_cmp-IsAntisymmetric x y (equal_if_eq _ e)
+same_is x y e = slice_cmp-IsAntisymmetric nat_cmp-IsAntisymmetric x y (equal_is _ e)
 
 pub same_self : (x : List ℕ) → same x x ≡ true
 same_self x = (eq_by_cmp_equiv nat_list_cmp_total).refl x

@@ -6,6 +6,7 @@ use Rattle.std.specs.Cmp.Lexicographic.{pointwise}
 use Rattle.fs_ident.specs.declared.actor.Session.{Session}
 use Rattle.fs_ident.specs.declared.kind.Kind.{Kind}
 use Rattle.fs_ident.specs.declared.kind.Kind.TheVariants.{File, Dir}
+use Rattle.fs_ident.proofs.Options.{not_some}
 use Rattle.fs_modes.specs.declared.modes.Modes.{Modes}
 use Rattle.fs_model.specs.declared.node.Node.{Node}
 use Rattle.fs_model.specs.declared.op.Op.{Op}
@@ -31,13 +32,9 @@ pub data Outcome (Asked : Modes → Type 0) (m : NodeMap) (by : Session) : Stepp
   renames : (file sdir sname ddir dname : List ℕ) (s d : Node) → get m sdir ≡ Some s → child_at s.children sname ≡ Some file → get m ddir ≡ Some d → d.kind ≡ Dir → child_at d.children dname ≡ None → is_on_chain m file ddir ≡ false → Outcome Asked m by (record { reply = reply.Renamed; nodes = with_moved_node m file sdir sname ddir dname })
   reaps : (file : List ℕ) (session : Session) → Outcome Asked m by (record { reply = reply.Reaped; nodes = with_change (without_opens session) m file })
 
-none_from : {A : Type 0} (o : Option A) → is_some o ≡ false → o ≡ None
-none_from None e = refl
-none_from (Some x) e = absurd (cc e)
-
 -- ## Reads
 
-child_reply_reads : (o : Option (List ℕ)) → is_change (child_reply o) ≡ false
+pub child_reply_reads : (o : Option (List ℕ)) → is_change (child_reply o) ≡ false
 child_reply_reads None = refl
 child_reply_reads (Some id) = refl
 
@@ -45,7 +42,7 @@ look_up_in_reads : (k : Kind) (n : Node) (name : List ℕ) → is_change (look_u
 look_up_in_reads File n name = refl
 look_up_in_reads Dir n name = child_reply_reads (child_at n.children name)
 
-look_up_reads : (o : Option Node) (name : List ℕ) → is_change (look_up o name) ≡ false
+pub look_up_reads : (o : Option Node) (name : List ℕ) → is_change (look_up o name) ≡ false
 look_up_reads None name = refl
 look_up_reads (Some n) name = look_up_in_reads n.kind n name
 
@@ -53,7 +50,7 @@ list_in_reads : (k : Kind) (n : Node) → is_change (list_in k n) ≡ false
 list_in_reads File n = refl
 list_in_reads Dir n = refl
 
-list_reads : (o : Option Node) → is_change (list o) ≡ false
+pub list_reads : (o : Option Node) → is_change (list o) ≡ false
 list_reads None = refl
 list_reads (Some n) = list_in_reads n.kind n
 
@@ -61,11 +58,11 @@ kind_reply_reads : (k : Kind) → is_change (kind_reply k) ≡ false
 kind_reply_reads File = refl
 kind_reply_reads Dir = refl
 
-kind_reads : (o : Option Node) → is_change (kind o) ≡ false
+pub kind_reads : (o : Option Node) → is_change (kind o) ≡ false
 kind_reads None = refl
 kind_reads (Some n) = kind_reply_reads n.kind
 
-info_reads : (o : Option Node) → is_change (info o) ≡ false
+pub info_reads : (o : Option Node) → is_change (info o) ≡ false
 info_reads None = refl
 info_reads (Some n) = refl
 
@@ -83,14 +80,14 @@ module _ (Asked : Modes → Type 0) (m : NodeMap) (by : Session) where
   created_as : (dir name : List ℕ) (kind : Kind) (d : Node) → get m dir ≡ Some d → d.kind ≡ Dir → child_at d.children name ≡ None → (o : Option (List ℕ)) → Outcome Asked m by (create_as m dir name kind o)
   created_as dir name kind d e k u None = stays reply.BadId refl
   created_as dir name kind d e k u (Some id) = choose (is_child dir id && not (is_some (get m id))) _ _
-      (λ t. makes dir name kind id d e k u (none_from _ (not-true _ (and_parts (is_child dir id) _ t).1)))
+      (λ t. makes dir name kind id d e k u (not_some _ (not-true _ (and_parts (is_child dir id) _ t).1)))
       (λ _. stays reply.BadId refl)
 
   created_in : (dir name : List ℕ) (kind : Kind) (d : Node) → get m dir ≡ Some d → (id : Option (List ℕ)) (own : Kind) → d.kind ≡ own → Outcome Asked m by (create_in own m d dir name kind id)
   created_in dir name kind d e id File k = stays reply.NotDir refl
   created_in dir name kind d e id Dir k = choose (is_some (child_at d.children name)) _ _
       (λ _. stays reply.Exists refl)
-      (λ t. created_as dir name kind d e k (none_from _ t) id)
+      (λ t. created_as dir name kind d e k (not_some _ t) id)
 
   created : (dir name : List ℕ) (kind : Kind) (id : Option (List ℕ)) (o : Option Node) → get m dir ≡ o → Outcome Asked m by (create o m dir name kind id)
   created dir name kind id None e = stays reply.Gone refl
@@ -104,7 +101,7 @@ module _ (Asked : Modes → Type 0) (m : NodeMap) (by : Session) where
       (λ _. stays reply.HandleUsed refl)
       (λ t. choose (any_conflicts n.handles modes) _ _
       (λ _. stays reply.Sharing refl)
-      (λ f. opens file h modes n a e (none_from _ t) f))
+      (λ f. opens file h modes n a e (not_some _ t) f))
 
   closed_file : (file : List ℕ) (h : ℕ) (o : Option Node) → Outcome Asked m by (close o m by file h)
   closed_file file h None = stays reply.NoHandle refl
@@ -149,7 +146,7 @@ module _ (Asked : Modes → Type 0) (m : NodeMap) (by : Session) where
         (λ _. stays reply.Sharing refl)
         (λ _. choose (is_on_chain m file ddir) _ _
         (λ _. stays reply.Cycle refl)
-        (λ clear. renames file sdir sname ddir dname s d e c f k (none_from _ u) clear))))
+        (λ clear. renames file sdir sname ddir dname s d e c f k (not_some _ u) clear))))
 
     renamed_to_dir : (s d : Node) → get m sdir ≡ Some s → get m ddir ≡ Some d → (own : Kind) → d.kind ≡ own → Outcome Asked m by (rename_to_dir own m s sdir sname d ddir dname)
     renamed_to_dir s d e f File k = stays reply.NotDirTo refl

@@ -4,11 +4,14 @@ use Rattle.std.specs.Prelude.{Option, Some, None}
 use Rattle.std.specs.Cmp.{nat_eq_equiv}
 use Rattle.std.specs.Cmp.Lexicographic.{same_text}
 use Rattle.std.specs.List.{find, list_any, list_all}
+use Rattle.std.proofs.lemmas.Bool.{not-true}
+use Rattle.std.proofs.Math.Bool.{or-false}
 use Rattle.fs_ident.specs.In.{In}
 use Rattle.fs_ident.specs.Ident.{same}
 use Rattle.fs_ident.specs.declared.actor.Session.{Session}
-use Rattle.fs_ident.proofs.Booleans.{both, neither}
+use Rattle.fs_ident.proofs.Booleans.{both, neither, and_regroup, or_regroup}
 use Rattle.fs_ident.proofs.Passing.{all-In}
+use Rattle.fs_ident.proofs.Standing.{none_any}
 use Rattle.fs_modes.specs.declared.modes.Mode.{Mode}
 use Rattle.fs_modes.specs.declared.modes.Modes.{Modes}
 use Rattle.fs_field.specs.declared.field.Field.{Field}
@@ -19,15 +22,17 @@ use Rattle.fs_field.specs.Field.{same_mode}
 use Rattle.fs_field.specs.Table.{no_before, with_row}
 use Rattle.fs_field.proofs.Conflicts.{plain_mutual}
 use Rattle.fs_field.proofs.Named.{any_put}
+use Rattle.fs_field.proofs.Leases.{not_itself}
 use Rattle.fs_rows.specs.Granted.{with_rows}
 use Rattle.fs_rows.specs.Moving.{is_new, are_new, stands_beside, fits as fit_plainly}
+use Rattle.fs_rows.proofs.Comes.{plainly_free}
 use Rattle.fs_moderows.specs.Answer.{Opens, is_self_of_other, stands_against_self}
 use Rattle.fs_moderows.specs.Fixed.{AreFixedBut, is_other, is_other_of_other, stands_by}
 use Rattle.fs_moderows.specs.declared.fixed.Fixed.{Fixed}
 use Rattle.fs_moderows.specs.Moving.{selves_listed, is_free, fits}
 use Rattle.fs_moderows.proofs.Free.{meets_is}
 use Rattle.fs_moderows.proofs.FoundOnce.{meets_same, meets_none, stays_out}
-use Rattle.fs_moderows.proofs.Witnesses.{not_true, none_In, In_none, witness, witnessed, witness_past, witness_one}
+use Rattle.fs_moderows.proofs.Witnesses.{In_none, witness, witnessed, witness_past, witness_one}
 
 -- ## A row of a table that others come into
 
@@ -104,10 +109,7 @@ any_and test k (y ∷ ys) = ap (λ b. (test y && k) || b) (any_and test k ys) �
   spread false b k = refl
 
 reorder : (a b c d : Bool) → (b ≡ true → c ≡ d) → (a && ((b && c) || false)) ≡ ((b && a) && d)
-reorder true true c d k = plain c ∙ k refl where
-  plain : (c : Bool) → (c || false) ≡ c
-  plain true = refl
-  plain false = refl
+reorder true true c d k = or-false c ∙ k refl
 reorder true false c d k = refl
 reorder false true c d k = refl
 reorder false false c d k = refl
@@ -144,7 +146,7 @@ against_none selves rows a k l = In_none (mode_conflict selves rows a) rows (λ 
 -- ## Sessions that are found once
 
 pub none_against_self : (opens : Opens) (rows : List Row) (f : List ℕ) (m : Mode) (y : Session) → list_any (is_other_of_other f m y) rows ≡ false → list_any (stands_against_self opens rows y f m) rows ≡ false
-none_against_self opens rows f m y h = In_none (stands_against_self opens rows y f m) rows (λ row i. stays_out (is_other f m row.field) (not (row.session.0 == y.0)) (mode_meets (λ g. opens) rows row.session row.field row.promise y (SelfW f m)) (none_In (is_other_of_other f m y) rows h row i) (meets_none opens rows f m y row.session row.promise row.field))
+none_against_self opens rows f m y h = In_none (stands_against_self opens rows y f m) rows (λ row i. stays_out (is_other f m row.field) (not (row.session.0 == y.0)) (mode_meets (λ g. opens) rows row.session row.field row.promise y (SelfW f m)) (none_any (is_other_of_other f m y) rows h row i) (meets_none opens rows f m y row.session row.promise row.field))
 
 pub some_against_self : (opens : Opens) (rows : List Row) (f : List ℕ) (m : Mode) (y : Session) (fixed : Fixed) → AreFixedBut opens rows f m y fixed → list_any (stands_by fixed y f m) rows ≡ list_any (stands_against_self opens rows y f m) rows
 some_against_self opens rows f m y fixed k = any_same (stands_by fixed y f m) (stands_against_self opens rows y f m) rows (λ row i. ap (λ b. not (row.session.0 == y.0) && b) (meets_same opens rows f m y row.session fixed row.promise k row.field))
@@ -165,28 +167,21 @@ listed_first (e ∷ es) file = elim (same e.0 file) as (λ b. cond b e.1 (selves
 
 -- ## All that come
 
--- none of these conflicts with the row, plainly
-abbrev plainly_free : List Row → Row → Bool
-plainly_free rows a = not (list_any (plain_conflict a) rows)
-
--- and none over a mode
+-- none of these conflicts with the row over a mode
 abbrev free_over_modes : Selves → List Row → Row → Bool
 free_over_modes selves rows a = not (list_any (mode_conflict selves rows a) rows)
-
-never_itself : (a : Row) → plain_conflict a a ≡ false
-never_itself a = ap (λ b. not b && meets a.field a.kind a.field a.kind) (nat_eq_equiv.refl a.session.0)
 
 -- a row that came goes with those behind it where each of those goes with all
 with_later : (m : Row) (ms rows : List Row) → list_all (plainly_free (with_rows (m ∷ ms) rows)) ms ≡ true → list_any (plain_conflict m) ms ≡ false
 with_later m ms rows free = In_none (plain_conflict m) ms (λ x i.
-    let none : list_any (plain_conflict x) (with_rows (m ∷ ms) rows) ≡ false = not_true (list_any (plain_conflict x) (with_rows (m ∷ ms) rows)) (all-In (plainly_free (with_rows (m ∷ ms) rows)) ms free x i) in
+    let none : list_any (plain_conflict x) (with_rows (m ∷ ms) rows) ≡ false = not-true (list_any (plain_conflict x) (with_rows (m ∷ ms) rows)) (all-In (plainly_free (with_rows (m ∷ ms) rows)) ms free x i) in
     let first : ((plain_conflict x m || list_any (plain_conflict x) ms) ≡ false) × (list_any (plain_conflict x) rows ≡ false) = neither (plain_conflict x m || list_any (plain_conflict x) ms) (list_any (plain_conflict x) rows) (sym (any_rows (plain_conflict x) (m ∷ ms) rows) ∙ none) in
     plain_mutual m x ∙ (neither (plain_conflict x m) (list_any (plain_conflict x) ms) first.0).0)
 
 with_all : (m : Row) (ms rows : List Row) → list_all (plainly_free (with_rows (m ∷ ms) rows)) ms ≡ true → plainly_free rows m ≡ plainly_free (with_rows (m ∷ ms) rows) m
 with_all m ms rows free = ap not (sym (
     any_rows (plain_conflict m) (m ∷ ms) rows
-    ∙ ap (λ b. (b || list_any (plain_conflict m) ms) || list_any (plain_conflict m) rows) (never_itself m)
+    ∙ ap (λ b. (b || list_any (plain_conflict m) ms) || list_any (plain_conflict m) rows) (not_itself m)
     ∙ ap (λ b. b || list_any (plain_conflict m) rows) (with_later m ms rows free)))
 
 arrange : (n p a q s : Bool) → (s ≡ true → p ≡ q) → ((n && p) && (a && s)) ≡ ((n && a) && (q && s))
@@ -208,22 +203,11 @@ plainly_apart (m ∷ ms) rows =
 
 any_either : {X : Type 0} (p q : X → Bool) (xs : List X) → list_any (λ x. p x || q x) xs ≡ (list_any p xs || list_any q xs)
 any_either p q [] = refl
-any_either p q (y ∷ ys) = ap (λ b. (p y || q y) || b) (any_either p q ys) ∙ spread (p y) (q y) (list_any p ys) (list_any q ys) where
-  spread : (a b c d : Bool) → ((a || b) || (c || d)) ≡ ((a || c) || (b || d))
-  spread true b c d = refl
-  spread false true true d = refl
-  spread false true false d = refl
-  spread false false c d = refl
+any_either p q (y ∷ ys) = ap (λ b. (p y || q y) || b) (any_either p q ys) ∙ or_regroup (p y) (q y) (list_any p ys) (list_any q ys)
 
 not_either : (a b : Bool) → not (a || b) ≡ (not a && not b)
 not_either true b = refl
 not_either false b = refl
-
-both_ways : (a b c d : Bool) → ((a && b) && (c && d)) ≡ ((a && c) && (b && d))
-both_ways false b c d = refl
-both_ways true true c d = refl
-both_ways true false true d = refl
-both_ways true false false d = refl
 
 -- a row that came conflicts with none where it does so neither plainly nor over a mode
 all_apart : (selves : Selves) (rows more : List Row) → list_all (is_free selves rows) more ≡ (list_all (plainly_free rows) more && list_all (free_over_modes selves rows) more)
@@ -232,7 +216,7 @@ all_apart selves rows (m ∷ ms) =
     ap (λ b. not b && list_all (is_free selves rows) ms) (any_either (plain_conflict m) (mode_conflict selves rows m) rows)
     ∙ ap (λ b. b && list_all (is_free selves rows) ms) (not_either (list_any (plain_conflict m) rows) (list_any (mode_conflict selves rows m) rows))
     ∙ ap (λ b. (plainly_free rows m && free_over_modes selves rows m) && b) (all_apart selves rows ms)
-    ∙ both_ways (plainly_free rows m) (free_over_modes selves rows m) (list_all (plainly_free rows) ms) (list_all (free_over_modes selves rows) ms)
+    ∙ and_regroup (plainly_free rows m) (free_over_modes selves rows m) (list_all (plainly_free rows) ms) (list_all (free_over_modes selves rows) ms)
 
 assoc : (a b c : Bool) → ((a && b) && c) ≡ (a && (b && c))
 assoc true b c = refl

@@ -5,12 +5,13 @@ use Rattle.std.specs.Cmp.Lexicographic.{same_text}
 use Rattle.std.specs.Prelude.{Option, Some, None}
 use Rattle.std.specs.List.{find, list_any}
 use Rattle.std.proofs.lemmas.Bool.Decides.{nat_tests}
+use Rattle.std.proofs.lemmas.Bool.{eqb-true, not-true}
 use Rattle.fs_ident.specs.In.{In}
 use Rattle.fs_ident.specs.Ident.{same}
 use Rattle.fs_ident.specs.declared.actor.Session.{Session}
 use Rattle.fs_ident.proofs.Booleans.{both, joined}
 use Rattle.fs_ident.proofs.Passing.{found}
-use Rattle.fs_ident.proofs.Standing.{none_pass}
+use Rattle.fs_ident.proofs.Standing.{none_pass, none_any}
 use Rattle.fs_modes.specs.declared.modes.Mode.{Mode}
 use Rattle.fs_modes.specs.declared.modes.Modes.{Modes}
 use Rattle.fs_modes.specs.Modes.{has}
@@ -24,7 +25,7 @@ use Rattle.fs_moderows.specs.Fixed.{has_but, AreFixedBut, is_other, is_other_of_
 use Rattle.fs_moderows.specs.declared.fixed.Fixed.{Fixed}
 use Rattle.fs_moderows.specs.declared.fixed.Fixed.TheVariants.{Nobody, One, Several}
 use Rattle.fs_moderows.specs.declared.fixed.EachMode.{EachMode}
-use Rattle.fs_moderows.proofs.Witnesses.{none_In, not_true, same_mode_is, Witness, witness, witnessed}
+use Rattle.fs_moderows.proofs.Witnesses.{same_mode_is, Witness, witness, witnessed}
 
 -- tests that agree on all items find the same
 pub find_same : {X : Type 0} (p q : X → Bool) (xs : List X) → ((x : X) → In x xs → p x ≡ q x) → find p xs ≡ find q xs
@@ -54,13 +55,10 @@ first_serves opens rows f m x y e h apart =
     let q : In e opens × (among rows f m y e ≡ true) = found (among rows f m y) opens e h in
     let a : ((not (e.0.0 == y.0) && has e.1 m) ≡ true) × (is_fixed rows f m e.0 ≡ true) = both (not (e.0.0 == y.0) && has e.1 m) (is_fixed rows f m e.0) q.1 in
     let b : (not (e.0.0 == y.0) ≡ true) × (has e.1 m ≡ true) = both (not (e.0.0 == y.0)) (has e.1 m) a.0 in
-    witnessed (λ g. opens) rows f m x y (record { entry = e; listed = q.0; not_x = apart; not_y = not_true (e.0.0 == y.0) b.0; told = b.1; fixed = a.1 })
-
-one_number : (a b : ℕ) → (a == b) ≡ true → a ≡ b
-one_number a b t = grind (arith, nat_tests)
+    witnessed (λ g. opens) rows f m x y (record { entry = e; listed = q.0; not_x = apart; not_y = not-true (e.0.0 == y.0) b.0; told = b.1; fixed = a.1 })
 
 third_same : (opens : Opens) (rows : List Row) (f : List ℕ) (m : Mode) (s x y : Session) → (s.0 == x.0) ≡ true → has_fixed (λ g. opens) rows f m s y ≡ has_fixed (λ g. opens) rows f m x y
-third_same opens rows f m s x y t = ap (λ k. list_any (λ e. ((not (e.0.0 == k) && not (e.0.0 == y.0)) && has e.1 m) && is_fixed rows f m e.0) opens) (one_number s.0 x.0 t)
+third_same opens rows f m s x y t = ap (λ k. list_any (λ e. ((not (e.0.0 == k) && not (e.0.0 == y.0)) && has e.1 m) && is_fixed rows f m e.0) opens) (eqb-true s.0 x.0 t)
 
 but_itself : (another : Bool) (s x : Session) → (s.0 == x.0) ≡ true → has_but (cond another Several (One s)) x ≡ another
 but_itself true s x t = refl
@@ -116,7 +114,7 @@ stays_out false true c h k = k refl
 stays_out false false c h k = refl
 
 pub none_told : (opens : Opens) (rows : List Row) (f : List ℕ) (m : Mode) (y : Session) → list_any (is_other_of_other f m y) rows ≡ false → find (stands_against_self opens rows y f m) rows ≡ None
-none_told opens rows f m y h = find_none (stands_against_self opens rows y f m) rows (λ row i. stays_out (is_other f m row.field) (not (row.session.0 == y.0)) (mode_meets (λ g. opens) rows row.session row.field row.promise y (SelfW f m)) (none_In (is_other_of_other f m y) rows h row i) (meets_none opens rows f m y row.session row.promise row.field))
+none_told opens rows f m y h = find_none (stands_against_self opens rows y f m) rows (λ row i. stays_out (is_other f m row.field) (not (row.session.0 == y.0)) (mode_meets (λ g. opens) rows row.session row.field row.promise y (SelfW f m)) (none_any (is_other_of_other f m y) rows h row i) (meets_none opens rows f m y row.session row.promise row.field))
 
 -- nothing that was told of a mode rests on a session without it
 rests_none : (opens : Opens) (rows : List Row) (s : Session) (f : List ℕ) (m : Mode) (x : Session) (promise : Option Bool) (field : Field) → has_mode opens s m ≡ false → is_other f m field ≡ true → rests_on opens rows s f x field promise ≡ false
@@ -135,7 +133,7 @@ tells_no_mode opens rows s f m h row i t = ap (λ b. not (row.session.0 == s.0) 
 
 pub tells_none_told : (opens : Opens) (rows : List Row) (s : Session) (f : List ℕ) (m : Mode) → list_any (is_other_of_other f m s) rows ≡ false → TellsOfMode opens rows s f m None
 tells_none_told opens rows s f m h row i t =
-    let own : not (row.session.0 == s.0) ≡ false = sym (ap (λ b. b && not (row.session.0 == s.0)) t) ∙ none_In (is_other_of_other f m s) rows h row i in
+    let own : not (row.session.0 == s.0) ≡ false = sym (ap (λ b. b && not (row.session.0 == s.0)) t) ∙ none_any (is_other_of_other f m s) rows h row i in
     ap (λ b. b && rests_on opens rows s f row.session row.field row.promise) own ∙ ap (λ b. b && false) (sym own)
 
 reap_at : (opens : Opens) (rows : List Row) (s : Session) (f : List ℕ) (each : EachMode) → ((m : Mode) → TellsOfMode opens rows s f m (of_mode each m)) → (row : Row) → In row rows → (field : Field) → row.field ≡ field → (not (row.session.0 == s.0) && rests_by_each each f row.session field row.promise) ≡ (not (row.session.0 == s.0) && rests_on opens rows s f row.session field row.promise)

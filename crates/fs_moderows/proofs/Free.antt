@@ -3,10 +3,11 @@ use Rattle.std.proofs.Common.{◌≡◌, ◌==◌, not, ◌&&◌, ◌||◌, ◌�
 use Rattle.std.specs.Prelude.{Option, Some, None}
 use Rattle.std.specs.Cmp.{nat_eq_equiv}
 use Rattle.std.specs.List.{find}
+use Rattle.std.proofs.lemmas.Bool.{or_from, not-true, not-false}
 use Rattle.fs_ident.specs.In.{In}
 use Rattle.fs_ident.specs.declared.actor.Session.{Session}
 use Rattle.fs_ident.specs.declared.actor.TxnNo.{TxnNo}
-use Rattle.fs_ident.proofs.Booleans.{both, neither}
+use Rattle.fs_ident.proofs.Booleans.{both, neither, second_fails}
 use Rattle.fs_ident.proofs.Standing.{In-put, none_pass}
 use Rattle.fs_modes.specs.declared.modes.Mode.{Mode}
 use Rattle.fs_field.specs.declared.asked.Asked.TheVariants.{Granted}
@@ -19,7 +20,7 @@ use Rattle.fs_field.specs.Field.{tells_no_mode}
 use Rattle.fs_field.specs.Table.{lock_on, no_before, with_row}
 use Rattle.fs_moderows.specs.Answer.{unless_locked, waits_or, answer_self, answer_other, is_self_of_other, stands_against_self}
 use Rattle.fs_moderows.proofs.Tables.{TellsSame}
-use Rattle.fs_moderows.proofs.Witnesses.{not_true, not_false, second_fails, not_both, neither_holds, turned, one_file, fixed_with, Covered, fixed_fewer, Witness, witness, witnessed, witness_stays, witness_beside, witness_past, witness_of}
+use Rattle.fs_moderows.proofs.Witnesses.{not_both, turned, one_file, fixed_with, Covered, fixed_fewer, Witness, witness, witnessed, witness_stays, witness_beside, witness_past, witness_of}
 
 -- every row is on what sessions tell of modes
 abbrev pub AreOnModes : List Row → Type 0
@@ -43,7 +44,7 @@ meets_is selves rows x f m p y (SelfW g n) = refl
 meets_is selves rows x f m p y (Other g n) = refl
 
 cannot_fail : (p : Option Bool) (fixed : Bool) → can_fail p fixed ≡ false → (p ≡ Some true) × (fixed ≡ true)
-cannot_fail (Some true) fixed h = (refl, not_false fixed h)
+cannot_fail (Some true) fixed h = (refl, not-false fixed h)
 cannot_fail (Some false) fixed h = absurd (cc)
 cannot_fail None fixed h = absurd (cc)
 
@@ -80,14 +81,14 @@ free_goes selves rows free a b i j d = apart_goes selves rows a b (free a b i j)
 pub goes_apart : (selves : Selves) (rows : List Row) (a b : Row) → ((a.session.0 == b.session.0) ≡ false → Goes selves rows a.session a.field a.promise b.session b.field) → ((b.session.0 == a.session.0) ≡ false → Goes selves rows b.session b.field b.promise a.session a.field) → mode_conflict selves rows a b ≡ false
 goes_apart selves rows a b k l =
     not_both (not (a.session.0 == b.session.0)) (mode_meets selves rows a.session a.field a.promise b.session b.field || mode_meets selves rows b.session b.field b.promise a.session a.field) (λ d.
-    let apart : (a.session.0 == b.session.0) ≡ false = not_true (a.session.0 == b.session.0) d in
-    neither_holds (mode_meets selves rows a.session a.field a.promise b.session b.field) (mode_meets selves rows b.session b.field b.promise a.session a.field)
+    let apart : (a.session.0 == b.session.0) ≡ false = not-true (a.session.0 == b.session.0) d in
+    or_from (mode_meets selves rows a.session a.field a.promise b.session b.field) (mode_meets selves rows b.session b.field b.promise a.session a.field)
     (meets_not selves rows a.session a.field a.promise b.session b.field (k apart))
     (meets_not selves rows b.session b.field b.promise a.session a.field (l (nat_eq_equiv.symm b.session.0 a.session.0 ∙ apart))))
 
 pub goes_free : (selves : Selves) (rows : List Row) → AreOnModes rows → ((a b : Row) → In a rows → In b rows → (a.session.0 == b.session.0) ≡ false → Goes selves rows a.session a.field a.promise b.session b.field) → NoConflict selves rows
 goes_free selves rows on k a b i j =
-    neither_holds (plain_conflict a b) (mode_conflict selves rows a b)
+    or_from (plain_conflict a b) (mode_conflict selves rows a b)
     (not_both (not (a.session.0 == b.session.0)) (meets a.field a.kind b.field b.kind) (λ d. meets_never a.field a.kind b.field b.kind (on a i)))
     (goes_apart selves rows a b (k a b i j) (k b a j i))
 
@@ -175,7 +176,7 @@ new_goes : (selves : Selves) (rows : List Row) (r : Row) (f : List ℕ) (m : Mod
 new_goes selves rows r f m fe found b l d t = elim found [
   | inl p ↦ (p.0, witness_stays selves rows (with_row r rows) f m r.session b.session (fixed_other r rows f m fe f m) (witnessed selves rows f m r.session b.session (witness_past selves rows f m r.session r.session b l t (witness selves rows f m r.session r.session p.1))))
   | inr p ↦
-      let one : (b.session.0 == r.session.0) ≡ true = not_false (b.session.0 == r.session.0) (second_fails (is_self f m b.field) (not (b.session.0 == r.session.0)) t (p.1.1 b l)) in
+      let one : (b.session.0 == r.session.0) ≡ true = not-false (b.session.0 == r.session.0) (second_fails (is_self f m b.field) (not (b.session.0 == r.session.0)) t (p.1.1 b l)) in
       let wrong : true ≡ false = sym one ∙ nat_eq_equiv.symm b.session.0 r.session.0 ∙ d in
       absurd (cc)
 ]

@@ -2,11 +2,12 @@
 use Rattle.std.proofs.Common.{◌≡◌, ◌==◌, not, ◌&&◌, ◌⊎◌, ℕ, Bool, true, false, List, [], ◌∷◌, refl, sym, ◌∙◌, inl, inr}
 use Rattle.std.specs.Prelude.{Some, Result, Ok, Err, OnOk, OnErr}
 use Rattle.std.specs.List.{list_any}
+use Rattle.std.proofs.lemmas.Bool.{not-true, not-false}
 use Rattle.fs_ident.specs.In.{In}
 use Rattle.fs_ident.specs.declared.memory.Memory.{Memory}
 use Rattle.fs_ident.proofs.Booleans.{both}
 use Rattle.fs_ident.proofs.Passing.{all-In}
-use Rattle.fs_ident.proofs.Standing.{In-put}
+use Rattle.fs_ident.proofs.Standing.{In-put, none_any, any_In}
 use Rattle.fs_modes.specs.declared.modes.Mode.{Mode}
 use Rattle.fs_field.specs.declared.field.Field.TheVariants.{Other}
 use Rattle.fs_field.specs.declared.row.Row.{Row}
@@ -19,7 +20,7 @@ use Rattle.fs_rows.specs.Moving.{is_new, are_new}
 use Rattle.fs_moderows.specs.Table.{IsModeTable}
 use Rattle.fs_moderows.specs.Moving.{is_free, fits, are_on_modes}
 use Rattle.fs_moderows.proofs.Tables.{put_table}
-use Rattle.fs_moderows.proofs.Witnesses.{not_true, not_false, any_In, none_In, turned, fixed_row, Witness, witness, witnessed, witness_past}
+use Rattle.fs_moderows.proofs.Witnesses.{turned, fixed_row, Witness, witness, witnessed, witness_past}
 use Rattle.fs_moderows.proofs.Free.{Goes, apart_goes, free_goes, goes_free}
 
 -- what stands in the table came, or was there
@@ -36,7 +37,7 @@ came_table rows [] new on t = t
 came_table rows (m ∷ ms) new on t =
     let n : (is_new rows m ≡ true) × (are_new (with_row m rows) ms ≡ true) = both (is_new rows m) (are_new (with_row m rows) ms) new in
     let o : (not (tells_no_mode m.field) ≡ true) × (are_on_modes ms ≡ true) = both (not (tells_no_mode m.field)) (are_on_modes ms) on in
-    came_table (with_row m rows) ms n.1 o.1 (put_table m rows (not_true (list_any (has_no m.no) rows) n.0) (not_true (tells_no_mode m.field) o.0) t)
+    came_table (with_row m rows) ms n.1 o.1 (put_table m rows (not-true (list_any (has_no m.no) rows) n.0) (not-true (tells_no_mode m.field) o.0) t)
 
 -- none of those that came conflicts with a row of the table
 abbrev AreFree : Selves → List Row → List Row → Type 0
@@ -45,7 +46,7 @@ AreFree selves rows more = (r : Row) → In r more → (x : Row) → In x rows �
 are_free : (selves : Selves) (rows more : List Row) → fits selves rows more ≡ true → AreFree selves (with_rows more rows) more
 are_free selves rows more fit r i =
     let free : is_free selves (with_rows more rows) r ≡ true = all-In (is_free selves (with_rows more rows)) more (both (are_new rows more) _ fit).1 r i in
-    none_In (conflicts selves (with_rows more rows) r) (with_rows more rows) (not_true (list_any (conflicts selves (with_rows more rows) r) (with_rows more rows)) free)
+    none_any (conflicts selves (with_rows more rows) r) (with_rows more rows) (not-true (list_any (conflicts selves (with_rows more rows) r) (with_rows more rows)) free)
 
 abbrev lets : List ℕ → Mode → ℕ → Row → Bool
 lets h n s row = is_self h n row.field && (row.session.0 == s)
@@ -58,7 +59,7 @@ still_third selves rows more free a b i j h n e t third =
     elim (is_fixed (with_rows more rows) h n w.entry.0) as (λ z. is_fixed (with_rows more rows) h n w.entry.0 ≡ z → has_fixed selves (with_rows more rows) h n a.session b.session ≡ true) [
       | true ↦ λ z. witnessed selves (with_rows more rows) h n a.session b.session (record { entry = w.entry; listed = w.listed; not_x = w.not_x; not_y = w.not_y; told = w.told; fixed = z })
       | false ↦ λ z.
-          let r : (r : Row) × (In r (with_rows more rows) × (lets h n w.entry.0.0 r ≡ true)) = any_In (lets h n w.entry.0.0) (with_rows more rows) (not_false (list_any (lets h n w.entry.0.0) (with_rows more rows)) z) in
+          let r : (r : Row) × (In r (with_rows more rows) × (lets h n w.entry.0.0 r ≡ true)) = any_In (lets h n w.entry.0.0) (with_rows more rows) (not-false (list_any (lets h n w.entry.0.0) (with_rows more rows)) z) in
           let q : (is_self h n r.0.field ≡ true) × ((r.0.session.0 == w.entry.0.0) ≡ true) = both (is_self h n r.0.field) (r.0.session.0 == w.entry.0.0) r.1.1 in
           elim (came_or_was r.0 more rows r.1.0) [
             | inl came ↦

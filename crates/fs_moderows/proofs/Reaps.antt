@@ -4,11 +4,12 @@ use Rattle.std.specs.Prelude.{Option, Some, None, option_map}
 use Rattle.std.specs.Cmp.{nat_eq_equiv}
 use Rattle.std.specs.Cmp.Lexicographic.{same_text}
 use Rattle.std.specs.List.{filter, find, list_any}
+use Rattle.std.proofs.lemmas.Bool.{or_from, not-false}
 use Rattle.fs_ident.specs.In.{In}
 use Rattle.fs_ident.specs.Ident.{same}
 use Rattle.fs_ident.specs.declared.actor.Session.{Session}
-use Rattle.fs_ident.proofs.Booleans.{joined, neither}
-use Rattle.fs_ident.proofs.Standing.{In-filter, none_pass}
+use Rattle.fs_ident.proofs.Booleans.{joined, neither, second_fails}
+use Rattle.fs_ident.proofs.Standing.{In-filter, none_pass, none_any}
 use Rattle.fs_modes.specs.declared.modes.Mode.{Mode}
 use Rattle.fs_modes.specs.declared.modes.Modes.{Modes}
 use Rattle.fs_modes.specs.Modes.{has}
@@ -17,7 +18,7 @@ use Rattle.fs_field.specs.declared.row.Row.{Row}
 use Rattle.fs_field.specs.Conflict.{Selves, has_fixed, NoConflict}
 use Rattle.fs_moderows.specs.Answer.{is_self_of_other, stands_against_reap, has_mode, rests_on, reap_blocker}
 use Rattle.fs_moderows.specs.Kept.{others_have, others_may_have, KeptPromises, selves_without}
-use Rattle.fs_moderows.proofs.Witnesses.{not_false, second_fails, neither_holds, In_any, none_In, In_none, In_filtered, turned, Witness, witness, witnessed, witness_past, witness_one, witness_of}
+use Rattle.fs_moderows.proofs.Witnesses.{In_any, In_none, In_filtered, turned, Witness, witness, witnessed, witness_past, witness_one, witness_of}
 use Rattle.fs_moderows.proofs.Free.{AreOnModes, free_goes, goes_free}
 use Rattle.fs_moderows.proofs.Promises.{kept_holds, holds_kept, holds_still}
 
@@ -65,7 +66,7 @@ third f s selves rows a none h n fe pe e i told apart t one =
     let mode : has_mode (selves f) s n ≡ true = In_any (λ z. (z.0.0 == s.0) && has z.1 n) (selves f) e listed (joined (e.0.0 == s.0) (has e.1 n) one told) in
     let rests : rests_on (selves f) rows s f a.session a.field a.promise ≡ false = second_fails (not (a.session.0 == s.0)) (rests_on (selves f) rows s f a.session a.field a.promise) (ap not (turned s.0 e.0.0 a.session.0 (nat_eq_equiv.symm s.0 e.0.0 ∙ one) apart)) none in
     let here : rests_on (selves f) rows s f a.session (Other h n) (Some true) ≡ false = ap (λ z. rests_on (selves f) rows s f a.session z (Some true)) (sym fe) ∙ ap (λ z. rests_on (selves f) rows s f a.session a.field z) (sym pe) ∙ rests in
-    let fixed : has_fixed (λ g. selves f) rows h n a.session s ≡ true = not_false (has_fixed (λ g. selves f) rows h n a.session s) (second_fails (same h f && has_mode (selves f) s n) (not (has_fixed (λ g. selves f) rows h n a.session s)) (joined (same h f) (has_mode (selves f) s n) t mode) here) in
+    let fixed : has_fixed (λ g. selves f) rows h n a.session s ≡ true = not-false (has_fixed (λ g. selves f) rows h n a.session s) (second_fails (same h f && has_mode (selves f) s n) (not (has_fixed (λ g. selves f) rows h n a.session s)) (joined (same h f) (has_mode (selves f) s n) t mode) here) in
     witness_of selves rows h f n a.session s file (witness (λ g. selves f) rows h n a.session s fixed)
 
 -- where a witness is the session, a third one takes its place
@@ -82,12 +83,12 @@ in_place f s selves rows a none h n fe pe w =
     ] refl
 
 fewer_have : (f : List ℕ) (s : Session) (selves : Selves) (h : List ℕ) (n : Mode) (x : Session) → others_have (selves h) n x ≡ false → others_have (selves_without f s selves h) n x ≡ false
-fewer_have f s selves h n x k = In_none (λ e. not (e.0.0 == x.0) && has e.1 n) (selves_without f s selves h) (λ e i. none_In (λ z. not (z.0.0 == x.0) && has z.1 n) (selves h) k e (was_listed f s selves h e i))
+fewer_have f s selves h n x k = In_none (λ e. not (e.0.0 == x.0) && has e.1 n) (selves_without f s selves h) (λ e i. none_any (λ z. not (z.0.0 == x.0) && has z.1 n) (selves h) k e (was_listed f s selves h e i))
 
 fewer_may : (f : List ℕ) (s : Session) (selves : Selves) (rows : List Row) (h : List ℕ) (n : Mode) (x : Session) → others_may_have (selves h) rows h n x ≡ false → others_may_have (selves_without f s selves h) rows h n x ≡ false
 fewer_may f s selves rows h n x k =
     let q : (others_have (selves h) n x ≡ false) × (list_any (is_self_of_other h n x) rows ≡ false) = neither (others_have (selves h) n x) (list_any (is_self_of_other h n x) rows) k in
-    neither_holds (others_have (selves_without f s selves h) n x) (list_any (is_self_of_other h n x) rows) (fewer_have f s selves h n x q.0) q.1
+    or_from (others_have (selves_without f s selves h) n x) (list_any (is_self_of_other h n x) rows) (fewer_have f s selves h n x q.0) q.1
 
 pub reap_kept : (selves : Selves) (rows : List Row) (s : Session) (f : List ℕ) → ((a : Row) → In a rows → stands_against_reap (selves f) rows s f a ≡ false) → KeptPromises selves rows → KeptPromises (selves_without f s selves) rows
 reap_kept selves rows s f none kept a i = holds_kept (selves_without f s selves) rows a.session a.field a.promise (λ h n fe.

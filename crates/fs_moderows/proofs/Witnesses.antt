@@ -4,11 +4,12 @@ use Rattle.std.specs.Cmp.{nat_eq_equiv}
 use Rattle.std.specs.Cmp.Lexicographic.{same_text}
 use Rattle.std.specs.List.{filter, list_any}
 use Rattle.std.proofs.lemmas.Bool.Decides.{nat_tests}
+use Rattle.std.proofs.lemmas.Bool.{or_from, not-true}
 use Rattle.fs_ident.specs.In.{In}
 use Rattle.fs_ident.specs.Ident.{same}
 use Rattle.fs_ident.specs.declared.actor.Session.{Session}
-use Rattle.fs_ident.proofs.Booleans.{both, joined}
-use Rattle.fs_ident.proofs.Standing.{In-filter, In-put, In-map}
+use Rattle.fs_ident.proofs.Booleans.{both, joined, second_fails}
+use Rattle.fs_ident.proofs.Standing.{In-filter, In-put, In-map, none_any, any_In}
 use Rattle.fs_modes.specs.declared.modes.Mode.{Mode}
 use Rattle.fs_modes.specs.declared.modes.Mode.TheVariants.{AccR, AccW, AccD, DenyR, DenyW, DenyD}
 use Rattle.fs_modes.specs.declared.modes.Modes.{Modes}
@@ -18,40 +19,15 @@ use Rattle.fs_field.specs.declared.row.Row.{Row}
 use Rattle.fs_field.specs.Conflict.{Selves, is_self, is_fixed, has_fixed}
 use Rattle.fs_field.specs.Field.{same_mode}
 use Rattle.fs_field.specs.Table.{no_before, with_row}
-use Rattle.fs_rows.proofs.Comes.{none_does}
 use Rattle.fs_moderows.proofs.Tables.{TellsSame, tells_same_itself}
-
-pub not_true : (b : Bool) → not b ≡ true → b ≡ false
-not_true true h = absurd (cc)
-not_true false h = refl
-
-pub not_false : (b : Bool) → not b ≡ false → b ≡ true
-not_false true h = refl
-not_false false h = absurd (cc)
-
--- where the first test holds and not both do, the second fails
-pub second_fails : (a b : Bool) → a ≡ true → (a && b) ≡ false → b ≡ false
-second_fails true b p h = h
-second_fails false b p h = absurd (cc)
 
 pub not_both : (a b : Bool) → (a ≡ true → b ≡ false) → (a && b) ≡ false
 not_both true b k = k refl
 not_both false b k = refl
 
-pub neither_holds : (a b : Bool) → a ≡ false → b ≡ false → (a || b) ≡ false
-neither_holds a b p q = ap (λ c. c || b) p ∙ q
-
 or_holds : (a b : Bool) → b ≡ true → (a || b) ≡ true
 or_holds true b h = refl
 or_holds false b h = h
-
-pub any_In : {X : Type 0} (test : X → Bool) (xs : List X) → list_any test xs ≡ true → (x : X) × (In x xs × (test x ≡ true))
-any_In test [] h = absurd (cc)
-any_In {X = X} test (y ∷ ys) h =
-    elim (test y) as (λ b. test y ≡ b → (b || list_any test ys) ≡ true → (x : X) × (In x (y ∷ ys) × (test x ≡ true))) [
-      | true ↦ λ e g. (y, (inl refl, e))
-      | false ↦ λ e g. let more : (x : X) × (In x ys × (test x ≡ true)) = any_In test ys g in (more.0, (inr more.1.0, more.1.1))
-    ] refl h
 
 pub In_any : {X : Type 0} (test : X → Bool) (xs : List X) (x : X) → In x xs → test x ≡ true → list_any test xs ≡ true
 In_any test [] x i p = absurd i
@@ -60,12 +36,9 @@ In_any test (y ∷ ys) x i p = elim i [
   | inr j ↦ or_holds (test y) (list_any test ys) (In_any test ys x j p)
 ]
 
-pub none_In : {X : Type 0} (test : X → Bool) (xs : List X) → list_any test xs ≡ false → (x : X) → In x xs → test x ≡ false
-none_In test xs h x i = none_does test xs h x i
-
 pub In_none : {X : Type 0} (test : X → Bool) (xs : List X) → ((x : X) → In x xs → test x ≡ false) → list_any test xs ≡ false
 In_none test [] k = refl
-In_none test (y ∷ ys) k = neither_holds (test y) (list_any test ys) (k y (inl refl)) (In_none test ys (λ x i. k x (inr i)))
+In_none test (y ∷ ys) k = or_from (test y) (list_any test ys) (k y (inl refl)) (In_none test ys (λ x i. k x (inr i)))
 
 -- an item that passes stays
 pub In_filtered : {X : Type 0} (test : X → Bool) (xs : List X) (x : X) → In x xs → test x ≡ true → In x (filter test xs)
@@ -99,12 +72,12 @@ same_mode_is m n h = absurd (cc)
 pub one_file : (h f : List ℕ) (n m : Mode) → is_self h n (SelfW f m) ≡ true → h ≡ f
 one_file h f n m t = same_text h f (sym (both (same h f) (same_mode n m) t).0)
 
-abbrev lets : List ℕ → Mode → Session → Row → Bool
+abbrev pub lets : List ℕ → Mode → Session → Row → Bool
 lets f m s row = is_self f m row.field && (row.session.0 == s.0)
 
 -- a row that lets a session change what it tells is of no session that is fixed
 pub fixed_row : (rows : List Row) (f : List ℕ) (m : Mode) (s : Session) (r : Row) → is_fixed rows f m s ≡ true → In r rows → is_self f m r.field ≡ true → (r.session.0 == s.0) ≡ false
-fixed_row rows f m s r h i e = second_fails (is_self f m r.field) (r.session.0 == s.0) e (none_In (lets f m s) rows (not_true (list_any (lets f m s) rows) h) r i)
+fixed_row rows f m s r h i e = second_fails (is_self f m r.field) (r.session.0 == s.0) e (none_any (lets f m s) rows (not-true (list_any (lets f m s) rows) h) r i)
 
 pub fixed_from : (rows : List Row) (f : List ℕ) (m : Mode) (s : Session) → ((r : Row) → In r rows → is_self f m r.field ≡ true → (r.session.0 == s.0) ≡ false) → is_fixed rows f m s ≡ true
 fixed_from rows f m s k = ap not (In_none (lets f m s) rows (λ r i. not_both (is_self f m r.field) (r.session.0 == s.0) (k r i)))
@@ -151,7 +124,7 @@ witness selves rows f m x y h =
     let a : (((not (q.0.0.0 == x.0) && not (q.0.0.0 == y.0)) && has q.0.1 m) ≡ true) × (is_fixed rows f m q.0.0 ≡ true) = both ((not (q.0.0.0 == x.0) && not (q.0.0.0 == y.0)) && has q.0.1 m) (is_fixed rows f m q.0.0) q.1.1 in
     let b : ((not (q.0.0.0 == x.0) && not (q.0.0.0 == y.0)) ≡ true) × (has q.0.1 m ≡ true) = both (not (q.0.0.0 == x.0) && not (q.0.0.0 == y.0)) (has q.0.1 m) a.0 in
     let c : (not (q.0.0.0 == x.0) ≡ true) × (not (q.0.0.0 == y.0) ≡ true) = both (not (q.0.0.0 == x.0)) (not (q.0.0.0 == y.0)) b.0 in
-    record { entry = q.0; listed = q.1.0; not_x = not_true (q.0.0.0 == x.0) c.0; not_y = not_true (q.0.0.0 == y.0) c.1; told = b.1; fixed = a.1 }
+    record { entry = q.0; listed = q.1.0; not_x = not-true (q.0.0.0 == x.0) c.0; not_y = not-true (q.0.0.0 == y.0) c.1; told = b.1; fixed = a.1 }
 
 pub witnessed : (selves : Selves) (rows : List Row) (f : List ℕ) (m : Mode) (x y : Session) → Witness selves rows f m x y → has_fixed selves rows f m x y ≡ true
 witnessed selves rows f m x y w = In_any (serves rows f m x y) (selves f) w.entry w.listed

@@ -4,6 +4,7 @@ use Rattle.std.specs.Prelude.{◌↔◌, Result, Ok, Err, IsOk, OnOk, OnErr}
 use Rattle.std.specs.List.{filter, list_all, list_any}
 use Rattle.std.specs.Ordering.{nat_cmp, is_lt, ordering_then}
 use Rattle.std.proofs.lemmas.Bool.Decides.{nat_tests}
+use Rattle.std.proofs.lemmas.Bool.{false_from_ne_true, not-true}
 use Rattle.fs_ident.specs.declared.actor.LeaseNo.{LeaseNo}
 use Rattle.fs_ident.specs.declared.memory.Memory.{Memory}
 use Rattle.fs_ident.specs.In.{In}
@@ -18,7 +19,6 @@ use Rattle.fs_field.specs.Table.{has_no, no_before, is_ordered, renewed_row, wit
 use Rattle.fs_field.proofs.Leases.{none_renewed, renewed_same, NoPlainConflict-filter}
 use Rattle.fs_field.proofs.Order.{before_trans, ordered_filter}
 use Rattle.fs_moderows.specs.Table.{IsModeTable}
-use Rattle.fs_moderows.proofs.Witnesses.{not_true}
 use Rattle.fs_rows.specs.Granted.{with_rows}
 use Rattle.fs_rows.specs.Table.{IsTable}
 use Rattle.fs_parcel.specs.Rows.{AreRows, is_off_modes, rows_off_modes, rows_on_modes, both}
@@ -214,7 +214,7 @@ off_table rows t = record {
 pub on_table : (rows : List Row) → AreRows rows → IsModeTable (rows_on_modes rows)
 on_table rows t = record {
   ordered = ordered_filter (λ r. not (is_off_modes r)) rows t.ordered;
-  on_modes = λ r i. not_true (tells_no_mode r.field) (passing (λ x. not (is_off_modes x)) rows r i);
+  on_modes = λ r i. not-true (tells_no_mode r.field) (passing (λ x. not (is_off_modes x)) rows r i);
 }
 
 -- rows stay in order where some are dropped
@@ -233,10 +233,7 @@ filtered_both test off on t = sym (filter_with_rows test on off t.1.1.ordered)
 -- a row of the number is renewed where there is one
 pub renewed_if : (r : Result (Unit {0}) Unknown) (number : LeaseNo) (until : ℕ) (old new : List Row) → IsOk r ↔ (list_any (has_no number) old ≡ true) → OnOk r (new ≡ map (renewed_row number until) old) → OnErr r (new ≡ old) → new ≡ map (renewed_row number until) old
 renewed_if (Ok u) number until old new k ok err = ok
-renewed_if (Err e) number until old new k ok err = err ∙ sym (none_renewed number until old (fails (list_any (has_no number) old) (λ h. let wrong : false ≡ true = k.1 h in absurd (cc)))) where
-  fails : (b : Bool) → (b ≡ true → ⊥) → b ≡ false
-  fails true h = absurd (h refl)
-  fails false h = refl
+renewed_if (Err e) number until old new k ok err = err ∙ sym (none_renewed number until old (false_from_ne_true (list_any (has_no number) old) (λ h. let wrong : false ≡ true = k.1 h in absurd (cc))))
 
 filter_swap : {X : Type 0} (p q : X → Bool) (xs : List X) → filter p (filter q xs) ≡ filter q (filter p xs)
 filter_swap p q [] = refl

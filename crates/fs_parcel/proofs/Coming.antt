@@ -1,6 +1,8 @@
 -- Rows that come from another server.
 use Rattle.std.proofs.Common.{◌≡◌, ◌==◌, not, ◌&&◌, ◌||◌, Bool, true, false, List, [], ◌∷◌, refl, ap, sym, ◌∙◌, subst}
 use Rattle.std.specs.List.{list_any}
+use Rattle.std.proofs.lemmas.Bool.{not-true}
+use Rattle.std.proofs.Math.Bool.{and-false}
 use Rattle.fs_ident.proofs.Booleans.{both as both_hold}
 use Rattle.fs_ident.proofs.Passing.{In-all}
 use Rattle.fs_field.specs.Conflict.{NoPlainConflict, is_exclusive, names_over, one_shared, plain_conflict}
@@ -11,7 +13,7 @@ use Rattle.fs_field.specs.declared.field.Field.TheVariants.{Names, SelfW, Other}
 use Rattle.fs_field.specs.declared.row.Row.{Row}
 use Rattle.fs_field.proofs.Conflicts.{plain_mutual}
 use Rattle.fs_field.proofs.Order.{ordered_put}
-use Rattle.fs_moderows.proofs.Witnesses.{In_filtered, not_true}
+use Rattle.fs_moderows.proofs.Witnesses.{In_filtered}
 use Rattle.fs_rows.specs.Granted.{with_rows}
 use Rattle.fs_rows.specs.Moving.{are_new, are_off_modes, fits, is_new}
 use Rattle.fs_rows.specs.Table.{IsTable}
@@ -25,7 +27,7 @@ ordered_more : (rows more : List Row) → is_ordered rows ≡ true → are_new r
 ordered_more rows [] o n = o
 ordered_more rows (m ∷ ms) o n =
     let q : (is_new rows m ≡ true) × (are_new (with_row m rows) ms ≡ true) = both_hold (is_new rows m) (are_new (with_row m rows) ms) n in
-    ordered_more (with_row m rows) ms (ordered_put m rows (not_true (list_any (has_no m.no) rows) q.0) o) q.1
+    ordered_more (with_row m rows) ms (ordered_put m rows (not-true (list_any (has_no m.no) rows) q.0) o) q.1
 
 -- with several rows more, one of them passes or one that was there
 pub any_with_rows : (test : Row → Bool) (more rows : List Row) → list_any test (with_rows more rows) ≡ (list_any test rows || list_any test more)
@@ -92,10 +94,7 @@ quiet_on a b h =
     ap (λ x. not (a.session.0 == b.session.0) && ((x && (is_exclusive a.kind || is_exclusive b.kind)) || ((names_over a.field b.field && is_exclusive b.kind) || (names_over b.field a.field && is_exclusive a.kind)))) (one_never a.field b.field h)
     ∙ ap (λ x. not (a.session.0 == b.session.0) && ((x && is_exclusive b.kind) || (names_over b.field a.field && is_exclusive a.kind))) (over_never a.field b.field h)
     ∙ ap (λ x. not (a.session.0 == b.session.0) && (x && is_exclusive a.kind)) (under_never b.field a.field h)
-    ∙ never (not (a.session.0 == b.session.0)) where
-      never : (x : Bool) → (x && false) ≡ false
-      never true = refl
-      never false = refl
+    ∙ and-false (not (a.session.0 == b.session.0))
 
 -- where no two of those off modes conflict plainly, no two at all do
 pub off_are_enough : (rows : List Row) → NoPlainConflict (rows_off_modes rows) → NoPlainConflict rows

@@ -30,13 +30,9 @@ use Rattle.fs_parcel.proofs.Formed.{Fitting}
 
 -- ## Records
 
-none_there : {X : Type 0} (xs : List X) → is_empty xs ≡ true → xs ≡ []
-none_there [] h = refl
-none_there (x ∷ xs) h = absurd (cc)
-
-fails : (b : Bool) → not b ≡ true → b ≡ false
-fails true h = absurd (cc)
-fails false h = refl
+pub empty_is : {X : Type 0} (xs : List X) → is_empty xs ≡ true → xs ≡ []
+empty_is [] h = refl
+empty_is (x ∷ xs) h = absurd (cc)
 
 module _ (records : RecordMap) (rows : List Row) (map : Owners) (me : ℕ) (p : Parcel) (f : Fitting records rows map me p) where
   -- each record is of a file that is given
@@ -50,7 +46,7 @@ module _ (records : RecordMap) (rows : List Row) (map : Owners) (me : ℕ) (p : 
   -- no file that is given has a record here
   pub none_here : (q : List ℕ) → gives p.prefix p.piece.given q ≡ true → get records q ≡ None
   none_here q h =
-      let none : records_given p.prefix p.piece.given records ≡ [] = none_there (records_given p.prefix p.piece.given records) (second (not (owns_given map me p.prefix p.piece.given)) (is_empty (records_given p.prefix p.piece.given records)) f.elsewhere) in
+      let none : records_given p.prefix p.piece.given records ≡ [] = empty_is (records_given p.prefix p.piece.given records) (second (not (owns_given map me p.prefix p.piece.given)) (is_empty (records_given p.prefix p.piece.given records)) f.elsewhere) in
       sym (goes records p.prefix q p.piece.given h).1
       ∙ ap (λ es. get (with_records es empty) q) none
       ∙ get-empty (slice_cmp nat_cmp) q

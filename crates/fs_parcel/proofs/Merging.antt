@@ -7,6 +7,7 @@ use Rattle.fs_ident.specs.In.{In}
 use Rattle.fs_ident.specs.Ordered.{put_before}
 use Rattle.fs_ident.proofs.Booleans.{first, second}
 use Rattle.fs_ident.proofs.Passing.{all-In}
+use Rattle.fs_ident.proofs.Standing.{In-put_here}
 use Rattle.fs_field.specs.declared.row.Row.{Row}
 use Rattle.fs_field.specs.Table.{is_ordered, no_before, with_row}
 use Rattle.fs_rows.specs.Granted.{with_rows}
@@ -15,15 +16,6 @@ use Rattle.fs_parcel.specs.Rows.{both}
 use Rattle.fs_parcel.proofs.Both.{all_behind, leads, leads_on, ordered_before}
 
 -- ## The first of two lists in order
-
--- the row that is put in stands there
-put_there : {X : Type 0} (test : X → Bool) (x : X) (xs : List X) → In x (put_before test x xs)
-put_there test x [] = inl refl
-put_there test x (y ∷ ys) =
-    elim (test y) as (λ b. In x (cond b (x ∷ y ∷ ys) (y ∷ put_before test x ys))) [
-      | true ↦ inl refl
-      | false ↦ inr (put_there test x ys)
-    ]
 
 -- where the other comes first, so it does of all
 first_off : (x : Row) (xs ys : List Row) → is_first (x ∷ xs) ys ≡ true → is_ordered ys ≡ true → both (x ∷ xs) ys ≡ x ∷ both xs ys
@@ -36,7 +28,7 @@ other_first x y xs h o =
     elim (no_before y.no x.no) as (λ b. is_ordered (cond b (y ∷ x ∷ xs) (x ∷ with_row y xs)) ≡ true → b ≡ true) [
       | true ↦ λ _. refl
       | false ↦ λ g.
-          let wrong : true ≡ false = sym (all-In (λ s. no_before x.no s.no) (with_row y xs) (first (leads x (with_row y xs)) (is_ordered (with_row y xs)) g) y (put_there (λ r. no_before y.no r.no) y xs)) ∙ h in
+          let wrong : true ≡ false = sym (all-In (λ s. no_before x.no s.no) (with_row y xs) (first (leads x (with_row y xs)) (is_ordered (with_row y xs)) g) y (In-put_here (λ r. no_before y.no r.no) y xs)) ∙ h in
           absurd (cc)
     ] o
 

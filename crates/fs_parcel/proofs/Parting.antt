@@ -5,18 +5,20 @@ use Rattle.std.specs.FinMap.{empty, entries, get}
 use Rattle.std.specs.List.{list_all}
 use Rattle.std.specs.Cmp.{unsigned_Decides}
 use Rattle.std.proofs.lemmas.Slice.Eq.{slice_eq-Decides}
+use Rattle.std.proofs.lemmas.Bool.{not-true}
 use Rattle.fs_ident.specs.Ident.{same}
 use Rattle.fs_ident.specs.In.{In}
 use Rattle.fs_ident.specs.Ordered.{Keyed}
 use Rattle.fs_ident.proofs.Booleans.{joined}
 use Rattle.fs_ident.proofs.Passing.{In-all}
 use Rattle.fs_ident.proofs.Standing.{In-filter}
+use Rattle.fs_ident.proofs.Same.{same_self}
 use Rattle.fs_field.specs.declared.row.Row.{Row}
 use Rattle.fs_map.specs.Lists.{is_piece, piece_of}
 use Rattle.fs_map.specs.Map.{Owners, gives, server_of}
 use Rattle.fs_map.proofs.Owned.{piece_piece}
 use Rattle.fs_map.proofs.Testing.{piece_test}
-use Rattle.fs_moderows.proofs.Witnesses.{In_filtered, not_true}
+use Rattle.fs_moderows.proofs.Witnesses.{In_filtered}
 use Rattle.fs_record.specs.Moving.{are_distinct, records_given, records_left, with_records}
 use Rattle.fs_record.specs.Records.{AreRecords, RecordMap}
 use Rattle.fs_record.proofs.Coming.{goes, stays}
@@ -36,7 +38,7 @@ rows_that_go prefix given rows row = (
 
 pub rows_that_stay : (prefix : List ℕ) (given : Keyed Bool) (rows : List Row) (row : Row) → In row (rows_left prefix given rows) ↔ (In row rows × (is_on_given prefix given row ≡ false))
 rows_that_stay prefix given rows row = (
-  λ i. (In-filter (λ r. not (is_on_given prefix given r)) row rows i, not_true (is_on_given prefix given row) (passing (λ r. not (is_on_given prefix given r)) rows row i)),
+  λ i. (In-filter (λ r. not (is_on_given prefix given r)) row rows i, not-true (is_on_given prefix given row) (passing (λ r. not (is_on_given prefix given r)) rows row i)),
   λ q. In_filtered (λ r. not (is_on_given prefix given r)) rows row q.0 (ap not q.1),
 )
 
@@ -56,9 +58,6 @@ records_that_stay m prefix file given = elim (gives prefix given file) as (λ b.
 
 -- ## Form
 
-pub same_itself : (a : List ℕ) → same a a ≡ true
-same_itself a = (slice_eq-Decides unsigned_Decides a a (same a a) refl).1 refl
-
 module _ (m : RecordMap) (map : Owners) (me : ℕ) (prefix : List ℕ) where
   ordered_records : AreRecords m → list_all (λ e. is_in_order e.1) (records_given prefix (piece_of map me prefix) m) ≡ true
   ordered_records s = In-all (λ e. is_in_order e.1) (records_given prefix (piece_of map me prefix) m) (λ e i. order_test e.1.node (given_each prefix (piece_of map me prefix) m s e i).in_order)
@@ -67,7 +66,7 @@ module _ (m : RecordMap) (map : Owners) (me : ℕ) (prefix : List ℕ) where
   parcel_formed rows mine s =
       let given = piece_of map me prefix in
       joined (same prefix prefix && is_piece prefix given) (are_distinct (records_given prefix given m) && list_all (λ e. is_in_order e.1) (records_given prefix given m))
-      (joined (same prefix prefix) (is_piece prefix given) (same_itself prefix) (piece_test prefix given (piece_piece map me prefix mine).0))
+      (joined (same prefix prefix) (is_piece prefix given) (same_self prefix) (piece_test prefix given (piece_piece map me prefix mine).0))
       (joined (are_distinct (records_given prefix given m)) (list_all (λ e. is_in_order e.1) (records_given prefix given m)) (given_distinct prefix given m) (ordered_records s))
 
   pub parcel_of_given : (rows : List Row) → is_of_given (parcel_of m rows map me prefix) ≡ true

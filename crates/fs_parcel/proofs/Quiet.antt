@@ -9,7 +9,7 @@ use Rattle.fs_ident.specs.Ident.{same}
 use Rattle.fs_ident.specs.In.{In}
 use Rattle.fs_ident.specs.Ordered.{Keyed}
 use Rattle.fs_ident.specs.declared.actor.Session.{Session}
-use Rattle.fs_ident.proofs.Booleans.{both as both_hold, first, second, neither}
+use Rattle.fs_ident.proofs.Booleans.{both as both_hold, first, second, neither, second_fails}
 use Rattle.fs_modes.specs.Modes.{has}
 use Rattle.fs_modes.specs.declared.modes.Mode.{Mode}
 use Rattle.fs_modes.specs.declared.modes.Modes.{Modes}
@@ -27,15 +27,17 @@ use Rattle.fs_record.proofs.NodeValues.{tied}
 use Rattle.fs_record.specs.declared.parcel.Parcel.{Parcel}
 use Rattle.fs_map.specs.Map.{Owners, gives}
 use Rattle.fs_moderows.proofs.Moves.{came_or_was}
-use Rattle.fs_moderows.proofs.Witnesses.{In_filtered, In_none, none_In, not_both}
-use Rattle.fs_field.proofs.Conflicts.{conflicts_mutual}
+use Rattle.fs_moderows.proofs.Witnesses.{In_filtered, In_none, not_both, lets}
+use Rattle.fs_field.proofs.Conflicts.{conflicts_mutual, self_on, self_file}
 use Rattle.fs_ident.proofs.Passing.{all-In}
-use Rattle.fs_ident.proofs.Standing.{In-filter}
+use Rattle.fs_ident.proofs.Standing.{In-filter, none_any}
 use Rattle.fs_record.proofs.Coming.{stays}
 use Rattle.fs_rows.specs.Granted.{with_rows}
 use Rattle.fs_rows.specs.Moving.{are_new, is_on_given, rows_left}
 use Rattle.std.proofs.lemmas.Map.Views.{any-filter_same}
 use Rattle.std.specs.Cmp.{nat_eq_equiv}
+use Rattle.std.proofs.lemmas.Bool.{not-true}
+use Rattle.std.proofs.Math.Bool.{or-false}
 use Rattle.fs_parcel.specs.Parcel.{selves_of_records}
 use Rattle.fs_parcel.specs.Rows.{AreRows, is_off_modes, rows_on_modes}
 use Rattle.fs_parcel.proofs.Both.{filter_with_rows, filtered_rows, passing}
@@ -57,10 +59,6 @@ not_among (e ∷ es) f h m =
     ∙ get-insert nat_list_cmp_total m e.0 e.1 f
     ∙ ap (λ b. cond b (Some e.1) (get m f)) (asked f e.0 ∙ q.0)
 
-is_false : (b : Bool) → not b ≡ true → b ≡ false
-is_false true h = absurd (cc)
-is_false false h = refl
-
 abbrev told : Option Record → List (Session × Modes)
 told o = selves_of (handles_of (node_of o))
 
@@ -70,7 +68,7 @@ listed_at (e ∷ es) f d m h =
     let q : (not (list_any (λ g. same g.0 e.0) es) ≡ true) × (are_distinct es ≡ true) = both_hold (not (list_any (λ g. same g.0 e.0) es)) (are_distinct es) d in
     elim (same e.0 f) as (λ b. same e.0 f ≡ b → told (get (with_records es (insert m e.0 e.1)) f) ≡ cond b (selves_of e.1.node.handles) (selves_listed (selves_of_records es) f)) [
       | true ↦ λ s. ap told (
-          not_among es f (ap (λ k. list_any (λ g. same g.0 k) es) (sym (same_text e.0 f (sym s))) ∙ is_false (list_any (λ g. same g.0 e.0) es) q.0) (insert m e.0 e.1)
+          not_among es f (ap (λ k. list_any (λ g. same g.0 k) es) (sym (same_text e.0 f (sym s))) ∙ not-true (list_any (λ g. same g.0 e.0) es) q.0) (insert m e.0 e.1)
           ∙ get-insert nat_list_cmp_total m e.0 e.1 f
           ∙ ap (λ b. cond b (Some e.1) (get m f)) (asked f e.0 ∙ s))
       | false ↦ λ s. listed_at es f q.1 (insert m e.0 e.1) (
@@ -133,22 +131,6 @@ meets_off_second selves rows x y (Other f m) (Own g) promise h = refl
 meets_off_second selves rows x y (Other f m) (Other g n) promise h = absurd (cc)
 meets_off_second selves rows x y f g promise h = refl
 
--- a row by which a session changes what it tells of the file is on it
-self_file : (f : List ℕ) (m : Mode) (g : Field) → is_self f m g ≡ true → file_of g ≡ f
-self_file f m (SelfW g n) h = sym (same_text f g (sym (first (same f g) (same_mode m n) h)))
-self_file f m g h = absurd (cc)
-
-self_on : (f : List ℕ) (m : Mode) (g : Field) → is_self f m g ≡ true → not (tells_no_mode g) ≡ true
-self_on f m (SelfW g n) h = refl
-self_on f m g h = absurd (cc)
-
-abbrev lets : List ℕ → Mode → Session → Row → Bool
-lets f m s r = is_self f m r.field && (r.session.0 == s.0)
-
-or_never : (b : Bool) → (b || false) ≡ b
-or_never true = refl
-or_never false = refl
-
 -- ## From pairs to all
 
 turned : (a b : ℕ) → not (a == b) ≡ true → not (b == a) ≡ true
@@ -162,10 +144,7 @@ differ a b = not (a.session.0 == b.session.0)
 
 -- two rows that do not conflict do not meet over a mode
 pair_quiet : (selves : Selves) (rows : List Row) (a b : Row) → differ a b ≡ true → conflicts selves rows a b ≡ false → Meets selves rows a b ≡ false
-pair_quiet selves rows a b d h = (neither (Meets selves rows a b) (Meets selves rows b a) (after (differ a b) (Meets selves rows a b || Meets selves rows b a) d (neither (plain_conflict a b) (mode_conflict selves rows a b) h).1)).0 where
-  after : (x y : Bool) → x ≡ true → (x && y) ≡ false → y ≡ false
-  after true y e k = k
-  after false y e k = absurd (cc)
+pair_quiet selves rows a b d h = (neither (Meets selves rows a b) (Meets selves rows b a) (second_fails (differ a b) (Meets selves rows a b || Meets selves rows b a) d (neither (plain_conflict a b) (mode_conflict selves rows a b) h).1)).0
 
 -- where no two rows of different sessions meet, none conflict
 all_quiet : (selves : Selves) (rows : List Row) → NoPlainConflict rows → ((a b : Row) → In a rows → In b rows → differ a b ≡ true → Meets selves rows a b ≡ false) → NoConflict selves rows
@@ -203,7 +182,7 @@ module _ (records : RecordMap) (rows : List Row) (map : Owners) (me : ℕ) (p : 
       any_with_rows (lets file m s) p.rows rows
       ∙ ap (λ b. list_any (lets file m s) rows || b) (In_none (lets file m s) p.rows (λ r i. not_both (is_self file m r.field) (r.session.0 == s.0) (λ e.
       let wrong : true ≡ false = sym (row_given records rows map me p f r i) ∙ ap given (self_file file m r.field e) ∙ h in absurd (cc))))
-      ∙ or_never (list_any (lets file m s) rows))
+      ∙ or-false (list_any (lets file m s) rows))
 
   -- and of any
   fixed_on : (file : List ℕ) (m : Mode) (s : Session) → is_fixed all file m s ≡ is_fixed of_modes file m s
@@ -218,7 +197,7 @@ module _ (records : RecordMap) (rows : List Row) (map : Owners) (me : ℕ) (p : 
   came_pair : (a b : Row) → In a p.rows → In b all → is_off_modes a ≡ false → is_off_modes b ≡ false → conflicts listed of_modes a b ≡ false
   came_pair a b i j oa ob =
       let alone : is_free listed of_modes a ≡ true = all-In (is_free listed of_modes) (rows_on_modes p.rows) (second (are_new (rows_on_modes rows) (rows_on_modes p.rows)) (list_all (is_free listed of_modes) (rows_on_modes p.rows)) (fit_on records rows map me p f)) a (In_filtered (λ r. not (is_off_modes r)) p.rows a i (ap not oa)) in
-      none_In (conflicts listed of_modes a) of_modes (is_false (list_any (conflicts listed of_modes a) of_modes) alone) b (subst (In b) on_part (In_filtered (λ r. not (is_off_modes r)) all b j (ap not ob)))
+      none_any (conflicts listed of_modes a) of_modes (not-true (list_any (conflicts listed of_modes a) of_modes) alone) b (subst (In b) on_part (In_filtered (λ r. not (is_off_modes r)) all b j (ap not ob)))
 
   -- a row that came meets none
   first_quiet : (a b : Row) → In a p.rows → In b all → differ a b ≡ true → Meets listed of_modes a b ≡ false
@@ -289,7 +268,7 @@ module _ (records : RecordMap) (rows : List Row) (prefix : List ℕ) (given : Ke
 
   left_pair : (a b : Row) → In a (rows_left prefix given rows) → In b (rows_left prefix given rows) → differ a b ≡ true → Meets (selves_in (records_left prefix given records)) (rows_left prefix given rows) a b ≡ false
   left_pair a b i j d =
-      let h : gives prefix given (file_of a.field) ≡ false = is_false (is_on_given prefix given a) (passing stays_here rows a i) in
+      let h : gives prefix given (file_of a.field) ≡ false = not-true (is_on_given prefix given a) (passing stays_here rows a i) in
       meets_alike (selves_in (records_left prefix given records)) (selves_in records) (rows_left prefix given rows) rows a.session b.session a.field b.field a.promise (ap told (stays records prefix (file_of a.field) given h).0) (fixed_left (file_of a.field) h)
       ∙ pair_quiet (selves_in records) rows a b d (free a b (In-filter stays_here a rows i) (In-filter stays_here b rows j))
 

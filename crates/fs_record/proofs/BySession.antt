@@ -3,6 +3,7 @@ use Rattle.std.proofs.Common.{◌≡◌, ℕ, List, [], ◌∷◌, Bool, true, f
 use Rattle.std.specs.Prelude.{Some, None, not, ◌==◌, ◌||◌, nat_lt}
 use Rattle.std.specs.List.{list_all}
 use Rattle.std.proofs.lemmas.Bool.Decides.{nat_tests}
+use Rattle.std.proofs.Math.Bool.{or_assoc, or-false}
 use Rattle.fs_ident.specs.declared.actor.Session.{Session}
 use Rattle.fs_modes.specs.declared.modes.Modes.{Modes}
 use Rattle.fs_modes.specs.Modes.{or, none}
@@ -11,22 +12,14 @@ use Rattle.fs_model.specs.Handles.{comes_before, is_before_all, handles_are_in_o
 use Rattle.fs_ident.proofs.Booleans.{first, second, joined}
 use Rattle.fs_record.specs.ValueOf.{selves_from, selves_of, has_handle, modes_of, modes_told_of, is_by_session}
 
-or_false : (b : Bool) → (b || false) ≡ b
-or_false true = refl
-or_false false = refl
-
-or_assoc : (a b c : Bool) → ((a || b) || c) ≡ (a || (b || c))
-or_assoc true b c = refl
-or_assoc false b c = refl
-
 or_none : (m : Modes) → or m none ≡ m
 or_none m = λ i. record {
-  acc_r = or_false m.acc_r i;
-  acc_w = or_false m.acc_w i;
-  acc_d = or_false m.acc_d i;
-  deny_r = or_false m.deny_r i;
-  deny_w = or_false m.deny_w i;
-  deny_d = or_false m.deny_d i;
+  acc_r = or-false m.acc_r i;
+  acc_w = or-false m.acc_w i;
+  acc_d = or-false m.acc_d i;
+  deny_r = or-false m.deny_r i;
+  deny_w = or-false m.deny_w i;
+  deny_d = or-false m.deny_d i;
 }
 
 or_or : (a b c : Modes) → or (or a b) c ≡ or a (or b c)

@@ -10,8 +10,9 @@ use Rattle.std.specs.FinMap.Entries.{below_all, find-where_key, is_sorted-where_
 use Rattle.std.specs.declared.cmp.Ordering.TheVariants.{Less}
 use Rattle.fs_ident.specs.Ident.{same}
 use Rattle.fs_ident.specs.Ordered.{Keyed}
-use Rattle.fs_ident.proofs.Booleans.{first, second, joined, neither, less}
+use Rattle.fs_ident.proofs.Booleans.{first, second, joined, neither, less, holds}
 use Rattle.fs_ident.proofs.MapsOf.{anti, remove-insert}
+use Rattle.fs_ident.proofs.Options.{absent_is}
 use Rattle.fs_map.specs.Map.{gives}
 use Rattle.fs_record.specs.declared.record.Record.{Record}
 use Rattle.fs_record.specs.Records.{RecordMap, AreRecords, IsRecord}
@@ -19,7 +20,6 @@ use Rattle.fs_record.specs.Moving.{are_absent, are_distinct, with_records, recor
 use Rattle.fs_record.specs.Walk.{taken_back}
 use Rattle.fs_record.proofs.Kept.{kept_insert}
 use Rattle.fs_record.proofs.NodeValues.{key_is, tied}
-use Rattle.fs_record.proofs.OpenFiles.{holds}
 use Rattle.fs_record.proofs.Parting.{left_at}
 
 -- ## They come
@@ -51,10 +51,6 @@ left_kept prefix given m s q = subst (λ (o : Option Record). IfSome o IsRecord)
 pub taken_last : (files : List (List ℕ)) (file : List ℕ) (m : RecordMap) → taken_back (files ++ file ∷ []) m ≡ taken_back files (remove m file)
 taken_last [] file m = refl
 taken_last (f ∷ fs) file m = ap (λ n. remove n f) (taken_last fs file m)
-
-absent_is : (o : Option Record) → not (is_some o) ≡ true → o ≡ None
-absent_is None h = refl
-absent_is (Some r) h = absurd (cc)
 
 -- what came last is taken away first
 pub back_again : (files : List (List ℕ)) (m : RecordMap) (e : List ℕ × Record) (es : Keyed Record) → are_absent m (e ∷ es) ≡ true → taken_back (files ++ e.0 ∷ []) (insert m e.0 e.1) ≡ taken_back files m

@@ -15,7 +15,7 @@ use Rattle.std.specs.FinMap.Entries.{below_all}
 use Rattle.std.specs.declared.cmp.Ordering.TheVariants.{Less}
 use Rattle.fs_ident.specs.Ident.{same}
 use Rattle.fs_ident.specs.Maps.{map_of}
-use Rattle.fs_ident.proofs.Booleans.{first, second, joined, less}
+use Rattle.fs_ident.proofs.Booleans.{first, second, joined, less, holds}
 use Rattle.fs_ident.proofs.MapsOf.{map_of_entries}
 use Rattle.fs_model.specs.Step.{is_empty}
 use Rattle.fs_record.specs.declared.record.Record.{Record}
@@ -48,10 +48,6 @@ walked : (es : List (List ℕ × Record)) → is_sorted (slice_cmp nat_cmp) es �
 walked [] h = refl
 walked (e ∷ es) h =
     ap₂ (λ b xs. cond (is_open (node_of (cond b (Some e.1) (find (slice_cmp nat_cmp) e.0 es)))) (e.0 ∷ xs) xs) ((eq_by_cmp_equiv nat_list_cmp_total).refl e.0) (passed e es es (first _ _ h) ∙ walked es (second _ _ h))
-
-pub holds : (b : Bool) → T b → b ≡ true
-holds true h = refl
-holds false h = absurd h
 
 pub open_entries : (m : RecordMap) → open_files m ≡ opened (entries m)
 open_entries m = filter_agree _ _ (λ f. ap (λ o. is_open (node_of o)) (get-entries m f)) (keys m) ∙ walked (entries m) (holds _ (entries_sorted m))

@@ -18,23 +18,19 @@ use Rattle.std.proofs.lemmas.Cmp.{tied_itself}
 use Rattle.std.proofs.lemmas.Bool.Decides.{nat_tests}
 use Rattle.fs_ident.specs.Maps.{map_of}
 use Rattle.fs_ident.specs.Ordered.{Keyed}
-use Rattle.fs_ident.proofs.Booleans.{first, second, joined, less}
+use Rattle.fs_ident.proofs.Booleans.{first, second, joined, less, holds}
 use Rattle.fs_ident.proofs.MapsOf.{anti, map_of_entries}
 use Rattle.fs_map.specs.Map.{begins, gives, told_of}
-use Rattle.fs_map.proofs.Prefixes.{prefix_first}
+use Rattle.fs_map.proofs.Prefixes.{prefix_first, number_is}
 use Rattle.fs_record.specs.declared.record.Record.{Record}
 use Rattle.fs_record.specs.Records.{RecordMap}
 use Rattle.fs_record.specs.Moving.{records_given, records_left}
 use Rattle.fs_record.specs.Walk.{given_from}
-use Rattle.fs_record.proofs.OpenFiles.{holds}
 
 abbrev cmp : List ℕ → List ℕ → Ordering
 cmp = slice_cmp nat_cmp
 
 -- ## Together
-
-number_is : (x y : ℕ) → nat_eq x y ≡ true → x ≡ y
-number_is x y h = grind (arith, nat_tests)
 
 number_same : (x y : ℕ) → x ≡ y → nat_eq x y ≡ true
 number_same x y e = grind (arith, nat_tests)

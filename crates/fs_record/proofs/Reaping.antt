@@ -6,11 +6,14 @@ use Rattle.std.specs.Cmp.Lexicographic.{same_text}
 use Rattle.std.specs.FinMap.{get}
 use Rattle.std.proofs.lemmas.Bool.Decides.{nat_tests}
 use Rattle.std.proofs.lemmas.List.Elements.{filter_agree}
+use Rattle.std.proofs.lemmas.Bool.{not-true}
+use Rattle.std.proofs.Math.Bool.{or-true}
 use Rattle.fs_ident.specs.In.{In}
 use Rattle.fs_ident.specs.Ident.{same}
 use Rattle.fs_ident.specs.declared.actor.Session.{Session}
-use Rattle.fs_ident.proofs.Booleans.{first, second, joined}
+use Rattle.fs_ident.proofs.Booleans.{first, second, joined, first_fails}
 use Rattle.fs_ident.proofs.MapsOf.{remove_absent}
+use Rattle.fs_ident.proofs.Same.{differs_too, itself}
 use Rattle.fs_modes.specs.declared.modes.Mode.{Mode}
 use Rattle.fs_modes.specs.declared.modes.Modes.{Modes}
 use Rattle.fs_modes.specs.Modes.{has, or}
@@ -84,9 +87,6 @@ module _ (x : Session) where
   not_among [] y e = refl
   not_among (o ∷ os) y e = rw e (not_among os y e)
 
-  itself : (h : ℕ) → (h == h) ≡ true
-  itself h = grind (arith, nat_tests)
-
   own_among : (hs : List Handle) (y : Handle) → In y hs → (y.session.0 == x.0) ≡ true → is_among (own_of x hs) y ≡ true
   own_among [] y i e = absurd i
   own_among (z ∷ zs) y i e = elim i [
@@ -97,12 +97,8 @@ module _ (x : Session) where
     | inr j ↦ behind z (own_of x zs) (z.session.0 == x.0) (own_among zs y j e)
   ]
     where
-      either : (b : Bool) → (b || true) ≡ true
-      either true = refl
-      either false = refl
-
       behind : (z : Handle) (os : Handles) (b : Bool) → is_among os y ≡ true → is_among (cond b ((z.h, z.modes) ∷ os) os) y ≡ true
-      behind z os true h = ap (λ b. is_at x z.h y || b) h ∙ either (is_at x z.h y)
+      behind z os true h = ap (λ b. is_at x z.h y || b) h ∙ or-true (is_at x z.h y)
       behind z os false h = h
 
   -- without each of its handles it has none
@@ -206,12 +202,8 @@ module _ (x : Session) where
   alone : (t : Session) (m : Modes) (hs : List Handle) → list_all (λ z. not (z.session.0 == t.0)) hs ≡ true → selves_from t m hs ≡ (t, m) ∷ selves_of hs
   alone t m [] h = refl
   alone t m (z ∷ zs) h =
-      let q : (z.session.0 == t.0) ≡ false = turned_off _ (first _ _ h) in
+      let q : (z.session.0 == t.0) ≡ false = not-true _ (first _ _ h) in
       ap (λ b. cond b (selves_from t (or m z.modes) zs) ((t, m) ∷ selves_from z.session z.modes zs)) q
-    where
-      turned_off : (b : Bool) → not b ≡ true → b ≡ false
-      turned_off true h = absurd (cc)
-      turned_off false h = refl
 
   -- those who are told without the session, where one is told first
   abbrev without_first : Session → Modes → List Handle → List (Session × Modes)
@@ -272,11 +264,8 @@ module _ (x : Session) where
   own_left y [] e = refl
   own_left y (z ∷ zs) e = by (z.session.0 == x.0) refl (own_left y zs e)
     where
-      third : (a b c : ℕ) → (a == b) ≡ true → (c == b) ≡ false → (a == c) ≡ false
-      third a b c e f = grind (arith, nat_tests)
-
       by : (b : Bool) → (z.session.0 == x.0) ≡ b → own_of y (without_session zs x) ≡ own_of y zs → own_of y (cond (not b) (z ∷ without_session zs x) (without_session zs x)) ≡ own_of y (z ∷ zs)
-      by true t h = h ∙ ap (λ b. cond b ((z.h, z.modes) ∷ own_of y zs) (own_of y zs)) (sym (third z.session.0 x.0 y.0 t e))
+      by true t h = h ∙ ap (λ b. cond b ((z.h, z.modes) ∷ own_of y zs) (own_of y zs)) (sym (differs_too z.session.0 x.0 y.0 t e))
       by false t h = ap (λ os. cond (z.session.0 == y.0) ((z.h, z.modes) ∷ os) os) h
 
   own_reaped : (y : Session) (o : Option Record) → (y.0 == x.0) ≡ false → own_of y (handles_of (node_of (reaped_record o))) ≡ own_of y (handles_of (node_of o))
@@ -319,12 +308,8 @@ module _ (x : Session) where
   -- another session sees every field as before, but for what others have on the file
   pub reaped_value : (m : RecordMap) (f : List ℕ) (y : Session) (field : Field) → (y.0 == x.0) ≡ false → (is_other field && same (file_of field) f) ≡ false → value_of (records_after_all m (reap_effects m f x)) y field ≡ value_of m y field
   reaped_value m f y field e h = reaped_at_each (λ o p. value_at y field (node_of o) ≡ value_at y field (node_of p)) m f (file_of field)
-      (λ t. value_reaped y field (get m (file_of field)) e (left (is_other field) (same (file_of field) f) t h))
+      (λ t. value_reaped y field (get m (file_of field)) e (first_fails (is_other field) (same (file_of field) f) t h))
       (λ t. refl)
-    where
-      left : (a b : Bool) → b ≡ true → (a && b) ≡ false → a ≡ false
-      left true b t h = sym t ∙ h
-      left false b t h = refl
 
   own_value_reaped : (f : List ℕ) (field : Field) (o : Option Record) → same (file_of field) f ≡ true → same_field field (Own f) ≡ false → value_at x field (node_of (reaped_record o)) ≡ value_at x field (node_of o)
   own_value_reaped f field None t h = refl

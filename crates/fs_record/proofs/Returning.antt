@@ -11,7 +11,7 @@ use Rattle.std.specs.declared.cmp.Ordering.TheVariants.{Less}
 use Rattle.fs_ident.specs.Ident.{same}
 use Rattle.fs_ident.specs.In.{In}
 use Rattle.fs_ident.specs.Ordered.{Keyed}
-use Rattle.fs_ident.proofs.Booleans.{first, second, joined, less}
+use Rattle.fs_ident.proofs.Booleans.{first, second, joined, less, holds}
 use Rattle.fs_ident.proofs.MapsOf.{anti}
 use Rattle.fs_ident.proofs.Passing.{In-all}
 use Rattle.fs_map.specs.Map.{gives}
@@ -21,7 +21,6 @@ use Rattle.fs_record.specs.Moving.{are_absent, are_distinct, with_records, recor
 use Rattle.fs_record.proofs.Coming.{come_at, or_else}
 use Rattle.fs_record.proofs.Kept.{record_at}
 use Rattle.fs_record.proofs.NodeValues.{tied}
-use Rattle.fs_record.proofs.OpenFiles.{holds}
 use Rattle.fs_record.proofs.Parting.{left_at}
 
 -- ## Entries in order

@@ -6,17 +6,13 @@ use Rattle.std.specs.Cmp.Lexicographic.{slice_cmp, nat_list_cmp_total}
 use Rattle.std.specs.FinMap.Entries.{below_all}
 use Rattle.std.specs.declared.cmp.Ordering.TheVariants.{Less}
 use Rattle.fs_ident.specs.Ordered.{Keyed, are_keys_in_order}
-use Rattle.fs_ident.proofs.Booleans.{first, second, joined, less}
+use Rattle.fs_ident.proofs.Booleans.{first, second, joined, less, and_never}
 use Rattle.fs_map.proofs.Changing.{next_item}
 use Rattle.fs_model.proofs.HandleOrder.{before_all_trans}
 use Rattle.fs_model.specs.Handles.{comes_before, handles_are_in_order, is_before_all}
 use Rattle.fs_model.specs.Namespace.{IsInOrder}
 use Rattle.fs_model.specs.declared.node.Handle.{Handle}
 use Rattle.fs_model.specs.declared.node.Node.{Node}
-
-no_more : (a b : Bool) → (a && (false && b)) ≡ false
-no_more true b = refl
-no_more false b = refl
 
 -- ## Names
 
@@ -29,7 +25,7 @@ names_next : {V : Type 0} (last : List ℕ) (e : List ℕ × V) (es : Keyed V) �
 names_next last e es l =
     elim (below_all (slice_cmp nat_cmp) e.0 es) as (λ b. below_all (slice_cmp nat_cmp) e.0 es ≡ b → ((is_lt (slice_cmp nat_cmp last e.0) && below_all (slice_cmp nat_cmp) last es) && (b && are_keys_in_order es)) ≡ (b && are_keys_in_order es)) [
       | true ↦ λ h. ap (λ c. c && are_keys_in_order es) (joined _ _ (ap is_lt l) (through last e.0 es l h))
-      | false ↦ λ h. no_more (is_lt (slice_cmp nat_cmp last e.0) && below_all (slice_cmp nat_cmp) last es) (are_keys_in_order es)
+      | false ↦ λ h. and_never (is_lt (slice_cmp nat_cmp last e.0) && below_all (slice_cmp nat_cmp) last es) (are_keys_in_order es)
     ] refl
 
 pub names_on : {V : Type 0} (last : List ℕ) (rest : Keyed V) (i : ℕ) (e : List ℕ × V) → i < length rest → e ≡ get_or rest i e → slice_cmp nat_cmp last e.0 ≡ Less
@@ -42,7 +38,7 @@ handles_next : (last x : Handle) (xs : List Handle) → comes_before last x ≡ 
 handles_next last x xs l =
     elim (is_before_all x xs) as (λ b. is_before_all x xs ≡ b → ((comes_before last x && is_before_all last xs) && (b && handles_are_in_order xs)) ≡ (b && handles_are_in_order xs)) [
       | true ↦ λ h. ap (λ c. c && handles_are_in_order xs) (joined _ _ l (before_all_trans last x xs l h))
-      | false ↦ λ h. no_more (comes_before last x && is_before_all last xs) (handles_are_in_order xs)
+      | false ↦ λ h. and_never (comes_before last x && is_before_all last xs) (handles_are_in_order xs)
     ] refl
 
 next_handle : (xs : List Handle) (i : ℕ) (d : Handle) → i < length xs → drop i xs ≡ get_or xs i d ∷ drop (i + 1) xs

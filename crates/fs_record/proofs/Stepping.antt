@@ -23,6 +23,7 @@ use Rattle.fs_record.specs.Applied.{nodes_after, nodes_after_all, with_at, with_
 use Rattle.fs_record.specs.Effects.{effects_of, tells_its_effects}
 use Rattle.fs_ident.proofs.Booleans.{first}
 use Rattle.fs_ident.proofs.MapsOf.{anti}
+use Rattle.fs_ident.proofs.Options.{not_some}
 use Rattle.fs_model.proofs.HandleOrder.{without_absent}
 use Rattle.fs_record.proofs.NodeValues.{key_is}
 
@@ -82,17 +83,13 @@ create_leads m by dir name k (Some id) (Some d) e = within d.kind
     within Dir = led_if m by (op.Create dir name k (Some id)) (is_some (child_at d.children name)) _ _ (λ _. refl)
         (λ _. led_if m by (op.Create dir name k (Some id)) (is_child dir id && not (is_some (get m id))) _ _ (λ c. made_alike m dir name k id d e (not_itself dir id (first _ _ c))) (λ _. refl))
 
-none_from : (o : Option Modes) → is_some o ≡ false → o ≡ None
-none_from None e = refl
-none_from (Some m) e = absurd (cc)
-
 open_leads : (m : NodeMap) (by : Session) (file : List ℕ) (h : ℕ) (modes : Modes) (o : Option Node) → get m file ≡ o → Leads m by (op.OpenFile file h modes) (open_file o m by file h modes)
 open_leads m by file h modes None e = refl
 open_leads m by file h modes (Some n) e =
     led_if m by (op.OpenFile file h modes) (is_some (handle_at n.handles by h)) _ _ (λ _. refl) (λ free.
     led_if m by (op.OpenFile file h modes) (any_conflicts n.handles modes) _ _ (λ _. refl) (λ _.
     ap (λ (o : Option Node). with_at m file (option_map (with_only_open by h modes) o)) e
-    ∙ ap (λ (xs : List Handle). insert m file (with_open by h modes (record { kind = n.kind; parent = n.parent; children = n.children; size = n.size; stamp = n.stamp; handles = xs }))) (without_absent n.handles by h (none_from _ free))
+    ∙ ap (λ (xs : List Handle). insert m file (with_open by h modes (record { kind = n.kind; parent = n.parent; children = n.children; size = n.size; stamp = n.stamp; handles = xs }))) (without_absent n.handles by h (not_some _ free))
     ∙ sym (ap (λ o. with_change_at (with_open by h modes) m file o) e)))
 
 -- a change of a node that is there, in the two forms

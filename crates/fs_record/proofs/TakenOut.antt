@@ -14,6 +14,7 @@ use Rattle.fs_ident.specs.Ordered.{Keyed}
 use Rattle.fs_ident.proofs.Booleans.{first, neither, second}
 use Rattle.fs_ident.specs.Maps.{map_of}
 use Rattle.fs_ident.proofs.MapsOf.{anti, map_of_get}
+use Rattle.fs_ident.proofs.Options.{absent_is}
 use Rattle.fs_map.specs.Map.{gives}
 use Rattle.fs_record.specs.declared.record.Record.{Record}
 use Rattle.fs_record.specs.Records.{AreRecords, RecordMap}
@@ -49,13 +50,9 @@ absent_one : (q : List ℕ) (es : Keyed Record) (m : RecordMap) → are_absent m
 absent_one q [] m a h = absurd (cc)
 absent_one q (e ∷ es) m a h =
     elim (eq_by_cmp (slice_cmp nat_cmp) q e.0) as (λ b. eq_by_cmp (slice_cmp nat_cmp) q e.0 ≡ b → (b || list_any (eq_by_cmp (slice_cmp nat_cmp) q) (keys_of es)) ≡ true → get m q ≡ None) [
-      | true ↦ λ t _. ap (get m) (key_is q e.0 t) ∙ none (get m e.0) (first _ _ a)
+      | true ↦ λ t _. ap (get m) (key_is q e.0 t) ∙ absent_is (get m e.0) (first _ _ a)
       | false ↦ λ t k. absent_one q es m (second _ _ a) k
     ] refl h
-  where
-    none : (o : Option Record) → not (is_some o) ≡ true → o ≡ None
-    none None h = refl
-    none (Some r) h = absurd (cc)
 
 came_beside : (q : List ℕ) (es : Keyed Record) (m : RecordMap) → list_any (eq_by_cmp (slice_cmp nat_cmp) q) (keys_of es) ≡ false → get (with_records es m) q ≡ get m q
 came_beside q [] m h = refl

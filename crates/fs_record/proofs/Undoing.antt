@@ -10,7 +10,7 @@ use Rattle.std.specs.Cmp.Lexicographic.{slice_cmp, nat_list_cmp_total}
 use Rattle.std.specs.FinMap.{FinMap, get, same_map, get_tied}
 use Rattle.std.specs.FinMap.Entries.{find, find-put, find-where_key, find_tied, same_entries, is_sorted-put, is_sorted-where_key, is_sorted}
 use Rattle.fs_ident.specs.declared.actor.Session.{Session}
-use Rattle.fs_ident.proofs.Booleans.{equal_is, both, first}
+use Rattle.fs_ident.proofs.Booleans.{equal_is, both, first, held}
 use Rattle.fs_ident.proofs.MapsOf.{anti}
 use Rattle.fs_field.specs.declared.effect.Effect.{Effect}
 use Rattle.fs_field.specs.declared.effect.Effect.TheVariants.{SetChild, SetParent, NewNode, RemoveNode, AddHandle, RemoveHandle, SetInfo}
@@ -63,10 +63,6 @@ name_cmp_eq a b = eq_by_cmp (slice_cmp nat_cmp) a b
 
 turned : (a b : List ℕ) → name_cmp_eq a b ≡ name_cmp_eq b a
 turned a b = (eq_by_cmp_equiv nat_list_cmp_total).symm a b
-
-held : (b : Bool) → b ≡ true → T b
-held true e = tt
-held false e = absurd (cc)
 
 others : (name q x : List ℕ) → slice_cmp nat_cmp q x ≡ Equal → not (name_cmp_eq name x) ≡ not (name_cmp_eq name q)
 others name q x t = ap (λ z. not (name_cmp_eq name z)) (sym (anti q x t))

@@ -33,6 +33,7 @@ use Rattle.fs_record.specs.Records.{RecordMap, AreRecords, IsRecord, node_of, ne
 use Rattle.fs_record.specs.Applied.{node_change, record_change, records_after, with_at, changed_file, is_birth, has_target}
 use Rattle.fs_record.specs.ValueOf.{value_at, value_of, own_of, handles_of, info_of, is_other}
 use Rattle.fs_ident.proofs.MapsOf.{remove_absent}
+use Rattle.fs_ident.proofs.Same.{one_session}
 use Rattle.fs_record.proofs.Kept.{get_with_at}
 use Rattle.fs_record.proofs.NodeValues.{tied, names_put, names_less, child_put, child_less, own_less, own_kept, own_more, own_same}
 
@@ -81,9 +82,6 @@ info_told f (RemoveNode file) n h = then_is (same f file) (0, 0) (n.size, n.stam
 info_told f (AddHandle file session k modes) n h = refl
 info_told f (RemoveHandle file session k) n h = refl
 info_told f (SetInfo file size stamp) n h = then_is (same f file) (size, stamp) (n.size, n.stamp) h
-
-pub one_session : (a b : Session) → (a.0 == b.0) ≡ true → a ≡ b
-one_session a b e = let q : a.0 ≡ b.0 = grind (arith, nat_tests) in ap (λ (n : ℕ). let r : Session = record { 0 = n } in r) q
 
 abbrev opened_by : Session → ℕ → Modes → Handle
 opened_by session k modes = record { session = session; h = k; modes = modes }

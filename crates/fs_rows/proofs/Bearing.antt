@@ -6,6 +6,7 @@ use Rattle.std.specs.Cmp.Lexicographic.{same_text}
 use Rattle.std.specs.List.{list_any, cons_option}
 use Rattle.std.proofs.lemmas.List.Folds.{list_any-append}
 use Rattle.std.proofs.lemmas.Bool.{and_right}
+use Rattle.std.proofs.Math.Bool.{or-false}
 use Rattle.fs_ident.specs.declared.actor.Session.{Session}
 use Rattle.fs_ident.specs.Ident.{child, same}
 use Rattle.fs_ident.specs.In.{In}
@@ -61,10 +62,7 @@ under_append k ms ns os h = list_any-append (λ b. b == k) ms os ∙ ap (λ b. b
 
 -- with several rows more, the numbers are those that were borne and those of their files
 pub bears-with_rows : (dir : List ℕ) (k : ℕ) (more rows : List Row) → list_any (λ b. b == k) (borne_numbers dir (with_rows more rows)) ≡ list_any (λ b. b == k) (borne_numbers dir rows ++ borne_numbers dir more)
-bears-with_rows dir k [] rows = sym (list_any-append (λ b. b == k) (borne_numbers dir rows) [] ∙ alone (bears k (borne_numbers dir rows))) where
-  alone : (b : Bool) → (b || false) ≡ b
-  alone true = refl
-  alone false = refl
+bears-with_rows dir k [] rows = sym (list_any-append (λ b. b == k) (borne_numbers dir rows) [] ∙ or-false (bears k (borne_numbers dir rows)))
 bears-with_rows dir k (r ∷ rs) rows =
     bears-with_rows dir k rs (with_row r rows)
     ∙ under_append k (borne_numbers dir (with_row r rows)) (borne_numbers dir (r ∷ rows)) (borne_numbers dir rs) (bears-with_row dir k r rows)

@@ -5,7 +5,8 @@ use Rattle.std.specs.Prelude.{Result, Ok, Err, OnOk, OnErr}
 use Rattle.std.specs.List.{list_any}
 use Rattle.fs_ident.specs.declared.memory.Memory.{Memory}
 use Rattle.fs_ident.specs.In.{In}
-use Rattle.fs_ident.proofs.Booleans.{both, neither}
+use Rattle.fs_ident.proofs.Booleans.{both, neither, and_regroup}
+use Rattle.fs_ident.proofs.Standing.{none_any}
 use Rattle.fs_field.specs.Conflict.{plain_conflict}
 use Rattle.fs_field.specs.Field.{tells_no_mode}
 use Rattle.fs_field.specs.declared.row.Row.{Row}
@@ -22,12 +23,6 @@ passed true true s = refl
 passed true false s = refl
 passed false r s = refl
 
-regroup : (a b c d : Bool) → ((a && b) && (c && d)) ≡ ((a && c) && (b && d))
-regroup true true c d = refl
-regroup true false true d = refl
-regroup true false false d = refl
-regroup false b c d = refl
-
 regroup_last : (a b c d : Bool) → c ≡ d → (a && (b && c)) ≡ ((a && b) && d)
 regroup_last true b c d e = ap (λ x. b && x) e
 regroup_last false b c d e = refl
@@ -37,21 +32,21 @@ new_more x m xs rows =
     ap (λ b. not b && is_new xs m) (any_put (has_no m.no) (λ r. no_before x.no r.no) x rows)
     ∙ passed (has_no m.no x) (list_any (has_no m.no) rows) (list_any (has_no m.no) xs)
 
--- none of these conflicts with the row
-abbrev free : List Row → Row → Bool
-free rows m = not (list_any (plain_conflict m) rows)
+-- none of these conflicts with the row, plainly
+abbrev pub plainly_free : List Row → Row → Bool
+plainly_free rows m = not (list_any (plain_conflict m) rows)
 
-free_more : (x m : Row) (xs rows : List Row) → (free (with_row x rows) m && free xs m) ≡ (free rows m && free (x ∷ xs) m)
+free_more : (x m : Row) (xs rows : List Row) → (plainly_free (with_row x rows) m && plainly_free xs m) ≡ (plainly_free rows m && plainly_free (x ∷ xs) m)
 free_more x m xs rows =
-    ap (λ b. not b && free xs m) (any_put (plain_conflict m) (λ r. no_before x.no r.no) x rows)
+    ap (λ b. not b && plainly_free xs m) (any_put (plain_conflict m) (λ r. no_before x.no r.no) x rows)
     ∙ passed (plain_conflict m x) (list_any (plain_conflict m) rows) (list_any (plain_conflict m) xs)
 
 beside_more : (x m : Row) (xs rows : List Row) → (stands_beside (with_row x rows) m && stands_beside xs m) ≡ (stands_beside rows m && stands_beside (x ∷ xs) m)
 beside_more x m xs rows =
-    regroup (is_new (with_row x rows) m) (free (with_row x rows) m) (is_new xs m) (free xs m)
-    ∙ ap (λ b. b && (free (with_row x rows) m && free xs m)) (new_more x m xs rows)
+    and_regroup (is_new (with_row x rows) m) (plainly_free (with_row x rows) m) (is_new xs m) (plainly_free xs m)
+    ∙ ap (λ b. b && (plainly_free (with_row x rows) m && plainly_free xs m)) (new_more x m xs rows)
     ∙ ap (λ b. (is_new rows m && is_new (x ∷ xs) m) && b) (free_more x m xs rows)
-    ∙ regroup (is_new rows m) (is_new (x ∷ xs) m) (free rows m) (free (x ∷ xs) m)
+    ∙ and_regroup (is_new rows m) (is_new (x ∷ xs) m) (plainly_free rows m) (plainly_free (x ∷ xs) m)
 
 -- rows fit where those before the last do, and it stands beside all
 pub fits_append : (rows ms : List Row) (m : Row) → fits rows (ms ++ m ∷ []) ≡ (fits rows ms && (stands_beside rows m && stands_beside ms m))
@@ -67,23 +62,16 @@ are_new_append rows (x ∷ xs) m =
     ap (λ b. is_new rows x && b) (are_new_append (with_row x rows) xs m)
     ∙ regroup_last (is_new rows x) (are_new (with_row x rows) xs) (is_new (with_row x rows) m && is_new xs m) (is_new rows m && is_new (x ∷ xs) m) (new_more x m xs rows)
 
--- where none passes, each does not
-pub none_does : {X : Type 0} (test : X → Bool) (xs : List X) → list_any test xs ≡ false → (x : X) → In x xs → test x ≡ false
-none_does test [] h x i = absurd i
-none_does test (y ∷ ys) h x i =
-    let q : (test y ≡ false) × (list_any test ys ≡ false) = neither (test y) (list_any test ys) h in
-    elim i [ inl e ↦ ap test e ∙ q.0 | inr j ↦ none_does test ys q.1 x j ]
-
 -- rows that fit leave a table
 pub came_table : (rows more : List Row) → IsTable rows → are_off_modes more ≡ true → fits rows more ≡ true → IsTable (with_rows more rows)
 came_table rows [] t off fit = t
 came_table rows (m ∷ ms) t off fit =
     let o : (tells_no_mode m.field ≡ true) × (are_off_modes ms ≡ true) = both (tells_no_mode m.field) (are_off_modes ms) off in
     let f : (stands_beside rows m ≡ true) × (fits (with_row m rows) ms ≡ true) = both (stands_beside rows m) (fits (with_row m rows) ms) fit in
-    let b : (is_new rows m ≡ true) × (free rows m ≡ true) = both (is_new rows m) (free rows m) f.0 in
+    let b : (is_new rows m ≡ true) × (plainly_free rows m ≡ true) = both (is_new rows m) (plainly_free rows m) f.0 in
     let new : list_any (has_no m.no) rows ≡ false = not-true (list_any (has_no m.no) rows) b.0 in
     let quiet : list_any (plain_conflict m) rows ≡ false = not-true (list_any (plain_conflict m) rows) b.1 in
-    came_table (with_row m rows) ms (put_table m rows new o.0 (none_does (plain_conflict m) rows quiet) t) o.1 f.1
+    came_table (with_row m rows) ms (put_table m rows new o.0 (none_any (plain_conflict m) rows quiet) t) o.1 f.1
 
 pub joined_table : (result : Result (Unit {0}) Memory) (old new more : List Row) → OnOk result (new ≡ with_rows more old) → OnErr result (new ≡ old) → IsTable old → are_off_modes more ≡ true → fits old more ≡ true → IsTable new
 joined_table (Ok u) old new more p q t off fit = rw p (came_table old more t off fit)

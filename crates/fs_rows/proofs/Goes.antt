@@ -5,16 +5,13 @@ use Rattle.std.proofs.lemmas.Bool.Decides.{nat_tests}
 use Rattle.std.specs.Prelude.{Option, Some, None, is_some}
 use Rattle.std.specs.List.{filter}
 use Rattle.std.specs.Ordering.{nat_cmp, is_lt, ordering_then}
+use Rattle.std.proofs.Math.Bool.{or-true}
 use Rattle.fs_ident.specs.Ordered.{Keyed}
 use Rattle.fs_ident.specs.declared.actor.TxnNo.{TxnNo}
 use Rattle.fs_field.specs.declared.row.Row.{Row}
 use Rattle.fs_field.specs.Table.{is_live}
 use Rattle.fs_map.specs.Map.{Owners}
 use Rattle.fs_rows.specs.Moving.{is_on_given, rows_given, txn_before, lesser, least_of, lock_below, locked_in}
-
-either : (b : Bool) → (b || true) ≡ true
-either true = refl
-either false = refl
 
 lives : (until : ℕ) → nat_lt 0 (until + 1) ≡ true
 lives until = grind (arith, nat_tests)
@@ -24,7 +21,7 @@ pub all_live : (rows : List Row) → filter (is_live 0 1) rows ≡ rows
 all_live [] = refl
 all_live (r ∷ rs) =
     ap (λ b. cond (is_some r.lock || b) (r ∷ filter (is_live 0 1) rs) (filter (is_live 0 1) rs)) (lives r.until)
-    ∙ ap (λ b. cond b (r ∷ filter (is_live 0 1) rs) (filter (is_live 0 1) rs)) (either (is_some r.lock))
+    ∙ ap (λ b. cond b (r ∷ filter (is_live 0 1) rs) (filter (is_live 0 1) rs)) (or-true (is_some r.lock))
     ∙ ap (λ zs. r ∷ zs) (all_live rs)
 
 given_by : (b : Bool) (prefix : List ℕ) (given : Keyed Bool) (r : Row) (rs : List Row) → rows_given prefix given (cond b (r ∷ rs) rs) ≡ cond (b && is_on_given prefix given r) (r ∷ rows_given prefix given rs) (rows_given prefix given rs)

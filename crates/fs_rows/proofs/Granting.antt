@@ -3,6 +3,7 @@ use Rattle.std.proofs.Common.{◌≡◌, ◌==◌, not, ◌&&◌, Bool, true, fa
 use Rattle.std.specs.Prelude.{Option, Some, None, is_some}
 use Rattle.std.specs.Cmp.{nat_eq_equiv}
 use Rattle.std.specs.List.{find}
+use Rattle.std.proofs.Math.Bool.{and-false}
 use Rattle.fs_ident.specs.declared.actor.TxnNo.{TxnNo}
 use Rattle.fs_ident.specs.declared.actor.Session.{Session}
 use Rattle.fs_ident.specs.In.{In}
@@ -17,10 +18,6 @@ use Rattle.fs_field.specs.Field.{same_field}
 use Rattle.fs_field.specs.Table.{no_before, with_row, lock_on}
 use Rattle.fs_rows.specs.Answer.{answer_by, answer}
 use Rattle.fs_rows.specs.Granted.{with_rows}
-
-never : (x : Bool) → (x && false) ≡ false
-never true = refl
-never false = refl
 
 -- a row that does not pass is not found
 pub find_put : {X : Type 0} (test first : X → Bool) (x : X) (xs : List X) → test x ≡ false → find test (put_before first x xs) ≡ find test xs
@@ -47,7 +44,7 @@ own_goes r s g l own = ap (λ (z : Session). not (s.0 == z.0) && meets g l r.fie
 -- what a session is answered does not change by its own new rows
 pub same_answer : (r : Row) (s : Session) (rows : List Row) (g : Field) (l : LeaseKind) → r.session ≡ s → r.lock ≡ None → answer (with_row r rows) s g l ≡ answer rows s g l
 same_answer r s rows g l own free =
-    ap (λ o. answer_by o (find (stands_against s g l) (with_row r rows))) (lock_put g (λ x. no_before r.no x.no) r rows (ap (λ o. same_field r.field g && is_some o) free ∙ never (same_field r.field g)))
+    ap (λ o. answer_by o (find (stands_against s g l) (with_row r rows))) (lock_put g (λ x. no_before r.no x.no) r rows (ap (λ o. same_field r.field g && is_some o) free ∙ and-false (same_field r.field g)))
     ∙ ap (answer_by (lock_on g rows)) (find_put (stands_against s g l) (λ x. no_before r.no x.no) r rows (own_goes r s g l own))
 
 given_alone : (lock : Option TxnNo) (against : Option Row) (told : Option Bool) → answer_by lock against ≡ Granted told → against ≡ None

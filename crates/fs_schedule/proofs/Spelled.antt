@@ -23,6 +23,7 @@ use Rattle.fs_model.specs.declared.op.Op.{Op}
 use Rattle.fs_model.specs.declared.op.Op.TheVariants as op
 use Rattle.fs_ident.specs.declared.actor.Peer.TheVariants.{Server, Client}
 use Rattle.fs_ident.proofs.Booleans.{both}
+use Rattle.fs_ident.proofs.Options.{cond_none}
 use Rattle.fs_field.specs.declared.field.Field.{Field}
 use Rattle.fs_field.specs.declared.field.Field.TheVariants as field
 use Rattle.fs_schedule.specs.Words.{Word, Bare, Quoted, line_text}
@@ -105,14 +106,10 @@ not_a_quote x h = elim (x == 34) as (λ t. (x == 34) ≡ t → t ≡ false) [
   | false ↦ λ t. refl
 ] refl
 
-no_position : (b : Bool) (i : ℕ) (rest : Option ℕ) → cond b (Some i) rest ≡ None → (b ≡ false) × (rest ≡ None)
-no_position true i rest e = absurd (cc)
-no_position false i rest e = (refl, e)
-
 name_lacks : (i : ℕ) (xs : List ℕ) → position_from (λ b. not (is_name_byte b)) i xs ≡ None → Lacks 34 xs
 name_lacks i [] e = tt
 name_lacks i (x ∷ xs) e =
-    let p = no_position (not (is_name_byte x)) i (position_from (λ b. not (is_name_byte b)) (i + 1) xs) e in
+    let p = cond_none (not (is_name_byte x)) i (position_from (λ b. not (is_name_byte b)) (i + 1) xs) e in
     (not_a_quote x p.0, name_lacks (i + 1) xs p.1)
 
 pub fits_name : (name : List ℕ) → IsName name → FitsWord (Quoted name)

@@ -2,9 +2,11 @@
 use Rattle.std.proofs.Common.{◌≡◌, ℕ, ◌+◌, ◌≤◌, ◌==◌, not, ◌&&◌, true, false, List, [], ◌∷◌, cond, refl, sym, ap, subst}
 use Rattle.std.proofs.lemmas.Bool.{not-true}
 use Rattle.std.specs.Prelude.{Option, Some, None, is_some}
+use Rattle.fs_parcel.proofs.Installed.{empty_is}
 use Rattle.fs_ident.specs.declared.actor.Peer.TheVariants.{Client as OfSession}
 use Rattle.fs_ident.specs.declared.actor.Session.{Session}
 use Rattle.fs_ident.proofs.Booleans.{both}
+use Rattle.fs_ident.proofs.Options.{not_some}
 use Rattle.fs_field.specs.declared.asked.Need.{Need}
 use Rattle.fs_field.specs.declared.asked.Need.TheVariants as need
 use Rattle.fs_model.specs.Asking.{may_ask}
@@ -41,15 +43,10 @@ use Rattle.fs_serial.proofs.ReplyAll.{replied_settled}
 use Rattle.fs_serial.proofs.ReplySeat.{seat_reply}
 use Rattle.fs_serial.proofs.Seats.{Seat, few}
 use Rattle.fs_serial.proofs.Sends.{AreOfGivenKinds, seat_asks}
-use Rattle.fs_serial.proofs.Admit.{not_some}
 
 -- what a caller asks for is plain
 pub called_plainly : (o : Op) → is_called o ≡ true → (tells_its_effects o ≡ true) × (may_ask o ≡ true)
 called_plainly o h = both (tells_its_effects o) (may_ask o) h
-
-empty_is : {X : Type 0} (xs : List X) → is_empty xs ≡ true → xs ≡ []
-empty_is [] h = refl
-empty_is (x ∷ xs) h = absurd (cc)
 
 -- what an item more does to the servers' parts
 pub record ServersMoved (s t : Sight) : Type 0 where

@@ -5,7 +5,8 @@ use Rattle.fs_ident.specs.In.{In}
 use Rattle.fs_ident.specs.declared.actor.Peer.{Peer}
 use Rattle.fs_ident.specs.declared.actor.Peer.TheVariants.{Client as OfSession}
 use Rattle.fs_ident.specs.declared.actor.Session.{Session}
-use Rattle.fs_record.proofs.ValueChanges.{one_session}
+use Rattle.fs_ident.proofs.Standing.{In-append, In-mapped}
+use Rattle.fs_ident.proofs.Same.{one_session}
 use Rattle.fs_msg.specs.declared.answer.Answer.{Answer}
 use Rattle.fs_msg.specs.declared.answer.Answer.TheVariants.{Recall}
 use Rattle.fs_msg.specs.declared.client_msg.ClientMsg.{ClientMsg}
@@ -16,7 +17,6 @@ use Rattle.fs_client.specs.declared.state.Client.{Client}
 use Rattle.fs_serial.specs.Cluster.{Lines, with_answer, with_sent}
 use Rattle.fs_serial.specs.Exchange.{OneExchange, asked_server, due, is_recall, server_of_question}
 use Rattle.fs_serial.specs.Seen.{IsAddressed}
-use Rattle.fs_serial.proofs.Facts.{In-append, In-mapped}
 use Rattle.fs_serial.proofs.Sending.{IsRecallTo}
 use Rattle.fs_serial.proofs.Traffic.{messages}
 

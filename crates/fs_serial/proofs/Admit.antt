@@ -6,7 +6,8 @@ use mathlib.Core.Path.{fun_ext}
 use Rattle.fs_ident.specs.In.{In}
 use Rattle.fs_ident.specs.Ident.{child}
 use Rattle.fs_ident.specs.declared.actor.Session.{Session}
-use Rattle.fs_ident.proofs.Standing.{In-map}
+use Rattle.fs_ident.proofs.Standing.{In-map, In-mapped}
+use Rattle.fs_ident.proofs.Options.{not_some}
 use Rattle.fs_field.specs.declared.field.Field.{Field}
 use Rattle.fs_field.specs.declared.field.Field.TheVariants.{Life}
 use Rattle.fs_field.specs.declared.row.Row.{Row}
@@ -37,7 +38,7 @@ use Rattle.fs_serial.specs.Settled.{Lease, lease_after, effects_in}
 use Rattle.fs_serial.specs.Sight.{Counts, Sight, sight_of}
 use Rattle.fs_serial.proofs.Answered.{answered, leads_there, sound_there, no_reap}
 use Rattle.fs_serial.proofs.Births.{life_after, makes_there, names_made}
-use Rattle.fs_serial.proofs.Facts.{In-mapped, each_image, items-own, serial_push, session_itself}
+use Rattle.fs_serial.proofs.Facts.{each_image, items-own, serial_push, session_itself}
 
 -- ## Leases on new files
 
@@ -45,10 +46,6 @@ use Rattle.fs_serial.proofs.Facts.{In-mapped, each_image, items-own, serial_push
 pub stays_below : (b : Bool) (below : Option (List ℕ)) (dir : List ℕ) → cond b None below ≡ Some dir → (b ≡ false) × (below ≡ Some dir)
 stays_below true below dir h = absurd (cc)
 stays_below false below dir h = (refl, h)
-
-pub not_some : {X : Type 0} (o : Option X) → is_some o ≡ false → o ≡ None
-not_some None h = refl
-not_some (Some x) h = absurd (cc)
 
 -- a lease on a file that the entry does not make stays fresh
 fresh_after : (by : Session) (e : Entry) (l : Lease) (dir : List ℕ) → list_any (makes (file_of l.field)) (effects_in by e) ≡ false → IsFresh dir l → IsFresh dir (lease_after by (effects_in by e) l)

@@ -10,7 +10,8 @@ use Rattle.fs_ident.specs.declared.actor.Session.{Session}
 use Rattle.fs_ident.specs.declared.kind.Kind.{Kind}
 use Rattle.fs_ident.specs.declared.kind.Kind.TheVariants.{File, Dir}
 use Rattle.fs_ident.proofs.Booleans.{both, joined, second}
-use Rattle.fs_ident.proofs.Standing.{In-filter}
+use Rattle.fs_ident.proofs.Standing.{In-filter, any_In}
+use Rattle.fs_ident.proofs.Same.{one_session, same_is, same_self}
 use Rattle.fs_modes.specs.declared.modes.Mode.{Mode}
 use Rattle.fs_modes.specs.declared.modes.Mode.TheVariants.{AccR, AccW, AccD, DenyR, DenyW, DenyD}
 use Rattle.fs_modes.specs.declared.modes.Modes.{Modes}
@@ -36,14 +37,13 @@ use Rattle.fs_model.specs.declared.reply.Reply.TheVariants as reply
 use Rattle.fs_moderows.specs.Answer.{has_mode}
 use Rattle.fs_moderows.specs.Kept.{ChangesByRows}
 use Rattle.fs_moderows.proofs.Changes.{changes_kept}
-use Rattle.fs_moderows.proofs.Witnesses.{any_In, In_any, In_filtered, fixed_row, In_none}
+use Rattle.fs_moderows.proofs.Witnesses.{In_any, In_filtered, fixed_row, In_none}
 use Rattle.fs_msg.specs.declared.entry.Entry.{Entry}
 use Rattle.fs_record.specs.Applied.{records_after_all}
 use Rattle.fs_record.specs.Effects.{effects_of}
 use Rattle.fs_record.specs.Records.{RecordMap, AreRecords, node_of, nodes_of}
 use Rattle.fs_record.specs.ValueOf.{value_of, own_of, handles_of, selves_in}
 use Rattle.fs_record.proofs.NodeMaps.{node_there}
-use Rattle.fs_record.proofs.ValueChanges.{one_session}
 use Rattle.fs_server.specs.Ships.{with_entry}
 use Rattle.fs_server.specs.declared.state.Server.{Server}
 use Rattle.fs_view.specs.Laws.{item_meets}
@@ -57,7 +57,6 @@ use Rattle.fs_serial.specs.Pending.{AllStand, IsAnswer, IsEntry, Stands, HasUse,
 use Rattle.fs_serial.specs.Rows.{PromisesKept}
 use Rattle.fs_serial.specs.Settled.{Lease, Settled}
 use Rattle.fs_serial.proofs.Answered.{answered}
-use Rattle.fs_serial.proofs.Facts.{same_is, same_self}
 use Rattle.fs_serial.proofs.Modes.{has_all, mode_by_own}
 
 -- ## Modes that are turned on and off

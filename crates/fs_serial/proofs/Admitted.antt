@@ -5,6 +5,7 @@ use Rattle.std.specs.List.{list_all}
 use Rattle.fs_ident.specs.In.{In}
 use Rattle.fs_ident.specs.declared.actor.Session.{Session}
 use Rattle.fs_ident.proofs.Booleans.{both}
+use Rattle.fs_ident.proofs.Standing.{In-front, In-behind}
 use Rattle.fs_msg.specs.declared.client_msg.ClientMsg.TheVariants.{Ship}
 use Rattle.fs_msg.specs.declared.entry.Entry.{Entry}
 use Rattle.fs_msg.specs.Home.{home_of}
@@ -17,7 +18,6 @@ use Rattle.fs_server.specs.declared.event.ServerEvent.TheVariants.{FromClient}
 use Rattle.fs_server.specs.declared.state.Server.{Server}
 use Rattle.fs_server.proofs.OneByOne.{each_entry, entry_taken}
 use Rattle.fs_serial.specs.Steps.{AllStand}
-use Rattle.fs_serial.proofs.Facts.{In-behind, In-front}
 
 -- what was admitted stays so
 still_admitted : (by : Session) (es : List Entry) (s : Server) (admitted : List Item) (i : Item) → In i admitted → In i (ship_from by es s admitted).admitted

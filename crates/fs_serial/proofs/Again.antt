@@ -2,7 +2,7 @@
 use Rattle.std.proofs.Common.{◌≡◌, ℕ, ◌==◌, Bool, true, false, List, refl, ap, subst, cond}
 use mathlib.Core.Path.{fun_ext}
 use Rattle.fs_ident.specs.declared.actor.Session.{Session}
-use Rattle.fs_record.proofs.ValueChanges.{one_session}
+use Rattle.fs_ident.proofs.Same.{one_session}
 use Rattle.fs_msg.specs.declared.item.Item.{Item}
 use Rattle.fs_serial.specs.Parts.{with_client}
 use Rattle.fs_serial.specs.Settled.{Settled}

@@ -4,6 +4,7 @@ use Rattle.std.specs.Prelude.{Some, slice_get, slice_set}
 use Rattle.std.specs.List.{find}
 use Rattle.fs_ident.specs.In.{In}
 use Rattle.fs_ident.proofs.Passing.{found}
+use Rattle.fs_ident.proofs.Standing.{In-got}
 use Rattle.fs_msg.specs.declared.peer_msg.PeerMsg.TheVariants as peer
 use Rattle.fs_msg.specs.declared.server_note.ServerNote.TheVariants as note
 use Rattle.fs_record.specs.declared.parcel.Parcel.{Parcel}
@@ -27,7 +28,7 @@ use Rattle.fs_serial.proofs.OnePlaces.{one_record}
 use Rattle.fs_serial.proofs.ParcelFits.{flying_fits}
 use Rattle.fs_serial.proofs.Parted.{IsInPlace, one_whole, record_parted, record_whole, row_parted, row_whole, times_same}
 use Rattle.fs_serial.proofs.Replaced.{replaced, replaced_places}
-use Rattle.fs_serial.proofs.SetAt.{In_either, In_got, In_kept, In_new, In_set, In_without}
+use Rattle.fs_serial.proofs.SetAt.{In_either, In_kept, In_new, In_set, In_without}
 use Rattle.fs_serial.proofs.Times.{all_once}
 
 module _ (k from : ℕ) (c : Cluster) (s : Server) (p : Parcel) (at : slice_get c.servers k ≡ Some s) (h : PlacesHold c) (way : find (is_between from k) c.flying ≡ Some (record { from = from; to = k; parcel = p })) where
@@ -35,7 +36,7 @@ module _ (k from : ℕ) (c : Cluster) (s : Server) (p : Parcel) (at : slice_get 
   comes = record { from = from; to = k; parcel = p }
 
   here : In s c.servers
-  here = In_got c.servers k s at
+  here = In-got c.servers k s at
 
   flies : In comes c.flying
   flies = (found (is_between from k) c.flying comes way).0

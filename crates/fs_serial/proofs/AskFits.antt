@@ -8,6 +8,8 @@ use Rattle.fs_ident.specs.In.{In}
 use Rattle.fs_ident.specs.declared.actor.LeaseNo.{LeaseNo}
 use Rattle.fs_ident.specs.declared.actor.Session.{Session}
 use Rattle.fs_ident.proofs.Booleans.{joined}
+use Rattle.fs_ident.proofs.Standing.{In-append}
+use Rattle.fs_ident.proofs.Same.{unequal}
 use Rattle.fs_field.specs.declared.field.Field.{Field}
 use Rattle.fs_field.specs.declared.field.Field.TheVariants.{Life, Child, Names, Info, Own, SelfW, Other}
 use Rattle.fs_field.specs.declared.lease_kind.LeaseKind.{LeaseKind}
@@ -28,7 +30,6 @@ use Rattle.fs_client.specs.Answers.{grants_fit, is_new, is_of_item, rest_fits}
 use Rattle.fs_view.specs.declared.kept.Kept.{Kept}
 use Rattle.fs_view.specs.Kept.{has_number, number_of}
 use Rattle.fs_serial.proofs.Elsewhere.{not_all}
-use Rattle.fs_serial.proofs.Facts.{In-append}
 use Rattle.fs_serial.proofs.OneLease.{same_field_self, same_kind_self}
 
 -- the value of a field is one of its kind
@@ -50,9 +51,6 @@ KeptUpTo me n kept = (k : Kept) → In k kept → (number_of k.standing).server 
 
 abbrev pub GrantsUpTo : ℕ → List Grant → Type 0
 GrantsUpTo n grants = (g : Grant) → In g grants → g.no.count ≤ n
-
-unequal : (a b : ℕ) → a < b → (a == b) ≡ false
-unequal a b h = grind (arith, nat_tests)
 
 other_number : (a b : LeaseNo) → (a.server ≡ b.server → a.count < b.count) → same_no a b ≡ false
 other_number a b h = by (a.server == b.server) refl

@@ -4,6 +4,7 @@ use Rattle.std.specs.Prelude.{Option, None}
 use Rattle.std.proofs.lemmas.List.{map-append}
 use Rattle.fs_ident.specs.In.{In}
 use Rattle.fs_ident.specs.declared.actor.Session.{Session}
+use Rattle.fs_ident.proofs.Standing.{In-append, In-put_here}
 use Rattle.fs_field.specs.declared.asked.Asked.TheVariants.{Granted}
 use Rattle.fs_field.specs.declared.field.Field.{Field}
 use Rattle.fs_field.specs.declared.lease_kind.LeaseKind.{LeaseKind}
@@ -21,9 +22,8 @@ use Rattle.fs_serial.specs.Settled.{Settled, granted, with_leases}
 use Rattle.fs_serial.specs.Sight.{Counts, sight_of}
 use Rattle.fs_serial.specs.World.{Ends, GoesOn}
 use Rattle.fs_serial.proofs.Again.{goes_again}
-use Rattle.fs_serial.proofs.Facts.{In-append}
 use Rattle.fs_serial.proofs.GrantItem.{item_granted}
-use Rattle.fs_serial.proofs.Leased.{In-put_here, In-put_still}
+use Rattle.fs_serial.proofs.Leased.{In-put_still}
 
 -- the client with the leases that it is given so far
 abbrev pub given_so_far : List Grant → Settled → Settled

@@ -5,6 +5,7 @@ use Rattle.fs_ident.specs.Ident.{child}
 use Rattle.fs_ident.specs.In.{In}
 use Rattle.fs_ident.specs.declared.actor.Session.{Session}
 use Rattle.fs_ident.proofs.Booleans.{joined}
+use Rattle.fs_ident.proofs.Same.{same_self}
 use Rattle.fs_field.specs.declared.field.Field.{Field}
 use Rattle.fs_field.specs.declared.field.Field.TheVariants.{Life}
 use Rattle.fs_field.specs.declared.lease_kind.LeaseKind.{LeaseKind}
@@ -35,7 +36,6 @@ use Rattle.fs_serial.proofs.AskFits.{GrantsUpTo, IsGivenFor, KeptUpTo, given_for
 use Rattle.fs_serial.proofs.AskLoop.{IsAsking, asked_still, given_so_far}
 use Rattle.fs_serial.proofs.Children.{parent_child}
 use Rattle.fs_serial.proofs.Counting.{count_here, given_by}
-use Rattle.fs_serial.proofs.Facts.{same_self}
 use Rattle.fs_serial.proofs.Gift.{gift_goes, told_with}
 use Rattle.fs_serial.proofs.Knowing.{In-filter_map}
 use Rattle.fs_serial.proofs.OneLease.{same_field_self}

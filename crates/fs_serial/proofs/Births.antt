@@ -6,6 +6,7 @@ use Rattle.fs_ident.specs.Ident.{same}
 use Rattle.fs_ident.specs.In.{In}
 use Rattle.fs_ident.specs.declared.actor.Session.{Session}
 use Rattle.fs_ident.specs.declared.kind.Kind.{Kind}
+use Rattle.fs_ident.proofs.Same.{same_is}
 use Rattle.fs_field.specs.declared.field.Field.TheVariants.{Life}
 use Rattle.fs_field.specs.declared.used.Use.{Use}
 use Rattle.fs_field.specs.declared.value.Value.TheVariants as value
@@ -20,7 +21,7 @@ use Rattle.fs_view.specs.View.{value_after_all}
 use Rattle.fs_serial.specs.Fresh.{made_by, or_else}
 use Rattle.fs_serial.specs.Pending.{NamesItsFile, HasReserved, named_by}
 use Rattle.fs_serial.specs.Settled.{Lease}
-use Rattle.fs_serial.proofs.Facts.{same_is, same_symm}
+use Rattle.fs_serial.proofs.Facts.{same_symm}
 
 -- ## What the effects say
 

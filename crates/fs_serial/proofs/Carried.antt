@@ -2,17 +2,19 @@
 use Rattle.std.proofs.Common.{◌≡◌, ℕ, zero, suc, ◌==◌, ◌&&◌, not, true, false, List, [], ◌∷◌, ◌++◌, refl, sym, ap, ◌∙◌, subst, inl, inr, arith, append_assoc, length-append}
 use Rattle.std.specs.Prelude.{Option, Some, None, nat_le}
 use Rattle.std.specs.List.{list_any}
+use Rattle.std.proofs.lemmas.Bool.{not-true}
 use Rattle.fs_ident.specs.In.{In}
 use Rattle.fs_ident.specs.declared.actor.LeaseNo.{LeaseNo}
 use Rattle.fs_ident.specs.declared.actor.Session.{Session}
 use Rattle.fs_ident.proofs.Booleans.{both, joined}
+use Rattle.fs_ident.proofs.Standing.{none_any}
 use Rattle.fs_field.specs.declared.field.Field.{Field}
 use Rattle.fs_field.specs.declared.field.Field.TheVariants.{Life}
 use Rattle.fs_field.specs.declared.lease_kind.LeaseKind.{LeaseKind}
 use Rattle.fs_field.specs.declared.lease_kind.LeaseKind.TheVariants.{Exclusive}
 use Rattle.fs_field.specs.declared.row.Row.{Row}
 use Rattle.fs_field.specs.Table.{same_no}
-use Rattle.fs_moderows.proofs.Witnesses.{none_In, not_true, In_none}
+use Rattle.fs_moderows.proofs.Witnesses.{In_none}
 use Rattle.fs_msg.specs.declared.answer.Answer.{Answer}
 use Rattle.fs_msg.specs.declared.answer.Answer.TheVariants.{Granted, Renewed, Released, Shipped}
 use Rattle.fs_msg.specs.declared.answer.Grant.{Grant}
@@ -42,12 +44,12 @@ abbrev pub FewerNumbers : List Kept → List Kept → Type 0
 FewerNumbers old new = (k : Kept) → In k new → IsNumbered old (number_of k.standing)
 
 still_none : (old new : List Kept) (n : LeaseNo) → FewerNumbers old new → list_any (has_number n) old ≡ false → list_any (has_number n) new ≡ false
-still_none old new n fewer h = In_none (has_number n) new (λ k i. let j = fewer k i in ap (λ m. same_no m n) (sym j.number) ∙ none_In (has_number n) old h j.kept j.among)
+still_none old new n fewer h = In_none (has_number n) new (λ k i. let j = fewer k i in ap (λ m. same_no m n) (sym j.number) ∙ none_any (has_number n) old h j.kept j.among)
 
 new_still : (old new : List Kept) (before : List Grant) (g : Grant) → FewerNumbers old new → is_new old before g ≡ true → is_new new before g ≡ true
 new_still old new before g fewer h =
     let q = both (not (list_any (has_number g.no) old)) (not (list_any (λ (b : Grant). same_no b.no g.no) before)) h in
-    joined _ _ (ap not (still_none old new g.no fewer (not_true (list_any (has_number g.no) old) q.0))) q.1
+    joined _ _ (ap not (still_none old new g.no fewer (not-true (list_any (has_number g.no) old) q.0))) q.1
 
 rest_still : (old new : List Kept) (fresh : Option (List ℕ)) (before gs : List Grant) → FewerNumbers old new → rest_fits fresh old before gs ≡ true → rest_fits fresh new before gs ≡ true
 rest_still old new None before [] fewer h = refl

@@ -1,6 +1,7 @@
 -- Whatever happens, in whatever order, all parts hold, and the journal is one serial run.
 use Rattle.std.proofs.Common.{◌≡◌, ℕ, ◌+◌, ◌≤◌, max, List, [], ◌∷◌, ◌++◌, length, map, append-nil, refl, sym, subst, arith}
 use Rattle.std.specs.Prelude.{Option, Some, None, slice_get}
+use Rattle.fs_ident.proofs.Standing.{In-got}
 use Rattle.fs_msg.specs.declared.item.Item.{Item}
 use Rattle.fs_server.specs.Ships.{item_of}
 use Rattle.fs_server.specs.declared.event.ServerEvent.{ServerEvent}
@@ -14,7 +15,6 @@ use Rattle.fs_serial.proofs.ClusterClients.{client_event, some_server}
 use Rattle.fs_serial.proofs.ClusterSteps.{server_keeps}
 use Rattle.fs_serial.proofs.FirstCluster.{first_all}
 use Rattle.fs_serial.proofs.Rising.{world_later}
-use Rattle.fs_serial.proofs.SetAt.{In_got}
 
 pub cluster_later : (skew greatest later : ℕ) (c : Cluster) → greatest ≤ later → ClusterHolds skew greatest c → ClusterHolds skew later c
 cluster_later skew greatest later c rises h = record {
@@ -30,7 +30,7 @@ at_server : (skew greatest now k : ℕ) (e : ServerEvent) (c : Cluster) (o : Opt
 at_server skew greatest now k e c None at h there =
     subst (λ (o : Option Server). ClusterHolds skew (max greatest now) (after_server_at o now k e c)) (sym at) (cluster_later skew greatest (max greatest now) c (omega arith) h)
 at_server skew greatest now k e c (Some s) at h there =
-    let clock : s.last ≤ greatest = (h.parts s (In_got c.servers k s at)).clock in
+    let clock : s.last ≤ greatest = (h.parts s (In-got c.servers k s at)).clock in
     server_keeps skew (max greatest now) now k e s c at (omega arith) there (cluster_later skew greatest (max greatest now) c (omega arith) h)
 
 event_keeps : (skew greatest now : ℕ) (e : ClusterEvent) (c : Cluster) → ClusterHolds skew greatest c → CanHappen e c → greatest ≤ now + skew → ClusterHolds skew (max greatest now) (after_event now e c)

@@ -5,6 +5,8 @@ use Rattle.std.specs.Prelude.{Option, Some, None, slice_get, slice_set}
 use Rattle.fs_ident.specs.In.{In}
 use Rattle.fs_ident.specs.declared.actor.Session.{Session}
 use Rattle.fs_ident.proofs.Passing.{found}
+use Rattle.fs_ident.proofs.Standing.{In-got, In-mapped}
+use Rattle.fs_ident.proofs.Same.{one_session}
 use Rattle.fs_msg.specs.declared.client_msg.ClientMsg.{ClientMsg}
 use Rattle.fs_msg.specs.declared.peer_msg.PeerMsg.TheVariants as peer
 use Rattle.fs_msg.specs.declared.server_note.ServerNote.{ServerNote}
@@ -12,7 +14,6 @@ use Rattle.fs_msg.specs.declared.server_note.ServerNote.TheVariants as note
 use Rattle.fs_parcel.specs.Parcel.{move_refusal}
 use Rattle.fs_parcel.specs.declared.error.MoveError.{MoveError}
 use Rattle.fs_record.specs.declared.parcel.Parcel.{Parcel}
-use Rattle.fs_record.proofs.ValueChanges.{one_session}
 use Rattle.fs_server.specs.Moves.{fits_here, installed, move_at, parcel_at}
 use Rattle.fs_server.specs.Reaps.{lapsed_in, turn_over, turn_step}
 use Rattle.fs_server.specs.Server.{Stepped, begun, only_noted}
@@ -34,14 +35,13 @@ use Rattle.fs_serial.specs.World as world
 use Rattle.fs_serial.proofs.Addressing.{AreDue, addressed_still, sent_addressed}
 use Rattle.fs_serial.proofs.Arriving.{arriving_places, arriving_same, parcel_fits}
 use Rattle.fs_serial.proofs.Due.{HasAsked, event_due}
-use Rattle.fs_serial.proofs.Facts.{In-mapped}
 use Rattle.fs_serial.proofs.Lapsing.{begins, begun_at}
 use Rattle.fs_serial.proofs.Leaving.{move_places, move_same}
 use Rattle.fs_serial.proofs.LetGo.{all_let_go}
 use Rattle.fs_serial.proofs.SameStep.{IsSameStep, begun_same, turn_same}
 use Rattle.fs_serial.proofs.ServerEvents.{begun_keeps}
 use Rattle.fs_serial.proofs.ServerTurn.{turn_some_keeps}
-use Rattle.fs_serial.proofs.SetAt.{In_got, In_set, In_without, get_here, set_twice}
+use Rattle.fs_serial.proofs.SetAt.{In_set, In_without, get_here, set_twice}
 use Rattle.fs_serial.proofs.StepPlaces.{step_places}
 use Rattle.fs_serial.proofs.Traffic.{ends_sent, ends_taken, messages}
 use Rattle.fs_serial.proofs.Views.{all_views, alike_holds, count_set}
@@ -99,7 +99,7 @@ module _ (skew greatest k : ℕ) (c : Cluster) (s : Server) (at : slice_get c.se
   me = h.places.numbered k s at
 
   view : WorldHolds greatest (world_of s c)
-  view = h.parts s (In_got c.servers k s at)
+  view = h.parts s (In-got c.servers k s at)
 
   ones : (x : Session) → OneExchange (c.lines x).client (c.lines x).client.exchange (messages (c.lines x).up) (messages (c.lines x).down)
   ones x = (view.exchanges x).one
@@ -109,7 +109,7 @@ module _ (skew greatest k : ℕ) (c : Cluster) (s : Server) (at : slice_get c.se
     finish : (x : Stepped) → x ≡ event_step e s → x.server.skew ≡ s.skew → x.server.last ≡ s.last → PlacesHold (after_step k e x c) → WorldHolds greatest (world_of x.server (after_step k e x c)) → ClusterHolds skew greatest (after_step k e x c)
     finish x is same last places seen =
         let skewed : (t : Server) → In t (slice_set c.servers k x.server) → t.skew ≡ skew = λ t i. elim (In_set c.servers k x.server t i) as (λ _. t.skew ≡ skew) [
-          | inl q ↦ ap (λ (u : Server). u.skew) q ∙ same ∙ h.skewed s (In_got c.servers k s at)
+          | inl q ↦ ap (λ (u : Server). u.skew) q ∙ same ∙ h.skewed s (In-got c.servers k s at)
           | inr j ↦ h.skewed t j
         ] in
         let clocks : (t : Server) → In t (slice_set c.servers k x.server) → t.last ≤ greatest = λ t i. elim (In_set c.servers k x.server t i) as (λ _. t.last ≤ greatest) [

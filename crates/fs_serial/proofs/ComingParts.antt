@@ -4,6 +4,7 @@ use Rattle.std.specs.Prelude.{Option, Some, None, is_some}
 use Rattle.std.specs.FinMap.{get}
 use Rattle.std.specs.Cmp.{nat_eq_equiv}
 use Rattle.fs_ident.specs.In.{In}
+use Rattle.fs_ident.proofs.Standing.{In-mapped}
 use Rattle.fs_field.specs.Field.{file_of}
 use Rattle.fs_field.specs.declared.row.Row.{Row}
 use Rattle.fs_map.specs.Lists.{map_after_take}
@@ -22,7 +23,7 @@ use Rattle.fs_server.specs.declared.state.Server.{Server}
 use Rattle.fs_serial.specs.Cluster.{Cluster, Flying, parcels_of}
 use Rattle.fs_serial.specs.Places.{IsHome, PlacesHold, gives_it}
 use Rattle.fs_serial.proofs.Counted.{at_least, one_if, total}
-use Rattle.fs_serial.proofs.Facts.{In-mapped, there_is}
+use Rattle.fs_serial.proofs.Facts.{there_is}
 use Rattle.fs_serial.proofs.HeldRecords.{HasRecord, IsOneOf, put_all}
 use Rattle.fs_serial.proofs.Listed.{map_made}
 use Rattle.fs_serial.proofs.OnePlaces.{not_both, one_record, record_sent, row_sent}

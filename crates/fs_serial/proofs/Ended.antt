@@ -5,6 +5,7 @@ use Rattle.std.specs.Prelude.{◌≢◌, Option, Some, None, nat_lt}
 use Rattle.fs_ident.specs.In.{In}
 use Rattle.fs_ident.specs.declared.actor.Session.{Session}
 use Rattle.fs_ident.proofs.Passing.{found}
+use Rattle.fs_ident.proofs.Standing.{In-front}
 use Rattle.fs_field.specs.declared.row.Row.{Row}
 use Rattle.fs_field.specs.declared.used.Use.{Use}
 use Rattle.fs_map.specs.Map.{longest}
@@ -24,7 +25,6 @@ use Rattle.fs_serial.specs.Sight.{Sight, sight_of}
 use Rattle.fs_serial.specs.Refusals.{HadItsTime, HeldBackFor, IsFairNote}
 use Rattle.fs_serial.specs.Steps.{HadEnded}
 use Rattle.fs_serial.specs.World.{World, WorldHolds, settled_at}
-use Rattle.fs_serial.proofs.Facts.{In-front}
 use Rattle.fs_serial.proofs.Refusing.{use_gone}
 use Rattle.fs_serial.proofs.ServerEvents.{all_plain}
 

@@ -10,7 +10,7 @@ use Rattle.fs_ident.specs.In.{In}
 use Rattle.fs_ident.specs.Ident.{same}
 use Rattle.fs_ident.specs.declared.actor.Session.{Session}
 use Rattle.fs_ident.specs.declared.kind.Kind.{Kind}
-use Rattle.fs_ident.proofs.Standing.{In-map}
+use Rattle.fs_ident.proofs.Standing.{In-map, In-append}
 use Rattle.fs_field.specs.Field.{file_of}
 use Rattle.fs_field.specs.declared.effect.Effect.{Effect}
 use Rattle.fs_msg.specs.Journal.{IsSerialRun, item_step, may_admit}
@@ -28,25 +28,6 @@ use Rattle.fs_serial.specs.Pending.{known_with}
 
 -- ## Lists
 
-pub In-append : {X : Type 0} (x : X) (xs ys : List X) → In x (xs ++ ys) → In x xs ⊎ In x ys
-In-append x [] ys h = inr h
-In-append x (z ∷ xs) ys (inl e) = inl (inl e)
-In-append x (z ∷ xs) ys (inr h) = elim (In-append x xs ys h) as (λ _. ((x ≡ z) ⊎ In x xs) ⊎ In x ys) [ inl i ↦ inl (inr i) | inr i ↦ inr i ]
-
-pub In-front : {X : Type 0} (x : X) (xs ys : List X) → In x xs → In x (xs ++ ys)
-In-front x [] ys h = absurd h
-In-front x (z ∷ xs) ys (inl e) = inl e
-In-front x (z ∷ xs) ys (inr h) = inr (In-front x xs ys h)
-
-pub In-behind : {X : Type 0} (x : X) (xs ys : List X) → In x ys → In x (xs ++ ys)
-In-behind x [] ys h = h
-In-behind x (z ∷ xs) ys h = inr (In-behind x xs ys h)
-
-pub In-mapped : {X Y : Type 0} (f : X → Y) (x : X) (xs : List X) → In x xs → In (f x) (map f xs)
-In-mapped f x [] h = absurd h
-In-mapped f x (z ∷ xs) (inl e) = inl (ap f e)
-In-mapped f x (z ∷ xs) (inr h) = inr (In-mapped f x xs h)
-
 -- what holds of the image of each item holds of each item of the image
 pub each_image : {X Y : Type 0} (f : X → Y) (P : Y → Type 0) (xs : List X) → ((x : X) → In x xs → P (f x)) → (y : Y) → In y (map f xs) → P y
 each_image f P xs h y i = let q = In-map f y xs i in subst P (sym q.1.1) (h q.0 q.1.0)
@@ -58,25 +39,11 @@ each_more P xs new old here x i = elim (In-append x xs (new ∷ []) i) as (λ _.
   | inr j ↦ elim j as (λ _. P x) [ inl e ↦ subst P (sym e) here | inr z ↦ absurd z ]
 ]
 
-pub any-In : {X : Type 0} (test : X → Bool) (xs : List X) → list_any test xs ≡ true → (x : X) × In x xs × (test x ≡ true)
-any-In test [] h = absurd (cc)
-any-In test (y ∷ ys) h =
-    elim (test y) as (λ b. test y ≡ b → (b || list_any test ys) ≡ true → (x : _) × In x (y ∷ ys) × (test x ≡ true)) [
-      | true ↦ λ e g. (y, inl refl, e)
-      | false ↦ λ e g. let q = any-In test ys g in (q.0, inr q.1, q.2)
-    ] refl h
-
 pub there_is : {X : Type 0} (o : Option X) → is_some o ≡ true → (x : X) × (o ≡ Some x)
 there_is None h = absurd (cc)
 there_is (Some x) h = (x, refl)
 
 -- ## Identifiers
-
-pub same_is : (a b : List ℕ) → same a b ≡ true → a ≡ b
-same_is a b h = same_text a b (sym h)
-
-pub same_self : (a : List ℕ) → same a a ≡ true
-same_self a = nat_list_eq_equiv.refl a
 
 pub same_symm : (a b : List ℕ) → same a b ≡ same b a
 same_symm a b = nat_list_eq_equiv.symm a b

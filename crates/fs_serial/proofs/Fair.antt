@@ -4,6 +4,7 @@ use Rattle.std.specs.Prelude.{Some, slice_get}
 use Rattle.std.specs.List.{list_all}
 use Rattle.fs_ident.specs.declared.actor.Session.{Session}
 use Rattle.fs_ident.proofs.Passing.{found}
+use Rattle.fs_ident.proofs.Standing.{In-got, In-mapped}
 use Rattle.fs_field.specs.declared.row.Row.{Row}
 use Rattle.fs_msg.specs.declared.client_msg.ClientMsg.{ClientMsg}
 use Rattle.fs_msg.specs.declared.client_msg.ClientMsg.TheVariants.{Ship}
@@ -21,10 +22,9 @@ use Rattle.fs_serial.specs.Refusals.{IsFairNote, IsFairStep, rows_in}
 use Rattle.fs_serial.specs.Seen.{ClusterHolds, with_all, world_of}
 use Rattle.fs_serial.proofs.ClusterRuns.{cluster_later}
 use Rattle.fs_serial.proofs.Ended.{fair_ship}
-use Rattle.fs_serial.proofs.Facts.{In-mapped}
 use Rattle.fs_serial.proofs.Lapsing.{begins, begun_at}
 use Rattle.fs_serial.proofs.SameStep.{IsSameStep, begun_same}
-use Rattle.fs_serial.proofs.SetAt.{In_got, get_here, set_twice}
+use Rattle.fs_serial.proofs.SetAt.{get_here, set_twice}
 
 -- ## A log changes no row
 
@@ -37,7 +37,7 @@ begun_fair : (skew greatest k : ℕ) (by : Session) (entries : List Entry) (s : 
     → IsFairNote (rows_in (after_step k (event.FromClient by (Ship entries)) (event_step (event.FromClient by (Ship entries)) s) c)) (event_step (event.FromClient by (Ship entries)) s).out.note
 begun_fair skew greatest k by entries s c at within there h =
     let e = event.FromClient by (Ship entries) in
-    let i = In_got c.servers k s at in
+    let i = In-got c.servers k s at in
     let view = h.parts s i in
     let coming = In-mapped (λ (n : ℕ × ClientMsg). n.1) (k, Ship entries) (c.lines by).up (found (is_with k) (c.lines by).up (k, Ship entries) there).0 in
     let same : IsSameStep k e s (event_step e s) (event_step e (with_all s c)) c = begun_same greatest k c s e at h.places view coming (λ z. absurd (cc)) in
@@ -52,7 +52,7 @@ fair skew greatest now k by entries s c at within there h =
     let later = max greatest (max s.last now) in
     let x = step s now e in
     let begun_now = begun_at now k s c in
-    let clock : s.last ≤ greatest = (h.parts s (In_got c.servers k s at)).clock in
+    let clock : s.last ≤ greatest = (h.parts s (In-got c.servers k s at)).clock in
     let held = begins skew later now k s c at (omega arith) (cluster_later skew greatest later c (omega arith) h) in
     let near : later ≤ max s.last now + skew = omega arith in
     let told = begun_fair skew later k by entries (begun now s) begun_now (get_here c.servers k s (begun now s) at) near there held in

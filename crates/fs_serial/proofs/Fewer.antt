@@ -4,7 +4,7 @@ use Rattle.std.specs.Prelude.{Option, Some, None}
 use Rattle.fs_ident.specs.In.{In}
 use Rattle.fs_ident.specs.declared.actor.LeaseNo.{LeaseNo}
 use Rattle.fs_ident.specs.declared.actor.Session.{Session}
-use Rattle.fs_ident.proofs.Standing.{In-map}
+use Rattle.fs_ident.proofs.Standing.{In-map, In-append, In-front, In-behind, In-mapped}
 use Rattle.fs_field.specs.declared.used.Use.{Use}
 use Rattle.fs_model.specs.declared.op.Op.{Op}
 use Rattle.fs_model.specs.declared.op.Op.TheVariants as op
@@ -21,7 +21,6 @@ use Rattle.fs_serial.specs.Parts.{SessionHolds, SessionFits}
 use Rattle.fs_serial.specs.Pending.{PendingStand, HasLease, UsesHeld, UsesBacked, IsEntry, NamesItsFile, HasReserved, AreEntries, NamedOnce, RefusedGone}
 use Rattle.fs_serial.specs.Settled.{Lease, Settled, acknowledged, acknowledged_all, lease_after, effects_in, granted, with_leases, with_over, told, settled}
 use Rattle.fs_serial.specs.Sight.{Sight}
-use Rattle.fs_serial.proofs.Facts.{In-append, In-front, In-behind, In-mapped}
 
 -- the second has no other leases than the first, and those of these numbers; all else is the same
 pub record HasFewer (these : LeaseNo → Type 0) (d e : Settled) : Type 0 where

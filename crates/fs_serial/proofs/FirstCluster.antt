@@ -10,6 +10,7 @@ use Rattle.std.proofs.lemmas.List.Elements.{filter-append}
 use Rattle.fs_ident.specs.Ident.{parent}
 use Rattle.fs_ident.specs.In.{In}
 use Rattle.fs_ident.specs.Ordered.{Keyed}
+use Rattle.fs_ident.proofs.Same.{after_zero, zero_before}
 use Rattle.fs_field.specs.Table.{is_ordered}
 use Rattle.fs_field.specs.declared.row.Row.{Row}
 use Rattle.fs_map.specs.Lists.{places_of}
@@ -62,15 +63,9 @@ none_more : (b : Bool) (m : RecordMap) → b ≡ false → with_records (entries
 none_more true m e = absurd (cc)
 none_more false m e = ap (λ (es : Keyed Record). with_records es m) none_entered
 
-later_server : (n : ℕ) → (suc n == 0) ≡ false
-later_server n = grind (arith, nat_tests)
-
-not_first : (n : ℕ) → (0 == suc n) ≡ false
-not_first n = grind (arith, nat_tests)
-
 first_all_of : (n skew term : ℕ) → with_all_of (first_servers (suc n) skew term) empty ≡ first_records true
 first_all_of zero skew term = records_alone (first_records true)
-first_all_of (suc n) skew term = one_server (first_servers (suc n) skew term) (first_server (suc n) skew term) empty ∙ none_more (suc n == 0) (with_all_of (first_servers (suc n) skew term) empty) (later_server n) ∙ first_all_of n skew term
+first_all_of (suc n) skew term = one_server (first_servers (suc n) skew term) (first_server (suc n) skew term) empty ∙ none_more (suc n == 0) (with_all_of (first_servers (suc n) skew term) empty) (after_zero n) ∙ first_all_of n skew term
 
 -- ## Where it is
 
@@ -105,7 +100,7 @@ first_manages zero skew term id = ap (λ b. length (cond b (first_server 0 skew 
 first_manages (suc n) skew term id =
     ap length (filter-append (λ (s : Server). is_mine s id) (first_servers (suc n) skew term) (first_server (suc n) skew term ∷ []))
     ∙ length-append (filter (λ (s : Server). is_mine s id) (first_servers (suc n) skew term)) (filter (λ (s : Server). is_mine s id) (first_server (suc n) skew term ∷ []))
-    ∙ one_more (is_mine (first_server (suc n) skew term) id) (first_server (suc n) skew term) (length (filter (λ (s : Server). is_mine s id) (first_servers (suc n) skew term))) (first_manages n skew term id) (mine_if (suc n) skew term id ∙ not_first n)
+    ∙ one_more (is_mine (first_server (suc n) skew term) id) (first_server (suc n) skew term) (length (filter (λ (s : Server). is_mine s id) (first_servers (suc n) skew term))) (first_manages n skew term id) (mine_if (suc n) skew term id ∙ zero_before n)
 
 is_first : (k : ℕ) → (k == 0) ≡ true → (0 == k) ≡ true
 is_first k h = grind (arith, nat_tests)

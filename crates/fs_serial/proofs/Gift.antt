@@ -7,7 +7,8 @@ use Rattle.std.proofs.lemmas.Bool.{false_from_ne_true}
 use Rattle.fs_ident.specs.In.{In}
 use Rattle.fs_ident.specs.Ident.{child, parent, same}
 use Rattle.fs_ident.specs.declared.actor.Session.{Session}
-use Rattle.fs_ident.proofs.Standing.{In-put}
+use Rattle.fs_ident.proofs.Standing.{In-put, In-put_here}
+use Rattle.fs_ident.proofs.Same.{same_is, same_self}
 use Rattle.fs_field.specs.declared.field.Field.{Field}
 use Rattle.fs_field.specs.declared.field.Field.TheVariants.{Life, Child, Names, Info, Own, SelfW, Other}
 use Rattle.fs_field.specs.declared.lease_kind.LeaseKind.TheVariants.{Exclusive}
@@ -45,12 +46,12 @@ use Rattle.fs_serial.specs.Rows.{RowsCounted, RowsGiven}
 use Rattle.fs_serial.specs.Settled.{Lease, Settled, granted, told, with_leases}
 use Rattle.fs_serial.specs.Sight.{Counts, Sight, sight_of, IsGiven}
 use Rattle.fs_serial.proofs.Children.{parent_child}
-use Rattle.fs_serial.proofs.Facts.{each_more, below_itself, same_is, same_self}
+use Rattle.fs_serial.proofs.Facts.{each_more, below_itself}
 use Rattle.fs_serial.proofs.Counting.{given_is_other, next_is_given, next_is_new, one_more_given, still_given}
 use Rattle.fs_serial.proofs.GiftReserved.{reserved_still, reserved_then, unmade_dead}
 use Rattle.fs_serial.proofs.GiftedRecords.{made_still, serial_still, sound_still, values_stay}
 use Rattle.fs_serial.proofs.Granting.{shapes_beside}
-use Rattle.fs_serial.proofs.Leased.{IsNewLease, In-put_here, leased_fits, leased_holds, row_relied}
+use Rattle.fs_serial.proofs.Leased.{IsNewLease, leased_fits, leased_holds, row_relied}
 use Rattle.fs_serial.proofs.Promises.{promises_beside, promises_gift}
 use Rattle.fs_serial.proofs.Older.{later_pair}
 use Rattle.fs_serial.proofs.Together.{each_session}

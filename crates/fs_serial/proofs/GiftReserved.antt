@@ -7,6 +7,7 @@ use Rattle.fs_ident.specs.declared.actor.LeaseNo.{LeaseNo}
 use Rattle.fs_ident.specs.declared.actor.Session.{Session}
 use Rattle.fs_ident.specs.declared.kind.Kind.{Kind}
 use Rattle.fs_ident.specs.declared.kind.Kind.TheVariants.{File, Dir}
+use Rattle.fs_ident.proofs.Standing.{In-append}
 use Rattle.fs_field.specs.Field.{file_of}
 use Rattle.fs_model.specs.Sound.{kind_of}
 use Rattle.fs_msg.specs.declared.item.Item.{Item}
@@ -17,7 +18,7 @@ use Rattle.fs_serial.specs.Settled.{Lease, Settled, with_leases}
 use Rattle.fs_serial.proofs.Children.{above_child, child_is}
 use Rattle.fs_serial.specs.Parts.{with_client}
 use Rattle.fs_serial.proofs.Together.{each_session}
-use Rattle.fs_serial.proofs.Facts.{In-append, below_itself}
+use Rattle.fs_serial.proofs.Facts.{below_itself}
 use Rattle.fs_serial.proofs.GiftedRecords.{directories_stay, next_here, next_rises}
 
 -- ## What was made

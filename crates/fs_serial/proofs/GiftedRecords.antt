@@ -7,6 +7,7 @@ use Rattle.std.specs.FinMap.{get, get-insert, same_map}
 use Rattle.fs_ident.proofs.MapsOf.{anti}
 use Rattle.fs_ident.specs.Ident.{same}
 use Rattle.fs_ident.specs.declared.actor.Session.{Session}
+use Rattle.fs_ident.proofs.Same.{same_is}
 use Rattle.fs_field.specs.declared.field.Field.{Field}
 use Rattle.fs_field.specs.Field.{file_of}
 use Rattle.fs_model.specs.Sound.{kind_of, IsSound}
@@ -23,7 +24,6 @@ use Rattle.fs_record.proofs.NodeValues.{key_is}
 use Rattle.fs_record.proofs.NumbersRise.{given_here, given_elsewhere}
 use Rattle.fs_serial.specs.Fresh.{NodesMade}
 use Rattle.fs_serial.specs.Serial.{JournalSerial, AreSound}
-use Rattle.fs_serial.proofs.Facts.{same_is}
 
 pub has_record : (o : Option Record) → is_dir (kind_of (node_of o)) ≡ true → (r : Record) × (o ≡ Some r)
 has_record None h = absurd (cc)

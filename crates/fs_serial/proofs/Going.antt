@@ -4,6 +4,7 @@ use Rattle.std.specs.Prelude.{◌≢◌, is_some}
 use Rattle.fs_ident.specs.In.{In}
 use Rattle.fs_ident.specs.declared.actor.LeaseNo.{LeaseNo}
 use Rattle.fs_ident.specs.declared.actor.Session.{Session}
+use Rattle.fs_ident.proofs.Standing.{In-append, In-front}
 use Rattle.fs_msg.specs.declared.item.Item.{Item}
 use Rattle.fs_record.specs.Records.{RecordMap}
 use Rattle.fs_view.specs.declared.kept.Kept.{Kept}
@@ -14,7 +15,7 @@ use Rattle.fs_serial.specs.Parts.{AllHold, with_client, ServersHold, ServersFit,
 use Rattle.fs_serial.specs.Settled.{Lease, Settled, settled_now, with_leases}
 use Rattle.fs_serial.specs.Sight.{Sight}
 use Rattle.fs_serial.specs.World.{AllCarried, Ends, GoesOn, HasNumber}
-use Rattle.fs_serial.proofs.Facts.{In-append, In-front, each_more}
+use Rattle.fs_serial.proofs.Facts.{each_more}
 use Rattle.fs_serial.proofs.Leased.{IsNewLease, leased_fits, leased_holds}
 use Rattle.fs_serial.proofs.Relied.{ReliesFor, still_fits, still_holds, still_renewals, still_returns}
 use Rattle.fs_serial.proofs.Together.{each_session}

@@ -3,7 +3,7 @@ use Rattle.std.proofs.Common.{◌≡◌, ℕ, ◌≤◌, Bool, List, [], ◌∷�
 use Rattle.std.specs.Prelude.{Option, None}
 use Rattle.fs_ident.specs.In.{In}
 use Rattle.fs_ident.specs.declared.actor.Session.{Session}
-use Rattle.fs_ident.proofs.Standing.{In-put}
+use Rattle.fs_ident.proofs.Standing.{In-put, In-put_here}
 use Rattle.fs_field.specs.declared.asked.Asked.TheVariants.{Granted}
 use Rattle.fs_field.specs.declared.field.Field.{Field}
 use Rattle.fs_field.specs.declared.lease_kind.LeaseKind.{LeaseKind}
@@ -24,7 +24,7 @@ use Rattle.fs_serial.specs.World.{Ends, GoesOn}
 use Rattle.fs_serial.proofs.Counting.{given_is_other, next_is_given, next_is_new, one_more_given, still_given}
 use Rattle.fs_serial.proofs.Going.{RowsChange, goes_leased, goes_still, reserved_none}
 use Rattle.fs_serial.proofs.Granting.{apart_granted, promises_granted, shapes_granted}
-use Rattle.fs_serial.proofs.Leased.{IsNewLease, In-put_here, row_relied}
+use Rattle.fs_serial.proofs.Leased.{IsNewLease, row_relied}
 use Rattle.fs_serial.proofs.Relied.{relies_for}
 
 module _ (o : Counts) (by : Session) (field : Field) (asked : LeaseKind) (promise : Option Bool) (s : Server) (journal : List Item) where

@@ -8,7 +8,7 @@ use Rattle.fs_ident.specs.In.{In}
 use Rattle.fs_ident.specs.declared.actor.LeaseNo.{LeaseNo}
 use Rattle.fs_ident.specs.declared.actor.Session.{Session}
 use Rattle.fs_ident.proofs.Booleans.{both}
-use Rattle.fs_ident.proofs.Standing.{In-map}
+use Rattle.fs_ident.proofs.Standing.{In-map, none_any, In-append, In-front, In-behind, In-mapped}
 use Rattle.fs_field.specs.declared.field.Field.{Field}
 use Rattle.fs_field.specs.declared.field.Field.TheVariants.{Life}
 use Rattle.fs_field.specs.declared.lease_kind.LeaseKind.{LeaseKind}
@@ -16,7 +16,6 @@ use Rattle.fs_field.specs.declared.lease_kind.LeaseKind.TheVariants.{Exclusive}
 use Rattle.fs_field.specs.declared.used.Use.{Use}
 use Rattle.fs_field.specs.Table.{same_no}
 use Rattle.fs_field.proofs.SameNo.{same_no_self}
-use Rattle.fs_moderows.proofs.Witnesses.{none_In}
 use Rattle.fs_msg.specs.declared.answer.Answer.{Answer}
 use Rattle.fs_msg.specs.declared.answer.Answer.TheVariants.{Granted}
 use Rattle.fs_msg.specs.declared.answer.Grant.{Grant}
@@ -41,7 +40,6 @@ use Rattle.fs_serial.specs.Parts.{SessionHolds, SessionFits}
 use Rattle.fs_serial.specs.Pending.{HasLease, UsesHeld}
 use Rattle.fs_serial.specs.Settled.{Lease, Settled, granted, told, settled, settled_now, lease_in as kept_lease}
 use Rattle.fs_serial.specs.Sight.{Sight}
-use Rattle.fs_serial.proofs.Facts.{In-append, In-front, In-behind, In-mapped}
 use Rattle.fs_serial.proofs.Heard.{IsHeard, heard, quiet_exchange}
 use Rattle.fs_serial.proofs.Knowing.{from-filter_map}
 use Rattle.fs_serial.proofs.Lapse.{its_number}
@@ -136,7 +134,7 @@ module _ (by : Session) (c : Client) (gs : List Grant) (fresh : Option (List ℕ
 
   apart : (k : Kept) → In k c.view.leases → (l : Kept) → IsNewKept l → number_of k.standing ≡ number_of l.standing → ⊥
   apart k i l n e =
-      let no : has_number n.grant.no k ≡ false = none_In (has_number n.grant.no) c.view.leases (new n.grant n.among) k i in
+      let no : has_number n.grant.no k ≡ false = none_any (has_number n.grant.no) c.view.leases (new n.grant n.among) k i in
       let same : number_of k.standing ≡ n.grant.no = e ∙ ap (λ (k : Kept). number_of k.standing) n.is in
       absurd (let z : true ≡ false = sym (ap (λ m. same_no m n.grant.no) same ∙ same_no_self n.grant.no) ∙ no in cc)
 
@@ -150,7 +148,7 @@ module _ (by : Session) (c : Client) (gs : List Grant) (fresh : Option (List ℕ
   none_uses g i = unused_in g.no c.log (λ x j u k.
       let q : HasLease (settled_now c).leases u = f.held x j u k in
       let p = from-filter_map kept_lease q.lease c.view.leases q.held in
-      ap (λ m. same_no m g.no) (sym (its_number p.0 q.lease p.2 ∙ q.number)) ∙ none_In (has_number g.no) c.view.leases (new g i) p.0 p.1)
+      ap (λ m. same_no m g.no) (sym (its_number p.0 q.lease p.2 ∙ q.number)) ∙ none_any (has_number g.no) c.view.leases (new g i) p.0 p.1)
 
   pub granted_client : LeasesDistinct (told by (Granted gs fresh e) (settled_now c)).leases → ClientFits by then
   granted_client apart_all = record {

@@ -50,6 +50,7 @@ use Rattle.fs_serial.proofs.ReplyPins.{distinct_mapped, one_keeps, pair_in}
 use Rattle.fs_serial.proofs.Retimed.{retimed, with_until, no_same, field_same, below_same, retimed_holds, retimed_fits, held}
 use Rattle.fs_serial.proofs.RowKinds.{In-kept}
 use Rattle.fs_serial.proofs.Seats.{Seat, seen_at, settled_none}
+use Rattle.fs_serial.proofs.HearsShipped.{lease_by}
 
 -- ## One pair of an answer
 
@@ -70,9 +71,6 @@ end_entries : (until : ℕ) (s : Standing) → entries_of (renewed until s) ≡ 
 end_entries until (Held l) = refl
 end_entries until (Pinned u) = refl
 end_entries until (Leaving l) = refl
-
-abbrev lease_by : Value → Option (List ℕ) → Term → Lease
-lease_by base below l = record { no = l.no; field = l.field; kind = l.kind; until = l.until; base = base; below = below }
 
 end_parts : (n : LeaseNo) (until : ℕ) (b : Bool) (s : Standing) (base : Value) (below : Option (List ℕ)) → same_no (number_of s) n ≡ b → option_map (lease_by base below) (lease_of (cond b (renewed until s) s)) ≡ option_map (retimed n until) (option_map (lease_by base below) (lease_of s))
 end_parts n until true (Held l) base below e = ap (λ c. Some (cond c (let x : Lease = record { no = l.no; field = l.field; kind = l.kind; until = until; base = base; below = below } in x) (lease_by base below l))) (sym e)

@@ -5,7 +5,7 @@ use Rattle.std.specs.List.{filter_map, cons_option}
 use Rattle.fs_ident.specs.In.{In}
 use Rattle.fs_ident.specs.declared.actor.LeaseNo.{LeaseNo}
 use Rattle.fs_ident.specs.declared.actor.Session.{Session}
-use Rattle.fs_ident.proofs.Standing.{In-filter, In-map}
+use Rattle.fs_ident.proofs.Standing.{In-filter, In-map, In-mapped}
 use Rattle.fs_field.proofs.SameNo.{same_no_is}
 use Rattle.fs_msg.specs.declared.answer.Answer.{Answer}
 use Rattle.fs_msg.specs.declared.answer.Answer.TheVariants.{Released, Recall}
@@ -30,7 +30,7 @@ use Rattle.fs_serial.specs.Pending.{UsesHeld}
 use Rattle.fs_serial.specs.Settled.{Settled, lease_in, lease_with, settled, settled_now}
 use Rattle.fs_serial.specs.Sight.{Sight}
 use Rattle.fs_serial.proofs.Carried.{GoesOnAs, exchange_still}
-use Rattle.fs_serial.proofs.Facts.{In-mapped, each_image}
+use Rattle.fs_serial.proofs.Facts.{each_image}
 use Rattle.fs_serial.proofs.Heard.{IsHeard, heard, quiet_exchange, recall_exchange}
 use Rattle.fs_serial.proofs.ReplyPins.{distinct_mapped, pair_in, same_leases}
 use Rattle.fs_serial.proofs.Seats.{Seat, seen_at}

@@ -6,7 +6,7 @@ use Rattle.std.proofs.lemmas.Bool.Decides.{nat_tests}
 use Rattle.fs_ident.specs.In.{In}
 use Rattle.fs_ident.specs.declared.actor.LeaseNo.{LeaseNo}
 use Rattle.fs_ident.specs.declared.actor.Session.{Session}
-use Rattle.fs_ident.proofs.Standing.{In-map}
+use Rattle.fs_ident.proofs.Standing.{In-map, In-mapped}
 use Rattle.fs_field.specs.declared.effect.Effect.{Effect}
 use Rattle.fs_field.specs.declared.used.Use.{Use}
 use Rattle.fs_field.specs.declared.value.Value.{Value}
@@ -36,7 +36,7 @@ use Rattle.fs_serial.specs.Parts.{SessionHolds, SessionFits}
 use Rattle.fs_serial.specs.Pending.{HasLease}
 use Rattle.fs_serial.specs.Settled.{Lease, Settled, lease_in, lease_after, effects_in, acknowledged, acknowledged_all, with_over, told, settled, settled_now}
 use Rattle.fs_serial.specs.Sight.{Sight}
-use Rattle.fs_serial.proofs.Facts.{In-mapped, each_image}
+use Rattle.fs_serial.proofs.Facts.{each_image}
 use Rattle.fs_serial.proofs.Heard.{IsHeard, heard, quiet_exchange}
 use Rattle.fs_serial.proofs.ReplyPins.{distinct_mapped, one_keeps, pair_in, same_leases}
 use Rattle.fs_serial.proofs.Seats.{Seat, seen_at}
@@ -134,7 +134,7 @@ counted_all (u ∷ us) ks count h k i = counted_all us (unpinned_at u.no ks) cou
 
 -- ## Values
 
-abbrev lease_by : Value → Option (List ℕ) → Term → Lease
+abbrev pub lease_by : Value → Option (List ℕ) → Term → Lease
 lease_by base below l = record { no = l.no; field = l.field; kind = l.kind; until = l.until; base = base; below = below }
 
 know_parts : (by : Session) (es : List Effect) (s : Standing) (base : Value) (below : Option (List ℕ)) → option_map (lease_by (base_after by es s base) (below_after es s below)) (lease_of s) ≡ option_map (lease_after by es) (option_map (lease_by base below) (lease_of s))

@@ -8,13 +8,13 @@ use Rattle.std.specs.Ordering.{eq_by_cmp, nat_cmp}
 use Rattle.fs_ident.specs.In.{In}
 use Rattle.fs_ident.specs.Ordered.{Keyed}
 use Rattle.fs_ident.proofs.MapsOf.{anti}
+use Rattle.fs_ident.proofs.Booleans.{holds}
 use Rattle.fs_map.proofs.Found.{In_found, found_In}
 use Rattle.fs_record.specs.Moving.{with_records}
 use Rattle.fs_record.specs.Records.{RecordMap}
 use Rattle.fs_record.specs.declared.parcel.Parcel.{Parcel}
 use Rattle.fs_record.specs.declared.record.Record.{Record}
 use Rattle.fs_record.proofs.NodeValues.{key_is}
-use Rattle.fs_record.proofs.OpenFiles.{holds}
 use Rattle.fs_server.specs.declared.state.Server.{Server}
 use Rattle.fs_serial.specs.Joined.{records_of_all, with_all_of, with_parcels}
 

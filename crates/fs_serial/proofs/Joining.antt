@@ -7,12 +7,13 @@ use Rattle.std.specs.Ordering.{nat_cmp, eq_by_cmp}
 use Rattle.std.specs.Cmp.Lexicographic.{slice_cmp, nat_list_cmp_total}
 use Rattle.std.specs.FinMap.{get, insert, empty, entries, entries_sorted, from_entries, keys, find, get-entries, get-insert, len-empty, len-entries, same_map}
 use Rattle.fs_ident.specs.In.{In}
-use Rattle.fs_ident.proofs.Booleans.{equal_is}
+use Rattle.fs_ident.proofs.Booleans.{equal_is, holds}
 use Rattle.fs_ident.proofs.MapsOf.{anti, put_here}
 use Rattle.fs_model.specs.Namespace.{NodeMap}
 use Rattle.fs_record.specs.declared.record.Record.{Record}
 use Rattle.fs_model.specs.declared.node.Node.{Node}
 use Rattle.fs_ident.specs.Ordered.{Keyed}
+use Rattle.fs_ident.proofs.Standing.{In-got}
 use Rattle.fs_map.proofs.Merging.{empty as no_entries}
 use Rattle.fs_record.specs.Moving.{with_records}
 use Rattle.fs_record.specs.Records.{RecordMap, node_of, nodes_of}
@@ -21,8 +22,6 @@ use Rattle.fs_record.proofs.NodeMaps.{node_with_at}
 use Rattle.fs_server.specs.declared.state.Server.{Server}
 use Rattle.fs_record.specs.declared.parcel.Parcel.{Parcel}
 use Rattle.fs_record.proofs.NodeMaps.{node_there}
-use Rattle.fs_record.proofs.OpenFiles.{holds}
-use Rattle.fs_serial.proofs.SetAt.{In_got}
 use Rattle.fs_serial.specs.Joined.{with_all_of, with_node, with_nodes, with_nodes_in, with_parcels}
 
 -- what has an entry is among the keys
@@ -150,4 +149,4 @@ more_parcels parcels i p m space later records within is same h e =
 
 -- what stands at a place is among them
 pub read_In : {X : Type 0} (xs : List X) (i : ℕ) (x : X) → i < length xs → x ≡ get_or xs i x → In x xs
-read_In xs i x within is = In_got xs i x (slice_get_read xs (length xs) i x refl within is)
+read_In xs i x within is = In-got xs i x (slice_get_read xs (length xs) i x refl within is)

@@ -5,7 +5,7 @@ use Rattle.std.specs.List.{filter}
 use Rattle.std.proofs.lemmas.Bool.{or_parts, eqb-true, eqb-false, ltb-false}
 use Rattle.std.specs.FinMap.{empty, entries}
 use Rattle.fs_ident.specs.In.{In}
-use Rattle.fs_ident.proofs.Standing.{In-filter}
+use Rattle.fs_ident.proofs.Standing.{In-filter, In-got}
 use Rattle.fs_field.specs.Field.{file_of}
 use Rattle.fs_field.specs.Table.{is_live, is_ordered}
 use Rattle.fs_field.specs.declared.row.Row.{Row}
@@ -26,7 +26,7 @@ use Rattle.fs_serial.specs.World.{World, WorldHolds}
 use Rattle.fs_serial.proofs.AtHome.{others_rows, parcels_rows}
 use Rattle.fs_serial.proofs.Rising.{lapse_some_keeps, last_rises}
 use Rattle.fs_serial.proofs.Servers.{as_many}
-use Rattle.fs_serial.proofs.SetAt.{In_got, In_set, get_here, get_other}
+use Rattle.fs_serial.proofs.SetAt.{In_set, get_here, get_other}
 use Rattle.fs_serial.proofs.Views.{all_views, alike_holds, count_set}
 
 -- ## Filtered lists
@@ -128,7 +128,7 @@ module _ (skew greatest now k : ℕ) (s : Server) (c : Cluster) (at : slice_get 
   kept_of_others r e = ap (λ b. not b || is_live (max s.last now) s.skew r) e
 
   kept_here : (r : Row) → In r s.rows → keep r ≡ is_live (max s.last now) s.skew r
-  kept_here r i = ap (λ b. not b || is_live (max s.last now) s.skew r) ((h.places.homes s (In_got c.servers k s at)).rows r i)
+  kept_here r i = ap (λ b. not b || is_live (max s.last now) s.skew r) ((h.places.homes s (In-got c.servers k s at)).rows r i)
 
   over : (r : Row) → keep r ≡ false → r.until + s.skew ≤ greatest
   over r e =
@@ -146,7 +146,7 @@ module _ (skew greatest now k : ℕ) (s : Server) (c : Cluster) (at : slice_get 
 
   places_then : PlacesHold then
   places_then =
-      let home = h.places.homes s (In_got c.servers k s at) in
+      let home = h.places.homes s (In-got c.servers k s at) in
       places_set c k s (begun now s) at h.places refl refl (record {
         map = home.map;
         listed = home.listed;
@@ -159,7 +159,7 @@ module _ (skew greatest now k : ℕ) (s : Server) (c : Cluster) (at : slice_get 
   view_then =
       let w = world_of s c in
       let lapsed : World = record w { server = record w.server { rows = filter keep w.server.rows } } in
-      let rest = lapse_some_keeps greatest w keep (λ r i e. over r e) (h.parts s (In_got c.servers k s at)) in
+      let rest = lapse_some_keeps greatest w keep (λ r i e. over r e) (h.parts s (In-got c.servers k s at)) in
       let risen : World = record lapsed { server = record lapsed.server { last = max s.last now } } in
       let me = h.places.numbered k s at in
       alike_holds greatest risen (world_of (begun now s) then) (record {
@@ -175,7 +175,7 @@ module _ (skew greatest now k : ℕ) (s : Server) (c : Cluster) (at : slice_get 
 
   skewed_then : (t : Server) → In t then.servers → t.skew ≡ skew
   skewed_then t i = elim (In_set c.servers k (begun now s) t i) as (λ _. t.skew ≡ skew) [
-    | inl e ↦ ap (λ (u : Server). u.skew) e ∙ h.skewed s (In_got c.servers k s at)
+    | inl e ↦ ap (λ (u : Server). u.skew) e ∙ h.skewed s (In-got c.servers k s at)
     | inr j ↦ h.skewed t j
   ]
 

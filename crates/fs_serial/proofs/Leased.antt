@@ -4,7 +4,7 @@ use Rattle.std.specs.Prelude.{Some, ◌≢◌}
 use Rattle.fs_ident.specs.In.{In}
 use Rattle.fs_ident.specs.Ordered.{put_before}
 use Rattle.fs_ident.specs.declared.actor.Session.{Session}
-use Rattle.fs_ident.proofs.Standing.{In-put}
+use Rattle.fs_ident.proofs.Standing.{In-put, In-front}
 use Rattle.fs_field.specs.declared.field.Field.{Field}
 use Rattle.fs_field.specs.declared.row.Row.{Row}
 use Rattle.fs_field.specs.declared.used.Use.{Use}
@@ -22,17 +22,9 @@ use Rattle.fs_serial.specs.Pending.{NamesItsFile}
 use Rattle.fs_serial.specs.Relies.{Relies, Stood}
 use Rattle.fs_serial.specs.Settled.{Lease, Settled, with_leases}
 use Rattle.fs_serial.specs.Sight.{Sight, IsGiven}
-use Rattle.fs_serial.proofs.Facts.{In-front, each_more}
+use Rattle.fs_serial.proofs.Facts.{each_more}
 
 -- ## One row more
-
-pub In-put_here : {X : Type 0} (test : X → Bool) (new : X) (ys : List X) → In new (put_before test new ys)
-In-put_here test new [] = inl refl
-In-put_here test new (y ∷ ys) =
-    elim (test y) as (λ b. In new (cond b (new ∷ y ∷ ys) (y ∷ put_before test new ys))) [
-      | true ↦ inl refl
-      | false ↦ inr (In-put_here test new ys)
-    ]
 
 pub In-put_still : {X : Type 0} (test : X → Bool) (x new : X) (ys : List X) → In x ys → In x (put_before test new ys)
 In-put_still test x new [] h = absurd h

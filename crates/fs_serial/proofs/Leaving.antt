@@ -2,17 +2,17 @@
 use Rattle.std.proofs.Common.{◌≡◌, ◌⊎◌, ◌==◌, ◌+◌, ◌<◌, ◌≤◌, ◌++◌, not, ℕ, Bool, true, false, List, [], ◌∷◌, length, refl, ap, sym, ◌∙◌, subst, inl, inr, cond, append-nil, arith}
 use Rattle.std.specs.Prelude.{IfSome, Option, Some, None, is_some, slice_get, slice_set}
 use Rattle.std.specs.FinMap.{get}
+use Rattle.std.proofs.lemmas.Bool.{not-true}
 use Rattle.fs_ident.specs.In.{In}
 use Rattle.fs_ident.specs.Ordered.{Keyed}
 use Rattle.fs_ident.specs.declared.kind.Kind.{Kind}
-use Rattle.fs_ident.proofs.Standing.{In-filter}
+use Rattle.fs_ident.proofs.Standing.{In-filter, In-got, In-append, In-front, In-behind}
 use Rattle.fs_field.specs.Field.{file_of}
 use Rattle.fs_field.specs.declared.row.Row.{Row}
 use Rattle.fs_field.proofs.Order.{ordered_filter}
 use Rattle.fs_map.specs.Lists.{piece_of}
 use Rattle.fs_map.specs.Map.{gives, server_of}
 use Rattle.fs_map.proofs.Owned.{piece_piece, taken_map}
-use Rattle.fs_moderows.proofs.Witnesses.{not_true}
 use Rattle.fs_msg.specs.declared.item.Item.{Item}
 use Rattle.fs_parcel.specs.Parcel.{move_refusal}
 use Rattle.fs_parcel.specs.declared.error.MoveError.{MoveError}
@@ -43,7 +43,7 @@ use Rattle.fs_serial.specs.Runs.{held_by}
 use Rattle.fs_serial.specs.Seen.{with_all}
 use Rattle.fs_serial.specs.Sight.{Counts, sight_of}
 use Rattle.fs_serial.proofs.Counted.{total, total_append, total_set}
-use Rattle.fs_serial.proofs.Facts.{In-append, In-behind, In-front, there_is}
+use Rattle.fs_serial.proofs.Facts.{there_is}
 use Rattle.fs_serial.proofs.GoingParts.{going, managed, parts, still_mine}
 use Rattle.fs_serial.proofs.HeldRecords.{has_record, same_records}
 use Rattle.fs_serial.proofs.HeldRows.{same_rows}
@@ -51,7 +51,7 @@ use Rattle.fs_serial.proofs.Listed.{map_made, piece_made}
 use Rattle.fs_serial.proofs.OnePlaces.{one_record}
 use Rattle.fs_serial.proofs.Parted.{IsInPlace, one_parted, record_parted, record_whole, row_parted, row_whole, times_same}
 use Rattle.fs_serial.proofs.Replaced.{replaced_places}
-use Rattle.fs_serial.proofs.SetAt.{In_got, In_kept, In_new, In_set, set_same}
+use Rattle.fs_serial.proofs.SetAt.{In_kept, In_new, In_set, set_same}
 use Rattle.fs_serial.proofs.Times.{all_once}
 
 -- ## What is there then
@@ -77,7 +77,7 @@ module _ (k : ℕ) (c : Cluster) (s : Server) (prefix : List ℕ) (to : ℕ) (at
 
   in_place : IsInPlace s keeps goes c.servers servers_then c.flying flying_then
   in_place = record {
-    there = In_got c.servers k s at;
+    there = In-got c.servers k s at;
     here = In_new c.servers k s keeps at;
     whole_kept = λ x i. In_kept c.servers k s keeps x at i;
     parted_kept = λ x i. In_set c.servers k keeps x i;
@@ -141,7 +141,7 @@ module _ (k : ℕ) (c : Cluster) (s : Server) (prefix : List ℕ) (to : ℕ) (at
   given = piece_of s.map s.me prefix
 
   here : In s c.servers
-  here = In_got c.servers k s at
+  here = In-got c.servers k s at
 
   home : IsHome c.journal s
   home = h.homes s here
@@ -166,7 +166,7 @@ module _ (k : ℕ) (c : Cluster) (s : Server) (prefix : List ℕ) (to : ℕ) (at
 
   row_home : (r : Row) → In r (rows_left prefix given s.rows) → is_mine left (file_of r.field) ≡ true
   row_home r i =
-      still_mine k prefix to s m.mine (file_of r.field) (not_true (is_on_given prefix given r) (passing (λ (r : Row). not (is_on_given prefix given r)) s.rows r i))
+      still_mine k prefix to s m.mine (file_of r.field) (not-true (is_on_given prefix given r) (passing (λ (r : Row). not (is_on_given prefix given r)) s.rows r i))
       ∙ home.rows r (In-filter (λ (r : Row). not (is_on_given prefix given r)) r s.rows i)
 
   kept_record : (b : Bool) (o : Option Record) → is_some (cond (not b) o None) ≡ true → (b ≡ false) × (is_some o ≡ true)

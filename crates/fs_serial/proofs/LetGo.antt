@@ -10,7 +10,7 @@ use Rattle.std.specs.Ordering.{nat_cmp, eq_by_cmp}
 use Rattle.fs_ident.specs.In.{In}
 use Rattle.fs_ident.specs.declared.actor.Session.{Session}
 use Rattle.fs_ident.proofs.Booleans.{first}
-use Rattle.fs_ident.proofs.Standing.{In-map}
+use Rattle.fs_ident.proofs.Standing.{In-map, In-got, none_any, In-append}
 use Rattle.fs_field.specs.Field.{file_of, same_field}
 use Rattle.fs_field.specs.declared.field.Field.{Field}
 use Rattle.fs_field.specs.declared.field.Field.TheVariants.{Own}
@@ -19,7 +19,6 @@ use Rattle.fs_modes.specs.declared.modes.Modes.{Modes}
 use Rattle.fs_parcel.proofs.Both.{passing}
 use Rattle.fs_record.specs.ValueOf.{selves_in}
 use Rattle.fs_record.specs.declared.record.Record.{Record}
-use Rattle.fs_rows.proofs.Comes.{none_does}
 use Rattle.fs_moderows.proofs.Witnesses.{In_none}
 use Rattle.fs_server.specs.Reaps.{has_own, lapsed_among, lapsed_in, lapsed_on}
 use Rattle.fs_server.specs.Server.{is_mine}
@@ -28,9 +27,7 @@ use Rattle.fs_serial.specs.Cluster.{Cluster, parcels_of}
 use Rattle.fs_serial.specs.Joined.{rows_of_all}
 use Rattle.fs_serial.specs.Places.{PlacesHold}
 use Rattle.fs_serial.proofs.AllHere.{row_at_home}
-use Rattle.fs_serial.proofs.Facts.{In-append}
 use Rattle.fs_serial.proofs.Rowed.{same_field_is}
-use Rattle.fs_serial.proofs.SetAt.{In_got}
 
 -- it has handles on the file, which is among these, and no row on them
 record LetsGo (s : Server) (files : List (List ℕ)) (x : List ℕ × Session) : Type 0 where
@@ -59,12 +56,12 @@ module _ (c : Cluster) (k : ℕ) (s : Server) (at : slice_get c.servers k ≡ So
   none_own x mine gone r i = false_from_ne_true (same_field r.field (Own x.0) && (r.session.0 == x.1.0)) (λ t.
       let is : r.field ≡ Own x.0 = same_field_is r.field (Own x.0) (first (same_field r.field (Own x.0)) (r.session.0 == x.1.0) t) in
       let here : In r s.rows = row_at_home k c s at places r i (ap (λ (f : Field). is_mine s (file_of f)) is ∙ mine) in
-      let no : (same_field r.field (Own x.0) && (r.session.0 == x.1.0)) ≡ false = none_does (λ (y : Row). same_field y.field (Own x.0) && (y.session.0 == x.1.0)) s.rows gone r here in
+      let no : (same_field r.field (Own x.0) && (r.session.0 == x.1.0)) ≡ false = none_any (λ (y : Row). same_field y.field (Own x.0) && (y.session.0 == x.1.0)) s.rows gone r here in
       let both : true ≡ false = sym t ∙ no in
       absurd (cc))
 
   pub all_let_go : (x : List ℕ × Session) → In x (lapsed_in s) → has_own (rows_of_all c.servers (parcels_of c.flying)) x.0 x.1 ≡ false
   all_let_go x i =
       let q = lets_go s (keys s.records) x i in
-      let mine : is_mine s x.0 ≡ true = (places.homes s (In_got c.servers k s at)).records x.0 (ap is_some (get-entries s.records x.0) ∙ there x.0 (entries s.records) q.file) in
+      let mine : is_mine s x.0 ≡ true = (places.homes s (In-got c.servers k s at)).records x.0 (ap is_some (get-entries s.records x.0) ∙ there x.0 (entries s.records) q.file) in
       In_none (λ (r : Row). same_field r.field (Own x.0) && (r.session.0 == x.1.0)) (rows_of_all c.servers (parcels_of c.flying)) (none_own x mine q.gone)

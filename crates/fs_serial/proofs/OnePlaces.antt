@@ -3,16 +3,17 @@ use Rattle.std.proofs.Common.{◌≡◌, ◌+◌, ◌≤◌, not, ℕ, true, fal
 use Rattle.std.specs.Prelude.{Option, Some, is_some}
 use Rattle.std.specs.FinMap.{get}
 use Rattle.std.specs.List.{list_all, list_any}
+use Rattle.std.proofs.lemmas.Bool.{not-true}
 use Rattle.fs_ident.specs.Ident.{same}
 use Rattle.fs_ident.specs.In.{In}
 use Rattle.fs_ident.specs.Ordered.{Keyed}
 use Rattle.fs_ident.proofs.Booleans.{first, second}
 use Rattle.fs_ident.proofs.Passing.{all-In}
-use Rattle.fs_ident.proofs.Standing.{In-map}
+use Rattle.fs_ident.proofs.Standing.{In-map, none_any}
+use Rattle.fs_ident.proofs.Same.{same_self}
 use Rattle.fs_field.specs.Field.{file_of}
 use Rattle.fs_field.specs.declared.row.Row.{Row}
 use Rattle.fs_map.specs.Map.{gives}
-use Rattle.fs_moderows.proofs.Witnesses.{none_In, not_true}
 use Rattle.fs_msg.specs.declared.item.Item.{Item}
 use Rattle.fs_parcel.proofs.Formed.{formed}
 use Rattle.fs_record.specs.Moving.{are_distinct}
@@ -24,7 +25,6 @@ use Rattle.fs_server.specs.declared.state.Server.{Server}
 use Rattle.fs_serial.specs.Cluster.{Cluster, Flying, parcels_of}
 use Rattle.fs_serial.specs.Places.{IsSent, OnePlace, PlacesHold, gives_it, places_for}
 use Rattle.fs_serial.proofs.Counted.{how_many, one_if, one_of, only_one, total}
-use Rattle.fs_serial.proofs.Facts.{same_self}
 use Rattle.fs_serial.proofs.HeldRecords.{IsOneRecord}
 
 -- ## Counted
@@ -70,9 +70,9 @@ row_sent servers journal f h r i =
 
 another : (e : List ℕ × Record) (es : Keyed Record) (id : List ℕ) (r t : Record) → are_distinct (e ∷ es) ≡ true → (id, r) ≡ e → In (id, t) es → ⊥
 another e es id r t d a j =
-    let none : list_any (λ (f : List ℕ × Record). same f.0 e.0) es ≡ false = not_true (list_any (λ (f : List ℕ × Record). same f.0 e.0) es) (first (not (list_any (λ (f : List ℕ × Record). same f.0 e.0) es)) (are_distinct es) d) in
+    let none : list_any (λ (f : List ℕ × Record). same f.0 e.0) es ≡ false = not-true (list_any (λ (f : List ℕ × Record). same f.0 e.0) es) (first (not (list_any (λ (f : List ℕ × Record). same f.0 e.0) es)) (are_distinct es) d) in
     let here : same id e.0 ≡ true = ap (λ (x : List ℕ × Record). same id x.0) (sym a) ∙ same_self id in
-    let wrong : true ≡ false = sym here ∙ none_In (λ (f : List ℕ × Record). same f.0 e.0) es none (id, t) j in
+    let wrong : true ≡ false = sym here ∙ none_any (λ (f : List ℕ × Record). same f.0 e.0) es none (id, t) j in
     absurd (cc)
 
 -- no two of its records are of one file

@@ -5,7 +5,7 @@ use Rattle.std.specs.List.{filter, list_any}
 use Rattle.fs_ident.specs.In.{In}
 use Rattle.fs_ident.specs.declared.actor.LeaseNo.{LeaseNo}
 use Rattle.fs_ident.specs.declared.actor.Session.{Session}
-use Rattle.fs_ident.proofs.Standing.{In-map}
+use Rattle.fs_ident.proofs.Standing.{In-map, any_In, In-mapped}
 use Rattle.fs_field.specs.declared.row.Row.{Row}
 use Rattle.fs_field.specs.Table.{has_no, renewed_row, same_no}
 use Rattle.fs_field.proofs.Leases.{renewed_same}
@@ -19,7 +19,6 @@ use Rattle.fs_serial.specs.Leases.{IsBacked}
 use Rattle.fs_serial.specs.Settled.{Settled}
 use Rattle.fs_serial.specs.Sight.{Sight}
 use Rattle.fs_serial.specs.World.{Ends, GoesOn}
-use Rattle.fs_serial.proofs.Facts.{In-mapped, any-In}
 use Rattle.fs_serial.proofs.Going.{RowsChange, goes_still}
 use Rattle.fs_serial.proofs.RowKinds.{ends_no_sooner, ends_then, row_goes, row_renewed, with_rows}
 
@@ -44,7 +43,7 @@ backed_renewed until (n ∷ ns) rows number end b = backed_renewed until ns (map
 
 backed_now : (rows : List Row) (n : LeaseNo) (until : ℕ) → list_any (has_no n) rows ≡ true → IsBacked (map (renewed_row n until) rows) n until
 backed_now rows n until h =
-    let q = any-In (has_no n) rows h in
+    let q = any_In (has_no n) rows h in
     record { row = renewed_row n until q.0; stands = In-mapped (renewed_row n until) q.0 rows q.1; number = (renewed_same n until q.0).number ∙ same_no_is q.0.no n q.2; lasts = ends_then n until q.0 q.2 }
 
 any_then : (n m : LeaseNo) (until : ℕ) (rows : List Row) → list_any (has_no m) (map (renewed_row n until) rows) ≡ list_any (has_no m) rows

@@ -7,18 +7,20 @@ use Rattle.std.specs.Cmp.{nat_eq_equiv}
 use Rattle.std.specs.Cmp.Lexicographic.{same_text, slice_cmp}
 use Rattle.std.specs.Ordering.{nat_cmp}
 use Rattle.std.proofs.lemmas.Bool.Decides.{nat_tests}
+use Rattle.std.proofs.lemmas.Bool.{or_from}
 use Rattle.fs_ident.specs.Ident.{same}
 use Rattle.fs_ident.specs.In.{In}
 use Rattle.fs_ident.specs.declared.actor.Session.{Session}
 use Rattle.fs_ident.proofs.Booleans.{first, joined}
 use Rattle.fs_ident.proofs.Passing.{In-all}
-use Rattle.fs_ident.proofs.Standing.{In-filter, In-map, In-put}
+use Rattle.fs_ident.proofs.Standing.{In-filter, In-map, In-put, In-mapped}
 use Rattle.fs_field.specs.Conflict.{Selves, conflicts, has_fixed, is_self, mode_conflict, plain_conflict}
 use Rattle.fs_field.specs.Field.{file_of, same_mode}
 use Rattle.fs_field.specs.Table.{no_before, with_row}
 use Rattle.fs_field.specs.declared.field.Field.{Field}
 use Rattle.fs_field.specs.declared.field.Field.TheVariants.{SelfW}
 use Rattle.fs_field.specs.declared.row.Row.{Row}
+use Rattle.fs_field.proofs.Conflicts.{self_file}
 use Rattle.fs_map.specs.Lists.{owns_given}
 use Rattle.fs_map.specs.Map.{gives}
 use Rattle.fs_map.proofs.Owned.{owned}
@@ -29,7 +31,7 @@ use Rattle.fs_moderows.specs.Moving as on_modes
 use Rattle.fs_moderows.proofs.Free.{apart_goes, goes_apart}
 use Rattle.fs_moderows.proofs.Moves.{came_or_was}
 use Rattle.fs_moderows.proofs.Promises.{kept_apart}
-use Rattle.fs_moderows.proofs.Witnesses.{In_none, Witness, fixed_from, fixed_row, neither_holds, witness, witnessed}
+use Rattle.fs_moderows.proofs.Witnesses.{In_none, Witness, fixed_from, fixed_row, witness, witnessed}
 use Rattle.fs_parcel.specs.Parcel.{fits, is_elsewhere, is_formed, is_of_given, rows_fit, selves_of_records}
 use Rattle.fs_parcel.specs.Rows.{is_off_modes, rows_off_modes, rows_on_modes}
 use Rattle.fs_parcel.proofs.Both.{passing}
@@ -55,7 +57,6 @@ use Rattle.fs_serial.specs.Runs.{held_by}
 use Rattle.fs_serial.specs.Seen.{with_all}
 use Rattle.fs_serial.specs.Sight.{Counts, sight_of}
 use Rattle.fs_serial.proofs.ComingParts.{once}
-use Rattle.fs_serial.proofs.Facts.{In-mapped}
 use Rattle.fs_serial.proofs.HeldRecords.{HasRecord, IsOneOf, one_alone, put_all, record_of_all}
 use Rattle.fs_serial.proofs.HeldRows.{row_of_all}
 use Rattle.fs_serial.proofs.OnePlaces.{not_both, one_parcel, one_record, record_flies, record_home, row_sent}
@@ -82,10 +83,6 @@ once_parts test more rows o n =
     omega arith
 
 -- ## Rows on modes
-
-self_file : (f : List ℕ) (m : Mode) (g : Field) → is_self f m g ≡ true → file_of g ≡ f
-self_file f m (SelfW g n) h = sym (same_text f g (sym (first (same f g) (same_mode m n) h)))
-self_file f m g h = absurd (cc)
 
 -- ## Numbers
 
@@ -160,7 +157,7 @@ module _ (c : Cluster) (h : PlacesHold c) (s : Server) (i : In s c.servers) (f :
         ])))
 
     free : (a b : Row) → In a all → In b all → conflicts (selves_in records) all a b ≡ false
-    free a b k l = neither_holds (plain_conflict a b) (mode_conflict (selves_in records) all a b) (hold.apart a b k l) (kept_apart (selves_in records) all hold.promises a b k l)
+    free a b k l = or_from (plain_conflict a b) (mode_conflict (selves_in records) all a b) (hold.apart a b k l) (kept_apart (selves_in records) all hold.promises a b k l)
 
     -- ## Handles
 
@@ -221,7 +218,7 @@ module _ (c : Cluster) (h : PlacesHold c) (s : Server) (i : In s c.servers) (f :
     gives_row r k = row_sent _ c.journal f (h.sent f j) r k
 
     pair_free : (r x : Row) → In r p.rows → In x all → conflicts listed of_modes r x ≡ false
-    pair_free r x k l = neither_holds (plain_conflict r x) (mode_conflict listed of_modes r x) (hold.apart r x (row_came r k) l) (goes_apart listed of_modes r x
+    pair_free r x k l = or_from (plain_conflict r x) (mode_conflict listed of_modes r x) (hold.apart r x (row_came r k) l) (goes_apart listed of_modes r x
         (λ d id n e t.
         let q = apart_goes (selves_in records) all r x (free r x (row_came r k) l) d id n e t in
         (q.0, its_fixed id n r.session x.session (subst (λ z. gives_it z f ≡ true) (ap file_of e) (gives_row r k)) q.1))

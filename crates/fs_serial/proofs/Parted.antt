@@ -4,7 +4,7 @@ use Rattle.std.specs.Prelude.{Some}
 use Rattle.std.specs.FinMap.{get}
 use Rattle.fs_ident.specs.In.{In}
 use Rattle.fs_ident.specs.declared.actor.LeaseNo.{LeaseNo}
-use Rattle.fs_ident.proofs.Standing.{In-map}
+use Rattle.fs_ident.proofs.Standing.{In-map, In-mapped}
 use Rattle.fs_field.specs.declared.row.Row.{Row}
 use Rattle.fs_record.specs.declared.parcel.Parcel.{Parcel}
 use Rattle.fs_record.specs.declared.record.Record.{Record}
@@ -13,7 +13,6 @@ use Rattle.fs_server.specs.declared.state.Server.{Server}
 use Rattle.fs_serial.specs.Cluster.{Flying, parcels_of}
 use Rattle.fs_serial.specs.Places.{OnePlace, gives_it}
 use Rattle.fs_serial.proofs.Counted.{one_if, total, total_map}
-use Rattle.fs_serial.proofs.Facts.{In-mapped}
 use Rattle.fs_serial.proofs.HeldRecords.{HasRecord}
 use Rattle.fs_serial.proofs.HeldRows.{HasRow}
 use Rattle.fs_serial.proofs.OnePlaces.{at_servers, in_flight, places_counted}

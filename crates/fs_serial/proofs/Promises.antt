@@ -2,6 +2,7 @@
 use Rattle.std.proofs.Common.{◌≡◌, ℕ, ◌==◌, ◌&&◌, ◌||◌, not, Bool, true, false, List, map, refl, sym, ap, ◌∙◌, subst, inl, inr}
 use Rattle.std.specs.Prelude.{Option, Some, is_some}
 use Rattle.std.specs.List.{filter}
+use Rattle.std.proofs.lemmas.Bool.{or_from}
 use mathlib.Core.Path.{fun_ext}
 use Rattle.fs_ident.specs.In.{In}
 use Rattle.fs_ident.specs.declared.actor.LeaseNo.{LeaseNo}
@@ -19,7 +20,7 @@ use Rattle.fs_field.specs.Table.{no_before, renewed_row, with_row}
 use Rattle.fs_moderows.specs.Kept.{others_may_have, KeptPromises}
 use Rattle.fs_moderows.specs.Table.{is_of_mode}
 use Rattle.fs_moderows.proofs.Tables.{renewed_tells}
-use Rattle.fs_moderows.proofs.Witnesses.{neither_holds, fixed_with, covered_filter, covered_map, witness_stays}
+use Rattle.fs_moderows.proofs.Witnesses.{fixed_with, covered_filter, covered_map, witness_stays}
 use Rattle.fs_moderows.proofs.Promises.{kept_apart, kept_holds, holds_kept, holds_still, fewer_kept, may_with, promise_is}
 use Rattle.fs_record.specs.Fresh.{records_after_gift}
 use Rattle.fs_record.specs.Records.{RecordMap}
@@ -62,7 +63,7 @@ other_stays m after rows shaped before later r i h =
 
 -- no two rows conflict, plainly or over a mode
 pub no_conflict : (s : Sight) → ServersHold s → ServersFit s → NoConflict (selves_in s.records) s.rows
-no_conflict s h f a b i j = neither_holds (plain_conflict a b) (mode_conflict (selves_in s.records) s.rows a b) (h.apart a b i j) (kept_apart (selves_in s.records) s.rows h.promises a b i j)
+no_conflict s h f a b i j = or_from (plain_conflict a b) (mode_conflict (selves_in s.records) s.rows a b) (h.apart a b i j) (kept_apart (selves_in s.records) s.rows h.promises a b i j)
 
 -- ## Rows that come and go
 

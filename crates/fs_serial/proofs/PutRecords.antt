@@ -4,10 +4,10 @@ use Rattle.std.specs.Prelude.{Option, Some, None, is_some}
 use Rattle.std.specs.Ordering.{nat_cmp, eq_by_cmp}
 use Rattle.std.specs.Cmp.Lexicographic.{slice_cmp, nat_list_cmp_total}
 use Rattle.std.specs.FinMap.{empty, entries, entries_sorted, find, get, get-empty, get-entries, get-insert, insert, same_map}
-use Rattle.fs_record.proofs.OpenFiles.{holds}
 use Rattle.fs_ident.specs.In.{In}
 use Rattle.fs_ident.specs.Ordered.{Keyed}
 use Rattle.fs_ident.proofs.MapsOf.{anti}
+use Rattle.fs_ident.proofs.Booleans.{holds}
 use Rattle.fs_field.specs.declared.effect.Effect.{Effect}
 use Rattle.fs_map.proofs.Found.{In_found}
 use Rattle.fs_record.specs.Applied.{changed_file, record_change, records_after, records_after_all, with_at}

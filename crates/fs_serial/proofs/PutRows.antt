@@ -6,6 +6,7 @@ use Rattle.fs_ident.specs.declared.actor.LeaseNo.{LeaseNo}
 use Rattle.fs_ident.specs.In.{In}
 use Rattle.fs_ident.proofs.Booleans.{both}
 use Rattle.fs_ident.proofs.Passing.{all-In}
+use Rattle.fs_ident.proofs.Standing.{In-put_here}
 use Rattle.fs_field.specs.declared.row.Row.{Row}
 use Rattle.fs_field.specs.Table.{has_no, is_ordered, no_before, same_no, with_row}
 use Rattle.fs_field.proofs.Order.{before_trans}
@@ -13,7 +14,7 @@ use Rattle.fs_field.proofs.SameNo.{same_no_symm}
 use Rattle.fs_rows.specs.Granted.{with_rows}
 use Rattle.fs_record.proofs.NodeValues.{turned}
 use Rattle.fs_parcel.proofs.Both.{leads, ordered_before}
-use Rattle.fs_serial.proofs.Leased.{In-put_here, In-put_still}
+use Rattle.fs_serial.proofs.Leased.{In-put_still}
 
 -- ## Two rows
 

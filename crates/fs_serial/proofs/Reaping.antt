@@ -8,6 +8,9 @@ use mathlib.Core.Path.{fun_ext}
 use Rattle.fs_ident.specs.In.{In}
 use Rattle.fs_ident.specs.Ident.{same}
 use Rattle.fs_ident.specs.declared.actor.Session.{Session}
+use Rattle.fs_ident.proofs.Standing.{none_any}
+use Rattle.fs_ident.proofs.Booleans.{first_fails}
+use Rattle.fs_ident.proofs.Same.{one_session}
 use Rattle.fs_field.specs.Field.{file_of, same_field}
 use Rattle.fs_field.specs.declared.field.Field.TheVariants.{Life, Own}
 use Rattle.fs_field.specs.declared.row.Row.{Row}
@@ -19,7 +22,6 @@ use Rattle.fs_model.proofs.SoundRuns.{step_sound}
 use Rattle.fs_moderows.specs.Answer.{reap_blocker}
 use Rattle.fs_moderows.specs.Kept.{KeptPromises, selves_without}
 use Rattle.fs_moderows.proofs.Reaps.{none_blocks, reap_kept}
-use Rattle.fs_moderows.proofs.Witnesses.{none_In}
 use Rattle.fs_msg.specs.Journal.{asker}
 use Rattle.fs_msg.specs.declared.item.Item.{Item}
 use Rattle.fs_record.specs.Applied.{records_after_all}
@@ -29,7 +31,6 @@ use Rattle.fs_record.specs.Records.{RecordMap, AreRecords, node_of, next_of, nod
 use Rattle.fs_record.specs.ValueOf.{selves_in, value_of, is_other}
 use Rattle.fs_record.proofs.Reaping.{reaped_next, reaped_nodes, reaped_own_value, reaped_selves, reaped_value}
 use Rattle.fs_record.proofs.AllApplied.{after_all_kept}
-use Rattle.fs_record.proofs.ValueChanges.{one_session}
 use Rattle.fs_server.specs.Reaps.{has_own, reap_item, with_reap}
 use Rattle.fs_server.specs.declared.state.Server.{Server}
 use Rattle.fs_serial.specs.Fresh.{FreshReserved, IsMade, NodesMade, Reserved, or_else, reserved_by}
@@ -68,11 +69,7 @@ promises_reaped m rows file by are none kept =
 not_own : (rows : List Row) (file : List ℕ) (by : Session) → has_own rows file by ≡ false → (r : Row) → In r rows → r.session ≡ by → same_field r.field (Own file) ≡ false
 not_own rows file by none r i own =
     first_fails (same_field r.field (Own file)) (r.session.0 == by.0) (ap (λ (x : Session). r.session.0 == x.0) (sym own) ∙ nat_eq_equiv.refl r.session.0)
-    (none_In (λ (r : Row). same_field r.field (Own file) && (r.session.0 == by.0)) rows none r i)
-  where
-    first_fails : (a b : Bool) → b ≡ true → (a && b) ≡ false → a ≡ false
-    first_fails true b t h = sym t ∙ h
-    first_fails false b t h = refl
+    (none_any (λ (r : Row). same_field r.field (Own file) && (r.session.0 == by.0)) rows none r i)
 
 -- what rows of a session are on says the same to it, whoever lost the handles
 value_same : (m : RecordMap) (rows : List Row) (file : List ℕ) (by : Session) → RowsShaped rows → PromisesKept m rows → PromisesKept (records_reaped m file by) rows → has_own rows file by ≡ false

@@ -5,6 +5,7 @@ use Rattle.fs_ident.specs.In.{In}
 use Rattle.fs_ident.specs.declared.actor.LeaseNo.{LeaseNo}
 use Rattle.fs_ident.specs.declared.actor.Session.{Session}
 use Rattle.fs_ident.proofs.Passing.{found}
+use Rattle.fs_ident.proofs.Booleans.{denied}
 use Rattle.fs_field.specs.declared.row.Row.{Row}
 use Rattle.fs_field.specs.declared.used.Use.{Use}
 use Rattle.fs_field.specs.Table.{is_lease}
@@ -21,16 +22,12 @@ use Rattle.fs_serial.proofs.Going.{carried_alike}
 use Rattle.fs_serial.proofs.OneLease.{lease_is}
 use Rattle.fs_serial.proofs.Together.{each_session}
 
-no_row : (a : Bool) → not a ≡ true → a ≡ true → ⊥
-no_row true h e = absurd (cc)
-no_row false h e = absurd (cc)
-
 -- the row of a used lease is the row that the entry stands on
 pub use_gone : (skew greatest : ℕ) (s : Sight) (by : Session) (d : Settled) (e : Entry) (u : Use) → SessionFits skew greatest s by d → In e d.log → In u e.uses → not (has_row s.rows by u) ≡ true → (r : Row) → In r s.rows → r.no ≢ u.no
 use_gone skew greatest s by d e u f i j gone r k n =
     let l = f.held e i u j in
     let m = f.matching l.lease l.held r k (n ∙ sym l.number) in
-    no_row (has_row s.rows by u) gone (In_any (is_lease u.no by u.field u.kind) s.rows r k (lease_is r u by n m.session (m.field ∙ l.field) (m.kind ∙ l.kind)))
+    denied (has_row s.rows by u) gone (In_any (is_lease u.no by u.field u.kind) s.rows r k (lease_is r u by n m.session (m.field ∙ l.field) (m.kind ∙ l.kind)))
 
 module _ (skew greatest : ℕ) (s : Sight) (replied : Session → List Item) (ends : Session → Ends) (clients : Session → Settled) (by : Session) (e : Entry) (rest : List Entry) (u : Use) (log : (clients by).log ≡ e ∷ rest) (gone : first_gone s.rows by e.uses ≡ Some u) where
   abbrev d : Settled

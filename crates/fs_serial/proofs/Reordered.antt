@@ -5,7 +5,8 @@ use Rattle.std.proofs.lemmas.List.Elements.{filter-append}
 use mathlib.Core.Path.{fun_ext}
 use Rattle.fs_ident.specs.In.{In}
 use Rattle.fs_ident.specs.declared.actor.Session.{Session}
-use Rattle.fs_record.proofs.ValueChanges.{one_session}
+use Rattle.fs_ident.proofs.Standing.{In-append, In-front, In-behind}
+use Rattle.fs_ident.proofs.Same.{one_session}
 use Rattle.fs_msg.specs.declared.answer.Answer.{Answer}
 use Rattle.fs_msg.specs.declared.answer.Answer.TheVariants.{Renewed}
 use Rattle.fs_msg.specs.declared.client_msg.ClientMsg.{ClientMsg}
@@ -17,7 +18,6 @@ use Rattle.fs_serial.specs.Parts.{AllHold}
 use Rattle.fs_serial.specs.Settled.{Settled, settled, settled_now}
 use Rattle.fs_serial.specs.Sight.{sight_of}
 use Rattle.fs_serial.specs.World.{Ends, World, WorldHolds, settled_at, with_ends}
-use Rattle.fs_serial.proofs.Facts.{In-append, In-behind, In-front}
 use Rattle.fs_serial.proofs.Seats.{settled_due}
 use Rattle.fs_serial.proofs.Sending.{EndsFit, each_end}
 

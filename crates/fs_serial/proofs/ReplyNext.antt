@@ -9,6 +9,7 @@ use Rattle.fs_ident.specs.Ident.{child, same}
 use Rattle.fs_ident.specs.declared.actor.Session.{Session}
 use Rattle.fs_ident.specs.declared.kind.Kind.{Kind}
 use Rattle.fs_ident.proofs.Booleans.{both, neither, joined}
+use Rattle.fs_ident.proofs.Same.{same_is, same_self}
 use Rattle.fs_field.specs.declared.asked.Need.{Need}
 use Rattle.fs_field.specs.declared.asked.Need.TheVariants as need
 use Rattle.fs_field.specs.declared.effect.Effect.{Effect}
@@ -50,7 +51,6 @@ use Rattle.fs_serial.specs.Pending.{known_with, IsAnswer, AreEntries, NamesItsFi
 use Rattle.fs_serial.specs.Settled.{Lease, Settled, lease_in, lease_with, settled_now, settled, effects_in}
 use Rattle.fs_serial.specs.World.{is_called}
 use Rattle.fs_serial.proofs.Births.{life_after, makes_there}
-use Rattle.fs_serial.proofs.Facts.{same_is, same_self}
 use Rattle.fs_serial.proofs.HomeAsks.{IsGivenHere, MayGive, called_home, given_home, home_with_id, items_home, names_fresh}
 use Rattle.fs_serial.proofs.Knowing.{In-filter_map, all_there, from-filter_map, IsKnown, known_by_lease, IsOffered, offered_by_lease, used_there, IsUseOf, use_from}
 use Rattle.fs_serial.proofs.Naming.{Covers, IsGivenFor, IsNamedFor, named_for, names_its_file, plain_with_id, access_with_id, right_with_id}

@@ -8,7 +8,8 @@ use Rattle.fs_ident.specs.Ident.{same}
 use Rattle.fs_ident.specs.Ordered.{Keyed}
 use Rattle.fs_ident.specs.declared.actor.LeaseNo.{LeaseNo}
 use Rattle.fs_ident.specs.declared.actor.Session.{Session}
-use Rattle.fs_ident.proofs.Standing.{In-put}
+use Rattle.fs_ident.proofs.Standing.{In-put, none_any}
+use Rattle.fs_ident.proofs.Same.{same_is}
 use Rattle.fs_field.specs.declared.effect.Effect.{Effect}
 use Rattle.fs_field.specs.declared.field.Field.{Field}
 use Rattle.fs_field.specs.declared.field.Field.TheVariants.{SelfW, Other}
@@ -27,12 +28,10 @@ use Rattle.fs_record.specs.ValueOf.{handles_of, selves_in, selves_of, value_at, 
 use Rattle.fs_record.specs.declared.record.Record.{Record}
 use Rattle.fs_rows.specs.Given.{AreGiven}
 use Rattle.fs_rows.specs.Granted.{with_rows}
-use Rattle.fs_rows.proofs.Comes.{none_does}
 use Rattle.fs_rows.proofs.Numbers.{given_new, given_next}
 use Rattle.fs_server.specs.Asks.{answer_to, with_lease}
 use Rattle.fs_server.specs.Server.{end_of, is_mine, next_number}
 use Rattle.fs_server.specs.declared.state.Server.{Server}
-use Rattle.fs_serial.proofs.Facts.{same_is}
 use Rattle.fs_serial.proofs.PutRecords.{AreOn, AreOther, effects_home, effects_past, get_past}
 use Rattle.fs_serial.proofs.PutRows.{In-puts_here, IsOther, puts_other, put_past}
 use Rattle.fs_serial.proofs.Unseen.{AreOff, answer_past, find_past, other_past, self_past}
@@ -124,7 +123,7 @@ module _ (rest : Rest) (s : Server) (h : IsCounted rest s) (by : Session) (field
   new = given_new s.me s.given (with_rows rest.rows s.rows) h.given
 
   other : IsOther row rest.rows
-  other x i = none_does (has_no (next_number s)) (with_rows rest.rows s.rows) new x (In-puts_here x rest.rows s.rows i)
+  other x i = none_any (has_no (next_number s)) (with_rows rest.rows s.rows) new x (In-puts_here x rest.rows s.rows i)
 
   pub lease_joined : with_lease by field kind promise (joined rest s) ≡ joined rest (with_lease by field kind promise s)
   lease_joined = ap (λ rows. let t : Server = record s { given = s.given + 1; rows = rows; records = with_records rest.records s.records } in t) (sym (put_past row rest.rows s.rows other))

@@ -9,7 +9,7 @@ use Rattle.fs_ident.specs.In.{In}
 use Rattle.fs_ident.specs.Ordered.{Keyed}
 use Rattle.fs_ident.proofs.Booleans.{both}
 use Rattle.fs_ident.proofs.Passing.{all-In}
-use Rattle.fs_ident.proofs.Standing.{In-map}
+use Rattle.fs_ident.proofs.Standing.{In-map, In-append, In-front, In-behind}
 use Rattle.fs_field.specs.declared.row.Row.{Row}
 use Rattle.fs_field.specs.Field.{file_of}
 use Rattle.fs_field.specs.Table.{is_ordered}
@@ -28,7 +28,6 @@ use Rattle.fs_serial.specs.Cluster.{Cluster, Flying, parcels_of}
 use Rattle.fs_serial.specs.Joined.{records_of_all, rows_of_all, with_all_of, with_parcels, with_rows_in, with_rows_of}
 use Rattle.fs_serial.specs.Places.{IsHome, PlacesHold, gives_it, places_for}
 use Rattle.fs_serial.specs.Seen.{with_all}
-use Rattle.fs_serial.proofs.Facts.{In-append, In-behind, In-front}
 use Rattle.fs_serial.proofs.PutRecords.{AreOther, entry_has, records-append, records_alone, records_swap}
 use Rattle.fs_serial.proofs.PutRows.{In-puts_here, IsOther, puts-append, puts_other, puts_swap}
 use Rattle.fs_serial.proofs.Rest.{IsApart, Rest, joined}

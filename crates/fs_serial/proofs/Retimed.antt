@@ -4,7 +4,7 @@ use Rattle.std.specs.Prelude.{Some, None}
 use Rattle.fs_ident.specs.In.{In}
 use Rattle.fs_ident.specs.declared.actor.LeaseNo.{LeaseNo}
 use Rattle.fs_ident.specs.declared.actor.Session.{Session}
-use Rattle.fs_ident.proofs.Standing.{In-map}
+use Rattle.fs_ident.proofs.Standing.{In-map, In-mapped}
 use Rattle.fs_field.specs.declared.row.Row.{Row}
 use Rattle.fs_field.specs.declared.used.Use.{Use}
 use Rattle.fs_field.specs.Table.{same_no}
@@ -20,7 +20,7 @@ use Rattle.fs_serial.specs.Parts.{SessionHolds, SessionFits}
 use Rattle.fs_serial.specs.Pending.{HasLease, UsesHeld, IsEntry, NamesItsFile, HasReserved}
 use Rattle.fs_serial.specs.Settled.{Lease, Settled}
 use Rattle.fs_serial.specs.Sight.{Sight, IsGiven}
-use Rattle.fs_serial.proofs.Facts.{In-mapped, each_image}
+use Rattle.fs_serial.proofs.Facts.{each_image}
 
 abbrev pub retimed : LeaseNo → ℕ → Lease → Lease
 retimed n until l = cond (same_no l.no n) (record l { until = until }) l

@@ -7,7 +7,7 @@ use Rattle.fs_ident.specs.In.{In}
 use Rattle.fs_ident.specs.declared.actor.LeaseNo.{LeaseNo}
 use Rattle.fs_ident.specs.declared.actor.Session.{Session}
 use Rattle.fs_ident.proofs.Booleans.{second}
-use Rattle.fs_ident.proofs.Standing.{In-filter, In-map}
+use Rattle.fs_ident.proofs.Standing.{In-filter, In-map, In-mapped}
 use Rattle.fs_field.specs.declared.row.Row.{Row}
 use Rattle.fs_field.specs.Table.{has_no, renewed_row, same_no}
 use Rattle.fs_field.proofs.Leases.{NoPlainConflict-filter, NoPlainConflict-map, renewed_same}
@@ -18,7 +18,6 @@ use Rattle.fs_serial.specs.Exchange.{ReturnFits}
 use Rattle.fs_serial.specs.Parts.{AllHold}
 use Rattle.fs_serial.specs.Settled.{Lease, Settled}
 use Rattle.fs_serial.specs.Sight.{Counts, Sight, IsGiven, sight_of}
-use Rattle.fs_serial.proofs.Facts.{In-mapped}
 use Rattle.fs_serial.proofs.Going.{RowsChange}
 use Rattle.fs_serial.proofs.Granting.{shapes_filtered, shapes_renewed}
 use Rattle.fs_serial.proofs.Promises.{promises_filtered, promises_renewed}

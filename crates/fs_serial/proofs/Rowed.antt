@@ -6,7 +6,8 @@ use Rattle.fs_ident.specs.Ident.{same}
 use Rattle.fs_ident.specs.In.{In}
 use Rattle.fs_ident.specs.declared.actor.Session.{Session}
 use Rattle.fs_ident.proofs.Booleans.{both}
-use Rattle.fs_ident.proofs.Standing.{none_pass}
+use Rattle.fs_ident.proofs.Standing.{none_pass, any_In}
+use Rattle.fs_ident.proofs.Same.{one_session, same_is}
 use Rattle.fs_field.specs.declared.field.Field.{Field}
 use Rattle.fs_field.specs.declared.field.Field.TheVariants.{Life, Child, Names, Info, Own, SelfW, Other}
 use Rattle.fs_field.specs.declared.lease_kind.LeaseKind.{LeaseKind}
@@ -18,9 +19,7 @@ use Rattle.fs_field.specs.Table.{is_lease, same_kind, has_no}
 use Rattle.fs_field.proofs.SameNo.{same_no_is}
 use Rattle.fs_server.specs.Ships.{has_row, first_gone}
 use Rattle.fs_moderows.proofs.Witnesses.{same_mode_is}
-use Rattle.fs_record.proofs.ValueChanges.{one_session}
 use Rattle.fs_serial.specs.Pending.{AllStand, Stands}
-use Rattle.fs_serial.proofs.Facts.{any-In, same_is}
 
 pub same_field_is : (f g : Field) → same_field f g ≡ true → f ≡ g
 same_field_is (Life a) (Life b) h = ap Life (same_is a b h)
@@ -47,5 +46,5 @@ row_is rows by u r i h =
 -- where no use is without its row, each has one
 pub all_found : (rows : List Row) (by : Session) (uses : List Use) → first_gone rows by uses ≡ None → AllStand rows by uses
 all_found rows by uses h u i =
-    let q = any-In (is_lease u.no by u.field u.kind) rows (not-false (has_row rows by u) (none_pass (λ u. not (has_row rows by u)) uses h u i)) in
+    let q = any_In (is_lease u.no by u.field u.kind) rows (not-false (has_row rows by u) (none_pass (λ u. not (has_row rows by u)) uses h u i)) in
     row_is rows by u q.0 q.1 q.2

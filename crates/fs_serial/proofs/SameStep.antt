@@ -7,6 +7,7 @@ use Rattle.fs_ident.specs.Ident.{child}
 use Rattle.fs_ident.specs.In.{In}
 use Rattle.fs_ident.specs.declared.actor.LeaseNo.{LeaseNo}
 use Rattle.fs_ident.specs.declared.actor.Session.{Session}
+use Rattle.fs_ident.proofs.Standing.{In-front, In-mapped}
 use Rattle.fs_field.specs.declared.field.Field.{Field}
 use Rattle.fs_field.specs.declared.lease_kind.LeaseKind.{LeaseKind}
 use Rattle.fs_field.specs.declared.used.Use.{Use}
@@ -49,7 +50,7 @@ use Rattle.fs_serial.specs.Places.{IsHome, PlacesHold}
 use Rattle.fs_serial.specs.Seen.{ends_of, given_at, with_all, world_of}
 use Rattle.fs_serial.specs.Settled.{Lease, Settled}
 use Rattle.fs_serial.specs.World.{IsThere, WorldHolds, settled_at}
-use Rattle.fs_serial.proofs.Facts.{In-front, In-mapped, below_itself}
+use Rattle.fs_serial.proofs.Facts.{below_itself}
 use Rattle.fs_serial.proofs.PutRows.{In-puts_here}
 use Rattle.fs_serial.proofs.PutRecords.{AreOn}
 use Rattle.fs_serial.proofs.Rest.{IsApart, IsCounted, Rest, joined, record_here}

@@ -8,10 +8,10 @@ use Rattle.fs_ident.specs.In.{In}
 use Rattle.fs_ident.specs.declared.actor.LeaseNo.{LeaseNo}
 use Rattle.fs_ident.specs.declared.actor.Peer.{Peer}
 use Rattle.fs_ident.specs.declared.actor.Session.{Session}
-use Rattle.fs_ident.proofs.Standing.{In-map}
+use Rattle.fs_ident.proofs.Standing.{In-map, In-append}
+use Rattle.fs_ident.proofs.Same.{one_session}
 use Rattle.fs_field.specs.declared.row.Row.{Row}
 use Rattle.fs_field.specs.Table.{has_no}
-use Rattle.fs_record.proofs.ValueChanges.{one_session}
 use Rattle.fs_msg.specs.declared.answer.Answer.{Answer}
 use Rattle.fs_msg.specs.declared.answer.Answer.TheVariants.{Renewed, Recall}
 use Rattle.fs_msg.specs.declared.client_msg.ClientMsg.{ClientMsg}
@@ -34,7 +34,6 @@ use Rattle.fs_serial.specs.Parts.{AllHold, with_client}
 use Rattle.fs_serial.specs.Settled.{Settled, settled, settled_now, told}
 use Rattle.fs_serial.specs.Sight.{sight_of}
 use Rattle.fs_serial.specs.World.{Ends, GoesOn, World, WorldHolds, settled_at, with_answer, with_sent, without_question}
-use Rattle.fs_serial.proofs.Facts.{In-append}
 use Rattle.fs_serial.proofs.Older.{IsLater, later_pairs}
 use Rattle.fs_serial.proofs.Settling.{later}
 use Rattle.fs_serial.proofs.Together.{its_client, other_client}

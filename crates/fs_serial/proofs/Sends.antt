@@ -4,7 +4,7 @@ use Rattle.std.specs.Prelude.{Option, Some, None, option_map}
 use Rattle.fs_ident.specs.In.{In}
 use Rattle.fs_ident.specs.declared.actor.LeaseNo.{LeaseNo}
 use Rattle.fs_ident.specs.declared.actor.Session.{Session}
-use Rattle.fs_ident.proofs.Standing.{In-map}
+use Rattle.fs_ident.proofs.Standing.{In-map, In-mapped}
 use Rattle.fs_field.specs.declared.field.Field.{Field}
 use Rattle.fs_field.specs.declared.lease_kind.LeaseKind.{LeaseKind}
 use Rattle.fs_field.specs.declared.row.Row.{Row}
@@ -33,7 +33,6 @@ use Rattle.fs_serial.specs.Client.{KeptDistinct}
 use Rattle.fs_serial.specs.Exchange.{due, IsQuestion, OneExchange, PairsFit, ShipsLog, ShipsFront, IsFront, IsReturned, ReleasesReturned, AsksGivenKinds, ReturnsFit, RenewalsBacked, ExchangeFits}
 use Rattle.fs_serial.specs.Settled.{Lease, Settled, lease_in, lease_with, settled_now}
 use Rattle.fs_serial.specs.Sight.{Sight}
-use Rattle.fs_serial.proofs.Facts.{In-mapped}
 use Rattle.fs_serial.proofs.KeptPairs.{kept_pair, no_pairs, renews_pairs}
 use Rattle.fs_serial.proofs.ReplyPins.{distinct_mapped, one_keeps, pair_in}
 use Rattle.fs_serial.proofs.Seats.{Seat, seen_at, idle_due, settled_none}

@@ -8,6 +8,7 @@ use Rattle.fs_ident.specs.In.{In}
 use Rattle.fs_ident.specs.declared.actor.LeaseNo.{LeaseNo}
 use Rattle.fs_ident.specs.declared.actor.Session.{Session}
 use Rattle.fs_ident.proofs.Booleans.{joined}
+use Rattle.fs_ident.proofs.Standing.{In-front}
 use Rattle.fs_field.specs.declared.field.Field.{Field}
 use Rattle.fs_field.specs.declared.lease_kind.LeaseKind.{LeaseKind}
 use Rattle.fs_field.specs.declared.row.Row.{Row}
@@ -40,7 +41,6 @@ use Rattle.fs_serial.specs.World.{GoesOn, IsThere, World, WorldHolds, settled_at
 use Rattle.fs_serial.proofs.Again.{client_same}
 use Rattle.fs_serial.proofs.Asks as asks
 use Rattle.fs_serial.proofs.Counting.{given_by}
-use Rattle.fs_serial.proofs.Facts.{In-front}
 use Rattle.fs_serial.proofs.LaterSteps.{released_later, renewed_later}
 use Rattle.fs_serial.proofs.PairLoops.{ends_backed, rows_released, rows_renewed}
 use Rattle.fs_serial.proofs.Seats.{settled_none}

@@ -6,6 +6,7 @@ use Rattle.std.specs.FinMap.{keys}
 use Rattle.fs_ident.specs.In.{In}
 use Rattle.fs_ident.specs.declared.actor.LeaseNo.{LeaseNo}
 use Rattle.fs_ident.specs.declared.actor.Session.{Session}
+use Rattle.fs_ident.proofs.Standing.{In-append}
 use Rattle.fs_field.specs.declared.row.Row.{Row}
 use Rattle.fs_modes.specs.declared.modes.Modes.{Modes}
 use Rattle.fs_moderows.specs.Answer.{reap_blocker}
@@ -19,7 +20,6 @@ use Rattle.fs_serial.specs.Settled.{Settled}
 use Rattle.fs_serial.specs.Sight.{Counts, Sight, sight_of}
 use Rattle.fs_serial.specs.World.{Ends, GoesOn, World, WorldHolds, settled_at, with_sent}
 use Rattle.fs_serial.proofs.Counting.{given_by}
-use Rattle.fs_serial.proofs.Facts.{In-append}
 use Rattle.fs_serial.proofs.Going.{carried_still}
 use Rattle.fs_serial.proofs.Older.{IsLater, later_itself}
 use Rattle.fs_serial.proofs.Reaping.{reap_keeps, reap_relied}

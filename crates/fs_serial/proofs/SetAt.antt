@@ -42,11 +42,6 @@ get_set (z ∷ zs) (suc k) (suc j) y x h = elim (get_set zs k j y x h) as (λ _.
 
 -- ## By what is in it
 
-pub In_got : {X : Type 0} (xs : List X) (k : ℕ) (x : X) → slice_get xs k ≡ Some x → In x xs
-In_got [] k x h = absurd (cc)
-In_got (z ∷ zs) zero x h = let e : x ≡ z = cc in inl e
-In_got (z ∷ zs) (suc k) x h = inr (In_got zs k x h)
-
 pub In_set : {X : Type 0} (xs : List X) (k : ℕ) (y z : X) → In z (slice_set xs k y) → (z ≡ y) ⊎ In z xs
 In_set [] k y z i = absurd i
 In_set (x ∷ xs) zero y z (inl e) = inl e

@@ -5,6 +5,7 @@ use Rattle.std.specs.List.{list_any}
 use Rattle.fs_ident.specs.In.{In}
 use Rattle.fs_ident.specs.declared.actor.Session.{Session}
 use Rattle.fs_ident.proofs.Booleans.{neither}
+use Rattle.fs_ident.proofs.Standing.{In-front, In-mapped}
 use Rattle.fs_field.specs.Field.{file_of}
 use Rattle.fs_msg.specs.declared.answer.Answer.{Answer}
 use Rattle.fs_msg.specs.declared.answer.Answer.TheVariants.{Granted, Renewed, Released, Shipped, Recall}
@@ -14,7 +15,6 @@ use Rattle.fs_view.specs.View.{value_after_log}
 use Rattle.fs_client.specs.Answers.{over_after}
 use Rattle.fs_serial.specs.Exchange.{admitted_in}
 use Rattle.fs_serial.specs.Settled.{Lease, Settled, acknowledged, acknowledged_all, lease_after, effects_in, granted, with_leases, with_over, told, settled}
-use Rattle.fs_serial.proofs.Facts.{In-mapped, In-front}
 use Rattle.fs_serial.proofs.Reply.{with_last, value_seen}
 
 -- ## One entry more

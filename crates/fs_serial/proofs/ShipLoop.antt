@@ -4,7 +4,7 @@ use Rattle.std.specs.Prelude.{Some, None}
 use Rattle.std.specs.Cmp.{nat_eq_equiv}
 use Rattle.fs_ident.specs.In.{In}
 use Rattle.fs_ident.specs.declared.actor.Session.{Session}
-use Rattle.fs_ident.proofs.Standing.{In-map}
+use Rattle.fs_ident.proofs.Standing.{In-map, In-mapped}
 use Rattle.fs_field.specs.declared.used.Use.{Use}
 use Rattle.fs_msg.specs.declared.end.End.{End}
 use Rattle.fs_msg.specs.declared.end.End.TheVariants as end
@@ -24,7 +24,6 @@ use Rattle.fs_serial.specs.World.{Ends, GoesOn, HasNumber}
 use Rattle.fs_serial.proofs.AdmitAll.{admit_kept}
 use Rattle.fs_serial.proofs.Again.{goes_again}
 use Rattle.fs_serial.proofs.Elsewhere.{none_refused, over_still}
-use Rattle.fs_serial.proofs.Facts.{In-mapped}
 use Rattle.fs_serial.proofs.Going.{carried_alike}
 use Rattle.fs_serial.proofs.Refusing.{entry_refused}
 use Rattle.fs_serial.proofs.Together.{its_client}

@@ -8,7 +8,7 @@ use Rattle.fs_ident.specs.declared.actor.LeaseNo.{LeaseNo}
 use Rattle.fs_ident.specs.declared.actor.Peer.{Peer}
 use Rattle.fs_ident.specs.declared.actor.Session.{Session}
 use Rattle.fs_ident.proofs.Passing.{found}
-use Rattle.fs_ident.proofs.Standing.{In-map, In-put}
+use Rattle.fs_ident.proofs.Standing.{In-map, In-put, In-append}
 use Rattle.fs_field.specs.declared.effect.Effect.TheVariants.{RemoveHandle}
 use Rattle.fs_field.specs.declared.row.Row.{Row}
 use Rattle.fs_field.specs.Table.{has_no, no_before}
@@ -30,7 +30,6 @@ use Rattle.fs_server.specs.declared.state.Server.{Server}
 use Rattle.fs_server.proofs.OneByOne.{Lapsed, each_lapsed, reap_done, reap_kept_off}
 use Rattle.fs_server.proofs.Answered.{IsRowed}
 use Rattle.fs_serial.specs.Cluster.{flying_from}
-use Rattle.fs_serial.proofs.Facts.{In-append}
 use Rattle.fs_serial.proofs.PutRecords.{AreOn, entry_has}
 use Rattle.fs_serial.proofs.Rest.{IsApart, IsSelf, Rest, effects_apart, effects_joined, found_here, itself, joined, off_file, record_here, selves_here}
 use Rattle.fs_serial.proofs.Sim.{IsSim, recall_quiet}

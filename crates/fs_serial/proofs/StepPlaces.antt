@@ -5,6 +5,7 @@ use Rattle.std.specs.List.{filter}
 use Rattle.std.proofs.lemmas.List.Elements.{filter-append}
 use Rattle.fs_ident.specs.In.{In}
 use Rattle.fs_ident.specs.declared.kind.Kind.{Kind}
+use Rattle.fs_ident.proofs.Standing.{In-append, In-front, In-behind}
 use Rattle.fs_field.specs.Table.{is_ordered}
 use Rattle.fs_map.specs.Map.{server_of}
 use Rattle.fs_msg.specs.declared.item.Item.{Item}
@@ -14,7 +15,6 @@ use Rattle.fs_server.specs.declared.state.Server.{Server}
 use Rattle.fs_serial.specs.Cluster.{Cluster, Flying, after_step}
 use Rattle.fs_serial.specs.Fresh.{IsMade, made_in, made_by, or_else, root_kind}
 use Rattle.fs_serial.specs.Places.{IsHome, IsSent, OnePlace, PlacesHold, gives_it, places_for}
-use Rattle.fs_serial.proofs.Facts.{In-append, In-behind, In-front}
 use Rattle.fs_serial.proofs.RestOf.{IsBetween, between}
 use Rattle.fs_serial.proofs.SameStep.{IsSameStep}
 

@@ -4,6 +4,7 @@ use Rattle.std.specs.Prelude.{◌≢◌, Option, Some, None, slice_get}
 use Rattle.std.specs.List.{list_all}
 use Rattle.fs_ident.specs.declared.actor.Session.{Session}
 use Rattle.fs_ident.proofs.Passing.{found}
+use Rattle.fs_ident.proofs.Standing.{In-got, In-mapped}
 use Rattle.fs_msg.specs.declared.client_msg.ClientMsg.{ClientMsg}
 use Rattle.fs_msg.specs.declared.client_msg.ClientMsg.TheVariants.{Ask, Renew, Release, Ship}
 use Rattle.fs_msg.specs.declared.entry.Entry.{Entry}
@@ -25,10 +26,9 @@ use Rattle.fs_serial.specs.Seen.{ClusterHolds, counts_of, world_of}
 use Rattle.fs_serial.specs.World.{WorldHolds}
 use Rattle.fs_serial.proofs.Arriving.{parcel_fits}
 use Rattle.fs_serial.proofs.ClusterSteps.{there_begun}
-use Rattle.fs_serial.proofs.Facts.{In-mapped}
 use Rattle.fs_serial.proofs.Lapsing.{begins, begun_at}
 use Rattle.fs_serial.proofs.ServerEvents.{all_plain}
-use Rattle.fs_serial.proofs.SetAt.{In_got, get_here}
+use Rattle.fs_serial.proofs.SetAt.{get_here}
 
 turn_note : (xs : List (List ℕ × Session)) (s : Server) → (turn_over xs s).out.note ≢ Strange
 turn_note [] s e = absurd (cc)
@@ -45,7 +45,7 @@ ship_note by entries s plain =
 -- a server that has begun
 module _ (skew greatest k : ℕ) (c : Cluster) (s : Server) (at : slice_get c.servers k ≡ Some s) (h : ClusterHolds skew greatest c) where
   view : WorldHolds greatest (world_of s c)
-  view = h.parts s (In_got c.servers k s at)
+  view = h.parts s (In-got c.servers k s at)
 
   message_note : (by : Session) (m : ClientMsg) → IsThere k (event.FromClient by m) c → (message_step by m s).out.note ≢ Strange
   message_note by (Ask items dir) there = λ e. absurd (cc)

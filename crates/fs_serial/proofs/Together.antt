@@ -2,9 +2,9 @@
 use Rattle.std.proofs.Common.{◌≡◌, ℕ, ◌==◌, true, false, List, refl, ap, subst, cond}
 use Rattle.fs_ident.specs.declared.actor.LeaseNo.{LeaseNo}
 use Rattle.fs_ident.specs.declared.actor.Session.{Session}
+use Rattle.fs_ident.proofs.Same.{one_session}
 use Rattle.fs_msg.specs.declared.item.Item.{Item}
 use Rattle.fs_record.specs.Records.{RecordMap}
-use Rattle.fs_record.proofs.ValueChanges.{one_session}
 use Rattle.fs_serial.specs.Fresh.{FreshReserved, Reserved, Reserves, reserved_by}
 use Rattle.fs_serial.specs.Parts.{AllHold, SessionHolds, SessionFits, with_client, with_replies}
 use Rattle.fs_serial.specs.Settled.{Settled}

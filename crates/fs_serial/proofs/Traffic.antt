@@ -7,7 +7,8 @@ use Rattle.fs_ident.specs.declared.actor.Peer.{Peer}
 use Rattle.fs_ident.specs.declared.actor.Peer.TheVariants.{Client as OfSession}
 use Rattle.fs_ident.specs.declared.actor.Session.{Session}
 use Rattle.fs_ident.proofs.Passing.{found}
-use Rattle.fs_record.proofs.ValueChanges.{one_session}
+use Rattle.fs_ident.proofs.Standing.{In-mapped}
+use Rattle.fs_ident.proofs.Same.{one_session}
 use Rattle.fs_msg.specs.declared.answer.Answer.{Answer}
 use Rattle.fs_msg.specs.declared.client_msg.ClientMsg.{ClientMsg}
 use Rattle.fs_msg.specs.declared.msg.Msg.{Msg}
@@ -20,7 +21,6 @@ use Rattle.fs_serial.specs.Exchange.{OneExchange}
 use Rattle.fs_serial.specs.Seen.{ends_of}
 use Rattle.fs_serial.specs.World.{Ends, message_in, pushed, with_ends}
 use Rattle.fs_serial.specs.World as world
-use Rattle.fs_serial.proofs.Facts.{In-mapped}
 use Rattle.fs_serial.proofs.ServerEvents.{one_up}
 
 abbrev pub messages : {X : Type 0} → List (ℕ × X) → List X

@@ -6,6 +6,7 @@ use Rattle.fs_ident.specs.declared.actor.Session.{Session}
 use Rattle.fs_ident.specs.In.{In}
 use Rattle.fs_ident.proofs.Booleans.{both}
 use Rattle.fs_ident.proofs.Standing.{In-filter}
+use Rattle.fs_ident.proofs.Options.{not_some}
 use Rattle.fs_model.specs.Step.{is_empty}
 use Rattle.fs_msg.specs.declared.answer.Answer.{Answer}
 use Rattle.fs_msg.specs.declared.client_msg.ClientMsg.{ClientMsg}
@@ -26,7 +27,6 @@ use Rattle.fs_serial.proofs.ClientSteps.{IsMoved, reserves_in}
 use Rattle.fs_serial.proofs.Releases.{seat_releases, releases_fewer}
 use Rattle.fs_serial.proofs.Seats.{Seat, seen_at}
 use Rattle.fs_serial.proofs.Sends.{seat_ships, seat_renews}
-use Rattle.fs_serial.proofs.Admit.{not_some}
 
 -- these stand first
 record HasFront (front all : List Entry) : Type 0 where

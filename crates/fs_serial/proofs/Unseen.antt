@@ -8,6 +8,7 @@ use Rattle.fs_ident.specs.declared.actor.Session.{Session}
 use Rattle.fs_ident.specs.Ident.{same}
 use Rattle.fs_ident.specs.In.{In}
 use Rattle.fs_ident.specs.Ordered.{put_before}
+use Rattle.fs_ident.proofs.Same.{same_is}
 use Rattle.fs_modes.specs.declared.modes.Mode.{Mode}
 use Rattle.fs_modes.specs.declared.modes.Modes.{Modes}
 use Rattle.fs_modes.specs.Modes.{has}
@@ -25,7 +26,7 @@ use Rattle.fs_rows.specs.Answer.{answer, answer_by}
 use Rattle.fs_rows.specs.Granted.{with_rows}
 use Rattle.fs_rows.specs.Live.{unlocked_on}
 use Rattle.fs_rows.proofs.Granting.{find_put, lock_put}
-use Rattle.fs_serial.proofs.Facts.{same_is, same_symm}
+use Rattle.fs_serial.proofs.Facts.{same_symm}
 
 -- ## What is read past rows
 

@@ -5,6 +5,7 @@ use Rattle.std.proofs.lemmas.Bool.{eqb-true, eqb-false}
 use Rattle.std.specs.Prelude.{Option, Some, slice_get, slice_set}
 use Rattle.fs_ident.specs.In.{In}
 use Rattle.fs_ident.specs.declared.actor.Session.{Session}
+use Rattle.fs_ident.proofs.Standing.{In-got}
 use Rattle.fs_field.specs.declared.row.Row.{Row}
 use Rattle.fs_msg.specs.declared.item.Item.{Item}
 use Rattle.fs_record.specs.Records.{RecordMap}
@@ -19,7 +20,7 @@ use Rattle.fs_serial.specs.Settled.{settled_now}
 use Rattle.fs_serial.specs.Sight.{Sight, count_with, sight_of}
 use Rattle.fs_serial.specs.World.{Ends, World, WorldHolds, settled_at}
 use Rattle.fs_serial.proofs.Servers.{In_at}
-use Rattle.fs_serial.proofs.SetAt.{In_got, get_other}
+use Rattle.fs_serial.proofs.SetAt.{get_other}
 
 -- ## What holds of a world, without its server
 
@@ -106,4 +107,4 @@ pub all_views : (skew greatest k : ℕ) (c : Cluster) (s : Server) → slice_get
     → (t : Server) → In t c.servers → WorldHolds greatest (world_of t c)
 all_views skew greatest k c s at places skewed clocks h t i =
     let q = In_at c.servers t i in
-    other_view greatest c s t k q.place at (places.numbered k s at) q.is (places.numbered q.place t q.is) (skewed t i ∙ sym (skewed s (In_got c.servers k s at))) (clocks t i) h
+    other_view greatest c s t k q.place at (places.numbered k s at) q.is (places.numbered q.place t q.is) (skewed t i ∙ sym (skewed s (In-got c.servers k s at))) (clocks t i) h

@@ -7,6 +7,7 @@ use Rattle.std.specs.FinMap.{get, keys}
 use Rattle.std.proofs.lemmas.Bool.Decides.{nat_tests}
 use Rattle.std.proofs.lemmas.List.{drop_more}
 use Rattle.std.proofs.lemmas.List.Folds.{list_all-append}
+use Rattle.std.proofs.lemmas.Bool.{not-true}
 use Rattle.fs_ident.specs.In.{In}
 use Rattle.fs_ident.specs.Ident.{same}
 use Rattle.fs_ident.specs.declared.actor.LeaseNo.{LeaseNo}
@@ -253,11 +254,7 @@ module _ (s : Server) (files : List (List ℕ)) (f : List ℕ) (rest : List (Lis
   whole_all = sym k.lost ∙ reap_from-append (lapsed_on s f) (lapsed_among s rest) (reaping_by l s).server l.admitted l.blockers
 
   other_file : (g : List ℕ) → In g rest → same g f ≡ false
-  other_file g i = off (same g f) (all-In (λ g. not (same g f)) rest (first _ _ k.apart) g i)
-    where
-      off : (b : Bool) → not b ≡ true → b ≡ false
-      off true h = absurd (cc)
-      off false h = refl
+  other_file g i = not-true (same g f) (all-In (λ g. not (same g f)) rest (first _ _ k.apart) g i)
 
   pub losing_on : (n : Lost) → reaping_by n s ≡ reap_from (lapsed_on s f) (reaping_by l s).server l.admitted l.blockers → CanLose n s → AreLosing s files rest n
   losing_on n is can = record {

@@ -4,6 +4,7 @@ use mathlib.Core.Path.{fun_ext}
 use Rattle.std.specs.Prelude.{Option, Some, None, is_some}
 use Rattle.std.specs.Cmp.{nat_eq_equiv}
 use Rattle.std.specs.List.{find, list_any}
+use Rattle.std.proofs.Math.Bool.{and-false}
 use Rattle.fs_ident.specs.declared.actor.Session.{Session}
 use Rattle.fs_ident.specs.Ordered.{put_before}
 use Rattle.fs_modes.specs.declared.modes.Mode.{Mode}
@@ -28,13 +29,9 @@ any_put test first x (y ∷ ys) h =
       | false ↦ ap (λ b. test y || b) (any_put test first x ys h)
     ]
 
-never : (x : Bool) → (x && false) ≡ false
-never true = refl
-never false = refl
-
 -- whether another session is fixed does not change
 fixed_beside : (r : Row) (rows : List Row) (f : List ℕ) (m : Mode) (s : Session) → (r.session.0 == s.0) ≡ false → is_fixed (with_row r rows) f m s ≡ is_fixed rows f m s
-fixed_beside r rows f m s other = ap not (any_put (λ (x : Row). is_self f m x.field && (x.session.0 == s.0)) (λ (x : Row). no_before r.no x.no) r rows (ap (λ b. is_self f m r.field && b) other ∙ never (is_self f m r.field)))
+fixed_beside r rows f m s other = ap not (any_put (λ (x : Row). is_self f m x.field && (x.session.0 == s.0)) (λ (x : Row). no_before r.no x.no) r rows (ap (λ b. is_self f m r.field && b) other ∙ and-false (is_self f m r.field)))
 
 guarded : (a b c d e : Bool) → (b ≡ false → d ≡ e) → (((not a && not b) && c) && d) ≡ (((not a && not b) && c) && e)
 guarded true b c d e k = refl
@@ -55,7 +52,7 @@ stands_same opens r rows f m = fun_ext (λ (x : Row). ap (λ b. not (x.session.0
 
 -- a row that no transaction keeps locks nothing
 locks_none : (r : Row) (rows : List Row) (field : Field) → r.lock ≡ None → lock_on field (with_row r rows) ≡ lock_on field rows
-locks_none r rows field free = lock_put field (λ (x : Row). no_before r.no x.no) r rows (ap (λ o. same_field r.field field && is_some o) free ∙ never (same_field r.field field))
+locks_none r rows field free = lock_put field (λ (x : Row). no_before r.no x.no) r rows (ap (λ o. same_field r.field field && is_some o) free ∙ and-false (same_field r.field field))
 
 -- what the session is answered that would change what it tells of a mode
 pub same_self : (opens : Opens) (r : Row) (rows : List Row) (f : List ℕ) (m : Mode) → r.lock ≡ None → answer_self opens (with_row r rows) r.session f m ≡ answer_self opens rows r.session f m
@@ -71,4 +68,4 @@ same_other opens r rows f m free =
     ap (λ o. unless_locked o (cond (has_fixed_other opens (with_row r rows) f m r.session) (Granted (Some true)) (waits_or (find (is_self_of_other f m r.session) (with_row r rows)) (Some false)))) (locks_none r rows (Other f m) free)
     ∙ ap (λ b. unless_locked (lock_on (Other f m) rows) (cond b (Granted (Some true)) (waits_or (find (is_self_of_other f m r.session) (with_row r rows)) (Some false)))) (other_fixed (λ g. opens) r rows f m r.session)
     ∙ ap (λ o. unless_locked (lock_on (Other f m) rows) (cond (has_fixed_other opens rows f m r.session) (Granted (Some true)) (waits_or o (Some false)))) (find_put (is_self_of_other f m r.session) (λ (x : Row). no_before r.no x.no) r rows
-    (ap (λ b. is_self f m r.field && not b) (nat_eq_equiv.refl r.session.0) ∙ never (is_self f m r.field)))
+    (ap (λ b. is_self f m r.field && not b) (nat_eq_equiv.refl r.session.0) ∙ and-false (is_self f m r.field)))

@@ -23,6 +23,7 @@ use Rattle.fs_field.specs.Field.{same_field, same_mode, tells_no_mode}
 use Rattle.fs_field.specs.Table.{has_no, is_ordered, lock_on}
 use Rattle.fs_field.proofs.Order.{one_of_number}
 use Rattle.fs_field.proofs.SameNo.{same_no_is}
+use Rattle.fs_field.proofs.Conflicts.{self_on}
 use Rattle.fs_moderows.specs.Answer.{Opens, unless_locked, waits_or, answer_self, answer_other, has_fixed_other, is_self_of_other, stands_against_self, has_mode, is_told_true, rests_on, stands_against_reap, reap_blocker}
 use Rattle.fs_moderows.proofs.Witnesses.{In_filtered}
 use Rattle.fs_rows.specs.Answer.{answer_by, answer}
@@ -97,10 +98,6 @@ meets_off (Own a) k (Other b m) l h = absurd (cc)
 meets_off (SelfW a n) k (Other b m) l h = absurd (cc)
 meets_off (Other a n) k (Other b m) l h = absurd (cc)
 meets_off f k g l h = refl
-
-self_on : (f : List ℕ) (m : Mode) (g : Field) → is_self f m g ≡ true → not (tells_no_mode g) ≡ true
-self_on f m (SelfW g n) h = refl
-self_on f m g h = absurd (cc)
 
 mode_meets_on : (selves : Selves) (rows : List Row) (x : Session) (g : Field) (promise : Option Bool) (y : Session) (f : List ℕ) (m : Mode) → mode_meets selves rows x g promise y (SelfW f m) ≡ true → not (tells_no_mode g) ≡ true
 mode_meets_on selves rows x (Other g n) promise y f m h = refl

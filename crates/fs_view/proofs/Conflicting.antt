@@ -3,6 +3,7 @@ use Rattle.std.proofs.Common.{◌≡◌, ℕ, ◌&&◌, ◌||◌, ◌==◌, Bool
 use Rattle.std.specs.Prelude.{Some}
 use Rattle.std.specs.List.{filter, list_any}
 use Rattle.fs_ident.specs.declared.actor.Session.{Session}
+use Rattle.fs_ident.proofs.Booleans.{or_regroup}
 use Rattle.fs_modes.specs.declared.modes.Mode.{Mode}
 use Rattle.fs_modes.specs.declared.modes.Mode.TheVariants.{AccR, AccW, AccD, DenyR, DenyW, DenyD}
 use Rattle.fs_modes.specs.declared.modes.Modes.{Modes}
@@ -71,15 +72,9 @@ any_none : (ms : List Mode) → list_any (λ m. false) ms ≡ false
 any_none [] = refl
 any_none (m ∷ ms) = any_none ms
 
-or_four : (a b c d : Bool) → ((a || b) || (c || d)) ≡ ((a || c) || (b || d))
-or_four true b c d = refl
-or_four false true true d = refl
-or_four false true false d = refl
-or_four false false c d = refl
-
 any_or : (p q : Mode → Bool) (ms : List Mode) → list_any (λ m. p m || q m) ms ≡ (list_any p ms || list_any q ms)
 any_or p q [] = refl
-any_or p q (m ∷ ms) = ap (λ b. (p m || q m) || b) (any_or p q ms) ∙ or_four (p m) (q m) (list_any p ms) (list_any q ms)
+any_or p q (m ∷ ms) = ap (λ b. (p m || q m) || b) (any_or p q ms) ∙ or_regroup (p m) (q m) (list_any p ms) (list_any q ms)
 
 any_and : (b : Bool) (q : Mode → Bool) (ms : List Mode) → list_any (λ m. b && q m) ms ≡ (b && list_any q ms)
 any_and true q ms = refl

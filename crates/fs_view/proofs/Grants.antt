@@ -1,13 +1,14 @@
 -- Leases that are granted, one after another.
 use Rattle.std.proofs.Common.{◌≡◌, ◌&&◌, true, not, List, [], ◌∷◌, ◌++◌, ap, map, sym, ◌∙◌, append_assoc}
 use Rattle.std.specs.List.{list_any}
+use Rattle.std.proofs.lemmas.Bool.{not-true}
 use Rattle.fs_ident.proofs.Booleans.{both}
 use Rattle.fs_field.specs.Value.{is_value_of}
 use Rattle.fs_view.specs.declared.kept.Kept.{Kept}
 use Rattle.fs_view.specs.declared.new_lease.NewLease.{NewLease}
 use Rattle.fs_view.specs.Kept.{has_number}
 use Rattle.fs_view.specs.View.{are_distinct, can_grant_all, kept_new}
-use Rattle.fs_view.proofs.Places.{not_true, distinct_append}
+use Rattle.fs_view.proofs.Places.{distinct_append}
 
 -- what adding leases one after another keeps
 pub record Adding (new : List NewLease) (leases all : List Kept) : Type 0 where
@@ -23,6 +24,6 @@ one_added x rest new k before after all e is put a =
     let there : after ≡ before ++ kept_new x ∷ [] = put ∙ ap (λ (j : Kept). before ++ j ∷ []) is in
     record {
       fits = ap (can_grant_all rest) there ∙ q.1;
-      distinct = ap are_distinct there ∙ distinct_append before (kept_new x) (not_true (list_any (has_number x.no) before) p.1) a.distinct;
+      distinct = ap are_distinct there ∙ distinct_append before (kept_new x) (not-true (list_any (has_number x.no) before) p.1) a.distinct;
       added = ap (λ xs. xs ++ map kept_new rest) there ∙ (append_assoc before (kept_new x ∷ []) (map kept_new rest) ∙ (ap (λ xs. before ++ map kept_new xs) (sym e) ∙ a.added));
     }

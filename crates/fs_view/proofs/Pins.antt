@@ -4,6 +4,7 @@ use Rattle.std.specs.Prelude.{Option, Some, None, nat_le, option_map}
 use Rattle.std.specs.Option.{option_map_or, option_and_then}
 use Rattle.std.specs.List.{find, list_any, list_all, filter_map, cons_option}
 use Rattle.std.proofs.lemmas.Bool.Decides.{nat_tests}
+use Rattle.std.proofs.lemmas.Bool.{not-true}
 use Rattle.fs_ident.proofs.Booleans.{both, joined}
 use Rattle.fs_ident.specs.In.{In}
 use Rattle.fs_ident.specs.declared.actor.LeaseNo.{LeaseNo}
@@ -21,7 +22,6 @@ use Rattle.fs_view.specs.declared.kept.Standing.TheVariants.{Held, Pinned, Leavi
 use Rattle.fs_view.specs.Kept.{number_of, has_number, entries_of, pinned, takes_pin, use_of, use_in, serves, is_better, offers}
 use Rattle.fs_view.specs.View.{View, are_distinct, stands, is_in_hand, pinned_at, can_pin_all, taken, taken_from, offered, item_use, uses_in, walk_in}
 use Rattle.fs_view.specs.Laws.{have_room}
-use Rattle.fs_view.proofs.Places.{not_true}
 use Rattle.fs_view.proofs.Changed.{pinned_number}
 
 -- ## A pin changes no number, and takes no lease out of hand
@@ -130,7 +130,7 @@ stands_there test k (j ∷ ks) i d h =
           elim (has_number (number_of k.standing) j) as (λ b. has_number (number_of k.standing) j ≡ b → option_map_or (λ (x : Kept). test x.standing) (cond b (Some j) (find (has_number (number_of k.standing)) ks)) false ≡ true) [
             | true ↦ λ t.
                 let any : list_any (has_number (number_of j.standing)) ks ≡ true = any_there (number_of j.standing) k ks r (same_no_symm (number_of k.standing) (number_of j.standing) ∙ t) in
-                let none : list_any (has_number (number_of j.standing)) ks ≡ false = not_true _ q.0 in
+                let none : list_any (has_number (number_of j.standing)) ks ≡ false = not-true _ q.0 in
                 absurd (cc)
             | false ↦ λ t. stands_there test k ks r q.1 h
           ] refl

@@ -4,6 +4,7 @@ use Rattle.std.specs.Prelude.{Option, Some, None, nat_lt, option_map, IfSome, Re
 use Rattle.fs_ident.specs.declared.memory.Memory.{Memory}
 use Rattle.std.specs.List.{find, filter, list_any, position, position_or_len, insert, remove}
 use Rattle.std.proofs.lemmas.Bool.Decides.{nat_tests}
+use Rattle.std.proofs.lemmas.Bool.{not-true}
 use Rattle.fs_ident.proofs.Booleans.{both, neither}
 use Rattle.fs_ident.specs.declared.actor.LeaseNo.{LeaseNo}
 use Rattle.fs_field.specs.Table.{same_no}
@@ -11,10 +12,6 @@ use Rattle.fs_field.proofs.SameNo.{same_no_is, same_no_symm}
 use Rattle.fs_view.specs.declared.kept.Kept.{Kept}
 use Rattle.fs_view.specs.Kept.{number_of, has_number}
 use Rattle.fs_view.specs.View.{are_distinct, at_number}
-
-pub not_true : (b : Bool) → not b ≡ true → b ≡ false
-not_true true h = absurd (cc)
-not_true false h = refl
 
 -- the first that passes stands there
 abbrev pub IsFirst : (Kept → Bool) → List Kept → ℕ → Type 0
@@ -83,7 +80,7 @@ none_removed number (k ∷ ks) h =
 alone : (number : LeaseNo) (k : Kept) (ks : List Kept) → has_number number k ≡ true → are_distinct (k ∷ ks) ≡ true → list_any (has_number number) ks ≡ false
 alone number k ks h d =
     let q : (not (list_any (has_number (number_of k.standing)) ks) ≡ true) × (are_distinct ks ≡ true) = both _ (are_distinct ks) d in
-    ap (λ (n : LeaseNo). list_any (has_number n) ks) (sym (same_no_is (number_of k.standing) number h)) ∙ not_true (list_any (has_number (number_of k.standing)) ks) q.0
+    ap (λ (n : LeaseNo). list_any (has_number n) ks) (sym (same_no_is (number_of k.standing) number h)) ∙ not-true (list_any (has_number (number_of k.standing)) ks) q.0
 
 rest_distinct : (k : Kept) (ks : List Kept) → are_distinct (k ∷ ks) ≡ true → are_distinct ks ≡ true
 rest_distinct k ks d = let q : (not (list_any (has_number (number_of k.standing)) ks) ≡ true) × (are_distinct ks ≡ true) = both _ (are_distinct ks) d in q.1
@@ -129,7 +126,7 @@ distinct_filter test [] h = refl
 distinct_filter test (k ∷ ks) h =
     let q : (not (list_any (has_number (number_of k.standing)) ks) ≡ true) × (are_distinct ks ≡ true) = both _ (are_distinct ks) h in
     elim (test k) as (λ b. are_distinct (cond b (k ∷ filter test ks) (filter test ks)) ≡ true) [
-      | true ↦ ap (λ b. not b && are_distinct (filter test ks)) (any_filter (number_of k.standing) test ks (not_true (list_any (has_number (number_of k.standing)) ks) q.0)) ∙ distinct_filter test ks q.1
+      | true ↦ ap (λ b. not b && are_distinct (filter test ks)) (any_filter (number_of k.standing) test ks (not-true (list_any (has_number (number_of k.standing)) ks) q.0)) ∙ distinct_filter test ks q.1
       | false ↦ distinct_filter test ks q.1
     ]
 
@@ -142,7 +139,7 @@ distinct_append [] k h d = refl
 distinct_append (j ∷ ks) k h d =
     let q : (not (list_any (has_number (number_of j.standing)) ks) ≡ true) × (are_distinct ks ≡ true) = both _ (are_distinct ks) d in
     let p : (has_number (number_of k.standing) j ≡ false) × (list_any (has_number (number_of k.standing)) ks ≡ false) = neither (has_number (number_of k.standing) j) _ h in
-    ap (λ b. not b && are_distinct (ks ++ k ∷ [])) (any_append (number_of j.standing) ks k ∙ (ap (λ b. b || has_number (number_of j.standing) k) (not_true (list_any (has_number (number_of j.standing)) ks) q.0) ∙ (same_no_symm (number_of k.standing) (number_of j.standing) ∙ p.0))) ∙ distinct_append ks k p.1 q.1
+    ap (λ b. not b && are_distinct (ks ++ k ∷ [])) (any_append (number_of j.standing) ks k ∙ (ap (λ b. b || has_number (number_of j.standing) k) (not-true (list_any (has_number (number_of j.standing)) ks) q.0) ∙ (same_no_symm (number_of k.standing) (number_of j.standing) ∙ p.0))) ∙ distinct_append ks k p.1 q.1
 
 -- ## What is found at a place
 

@@ -15,6 +15,7 @@ use Rattle.fs_model.specs.Children.{child_at}
 use Rattle.fs_model.specs.Handles.{handle_at, any_conflicts}
 use Rattle.fs_model.specs.Sound.{is_change}
 use Rattle.fs_model.specs.Step.{Stepped, step, is_empty, is_child, look_up, look_up_in, child_reply, list, list_in, kind, kind_reply, info, create, create_in, open_file, close, set, set_by}
+use Rattle.fs_model.proofs.SoundOutcomes.{child_reply_reads, look_up_reads, list_reads, kind_reads, info_reads}
 use Rattle.fs_record.specs.Effects.{effects_of, tells_its_effects}
 
 -- the outcome has effects exactly where it is a change
@@ -24,26 +25,6 @@ Tells by o s = is_empty (effects_of by o s.reply) ≡ not (is_change s.reply)
 by_test : (by : Session) (o : Op) (b : Bool) (s t : Stepped) → Tells by o s → Tells by o t → Tells by o (cond b s t)
 by_test by o true s t p q = p
 by_test by o false s t p q = q
-
-child_read : (c : Option (List ℕ)) → is_change (child_reply c) ≡ false
-child_read None = refl
-child_read (Some file) = refl
-
-look_up_read : (o : Option Node) (name : List ℕ) → is_change (look_up o name) ≡ false
-look_up_read None name = refl
-look_up_read (Some n) name = elim n.kind as (λ k. is_change (look_up_in k n name) ≡ false) [ File ↦ refl | Dir ↦ child_read (child_at n.children name) ]
-
-list_read : (o : Option Node) → is_change (list o) ≡ false
-list_read None = refl
-list_read (Some n) = elim n.kind as (λ k. is_change (list_in k n) ≡ false) [ File ↦ refl | Dir ↦ refl ]
-
-kind_read : (o : Option Node) → is_change (kind o) ≡ false
-kind_read None = refl
-kind_read (Some n) = elim n.kind as (λ k. is_change (kind_reply k) ≡ false) [ File ↦ refl | Dir ↦ refl ]
-
-info_read : (o : Option Node) → is_change (info o) ≡ false
-info_read None = refl
-info_read (Some n) = refl
 
 create_tells : (m : NodeMap) (by : Session) (dir name : List ℕ) (k : Kind) (id : Option (List ℕ)) (o : Option Node) → Tells by (op.Create dir name k id) (create o m dir name k id)
 create_tells m by dir name k None None = refl
@@ -76,10 +57,10 @@ set_tells m by file h size stamp None = refl
 set_tells m by file h size stamp (Some n) = set_by_tells m by file h size stamp (handle_at n.handles by h)
 
 tells : (m : NodeMap) (by : Session) (o : Op) → tells_its_effects o ≡ true → Tells by o (step m by o)
-tells m by (op.Lookup dir name) p = ap not (sym (look_up_read (get m dir) name))
-tells m by (op.List dir) p = ap not (sym (list_read (get m dir)))
-tells m by (op.Kind file) p = ap not (sym (kind_read (get m file)))
-tells m by (op.Info file) p = ap not (sym (info_read (get m file)))
+tells m by (op.Lookup dir name) p = ap not (sym (look_up_reads (get m dir) name))
+tells m by (op.List dir) p = ap not (sym (list_reads (get m dir)))
+tells m by (op.Kind file) p = ap not (sym (kind_reads (get m file)))
+tells m by (op.Info file) p = ap not (sym (info_reads (get m file)))
 tells m by (op.Create dir name k id) p = create_tells m by dir name k id (get m dir)
 tells m by (op.OpenFile file h modes) p = open_tells m by file h modes (get m file)
 tells m by (op.Close file h) p = close_tells m by file h (get m file)

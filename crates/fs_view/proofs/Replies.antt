@@ -3,6 +3,7 @@ use Rattle.std.proofs.Common.{◌≡◌, ℕ, ◌&&◌, ◌||◌, Bool, true, fa
 use Rattle.std.specs.Prelude.{Option, Some, None, is_some}
 use Rattle.std.specs.List.{list_any}
 use Rattle.std.specs.FinMap.{get}
+use Rattle.std.proofs.Math.Bool.{or_assoc, and-false}
 use Rattle.fs_ident.specs.declared.actor.Session.{Session}
 use Rattle.fs_ident.specs.declared.kind.Kind.{Kind}
 use Rattle.fs_ident.specs.declared.kind.Kind.TheVariants.{File, Dir}
@@ -68,10 +69,6 @@ info_is m s file (Some n) e = ap (λ (o : Option Node). Some (reply.Info (info_o
 branch : (b c : Bool) (x y : Stepped) (r : Reply) → b ≡ c → (cond c x y).reply ≡ r → (cond b x y).reply ≡ r
 branch b c x y r e h = ap (λ d. (cond d x y).reply) e ∙ h
 
-and_false : (b : Bool) → (b && false) ≡ false
-and_false true = refl
-and_false false = refl
-
 made_by : (m : NodeMap) (s : Session) (dir name : List ℕ) (k : Kind) (id : List ℕ) (r : Reply) (o : Option Node) → get m id ≡ o → IsNewWhereMade m (op.Create dir name k (Some id)) r → Some (made_reply (Some (kind_of o))) ≡ Some r → (create_as m dir name k (Some id)).reply ≡ r
 made_by m s dir name k id r None e new h =
     let q : reply.Made ≡ r = cc in
@@ -79,7 +76,7 @@ made_by m s dir name k id r None e new h =
     branch (is_child dir id && not (is_some (get m id))) true _ _ r (ap (λ b. b && not (is_some (get m id))) fit.0 ∙ ap (λ (o : Option Node). not (is_some o)) fit.1) q
 made_by m s dir name k id r (Some n) e new h =
     let q : reply.BadId ≡ r = cc in
-    branch (is_child dir id && not (is_some (get m id))) false _ _ r (ap (λ (o : Option Node). is_child dir id && not (is_some o)) e ∙ and_false (is_child dir id)) q
+    branch (is_child dir id && not (is_some (get m id))) false _ _ r (ap (λ (o : Option Node). is_child dir id && not (is_some o)) e ∙ and-false (is_child dir id)) q
 
 made_as : (m : NodeMap) (s : Session) (dir name : List ℕ) (k : Kind) (id : Option (List ℕ)) (r : Reply) → IsNewWhereMade m (op.Create dir name k id) r → reply_along m s (new_file dir id) ≡ Some r → (create_as m dir name k id).reply ≡ r
 made_as m s dir name k None r new h =
@@ -104,10 +101,6 @@ create_is m s dir name k id r (Some d) e new h =
 selves_is : (m : NodeMap) (s : Session) (ms : List Mode) (file : List ℕ) (r : Reply) → reply_along m s (ask_selves ms file r) ≡ Some r
 selves_is m s [] file r = refl
 selves_is m s (md ∷ ms) file r = selves_is m s ms file r
-
-or_assoc : (a b c : Bool) → ((a || b) || c) ≡ (a || (b || c))
-or_assoc true b c = refl
-or_assoc false b c = refl
 
 pub others_is : (m : NodeMap) (s : Session) (r : Reply) (ms : List Mode) (file : List ℕ) (told : Bool) (go : Script) → reply_along m s (ask_others r ms file told go) ≡ cond (told || list_any (λ md. others_have s md (handles_of (get m file))) ms) (Some r) (reply_along m s go)
 others_is m s r [] file true go = refl

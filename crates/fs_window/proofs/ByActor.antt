@@ -4,21 +4,15 @@ use Rattle.std.specs.Prelude.{T, ◌&&◌}
 use Rattle.std.specs.Ordering.{is_lt}
 use Rattle.std.specs.FinMap.Entries.{put, is_sorted-put, below_all}
 use Rattle.fs_ident.specs.declared.actor.Peer.{Peer}
+use Rattle.fs_ident.proofs.Booleans.{held, holds}
 use Rattle.fs_window.specs.declared.link.Link.{Link}
 use Rattle.fs_window.specs.Peers.{peer_cmp, ByPeer, are_peers_in_order}
 use Rattle.fs_window.specs.Post.{AreLinks}
 use Rattle.fs_window.proofs.PeerOrder.{peer_total}
 
-pub from_true : (b : Bool) → b ≡ true → T b
-from_true b e = subst T (sym e) tt
-
-pub to_true : (b : Bool) → T b → b ≡ true
-to_true true h = refl
-to_true false h = absurd h
-
 -- with one more value
 pub ordered_put : {V : Type 0} (peer : Peer) (v : V) (es : ByPeer V) → are_peers_in_order es ≡ true → are_peers_in_order (put peer_cmp peer v es) ≡ true
-ordered_put peer v es h = to_true _ (is_sorted-put peer_cmp peer_total peer v es (from_true _ h))
+ordered_put peer v es h = holds _ (is_sorted-put peer_cmp peer_total peer v es (held _ h))
 
 below_changed : {V : Type 0} (f : Peer × V → V) (peer : Peer) (es : ByPeer V) → below_all peer_cmp peer (map (λ e. (e.0, f e)) es) ≡ below_all peer_cmp peer es
 below_changed f peer [] = refl

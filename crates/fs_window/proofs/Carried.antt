@@ -2,6 +2,7 @@
 use Rattle.std.proofs.Common.{◌≡◌, ℕ, ◌+◌, ◌-◌, ◌^◌, ◌<◌, ◌≤◌, min, Bool, List, [], ◌∷◌, ◌++◌, length, Option, Some, None, refl, sym, ap, subst, ◌∙◌, append_assoc, arith}
 use Rattle.std.proofs.lemmas.List.{length-append}
 use Rattle.fs_ident.specs.In.{In}
+use Rattle.fs_ident.proofs.Standing.{In-both}
 use Rattle.fs_frag.specs.Coming.{IsComing}
 use Rattle.fs_frag.specs.Cut.{cut_of}
 use Rattle.fs_frag.specs.Joined.{answers, messages_of}
@@ -16,7 +17,7 @@ use Rattle.fs_window.specs.OnTheWay.{on_the_way, IsDirection, IsBodyOf, IsPacket
 use Rattle.fs_window.specs.Packet.{IsBody, IsPacket}
 use Rattle.fs_window.specs.Post.{new_link, link_pushed, link_accepted, link_sent, given_on}
 use Rattle.fs_window.proofs.Lists.{in_dropped}
-use Rattle.fs_window.proofs.OneStep.{in_both, BodyIs, made_packet, made_waits, new_direction, pushed_direction, pushed_way, pushed_body, sent_direction, sent_way, sent_body, back_direction, back_way, back_body, given, told_direction, told_way, told_body}
+use Rattle.fs_window.proofs.OneStep.{BodyIs, made_packet, made_waits, new_direction, pushed_direction, pushed_way, pushed_body, sent_direction, sent_way, sent_body, back_direction, back_way, back_body, given, told_direction, told_way, told_body}
 
 -- ---- segments
 
@@ -104,7 +105,7 @@ carries_new a b = record { segments = λ s i. absurd i; direction = new_directio
 
 pub carries_pushed : (from to : Link) (ms : List (List ℕ)) (m : List ℕ) → length m < 2 ^ 64 → pushed_count from.window + length (cut_of m) < 2 ^ 64 → Carries from to ms → Carries (link_pushed from m) to (ms ++ m ∷ [])
 carries_pushed from to ms m lt room h = record {
-  segments = λ s i. in_both s from.window.waiting (cut_of m) (IsSegment s) (h.segments s) (cut_in m s) i;
+  segments = λ s i. In-both s from.window.waiting (cut_of m) (IsSegment s) (h.segments s) (cut_in m s) i;
   direction = pushed_direction from.window to.window (cut_of m) room h.direction;
   coming = along to.joiner (on_the_way (after_pushes from.window (cut_of m)) to.window) (on_the_way from.window to.window ++ cut_of m) (ms ++ m ∷ [])
       (pushed_way from.window to.window (cut_of m) h.direction) (coming_more to.joiner (on_the_way from.window to.window) ms m lt h.coming);

@@ -4,6 +4,7 @@ use Rattle.std.specs.Prelude.{slice_get}
 use Rattle.std.proofs.lemmas.Bool.{cases_lt, eqb-true}
 use Rattle.std.proofs.lemmas.List.{length-append, length-drop, length-take, drop-append-le, drop-drop}
 use Rattle.fs_ident.specs.In.{In}
+use Rattle.fs_ident.proofs.Standing.{In-both}
 use Rattle.fs_window.specs.declared.packet.Packet.{Packet}
 use Rattle.fs_window.specs.LinkEnd.{LinkEnd, new_link_end, pushed_count, after_pushes, moved, acked_after, given_by, got_after, after_accept, packets_from, unsent, unacked, with_bodies, or_alone, due_of, after_due}
 use Rattle.fs_window.specs.OnTheWay.{on_the_way, IsDirection, IsBodyOf, IsPacketOf}
@@ -125,16 +126,9 @@ bodies_from from to ack n (suc k) (w ∷ ws) h low e p i =
       | inr j ↦ bodies_from from to ack (n + 1) k ws h (omega arith) (ap (λ (x : ℕ). drop x from.waiting) (sym next) ∙ drop_next from.waiting (n - old) w ws e) p j
     ]
 
-pub in_both : {X : Type 0} (x : X) (xs ys : List X) (P : Type 0) → (In x xs → P) → (In x ys → P) → In x (xs ++ ys) → P
-in_both x [] ys P f g i = g i
-in_both x (z ∷ xs) ys P f g i = elim i [
-  | inl e ↦ f (inl e)
-  | inr j ↦ in_both x xs ys P (λ k. f (inr k)) g j
-]
-
 in_due : (l : LinkEnd) (again heard : Bool) (p : Packet) (P : Packet → Type 0) → ((q : Packet) → In q (packets_from l.got l.sent (unsent l)) → P q) → ((q : Packet) → In q (packets_from l.got l.acked (unacked l)) → P q)
     → P (record { ack = l.got; body = None }) → In p (due_of l again heard) → P p
-in_due l again heard p P new old alone i = either (with_bodies l again) heard (λ j. in_both p (packets_from l.got l.sent (unsent l)) (cond again (packets_from l.got l.acked (unacked l)) []) (P p) (new p) (chosen again) j) i
+in_due l again heard p P new old alone i = either (with_bodies l again) heard (λ j. In-both p (packets_from l.got l.sent (unsent l)) (cond again (packets_from l.got l.acked (unacked l)) []) (P p) (new p) (chosen again) j) i
   where
     chosen : (b : Bool) → In p (cond b (packets_from l.got l.acked (unacked l)) []) → P p
     chosen true j = old p j

@@ -10,6 +10,7 @@ use Rattle.fs_window.specs.declared.packet.Packet.{Packet}
 use Rattle.fs_window.specs.Packet.{IsBody, IsPacket, body_text, packet_text}
 use Rattle.fs_ident.specs.Bytes.{number_in_front}
 use Rattle.fs_window.specs.Reading.{body_at, parts_at, is_segment, packet_with, packet_at}
+use Rattle.fs_window.proofs.Lists.{some_is, some_of}
 
 abbrev pub IsBytes : List ℕ → Type 0
 IsBytes bytes = (i : ℕ) → get_or bytes i 0 < 256
@@ -39,12 +40,6 @@ map_some f (Some x) y e = (x, refl, cc)
 then_some : {A B : Type 0} (f : A → Option B) (o : Option A) (y : B) → option_and_then f o ≡ Some y → (x : A) × (o ≡ Some x) × (f x ≡ Some y)
 then_some f None y e = absurd cc
 then_some f (Some x) y e = (x, refl, e)
-
-abbrev some_of : {A : Type 0} → A → Option A
-some_of x = Some x
-
-some_is : {A : Type 0} (x y : A) → some_of x ≡ some_of y → x ≡ y
-some_is x y e = cc
 
 -- a number that was read, and what is left
 pub record IsRead (bytes : List ℕ) (n : ℕ) (rest : List ℕ) : Type 0 where

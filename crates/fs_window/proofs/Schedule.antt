@@ -4,6 +4,7 @@ use Rattle.std.specs.Prelude.{slice_get}
 use Rattle.std.proofs.lemmas.Bool.{leb-false}
 use Rattle.std.proofs.lemmas.List.{length-append, length-drop}
 use Rattle.fs_ident.specs.In.{In}
+use Rattle.fs_ident.proofs.Standing.{In-both, In-got}
 use Rattle.fs_window.specs.declared.packet.Packet.{Packet}
 use Rattle.fs_window.specs.LinkEnd.{pushed_count, due_of}
 use Rattle.fs_window.specs.Ends.{End, Event, Push, Due, Accept, pushed_on, made_on, accepted_on, happens_at, Ends, happens, run, new_end, new_ends, IsDeliveredPrefix}
@@ -35,18 +36,6 @@ record AreSound (here there : End) : Type 0 where
   out : IsSound here there
   back : IsSound there here
 
-in_append : {X : Type 0} (x : X) (xs ys : List X) (P : Type 0) → (In x xs → P) → (In x ys → P) → In x (xs ++ ys) → P
-in_append x [] ys P f g i = g i
-in_append x (z ∷ xs) ys P f g i = elim i [
-  | inl e ↦ f (inl e)
-  | inr j ↦ in_append x xs ys P (λ k. f (inr k)) g j
-]
-
-pub in_get : {X : Type 0} (xs : List X) (k : ℕ) (x : X) → slice_get xs k ≡ Some x → In x xs
-in_get [] k x e = absurd cc
-in_get (y ∷ ys) zero x e = inl (sym (some_is y x e))
-in_get (y ∷ ys) (suc k) x e = inr (in_get ys k x e)
-
 push_step : (here there : End) (ss : List (List ℕ)) (b : Bool) → leb (2 ^ 64) (pushed_count here.link + length ss) ≡ b → AreSound here there → AreSound (pushed_on b here ss) there
 push_step here there ss true e h = h
 push_step here there ss false e h =
@@ -69,7 +58,7 @@ due_step here there again heard h =
       out = record {
         segments = given_sent here.link there.link here.pushed there.given h.out.segments;
         packets = λ p i. packet_sent here.link there.link p d
-            (in_append p here.made (due_of here.link again heard) (IsPacketOf here.link there.link p) (h.out.packets p) (made_packet here.link there.link again heard p d) i);
+            (In-both p here.made (due_of here.link again heard) (IsPacketOf here.link there.link p) (h.out.packets p) (made_packet here.link there.link again heard p d) i);
       };
       back = record {
         segments = given_other_sent there.link here.link there.pushed here.given h.back.segments;
@@ -98,7 +87,7 @@ accept_step here there (Some p) made h =
 step : (e : Event) (here there : End) → AreSound here there → AreSound (happens_at e here there) there
 step (Push ss) here there h = push_step here there ss (leb (2 ^ 64) (pushed_count here.link + length ss)) refl h
 step (Due again heard) here there h = due_step here there again heard h
-step (Accept which) here there h = accept_step here there (slice_get there.made which) (λ p e. in_get there.made which p e) h
+step (Accept which) here there h = accept_step here there (slice_get there.made which) (λ p e. In-got there.made which p e) h
 
 turned : (here there : End) → AreSound here there → AreSound there here
 turned here there h = record { out = h.back; back = h.out }

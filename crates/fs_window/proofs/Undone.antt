@@ -5,7 +5,7 @@ use Rattle.std.specs.Cmp.{alike_right, eq_by_cmp_equiv}
 use Rattle.std.specs.Ordering.{is_eq}
 use Rattle.std.specs.FinMap.Entries.{find, put, where_key, is_sorted-where_key, find-put, find-where_key, find_tied, same_entries}
 use Rattle.fs_ident.specs.declared.actor.Peer.{Peer}
-use Rattle.fs_ident.proofs.Booleans.{equal_is}
+use Rattle.fs_ident.proofs.Booleans.{equal_is, held, holds}
 use Rattle.fs_window.specs.declared.link.Before.{Before}
 use Rattle.fs_window.specs.declared.link.Link.{Link}
 use Rattle.fs_window.specs.declared.undo.Step.{Step}
@@ -13,12 +13,12 @@ use Rattle.fs_window.specs.Peers.{peer_cmp, same_peer, ByPeer, are_peers_in_orde
 use Rattle.fs_window.specs.Post.{Links}
 use Rattle.fs_window.specs.Undo.{link_before, restored_from, restored, ends_undone, undone}
 use Rattle.fs_window.proofs.Actors.{tied_self}
-use Rattle.fs_window.proofs.ByActor.{from_true, to_true, ordered_put}
+use Rattle.fs_window.proofs.ByActor.{ordered_put}
 use Rattle.fs_window.proofs.PeerOrder.{peer_total, peer_same}
 
 -- entries that answer alike are the same
 alike : (es fs : ByPeer Link) → are_peers_in_order es ≡ true → are_peers_in_order fs ≡ true → ((q : Peer) → find peer_cmp q es ≡ find peer_cmp q fs) → es ≡ fs
-alike es fs h k e = same_entries peer_cmp peer_total peer_same es fs (from_true _ h) (from_true _ k) e
+alike es fs h k e = same_entries peer_cmp peer_total peer_same es fs (held _ h) (held _ k) e
 
 -- the value at an actor that is not told from another one's
 tied_find : (es : ByPeer Link) (q peer : Peer) → same_peer q peer ≡ true → find peer_cmp peer es ≡ find peer_cmp q es
@@ -36,7 +36,7 @@ put_back es peer old l h e = alike _ es (ordered_put peer old _ (ordered_put pee
 
 -- without the link of an actor
 pub ordered_without : (peer : Peer) (es : ByPeer Link) → are_peers_in_order es ≡ true → are_peers_in_order (where_key peer_cmp (λ other. not (same_peer peer other)) es) ≡ true
-ordered_without peer es h = to_true _ (is_sorted-where_key peer_cmp (λ other. not (same_peer peer other)) es (from_true _ h))
+ordered_without peer es h = holds _ (is_sorted-where_key peer_cmp (λ other. not (same_peer peer other)) es (held _ h))
 
 taken_out : (b : Bool) (l : Link) (o : Option Link) → (b ≡ true → o ≡ None) → cond (not b) (cond b (Some l) o) None ≡ o
 taken_out true l o h = sym (h refl)

@@ -10,6 +10,7 @@ use Rattle.std.proofs.lemmas.List.Elements.{All-from_recursion, recursion_from_A
 use Rattle.std.proofs.lemmas.Iterator.Adapters.{position_from-zero}
 use Rattle.fs_ident.specs.Ident.{IsId, IsNumber}
 use Rattle.fs_ident.specs.Name.{IsName, is_name_byte, first_bad, is_dots}
+use Rattle.fs_ident.proofs.Options.{cond_none}
 use Rattle.fs_wire.specs.declared.fault.Fault.{Fault}
 use Rattle.fs_wire.specs.Spelling.{four, identifier, name}
 use Rattle.fs_wire.specs.Ranges.{IsBytes, FitsFour}
@@ -191,14 +192,10 @@ module _ (test : ℕ → Bool) where
   cond-first true i at o e = inl (refl, cc)
   cond-first false i at o e = inr (refl, e)
 
-  cond-none : (t : Bool) (i : ℕ) (o : Option ℕ) → cond t (Some i) o ≡ None → (t ≡ false) × (o ≡ None)
-  cond-none true i o e = absurd cc
-  cond-none false i o e = (refl, e)
-
   fails-from : (bytes : List ℕ) (i : ℕ) → position_from test i bytes ≡ None → AllFail bytes
   fails-from [] i e = tt
   fails-from (b ∷ bytes) i e =
-      let g = cond-none (test b) i (position_from test (i + 1) bytes) e in
+      let g = cond_none (test b) i (position_from test (i + 1) bytes) e in
       (g.0, fails-from bytes (i + 1) g.1)
 
   first-from : (bytes : List ℕ) (i at : ℕ) → position_from test i bytes ≡ Some at → HasFirst i bytes at

@@ -18,7 +18,7 @@ use Rattle.fs_world.specs.Served.{SeatStepped, Seats, Stepped, first_seat, first
 use Rattle.fs_world.specs.declared.seat.Seat.{Seat}
 use Rattle.fs_world.specs.declared.served.Served.{Served}
 use Rattle.fs_world.proofs.Linked.{join_linked, told_seat_linked}
-use Rattle.fs_world.proofs.SeatMaps.{put_same}
+use Rattle.fs_ident.proofs.NumberedMaps.{put_same}
 
 -- where no counter is spent there is room on the link
 pub has_room : (core : Option Counter) (full : Bool) → first_spent core full ≡ None → full ≡ false

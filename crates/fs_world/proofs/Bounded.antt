@@ -6,6 +6,7 @@ use Rattle.std.specs.Ordering.{nat_cmp, eq_by_cmp}
 use Rattle.std.specs.Cmp.{nat_cmp_total}
 use Rattle.std.specs.FinMap.{get, insert, get-insert, get-empty}
 use Rattle.fs_ident.specs.declared.actor.Session.{Session}
+use Rattle.fs_ident.proofs.Same.{unequal}
 use Rattle.fs_model.specs.declared.op.Op.{Op}
 use Rattle.fs_msg.specs.declared.core_error.Counter.TheVariants.{Entries}
 use Rattle.fs_schedule.specs.declared.event.Event.{Event}
@@ -52,12 +53,9 @@ step_bounded k w (Turn who) h = more k w.asked h
 step_bounded k w (Recall server field) h = more k w.asked h
 step_bounded k w (Move at prefix to) h = more k w.asked h
 
-below : (n m : ℕ) → n < m → (n == m) ≡ false
-below n m h = grind (arith, nat_tests)
-
 last_at : (k : ℕ) (c : Option ℕ) → ((n : ℕ) → c ≡ Some n → n ≤ k) → k + 1 < 2 ^ 64 → is_last c ≡ false
 last_at k None h lt = refl
-last_at k (Some n) h lt = let here : n ≤ k = h n refl in below n (2 ^ 64 - 1) (omega arith)
+last_at k (Some n) h lt = let here : n ≤ k = h n refl in unequal n (2 ^ 64 - 1) (omega arith)
 
 spent_at : (k : ℕ) (w : Direct) (what : What) → AtMost k w.asked → k + 1 < 2 ^ 64 → is_spent w what ≡ false
 spent_at k w (Join s) h lt = refl

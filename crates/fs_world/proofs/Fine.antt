@@ -38,6 +38,7 @@ use Rattle.fs_parcel.specs.Parcel.{move_refusal}
 use Rattle.fs_parcel.specs.declared.error.MoveError.{MoveError}
 use Rattle.fs_record.specs.declared.parcel.Parcel.{Parcel}
 use Rattle.fs_msg.specs.declared.peer_msg.PeerMsg.TheVariants.{Parcel as OfParcel}
+use Rattle.fs_server.proofs.OneByOne.{each_entry, each_lapsed}
 use Rattle.fs_server.specs.Moves.{fits_here, move_at, parcel_at}
 use Rattle.fs_server.specs.Reaps.{Reaping, lapsed_in, reap_from, reap_item, turn_over, with_blocker, with_reap}
 use Rattle.fs_server.specs.Server.{begun as server_begun, is_mine, moved, strange as server_strange}
@@ -153,26 +154,10 @@ abbrev pub EntriesAsk : List Entry → Type 0
 EntriesAsk es = (e : Entry) → In e es → AsksAccess e.op
 
 pub ships_fine : (by : Session) (es : List Entry) (s : ServerState) (admitted : List Item) → EntriesAsk es → AllFine admitted → AllFine (ship_from by es s admitted).admitted
-ships_fine by [] s admitted a h = h
-ships_fine by (e ∷ es) s admitted a h =
-    elim (is_mine s (home_of e.op)) as (λ (b : Bool). AllFine
-    (cond b
-    (elim (first_gone s.rows by e.uses) as (λ _. Shipping) [
-      | None ↦ ship_from by es (with_entry by e s) (admitted ++ item_of by e ∷ [])
-      | Some u ↦ record { server = s; admitted = admitted; end = end.Ended e.n u.no u.until s.last; gaps = map (λ (x : Entry). x.n) es }
-    ])
-    (record { server = s; admitted = admitted; end = moved s (home_of e.op); gaps = [] })).admitted) [
-      | true ↦
-          elim (first_gone s.rows by e.uses) as (λ (o : Option Use). AllFine
-          (elim o as (λ _. Shipping) [
-            | None ↦ ship_from by es (with_entry by e s) (admitted ++ item_of by e ∷ [])
-            | Some u ↦ record { server = s; admitted = admitted; end = end.Ended e.n u.no u.until s.last; gaps = map (λ (x : Entry). x.n) es }
-          ]).admitted) [
-            | None ↦ ships_fine by es (with_entry by e s) (admitted ++ item_of by e ∷ []) (λ x i. a x (inr i)) (fine_more admitted (item_of by e ∷ []) h (record { asks = a e (inl refl) }, tt))
-            | Some u ↦ h
-          ]
-      | false ↦ h
-    ]
+ships_fine by = each_entry by (λ es s admitted x. EntriesAsk es → AllFine admitted → AllFine x.admitted)
+    (λ s admitted a h. h)
+    (λ e es s admitted x mine here more a h. more (λ y i. a y (inr i)) (fine_more admitted (item_of by e ∷ []) h (record { asks = a e (inl refl) }, tt)))
+    (λ e es s admitted at gaps why a h. h)
 
 abbrev pub MessageAsks : ClientMsg → Type 0
 MessageAsks (Ship entries) = EntriesAsk entries
@@ -189,17 +174,10 @@ message_fine by (Ship entries) s a = elim (list_all (λ (e : Entry). tells_its_e
 
 -- a reap opens nothing
 reaps_fine : (xs : List (List ℕ × Session)) (s : ServerState) (admitted : List Item) (blockers : List LeaseNo) → AllFine admitted → AllFine (reap_from xs s admitted blockers).admitted
-reaps_fine [] s admitted blockers h = h
-reaps_fine (x ∷ xs) s admitted blockers h =
-    elim (reap_blocker (selves_in s.records x.0) s.rows x.1 x.0) as (λ (o : Option LeaseNo).
-    AllFine
-    (elim o as (λ _. Reaping) [
-      | None ↦ reap_from xs (with_reap x.0 x.1 s) (admitted ++ reap_item s.me (s.reaps + 1) x.0 x.1 ∷ []) blockers
-      | Some number ↦ reap_from xs s admitted (with_blocker number blockers)
-    ]).admitted) [
-      | None ↦ reaps_fine xs (with_reap x.0 x.1 s) (admitted ++ reap_item s.me (s.reaps + 1) x.0 x.1 ∷ []) blockers (fine_more admitted (reap_item s.me (s.reaps + 1) x.0 x.1 ∷ []) h (record { asks = tt }, tt))
-      | Some number ↦ reaps_fine xs s admitted (with_blocker number blockers) h
-    ]
+reaps_fine = each_lapsed (λ xs s admitted blockers r. AllFine admitted → AllFine r.admitted)
+    (λ s admitted blockers h. h)
+    (λ f x xs s admitted blockers r e more h. more (fine_more admitted (reap_item s.me (s.reaps + 1) f x ∷ []) h (record { asks = tt }, tt)))
+    (λ f x xs s admitted blockers r number e more h. more h)
 
 turn_over_fine : (xs : List (List ℕ × Session)) (s : ServerState) → AllFine (turn_over xs s).out.admitted
 turn_over_fine [] s = tt

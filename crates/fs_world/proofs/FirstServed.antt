@@ -5,11 +5,11 @@ use Rattle.std.specs.Ordering.{nat_cmp}
 use mathlib.Core.Path.{fun_ext}
 use Rattle.fs_ident.specs.In.{In}
 use Rattle.fs_ident.specs.declared.actor.Session.{Session}
+use Rattle.fs_ident.proofs.Standing.{In-append}
 use Rattle.fs_server.specs.Server.{first_server}
 use Rattle.fs_server.specs.declared.state.Server.{Server}
 use Rattle.fs_serial.specs.Cluster.{Lines, first_lines, first_servers}
 use Rattle.fs_serial.specs.Seen.{ClusterHolds}
-use Rattle.fs_serial.proofs.Facts.{In-append}
 use Rattle.fs_world.specs.Parts.{lines_in, lines_of}
 use Rattle.fs_world.specs.Served.{first_served}
 use Rattle.fs_world.proofs.SerialLaws.{SerialLaws}

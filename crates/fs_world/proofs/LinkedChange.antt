@@ -7,6 +7,7 @@ use Rattle.fs_ident.specs.In.{In}
 use Rattle.fs_ident.specs.declared.actor.Peer.{Peer}
 use Rattle.fs_ident.specs.declared.actor.Peer.TheVariants.{Server, Client}
 use Rattle.fs_ident.proofs.Booleans.{equal_is}
+use Rattle.fs_ident.proofs.Standing.{In-both}
 use Rattle.fs_frag.specs.Cut.{cut_of}
 use Rattle.fs_window.specs.declared.link.Link.{Link}
 use Rattle.fs_window.specs.declared.packet.Packet.{Packet}
@@ -18,7 +19,6 @@ use Rattle.fs_window.specs.Post.{Links, WasSent, heard_on, is_peer, link_accepte
 use Rattle.fs_window.proofs.Actors.{link_of_actor, links_of_actors, sent_to_actor, tied_self}
 use Rattle.fs_window.proofs.ByActor.{links_changed, links_put}
 use Rattle.fs_window.proofs.Lists.{some_is}
-use Rattle.fs_window.proofs.OneStep.{in_both}
 use Rattle.fs_window.proofs.PeerOrder.{peer_same, peer_total}
 use Rattle.fs_msg.specs.Ranges.{FitsMessage}
 use Rattle.fs_msg.specs.Spelling.{message}
@@ -125,7 +125,7 @@ module _ (a : Peer) (p : Links) (w v : Served) (more : List Sent) (c : Changes a
     posts = posts_then;
     pairs = λ x y r s o i j. pairs_then x y r s o i j;
     alone = λ x y r i j. alone_then x y r i j;
-    between = λ x i. in_both x w.packets.sent more (GoesBetween v x) (λ j. goes_still a p w v more x c (h.between x j)) (λ j. (k.sent x j).1) (subst (λ (ps : List Sent). In x ps) c.packets i);
+    between = λ x i. In-both x w.packets.sent more (GoesBetween v x) (λ j. goes_still a p w v more x c (h.between x j)) (λ j. (k.sent x j).1) (subst (λ (ps : List Sent). In x ps) c.packets i);
   }
 
 -- worlds with the same links, and the same messages and packets on their way

@@ -11,6 +11,7 @@ use Rattle.fs_ident.specs.declared.actor.Peer.TheVariants.{Server, Client}
 use Rattle.fs_ident.specs.declared.actor.Session.{Session}
 use Rattle.fs_ident.proofs.Booleans.{joined as both_joined}
 use Rattle.fs_ident.proofs.Passing.{found}
+use Rattle.fs_ident.proofs.Standing.{In-both, In-more}
 use Rattle.fs_frag.specs.declared.joined.Joined.{Joined}
 use Rattle.fs_frag.specs.declared.joined.Joined.TheVariants.{Whole}
 use Rattle.fs_model.specs.declared.op.Op.{Op}
@@ -20,7 +21,6 @@ use Rattle.fs_window.specs.declared.packet.Packet.{Packet}
 use Rattle.fs_window.specs.Peers.{same_peer}
 use Rattle.fs_window.specs.Post.{Links, post_accepted}
 use Rattle.fs_window.proofs.Lists.{some_is}
-use Rattle.fs_window.proofs.OneStep.{in_both}
 use Rattle.fs_wire.specs.Ranges.{FitsOp}
 use Rattle.fs_wire.specs.Readable.{is_readable_op}
 use Rattle.fs_msg.specs.Ranges.{FitsEntry, FitsMessage}
@@ -52,7 +52,7 @@ use Rattle.fs_world.specs.Served.{Seats, ServerStepped, at_server, core_step, fi
 use Rattle.fs_world.specs.declared.seat.Seat.{Seat}
 use Rattle.fs_world.specs.declared.served.Served.{Served}
 use Rattle.fs_world.proofs.LinkedChange.{IsHeard, first_of, other_way, tied_alike}
-use Rattle.fs_world.proofs.LinkedLists.{In-more, found_joined, got_set, within}
+use Rattle.fs_world.proofs.LinkedLists.{found_joined, got_set, within}
 use Rattle.fs_world.proofs.LinkedSeats.{all_put, got_here, put_same, taken}
 use Rattle.fs_world.proofs.LinkedServed.{other_post, server_due, server_hears_server, server_hears_session, server_sends, serving}
 use Rattle.fs_world.proofs.NamedServers.{AreSent, IsBrought, IsStepped, in_range, step_goes}
@@ -218,7 +218,7 @@ module _ (w : Served) (k : ℕ) (few : k < length w.servers) (h : IsLinked w) wh
         tied = tied_same (with_pushed y.out.send x.post) (with_downs k y.out.send x.seats) (x.flying ++ flying_from k y.out.send) y.server (x.journal ++ y.out.admitted) (server_sends w k there server_count x.seats (posts_there w h) (readable_in server_count x.seats g.seats) y.out.send x (λ t j. j) k_step.sends fits room g.tied);
         server = served_then server_count x.seats (with_downs k y.out.send x.seats) k y.server still k_step.server;
         seats = downs_seated x.seats y.out.send x.seats k_step.sends g.seats;
-        flying = λ f i. carried_then server_count x.seats (with_downs k y.out.send x.seats) f still (in_both f x.flying (flying_from k y.out.send) (IsCarried server_count x.seats f) (λ j. g.flying f j) (λ j. flying_carried x.seats y.out.send k_step.sends f j) i);
+        flying = λ f i. carried_then server_count x.seats (with_downs k y.out.send x.seats) f still (In-both f x.flying (flying_from k y.out.send) (IsCarried server_count x.seats f) (λ j. g.flying f j) (λ j. flying_carried x.seats y.out.send k_step.sends f j) i);
         joined = λ t j. still t (g.joined t j);
       })
     where

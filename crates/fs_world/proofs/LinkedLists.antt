@@ -6,6 +6,7 @@ use Rattle.std.proofs.lemmas.Bool.Decides.{nat_tests}
 use Rattle.std.proofs.lemmas.List.{map-append}
 use Rattle.std.proofs.lemmas.List.Elements.{filter-append}
 use Rattle.fs_ident.specs.In.{In}
+use Rattle.fs_ident.proofs.Same.{after_zero, zero_before}
 use Rattle.fs_frag.specs.declared.joined.Joined.{Joined}
 use Rattle.fs_msg.specs.declared.msg.Msg.{Msg}
 use Rattle.fs_serial.specs.Cluster.{without_first}
@@ -66,19 +67,7 @@ pub no_more : {X : Type 0} (is : X → Bool) (xs : List X) (x : X) → is x ≡ 
 no_more is [] x e = ap (λ (t : Bool). cond t (x ∷ []) []) e
 no_more {X} is (y ∷ ys) x e = ap (λ (zs : List X). cond (is y) (y ∷ zs) zs) (no_more is ys x e)
 
-pub In-more : {X : Type 0} (y : X) (xs : List X) (x : X) (P : Type 0) → (In y xs → P) → (y ≡ x → P) → In y (xs ++ x ∷ []) → P
-In-more y [] x P g h (inl e) = h e
-In-more y [] x P g h (inr i) = absurd i
-In-more y (z ∷ zs) x P g h (inl e) = g (inl e)
-In-more y (z ∷ zs) x P g h (inr i) = In-more y zs x P (λ j. g (inr j)) h i
-
 -- ## What is set in a list
-
-none_same : (j : ℕ) → (suc j == 0) ≡ false
-none_same j = grind (arith, nat_tests)
-
-same_none : (k : ℕ) → (0 == suc k) ≡ false
-same_none k = grind (arith, nat_tests)
 
 both_more : (j k : ℕ) → (suc j == suc k) ≡ (j == k)
 both_more j k = grind (arith, nat_tests)
@@ -86,8 +75,8 @@ both_more j k = grind (arith, nat_tests)
 pub got_set : {X : Type 0} (xs : List X) (k j : ℕ) (x : X) → k < length xs → slice_get (slice_set xs k x) j ≡ cond (j == k) (Some x) (slice_get xs j)
 got_set [] k j x h = absurd (omega arith)
 got_set (y ∷ ys) zero zero x h = refl
-got_set (y ∷ ys) zero (suc j) x h = ap (λ (b : Bool). cond b (Some x) (slice_get ys j)) (sym (none_same j))
-got_set (y ∷ ys) (suc k) zero x h = ap (λ (b : Bool). cond b (Some x) (Some y)) (sym (same_none k))
+got_set (y ∷ ys) zero (suc j) x h = ap (λ (b : Bool). cond b (Some x) (slice_get ys j)) (sym (after_zero j))
+got_set (y ∷ ys) (suc k) zero x h = ap (λ (b : Bool). cond b (Some x) (Some y)) (sym (zero_before k))
 got_set (y ∷ ys) (suc k) (suc j) x h = got_set ys k j x (omega arith) ∙ ap (λ (b : Bool). cond b (Some x) (slice_get ys j)) (sym (both_more j k))
 
 pub within : {X : Type 0} (xs : List X) (k : ℕ) (x : X) → slice_get xs k ≡ Some x → k < length xs

@@ -5,6 +5,7 @@ use Rattle.std.specs.Prelude.{Result, Ok, Err, ◌==◌}
 use Rattle.std.proofs.lemmas.List.{map-append}
 use Rattle.fs_ident.specs.In.{In}
 use Rattle.fs_ident.specs.declared.actor.Peer.{Peer}
+use Rattle.fs_ident.proofs.Standing.{In-both}
 use Rattle.fs_frag.specs.Cut.{cut_of}
 use Rattle.fs_frag.specs.Joined.{answers, answer_of, joined_of}
 use Rattle.fs_frag.specs.declared.error.FragError.{FragError}
@@ -20,7 +21,7 @@ use Rattle.fs_window.specs.Post.{heard_on, link_accepted, link_pushed, link_sent
 use Rattle.fs_window.specs.Reading.{packet_at}
 use Rattle.fs_window.proofs.Carried.{carries_new, carries_pushed, carries_sent, carries_told, carries_back, carries_other_pushed, carries_other_sent, made_fits, packet_pushed, packet_sent, packet_told, packet_back, packet_other_pushed, packet_other_sent}
 use Rattle.fs_window.proofs.Lists.{some_is}
-use Rattle.fs_window.proofs.OneStep.{in_both, made_packet}
+use Rattle.fs_window.proofs.OneStep.{made_packet}
 use Rattle.fs_window.proofs.ReadBack.{written}
 use Rattle.fs_msg.specs.Ranges.{FitsMessage}
 use Rattle.fs_msg.specs.Spelling.{message}
@@ -47,7 +48,7 @@ both_new a b v w packets g k = record {
 pub pair_elsewhere : (a b : Peer) (from to : Link) (messages : List Msg) (packets more : List Sent) → GoesElsewhere a b more → IsPair a b from to messages packets → IsPair a b from to messages (packets ++ more)
 pair_elsewhere a b from to messages packets more g h = record {
   way = h.way;
-  packets = λ x i e f. in_both x packets more (IsSentOver from to x.bytes) (λ j. h.packets x j e f) (λ j. absurd (g x j e f)) i;
+  packets = λ x i e f. In-both x packets more (IsSentOver from to x.bytes) (λ j. h.packets x j e f) (λ j. absurd (g x j e f)) i;
 }
 
 -- ## A message is pushed
@@ -94,11 +95,11 @@ pub both_due : (a b : Peer) (here there : Link) (out back : List Msg) (packets m
 both_due a b here there out back packets more due elsewhere h = record {
   going = record {
     way = record { carries = carries_sent here there (map message out) h.going.way.carries; fits = h.going.way.fits };
-    packets = λ x i e f. in_both x packets more (IsSentOver (link_sent here) there x.bytes) (λ j. going (h.going.packets x j e f)) (λ j. made (due x j e f)) i;
+    packets = λ x i e f. In-both x packets more (IsSentOver (link_sent here) there x.bytes) (λ j. going (h.going.packets x j e f)) (λ j. made (due x j e f)) i;
   };
   coming = record {
     way = record { carries = carries_other_sent there here (map message back) h.coming.way.carries; fits = h.coming.way.fits };
-    packets = λ x i e f. in_both x packets more (IsSentOver there (link_sent here) x.bytes) (λ j. coming (h.coming.packets x j e f)) (λ j. absurd (elsewhere x j e f)) i;
+    packets = λ x i e f. In-both x packets more (IsSentOver there (link_sent here) x.bytes) (λ j. coming (h.coming.packets x j e f)) (λ j. absurd (elsewhere x j e f)) i;
   };
 }
   where

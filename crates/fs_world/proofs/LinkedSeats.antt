@@ -9,6 +9,7 @@ use Rattle.fs_ident.specs.declared.actor.Peer.{Peer}
 use Rattle.fs_ident.specs.declared.actor.Peer.TheVariants.{Server, Client}
 use Rattle.fs_ident.specs.declared.actor.Session.{Session}
 use Rattle.fs_ident.proofs.Booleans.{equal_is}
+use Rattle.fs_ident.proofs.Same.{itself}
 use Rattle.fs_frag.specs.declared.joined.Joined.{Joined}
 use Rattle.fs_window.specs.declared.packet.Packet.{Packet}
 use Rattle.fs_window.specs.declared.sent.Sent.{Sent}
@@ -158,11 +159,8 @@ module _ (w : Served) (s : Session) (seat : Seat) (journal : List Item) (packets
       later : Seat
       later = record seat { post = post_after (Some m) seat.post; up = seat.up ++ m ∷ [] }
 
-      refl_of : (n : ℕ) → (n == n) ≡ true
-      refl_of n = grind (arith)
-
       out : ups_of m.0 (get (insert w.seats s.0 later) s.0) ≡ ups_of m.0 (get (insert w.seats s.0 seat) s.0) ++ msg.Client m.1 ∷ []
-      out = ap (ups_of m.0) (got_here w.seats s later) ∙ one_more f (is_with m.0) seat.up m (refl_of m.0) ∙ ap (λ (o : Option Seat). ups_of m.0 o ++ msg.Client m.1 ∷ []) (sym (got_here w.seats s seat))
+      out = ap (ups_of m.0) (got_here w.seats s later) ∙ one_more f (is_with m.0) seat.up m (itself m.0) ∙ ap (λ (o : Option Seat). ups_of m.0 o ++ msg.Client m.1 ∷ []) (sym (got_here w.seats s seat))
 
       back : downs_of m.0 (get (insert w.seats s.0 later) s.0) ≡ downs_of m.0 (get (insert w.seats s.0 seat) s.0)
       back = unseen (downs_of m.0) w.seats s.0 seat later refl s.0

@@ -8,7 +8,8 @@ use Rattle.std.proofs.lemmas.Bool.{eqb-true, leb-false}
 use Rattle.fs_ident.specs.declared.actor.Peer.{Peer}
 use Rattle.fs_ident.specs.declared.actor.Peer.TheVariants.{Server, Client}
 use Rattle.fs_ident.specs.declared.actor.Session.{Session}
-use Rattle.fs_ident.proofs.Booleans.{equal_is, first, neither, second}
+use Rattle.fs_ident.proofs.Booleans.{equal_is, first, neither, second, joined}
+use Rattle.fs_ident.proofs.Same.{itself}
 use Rattle.fs_frag.specs.declared.joined.Joined.{Joined}
 use Rattle.fs_window.specs.declared.packet.Packet.{Packet}
 use Rattle.fs_window.specs.declared.sent.Sent.{Sent}
@@ -42,9 +43,6 @@ use Rattle.fs_world.proofs.SeenSends.{down_joined}
 abbrev pub serving : ℕ → ServerStepped → Served → Served
 serving k x w = (with_server k x w).world
 
-refl_of : (n : ℕ) → (n == n) ≡ true
-refl_of n = grind (arith)
-
 -- what others than the server see is the same
 pub record Elsewhere (k : ℕ) (x y : ServerStepped) : Type 0 where
   pub posts : (t : ℕ) → seat_post (get y.seats t) ≡ seat_post (get x.seats t)
@@ -57,7 +55,7 @@ module _ (w : Served) (k : ℕ) (there : k < length w.posts) where
   at x = serving k x w
 
   pub server_post : (x : ServerStepped) → post_of (at x) (Server k) ≡ Some x.post
-  server_post x = got_set w.posts k k x.post there ∙ ap (λ (b : Bool). cond b (Some x.post) (slice_get w.posts k)) (refl_of k)
+  server_post x = got_set w.posts k k x.post there ∙ ap (λ (b : Bool). cond b (Some x.post) (slice_get w.posts k)) (itself k)
 
   pub other_post : (x : ServerStepped) (j : ℕ) → same_peer (Server j) (Server k) ≡ false → post_of (at x) (Server j) ≡ slice_get w.posts j
   other_post x j e = got_set w.posts k j x.post there ∙ ap (λ (b : Bool). cond b (Some x.post) (slice_get w.posts j)) (number_apart j k e)
@@ -133,7 +131,7 @@ module _ (w : Served) (k : ℕ) (there : k < length w.posts) where
       }
 
       out : downs_of k (get (insert x.seats s.0 new) s.0) ≡ downs_of k (get x.seats s.0) ++ msg.Answer a ∷ []
-      out = ap (downs_of k) (got_here x.seats s new) ∙ one_more f (is_with k) seat.down (k, a) (refl_of k) ∙ ap (λ (o : Option Seat). downs_of k o ++ msg.Answer a ∷ []) (sym is)
+      out = ap (downs_of k) (got_here x.seats s new) ∙ one_more f (is_with k) seat.down (k, a) (itself k) ∙ ap (λ (o : Option Seat). downs_of k o ++ msg.Answer a ∷ []) (sym is)
 
       others : (c : Peer) → same_peer c (Client s) ≡ false → (between (at later) (Server k) c ≡ between (at x) (Server k) c) × (between (at later) c (Server k) ≡ between (at x) c (Server k))
       others (Client t) e = (
@@ -157,10 +155,6 @@ module _ (w : Served) (k : ℕ) (there : k < length w.posts) where
   one_false : (a b : Bool) → a ≡ false → (a && b) ≡ false
   one_false true b e = absurd (cc)
   one_false false b e = refl
-
-  both_true : (a b : Bool) → a ≡ true → b ≡ true → (a && b) ≡ true
-  both_true true b e g = g
-  both_true false b e g = absurd (cc)
 
   moved : (to : ℕ) (p : Parcel) (x : ServerStepped) (q : Links) → slice_get w.posts to ≡ Some q → k ≢ to → is_readable (msg.Peer (OfParcel p)) ≡ true → IsWritten (msg.Peer (OfParcel p)) → is_full_for x.post (Server to) (message (msg.Peer (OfParcel p))) ≡ false → AreTied (at x) → AreTied (at (moving to p x))
   moved to p x q is differ readable written room h =
@@ -197,7 +191,7 @@ module _ (w : Served) (k : ℕ) (there : k < length w.posts) where
       }
 
       out : parcels_between k to (x.flying ++ flies to p ∷ []) ≡ parcels_between k to x.flying ++ msg.Peer (OfParcel p) ∷ []
-      out = one_more f (is_between k to) x.flying (flies to p) (both_true (k == k) (to == to) (refl_of k) (refl_of to))
+      out = one_more f (is_between k to) x.flying (flies to p) (joined (k == k) (to == to) (itself k) (itself to))
 
       back : parcels_between to k (x.flying ++ flies to p ∷ []) ≡ parcels_between to k x.flying
       back = ap (λ (ms : List Flying). map f ms) (no_more (is_between to k) x.flying (flies to p) (one_false (k == to) (to == k) (number_apart k to here_other)))

@@ -9,6 +9,7 @@ use Rattle.fs_ident.specs.declared.actor.Peer.{Peer}
 use Rattle.fs_ident.specs.declared.actor.Peer.TheVariants.{Server, Client}
 use Rattle.fs_ident.specs.declared.actor.Session.{Session}
 use Rattle.fs_ident.proofs.Passing.{found}
+use Rattle.fs_ident.proofs.Standing.{In-more}
 use Rattle.fs_frag.specs.declared.joined.Joined.{Joined}
 use Rattle.fs_frag.specs.declared.joined.Joined.TheVariants.{Whole}
 use Rattle.fs_model.specs.declared.op.Op.{Op}
@@ -45,7 +46,7 @@ use Rattle.fs_world.specs.Served.{Seats, act_noted, client_acts, client_does, cl
 use Rattle.fs_world.specs.declared.seat.Seat.{Seat}
 use Rattle.fs_world.specs.declared.served.Served.{Served}
 use Rattle.fs_world.proofs.LinkedChange.{IsHeard, first_of}
-use Rattle.fs_world.proofs.LinkedLists.{In-more, found_joined, within}
+use Rattle.fs_world.proofs.LinkedLists.{found_joined, within}
 use Rattle.fs_world.proofs.LinkedPair.{read_of}
 use Rattle.fs_world.proofs.LinkedSeats.{all_put, put_same, seat_accepts, seat_due, seat_sends, seated, taken}
 use Rattle.fs_world.proofs.NamedClients.{IsFine, IsPlanned, SendsFine, act_fine, answer_fine, answer_silent, committed_fine, session_kept, turn_fine}

@@ -40,6 +40,7 @@ use Rattle.fs_client.specs.Acts.{act_on, act_plan, answer_with, ask_for, asks, f
 use Rattle.fs_client.specs.Answers.{answer_plan, fits, hear, hints_told, strange, told}
 use Rattle.fs_client.specs.Client.{admitted_all, admitted_one, begun, changed, committed, first_client, with_hints}
 use Rattle.fs_client.specs.Turns.{ending, entries_at, idle, release_some, renew_some, returned, ship_some, turn_free, turn_on, turn_plan}
+use Rattle.fs_client.proofs.Keeping.{keeps}
 use Rattle.fs_world.specs.Linked.{AreNamed, IsNamedAnswer, IsNamedEnd}
 use Rattle.fs_world.specs.Readable.{LogReadable}
 use Rattle.fs_world.proofs.NamedMaps.{named_first, named_hint, server_named}
@@ -86,40 +87,13 @@ changed_log (change.Release numbers) c own h = h
 changed_log (change.Admit count over) c own h = all_admitted count c h
 changed_log (change.Recall number) c own h = h
 
--- no change but a hint changes the hints, and none whose client it is
-abbrev Same : Client → Client → Type 0
-Same d c = (d.hints ≡ c.hints) × (d.session ≡ c.session)
-
-admitted_same : (k : ℕ) (c : Client) → Same (admitted_all k c) c
-admitted_same zero c = (refl, refl)
-admitted_same (suc k) c =
-    let more = admitted_same k (admitted_one c c.log) in
-    let here = one c.log in
-    (more.0 ∙ here.0, more.1 ∙ here.1)
-  where
-    one : (es : List Entry) → Same (admitted_one c es) c
-    one [] = (refl, refl)
-    one (e ∷ es) = (refl, refl)
-
-changed_same : (ch : Change) (c : Client) → Same (changed ch c) c
-changed_same change.Nothing c = (refl, refl)
-changed_same change.Read c = (refl, refl)
-changed_same (change.Reply entry effects) c = (refl, refl)
-changed_same (change.Ask x) c = (refl, refl)
-changed_same (change.Leave to numbers) c = (refl, refl)
-changed_same (change.Grant leases full) c = (refl, refl)
-changed_same (change.Renew ends) c = (refl, refl)
-changed_same (change.Release numbers) c = (refl, refl)
-changed_same (change.Admit count over) c = admitted_same count c
-changed_same (change.Recall number) c = (refl, refl)
-
 hints_session : (o : Option Owners) (c : Client) → (with_hints o c).session ≡ c.session
 hints_session None c = refl
 hints_session (Some hints) c = refl
 
 -- no event changes whose client it is
 pub session_kept : (r : Ready) (c : Client) → (committed r c).session ≡ c.session
-session_kept r c = hints_session r.hints (changed r.change (begun r.now c)) ∙ (changed_same r.change (begun r.now c)).1
+session_kept r c = hints_session r.hints (changed r.change (begun r.now c)) ∙ (keeps r.change (begun r.now c)).0
 
 -- ## What a client plans
 
@@ -145,7 +119,7 @@ committed_fine servers p c r h =
     let b = begun p.ready.now c in
     hinted_fine servers p.ready.hints (changed p.ready.change b) r.hints (record {
       log = changed_log p.ready.change b r.joins h.log;
-      hints = subst (AreNamed servers) (sym (changed_same p.ready.change b).0) h.hints;
+      hints = subst (AreNamed servers) (sym (keeps p.ready.change b).1) h.hints;
     })
 
 either_planned : {N : Type 0} (servers : ℕ) (b : Bool) (p q : Plan N) → IsPlanned servers p → IsPlanned servers q → IsPlanned servers (cond b p q)

@@ -12,6 +12,7 @@ use Rattle.fs_ident.specs.declared.actor.Peer.TheVariants.{Client, Server}
 use Rattle.fs_ident.specs.declared.actor.Session.{Session}
 use Rattle.fs_ident.proofs.Booleans.{first, joined, second}
 use Rattle.fs_ident.proofs.Passing.{In-all}
+use Rattle.fs_ident.proofs.Same.{itself}
 use Rattle.fs_field.specs.After.{Handles}
 use Rattle.fs_field.specs.Field.{file_of}
 use Rattle.fs_field.specs.Table.{borne_numbers, is_live}
@@ -51,6 +52,7 @@ use Rattle.fs_msg.specs.declared.msg.Msg.{Msg}
 use Rattle.fs_msg.specs.declared.msg.Msg.TheVariants as msg
 use Rattle.fs_msg.specs.declared.peer_msg.PeerMsg.TheVariants.{Parcel as OfParcel}
 use Rattle.fs_serial.specs.declared.flying.Flying.{Flying}
+use Rattle.fs_server.proofs.OneByOne.{AskEnds, ShipEnds, each_entry, each_item, each_lapsed}
 use Rattle.fs_server.specs.Asks.{Asking, answer_to, ask_fresh, ask_from, ask_step, asked_in, fresh_for, fresh_in, fresh_of, grant_of, kind_for, with_lease}
 use Rattle.fs_server.specs.Moves.{fits_here, move_at, parcel_at}
 use Rattle.fs_server.specs.Pairs.{numbers_in, pairs_end, pairs_here, released_rows, renewed_rows}
@@ -167,29 +169,18 @@ module _ (servers : ℕ) (seats : Seats) (k : ℕ) (some : k < servers) (readabl
   one_grant [] g h own = joined _ _ own refl
   one_grant (x ∷ gs) g h own = joined _ _ (first _ _ h) (one_grant gs g (second _ _ h) own)
 
-  asked_fine : (by : Session) (items : List (Field × LeaseKind)) (s : Core) (grants : List Grant) → HasJoined seats by → Fine s → list_all is_readable_grant grants ≡ true → IsAsking (ask_from by items s grants)
-  asked_fine by [] s grants of h g = record { server = h; grants = g; end = tt }
-  asked_fine by (x ∷ xs) s grants of h g =
+  ask_end : (by : Session) (x : Field × LeaseKind) (s : Core) (at : End) → AskEnds by x s at → Fine s → IsNamedEnd servers at
+  ask_end by x s at (waits number mine e) h = tt
+  ask_end by x s at (kept_off txn mine e) h = tt
+  ask_end by x s at (elsewhere mine) h = moved_end s (file_of x.0) h
+
+  asked_fine : (by : Session) → HasJoined seats by → (items : List (Field × LeaseKind)) (s : Core) (grants : List Grant) → Fine s → list_all is_readable_grant grants ≡ true → IsAsking (ask_from by items s grants)
+  asked_fine by of = each_item by (λ items s grants a. Fine s → list_all is_readable_grant grants ≡ true → IsAsking a)
+      (λ s grants h g. record { server = h; grants = g; end = tt })
+      (λ x xs s grants promise a mine e more h g.
       let kind = kind_for x.0 x.1 in
-      either_asking (is_mine s (file_of x.0))
-      (elim (answer_to by x.0 kind s) as (λ _. Asking) [
-        | Granted promise ↦ ask_from by xs (with_lease by x.0 kind promise s) (grants ++ grant_of by x.0 kind s ∷ [])
-        | Wait blocker ↦ record { server = s; grants = grants; fresh = None; end = end.Wait blocker }
-        | Locked txn ↦ record { server = s; grants = grants; fresh = None; end = end.Locked txn }
-      ])
-      (record { server = s; grants = grants; fresh = None; end = moved s (file_of x.0) })
-      (elim (answer_to by x.0 kind s) as (λ (a : Asked).
-      IsAsking
-      (elim a as (λ _. Asking) [
-        | Granted promise ↦ ask_from by xs (with_lease by x.0 kind promise s) (grants ++ grant_of by x.0 kind s ∷ [])
-        | Wait blocker ↦ record { server = s; grants = grants; fresh = None; end = end.Wait blocker }
-        | Locked txn ↦ record { server = s; grants = grants; fresh = None; end = end.Locked txn }
-      ])) [
-        | Granted promise ↦ asked_fine by xs (with_lease by x.0 kind promise s) (grants ++ grant_of by x.0 kind s ∷ []) of (lease_fine by x.0 kind promise s of h) (one_grant grants (grant_of by x.0 kind s) g (value_open s.records by x.0 h.handles))
-        | Wait blocker ↦ record { server = h; grants = g; end = tt }
-        | Locked txn ↦ record { server = h; grants = g; end = tt }
-      ])
-      (record { server = h; grants = g; end = moved_end s (file_of x.0) h })
+      more (lease_fine by x.0 kind promise s of h) (one_grant grants (grant_of by x.0 kind s) g (value_open s.records by x.0 h.handles)))
+      (λ x xs s grants at why h g. record { server = h; grants = g; end = ask_end by x s at why h })
 
   fresh_fine : (by : Session) (dir : List ℕ) (o : Option ℕ) (a : Asking) → HasJoined seats by → IsAsking a → IsAsking (fresh_of by dir o a)
   fresh_fine by dir None a of h = record { server = h.server; grants = h.grants; end = tt }
@@ -218,7 +209,7 @@ module _ (servers : ℕ) (seats : Seats) (k : ℕ) (some : k < servers) (readabl
   ask_goes : (by : Session) (items : List (Field × LeaseKind)) (dir : Option (List ℕ)) (s : Core) → HasJoined seats by → Fine s → Goes (ask_step by items dir s)
   ask_goes by items dir s of h =
       let a = ask_from by items s [] in
-      let all : IsAsking (asked_in by items dir s) = all_asked_fine by dir a.end a of (asked_fine by items s [] of h refl) in
+      let all : IsAsking (asked_in by items dir s) = all_asked_fine by dir a.end a of (asked_fine by of items s [] h refl) in
       record { server = all.server; sends = ((of, all.end, all.grants), recalled_at (HasJoined seats) (IsSent servers seats k) (λ s n h. (h, tt, refl)) (asked_in by items dir s).end (asked_in by items dir s).server.rows all.server.rows) }
 
   -- ## Renewals and releases
@@ -238,34 +229,20 @@ module _ (servers : ℕ) (seats : Seats) (k : ℕ) (some : k < servers) (readabl
     server : Fine x.server
     end : IsNamedEnd servers x.end
 
-  either_shipping : (b : Bool) (x y : Shipping) → IsShipping x → IsShipping y → IsShipping (cond b x y)
-  either_shipping true x y h g = h
-  either_shipping false x y h g = g
+  ship_end : (by : Session) (e : Entry) (es : List Entry) (s : Core) (at : End) (gaps : List ℕ) → ShipEnds by e es s at gaps → Fine s → IsNamedEnd servers at
+  ship_end by e es s at gaps (refused u mine gone) h = tt
+  ship_end by e es s at gaps (misplaced mine) h = moved_end s (home_of e.op) h
 
-  entries_fine : (by : Session) (es : List Entry) (s : Core) (admitted : List Item) → HasJoined seats by → list_all is_readable_entry es ≡ true → Fine s → IsShipping (ship_from by es s admitted)
-  entries_fine by [] s admitted of r h = record { server = h; end = tt }
-  entries_fine by (e ∷ es) s admitted of r h =
-      either_shipping (is_mine s (home_of e.op))
-      (elim (first_gone s.rows by e.uses) as (λ _. Shipping) [
-        | None ↦ ship_from by es (with_entry by e s) (admitted ++ item_of by e ∷ [])
-        | Some u ↦ record { server = s; admitted = admitted; end = end.Ended e.n u.no u.until s.last; gaps = map (λ (x : Entry). x.n) es }
-      ])
-      (record { server = s; admitted = admitted; end = moved s (home_of e.op); gaps = [] })
-      (elim (first_gone s.rows by e.uses) as (λ (o : Option Use).
-      IsShipping
-      (elim o as (λ _. Shipping) [
-        | None ↦ ship_from by es (with_entry by e s) (admitted ++ item_of by e ∷ [])
-        | Some u ↦ record { server = s; admitted = admitted; end = end.Ended e.n u.no u.until s.last; gaps = map (λ (x : Entry). x.n) es }
-      ])) [
-        | None ↦ entries_fine by es (with_entry by e s) (admitted ++ item_of by e ∷ []) of (second _ _ r)
-            (record { me = h.me; named = h.named; handles = open_after_all s.records (effects_of by e.op e.reply) (effects_open by e.op e.reply (readable by of) (first _ _ r)) h.handles; rows = h.rows })
-        | Some u ↦ record { server = h; end = tt }
-      ])
-      (record { server = h; end = moved_end s (home_of e.op) h })
+  entries_fine : (by : Session) → HasJoined seats by → (es : List Entry) (s : Core) (admitted : List Item) → list_all is_readable_entry es ≡ true → Fine s → IsShipping (ship_from by es s admitted)
+  entries_fine by of = each_entry by (λ es s admitted x. list_all is_readable_entry es ≡ true → Fine s → IsShipping x)
+      (λ s admitted r h. record { server = h; end = tt })
+      (λ e es s admitted x mine here more r h. more (second _ _ r)
+      (record { me = h.me; named = h.named; handles = open_after_all s.records (effects_of by e.op e.reply) (effects_open by e.op e.reply (readable by of) (first _ _ r)) h.handles; rows = h.rows }))
+      (λ e es s admitted at gaps why r h. record { server = h; end = ship_end by e es s at gaps why h })
 
   ship_goes : (by : Session) (entries : List Entry) (s : Core) → HasJoined seats by → list_all is_readable_entry entries ≡ true → Fine s → Goes (ship_step by entries s)
   ship_goes by entries s of r h =
-      let all : IsShipping (ship_from by entries s []) = entries_fine by entries s [] of r h in
+      let all : IsShipping (ship_from by entries s []) = entries_fine by of entries s [] r h in
       either_goes (list_all (λ (e : Entry). tells_its_effects e.op) entries) (shipped by (ship_from by entries s [])) (strange s) (record { server = all.server; sends = ((of, all.end, refl), tt) }) (strange_goes s h)
 
   message_goes : (by : Session) (m : ClientMsg) (s : Core) → HasJoined seats by → is_readable (msg.Client m) ≡ true → Fine s → Goes (message_step by m s)
@@ -288,18 +265,11 @@ module _ (servers : ℕ) (seats : Seats) (k : ℕ) (some : k < servers) (readabl
   reap_open file by (h ∷ hs) = (tt, reap_open file by hs)
 
   reaped_fine : (xs : List (List ℕ × Session)) (s : Core) (admitted : List Item) (blockers : List LeaseNo) → Fine s → Fine (reap_from xs s admitted blockers).server
-  reaped_fine [] s admitted blockers h = h
-  reaped_fine (x ∷ xs) s admitted blockers h =
-      elim (reap_blocker (selves_in s.records x.0) s.rows x.1 x.0) as (λ (o : Option LeaseNo).
-      Fine
-      (elim o as (λ _. Reaping) [
-        | None ↦ reap_from xs (with_reap x.0 x.1 s) (admitted ++ reap_item s.me (s.reaps + 1) x.0 x.1 ∷ []) blockers
-        | Some number ↦ reap_from xs s admitted (with_blocker number blockers)
-      ]).server) [
-        | None ↦ reaped_fine xs (with_reap x.0 x.1 s) (admitted ++ reap_item s.me (s.reaps + 1) x.0 x.1 ∷ []) blockers
-            (record { me = h.me; named = h.named; handles = open_after_all s.records (reap_effects s.records x.0 x.1) (reap_open x.0 x.1 (own_of x.1 (handles_of (node_of (get s.records x.0))))) h.handles; rows = h.rows })
-        | Some number ↦ reaped_fine xs s admitted (with_blocker number blockers) h
-      ]
+  reaped_fine = each_lapsed (λ xs s admitted blockers r. Fine s → Fine r.server)
+      (λ s admitted blockers h. h)
+      (λ f x xs s admitted blockers r e more h. more
+      (record { me = h.me; named = h.named; handles = open_after_all s.records (reap_effects s.records f x) (reap_open f x (own_of x (handles_of (node_of (get s.records f))))) h.handles; rows = h.rows }))
+      (λ f x xs s admitted blockers r number e more h. more h)
 
   turn_goes : (xs : List (List ℕ × Session)) (s : Core) → Fine s → Goes (turn_over xs s)
   turn_goes [] s h = record { server = h; sends = tt }
@@ -318,10 +288,7 @@ module _ (servers : ℕ) (seats : Seats) (k : ℕ) (some : k < servers) (readabl
   not_same true true false e later h = refl
 
   differ : (to : ℕ) (s : Core) → Fine s → (to == s.me) ≡ false → k ≢ to
-  differ to s h e q = let same : (to == s.me) ≡ true = ap (λ (n : ℕ). to == n) (h.me ∙ q) ∙ refl_of to in absurd (cc)
-    where
-      refl_of : (n : ℕ) → (n == n) ≡ true
-      refl_of n = grind (arith, nat_tests)
+  differ to s h e q = let same : (to == s.me) ≡ true = ap (λ (n : ℕ). to == n) (h.me ∙ q) ∙ itself to in absurd (cc)
 
   moves_goes : (prefix : List ℕ) (to : ℕ) (s : Core) (o : Option MoveError) → move_refusal s.records s.rows s.map s.me prefix to None ≡ o → to < servers → AreRecords s.records → Fine s → Goes (move_at o prefix to s)
   moves_goes prefix to s (Some why) e few valid h = record { server = h; sends = tt }

@@ -7,6 +7,7 @@ use Rattle.fs_ident.specs.In.{In}
 use Rattle.fs_ident.specs.declared.actor.Peer.{Peer}
 use Rattle.fs_ident.specs.declared.actor.Peer.TheVariants.{Server, Client}
 use Rattle.fs_ident.specs.declared.actor.Session.{Session}
+use Rattle.fs_ident.proofs.Standing.{In-got}
 use Rattle.fs_frag.specs.declared.joined.Joined.{Joined}
 use Rattle.fs_model.specs.declared.op.Op.{Op}
 use Rattle.fs_window.specs.Post.{Links, post_accepted}
@@ -14,7 +15,6 @@ use Rattle.fs_window.specs.Reading.{packet_at}
 use Rattle.fs_window.specs.declared.heard.Heard.{Heard}
 use Rattle.fs_window.specs.declared.packet.Packet.{Packet}
 use Rattle.fs_window.specs.declared.sent.Sent.{Sent}
-use Rattle.fs_window.proofs.Schedule.{in_get}
 use Rattle.fs_msg.specs.declared.answer.Answer.{Answer}
 use Rattle.fs_msg.specs.declared.core_error.CoreError.{CoreError}
 use Rattle.fs_msg.specs.declared.item.Item.{Item}
@@ -107,7 +107,7 @@ tell_plain w now k h = go (slice_get w.packets.sent k) refl
   where
     go : (o : Option Sent) → slice_get w.packets.sent k ≡ o → IsPlain (tell_at o now k w).outcome
     go None e = (refl, tt)
-    go (Some x) e = arrives_plain w x (in_get w.packets.sent k x e) h now
+    go (Some x) e = arrives_plain w x (In-got w.packets.sent k x e) h now
 
 -- ## An event of a world with servers
 

@@ -2,10 +2,10 @@
 use Rattle.std.proofs.Common.{◌≡◌, ◌⊎◌, List, [], ◌∷◌, ◌++◌, length, refl, ap, sym, ◌∙◌, inl, inr, append_assoc, arith, subst}
 use Rattle.std.proofs.lemmas.List.{append-nil}
 use Rattle.fs_ident.specs.In.{In}
+use Rattle.fs_ident.proofs.Standing.{In-append, In-front, In-last}
 use Rattle.fs_msg.specs.declared.item.Item.{Item}
 use Rattle.fs_schedule.specs.declared.event.Event.{Event}
 use Rattle.fs_schedule.specs.declared.outcome.Outcome.{Outcome}
-use Rattle.fs_serial.proofs.Facts.{In-append, In-front}
 use Rattle.fs_world.specs.Order.{Told, told_at, told_of, IsAdmitted, AllAdmitted, HasNumberOf, Agrees}
 
 -- one more event, with its outcome
@@ -14,10 +14,6 @@ told_push [] [] e o h = append-nil (told_at e.what o.notes)
 told_push [] (p ∷ ps) e o h = absurd (omega arith)
 told_push (d ∷ ds) [] e o h = absurd (omega arith)
 told_push (d ∷ ds) (p ∷ ps) e o h = ap (λ (ts : List Told). told_at d.what p.notes ++ ts) (told_push ds ps e o (omega arith)) ∙ sym (append_assoc (told_at d.what p.notes) (told_of ds ps) (told_at e.what o.notes))
-
-pub in_last : {X : Type 0} (xs : List X) (x : X) → In x (xs ++ x ∷ [])
-in_last [] x = inl refl
-in_last (z ∷ zs) x = inr (in_last zs x)
 
 grown : (j : List Item) (i : Item) (t : Told) → IsAdmitted j t → IsAdmitted (j ++ i ∷ []) t
 grown j i t h = (h.0, In-front h.0 j (i ∷ []) h.1, h.2, h.3)
@@ -28,7 +24,7 @@ admitted_push j told i t number agrees h = λ x m. either x (In-append x told (t
   where
     either : (x : Told) → In x told ⊎ In x (t ∷ []) → IsAdmitted (j ++ i ∷ []) x
     either x (inl m) = grown j i x (h x m)
-    either x (inr (inl e)) = subst (IsAdmitted (j ++ i ∷ [])) (sym e) (i, in_last j i, number, agrees)
+    either x (inr (inl e)) = subst (IsAdmitted (j ++ i ∷ [])) (sym e) (i, In-last j i, number, agrees)
     either x (inr (inr m)) = absurd m
 
 -- where nothing was told

@@ -3,6 +3,7 @@ use Rattle.std.proofs.Common.{◌≡◌, ℕ, Bool, true, false, List, [], ◌�
 use Rattle.std.specs.Prelude.{Option, Some, None, ◌||◌}
 use Rattle.std.specs.FinMap.{get}
 use Rattle.std.specs.List.{AllByRecursion}
+use Rattle.std.proofs.lemmas.Bool.{or_from}
 use Rattle.fs_ident.specs.declared.actor.Session.{Session}
 use Rattle.fs_field.specs.declared.row.Row.{Row}
 use Rattle.fs_model.specs.declared.op.Op.{Op}
@@ -85,13 +86,9 @@ refusals_fair laws s fits may timely = fair_from laws (greatest_of 0 s.events) s
 
 -- ## Strange to no link, and to no core
 
-not_either : (a b : Bool) → a ≡ false → b ≡ false → (a || b) ≡ false
-not_either true b p q = absurd (cc p)
-not_either false b p q = q
-
 notes_neither : (notes : List Note) → AllByRecursion (λ (n : Note). is_link_strange n ≡ false) notes → AllByRecursion (λ (n : Note). is_core_strange n ≡ false) notes → AllByRecursion (λ (n : Note). is_strange n ≡ false) notes
 notes_neither [] p q = tt
-notes_neither (n ∷ ns) p q = (not_either (is_link_strange n) (is_core_strange n) p.0 q.0, notes_neither ns p.1 q.1)
+notes_neither (n ∷ ns) p q = (or_from (is_link_strange n) (is_core_strange n) p.0 q.0, notes_neither ns p.1 q.1)
 
 pub neither_strange : (outcomes : List Outcome) → NoneHas is_link_strange outcomes → NoneHas is_core_strange outcomes → NoneStrange outcomes
 neither_strange [] p q = tt

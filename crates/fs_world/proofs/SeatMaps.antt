@@ -1,62 +1,11 @@
--- What stands at a session, changed where it is kept.
-use Rattle.std.proofs.Common.{◌≡◌, ℕ, ◌-◌, ◌++◌, ◌∷◌, [], List, length, length-append, take, take_at, ap, sym, ◌∙◌, refl, cond, Bool, true, false, arith, inl, inr, MutBor}
+-- An answer on its way to a session, put there and taken back.
+use Rattle.std.proofs.Common.{◌≡◌, ℕ, ◌-◌, ◌++◌, ◌∷◌, [], List, length, length-append, take, take_at, ap, sym, ◌∙◌, refl, arith}
 use Rattle.std.specs.Prelude.{Option, Some, None}
-use Rattle.std.specs.Option.{ghost_name_of, option_copied_mut}
-use Rattle.std.specs.Ordering.{nat_cmp, eq_by_cmp}
-use Rattle.std.specs.Cmp.{eq_by_cmp_equiv, nat_cmp_total}
-use Rattle.std.specs.List.Sorted.{IsStrictlySortedBy}
-use Rattle.std.specs.Map.{keys_of, lookup, set_value}
-use Rattle.std.specs.BTreeMap.{BTreeMap, is_at}
-use Rattle.std.specs.FinMap.{FinMap, empty, from_entries, get, insert, same_map, get_tied, get-insert, nat_cmp-IsAntisymmetric}
-use borrow.Follows.Closed.{read_of}
-use Rattle.fs_ident.specs.Maps.{numbered_map_of}
-use Rattle.fs_ident.proofs.Booleans.{equal_is}
-use Rattle.fs_ident.proofs.CopiedMaps.{all_entries, with_all}
-use Rattle.fs_ident.proofs.MapsOf.{numbered_set}
+use Rattle.std.specs.FinMap.{get, insert}
+use Rattle.fs_ident.proofs.NumberedMaps.{numbered_put_back, numbered_put_here}
 use Rattle.fs_msg.specs.declared.answer.Answer.{Answer}
 use Rattle.fs_world.specs.Served.{Seats, with_down_at}
 use Rattle.fs_world.specs.declared.seat.Seat.{Seat}
-
-pub numbered_empty : {V : Type 0} (m : BTreeMap ℕ V) → m.entries ≡ [] → numbered_map_of m ≡ empty
-unfolding numbered_map_of
-numbered_empty m e = ap (λ es. from_entries es) e
-
--- all entries of a tree map make it anew
-pub numbered_all : {V : Type 0} (m : BTreeMap ℕ V) → IsStrictlySortedBy nat_cmp (keys_of m.entries) → with_all nat_cmp m.entries empty ≡ numbered_map_of m
-unfolding numbered_map_of
-numbered_all m h = all_entries nat_cmp nat_cmp_total nat_cmp-IsAntisymmetric m.entries h
-
--- what stands at a key, lent: the map ends with what is left there
-pub numbered_lent : {V : Type 0} (m : BTreeMap ℕ V) (k : ℕ) (r : Option (MutBor V)) (n : V → BTreeMap ℕ V) (none : BTreeMap ℕ V) → option_copied_mut r ≡ lookup (is_at (nat_cmp k)) m.entries
-    → ((w : V) → (n w).entries ≡ set_value (is_at (nat_cmp k)) m.entries w) → none ≡ m
-    → read_of (ghost_name_of r) (λ w. numbered_map_of (n w)) (numbered_map_of none) ≡ read_of (ghost_name_of r) (λ w. insert (numbered_map_of m) k w) (numbered_map_of m)
-numbered_lent m k None n none is sets same = λ i. inr (numbered_map_of (same i))
-numbered_lent m k (Some x) n none is sets same = λ i. inl (x.ghost_name, λ w. numbered_set m (n w) k x.now w (sym is) (sets w) i)
-
-put_once : {V : Type 0} (b : Bool) (w : V) (g : Option V) → (b ≡ true → g ≡ Some w) → cond b (Some w) g ≡ g
-put_once true w g h = sym (h refl)
-put_once false w g h = refl
-
--- what stands there, put there
-pub put_same : {V : Type 0} (m : FinMap nat_cmp V) (k : ℕ) (v w : V) → get m k ≡ Some v → w ≡ v → insert m k w ≡ m
-put_same m k v w h same = same_map nat_cmp_total nat_cmp-IsAntisymmetric _ _ (λ q.
-    get-insert nat_cmp_total m k w q ∙ put_once _ w _ (λ t. sym (get_tied nat_cmp_total m q k (equal_is _ t)) ∙ h ∙ ap Some (sym same)))
-
--- ## What is put and put back
-
-put_twice : {V : Type 0} (b : Bool) (v w : V) (g : Option V) → (b ≡ true → g ≡ Some w) → cond b (Some w) (cond b (Some v) g) ≡ g
-put_twice true v w g h = sym (h refl)
-put_twice false v w g h = refl
-
--- a value that was put where another stood, and that one again
-numbered_put_back : {V : Type 0} (m : FinMap nat_cmp V) (k : ℕ) (v w : V) → get m k ≡ Some w → insert (insert m k v) k w ≡ m
-numbered_put_back m k v w h = same_map nat_cmp_total nat_cmp-IsAntisymmetric _ _ (λ q.
-    get-insert nat_cmp_total (insert m k v) k w q ∙ ap (cond (eq_by_cmp nat_cmp q k) (Some w)) (get-insert nat_cmp_total m k v q)
-    ∙ put_twice _ v w _ (λ t. sym (get_tied nat_cmp_total m q k (equal_is _ t)) ∙ h))
-
--- what is put stands there
-numbered_put_here : {V : Type 0} (m : FinMap nat_cmp V) (k : ℕ) (v : V) → get (insert m k v) k ≡ Some v
-numbered_put_here m k v = get-insert nat_cmp_total m k v k ∙ ap (λ b. cond b (Some v) (get m k)) ((eq_by_cmp_equiv nat_cmp_total).refl k)
 
 abbrev without_last : Seat → Seat
 without_last seat = record seat { down = take (length seat.down - 1) seat.down }

@@ -7,6 +7,7 @@ use Rattle.std.specs.Cmp.{nat_cmp_total, unsigned_tied}
 use Rattle.std.specs.FinMap.{get, insert, get-insert}
 use mathlib.Core.Path.{fun_ext}
 use Rattle.fs_ident.specs.declared.actor.Session.{Session}
+use Rattle.fs_ident.proofs.Same.{one_session}
 use Rattle.fs_serial.specs.Cluster.{Lines, first_lines, with_lines}
 use Rattle.fs_world.specs.Linked.{HasJoined}
 use Rattle.fs_world.specs.Parts.{lines_in, lines_of}
@@ -17,12 +18,6 @@ use Rattle.fs_world.specs.declared.seat.Seat.{Seat}
 
 pub turned : (a b : ℕ) → (a == b) ≡ (b == a)
 turned a b = grind (arith, nat_tests)
-
-pub own_number : (n : ℕ) → (n == n) ≡ true
-own_number n = grind (arith, nat_tests)
-
-pub session_is : (s x : Session) → (s.0 == x.0) ≡ true → s ≡ x
-session_is s x e = ap (λ (n : ℕ). let y : Session = record { 0 = n } in y) (eqb-true s.0 x.0 e)
 
 -- ## One seat changes
 
@@ -38,7 +33,7 @@ lines_put term seats s seat = fun_ext (λ x. ap (lines_in term x) (seat_put seat
 
 -- a session that joins is as it was
 joined_at : (term : ℕ) (seats : Seats) (s x : Session) (b : Bool) → get seats s.0 ≡ None → (s.0 == x.0) ≡ b → cond b (first_lines term s) (lines_of term seats x) ≡ lines_of term seats x
-joined_at term seats s x true none e = ap (first_lines term) (session_is s x e) ∙ sym (ap (lines_in term x) (ap (λ (y : Session). get seats y.0) (sym (session_is s x e)) ∙ none))
+joined_at term seats s x true none e = ap (first_lines term) (one_session s x e) ∙ sym (ap (lines_in term x) (ap (λ (y : Session). get seats y.0) (sym (one_session s x e)) ∙ none))
 joined_at term seats s x false none e = refl
 
 pub lines_joined : (term : ℕ) (seats : Seats) (s : Session) → get seats s.0 ≡ None → lines_of term (insert seats s.0 (first_seat term s)) ≡ lines_of term seats
@@ -46,7 +41,7 @@ lines_joined term seats s none = lines_put term seats s (first_seat term s) ∙ 
 
 -- the lines of a session that has joined change
 changed_at : (term : ℕ) (seats : Seats) (s x : Session) (seat : Seat) (f : Lines → Lines) (b : Bool) → get seats s.0 ≡ Some seat → (s.0 == x.0) ≡ b → cond b (f (lines_in term s (Some seat))) (lines_of term seats x) ≡ cond b (f (lines_of term seats x)) (lines_of term seats x)
-changed_at term seats s x seat f true at e = ap f (sym (ap (lines_in term x) (ap (λ (y : Session). get seats y.0) (sym (session_is s x e)) ∙ at)))
+changed_at term seats s x seat f true at e = ap f (sym (ap (lines_in term x) (ap (λ (y : Session). get seats y.0) (sym (one_session s x e)) ∙ at)))
 changed_at term seats s x seat f false at e = refl
 
 pub lines_changed : (term : ℕ) (seats : Seats) (s : Session) (seat next : Seat) (f : Lines → Lines) → get seats s.0 ≡ Some seat → lines_in term s (Some next) ≡ f (lines_in term s (Some seat))

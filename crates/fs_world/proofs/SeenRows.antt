@@ -42,6 +42,7 @@ use Rattle.fs_msg.specs.declared.msg.Msg.{Msg}
 use Rattle.fs_msg.specs.declared.msg.Msg.TheVariants as msg
 use Rattle.fs_msg.specs.declared.peer_msg.PeerMsg.TheVariants.{Parcel as OfParcel}
 use Rattle.fs_record.specs.Effects.{tells_its_effects}
+use Rattle.fs_server.proofs.OneByOne.{each_item, reaps_leave, ships_leave}
 use Rattle.fs_server.specs.Asks.{Asking, answer_to, ask_fresh, ask_from, ask_step, asked_in, fresh_for, fresh_in, fresh_of, grant_of, kind_for, recall_of, recalls_at, with_lease}
 use Rattle.fs_server.specs.Moves.{fits_here, move_at, parcel_at}
 use Rattle.fs_server.specs.Pairs.{numbers_in, pairs_here, released_rows, renewed_rows}
@@ -159,31 +160,11 @@ module _ (these : Session → Type 0) where
 
   -- ## A question
 
-  after_items : (by : Session) (xs : List (Field × LeaseKind)) (s : Server) (grants : List Grant) → these by → AreOf these s.rows → AreOf these (ask_from by xs s grants).server.rows
-  after_items by [] s grants p h = h
-  after_items by (x ∷ xs) s grants p h =
-      let kind = kind_for x.0 x.1 in
-      elim (is_mine s (file_of x.0)) as (λ (b : Bool). AreOf these
-      (cond b
-      (elim (answer_to by x.0 kind s) as (λ _. Asking) [
-        | Granted promise ↦ ask_from by xs (with_lease by x.0 kind promise s) (grants ++ grant_of by x.0 kind s ∷ [])
-        | Wait blocker ↦ record { server = s; grants = grants; fresh = None; end = end.Wait blocker }
-        | Locked txn ↦ record { server = s; grants = grants; fresh = None; end = end.Locked txn }
-      ])
-      (record { server = s; grants = grants; fresh = None; end = moved s (file_of x.0) })).server.rows) [
-        | true ↦
-            elim (answer_to by x.0 kind s) as (λ (a : Asked). AreOf these
-            (elim a as (λ _. Asking) [
-              | Granted promise ↦ ask_from by xs (with_lease by x.0 kind promise s) (grants ++ grant_of by x.0 kind s ∷ [])
-              | Wait blocker ↦ record { server = s; grants = grants; fresh = None; end = end.Wait blocker }
-              | Locked txn ↦ record { server = s; grants = grants; fresh = None; end = end.Locked txn }
-            ]).server.rows) [
-              | Granted promise ↦ after_items by xs (with_lease by x.0 kind promise s) (grants ++ grant_of by x.0 kind s ∷ []) p (lent by x.0 kind promise s p h)
-              | Wait blocker ↦ h
-              | Locked txn ↦ h
-            ]
-        | false ↦ h
-      ]
+  after_items : (by : Session) → these by → (xs : List (Field × LeaseKind)) (s : Server) (grants : List Grant) → AreOf these s.rows → AreOf these (ask_from by xs s grants).server.rows
+  after_items by p = each_item by (λ xs s grants a. AreOf these s.rows → AreOf these a.server.rows)
+      (λ s grants h. h)
+      (λ x xs s grants promise a mine e more h. more (lent by x.0 (kind_for x.0 x.1) promise s p h))
+      (λ x xs s grants at why h. h)
 
   -- a new file's identifier
   after_fresh_of : (by : Session) (dir : List ℕ) (k : Option ℕ) (a : Asking) → these by → AreOf these a.server.rows → AreOf these (fresh_of by dir k a).server.rows
@@ -212,7 +193,7 @@ module _ (these : Session → Type 0) where
 
   ask_of : (by : Session) (items : List (Field × LeaseKind)) (dir : Option (List ℕ)) (s : Server) → these by → AreOf these s.rows → IsOf (ask_step by items dir s)
   ask_of by items dir s p h =
-      let rows : AreOf these (asked_in by items dir s).server.rows = after_fresh by dir (ask_from by items s []).end (ask_from by items s []) p (after_items by items s [] p h) in
+      let rows : AreOf these (asked_in by items dir s).server.rows = after_fresh by dir (ask_from by items s []).end (ask_from by items s []) p (after_items by p items s [] h) in
       record { rows = rows; sends = (p, recalled_at these (λ (x : Peer × Msg). IsSentTo these x) (λ s n h. h) (asked_in by items dir s).end (asked_in by items dir s).server.rows rows) }
 
   -- ## Other messages
@@ -222,26 +203,7 @@ module _ (these : Session → Type 0) where
 
   -- no entry changes a row
   after_entries : (by : Session) (es : List Entry) (s : Server) (admitted : List Item) → AreOf these s.rows → AreOf these (ship_from by es s admitted).server.rows
-  after_entries by [] s admitted h = h
-  after_entries by (e ∷ es) s admitted h =
-      elim (is_mine s (home_of e.op)) as (λ (b : Bool). AreOf these
-      (cond b
-      (elim (first_gone s.rows by e.uses) as (λ _. Shipping) [
-        | None ↦ ship_from by es (with_entry by e s) (admitted ++ item_of by e ∷ [])
-        | Some u ↦ record { server = s; admitted = admitted; end = end.Ended e.n u.no u.until s.last; gaps = map (λ (x : Entry). x.n) es }
-      ])
-      (record { server = s; admitted = admitted; end = moved s (home_of e.op); gaps = [] })).server.rows) [
-        | true ↦
-            elim (first_gone s.rows by e.uses) as (λ (o : Option Use). AreOf these
-            (elim o as (λ _. Shipping) [
-              | None ↦ ship_from by es (with_entry by e s) (admitted ++ item_of by e ∷ [])
-              | Some u ↦ record { server = s; admitted = admitted; end = end.Ended e.n u.no u.until s.last; gaps = map (λ (x : Entry). x.n) es }
-            ]).server.rows) [
-              | None ↦ after_entries by es (with_entry by e s) (admitted ++ item_of by e ∷ []) h
-              | Some u ↦ h
-            ]
-        | false ↦ h
-      ]
+  after_entries by es s admitted h = subst (AreOf these) (sym (ap (λ (t : Server). t.rows) (ships_leave by es s admitted))) h
 
   ship_of : (by : Session) (entries : List Entry) (s : Server) → these by → AreOf these s.rows → IsOf (ship_step by entries s)
   ship_of by entries s p h = either (list_all (λ (e : Entry). tells_its_effects e.op) entries)
@@ -260,16 +222,7 @@ module _ (these : Session → Type 0) where
 
   -- a reap changes no row
   reap_rows : (xs : List (List ℕ × Session)) (s : Server) (admitted : List Item) (blockers : List LeaseNo) → (reap_from xs s admitted blockers).server.rows ≡ s.rows
-  reap_rows [] s admitted blockers = refl
-  reap_rows (x ∷ xs) s admitted blockers =
-      elim (reap_blocker (selves_in s.records x.0) s.rows x.1 x.0) as (λ (o : Option LeaseNo).
-      (elim o as (λ _. Reaping) [
-        | None ↦ reap_from xs (with_reap x.0 x.1 s) (admitted ++ reap_item s.me (s.reaps + 1) x.0 x.1 ∷ []) blockers
-        | Some number ↦ reap_from xs s admitted (with_blocker number blockers)
-      ]).server.rows ≡ s.rows) [
-        | None ↦ reap_rows xs (with_reap x.0 x.1 s) (admitted ++ reap_item s.me (s.reaps + 1) x.0 x.1 ∷ []) blockers
-        | Some number ↦ reap_rows xs s admitted (with_blocker number blockers)
-      ]
+  reap_rows xs s admitted blockers = ap (λ (t : Server). t.rows) (reaps_leave xs s admitted blockers)
 
   turn_of : (xs : List (List ℕ × Session)) (s : Server) → AreOf these s.rows → IsOf (turn_over xs s)
   turn_of [] s h = record { rows = h; sends = tt }

@@ -5,6 +5,8 @@ use Rattle.fs_ident.specs.In.{In}
 use Rattle.fs_ident.specs.declared.actor.Peer.{Peer}
 use Rattle.fs_ident.specs.declared.actor.Peer.TheVariants.{Server, Client}
 use Rattle.fs_ident.specs.declared.actor.Session.{Session}
+use Rattle.fs_ident.proofs.Standing.{In-front}
+use Rattle.fs_ident.proofs.Same.{itself}
 use Rattle.fs_model.specs.Namespace.{first_space}
 use Rattle.fs_msg.specs.Journal.{IsSerialRun}
 use Rattle.fs_msg.specs.declared.item.Item.{Item}
@@ -17,13 +19,12 @@ use Rattle.fs_serial.specs.Numbers.{AreNumbered, all_items, is_server, is_sessio
 use Rattle.fs_serial.specs.Seen.{ends_of, world_of}
 use Rattle.fs_serial.specs.Settled.{Settled}
 use Rattle.fs_serial.specs.World.{WorldHolds, settled_at}
-use Rattle.fs_serial.proofs.Facts.{In-front}
 use Rattle.fs_world.specs.Order.{Agrees, AreNumberedFrom, HasNumberOf, IsInSessionOrder, Told, items_of, same_actor}
 use Rattle.fs_world.specs.Parts.{lines_of}
 use Rattle.fs_world.specs.declared.served.Served.{Served}
 use Rattle.fs_world.proofs.Fine.{AllFine}
 use Rattle.fs_world.proofs.Numbered.{kept, number_of_one}
-use Rattle.fs_world.proofs.Seen.{own_number, turned}
+use Rattle.fs_world.proofs.Seen.{turned}
 use Rattle.fs_world.proofs.Serial.{AllAsk}
 use Rattle.fs_world.proofs.ServedHolds.{a_server, cluster_of}
 use Rattle.fs_world.proofs.SessionSteps.{HoldsOf, parts_of}
@@ -86,7 +87,7 @@ module _ (count skew greatest : ℕ) (told : List Told) (w : Served) (h : HoldsO
   -- the session's item of the journal is among those that it was told
   in_told : (s : Session) (i : Item) → In i w.journal → i.by ≡ Client s → In i (h.replied s)
   in_told s i there by =
-      let own : is_session s i.by ≡ true = ap (is_session s) by ∙ own_number s.0 in
+      let own : is_session s i.by ≡ true = ap (is_session s) by ∙ itself s.0 in
       subst (In i) (holds.all.sessions s).replies (In-front i (items_by s w.journal) (map (item_of s) (settled s).log) (kept (λ (i : Item). is_session s i.by) w.journal i own there))
 
   agreeing : (t : Told) (i : Item) → In t told → In i w.journal → HasNumberOf i t → Agrees i t

@@ -9,6 +9,7 @@ use Rattle.fs_ident.specs.In.{In}
 use Rattle.fs_ident.specs.declared.actor.Session.{Session}
 use Rattle.fs_ident.proofs.Booleans.{both}
 use Rattle.fs_ident.proofs.Passing.{found}
+use Rattle.fs_ident.proofs.Standing.{In-got, In-append, In-front, In-mapped}
 use Rattle.fs_msg.specs.declared.client_msg.ClientMsg.{ClientMsg}
 use Rattle.fs_msg.specs.declared.client_msg.ClientMsg.TheVariants.{Ask, Renew, Release, Ship}
 use Rattle.fs_msg.specs.declared.entry.Entry.{Entry}
@@ -20,8 +21,7 @@ use Rattle.fs_server.specs.declared.state.Server.{Server}
 use Rattle.fs_serial.specs.Cluster.{Cluster, IsThere, Lines, after_server, after_server_at, flying_from, is_between, is_with, with_lines, with_sent, without_first, without_parcel, without_question}
 use Rattle.fs_serial.specs.Seen.{ClusterHolds, ends_of}
 use Rattle.fs_serial.specs.declared.flying.Flying.{Flying}
-use Rattle.fs_serial.proofs.Facts.{In-append, In-front, In-mapped}
-use Rattle.fs_serial.proofs.SetAt.{In_got, In_set, In_without}
+use Rattle.fs_serial.proofs.SetAt.{In_set, In_without}
 use Rattle.fs_world.specs.Linked.{HasJoined}
 use Rattle.fs_world.specs.Order.{Told}
 use Rattle.fs_world.specs.Parts.{lines_in, lines_of}
@@ -39,7 +39,7 @@ module _ (laws : SerialLaws) (count skew greatest : ℕ) (told : List Told) (p :
   c = cluster_of h.replied p
 
   server_in : In s p.servers
-  server_in = In_got p.servers k s at
+  server_in = In-got p.servers k s at
 
   -- the server's readings were no greater
   pub clock : s.last ≤ greatest

@@ -12,10 +12,6 @@ pub spent_link : (counter : Counter) (full : Bool) → first_spent None full ≡
 spent_link counter true e = (refl, cc)
 spent_link counter false e = absurd (cc)
 
-pub not_true : (b : Bool) → (b ≡ true → ⊥) → b ≡ false
-not_true true h = absurd (h refl)
-not_true false h = refl
-
 -- the same error under another answer
 pub refused_as : {T U : Type 0} (x : CoreError) (counter : Counter) → Segments ≡ counter → IsErrOf {T = T} (Err x) (errors.Spent Segments) ⊎ IsErrOf {T = T} (Err x) errors.Memory
     → IsErrOf {T = U} (Err x) (errors.Spent counter) ⊎ IsErrOf {T = U} (Err x) errors.Memory

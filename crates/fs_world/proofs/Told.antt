@@ -4,6 +4,8 @@ use Rattle.std.specs.Prelude.{Option, Some, None, is_some}
 use Rattle.fs_ident.specs.In.{In}
 use Rattle.fs_ident.specs.declared.actor.Peer.TheVariants.{Client}
 use Rattle.fs_ident.specs.declared.actor.Session.{Session}
+use Rattle.fs_ident.proofs.Standing.{In-append, In-front, In-behind}
+use Rattle.fs_ident.proofs.Same.{itself}
 use Rattle.fs_field.specs.declared.asked.Need.{Need}
 use Rattle.fs_field.specs.declared.asked.Need.TheVariants as need
 use Rattle.fs_model.specs.Sound.{is_change}
@@ -23,9 +25,7 @@ use Rattle.fs_client.specs.Client.{begun}
 use Rattle.fs_client.specs.declared.plan.Plan.{Plan}
 use Rattle.fs_client.specs.declared.state.Client.{Client as ClientState}
 use Rattle.fs_serial.specs.World.{pushed, told_by, with_told}
-use Rattle.fs_serial.proofs.Facts.{In-append, In-behind, In-front}
 use Rattle.fs_world.specs.Order.{Agrees, HasNumberOf, IsAdmitted, SameButId, Told, replies_in}
-use Rattle.fs_world.proofs.Seen.{own_number}
 
 -- each reply that was told is among those of its session
 abbrev pub AllReplied : (Session → List Item) → List Told → Type 0
@@ -56,7 +56,7 @@ replied_then : (s : Session) (o : Option Item) (replied : Session → List Item)
 replied_then s o replied t h = (h.0, in_told s o replied t.session (s.0 == t.session.0) h.0 h.1, h.2, h.3)
 
 new_there : (s : Session) (i : Item) (replied : Session → List Item) → In i (with_told s (Some i) replied s)
-new_there s i replied = subst (λ b. In i (cond b (replied s ++ i ∷ []) (replied s))) (sym (own_number s.0)) (In-behind i (replied s) (i ∷ []) (inl refl))
+new_there s i replied = subst (λ b. In i (cond b (replied s ++ i ∷ []) (replied s))) (sym (itself s.0)) (In-behind i (replied s) (i ∷ []) (inl refl))
 
 replied_new : (s : Session) (o : Option Item) (replied : Session → List Item) (t : Told) → IsNew s o t → IsAdmitted (with_told s o replied t.session) t
 replied_new s o replied t h =

@@ -75,7 +75,7 @@ impl Seats {
     }
 
     /// One answer more is on its way to the session, if it has joined.
-    #[tactic(auto, using(crate::proofs::SeatMaps::put_same))]
+    #[tactic(auto, using(fs_ident::proofs::NumberedMaps::put_same))]
     pub(crate) fn push_down(&mut self, s: Session, m: (u8, Answer)) -> Result<(), Memory>
         ensures ok { OnOk result (self.new ≡
             with_down_at (map.get self.old s.0) s.0 m self.old) }

@@ -1,21 +1,24 @@
 //! How questions on modes are answered, and each call.
-ghost use Rattle.std.specs.Prelude.{◌≡◌, not};
-ghost use Rattle.std.specs.List.{list_any};
-ghost use Rattle.fs_field.specs.Table.{has_no};
+ghost use Rattle.std.specs.Prelude.{[], IfOk};
+ghost use Rattle.fs_rows.specs.Granted.{with_rows};
+ghost use Rattle.fs_rows.specs.Table.{IsTable};
+ghost use Rattle.fs_moderows.specs.Table.{IsModeTable};
 
 mod moving;
 mod small_tables;
 
+use crate::{same, shows};
 use fs_field::{Asked, Field, LeaseKind, Row, Unknown};
-use fs_ident::{FileId, LeaseNo, List, Session, Twin, TxnNo};
+use fs_ident::{FileId, LeaseNo, List, Memory, Session, Twin, TxnNo};
 use fs_moderows::{
-    ModeRows, asking_for_other_is_safe, asking_for_self_is_safe, changes_by_rows_are_safe,
+    Live, ModeRows, asking_for_other_is_safe, asking_for_self_is_safe, changes_by_rows_are_safe,
     kept_promises_are_without_conflict, moved_rows_are_safe, promises_are_what_others_have,
     promises_stay_kept, reaps_are_safe, rows_stay_without_conflict,
 };
 use fs_modes::{Mode, Modes};
 use fs_rows::Rows;
 use std::alloc::Global;
+use std::process::Abort;
 use std::test::Fail;
 
 pub(crate) const TXN: TxnNo = TxnNo {
@@ -75,26 +78,42 @@ fn ask(
     m: Mode,
 ) -> Result<Asked, Fail> {
     let no = number(count);
-    if !is_new(rows, no) {
+    if rows.all().has(no) {
         return Err(Fail::from("the number is taken"));
     }
     let file = FileId::root(alloc);
     let asker = Session(session);
-    let asked = match question {
-        Question::SelfW => rows.ask_self(alloc, selves, no, asker, &file, m, 100)?,
-        Question::Other => rows.ask_other(alloc, selves, no, asker, &file, m, 100)?,
-    };
-    Ok(asked)
+    match question {
+        Question::SelfW => Ok(rows.ask_self(alloc, selves, no, asker, &file, m, 100)?),
+        Question::Other => Ok(rows.ask_other(alloc, selves, no, asker, &file, m, 100)?),
+    }
 }
 
-#[tactic(auto, using(fs_moderows::proofs::Tables::there_is_found))]
-fn is_new(rows: &ModeRows, no: LeaseNo) -> bool
-    ensures { result ≡ not (list_any (has_no no) rows.now) }
-{
-    match rows.row(no) {
-        Some(_) => false,
-        None => true,
-    }
+/// A question about writing: the number of the lease, the session, and what it would know or change.
+type Asking = (u64, u16, Question);
+
+/// The question is answered so.
+fn asks(
+    rt: &impl Abort,
+    alloc: Global,
+    rows: &mut ModeRows,
+    selves: &List<(Session, Modes)>,
+    (count, session, question): Asking,
+    wanted: Asked,
+) -> Result<(), Fail> {
+    let asked = ask(alloc, rows, selves, count, session, question, Mode::AccW)?;
+    same(rt, asked, wanted);
+    Ok(())
+}
+
+/// What keeps the session from losing its handles on the root.
+fn blocker(
+    alloc: Global,
+    rows: &ModeRows,
+    selves: &List<(Session, Modes)>,
+    session: u16,
+) -> Option<LeaseNo> {
+    rows.may_reap(selves, Session(session), &FileId::root(alloc))
 }
 
 /// These modes of each of the sessions.
@@ -106,178 +125,313 @@ fn opens(alloc: Global, sessions: &[u16], modes: Modes) -> Result<List<(Session,
     Ok(told)
 }
 
-/// The first two have the mode, and each may be gone as long as the other stays.
+/// The first two have the mode.
+fn both_write(
+    rt: &impl Abort,
+    alloc: Global,
+    rows: &mut ModeRows,
+    both: &List<(Session, Modes)>,
+) -> Result<(), Fail> {
+    asks(rt, alloc, rows, both, (1, 3, Question::Other), TRUE)?;
+    asks(rt, alloc, rows, both, (2, 1, Question::SelfW), GIVEN)?;
+    asks(rt, alloc, rows, both, (3, 2, Question::SelfW), waits(1))?;
+    same(rt, blocker(alloc, rows, both, 2), Some(number(1)));
+    same(rt, rows.release(number(1)), true);
+    same(rt, blocker(alloc, rows, both, 2), None);
+    asks(rt, alloc, rows, both, (3, 2, Question::SelfW), GIVEN)
+}
+
+/// Each of the two may be gone as long as the other stays.
 #[test]
 fn one_who_stays_keeps_a_promise(rt: HostRuntime) -> Result<(), Fail> {
-    let alloc = rt.alloc();
+    let mut rows = ModeRows::new(rt.alloc());
+    let both = opens(rt.alloc(), &[1, 2], WRITES)?;
+    both_write(&rt, rt.alloc(), &mut rows, &both)
+}
+
+/// The row that tells the third session that the first two write.
+fn told_third(alloc: Global) -> Result<ModeRows, Fail> {
     let mut rows = ModeRows::new(alloc);
     let both = opens(alloc, &[1, 2], WRITES)?;
+    ask(alloc, &mut rows, &both, 1, 3, Question::Other, Mode::AccW)?;
+    Ok(rows)
+}
+
+/// The answer to the first session, of which alone it is told that it writes, and that wants to stop.
+fn own_answer(
+    alloc: Global,
+    live: &Live<'_>,
+    one: &List<(Session, Modes)>,
+) -> Result<Asked, Memory> {
     let file = FileId::root(alloc);
-    let third = ask(alloc, &mut rows, &both, 1, 3, Question::Other, Mode::AccW)?;
-    assert_eq!(rt; third, TRUE);
-    let first = ask(alloc, &mut rows, &both, 2, 1, Question::SelfW, Mode::AccW)?;
-    assert_eq!(rt; first, GIVEN);
-    let second = ask(alloc, &mut rows, &both, 3, 2, Question::SelfW, Mode::AccW)?;
-    assert_eq!(rt; second, waits(1));
-    assert_eq!(rt; rows.may_reap(&both, Session(2), &file), Some(number(1)));
-    assert!(rt; rows.release(number(1)));
-    assert_eq!(rt; rows.may_reap(&both, Session(2), &file), None);
-    let second = ask(alloc, &mut rows, &both, 3, 2, Question::SelfW, Mode::AccW)?;
-    assert_eq!(rt; second, GIVEN);
+    let own = Field::SelfW(file.copy(alloc)?, Mode::AccW);
+    Ok(live.answer_self(one, Session(1), &own, &file, Mode::AccW))
+}
+
+/// The answer to the second session, which would know whether another writes.
+fn other_answer(
+    alloc: Global,
+    live: &Live<'_>,
+    one: &List<(Session, Modes)>,
+) -> Result<Asked, Memory> {
+    let file = FileId::root(alloc);
+    let others = Field::Other(file.copy(alloc)?, Mode::AccW);
+    Ok(live.answer_other(one, Session(2), &others, &file, Mode::AccW))
+}
+
+const ON: &str = "List { items: [(LeaseNo { server: 0, count: 1 }, Session(3))] }";
+
+/// What is read of the field of the row before that is over.
+fn reads_field(rt: &impl Abort, alloc: Global, live: &Live<'_>, field: &Field) -> Result<(), Fail> {
+    let holds = live.holds(number(1), Session(3), field, LeaseKind::Shared);
+    same(rt, holds, true);
+    shows(rt, alloc, &live.unlocked_on(alloc, field)?, ON)
+}
+
+/// How many numbers below the root the rows tell.
+fn borne(alloc: Global, live: &Live<'_>) -> Result<usize, Memory> {
+    let root = FileId::root(alloc);
+    Ok(live.borne(alloc, &root)?.len())
+}
+
+/// The row, as it is read before it is over.
+fn reads_row(rt: &impl Abort, alloc: Global, live: &Live<'_>) -> Result<(), Fail> {
+    same(rt, live.has(number(1)), true);
+    same(rt, live.row(number(1)).is_some(), true);
+    same(rt, borne(alloc, live)?, 0);
+    let others = Field::Other(FileId::root(alloc), Mode::AccW);
+    reads_field(rt, alloc, live, &others)
+}
+
+/// What stands against a lease while the row is read, and what stands against it no more.
+fn stands_against(
+    rt: &impl Abort,
+    alloc: Global,
+    rows: &ModeRows,
+    one: &List<(Session, Modes)>,
+) -> Result<(), Fail> {
+    let live = rows.live(109, 10);
+    same(rt, own_answer(alloc, &live, one)?, waits(1));
+    same(rt, other_answer(alloc, &live, one)?, TRUE);
+    same(
+        rt,
+        live.may_reap(one, Session(1), &FileId::root(alloc)),
+        Some(number(1)),
+    );
+    let over = rows.live(110, 10);
+    same(rt, own_answer(alloc, &over, one)?, GIVEN);
+    same(
+        rt,
+        over.may_reap(one, Session(1), &FileId::root(alloc)),
+        None,
+    );
+    same(rt, over.has(number(1)), false);
     Ok(())
 }
 
 /// What is read at a reading at which a row is over: nothing stands against a lease then, and no row is dropped.
 #[test]
 fn rows_are_read_at_a_reading(rt: HostRuntime) -> Result<(), Fail> {
-    let alloc = rt.alloc();
-    let mut rows = ModeRows::new(alloc);
-    let both = opens(alloc, &[1, 2], WRITES)?;
-    let one = opens(alloc, &[1], WRITES)?;
-    let file = FileId::root(alloc);
-    ask(alloc, &mut rows, &both, 1, 3, Question::Other, Mode::AccW)?;
-    let own = Field::SelfW(file.copy(alloc)?, Mode::AccW);
-    let others = Field::Other(file.copy(alloc)?, Mode::AccW);
-    let live = rows.live(109, 10);
-    let asked = live.answer_self(&one, Session(1), &own, &file, Mode::AccW);
-    assert_eq!(rt; asked, waits(1));
-    let asked = live.answer_other(&one, Session(2), &others, &file, Mode::AccW);
-    assert_eq!(rt; asked, TRUE);
-    assert_eq!(rt; live.may_reap(&one, Session(1), &file), Some(number(1)));
-    assert!(rt; live.has(number(1)));
-    assert!(rt; live.holds(number(1), Session(3), &others, LeaseKind::Shared));
-    assert!(rt; live.row(number(1)).is_some());
-    let on = live.unlocked_on(alloc, &others)?;
-    assert_eq!(rt; on.as_slice(), [(number(1), Session(3))].as_slice());
-    let borne = live.borne(alloc, &file)?;
-    assert!(rt; borne.is_empty());
-    let over = rows.live(110, 10);
-    let asked = over.answer_self(&one, Session(1), &own, &file, Mode::AccW);
-    assert_eq!(rt; asked, GIVEN);
-    assert_eq!(rt; over.may_reap(&one, Session(1), &file), None);
-    assert!(rt; !over.has(number(1)));
-    Ok(())
+    let rows = told_third(rt.alloc())?;
+    let one = opens(rt.alloc(), &[1], WRITES)?;
+    stands_against(&rt, rt.alloc(), &rows, &one)?;
+    reads_row(&rt, rt.alloc(), &rows.live(109, 10))
 }
 
-/// A row that is over goes, and one comes in each table.
-#[test]
-fn rows_are_granted_in_both_tables(rt: HostRuntime) -> Result<(), Fail> {
-    let alloc = rt.alloc();
-    let mut on = ModeRows::new(alloc);
-    let mut off = Rows::new(alloc);
-    let file = FileId::root(alloc);
+/// A row of the first session, alone.
+fn own_row(alloc: Global) -> Result<List<Row>, Fail>
+    ensures { IfOk result (λ rows. IsModeTable (with_rows rows [])) }
+{
     let mut rows = List::new(alloc);
     rows.push(Row {
         no: number(1),
         session: Session(1),
-        field: Field::SelfW(file.copy(alloc)?, Mode::AccW),
+        field: Field::SelfW(FileId::root(alloc), Mode::AccW),
         kind: LeaseKind::Exclusive,
         until: 300,
         promise: None,
         lock: None,
     })?;
-    let mut others = List::new(alloc);
-    others.push(Row {
+    Ok(rows)
+}
+
+/// The same of the other table.
+fn life_row(alloc: Global) -> Result<List<Row>, Fail>
+    ensures { IfOk result (λ rows. IsTable (with_rows rows [])) }
+{
+    let mut rows = List::new(alloc);
+    rows.push(Row {
         no: number(2),
         session: Session(1),
-        field: Field::Life(file),
+        field: Field::Life(FileId::root(alloc)),
         kind: LeaseKind::Shared,
         until: 300,
         promise: None,
         lock: None,
     })?;
-    on.grant_all(alloc, 110, 10, rows, &mut off, others)?;
-    assert!(rt; on.row(number(1)).is_some());
-    assert!(rt; off.row(number(2)).is_some());
+    Ok(rows)
+}
+
+/// Whether each row is in its table once they are granted.
+fn grants_both(alloc: Global) -> Result<(bool, bool), Fail> {
+    let own = own_row(alloc)?;
+    let life = life_row(alloc)?;
+    let mut on = ModeRows::new(alloc);
+    let mut off = Rows::new(alloc);
+    on.grant_all(alloc, 110, 10, own, &mut off, life)?;
+    Ok((on.row(number(1)).is_some(), off.row(number(2)).is_some()))
+}
+
+#[test]
+fn rows_are_granted_in_both_tables(rt: HostRuntime) -> Result<(), Fail> {
+    same(&rt, grants_both(rt.alloc())?, (true, true));
     Ok(())
 }
 
-/// No one has the mode: another waits to turn it on, and on another mode none waits.
+/// No one has the mode.
+fn none_writes(
+    rt: &impl Abort,
+    alloc: Global,
+    rows: &mut ModeRows,
+    none: &List<(Session, Modes)>,
+) -> Result<(), Fail> {
+    asks(rt, alloc, rows, none, (1, 1, Question::Other), FALSE)?;
+    asks(rt, alloc, rows, none, (2, 2, Question::SelfW), waits(1))?;
+    asks(rt, alloc, rows, none, (2, 1, Question::SelfW), GIVEN)?;
+    asks(rt, alloc, rows, none, (3, 2, Question::Other), waits(2))?;
+    let denies = ask(alloc, rows, none, 3, 2, Question::SelfW, Mode::DenyW)?;
+    same(rt, denies, GIVEN);
+    Ok(())
+}
+
+/// Another waits to turn the mode on, and on another mode none waits.
 #[test]
 fn that_none_has_a_mode_is_kept(rt: HostRuntime) -> Result<(), Fail> {
-    let alloc = rt.alloc();
-    let mut rows = ModeRows::new(alloc);
-    let none = List::new(alloc);
-    let first = ask(alloc, &mut rows, &none, 1, 1, Question::Other, Mode::AccW)?;
-    assert_eq!(rt; first, FALSE);
-    let second = ask(alloc, &mut rows, &none, 2, 2, Question::SelfW, Mode::AccW)?;
-    assert_eq!(rt; second, waits(1));
-    let own = ask(alloc, &mut rows, &none, 2, 1, Question::SelfW, Mode::AccW)?;
-    assert_eq!(rt; own, GIVEN);
-    let second = ask(alloc, &mut rows, &none, 3, 2, Question::Other, Mode::AccW)?;
-    assert_eq!(rt; second, waits(2));
-    let second = ask(alloc, &mut rows, &none, 3, 2, Question::SelfW, Mode::DenyW)?;
-    assert_eq!(rt; second, GIVEN);
+    let mut rows = ModeRows::new(rt.alloc());
+    none_writes(&rt, rt.alloc(), &mut rows, &List::new(rt.alloc()))
+}
+
+fn two_modes(
+    rt: &impl Abort,
+    alloc: Global,
+    rows: &mut ModeRows,
+    first: &List<(Session, Modes)>,
+) -> Result<(), Fail> {
+    same(
+        rt,
+        ask(alloc, rows, first, 3, 2, Question::Other, Mode::AccR)?,
+        TRUE,
+    );
+    same(
+        rt,
+        ask(alloc, rows, first, 2, 2, Question::Other, Mode::AccW)?,
+        TRUE,
+    );
+    same(rt, blocker(alloc, rows, first, 1), Some(number(2)));
+    same(rt, blocker(alloc, rows, first, 2), None);
+    let child = FileId::root(alloc).child(alloc, 1)?;
+    same(rt, rows.may_reap(first, Session(1), &child), None);
     Ok(())
 }
 
 /// The least of the rows of two modes, whatever the order of the modes is.
 #[test]
 fn a_reap_waits_for_the_least_of_all_modes(rt: HostRuntime) -> Result<(), Fail> {
-    let alloc = rt.alloc();
-    let mut rows = ModeRows::new(alloc);
-    let first = opens(alloc, &[1], READS_AND_WRITES)?;
-    let file = FileId::root(alloc);
-    let second = ask(alloc, &mut rows, &first, 3, 2, Question::Other, Mode::AccR)?;
-    assert_eq!(rt; second, TRUE);
-    let second = ask(alloc, &mut rows, &first, 2, 2, Question::Other, Mode::AccW)?;
-    assert_eq!(rt; second, TRUE);
-    assert_eq!(rt; rows.may_reap(&first, Session(1), &file), Some(number(2)));
-    assert_eq!(rt;
-        rows.may_reap(&first, Session(1), &file.child(alloc, 1)?),
-        None
-    );
-    assert_eq!(rt; rows.may_reap(&first, Session(2), &file), None);
-    Ok(())
+    let mut rows = ModeRows::new(rt.alloc());
+    let first = opens(rt.alloc(), &[1], READS_AND_WRITES)?;
+    two_modes(&rt, rt.alloc(), &mut rows, &first)
 }
 
 const ROW: &str = "ModeRows { rows: List { items: [Row { no: LeaseNo { server: 0, count: 1 }, \
     session: Session(1), field: SelfW(FileId { numbers: [] }, AccW), kind: Exclusive, until: 200, \
     promise: None, lock: Some(TxnNo { server: 0, count: 7 }) }] } }";
 
-/// A row that a transaction keeps, and each call that takes no memory.
-#[test]
-fn a_row_from_its_grant_to_its_release(rt: HostRuntime) -> Result<(), Fail> {
-    let alloc = rt.alloc();
-    let mut rows = ModeRows::new(alloc);
-    let none = List::new(alloc);
-    ask(alloc, &mut rows, &none, 1, 1, Question::SelfW, Mode::AccW)?;
-    assert_eq!(rt; rows.renew(number(1), 200), Ok(()));
-    assert_eq!(rt; rows.renew(number(2), 200), Err(Unknown { no: number(2) }));
-    assert!(rt; rows.lock(number(1), TXN));
-    assert!(rt; !rows.lock(number(1), TXN));
-    let asked = ask(alloc, &mut rows, &none, 2, 2, Question::SelfW, Mode::AccW)?;
-    assert_eq!(rt; asked, Asked::Locked { txn: TXN });
-    let asked = ask(alloc, &mut rows, &none, 2, 2, Question::Other, Mode::AccW)?;
-    assert_eq!(rt; asked, waits(1));
-    let twin = rows.copy(alloc)?;
-    let text = format!(in alloc; "{twin:?}")?;
-    assert_eq!(rt; text.as_str(), ROW);
+/// A row that a transaction keeps.
+fn keeps(
+    rt: &impl Abort,
+    alloc: Global,
+    rows: &mut ModeRows,
+    none: &List<(Session, Modes)>,
+) -> Result<(), Fail> {
+    asks(rt, alloc, rows, none, (1, 1, Question::SelfW), GIVEN)?;
+    same(rt, rows.renew(number(1), 200), Ok(()));
+    same(
+        rt,
+        rows.renew(number(2), 200),
+        Err(Unknown { no: number(2) }),
+    );
+    same(rt, rows.lock(number(1), TXN), true);
+    same(rt, rows.lock(number(1), TXN), false);
+    asks(
+        rt,
+        alloc,
+        rows,
+        none,
+        (2, 2, Question::SelfW),
+        Asked::Locked { txn: TXN },
+    )?;
+    asks(rt, alloc, rows, none, (2, 2, Question::Other), waits(1))?;
+    shows(rt, alloc, &rows.copy(alloc)?, ROW)
+}
+
+/// It lapses only once it is kept no more.
+fn lapses(rt: &impl Abort, rows: &mut ModeRows) {
     rows.lapse(u64::MAX, 0);
-    assert!(rt; rows.row(number(1)).is_some());
+    same(rt, rows.row(number(1)).is_some(), true);
     rows.unlock(TXN);
     rows.lapse(209, 10);
-    assert!(rt; rows.release(number(1)));
+    same(rt, rows.release(number(1)), true);
+}
+
+#[test]
+fn a_row_from_its_grant_to_its_release(rt: HostRuntime) -> Result<(), Fail> {
+    let mut rows = ModeRows::new(rt.alloc());
+    keeps(&rt, rt.alloc(), &mut rows, &List::new(rt.alloc()))?;
+    lapses(&rt, &mut rows);
     Ok(())
+}
+
+/// The rows with one of the first session on the third file, on what others deny.
+fn third_file(alloc: Global, file: &FileId) -> Result<ModeRows, Memory> {
+    let mut rows = ModeRows::new(alloc);
+    let none = List::new(alloc);
+    rows.ask_other(alloc, &none, number(1), Session(1), file, Mode::DenyR, 100)?;
+    Ok(rows)
+}
+
+fn tell(rt: &impl Abort, alloc: Global, rows: &ModeRows, field: &Field) -> Result<(), Fail> {
+    let by = Session(1);
+    same(
+        rt,
+        rows.holds(number(1), by, field, LeaseKind::Shared),
+        true,
+    );
+    same(
+        rt,
+        rows.holds(number(1), by, field, LeaseKind::Exclusive),
+        false,
+    );
+    let on = rows.on(alloc, field)?;
+    shows(
+        rt,
+        alloc,
+        &on,
+        "List { items: [(LeaseNo { server: 0, count: 1 }, Session(1))] }",
+    )?;
+    shows(
+        rt,
+        alloc,
+        &rows.borne(alloc, &FileId::root(alloc))?,
+        "List { items: [3] }",
+    )
 }
 
 /// What the rows tell of fields and files.
 #[test]
 fn rows_tell_whole_answers(rt: HostRuntime) -> Result<(), Fail> {
-    let alloc = rt.alloc();
-    let mut rows = ModeRows::new(alloc);
-    let none = List::new(alloc);
-    let root = FileId::root(alloc);
-    let file = root.child(alloc, 3)?;
-    rows.ask_other(alloc, &none, number(1), Session(1), &file, Mode::DenyR, 100)?;
-    let field = Field::Other(file, Mode::DenyR);
-    assert!(rt; rows.holds(number(1), Session(1), &field, LeaseKind::Shared));
-    assert!(rt; !rows.holds(number(1), Session(1), &field, LeaseKind::Exclusive));
-    let on = rows.on(alloc, &field)?;
-    assert_eq!(rt; on.as_slice(), [(number(1), Session(1))].as_slice());
-    let borne = rows.borne(alloc, &root)?;
-    assert_eq!(rt; borne.as_slice(), [3].as_slice());
-    Ok(())
+    let file = FileId::root(rt.alloc()).child(rt.alloc(), 3)?;
+    let rows = third_file(rt.alloc(), &file)?;
+    tell(&rt, rt.alloc(), &rows, &Field::Other(file, Mode::DenyR))
 }
 
 #[test]

@@ -46,26 +46,42 @@ type Sent = (
     &'static [Told],
 );
 
-fn id(alloc: Global, text: &str) -> Result<FileId, Fail> {
+pub(crate) fn id(alloc: Global, text: &str) -> Result<FileId, Fail> {
     Ok(FileId::parse(alloc, text.as_bytes())?)
 }
 
 pub(crate) fn row(alloc: Global, (count, session, file, on): Told) -> Result<Row, Fail> {
-    let file = id(alloc, file)?;
-    let (field, kind, promise) = match on {
-        On::Life | On::KeptLife => (Field::Life(file), LeaseKind::Exclusive, None),
-        On::Own => (Field::SelfW(file, Mode::AccW), LeaseKind::Exclusive, None),
-        On::Others(promise) => (Field::Other(file, Mode::AccW), LeaseKind::Shared, promise),
-    };
     Ok(Row {
         no: LeaseNo { server: 0, count },
         session: Session(session),
-        field,
-        kind,
+        field: field(id(alloc, file)?, on),
+        kind: kind(on),
         until: 100,
-        promise,
+        promise: promise(on),
         lock: lock(on),
     })
+}
+
+fn field(file: FileId, on: On) -> Field {
+    match on {
+        On::Life | On::KeptLife => Field::Life(file),
+        On::Own => Field::SelfW(file, Mode::AccW),
+        On::Others(_) => Field::Other(file, Mode::AccW),
+    }
+}
+
+fn kind(on: On) -> LeaseKind {
+    match on {
+        On::Others(_) => LeaseKind::Shared,
+        _ => LeaseKind::Exclusive,
+    }
+}
+
+fn promise(on: On) -> Option<bool> {
+    match on {
+        On::Others(promise) => promise,
+        _ => None,
+    }
 }
 
 fn lock(on: On) -> Option<TxnNo> {
@@ -77,10 +93,20 @@ fn lock(on: On) -> Option<TxnNo> {
 
 fn record(alloc: Global, names: &[u8], writers: &[u16]) -> Result<Record, Fail> {
     let mut node = Node::new(alloc, Kind::Dir, None);
+    add_names(alloc, &mut node, names)?;
+    add_writers(&mut node, writers)?;
+    Ok(Record { node, next: 1 })
+}
+
+fn add_names(alloc: Global, node: &mut Node, names: &[u8]) -> Result<(), Fail> {
     for letter in names {
         let name = Name::new(alloc, &[*letter])?;
         node.children.push((name, FileId::root(alloc)))?;
     }
+    Ok(())
+}
+
+fn add_writers(node: &mut Node, writers: &[u16]) -> Result<(), Fail> {
     for session in writers {
         node.handles.push(Handle {
             session: Session(*session),
@@ -88,7 +114,7 @@ fn record(alloc: Global, names: &[u8], writers: &[u16]) -> Result<Record, Fail> 
             modes: WRITES,
         })?;
     }
-    Ok(Record { node, next: 1 })
+    Ok(())
 }
 
 fn records(alloc: Global, kept: &[Kept]) -> Result<List<(FileId, Record)>, Fail> {
@@ -107,7 +133,11 @@ pub(crate) fn rows(alloc: Global, told: &[Told]) -> Result<List<Row>, Fail> {
     Ok(rows)
 }
 
-fn piece(alloc: Global, prefix: &str, places: &[(&str, bool)]) -> Result<MapPiece, Fail> {
+pub(crate) fn piece(
+    alloc: Global,
+    prefix: &str,
+    places: &[(&str, bool)],
+) -> Result<MapPiece, Fail> {
     let mut given = List::new(alloc);
     for (place, value) in places {
         given.push((id(alloc, place)?, *value))?;

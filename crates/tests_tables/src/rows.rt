@@ -1,12 +1,15 @@
 //! How rows lapse and move, each call, and which leases go together.
-ghost use Rattle.std.specs.Prelude.{◌≡◌, true, IfOk};
+ghost use Rattle.std.specs.Prelude.{◌≡◌, ◌<◌, [], true, IfOk};
 ghost use Rattle.fs_field.specs.Field.{tells_no_mode};
-ghost use Rattle.fs_rows.specs.Moving.{are_off_modes};
+ghost use Rattle.fs_rows.specs.Granted.{with_rows};
+ghost use Rattle.fs_rows.specs.Table.{IsTable};
 
+mod moving;
+
+use crate::{same, shows};
 use fs_field::{Asked, Field, LeaseKind, Row, Unknown};
 use fs_ident::{FileId, LeaseNo, List, Name, Session, Twin, TxnNo};
-use fs_map::{FileMap, MapPiece};
-use fs_rows::Rows;
+use fs_rows::{Live, Rows};
 use std::alloc::Global;
 use std::process::Abort;
 use std::test::Fail;
@@ -30,6 +33,21 @@ const TXN: TxnNo = TxnNo {
     server: 0,
     count: 7,
 };
+
+/// The session's question for a lease until 100, if the number is new and the field tells no mode.
+fn ask(
+    alloc: Global,
+    rows: &mut Rows,
+    no: LeaseNo,
+    session: u16,
+    field: &Field,
+    kind: LeaseKind,
+) -> Result<Asked, Fail> {
+    if rows.all().has(no) || !field.tells_no_mode() {
+        return Err(Fail::from("no such lease"));
+    }
+    Ok(rows.ask(alloc, no, Session(session), field, kind, 100)?)
+}
 
 /// The rows with one of the first session on the third file below the root.
 fn one_row(alloc: Global, kind: LeaseKind, until: u64) -> Result<Rows, Fail> {
@@ -67,7 +85,7 @@ fn is_left(alloc: Global, until: u64, kept: bool, now: u64, skew: u64) -> Result
 #[test]
 fn rows_lapse_at_their_end_and_the_skew(rt: HostRuntime) -> Result<(), Fail> {
     for (until, kept, now, skew, left) in LAPSES {
-        assert_eq!(rt; is_left(rt.alloc(), until, kept, now, skew)?, left);
+        same(&rt, is_left(rt.alloc(), until, kept, now, skew)?, left);
     }
     Ok(())
 }
@@ -76,97 +94,136 @@ const ROW: &str = "Rows { rows: List { items: [Row { no: LeaseNo { server: 0, co
     Session(1), field: Life(FileId { numbers: [3] }), kind: Exclusive, until: 200, promise: \
     None, lock: None }] } }";
 
-/// Each call that needs no memory, and a copy.
+/// Each call that needs no memory but the last.
+fn changes(rt: &impl Abort, rows: &mut Rows) {
+    same(rt, rows.renew(FIRST, 200), Ok(()));
+    same(rt, rows.renew(FIRST, 150), Ok(()));
+    same(rt, rows.renew(SECOND, 150), Err(Unknown { no: SECOND }));
+    same(rt, rows.lock(FIRST, TXN), true);
+    same(rt, rows.lock(FIRST, TXN), false);
+    rows.unlock(TXN);
+}
+
+/// The row is changed, copied and released.
 #[test]
 fn a_row_from_its_grant_to_its_release(rt: HostRuntime) -> Result<(), Fail> {
-    let alloc = rt.alloc();
-    let mut rows = one_row(alloc, LeaseKind::Exclusive, 100)?;
-    assert_eq!(rt; rows.renew(FIRST, 200), Ok(()));
-    assert_eq!(rt; rows.renew(FIRST, 150), Ok(()));
-    assert_eq!(rt; rows.renew(SECOND, 150), Err(Unknown { no: SECOND }));
-    assert!(rt; rows.lock(FIRST, TXN));
-    assert!(rt; !rows.lock(FIRST, TXN));
-    rows.unlock(TXN);
-    let twin = rows.copy(alloc)?;
-    assert!(rt; rows.release(FIRST));
-    assert!(rt; !rows.release(FIRST));
-    let text = format!(in alloc; "{twin:?}")?;
-    assert_eq!(rt; text.as_str(), ROW);
-    Ok(())
+    let mut rows = one_row(rt.alloc(), LeaseKind::Exclusive, 100)?;
+    changes(&rt, &mut rows);
+    let twin = rows.copy(rt.alloc())?;
+    same(&rt, rows.release(FIRST), true);
+    same(&rt, rows.release(FIRST), false);
+    shows(&rt, rt.alloc(), &twin, ROW)
 }
+
+const ON: &str = "List { items: [(LeaseNo { server: 0, count: 1 }, Session(1))] }";
+
+const BORNE: &str = "List { items: [3] }";
 
 /// What the rows tell of fields and files.
+fn tell(rt: &impl Abort, alloc: Global, rows: &Rows, field: &Field) -> Result<(), Fail> {
+    same(
+        rt,
+        rows.holds(FIRST, Session(1), field, LeaseKind::Exclusive),
+        true,
+    );
+    same(
+        rt,
+        rows.holds(FIRST, Session(1), field, LeaseKind::Shared),
+        false,
+    );
+    shows(rt, alloc, &rows.on(alloc, field)?, ON)?;
+    shows(rt, alloc, &rows.borne(alloc, &FileId::root(alloc))?, BORNE)
+}
+
 #[test]
 fn rows_tell_whole_answers(rt: HostRuntime) -> Result<(), Fail> {
-    let alloc = rt.alloc();
-    let rows = one_row(alloc, LeaseKind::Exclusive, 100)?;
-    let field = life(alloc)?;
-    assert!(rt; rows.holds(FIRST, Session(1), &field, LeaseKind::Exclusive));
-    assert!(rt; !rows.holds(FIRST, Session(1), &field, LeaseKind::Shared));
-    let on = rows.on(alloc, &field)?;
-    assert_eq!(rt; on.as_slice(), [(FIRST, Session(1))].as_slice());
-    let borne = rows.borne(alloc, &FileId::root(alloc))?;
-    assert_eq!(rt; borne.as_slice(), [3].as_slice());
-    Ok(())
+    let rows = one_row(rt.alloc(), LeaseKind::Exclusive, 100)?;
+    tell(&rt, rt.alloc(), &rows, &life(rt.alloc())?)
 }
 
-/// What is read at a reading at which the row is over: nothing stands against a lease then, and no row is dropped.
+/// What is read at the last reading before the row is over.
+fn reads(rt: &impl Abort, alloc: Global, live: &Live<'_>, field: &Field) -> Result<(), Fail> {
+    let asked = live.answer(Session(2), field, LeaseKind::Shared);
+    same(rt, asked, Asked::Wait { blocker: FIRST });
+    same(rt, live.has(FIRST), true);
+    same(
+        rt,
+        live.holds(FIRST, Session(1), field, LeaseKind::Exclusive),
+        true,
+    );
+    shows(rt, alloc, &live.unlocked_on(alloc, field)?, ON)?;
+    shows(rt, alloc, &live.borne(alloc, &FileId::root(alloc))?, BORNE)
+}
+
+/// What is read then: nothing stands against a lease.
+fn reads_none(rt: &impl Abort, over: &Live<'_>, field: &Field) {
+    let asked = over.answer(Session(2), field, LeaseKind::Shared);
+    same(rt, asked, Asked::Granted { value: None });
+    same(rt, over.row(FIRST).is_none(), true);
+}
+
+/// No row is dropped.
 #[test]
 fn rows_are_read_at_a_reading(rt: HostRuntime) -> Result<(), Fail> {
-    let alloc = rt.alloc();
-    let rows = one_row(alloc, LeaseKind::Exclusive, 100)?;
-    let field = life(alloc)?;
-    let live = rows.live(109, 10);
-    let asked = live.answer(Session(2), &field, LeaseKind::Shared);
-    assert_eq!(rt; asked, Asked::Wait { blocker: FIRST });
-    assert!(rt; live.has(FIRST));
-    assert!(rt; live.holds(FIRST, Session(1), &field, LeaseKind::Exclusive));
-    let on = live.unlocked_on(alloc, &field)?;
-    assert_eq!(rt; on.as_slice(), [(FIRST, Session(1))].as_slice());
-    let borne = live.borne(alloc, &FileId::root(alloc))?;
-    assert_eq!(rt; borne.as_slice(), [3].as_slice());
-    let over = rows.live(110, 10);
-    let asked = over.answer(Session(2), &field, LeaseKind::Shared);
-    assert_eq!(rt; asked, Asked::Granted { value: None });
-    assert!(rt; over.row(FIRST).is_none());
-    Ok(())
+    let rows = one_row(rt.alloc(), LeaseKind::Exclusive, 100)?;
+    let field = life(rt.alloc())?;
+    reads_none(&rt, &rows.live(110, 10), &field);
+    reads(&rt, rt.alloc(), &rows.live(109, 10), &field)
 }
 
-/// The row that is over goes, and another comes.
-#[test]
-fn rows_are_granted_at_once(rt: HostRuntime) -> Result<(), Fail> {
-    let alloc = rt.alloc();
-    let mut rows = Rows::new(alloc);
-    let row = Row {
+/// A row of the second session, alone.
+fn second_row(alloc: Global) -> Result<List<Row>, Fail>
+    ensures { IfOk result (λ rows. IsTable (with_rows rows [])) }
+{
+    let field = life(alloc)?;
+    let mut rows = List::new(alloc);
+    rows.push(Row {
         no: SECOND,
         session: Session(2),
-        field: life(alloc)?,
+        field,
         kind: LeaseKind::Shared,
         until: 300,
         promise: None,
         lock: None,
-    };
-    let mut more = List::new(alloc);
-    more.push(row)?;
+    })?;
+    Ok(rows)
+}
+
+/// Whether the second row is there once it is granted.
+fn grants_second(alloc: Global) -> Result<bool, Fail> {
+    let more = second_row(alloc)?;
+    let mut rows = Rows::new(alloc);
     rows.grant_all(alloc, 110, 10, more)?;
-    assert!(rt; rows.row(SECOND).is_some());
+    Ok(rows.row(SECOND).is_some())
+}
+
+#[test]
+fn rows_are_granted_at_once(rt: HostRuntime) -> Result<(), Fail> {
+    same(&rt, grants_second(rt.alloc())?, true);
+    Ok(())
+}
+
+fn stand_against(
+    rt: &impl Abort,
+    alloc: Global,
+    rows: &mut Rows,
+    field: &Field,
+) -> Result<(), Fail> {
+    ask(alloc, rows, SECOND, 2, field, LeaseKind::Shared)?;
+    ask(alloc, rows, FIRST, 1, field, LeaseKind::Shared)?;
+    let asked = ask(alloc, rows, THIRD, 3, field, LeaseKind::Exclusive)?;
+    same(rt, asked, Asked::Wait { blocker: FIRST });
+    same(rt, rows.lock(SECOND, TXN), true);
+    let asked = ask(alloc, rows, THIRD, 3, field, LeaseKind::Shared)?;
+    same(rt, asked, Asked::Locked { txn: TXN });
     Ok(())
 }
 
 /// A transaction's row goes before one that conflicts, and of these the least comes first.
 #[test]
 fn who_stands_against_a_lease(rt: HostRuntime) -> Result<(), Fail> {
-    let alloc = rt.alloc();
-    let field = life(alloc)?;
-    let mut rows = Rows::new(alloc);
-    rows.ask(alloc, SECOND, Session(2), &field, LeaseKind::Shared, 100)?;
-    rows.ask(alloc, FIRST, Session(1), &field, LeaseKind::Shared, 100)?;
-    let asked = rows.ask(alloc, THIRD, Session(3), &field, LeaseKind::Exclusive, 100)?;
-    assert_eq!(rt; asked, Asked::Wait { blocker: FIRST });
-    assert!(rt; rows.lock(SECOND, TXN));
-    let asked = rows.ask(alloc, THIRD, Session(3), &field, LeaseKind::Shared, 100)?;
-    assert_eq!(rt; asked, Asked::Locked { txn: TXN });
-    Ok(())
+    let mut rows = Rows::new(rt.alloc());
+    stand_against(&rt, rt.alloc(), &mut rows, &life(rt.alloc())?)
 }
 
 /// For each held field a line, and on it for each asked one a letter: `e` where a lease waits if either of the two
@@ -206,6 +263,18 @@ fn waits_by(letter: u8, held: LeaseKind, asked: LeaseKind) -> bool {
     }
 }
 
+/// The session's question for a lease on the field of the line.
+fn ask_line(
+    alloc: Global,
+    rows: &mut Rows,
+    no: LeaseNo,
+    session: u16,
+    (line, kind): (usize, LeaseKind),
+) -> Result<Asked, Fail> {
+    let field = field(alloc, line)?;
+    ask(alloc, rows, no, session, &field, kind)
+}
+
 /// Whether the session waits for a lease where the first session has one.
 fn waits(
     alloc: Global,
@@ -213,187 +282,41 @@ fn waits(
     held: (usize, LeaseKind),
     asked: (usize, LeaseKind),
 ) -> Result<bool, Fail> {
-    let first = field(alloc, held.0)?;
-    let second = field(alloc, asked.0)?;
-    if !first.tells_no_mode() || !second.tells_no_mode() {
-        return Err(Fail::from("a field tells of a mode"));
-    }
     let mut rows = Rows::new(alloc);
-    rows.ask(alloc, FIRST, Session(1), &first, held.1, 100)?;
-    let asked = rows.ask(alloc, SECOND, Session(session), &second, asked.1, 100)?;
+    ask_line(alloc, &mut rows, FIRST, 1, held)?;
+    let asked = ask_line(alloc, &mut rows, SECOND, session, asked)?;
     Ok(asked == Asked::Wait { blocker: FIRST })
 }
 
-const KINDS: [LeaseKind; 2] = [LeaseKind::Shared, LeaseKind::Exclusive];
+const KINDS: [(LeaseKind, LeaseKind); 4] = [
+    (LeaseKind::Shared, LeaseKind::Shared),
+    (LeaseKind::Shared, LeaseKind::Exclusive),
+    (LeaseKind::Exclusive, LeaseKind::Shared),
+    (LeaseKind::Exclusive, LeaseKind::Exclusive),
+];
 
-/// Each field against each, of both kinds, of two sessions and of one.
+/// A held field and an asked one, of both kinds, of two sessions and of one.
+fn go_together(rt: &impl Abort, alloc: Global, i: usize, j: usize) -> Result<(), Fail>
+    requires held { i < 8 }
+    requires asked { j < 8 }
+{
+    for (k, l) in KINDS {
+        same(
+            rt,
+            waits(alloc, 2, (i, k), (j, l))?,
+            waits_by(PAIRS[i][j], k, l),
+        );
+        same(rt, waits(alloc, 1, (i, k), (j, l))?, false);
+    }
+    Ok(())
+}
+
 #[test]
 fn leases_that_go_together(rt: HostRuntime) -> Result<(), Fail> {
     for i in 0..8 {
         for j in 0..8 {
-            for k in KINDS {
-                for l in KINDS {
-                    let other = waits(rt.alloc(), 2, (i, k), (j, l))?;
-                    assert_eq!(rt; other, waits_by(PAIRS[i][j], k, l));
-                    assert!(rt; !waits(rt.alloc(), 1, (i, k), (j, l))?);
-                }
-            }
+            go_together(&rt, rt.alloc(), i, j)?;
         }
-    }
-    Ok(())
-}
-
-/// Three rows on files of which the second is below the first, each kept by a transaction.
-fn locked_rows(alloc: Global) -> Result<Rows, Fail> {
-    let mut rows = Rows::new(alloc);
-    rows.ask(
-        alloc,
-        FIRST,
-        Session(1),
-        &life_of(alloc, b"/1")?,
-        LeaseKind::Shared,
-        100,
-    )?;
-    rows.ask(
-        alloc,
-        SECOND,
-        Session(1),
-        &life_of(alloc, b"/1/2")?,
-        LeaseKind::Shared,
-        100,
-    )?;
-    rows.ask(
-        alloc,
-        THIRD,
-        Session(1),
-        &life_of(alloc, b"/3")?,
-        LeaseKind::Shared,
-        100,
-    )?;
-    for (no, count) in [(FIRST, 7), (SECOND, 1), (THIRD, 5)] {
-        rows.lock(no, TxnNo { server: 0, count });
-    }
-    Ok(rows)
-}
-
-fn life_of(alloc: Global, file: &[u8]) -> Result<Field, Fail>
-    ensures { IfOk result (λ f. tells_no_mode f ≡ true) }
-{
-    Ok(Field::Life(FileId::parse(alloc, file)?))
-}
-
-/// The map of a server to whom all belongs but the file of the second row.
-fn with_a_hole(alloc: Global) -> Result<FileMap, Fail> {
-    let mut map = FileMap::new(alloc)?;
-    map.hint(alloc, &FileId::parse(alloc, b"/1/2")?, 4)?;
-    Ok(map)
-}
-
-/// What the server has below the prefix goes to another.
-fn given(rt: &impl Abort, alloc: Global, prefix: &FileId) -> Result<MapPiece, Fail> {
-    let mut map = with_a_hole(alloc)?;
-    let owner = map.owner(prefix).1;
-    assert!(rt; owner == 0);
-    Ok(map.give(alloc, 0, prefix, 1)?)
-}
-
-/// The prefix, the least transaction that keeps a row below it that is the server's, and for each row whether it goes.
-const GOES: [(&[u8], Option<u64>, [bool; 3]); 4] = [
-    (b"/", Some(5), [true, false, true]),
-    (b"/1", Some(7), [true, false, false]),
-    (b"/3", Some(5), [false, false, true]),
-    (b"/2", None, [false, false, false]),
-];
-
-/// Whether each of the three stands among these.
-fn stand(rows: &[Row]) -> [bool; 3] {
-    [
-        rows.iter().any(|row| row.no == FIRST),
-        rows.iter().any(|row| row.no == SECOND),
-        rows.iter().any(|row| row.no == THIRD),
-    ]
-}
-
-fn least_lock(alloc: Global, prefix: &FileId) -> Result<Option<u64>, Fail> {
-    let locked = locked_rows(alloc)?.locked_in(prefix, &with_a_hole(alloc)?, 0);
-    Ok(locked.map(|txn| txn.count))
-}
-
-/// Which of the three go, and which go that are only dropped.
-fn go(alloc: Global, piece: &MapPiece) -> Result<([bool; 3], [bool; 3]), Fail> {
-    let mut rows = locked_rows(alloc)?;
-    let mut twin = rows.copy(alloc)?;
-    let moved = rows.split(alloc, piece)?;
-    twin.leave(piece);
-    let left = [FIRST, SECOND, THIRD].map(|no| rows.row(no).is_none() && twin.row(no).is_none());
-    Ok((stand(moved.as_slice()), left))
-}
-
-#[test]
-fn rows_go_with_their_files(rt: HostRuntime) -> Result<(), Fail> {
-    let alloc = rt.alloc();
-    for (prefix, kept, goes) in GOES {
-        let prefix = FileId::parse(alloc, prefix)?;
-        assert_eq!(rt; least_lock(alloc, &prefix)?, kept);
-        let piece = given(&rt, alloc, &prefix)?;
-        assert_eq!(rt; go(alloc, &piece)?, (goes, goes));
-    }
-    Ok(())
-}
-
-/// The number, session, file and kind of a row that comes after one of the second session, exclusive on the fourth
-/// file, with the third number: whether their numbers are new, and whether they fit.
-const COMES: [(LeaseNo, u16, &[u8], LeaseKind, bool, bool); 7] = [
-    (SECOND, 1, b"/3", LeaseKind::Exclusive, true, true),
-    (SECOND, 2, b"/3", LeaseKind::Shared, true, false),
-    (SECOND, 2, b"/5", LeaseKind::Exclusive, true, true),
-    (SECOND, 2, b"/4", LeaseKind::Exclusive, true, true),
-    (SECOND, 1, b"/4", LeaseKind::Shared, true, false),
-    (FIRST, 1, b"/5", LeaseKind::Shared, false, false),
-    (THIRD, 1, b"/5", LeaseKind::Shared, false, false),
-];
-
-fn coming(
-    alloc: Global,
-    no: LeaseNo,
-    session: u16,
-    file: &[u8],
-    kind: LeaseKind,
-) -> Result<Row, Fail>
-    ensures { IfOk result (λ row. tells_no_mode row.field ≡ true) }
-{
-    Ok(Row {
-        no,
-        session: Session(session),
-        field: life_of(alloc, file)?,
-        kind,
-        until: 100,
-        promise: None,
-        lock: None,
-    })
-}
-
-/// Whether the numbers of these rows are new beside an exclusive one on the third file, and whether they fit there.
-fn come(alloc: Global, more: List<Row>) -> Result<(bool, bool), Fail>
-    requires { are_off_modes more ≡ true }
-{
-    let mut rows = one_row(alloc, LeaseKind::Exclusive, 100)?;
-    let new = rows.live(0, 0).are_new(&more);
-    let fits = rows.fits(&more);
-    if fits {
-        rows.join(alloc, more)?;
-    }
-    Ok((new, fits && rows.row(THIRD).is_some()))
-}
-
-#[test]
-fn rows_come_where_they_fit(rt: HostRuntime) -> Result<(), Fail> {
-    let alloc = rt.alloc();
-    for (no, session, file, kind, new, fit) in COMES {
-        let mut more = List::new(alloc);
-        more.push(coming(alloc, THIRD, 2, b"/4", LeaseKind::Exclusive)?)?;
-        more.push(coming(alloc, no, session, file, kind)?)?;
-        assert_eq!(rt; come(alloc, more)?, (new, fit));
     }
     Ok(())
 }

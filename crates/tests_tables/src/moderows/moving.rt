@@ -4,6 +4,7 @@ ghost use Rattle.fs_moderows.specs.Moving.{are_on_modes};
 
 use crate::moderows::{TXN, WRITES, number, opens};
 use crate::parcel::{On, Told, row, rows};
+use crate::same;
 use fs_field::Row;
 use fs_ident::{FileId, List, Session};
 use fs_map::{FileMap, MapPiece};
@@ -82,25 +83,31 @@ const CASES: [Case; 16] = [
     (&[OWN], &[(1, 3, FILE, On::Own)], &[], false),
 ];
 
+/// Whether these rows fit beside those.
+fn fit(alloc: Global, here: &[Told], more: &[Told], sessions: &[u16]) -> Result<bool, Fail> {
+    let mut table = ModeRows::new(alloc);
+    let selves = writers(alloc, sessions)?;
+    if !come(alloc, &mut table, &selves, here)? {
+        return Err(Fail::from("the rows of a table do not fit"));
+    }
+    come(alloc, &mut table, &selves, more)
+}
+
 #[test]
 fn rows_come_where_they_fit(rt: HostRuntime) -> Result<(), Fail> {
-    let alloc = rt.alloc();
-    for (here, more, sessions, fit) in CASES {
-        let mut table = ModeRows::new(alloc);
-        let selves = writers(alloc, sessions)?;
-        assert!(rt; come(alloc, &mut table, &selves, here)?);
-        assert_eq!(rt; come(alloc, &mut table, &selves, more)?, fit);
+    for (here, more, sessions, wanted) in CASES {
+        same(&rt, fit(rt.alloc(), here, more, sessions)?, wanted);
     }
     Ok(())
 }
 
 /// What is below the prefix goes to another server.
-fn given(rt: &impl Abort, alloc: Global, prefix: &[u8]) -> Result<MapPiece, Fail> {
-    let prefix = FileId::parse(alloc, prefix)?;
+fn given(alloc: Global, prefix: &FileId) -> Result<MapPiece, Fail> {
     let mut map = FileMap::new(alloc)?;
-    let owner = map.owner(&prefix).1;
-    assert!(rt; owner == 0);
-    Ok(map.give(alloc, 0, &prefix, 1)?)
+    if map.owner(prefix).1 != 0 {
+        return Err(Fail::from("it is another's"));
+    }
+    Ok(map.give(alloc, 0, prefix, 1)?)
 }
 
 /// The prefix, whether the first and the second row go, and whether the lock on the first keeps them.
@@ -165,16 +172,31 @@ fn left(alloc: Global, piece: &MapPiece) -> Result<(bool, bool), Fail> {
     Ok(gone(&table))
 }
 
+fn go(
+    rt: &impl Abort,
+    alloc: Global,
+    prefix: &FileId,
+    goes: (bool, bool),
+    kept: bool,
+) -> Result<(), Fail> {
+    let piece = given(alloc, prefix)?;
+    same(rt, is_kept(alloc, prefix)?, kept);
+    same(rt, read(alloc, &piece)?, goes);
+    same(rt, split(alloc, &piece)?, (goes, goes));
+    same(rt, left(alloc, &piece)?, goes);
+    Ok(())
+}
+
 #[test]
 fn rows_go_with_their_files(rt: HostRuntime) -> Result<(), Fail> {
-    let alloc = rt.alloc();
     for (prefix, first, second, kept) in GOES {
-        let piece = given(&rt, alloc, prefix)?;
-        let goes = (first, second);
-        assert_eq!(rt; is_kept(alloc, &FileId::parse(alloc, prefix)?)?, kept);
-        assert_eq!(rt; read(alloc, &piece)?, goes);
-        assert_eq!(rt; split(alloc, &piece)?, (goes, goes));
-        assert_eq!(rt; left(alloc, &piece)?, goes);
+        go(
+            &rt,
+            rt.alloc(),
+            &FileId::parse(rt.alloc(), prefix)?,
+            (first, second),
+            kept,
+        )?;
     }
     Ok(())
 }

@@ -1,12 +1,14 @@
 //! All tables of three sessions and one mode, against a plain search.
 ghost use Rattle.std.specs.Prelude.{◌<◌};
 
-use crate::moderows::{FALSE, GIVEN, Question, TRUE, WRITES, ask, number, opens, waits};
+use crate::moderows::{FALSE, GIVEN, Question, TRUE, WRITES, ask, blocker, number, opens, waits};
+use crate::same;
 use fs_field::Asked;
-use fs_ident::{FileId, LeaseNo, List, Session};
+use fs_ident::{LeaseNo, List, Session};
 use fs_moderows::ModeRows;
 use fs_modes::{Mode, Modes};
 use std::alloc::Global;
+use std::process::Abort;
 use std::test::Fail;
 
 /// Which of three sessions has the mode, which has a row by which it may change that, and what each was told of the
@@ -141,22 +143,33 @@ fn built(alloc: Global, case: Case) -> Result<ModeRows, Fail> {
     let mut rows = ModeRows::new(alloc);
     for s in 0..3 {
         if case.free[s] {
-            let asked = put(alloc, &mut rows, self_count(s), s, Question::SelfW, &[])?;
-            if asked != GIVEN {
-                return Err(Fail::from("a row of a case is not given"));
-            }
+            free(alloc, &mut rows, s)?;
         }
     }
     for s in 0..3 {
         if let Some(told) = case.told[s] {
-            let others: &[u16] = if told { &[4] } else { &[] };
-            let asked = put(alloc, &mut rows, other_count(s), s, Question::Other, others)?;
-            if asked != (Asked::Granted { value: Some(told) }) {
-                return Err(Fail::from("a row of a case is not given"));
-            }
+            tell(alloc, &mut rows, s, told)?;
         }
     }
     Ok(rows)
+}
+
+/// The session gets the row by which it may change what it tells.
+fn free(alloc: Global, rows: &mut ModeRows, s: usize) -> Result<(), Fail> {
+    if put(alloc, rows, self_count(s), s, Question::SelfW, &[])? != GIVEN {
+        return Err(Fail::from("a row of a case is not given"));
+    }
+    Ok(())
+}
+
+/// The session is told whether others have the mode.
+fn tell(alloc: Global, rows: &mut ModeRows, s: usize, told: bool) -> Result<(), Fail> {
+    let others: &[u16] = if told { &[4] } else { &[] };
+    let wanted = Asked::Granted { value: Some(told) };
+    if put(alloc, rows, other_count(s), s, Question::Other, others)? != wanted {
+        return Err(Fail::from("a row of a case is not given"));
+    }
+    Ok(())
 }
 
 fn put(
@@ -190,6 +203,19 @@ fn who_has(alloc: Global, case: Case) -> Result<List<(Session, Modes)>, Fail> {
     Ok(selves)
 }
 
+/// The answer to the session's question, which leaves no row.
+fn answer(
+    alloc: Global,
+    rows: &mut ModeRows,
+    selves: &List<(Session, Modes)>,
+    by: u16,
+    question: Question,
+) -> Result<Asked, Fail> {
+    let asked = ask(alloc, rows, selves, 7, by, question, Mode::AccW)?;
+    rows.release(number(7));
+    Ok(asked)
+}
+
 /// Whether all answers to the session are those of a plain search.
 fn agrees(alloc: Global, case: Case, s: usize) -> Result<bool, Fail>
     requires { s < 3 }
@@ -197,38 +223,30 @@ fn agrees(alloc: Global, case: Case, s: usize) -> Result<bool, Fail>
     let mut rows = built(alloc, case)?;
     let selves = who_has(alloc, case)?;
     let by = session(s);
-    let blocker = rows.may_reap(&selves, Session(by), &FileId::root(alloc));
-    let own = ask(
-        alloc,
-        &mut rows,
-        &selves,
-        7,
-        by,
-        Question::SelfW,
-        Mode::AccW,
-    )?;
-    rows.release(number(7));
-    let other = ask(
-        alloc,
-        &mut rows,
-        &selves,
-        7,
-        by,
-        Question::Other,
-        Mode::AccW,
-    )?;
-    Ok(blocker == case.reap(s) && own == case.own(s) && other == case.other(s))
+    if blocker(alloc, &rows, &selves, by) != case.reap(s) {
+        return Ok(false);
+    }
+    if answer(alloc, &mut rows, &selves, by, Question::SelfW)? != case.own(s) {
+        return Ok(false);
+    }
+    Ok(answer(alloc, &mut rows, &selves, by, Question::Other)? == case.other(s))
+}
+
+/// The case is another, or the answers to each session are those of a plain search.
+fn all_agree(rt: &impl Abort, alloc: Global, n: usize) -> Result<(), Fail> {
+    let case = Case::new(n);
+    if case.is_possible() {
+        for s in 0..3 {
+            same(rt, (n, s, agrees(alloc, case, s)?), (n, s, true));
+        }
+    }
+    Ok(())
 }
 
 #[test]
 fn small_tables(rt: HostRuntime) -> Result<(), Fail> {
     for n in 0..1728 {
-        let case = Case::new(n);
-        if case.is_possible() {
-            for s in 0..3 {
-                assert!(rt; agrees(rt.alloc(), case, s)?, "case {n}, session {s}");
-            }
-        }
+        all_agree(&rt, rt.alloc(), n)?;
     }
     Ok(())
 }

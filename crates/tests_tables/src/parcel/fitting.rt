@@ -1,9 +1,10 @@
 //! Which parcels fit.
-ghost use Rattle.std.specs.Prelude.{◌≡◌, IfOk};
+ghost use Rattle.std.specs.Prelude.{◌≡◌, IfOk, OnOk};
 ghost use Rattle.fs_parcel.specs.Rows.{AreRows, both};
 
-use crate::parcel::shown::server_text;
+use crate::parcel::shown::is_written;
 use crate::parcel::{On, Sent, Server, are_records, begun, come, id, parcel};
+use crate::same;
 use fs_ident::{FileId, List};
 use fs_parcel::{fits_at, install_at};
 use fs_record::Parcel;
@@ -22,19 +23,35 @@ const OLD: Sent = (
 /// What came once and is left: a file.
 const FILE: Sent = ("/5", &[("/5", true)], &[("/5", b"", &[])], &[]);
 
+/// The parcel comes, and fits.
+pub(super) fn must_come(alloc: Global, s: &mut Server, sent: Sent) -> Result<(), Fail>
+    requires { AreRows (both s.old.rows s.old.modes) }
+    ensures { OnOk result (AreRows (both s.new.rows s.new.modes)) }
+{
+    if !come(alloc, s, parcel(alloc, sent)?)? {
+        return Err(Fail::from("it does not fit"));
+    }
+    Ok(())
+}
+
 /// Server 1 with these rows and this file. Of both parcels it manages nothing more.
-fn here(rt: &impl Abort, alloc: Global) -> Result<Server, Fail>
+fn here(alloc: Global) -> Result<Server, Fail>
     ensures { IfOk result (λ s. AreRows (both s.rows s.modes)) }
 {
     let mut s = begun(alloc, 1, 0)?;
-    assert!(rt; come(alloc, &mut s, parcel(alloc, OLD)?)?);
-    let mut gone = List::new(alloc);
-    gone.push(id(alloc, "/1")?)?;
-    s.records.leave_files(&gone);
-    assert!(rt; come(alloc, &mut s, parcel(alloc, FILE)?)?);
+    must_come(alloc, &mut s, OLD)?;
+    s.records.leave_files(&first_file(alloc)?);
+    must_come(alloc, &mut s, FILE)?;
     s.map.hint(alloc, &FileId::root(alloc), 0)?;
     s.map.hint(alloc, &id(alloc, "/7")?, 1)?;
     Ok(s)
+}
+
+/// The file of the first parcel.
+fn first_file(alloc: Global) -> Result<List<FileId>, Fail> {
+    let mut files = List::new(alloc);
+    files.push(id(alloc, "/1")?)?;
+    Ok(files)
 }
 
 const HERE: &str = "/ s0 /7 s1 | /5:0 | 1 | 2 ";
@@ -127,15 +144,18 @@ const CASES: [(Sent, bool); 20] = [
     (("/1", WHOLE, &[], &[(1, 1, "/1/1", On::Own)]), false),
 ];
 
+/// Whether the parcel fits there.
+fn comes(alloc: Global, sent: Sent) -> Result<bool, Fail> {
+    let mut s = here(alloc)?;
+    come(alloc, &mut s, parcel(alloc, sent)?)
+}
+
 #[test]
 fn parcels_of_honest_servers_fit(rt: HostRuntime) -> Result<(), Fail> {
-    let alloc = rt.alloc();
-    assert_eq!(rt; server_text(alloc, &here(&rt, alloc)?)?.as_str(), HERE);
+    is_written(&rt, rt.alloc(), &here(rt.alloc())?, HERE)?;
     let mut n = 0u32;
     for (sent, fit) in CASES {
-        let mut s = here(&rt, alloc)?;
-        let came = come(alloc, &mut s, parcel(alloc, sent)?)?;
-        assert_eq!(rt; came, fit, "the case {n}");
+        same(&rt, (n, comes(rt.alloc(), sent)?), (n, fit));
         n = n.wrapping_add(1);
     }
     Ok(())
@@ -175,14 +195,19 @@ const CONFLICTS: Sent = ("/1", WHOLE, &[], &[(3, 2, "/1/2", On::Life)]);
 
 const CAME: &str = "/ s0 /1 s1 /7 s1 | /5:0 | 3 | ";
 
+/// Whether the parcel fits at the reading, and what the server has then.
+fn comes_at(rt: &impl Abort, alloc: Global, now: u64, fit: bool, wanted: &str) -> Result<(), Fail> {
+    let mut s = here(alloc)?;
+    same(
+        rt,
+        come_at(alloc, &mut s, now, parcel(alloc, CONFLICTS)?)?,
+        fit,
+    );
+    is_written(rt, alloc, &s, wanted)
+}
+
 #[test]
 fn rows_that_are_over_do_not_conflict(rt: HostRuntime) -> Result<(), Fail> {
-    let alloc = rt.alloc();
-    for (now, fit, text) in [(109, false, HERE), (110, true, CAME)] {
-        let mut s = here(&rt, alloc)?;
-        let came = come_at(alloc, &mut s, now, parcel(alloc, CONFLICTS)?)?;
-        assert_eq!(rt; came, fit);
-        assert_eq!(rt; server_text(alloc, &s)?.as_str(), text);
-    }
-    Ok(())
+    comes_at(&rt, rt.alloc(), 109, false, HERE)?;
+    comes_at(&rt, rt.alloc(), 110, true, CAME)
 }

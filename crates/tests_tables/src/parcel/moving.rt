@@ -2,8 +2,10 @@
 ghost use Rattle.std.specs.Prelude.{◌≡◌, IfOk, OnOk};
 ghost use Rattle.fs_parcel.specs.Rows.{AreRows, both};
 
-use crate::parcel::shown::{parcel_text, server_text};
+use crate::parcel::fitting::must_come;
+use crate::parcel::shown::{are_written, is_written, parcel_text};
 use crate::parcel::{On, Sent, Server, begun, come, id, parcel};
+use crate::same;
 use fs_ident::{FileId, PathNo};
 use fs_parcel::{MoveError, pack_up, packed, refusal};
 use fs_record::Parcel;
@@ -31,11 +33,11 @@ const ALL: Sent = (
 );
 
 /// Server 0 with these files, which came from server 9.
-pub(super) fn first_server(rt: &impl Abort, alloc: Global, sent: Sent) -> Result<Server, Fail>
+pub(super) fn first_server(alloc: Global, sent: Sent) -> Result<Server, Fail>
     ensures { IfOk result (λ s. AreRows (both s.rows s.modes)) }
 {
     let mut s = begun(alloc, 0, 9)?;
-    assert!(rt; come(alloc, &mut s, parcel(alloc, sent)?)?);
+    must_come(alloc, &mut s, sent)?;
     Ok(s)
 }
 
@@ -116,31 +118,41 @@ fn moves(rt: &impl Abort, alloc: Global, s0: &mut Server, s1: &mut Server) -> Re
     ensures { OnOk result (AreRows (both s0.new.rows s0.new.modes)) }
 {
     let p = go(alloc, s0, &id(alloc, "/1")?, 1, None)?;
-    assert_eq!(rt; parcel_text(alloc, &p)?.as_str(), PARCEL);
-    assert!(rt; come(alloc, s1, p)?);
+    are_written(rt, alloc, &p, PARCEL)?;
+    same(rt, come(alloc, s1, p)?, true);
+    Ok(())
+}
+
+/// It went, and does not go again.
+fn went_once(rt: &impl Abort, alloc: Global, s0: &mut Server, s1: &mut Server) -> Result<(), Fail>
+    requires from { AreRows (both s0.old.rows s0.old.modes) }
+    requires to { AreRows (both s1.old.rows s1.old.modes) }
+{
+    moves(rt, alloc, s0, s1)?;
+    is_written(rt, alloc, s0, LEFT)?;
+    is_written(rt, alloc, s1, CAME)?;
+    let again = went(alloc, s0, "/1", 1, None)?;
+    same(rt, again.as_str(), "/1 is at s1");
     Ok(())
 }
 
 #[test]
 fn a_directory_goes_to_another_server(rt: HostRuntime) -> Result<(), Fail> {
-    let alloc = rt.alloc();
-    let mut s0 = first_server(&rt, alloc, ALL)?;
-    let mut s1 = begun(alloc, 1, 0)?;
-    moves(&rt, alloc, &mut s0, &mut s1)?;
-    assert_eq!(rt; server_text(alloc, &s0)?.as_str(), LEFT);
-    assert_eq!(rt; server_text(alloc, &s1)?.as_str(), CAME);
-    let again = went(alloc, &mut s0, "/1", 1, None)?;
-    assert_eq!(rt; again.as_str(), "/1 is at s1");
-    Ok(())
+    let mut s0 = first_server(rt.alloc(), ALL)?;
+    let mut s1 = begun(rt.alloc(), 1, 0)?;
+    went_once(&rt, rt.alloc(), &mut s0, &mut s1)
+}
+
+/// What would go is told before it goes.
+fn reads(rt: &impl Abort, alloc: Global, s0: &Server, prefix: &FileId) -> Result<(), Fail>
+    requires { AreRows (both s0.now.rows s0.now.modes) }
+{
+    same(rt, may_go(alloc, s0, prefix, 1)?, true);
+    are_written(rt, alloc, &copied(alloc, s0, prefix)?, PARCEL)
 }
 
 #[test]
 fn what_would_go_is_read(rt: HostRuntime) -> Result<(), Fail> {
-    let alloc = rt.alloc();
-    let s0 = first_server(&rt, alloc, ALL)?;
-    let prefix = id(alloc, "/1")?;
-    assert!(rt; may_go(alloc, &s0, &prefix, 1)?);
-    let p = copied(alloc, &s0, &prefix)?;
-    assert_eq!(rt; parcel_text(alloc, &p)?.as_str(), PARCEL);
-    Ok(())
+    let s0 = first_server(rt.alloc(), ALL)?;
+    reads(&rt, rt.alloc(), &s0, &id(rt.alloc(), "/1")?)
 }

@@ -1,10 +1,14 @@
 //! Why nothing moves, and which reason is told.
 ghost use Rattle.std.specs.Prelude.{◌≡◌};
+ghost use Rattle.fs_parcel.specs.Rows.{AreRows, both};
 
 use crate::parcel::moving::{first_server, went};
-use crate::parcel::shown::server_text;
-use crate::parcel::{On, Sent};
+use crate::parcel::shown::{is_written, server_text};
+use crate::parcel::{On, Sent, Server};
+use crate::same;
 use fs_ident::PathNo;
+use std::alloc::Global;
+use std::process::Abort;
 use std::test::Fail;
 
 /// Three files, of which a transaction keeps the life. Another server has what is below the file 1/3, but for one file.
@@ -40,17 +44,38 @@ fn through(is_out: bool) -> Option<PathNo> {
     }
 }
 
+/// No reason changes the server, and without one the files go.
+fn refuses(rt: &impl Abort, alloc: Global, s: &mut Server) -> Result<(), Fail>
+    requires { AreRows (both s.old.rows s.old.modes) }
+{
+    let before = server_text(alloc, s)?;
+    for (prefix, to, out, wanted) in REASONS {
+        goes(rt, alloc, s, prefix, to, out, wanted)?;
+    }
+    is_written(rt, alloc, s, before.as_str())?;
+    goes(rt, alloc, s, "/2", 1, false, "/2 true | /2:0 | ")
+}
+
+/// What goes, or why it does not.
+fn goes(
+    rt: &impl Abort,
+    alloc: Global,
+    s: &mut Server,
+    prefix: &str,
+    to: u8,
+    out: bool,
+    wanted: &str,
+) -> Result<(), Fail>
+    requires { AreRows (both s.old.rows s.old.modes) }
+    ensures { AreRows (both s.new.rows s.new.modes) }
+{
+    let text = went(alloc, s, prefix, to, through(out))?;
+    same(rt, text.as_str(), wanted);
+    Ok(())
+}
+
 #[test]
 fn the_first_reason_is_told(rt: HostRuntime) -> Result<(), Fail> {
-    let alloc = rt.alloc();
-    let mut s = first_server(&rt, alloc, KEPT)?;
-    let before = server_text(alloc, &s)?;
-    for (prefix, to, out, wanted) in REASONS {
-        let why = went(alloc, &mut s, prefix, to, through(out))?;
-        assert_eq!(rt; why.as_str(), wanted);
-    }
-    assert_eq!(rt; server_text(alloc, &s)?.as_str(), before.as_str());
-    let gone = went(alloc, &mut s, "/2", 1, through(false))?;
-    assert_eq!(rt; gone.as_str(), "/2 true | /2:0 | ");
-    Ok(())
+    let mut s = first_server(rt.alloc(), KEPT)?;
+    refuses(&rt, rt.alloc(), &mut s)
 }

@@ -1,11 +1,37 @@
 //! What servers have, in a few words.
 use crate::parcel::{Server, piece};
+use crate::same;
 use fs_field::Row;
 use fs_ident::FileId;
 use fs_map::{FileMap, MapPiece};
 use fs_record::{Parcel, Record};
 use std::alloc::Global;
+use std::process::Abort;
 use std::test::Fail;
+
+/// So the server is written.
+pub(super) fn is_written(
+    rt: &impl Abort,
+    alloc: Global,
+    s: &Server,
+    wanted: &str,
+) -> Result<(), Fail> {
+    let text = server_text(alloc, s)?;
+    same(rt, text.as_str(), wanted);
+    Ok(())
+}
+
+/// So the parcel is written.
+pub(super) fn are_written(
+    rt: &impl Abort,
+    alloc: Global,
+    p: &Parcel,
+    wanted: &str,
+) -> Result<(), Fail> {
+    let text = parcel_text(alloc, p)?;
+    same(rt, text.as_str(), wanted);
+    Ok(())
+}
 
 /// Which identifiers the parcel gives, its files with how many names are in each, and the numbers of its rows.
 pub(super) fn parcel_text(alloc: Global, p: &Parcel) -> Result<String, Fail> {
@@ -20,9 +46,15 @@ pub(super) fn server_text(alloc: Global, s: &Server) -> Result<String, Fail> {
     let all = piece(alloc, "/", &[("/", true)])?;
     let map = map_text(alloc, &s.map)?;
     let records = records_text(alloc, s.records.given(alloc, &all)?.as_slice())?;
-    let off = rows_text(alloc, s.rows.live(0, 1).given(alloc, &all)?.as_slice())?;
-    let on = rows_text(alloc, s.modes.live(0, 1).given(alloc, &all)?.as_slice())?;
-    Ok(format!(in alloc; "{map}| {records}| {off}| {on}")?)
+    let rows = tables_text(alloc, s, &all)?;
+    Ok(format!(in alloc; "{map}| {records}| {rows}")?)
+}
+
+/// The numbers of the server's rows of the piece, in each table.
+fn tables_text(alloc: Global, s: &Server, all: &MapPiece) -> Result<String, Fail> {
+    let off = rows_text(alloc, s.rows.live(0, 1).given(alloc, all)?.as_slice())?;
+    let on = rows_text(alloc, s.modes.live(0, 1).given(alloc, all)?.as_slice())?;
+    Ok(format!(in alloc; "{off}| {on}")?)
 }
 
 fn piece_text(alloc: Global, piece: &MapPiece) -> Result<String, Fail> {

@@ -2,7 +2,7 @@ use Rattle.std.proofs.Common.{rules, ◌≡◌, ◌∙◌, ap}
 use Rattle.std.specs.Ordering.{nat_cmp}
 use Rattle.fs_ident.specs.Maps.{numbered_map_of}
 use Rattle.fs_ident.proofs.CopiedMaps.{with_all}
-use Rattle.fs_world.proofs.SeatMaps.{numbered_all, numbered_empty}
+use Rattle.fs_ident.proofs.NumberedMaps.{numbered_all, numbered_empty}
 use Rattle.fs_world.proofs.by_session.copy_all.Goals as goal
 
 pub loop-entry-init : goal.loop-entry-init

@@ -1,6 +1,6 @@
 use Rattle.std.proofs.Common.{sym, ◌∙◌}
 use Rattle.fs_ident.proofs.MapsOf.{numbered_get}
-use Rattle.fs_world.proofs.SeatMaps.{numbered_lent}
+use Rattle.fs_ident.proofs.NumberedMaps.{numbered_lent}
 use Rattle.fs_world.proofs.seats.Seats.get_mut.Goals as goal
 
 pub returns : goal.returns

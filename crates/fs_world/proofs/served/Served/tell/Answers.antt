@@ -5,8 +5,8 @@ use Rattle.fs_world.specs.declared.served.Served.{Served}
 use Rattle.fs_world.proofs.Linked.{mark_linked}
 use Rattle.std.specs.Prelude.{slice_get, Some}
 use Rattle.std.proofs.lemmas.Option.{slice_get_within}
+use Rattle.fs_ident.proofs.Standing.{In-got}
 use Rattle.fs_window.specs.Reading.{packet_at}
-use Rattle.fs_window.proofs.Schedule.{in_get}
 use Rattle.fs_world.proofs.served.Served.tell.Goals as goal
 
 pub arrives-requires-clause-sent : goal.arrives-requires-clause-sent
@@ -15,7 +15,7 @@ arrives-requires-clause-sent c =
     let there : slice_get c.args.self.now.packets.sent c.args.k ≡ Some x = sym c.in-Some.ensures in
     record {
       sent = x;
-      among = in_get c.args.self.now.packets.sent c.args.k x there;
+      among = In-got c.args.self.now.packets.sent c.args.k x there;
       sender = refl;
       addressee = refl;
       read = sym (c.in_ok-packet.ensures.exact ∙ ap packet_at c.as_slice.ensures);
