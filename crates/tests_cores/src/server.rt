@@ -1,4 +1,5 @@
-//! A server and what comes to it, by scripts: a first create with its leases, the end of a lease, what is asked back, and messages that no honest actor sends.
+//! A server and what comes to it, by scripts: a first create with its leases, the end of a lease, what is asked back, and
+//! messages that no honest actor sends.
 ghost use Rattle.std.specs.Prelude.{◌≡◌, ◌≤◌, ◌^◌, true};
 ghost use Rattle.fs_ident.specs.declared.limits.TheConstants.{LATEST};
 ghost use Rattle.fs_msg.specs.declared.peer_msg.PeerMsg.TheVariants as peer;
