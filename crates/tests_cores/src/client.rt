@@ -1,25 +1,46 @@
-//! A client and the answers of its server.
-ghost use Rattle.std.specs.Prelude.{◌≡◌, ◌≤◌, true, IfOk};
+//! A client and the answers of its servers, by scripts.
+ghost use Rattle.std.specs.Prelude.{◌≡◌, ◌≤◌, true};
 ghost use Rattle.fs_ident.specs.declared.limits.TheConstants.{LATEST};
 ghost use Rattle.fs_model.specs.Asking.{may_ask};
 ghost use Rattle.fs_record.specs.Effects.{tells_its_effects};
 
+mod asked;
 mod hints;
 mod opens;
+mod said;
 
+use crate::forms::{copied, none_such, reads, same, spend, text_of};
+use asked::{Asking, op_of};
 use fs_client::{ClientCore, Plan};
-use fs_field::{Field, LeaseKind, Value};
-use fs_ident::{FileId, Kind, LeaseNo, List, Name, Session, Twin};
+use fs_ident::{LATEST, Session, Twin};
 use fs_model::Op;
-use fs_msg::{Act, Answer, ClientNote, End, Grant};
+use fs_msg::{Act, Answer, ClientMsg, ClientNote, ClientOut, Msg, read_whole};
 use std::alloc::Global;
 use std::process::Abort;
 use std::test::Fail;
 
-/// A note in short: its word, and its number.
-pub(crate) type Short = (&'static str, u64);
+/// A note in short: its word and its number, and to which server something is sent.
+pub(crate) type Short = (&'static str, u64, Option<u8>);
 
-pub(crate) fn act_word(act: &Act) -> Short {
+/// What comes to a client: an operation of its user, a turn, or the bytes of an answer of the server.
+#[derive(Clone, Copy)]
+pub(crate) enum Comes {
+    Act(Asking),
+    Turn,
+    Heard(u8, &'static [u8]),
+}
+
+/// How it is told: by one call, or by a plan of which a copy is committed.
+#[derive(Clone, Copy)]
+pub(crate) enum Way {
+    AtOnce,
+    Planned,
+}
+
+/// A line of a script: a reading, what comes, and what is noted of it.
+pub(crate) type Line = (u64, Comes, Short);
+
+fn act_word(act: &Act) -> (&'static str, u64) {
     match act {
         Act::Replied { n, .. } => ("replied", *n),
         Act::ReadNow { n, .. } => ("read", *n),
@@ -30,7 +51,7 @@ pub(crate) fn act_word(act: &Act) -> Short {
     }
 }
 
-pub(crate) fn note_word(note: &ClientNote) -> Short {
+fn note_word(note: &ClientNote) -> (&'static str, u64) {
     match note {
         ClientNote::Ships { count, .. } => ("ships", *count),
         ClientNote::Releases { count, .. } => ("releases", *count),
@@ -45,346 +66,256 @@ pub(crate) fn note_word(note: &ClientNote) -> Short {
     }
 }
 
-/// An operation of the tests.
-#[derive(Clone, Copy)]
-pub(crate) enum Asking {
-    Create,
-    Lookup,
-    Kind,
-}
-
-fn op_of(alloc: Global, asking: Asking) -> Result<Op, Fail>
-    ensures asked { IfOk result (λ op. may_ask op ≡ true) }
-    ensures plain { IfOk result (λ op. tells_its_effects op ≡ true) }
-{
-    let root = FileId::root(alloc);
-    match asking {
-        Asking::Create => Ok(Op::Create {
-            dir: root,
-            name: Name::new(alloc, b"a")?,
-            kind: Kind::Dir,
-            id: None,
-        }),
-        Asking::Lookup => Ok(Op::Lookup {
-            dir: root,
-            name: Name::new(alloc, b"a")?,
-        }),
-        Asking::Kind => Ok(Op::Kind { file: root }),
+fn sent_to(send: &Option<(u8, ClientMsg)>) -> Option<u8> {
+    match send {
+        None => None,
+        Some((to, _)) => Some(*to),
     }
 }
 
-/// The user asks for the operation.
-pub(crate) fn acts(
-    rt: &impl Abort,
+fn acted(out: &ClientOut<Act>) -> Short {
+    let (word, number) = act_word(&out.note);
+    (word, number, sent_to(&out.send))
+}
+
+fn noted(out: &ClientOut<ClientNote>) -> Short {
+    let (word, number) = note_word(&out.note);
+    (word, number, sent_to(&out.send))
+}
+
+fn acts(
     alloc: Global,
     core: &mut ClientCore,
     now: u64,
     asking: Asking,
-    wanted: Short,
-) -> Result<(), Fail>
+    way: Way,
+) -> Result<Short, Fail>
     requires { now ≤ LATEST }
 {
     let op = op_of(alloc, asking)?;
-    let out = core.act(alloc, now, &op)?;
-    assert_eq!(rt; act_word(&out.note), wanted);
-    Ok(())
+    let short = match way {
+        Way::AtOnce => act(alloc, core, now, &op),
+        Way::Planned => plan_act(alloc, core, now, &op),
+    };
+    spend(op);
+    short
 }
 
-fn turns(
-    rt: &impl Abort,
-    alloc: Global,
-    core: &mut ClientCore,
-    now: u64,
-    wanted: Short,
-) -> Result<(), Fail>
+fn act(alloc: Global, core: &mut ClientCore, now: u64, op: &Op) -> Result<Short, Fail>
+    requires reading { now ≤ LATEST }
+    requires asked { may_ask op.now ≡ true }
+    requires plain { tells_its_effects op.now ≡ true }
+{
+    let out = core.act(alloc, now, op)?;
+    let short = acted(&out);
+    spend(out);
+    Ok(short)
+}
+
+fn plan_act(alloc: Global, core: &mut ClientCore, now: u64, op: &Op) -> Result<Short, Fail>
+    requires reading { now ≤ LATEST }
+    requires asked { may_ask op.now ≡ true }
+    requires plain { tells_its_effects op.now ≡ true }
+{
+    let Plan { ready, out } = copied(alloc, core.plan_act(alloc, now, op)?)?;
+    let short = acted(&out);
+    spend(out);
+    core.commit(alloc, ready)?;
+    Ok(short)
+}
+
+fn turn(alloc: Global, core: &mut ClientCore, now: u64) -> Result<Short, Fail>
     requires { now ≤ LATEST }
 {
     let out = core.turn(alloc, now)?;
-    assert_eq!(rt; note_word(&out.note), wanted);
-    Ok(())
+    let short = noted(&out);
+    spend(out);
+    Ok(short)
 }
 
-/// The answer of the server comes.
+fn plan_turn(alloc: Global, core: &mut ClientCore, now: u64) -> Result<Short, Fail>
+    requires { now ≤ LATEST }
+{
+    let Plan { ready, out } = copied(alloc, core.plan_turn(alloc, now)?)?;
+    let short = noted(&out);
+    spend(out);
+    core.commit(alloc, ready)?;
+    Ok(short)
+}
+
+fn answer_of(alloc: Global, bytes: &[u8]) -> Result<Answer, Fail> {
+    match read_whole(alloc, bytes)? {
+        Msg::Answer(answer) => Ok(answer),
+        Msg::Client(m) => none_such(m),
+        Msg::Peer(m) => none_such(m),
+    }
+}
+
+/// The answer of these bytes comes from the server.
 pub(crate) fn hears(
-    rt: &impl Abort,
+    alloc: Global,
+    core: &mut ClientCore,
+    now: u64,
+    from: u8,
+    bytes: &[u8],
+    way: Way,
+) -> Result<Short, Fail>
+    requires { now ≤ LATEST }
+{
+    let answer = answer_of(alloc, bytes)?;
+    let short = match way {
+        Way::AtOnce => hear(alloc, core, now, from, &answer),
+        Way::Planned => plan_hear(alloc, core, now, from, &answer),
+    };
+    spend(answer);
+    short
+}
+
+fn hear(
     alloc: Global,
     core: &mut ClientCore,
     now: u64,
     from: u8,
     answer: &Answer,
-    wanted: Short,
-) -> Result<(), Fail>
+) -> Result<Short, Fail>
     requires { now ≤ LATEST }
 {
     let out = core.on_answer(alloc, now, from, answer)?;
-    assert_eq!(rt; note_word(&out.note), wanted);
-    Ok(())
+    let short = noted(&out);
+    spend(out);
+    Ok(short)
 }
 
-/// A lease of the tests, until 100.
-#[derive(Clone, Copy)]
-enum Lease {
-    /// Shared, on the life of the root.
-    Root,
-    /// Exclusive, on the name `a` in the root.
-    Child,
-    /// Shared, on that name.
-    ChildShared,
-    /// Exclusive, on that name, with a value of another field.
-    ChildAlive,
-    /// Exclusive, on the life of the file 1.
-    New,
+fn plan_hear(
+    alloc: Global,
+    core: &mut ClientCore,
+    now: u64,
+    from: u8,
+    answer: &Answer,
+) -> Result<Short, Fail>
+    requires { now ≤ LATEST }
+{
+    let Plan { ready, out } = copied(alloc, core.plan_answer(alloc, now, from, answer)?)?;
+    let short = noted(&out);
+    spend(out);
+    core.commit(alloc, ready)?;
+    Ok(short)
 }
 
-fn grant_of(alloc: Global, count: u64, lease: Lease) -> Result<Grant, Fail> {
-    let root = FileId::root(alloc);
-    let (field, kind, value) = match lease {
-        Lease::Root => (
-            Field::Life(root),
-            LeaseKind::Shared,
-            Value::Life(Some(Kind::Dir)),
-        ),
-        Lease::Child => (
-            Field::Child(root, Name::new(alloc, b"a")?),
-            LeaseKind::Exclusive,
-            Value::Child(None),
-        ),
-        Lease::ChildShared => (
-            Field::Child(root, Name::new(alloc, b"a")?),
-            LeaseKind::Shared,
-            Value::Child(None),
-        ),
-        Lease::ChildAlive => (
-            Field::Child(root, Name::new(alloc, b"a")?),
-            LeaseKind::Exclusive,
-            Value::Life(None),
-        ),
-        Lease::New => (
-            Field::Life(FileId::parse(alloc, b"/1")?),
-            LeaseKind::Exclusive,
-            Value::Life(None),
-        ),
-    };
-    Ok(Grant {
-        no: LeaseNo { server: 0, count },
-        field,
-        kind,
-        until: 100,
-        value,
-    })
-}
-
-/// The leases under these numbers, and the identifier, if there is one.
-fn granted(alloc: Global, leases: &[(u64, Lease)], id: &str) -> Result<Answer, Fail> {
-    let mut grants = List::new(alloc);
-    for lease in leases {
-        grants.push(grant_of(alloc, lease.0, lease.1)?)?;
+/// What is noted.
+fn come(
+    alloc: Global,
+    core: &mut ClientCore,
+    now: u64,
+    comes: Comes,
+    way: Way,
+) -> Result<Short, Fail> {
+    if now > LATEST {
+        return Err(Fail::from("it is too late"));
     }
-    let fresh = if id.is_empty() {
-        None
-    } else {
-        Some(FileId::parse(alloc, id.as_bytes())?)
-    };
-    let end = if fresh.is_some() || grants.len() == 1 {
-        End::All
-    } else {
-        End::NoIds {
-            dir: FileId::root(alloc),
-        }
-    };
-    Ok(Answer::Granted { grants, fresh, end })
+    match comes {
+        Comes::Act(asking) => acts(alloc, core, now, asking, way),
+        Comes::Turn => match way {
+            Way::AtOnce => turn(alloc, core, now),
+            Way::Planned => plan_turn(alloc, core, now),
+        },
+        Comes::Heard(from, bytes) => hears(alloc, core, now, from, bytes, way),
+    }
 }
 
-/// A client that has what a create in the root wants.
-pub(crate) fn gets_leases(
+/// All that comes to the client, line by line.
+pub(crate) fn plays(
     rt: &impl Abort,
     alloc: Global,
     core: &mut ClientCore,
+    way: Way,
+    script: &[Line],
 ) -> Result<(), Fail> {
-    acts(rt, alloc, core, 0, Asking::Create, ("asked", 3))?;
-    let leases = [(1, Lease::Root), (2, Lease::Child), (3, Lease::New)];
-    let answer = granted(alloc, leases.as_slice(), "/1")?;
-    hears(rt, alloc, core, 1, 0, &answer, ("granted", 3))
-}
-
-/// So many entries are admitted.
-pub(crate) fn shipped(count: u64) -> Answer {
-    Answer::Shipped {
-        count,
-        end: End::All,
+    for (line, (now, comes, wanted)) in script.iter().enumerate() {
+        let short = come(alloc, core, *now, *comes, way)?;
+        same(rt, (line, short), (line, *wanted));
     }
+    Ok(())
 }
 
-pub(crate) fn released(count: u64) -> Answer {
-    Answer::Released {
-        count,
-        end: End::All,
+/// The scripts of a new client, one after another, in either way.
+pub(crate) fn plays_new(rt: &impl Abort, alloc: Global, scripts: &[&[Line]]) -> Result<(), Fail> {
+    for way in [Way::AtOnce, Way::Planned] {
+        plays_in(rt, alloc, way, scripts)?;
     }
+    Ok(())
 }
 
-/// The first create: asked for, granted, answered, handed in, admitted; then a read.
-fn creates(rt: &impl Abort, alloc: Global, core: &mut ClientCore) -> Result<(), Fail> {
-    gets_leases(rt, alloc, core)?;
-    acts(rt, alloc, core, 2, Asking::Create, ("replied", 1))?;
-    assert_eq!(rt; core.entries(), 1);
-    assert_eq!(rt; core.first_home(), Some(&FileId::root(alloc)));
-    turns(rt, alloc, core, 3, ("ships", 1))?;
-    assert!(rt; core.waits());
-    turns(rt, alloc, core, 3, ("idle", 0))?;
+fn plays_in(rt: &impl Abort, alloc: Global, way: Way, scripts: &[&[Line]]) -> Result<(), Fail> {
+    let mut core = ClientCore::new(alloc, Session(1), 100)?;
+    let done = plays_each(rt, alloc, &mut core, way, scripts);
+    core.discard();
+    done
+}
+
+fn plays_each(
+    rt: &impl Abort,
+    alloc: Global,
+    core: &mut ClientCore,
+    way: Way,
+    scripts: &[&[Line]],
+) -> Result<(), Fail> {
+    for script in scripts {
+        plays(rt, alloc, core, way, script)?;
+    }
+    Ok(())
+}
+
+/// A first create: asked for, granted, answered and handed in.
+const CREATES: &[Line] = &[
+    (0, Comes::Act(Asking::Create), ("asked", 3, Some(0))),
+    (1, Comes::Heard(0, said::GRANTED), ("granted", 3, None)),
+    (2, Comes::Act(Asking::Create), ("replied", 1, None)),
+    (3, Comes::Turn, ("ships", 1, Some(0))),
+    (3, Comes::Turn, ("idle", 0, None)),
+];
+
+/// It is admitted; then a read.
+const ADMITTED: &[Line] = &[
+    (4, Comes::Heard(0, said::SHIPPED_1), ("shipped", 1, None)),
+    (5, Comes::Act(Asking::Lookup), ("read", 2, None)),
+];
+
+/// How many entries there are, whether the first is of the root, and whether an answer is waited for.
+fn state(core: &ClientCore) -> (u64, bool, bool) {
+    let is_of_root = match core.first_home() {
+        Some(home) => home.numbers().is_empty(),
+        None => false,
+    };
+    (core.entries(), is_of_root, core.waits())
+}
+
+/// The client as it is written for programmers, and a copy of it.
+fn both_texts(alloc: Global, core: &ClientCore) -> Result<(String, String), Fail> {
+    Ok((text_of(alloc, core)?, twin_text(alloc, core)?))
+}
+
+fn twin_text(alloc: Global, core: &ClientCore) -> Result<String, Fail> {
     let twin = core.copy(alloc)?;
-    let entries = twin.entries();
+    let text = text_of(alloc, &twin);
     twin.discard();
-    assert_eq!(rt; entries, 1);
-    hears(rt, alloc, core, 4, 0, &shipped(1), ("shipped", 1))?;
-    assert!(rt; core.first_home().is_none());
-    acts(rt, alloc, core, 5, Asking::Lookup, ("read", 2))
+    text
 }
 
-/// A lease is used to its last reading.
-fn ends(rt: &impl Abort, alloc: Global, core: &mut ClientCore) -> Result<(), Fail> {
-    acts(rt, alloc, core, 0, Asking::Kind, ("asked", 1))?;
-    let answer = granted(alloc, [(1, Lease::Root)].as_slice(), "")?;
-    hears(rt, alloc, core, 0, 0, &answer, ("granted", 1))?;
-    acts(rt, alloc, core, 99, Asking::Kind, ("read", 1))?;
-    acts(rt, alloc, core, 100, Asking::Kind, ("asked", 1))
+/// A copy is the same.
+fn is_copied(rt: &impl Abort, alloc: Global, core: &ClientCore) -> Result<(), Fail> {
+    let (text, twin) = both_texts(alloc, core)?;
+    reads(rt, twin, text.as_str());
+    Ok(())
 }
 
-/// A lease that its server asks for goes back once no entry uses it.
-fn recalls(rt: &impl Abort, alloc: Global, core: &mut ClientCore) -> Result<(), Fail> {
-    gets_leases(rt, alloc, core)?;
-    acts(rt, alloc, core, 2, Asking::Create, ("replied", 1))?;
-    let no = LeaseNo {
-        server: 0,
-        count: 2,
-    };
-    hears(rt, alloc, core, 3, 0, &Answer::Recall { no }, ("recall", 2))?;
-    turns(rt, alloc, core, 4, ("ships", 1))?;
-    hears(rt, alloc, core, 5, 0, &shipped(1), ("shipped", 1))?;
-    turns(rt, alloc, core, 6, ("releases", 1))?;
-    hears(rt, alloc, core, 7, 0, &released(2), ("strange", 0))?;
-    hears(rt, alloc, core, 7, 0, &released(1), ("released", 1))?;
-    acts(rt, alloc, core, 8, Asking::Lookup, ("asked", 1))?;
-    let answer = granted(alloc, [(1, Lease::ChildShared)].as_slice(), "")?;
-    hears(rt, alloc, core, 9, 0, &answer, ("strange", 0))
-}
-
-/// No entry is admitted, since the lease of this one has ended.
-fn refused(n: u64) -> Answer {
-    let lease = LeaseNo {
-        server: 0,
-        count: 1,
-    };
-    Answer::Shipped {
-        count: 0,
-        end: End::Ended {
-            n,
-            lease,
-            until: 100,
-            now: 110,
-        },
-    }
-}
-
-/// A client whose entry is refused is over.
-fn is_over(rt: &impl Abort, alloc: Global, core: &mut ClientCore) -> Result<(), Fail> {
-    gets_leases(rt, alloc, core)?;
-    acts(rt, alloc, core, 2, Asking::Create, ("replied", 1))?;
-    turns(rt, alloc, core, 2, ("ships", 1))?;
-    hears(rt, alloc, core, 110, 0, &refused(2), ("strange", 0))?;
-    hears(rt, alloc, core, 110, 0, &refused(1), ("shipped", 0))?;
-    assert_eq!(rt; core.over(), Some(1));
-    acts(rt, alloc, core, 110, Asking::Kind, ("over", 1))
-}
-
-/// A directory without a number left.
-fn is_full(rt: &impl Abort, alloc: Global, core: &mut ClientCore) -> Result<(), Fail> {
-    acts(rt, alloc, core, 0, Asking::Create, ("asked", 3))?;
-    let leases = [(1, Lease::Root), (2, Lease::Child)];
-    let answer = granted(alloc, leases.as_slice(), "")?;
-    hears(rt, alloc, core, 1, 0, &answer, ("granted", 2))?;
-    acts(rt, alloc, core, 2, Asking::Create, ("noids", 0))
-}
-
-/// The row of a renewal: the lease of this number has this end.
-fn renewed(alloc: Global, count: u64, until: Option<u64>) -> Result<Answer, Fail> {
-    let mut rows = List::new(alloc);
-    let no = LeaseNo { server: 0, count };
-    rows.push((no, until))?;
-    let end = End::All;
-    Ok(Answer::Renewed { rows, end })
-}
-
-/// A lease has a later end, and is given up where its row is gone.
-fn renews(rt: &impl Abort, alloc: Global, core: &mut ClientCore) -> Result<(), Fail> {
-    acts(rt, alloc, core, 0, Asking::Kind, ("asked", 1))?;
-    let answer = granted(alloc, [(1, Lease::Root)].as_slice(), "")?;
-    hears(rt, alloc, core, 0, 0, &answer, ("granted", 1))?;
-    turns(rt, alloc, core, 49, ("idle", 0))?;
-    turns(rt, alloc, core, 50, ("renews", 1))?;
-    let answer = renewed(alloc, 2, Some(150))?;
-    hears(rt, alloc, core, 51, 0, &answer, ("strange", 0))?;
-    let answer = renewed(alloc, 1, Some(150))?;
-    hears(rt, alloc, core, 51, 0, &answer, ("renewed", 1))?;
-    acts(rt, alloc, core, 149, Asking::Kind, ("read", 1))?;
-    turns(rt, alloc, core, 149, ("renews", 1))?;
-    let answer = renewed(alloc, 1, None)?;
-    hears(rt, alloc, core, 149, 0, &answer, ("renewed", 1))?;
-    acts(rt, alloc, core, 149, Asking::Kind, ("asked", 1))
-}
-
-/// An answer to the question of a create that fits it in all but one thing, and the server that it comes from.
-fn odd_answer(alloc: Global, at: u8) -> Result<(u8, Answer), Fail> {
-    let root = (1, Lease::Root);
-    let child = (2, Lease::Child);
-    match at {
-        // another server
-        0 => Ok((1, granted(alloc, [root].as_slice(), "")?)),
-        // out of order
-        1 => Ok((0, granted(alloc, [child].as_slice(), "")?)),
-        // of another kind
-        2 => Ok((
-            0,
-            granted(alloc, [root, (2, Lease::ChildShared)].as_slice(), "")?,
-        )),
-        // with a value of another field
-        3 => Ok((
-            0,
-            granted(alloc, [root, (2, Lease::ChildAlive)].as_slice(), "")?,
-        )),
-        // one number twice
-        4 => Ok((0, granted(alloc, [root, (1, Lease::Child)].as_slice(), "")?)),
-        // an identifier of another directory
-        5 => Ok((
-            0,
-            granted(alloc, [root, child, (3, Lease::New)].as_slice(), "/1/1")?,
-        )),
-        // an identifier without the lease on its life
-        6 => Ok((0, granted(alloc, [root, child].as_slice(), "/1")?)),
-        // the answer to another question
-        _ => Ok((0, renewed(alloc, 1, None)?)),
-    }
-}
-
-/// No honest server sends such an answer, and it changes nothing.
-fn is_strange(rt: &impl Abort, alloc: Global, core: &mut ClientCore, at: u8) -> Result<(), Fail> {
-    let (from, answer) = odd_answer(alloc, at)?;
-    hears(rt, alloc, core, 1, from, &answer, ("strange", 0))
-}
-
-/// Answers that fit no question that stands.
-fn stranges(rt: &impl Abort, alloc: Global, core: &mut ClientCore) -> Result<(), Fail> {
-    hears(rt, alloc, core, 0, 0, &shipped(0), ("strange", 0))?;
-    acts(rt, alloc, core, 0, Asking::Create, ("asked", 3))?;
-    for at in 0..8 {
-        is_strange(rt, alloc, core, at)?;
-    }
-    let leases = [(1, Lease::Root), (2, Lease::Child), (3, Lease::New)];
-    let answer = granted(alloc, leases.as_slice(), "/1")?;
-    hears(rt, alloc, core, 1, 0, &answer, ("granted", 3))?;
-    acts(rt, alloc, core, 2, Asking::Create, ("replied", 1))?;
-    turns(rt, alloc, core, 2, ("ships", 1))?;
-    hears(rt, alloc, core, 3, 0, &shipped(2), ("strange", 0))?;
-    hears(rt, alloc, core, 3, 0, &shipped(1), ("shipped", 1))
+fn creates(rt: &impl Abort, alloc: Global, core: &mut ClientCore) -> Result<(), Fail> {
+    plays(rt, alloc, core, Way::AtOnce, CREATES)?;
+    same(rt, state(core), (1, true, true));
+    is_copied(rt, alloc, core)?;
+    plays(rt, alloc, core, Way::AtOnce, ADMITTED)?;
+    same(rt, state(core), (0, false, false));
+    Ok(())
 }
 
 #[test]
@@ -395,20 +326,54 @@ fn a_first_create(rt: HostRuntime) -> Result<(), Fail> {
     done
 }
 
+const ENDS: &[Line] = &[
+    (0, Comes::Act(Asking::Kind("/")), ("asked", 1, Some(0))),
+    (0, Comes::Heard(0, said::ROOT), ("granted", 1, None)),
+    (99, Comes::Act(Asking::Kind("/")), ("read", 1, None)),
+    (100, Comes::Act(Asking::Kind("/")), ("asked", 1, Some(0))),
+];
+
 #[test]
 fn a_lease_serves_to_its_last_reading(rt: HostRuntime) -> Result<(), Fail> {
-    let mut core = ClientCore::new(rt.alloc(), Session(1), 100)?;
-    let done = ends(&rt, rt.alloc(), &mut core);
-    core.discard();
-    done
+    plays_new(&rt, rt.alloc(), &[ENDS])
 }
+
+/// A lease that its server asks for goes back once no entry uses it.
+const RECALLS: &[Line] = &[
+    (0, Comes::Act(Asking::Create), ("asked", 3, Some(0))),
+    (1, Comes::Heard(0, said::GRANTED), ("granted", 3, None)),
+    (2, Comes::Act(Asking::Create), ("replied", 1, None)),
+    (3, Comes::Heard(0, said::RECALL_SECOND), ("recall", 2, None)),
+    (4, Comes::Turn, ("ships", 1, Some(0))),
+    (5, Comes::Heard(0, said::SHIPPED_1), ("shipped", 1, None)),
+    (6, Comes::Turn, ("releases", 1, Some(0))),
+    (7, Comes::Heard(0, said::RELEASED_2), ("strange", 0, None)),
+    (7, Comes::Heard(0, said::RELEASED_1), ("released", 1, None)),
+    (8, Comes::Act(Asking::Lookup), ("asked", 1, Some(0))),
+    (9, Comes::Heard(0, said::NAME_FIRST), ("strange", 0, None)),
+];
 
 #[test]
 fn a_recalled_lease_goes_back_when_it_is_free(rt: HostRuntime) -> Result<(), Fail> {
-    let mut core = ClientCore::new(rt.alloc(), Session(1), 100)?;
-    let done = recalls(&rt, rt.alloc(), &mut core);
-    core.discard();
-    done
+    plays_new(&rt, rt.alloc(), &[RECALLS])
+}
+
+/// A client whose entry is refused is over.
+const REFUSED: &[Line] = &[
+    (0, Comes::Act(Asking::Create), ("asked", 3, Some(0))),
+    (1, Comes::Heard(0, said::GRANTED), ("granted", 3, None)),
+    (2, Comes::Act(Asking::Create), ("replied", 1, None)),
+    (2, Comes::Turn, ("ships", 1, Some(0))),
+    (110, Comes::Heard(0, said::REFUSED_2), ("strange", 0, None)),
+    (110, Comes::Heard(0, said::REFUSED_1), ("shipped", 0, None)),
+];
+
+const OVER: &[Line] = &[(110, Comes::Act(Asking::Kind("/")), ("over", 1, None))];
+
+fn is_over(rt: &impl Abort, alloc: Global, core: &mut ClientCore) -> Result<(), Fail> {
+    plays(rt, alloc, core, Way::AtOnce, REFUSED)?;
+    same(rt, core.over(), Some(1));
+    plays(rt, alloc, core, Way::AtOnce, OVER)
 }
 
 #[test]
@@ -419,42 +384,70 @@ fn a_refused_entry_ends_the_session(rt: HostRuntime) -> Result<(), Fail> {
     done
 }
 
+/// A directory without a number left.
+const FULL: &[Line] = &[
+    (0, Comes::Act(Asking::Create), ("asked", 3, Some(0))),
+    (1, Comes::Heard(0, said::FULL), ("granted", 2, None)),
+    (2, Comes::Act(Asking::Create), ("noids", 0, None)),
+];
+
 #[test]
 fn a_full_directory_is_remembered(rt: HostRuntime) -> Result<(), Fail> {
-    let mut core = ClientCore::new(rt.alloc(), Session(1), 100)?;
-    let done = is_full(&rt, rt.alloc(), &mut core);
-    core.discard();
-    done
+    plays_new(&rt, rt.alloc(), &[FULL])
 }
+
+/// A lease has a later end, and is given up where its row is gone.
+const RENEWS: &[Line] = &[
+    (0, Comes::Act(Asking::Kind("/")), ("asked", 1, Some(0))),
+    (0, Comes::Heard(0, said::ROOT), ("granted", 1, None)),
+    (49, Comes::Turn, ("idle", 0, None)),
+    (50, Comes::Turn, ("renews", 1, Some(0))),
+    (
+        51,
+        Comes::Heard(0, said::RENEWED_SECOND),
+        ("strange", 0, None),
+    ),
+    (51, Comes::Heard(0, said::RENEWED), ("renewed", 1, None)),
+    (149, Comes::Act(Asking::Kind("/")), ("read", 1, None)),
+    (149, Comes::Turn, ("renews", 1, Some(0))),
+    (149, Comes::Heard(0, said::GONE), ("renewed", 1, None)),
+    (149, Comes::Act(Asking::Kind("/")), ("asked", 1, Some(0))),
+];
 
 #[test]
 fn leases_are_renewed(rt: HostRuntime) -> Result<(), Fail> {
-    let mut core = ClientCore::new(rt.alloc(), Session(1), 100)?;
-    let done = renews(&rt, rt.alloc(), &mut core);
-    core.discard();
-    done
+    plays_new(&rt, rt.alloc(), &[RENEWS])
 }
+
+/// Answers that fit no question that stands, and answers to the question of a create that fit it in all but one thing:
+/// they change nothing.
+const STRANGE: &[Line] = &[
+    (0, Comes::Heard(0, said::SHIPPED_0), ("strange", 0, None)),
+    (0, Comes::Act(Asking::Create), ("asked", 3, Some(0))),
+    // another server
+    (1, Comes::Heard(1, said::ROOT), ("strange", 0, None)),
+    // out of order
+    (1, Comes::Heard(0, said::NAME_ALONE), ("strange", 0, None)),
+    // of another kind
+    (1, Comes::Heard(0, said::NAME_SHARED), ("strange", 0, None)),
+    // with a value of another field
+    (1, Comes::Heard(0, said::NAME_ALIVE), ("strange", 0, None)),
+    // one number twice
+    (1, Comes::Heard(0, said::ONE_NUMBER), ("strange", 0, None)),
+    // an identifier of another directory
+    (1, Comes::Heard(0, said::FRESH_BELOW), ("strange", 0, None)),
+    // an identifier without the lease on its life
+    (1, Comes::Heard(0, said::FRESH_ALONE), ("strange", 0, None)),
+    // the answer to another question
+    (1, Comes::Heard(0, said::GONE), ("strange", 0, None)),
+    (1, Comes::Heard(0, said::GRANTED), ("granted", 3, None)),
+    (2, Comes::Act(Asking::Create), ("replied", 1, None)),
+    (2, Comes::Turn, ("ships", 1, Some(0))),
+    (3, Comes::Heard(0, said::SHIPPED_2), ("strange", 0, None)),
+    (3, Comes::Heard(0, said::SHIPPED_1), ("shipped", 1, None)),
+];
 
 #[test]
 fn odd_answers_are_strange(rt: HostRuntime) -> Result<(), Fail> {
-    let mut core = ClientCore::new(rt.alloc(), Session(1), 100)?;
-    let done = stranges(&rt, rt.alloc(), &mut core);
-    core.discard();
-    done
-}
-
-/// A turn in two calls, by a copy of its plan.
-fn plans_turn(alloc: Global, core: &mut ClientCore) -> Result<Short, Fail> {
-    let Plan { ready, out } = core.plan_turn(alloc, 1)?.copy(alloc)?;
-    core.commit(alloc, ready)?;
-    Ok(note_word(&out.note))
-}
-
-#[test]
-fn a_plan_is_copied(rt: HostRuntime) -> Result<(), Fail> {
-    let mut core = ClientCore::new(rt.alloc(), Session(1), 100)?;
-    let told = plans_turn(rt.alloc(), &mut core);
-    core.discard();
-    assert_eq!(rt; told?, ("idle", 0));
-    Ok(())
+    plays_new(&rt, rt.alloc(), &[STRANGE])
 }

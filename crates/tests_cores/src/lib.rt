@@ -4,6 +4,8 @@
 #[cfg(test)]
 mod client;
 #[cfg(test)]
+mod forms;
+#[cfg(test)]
 mod server;
 #[cfg(test)]
 mod world;

@@ -3,13 +3,14 @@ ghost use Rattle.std.specs.Prelude.{◌≡◌, true, IfOk};
 ghost use Rattle.fs_model.specs.Asking.{may_ask};
 ghost use Rattle.fs_record.specs.Effects.{tells_its_effects};
 
-use crate::client::{hears, shipped};
+use crate::client::{Way, hears, said};
+use crate::forms::{reads, same, spend, text_of};
 use fs_client::ClientCore;
-use fs_field::{Field, LeaseKind, Need, Use, Value};
-use fs_ident::{FileId, Kind, LeaseNo, List, Session, Twin};
+use fs_field::Use;
+use fs_ident::{FileId, List, Session};
 use fs_model::Op;
 use fs_modes::Modes;
-use fs_msg::{Act, Answer, ClientMsg, End, Entry, Grant};
+use fs_msg::{ClientMsg, Entry};
 use std::alloc::Global;
 use std::process::Abort;
 use std::test::Fail;
@@ -51,111 +52,67 @@ fn op_of(alloc: Global, asking: Asking) -> Result<Op, Fail>
     ensures plain { IfOk result (λ op. tells_its_effects op ≡ true) }
 {
     let file = FileId::parse(alloc, b"/1")?;
-    let (h, modes) = match asking {
-        Asking::Guard => (1, GUARDS),
-        Asking::Write => (2, WRITES),
-        Asking::Read => (2, READS),
-        Asking::Close => return Ok(Op::Close { file, h: 1 }),
-    };
-    Ok(Op::OpenFile { file, h, modes })
-}
-
-/// What is asked for, one thing after another.
-fn needs_text(alloc: Global, needs: &[Need]) -> Result<String, Fail> {
-    let mut text = String::new(alloc);
-    for need in needs {
-        if let Need::Lease(field, kind) = need {
-            let part = format!(in alloc; "{field} {kind:?}; ")?;
-            text.push_str(part.as_str())?;
-        }
-    }
-    Ok(text)
-}
-
-fn note_text(alloc: Global, note: &Act) -> Result<String, Fail> {
-    match note {
-        Act::Asked { needs, to: _ } => needs_text(alloc, needs.as_slice()),
-        note => Ok(format!(in alloc; "{note:?}")?),
+    match asking {
+        Asking::Guard => Ok(Op::OpenFile {
+            file,
+            h: 1,
+            modes: GUARDS,
+        }),
+        Asking::Write => Ok(Op::OpenFile {
+            file,
+            h: 2,
+            modes: WRITES,
+        }),
+        Asking::Read => Ok(Op::OpenFile {
+            file,
+            h: 2,
+            modes: READS,
+        }),
+        Asking::Close => Ok(Op::Close { file, h: 1 }),
     }
 }
 
-/// The user asks for the operation, and this comes of it. What is sent is handed back.
+/// What is noted of it.
+fn noted(alloc: Global, core: &mut ClientCore, asking: Asking) -> Result<String, Fail> {
+    let op = op_of(alloc, asking)?;
+    let text = noted_of(alloc, core, &op);
+    spend(op);
+    text
+}
+
+fn noted_of(alloc: Global, core: &mut ClientCore, op: &Op) -> Result<String, Fail>
+    requires asked { may_ask op.now ≡ true }
+    requires plain { tells_its_effects op.now ≡ true }
+{
+    let out = core.act(alloc, NOW, op)?;
+    let text = text_of(alloc, &out.note);
+    spend(out);
+    text
+}
+
+/// The user asks for the operation, and this is noted.
 fn asks(
     rt: &impl Abort,
     alloc: Global,
     core: &mut ClientCore,
     asking: Asking,
     wanted: &str,
-) -> Result<Option<(u8, ClientMsg)>, Fail> {
-    let op = op_of(alloc, asking)?;
-    let out = core.act(alloc, NOW, &op)?;
-    let text = note_text(alloc, &out.note)?;
-    assert_eq!(rt; text.as_str(), wanted);
-    Ok(out.send)
-}
-
-/// The user asks for the operation, and is answered at once.
-fn says(
-    rt: &impl Abort,
-    alloc: Global,
-    core: &mut ClientCore,
-    asking: Asking,
-    wanted: &str,
 ) -> Result<(), Fail> {
-    asks(rt, alloc, core, asking, wanted)?;
+    reads(rt, noted(alloc, core, asking)?, wanted);
     Ok(())
 }
 
-/// What the field says while nobody has the file open.
-fn unopened(alloc: Global, field: &Field) -> Value {
-    match field {
-        Field::Life(_) => Value::Life(Some(Kind::File)),
-        Field::Own(_) => Value::Own(List::new(alloc)),
-        Field::SelfW(_, _) => Value::SelfW,
-        _ => Value::Other(false),
-    }
-}
-
-/// A lease on the field, until 100.
-fn grant(alloc: Global, count: u64, field: &Field, kind: LeaseKind) -> Result<Grant, Fail> {
-    Ok(Grant {
-        no: LeaseNo { server: 0, count },
-        field: field.copy(alloc)?,
-        kind,
-        until: 100,
-        value: unopened(alloc, field),
-    })
-}
-
-/// The answer that gives a lease under each of these numbers, on what is asked for, in order.
-fn granted(alloc: Global, counts: &[u64], sent: Option<(u8, ClientMsg)>) -> Result<Answer, Fail> {
-    let Some((_, ClientMsg::Ask { items, fresh: _ })) = sent else {
-        return Err(Fail::from("nothing is asked for"));
-    };
-    let mut grants = List::new(alloc);
-    for (count, item) in counts.iter().zip(items.as_slice()) {
-        grants.push(grant(alloc, *count, &item.0, item.1)?)?;
-    }
-    Ok(Answer::Granted {
-        grants,
-        fresh: None,
-        end: End::All,
-    })
-}
-
-/// This is missing for the operation and asked for, and leases come under these numbers.
-fn gets(
+/// The answer of these bytes comes, and so many leases with it or so many entries admitted.
+fn hears_of(
     rt: &impl Abort,
     alloc: Global,
     core: &mut ClientCore,
-    asking: Asking,
-    wanted: &str,
-    counts: &[u64],
+    bytes: &[u8],
+    wanted: (&'static str, u64),
 ) -> Result<(), Fail> {
-    let sent = asks(rt, alloc, core, asking, wanted)?;
-    let answer = granted(alloc, counts, sent)?;
-    let count = counts.len() as u64;
-    hears(rt, alloc, core, NOW, 0, &answer, ("granted", count))
+    let (word, number, _) = hears(alloc, core, NOW, 0, bytes, Way::AtOnce)?;
+    same(rt, (word, number), wanted);
+    Ok(())
 }
 
 /// The numbers of the leases that the entry uses, behind these.
@@ -176,31 +133,41 @@ fn used_by(alloc: Global, entries: &[Entry]) -> Result<List<u64>, Fail> {
 }
 
 /// The numbers of the leases that the entries use that are handed in.
-fn used_in(alloc: Global, sent: Option<(u8, ClientMsg)>) -> Result<List<u64>, Fail> {
+fn used_in(alloc: Global, sent: &Option<(u8, ClientMsg)>) -> Result<List<u64>, Fail> {
     match sent {
         Some((_, ClientMsg::Ship { entries })) => used_by(alloc, entries.as_slice()),
         _ => Err(Fail::from("nothing is handed in")),
     }
 }
 
-/// The log is handed in, so many entries that use these leases, and is admitted.
+/// The same at the client's turn.
+fn handed_in(alloc: Global, core: &mut ClientCore) -> Result<List<u64>, Fail> {
+    let out = core.turn(alloc, NOW)?;
+    let used = used_in(alloc, &out.send);
+    spend(out);
+    used
+}
+
+/// The log is handed in, in entries that use these leases.
 fn ships(
     rt: &impl Abort,
     alloc: Global,
     core: &mut ClientCore,
-    count: u64,
     wanted: &[u64],
 ) -> Result<(), Fail> {
-    let out = core.turn(alloc, NOW)?;
-    let used = used_in(alloc, out.send)?;
-    assert_eq!(rt; used.as_slice(), wanted);
-    hears(rt, alloc, core, NOW, 0, &shipped(count), ("shipped", count))
+    let used = handed_in(alloc, core)?;
+    same(rt, used.as_slice(), wanted);
+    Ok(())
 }
 
-const OTHERS: &str =
-    "life /1 Shared; own /1 Exclusive; other /1 aW Shared; other /1 aD Shared; other /1 dR Shared; ";
+const OTHERS: &str = "Asked { needs: List { items: [Lease(Life(FileId { numbers: [1] }), Shared), \
+    Lease(Own(FileId { numbers: [1] }), Exclusive), Lease(Other(FileId { numbers: [1] }, AccW), Shared), \
+    Lease(Other(FileId { numbers: [1] }, AccD), Shared), Lease(Other(FileId { numbers: [1] }, DenyR), Shared)] }, to: 0 }";
 
-const SELVES: &str = "self /1 aR Exclusive; self /1 dW Exclusive; self /1 dD Exclusive; ";
+const SELVES: &str =
+    "Asked { needs: List { items: [Lease(SelfW(FileId { numbers: [1] }, AccR), Exclusive), \
+    Lease(SelfW(FileId { numbers: [1] }, DenyW), Exclusive), Lease(SelfW(FileId { numbers: [1] }, DenyD), Exclusive)] }, \
+    to: 0 }";
 
 const OPENED: &str = "Replied { n: 1, reply: Opened }";
 
@@ -212,19 +179,22 @@ const CLOSED: &str = "Replied { n: 4, reply: Closed }";
 
 /// An open asks for what it keeps from the others, and then, knowing the session's handles, for what it turns on.
 fn opens(rt: &impl Abort, alloc: Global, core: &mut ClientCore) -> Result<(), Fail> {
-    let counts = [1, 2, 3, 4, 5];
-    gets(rt, alloc, core, Asking::Guard, OTHERS, counts.as_slice())?;
-    gets(rt, alloc, core, Asking::Guard, SELVES, [6, 7, 8].as_slice())?;
-    says(rt, alloc, core, Asking::Guard, OPENED)?;
-    ships(rt, alloc, core, 1, [1, 2, 3, 4, 5, 6, 7, 8].as_slice())
+    asks(rt, alloc, core, Asking::Guard, OTHERS)?;
+    hears_of(rt, alloc, core, said::OTHERS, ("granted", 5))?;
+    asks(rt, alloc, core, Asking::Guard, SELVES)?;
+    hears_of(rt, alloc, core, said::SELVES, ("granted", 3))?;
+    asks(rt, alloc, core, Asking::Guard, OPENED)?;
+    ships(rt, alloc, core, &[1, 2, 3, 4, 5, 6, 7, 8])?;
+    hears_of(rt, alloc, core, said::SHIPPED_1, ("shipped", 1))
 }
 
 /// An open beside the first is answered at once, and a close turns off only what the other handle does not have.
 fn closes(rt: &impl Abort, alloc: Global, core: &mut ClientCore) -> Result<(), Fail> {
-    says(rt, alloc, core, Asking::Write, REFUSED)?;
-    says(rt, alloc, core, Asking::Read, OPENED_TOO)?;
-    says(rt, alloc, core, Asking::Close, CLOSED)?;
-    ships(rt, alloc, core, 2, [1, 2, 5, 2, 7, 8].as_slice())
+    asks(rt, alloc, core, Asking::Write, REFUSED)?;
+    asks(rt, alloc, core, Asking::Read, OPENED_TOO)?;
+    asks(rt, alloc, core, Asking::Close, CLOSED)?;
+    ships(rt, alloc, core, &[1, 2, 5, 2, 7, 8])?;
+    hears_of(rt, alloc, core, said::SHIPPED_2, ("shipped", 2))
 }
 
 /// One after the other.

@@ -1,86 +1,95 @@
 //! What is with another server, what goes to one, and what comes from one.
-ghost use Rattle.std.specs.Prelude.{◌≤◌};
-ghost use Rattle.fs_ident.specs.declared.limits.TheConstants.{LATEST};
-
+use crate::forms::{reads, same, spend, text_of};
 use crate::server::{
-    ask, first_ask, has_file, life, life_of_first, log, noted, open_log, renew, server, step, told,
+    ADMITS, ADMITS_ONE, Event, Line, Seen, THREE_GRANTS, Way, can_be_told, event_of, has_file,
+    plays, plays_first, plays_on, said, server,
 };
-use fs_ident::{FileId, LeaseNo, List, Peer, Session, Twin};
-use fs_msg::{ClientMsg, Msg, PeerMsg};
-use fs_server::{ServerCore, ServerEvent};
+use fs_msg::write;
+use fs_server::{ServerCore, ServerEvent, ServerOut};
 use std::alloc::Global;
+use std::process::Abort;
 use std::test::Fail;
 
-/// The server of this number, where clocks differ by up to 10 and leases are given for 100.
+/// The second server, where clocks differ by up to 10 and leases are given for 100.
 fn other(alloc: Global) -> Result<ServerCore, Fail> {
     Ok(ServerCore::new(alloc, 1, 10, 100)?)
 }
 
-fn move_to(alloc: Global, prefix: &str, to: u8) -> Result<ServerEvent, Fail> {
-    Ok(ServerEvent::Move {
-        prefix: FileId::parse(alloc, prefix.as_bytes())?,
-        to,
-    })
+/// The file 1 is here or not, and so the server knows which prefixes are with which server.
+fn is_here(
+    rt: &impl Abort,
+    alloc: Global,
+    core: &ServerCore,
+    here: bool,
+    wanted: &str,
+) -> Result<(), Fail> {
+    reads(rt, text_of(alloc, core.map().listed())?, wanted);
+    same(rt, has_file(alloc, core)?, here);
+    Ok(())
 }
 
-/// Which prefixes are with which server, as the server knows.
-fn map_text(core: &ServerCore, alloc: Global) -> Result<String, Fail> {
-    let mut text = String::new(alloc);
-    for (prefix, server) in core.map().listed().as_slice() {
-        let one = format!(in alloc; "{prefix} s{server} ")?;
-        text.push_str(one.as_str())?;
-    }
-    Ok(text)
-}
+/// Server 0 has all, and server 1 the file 1.
+const ALL_BY_0: &str = "List { items: [(FileId { numbers: [] }, 0)] }";
+
+const FILE_BY_1: &str =
+    "List { items: [(FileId { numbers: [] }, 0), (FileId { numbers: [1] }, 1)] }";
 
 const MOVED: &str =
     "ServerOut { note: Grants { count: 0, end: Moved { prefix: FileId { numbers: [] }, to: 0 } }, send: List { \
     items: [(Client(Session(1)), Answer(Granted { grants: List { items: [] }, fresh: None, end: Moved { prefix: \
     FileId { numbers: [] }, to: 0 } }))] }, admitted: List { items: [] } }";
 
-/// What is with another server is not answered.
+const LOG_MOVED: &str =
+    "Admits { count: 0, end: Moved { prefix: FileId { numbers: [] }, to: 0 }, gaps: List { items: [] } }";
+
+const RENEWAL_MOVED: &str =
+    "Renews { count: 0, end: Moved { prefix: FileId { numbers: [] }, to: 0 } }";
+
+const NONE_MOVED: &str =
+    "Grants { count: 0, end: Moved { prefix: FileId { numbers: [] }, to: 0 } }";
+
+/// What is with another server is not answered; nor is a fresh identifier given but by the server that has the directory.
+const ELSEWHERE: &[Line] = &[
+    (0, Event::From(1, said::ASK_TO_CREATE), Seen::All, MOVED),
+    (0, Event::From(1, said::LOG), Seen::Note, LOG_MOVED),
+    (0, Event::From(1, said::RENEW), Seen::Note, RENEWAL_MOVED),
+    (0, Event::RecallRoot, Seen::Note, "Recalls { count: 0 }"),
+    (1, Event::From(1, said::ASK_FRESH), Seen::Note, NONE_MOVED),
+];
+
 #[test]
 fn what_is_elsewhere_is_moved(rt: HostRuntime) -> Result<(), Fail> {
-    let alloc = rt.alloc();
-    let mut core = other(alloc)?;
-    let text = told(&mut core, alloc, 0, first_ask(alloc, 1))?;
-    assert_eq!(rt; text.as_str(), MOVED);
-    let text = noted(&mut core, alloc, 0, log(alloc))?;
-    assert_eq!(rt;
-        text.as_str(),
-        "Admits { count: 0, end: Moved { prefix: FileId { numbers: [] }, to: 0 }, gaps: List { items: [] } }"
-    );
-    let text = noted(&mut core, alloc, 0, renew(alloc))?;
-    assert_eq!(rt;
-        text.as_str(),
-        "Renews { count: 0, end: Moved { prefix: FileId { numbers: [] }, to: 0 } }"
-    );
-    let text = noted(&mut core, alloc, 0, Ok(ServerEvent::Recall(life(alloc).0)))?;
-    assert_eq!(rt; text.as_str(), "Recalls { count: 0 }");
-    Ok(())
+    plays_on(&rt, rt.alloc(), other(rt.alloc())?, Way::AtOnce, ELSEWHERE)?;
+    plays_on(&rt, rt.alloc(), other(rt.alloc())?, Way::Planned, ELSEWHERE)
 }
 
-/// The first server with the root's first child, its life leased to the first session, and open for writing.
-fn with_first(alloc: Global) -> Result<ServerCore, Fail> {
-    let mut core = server(alloc)?;
-    noted(&mut core, alloc, 0, first_ask(alloc, 1))?;
-    noted(&mut core, alloc, 5, log(alloc))?;
-    noted(&mut core, alloc, 5, open_log(alloc, 1))?;
-    Ok(core)
+const ROOT_MOVES: &str = "Moves { prefix: FileId { numbers: [] }, to: 1 }";
+
+const FRESH_MOVED: &str =
+    "Grants { count: 0, end: Moved { prefix: FileId { numbers: [] }, to: 1 } }";
+
+/// Where the root went its fresh identifiers are given.
+const ROOT_WENT: &[Line] = &[
+    (0, Event::Move("/", 1), Seen::Note, ROOT_MOVES),
+    (1, Event::From(1, said::ASK_FRESH), Seen::Note, FRESH_MOVED),
+];
+
+#[test]
+fn a_fresh_identifier_is_given_where_its_directory_went(rt: HostRuntime) -> Result<(), Fail> {
+    plays_first(&rt, rt.alloc(), ROOT_WENT)
 }
 
-/// The parcel that the server hands over.
-fn handed_over(core: &mut ServerCore, alloc: Global, now: u64) -> Result<PeerMsg, Fail>
-    requires { now ≤ LATEST }
-{
-    let out = step(core, alloc, now, move_to(alloc, "/1", 1))?;
-    for (to, m) in out.send.into_vec() {
-        if let (Peer::Server(1), Msg::Peer(m)) = (to, m) {
-            return Ok(m);
-        }
-    }
-    Err(Fail::from("no parcel"))
-}
+/// The root's first child, its life leased to the first session, and open for writing.
+const MAKES: &[Line] = &[
+    (
+        0,
+        Event::From(1, said::ASK_TO_CREATE),
+        Seen::Note,
+        THREE_GRANTS,
+    ),
+    (5, Event::From(1, said::LOG), Seen::Note, ADMITS),
+    (5, Event::From(1, said::LOG_OF_OPEN), Seen::Note, ADMITS_ONE),
+];
 
 const LEAVES: &str =
     "ServerOut { note: Moves { prefix: FileId { numbers: [1] }, to: 1 }, send: List { items: [(Server(1), Peer(\
@@ -93,166 +102,155 @@ const LEAVES: &str =
     numbers: [1] }), kind: Exclusive, until: 100, promise: None, lock: None }] } } }))] }, admitted: List { items: [] } }";
 
 /// What goes is all of the file, with its leases.
-#[test]
-fn a_file_goes_to_another_server(rt: HostRuntime) -> Result<(), Fail> {
-    let alloc = rt.alloc();
-    let mut from = with_first(alloc)?;
-    let text = told(&mut from, alloc, 6, move_to(alloc, "/1", 1))?;
-    assert_eq!(rt; text.as_str(), LEAVES);
-    Ok(())
-}
+const LEAVING: &[Line] = &[(6, Event::Move("/1", 1), Seen::All, LEAVES)];
+
+const BOTH_MOVED: &str =
+    "Grants { count: 1, end: Moved { prefix: FileId { numbers: [1] }, to: 1 } }";
 
 /// Where it was the file is known to be with the other server.
+const LEFT: &[Line] = &[(
+    7,
+    Event::From(2, said::ASK_ROOT_AND_FIRST),
+    Seen::Note,
+    BOTH_MOVED,
+)];
+
+fn leaves(rt: &impl Abort, alloc: Global, from: &mut ServerCore) -> Result<(), Fail> {
+    plays(rt, alloc, from, Way::AtOnce, MAKES)?;
+    plays(rt, alloc, from, Way::AtOnce, LEAVING)?;
+    is_here(rt, alloc, from, false, FILE_BY_1)?;
+    plays(rt, alloc, from, Way::AtOnce, LEFT)
+}
+
 #[test]
-fn a_file_is_gone_where_it_was(rt: HostRuntime) -> Result<(), Fail> {
-    let alloc = rt.alloc();
-    let mut from = with_first(alloc)?;
-    handed_over(&mut from, alloc, 6)?;
-    assert_eq!(rt; map_text(&from, alloc)?.as_str(), "/ s0 /1 s1 ");
-    assert!(rt; !has_file(&from, alloc)?);
-    let both = ask(alloc, 2, life(alloc), Some(life_of_first(alloc)?), false);
-    let text = noted(&mut from, alloc, 7, both)?;
-    assert_eq!(rt;
-        text.as_str(),
-        "Grants { count: 1, end: Moved { prefix: FileId { numbers: [1] }, to: 1 } }"
-    );
+fn a_file_goes_to_another_server(rt: HostRuntime) -> Result<(), Fail> {
+    let mut from = server(rt.alloc())?;
+    let done = leaves(&rt, rt.alloc(), &mut from);
+    spend(from);
+    done
+}
+
+/// The bytes of what is sent.
+fn bytes_of(alloc: Global, out: &ServerOut) -> Result<Vec<u8>, Fail> {
+    let mut bytes = Vec::new(alloc);
+    for (_, m) in out.send.as_slice() {
+        write(alloc, m, &mut bytes)?;
+    }
+    Ok(bytes)
+}
+
+fn sent(alloc: Global, core: &mut ServerCore, ev: &ServerEvent) -> Result<Vec<u8>, Fail> {
+    if !can_be_told(ev) {
+        return Err(Fail::from("it is no event"));
+    }
+    let out = core.step(alloc, 6, ev)?;
+    let bytes = bytes_of(alloc, &out);
+    spend(out);
+    bytes
+}
+
+/// The bytes that are sent where the file goes.
+fn handed_over(alloc: Global, core: &mut ServerCore) -> Result<Vec<u8>, Fail> {
+    let ev = event_of(alloc, Event::Move("/1", 1))?;
+    let bytes = sent(alloc, core, &ev);
+    spend(ev);
+    bytes
+}
+
+/// They are those of the parcel that comes to the other server in the tests below.
+fn hands_over(rt: &impl Abort, alloc: Global, from: &mut ServerCore) -> Result<(), Fail> {
+    plays(rt, alloc, from, Way::AtOnce, MAKES)?;
+    let bytes = handed_over(alloc, from)?;
+    same(rt, bytes.as_slice(), said::PARCEL);
     Ok(())
 }
 
-/// The parcel of that file.
-fn parcel_of_first(alloc: Global) -> Result<PeerMsg, Fail> {
-    let mut from = with_first(alloc)?;
-    handed_over(&mut from, alloc, 6)
+#[test]
+fn a_file_goes_in_a_parcel(rt: HostRuntime) -> Result<(), Fail> {
+    let mut from = server(rt.alloc())?;
+    let done = hands_over(&rt, rt.alloc(), &mut from);
+    spend(from);
+    done
 }
 
-/// What is noted of the message from the first server.
-fn come(to: &mut ServerCore, alloc: Global, m: PeerMsg) -> Result<String, Fail> {
-    noted(to, alloc, 7, Ok(ServerEvent::FromPeer(0, m)))
-}
+const INSTALLS: &str = "Installs { prefix: FileId { numbers: [1] } }";
 
 /// Where it came the file is.
-#[test]
-fn a_file_is_here_where_it_came(rt: HostRuntime) -> Result<(), Fail> {
-    let alloc = rt.alloc();
+const COMES: &[Line] = &[(7, Event::Peer(0, said::PARCEL), Seen::Note, INSTALLS)];
+
+const FIRST_WAITS: &str =
+    "Grants { count: 0, end: Wait { blocker: LeaseNo { server: 0, count: 3 } } }";
+
+/// A parcel that came twice is taken once. Its lease is in the way of others there.
+const CAME: &[Line] = &[
+    (7, Event::Peer(0, said::PARCEL), Seen::Note, "Strange"),
+    (8, Event::From(2, said::ASK_FIRST), Seen::Note, FIRST_WAITS),
+];
+
+fn comes(rt: &impl Abort, alloc: Global, to: &mut ServerCore, way: Way) -> Result<(), Fail> {
+    plays(rt, alloc, to, way, COMES)?;
+    is_here(rt, alloc, to, true, FILE_BY_1)?;
+    plays(rt, alloc, to, way, CAME)
+}
+
+fn comes_in(rt: &impl Abort, alloc: Global, way: Way) -> Result<(), Fail> {
     let mut to = other(alloc)?;
-    let text = come(&mut to, alloc, parcel_of_first(alloc)?)?;
-    assert_eq!(rt;
-        text.as_str(),
-        "Installs { prefix: FileId { numbers: [1] } }"
-    );
-    assert_eq!(rt; map_text(&to, alloc)?.as_str(), "/ s0 /1 s1 ");
-    assert!(rt; has_file(&to, alloc)?);
-    Ok(())
+    let done = comes(rt, alloc, &mut to, way);
+    spend(to);
+    done
 }
 
-/// The second server with the file that came to it.
-fn with_moved(alloc: Global) -> Result<ServerCore, Fail> {
-    let mut to = other(alloc)?;
-    come(&mut to, alloc, parcel_of_first(alloc)?)?;
-    Ok(to)
-}
-
-/// Its lease is in the way of others there.
 #[test]
-fn a_lease_is_where_its_file_came(rt: HostRuntime) -> Result<(), Fail> {
-    let alloc = rt.alloc();
-    let mut to = with_moved(alloc)?;
-    let one = ask(alloc, 2, life_of_first(alloc)?, None, false);
-    let text = noted(&mut to, alloc, 8, one)?;
-    assert_eq!(rt;
-        text.as_str(),
-        "Grants { count: 0, end: Wait { blocker: LeaseNo { server: 0, count: 3 } } }"
-    );
-    Ok(())
-}
-
-/// A parcel that came twice is taken once.
-#[test]
-fn a_parcel_comes_once(rt: HostRuntime) -> Result<(), Fail> {
-    let alloc = rt.alloc();
-    let mut to = with_moved(alloc)?;
-    let text = come(&mut to, alloc, parcel_of_first(alloc)?)?;
-    assert_eq!(rt; text.as_str(), "Strange");
-    Ok(())
-}
-
-/// What is noted where the session asks for an identifier below the root.
-fn asked_below_root(core: &mut ServerCore, alloc: Global) -> Result<String, Fail> {
-    let items = List::new(alloc);
-    let fresh = Some(FileId::root(alloc));
-    let ev = ServerEvent::FromClient(Session(1), ClientMsg::Ask { items, fresh });
-    noted(core, alloc, 1, Ok(ev))
-}
-
-/// A fresh identifier is given by the server that has the directory alone.
-#[test]
-fn a_fresh_identifier_is_given_where_its_directory_is(rt: HostRuntime) -> Result<(), Fail> {
-    let alloc = rt.alloc();
-    let text = asked_below_root(&mut other(alloc)?, alloc)?;
-    assert_eq!(rt;
-        text.as_str(),
-        "Grants { count: 0, end: Moved { prefix: FileId { numbers: [] }, to: 0 } }"
-    );
-    Ok(())
-}
-
-/// Where the root went its fresh identifiers are given.
-#[test]
-fn a_fresh_identifier_is_given_where_its_directory_went(rt: HostRuntime) -> Result<(), Fail> {
-    let alloc = rt.alloc();
-    let mut core = server(alloc)?;
-    noted(&mut core, alloc, 0, move_to(alloc, "/", 1))?;
-    let text = asked_below_root(&mut core, alloc)?;
-    assert_eq!(rt;
-        text.as_str(),
-        "Grants { count: 0, end: Moved { prefix: FileId { numbers: [] }, to: 1 } }"
-    );
-    Ok(())
-}
-
-/// A row whose number the server that it comes to never gave, though it is one of its own.
-fn never_given(m: PeerMsg) -> PeerMsg {
-    let PeerMsg::Parcel { mut parcel } = m;
-    for row in parcel.rows.items_mut() {
-        row.no = LeaseNo {
-            server: 1,
-            count: 1,
-        };
-    }
-    PeerMsg::Parcel { parcel }
+fn a_file_comes_once(rt: HostRuntime) -> Result<(), Fail> {
+    comes_in(&rt, rt.alloc(), Way::AtOnce)?;
+    comes_in(&rt, rt.alloc(), Way::Planned)
 }
 
 /// A parcel that no honest server sends changes nothing.
-#[test]
-fn a_parcel_that_does_not_fit_is_strange(rt: HostRuntime) -> Result<(), Fail> {
-    let alloc = rt.alloc();
-    let mut to = other(alloc)?;
-    let text = come(&mut to, alloc, never_given(parcel_of_first(alloc)?))?;
-    assert_eq!(rt; text.as_str(), "Strange");
-    assert_eq!(rt; map_text(&to, alloc)?.as_str(), "/ s0 ");
-    assert!(rt; !has_file(&to, alloc)?);
-    Ok(())
+const ODD: &[Line] = &[(7, Event::Peer(0, said::ODD_PARCEL), Seen::Note, "Strange")];
+
+fn is_strange(rt: &impl Abort, alloc: Global, to: &mut ServerCore) -> Result<(), Fail> {
+    plays(rt, alloc, to, Way::AtOnce, ODD)?;
+    is_here(rt, alloc, to, false, ALL_BY_0)
 }
 
+#[test]
+fn a_parcel_that_does_not_fit_is_strange(rt: HostRuntime) -> Result<(), Fail> {
+    let mut to = other(rt.alloc())?;
+    let done = is_strange(&rt, rt.alloc(), &mut to);
+    spend(to);
+    done
+}
+
+const MOVED_BEFORE: &str = "Stays { refusal: NotMine { prefix: FileId { numbers: [1] }, to: 1 } }";
+
 /// Prefixes, where they are to go, and why they stay: the first of the reasons.
-const STAYS: [(&str, u8, &str); 3] = [
-    ("/2", 1, "Stays { refusal: NoFile }"),
-    ("/1", 0, "Stays { refusal: Same }"),
-    ("/1", 1, "Moves { prefix: FileId { numbers: [1] }, to: 1 }"),
+const STAYS: &[Line] = &[
+    (
+        6,
+        Event::Move("/2", 1),
+        Seen::Note,
+        "Stays { refusal: NoFile }",
+    ),
+    (
+        6,
+        Event::Move("/1", 0),
+        Seen::Note,
+        "Stays { refusal: Same }",
+    ),
+    (6, Event::Move("/1", 1), Seen::All, LEAVES),
+    (6, Event::Move("/1", 1), Seen::Note, MOVED_BEFORE),
 ];
+
+fn stays(rt: &impl Abort, alloc: Global, core: &mut ServerCore) -> Result<(), Fail> {
+    plays(rt, alloc, core, Way::Planned, MAKES)?;
+    plays(rt, alloc, core, Way::Planned, STAYS)
+}
 
 #[test]
 fn it_is_told_why_what_was_to_go_stays(rt: HostRuntime) -> Result<(), Fail> {
-    let alloc = rt.alloc();
-    let mut core = with_first(alloc)?;
-    for (prefix, to, wanted) in STAYS {
-        let text = noted(&mut core, alloc, 6, move_to(alloc, prefix, to))?;
-        assert_eq!(rt; text.as_str(), wanted);
-    }
-    let text = noted(&mut core, alloc, 6, move_to(alloc, "/1", 1))?;
-    assert_eq!(rt;
-        text.as_str(),
-        "Stays { refusal: NotMine { prefix: FileId { numbers: [1] }, to: 1 } }"
-    );
-    Ok(())
+    let mut core = server(rt.alloc())?;
+    let done = stays(&rt, rt.alloc(), &mut core);
+    spend(core);
+    done
 }
