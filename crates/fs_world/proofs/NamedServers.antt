@@ -52,7 +52,7 @@ use Rattle.fs_msg.specs.declared.msg.Msg.{Msg}
 use Rattle.fs_msg.specs.declared.msg.Msg.TheVariants as msg
 use Rattle.fs_msg.specs.declared.peer_msg.PeerMsg.TheVariants.{Parcel as OfParcel}
 use Rattle.fs_serial.specs.declared.flying.Flying.{Flying}
-use Rattle.fs_server.proofs.OneByOne.{AskEnds, ShipEnds, each_entry, each_item, each_lapsed}
+use Rattle.fs_server.proofs.OneByOne.{AskEnds, ShipEnds, each_entry, each_item, each_lapsed, elsewhere, kept_off, misplaced, refused, waits}
 use Rattle.fs_server.specs.Asks.{Asking, answer_to, ask_fresh, ask_from, ask_step, asked_in, fresh_for, fresh_in, fresh_of, grant_of, kind_for, with_lease}
 use Rattle.fs_server.specs.Moves.{fits_here, move_at, parcel_at}
 use Rattle.fs_server.specs.Pairs.{numbers_in, pairs_end, pairs_here, released_rows, renewed_rows}

@@ -1,5 +1,5 @@
 //! Copies compared whole, texts, and a few effects.
-use crate::{is_copied, same, shows};
+use crate::{copies, prints, prints_and_copies, reads, same, shows, spend};
 use fs_field::{
     Asked, Effect, Field, LeaseKind, Need, Part, PathAnswer, Row, Unknown, Use, Value, Vote, apply,
     table, touches,
@@ -60,23 +60,18 @@ const TEXTS: [&str; 7] = [
 fn is_written(
     rt: &impl Abort,
     alloc: Global,
-    field: &Field,
+    field: Field,
     text: &str,
     on_mode: bool,
 ) -> Result<(), Fail> {
-    let written = format!(in alloc; "{field}")?;
-    same(
-        rt,
-        (written.as_str(), field.tells_no_mode()),
-        (text, !on_mode),
-    );
-    is_copied(rt, alloc, field)
+    same(rt, field.tells_no_mode(), !on_mode);
+    prints_and_copies(rt, alloc, field, text)
 }
 
 #[test]
 fn fields_are_written_and_copied(rt: HostRuntime) -> Result<(), Fail> {
     for (line, text) in TEXTS.iter().enumerate() {
-        is_written(&rt, rt.alloc(), &field(rt.alloc(), line)?, *text, line >= 5)?;
+        is_written(&rt, rt.alloc(), field(rt.alloc(), line)?, *text, line >= 5)?;
     }
     Ok(())
 }
@@ -84,13 +79,12 @@ fn fields_are_written_and_copied(rt: HostRuntime) -> Result<(), Fail> {
 #[test]
 fn an_unknown_number_is_written(rt: HostRuntime) -> Result<(), Fail> {
     let unknown = Unknown { no: NO };
-    let written = unknown.to_string(rt.alloc())?;
-    same(
+    prints(
         &rt,
-        written.as_str(),
+        rt.alloc(),
+        &unknown,
         "there is no row with the number s1.7",
-    );
-    Ok(())
+    )
 }
 
 /// An effect of each kind, in order.
@@ -159,7 +153,7 @@ fn set_info(alloc: Global) -> Effect {
 #[test]
 fn effects_are_copied(rt: HostRuntime) -> Result<(), Fail> {
     for line in 0..7 {
-        is_copied(&rt, rt.alloc(), &effect(rt.alloc(), line)?)?;
+        copies(&rt, rt.alloc(), effect(rt.alloc(), line)?)?;
     }
     Ok(())
 }
@@ -184,12 +178,32 @@ fn value(alloc: Global, line: usize) -> Result<Value, Fail> {
     }
 }
 
+/// Whether the value is of the field of this number.
+fn is_of(alloc: Global, value: &Value, line: usize) -> Result<bool, Fail> {
+    let field = field(alloc, line)?;
+    let is_of = value.is_of(&field);
+    spend(field);
+    Ok(is_of)
+}
+
+/// The value is of the field of this number, and its copy too.
+fn is_value(rt: &impl Abort, alloc: Global, value: Value, line: usize) -> Result<(), Fail> {
+    match is_of(alloc, &value, line) {
+        Ok(is_of) => {
+            same(rt, is_of, true);
+            copies(rt, alloc, value)
+        }
+        Err(fail) => {
+            spend(value);
+            Err(fail)
+        }
+    }
+}
+
 #[test]
 fn values_are_copied(rt: HostRuntime) -> Result<(), Fail> {
     for line in 0..7 {
-        let value = value(rt.alloc(), line)?;
-        same(&rt, value.is_of(&field(rt.alloc(), line)?), true);
-        is_copied(&rt, rt.alloc(), &value)?;
+        is_value(&rt, rt.alloc(), value(rt.alloc(), line)?, line)?;
     }
     Ok(())
 }
@@ -218,16 +232,16 @@ fn vote(alloc: Global, line: usize) -> Result<Vote, Fail> {
 #[test]
 fn votes_are_copied(rt: HostRuntime) -> Result<(), Fail> {
     for line in 0..3 {
-        is_copied(&rt, rt.alloc(), &vote(rt.alloc(), line)?)?;
+        copies(&rt, rt.alloc(), vote(rt.alloc(), line)?)?;
     }
     Ok(())
 }
 
 #[test]
 fn answers_are_copied(rt: HostRuntime) -> Result<(), Fail> {
-    is_copied(&rt, rt.alloc(), &Asked::Wait { blocker: NO })?;
-    is_copied(&rt, rt.alloc(), &Asked::Granted { value: Some(true) })?;
-    is_copied(&rt, rt.alloc(), &LeaseKind::Exclusive)
+    copies(&rt, rt.alloc(), Asked::Wait { blocker: NO })?;
+    copies(&rt, rt.alloc(), Asked::Granted { value: Some(true) })?;
+    copies(&rt, rt.alloc(), LeaseKind::Exclusive)
 }
 
 fn path(alloc: Global) -> Result<PathAnswer, Fail> {
@@ -243,8 +257,8 @@ fn frozen(alloc: Global) -> Result<PathAnswer, Fail> {
 
 #[test]
 fn paths_are_copied(rt: HostRuntime) -> Result<(), Fail> {
-    is_copied(&rt, rt.alloc(), &path(rt.alloc())?)?;
-    is_copied(&rt, rt.alloc(), &frozen(rt.alloc())?)
+    copies(&rt, rt.alloc(), path(rt.alloc())?)?;
+    copies(&rt, rt.alloc(), frozen(rt.alloc())?)
 }
 
 /// The row of the lease with this count.
@@ -284,38 +298,84 @@ fn need(alloc: Global) -> Result<Need, Fail> {
 
 #[test]
 fn leases_are_copied(rt: HostRuntime) -> Result<(), Fail> {
-    is_copied(&rt, rt.alloc(), &row(field(rt.alloc(), 1)?, 7))?;
-    is_copied(&rt, rt.alloc(), &need(rt.alloc())?)?;
-    is_copied(&rt, rt.alloc(), &Need::Fresh(file(rt.alloc())?))?;
-    is_copied(&rt, rt.alloc(), &part(rt.alloc())?)
+    copies(&rt, rt.alloc(), row(field(rt.alloc(), 1)?, 7))?;
+    copies(&rt, rt.alloc(), need(rt.alloc())?)?;
+    copies(&rt, rt.alloc(), Need::Fresh(file(rt.alloc())?))?;
+    copies(&rt, rt.alloc(), part(rt.alloc())?)
+}
+
+/// A row on the field of this number is put into the table.
+fn put(alloc: Global, rows: &mut Vec<Row>, line: usize, count: u64) -> Result<(), Fail> {
+    table::put(rows, row(field(alloc, line)?, count))?;
+    Ok(())
 }
 
 /// Two rows on the fifth field, and one on the first.
-fn three_rows(alloc: Global) -> Result<Vec<Row>, Fail> {
-    let mut rows = Vec::new(alloc);
-    table::put(&mut rows, row(field(alloc, 4)?, 7))?;
-    table::put(&mut rows, row(field(alloc, 4)?, 3))?;
-    table::put(&mut rows, row(field(alloc, 0)?, 5))?;
-    Ok(rows)
+fn put_three(alloc: Global, rows: &mut Vec<Row>) -> Result<(), Fail> {
+    put(alloc, rows, 4, 7)?;
+    put(alloc, rows, 4, 3)?;
+    put(alloc, rows, 0, 5)
 }
 
 const ON: &str =
     "List { items: [(LeaseNo { server: 1, count: 3 }, Session(2)), (LeaseNo { server: 1, count: \
     7 }, Session(2))] }";
 
-#[test]
-fn rows_tell_whole_answers(rt: HostRuntime) -> Result<(), Fail> {
-    let rows = three_rows(rt.alloc())?;
-    let on = table::rows_on(rt.alloc(), &rows, &field(rt.alloc(), 4)?)?;
-    shows(&rt, rt.alloc(), &on, ON)?;
-    let borne = table::borne(rt.alloc(), &rows, &root(rt.alloc()))?;
-    shows(&rt, rt.alloc(), &borne, "List { items: [5, 5] }")
+/// The rows tell this of the fifth field.
+fn tells_rows(rt: &impl Abort, alloc: Global, rows: &[Row]) -> Result<(), Fail> {
+    let field = field(alloc, 4)?;
+    let on = table::rows_on(alloc, rows, &field);
+    spend(field);
+    reads(rt, alloc, on?, ON)
 }
 
-/// The value of the field after the effect of the first session.
-fn applied(alloc: Global, mut value: Value, field: &Field, e: &Effect) -> Result<Value, Fail> {
-    apply(alloc, &mut value, field, Session(1), e)?;
-    Ok(value)
+/// The rows tell this of the root.
+fn tells_borne(rt: &impl Abort, alloc: Global, rows: &[Row]) -> Result<(), Fail> {
+    let root = root(alloc);
+    let borne = table::borne(alloc, rows, &root);
+    spend(root);
+    reads(rt, alloc, borne?, "List { items: [5, 5] }")
+}
+
+fn tells_all(rt: &impl Abort, alloc: Global, rows: &mut Vec<Row>) -> Result<(), Fail> {
+    put_three(alloc, rows)?;
+    tells_rows(rt, alloc, rows)?;
+    tells_borne(rt, alloc, rows)
+}
+
+#[test]
+fn rows_tell_whole_answers(rt: HostRuntime) -> Result<(), Fail> {
+    let mut rows = Vec::new(rt.alloc());
+    let done = tells_all(&rt, rt.alloc(), &mut rows);
+    spend(rows);
+    done
+}
+
+/// The effect of the first session sets the value of the field to this.
+fn applies(
+    rt: &impl Abort,
+    alloc: Global,
+    value: &mut Value,
+    (e, field): (&Effect, &Field),
+    wanted: &str,
+) -> Result<(), Fail> {
+    apply(alloc, value, field, Session(1), e)?;
+    shows(rt, alloc, value, wanted)
+}
+
+fn applies_all(
+    rt: &impl Abort,
+    alloc: Global,
+    value: Value,
+    field: Field,
+    e: Effect,
+    wanted: &str,
+) -> Result<(), Fail> {
+    let mut value = value;
+    let done = applies(rt, alloc, &mut value, (&e, &field), wanted);
+    spend((value, field));
+    spend(e);
+    done
 }
 
 #[test]
@@ -323,25 +383,26 @@ fn size_and_stamp_are_set(rt: HostRuntime) -> Result<(), Fail> {
     let field = Field::Info(root(rt.alloc()));
     let e = set_info(rt.alloc());
     same(&rt, touches(&e, &field), true);
-    shows(
-        &rt,
-        rt.alloc(),
-        &applied(rt.alloc(), Value::Info(0, 0), &field, &e)?,
-        "Info(10, 5)",
-    )
+    applies_all(&rt, rt.alloc(), Value::Info(0, 0), field, e, "Info(10, 5)")
 }
 
 const ADDED: &str = "Names(List { items: [Name { bytes: [97, 32, 98] }, Name { bytes: [98] }] })";
 
+fn one_name(alloc: Global) -> Result<Value, Fail> {
+    Ok(Value::Names(single(alloc, Name::new(alloc, b"b")?)?))
+}
+
 #[test]
 fn a_name_is_added(rt: HostRuntime) -> Result<(), Fail> {
-    let field = Field::Names(root(rt.alloc()));
-    let value = Value::Names(single(rt.alloc(), Name::new(rt.alloc(), b"b")?)?);
     let e = set_child(rt.alloc())?;
-    shows(
-        &rt,
-        rt.alloc(),
-        &applied(rt.alloc(), value, &field, &e)?,
-        ADDED,
-    )
+    match one_name(rt.alloc()) {
+        Ok(value) => {
+            let field = Field::Names(root(rt.alloc()));
+            applies_all(&rt, rt.alloc(), value, field, e, ADDED)
+        }
+        Err(fail) => {
+            spend(e);
+            Err(fail)
+        }
+    }
 }

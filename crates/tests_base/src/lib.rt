@@ -1,6 +1,8 @@
 //! Tests of identifiers, names, maps, modes, fields, leases and the namespace.
 #![tactic(auto)]
 
+ghost use Rattle.std.specs.Prelude.{◌≡◌, IfOk};
+
 #[cfg(test)]
 mod field;
 #[cfg(test)]
@@ -15,11 +17,11 @@ mod model;
 mod modes;
 
 #[cfg(test)]
-use fs_ident::Twin;
+use fs_ident::{Memory, Twin};
 #[cfg(test)]
 use std::alloc::Global;
 #[cfg(test)]
-use std::fmt::Debug;
+use std::fmt::{Debug, Display};
 #[cfg(test)]
 use std::process::Abort;
 #[cfg(test)]
@@ -56,4 +58,62 @@ pub(crate) fn is_copied<T: Twin + Debug>(
     let done = shows(rt, alloc, &twin, wanted.as_str());
     twin.discard();
     done
+}
+
+/// The value is let go. A generic function does so at the cost of one proof for all types.
+#[cfg(test)]
+pub(crate) fn spend<T: Drop>(_x: T) {}
+
+/// So the value is written for programmers, which is let go.
+#[cfg(test)]
+pub(crate) fn reads<T: Debug + Drop>(
+    rt: &impl Abort,
+    alloc: Global,
+    x: T,
+    wanted: &str,
+) -> Result<(), Fail> {
+    shows(rt, alloc, &x, wanted)
+}
+
+/// So the value is written for users.
+#[cfg(test)]
+pub(crate) fn prints<T: Display>(
+    rt: &impl Abort,
+    alloc: Global,
+    x: &T,
+    wanted: &str,
+) -> Result<(), Fail> {
+    let text = format!(in alloc; "{x}")?;
+    assert_eq!(rt; text.as_str(), wanted);
+    Ok(())
+}
+
+/// A copy of the value, which is let go, reads as the value does.
+#[cfg(test)]
+pub(crate) fn copies<T: Twin + Debug + Drop>(
+    rt: &impl Abort,
+    alloc: Global,
+    x: T,
+) -> Result<(), Fail> {
+    is_copied(rt, alloc, &x)
+}
+
+/// So the value, which is let go, is written for users, and its copy is the same.
+#[cfg(test)]
+pub(crate) fn prints_and_copies<T: Twin + Debug + Display + Drop>(
+    rt: &impl Abort,
+    alloc: Global,
+    x: T,
+    wanted: &str,
+) -> Result<(), Fail> {
+    prints(rt, alloc, &x, wanted)?;
+    is_copied(rt, alloc, &x)
+}
+
+/// A copy of the value, which is let go.
+#[cfg(test)]
+pub(crate) fn copied<T: Twin + Drop>(alloc: Global, x: T) -> Result<T, Memory>
+    ensures { IfOk result (λ twin. twin ≡ x) }
+{
+    x.copy(alloc)
 }

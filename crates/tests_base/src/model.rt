@@ -2,19 +2,20 @@
 ghost use Rattle.std.specs.Prelude.{IfOk};
 ghost use Rattle.fs_model.specs.Namespace.{IsInOrder};
 
-use crate::{same, shows};
+use crate::{copied, reads, same, shows, spend};
 use fs_ident::{FileId, Kind, Memory, Name, Session, Twin};
-use fs_model::{Handle, Node, Op, Space};
+use fs_model::{Handle, Node, Op, Reply, Space};
 use fs_modes::Modes;
 use std::alloc::Global;
 use std::process::Abort;
 use std::test::Fail;
 
-/// The reply to a copy of the operation, as it prints.
-fn told(alloc: Global, space: &mut Space, op: Op) -> Result<String, Fail> {
-    let twin = op.copy(alloc)?;
-    let reply = space.step(alloc, Session(1), &twin)?.copy(alloc)?;
-    Ok(format!(in alloc; "{reply:?}")?)
+/// A copy of the reply to a copy of the operation.
+fn reply(alloc: Global, space: &mut Space, op: Op) -> Result<Reply, Memory> {
+    let twin = copied(alloc, op)?;
+    let reply = space.step(alloc, Session(1), &twin);
+    spend(twin);
+    copied(alloc, reply?)
 }
 
 fn create(alloc: Global) -> Result<Op, Fail> {
@@ -56,9 +57,7 @@ fn replies(
     op: Op,
     wanted: &str,
 ) -> Result<(), Fail> {
-    let reply = told(alloc, space, op)?;
-    same(rt, reply.as_str(), wanted);
-    Ok(())
+    reads(rt, alloc, reply(alloc, space, op)?, wanted)
 }
 
 const NAMES: &str = "Names(List { items: [Name { bytes: [97] }] })";
@@ -78,14 +77,22 @@ fn makes(rt: &impl Abort, alloc: Global, space: &mut Space) -> Result<(), Fail> 
 #[test]
 fn a_directory_is_made_and_found(rt: HostRuntime) -> Result<(), Fail> {
     let mut space = Space::new(rt.alloc())?;
-    makes(&rt, rt.alloc(), &mut space)
+    let done = makes(&rt, rt.alloc(), &mut space);
+    spend(space);
+    done
+}
+
+fn opens_once(rt: &impl Abort, alloc: Global, space: &mut Space) -> Result<(), Fail> {
+    replies(rt, alloc, space, open(alloc), "Opened")?;
+    replies(rt, alloc, space, open(alloc), "HandleUsed")
 }
 
 #[test]
 fn a_file_is_opened_once(rt: HostRuntime) -> Result<(), Fail> {
     let mut space = Space::new(rt.alloc())?;
-    replies(&rt, rt.alloc(), &mut space, open(rt.alloc()), "Opened")?;
-    replies(&rt, rt.alloc(), &mut space, open(rt.alloc()), "HandleUsed")
+    let done = opens_once(&rt, rt.alloc(), &mut space);
+    spend(space);
+    done
 }
 
 /// A node with one of each.
@@ -103,13 +110,25 @@ fn node(alloc: Global, id: &FileId, name: &Name) -> Result<Node, Memory>
     Ok(node)
 }
 
+/// A copy of the node is put into the space.
+fn put(alloc: Global, space: &mut Space, id: &FileId, node: &Node) -> Result<(), Memory>
+    requires { IsInOrder node.now }
+{
+    space.put(alloc, id, node.copy(alloc)?)
+}
+
 /// The copy of a space with that node alone.
 fn space_of(alloc: Global, id: &FileId, node: &Node) -> Result<Space, Memory>
     requires { IsInOrder node.now }
 {
     let mut space = Space::empty(alloc);
-    space.put(alloc, id, node.copy(alloc)?)?;
-    space.copy(alloc)
+    match put(alloc, &mut space, id, node) {
+        Ok(()) => copied(alloc, space),
+        Err(Memory) => {
+            spend(space);
+            Err(Memory)
+        }
+    }
 }
 
 /// The space has the node alone.
@@ -122,20 +141,45 @@ fn has(
 ) -> Result<(), Fail> {
     let wanted = format!(in alloc; "{:?}", Some(whole))?;
     shows(rt, alloc, &space.node(id), wanted.as_str())?;
-    shows(
+    reads(
         rt,
         alloc,
-        &space.files(alloc)?,
+        space.files(alloc)?,
         "List { items: [FileId { numbers: [7] }] }",
     )?;
     same(rt, space.len(), 1);
     Ok(())
 }
 
+/// The copy of the space with the node alone has it.
+fn is_put(rt: &impl Abort, alloc: Global, id: &FileId, whole: &Node) -> Result<(), Fail>
+    requires { IsInOrder whole.now }
+{
+    let space = space_of(alloc, id, whole)?;
+    let done = has(rt, alloc, &space, id, whole);
+    spend(space);
+    done
+}
+
+/// A node with a child of that identifier is put below it.
+fn puts(rt: &impl Abort, alloc: Global, id: &FileId, name: &Name) -> Result<(), Fail> {
+    let whole = node(alloc, id, name)?;
+    let done = is_put(rt, alloc, id, &whole);
+    spend(whole);
+    done
+}
+
+fn puts_seventh(rt: &impl Abort, alloc: Global, name: &Name) -> Result<(), Fail> {
+    let id = FileId::root(alloc).child(alloc, 7)?;
+    let done = puts(rt, alloc, &id, name);
+    spend(id);
+    done
+}
+
 #[test]
 fn a_node_is_put_and_copied_whole(rt: HostRuntime) -> Result<(), Fail> {
-    let id = FileId::root(rt.alloc()).child(rt.alloc(), 7)?;
-    let whole = node(rt.alloc(), &id, &Name::new(rt.alloc(), b"b")?)?;
-    let space = space_of(rt.alloc(), &id, &whole)?;
-    has(&rt, rt.alloc(), &space, &id, &whole)
+    let name = Name::new(rt.alloc(), b"b")?;
+    let done = puts_seventh(&rt, rt.alloc(), &name);
+    spend(name);
+    done
 }

@@ -1,6 +1,8 @@
 //! Tests of messages, schedules and reports.
 #![tactic(auto)]
 
+ghost use Rattle.std.specs.Prelude.{◌≡◌, IfOk};
+
 #[cfg(test)]
 mod msg;
 #[cfg(test)]
@@ -10,6 +12,8 @@ mod schedule;
 #[cfg(test)]
 mod wire;
 
+#[cfg(test)]
+use fs_ident::{Memory, Twin};
 #[cfg(test)]
 use std::alloc::Global;
 #[cfg(test)]
@@ -36,4 +40,41 @@ pub(crate) fn shows<T: Debug>(
     let text = format!(in alloc; "{x:?}")?;
     assert_eq!(rt; text.as_str(), wanted);
     Ok(())
+}
+
+/// The value is let go. A generic function does so at the cost of one proof for all types.
+#[cfg(test)]
+pub(crate) fn spend<T: Drop>(_x: T) {}
+
+/// The value, which is let go where the other is wanting, with the other.
+#[cfg(test)]
+pub(crate) fn with<A: Drop, B, E>(a: A, b: Result<B, E>) -> Result<(A, B), E>
+    ensures { IfOk result (λ both. both.0 ≡ a) }
+{
+    Ok((a, b?))
+}
+
+/// Why there is no value, if there is none.
+#[cfg(test)]
+pub(crate) fn err_of<T: Drop, E: Drop>(found: Result<T, E>) -> Option<E> {
+    found.err()
+}
+
+/// So the value is written for programmers, which is let go.
+#[cfg(test)]
+pub(crate) fn reads<T: Debug + Drop>(
+    rt: &impl Abort,
+    alloc: Global,
+    x: T,
+    wanted: &str,
+) -> Result<(), Fail> {
+    shows(rt, alloc, &x, wanted)
+}
+
+/// A copy of the value, which is let go.
+#[cfg(test)]
+pub(crate) fn copied<T: Twin + Drop>(alloc: Global, x: T) -> Result<T, Memory>
+    ensures { IfOk result (λ twin. twin ≡ x) }
+{
+    x.copy(alloc)
 }

@@ -3,8 +3,8 @@ mod faults;
 mod messages;
 mod parcels;
 
-use crate::shows;
-use fs_ident::{FileId, Peer, Session, Twin};
+use crate::{copied, err_of, reads};
+use fs_ident::{FileId, Peer, Session};
 use fs_model::{Op, Reply};
 use fs_msg::{Item, MsgError, Note, read_whole};
 use std::alloc::Global;
@@ -12,7 +12,7 @@ use std::test::Fail;
 
 /// Why the bytes are no message, if they are none.
 pub(crate) fn fault_of(alloc: Global, bytes: &[u8]) -> Option<MsgError> {
-    read_whole(alloc, bytes).err()
+    err_of(read_whole(alloc, bytes))
 }
 
 fn item(alloc: Global) -> Item {
@@ -32,7 +32,7 @@ const ITEM: &str =
 
 #[test]
 fn an_item_is_copied(rt: HostRuntime) -> Result<(), Fail> {
-    shows(&rt, rt.alloc(), &item(rt.alloc()).copy(rt.alloc())?, ITEM)
+    reads(&rt, rt.alloc(), copied(rt.alloc(), item(rt.alloc()))?, ITEM)
 }
 
 #[test]
@@ -41,10 +41,10 @@ fn a_note_is_copied(rt: HostRuntime) -> Result<(), Fail> {
         n: 2,
         reply: Reply::IsDir,
     };
-    shows(
+    reads(
         &rt,
         rt.alloc(),
-        &note.copy(rt.alloc())?,
+        copied(rt.alloc(), note)?,
         "Answered { n: 2, reply: IsDir }",
     )
 }

@@ -1,6 +1,6 @@
 mod notes;
 
-use crate::same;
+use crate::{same, spend, with};
 use fs_ident::{FileId, IdError, Kind, List, Memory, Name, Peer, Session};
 use fs_model::{Handle, Node, Op, Reply, Space};
 use fs_modes::Modes;
@@ -30,9 +30,14 @@ fn modes(acc: u8, deny: u8) -> Modes {
 /// A list of two names.
 fn names(alloc: Global) -> Result<List<Name>, Fail> {
     let mut names = List::new(alloc);
+    let done = add_names(alloc, &mut names);
+    Ok(with(names, done)?.0)
+}
+
+fn add_names(alloc: Global, names: &mut List<Name>) -> Result<(), Fail> {
     names.push(name(alloc, b"a")?)?;
     names.push(name(alloc, b"b c")?)?;
-    Ok(names)
+    Ok(())
 }
 
 /// The reply of this number: those that hold something, then those that do not.
@@ -120,16 +125,21 @@ fn line_of(alloc: Global, item: &Item) -> Result<Vec<u8>, Fail> {
     Ok(out)
 }
 
+/// The same of the first session's operation of this number.
+fn line_of_item(alloc: Global, n: u64, op: Op, reply: Reply) -> Result<Vec<u8>, Fail> {
+    let by = Peer::Client(Session(1));
+    let item = Item { by, n, op, reply };
+    let line = line_of(alloc, &item);
+    spend(item);
+    line
+}
+
 /// The reply of this number is so written.
 fn writes_reply(rt: &impl Abort, alloc: Global, k: u64, text: &[u8]) -> Result<(), Fail> {
-    let item = Item {
-        by: Peer::Client(Session(1)),
-        n: 1,
-        op: op(alloc, 6)?,
-        reply: reply(alloc, k)?,
-    };
-    let wanted = line(alloc, b"j0\nj1 c1 1 kind /1 ", text)?;
-    same(rt, line_of(alloc, &item)?.as_slice(), wanted.as_slice());
+    let (op, reply) = with(op(alloc, 6)?, reply(alloc, k))?;
+    let found = line_of_item(alloc, 1, op, reply)?;
+    let (found, wanted) = with(found, line(alloc, b"j0\nj1 c1 1 kind /1 ", text))?;
+    same(rt, found.as_slice(), wanted.as_slice());
     Ok(())
 }
 
@@ -153,6 +163,11 @@ fn who(k: u64) -> Option<Peer> {
 /// What is noted.
 fn noted(alloc: Global, k: u64) -> Result<List<Note>, Memory> {
     let mut notes = List::new(alloc);
+    let done = add_notes(&mut notes, k);
+    Ok(with(notes, done)?.0)
+}
+
+fn add_notes(notes: &mut List<Note>, k: u64) -> Result<(), Memory> {
     if k == 1 || k == 9 {
         notes.push(Note::Joined)?;
     }
@@ -163,7 +178,7 @@ fn noted(alloc: Global, k: u64) -> Result<List<Note>, Memory> {
     if k > 2 {
         notes.push(Note::Nothing)?;
     }
-    Ok(notes)
+    Ok(())
 }
 
 /// What is sent.
@@ -177,10 +192,11 @@ fn sent(alloc: Global, k: u64) -> Result<List<u64>, Memory> {
 }
 
 fn outcome(alloc: Global, k: u64) -> Result<Outcome, Memory> {
+    let (sent, notes) = with(sent(alloc, k)?, noted(alloc, k))?;
     Ok(Outcome {
         who: who(k),
-        notes: noted(alloc, k)?,
-        sent: sent(alloc, k)?,
+        notes,
+        sent,
     })
 }
 
@@ -191,11 +207,35 @@ const OUTCOMES: [(u64, &[u8]); 4] = [
     (10, b"e0\ne10 - nothing\n"),
 ];
 
+/// The line of an outcome, which is let go, behind what was there.
+pub(crate) fn line_of_outcome(
+    alloc: Global,
+    there: &[u8],
+    k: u64,
+    outcome: Outcome,
+) -> Result<Vec<u8>, Fail> {
+    let mut out = Vec::new(alloc);
+    let done = add_outcome(alloc, there, k, &outcome, &mut out);
+    spend(outcome);
+    Ok(with(out, done)?.0)
+}
+
+fn add_outcome(
+    alloc: Global,
+    there: &[u8],
+    k: u64,
+    outcome: &Outcome,
+    out: &mut Vec<u8>,
+) -> Result<(), Fail> {
+    out.extend_from_slice(there)?;
+    outcome_line(alloc, k, outcome, out)?;
+    Ok(())
+}
+
 /// The outcome of this number is so written, behind what was there.
 fn writes_outcome(rt: &impl Abort, alloc: Global, k: u64, text: &[u8]) -> Result<(), Fail> {
-    let mut out = Vec::from_slice(alloc, b"e0\n")?;
-    outcome_line(alloc, k, &outcome(alloc, k)?, &mut out)?;
-    same(rt, out.as_slice(), text);
+    let line = line_of_outcome(alloc, b"e0\n", k, outcome(alloc, k)?)?;
+    same(rt, line.as_slice(), text);
     Ok(())
 }
 
@@ -209,16 +249,21 @@ fn writes_outcomes(rt: HostRuntime) -> Result<(), Fail> {
 
 /// The operation that the line of this number tells.
 fn op(alloc: Global, k: u64) -> Result<Op, IdError> {
-    let file = id(alloc, b"/1")?;
     match k {
-        5 => Ok(Op::List { dir: file }),
-        6 => Ok(Op::Kind { file }),
-        7 => Ok(Op::Info { file }),
-        8 | 9 => Ok(open(file, k)),
-        10 => Ok(Op::Close { file, h: 1 }),
-        11 => Ok(set(file)),
-        12 => Ok(reap(file)),
+        5..=12 => Ok(op_on_file(id(alloc, b"/1")?, k)),
         _ => op_on_name(alloc, k),
+    }
+}
+
+fn op_on_file(file: FileId, k: u64) -> Op {
+    match k {
+        5 => Op::List { dir: file },
+        6 => Op::Kind { file },
+        7 => Op::Info { file },
+        8 | 9 => open(file, k),
+        10 => Op::Close { file, h: 1 },
+        11 => set(file),
+        _ => reap(file),
     }
 }
 
@@ -255,15 +300,24 @@ fn reap(file: FileId) -> Op {
 
 /// The same where it has a name.
 fn op_on_name(alloc: Global, k: u64) -> Result<Op, IdError> {
-    let dir = id(alloc, b"/")?;
-    let name = name(alloc, b"a")?;
+    let (dir, name) = place(alloc, b"/", b"a")?;
     match k {
-        1 => Ok(create(dir, name, Kind::Dir, Some(id(alloc, b"/1")?))),
+        1 => create_numbered(alloc, dir, name),
         2 => Ok(Op::Lookup { dir, name }),
         13 => Ok(Op::Delete { dir, name }),
         3 => Ok(create(dir, name, Kind::File, None)),
         _ => rename(alloc, dir, name),
     }
+}
+
+/// A directory, and a name in it.
+fn place(alloc: Global, dir: &[u8], as_name: &[u8]) -> Result<(FileId, Name), IdError> {
+    with(id(alloc, dir)?, name(alloc, as_name))
+}
+
+fn create_numbered(alloc: Global, dir: FileId, name: Name) -> Result<Op, IdError> {
+    let ((dir, name), id) = with((dir, name), id(alloc, b"/1"))?;
+    Ok(create(dir, name, Kind::Dir, Some(id)))
 }
 
 fn create(dir: FileId, name: Name, kind: Kind, id: Option<FileId>) -> Op {
@@ -276,11 +330,12 @@ fn create(dir: FileId, name: Name, kind: Kind, id: Option<FileId>) -> Op {
 }
 
 fn rename(alloc: Global, sdir: FileId, sname: Name) -> Result<Op, IdError> {
+    let ((sdir, sname), (ddir, dname)) = with((sdir, sname), place(alloc, b"/1/1", b"c"))?;
     Ok(Op::Rename {
         sdir,
         sname,
-        ddir: id(alloc, b"/1/1")?,
-        dname: name(alloc, b"c")?,
+        ddir,
+        dname,
     })
 }
 
@@ -302,13 +357,8 @@ const ITEMS: [(u64, &[u8]); 13] = [
 
 /// The item of this number is so written, behind what was there.
 fn writes_item(rt: &impl Abort, alloc: Global, k: u64, text: &[u8]) -> Result<(), Fail> {
-    let item = Item {
-        by: Peer::Client(Session(1)),
-        n: k,
-        op: op(alloc, k)?,
-        reply: Reply::Exists,
-    };
-    same(rt, line_of(alloc, &item)?.as_slice(), text);
+    let line = line_of_item(alloc, k, op(alloc, k)?, Reply::Exists)?;
+    same(rt, line.as_slice(), text);
     Ok(())
 }
 
@@ -337,13 +387,14 @@ fn handles(alloc: Global, kind: Kind) -> Result<List<Handle>, Fail> {
 
 /// A file in a directory, with its handles.
 fn node(alloc: Global, kind: Kind, dir: &[u8], as_name: &[u8]) -> Result<Node, Fail> {
+    let (parent, handles) = with(place(alloc, dir, as_name)?, handles(alloc, kind))?;
     Ok(Node {
         kind,
-        parent: Some((id(alloc, dir)?, name(alloc, as_name)?)),
+        parent: Some(parent),
         children: List::new(alloc),
         size: 10,
         stamp: 5,
-        handles: handles(alloc, kind)?,
+        handles,
     })
 }
 
@@ -357,13 +408,19 @@ fn writes_space(rt: &impl Abort, alloc: Global, space: &Space, wanted: &[u8]) ->
 
 /// The space that has this node alone is so written.
 fn writes_node(rt: &impl Abort, alloc: Global, node: Node, wanted: &[u8]) -> Result<(), Fail> {
+    let (node, id) = with(node, id(alloc, b"/1"))?;
     let record = Record { node, next: 1 };
     if !record.is_in_order() {
+        spend((record, id));
         return Err(Fail::from("no node of a space"));
     }
     let mut space = Space::empty(alloc);
-    space.put(alloc, &id(alloc, b"/1")?, record.node)?;
-    writes_space(rt, alloc, &space, wanted)
+    let done = space.put(alloc, &id, record.node);
+    spend(id);
+    let (space, ()) = with(space, done)?;
+    let written = writes_space(rt, alloc, &space, wanted);
+    spend(space);
+    written
 }
 
 const DIRECTORY: &[u8] = b"n /1 dir 10 5 in /1/1 \"c\"\n";
@@ -395,12 +452,27 @@ const OPENED: &[u8] = b"n / dir 0 0\nn /1 dir 0 0 in / \"a\"\nh /1 c1 1 R WD\n";
 /// The space after the first and the eighth operation.
 fn stepped(alloc: Global) -> Result<Space, Fail> {
     let mut space = Space::new(alloc)?;
-    space.step(alloc, Session(1), &op(alloc, 1)?)?;
-    space.step(alloc, Session(1), &op(alloc, 8)?)?;
-    Ok(space)
+    let done = step_twice(alloc, &mut space);
+    Ok(with(space, done)?.0)
+}
+
+fn step_twice(alloc: Global, space: &mut Space) -> Result<(), Fail> {
+    step(alloc, space, 1)?;
+    step(alloc, space, 8)
+}
+
+fn step(alloc: Global, space: &mut Space, k: u64) -> Result<(), Fail> {
+    let op = op(alloc, k)?;
+    let reply = space.step(alloc, Session(1), &op);
+    spend(op);
+    spend(reply?);
+    Ok(())
 }
 
 #[test]
 fn writes_spaces(rt: HostRuntime) -> Result<(), Fail> {
-    writes_space(&rt, rt.alloc(), &stepped(rt.alloc())?, OPENED)
+    let space = stepped(rt.alloc())?;
+    let written = writes_space(&rt, rt.alloc(), &space, OPENED);
+    spend(space);
+    written
 }

@@ -1,8 +1,9 @@
 //! Schedules that are read, and texts that are refused.
-use crate::{same, shows};
+use crate::{err_of, reads, same, shows, spend};
 use fs_ident::Twin;
 use fs_schedule::{ScheduleError, read_schedule};
 use std::alloc::Global;
+use std::fmt::Debug;
 use std::process::Abort;
 use std::test::Fail;
 
@@ -80,9 +81,18 @@ const FIFTEEN_SHOWN: &str =
 
 /// The text is read as this, and a copy is the same.
 fn is_read(rt: &impl Abort, alloc: Global, text: &str, wanted: &str) -> Result<(), Fail> {
-    let schedule = read_schedule(alloc, text.as_bytes())?;
-    shows(rt, alloc, &schedule, wanted)?;
-    shows(rt, alloc, &schedule.copy(alloc)?, wanted)
+    shows_with_copy(rt, alloc, read_schedule(alloc, text.as_bytes())?, wanted)
+}
+
+/// So the value, which is let go, is written, and its copy too.
+fn shows_with_copy<T: Twin + Debug + Drop>(
+    rt: &impl Abort,
+    alloc: Global,
+    x: T,
+    wanted: &str,
+) -> Result<(), Fail> {
+    shows(rt, alloc, &x, wanted)?;
+    reads(rt, alloc, x.copy(alloc)?, wanted)
 }
 
 #[test]
@@ -212,11 +222,11 @@ const SERVED_REFUSED: [(&str, &str); 38] = [
 
 /// What comes of a text: `read`, a line, the limit that it passes and its line, or what else is wrong.
 fn told_of(alloc: Global, text: &[u8]) -> Result<String, Fail> {
-    match read_schedule(alloc, text) {
-        Ok(_) => Ok(format!(in alloc; "read")?),
-        Err(ScheduleError::BadLine { line }) => Ok(format!(in alloc; "{line}")?),
-        Err(ScheduleError::Limit { which, at }) => Ok(format!(in alloc; "{which} {at}")?),
-        Err(other) => Ok(format!(in alloc; "{other}")?),
+    match err_of(read_schedule(alloc, text)) {
+        None => Ok(format!(in alloc; "read")?),
+        Some(ScheduleError::BadLine { line }) => Ok(format!(in alloc; "{line}")?),
+        Some(ScheduleError::Limit { which, at }) => Ok(format!(in alloc; "{which} {at}")?),
+        Some(other) => Ok(format!(in alloc; "{other}")?),
     }
 }
 
@@ -256,9 +266,11 @@ fn repeated(alloc: Global, piece: &[u8], times: usize) -> Result<Vec<u8>, Fail> 
 /// Why the schedule whose one line has so many bytes is refused.
 fn is_refused(rt: &impl Abort, alloc: Global, length: usize, wanted: &str) -> Result<(), Fail> {
     let text = repeated(alloc, b"x", length)?;
-    match read_schedule(alloc, &text) {
-        Ok(_) => Err(Fail::from("it is read")),
-        Err(why) => is_written(rt, alloc, why, wanted),
+    let found = err_of(read_schedule(alloc, &text));
+    spend(text);
+    match found {
+        None => Err(Fail::from("it is read")),
+        Some(why) => is_written(rt, alloc, why, wanted),
     }
 }
 
@@ -281,8 +293,15 @@ fn lines_have_a_length(rt: HostRuntime) -> Result<(), Fail> {
 
 /// How many events so many lines are; none where they are refused.
 fn events(alloc: Global, lines: usize) -> Result<usize, Fail> {
-    match read_schedule(alloc, &repeated(alloc, b"0 join c1\n", lines)?) {
-        Ok(schedule) => Ok(schedule.events.len()),
+    let text = repeated(alloc, b"0 join c1\n", lines)?;
+    let found = read_schedule(alloc, &text);
+    spend(text);
+    match found {
+        Ok(schedule) => {
+            let count = schedule.events.len();
+            spend(schedule);
+            Ok(count)
+        }
         Err(_) => Ok(0),
     }
 }

@@ -1,20 +1,32 @@
 //! The bytes of messages, worked out from the table of bytes: each message with nothing in it and with something.
 use crate::msg::fault_of;
-use crate::same;
-use fs_ident::{Memory, Twin};
-use fs_msg::{MsgError, read, read_whole, write};
+use crate::{copied, same, spend};
+use fs_ident::Memory;
+use fs_msg::{Msg, MsgError, read, read_whole, write};
 use std::alloc::Global;
 use std::test::Fail;
 
 /// Whether all of the bytes are read as a message whose twin is written as these bytes again.
 pub(crate) fn is_spelled_again(alloc: Global, bytes: &[u8]) -> Result<bool, Memory> {
-    let Ok(message) = read_whole(alloc, bytes) else {
-        return Ok(false);
-    };
-    let twin = message.copy(alloc)?;
+    match read_whole(alloc, bytes) {
+        Ok(message) => is_twin_spelled(alloc, message, bytes),
+        Err(_) => Ok(false),
+    }
+}
+
+/// Whether the twin of the message, which is let go, is written as these bytes.
+fn is_twin_spelled(alloc: Global, message: Msg, bytes: &[u8]) -> Result<bool, Memory> {
+    let twin = copied(alloc, message)?;
+    let spelled = spelled(alloc, &twin);
+    spend(twin);
+    Ok(spelled?.as_slice() == bytes)
+}
+
+/// The bytes of the message.
+fn spelled(alloc: Global, message: &Msg) -> Result<Vec<u8>, Memory> {
     let mut out = Vec::new(alloc);
-    write(alloc, &twin, &mut out)?;
-    Ok(out.as_slice() == bytes)
+    write(alloc, message, &mut out)?;
+    Ok(out)
 }
 
 /// Whether each row is.
@@ -47,9 +59,14 @@ fn an_ask_for_the_life_of_the_root(rt: HostRuntime) -> Result<(), Fail> {
 
 #[test]
 fn the_beginning_is_read(rt: HostRuntime) -> Result<(), Fail> {
-    let (_, len) = read(rt.alloc(), &MORE).ok().ok_or("its beginning is read")?;
-    same(&rt, len, 13);
-    Ok(())
+    match read(rt.alloc(), &MORE) {
+        Ok((message, len)) => {
+            spend(message);
+            same(&rt, len, 13);
+            Ok(())
+        }
+        Err(_) => Err(Fail::from("its beginning is read")),
+    }
 }
 
 const OF_CLIENTS: [&[u8]; 7] = [

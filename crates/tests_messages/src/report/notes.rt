@@ -1,11 +1,10 @@
-use crate::report::{id, line, name};
-use crate::same;
+use crate::report::{id, line, line_of_outcome, name};
+use crate::{same, with};
 use fs_field::{Field, LeaseKind, Need};
 use fs_ident::{LeaseNo, List, PathNo, Peer, Session, TxnNo};
 use fs_model::Reply;
 use fs_modes::Mode;
 use fs_msg::{Act, Busy, ClientNote, End, Note, Refusal, ServerNote};
-use fs_report::outcome_line;
 use fs_schedule::Outcome;
 use std::alloc::Global;
 use std::process::Abort;
@@ -102,8 +101,8 @@ fn gaps(alloc: Global, k: u64) -> Result<List<u64>, Fail> {
     Ok(gaps)
 }
 
-fn server_note(alloc: Global, k: u64) -> Result<ServerNote, Fail> {
-    let end = end(alloc, k)?;
+/// A note of a server that has an end.
+fn server_note_with(alloc: Global, k: u64, end: End) -> Result<ServerNote, Fail> {
     match k {
         0 => Ok(ServerNote::Grants { count: 3, end }),
         1 => Ok(ServerNote::Grants { count: 1, end }),
@@ -111,11 +110,19 @@ fn server_note(alloc: Global, k: u64) -> Result<ServerNote, Fail> {
         4 => Ok(ServerNote::Grants { count: 2, end }),
         5 => Ok(ServerNote::Renews { count: 2, end }),
         6 => Ok(ServerNote::Frees { count: 1, end }),
-        7 | 8 => Ok(ServerNote::Admits {
-            count: 8_u64.saturating_sub(k),
-            end,
-            gaps: gaps(alloc, k)?,
-        }),
+        _ => admits(alloc, k, end),
+    }
+}
+
+fn admits(alloc: Global, k: u64, end: End) -> Result<ServerNote, Fail> {
+    let (end, gaps) = with(end, gaps(alloc, k))?;
+    let count = 8_u64.saturating_sub(k);
+    Ok(ServerNote::Admits { count, end, gaps })
+}
+
+fn server_note(alloc: Global, k: u64) -> Result<ServerNote, Fail> {
+    match k {
+        0..=8 => server_note_with(alloc, k, end(alloc, k)?),
         9 => Ok(ServerNote::Reaps { count: 2 }),
         10 => Ok(ServerNote::Recalls { count: 1 }),
         11 => Ok(ServerNote::Idle),
@@ -162,17 +169,23 @@ fn note_of_a_move(alloc: Global, k: u64) -> Result<ServerNote, Fail> {
     }
 }
 
+/// A note of a client that has an end.
+fn client_note_with(k: u64, end: End) -> ClientNote {
+    match k {
+        17 => ClientNote::Granted { count: 1, end },
+        18 => ClientNote::Renewed { count: 2, end },
+        19 => ClientNote::Released { count: 1, end },
+        _ => ClientNote::Shipped { count: 0, end },
+    }
+}
+
 fn client_note(alloc: Global, k: u64) -> Result<ClientNote, Fail> {
-    let end = end(alloc, k)?;
     match k {
         13 => Ok(ClientNote::Ships { count: 1, to: 0 }),
         14 => Ok(ClientNote::Releases { count: 1, to: 0 }),
         15 => Ok(ClientNote::Renews { count: 2, to: 0 }),
         16 => Ok(ClientNote::Idle),
-        17 => Ok(ClientNote::Granted { count: 1, end }),
-        18 => Ok(ClientNote::Renewed { count: 2, end }),
-        19 => Ok(ClientNote::Released { count: 1, end }),
-        20 => Ok(ClientNote::Shipped { count: 0, end }),
+        17..=20 => Ok(client_note_with(k, end(alloc, k)?)),
         21 => Ok(ClientNote::Recall {
             no: LeaseNo {
                 server: 0,
@@ -186,21 +199,35 @@ fn client_note(alloc: Global, k: u64) -> Result<ClientNote, Fail> {
 /// What the create of a name in the root needs.
 fn needs_of_a_create(alloc: Global) -> Result<List<Need>, Fail> {
     let mut needs = List::new(alloc);
+    let done = add_needs_of_a_create(alloc, &mut needs);
+    Ok(with(needs, done)?.0)
+}
+
+fn add_needs_of_a_create(alloc: Global, needs: &mut List<Need>) -> Result<(), Fail> {
     needs.push(Need::Lease(Field::Life(id(alloc, b"/")?), LeaseKind::Shared))?;
-    let child = Field::Child(id(alloc, b"/")?, name(alloc, b"a")?);
-    needs.push(Need::Lease(child, LeaseKind::Exclusive))?;
+    needs.push(Need::Lease(child(alloc)?, LeaseKind::Exclusive))?;
     needs.push(Need::Fresh(id(alloc, b"/")?))?;
-    Ok(needs)
+    Ok(())
+}
+
+fn child(alloc: Global) -> Result<Field, Fail> {
+    let (dir, name) = with(id(alloc, b"/")?, name(alloc, b"a"))?;
+    Ok(Field::Child(dir, name))
 }
 
 /// What a rename needs of the file that it moves.
 fn needs_of_a_rename(alloc: Global) -> Result<List<Need>, Fail> {
     let mut needs = List::new(alloc);
+    let done = add_needs_of_a_rename(alloc, &mut needs);
+    Ok(with(needs, done)?.0)
+}
+
+fn add_needs_of_a_rename(alloc: Global, needs: &mut List<Need>) -> Result<(), Fail> {
     let own = Field::Own(id(alloc, b"/1")?);
     needs.push(Need::Lease(own, LeaseKind::Exclusive))?;
     let other = Field::Other(id(alloc, b"/1")?, Mode::DenyD);
     needs.push(Need::Lease(other, LeaseKind::Shared))?;
-    Ok(needs)
+    Ok(())
 }
 
 fn act(alloc: Global, k: u64) -> Result<Act, Fail> {
@@ -245,10 +272,16 @@ fn note(alloc: Global, k: u64) -> Result<Note, Fail> {
     }
 }
 
+fn add_note(alloc: Global, notes: &mut List<Note>, k: u64) -> Result<(), Fail> {
+    notes.push(note(alloc, k)?)?;
+    Ok(())
+}
+
 /// The note of this number, and nothing that is sent.
 fn outcome(alloc: Global, k: u64) -> Result<Outcome, Fail> {
     let mut notes = List::new(alloc);
-    notes.push(note(alloc, k)?)?;
+    let done = add_note(alloc, &mut notes, k);
+    let (notes, ()) = with(notes, done)?;
     Ok(Outcome {
         who: Some(Peer::Client(Session(1))),
         notes,
@@ -258,10 +291,9 @@ fn outcome(alloc: Global, k: u64) -> Result<Outcome, Fail> {
 
 /// The note of this number is so written.
 fn writes_note(rt: &impl Abort, alloc: Global, k: u64, text: &[u8]) -> Result<(), Fail> {
-    let mut out = Vec::new(alloc);
-    outcome_line(alloc, 1, &outcome(alloc, k)?, &mut out)?;
-    let wanted = line(alloc, b"e1 c1 ", text)?;
-    same(rt, out.as_slice(), wanted.as_slice());
+    let found = line_of_outcome(alloc, b"", 1, outcome(alloc, k)?)?;
+    let (found, wanted) = with(found, line(alloc, b"e1 c1 ", text))?;
+    same(rt, found.as_slice(), wanted.as_slice());
     Ok(())
 }
 
