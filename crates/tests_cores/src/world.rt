@@ -1,7 +1,7 @@
 //! Worlds of both forms, from their schedules.
 ghost use Rattle.std.specs.Prelude.{◌≡◌};
 ghost use Rattle.std.specs.List.{AllByRecursion};
-ghost use Rattle.fs_schedule.specs.Spelling.{FitsEvent};
+ghost use Rattle.fs_schedule.specs.Spelling.{FitsEvent, FitsHead};
 ghost use Rattle.fs_world.specs.World.{first_world};
 
 use crate::forms::{same, spend};
@@ -34,7 +34,8 @@ fn counts(alloc: Global, text: &[u8]) -> Result<Counts, Fail> {
 }
 
 fn counts_of(alloc: Global, schedule: &Schedule) -> Result<Counts, Fail>
-    requires { AllByRecursion (FitsEvent schedule.now.head) schedule.now.events }
+    requires head { FitsHead schedule.now.head }
+    requires fits { AllByRecursion (FitsEvent schedule.now.head) schedule.now.events }
 {
     let mut world = World::new(alloc, &schedule.head)?;
     let counts = counts_after(alloc, &mut world, schedule);
