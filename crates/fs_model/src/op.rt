@@ -1,5 +1,5 @@
 //! What is asked of the namespace.
-ghost use Rattle.std.specs.Prelude.{◌≡◌};
+ghost use Rattle.std.specs.Prelude.{◌≡◌, IfOk};
 
 use fs_ident::{FileId, Kind, Memory, Name, Session, Twin};
 use fs_modes::Modes;
@@ -79,10 +79,10 @@ impl Op {
 impl Twin for Op {
     fn copy(&self, alloc: Global) -> Result<Op, Memory> {
         match self {
-            Op::Lookup { dir, name } => Ok(Op::Lookup {
-                dir: dir.copy(alloc)?,
-                name: name.copy(alloc)?,
-            }),
+            Op::Lookup { dir, name } => {
+                let (dir, name) = place(alloc, dir, name)?;
+                Ok(Op::Lookup { dir, name })
+            }
             Op::List { dir } => Ok(Op::List {
                 dir: dir.copy(alloc)?,
             }),
@@ -97,12 +97,16 @@ impl Twin for Op {
                 name,
                 kind,
                 id,
-            } => Ok(Op::Create {
-                dir: dir.copy(alloc)?,
-                name: name.copy(alloc)?,
-                kind: *kind,
-                id: id.copy(alloc)?,
-            }),
+            } => {
+                let id = id.copy(alloc)?;
+                let (dir, name) = place(alloc, dir, name)?;
+                Ok(Op::Create {
+                    dir,
+                    name,
+                    kind: *kind,
+                    id,
+                })
+            }
             Op::OpenFile { file, h, modes } => Ok(Op::OpenFile {
                 file: file.copy(alloc)?,
                 h: *h,
@@ -123,21 +127,25 @@ impl Twin for Op {
                 size: *size,
                 stamp: *stamp,
             }),
-            Op::Delete { dir, name } => Ok(Op::Delete {
-                dir: dir.copy(alloc)?,
-                name: name.copy(alloc)?,
-            }),
+            Op::Delete { dir, name } => {
+                let (dir, name) = place(alloc, dir, name)?;
+                Ok(Op::Delete { dir, name })
+            }
             Op::Rename {
                 sdir,
                 sname,
                 ddir,
                 dname,
-            } => Ok(Op::Rename {
-                sdir: sdir.copy(alloc)?,
-                sname: sname.copy(alloc)?,
-                ddir: ddir.copy(alloc)?,
-                dname: dname.copy(alloc)?,
-            }),
+            } => {
+                let (sdir, sname) = place(alloc, sdir, sname)?;
+                let (ddir, dname) = place(alloc, ddir, dname)?;
+                Ok(Op::Rename {
+                    sdir,
+                    sname,
+                    ddir,
+                    dname,
+                })
+            }
             Op::Reap { file, session } => Ok(Op::Reap {
                 file: file.copy(alloc)?,
                 session: *session,
@@ -146,4 +154,12 @@ impl Twin for Op {
     }
 
     fn discard(self) {}
+}
+
+/// Copies of both.
+fn place(alloc: Global, dir: &FileId, name: &Name) -> Result<(FileId, Name), Memory>
+    ensures { IfOk result (λ both. both ≡ (dir.now, name.now)) }
+{
+    let dir = dir.copy(alloc)?;
+    Ok((dir, name.copy(alloc)?))
 }
