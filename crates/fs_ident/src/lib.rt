@@ -13,6 +13,7 @@ mod maps;
 mod memory;
 mod name;
 mod ordered;
+mod place;
 mod texts;
 mod twin;
 
@@ -27,4 +28,5 @@ pub use maps::copy_map;
 pub use memory::Memory;
 pub use name::{Name, first_bad, is_dots};
 pub use ordered::search_by_name;
+pub use place::copy_place;
 pub use twin::Twin;

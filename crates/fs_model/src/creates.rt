@@ -10,7 +10,7 @@ use crate::children::find;
 use crate::lookups::node_at;
 use crate::node::Node;
 use crate::reply::Reply;
-use fs_ident::{FileId, Kind, Memory, Name, Twin};
+use fs_ident::{FileId, Kind, Memory, Name, Twin, copy_place};
 use std::alloc::Global;
 use std::collections::BTreeMap;
 
@@ -74,9 +74,8 @@ fn make(
     ensures err { OnErr result (map_of nodes.new ≡ map_of nodes.old) }
 {
     let key = id.copy(alloc)?;
-    let child = id.copy(alloc)?;
-    let child_name = name.copy(alloc)?;
-    let parent = Some((dir.copy(alloc)?, name.copy(alloc)?));
+    let (child, child_name) = copy_place(alloc, id, name)?;
+    let parent = Some(copy_place(alloc, dir, name)?);
     changes::add(nodes, key, Node::new(alloc, kind, parent))?;
     match changes::link(nodes, dir, child_name, child) {
         Ok(()) => Ok(()),
