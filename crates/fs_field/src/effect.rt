@@ -1,7 +1,7 @@
 //! What an admitted operation does to fields.
 ghost use Rattle.std.specs.Prelude.{◌≡◌};
 
-use fs_ident::{FileId, Kind, Memory, Name, Session, Twin, copy_place};
+use fs_ident::{FileId, Kind, Memory, Name, Session, Twin, copy_two};
 use fs_modes::Modes;
 use std::alloc::Global;
 
@@ -57,12 +57,12 @@ impl Twin for Effect {
         match self {
             Effect::SetChild { dir, name, to } => {
                 let to = to.copy(alloc)?;
-                let (dir, name) = copy_place(alloc, dir, name)?;
+                let (dir, name) = copy_two(alloc, dir, name)?;
                 Ok(Effect::SetChild { dir, name, to })
             }
             Effect::SetParent { file, dir, name } => {
                 let file = file.copy(alloc)?;
-                let (dir, name) = copy_place(alloc, dir, name)?;
+                let (dir, name) = copy_two(alloc, dir, name)?;
                 Ok(Effect::SetParent { file, dir, name })
             }
             Effect::NewNode {
@@ -72,7 +72,7 @@ impl Twin for Effect {
                 name,
             } => {
                 let file = file.copy(alloc)?;
-                let (dir, name) = copy_place(alloc, dir, name)?;
+                let (dir, name) = copy_two(alloc, dir, name)?;
                 Ok(Effect::NewNode {
                     file,
                     kind: *kind,

@@ -3,6 +3,7 @@
 
 mod actor;
 mod bytes;
+mod copies;
 mod error;
 mod file_id;
 mod id_text;
@@ -13,12 +14,12 @@ mod maps;
 mod memory;
 mod name;
 mod ordered;
-mod place;
 mod texts;
 mod twin;
 
 pub use actor::{LeaseNo, PathNo, Peer, Session, TxnNo};
 pub use bytes::number_in_front;
+pub use copies::{copy_three, copy_two};
 pub use error::IdError;
 pub use file_id::{DEPTH, FileId};
 pub use kind::Kind;
@@ -28,5 +29,4 @@ pub use maps::copy_map;
 pub use memory::Memory;
 pub use name::{Name, first_bad, is_dots};
 pub use ordered::search_by_name;
-pub use place::copy_place;
 pub use twin::Twin;

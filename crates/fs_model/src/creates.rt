@@ -10,7 +10,7 @@ use crate::children::find;
 use crate::lookups::node_at;
 use crate::node::Node;
 use crate::reply::Reply;
-use fs_ident::{FileId, Kind, Memory, Name, Twin, copy_place};
+use fs_ident::{FileId, Kind, Memory, Name, Twin, copy_two};
 use std::alloc::Global;
 use std::collections::BTreeMap;
 
@@ -74,8 +74,8 @@ fn make(
     ensures err { OnErr result (map_of nodes.new ≡ map_of nodes.old) }
 {
     let key = id.copy(alloc)?;
-    let (child, child_name) = copy_place(alloc, id, name)?;
-    let parent = Some(copy_place(alloc, dir, name)?);
+    let (child, child_name) = copy_two(alloc, id, name)?;
+    let parent = Some(copy_two(alloc, dir, name)?);
     changes::add(nodes, key, Node::new(alloc, kind, parent))?;
     match changes::link(nodes, dir, child_name, child) {
         Ok(()) => Ok(()),

@@ -1,7 +1,7 @@
 //! What is asked of the namespace.
 ghost use Rattle.std.specs.Prelude.{◌≡◌};
 
-use fs_ident::{FileId, Kind, Memory, Name, Session, Twin, copy_place};
+use fs_ident::{FileId, Kind, Memory, Name, Session, Twin, copy_two};
 use fs_modes::Modes;
 use std::alloc::Global;
 
@@ -80,7 +80,7 @@ impl Twin for Op {
     fn copy(&self, alloc: Global) -> Result<Op, Memory> {
         match self {
             Op::Lookup { dir, name } => {
-                let (dir, name) = copy_place(alloc, dir, name)?;
+                let (dir, name) = copy_two(alloc, dir, name)?;
                 Ok(Op::Lookup { dir, name })
             }
             Op::List { dir } => Ok(Op::List {
@@ -99,7 +99,7 @@ impl Twin for Op {
                 id,
             } => {
                 let id = id.copy(alloc)?;
-                let (dir, name) = copy_place(alloc, dir, name)?;
+                let (dir, name) = copy_two(alloc, dir, name)?;
                 Ok(Op::Create {
                     dir,
                     name,
@@ -128,7 +128,7 @@ impl Twin for Op {
                 stamp: *stamp,
             }),
             Op::Delete { dir, name } => {
-                let (dir, name) = copy_place(alloc, dir, name)?;
+                let (dir, name) = copy_two(alloc, dir, name)?;
                 Ok(Op::Delete { dir, name })
             }
             Op::Rename {
@@ -137,8 +137,8 @@ impl Twin for Op {
                 ddir,
                 dname,
             } => {
-                let (sdir, sname) = copy_place(alloc, sdir, sname)?;
-                let (ddir, dname) = copy_place(alloc, ddir, dname)?;
+                let (sdir, sname) = copy_two(alloc, sdir, sname)?;
+                let (ddir, dname) = copy_two(alloc, ddir, dname)?;
                 Ok(Op::Rename {
                     sdir,
                     sname,
@@ -153,5 +153,7 @@ impl Twin for Op {
         }
     }
 
-    fn discard(self) {}
+    fn discard(self) {
+        drop(self);
+    }
 }

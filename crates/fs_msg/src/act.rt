@@ -2,7 +2,7 @@
 use crate::client_msg::ClientMsg;
 use crate::item::Item;
 use fs_field::Need;
-use fs_ident::{FileId, List, Memory, Twin};
+use fs_ident::{FileId, List, Memory, Twin, copy_three};
 use fs_model::Reply;
 use std::alloc::Global;
 
@@ -65,17 +65,22 @@ impl Twin for Act {
         }
     }
 
-    fn discard(self) {}
+    fn discard(self) {
+        drop(self);
+    }
 }
 
 impl<N: Twin + Drop> Twin for ClientOut<N> {
     fn copy(&self, alloc: Global) -> Result<ClientOut<N>, Memory> {
+        let (note, send, admitted) = copy_three(alloc, &self.note, &self.send, &self.admitted)?;
         Ok(ClientOut {
-            note: self.note.copy(alloc)?,
-            send: self.send.copy(alloc)?,
-            admitted: self.admitted.copy(alloc)?,
+            note,
+            send,
+            admitted,
         })
     }
 
-    fn discard(self) {}
+    fn discard(self) {
+        drop(self);
+    }
 }

@@ -1,7 +1,7 @@
 //! What servers send to clients.
 use crate::end::End;
 use fs_field::{Field, LeaseKind, Value};
-use fs_ident::{FileId, LeaseNo, List, Memory, Twin};
+use fs_ident::{FileId, LeaseNo, List, Memory, Twin, copy_three, copy_two};
 use std::alloc::Global;
 
 /// A lease that a server gives, with what its field says.
@@ -47,30 +47,32 @@ pub enum Answer {
 
 impl Twin for Grant {
     fn copy(&self, alloc: Global) -> Result<Grant, Memory> {
+        let (field, value) = copy_two(alloc, &self.field, &self.value)?;
         Ok(Grant {
             no: self.no,
-            field: self.field.copy(alloc)?,
+            field,
             kind: self.kind,
             until: self.until,
-            value: self.value.copy(alloc)?,
+            value,
         })
     }
 
-    fn discard(self) {}
+    fn discard(self) {
+        drop(self);
+    }
 }
 
 impl Twin for Answer {
     fn copy(&self, alloc: Global) -> Result<Answer, Memory> {
         match self {
-            Answer::Granted { grants, fresh, end } => Ok(Answer::Granted {
-                grants: grants.copy(alloc)?,
-                fresh: fresh.copy(alloc)?,
-                end: end.copy(alloc)?,
-            }),
-            Answer::Renewed { rows, end } => Ok(Answer::Renewed {
-                rows: rows.copy(alloc)?,
-                end: end.copy(alloc)?,
-            }),
+            Answer::Granted { grants, fresh, end } => {
+                let (grants, fresh, end) = copy_three(alloc, grants, fresh, end)?;
+                Ok(Answer::Granted { grants, fresh, end })
+            }
+            Answer::Renewed { rows, end } => {
+                let (rows, end) = copy_two(alloc, rows, end)?;
+                Ok(Answer::Renewed { rows, end })
+            }
             Answer::Released { count, end } => Ok(Answer::Released {
                 count: *count,
                 end: end.copy(alloc)?,
@@ -83,5 +85,7 @@ impl Twin for Answer {
         }
     }
 
-    fn discard(self) {}
+    fn discard(self) {
+        drop(self);
+    }
 }

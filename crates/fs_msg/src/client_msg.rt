@@ -1,7 +1,7 @@
 //! What clients send to servers.
 use crate::entry::Entry;
 use fs_field::{Field, LeaseKind};
-use fs_ident::{FileId, LeaseNo, List, Memory, Twin};
+use fs_ident::{FileId, LeaseNo, List, Memory, Twin, copy_two};
 use std::alloc::Global;
 
 /// A request of a client.
@@ -29,10 +29,10 @@ pub enum ClientMsg {
 impl Twin for ClientMsg {
     fn copy(&self, alloc: Global) -> Result<ClientMsg, Memory> {
         match self {
-            ClientMsg::Ask { items, fresh } => Ok(ClientMsg::Ask {
-                items: items.copy(alloc)?,
-                fresh: fresh.copy(alloc)?,
-            }),
+            ClientMsg::Ask { items, fresh } => {
+                let (items, fresh) = copy_two(alloc, items, fresh)?;
+                Ok(ClientMsg::Ask { items, fresh })
+            }
             ClientMsg::Renew { pairs } => Ok(ClientMsg::Renew {
                 pairs: pairs.copy(alloc)?,
             }),
@@ -45,5 +45,7 @@ impl Twin for ClientMsg {
         }
     }
 
-    fn discard(self) {}
+    fn discard(self) {
+        drop(self);
+    }
 }

@@ -65,5 +65,7 @@ impl Twin for ClientNote {
         }
     }
 
-    fn discard(self) {}
+    fn discard(self) {
+        drop(self);
+    }
 }

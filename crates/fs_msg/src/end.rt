@@ -60,5 +60,7 @@ impl Twin for End {
         }
     }
 
-    fn discard(self) {}
+    fn discard(self) {
+        drop(self);
+    }
 }

@@ -1,6 +1,6 @@
 //! Entries of a client's log.
 use fs_field::Use;
-use fs_ident::{List, Memory, Twin};
+use fs_ident::{List, Memory, Twin, copy_three};
 use fs_model::{Op, Reply};
 use std::alloc::Global;
 
@@ -17,13 +17,16 @@ pub struct Entry {
 
 impl Twin for Entry {
     fn copy(&self, alloc: Global) -> Result<Entry, Memory> {
+        let (op, reply, uses) = copy_three(alloc, &self.op, &self.reply, &self.uses)?;
         Ok(Entry {
             n: self.n,
-            op: self.op.copy(alloc)?,
-            reply: self.reply.copy(alloc)?,
-            uses: self.uses.copy(alloc)?,
+            op,
+            reply,
+            uses,
         })
     }
 
-    fn discard(self) {}
+    fn discard(self) {
+        drop(self);
+    }
 }

@@ -1,5 +1,5 @@
 //! Items of the journal.
-use fs_ident::{Memory, Peer, Twin};
+use fs_ident::{Memory, Peer, Twin, copy_two};
 use fs_model::{Op, Reply};
 use std::alloc::Global;
 
@@ -14,13 +14,16 @@ pub struct Item {
 
 impl Twin for Item {
     fn copy(&self, alloc: Global) -> Result<Item, Memory> {
+        let (op, reply) = copy_two(alloc, &self.op, &self.reply)?;
         Ok(Item {
             by: self.by,
             n: self.n,
-            op: self.op.copy(alloc)?,
-            reply: self.reply.copy(alloc)?,
+            op,
+            reply,
         })
     }
 
-    fn discard(self) {}
+    fn discard(self) {
+        drop(self);
+    }
 }

@@ -22,5 +22,7 @@ impl Twin for Msg {
         }
     }
 
-    fn discard(self) {}
+    fn discard(self) {
+        drop(self);
+    }
 }

@@ -47,5 +47,7 @@ impl Twin for Note {
         }
     }
 
-    fn discard(self) {}
+    fn discard(self) {
+        drop(self);
+    }
 }

@@ -19,5 +19,7 @@ impl Twin for PeerMsg {
         }
     }
 
-    fn discard(self) {}
+    fn discard(self) {
+        drop(self);
+    }
 }

@@ -1,7 +1,7 @@
 //! What a server notes of an event.
 use crate::end::End;
 use crate::refusal::Refusal;
-use fs_ident::{FileId, List, Memory, Twin};
+use fs_ident::{FileId, List, Memory, Twin, copy_two};
 use std::alloc::Global;
 
 /// What a server notes of an event.
@@ -70,11 +70,14 @@ impl Twin for ServerNote {
                 count: *count,
                 end: end.copy(alloc)?,
             }),
-            ServerNote::Admits { count, end, gaps } => Ok(ServerNote::Admits {
-                count: *count,
-                end: end.copy(alloc)?,
-                gaps: gaps.copy(alloc)?,
-            }),
+            ServerNote::Admits { count, end, gaps } => {
+                let (end, gaps) = copy_two(alloc, end, gaps)?;
+                Ok(ServerNote::Admits {
+                    count: *count,
+                    end,
+                    gaps,
+                })
+            }
             ServerNote::Reaps { count } => Ok(ServerNote::Reaps { count: *count }),
             ServerNote::Recalls { count } => Ok(ServerNote::Recalls { count: *count }),
             ServerNote::Installs { prefix } => Ok(ServerNote::Installs {
@@ -92,5 +95,7 @@ impl Twin for ServerNote {
         }
     }
 
-    fn discard(self) {}
+    fn discard(self) {
+        drop(self);
+    }
 }
