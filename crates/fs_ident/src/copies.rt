@@ -1,9 +1,19 @@
-//! Several values written down twice, all of them or none.
-ghost use Rattle.std.specs.Prelude.{◌≡◌, IfOk};
+//! Several values at once, all of them or none.
+ghost use Rattle.std.specs.Prelude.{◌≡◌, IfOk, IfErr, Ok, Err};
 
 use crate::memory::Memory;
 use crate::twin::Twin;
 use std::alloc::Global;
+
+/// The value with the other one. Where there is no other one it is let go, and why there is none is told.
+///
+/// A function that knows a value's type lets it go part by part, on each of its ways out; this one does so once for all types.
+pub fn both<A: Drop, B, E>(a: A, b: Result<B, E>) -> Result<(A, B), E>
+    ensures ok { IfOk result (λ all. (all.0 ≡ a) × (b ≡ Ok all.1)) }
+    ensures err { IfErr result (λ e. b ≡ Err e) }
+{
+    Ok((a, b?))
+}
 
 /// Copies of both.
 pub fn copy_two<A: Twin + Drop, B: Twin + Drop>(
@@ -14,7 +24,7 @@ pub fn copy_two<A: Twin + Drop, B: Twin + Drop>(
     ensures { IfOk result (λ copies. copies ≡ (a.now, b.now)) }
 {
     let a = a.copy(alloc)?;
-    Ok((a, b.copy(alloc)?))
+    both(a, b.copy(alloc))
 }
 
 /// Copies of all three.

@@ -19,7 +19,7 @@ mod twin;
 
 pub use actor::{LeaseNo, PathNo, Peer, Session, TxnNo};
 pub use bytes::number_in_front;
-pub use copies::{copy_three, copy_two};
+pub use copies::{both, copy_three, copy_two};
 pub use error::IdError;
 pub use file_id::{DEPTH, FileId};
 pub use kind::Kind;

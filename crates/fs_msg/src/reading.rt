@@ -85,6 +85,7 @@ fn whole_of(alloc: Global, bytes: &[u8]) -> Result<Msg, MsgError>
             if rest.is_empty() {
                 return Ok(m);
             }
+            drop(m);
             Err(MsgError::Trailing {
                 at: bytes.len() - rest.len(),
             })
