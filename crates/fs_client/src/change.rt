@@ -1,7 +1,7 @@
 //! What an event changes at a client.
 use crate::exchange::Exchange;
 use fs_field::Effect;
-use fs_ident::{FileId, LeaseNo, List, Memory, Twin};
+use fs_ident::{FileId, LeaseNo, List, Memory, Twin, copy_two};
 use fs_msg::Entry;
 use fs_view::NewLease;
 use std::alloc::Global;
@@ -56,10 +56,10 @@ impl Twin for Change {
         match self {
             Change::Nothing => Ok(Change::Nothing),
             Change::Read => Ok(Change::Read),
-            Change::Reply { entry, effects } => Ok(Change::Reply {
-                entry: entry.copy(alloc)?,
-                effects: effects.copy(alloc)?,
-            }),
+            Change::Reply { entry, effects } => {
+                let (entry, effects) = copy_two(alloc, entry, effects)?;
+                Ok(Change::Reply { entry, effects })
+            }
             Change::Ask { exchange } => Ok(Change::Ask {
                 exchange: exchange.copy(alloc)?,
             }),
@@ -67,10 +67,10 @@ impl Twin for Change {
                 to: *to,
                 numbers: numbers.copy(alloc)?,
             }),
-            Change::Grant { leases, full } => Ok(Change::Grant {
-                leases: leases.copy(alloc)?,
-                full: full.copy(alloc)?,
-            }),
+            Change::Grant { leases, full } => {
+                let (leases, full) = copy_two(alloc, leases, full)?;
+                Ok(Change::Grant { leases, full })
+            }
             Change::Renew { ends } => Ok(Change::Renew {
                 ends: ends.copy(alloc)?,
             }),
@@ -85,5 +85,7 @@ impl Twin for Change {
         }
     }
 
-    fn discard(self) {}
+    fn discard(self) {
+        drop(self);
+    }
 }

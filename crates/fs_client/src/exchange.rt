@@ -1,6 +1,6 @@
 //! A question that was sent and has no answer yet.
 use fs_field::{Field, LeaseKind};
-use fs_ident::{FileId, LeaseNo, List, Memory, Twin};
+use fs_ident::{FileId, LeaseNo, List, Memory, Twin, copy_two};
 use std::alloc::Global;
 
 /// A question that was sent to a server and has no answer yet.
@@ -32,11 +32,14 @@ pub enum Exchange {
 impl Twin for Exchange {
     fn copy(&self, alloc: Global) -> Result<Exchange, Memory> {
         match self {
-            Exchange::Asks { to, items, fresh } => Ok(Exchange::Asks {
-                to: *to,
-                items: items.copy(alloc)?,
-                fresh: fresh.copy(alloc)?,
-            }),
+            Exchange::Asks { to, items, fresh } => {
+                let (items, fresh) = copy_two(alloc, items, fresh)?;
+                Ok(Exchange::Asks {
+                    to: *to,
+                    items,
+                    fresh,
+                })
+            }
             Exchange::Renews { to, numbers } => Ok(Exchange::Renews {
                 to: *to,
                 numbers: numbers.copy(alloc)?,
@@ -52,5 +55,7 @@ impl Twin for Exchange {
         }
     }
 
-    fn discard(self) {}
+    fn discard(self) {
+        drop(self);
+    }
 }

@@ -2,7 +2,7 @@
 ghost use Rattle.std.specs.Prelude.{◌≡◌};
 
 use crate::change::Change;
-use fs_ident::{Memory, Twin};
+use fs_ident::{Memory, Twin, copy_two};
 use fs_map::FileMap;
 use fs_msg::ClientOut;
 use std::alloc::Global;
@@ -24,23 +24,26 @@ pub struct Plan<N: Drop> {
 
 impl Twin for Ready {
     fn copy(&self, alloc: Global) -> Result<Ready, Memory> {
+        let (change, hints) = copy_two(alloc, &self.change, &self.hints)?;
         Ok(Ready {
             now: self.now,
-            change: self.change.copy(alloc)?,
-            hints: self.hints.copy(alloc)?,
+            change,
+            hints,
         })
     }
 
-    fn discard(self) {}
+    fn discard(self) {
+        drop(self);
+    }
 }
 
 impl<N: Twin + Drop> Twin for Plan<N> {
     fn copy(&self, alloc: Global) -> Result<Plan<N>, Memory> {
-        Ok(Plan {
-            ready: self.ready.copy(alloc)?,
-            out: self.out.copy(alloc)?,
-        })
+        let (ready, out) = copy_two(alloc, &self.ready, &self.out)?;
+        Ok(Plan { ready, out })
     }
 
-    fn discard(self) {}
+    fn discard(self) {
+        drop(self);
+    }
 }

@@ -1,6 +1,6 @@
 //! The state of a client.
 use crate::exchange::Exchange;
-use fs_ident::{FileId, List, Memory, Session, Twin};
+use fs_ident::{FileId, List, Memory, Session, Twin, both, copy_three};
 use fs_map::FileMap;
 use fs_msg::Entry;
 use fs_view::View;
@@ -30,15 +30,14 @@ pub(crate) struct Client {
 
 impl Twin for Client {
     fn copy(&self, alloc: Global) -> Result<Client, Memory> {
-        let log = self.log.copy(alloc)?;
-        let exchange = self.exchange.copy(alloc)?;
-        let hints = self.hints.copy(alloc)?;
-        let full = self.full.copy(alloc)?;
+        let parts = copy_three(alloc, &self.log, &self.exchange, &self.hints)?;
+        let (parts, full) = both(parts, self.full.copy(alloc))?;
+        let (((log, exchange, hints), full), view) = both((parts, full), self.view.copy(alloc))?;
         Ok(Client {
             session: self.session,
             term: self.term,
             last: self.last,
-            view: self.view.copy(alloc)?,
+            view,
             log,
             exchange,
             hints,

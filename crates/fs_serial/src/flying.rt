@@ -20,5 +20,7 @@ impl Twin for Flying {
         })
     }
 
-    fn discard(self) {}
+    fn discard(self) {
+        drop(self);
+    }
 }

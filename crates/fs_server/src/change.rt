@@ -1,6 +1,6 @@
 //! What an event changes.
 use fs_field::{Effect, Row};
-use fs_ident::{FileId, LeaseNo, List, Memory, Twin};
+use fs_ident::{FileId, LeaseNo, List, Memory, Twin, copy_two};
 use fs_map::MapPiece;
 use fs_record::{Parcel, Record};
 use std::alloc::Global;
@@ -48,10 +48,10 @@ impl Twin for Change {
     fn copy(&self, alloc: Global) -> Result<Change, Memory> {
         match self {
             Change::Nothing => Ok(Change::Nothing),
-            Change::Grant { rows, gift } => Ok(Change::Grant {
-                rows: rows.copy(alloc)?,
-                gift: gift.copy(alloc)?,
-            }),
+            Change::Grant { rows, gift } => {
+                let (rows, gift) = copy_two(alloc, rows, gift)?;
+                Ok(Change::Grant { rows, gift })
+            }
             Change::Renew { until, numbers } => Ok(Change::Renew {
                 until: *until,
                 numbers: numbers.copy(alloc)?,
@@ -66,16 +66,21 @@ impl Twin for Change {
                 count: *count,
                 effects: effects.copy(alloc)?,
             }),
-            Change::Leave { to, piece, moved } => Ok(Change::Leave {
-                to: *to,
-                piece: piece.copy(alloc)?,
-                moved: moved.copy(alloc)?,
-            }),
+            Change::Leave { to, piece, moved } => {
+                let (piece, moved) = copy_two(alloc, piece, moved)?;
+                Ok(Change::Leave {
+                    to: *to,
+                    piece,
+                    moved,
+                })
+            }
             Change::Install { parcel } => Ok(Change::Install {
                 parcel: parcel.copy(alloc)?,
             }),
         }
     }
 
-    fn discard(self) {}
+    fn discard(self) {
+        drop(self);
+    }
 }

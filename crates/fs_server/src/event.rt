@@ -33,5 +33,7 @@ impl Twin for ServerEvent {
         }
     }
 
-    fn discard(self) {}
+    fn discard(self) {
+        drop(self);
+    }
 }

@@ -1,5 +1,5 @@
 //! What comes of an event at a server.
-use fs_ident::{List, Memory, Peer, Twin};
+use fs_ident::{List, Memory, Peer, Twin, copy_three};
 use fs_msg::{Item, Msg, ServerNote};
 use std::alloc::Global;
 
@@ -15,12 +15,15 @@ pub struct ServerOut {
 
 impl Twin for ServerOut {
     fn copy(&self, alloc: Global) -> Result<ServerOut, Memory> {
+        let (note, send, admitted) = copy_three(alloc, &self.note, &self.send, &self.admitted)?;
         Ok(ServerOut {
-            note: self.note.copy(alloc)?,
-            send: self.send.copy(alloc)?,
-            admitted: self.admitted.copy(alloc)?,
+            note,
+            send,
+            admitted,
         })
     }
 
-    fn discard(self) {}
+    fn discard(self) {
+        drop(self);
+    }
 }

@@ -3,7 +3,7 @@ ghost use Rattle.std.specs.Prelude.{◌≡◌};
 
 use crate::change::Change;
 use crate::out::ServerOut;
-use fs_ident::{Memory, Twin};
+use fs_ident::{Memory, Twin, copy_two};
 use std::alloc::Global;
 
 /// What an event comes to: its answer, and what is still to be changed.
@@ -31,12 +31,15 @@ impl Plan {
 
 impl Twin for Plan {
     fn copy(&self, alloc: Global) -> Result<Plan, Memory> {
+        let (change, out) = copy_two(alloc, &self.change, &self.out)?;
         Ok(Plan {
             now: self.now,
-            change: self.change.copy(alloc)?,
-            out: self.out.copy(alloc)?,
+            change,
+            out,
         })
     }
 
-    fn discard(self) {}
+    fn discard(self) {
+        drop(self);
+    }
 }

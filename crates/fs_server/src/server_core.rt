@@ -149,5 +149,7 @@ impl Twin for ServerCore {
         })
     }
 
-    fn discard(self) {}
+    fn discard(self) {
+        drop(self);
+    }
 }

@@ -4,7 +4,7 @@ ghost use Rattle.fs_map.specs.Map.{IsMap};
 ghost use Rattle.fs_record.specs.Records.{AreRecords};
 
 use crate::all_rows::AllRows;
-use fs_ident::{Memory, Twin};
+use fs_ident::{Memory, Twin, copy_three};
 use fs_map::FileMap;
 use fs_record::Records;
 use std::alloc::Global;
@@ -56,6 +56,7 @@ impl Server {
 
 impl Twin for Server {
     fn copy(&self, alloc: Global) -> Result<Server, Memory> {
+        let (rows, records, map) = copy_three(alloc, &self.rows, &self.records, &self.map)?;
         Ok(Server {
             me: self.me,
             skew: self.skew,
@@ -63,11 +64,13 @@ impl Twin for Server {
             last: self.last,
             given: self.given,
             reaps: self.reaps,
-            rows: self.rows.copy(alloc)?,
-            records: self.records.copy(alloc)?,
-            map: self.map.copy(alloc)?,
+            rows,
+            records,
+            map,
         })
     }
 
-    fn discard(self) {}
+    fn discard(self) {
+        drop(self);
+    }
 }

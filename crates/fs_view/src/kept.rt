@@ -4,7 +4,7 @@ ghost use Rattle.fs_view.specs.Kept.{entries_of, file_in, has_ended, is_better_t
 
 use crate::seen::Seen;
 use fs_field::{Field, LeaseKind, Use, Value};
-use fs_ident::{FileId, LeaseNo, Memory, Twin};
+use fs_ident::{FileId, LeaseNo, Memory, Twin, both, copy_two};
 use fs_lease::{Held, Leaving, Pinned, Unpinned};
 use std::alloc::Global;
 
@@ -298,10 +298,10 @@ impl Twin for Standing {
 
 impl Twin for Kept {
     fn copy(&self, alloc: Global) -> Result<Kept, Memory> {
-        let base = self.base.copy(alloc)?;
-        let below = self.below.copy(alloc)?;
+        let values = copy_two(alloc, &self.base, &self.below)?;
+        let ((base, below), standing) = both(values, self.standing.copy(alloc))?;
         Ok(Kept {
-            standing: self.standing.copy(alloc)?,
+            standing,
             base,
             recalled: self.recalled,
             below,

@@ -4,7 +4,7 @@ ghost use Rattle.fs_view.specs.View.{are_distinct, can_grant_all, kept_new};
 
 use crate::kept::{Kept, Standing};
 use fs_field::{Field, LeaseKind, Value};
-use fs_ident::{FileId, LeaseNo, List, Memory, Twin};
+use fs_ident::{FileId, LeaseNo, List, Memory, Twin, copy_three};
 use fs_lease::Held;
 use std::alloc::Global;
 
@@ -61,15 +61,18 @@ pub fn add_all(leases: &mut Vec<Kept>, new: List<NewLease>)
 
 impl Twin for NewLease {
     fn copy(&self, alloc: Global) -> Result<NewLease, Memory> {
+        let (field, value, below) = copy_three(alloc, &self.field, &self.value, &self.below)?;
         Ok(NewLease {
             no: self.no,
-            field: self.field.copy(alloc)?,
+            field,
             kind: self.kind,
             until: self.until,
-            value: self.value.copy(alloc)?,
-            below: self.below.copy(alloc)?,
+            value,
+            below,
         })
     }
 
-    fn discard(self) {}
+    fn discard(self) {
+        drop(self);
+    }
 }

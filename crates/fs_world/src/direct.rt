@@ -5,7 +5,7 @@ ghost use Rattle.std.specs.FinMap as map;
 use crate::counts::Counts;
 use crate::goes::outcome;
 use crate::numbers::Numbers;
-use fs_ident::{List, Memory, Peer, Session, Twin};
+use fs_ident::{List, Memory, Peer, Session, Twin, both, copy_two};
 use fs_model::{Op, Space};
 use fs_msg::{CoreError, Counter, Item, Note};
 use fs_schedule::{Outcome, What};
@@ -114,10 +114,9 @@ impl Direct {
 
 impl Twin for Direct {
     fn copy(&self, alloc: Global) -> Result<Direct, Memory> {
-        let space = self.space.copy(alloc)?;
-        let next = self.next.copy(alloc)?;
-        let asked = self.asked.copy(alloc)?;
-        let journal = self.journal.copy(alloc)?;
+        let state = copy_two(alloc, &self.space, &self.next)?;
+        let said = copy_two(alloc, &self.asked, &self.journal);
+        let ((space, next), (asked, journal)) = both(state, said)?;
         Ok(Direct {
             space,
             next,
@@ -126,5 +125,7 @@ impl Twin for Direct {
         })
     }
 
-    fn discard(self) {}
+    fn discard(self) {
+        drop(self);
+    }
 }

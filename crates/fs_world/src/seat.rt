@@ -5,7 +5,7 @@ ghost use Rattle.fs_world.specs.Served.{first_seat};
 
 use crate::term::Term;
 use fs_client::ClientCore;
-use fs_ident::{List, Memory, Peer, Session, Twin};
+use fs_ident::{List, Memory, Peer, Session, Twin, both, copy_three};
 use fs_msg::{Answer, ClientMsg};
 use fs_window::Post;
 use std::alloc::Global;
@@ -43,11 +43,10 @@ impl Seat {
 
 impl Twin for Seat {
     fn copy(&self, alloc: Global) -> Result<Seat, Memory> {
-        let post = self.post.copy(alloc)?;
-        let up = self.up.copy(alloc)?;
-        let down = self.down.copy(alloc)?;
+        let links = copy_three(alloc, &self.post, &self.up, &self.down)?;
+        let ((post, up, down), client) = both(links, self.client.copy(alloc))?;
         Ok(Seat {
-            client: self.client.copy(alloc)?,
+            client,
             post,
             up,
             down,

@@ -21,7 +21,7 @@ use crate::seats::Seats;
 use crate::servers::core_step;
 use crate::term::Term;
 use fs_field::Field;
-use fs_ident::{FileId, List, Memory, Peer, Session, Twin};
+use fs_ident::{FileId, List, Memory, Peer, Session, Twin, both, copy_three};
 use fs_model::Op;
 use fs_msg::{CoreError, Item, Note};
 use fs_schedule::{Outcome, What};
@@ -246,14 +246,13 @@ impl Served {
 
 impl Twin for Served {
     fn copy(&self, alloc: Global) -> Result<Served, Memory> {
-        let servers = self.servers.copy(alloc)?;
-        let posts = self.posts.copy(alloc)?;
-        let term = self.term.copy(alloc)?;
-        let flying = self.flying.copy(alloc)?;
-        let journal = self.journal.copy(alloc)?;
-        let packets = self.packets.copy(alloc)?;
+        let actors = copy_three(alloc, &self.servers, &self.posts, &self.term)?;
+        let said = copy_three(alloc, &self.flying, &self.journal, &self.packets);
+        let parts = both(actors, said)?;
+        let (((servers, posts, term), (flying, journal, packets)), seats) =
+            both(parts, self.seats.copy(alloc))?;
         Ok(Served {
-            seats: self.seats.copy(alloc)?,
+            seats,
             servers,
             posts,
             term,
