@@ -1,5 +1,5 @@
 //! Segments joined to messages.
-ghost use Rattle.std.specs.Prelude.{◌≡◌, ◌≤◌, ◌+◌, ◌++◌, [], ◌∷◌, ℕ, length, take, drop, IfOk, IsErrOf, OnOk, OnErr, Ok, Err, option_map, MatchOption};
+ghost use Rattle.std.specs.Prelude.{◌≡◌, ◌≤◌, ◌+◌, ◌++◌, [], ◌∷◌, ℕ, length, take, drop, IfOk, IsErrOf, OnOk, OnErr, Ok, Err, option_map, MatchOption, if◌then◌else◌};
 ghost use Rattle.fs_frag.specs.Joined.{answer_of, held_after, answers, held_by, held_before, joined_of};
 
 use crate::error::FragError;
@@ -156,38 +156,28 @@ fn join_all(
     let mut joined = List::new(alloc);
     let mut start = 0;
     for segment in segments {
-        start = join_one(alloc, held, start, segment, &mut joined)?;
+        held.extend_from_slice(segment.bytes())?;
+        if !still_wait(alloc, &held[start..], &mut joined)? {
+            start = held.len();
+        }
     }
     Ok((joined, start))
 }
 
-/// Appends a segment to the bytes that wait from `start` on, and tells from where they wait then.
-fn join_one(
-    alloc: Global,
-    held: &mut Vec<u8>,
-    start: usize,
-    segment: &Segment,
-    joined: &mut List<Joined>,
-) -> Result<usize, Memory>
-    requires { start ≤ length held.old.items }
+/// Tells whether the bytes still wait. If not, adds what they complete.
+fn still_wait(alloc: Global, bytes: &[u8], joined: &mut List<Joined>) -> Result<bool, Memory>
     ensures joined { OnOk result (joined.new ≡ joined.old ++
-        joined_of (answer_of (drop start held.old.items ++ segment.now) ∷ [])) }
-    ensures within { IfOk result (λ next. next ≤ length held.new.items) }
-    ensures waiting { IfOk result (λ next. drop next held.new.items ≡
-        held_after (answer_of (drop start held.old.items ++ segment.now))
-        (drop start held.old.items ++ segment.now)) }
-    ensures longer { length held.old.items ≤ length held.new.items }
-    ensures front { (n : ℕ) → n ≤ length held.old.items →
-        take n held.new.items ≡ take n held.old.items }
+        joined_of (answer_of bytes.now ∷ [])) }
+    ensures waiting { IfOk result (λ wait. held_after (answer_of bytes.now) bytes.now ≡
+        if wait then bytes.now else []) }
 {
-    held.extend_from_slice(segment.bytes())?;
-    match answer_of(alloc, &held[start..]) {
-        Ok(None) => return Ok(start),
+    match answer_of(alloc, bytes) {
+        Ok(None) => return Ok(true),
         Ok(Some(message)) => joined.push(Joined::Whole(List::from_vec(message)))?,
         Err(FragError::Over { .. }) => joined.push(Joined::Over)?,
         Err(FragError::Memory) => return Err(Memory),
     }
-    Ok(held.len())
+    Ok(false)
 }
 
 /// The same, with the bytes that are still waiting where they are not all.

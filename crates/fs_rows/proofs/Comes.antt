@@ -1,11 +1,10 @@
 -- Rows that come from another server: the last one stands beside all before it.
-use Rattle.std.proofs.Common.{◌≡◌, not, ◌&&◌, ◌||◌, Bool, true, false, List, [], ◌∷◌, ◌++◌, refl, ap, ◌∙◌, inl, inr}
+use Rattle.std.proofs.Common.{◌≡◌, not, ◌&&◌, ◌||◌, Bool, true, false, List, [], ◌∷◌, ◌++◌, refl, ap, ◌∙◌}
 use Rattle.std.proofs.lemmas.Bool.{not-true}
 use Rattle.std.specs.Prelude.{Result, Ok, Err, OnOk, OnErr}
 use Rattle.std.specs.List.{list_any}
 use Rattle.fs_ident.specs.declared.memory.Memory.{Memory}
-use Rattle.fs_ident.specs.In.{In}
-use Rattle.fs_ident.proofs.Booleans.{both, neither, and_regroup}
+use Rattle.fs_ident.proofs.Booleans.{both, and_regroup}
 use Rattle.fs_ident.proofs.Standing.{none_any}
 use Rattle.fs_field.specs.Conflict.{plain_conflict}
 use Rattle.fs_field.specs.Field.{tells_no_mode}

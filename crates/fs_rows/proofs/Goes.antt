@@ -1,6 +1,6 @@
 -- Rows that go to another server, and the least transaction that keeps one from going.
-use Rattle.std.proofs.Common.{◌≡◌, ℕ, ◌+◌, ◌<◌, ◌&&◌, ◌||◌, Bool, true, false, List, [], ◌∷◌, refl, ap, cond, sym, ◌∙◌, length, get_or, drop, nat_lt, arith}
-use Rattle.std.proofs.lemmas.List.{drop_more}
+use Rattle.std.proofs.Common.{◌≡◌, ℕ, ◌+◌, ◌<◌, ◌≤◌, ◌&&◌, ◌||◌, Bool, true, false, List, [], ◌∷◌, refl, ap, cond, sym, ◌∙◌, length, get_or, drop, nat_lt, arith}
+use Rattle.std.proofs.lemmas.List.{drop_all, drop_more}
 use Rattle.std.proofs.lemmas.Bool.Decides.{nat_tests}
 use Rattle.std.specs.Prelude.{Option, Some, None, is_some}
 use Rattle.std.specs.List.{filter}
@@ -59,5 +59,13 @@ locked_by : (b : Bool) (prefix : List ℕ) (owners : Owners) (me : ℕ) (least :
 locked_by true prefix owners me least r rs = sym (least_assoc least (lock_below prefix owners me r) (locked_in prefix owners me rs))
 locked_by false prefix owners me least r rs = refl
 
-pub locked_step : (prefix : List ℕ) (owners : Owners) (me : ℕ) (least : Option TxnNo) (live : Row → Bool) (rows : List Row) (i : ℕ) (d : Row) → i < length rows → least_of least (locked_in prefix owners me (filter live (drop i rows))) ≡ least_of (cond (live (get_or rows i d)) (least_of least (lock_below prefix owners me (get_or rows i d))) least) (locked_in prefix owners me (filter live (drop (i + 1) rows)))
-locked_step prefix owners me least live rows i d h = ap (λ rs. least_of least (locked_in prefix owners me (filter live rs))) (drop_more rows i d h) ∙ locked_by (live (get_or rows i d)) prefix owners me least (get_or rows i d) (filter live (drop (i + 1) rows))
+pub locked_step : (prefix : List ℕ) (owners : Owners) (me : ℕ) (least more all : Option TxnNo) (live : Row → Bool) (rows : List Row) (i : ℕ) (row : Row) → i < length rows → row ≡ get_or rows i row → more ≡ cond (live row) (least_of least (lock_below prefix owners me row)) least
+    → least_of least (locked_in prefix owners me (filter live (drop i rows))) ≡ all → least_of more (locked_in prefix owners me (filter live (drop (i + 1) rows))) ≡ all
+locked_step prefix owners me least more all live rows i row h is e so_far =
+    let rest = drop (i + 1) rows in
+    let next : drop i rows ≡ row ∷ rest = drop_more rows i row h ∙ ap (λ r. r ∷ rest) (sym is) in
+    rw (e, ← locked_by (live row) prefix owners me least row (filter live rest)) (rw next at so_far)
+
+pub locked_all : (prefix : List ℕ) (owners : Owners) (me : ℕ) (least all : Option TxnNo) (live : Row → Bool) (rows : List Row) (i : ℕ) → length rows ≤ i → least_of least (locked_in prefix owners me (filter live (drop i rows))) ≡ all → least ≡ all
+locked_all prefix owners me None all live rows i h so_far = rw (drop_all i rows h) at so_far
+locked_all prefix owners me (Some txn) all live rows i h so_far = rw (drop_all i rows h) at so_far

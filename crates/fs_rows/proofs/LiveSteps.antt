@@ -1,13 +1,34 @@
 -- Steps of the loops over the rows that are not over.
-use Rattle.std.proofs.Common.{◌≡◌, ℕ, ◌+◌, ◌<◌, ◌&&◌, Bool, true, false, List, ◌∷◌, refl, ap, cond, ◌∙◌, length, get_or, drop}
+use Rattle.std.proofs.Common.{◌≡◌, ℕ, ◌+◌, ◌<◌, ◌&&◌, ◌||◌, Bool, true, false, Bor, List, [], ◌∷◌, refl, ap, cond, ◌∙◌, length, get_or, drop}
 use Rattle.std.proofs.lemmas.List.{drop_more}
-use Rattle.std.specs.Prelude.{is_some, not}
-use Rattle.std.specs.List.{filter, cons_option}
+use Rattle.std.specs.Prelude.{Option, Some, None, is_some, not}
+use Rattle.std.specs.List.{filter, find, list_any, cons_option}
+use Rattle.std.specs.Option.{option_copied}
 use Rattle.fs_field.specs.declared.field.Field.{Field}
 use Rattle.fs_field.specs.declared.row.Row.{Row}
 use Rattle.fs_field.specs.Field.{same_field, file_of}
 use Rattle.fs_field.specs.Table.{lock_on, borne_numbers, child_number}
 use Rattle.fs_rows.specs.Live.{unlocked_on}
+
+find_by : (b : Bool) (test : Row → Bool) (r : Row) (rs : List Row) → find test (cond b (r ∷ rs) rs) ≡ cond (b && test r) (Some r) (find test rs)
+find_by true test r rs = refl
+find_by false test r rs = refl
+
+pub find_step : (test live : Row → Bool) (rows : List Row) (i : ℕ) (d : Row) → i < length rows → find test (filter live (drop i rows)) ≡ cond (live (get_or rows i d) && test (get_or rows i d)) (Some (get_or rows i d)) (find test (filter live (drop (i + 1) rows)))
+find_step test live rows i d h = ap (λ rs. find test (filter live rs)) (drop_more rows i d h) ∙ find_by (live (get_or rows i d)) test (get_or rows i d) (filter live (drop (i + 1) rows))
+
+some_by : (b : Bool) (o : Option Row) (r : Row) (any : Bool) → is_some o ≡ any → is_some (cond b (Some r) o) ≡ (b || any)
+some_by true o r any e = refl
+some_by false o r any e = e
+
+-- a first row passes exactly if one passes
+is_some-find : (test : Row → Bool) (rows : List Row) → is_some (find test rows) ≡ list_any test rows
+is_some-find test [] = refl
+is_some-find test (r ∷ rs) = some_by (test r) (find test rs) r (list_any test rs) (is_some-find test rs)
+
+pub found : (o : Option (Bor Row)) (test : Row → Bool) (rows : List Row) → option_copied o ≡ find test rows → is_some o ≡ list_any test rows
+found None test rows e = ap is_some e ∙ is_some-find test rows
+found (Some x) test rows e = ap is_some e ∙ is_some-find test rows
 
 lock_by : (b : Bool) (field : Field) (r : Row) (rs : List Row) → lock_on field (cond b (r ∷ rs) rs) ≡ cond ((b && same_field r.field field) && is_some r.lock) r.lock (lock_on field rs)
 lock_by true field r rs = refl

@@ -6,7 +6,6 @@ ghost use Rattle.fs_field.specs.Table.{is_live};
 ghost use Rattle.fs_rows.specs.Granted.{with_rows};
 ghost use Rattle.fs_rows.specs.Moving.{are_new, fits, is_new, least_of, lock_below, locked_in, rows_given, rows_left, stands_beside};
 
-use crate::against::stands_against;
 use crate::given_files::GivenFiles;
 use crate::grants::put_each;
 use crate::reads;
@@ -48,7 +47,6 @@ pub fn drop_given(rows: &mut Vec<Row>, piece: &MapPiece)
 
 /// The least transaction that keeps a row, not over at the reading `now`, on a file that begins with the prefix and is
 /// `me`'s.
-#[tactic(auto, using(crate::proofs::Goes::locked_step))]
 pub fn least_lock(
     rows: &[Row],
     now: u64,
@@ -140,17 +138,10 @@ fn stands_beside(rows: &[Row], now: u64, skew: u64, row: &Row) -> bool
     !reads::has(rows, now, skew, row.no) && !is_against_any(rows, now, skew, row)
 }
 
+/// Whether such a row conflicts with this one by sessions, fields and kinds alone.
+#[tactic(auto, using(crate::proofs::LiveSteps::found))]
 fn is_against_any(rows: &[Row], now: u64, skew: u64, row: &Row) -> bool
     ensures { result ≡ list_any (plain_conflict row.now) (filter (is_live now skew) rows.now) }
 {
-    rows.iter()
-        .filter(|other| is_live(other, now, skew))
-        .any(|other| is_against(other, row))
-}
-
-/// Whether the two conflict by sessions, fields and kinds alone.
-fn is_against(other: &Row, row: &Row) -> bool
-    ensures { result ≡ plain_conflict row.now other.now }
-{
-    stands_against(other, row.session, &row.field, row.kind)
+    reads::first_against(rows, now, skew, row.session, &row.field, row.kind).is_some()
 }

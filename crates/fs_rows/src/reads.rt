@@ -49,7 +49,8 @@ pub fn lock_on(rows: &[Row], now: u64, skew: u64, field: &Field) -> Option<TxnNo
 }
 
 /// The first row that keeps the session from such a lease.
-fn first_against<'a>(
+#[tactic(auto, using(crate::proofs::LiveSteps::find_step))]
+pub fn first_against<'a>(
     rows: &'a [Row],
     now: u64,
     skew: u64,
@@ -60,27 +61,33 @@ fn first_against<'a>(
     ensures { option_copied result ≡
         find (stands_against session field.now kind) (filter (is_live now skew) rows.now) }
 {
-    rows.iter()
-        .filter(|row| is_live(row, now, skew))
-        .find(|row| stands_against(row, session, field, kind))
+    for row in rows {
+        if is_live(row, now, skew) && stands_against(row, session, field, kind) {
+            return Some(row);
+        }
+    }
+    None
 }
 
 /// The row of this number.
+#[tactic(auto, using(crate::proofs::LiveSteps::find_step))]
 pub fn row(rows: &[Row], now: u64, skew: u64, no: LeaseNo) -> Option<&Row>
     ensures { option_copied result ≡ find (has_no no) (filter (is_live now skew) rows.now) }
 {
-    rows.iter()
-        .filter(|row| is_live(row, now, skew))
-        .find(|row| row.no == no)
+    for row in rows {
+        if is_live(row, now, skew) && row.no == no {
+            return Some(row);
+        }
+    }
+    None
 }
 
 /// Whether there is the row of this number.
+#[tactic(auto, using(crate::proofs::LiveSteps::found))]
 pub fn has(rows: &[Row], now: u64, skew: u64, no: LeaseNo) -> bool
     ensures { result ≡ list_any (has_no no) (filter (is_live now skew) rows.now) }
 {
-    rows.iter()
-        .filter(|row| is_live(row, now, skew))
-        .any(|row| row.no == no)
+    row(rows, now, skew, no).is_some()
 }
 
 /// Whether there is a row of the session on the field.
@@ -89,9 +96,12 @@ pub fn has_on(rows: &[Row], now: u64, skew: u64, field: &Field, session: Session
         same_field r.field field.now && (r.session.0 == session.0))
         (filter (is_live now skew) rows.now) }
 {
-    rows.iter()
-        .filter(|row| is_live(row, now, skew))
-        .any(|row| row.field.is(field) && row.session == session)
+    for row in rows {
+        if is_live(row, now, skew) && row.field.is(field) && row.session == session {
+            return true;
+        }
+    }
+    false
 }
 
 /// Whether there is the row of this lease of the session.
@@ -107,9 +117,12 @@ pub fn holds(
     ensures { result ≡
         list_any (is_lease no session field.now kind) (filter (is_live now skew) rows.now) }
 {
-    rows.iter()
-        .filter(|row| is_live(row, now, skew))
-        .any(|row| is_lease(row, no, session, field, kind))
+    for row in rows {
+        if is_live(row, now, skew) && is_lease(row, no, session, field, kind) {
+            return true;
+        }
+    }
+    false
 }
 
 /// The last numbers of the files right below the directory that rows are on.
