@@ -1,6 +1,7 @@
 //! Several values at once, all of them or none.
-ghost use Rattle.std.specs.Prelude.{◌≡◌, IfOk, IfErr, Ok, Err};
+ghost use Rattle.std.specs.Prelude.{◌≡◌, [], ◌∷◌, ◌++◌, IfOk, IfErr, OnOk, OnErr, Ok, Err};
 
+use crate::list::List;
 use crate::memory::Memory;
 use crate::twin::Twin;
 use std::alloc::Global;
@@ -38,4 +39,12 @@ pub fn copy_three<A: Twin + Drop, B: Twin + Drop, C: Twin + Drop>(
 {
     let (a, b) = copy_two(alloc, a, b)?;
     Ok((a, b, c.copy(alloc)?))
+}
+
+/// Adds a copy at the end.
+pub fn add_copy<T: Twin + Drop>(alloc: Global, list: &mut List<T>, x: &T) -> Result<(), Memory>
+    ensures ok { OnOk result (list.new ≡ list.old ++ x.now ∷ []) }
+    ensures err { OnErr result (list.new ≡ list.old) }
+{
+    list.push(x.copy(alloc)?)
 }
