@@ -21,6 +21,7 @@ use fs_ident::{FileId, List, Memory, Name, Twin, search_by_name};
 use fs_model::{Handle, Node};
 use std::alloc::Global;
 use std::collections::BTreeMap;
+use std::mem;
 
 /// What an effect changes, as it was before.
 #[derive(Drop)]
@@ -222,7 +223,7 @@ fn restore(records: &mut BTreeMap<FileId, Record>, file: &FileId, was: Record)
         (with_part (Whole (Some was)) (map.get (map_of records.old) file.now)) }
 {
     match records.get_mut(file) {
-        Some(record) => *record = was,
+        Some(record) => drop(mem::replace(record, was)),
         None => {}
     }
 }
