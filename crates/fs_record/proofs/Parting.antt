@@ -1,5 +1,5 @@
 -- What begins with a prefix stands together, and a walk over it tells what goes.
-use Rattle.std.proofs.Common.{◌≡◌, ◌∙◌, ℕ, List, [], ◌∷◌, Bool, true, false, refl, ap, sym, cond, inl, inr, arith}
+use Rattle.std.proofs.Common.{◌≡◌, ◌∙◌, ℕ, List, [], ◌∷◌, ◌++◌, Bool, true, false, refl, ap, sym, cond, inl, inr, append_assoc, arith}
 use Rattle.std.specs.Prelude.{None, not, ◌&&◌, nat_eq, unwrap_or}
 use Rattle.std.specs.List.{filter}
 use Rattle.std.specs.List.Sorted.{IsStrictlySortedBy}
@@ -100,6 +100,17 @@ pub given_in : (prefix : List ℕ) (given : Keyed Bool) (m : BTreeMap (List ℕ)
 given_in prefix given m h =
     ap (λ es. given_from prefix given (from_there prefix es)) (sym (map_of_entries m h))
     ∙ walked prefix given (entries (map_of m)) (holds _ (entries_sorted (map_of m)))
+
+-- the first is given, and then the others
+given_more : (prefix : List ℕ) (given : Keyed Bool) (e : List ℕ × Record) (es : Keyed Record) → begins prefix e.0 ≡ true → gives prefix given e.0 ≡ true → given_from prefix given (e ∷ es) ≡ e ∷ given_from prefix given es
+given_more prefix given e es b g =
+    let more : Keyed Record = given_from prefix given es in
+    ap (λ b. cond b (cond (gives prefix given e.0) (e ∷ more) more) []) b ∙ ap (λ b. cond b (e ∷ more) more) g
+
+pub given_next : (prefix : List ℕ) (given : Keyed Bool) (moved all es : Keyed Record) (e : List ℕ × Record) → all ≡ e ∷ es → begins prefix e.0 ≡ true → gives prefix given e.0 ≡ true
+    → (moved ++ e ∷ []) ++ given_from prefix given es ≡ moved ++ given_from prefix given all
+given_next prefix given moved all es e s b g =
+    append_assoc moved (e ∷ []) (given_from prefix given es) ∙ ap (λ (xs : Keyed Record). moved ++ xs) (sym (ap (given_from prefix given) s ∙ given_more prefix given e es b g))
 
 -- ## What is left
 

@@ -1,5 +1,5 @@
 -- Records that are taken out one after another.
-use Rattle.std.proofs.Common.{◌≡◌, ◌∙◌, ℕ, List, [], ◌∷◌, ◌++◌, Bool, true, false, refl, ap, ap₂, sym, cond, inl, inr, append-nil}
+use Rattle.std.proofs.Common.{◌≡◌, ◌∙◌, ℕ, List, [], ◌∷◌, ◌++◌, Bool, true, false, refl, ap, ap₂, sym, cond, inl, inr, append-nil, append_assoc}
 use Rattle.std.specs.Prelude.{Option, Some, None, not, ◌||◌, is_some}
 use Rattle.std.specs.List.{list_any}
 use Rattle.std.specs.Map.{keys_of, lookup}
@@ -103,6 +103,15 @@ taken_one m file e t v = ap (λ (k : List ℕ). (k, e.1) ∷ []) (sym (anti file
 
 pub taken_none : (xs : Keyed Record) (m : BTreeMap (List ℕ) Record) (file : List ℕ) → lookup (is_at (slice_cmp nat_cmp file)) m.entries ≡ None → xs ≡ xs ++ with_file file (get (map_of m) file) []
 taken_none xs m file v = sym (append-nil xs) ∙ ap (λ o. xs ++ with_file file o []) (sym (map_of_get m file ∙ v))
+
+first_taken : (xs rest : Keyed Record) (file : List ℕ) (o : Option Record) → (xs ++ with_file file o []) ++ rest ≡ xs ++ with_file file o rest
+first_taken xs rest file None = ap (λ ys. ys ++ rest) (append-nil xs)
+first_taken xs rest file (Some r) = append_assoc xs ((file, r) ∷ []) rest
+
+-- the record of the first file is taken, and then the others
+pub taken_next : (xs ys : Keyed Record) (file : List ℕ) (files : List (List ℕ)) (m : RecordMap) → ys ≡ xs ++ with_file file (get m file) []
+    → ys ++ taken_out files (remove m file) ≡ xs ++ taken_out (file ∷ files) m
+taken_next xs ys file files m e = ap (λ (zs : Keyed Record). zs ++ taken_out files (remove m file)) e ∙ first_taken xs (taken_out files (remove m file)) file (get m file)
 
 -- the files of what goes are taken out
 pub left_these : (prefix : List ℕ) (given : Keyed Bool) (moved : Keyed Record) (inside old : RecordMap) (slice : Keyed Record) (new : RecordMap)

@@ -7,6 +7,7 @@ ghost use Rattle.fs_record.specs.Fresh.{with_next};
 ghost use Rattle.fs_record.specs.Records.{AreRecords};
 ghost use Rattle.fs_ident.specs.Maps.{map_of};
 
+use crate::copies::both;
 use crate::lookups::next;
 use crate::record::Record;
 use fs_field::Effect;
@@ -30,26 +31,19 @@ pub fn apply(
             dir,
             name,
             to: Some(file),
-        } => return link(records, dir, name.copy(alloc)?, file.copy(alloc)?),
+        } => return link(alloc, records, dir, name, file),
         Effect::SetChild {
             dir,
             name,
             to: None,
         } => unlink(records, dir, name),
-        Effect::SetParent { file, dir, name } => place(
-            records,
-            file,
-            dir.copy(alloc)?,
-            name.copy(alloc)?,
-        ),
+        Effect::SetParent { file, dir, name } => return place(alloc, records, file, dir, name),
         Effect::NewNode {
             file,
             kind,
             dir,
             name,
-        } => {
-            make(alloc, records, file, *kind, dir, name)?;
-        }
+        } => return begin(alloc, records, file, *kind, dir, name),
         Effect::RemoveNode { file } => remove(records, file),
         Effect::AddHandle {
             file,
@@ -75,7 +69,7 @@ pub fn add(records: &mut BTreeMap<FileId, Record>, file: FileId, kept: Record) -
     ensures ok { OnOk result (map_of records.new ≡ map.insert (map_of records.old) file kept) }
     ensures err { OnErr result (map_of records.new ≡ map_of records.old) }
 {
-    swap(records, file, kept)?;
+    drop(swap(records, file, kept)?);
     Ok(())
 }
 
@@ -96,16 +90,18 @@ fn swap(
 /// Lets the name stand for the file.
 #[tactic(auto, using(fs_ident::proofs::MapsOf::maps, fs_ident::proofs::MapsOf::map_of_absent))]
 fn link(
+    alloc: Global,
     records: &mut BTreeMap<FileId, Record>,
     dir: &FileId,
-    name: Name,
-    file: FileId,
+    name: &Name,
+    file: &FileId,
 ) -> Result<(), Memory>
     requires { AreRecords (map_of records.old) }
     ensures ok { OnOk result (map_of records.new ≡
-        records_after (map_of records.old) (SetChild dir.now name (Some file))) }
+        records_after (map_of records.old) (SetChild dir.now name.now (Some file.now))) }
     ensures err { OnErr result (map_of records.new ≡ map_of records.old) }
 {
+    let (name, file) = both(alloc, name, file)?;
     match records.get_mut(dir) {
         Some(record) => children::link(&mut record.node.children, name, file),
         None => Ok(()),
@@ -129,14 +125,41 @@ pub fn unlink(records: &mut BTreeMap<FileId, Record>, dir: &FileId, name: &Name)
 
 /// Puts the file into another place.
 #[tactic(auto, using(fs_ident::proofs::MapsOf::maps, fs_ident::proofs::MapsOf::map_of_absent))]
-fn place(records: &mut BTreeMap<FileId, Record>, file: &FileId, dir: FileId, name: Name)
-    ensures { map_of records.new ≡
-        records_after (map_of records.old) (SetParent file.now dir name) }
+fn place(
+    alloc: Global,
+    records: &mut BTreeMap<FileId, Record>,
+    file: &FileId,
+    dir: &FileId,
+    name: &Name,
+) -> Result<(), Memory>
+    ensures ok { OnOk result (map_of records.new ≡
+        records_after (map_of records.old) (SetParent file.now dir.now name.now)) }
+    ensures err { OnErr result (map_of records.new ≡ map_of records.old) }
 {
+    let place = both(alloc, dir, name)?;
     match records.get_mut(file) {
-        Some(record) => record.node.parent = Some((dir, name)),
+        Some(record) => record.node.parent = Some(place),
         None => {}
     }
+    Ok(())
+}
+
+/// Makes the file anew.
+fn begin(
+    alloc: Global,
+    records: &mut BTreeMap<FileId, Record>,
+    file: &FileId,
+    kind: Kind,
+    dir: &FileId,
+    name: &Name,
+) -> Result<(), Memory>
+    requires { AreRecords (map_of records.old) }
+    ensures ok { OnOk result (map_of records.new ≡
+        records_after (map_of records.old) (NewNode file.now kind dir.now name.now)) }
+    ensures err { OnErr result (map_of records.new ≡ map_of records.old) }
+{
+    drop(make(alloc, records, file, kind, dir, name)?);
+    Ok(())
 }
 
 /// Makes the file anew, and hands out the record that it had. That one's next number is kept, and else the first is 1.
@@ -155,12 +178,13 @@ pub fn make(
     ensures was { IfOk result (λ was. was ≡ map.get (map_of records.old) file.now) }
     ensures err { OnErr result (map_of records.new ≡ map_of records.old) }
 {
-    let node = Node::new(alloc, kind, Some((dir.copy(alloc)?, name.copy(alloc)?)));
+    let made = file.copy(alloc)?;
+    let place = both(alloc, dir, name)?;
     let record = Record {
-        node,
+        node: Node::new(alloc, kind, Some(place)),
         next: next(records, file),
     };
-    swap(records, file.copy(alloc)?, record)
+    swap(records, made, record)
 }
 
 /// Takes the record away.

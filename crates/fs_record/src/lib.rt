@@ -2,6 +2,7 @@
 #![tactic(auto)]
 
 mod changes;
+mod copies;
 mod error;
 mod handles;
 mod in_order;

@@ -7,8 +7,9 @@ ghost use Rattle.fs_record.specs.Records.{AreRecords, node_of, next_of};
 ghost use Rattle.fs_record.specs.Opens.{is_open, open_files};
 ghost use Rattle.fs_ident.specs.Maps.{map_of};
 
+use crate::copies::add_copy;
 use crate::record::Record;
-use fs_ident::{FileId, List, Memory, Twin};
+use fs_ident::{FileId, List, Memory};
 use fs_model::Node;
 use std::alloc::Global;
 use std::collections::BTreeMap;
@@ -54,7 +55,7 @@ pub fn files(alloc: Global, records: &BTreeMap<FileId, Record>) -> Result<List<F
 {
     let mut ids = List::from_vec(Vec::with_capacity(alloc, records.len())?);
     for id in records.keys() {
-        ids.push(id.copy(alloc)?)?;
+        add_copy(alloc, &mut ids, id)?;
     }
     Ok(ids)
 }
@@ -66,7 +67,7 @@ pub fn open_files(alloc: Global, records: &BTreeMap<FileId, Record>) -> Result<L
     let mut ids = List::new(alloc);
     for entry in records.iter() {
         if is_open(entry.1) {
-            ids.push(entry.0.copy(alloc)?)?;
+            add_copy(alloc, &mut ids, entry.0)?;
         }
     }
     Ok(ids)

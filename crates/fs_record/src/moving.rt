@@ -12,6 +12,7 @@ ghost use Rattle.fs_record.specs.Moving.{are_absent, are_distinct, records_given
 ghost use Rattle.fs_record.specs.Walk.{taken_back, taken_out, with_file};
 
 use crate::changes::{add, remove};
+use crate::copies::{add_copy, both};
 use crate::record::Record;
 use fs_ident::{FileId, List, Memory, Twin};
 use fs_map::MapPiece;
@@ -46,7 +47,7 @@ pub fn given(
             return Ok(moved);
         }
         if is_given(piece, ordered, entry.0) {
-            moved.push((entry.0.copy(alloc)?, entry.1.copy(alloc)?))?;
+            moved.push(both(alloc, entry.0, entry.1)?)?;
         }
     }
     Ok(moved)
@@ -122,7 +123,7 @@ fn given_files(
             return Ok(files);
         }
         if is_given(piece, ordered, entry.0) {
-            files.push(entry.0.copy(alloc)?)?;
+            add_copy(alloc, &mut files, entry.0)?;
         }
     }
     Ok(files)
@@ -204,13 +205,22 @@ fn add_noted(
     ensures err { OnErr result (map_of records.new ≡ map_of records.old) }
     ensures none_noted { OnErr result (came.new.items ≡ came.old.items) }
 {
-    came.reserve(1)?;
-    let twin = file.copy(alloc)?;
+    let twin = copy_with_room(alloc, &file, came)?;
     add(records, file, kept)?;
     match came.push(twin) {
         Ok(()) => Ok(()),
         Err(_) => unreachable!(),
     }
+}
+
+/// A copy of the identifier, for which there is room.
+fn copy_with_room(alloc: Global, file: &FileId, came: &mut Vec<FileId>) -> Result<FileId, Memory>
+    ensures twin { IfOk result (λ twin. twin ≡ file.now) }
+    ensures room { OnOk result (vec_len came.new < vec_capacity came.new) }
+    ensures same { came.new.items ≡ came.old.items }
+{
+    came.reserve(1)?;
+    file.copy(alloc)
 }
 
 /// Takes the records of these files away, the last first.

@@ -1,9 +1,10 @@
 //! What an operation does to fields, by its reply.
-ghost use Rattle.std.specs.Prelude.{◌≡◌, true, [], ◌∷◌, map, Some, IfOk};
+ghost use Rattle.std.specs.Prelude.{◌≡◌, true, [], ◌∷◌, ◌++◌, map, Some, IfOk, OnOk};
 ghost use Rattle.fs_field.specs.declared.effect.Effect.TheVariants.{SetChild, NewNode, RemoveHandle};
 ghost use Rattle.fs_record.specs.Effects.{tells_its_effects, effects_of};
 ghost use Rattle.fs_record.specs.ValueOf.{own_of};
 
+use crate::copies::both;
 use fs_field::Effect;
 use fs_ident::{FileId, Kind, List, Memory, Name, Session, Twin};
 use fs_model::{Handle, Op, Reply};
@@ -80,21 +81,42 @@ fn made(
     ensures { IfOk result (λ told. told ≡ SetChild dir.now name.now (Some file.now) ∷
         NewNode file.now kind dir.now name.now ∷ []) }
 {
-    let mut told = single(
-        alloc,
-        Effect::SetChild {
-            dir: dir.copy(alloc)?,
-            name: name.copy(alloc)?,
-            to: Some(file.copy(alloc)?),
-        },
-    )?;
-    told.push(Effect::NewNode {
-        file: file.copy(alloc)?,
-        kind,
-        dir: dir.copy(alloc)?,
-        name: name.copy(alloc)?,
-    })?;
+    let mut told = single(alloc, linked(alloc, dir, name, file)?)?;
+    told.push(begun(alloc, dir, name, kind, file)?)?;
     Ok(told)
+}
+
+/// The name stands for the file.
+fn linked(alloc: Global, dir: &FileId, name: &Name, file: &FileId) -> Result<Effect, Memory>
+    ensures { IfOk result (λ e. e ≡ SetChild dir.now name.now (Some file.now)) }
+{
+    let to = file.copy(alloc)?;
+    let (dir, name) = both(alloc, dir, name)?;
+    Ok(Effect::SetChild {
+        dir,
+        name,
+        to: Some(to),
+    })
+}
+
+/// The file begins to live.
+fn begun(
+    alloc: Global,
+    dir: &FileId,
+    name: &Name,
+    kind: Kind,
+    file: &FileId,
+) -> Result<Effect, Memory>
+    ensures { IfOk result (λ e. e ≡ NewNode file.now kind dir.now name.now) }
+{
+    let file = file.copy(alloc)?;
+    let (dir, name) = both(alloc, dir, name)?;
+    Ok(Effect::NewNode {
+        file,
+        kind,
+        dir,
+        name,
+    })
 }
 
 /// One effect alone.
@@ -120,12 +142,25 @@ pub fn reap(
     let mut told = List::new(alloc);
     for x in handles {
         if x.session.0 == by.0 {
-            told.push(Effect::RemoveHandle {
-                file: file.copy(alloc)?,
-                session: by,
-                h: x.h,
-            })?;
+            add_close(alloc, &mut told, file, by, x.h)?;
         }
     }
     Ok(told)
+}
+
+/// Adds that the handle is taken away.
+fn add_close(
+    alloc: Global,
+    told: &mut List<Effect>,
+    file: &FileId,
+    by: Session,
+    h: u32,
+) -> Result<(), Memory>
+    ensures { OnOk result (told.new ≡ told.old ++ RemoveHandle file.now by h ∷ []) }
+{
+    told.push(Effect::RemoveHandle {
+        file: file.copy(alloc)?,
+        session: by,
+        h,
+    })
 }

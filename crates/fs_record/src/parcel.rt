@@ -1,4 +1,5 @@
 //! What goes from one server to another.
+use crate::copies::both;
 use crate::record::Record;
 use fs_field::Row;
 use fs_ident::{FileId, List, Memory, Twin};
@@ -17,11 +18,13 @@ pub struct Parcel {
 
 impl Twin for Parcel {
     fn copy(&self, alloc: Global) -> Result<Parcel, Memory> {
+        let (prefix, piece) = both(alloc, &self.prefix, &self.piece)?;
+        let (records, rows) = both(alloc, &self.records, &self.rows)?;
         Ok(Parcel {
-            prefix: self.prefix.copy(alloc)?,
-            piece: self.piece.copy(alloc)?,
-            records: self.records.copy(alloc)?,
-            rows: self.rows.copy(alloc)?,
+            prefix,
+            piece,
+            records,
+            rows,
         })
     }
 

@@ -105,6 +105,5 @@ fn change(alloc: Global, records: &mut BTreeMap<FileId, Record>, e: &Effect) -> 
         file: changed_file(e).copy(alloc)?,
         was: part_before(alloc, records, e)?,
     };
-    apply(alloc, records, e)?;
-    Ok(undo)
+    apply(alloc, records, e).and(Ok(undo))
 }

@@ -1,10 +1,11 @@
 //! Taking an effect back without memory.
-ghost use Rattle.std.specs.Prelude.{◌≡◌, IsTrue, false, true, IfOk, Some};
+ghost use Rattle.std.specs.Prelude.{◌≡◌, IsTrue, false, true, IfOk, IfSome, Some};
 ghost use Rattle.std.specs.FinMap as map;
 ghost use Rattle.std.specs.Option.{option_copied};
 ghost use Rattle.fs_ident.specs.Maps.{map_of};
 ghost use Rattle.fs_ident.specs.Ordered.{are_keys_in_order};
-ghost use Rattle.fs_model.specs.Sound.{parent_of};
+ghost use Rattle.fs_model.specs.Namespace.{IsInOrder};
+ghost use Rattle.fs_model.specs.Sound.{child_of, parent_of};
 ghost use Rattle.fs_record.specs.Applied.{changed_file, is_birth, is_undoable, with_at};
 ghost use Rattle.fs_record.specs.Records.{AreRecords};
 ghost use Rattle.fs_record.specs.ValueOf.{handles_of, info_of};
@@ -20,6 +21,7 @@ use fs_ident::{FileId, List, Memory, Name, Twin, search_by_name};
 use fs_model::{Handle, Node};
 use std::alloc::Global;
 use std::collections::BTreeMap;
+use std::mem;
 
 /// What an effect changes, as it was before.
 #[derive(Drop)]
@@ -77,37 +79,43 @@ pub fn part_before(
     ensures { IfOk result (λ was. was ≡
         part_of e.now (map.get (map_of records.now) (changed_file e.now))) }
 {
+    let node = node(records, changed_file(e));
     match e {
-        Effect::SetChild { dir, name, .. } => {
-            let was = child(alloc, node(records, dir), name)?;
-            Ok(Part::Child(name.copy(alloc)?, was))
-        }
-        Effect::SetParent { file, .. } => Ok(Part::Parent(parent(alloc, node(records, file))?)),
-        Effect::AddHandle { file, .. } | Effect::RemoveHandle { file, .. } => {
-            Ok(Part::Handles(opens(alloc, node(records, file))?))
-        }
-        Effect::SetInfo { file, .. } => Ok(size_and_stamp(node(records, file))),
+        Effect::SetChild { name, .. } => child_before(alloc, node, name),
+        Effect::SetParent { .. } => parent(alloc, node),
+        Effect::AddHandle { .. } | Effect::RemoveHandle { .. } => opens(alloc, node),
+        Effect::SetInfo { .. } => Ok(size_and_stamp(node)),
         Effect::NewNode { .. } | Effect::RemoveNode { .. } => unreachable!(),
     }
 }
 
+/// What the name stands for.
+fn child_before(alloc: Global, node: Option<&Node>, name: &Name) -> Result<Part, Memory>
+    requires { IfSome node (λ n. IsInOrder n.now) }
+    ensures { IfOk result (λ was. was ≡
+        Child name.now (child_of (option_copied node.entry) name.now)) }
+{
+    let name_again = name.copy(alloc)?;
+    Ok(Part::Child(name_again, child(alloc, node, name)?))
+}
+
 /// The directory that the file stands in, and its name there.
-fn parent(alloc: Global, node: Option<&Node>) -> Result<Option<(FileId, Name)>, Memory>
-    ensures { IfOk result (λ was. was ≡ parent_of (option_copied node.entry)) }
+fn parent(alloc: Global, node: Option<&Node>) -> Result<Part, Memory>
+    ensures { IfOk result (λ was. was ≡ Parent (parent_of (option_copied node.entry))) }
 {
     match node {
-        Some(node) => node.parent.copy(alloc),
-        None => Ok(None),
+        Some(node) => Ok(Part::Parent(node.parent.copy(alloc)?)),
+        None => Ok(Part::Parent(None)),
     }
 }
 
 /// All handles of the file.
-fn opens(alloc: Global, node: Option<&Node>) -> Result<List<Handle>, Memory>
-    ensures { IfOk result (λ was. was ≡ handles_of (option_copied node.entry)) }
+fn opens(alloc: Global, node: Option<&Node>) -> Result<Part, Memory>
+    ensures { IfOk result (λ was. was ≡ Handles (handles_of (option_copied node.entry))) }
 {
     match node {
-        Some(node) => node.handles.copy(alloc),
-        None => Ok(List::new(alloc)),
+        Some(node) => Ok(Part::Handles(node.handles.copy(alloc)?)),
+        None => Ok(Part::Handles(List::new(alloc))),
     }
 }
 
@@ -215,7 +223,7 @@ fn restore(records: &mut BTreeMap<FileId, Record>, file: &FileId, was: Record)
         (with_part (Whole (Some was)) (map.get (map_of records.old) file.now)) }
 {
     match records.get_mut(file) {
-        Some(record) => *record = was,
+        Some(record) => drop(mem::replace(record, was)),
         None => {}
     }
 }

@@ -1,5 +1,5 @@
 use Rattle.std.proofs.Common.{◌≡◌, ◌+◌, ◌++◌, ◌∷◌, [], List, take, ap, sym, subst, ◌∙◌}
-use Rattle.std.proofs.lemmas.List.{take_more}
+use Rattle.std.proofs.lemmas.List.{take_all, take_more}
 use Rattle.fs_field.specs.declared.effect.Effect.{Effect}
 use Rattle.fs_ident.specs.Maps.{map_of}
 use Rattle.fs_record.specs.declared.undo.Undo.{Undo}
@@ -40,3 +40,6 @@ loop-e-preserved c =
           ∙ sym (undos_of-append old front e)
           ∙ ap (undos_of old) (sym more);
     }
+
+pub returns-clause-ok : goal.returns-clause-ok
+returns-clause-ok c = c.loop-e.invariant.done ∙ ap (records_after_all (map_of c.args.records.now)) (take_all c.loop-e.e-index c.args.effects.now c.loop-e-test.false)
