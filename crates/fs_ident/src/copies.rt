@@ -17,7 +17,7 @@ pub fn both<A: Drop, B, E>(a: A, b: Result<B, E>) -> Result<(A, B), E>
 }
 
 /// Copies of both.
-pub fn copy_two<A: Twin + Drop, B: Twin + Drop>(
+pub fn copy_two<A: Twin + Drop, B: Twin>(
     alloc: Global,
     a: &A,
     b: &B,
@@ -29,7 +29,7 @@ pub fn copy_two<A: Twin + Drop, B: Twin + Drop>(
 }
 
 /// Copies of all three.
-pub fn copy_three<A: Twin + Drop, B: Twin + Drop, C: Twin + Drop>(
+pub fn copy_three<A: Twin + Drop, B: Twin + Drop, C: Twin>(
     alloc: Global,
     a: &A,
     b: &B,

@@ -7,11 +7,10 @@ ghost use Rattle.fs_record.specs.Fresh.{with_next};
 ghost use Rattle.fs_record.specs.Records.{AreRecords};
 ghost use Rattle.fs_ident.specs.Maps.{map_of};
 
-use crate::copies::both;
 use crate::lookups::next;
 use crate::record::Record;
 use fs_field::Effect;
-use fs_ident::{FileId, Kind, Memory, Name, Session, Twin};
+use fs_ident::{FileId, Kind, Memory, Name, Session, Twin, copy_two};
 use fs_model::{Handle, Node, children, handles};
 use std::alloc::Global;
 use std::collections::BTreeMap;
@@ -101,7 +100,7 @@ fn link(
         records_after (map_of records.old) (SetChild dir.now name.now (Some file.now))) }
     ensures err { OnErr result (map_of records.new ≡ map_of records.old) }
 {
-    let (name, file) = both(alloc, name, file)?;
+    let (name, file) = copy_two(alloc, name, file)?;
     match records.get_mut(dir) {
         Some(record) => children::link(&mut record.node.children, name, file),
         None => Ok(()),
@@ -136,7 +135,7 @@ fn place(
         records_after (map_of records.old) (SetParent file.now dir.now name.now)) }
     ensures err { OnErr result (map_of records.new ≡ map_of records.old) }
 {
-    let place = both(alloc, dir, name)?;
+    let place = copy_two(alloc, dir, name)?;
     match records.get_mut(file) {
         Some(record) => record.node.parent = Some(place),
         None => {}
@@ -179,7 +178,7 @@ pub fn make(
     ensures err { OnErr result (map_of records.new ≡ map_of records.old) }
 {
     let made = file.copy(alloc)?;
-    let place = both(alloc, dir, name)?;
+    let place = copy_two(alloc, dir, name)?;
     let record = Record {
         node: Node::new(alloc, kind, Some(place)),
         next: next(records, file),

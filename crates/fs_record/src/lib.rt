@@ -2,7 +2,6 @@
 #![tactic(auto)]
 
 mod changes;
-mod copies;
 mod error;
 mod handles;
 mod in_order;

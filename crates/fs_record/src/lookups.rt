@@ -7,9 +7,8 @@ ghost use Rattle.fs_record.specs.Records.{AreRecords, node_of, next_of};
 ghost use Rattle.fs_record.specs.Opens.{is_open, open_files};
 ghost use Rattle.fs_ident.specs.Maps.{map_of};
 
-use crate::copies::add_copy;
 use crate::record::Record;
-use fs_ident::{FileId, List, Memory};
+use fs_ident::{FileId, List, Memory, add_copy};
 use fs_model::Node;
 use std::alloc::Global;
 use std::collections::BTreeMap;

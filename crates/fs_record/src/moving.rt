@@ -12,9 +12,8 @@ ghost use Rattle.fs_record.specs.Moving.{are_absent, are_distinct, records_given
 ghost use Rattle.fs_record.specs.Walk.{taken_back, taken_out, with_file};
 
 use crate::changes::{add, remove};
-use crate::copies::{add_copy, both};
 use crate::record::Record;
-use fs_ident::{FileId, List, Memory, Twin};
+use fs_ident::{FileId, List, Memory, Twin, add_copy, copy_two};
 use fs_map::MapPiece;
 use std::alloc::Global;
 use std::collections::BTreeMap;
@@ -47,7 +46,7 @@ pub fn given(
             return Ok(moved);
         }
         if is_given(piece, ordered, entry.0) {
-            moved.push(both(alloc, entry.0, entry.1)?)?;
+            moved.push(copy_two(alloc, entry.0, entry.1)?)?;
         }
     }
     Ok(moved)

@@ -4,9 +4,8 @@ ghost use Rattle.fs_field.specs.declared.effect.Effect.TheVariants.{SetChild, Ne
 ghost use Rattle.fs_record.specs.Effects.{tells_its_effects, effects_of};
 ghost use Rattle.fs_record.specs.ValueOf.{own_of};
 
-use crate::copies::both;
 use fs_field::Effect;
-use fs_ident::{FileId, Kind, List, Memory, Name, Session, Twin};
+use fs_ident::{FileId, Kind, List, Memory, Name, Session, Twin, copy_two};
 use fs_model::{Handle, Op, Reply};
 use std::alloc::Global;
 
@@ -91,7 +90,7 @@ fn linked(alloc: Global, dir: &FileId, name: &Name, file: &FileId) -> Result<Eff
     ensures { IfOk result (λ e. e ≡ SetChild dir.now name.now (Some file.now)) }
 {
     let to = file.copy(alloc)?;
-    let (dir, name) = both(alloc, dir, name)?;
+    let (dir, name) = copy_two(alloc, dir, name)?;
     Ok(Effect::SetChild {
         dir,
         name,
@@ -110,7 +109,7 @@ fn begun(
     ensures { IfOk result (λ e. e ≡ NewNode file.now kind dir.now name.now) }
 {
     let file = file.copy(alloc)?;
-    let (dir, name) = both(alloc, dir, name)?;
+    let (dir, name) = copy_two(alloc, dir, name)?;
     Ok(Effect::NewNode {
         file,
         kind,

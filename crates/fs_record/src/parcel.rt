@@ -1,8 +1,7 @@
 //! What goes from one server to another.
-use crate::copies::both;
 use crate::record::Record;
 use fs_field::Row;
-use fs_ident::{FileId, List, Memory, Twin};
+use fs_ident::{FileId, List, Memory, Twin, copy_two};
 use fs_map::MapPiece;
 use std::alloc::Global;
 
@@ -18,8 +17,8 @@ pub struct Parcel {
 
 impl Twin for Parcel {
     fn copy(&self, alloc: Global) -> Result<Parcel, Memory> {
-        let (prefix, piece) = both(alloc, &self.prefix, &self.piece)?;
-        let (records, rows) = both(alloc, &self.records, &self.rows)?;
+        let (prefix, piece) = copy_two(alloc, &self.prefix, &self.piece)?;
+        let (records, rows) = copy_two(alloc, &self.records, &self.rows)?;
         Ok(Parcel {
             prefix,
             piece,

@@ -19,7 +19,7 @@ pub loop-entry-preserved-in_ok-push : goal.loop-entry-preserved-in_ok-push
 loop-entry-preserved-in_ok-push c =
     let piece = c.args.piece.now in
     let moved = c.loop-entry.moved in
-    ap (λ (now : Keyed Record). now ++ given_from piece.prefix piece.given c.next.new.self) (c.in_ok-push.ensures.ok ∙ ap (λ (e : List ℕ × Record). moved ++ e ∷ []) c.in_ok-both.ensures)
+    ap (λ (now : Keyed Record). now ++ given_from piece.prefix piece.given c.next.new.self) (c.in_ok-push.ensures.ok ∙ ap (λ (e : List ℕ × Record). moved ++ e ∷ []) c.in_ok-copy_two.ensures)
     ∙ given_next piece.prefix piece.given moved c.loop-entry.entry-iterator c.next.new.self (c.in-Some.entry.0.now, c.in-Some.entry.1.now)
     (rest_more deref_pair _ _ _ c.in-Some.entry c.in-Some.is c.next.ensures.steps)
     (sym c.begins.ensures ∙ c.if-not-begins.false)
