@@ -1,5 +1,5 @@
 //! Nodes of the tree.
-use fs_ident::{FileId, Kind, List, Memory, Name, Session, Twin};
+use fs_ident::{FileId, Kind, List, Memory, Name, Session, Twin, copy_three};
 use fs_modes::Modes;
 use std::alloc::Global;
 
@@ -54,13 +54,19 @@ impl Twin for Handle {
 
 impl Twin for Node {
     fn copy(&self, alloc: Global) -> Result<Node, Memory> {
+        let (parent, children, handles) = copy_three(
+            alloc,
+            &self.parent,
+            &self.children,
+            &self.handles,
+        )?;
         Ok(Node {
             kind: self.kind,
-            parent: self.parent.copy(alloc)?,
-            children: self.children.copy(alloc)?,
+            parent,
+            children,
             size: self.size,
             stamp: self.stamp,
-            handles: self.handles.copy(alloc)?,
+            handles,
         })
     }
 

@@ -1,7 +1,7 @@
 //! What is asked of the namespace.
 ghost use Rattle.std.specs.Prelude.{◌≡◌};
 
-use fs_ident::{FileId, Kind, Memory, Name, Session, Twin, copy_two};
+use fs_ident::{FileId, Kind, Memory, Name, Session, Twin, both, copy_three, copy_two};
 use fs_modes::Modes;
 use std::alloc::Global;
 
@@ -98,8 +98,7 @@ impl Twin for Op {
                 kind,
                 id,
             } => {
-                let id = id.copy(alloc)?;
-                let (dir, name) = copy_two(alloc, dir, name)?;
+                let (dir, name, id) = copy_three(alloc, dir, name, id)?;
                 Ok(Op::Create {
                     dir,
                     name,
@@ -137,8 +136,8 @@ impl Twin for Op {
                 ddir,
                 dname,
             } => {
-                let (sdir, sname) = copy_two(alloc, sdir, sname)?;
-                let (ddir, dname) = copy_two(alloc, ddir, dname)?;
+                let from = copy_two(alloc, sdir, sname)?;
+                let ((sdir, sname), (ddir, dname)) = both(from, copy_two(alloc, ddir, dname))?;
                 Ok(Op::Rename {
                     sdir,
                     sname,

@@ -12,7 +12,7 @@ use crate::handles::any_denies_delete;
 use crate::lookups::node_at;
 use crate::node::Node;
 use crate::reply::Reply;
-use fs_ident::{FileId, Kind, Memory, Name, Twin};
+use fs_ident::{FileId, Kind, Memory, Name, Twin, both, copy_two};
 use std::alloc::Global;
 use std::collections::BTreeMap;
 
@@ -92,12 +92,10 @@ fn move_node(
         with_moved_node (map_of nodes.old) file.now sdir.now sname.now ddir.now dname.now) }
     ensures err { OnErr result (map_of nodes.new ≡ map_of nodes.old) }
 {
-    let child = file.copy(alloc)?;
-    let child_name = dname.copy(alloc)?;
-    let parent = ddir.copy(alloc)?;
-    let parent_name = dname.copy(alloc)?;
-    changes::link(nodes, ddir, child_name, child)?;
+    let place = copy_two(alloc, ddir, dname)?;
+    let (place, (child, child_name)) = both(place, copy_two(alloc, file, dname))?;
+    let ((dir, name), _) = both(place, changes::link(nodes, ddir, child_name, child))?;
     changes::unlink(nodes, sdir, sname);
-    changes::reparent(nodes, file, parent, parent_name);
+    changes::reparent(nodes, file, dir, name);
     Ok(())
 }
