@@ -1,5 +1,6 @@
 pub mod Cuts
 pub mod Asked
+pub mod Operands
 pub mod Operations
 pub mod Digits
 pub mod Spelled

@@ -71,7 +71,9 @@ impl Twin for Event {
         })
     }
 
-    fn discard(self) {}
+    fn discard(self) {
+        self.what.discard();
+    }
 }
 
 impl Twin for Schedule {

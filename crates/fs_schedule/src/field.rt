@@ -24,15 +24,25 @@ pub fn field_at(alloc: Global, words: &[Word]) -> Result<Field, Unread>
 fn field_by(alloc: Global, text: &[u8], operands: &[Word]) -> Result<Field, Unread>
     ensures { Reads field_words FitsField result (Bare text.now ∷ words_in operands.now) }
 {
-    match text {
-        b"life" => life_of(alloc, operands),
-        b"child" => child_of(alloc, operands),
-        b"names" => names_of(alloc, operands),
-        b"info" => info_of(alloc, operands),
-        b"self" => self_of(alloc, operands),
-        b"other" => other_of(alloc, operands),
-        _ => Err(Unread::Outside),
+    if text == b"life".as_slice() {
+        return life_of(alloc, operands);
     }
+    if text == b"child".as_slice() {
+        return child_of(alloc, operands);
+    }
+    if text == b"names".as_slice() {
+        return names_of(alloc, operands);
+    }
+    if text == b"info".as_slice() {
+        return info_of(alloc, operands);
+    }
+    if text == b"self".as_slice() {
+        return self_of(alloc, operands);
+    }
+    if text == b"other".as_slice() {
+        return other_of(alloc, operands);
+    }
+    Err(Unread::Outside)
 }
 
 fn life_of(alloc: Global, operands: &[Word]) -> Result<Field, Unread>

@@ -57,15 +57,25 @@ fn what_of(alloc: Global, head: Head, words: &[Word]) -> Result<What, Unread>
 fn what_by(alloc: Global, head: Head, verb: &[u8], operands: &[Word]) -> Result<What, Unread>
     ensures { Tells (IsToldWhat head) result (Bare verb.now ∷ words_in operands.now) }
 {
-    match verb {
-        b"join" => join_of(operands),
-        b"do" => do_of(alloc, head, operands),
-        b"tell" => tell_of(alloc, head, operands),
-        b"turn" => turn_of(alloc, head, operands),
-        b"recall" => recall_of(alloc, head, operands),
-        b"move" => move_of(alloc, head, operands),
-        _ => Err(Unread::Outside),
+    if verb == b"join".as_slice() {
+        return join_of(operands);
     }
+    if verb == b"do".as_slice() {
+        return do_of(alloc, head, operands);
+    }
+    if verb == b"tell".as_slice() {
+        return tell_of(alloc, head, operands);
+    }
+    if verb == b"turn".as_slice() {
+        return turn_of(alloc, head, operands);
+    }
+    if verb == b"recall".as_slice() {
+        return recall_of(alloc, head, operands);
+    }
+    if verb == b"move".as_slice() {
+        return move_of(alloc, head, operands);
+    }
+    Err(Unread::Outside)
 }
 
 fn join_of(operands: &[Word]) -> Result<What, Unread>

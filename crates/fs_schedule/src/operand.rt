@@ -109,11 +109,13 @@ pub fn kind_at(word: &Word) -> Result<Kind, Unread>
     let Word::Bare(text) = word else {
         return Err(Unread::Outside);
     };
-    match *text {
-        b"file" => Ok(Kind::File),
-        b"dir" => Ok(Kind::Dir),
-        _ => Err(Unread::Outside),
+    if *text == b"file".as_slice() {
+        return Ok(Kind::File);
     }
+    if *text == b"dir".as_slice() {
+        return Ok(Kind::Dir);
+    }
+    Err(Unread::Outside)
 }
 
 /// One of the six modes.

@@ -13,7 +13,7 @@ use crate::head::has_op;
 use crate::operand::{handle_at, id_at, kind_at, modes_at, name_at, number_at};
 use crate::unread::Unread;
 use crate::word::Word;
-use fs_ident::{FileId, Name};
+use fs_ident::{FileId, Name, Twin};
 use fs_model::Op;
 use std::alloc::Global;
 
@@ -40,6 +40,7 @@ pub fn op_at(alloc: Global, head: Head, words: &[Word]) -> Result<Op, Unread>
     if has_op(head, &op) {
         Ok(op)
     } else {
+        op.discard();
         Err(Unread::Outside)
     }
 }
@@ -65,19 +66,37 @@ fn op_by(alloc: Global, text: &[u8], operands: &[Word]) -> Result<Op, Unread>
 fn verb_of(text: &[u8]) -> Result<Verb, Unread>
     ensures { Reads verb_text Always result text.now }
 {
-    match text {
-        b"lookup" => Ok(Verb::Lookup),
-        b"list" => Ok(Verb::List),
-        b"kind" => Ok(Verb::Kind),
-        b"info" => Ok(Verb::Info),
-        b"create" => Ok(Verb::Create),
-        b"open" => Ok(Verb::Open),
-        b"close" => Ok(Verb::Close),
-        b"set" => Ok(Verb::Set),
-        b"delete" => Ok(Verb::Delete),
-        b"rename" => Ok(Verb::Rename),
-        _ => Err(Unread::Outside),
+    if text == b"lookup".as_slice() {
+        return Ok(Verb::Lookup);
     }
+    if text == b"list".as_slice() {
+        return Ok(Verb::List);
+    }
+    if text == b"kind".as_slice() {
+        return Ok(Verb::Kind);
+    }
+    if text == b"info".as_slice() {
+        return Ok(Verb::Info);
+    }
+    if text == b"create".as_slice() {
+        return Ok(Verb::Create);
+    }
+    if text == b"open".as_slice() {
+        return Ok(Verb::Open);
+    }
+    if text == b"close".as_slice() {
+        return Ok(Verb::Close);
+    }
+    if text == b"set".as_slice() {
+        return Ok(Verb::Set);
+    }
+    if text == b"delete".as_slice() {
+        return Ok(Verb::Delete);
+    }
+    if text == b"rename".as_slice() {
+        return Ok(Verb::Rename);
+    }
+    Err(Unread::Outside)
 }
 
 fn op_of(alloc: Global, verb: Verb, operands: &[Word]) -> Result<Op, Unread>

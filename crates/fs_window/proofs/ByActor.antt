@@ -1,6 +1,6 @@
 -- Entries in order of their actors stay in order.
-use Rattle.std.proofs.Common.{◌≡◌, ℕ, Bool, true, false, [], ◌∷◌, map, refl, sym, ap, ◌∙◌, subst}
-use Rattle.std.specs.Prelude.{T, ◌&&◌}
+use Rattle.std.proofs.Common.{◌≡◌, ℕ, true, [], ◌∷◌, map, refl, ap, ◌∙◌}
+use Rattle.std.specs.Prelude.{◌&&◌}
 use Rattle.std.specs.Ordering.{is_lt}
 use Rattle.std.specs.FinMap.Entries.{put, is_sorted-put, below_all}
 use Rattle.fs_ident.specs.declared.actor.Peer.{Peer}

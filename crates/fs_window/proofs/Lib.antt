@@ -5,6 +5,7 @@ pub mod Lists
 pub mod OneStep
 pub mod PacketSteps
 pub mod PeerOrder
+pub mod Places
 pub mod ReadBack
 pub mod Schedule
 pub mod Undone

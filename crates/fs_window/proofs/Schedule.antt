@@ -1,5 +1,5 @@
 -- Both directions of a link are kept by every schedule.
-use Rattle.std.proofs.Common.{◌≡◌, ℕ, zero, suc, ◌+◌, ◌^◌, ◌-◌, min, Bool, true, false, leb, length, List, [], ◌∷◌, ◌++◌, Option, Some, None, refl, sym, ap, ◌∙◌, inl, inr, arith}
+use Rattle.std.proofs.Common.{◌≡◌, ℕ, ◌+◌, ◌^◌, ◌-◌, min, Bool, true, false, leb, length, List, [], ◌∷◌, Option, Some, None, refl, sym, ap, ◌∙◌, arith}
 use Rattle.std.specs.Prelude.{slice_get}
 use Rattle.std.proofs.lemmas.Bool.{leb-false}
 use Rattle.std.proofs.lemmas.List.{length-append, length-drop}
@@ -9,7 +9,6 @@ use Rattle.fs_window.specs.declared.packet.Packet.{Packet}
 use Rattle.fs_window.specs.LinkEnd.{pushed_count, due_of}
 use Rattle.fs_window.specs.Ends.{End, Event, Push, Due, Accept, pushed_on, made_on, accepted_on, happens_at, Ends, happens, run, new_end, new_ends, IsDeliveredPrefix}
 use Rattle.fs_window.specs.OnTheWay.{on_the_way, IsPacketOf, HasGiven}
-use Rattle.fs_window.proofs.Lists.{some_is}
 use Rattle.fs_window.proofs.OneStep.{made_packet}
 use Rattle.fs_window.proofs.Carried.{given_new, given_pushed, given_sent, given_told, given_back, given_other_pushed, given_other_sent, packet_pushed, packet_sent, packet_told, packet_back, packet_other_pushed, packet_other_sent}
 
