@@ -249,8 +249,10 @@ impl Twin for Served {
         let actors = copy_three(alloc, &self.servers, &self.posts, &self.term)?;
         let said = copy_three(alloc, &self.flying, &self.journal, &self.packets);
         let parts = both(actors, said)?;
-        let (((servers, posts, term), (flying, journal, packets)), seats) =
-            both(parts, self.seats.copy(alloc))?;
+        let (((servers, posts, term), (flying, journal, packets)), seats) = both(
+            parts,
+            self.seats.copy(alloc),
+        )?;
         Ok(Served {
             seats,
             servers,
