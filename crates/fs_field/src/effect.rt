@@ -1,7 +1,7 @@
 //! What an admitted operation does to fields.
 ghost use Rattle.std.specs.Prelude.{◌≡◌};
 
-use fs_ident::{FileId, Kind, Memory, Name, Session, Twin, copy_two};
+use fs_ident::{FileId, Kind, Memory, Name, Session, Twin, copy_three};
 use fs_modes::Modes;
 use std::alloc::Global;
 
@@ -56,13 +56,11 @@ impl Twin for Effect {
     fn copy(&self, alloc: Global) -> Result<Effect, Memory> {
         match self {
             Effect::SetChild { dir, name, to } => {
-                let to = to.copy(alloc)?;
-                let (dir, name) = copy_two(alloc, dir, name)?;
+                let (dir, name, to) = copy_three(alloc, dir, name, to)?;
                 Ok(Effect::SetChild { dir, name, to })
             }
             Effect::SetParent { file, dir, name } => {
-                let file = file.copy(alloc)?;
-                let (dir, name) = copy_two(alloc, dir, name)?;
+                let (file, dir, name) = copy_three(alloc, file, dir, name)?;
                 Ok(Effect::SetParent { file, dir, name })
             }
             Effect::NewNode {
@@ -71,8 +69,7 @@ impl Twin for Effect {
                 dir,
                 name,
             } => {
-                let file = file.copy(alloc)?;
-                let (dir, name) = copy_two(alloc, dir, name)?;
+                let (file, dir, name) = copy_three(alloc, file, dir, name)?;
                 Ok(Effect::NewNode {
                     file,
                     kind: *kind,
@@ -107,5 +104,7 @@ impl Twin for Effect {
         }
     }
 
-    fn discard(self) {}
+    fn discard(self) {
+        drop(self);
+    }
 }
