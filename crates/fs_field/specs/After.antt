@@ -12,8 +12,18 @@ use Rattle.fs_field.specs.declared.field.Field.TheVariants.{Life, Child, Names, 
 use Rattle.fs_field.specs.declared.value.Value.{Value}
 use Rattle.fs_field.specs.declared.value.Value.TheVariants as value
 use Rattle.fs_field.specs.declared.effect.Effect.{Effect}
-use Rattle.fs_field.specs.declared.effect.Effect.TheVariants.{SetChild, NewNode, RemoveNode, AddHandle, RemoveHandle, SetInfo}
+use Rattle.fs_field.specs.declared.effect.Effect.TheVariants.{SetChild, SetParent, NewNode, RemoveNode, AddHandle, RemoveHandle, SetInfo}
 use Rattle.fs_ident.specs.Ident.{same}
+
+-- the file that the effect is on, and of a child the directory
+abbrev pub effect_file : Effect → List ℕ
+effect_file (SetChild dir name to) = dir
+effect_file (SetParent file dir name) = file
+effect_file (NewNode file kind dir name) = file
+effect_file (RemoveNode file) = file
+effect_file (AddHandle file session h modes) = file
+effect_file (RemoveHandle file session h) = file
+effect_file (SetInfo file size stamp) = file
 
 -- a field of the file that begins anew with its life
 abbrev pub touches_node : List ℕ → Field → Bool

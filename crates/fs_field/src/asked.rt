@@ -40,7 +40,9 @@ impl Twin for Need {
         }
     }
 
-    fn discard(self) {}
+    fn discard(self) {
+        drop(self);
+    }
 }
 
 impl Twin for Asked {

@@ -128,14 +128,16 @@ fn change_child(
     ensures err { OnErr result (child.new ≡ child.old) }
 {
     match e {
-        Effect::SetChild { dir, name, to } if d == dir && n == name => *child = to.copy(alloc)?,
-        Effect::NewNode {
-            file,
-            kind: _,
-            dir: _,
-            name: _,
-        } if d == file => *child = None,
-        Effect::RemoveNode { file } if d == file => *child = None,
+        Effect::SetChild { dir, name, to } => {
+            if d == dir && n == name {
+                *child = to.copy(alloc)?;
+            }
+        }
+        Effect::NewNode { file, .. } | Effect::RemoveNode { file } => {
+            if d == file {
+                *child = None;
+            }
+        }
         _ => {}
     }
     Ok(())
@@ -146,23 +148,19 @@ fn change_names(alloc: Global, names: &mut List<Name>, d: &FileId, e: &Effect) -
     ensures err { OnErr result (names.new ≡ names.old) }
 {
     match e {
-        Effect::SetChild {
-            dir,
-            name,
-            to: Some(_),
-        } if d == dir => with_name(alloc, names, name)?,
-        Effect::SetChild {
-            dir,
-            name,
-            to: None,
-        } if d == dir => without_name(names, name),
-        Effect::NewNode {
-            file,
-            kind: _,
-            dir: _,
-            name: _,
-        } if d == file => *names = List::new(alloc),
-        Effect::RemoveNode { file } if d == file => *names = List::new(alloc),
+        Effect::SetChild { dir, name, to } => {
+            if d == dir {
+                match to {
+                    Some(_) => with_name(alloc, names, name)?,
+                    None => without_name(names, name),
+                }
+            }
+        }
+        Effect::NewNode { file, .. } | Effect::RemoveNode { file } => {
+            if d == file {
+                names.truncate(0);
+            }
+        }
         _ => {}
     }
     Ok(())
@@ -207,22 +205,26 @@ fn change_own(
     ensures err { OnErr result (own.new ≡ own.old) }
 {
     match e {
-        Effect::NewNode {
-            file,
-            kind: _,
-            dir: _,
-            name: _,
-        } if f == file => *own = List::new(alloc),
-        Effect::RemoveNode { file } if f == file => *own = List::new(alloc),
+        Effect::NewNode { file, .. } | Effect::RemoveNode { file } => {
+            if f == file {
+                own.truncate(0);
+            }
+        }
         Effect::AddHandle {
             file,
             session,
             h,
             modes,
-        } if f == file && *session == s => with_handle(alloc, own, *h, *modes)?,
-        Effect::RemoveHandle { file, session, h } if f == file && *session == s => without_handle(
-            own, *h,
-        ),
+        } => {
+            if f == file && *session == s {
+                with_handle(alloc, own, *h, *modes)?;
+            }
+        }
+        Effect::RemoveHandle { file, session, h } => {
+            if f == file && *session == s {
+                without_handle(own, *h);
+            }
+        }
         _ => {}
     }
     Ok(())

@@ -1,7 +1,7 @@
 //! What an admitted operation does to fields.
 ghost use Rattle.std.specs.Prelude.{◌≡◌};
 
-use fs_ident::{FileId, Kind, Memory, Name, Session, Twin, copy_two};
+use fs_ident::{FileId, Kind, Memory, Name, Session, Twin, both, copy_two};
 use fs_modes::Modes;
 use std::alloc::Global;
 
@@ -52,27 +52,44 @@ pub enum Effect {
     },
 }
 
+impl Effect {
+    ghost use Rattle.fs_field.specs.After.{effect_file};
+
+    /// The file that it is on, and of a child the directory.
+    fn file(&self) -> &FileId
+        ensures { result.now ≡ effect_file self.now }
+    {
+        match self {
+            Effect::SetChild { dir, .. } => dir,
+            Effect::SetParent { file, .. }
+            | Effect::NewNode { file, .. }
+            | Effect::RemoveNode { file }
+            | Effect::AddHandle { file, .. }
+            | Effect::RemoveHandle { file, .. }
+            | Effect::SetInfo { file, .. } => file,
+        }
+    }
+}
+
 impl Twin for Effect {
     fn copy(&self, alloc: Global) -> Result<Effect, Memory> {
+        let file = self.file().copy(alloc)?;
         match self {
-            Effect::SetChild { dir, name, to } => {
-                let to = to.copy(alloc)?;
-                let (dir, name) = copy_two(alloc, dir, name)?;
+            Effect::SetChild { name, to, .. } => {
+                let (dir, (name, to)) = both(file, copy_two(alloc, name, to))?;
                 Ok(Effect::SetChild { dir, name, to })
             }
-            Effect::SetParent { file, dir, name } => {
-                let file = file.copy(alloc)?;
-                let (dir, name) = copy_two(alloc, dir, name)?;
+            Effect::SetParent { dir, name, .. } => {
+                let (file, (dir, name)) = both(file, copy_two(alloc, dir, name))?;
                 Ok(Effect::SetParent { file, dir, name })
             }
             Effect::NewNode {
-                file,
                 kind,
                 dir,
                 name,
+                ..
             } => {
-                let file = file.copy(alloc)?;
-                let (dir, name) = copy_two(alloc, dir, name)?;
+                let (file, (dir, name)) = both(file, copy_two(alloc, dir, name))?;
                 Ok(Effect::NewNode {
                     file,
                     kind: *kind,
@@ -80,32 +97,32 @@ impl Twin for Effect {
                     name,
                 })
             }
-            Effect::RemoveNode { file } => Ok(Effect::RemoveNode {
-                file: file.copy(alloc)?,
-            }),
+            Effect::RemoveNode { .. } => Ok(Effect::RemoveNode { file }),
             Effect::AddHandle {
-                file,
                 session,
                 h,
                 modes,
+                ..
             } => Ok(Effect::AddHandle {
-                file: file.copy(alloc)?,
+                file,
                 session: *session,
                 h: *h,
                 modes: *modes,
             }),
-            Effect::RemoveHandle { file, session, h } => Ok(Effect::RemoveHandle {
-                file: file.copy(alloc)?,
+            Effect::RemoveHandle { session, h, .. } => Ok(Effect::RemoveHandle {
+                file,
                 session: *session,
                 h: *h,
             }),
-            Effect::SetInfo { file, size, stamp } => Ok(Effect::SetInfo {
-                file: file.copy(alloc)?,
+            Effect::SetInfo { size, stamp, .. } => Ok(Effect::SetInfo {
+                file,
                 size: *size,
                 stamp: *stamp,
             }),
         }
     }
 
-    fn discard(self) {}
+    fn discard(self) {
+        drop(self);
+    }
 }

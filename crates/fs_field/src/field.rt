@@ -2,7 +2,7 @@
 ghost use Rattle.std.specs.Prelude.{◌≡◌, ◌↔◌, IsTrue};
 ghost use Rattle.fs_field.specs.Field.{same_field, file_of, tells_no_mode};
 
-use fs_ident::{FileId, Memory, Name, Twin};
+use fs_ident::{FileId, Memory, Name, Twin, both};
 use fs_modes::Mode;
 use std::alloc::Global;
 
@@ -66,14 +66,18 @@ impl Field {
 
 impl Twin for Field {
     fn copy(&self, alloc: Global) -> Result<Field, Memory> {
+        let file = self.file().copy(alloc)?;
         match self {
-            Field::Life(file) => Ok(Field::Life(file.copy(alloc)?)),
-            Field::Child(file, name) => Ok(Field::Child(file.copy(alloc)?, name.copy(alloc)?)),
-            Field::Names(file) => Ok(Field::Names(file.copy(alloc)?)),
-            Field::Info(file) => Ok(Field::Info(file.copy(alloc)?)),
-            Field::Own(file) => Ok(Field::Own(file.copy(alloc)?)),
-            Field::SelfW(file, mode) => Ok(Field::SelfW(file.copy(alloc)?, *mode)),
-            Field::Other(file, mode) => Ok(Field::Other(file.copy(alloc)?, *mode)),
+            Field::Life(_) => Ok(Field::Life(file)),
+            Field::Child(_, name) => {
+                let (dir, name) = both(file, name.copy(alloc))?;
+                Ok(Field::Child(dir, name))
+            }
+            Field::Names(_) => Ok(Field::Names(file)),
+            Field::Info(_) => Ok(Field::Info(file)),
+            Field::Own(_) => Ok(Field::Own(file)),
+            Field::SelfW(_, mode) => Ok(Field::SelfW(file, *mode)),
+            Field::Other(_, mode) => Ok(Field::Other(file, *mode)),
         }
     }
 

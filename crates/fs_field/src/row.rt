@@ -32,5 +32,7 @@ impl Twin for Row {
         })
     }
 
-    fn discard(self) {}
+    fn discard(self) {
+        drop(self);
+    }
 }

@@ -33,7 +33,9 @@ impl Twin for Use {
         })
     }
 
-    fn discard(self) {}
+    fn discard(self) {
+        drop(self);
+    }
 }
 
 impl Twin for Part {

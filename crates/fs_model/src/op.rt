@@ -61,7 +61,7 @@ pub enum Op {
 }
 
 impl Op {
-    ghost use Rattle.fs_model.specs.Asking.{may_ask};
+    ghost use Rattle.fs_model.specs.Asking.{may_ask, op_file};
 
     /// Whether a caller may ask for it: no reap, no create that names its identifier, no open without an access.
     pub fn may_be_asked(&self) -> bool
@@ -74,31 +74,40 @@ impl Op {
             _ => true,
         }
     }
+
+    /// The file that it is on, or the directory that it begins from.
+    fn file(&self) -> &FileId
+        ensures { result.now ≡ op_file self.now }
+    {
+        match self {
+            Op::Lookup { dir, .. }
+            | Op::List { dir }
+            | Op::Create { dir, .. }
+            | Op::Delete { dir, .. }
+            | Op::Rename { sdir: dir, .. } => dir,
+            Op::Kind { file }
+            | Op::Info { file }
+            | Op::OpenFile { file, .. }
+            | Op::Close { file, .. }
+            | Op::Set { file, .. }
+            | Op::Reap { file, .. } => file,
+        }
+    }
 }
 
 impl Twin for Op {
     fn copy(&self, alloc: Global) -> Result<Op, Memory> {
+        let file = self.file().copy(alloc)?;
         match self {
-            Op::Lookup { dir, name } => {
-                let (dir, name) = copy_two(alloc, dir, name)?;
+            Op::Lookup { name, .. } => {
+                let (dir, name) = both(file, name.copy(alloc))?;
                 Ok(Op::Lookup { dir, name })
             }
-            Op::List { dir } => Ok(Op::List {
-                dir: dir.copy(alloc)?,
-            }),
-            Op::Kind { file } => Ok(Op::Kind {
-                file: file.copy(alloc)?,
-            }),
-            Op::Info { file } => Ok(Op::Info {
-                file: file.copy(alloc)?,
-            }),
-            Op::Create {
-                dir,
-                name,
-                kind,
-                id,
-            } => {
-                let (dir, name, id) = copy_three(alloc, dir, name, id)?;
+            Op::List { .. } => Ok(Op::List { dir: file }),
+            Op::Kind { .. } => Ok(Op::Kind { file }),
+            Op::Info { .. } => Ok(Op::Info { file }),
+            Op::Create { name, kind, id, .. } => {
+                let (dir, (name, id)) = both(file, copy_two(alloc, name, id))?;
                 Ok(Op::Create {
                     dir,
                     name,
@@ -106,38 +115,32 @@ impl Twin for Op {
                     id,
                 })
             }
-            Op::OpenFile { file, h, modes } => Ok(Op::OpenFile {
-                file: file.copy(alloc)?,
+            Op::OpenFile { h, modes, .. } => Ok(Op::OpenFile {
+                file,
                 h: *h,
                 modes: *modes,
             }),
-            Op::Close { file, h } => Ok(Op::Close {
-                file: file.copy(alloc)?,
-                h: *h,
-            }),
-            Op::Set {
+            Op::Close { h, .. } => Ok(Op::Close { file, h: *h }),
+            Op::Set { h, size, stamp, .. } => Ok(Op::Set {
                 file,
-                h,
-                size,
-                stamp,
-            } => Ok(Op::Set {
-                file: file.copy(alloc)?,
                 h: *h,
                 size: *size,
                 stamp: *stamp,
             }),
-            Op::Delete { dir, name } => {
-                let (dir, name) = copy_two(alloc, dir, name)?;
+            Op::Delete { name, .. } => {
+                let (dir, name) = both(file, name.copy(alloc))?;
                 Ok(Op::Delete { dir, name })
             }
             Op::Rename {
-                sdir,
                 sname,
                 ddir,
                 dname,
+                ..
             } => {
-                let from = copy_two(alloc, sdir, sname)?;
-                let ((sdir, sname), (ddir, dname)) = both(from, copy_two(alloc, ddir, dname))?;
+                let (sdir, (sname, ddir, dname)) = both(
+                    file,
+                    copy_three(alloc, sname, ddir, dname),
+                )?;
                 Ok(Op::Rename {
                     sdir,
                     sname,
@@ -145,8 +148,8 @@ impl Twin for Op {
                     dname,
                 })
             }
-            Op::Reap { file, session } => Ok(Op::Reap {
-                file: file.copy(alloc)?,
+            Op::Reap { session, .. } => Ok(Op::Reap {
+                file,
                 session: *session,
             }),
         }
