@@ -26,10 +26,11 @@ pub fn row(rows: &[Row], no: LeaseNo) -> Option<&Row>
 }
 
 /// Whether there is a row of this number.
+#[tactic(auto, using(crate::proofs::Rows::found))]
 pub fn has_row(rows: &[Row], no: LeaseNo) -> bool
     ensures { result ≡ list_any (has_no no) rows.now }
 {
-    rows.iter().any(|row| row.no == no)
+    row(rows, no).is_some()
 }
 
 /// Puts a row before the first with a greater number.
@@ -120,11 +121,16 @@ pub fn is_live(row: &Row, now: u64, skew: u64) -> bool
 }
 
 /// Whether there is the row of this lease of the session.
+#[tactic(auto, using(crate::proofs::Rows::any_step))]
 pub fn holds(rows: &[Row], no: LeaseNo, session: Session, field: &Field, kind: LeaseKind) -> bool
     ensures { result ≡ list_any (is_lease no session field.now kind) rows.now }
 {
-    rows.iter()
-        .any(|row| is_lease(row, no, session, field, kind))
+    for row in rows {
+        if is_lease(row, no, session, field, kind) {
+            return true;
+        }
+    }
+    false
 }
 
 /// Whether the row is that of this lease of the session.
