@@ -1,5 +1,6 @@
 pub mod Untouched
 pub mod Named
+pub mod Places
 pub mod Rows
 pub mod Below
 pub mod Conflicts

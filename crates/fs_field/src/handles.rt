@@ -1,5 +1,5 @@
 //! The handles of one session on a file, by handle.
-ghost use Rattle.std.specs.Prelude.{◌<◌, IfSome, ◌≡◌, ◌==◌, not, length, unwrap_or, ◌≤◌, OnOk, OnErr};
+ghost use Rattle.std.specs.Prelude.{◌≡◌, ◌==◌, not, length, unwrap_or, ◌≤◌, OnOk, OnErr};
 ghost use Rattle.std.specs.List.{position, filter};
 ghost use Rattle.fs_field.specs.After.{is_above, with_handle, without_handle};
 
@@ -34,21 +34,17 @@ pub fn without_handle(handles: &mut List<(u32, Modes)>, h: u32)
 }
 
 /// Where the first greater handle stands, or the length.
+#[tactic(auto, using(crate::proofs::Places::place_is, crate::proofs::Places::place_step))]
 fn place(handles: &[(u32, Modes)], h: u32) -> usize
     ensures place { result ≡ unwrap_or (position (is_above h) handles.now) (length handles.now) }
     ensures within { result ≤ length handles.now }
 {
-    match first_after(handles, h) {
-        Some(at) => at,
-        None => handles.len(),
+    for at in 0..handles.len() {
+        if h < handles[at].0 {
+            return at;
+        }
     }
-}
-
-fn first_after(handles: &[(u32, Modes)], h: u32) -> Option<usize>
-    ensures same { result ≡ position (is_above h) handles.now }
-    ensures within { IfSome result (λ at. at < length handles.now) }
-{
-    handles.iter().position(|other| h < other.0)
+    handles.len()
 }
 
 /// Drops what is under the handle.

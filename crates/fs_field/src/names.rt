@@ -1,5 +1,5 @@
 //! The names of a directory, in byte order.
-ghost use Rattle.std.specs.Prelude.{◌<◌, IfSome, ◌≡◌, not, length, unwrap_or, ◌≤◌, OnOk, OnErr};
+ghost use Rattle.std.specs.Prelude.{◌≡◌, not, length, unwrap_or, ◌≤◌, OnOk, OnErr};
 ghost use Rattle.std.specs.List.{position, filter};
 ghost use Rattle.fs_field.specs.After.{is_before, with_name, without_name};
 ghost use Rattle.fs_ident.specs.Ident.{same};
@@ -29,22 +29,18 @@ pub fn without_name(names: &mut List<Name>, name: &Name)
 }
 
 /// Where the first greater name stands, or the length.
+#[tactic(auto, using(crate::proofs::Places::place_is, crate::proofs::Places::place_step))]
 fn place(names: &[Name], name: &Name) -> usize
     ensures place { result ≡ unwrap_or (position (is_before name.now) names.now)
         (length names.now) }
     ensures within { result ≤ length names.now }
 {
-    match first_after(names, name) {
-        Some(at) => at,
-        None => names.len(),
+    for at in 0..names.len() {
+        if name < &names[at] {
+            return at;
+        }
     }
-}
-
-fn first_after(names: &[Name], name: &Name) -> Option<usize>
-    ensures same { result ≡ position (is_before name.now) names.now }
-    ensures within { IfSome result (λ at. at < length names.now) }
-{
-    names.iter().position(|other| name < other)
+    names.len()
 }
 
 /// Drops the name.

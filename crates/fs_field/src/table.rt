@@ -1,6 +1,6 @@
 //! A table of rows, in order of number. Public as a module, since other crates keep tables of their own by its calls: the rows
 //! on life, children, names, info and own handles in `fs_rows`.
-ghost use Rattle.std.specs.Prelude.{◌<◌, IfSome, ◌≡◌, ◌≤◌, length, unwrap_or, map, IfOk, OnOk, OnErr};
+ghost use Rattle.std.specs.Prelude.{◌≡◌, ◌≤◌, length, unwrap_or, map, IfOk, OnOk, OnErr};
 ghost use Rattle.std.specs.Option.{option_copied};
 ghost use Rattle.std.specs.List.{position, filter, find, list_any};
 ghost use Rattle.std.specs.Prelude.{not};
@@ -26,10 +26,11 @@ pub fn row(rows: &[Row], no: LeaseNo) -> Option<&Row>
 }
 
 /// Whether there is a row of this number.
+#[tactic(auto, using(crate::proofs::Rows::found))]
 pub fn has_row(rows: &[Row], no: LeaseNo) -> bool
     ensures { result ≡ list_any (has_no no) rows.now }
 {
-    rows.iter().any(|row| row.no == no)
+    row(rows, no).is_some()
 }
 
 /// Puts a row before the first with a greater number.
@@ -44,22 +45,18 @@ pub fn put(rows: &mut Vec<Row>, row: Row) -> Result<(), Memory>
 }
 
 /// Where the first row with a greater number stands, or the length.
+#[tactic(auto, using(crate::proofs::Places::place_is, crate::proofs::Places::place_step))]
 pub fn place(rows: &[Row], no: LeaseNo) -> usize
     ensures place { result ≡ unwrap_or (position (λ r. no_before no r.no) rows.now)
         (length rows.now) }
     ensures within { result ≤ length rows.now }
 {
-    match first_after(rows, no) {
-        Some(at) => at,
-        None => rows.len(),
+    for at in 0..rows.len() {
+        if no < rows[at].no {
+            return at;
+        }
     }
-}
-
-fn first_after(rows: &[Row], no: LeaseNo) -> Option<usize>
-    ensures same { result ≡ position (λ r. no_before no r.no) rows.now }
-    ensures within { IfSome result (λ at. at < length rows.now) }
-{
-    rows.iter().position(|other| no < other.no)
+    rows.len()
 }
 
 /// Lets the row of this number end no sooner than `until`, and tells whether there is one.
@@ -120,11 +117,16 @@ pub fn is_live(row: &Row, now: u64, skew: u64) -> bool
 }
 
 /// Whether there is the row of this lease of the session.
+#[tactic(auto, using(crate::proofs::Rows::any_step))]
 pub fn holds(rows: &[Row], no: LeaseNo, session: Session, field: &Field, kind: LeaseKind) -> bool
     ensures { result ≡ list_any (is_lease no session field.now kind) rows.now }
 {
-    rows.iter()
-        .any(|row| is_lease(row, no, session, field, kind))
+    for row in rows {
+        if is_lease(row, no, session, field, kind) {
+            return true;
+        }
+    }
+    false
 }
 
 /// Whether the row is that of this lease of the session.
