@@ -1,10 +1,11 @@
 pub mod Cuts
 pub mod Asked
-pub mod Operands
 pub mod Operations
 pub mod Digits
 pub mod Spelled
 pub mod Refusals
 pub mod Single
+pub mod Behind
+pub mod Pieces
 pub mod Reading
 pub mod Skews

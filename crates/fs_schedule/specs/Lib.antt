@@ -7,4 +7,5 @@ pub mod Limits
 -- cited by private calls alone
 pub mod Separated
 pub mod Ahead
+pub mod Operands
 pub mod Reading

@@ -1,5 +1,5 @@
 -- What readers answer.
-use Rattle.std.specs.Prelude.{◌≡◌, ℕ, ◌≤◌, ◌+◌, ◌∷◌, List, map, min, Result, Ok, Err, codes}
+use Rattle.std.specs.Prelude.{◌≡◌, ℕ, ◌≤◌, ◌+◌, ◌∷◌, List, map, min, Result, Ok, Err}
 use Rattle.std.specs.Fmt.{decimal}
 use Rattle.fs_ident.specs.declared.actor.Peer.{Peer}
 use Rattle.fs_ident.specs.declared.actor.Peer.TheVariants.{Server, Client}
@@ -8,8 +8,6 @@ use Rattle.fs_schedule.specs.declared.word.Word.{Word as Piece}
 use Rattle.fs_schedule.specs.declared.word.Word.TheVariants as piece
 use Rattle.fs_schedule.specs.declared.unread.Unread.{Unread}
 use Rattle.fs_schedule.specs.declared.unread.Unread.TheVariants.{Outside}
-use Rattle.fs_schedule.specs.declared.operation.Verb.{Verb}
-use Rattle.fs_schedule.specs.declared.operation.Verb.TheVariants as verb
 use Rattle.fs_schedule.specs.declared.event.What.{What}
 use Rattle.fs_schedule.specs.declared.event.What.TheVariants.{Join, Do, Tell, Turn, Recall, Move}
 use Rattle.fs_schedule.specs.declared.event.Event.{Event}
@@ -40,19 +38,6 @@ Tells IsOf (Err e) w = e ≡ Outside → (x : _) → IsOf x w → ⊥
 -- every value is in range
 abbrev pub Always : {X : Type 0} → X → Type 0
 Always x = Unit {0}
-
--- the first words of operations
-abbrev pub verb_text : Verb → List ℕ
-verb_text verb.Lookup = codes "lookup"
-verb_text verb.List = codes "list"
-verb_text verb.Kind = codes "kind"
-verb_text verb.Info = codes "info"
-verb_text verb.Create = codes "create"
-verb_text verb.Open = codes "open"
-verb_text verb.Close = codes "close"
-verb_text verb.Set = codes "set"
-verb_text verb.Delete = codes "delete"
-verb_text verb.Rename = codes "rename"
 
 -- ## Numbers with a limit, which are told up to it, and every greater one as one more
 

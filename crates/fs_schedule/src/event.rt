@@ -60,7 +60,9 @@ impl Twin for What {
         }
     }
 
-    fn discard(self) {}
+    fn discard(self) {
+        drop(self);
+    }
 }
 
 impl Twin for Event {
@@ -72,7 +74,7 @@ impl Twin for Event {
     }
 
     fn discard(self) {
-        self.what.discard();
+        drop(self);
     }
 }
 
@@ -84,5 +86,7 @@ impl Twin for Schedule {
         })
     }
 
-    fn discard(self) {}
+    fn discard(self) {
+        drop(self);
+    }
 }

@@ -12,6 +12,7 @@ mod limits;
 mod line;
 mod number;
 mod operand;
+mod operands;
 mod operation;
 mod outcome;
 mod schedule;

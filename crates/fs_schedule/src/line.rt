@@ -9,7 +9,7 @@ use crate::actor::{peer_at, server_at};
 use crate::event::{Event, Head, What};
 use crate::field::field_at;
 use crate::head::servers_in;
-use crate::operand::{id_at, number_at, packet_at};
+use crate::operand::{id_at, is_bare, number_at, packet_at};
 use crate::operation::op_at;
 use crate::session::session_at;
 use crate::unread::Unread;
@@ -47,35 +47,31 @@ fn event_by(alloc: Global, head: Head, reading: &Word, words: &[Word]) -> Result
 fn what_of(alloc: Global, head: Head, words: &[Word]) -> Result<What, Unread>
     ensures { Tells (IsToldWhat head) result (words_in words.now) }
 {
-    let [Word::Bare(verb), operands @ ..] = words else {
+    let [first, operands @ ..] = words else {
         return Err(Unread::Outside);
     };
-    what_by(alloc, head, verb, operands)
+    what_by(alloc, head, first, operands)
 }
 
-/// The same, where the verb was read.
-fn what_by(alloc: Global, head: Head, verb: &[u8], operands: &[Word]) -> Result<What, Unread>
-    ensures { Tells (IsToldWhat head) result (Bare verb.now ∷ words_in operands.now) }
+/// The same, where the first word was parted from the others.
+fn what_by(alloc: Global, head: Head, first: &Word, operands: &[Word]) -> Result<What, Unread>
+    ensures { Tells (IsToldWhat head) result (word_of first.now ∷ words_in operands.now) }
 {
-    if verb == b"join".as_slice() {
-        return join_of(operands);
+    if is_bare(first, b"join") {
+        join_of(operands)
+    } else if is_bare(first, b"do") {
+        do_of(alloc, head, operands)
+    } else if is_bare(first, b"tell") {
+        tell_of(alloc, head, operands)
+    } else if is_bare(first, b"turn") {
+        turn_of(alloc, head, operands)
+    } else if is_bare(first, b"recall") {
+        recall_of(alloc, head, operands)
+    } else if is_bare(first, b"move") {
+        move_of(alloc, head, operands)
+    } else {
+        Err(Unread::Outside)
     }
-    if verb == b"do".as_slice() {
-        return do_of(alloc, head, operands);
-    }
-    if verb == b"tell".as_slice() {
-        return tell_of(alloc, head, operands);
-    }
-    if verb == b"turn".as_slice() {
-        return turn_of(alloc, head, operands);
-    }
-    if verb == b"recall".as_slice() {
-        return recall_of(alloc, head, operands);
-    }
-    if verb == b"move".as_slice() {
-        return move_of(alloc, head, operands);
-    }
-    Err(Unread::Outside)
 }
 
 fn join_of(operands: &[Word]) -> Result<What, Unread>

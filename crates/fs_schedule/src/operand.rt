@@ -106,33 +106,33 @@ pub fn name_at(alloc: Global, word: &Word) -> Result<Name, Unread>
 pub fn kind_at(word: &Word) -> Result<Kind, Unread>
     ensures { Reads (λ kind. Bare (kind_text kind)) Always result (word_of word.now) }
 {
-    let Word::Bare(text) = word else {
-        return Err(Unread::Outside);
-    };
-    if *text == b"file".as_slice() {
-        return Ok(Kind::File);
+    if is_bare(word, b"file") {
+        Ok(Kind::File)
+    } else if is_bare(word, b"dir") {
+        Ok(Kind::Dir)
+    } else {
+        Err(Unread::Outside)
     }
-    if *text == b"dir".as_slice() {
-        return Ok(Kind::Dir);
-    }
-    Err(Unread::Outside)
 }
 
 /// One of the six modes.
 pub fn mode_at(word: &Word) -> Result<Mode, Unread>
     ensures { Reads (λ mode. Bare (mode_text mode)) Always result (word_of word.now) }
 {
-    let Word::Bare(text) = word else {
-        return Err(Unread::Outside);
-    };
-    match *text {
-        b"aR" => Ok(Mode::AccR),
-        b"aW" => Ok(Mode::AccW),
-        b"aD" => Ok(Mode::AccD),
-        b"dR" => Ok(Mode::DenyR),
-        b"dW" => Ok(Mode::DenyW),
-        b"dD" => Ok(Mode::DenyD),
-        _ => Err(Unread::Outside),
+    if is_bare(word, b"aR") {
+        Ok(Mode::AccR)
+    } else if is_bare(word, b"aW") {
+        Ok(Mode::AccW)
+    } else if is_bare(word, b"aD") {
+        Ok(Mode::AccD)
+    } else if is_bare(word, b"dR") {
+        Ok(Mode::DenyR)
+    } else if is_bare(word, b"dW") {
+        Ok(Mode::DenyW)
+    } else if is_bare(word, b"dD") {
+        Ok(Mode::DenyD)
+    } else {
+        Err(Unread::Outside)
     }
 }
 

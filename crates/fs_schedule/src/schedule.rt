@@ -14,7 +14,7 @@ use crate::limits::{BYTES, EVENTS};
 use crate::line::{event_at, names_late};
 use crate::skew::untimely_line;
 use crate::unread::Unread;
-use fs_ident::{List, Twin};
+use fs_ident::List;
 use std::alloc::Global;
 
 /// The schedule that the bytes are the text of, within the limits. Otherwise the first faulty line, counted
@@ -141,14 +141,14 @@ fn read_line(alloc: Global, head: Head, before: usize, line: &[u8]) -> Result<Ev
         Err(Unread::Memory) => return Err(ScheduleError::Memory),
     };
     if names_late(&event.what) {
-        event.discard();
+        drop(event);
         return Err(ScheduleError::Limit {
             which: Which::Sessions,
             at,
         });
     }
     if EVENTS <= before {
-        event.discard();
+        drop(event);
         return Err(ScheduleError::Limit {
             which: Which::Events,
             at,
