@@ -15,15 +15,15 @@ use Rattle.fs_field.specs.declared.effect.Effect.{Effect}
 use Rattle.fs_field.specs.declared.effect.Effect.TheVariants.{SetChild, SetParent, NewNode, RemoveNode, AddHandle, RemoveHandle, SetInfo}
 use Rattle.fs_ident.specs.Ident.{same}
 
--- the file that the effect is on, and of a child the directory
-abbrev pub effect_file : Effect → List ℕ
-effect_file (SetChild dir name to) = dir
-effect_file (SetParent file dir name) = file
-effect_file (NewNode file kind dir name) = file
-effect_file (RemoveNode file) = file
-effect_file (AddHandle file session h modes) = file
-effect_file (RemoveHandle file session h) = file
-effect_file (SetInfo file size stamp) = file
+-- the file that the effect changes, and for a name its directory
+abbrev pub changed_file : Effect → List ℕ
+changed_file (SetChild dir name to) = dir
+changed_file (SetParent file dir name) = file
+changed_file (NewNode file kind dir name) = file
+changed_file (RemoveNode file) = file
+changed_file (AddHandle file session h modes) = file
+changed_file (RemoveHandle file session h) = file
+changed_file (SetInfo file size stamp) = file
 
 -- a field of the file that begins anew with its life
 abbrev pub touches_node : List ℕ → Field → Bool

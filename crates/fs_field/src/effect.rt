@@ -53,11 +53,11 @@ pub enum Effect {
 }
 
 impl Effect {
-    ghost use Rattle.fs_field.specs.After.{effect_file};
+    ghost use Rattle.fs_field.specs.After.{changed_file};
 
-    /// The file that it is on, and of a child the directory.
-    fn file(&self) -> &FileId
-        ensures { result.now ≡ effect_file self.now }
+    /// The file that it changes, and for a name its directory.
+    pub fn changed_file(&self) -> &FileId
+        ensures { result.now ≡ changed_file self.now }
     {
         match self {
             Effect::SetChild { dir, .. } => dir,
@@ -73,7 +73,7 @@ impl Effect {
 
 impl Twin for Effect {
     fn copy(&self, alloc: Global) -> Result<Effect, Memory> {
-        let file = self.file().copy(alloc)?;
+        let file = self.changed_file().copy(alloc)?;
         match self {
             Effect::SetChild { name, to, .. } => {
                 let (dir, (name, to)) = both(file, copy_two(alloc, name, to))?;

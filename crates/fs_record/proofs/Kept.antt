@@ -13,7 +13,8 @@ use Rattle.fs_model.proofs.HandleOrder.{with_handle_in_order, filter_in_order, h
 use Rattle.fs_model.proofs.Keeping.{fresh_in_order, with_link_in_order, without_link_in_order}
 use Rattle.fs_record.specs.declared.record.Record.{Record}
 use Rattle.fs_record.specs.Records.{RecordMap, AreRecords, IsRecord, next_of, root_record}
-use Rattle.fs_record.specs.Applied.{node_change, record_change, records_after, with_at, changed_file}
+use Rattle.fs_field.specs.After.{changed_file}
+use Rattle.fs_record.specs.Applied.{node_change, record_change, records_after, with_at}
 use Rattle.fs_record.specs.Fresh.{fresh_number, records_after_gift, with_next, is_borne, least_free, free_from}
 
 pub record_at : (m : RecordMap) → AreRecords m → (id : List ℕ) (r : Record) → get m id ≡ Some r → IsRecord r

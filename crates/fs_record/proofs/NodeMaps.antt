@@ -7,7 +7,8 @@ use Rattle.std.specs.FinMap.{get, entries, find, get-entries, get-from_entries, 
 use Rattle.fs_field.specs.declared.effect.Effect.{Effect}
 use Rattle.fs_record.specs.declared.record.Record.{Record}
 use Rattle.fs_record.specs.Records.{RecordMap, nodes_of, node_of}
-use Rattle.fs_record.specs.Applied.{node_change, record_change, records_after, nodes_after, changed_file, with_at}
+use Rattle.fs_field.specs.After.{changed_file}
+use Rattle.fs_record.specs.Applied.{node_change, record_change, records_after, nodes_after, with_at}
 use Rattle.fs_ident.proofs.MapsOf.{anti}
 use Rattle.fs_record.proofs.Kept.{get_with_at}
 use Rattle.fs_record.proofs.ValueChanges.{change_node}

@@ -11,7 +11,8 @@ use Rattle.fs_model.specs.declared.node.Node.{Node}
 use Rattle.fs_ident.proofs.Booleans.{first, second}
 use Rattle.fs_record.specs.declared.record.Record.{Record}
 use Rattle.fs_record.specs.Records.{RecordMap, node_of, next_of}
-use Rattle.fs_record.specs.Applied.{node_change, record_change, records_after, changed_file}
+use Rattle.fs_field.specs.After.{changed_file}
+use Rattle.fs_record.specs.Applied.{node_change, record_change, records_after}
 use Rattle.fs_record.specs.Fresh.{is_borne, least_free, free_from, fresh_number, records_after_gift, with_next, IsLeastFree}
 use Rattle.fs_record.specs.Changes.{Change, effect, gift, after_change, after_changes, has_record_throughout}
 use Rattle.fs_record.proofs.Kept.{get_with_at, free_bounds}

@@ -23,7 +23,8 @@ use Rattle.fs_model.specs.Children.{Children, child_at, with_child, without_chil
 use Rattle.fs_record.specs.declared.record.Record.{Record}
 use Rattle.fs_record.specs.declared.undo.Part.TheVariants as part
 use Rattle.fs_record.specs.declared.undo.Undo.{Undo}
-use Rattle.fs_record.specs.Applied.{changed_file, record_change, records_after, records_after_all, with_at, is_undoable}
+use Rattle.fs_field.specs.After.{changed_file}
+use Rattle.fs_record.specs.Applied.{record_change, records_after, records_after_all, with_at, is_undoable}
 use Rattle.fs_record.specs.Effects.{effects_of}
 use Rattle.fs_record.specs.Records.{RecordMap, AreRecords, IsRecord}
 use Rattle.fs_record.specs.Undo.{with_child_again, with_part, part_of, undo_of, undone, undone_all, undos_of, AreRecordsBack}

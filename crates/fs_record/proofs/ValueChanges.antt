@@ -18,7 +18,7 @@ use Rattle.fs_ident.specs.Ident.{same}
 use Rattle.fs_field.specs.Field.{file_of}
 use Rattle.fs_field.specs.After as field
 use Rattle.fs_ident.specs.Ordered.{put_before}
-use Rattle.fs_field.specs.After.{is_above, touches, touches_node, value_after, life_after, child_after, names_after, info_after, own_after, info_value, Handles}
+use Rattle.fs_field.specs.After.{is_above, touches, touches_node, value_after, life_after, child_after, names_after, info_after, own_after, info_value, Handles, changed_file}
 use Rattle.fs_field.proofs.Untouched.{value_stays}
 use Rattle.fs_model.specs.declared.node.Node.{Node}
 use Rattle.fs_model.specs.declared.node.Handle.{Handle}
@@ -30,7 +30,7 @@ use Rattle.fs_model.specs.Handles.{handles_are_in_order, is_at, with_handle, wit
 use Rattle.fs_model.proofs.HandleOrder.{filter_in_order}
 use Rattle.fs_record.specs.declared.record.Record.{Record}
 use Rattle.fs_record.specs.Records.{RecordMap, AreRecords, IsRecord, node_of, next_of}
-use Rattle.fs_record.specs.Applied.{node_change, record_change, records_after, with_at, changed_file, is_birth, has_target}
+use Rattle.fs_record.specs.Applied.{node_change, record_change, records_after, with_at, is_birth, has_target}
 use Rattle.fs_record.specs.ValueOf.{value_at, value_of, own_of, handles_of, info_of, is_other}
 use Rattle.fs_ident.proofs.MapsOf.{remove_absent}
 use Rattle.fs_ident.proofs.Same.{one_session}

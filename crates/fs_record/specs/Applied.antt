@@ -5,6 +5,7 @@ use Rattle.std.specs.Ordering.{nat_cmp}
 use Rattle.std.specs.Cmp.Lexicographic.{slice_cmp}
 use Rattle.fs_ident.specs.declared.actor.Session.{Session}
 use Rattle.fs_modes.specs.declared.modes.Modes.{Modes}
+use Rattle.fs_field.specs.After.{changed_file}
 use Rattle.fs_field.specs.declared.effect.Effect.{Effect}
 use Rattle.fs_field.specs.declared.effect.Effect.TheVariants.{SetChild, SetParent, NewNode, RemoveNode, AddHandle, RemoveHandle, SetInfo}
 use Rattle.fs_model.specs.declared.node.Node.{Node}
@@ -12,16 +13,6 @@ use Rattle.fs_model.specs.Namespace.{NodeMap, fresh_node}
 use Rattle.fs_model.specs.Step.{with_link, without_link, at_place, with_info, with_open, without_open}
 use Rattle.fs_record.specs.declared.record.Record.{Record}
 use Rattle.fs_record.specs.Records.{RecordMap, node_of, next_of}
-
--- the file whose node the effect changes: for a name its directory
-abbrev pub changed_file : Effect → List ℕ
-changed_file (SetChild dir name to) = dir
-changed_file (SetParent file dir name) = file
-changed_file (NewNode file kind dir name) = file
-changed_file (RemoveNode file) = file
-changed_file (AddHandle file session h modes) = file
-changed_file (RemoveHandle file session h) = file
-changed_file (SetInfo file size stamp) = file
 
 -- the name stands for the file, or for none
 abbrev pub with_link_to : List ℕ → Option (List ℕ) → Node → Node

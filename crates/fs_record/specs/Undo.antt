@@ -11,7 +11,8 @@ use Rattle.fs_record.specs.declared.record.Record.{Record}
 use Rattle.fs_record.specs.declared.undo.Part.{Part}
 use Rattle.fs_record.specs.declared.undo.Part.TheVariants as part
 use Rattle.fs_record.specs.declared.undo.Undo.{Undo}
-use Rattle.fs_record.specs.Applied.{changed_file, records_after, with_at}
+use Rattle.fs_field.specs.After.{changed_file}
+use Rattle.fs_record.specs.Applied.{records_after, with_at}
 use Rattle.fs_record.specs.Records.{RecordMap, AreRecords, node_of}
 use Rattle.fs_record.specs.ValueOf.{handles_of, info_of}
 

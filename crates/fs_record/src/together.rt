@@ -8,7 +8,7 @@ ghost use Rattle.fs_record.specs.Undo.{undo_of};
 
 use crate::changes::{apply, make};
 use crate::record::Record;
-use crate::undo::{Part, Undo, changed_file, part_before, take_back_all};
+use crate::undo::{Part, Undo, part_before, take_back_all};
 use fs_field::Effect;
 use fs_ident::{FileId, Memory, Twin};
 use std::alloc::Global;
@@ -102,7 +102,7 @@ fn change(alloc: Global, records: &mut BTreeMap<FileId, Record>, e: &Effect) -> 
     ensures err { OnErr result (map_of records.new ≡ map_of records.old) }
 {
     let undo = Undo {
-        file: changed_file(e).copy(alloc)?,
+        file: e.changed_file().copy(alloc)?,
         was: part_before(alloc, records, e)?,
     };
     apply(alloc, records, e).and(Ok(undo))

@@ -6,7 +6,8 @@ ghost use Rattle.fs_ident.specs.Maps.{map_of};
 ghost use Rattle.fs_ident.specs.Ordered.{are_keys_in_order};
 ghost use Rattle.fs_model.specs.Namespace.{IsInOrder};
 ghost use Rattle.fs_model.specs.Sound.{child_of, parent_of};
-ghost use Rattle.fs_record.specs.Applied.{changed_file, is_birth, is_undoable, with_at};
+ghost use Rattle.fs_field.specs.After.{changed_file};
+ghost use Rattle.fs_record.specs.Applied.{is_birth, is_undoable, with_at};
 ghost use Rattle.fs_record.specs.Records.{AreRecords};
 ghost use Rattle.fs_record.specs.ValueOf.{handles_of, info_of};
 ghost use Rattle.fs_record.specs.Undo.{part_of, with_child_again, with_part, undone, undone_all, AreRecordsBack};
@@ -55,18 +56,6 @@ pub fn is_undoable(e: &Effect) -> bool
     )
 }
 
-/// The file whose node the effect changes: for a name its directory.
-pub fn changed_file(e: &Effect) -> &FileId
-    ensures { result.now ≡ changed_file e.now }
-{
-    match e {
-        Effect::SetChild { dir, .. } => dir,
-        Effect::SetParent { file, .. } | Effect::NewNode { file, .. } => file,
-        Effect::RemoveNode { file } | Effect::AddHandle { file, .. } => file,
-        Effect::RemoveHandle { file, .. } | Effect::SetInfo { file, .. } => file,
-    }
-}
-
 /// The part of a node that the effect changes.
 pub fn part_before(
     alloc: Global,
@@ -79,7 +68,7 @@ pub fn part_before(
     ensures { IfOk result (λ was. was ≡
         part_of e.now (map.get (map_of records.now) (changed_file e.now))) }
 {
-    let node = node(records, changed_file(e));
+    let node = node(records, e.changed_file());
     match e {
         Effect::SetChild { name, .. } => child_before(alloc, node, name),
         Effect::SetParent { .. } => parent(alloc, node),

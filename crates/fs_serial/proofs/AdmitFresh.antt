@@ -25,7 +25,8 @@ use Rattle.fs_model.specs.declared.reply.Reply.TheVariants as reply
 use Rattle.fs_msg.specs.declared.entry.Entry.{Entry}
 use Rattle.fs_msg.specs.declared.item.Item.{Item}
 use Rattle.fs_record.specs.declared.record.Record.{Record}
-use Rattle.fs_record.specs.Applied.{records_after, record_change, changed_file}
+use Rattle.fs_field.specs.After.{changed_file}
+use Rattle.fs_record.specs.Applied.{records_after, record_change}
 use Rattle.fs_record.specs.Effects.{effects_of}
 use Rattle.fs_record.specs.Fresh.{is_dir, is_directory}
 use Rattle.fs_record.specs.Records.{RecordMap, node_of, next_of}

@@ -10,7 +10,8 @@ use Rattle.fs_ident.proofs.MapsOf.{anti}
 use Rattle.fs_ident.proofs.Booleans.{holds}
 use Rattle.fs_field.specs.declared.effect.Effect.{Effect}
 use Rattle.fs_map.proofs.Found.{In_found}
-use Rattle.fs_record.specs.Applied.{changed_file, record_change, records_after, records_after_all, with_at}
+use Rattle.fs_field.specs.After.{changed_file}
+use Rattle.fs_record.specs.Applied.{record_change, records_after, records_after_all, with_at}
 use Rattle.fs_record.specs.Fresh.{records_after_gift, with_next}
 use Rattle.fs_record.specs.Moving.{with_records}
 use Rattle.fs_record.specs.Records.{RecordMap}

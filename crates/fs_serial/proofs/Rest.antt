@@ -21,7 +21,8 @@ use Rattle.fs_field.proofs.Order.{ordered_put}
 use Rattle.fs_field.proofs.SameNo.{same_no_symm}
 use Rattle.fs_map.specs.Map.{server_of}
 use Rattle.fs_moderows.specs.Answer.{answer_other, answer_self, given_row}
-use Rattle.fs_record.specs.Applied.{changed_file, records_after_all}
+use Rattle.fs_field.specs.After.{changed_file}
+use Rattle.fs_record.specs.Applied.{records_after_all}
 use Rattle.fs_record.specs.Moving.{with_records}
 use Rattle.fs_record.specs.Records.{node_of}
 use Rattle.fs_record.specs.ValueOf.{handles_of, selves_in, selves_of, value_at, value_of}

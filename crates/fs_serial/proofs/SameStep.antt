@@ -28,7 +28,7 @@ use Rattle.fs_msg.specs.declared.client_msg.ClientMsg.{ClientMsg}
 use Rattle.fs_msg.specs.declared.client_msg.ClientMsg.TheVariants.{Ask, Renew, Release, Ship}
 use Rattle.fs_msg.specs.declared.entry.Entry.{Entry}
 use Rattle.fs_parcel.proofs.Both.{ordered_before}
-use Rattle.fs_record.specs.Applied.{changed_file}
+use Rattle.fs_field.specs.After.{changed_file}
 use Rattle.fs_record.specs.Effects.{effects_of}
 use Rattle.fs_record.specs.Fresh.{is_dir}
 use Rattle.fs_record.specs.Records.{next_of, node_of}

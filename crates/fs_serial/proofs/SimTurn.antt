@@ -17,7 +17,8 @@ use Rattle.fs_moderows.specs.Answer.{reap_blocker, stands_against_reap}
 use Rattle.fs_msg.specs.declared.item.Item.{Item}
 use Rattle.fs_msg.specs.declared.msg.Msg.{Msg}
 use Rattle.fs_msg.specs.declared.server_note.ServerNote.TheVariants as note
-use Rattle.fs_record.specs.Applied.{changed_file, records_after_all}
+use Rattle.fs_field.specs.After.{changed_file}
+use Rattle.fs_record.specs.Applied.{records_after_all}
 use Rattle.fs_record.specs.Effects.{reap_effects}
 use Rattle.fs_record.specs.Records.{RecordMap, node_of}
 use Rattle.fs_record.specs.ValueOf.{handles_of, own_of, selves_in}

@@ -19,7 +19,7 @@ use Rattle.fs_field.specs.declared.effect.Effect.TheVariants.{SetChild, NewNode,
 use Rattle.fs_field.specs.declared.field.Field.{Field}
 use Rattle.fs_field.specs.declared.field.Field.TheVariants.{Life, Child, Names, Info, Own, SelfW, Other}
 use Rattle.fs_field.specs.declared.value.Value.TheVariants as value
-use Rattle.fs_field.specs.After.{value_after}
+use Rattle.fs_field.specs.After.{value_after, changed_file}
 use Rattle.fs_model.specs.declared.node.Handle.{Handle}
 use Rattle.fs_model.specs.declared.node.Node.{Node}
 use Rattle.fs_model.specs.declared.op.Op.{Op}
@@ -30,7 +30,7 @@ use Rattle.fs_model.specs.Handles.{handle_at, any_conflicts, comes_before, witho
 use Rattle.fs_model.specs.Step.{Stepped, step, is_child, create, create_in, open_file, close, set, set_by}
 use Rattle.fs_record.specs.declared.record.Record.{Record}
 use Rattle.fs_record.specs.Records.{RecordMap, AreRecords, nodes_of, node_of}
-use Rattle.fs_record.specs.Applied.{records_after, records_after_all, node_change, record_change, changed_file, has_target}
+use Rattle.fs_record.specs.Applied.{records_after, records_after_all, node_change, record_change, has_target}
 use Rattle.fs_record.specs.Effects.{effects_of, tells_its_effects}
 use Rattle.fs_record.specs.ValueOf.{value_of, value_at, handles_of, others_have}
 use Rattle.fs_record.proofs.Kept.{after_kept, get_with_at}

@@ -21,7 +21,8 @@ use Rattle.fs_model.specs.declared.reply.Reply.{Reply}
 use Rattle.fs_model.specs.declared.reply.Reply.TheVariants as reply
 use Rattle.fs_model.specs.Handles.{comes_before, is_at, without_handle}
 use Rattle.fs_record.specs.declared.record.Record.{Record}
-use Rattle.fs_record.specs.Applied.{changed_file, node_change, record_change, records_after, records_after_all, with_at}
+use Rattle.fs_field.specs.After.{changed_file}
+use Rattle.fs_record.specs.Applied.{node_change, record_change, records_after, records_after_all, with_at}
 use Rattle.fs_record.specs.Effects.{effects_of}
 use Rattle.fs_record.specs.Fresh.{records_after_gift, with_next}
 use Rattle.fs_record.specs.Moving.{records_given, records_left, with_records}
