@@ -3,7 +3,7 @@ use crate::{err_of, reads, same, shows, spend};
 use fs_ident::Twin;
 use fs_schedule::{ScheduleError, read_schedule};
 use std::alloc::Global;
-use std::fmt::Debug;
+use std::fmt::{Debug, Display};
 use std::process::Abort;
 use std::test::Fail;
 
@@ -228,11 +228,22 @@ const READINGS: [(&str, &str); 5] = [
 /// What comes of a text: `read`, a line, the limit that it passes and its line, or what else is wrong.
 fn told_of(alloc: Global, text: &[u8]) -> Result<String, Fail> {
     match err_of(read_schedule(alloc, text)) {
-        None => Ok(format!(in alloc; "read")?),
-        Some(ScheduleError::BadLine { line }) => Ok(format!(in alloc; "{line}")?),
-        Some(ScheduleError::Limit { which, at }) => Ok(format!(in alloc; "{which} {at}")?),
-        Some(other) => Ok(format!(in alloc; "{other}")?),
+        None => written(alloc, "read"),
+        Some(why) => told_of_error(alloc, why),
     }
+}
+
+fn told_of_error(alloc: Global, why: ScheduleError) -> Result<String, Fail> {
+    match why {
+        ScheduleError::BadLine { line } => written(alloc, line),
+        ScheduleError::Limit { which, at } => Ok(format!(in alloc; "{which} {at}")?),
+        other => written(alloc, other),
+    }
+}
+
+/// So the value, which is let go, is written for users.
+fn written<T: Display + Drop>(alloc: Global, x: T) -> Result<String, Fail> {
+    Ok(format!(in alloc; "{x}")?)
 }
 
 /// This comes of the lines behind the others.
@@ -243,10 +254,15 @@ fn is_told(
     lines: &str,
     wanted: &str,
 ) -> Result<(), Fail> {
-    let text = format!(in alloc; "{first}{lines}")?;
-    let told = told_of(alloc, text.as_bytes())?;
+    let told = told_behind(alloc, first, lines)?;
     same(rt, (lines, told.as_str()), (lines, wanted));
     Ok(())
+}
+
+/// What comes of the lines behind the others.
+fn told_behind(alloc: Global, first: &str, lines: &str) -> Result<String, Fail> {
+    let text = format!(in alloc; "{first}{lines}")?;
+    told_of(alloc, text.as_bytes())
 }
 
 /// So it is with each of a table.
@@ -310,7 +326,7 @@ fn is_written(
     why: ScheduleError,
     wanted: &str,
 ) -> Result<(), Fail> {
-    let told = format!(in alloc; "{why}")?;
+    let told = written(alloc, why)?;
     same(rt, told.as_str(), wanted);
     Ok(())
 }
