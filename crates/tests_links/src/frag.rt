@@ -1,52 +1,108 @@
+use crate::{same, spend};
 use fs_frag::{
     Back, FragError, Joined, Joiner, Segment, cut, joined_is_cut, segment_count, what_is_coming,
 };
-use fs_ident::Twin;
-use std::test::*;
+use fs_ident::{List, Twin};
+use std::alloc::Global;
+use std::process::Abort;
+use std::test::Fail;
+
+/// What comes of a copy of the segment.
+fn add_copy(
+    alloc: Global,
+    joiner: &mut Joiner,
+    segment: &Segment,
+) -> Result<Option<Vec<u8>>, Fail> {
+    let twin = segment.copy(alloc)?;
+    Ok(joiner.add(alloc, &twin)?)
+}
+
+/// The message of the segments, each of which has 1024 bytes or so many.
+fn whole(
+    rt: &impl Abort,
+    alloc: Global,
+    segments: &[Segment],
+    last: usize,
+) -> Result<Vec<u8>, Fail> {
+    let mut joiner = Joiner::new(alloc);
+    let mut joined = None;
+    for segment in segments {
+        same(rt, joined.is_none(), true);
+        let len = segment.bytes().len();
+        same(rt, len == 1024 || len == last, true);
+        joined = add_copy(alloc, &mut joiner, segment)?;
+    }
+    Ok(joined.ok_or("it is whole")?)
+}
+
+/// The message is cut into so many segments, and whole again behind the last.
+fn is_cut(
+    rt: &impl Abort,
+    alloc: Global,
+    message: &[u8],
+    count: usize,
+    last: usize,
+) -> Result<(), Fail> {
+    let segments = cut(alloc, message)?;
+    same(rt, (message.len(), segments.len()), (message.len(), count));
+    same(rt, segment_count(message), count as u64);
+    let joined = whole(rt, alloc, segments.as_slice(), last)?;
+    same(rt, joined.as_slice(), message);
+    Ok(())
+}
+
+/// The lengths of messages, how many segments they are, and how many bytes the last has.
+const LENGTHS: [(usize, usize, usize); 3] = [(0, 1, 8), (1016, 1, 1024), (1017, 2, 1)];
 
 #[test]
 fn full_segments_and_a_rest(rt: HostRuntime) -> Result<(), Fail> {
-    let alloc = rt.alloc();
-    for (len, count, last) in [(0, 1, 8), (1016, 1, 1024), (1017, 2, 1)] {
-        let message = vec![in alloc; 7u8; len]?;
-        let segments = cut(alloc, &message)?;
-        assert_eq!(rt; segments.len(), count, "at {len}");
-        assert_eq!(rt; segment_count(&message), count as u64);
-        let mut joiner = Joiner::new(alloc);
-        let mut joined = None;
-        for segment in segments.as_slice() {
-            assert!(rt; joined.is_none());
-            assert!(rt; segment.bytes().len() == 1024 || segment.bytes().len() == last);
-            let twin = segment.copy(alloc)?;
-            joined = joiner.add(alloc, &twin)?;
-        }
-        let joined = joined.ok_or("it is whole")?;
-        assert_eq!(rt; joined.as_slice(), message.as_slice());
+    for (len, count, last) in &LENGTHS {
+        let message = vec![in rt.alloc(); 7u8; *len]?;
+        is_cut(&rt, rt.alloc(), &message, *count, *last)?;
     }
     joined_is_cut();
     what_is_coming();
     Ok(())
 }
 
+/// How many messages the segments give, and how often there are too many bytes; and what undoes them.
+fn taken(
+    alloc: Global,
+    joiner: &mut Joiner,
+    segments: &[Segment],
+) -> Result<((usize, usize), Back), Fail> {
+    let (joined, back) = joiner.add_all(alloc, segments)?;
+    Ok((counts(joined.as_slice()), back))
+}
+
+/// The segment has too many bytes, alone and among all.
+fn is_over(
+    rt: &impl Abort,
+    alloc: Global,
+    joiner: &mut Joiner,
+    segments: &[Segment; 1],
+) -> Result<(), Fail> {
+    let error = joiner.add(alloc, &segments[0]).err();
+    same(rt, error, Some(FragError::Over { have: 2, want: 1 }));
+    let (found, back) = taken(alloc, joiner, segments)?;
+    spend(back);
+    same(rt, found, (0, 1));
+    Ok(())
+}
+
+/// A segment of a message of one byte that has two.
+fn over(alloc: Global) -> Result<[Segment; 1], Fail> {
+    let bytes = [0, 0, 0, 0, 0, 0, 0, 1, 65, 66];
+    Ok([Segment::new(alloc, &bytes)?.ok_or("it is one")?])
+}
+
 #[test]
 fn too_many_bytes(rt: HostRuntime) -> Result<(), Fail> {
-    let alloc = rt.alloc();
-    let none = Segment::new(alloc, &[])?;
-    assert!(rt; none.is_none());
-    let bytes = [0, 0, 0, 0, 0, 0, 0, 1, 65, 66];
-    let segments = [Segment::new(alloc, &bytes)?.ok_or("it is one")?];
-    let mut joiner = Joiner::new(alloc).copy(alloc)?;
-    for _ in 0..2 {
-        assert!(rt;
-            matches!(
-                joiner.add(alloc, &segments[0]),
-                Err(FragError::Over { have: 2, want: 1 })
-            )
-        );
-        let (joined, _) = joiner.add_all(alloc, &segments)?;
-        assert_eq!(rt; counts(joined.as_slice()), (0, 1));
-    }
-    Ok(())
+    same(&rt, Segment::new(rt.alloc(), &[])?.is_none(), true);
+    let segments = over(rt.alloc())?;
+    let mut joiner = Joiner::new(rt.alloc()).copy(rt.alloc())?;
+    is_over(&rt, rt.alloc(), &mut joiner, &segments)?;
+    is_over(&rt, rt.alloc(), &mut joiner, &segments)
 }
 
 /// How many messages are whole, and how often there were too many bytes.
@@ -58,25 +114,45 @@ fn counts(joined: &[Joined]) -> (usize, usize) {
     (whole, joined.len() - whole)
 }
 
-#[test]
-fn segments_taken_and_undone(rt: HostRuntime) -> Result<(), Fail> {
-    let alloc = rt.alloc();
-    let message = vec![in alloc; 7u8; 2000]?;
-    let segments = cut(alloc, &message)?;
-    let mut joiner = Joiner::new(alloc);
-    assert_eq!(rt; segments.len(), 2);
-    let (first, last) = segments.as_slice().split_at(1);
-    for (part, told) in [
-        (first, (0, 0)),
-        (last, (1, 0)),
-        (segments.as_slice(), (1, 0)),
-    ] {
-        let (joined, back) = joiner.add_all(alloc, part)?;
-        assert_eq!(rt; counts(joined.as_slice()), told);
-        joiner.undo(back);
-        let (joined, _) = joiner.add_all(alloc, part)?;
-        assert_eq!(rt; counts(joined.as_slice()), told, "again");
+/// The segments give so many messages, and again after they are undone.
+fn are_taken_twice(
+    rt: &impl Abort,
+    alloc: Global,
+    joiner: &mut Joiner,
+    segments: &[Segment],
+    told: (usize, usize),
+) -> Result<(), Fail> {
+    let (found, back) = taken(alloc, joiner, segments)?;
+    same(rt, found, told);
+    joiner.undo(back);
+    let (found, back) = taken(alloc, joiner, segments)?;
+    spend(back);
+    same(rt, ("again", found), ("again", told));
+    Ok(())
+}
+
+/// The first of two segments, the last, and both.
+fn are_taken_in_turn(rt: &impl Abort, alloc: Global, segments: &[Segment]) -> Result<(), Fail> {
+    if segments.len() != 2 {
+        return Err(Fail::from("two segments"));
     }
+    let (first, last) = segments.split_at(1);
+    let mut joiner = Joiner::new(alloc);
+    are_taken_twice(rt, alloc, &mut joiner, first, (0, 0))?;
+    are_taken_twice(rt, alloc, &mut joiner, last, (1, 0))?;
+    are_taken_twice(rt, alloc, &mut joiner, segments, (1, 0))?;
     joiner.undo(Back::Same);
     Ok(())
+}
+
+/// The segments of a message of so many bytes.
+fn segments(alloc: Global, len: usize) -> Result<List<Segment>, Fail> {
+    let message = vec![in alloc; 7u8; len]?;
+    Ok(cut(alloc, &message)?)
+}
+
+#[test]
+fn segments_taken_and_undone(rt: HostRuntime) -> Result<(), Fail> {
+    let segments = segments(rt.alloc(), 2000)?;
+    are_taken_in_turn(&rt, rt.alloc(), segments.as_slice())
 }

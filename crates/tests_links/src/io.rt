@@ -1,3 +1,4 @@
+use crate::same;
 use fs_ident::List;
 use fs_io::{
     Addr, Clock, Failed, Link, MemClock, MemSink, MemSource, ReadError, Sink, Source, StdinSource,
@@ -6,6 +7,7 @@ use fs_io::{
 };
 use std::alloc::Global;
 use std::io::{self, Read, Write};
+use std::process::Abort;
 use std::test::Fail;
 
 fn is_read(alloc: Global, len: usize) -> Result<bool, Fail> {
@@ -17,7 +19,7 @@ fn is_read(alloc: Global, len: usize) -> Result<bool, Fail> {
 fn the_longest_input_is_read_and_a_longer_one_is_not(rt: HostRuntime) -> Result<(), Fail> {
     let alloc = rt.alloc();
     for (len, read) in [(0, true), (16_777_216, true), (16_777_217, false)] {
-        assert_eq!(rt; is_read(alloc, len)?, read);
+        same(&rt, is_read(alloc, len)?, read);
     }
     Ok(())
 }
@@ -32,12 +34,13 @@ fn is_read_past(alloc: Global, len: u32, fail: u64) -> Result<Result<bool, ReadE
 #[test]
 fn each_read_fails_in_turn(rt: HostRuntime) -> Result<(), Fail> {
     for fail in 1..=4 {
-        assert_eq!(rt;
+        same(
+            &rt,
             is_read_past(rt.alloc(), 9000, fail)?,
-            Err(ReadError::ReadFault)
+            Err(ReadError::ReadFault),
         );
     }
-    assert_eq!(rt; is_read_past(rt.alloc(), 9000, 5)?, Ok(true));
+    same(&rt, is_read_past(rt.alloc(), 9000, 5)?, Ok(true));
     Ok(())
 }
 
@@ -45,44 +48,69 @@ fn each_read_fails_in_turn(rt: HostRuntime) -> Result<(), Fail> {
 fn the_first_write_fails(rt: HostRuntime) -> Result<(), Fail> {
     let alloc = rt.alloc();
     let mut out = MemSink::new(alloc, 4, vec![in alloc; 1]?)?;
-    assert!(rt; out.write(b"abc").is_err());
-    assert!(rt; write_all(&mut out, b"abcd").is_ok());
-    assert!(rt; out.write(b"e").is_err());
-    assert_eq!(rt; out.bytes(), b"abcd".as_slice());
+    same(&rt, out.write(b"abc").is_err(), true);
+    same(&rt, write_all(&mut out, b"abcd").is_ok(), true);
+    same(&rt, out.write(b"e").is_err(), true);
+    same(&rt, out.bytes(), b"abcd".as_slice());
     Ok(())
 }
 
 #[test]
 fn a_sink_takes_what_fits(rt: HostRuntime) -> Result<(), Fail> {
     let mut out = SureSink::new(rt.alloc(), 3)?;
-    assert!(rt; write_all(&mut out, b"abcd").is_err());
-    assert_eq!(rt; out.bytes(), b"abc".as_slice());
+    same(&rt, write_all(&mut out, b"abcd").is_err(), true);
+    same(&rt, out.bytes(), b"abc".as_slice());
     Ok(())
+}
+
+/// A clock of two readings.
+fn clock(alloc: Global) -> Result<MemClock, Fail> {
+    let mut readings = Vec::new(alloc);
+    readings.push(5)?;
+    readings.push(3)?;
+    Ok(MemClock::new(readings))
+}
+
+/// The clock, which is let go, tells these.
+fn tells(rt: &impl Abort, clock: MemClock, told: &[u64]) {
+    let mut clock = clock;
+    for reading in told {
+        same(rt, clock.now(), *reading);
+    }
 }
 
 #[test]
 fn a_clock_repeats_its_last_reading(rt: HostRuntime) -> Result<(), Fail> {
-    let alloc = rt.alloc();
-    let mut clock = MemClock::new(Vec::new(alloc));
-    assert_eq!(rt; clock.now(), 0);
-    let mut readings = Vec::new(alloc);
-    readings.push(5)?;
-    readings.push(3)?;
-    let mut clock = MemClock::new(readings);
-    assert_eq!(rt; clock.now(), 5);
-    assert_eq!(rt; clock.now(), 3);
-    assert_eq!(rt; clock.now(), 3);
+    tells(&rt, MemClock::new(Vec::new(rt.alloc())), &[0]);
+    tells(&rt, clock(rt.alloc())?, &[5, 3, 3]);
+    Ok(())
+}
+
+/// So many bytes are read into the buffer.
+fn is_read_into<S: Source + Drop>(
+    rt: &impl Abort,
+    input: S,
+    buf: &mut [u8],
+    count: usize,
+) -> Result<(), Fail> {
+    let mut input = input;
+    same(rt, input.read(buf)?, count);
+    Ok(())
+}
+
+/// All of the bytes are written.
+fn is_written<K: Sink + Drop>(rt: &impl Abort, out: K, bytes: &[u8]) -> Result<(), Fail> {
+    let mut out = out;
+    same(rt, out.write(bytes)?, bytes.len());
     Ok(())
 }
 
 #[test]
 fn a_reader_and_a_writer_serve(rt: HostRuntime) -> Result<(), Fail> {
-    let mut buf = [0; 4];
-    assert_eq!(rt; StdinSource::new(b"ab".as_slice()).read(&mut buf)?, 2);
-    assert_eq!(rt; standard_input(&rt).read(&mut buf[..0])?, 0);
-    assert_eq!(rt; StdoutSink::new(Vec::new(rt.alloc())).write(b"ab")?, 2);
-    assert_eq!(rt; standard_output(&rt).write(b"")?, 0);
-    Ok(())
+    is_read_into(&rt, StdinSource::new(b"ab".as_slice()), &mut [0; 4], 2)?;
+    is_read_into(&rt, standard_input(&rt), &mut [], 0)?;
+    is_written(&rt, StdoutSink::new(Vec::new(rt.alloc())), b"ab")?;
+    is_written(&rt, standard_output(&rt), b"")
 }
 
 const AT: Addr = Addr {
@@ -90,28 +118,44 @@ const AT: Addr = Addr {
     port: 4000,
 };
 
+/// A link at which these bytes wait, with room for two calls.
+fn link_with(alloc: Global, bytes: &[u8]) -> Result<SureLink, Fail> {
+    let mut waiting = Vec::new(alloc);
+    waiting.push((AT, List::from_vec(bytes.to_vec(alloc)?)))?;
+    Ok(SureLink::new(alloc, waiting, 2)?)
+}
+
+/// What fits of the bytes comes once, and then no call has room.
+fn is_given(rt: &impl Abort, link: &mut SureLink, wanted: [u8; 4]) -> Result<(), Fail> {
+    let mut buf = [0; 4];
+    same(rt, link.receive(&mut buf)?.is_some(), true);
+    same(rt, buf, wanted);
+    same(rt, link.receive(&mut buf)?.is_none(), true);
+    same(rt, link.bind(AT).is_err(), true);
+    Ok(())
+}
+
 #[test]
 fn a_link_gives_what_waits(rt: HostRuntime) -> Result<(), Fail> {
-    let alloc = rt.alloc();
-    let mut waiting = Vec::new(alloc);
-    waiting.push((AT, List::from_vec(b"hello".to_vec(alloc)?)))?;
-    let mut link = SureLink::new(alloc, waiting, 2)?;
-    let mut buf = [0; 4];
-    assert!(rt; link.receive(&mut buf)?.is_some());
-    assert_eq!(rt; buf, *b"hell");
-    assert!(rt; link.receive(&mut buf)?.is_none());
-    assert!(rt; link.bind(AT).is_err());
+    let mut link = link_with(rt.alloc(), b"hello")?;
+    is_given(&rt, &mut link, *b"hell")
+}
+
+/// A call and then one with these bytes are kept.
+fn are_kept(rt: &impl Abort, link: &mut SureLink, bytes: &[u8]) -> Result<(), Fail> {
+    same(rt, link.bind(AT).is_ok(), true);
+    same(rt, link.send(AT, bytes).is_ok(), true);
+    if link.calls().len() != 2 {
+        return Err(Fail::from("two calls"));
+    }
+    same(rt, link.bytes(1), bytes);
     Ok(())
 }
 
 #[test]
 fn a_link_keeps_its_calls(rt: HostRuntime) -> Result<(), Fail> {
     let mut link = SureLink::new(rt.alloc(), Vec::new(rt.alloc()), 2)?;
-    assert!(rt; link.bind(AT).is_ok());
-    assert!(rt; link.send(AT, b"more").is_ok());
-    assert_eq!(rt; link.calls().len(), 2);
-    assert_eq!(rt; link.bytes(1), b"more".as_slice());
-    Ok(())
+    are_kept(&rt, &mut link, b"more")
 }
 
 /// A reader and a writer of at most two bytes a call, of whose calls one fails.
@@ -167,39 +211,62 @@ fn failing_at(bytes: Vec<u8>, fail: u64) -> Halting {
     }
 }
 
-#[test]
-fn an_error_of_a_reader_ends_the_input(rt: HostRuntime) -> Result<(), Fail> {
-    let fault = Err(ReadError::ReadFault);
-    for (fail, calls, answer) in [
-        (1, 1, fault),
-        (2, 2, fault),
-        (3, 3, fault),
-        (4, 4, fault),
-        (5, 4, Ok(true)),
-    ] {
-        let mut reader = failing_at(b"abcde".to_vec(rt.alloc())?, fail);
-        let read = read_all(rt.alloc(), &mut StdinSource::new(&mut reader));
-        assert_eq!(rt; read.map(|bytes| bytes == reader.bytes), answer);
-        assert_eq!(rt; reader.calls, calls);
-    }
+const FAULT: Result<bool, ReadError> = Err(ReadError::ReadFault);
+
+/// The call that fails, how many calls there are, and whether all five bytes are read.
+const READS: [(u64, u64, Result<bool, ReadError>); 5] = [
+    (1, 1, FAULT),
+    (2, 2, FAULT),
+    (3, 3, FAULT),
+    (4, 4, FAULT),
+    (5, 4, Ok(true)),
+];
+
+/// The reader, one of whose calls fails, is so read.
+fn ends_input(
+    rt: &impl Abort,
+    alloc: Global,
+    fail: u64,
+    calls: u64,
+    answer: Result<bool, ReadError>,
+) -> Result<(), Fail> {
+    let mut reader = failing_at(b"abcde".to_vec(alloc)?, fail);
+    let read = read_all(alloc, &mut StdinSource::new(&mut reader));
+    same(rt, read.map(|bytes| bytes == reader.bytes), answer);
+    same(rt, reader.calls, calls);
     Ok(())
 }
 
 #[test]
-fn an_error_of_a_writer_ends_the_output(rt: HostRuntime) -> Result<(), Fail> {
-    for (fail, calls, written) in [(1, 1, ""), (2, 2, "ab"), (3, 3, "abcd"), (4, 3, "abcde")] {
-        let mut writer = failing_at(Vec::new(rt.alloc()), fail);
-        let wrote = write_all(&mut StdoutSink::new(&mut writer), b"abcde");
-        assert_eq!(rt; wrote.is_ok(), fail == 4);
-        assert_eq!(rt; writer.bytes.as_slice(), written.as_bytes());
-        assert_eq!(rt; writer.calls, calls);
+fn an_error_of_a_reader_ends_the_input(rt: HostRuntime) -> Result<(), Fail> {
+    for (fail, calls, answer) in &READS {
+        ends_input(&rt, rt.alloc(), *fail, *calls, *answer)?;
     }
     Ok(())
+}
+
+/// The call that fails, how many calls there are, and what is written.
+const WRITES: [(u64, u64, &str); 4] = [(1, 1, ""), (2, 2, "ab"), (3, 3, "abcd"), (4, 3, "abcde")];
+
+/// The writer, one of whose calls fails, is so written to.
+fn ends_output(rt: &impl Abort, alloc: Global, fail: u64, calls: u64, written: &str) {
+    let mut writer = failing_at(Vec::new(alloc), fail);
+    let wrote = write_all(&mut StdoutSink::new(&mut writer), b"abcde");
+    same(rt, wrote.is_ok(), fail == 4);
+    same(rt, writer.bytes.as_slice(), written.as_bytes());
+    same(rt, writer.calls, calls);
+}
+
+#[test]
+fn an_error_of_a_writer_ends_the_output(rt: HostRuntime) {
+    for (fail, calls, written) in &WRITES {
+        ends_output(&rt, rt.alloc(), *fail, *calls, written);
+    }
 }
 
 #[test]
 fn a_failed_call_is_printed(rt: HostRuntime) -> Result<(), Fail> {
     let text = Failed.to_string(rt.alloc())?;
-    assert_eq!(rt; text.as_str(), "the outside failed");
+    same(&rt, text.as_str(), "the outside failed");
     Ok(())
 }

@@ -18,3 +18,7 @@ use std::process::Abort;
 pub(crate) fn same<T: PartialEq + Debug + Drop>(rt: &impl Abort, found: T, wanted: T) {
     assert_eq!(rt; found, wanted);
 }
+
+/// The value is let go. A generic function does so at the cost of one proof for all types.
+#[cfg(test)]
+pub(crate) fn spend<T: Drop>(_x: T) {}

@@ -241,8 +241,8 @@ fn writes_outcome(rt: &impl Abort, alloc: Global, k: u64, text: &[u8]) -> Result
 
 #[test]
 fn writes_outcomes(rt: HostRuntime) -> Result<(), Fail> {
-    for (k, text) in OUTCOMES {
-        writes_outcome(&rt, rt.alloc(), k, text)?;
+    for (k, text) in &OUTCOMES {
+        writes_outcome(&rt, rt.alloc(), *k, text)?;
     }
     Ok(())
 }
@@ -364,8 +364,8 @@ fn writes_item(rt: &impl Abort, alloc: Global, k: u64, text: &[u8]) -> Result<()
 
 #[test]
 fn writes_items(rt: HostRuntime) -> Result<(), Fail> {
-    for (k, text) in ITEMS {
-        writes_item(&rt, rt.alloc(), k, text)?;
+    for (k, text) in &ITEMS {
+        writes_item(&rt, rt.alloc(), *k, text)?;
     }
     Ok(())
 }

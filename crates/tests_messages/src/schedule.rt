@@ -3,7 +3,7 @@ use crate::{err_of, reads, same, shows, spend};
 use fs_ident::Twin;
 use fs_schedule::{ScheduleError, read_schedule};
 use std::alloc::Global;
-use std::fmt::Debug;
+use std::fmt::{Debug, Display};
 use std::process::Abort;
 use std::test::Fail;
 
@@ -103,8 +103,8 @@ fn every_event_is_read_and_copied(rt: HostRuntime) -> Result<(), Fail> {
     is_read(&rt, rt.alloc(), FIFTEEN, FIFTEEN_SHOWN)
 }
 
-/// Texts that are no schedules, each behind the limit that it passes, or nothing, and its faulty line.
-const REFUSED: [(&str, &str); 50] = [
+/// Texts that are refused for their first line or by its limits, each behind what comes of it.
+const FIRST_LINES: [(&str, &str); 25] = [
     ("1", ""),
     ("1", "\n"),
     ("1", "farsite 1 direct\r\n"),
@@ -133,44 +133,45 @@ const REFUSED: [(&str, &str); 50] = [
         "farsite 1 servers 2 skew 10 term 100\n0 recall s2 life /",
     ),
     ("2", "farsite 1 servers 2 skew 10 term 100\n0 move s0 /1 s2"),
-    ("2", "farsite 1 direct\n0 move s0 / s0"),
     ("1", "farsite 1 servers 1 skew 1000000001 term 100\n"),
     ("1", "farsite 1 servers 1 skew 10 term 1000000001\n"),
     ("1", "farsite 1 servers 1 skew 10 term 0\n"),
     ("1", "farsite 1 servers 1 skew 010 term 100\n"),
     ("1", "farsite 1 servers 1 term 100 skew 10\n"),
     ("1", "farsite 1 servers 1 skew 10 term 100 \n"),
-    ("2", "farsite 1 direct\n\n"),
-    ("3", "farsite 1 direct\n0 join c1\n\n"),
-    ("2", "farsite 1 direct\n0 join c1\r\n"),
-    ("2", "farsite 1 direct\n0 join  c1"),
-    ("2", "farsite 1 direct\n0 join c1 "),
-    ("2", "farsite 1 direct\n0 tell 0"),
-    ("2", "farsite 1 direct\n0 tell next"),
-    ("2", "farsite 1 direct\n0 turn c1"),
-    ("2", "farsite 1 direct\n0 turn s0"),
-    ("2", "farsite 1 direct\n0 recall s0 life /"),
-    ("2", "farsite 1 direct\n00 join c1"),
-    ("2", "farsite 1 direct\n1000000000000001 join c1"),
-    ("2", "farsite 1 direct\n0 join c0"),
-    ("2", "farsite 1 direct\n0 join c01"),
-    ("2", "farsite 1 direct\n0 join c"),
-    ("sessions 2", "farsite 1 direct\n0 join c1001"),
-    (
-        "sessions 2",
-        "farsite 1 direct\n0 join c99999999999999999999999999",
-    ),
-    ("sessions 2", "farsite 1 direct\n0 join c1001\n0 jo"),
-    ("2", "farsite 1 direct\n0 jo\n0 join c1001"),
-    ("2", "farsite 1 direct\n0 do c1001 open /1 1 - R"),
-    ("2", "farsite 1 direct\n0 do c1 lookup / \"a:b\""),
-    ("2", "farsite 1 direct\n0 do c1 lookup / a"),
-    ("2", "farsite 1 direct\n0 do c1 lookup / \"a\"b"),
-    ("2", "farsite 1 direct\n0 do c1 reap /1 c2"),
 ];
 
-/// The same behind the first line of the servers form, with a skew of 10.
-const SERVED_REFUSED: [(&str, &str); 38] = [
+/// The same behind the first line of the direct form.
+const DIRECT_LINES: [(&str, &str); 25] = [
+    ("2", "0 move s0 / s0"),
+    ("2", "\n"),
+    ("3", "0 join c1\n\n"),
+    ("2", "0 join c1\r\n"),
+    ("2", "0 join  c1"),
+    ("2", "0 join c1 "),
+    ("2", "0 tell 0"),
+    ("2", "0 tell next"),
+    ("2", "0 turn c1"),
+    ("2", "0 turn s0"),
+    ("2", "0 recall s0 life /"),
+    ("2", "00 join c1"),
+    ("2", "1000000000000001 join c1"),
+    ("2", "0 join c0"),
+    ("2", "0 join c01"),
+    ("2", "0 join c"),
+    ("sessions 2", "0 join c1001"),
+    ("sessions 2", "0 join c99999999999999999999999999"),
+    ("sessions 2", "0 join c1001\n0 jo"),
+    ("2", "0 jo\n0 join c1001"),
+    ("2", "0 do c1001 open /1 1 - R"),
+    ("2", "0 do c1 lookup / \"a:b\""),
+    ("2", "0 do c1 lookup / a"),
+    ("2", "0 do c1 lookup / \"a\"b"),
+    ("2", "0 do c1 reap /1 c2"),
+];
+
+/// The same behind the first line of the servers form.
+const SERVED_LINES: [(&str, &str); 33] = [
     ("2", "0 tell"),
     ("2", "0 tell 00"),
     ("2", "0 tell last"),
@@ -204,6 +205,10 @@ const SERVED_REFUSED: [(&str, &str); 38] = [
     ("2", "0 do c1 reap /1 c2"),
     ("2", "0 do c1 delete / \"a\""),
     ("2", "0 do c1 rename / \"a\" / \"b\""),
+];
+
+/// The same there, with a skew of 10.
+const READINGS: [(&str, &str); 5] = [
     ("read", "100 join c1\n90 join c2"),
     (
         "line 3 is more than the skew before line 2",
@@ -223,35 +228,76 @@ const SERVED_REFUSED: [(&str, &str); 38] = [
 /// What comes of a text: `read`, a line, the limit that it passes and its line, or what else is wrong.
 fn told_of(alloc: Global, text: &[u8]) -> Result<String, Fail> {
     match err_of(read_schedule(alloc, text)) {
-        None => Ok(format!(in alloc; "read")?),
-        Some(ScheduleError::BadLine { line }) => Ok(format!(in alloc; "{line}")?),
-        Some(ScheduleError::Limit { which, at }) => Ok(format!(in alloc; "{which} {at}")?),
-        Some(other) => Ok(format!(in alloc; "{other}")?),
+        None => written(alloc, "read"),
+        Some(why) => told_of_error(alloc, why),
     }
 }
 
-/// This comes of the text.
-fn is_told(rt: &impl Abort, alloc: Global, text: &str, wanted: &str) -> Result<(), Fail> {
-    let told = told_of(alloc, text.as_bytes())?;
-    same(rt, (text, told.as_str()), (text, wanted));
+fn told_of_error(alloc: Global, why: ScheduleError) -> Result<String, Fail> {
+    match why {
+        ScheduleError::BadLine { line } => written(alloc, line),
+        ScheduleError::Limit { which, at } => Ok(format!(in alloc; "{which} {at}")?),
+        other => written(alloc, other),
+    }
+}
+
+/// So the value, which is let go, is written for users.
+fn written<T: Display + Drop>(alloc: Global, x: T) -> Result<String, Fail> {
+    Ok(format!(in alloc; "{x}")?)
+}
+
+/// This comes of the lines behind the others.
+fn is_told(
+    rt: &impl Abort,
+    alloc: Global,
+    first: &str,
+    lines: &str,
+    wanted: &str,
+) -> Result<(), Fail> {
+    let told = told_behind(alloc, first, lines)?;
+    same(rt, (lines, told.as_str()), (lines, wanted));
     Ok(())
 }
 
-/// This comes of the lines of the servers form.
-fn is_told_served(rt: &impl Abort, alloc: Global, lines: &str, wanted: &str) -> Result<(), Fail> {
-    let text = format!(in alloc; "farsite 1 servers 1 skew 10 term 100\n{lines}")?;
-    is_told(rt, alloc, text.as_str(), wanted)
+/// What comes of the lines behind the others.
+fn told_behind(alloc: Global, first: &str, lines: &str) -> Result<String, Fail> {
+    let text = format!(in alloc; "{first}{lines}")?;
+    told_of(alloc, text.as_bytes())
+}
+
+/// So it is with each of a table.
+fn are_told(
+    rt: &impl Abort,
+    alloc: Global,
+    first: &str,
+    table: &[(&str, &str)],
+) -> Result<(), Fail> {
+    for (wanted, lines) in table {
+        is_told(rt, alloc, first, lines, wanted)?;
+    }
+    Ok(())
+}
+
+const SERVERS: &str = "farsite 1 servers 1 skew 10 term 100\n";
+
+#[test]
+fn faults_of_first_lines(rt: HostRuntime) -> Result<(), Fail> {
+    are_told(&rt, rt.alloc(), "", &FIRST_LINES)
 }
 
 #[test]
-fn the_first_fault_is_told(rt: HostRuntime) -> Result<(), Fail> {
-    for (wanted, text) in REFUSED {
-        is_told(&rt, rt.alloc(), text, wanted)?;
-    }
-    for (wanted, lines) in SERVED_REFUSED {
-        is_told_served(&rt, rt.alloc(), lines, wanted)?;
-    }
-    Ok(())
+fn faults_of_lines_in_the_direct_form(rt: HostRuntime) -> Result<(), Fail> {
+    are_told(&rt, rt.alloc(), "farsite 1 direct\n", &DIRECT_LINES)
+}
+
+#[test]
+fn faults_of_lines_in_the_servers_form(rt: HostRuntime) -> Result<(), Fail> {
+    are_told(&rt, rt.alloc(), SERVERS, &SERVED_LINES)
+}
+
+#[test]
+fn faults_of_readings(rt: HostRuntime) -> Result<(), Fail> {
+    are_told(&rt, rt.alloc(), SERVERS, &READINGS)
 }
 
 /// A schedule of the direct form with so many times this behind its head.
@@ -280,7 +326,7 @@ fn is_written(
     why: ScheduleError,
     wanted: &str,
 ) -> Result<(), Fail> {
-    let told = format!(in alloc; "{why}")?;
+    let told = written(alloc, why)?;
     same(rt, told.as_str(), wanted);
     Ok(())
 }

@@ -4,6 +4,7 @@ use crate::msg::messages::is_spelled_again;
 use crate::same;
 use fs_msg::MsgError;
 use std::alloc::Global;
+use std::process::Abort;
 use std::test::Fail;
 
 /// The fault where a byte of a message is another, if there is one.
@@ -72,11 +73,21 @@ const FAULTS: [(usize, u8, usize); 10] = [
     (96, 1, 96),
 ];
 
-#[test]
-fn a_next_number_is_in_its_range(rt: HostRuntime) -> Result<(), Fail> {
-    for (place, byte, at) in FAULTS {
-        let fault = changed_fault_of(rt.alloc(), &WHOLE, place, byte)?;
-        same(&rt, fault, Some(MsgError::Range { at }));
+/// So it is with each of a table.
+fn are_out_of_range(
+    rt: &impl Abort,
+    alloc: Global,
+    bytes: &[u8],
+    table: &[(usize, u8, usize)],
+) -> Result<(), Fail> {
+    for (place, byte, at) in table {
+        let fault = changed_fault_of(alloc, bytes, *place, *byte)?;
+        same(rt, fault, Some(MsgError::Range { at: *at }));
     }
     Ok(())
+}
+
+#[test]
+fn a_next_number_is_in_its_range(rt: HostRuntime) -> Result<(), Fail> {
+    are_out_of_range(&rt, rt.alloc(), &WHOLE, &FAULTS)
 }
