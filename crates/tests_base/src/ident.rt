@@ -71,7 +71,7 @@ const IDS: [&[u8]; 4] = [b"/", b"/5", b"/1/3", b"/4294967295/10"];
 
 #[test]
 fn reads_and_prints_identifiers(rt: HostRuntime) -> Result<(), Fail> {
-    for text in IDS {
+    for text in &IDS {
         reads(&rt, rt.alloc(), text)?;
     }
     reads(&rt, rt.alloc(), &b"/1".repeat(rt.alloc(), DEPTH)?)
@@ -103,8 +103,8 @@ fn is_no_id(rt: &impl Abort, alloc: Global, text: &[u8], at: usize) {
 
 #[test]
 fn refuses_texts(rt: HostRuntime) -> Result<(), Fail> {
-    for (text, at) in BAD_TEXTS {
-        is_no_id(&rt, rt.alloc(), text, at);
+    for (text, at) in &BAD_TEXTS {
+        is_no_id(&rt, rt.alloc(), text, *at);
     }
     is_no_id(&rt, rt.alloc(), &b"/1".repeat(rt.alloc(), DEPTH + 1)?, 64);
     Ok(())
@@ -149,8 +149,8 @@ fn is_no_name(rt: &impl Abort, alloc: Global, bytes: &[u8], at: usize) {
 
 #[test]
 fn refuses_names(rt: HostRuntime) -> Result<(), Fail> {
-    for (bytes, at) in BAD_NAMES {
-        is_no_name(&rt, rt.alloc(), bytes, at);
+    for (bytes, at) in &BAD_NAMES {
+        is_no_name(&rt, rt.alloc(), bytes, *at);
     }
     for b in b"\\/:*?\"<>|\0\n" {
         is_no_name(&rt, rt.alloc(), &[b'a', b'b', *b], 2);
