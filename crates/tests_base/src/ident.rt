@@ -6,7 +6,7 @@ use fs_ident::{
     number_in_front, search_by_name,
 };
 use std::alloc::Global;
-use std::fmt::Debug;
+use std::fmt::{Debug, Display};
 use std::process::Abort;
 use std::test::Fail;
 
@@ -19,14 +19,8 @@ fn ones(alloc: Global, depth: usize) -> Result<FileId, IdError> {
     Ok(id)
 }
 
-/// The numbers, the order and the parents of the root, a file below it, and a file below that.
-fn are_numbered(
-    rt: &impl Abort,
-    alloc: Global,
-    root: &FileId,
-    one: &FileId,
-    three: &FileId,
-) -> Result<(), Fail> {
+/// The numbers and the order of the root, a file below it, and a file below that.
+fn are_in_order(rt: &impl Abort, root: &FileId, one: &FileId, three: &FileId) {
     same(rt, three.numbers(), &[1, 3]);
     same(rt, (root < one, one < three), (true, true));
     same(
@@ -34,6 +28,17 @@ fn are_numbered(
         (three.begins(one), three.begins(three), one.begins(three)),
         (true, true, false),
     );
+}
+
+/// Their order, their copies and their parents.
+fn are_numbered(
+    rt: &impl Abort,
+    alloc: Global,
+    root: &FileId,
+    one: &FileId,
+    three: &FileId,
+) -> Result<(), Fail> {
+    are_in_order(rt, root, one, three);
     same(rt, &three.copy(alloc)?, three);
     same(rt, three.parent(alloc)?.as_ref(), Some(one));
     same(rt, root.parent(alloc)?.is_none(), true);
@@ -71,7 +76,7 @@ const IDS: [&[u8]; 4] = [b"/", b"/5", b"/1/3", b"/4294967295/10"];
 
 #[test]
 fn reads_and_prints_identifiers(rt: HostRuntime) -> Result<(), Fail> {
-    for text in IDS {
+    for text in &IDS {
         reads(&rt, rt.alloc(), text)?;
     }
     reads(&rt, rt.alloc(), &b"/1".repeat(rt.alloc(), DEPTH)?)
@@ -103,8 +108,8 @@ fn is_no_id(rt: &impl Abort, alloc: Global, text: &[u8], at: usize) {
 
 #[test]
 fn refuses_texts(rt: HostRuntime) -> Result<(), Fail> {
-    for (text, at) in BAD_TEXTS {
-        is_no_id(&rt, rt.alloc(), text, at);
+    for (text, at) in &BAD_TEXTS {
+        is_no_id(&rt, rt.alloc(), text, *at);
     }
     is_no_id(&rt, rt.alloc(), &b"/1".repeat(rt.alloc(), DEPTH + 1)?, 64);
     Ok(())
@@ -149,8 +154,8 @@ fn is_no_name(rt: &impl Abort, alloc: Global, bytes: &[u8], at: usize) {
 
 #[test]
 fn refuses_names(rt: HostRuntime) -> Result<(), Fail> {
-    for (bytes, at) in BAD_NAMES {
-        is_no_name(&rt, rt.alloc(), bytes, at);
+    for (bytes, at) in &BAD_NAMES {
+        is_no_name(&rt, rt.alloc(), bytes, *at);
     }
     for b in b"\\/:*?\"<>|\0\n" {
         is_no_name(&rt, rt.alloc(), &[b'a', b'b', *b], 2);
@@ -224,43 +229,27 @@ fn makes_twins(rt: HostRuntime) -> Result<(), Fail> {
 }
 
 /// The text of an actor or of a number.
-fn prints(rt: &impl Abort, text: &String, wanted: &str) {
-    same(rt, text.as_str(), wanted);
+fn prints<T: Display>(rt: &impl Abort, alloc: Global, x: &T, wanted: &str) -> Result<(), Fail> {
+    same(rt, x.to_string(alloc)?.as_str(), wanted);
+    Ok(())
 }
 
 #[test]
 fn prints_actors(rt: HostRuntime) -> Result<(), Fail> {
-    prints(&rt, &Session(7).to_string(rt.alloc())?, "c7");
-    prints(&rt, &Peer::Server(0).to_string(rt.alloc())?, "s0");
-    prints(
-        &rt,
-        &Peer::Client(Session(1000)).to_string(rt.alloc())?,
-        "c1000",
-    );
-    prints(&rt, &Memory.to_string(rt.alloc())?, "memory is wanting");
-    Ok(())
+    let alloc = rt.alloc();
+    prints(&rt, alloc, &Session(7), "c7")?;
+    prints(&rt, alloc, &Peer::Server(0), "s0")?;
+    prints(&rt, alloc, &Peer::Client(Session(1000)), "c1000")?;
+    prints(&rt, alloc, &Memory, "memory is wanting")
 }
 
 #[test]
 fn prints_numbers(rt: HostRuntime) -> Result<(), Fail> {
     let server = 4;
     let count = 19;
-    prints(
-        &rt,
-        &LeaseNo { server, count }.to_string(rt.alloc())?,
-        "s4.19",
-    );
-    prints(
-        &rt,
-        &TxnNo { server, count }.to_string(rt.alloc())?,
-        "s4#19",
-    );
-    prints(
-        &rt,
-        &PathNo { server, count }.to_string(rt.alloc())?,
-        "s4@19",
-    );
-    Ok(())
+    prints(&rt, rt.alloc(), &LeaseNo { server, count }, "s4.19")?;
+    prints(&rt, rt.alloc(), &TxnNo { server, count }, "s4#19")?;
+    prints(&rt, rt.alloc(), &PathNo { server, count }, "s4@19")
 }
 
 /// A value that may not be dropped.

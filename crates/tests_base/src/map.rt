@@ -103,7 +103,7 @@ fn passes(
     (from, me): (&mut FileMap, u8),
     prefix: &str,
     (to, you): (&mut FileMap, u8),
-    wanted: [&str; 3],
+    wanted: &[&str; 3],
 ) -> Result<(), Fail> {
     let piece = given(alloc, from, me, prefix, you)?;
     let done = is_taken(rt, alloc, to, you, &piece, wanted[0]);
@@ -149,11 +149,11 @@ fn three_servers_pass(
     s1: &mut FileMap,
     s2: &mut FileMap,
 ) -> Result<(), Fail> {
-    passes(rt, alloc, (s0, 0), "/1", (s1, 1), FIRST)?;
-    passes(rt, alloc, (s1, 1), "/1/2", (s0, 0), SECOND)?;
-    passes(rt, alloc, (s0, 0), "/", (s2, 2), THIRD)?;
+    passes(rt, alloc, (s0, 0), "/1", (s1, 1), &FIRST)?;
+    passes(rt, alloc, (s1, 1), "/1/2", (s0, 0), &SECOND)?;
+    passes(rt, alloc, (s0, 0), "/", (s2, 2), &THIRD)?;
     sends(rt, alloc, s2, s0)?;
-    passes(rt, alloc, (s2, 2), "/", (s1, 1), FOURTH)
+    passes(rt, alloc, (s2, 2), "/", (s1, 1), &FOURTH)
 }
 
 /// A third server beside the two.
@@ -232,9 +232,9 @@ fn takes_hint(
 }
 
 fn takes_hints(rt: &impl Abort, alloc: Global, map: &mut FileMap) -> Result<(), Fail> {
-    for (prefix, to, wanted) in HINTS {
+    for (prefix, to, wanted) in &HINTS {
         let prefix = FileId::parse(alloc, prefix.as_bytes())?;
-        let done = takes_hint(rt, alloc, map, &prefix, to, wanted);
+        let done = takes_hint(rt, alloc, map, &prefix, *to, wanted);
         spend(prefix);
         done?;
     }

@@ -95,12 +95,18 @@ fn a_file_is_opened_once(rt: HostRuntime) -> Result<(), Fail> {
     done
 }
 
+/// Copies of both.
+fn child(alloc: Global, id: &FileId, name: &Name) -> Result<(Name, FileId), Memory> {
+    Ok((name.copy(alloc)?, id.copy(alloc)?))
+}
+
 /// A node with one of each.
 fn node(alloc: Global, id: &FileId, name: &Name) -> Result<Node, Memory>
     ensures { IfOk result IsInOrder }
 {
+    let child = child(alloc, id, name)?;
     let mut node = Node::new(alloc, Kind::Dir, None);
-    node.children.push((name.copy(alloc)?, id.copy(alloc)?))?;
+    node.children.push(child)?;
     node.handles.push(Handle {
         session: Session(2),
         h: 5,

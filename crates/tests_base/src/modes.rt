@@ -99,8 +99,8 @@ const MODES: [(Mode, &str); 6] = [
 
 #[test]
 fn prints_each_mode(rt: HostRuntime) -> Result<(), Fail> {
-    for (mode, text) in MODES {
-        same(&rt, mode.to_string(rt.alloc())?.as_str(), text);
+    for (mode, text) in &MODES {
+        same(&rt, mode.to_string(rt.alloc())?.as_str(), *text);
     }
     Ok(())
 }
