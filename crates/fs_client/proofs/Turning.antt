@@ -14,7 +14,7 @@ use Rattle.fs_client.specs.declared.exchange.Exchange.TheVariants as exchange
 use Rattle.fs_client.specs.declared.plan.Plan.{Plan}
 use Rattle.fs_client.specs.declared.state.Client.{Client}
 use Rattle.fs_msg.specs.declared.entry.Entry.{Entry}
-use Rattle.fs_msg.specs.Home.{home_of}
+use Rattle.fs_model.specs.Asking.{home_of}
 use Rattle.fs_client.specs.Acts.{hinted}
 use Rattle.fs_client.specs.Client.{can_change}
 use Rattle.fs_client.specs.Turns.{ending, entries_at, idle, kept_at, numbers_in, pair_of, release_some, releases, renew_some, renews, returned, sends, ship_some, turn_free, turn_on}

@@ -5,15 +5,11 @@ use Rattle.fs_ident.specs.declared.actor.LeaseNo.{LeaseNo}
 use Rattle.fs_field.specs.declared.asked.Need.{Need}
 use Rattle.fs_field.specs.declared.used.Use.{Use}
 use Rattle.fs_view.specs.declared.kept.Kept.{Kept}
-use Rattle.fs_view.specs.Kept.{has_ended, has_number}
+use Rattle.fs_view.specs.Kept.{has_number, is_live}
 use Rattle.fs_view.specs.View.{can_pin_all, given_by, known_by}
 use Rattle.fs_view.specs.Walk.{is_there}
 use Rattle.fs_client.specs.declared.state.Client.{Client}
 use Rattle.fs_client.specs.Turns.{ends_by, has_to_go}
-
--- an entry uses the lease, or it goes back, or it is not over
-abbrev pub is_live : ℕ → Kept → Bool
-is_live now k = not (has_ended now k.standing)
 
 abbrev pub live_of : ℕ → List Kept → List Kept
 live_of now leases = filter (is_live now) leases

@@ -4,7 +4,7 @@ ghost use Rattle.std.specs.Option.{option_copied};
 ghost use Rattle.fs_client.specs.Home.{first_home};
 
 use fs_ident::FileId;
-use fs_msg::{Entry, home_of};
+use fs_msg::Entry;
 
 /// The home of the first entry.
 pub(crate) fn first_home(log: &[Entry]) -> Option<&FileId>
@@ -12,6 +12,6 @@ pub(crate) fn first_home(log: &[Entry]) -> Option<&FileId>
 {
     match log {
         [] => None,
-        [first, ..] => Some(home_of(&first.op)),
+        [first, ..] => Some(first.op.home()),
     }
 }

@@ -13,7 +13,7 @@ use crate::exchange::Exchange;
 use crate::plan::{Plan, Ready};
 use crate::state::Client;
 use fs_ident::{FileId, LeaseNo, List, Memory, Twin};
-use fs_msg::{ClientMsg, ClientNote, ClientOut, Entry, home_of};
+use fs_msg::{ClientMsg, ClientNote, ClientOut, Entry};
 use std::alloc::Global;
 
 /// What the turn comes to at the reading; nothing changes.
@@ -81,7 +81,7 @@ fn ship_some(alloc: Global, at: &Begun<'_>) -> Result<Plan<ClientNote>, Memory>
     match log.first() {
         None => Ok(idle(at)),
         Some(first) => {
-            let to = at.hinted(home_of(&first.op));
+            let to = at.hinted(first.op.home());
             Ok(ships(at, to, entries_at(alloc, at, to, log)?))
         }
     }
@@ -117,7 +117,7 @@ fn count_at(at: &Begun<'_>, to: u8, log: &[Entry]) -> usize
 {
     let mut count = 0;
     for entry in log {
-        if at.hinted(home_of(&entry.op)) != to {
+        if at.hinted(entry.op.home()) != to {
             return count;
         }
         count += 1;

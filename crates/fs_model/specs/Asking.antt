@@ -11,16 +11,16 @@ may_ask (op.OpenFile file h modes) = has_access modes
 may_ask (op.Reap file session) = false
 may_ask o = true
 
--- the file that the operation is on, or the directory that it begins from
-abbrev pub op_file : Op → List ℕ
-op_file (op.Lookup dir name) = dir
-op_file (op.List dir) = dir
-op_file (op.Kind file) = file
-op_file (op.Info file) = file
-op_file (op.Create dir name kind id) = dir
-op_file (op.OpenFile file h modes) = file
-op_file (op.Close file h) = file
-op_file (op.Set file h size stamp) = file
-op_file (op.Delete dir name) = dir
-op_file (op.Rename sdir sname ddir dname) = sdir
-op_file (op.Reap file session) = file
+-- the file that the operation is on: of an operation on a name the directory, of a rename the one to which the file goes
+abbrev pub home_of : Op → List ℕ
+home_of (op.Lookup dir name) = dir
+home_of (op.List dir) = dir
+home_of (op.Kind file) = file
+home_of (op.Info file) = file
+home_of (op.Create dir name kind id) = dir
+home_of (op.OpenFile file h modes) = file
+home_of (op.Close file h) = file
+home_of (op.Set file h size stamp) = file
+home_of (op.Delete dir name) = dir
+home_of (op.Rename sdir sname ddir dname) = ddir
+home_of (op.Reap file session) = file

@@ -61,7 +61,7 @@ pub enum Op {
 }
 
 impl Op {
-    ghost use Rattle.fs_model.specs.Asking.{may_ask, op_file};
+    ghost use Rattle.fs_model.specs.Asking.{home_of, may_ask};
 
     /// Whether a caller may ask for it: no reap, no create that names its identifier, no open without an access.
     pub fn may_be_asked(&self) -> bool
@@ -75,16 +75,16 @@ impl Op {
         }
     }
 
-    /// The file that it is on, or the directory that it begins from.
-    fn file(&self) -> &FileId
-        ensures { result.now ≡ op_file self.now }
+    /// The file that it is on; of an operation on a name the directory, of a rename the one to which the file goes.
+    pub fn home(&self) -> &FileId
+        ensures { result.now ≡ home_of self.now }
     {
         match self {
             Op::Lookup { dir, .. }
             | Op::List { dir }
             | Op::Create { dir, .. }
             | Op::Delete { dir, .. }
-            | Op::Rename { sdir: dir, .. } => dir,
+            | Op::Rename { ddir: dir, .. } => dir,
             Op::Kind { file }
             | Op::Info { file }
             | Op::OpenFile { file, .. }
@@ -97,7 +97,7 @@ impl Op {
 
 impl Twin for Op {
     fn copy(&self, alloc: Global) -> Result<Op, Memory> {
-        let file = self.file().copy(alloc)?;
+        let file = self.home().copy(alloc)?;
         match self {
             Op::Lookup { name, .. } => {
                 let (dir, name) = both(file, name.copy(alloc))?;
@@ -132,14 +132,14 @@ impl Twin for Op {
                 Ok(Op::Delete { dir, name })
             }
             Op::Rename {
+                sdir,
                 sname,
-                ddir,
                 dname,
                 ..
             } => {
-                let (sdir, (sname, ddir, dname)) = both(
+                let (ddir, (sdir, sname, dname)) = both(
                     file,
-                    copy_three(alloc, sname, ddir, dname),
+                    copy_three(alloc, sdir, sname, dname),
                 )?;
                 Ok(Op::Rename {
                     sdir,

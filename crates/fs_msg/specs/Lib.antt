@@ -1,5 +1,4 @@
 pub mod Journal
-pub mod Home
 pub mod Spelling
 pub mod Ranges
 pub mod Tags

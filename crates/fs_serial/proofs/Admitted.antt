@@ -8,7 +8,7 @@ use Rattle.fs_ident.proofs.Booleans.{both}
 use Rattle.fs_ident.proofs.Standing.{In-front, In-behind}
 use Rattle.fs_msg.specs.declared.client_msg.ClientMsg.TheVariants.{Ship}
 use Rattle.fs_msg.specs.declared.entry.Entry.{Entry}
-use Rattle.fs_msg.specs.Home.{home_of}
+use Rattle.fs_model.specs.Asking.{home_of}
 use Rattle.fs_msg.specs.declared.item.Item.{Item}
 use Rattle.fs_record.specs.Effects.{tells_its_effects}
 use Rattle.fs_server.specs.Server.{begun, is_mine}

@@ -9,7 +9,7 @@ use Rattle.fs_ident.proofs.Standing.{In-front}
 use Rattle.fs_field.specs.declared.row.Row.{Row}
 use Rattle.fs_field.specs.declared.used.Use.{Use}
 use Rattle.fs_map.specs.Map.{longest}
-use Rattle.fs_msg.specs.Home.{home_of}
+use Rattle.fs_model.specs.Asking.{home_of}
 use Rattle.fs_msg.specs.declared.client_msg.ClientMsg.TheVariants.{Ship}
 use Rattle.fs_msg.specs.declared.entry.Entry.{Entry}
 use Rattle.fs_msg.specs.declared.item.Item.{Item}

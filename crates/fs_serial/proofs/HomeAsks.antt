@@ -14,7 +14,7 @@ use Rattle.fs_model.specs.declared.op.Op.{Op}
 use Rattle.fs_model.specs.declared.op.Op.TheVariants as op
 use Rattle.fs_model.specs.declared.reply.Reply.{Reply}
 use Rattle.fs_model.specs.declared.reply.Reply.TheVariants as reply
-use Rattle.fs_msg.specs.Home.{home_of}
+use Rattle.fs_model.specs.Asking.{home_of}
 use Rattle.fs_client.specs.Acts.{with_id}
 use Rattle.fs_server.specs.Asks.{kind_for}
 use Rattle.fs_view.specs.Script.{Script, answer, ask, give, unless, no_dir, no_file, taken_name, ask_child, ask_names, ask_info, ask_place, new_file, ask_others, ask_selves, modes_on, modes_off, open_free, open_with, close_with, ask_own, no_set, ask_size, script_of}

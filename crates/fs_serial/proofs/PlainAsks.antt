@@ -8,7 +8,7 @@ use Rattle.fs_field.specs.declared.asked.Need.TheVariants as need
 use Rattle.fs_field.specs.declared.field.Field.{Field}
 use Rattle.fs_field.specs.declared.lease_kind.LeaseKind.{LeaseKind}
 use Rattle.fs_model.specs.declared.op.Op.{Op}
-use Rattle.fs_msg.specs.Home.{home_of}
+use Rattle.fs_model.specs.Asking.{home_of}
 use Rattle.fs_client.specs.Acts.{item_of, items_of, worth, is_futile}
 use Rattle.fs_view.specs.Script.{script_of}
 use Rattle.fs_view.specs.Walk.{Known, Given, walk, missing, is_there}

@@ -22,7 +22,7 @@ use Rattle.fs_field.specs.declared.value.Value.TheVariants as value
 use Rattle.fs_field.specs.Field.{file_of}
 use Rattle.fs_field.specs.Table.{is_parent}
 use Rattle.fs_lease.specs.Lease.{Lease as Term}
-use Rattle.fs_model.specs.Asking.{may_ask}
+use Rattle.fs_model.specs.Asking.{home_of, may_ask}
 use Rattle.fs_model.specs.Step.{is_child}
 use Rattle.fs_model.specs.declared.op.Op.{Op}
 use Rattle.fs_model.specs.declared.op.Op.TheVariants as op
@@ -31,7 +31,6 @@ use Rattle.fs_model.specs.declared.reply.Reply.TheVariants as reply
 use Rattle.fs_model.proofs.SoundRuns.{asks_access}
 use Rattle.fs_msg.specs.declared.answer.Answer.{Answer}
 use Rattle.fs_msg.specs.declared.entry.Entry.{Entry}
-use Rattle.fs_msg.specs.Home.{home_of}
 use Rattle.fs_record.specs.Effects.{tells_its_effects}
 use Rattle.fs_client.specs.Acts.{entry_of}
 use Rattle.fs_client.specs.declared.state.Client.{Client}

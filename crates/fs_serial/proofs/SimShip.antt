@@ -7,7 +7,7 @@ use Rattle.fs_field.specs.declared.used.Use.{Use}
 use Rattle.fs_field.specs.Field.{file_of, same_field}
 use Rattle.fs_field.specs.Table.{has_no, is_lease, same_kind}
 use Rattle.fs_moderows.proofs.FoundOnce.{find_same}
-use Rattle.fs_msg.specs.Home.{home_of}
+use Rattle.fs_model.specs.Asking.{home_of}
 use Rattle.fs_msg.specs.declared.entry.Entry.{Entry}
 use Rattle.fs_msg.specs.declared.item.Item.{Item}
 use Rattle.fs_msg.specs.declared.end.End.{End}

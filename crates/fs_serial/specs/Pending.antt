@@ -18,7 +18,7 @@ use Rattle.fs_model.specs.declared.op.Op.TheVariants as op
 use Rattle.fs_model.specs.declared.reply.Reply.{Reply}
 use Rattle.fs_model.specs.declared.reply.Reply.TheVariants as reply
 use Rattle.fs_record.specs.Effects.{tells_its_effects}
-use Rattle.fs_msg.specs.Home.{home_of}
+use Rattle.fs_model.specs.Asking.{home_of}
 use Rattle.fs_msg.specs.declared.entry.Entry.{Entry}
 use Rattle.fs_view.specs.Kept.{is_enough}
 use Rattle.fs_view.specs.View.{value_after_all}

@@ -28,7 +28,7 @@ ghost use Rattle.fs_server.specs.Moves.{fits_here, hands_over, parcel_at};
 ghost use Rattle.fs_server.specs.Reaps.{has_own, reap_item, with_reap};
 ghost use Rattle.fs_server.specs.Ships.{first_gone, item_of, with_entry};
 ghost use Rattle.fs_server.specs.Server.{begun, is_mine};
-ghost use Rattle.fs_msg.specs.Home.{home_of};
+ghost use Rattle.fs_model.specs.Asking.{home_of};
 ghost use Rattle.fs_msg.specs.declared.client_note.ClientNote.TheVariants as client;
 ghost use Rattle.fs_msg.specs.declared.server_note.ServerNote.TheVariants as server;
 ghost use Rattle.fs_client.specs.Answers.{answer_plan};

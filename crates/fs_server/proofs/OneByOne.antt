@@ -16,7 +16,7 @@ use Rattle.fs_msg.specs.declared.end.End.{End}
 use Rattle.fs_msg.specs.declared.end.End.TheVariants as end
 use Rattle.fs_msg.specs.declared.entry.Entry.{Entry}
 use Rattle.fs_msg.specs.declared.item.Item.{Item}
-use Rattle.fs_msg.specs.Home.{home_of}
+use Rattle.fs_model.specs.Asking.{home_of}
 use Rattle.fs_record.specs.ValueOf.{selves_in}
 use Rattle.fs_server.specs.Asks.{Asking, answer_to, ask_from, grant_of, kind_for, with_lease}
 use Rattle.fs_server.specs.Reaps.{Reaping, reap_from, reap_item, with_blocker, with_reap}

@@ -8,7 +8,7 @@ use Rattle.fs_ident.specs.declared.actor.Session.{Session}
 use Rattle.fs_field.specs.declared.effect.Effect.{Effect}
 use Rattle.fs_msg.specs.declared.entry.Entry.{Entry}
 use Rattle.fs_msg.specs.declared.item.Item.{Item}
-use Rattle.fs_msg.specs.Home.{home_of}
+use Rattle.fs_model.specs.Asking.{home_of}
 use Rattle.fs_record.specs.Applied.{is_undoable, records_after_all}
 use Rattle.fs_record.specs.Effects.{effects_of}
 use Rattle.fs_record.specs.Records.{RecordMap}

@@ -7,7 +7,7 @@ ghost use Rattle.fs_record.specs.Applied.{is_undoable};
 ghost use Rattle.fs_server.specs.declared.change.Change.TheVariants as change;
 ghost use Rattle.fs_server.specs.declared.state.Server.{Server as TheServer};
 ghost use Rattle.fs_record.specs.Effects.{effects_of, tells_its_effects};
-ghost use Rattle.fs_msg.specs.Home.{home_of};
+ghost use Rattle.fs_model.specs.Asking.{home_of};
 ghost use Rattle.fs_server.specs.Decided.{CanDecide, stepped_by};
 ghost use Rattle.fs_server.specs.Lent.{IsReady};
 ghost use Rattle.fs_server.specs.Server.{is_mine};
@@ -21,7 +21,7 @@ use crate::out::ServerOut;
 use fs_field::{Effect, Use};
 use fs_ident::{List, Memory, Peer, Session, Twin};
 use fs_model::Op;
-use fs_msg::{Answer, End, Entry, Item, ServerNote, home_of};
+use fs_msg::{Answer, End, Entry, Item, ServerNote};
 use fs_record::{effects, tells_its_effects};
 use std::alloc::Global;
 
@@ -78,7 +78,7 @@ fn ship_entries(
         if !is_here(at, &entry.op) {
             return Ok((
                 taken,
-                at.moved(alloc, home_of(&entry.op))?,
+                at.moved(alloc, entry.op.home())?,
                 List::new(alloc),
             ));
         }
@@ -100,7 +100,7 @@ fn ship_entries(
 fn is_here(at: &Begun<'_>, op: &Op) -> bool
     ensures { result ≡ is_mine at.now (home_of op.now) }
 {
-    at.is_mine(home_of(op))
+    at.is_mine(op.home())
 }
 
 /// The first use without its row.

@@ -18,11 +18,10 @@ use Rattle.fs_field.proofs.SameNo.{same_no_is, same_no_symm}
 use Rattle.fs_view.specs.declared.kept.Kept.{Kept}
 use Rattle.fs_view.specs.declared.kept.Standing.{Standing}
 use Rattle.fs_view.specs.declared.kept.Standing.TheVariants.{Held, Pinned, Leaving}
-use Rattle.fs_view.specs.Kept.{number_of, has_number, has_ended, is_better, is_unused_in, offers, pinned, serves, takes_pin, use_in}
+use Rattle.fs_view.specs.Kept.{number_of, has_number, has_ended, is_better, is_unused_in, offers, pinned, serves, takes_pin, use_in, is_live}
 use Rattle.fs_view.specs.Pins.{takes_after, times_in, can_pin_after}
 use Rattle.fs_view.specs.View.{View, are_distinct, can_pin_all, lapsed_at, offered, pinned_all, pinned_at, stands, taken, taken_from, item_use}
 use Rattle.fs_view.proofs.Pins.{with_pin, find_pinned, stands_there, found_in, from_none, used_by}
-use Rattle.fs_view.proofs.Lapsed.{is_live_at}
 
 -- ## A pin is one entry more
 
@@ -132,28 +131,28 @@ all_live v now (n ∷ ns) d = with_more now v (item_use v now n) (filter_map (it
 
 -- ## Pins pass over what has ended
 
-find_live : (now : ℕ) (number : LeaseNo) (ks : List Kept) → stands (lives_at now) number ks ≡ true → find (has_number number) (filter (is_live_at now) ks) ≡ find (has_number number) ks
+find_live : (now : ℕ) (number : LeaseNo) (ks : List Kept) → stands (lives_at now) number ks ≡ true → find (has_number number) (filter (is_live now) ks) ≡ find (has_number number) ks
 find_live now number [] h = refl
 find_live now number (k ∷ ks) h =
-    elim (has_number number k) as (λ b. has_number number k ≡ b → option_map_or (λ (j : Kept). lives_at now j.standing) (cond b (Some k) (find (has_number number) ks)) false ≡ true → find (has_number number) (cond (is_live_at now k) (k ∷ filter (is_live_at now) ks) (filter (is_live_at now) ks)) ≡ cond b (Some k) (find (has_number number) ks)) [
+    elim (has_number number k) as (λ b. has_number number k ≡ b → option_map_or (λ (j : Kept). lives_at now j.standing) (cond b (Some k) (find (has_number number) ks)) false ≡ true → find (has_number number) (cond (is_live now k) (k ∷ filter (is_live now) ks) (filter (is_live now) ks)) ≡ cond b (Some k) (find (has_number number) ks)) [
       | true ↦ λ e g.
-          ap (λ b. find (has_number number) (cond b (k ∷ filter (is_live_at now) ks) (filter (is_live_at now) ks))) g
-          ∙ ap (λ b. cond b (Some k) (find (has_number number) (filter (is_live_at now) ks))) e
+          ap (λ b. find (has_number number) (cond b (k ∷ filter (is_live now) ks) (filter (is_live now) ks))) g
+          ∙ ap (λ b. cond b (Some k) (find (has_number number) (filter (is_live now) ks))) e
       | false ↦ λ e g.
-          elim (is_live_at now k) as (λ b. find (has_number number) (cond b (k ∷ filter (is_live_at now) ks) (filter (is_live_at now) ks)) ≡ find (has_number number) ks) [
-            | true ↦ ap (λ b. cond b (Some k) (find (has_number number) (filter (is_live_at now) ks))) e ∙ find_live now number ks g
+          elim (is_live now k) as (λ b. find (has_number number) (cond b (k ∷ filter (is_live now) ks) (filter (is_live now) ks)) ≡ find (has_number number) ks) [
+            | true ↦ ap (λ b. cond b (Some k) (find (has_number number) (filter (is_live now) ks))) e ∙ find_live now number ks g
             | false ↦ find_live now number ks g
           ]
     ] refl h
 
-after_lapse : (now : ℕ) (before uses : List Use) (ks : List Kept) → AreLive now uses ks → can_pin_after before uses (filter (is_live_at now) ks) ≡ can_pin_after before uses ks
+after_lapse : (now : ℕ) (before uses : List Use) (ks : List Kept) → AreLive now uses ks → can_pin_after before uses (filter (is_live now) ks) ≡ can_pin_after before uses ks
 after_lapse now before [] ks h = refl
 after_lapse now before (u ∷ us) ks h =
     let q : (stands (lives_at now) u.no ks ≡ true) × AreLive now us ks = both _ _ h in
-    ap (λ (o : Option Kept). option_map_or (λ (k : Kept). takes_after (times_in u.no before) k.standing) o false && can_pin_after (before ++ u ∷ []) us (filter (is_live_at now) ks)) (find_live now u.no ks q.0)
+    ap (λ (o : Option Kept). option_map_or (λ (k : Kept). takes_after (times_in u.no before) k.standing) o false && can_pin_after (before ++ u ∷ []) us (filter (is_live now) ks)) (find_live now u.no ks q.0)
     ∙ ap (λ b. stands (takes_after (times_in u.no before)) u.no ks && b) (after_lapse now (before ++ u ∷ []) us ks q.1)
 
 pub pins_pass : (now : ℕ) (v : View) (items : List Need) → are_distinct v.leases ≡ true → can_pin_all (filter_map (item_use v now) items) (lapsed_at now v).leases ≡ can_pin_all (filter_map (item_use v now) items) v.leases
 pins_pass now v items d =
-    sym (pins_counted (filter_map (item_use v now) items) (filter (is_live_at now) v.leases))
+    sym (pins_counted (filter_map (item_use v now) items) (filter (is_live now) v.leases))
     ∙ (after_lapse now [] (filter_map (item_use v now) items) v.leases (all_live v now items d) ∙ pins_counted (filter_map (item_use v now) items) v.leases)

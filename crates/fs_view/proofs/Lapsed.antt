@@ -15,13 +15,9 @@ use Rattle.fs_model.specs.declared.op.Op.{Op}
 use Rattle.fs_view.specs.declared.kept.Kept.{Kept}
 use Rattle.fs_view.specs.declared.kept.Standing.{Standing}
 use Rattle.fs_view.specs.declared.kept.Standing.TheVariants.{Held, Pinned, Leaving}
-use Rattle.fs_view.specs.Kept.{has_ended, is_better, is_unused_in, offers, serves, use_in, file_in}
+use Rattle.fs_view.specs.Kept.{has_ended, is_better, is_live, is_unused_in, offers, serves, use_in, file_in}
 use Rattle.fs_view.specs.View.{View, lapsed_at, taken, taken_from, offered, known_by, given_by, fresh, item_use, uses_in, walk_in, value_after_log}
 use Rattle.fs_view.specs.Walk.{Known, Given, is_there, walk}
-
--- the lease is not over at the reading, or an entry uses it, or it goes back
-abbrev pub is_live_at : ℕ → Kept → Bool
-is_live_at now k = not (has_ended now k.standing)
 
 ended_serves : (now : ℕ) (field : Field) (kind : LeaseKind) (s : Standing) → has_ended now s ≡ true → serves now field kind s ≡ false
 ended_serves now field kind (Held l) h = grind (arith, nat_tests)
@@ -33,18 +29,18 @@ ended_unused now log (Held l) h = grind (arith, nat_tests)
 ended_unused now log (Pinned u) h = absurd (cc)
 ended_unused now log (Leaving l) h = absurd (cc)
 
-taken_still : (now : ℕ) (field : Field) (kind : LeaseKind) (best : Option Kept) (ks : List Kept) → taken_from now field kind best (filter (is_live_at now) ks) ≡ taken_from now field kind best ks
+taken_still : (now : ℕ) (field : Field) (kind : LeaseKind) (best : Option Kept) (ks : List Kept) → taken_from now field kind best (filter (is_live now) ks) ≡ taken_from now field kind best ks
 taken_still now field kind best [] = refl
 taken_still now field kind best (k ∷ ks) =
-    elim (has_ended now k.standing) as (λ b. has_ended now k.standing ≡ b → taken_from now field kind best (cond (not b) (k ∷ filter (is_live_at now) ks) (filter (is_live_at now) ks)) ≡ taken_from now field kind (cond (serves now field kind k.standing && is_better k best) (Some k) best) ks) [
+    elim (has_ended now k.standing) as (λ b. has_ended now k.standing ≡ b → taken_from now field kind best (cond (not b) (k ∷ filter (is_live now) ks) (filter (is_live now) ks)) ≡ taken_from now field kind (cond (serves now field kind k.standing && is_better k best) (Some k) best) ks) [
       | true ↦ λ e. taken_still now field kind best ks ∙ sym (ap (λ b. taken_from now field kind (cond (b && is_better k best) (Some k) best) ks) (ended_serves now field kind k.standing e))
       | false ↦ λ e. taken_still now field kind (cond (serves now field kind k.standing && is_better k best) (Some k) best) ks
     ] refl
 
-found_still : (now : ℕ) (dir : List ℕ) (log : List (List Effect)) (ks : List Kept) → find (offers now dir log) (filter (is_live_at now) ks) ≡ find (offers now dir log) ks
+found_still : (now : ℕ) (dir : List ℕ) (log : List (List Effect)) (ks : List Kept) → find (offers now dir log) (filter (is_live now) ks) ≡ find (offers now dir log) ks
 found_still now dir log [] = refl
 found_still now dir log (k ∷ ks) =
-    elim (has_ended now k.standing) as (λ b. has_ended now k.standing ≡ b → find (offers now dir log) (cond (not b) (k ∷ filter (is_live_at now) ks) (filter (is_live_at now) ks)) ≡ cond (offers now dir log k) (Some k) (find (offers now dir log) ks)) [
+    elim (has_ended now k.standing) as (λ b. has_ended now k.standing ≡ b → find (offers now dir log) (cond (not b) (k ∷ filter (is_live now) ks) (filter (is_live now) ks)) ≡ cond (offers now dir log k) (Some k) (find (offers now dir log) ks)) [
       | true ↦ λ e. found_still now dir log ks ∙ sym (ap (λ b. cond b (Some k) (find (offers now dir log) ks)) (and_right _ (is_unused_in now log k.standing) (ended_unused now log k.standing e)))
       | false ↦ λ e. ap (cond (offers now dir log k) (Some k)) (found_still now dir log ks)
     ] refl
@@ -95,16 +91,16 @@ used_pass now v items = ap (λ (f : Need → Option Use). filter_map f items) (i
 
 -- ## Tests of the leases that are not over
 
-pub any_live : (now : ℕ) (test : Kept → Bool) (ks : List Kept) → list_any test (filter (is_live_at now) ks) ≡ list_any (λ k. is_live_at now k && test k) ks
+pub any_live : (now : ℕ) (test : Kept → Bool) (ks : List Kept) → list_any test (filter (is_live now) ks) ≡ list_any (λ k. is_live now k && test k) ks
 any_live now test [] = refl
-any_live now test (k ∷ ks) = elim (is_live_at now k) as (λ b. list_any test (cond b (k ∷ filter (is_live_at now) ks) (filter (is_live_at now) ks)) ≡ ((b && test k) || list_any (λ j. is_live_at now j && test j) ks)) [
+any_live now test (k ∷ ks) = elim (is_live now k) as (λ b. list_any test (cond b (k ∷ filter (is_live now) ks) (filter (is_live now) ks)) ≡ ((b && test k) || list_any (λ j. is_live now j && test j) ks)) [
   | true ↦ ap (λ b. test k || b) (any_live now test ks)
   | false ↦ any_live now test ks
 ]
 
-pub filter_live : (now : ℕ) (test : Kept → Bool) (ks : List Kept) → filter test (filter (is_live_at now) ks) ≡ filter (λ k. is_live_at now k && test k) ks
+pub filter_live : (now : ℕ) (test : Kept → Bool) (ks : List Kept) → filter test (filter (is_live now) ks) ≡ filter (λ k. is_live now k && test k) ks
 filter_live now test [] = refl
-filter_live now test (k ∷ ks) = elim (is_live_at now k) as (λ b. filter test (cond b (k ∷ filter (is_live_at now) ks) (filter (is_live_at now) ks)) ≡ cond (b && test k) (k ∷ filter (λ j. is_live_at now j && test j) ks) (filter (λ j. is_live_at now j && test j) ks)) [
+filter_live now test (k ∷ ks) = elim (is_live now k) as (λ b. filter test (cond b (k ∷ filter (is_live now) ks) (filter (is_live now) ks)) ≡ cond (b && test k) (k ∷ filter (λ j. is_live now j && test j) ks) (filter (λ j. is_live now j && test j) ks)) [
   | true ↦ ap (λ rest. cond (test k) (k ∷ rest) rest) (filter_live now test ks)
   | false ↦ filter_live now test ks
 ]

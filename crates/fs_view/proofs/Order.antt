@@ -13,21 +13,20 @@ use Rattle.fs_view.specs.declared.kept.Kept.{Kept}
 use Rattle.fs_view.specs.declared.kept.Standing.{Standing}
 use Rattle.fs_view.specs.declared.kept.Standing.TheVariants.{Held, Pinned, Leaving}
 use Rattle.fs_view.specs.declared.new_lease.NewLease.{NewLease}
-use Rattle.fs_view.specs.Kept.{has_number, unpinned}
+use Rattle.fs_view.specs.Kept.{has_number, unpinned, is_live}
 use Rattle.fs_view.specs.View.{View, admitted_front, base_after, first_admitted, is_made_in, knowing, kept_new, lapsed_at, unpinned_all, unpinned_at, with_first_admitted, with_grants, without_pins}
-use Rattle.fs_view.proofs.Lapsed.{is_live_at}
 use Rattle.fs_view.proofs.Bases.{kept, viewed}
 
 -- ## Leases lapse before or after entries are admitted
 
-live_known : (now : ℕ) (s : Session) (es : List Effect) (ks : List Kept) → filter (is_live_at now) (map (knowing s es) ks) ≡ map (knowing s es) (filter (is_live_at now) ks)
+live_known : (now : ℕ) (s : Session) (es : List Effect) (ks : List Kept) → filter (is_live now) (map (knowing s es) ks) ≡ map (knowing s es) (filter (is_live now) ks)
 live_known now s es [] = refl
-live_known now s es (k ∷ ks) = elim (is_live_at now k) as (λ b. cond b (knowing s es k ∷ filter (is_live_at now) (map (knowing s es) ks)) (filter (is_live_at now) (map (knowing s es) ks)) ≡ map (knowing s es) (cond b (k ∷ filter (is_live_at now) ks) (filter (is_live_at now) ks))) [
+live_known now s es (k ∷ ks) = elim (is_live now k) as (λ b. cond b (knowing s es k ∷ filter (is_live now) (map (knowing s es) ks)) (filter (is_live now) (map (knowing s es) ks)) ≡ map (knowing s es) (cond b (k ∷ filter (is_live now) ks) (filter (is_live now) ks))) [
   | true ↦ ap (λ rest. knowing s es k ∷ rest) (live_known now s es ks)
   | false ↦ live_known now s es ks
 ]
 
-lapse_first : (now : ℕ) (s : Session) (ks : List Kept) (log : List (List Effect)) → lapsed_at now (first_admitted log (viewed s ks log)) ≡ first_admitted log (viewed s (filter (is_live_at now) ks) log)
+lapse_first : (now : ℕ) (s : Session) (ks : List Kept) (log : List (List Effect)) → lapsed_at now (first_admitted log (viewed s ks log)) ≡ first_admitted log (viewed s (filter (is_live now) ks) log)
 lapse_first now s ks [] = refl
 lapse_first now s ks (es ∷ log) = ap (λ xs. viewed s xs log) (live_known now s es ks)
 

@@ -134,6 +134,10 @@ abbrev pub has_ended : ℕ → Standing → Bool
 has_ended now (Held l) = nat_le l.until now
 has_ended now s = false
 
+-- an entry uses the lease, or it goes back, or it is not over
+abbrev pub is_live : ℕ → Kept → Bool
+is_live now k = not (has_ended now k.standing)
+
 -- one entry more uses it
 abbrev pub pinned : Standing → Standing
 pinned (Held l) = Pinned (record { lease = l; entries = 1 })

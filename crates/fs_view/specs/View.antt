@@ -20,7 +20,7 @@ use Rattle.fs_view.specs.declared.kept.Kept.{Kept}
 use Rattle.fs_view.specs.declared.new_lease.NewLease.{NewLease}
 use Rattle.fs_view.specs.declared.kept.Standing.{Standing}
 use Rattle.fs_view.specs.declared.kept.Standing.TheVariants.{Held, Pinned, Leaving}
-use Rattle.fs_view.specs.Kept.{number_of, file_in, has_number, serves, is_better, use_in, makes, offers, takes_pin, is_held, is_leaving, has_ended, pinned, unpinned, leaving, renewed, recalled_as}
+use Rattle.fs_view.specs.Kept.{number_of, file_in, has_number, serves, is_better, use_in, makes, offers, takes_pin, is_held, is_leaving, is_live, pinned, unpinned, leaving, renewed, recalled_as}
 use Rattle.fs_view.specs.declared.walk.Walk.{Walk}
 use Rattle.fs_view.specs.Script.{Script}
 use Rattle.fs_view.specs.Walk.{Known, Given, walk_along, walk, missing}
@@ -111,7 +111,7 @@ is_in_hand s = not (is_leaving s)
 -- ## Steps
 
 abbrev pub lapsed_at : ℕ → View → View
-lapsed_at now v = record v { leases = filter (λ k. not (has_ended now k.standing)) v.leases }
+lapsed_at now v = record v { leases = filter (is_live now) v.leases }
 
 abbrev pub with_grant : LeaseNo → Field → LeaseKind → ℕ → Value → Option (List ℕ) → View → View
 with_grant number field kind until value below v = record v { leases = v.leases ++ record { standing = Held (record { no = number; field = field; kind = kind; until = until }); base = value; recalled = false; below = below } ∷ [] }

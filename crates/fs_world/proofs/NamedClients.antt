@@ -7,7 +7,7 @@ use Rattle.fs_ident.proofs.Booleans.{joined, second}
 use Rattle.fs_field.specs.declared.asked.Need.{Need}
 use Rattle.fs_field.specs.declared.asked.Need.TheVariants.{Lease, Fresh}
 use Rattle.fs_map.specs.Map.{Owners}
-use Rattle.fs_model.specs.Asking.{may_ask}
+use Rattle.fs_model.specs.Asking.{home_of, may_ask}
 use Rattle.fs_model.specs.declared.op.Op.{Op}
 use Rattle.fs_model.specs.declared.op.Op.TheVariants as op
 use Rattle.fs_model.specs.declared.reply.Reply.{Reply}
@@ -15,7 +15,6 @@ use Rattle.fs_model.specs.declared.reply.Reply.TheVariants as reply
 use Rattle.fs_model.specs.Sound.{is_change}
 use Rattle.fs_model.specs.Step.{is_empty}
 use Rattle.fs_record.specs.Effects.{tells_its_effects}
-use Rattle.fs_msg.specs.Home.{home_of}
 use Rattle.fs_msg.specs.declared.act.Act.TheVariants as act
 use Rattle.fs_msg.specs.declared.act.Busy.TheVariants as busy
 use Rattle.fs_msg.specs.declared.answer.Answer.{Answer}

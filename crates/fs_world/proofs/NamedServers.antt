@@ -39,7 +39,7 @@ use Rattle.fs_record.specs.declared.parcel.Parcel.{Parcel}
 use Rattle.fs_record.specs.declared.record.Record.{Record}
 use Rattle.fs_record.proofs.Returning.{given_each}
 use Rattle.fs_rows.specs.Moving.{is_on_given}
-use Rattle.fs_msg.specs.Home.{home_of}
+use Rattle.fs_model.specs.Asking.{home_of}
 use Rattle.fs_msg.specs.Readable.{is_readable, is_readable_answer, is_readable_entry, is_readable_grant, is_readable_parcel, is_readable_record}
 use Rattle.fs_msg.specs.declared.answer.Grant.{Grant}
 use Rattle.fs_msg.specs.declared.client_msg.ClientMsg.{ClientMsg}

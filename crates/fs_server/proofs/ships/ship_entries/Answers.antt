@@ -2,7 +2,7 @@ use Rattle.std.proofs.Common.{◌≡◌, true, ap, sym, ◌∙◌, arith, drop, 
 use Rattle.std.specs.Prelude.{None}
 use Rattle.std.specs.List.{list_all}
 use Rattle.fs_msg.specs.declared.entry.Entry.{Entry}
-use Rattle.fs_msg.specs.Home.{home_of}
+use Rattle.fs_model.specs.Asking.{home_of}
 use Rattle.fs_record.specs.Applied.{is_undoable}
 use Rattle.fs_record.specs.Effects.{effects_of, tells_its_effects}
 use Rattle.fs_server.specs.declared.change.Change.TheVariants.{Admit}
