@@ -1,5 +1,5 @@
 -- A directory gives an identifier to a session.
-use Rattle.std.proofs.Common.{◌≡◌, ℕ, ◌≤◌, true, false, List, [], ◌∷◌, ◌++◌, ◌⊎◌, cond, map, append_assoc, refl, sym, ap, ◌∙◌, subst, inl, inr, arith}
+use Rattle.std.proofs.Common.{◌≡◌, ℕ, ◌≤◌, true, false, List, [], ◌∷◌, ◌++◌, cond, map, append_assoc, refl, sym, ap, ◌∙◌, subst, inl, inr, arith}
 use Rattle.std.specs.Prelude.{◌≢◌, Some, None}
 use Rattle.std.specs.FinMap.{get}
 use Rattle.std.proofs.lemmas.List.{map-append}
@@ -7,7 +7,7 @@ use Rattle.std.proofs.lemmas.Bool.{false_from_ne_true}
 use Rattle.fs_ident.specs.In.{In}
 use Rattle.fs_ident.specs.Ident.{child, parent, same}
 use Rattle.fs_ident.specs.declared.actor.Session.{Session}
-use Rattle.fs_ident.proofs.Standing.{In-put, In-put_here}
+use Rattle.fs_ident.proofs.Standing.{In-put_here}
 use Rattle.fs_ident.proofs.Same.{same_is, same_self}
 use Rattle.fs_field.specs.declared.field.Field.{Field}
 use Rattle.fs_field.specs.declared.field.Field.TheVariants.{Life, Child, Names, Info, Own, SelfW, Other}
@@ -51,7 +51,7 @@ use Rattle.fs_serial.proofs.Counting.{given_is_other, next_is_given, next_is_new
 use Rattle.fs_serial.proofs.GiftReserved.{reserved_still, reserved_then, unmade_dead}
 use Rattle.fs_serial.proofs.GiftedRecords.{made_still, serial_still, sound_still, values_stay}
 use Rattle.fs_serial.proofs.Granting.{shapes_beside}
-use Rattle.fs_serial.proofs.Leased.{IsNewLease, leased_fits, leased_holds, row_relied}
+use Rattle.fs_serial.proofs.Leased.{In-with_row, IsNewLease, leased_fits, leased_holds, row_relied}
 use Rattle.fs_serial.proofs.Promises.{promises_beside, promises_gift}
 use Rattle.fs_serial.proofs.Older.{later_pair}
 use Rattle.fs_serial.proofs.Together.{each_session}
@@ -81,21 +81,17 @@ module _ (o : Counts) (by : Session) (dir : List ℕ) (k : ℕ) (a : Asking) (jo
   least : IsLeastFree (next_of (get s.records dir)) (borne_numbers dir s.rows) k
   least = number_least s.records dir (borne_numbers dir s.rows) k number
 
-  -- a row of the table is a row of the table before, or the new one
-  row_or : (r : Row) → In r t.rows → (r ≡ row) ⊎ In r s.rows
-  row_or r i = In-put (λ x. no_before row.no x.no) r row s.rows i
-
   apart : ServersHold (sight_of o s journal) → NoPlainConflict t.rows
   apart h = NoPlainConflict-with_row row s.rows (gift_alone by dir k Exclusive s.rows least.free) h.apart
 
   rows_given : ServersFit (sight_of o s journal) → RowsGiven (sight_of o t journal).given t.rows
-  rows_given f r i = elim (row_or r i) as (λ _. IsGiven (sight_of o t journal).given r.no) [
+  rows_given f r i = elim (In-with_row r row s.rows i) as (λ _. IsGiven (sight_of o t journal).given r.no) [
     | inl e ↦ subst (λ (x : Row). IsGiven (sight_of o t journal).given x.no) (sym e) (next_is_given o s)
     | inr j ↦ still_given o s r.no (f.given r j)
   ]
 
   rows_counted : ServersFit (sight_of o s journal) → RowsCounted t.rows
-  rows_counted f r i = elim (row_or r i) as (λ _. 1 ≤ r.no.count) [
+  rows_counted f r i = elim (In-with_row r row s.rows i) as (λ _. 1 ≤ r.no.count) [
     | inl e ↦ let c = ap (λ (x : Row). x.no.count) e in omega arith
     | inr j ↦ f.counted r j
   ]
@@ -142,7 +138,7 @@ module _ (o : Counts) (by : Session) (dir : List ℕ) (k : ℕ) (a : Asking) (jo
     given = next_is_given o s;
     new = λ j h e. given_is_other o s j.no (given j h) e;
     row = record { row = row; stands = In-put_here (λ x. no_before row.no x.no) row s.rows; number = refl; lasts = omega arith };
-    own = λ r i e. elim (row_or r i) as (λ _. IsRowOf by l.field l.kind r) [
+    own = λ r i e. elim (In-with_row r row s.rows i) as (λ _. IsRowOf by l.field l.kind r) [
       | inl q ↦ subst (IsRowOf by l.field l.kind) (sym q) (record { session = refl; field = refl; kind = refl })
       | inr j ↦ absurd (given_is_other o s r.no (f.given r j) e)
     ];
@@ -158,7 +154,7 @@ module _ (o : Counts) (by : Session) (dir : List ℕ) (k : ℕ) (a : Asking) (jo
       record {
         fits = later_pair (sight_of o s journal).given (sight_of o t journal).given s.rows t.rows (record { given = rely.given; older = rely.older }) (pair_of j) q.fits;
         alone = each_more (λ (x : Lease). x.no ≢ number_of j.standing) leases l q.alone (λ e. given_is_other o s (number_of j.standing) q.fits.known (sym e));
-        own = λ r z e. elim (row_or r z) as (λ _. r.session ≡ by) [
+        own = λ r z e. elim (In-with_row r row s.rows z) as (λ _. r.session ≡ by) [
           | inl is ↦ absurd (given_is_other o s (number_of j.standing) q.fits.known (sym e ∙ ap (λ (x : Row). x.no) is))
           | inr old ↦ q.own r old e
         ];

@@ -1,9 +1,9 @@
 -- A session is given a lease that it asked for.
-use Rattle.std.proofs.Common.{◌≡◌, ℕ, ◌≤◌, Bool, List, [], ◌∷◌, ◌⊎◌, refl, sym, ap, subst, inl, inr, arith}
+use Rattle.std.proofs.Common.{◌≡◌, ℕ, ◌≤◌, Bool, List, [], ◌∷◌, refl, sym, ap, subst, inl, inr, arith}
 use Rattle.std.specs.Prelude.{Option, None}
 use Rattle.fs_ident.specs.In.{In}
 use Rattle.fs_ident.specs.declared.actor.Session.{Session}
-use Rattle.fs_ident.proofs.Standing.{In-put, In-put_here}
+use Rattle.fs_ident.proofs.Standing.{In-put_here}
 use Rattle.fs_field.specs.declared.asked.Asked.TheVariants.{Granted}
 use Rattle.fs_field.specs.declared.field.Field.{Field}
 use Rattle.fs_field.specs.declared.lease_kind.LeaseKind.{LeaseKind}
@@ -24,7 +24,7 @@ use Rattle.fs_serial.specs.World.{Ends, GoesOn}
 use Rattle.fs_serial.proofs.Counting.{given_is_other, next_is_given, next_is_new, one_more_given, still_given}
 use Rattle.fs_serial.proofs.Going.{RowsChange, goes_leased, goes_still, reserved_none}
 use Rattle.fs_serial.proofs.Granting.{apart_granted, promises_granted, shapes_granted}
-use Rattle.fs_serial.proofs.Leased.{IsNewLease, row_relied}
+use Rattle.fs_serial.proofs.Leased.{In-with_row, IsNewLease, row_relied}
 use Rattle.fs_serial.proofs.Relied.{relies_for}
 
 module _ (o : Counts) (by : Session) (field : Field) (asked : LeaseKind) (promise : Option Bool) (s : Server) (journal : List Item) where
@@ -42,9 +42,6 @@ module _ (o : Counts) (by : Session) (field : Field) (asked : LeaseKind) (promis
   abbrev pub item_lease : Lease
   item_lease = granted None (grant_of by field kind s)
 
-  row_or : (r : Row) → In r t.rows → (r ≡ row) ⊎ In r s.rows
-  row_or r i = In-put (λ x. no_before row.no x.no) r row s.rows i
-
   pub row_granted : (skew greatest : ℕ) (clients : Session → Settled) → answer_to by field kind s ≡ Granted promise
       → ((x : Session) → LeasesMatch s.rows x (clients x).leases) → RowsChange skew greatest (sight_of o s journal) (sight_of o t journal) clients
   row_granted skew greatest clients ok matching = record {
@@ -56,11 +53,11 @@ module _ (o : Counts) (by : Session) (field : Field) (asked : LeaseKind) (promis
     };
     kept = λ f. record {
       shaped = shapes_granted s by field asked promise ok f.shaped;
-      counted = λ r i. elim (row_or r i) as (λ _. 1 ≤ r.no.count) [
+      counted = λ r i. elim (In-with_row r row s.rows i) as (λ _. 1 ≤ r.no.count) [
         | inl e ↦ let c = ap (λ (x : Row). x.no.count) e in omega arith
         | inr j ↦ f.counted r j
       ];
-      given = λ r i. elim (row_or r i) as (λ _. IsGiven (sight_of o t journal).given r.no) [
+      given = λ r i. elim (In-with_row r row s.rows i) as (λ _. IsGiven (sight_of o t journal).given r.no) [
         | inl e ↦ subst (λ (x : Row). IsGiven (sight_of o t journal).given x.no) (sym e) (next_is_given o s)
         | inr j ↦ still_given o s r.no (f.given r j)
       ];
@@ -78,7 +75,7 @@ module _ (o : Counts) (by : Session) (field : Field) (asked : LeaseKind) (promis
     given = next_is_given o s;
     new = λ j h e. given_is_other o s j.no (given j h) e;
     row = record { row = row; stands = In-put_here (λ x. no_before row.no x.no) row s.rows; number = refl; lasts = omega arith };
-    own = λ r i e. elim (row_or r i) as (λ _. IsRowOf by field kind r) [
+    own = λ r i e. elim (In-with_row r row s.rows i) as (λ _. IsRowOf by field kind r) [
       | inl q ↦ subst (IsRowOf by field kind) (sym q) (record { session = refl; field = refl; kind = refl })
       | inr j ↦ absurd (given_is_other o s r.no (rows r j) e)
     ];

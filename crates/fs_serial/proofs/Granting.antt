@@ -4,14 +4,14 @@ use Rattle.std.specs.Prelude.{Option}
 use Rattle.std.specs.List.{filter}
 use Rattle.fs_ident.specs.declared.actor.LeaseNo.{LeaseNo}
 use Rattle.fs_ident.specs.declared.actor.Session.{Session}
-use Rattle.fs_ident.proofs.Standing.{In-filter, In-map, In-put}
+use Rattle.fs_ident.proofs.Standing.{In-filter, In-map}
 use Rattle.fs_field.specs.declared.asked.Asked.TheVariants.{Granted}
 use Rattle.fs_field.specs.declared.field.Field.{Field}
 use Rattle.fs_field.specs.declared.field.Field.TheVariants.{SelfW, Other}
 use Rattle.fs_field.specs.declared.lease_kind.LeaseKind.{LeaseKind}
 use Rattle.fs_field.specs.declared.row.Row.{Row}
 use Rattle.fs_field.specs.Field.{tells_no_mode}
-use Rattle.fs_field.specs.Table.{no_before, renewed_row, with_row}
+use Rattle.fs_field.specs.Table.{renewed_row, with_row}
 use Rattle.fs_field.proofs.Leases.{NoPlainConflict-with_row}
 use Rattle.fs_moderows.specs.Answer.{given_row}
 use Rattle.fs_moderows.specs.Table.{is_of_mode}
@@ -25,6 +25,7 @@ use Rattle.fs_server.specs.Server.{next_number, end_of}
 use Rattle.fs_server.specs.declared.state.Server.{Server}
 use Rattle.fs_server.proofs.Answered.{given_goes}
 use Rattle.fs_serial.specs.Rows.{NoRowsConflict, PromisesKept, RowsShaped}
+use Rattle.fs_serial.proofs.Leased.{In-with_row}
 use Rattle.fs_serial.proofs.Promises.{promises_beside}
 
 abbrev pub row_of : Server → Session → Field → LeaseKind → Option Bool → Row
@@ -46,7 +47,7 @@ shape_granted s by (Other f m) kind promise ok = shape_other (selves_in s.record
 shape_granted s by field kind promise ok = refl
 
 pub shapes_beside : (r : Row) (rows : List Row) → is_shaped r ≡ true → RowsShaped rows → RowsShaped (with_row r rows)
-shapes_beside r rows new shaped x i = elim (In-put (λ y. no_before r.no y.no) x r rows i) [
+shapes_beside r rows new shaped x i = elim (In-with_row x r rows i) [
   | inl e ↦ ap is_shaped e ∙ new
   | inr j ↦ shaped x j
 ]

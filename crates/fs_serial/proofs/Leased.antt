@@ -1,5 +1,5 @@
 -- One row more, and one lease more.
-use Rattle.std.proofs.Common.{◌≡◌, ℕ, ◌+◌, ◌<◌, ◌≤◌, Bool, true, false, cond, List, [], ◌∷◌, ◌++◌, refl, sym, ap, subst, inl, inr, arith}
+use Rattle.std.proofs.Common.{◌≡◌, ℕ, ◌+◌, ◌<◌, ◌≤◌, Bool, true, false, cond, List, [], ◌∷◌, ◌++◌, refl, sym, ap, subst, ◌⊎◌, inl, inr, arith}
 use Rattle.std.specs.Prelude.{Some, ◌≢◌}
 use Rattle.fs_ident.specs.In.{In}
 use Rattle.fs_ident.specs.Ordered.{put_before}
@@ -26,6 +26,10 @@ use Rattle.fs_serial.proofs.Facts.{each_more}
 
 -- ## One row more
 
+-- a row of the table is the new one, or a row of the table before
+pub In-with_row : (r row : Row) (rows : List Row) → In r (with_row row rows) → (r ≡ row) ⊎ In r rows
+In-with_row r row rows i = In-put (λ x. no_before row.no x.no) r row rows i
+
 pub In-put_still : {X : Type 0} (test : X → Bool) (x new : X) (ys : List X) → In x ys → In x (put_before test new ys)
 In-put_still test x new [] h = absurd h
 In-put_still test x new (y ∷ ys) h =
@@ -39,7 +43,7 @@ pub row_relied : (skew greatest : ℕ) (by : Session) (s t : Sight) (row : Row) 
     → Relies skew greatest by s t
 row_relied skew greatest by s t row rows new given values journal = record {
   given = given;
-  older = λ r i g. elim (In-put (λ x. no_before row.no x.no) r row s.rows (subst (λ rs. In r rs) rows i)) as (λ _. Stood s.rows r) [
+  older = λ r i g. elim (In-with_row r row s.rows (subst (λ rs. In r rs) rows i)) as (λ _. Stood s.rows r) [
     | inl e ↦ absurd (new (subst (λ (x : Row). IsGiven s.given x.no) e g))
     | inr j ↦ record { row = r; stood = j; number = refl; session = refl; field = refl; kind = refl }
   ];

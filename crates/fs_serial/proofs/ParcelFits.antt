@@ -13,10 +13,10 @@ use Rattle.fs_ident.specs.In.{In}
 use Rattle.fs_ident.specs.declared.actor.Session.{Session}
 use Rattle.fs_ident.proofs.Booleans.{first, joined}
 use Rattle.fs_ident.proofs.Passing.{In-all}
-use Rattle.fs_ident.proofs.Standing.{In-filter, In-map, In-put, In-mapped}
+use Rattle.fs_ident.proofs.Standing.{In-filter, In-map, In-mapped}
 use Rattle.fs_field.specs.Conflict.{Selves, conflicts, has_fixed, is_self, mode_conflict, plain_conflict}
 use Rattle.fs_field.specs.Field.{file_of, same_mode}
-use Rattle.fs_field.specs.Table.{no_before, with_row}
+use Rattle.fs_field.specs.Table.{with_row}
 use Rattle.fs_field.specs.declared.field.Field.{Field}
 use Rattle.fs_field.specs.declared.field.Field.TheVariants.{SelfW}
 use Rattle.fs_field.specs.declared.row.Row.{Row}
@@ -59,6 +59,7 @@ use Rattle.fs_serial.specs.Sight.{Counts, sight_of}
 use Rattle.fs_serial.proofs.ComingParts.{once}
 use Rattle.fs_serial.proofs.HeldRecords.{HasRecord, IsOneOf, one_alone, put_all, record_of_all}
 use Rattle.fs_serial.proofs.HeldRows.{row_of_all}
+use Rattle.fs_serial.proofs.Leased.{In-with_row}
 use Rattle.fs_serial.proofs.OnePlaces.{not_both, one_parcel, one_record, record_flies, record_home, row_sent}
 use Rattle.fs_serial.proofs.Times.{AreOnce, new_once, once_behind, once_new, times, times_parts}
 
@@ -71,7 +72,7 @@ quiet_fits (m ∷ ms) rows o q = joined (stands_beside rows m) (off_modes.fits (
     (joined (is_new rows m) (not (list_any (plain_conflict m) rows)) (ap not (new_once m ms rows (o m.no))) (ap not (In_none (plain_conflict m) rows (λ x i. q m x (inl refl) (inr i)))))
     (quiet_fits ms (with_row m rows) (once_behind m ms rows o) (λ a b i j. q a b (inr i) (elim j as (λ _. In b (m ∷ ms) ⊎ In b rows) [
       | inl k ↦ inl (inr k)
-      | inr k ↦ elim (In-put (λ x. no_before m.no x.no) b m rows k) as (λ _. In b (m ∷ ms) ⊎ In b rows) [ inl e ↦ inl (inl e) | inr l ↦ inr l ]
+      | inr k ↦ elim (In-with_row b m rows k) as (λ _. In b (m ∷ ms) ⊎ In b rows) [ inl e ↦ inl (inl e) | inr l ↦ inr l ]
     ])))
 
 -- of rows that are there once each part is

@@ -7,7 +7,6 @@ use mathlib.Core.Path.{fun_ext}
 use Rattle.fs_ident.specs.In.{In}
 use Rattle.fs_ident.specs.declared.actor.LeaseNo.{LeaseNo}
 use Rattle.fs_ident.proofs.Booleans.{second}
-use Rattle.fs_ident.proofs.Standing.{In-put}
 use Rattle.fs_modes.specs.declared.modes.Mode.{Mode}
 use Rattle.fs_field.specs.declared.field.Field.{Field}
 use Rattle.fs_field.specs.declared.field.Field.TheVariants.{SelfW, Other}
@@ -16,7 +15,7 @@ use Rattle.fs_field.specs.declared.row.Row.{Row}
 use Rattle.fs_field.specs.declared.value.Value.TheVariants as value
 use Rattle.fs_field.specs.Conflict.{is_self, has_fixed, plain_conflict, mode_conflict, NoConflict}
 use Rattle.fs_field.specs.Field.{tells_no_mode}
-use Rattle.fs_field.specs.Table.{no_before, renewed_row, with_row}
+use Rattle.fs_field.specs.Table.{renewed_row, with_row}
 use Rattle.fs_moderows.specs.Kept.{others_may_have, KeptPromises}
 use Rattle.fs_moderows.specs.Table.{is_of_mode}
 use Rattle.fs_moderows.proofs.Tables.{renewed_tells}
@@ -31,6 +30,7 @@ use Rattle.fs_serial.specs.Rows.{PromisesKept, RowsShaped}
 use Rattle.fs_serial.specs.Sight.{Sight}
 use Rattle.fs_serial.proofs.Facts.{there_is}
 use Rattle.fs_serial.proofs.GiftedRecords.{node_stays}
+use Rattle.fs_serial.proofs.Leased.{In-with_row}
 use Rattle.fs_serial.proofs.Modes.{others_alike}
 
 -- ## What was promised
@@ -85,7 +85,7 @@ plain_other f n field h e = absurd (cc)
 
 -- nor does a row that is on no mode
 pub promises_beside : (m : RecordMap) (r : Row) (rows : List Row) → tells_no_mode r.field ≡ true → PromisesKept m rows → PromisesKept m (with_row r rows)
-promises_beside m r rows plain kept a i = elim (In-put (λ z. no_before r.no z.no) a r rows i) [
+promises_beside m r rows plain kept a i = elim (In-with_row a r rows i) [
   | inl q ↦ holds_kept (selves_in m) (with_row r rows) a.session a.field a.promise (λ h n e. absurd (plain_other h n r.field plain (ap (λ (z : Row). z.field) (sym q) ∙ e)))
   | inr j ↦ holds_kept (selves_in m) (with_row r rows) a.session a.field a.promise (λ h n e.
       let none : is_self h n r.field ≡ false = plain_self h n r.field plain in

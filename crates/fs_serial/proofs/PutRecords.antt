@@ -1,7 +1,7 @@
 -- Records that are put among others: those of other files do not matter.
 use Rattle.std.proofs.Common.{◌≡◌, ◌+◌, ℕ, Bool, true, false, List, [], ◌∷◌, ◌++◌, refl, ap, cond, sym, ◌∙◌, inl, inr}
 use Rattle.std.specs.Prelude.{Option, Some, None, is_some}
-use Rattle.std.specs.Ordering.{nat_cmp, eq_by_cmp}
+use Rattle.std.specs.Ordering.{nat_cmp}
 use Rattle.std.specs.Cmp.Lexicographic.{slice_cmp, nat_list_cmp_total}
 use Rattle.std.specs.FinMap.{empty, entries, entries_sorted, find, get, get-empty, get-entries, get-insert, insert, same_map}
 use Rattle.fs_ident.specs.In.{In}
@@ -9,7 +9,7 @@ use Rattle.fs_ident.specs.Ordered.{Keyed}
 use Rattle.fs_ident.proofs.MapsOf.{anti}
 use Rattle.fs_ident.proofs.Booleans.{holds}
 use Rattle.fs_field.specs.declared.effect.Effect.{Effect}
-use Rattle.fs_map.proofs.Found.{In_found}
+use Rattle.fs_map.proofs.Found.{In_found, tied}
 use Rattle.fs_field.specs.After.{changed_file}
 use Rattle.fs_record.specs.Applied.{record_change, records_after, records_after_all, with_at}
 use Rattle.fs_record.specs.Fresh.{records_after_gift, with_next}
@@ -22,9 +22,6 @@ use Rattle.fs_record.proofs.NodeValues.{key_is}
 
 -- ## One record
 
-abbrev is_key : List ℕ → List ℕ → Bool
-is_key a b = eq_by_cmp (slice_cmp nat_cmp) a b
-
 both_keys : (a b : Bool) (x y z : Option Record) → (a ≡ true → b ≡ true → ⊥) → cond a x (cond b y z) ≡ cond b y (cond a x z)
 both_keys true true x y z h = absurd (h refl refl)
 both_keys true false x y z h = refl
@@ -34,9 +31,9 @@ both_keys false b x y z h = refl
 pub at_swap : (m : RecordMap) (f g : List ℕ) (o p : Option Record) → (f ≡ g → ⊥) → with_at (with_at m f o) g p ≡ with_at (with_at m g p) f o
 at_swap m f g o p h = same_map nat_list_cmp_total anti _ _ (λ q.
     get_with_at (with_at m f o) g p q
-    ∙ ap (cond (is_key q g) p) (get_with_at m f o q)
-    ∙ both_keys (is_key q g) (is_key q f) p o (get m q) (λ a b. h (sym (key_is q f b) ∙ key_is q g a))
-    ∙ sym (get_with_at (with_at m g p) f o q ∙ ap (cond (is_key q f) o) (get_with_at m g p q)))
+    ∙ ap (cond (tied q g) p) (get_with_at m f o q)
+    ∙ both_keys (tied q g) (tied q f) p o (get m q) (λ a b. h (sym (key_is q f b) ∙ key_is q g a))
+    ∙ sym (get_with_at (with_at m g p) f o q ∙ ap (cond (tied q f) o) (get_with_at m g p q)))
 
 -- ## Several records
 
@@ -52,8 +49,8 @@ at_past (e ∷ es) m f o h = ap (with_records es) (at_swap m f e.0 o (Some e.1) 
 -- and the file has what it had
 pub get_past : (es : Keyed Record) (m : RecordMap) (f : List ℕ) → AreOther f es → get (with_records es m) f ≡ get m f
 get_past [] m f h = refl
-get_past (e ∷ es) m f h = get_past es (insert m e.0 e.1) f (λ x i. h x (inr i)) ∙ get-insert nat_list_cmp_total m e.0 e.1 f ∙ ap (λ b. cond b (Some e.1) (get m f)) (off (is_key f e.0) refl) where
-  off : (b : Bool) → is_key f e.0 ≡ b → b ≡ false
+get_past (e ∷ es) m f h = get_past es (insert m e.0 e.1) f (λ x i. h x (inr i)) ∙ get-insert nat_list_cmp_total m e.0 e.1 f ∙ ap (λ b. cond b (Some e.1) (get m f)) (off (tied f e.0) refl) where
+  off : (b : Bool) → tied f e.0 ≡ b → b ≡ false
   off true q = absurd (h e (inl refl) (sym (key_is f e.0 q)))
   off false q = refl
 
@@ -94,8 +91,8 @@ effects_past es m (e ∷ rest) h =
 
 -- a record more stands at a file that has one, or at its own
 pub at_home : (mine : List ℕ → Bool) (m : RecordMap) (f : List ℕ) (o : Option Record) → mine f ≡ true → ((id : List ℕ) → is_some (get m id) ≡ true → mine id ≡ true) → (id : List ℕ) → is_some (get (with_at m f o) id) ≡ true → mine id ≡ true
-at_home mine m f o own home id h = by (is_key id f) refl (sym (ap is_some (get_with_at m f o id)) ∙ h) where
-  by : (b : Bool) → is_key id f ≡ b → is_some (cond b o (get m id)) ≡ true → mine id ≡ true
+at_home mine m f o own home id h = by (tied id f) refl (sym (ap is_some (get_with_at m f o id)) ∙ h) where
+  by : (b : Bool) → tied id f ≡ b → is_some (cond b o (get m id)) ≡ true → mine id ≡ true
   by true q g = ap mine (key_is id f q) ∙ own
   by false q g = home id g
 

@@ -8,7 +8,7 @@ use Rattle.fs_ident.specs.Ident.{same}
 use Rattle.fs_ident.specs.Ordered.{Keyed}
 use Rattle.fs_ident.specs.declared.actor.LeaseNo.{LeaseNo}
 use Rattle.fs_ident.specs.declared.actor.Session.{Session}
-use Rattle.fs_ident.proofs.Standing.{In-put, none_any}
+use Rattle.fs_ident.proofs.Standing.{none_any}
 use Rattle.fs_ident.proofs.Same.{same_is}
 use Rattle.fs_field.specs.declared.effect.Effect.{Effect}
 use Rattle.fs_field.specs.declared.field.Field.{Field}
@@ -16,7 +16,7 @@ use Rattle.fs_field.specs.declared.field.Field.TheVariants.{SelfW, Other}
 use Rattle.fs_field.specs.declared.lease_kind.LeaseKind.{LeaseKind}
 use Rattle.fs_field.specs.declared.row.Row.{Row}
 use Rattle.fs_field.specs.Field.{file_of}
-use Rattle.fs_field.specs.Table.{has_no, is_ordered, no_before}
+use Rattle.fs_field.specs.Table.{has_no, is_ordered}
 use Rattle.fs_field.proofs.Order.{ordered_put}
 use Rattle.fs_field.proofs.SameNo.{same_no_symm}
 use Rattle.fs_map.specs.Map.{server_of}
@@ -33,6 +33,7 @@ use Rattle.fs_rows.proofs.Numbers.{given_new, given_next}
 use Rattle.fs_server.specs.Asks.{answer_to, with_lease}
 use Rattle.fs_server.specs.Server.{end_of, is_mine, next_number}
 use Rattle.fs_server.specs.declared.state.Server.{Server}
+use Rattle.fs_serial.proofs.Leased.{In-with_row}
 use Rattle.fs_serial.proofs.PutRecords.{AreOn, AreOther, effects_home, effects_past, get_past}
 use Rattle.fs_serial.proofs.PutRows.{In-puts_here, IsOther, puts_other, put_past}
 use Rattle.fs_serial.proofs.Unseen.{AreOff, answer_past, find_past, other_past, self_past}
@@ -134,7 +135,7 @@ module _ (rest : Rest) (s : Server) (h : IsCounted rest s) (by : Session) (field
     apart = record {
       rows = h.apart.rows;
       records = h.apart.records;
-      own_rows = λ x i. elim (In-put (λ r. no_before row.no r.no) x row s.rows i) as (λ _. is_mine s (file_of x.field) ≡ true) [
+      own_rows = λ x i. elim (In-with_row x row s.rows i) as (λ _. is_mine s (file_of x.field) ≡ true) [
         | inl e ↦ ap (λ (z : Row). is_mine s (file_of z.field)) e ∙ mine
         | inr j ↦ h.apart.own_rows x j
       ];

@@ -2,11 +2,10 @@
 use Rattle.std.proofs.Common.{◌≡◌, ℕ, ◌+◌, Bool, true, false, List, [], cond, refl, ap, ◌∙◌, subst, inl, inr, sym}
 use Rattle.std.specs.Prelude.{Option, Some, None}
 use Rattle.fs_ident.specs.declared.actor.Session.{Session}
-use Rattle.fs_ident.proofs.Standing.{In-put}
 use Rattle.fs_field.specs.declared.field.Field.{Field}
 use Rattle.fs_field.specs.declared.lease_kind.LeaseKind.{LeaseKind}
 use Rattle.fs_field.specs.declared.row.Row.{Row}
-use Rattle.fs_field.specs.Table.{borne_numbers, no_before, with_row}
+use Rattle.fs_field.specs.Table.{borne_numbers, with_row}
 use Rattle.fs_msg.specs.declared.answer.Grant.{Grant}
 use Rattle.fs_msg.specs.declared.end.End.{End}
 use Rattle.fs_msg.specs.declared.end.End.TheVariants as end
@@ -21,6 +20,7 @@ use Rattle.fs_server.proofs.OneByOne.{Items, each_item, ships_leave, with_item}
 use Rattle.fs_serial.specs.Relies.{Stood}
 use Rattle.fs_serial.specs.Sight.{Counts, IsGiven, count_with}
 use Rattle.fs_serial.proofs.Counting.{given_by, next_is_new, one_more_given}
+use Rattle.fs_serial.proofs.Leased.{In-with_row}
 use Rattle.fs_serial.proofs.Older.{IsLater, later_again, later_itself, stood_here}
 
 -- ## A row with the next number
@@ -28,7 +28,7 @@ use Rattle.fs_serial.proofs.Older.{IsLater, later_again, later_itself, stood_her
 row_later : (o : Counts) (s : Server) (row : Row) → row.no ≡ next_number s → IsLater (given_by o s) (count_with s.me (s.given + 1) o.given) s.rows (with_row row s.rows)
 row_later o s row next = record {
   given = one_more_given o s;
-  older = λ r i g. elim (In-put (λ x. no_before row.no x.no) r row s.rows i) as (λ _. Stood s.rows r) [
+  older = λ r i g. elim (In-with_row r row s.rows i) as (λ _. Stood s.rows r) [
     | inl e ↦ absurd (next_is_new o s (subst (λ n. IsGiven (given_by o s) n) (ap (λ (x : Row). x.no) e ∙ next) g))
     | inr j ↦ stood_here s.rows r j
   ];

@@ -76,11 +76,7 @@ fn ship_entries(
     };
     for (i, entry) in entries.iter().enumerate() {
         if !is_here(at, &entry.op) {
-            return Ok((
-                taken,
-                at.moved(alloc, entry.op.home())?,
-                List::new(alloc),
-            ));
+            return Ok((taken, at.moved(alloc, entry.op.home())?, List::new(alloc)));
         }
         if let Some(gone) = first_gone(at, by, entry.uses.as_slice()) {
             let end = End::Ended {
