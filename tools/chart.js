@@ -3,7 +3,8 @@
 const run = JSON.parse(document.getElementById("data").textContent);
 const [READING, ACTOR, WORDS, TEXT, CHANGES] = [0, 1, 2, 3, 4];
 const [FROM, TO, SENT, TOLD, OVERTAKEN] = [0, 1, 2, 3, 4];
-const MOST = 400;
+// How many rows of a table are shown, and how many rows of the run are drawn above and below those in view.
+const MOST = 400, AROUND = 15;
 const byId = (id) => document.getElementById(id);
 const board = byId("board"), sideways = byId("sideways");
 const count = run.events.length, actors = run.actors;
@@ -13,8 +14,9 @@ const toldAt = lists((put) => run.packets.forEach((packet, k) => packet[TOLD].fo
 const arrows = run.packets.flatMap((packet, k) => packet[TOLD].map((at, turn) =>
   ({ packet: k, from: packet[SENT], to: at, way: turn ? "again" : packet[OVERTAKEN] ? "late" : "" })));
 const lost = run.packets.map((packet, k) => k).filter((k) => !run.packets[k][TOLD].length);
-const firstAt = actors.map((name, k) => name[0] === "s" ? 0 : run.events.findIndex((event) => event[ACTOR] === k));
-let size, picked = -1, waiting = false;
+const firstAt = actors.map((name) => name[0] === "s" ? 0 : count);
+run.events.forEach((event, k) => { if (event[ACTOR] >= 0) firstAt[event[ACTOR]] = Math.min(firstAt[event[ACTOR]], k); });
+let size, drawn, picked = -1, waiting = false;
 
 // For each event a list of what was put there.
 function lists(fill) {
@@ -50,31 +52,34 @@ function measure() {
   byId("tall").style.height = count * size.row + "px";
 }
 
-// Where the lane of an actor is: servers stay at the right, sessions move below them.
+// Where the lane of an actor is: servers stay at the right, sessions move beside them, and end at the edges.
 function laneOf(actor) {
   const clients = actors.length - servers;
   if (actor >= clients) return size.lanes - size.pinned + (actor - clients + 0.5) * size.pinned / servers;
-  return (actor + 0.5) * size.pitch - size.shift;
+  return Math.max(8, Math.min(size.lanes - size.pinned - 8, placeOf(actor)));
 }
 
+const placeOf = (session) => (session + 0.5) * size.pitch - size.shift;
+const isAside = (actor) => actor < actors.length - servers && laneOf(actor) !== placeOf(actor);
 const heightOf = (event) => (event - 1 + 0.5) * size.row;
 
-function draw() {
-  waiting = false;
+// Draws the rows in view and some more, unless they stand there already.
+function draw(again) {
+  const seen = { first: Math.floor(board.scrollTop / size.row) + 1, last: Math.ceil((board.scrollTop + board.clientHeight) / size.row) };
+  seen.last = Math.min(count, seen.last);
+  if (!again && drawn && seen.first >= drawn.first && seen.last <= drawn.last) return;
+  drawn = { first: Math.max(1, seen.first - AROUND), last: Math.min(count, seen.last + AROUND) };
   size.shift = sideways.hidden ? 0 : sideways.scrollLeft;
-  const first = Math.max(1, Math.floor(board.scrollTop / size.row) - 4);
-  const last = Math.min(count, Math.ceil((board.scrollTop + board.clientHeight) / size.row) + 4);
   drawHeads();
-  drawRows(first, last);
-  drawLanes(first, last);
+  drawRows(drawn.first, drawn.last);
+  drawLanes(drawn.first, drawn.last);
 }
 
 function drawHeads() {
   const heads = [];
   actors.forEach((name, k) => {
-    const x = laneOf(k), server = name[0] === "s";
-    if (x < 0 || (!server && x > size.lanes - size.pinned && servers)) return;
-    const head = make("span", {}, name);
+    if (isAside(k)) return;
+    const x = laneOf(k), head = make("span", {}, name);
     head.style.left = size.left + x + "px";
     head.style.transform = "translateX(-50%)";
     heads.push(head);
@@ -92,12 +97,13 @@ function drawRows(first, last) {
 
 function rowOf(k) {
   const event = run.events[k - 1];
+  const came = (event[ACTOR] < 0 ? "-" : actors[event[ACTOR]]) + " " + event[TEXT];
   const cells = [["number", 0, size.number, String(k)], ["words", size.number, size.words, event[READING] + " " + event[WORDS]],
-    ["came" + (event[ACTOR] < 0 ? " none" : ""), size.right, size.width - size.right, event[TEXT]]];
+    ["came" + (event[ACTOR] < 0 ? " none" : ""), size.right, size.width - size.right, came]];
   const row = make("div", { class: "row" + (k === picked ? " picked" : ""), "data-event": k });
   row.style.height = size.row + "px";
   for (const [name, left, width, text] of cells) {
-    const cell = make("span", { class: name, title: text }, make("i", {}, text));
+    const cell = make("span", { class: name }, make("i", {}, text));
     cell.style.left = left + "px";
     cell.style.width = Math.max(0, width) + "px";
     row.append(cell);
@@ -121,8 +127,8 @@ function drawLanes(first, last) {
 
 function drawLives(sheet, height) {
   actors.forEach((name, k) => {
-    const x = laneOf(k), from = firstAt[k] < 0 ? height : Math.max(0, heightOf(firstAt[k] + 1) - sheet.top);
-    if (x >= 0 && x <= size.lanes && from < height) sheet.lanes.append(make("path", { class: "life", d: `M${x} ${from}V${height}` }));
+    const x = laneOf(k), from = Math.max(0, heightOf(firstAt[k] + 1) - sheet.top);
+    if (!isAside(k) && from < height) sheet.lanes.append(make("path", { class: "life", d: `M${x} ${from}V${height}` }));
   });
 }
 
@@ -167,13 +173,19 @@ function label(sheet, x, y, text) {
 function drawEvent(sheet, k) {
   const actor = run.events[k - 1][ACTOR];
   if (actor < 0) return;
+  if (isAside(actor)) return label(sheet, laneOf(actor) + (laneOf(actor) > 8 ? -4 : 8), heightOf(k) - sheet.top + 4, actors[actor]);
   sheet.lanes.append(make("circle", { class: "event" + (k === picked ? " picked" : ""), cx: laneOf(actor), cy: heightOf(k) - sheet.top, r: 3.5 }));
+}
+
+function anew() {
+  measure();
+  draw(true);
 }
 
 function soon() {
   if (waiting) return;
   waiting = true;
-  requestAnimationFrame(draw);
+  requestAnimationFrame(() => { waiting = false; draw(false); });
 }
 
 // Behind a click: what the outcomes tell of the actor up to the event.
@@ -213,22 +225,22 @@ function pick(k) {
   const opened = told.hidden;
   told.hidden = false;
   if (opened) measure();
-  intoView();
-  draw();
+  intoView(actor);
+  draw(true);
 }
 
 function close() {
   byId("told").hidden = true;
   picked = -1;
-  measure();
-  draw();
+  anew();
   board.focus();
 }
 
-function intoView() {
+function intoView(actor) {
   const top = (picked - 1) * size.row;
   if (top < board.scrollTop) board.scrollTop = top;
   if (top + size.row > board.scrollTop + board.clientHeight) board.scrollTop = top + size.row - board.clientHeight;
+  if (!sideways.hidden && actor >= 0 && isAside(actor)) sideways.scrollLeft = (actor + 0.5) * size.pitch - (size.lanes - size.pinned) / 2;
 }
 
 function packetsOf(k) {
@@ -269,7 +281,7 @@ function show(name) {
   const text = byId(name).querySelector("pre");
   if (text && !text.textContent) text.textContent = run[name].join("\n") || "Nothing.";
   byId("told").hidden = name !== "run" || picked < 0;
-  if (name === "run") { measure(); draw(); }
+  if (name === "run") anew();
 }
 
 function find(word) {
@@ -295,12 +307,13 @@ function start() {
   byId("find").onkeydown = (key) => { if (key.key === "Enter" && key.target.value) find(key.target.value); };
   board.onkeydown = onKey;
   board.addEventListener("scroll", soon, { passive: true });
-  sideways.addEventListener("scroll", soon, { passive: true });
-  window.onresize = () => { measure(); draw(); };
-  measure();
-  draw();
+  sideways.addEventListener("scroll", () => draw(true), { passive: true });
+  window.onresize = anew;
+  anew();
   const asked = /^#e([0-9]+)$/.exec(location.hash);
   if (asked && count) pick(Number(asked[1]));
+  // Milliseconds from opening the page to here, for the test.
+  document.body.dataset.drawn = Math.round(performance.now());
 }
 
 start();

@@ -92,7 +92,7 @@ def svg(run, title):
         parts.append(f'<text class="head" x="{x:.1f}" y="20">{actor}</text>')
         parts.append(f'<path class="life" d="M{x:.1f} {TOP - 6}V{height - 6}"/>')
     for packet in run.packets:
-        parts.extend(svg_packet(packet, run, lanes))
+        parts.extend(svg_packet(packet, lanes))
     for event, outcome, text in zip(events, run.report.outcomes, words):
         parts.extend(svg_event(event.number, outcome, text, lanes, right))
     return "\n".join(parts + ["</svg>"]) + "\n"
@@ -112,12 +112,11 @@ def svg_event(number, outcome, words, lanes, right):
     yield f'<text x="{right + 8:.1f}" y="{y + 4}">{escaped(outcome.text)}</text>'
 
 
-def svg_packet(packet, run, lanes):
+def svg_packet(packet, lanes):
     """The arrows of one packet, or the one that breaks off."""
     start, y = lanes[packet.sender], row_of(packet.sent_at)
     if not packet.told_at:
-        aim = run.aim(packet)
-        side = -1 if aim and lanes[aim] < start else 1
+        side = -1 if packet.sender[0] == "s" else 1
         end = start + side * PITCH * 0.35
         yield f'<path class="lost" d="M{start:.1f} {y}L{end:.1f} {y + 9}"/>'
         yield f'<path class="cross" d="M{end - 3:.1f} {y + 6}l6 6m0 -6l-6 6"/>'

@@ -10,13 +10,13 @@ import re
 SCHEDULE_BYTES = 16_777_216
 REPORT_BYTES = 268_435_456
 
-HEAD = re.compile(r"farsite 1 (?:direct|servers ([1-9][0-9]*) skew ([0-9]+) term ([0-9]+))")
+HEAD = re.compile(r"farsite 1 (?:direct|servers ([1-9][0-9]{0,19}) skew ([0-9]{1,20}) term ([0-9]{1,20}))")
 EVENT = re.compile(r"([0-9]{1,16}) ((join|do|tell|turn|recall|move) (\S+).*)")
-OUTCOME = re.compile(r"e([0-9]+) (-|[cs][0-9]+) (.*?)(?: sends((?: [0-9]+)+))?")
-ITEM = re.compile(r"j([0-9]+) ([cs][0-9]+) ([0-9]+) (.+)")
-NODE = re.compile(r"n (/[0-9/]*) (file|dir) ([0-9]+) ([0-9]+)(?: in (/[0-9/]*) \"([^\"]*)\")?")
-HANDLE = re.compile(r"h (/[0-9/]*) (c[0-9]+) ([0-9]+) ([RWD]+) ([RWD]+|-)")
-DONE = re.compile(r"done events ([0-9]+) journal ([0-9]+) nodes ([0-9]+)")
+OUTCOME = re.compile(r"e([0-9]{1,20}) (-|[cs][0-9]{1,20}) (.*?)(?: sends((?: [0-9]{1,20})+))?")
+ITEM = re.compile(r"j([0-9]{1,20}) ([cs][0-9]{1,20}) ([0-9]{1,20}) (.+)")
+NODE = re.compile(r"n (/[0-9/]*) (file|dir) ([0-9]{1,20}) ([0-9]{1,20})(?: in (/[0-9/]*) \"([^\"]*)\")?")
+HANDLE = re.compile(r"h (/[0-9/]*) (c[0-9]{1,20}) ([0-9]{1,20}) ([RWD]+) ([RWD]+|-)")
+DONE = re.compile(r"done events ([0-9]{1,20}) journal ([0-9]{1,20}) nodes ([0-9]{1,20})")
 NUMBER = re.compile(r"[0-9]{1,20}")
 MESSAGES = re.compile(r'(?:"[^"]*"|[^";]|;(?! ))+')
 NEEDS = re.compile(r'(?:"[^"]*"|[^",]|,(?! ))+')
@@ -133,7 +133,7 @@ def lines_of(data, name):
     wrong = re.search(rb"[^\x20-\x7e\n]", data)
     if wrong:
         line = data.count(b"\n", 0, wrong.start()) + 1
-        raise Trouble(f"{name}, line {line}: byte {wrong.group()[0]} is no printable ASCII")
+        raise Trouble(f"{name}, line {line}: byte 0x{wrong.group()[0]:02x} is no printable ASCII")
     return [line.decode("ascii") for line in lines]
 
 
