@@ -310,8 +310,9 @@ function start() {
   sideways.addEventListener("scroll", () => draw(true), { passive: true });
   window.onresize = anew;
   anew();
-  const asked = /^#e([0-9]+)$/.exec(location.hash);
-  if (asked && count) pick(Number(asked[1]));
+  const asked = /^#(?:e([0-9]+)|(journal|tree))$/.exec(location.hash);
+  if (asked && asked[2]) show(asked[2]);
+  else if (asked && count) pick(Number(asked[1]));
   // Milliseconds from opening the page to here, for the test.
   document.body.dataset.drawn = Math.round(performance.now());
 }
