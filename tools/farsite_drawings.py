@@ -11,6 +11,9 @@ from farsite_report import HANDLE, NODE, Trouble
 LETTER, ROW, PITCH, TOP = 6.7, 24, 120, 34
 MOST_EVENTS, MOST_ACTORS = 200, 20
 
+# How far a tree is indented; what is deeper says how deep it is.
+MOST_INDENT = 40
+
 STYLE = """
   rect { fill: #ffffff; } text { font: 11px ui-monospace, 'DejaVu Sans Mono', monospace; fill: #1c2330; }
   .faint { fill: #5d6878; } .head { font-weight: bold; text-anchor: middle; } .number { fill: #5d6878; text-anchor: middle;
@@ -150,7 +153,7 @@ def tree(space):
     lines, todo = [], [(0, name) for name in reversed(children.get(None, []))]
     while todo:
         depth, name = todo.pop()
-        node, pad = nodes[name], "  " * depth
+        node, pad = nodes[name], "  " * min(depth, MOST_INDENT) + (f"({depth} deep) " if depth > MOST_INDENT else "")
         title = node[6] or "the root"
         lines.append(f"{pad}{title}  {node[2]} {name}, size {node[3]}, stamp {node[4]}")
         lines.extend(f"{pad}    {handle}" for handle in handles.get(name, []))

@@ -29,6 +29,7 @@ class Lease:
 
     def __init__(self, number, field, kind, until):
         self.number, self.field, self.kind, self.until = number, field, kind, until
+        self.place = 0
 
 
 class Actor:
@@ -46,7 +47,7 @@ class Telling:
     def __init__(self, run):
         self.run, self.term, self.skew = run, run.schedule.head.term, run.schedule.head.skew
         self.actors = {name: Actor(name) for name in run.actors()}
-        self.parcels, self.changes = [], []
+        self.parcels, self.changes, self.given = [], [], 0
         self.came = {at: packet for packet in run.packets for at in packet.told_at}
 
     def all_changes(self):
@@ -108,8 +109,10 @@ class Telling:
 
     def client_releases(self, actor, _event, count, server):
         """Leases that were asked back go back: which, is told where all of them do."""
-        those = [n for n in actor.leases if n in actor.asked_back and actor.leases[n].until > actor.now]
-        those = [n for n in those if home(actor.homes, file_of(actor.leases[n].field)) == server]
+        those = [actor.leases[n] for n in actor.asked_back if n in actor.leases]
+        those = [lease for lease in those if lease.until > actor.now
+                 and home(actor.homes, file_of(lease.field)) == server]
+        those = [lease.number for lease in sorted(those, key=lambda lease: lease.place)]
         actor.request = (server, "release", those if len(those) == int(count) else None)
         self.say("question", f"gives {count} back to {server}")
 
@@ -127,6 +130,7 @@ class Telling:
     def client_granted(self, actor, _event, count, end):
         """The leases that the server gave to the question."""
         for lease in actor.answered.pop("question", [])[:int(count)]:
+            lease.place = self.given = self.given + 1
             actor.leases[lease.number] = lease
             self.say("lease", lease.number, lease.field, lease.kind, lease.until, "")
         self.ended(actor, end)
@@ -288,8 +292,3 @@ def begins(identifier, prefix):
 def home(homes, identifier):
     """Where the longest prefix says that the identifier is."""
     return homes[max((p for p in homes if begins(identifier, p)), key=len)]
-
-
-def sorted_numbers(numbers):
-    """Numbers of leases, by server and count."""
-    return sorted(numbers, key=lambda n: [int(part) for part in n[1:].split(".")])

@@ -148,6 +148,28 @@ class Pages(Folder):
         return ended.stdout.decode("utf-8")
 
 
+class Launched(Folder):
+    """Without a report the launcher beside the tools is run."""
+
+    def launched(self, script):
+        """What the tool says with that launcher."""
+        shutil.copytree(os.path.join(ROOT, "tools"), os.path.join(self.folder, "tools"))
+        os.chmod(self.file("farsite", "#!/bin/sh\n" + script), 0o755)
+        tool = os.path.join(self.folder, "tools", "chart")
+        return subprocess.run([sys.executable, tool, LEASES + ".schedule"], stdout=subprocess.PIPE, stderr=subprocess.PIPE, check=False)
+
+    def test_its_report_is_drawn(self):
+        ended = self.launched(f'test "$*" = replay && cmp -s - "{LEASES}.schedule" && cat "{LEASES}.report"\n')
+        self.assertEqual((ended.stderr, ended.returncode), (b"", 0))
+        self.assertEqual(ended.stdout.decode("utf-8"), chart(LEASES + ".schedule", LEASES + ".report")[0])
+
+    def test_its_refusal_is_passed_on(self):
+        ended = self.launched("echo 'farsite: line 3 is not in the grammar' >&2; exit 3\n")
+        self.assertEqual((ended.stdout, ended.returncode), (b"", 2))
+        self.assertEqual(ended.stderr.decode("utf-8"), "farsite: line 3 is not in the grammar\n"
+                         "chart: the program ended with status 3, so there is nothing to draw\n")
+
+
 class Diagrams(Folder):
     """Diagrams for documents."""
 
