@@ -284,11 +284,13 @@ function show(name) {
   if (name === "run") anew();
 }
 
+// Goes to the next event whose words or outcome have the word, and tells whether there is one.
 function find(word) {
   for (let step = 1; step <= count; step++) {
     const k = (Math.max(0, picked) + step - 1) % count + 1, event = run.events[k - 1];
-    if ((event[WORDS] + "\n" + event[TEXT]).includes(word)) return pick(k);
+    if ((event[WORDS] + "\n" + event[TEXT]).includes(word)) { pick(k); return true; }
   }
+  return false;
 }
 
 function onKey(key) {
@@ -304,7 +306,7 @@ function onKey(key) {
 function start() {
   for (const tab of document.querySelectorAll("[data-show]")) tab.onclick = () => show(tab.dataset.show);
   byId("pane").onclick = (click) => { const row = click.target.closest(".row"); if (row) pick(Number(row.dataset.event)); };
-  byId("find").onkeydown = (key) => { if (key.key === "Enter" && key.target.value) find(key.target.value); };
+  byId("find").onkeydown = (key) => { if (key.key === "Enter") key.target.classList.toggle("none", !find(key.target.value)); };
   board.onkeydown = onKey;
   board.addEventListener("scroll", soon, { passive: true });
   sideways.addEventListener("scroll", () => draw(true), { passive: true });
