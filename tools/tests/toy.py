@@ -1,7 +1,7 @@
 #!/usr/bin/env python3
 """A toy in place of the program, for tests of the tools: sessions ask `s0`, it answers, and nothing else happens.
 
-`toy_program replay` reads a schedule and writes the `e` lines of a report. A `do` sends one packet where no other is under way,
+`toy.py replay` reads a schedule and writes the `e` lines of a report. A `do` sends one packet where no other is under way,
 a packet told to `s0` is answered once, and a packet told to a session ends what is under way. An answer that comes to a `do` of
 `create / "bug" file` is a fault: it says `strange`.
 """
@@ -13,20 +13,27 @@ sys.path.insert(0, os.path.dirname(os.path.dirname(os.path.abspath(__file__))))
 from common import grammar  # noqa: E402
 
 
+def report_of(data):
+    """The `e` lines of the toy's report, and its last line."""
+    schedule = grammar.read_schedule(data)
+    toy = Toy()
+    lines = []
+    for number, event in enumerate(schedule.events, 1):
+        who, text, sent = toy.step(event)
+        sends = ' sends %s' % ' '.join(map(str, sent)) if sent else ''
+        lines.append('e%d %s %s%s' % (number, who, text, sends))
+    lines.append('done events %d journal 0 nodes 1' % len(schedule.events))
+    return ('\n'.join(lines) + '\n').encode('ascii')
+
+
 def main():
     if sys.argv[1:] != ['replay']:
         sys.exit('farsite: word 1 is not understood')
     try:
-        schedule = grammar.read_schedule(sys.stdin.buffer.read())
+        sys.stdout.buffer.write(report_of(sys.stdin.buffer.read()))
     except grammar.Fault as fault:
         print('farsite: %s' % fault, file=sys.stderr)
         sys.exit(3)
-    toy = Toy()
-    for number, event in enumerate(schedule.events, 1):
-        who, text, sent = toy.step(event)
-        sends = ' sends %s' % ' '.join(map(str, sent)) if sent else ''
-        print('e%d %s %s%s' % (number, who, text, sends))
-    print('done events %d journal 0 nodes 1' % len(schedule.events))
 
 
 class Toy:
@@ -75,4 +82,5 @@ class Toy:
         return 'c%d' % session, 'granted 1 all', []
 
 
-main()
+if __name__ == '__main__':
+    main()
