@@ -76,7 +76,7 @@ class Shrunk(unittest.TestCase):
             events = grammar.read_schedule(text).events
             return len(events) > 1 and events[-1].reading >= events[0].reading + 7
 
-        self.assertEqual(shrunk(data, is_late), 'farsite 1 direct\n0 join c1\n25 do c2 kind /\n')
+        self.assertEqual(shrunk(data, is_late), 'farsite 1 direct\n0 join c1\n7 do c1 kind /\n')
 
     def test_examples(self):
         """With their own reports, and a fault that one line alone is."""
