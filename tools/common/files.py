@@ -74,6 +74,7 @@ def report_of(command, data):
 def run_tool(name, main):
     """Calls a tool and ends with its status; what it could not do is a sentence, and a closed output no trace."""
     try:
+        sys.stdout.reconfigure(errors='backslashreplace')
         status = main()
         sys.stdout.flush()
     except Failed as failed:

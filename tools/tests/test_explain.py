@@ -112,6 +112,20 @@ class Agreeing(unittest.TestCase):
                 continue
             self.assertEqual('farsite: %s' % fault if fault else '', said, path)
 
+    @unittest.skipUnless(os.path.isdir(trying.CONFORMANCE), 'no ../shared/conformance')
+    def test_with_a_report_it_finds_every_line_that_does_nothing(self):
+        for path, said in trying.conformance_cases():
+            data = trying.bytes_of(path)
+            if said or fault_of(data):
+                continue
+            schedule = grammar.read_schedule(data)
+            with open(path[:-len('schedule')] + 'out', 'rb') as stream:
+                run = reports.read_run(schedule, stream, path)
+            told = [line for line in explain.warnings(schedule, run) if 'does nothing' in line]
+            idle = ['line %d ' % at for at, outcome in enumerate(run.outcomes, 2) if outcome.who == '-']
+            self.assertEqual([line[:len(start)] for line, start in zip(told, idle)], idle, path)
+            self.assertEqual(len(told), len(idle), path)
+
     def is_of_later(self, path, fault):
         """Whether the case is refused today for the first operation that the servers form has not yet."""
         lines = trying.bytes_of(path).split(b'\n')

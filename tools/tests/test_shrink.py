@@ -78,6 +78,11 @@ class Shrunk(unittest.TestCase):
 
         self.assertEqual(shrunk(data, is_late), 'farsite 1 direct\n0 join c1\n7 do c1 kind /\n')
 
+    def test_clocks_stay_within_the_skew(self):
+        data = (b'farsite 1 servers 1 skew 5 term 9\n20 join c1\n15 do c1 create / "bug" file\n18 tell 0\n16 tell 1\n')
+        left = shrunk(data, lambda text: b'strange' in toy.report_of(text) and b'\n0' not in text)
+        self.assertEqual(len(grammar.read_schedule(left.encode()).events), 4)
+
     def test_examples(self):
         """With their own reports, and a fault that one line alone is."""
         for path, report in trying.examples():

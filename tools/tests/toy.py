@@ -33,7 +33,7 @@ def main():
         sys.stdout.buffer.write(report_of(sys.stdin.buffer.read()))
     except grammar.Fault as fault:
         print('farsite: %s' % fault, file=sys.stderr)
-        sys.exit(3)
+        sys.exit(6 if fault.line is None else 3)
 
 
 class Toy:
