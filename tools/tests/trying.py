@@ -10,7 +10,7 @@ TOOLS = os.path.dirname(os.path.dirname(os.path.abspath(__file__)))
 ROOT = os.path.dirname(TOOLS)
 CONFORMANCE = os.path.join(os.path.dirname(ROOT), 'shared', 'conformance')
 # A call that takes longer hangs; a loaded machine is slow.
-SECONDS = 120
+SECONDS = 300
 sys.path[:0] = [path for path in (TOOLS,) if path not in sys.path]
 
 
