@@ -1,5 +1,5 @@
 -- The leases of a client as it will be: those that it has, and those that are granted to it on the way.
-use Rattle.std.proofs.Common.{◌≡◌, ℕ, List, [], ◌∷◌, map, refl, ap, subst, inl, inr}
+use Rattle.std.proofs.Common.{◌≡◌, ℕ, List, [], ◌∷◌, map, ap, subst, inl, inr}
 use Rattle.std.specs.Prelude.{Option, Some, option_map}
 use Rattle.fs_ident.specs.In.{In}
 use Rattle.fs_ident.specs.declared.actor.Session.{Session}

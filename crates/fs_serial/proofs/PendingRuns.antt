@@ -1,9 +1,8 @@
 -- What a session has pending is a serial run on from what the servers hold, as far as the rows of its leases stand.
 use Rattle.std.proofs.Common.{◌≡◌, ℕ, List, [], ◌∷◌, ◌++◌, map, refl, ap, ◌∙◌, sym, subst, inl}
-use Rattle.std.specs.Prelude.{Option, None}
+use Rattle.std.specs.Prelude.{None}
 use Rattle.fs_ident.specs.In.{In}
 use Rattle.fs_ident.specs.declared.actor.Session.{Session}
-use Rattle.fs_model.specs.Namespace.{NodeMap}
 use Rattle.fs_msg.specs.Journal.{IsSerialRun}
 use Rattle.fs_msg.specs.declared.entry.Entry.{Entry}
 use Rattle.fs_msg.specs.declared.item.Item.{Item}
@@ -16,7 +15,7 @@ use Rattle.fs_serial.specs.Parts.{AllHold, with_client}
 use Rattle.fs_serial.specs.Pending.{IsAnswer, IsEntry, PendingStand}
 use Rattle.fs_serial.specs.Refusals.{rows_in}
 use Rattle.fs_serial.specs.Runs.{held_by}
-use Rattle.fs_serial.specs.Seen.{ClusterHolds, counts_of, ends_of, with_all, world_of}
+use Rattle.fs_serial.specs.Seen.{ClusterHolds, counts_of, ends_of, with_all}
 use Rattle.fs_serial.specs.Settled.{Settled, acknowledged}
 use Rattle.fs_serial.specs.Sight.{Counts, sight_of}
 use Rattle.fs_serial.specs.Steps.{AllStand, AreRepliesFrom}
@@ -40,7 +39,7 @@ pending_from o skew greatest replied by rest (e ∷ es) s journal clients h log 
     let then = admit_kept o skew greatest s journal replied clients by e h (record { rest = es ++ rest; log = log; going = over; found = stand.0 }) in
     let is = its_client by (acknowledged by d.log d) clients in
     let more = pending_from o skew greatest replied by rest es (with_entry by e s) (journal ++ item_of by e ∷ []) (with_client by (acknowledged by d.log d) clients) then
-        (ap (λ (c : Settled). c.log) is ∙ ap (λ l. (acknowledged by l d).log) log) (ap (λ (c : Settled). c.over) is ∙ (over_then by d.log d ∙ over)) stand.1 in
+    (ap (λ (c : Settled). c.log) is ∙ ap (λ l. (acknowledged by l d).log) log) (ap (λ (c : Settled). c.over) is ∙ (over_then by d.log d ∙ over)) stand.1 in
     (more.0, (no_reap e.op plain.plain, answered s.records by d.leases e plain right, subst (λ m. IsSerialRun m (map (item_of by) es) more.0) (leads_there s.records by d.leases e plain right) more.1))
 
 -- the same of what all servers hold together
