@@ -75,18 +75,20 @@ class Diff(unittest.TestCase):
         big = self.file(b"")
         os.truncate(big, 1 << 30)
         cases = [
-            (os.path.join(self.folder, "none"), "cannot be read"), (self.folder, "cannot be read"),
+            (os.path.join(self.folder, "none"), "could not be read"), (self.folder, "could not be read"),
             (self.file(b""), "empty"), (self.file(b"e1 c1 \xff\n"), "line 1: byte 0xff"),
-            (LEASES.replace(".report", ".schedule"), "a report ends with"), (big, "more than 268435456 bytes"),
+            (LEASES.replace(".report", ".schedule"), "line 1: no line of a report"),
+            (self.file(leases().rpartition("done")[0]), "a report ends with"), (big, "more than 268435456 bytes"),
             (self.file(leases().replace("e3 ", "e4 ", 1)), "line 3: no outcome of event 3"),
             (self.file(leases().replace("nodes 2", "nodes 3")), "counts 3 nodes"),
-            (self.file(leases().replace("events 9", "events 99999999999999999999")), "no outcome of event 10")]
+            (self.file(leases().replace("events 9", "events 99999999999999999999")), "counts 99999999999999999999 events"),
+            (self.file(leases() + "n /2 dir 0 0\n"), "something follows the last line")]
         for path, says in cases:
             for words in ((path, LEASES), (LEASES, path)):
                 with self.subTest(says=says, first=words[0] is path):
                     out, said, status = diff(*words)
                     self.assertEqual((out, status), ("", 2))
-                    self.assertRegex(said, r"\Adiff: [^\n]*\n\Z")
+                    self.assertRegex(said, r"\Atools/diff: [^\n]*\n\Z")
                     self.assertIn(says, said)
 
 

@@ -7,7 +7,7 @@ import tempfile
 import unittest
 
 import trying
-from common import files, grammar, operands, reports
+from common import files, grammar, operands, runs
 from common.random_numbers import Random
 
 explain = trying.module('explain')
@@ -120,9 +120,9 @@ class Agreeing(unittest.TestCase):
                 continue
             schedule = grammar.read_schedule(data)
             with open(path[:-len('schedule')] + 'out', 'rb') as stream:
-                run = reports.read_run(schedule, stream, path)
+                run = runs.run_in(schedule, stream, path)
             told = [line for line in explain.warnings(schedule, run) if 'does nothing' in line]
-            idle = ['line %d ' % at for at, outcome in enumerate(run.outcomes, 2) if outcome.who == '-']
+            idle = ['line %d ' % at for at, outcome in enumerate(run.outcomes, 2) if outcome.actor is None]
             self.assertEqual([line[:len(start)] for line, start in zip(told, idle)], idle, path)
             self.assertEqual(len(told), len(idle), path)
 
@@ -159,7 +159,7 @@ class Agreeing(unittest.TestCase):
 class Warnings(unittest.TestCase):
     def warnings(self, text, report=None):
         schedule = grammar.read_schedule(text.encode())
-        run = reports.read_run(schedule, io.BytesIO(report.encode()), 'REPORT') if report else None
+        run = runs.run_in(schedule, io.BytesIO(report.encode()), 'REPORT') if report else None
         return list(explain.warnings(schedule, run))
 
     def test_sessions_without_a_report(self):
@@ -215,7 +215,7 @@ class Hostile(unittest.TestCase):
             schedule = grammar.read_schedule(trying.bytes_of(self.example))
             with open(report, 'rb') as stream:
                 with self.assertRaisesRegex(files.Failed, 'is no report'):
-                    reports.read_run(schedule, stream, report)
+                    runs.run_in(schedule, stream, report)
 
     def test_files_that_are_not_there(self):
         status, _, errors = self.explained(self.example, os.path.join(self.folder.name, 'none'))
