@@ -68,6 +68,13 @@ class Telling(unittest.TestCase):
         for name in tools():
             self.assertTrue('tools/%s' % name in reference, name)
 
+    def test_each_tool_is_in_the_man_page_and_can_be_completed(self):
+        page, completion = trying.text_of(MAN_PAGE), trying.text_of(COMPLETION)
+        names = completion.split('for _farsite_name in ')[1].split(';')[0].split()
+        self.assertEqual(sorted(names), tools())
+        for name in tools():
+            self.assertTrue('tools/%s' % name in page, name)
+
 
 if __name__ == '__main__':
     unittest.main()
