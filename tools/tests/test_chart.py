@@ -7,11 +7,11 @@ import re
 import shutil
 import subprocess
 import sys
-import tempfile
 import unittest
 
-ROOT = os.path.dirname(os.path.dirname(os.path.dirname(os.path.abspath(__file__))))
-CHART = os.path.join(ROOT, "tools", "chart")
+import trying
+from trying import ROOT, Folder
+
 EXAMPLES = sorted(path[:-len(".schedule")] for path in glob.glob(os.path.join(ROOT, "examples", "*.schedule")))
 LEASES = os.path.join(ROOT, "examples", "leases")
 BROWSER = next(filter(None, map(shutil.which, ("chromium", "chromium-browser", "google-chrome"))), None)
@@ -20,8 +20,8 @@ DATA = re.compile(r'<script type="application/json" id="data">(.*?)</script>', r
 
 def chart(*words):
     """What the tool prints, its words on standard error, its status."""
-    ended = subprocess.run([sys.executable, CHART, *words], stdout=subprocess.PIPE, stderr=subprocess.PIPE, check=False)
-    return ended.stdout.decode("utf-8"), ended.stderr.decode("utf-8"), ended.returncode
+    status, output, errors = trying.tool("chart", *words)
+    return output, errors, status
 
 
 def data_in(page):
@@ -66,21 +66,6 @@ def long_run(events, sessions):
     schedule = "farsite 1 servers 1 skew 10 term 100\n" + "".join(f"{k} {line}\n" for k, line in enumerate(lines))
     report = "".join(f"e{k} {line}\n" for k, line in enumerate(outcomes, 1))
     return schedule, report + f"n / dir 0 0\ndone events {len(lines)} journal 0 nodes 1\n"
-
-
-class Folder(unittest.TestCase):
-    """Tests with a folder for files."""
-
-    def setUp(self):
-        self.folder = tempfile.mkdtemp()
-        self.addCleanup(shutil.rmtree, self.folder)
-
-    def file(self, name, content):
-        """The path of a new file with the bytes."""
-        path = os.path.join(self.folder, name)
-        with open(path, "wb") as file:
-            file.write(content if isinstance(content, bytes) else content.encode("utf-8"))
-        return path
 
 
 class Pages(Folder):

@@ -1,20 +1,18 @@
 """Tests of tools/diff: where runs part, and answers to wrong input."""
+import itertools
 import os
-import shutil
-import subprocess
-import sys
-import tempfile
 import unittest
 
-ROOT = os.path.dirname(os.path.dirname(os.path.dirname(os.path.abspath(__file__))))
-DIFF = os.path.join(ROOT, "tools", "diff")
+import trying
+from trying import ROOT, Folder
+
 LEASES = os.path.join(ROOT, "examples", "leases.report")
 
 
 def diff(*words):
     """What the tool prints, its words on standard error, its status."""
-    ended = subprocess.run([sys.executable, DIFF, *words], stdout=subprocess.PIPE, stderr=subprocess.PIPE, check=False)
-    return ended.stdout.decode("utf-8"), ended.stderr.decode("utf-8"), ended.returncode
+    status, output, errors = trying.tool("diff", *words)
+    return output, errors, status
 
 
 def leases():
@@ -23,19 +21,14 @@ def leases():
         return file.read()
 
 
-class Diff(unittest.TestCase):
+class Diff(Folder):
     """Tests with a folder for reports."""
 
-    def setUp(self):
-        self.folder = tempfile.mkdtemp()
-        self.addCleanup(shutil.rmtree, self.folder)
+    NAMES = itertools.count(1)
 
     def file(self, content):
-        """The path of a new file with the text or bytes."""
-        handle, path = tempfile.mkstemp(dir=self.folder)
-        with os.fdopen(handle, "wb") as file:
-            file.write(content if isinstance(content, bytes) else content.encode("utf-8"))
-        return path
+        """The path of a new file with the text or the bytes."""
+        return super().file(f"{next(self.NAMES)}.report", content)
 
     def test_the_same(self):
         self.assertEqual(diff(LEASES, LEASES), ("The two reports are the same: 9 events, 2 items of the journal.\n", "", 0))
