@@ -205,9 +205,11 @@ class WrongInput(Folder):
 
     def test_bytes_that_are_no_text(self):
         wrong = self.file("wrong", b"farsite 1 direct\n0 join \xff\n")
-        self.refused(wrong, LEASES + ".report", says="line 2 is not in the grammar: a session is `c` and its number; its byte 0xff")
+        self.refused(wrong, LEASES + ".report",
+                     says="line 2 is not in the grammar: a session is `c` and its number; its byte 0xff")
         self.refused(LEASES + ".schedule", self.file("wrong2", b"e1 c1 joined\ne2 c1 \xff\n"), says="line 2: byte 0xff")
-        self.refused(self.file("crlf", b"farsite 1 direct\r\n"), LEASES + ".report", says="line 1 is not in the grammar: the line ends in a carriage return")
+        self.refused(self.file("crlf", b"farsite 1 direct\r\n"), LEASES + ".report",
+                     says="line 1 is not in the grammar: the line ends in a carriage return")
         self.refused(self.file("mark", b"\xef\xbb\xbffarsite 1 direct\n"), LEASES + ".report", says="byte order mark")
 
     def test_a_gigabyte(self):
@@ -221,8 +223,10 @@ class WrongInput(Folder):
         self.refused(LEASES + ".schedule", self.file("empty", b""), says="empty")
         self.refused(LEASES + ".report", LEASES + ".schedule", says="line 1")
         self.refused(LEASES + ".schedule", LEASES + ".schedule", says="line 1: no line of a report")
-        self.refused(LEASES + ".schedule", self.file("cut", read(LEASES + ".report").rpartition("done")[0]), says="a report ends with")
-        self.refused(self.file("kind", "farsite 1 direct\n0 jump c1\n"), LEASES + ".report", says="line 2 is not in the grammar: this is no event")
+        cut = read(LEASES + ".report").rpartition("done")[0]
+        self.refused(LEASES + ".schedule", self.file("cut", cut), says="a report ends with")
+        self.refused(self.file("kind", "farsite 1 direct\n0 jump c1\n"), LEASES + ".report",
+                     says="line 2 is not in the grammar: this is no event")
 
     def test_a_report_of_another_schedule(self):
         self.refused(LEASES + ".schedule", LEASES.replace("leases", "first") + ".report", says="no report of this schedule")

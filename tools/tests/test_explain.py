@@ -1,4 +1,5 @@
 """Tests of tools/explain and of the reader that the tools share."""
+import functools
 import io
 import os
 import re
@@ -103,11 +104,21 @@ class Reading(unittest.TestCase):
         self.assertEqual(tuple(name.lower() for name in refused), grammar.NOT_WITH_SERVERS)
 
 
+@functools.lru_cache(None)
+def case_at(path):
+    """The schedule of a case and None, or None and what the program that there is refuses."""
+    data = trying.bytes_of(path)
+    try:
+        return grammar.read_schedule(data), None
+    except grammar.Fault as fault:
+        return None, fault
+
+
 class Agreeing(unittest.TestCase):
     @unittest.skipUnless(os.path.isdir(trying.CONFORMANCE), 'no ../shared/conformance')
     def test_it_agrees_with_the_program_on_every_case(self):
         for path, said in trying.conformance_cases():
-            fault = fault_of(trying.bytes_of(path))
+            fault = case_at(path)[1]
             if not said and fault is not None and self.is_of_later(path, fault):
                 fault = fault_of(trying.bytes_of(path), of_later=True)
             self.assertEqual('farsite: %s' % fault if fault else '', said, path)
@@ -118,7 +129,7 @@ class Agreeing(unittest.TestCase):
         for path, said in trying.conformance_cases():
             if said:
                 continue
-            schedule = grammar.read_schedule(trying.bytes_of(path), of_later=True)
+            schedule = case_at(path)[0] or grammar.read_schedule(trying.bytes_of(path), of_later=True)
             with open(path[:-len('schedule')] + 'out', 'rb') as stream:
                 run = runs.run_in(schedule, stream, path)
             told = [line for line in explain.warnings(schedule, run) if 'does nothing' in line]
