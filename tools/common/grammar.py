@@ -2,9 +2,12 @@
 
 What a text is refused for, and at which line, is what the program says of it; the tests hold the two together.
 """
+import re
+
 from common import operands
-from common.files import INPUT_BYTES
+from common.files import INPUT_BYTES, Failed, read_input
 from common.operands import Unfit
+from common.texts import shown
 from common.words import words_of
 
 LINE_BYTES = 4_096
@@ -34,12 +37,20 @@ BOMS = ((b'\xef\xbb\xbf', 'UTF-8'), (b'\xff\xfe', 'UTF-16'), (b'\xfe\xff', 'UTF-
 
 
 class Head:
-    """The form of a schedule: how many servers, none in the direct form, their skew and the term of leases."""
+    """The form of a schedule: how many servers, none in the direct form, their skew and the term of leases.
 
-    def __init__(self, servers, skew=None, term=None):
+    `refused` are operations that the form does not have yet.
+    """
+
+    def __init__(self, servers, skew=0, term=0):
         self.servers = servers
         self.skew = skew
         self.term = term
+        self.refused = () if servers == 0 else NOT_WITH_SERVERS
+
+    def operations(self):
+        """The operations that the form has."""
+        return [name for name in OPERATIONS if name not in self.refused]
 
     def is_direct(self):
         return self.servers == 0
@@ -52,11 +63,15 @@ class Head:
 
 
 class Event:
-    """An event: its reading, its first word, its session or server, the packet of a `tell`, where a `move` goes."""
+    """An event: its number, reading and first word, its session or server, the packet of a `tell`, where a `move` goes.
 
-    __slots__ = ('reading', 'verb', 'session', 'server', 'packet', 'to', 'text')
+    Events are counted from 1, as reports have them, and event K stands in line K + 1. `text` is the line behind the reading.
+    """
+
+    __slots__ = ('number', 'reading', 'verb', 'session', 'server', 'packet', 'to', 'text')
 
     def __init__(self, reading, verb):
+        self.number = None
         self.reading = reading
         self.verb = verb
         self.session = None
@@ -73,7 +88,7 @@ class Event:
 
 
 class Schedule:
-    """A form and its events; event K of them, counted from 1, stands in line K + 1."""
+    """A form and its events."""
 
     def __init__(self, head, events):
         self.head = head
@@ -129,7 +144,7 @@ class Walk:
         except Unfit as unfit:
             is_last = self.taken == len(self.words)
             raise plain_fault(self.line, word, is_last, expected) or WordFault(
-                word.start, word.end, unfit.problem, expected, unfit.hint) from unfit
+                word.start, word.end, unfit.problem + no_text(word), expected, unfit.hint) from unfit
 
     def end(self, whole):
         """Nothing may follow what was read, which is this."""
@@ -137,6 +152,12 @@ class Walk:
             word = self.words[self.taken]
             raise plain_fault(self.line, word, self.taken + 1 == len(self.words), 'the end of the line') or WordFault(
                 word.start, len(self.line), '%s ends before this word' % whole, 'the end of the line')
+
+
+def no_text(word):
+    """What more is said of a word with bytes that are no text; of a name it is said already."""
+    found = None if word.quoted else re.search(rb'[^\x20-\x7e]', word.body)
+    return '; its byte 0x%02x is no printable ASCII' % found.group()[0] if found else ''
 
 
 def plain_fault(line, word, is_last, expected):
@@ -228,8 +249,8 @@ def read_join(_head, walk, event):
 
 def read_do(head, walk, event):
     event.session = walk.take(SESSION, operands.session)
-    names = [name for name in OPERATIONS if head.is_direct() or name not in NOT_WITH_SERVERS]
-    elsewhere = [(name, 'the servers form has no `%s` yet' % name) for name in NOT_WITH_SERVERS]
+    names = head.operations()
+    elsewhere = [(name, 'the servers form has no `%s` yet' % name) for name in head.refused]
     operation = walk.take('an operation: one of %s' % listed(names), operands.choice(names, 'operation', elsewhere))
     for expected, read in OPERATION_OPERANDS[operation]:
         walk.take(expected, read)
@@ -287,12 +308,28 @@ FIELD_OPERANDS = {'life': [AN_ID], 'child': [AN_ID, A_NAME], 'names': [AN_ID], '
                   'self': [AN_ID, A_MODE], 'other': [AN_ID, A_MODE]}
 
 
-def read_schedule(data):
-    """The schedule that the bytes are the text of; else a Fault, of the first line that the program refuses."""
+def read_file(path, of_later=False):
+    """The bytes of a file and the schedule that they are the text of; else a sentence, for tools that do not explain."""
+    data = read_input(path)
+    try:
+        return data, read_schedule(data, of_later)
+    except Fault as fault:
+        if fault.problem is None:
+            raise Failed('%s: %s' % (shown(path), fault)) from fault
+        raise Failed('%s: %s: %s; tools/explain says more' % (shown(path), fault, fault.problem)) from fault
+
+
+def read_schedule(data, of_later=False):
+    """The schedule that the bytes are the text of; else a Fault, of the first line that the program refuses.
+
+    A schedule of a later program may have every operation in either form.
+    """
     if len(data) > INPUT_BYTES:
         raise Fault('the input has more than %d bytes' % INPUT_BYTES)
     lines = lines_of(data)
     head = first_line(*next(lines))
+    if of_later:
+        head.refused = ()
     events = []
     for at, (line, is_last) in enumerate(lines, 2):
         events.append(later_line(head, at, line, is_last))
@@ -341,7 +378,8 @@ def later_line(head, at, line, is_last):
         word = words_of(line)[2]
         raise Fault('line %d passes the limit of sessions' % at, at, word.start, word.end,
                     "a session's number is at most %d" % operands.SESSIONS, SESSION)
-    if at - 2 >= EVENTS:
+    event.number = at - 1
+    if event.number > EVENTS:
         raise Fault('line %d passes the limit of events' % at, at, 0, len(line),
                     '%d events stand before it already' % EVENTS, 'the end of the schedule')
     return event

@@ -186,7 +186,7 @@ def byte_name(byte):
     called = {9: 'a tab', 13: 'a carriage return', 0: 'a zero byte'}
     if byte in called:
         return called[byte]
-    return 'the character %s' % chr(byte) if 32 <= byte <= 126 else 'a byte outside printable ASCII (%d)' % byte
+    return 'the character %s' % chr(byte) if 32 <= byte <= 126 else 'byte 0x%02x, which is no printable ASCII' % byte
 
 
 def choice(names, what, elsewhere=()):

@@ -1,104 +1,142 @@
-"""Reports read beside their schedules: what each event came to, which event sent each packet, and which told it."""
+"""Reports, read line by line: what each event came to, the journal, and the namespace at the end."""
+import io
 import re
 
-from common.files import REPORT_LINE_BYTES, Failed
+from common.files import REPORT_BYTES, Failed, read_bytes
+from common.texts import shown
 
-EVENT_LINE = re.compile(r'e([0-9]{1,9}) (-|[cs][0-9]{1,9}) (.*?)(?: sends((?: [0-9]{1,9})+))?\Z', re.ASCII | re.DOTALL)
+# No line of a report is longer: it has at most the names of one input, and a little more.
+LINE_BYTES = 33_554_432
+
+OUTCOME = re.compile(r'e([0-9]{1,20}) (-|[cs][0-9]{1,20}) (.*?)(?: sends((?: [0-9]{1,20})+))?')
+ITEM = re.compile(r'j([0-9]{1,20}) ([cs][0-9]{1,20}) ([0-9]{1,20}) (.+)')
+NODE = re.compile(r'n (/[0-9/]*) (file|dir) ([0-9]{1,20}) ([0-9]{1,20})(?: in (/[0-9/]*) "([^"]*)")?')
+HANDLE = re.compile(r'h (/[0-9/]*) (c[0-9]{1,20}) ([0-9]{1,20}) ([RWD]+) ([RWD]+|-)')
+DONE = re.compile(r'done events ([0-9]{1,20}) journal ([0-9]{1,20}) nodes ([0-9]{1,20})')
+NO_TEXT = re.compile(rb'[^\x20-\x7e]')
 
 
 class Outcome:
-    """What an event came to: its actor or `-`, the text, and the numbers of the packets that it sent."""
+    """What an event came to: its number, its actor or None where nobody acted, the text, and the packets that it sent."""
 
-    __slots__ = ('who', 'text', 'sent')
+    __slots__ = ('number', 'actor', 'text', 'sends')
 
-    def __init__(self, who, text, sent):
-        self.who = who
+    def __init__(self, number, actor, text, sends):
+        self.number = number
+        self.actor = actor
         self.text = text
-        self.sent = sent
+        self.sends = sends
+
+    def whole(self):
+        """The line without its number, as the report has it."""
+        packets = ''.join(' %d' % packet for packet in self.sends)
+        return '%s %s%s' % (self.actor or '-', self.text, ' sends' + packets if packets else '')
 
 
-class Run:
-    """A schedule's outcomes; of each packet the event that sent it and those that told it; of each `tell` its packet.
+class Report:
+    """Outcomes, the lines of the journal, and the lines of the namespace."""
 
-    Events are counted from 0 here. A `tell` of a packet that was not sent has None.
-    """
+    def __init__(self, outcomes, journal, space):
+        self.outcomes = outcomes
+        self.journal = journal
+        self.space = space
 
-    def __init__(self):
-        self.outcomes = []
-        self.sent_by = []
-        self.told_by = []
-        self.packet_of = {}
-        self.least_untold = 0
 
-    def add(self, event, outcome):
-        """Takes the next event of the run."""
-        at = len(self.outcomes)
-        if event.verb == 'tell':
-            self.tell(at, event.packet)
-        for _ in outcome.sent:
-            self.sent_by.append(at)
-            self.told_by.append([])
-        self.outcomes.append(outcome)
+class Lines:
+    """The lines of a report, one after another: the line, None behind the last one, and its number."""
 
-    def tell(self, at, packet):
-        """Takes the packet that a `tell` names, where it was sent."""
-        if packet == 'next':
-            packet = self.least_untold
-        if packet >= len(self.sent_by):
-            self.packet_of[at] = None
+    def __init__(self, stream, called):
+        self.stream = stream
+        self.called = called
+        self.number = 0
+        self.line = None
+        self.step()
+
+    def step(self):
+        """Goes on to the next line."""
+        self.number += 1
+        try:
+            line = self.stream.readline(LINE_BYTES + 1)
+        except OSError as error:
+            raise Failed('%s could not be read: %s' % (self.called, error.strerror)) from error
+        if line == b'':
+            self.line = None
             return
-        self.packet_of[at] = packet
-        self.told_by[packet].append(at)
-        while self.least_untold < len(self.told_by) and self.told_by[self.least_untold]:
-            self.least_untold += 1
+        wrong = NO_TEXT.search(line, 0, len(line) - line.endswith(b'\n'))
+        if wrong:
+            raise self.fault('byte 0x%02x is no printable ASCII' % wrong.group()[0])
+        if len(line) > LINE_BYTES:
+            raise self.fault('it has more than %d bytes' % LINE_BYTES)
+        self.line = line.decode('ascii').rstrip('\n')
+
+    def take(self):
+        """The line; goes on behind it."""
+        line = self.line
+        self.step()
+        return line
+
+    def begins(self, *letters):
+        """Whether there is a line that begins with one of these."""
+        return self.line is not None and self.line[:1] in letters
+
+    def fault(self, what):
+        """The sentence on the line."""
+        return Failed('%s is no report: line %d: %s' % (self.called, self.number, what))
 
 
-def read_run(schedule, stream, called):
-    """The run of the schedule, from the lines of its report; `called` is what the report is called."""
-    run = Run()
-    for at, event in enumerate(schedule.events):
-        outcome = outcome_at(stream, at + 1, called)
-        run.add(event, outcome)
-        why = misfit(schedule, run, at)
-        if why:
-            raise Failed('%s is no report of this schedule: its line %d %s' % (called, at + 1, why))
-    if stream.readline(2)[:1] == b'e':
-        raise Failed('%s is no report of this schedule: it has more than %d events' % (called, len(schedule.events)))
-    return run
+def outcomes_of(lines):
+    """The outcomes of a report, one after another; the lines stand behind them then."""
+    number = 1
+    while lines.begins('e'):
+        found = OUTCOME.fullmatch(lines.line)
+        if found is None or found[1] != str(number):
+            raise lines.fault('no outcome of event %d' % number)
+        actor = None if found[2] == '-' else found[2]
+        yield Outcome(number, actor, found[3], [int(word) for word in (found[4] or '').split()])
+        number += 1
+        lines.step()
+    if lines.line is None and lines.number == 1:
+        raise Failed('%s is empty, and no report' % lines.called)
+    if lines.line is not None and not lines.begins('j', 'n', 'd'):
+        raise lines.fault('no line of a report')
 
 
-def outcome_at(stream, number, called):
-    """The outcome of the event of that number, which is the next line of the report."""
-    try:
-        line = stream.readline(REPORT_LINE_BYTES)
-    except OSError as error:
-        raise Failed('%s could not be read: %s' % (called, error.strerror)) from error
-    if line == b'':
-        raise Failed('%s is no report of this schedule: it ends before event %d' % (called, number))
-    found = EVENT_LINE.match(line.rstrip(b'\n').decode('ascii', 'replace'))
-    if found is None:
-        raise Failed('%s is no report: its line %d is no line of an event' % (called, number)
-                     if line[:1] not in (b'j', b'n') else
-                     '%s is no report of this schedule: it ends before event %d' % (called, number))
-    if int(found.group(1)) != number:
-        raise Failed('%s is no report: its line %d is not that of event %d' % (called, number, number))
-    return Outcome(found.group(2), found.group(3), [int(k) for k in (found.group(4) or '').split()])
+def read_report(path):
+    """The report of a file, whole."""
+    data = read_bytes(path, REPORT_BYTES)
+    if len(data) > REPORT_BYTES:
+        raise Failed('%s has more than %d bytes' % (shown(path), REPORT_BYTES))
+    return report_in(data, shown(path))
 
 
-def misfit(schedule, run, at):
-    """Why the last outcome of the run is none of its event; None where it may be one."""
-    event, outcome = schedule.events[at], run.outcomes[at]
-    before = len(run.sent_by) - len(outcome.sent)
-    if outcome.sent != list(range(before, len(run.sent_by))):
-        return 'sends other packets than the next ones from %d on' % before
-    if outcome.who == '-':
-        return None if outcome.text == 'nothing' and not outcome.sent else 'has no actor, and an outcome'
-    if event.actor() not in (None, outcome.who):
-        return 'is of %s, and the event of %s' % (outcome.who, event.actor())
-    if event.verb == 'tell' and run.packet_of[at] is None:
-        return 'has an actor, and its event tells a packet that was not sent'
-    if (event.verb == 'join') != (outcome.text == 'joined'):
-        return 'and its event do not agree on whether a session joined'
-    if schedule.head.is_direct() and event.verb == 'do' and not outcome.text.startswith('answered '):
-        return 'is none of the direct form'
-    return None
+def report_in(data, called):
+    """The report that the bytes are the text of: events, journal, namespace, and a last line that counts them."""
+    lines = Lines(io.BytesIO(data), called)
+    outcomes, journal, space = list(outcomes_of(lines)), [], []
+    while lines.begins('j'):
+        found = ITEM.fullmatch(lines.line)
+        if found is None or found[1] != str(len(journal) + 1):
+            raise lines.fault('no item %d of a journal' % (len(journal) + 1))
+        journal.append(lines.take())
+    while lines.begins('n', 'h'):
+        if NODE.fullmatch(lines.line) is None and HANDLE.fullmatch(lines.line) is None:
+            raise lines.fault('no line of a namespace')
+        space.append(lines.take())
+    look_at_end(lines, outcomes, journal, space)
+    return Report(outcomes, journal, space)
+
+
+def look_at_end(lines, outcomes, journal, space):
+    """The last line counts what stands before it."""
+    done = None if lines.line is None else DONE.fullmatch(lines.line)
+    if done is None:
+        raise lines.fault('a report ends with a line `done events ..`')
+    nodes = sum(line.startswith('n') for line in space)
+    for said, there, what in ((done[1], outcomes, 'events'), (done[2], journal, 'items of the journal')):
+        if int(said) != len(there):
+            raise lines.fault('the last line counts %s %s, and there are %d' % (said, what, len(there)))
+    if int(done[3]) != nodes:
+        raise lines.fault('the last line counts %s nodes, and there are %d' % (done[3], nodes))
+    lines.step()
+    if lines.line is not None:
+        raise lines.fault('something follows the last line of a report')

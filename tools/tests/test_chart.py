@@ -7,11 +7,11 @@ import re
 import shutil
 import subprocess
 import sys
-import tempfile
 import unittest
 
-ROOT = os.path.dirname(os.path.dirname(os.path.dirname(os.path.abspath(__file__))))
-CHART = os.path.join(ROOT, "tools", "chart")
+import trying
+from trying import ROOT, Folder
+
 EXAMPLES = sorted(path[:-len(".schedule")] for path in glob.glob(os.path.join(ROOT, "examples", "*.schedule")))
 LEASES = os.path.join(ROOT, "examples", "leases")
 BROWSER = next(filter(None, map(shutil.which, ("chromium", "chromium-browser", "google-chrome"))), None)
@@ -20,8 +20,8 @@ DATA = re.compile(r'<script type="application/json" id="data">(.*?)</script>', r
 
 def chart(*words):
     """What the tool prints, its words on standard error, its status."""
-    ended = subprocess.run([sys.executable, CHART, *words], stdout=subprocess.PIPE, stderr=subprocess.PIPE, check=False)
-    return ended.stdout.decode("utf-8"), ended.stderr.decode("utf-8"), ended.returncode
+    status, output, errors = trying.tool("chart", *words)
+    return output, errors, status
 
 
 def data_in(page):
@@ -66,21 +66,6 @@ def long_run(events, sessions):
     schedule = "farsite 1 servers 1 skew 10 term 100\n" + "".join(f"{k} {line}\n" for k, line in enumerate(lines))
     report = "".join(f"e{k} {line}\n" for k, line in enumerate(outcomes, 1))
     return schedule, report + f"n / dir 0 0\ndone events {len(lines)} journal 0 nodes 1\n"
-
-
-class Folder(unittest.TestCase):
-    """Tests with a folder for files."""
-
-    def setUp(self):
-        self.folder = tempfile.mkdtemp()
-        self.addCleanup(shutil.rmtree, self.folder)
-
-    def file(self, name, content):
-        """The path of a new file with the bytes."""
-        path = os.path.join(self.folder, name)
-        with open(path, "wb") as file:
-            file.write(content if isinstance(content, bytes) else content.encode("utf-8"))
-        return path
 
 
 class Pages(Folder):
@@ -171,7 +156,7 @@ class Launched(Folder):
         ended = self.launched("echo 'farsite: line 3 is not in the grammar' >&2; exit 3\n")
         self.assertEqual((ended.stdout, ended.returncode), (b"", 2))
         self.assertEqual(ended.stderr.decode("utf-8"), "farsite: line 3 is not in the grammar\n"
-                         "chart: the program ended with status 3, so there is nothing to draw\n")
+                         f"tools/chart: {self.folder}/farsite replay ended with 3, without a report\n")
 
 
 class Diagrams(Folder):
@@ -210,19 +195,21 @@ class WrongInput(Folder):
         """The tool refuses the words with one line that says so."""
         out, said, status = chart(*words)
         self.assertEqual((out, status), ("", 2))
-        self.assertRegex(said, r"\Achart: [^\n]*\n\Z")
+        self.assertRegex(said, r"\Atools/chart: [^\n]*\n\Z")
         self.assertIn(says, said)
 
     def test_files_that_are_none(self):
-        self.refused(os.path.join(self.folder, "none"), says="cannot be read")
-        self.refused(self.folder, says="cannot be read")
-        self.refused(LEASES + ".schedule", os.path.join(self.folder, "none"), says="cannot be read")
+        self.refused(os.path.join(self.folder, "none"), says="could not be read")
+        self.refused(self.folder, says="could not be read")
+        self.refused(LEASES + ".schedule", os.path.join(self.folder, "none"), says="could not be read")
 
     def test_bytes_that_are_no_text(self):
         wrong = self.file("wrong", b"farsite 1 direct\n0 join \xff\n")
-        self.refused(wrong, LEASES + ".report", says="line 2: byte 0xff")
-        self.refused(LEASES + ".schedule", wrong, says="line 2: byte 0xff")
-        self.refused(self.file("crlf", b"farsite 1 direct\r\n"), LEASES + ".report", says="line 1: byte 0x0d")
+        self.refused(wrong, LEASES + ".report",
+                     says="line 2 is not in the grammar: a session is `c` and its number; its byte 0xff")
+        self.refused(LEASES + ".schedule", self.file("wrong2", b"e1 c1 joined\ne2 c1 \xff\n"), says="line 2: byte 0xff")
+        self.refused(self.file("crlf", b"farsite 1 direct\r\n"), LEASES + ".report",
+                     says="line 1 is not in the grammar: the line ends in a carriage return")
         self.refused(self.file("mark", b"\xef\xbb\xbffarsite 1 direct\n"), LEASES + ".report", says="byte order mark")
 
     def test_a_gigabyte(self):
@@ -235,18 +222,21 @@ class WrongInput(Folder):
         self.refused(self.file("empty", b""), LEASES + ".report", says="line 1")
         self.refused(LEASES + ".schedule", self.file("empty", b""), says="empty")
         self.refused(LEASES + ".report", LEASES + ".schedule", says="line 1")
-        self.refused(LEASES + ".schedule", LEASES + ".schedule", says="a report ends with")
-        self.refused(self.file("kind", "farsite 1 direct\n0 jump c1\n"), LEASES + ".report", says="line 2: no event")
+        self.refused(LEASES + ".schedule", LEASES + ".schedule", says="line 1: no line of a report")
+        cut = read(LEASES + ".report").rpartition("done")[0]
+        self.refused(LEASES + ".schedule", self.file("cut", cut), says="a report ends with")
+        self.refused(self.file("kind", "farsite 1 direct\n0 jump c1\n"), LEASES + ".report",
+                     says="line 2 is not in the grammar: this is no event")
 
     def test_a_report_of_another_schedule(self):
-        self.refused(LEASES + ".schedule", LEASES.replace("leases", "first") + ".report", says="another schedule")
+        self.refused(LEASES + ".schedule", LEASES.replace("leases", "first") + ".report", says="no report of this schedule")
         swapped = read(LEASES + ".schedule").replace("3 tell 1", "3 turn s0")
         self.refused(self.file("a.schedule", swapped), LEASES + ".report", says="event 4 is `turn s0`")
         numbered = read(LEASES + ".report").replace("sends 3", "sends 7")
         self.refused(LEASES + ".schedule", self.file("a.report", numbered), says="sends packet 7")
 
     def test_an_output_that_cannot_be_written(self):
-        self.refused(LEASES + ".schedule", LEASES + ".report", "--output", self.folder, says="cannot be written")
+        self.refused(LEASES + ".schedule", LEASES + ".report", "--output", self.folder, says="could not be written")
 
 
 def text_of(name):

@@ -1,20 +1,18 @@
 """Tests of tools/diff: where runs part, and answers to wrong input."""
+import itertools
 import os
-import shutil
-import subprocess
-import sys
-import tempfile
 import unittest
 
-ROOT = os.path.dirname(os.path.dirname(os.path.dirname(os.path.abspath(__file__))))
-DIFF = os.path.join(ROOT, "tools", "diff")
+import trying
+from trying import ROOT, Folder
+
 LEASES = os.path.join(ROOT, "examples", "leases.report")
 
 
 def diff(*words):
     """What the tool prints, its words on standard error, its status."""
-    ended = subprocess.run([sys.executable, DIFF, *words], stdout=subprocess.PIPE, stderr=subprocess.PIPE, check=False)
-    return ended.stdout.decode("utf-8"), ended.stderr.decode("utf-8"), ended.returncode
+    status, output, errors = trying.tool("diff", *words)
+    return output, errors, status
 
 
 def leases():
@@ -23,19 +21,14 @@ def leases():
         return file.read()
 
 
-class Diff(unittest.TestCase):
+class Diff(Folder):
     """Tests with a folder for reports."""
 
-    def setUp(self):
-        self.folder = tempfile.mkdtemp()
-        self.addCleanup(shutil.rmtree, self.folder)
+    NAMES = itertools.count(1)
 
     def file(self, content):
-        """The path of a new file with the text or bytes."""
-        handle, path = tempfile.mkstemp(dir=self.folder)
-        with os.fdopen(handle, "wb") as file:
-            file.write(content if isinstance(content, bytes) else content.encode("utf-8"))
-        return path
+        """The path of a new file with the text or the bytes."""
+        return super().file(f"{next(self.NAMES)}.report", content)
 
     def test_the_same(self):
         self.assertEqual(diff(LEASES, LEASES), ("The two reports are the same: 9 events, 2 items of the journal.\n", "", 0))
@@ -75,18 +68,20 @@ class Diff(unittest.TestCase):
         big = self.file(b"")
         os.truncate(big, 1 << 30)
         cases = [
-            (os.path.join(self.folder, "none"), "cannot be read"), (self.folder, "cannot be read"),
+            (os.path.join(self.folder, "none"), "could not be read"), (self.folder, "could not be read"),
             (self.file(b""), "empty"), (self.file(b"e1 c1 \xff\n"), "line 1: byte 0xff"),
-            (LEASES.replace(".report", ".schedule"), "a report ends with"), (big, "more than 268435456 bytes"),
+            (LEASES.replace(".report", ".schedule"), "line 1: no line of a report"),
+            (self.file(leases().rpartition("done")[0]), "a report ends with"), (big, "more than 268435456 bytes"),
             (self.file(leases().replace("e3 ", "e4 ", 1)), "line 3: no outcome of event 3"),
             (self.file(leases().replace("nodes 2", "nodes 3")), "counts 3 nodes"),
-            (self.file(leases().replace("events 9", "events 99999999999999999999")), "no outcome of event 10")]
+            (self.file(leases().replace("events 9", "events 99999999999999999999")), "counts 99999999999999999999 events"),
+            (self.file(leases() + "n /2 dir 0 0\n"), "something follows the last line")]
         for path, says in cases:
             for words in ((path, LEASES), (LEASES, path)):
                 with self.subTest(says=says, first=words[0] is path):
                     out, said, status = diff(*words)
                     self.assertEqual((out, status), ("", 2))
-                    self.assertRegex(said, r"\Adiff: [^\n]*\n\Z")
+                    self.assertRegex(said, r"\Atools/diff: [^\n]*\n\Z")
                     self.assertIn(says, said)
 
 

@@ -1,4 +1,5 @@
 """Tests of tools/explain and of the reader that the tools share."""
+import functools
 import io
 import os
 import re
@@ -7,7 +8,7 @@ import tempfile
 import unittest
 
 import trying
-from common import files, grammar, operands, reports
+from common import files, grammar, operands, runs
 from common.random_numbers import Random
 
 explain = trying.module('explain')
@@ -56,10 +57,10 @@ FAULTS = [
 ]
 
 
-def fault_of(data):
+def fault_of(data, of_later=False):
     """What is wrong with the bytes; None where they are a schedule."""
     try:
-        grammar.read_schedule(data)
+        grammar.read_schedule(data, of_later)
     except grammar.Fault as fault:
         return fault
     return None
@@ -103,26 +104,36 @@ class Reading(unittest.TestCase):
         self.assertEqual(tuple(name.lower() for name in refused), grammar.NOT_WITH_SERVERS)
 
 
+@functools.lru_cache(None)
+def case_at(path):
+    """The schedule of a case and None, or None and what the program that there is refuses."""
+    data = trying.bytes_of(path)
+    try:
+        return grammar.read_schedule(data), None
+    except grammar.Fault as fault:
+        return None, fault
+
+
 class Agreeing(unittest.TestCase):
     @unittest.skipUnless(os.path.isdir(trying.CONFORMANCE), 'no ../shared/conformance')
     def test_it_agrees_with_the_program_on_every_case(self):
         for path, said in trying.conformance_cases():
-            fault = fault_of(trying.bytes_of(path))
+            fault = case_at(path)[1]
             if not said and fault is not None and self.is_of_later(path, fault):
-                continue
+                fault = fault_of(trying.bytes_of(path), of_later=True)
             self.assertEqual('farsite: %s' % fault if fault else '', said, path)
 
     @unittest.skipUnless(os.path.isdir(trying.CONFORMANCE), 'no ../shared/conformance')
     def test_with_a_report_it_finds_every_line_that_does_nothing(self):
+        """Also with deletes and renames with servers, which a later program has."""
         for path, said in trying.conformance_cases():
-            data = trying.bytes_of(path)
-            if said or fault_of(data):
+            if said:
                 continue
-            schedule = grammar.read_schedule(data)
+            schedule = case_at(path)[0] or grammar.read_schedule(trying.bytes_of(path), of_later=True)
             with open(path[:-len('schedule')] + 'out', 'rb') as stream:
-                run = reports.read_run(schedule, stream, path)
+                run = runs.run_in(schedule, stream, path)
             told = [line for line in explain.warnings(schedule, run) if 'does nothing' in line]
-            idle = ['line %d ' % at for at, outcome in enumerate(run.outcomes, 2) if outcome.who == '-']
+            idle = ['line %d ' % at for at, outcome in enumerate(run.outcomes, 2) if outcome.actor is None]
             self.assertEqual([line[:len(start)] for line, start in zip(told, idle)], idle, path)
             self.assertEqual(len(told), len(idle), path)
 
@@ -159,7 +170,7 @@ class Agreeing(unittest.TestCase):
 class Warnings(unittest.TestCase):
     def warnings(self, text, report=None):
         schedule = grammar.read_schedule(text.encode())
-        run = reports.read_run(schedule, io.BytesIO(report.encode()), 'REPORT') if report else None
+        run = runs.run_in(schedule, io.BytesIO(report.encode()), 'REPORT') if report else None
         return list(explain.warnings(schedule, run))
 
     def test_sessions_without_a_report(self):
@@ -215,7 +226,7 @@ class Hostile(unittest.TestCase):
             schedule = grammar.read_schedule(trying.bytes_of(self.example))
             with open(report, 'rb') as stream:
                 with self.assertRaisesRegex(files.Failed, 'is no report'):
-                    reports.read_run(schedule, stream, report)
+                    runs.run_in(schedule, stream, report)
 
     def test_files_that_are_not_there(self):
         status, _, errors = self.explained(self.example, os.path.join(self.folder.name, 'none'))

@@ -5,7 +5,7 @@ from unittest import mock
 
 import toy
 import trying
-from common import files, grammar, reports
+from common import files, grammar, runs
 from common.random_numbers import Random
 
 make = trying.module('make')
@@ -50,11 +50,11 @@ class Made(unittest.TestCase):
         with mock.patch.object(files, 'report_of', lambda command, data: toy.report_of(data)):
             data = made(5, 400, command=['toy'])
         schedule = grammar.read_schedule(data)
-        run = reports.read_run(schedule, io.BytesIO(toy.report_of(data)), 'the report')
+        run = runs.run_in(schedule, io.BytesIO(toy.report_of(data)), 'the report')
         self.assertNotIn(None, run.packet_of.values())
-        self.assertTrue(any(len(told) > 1 for told in run.told_by))
-        self.assertTrue(any(not told for told in run.told_by[:-20]))
-        first = [told[0] for told in run.told_by if told]
+        self.assertTrue(any(len(packet.told_at) > 1 for packet in run.packets))
+        self.assertTrue(any(not packet.told_at for packet in run.packets[:-20]))
+        first = [packet.told_at[0] for packet in run.packets if packet.told_at]
         self.assertNotEqual(first, sorted(first))
 
 

@@ -58,13 +58,22 @@ class Telling(unittest.TestCase):
         for name in tools():
             status, output, errors = trying.called(os.path.join(trying.TOOLS, name), '--help')
             self.assertEqual((status, errors), (0, ''), name)
-            if name in ('explain', 'make', 'shrink'):
-                self.assertIn('no part of any proof', ' '.join(output.split()), name)
+            self.assertIn('no part of any proof', ' '.join(output.split()), name)
+
+    def test_the_folder_holds_the_tools_alone(self):
+        self.assertEqual(sorted(os.listdir(trying.TOOLS)), sorted([*tools(), 'common', 'completion.bash', 'test', 'tests']))
 
     def test_each_tool_is_in_the_reference(self):
         reference = trying.text_of(os.path.join(trying.ROOT, 'docs', 'REFERENCE.md'))
         for name in tools():
             self.assertTrue('tools/%s' % name in reference, name)
+
+    def test_each_tool_is_in_the_man_page_and_can_be_completed(self):
+        page, completion = trying.text_of(MAN_PAGE), trying.text_of(COMPLETION)
+        names = completion.split('for _farsite_name in ')[1].split(';')[0].split()
+        self.assertEqual(sorted(names), tools())
+        for name in tools():
+            self.assertTrue('tools/%s' % name in page, name)
 
 
 if __name__ == '__main__':

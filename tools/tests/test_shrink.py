@@ -8,7 +8,7 @@ from unittest import mock
 
 import toy
 import trying
-from common import files, grammar, reports
+from common import files, grammar, runs
 from common.random_numbers import Random
 
 shrink = trying.module('shrink')
@@ -31,7 +31,7 @@ def shrunk(data, test, exact=True):
     schedule = grammar.read_schedule(data)
     run = None
     if not schedule.head.is_direct():
-        run = reports.read_run(schedule, io.BytesIO(toy.report_of(data)), 'the report')
+        run = runs.run_in(schedule, io.BytesIO(toy.report_of(data)), 'the report')
     numbers = shrink.Numbers(['toy'] if exact else None, run)
     shrinker = shrink.Shrinker(data, shrink.pieces_of(schedule, run), schedule.head, numbers, Fails(test))
     with mock.patch.object(files, 'report_of', lambda command, text: toy.report_of(text)), \
@@ -90,7 +90,7 @@ class Shrunk(unittest.TestCase):
             schedule = grammar.read_schedule(data)
             run = None
             if not schedule.head.is_direct():
-                run = reports.read_run(schedule, io.BytesIO(trying.bytes_of(report)), report)
+                run = runs.run_in(schedule, io.BytesIO(trying.bytes_of(report)), report)
             shrinker = shrink.Shrinker(data, shrink.pieces_of(schedule, run), schedule.head,
                                        shrink.Numbers(None, run), Fails(lambda text: b'create' in text))
             with mock.patch.object(shrink, 'say', lambda text: None):

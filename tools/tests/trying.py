@@ -3,8 +3,11 @@ import glob
 import importlib.machinery
 import importlib.util
 import os
+import shutil
 import subprocess
 import sys
+import tempfile
+import unittest
 
 TOOLS = os.path.dirname(os.path.dirname(os.path.abspath(__file__)))
 ROOT = os.path.dirname(TOOLS)
@@ -12,6 +15,21 @@ CONFORMANCE = os.path.join(os.path.dirname(ROOT), 'shared', 'conformance')
 # A call that takes longer hangs; a loaded machine is slow.
 SECONDS = 300
 sys.path[:0] = [path for path in (TOOLS,) if path not in sys.path]
+
+
+class Folder(unittest.TestCase):
+    """Tests with a folder for files."""
+
+    def setUp(self):
+        self.folder = tempfile.mkdtemp()
+        self.addCleanup(shutil.rmtree, self.folder)
+
+    def file(self, name, content):
+        """The path of a new file with the text or the bytes."""
+        path = os.path.join(self.folder, name)
+        with open(path, 'wb') as file:
+            file.write(content if isinstance(content, bytes) else content.encode('utf-8'))
+        return path
 
 
 def module(name):

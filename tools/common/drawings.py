@@ -1,11 +1,9 @@
-"""Drawings of a run of Farsite as text: a sequence diagram for Mermaid, a still picture, and the tree at the end.
-
-For the tools of this folder; no part of any proof.
-"""
+"""Drawings of a run of Farsite as text: a sequence diagram for Mermaid, a still picture, and the tree at the end."""
 import html
 import re
 
-from farsite_report import HANDLE, NODE, Trouble
+from common.files import Failed
+from common.reports import HANDLE, NODE
 
 # A still picture: the width of a letter, the height of a row, the distance of two lanes, and what is no picture any more.
 LETTER, ROW, PITCH, TOP = 6.7, 24, 120, 34
@@ -39,7 +37,7 @@ def mermaid(run):
     """A sequence diagram: one arrow where a packet is told, one note where an actor acts by itself."""
     lines = ["sequenceDiagram"] + [f"    participant {actor}" for actor in run.actors()]
     came = {at: packet for packet in run.packets for at in packet.told_at}
-    for event, outcome in zip(run.schedule.events, run.report.outcomes):
+    for event, outcome in zip(run.schedule.events, run.outcomes):
         lines.append("    " + mermaid_event(event, outcome, came.get(event.number), run))
         for packet in (run.packets[number] for number in outcome.sends):
             if not packet.told_at:
@@ -53,7 +51,7 @@ def mermaid_event(event, outcome, packet, run):
     if packet:
         again = " again" if event.number != packet.told_at[0] else ", overtaken" if packet.overtaken else ""
         return f"{packet.sender}->>{outcome.actor}: e{event.number} packet {packet.number}{again}: {text}"
-    words = mermaid_text(event.words)
+    words = mermaid_text(event.text)
     if outcome.actor is None:
         # Nobody acted: the note stands over all.
         all_actors = run.actors() or ["nobody"]
@@ -80,11 +78,11 @@ def svg(run, title):
     """The run as a picture of its own, on light or dark ground as the reader has it."""
     events, actors = run.schedule.events, run.actors()
     if len(events) > MOST_EVENTS or len(actors) > MOST_ACTORS:
-        raise Trouble(f"a still picture has at most {MOST_EVENTS} events and {MOST_ACTORS} actors")
-    words = [f"{event.number:>3} {event.words}" for event in events]
+        raise Failed(f"a still picture has at most {MOST_EVENTS} events and {MOST_ACTORS} actors")
+    words = [f"{event.number:>3} {event.text}" for event in events]
     left = max([len(text) for text in words] or [0]) * LETTER + 16
     right = left + PITCH * len(actors)
-    width = right + max([len(outcome.text) for outcome in run.report.outcomes] or [0]) * LETTER + 16
+    width = right + max([len(outcome.text) for outcome in run.outcomes] or [0]) * LETTER + 16
     lanes = {actor: left + PITCH * (k + 0.5) for k, actor in enumerate(actors)}
     height = TOP + ROW * len(events) + 10
     parts = [f'<svg xmlns="http://www.w3.org/2000/svg" viewBox="0 0 {width:.0f} {height}" '
@@ -96,7 +94,7 @@ def svg(run, title):
         parts.append(f'<path class="life" d="M{x:.1f} {TOP - 6}V{height - 6}"/>')
     for packet in run.packets:
         parts.extend(svg_packet(packet, lanes))
-    for event, outcome, text in zip(events, run.report.outcomes, words):
+    for event, outcome, text in zip(events, run.outcomes, words):
         parts.extend(svg_event(event.number, outcome, text, lanes, right))
     return "\n".join(parts + ["</svg>"]) + "\n"
 

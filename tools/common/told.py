@@ -1,6 +1,6 @@
 """What the outcomes of a run tell of each actor: leases, log and answers of a session, leases given by a server.
 
-For the tools of this folder; no part of any proof. Each event is turned into a few changes of what is known of its actor, so
+Each event is turned into a few changes of what is known of its actor, so
 that what is known at an event is all changes of that actor up to it. Where the outcomes leave open which leases are
 meant, a change of the kind `note` says so in words, and the leases stay as they were.
 
@@ -18,8 +18,8 @@ A change is a list: its kind, and what it changes.
 """
 import re
 
-from farsite_report import needs_of
-
+MESSAGES = re.compile(r'(?:"[^"]*"|[^";]|;(?! ))+')
+NEEDS = re.compile(r'(?:"[^"]*"|[^",]|,(?! ))+')
 NEED = re.compile(r'(\S+) (/[0-9/]*)(?: "[^"]*")?.*')
 MOVED = re.compile(r"moved (/[0-9/]*) (s[0-9]+)")
 
@@ -53,12 +53,12 @@ class Telling:
     def all_changes(self):
         """A list of changes for each event."""
         every = []
-        for event, outcome in zip(self.run.schedule.events, self.run.report.outcomes):
+        for event, outcome in zip(self.run.schedule.events, self.run.outcomes):
             self.changes = []
             if outcome.actor:
                 actor = self.actors[outcome.actor]
                 actor.now = max(actor.now, event.reading)
-                for note in outcome.notes():
+                for note in notes_of(outcome.text):
                     self.one_note(actor, event, note)
             every.append(self.changes)
         return every
@@ -86,13 +86,13 @@ class Telling:
 
     def client_replied(self, _actor, event, number, reply):
         """An answer that is an entry of the log."""
-        operation = event.words.split(" ", 2)[2]
+        operation = event.text.split(" ", 2)[2]
         self.say("log", number, operation)
         self.say("answer", number, operation, reply)
 
     def client_read(self, _actor, event, number, reply):
         """An answer that is admitted at once."""
-        self.say("answer", number, event.words.split(" ", 2)[2], reply)
+        self.say("answer", number, event.text.split(" ", 2)[2], reply)
 
     client_answered = client_read
 
@@ -264,6 +264,16 @@ class Telling:
                     self.say("lease", lease.number, lease.field, lease.kind, lease.until, session)
                 break
         self.say("note", f"Has all below {prefix} from now on.")
+
+
+def notes_of(text):
+    """What each message came to, where one packet brought several."""
+    return [part.strip(" ") for part in MESSAGES.findall(text)]
+
+
+def needs_of(text):
+    """The parts of a list of needs, cut at each comma and space outside names."""
+    return [part.strip(" ") for part in NEEDS.findall(text)]
 
 
 def parts_of(need):
