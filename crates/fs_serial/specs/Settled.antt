@@ -1,6 +1,7 @@
 -- A client as it will be once the answer that is due to it is told.
-use Rattle.std.specs.Prelude.{ℕ, zero, suc, List, [], ◌∷◌, ◌++◌, map, Option, None, option_map, if◌then◌else◌}
+use Rattle.std.specs.Prelude.{◌≡◌, ℕ, zero, suc, List, [], ◌∷◌, ◌++◌, map, Option, None, option_map, if◌then◌else◌}
 use Rattle.std.specs.List.{filter_map, list_any}
+use Rattle.fs_ident.specs.In.{In}
 use Rattle.fs_ident.specs.declared.actor.LeaseNo.{LeaseNo}
 use Rattle.fs_ident.specs.declared.actor.Session.{Session}
 use Rattle.fs_field.specs.declared.effect.Effect.{Effect}
@@ -90,3 +91,14 @@ told by answer d = d
 abbrev pub settled : Session → List Answer → Settled → Settled
 settled by [] d = d
 settled by (a ∷ rest) d = settled by rest (told by a d)
+
+-- ## What it has
+
+-- a lease with this number, on this field, of this kind, that ends then
+pub record HasLeaseAs (leases : List Lease) (wanted : LeaseNo) (on : Field) (of : LeaseKind) (end : ℕ) : Type 0 where
+  pub lease : Lease
+  pub held : In lease leases
+  pub number : lease.no ≡ wanted
+  pub field : lease.field ≡ on
+  pub kind : lease.kind ≡ of
+  pub until : lease.until ≡ end

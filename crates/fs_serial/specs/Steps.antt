@@ -1,5 +1,5 @@
 -- When a kind of step happens.
-use Rattle.std.specs.Prelude.{◌≡◌, ◌≢◌, ℕ, ◌+◌, ◌≤◌, true, false, List, [], ◌∷◌, length, Some, None}
+use Rattle.std.specs.Prelude.{◌≡◌, ◌≢◌, ℕ, ◌+◌, ◌≤◌, true, false, List, [], ◌∷◌, length, map, Some, None}
 use Rattle.std.specs.List.{AllByRecursion}
 use Rattle.fs_ident.specs.declared.actor.Session.{Session}
 use Rattle.fs_ident.specs.In.{In}
@@ -7,13 +7,15 @@ use Rattle.fs_field.specs.declared.row.Row.{Row}
 use Rattle.fs_field.specs.declared.used.Use.{Use}
 use Rattle.fs_client.specs.declared.state.Client.{Client}
 use Rattle.fs_model.specs.Asking.{may_ask}
+use Rattle.fs_model.specs.Namespace.{NodeMap}
 use Rattle.fs_model.specs.Sound.{is_change}
 use Rattle.fs_model.specs.declared.op.Op.{Op}
 use Rattle.fs_model.specs.declared.reply.Reply.{Reply}
+use Rattle.fs_msg.specs.Journal.{IsSerialRun}
 use Rattle.fs_msg.specs.declared.answer.Answer.{Answer}
 use Rattle.fs_msg.specs.declared.entry.Entry.{Entry}
 use Rattle.fs_record.specs.Effects.{tells_its_effects}
-use Rattle.fs_server.specs.Ships.{first_gone}
+use Rattle.fs_server.specs.Ships.{first_gone, item_of}
 use Rattle.fs_server.specs.declared.state.Server.{Server}
 use Rattle.fs_view.specs.View.{reply_in}
 use Rattle.fs_serial.specs.Exchange.{admitted_in}
@@ -48,3 +50,7 @@ pub record HadEnded (rows : List Row) (now : ℕ) (e : Entry) (u : Use) : Type 0
 -- the rows of all leases that the entries used stand
 abbrev pub AllStand : List Row → Session → List Entry → Type 0
 AllStand rows by entries = AllByRecursion (λ (e : Entry). first_gone rows by e.uses ≡ None) entries
+
+-- the entries' replies are the namespace's, one after another from these nodes on
+abbrev pub AreRepliesFrom : NodeMap → Session → List Entry → Type 0
+AreRepliesFrom nodes by entries = (last : NodeMap) × IsSerialRun nodes (map (item_of by) entries) last

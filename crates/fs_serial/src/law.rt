@@ -1,5 +1,5 @@
 //! Laws of the kinds of step: where all parts hold before it, all parts hold after it.
-ghost use Rattle.std.specs.Prelude.{length, ◌≡◌, ◌≢◌, ◌<◌, ◌≤◌, ◌+◌, ℕ, max, slice_get, Bool, true, false, List, [], ◌∷◌, ◌++◌, Some, None};
+ghost use Rattle.std.specs.Prelude.{Option, length, ◌≡◌, ◌≢◌, ◌<◌, ◌≤◌, ◌+◌, ℕ, max, slice_get, Bool, true, false, List, [], ◌∷◌, ◌++◌, Some, None};
 ghost use Rattle.std.specs.List.{list_all};
 ghost use Rattle.fs_ident.specs.In.{In};
 ghost use Rattle.fs_ident.specs.declared.actor.Session.{Session};
@@ -10,16 +10,23 @@ ghost use Rattle.fs_field.specs.declared.used.Use.{Use};
 ghost use Rattle.fs_field.specs.declared.value.Value.TheVariants as value;
 ghost use Rattle.fs_moderows.specs.Answer.{reap_blocker};
 ghost use Rattle.fs_modes.specs.declared.modes.Mode.{Mode};
+ghost use Rattle.fs_lease.specs.Lease.{Lease as Term};
+ghost use Rattle.fs_view.specs.Kept.{lease_of};
+ghost use Rattle.fs_view.specs.declared.kept.Kept.{Kept};
 ghost use Rattle.fs_client.specs.Acts.{entry_of, replies};
 ghost use Rattle.fs_client.specs.Client.{changed};
 ghost use Rattle.fs_client.specs.declared.state.Client.{Client};
 ghost use Rattle.fs_model.specs.declared.op.Op.{Op};
 ghost use Rattle.fs_model.specs.declared.reply.Reply.{Reply};
 ghost use Rattle.fs_msg.specs.declared.answer.Answer.{Answer};
+ghost use Rattle.fs_msg.specs.declared.answer.Answer.TheVariants.{Granted};
+ghost use Rattle.fs_msg.specs.declared.answer.Grant.{Grant};
 ghost use Rattle.fs_msg.specs.declared.client_msg.ClientMsg.TheVariants.{Ship};
+ghost use Rattle.fs_msg.specs.declared.end.End.{End};
 ghost use Rattle.fs_msg.specs.declared.entry.Entry.{Entry};
 ghost use Rattle.fs_msg.specs.declared.item.Item.{Item};
 ghost use Rattle.fs_record.specs.Effects.{tells_its_effects};
+ghost use Rattle.fs_record.specs.Records.{nodes_of};
 ghost use Rattle.fs_record.specs.ValueOf.{selves_in, value_of};
 ghost use Rattle.fs_msg.specs.declared.peer_msg.PeerMsg.TheVariants.{Parcel as OfParcel};
 ghost use Rattle.fs_parcel.specs.Parcel.{move_refusal};
@@ -41,13 +48,14 @@ ghost use Rattle.fs_serial.specs.Cluster.{CanCome, ClientEvent, Cluster, IsThere
 ghost use Rattle.fs_serial.specs.Cluster.ClientEvent.{Hears};
 ghost use Rattle.fs_serial.specs.Laws.{GiftIsRelied, GiftIsTold, GiftKeepsParts, GiftReturnsNone};
 ghost use Rattle.fs_serial.specs.Parts.{AllHold, ServersFit, ServersHold, SessionFits, with_client, with_replies};
-ghost use Rattle.fs_serial.specs.Settled.{Settled, acknowledged, settled, settled_now};
+ghost use Rattle.fs_serial.specs.Settled.{HasLeaseAs, Settled, acknowledged, settled, settled_now};
 ghost use Rattle.fs_serial.specs.Places.{PlacesHold};
 ghost use Rattle.fs_serial.specs.Runs.{Dated, IsOneSerialRun, IsRun, greatest_in, held_by, run};
-ghost use Rattle.fs_serial.specs.Seen.{ClusterHolds, with_all};
+ghost use Rattle.fs_serial.specs.Seen.{ClusterHolds, ends_of, with_all};
 ghost use Rattle.fs_serial.specs.Sight.{Counts, Sight, sight_of};
 ghost use Rattle.fs_serial.specs.Refusals.{IsFairStep, rows_in};
-ghost use Rattle.fs_serial.specs.Steps.{AllStand, HadEnded, IsAdmitted, IsReplied};
+ghost use Rattle.fs_serial.specs.Steps.{AllStand, AreRepliesFrom, HadEnded, IsAdmitted, IsReplied};
+ghost use Rattle.fs_serial.specs.World.{settled_at};
 
 /// A fresh identifier that a directory gives to a session, with an exclusive lease on the life of the file. Whoever relied
 /// on what was before can go on, no lease that goes back is given, and the session is told just that lease.
@@ -218,4 +226,30 @@ pub fn every_run_is_one_serial_run()
     ensures { (servers skew term : ℕ) (events : List Dated) → 1 ≤ servers →
         IsRun skew 0 events (first_cluster servers skew term) →
         IsOneSerialRun (run events (first_cluster servers skew term)) }
+{}
+
+/// What a session has pending is one serial run on from the namespace that the servers hold together: as far as the rows of the
+/// leases that they used stand, each entry's reply is the namespace's, behind the session's entries before it.
+pub fn pending_replies_are_the_namespaces()
+    ensures one { (o : Counts) (skew greatest : ℕ) (replied : Session → List Item) (by : Session)
+        (rest front : List Entry) (s : Server) (journal : List Item)
+        (clients : Session → Settled) → AllHold skew greatest (sight_of o s journal) replied clients →
+        (clients by).log ≡ front ++ rest → (clients by).over ≡ None →
+        AllStand s.rows by front → AreRepliesFrom (nodes_of s.records) by front }
+    ensures together { (skew greatest : ℕ) (c : Cluster) (by : Session) (front rest : List Entry)
+        (s : Server) → ClusterHolds skew greatest c → In s c.servers →
+        (settled_at by (ends_of (c.lines by))).log ≡ front ++ rest →
+        (settled_at by (ends_of (c.lines by))).over ≡ None →
+        AllStand (rows_in c) by front → AreRepliesFrom (nodes_of (held_by c)) by front }
+{}
+
+/// No lease is passed over: each that a client has and that does not go back is one of the client as it will be, and so is each that
+/// is granted to it on the way, with its number, field, kind and end.
+pub fn no_lease_is_passed_over()
+    ensures held { (by : Session) (c : Client) (down : List Answer) (k : Kept) (l : Term) →
+        In k c.view.leases → lease_of k.standing ≡ Some l →
+        HasLeaseAs (settled by down (settled_now c)).leases l.no l.field l.kind l.until }
+    ensures granted { (by : Session) (down : List Answer) (d : Settled) (grants : List Grant)
+        (fresh : Option (List ℕ)) (end : End) (g : Grant) → In (Granted grants fresh end) down →
+        In g grants → HasLeaseAs (settled by down d).leases g.no g.field g.kind g.until }
 {}
