@@ -1,9 +1,9 @@
 use crate::same;
 use fs_ident::List;
 use fs_io::{
-    Addr, Clock, Failed, Link, MemClock, MemSink, MemSource, ReadError, Sink, Source, StdinSource,
-    StdoutSink, SureLink, SureSink, SureSource, read_all, standard_input, standard_output,
-    write_all,
+    Addr, Clock, Failed, Link, MemClock, MemLink, MemSink, MemSource, ReadError, Sink, Source,
+    StdinSource, StdoutSink, SureLink, SureSink, SureSource, SystemClock, UdpLink, read_all,
+    standard_input, standard_output, write_all,
 };
 use std::alloc::Global;
 use std::io::{self, Read, Write};
@@ -156,6 +156,72 @@ fn are_kept(rt: &impl Abort, link: &mut SureLink, bytes: &[u8]) -> Result<(), Fa
 fn a_link_keeps_its_calls(rt: HostRuntime) -> Result<(), Fail> {
     let mut link = SureLink::new(rt.alloc(), Vec::new(rt.alloc()), 2)?;
     are_kept(&rt, &mut link, b"more")
+}
+
+/// A link of whose calls the second fails: whether each went, and whether each was kept as one that failed.
+fn goes_past_a_fault(rt: &impl Abort, link: &mut MemLink) -> Result<(), Fail> {
+    let went = [
+        link.bind(AT).is_ok(),
+        link.send(AT, b"lost").is_ok(),
+        link.send(AT, b"more").is_ok(),
+    ];
+    same(rt, went, [true, false, true]);
+    let [first, second, third] = link.calls() else {
+        return Err(Fail::from("three calls"));
+    };
+    same(
+        rt,
+        [first.failed, second.failed, third.failed],
+        [false, true, false],
+    );
+    Ok(())
+}
+
+#[test]
+fn a_planned_fault_of_a_link_is_kept(rt: HostRuntime) -> Result<(), Fail> {
+    let alloc = rt.alloc();
+    let mut link = MemLink::new(alloc, Vec::new(alloc), 3, vec![in alloc; 2]?)?;
+    goes_past_a_fault(&rt, &mut link)
+}
+
+const HERE: Addr = Addr {
+    ip: [127, 0, 0, 1],
+    port: 7102,
+};
+
+const THERE: Addr = Addr {
+    ip: [127, 0, 0, 1],
+    port: 7103,
+};
+
+/// A datagram goes from one link to the other, and then none waits.
+fn is_carried<A: Link, B: Link>(rt: &impl Abort, from: &mut A, to: &mut B) {
+    same(rt, from.send(HERE, b"hello").is_ok(), true);
+    let mut buf = [0; 1100];
+    same(rt, to.receive(&mut buf), Ok(Some((THERE, 5))));
+    same(rt, buf.starts_with(b"hello"), true);
+    same(rt, to.receive(&mut buf), Ok(None));
+}
+
+#[test]
+fn a_datagram_comes_over_a_socket(rt: HostRuntime) -> Result<(), Fail> {
+    let mut here = UdpLink::new(&rt);
+    let mut there = UdpLink::new(&rt);
+    same(&rt, there.send(HERE, b"unbound").is_err(), true);
+    same(
+        &rt,
+        here.bind(HERE).is_ok() && there.bind(THERE).is_ok(),
+        true,
+    );
+    same(&rt, UdpLink::new(&rt).bind(HERE).is_err(), true);
+    is_carried(&rt, &mut there, &mut here);
+    Ok(())
+}
+
+#[test]
+fn the_clock_of_the_system_tells_a_time(rt: HostRuntime) -> Result<(), Fail> {
+    same(&rt, SystemClock::new(&rt).now() > 1_577_836_800_000, true);
+    Ok(())
 }
 
 /// A reader and a writer of at most two bytes a call, of whose calls one fails.
