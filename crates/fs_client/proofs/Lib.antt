@@ -7,3 +7,4 @@ pub mod Planning
 pub mod FitsSteps
 pub mod Granted
 pub mod Keeping
+pub mod Refused

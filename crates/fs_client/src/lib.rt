@@ -12,6 +12,7 @@ mod exchange;
 mod fits;
 mod grants;
 mod home;
+mod law;
 mod live;
 mod needs;
 mod plan;
@@ -22,4 +23,5 @@ mod turns;
 
 pub use client_core::ClientCore;
 pub use exchange::Exchange;
+pub use law::{only_answers_refuse, only_the_refused_are_over, what_is_known_is_answered};
 pub use plan::{Plan, Ready};

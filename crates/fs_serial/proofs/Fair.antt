@@ -34,7 +34,7 @@ step_rows by es s = elim (list_all (λ (e : Entry). tells_its_effects e.op) es) 
 -- ## One that has begun
 
 begun_fair : (skew greatest k : ℕ) (by : Session) (entries : List Entry) (s : Server) (c : Cluster) → slice_get c.servers k ≡ Some s → greatest ≤ s.last + skew → IsThere k (event.FromClient by (Ship entries)) c → ClusterHolds skew greatest c
-    → IsFairNote (rows_in (after_step k (event.FromClient by (Ship entries)) (event_step (event.FromClient by (Ship entries)) s) c)) (event_step (event.FromClient by (Ship entries)) s).out.note
+    → IsFairNote (rows_in (after_step k (event.FromClient by (Ship entries)) (event_step (event.FromClient by (Ship entries)) s) c)) by s.last entries (event_step (event.FromClient by (Ship entries)) s).out.note
 begun_fair skew greatest k by entries s c at within there h =
     let e = event.FromClient by (Ship entries) in
     let i = In-got c.servers k s at in
@@ -42,11 +42,11 @@ begun_fair skew greatest k by entries s c at within there h =
     let coming = In-mapped (λ (n : ℕ × ClientMsg). n.1) (k, Ship entries) (c.lines by).up (found (is_with k) (c.lines by).up (k, Ship entries) there).0 in
     let same : IsSameStep k e s (event_step e s) (event_step e (with_all s c)) c = begun_same greatest k c s e at h.places view coming (λ z. absurd (cc)) in
     let near : greatest ≤ s.last + s.skew = subst (λ n. greatest ≤ s.last + n) (sym (h.skewed s i)) within in
-    let fair : IsFairNote (with_all s c).rows (ship_step by entries (with_all s c)).out.note = fair_ship greatest (world_of s c) by entries coming near view in
+    let fair : IsFairNote (with_all s c).rows by s.last entries (ship_step by entries (with_all s c)).out.note = fair_ship greatest (world_of s c) by entries coming near view in
     let rows : rows_in (after_step k e (event_step e s) c) ≡ (with_all s c).rows = sym (ap (λ (t : Server). t.rows) same.server) ∙ step_rows by entries (with_all s c) in
-    subst (λ (rs : List Row). IsFairNote rs (event_step e s).out.note) (sym rows) (subst (λ (o : ServerOut). IsFairNote (with_all s c).rows o.note) (sym same.out) fair)
+    subst (λ (rs : List Row). IsFairNote rs by s.last entries (event_step e s).out.note) (sym rows) (subst (λ (o : ServerOut). IsFairNote (with_all s c).rows by s.last entries o.note) (sym same.out) fair)
 
-pub fair : (skew greatest now k : ℕ) (by : Session) (entries : List Entry) (s : Server) (c : Cluster) → slice_get c.servers k ≡ Some s → greatest ≤ now + skew → IsThere k (event.FromClient by (Ship entries)) c → ClusterHolds skew greatest c → IsFairStep now k (event.FromClient by (Ship entries)) s c
+pub fair : (skew greatest now k : ℕ) (by : Session) (entries : List Entry) (s : Server) (c : Cluster) → slice_get c.servers k ≡ Some s → greatest ≤ now + skew → IsThere k (event.FromClient by (Ship entries)) c → ClusterHolds skew greatest c → IsFairStep now k by entries s c
 fair skew greatest now k by entries s c at within there h =
     let e = event.FromClient by (Ship entries) in
     let later = max greatest (max s.last now) in
@@ -57,4 +57,4 @@ fair skew greatest now k by entries s c at within there h =
     let near : later ≤ max s.last now + skew = omega arith in
     let told = begun_fair skew later k by entries (begun now s) begun_now (get_here c.servers k s (begun now s) at) near there held in
     let after : Cluster = after_step k e x c in
-    subst (λ (ss : List Server). IsFairNote (rows_in (record after { servers = ss })) x.out.note) (set_twice c.servers k (begun now s) x.server) told
+    subst (λ (ss : List Server). IsFairNote (rows_in (record after { servers = ss })) by (max s.last now) entries x.out.note) (set_twice c.servers k (begun now s) x.server) told

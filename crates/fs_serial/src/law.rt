@@ -193,20 +193,27 @@ pub fn a_refused_entry_had_ended()
         HadEnded s.rows now e u }
 {}
 
-/// A server admits no entry, and refuses none, but as the laws of entries say: where it refuses one, a lease that the entry used has no
-/// row with any server, and had ended at the reading; and it holds back none but those behind a refused one.
+/// A server refuses an entry of a log that is handed in only where a lease that the entry used has no row with any server, and
+/// had ended at the reading of that very event. It says so of this entry and of the first such lease; and it holds back
+/// exactly the entries behind it, and none where it refuses none.
 pub fn refusals_are_fair()
     ensures { (skew greatest now k : ℕ) (by : Session) (entries : List Entry) (s : Server)
         (c : Cluster) → slice_get c.servers k ≡ Some s → greatest ≤ now + skew →
         IsThere k (FromClient by (Ship entries)) c → ClusterHolds skew greatest c →
-        IsFairStep now k (FromClient by (Ship entries)) s c }
+        IsFairStep now k by entries s c }
 {}
 
 /// Of a log that is handed in where its entries belong, an entry is admitted in that very event where the rows of the leases that it
-/// used stand, and those of each entry before it.
+/// used stand, and those of each entry before it; whatever stands behind it, as long as all are plain, which they always are.
 pub fn a_standing_entry_is_admitted()
-    ensures { (s : Server) (now : ℕ) (by : Session) (front rest : List Entry) (e : Entry) →
+    ensures plain { (s : Server) (now : ℕ) (by : Session) (front rest : List Entry) (e : Entry) →
         list_all (λ (x : Entry). tells_its_effects x.op) (front ++ e ∷ rest) ≡ true →
+        list_all (λ (x : Entry). is_mine s (home_of x.op)) (front ++ e ∷ []) ≡ true →
+        AllStand (begun now s).rows by (front ++ e ∷ []) →
+        In (item_of by e) (step s now (FromClient by (Ship (front ++ e ∷ rest)))).out.admitted }
+    ensures always { (skew greatest now k : ℕ) (s : Server) (c : Cluster) (by : Session)
+        (front rest : List Entry) (e : Entry) → slice_get c.servers k ≡ Some s →
+        IsThere k (FromClient by (Ship (front ++ e ∷ rest))) c → ClusterHolds skew greatest c →
         list_all (λ (x : Entry). is_mine s (home_of x.op)) (front ++ e ∷ []) ≡ true →
         AllStand (begun now s).rows by (front ++ e ∷ []) →
         In (item_of by e) (step s now (FromClient by (Ship (front ++ e ∷ rest)))).out.admitted }

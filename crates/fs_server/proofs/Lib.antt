@@ -11,3 +11,5 @@ mod Paired
 mod Shipping
 mod Moving
 mod Losing
+pub mod InOrder
+pub mod Making

@@ -7,6 +7,7 @@ pub mod Reaps
 pub mod Ships
 pub mod Step
 pub mod Plan
+pub mod Laws
 -- cited by private calls alone
 pub mod Lent
 pub mod Lost

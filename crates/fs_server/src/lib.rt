@@ -30,6 +30,7 @@ mod commits;
 mod decide;
 mod event;
 mod fresh;
+mod law;
 mod lent;
 mod moves;
 mod out;
@@ -42,6 +43,10 @@ mod ships;
 mod state;
 
 pub use event::ServerEvent;
+pub use law::{
+    a_move_that_nothing_refuses_is_made, an_identifier_comes_behind_all_items,
+    items_are_given_in_order,
+};
 pub use out::ServerOut;
 pub use plan::Plan;
 pub use server_core::ServerCore;

@@ -51,3 +51,6 @@ pub mod RightRuns
 pub mod HeldLaws
 pub mod StayingServers
 pub mod Fitting
+pub mod Said
+pub mod Causes
+pub mod CausedRuns

@@ -1,4 +1,4 @@
--- No server and no client is told what no honest actor sends, and no entry is refused but for a lease that had ended.
+-- No server and no client is told what no honest actor sends, and a log is answered as is fair.
 use Rattle.std.proofs.Common.{◌≡◌, ℕ, ◌+◌, ◌/◌, ◌≤◌, max, Bool, true, false, not, ◌&&◌, List, [], ◌∷◌, cond, refl, arith}
 use Rattle.std.specs.Prelude.{◌≢◌, Option, Some, None, is_some, slice_get}
 use Rattle.fs_ident.specs.declared.actor.Session.{Session}
@@ -9,6 +9,7 @@ use Rattle.fs_msg.specs.declared.client_msg.ClientMsg.{ClientMsg}
 use Rattle.fs_msg.specs.declared.client_msg.ClientMsg.TheVariants.{Ask, Renew, Release, Ship}
 use Rattle.fs_msg.specs.declared.client_note.ClientNote.{ClientNote}
 use Rattle.fs_msg.specs.declared.client_note.ClientNote.TheVariants as client_note
+use Rattle.fs_msg.specs.declared.end.End.{End}
 use Rattle.fs_msg.specs.declared.entry.Entry.{Entry}
 use Rattle.fs_msg.specs.declared.note.Note.{Note}
 use Rattle.fs_msg.specs.declared.note.Note.TheVariants as note
@@ -29,47 +30,51 @@ use Rattle.fs_server.specs.declared.event.ServerEvent.{ServerEvent}
 use Rattle.fs_server.specs.declared.event.ServerEvent.TheVariants.{FromClient, FromPeer, Turn, Recall as TheRecall, Move}
 use Rattle.fs_server.specs.declared.state.Server.{Server}
 use Rattle.fs_serial.specs.Cluster.{Cluster, IsThere, after_step}
-use Rattle.fs_serial.specs.Refusals.{IsFairNote, rows_in}
+use Rattle.fs_serial.specs.Refusals.{IsFairEnd, IsFairNote, rows_in}
 use Rattle.fs_serial.specs.Seen.{ClusterHolds}
 use Rattle.fs_world.specs.Refusals.{IsFair, is_core_strange}
 use Rattle.fs_world.proofs.SerialLaws.{SerialLaws}
 
-pub record IsRight (rows : List Row) (n : Note) : Type 0 where
+-- of an answer to a log: so many entries, how it ends, and what is held back
+abbrev pub Answers : Type 1
+Answers = ℕ → End → List ℕ → Type 0
+
+pub record IsRight (ok : Answers) (n : Note) : Type 0 where
   pub plain : is_core_strange n ≡ false
-  pub fair : IsFair rows n
+  pub fair : IsFair ok n
 
 -- ## At a client
 
-renew_right : (rows : List Row) (ks : List Kept) (c : Client) → IsRight rows (note.Client (renew_some ks c).out.note)
-renew_right rows [] c = record { plain = refl; fair = tt }
-renew_right rows (k ∷ ks) c = record { plain = refl; fair = tt }
+renew_right : (ok : Answers) (ks : List Kept) (c : Client) → IsRight ok (note.Client (renew_some ks c).out.note)
+renew_right ok [] c = record { plain = refl; fair = tt }
+renew_right ok (k ∷ ks) c = record { plain = refl; fair = tt }
 
-release_right : (rows : List Row) (ks : List Kept) (c : Client) → IsRight rows (note.Client (release_some ks c).out.note)
-release_right rows [] c = renew_right rows (ending (c.last + c.term / 2) c.view) c
-release_right rows (k ∷ ks) c = record { plain = refl; fair = tt }
+release_right : (ok : Answers) (ks : List Kept) (c : Client) → IsRight ok (note.Client (release_some ks c).out.note)
+release_right ok [] c = renew_right ok (ending (c.last + c.term / 2) c.view) c
+release_right ok (k ∷ ks) c = record { plain = refl; fair = tt }
 
-ship_right : (rows : List Row) (es : List Entry) (c : Client) → IsRight rows (note.Client (ship_some es c).out.note)
-ship_right rows [] c = record { plain = refl; fair = tt }
-ship_right rows (e ∷ es) c = record { plain = refl; fair = tt }
+ship_right : (ok : Answers) (es : List Entry) (c : Client) → IsRight ok (note.Client (ship_some es c).out.note)
+ship_right ok [] c = record { plain = refl; fair = tt }
+ship_right ok (e ∷ es) c = record { plain = refl; fair = tt }
 
-free_right : (rows : List Row) (c : Client) → IsRight rows (note.Client (turn_free c).out.note)
-free_right rows c = elim (not (is_empty c.log) && not (is_some c.over)) as (λ b. IsRight rows (note.Client (cond b (ship_some c.log c) (release_some (returned c.view) c)).out.note)) [
-  | true ↦ ship_right rows c.log c
-  | false ↦ release_right rows (returned c.view) c
+free_right : (ok : Answers) (c : Client) → IsRight ok (note.Client (turn_free c).out.note)
+free_right ok c = elim (not (is_empty c.log) && not (is_some c.over)) as (λ b. IsRight ok (note.Client (cond b (ship_some c.log c) (release_some (returned c.view) c)).out.note)) [
+  | true ↦ ship_right ok c.log c
+  | false ↦ release_right ok (returned c.view) c
 ]
 
-turned_right : (rows : List Row) (c : Client) → IsRight rows (note.Client (turn_on c).out.note)
-turned_right rows c = elim (is_some c.exchange) as (λ b. IsRight rows (note.Client (cond b (idle c) (turn_free c)).out.note)) [
+turned_right : (ok : Answers) (c : Client) → IsRight ok (note.Client (turn_on c).out.note)
+turned_right ok c = elim (is_some c.exchange) as (λ b. IsRight ok (note.Client (cond b (idle c) (turn_free c)).out.note)) [
   | true ↦ record { plain = refl; fair = tt }
-  | false ↦ free_right rows c
+  | false ↦ free_right ok c
 ]
 
-pub turn_right : (rows : List Row) (c : Client) (now : ℕ) → IsRight rows (note.Client (turn_plan c now).out.note)
-turn_right rows c now = turned_right rows (begun now c)
+pub turn_right : (ok : Answers) (c : Client) (now : ℕ) → IsRight ok (note.Client (turn_plan c now).out.note)
+turn_right ok c now = turned_right ok (begun now c)
 
-pub plain_client : (rows : List Row) (n : ClientNote) → n ≢ client_note.Strange → IsRight rows (note.Client n)
-plain_client rows client_note.Strange h = absurd (h refl)
-plain_client rows n h = record { plain = refl; fair = tt }
+pub plain_client : (ok : Answers) (n : ClientNote) → n ≢ client_note.Strange → IsRight ok (note.Client n)
+plain_client ok client_note.Strange h = absurd (h refl)
+plain_client ok n h = record { plain = refl; fair = tt }
 
 -- ## At a server
 
@@ -77,38 +82,53 @@ plain_server : (n : ServerNote) → n ≢ server_note.Strange → is_core_strang
 plain_server server_note.Strange h = absurd (h refl)
 plain_server n h = refl
 
-turned_over_fair : (rows : List Row) (xs : List (List ℕ × Session)) (s : Server) → IsFairNote rows (turn_over xs s).out.note
-turned_over_fair rows [] s = tt
-turned_over_fair rows (x ∷ xs) s = tt
+turned_over_fair : (ok : Answers) (xs : List (List ℕ × Session)) (s : Server) → IsFair ok (note.Server (turn_over xs s).out.note)
+turned_over_fair ok [] s = tt
+turned_over_fair ok (x ∷ xs) s = tt
 
-move_fair : (rows : List Row) (o : Option MoveError) (prefix : List ℕ) (to : ℕ) (s : Server) → IsFairNote rows (move_at o prefix to s).out.note
-move_fair rows (Some why) prefix to s = tt
-move_fair rows None prefix to s = tt
+move_fair : (ok : Answers) (o : Option MoveError) (prefix : List ℕ) (to : ℕ) (s : Server) → IsFair ok (note.Server (move_at o prefix to s).out.note)
+move_fair ok (Some why) prefix to s = tt
+move_fair ok None prefix to s = tt
 
-parcel_fair : (rows : List Row) (b : Bool) (p : Parcel) (s : Server) → IsFairNote rows (parcel_at b p s).out.note
-parcel_fair rows true p s = tt
-parcel_fair rows false p s = tt
+parcel_fair : (ok : Answers) (b : Bool) (p : Parcel) (s : Server) → IsFair ok (note.Server (parcel_at b p s).out.note)
+parcel_fair ok true p s = tt
+parcel_fair ok false p s = tt
+
+-- where each fair answer to the entries is one of these, so is what is noted
+ship_fair : (ok : Answers) (rows : List Row) (by : Session) (now : ℕ) (entries : List Entry) (n : ServerNote) → ((count : ℕ) (at : End) (gaps : List ℕ) → IsFairEnd rows by now entries count at gaps → ok count at gaps) → IsFairNote rows by now entries n → IsFair ok (note.Server n)
+ship_fair ok rows by now entries (server_note.Admits count at gaps) taken h = taken count at gaps h
+ship_fair ok rows by now entries n taken h = tt
+
+-- each fair answer to the message is one of these
+abbrev pub Takes : Answers → List Row → Session → ℕ → ClientMsg → Type 0
+Takes ok rows by now (Ship entries) = (count : ℕ) (at : End) (gaps : List ℕ) → IsFairEnd rows by now entries count at gaps → ok count at gaps
+Takes ok rows by now m = Unit {0}
 
 module _ (laws : SerialLaws) (skew greatest now k : ℕ) (s : Server) (c : Cluster) (at : slice_get c.servers k ≡ Some s) (h : ClusterHolds skew greatest c) (clock : s.last ≤ greatest) (within : greatest ≤ now + skew) where
   abbrev pub rows_then : ServerEvent → List Row
   rows_then e = rows_in (after_step k e (step s now e) c)
 
-  message_fair : (by : Session) (m : ClientMsg) → IsThere k (FromClient by m) c → IsFairNote (rows_then (FromClient by m)) (step s now (FromClient by m)).out.note
-  message_fair by (Ask items dir) there = tt
-  message_fair by (Renew pairs) there = tt
-  message_fair by (Release pairs) there = tt
-  message_fair by (Ship entries) there = laws.fair skew greatest now k by entries s c at within there h
+  -- of an event that brings a message of a session
+  abbrev pub TakesEvent : Answers → ServerEvent → Type 0
+  TakesEvent ok (FromClient by m) = Takes ok (rows_then (FromClient by m)) by (max s.last now) m
+  TakesEvent ok e = Unit {0}
 
-  event_fair : (e : ServerEvent) → IsThere k e c → IsFairNote (rows_then e) (step s now e).out.note
-  event_fair (FromClient by m) there = message_fair by m there
-  event_fair (FromPeer from (OfParcel p)) there = let b : Server = server_begun now s in parcel_fair (rows_then (FromPeer from (OfParcel p))) (fits_here p b) p b
-  event_fair Turn there = let b : Server = server_begun now s in turned_over_fair (rows_then Turn) (lapsed_in b) b
-  event_fair (TheRecall field) there = tt
-  event_fair (Move prefix to) there = let b : Server = server_begun now s in move_fair (rows_then (Move prefix to)) (move_refusal b.records b.rows b.map b.me prefix to None) prefix to b
+  message_fair : (ok : Answers) (by : Session) (m : ClientMsg) → IsThere k (FromClient by m) c → Takes ok (rows_then (FromClient by m)) by (max s.last now) m → IsFair ok (note.Server (step s now (FromClient by m)).out.note)
+  message_fair ok by (Ask items dir) there takes = tt
+  message_fair ok by (Renew pairs) there takes = tt
+  message_fair ok by (Release pairs) there takes = tt
+  message_fair ok by (Ship entries) there takes = ship_fair ok (rows_then (FromClient by (Ship entries))) by (max s.last now) entries (step s now (FromClient by (Ship entries))).out.note takes (laws.fair skew greatest now k by entries s c at within there h)
 
-  pub event_right : (e : ServerEvent) → IsThere k e c → IsRight (rows_then e) (note.Server (step s now e).out.note)
-  event_right e there = record {
+  event_fair : (ok : Answers) (e : ServerEvent) → IsThere k e c → TakesEvent ok e → IsFair ok (note.Server (step s now e).out.note)
+  event_fair ok (FromClient by m) there takes = message_fair ok by m there takes
+  event_fair ok (FromPeer from (OfParcel p)) there takes = let b : Server = server_begun now s in parcel_fair ok (fits_here p b) p b
+  event_fair ok Turn there takes = let b : Server = server_begun now s in turned_over_fair ok (lapsed_in b) b
+  event_fair ok (TheRecall field) there takes = tt
+  event_fair ok (Move prefix to) there takes = let b : Server = server_begun now s in move_fair ok (move_refusal b.records b.rows b.map b.me prefix to None) prefix to b
+
+  pub event_right : (ok : Answers) (e : ServerEvent) → IsThere k e c → TakesEvent ok e → IsRight ok (note.Server (step s now e).out.note)
+  event_right ok e there takes = record {
     plain = plain_server (step s now e).out.note
         (laws.server_plain skew (max greatest now) now k e s c at (omega arith) there (laws.rises skew greatest (max greatest now) c (omega arith) h));
-    fair = event_fair e there;
+    fair = event_fair ok e there takes;
   }

@@ -5,7 +5,6 @@ use Rattle.std.specs.FinMap.{get}
 use Rattle.std.specs.List.{AllByRecursion}
 use Rattle.std.proofs.lemmas.Bool.{or_from}
 use Rattle.fs_ident.specs.declared.actor.Session.{Session}
-use Rattle.fs_field.specs.declared.row.Row.{Row}
 use Rattle.fs_model.specs.declared.op.Op.{Op}
 use Rattle.fs_msg.specs.declared.note.Note.{Note}
 use Rattle.fs_schedule.specs.declared.event.Event.{Event}
@@ -17,7 +16,7 @@ use Rattle.fs_schedule.specs.declared.event.What.TheVariants.{Join, Do}
 use Rattle.fs_schedule.specs.declared.outcome.Outcome.{Outcome}
 use Rattle.fs_world.specs.Direct.{do_at, join_at, step_of}
 use Rattle.fs_world.specs.Order.{Told, told_at}
-use Rattle.fs_world.specs.Refusals.{AllFair, HasNone, IsFair, NoneHas, NoneStrange, is_core_strange, is_link_strange, is_strange, rows_of}
+use Rattle.fs_world.specs.Refusals.{AllFair, HasNone, IsFair, IsFairAnswer, NoneHas, NoneStrange, is_core_strange, is_link_strange, is_strange, rows_of}
 use Rattle.fs_schedule.specs.Skew.{IsTimely}
 use Rattle.fs_schedule.specs.Spelling.{FitsHead}
 use Rattle.fs_world.specs.World.{AllMayHappen, Run, first_run, first_world, more, run_of, run_on, step}
@@ -27,43 +26,48 @@ use Rattle.fs_world.specs.declared.form.Form.TheVariants.{Direct, Served}
 use Rattle.fs_world.specs.Parts.{greatest_of}
 use Rattle.fs_world.proofs.GoesOn.{Goes, goes_first, goes_on}
 use Rattle.fs_world.proofs.SerialLaws.{SerialLaws}
+use Rattle.fs_world.proofs.Right.{Answers}
 use Rattle.fs_world.proofs.RightSteps.{AllRight, step_right}
 
 -- ## One event
 
-direct_join : (s : Session) (o : Option ℕ) (w : TheDirect) → AllRight [] (join_at o w s).outcome.notes
-direct_join s None w = (record { plain = refl; fair = tt }, tt)
-direct_join s (Some n) w = (record { plain = refl; fair = tt }, tt)
+direct_join : (ok : Answers) (s : Session) (o : Option ℕ) (w : TheDirect) → AllRight ok (join_at o w s).outcome.notes
+direct_join ok s None w = (record { plain = refl; fair = tt }, tt)
+direct_join ok s (Some n) w = (record { plain = refl; fair = tt }, tt)
 
-direct_do : (s : Session) (op : Op) (o : Option ℕ) (w : TheDirect) → AllRight [] (do_at o w s op).outcome.notes
-direct_do s op None w = (record { plain = refl; fair = tt }, tt)
-direct_do s op (Some n) w = (record { plain = refl; fair = tt }, tt)
+direct_do : (ok : Answers) (s : Session) (op : Op) (o : Option ℕ) (w : TheDirect) → AllRight ok (do_at o w s op).outcome.notes
+direct_do ok s op None w = (record { plain = refl; fair = tt }, tt)
+direct_do ok s op (Some n) w = (record { plain = refl; fair = tt }, tt)
 
-direct_right : (w : TheDirect) (what : What) → AllRight [] (step_of w what).outcome.notes
-direct_right w (Join s) = direct_join s (get w.asked s.0) w
-direct_right w (Do s o) = direct_do s o (get w.asked s.0) w
-direct_right w what = (record { plain = refl; fair = tt }, tt)
+direct_right : (ok : Answers) (w : TheDirect) (what : What) → AllRight ok (step_of w what).outcome.notes
+direct_right ok w (Join s) = direct_join ok s (get w.asked s.0) w
+direct_right ok w (Do s o) = direct_do ok s o (get w.asked s.0) w
+direct_right ok w what = (record { plain = refl; fair = tt }, tt)
 
-right_at : (laws : SerialLaws) (top : ℕ) (h : Head) (e : Event) (es : List Event) (told : List Told) (w : Form) → Goes top h (e ∷ es) told w → AllRight (rows_of (step w e).world) (step w e).outcome.notes
-right_at laws top head.Direct e es told (Direct w) g = direct_right w e.what
+-- an answer to a log is fair in the event
+abbrev fair_in : Form → Event → Answers
+fair_in w e = IsFairAnswer w e (rows_of (step w e).world)
+
+right_at : (laws : SerialLaws) (top : ℕ) (h : Head) (e : Event) (es : List Event) (told : List Told) (w : Form) → Goes top h (e ∷ es) told w → AllRight (fair_in w e) (step w e).outcome.notes
+right_at laws top head.Direct e es told (Direct w) g = direct_right (fair_in (Direct w) e) w e.what
 right_at laws top (head.Servers servers skew term) e es told (Served w) g = step_right laws servers skew g.greatest told w g.holds e.reading g.ahead.0 g.some term e.what g.called.0
 right_at laws top head.Direct e es told (Served w) g = absurd g
 right_at laws top (head.Servers servers skew term) e es told (Direct w) g = absurd g
 
 -- ## All events
 
-all_fair : (rows : List Row) (notes : List Note) → AllRight rows notes → AllByRecursion (IsFair rows) notes
-all_fair rows [] h = tt
-all_fair rows (n ∷ ns) h = (h.0.fair, all_fair rows ns h.1)
+all_fair : (ok : Answers) (notes : List Note) → AllRight ok notes → AllByRecursion (IsFair ok) notes
+all_fair ok [] h = tt
+all_fair ok (n ∷ ns) h = (h.0.fair, all_fair ok ns h.1)
 
-all_plain : (rows : List Row) (notes : List Note) → AllRight rows notes → AllByRecursion (λ (n : Note). is_core_strange n ≡ false) notes
-all_plain rows [] h = tt
-all_plain rows (n ∷ ns) h = (h.0.plain, all_plain rows ns h.1)
+all_plain : (ok : Answers) (notes : List Note) → AllRight ok notes → AllByRecursion (λ (n : Note). is_core_strange n ≡ false) notes
+all_plain ok [] h = tt
+all_plain ok (n ∷ ns) h = (h.0.plain, all_plain ok ns h.1)
 
 fair_from : (laws : SerialLaws) (top : ℕ) (h : Head) (es : List Event) (told : List Told) (w : Form) → Goes top h es told w → AllFair w es
 fair_from laws top h [] told w g = tt
 fair_from laws top h (e ∷ es) told w g = (
-  all_fair (rows_of (step w e).world) (step w e).outcome.notes (right_at laws top h e es told w g),
+  all_fair (fair_in w e) (step w e).outcome.notes (right_at laws top h e es told w g),
   fair_from laws top h es (told ++ told_at e.what (step w e).outcome.notes) (step w e).world (goes_on laws top h e es told w g),
 )
 
@@ -76,7 +80,7 @@ plain_from : (laws : SerialLaws) (top : ℕ) (h : Head) (es : List Event) (told 
 plain_from laws top h [] told r g p = p
 plain_from laws top h (e ∷ es) told r g p =
     plain_from laws top h es (told ++ told_at e.what (step r.world e).outcome.notes) (more r e) (goes_on laws top h e es told r.world g)
-    (one_more is_core_strange r.outcomes (step r.world e).outcome p (all_plain (rows_of (step r.world e).world) (step r.world e).outcome.notes (right_at laws top h e es told r.world g)))
+    (one_more is_core_strange r.outcomes (step r.world e).outcome p (all_plain (fair_in r.world e) (step r.world e).outcome.notes (right_at laws top h e es told r.world g)))
 
 pub no_core_strange : (laws : SerialLaws) (s : Schedule) → FitsHead s.head → AllMayHappen s.head s.events → IsTimely s.head s.events → NoneHas is_core_strange (run_of s).outcomes
 no_core_strange laws s fits may timely = plain_from laws (greatest_of 0 s.events) s.head s.events [] (first_run s.head) (goes_first laws s.head s.events fits may timely) tt

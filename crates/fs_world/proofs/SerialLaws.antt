@@ -30,4 +30,4 @@ pub record SerialLaws : Type 0 where
   pub first : (servers skew term greatest : ℕ) → 1 ≤ servers → ClusterHolds skew greatest (first_cluster servers skew term)
   -- refusals are fair
   pub fair : (skew greatest now k : ℕ) (by : Session) (entries : List Entry) (s : Server) (c : Cluster) → slice_get c.servers k ≡ Some s → greatest ≤ now + skew → IsThere k (FromClient by (Ship entries)) c → ClusterHolds skew greatest c
-      → IsFairStep now k (FromClient by (Ship entries)) s c
+      → IsFairStep now k by entries s c

@@ -6,6 +6,7 @@ pub mod World
 pub mod Order
 pub mod Safe
 pub mod Refusals
+pub mod Over
 pub mod Parts
 -- cited by private calls alone
 pub mod Readable

@@ -1,36 +1,77 @@
 -- What a server refuses, and that no actor is told what no honest actor sends.
-use Rattle.std.specs.Prelude.{◌≡◌, Bool, true, false, ◌||◌, List, [], ◌∷◌}
-use Rattle.std.specs.List.{AllByRecursion}
+use Rattle.std.specs.Prelude.{◌≡◌, ℕ, max, Bool, true, false, ◌||◌, List, [], ◌∷◌, Option, Some, None, slice_get}
+use Rattle.std.specs.FinMap.{get}
+use Rattle.std.specs.List.{AllByRecursion, find}
+use Rattle.fs_ident.specs.declared.actor.Peer.TheVariants as peer
+use Rattle.fs_ident.specs.declared.actor.Session.{Session}
 use Rattle.fs_field.specs.declared.row.Row.{Row}
+use Rattle.fs_msg.specs.declared.client_msg.ClientMsg.TheVariants.{Ship}
 use Rattle.fs_msg.specs.declared.client_note.ClientNote.TheVariants as client
+use Rattle.fs_msg.specs.declared.end.End.{End}
+use Rattle.fs_msg.specs.declared.entry.Entry.{Entry}
 use Rattle.fs_msg.specs.declared.note.Note.{Note}
 use Rattle.fs_msg.specs.declared.note.Note.TheVariants as note
 use Rattle.fs_msg.specs.declared.server_note.ServerNote.TheVariants as server
 use Rattle.fs_schedule.specs.declared.event.Event.{Event}
-use Rattle.fs_serial.specs.Cluster.{parcels_of}
+use Rattle.fs_schedule.specs.declared.event.What.{What}
+use Rattle.fs_schedule.specs.declared.event.What.TheVariants.{Tell}
+use Rattle.fs_serial.specs.Cluster.{is_with, parcels_of}
 use Rattle.fs_serial.specs.Joined.{rows_of_all}
-use Rattle.fs_serial.specs.Refusals.{IsFairNote}
+use Rattle.fs_serial.specs.Refusals.{IsFairEnd}
 use Rattle.fs_schedule.specs.declared.outcome.Outcome.{Outcome}
+use Rattle.fs_server.specs.declared.state.Server.{Server as Core}
+use Rattle.fs_window.specs.declared.sent.Sent.{Sent}
+use Rattle.fs_world.specs.Packets.{first_untold}
 use Rattle.fs_world.specs.World.{step}
 use Rattle.fs_world.specs.declared.form.Form.{Form}
 use Rattle.fs_world.specs.declared.form.Form.TheVariants.{Direct, Served}
+use Rattle.fs_world.specs.declared.seat.Seat.{Seat}
+use Rattle.fs_world.specs.declared.served.Served.{Served as TheServed}
 
 -- ## Refused entries
 
--- what is noted where these are all rows: no entry is refused but for a lease that had ended
-abbrev pub IsFair : List Row → Note → Type 0
-IsFair rows (note.Server n) = IsFairNote rows n
-IsFair rows n = Unit {0}
+-- the packet that the event tells, if it tells one that was sent
+abbrev pub packet_told : TheServed → What → Option Sent
+packet_told w (Tell None) = slice_get w.packets.sent (first_untold w.packets.told)
+packet_told w (Tell (Some k)) = slice_get w.packets.sent k
+packet_told w what = None
+
+-- the event tells a packet of a session to a server, and the first message on its way from the one to the other hands in these
+-- entries
+pub record HandsIn (w : TheServed) (what : What) : Type 0 where
+  pub packet : Sent
+  pub told : packet_told w what ≡ Some packet
+  pub by : Session
+  pub sender : packet.from ≡ peer.Client by
+  pub to : ℕ
+  pub addressee : packet.to ≡ peer.Server to
+  pub server : Core
+  pub there : slice_get w.servers to ≡ Some server
+  pub seat : Seat
+  pub joined : get w.seats by.0 ≡ Some seat
+  pub entries : List Entry
+  pub first : find (is_with to) seat.up ≡ Some (to, Ship entries)
+
+-- so a server answers a log: the event hands it in, and the answer is fair at the greater of the event's reading and the server's
+-- last one, where these are all rows; the direct form has no servers
+abbrev pub IsFairAnswer : Form → Event → List Row → ℕ → End → List ℕ → Type 0
+IsFairAnswer (Direct w) e rows count at gaps = ⊥
+IsFairAnswer (Served w) e rows count at gaps = (h : HandsIn w e.what) × IsFairEnd rows h.by (max h.server.last e.reading) h.entries count at gaps
+
+-- what is noted, if it is an answer to a log, is one of these
+abbrev pub IsFair : (ℕ → End → List ℕ → Type 0) → Note → Type 0
+IsFair answers (note.Server (server.Admits count at gaps)) = answers count at gaps
+IsFair answers n = Unit {0}
 
 -- all rows of the servers and of the parcels on their way; in the direct form there are no leases
 abbrev pub rows_of : Form → List Row
 rows_of (Direct w) = []
 rows_of (Served w) = rows_of_all w.servers (parcels_of w.flying)
 
--- each note of the events is so, one after another, from this world on
+-- each note of the events is so, one after another, from this world on, with the rows that stand after the event
 abbrev pub AllFair : Form → List Event → Type 0
 AllFair w [] = Unit {0}
-AllFair w (e ∷ es) = AllByRecursion (IsFair (rows_of (step w e).world)) (step w e).outcome.notes × AllFair (step w e).world es
+AllFair w (e ∷ es) = AllByRecursion (IsFair (IsFairAnswer w e (rows_of (step w e).world))) (step w e).outcome.notes × AllFair (step w e).world es
 
 -- ## Strange messages
 

@@ -1,8 +1,9 @@
 //! Laws of every run, over the definitions alone.
-ghost use Rattle.std.specs.Prelude.{◌≡◌, ◌<◌, ◌^◌, length, None};
+ghost use Rattle.std.specs.Prelude.{◌≡◌, ◌<◌, ◌^◌, length, [], None};
 ghost use Rattle.fs_schedule.specs.declared.event.Head.TheVariants as head;
 ghost use Rattle.fs_schedule.specs.declared.event.Schedule.{Schedule};
 ghost use Rattle.fs_world.specs.Order.{AllAdmitted, told_of};
+ghost use Rattle.fs_world.specs.Over.{AllCaused, said_from};
 ghost use Rattle.fs_world.specs.Parts.{AllPartsHold};
 ghost use Rattle.fs_world.specs.Refusals.{AllFair, NoneHas, is_core_strange};
 ghost use Rattle.fs_world.specs.Safe.{IsSerial};
@@ -40,9 +41,16 @@ pub fn no_core_is_told_what_is_strange()
         IsTimely s.head s.events → NoneHas is_core_strange (run_of s).outcomes }
 {}
 
-/// A server refuses an entry only where a lease that it used has no row any more, with no server and in no parcel on
-/// its way, and that lease had ended; and it holds back none but those behind a refused one.
+/// A server refuses an entry only of the log that the event hands in, and only where a lease that it used has no row any
+/// more, with no server and in no parcel on its way, and had ended at the reading of that event; it says so of that entry
+/// and of its first such lease. It holds back exactly the entries behind it, and none where it refuses none.
 pub fn refusals_are_fair()
     ensures { (s : Schedule) → FitsHead s.head → AllMayHappen s.head s.events →
         IsTimely s.head s.events → AllFair (first_world s.head) s.events }
+{}
+
+/// In every run whatever, a session is over only behind an answer in which it heard that its entry of that number was
+/// refused, and it hears only answers that a server gave to its log, behind that server's own note.
+pub fn sessions_are_over_behind_refusals()
+    ensures { (s : Schedule) → AllCaused [] (said_from (first_world s.head) s.events) }
 {}

@@ -31,6 +31,6 @@ mod world;
 
 pub use law::{
     every_run_is_serial, every_run_keeps_all_parts, no_core_is_told_what_is_strange,
-    no_short_run_is_spent, refusals_are_fair,
+    no_short_run_is_spent, refusals_are_fair, sessions_are_over_behind_refusals,
 };
 pub use world::World;

@@ -1,5 +1,8 @@
-use Rattle.fs_serial.proofs.Admitted.{admitted_at_once}
+use Rattle.fs_serial.proofs.Admitted.{admitted_always, admitted_at_once}
 use Rattle.fs_serial.proofs.law.a_standing_entry_is_admitted.Goals as goal
 
-pub returns : goal.returns
-returns c = admitted_at_once
+pub returns-clause-plain : goal.returns-clause-plain
+returns-clause-plain c = admitted_at_once
+
+pub returns-clause-always : goal.returns-clause-always
+returns-clause-always c = admitted_always

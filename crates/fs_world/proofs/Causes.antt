@@ -1,0 +1,357 @@
+-- Every event of every run says only what was caused.
+use Rattle.std.proofs.Common.{◌≡◌, ℕ, ◌==◌, ◌/◌, ◌+◌, not, ◌&&◌, Bool, true, false, List, [], ◌∷◌, ◌++◌, cond, refl, ap, sym, ◌∙◌, subst, inl}
+use Rattle.std.specs.Prelude.{Option, Some, None, is_some, option_map, slice_get}
+use Rattle.std.specs.FinMap.{get, insert}
+use Rattle.std.specs.List.{find, list_all}
+use Rattle.fs_ident.specs.In.{In}
+use Rattle.fs_ident.specs.declared.actor.LeaseNo.{LeaseNo}
+use Rattle.fs_ident.specs.declared.actor.Peer.{Peer}
+use Rattle.fs_ident.specs.declared.actor.Peer.TheVariants.{Server, Client}
+use Rattle.fs_ident.specs.declared.actor.Session.{Session}
+use Rattle.fs_ident.proofs.Passing.{found}
+use Rattle.fs_field.specs.declared.row.Row.{Row}
+use Rattle.fs_field.specs.Table.{has_no}
+use Rattle.fs_frag.specs.declared.joined.Joined.{Joined}
+use Rattle.fs_window.specs.Post.{Links, post_accepted}
+use Rattle.fs_window.specs.Reading.{packet_at}
+use Rattle.fs_window.specs.declared.heard.Heard.{Heard as HeardThere}
+use Rattle.fs_window.specs.declared.packet.Packet.{Packet}
+use Rattle.fs_window.specs.declared.sent.Sent.{Sent}
+use Rattle.fs_model.specs.Step.{is_empty}
+use Rattle.fs_model.specs.declared.op.Op.{Op}
+use Rattle.fs_msg.specs.declared.answer.Answer.{Answer}
+use Rattle.fs_msg.specs.declared.answer.Answer.TheVariants.{Granted, Renewed, Released, Shipped, Recall}
+use Rattle.fs_msg.specs.declared.client_msg.ClientMsg.{ClientMsg}
+use Rattle.fs_msg.specs.declared.client_msg.ClientMsg.TheVariants.{Ask, Renew, Release, Ship}
+use Rattle.fs_msg.specs.declared.end.End.{End}
+use Rattle.fs_msg.specs.declared.end.End.TheVariants as end
+use Rattle.fs_msg.specs.declared.entry.Entry.{Entry}
+use Rattle.fs_msg.specs.declared.note.Note.TheVariants as note
+use Rattle.fs_msg.specs.declared.peer_msg.PeerMsg.TheVariants.{Parcel as OfParcel}
+use Rattle.fs_msg.specs.declared.server_note.ServerNote.{ServerNote}
+use Rattle.fs_msg.specs.declared.server_note.ServerNote.TheVariants as server
+use Rattle.fs_parcel.specs.Parcel.{move_refusal}
+use Rattle.fs_parcel.specs.declared.error.MoveError.{MoveError}
+use Rattle.fs_record.specs.Effects.{tells_its_effects}
+use Rattle.fs_record.specs.declared.parcel.Parcel.{Parcel}
+use Rattle.fs_view.specs.declared.kept.Kept.{Kept}
+use Rattle.fs_client.specs.Acts.{act_plan}
+use Rattle.fs_client.specs.Answers.{answer_plan, fits, hear, strange, told}
+use Rattle.fs_client.specs.Client.{begun}
+use Rattle.fs_client.specs.Turns.{ending, idle, release_some, renew_some, returned, ship_some, turn_free, turn_on, turn_plan}
+use Rattle.fs_client.specs.declared.state.Client.{Client as ClientState}
+use Rattle.fs_client.proofs.Refused.{act_over, acts_stay, answers_tell, turns_stay}
+use Rattle.fs_server.specs.Asks.{asked_in, recall_of, recalls_at}
+use Rattle.fs_server.specs.Moves.{fits_here, move_at, parcel_at}
+use Rattle.fs_server.specs.Reaps.{lapsed_in, reap_from, recalls_for, turn_over}
+use Rattle.fs_server.specs.Server.{begun as server_begun, strange as server_strange}
+use Rattle.fs_server.specs.Ships.{ship_from, shipped}
+use Rattle.fs_server.specs.Step.{recalled_on, recalls_of, step as core_steps}
+use Rattle.fs_server.specs.declared.event.ServerEvent.{ServerEvent}
+use Rattle.fs_server.specs.declared.event.ServerEvent.TheVariants.{FromClient, FromPeer, Turn as TheTurn, Recall as TheRecall, Move as TheMove}
+use Rattle.fs_server.specs.declared.state.Server.{Server as Core}
+use Rattle.fs_serial.specs.Cluster.{is_between, is_with, without_first}
+use Rattle.fs_serial.specs.declared.flying.Flying.{Flying}
+use Rattle.fs_serial.proofs.SetAt.{In_without}
+use Rattle.fs_schedule.specs.declared.event.What.{What}
+use Rattle.fs_schedule.specs.declared.event.What.TheVariants.{Join, Do, Tell, Turn, Recall as AskBack, Move}
+use Rattle.fs_world.specs.Over.{AllCaused, Said, all_said, sender_in}
+use Rattle.fs_world.specs.Packets.{first_untold}
+use Rattle.fs_world.specs.Refusals.{packet_told}
+use Rattle.fs_world.specs.Served.{Seats, Stepped, arrives, at_server, client_acts, client_hears, client_turns, comes, do_at, first_from, first_seat, heard_in, join_at, quiet_note, server_hears, server_step_at, server_told, server_told_at, step_of, tell_at, told_at, turn_at, up_first, with_downs, with_seat, with_server, without_up}
+use Rattle.fs_world.specs.declared.form.Form.TheVariants as form
+use Rattle.fs_world.specs.declared.seat.Seat.{Seat}
+use Rattle.fs_world.specs.declared.served.Served.{Served}
+use Rattle.fs_world.proofs.Said.{AreGiven, AreKnown, IsKnown, IsNoted, WasGiven, act_caused, all_more, downs_known, given_append, given_behind_all, heard_more, known_put, note_caused, note_heard}
+
+-- ## What a client notes of a turn is no answer
+
+renew_noted : (before : List Said) (s : Session) (ks : List Kept) (c : ClientState) → IsNoted before s (renew_some ks c).out.note
+renew_noted before s [] c = tt
+renew_noted before s (k ∷ ks) c = tt
+
+release_noted : (before : List Said) (s : Session) (ks : List Kept) (c : ClientState) → IsNoted before s (release_some ks c).out.note
+release_noted before s [] c = renew_noted before s (ending (c.last + c.term / 2) c.view) c
+release_noted before s (k ∷ ks) c = tt
+
+ship_noted : (before : List Said) (s : Session) (es : List Entry) (c : ClientState) → IsNoted before s (ship_some es c).out.note
+ship_noted before s [] c = tt
+ship_noted before s (e ∷ es) c = tt
+
+free_noted : (before : List Said) (s : Session) (c : ClientState) → IsNoted before s (turn_free c).out.note
+free_noted before s c = elim (not (is_empty c.log) && not (is_some c.over)) as (λ b. IsNoted before s (cond b (ship_some c.log c) (release_some (returned c.view) c)).out.note) [
+  | true ↦ ship_noted before s c.log c
+  | false ↦ release_noted before s (returned c.view) c
+]
+
+turn_noted : (before : List Said) (s : Session) (c : ClientState) → IsNoted before s (turn_on c).out.note
+turn_noted before s c = elim (is_some c.exchange) as (λ b. IsNoted before s (cond b (idle c) (turn_free c)).out.note) [ true ↦ tt | false ↦ free_noted before s c ]
+
+-- ## What it notes of an answer, a server gave
+
+told_noted : (before : List Said) (s : Session) (a : Answer) (c : ClientState) → WasGiven before s a → IsNoted before s (told a c).out.note
+told_noted before s (Granted grants fresh e) c g = tt
+told_noted before s (Renewed rows e) c g = tt
+told_noted before s (Released count e) c g = tt
+told_noted before s (Shipped count e) c g = g
+told_noted before s (Recall number) c g = tt
+
+hear_noted : (before : List Said) (s : Session) (from : ℕ) (a : Answer) (c : ClientState) → WasGiven before s a → IsNoted before s (hear from a c).out.note
+hear_noted before s from a c g = elim (fits from c.exchange a c) as (λ b. IsNoted before s (cond b (told a c) (strange c)).out.note) [ true ↦ told_noted before s a c g | false ↦ tt ]
+
+-- ## What a server sends
+
+recall_given : (now : List Said) (number : LeaseNo) (o : Option Row) → AreGiven now (recall_of number o)
+recall_given now number None = tt
+recall_given now number (Some row) = (tt, tt)
+
+ask_given : (now : List Said) (e : End) (rows : List Row) → AreGiven now (recalls_at e rows)
+ask_given now (end.Wait blocker) rows = recall_given now blocker (find (has_no blocker) rows)
+ask_given now e rows = tt
+
+recalls_given : (now : List Said) (leases : List (LeaseNo × Session)) → AreGiven now (recalls_of leases)
+recalls_given now [] = tt
+recalls_given now (x ∷ xs) = (tt, recalls_given now xs)
+
+blockers_given : (now : List Said) (rows : List Row) (ns : List LeaseNo) → AreGiven now (recalls_for rows ns)
+blockers_given now rows [] = tt
+blockers_given now rows (n ∷ ns) = given_append now (recall_of n (find (has_no n) rows)) (recalls_for rows ns) (recall_given now n (find (has_no n) rows)) (blockers_given now rows ns)
+
+turn_given : (now : List Said) (xs : List (List ℕ × Session)) (s : Core) → AreGiven now (turn_over xs s).out.send
+turn_given now [] s = tt
+turn_given now (x ∷ xs) s = let r = reap_from (x ∷ xs) s [] [] in blockers_given now r.server.rows r.blockers
+
+move_given : (now : List Said) (o : Option MoveError) (prefix : List ℕ) (to : ℕ) (s : Core) → AreGiven now (move_at o prefix to s).out.send
+move_given now (Some why) prefix to s = tt
+move_given now None prefix to s = tt
+
+parcel_given : (now : List Said) (b : Bool) (p : Parcel) (s : Core) → AreGiven now (parcel_at b p s).out.send
+parcel_given now true p s = tt
+parcel_given now false p s = tt
+
+-- a packet of the session brings the question
+abbrev IsFrom : Option Peer → ServerEvent → Type 0
+IsFrom from (FromClient by m) = from ≡ Some (Client by)
+IsFrom from e = Unit {0}
+
+-- what the server says in its step
+abbrev says : Option Peer → ℕ → ServerNote → List Said
+says from k n = all_said from (Some (Server k)) (note.Server n ∷ [])
+
+ship_given : (k : ℕ) (by : Session) (entries : List Entry) (s : Core) (from : Option Peer) → from ≡ Some (Client by) → (b : Bool)
+    → AreGiven (says from k (cond b (shipped by (ship_from by entries s [])) (server_strange s)).out.note) (cond b (shipped by (ship_from by entries s [])) (server_strange s)).out.send
+ship_given k by entries s from e true = subst (λ (o : Option Peer). AreGiven (says o k (shipped by (ship_from by entries s [])).out.note) (shipped by (ship_from by entries s [])).out.send) (sym e) (inl refl, tt)
+ship_given k by entries s from e false = tt
+
+message_given : (k : ℕ) (by : Session) (m : ClientMsg) (s : Core) (now : ℕ) (from : Option Peer) → from ≡ Some (Client by) → AreGiven (says from k (core_steps s now (FromClient by m)).out.note) (core_steps s now (FromClient by m)).out.send
+message_given k by (Ask items dir) s now from e = let a = asked_in by items dir (server_begun now s) in (tt, ask_given (says from k (core_steps s now (FromClient by (Ask items dir))).out.note) a.end a.server.rows)
+message_given k by (Renew pairs) s now from e = (tt, tt)
+message_given k by (Release pairs) s now from e = (tt, tt)
+message_given k by (Ship entries) s now from e = ship_given k by entries (server_begun now s) from e (list_all (λ (e : Entry). tells_its_effects e.op) entries)
+
+step_given : (k : ℕ) (s : Core) (now : ℕ) (e : ServerEvent) (from : Option Peer) → IsFrom from e → AreGiven (says from k (core_steps s now e).out.note) (core_steps s now e).out.send
+step_given k s now (FromClient by m) from is = message_given k by m s now from is
+step_given k s now (FromPeer j (OfParcel p)) from is = let b : Core = server_begun now s in parcel_given (says from k (core_steps s now (FromPeer j (OfParcel p))).out.note) (fits_here p b) p b
+step_given k s now TheTurn from is = let b : Core = server_begun now s in turn_given (says from k (core_steps s now TheTurn).out.note) (lapsed_in b) b
+step_given k s now (TheRecall field) from is = recalls_given (says from k (core_steps s now (TheRecall field)).out.note) (recalled_on field (server_begun now s))
+step_given k s now (TheMove prefix to) from is = let b : Core = server_begun now s in move_given (says from k (core_steps s now (TheMove prefix to)).out.note) (move_refusal b.records b.rows b.map b.me prefix to None) prefix to b
+
+answered_caused : (before : List Said) (from : Option Peer) (k : ℕ) (n : ServerNote) → AllCaused before (says from k n)
+answered_caused before None k (server.Admits count at gaps) = tt
+answered_caused before (Some (Client by)) k (server.Admits count at gaps) = (tt, tt)
+answered_caused before (Some (Server j)) k (server.Admits count at gaps) = tt
+answered_caused before from k n = tt
+
+-- ## Each event
+
+-- what it says is caused, and what stands then is known
+pub record Says (before new : List Said) (seats : Seats) : Type 0 where
+  pub caused : AllCaused before new
+  pub known : AreKnown (before ++ new) seats
+
+module _ (before : List Said) (w : Served) (h : AreKnown before w.seats) (now : ℕ) (from : Option Peer) where
+  abbrev pub Tells : Stepped → Type 0
+  Tells x = Says before (all_said from x.outcome.who x.outcome.notes) x.world.seats
+
+  silent : (seats : Seats) → AreKnown before seats → Says before [] seats
+  silent seats k = record { caused = tt; known = all_more before [] seats k }
+
+  -- ## At a session
+
+  module _ (s : Session) (seat : Seat) (at : get w.seats s.0 ≡ Some seat) where
+    seated : IsKnown before s seat
+    seated = h s seat at
+
+    -- the session's seat is this, which is known behind what is said
+    sits : (new : List Said) (next : Seat) → AllCaused before new → IsKnown (before ++ new) s next → Says before new (insert w.seats s.0 next)
+    sits new next caused k = record { caused = caused; known = known_put (before ++ new) w.seats s next (all_more before new w.seats h) k }
+
+    still_coming : (new : List Said) (down : List (ℕ × Answer)) → ((m : ℕ × Answer) → In m down → In m seat.down) → (m : ℕ × Answer) → In m down → WasGiven (before ++ new) s m.1
+    still_coming new down few m i = (all_more before new w.seats h s seat at).coming m (few m i)
+
+    -- nothing but the links changes
+    posts : (next : Seat) → next.client ≡ seat.client → next.down ≡ seat.down → Says before [] (insert w.seats s.0 next)
+    posts next client down = sits [] next tt (record {
+      over = λ n e. heard_more before [] s n (seated.over n (sym (ap (λ (c : ClientState). c.over) client) ∙ e));
+      coming = still_coming [] next.down (λ m i. subst (λ (ms : List (ℕ × Answer)). In m ms) down i);
+    })
+
+    acts : (o : Op) → Tells (do_at (Some seat) now s o w)
+    acts o =
+        let p = act_plan seat.client now o in
+        let new = all_said from (Some (Client s)) (note.Act p.out.note ∷ []) in
+        sits new (client_acts now s o seat w.journal w.packets).seat
+        (act_caused before from s p.out.note (λ n e. seated.over n (act_over seat.client now n o e)))
+        (record {
+          over = λ n e. heard_more before new s n (seated.over n (sym (acts_stay seat.client now o) ∙ e));
+          coming = still_coming new seat.down (λ m i. i);
+        })
+
+    turns : Tells (turn_at (Some seat) now s w)
+    turns =
+        let p = turn_plan seat.client now in
+        let new = all_said from (Some (Client s)) (note.Client p.out.note ∷ []) in
+        sits new (client_turns now s seat w.journal w.packets).seat
+        (note_caused before from s p.out.note (turn_noted before s (begun now seat.client)))
+        (record {
+          over = λ n e. heard_more before new s n (seated.over n (sym (turns_stay seat.client now) ∙ e));
+          coming = still_coming new seat.down (λ m i. i);
+        })
+
+    answered : (k : ℕ) (heard : Option Peer) (x : HeardThere) (j : Joined) (js : List Joined) (links : Links) (m : ℕ × Answer) → find (is_with k) seat.down ≡ Some m → Tells (with_seat s (client_hears now s k heard x (j ∷ js) (Some m) (record seat { post = links }) w.journal w.packets) w)
+    answered k heard x j js links m first =
+        let p = answer_plan seat.client now k m.1 in
+        let new = all_said from (Some (Client s)) (note.Client p.out.note ∷ []) in
+        let given : WasGiven before s m.1 = seated.coming m (found (is_with k) seat.down m first).0 in
+        let noted : IsNoted before s p.out.note = hear_noted before s k m.1 (begun now seat.client) given in
+        sits new (client_hears now s k heard x (j ∷ js) (Some m) (record seat { post = links }) w.journal w.packets).seat
+        (note_caused before from s p.out.note noted)
+        (record {
+          over = λ n e. note_heard before from s p.out.note seat.client.over seated.over n (sym (answers_tell seat.client now k m.1) ∙ e);
+          coming = still_coming new (without_first (is_with k) seat.down) (λ i at. In_without (is_with k) seat.down i at);
+        })
+
+    quiet : (k : ℕ) (heard : Option Peer) (x : HeardThere) (first : Option (ℕ × Answer)) (links : Links) → Tells (with_seat s (client_hears now s k heard x [] first (record seat { post = links }) w.journal w.packets) w)
+    quiet k heard x first links =
+        let next = (client_hears now s k heard x [] first (record seat { post = links }) w.journal w.packets).seat in
+        elim (x.fresh == 0) as (λ b. Says before (all_said from (Some (Client s)) (cond b note.None note.Part ∷ [])) (insert w.seats s.0 next)) [
+          | true ↦ posts next refl refl
+          | false ↦ posts next refl refl
+        ]
+
+    hears : (k : ℕ) (heard : Option Peer) (x : HeardThere) (js : List Joined) (links : Links) (first : Option (ℕ × Answer)) → find (is_with k) seat.down ≡ first → Tells (with_seat s (client_hears now s k heard x js first (record seat { post = links }) w.journal w.packets) w)
+    hears k heard x [] links first e = quiet k heard x first links
+    hears k heard x (j ∷ js) links None e = posts (client_hears now s k heard x (j ∷ js) None (record seat { post = links }) w.journal w.packets).seat refl refl
+    hears k heard x (j ∷ js) links (Some m) e = answered k heard x j js links m e
+
+  join_says : (s : Session) (o : Option Seat) → Tells (join_at o s w)
+  join_says s None = silent (insert w.seats s.0 (first_seat w.term s)) (known_put before w.seats s (first_seat w.term s) h (record { over = λ n e. absurd (cc e); coming = λ m i. absurd i }))
+  join_says s (Some seat) = silent w.seats h
+
+  do_says : (s : Session) (op : Op) (o : Option Seat) → get w.seats s.0 ≡ o → Tells (do_at o now s op w)
+  do_says s op None at = silent w.seats h
+  do_says s op (Some seat) at = acts s seat at op
+
+  turns_says : (s : Session) (o : Option Seat) → get w.seats s.0 ≡ o → Tells (turn_at o now s w)
+  turns_says s None at = silent w.seats h
+  turns_says s (Some seat) at = turns s seat at
+
+  told_says : (s : Session) (k : ℕ) (p : Packet) (o : Option Seat) → get w.seats s.0 ≡ o → Tells (told_at o now s k p w)
+  told_says s k p None at = silent w.seats h
+  told_says s k p (Some seat) at =
+      let a = post_accepted seat.post (Server k) p in
+      hears s seat at k (heard_in (Server k) p) a.heard a.heard.joined a.links (find (is_with k) seat.down) refl
+
+  -- ## At a server that there is
+
+  module _ (k : ℕ) (c : Core) (post : Links) where
+    -- it takes its step while these are the seats
+    steps : (e : ServerEvent) (seats : Seats) → IsFrom from e → AreKnown before seats → Says before (says from k (core_steps c now e).out.note) (with_downs k (core_steps c now e).out.send seats)
+    steps e seats is known =
+        let new = says from k (core_steps c now e).out.note in
+        record {
+          caused = answered_caused before from k (core_steps c now e).out.note;
+          known = downs_known (before ++ new) k (core_steps c now e).out.send seats (given_behind_all before new (core_steps c now e).out.send (step_given k c now e from is)) (all_more before new seats known);
+        }
+
+    abbrev hearing : Peer → Option Peer → HeardThere → List Joined → Option ServerEvent → Links → Stepped
+    hearing who heard x js first links = with_server k (server_hears now k who heard x js first (record (at_server c post w) { post = links })) w
+
+    quiet_says : (who : Peer) (heard : Option Peer) (x : HeardThere) (first : Option ServerEvent) (links : Links) → Tells (hearing who heard x [] first links)
+    quiet_says who heard x first links = elim (x.fresh == 0) as (λ b. Says before (all_said from (Some (Server k)) (cond b note.None note.Part ∷ [])) w.seats) [ true ↦ silent w.seats h | false ↦ silent w.seats h ]
+
+    message_says : (s : Session) (seat : Seat) (heard : Option Peer) (x : HeardThere) (j : Joined) (js : List Joined) (links : Links) (o : Option (ℕ × ClientMsg)) → from ≡ Some (Client s) → get w.seats s.0 ≡ Some seat
+        → Tells (hearing (Client s) heard x (j ∷ js) (elim o as (λ _. Option ServerEvent) [ None ↦ None | Some m ↦ Some (FromClient s m.1) ]) links)
+    message_says s seat heard x j js links None of is = silent w.seats h
+    message_says s seat heard x j js links (Some m) of is =
+        subst (λ (o : Option Seat). Says before (says from k (core_steps c now (FromClient s m.1)).out.note) (with_downs k (core_steps c now (FromClient s m.1)).out.send (without_up k o s.0 w.seats))) (sym is)
+        (steps (FromClient s m.1) (insert w.seats s.0 (record seat { up = without_first (is_with k) seat.up })) of
+        (known_put before w.seats s (record seat { up = without_first (is_with k) seat.up }) h (record { over = (h s seat is).over; coming = (h s seat is).coming })))
+
+    session_says : (s : Session) (o : Option Seat) → from ≡ Some (Client s) → get w.seats s.0 ≡ o → (heard : Option Peer) (x : HeardThere) (js : List Joined) (links : Links) → Tells (hearing (Client s) heard x js (up_first k s o) links)
+    session_says s o of is heard x [] links = quiet_says (Client s) heard x (up_first k s o) links
+    session_says s None of is heard x (j ∷ js) links = silent w.seats h
+    session_says s (Some seat) of is heard x (j ∷ js) links = message_says s seat heard x j js links (find (is_with k) seat.up) of is
+
+    parcel_says : (i : ℕ) (heard : Option Peer) (x : HeardThere) (j : Joined) (js : List Joined) (links : Links) (o : Option Flying)
+        → Tells (hearing (Server i) heard x (j ∷ js) (elim o as (λ _. Option ServerEvent) [ None ↦ None | Some f ↦ Some (FromPeer i (OfParcel f.parcel)) ]) links)
+    parcel_says i heard x j js links None = silent w.seats h
+    parcel_says i heard x j js links (Some f) = steps (FromPeer i (OfParcel f.parcel)) w.seats tt h
+
+    peer_says : (i : ℕ) (heard : Option Peer) (x : HeardThere) (js : List Joined) (links : Links) → Tells (hearing (Server i) heard x js (first_from k (Server i) w.seats w.flying) links)
+    peer_says i heard x [] links = quiet_says (Server i) heard x (first_from k (Server i) w.seats w.flying) links
+    peer_says i heard x (j ∷ js) links = parcel_says i heard x j js links (find (is_between i k) w.flying)
+
+    told_server : (who : Peer) (p : Packet) → from ≡ Some who → Tells (with_server k (server_told now k who p (at_server c post w)) w)
+    told_server (Client s) p of =
+        let a = post_accepted post (Client s) p in
+        session_says s (get w.seats s.0) of refl (heard_in (Client s) p) a.heard a.heard.joined a.links
+    told_server (Server i) p of =
+        let a = post_accepted post (Server i) p in
+        peer_says i (heard_in (Server i) p) a.heard a.heard.joined a.links
+
+  -- ## At any server
+
+  told_at_server : (k : ℕ) (who : Peer) (p : Packet) (c : Option Core) (post : Option Links) → from ≡ Some who → Tells (server_told_at c post now k who p w)
+  told_at_server k who p (Some c) (Some post) of = told_server k c post who p of
+  told_at_server k who p (Some c) None of = silent w.seats h
+  told_at_server k who p None (Some post) of = silent w.seats h
+  told_at_server k who p None None of = silent w.seats h
+
+  own_says : (k : ℕ) (turn : Bool) (e : ServerEvent) (c : Option Core) (post : Option Links) → IsFrom from e → Tells (server_step_at c post k turn now e w)
+  own_says k turn e (Some c) (Some post) is = steps k c post e w.seats is h
+  own_says k turn e (Some c) None is = silent w.seats h
+  own_says k turn e None (Some post) is = silent w.seats h
+  own_says k turn e None None is = silent w.seats h
+
+  -- ## A packet is told
+
+  comes_says : (who to : Peer) (p : Packet) → from ≡ Some who → Tells (comes now who to p w)
+  comes_says (Client s) (Server k) p of = told_at_server k (Client s) p (slice_get w.servers k) (slice_get w.posts k) of
+  comes_says (Server j) (Server k) p of = told_at_server k (Server j) p (slice_get w.servers k) (slice_get w.posts k) of
+  comes_says (Server j) (Client s) p of = told_says s j p (get w.seats s.0) refl
+  comes_says (Client r) (Client s) p of = silent w.seats h
+
+  arrives_says : (who to : Peer) (p : Option Packet) → from ≡ Some who → Tells (arrives now who to p w)
+  arrives_says who (Server k) None of = silent w.seats h
+  arrives_says who (Client s) None of = silent w.seats h
+  arrives_says who to (Some p) of = comes_says who to p of
+
+-- each event, which a packet of this one brings, if any does
+module _ (before : List Said) (w : Served) (h : AreKnown before w.seats) (now : ℕ) where
+  abbrev pub TellsOf : What → Type 0
+  TellsOf what = Tells before w h now (sender_in (form.Served w) what) (step_of w now what)
+
+  tell_says : (what : What) (o : Option Sent) (k : ℕ) → packet_told w what ≡ o → Tells before w h now (option_map (λ (x : Sent). x.from) o) (tell_at o now k w)
+  tell_says what None k is = silent before w h now None w.seats h
+  tell_says what (Some x) k is = arrives_says before w h now (Some x.from) x.from x.to (packet_at x.bytes) refl
+
+  pub step_says : (what : What) → TellsOf what
+  step_says (Join s) = join_says before w h now None s (get w.seats s.0)
+  step_says (Do s o) = do_says before w h now None s o (get w.seats s.0) refl
+  step_says (Tell None) = tell_says (Tell None) (slice_get w.packets.sent (first_untold w.packets.told)) (first_untold w.packets.told) refl
+  step_says (Tell (Some k)) = tell_says (Tell (Some k)) (slice_get w.packets.sent k) k refl
+  step_says (Turn (Client s)) = turns_says before w h now None s (get w.seats s.0) refl
+  step_says (Turn (Server k)) = own_says before w h now None k true TheTurn (slice_get w.servers k) (slice_get w.posts k) tt
+  step_says (AskBack k field) = own_says before w h now None k false (TheRecall field) (slice_get w.servers k) (slice_get w.posts k) tt
+  step_says (Move k prefix to) = own_says before w h now None k false (TheMove prefix to) (slice_get w.servers k) (slice_get w.posts k) tt

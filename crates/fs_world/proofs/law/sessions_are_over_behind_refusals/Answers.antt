@@ -1,0 +1,5 @@
+use Rattle.fs_world.proofs.CausedRuns.{all_caused}
+use Rattle.fs_world.proofs.law.sessions_are_over_behind_refusals.Goals as goal
+
+pub returns : goal.returns
+returns c = λ s. all_caused s.head s.events
