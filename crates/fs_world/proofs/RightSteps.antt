@@ -1,5 +1,5 @@
 -- Every event of a world of the servers form notes what is right.
-use Rattle.std.proofs.Common.{◌≡◌, ℕ, ◌+◌, ◌==◌, ◌≤◌, ◌<◌, true, false, List, [], ◌∷◌, length, cond, refl, ap, ◌∙◌, subst}
+use Rattle.std.proofs.Common.{◌≡◌, ℕ, ◌+◌, ◌==◌, ◌≤◌, ◌<◌, true, false, List, [], ◌∷◌, length, cond, refl, sym, ap, ◌∙◌, subst}
 use Rattle.std.specs.Prelude.{Option, Some, None, nat_lt, slice_get}
 use Rattle.std.specs.FinMap.{get}
 use Rattle.std.specs.List.{AllByRecursion, find}
@@ -7,6 +7,7 @@ use Rattle.fs_ident.specs.declared.actor.Peer.{Peer}
 use Rattle.fs_ident.specs.declared.actor.Peer.TheVariants.{Server, Client}
 use Rattle.fs_ident.specs.declared.actor.Session.{Session}
 use Rattle.fs_ident.proofs.Booleans.{both}
+use Rattle.fs_ident.proofs.Standing.{In-got}
 use Rattle.fs_field.specs.declared.field.Field.{Field}
 use Rattle.fs_field.specs.declared.row.Row.{Row}
 use Rattle.fs_frag.specs.declared.joined.Joined.{Joined}
@@ -17,10 +18,10 @@ use Rattle.fs_window.specs.declared.heard.Heard.{Heard}
 use Rattle.fs_window.specs.declared.packet.Packet.{Packet}
 use Rattle.fs_window.specs.declared.sent.Sent.{Sent}
 use Rattle.fs_msg.specs.declared.answer.Answer.{Answer}
-use Rattle.fs_msg.specs.declared.client_msg.ClientMsg.{ClientMsg}
 use Rattle.fs_msg.specs.declared.note.Note.{Note}
 use Rattle.fs_msg.specs.declared.note.Note.TheVariants as note
 use Rattle.fs_msg.specs.declared.peer_msg.PeerMsg.TheVariants.{Parcel as OfParcel}
+use Rattle.fs_actor.specs.Hearing.{answer_heard, event_heard, heard_in, quiet_note, silent_note}
 use Rattle.fs_client.specs.Answers.{answer_plan}
 use Rattle.fs_server.specs.Step.{step}
 use Rattle.fs_server.specs.declared.event.ServerEvent.{ServerEvent}
@@ -33,19 +34,22 @@ use Rattle.fs_serial.specs.Cluster.{Cluster, IsThere, Lines, after_step, is_betw
 use Rattle.fs_serial.specs.Refusals.{rows_in}
 use Rattle.fs_serial.specs.Joined.{rows_of_all}
 use Rattle.fs_serial.specs.declared.flying.Flying.{Flying}
+use Rattle.fs_world.specs.Calls.{client_hears, server_hears}
+use Rattle.fs_world.specs.Carried.{Carries, GivesFirst, IsFirstOf, between, downs_of, joined_at, parcels_between, post_of, seat_post, ups_of}
 use Rattle.fs_world.specs.Order.{Told}
 use Rattle.fs_world.specs.Packets.{first_untold}
 use Rattle.fs_world.specs.Parts.{lines_in, lines_of}
-use Rattle.fs_world.specs.Served.{Stepped, arrives, at_server, client_hears, comes, do_at, first_from, heard_in, join_at, quiet_note, server_hears, server_step_at, server_told, server_told_at, step_of, tell_at, told_at, turn_at, up_first, with_seat, with_server}
+use Rattle.fs_world.specs.Served.{Stepped, arrives, at_server, comes, do_at, join_at, server_step_at, server_told, server_told_at, step_of, tell_at, told_at, turn_at, with_seat, with_server}
 use Rattle.fs_world.specs.World.{may_happen}
 use Rattle.fs_world.specs.declared.seat.Seat.{Seat}
 use Rattle.fs_world.specs.declared.served.Served.{Served}
+use Rattle.fs_world.proofs.Heard.{first_answer, first_parcel, first_question}
 use Rattle.fs_world.proofs.Right.{IsRight, event_right, plain_client, turn_right}
 use Rattle.fs_world.proofs.SerialLaws.{SerialLaws}
 use Rattle.fs_world.proofs.ServedHolds.{cluster_of}
 use Rattle.fs_world.proofs.ServedSteps.{to_there}
 use Rattle.fs_world.proofs.ServerHolds.{clock, parcel_there, question_there}
-use Rattle.fs_world.proofs.SessionSteps.{HoldsOf, answer_found, parts_of}
+use Rattle.fs_world.proofs.SessionSteps.{HoldsOf, parts_of}
 
 -- what the event notes is right, of the world after it
 abbrev pub AllRight : List Row → List Note → Type 0
@@ -56,6 +60,10 @@ quiet rows x = elim (x.fresh == 0) as (λ b. AllRight rows (cond b note.None not
   | true ↦ (record { plain = refl; fair = tt }, tt)
   | false ↦ (record { plain = refl; fair = tt }, tt)
 ]
+
+silent : (rows : List Row) (js : List Joined) (x : Heard) → AllRight rows (silent_note js x ∷ [])
+silent rows [] x = quiet rows x
+silent rows (j ∷ js) x = (record { plain = refl; fair = tt }, tt)
 
 module _ (laws : SerialLaws) (count skew greatest : ℕ) (told : List Told) (w : Served) (h : HoldsOf count skew greatest told w) (now : ℕ) (within : greatest ≤ now + skew) (some : 1 ≤ count) where
   abbrev rows_at : Served → List Row
@@ -81,65 +89,66 @@ module _ (laws : SerialLaws) (count skew greatest : ℕ) (told : List Told) (w :
   turns_right s None = (record { plain = refl; fair = tt }, tt)
   turns_right s (Some seat) = (turn_right (rows_at w) seat.client now, tt)
 
-  hears_right : (s : Session) (k : ℕ) (seat : Seat) (heard : Option Peer) (x : Heard) (js : List Joined) (links : Links) (first : Option (ℕ × Answer)) → get w.seats s.0 ≡ Some seat → find (is_with k) seat.down ≡ first
-      → Right (with_seat s (client_hears now s k heard x js first (record seat { post = links }) w.journal w.packets) w)
-  hears_right s k seat heard x [] links first at e = quiet (rows_at w) x
-  hears_right s k seat heard x (j ∷ js) links None at e = (record { plain = refl; fair = tt }, tt)
-  hears_right s k seat heard x (j ∷ js) links (Some m) at e =
+  answer_right : (s : Session) (k : ℕ) (seat : Seat) (heard : Option Peer) (x : Heard) (links : Links) (a : Answer) → get w.seats s.0 ≡ Some seat → find (is_with k) seat.down ≡ Some (k, a)
+      → Right (with_seat s (client_hears now s k heard x (Some a) (record seat { post = links }) w.journal w.packets) w)
+  answer_right s k seat heard x links a at first =
       let own : lines_of w.term w.seats s ≡ lines_in w.term s (Some seat) = ap (lines_in w.term s) at in (
-        subst (λ (n : Lines). IsRight (rows_at w) (note.Client (answer_plan n.client now k m.1).out.note)) own
-            (plain_client (rows_at w) (answer_plan (lines_of w.term w.seats s).client now k m.1).out.note
-            (laws.client_plain skew greatest now k m.1 s seen (ap (λ (n : Lines). find (is_with k) n.down) own ∙ answer_found k seat.down m e) h.cluster)),
+        subst (λ (n : Lines). IsRight (rows_at w) (note.Client (answer_plan n.client now k a).out.note)) own
+            (plain_client (rows_at w) (answer_plan (lines_of w.term w.seats s).client now k a).out.note
+            (laws.client_plain skew greatest now k a s seen (ap (λ (n : Lines). find (is_with k) n.down) own ∙ first) h.cluster)),
         tt,
       )
 
-  told_right : (s : Session) (k : ℕ) (p : Packet) (o : Option Seat) → get w.seats s.0 ≡ o → Right (told_at o now s k p w)
-  told_right s k p None at = (record { plain = refl; fair = tt }, tt)
-  told_right s k p (Some seat) at = let a = post_accepted seat.post (Server k) p in hears_right s k seat (heard_in (Server k) p) a.heard a.heard.joined a.links (find (is_with k) seat.down) at refl
+  hears_right : (s : Session) (k : ℕ) (seat : Seat) (heard : Option Peer) (x : Heard) (js : List Joined) (links : Links) → get w.seats s.0 ≡ Some seat → IsFirstOf js (downs_of k (Some seat))
+      → Right (with_seat s (client_hears now s k heard x (answer_heard js) (record seat { post = links }) w.journal w.packets) w)
+  hears_right s k seat heard x [] links at f = silent (rows_at w) x.joined x
+  hears_right s k seat heard x (j ∷ js) links at f =
+      let first = first_answer k seat j js f in
+      subst (λ (o : Option Answer). Right (with_seat s (client_hears now s k heard x o (record seat { post = links }) w.journal w.packets) w)) (sym first.2) (answer_right s k seat heard x links first.0 at first.1)
+
+  told_right : (s : Session) (k : ℕ) (p : Packet) (o : Option Seat) → get w.seats s.0 ≡ o → IsFirstOf (joined_at (seat_post o) (Server k) p) (downs_of k o) → Right (told_at o now s k p w)
+  told_right s k p None at f = (record { plain = refl; fair = tt }, tt)
+  told_right s k p (Some seat) at f = let a = post_accepted seat.post (Server k) p in hears_right s k seat (heard_in (Server k) p) a.heard a.heard.joined a.links at f
 
   -- ## At a server that there is
 
   module _ (k : ℕ) (c : Core) (post : Links) (at : slice_get w.servers k ≡ Some c) where
-    abbrev hearing : Peer → Option Peer → Heard → List Joined → Option ServerEvent → Links → Stepped
-    hearing from heard x js first links = with_server k (server_hears now k from heard x js first (record (at_server c post w) { post = links })) w
+    abbrev hearing : Peer → Option Peer → Heard → Option ServerEvent → Links → Stepped
+    hearing from heard x e links = with_server k (server_hears now k from heard x e (record (at_server c post w) { post = links })) w
 
     event : (e : ServerEvent) → IsThere k e seen → IsRight (rows_in (after_step k e (step c now e) seen)) (note.Server (step c now e).out.note)
     event e = event_right laws skew greatest now k c seen at h.cluster (clock laws count skew greatest told (parts_of w) h now k c at) within e
 
-    message_right : (s : Session) (seat : Seat) (heard : Option Peer) (x : Heard) (j : Joined) (js : List Joined) (links : Links) (o : Option (ℕ × ClientMsg)) → get w.seats s.0 ≡ Some seat → find (is_with k) seat.up ≡ o
-        → Right (hearing (Client s) heard x (j ∷ js) (elim o as (λ _. Option ServerEvent) [ None ↦ None | Some m ↦ Some (FromClient s m.1) ]) links)
-    message_right s seat heard x j js links None is first = (record { plain = refl; fair = tt }, tt)
-    message_right s seat heard x j js links (Some m) is first = (event (FromClient s m.1) (question_there laws count skew greatest told (parts_of w) h now k c at s seat m is first), tt)
+    session_right : (s : Session) (o : Option Seat) → get w.seats s.0 ≡ o → (heard : Option Peer) (x : Heard) (js : List Joined) (links : Links) → IsFirstOf js (ups_of k o) → Right (hearing (Client s) heard x (event_heard (Client s) js) links)
+    session_right s o is heard x [] links f = silent _ x.joined x
+    session_right s None is heard x (j ∷ js) links f = absurd f
+    session_right s (Some seat) is heard x (j ∷ js) links f =
+        let first = first_question k s seat j js f in
+        subst (λ (e : Option ServerEvent). Right (hearing (Client s) heard x e links)) (sym first.2)
+        (event (FromClient s first.0.1) (question_there laws count skew greatest told (parts_of w) h now k c at s seat first.0 is first.1), tt)
 
-    session_right : (s : Session) (o : Option Seat) → get w.seats s.0 ≡ o → (heard : Option Peer) (x : Heard) (js : List Joined) (links : Links) → Right (hearing (Client s) heard x js (up_first k s o) links)
-    session_right s o is heard x [] links = quiet _ x
-    session_right s None is heard x (j ∷ js) links = (record { plain = refl; fair = tt }, tt)
-    session_right s (Some seat) is heard x (j ∷ js) links = message_right s seat heard x j js links (find (is_with k) seat.up) is refl
+    peer_right : (i : ℕ) (heard : Option Peer) (x : Heard) (js : List Joined) (links : Links) → IsFirstOf js (parcels_between i k w.flying) → Right (hearing (Server i) heard x (event_heard (Server i) js) links)
+    peer_right i heard x [] links f = silent _ x.joined x
+    peer_right i heard x (j ∷ js) links f =
+        let first = first_parcel k i w.flying j js f in
+        subst (λ (e : Option ServerEvent). Right (hearing (Server i) heard x e links)) (sym first.2)
+        (event (FromPeer i (OfParcel first.0.parcel)) (parcel_there laws count skew greatest told (parts_of w) h now k c at i first.0 first.1), tt)
 
-    parcel_right : (i : ℕ) (heard : Option Peer) (x : Heard) (j : Joined) (js : List Joined) (links : Links) (o : Option Flying) → find (is_between i k) w.flying ≡ o
-        → Right (hearing (Server i) heard x (j ∷ js) (elim o as (λ _. Option ServerEvent) [ None ↦ None | Some f ↦ Some (FromPeer i (OfParcel f.parcel)) ]) links)
-    parcel_right i heard x j js links None first = (record { plain = refl; fair = tt }, tt)
-    parcel_right i heard x j js links (Some f) first = (event (FromPeer i (OfParcel f.parcel)) (parcel_there laws count skew greatest told (parts_of w) h now k c at i f first), tt)
-
-    peer_right : (i : ℕ) (heard : Option Peer) (x : Heard) (js : List Joined) (links : Links) → Right (hearing (Server i) heard x js (first_from k (Server i) w.seats w.flying) links)
-    peer_right i heard x [] links = quiet _ x
-    peer_right i heard x (j ∷ js) links = parcel_right i heard x j js links (find (is_between i k) w.flying) refl
-
-    told_server : (from : Peer) (p : Packet) → Right (with_server k (server_told now k from p (at_server c post w)) w)
-    told_server (Client s) p =
+    told_server : (from : Peer) (p : Packet) → IsFirstOf (post_accepted post from p).heard.joined (between w from (Server k)) → Right (with_server k (server_told now k from p (at_server c post w)) w)
+    told_server (Client s) p f =
         let a = post_accepted post (Client s) p in
-        session_right s (get w.seats s.0) refl (heard_in (Client s) p) a.heard a.heard.joined a.links
-    told_server (Server i) p =
+        session_right s (get w.seats s.0) refl (heard_in (Client s) p) a.heard a.heard.joined a.links f
+    told_server (Server i) p f =
         let a = post_accepted post (Server i) p in
-        peer_right i (heard_in (Server i) p) a.heard a.heard.joined a.links
+        peer_right i (heard_in (Server i) p) a.heard a.heard.joined a.links f
 
   -- ## At any server
 
-  told_at_server : (k : ℕ) (from : Peer) (p : Packet) (c : Option Core) (post : Option Links) → slice_get w.servers k ≡ c → Right (server_told_at c post now k from p w)
-  told_at_server k from p (Some c) (Some post) at = told_server k c post at from p
-  told_at_server k from p (Some c) None at = (record { plain = refl; fair = tt }, tt)
-  told_at_server k from p None (Some post) at = (record { plain = refl; fair = tt }, tt)
-  told_at_server k from p None None at = (record { plain = refl; fair = tt }, tt)
+  told_at_server : (k : ℕ) (from : Peer) (p : Packet) (c : Option Core) (post : Option Links) → slice_get w.servers k ≡ c → IsFirstOf (joined_at post from p) (between w from (Server k)) → Right (server_told_at c post now k from p w)
+  told_at_server k from p (Some c) (Some post) at f = told_server k c post at from p f
+  told_at_server k from p (Some c) None at f = (record { plain = refl; fair = tt }, tt)
+  told_at_server k from p None (Some post) at f = (record { plain = refl; fair = tt }, tt)
+  told_at_server k from p None None at f = (record { plain = refl; fair = tt }, tt)
 
   turn_at_server : (k : ℕ) (c : Option Core) (post : Option Links) → slice_get w.servers k ≡ c → Right (server_step_at c post k true now TheTurn w)
   turn_at_server k (Some c) (Some post) at = (event k c post at TheTurn tt, tt)
@@ -161,27 +170,27 @@ module _ (laws : SerialLaws) (count skew greatest : ℕ) (told : List Told) (w :
 
   -- ## Each event
 
-  comes_right : (from to : Peer) (p : Packet) → Right (comes now from to p w)
-  comes_right (Client s) (Server k) p = told_at_server k (Client s) p (slice_get w.servers k) (slice_get w.posts k) refl
-  comes_right (Server j) (Server k) p = told_at_server k (Server j) p (slice_get w.servers k) (slice_get w.posts k) refl
-  comes_right (Server j) (Client s) p = told_right s j p (get w.seats s.0) refl
-  comes_right (Client r) (Client s) p = (record { plain = refl; fair = tt }, tt)
+  comes_right : (from to : Peer) (p : Packet) → IsFirstOf (joined_at (post_of w to) from p) (between w from to) → Right (comes now from to p w)
+  comes_right (Client s) (Server k) p f = told_at_server k (Client s) p (slice_get w.servers k) (slice_get w.posts k) refl f
+  comes_right (Server j) (Server k) p f = told_at_server k (Server j) p (slice_get w.servers k) (slice_get w.posts k) refl f
+  comes_right (Server j) (Client s) p f = told_right s j p (get w.seats s.0) refl f
+  comes_right (Client r) (Client s) p f = (record { plain = refl; fair = tt }, tt)
 
-  arrives_right : (from to : Peer) (p : Option Packet) → Right (arrives now from to p w)
-  arrives_right from to None = (record { plain = refl; fair = tt }, tt)
-  arrives_right from to (Some p) = comes_right from to p
+  arrives_right : (from to : Peer) (p : Option Packet) → GivesFirst w from to p → Right (arrives now from to p w)
+  arrives_right from to None f = (record { plain = refl; fair = tt }, tt)
+  arrives_right from to (Some p) f = comes_right from to p f
 
-  tell_right : (o : Option Sent) (k : ℕ) → Right (tell_at o now k w)
-  tell_right None k = (record { plain = refl; fair = tt }, tt)
-  tell_right (Some x) k = arrives_right x.from x.to (packet_at x.bytes)
+  tell_right : Carries w → (o : Option Sent) (k : ℕ) → slice_get w.packets.sent k ≡ o → Right (tell_at o now k w)
+  tell_right carry None k at = (record { plain = refl; fair = tt }, tt)
+  tell_right carry (Some x) k at = arrives_right x.from x.to (packet_at x.bytes) (carry x (In-got w.packets.sent k x at))
 
-  pub step_right : (term : ℕ) (what : What) → may_happen (Servers count skew term) what ≡ true → Right (step_of w now what)
-  step_right term (Join s) may = join_right s (get w.seats s.0)
-  step_right term (Do s o) may = do_right s o (get w.seats s.0)
-  step_right term (Tell None) may = tell_right (slice_get w.packets.sent (first_untold w.packets.told)) (first_untold w.packets.told)
-  step_right term (Tell (Some k)) may = tell_right (slice_get w.packets.sent k) k
-  step_right term (Turn (Client s)) may = turns_right s (get w.seats s.0)
-  step_right term (Turn (Server k)) may = turn_at_server k (slice_get w.servers k) (slice_get w.posts k) refl
-  step_right term (Recall k field) may = recall_at_server k field (slice_get w.servers k) (slice_get w.posts k) refl
-  step_right term (Move k prefix to) may =
+  pub step_right : Carries w → (term : ℕ) (what : What) → may_happen (Servers count skew term) what ≡ true → Right (step_of w now what)
+  step_right carry term (Join s) may = join_right s (get w.seats s.0)
+  step_right carry term (Do s o) may = do_right s o (get w.seats s.0)
+  step_right carry term (Tell None) may = tell_right carry (slice_get w.packets.sent (first_untold w.packets.told)) (first_untold w.packets.told) refl
+  step_right carry term (Tell (Some k)) may = tell_right carry (slice_get w.packets.sent k) k refl
+  step_right carry term (Turn (Client s)) may = turns_right s (get w.seats s.0)
+  step_right carry term (Turn (Server k)) may = turn_at_server k (slice_get w.servers k) (slice_get w.posts k) refl
+  step_right carry term (Recall k field) may = recall_at_server k field (slice_get w.servers k) (slice_get w.posts k) refl
+  step_right carry term (Move k prefix to) may =
       move_at_server k prefix to (slice_get w.servers k) (slice_get w.posts k) refl (to_there laws count skew greatest told w h now within some to (both (nat_lt k count) (nat_lt to count) may).1)
