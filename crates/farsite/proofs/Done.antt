@@ -6,8 +6,9 @@ use Rattle.fs_schedule.specs.declared.event.Schedule.{Schedule}
 use Rattle.fs_schedule.specs.Faults.{AtLine, FaultsAt, IsFirstFault, IsScheduleText, LinesFaultAt, PassesLimit}
 use Rattle.fs_report.specs.Report.{done_text}
 use Rattle.fs_schedule.proofs.Single.{form_fits}
+use Rattle.fs_world.specs.Carried.{AllCarry}
 use Rattle.fs_world.specs.Refusals.{NoneHas, is_link_strange}
-use Rattle.fs_world.specs.World.{AllMayHappen, run_of, stop_of}
+use Rattle.fs_world.specs.World.{AllMayHappen, first_world, run_of, stop_of}
 use Rattle.fs_world.proofs.HeldLaws.{serial_laws}
 use Rattle.fs_world.proofs.RightRuns.{neither_strange, no_core_strange, refusals_fair}
 use Rattle.fs_world.proofs.Whole.{run_is_serial, told_is_admitted}
@@ -22,15 +23,15 @@ use Rattle.farsite.specs.declared.status.Status.TheVariants as status
 use Rattle.farsite.specs.Headline.{IsLimit, IsReplay, report_of}
 
 -- a schedule's report was written
-pub replayed : (s : Schedule) (bytes : List ℕ) (a b : Option (List ℕ)) → IsScheduleText s bytes → AllMayHappen s.head s.events → stop_of s ≡ None → NoneHas is_link_strange (run_of s).outcomes → Appends a b (report_of (run_of s)) → IsReplay bytes a b
-replayed s bytes a b r f h k w = record {
+pub replayed : (s : Schedule) (bytes : List ℕ) (a b : Option (List ℕ)) → IsScheduleText s bytes → AllMayHappen s.head s.events → stop_of s ≡ None → NoneHas is_link_strange (run_of s).outcomes → AllCarry (first_world s.head) s.events → Appends a b (report_of (run_of s)) → IsReplay bytes a b
+replayed s bytes a b r f h k carry w = record {
   schedule = s;
   read = r;
   whole = h;
   written = w;
-  headline = run_is_serial serial_laws s (form_fits s bytes r) f r.1;
-  fair = refusals_fair serial_laws s (form_fits s bytes r) f r.1;
-  known = neither_strange (run_of s).outcomes k (no_core_strange serial_laws s (form_fits s bytes r) f r.1);
+  headline = run_is_serial serial_laws s (form_fits s bytes r) f r.1 carry;
+  fair = refusals_fair serial_laws s (form_fits s bytes r) f r.1 carry;
+  known = neither_strange (run_of s).outcomes k (no_core_strange serial_laws s (form_fits s bytes r) f r.1 carry);
   admitted = λ direct. told_is_admitted serial_laws s direct f;
 }
 

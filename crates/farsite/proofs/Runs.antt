@@ -12,6 +12,7 @@ use Rattle.fs_schedule.specs.declared.event.Event.{Event}
 use Rattle.fs_msg.specs.declared.core_error.Counter.{Counter}
 use Rattle.fs_schedule.specs.declared.limits.TheConstants.{PACKETS}
 use Rattle.fs_world.specs.declared.form.Form.{Form}
+use Rattle.fs_world.specs.Carried.{AllCarry, LinksCarry}
 use Rattle.fs_world.specs.World.{Run, AtPackets, more, packets_of, run_on, step, stop_after, stop_at, stop_in}
 
 -- the run goes on with one more event
@@ -48,6 +49,11 @@ goes_on w after line es i e lt is eq none less =
     ∙ ap (λ (o : Option Counter). stop_at o (stop_after line (packets_of (step w e).world) (stop_in (step w e).world (line + 1) (drop (i + 1) es)))) none
     ∙ ap (λ (v : Form). stop_after line (packets_of v) (stop_in v (line + 1) (drop (i + 1) es))) (sym eq)
     ∙ ap (λ (b : Bool). if b then Some (AtPackets line) else stop_in after (line + 1) (drop (i + 1) es)) (few (length (packets_of after)) less)
+
+-- what was sent is carried before an event, and before those that follow
+pub carried_on : (w after : Form) (es : List Event) (i : ℕ) (e : Event) → i < length es → e ≡ get_or es i e → after ≡ (step w e).world → LinksCarry w → AllCarry after (drop (i + 1) es) → AllCarry w (drop i es)
+carried_on w after es i e lt is eq carry rest =
+    subst (λ (xs : List Event). AllCarry w xs) (sym (drop_more es i e lt ∙ ap (λ (x : Event). x ∷ drop (i + 1) es) (sym is))) (carry, subst (λ (v : Form). AllCarry v (drop (i + 1) es)) eq rest)
 
 -- one more line is written
 pub lines_step : (a b c : Option (List ℕ)) (lines : List ℕ) (at end : ℕ) → at ≤ end → Appends a b (take at lines) → Appends b c (take (end - at) (drop at lines)) → Appends a c (take end lines)

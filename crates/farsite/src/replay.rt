@@ -3,6 +3,7 @@ ghost use Rattle.std.specs.Prelude.{◌≡◌, ◌++◌, IfOk, OnOk, None, Some,
 ghost use Rattle.fs_msg.specs.declared.core_error.Counter.{Counter as TheCounter};
 ghost use Rattle.fs_report.specs.Report.{outcomes_text, items_text, report_text};
 ghost use Rattle.fs_schedule.specs.Spelling.{FitsHead};
+ghost use Rattle.fs_world.specs.Carried.{AllCarry};
 ghost use Rattle.fs_world.specs.Refusals.{NoneHas, is_link_strange};
 ghost use Rattle.fs_world.specs.World.{AtCounter, AtPackets, first_world, run_of, stop_of};
 ghost use Rattle.farsite.specs.Fitting.{MayHappen};
@@ -26,6 +27,7 @@ pub(crate) fn report_of(alloc: Global, schedule: &Schedule) -> Result<Vec<u8>, R
     requires events { MayHappen (first_world schedule.now.head) schedule.now.events }
     ensures ok { IfOk result (λ v. v.items ≡ report_of (run_of schedule.now)) }
     ensures known { OnOk result (NoneHas is_link_strange (run_of schedule.now).outcomes) }
+    ensures carried { OnOk result (AllCarry (first_world schedule.now.head) schedule.now.events) }
     ensures whole { OnOk result (stop_of schedule.now ≡ None) }
     ensures spent { (counter : TheCounter) → IsErrOf result (Spent counter) →
         stop_of schedule.now ≡ Some (AtCounter counter) }

@@ -2,6 +2,7 @@
 ghost use Rattle.std.specs.Prelude.{◌≡◌, ℕ, IfOk, OnOk, None, Some, IsErrOf};
 ghost use Rattle.fs_msg.specs.declared.core_error.Counter.{Counter as TheCounter};
 ghost use Rattle.fs_schedule.specs.Spelling.{FitsHead};
+ghost use Rattle.fs_world.specs.Carried.{AllCarry};
 ghost use Rattle.fs_world.specs.Refusals.{NoneHas, is_link_strange};
 ghost use Rattle.fs_world.specs.World.{AtCounter, AtPackets, first_world, run_of, run_on, stop_in, stop_of};
 ghost use Rattle.farsite.specs.Fitting.{MayHappen};
@@ -22,6 +23,7 @@ pub(crate) fn run(alloc: Global, schedule: &Schedule) -> Result<(World, List<Out
     ensures world { IfOk result (λ r. r.0 ≡ (run_of schedule.now).world) }
     ensures outcomes { IfOk result (λ r. r.1 ≡ (run_of schedule.now).outcomes) }
     ensures known { OnOk result (NoneHas is_link_strange (run_of schedule.now).outcomes) }
+    ensures carried { OnOk result (AllCarry (first_world schedule.now.head) schedule.now.events) }
     ensures whole { OnOk result (stop_of schedule.now ≡ None) }
     ensures spent { (counter : TheCounter) → IsErrOf result (Spent counter) →
         stop_of schedule.now ≡ Some (AtCounter counter) }
@@ -51,6 +53,7 @@ fn run_all(
         run_on (record { world = world.old; outcomes = told.old }) events.now) }
     ensures known { OnOk result
         (NoneHas is_link_strange told.old → NoneHas is_link_strange told.new) }
+    ensures carried { OnOk result (AllCarry world.old events.now) }
     ensures whole { OnOk result (stop_in world.old 2 events.now ≡ None) }
     ensures spent { (counter : TheCounter) → IsErrOf result (Spent counter) →
         stop_in world.old 2 events.now ≡ Some (AtCounter counter) }

@@ -5,6 +5,7 @@ use Rattle.std.specs.FinMap.{get, insert}
 use Rattle.fs_ident.specs.declared.actor.Peer.TheVariants.{Client, Server}
 use Rattle.fs_ident.specs.declared.actor.Session.{Session}
 use Rattle.fs_ident.specs.declared.limits.TheConstants.{SESSIONS}
+use Rattle.fs_actor.specs.Actor.{first_spent}
 use Rattle.fs_window.specs.declared.packet.Packet.{Packet}
 use Rattle.fs_world.specs.Planned.{WasSent}
 use Rattle.fs_msg.specs.declared.core_error.CoreError.{CoreError}
@@ -14,7 +15,7 @@ use Rattle.fs_schedule.specs.declared.outcome.Outcome.{Outcome}
 use Rattle.fs_world.specs.Calls.{seat_found, seat_left, world_left}
 use Rattle.fs_world.specs.Linked.{IsLinked}
 use Rattle.fs_world.specs.Packets.{Packets}
-use Rattle.fs_world.specs.Served.{SeatStepped, Seats, Stepped, first_seat, first_spent, join_at, told_at, with_seat}
+use Rattle.fs_world.specs.Served.{SeatStepped, Seats, Stepped, first_seat, join_at, told_at, with_seat}
 use Rattle.fs_world.specs.declared.seat.Seat.{Seat}
 use Rattle.fs_world.specs.declared.served.Served.{Served}
 use Rattle.fs_world.proofs.Linked.{join_linked, told_seat_linked}

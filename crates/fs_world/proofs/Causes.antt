@@ -9,6 +9,7 @@ use Rattle.fs_ident.specs.declared.actor.Peer.{Peer}
 use Rattle.fs_ident.specs.declared.actor.Peer.TheVariants.{Server, Client}
 use Rattle.fs_ident.specs.declared.actor.Session.{Session}
 use Rattle.fs_ident.proofs.Passing.{found}
+use Rattle.fs_ident.proofs.Standing.{In-got}
 use Rattle.fs_field.specs.declared.row.Row.{Row}
 use Rattle.fs_field.specs.Table.{has_no}
 use Rattle.fs_frag.specs.declared.joined.Joined.{Joined}
@@ -37,6 +38,7 @@ use Rattle.fs_record.specs.declared.parcel.Parcel.{Parcel}
 use Rattle.fs_view.specs.declared.kept.Kept.{Kept}
 use Rattle.fs_client.specs.Acts.{act_plan}
 use Rattle.fs_client.specs.Answers.{answer_plan, fits, hear, strange, told}
+use Rattle.fs_actor.specs.Hearing.{answer_heard, event_heard, heard_in, quiet_note, silent_note}
 use Rattle.fs_client.specs.Client.{begun}
 use Rattle.fs_client.specs.Turns.{ending, idle, release_some, renew_some, returned, ship_some, turn_free, turn_on, turn_plan}
 use Rattle.fs_client.specs.declared.state.Client.{Client as ClientState}
@@ -58,10 +60,13 @@ use Rattle.fs_schedule.specs.declared.event.What.TheVariants.{Join, Do, Tell, Tu
 use Rattle.fs_world.specs.Over.{AllCaused, Said, all_said, sender_in}
 use Rattle.fs_world.specs.Packets.{first_untold}
 use Rattle.fs_world.specs.Refusals.{packet_told}
-use Rattle.fs_world.specs.Served.{Seats, Stepped, arrives, at_server, client_acts, client_hears, client_turns, comes, do_at, first_from, first_seat, heard_in, join_at, quiet_note, server_hears, server_step_at, server_told, server_told_at, step_of, tell_at, told_at, turn_at, up_first, with_downs, with_seat, with_server, without_up}
+use Rattle.fs_world.specs.Calls.{client_hears, server_hears}
+use Rattle.fs_world.specs.Carried.{Carries, GivesFirst, IsFirstOf, between, downs_of, joined_at, parcels_between, post_of, seat_post, ups_of}
+use Rattle.fs_world.specs.Served.{Seats, Stepped, arrives, at_server, client_acts, client_turns, comes, do_at, first_seat, join_at, server_step_at, server_told, server_told_at, step_of, tell_at, told_at, turn_at, with_downs, with_seat, with_server, without_up}
 use Rattle.fs_world.specs.declared.form.Form.TheVariants as form
 use Rattle.fs_world.specs.declared.seat.Seat.{Seat}
 use Rattle.fs_world.specs.declared.served.Served.{Served}
+use Rattle.fs_world.proofs.Heard.{first_answer, first_parcel, first_question}
 use Rattle.fs_world.proofs.Said.{AreGiven, AreKnown, IsKnown, IsNoted, WasGiven, act_caused, all_more, downs_known, given_append, given_behind_all, heard_more, known_put, note_caused, note_heard}
 
 -- ## What a client notes of a turn is no answer
@@ -218,31 +223,34 @@ module _ (before : List Said) (w : Served) (h : AreKnown before w.seats) (now : 
           coming = still_coming new seat.down (λ m i. i);
         })
 
-    answered : (k : ℕ) (heard : Option Peer) (x : HeardThere) (j : Joined) (js : List Joined) (links : Links) (m : ℕ × Answer) → find (is_with k) seat.down ≡ Some m → Tells (with_seat s (client_hears now s k heard x (j ∷ js) (Some m) (record seat { post = links }) w.journal w.packets) w)
-    answered k heard x j js links m first =
-        let p = answer_plan seat.client now k m.1 in
+    answered : (k : ℕ) (heard : Option Peer) (x : HeardThere) (links : Links) (a : Answer) → find (is_with k) seat.down ≡ Some (k, a) → Tells (with_seat s (client_hears now s k heard x (Some a) (record seat { post = links }) w.journal w.packets) w)
+    answered k heard x links a first =
+        let p = answer_plan seat.client now k a in
         let new = all_said from (Some (Client s)) (note.Client p.out.note ∷ []) in
-        let given : WasGiven before s m.1 = seated.coming m (found (is_with k) seat.down m first).0 in
-        let noted : IsNoted before s p.out.note = hear_noted before s k m.1 (begun now seat.client) given in
-        sits new (client_hears now s k heard x (j ∷ js) (Some m) (record seat { post = links }) w.journal w.packets).seat
+        let given : WasGiven before s a = seated.coming (k, a) (found (is_with k) seat.down (k, a) first).0 in
+        let noted : IsNoted before s p.out.note = hear_noted before s k a (begun now seat.client) given in
+        sits new (client_hears now s k heard x (Some a) (record seat { post = links }) w.journal w.packets).seat
         (note_caused before from s p.out.note noted)
         (record {
-          over = λ n e. note_heard before from s p.out.note seat.client.over seated.over n (sym (answers_tell seat.client now k m.1) ∙ e);
+          over = λ n e. note_heard before from s p.out.note seat.client.over seated.over n (sym (answers_tell seat.client now k a) ∙ e);
           coming = still_coming new (without_first (is_with k) seat.down) (λ i at. In_without (is_with k) seat.down i at);
         })
 
-    quiet : (k : ℕ) (heard : Option Peer) (x : HeardThere) (first : Option (ℕ × Answer)) (links : Links) → Tells (with_seat s (client_hears now s k heard x [] first (record seat { post = links }) w.journal w.packets) w)
-    quiet k heard x first links =
-        let next = (client_hears now s k heard x [] first (record seat { post = links }) w.journal w.packets).seat in
-        elim (x.fresh == 0) as (λ b. Says before (all_said from (Some (Client s)) (cond b note.None note.Part ∷ [])) (insert w.seats s.0 next)) [
-          | true ↦ posts next refl refl
-          | false ↦ posts next refl refl
+    unheard : (k : ℕ) (heard : Option Peer) (x : HeardThere) (links : Links) → Tells (with_seat s (client_hears now s k heard x None (record seat { post = links }) w.journal w.packets) w)
+    unheard k heard x links = noted x.joined
+      where
+        noted : (js : List Joined) → Says before (all_said from (Some (Client s)) (silent_note js x ∷ [])) (insert w.seats s.0 (client_hears now s k heard x None (record seat { post = links }) w.journal w.packets).seat)
+        noted [] = elim (x.fresh == 0) as (λ b. Says before (all_said from (Some (Client s)) (cond b note.None note.Part ∷ [])) (insert w.seats s.0 (client_hears now s k heard x None (record seat { post = links }) w.journal w.packets).seat)) [
+          | true ↦ posts (client_hears now s k heard x None (record seat { post = links }) w.journal w.packets).seat refl refl
+          | false ↦ posts (client_hears now s k heard x None (record seat { post = links }) w.journal w.packets).seat refl refl
         ]
+        noted (j ∷ js) = posts (client_hears now s k heard x None (record seat { post = links }) w.journal w.packets).seat refl refl
 
-    hears : (k : ℕ) (heard : Option Peer) (x : HeardThere) (js : List Joined) (links : Links) (first : Option (ℕ × Answer)) → find (is_with k) seat.down ≡ first → Tells (with_seat s (client_hears now s k heard x js first (record seat { post = links }) w.journal w.packets) w)
-    hears k heard x [] links first e = quiet k heard x first links
-    hears k heard x (j ∷ js) links None e = posts (client_hears now s k heard x (j ∷ js) None (record seat { post = links }) w.journal w.packets).seat refl refl
-    hears k heard x (j ∷ js) links (Some m) e = answered k heard x j js links m e
+    hears : (k : ℕ) (heard : Option Peer) (x : HeardThere) (js : List Joined) (links : Links) → IsFirstOf js (downs_of k (Some seat)) → Tells (with_seat s (client_hears now s k heard x (answer_heard js) (record seat { post = links }) w.journal w.packets) w)
+    hears k heard x [] links f = unheard k heard x links
+    hears k heard x (j ∷ js) links f =
+        let first = first_answer k seat j js f in
+        subst (λ (o : Option Answer). Tells (with_seat s (client_hears now s k heard x o (record seat { post = links }) w.journal w.packets) w)) (sym first.2) (answered k heard x links first.0 first.1)
 
   join_says : (s : Session) (o : Option Seat) → Tells (join_at o s w)
   join_says s None = silent (insert w.seats s.0 (first_seat w.term s)) (known_put before w.seats s (first_seat w.term s) h (record { over = λ n e. absurd (cc e); coming = λ m i. absurd i }))
@@ -256,11 +264,11 @@ module _ (before : List Said) (w : Served) (h : AreKnown before w.seats) (now : 
   turns_says s None at = silent w.seats h
   turns_says s (Some seat) at = turns s seat at
 
-  told_says : (s : Session) (k : ℕ) (p : Packet) (o : Option Seat) → get w.seats s.0 ≡ o → Tells (told_at o now s k p w)
-  told_says s k p None at = silent w.seats h
-  told_says s k p (Some seat) at =
+  told_says : (s : Session) (k : ℕ) (p : Packet) (o : Option Seat) → get w.seats s.0 ≡ o → IsFirstOf (joined_at (seat_post o) (Server k) p) (downs_of k o) → Tells (told_at o now s k p w)
+  told_says s k p None at f = silent w.seats h
+  told_says s k p (Some seat) at f =
       let a = post_accepted seat.post (Server k) p in
-      hears s seat at k (heard_in (Server k) p) a.heard a.heard.joined a.links (find (is_with k) seat.down) refl
+      hears s seat at k (heard_in (Server k) p) a.heard a.heard.joined a.links f
 
   -- ## At a server that there is
 
@@ -274,49 +282,50 @@ module _ (before : List Said) (w : Served) (h : AreKnown before w.seats) (now : 
           known = downs_known (before ++ new) k (core_steps c now e).out.send seats (given_behind_all before new (core_steps c now e).out.send (step_given k c now e from is)) (all_more before new seats known);
         }
 
-    abbrev hearing : Peer → Option Peer → HeardThere → List Joined → Option ServerEvent → Links → Stepped
-    hearing who heard x js first links = with_server k (server_hears now k who heard x js first (record (at_server c post w) { post = links })) w
+    abbrev hearing : Peer → Option Peer → HeardThere → Option ServerEvent → Links → Stepped
+    hearing who heard x e links = with_server k (server_hears now k who heard x e (record (at_server c post w) { post = links })) w
 
-    quiet_says : (who : Peer) (heard : Option Peer) (x : HeardThere) (first : Option ServerEvent) (links : Links) → Tells (hearing who heard x [] first links)
-    quiet_says who heard x first links = elim (x.fresh == 0) as (λ b. Says before (all_said from (Some (Server k)) (cond b note.None note.Part ∷ [])) w.seats) [ true ↦ silent w.seats h | false ↦ silent w.seats h ]
+    unheard_says : (who : Peer) (heard : Option Peer) (x : HeardThere) (links : Links) → Tells (hearing who heard x None links)
+    unheard_says who heard x links = noted x.joined
+      where
+        noted : (js : List Joined) → Says before (all_said from (Some (Server k)) (silent_note js x ∷ [])) w.seats
+        noted [] = elim (x.fresh == 0) as (λ b. Says before (all_said from (Some (Server k)) (cond b note.None note.Part ∷ [])) w.seats) [ true ↦ silent w.seats h | false ↦ silent w.seats h ]
+        noted (j ∷ js) = silent w.seats h
 
-    message_says : (s : Session) (seat : Seat) (heard : Option Peer) (x : HeardThere) (j : Joined) (js : List Joined) (links : Links) (o : Option (ℕ × ClientMsg)) → from ≡ Some (Client s) → get w.seats s.0 ≡ Some seat
-        → Tells (hearing (Client s) heard x (j ∷ js) (elim o as (λ _. Option ServerEvent) [ None ↦ None | Some m ↦ Some (FromClient s m.1) ]) links)
-    message_says s seat heard x j js links None of is = silent w.seats h
-    message_says s seat heard x j js links (Some m) of is =
+    message_says : (s : Session) (seat : Seat) (heard : Option Peer) (x : HeardThere) (links : Links) (m : ℕ × ClientMsg) → from ≡ Some (Client s) → get w.seats s.0 ≡ Some seat → Tells (hearing (Client s) heard x (Some (FromClient s m.1)) links)
+    message_says s seat heard x links m of is =
         subst (λ (o : Option Seat). Says before (says from k (core_steps c now (FromClient s m.1)).out.note) (with_downs k (core_steps c now (FromClient s m.1)).out.send (without_up k o s.0 w.seats))) (sym is)
         (steps (FromClient s m.1) (insert w.seats s.0 (record seat { up = without_first (is_with k) seat.up })) of
         (known_put before w.seats s (record seat { up = without_first (is_with k) seat.up }) h (record { over = (h s seat is).over; coming = (h s seat is).coming })))
 
-    session_says : (s : Session) (o : Option Seat) → from ≡ Some (Client s) → get w.seats s.0 ≡ o → (heard : Option Peer) (x : HeardThere) (js : List Joined) (links : Links) → Tells (hearing (Client s) heard x js (up_first k s o) links)
-    session_says s o of is heard x [] links = quiet_says (Client s) heard x (up_first k s o) links
-    session_says s None of is heard x (j ∷ js) links = silent w.seats h
-    session_says s (Some seat) of is heard x (j ∷ js) links = message_says s seat heard x j js links (find (is_with k) seat.up) of is
+    session_says : (s : Session) (o : Option Seat) → from ≡ Some (Client s) → get w.seats s.0 ≡ o → (heard : Option Peer) (x : HeardThere) (js : List Joined) (links : Links) → IsFirstOf js (ups_of k o) → Tells (hearing (Client s) heard x (event_heard (Client s) js) links)
+    session_says s o of is heard x [] links f = unheard_says (Client s) heard x links
+    session_says s None of is heard x (j ∷ js) links f = absurd f
+    session_says s (Some seat) of is heard x (j ∷ js) links f =
+        let first = first_question k s seat j js f in
+        subst (λ (e : Option ServerEvent). Tells (hearing (Client s) heard x e links)) (sym first.2) (message_says s seat heard x links first.0 of is)
 
-    parcel_says : (i : ℕ) (heard : Option Peer) (x : HeardThere) (j : Joined) (js : List Joined) (links : Links) (o : Option Flying)
-        → Tells (hearing (Server i) heard x (j ∷ js) (elim o as (λ _. Option ServerEvent) [ None ↦ None | Some f ↦ Some (FromPeer i (OfParcel f.parcel)) ]) links)
-    parcel_says i heard x j js links None = silent w.seats h
-    parcel_says i heard x j js links (Some f) = steps (FromPeer i (OfParcel f.parcel)) w.seats tt h
+    peer_says : (i : ℕ) (heard : Option Peer) (x : HeardThere) (js : List Joined) (links : Links) → IsFirstOf js (parcels_between i k w.flying) → Tells (hearing (Server i) heard x (event_heard (Server i) js) links)
+    peer_says i heard x [] links f = unheard_says (Server i) heard x links
+    peer_says i heard x (j ∷ js) links f =
+        let first = first_parcel k i w.flying j js f in
+        subst (λ (e : Option ServerEvent). Tells (hearing (Server i) heard x e links)) (sym first.2) (steps (FromPeer i (OfParcel first.0.parcel)) w.seats tt h)
 
-    peer_says : (i : ℕ) (heard : Option Peer) (x : HeardThere) (js : List Joined) (links : Links) → Tells (hearing (Server i) heard x js (first_from k (Server i) w.seats w.flying) links)
-    peer_says i heard x [] links = quiet_says (Server i) heard x (first_from k (Server i) w.seats w.flying) links
-    peer_says i heard x (j ∷ js) links = parcel_says i heard x j js links (find (is_between i k) w.flying)
-
-    told_server : (who : Peer) (p : Packet) → from ≡ Some who → Tells (with_server k (server_told now k who p (at_server c post w)) w)
-    told_server (Client s) p of =
+    told_server : (who : Peer) (p : Packet) → from ≡ Some who → IsFirstOf (post_accepted post who p).heard.joined (between w who (Server k)) → Tells (with_server k (server_told now k who p (at_server c post w)) w)
+    told_server (Client s) p of f =
         let a = post_accepted post (Client s) p in
-        session_says s (get w.seats s.0) of refl (heard_in (Client s) p) a.heard a.heard.joined a.links
-    told_server (Server i) p of =
+        session_says s (get w.seats s.0) of refl (heard_in (Client s) p) a.heard a.heard.joined a.links f
+    told_server (Server i) p of f =
         let a = post_accepted post (Server i) p in
-        peer_says i (heard_in (Server i) p) a.heard a.heard.joined a.links
+        peer_says i (heard_in (Server i) p) a.heard a.heard.joined a.links f
 
   -- ## At any server
 
-  told_at_server : (k : ℕ) (who : Peer) (p : Packet) (c : Option Core) (post : Option Links) → from ≡ Some who → Tells (server_told_at c post now k who p w)
-  told_at_server k who p (Some c) (Some post) of = told_server k c post who p of
-  told_at_server k who p (Some c) None of = silent w.seats h
-  told_at_server k who p None (Some post) of = silent w.seats h
-  told_at_server k who p None None of = silent w.seats h
+  told_at_server : (k : ℕ) (who : Peer) (p : Packet) (c : Option Core) (post : Option Links) → from ≡ Some who → IsFirstOf (joined_at post who p) (between w who (Server k)) → Tells (server_told_at c post now k who p w)
+  told_at_server k who p (Some c) (Some post) of f = told_server k c post who p of f
+  told_at_server k who p (Some c) None of f = silent w.seats h
+  told_at_server k who p None (Some post) of f = silent w.seats h
+  told_at_server k who p None None of f = silent w.seats h
 
   own_says : (k : ℕ) (turn : Bool) (e : ServerEvent) (c : Option Core) (post : Option Links) → IsFrom from e → Tells (server_step_at c post k turn now e w)
   own_says k turn e (Some c) (Some post) is = steps k c post e w.seats is h
@@ -326,32 +335,31 @@ module _ (before : List Said) (w : Served) (h : AreKnown before w.seats) (now : 
 
   -- ## A packet is told
 
-  comes_says : (who to : Peer) (p : Packet) → from ≡ Some who → Tells (comes now who to p w)
-  comes_says (Client s) (Server k) p of = told_at_server k (Client s) p (slice_get w.servers k) (slice_get w.posts k) of
-  comes_says (Server j) (Server k) p of = told_at_server k (Server j) p (slice_get w.servers k) (slice_get w.posts k) of
-  comes_says (Server j) (Client s) p of = told_says s j p (get w.seats s.0) refl
-  comes_says (Client r) (Client s) p of = silent w.seats h
+  comes_says : (who to : Peer) (p : Packet) → from ≡ Some who → IsFirstOf (joined_at (post_of w to) who p) (between w who to) → Tells (comes now who to p w)
+  comes_says (Client s) (Server k) p of f = told_at_server k (Client s) p (slice_get w.servers k) (slice_get w.posts k) of f
+  comes_says (Server j) (Server k) p of f = told_at_server k (Server j) p (slice_get w.servers k) (slice_get w.posts k) of f
+  comes_says (Server j) (Client s) p of f = told_says s j p (get w.seats s.0) refl f
+  comes_says (Client r) (Client s) p of f = silent w.seats h
 
-  arrives_says : (who to : Peer) (p : Option Packet) → from ≡ Some who → Tells (arrives now who to p w)
-  arrives_says who (Server k) None of = silent w.seats h
-  arrives_says who (Client s) None of = silent w.seats h
-  arrives_says who to (Some p) of = comes_says who to p of
+  arrives_says : (who to : Peer) (p : Option Packet) → from ≡ Some who → GivesFirst w who to p → Tells (arrives now who to p w)
+  arrives_says who to None of f = absurd f
+  arrives_says who to (Some p) of f = comes_says who to p of f
 
 -- each event, which a packet of this one brings, if any does
 module _ (before : List Said) (w : Served) (h : AreKnown before w.seats) (now : ℕ) where
   abbrev pub TellsOf : What → Type 0
   TellsOf what = Tells before w h now (sender_in (form.Served w) what) (step_of w now what)
 
-  tell_says : (what : What) (o : Option Sent) (k : ℕ) → packet_told w what ≡ o → Tells before w h now (option_map (λ (x : Sent). x.from) o) (tell_at o now k w)
-  tell_says what None k is = silent before w h now None w.seats h
-  tell_says what (Some x) k is = arrives_says before w h now (Some x.from) x.from x.to (packet_at x.bytes) refl
+  tell_says : Carries w → (what : What) (o : Option Sent) (k : ℕ) → packet_told w what ≡ o → slice_get w.packets.sent k ≡ o → Tells before w h now (option_map (λ (x : Sent). x.from) o) (tell_at o now k w)
+  tell_says carry what None k is at = silent before w h now None w.seats h
+  tell_says carry what (Some x) k is at = arrives_says before w h now (Some x.from) x.from x.to (packet_at x.bytes) refl (carry x (In-got w.packets.sent k x at))
 
-  pub step_says : (what : What) → TellsOf what
-  step_says (Join s) = join_says before w h now None s (get w.seats s.0)
-  step_says (Do s o) = do_says before w h now None s o (get w.seats s.0) refl
-  step_says (Tell None) = tell_says (Tell None) (slice_get w.packets.sent (first_untold w.packets.told)) (first_untold w.packets.told) refl
-  step_says (Tell (Some k)) = tell_says (Tell (Some k)) (slice_get w.packets.sent k) k refl
-  step_says (Turn (Client s)) = turns_says before w h now None s (get w.seats s.0) refl
-  step_says (Turn (Server k)) = own_says before w h now None k true TheTurn (slice_get w.servers k) (slice_get w.posts k) tt
-  step_says (AskBack k field) = own_says before w h now None k false (TheRecall field) (slice_get w.servers k) (slice_get w.posts k) tt
-  step_says (Move k prefix to) = own_says before w h now None k false (TheMove prefix to) (slice_get w.servers k) (slice_get w.posts k) tt
+  pub step_says : Carries w → (what : What) → TellsOf what
+  step_says carry (Join s) = join_says before w h now None s (get w.seats s.0)
+  step_says carry (Do s o) = do_says before w h now None s o (get w.seats s.0) refl
+  step_says carry (Tell None) = tell_says carry (Tell None) (slice_get w.packets.sent (first_untold w.packets.told)) (first_untold w.packets.told) refl refl
+  step_says carry (Tell (Some k)) = tell_says carry (Tell (Some k)) (slice_get w.packets.sent k) k refl refl
+  step_says carry (Turn (Client s)) = turns_says before w h now None s (get w.seats s.0) refl
+  step_says carry (Turn (Server k)) = own_says before w h now None k true TheTurn (slice_get w.servers k) (slice_get w.posts k) tt
+  step_says carry (AskBack k field) = own_says before w h now None k false (TheRecall field) (slice_get w.servers k) (slice_get w.posts k) tt
+  step_says carry (Move k prefix to) = own_says before w h now None k false (TheMove prefix to) (slice_get w.servers k) (slice_get w.posts k) tt

@@ -4,6 +4,7 @@ use Rattle.std.specs.List.{AllByRecursion}
 use Rattle.fs_schedule.specs.declared.event.Event.{Event}
 use Rattle.fs_schedule.specs.declared.event.Head.{Head}
 use Rattle.fs_schedule.specs.declared.event.Head.TheVariants as head
+use Rattle.fs_world.specs.Carried.{AllCarry}
 use Rattle.fs_world.specs.Order.{Told, told_at}
 use Rattle.fs_world.specs.Parts.{greatest_of}
 use Rattle.fs_schedule.specs.Skew.{IsTimely, IsWithinSkew}
@@ -29,6 +30,7 @@ pub record ServedGoes (top servers skew term : ℕ) (es : List Event) (told : Li
   pub holds : HoldsOf servers skew greatest told w
   pub called : AllMayHappen (head.Servers servers skew term) es
   pub within : IsWithinSkew skew es
+  pub carry : AllCarry (Served w) es
   pub ahead : IsAhead greatest skew es
   pub highest : greatest_of greatest es ≡ top
 
@@ -48,9 +50,10 @@ served_goes : (laws : SerialLaws) (top servers skew term : ℕ) (e : Event) (es 
 served_goes laws top servers skew term e es told w h = record {
   some = h.some;
   greatest = max h.greatest e.reading;
-  holds = step_holds laws servers skew h.greatest told w h.holds e.reading h.ahead.0 h.some term e.what h.called.0;
+  holds = step_holds laws servers skew h.greatest told w h.holds e.reading h.ahead.0 h.some h.carry.0 term e.what h.called.0;
   called = h.called.1;
   within = h.within.1;
+  carry = h.carry.1;
   ahead = still_ahead h.greatest e.reading skew es h.ahead.1 h.within.0;
   highest = h.highest;
 }
@@ -67,6 +70,6 @@ none_ahead : (skew : ℕ) (es : List Event) → IsAhead 0 skew es
 none_ahead skew [] = tt
 none_ahead skew (e ∷ es) = (omega arith, none_ahead skew es)
 
-pub goes_first : (laws : SerialLaws) (h : Head) (es : List Event) → FitsHead h → AllMayHappen h es → IsTimely h es → Goes (greatest_of 0 es) h es [] (first_world h)
-goes_first laws head.Direct es fits called timely = (called, direct.first_holds)
-goes_first laws (head.Servers servers skew term) es fits called timely = record { greatest = 0; some = fits.0; holds = first_holds laws servers skew term fits.0; called = called; within = timely; ahead = none_ahead skew es; highest = refl }
+pub goes_first : (laws : SerialLaws) (h : Head) (es : List Event) → FitsHead h → AllMayHappen h es → IsTimely h es → AllCarry (first_world h) es → Goes (greatest_of 0 es) h es [] (first_world h)
+goes_first laws head.Direct es fits called timely carry = (called, direct.first_holds)
+goes_first laws (head.Servers servers skew term) es fits called timely carry = record { greatest = 0; some = fits.0; holds = first_holds laws servers skew term fits.0; called = called; within = timely; carry = carry; ahead = none_ahead skew es; highest = refl }

@@ -9,11 +9,13 @@ mod PoppedFirst
 mod AtSeat
 mod AtServer
 mod AtHearing
+mod GoesAlone
 pub mod OpenHandles
 pub mod NamedMaps
 pub mod NamedClients
 pub mod NamedServers
 pub mod LinkedLists
+pub mod Heard
 pub mod LinkedPair
 pub mod LinkedChange
 pub mod LinkedSeats
@@ -22,6 +24,7 @@ pub mod LinkedFirst
 pub mod LinkedSession
 pub mod LinkedCore
 pub mod Linked
+pub mod Carrying
 pub mod Arrivals
 pub mod NothingUnsent
 pub mod Serial

@@ -1,6 +1,6 @@
 -- What happens at a server keeps what holds of the links, and what comes to it is the first message on its way.
 use Rattle.std.proofs.Common.{◌≡◌, ◌∙◌, ◌<◌, ◌==◌, ℕ, Bool, true, false, List, [], ◌∷◌, ◌++◌, length, Option, Some, None, refl, sym, ap, subst, cond, inl, inr, arith}
-use Rattle.std.specs.Prelude.{is_some, option_map, slice_get, slice_set}
+use Rattle.std.specs.Prelude.{is_some, slice_get, slice_set}
 use Rattle.std.specs.FinMap.{get, insert}
 use Rattle.std.specs.List.{AllByRecursion, find, list_all}
 use Rattle.std.proofs.lemmas.Bool.{eqb-true}
@@ -13,7 +13,6 @@ use Rattle.fs_ident.proofs.Booleans.{joined as both_joined}
 use Rattle.fs_ident.proofs.Passing.{found}
 use Rattle.fs_ident.proofs.Standing.{In-both, In-more}
 use Rattle.fs_frag.specs.declared.joined.Joined.{Joined}
-use Rattle.fs_frag.specs.declared.joined.Joined.TheVariants.{Whole}
 use Rattle.fs_model.specs.declared.op.Op.{Op}
 use Rattle.fs_model.specs.declared.op.Op.TheVariants as op
 use Rattle.fs_window.specs.declared.heard.Heard.{Heard}
@@ -25,7 +24,6 @@ use Rattle.fs_wire.specs.Ranges.{FitsOp}
 use Rattle.fs_wire.specs.Readable.{is_readable_op}
 use Rattle.fs_msg.specs.Ranges.{FitsEntry, FitsMessage}
 use Rattle.fs_msg.specs.Readable.{is_readable, is_readable_entry}
-use Rattle.fs_msg.specs.Spelling.{message}
 use Rattle.fs_msg.specs.declared.answer.Answer.{Answer}
 use Rattle.fs_msg.specs.declared.client_msg.ClientMsg.{ClientMsg}
 use Rattle.fs_msg.specs.declared.client_msg.ClientMsg.TheVariants as client
@@ -37,22 +35,28 @@ use Rattle.fs_msg.specs.declared.msg.Msg.TheVariants as msg
 use Rattle.fs_msg.specs.declared.note.Note.{Note}
 use Rattle.fs_msg.specs.declared.note.Note.TheVariants as note
 use Rattle.fs_msg.specs.declared.peer_msg.PeerMsg.TheVariants.{Parcel as OfParcel}
+use Rattle.fs_actor.specs.Actor as actor
+use Rattle.fs_actor.specs.Actor.{first_spent, is_full_down, with_pushed}
+use Rattle.fs_actor.specs.Hearing.{event_heard, heard_in, unheard_note}
 use Rattle.fs_record.specs.Records.{AreRecords}
 use Rattle.fs_serial.specs.Cluster.{flying_from, is_between, is_with, without_first}
 use Rattle.fs_serial.specs.declared.flying.Flying.{Flying}
 use Rattle.fs_server.specs.Server.{Stepped as CoreStepped}
-use Rattle.fs_server.specs.Step.{CanBeTold, spent_by, step}
+use Rattle.fs_server.specs.Step.{spent_by, step}
 use Rattle.fs_server.specs.declared.event.ServerEvent.{ServerEvent}
 use Rattle.fs_server.specs.declared.event.ServerEvent.TheVariants.{FromClient, FromPeer, Move, Recall, Turn}
 use Rattle.fs_server.specs.declared.state.Server.{Server as Core}
 use Rattle.fs_serial.proofs.SetAt.{In_without, set_same}
 use Rattle.fs_world.specs.Linked.{AreTied, FitsDown, HasJoined, IsCarried, IsFirstOf, IsLinked, IsNamedAnswer, IsSeated, IsServed, between, parcels_between, seat_post, ups_of}
-use Rattle.fs_world.specs.Planned.{IsAnswered, IsComing, IsOwn, WasSent, message_of}
-use Rattle.fs_world.specs.Served.{Seats, ServerStepped, at_server, core_step, first_from, first_spent, heard_in, is_full_down, quiet_note, server_goes, server_hears, server_step, server_step_at, server_told, up_first, with_down, with_down_at, with_downs, with_pushed, with_server, without_up}
+use Rattle.fs_world.specs.Planned.{IsAnswered, IsOwn, WasSent}
+use Rattle.fs_world.specs.Calls.{server_goes, server_hears}
+use Rattle.fs_world.specs.Served.{Seats, ServerStepped, at_server, core_of, core_step, server_step, server_step_at, server_stepped, server_told, with_down, with_down_at, with_downs, with_server, without_up}
 use Rattle.fs_world.specs.declared.seat.Seat.{Seat}
 use Rattle.fs_world.specs.declared.served.Served.{Served}
 use Rattle.fs_world.proofs.LinkedChange.{IsHeard, first_of, other_way, tied_alike}
-use Rattle.fs_world.proofs.LinkedLists.{found_joined, got_set, within}
+use Rattle.fs_world.proofs.GoesAlone.{goes_alone}
+use Rattle.fs_world.proofs.Heard.{first_parcel, first_question}
+use Rattle.fs_world.proofs.LinkedLists.{got_set, within}
 use Rattle.fs_world.proofs.LinkedSeats.{all_put, got_here, put_same, taken}
 use Rattle.fs_world.proofs.LinkedServed.{other_post, server_due, server_hears_server, server_hears_session, server_sends, serving}
 use Rattle.fs_world.proofs.NamedServers.{AreSent, IsBrought, IsStepped, in_range, step_goes}
@@ -238,36 +242,42 @@ module _ (w : Served) (k : ℕ) (few : k < length w.servers) (h : IsLinked w) wh
       either true = of
       either false = tt
 
+  -- no message is heard
+  none_heard : (x : ServerStepped) (heard : Option Peer) (n : Note) → IsOther server_count x.seats k heard → IsGoing w k x → IsGoing w k (server_stepped k (actor.server_goes false heard n (core_of x)) x)
+  none_heard x heard n of g = subst (IsGoing w k) (goes_alone k false heard n x) (due_goes x false heard n None of g)
+
   -- of a session
-  session_comes : (x : ServerStepped) (s : Session) (seat : Seat) (now : ℕ) (heard : Option Peer) (count : Heard) (post : Links) (joined : List Joined) (o : Option (ℕ × ClientMsg))
-      → get x.seats s.0 ≡ Some seat → find (is_with k) seat.up ≡ o → IsOther server_count x.seats k heard → IsFirstOf joined (ups_of k (Some seat))
+  session_comes : (x : ServerStepped) (s : Session) (seat : Seat) (now : ℕ) (heard : Option Peer) (count : Heard) (post : Links) (joined : List Joined)
+      → get x.seats s.0 ≡ Some seat → IsOther server_count x.seats k heard → IsFirstOf joined (ups_of k (Some seat))
       → IsGoing w k (record x { post = post; seats = insert x.seats s.0 (record seat { up = taken joined (is_with k) seat.up }) })
-      → IsAnswered now joined (option_map (λ (m : ℕ × ClientMsg). FromClient s m.1) o) (record x { post = post })
-      → IsGoing w k (server_hears now k (Client s) heard count joined (option_map (λ (m : ℕ × ClientMsg). FromClient s m.1) o) (record x { post = post }))
-  session_comes x s seat now heard count post [] o is e of f g answered =
-      due_goes (record x { post = post }) false heard (quiet_note count) None of (subst (λ (seats : Seats). IsGoing w k (record x { post = post; seats = seats })) (put_same x.seats s seat is) g)
-  session_comes x s seat now heard count post (j ∷ js) None is e of f g answered =
-      absurd (found_joined (λ (m : ℕ × ClientMsg). msg.Client m.1) (is_with k) seat.up (j ∷ js) None e f)
-  session_comes x s seat now heard count post (j ∷ js) (Some m) is e of f g answered =
-      let here = found_joined (λ (m : ℕ × ClientMsg). msg.Client m.1) (is_with k) seat.up (j ∷ js) (Some m) e f in
+      → IsAnswered now (event_heard (Client s) joined) (record x { post = post })
+      → IsGoing w k (server_hears now k (Client s) heard count (event_heard (Client s) joined) (record x { post = post }))
+  session_comes x s seat now heard count post [] is of f g answered =
+      none_heard (record x { post = post }) heard (unheard_note count) of (subst (λ (seats : Seats). IsGoing w k (record x { post = post; seats = seats })) (put_same x.seats s seat is) g)
+  session_comes x s seat now heard count post (j ∷ js) is of f g answered =
+      let first = first_question k s seat j js f in
+      let m = first.0 in
+      let fits = subst (λ (o : Option ServerEvent). IsAnswered now o (record x { post = post })) first.2 answered in
       let left : Seat = record seat { up = without_first (is_with k) seat.up } in
-      subst (λ (o : Option Seat). IsGoing w k (core_step k false heard now (FromClient s m.1) (record x { post = post; seats = without_up k o s.0 x.seats }))) (sym is)
+      subst (λ (o : Option ServerEvent). IsGoing w k (server_hears now k (Client s) heard count o (record x { post = post }))) (sym first.2)
+      (subst (λ (o : Option Seat). IsGoing w k (core_step k false heard now (FromClient s m.1) (record x { post = post; seats = without_up k o s.0 x.seats }))) (sym is)
       (core_goes (record x { post = post; seats = insert x.seats s.0 left }) false heard now (FromClient s m.1)
       (other_still server_count x.seats (insert x.seats s.0 left) k heard (λ t q. joined_still x.seats s t left q) of)
-      ((left, got_here x.seats s left), message_readable m.1 here.1) answered.0 answered.1 g)
+      ((left, got_here x.seats s left), message_readable m.1 first.3) fits.0 fits.1 g))
 
   -- of another server
-  server_comes : (x : ServerStepped) (i : ℕ) (now : ℕ) (heard : Option Peer) (count : Heard) (post : Links) (joined : List Joined) (o : Option Flying)
-      → find (is_between i k) x.flying ≡ o → IsOther server_count x.seats k heard → IsFirstOf joined (parcels_between i k x.flying) → ((f : Flying) → o ≡ Some f → IsCarried server_count x.seats f)
+  server_comes : (x : ServerStepped) (i : ℕ) (now : ℕ) (heard : Option Peer) (count : Heard) (post : Links) (joined : List Joined)
+      → IsOther server_count x.seats k heard → IsFirstOf joined (parcels_between i k x.flying) → ((f : Flying) → find (is_between i k) x.flying ≡ Some f → IsCarried server_count x.seats f)
       → IsGoing w k (record x { post = post; flying = taken joined (is_between i k) x.flying })
-      → IsAnswered now joined (option_map (λ (f : Flying). FromPeer i (OfParcel f.parcel)) o) (record x { post = post })
-      → IsGoing w k (server_hears now k (Server i) heard count joined (option_map (λ (f : Flying). FromPeer i (OfParcel f.parcel)) o) (record x { post = post }))
-  server_comes x i now heard count post [] o e of f carried g answered = due_goes (record x { post = post }) false heard (quiet_note count) None of g
-  server_comes x i now heard count post (j ∷ js) None e of f carried g answered =
-      absurd (found_joined (λ (f : Flying). msg.Peer (OfParcel f.parcel)) (is_between i k) x.flying (j ∷ js) None e f)
-  server_comes x i now heard count post (j ∷ js) (Some p) e of f carried g answered =
-      let c = carried p refl in
-      core_goes (record x { post = post; flying = without_first (is_between i k) x.flying }) false heard now (FromPeer i (OfParcel p.parcel)) of (c.handles, c.rows) answered.0 answered.1 g
+      → IsAnswered now (event_heard (Server i) joined) (record x { post = post })
+      → IsGoing w k (server_hears now k (Server i) heard count (event_heard (Server i) joined) (record x { post = post }))
+  server_comes x i now heard count post [] of f carried g answered = none_heard (record x { post = post }) heard (unheard_note count) of g
+  server_comes x i now heard count post (j ∷ js) of f carried g answered =
+      let first = first_parcel k i x.flying j js f in
+      let c = carried first.0 first.1 in
+      let fits = subst (λ (o : Option ServerEvent). IsAnswered now o (record x { post = post })) first.2 answered in
+      subst (λ (o : Option ServerEvent). IsGoing w k (server_hears now k (Server i) heard count o (record x { post = post }))) (sym first.2)
+      (core_goes (record x { post = post; flying = without_first (is_between i k) x.flying }) false heard now (FromPeer i (OfParcel first.0.parcel)) of (c.handles, c.rows) fits.0 fits.1 g)
 
 -- ## An event of a server
 
@@ -327,7 +337,7 @@ In-taken [] is f flying i = i
 In-taken (j ∷ js) is f flying i = In_without is flying f i
 
 pub told_server_linked : (w : Served) (k : ℕ) (c : Core) (post : Links) (now : ℕ) (from : Peer) (p : Packet) → slice_get w.servers k ≡ Some c → slice_get w.posts k ≡ Some post → WasSent from (Server k) (Some p) w.packets.sent
-    → IsAnswered now (post_accepted post from p).heard.joined (first_from k from w.seats w.flying) (record (at_server c post w) { post = (post_accepted post from p).links })
+    → IsAnswered now (event_heard from (post_accepted post from p).heard.joined) (record (at_server c post w) { post = (post_accepted post from p).links })
     → IsLinked w → IsLinked (with_server k (server_told now k from p (at_server c post w)) w).world
 told_server_linked w k c post now (Client s) p i e x answered h =
     let few = within w.servers k c i in
@@ -339,11 +349,9 @@ told_server_linked w k c post now (Client s) p i e x answered h =
     let a = post_accepted post (Client s) p in
     let n = length w.servers in
     let start = begins w k c post i e h in
-    let first : up_first k s (get w.seats s.0) ≡ option_map (λ (m : ℕ × ClientMsg). FromClient s m.1) (find (is_with k) seat.up) = ap (up_first k s) is in
     let left : Seat = record seat { up = taken a.heard.joined (is_with k) seat.up } in
     going_linked w k (server_told now k (Client s) p y) few
-    (subst (λ (o : Option ServerEvent). IsGoing w k (server_hears now k (Client s) (heard_in (Client s) p) a.heard a.heard.joined o (record y { post = a.links }))) (sym first)
-    (session_comes w k few h y s seat now (heard_in (Client s) p) a.heard a.links a.heard.joined (find (is_with k) seat.up) is refl (of_other w k few h y (Client s) p (seat, is))
+    (session_comes w k few h y s seat now (heard_in (Client s) p) a.heard a.links a.heard.joined is (of_other w k few h y (Client s) p (seat, is))
     (subst (λ (o : Option Seat). IsFirstOf a.heard.joined (ups_of k o)) is (told_server_first w k post (Client s) p e x h))
     (record {
       tied = server_hears_session w k (within w.posts k post e) s seat p y is (packet_of w (Client s) (Server k) seat.post post p (ap seat_post is) e x h) start.tied;
@@ -352,7 +360,7 @@ told_server_linked w k c post now (Client s) p i e x answered h =
       flying = λ f j. carried_then n w.seats (insert w.seats s.0 left) f (λ t q. joined_still w.seats s t left q) (h.flying f j);
       joined = λ t q. joined_still w.seats s t left q;
     })
-    (subst (λ (o : Option ServerEvent). IsAnswered now a.heard.joined o (record y { post = a.links })) first answered)))
+    answered)
     h
 told_server_linked w k c post now (Server i) p at e x answered h =
     let few = within w.servers k c at in
@@ -363,7 +371,7 @@ told_server_linked w k c post now (Server i) p at e x answered h =
     let start = begins w k c post at e h in
     let from_few : i < n = subst (λ (m : ℕ). i < m) h.posts (within w.posts i g.from.0 g.from.1) in
     going_linked w k (server_told now k (Server i) p y) few
-    (server_comes w k few h y i now (heard_in (Server i) p) a.heard a.links a.heard.joined (find (is_between i k) w.flying) refl (of_other w k few h y (Server i) p (from_few, g.apart))
+    (server_comes w k few h y i now (heard_in (Server i) p) a.heard a.links a.heard.joined (of_other w k few h y (Server i) p (from_few, g.apart))
     (told_server_first w k post (Server i) p e x h) (λ f q. h.flying f (found (is_between i k) w.flying f q).0)
     (record {
       tied = server_hears_server w k (within w.posts k post e) i g.from.0 p y g.from.1 g.apart (other_way (Server i) (Server k) g.apart) (packet_of w (Server i) (Server k) g.from.0 post p g.from.1 e x h) start.tied;
@@ -374,69 +382,3 @@ told_server_linked w k c post now (Server i) p at e x answered h =
     })
     answered)
     h
-
--- ## What a server is told
-
--- what is joined is the message of this event, as it was sent
-pub record IsOf (j : Joined) (e : ServerEvent) : Type 0 where
-  pub sent : Msg
-  pub is : message_of e ≡ Some sent
-  pub joined : j ≡ Whole (message sent)
-  pub fits : FitsMessage sent
-
--- what is joined is the first message, and that one is found
-pub first_event : (w : Served) (k : ℕ) (from : Peer) (j : Joined) (js : List Joined) → IsFirstOf (j ∷ js) (between w from (Server k)) → (e : ServerEvent) × (first_from k from w.seats w.flying ≡ Some e) × IsOf j e
-first_event w k (Client s) j js f = seat_of (get w.seats s.0) f
-  where
-    event : ℕ × ClientMsg → ServerEvent
-    event m = FromClient s m.1
-
-    seat_of : (o : Option Seat) → IsFirstOf (j ∷ js) (ups_of k o) → (e : ServerEvent) × (up_first k s o ≡ Some e) × IsOf j e
-    seat_of None g = absurd g
-    seat_of (Some seat) g = at (find (is_with k) seat.up) refl
-      where
-        at : (o : Option (ℕ × ClientMsg)) → find (is_with k) seat.up ≡ o → (e : ServerEvent) × (option_map event (find (is_with k) seat.up) ≡ Some e) × IsOf j e
-        at None e = absurd (found_joined (λ (m : ℕ × ClientMsg). msg.Client m.1) (is_with k) seat.up (j ∷ js) None e g)
-        at (Some m) e =
-            let here = found_joined (λ (m : ℕ × ClientMsg). msg.Client m.1) (is_with k) seat.up (j ∷ js) (Some m) e g in
-            (FromClient s m.1, ap (λ (o : Option (ℕ × ClientMsg)). option_map event o) e, record { sent = msg.Client m.1; is = refl; joined = here.0; fits = here.1 })
-first_event w k (Server i) j js f = at (find (is_between i k) w.flying) refl
-  where
-    event : Flying → ServerEvent
-    event x = FromPeer i (OfParcel x.parcel)
-
-    at : (o : Option Flying) → find (is_between i k) w.flying ≡ o → (e : ServerEvent) × (option_map event (find (is_between i k) w.flying) ≡ Some e) × IsOf j e
-    at None e = absurd (found_joined (λ (f : Flying). msg.Peer (OfParcel f.parcel)) (is_between i k) w.flying (j ∷ js) None e f)
-    at (Some m) e =
-        let here = found_joined (λ (f : Flying). msg.Peer (OfParcel f.parcel)) (is_between i k) w.flying (j ∷ js) (Some m) e f in
-        (FromPeer i (OfParcel m.parcel), ap (λ (o : Option Flying). option_map event o) e, record { sent = msg.Peer (OfParcel m.parcel); is = refl; joined = here.0; fits = here.1 })
-
--- it can be told to the server's core
-pub first_can_be_told : (w : Served) (k : ℕ) (from : Peer) (e : ServerEvent) → first_from k from w.seats w.flying ≡ Some e → IsLinked w → CanBeTold e
-first_can_be_told w k (Client s) e f h = seat_of (get w.seats s.0) f
-  where
-    at : (o : Option (ℕ × ClientMsg)) → option_map (λ (m : ℕ × ClientMsg). FromClient s m.1) o ≡ Some e → CanBeTold e
-    at None g = absurd (cc)
-    at (Some m) g = subst CanBeTold (some_is (FromClient s m.1) e g) tt
-
-    seat_of : (o : Option Seat) → up_first k s o ≡ Some e → CanBeTold e
-    seat_of None g = absurd (cc)
-    seat_of (Some seat) g = at (find (is_with k) seat.up) g
-first_can_be_told w k (Server i) e f h = at (find (is_between i k) w.flying) refl f
-  where
-    at : (o : Option Flying) → find (is_between i k) w.flying ≡ o → option_map (λ (f : Flying). FromPeer i (OfParcel f.parcel)) o ≡ Some e → CanBeTold e
-    at None q g = absurd (cc)
-    at (Some m) q g =
-        let c = h.flying m (found (is_between i k) w.flying m q).0 in
-        subst CanBeTold (some_is (FromPeer i (OfParcel m.parcel)) e g) (λ d n. let r = c.each d n in (r.least, r.most))
-
--- what comes to a server is the message of its first event, as it was sent, and it can be told
-pub told_server_comes : (w : Served) (k : ℕ) (post : Links) (from : Peer) (p : Packet) → slice_get w.posts k ≡ Some post → WasSent from (Server k) (Some p) w.packets.sent
-    → IsLinked w → IsComing (post_accepted post from p).heard.joined (first_from k from w.seats w.flying)
-told_server_comes w k post from p e x h = at (post_accepted post from p).heard.joined (told_server_first w k post from p e x h)
-  where
-    at : (joined : List Joined) → IsFirstOf joined (between w from (Server k)) → IsComing joined (first_from k from w.seats w.flying)
-    at [] f = tt
-    at (j ∷ js) f =
-        let r = first_event w k from j js f in
-        subst (λ (o : Option ServerEvent). IsComing (j ∷ js) o) (sym r.1) (r.2.sent, r.2.is, r.2.joined, r.2.fits, first_can_be_told w k from r.0 r.1 h)

@@ -24,10 +24,11 @@ use Rattle.fs_msg.specs.declared.client_msg.ClientMsg.{ClientMsg}
 use Rattle.fs_msg.specs.declared.item.Item.{Item}
 use Rattle.fs_msg.specs.declared.msg.Msg.{Msg}
 use Rattle.fs_msg.specs.declared.msg.Msg.TheVariants as msg
+use Rattle.fs_actor.specs.Actor.{is_full_up, post_after}
 use Rattle.fs_serial.specs.Cluster.{is_with, without_first}
 use Rattle.fs_world.specs.Linked.{AreTied, FitsUp, between, downs_of, post_of, seat_post, ups_of}
 use Rattle.fs_world.specs.Packets.{Packets, with_sent}
-use Rattle.fs_world.specs.Served.{Seats, first_seat, is_full_up, post_after, up_after}
+use Rattle.fs_world.specs.Served.{Seats, first_seat, up_after}
 use Rattle.fs_world.specs.declared.seat.Seat.{Seat}
 use Rattle.fs_world.specs.declared.served.Served.{Served}
 use Rattle.fs_world.proofs.LinkedChange.{Changes, IsHeard, apart, tied_accepted, tied_due, tied_joined, tied_pushed}

@@ -3,7 +3,6 @@ use Rattle.std.proofs.Common.{◌≡◌, ◌∙◌, ◌<◌, ℕ, Bool, true, fa
 use Rattle.std.specs.Prelude.{is_some}
 use Rattle.std.specs.FinMap.{get, insert}
 use Rattle.std.specs.List.{find}
-use Rattle.std.proofs.lemmas.Bool.{eqb-true}
 use Rattle.fs_ident.specs.In.{In}
 use Rattle.fs_ident.specs.declared.actor.Peer.{Peer}
 use Rattle.fs_ident.specs.declared.actor.Peer.TheVariants.{Server, Client}
@@ -11,7 +10,6 @@ use Rattle.fs_ident.specs.declared.actor.Session.{Session}
 use Rattle.fs_ident.proofs.Passing.{found}
 use Rattle.fs_ident.proofs.Standing.{In-more}
 use Rattle.fs_frag.specs.declared.joined.Joined.{Joined}
-use Rattle.fs_frag.specs.declared.joined.Joined.TheVariants.{Whole}
 use Rattle.fs_model.specs.declared.op.Op.{Op}
 use Rattle.fs_window.specs.declared.heard.Heard.{Heard}
 use Rattle.fs_window.specs.declared.link.Link.{Link}
@@ -22,15 +20,12 @@ use Rattle.fs_window.specs.Peers.{same_peer}
 use Rattle.fs_window.specs.Post.{Links, link_with, post_accepted, post_due}
 use Rattle.fs_window.specs.Reading.{packet_at}
 use Rattle.fs_window.proofs.ReadBack.{written}
-use Rattle.fs_msg.specs.Ranges.{FitsMessage}
-use Rattle.fs_msg.specs.Spelling.{message}
 use Rattle.fs_msg.specs.declared.answer.Answer.{Answer}
 use Rattle.fs_msg.specs.declared.client_msg.ClientMsg.{ClientMsg}
-use Rattle.fs_msg.specs.declared.core_error.Counter.{Counter}
 use Rattle.fs_msg.specs.declared.item.Item.{Item}
-use Rattle.fs_msg.specs.declared.msg.Msg.{Msg}
-use Rattle.fs_msg.specs.declared.msg.Msg.TheVariants as msg
 use Rattle.fs_msg.specs.declared.note.Note.{Note}
+use Rattle.fs_actor.specs.Actor.{act_noted, client_noted, is_full_up, post_after}
+use Rattle.fs_actor.specs.Hearing.{answer_heard, heard_in, unheard_note}
 use Rattle.fs_client.specs.Acts.{act_plan, is_act_spent}
 use Rattle.fs_client.specs.Answers.{answer_plan}
 use Rattle.fs_client.specs.Client.{committed}
@@ -42,11 +37,13 @@ use Rattle.fs_serial.proofs.SetAt.{In_without}
 use Rattle.fs_world.specs.Linked.{AreTied, FitsUp, GoesBetween, IsFirstOf, IsLinked, IsNamedAnswer, IsSeated, IsSentOver, IsThere, downs_of, post_of, seat_post}
 use Rattle.fs_world.specs.Packets.{Packets, with_sent}
 use Rattle.fs_world.specs.Planned.{WasSent}
-use Rattle.fs_world.specs.Served.{Seats, act_noted, client_acts, client_does, client_hears, client_noted, client_told, client_turns, heard_in, is_full_up, post_after, quiet_note, seat_after, seat_goes, up_after, with_read, with_seat}
+use Rattle.fs_world.specs.Calls.{client_does, client_hears, seat_goes}
+use Rattle.fs_world.specs.Served.{Seats, client_acts, client_told, client_turns, up_after, with_read, with_seat}
 use Rattle.fs_world.specs.declared.seat.Seat.{Seat}
 use Rattle.fs_world.specs.declared.served.Served.{Served}
 use Rattle.fs_world.proofs.LinkedChange.{IsHeard, first_of}
-use Rattle.fs_world.proofs.LinkedLists.{found_joined, within}
+use Rattle.fs_world.proofs.Heard.{first_answer}
+use Rattle.fs_world.proofs.LinkedLists.{within}
 use Rattle.fs_world.proofs.LinkedPair.{read_of}
 use Rattle.fs_world.proofs.LinkedSeats.{all_put, put_same, seat_accepts, seat_due, seat_sends, seated, taken}
 use Rattle.fs_world.proofs.NamedClients.{IsFine, IsPlanned, SendsFine, act_fine, answer_fine, answer_silent, committed_fine, session_kept, turn_fine}
@@ -94,9 +91,9 @@ heard_there w s seat journal packets (Some (Server k)) of h = (posts_there w h k
 heard_there w s seat journal packets (Some (Client t)) of h = absurd of
 
 -- what is due goes out
-session_goes : (w : Served) (s : Session) (turn : Bool) (heard : Option Peer) (n : Note) (spent : Option Counter) (seat : Seat) (journal : List Item) (packets : Packets) → IsOfServer w heard → IsSitting w s seat journal packets → IsLinked w
-    → IsLinked (with_seat s (seat_goes s turn heard n spent seat journal packets) w).world
-session_goes w s turn heard n spent seat journal packets of k h =
+session_goes : (w : Served) (s : Session) (turn : Bool) (heard : Option Peer) (n : Note) (seat : Seat) (journal : List Item) (packets : Packets) → IsOfServer w heard → IsSitting w s seat journal packets → IsLinked w
+    → IsLinked (with_seat s (seat_goes s turn heard n seat journal packets) w).world
+session_goes w s turn heard n seat journal packets of k h =
     let now : Seat = record seat { post = (post_due seat.post turn heard).links } in
     sitting_linked w s now journal (with_sent (post_due seat.post turn heard).sent packets) (record {
       tied = seat_due w s seat now journal journal packets (with_sent (post_due seat.post turn heard).sent packets) turn heard refl refl refl refl (heard_there w s seat journal packets heard of h) k.tied;
@@ -106,6 +103,10 @@ session_goes w s turn heard n spent seat journal packets of k h =
 up_named : (servers : ℕ) (send : Option (ℕ × ClientMsg)) (up : List (ℕ × ClientMsg)) → SendsFine servers send → ((m : ℕ × ClientMsg) → In m up → m.0 < servers) → (m : ℕ × ClientMsg) → In m (up_after send up) → m.0 < servers
 up_named servers None up fine h m i = h m i
 up_named servers (Some x) up fine h m i = In-more m up x (m.0 < servers) (λ j. h m j) (λ e. subst (λ (y : ℕ × ClientMsg). y.0 < servers) (sym e) fine.0) i
+
+-- the seat of a client that has changed as planned, and sends
+abbrev seat_after : Plan Note → Seat → Seat
+seat_after p seat = record seat { client = committed p.ready seat.client; post = post_after p.out.send seat.post; up = up_after p.out.send seat.up }
 
 -- the client does what it planned
 session_does : (w : Served) (s : Session) (turn : Bool) (heard : Option Peer) (spent : Bool) (p : Plan Note) (seat : Seat) (journal : List Item) (packets : Packets) → IsOfServer w heard → IsPlanned (length w.servers) p → FitsUp p.out.send → is_full_up p.out.send seat.post ≡ false
@@ -191,21 +192,6 @@ told_seat_first w s seat k p e x h =
     subst (λ (o : Option Seat). IsFirstOf (post_accepted seat.post (Server k) p).heard.joined (downs_of k o)) e
     (first_of (Client s) (Server k) seat.post g.from.0 p w (ap seat_post e) g.from.1 refl (packet_of w (Server k) (Client s) g.from.0 seat.post p g.from.1 (ap seat_post e) x h) h.ties)
 
--- what is joined is the first answer, and that one is found
-pub first_answer : (k : ℕ) (seat : Seat) (j : Joined) (js : List Joined) → IsFirstOf (j ∷ js) (downs_of k (Some seat))
-    → (a : Answer) × (find (is_with k) seat.down ≡ Some (k, a)) × (j ≡ Whole (message (msg.Answer a))) × FitsMessage (msg.Answer a)
-first_answer k seat j js f = at (find (is_with k) seat.down) refl
-  where
-    g : ℕ × Answer → Msg
-    g m = msg.Answer m.1
-
-    at : (o : Option (ℕ × Answer)) → find (is_with k) seat.down ≡ o → (a : Answer) × (find (is_with k) seat.down ≡ Some (k, a)) × (j ≡ Whole (message (msg.Answer a))) × FitsMessage (msg.Answer a)
-    at None e = absurd (found_joined g (is_with k) seat.down (j ∷ js) None e f)
-    at (Some m) e =
-        let here = found_joined g (is_with k) seat.down (j ∷ js) (Some m) e f in
-        let same : m.0 ≡ k = eqb-true m.0 k (found (is_with k) seat.down m e).1 in
-        (m.1, e ∙ ap (λ (n : ℕ). Some (n, m.1)) same, here.0, here.1)
-
 of_server : (w : Served) (k : ℕ) (p : Packet) → k < length w.servers → IsOfServer w (heard_in (Server k) p)
 of_server w k p few = either (is_some p.body)
   where
@@ -217,18 +203,19 @@ down_taken : (servers : ℕ) (joined : List Joined) (is : ℕ × Answer → Bool
 down_taken servers [] is down h m i = h m i
 down_taken servers (j ∷ js) is down h m i = h m (In_without is down m i)
 
-session_hears : (w : Served) (s : Session) (now k : ℕ) (heard : Option Peer) (count : Heard) (joined : List Joined) (o : Option (ℕ × Answer)) (seat : Seat) (journal : List Item) (packets : Packets)
-    → find (is_with k) seat.down ≡ o → IsOfServer w heard → IsFirstOf joined (downs_of k (Some seat)) → ((m : ℕ × Answer) → o ≡ Some m → IsNamedAnswer (length w.servers) m.1)
-    → IsSitting w s (record seat { down = taken joined (is_with k) seat.down }) journal packets → IsLinked w → IsLinked (with_seat s (client_hears now s k heard count joined o seat journal packets) w).world
-session_hears w s now k heard count [] o seat journal packets e of f named sitting h = session_goes w s false heard (quiet_note count) None seat journal packets of sitting h
-session_hears w s now k heard count (j ∷ js) None seat journal packets e of f named sitting h =
-    absurd (found_joined (λ (m : ℕ × Answer). msg.Answer m.1) (is_with k) seat.down (j ∷ js) None e f)
-session_hears w s now k heard count (j ∷ js) (Some m) seat journal packets e of f named sitting h =
+session_hears : (w : Served) (s : Session) (now k : ℕ) (heard : Option Peer) (count : Heard) (joined : List Joined) (seat : Seat) (journal : List Item) (packets : Packets)
+    → IsOfServer w heard → IsFirstOf joined (downs_of k (Some seat)) → ((m : ℕ × Answer) → find (is_with k) seat.down ≡ Some m → IsNamedAnswer (length w.servers) m.1)
+    → IsSitting w s (record seat { down = taken joined (is_with k) seat.down }) journal packets → IsLinked w → IsLinked (with_seat s (client_hears now s k heard count (answer_heard joined) seat journal packets) w).world
+session_hears w s now k heard count [] seat journal packets of f named sitting h = session_goes w s false heard (unheard_note count) seat journal packets of sitting h
+session_hears w s now k heard count (j ∷ js) seat journal packets of f named sitting h =
+    let first = first_answer k seat j js f in
+    let a = first.0 in
     let left : Seat = record seat { down = without_first (is_with k) seat.down } in
-    let none : None ≡ (answer_plan seat.client now k m.1).out.send = sym (answer_silent seat.client now k m.1) in
-    let planned = answer_fine (length w.servers) (zero_below w h) seat.client now k m.1 (named m refl) (record { log = sitting.here.log; hints = sitting.here.hints }) in
-    session_does w s false heard false (client_noted (answer_plan seat.client now k m.1)) left journal packets of (record { joins = planned.joins; hints = planned.hints; sends = planned.sends })
-    (subst (λ (x : Option (ℕ × ClientMsg)). FitsUp x) none tt) (subst (λ (x : Option (ℕ × ClientMsg)). is_full_up x seat.post ≡ false) none refl) sitting h
+    let none : None ≡ (answer_plan seat.client now k a).out.send = sym (answer_silent seat.client now k a) in
+    let planned = answer_fine (length w.servers) (zero_below w h) seat.client now k a (named (k, a) first.1) (record { log = sitting.here.log; hints = sitting.here.hints }) in
+    subst (λ (o : Option Answer). IsLinked (with_seat s (client_hears now s k heard count o seat journal packets) w).world) (sym first.2)
+    (session_does w s false heard false (client_noted (answer_plan seat.client now k a)) left journal packets of (record { joins = planned.joins; hints = planned.hints; sends = planned.sends })
+    (subst (λ (x : Option (ℕ × ClientMsg)). FitsUp x) none tt) (subst (λ (x : Option (ℕ × ClientMsg)). is_full_up x seat.post ≡ false) none refl) sitting h)
 
 pub told_seat_linked : (w : Served) (s : Session) (seat : Seat) (now k : ℕ) (p : Packet) → get w.seats s.0 ≡ Some seat → WasSent (Server k) (Client s) (Some p) w.packets.sent
     → IsLinked w → IsLinked (with_seat s (client_told now s k p seat w.journal w.packets) w).world
@@ -238,7 +225,7 @@ told_seat_linked w s seat now k p e x h =
     let few : k < length w.servers = subst (λ (n : ℕ). k < n) h.posts (within w.posts k g.from.0 g.from.1) in
     let start = sits w s seat e h in
     let k_seat = h.seats s seat e in
-    session_hears w s now k (heard_in (Server k) p) a.heard a.heard.joined (find (is_with k) seat.down) (record seat { post = a.links }) w.journal w.packets refl (of_server w k p few) (told_seat_first w s seat k p e x h)
+    session_hears w s now k (heard_in (Server k) p) a.heard a.heard.joined (record seat { post = a.links }) w.journal w.packets (of_server w k p few) (told_seat_first w s seat k p e x h)
     (λ m q. (k_seat.down m (found (is_with k) seat.down m q).0).1)
     (record {
       tied = seat_accepts w s seat k g.from.0 p w.journal w.packets g.from.1 (packet_of w (Server k) (Client s) g.from.0 seat.post p g.from.1 (ap seat_post e) x h) start.tied;

@@ -2,13 +2,12 @@
 use Rattle.std.proofs.Common.{◌≡◌, ℕ, Bool, true, false, List, [], ◌∷◌, Option, Some, None, refl, sym, subst, cond}
 use Rattle.std.specs.Prelude.{Result, Ok, Err, IfOk, slice_get, ◌==◌}
 use Rattle.std.specs.FinMap.{get}
-use Rattle.std.specs.List.{find}
-use Rattle.fs_ident.specs.In.{In}
 use Rattle.fs_ident.specs.declared.actor.Peer.{Peer}
 use Rattle.fs_ident.specs.declared.actor.Peer.TheVariants.{Server, Client}
 use Rattle.fs_ident.specs.declared.actor.Session.{Session}
 use Rattle.fs_ident.proofs.Standing.{In-got}
 use Rattle.fs_frag.specs.declared.joined.Joined.{Joined}
+use Rattle.fs_actor.specs.Hearing.{answer_heard, event_heard, heard_in, quiet_note, silent_note, unheard_note}
 use Rattle.fs_model.specs.declared.op.Op.{Op}
 use Rattle.fs_window.specs.Post.{Links, post_accepted}
 use Rattle.fs_window.specs.Reading.{packet_at}
@@ -23,24 +22,23 @@ use Rattle.fs_schedule.specs.declared.event.Event.{Event}
 use Rattle.fs_schedule.specs.declared.event.What.{What}
 use Rattle.fs_schedule.specs.declared.event.What.TheVariants.{Join, Do, Tell, Turn, Recall, Move}
 use Rattle.fs_schedule.specs.declared.outcome.Outcome.{Outcome}
-use Rattle.fs_serial.specs.Cluster.{is_with}
 use Rattle.fs_server.specs.declared.event.ServerEvent.{ServerEvent}
 use Rattle.fs_server.specs.declared.event.ServerEvent.TheVariants.{Turn as TheTurn, Recall as TheRecall, Move as TheMove}
 use Rattle.fs_server.specs.declared.state.Server.{Server as Core}
 use Rattle.fs_world.specs.Direct as direct
-use Rattle.fs_world.specs.Linked.{IsFirstOf, IsLinked, IsWhole, between, downs_of}
+use Rattle.fs_world.specs.Carried.{Carries, GivesFirst, IsFirstOf, LinksCarry, between, downs_of, joined_at, parcels_between, post_of, seat_post, ups_of}
 use Rattle.fs_world.specs.Packets.{Packets, first_untold}
-use Rattle.fs_world.specs.Planned.{WasSent}
 use Rattle.fs_world.specs.Refusals.{HasNone, is_link_strange}
 use Rattle.fs_world.specs.Served as served
-use Rattle.fs_world.specs.Served.{ServerStepped, arrives, at_server, client_hears, comes, do_at, first_from, heard_in, join_at, quiet_note, server_hears, server_step_at, server_told_at, tell, tell_at, told_at, turn_at}
+use Rattle.fs_world.specs.Calls.{client_hears, server_hears}
+use Rattle.fs_world.specs.Served.{ServerStepped, arrives, at_server, comes, do_at, join_at, server_step_at, server_told_at, tell, tell_at, told_at, turn_at}
 use Rattle.fs_world.specs.World.{step}
 use Rattle.fs_world.specs.declared.direct.Direct.{Direct as TheDirect}
 use Rattle.fs_world.specs.declared.form.Form.{Form}
 use Rattle.fs_world.specs.declared.form.Form.TheVariants.{Direct, Served}
 use Rattle.fs_world.specs.declared.seat.Seat.{Seat}
 use Rattle.fs_world.specs.declared.served.Served.{Served as TheServed}
-use Rattle.fs_world.proofs.Linked.{first_answer, first_event, sent_read, told_seat_first, told_server_first}
+use Rattle.fs_world.proofs.Heard.{first_answer, first_parcel, first_question}
 
 -- nothing unsent came over a link
 abbrev IsPlain : Outcome → Type 0
@@ -51,63 +49,63 @@ IsPlain o = HasNone is_link_strange o
 quiet_plain : (h : Heard) → is_link_strange (quiet_note h) ≡ false
 quiet_plain h = elim (h.fresh == 0) as (λ (b : Bool). is_link_strange (cond b note.None note.Part) ≡ false) [ true ↦ refl | false ↦ refl ]
 
-client_plain : (now : ℕ) (s : Session) (k : ℕ) (from : Option Peer) (h : Heard) (joined : List Joined) (o : Option (ℕ × Answer)) (seat : Seat) (journal : List Item) (p : Packets)
-    → ((j : Joined) (js : List Joined) → joined ≡ j ∷ js → (m : ℕ × Answer) × (o ≡ Some m)) → IsPlain (client_hears now s k from h joined o seat journal p).outcome
-client_plain now s k from h [] o seat journal p f = (quiet_plain h, tt)
-client_plain now s k from h (j ∷ js) None seat journal p f = absurd (let m = f j js refl in let e = m.1 in cc)
-client_plain now s k from h (j ∷ js) (Some m) seat journal p f = (refl, tt)
+-- nothing was joined
+silent_plain : (h : Heard) → h.joined ≡ [] → is_link_strange (unheard_note h) ≡ false
+silent_plain h e = subst (λ (js : List Joined). is_link_strange (silent_note js h) ≡ false) (sym e) (quiet_plain h)
 
-server_plain : (now k : ℕ) (who : Peer) (from : Option Peer) (h : Heard) (joined : List Joined) (o : Option ServerEvent) (x : ServerStepped)
-    → ((j : Joined) (js : List Joined) → joined ≡ j ∷ js → (e : ServerEvent) × (o ≡ Some e)) → IsPlain (server_hears now k who from h joined o x).outcome
-server_plain now k who from h [] o x f = (quiet_plain h, tt)
-server_plain now k who from h (j ∷ js) None x f = absurd (let m = f j js refl in let e = m.1 in cc)
-server_plain now k who from h (j ∷ js) (Some e) x f = (refl, tt)
+client_plain : (now : ℕ) (s : Session) (k : ℕ) (from : Option Peer) (h : Heard) (js : List Joined) (seat : Seat) (journal : List Item) (p : Packets)
+    → h.joined ≡ js → IsFirstOf js (downs_of k (Some seat)) → IsPlain (client_hears now s k from h (answer_heard js) seat journal p).outcome
+client_plain now s k from h [] seat journal p e f = (silent_plain h e, tt)
+client_plain now s k from h (j ∷ js) seat journal p e f =
+    subst (λ (o : Option Answer). IsPlain (client_hears now s k from h o seat journal p).outcome) (sym (first_answer k seat j js f).2) (refl, tt)
+
+module _ (w : TheServed) (now k : ℕ) (from : Option Peer) (h : Heard) (x : ServerStepped) where
+  session_plain : (s : Session) (o : Option Seat) (js : List Joined) → h.joined ≡ js → IsFirstOf js (ups_of k o) → IsPlain (server_hears now k (Client s) from h (event_heard (Client s) js) x).outcome
+  session_plain s o [] e f = (silent_plain h e, tt)
+  session_plain s None (j ∷ js) e f = absurd f
+  session_plain s (Some seat) (j ∷ js) e f =
+      subst (λ (y : Option ServerEvent). IsPlain (server_hears now k (Client s) from h y x).outcome) (sym (first_question k s seat j js f).2) (refl, tt)
+
+  peer_plain : (i : ℕ) (js : List Joined) → h.joined ≡ js → IsFirstOf js (parcels_between i k w.flying) → IsPlain (server_hears now k (Server i) from h (event_heard (Server i) js) x).outcome
+  peer_plain i [] e f = (silent_plain h e, tt)
+  peer_plain i (j ∷ js) e f =
+      subst (λ (y : Option ServerEvent). IsPlain (server_hears now k (Server i) from h y x).outcome) (sym (first_parcel k i w.flying j js f).2) (refl, tt)
+
+  server_plain : (who : Peer) → IsFirstOf h.joined (between w who (Server k)) → IsPlain (server_hears now k who from h (event_heard who h.joined) x).outcome
+  server_plain (Client s) f = session_plain s (get w.seats s.0) h.joined refl f
+  server_plain (Server i) f = peer_plain i h.joined refl f
 
 -- ## A packet is told
 
-module _ (w : TheServed) (x : Sent) (i : In x w.packets.sent) (h : IsLinked w) (now : ℕ) where
-  was : (from to : Peer) (p : Packet) → x.from ≡ from → x.to ≡ to → packet_at x.bytes ≡ Some p → WasSent from to (Some p) w.packets.sent
-  was from to p sender addressee read = record { sent = x; among = i; sender = sender; addressee = addressee; read = read }
+module _ (w : TheServed) (now : ℕ) where
+  told_plain : (s : Session) (k : ℕ) (p : Packet) (o : Option Seat) → IsFirstOf (joined_at (seat_post o) (Server k) p) (downs_of k o) → IsPlain (told_at o now s k p w).outcome
+  told_plain s k p None f = (refl, tt)
+  told_plain s k p (Some seat) f =
+      let a = post_accepted seat.post (Server k) p in
+      client_plain now s k (heard_in (Server k) p) a.heard a.heard.joined (record seat { post = a.links }) w.journal w.packets refl f
 
-  told_plain : (s : Session) (k : ℕ) (p : Packet) → x.from ≡ Server k → x.to ≡ Client s → packet_at x.bytes ≡ Some p → IsPlain (told_at (get w.seats s.0) now s k p w).outcome
-  told_plain s k p sender addressee read = go (get w.seats s.0) refl
-    where
-      go : (o : Option Seat) → get w.seats s.0 ≡ o → IsPlain (told_at o now s k p w).outcome
-      go None e = (refl, tt)
-      go (Some seat) e =
-          let a = post_accepted seat.post (Server k) p in
-          let first = told_seat_first w s seat k p e (was (Server k) (Client s) p sender addressee read) h in
-          client_plain now s k (heard_in (Server k) p) a.heard a.heard.joined (find (is_with k) seat.down) (record seat { post = a.links }) w.journal w.packets
-          (λ j js q. let f = first_answer k seat j js (subst (λ (all : List Joined). IsFirstOf all (downs_of k (Some seat))) q first) in ((k, f.0), f.1))
+  server_comes_plain : (k : ℕ) (from : Peer) (p : Packet) (c : Option Core) (o : Option Links) → IsFirstOf (joined_at o from p) (between w from (Server k)) → IsPlain (server_told_at c o now k from p w).outcome
+  server_comes_plain k from p None o f = (refl, tt)
+  server_comes_plain k from p (Some c) None f = (refl, tt)
+  server_comes_plain k from p (Some c) (Some post) f =
+      let a = post_accepted post from p in
+      server_plain w now k (heard_in from p) a.heard (record (at_server c post w) { post = a.links }) from f
 
-  server_comes_plain : (k : ℕ) (from : Peer) (p : Packet) → x.from ≡ from → x.to ≡ Server k → packet_at x.bytes ≡ Some p → IsPlain (server_told_at (slice_get w.servers k) (slice_get w.posts k) now k from p w).outcome
-  server_comes_plain k from p sender addressee read = go (slice_get w.servers k) (slice_get w.posts k) refl
-    where
-      go : (c : Option Core) (o : Option Links) → slice_get w.posts k ≡ o → IsPlain (server_told_at c o now k from p w).outcome
-      go None o e = (refl, tt)
-      go (Some c) None e = (refl, tt)
-      go (Some c) (Some post) e =
-          let a = post_accepted post from p in
-          let first = told_server_first w k post from p e (was from (Server k) p sender addressee read) h in
-          server_plain now k from (heard_in from p) a.heard a.heard.joined (first_from k from w.seats w.flying) (record (at_server c post w) { post = a.links })
-          (λ j js q. let f = first_event w k from j js (subst (λ (all : List Joined). IsFirstOf all (between w from (Server k))) q first) in (f.0, f.1))
+  comes_plain : (from to : Peer) (p : Packet) → IsFirstOf (joined_at (post_of w to) from p) (between w from to) → IsPlain (comes now from to p w).outcome
+  comes_plain from (Server k) p f = server_comes_plain k from p (slice_get w.servers k) (slice_get w.posts k) f
+  comes_plain (Server k) (Client s) p f = told_plain s k p (get w.seats s.0) f
+  comes_plain (Client t) (Client s) p f = (refl, tt)
 
-  comes_plain : (from to : Peer) (p : Packet) → x.from ≡ from → x.to ≡ to → packet_at x.bytes ≡ Some p → IsPlain (comes now from to p w).outcome
-  comes_plain from (Server k) p sender addressee read = server_comes_plain k from p sender addressee read
-  comes_plain (Server k) (Client s) p sender addressee read = told_plain s k p sender addressee read
-  comes_plain (Client t) (Client s) p sender addressee read = (refl, tt)
+  arrives_plain : (from to : Peer) (o : Option Packet) → GivesFirst w from to o → IsPlain (arrives now from to o w).outcome
+  arrives_plain from to None f = absurd f
+  arrives_plain from to (Some p) f = comes_plain from to p f
 
-  arrives_plain : IsPlain (arrives now x.from x.to (packet_at x.bytes) w).outcome
-  arrives_plain =
-      let p = sent_read w x i h in
-      subst (λ (o : Option Packet). IsPlain (arrives now x.from x.to o w).outcome) (sym p.1) (comes_plain x.from x.to p.0 refl refl p.1)
-
-tell_plain : (w : TheServed) (now k : ℕ) → IsLinked w → IsPlain (tell now k w).outcome
-tell_plain w now k h = go (slice_get w.packets.sent k) refl
+tell_plain : (w : TheServed) (now k : ℕ) → Carries w → IsPlain (tell now k w).outcome
+tell_plain w now k carry = go (slice_get w.packets.sent k) refl
   where
     go : (o : Option Sent) → slice_get w.packets.sent k ≡ o → IsPlain (tell_at o now k w).outcome
     go None e = (refl, tt)
-    go (Some x) e = arrives_plain w x (In-got w.packets.sent k x e) h now
+    go (Some x) e = arrives_plain w now x.from x.to (packet_at x.bytes) (carry x (In-got w.packets.sent k x e))
 
 -- ## An event of a world with servers
 
@@ -128,7 +126,7 @@ server_step_plain None o k turn now e w = (refl, tt)
 server_step_plain (Some c) None k turn now e w = (refl, tt)
 server_step_plain (Some c) (Some post) k turn now e w = (refl, tt)
 
-served_plain : (w : TheServed) (now : ℕ) (what : What) → IsLinked w → IsPlain (served.step_of w now what).outcome
+served_plain : (w : TheServed) (now : ℕ) (what : What) → Carries w → IsPlain (served.step_of w now what).outcome
 served_plain w now (Join s) h = join_plain (get w.seats s.0) s w
 served_plain w now (Do s o) h = do_plain (get w.seats s.0) now s o w
 served_plain w now (Tell None) h = tell_plain w now (first_untold w.packets.told) h
@@ -154,11 +152,11 @@ direct_plain w (Join s) = direct_join (get w.asked s.0) w s
 direct_plain w (Do s o) = direct_do (get w.asked s.0) w s o
 direct_plain w what = (refl, tt)
 
-pub step_plain : (w : Form) (e : Event) → IsWhole w → HasNone is_link_strange (step w e).outcome
+pub step_plain : (w : Form) (e : Event) → LinksCarry w → HasNone is_link_strange (step w e).outcome
 step_plain (Direct w) e h = direct_plain w e.what
 step_plain (Served w) e h = served_plain w e.reading e.what h
 
 -- what was answered is what the event came to
-pub answered_plain : (w : Form) (e : Event) (r : Result Outcome CoreError) → IsWhole w → IfOk r (λ (o : Outcome). o ≡ (step w e).outcome) → IfOk r (HasNone is_link_strange)
+pub answered_plain : (w : Form) (e : Event) (r : Result Outcome CoreError) → LinksCarry w → IfOk r (λ (o : Outcome). o ≡ (step w e).outcome) → IfOk r (HasNone is_link_strange)
 answered_plain w e (Ok o) h is = subst (λ (x : Outcome). HasNone is_link_strange x) (sym is) (step_plain w e h)
 answered_plain w e (Err error) h is = tt

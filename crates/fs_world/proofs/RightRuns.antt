@@ -14,6 +14,7 @@ use Rattle.fs_schedule.specs.declared.event.Schedule.{Schedule}
 use Rattle.fs_schedule.specs.declared.event.What.{What}
 use Rattle.fs_schedule.specs.declared.event.What.TheVariants.{Join, Do}
 use Rattle.fs_schedule.specs.declared.outcome.Outcome.{Outcome}
+use Rattle.fs_world.specs.Carried.{AllCarry}
 use Rattle.fs_world.specs.Direct.{do_at, join_at, step_of}
 use Rattle.fs_world.specs.Order.{Told, told_at}
 use Rattle.fs_world.specs.Refusals.{AllFair, HasNone, IsFair, IsFairAnswer, NoneHas, NoneStrange, is_core_strange, is_link_strange, is_strange, rows_of}
@@ -50,7 +51,7 @@ fair_in w e = IsFairAnswer w e (rows_of (step w e).world)
 
 right_at : (laws : SerialLaws) (top : ℕ) (h : Head) (e : Event) (es : List Event) (told : List Told) (w : Form) → Goes top h (e ∷ es) told w → AllRight (fair_in w e) (step w e).outcome.notes
 right_at laws top head.Direct e es told (Direct w) g = direct_right (fair_in (Direct w) e) w e.what
-right_at laws top (head.Servers servers skew term) e es told (Served w) g = step_right laws servers skew g.greatest told w g.holds e.reading g.ahead.0 g.some term e.what g.called.0
+right_at laws top (head.Servers servers skew term) e es told (Served w) g = step_right laws servers skew g.greatest told w g.holds e.reading g.ahead.0 g.some g.carry.0 term e.what g.called.0
 right_at laws top head.Direct e es told (Served w) g = absurd g
 right_at laws top (head.Servers servers skew term) e es told (Direct w) g = absurd g
 
@@ -82,11 +83,11 @@ plain_from laws top h (e ∷ es) told r g p =
     plain_from laws top h es (told ++ told_at e.what (step r.world e).outcome.notes) (more r e) (goes_on laws top h e es told r.world g)
     (one_more is_core_strange r.outcomes (step r.world e).outcome p (all_plain (fair_in r.world e) (step r.world e).outcome.notes (right_at laws top h e es told r.world g)))
 
-pub no_core_strange : (laws : SerialLaws) (s : Schedule) → FitsHead s.head → AllMayHappen s.head s.events → IsTimely s.head s.events → NoneHas is_core_strange (run_of s).outcomes
-no_core_strange laws s fits may timely = plain_from laws (greatest_of 0 s.events) s.head s.events [] (first_run s.head) (goes_first laws s.head s.events fits may timely) tt
+pub no_core_strange : (laws : SerialLaws) (s : Schedule) → FitsHead s.head → AllMayHappen s.head s.events → IsTimely s.head s.events → AllCarry (first_world s.head) s.events → NoneHas is_core_strange (run_of s).outcomes
+no_core_strange laws s fits may timely carry = plain_from laws (greatest_of 0 s.events) s.head s.events [] (first_run s.head) (goes_first laws s.head s.events fits may timely carry) tt
 
-pub refusals_fair : (laws : SerialLaws) (s : Schedule) → FitsHead s.head → AllMayHappen s.head s.events → IsTimely s.head s.events → AllFair (first_world s.head) s.events
-refusals_fair laws s fits may timely = fair_from laws (greatest_of 0 s.events) s.head s.events [] (first_world s.head) (goes_first laws s.head s.events fits may timely)
+pub refusals_fair : (laws : SerialLaws) (s : Schedule) → FitsHead s.head → AllMayHappen s.head s.events → IsTimely s.head s.events → AllCarry (first_world s.head) s.events → AllFair (first_world s.head) s.events
+refusals_fair laws s fits may timely carry = fair_from laws (greatest_of 0 s.events) s.head s.events [] (first_world s.head) (goes_first laws s.head s.events fits may timely carry)
 
 -- ## Strange to no link, and to no core
 

@@ -1,5 +1,5 @@
 -- Every event of a world of the servers form notes what is right.
-use Rattle.std.proofs.Common.{◌≡◌, ℕ, ◌+◌, ◌==◌, ◌≤◌, ◌<◌, true, false, List, [], ◌∷◌, length, cond, refl, ap, ◌∙◌, subst}
+use Rattle.std.proofs.Common.{◌≡◌, ℕ, ◌+◌, ◌==◌, ◌≤◌, ◌<◌, true, false, List, [], ◌∷◌, length, cond, refl, sym, ap, ◌∙◌, subst}
 use Rattle.std.proofs.lemmas.Bool.{eqb-true}
 use Rattle.std.specs.Prelude.{Option, Some, None, nat_lt, slice_get}
 use Rattle.std.specs.FinMap.{get}
@@ -9,6 +9,7 @@ use Rattle.fs_ident.specs.declared.actor.Peer.TheVariants.{Server, Client}
 use Rattle.fs_ident.specs.declared.actor.Session.{Session}
 use Rattle.fs_ident.proofs.Booleans.{both}
 use Rattle.fs_ident.proofs.Passing.{found}
+use Rattle.fs_ident.proofs.Standing.{In-got}
 use Rattle.fs_field.specs.declared.field.Field.{Field}
 use Rattle.fs_field.specs.declared.row.Row.{Row}
 use Rattle.fs_frag.specs.declared.joined.Joined.{Joined}
@@ -24,6 +25,7 @@ use Rattle.fs_msg.specs.declared.client_msg.ClientMsg.TheVariants.{Ask, Release,
 use Rattle.fs_msg.specs.declared.note.Note.{Note}
 use Rattle.fs_msg.specs.declared.note.Note.TheVariants as note
 use Rattle.fs_msg.specs.declared.peer_msg.PeerMsg.TheVariants.{Parcel as OfParcel}
+use Rattle.fs_actor.specs.Hearing.{answer_heard, event_heard, heard_in, quiet_note, silent_note}
 use Rattle.fs_client.specs.Answers.{answer_plan}
 use Rattle.fs_server.specs.Step.{step}
 use Rattle.fs_server.specs.declared.event.ServerEvent.{ServerEvent}
@@ -36,21 +38,24 @@ use Rattle.fs_serial.specs.Cluster.{Cluster, IsThere, Lines, after_step, is_betw
 use Rattle.fs_serial.specs.Refusals.{rows_in}
 use Rattle.fs_serial.specs.Joined.{rows_of_all}
 use Rattle.fs_serial.specs.declared.flying.Flying.{Flying}
+use Rattle.fs_world.specs.Calls.{client_hears, server_hears}
+use Rattle.fs_world.specs.Carried.{Carries, GivesFirst, IsFirstOf, between, downs_of, joined_at, parcels_between, post_of, seat_post, ups_of}
 use Rattle.fs_world.specs.Order.{Told}
 use Rattle.fs_world.specs.Packets.{first_untold}
 use Rattle.fs_world.specs.Parts.{lines_in, lines_of}
-use Rattle.fs_world.specs.Served.{Stepped, arrives, at_server, client_hears, comes, do_at, first_from, heard_in, join_at, quiet_note, server_hears, server_step_at, server_told, server_told_at, step_of, tell_at, told_at, turn_at, up_first, with_seat, with_server}
+use Rattle.fs_world.specs.Served.{Stepped, arrives, at_server, comes, do_at, join_at, server_step_at, server_told, server_told_at, step_of, tell_at, told_at, turn_at, with_seat, with_server}
 use Rattle.fs_world.specs.Refusals.{IsFairAnswer, packet_told}
 use Rattle.fs_world.specs.World.{may_happen}
 use Rattle.fs_world.specs.declared.form.Form.TheVariants.{Served as ServedForm}
 use Rattle.fs_world.specs.declared.seat.Seat.{Seat}
 use Rattle.fs_world.specs.declared.served.Served.{Served}
+use Rattle.fs_world.proofs.Heard.{first_answer, first_parcel, first_question}
 use Rattle.fs_world.proofs.Right.{Answers, IsRight, TakesEvent, event_right, plain_client, turn_right}
 use Rattle.fs_world.proofs.SerialLaws.{SerialLaws}
 use Rattle.fs_world.proofs.ServedHolds.{cluster_of}
 use Rattle.fs_world.proofs.ServedSteps.{to_there}
 use Rattle.fs_world.proofs.ServerHolds.{clock, parcel_there, question_there}
-use Rattle.fs_world.proofs.SessionSteps.{HoldsOf, answer_found, parts_of}
+use Rattle.fs_world.proofs.SessionSteps.{HoldsOf, parts_of}
 
 -- what the event notes is right
 abbrev pub AllRight : Answers → List Note → Type 0
@@ -61,6 +66,10 @@ quiet ok x = elim (x.fresh == 0) as (λ b. AllRight ok (cond b note.None note.Pa
   | true ↦ (record { plain = refl; fair = tt }, tt)
   | false ↦ (record { plain = refl; fair = tt }, tt)
 ]
+
+silent : (ok : Answers) (js : List Joined) (x : Heard) → AllRight ok (silent_note js x ∷ [])
+silent ok [] x = quiet ok x
+silent ok (j ∷ js) x = (record { plain = refl; fair = tt }, tt)
 
 -- the question is the first of the server's, as it was found
 question_found : (k : ℕ) (up : List (ℕ × ClientMsg)) (m : ℕ × ClientMsg) → find (is_with k) up ≡ Some m → find (is_with k) up ≡ Some (k, m.1)
@@ -95,27 +104,32 @@ module _ (laws : SerialLaws) (count skew greatest : ℕ) (told : List Told) (w :
     turns_right s None = (record { plain = refl; fair = tt }, tt)
     turns_right s (Some seat) = (turn_right (fair_at what w) seat.client now, tt)
 
-    hears_right : (s : Session) (k : ℕ) (seat : Seat) (heard : Option Peer) (x : Heard) (js : List Joined) (links : Links) (first : Option (ℕ × Answer)) → get w.seats s.0 ≡ Some seat → find (is_with k) seat.down ≡ first
-        → Right what (with_seat s (client_hears now s k heard x js first (record seat { post = links }) w.journal w.packets) w)
-    hears_right s k seat heard x [] links first at e = quiet (fair_at what w) x
-    hears_right s k seat heard x (j ∷ js) links None at e = (record { plain = refl; fair = tt }, tt)
-    hears_right s k seat heard x (j ∷ js) links (Some m) at e =
+    answer_right : (s : Session) (k : ℕ) (seat : Seat) (heard : Option Peer) (x : Heard) (links : Links) (a : Answer) → get w.seats s.0 ≡ Some seat → find (is_with k) seat.down ≡ Some (k, a)
+        → Right what (with_seat s (client_hears now s k heard x (Some a) (record seat { post = links }) w.journal w.packets) w)
+    answer_right s k seat heard x links a at first =
         let own : lines_of w.term w.seats s ≡ lines_in w.term s (Some seat) = ap (lines_in w.term s) at in (
-          subst (λ (n : Lines). IsRight (fair_at what w) (note.Client (answer_plan n.client now k m.1).out.note)) own
-              (plain_client (fair_at what w) (answer_plan (lines_of w.term w.seats s).client now k m.1).out.note
-              (laws.client_plain skew greatest now k m.1 s seen (ap (λ (n : Lines). find (is_with k) n.down) own ∙ answer_found k seat.down m e) h.cluster)),
+          subst (λ (n : Lines). IsRight (fair_at what w) (note.Client (answer_plan n.client now k a).out.note)) own
+              (plain_client (fair_at what w) (answer_plan (lines_of w.term w.seats s).client now k a).out.note
+              (laws.client_plain skew greatest now k a s seen (ap (λ (n : Lines). find (is_with k) n.down) own ∙ first) h.cluster)),
           tt,
         )
 
-    told_right : (s : Session) (k : ℕ) (p : Packet) (o : Option Seat) → get w.seats s.0 ≡ o → Right what (told_at o now s k p w)
-    told_right s k p None at = (record { plain = refl; fair = tt }, tt)
-    told_right s k p (Some seat) at = let a = post_accepted seat.post (Server k) p in hears_right s k seat (heard_in (Server k) p) a.heard a.heard.joined a.links (find (is_with k) seat.down) at refl
+    hears_right : (s : Session) (k : ℕ) (seat : Seat) (heard : Option Peer) (x : Heard) (js : List Joined) (links : Links) → get w.seats s.0 ≡ Some seat → IsFirstOf js (downs_of k (Some seat))
+        → Right what (with_seat s (client_hears now s k heard x (answer_heard js) (record seat { post = links }) w.journal w.packets) w)
+    hears_right s k seat heard x [] links at f = silent (fair_at what w) x.joined x
+    hears_right s k seat heard x (j ∷ js) links at f =
+        let first = first_answer k seat j js f in
+        subst (λ (o : Option Answer). Right what (with_seat s (client_hears now s k heard x o (record seat { post = links }) w.journal w.packets) w)) (sym first.2) (answer_right s k seat heard x links first.0 at first.1)
+
+    told_right : (s : Session) (k : ℕ) (p : Packet) (o : Option Seat) → get w.seats s.0 ≡ o → IsFirstOf (joined_at (seat_post o) (Server k) p) (downs_of k o) → Right what (told_at o now s k p w)
+    told_right s k p None at f = (record { plain = refl; fair = tt }, tt)
+    told_right s k p (Some seat) at f = let a = post_accepted seat.post (Server k) p in hears_right s k seat (heard_in (Server k) p) a.heard a.heard.joined a.links at f
 
     -- ## At a server that there is
 
     module _ (k : ℕ) (c : Core) (post : Links) (at : slice_get w.servers k ≡ Some c) where
-      abbrev hearing : Peer → Option Peer → Heard → List Joined → Option ServerEvent → Links → Stepped
-      hearing from heard x js first links = with_server k (server_hears now k from heard x js first (record (at_server c post w) { post = links })) w
+      abbrev hearing : Peer → Option Peer → Heard → Option ServerEvent → Links → Stepped
+      hearing from heard x e links = with_server k (server_hears now k from heard x e (record (at_server c post w) { post = links })) w
 
       -- an answer to a log is fair in this event, after which these are all rows
       abbrev fair_after : ServerEvent → Answers
@@ -138,43 +152,38 @@ module _ (laws : SerialLaws) (count skew greatest : ℕ) (told : List Told) (w :
         takes_log s seat (Renew pairs) from is first = tt
         takes_log s seat (Release pairs) from is first = tt
 
-        message_right : (s : Session) (seat : Seat) (heard : Option Peer) (x : Heard) (j : Joined) (js : List Joined) (links : Links) (o : Option (ℕ × ClientMsg)) → packet.from ≡ Client s → get w.seats s.0 ≡ Some seat → find (is_with k) seat.up ≡ o
-            → Right what (hearing (Client s) heard x (j ∷ js) (elim o as (λ _. Option ServerEvent) [ None ↦ None | Some m ↦ Some (FromClient s m.1) ]) links)
-        message_right s seat heard x j js links None from is first = (record { plain = refl; fair = tt }, tt)
-        message_right s seat heard x j js links (Some m) from is first = (
-          event (FromClient s m.1) (question_there laws count skew greatest told (parts_of w) h now k c at s seat m is first) (takes_log s seat m.1 from is (question_found k seat.up m first)),
-          tt,
-        )
+        session_right : (s : Session) (o : Option Seat) → packet.from ≡ Client s → get w.seats s.0 ≡ o → (heard : Option Peer) (x : Heard) (js : List Joined) (links : Links) → IsFirstOf js (ups_of k o) → Right what (hearing (Client s) heard x (event_heard (Client s) js) links)
+        session_right s o from is heard x [] links f = silent _ x.joined x
+        session_right s None from is heard x (j ∷ js) links f = absurd f
+        session_right s (Some seat) from is heard x (j ∷ js) links f =
+            let first = first_question k s seat j js f in
+            subst (λ (e : Option ServerEvent). Right what (hearing (Client s) heard x e links)) (sym first.2)
+            (event (FromClient s first.0.1) (question_there laws count skew greatest told (parts_of w) h now k c at s seat first.0 is first.1) (takes_log s seat first.0.1 from is (question_found k seat.up first.0 first.1)), tt)
 
-        session_right : (s : Session) (o : Option Seat) → packet.from ≡ Client s → get w.seats s.0 ≡ o → (heard : Option Peer) (x : Heard) (js : List Joined) (links : Links) → Right what (hearing (Client s) heard x js (up_first k s o) links)
-        session_right s o from is heard x [] links = quiet _ x
-        session_right s None from is heard x (j ∷ js) links = (record { plain = refl; fair = tt }, tt)
-        session_right s (Some seat) from is heard x (j ∷ js) links = message_right s seat heard x j js links (find (is_with k) seat.up) from is refl
+      peer_right : (i : ℕ) (heard : Option Peer) (x : Heard) (js : List Joined) (links : Links) → IsFirstOf js (parcels_between i k w.flying) → Right what (hearing (Server i) heard x (event_heard (Server i) js) links)
+      peer_right i heard x [] links f = silent _ x.joined x
+      peer_right i heard x (j ∷ js) links f =
+          let first = first_parcel k i w.flying j js f in
+          subst (λ (e : Option ServerEvent). Right what (hearing (Server i) heard x e links)) (sym first.2)
+          (event (FromPeer i (OfParcel first.0.parcel)) (parcel_there laws count skew greatest told (parts_of w) h now k c at i first.0 first.1) tt, tt)
 
-      parcel_right : (i : ℕ) (heard : Option Peer) (x : Heard) (j : Joined) (js : List Joined) (links : Links) (o : Option Flying) → find (is_between i k) w.flying ≡ o
-          → Right what (hearing (Server i) heard x (j ∷ js) (elim o as (λ _. Option ServerEvent) [ None ↦ None | Some f ↦ Some (FromPeer i (OfParcel f.parcel)) ]) links)
-      parcel_right i heard x j js links None first = (record { plain = refl; fair = tt }, tt)
-      parcel_right i heard x j js links (Some f) first = (event (FromPeer i (OfParcel f.parcel)) (parcel_there laws count skew greatest told (parts_of w) h now k c at i f first) tt, tt)
-
-      peer_right : (i : ℕ) (heard : Option Peer) (x : Heard) (js : List Joined) (links : Links) → Right what (hearing (Server i) heard x js (first_from k (Server i) w.seats w.flying) links)
-      peer_right i heard x [] links = quiet _ x
-      peer_right i heard x (j ∷ js) links = parcel_right i heard x j js links (find (is_between i k) w.flying) refl
-
-      told_server : (packet : Sent) (from : Peer) (p : Packet) → packet_told w what ≡ Some packet → packet.to ≡ Server k → packet.from ≡ from → Right what (with_server k (server_told now k from p (at_server c post w)) w)
-      told_server packet (Client s) p told_so here is =
+      told_server : (packet : Sent) (from : Peer) (p : Packet) → packet_told w what ≡ Some packet → packet.to ≡ Server k → packet.from ≡ from → IsFirstOf (post_accepted post from p).heard.joined (between w from (Server k))
+          → Right what (with_server k (server_told now k from p (at_server c post w)) w)
+      told_server packet (Client s) p told_so here is f =
           let a = post_accepted post (Client s) p in
-          session_right packet told_so here s (get w.seats s.0) is refl (heard_in (Client s) p) a.heard a.heard.joined a.links
-      told_server packet (Server i) p told_so here is =
+          session_right packet told_so here s (get w.seats s.0) is refl (heard_in (Client s) p) a.heard a.heard.joined a.links f
+      told_server packet (Server i) p told_so here is f =
           let a = post_accepted post (Server i) p in
-          peer_right i (heard_in (Server i) p) a.heard a.heard.joined a.links
+          peer_right i (heard_in (Server i) p) a.heard a.heard.joined a.links f
 
     -- ## At any server
 
-    told_at_server : (k : ℕ) (packet : Sent) (from : Peer) (p : Packet) (c : Option Core) (post : Option Links) → packet_told w what ≡ Some packet → packet.to ≡ Server k → packet.from ≡ from → slice_get w.servers k ≡ c → Right what (server_told_at c post now k from p w)
-    told_at_server k packet from p (Some c) (Some post) told_so here is at = told_server k c post at packet from p told_so here is
-    told_at_server k packet from p (Some c) None told_so here is at = (record { plain = refl; fair = tt }, tt)
-    told_at_server k packet from p None (Some post) told_so here is at = (record { plain = refl; fair = tt }, tt)
-    told_at_server k packet from p None None told_so here is at = (record { plain = refl; fair = tt }, tt)
+    told_at_server : (k : ℕ) (packet : Sent) (from : Peer) (p : Packet) (c : Option Core) (post : Option Links) → packet_told w what ≡ Some packet → packet.to ≡ Server k → packet.from ≡ from → slice_get w.servers k ≡ c
+        → IsFirstOf (joined_at post from p) (between w from (Server k)) → Right what (server_told_at c post now k from p w)
+    told_at_server k packet from p (Some c) (Some post) told_so here is at f = told_server k c post at packet from p told_so here is f
+    told_at_server k packet from p (Some c) None told_so here is at f = (record { plain = refl; fair = tt }, tt)
+    told_at_server k packet from p None (Some post) told_so here is at f = (record { plain = refl; fair = tt }, tt)
+    told_at_server k packet from p None None told_so here is at f = (record { plain = refl; fair = tt }, tt)
 
     turn_at_server : (k : ℕ) (c : Option Core) (post : Option Links) → slice_get w.servers k ≡ c → Right what (server_step_at c post k true now TheTurn w)
     turn_at_server k (Some c) (Some post) at = (event k c post at TheTurn tt tt, tt)
@@ -196,29 +205,29 @@ module _ (laws : SerialLaws) (count skew greatest : ℕ) (told : List Told) (w :
 
     -- ## A packet is told
 
-    comes_right : (packet : Sent) (from to : Peer) (p : Packet) → packet_told w what ≡ Some packet → packet.from ≡ from → packet.to ≡ to → Right what (comes now from to p w)
-    comes_right packet (Client s) (Server k) p told_so of here = told_at_server k packet (Client s) p (slice_get w.servers k) (slice_get w.posts k) told_so here of refl
-    comes_right packet (Server j) (Server k) p told_so of here = told_at_server k packet (Server j) p (slice_get w.servers k) (slice_get w.posts k) told_so here of refl
-    comes_right packet (Server j) (Client s) p told_so of here = told_right s j p (get w.seats s.0) refl
-    comes_right packet (Client r) (Client s) p told_so of here = (record { plain = refl; fair = tt }, tt)
+    comes_right : (packet : Sent) (from to : Peer) (p : Packet) → packet_told w what ≡ Some packet → packet.from ≡ from → packet.to ≡ to → IsFirstOf (joined_at (post_of w to) from p) (between w from to) → Right what (comes now from to p w)
+    comes_right packet (Client s) (Server k) p told_so of here f = told_at_server k packet (Client s) p (slice_get w.servers k) (slice_get w.posts k) told_so here of refl f
+    comes_right packet (Server j) (Server k) p told_so of here f = told_at_server k packet (Server j) p (slice_get w.servers k) (slice_get w.posts k) told_so here of refl f
+    comes_right packet (Server j) (Client s) p told_so of here f = told_right s j p (get w.seats s.0) refl f
+    comes_right packet (Client r) (Client s) p told_so of here f = (record { plain = refl; fair = tt }, tt)
 
-    arrives_right : (packet : Sent) (p : Option Packet) → packet_told w what ≡ Some packet → Right what (arrives now packet.from packet.to p w)
-    arrives_right packet None told_so = (record { plain = refl; fair = tt }, tt)
-    arrives_right packet (Some p) told_so = comes_right packet packet.from packet.to p told_so refl refl
+    arrives_right : (packet : Sent) (p : Option Packet) → packet_told w what ≡ Some packet → GivesFirst w packet.from packet.to p → Right what (arrives now packet.from packet.to p w)
+    arrives_right packet None told_so f = (record { plain = refl; fair = tt }, tt)
+    arrives_right packet (Some p) told_so f = comes_right packet packet.from packet.to p told_so refl refl f
 
-    tell_right : (o : Option Sent) (k : ℕ) → packet_told w what ≡ o → Right what (tell_at o now k w)
-    tell_right None k told_so = (record { plain = refl; fair = tt }, tt)
-    tell_right (Some x) k told_so = arrives_right x (packet_at x.bytes) told_so
+    tell_right : Carries w → (o : Option Sent) (k : ℕ) → packet_told w what ≡ o → slice_get w.packets.sent k ≡ o → Right what (tell_at o now k w)
+    tell_right carry None k told_so at = (record { plain = refl; fair = tt }, tt)
+    tell_right carry (Some x) k told_so at = arrives_right x (packet_at x.bytes) told_so (carry x (In-got w.packets.sent k x at))
 
   -- ## Each event
 
-  pub step_right : (term : ℕ) (what : What) → may_happen (Servers count skew term) what ≡ true → Right what (step_of w now what)
-  step_right term (Join s) may = join_right (Join s) s (get w.seats s.0)
-  step_right term (Do s o) may = do_right (Do s o) s o (get w.seats s.0)
-  step_right term (Tell None) may = tell_right (Tell None) (slice_get w.packets.sent (first_untold w.packets.told)) (first_untold w.packets.told) refl
-  step_right term (Tell (Some k)) may = tell_right (Tell (Some k)) (slice_get w.packets.sent k) k refl
-  step_right term (Turn (Client s)) may = turns_right (Turn (Client s)) s (get w.seats s.0)
-  step_right term (Turn (Server k)) may = turn_at_server (Turn (Server k)) k (slice_get w.servers k) (slice_get w.posts k) refl
-  step_right term (Recall k field) may = recall_at_server (Recall k field) k field (slice_get w.servers k) (slice_get w.posts k) refl
-  step_right term (Move k prefix to) may =
+  pub step_right : Carries w → (term : ℕ) (what : What) → may_happen (Servers count skew term) what ≡ true → Right what (step_of w now what)
+  step_right carry term (Join s) may = join_right (Join s) s (get w.seats s.0)
+  step_right carry term (Do s o) may = do_right (Do s o) s o (get w.seats s.0)
+  step_right carry term (Tell None) may = tell_right (Tell None) carry (slice_get w.packets.sent (first_untold w.packets.told)) (first_untold w.packets.told) refl refl
+  step_right carry term (Tell (Some k)) may = tell_right (Tell (Some k)) carry (slice_get w.packets.sent k) k refl refl
+  step_right carry term (Turn (Client s)) may = turns_right (Turn (Client s)) s (get w.seats s.0)
+  step_right carry term (Turn (Server k)) may = turn_at_server (Turn (Server k)) k (slice_get w.servers k) (slice_get w.posts k) refl
+  step_right carry term (Recall k field) may = recall_at_server (Recall k field) k field (slice_get w.servers k) (slice_get w.posts k) refl
+  step_right carry term (Move k prefix to) may =
       move_at_server (Move k prefix to) k prefix to (slice_get w.servers k) (slice_get w.posts k) refl (to_there laws count skew greatest told w h now within some to (both (nat_lt k count) (nat_lt to count) may).1)

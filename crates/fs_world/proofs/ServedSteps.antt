@@ -1,5 +1,5 @@
 -- Every event of a world of the servers form keeps what holds of it.
-use Rattle.std.proofs.Common.{◌≡◌, ℕ, ◌+◌, ◌≤◌, ◌<◌, max, Bool, true, false, List, [], ◌∷◌, length, refl, sym, subst, arith}
+use Rattle.std.proofs.Common.{◌≡◌, ℕ, ◌+◌, ◌≤◌, ◌<◌, max, Bool, true, false, List, [], ◌∷◌, ◌++◌, append-nil, length, refl, sym, subst, arith}
 use Rattle.std.proofs.lemmas.Bool.Decides.{nat_tests}
 use Rattle.std.specs.Prelude.{Option, Some, None, nat_lt, slice_get, slice_set}
 use Rattle.std.specs.FinMap.{get}
@@ -8,6 +8,7 @@ use Rattle.fs_ident.specs.declared.actor.Peer.{Peer}
 use Rattle.fs_ident.specs.declared.actor.Peer.TheVariants.{Server, Client}
 use Rattle.fs_ident.specs.declared.actor.Session.{Session}
 use Rattle.fs_ident.proofs.Booleans.{both}
+use Rattle.fs_ident.proofs.Standing.{In-got}
 use Rattle.fs_frag.specs.declared.joined.Joined.{Joined}
 use Rattle.fs_window.specs.Post.{Links, post_accepted}
 use Rattle.fs_window.specs.Reading.{packet_at}
@@ -16,6 +17,7 @@ use Rattle.fs_window.specs.declared.packet.Packet.{Packet}
 use Rattle.fs_window.specs.declared.sent.Sent.{Sent}
 use Rattle.fs_field.specs.declared.field.Field.{Field}
 use Rattle.fs_msg.specs.declared.client_msg.ClientMsg.{ClientMsg}
+use Rattle.fs_msg.specs.declared.item.Item.{Item}
 use Rattle.fs_msg.specs.declared.peer_msg.PeerMsg.TheVariants.{Parcel as OfParcel}
 use Rattle.fs_schedule.specs.declared.event.Head.TheVariants.{Servers}
 use Rattle.fs_schedule.specs.declared.event.What.{What}
@@ -23,20 +25,24 @@ use Rattle.fs_schedule.specs.declared.event.What.TheVariants.{Join, Do, Tell, Tu
 use Rattle.fs_server.specs.declared.event.ServerEvent.{ServerEvent}
 use Rattle.fs_server.specs.declared.event.ServerEvent.TheVariants.{FromClient, FromPeer, Turn as TheTurn, Recall as TheRecall, Move as TheMove}
 use Rattle.fs_server.specs.declared.state.Server.{Server as Core}
+use Rattle.fs_actor.specs.Hearing.{event_heard, heard_in}
 use Rattle.fs_serial.specs.Cluster.{IsThere, is_between, is_with, without_question}
 use Rattle.fs_serial.specs.declared.flying.Flying.{Flying}
 use Rattle.fs_serial.proofs.SetAt.{set_same}
+use Rattle.fs_world.specs.Calls.{server_hears}
+use Rattle.fs_world.specs.Carried.{Carries, GivesFirst, IsFirstOf, between, joined_at, parcels_between, post_of, ups_of}
 use Rattle.fs_world.specs.Order.{Told, told_at as told_in}
 use Rattle.fs_world.specs.Packets.{first_untold}
 use Rattle.fs_world.specs.Parts.{lines_of}
-use Rattle.fs_world.specs.Served.{arrives, at_server, comes, first_from, heard_in, server_hears, server_step_at, server_told, server_told_at, step_of, tell_at, up_first, with_server, without_up}
+use Rattle.fs_world.specs.Served.{arrives, at_server, comes, server_step_at, server_told, server_told_at, step_of, tell_at, with_server, without_up}
 use Rattle.fs_world.specs.World.{may_happen}
 use Rattle.fs_world.specs.declared.seat.Seat.{Seat}
 use Rattle.fs_world.specs.declared.served.Served.{Served}
 use Rattle.fs_world.proofs.SeenRows.{IsAsked}
 use Rattle.fs_world.specs.Linked.{HasJoined}
 use Rattle.fs_world.proofs.SerialLaws.{SerialLaws}
-use Rattle.fs_world.proofs.ServedHolds.{Holds, cluster_of}
+use Rattle.fs_world.proofs.Heard.{first_parcel, first_question}
+use Rattle.fs_world.proofs.ServedHolds.{Holds, Parts, cluster_of}
 use Rattle.fs_world.proofs.ServerHolds.{after_core, message_holds, parcel_of_joined, parcel_there, server_holds}
 use Rattle.fs_world.proofs.SessionSteps.{HoldsOf, Then, do_holds, join_holds, later, parts_of, still, told_holds, turn_holds, untold}
 
@@ -57,54 +63,58 @@ module _ (laws : SerialLaws) (count skew greatest : ℕ) (told : List Told) (w :
   -- ## At a server that there is
 
   module _ (k : ℕ) (c : Core) (post : Links) (at : slice_get w.servers k ≡ Some c) where
+    abbrev left : List Flying → List Item → Parts
+    left flying journal = record (parts_of w) { servers = slice_set w.servers k c; flying = flying; journal = journal }
+
     -- nothing but its links changes
-    unchanged : Holds count skew (max greatest now) told (record (parts_of w) { servers = slice_set w.servers k c })
-    unchanged = subst (λ (servers : List Core). Holds count skew (max greatest now) told (record (parts_of w) { servers = servers })) (sym (set_same w.servers k c at)) (later laws count skew greatest told w h now within some)
+    unchanged : Holds count skew (max greatest now) told (left (w.flying ++ []) (w.journal ++ []))
+    unchanged =
+        subst (λ (flying : List Flying). Holds count skew (max greatest now) told (left flying (w.journal ++ []))) (sym (append-nil w.flying))
+        (subst (λ (journal : List Item). Holds count skew (max greatest now) told (left w.flying journal)) (sym (append-nil w.journal))
+        (subst (λ (servers : List Core). Holds count skew (max greatest now) told (record (parts_of w) { servers = servers })) (sym (set_same w.servers k c at)) (later laws count skew greatest told w h now within some)))
 
-    abbrev hearing : Peer → Option Peer → Heard → List Joined → Option ServerEvent → Links → Served
-    hearing from heard x js first links = (with_server k (server_hears now k from heard x js first (record (at_server c post w) { post = links })) w).world
+    abbrev hearing : Peer → Option Peer → Heard → Option ServerEvent → Links → Served
+    hearing from heard x event links = (with_server k (server_hears now k from heard x event (record (at_server c post w) { post = links })) w).world
 
-    quiet_hears : (from : Peer) (heard : Option Peer) (x : Heard) (first : Option ServerEvent) (links : Links) → Is (hearing from heard x [] first links)
-    quiet_hears from heard x first links = quietly (hearing from heard x [] first links) unchanged
+    none_hears : (from : Peer) (heard : Option Peer) (x : Heard) (links : Links) → Is (hearing from heard x None links)
+    none_hears from heard x links = quietly (hearing from heard x None links) unchanged
 
-    none_hears : (from : Peer) (heard : Option Peer) (x : Heard) (j : Joined) (js : List Joined) (links : Links) → Is (hearing from heard x (j ∷ js) None links)
-    none_hears from heard x j js links = quietly (hearing from heard x (j ∷ js) None links) unchanged
-
-    -- a session's message, if one is there
-    message_then : (s : Session) (seat : Seat) (heard : Option Peer) (x : Heard) (j : Joined) (js : List Joined) (links : Links) (o : Option (ℕ × ClientMsg)) → get w.seats s.0 ≡ Some seat → find (is_with k) seat.up ≡ o
-        → Is (hearing (Client s) heard x (j ∷ js) (elim o as (λ _. Option ServerEvent) [ None ↦ None | Some m ↦ Some (FromClient s m.1) ]) links)
-    message_then s seat heard x j js links None is first = none_hears (Client s) heard x j js links
-    message_then s seat heard x j js links (Some m) is first =
-        quietly (hearing (Client s) heard x (j ∷ js) (Some (FromClient s m.1)) links)
+    -- a session's message that is there
+    message_then : (s : Session) (seat : Seat) (heard : Option Peer) (x : Heard) (links : Links) (m : ℕ × ClientMsg) → get w.seats s.0 ≡ Some seat → find (is_with k) seat.up ≡ Some m
+        → Is (hearing (Client s) heard x (Some (FromClient s m.1)) links)
+    message_then s seat heard x links m is first =
+        quietly (hearing (Client s) heard x (Some (FromClient s m.1)) links)
         (subst (λ (o : Option Seat). Holds count skew (max greatest now) told (after_core laws count skew greatest told (parts_of w) h now k c at (FromClient s m.1) (without_up k o s.0 w.seats))) (sym is)
         (message_holds laws count skew greatest told (parts_of w) h now k c at s seat m is first))
 
-    session_hears : (s : Session) (o : Option Seat) → get w.seats s.0 ≡ o → (heard : Option Peer) (x : Heard) (js : List Joined) (links : Links) → Is (hearing (Client s) heard x js (up_first k s o) links)
-    session_hears s o is heard x [] links = quiet_hears (Client s) heard x (up_first k s o) links
-    session_hears s None is heard x (j ∷ js) links = none_hears (Client s) heard x j js links
-    session_hears s (Some seat) is heard x (j ∷ js) links = message_then s seat heard x j js links (find (is_with k) seat.up) is refl
+    session_hears : (s : Session) (o : Option Seat) → get w.seats s.0 ≡ o → (heard : Option Peer) (x : Heard) (js : List Joined) (links : Links) → IsFirstOf js (ups_of k o) → Is (hearing (Client s) heard x (event_heard (Client s) js) links)
+    session_hears s o is heard x [] links f = none_hears (Client s) heard x links
+    session_hears s None is heard x (j ∷ js) links f = absurd f
+    session_hears s (Some seat) is heard x (j ∷ js) links f =
+        let first = first_question k s seat j js f in
+        subst (λ (e : Option ServerEvent). Is (hearing (Client s) heard x e links)) (sym first.2) (message_then s seat heard x links first.0 is first.1)
 
-    -- a parcel, if one is there
-    parcel_then : (i : ℕ) (heard : Option Peer) (x : Heard) (j : Joined) (js : List Joined) (links : Links) (o : Option Flying) → find (is_between i k) w.flying ≡ o
-        → Is (hearing (Server i) heard x (j ∷ js) (elim o as (λ _. Option ServerEvent) [ None ↦ None | Some f ↦ Some (FromPeer i (OfParcel f.parcel)) ]) links)
-    parcel_then i heard x j js links None first = none_hears (Server i) heard x j js links
-    parcel_then i heard x j js links (Some f) first =
-        quietly (hearing (Server i) heard x (j ∷ js) (Some (FromPeer i (OfParcel f.parcel))) links)
+    -- a parcel that is there
+    parcel_then : (i : ℕ) (heard : Option Peer) (x : Heard) (links : Links) (f : Flying) → find (is_between i k) w.flying ≡ Some f → Is (hearing (Server i) heard x (Some (FromPeer i (OfParcel f.parcel))) links)
+    parcel_then i heard x links f first =
+        quietly (hearing (Server i) heard x (Some (FromPeer i (OfParcel f.parcel))) links)
         (server_holds laws count skew greatest told (parts_of w) h now k c at (FromPeer i (OfParcel f.parcel)) w.seats refl (λ x i. i)
         (parcel_there laws count skew greatest told (parts_of w) h now k c at i f first)
         (parcel_of_joined laws count skew greatest told (parts_of w) h now k c at i f first))
 
-    server_hears_then : (i : ℕ) (heard : Option Peer) (x : Heard) (js : List Joined) (links : Links) → Is (hearing (Server i) heard x js (first_from k (Server i) w.seats w.flying) links)
-    server_hears_then i heard x [] links = quiet_hears (Server i) heard x (first_from k (Server i) w.seats w.flying) links
-    server_hears_then i heard x (j ∷ js) links = parcel_then i heard x j js links (find (is_between i k) w.flying) refl
+    server_hears_then : (i : ℕ) (heard : Option Peer) (x : Heard) (js : List Joined) (links : Links) → IsFirstOf js (parcels_between i k w.flying) → Is (hearing (Server i) heard x (event_heard (Server i) js) links)
+    server_hears_then i heard x [] links f = none_hears (Server i) heard x links
+    server_hears_then i heard x (j ∷ js) links f =
+        let first = first_parcel k i w.flying j js f in
+        subst (λ (e : Option ServerEvent). Is (hearing (Server i) heard x e links)) (sym first.2) (parcel_then i heard x links first.0 first.1)
 
-    told_server : (from : Peer) (p : Packet) → Is (with_server k (server_told now k from p (at_server c post w)) w).world
-    told_server (Client s) p =
+    told_server : (from : Peer) (p : Packet) → IsFirstOf (post_accepted post from p).heard.joined (between w from (Server k)) → Is (with_server k (server_told now k from p (at_server c post w)) w).world
+    told_server (Client s) p f =
         let a = post_accepted post (Client s) p in
-        session_hears s (get w.seats s.0) refl (heard_in (Client s) p) a.heard a.heard.joined a.links
-    told_server (Server i) p =
+        session_hears s (get w.seats s.0) refl (heard_in (Client s) p) a.heard a.heard.joined a.links f
+    told_server (Server i) p f =
         let a = post_accepted post (Server i) p in
-        server_hears_then i (heard_in (Server i) p) a.heard a.heard.joined a.links
+        server_hears_then i (heard_in (Server i) p) a.heard a.heard.joined a.links f
 
     -- what no message brings
     own_step : (turn : Bool) (e : ServerEvent) → lines_of w.term w.seats ≡ without_question k e (lines_of w.term w.seats) → IsThere k e (cluster_of h.replied (parts_of w)) → IsAsked (HasJoined w.seats) e
@@ -113,11 +123,11 @@ module _ (laws : SerialLaws) (count skew greatest : ℕ) (told : List Told) (w :
 
   -- ## At any server
 
-  told_at_server : (k : ℕ) (from : Peer) (p : Packet) (c : Option Core) (post : Option Links) → slice_get w.servers k ≡ c → Is (server_told_at c post now k from p w).world
-  told_at_server k from p (Some c) (Some post) at = told_server k c post at from p
-  told_at_server k from p (Some c) None at = same
-  told_at_server k from p None (Some post) at = same
-  told_at_server k from p None None at = same
+  told_at_server : (k : ℕ) (from : Peer) (p : Packet) (c : Option Core) (post : Option Links) → slice_get w.servers k ≡ c → IsFirstOf (joined_at post from p) (between w from (Server k)) → Is (server_told_at c post now k from p w).world
+  told_at_server k from p (Some c) (Some post) at f = told_server k c post at from p f
+  told_at_server k from p (Some c) None at f = same
+  told_at_server k from p None (Some post) at f = same
+  told_at_server k from p None None at f = same
 
   turn_at_server : (k : ℕ) (c : Option Core) (post : Option Links) → slice_get w.servers k ≡ c → Is (server_step_at c post k true now TheTurn w).world
   turn_at_server k (Some c) (Some post) at = quietly (server_step_at (Some c) (Some post) k true now TheTurn w).world (own_step k c post at true TheTurn refl tt tt)
@@ -139,32 +149,32 @@ module _ (laws : SerialLaws) (count skew greatest : ℕ) (told : List Told) (w :
 
   -- ## A packet is told
 
-  comes_then : (from to : Peer) (p : Packet) → Is (comes now from to p w).world
-  comes_then (Client s) (Server k) p = told_at_server k (Client s) p (slice_get w.servers k) (slice_get w.posts k) refl
-  comes_then (Server j) (Server k) p = told_at_server k (Server j) p (slice_get w.servers k) (slice_get w.posts k) refl
-  comes_then (Server j) (Client s) p = told_holds laws count skew greatest told w h now within some s j p (get w.seats s.0) refl
-  comes_then (Client r) (Client s) p = same
+  comes_then : (from to : Peer) (p : Packet) → IsFirstOf (joined_at (post_of w to) from p) (between w from to) → Is (comes now from to p w).world
+  comes_then (Client s) (Server k) p f = told_at_server k (Client s) p (slice_get w.servers k) (slice_get w.posts k) refl f
+  comes_then (Server j) (Server k) p f = told_at_server k (Server j) p (slice_get w.servers k) (slice_get w.posts k) refl f
+  comes_then (Server j) (Client s) p f = told_holds laws count skew greatest told w h now within some s j p (get w.seats s.0) refl f
+  comes_then (Client r) (Client s) p f = same
 
-  arrives_then : (from to : Peer) (p : Option Packet) → Is (arrives now from to p w).world
-  arrives_then from to None = same
-  arrives_then from to (Some p) = comes_then from to p
+  arrives_then : (from to : Peer) (p : Option Packet) → GivesFirst w from to p → Is (arrives now from to p w).world
+  arrives_then from to None f = same
+  arrives_then from to (Some p) f = comes_then from to p f
 
   -- that it counts as told is of no matter
-  tell_then : (o : Option Sent) (k : ℕ) → Is (tell_at o now k w).world
-  tell_then None k = same
-  tell_then (Some x) k = arrives_then x.from x.to (packet_at x.bytes)
+  tell_then : Carries w → (o : Option Sent) (k : ℕ) → slice_get w.packets.sent k ≡ o → Is (tell_at o now k w).world
+  tell_then carry None k at = same
+  tell_then carry (Some x) k at = arrives_then x.from x.to (packet_at x.bytes) (carry x (In-got w.packets.sent k x at))
 
   -- ## Each event
 
   pub to_there : (to : ℕ) → nat_lt to count ≡ true → to < length w.servers
   to_there to e = subst (λ (n : ℕ). to < n) (sym h.many) (is_less to count e)
 
-  pub step_holds : (term : ℕ) (what : What) → may_happen (Servers count skew term) what ≡ true → Then laws count skew greatest told w h now within some (told_in what (step_of w now what).outcome.notes) (step_of w now what).world
-  step_holds term (Join s) may = join_holds laws count skew greatest told w h now within some s (get w.seats s.0) refl
-  step_holds term (Do s o) may = do_holds laws count skew greatest told w h now within some s o (get w.seats s.0) refl may
-  step_holds term (Tell None) may = tell_then (slice_get w.packets.sent (first_untold w.packets.told)) (first_untold w.packets.told)
-  step_holds term (Tell (Some k)) may = tell_then (slice_get w.packets.sent k) k
-  step_holds term (Turn (Client s)) may = turn_holds laws count skew greatest told w h now within some s (get w.seats s.0) refl
-  step_holds term (Turn (Server k)) may = turn_at_server k (slice_get w.servers k) (slice_get w.posts k) refl
-  step_holds term (Recall k field) may = recall_at_server k field (slice_get w.servers k) (slice_get w.posts k) refl
-  step_holds term (Move k prefix to) may = move_at_server k prefix to (slice_get w.servers k) (slice_get w.posts k) refl (to_there to (both (nat_lt k count) (nat_lt to count) may).1)
+  pub step_holds : Carries w → (term : ℕ) (what : What) → may_happen (Servers count skew term) what ≡ true → Then laws count skew greatest told w h now within some (told_in what (step_of w now what).outcome.notes) (step_of w now what).world
+  step_holds carry term (Join s) may = join_holds laws count skew greatest told w h now within some s (get w.seats s.0) refl
+  step_holds carry term (Do s o) may = do_holds laws count skew greatest told w h now within some s o (get w.seats s.0) refl may
+  step_holds carry term (Tell None) may = tell_then carry (slice_get w.packets.sent (first_untold w.packets.told)) (first_untold w.packets.told) refl
+  step_holds carry term (Tell (Some k)) may = tell_then carry (slice_get w.packets.sent k) k refl
+  step_holds carry term (Turn (Client s)) may = turn_holds laws count skew greatest told w h now within some s (get w.seats s.0) refl
+  step_holds carry term (Turn (Server k)) may = turn_at_server k (slice_get w.servers k) (slice_get w.posts k) refl
+  step_holds carry term (Recall k field) may = recall_at_server k field (slice_get w.servers k) (slice_get w.posts k) refl
+  step_holds carry term (Move k prefix to) may = move_at_server k prefix to (slice_get w.servers k) (slice_get w.posts k) refl (to_there to (both (nat_lt k count) (nat_lt to count) may).1)

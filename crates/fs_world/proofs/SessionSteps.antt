@@ -1,13 +1,11 @@
 -- Every event of a session keeps what holds of a world of the servers form.
 use Rattle.std.proofs.Common.{◌≡◌, ℕ, ◌+◌, ◌≤◌, max, true, List, [], ◌∷◌, ◌++◌, refl, ap, sym, ◌∙◌, subst, arith}
-use Rattle.std.proofs.lemmas.Bool.{eqb-true}
 use Rattle.std.specs.Prelude.{Option, Some, None}
 use Rattle.std.specs.FinMap.{get, insert}
 use Rattle.std.specs.List.{find}
 use Rattle.fs_ident.specs.declared.actor.Peer.{Peer}
 use Rattle.fs_ident.specs.declared.actor.Peer.TheVariants.{Server}
 use Rattle.fs_ident.specs.declared.actor.Session.{Session}
-use Rattle.fs_ident.proofs.Passing.{found}
 use Rattle.fs_frag.specs.declared.joined.Joined.{Joined}
 use Rattle.fs_window.specs.Post.{Links, post_accepted}
 use Rattle.fs_window.specs.declared.heard.Heard.{Heard}
@@ -17,6 +15,7 @@ use Rattle.fs_msg.specs.declared.answer.Answer.{Answer}
 use Rattle.fs_msg.specs.declared.client_msg.ClientMsg.{ClientMsg}
 use Rattle.fs_msg.specs.declared.item.Item.{Item}
 use Rattle.fs_msg.specs.declared.note.Note.TheVariants as note
+use Rattle.fs_actor.specs.Hearing.{answer_heard, heard_in}
 use Rattle.fs_client.specs.Acts.{act_plan}
 use Rattle.fs_client.specs.Answers.{answer_plan}
 use Rattle.fs_client.specs.Client.{committed}
@@ -25,12 +24,15 @@ use Rattle.fs_client.specs.declared.plan.Plan.{Plan}
 use Rattle.fs_serial.specs.Cluster.{Cluster, Lines, after_plan, is_with, without_first}
 use Rattle.fs_serial.specs.Cluster.ClientEvent.{Does, Hears, Turns}
 use Rattle.fs_serial.specs.World.{is_called, pushed}
+use Rattle.fs_world.specs.Calls.{client_hears}
+use Rattle.fs_world.specs.Carried.{IsFirstOf, downs_of, joined_at, seat_post}
 use Rattle.fs_world.specs.Order.{Told, replies_in}
 use Rattle.fs_world.specs.Parts.{lines_in, lines_of}
-use Rattle.fs_world.specs.Served.{client_acts, client_hears, client_told, client_turns, do_at, heard_in, join_at, told_at, turn_at, up_after, with_read, with_seat}
+use Rattle.fs_world.specs.Served.{client_acts, client_told, client_turns, do_at, join_at, told_at, turn_at, up_after, with_read, with_seat}
 use Rattle.fs_world.specs.declared.seat.Seat.{Seat}
 use Rattle.fs_world.specs.declared.served.Served.{Served}
 use Rattle.fs_world.proofs.Fine.{act_fine, answer_fine, turn_fine}
+use Rattle.fs_world.proofs.Heard.{first_answer}
 use Rattle.fs_world.proofs.SerialLaws.{SerialLaws}
 use Rattle.fs_world.proofs.ServedHolds.{Holds, Parts, a_server, client_holds, cluster_of, holds_joined, holds_later, holds_posted, holds_untold, with_seats}
 use Rattle.fs_world.proofs.Told.{act_tells}
@@ -49,10 +51,6 @@ up_pushed (Some m) up = refl
 read_pushed : (o : Option Item) (journal : List Item) → pushed o journal ≡ with_read o journal
 read_pushed None journal = refl
 read_pushed (Some i) journal = refl
-
--- the answer is the first of the server's, as it was found
-pub answer_found : (k : ℕ) (down : List (ℕ × Answer)) (m : ℕ × Answer) → find (is_with k) down ≡ Some m → find (is_with k) down ≡ Some (k, m.1)
-answer_found k down m first = first ∙ ap (λ (j : ℕ). let o : Option (ℕ × Answer) = Some (j, m.1) in o) (eqb-true m.0 k (found (is_with k) down m first).1)
 
 module _ (laws : SerialLaws) (count skew greatest : ℕ) (told : List Told) (w : Served) (h : HoldsOf count skew greatest told w) (now : ℕ) (within : greatest ≤ now + skew) (some : 1 ≤ count) where
   -- this was told, and the world is this
@@ -128,27 +126,29 @@ module _ (laws : SerialLaws) (count skew greatest : ℕ) (told : List Told) (w :
 
     -- ## A packet comes
 
-    answered : (k : ℕ) (heard : Option Peer) (x : Heard) (j : Joined) (js : List Joined) (links : Links) (m : ℕ × Answer) → find (is_with k) seat.down ≡ Some m → Then [] (with_seat s (client_hears now s k heard x (j ∷ js) (Some m) (record seat { post = links }) w.journal w.packets) w).world
-    answered k heard x j js links m first =
-        let p = answer_plan seat.client now k m.1 in
-        let next = (client_hears now s k heard x (j ∷ js) (Some m) (record seat { post = links }) w.journal w.packets).seat in
+    answered : (k : ℕ) (heard : Option Peer) (x : Heard) (links : Links) (a : Answer) → find (is_with k) seat.down ≡ Some (k, a) → Then [] (with_seat s (client_hears now s k heard x (Some a) (record seat { post = links }) w.journal w.packets) w).world
+    answered k heard x links a first =
+        let p = answer_plan seat.client now k a in
+        let next = (client_hears now s k heard x (Some a) (record seat { post = links }) w.journal w.packets).seat in
         let rest = without_first (is_with k) seat.down in
-        journal_is p.out.admitted [] next (client_holds laws count skew greatest told (parts_of w) h s seat at now within (Hears k m.1) rest p next []
-        (ap (λ (n : Lines). after_plan s (without_first (is_with k) n.down) (answer_plan n.client now k m.1) seen) own)
-        (ap (λ (n : Lines). find (is_with k) n.down) own ∙ answer_found k seat.down m first)
+        journal_is p.out.admitted [] next (client_holds laws count skew greatest told (parts_of w) h s seat at now within (Hears k a) rest p next []
+        (ap (λ (n : Lines). after_plan s (without_first (is_with k) n.down) (answer_plan n.client now k a) seen) own)
+        (ap (λ (n : Lines). find (is_with k) n.down) own ∙ first)
         (as_planned p next rest refl)
-        (answer_fine seat.client now k m.1)
+        (answer_fine seat.client now k a)
         (λ t i. absurd i))
 
-    hears : (k : ℕ) (heard : Option Peer) (x : Heard) (js : List Joined) (links : Links) (first : Option (ℕ × Answer)) → find (is_with k) seat.down ≡ first → Then [] (with_seat s (client_hears now s k heard x js first (record seat { post = links }) w.journal w.packets) w).world
-    hears k heard x [] links first e = posted (client_hears now s k heard x [] first (record seat { post = links }) w.journal w.packets).seat refl
-    hears k heard x (j ∷ js) links None e = posted (client_hears now s k heard x (j ∷ js) None (record seat { post = links }) w.journal w.packets).seat refl
-    hears k heard x (j ∷ js) links (Some m) e = answered k heard x j js links m e
+    hears : (k : ℕ) (heard : Option Peer) (x : Heard) (js : List Joined) (links : Links) → IsFirstOf js (downs_of k (Some seat))
+        → Then [] (with_seat s (client_hears now s k heard x (answer_heard js) (record seat { post = links }) w.journal w.packets) w).world
+    hears k heard x [] links f = posted (client_hears now s k heard x None (record seat { post = links }) w.journal w.packets).seat refl
+    hears k heard x (j ∷ js) links f =
+        let first = first_answer k seat j js f in
+        subst (λ (o : Option Answer). Then [] (with_seat s (client_hears now s k heard x o (record seat { post = links }) w.journal w.packets) w).world) (sym first.2) (answered k heard x links first.0 first.1)
 
-    comes : (k : ℕ) (p : Packet) → Then [] (with_seat s (client_told now s k p seat w.journal w.packets) w).world
-    comes k p =
+    comes : (k : ℕ) (p : Packet) → IsFirstOf (post_accepted seat.post (Server k) p).heard.joined (downs_of k (Some seat)) → Then [] (with_seat s (client_told now s k p seat w.journal w.packets) w).world
+    comes k p f =
         let a = post_accepted seat.post (Server k) p in
-        hears k (heard_in (Server k) p) a.heard a.heard.joined a.links (find (is_with k) seat.down) refl
+        hears k (heard_in (Server k) p) a.heard a.heard.joined a.links f
 
   -- ## Each event at a session
 
@@ -164,6 +164,6 @@ module _ (laws : SerialLaws) (count skew greatest : ℕ) (told : List Told) (w :
   turn_holds s None at = still
   turn_holds s (Some seat) at = turns s seat at
 
-  pub told_holds : (s : Session) (k : ℕ) (p : Packet) (o : Option Seat) → get w.seats s.0 ≡ o → Then [] (told_at o now s k p w).world
-  told_holds s k p None at = still
-  told_holds s k p (Some seat) at = comes s seat at k p
+  pub told_holds : (s : Session) (k : ℕ) (p : Packet) (o : Option Seat) → get w.seats s.0 ≡ o → IsFirstOf (joined_at (seat_post o) (Server k) p) (downs_of k o) → Then [] (told_at o now s k p w).world
+  told_holds s k p None at f = still
+  told_holds s k p (Some seat) at f = comes s seat at k p f

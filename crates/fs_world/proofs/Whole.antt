@@ -1,5 +1,5 @@
 -- The headline, whatever the form.
-use Rattle.std.proofs.Common.{◌≡◌, ℕ, List, [], refl, subst}
+use Rattle.std.proofs.Common.{◌≡◌, ℕ, List, [], ◌∷◌, refl, subst}
 use Rattle.fs_model.specs.Namespace.{first_space}
 use Rattle.fs_model.proofs.SoundRuns.{first_sound}
 use Rattle.fs_msg.specs.Journal.{IsSerialRun}
@@ -8,12 +8,15 @@ use Rattle.fs_schedule.specs.declared.event.Head.{Head}
 use Rattle.fs_schedule.specs.declared.event.Head.TheVariants as head
 use Rattle.fs_schedule.specs.declared.event.Schedule.{Schedule}
 use Rattle.fs_serial.specs.Seen.{ClusterHolds}
+use Rattle.fs_world.specs.Carried.{AllCarry}
 use Rattle.fs_world.specs.Order.{AllAdmitted, IsInSessionOrder, Told, told_of}
 use Rattle.fs_world.specs.Parts.{AllPartsHold, PartsHold, greatest_of, seen}
 use Rattle.fs_world.specs.Safe.{IsSerial}
 use Rattle.fs_schedule.specs.Skew.{IsTimely}
 use Rattle.fs_schedule.specs.Spelling.{FitsHead}
-use Rattle.fs_world.specs.World.{AllMayHappen, first_run, journal_of, run_of, space_of}
+use Rattle.fs_world.specs.Direct.{first_direct, step_of}
+use Rattle.fs_world.specs.World.{AllMayHappen, first_run, first_world, journal_of, run_of, space_of}
+use Rattle.fs_world.specs.declared.direct.Direct.{Direct as TheDirect}
 use Rattle.fs_world.specs.declared.form.Form.{Form}
 use Rattle.fs_world.specs.declared.form.Form.TheVariants.{Direct, Served}
 use Rattle.fs_world.proofs.DirectKept.{actors_numbered, agree}
@@ -35,12 +38,12 @@ done top (head.Servers servers skew term) told (Served w) g = record { serial = 
 done top head.Direct told (Served w) g = absurd g
 done top (head.Servers servers skew term) told (Direct w) g = absurd g
 
-run_goes : (laws : SerialLaws) (s : Schedule) → FitsHead s.head → AllMayHappen s.head s.events → IsTimely s.head s.events → Goes (greatest_of 0 s.events) s.head [] (told_of s.events (run_of s).outcomes) (run_of s).world
-run_goes laws s fits may timely = (run_keeps (Goes (greatest_of 0 s.events) s.head) (goes_on laws (greatest_of 0 s.events) s.head) [] s.events (first_run s.head) (record { counted = refl; holds = goes_first laws s.head s.events fits may timely })).holds
+run_goes : (laws : SerialLaws) (s : Schedule) → FitsHead s.head → AllMayHappen s.head s.events → IsTimely s.head s.events → AllCarry (first_world s.head) s.events → Goes (greatest_of 0 s.events) s.head [] (told_of s.events (run_of s).outcomes) (run_of s).world
+run_goes laws s fits may timely carry = (run_keeps (Goes (greatest_of 0 s.events) s.head) (goes_on laws (greatest_of 0 s.events) s.head) [] s.events (first_run s.head) (record { counted = refl; holds = goes_first laws s.head s.events fits may timely carry })).holds
 
-pub run_is_serial : (laws : SerialLaws) (s : Schedule) → FitsHead s.head → AllMayHappen s.head s.events → IsTimely s.head s.events → IsSerial s.events (run_of s)
-run_is_serial laws s fits may timely =
-    let d = done (greatest_of 0 s.events) s.head (told_of s.events (run_of s).outcomes) (run_of s).world (run_goes laws s fits may timely) in
+pub run_is_serial : (laws : SerialLaws) (s : Schedule) → FitsHead s.head → AllMayHappen s.head s.events → IsTimely s.head s.events → AllCarry (first_world s.head) s.events → IsSerial s.events (run_of s)
+run_is_serial laws s fits may timely carry =
+    let d = done (greatest_of 0 s.events) s.head (told_of s.events (run_of s).outcomes) (run_of s).world (run_goes laws s fits may timely carry) in
     record { serial = d.serial; ordered = d.ordered; safe = safe_after first_space (journal_of (run_of s).world) first_sound d.asks }
 
 parts_of : (top : ℕ) (h : Head) (told : List Told) (w : Form) → Goes top h [] told w → PartsHold h top w
@@ -49,8 +52,8 @@ parts_of top (head.Servers servers skew term) told (Served w) g = (g.holds.repli
 parts_of top head.Direct told (Served w) g = absurd g
 parts_of top (head.Servers servers skew term) told (Direct w) g = absurd g
 
-pub parts_kept : (laws : SerialLaws) (s : Schedule) → FitsHead s.head → AllMayHappen s.head s.events → IsTimely s.head s.events → AllPartsHold s.head s.events (run_of s).world
-parts_kept laws s fits may timely = parts_of (greatest_of 0 s.events) s.head (told_of s.events (run_of s).outcomes) (run_of s).world (run_goes laws s fits may timely)
+pub parts_kept : (laws : SerialLaws) (s : Schedule) → FitsHead s.head → AllMayHappen s.head s.events → IsTimely s.head s.events → AllCarry (first_world s.head) s.events → AllPartsHold s.head s.events (run_of s).world
+parts_kept laws s fits may timely carry = parts_of (greatest_of 0 s.events) s.head (told_of s.events (run_of s).outcomes) (run_of s).world (run_goes laws s fits may timely carry)
 
 -- ## In the direct form
 
@@ -67,6 +70,14 @@ direct_fits : (h : Head) → h ≡ head.Direct → FitsHead h
 direct_fits head.Direct e = tt
 direct_fits (head.Servers servers skew term) e = absurd (cc)
 
+nothing_carried : (w : TheDirect) (es : List Event) → AllCarry (Direct w) es
+nothing_carried w [] = tt
+nothing_carried w (e ∷ es) = (tt, nothing_carried (step_of w e.what).world es)
+
+direct_carries : (h : Head) (es : List Event) → h ≡ head.Direct → AllCarry (first_world h) es
+direct_carries head.Direct es e = nothing_carried first_direct es
+direct_carries (head.Servers servers skew term) es e = absurd (cc)
+
 pub told_is_admitted : (laws : SerialLaws) (s : Schedule) → s.head ≡ head.Direct → AllMayHappen s.head s.events → AllAdmitted (journal_of (run_of s).world) (told_of s.events (run_of s).outcomes)
 told_is_admitted laws s direct may =
-    direct_admitted (greatest_of 0 s.events) (told_of s.events (run_of s).outcomes) (run_of s).world (subst (λ (h : Head). Goes (greatest_of 0 s.events) h [] (told_of s.events (run_of s).outcomes) (run_of s).world) direct (run_goes laws s (direct_fits s.head direct) may (direct_timely s.head s.events direct)))
+    direct_admitted (greatest_of 0 s.events) (told_of s.events (run_of s).outcomes) (run_of s).world (subst (λ (h : Head). Goes (greatest_of 0 s.events) h [] (told_of s.events (run_of s).outcomes) (run_of s).world) direct (run_goes laws s (direct_fits s.head direct) may (direct_timely s.head s.events direct) (direct_carries s.head s.events direct)))

@@ -1,24 +1,32 @@
 -- What a call of an event finds in all that it is lent, what it leaves there, and for which counter it gives up.
-use Rattle.std.specs.Prelude.{◌≡◌, ◌⊎◌, ◌++◌, ℕ, false, List, Option, Some, None, Result, IsErrOf}
+use Rattle.std.specs.Prelude.{◌≡◌, ◌⊎◌, ◌∷◌, [], ◌++◌, ℕ, Bool, false, List, length, Option, Some, None, Result, IsErrOf}
+use Rattle.fs_actor.specs.Actor as actor
+use Rattle.fs_actor.specs.Actor.{client_noted}
 use Rattle.fs_client.specs.Answers.{answer_plan}
+use Rattle.fs_client.specs.declared.plan.Plan.{Plan as Planned}
 use Rattle.fs_ident.specs.declared.actor.Peer.{Peer}
+use Rattle.fs_ident.specs.declared.actor.Peer.TheVariants.{Server as TheServer}
 use Rattle.fs_ident.specs.declared.actor.Session.{Session}
 use Rattle.fs_msg.specs.declared.answer.Answer.{Answer}
 use Rattle.fs_msg.specs.declared.core_error.CoreError.{CoreError}
 use Rattle.fs_msg.specs.declared.core_error.CoreError.TheVariants as errors
 use Rattle.fs_msg.specs.declared.core_error.Counter.{Counter}
 use Rattle.fs_msg.specs.declared.item.Item.{Item}
+use Rattle.fs_msg.specs.declared.note.Note.{Note}
 use Rattle.fs_msg.specs.declared.note.Note.TheVariants as note
 use Rattle.fs_schedule.specs.declared.outcome.Outcome.{Outcome}
 use Rattle.fs_serial.specs.Cluster.{flying_from, is_with, without_first}
 use Rattle.fs_serial.specs.declared.flying.Flying.{Flying}
 use Rattle.fs_server.specs.Plan.{committed}
+use Rattle.fs_server.specs.Server.{Stepped as CoreStepped}
+use Rattle.fs_server.specs.declared.event.ServerEvent.{ServerEvent}
 use Rattle.fs_server.specs.declared.plan.Plan.{Plan}
 use Rattle.fs_server.specs.declared.state.Server.{Server}
-use Rattle.fs_window.specs.Post.{Links}
+use Rattle.fs_window.specs.Post.{Links, post_due}
+use Rattle.fs_window.specs.declared.heard.Heard.{Heard}
 use Rattle.fs_world.specs.Direct.{outcome_of}
-use Rattle.fs_world.specs.Packets.{Packets}
-use Rattle.fs_world.specs.Served.{SeatStepped, Seats, ServerStepped, Stepped, client_does, client_noted, nothing, server_found, with_downs}
+use Rattle.fs_world.specs.Packets.{Packets, numbers_from, with_sent}
+use Rattle.fs_world.specs.Served.{SeatStepped, Seats, ServerStepped, Stepped, core_of, down_after, flying_without, nothing, seat_stepped, seats_without, server_found, server_stepped, side_of, with_downs, without_heard}
 use Rattle.fs_world.specs.declared.seat.Seat.{Seat}
 use Rattle.fs_world.specs.declared.served.Served.{Served}
 
@@ -50,10 +58,43 @@ pub record Spends {T : Type 0} (result : Result T CoreError) (spent : Option Cou
 
 -- ## Parts of events
 
--- an answer of the server of number k that is on its way comes to the session
+-- nothing happens at the session but that what is due goes out
+abbrev pub seat_goes : Session → Bool → Option Peer → Note → Seat → List Item → Packets → SeatStepped
+seat_goes s turn heard n seat journal packets = seat_stepped s (actor.client_goes turn heard n (side_of seat)) seat.down seat journal packets
+
+-- its client does what it planned
+abbrev pub client_does : Session → Bool → Option Peer → Bool → Planned Note → Seat → List Item → Packets → SeatStepped
+client_does s turn heard spent p seat journal packets = seat_stepped s (actor.client_does turn heard spent p (side_of seat)) seat.down seat journal packets
+
+-- what it heard of the server of number k
+abbrev pub client_hears : ℕ → Session → ℕ → Option Peer → Heard → Option Answer → Seat → List Item → Packets → SeatStepped
+client_hears now s k from h heard seat journal packets = seat_stepped s (actor.client_hears now k from h heard (side_of seat)) (down_after k heard seat.down) seat journal packets
+
+-- an answer of the server of number k comes to it, and is on its way no more
 abbrev pub client_takes : ℕ → Session → ℕ → Option Peer → Answer → Seat → List Item → Packets → SeatStepped
-client_takes now s k heard a seat journal packets =
-    client_does s false heard false (client_noted (answer_plan seat.client now k a)) (record seat { down = without_first (is_with k) seat.down }) journal packets
+client_takes now s k from a seat journal packets =
+    client_does s false from false (client_noted (answer_plan seat.client now k a)) (record seat { down = without_first (is_with k) seat.down }) journal packets
+
+-- nothing happens at the server but that what is due goes out
+abbrev pub server_goes : ℕ → Bool → Option Peer → Note → Option Counter → ServerStepped → ServerStepped
+server_goes k turn heard n spent x = record x {
+  post = (post_due x.post turn heard).links;
+  packets = with_sent (post_due x.post turn heard).sent x.packets;
+  outcome = record { who = Some (TheServer k); notes = n ∷ []; sent = numbers_from (length x.packets.sent) (post_due x.post turn heard).sent };
+  spent = spent;
+}
+
+-- it has taken a step
+abbrev pub server_does : ℕ → Bool → Option Peer → Option Counter → CoreStepped → ServerStepped → ServerStepped
+server_does k turn heard spent y x = server_stepped k (actor.server_does turn heard spent y (core_of x)) x
+
+-- what it heard of the actor
+abbrev pub server_hears : ℕ → ℕ → Peer → Option Peer → Heard → Option ServerEvent → ServerStepped → ServerStepped
+server_hears now k from replied h heard x = server_stepped k (actor.server_hears now replied h heard (core_of x)) (without_heard k from heard x)
+
+-- the first message of the actor is on its way no more
+abbrev pub without_message : ℕ → Peer → ServerStepped → ServerStepped
+without_message k from x = record x { seats = seats_without k from x.seats; flying = flying_without k from x.flying }
 
 -- the server has changed as planned, and what it admitted and sends stands where it is to stand
 abbrev pub with_plan : ℕ → Plan → ServerStepped → ServerStepped

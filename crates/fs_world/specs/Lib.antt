@@ -3,6 +3,7 @@ pub mod Direct
 pub mod Term
 pub mod Served
 pub mod World
+pub mod Carried
 pub mod Order
 pub mod Safe
 pub mod Refusals
@@ -12,5 +13,4 @@ pub mod Parts
 pub mod Readable
 pub mod Linked
 pub mod Planned
-pub mod Hearing
 pub mod Calls

@@ -1,6 +1,6 @@
 -- What holds of the links between servers and clients, whatever was lost, repeated or reordered: they carry the very
 -- messages that are on their way, and these can be read.
-use Rattle.std.specs.Prelude.{◌≡◌, ◌≢◌, ℕ, ◌<◌, ◌^◌, ◌≤◌, true, false, List, [], ◌∷◌, map, filter, length, slice_get, Option, Some, None, option_map}
+use Rattle.std.specs.Prelude.{◌≡◌, ◌≢◌, ℕ, ◌<◌, ◌^◌, ◌≤◌, true, false, List, map, length, slice_get, Option, Some, None}
 use Rattle.std.specs.List.{AllByRecursion}
 use Rattle.std.specs.FinMap.{get}
 use Rattle.fs_ident.specs.In.{In}
@@ -8,8 +8,6 @@ use Rattle.fs_ident.specs.declared.actor.Peer.{Peer}
 use Rattle.fs_ident.specs.declared.actor.Peer.TheVariants.{Server, Client}
 use Rattle.fs_ident.specs.declared.actor.Session.{Session}
 use Rattle.fs_field.specs.declared.row.Row.{Row}
-use Rattle.fs_frag.specs.declared.joined.Joined.{Joined}
-use Rattle.fs_frag.specs.declared.joined.Joined.TheVariants.{Whole}
 use Rattle.fs_map.specs.Map.{Owners}
 use Rattle.fs_msg.specs.Ranges.{FitsMessage}
 use Rattle.fs_msg.specs.Readable.{is_readable}
@@ -22,9 +20,7 @@ use Rattle.fs_msg.specs.declared.end.End.TheVariants.{Moved}
 use Rattle.fs_msg.specs.declared.limits.TheConstants.{SERVERS}
 use Rattle.fs_msg.specs.declared.msg.Msg.{Msg}
 use Rattle.fs_msg.specs.declared.msg.Msg.TheVariants as msg
-use Rattle.fs_msg.specs.declared.peer_msg.PeerMsg.TheVariants.{Parcel as OfParcel}
 use Rattle.fs_record.specs.Moving.{AreEachRecords}
-use Rattle.fs_serial.specs.Cluster.{is_between, is_with}
 use Rattle.fs_serial.specs.declared.flying.Flying.{Flying}
 use Rattle.fs_server.specs.declared.state.Server.{Server as Core}
 use Rattle.fs_window.specs.OnTheWay.{Carries, IsPacketOf}
@@ -35,40 +31,13 @@ use Rattle.fs_window.specs.declared.link.Link.{Link}
 use Rattle.fs_window.specs.declared.packet.Packet.{Packet}
 use Rattle.fs_window.specs.declared.sent.Sent.{Sent}
 use Rattle.fs_wire.specs.Readable.{is_readable_session}
+pub use Rattle.fs_world.specs.Carried.{IsFirstOf, between, downs_of, parcels_between, post_of, seat_post, ups_of}
 use Rattle.fs_world.specs.Readable.{HandlesOpen, LogReadable, RecordsOpen}
 use Rattle.fs_world.specs.Served.{Seats, link_width}
 use Rattle.fs_world.specs.declared.form.Form.{Form}
 use Rattle.fs_world.specs.declared.form.Form.TheVariants as form
 use Rattle.fs_world.specs.declared.seat.Seat.{Seat}
 use Rattle.fs_world.specs.declared.served.Served.{Served}
-
--- ## Who there is, and what is on its way between two
-
-abbrev pub seat_post : Option Seat → Option Links
-seat_post seat = option_map (λ (x : Seat). x.post) seat
-
--- the links of an actor, if there is one: of a session that has joined, or of a server
-abbrev pub post_of : Served → Peer → Option Links
-post_of w (Client s) = seat_post (get w.seats s.0)
-post_of w (Server k) = slice_get w.posts k
-
-abbrev pub ups_of : ℕ → Option Seat → List Msg
-ups_of k None = []
-ups_of k (Some seat) = map (λ (m : ℕ × ClientMsg). msg.Client m.1) (filter (is_with k) seat.up)
-
-abbrev pub downs_of : ℕ → Option Seat → List Msg
-downs_of k None = []
-downs_of k (Some seat) = map (λ (m : ℕ × Answer). msg.Answer m.1) (filter (is_with k) seat.down)
-
-abbrev pub parcels_between : ℕ → ℕ → List Flying → List Msg
-parcels_between j k flying = map (λ (f : Flying). msg.Peer (OfParcel f.parcel)) (filter (is_between j k) flying)
-
--- the messages from one actor to another, in order
-abbrev pub between : Served → Peer → Peer → List Msg
-between w (Client s) (Server k) = ups_of k (get w.seats s.0)
-between w (Server k) (Client s) = downs_of k (get w.seats s.0)
-between w (Server j) (Server k) = parcels_between j k w.flying
-between w (Client s) (Client t) = []
 
 -- ## The links of two actors
 
@@ -177,14 +146,6 @@ pub record IsLinked (w : Served) : Type 0 where
   pub servers : (k : ℕ) (s : Core) → slice_get w.servers k ≡ Some s → IsServed (length w.servers) w.seats k s
   pub seats : (s : Session) (seat : Seat) → get w.seats s.0 ≡ Some seat → IsSeated (length w.servers) s seat
   pub flying : (f : Flying) → In f w.flying → IsCarried (length w.servers) w.seats f
-
--- ## What a core is told
-
--- what is joined is the first of these messages, as it was sent
-abbrev pub IsFirstOf : List Joined → List Msg → Type 0
-IsFirstOf [] messages = Unit {0}
-IsFirstOf (j ∷ js) [] = ⊥
-IsFirstOf (j ∷ js) (m ∷ ms) = (j ≡ Whole (message m)) × FitsMessage m
 
 -- ## What a core sends
 

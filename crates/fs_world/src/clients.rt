@@ -1,6 +1,5 @@
 //! A session's events: its user's operation, its turn, and a packet of a server.
-ghost use Rattle.std.specs.Prelude.{◌≡◌, ◌≤◌, true, IfOk, OnOk, OnErr, Some};
-ghost use Rattle.fs_ident.specs.declared.actor.Peer.TheVariants.{Server};
+ghost use Rattle.std.specs.Prelude.{◌≡◌, ◌≤◌, true, IfOk, OnOk, OnErr};
 ghost use Rattle.fs_ident.specs.declared.limits.TheConstants.{LATEST};
 ghost use Rattle.fs_model.specs.Asking.{may_ask};
 ghost use Rattle.fs_msg.specs.declared.answer.Answer.{Answer as TheAnswer};
@@ -8,17 +7,16 @@ ghost use Rattle.fs_record.specs.Effects.{tells_its_effects};
 ghost use Rattle.fs_client.specs.Acts.{act_plan};
 ghost use Rattle.fs_client.specs.Answers.{answer_plan};
 ghost use Rattle.fs_client.specs.Turns.{turn_plan};
-ghost use Rattle.fs_window.specs.Post.{post_accepted};
 ghost use Rattle.fs_world.specs.Calls.{Spends, seat_found, seat_left};
-ghost use Rattle.fs_world.specs.Linked.{FitsUp, IsFirstOf, downs_of};
+ghost use Rattle.fs_world.specs.Linked.{FitsUp};
 ghost use Rattle.fs_world.specs.Served.{client_acts, client_told, client_turns};
 
 use crate::does::does;
-use crate::goes::heard_in;
 use crate::hears::hears;
 use crate::noted::{act_noted, client_noted};
 use crate::packets::Packets;
 use crate::seat::Seat;
+use fs_actor::heard_in;
 use fs_ident::{List, Peer, Session};
 use fs_model::Op;
 use fs_msg::{CoreError, Item};
@@ -85,8 +83,6 @@ pub(crate) fn told(
     packets: &mut Packets,
 ) -> Result<Outcome, CoreError>
     requires reading { now ≤ LATEST }
-    requires comes { IsFirstOf (post_accepted seat.old.post (Server k) p.now).heard.joined
-        (downs_of k (Some seat.old)) }
     ensures done { IfOk result (λ told. seat_left told seat.new journal.new packets.new ≡
         client_told now s k p.now seat.old journal.old packets.old) }
     ensures fits { (a : TheAnswer) →

@@ -1,5 +1,6 @@
 //! A client does what it planned.
 ghost use Rattle.std.specs.Prelude.{◌≡◌, ◌⊎◌, ◌∷◌, [], ◌++◌, true, false, length, take, IfOk, IsErrOf, OnOk, OnErr, Some, None};
+ghost use Rattle.fs_actor.specs.Actor.{is_full_for, is_full_up, post_after};
 ghost use Rattle.fs_client.specs.Client.{can_commit, committed};
 ghost use Rattle.fs_ident.specs.declared.actor.Peer.TheVariants.{Server};
 ghost use Rattle.fs_msg.specs.Spelling.{message};
@@ -9,10 +10,10 @@ ghost use Rattle.fs_msg.specs.declared.core_error.CoreError.TheVariants as error
 ghost use Rattle.fs_msg.specs.declared.msg.Msg.TheVariants as msg;
 ghost use Rattle.fs_window.specs.Post.{post_due, post_pushed};
 ghost use Rattle.fs_window.specs.Undo.{undone};
-ghost use Rattle.fs_world.specs.Calls.{Spends, seat_found, seat_left};
+ghost use Rattle.fs_world.specs.Calls.{Spends, client_does, seat_found, seat_goes, seat_left};
 ghost use Rattle.fs_world.specs.Linked.{FitsUp, IsWritten};
 ghost use Rattle.fs_world.specs.Packets.{with_sent};
-ghost use Rattle.fs_world.specs.Served.{client_does, is_full_for, is_full_up, post_after, seat_goes, up_after, with_read};
+ghost use Rattle.fs_world.specs.Served.{up_after, with_read};
 
 use crate::goes::{refusal, send_due};
 use crate::packets::Packets;
@@ -80,7 +81,7 @@ fn goes(
 ) -> Result<Outcome, Memory>
     requires { can_commit ready seat.old.client ≡ true }
     ensures done { IfOk result (λ told. seat_left told seat.new journal.new packets.new ≡
-        seat_goes s turn heard note None
+        seat_goes s turn heard note
         (record seat.old { client = committed ready seat.old.client })
         (with_read admitted journal.old) packets.old) }
     ensures err { OnErr result (seat_found seat.new journal.new packets.new ≡

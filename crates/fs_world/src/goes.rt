@@ -5,13 +5,12 @@ ghost use Rattle.fs_msg.specs.declared.core_error.CoreError.TheVariants as error
 ghost use Rattle.fs_window.specs.Post.{post_due};
 ghost use Rattle.fs_world.specs.Direct.{outcome_of};
 ghost use Rattle.fs_world.specs.Packets.{numbers_from, with_sent};
-ghost use Rattle.fs_world.specs.Served.{heard_in, quiet_note};
 
 use crate::packets::Packets;
 use fs_ident::{List, Memory, Peer};
 use fs_msg::{CoreError, Counter, Note};
 use fs_schedule::Outcome;
-use fs_window::{Heard, LinkError, Packet, Post, Sent};
+use fs_window::{LinkError, Post, Sent};
 use std::alloc::Global;
 
 /// An outcome of one note, in which nothing is sent.
@@ -87,24 +86,6 @@ fn numbers(alloc: Global, before: &[Sent], packets: &[Sent]) -> Result<List<u64>
         all.push(number as u64)?;
     }
     Ok(all)
-}
-
-/// Whoever sent a packet with a body was heard.
-pub(crate) fn heard_in(from: Peer, p: &Packet) -> Option<Peer>
-    ensures { result ≡ heard_in from p.now }
-{
-    if p.body.is_some() { Some(from) } else { None }
-}
-
-/// The note of a packet that completed no message.
-pub(crate) fn quiet_note(heard: &Heard) -> Note
-    ensures { result ≡ quiet_note heard.now }
-{
-    if heard.fresh == 0 {
-        Note::None
-    } else {
-        Note::Part
-    }
 }
 
 /// Why no step is made where a link takes no message.

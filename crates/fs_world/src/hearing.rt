@@ -1,30 +1,32 @@
 //! A packet that comes to a server.
-ghost use Rattle.std.specs.Prelude.{◌≡◌, ℕ, ◌≤◌, List as Seq, Some, None, IfOk, OnOk, OnErr, false};
+ghost use Rattle.std.specs.Prelude.{◌≡◌, ◌≤◌, IfOk, OnOk, OnErr, false};
+ghost use Rattle.fs_actor.specs.Hearing.{event_heard};
+ghost use Rattle.fs_ident.specs.declared.actor.Peer.TheVariants.{Server};
 ghost use Rattle.fs_ident.specs.declared.limits.TheConstants.{LATEST};
 ghost use Rattle.fs_server.specs.Step.{CanBeTold, step};
-ghost use Rattle.fs_serial.specs.declared.flying.Flying.{Flying as TheParcel};
+ghost use Rattle.fs_window.specs.Peers.{same_peer};
 ghost use Rattle.fs_window.specs.Post.{post_accepted};
-ghost use Rattle.fs_world.specs.Calls.{Spends, server_left};
-ghost use Rattle.fs_world.specs.Hearing.{event_of, first_heard};
+ghost use Rattle.fs_world.specs.Calls.{Spends, server_hears, server_left, without_message};
 ghost use Rattle.fs_world.specs.Linked.{FitsDown};
-ghost use Rattle.fs_world.specs.Planned.{IsAnswered, IsComing};
-ghost use Rattle.fs_world.specs.Served.{Seats as TheSeats, core_step, first_from, server_found, server_hears, server_told, without_message};
+ghost use Rattle.fs_world.specs.Planned.{IsAnswered};
+ghost use Rattle.fs_world.specs.Served.{core_step, server_found, server_told};
 
-use crate::goes::{heard_in, quiet_note, send_due};
+use crate::goes::send_due;
 use crate::packets::Packets;
-use crate::reads::first_message;
 use crate::removals::remove_flying;
 use crate::seats::Seats;
 use crate::servers::core_step;
-use fs_ident::{List, Memory, Peer};
-use fs_msg::{CoreError, Item, Msg};
+use fs_actor::{event_heard, heard_in, unheard_note};
+use fs_ident::{List, Peer};
+use fs_msg::{CoreError, Item};
 use fs_schedule::Outcome;
 use fs_serial::Flying;
 use fs_server::{ServerCore, ServerEvent};
-use fs_window::{Heard, Joined, Packet, Post, Undo};
+use fs_window::{Heard, Packet, Post, Undo};
 use std::alloc::Global;
 
-/// A packet of the actor comes to the server of number `k`, at the reading in milliseconds. After an error all is as it was.
+/// A packet of another actor comes to the server of number `k`, at the reading in milliseconds. After an error all is as it
+/// was.
 pub(crate) fn server_told(
     alloc: Global,
     now: u64,
@@ -39,14 +41,13 @@ pub(crate) fn server_told(
     packets: &mut Packets,
 ) -> Result<Outcome, CoreError>
     requires reading { now ≤ LATEST }
-    requires comes { IsComing (post_accepted post.old from p.now).heard.joined
-        (first_from k from seats.old flying.old) }
+    requires apart { same_peer from (Server k) ≡ false }
     ensures done { IfOk result (λ told.
         server_left told core.new post.new seats.new flying.new journal.new packets.new ≡
         server_told now k from p.now
         (server_found core.old post.old seats.old flying.old journal.old packets.old)) }
-    ensures fits { OnOk result (IsAnswered now (post_accepted post.old from p.now).heard.joined
-        (first_from k from seats.old flying.old)
+    ensures fits { OnOk result (IsAnswered now
+        (event_heard from (post_accepted post.old from p.now).heard.joined)
         (server_found core.old (post_accepted post.old from p.now).links
         seats.old flying.old journal.old packets.old)) }
     ensures spends { Spends result (server_told now k from p.now
@@ -69,7 +70,7 @@ pub(crate) fn server_told(
     }
 }
 
-/// What the actor's packet gave: nothing whole, or the first message on its way.
+/// What the actor's packet gave is read: it brought no message for a server, or one.
 fn server_hears(
     alloc: Global,
     now: u64,
@@ -85,25 +86,23 @@ fn server_hears(
     packets: &mut Packets,
 ) -> Result<Outcome, CoreError>
     requires reading { now ≤ LATEST }
-    requires comes { IsComing heard.now.joined (first_from k from seats.old flying.old) }
+    requires apart { same_peer from (Server k) ≡ false }
     ensures done { IfOk result (λ told.
         server_left told core.new post.new seats.new flying.new journal.new packets.new ≡
-        server_hears now k from replied heard.now heard.now.joined
-        (first_from k from seats.old flying.old)
+        server_hears now k from replied heard.now (event_heard from heard.now.joined)
         (server_found core.old post.old seats.old flying.old journal.old packets.old)) }
-    ensures fits { OnOk result (IsAnswered now heard.now.joined
-        (first_from k from seats.old flying.old)
+    ensures fits { OnOk result (IsAnswered now (event_heard from heard.now.joined)
         (server_found core.old post.old seats.old flying.old journal.old packets.old)) }
-    ensures spends { Spends result (server_hears now k from replied heard.now heard.now.joined
-        (first_from k from seats.old flying.old)
+    ensures spends { Spends result (server_hears now k from replied heard.now
+        (event_heard from heard.now.joined)
         (server_found core.old post.old seats.old flying.old journal.old packets.old)).spent }
     ensures err { OnErr result (
         server_found core.new post.new seats.new flying.new journal.new packets.new ≡
         server_found core.old post.old seats.old flying.old journal.old packets.old) }
 {
-    match event_in(alloc, from, heard.joined.as_slice())? {
+    match event_heard(alloc, from, heard.joined.as_slice())? {
         None => {
-            let note = quiet_note(heard);
+            let note = unheard_note(heard);
             let told = send_due(alloc, Peer::Server(k), false, replied, note, post, packets)?;
             post.mark_sent();
             Ok(told)
@@ -114,7 +113,7 @@ fn server_hears(
     }
 }
 
-/// The event comes to the server, and its message is on its way no more.
+/// The event comes to the server, and the first message of the actor is on its way no more.
 fn server_takes(
     alloc: Global,
     now: u64,
@@ -130,7 +129,7 @@ fn server_takes(
     packets: &mut Packets,
 ) -> Result<Outcome, CoreError>
     requires reading { now ≤ LATEST }
-    requires first { first_from k from seats.old flying.old ≡ Some event.now }
+    requires apart { same_peer from (Server k) ≡ false }
     requires told { CanBeTold event.now }
     ensures done { IfOk result (λ told.
         server_left told core.new post.new seats.new flying.new journal.new packets.new ≡
@@ -152,24 +151,4 @@ fn server_takes(
         Peer::Server(j) => remove_flying(flying, j, k),
     }
     Ok(told)
-}
-
-/// The event that the first message on its way from the actor is, if one came whole.
-fn event_in(alloc: Global, from: Peer, joined: &[Joined]) -> Result<Option<ServerEvent>, Memory>
-    ensures { (k : ℕ) (seats : TheSeats) (flying : Seq TheParcel) →
-        IsComing joined.now (first_from k from seats flying) →
-        IfOk result (λ e. e ≡ first_heard joined.now (first_from k from seats flying)) }
-{
-    Ok(event_of(from, first_message(alloc, joined)?))
-}
-
-/// The event that the message of the actor is, if it is one.
-fn event_of(from: Peer, m: Option<Msg>) -> Option<ServerEvent>
-    ensures { result ≡ event_of from m }
-{
-    match (from, m) {
-        (Peer::Client(s), Some(Msg::Client(m))) => Some(ServerEvent::FromClient(s, m)),
-        (Peer::Server(j), Some(Msg::Peer(m))) => Some(ServerEvent::FromPeer(j, m)),
-        _ => None,
-    }
 }

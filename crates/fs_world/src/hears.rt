@@ -1,28 +1,23 @@
 //! What a session hears in the packets of a server.
-ghost use Rattle.std.specs.Prelude.{◌≡◌, ℕ, ◌≤◌, option_map, IfOk, OnErr, Some};
-ghost use Rattle.std.specs.List.{find};
+ghost use Rattle.std.specs.Prelude.{◌≡◌, ◌≤◌, IfOk, OnErr};
+ghost use Rattle.fs_actor.specs.Hearing.{answer_heard};
 ghost use Rattle.fs_ident.specs.declared.limits.TheConstants.{LATEST};
-ghost use Rattle.fs_serial.specs.Cluster.{is_with};
-ghost use Rattle.fs_world.specs.Calls.{Spends, client_takes, seat_found, seat_left};
-ghost use Rattle.fs_world.specs.Hearing.{answer_of, first_heard};
-ghost use Rattle.fs_world.specs.Linked.{IsFirstOf, downs_of};
-ghost use Rattle.fs_world.specs.declared.seat.Seat.{Seat as TheSeat};
-ghost use Rattle.fs_world.specs.Served.{client_hears};
+ghost use Rattle.fs_world.specs.Calls.{Spends, client_hears, client_takes, seat_found, seat_left};
 
 use crate::does::does;
-use crate::goes::{quiet_note, send_due};
+use crate::goes::send_due;
 use crate::noted::client_noted;
 use crate::packets::Packets;
-use crate::reads::first_message;
 use crate::removals::remove_first;
 use crate::seat::Seat;
-use fs_ident::{List, Memory, Peer, Session};
-use fs_msg::{Answer, CoreError, Item, Msg};
+use fs_actor::{answer_heard, unheard_note};
+use fs_ident::{List, Peer, Session};
+use fs_msg::{Answer, CoreError, Item};
 use fs_schedule::Outcome;
-use fs_window::{Heard, Joined};
+use fs_window::Heard;
 use std::alloc::Global;
 
-/// What a packet gave: nothing that is whole, or the first message on its way. After an error all is as it was.
+/// What a packet gave is read: it brought no answer, or one. After an error all is as it was.
 pub(crate) fn hears(
     alloc: Global,
     now: u64,
@@ -35,18 +30,17 @@ pub(crate) fn hears(
     packets: &mut Packets,
 ) -> Result<Outcome, CoreError>
     requires reading { now ≤ LATEST }
-    requires comes { IsFirstOf heard.now.joined (downs_of k (Some seat.old)) }
     ensures done { IfOk result (λ told. seat_left told seat.new journal.new packets.new ≡
-        client_hears now s k from heard.now heard.now.joined
-        (find (is_with k) seat.old.down) seat.old journal.old packets.old) }
-    ensures spends { Spends result (client_hears now s k from heard.now heard.now.joined
-        (find (is_with k) seat.old.down) seat.old journal.old packets.old).spent }
+        client_hears now s k from heard.now (answer_heard heard.now.joined) seat.old journal.old
+        packets.old) }
+    ensures spends { Spends result (client_hears now s k from heard.now
+        (answer_heard heard.now.joined) seat.old journal.old packets.old).spent }
     ensures err { OnErr result (seat_found seat.new journal.new packets.new ≡
         seat_found seat.old journal.old packets.old) }
 {
-    match answer_in(alloc, heard.joined.as_slice())? {
+    match answer_heard(alloc, heard.joined.as_slice())? {
         None => {
-            let note = quiet_note(heard);
+            let note = unheard_note(heard);
             let who = Peer::Client(s);
             let told = send_due(alloc, who, false, from, note, &seat.post, packets)?;
             seat.post.mark_sent();
@@ -56,26 +50,7 @@ pub(crate) fn hears(
     }
 }
 
-/// The answer that is the first message, if one came whole.
-fn answer_in(alloc: Global, joined: &[Joined]) -> Result<Option<Answer>, Memory>
-    ensures { (k : ℕ) (seat : TheSeat) → IsFirstOf joined.now (downs_of k (Some seat)) →
-        IfOk result (λ a. a ≡ option_map (λ m. m.1) (first_heard joined.now
-        (find (is_with k) seat.down))) }
-{
-    Ok(answer_of(first_message(alloc, joined)?))
-}
-
-/// The answer that came, if one did.
-fn answer_of(m: Option<Msg>) -> Option<Answer>
-    ensures { result ≡ answer_of m }
-{
-    match m {
-        Some(Msg::Answer(a)) => Some(a),
-        _ => None,
-    }
-}
-
-/// The first message on its way came. After an error all is as it was.
+/// An answer came, and the first on its way is on its way no more. After an error all is as it was.
 fn takes(
     alloc: Global,
     now: u64,

@@ -19,7 +19,6 @@ mod noted;
 mod numbers;
 mod packets;
 mod pushes;
-mod reads;
 mod removals;
 mod seat;
 mod seats;

@@ -1,6 +1,6 @@
 //! What clients plan, with their notes among those of worlds.
 ghost use Rattle.std.specs.Prelude.{◌≡◌};
-ghost use Rattle.fs_world.specs.Served.{act_noted, client_noted};
+ghost use Rattle.fs_actor.specs.Actor.{act_noted, client_noted};
 
 use fs_client::Plan;
 use fs_msg::{Act, ClientNote, ClientOut, Note};

@@ -1,5 +1,6 @@
 //! Messages onto the server's links.
 ghost use Rattle.std.specs.Prelude.{◌≡◌, true, false, OnOk, IsErrOf};
+ghost use Rattle.fs_actor.specs.Actor.{is_full_down, is_full_for, with_pushed};
 ghost use Rattle.fs_msg.specs.Spelling.{message};
 ghost use Rattle.fs_msg.specs.declared.core_error.Counter.{Counter as TheCounter};
 ghost use Rattle.fs_msg.specs.declared.core_error.Counter.TheVariants.{Segments};
@@ -7,7 +8,6 @@ ghost use Rattle.fs_msg.specs.declared.core_error.CoreError.TheVariants as error
 ghost use Rattle.fs_window.specs.Post.{post_pushed};
 ghost use Rattle.fs_window.specs.Undo.{undone};
 ghost use Rattle.fs_world.specs.Linked.{FitsDown, IsWritten};
-ghost use Rattle.fs_world.specs.Served.{is_full_down, is_full_for, with_pushed};
 
 use crate::goes::refusal;
 use fs_ident::Peer;

@@ -1,5 +1,6 @@
 //! A server's events.
 ghost use Rattle.std.specs.Prelude.{◌≡◌, ◌≤◌, ◌++◌, true, None, IfOk, OnOk, OnErr, IsErrOf};
+ghost use Rattle.fs_actor.specs.Actor.{is_full_down};
 ghost use Rattle.fs_ident.specs.declared.limits.TheConstants.{LATEST};
 ghost use Rattle.fs_msg.specs.declared.core_error.Counter.{Counter as TheCounter};
 ghost use Rattle.fs_msg.specs.declared.core_error.Counter.TheVariants.{Segments};
@@ -8,10 +9,10 @@ ghost use Rattle.fs_serial.specs.Cluster.{flying_from};
 ghost use Rattle.fs_server.specs.Plan.{CanCommit, committed};
 ghost use Rattle.fs_server.specs.Step.{CanBeTold, step};
 ghost use Rattle.fs_window.specs.Undo.{undone};
-ghost use Rattle.fs_world.specs.Calls.{Spends, server_left, with_plan};
+ghost use Rattle.fs_world.specs.Calls.{Spends, server_does, server_goes, server_left, with_plan};
 ghost use Rattle.fs_world.specs.Linked.{FitsDown};
 ghost use Rattle.fs_world.specs.Planned.{stepped_by};
-ghost use Rattle.fs_world.specs.Served.{core_step, is_full_down, server_does, server_found, server_goes, with_downs};
+ghost use Rattle.fs_world.specs.Served.{core_step, server_found, with_downs};
 
 use crate::downs::{push_downs, undo_downs};
 use crate::flights::push_flying;

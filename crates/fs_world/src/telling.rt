@@ -1,16 +1,17 @@
 //! A packet that reaches its addressee.
-ghost use Rattle.std.specs.Prelude.{◌≡◌, ◌≤◌, Some, IfOk, OnOk, OnErr, length, slice_get};
+ghost use Rattle.std.specs.Prelude.{◌≡◌, ◌≤◌, Some, IfOk, OnOk, OnErr, false, length, slice_get};
 ghost use Rattle.std.specs.FinMap as map;
+ghost use Rattle.fs_actor.specs.Hearing.{event_heard};
 ghost use Rattle.fs_ident.specs.declared.limits.TheConstants.{LATEST};
+ghost use Rattle.fs_window.specs.Peers.{same_peer};
 ghost use Rattle.fs_window.specs.Post.{Links, post_accepted};
 ghost use Rattle.fs_ident.specs.declared.actor.Peer.TheVariants.{Server};
 ghost use Rattle.fs_server.specs.declared.state.Server.{Server as TheCore};
 ghost use Rattle.fs_world.specs.Calls.{Spends, world_left};
-ghost use Rattle.fs_world.specs.Linked.{IsFirstOf, IsLinked, downs_of};
+ghost use Rattle.fs_world.specs.Linked.{IsLinked};
 ghost use Rattle.fs_world.specs.Packets.{first_untold};
-ghost use Rattle.fs_world.specs.Planned.{IsAnswered, IsComing, WasSent};
-ghost use Rattle.fs_world.specs.Served.{arrives, at_server, comes, first_from, server_told_at, tell, told_at};
-ghost use Rattle.fs_world.specs.declared.seat.Seat.{Seat as TheSeat};
+ghost use Rattle.fs_world.specs.Planned.{IsAnswered, WasSent};
+ghost use Rattle.fs_world.specs.Served.{arrives, at_server, comes, server_told_at, tell, told_at};
 
 use crate::clients::told;
 use crate::goes::outcome;
@@ -118,17 +119,15 @@ impl Served {
         p: &Packet,
     ) -> Result<Outcome, CoreError>
         requires reading { now ≤ LATEST }
-        requires comes { (post : Links) → slice_get self.old.posts k ≡ Some post →
-            IsComing (post_accepted post from p.now).heard.joined
-            (first_from k from self.old.seats self.old.flying) }
+        requires apart { same_peer from (Server k) ≡ false }
         requires posts { length self.old.posts ≡ length self.old.servers }
         ensures done { IfOk result (λ told. world_left told self.new ≡
             server_told_at (slice_get self.old.servers k) (slice_get self.old.posts k) now k from
             p.now self.old) }
         ensures fits { (core : TheCore) (post : Links) →
             slice_get self.old.servers k ≡ Some core → slice_get self.old.posts k ≡ Some post →
-            OnOk result (IsAnswered now (post_accepted post from p.now).heard.joined
-            (first_from k from self.old.seats self.old.flying)
+            OnOk result (IsAnswered now
+            (event_heard from (post_accepted post from p.now).heard.joined)
             (at_server core (post_accepted post from p.now).links self.old)) }
         ensures spends { Spends result
             (server_told_at (slice_get self.old.servers k) (slice_get self.old.posts k) now k from
@@ -164,9 +163,6 @@ impl Served {
         p: &Packet,
     ) -> Result<Outcome, CoreError>
         requires reading { now ≤ LATEST }
-        requires comes { (seat : TheSeat) → map.get self.old.seats s.0 ≡ Some seat →
-            IsFirstOf (post_accepted seat.post (Server k) p.now).heard.joined
-            (downs_of k (Some seat)) }
         ensures done { IfOk result (λ told. world_left told self.new ≡
             told_at (map.get self.old.seats s.0) now s k p.now self.old) }
         ensures spends { Spends result

@@ -42,6 +42,7 @@ impl Model for World {
 
 impl World {
     ghost use Rattle.fs_schedule.specs.Spelling.{FitsHead};
+    ghost use Rattle.fs_world.specs.Carried.{LinksCarry};
     ghost use Rattle.fs_world.specs.Refusals.{HasNone, is_link_strange};
     ghost use Rattle.fs_world.specs.World.{FitsWorld, first_world, journal_of, packets_of, space_of, step};
 
@@ -75,6 +76,7 @@ impl World {
         ensures outcome { IfOk result (λ o. o ≡ (step self.old event.now).outcome) }
         ensures world { OnOk result (self.new ≡ (step self.old event.now).world) }
         ensures known { IfOk result (HasNone is_link_strange) }
+        ensures carried { LinksCarry self.old }
         ensures spent { (counter : TheCounter) → IsErrOf result (errors.Spent counter) →
             (step self.old event.now).spent ≡ Some counter }
         ensures only { (counter : TheCounter) → (step self.old event.now).spent ≡ Some counter →
@@ -85,6 +87,14 @@ impl World {
             Form::Direct(direct) => direct.step(alloc, &event.what),
             Form::Served(served) => served.step(alloc, event.reading, &event.what),
         }
+    }
+
+    /// A law of every world that steps make: whatever was sent is a packet, and what it joins where it comes, however often it
+    /// is told and however late, is exactly the bytes of the first message between the two, which can be read.
+    pub fn links_give_what_was_sent(&self)
+        ensures { LinksCarry self.now }
+    {
+        let _form = &self.form;
     }
 
     /// The items that were admitted, in order.

@@ -8,7 +8,7 @@ use Rattle.fs_world.specs.World.{Run, AtPackets, more, packets_of, run_on, step,
 use Rattle.fs_world.specs.declared.form.Form.{Form}
 use Rattle.fs_world.proofs.RightRuns.{one_more}
 use Rattle.farsite.proofs.Asked.{fits_further}
-use Rattle.farsite.proofs.Runs.{flooded, goes_on, no_error, run_step, unspent}
+use Rattle.farsite.proofs.Runs.{carried_on, flooded, goes_on, no_error, run_step, unspent}
 use Rattle.farsite.proofs.run.run_all.Goals as goal
 
 pub returns-then-len-gt-PACKETS-clause-packets : goal.returns-then-len-gt-PACKETS-clause-packets
@@ -45,5 +45,6 @@ loop-at-preserved c =
           ∙ sym (goes_on w c.step.new.self (i + 2) items i e c.loop-at-test.true c.index-events-at.is c.in-Ok.ensures.world none less)
           ∙ c.loop-at.invariant.stop;
       fits = fits_further w c.step.new.self items i e c.loop-at-test.true c.in-Ok.ensures.world c.loop-at.invariant.fits;
+      carried = λ rest. c.loop-at.invariant.carried (carried_on w c.step.new.self items i e c.loop-at-test.true c.index-events-at.is c.in-Ok.ensures.world c.in-Ok.ensures.carried rest);
       known = λ known. subst (λ (os : List Outcome). NoneHas is_link_strange os) (sym c.in_ok-push-in-Ok.ensures.ok) (one_more is_link_strange c.loop-at.told c.in-Ok.outcome (c.loop-at.invariant.known known) c.in-Ok.ensures.known);
     }

@@ -1,4 +1,5 @@
 use Rattle.std.proofs.Common.{◌≡◌, ◌+◌, drop}
+use Rattle.fs_world.specs.Carried.{AllCarry}
 use Rattle.fs_world.specs.Refusals.{NoneHas, is_link_strange}
 use Rattle.fs_world.specs.World.{run_on, stop_in}
 use Rattle.farsite.specs.Fitting.{MayHappen}
@@ -9,5 +10,6 @@ invariant-loop-at l = record {
   so_far : run_on (record { world = l.world; outcomes = l.told }) (drop l.at l.events) ≡ run_on (record { world = l.initial.world; outcomes = l.initial.told }) l.events;
   stop : stop_in l.world (l.at + 2) (drop l.at l.events) ≡ stop_in l.initial.world 2 l.events;
   fits : MayHappen l.world (drop l.at l.events);
+  carried : AllCarry l.world (drop l.at l.events) → AllCarry l.initial.world l.events;
   known : NoneHas is_link_strange l.initial.told → NoneHas is_link_strange l.told;
 }

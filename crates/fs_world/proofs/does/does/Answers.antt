@@ -1,6 +1,6 @@
 use Rattle.std.proofs.Common.{rules}
 use Rattle.std.proofs.lemmas.Result.{err_from_is_err_and}
-use Rattle.fs_world.specs.Served.{is_full_up}
+use Rattle.fs_actor.specs.Actor.{is_full_up}
 use Rattle.fs_world.proofs.Spending.{spent_link, refused_as}
 use Rattle.fs_world.proofs.does.does.Goals as goal
 

@@ -4,8 +4,9 @@ use Rattle.fs_msg.specs.declared.answer.Answer.{Answer}
 use Rattle.fs_msg.specs.declared.client_note.ClientNote.{ClientNote}
 use Rattle.fs_msg.specs.declared.note.Note.{Note}
 use Rattle.fs_serial.specs.Cluster.{is_with, without_first}
-use Rattle.fs_world.specs.Calls.{seat_left}
-use Rattle.fs_world.specs.Served.{SeatStepped, client_does, client_noted}
+use Rattle.fs_actor.specs.Actor.{client_noted}
+use Rattle.fs_world.specs.Calls.{client_does, seat_left}
+use Rattle.fs_world.specs.Served.{SeatStepped}
 use Rattle.fs_world.specs.declared.seat.Seat.{Seat}
 use Rattle.fs_world.proofs.hears.takes.Goals as goal
 

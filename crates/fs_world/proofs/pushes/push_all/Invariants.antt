@@ -1,7 +1,7 @@
 use Rattle.std.proofs.Common.{◌≡◌, drop}
 use Rattle.fs_window.specs.Undo.{undone}
 use Rattle.fs_world.specs.Linked.{FitsDown}
-use Rattle.fs_world.specs.Served.{is_full_down, with_pushed}
+use Rattle.fs_actor.specs.Actor.{is_full_down, with_pushed}
 use Rattle.fs_world.proofs.pushes.push_all.Given as goal
 
 -- of the messages that are left the same comes as of all, and what was pushed is undone so

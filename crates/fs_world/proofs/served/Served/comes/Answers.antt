@@ -2,30 +2,20 @@ use Rattle.std.proofs.Common.{subst}
 use Rattle.std.specs.Prelude.{Some}
 use Rattle.std.specs.FinMap.{get}
 use Rattle.fs_ident.specs.declared.actor.Peer.{Peer}
-use Rattle.fs_ident.specs.declared.actor.Peer.TheVariants.{Client}
+use Rattle.fs_ident.specs.declared.actor.Peer.TheVariants.{Client, Server}
 use Rattle.fs_world.specs.Planned.{WasSent}
 use Rattle.fs_world.specs.Served.{told_at}
 use Rattle.fs_world.proofs.AtSeat.{linked_then, told_linked}
 use Rattle.fs_world.proofs.AtServer.{told_after}
-use Rattle.fs_world.proofs.Linked.{told_seat_first, told_server_comes}
+use Rattle.fs_world.proofs.Linked.{went}
 use Rattle.fs_world.proofs.served.Served.comes.Goals as goal
 
-pub server_told-requires-clause-comes : goal.server_told-requires-clause-comes
-server_told-requires-clause-comes c post e =
+pub server_told-requires-clause-apart : goal.server_told-requires-clause-apart
+server_told-requires-clause-apart c =
     let a = c.args in
     let w = a.self.now in
     let x = subst (λ (q : Peer). WasSent a.from q (Some a.p.now) w.packets.sent) c.in_default-Server.is-1 c.requires.sent in
-    told_server_comes w c.in_default-Server.k post a.from a.p.now e x c.requires.linked
-
-pub client_told-requires-clause-comes : goal.client_told-requires-clause-comes
-client_told-requires-clause-comes c seat e =
-    let a = c.args in
-    let w = a.self.now in
-    let k = c.in-Server-Client.k in
-    let s = c.in-Server-Client.s in
-    let to = subst (λ (q : Peer). WasSent a.from q (Some a.p.now) w.packets.sent) c.in-Server-Client.is-1 c.requires.sent in
-    let x = subst (λ (q : Peer). WasSent q (Client s) (Some a.p.now) w.packets.sent) c.in-Server-Client.is-0 to in
-    told_seat_first w s seat k a.p.now e x c.requires.linked
+    (went w a.from (Server c.in_default-Server.k) a.p.now x c.requires.linked).apart
 
 pub returns-in_default-Server-clause-linked : goal.returns-in_default-Server-clause-linked
 returns-in_default-Server-clause-linked c =

@@ -1,0 +1,3 @@
+pub mod Whole
+pub mod Hearing
+pub mod Actor
