@@ -9,6 +9,7 @@ use Rattle.fs_schedule.proofs.Single.{form_fits}
 use Rattle.fs_world.specs.Carried.{AllCarry}
 use Rattle.fs_world.specs.Refusals.{NoneHas, is_link_strange}
 use Rattle.fs_world.specs.World.{AllMayHappen, first_world, run_of, stop_of}
+use Rattle.fs_world.proofs.CausedRuns.{all_caused}
 use Rattle.fs_world.proofs.HeldLaws.{serial_laws}
 use Rattle.fs_world.proofs.RightRuns.{neither_strange, no_core_strange, refusals_fair}
 use Rattle.fs_world.proofs.Whole.{run_is_serial, told_is_admitted}
@@ -31,6 +32,7 @@ replayed s bytes a b r f h k carry w = record {
   written = w;
   headline = run_is_serial serial_laws s (form_fits s bytes r) f r.1 carry;
   fair = refusals_fair serial_laws s (form_fits s bytes r) f r.1 carry;
+  over = all_caused s.head s.events carry;
   known = neither_strange (run_of s).outcomes k (no_core_strange serial_laws s (form_fits s bytes r) f r.1 carry);
   admitted = λ direct. told_is_admitted serial_laws s direct f;
 }
