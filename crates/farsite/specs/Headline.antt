@@ -20,8 +20,8 @@ abbrev pub report_of : Run → List ℕ
 report_of r = report_text r.outcomes (journal_of r.world) (space_of r.world)
 
 -- what was written is the report of the schedule that was read, whose run went to its end; its journal is serial; an entry of a
--- log is refused only where a lease that it used had ended, or behind such a one; a session is over only behind such a refusal; nothing that was told is strange, neither to
--- a link nor to a core; and in the direct form the journal has every reply that was told
+-- log is refused only where a lease that it used had ended, or behind such a one, and a session is over only behind such a refusal;
+-- nothing that was told is strange, neither to a link nor to a core; and in the direct form the journal has every reply that was told
 pub record IsReplay (bytes : List ℕ) (before now : Option (List ℕ)) : Type 0 where
   pub schedule : Schedule
   pub read : IsScheduleText schedule bytes
