@@ -1,13 +1,47 @@
 -- Laws of the digits of numbers with a limit.
-use Rattle.std.proofs.Common.{◌≡◌, ◌≢◌, ℕ, ◌<◌, ◌≤◌, ◌+◌, ◌-◌, ◌*◌, List, [], ◌∷◌, ◌++◌, length, get_or, take, refl, ap, arith, sym, ◌∙◌, subst}
+use Rattle.std.proofs.Common.{◌≡◌, ◌≢◌, ℕ, zero, suc, ◌<◌, ◌≤◌, ◌+◌, ◌-◌, ◌*◌, ◌^◌, true, List, [], ◌∷◌, ◌++◌, length, get_or, take, refl, ap, arith, sym, ◌∙◌, subst}
 use Rattle.std.specs.Prelude.{min}
 use Rattle.std.specs.Char.{digit_value}
-use Rattle.std.specs.Str.Parse.{AllDigits, digits_value, digits_value_after}
+use Rattle.std.specs.Fmt.{decimal}
+use Rattle.std.specs.Str.Parse.{AllDigits, IsNumeral, digits_value, digits_value_after, without_leading_plus}
 use Rattle.std.proofs.lemmas.Bool.Decides.{nat_tests}
+use Rattle.std.proofs.lemmas.Fmt.{decimal_digit, first_decimal, decimal-digits_value}
 use Rattle.std.proofs.lemmas.List.{take_more}
-use Rattle.std.proofs.lemmas.Str.Parse.{digit_at, digit_from_value}
+use Rattle.std.proofs.lemmas.Str.Parse.{digit_at, digit_from_value, numerals_by_value, tells_digits}
 use Rattle.fs_schedule.specs.Spelling.{IsNumberOf}
-use Rattle.fs_schedule.specs.Reading.{capped, IsToldNumber}
+use Rattle.fs_schedule.specs.Reading.{begins_well, capped, IsToldNumber}
+
+-- ## Numbers in their one form
+
+first_well : (ds : List ℕ) → 48 < get_or ds 0 0 → begins_well ds ≡ true
+first_well [] h = refl
+first_well (d ∷ []) h = grind (arith, nat_tests)
+first_well (d ∷ (e ∷ ds)) h = grind (arith, nat_tests)
+
+pub decimal_begins_well : (n : ℕ) → n < 2 ^ 64 → begins_well (decimal n) ≡ true
+decimal_begins_well zero h = ap begins_well (decimal_digit 0 (omega arith))
+decimal_begins_well (suc n) h = first_well (decimal (suc n)) (first_decimal (suc n) (omega arith) h)
+
+no_plus : (ds : List ℕ) → begins_well ds ≡ true → without_leading_plus ds ≡ ds
+no_plus [] h = grind arith
+no_plus (d ∷ []) h = grind (arith, nat_tests)
+no_plus (d ∷ (e ∷ ds)) h = grind (arith, nat_tests)
+
+no_zero : (ds : List ℕ) → 0 < length ds → begins_well ds ≡ true → get_or ds 0 0 ≡ 48 → length ds ≡ 1
+no_zero [] some h z = absurd (omega arith)
+no_zero (d ∷ []) some h z = refl
+no_zero (d ∷ (e ∷ ds)) some h z = grind (arith, nat_tests)
+
+-- the digits of a number that begin well are its one form
+pub well_is_decimal : (ds : List ℕ) → begins_well ds ≡ true → IsNumeral 10 (without_leading_plus ds) → digits_value 10 (without_leading_plus ds) < 2 ^ 64 → decimal (digits_value 10 (without_leading_plus ds)) ≡ ds
+well_is_decimal ds h numeral small =
+    let plain : without_leading_plus ds ≡ ds = no_plus ds h in
+    let P : List ℕ → Type 0 = λ xs. IsNumeral 10 xs in
+    let is : IsNumeral 10 ds = subst P plain numeral in
+    let below : digits_value 10 ds < 2 ^ 64 = rw (sym plain) small in
+    ap (λ xs. decimal (digits_value 10 xs)) plain ∙ decimal-digits_value (numerals_by_value _ tells_digits) ds is.1 is.0 (no_zero ds is.0 h) below
+
+-- ## Numbers with a limit
 
 -- the digits so far, and what they tell
 pub record IsTold (most : ℕ) (digits : List ℕ) (n : ℕ) : Type 0 where

@@ -9,3 +9,4 @@ pub mod Behind
 pub mod Pieces
 pub mod Reading
 pub mod Skews
+pub mod Limited

@@ -21,7 +21,7 @@ use Rattle.fs_field.specs.declared.field.Field.{Field}
 use Rattle.fs_model.specs.declared.op.Op.{Op}
 use Rattle.fs_schedule.specs.Separated.{AreWords}
 use Rattle.fs_schedule.specs.Spelling.{servers_in, IsServerIn, client_word, server_word, packet_word, op_words, FitsOp, field_words, FitsField}
-use Rattle.fs_schedule.specs.Reading.{Reads, Tells, capped, IsToldNumber, IsToldCount, IsToldHead, IsToldHeadLine, IsToldSession, IsToldPeer, IsToldWhat, IsToldEvent, IsToldLine}
+use Rattle.fs_schedule.specs.Reading.{Reads, Tells, ReadsSurely, TellsSurely, capped, IsToldNumber, IsToldCount, IsToldHead, IsToldHeadLine, IsToldSession, IsToldPeer, IsToldWhat, IsToldEvent, IsToldLine}
 use Rattle.std.specs.Fmt.{decimal}
 use Rattle.fs_schedule.proofs.Asked.{bare_one}
 use Rattle.fs_schedule.proofs.Operations.{distinct}
@@ -40,18 +40,27 @@ pub tells_err : {X W : Type 0} (IsOf : X → W → Type 0) (r : Result X Unread)
 tells_err IsOf (Ok x) w e h none = absurd (no_error h.0)
 tells_err IsOf (Err f) w e h none = λ o x is. none (sym h.1 ∙ o) x is
 
+-- the same of readers that take no memory
+pub reads_surely_err : {X W : Type 0} (spelled : X → W) (Fits : X → Type 0) (r : Result X Unread) (w : W) (e : Unread) → IsErr r × IsErrAnd r (λ x. x ≡ e) → (e ≡ Outside) × ((x : X) → Fits x → w ≡ spelled x → ⊥) → ReadsSurely spelled Fits r w
+reads_surely_err spelled Fits (Ok x) w e h none = absurd (no_error h.0)
+reads_surely_err spelled Fits (Err f) w e h none = (h.1 ∙ none.0, none.1)
+
+pub tells_surely_err : {X W : Type 0} (IsOf : X → W → Type 0) (r : Result X Unread) (w : W) (e : Unread) → IsErr r × IsErrAnd r (λ x. x ≡ e) → (e ≡ Outside) × ((x : X) → IsOf x w → ⊥) → TellsSurely IsOf r w
+tells_surely_err IsOf (Ok x) w e h none = absurd (no_error h.0)
+tells_surely_err IsOf (Err f) w e h none = (h.1 ∙ none.0, none.1)
+
 digits_same : (ds es : List ℕ) → client_word ds ≡ client_word es → ds ≡ es
 digits_same ds es e = cc
 
-pub tells_session : (r : Result ℕ Unread) (digits : List ℕ) → Tells (IsToldNumber SESSIONS) r digits → Tells IsToldSession r (client_word digits)
+pub tells_session : (r : Result ℕ Unread) (digits : List ℕ) → TellsSurely (IsToldNumber SESSIONS) r digits → TellsSurely IsToldSession r (client_word digits)
 tells_session (Ok n) digits h = (digits, refl, h)
-tells_session (Err e) digits h = λ o n is. h o n (subst (IsToldNumber SESSIONS n) (sym (digits_same digits is.0 is.1)) is.2)
+tells_session (Err e) digits h = (h.0, λ n is. h.1 n (subst (IsToldNumber SESSIONS n) (sym (digits_same digits is.0 is.1)) is.2))
 
 -- ## Forms
 
-pub tells_head : (r : Result Head Unread) (ws : List Word) (line : List ℕ) → AreWords ws line → Tells IsToldHead r ws → Tells IsToldHeadLine r line
+pub tells_head : (r : Result Head Unread) (ws : List Word) (line : List ℕ) → AreWords ws line → TellsSurely IsToldHead r ws → Tells IsToldHeadLine r line
 tells_head (Ok head) ws line a h = told_head_line head ws line a h
-tells_head (Err f) ws line a h = λ o head is. h o head (told_head_by_words head ws line a is)
+tells_head (Err f) ws line a h = λ o head is. h.1 head (told_head_by_words head ws line a is)
 
 -- digits that tell no number are no number of servers
 pub no_digits : (n : ℕ) (digits : List ℕ) (w : Word) → w ≡ Bare digits → (IsToldNumber SERVERS n digits → ⊥) → IsToldCount n w → ⊥
@@ -72,15 +81,15 @@ told_served n skew term s k t h f g =
     (Servers number.0 skew term, record { digits = digits; count = number.1; times = (f.0, g.0.0, g.0.1); spelled = whole }, ap (λ (m : ℕ). Servers m skew term) number.2)
 
 -- the words behind the form, one by one
-pub tells_served : (r : Result Head Unread) (ws : List Word) (s u k v t : Word) → ws ≡ s ∷ u ∷ k ∷ v ∷ t ∷ [] → u ≡ Bare (codes "skew") → v ≡ Bare (codes "term") → Tells IsToldHead r (served_words s k t) → Tells IsToldHead r (Bare (codes "farsite") ∷ Bare (codes "1") ∷ Bare (codes "servers") ∷ ws)
+pub tells_served : (r : Result Head Unread) (ws : List Word) (s u k v t : Word) → ws ≡ s ∷ u ∷ k ∷ v ∷ t ∷ [] → u ≡ Bare (codes "skew") → v ≡ Bare (codes "term") → TellsSurely IsToldHead r (served_words s k t) → TellsSurely IsToldHead r (Bare (codes "farsite") ∷ Bare (codes "1") ∷ Bare (codes "servers") ∷ ws)
 tells_served r ws s u k v t all skew term h =
     let whole : served_words s k t ≡ Bare (codes "farsite") ∷ Bare (codes "1") ∷ Bare (codes "servers") ∷ ws = cc in
-    subst (Tells IsToldHead r) whole h
+    subst (TellsSurely IsToldHead r) whole h
 
 -- the word of the form is as it was read
-pub tells_form : (r : Result Head Unread) (w v : Word) (ws : List Word) → w ≡ v → Tells IsToldHead r (Bare (codes "farsite") ∷ Bare (codes "1") ∷ v ∷ ws) → Tells IsToldHead r (Bare (codes "farsite") ∷ Bare (codes "1") ∷ w ∷ ws)
+pub tells_form : (r : Result Head Unread) (w v : Word) (ws : List Word) → w ≡ v → TellsSurely IsToldHead r (Bare (codes "farsite") ∷ Bare (codes "1") ∷ v ∷ ws) → TellsSurely IsToldHead r (Bare (codes "farsite") ∷ Bare (codes "1") ∷ w ∷ ws)
 tells_form r w v ws e h =
-    let P : Word → Type 0 = λ x. Tells IsToldHead r (Bare (codes "farsite") ∷ Bare (codes "1") ∷ x ∷ ws) in
+    let P : Word → Type 0 = λ x. TellsSurely IsToldHead r (Bare (codes "farsite") ∷ Bare (codes "1") ∷ x ∷ ws) in
     subst P (sym e) h
 
 third_word : (a b w c d v : Word) (ws vs : List Word) → a ∷ b ∷ w ∷ ws ≡ c ∷ d ∷ v ∷ vs → w ≡ v
@@ -155,6 +164,15 @@ told_move head k id j w v u h f g =
     let to : u ≡ server_word j = g.1 in
     let whole : Bare (codes "move") ∷ w ∷ v ∷ u ∷ [] ≡ Bare (codes "move") ∷ server_word k ∷ Bare (id_text id) ∷ server_word j ∷ [] = cc in
     (Move k id j, record { digits = []; session = tt; fits = (h.0, f.0, g.0); spelled = whole }, refl)
+
+-- a reader that takes no memory, whose words are those that were read
+pub told_surely : (head : Head) (r : Result What Unread) (w v : Word) (ws : List Word) → w ≡ v → TellsSurely (IsToldWhat head) r (v ∷ ws) → Tells (IsToldWhat head) r (w ∷ ws)
+told_surely head (Ok x) w v ws e h =
+    let P : Word → Type 0 = λ u. IsToldWhat head x (u ∷ ws) in
+    subst P (sym e) h
+told_surely head (Err f) w v ws e h = λ o x is.
+    let P : Word → Type 0 = λ u. IsToldWhat head x (u ∷ ws) in
+    h.1 x (subst P e is)
 
 -- the words of a session's event are told, where its session is
 join_told : (head : Head) (w : What) (s : Word) (ws : List Word) → IsToldWhat head w (Bare (codes "join") ∷ s ∷ ws) → (n : ℕ) × IsToldSession n s

@@ -4,6 +4,7 @@ pub mod Lines
 pub mod Skew
 pub mod Faults
 pub mod Limits
+pub mod Errors
 -- cited by private calls alone
 pub mod Separated
 pub mod Ahead

@@ -1,5 +1,5 @@
 -- What readers answer.
-use Rattle.std.specs.Prelude.{◌≡◌, ℕ, ◌≤◌, ◌+◌, ◌∷◌, List, map, min, Result, Ok, Err}
+use Rattle.std.specs.Prelude.{◌≡◌, ℕ, ◌≤◌, ◌+◌, ◌==◌, ◌&&◌, not, Bool, true, ◌∷◌, [], List, map, min, Result, Ok, Err, IsErrOf}
 use Rattle.std.specs.Fmt.{decimal}
 use Rattle.fs_ident.specs.declared.actor.Peer.{Peer}
 use Rattle.fs_ident.specs.declared.actor.Peer.TheVariants.{Server, Client}
@@ -35,9 +35,30 @@ abbrev pub Tells : {X W : Type 0} → (X → W → Type 0) → Result X Unread �
 Tells IsOf (Ok x) w = IsOf x w
 Tells IsOf (Err e) w = e ≡ Outside → (x : _) → IsOf x w → ⊥
 
+-- the same of a reader that takes no memory, and wants none
+abbrev pub ReadsSurely : {X W : Type 0} → (X → W) → (X → Type 0) → Result X Unread → W → Type 0
+ReadsSurely spelled Fits (Ok x) w = Fits x × (w ≡ spelled x)
+ReadsSurely spelled Fits (Err e) w = (e ≡ Outside) × ((x : _) → Fits x → w ≡ spelled x → ⊥)
+
+abbrev pub TellsSurely : {X W : Type 0} → (X → W → Type 0) → Result X Unread → W → Type 0
+TellsSurely IsOf (Ok x) w = IsOf x w
+TellsSurely IsOf (Err e) w = (e ≡ Outside) × ((x : _) → IsOf x w → ⊥)
+
+-- what no value in range is spelled as is outside, also where memory is wanting
+abbrev pub Refuses : {X W : Type 0} → (X → W) → (X → Type 0) → Result X Unread → W → Type 0
+Refuses spelled Fits r w = ((x : _) → Fits x → w ≡ spelled x → ⊥) → IsErrOf r Outside
+
 -- every value is in range
 abbrev pub Always : {X : Type 0} → X → Type 0
 Always x = Unit {0}
+
+-- ## Numbers
+
+-- no plus stands in front, and no zero but the only digit
+abbrev pub begins_well : List ℕ → Bool
+begins_well [] = true
+begins_well (d ∷ []) = not (d == 43)
+begins_well (d ∷ (e ∷ ds)) = not (d == 43) && not (d == 48)
 
 -- ## Numbers with a limit, which are told up to it, and every greater one as one more
 

@@ -42,17 +42,33 @@ impl fmt::Display for Which {
 #[derive(Clone, Copy, Debug, PartialEq, Eq, Error)]
 pub enum ScheduleError {
     /// The first faulty line is outside the grammar.
-    #[error("line {line} is not in the grammar")]
     BadLine { line: u64 },
     /// The first faulty line passes a limit.
-    #[error("line {at} passes the limit of {which}")]
     Limit { which: Which, at: u64 },
     /// All lines pass, and the line's reading is more than the skew before that of an earlier one.
-    #[error("line {line} is more than the skew before line {earlier}")]
     Skewed { line: u64, earlier: u64 },
     /// Memory is wanting.
-    #[error("memory is wanting")]
     Memory,
+}
+
+impl fmt::Display for ScheduleError {
+    ghost use Rattle.std.specs.Prelude.{Some};
+    ghost use Rattle.fs_schedule.specs.Errors.{error_text};
+
+    ghost output = { λ e. Some (error_text e) };
+
+    fn fmt<W: fmt::Write>(&self, f: &mut fmt::Formatter<W>) -> fmt::Result {
+        match self {
+            ScheduleError::BadLine { line } => write!(f, "line {line} is not in the grammar"),
+            ScheduleError::Limit { which, at } => {
+                write!(f, "line {at} passes the limit of {which}")
+            }
+            ScheduleError::Skewed { line, earlier } => {
+                write!(f, "line {line} is more than the skew before line {earlier}")
+            }
+            ScheduleError::Memory => f.write_str("memory is wanting"),
+        }
+    }
 }
 
 impl From<fs_ident::Memory> for ScheduleError {

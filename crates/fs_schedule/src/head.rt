@@ -2,7 +2,7 @@
 ghost use Rattle.std.specs.Prelude.{◌≡◌, ◌∷◌, [], codes};
 ghost use Rattle.fs_schedule.specs.Words.{Bare};
 ghost use Rattle.fs_schedule.specs.Spelling.{servers_in, has_many, has_op};
-ghost use Rattle.fs_schedule.specs.Reading.{Tells, word_of, words_in, IsToldCount, IsToldHead, IsToldHeadLine};
+ghost use Rattle.fs_schedule.specs.Reading.{Tells, TellsSurely, word_of, words_in, IsToldCount, IsToldHead, IsToldHeadLine};
 
 use crate::event::Head;
 use crate::number::count_up_to;
@@ -52,11 +52,11 @@ pub fn head_at(alloc: Global, line: &[u8]) -> Result<Head, Unread>
     ensures { Tells IsToldHeadLine result line.now }
 {
     let words = words_of(alloc, line)?;
-    head_of(alloc, words.as_slice())
+    head_of(words.as_slice())
 }
 
-fn head_of(alloc: Global, words: &[Word]) -> Result<Head, Unread>
-    ensures { Tells IsToldHead result (words_in words.now) }
+fn head_of(words: &[Word]) -> Result<Head, Unread>
+    ensures { TellsSurely IsToldHead result (words_in words.now) }
 {
     let [product, version, form, operands @ ..] = words else {
         return Err(Unread::Outside);
@@ -67,25 +67,25 @@ fn head_of(alloc: Global, words: &[Word]) -> Result<Head, Unread>
     if !is_bare(version, b"1") {
         return Err(Unread::Outside);
     }
-    head_by(alloc, form, operands)
+    head_by(form, operands)
 }
 
 /// The same, where the word that tells the form was read.
-fn head_by(alloc: Global, form: &Word, operands: &[Word]) -> Result<Head, Unread>
-    ensures { Tells IsToldHead result
+fn head_by(form: &Word, operands: &[Word]) -> Result<Head, Unread>
+    ensures { TellsSurely IsToldHead result
         (Bare (codes "farsite") ∷ Bare (codes "1") ∷ word_of form.now ∷ words_in operands.now) }
 {
     if is_bare(form, b"direct") {
         return direct_of(operands);
     }
     if is_bare(form, b"servers") {
-        return servers_of(alloc, operands);
+        return servers_of(operands);
     }
     Err(Unread::Outside)
 }
 
 fn direct_of(operands: &[Word]) -> Result<Head, Unread>
-    ensures { Tells IsToldHead result
+    ensures { TellsSurely IsToldHead result
         (Bare (codes "farsite") ∷ Bare (codes "1") ∷ Bare (codes "direct") ∷
         words_in operands.now) }
 {
@@ -95,8 +95,8 @@ fn direct_of(operands: &[Word]) -> Result<Head, Unread>
     }
 }
 
-fn servers_of(alloc: Global, operands: &[Word]) -> Result<Head, Unread>
-    ensures { Tells IsToldHead result
+fn servers_of(operands: &[Word]) -> Result<Head, Unread>
+    ensures { TellsSurely IsToldHead result
         (Bare (codes "farsite") ∷ Bare (codes "1") ∷ Bare (codes "servers") ∷
         words_in operands.now) }
 {
@@ -109,19 +109,19 @@ fn servers_of(alloc: Global, operands: &[Word]) -> Result<Head, Unread>
     if !is_bare(term_word, b"term") {
         return Err(Unread::Outside);
     }
-    servers_by(alloc, servers, skew, term)
+    servers_by(servers, skew, term)
 }
 
 /// The same, where the words between the numbers were read.
-fn servers_by(alloc: Global, servers: &Word, skew: &Word, term: &Word) -> Result<Head, Unread>
-    ensures { Tells IsToldHead result
+fn servers_by(servers: &Word, skew: &Word, term: &Word) -> Result<Head, Unread>
+    ensures { TellsSurely IsToldHead result
         (Bare (codes "farsite") ∷ Bare (codes "1") ∷ Bare (codes "servers") ∷
         word_of servers.now ∷ Bare (codes "skew") ∷ word_of skew.now ∷
         Bare (codes "term") ∷ word_of term.now ∷ []) }
 {
     let servers = servers_at(servers)?;
-    let skew = number_at(alloc, LONGEST, skew)?;
-    let term = count_at(alloc, LONGEST, term)?;
+    let skew = number_at(LONGEST, skew)?;
+    let term = count_at(LONGEST, term)?;
     Ok(Head::Servers {
         servers,
         skew,
@@ -131,7 +131,7 @@ fn servers_by(alloc: Global, servers: &Word, skew: &Word, term: &Word) -> Result
 
 /// How many servers a form has, with every number above the limit as one more than the limit.
 fn servers_at(word: &Word) -> Result<u8, Unread>
-    ensures { Tells IsToldCount result (word_of word.now) }
+    ensures { TellsSurely IsToldCount result (word_of word.now) }
 {
     let Word::Bare(digits) = word else {
         return Err(Unread::Outside);

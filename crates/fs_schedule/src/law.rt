@@ -1,9 +1,25 @@
 //! Laws of schedules and their texts.
 ghost use Rattle.std.specs.Prelude.{◌≡◌, ℕ, List as Seq};
 ghost use Rattle.std.specs.List.{AllByRecursion};
+ghost use Rattle.fs_ident.specs.declared.limits.TheConstants.{LATEST, SESSIONS};
+ghost use Rattle.fs_msg.specs.declared.limits.TheConstants.{LONGEST, SERVERS};
+ghost use Rattle.fs_schedule.specs.declared.limits.TheConstants.{BYTES, EVENTS, PACKETS};
 ghost use Rattle.fs_schedule.specs.declared.event.Schedule.{Schedule as Told};
 ghost use Rattle.fs_schedule.specs.Spelling.{FitsHead, FitsEvent};
 ghost use Rattle.fs_schedule.specs.Faults.{Fault, IsScheduleText, IsFirstFault};
+
+/// The limits, each as a number: how many bytes a line has at most, how many events a schedule, how many packets are sent
+/// in a run, how many servers there are, the greatest number of a session, the longest skew and term and the latest
+/// reading in milliseconds.
+pub fn limits_of_schedules()
+    ensures bytes { BYTES ≡ 4096 }
+    ensures events { EVENTS ≡ 65536 }
+    ensures packets { PACKETS ≡ 1048576 }
+    ensures servers { SERVERS ≡ 15 }
+    ensures sessions { SESSIONS ≡ 1000 }
+    ensures longest { LONGEST ≡ 1000000000 }
+    ensures latest { LATEST ≡ 1000000000000000 }
+{}
 
 /// A text is the text of one schedule at most, of a form and of events of the grammar, and then it has no fault; its
 /// first fault is one.

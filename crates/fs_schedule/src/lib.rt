@@ -24,7 +24,7 @@ mod words;
 
 pub use error::{ScheduleError, Which};
 pub use event::{Event, Head, Schedule, What};
-pub use law::one_reading;
+pub use law::{limits_of_schedules, one_reading};
 pub use limits::{BYTES, EVENTS, PACKETS};
 pub use outcome::Outcome;
 pub use schedule::read_schedule;

@@ -3,7 +3,7 @@ ghost use Rattle.std.specs.Prelude.{◌≡◌, ◌∷◌, [], codes};
 ghost use Rattle.fs_schedule.specs.declared.event.Head.{Head as Form};
 ghost use Rattle.fs_schedule.specs.Words.{Bare};
 ghost use Rattle.fs_schedule.specs.Spelling.{names_late};
-ghost use Rattle.fs_schedule.specs.Reading.{Tells, word_of, words_in, IsToldWhat, IsToldEvent, IsToldLine};
+ghost use Rattle.fs_schedule.specs.Reading.{Tells, TellsSurely, word_of, words_in, IsToldWhat, IsToldEvent, IsToldLine};
 
 use crate::actor::{peer_at, server_at};
 use crate::event::{Event, Head, What};
@@ -39,7 +39,7 @@ fn event_of(alloc: Global, head: Head, words: &[Word]) -> Result<Event, Unread>
 fn event_by(alloc: Global, head: Head, reading: &Word, words: &[Word]) -> Result<Event, Unread>
     ensures { Tells (IsToldEvent head) result (word_of reading.now ∷ words_in words.now) }
 {
-    let reading = number_at(alloc, LATEST, reading)?;
+    let reading = number_at(LATEST, reading)?;
     let what = what_of(alloc, head, words)?;
     Ok(Event { reading, what })
 }
@@ -62,9 +62,9 @@ fn what_by(alloc: Global, head: Head, first: &Word, operands: &[Word]) -> Result
     } else if is_bare(first, b"do") {
         do_of(alloc, head, operands)
     } else if is_bare(first, b"tell") {
-        tell_of(alloc, head, operands)
+        tell_of(head, operands)
     } else if is_bare(first, b"turn") {
-        turn_of(alloc, head, operands)
+        turn_of(head, operands)
     } else if is_bare(first, b"recall") {
         recall_of(alloc, head, operands)
     } else if is_bare(first, b"move") {
@@ -76,7 +76,7 @@ fn what_by(alloc: Global, head: Head, first: &Word, operands: &[Word]) -> Result
 
 fn join_of(operands: &[Word]) -> Result<What, Unread>
     ensures { (head : Form) →
-        Tells (IsToldWhat head) result (Bare (codes "join") ∷ words_in operands.now) }
+        TellsSurely (IsToldWhat head) result (Bare (codes "join") ∷ words_in operands.now) }
 {
     let [session] = operands else {
         return Err(Unread::Outside);
@@ -87,7 +87,7 @@ fn join_of(operands: &[Word]) -> Result<What, Unread>
 /// The same, where there is one operand.
 fn join_by(session: &Word) -> Result<What, Unread>
     ensures { (head : Form) →
-        Tells (IsToldWhat head) result (Bare (codes "join") ∷ word_of session.now ∷ []) }
+        TellsSurely (IsToldWhat head) result (Bare (codes "join") ∷ word_of session.now ∷ []) }
 {
     let number = session_at(session)?;
     Ok(What::Join(Session(number)))
@@ -112,43 +112,43 @@ fn do_by(alloc: Global, head: Head, session: &Word, words: &[Word]) -> Result<Wh
     Ok(What::Do(Session(number), op))
 }
 
-fn tell_of(alloc: Global, head: Head, operands: &[Word]) -> Result<What, Unread>
-    ensures { Tells (IsToldWhat head) result (Bare (codes "tell") ∷ words_in operands.now) }
+fn tell_of(head: Head, operands: &[Word]) -> Result<What, Unread>
+    ensures { TellsSurely (IsToldWhat head) result (Bare (codes "tell") ∷ words_in operands.now) }
 {
     let [packet] = operands else {
         return Err(Unread::Outside);
     };
-    tell_by(alloc, head, packet)
+    tell_by(head, packet)
 }
 
 /// The same, where there is one operand.
-fn tell_by(alloc: Global, head: Head, packet: &Word) -> Result<What, Unread>
-    ensures { Tells (IsToldWhat head) result (Bare (codes "tell") ∷ word_of packet.now ∷ []) }
+fn tell_by(head: Head, packet: &Word) -> Result<What, Unread>
+    ensures { TellsSurely (IsToldWhat head) result (Bare (codes "tell") ∷ word_of packet.now ∷ []) }
 {
     if servers_in(head) == 0 {
         return Err(Unread::Outside);
     }
-    let number = packet_at(alloc, packet)?;
+    let number = packet_at(packet)?;
     Ok(What::Tell(number))
 }
 
-fn turn_of(alloc: Global, head: Head, operands: &[Word]) -> Result<What, Unread>
-    ensures { Tells (IsToldWhat head) result (Bare (codes "turn") ∷ words_in operands.now) }
+fn turn_of(head: Head, operands: &[Word]) -> Result<What, Unread>
+    ensures { TellsSurely (IsToldWhat head) result (Bare (codes "turn") ∷ words_in operands.now) }
 {
     let [actor] = operands else {
         return Err(Unread::Outside);
     };
-    turn_by(alloc, head, actor)
+    turn_by(head, actor)
 }
 
 /// The same, where there is one operand.
-fn turn_by(alloc: Global, head: Head, actor: &Word) -> Result<What, Unread>
-    ensures { Tells (IsToldWhat head) result (Bare (codes "turn") ∷ word_of actor.now ∷ []) }
+fn turn_by(head: Head, actor: &Word) -> Result<What, Unread>
+    ensures { TellsSurely (IsToldWhat head) result (Bare (codes "turn") ∷ word_of actor.now ∷ []) }
 {
     if servers_in(head) == 0 {
         return Err(Unread::Outside);
     }
-    let who = peer_at(alloc, head, actor)?;
+    let who = peer_at(head, actor)?;
     Ok(What::Turn(who))
 }
 
@@ -166,7 +166,7 @@ fn recall_by(alloc: Global, head: Head, server: &Word, words: &[Word]) -> Result
     ensures { Tells (IsToldWhat head) result
         (Bare (codes "recall") ∷ word_of server.now ∷ words_in words.now) }
 {
-    let server = server_at(alloc, head, server)?;
+    let server = server_at(head, server)?;
     let field = field_at(alloc, words)?;
     Ok(What::Recall(server, field))
 }
@@ -191,9 +191,9 @@ fn move_by(
     ensures { Tells (IsToldWhat head) result
         (Bare (codes "move") ∷ word_of server.now ∷ word_of prefix.now ∷ word_of other.now ∷ []) }
 {
-    let at = server_at(alloc, head, server)?;
+    let at = server_at(head, server)?;
     let prefix = id_at(alloc, prefix)?;
-    let to = server_at(alloc, head, other)?;
+    let to = server_at(head, other)?;
     Ok(What::Move { at, prefix, to })
 }
 

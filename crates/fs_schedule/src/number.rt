@@ -1,35 +1,43 @@
 //! Numbers in decimal, in their one form.
 ghost use Rattle.std.specs.Prelude.{◌≡◌, ◌≤◌, ◌<◌, ◌+◌, ◌*◌, ◌^◌, min};
 ghost use Rattle.std.specs.Fmt.{decimal};
-ghost use Rattle.fs_schedule.specs.Reading.{Reads, Tells, IsToldNumber};
+ghost use Rattle.fs_schedule.specs.Reading.{ReadsSurely, TellsSurely, begins_well, IsToldNumber};
 
 use crate::unread::Unread;
 use fs_ident::SESSIONS;
-use std::alloc::Global;
 use std::str;
 
 /// The number that the bytes are the one form of.
-pub fn number_of(alloc: Global, digits: &[u8]) -> Result<u64, Unread>
-    ensures { Reads decimal (λ n. n < 2 ^ 64) result digits.now }
+pub fn number_of(digits: &[u8]) -> Result<u64, Unread>
+    ensures { ReadsSurely decimal (λ n. n < 2 ^ 64) result digits.now }
 {
+    if !begins_well(digits) {
+        return Err(Unread::Outside);
+    }
     let Ok(text) = str::from_utf8(digits) else {
         return Err(Unread::Outside);
     };
     let Ok(n) = text.parse::<u64>() else {
         return Err(Unread::Outside);
     };
-    let form = n.to_string(alloc)?;
-    if form.as_bytes() == digits {
-        Ok(n)
-    } else {
-        Err(Unread::Outside)
+    Ok(n)
+}
+
+/// Whether no plus stands in front, and no zero but the only digit.
+fn begins_well(digits: &[u8]) -> bool
+    ensures { result ≡ begins_well digits.now }
+{
+    match digits {
+        [] => true,
+        [only] => *only != b'+',
+        [first, _, ..] => *first != b'+' && *first != b'0',
     }
 }
 
 /// A number from 1, however long it is: every one above `most` as one more than `most`.
 pub fn count_up_to(most: u16, digits: &[u8]) -> Result<u16, Unread>
     requires { most ≤ SESSIONS }
-    ensures { Tells (IsToldNumber most) result digits.now }
+    ensures { TellsSurely (IsToldNumber most) result digits.now }
 {
     if digits.is_empty() {
         return Err(Unread::Outside);
@@ -46,7 +54,7 @@ pub fn count_up_to(most: u16, digits: &[u8]) -> Result<u16, Unread>
 }
 
 fn digit_of(b: u8) -> Result<u8, Unread>
-    ensures { Reads (λ d. 48 + d) (λ d. d < 10) result b }
+    ensures { ReadsSurely (λ d. 48 + d) (λ d. d < 10) result b }
 {
     if b < b'0' {
         return Err(Unread::Outside);

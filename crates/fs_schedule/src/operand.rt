@@ -8,7 +8,7 @@ ghost use Rattle.fs_modes.specs.Modes.{has_access};
 ghost use Rattle.fs_modes.specs.Letters.{acc_text, deny_text, mode_text};
 ghost use Rattle.fs_schedule.specs.Words.{Bare, Quoted};
 ghost use Rattle.fs_schedule.specs.Spelling.{kind_text, packet_word};
-ghost use Rattle.fs_schedule.specs.Reading.{Reads, word_of, words_in, Always};
+ghost use Rattle.fs_schedule.specs.Reading.{Reads, ReadsSurely, Refuses, word_of, words_in, Always};
 
 use crate::number::number_of;
 use crate::unread::Unread;
@@ -28,13 +28,13 @@ pub fn is_bare(word: &Word, text: &[u8]) -> bool
 }
 
 /// A number, `most` at most.
-pub fn number_at(alloc: Global, most: u64, word: &Word) -> Result<u64, Unread>
-    ensures { Reads (λ n. Bare (decimal n)) (λ n. n ≤ most) result (word_of word.now) }
+pub fn number_at(most: u64, word: &Word) -> Result<u64, Unread>
+    ensures { ReadsSurely (λ n. Bare (decimal n)) (λ n. n ≤ most) result (word_of word.now) }
 {
     let Word::Bare(digits) = word else {
         return Err(Unread::Outside);
     };
-    let n = number_of(alloc, digits)?;
+    let n = number_of(digits)?;
     if most < n {
         return Err(Unread::Outside);
     }
@@ -42,10 +42,11 @@ pub fn number_at(alloc: Global, most: u64, word: &Word) -> Result<u64, Unread>
 }
 
 /// A number from 1, `most` at most.
-pub fn count_at(alloc: Global, most: u64, word: &Word) -> Result<u64, Unread>
-    ensures { Reads (λ n. Bare (decimal n)) (λ n. (1 ≤ n) × (n ≤ most)) result (word_of word.now) }
+pub fn count_at(most: u64, word: &Word) -> Result<u64, Unread>
+    ensures { ReadsSurely (λ n. Bare (decimal n)) (λ n. (1 ≤ n) × (n ≤ most)) result
+        (word_of word.now) }
 {
-    let n = number_at(alloc, most, word)?;
+    let n = number_at(most, word)?;
     if n == 0 {
         return Err(Unread::Outside);
     }
@@ -53,22 +54,22 @@ pub fn count_at(alloc: Global, most: u64, word: &Word) -> Result<u64, Unread>
 }
 
 /// The number of a handle.
-pub fn handle_at(alloc: Global, word: &Word) -> Result<u32, Unread>
-    ensures { Reads (λ h. Bare (decimal h)) (λ h. h < 2 ^ 32) result (word_of word.now) }
+pub fn handle_at(word: &Word) -> Result<u32, Unread>
+    ensures { ReadsSurely (λ h. Bare (decimal h)) (λ h. h < 2 ^ 32) result (word_of word.now) }
 {
-    let n = number_at(alloc, u64::from(u32::MAX), word)?;
+    let n = number_at(u64::from(u32::MAX), word)?;
     Ok(n as u32)
 }
 
 /// The number of a packet, or nothing for the least one that was never told.
-pub fn packet_at(alloc: Global, word: &Word) -> Result<Option<u64>, Unread>
-    ensures { Reads packet_word (λ number. IfSome number (λ n. n < 2 ^ 64)) result
+pub fn packet_at(word: &Word) -> Result<Option<u64>, Unread>
+    ensures { ReadsSurely packet_word (λ number. IfSome number (λ n. n < 2 ^ 64)) result
         (word_of word.now) }
 {
     if is_bare(word, b"next") {
         return Ok(None);
     }
-    let n = number_at(alloc, u64::MAX, word)?;
+    let n = number_at(u64::MAX, word)?;
     Ok(Some(n))
 }
 
@@ -89,7 +90,8 @@ pub fn id_at(alloc: Global, word: &Word) -> Result<FileId, Unread>
 
 /// A name.
 pub fn name_at(alloc: Global, word: &Word) -> Result<Name, Unread>
-    ensures { Reads (λ name. Quoted name) IsName result (word_of word.now) }
+    ensures read { Reads (λ name. Quoted name) IsName result (word_of word.now) }
+    ensures outside { Refuses (λ name. Quoted name) IsName result (word_of word.now) }
 {
     let Word::Quoted(bytes) = word else {
         return Err(Unread::Outside);
@@ -104,7 +106,7 @@ pub fn name_at(alloc: Global, word: &Word) -> Result<Name, Unread>
 
 /// A kind.
 pub fn kind_at(word: &Word) -> Result<Kind, Unread>
-    ensures { Reads (λ kind. Bare (kind_text kind)) Always result (word_of word.now) }
+    ensures { ReadsSurely (λ kind. Bare (kind_text kind)) Always result (word_of word.now) }
 {
     if is_bare(word, b"file") {
         Ok(Kind::File)
@@ -117,7 +119,7 @@ pub fn kind_at(word: &Word) -> Result<Kind, Unread>
 
 /// One of the six modes.
 pub fn mode_at(word: &Word) -> Result<Mode, Unread>
-    ensures { Reads (λ mode. Bare (mode_text mode)) Always result (word_of word.now) }
+    ensures { ReadsSurely (λ mode. Bare (mode_text mode)) Always result (word_of word.now) }
 {
     if is_bare(word, b"aR") {
         Ok(Mode::AccR)
@@ -138,7 +140,7 @@ pub fn mode_at(word: &Word) -> Result<Mode, Unread>
 
 /// The modes that the two words are.
 pub fn modes_at(words: &[Word]) -> Result<Modes, Unread>
-    ensures { Reads (λ m. Bare (acc_text m) ∷ Bare (deny_text m) ∷ [])
+    ensures { ReadsSurely (λ m. Bare (acc_text m) ∷ Bare (deny_text m) ∷ [])
         (λ m. has_access m ≡ true) result (words_in words.now) }
 {
     let [Word::Bare(acc), Word::Bare(deny)] = words else {

@@ -4,7 +4,7 @@ ghost use Rattle.fs_ident.specs.Ident.{IsId};
 ghost use Rattle.fs_ident.specs.IdText.{id_text};
 ghost use Rattle.fs_schedule.specs.Words.{Bare};
 ghost use Rattle.fs_schedule.specs.Operands.{file_mode_words, IsFileMode, place_words, IsPlace, entry_words, IsEntry, places_words, ArePlaces, handle_words, IsHandle, opening_words, IsOpening, values_words, AreValues, setting_words, IsSetting};
-ghost use Rattle.fs_schedule.specs.Reading.{Reads, word_of, words_in};
+ghost use Rattle.fs_schedule.specs.Reading.{Reads, ReadsSurely, word_of, words_in};
 
 use crate::operand::{handle_at, id_at, kind_at, mode_at, modes_at, name_at, number_at};
 use crate::unread::Unread;
@@ -91,7 +91,7 @@ fn handle_of(alloc: Global, file: &Word, h: &Word) -> Result<(FileId, u32), Unre
     ensures { Reads handle_words IsHandle result (word_of file.now ∷ word_of h.now ∷ []) }
 {
     let file = id_at(alloc, file)?;
-    let h = handle_at(alloc, h)?;
+    let h = handle_at(h)?;
     Ok((file, h))
 }
 
@@ -115,17 +115,17 @@ pub fn setting_in(alloc: Global, words: &[Word]) -> Result<(FileId, u32, u64, u6
         return Err(Unread::Outside);
     };
     let (file, h) = handle_of(alloc, file, h)?;
-    let (size, stamp) = values_in(alloc, rest)?;
+    let (size, stamp) = values_in(rest)?;
     Ok((file, h, size, stamp))
 }
 
-fn values_in(alloc: Global, words: &[Word]) -> Result<(u64, u64), Unread>
-    ensures { Reads values_words AreValues result (words_in words.now) }
+fn values_in(words: &[Word]) -> Result<(u64, u64), Unread>
+    ensures { ReadsSurely values_words AreValues result (words_in words.now) }
 {
     let [size, stamp] = words else {
         return Err(Unread::Outside);
     };
-    let size = number_at(alloc, u64::MAX, size)?;
-    let stamp = number_at(alloc, u64::MAX, stamp)?;
+    let size = number_at(u64::MAX, size)?;
+    let stamp = number_at(u64::MAX, stamp)?;
     Ok((size, stamp))
 }

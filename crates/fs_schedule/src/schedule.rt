@@ -1,9 +1,10 @@
 //! Schedules, read line by line.
-ghost use Rattle.std.specs.Prelude.{◌≡◌, ◌≤◌, ◌+◌, ℕ, IfOk, IsErrOf};
+ghost use Rattle.std.specs.Prelude.{◌≡◌, ◌≤◌, ◌<◌, ◌+◌, ◌⊎◌, ℕ, true, false, length, IfOk, IfErr, OnOk, IsErrOf};
 ghost use Rattle.std.specs.List.{AllByRecursion};
 ghost use Rattle.fs_schedule.specs.declared.error.Which.{Which as Limited};
-ghost use Rattle.fs_schedule.specs.Spelling.{FitsHead, FitsEvent};
+ghost use Rattle.fs_schedule.specs.Spelling.{FitsHead, FitsEvent, has_many, names_late};
 ghost use Rattle.fs_schedule.specs.Lines.{lines_of};
+ghost use Rattle.fs_schedule.specs.Skew.{IsTimely, IsUntimely};
 ghost use Rattle.fs_schedule.specs.Faults.{AtLine, IsSkewed, AreLinesOf, Passes, HeadPasses, HeadHas, LineHas, AreEventLines, FaultsAt, PassesLimit, IsOutside, IsScheduleText, IsFirstFault};
 
 use crate::cut::next_line;
@@ -33,9 +34,23 @@ pub fn read_schedule(alloc: Global, bytes: &[u8]) -> Result<Schedule, ScheduleEr
         IsFirstFault (IsSkewed line earlier) bytes.now }
 {
     let schedule = read_lines(alloc, bytes)?;
+    within_skew(schedule)
+}
+
+/// A schedule is refused exactly where a reading is more than the skew before an earlier one.
+fn within_skew(schedule: Schedule) -> Result<Schedule, ScheduleError>
+    ensures ok { IfOk result (λ s.
+        (s ≡ schedule) × IsTimely schedule.head schedule.events) }
+    ensures err { IfErr result (λ e. (line : ℕ) × (earlier : ℕ) ×
+        (e ≡ ScheduleError.Skewed line earlier) ×
+        IsUntimely schedule.head schedule.events line earlier) }
+{
     match untimely_line(&schedule) {
         None => Ok(schedule),
-        Some((line, earlier)) => Err(ScheduleError::Skewed { line, earlier }),
+        Some((line, earlier)) => {
+            drop(schedule);
+            Err(ScheduleError::Skewed { line, earlier })
+        }
     }
 }
 
@@ -75,17 +90,45 @@ fn read_head(alloc: Global, line: &[u8]) -> Result<Head, ScheduleError>
     ensures not_skewed { (line earlier : ℕ) →
         IsErrOf result (ScheduleError.Skewed line earlier) → ⊥ }
 {
+    within_length(line, 1)?;
+    match head_at(alloc, line) {
+        Ok(head) => within_servers(head),
+        Err(e) => Err(unread_line(e, 1)),
+    }
+}
+
+/// Why a line is refused that is not read.
+fn unread_line(e: Unread, line: u64) -> ScheduleError
+    ensures outside { e ≡ Unread.Outside → result ≡ ScheduleError.BadLine line }
+    ensures memory { e ≡ Unread.Memory → result ≡ ScheduleError.Memory }
+{
+    match e {
+        Unread::Outside => ScheduleError::BadLine { line },
+        Unread::Memory => ScheduleError::Memory,
+    }
+}
+
+/// The line of this number is refused exactly where it has more bytes than the limit.
+fn within_length(line: &[u8], at: u64) -> Result<(), ScheduleError>
+    ensures short { OnOk result (length line.now ≤ BYTES) }
+    ensures long { IfErr result (λ e.
+        (BYTES < length line.now) × (e ≡ ScheduleError.Limit Limited.Bytes at)) }
+{
     if BYTES < line.len() {
         return Err(ScheduleError::Limit {
             which: Which::Bytes,
-            at: 1,
+            at,
         });
     }
-    let head = match head_at(alloc, line) {
-        Ok(head) => head,
-        Err(Unread::Outside) => return Err(ScheduleError::BadLine { line: 1 }),
-        Err(Unread::Memory) => return Err(ScheduleError::Memory),
-    };
+    Ok(())
+}
+
+/// The first line is refused exactly where its form has more servers than the limit.
+fn within_servers(head: Head) -> Result<Head, ScheduleError>
+    ensures few { IfOk result (λ kept. (kept ≡ head) × (has_many head ≡ false)) }
+    ensures many { IfErr result (λ e.
+        (has_many head ≡ true) × (e ≡ ScheduleError.Limit Limited.Servers 1)) }
+{
     if has_many(head) {
         return Err(ScheduleError::Limit {
             which: Which::Servers,
@@ -129,17 +172,26 @@ fn read_line(alloc: Global, head: Head, before: usize, line: &[u8]) -> Result<Ev
         IsErrOf result (ScheduleError.Skewed line earlier) → ⊥ }
 {
     let at = before as u64 + 2;
-    if BYTES < line.len() {
-        return Err(ScheduleError::Limit {
-            which: Which::Bytes,
-            at,
-        });
+    within_length(line, at)?;
+    match event_at(alloc, head, line) {
+        Ok(event) => within_limits(event, before),
+        Err(e) => Err(unread_line(e, at)),
     }
-    let event = match event_at(alloc, head, line) {
-        Ok(event) => event,
-        Err(Unread::Outside) => return Err(ScheduleError::BadLine { line: at }),
-        Err(Unread::Memory) => return Err(ScheduleError::Memory),
-    };
+}
+
+/// A line behind so many events is refused exactly where its session is above the limit, or where they are as many as a
+/// schedule has.
+fn within_limits(event: Event, before: usize) -> Result<Event, ScheduleError>
+    requires { before ≤ EVENTS }
+    ensures ok { IfOk result (λ e.
+        (e ≡ event) × (names_late event.what ≡ false) × (before < EVENTS)) }
+    ensures err { IfErr result (λ e.
+        ((names_late event.what ≡ true) ×
+        (e ≡ ScheduleError.Limit Limited.Sessions (before + 2))) ⊎
+        ((names_late event.what ≡ false) × (EVENTS ≤ before) ×
+        (e ≡ ScheduleError.Limit Limited.Events (before + 2)))) }
+{
+    let at = before as u64 + 2;
     if names_late(&event.what) {
         drop(event);
         return Err(ScheduleError::Limit {

@@ -1,6 +1,6 @@
 //! Numbers of sessions, which the grammar does not bound.
 ghost use Rattle.std.specs.Prelude.{◌≡◌, ◌∷◌, ℕ, List as Seq, IfSome, IfNone};
-ghost use Rattle.fs_schedule.specs.Reading.{Tells, word_of, IsToldSession};
+ghost use Rattle.fs_schedule.specs.Reading.{TellsSurely, word_of, IsToldSession};
 
 use crate::number::count_up_to;
 use crate::unread::Unread;
@@ -9,7 +9,7 @@ use fs_ident::SESSIONS;
 
 /// The number of a session, `SESSIONS` and one for each greater one.
 pub fn session_at(word: &Word) -> Result<u16, Unread>
-    ensures { Tells IsToldSession result (word_of word.now) }
+    ensures { TellsSurely IsToldSession result (word_of word.now) }
 {
     let Word::Bare(text) = word else {
         return Err(Unread::Outside);

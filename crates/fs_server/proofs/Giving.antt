@@ -1,8 +1,8 @@
 -- An identifier for a new file, and the lease on its life.
-use Rattle.std.proofs.Common.{◌≡◌, ◌==◌, ◌||◌, ℕ, ◌+◌, ◌^◌, leb, Bool, true, false, List, [], ◌∷◌, ◌++◌, length, ap, sym, subst, ◌∙◌, arith}
+use Rattle.std.proofs.Common.{◌≡◌, ◌==◌, ◌||◌, ℕ, ◌+◌, ◌^◌, leb, Bool, true, false, List, [], ◌∷◌, ◌++◌, length, ap, refl, sym, subst, ◌∙◌, arith}
 use Rattle.std.proofs.lemmas.Bool.Decides.{nat_tests}
 use Rattle.std.proofs.lemmas.List.Folds.{list_any-append}
-use Rattle.std.specs.Prelude.{Option, Some, None, option_map}
+use Rattle.std.specs.Prelude.{Option, Some, None, option_map, Ok}
 use Rattle.fs_ident.specs.declared.actor.Session.{Session}
 use Rattle.fs_ident.specs.Ident.{child}
 use Rattle.fs_field.specs.declared.field.Field.TheVariants.{Life}
@@ -11,7 +11,10 @@ use Rattle.fs_field.specs.declared.row.Row.{Row}
 use Rattle.fs_field.specs.Table.{borne_numbers, last_number}
 use Rattle.fs_moderows.specs.Answer.{given_row}
 use Rattle.fs_msg.specs.declared.answer.Grant.{Grant}
+use Rattle.fs_msg.specs.declared.end.End.{End}
 use Rattle.fs_msg.specs.declared.end.End.TheVariants as end
+use Rattle.fs_record.specs.declared.error.FreshError.{FreshError}
+use Rattle.fs_record.specs.declared.error.FreshError.TheVariants as fresh
 use Rattle.fs_record.specs.Fresh.{fresh_number, is_borne}
 use Rattle.fs_record.proofs.NumbersRise.{number_least}
 use Rattle.fs_rows.specs.Granted.{with_rows}
@@ -20,7 +23,7 @@ use Rattle.fs_rows.proofs.Numbers.{given_new}
 use Rattle.fs_server.specs.declared.lent.Lent.{Lent}
 use Rattle.fs_server.specs.declared.state.Server.{Server}
 use Rattle.fs_server.specs.Asks.{Asking, fresh_in, fresh_of, grant_of, with_lease}
-use Rattle.fs_server.specs.Lent.{IsLent, got_by, lent_by, with_leases}
+use Rattle.fs_server.specs.Lent.{IsLent, end_without, got_by, lent_by, with_leases}
 use Rattle.fs_server.specs.Plan.{after_gift}
 use Rattle.fs_server.specs.Rows.{AreRows}
 use Rattle.fs_server.specs.Server.{next_number, end_of}
@@ -83,9 +86,21 @@ spent_fresh by dir id b (Some k) a here e of full =
     grind (arith, nat_tests)
 
 -- the directory has no number left
-pub none_left : (by : Session) (dir at : List ℕ) (b : Bool) (lent : Lent) (s : Server) → b ≡ true → fresh_number s.records dir (borne_numbers dir (with_rows lent.rows s.rows)) ≡ None → at ≡ dir
+none_left : (by : Session) (dir at : List ℕ) (b : Bool) (lent : Lent) (s : Server) → b ≡ true → fresh_number s.records dir (borne_numbers dir (with_rows lent.rows s.rows)) ≡ None → at ≡ dir
     → got_by (record { lent = lent; fresh = None; gift = None; end = end.NoIds at }) s ≡ fresh_in by dir b (lent_by lent end.All s)
 none_left by dir at b lent s here of e =
     ap (λ d. got_by (record { lent = lent; fresh = None; gift = None; end = end.NoIds d }) s) e
     ∙ sym (ap (λ p. fresh_of by dir p (lent_by lent end.All s)) of)
     ∙ sym (ap (λ c. fresh_in by dir c (lent_by lent end.All s)) here)
+
+-- no identifier is given, for either of the two reasons
+pub ends_without : (by : Session) (dir at : List ℕ) (b : Bool) (none : FreshError) (e : End) (lent : Lent) (s : Server) → (none ≡ fresh.NoDir → b ≡ false) → (none ≡ fresh.NoIds → (b ≡ true) × (fresh_number s.records dir (borne_numbers dir (with_rows lent.rows s.rows)) ≡ None)) → Ok e ≡ end_without none at → at ≡ dir
+    → got_by (record { lent = lent; fresh = None; gift = None; end = e }) s ≡ fresh_in by dir b (lent_by lent end.All s)
+ends_without by dir at b fresh.NoDir e lent s dirs ids h q =
+    let all : e ≡ end.All = cc in
+    ap (λ d. got_by (record { lent = lent; fresh = None; gift = None; end = d }) s) all ∙ sym (ap (λ c. fresh_in by dir c (lent_by lent end.All s)) (dirs refl))
+ends_without by dir at b fresh.NoIds e lent s dirs ids h q =
+    let full : e ≡ end.NoIds at = cc in
+    let left = ids refl in
+    ap (λ d. got_by (record { lent = lent; fresh = None; gift = None; end = d }) s) full ∙ none_left by dir at b lent s left.0 left.1 q
+ends_without by dir at b fresh.Memory e lent s dirs ids h q = absurd (cc)

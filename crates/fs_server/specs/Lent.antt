@@ -1,5 +1,5 @@
 -- Leases that a question gets, before anything is changed.
-use Rattle.std.specs.Prelude.{◌≡◌, ◌+◌, ◌≤◌, List, length, None}
+use Rattle.std.specs.Prelude.{◌≡◌, ◌+◌, ◌≤◌, ℕ, List, length, None, Result, Ok, Err}
 use Rattle.std.specs.List.{find}
 use Rattle.fs_ident.specs.declared.actor.LeaseNo.{LeaseNo}
 use Rattle.fs_ident.specs.declared.actor.Session.{Session}
@@ -11,6 +11,11 @@ use Rattle.fs_rows.specs.Granted.{with_rows}
 use Rattle.fs_record.specs.ValueOf.{value_of}
 use Rattle.fs_msg.specs.declared.answer.Grant.{Grant}
 use Rattle.fs_msg.specs.declared.end.End.{End}
+use Rattle.fs_msg.specs.declared.end.End.TheVariants as end
+use Rattle.fs_msg.specs.declared.core_error.CoreError.{CoreError}
+use Rattle.fs_msg.specs.declared.core_error.CoreError.TheVariants as error
+use Rattle.fs_record.specs.declared.error.FreshError.{FreshError}
+use Rattle.fs_record.specs.declared.error.FreshError.TheVariants as fresh
 use Rattle.fs_server.specs.declared.fresh.Got.{Got}
 use Rattle.fs_server.specs.declared.lent.Lent.{Lent}
 use Rattle.fs_server.specs.declared.state.Server.{Server}
@@ -39,6 +44,12 @@ pub record IsLent (by : Session) (rows : List Row) (s : Server) : Type 0 where
 -- what a session is told of the lease of this number
 abbrev pub numbered_grant : LeaseNo → Session → Field → LeaseKind → Server → Grant
 numbered_grant number by field kind s = record { no = number; field = field; kind = kind; until = end_of s; value = value_of s.records by field }
+
+-- how a question ends that gets no identifier below the directory
+abbrev pub end_without : FreshError → List ℕ → Result End CoreError
+end_without fresh.NoDir dir = Ok end.All
+end_without fresh.NoIds dir = Ok (end.NoIds dir)
+end_without fresh.Memory dir = Err error.Memory
 
 -- the server and the answer where these leases are given
 abbrev pub lent_by : Lent → End → Server → Asking

@@ -9,7 +9,7 @@ ghost use Rattle.fs_msg.specs.declared.end.End.TheVariants.{All};
 ghost use Rattle.fs_record.specs.Fresh.{fresh_number, is_borne, is_directory};
 ghost use Rattle.fs_rows.specs.Granted.{with_rows};
 ghost use Rattle.fs_server.specs.Asks.{ask_fresh, fresh_for, fresh_in, fresh_of, recalls_at};
-ghost use Rattle.fs_server.specs.Lent.{IsLent, IsReady, got_by, lent_by, with_leases};
+ghost use Rattle.fs_server.specs.Lent.{IsLent, IsReady, end_without, got_by, lent_by, with_leases};
 
 use crate::begun::Begun;
 use crate::lent::{Lent, lend};
@@ -122,12 +122,22 @@ fn fresh_in(
     let borne = borne(alloc, at, dir, &lent)?;
     match at.records().fresh_id(alloc, dir, &borne) {
         Ok(id) => give(alloc, at, by, dir, id, lent),
-        Err(FreshError::NoDir) => Ok(without(lent, End::All)),
-        Err(FreshError::NoIds) => {
+        Err(none) => {
             let dir = dir.copy(alloc)?;
-            Ok(without(lent, End::NoIds { dir }))
+            let end = end_without(none, dir)?;
+            Ok(without(lent, end))
         }
-        Err(FreshError::Memory) => Err(CoreError::Memory),
+    }
+}
+
+/// How a question ends that gets no identifier below the directory.
+fn end_without(none: FreshError, dir: FileId) -> Result<End, CoreError>
+    ensures { result ≡ end_without none dir }
+{
+    match none {
+        FreshError::NoDir => Ok(End::All),
+        FreshError::NoIds => Ok(End::NoIds { dir }),
+        FreshError::Memory => Err(CoreError::Memory),
     }
 }
 

@@ -8,7 +8,7 @@ pub returns-in_err-file : goal.returns-in_err-file
 returns-in_err-file c = reads_err opening_words IsOpening _ (words_in c.args.words.now) c.in_err-file.field-0.0 c.from_residual.ensures (λ o p fits e. c.in_err-file.ensures o (p.0, p.1) (fits.0, fits.1) (first_two _ c.args.words.now _ _ _ c.in-len2-up.len_at_least e))
 
 pub returns-in_err-modes : goal.returns-in_err-modes
-returns-in_err-modes c = reads_err opening_words IsOpening _ (words_in c.args.words.now) c.in_err-modes.field-0.0 c.from_residual-in_err-modes.ensures (λ o p fits e. c.in_err-modes.ensures o p.2 fits.2 (behind_two c.args.words.now _ _ _ c.in-len2-up.len_at_least e))
+returns-in_err-modes c = reads_err opening_words IsOpening _ (words_in c.args.words.now) c.in_err-modes.field-0.0 c.from_residual-in_err-modes.ensures (λ o p fits e. c.in_err-modes.ensures.1 p.2 fits.2 (behind_two c.args.words.now _ _ _ c.in-len2-up.len_at_least e))
 
 pub returns : goal.returns
 returns c =

@@ -8,7 +8,7 @@ pub returns-in_err-file : goal.returns-in_err-file
 returns-in_err-file c = reads_err setting_words IsSetting _ (words_in c.args.words.now) c.in_err-file.field-0.0 c.from_residual.ensures (λ o p fits e. c.in_err-file.ensures o (p.0, p.1) (fits.0, fits.1) (first_two _ c.args.words.now _ _ _ c.in-len2-up.len_at_least e))
 
 pub returns-in_err-size : goal.returns-in_err-size
-returns-in_err-size c = reads_err setting_words IsSetting _ (words_in c.args.words.now) c.in_err-size.field-0.0 c.from_residual-in_err-size.ensures (λ o p fits e. c.in_err-size.ensures o (p.2, p.3) (fits.2, fits.3) (behind_two c.args.words.now _ _ _ c.in-len2-up.len_at_least e))
+returns-in_err-size c = reads_err setting_words IsSetting _ (words_in c.args.words.now) c.in_err-size.field-0.0 c.from_residual-in_err-size.ensures (λ o p fits e. c.in_err-size.ensures.1 (p.2, p.3) (fits.2, fits.3) (behind_two c.args.words.now _ _ _ c.in-len2-up.len_at_least e))
 
 pub returns : goal.returns
 returns c =

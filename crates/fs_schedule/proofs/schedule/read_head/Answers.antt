@@ -1,22 +1,14 @@
-use Rattle.std.proofs.Common.{◌≡◌, sym, ◌∙◌, arith}
-use Rattle.fs_schedule.specs.declared.error.Which.TheVariants.{Servers}
-use Rattle.fs_schedule.proofs.Reading.{no_head_line, many, many_here, few}
-use Rattle.fs_schedule.proofs.Single.{fits_form}
+use Rattle.std.proofs.Common.{◌≡◌, sym}
+use Rattle.fs_schedule.specs.declared.error.ScheduleError.TheVariants.{BadLine}
+use Rattle.fs_schedule.proofs.Reading.{no_head_line}
+use Rattle.fs_schedule.proofs.Limited.{head_fits, unread_outside}
 use Rattle.fs_schedule.proofs.schedule.read_head.Goals as goal
 
-pub returns-in-Err-Outside-clause-bad_line : goal.returns-in-Err-Outside-clause-bad_line
-returns-in-Err-Outside-clause-bad_line c = λ n e.
-    let m : 1 ≡ n = cc in
-    (sym m, (omega arith, λ x is. no_head_line x c.args.line.now (c.in-Err-Outside.ensures c.in-Err-Outside.field-0-is) is))
+pub returns-in-Ok-clause-form : goal.returns-in-Ok-clause-form
+returns-in-Ok-clause-form c = head_fits c.in-Ok.head c.args.line.now c.within_servers.result c.in-Ok.ensures c.within_servers.ensures.few
 
-pub returns-then-has_many-clause-limit : goal.returns-then-has_many-clause-limit
-returns-then-has_many-clause-limit c = λ which n e.
-    let q : Servers ≡ which = cc in
-    let m : 1 ≡ n = cc in
-    many_here n c.args.line.now which q (sym m) (omega arith) (many c.in-Ok.head c.args.line.now c.in-Ok.ensures (sym c.has_many.ensures ∙ c.if-has_many.true))
-
-pub returns-clause-ok : goal.returns-clause-ok
-returns-clause-ok c = (omega arith, few c.in-Ok.head c.args.line.now c.in-Ok.ensures (sym c.has_many.ensures ∙ c.if-has_many.false))
-
-pub returns-clause-form : goal.returns-clause-form
-returns-clause-form c = fits_form c.in-Ok.head c.args.line.now (few c.in-Ok.head c.args.line.now c.in-Ok.ensures (sym c.has_many.ensures ∙ c.if-has_many.false))
+pub returns-in-Err-clause-bad_line : goal.returns-in-Err-clause-bad_line
+returns-in-Err-clause-bad_line c = λ n h.
+    let r : c.unread_line.result ≡ BadLine n = cc in
+    let q = unread_outside c.in-Err.e c.unread_line.result 1 n c.unread_line.ensures.outside c.unread_line.ensures.memory r in
+    (sym q.1, (c.in_ok-within_length.ensures.short, λ x is. no_head_line x c.args.line.now (c.in-Err.ensures q.0) is))
