@@ -1,0 +1,1 @@
+"""What the tools share. Nothing here is part of any proof."""
