@@ -5,13 +5,14 @@ ghost use Rattle.fs_rows.specs.Table.{IsTable};
 ghost use Rattle.fs_moderows.specs.Table.{IsModeTable};
 
 mod moving;
+mod reading;
 mod small_tables;
 
-use crate::{same, shows};
+use crate::forms::{kept_by, one, same, shows, spend, with};
 use fs_field::{Asked, Field, LeaseKind, Row, Unknown};
 use fs_ident::{FileId, LeaseNo, List, Memory, Session, Twin, TxnNo};
 use fs_moderows::{
-    Live, ModeRows, asking_for_other_is_safe, asking_for_self_is_safe, changes_by_rows_are_safe,
+    ModeRows, asking_for_other_is_safe, asking_for_self_is_safe, changes_by_rows_are_safe,
     kept_promises_are_without_conflict, moved_rows_are_safe, promises_are_what_others_have,
     promises_stay_kept, reaps_are_safe, rows_stay_without_conflict,
 };
@@ -50,6 +51,8 @@ const FALSE: Asked = Asked::Granted { value: Some(false) };
 
 const GIVEN: Asked = Asked::Granted { value: None };
 
+const LOCKED: Asked = Asked::Locked { txn: TXN };
+
 fn number(count: u64) -> LeaseNo {
     LeaseNo { server: 0, count }
 }
@@ -83,10 +86,12 @@ fn ask(
     }
     let file = FileId::root(alloc);
     let asker = Session(session);
-    match question {
-        Question::SelfW => Ok(rows.ask_self(alloc, selves, no, asker, &file, m, 100)?),
-        Question::Other => Ok(rows.ask_other(alloc, selves, no, asker, &file, m, 100)?),
-    }
+    let asked = match question {
+        Question::SelfW => rows.ask_self(alloc, selves, no, asker, &file, m, 100),
+        Question::Other => rows.ask_other(alloc, selves, no, asker, &file, m, 100),
+    };
+    spend(file);
+    Ok(asked?)
 }
 
 /// A question about writing: the number of the lease, the session, and what it would know or change.
@@ -113,16 +118,36 @@ fn blocker(
     selves: &List<(Session, Modes)>,
     session: u16,
 ) -> Option<LeaseNo> {
-    rows.may_reap(selves, Session(session), &FileId::root(alloc))
+    let root = FileId::root(alloc);
+    let blocker = rows.may_reap(selves, Session(session), &root);
+    spend(root);
+    blocker
 }
 
 /// These modes of each of the sessions.
 fn opens(alloc: Global, sessions: &[u16], modes: Modes) -> Result<List<(Session, Modes)>, Fail> {
     let mut told = List::new(alloc);
+    let done = open_each(&mut told, sessions, modes);
+    kept_by(told, done)
+}
+
+fn open_each(
+    told: &mut List<(Session, Modes)>,
+    sessions: &[u16],
+    modes: Modes,
+) -> Result<(), Memory> {
     for s in sessions {
         told.push((Session(*s), modes))?;
     }
-    Ok(told)
+    Ok(())
+}
+
+/// A new table, and these modes of each of the sessions.
+type Table = (ModeRows, List<(Session, Modes)>);
+
+fn table(alloc: Global, sessions: &[u16], modes: Modes) -> Result<Table, Fail> {
+    let selves = opens(alloc, sessions, modes)?;
+    Ok((ModeRows::new(alloc), selves))
 }
 
 /// The first two have the mode.
@@ -144,106 +169,17 @@ fn both_write(
 /// Each of the two may be gone as long as the other stays.
 #[test]
 fn one_who_stays_keeps_a_promise(rt: HostRuntime) -> Result<(), Fail> {
-    let mut rows = ModeRows::new(rt.alloc());
-    let both = opens(rt.alloc(), &[1, 2], WRITES)?;
-    both_write(&rt, rt.alloc(), &mut rows, &both)
-}
-
-/// The row that tells the third session that the first two write.
-fn told_third(alloc: Global) -> Result<ModeRows, Fail> {
-    let mut rows = ModeRows::new(alloc);
-    let both = opens(alloc, &[1, 2], WRITES)?;
-    ask(alloc, &mut rows, &both, 1, 3, Question::Other, Mode::AccW)?;
-    Ok(rows)
-}
-
-/// The answer to the first session, of which alone it is told that it writes, and that wants to stop.
-fn own_answer(
-    alloc: Global,
-    live: &Live<'_>,
-    one: &List<(Session, Modes)>,
-) -> Result<Asked, Memory> {
-    let file = FileId::root(alloc);
-    let own = Field::SelfW(file.copy(alloc)?, Mode::AccW);
-    Ok(live.answer_self(one, Session(1), &own, &file, Mode::AccW))
-}
-
-/// The answer to the second session, which would know whether another writes.
-fn other_answer(
-    alloc: Global,
-    live: &Live<'_>,
-    one: &List<(Session, Modes)>,
-) -> Result<Asked, Memory> {
-    let file = FileId::root(alloc);
-    let others = Field::Other(file.copy(alloc)?, Mode::AccW);
-    Ok(live.answer_other(one, Session(2), &others, &file, Mode::AccW))
-}
-
-const ON: &str = "List { items: [(LeaseNo { server: 0, count: 1 }, Session(3))] }";
-
-/// What is read of the field of the row before that is over.
-fn reads_field(rt: &impl Abort, alloc: Global, live: &Live<'_>, field: &Field) -> Result<(), Fail> {
-    let holds = live.holds(number(1), Session(3), field, LeaseKind::Shared);
-    same(rt, holds, true);
-    shows(rt, alloc, &live.unlocked_on(alloc, field)?, ON)
-}
-
-/// How many numbers below the root the rows tell.
-fn borne(alloc: Global, live: &Live<'_>) -> Result<usize, Memory> {
-    let root = FileId::root(alloc);
-    Ok(live.borne(alloc, &root)?.len())
-}
-
-/// The row, as it is read before it is over.
-fn reads_row(rt: &impl Abort, alloc: Global, live: &Live<'_>) -> Result<(), Fail> {
-    same(rt, live.has(number(1)), true);
-    same(rt, live.row(number(1)).is_some(), true);
-    same(rt, borne(alloc, live)?, 0);
-    let others = Field::Other(FileId::root(alloc), Mode::AccW);
-    reads_field(rt, alloc, live, &others)
-}
-
-/// What stands against a lease while the row is read, and what stands against it no more.
-fn stands_against(
-    rt: &impl Abort,
-    alloc: Global,
-    rows: &ModeRows,
-    one: &List<(Session, Modes)>,
-) -> Result<(), Fail> {
-    let live = rows.live(109, 10);
-    same(rt, own_answer(alloc, &live, one)?, waits(1));
-    same(rt, other_answer(alloc, &live, one)?, TRUE);
-    same(
-        rt,
-        live.may_reap(one, Session(1), &FileId::root(alloc)),
-        Some(number(1)),
-    );
-    let over = rows.live(110, 10);
-    same(rt, own_answer(alloc, &over, one)?, GIVEN);
-    same(
-        rt,
-        over.may_reap(one, Session(1), &FileId::root(alloc)),
-        None,
-    );
-    same(rt, over.has(number(1)), false);
-    Ok(())
-}
-
-/// What is read at a reading at which a row is over: nothing stands against a lease then, and no row is dropped.
-#[test]
-fn rows_are_read_at_a_reading(rt: HostRuntime) -> Result<(), Fail> {
-    let rows = told_third(rt.alloc())?;
-    let one = opens(rt.alloc(), &[1], WRITES)?;
-    stands_against(&rt, rt.alloc(), &rows, &one)?;
-    reads_row(&rt, rt.alloc(), &rows.live(109, 10))
+    let (mut rows, both) = table(rt.alloc(), &[1, 2], WRITES)?;
+    let done = both_write(&rt, rt.alloc(), &mut rows, &both);
+    spend((rows, both));
+    done
 }
 
 /// A row of the first session, alone.
 fn own_row(alloc: Global) -> Result<List<Row>, Fail>
     ensures { IfOk result (λ rows. IsModeTable (with_rows rows [])) }
 {
-    let mut rows = List::new(alloc);
-    rows.push(Row {
+    let row = Row {
         no: number(1),
         session: Session(1),
         field: Field::SelfW(FileId::root(alloc), Mode::AccW),
@@ -251,16 +187,15 @@ fn own_row(alloc: Global) -> Result<List<Row>, Fail>
         until: 300,
         promise: None,
         lock: None,
-    })?;
-    Ok(rows)
+    };
+    Ok(one(alloc, row)?)
 }
 
 /// The same of the other table.
 fn life_row(alloc: Global) -> Result<List<Row>, Fail>
     ensures { IfOk result (λ rows. IsTable (with_rows rows [])) }
 {
-    let mut rows = List::new(alloc);
-    rows.push(Row {
+    let row = Row {
         no: number(2),
         session: Session(1),
         field: Field::Life(FileId::root(alloc)),
@@ -268,18 +203,27 @@ fn life_row(alloc: Global) -> Result<List<Row>, Fail>
         until: 300,
         promise: None,
         lock: None,
-    })?;
-    Ok(rows)
+    };
+    Ok(one(alloc, row)?)
 }
 
-/// Whether each row is in its table once they are granted.
+/// Whether each of these rows is in its table once they are granted.
+fn grants(alloc: Global, own: List<Row>, life: List<Row>) -> Result<(bool, bool), Fail>
+    requires on { IsModeTable (with_rows own []) }
+    requires off { IsTable (with_rows life []) }
+{
+    let mut on = ModeRows::new(alloc);
+    let mut off = Rows::new(alloc);
+    let done = on.grant_all(alloc, 110, 10, own, &mut off, life);
+    let are = (on.row(number(1)).is_some(), off.row(number(2)).is_some());
+    spend((on, off));
+    kept_by(are, done)
+}
+
 fn grants_both(alloc: Global) -> Result<(bool, bool), Fail> {
     let own = own_row(alloc)?;
     let life = life_row(alloc)?;
-    let mut on = ModeRows::new(alloc);
-    let mut off = Rows::new(alloc);
-    on.grant_all(alloc, 110, 10, own, &mut off, life)?;
-    Ok((on.row(number(1)).is_some(), off.row(number(2)).is_some()))
+    grants(alloc, own, life)
 }
 
 #[test]
@@ -307,8 +251,22 @@ fn none_writes(
 /// Another waits to turn the mode on, and on another mode none waits.
 #[test]
 fn that_none_has_a_mode_is_kept(rt: HostRuntime) -> Result<(), Fail> {
-    let mut rows = ModeRows::new(rt.alloc());
-    none_writes(&rt, rt.alloc(), &mut rows, &List::new(rt.alloc()))
+    let (mut rows, none) = table(rt.alloc(), &[], WRITES)?;
+    let done = none_writes(&rt, rt.alloc(), &mut rows, &none);
+    spend((rows, none));
+    done
+}
+
+/// What keeps the first session from losing its handles on the root's first child.
+fn blocker_below(
+    alloc: Global,
+    rows: &ModeRows,
+    first: &List<(Session, Modes)>,
+) -> Result<Option<LeaseNo>, Fail> {
+    let child = FileId::root(alloc).child(alloc, 1)?;
+    let blocker = rows.may_reap(first, Session(1), &child);
+    spend(child);
+    Ok(blocker)
 }
 
 fn two_modes(
@@ -317,29 +275,22 @@ fn two_modes(
     rows: &mut ModeRows,
     first: &List<(Session, Modes)>,
 ) -> Result<(), Fail> {
-    same(
-        rt,
-        ask(alloc, rows, first, 3, 2, Question::Other, Mode::AccR)?,
-        TRUE,
-    );
-    same(
-        rt,
-        ask(alloc, rows, first, 2, 2, Question::Other, Mode::AccW)?,
-        TRUE,
-    );
+    let reads = ask(alloc, rows, first, 3, 2, Question::Other, Mode::AccR)?;
+    let writes = ask(alloc, rows, first, 2, 2, Question::Other, Mode::AccW)?;
+    same(rt, (reads, writes), (TRUE, TRUE));
     same(rt, blocker(alloc, rows, first, 1), Some(number(2)));
     same(rt, blocker(alloc, rows, first, 2), None);
-    let child = FileId::root(alloc).child(alloc, 1)?;
-    same(rt, rows.may_reap(first, Session(1), &child), None);
+    same(rt, blocker_below(alloc, rows, first)?, None);
     Ok(())
 }
 
 /// The least of the rows of two modes, whatever the order of the modes is.
 #[test]
 fn a_reap_waits_for_the_least_of_all_modes(rt: HostRuntime) -> Result<(), Fail> {
-    let mut rows = ModeRows::new(rt.alloc());
-    let first = opens(rt.alloc(), &[1], READS_AND_WRITES)?;
-    two_modes(&rt, rt.alloc(), &mut rows, &first)
+    let (mut rows, first) = table(rt.alloc(), &[1], READS_AND_WRITES)?;
+    let done = two_modes(&rt, rt.alloc(), &mut rows, &first);
+    spend((rows, first));
+    done
 }
 
 const ROW: &str = "ModeRows { rows: List { items: [Row { no: LeaseNo { server: 0, count: 1 }, \
@@ -347,31 +298,26 @@ const ROW: &str = "ModeRows { rows: List { items: [Row { no: LeaseNo { server: 0
     promise: None, lock: Some(TxnNo { server: 0, count: 7 }) }] } }";
 
 /// A row that a transaction keeps.
-fn keeps(
+fn keeps(rt: &impl Abort, rows: &mut ModeRows) {
+    same(rt, rows.renew(number(1), 200), Ok(()));
+    let unknown = Unknown { no: number(2) };
+    same(rt, rows.renew(number(2), 200), Err(unknown));
+    same(rt, rows.lock(number(1), TXN), true);
+    same(rt, rows.lock(number(1), TXN), false);
+}
+
+/// Others wait for it, and it is in a copy.
+fn is_kept(
     rt: &impl Abort,
     alloc: Global,
     rows: &mut ModeRows,
     none: &List<(Session, Modes)>,
 ) -> Result<(), Fail> {
     asks(rt, alloc, rows, none, (1, 1, Question::SelfW), GIVEN)?;
-    same(rt, rows.renew(number(1), 200), Ok(()));
-    same(
-        rt,
-        rows.renew(number(2), 200),
-        Err(Unknown { no: number(2) }),
-    );
-    same(rt, rows.lock(number(1), TXN), true);
-    same(rt, rows.lock(number(1), TXN), false);
-    asks(
-        rt,
-        alloc,
-        rows,
-        none,
-        (2, 2, Question::SelfW),
-        Asked::Locked { txn: TXN },
-    )?;
+    keeps(rt, rows);
+    asks(rt, alloc, rows, none, (2, 2, Question::SelfW), LOCKED)?;
     asks(rt, alloc, rows, none, (2, 2, Question::Other), waits(1))?;
-    shows(rt, alloc, &rows.copy(alloc)?, ROW)
+    shows(rt, alloc, rows.copy(alloc)?, ROW)
 }
 
 /// It lapses only once it is kept no more.
@@ -383,55 +329,80 @@ fn lapses(rt: &impl Abort, rows: &mut ModeRows) {
     same(rt, rows.release(number(1)), true);
 }
 
-#[test]
-fn a_row_from_its_grant_to_its_release(rt: HostRuntime) -> Result<(), Fail> {
-    let mut rows = ModeRows::new(rt.alloc());
-    keeps(&rt, rt.alloc(), &mut rows, &List::new(rt.alloc()))?;
-    lapses(&rt, &mut rows);
+fn goes_by(
+    rt: &impl Abort,
+    alloc: Global,
+    rows: &mut ModeRows,
+    none: &List<(Session, Modes)>,
+) -> Result<(), Fail> {
+    is_kept(rt, alloc, rows, none)?;
+    lapses(rt, rows);
     Ok(())
 }
 
+#[test]
+fn a_row_from_its_grant_to_its_release(rt: HostRuntime) -> Result<(), Fail> {
+    let (mut rows, none) = table(rt.alloc(), &[], WRITES)?;
+    let done = goes_by(&rt, rt.alloc(), &mut rows, &none);
+    spend((rows, none));
+    done
+}
+
 /// The rows with one of the first session on the third file, on what others deny.
-fn third_file(alloc: Global, file: &FileId) -> Result<ModeRows, Memory> {
-    let mut rows = ModeRows::new(alloc);
+fn third_file(alloc: Global, file: &FileId) -> Result<ModeRows, Fail> {
     let none = List::new(alloc);
-    rows.ask_other(alloc, &none, number(1), Session(1), file, Mode::DenyR, 100)?;
-    Ok(rows)
+    let mut rows = ModeRows::new(alloc);
+    let asked = rows.ask_other(alloc, &none, number(1), Session(1), file, Mode::DenyR, 100);
+    spend(none);
+    kept_by(rows, asked)
 }
 
 fn tell(rt: &impl Abort, alloc: Global, rows: &ModeRows, field: &Field) -> Result<(), Fail> {
     let by = Session(1);
-    same(
-        rt,
-        rows.holds(number(1), by, field, LeaseKind::Shared),
-        true,
-    );
-    same(
-        rt,
-        rows.holds(number(1), by, field, LeaseKind::Exclusive),
-        false,
-    );
-    let on = rows.on(alloc, field)?;
-    shows(
-        rt,
-        alloc,
-        &on,
-        "List { items: [(LeaseNo { server: 0, count: 1 }, Session(1))] }",
-    )?;
-    shows(
-        rt,
-        alloc,
-        &rows.borne(alloc, &FileId::root(alloc))?,
-        "List { items: [3] }",
-    )
+    let shared = rows.holds(number(1), by, field, LeaseKind::Shared);
+    let exclusive = rows.holds(number(1), by, field, LeaseKind::Exclusive);
+    same(rt, (shared, exclusive), (true, false));
+    shows(rt, alloc, rows.on(alloc, field)?, FIRST_ON)?;
+    shows(rt, alloc, all_borne(alloc, rows)?, "List { items: [3] }")
+}
+
+const FIRST_ON: &str = "List { items: [(LeaseNo { server: 0, count: 1 }, Session(1))] }";
+
+/// The numbers below the root that the rows tell.
+fn all_borne(alloc: Global, rows: &ModeRows) -> Result<List<u32>, Memory> {
+    let root = FileId::root(alloc);
+    let borne = rows.borne(alloc, &root);
+    spend(root);
+    borne
+}
+
+/// What the rows with one on the file tell.
+fn tell_of(rt: &impl Abort, alloc: Global, file: &FileId, field: &Field) -> Result<(), Fail> {
+    let rows = third_file(alloc, file)?;
+    let done = tell(rt, alloc, &rows, field);
+    spend(rows);
+    done
+}
+
+fn copy_of(alloc: Global, file: &FileId) -> Result<FileId, Fail> {
+    Ok(file.copy(alloc)?)
+}
+
+/// The third file, and what others deny of it.
+fn third_field(alloc: Global) -> Result<(FileId, Field), Fail> {
+    let file = FileId::root(alloc).child(alloc, 3)?;
+    let twin = copy_of(alloc, &file);
+    let (file, twin) = with(file, twin)?;
+    Ok((file, Field::Other(twin, Mode::DenyR)))
 }
 
 /// What the rows tell of fields and files.
 #[test]
 fn rows_tell_whole_answers(rt: HostRuntime) -> Result<(), Fail> {
-    let file = FileId::root(rt.alloc()).child(rt.alloc(), 3)?;
-    let rows = third_file(rt.alloc(), &file)?;
-    tell(&rt, rt.alloc(), &rows, &Field::Other(file, Mode::DenyR))
+    let (file, field) = third_field(rt.alloc())?;
+    let done = tell_of(&rt, rt.alloc(), &file, &field);
+    spend((file, field));
+    done
 }
 
 #[test]

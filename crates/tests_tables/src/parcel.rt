@@ -9,6 +9,7 @@ mod moving;
 mod refusing;
 mod shown;
 
+use crate::forms::{kept, spend, with};
 use crate::moderows::{TXN, WRITES};
 use fs_field::{Field, LeaseKind, Row};
 use fs_ident::{FileId, Kind, LeaseNo, List, Name, Session, TxnNo};
@@ -93,9 +94,14 @@ fn lock(on: On) -> Option<TxnNo> {
 
 fn record(alloc: Global, names: &[u8], writers: &[u16]) -> Result<Record, Fail> {
     let mut node = Node::new(alloc, Kind::Dir, None);
-    add_names(alloc, &mut node, names)?;
-    add_writers(&mut node, writers)?;
+    let done = fill(alloc, &mut node, names, writers);
+    let node = kept(node, done)?;
     Ok(Record { node, next: 1 })
+}
+
+fn fill(alloc: Global, node: &mut Node, names: &[u8], writers: &[u16]) -> Result<(), Fail> {
+    add_names(alloc, node, names)?;
+    add_writers(node, writers)
 }
 
 fn add_names(alloc: Global, node: &mut Node, names: &[u8]) -> Result<(), Fail> {
@@ -117,44 +123,97 @@ fn add_writers(node: &mut Node, writers: &[u16]) -> Result<(), Fail> {
     Ok(())
 }
 
-fn records(alloc: Global, kept: &[Kept]) -> Result<List<(FileId, Record)>, Fail> {
+fn records(alloc: Global, told: &[Kept]) -> Result<List<(FileId, Record)>, Fail> {
     let mut records = List::new(alloc);
-    for (file, names, writers) in kept {
-        records.push((id(alloc, file)?, record(alloc, names, writers)?))?;
+    let done = add_records(alloc, &mut records, told);
+    kept(records, done)
+}
+
+fn add_records(
+    alloc: Global,
+    records: &mut List<(FileId, Record)>,
+    told: &[Kept],
+) -> Result<(), Fail> {
+    for (file, names, writers) in told {
+        let file = id(alloc, file)?;
+        let file_and_record = with(file, record(alloc, names, writers))?;
+        records.push(file_and_record)?;
     }
-    Ok(records)
+    Ok(())
 }
 
 pub(crate) fn rows(alloc: Global, told: &[Told]) -> Result<List<Row>, Fail> {
     let mut rows = List::new(alloc);
-    for one in told {
-        rows.push(row(alloc, *one)?)?;
-    }
-    Ok(rows)
+    let done = add_rows(alloc, &mut rows, told);
+    kept(rows, done)
 }
 
-pub(crate) fn piece(
+fn add_rows(alloc: Global, rows: &mut List<Row>, told: &[Told]) -> Result<(), Fail> {
+    for one in told {
+        let row = row(alloc, *one)?;
+        rows.push(row)?;
+    }
+    Ok(())
+}
+
+/// Which identifiers are given: places, and whether what begins with them is.
+fn places(alloc: Global, places: &[(&str, bool)]) -> Result<List<(FileId, bool)>, Fail> {
+    let mut given = List::new(alloc);
+    let done = add_places(alloc, &mut given, places);
+    kept(given, done)
+}
+
+fn add_places(
+    alloc: Global,
+    given: &mut List<(FileId, bool)>,
+    places: &[(&str, bool)],
+) -> Result<(), Fail> {
+    for (place, value) in places {
+        let place = id(alloc, place)?;
+        given.push((place, *value))?;
+    }
+    Ok(())
+}
+
+pub(crate) fn piece(alloc: Global, prefix: &str, told: &[(&str, bool)]) -> Result<MapPiece, Fail> {
+    let given = places(alloc, told)?;
+    let (given, prefix) = with(given, id(alloc, prefix))?;
+    Ok(MapPiece { prefix, given })
+}
+
+fn parcel(alloc: Global, sent: &Sent) -> Result<Parcel, Fail> {
+    let (prefix, given, told_records, told) = sent;
+    let piece = piece(alloc, prefix, given)?;
+    let (piece, inside) = with(piece, contents(alloc, prefix, told_records, told))?;
+    let (prefix, (records, rows)) = inside;
+    Ok(Parcel {
+        prefix,
+        piece,
+        records,
+        rows,
+    })
+}
+
+/// The prefix, the records and the rows of a parcel.
+type Contents = (FileId, (List<(FileId, Record)>, List<Row>));
+
+fn contents(
     alloc: Global,
     prefix: &str,
-    places: &[(&str, bool)],
-) -> Result<MapPiece, Fail> {
-    let mut given = List::new(alloc);
-    for (place, value) in places {
-        given.push((id(alloc, place)?, *value))?;
-    }
-    Ok(MapPiece {
-        prefix: id(alloc, prefix)?,
-        given,
-    })
+    told_records: &[Kept],
+    told: &[Told],
+) -> Result<Contents, Fail> {
+    let prefix = id(alloc, prefix)?;
+    with(prefix, records_and_rows(alloc, told_records, told))
 }
 
-fn parcel(alloc: Global, (prefix, given, kept, told): Sent) -> Result<Parcel, Fail> {
-    Ok(Parcel {
-        prefix: id(alloc, prefix)?,
-        piece: piece(alloc, prefix, given)?,
-        records: records(alloc, kept)?,
-        rows: rows(alloc, told)?,
-    })
+fn records_and_rows(
+    alloc: Global,
+    told_records: &[Kept],
+    told: &[Told],
+) -> Result<(List<(FileId, Record)>, List<Row>), Fail> {
+    let records = records(alloc, told_records)?;
+    with(records, rows(alloc, told))
 }
 
 /// A server: its number and its tables.
@@ -171,15 +230,34 @@ struct Server {
 fn begun(alloc: Global, me: u8, other: u8) -> Result<Server, Fail>
     ensures { IfOk result (λ s. AreRows (both s.rows s.modes)) }
 {
-    let mut map = FileMap::new(alloc)?;
-    map.hint(alloc, &FileId::root(alloc), other)?;
+    let map = map_of(alloc, other)?;
+    let (map, records) = with(map, no_records(alloc))?;
     Ok(Server {
         me,
-        records: Records::new(alloc, false)?,
+        records,
         rows: Rows::new(alloc),
         modes: ModeRows::new(alloc),
         map,
     })
+}
+
+fn no_records(alloc: Global) -> Result<Records, Fail> {
+    Ok(Records::new(alloc, false)?)
+}
+
+/// The map on which all files are at the server.
+fn map_of(alloc: Global, server: u8) -> Result<FileMap, Fail> {
+    let mut map = FileMap::new(alloc)?;
+    let done = hint(alloc, &mut map, "/", server);
+    kept(map, done)
+}
+
+/// What begins with the prefix is at the server.
+fn hint(alloc: Global, map: &mut FileMap, prefix: &str, server: u8) -> Result<(), Fail> {
+    let prefix = id(alloc, prefix)?;
+    let done = map.hint(alloc, &prefix, server);
+    spend(prefix);
+    Ok(done?)
 }
 
 /// Whether the parcel fits, and is put in its place then.
@@ -190,9 +268,11 @@ fn come(alloc: Global, s: &mut Server, p: Parcel) -> Result<bool, Fail>
     s.rows.all();
     s.modes.all();
     if !fits(alloc, &s.records, &s.rows, &s.modes, &s.map, s.me, &p)? {
+        spend(p);
         return Ok(false);
     }
     if !are_records(p.records.as_slice()) {
+        spend(p);
         return Err(Fail::from("no record"));
     }
     let me = s.me;

@@ -6,7 +6,7 @@ ghost use Rattle.fs_rows.specs.Table.{IsTable};
 
 mod moving;
 
-use crate::{same, shows};
+use crate::forms::{kept_by, same, shows, spend};
 use fs_field::{Asked, Field, LeaseKind, Row, Unknown};
 use fs_ident::{FileId, LeaseNo, List, Name, Session, Twin, TxnNo};
 use fs_rows::{Live, Rows};
@@ -49,10 +49,18 @@ fn ask(
     Ok(rows.ask(alloc, no, Session(session), field, kind, 100)?)
 }
 
-/// The rows with one of the first session on the third file below the root.
-fn one_row(alloc: Global, kind: LeaseKind, until: u64) -> Result<Rows, Fail> {
+/// The rows with one of the first session on the third file below the root, and the field that it is on.
+fn row_and_field(alloc: Global, kind: LeaseKind, until: u64) -> Result<(Rows, Field), Fail> {
+    let field = life(alloc)?;
     let mut rows = Rows::new(alloc);
-    rows.ask(alloc, FIRST, Session(1), &life(alloc)?, kind, until)?;
+    let asked = rows.ask(alloc, FIRST, Session(1), &field, kind, until);
+    kept_by((rows, field), asked)
+}
+
+/// These rows alone.
+fn one_row(alloc: Global, kind: LeaseKind, until: u64) -> Result<Rows, Fail> {
+    let (rows, field) = row_and_field(alloc, kind, until)?;
+    spend(field);
     Ok(rows)
 }
 
@@ -63,7 +71,9 @@ fn life(alloc: Global) -> Result<Field, Fail>
 }
 
 /// The end, whether a transaction keeps the row, the reading, the skew, and whether the row is left then.
-const LAPSES: [(u64, bool, u64, u64, bool); 7] = [
+type Lapse = (u64, bool, u64, u64, bool);
+
+const LAPSES: &[Lapse] = &[
     (100, false, 109, 10, true),
     (100, false, 110, 10, false),
     (100, true, 110, 10, true),
@@ -73,21 +83,32 @@ const LAPSES: [(u64, bool, u64, u64, bool); 7] = [
     (u64::MAX, false, u64::MAX, 0, false),
 ];
 
-fn is_left(alloc: Global, until: u64, kept: bool, now: u64, skew: u64) -> Result<bool, Fail> {
-    let mut rows = one_row(alloc, LeaseKind::Shared, until)?;
-    if kept {
+/// Whether the first row is left, which a transaction may keep.
+fn lapses(rows: &mut Rows, keeps: bool, now: u64, skew: u64) -> bool {
+    if keeps {
         rows.lock(FIRST, TXN);
     }
     rows.lapse(now, skew);
-    Ok(rows.row(FIRST).is_some())
+    rows.row(FIRST).is_some()
+}
+
+fn is_left(alloc: Global, until: u64, keeps: bool, now: u64, skew: u64) -> Result<bool, Fail> {
+    let mut rows = one_row(alloc, LeaseKind::Shared, until)?;
+    let left = lapses(&mut rows, keeps, now, skew);
+    spend(rows);
+    Ok(left)
+}
+
+fn lapse_each(rt: &impl Abort, alloc: Global, lapses: &[Lapse]) -> Result<(), Fail> {
+    for (until, keeps, now, skew, left) in lapses {
+        same(rt, is_left(alloc, *until, *keeps, *now, *skew)?, *left);
+    }
+    Ok(())
 }
 
 #[test]
 fn rows_lapse_at_their_end_and_the_skew(rt: HostRuntime) -> Result<(), Fail> {
-    for (until, kept, now, skew, left) in LAPSES {
-        same(&rt, is_left(rt.alloc(), until, kept, now, skew)?, left);
-    }
-    Ok(())
+    lapse_each(&rt, rt.alloc(), LAPSES)
 }
 
 const ROW: &str = "Rows { rows: List { items: [Row { no: LeaseNo { server: 0, count: 1 }, session: \
@@ -104,15 +125,21 @@ fn changes(rt: &impl Abort, rows: &mut Rows) {
     rows.unlock(TXN);
 }
 
-/// The row is changed, copied and released.
+/// The row is changed, copied and released; the copy has it.
+fn goes_by(rt: &impl Abort, alloc: Global, rows: &mut Rows) -> Result<(), Fail> {
+    changes(rt, rows);
+    let twin = rows.copy(alloc)?;
+    same(rt, rows.release(FIRST), true);
+    same(rt, rows.release(FIRST), false);
+    shows(rt, alloc, twin, ROW)
+}
+
 #[test]
 fn a_row_from_its_grant_to_its_release(rt: HostRuntime) -> Result<(), Fail> {
     let mut rows = one_row(rt.alloc(), LeaseKind::Exclusive, 100)?;
-    changes(&rt, &mut rows);
-    let twin = rows.copy(rt.alloc())?;
-    same(&rt, rows.release(FIRST), true);
-    same(&rt, rows.release(FIRST), false);
-    shows(&rt, rt.alloc(), &twin, ROW)
+    let done = goes_by(&rt, rt.alloc(), &mut rows);
+    spend(rows);
+    done
 }
 
 const ON: &str = "List { items: [(LeaseNo { server: 0, count: 1 }, Session(1))] }";
@@ -121,38 +148,21 @@ const BORNE: &str = "List { items: [3] }";
 
 /// What the rows tell of fields and files.
 fn tell(rt: &impl Abort, alloc: Global, rows: &Rows, field: &Field) -> Result<(), Fail> {
-    same(
-        rt,
-        rows.holds(FIRST, Session(1), field, LeaseKind::Exclusive),
-        true,
-    );
-    same(
-        rt,
-        rows.holds(FIRST, Session(1), field, LeaseKind::Shared),
-        false,
-    );
-    shows(rt, alloc, &rows.on(alloc, field)?, ON)?;
-    shows(rt, alloc, &rows.borne(alloc, &FileId::root(alloc))?, BORNE)
-}
-
-#[test]
-fn rows_tell_whole_answers(rt: HostRuntime) -> Result<(), Fail> {
-    let rows = one_row(rt.alloc(), LeaseKind::Exclusive, 100)?;
-    tell(&rt, rt.alloc(), &rows, &life(rt.alloc())?)
+    let exclusive = rows.holds(FIRST, Session(1), field, LeaseKind::Exclusive);
+    let shared = rows.holds(FIRST, Session(1), field, LeaseKind::Shared);
+    same(rt, (exclusive, shared), (true, false));
+    shows(rt, alloc, rows.on(alloc, field)?, ON)?;
+    shows(rt, alloc, rows.borne(alloc, &FileId::root(alloc))?, BORNE)
 }
 
 /// What is read at the last reading before the row is over.
-fn reads(rt: &impl Abort, alloc: Global, live: &Live<'_>, field: &Field) -> Result<(), Fail> {
+fn reads_one(rt: &impl Abort, alloc: Global, live: &Live<'_>, field: &Field) -> Result<(), Fail> {
     let asked = live.answer(Session(2), field, LeaseKind::Shared);
     same(rt, asked, Asked::Wait { blocker: FIRST });
-    same(rt, live.has(FIRST), true);
-    same(
-        rt,
-        live.holds(FIRST, Session(1), field, LeaseKind::Exclusive),
-        true,
-    );
-    shows(rt, alloc, &live.unlocked_on(alloc, field)?, ON)?;
-    shows(rt, alloc, &live.borne(alloc, &FileId::root(alloc))?, BORNE)
+    let holds = live.holds(FIRST, Session(1), field, LeaseKind::Exclusive);
+    same(rt, (live.has(FIRST), holds), (true, true));
+    shows(rt, alloc, live.unlocked_on(alloc, field)?, ON)?;
+    shows(rt, alloc, live.borne(alloc, &FileId::root(alloc))?, BORNE)
 }
 
 /// What is read then: nothing stands against a lease.
@@ -163,12 +173,25 @@ fn reads_none(rt: &impl Abort, over: &Live<'_>, field: &Field) {
 }
 
 /// No row is dropped.
+fn read_at(rt: &impl Abort, alloc: Global, rows: &Rows, field: &Field) -> Result<(), Fail> {
+    reads_none(rt, &rows.live(110, 10), field);
+    reads_one(rt, alloc, &rows.live(109, 10), field)
+}
+
+#[test]
+fn rows_tell_whole_answers(rt: HostRuntime) -> Result<(), Fail> {
+    let (rows, field) = row_and_field(rt.alloc(), LeaseKind::Exclusive, 100)?;
+    let done = tell(&rt, rt.alloc(), &rows, &field);
+    spend((rows, field));
+    done
+}
+
 #[test]
 fn rows_are_read_at_a_reading(rt: HostRuntime) -> Result<(), Fail> {
-    let rows = one_row(rt.alloc(), LeaseKind::Exclusive, 100)?;
-    let field = life(rt.alloc())?;
-    reads_none(&rt, &rows.live(110, 10), &field);
-    reads(&rt, rt.alloc(), &rows.live(109, 10), &field)
+    let (rows, field) = row_and_field(rt.alloc(), LeaseKind::Exclusive, 100)?;
+    let done = read_at(&rt, rt.alloc(), &rows, &field);
+    spend((rows, field));
+    done
 }
 
 /// A row of the second session, alone.
@@ -193,8 +216,10 @@ fn second_row(alloc: Global) -> Result<List<Row>, Fail>
 fn grants_second(alloc: Global) -> Result<bool, Fail> {
     let more = second_row(alloc)?;
     let mut rows = Rows::new(alloc);
-    rows.grant_all(alloc, 110, 10, more)?;
-    Ok(rows.row(SECOND).is_some())
+    let done = rows.grant_all(alloc, 110, 10, more);
+    let has = rows.row(SECOND).is_some();
+    spend(rows);
+    kept_by(has, done)
 }
 
 #[test]
@@ -203,6 +228,8 @@ fn rows_are_granted_at_once(rt: HostRuntime) -> Result<(), Fail> {
     Ok(())
 }
 
+/// A lease that is asked for, and the answer: a transaction's row goes before one that conflicts, and of these the least
+/// comes first.
 fn stand_against(
     rt: &impl Abort,
     alloc: Global,
@@ -219,16 +246,24 @@ fn stand_against(
     Ok(())
 }
 
-/// A transaction's row goes before one that conflicts, and of these the least comes first.
+fn who_stands(rt: &impl Abort, alloc: Global, field: &Field) -> Result<(), Fail> {
+    let mut rows = Rows::new(alloc);
+    let done = stand_against(rt, alloc, &mut rows, field);
+    spend(rows);
+    done
+}
+
 #[test]
 fn who_stands_against_a_lease(rt: HostRuntime) -> Result<(), Fail> {
-    let mut rows = Rows::new(rt.alloc());
-    stand_against(&rt, rt.alloc(), &mut rows, &life(rt.alloc())?)
+    let field = life(rt.alloc())?;
+    let done = who_stands(&rt, rt.alloc(), &field);
+    spend(field);
+    done
 }
 
 /// For each held field a line, and on it for each asked one a letter: `e` where a lease waits if either of the two
 /// is exclusive, `h` if the held one is, `a` if the asked one is, and `.` where none waits.
-const PAIRS: [&[u8; 8]; 8] = [
+const PAIRS: &[&[u8]] = &[
     b"e.......",
     b".e.h....",
     b"..eh....",
@@ -241,17 +276,30 @@ const PAIRS: [&[u8; 8]; 8] = [
 
 /// The fields of the lines: six of the root, and two of a file below it.
 fn field(alloc: Global, line: usize) -> Result<Field, Fail> {
-    let root = FileId::root(alloc);
+    if line < 6 {
+        return field_of(alloc, FileId::root(alloc), line);
+    }
+    let file = FileId::root(alloc).child(alloc, 1)?;
+    if line == 6 {
+        return Ok(Field::Names(file));
+    }
+    child_of(alloc, file, b"a")
+}
+
+fn field_of(alloc: Global, root: FileId, line: usize) -> Result<Field, Fail> {
     match line {
         0 => Ok(Field::Life(root)),
-        1 => Ok(Field::Child(root, Name::new(alloc, b"a")?)),
-        2 => Ok(Field::Child(root, Name::new(alloc, b"b")?)),
+        1 => child_of(alloc, root, b"a"),
+        2 => child_of(alloc, root, b"b"),
         3 => Ok(Field::Names(root)),
         4 => Ok(Field::Info(root)),
-        5 => Ok(Field::Own(root)),
-        6 => Ok(Field::Names(root.child(alloc, 1)?)),
-        _ => Ok(Field::Child(root.child(alloc, 1)?, Name::new(alloc, b"a")?)),
+        _ => Ok(Field::Own(root)),
     }
+}
+
+fn child_of(alloc: Global, dir: FileId, name: &[u8]) -> Result<Field, Fail> {
+    let name = Name::new(alloc, name);
+    Ok(Field::Child(dir, name?))
 }
 
 fn waits_by(letter: u8, held: LeaseKind, asked: LeaseKind) -> bool {
@@ -272,7 +320,21 @@ fn ask_line(
     (line, kind): (usize, LeaseKind),
 ) -> Result<Asked, Fail> {
     let field = field(alloc, line)?;
-    ask(alloc, rows, no, session, &field, kind)
+    let asked = ask(alloc, rows, no, session, &field, kind);
+    spend(field);
+    asked
+}
+
+/// Two questions, one after the other: that of the first session, and that of this one.
+fn ask_both(
+    alloc: Global,
+    rows: &mut Rows,
+    session: u16,
+    held: (usize, LeaseKind),
+    asked: (usize, LeaseKind),
+) -> Result<Asked, Fail> {
+    ask_line(alloc, rows, FIRST, 1, held)?;
+    ask_line(alloc, rows, SECOND, session, asked)
 }
 
 /// Whether the session waits for a lease where the first session has one.
@@ -283,12 +345,12 @@ fn waits(
     asked: (usize, LeaseKind),
 ) -> Result<bool, Fail> {
     let mut rows = Rows::new(alloc);
-    ask_line(alloc, &mut rows, FIRST, 1, held)?;
-    let asked = ask_line(alloc, &mut rows, SECOND, session, asked)?;
-    Ok(asked == Asked::Wait { blocker: FIRST })
+    let asked = ask_both(alloc, &mut rows, session, held, asked);
+    spend(rows);
+    Ok(asked? == Asked::Wait { blocker: FIRST })
 }
 
-const KINDS: [(LeaseKind, LeaseKind); 4] = [
+const KINDS: &[(LeaseKind, LeaseKind)] = &[
     (LeaseKind::Shared, LeaseKind::Shared),
     (LeaseKind::Shared, LeaseKind::Exclusive),
     (LeaseKind::Exclusive, LeaseKind::Shared),
@@ -296,27 +358,44 @@ const KINDS: [(LeaseKind, LeaseKind); 4] = [
 ];
 
 /// A held field and an asked one, of both kinds, of two sessions and of one.
-fn go_together(rt: &impl Abort, alloc: Global, i: usize, j: usize) -> Result<(), Fail>
-    requires held { i < 8 }
-    requires asked { j < 8 }
-{
-    for (k, l) in KINDS {
-        same(
-            rt,
-            waits(alloc, 2, (i, k), (j, l))?,
-            waits_by(PAIRS[i][j], k, l),
-        );
-        same(rt, waits(alloc, 1, (i, k), (j, l))?, false);
+fn go_together(
+    rt: &impl Abort,
+    alloc: Global,
+    held: usize,
+    asked: usize,
+    letter: u8,
+    kinds: &[(LeaseKind, LeaseKind)],
+) -> Result<(), Fail> {
+    for (k, l) in kinds {
+        let of_two = waits(alloc, 2, (held, *k), (asked, *l))?;
+        let of_one = waits(alloc, 1, (held, *k), (asked, *l))?;
+        same(rt, (of_two, of_one), (waits_by(letter, *k, *l), false));
     }
+    Ok(())
+}
+
+/// A held field, and each asked one.
+fn goes_with(rt: &impl Abort, alloc: Global, held: usize, letters: &[u8]) -> Result<(), Fail> {
+    let mut asked = 0usize;
+    for letter in letters {
+        go_together(rt, alloc, held, asked, *letter, KINDS)?;
+        asked = asked.wrapping_add(1);
+    }
+    same(rt, asked, 8);
+    Ok(())
+}
+
+fn go_with(rt: &impl Abort, alloc: Global, lines: &[&[u8]]) -> Result<(), Fail> {
+    let mut held = 0usize;
+    for letters in lines {
+        goes_with(rt, alloc, held, letters)?;
+        held = held.wrapping_add(1);
+    }
+    same(rt, held, 8);
     Ok(())
 }
 
 #[test]
 fn leases_that_go_together(rt: HostRuntime) -> Result<(), Fail> {
-    for i in 0..8 {
-        for j in 0..8 {
-            go_together(&rt, rt.alloc(), i, j)?;
-        }
-    }
-    Ok(())
+    go_with(&rt, rt.alloc(), PAIRS)
 }

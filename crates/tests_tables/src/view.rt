@@ -1,14 +1,15 @@
 //! A client that answers from its leases.
-ghost use Rattle.std.specs.Prelude.{◌≡◌, [], true, IfOk};
+ghost use Rattle.std.specs.Prelude.{◌≡◌, true, IfOk};
 ghost use Rattle.fs_record.specs.Effects.{tells_its_effects};
-ghost use Rattle.fs_view.specs.View.{can_grant_all, lapsed_at};
 
-use crate::{same, shows};
-use fs_field::{Effect, Field, LeaseKind, Need, Use, Value};
-use fs_ident::{FileId, Kind, LeaseNo, List, Name, Session, Twin};
+mod held;
+
+use crate::forms::{kept_by, same, shows, spend, with};
+use fs_field::{Effect, Field, LeaseKind, Use, Value};
+use fs_ident::{FileId, Kind, LeaseNo, List, Memory, Name, Session};
 use fs_model::{Op, Reply};
 use fs_record::effects;
-use fs_view::{NewLease, View, Walk};
+use fs_view::View;
 use std::alloc::Global;
 use std::process::Abort;
 use std::test::Fail;
@@ -30,6 +31,7 @@ fn give(
 ) -> Result<(), Fail> {
     let no = LeaseNo { server: 0, count };
     if view.has(no) || !value.is_of(field) {
+        spend(value);
         return Err(Fail::from("no such lease"));
     }
     view.grant(alloc, no, field, LeaseKind::Exclusive, 100, value, below)?;
@@ -44,21 +46,31 @@ fn give_root(alloc: Global, view: &mut View, count: u64, until: u64) -> Result<(
     }
     let life = Field::Life(FileId::root(alloc));
     let value = Value::Life(Some(Kind::Dir));
-    view.grant(alloc, no, &life, LeaseKind::Shared, until, value, None)?;
-    Ok(())
+    let done = view.grant(alloc, no, &life, LeaseKind::Shared, until, value, None);
+    spend(life);
+    Ok(done?)
 }
 
 /// Adds the second lease, on the name in the root.
 fn give_child(alloc: Global, view: &mut View, to: Option<FileId>) -> Result<(), Fail> {
-    let child = Field::Child(FileId::root(alloc), Name::new(alloc, b"a")?);
-    give(alloc, view, 2, &child, Value::Child(to), None)
+    let (to, name) = with(to, name_of(alloc, b"a"))?;
+    let child = Field::Child(FileId::root(alloc), name);
+    let done = give(alloc, view, 2, &child, Value::Child(to), None);
+    spend(child);
+    done
+}
+
+fn name_of(alloc: Global, bytes: &[u8]) -> Result<Name, Fail> {
+    Ok(Name::new(alloc, bytes)?)
 }
 
 /// Adds the third lease, on the life of the first file.
 fn give_file(alloc: Global, view: &mut View, kind: Option<Kind>) -> Result<(), Fail> {
     let life = Field::Life(first(alloc)?);
     let root = FileId::root(alloc);
-    give(alloc, view, 3, &life, Value::Life(kind), Some(&root))
+    let done = give(alloc, view, 3, &life, Value::Life(kind), Some(&root));
+    spend((life, root));
+    done
 }
 
 /// The first file below the root.
@@ -69,7 +81,9 @@ fn first(alloc: Global) -> Result<FileId, Fail> {
 /// The reply at the reading, if nothing is missing.
 fn reply_at(alloc: Global, view: &View, now: u64, op: &Op) -> Result<Option<Reply>, Fail> {
     let needs = view.missing(alloc, now, op)?;
-    if !needs.is_empty() {
+    let is_missing = !needs.is_empty();
+    spend(needs);
+    if is_missing {
         return Ok(None);
     }
     Ok(Some(view.reply(alloc, now, op)?))
@@ -84,13 +98,15 @@ fn replies(
     op: &Op,
     wanted: &str,
 ) -> Result<(), Fail> {
-    shows(rt, alloc, &reply_at(alloc, view, now, op)?, wanted)
+    shows(rt, alloc, reply_at(alloc, view, now, op)?, wanted)
 }
 
 /// The uses at the reading, if nothing is missing.
 fn uses_at(alloc: Global, view: &View, now: u64, op: &Op) -> Result<List<Use>, Fail> {
     let needs = view.missing(alloc, now, op)?;
-    if !needs.is_empty() {
+    let is_missing = !needs.is_empty();
+    spend(needs);
+    if is_missing {
         return Ok(List::new(alloc));
     }
     Ok(view.uses(alloc, now, op)?)
@@ -99,10 +115,15 @@ fn uses_at(alloc: Global, view: &View, now: u64, op: &Op) -> Result<List<Use>, F
 /// The numbers of the leases that are used.
 fn numbers(alloc: Global, uses: &[Use]) -> Result<List<u64>, Fail> {
     let mut counts = List::new(alloc);
+    let done = add_numbers(&mut counts, uses);
+    kept_by(counts, done)
+}
+
+fn add_numbers(counts: &mut List<u64>, uses: &[Use]) -> Result<(), Memory> {
     for u in uses {
         counts.push(u.no.count)?;
     }
-    Ok(counts)
+    Ok(())
 }
 
 /// The leases of these numbers are used at the reading.
@@ -115,8 +136,11 @@ fn takes(
     wanted: &[u64],
 ) -> Result<(), Fail> {
     let uses = uses_at(alloc, view, now, op)?;
-    let counts = numbers(alloc, uses.as_slice())?;
+    let counts = numbers(alloc, uses.as_slice());
+    spend(uses);
+    let counts = counts?;
     same(rt, counts.as_slice(), wanted);
+    spend(counts);
     Ok(())
 }
 
@@ -129,7 +153,7 @@ fn misses(
     op: &Op,
     wanted: &str,
 ) -> Result<(), Fail> {
-    shows(rt, alloc, &view.missing(alloc, now, op)?, wanted)
+    shows(rt, alloc, view.missing(alloc, now, op)?, wanted)
 }
 
 const ROOT_IS_MISSING: &str = "List { items: [Lease(Life(FileId { numbers: [] }), Shared)] }";
@@ -154,7 +178,9 @@ fn choice(rt: &impl Abort, alloc: Global, view: &mut View) -> Result<(), Fail> {
     let op = Op::Kind {
         file: FileId::root(alloc),
     };
-    last_is_used(rt, alloc, view, &op)
+    let done = last_is_used(rt, alloc, view, &op);
+    spend(op);
+    done
 }
 
 #[test]
@@ -169,9 +195,10 @@ fn the_lease_that_ends_last_is_used(rt: HostRuntime) -> Result<(), Fail> {
 fn create(alloc: Global, id: Option<FileId>) -> Result<Op, Fail>
     ensures { IfOk result (λ op. tells_its_effects op ≡ true) }
 {
+    let (id, name) = with(id, name_of(alloc, b"a"))?;
     Ok(Op::Create {
         dir: FileId::root(alloc),
-        name: Name::new(alloc, b"a")?,
+        name,
         kind: Kind::File,
         id,
     })
@@ -180,7 +207,9 @@ fn create(alloc: Global, id: Option<FileId>) -> Result<Op, Fail>
 /// What the create of the first file does.
 fn made(alloc: Global) -> Result<List<Effect>, Fail> {
     let op = create(alloc, Some(first(alloc)?))?;
-    Ok(effects(alloc, Session(1), &op, &Reply::Made)?)
+    let made = effects(alloc, Session(1), &op, &Reply::Made);
+    spend(op);
+    Ok(made?)
 }
 
 /// The log has the create of the first file.
@@ -200,19 +229,25 @@ fn know_none(alloc: Global, view: &mut View) -> Result<(), Fail> {
 /// The identifier is offered for a file in the root.
 fn offers(rt: &impl Abort, alloc: Global, view: &View, wanted: &str) -> Result<(), Fail> {
     let root = FileId::root(alloc);
-    shows(rt, alloc, &view.fresh(50, &root), wanted)
+    let offered = view.fresh(50, &root);
+    spend(root);
+    shows(rt, alloc, offered, wanted)
 }
 
 /// So a create of the name is replied.
 fn create_replies(rt: &impl Abort, alloc: Global, view: &View, wanted: &str) -> Result<(), Fail> {
     let op = create(alloc, None)?;
-    replies(rt, alloc, view, 50, &op, wanted)
+    let done = replies(rt, alloc, view, 50, &op, wanted);
+    spend(op);
+    done
 }
 
 /// A create of the name uses all three leases.
 fn create_takes(rt: &impl Abort, alloc: Global, view: &View) -> Result<(), Fail> {
     let op = create(alloc, None)?;
-    takes(rt, alloc, view, 50, &op, &[1, 2, 3])
+    let done = takes(rt, alloc, view, 50, &op, &[1, 2, 3]);
+    spend(op);
+    done
 }
 
 /// The name is there, and the identifier is offered no more.
@@ -254,36 +289,44 @@ const OF_RENAME: &str =
     Shared)] }";
 
 fn delete(alloc: Global) -> Result<Op, Fail> {
+    let name = name_of(alloc, b"a")?;
     Ok(Op::Delete {
         dir: FileId::root(alloc),
-        name: Name::new(alloc, b"a")?,
+        name,
     })
 }
 
 fn rename(alloc: Global) -> Result<Op, Fail> {
+    let name = name_of(alloc, b"a")?;
+    let (sname, dname) = with(name, name_of(alloc, b"b"))?;
     Ok(Op::Rename {
         sdir: FileId::root(alloc),
-        sname: Name::new(alloc, b"a")?,
+        sname,
         ddir: FileId::root(alloc),
-        dname: Name::new(alloc, b"b")?,
+        dname,
     })
 }
 
 /// The place and the life of the first file are known.
 fn know_file(alloc: Global, view: &mut View) -> Result<(), Fail> {
     give_root(alloc, view, 1, 100)?;
-    give_child(alloc, view, Some(first(alloc)?))?;
+    let file = first(alloc)?;
+    give_child(alloc, view, Some(file))?;
     give_file(alloc, view, Some(Kind::File))
 }
 
 fn delete_misses(rt: &impl Abort, alloc: Global, view: &View) -> Result<(), Fail> {
     let op = delete(alloc)?;
-    misses(rt, alloc, view, 50, &op, OF_FILE)
+    let done = misses(rt, alloc, view, 50, &op, OF_FILE);
+    spend(op);
+    done
 }
 
 fn rename_misses(rt: &impl Abort, alloc: Global, view: &View) -> Result<(), Fail> {
     let op = rename(alloc)?;
-    misses(rt, alloc, view, 50, &op, OF_RENAME)
+    let done = misses(rt, alloc, view, 50, &op, OF_RENAME);
+    spend(op);
+    done
 }
 
 /// A delete and a rename of that file.
@@ -297,191 +340,6 @@ fn removals(rt: &impl Abort, alloc: Global, view: &mut View) -> Result<(), Fail>
 fn removals_need_the_handles_too(rt: HostRuntime) -> Result<(), Fail> {
     let mut view = View::new(rt.alloc(), Session(1));
     let done = removals(&rt, rt.alloc(), &mut view);
-    view.discard();
-    done
-}
-
-const SEEN: &str =
-    "List { items: [Seen { no: LeaseNo { server: 0, count: 1 }, file: FileId { numbers: [] }, \
-    until: Some(200), entries: 0, recalled: true }] }";
-
-/// A copy of what others see of the leases is written so.
-fn seen_are(rt: &impl Abort, alloc: Global, view: &View, wanted: &str) -> Result<(), Fail> {
-    let twin = view.leases(alloc)?.copy(alloc)?;
-    shows(rt, alloc, &twin, wanted)
-}
-
-/// A lease is recalled, renewed, given back and released.
-fn gives_back(rt: &impl Abort, alloc: Global, view: &mut View) -> Result<(), Fail> {
-    give_root(alloc, view, 1, 100)?;
-    view.recall(FIRST);
-    view.renew(FIRST, 200);
-    view.lapse(199);
-    seen_are(rt, alloc, view, SEEN)?;
-    view.leave(FIRST);
-    same(rt, view.is_leaving(FIRST), true);
-    view.lapse(200);
-    view.released(FIRST);
-    same(rt, view.has(FIRST), false);
-    Ok(())
-}
-
-#[test]
-fn a_lease_goes_back(rt: HostRuntime) -> Result<(), Fail> {
-    let mut view = View::new(rt.alloc(), Session(1));
-    let done = gives_back(&rt, rt.alloc(), &mut view);
-    view.discard();
-    done
-}
-
-/// The use of the first lease.
-fn first_use(alloc: Global) -> Result<List<Use>, Fail> {
-    let mut uses = List::new(alloc);
-    uses.push(Use {
-        field: Field::Life(FileId::root(alloc)),
-        kind: LeaseKind::Shared,
-        no: FIRST,
-        until: 100,
-    })?;
-    Ok(uses)
-}
-
-/// The lease is pinned, if it is there.
-fn pin(view: &mut View, uses: &List<Use>) -> Result<(), Fail> {
-    if !view.can_pin(uses) {
-        return Err(Fail::from("it was granted"));
-    }
-    view.pin(uses);
-    Ok(())
-}
-
-/// So the view is written for programmers.
-fn text(alloc: Global, view: &View) -> Result<String, Fail> {
-    Ok(format!(in alloc; "{view:?}")?)
-}
-
-/// So a copy of it is written.
-fn twin_text(alloc: Global, view: &View) -> Result<String, Fail> {
-    let twin = view.copy(alloc)?;
-    let shown = text(alloc, &twin);
-    twin.discard();
-    shown
-}
-
-/// A copy is written as the view is.
-fn is_copied(rt: &impl Abort, alloc: Global, view: &View) -> Result<(), Fail> {
-    let wanted = text(alloc, view)?;
-    let found = twin_text(alloc, view)?;
-    same(rt, found.as_str(), wanted.as_str());
-    Ok(())
-}
-
-/// A lease that an entry uses stays when its time is over, and when its row is gone.
-fn is_pinned(rt: &impl Abort, view: &mut View, uses: &List<Use>) -> Result<(), Fail> {
-    pin(view, uses)?;
-    view.lapse(100);
-    view.give_up(FIRST);
-    same(rt, (view.has(FIRST), view.is_held(FIRST)), (true, false));
-    Ok(())
-}
-
-/// Once no entry uses it, it goes.
-fn is_given_up(rt: &impl Abort, view: &mut View, uses: &List<Use>) {
-    view.unpin(uses);
-    view.give_up(FIRST);
-    same(rt, view.has(FIRST), false);
-}
-
-fn pins(rt: &impl Abort, alloc: Global, view: &mut View) -> Result<(), Fail> {
-    give_root(alloc, view, 1, 100)?;
-    let uses = first_use(alloc)?;
-    is_pinned(rt, view, &uses)?;
-    is_copied(rt, alloc, view)?;
-    is_given_up(rt, view, &uses);
-    Ok(())
-}
-
-#[test]
-fn a_pinned_lease_stays(rt: HostRuntime) -> Result<(), Fail> {
-    let mut view = View::new(rt.alloc(), Session(1));
-    let done = pins(&rt, rt.alloc(), &mut view);
-    view.discard();
-    done
-}
-
-/// The life of the root, which is a directory.
-fn root_life(alloc: Global) -> Result<List<NewLease>, Fail>
-    ensures { IfOk result (λ leases. can_grant_all leases [] ≡ true) }
-{
-    let mut leases = List::new(alloc);
-    leases.push(NewLease {
-        no: FIRST,
-        field: Field::Life(FileId::root(alloc)),
-        kind: LeaseKind::Shared,
-        until: 100,
-        value: Value::Life(Some(Kind::Dir)),
-        below: None,
-    })?;
-    Ok(leases)
-}
-
-const NAMES_ARE_MISSING: &str = "List { items: [Lease(Names(FileId { numbers: [] }), Shared)] }";
-
-const WALK: &str = "Walk { items: List { items: [Lease(Life(FileId { numbers: [] }), Shared), \
-    Lease(Names(FileId { numbers: [] }), Shared)] }, reply: None }";
-
-/// A copy of the walk of the operation.
-fn walk_of(alloc: Global, view: &View, op: &Op) -> Result<Walk, Fail> {
-    let walk = view.walk(alloc, 99, op)?;
-    Ok(walk.copy(alloc)?)
-}
-
-fn list_walk(alloc: Global, view: &View) -> Result<Walk, Fail> {
-    let op = Op::List {
-        dir: FileId::root(alloc),
-    };
-    walk_of(alloc, view, &op)
-}
-
-/// How many leases are used for the items.
-fn used(alloc: Global, view: &View, items: &List<Need>) -> Result<usize, Fail> {
-    Ok(view.uses_of(alloc, 99, items)?.len())
-}
-
-/// So the walk is written, and one lease is used for it.
-fn is_walked(rt: &impl Abort, alloc: Global, view: &View, walk: &Walk) -> Result<(), Fail> {
-    shows(rt, alloc, walk, WALK)?;
-    same(rt, used(alloc, view, &walk.items)?, 1);
-    Ok(())
-}
-
-/// One walk tells what is missing, and what is used.
-fn walks(rt: &impl Abort, alloc: Global, view: &View) -> Result<(), Fail> {
-    let walk = list_walk(alloc, view)?;
-    is_walked(rt, alloc, view, &walk)?;
-    let missing = view.missing_of(99, walk.items);
-    shows(rt, alloc, &missing, NAMES_ARE_MISSING)
-}
-
-/// Leases that come together.
-fn grants(
-    rt: &impl Abort,
-    alloc: Global,
-    view: &mut View,
-    leases: List<NewLease>,
-) -> Result<(), Fail>
-    requires { can_grant_all leases (lapsed_at 0 view.old).leases ≡ true }
-{
-    view.grant_all(0, leases)?;
-    same(rt, view.kept().len(), 1);
-    walks(rt, alloc, view)
-}
-
-#[test]
-fn leases_come_together(rt: HostRuntime) -> Result<(), Fail> {
-    let leases = root_life(rt.alloc())?;
-    let mut view = View::new(rt.alloc(), Session(1));
-    let done = grants(&rt, rt.alloc(), &mut view, leases);
     view.discard();
     done
 }

@@ -1,10 +1,10 @@
 //! All tables of three sessions and one mode, against a plain search.
 ghost use Rattle.std.specs.Prelude.{◌<◌};
 
+use crate::forms::{kept, kept_by, same, spend};
 use crate::moderows::{FALSE, GIVEN, Question, TRUE, WRITES, ask, blocker, number, opens, waits};
-use crate::same;
 use fs_field::Asked;
-use fs_ident::{LeaseNo, List, Session};
+use fs_ident::{LeaseNo, List, Memory, Session};
 use fs_moderows::ModeRows;
 use fs_modes::{Mode, Modes};
 use std::alloc::Global;
@@ -141,17 +141,22 @@ fn other_count(s: usize) -> u64 {
 /// The rows of the case: a fourth session has the mode where one was told that another has it.
 fn built(alloc: Global, case: Case) -> Result<ModeRows, Fail> {
     let mut rows = ModeRows::new(alloc);
+    let done = build(alloc, &mut rows, case);
+    kept(rows, done)
+}
+
+fn build(alloc: Global, rows: &mut ModeRows, case: Case) -> Result<(), Fail> {
     for s in 0..3 {
         if case.free[s] {
-            free(alloc, &mut rows, s)?;
+            free(alloc, rows, s)?;
         }
     }
     for s in 0..3 {
         if let Some(told) = case.told[s] {
-            tell(alloc, &mut rows, s, told)?;
+            tell(alloc, rows, s, told)?;
         }
     }
-    Ok(rows)
+    Ok(())
 }
 
 /// The session gets the row by which it may change what it tells.
@@ -181,7 +186,7 @@ fn put(
     others: &[u16],
 ) -> Result<Asked, Fail> {
     let selves = opens(alloc, others, WRITES)?;
-    ask(
+    let asked = ask(
         alloc,
         rows,
         &selves,
@@ -189,18 +194,25 @@ fn put(
         session(s),
         question,
         Mode::AccW,
-    )
+    );
+    spend(selves);
+    asked
 }
 
 /// The sessions of the case that have the mode.
 fn who_has(alloc: Global, case: Case) -> Result<List<(Session, Modes)>, Fail> {
     let mut selves = List::new(alloc);
+    let done = add_who_has(&mut selves, case);
+    kept_by(selves, done)
+}
+
+fn add_who_has(selves: &mut List<(Session, Modes)>, case: Case) -> Result<(), Memory> {
     for s in 0..3 {
         if case.has[s] {
             selves.push((Session(session(s)), WRITES))?;
         }
     }
-    Ok(selves)
+    Ok(())
 }
 
 /// The answer to the session's question, which leaves no row.
@@ -217,19 +229,48 @@ fn answer(
 }
 
 /// Whether all answers to the session are those of a plain search.
-fn agrees(alloc: Global, case: Case, s: usize) -> Result<bool, Fail>
+fn agree(
+    alloc: Global,
+    rows: &mut ModeRows,
+    selves: &List<(Session, Modes)>,
+    case: Case,
+    s: usize,
+) -> Result<bool, Fail>
+    requires { s < 3 }
+{
+    let by = session(s);
+    if blocker(alloc, rows, selves, by) != case.reap(s) {
+        return Ok(false);
+    }
+    if answer(alloc, rows, selves, by, Question::SelfW)? != case.own(s) {
+        return Ok(false);
+    }
+    Ok(answer(alloc, rows, selves, by, Question::Other)? == case.other(s))
+}
+
+/// The same with the rows of the case.
+fn agree_in(
+    alloc: Global,
+    selves: &List<(Session, Modes)>,
+    case: Case,
+    s: usize,
+) -> Result<bool, Fail>
     requires { s < 3 }
 {
     let mut rows = built(alloc, case)?;
+    let all = agree(alloc, &mut rows, selves, case, s);
+    spend(rows);
+    all
+}
+
+/// The same with those that have the mode.
+fn agrees(alloc: Global, case: Case, s: usize) -> Result<bool, Fail>
+    requires { s < 3 }
+{
     let selves = who_has(alloc, case)?;
-    let by = session(s);
-    if blocker(alloc, &rows, &selves, by) != case.reap(s) {
-        return Ok(false);
-    }
-    if answer(alloc, &mut rows, &selves, by, Question::SelfW)? != case.own(s) {
-        return Ok(false);
-    }
-    Ok(answer(alloc, &mut rows, &selves, by, Question::Other)? == case.other(s))
+    let all = agree_in(alloc, &selves, case, s);
+    spend(selves);
+    all
 }
 
 /// The case is another, or the answers to each session are those of a plain search.

@@ -2,18 +2,17 @@
 ghost use Rattle.std.specs.Prelude.{◌≡◌, IfOk, OnOk};
 ghost use Rattle.fs_parcel.specs.Rows.{AreRows, both};
 
+use crate::forms::{one, same, spend};
 use crate::parcel::shown::is_written;
-use crate::parcel::{On, Sent, Server, are_records, begun, come, id, parcel};
-use crate::same;
-use fs_ident::{FileId, List};
+use crate::parcel::{On, Sent, Server, are_records, begun, come, hint, id, parcel};
 use fs_parcel::{fits_at, install_at};
-use fs_record::Parcel;
+use fs_record::{Parcel, Records};
 use std::alloc::Global;
 use std::process::Abort;
 use std::test::Fail;
 
 /// What came once, of which the rows are left: one of each table.
-const OLD: Sent = (
+const OLD: &Sent = &(
     "/1",
     &[("/1", true)],
     &[("/1", b"", &[])],
@@ -21,37 +20,61 @@ const OLD: Sent = (
 );
 
 /// What came once and is left: a file.
-const FILE: Sent = ("/5", &[("/5", true)], &[("/5", b"", &[])], &[]);
+const FILE: &Sent = &("/5", &[("/5", true)], &[("/5", b"", &[])], &[]);
 
-/// The parcel comes, and fits.
-pub(super) fn must_come(alloc: Global, s: &mut Server, sent: Sent) -> Result<(), Fail>
+/// Whether the parcel fits, and is put in its place then.
+fn come_sent(alloc: Global, s: &mut Server, sent: &Sent) -> Result<bool, Fail>
     requires { AreRows (both s.old.rows s.old.modes) }
     ensures { OnOk result (AreRows (both s.new.rows s.new.modes)) }
 {
-    if !come(alloc, s, parcel(alloc, sent)?)? {
+    let p = parcel(alloc, sent)?;
+    come(alloc, s, p)
+}
+
+/// The parcel comes, and fits.
+pub(super) fn must_come(alloc: Global, s: &mut Server, sent: &Sent) -> Result<(), Fail>
+    requires { AreRows (both s.old.rows s.old.modes) }
+    ensures { OnOk result (AreRows (both s.new.rows s.new.modes)) }
+{
+    if !come_sent(alloc, s, sent)? {
         return Err(Fail::from("it does not fit"));
     }
     Ok(())
 }
 
-/// Server 1 with these rows and this file. Of both parcels it manages nothing more.
+/// These rows and this file come, and are left. Of both parcels the server manages nothing more.
+fn come_here(alloc: Global, s: &mut Server) -> Result<(), Fail>
+    requires { AreRows (both s.old.rows s.old.modes) }
+    ensures { OnOk result (AreRows (both s.new.rows s.new.modes)) }
+{
+    must_come(alloc, s, OLD)?;
+    leave(alloc, &mut s.records)?;
+    must_come(alloc, s, FILE)?;
+    hint(alloc, &mut s.map, "/", 0)?;
+    hint(alloc, &mut s.map, "/7", 1)
+}
+
+/// The file of the first parcel is dropped.
+fn leave(alloc: Global, records: &mut Records) -> Result<(), Fail> {
+    let file = id(alloc, "/1")?;
+    let files = one(alloc, file)?;
+    records.leave_files(&files);
+    spend(files);
+    Ok(())
+}
+
+/// Server 1 with them.
 fn here(alloc: Global) -> Result<Server, Fail>
     ensures { IfOk result (λ s. AreRows (both s.rows s.modes)) }
 {
     let mut s = begun(alloc, 1, 0)?;
-    must_come(alloc, &mut s, OLD)?;
-    s.records.leave_files(&first_file(alloc)?);
-    must_come(alloc, &mut s, FILE)?;
-    s.map.hint(alloc, &FileId::root(alloc), 0)?;
-    s.map.hint(alloc, &id(alloc, "/7")?, 1)?;
-    Ok(s)
-}
-
-/// The file of the first parcel.
-fn first_file(alloc: Global) -> Result<List<FileId>, Fail> {
-    let mut files = List::new(alloc);
-    files.push(id(alloc, "/1")?)?;
-    Ok(files)
+    match come_here(alloc, &mut s) {
+        Ok(()) => Ok(s),
+        Err(why) => {
+            spend(s);
+            Err(why)
+        }
+    }
 }
 
 const HERE: &str = "/ s0 /7 s1 | /5:0 | 1 | 2 ";
@@ -59,7 +82,9 @@ const HERE: &str = "/ s0 /7 s1 | /5:0 | 1 | 2 ";
 const WHOLE: &[(&str, bool)] = &[("/1", true)];
 
 /// Parcels, and whether they fit.
-const CASES: [(Sent, bool); 20] = [
+type Case = (Sent, bool);
+
+const CASES: &[Case] = &[
     // one of each kind of row, and another that lets both stand
     (
         (
@@ -145,20 +170,35 @@ const CASES: [(Sent, bool); 20] = [
 ];
 
 /// Whether the parcel fits there.
-fn comes(alloc: Global, sent: Sent) -> Result<bool, Fail> {
+fn comes(alloc: Global, sent: &Sent) -> Result<bool, Fail> {
     let mut s = here(alloc)?;
-    come(alloc, &mut s, parcel(alloc, sent)?)
+    let came = come_sent(alloc, &mut s, sent);
+    spend(s);
+    came
+}
+
+/// Each parcel, by its place in the table.
+fn each_comes(rt: &impl Abort, alloc: Global, cases: &[Case]) -> Result<(), Fail> {
+    let mut n = 0u32;
+    for (sent, fit) in cases {
+        same(rt, (n, comes(alloc, sent)?), (n, *fit));
+        n = n.wrapping_add(1);
+    }
+    Ok(())
+}
+
+/// What is there before a parcel comes.
+fn begins(rt: &impl Abort, alloc: Global) -> Result<(), Fail> {
+    let s = here(alloc)?;
+    let done = is_written(rt, alloc, &s, HERE);
+    spend(s);
+    done
 }
 
 #[test]
 fn parcels_of_honest_servers_fit(rt: HostRuntime) -> Result<(), Fail> {
-    is_written(&rt, rt.alloc(), &here(rt.alloc())?, HERE)?;
-    let mut n = 0u32;
-    for (sent, fit) in CASES {
-        same(&rt, (n, comes(rt.alloc(), sent)?), (n, fit));
-        n = n.wrapping_add(1);
-    }
-    Ok(())
+    begins(&rt, rt.alloc())?;
+    each_comes(&rt, rt.alloc(), CASES)
 }
 
 /// Whether the parcel fits at the reading, and is put in its place then.
@@ -170,9 +210,11 @@ fn come_at(alloc: Global, s: &mut Server, now: u64, p: Parcel) -> Result<bool, F
     let off = s.rows.live(now, 10);
     let on = s.modes.live(now, 10);
     if !fits_at(alloc, &s.records, &off, &on, &s.map, s.me, &p)? {
+        spend(p);
         return Ok(false);
     }
     if !are_records(p.records.as_slice()) {
+        spend(p);
         return Err(Fail::from("no record"));
     }
     let me = s.me;
@@ -191,19 +233,31 @@ fn come_at(alloc: Global, s: &mut Server, now: u64, p: Parcel) -> Result<bool, F
 }
 
 /// What conflicts with a row that is over as soon as the skew is.
-const CONFLICTS: Sent = ("/1", WHOLE, &[], &[(3, 2, "/1/2", On::Life)]);
+const CONFLICTS: &Sent = &("/1", WHOLE, &[], &[(3, 2, "/1/2", On::Life)]);
 
 const CAME: &str = "/ s0 /1 s1 /7 s1 | /5:0 | 3 | ";
 
 /// Whether the parcel fits at the reading, and what the server has then.
+fn sees(
+    rt: &impl Abort,
+    alloc: Global,
+    s: &mut Server,
+    now: u64,
+    fit: bool,
+    wanted: &str,
+) -> Result<(), Fail>
+    requires { AreRows (both s.old.rows s.old.modes) }
+{
+    let p = parcel(alloc, CONFLICTS)?;
+    same(rt, come_at(alloc, s, now, p)?, fit);
+    is_written(rt, alloc, s, wanted)
+}
+
 fn comes_at(rt: &impl Abort, alloc: Global, now: u64, fit: bool, wanted: &str) -> Result<(), Fail> {
     let mut s = here(alloc)?;
-    same(
-        rt,
-        come_at(alloc, &mut s, now, parcel(alloc, CONFLICTS)?)?,
-        fit,
-    );
-    is_written(rt, alloc, &s, wanted)
+    let done = sees(rt, alloc, &mut s, now, fit, wanted);
+    spend(s);
+    done
 }
 
 #[test]

@@ -2,10 +2,10 @@
 ghost use Rattle.std.specs.Prelude.{◌≡◌, IfOk, OnOk};
 ghost use Rattle.fs_parcel.specs.Rows.{AreRows, both};
 
+use crate::forms::{reads, same, spend, with};
 use crate::parcel::fitting::must_come;
-use crate::parcel::shown::{are_written, is_written, parcel_text};
+use crate::parcel::shown::{is_written, parcel_text};
 use crate::parcel::{On, Sent, Server, begun, come, id, parcel};
-use crate::same;
 use fs_ident::{FileId, PathNo};
 use fs_parcel::{MoveError, pack_up, packed, refusal};
 use fs_record::Parcel;
@@ -15,7 +15,7 @@ use std::test::Fail;
 
 /// All but what is below one file, which another server has: a directory with a file in it, which the second session
 /// writes, and another one, with a row of each table on either.
-const ALL: Sent = (
+const ALL: &Sent = &(
     "/",
     &[("/", true), ("/1/3", false)],
     &[
@@ -33,12 +33,17 @@ const ALL: Sent = (
 );
 
 /// Server 0 with these files, which came from server 9.
-pub(super) fn first_server(alloc: Global, sent: Sent) -> Result<Server, Fail>
+pub(super) fn first_server(alloc: Global, sent: &Sent) -> Result<Server, Fail>
     ensures { IfOk result (λ s. AreRows (both s.rows s.modes)) }
 {
     let mut s = begun(alloc, 0, 9)?;
-    must_come(alloc, &mut s, sent)?;
-    Ok(s)
+    match must_come(alloc, &mut s, sent) {
+        Ok(()) => Ok(s),
+        Err(why) => {
+            spend(s);
+            Err(why)
+        }
+    }
 }
 
 /// What the server has below the prefix goes to another.
@@ -79,10 +84,29 @@ pub(super) fn went(
     requires { AreRows (both s.old.rows s.old.modes) }
     ensures { AreRows (both s.new.rows s.new.modes) }
 {
-    match go(alloc, s, &id(alloc, prefix)?, to, through) {
-        Ok(p) => parcel_text(alloc, &p),
-        Err(why) => Ok(format!(in alloc; "{why}")?),
+    let prefix = id(alloc, prefix)?;
+    let gone = go(alloc, s, &prefix, to, through);
+    spend(prefix);
+    went_text(alloc, gone)
+}
+
+fn went_text(alloc: Global, gone: Result<Parcel, MoveError>) -> Result<String, Fail> {
+    match gone {
+        Ok(p) => text_of_parcel(alloc, p),
+        Err(why) => text_of_refusal(alloc, why),
     }
+}
+
+fn text_of_parcel(alloc: Global, p: Parcel) -> Result<String, Fail> {
+    let text = parcel_text(alloc, &p);
+    spend(p);
+    text
+}
+
+fn text_of_refusal(alloc: Global, why: MoveError) -> Result<String, Fail> {
+    let text = format!(in alloc; "{why}");
+    spend(why);
+    Ok(text?)
 }
 
 /// A copy of what would go.
@@ -111,16 +135,36 @@ const LEFT: &str = "/ s0 /1 s1 /1/3 s9 | /:2 /2:0 | 3 | 4 ";
 
 const CAME: &str = "/ s0 /1 s1 /1/3 s0 | /1:1 /1/2:0 | 1 | 2 ";
 
+/// What came is as it is written, and fits.
+fn comes(rt: &impl Abort, alloc: Global, s1: &mut Server, p: Parcel) -> Result<(), Fail>
+    requires { AreRows (both s1.old.rows s1.old.modes) }
+{
+    let text = parcel_text(alloc, &p);
+    let (p, text) = with(p, text)?;
+    reads(rt, text, PARCEL);
+    same(rt, come(alloc, s1, p)?, true);
+    Ok(())
+}
+
+/// The first directory goes.
+fn first_goes(alloc: Global, s0: &mut Server) -> Result<Parcel, Fail>
+    requires { AreRows (both s0.old.rows s0.old.modes) }
+    ensures { AreRows (both s0.new.rows s0.new.modes) }
+{
+    let prefix = id(alloc, "/1")?;
+    let gone = go(alloc, s0, &prefix, 1, None);
+    spend(prefix);
+    Ok(gone?)
+}
+
 /// The first directory goes from one to the other.
 fn moves(rt: &impl Abort, alloc: Global, s0: &mut Server, s1: &mut Server) -> Result<(), Fail>
     requires from { AreRows (both s0.old.rows s0.old.modes) }
     requires to { AreRows (both s1.old.rows s1.old.modes) }
-    ensures { OnOk result (AreRows (both s0.new.rows s0.new.modes)) }
+    ensures { AreRows (both s0.new.rows s0.new.modes) }
 {
-    let p = go(alloc, s0, &id(alloc, "/1")?, 1, None)?;
-    are_written(rt, alloc, &p, PARCEL)?;
-    same(rt, come(alloc, s1, p)?, true);
-    Ok(())
+    let p = first_goes(alloc, s0)?;
+    comes(rt, alloc, s1, p)
 }
 
 /// It went, and does not go again.
@@ -131,28 +175,52 @@ fn went_once(rt: &impl Abort, alloc: Global, s0: &mut Server, s1: &mut Server) -
     moves(rt, alloc, s0, s1)?;
     is_written(rt, alloc, s0, LEFT)?;
     is_written(rt, alloc, s1, CAME)?;
-    let again = went(alloc, s0, "/1", 1, None)?;
-    same(rt, again.as_str(), "/1 is at s1");
+    reads(rt, went(alloc, s0, "/1", 1, None)?, "/1 is at s1");
     Ok(())
+}
+
+/// From a server to a new one.
+fn goes_over(rt: &impl Abort, alloc: Global, s0: &mut Server) -> Result<(), Fail>
+    requires { AreRows (both s0.old.rows s0.old.modes) }
+{
+    let mut s1 = begun(alloc, 1, 0)?;
+    let done = went_once(rt, alloc, s0, &mut s1);
+    spend(s1);
+    done
 }
 
 #[test]
 fn a_directory_goes_to_another_server(rt: HostRuntime) -> Result<(), Fail> {
     let mut s0 = first_server(rt.alloc(), ALL)?;
-    let mut s1 = begun(rt.alloc(), 1, 0)?;
-    went_once(&rt, rt.alloc(), &mut s0, &mut s1)
+    let done = goes_over(&rt, rt.alloc(), &mut s0);
+    spend(s0);
+    done
 }
 
 /// What would go is told before it goes.
-fn reads(rt: &impl Abort, alloc: Global, s0: &Server, prefix: &FileId) -> Result<(), Fail>
+fn is_told(rt: &impl Abort, alloc: Global, s0: &Server, prefix: &FileId) -> Result<(), Fail>
     requires { AreRows (both s0.now.rows s0.now.modes) }
 {
     same(rt, may_go(alloc, s0, prefix, 1)?, true);
-    are_written(rt, alloc, &copied(alloc, s0, prefix)?, PARCEL)
+    let p = copied(alloc, s0, prefix)?;
+    reads(rt, text_of_parcel(alloc, p)?, PARCEL);
+    Ok(())
+}
+
+/// The same of the first directory.
+fn first_is_told(rt: &impl Abort, alloc: Global, s0: &Server) -> Result<(), Fail>
+    requires { AreRows (both s0.now.rows s0.now.modes) }
+{
+    let prefix = id(alloc, "/1")?;
+    let done = is_told(rt, alloc, s0, &prefix);
+    spend(prefix);
+    done
 }
 
 #[test]
 fn what_would_go_is_read(rt: HostRuntime) -> Result<(), Fail> {
     let s0 = first_server(rt.alloc(), ALL)?;
-    reads(&rt, rt.alloc(), &s0, &id(rt.alloc(), "/1")?)
+    let done = first_is_told(&rt, rt.alloc(), &s0);
+    spend(s0);
+    done
 }

@@ -1,9 +1,9 @@
 //! What servers have, in a few words.
+use crate::forms::{add, kept, reads, spend};
 use crate::parcel::{Server, piece};
-use crate::same;
 use fs_field::Row;
 use fs_ident::FileId;
-use fs_map::{FileMap, MapPiece};
+use fs_map::MapPiece;
 use fs_record::{Parcel, Record};
 use std::alloc::Global;
 use std::process::Abort;
@@ -16,79 +16,96 @@ pub(super) fn is_written(
     s: &Server,
     wanted: &str,
 ) -> Result<(), Fail> {
-    let text = server_text(alloc, s)?;
-    same(rt, text.as_str(), wanted);
-    Ok(())
-}
-
-/// So the parcel is written.
-pub(super) fn are_written(
-    rt: &impl Abort,
-    alloc: Global,
-    p: &Parcel,
-    wanted: &str,
-) -> Result<(), Fail> {
-    let text = parcel_text(alloc, p)?;
-    same(rt, text.as_str(), wanted);
+    reads(rt, server_text(alloc, s)?, wanted);
     Ok(())
 }
 
 /// Which identifiers the parcel gives, its files with how many names are in each, and the numbers of its rows.
 pub(super) fn parcel_text(alloc: Global, p: &Parcel) -> Result<String, Fail> {
-    let given = piece_text(alloc, &p.piece)?;
-    let records = records_text(alloc, p.records.as_slice())?;
-    let rows = rows_text(alloc, p.rows.as_slice())?;
-    Ok(format!(in alloc; "{given}| {records}| {rows}")?)
+    let mut text = String::new(alloc);
+    let done = add_parcel(alloc, &mut text, p);
+    kept(text, done)
+}
+
+fn add_parcel(alloc: Global, text: &mut String, p: &Parcel) -> Result<(), Fail> {
+    add_given(alloc, text, p.piece.given.as_slice())?;
+    text.push_str("| ")?;
+    add_records(alloc, text, p.records.as_slice())?;
+    text.push_str("| ")?;
+    add_rows(alloc, text, p.rows.as_slice())
 }
 
 /// The server's map, its files with how many names are in each, and the numbers of its rows in each table.
 pub(super) fn server_text(alloc: Global, s: &Server) -> Result<String, Fail> {
     let all = piece(alloc, "/", &[("/", true)])?;
-    let map = map_text(alloc, &s.map)?;
-    let records = records_text(alloc, s.records.given(alloc, &all)?.as_slice())?;
-    let rows = tables_text(alloc, s, &all)?;
-    Ok(format!(in alloc; "{map}| {records}| {rows}")?)
+    let text = text_in(alloc, s, &all);
+    spend(all);
+    text
 }
 
-/// The numbers of the server's rows of the piece, in each table.
-fn tables_text(alloc: Global, s: &Server, all: &MapPiece) -> Result<String, Fail> {
-    let off = rows_text(alloc, s.rows.live(0, 1).given(alloc, all)?.as_slice())?;
-    let on = rows_text(alloc, s.modes.live(0, 1).given(alloc, all)?.as_slice())?;
-    Ok(format!(in alloc; "{off}| {on}")?)
-}
-
-fn piece_text(alloc: Global, piece: &MapPiece) -> Result<String, Fail> {
+/// The same of what is the server's of the piece.
+fn text_in(alloc: Global, s: &Server, all: &MapPiece) -> Result<String, Fail> {
     let mut text = String::new(alloc);
-    for (place, given) in piece.given.as_slice() {
-        let line = format!(in alloc; "{place} {given} ")?;
-        text.push_str(&line)?;
+    let done = add_server(alloc, &mut text, s, all);
+    kept(text, done)
+}
+
+fn add_server(alloc: Global, text: &mut String, s: &Server, all: &MapPiece) -> Result<(), Fail> {
+    add_map(alloc, text, s.map.listed().as_slice())?;
+    text.push_str("| ")?;
+    add_files(alloc, text, s, all)?;
+    text.push_str("| ")?;
+    add_off(alloc, text, s, all)?;
+    text.push_str("| ")?;
+    add_on(alloc, text, s, all)
+}
+
+fn add_files(alloc: Global, text: &mut String, s: &Server, all: &MapPiece) -> Result<(), Fail> {
+    let records = s.records.given(alloc, all)?;
+    let done = add_records(alloc, text, records.as_slice());
+    spend(records);
+    done
+}
+
+fn add_off(alloc: Global, text: &mut String, s: &Server, all: &MapPiece) -> Result<(), Fail> {
+    let rows = s.rows.live(0, 1).given(alloc, all)?;
+    let done = add_rows(alloc, text, rows.as_slice());
+    spend(rows);
+    done
+}
+
+fn add_on(alloc: Global, text: &mut String, s: &Server, all: &MapPiece) -> Result<(), Fail> {
+    let rows = s.modes.live(0, 1).given(alloc, all)?;
+    let done = add_rows(alloc, text, rows.as_slice());
+    spend(rows);
+    done
+}
+
+fn add_given(alloc: Global, text: &mut String, places: &[(FileId, bool)]) -> Result<(), Fail> {
+    for (place, given) in places {
+        add(text, format!(in alloc; "{place} {given} ")?)?;
     }
-    Ok(text)
+    Ok(())
 }
 
-fn map_text(alloc: Global, map: &FileMap) -> Result<String, Fail> {
-    let mut text = String::new(alloc);
-    for (place, server) in map.listed().as_slice() {
-        let line = format!(in alloc; "{place} s{server} ")?;
-        text.push_str(&line)?;
+fn add_map(alloc: Global, text: &mut String, places: &[(FileId, u8)]) -> Result<(), Fail> {
+    for (place, server) in places {
+        add(text, format!(in alloc; "{place} s{server} ")?)?;
     }
-    Ok(text)
+    Ok(())
 }
 
-fn records_text(alloc: Global, records: &[(FileId, Record)]) -> Result<String, Fail> {
-    let mut text = String::new(alloc);
+fn add_records(alloc: Global, text: &mut String, records: &[(FileId, Record)]) -> Result<(), Fail> {
     for (file, record) in records {
-        let line = format!(in alloc; "{file}:{} ", record.node.children.len())?;
-        text.push_str(&line)?;
+        let names = record.node.children.len();
+        add(text, format!(in alloc; "{file}:{names} ")?)?;
     }
-    Ok(text)
+    Ok(())
 }
 
-fn rows_text(alloc: Global, rows: &[Row]) -> Result<String, Fail> {
-    let mut text = String::new(alloc);
+fn add_rows(alloc: Global, text: &mut String, rows: &[Row]) -> Result<(), Fail> {
     for row in rows {
-        let line = format!(in alloc; "{} ", row.no.count)?;
-        text.push_str(&line)?;
+        add(text, format!(in alloc; "{} ", row.no.count)?)?;
     }
-    Ok(text)
+    Ok(())
 }

@@ -3,8 +3,8 @@ ghost use Rattle.std.specs.Prelude.{◌≡◌, true, IfOk};
 ghost use Rattle.fs_field.specs.Field.{tells_no_mode};
 ghost use Rattle.fs_rows.specs.Moving.{are_off_modes};
 
+use crate::forms::{kept, kept_by, same, spend};
 use crate::rows::{FIRST, SECOND, THIRD, ask, one_row};
-use crate::same;
 use fs_field::{Asked, Field, LeaseKind, Row};
 use fs_ident::{FileId, LeaseNo, List, Session, Twin, TxnNo};
 use fs_map::{FileMap, MapPiece};
@@ -16,16 +16,22 @@ use std::test::Fail;
 /// Three rows on files of which the second is below the first, each kept by a transaction.
 fn locked_rows(alloc: Global) -> Result<Rows, Fail> {
     let mut rows = Rows::new(alloc);
-    keep(alloc, &mut rows, FIRST, b"/1", 7)?;
-    keep(alloc, &mut rows, SECOND, b"/1/2", 1)?;
-    keep(alloc, &mut rows, THIRD, b"/3", 5)?;
-    Ok(rows)
+    let done = keep_three(alloc, &mut rows);
+    kept(rows, done)
+}
+
+fn keep_three(alloc: Global, rows: &mut Rows) -> Result<(), Fail> {
+    keep(alloc, rows, FIRST, b"/1", 7)?;
+    keep(alloc, rows, SECOND, b"/1/2", 1)?;
+    keep(alloc, rows, THIRD, b"/3", 5)
 }
 
 /// The first session's question for a lease on the life of the file.
 fn ask_life(alloc: Global, rows: &mut Rows, no: LeaseNo, file: &[u8]) -> Result<Asked, Fail> {
     let life = life_of(alloc, file)?;
-    ask(alloc, rows, no, 1, &life, LeaseKind::Shared)
+    let asked = ask(alloc, rows, no, 1, &life, LeaseKind::Shared);
+    spend(life);
+    asked
 }
 
 /// A row on the life of the file, which the transaction of this count keeps.
@@ -43,22 +49,37 @@ fn life_of(alloc: Global, file: &[u8]) -> Result<Field, Fail>
 
 /// The map of a server to whom all belongs but the file of the second row.
 fn with_a_hole(alloc: Global) -> Result<FileMap, Fail> {
+    let hole = FileId::parse(alloc, b"/1/2")?;
+    let map = with_hint(alloc, &hole);
+    spend(hole);
+    map
+}
+
+fn with_hint(alloc: Global, hole: &FileId) -> Result<FileMap, Fail> {
     let mut map = FileMap::new(alloc)?;
-    map.hint(alloc, &FileId::parse(alloc, b"/1/2")?, 4)?;
-    Ok(map)
+    let done = map.hint(alloc, hole, 4);
+    kept_by(map, done)
 }
 
 /// What the server has below the prefix goes to another.
-fn given(alloc: Global, prefix: &FileId) -> Result<MapPiece, Fail> {
-    let mut map = with_a_hole(alloc)?;
+fn give(alloc: Global, map: &mut FileMap, prefix: &FileId) -> Result<MapPiece, Fail> {
     if map.owner(prefix).1 != 0 {
         return Err(Fail::from("it is another's"));
     }
     Ok(map.give(alloc, 0, prefix, 1)?)
 }
 
+fn given(alloc: Global, prefix: &FileId) -> Result<MapPiece, Fail> {
+    let mut map = with_a_hole(alloc)?;
+    let piece = give(alloc, &mut map, prefix);
+    spend(map);
+    piece
+}
+
 /// The prefix, the least transaction that keeps a row below it that is the server's, and for each row whether it goes.
-const GOES: [(&[u8], Option<u64>, [bool; 3]); 4] = [
+type Goes = (&'static [u8], Option<u64>, [bool; 3]);
+
+const GOES: &[Goes] = &[
     (b"/", Some(5), [true, false, true]),
     (b"/1", Some(7), [true, false, false]),
     (b"/3", Some(5), [false, false, true]),
@@ -78,11 +99,26 @@ fn stand(rows: &[Row]) -> [bool; 3] {
     ]
 }
 
+/// The same of rows that went.
+fn went(rows: List<Row>) -> [bool; 3] {
+    let stand = stand(rows.as_slice());
+    spend(rows);
+    stand
+}
+
 /// The least transaction that keeps a row below the prefix, by its count.
 fn least_lock(alloc: Global, prefix: &FileId) -> Result<Option<u64>, Fail> {
-    let map = with_a_hole(alloc)?;
     let rows = locked_rows(alloc)?;
-    match rows.locked_in(prefix, &map, 0) {
+    let least = least_in(alloc, &rows, prefix);
+    spend(rows);
+    least
+}
+
+fn least_in(alloc: Global, rows: &Rows, prefix: &FileId) -> Result<Option<u64>, Fail> {
+    let map = with_a_hole(alloc)?;
+    let least = rows.locked_in(prefix, &map, 0);
+    spend(map);
+    match least {
         Some(txn) => Ok(Some(txn.count)),
         None => Ok(None),
     }
@@ -100,48 +136,65 @@ fn gone(rows: &Rows) -> [bool; 3] {
 /// Which of the three go, and are gone then.
 fn go(alloc: Global, piece: &MapPiece) -> Result<([bool; 3], [bool; 3]), Fail> {
     let mut rows = locked_rows(alloc)?;
-    let moved = rows.split(alloc, piece)?;
-    Ok((stand(moved.as_slice()), gone(&rows)))
+    let moved = rows.split(alloc, piece);
+    let gone = gone(&rows);
+    spend(rows);
+    Ok((went(moved?), gone))
 }
 
-/// Which are gone where they are only dropped.
+/// Which are gone where they are only dropped, from a copy.
 fn leave(alloc: Global, piece: &MapPiece) -> Result<[bool; 3], Fail> {
-    let mut rows = locked_rows(alloc)?.copy(alloc)?;
+    let rows = locked_rows(alloc)?;
+    let twin = rows.copy(alloc);
+    spend(rows);
+    let mut rows = twin?;
     rows.leave(piece);
-    Ok(gone(&rows))
+    let gone = gone(&rows);
+    spend(rows);
+    Ok(gone)
+}
+
+/// What goes with the piece, of the rows that are told of and of those that are dropped.
+fn goes_by(rt: &impl Abort, alloc: Global, piece: &MapPiece, goes: [bool; 3]) -> Result<(), Fail> {
+    same(rt, go(alloc, piece)?, (goes, goes));
+    same(rt, leave(alloc, piece)?, goes);
+    Ok(())
 }
 
 fn goes(
     rt: &impl Abort,
     alloc: Global,
     prefix: &FileId,
-    kept: Option<u64>,
+    least: Option<u64>,
     goes: [bool; 3],
 ) -> Result<(), Fail> {
-    same(rt, least_lock(alloc, prefix)?, kept);
+    same(rt, least_lock(alloc, prefix)?, least);
     let piece = given(alloc, prefix)?;
-    same(rt, go(alloc, &piece)?, (goes, goes));
-    same(rt, leave(alloc, &piece)?, goes);
+    let done = goes_by(rt, alloc, &piece, goes);
+    spend(piece);
+    done
+}
+
+fn each_goes(rt: &impl Abort, alloc: Global, cases: &[Goes]) -> Result<(), Fail> {
+    for (prefix, least, wanted) in cases {
+        let prefix = FileId::parse(alloc, prefix)?;
+        let done = goes(rt, alloc, &prefix, *least, *wanted);
+        spend(prefix);
+        done?;
+    }
     Ok(())
 }
 
 #[test]
 fn rows_go_with_their_files(rt: HostRuntime) -> Result<(), Fail> {
-    for (prefix, kept, wanted) in GOES {
-        goes(
-            &rt,
-            rt.alloc(),
-            &FileId::parse(rt.alloc(), prefix)?,
-            kept,
-            wanted,
-        )?;
-    }
-    Ok(())
+    each_goes(&rt, rt.alloc(), GOES)
 }
 
 /// The number, session, file and kind of a row that comes after one of the second session, exclusive on the fourth
 /// file, with the third number: whether their numbers are new, and whether they fit.
-const COMES: [(LeaseNo, u16, &[u8], LeaseKind, bool, bool); 7] = [
+type Comes = (LeaseNo, u16, &'static [u8], LeaseKind, bool, bool);
+
+const COMES: &[Comes] = &[
     (SECOND, 1, b"/3", LeaseKind::Exclusive, true, true),
     (SECOND, 2, b"/3", LeaseKind::Shared, true, false),
     (SECOND, 2, b"/5", LeaseKind::Exclusive, true, true),
@@ -171,17 +224,38 @@ fn coming(
     })
 }
 
-/// Whether the numbers of these rows are new beside an exclusive one on the third file, and whether they fit there.
-fn come(alloc: Global, more: List<Row>) -> Result<(bool, bool), Fail>
+/// The rows are told of as new, and go beside those here where they fit. Whether they are new, and whether they came.
+fn come_to(alloc: Global, rows: &mut Rows, more: List<Row>) -> Result<(bool, bool), Fail>
     requires { are_off_modes more ≡ true }
 {
-    let mut rows = one_row(alloc, LeaseKind::Exclusive, 100)?;
     let new = rows.live(0, 0).are_new(&more);
-    let fits = rows.fits(&more);
-    if fits {
-        rows.join(alloc, more)?;
+    if !rows.fits(&more) {
+        spend(more);
+        return Ok((new, false));
     }
-    Ok((new, fits && rows.row(THIRD).is_some()))
+    rows.join(alloc, more)?;
+    Ok((new, rows.row(THIRD).is_some()))
+}
+
+/// Whether the numbers of these rows are new beside an exclusive one on the third file, and whether they fit there.
+fn come(alloc: Global, case: &Comes) -> Result<(bool, bool), Fail> {
+    let (no, session, file, kind, _, _) = case;
+    let mut rows = one_row(alloc, LeaseKind::Exclusive, 100)?;
+    let came = two_come(alloc, &mut rows, *no, *session, file, *kind);
+    spend(rows);
+    came
+}
+
+fn two_come(
+    alloc: Global,
+    rows: &mut Rows,
+    no: LeaseNo,
+    session: u16,
+    file: &[u8],
+    kind: LeaseKind,
+) -> Result<(bool, bool), Fail> {
+    let more = two_more(alloc, no, session, file, kind)?;
+    come_to(alloc, rows, more)
 }
 
 /// A row on the fourth file, and this one.
@@ -200,11 +274,14 @@ fn two_more(
     Ok(more)
 }
 
-#[test]
-fn rows_come_where_they_fit(rt: HostRuntime) -> Result<(), Fail> {
-    for (no, session, file, kind, new, fit) in COMES {
-        let more = two_more(rt.alloc(), no, session, file, kind)?;
-        same(&rt, come(rt.alloc(), more)?, (new, fit));
+fn each_comes(rt: &impl Abort, alloc: Global, cases: &[Comes]) -> Result<(), Fail> {
+    for case in cases {
+        same(rt, come(alloc, case)?, (case.4, case.5));
     }
     Ok(())
+}
+
+#[test]
+fn rows_come_where_they_fit(rt: HostRuntime) -> Result<(), Fail> {
+    each_comes(&rt, rt.alloc(), COMES)
 }
