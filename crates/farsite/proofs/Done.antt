@@ -8,6 +8,7 @@ use Rattle.fs_report.specs.Report.{done_text}
 use Rattle.fs_schedule.proofs.Single.{form_fits}
 use Rattle.fs_world.specs.Refusals.{NoneHas, is_link_strange}
 use Rattle.fs_world.specs.World.{AllMayHappen, run_of, stop_of}
+use Rattle.fs_world.proofs.CausedRuns.{all_caused}
 use Rattle.fs_world.proofs.HeldLaws.{serial_laws}
 use Rattle.fs_world.proofs.RightRuns.{neither_strange, no_core_strange, refusals_fair}
 use Rattle.fs_world.proofs.Whole.{run_is_serial, told_is_admitted}
@@ -30,6 +31,7 @@ replayed s bytes a b r f h k w = record {
   written = w;
   headline = run_is_serial serial_laws s (form_fits s bytes r) f r.1;
   fair = refusals_fair serial_laws s (form_fits s bytes r) f r.1;
+  over = all_caused s.head s.events;
   known = neither_strange (run_of s).outcomes k (no_core_strange serial_laws s (form_fits s bytes r) f r.1);
   admitted = λ direct. told_is_admitted serial_laws s direct f;
 }

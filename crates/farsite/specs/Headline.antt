@@ -1,5 +1,5 @@
 -- What every schedule comes to.
-use Rattle.std.specs.Prelude.{◌≡◌, ℕ, List, Option, Some, None}
+use Rattle.std.specs.Prelude.{◌≡◌, ℕ, List, [], Option, Some, None}
 use Rattle.std.specs.Io.KnownBytes.{Appends}
 use Rattle.fs_io.specs.Bytes.{IsPrefixWritten}
 use Rattle.fs_report.specs.Report.{report_text}
@@ -9,6 +9,7 @@ use Rattle.fs_schedule.specs.declared.event.Head.TheVariants.{Direct}
 use Rattle.fs_schedule.specs.declared.event.Schedule.{Schedule}
 use Rattle.fs_schedule.specs.Faults.{AtLine, IsFirstFault, IsScheduleText, PassesLimit}
 use Rattle.fs_world.specs.Order.{AllAdmitted, told_of}
+use Rattle.fs_world.specs.Over.{AllCaused, said_from}
 use Rattle.fs_world.specs.Refusals.{AllFair, NoneStrange}
 use Rattle.fs_world.specs.Safe.{IsSerial}
 use Rattle.fs_world.specs.World.{Run, Stop, AtPackets, first_world, journal_of, run_of, space_of, stop_of}
@@ -19,8 +20,9 @@ abbrev pub report_of : Run → List ℕ
 report_of r = report_text r.outcomes (journal_of r.world) (space_of r.world)
 
 -- what was written is the report of the schedule that was read, whose run went to its end; its journal is serial; an entry of a
--- log is refused only where a lease that it used had ended, or behind such a one; nothing that was told is strange, neither to
--- a link nor to a core; and in the direct form the journal has every reply that was told
+-- log is refused only where a lease that it used had ended, or behind such a one; a session is over only behind such a refusal, of
+-- which it heard; nothing that was told is strange, neither to a link nor to a core; and in the direct form the journal has every
+-- reply that was told
 pub record IsReplay (bytes : List ℕ) (before now : Option (List ℕ)) : Type 0 where
   pub schedule : Schedule
   pub read : IsScheduleText schedule bytes
@@ -28,6 +30,7 @@ pub record IsReplay (bytes : List ℕ) (before now : Option (List ℕ)) : Type 0
   pub written : Appends before now (report_of (run_of schedule))
   pub headline : IsSerial schedule.events (run_of schedule)
   pub fair : AllFair (first_world schedule.head) schedule.events
+  pub over : AllCaused [] (said_from (first_world schedule.head) schedule.events)
   pub known : NoneStrange (run_of schedule).outcomes
   pub admitted : schedule.head ≡ Direct → AllAdmitted (journal_of (run_of schedule).world) (told_of schedule.events (run_of schedule).outcomes)
 
