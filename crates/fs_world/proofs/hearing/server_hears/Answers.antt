@@ -15,30 +15,23 @@ use Rattle.fs_world.proofs.hearing.server_hears.Goals as goal
 pub server_takes-requires-clause-told : goal.server_takes-requires-clause-told
 server_takes-requires-clause-told c = subst (λ (o : Option ServerEvent). IfSome o CanBeTold) c.in-Some.is c.in_ok-event_heard.ensures.told
 
-pub returns-in_ok-told-clause-done : goal.returns-in_ok-told-clause-done
-returns-in_ok-told-clause-done c =
+pub returns-in_ok-told-in-None-clause-done : goal.returns-in_ok-told-in-None-clause-done
+returns-in_ok-told-in-None-clause-done c =
     let a = c.args in
     let x : ServerStepped = server_found a.core.now a.post.now a.seats.now a.flying.now a.journal.now a.packets.now in
     let none : None ≡ event_heard a.from a.heard.now.joined = sym c.in-None.is ∙ c.in_ok-event_heard.ensures.event ∙ ap (event_heard a.from) c.as_slice.ensures in
-    let e = c.in_ok-told.ensures in
+    let e = c.in_ok-told-in-None.ensures in
     (λ i. server_left (e.outcome i) a.core.now (c.mark_sent.ensures i) a.seats.now a.flying.now a.journal.now (e.ok i))
     ∙ ap (λ (n : Note). server_goes a.k false a.replied n None x) c.unheard_note-note.ensures
     ∙ goes_alone a.k false a.replied (unheard_note a.heard.now) x
     ∙ ap (λ (o : Option ServerEvent). server_hears a.now a.k a.from a.replied a.heard.now o x) none
 
-pub returns-in_ok-told-clause-fits : goal.returns-in_ok-told-clause-fits
-returns-in_ok-told-clause-fits c =
+pub returns-in_ok-told-in-None-clause-fits : goal.returns-in_ok-told-in-None-clause-fits
+returns-in_ok-told-in-None-clause-fits c =
     let a = c.args in
     let x : ServerStepped = server_found a.core.now a.post.now a.seats.now a.flying.now a.journal.now a.packets.now in
     let none : None ≡ event_heard a.from a.heard.now.joined = sym c.in-None.is ∙ c.in_ok-event_heard.ensures.event ∙ ap (event_heard a.from) c.as_slice.ensures in
     subst (λ (o : Option ServerEvent). IsAnswered a.now o x) none tt
-
-pub returns-in_ok-told-clause-spends : goal.returns-in_ok-told-clause-spends
-returns-in_ok-told-clause-spends c =
-    let a = c.args in
-    let x : ServerStepped = server_found a.core.now a.post.now a.seats.now a.flying.now a.journal.now a.packets.now in
-    let none : None ≡ event_heard a.from a.heard.now.joined = sym c.in-None.is ∙ c.in_ok-event_heard.ensures.event ∙ ap (event_heard a.from) c.as_slice.ensures in
-    subst (λ (o : Option ServerEvent). Spends _ (server_hears a.now a.k a.from a.replied a.heard.now o x).spent) none (none_spent _)
 
 pub returns-in-Some-clause-done : goal.returns-in-Some-clause-done
 returns-in-Some-clause-done c =

@@ -20,12 +20,6 @@ returns-in_ok-told-in-None-clause-done c =
     ∙ ap (λ (n : Note). seat_goes a.s false a.from n seat a.journal.now a.packets.now) c.unheard_note-note.ensures
     ∙ ap (λ (o : Option Answer). client_hears a.now a.s a.k a.from a.heard.now o seat a.journal.now a.packets.now) none
 
-pub returns-in_ok-told-in-None-clause-spends : goal.returns-in_ok-told-in-None-clause-spends
-returns-in_ok-told-in-None-clause-spends c =
-    let a = c.args in
-    let none : None ≡ answer_heard a.heard.now.joined = sym c.in-None.is ∙ c.in_ok-answer_heard.ensures ∙ ap answer_heard c.as_slice.ensures in
-    subst (λ (o : Option Answer). Spends _ (client_hears a.now a.s a.k a.from a.heard.now o a.seat.now a.journal.now a.packets.now).spent) none (none_spent _)
-
 pub returns-in-Some-clause-done : goal.returns-in-Some-clause-done
 returns-in-Some-clause-done c =
     let a = c.args in
