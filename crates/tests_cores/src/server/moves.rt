@@ -211,7 +211,12 @@ const NO_NUMBER: &str = "Grants { count: 0, end: NoIds { dir: FileId { numbers: 
 /// A directory whose numbers are all given has none for a new file.
 const FULL: &[Line] = &[
     (7, Event::Peer(0, said::FULL_PARCEL), Seen::Note, INSTALLS),
-    (8, Event::From(2, said::ASK_FRESH_BELOW), Seen::Note, NO_NUMBER),
+    (
+        8,
+        Event::From(2, said::ASK_FRESH_BELOW),
+        Seen::Note,
+        NO_NUMBER,
+    ),
 ];
 
 #[test]
