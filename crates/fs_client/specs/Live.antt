@@ -1,12 +1,11 @@
 -- The leases that are not over at a reading, and what is read of them.
-use Rattle.std.specs.Prelude.{ℕ, Bool, not, ◌&&◌, List, Option, Some, None, if◌then◌else◌}
+use Rattle.std.specs.Prelude.{ℕ, Bool, not, ◌&&◌, List}
 use Rattle.std.specs.List.{filter}
 use Rattle.fs_ident.specs.declared.actor.LeaseNo.{LeaseNo}
 use Rattle.fs_field.specs.declared.asked.Need.{Need}
-use Rattle.fs_field.specs.declared.used.Use.{Use}
 use Rattle.fs_view.specs.declared.kept.Kept.{Kept}
 use Rattle.fs_view.specs.Kept.{has_number, is_live}
-use Rattle.fs_view.specs.View.{can_pin_all, given_by, known_by}
+use Rattle.fs_view.specs.View.{given_by, known_by}
 use Rattle.fs_view.specs.Walk.{is_there}
 use Rattle.fs_client.specs.declared.state.Client.{Client}
 use Rattle.fs_client.specs.Turns.{ends_by, has_to_go}
@@ -22,10 +21,6 @@ is_returned now k = is_live now k && has_to_go k.recalled k.standing
 
 abbrev pub is_ending : ℕ → ℕ → Kept → Bool
 is_ending now soon k = is_live now k && (not k.recalled && ends_by soon k.standing)
-
--- the uses, where each lease can take the entries
-abbrev pub pinnable : List Use → List Kept → Option (List Use)
-pinnable uses leases = if can_pin_all uses leases then Some uses else None
 
 -- those of the items that are not there
 abbrev pub absent_from : Client → List Need → List Need

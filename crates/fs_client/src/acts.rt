@@ -1,5 +1,5 @@
 //! What a client makes of an operation of its user.
-ghost use Rattle.std.specs.Prelude.{◌≡◌, ◌≤◌, ◌⊎◌, true, false, IfOk, IsErrOf};
+ghost use Rattle.std.specs.Prelude.{◌≡◌, ◌≤◌, ◌⊎◌, true, false, IfOk, IfErr, OnOk, IsErrOf};
 ghost use Rattle.fs_ident.specs.declared.limits.TheConstants.{LATEST};
 ghost use Rattle.fs_model.specs.Sound.{is_change};
 ghost use Rattle.fs_msg.specs.declared.core_error.Counter.{Counter as TheCounter};
@@ -173,6 +173,19 @@ fn has_number_left(at: &Begun<'_>) -> bool
     at.next() < u64::MAX
 }
 
+/// The count of entries is spent exactly where none is left.
+fn unless_spent(left: bool) -> Result<(), CoreError>
+    ensures left { OnOk result (left ≡ true) }
+    ensures spent { IfErr result (λ e. (left ≡ false) × (e ≡ errors.Spent Entries)) }
+{
+    if left {
+        return Ok(());
+    }
+    Err(CoreError::Spent {
+        counter: Counter::Entries,
+    })
+}
+
 /// It is answered and admitted at once.
 fn reads(alloc: Global, at: &Begun<'_>, op: &Op, reply: Reply) -> Result<Plan<Act>, CoreError>
     ensures plan { IfOk result (λ p. p ≡ reads op.now reply at.now) }
@@ -180,11 +193,7 @@ fn reads(alloc: Global, at: &Begun<'_>, op: &Op, reply: Reply) -> Result<Plan<Ac
     ensures spent { (counter : TheCounter) → IsErrOf result (errors.Spent counter) →
         (counter ≡ Entries) × (has_number_left at.now ≡ false) }
 {
-    if !has_number_left(at) {
-        return Err(CoreError::Spent {
-            counter: Counter::Entries,
-        });
-    }
+    unless_spent(has_number_left(at))?;
     let item = Item {
         by: Peer::Client(at.session()),
         n: at.next(),
@@ -224,17 +233,10 @@ fn replies(
         (counter ≡ Entries) ×
         (can_change (replies op.now reply at.now).ready.change at.now ≡ false) }
 {
-    if !has_number_left(at) {
-        return Err(CoreError::Spent {
-            counter: Counter::Entries,
-        });
-    }
-    match at.uses_of(alloc, items)? {
-        None => Err(CoreError::Spent {
-            counter: Counter::Entries,
-        }),
-        Some(uses) => Ok(entry(alloc, at, op, reply, uses)?),
-    }
+    unless_spent(has_number_left(at))?;
+    let uses = at.uses_of(alloc, items)?;
+    unless_spent(at.can_pin(&uses))?;
+    Ok(entry(alloc, at, op, reply, uses)?)
 }
 
 /// The entry of the operation, with these leases that it used.

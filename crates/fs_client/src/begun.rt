@@ -1,13 +1,12 @@
 //! A client at the reading of an event, while it is only read.
-ghost use Rattle.std.specs.Prelude.{◌≡◌, not, map, IfOk};
+ghost use Rattle.std.specs.Prelude.{◌≡◌, not, map, IfOk, List as Seq};
 ghost use Rattle.std.specs.List.{filter_map, list_any, filter};
 ghost use Rattle.std.specs.Option.{option_copied};
 ghost use Rattle.fs_view.specs.Kept.{has_number};
-ghost use Rattle.fs_view.specs.View.{fresh, item_use, walk_in, given_by, known_by};
+ghost use Rattle.fs_view.specs.View.{can_pin_all, fresh, item_use, walk_in, given_by, known_by};
 ghost use Rattle.fs_view.specs.Walk.{is_there};
 ghost use Rattle.fs_client.specs.Acts.{hinted};
 ghost use Rattle.fs_client.specs.Client.{begun};
-ghost use Rattle.fs_client.specs.Live.{pinnable};
 ghost use Rattle.fs_client.specs.Turns.{ending, pair_of, returned};
 
 use crate::exchange::Exchange;
@@ -138,21 +137,21 @@ impl<'a> Begun<'a> {
         self.client.view.missing_of(self.reading, items)
     }
 
-    /// The leases that the items are answered from, as an entry names them; none where one of them cannot take an
-    /// entry more.
-    pub(crate) fn uses_of(
-        &self,
-        alloc: Global,
-        items: &List<Need>,
-    ) -> Result<Option<List<Use>>, Memory>
-        ensures { IfOk result (λ uses. uses ≡ pinnable
-            (filter_map (item_use self.now.view self.now.last) items.now) self.now.view.leases) }
+    /// The leases that the items are answered from, as an entry names them.
+    pub(crate) fn uses_of(&self, alloc: Global, items: &List<Need>) -> Result<List<Use>, Memory>
+        ensures { IfOk result (λ uses. uses ≡
+            filter_map (item_use self.now.view self.now.last) items.now) }
     {
-        let uses = self.client.view.uses_of(alloc, self.reading, items)?;
-        if self.client.view.can_pin(&uses) {
-            return Ok(Some(uses));
-        }
-        Ok(None)
+        self.client.view.uses_of(alloc, self.reading, items)
+    }
+
+    /// Whether each of the leases that items are answered from can take one entry more.
+    pub(crate) fn can_pin(&self, uses: &List<Use>) -> bool
+        requires { (items : Seq Need) ×
+            (uses.now ≡ filter_map (item_use self.now.view self.now.last) items) }
+        ensures { result ≡ can_pin_all uses.now self.now.view.leases }
+    {
+        self.client.view.can_pin(uses)
     }
 
     /// The identifier that is there for a new file in the directory.

@@ -71,8 +71,9 @@ impl ClientCore {
         })
     }
 
-    /// What the operation of the client's user comes to at the reading; nothing changes. `Spent` exactly where the
-    /// operation's number, or how many entries use a lease, would rise above u64::MAX.
+    /// What the operation of the client's user comes to at the reading; nothing changes. `Spent` only where the
+    /// operation's number, or how many entries use a lease, would rise above u64::MAX; there nothing but want of memory
+    /// comes in its place.
     pub fn plan_act(&self, alloc: Global, now: u64, op: &Op) -> Result<Plan<Act>, CoreError>
         requires reading { now ≤ LATEST }
         requires asked { may_ask op.now ≡ true }
@@ -120,8 +121,9 @@ impl ClientCore {
         commits::commit(alloc, &mut self.client, ready)
     }
 
-    /// What the operation of the client's user comes to at the reading, and that is done. `Spent` exactly where the
-    /// operation's number, or how many entries use a lease, would rise above u64::MAX; nothing changed after an error.
+    /// What the operation of the client's user comes to at the reading, and that is done. `Spent` only where the
+    /// operation's number, or how many entries use a lease, would rise above u64::MAX; there nothing but want of memory
+    /// comes in its place. Nothing changed after an error.
     pub fn act(&mut self, alloc: Global, now: u64, op: &Op) -> Result<ClientOut<Act>, CoreError>
         requires reading { now ≤ LATEST }
         requires asked { may_ask op.now ≡ true }

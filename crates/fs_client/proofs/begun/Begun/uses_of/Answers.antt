@@ -1,17 +1,13 @@
-use Rattle.std.proofs.Common.{true, false, ap, ◌∙◌}
+use Rattle.std.proofs.Common.{◌≡◌, List, subst}
+use Rattle.std.specs.Prelude.{IfOk}
 use Rattle.std.specs.List.{filter_map}
+use Rattle.fs_field.specs.declared.used.Use.{Use}
 use Rattle.fs_view.specs.View.{item_use}
 use Rattle.fs_client.specs.declared.state.Client.{Client}
-use Rattle.fs_client.specs.Live.{pinnable}
-use Rattle.fs_client.proofs.Pinnable.{pinnable_at}
+use Rattle.fs_client.proofs.Pinnable.{uses_at}
 use Rattle.fs_client.proofs.begun.Begun.uses_of.Goals as goal
 
 pub returns : goal.returns
 returns c =
-    pinnable_at c.self.inside.reading c.self.inside.client.now.view c.args.items.now c.in_ok-uses.uses false c.can_pin.ensures.distinct c.in_ok-uses.ensures c.if-can_pin.ensures.same
-    ∙ ap (λ (x : Client). pinnable (filter_map (item_use x.view x.last) c.args.items.now) x.view.leases) c.self.view_is
-
-pub returns-then-can_pin : goal.returns-then-can_pin
-returns-then-can_pin c =
-    pinnable_at c.self.inside.reading c.self.inside.client.now.view c.args.items.now c.in_ok-uses.uses true c.can_pin.ensures.distinct c.in_ok-uses.ensures c.if-can_pin.ensures.same
-    ∙ ap (λ (x : Client). pinnable (filter_map (item_use x.view x.last) c.args.items.now) x.view.leases) c.self.view_is
+    let P : Client → Type 0 = λ x. IfOk c.uses_of.result (λ (uses : List Use). uses ≡ filter_map (item_use x.view x.last) c.args.items.now) in
+    subst P c.self.view_is (uses_at c.self.inside.reading c.self.inside.client.now.view c.args.items.now c.uses_of.result c.uses_of.ensures)
