@@ -68,7 +68,8 @@ impl World {
         }
     }
 
-    /// One event: what it comes to. `Spent` exactly where the event would raise that counter above its end.
+    /// One event: what it comes to. `Spent` only where the event would raise that counter above its end; there nothing but
+    /// want of memory comes in its place.
     /// All that comes over a link was sent over it. After an error the world is as it was.
     pub fn step(&mut self, alloc: Global, event: &Event) -> Result<Outcome, CoreError>
         requires reading { event.now.reading ≤ LATEST }
