@@ -1,11 +1,8 @@
 -- The links of every world that steps make carry what was sent.
-use Rattle.std.proofs.Common.{◌≡◌, List, Option, Some, refl, sym, subst}
-use Rattle.fs_ident.specs.In.{In}
+use Rattle.std.proofs.Common.{Option, refl, sym, subst}
 use Rattle.fs_window.specs.Post.{Links}
-use Rattle.fs_window.specs.Reading.{packet_at}
 use Rattle.fs_window.specs.declared.packet.Packet.{Packet}
-use Rattle.fs_window.specs.declared.sent.Sent.{Sent}
-use Rattle.fs_world.specs.Carried.{Carries, GivesFirst, IsFirstOf, LinksCarry, between, joined_at, post_of}
+use Rattle.fs_world.specs.Carried.{Carries, GivesFirst, IsFirstOf, LinksCarry, between, joined_at}
 use Rattle.fs_world.specs.Linked.{IsLinked, IsWhole}
 use Rattle.fs_world.specs.declared.form.Form.{Form}
 use Rattle.fs_world.specs.declared.form.Form.TheVariants.{Direct, Served}

@@ -1,11 +1,9 @@
 -- Where a server hears no message nothing but its links changes.
-use Rattle.std.proofs.Common.{◌≡◌, ℕ, Bool, List, [], ◌++◌, append-nil, sym}
+use Rattle.std.proofs.Common.{◌≡◌, ℕ, Bool, [], ◌++◌, append-nil, sym}
 use Rattle.std.specs.Prelude.{Option, None}
 use Rattle.fs_ident.specs.declared.actor.Peer.{Peer}
 use Rattle.fs_actor.specs.Actor as actor
-use Rattle.fs_msg.specs.declared.item.Item.{Item}
 use Rattle.fs_msg.specs.declared.note.Note.{Note}
-use Rattle.fs_serial.specs.declared.flying.Flying.{Flying}
 use Rattle.fs_world.specs.Calls.{server_goes}
 use Rattle.fs_world.specs.Served.{ServerStepped, core_of, server_stepped}
 

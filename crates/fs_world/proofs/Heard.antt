@@ -16,7 +16,6 @@ use Rattle.fs_actor.specs.Hearing.{answer_heard, answer_of, event_heard, event_o
 use Rattle.fs_actor.proofs.AsSent.{sent_read}
 use Rattle.fs_serial.specs.Cluster.{is_between, is_with}
 use Rattle.fs_serial.specs.declared.flying.Flying.{Flying}
-use Rattle.fs_server.specs.declared.event.ServerEvent.{ServerEvent}
 use Rattle.fs_server.specs.declared.event.ServerEvent.TheVariants.{FromClient, FromPeer}
 use Rattle.fs_world.specs.Carried.{IsFirstOf, downs_of, parcels_between, ups_of}
 use Rattle.fs_world.specs.declared.seat.Seat.{Seat}

@@ -34,10 +34,9 @@ use Rattle.fs_server.specs.declared.state.Server.{Server as Core}
 use Rattle.fs_schedule.specs.declared.event.Head.TheVariants.{Servers}
 use Rattle.fs_schedule.specs.declared.event.What.{What}
 use Rattle.fs_schedule.specs.declared.event.What.TheVariants.{Join, Do, Tell, Turn, Recall, Move}
-use Rattle.fs_serial.specs.Cluster.{Cluster, IsThere, Lines, after_step, is_between, is_with, parcels_of}
+use Rattle.fs_serial.specs.Cluster.{Cluster, IsThere, Lines, after_step, is_with, parcels_of}
 use Rattle.fs_serial.specs.Refusals.{rows_in}
 use Rattle.fs_serial.specs.Joined.{rows_of_all}
-use Rattle.fs_serial.specs.declared.flying.Flying.{Flying}
 use Rattle.fs_world.specs.Calls.{client_hears, server_hears}
 use Rattle.fs_world.specs.Carried.{Carries, GivesFirst, IsFirstOf, between, downs_of, joined_at, parcels_between, post_of, seat_post, ups_of}
 use Rattle.fs_world.specs.Order.{Told}

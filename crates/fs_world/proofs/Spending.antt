@@ -6,7 +6,6 @@ use Rattle.fs_msg.specs.declared.core_error.Counter.TheVariants.{Segments}
 use Rattle.fs_msg.specs.declared.core_error.CoreError.{CoreError}
 use Rattle.fs_msg.specs.declared.core_error.CoreError.TheVariants as errors
 use Rattle.fs_actor.specs.Actor.{first_spent}
-use Rattle.fs_world.specs.Calls.{Spends}
 
 -- the counter that is spent is that of the link
 pub spent_link : (counter : Counter) (full : Bool) → first_spent None full ≡ Some counter → (full ≡ true) × (Segments ≡ counter)
@@ -23,10 +22,3 @@ refused_as {U = U} x counter e (inr p) = inr (let q : x ≡ errors.Memory = cc i
 pub no_error : {T : Type 0} (x : T) (a b : CoreError) → IsErrOf (Ok x) a ⊎ IsErrOf (Ok x) b → ⊥
 no_error x a b (inl e) = absurd (cc)
 no_error x a b (inr e) = absurd (cc)
-
--- where no counter is at its end
-pub none_spent : {T : Type 0} (x : T) → Spends (Ok x) None
-none_spent x = record {
-  given_up = λ counter h. absurd (no_error x (errors.Spent counter) errors.Memory (inl h));
-  only = λ counter h. absurd (cc);
-}

@@ -68,7 +68,8 @@ client_does s turn heard spent p seat journal packets = seat_stepped s (actor.cl
 
 -- what it heard of the server of number k
 abbrev pub client_hears : ℕ → Session → ℕ → Option Peer → Heard → Option Answer → Seat → List Item → Packets → SeatStepped
-client_hears now s k from h heard seat journal packets = seat_stepped s (actor.client_hears now k from h heard (side_of seat)) (down_after k heard seat.down) seat journal packets
+client_hears now s k from h heard seat journal packets =
+    seat_stepped s (actor.client_hears now k from h heard (side_of seat)) (down_after k heard seat.down) seat journal packets
 
 -- an answer of the server of number k comes to it, and is on its way no more
 abbrev pub client_takes : ℕ → Session → ℕ → Option Peer → Answer → Seat → List Item → Packets → SeatStepped
@@ -90,7 +91,8 @@ server_does k turn heard spent y x = server_stepped k (actor.server_does turn he
 
 -- what it heard of the actor
 abbrev pub server_hears : ℕ → ℕ → Peer → Option Peer → Heard → Option ServerEvent → ServerStepped → ServerStepped
-server_hears now k from replied h heard x = server_stepped k (actor.server_hears now replied h heard (core_of x)) (without_heard k from heard x)
+server_hears now k from replied h heard x =
+    server_stepped k (actor.server_hears now replied h heard (core_of x)) (without_heard k from heard x)
 
 -- the first message of the actor is on its way no more
 abbrev pub without_message : ℕ → Peer → ServerStepped → ServerStepped

@@ -124,7 +124,8 @@ down_after k (Some a) down = without_first (is_with k) down
 -- a packet of the server of number k comes to it
 abbrev pub client_told : ℕ → Session → ℕ → Packet → Seat → List Item → Packets → SeatStepped
 client_told now s k p seat journal packets =
-    seat_stepped s (actor.client_told now k p (side_of seat)) (down_after k (answer_heard (post_accepted seat.post (Server k) p).heard.joined) seat.down) seat journal packets
+    seat_stepped s (actor.client_told now k p (side_of seat))
+    (down_after k (answer_heard (post_accepted seat.post (Server k) p).heard.joined) seat.down) seat journal packets
 
 -- ## Where they stand in the world
 
@@ -233,7 +234,8 @@ abbrev pub without_heard : ℕ → Peer → Option ServerEvent → ServerStepped
 without_heard k from heard x = record x { seats = seats_after k from heard x.seats; flying = flying_after k from heard x.flying }
 
 abbrev pub server_told : ℕ → ℕ → Peer → Packet → ServerStepped → ServerStepped
-server_told now k from p x = server_stepped k (actor.server_told now from p (core_of x)) (without_heard k from (event_heard from (post_accepted x.post from p).heard.joined) x)
+server_told now k from p x =
+    server_stepped k (actor.server_told now from p (core_of x)) (without_heard k from (event_heard from (post_accepted x.post from p).heard.joined) x)
 
 -- ## Where servers stand in the world
 

@@ -1,4 +1,4 @@
-use Rattle.std.proofs.Common.{◌≡◌, arith, ap, sym, ◌∙◌}
+use Rattle.std.proofs.Common.{arith, ap, sym, ◌∙◌}
 use Rattle.fs_actor.specs.Whole.{whole_message}
 use Rattle.fs_actor.proofs.Whole.{none_fits, none_read, read-again}
 use Rattle.fs_actor.proofs.hearing.whole_message.Goals as goal

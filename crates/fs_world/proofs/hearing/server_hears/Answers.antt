@@ -9,7 +9,6 @@ use Rattle.fs_world.specs.Planned.{IsAnswered}
 use Rattle.fs_world.specs.Served.{ServerStepped, server_found}
 use Rattle.fs_world.proofs.AtHearing.{answered_after}
 use Rattle.fs_world.proofs.GoesAlone.{goes_alone}
-use Rattle.fs_world.proofs.Spending.{none_spent}
 use Rattle.fs_world.proofs.hearing.server_hears.Goals as goal
 
 pub server_takes-requires-clause-told : goal.server_takes-requires-clause-told

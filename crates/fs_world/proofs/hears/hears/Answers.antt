@@ -1,4 +1,4 @@
-use Rattle.std.proofs.Common.{◌≡◌, List, ap, sym, ◌∙◌, subst, false}
+use Rattle.std.proofs.Common.{◌≡◌, ap, sym, ◌∙◌, subst, false}
 use Rattle.std.specs.Prelude.{Option, Some, None, IfOk}
 use Rattle.fs_actor.specs.Hearing.{answer_heard}
 use Rattle.fs_msg.specs.declared.answer.Answer.{Answer}
@@ -6,7 +6,6 @@ use Rattle.fs_msg.specs.declared.note.Note.{Note}
 use Rattle.fs_window.specs.Post.{Links}
 use Rattle.fs_world.specs.Calls.{Spends, client_hears, seat_goes, seat_left}
 use Rattle.fs_world.specs.declared.seat.Seat.{Seat}
-use Rattle.fs_world.proofs.Spending.{none_spent}
 use Rattle.fs_world.proofs.hears.hears.Goals as goal
 
 pub returns-in_ok-told-in-None-clause-done : goal.returns-in_ok-told-in-None-clause-done
