@@ -1,5 +1,5 @@
 -- The words of the command line.
-use Rattle.std.specs.Prelude.{ℕ, Bool, false, List, [], ◌∷◌, ◌++◌, Option, Some, None, codes, nat_eq, if◌then◌else◌}
+use Rattle.std.specs.Prelude.{ℕ, Bool, false, List, [], ◌∷◌, Option, Some, None, codes, nat_eq, if◌then◌else◌}
 use Rattle.std.specs.Cmp.Lexicographic.{pointwise}
 use Rattle.farsite.specs.declared.page.Page.{Page}
 use Rattle.farsite.specs.declared.page.Page.TheVariants.{Help, Version}
@@ -20,11 +20,3 @@ abbrev pub page_of : List (List ℕ) → Option Page
 page_of [] = None
 page_of (w ∷ []) = if pointwise nat_eq w (codes "--help") then Some Help else (if pointwise nat_eq w (codes "--version") then Some Version else None)
 page_of (w ∷ (v ∷ ws)) = None
-
--- the text of a page, each of its lines with a line feed
-abbrev pub page_text : Page → List ℕ
-page_text Help =
-    codes "usage: farsite replay < SCHEDULE\n\n"
-    ++ codes "Reads a schedule, runs it, and writes its report: an outcome for each event, the journal,\n"
-    ++ codes "and the namespace at the end.\n"
-page_text Version = codes "farsite 0.1.0\n"

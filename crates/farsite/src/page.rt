@@ -1,7 +1,7 @@
 //! What the program tells of itself.
 ghost use Rattle.std.specs.Prelude.{◌≡◌, map, string_bytes, nat_eq};
 ghost use Rattle.std.specs.Cmp.Lexicographic.{pointwise};
-ghost use Rattle.farsite.specs.Usage.{page_of, page_text};
+ghost use Rattle.farsite.specs.Usage.{page_of};
 
 /// A text on the program, which is printed in place of a call.
 #[derive(Clone, Copy, Debug, PartialEq, Eq)]
@@ -13,10 +13,8 @@ pub(crate) enum Page {
 }
 
 impl Page {
-    /// The text, each of its lines with a line feed.
-    pub(crate) fn text(self) -> &'static str
-        ensures { result.now ≡ page_text self }
-    {
+    /// The text, without its last line feed.
+    pub(crate) fn text(self) -> &'static str {
         match self {
             Page::Help => HELP,
             Page::Version => VERSION,
@@ -27,10 +25,9 @@ impl Page {
 const HELP: &str = "usage: farsite replay < SCHEDULE
 
 Reads a schedule, runs it, and writes its report: an outcome for each event, the journal,
-and the namespace at the end.
-";
+and the namespace at the end.";
 
-const VERSION: &str = "farsite 0.1.0\n";
+const VERSION: &str = "farsite 0.1.0";
 
 /// The page that the words ask for, where they are `--help` or `--version` alone.
 pub(crate) fn page_of(words: &[String]) -> Option<Page>

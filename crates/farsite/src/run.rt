@@ -1,12 +1,11 @@
 //! The run of a schedule.
-ghost use Rattle.std.specs.Prelude.{◌≡◌, ◌<◌, ◌≤◌, ℕ, IfOk, IsOk, OnOk, None, Some, IsErrOf};
+ghost use Rattle.std.specs.Prelude.{◌≡◌, ℕ, IfOk, OnOk, None, Some, IsErrOf};
 ghost use Rattle.fs_msg.specs.declared.core_error.Counter.{Counter as TheCounter};
 ghost use Rattle.fs_schedule.specs.Spelling.{FitsHead};
 ghost use Rattle.fs_world.specs.Carried.{AllCarry};
 ghost use Rattle.fs_world.specs.Refusals.{NoneHas, is_link_strange};
 ghost use Rattle.fs_world.specs.World.{AtCounter, AtPackets, first_world, run_of, run_on, stop_in, stop_of};
 ghost use Rattle.farsite.specs.Fitting.{MayHappen};
-ghost use Rattle.farsite.specs.Status.{run_error};
 ghost use Rattle.farsite.specs.declared.run_error.RunError.TheVariants.{Packets, Spent};
 
 use crate::run_error::RunError;
@@ -64,30 +63,14 @@ fn run_all(
     for (at, e) in events.iter().enumerate() {
         match world.step(alloc, e) {
             Ok(outcome) => told.push(outcome)?,
-            Err(e) => return Err(run_error(e)),
+            Err(CoreError::Spent { counter }) => return Err(RunError::Spent { counter }),
+            Err(CoreError::Memory) => return Err(RunError::Memory),
         }
-        within_limit(world.packets().len(), at as u64 + 2)?;
-    }
-    Ok(())
-}
-
-/// Why a run is broken off at an event that is no step.
-fn run_error(e: CoreError) -> RunError
-    ensures { result ≡ run_error e }
-{
-    match e {
-        CoreError::Spent { counter } => RunError::Spent { counter },
-        CoreError::Memory => RunError::Memory,
-    }
-}
-
-/// The run is broken off at this line exactly where more packets than the limit were sent.
-pub(crate) fn within_limit(sent: usize, line: u64) -> Result<(), RunError>
-    ensures many { PACKETS < sent → IsErrOf result (Packets line) }
-    ensures few { sent ≤ PACKETS → IsOk result }
-{
-    if PACKETS < sent {
-        return Err(RunError::Packets { line });
+        if PACKETS < world.packets().len() {
+            return Err(RunError::Packets {
+                line: at as u64 + 2,
+            });
+        }
     }
     Ok(())
 }

@@ -2,13 +2,10 @@ mod moves;
 mod schedules;
 mod served;
 
-use crate::page::Page;
-use crate::run::within_limit;
-use crate::run_error::RunError;
 use crate::status::Status;
 use crate::top::farsite;
 use crate::{printed, words_of};
-use fs_io::{MemClock, MemSink, MemSource, SureLink, standard_output};
+use fs_io::{MemClock, MemSink, MemSource, SureLink};
 use fs_schedule::Which;
 use moves::{
     DELEGATION, DELEGATION_REPORT, REFUSED_MOVES, REFUSED_MOVES_REPORT, SENT_ON, SENT_ON_REPORT,
@@ -479,13 +476,5 @@ fn words_that_are_not_text(rt: HostRuntime) -> Result<(), Fail> {
 
 #[test]
 fn a_full_output(rt: HostRuntime) {
-    let mut out = standard_output(&Poor);
-    same(&rt, printed(Page::Help, &mut out), Status::WriteFault);
-}
-
-#[test]
-fn packets_have_a_limit(rt: HostRuntime) {
-    let refused = Err(RunError::Packets { line: 7 });
-    same(&rt, within_limit(1_048_576, 7), Ok(()));
-    same(&rt, within_limit(1_048_577, 7), refused);
+    same(&rt, printed(&Poor, "text"), Status::WriteFault);
 }
