@@ -1,5 +1,4 @@
 //! What is told, copied, written and read.
-mod counts;
 mod faults;
 mod messages;
 mod parcels;
