@@ -1,5 +1,5 @@
 -- The end of a replay.
-use Rattle.std.proofs.Common.{◌≡◌, ℕ, ◌+◌, List, [], ◌∷◌, ◌++◌, ap, ◌∙◌, subst, append_assoc, inl, inr}
+use Rattle.std.proofs.Common.{◌≡◌, ℕ, ◌+◌, List, [], ◌∷◌, ◌++◌, ap, sym, ◌∙◌, subst, append_assoc, inl, inr}
 use Rattle.std.specs.Prelude.{Option, Some, None, IfSome}
 use Rattle.std.specs.Io.KnownBytes.{Appends}
 use Rattle.fs_schedule.specs.declared.event.Schedule.{Schedule}
@@ -21,11 +21,12 @@ use Rattle.fs_schedule.specs.declared.error.ScheduleError.{ScheduleError}
 use Rattle.fs_schedule.specs.declared.error.ScheduleError.TheVariants as schedule
 use Rattle.farsite.specs.Status.{schedule_status}
 use Rattle.farsite.specs.declared.status.Status.TheVariants as status
-use Rattle.farsite.specs.Headline.{IsLimit, IsReplay, report_of}
+use Rattle.farsite.specs.Headline.{IsLimit, IsRun, text_of}
+use Rattle.farsite.specs.declared.words.Command.{Command}
 
--- a schedule's report was written
-pub replayed : (s : Schedule) (bytes : List ℕ) (a b : Option (List ℕ)) → IsScheduleText s bytes → AllMayHappen s.head s.events → stop_of s ≡ None → NoneHas is_link_strange (run_of s).outcomes → AllCarry (first_world s.head) s.events → Appends a b (report_of (run_of s)) → IsReplay bytes a b
-replayed s bytes a b r f h k carry w = record {
+-- what the command writes of a schedule was written
+pub replayed : (command : Command) (s : Schedule) (bytes : List ℕ) (a b : Option (List ℕ)) → IsScheduleText s bytes → AllMayHappen s.head s.events → stop_of s ≡ None → NoneHas is_link_strange (run_of s).outcomes → AllCarry (first_world s.head) s.events → Appends a b (text_of command (run_of s)) → IsRun command bytes a b
+replayed command s bytes a b r f h k carry w = record {
   schedule = s;
   read = r;
   whole = h;
@@ -80,3 +81,7 @@ last_line o j s a b c x y z p q r =
     ap (λ n. o ++ (j ++ (s ++ done_text n b c))) p
     ∙ ap (λ n. o ++ (j ++ (s ++ done_text x n c))) q
     ∙ ap (λ n. o ++ (j ++ (s ++ done_text x y n))) r
+
+-- what holds of the command holds of what the words ask for
+pub as_asked : (o : Option Command) (command : Command) (P : Command → Type 0) → o ≡ Some command → P command → IfSome o P
+as_asked o command P e h = subst (λ (x : Option Command). IfSome x P) (sym e) h

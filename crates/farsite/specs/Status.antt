@@ -1,6 +1,8 @@
 -- How a call of the program ends.
 use Rattle.std.specs.Prelude.{ℕ, List, ◌++◌, codes}
 use Rattle.std.specs.Fmt.{decimal}
+use Rattle.fs_msg.specs.declared.core_error.CoreError.{CoreError}
+use Rattle.fs_msg.specs.declared.core_error.CoreError.TheVariants as core
 use Rattle.fs_schedule.specs.Limits.{which_text}
 use Rattle.fs_schedule.specs.declared.error.ScheduleError.{ScheduleError}
 use Rattle.fs_schedule.specs.declared.error.ScheduleError.TheVariants as schedule
@@ -49,6 +51,11 @@ schedule_status (schedule.BadLine line) = status.BadLine line
 schedule_status (schedule.Limit which at) = status.Limit which at
 schedule_status (schedule.Skewed line earlier) = status.Skewed line earlier
 schedule_status schedule.Memory = status.Memory
+
+-- why a run is broken off at an event that is no step
+abbrev pub run_error : CoreError → RunError
+run_error (core.Spent counter) = run.Spent counter
+run_error core.Memory = run.Memory
 
 -- the status of a run that was broken off
 abbrev pub run_status : RunError → Status

@@ -1,4 +1,4 @@
-//! The program: reads a schedule, runs it, and writes its report.
+//! The program: reads a schedule, runs it, and writes what is asked for of the run.
 #![tactic(auto)]
 
 mod lines;
@@ -10,15 +10,21 @@ mod status;
 mod top;
 mod words;
 
-ghost use Rattle.std.specs.Prelude.{◌≡◌};
+ghost use Rattle.std.specs.Prelude.{◌≡◌, ◌⊎◌, ◌+◌, ◌<◌, ◌^◌};
+ghost use Rattle.std.specs.Io.KnownBytes.{Appends};
 ghost use Rattle.std.specs.Process.{exit_status};
+ghost use Rattle.fs_io.specs.Bytes.{IsPrefixWritten};
+ghost use Rattle.fs_io.specs.Faults.{Rose};
 ghost use Rattle.farsite.specs.Status.{number_of};
+ghost use Rattle.farsite.specs.Usage.{page_text};
+ghost use Rattle.farsite.specs.declared.status.Status.TheVariants.{Done, WriteFault};
 
-use crate::page::page_of;
+use crate::lines::write_lines;
+use crate::page::{Page, page_of};
 use crate::status::Status;
 use crate::top::farsite;
 use fs_ident::Memory;
-use fs_io::{MemClock, SureLink, standard_input, standard_output};
+use fs_io::{Failed, MemClock, Sink, SureLink, standard_input, standard_output};
 use std::alloc::Global;
 use std::env::FillError;
 use std::process::ExitCode;
@@ -35,7 +41,7 @@ fn call<R: Env + Input + Print + AllocGlobal>(rt: &R) -> Status {
         return Status::Memory;
     };
     match page_of(&words) {
-        Some(page) => printed(rt, page.text()),
+        Some(page) => printed(page, &mut standard_output(rt)),
         None => called(rt, &words),
     }
 }
@@ -44,13 +50,21 @@ fn call<R: Env + Input + Print + AllocGlobal>(rt: &R) -> Status {
 /// word of any form has.
 fn words_of(alloc: Global, env: &impl Env) -> Result<Vec<String>, Memory> {
     let mut words = Vec::new(alloc);
-    for at in 1..usize::MAX {
-        let Some(bytes) = word_at(alloc, env, at)? else {
+    for number in 0..usize::MAX {
+        let Some(bytes) = word_at(alloc, env, place_of(number))? else {
             break;
         };
         words.push(String::from_utf8_lossy(alloc, &bytes)?)?;
     }
     Ok(words)
+}
+
+/// Where the word of this number stands, both counted from 0: the first word is the first behind the program's name.
+fn place_of(number: usize) -> usize
+    requires { number + 1 < 2 ^ 64 }
+    ensures { result ≡ number + 1 }
+{
+    1 + number
 }
 
 /// The bytes of a word, None behind the last.
@@ -70,11 +84,19 @@ fn word_at(alloc: Global, env: &impl Env, at: usize) -> Result<Option<Vec<u8>>, 
     Err(Memory)
 }
 
-/// Prints a text: done where it was printed.
-fn printed(rt: &impl Print, text: &str) -> Status {
-    match rt.println(text) {
+/// Writes the page's text, each line by itself: done where all of it was written.
+fn printed<K: Sink>(page: Page, out: &mut K) -> Status
+    ensures done { result ≡ Done →
+        Appends (K.written out.old) (K.written out.new) (page_text page) }
+    ensures prefix { result ≡ WriteFault →
+        IsPrefixWritten (K.written out.old) (K.written out.new) (page_text page) }
+    ensures fault { result ≡ WriteFault → Rose (K.faults out.old) (K.faults out.new) }
+    ensures quiet { result ≡ Done → K.faults out.new ≡ K.faults out.old }
+    ensures either { (result ≡ Done) ⊎ (result ≡ WriteFault) }
+{
+    match write_lines(out, page.text().as_bytes()) {
         Ok(()) => Status::Done,
-        Err(_) => Status::WriteFault,
+        Err(Failed) => Status::WriteFault,
     }
 }
 

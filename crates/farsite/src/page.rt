@@ -1,7 +1,8 @@
 //! What the program tells of itself.
-ghost use Rattle.std.specs.Prelude.{◌≡◌, map, string_bytes, nat_eq};
-ghost use Rattle.std.specs.Cmp.Lexicographic.{pointwise};
-ghost use Rattle.farsite.specs.Usage.{page_of};
+ghost use Rattle.std.specs.Prelude.{◌≡◌, map, string_bytes};
+ghost use Rattle.farsite.specs.Usage.{page_of, page_text};
+
+use crate::words::is_word;
 
 /// A text on the program, which is printed in place of a call.
 #[derive(Clone, Copy, Debug, PartialEq, Eq)]
@@ -13,8 +14,10 @@ pub(crate) enum Page {
 }
 
 impl Page {
-    /// The text, without its last line feed.
-    pub(crate) fn text(self) -> &'static str {
+    /// The text, each of its lines with a line feed.
+    pub(crate) fn text(self) -> &'static str
+        ensures { result.now ≡ page_text self }
+    {
         match self {
             Page::Help => HELP,
             Page::Version => VERSION,
@@ -23,11 +26,13 @@ impl Page {
 }
 
 const HELP: &str = "usage: farsite replay < SCHEDULE
+       farsite journal < SCHEDULE
 
-Reads a schedule, runs it, and writes its report: an outcome for each event, the journal,
-and the namespace at the end.";
+Reads a schedule and runs it. `replay` writes its report: an outcome for each event, the
+journal, and the namespace at the end. `journal` writes the journal and the namespace in JSON.
+";
 
-const VERSION: &str = "farsite 0.1.0";
+const VERSION: &str = "farsite 0.1.0\n";
 
 /// The page that the words ask for, where they are `--help` or `--version` alone.
 pub(crate) fn page_of(words: &[String]) -> Option<Page>
@@ -45,10 +50,4 @@ pub(crate) fn page_of(words: &[String]) -> Option<Page>
         }
         _ => None,
     }
-}
-
-fn is_word(word: &String, bytes: &[u8]) -> bool
-    ensures { result ≡ pointwise nat_eq (string_bytes word.now) bytes.now }
-{
-    word.as_bytes() == bytes
 }

@@ -1,31 +1,37 @@
-//! The report of a schedule.
+//! What is written of a schedule's run.
 ghost use Rattle.std.specs.Prelude.{◌≡◌, ◌++◌, IfOk, OnOk, None, Some, IsErrOf, ℕ};
 ghost use Rattle.fs_msg.specs.declared.core_error.Counter.{Counter as TheCounter};
+ghost use Rattle.fs_report.specs.Json.{journal_json};
 ghost use Rattle.fs_report.specs.Report.{outcomes_text, items_text, report_text};
 ghost use Rattle.fs_schedule.specs.Spelling.{FitsHead};
 ghost use Rattle.fs_world.specs.Carried.{AllCarry};
 ghost use Rattle.fs_world.specs.Refusals.{NoneHas, is_link_strange};
 ghost use Rattle.fs_world.specs.World.{AtCounter, AtPackets, first_world, run_of, stop_of};
 ghost use Rattle.farsite.specs.Fitting.{MayHappen};
-ghost use Rattle.farsite.specs.Headline.{report_of};
+ghost use Rattle.farsite.specs.Headline.{text_of};
 ghost use Rattle.farsite.specs.declared.run_error.RunError.TheVariants.{Packets, Spent};
 
 use crate::run::run;
 use crate::run_error::RunError;
+use crate::words::Command;
 use fs_ident::{List, Memory};
 use fs_model::Space;
 use fs_msg::Item;
-use fs_report::{done_line, item_line, outcome_line, space_lines};
+use fs_report::{done_line, item_line, journal_json, outcome_line, space_lines};
 use fs_schedule::{Outcome, Schedule};
 use fs_world::World;
 use std::alloc::Global;
 
-/// The report of the schedule's run. `Spent` where an event needs a number after a counter's last one, `Packets` where more
-/// packets are sent than the limit.
-pub(crate) fn report_of(alloc: Global, schedule: &Schedule) -> Result<Vec<u8>, RunError>
+/// What the command writes of the schedule's run. `Spent` where an event needs a number after a counter's last one, `Packets`
+/// where more packets are sent than the limit.
+pub(crate) fn text_of(
+    alloc: Global,
+    command: Command,
+    schedule: &Schedule,
+) -> Result<Vec<u8>, RunError>
     requires head { FitsHead schedule.now.head }
     requires events { MayHappen (first_world schedule.now.head) schedule.now.events }
-    ensures ok { IfOk result (λ v. v.items ≡ report_of (run_of schedule.now)) }
+    ensures ok { IfOk result (λ v. v.items ≡ text_of command (run_of schedule.now)) }
     ensures known { OnOk result (NoneHas is_link_strange (run_of schedule.now).outcomes) }
     ensures carried { OnOk result (AllCarry (first_world schedule.now.head) schedule.now.events) }
     ensures whole { OnOk result (stop_of schedule.now ≡ None) }
@@ -35,22 +41,39 @@ pub(crate) fn report_of(alloc: Global, schedule: &Schedule) -> Result<Vec<u8>, R
         stop_of schedule.now ≡ Some (AtPackets line) }
 {
     let (world, told) = run(alloc, schedule)?;
-    let report = report(alloc, &world, &told);
+    let text = text(alloc, command, &world, &told);
     world.discard();
-    Ok(report?)
+    Ok(text?)
 }
 
-/// The report of a world and of what its events came to.
-fn report(alloc: Global, world: &World, told: &List<Outcome>) -> Result<Vec<u8>, Memory>
+/// What the command writes of a world and of what its events came to.
+fn text(
+    alloc: Global,
+    command: Command,
+    world: &World,
+    told: &List<Outcome>,
+) -> Result<Vec<u8>, Memory>
     ensures { IfOk result (λ v. v.items ≡
-        report_of (record { world = world.now; outcomes = told.now })) }
+        text_of command (record { world = world.now; outcomes = told.now })) }
 {
     let space = world.space(alloc)?;
-    written(alloc, told, world.journal(), &space)
+    match command {
+        Command::Replay => report(alloc, told, world.journal(), &space),
+        Command::Journal => json(alloc, world.journal(), &space),
+    }
+}
+
+/// The journal and the namespace in JSON.
+fn json(alloc: Global, journal: &List<Item>, space: &Space) -> Result<Vec<u8>, Memory>
+    ensures { IfOk result (λ v. v.items ≡ journal_json journal.now space.now) }
+{
+    let mut text = Vec::new(alloc);
+    journal_json(alloc, journal, space, &mut text)?;
+    Ok(text)
 }
 
 /// The lines of what was told, of the journal and of the namespace at the end.
-fn written(
+fn report(
     alloc: Global,
     told: &List<Outcome>,
     journal: &List<Item>,

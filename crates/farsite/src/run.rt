@@ -1,11 +1,12 @@
 //! The run of a schedule.
-ghost use Rattle.std.specs.Prelude.{◌≡◌, ℕ, IfOk, OnOk, None, Some, IsErrOf};
+ghost use Rattle.std.specs.Prelude.{◌≡◌, ◌<◌, ◌≤◌, ℕ, IfOk, IfNone, IfSome, OnOk, None, Some, IsErrOf};
 ghost use Rattle.fs_msg.specs.declared.core_error.Counter.{Counter as TheCounter};
 ghost use Rattle.fs_schedule.specs.Spelling.{FitsHead};
 ghost use Rattle.fs_world.specs.Carried.{AllCarry};
 ghost use Rattle.fs_world.specs.Refusals.{NoneHas, is_link_strange};
 ghost use Rattle.fs_world.specs.World.{AtCounter, AtPackets, first_world, run_of, run_on, stop_in, stop_of};
 ghost use Rattle.farsite.specs.Fitting.{MayHappen};
+ghost use Rattle.farsite.specs.Status.{run_error};
 ghost use Rattle.farsite.specs.declared.run_error.RunError.TheVariants.{Packets, Spent};
 
 use crate::run_error::RunError;
@@ -63,14 +64,30 @@ fn run_all(
     for (at, e) in events.iter().enumerate() {
         match world.step(alloc, e) {
             Ok(outcome) => told.push(outcome)?,
-            Err(CoreError::Spent { counter }) => return Err(RunError::Spent { counter }),
-            Err(CoreError::Memory) => return Err(RunError::Memory),
+            Err(e) => return Err(run_error(e)),
         }
-        if PACKETS < world.packets().len() {
-            return Err(RunError::Packets {
-                line: at as u64 + 2,
-            });
+        match flooded(world.packets().len(), at as u64 + 2) {
+            Some(line) => return Err(RunError::Packets { line }),
+            None => {}
         }
     }
     Ok(())
+}
+
+/// Why a run is broken off at an event that is no step.
+fn run_error(e: CoreError) -> RunError
+    ensures { result ≡ run_error e }
+{
+    match e {
+        CoreError::Spent { counter } => RunError::Spent { counter },
+        CoreError::Memory => RunError::Memory,
+    }
+}
+
+/// The line at which the run is broken off: this one exactly where more packets than the limit were sent.
+pub(crate) fn flooded(sent: usize, line: u64) -> Option<u64>
+    ensures many { IfSome result (λ at. (PACKETS < sent) × (at ≡ line)) }
+    ensures few { IfNone result (sent ≤ PACKETS) }
+{
+    if PACKETS < sent { Some(line) } else { None }
 }

@@ -2,17 +2,19 @@ mod moves;
 mod schedules;
 mod served;
 
+use crate::page::Page;
+use crate::run::flooded;
 use crate::status::Status;
 use crate::top::farsite;
 use crate::{printed, words_of};
-use fs_io::{MemClock, MemSink, MemSource, SureLink};
+use fs_io::{MemClock, MemSink, MemSource, SureLink, standard_output};
 use fs_schedule::Which;
 use moves::{
     DELEGATION, DELEGATION_REPORT, REFUSED_MOVES, REFUSED_MOVES_REPORT, SENT_ON, SENT_ON_REPORT,
 };
 use schedules::{
-    FIRST, FIRST_REPORT, HEAD, OPENS, OPENS_REPORT, OTHERS, OTHERS_OUTCOMES, RENAMES,
-    RENAMES_REPORT, SAVE, SAVE_REPORT,
+    FIRST, FIRST_JOURNAL, FIRST_REPORT, HEAD, OPENS, OPENS_REPORT, OTHERS, OTHERS_OUTCOMES,
+    RENAMES, RENAMES_REPORT, SAVE, SAVE_REPORT,
 };
 use served::{
     FIRST_CREATE, FIRST_CREATE_NOT_SENT, FIRST_CREATE_NOT_SENT_REPORT, FIRST_CREATE_REPORT,
@@ -100,6 +102,16 @@ fn reports_to_the_byte(rt: HostRuntime) -> Result<(), Fail> {
     reports(&rt, rt.alloc(), RENAMES, RENAMES_REPORT)?;
     reports(&rt, rt.alloc(), OPENS, OPENS_REPORT)?;
     reports(&rt, rt.alloc(), SAVE, SAVE_REPORT)
+}
+
+/// The journal in JSON.
+#[test]
+fn journals_to_the_byte(rt: HostRuntime) -> Result<(), Fail> {
+    let input = Vec::from_slice(rt.alloc(), FIRST)?;
+    let (status, written) = called(rt.alloc(), &["journal"], input, &[], &[])?;
+    same(&rt, status, Status::Done);
+    same(&rt, written.as_slice(), FIRST_JOURNAL);
+    Ok(())
 }
 
 #[test]
@@ -410,7 +422,9 @@ fn is_no_form(rt: &impl Abort, alloc: Global, given: &[&str], word: u64) -> Resu
 #[test]
 fn words_that_are_no_form(rt: HostRuntime) -> Result<(), Fail> {
     is_no_form(&rt, rt.alloc(), &[], 1)?;
-    is_no_form(&rt, rt.alloc(), &["replay", "x"], 2)
+    is_no_form(&rt, rt.alloc(), &["replay", "x"], 2)?;
+    is_no_form(&rt, rt.alloc(), &["journal", "x"], 2)?;
+    is_no_form(&rt, rt.alloc(), &["journals"], 1)
 }
 
 /// Standard output is full, and the words are long ones, the second of which is not text.
@@ -476,5 +490,12 @@ fn words_that_are_not_text(rt: HostRuntime) -> Result<(), Fail> {
 
 #[test]
 fn a_full_output(rt: HostRuntime) {
-    same(&rt, printed(&Poor, "text"), Status::WriteFault);
+    let mut out = standard_output(&Poor);
+    same(&rt, printed(Page::Help, &mut out), Status::WriteFault);
+}
+
+#[test]
+fn packets_have_a_limit(rt: HostRuntime) {
+    same(&rt, flooded(1_048_576, 7), None);
+    same(&rt, flooded(1_048_577, 7), Some(7));
 }

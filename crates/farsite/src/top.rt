@@ -7,23 +7,23 @@ ghost use Rattle.fs_msg.specs.declared.core_error.Counter.{Counter};
 ghost use Rattle.fs_schedule.specs.Faults.{AtLine, IsFirstFault, IsOutside, IsSkewed};
 ghost use Rattle.fs_schedule.specs.declared.error.Which.{Which as Limited};
 ghost use Rattle.fs_world.specs.World.{AtCounter};
-ghost use Rattle.farsite.specs.Headline.{IsLimit, IsPartOfReplay, IsReadWhole, IsReplay, IsStopped};
+ghost use Rattle.farsite.specs.Headline.{IsLimit, IsPartOfRun, IsReadWhole, IsRun, IsStopped};
 ghost use Rattle.farsite.specs.Status.{read_status, run_status, schedule_status};
-ghost use Rattle.farsite.specs.Usage.{is_form, understood};
+ghost use Rattle.farsite.specs.Usage.{command_of, is_form, understood};
 
 use crate::lines::write_lines;
-use crate::replay::report_of;
+use crate::replay::text_of;
 use crate::run_error::RunError;
 use crate::status::Status;
-use crate::words::misplaced;
+use crate::words::{Command, command_of};
 use fs_io::{Clock, Failed, Link, ReadError, Sink, Source, read_all};
 use fs_schedule::{ScheduleError, Which, read_schedule};
 use std::alloc::Global;
 
 /// What the program does with the words of its command line, without its own name.
 ///
-/// `replay` reads a schedule from the input to its end, runs it, and writes its report. Clock and link are not
-/// called. Where the status is neither `Done` nor `WriteFault`, nothing is written; at `Usage` nothing is read.
+/// `replay` reads a schedule from the input to its end, runs it, and writes its report; `journal` writes the journal
+/// and the namespace of the same run in JSON. Clock and link are not called. Where the status is neither `Done` nor `WriteFault`, nothing is written; at `Usage` nothing is read.
 pub fn farsite<S: Source, K: Sink, C: Clock, L: Link>(
     alloc: Global,
     words: &[String],
@@ -33,8 +33,8 @@ pub fn farsite<S: Source, K: Sink, C: Clock, L: Link>(
     link: &mut L,
 ) -> Status
     ensures done { result ≡ Status.Done →
-        IfSome (S.left input.old)
-        (λ bytes. IsReplay bytes (K.written out.old) (K.written out.new)) }
+        IfSome (command_of (map string_bytes words.now)) (λ command. IfSome (S.left input.old)
+        (λ bytes. IsRun command bytes (K.written out.old) (K.written out.new))) }
     ensures end { result ≡ Status.Done → IsAtEnd (S.left input.new) }
     ensures usage { (word : ℕ) → (result ≡ Status.Usage word) ↔
         ((is_form (map string_bytes words.now) ≡ false) ×
@@ -58,25 +58,60 @@ pub fn farsite<S: Source, K: Sink, C: Clock, L: Link>(
     ensures quiet_input { result ≢ Status.ReadFault → S.faults input.new ≡ S.faults input.old }
     ensures quiet_output { result ≢ Status.WriteFault → K.faults out.new ≡ K.faults out.old }
     ensures prefix { result ≡ Status.WriteFault →
-        IfSome (S.left input.old) (λ bytes. IsPartOfReplay bytes (K.written out.old)
-        (K.written out.new)) }
+        IfSome (command_of (map string_bytes words.now)) (λ command. IfSome (S.left input.old)
+        (λ bytes. IsPartOfRun command bytes (K.written out.old) (K.written out.new))) }
     ensures silent { result ≢ Status.Done → result ≢ Status.WriteFault → out.new ≡ out.old }
     ensures clock { clock.new ≡ clock.old }
     ensures link { link.new ≡ link.old }
 {
-    if let Some(word) = misplaced(words) {
-        return Status::Usage { word };
+    match command_of(words) {
+        Ok(command) => commanded(alloc, command, input, out),
+        Err(word) => Status::Usage { word },
     }
+}
+
+/// Does what the command asks for.
+fn commanded<S: Source, K: Sink>(
+    alloc: Global,
+    command: Command,
+    input: &mut S,
+    out: &mut K,
+) -> Status
+    ensures done { result ≡ Status.Done → IfSome (S.left input.old)
+        (λ bytes. IsRun command bytes (K.written out.old) (K.written out.new)) }
+    ensures end { result ≡ Status.Done → IsAtEnd (S.left input.new) }
+    ensures usage { (word : ℕ) → result ≢ Status.Usage word }
+    ensures bad_line { (line : ℕ) → result ≡ Status.BadLine line →
+        IfSome (S.left input.old) (λ bytes. IsFirstFault (AtLine line IsOutside) bytes) }
+    ensures skewed { (line earlier : ℕ) → result ≡ Status.Skewed line earlier →
+        IfSome (S.left input.old) (λ bytes. IsFirstFault (IsSkewed line earlier) bytes) }
+    ensures limit { (which : Limited) (at : ℕ) → result ≡ Status.Limit which at →
+        IfSome (S.left input.old) (λ bytes. IsLimit which at bytes) }
+    ensures spent { (counter : Counter) → result ≡ Status.Spent counter →
+        IfSome (S.left input.old) (λ bytes. IsStopped (AtCounter counter) bytes) }
+    ensures short { IsReadWhole result →
+        IfSome (S.left input.old) (λ bytes. length bytes ≤ LIMIT) }
+    ensures too_long { (limit : ℕ) → result ≡ Status.TooLong limit → (limit ≡ LIMIT) ×
+        IfSome (S.left input.old) (λ bytes. LIMIT < length bytes) }
+    ensures read_fault { result ≡ Status.ReadFault →
+        Rose (S.faults input.old) (S.faults input.new) }
+    ensures write_fault { result ≡ Status.WriteFault → Rose (K.faults out.old) (K.faults out.new) }
+    ensures quiet_input { result ≢ Status.ReadFault → S.faults input.new ≡ S.faults input.old }
+    ensures quiet_output { result ≢ Status.WriteFault → K.faults out.new ≡ K.faults out.old }
+    ensures prefix { result ≡ Status.WriteFault → IfSome (S.left input.old)
+        (λ bytes. IsPartOfRun command bytes (K.written out.old) (K.written out.new)) }
+    ensures silent { result ≢ Status.Done → result ≢ Status.WriteFault → out.new ≡ out.old }
+{
     match read_all(alloc, input) {
-        Ok(bytes) => replay(alloc, &bytes, out),
+        Ok(bytes) => replay(alloc, command, &bytes, out),
         Err(e) => read_status(e),
     }
 }
 
-/// Writes the report of the schedule that the bytes are.
-fn replay<K: Sink>(alloc: Global, bytes: &[u8], out: &mut K) -> Status
+/// Writes what the command writes of the schedule that the bytes are.
+fn replay<K: Sink>(alloc: Global, command: Command, bytes: &[u8], out: &mut K) -> Status
     ensures done { result ≡ Status.Done →
-        IsReplay bytes.now (K.written out.old) (K.written out.new) }
+        IsRun command bytes.now (K.written out.old) (K.written out.new) }
     ensures usage { (word : ℕ) → result ≢ Status.Usage word }
     ensures bad_line { (line : ℕ) → result ≡ Status.BadLine line →
         IsFirstFault (AtLine line IsOutside) bytes.now }
@@ -91,12 +126,12 @@ fn replay<K: Sink>(alloc: Global, bytes: &[u8], out: &mut K) -> Status
     ensures write_fault { result ≡ Status.WriteFault → Rose (K.faults out.old) (K.faults out.new) }
     ensures quiet { result ≢ Status.WriteFault → K.faults out.new ≡ K.faults out.old }
     ensures prefix { result ≡ Status.WriteFault →
-        IsPartOfReplay bytes.now (K.written out.old) (K.written out.new) }
+        IsPartOfRun command bytes.now (K.written out.old) (K.written out.new) }
     ensures silent { result ≢ Status.Done → result ≢ Status.WriteFault → out.new ≡ out.old }
 {
     match read_schedule(alloc, bytes) {
-        Ok(schedule) => match report_of(alloc, &schedule) {
-            Ok(report) => match write_lines(out, &report) {
+        Ok(schedule) => match text_of(alloc, command, &schedule) {
+            Ok(text) => match write_lines(out, &text) {
                 Ok(()) => Status::Done,
                 Err(Failed) => Status::WriteFault,
             },

@@ -1,3 +1,5 @@
 pub mod Whole
 pub mod Hearing
 pub mod Actor
+pub mod Several
+pub mod Laws

@@ -5,4 +5,4 @@ mod hearing;
 mod law;
 
 pub use hearing::{answer_heard, event_heard, heard_in, unheard_note};
-pub use law::a_message_is_read_from_its_bytes;
+pub use law::{a_message_is_read_from_its_bytes, one_message_is_heard_as_one};

@@ -1,13 +1,15 @@
--- Which entry stands at a place, and which grants are next.
-use Rattle.std.proofs.Common.{◌≡◌, ℕ, zero, suc, ◌<◌, ◌≤◌, ◌==◌, false, not, List, [], ◌∷◌, refl, ap, sym, drop, get_or, length, map, arith}
-use Rattle.std.specs.Prelude.{Option, is_some}
+-- Which entry stands at a place, and which grants are next and last.
+use Rattle.std.proofs.Common.{◌≡◌, ℕ, zero, suc, ◌<◌, ◌≤◌, ◌==◌, false, List, [], ◌∷◌, ◌++◌, append-nil, append_assoc, refl, ap, sym, ◌∙◌, drop, get_or, length, map, arith}
+use Rattle.std.specs.Prelude.{Option, ◌&&◌}
 use Rattle.fs_ident.specs.declared.actor.LeaseNo.{LeaseNo}
 use Rattle.fs_field.specs.declared.field.Field.{Field}
+use Rattle.fs_field.specs.declared.field.Field.TheVariants.{Life}
 use Rattle.fs_field.specs.declared.lease_kind.LeaseKind.{LeaseKind}
+use Rattle.fs_field.specs.declared.lease_kind.LeaseKind.TheVariants.{Exclusive}
 use Rattle.fs_msg.specs.declared.answer.Grant.{Grant}
 use Rattle.fs_view.specs.declared.kept.Kept.{Kept}
 use Rattle.fs_msg.specs.declared.entry.Entry.{Entry}
-use Rattle.fs_client.specs.Answers.{begins_numbers, grants_fit, is_entry_at}
+use Rattle.fs_client.specs.Answers.{begins_numbers, front_fits, is_entry_at, is_new, is_of_item, life_last}
 
 pub entry_there : (n k : ℕ) (log : List Entry) (e : Entry) → k < length log → e ≡ get_or log k e → is_entry_at n k log ≡ (e.n == n)
 entry_there n k [] e h q = absurd (omega arith)
@@ -32,10 +34,27 @@ no_more (suc k) [] rows e h = absurd (omega arith)
 no_more (suc k) (s ∷ ss) [] e h = absurd (omega arith)
 no_more (suc k) (s ∷ ss) (r ∷ rs) e h = no_more k ss rs (omega arith) (omega arith)
 
-pub grants_end : (k : ℕ) (items : List (Field × LeaseKind)) (fresh : Option (List ℕ)) (leases : List Kept) (before grants : List Grant) → k ≡ length grants → k < length items → grants_fit (drop k items) fresh leases before (drop k grants) ≡ not (is_some fresh)
-grants_end zero [] fresh leases before grants e h = absurd (omega arith)
-grants_end zero (x ∷ xs) fresh leases before [] e h = refl
-grants_end zero (x ∷ xs) fresh leases before (g ∷ gs) e h = absurd (omega arith)
-grants_end (suc k) [] fresh leases before grants e h = absurd (omega arith)
-grants_end (suc k) (x ∷ xs) fresh leases before [] e h = absurd (omega arith)
-grants_end (suc k) (x ∷ xs) fresh leases before (g ∷ gs) e h = grants_end k xs fresh leases before gs (omega arith) (omega arith)
+pub no_items : (k : ℕ) (items : List (Field × LeaseKind)) (leases : List Kept) (before grants : List Grant) → k ≡ length items → k < length grants → front_fits (drop k items) leases before (drop k grants) ≡ false
+no_items zero [] leases before [] e h = absurd (omega arith)
+no_items zero [] leases before (g ∷ gs) e h = refl
+no_items zero (x ∷ xs) leases before grants e h = absurd (omega arith)
+no_items (suc k) [] leases before grants e h = absurd (omega arith)
+no_items (suc k) (x ∷ xs) leases before [] e h = absurd (omega arith)
+no_items (suc k) (x ∷ xs) leases before (g ∷ gs) e h = no_items k xs leases before gs (omega arith) (omega arith)
+
+-- ## The last grant
+
+last_behind : (items : List (Field × LeaseKind)) (id : List ℕ) (leases : List Kept) (front gs : List Grant) (g : Grant)
+    → life_last items id leases front (gs ++ g ∷ []) ≡ (front_fits items leases [] (front ++ gs) && (is_of_item (Life id, Exclusive) g && is_new leases (front ++ gs) g))
+last_behind items id leases front [] g = ap (λ fs. front_fits items leases [] fs && (is_of_item (Life id, Exclusive) g && is_new leases fs g)) (sym (append-nil front))
+last_behind items id leases front (x ∷ []) g = refl
+last_behind items id leases front (x ∷ y ∷ gs) g =
+    last_behind items id leases (front ++ x ∷ []) (y ∷ gs) g
+    ∙ ap (λ fs. front_fits items leases [] fs && (is_of_item (Life id, Exclusive) g && is_new leases fs g)) (append_assoc front (x ∷ []) (y ∷ gs))
+
+pub last_is : (items : List (Field × LeaseKind)) (id : List ℕ) (leases : List Kept) (front : List Grant) (g : Grant) → life_last items id leases [] (front ++ g ∷ []) ≡ (front_fits items leases [] front && (is_of_item (Life id, Exclusive) g && is_new leases front g))
+last_is items id leases front g = last_behind items id leases [] front g
+
+pub none_last : (items : List (Field × LeaseKind)) (id : List ℕ) (leases : List Kept) (grants : List Grant) → length grants ≡ 0 → life_last items id leases [] grants ≡ false
+none_last items id leases [] e = refl
+none_last items id leases (g ∷ gs) e = absurd (omega arith)

@@ -1,5 +1,5 @@
 -- Grants that fit the question are leases that can come.
-use Rattle.std.proofs.Common.{◌≡◌, ℕ, ◌+◌, ◌<◌, Bool, true, false, not, ◌&&◌, ◌||◌, List, [], ◌∷◌, ◌++◌, refl, ap, sym, ◌∙◌, get_or, length, take}
+use Rattle.std.proofs.Common.{◌≡◌, ℕ, ◌+◌, ◌<◌, Bool, true, false, not, ◌&&◌, ◌||◌, List, [], ◌∷◌, ◌++◌, append-nil, append_assoc, refl, ap, sym, ◌∙◌, get_or, length, take}
 use Rattle.std.specs.Prelude.{Option, Some, None, Result, Ok, Err, IfOk}
 use Rattle.fs_ident.specs.declared.memory.Memory.{Memory}
 use Rattle.fs_msg.specs.declared.client_note.ClientNote.{ClientNote}
@@ -10,7 +10,9 @@ use Rattle.std.proofs.Math.Bool.{or_assoc, or-false}
 use Rattle.fs_ident.specs.declared.actor.LeaseNo.{LeaseNo}
 use Rattle.fs_ident.proofs.Booleans.{both}
 use Rattle.fs_field.specs.declared.field.Field.{Field}
+use Rattle.fs_field.specs.declared.field.Field.TheVariants.{Life}
 use Rattle.fs_field.specs.declared.lease_kind.LeaseKind.{LeaseKind}
+use Rattle.fs_field.specs.declared.lease_kind.LeaseKind.TheVariants.{Exclusive}
 use Rattle.fs_field.specs.Table.{same_no}
 use Rattle.fs_field.specs.Value.{is_value_of}
 use Rattle.fs_msg.specs.declared.answer.Answer.{Answer}
@@ -22,7 +24,7 @@ use Rattle.fs_view.specs.View.{can_grant_all, kept_new}
 use Rattle.fs_client.specs.declared.exchange.Exchange.{Exchange}
 use Rattle.fs_client.specs.declared.exchange.Exchange.TheVariants.{Asks, Renews, Releases, Ships}
 use Rattle.fs_client.specs.declared.state.Client.{Client}
-use Rattle.fs_client.specs.Answers.{fits, grants_fit, is_new, is_of_item, lease_in, leases_in, rest_fits, told}
+use Rattle.fs_client.specs.Answers.{fits, front_fits, grants_fit, is_new, is_of_item, lease_in, leases_in, life_last, told}
 use Rattle.fs_client.specs.Client.{can_change}
 
 pub leases_step : (fresh : Option (List ℕ)) (gs : List Grant) (i : ℕ) (d : Grant) → i < length gs → leases_in fresh (take (i + 1) gs) ≡ leases_in fresh (take i gs) ++ lease_in fresh (get_or gs i d) ∷ []
@@ -67,20 +69,28 @@ can_one fresh item leases before g rest p q r =
     let new : not (list_any (has_number g.no) (kept_with fresh leases before)) ≡ true = ap not (any_kept fresh g.no leases before) ∙ neither (list_any (has_number g.no) leases) (list_any (has_no_of g.no) before) q in
     ap (λ b. (b && not (list_any (has_number g.no) (kept_with fresh leases before))) && rest) value ∙ ap (λ b. b && rest) new ∙ r
 
-pub grants_can : (items : List (Field × LeaseKind)) (given fresh : Option (List ℕ)) (leases : List Kept) (before gs : List Grant) → grants_fit items fresh leases before gs ≡ true → can_grant_all (leases_in given gs) (kept_with given leases before) ≡ true
-grants_can [] given fresh leases before gs h = rest_can given fresh leases before gs h
-  where
-    rest_can : (given fresh : Option (List ℕ)) (leases : List Kept) (before gs : List Grant) → rest_fits fresh leases before gs ≡ true → can_grant_all (leases_in given gs) (kept_with given leases before) ≡ true
-    rest_can given None leases before [] h = refl
-    rest_can given None leases before (g ∷ gs) h = absurd (cc)
-    rest_can given (Some id) leases before [] h = refl
-    rest_can given (Some id) leases before (g ∷ []) h = let p = both _ _ h in can_one given _ leases before g true p.0 p.1 refl
-    rest_can given (Some id) leases before (g ∷ k ∷ gs) h = absurd (cc)
-grants_can (x ∷ xs) given fresh leases before [] h = refl
-grants_can (x ∷ xs) given fresh leases before (g ∷ gs) h =
+-- grants of items at the front, and what comes behind them
+front_can : (items : List (Field × LeaseKind)) (given : Option (List ℕ)) (leases : List Kept) (before gs rest : List Grant) → front_fits items leases before gs ≡ true → can_grant_all (leases_in given rest) (kept_with given leases (before ++ gs)) ≡ true
+    → can_grant_all (leases_in given (gs ++ rest)) (kept_with given leases before) ≡ true
+front_can items given leases before [] rest h more = ap (λ gs. can_grant_all (leases_in given rest) (kept_with given leases gs)) (sym (append-nil before)) ∙ more
+front_can [] given leases before (g ∷ gs) rest h more = absurd (cc)
+front_can (x ∷ xs) given leases before (g ∷ gs) rest h more =
     let p = both _ _ h in
     let q = both _ _ p.0 in
-    can_one given x leases before g _ q.0 q.1 (ap (λ ks. can_grant_all (leases_in given gs) ks) (sym (more_kept given leases before g)) ∙ grants_can xs given fresh leases (before ++ g ∷ []) gs p.1)
+    let behind : can_grant_all (leases_in given rest) (kept_with given leases ((before ++ g ∷ []) ++ gs)) ≡ true = ap (λ fs. can_grant_all (leases_in given rest) (kept_with given leases fs)) (append_assoc before (g ∷ []) gs) ∙ more in
+    can_one given x leases before g _ q.0 q.1 (ap (λ ks. can_grant_all (leases_in given (gs ++ rest)) ks) (sym (more_kept given leases before g)) ∙ front_can xs given leases (before ++ g ∷ []) gs rest p.1 behind)
+
+last_can : (items : List (Field × LeaseKind)) (id : List ℕ) (given : Option (List ℕ)) (leases : List Kept) (front gs : List Grant) → life_last items id leases front gs ≡ true → can_grant_all (leases_in given (front ++ gs)) leases ≡ true
+last_can items id given leases front [] h = absurd (cc)
+last_can items id given leases front (g ∷ []) h =
+    let p = both _ _ h in
+    let q = both _ _ p.1 in
+    front_can items given leases [] front (g ∷ []) p.0 (can_one given (Life id, Exclusive) leases front g true q.0 q.1 refl)
+last_can items id given leases front (g ∷ k ∷ gs) h = ap (λ fs. can_grant_all (leases_in given fs) leases) (sym (append_assoc front (g ∷ []) (k ∷ gs))) ∙ last_can items id given leases (front ++ g ∷ []) (k ∷ gs) h
+
+grants_can : (items : List (Field × LeaseKind)) (given fresh : Option (List ℕ)) (leases : List Kept) (gs : List Grant) → grants_fit items fresh leases gs ≡ true → can_grant_all (leases_in given gs) leases ≡ true
+grants_can items given None leases gs h = ap (λ fs. can_grant_all (leases_in given fs) leases) (sym (append-nil gs)) ∙ front_can items given leases [] gs [] h refl
+grants_can items given (Some id) leases gs h = last_can items id given leases [] gs h
 
 -- ## What an answer that fits changes
 
@@ -90,7 +100,7 @@ fits_can from x (Renewed rows e) c h = refl
 fits_can from x (Released count e) c h = refl
 fits_can from x (Shipped count e) c h = refl
 fits_can from None (Granted gs given e) c h = absurd (cc)
-fits_can from (Some (Asks to items asked)) (Granted gs given e) c h = grants_can items given given c.view.leases [] gs (both _ _ (both _ _ h).1).1
+fits_can from (Some (Asks to items asked)) (Granted gs given e) c h = grants_can items given given c.view.leases gs (both _ _ (both _ _ h).1).1
 fits_can from (Some (Renews to numbers)) (Granted gs given e) c h = absurd (cc)
 fits_can from (Some (Releases to numbers)) (Granted gs given e) c h = absurd (cc)
 fits_can from (Some (Ships to count)) (Granted gs given e) c h = absurd (cc)

@@ -1,5 +1,5 @@
 -- What a client does with an answer.
-use Rattle.std.specs.Prelude.{ℕ, zero, suc, Bool, true, false, not, ◌&&◌, ◌==◌, nat_le, List, [], ◌∷◌, ◌++◌, length, take, map, Option, Some, None, is_some, if◌then◌else◌}
+use Rattle.std.specs.Prelude.{ℕ, zero, suc, Bool, true, false, not, ◌&&◌, ◌==◌, nat_le, List, [], ◌∷◌, ◌++◌, length, take, map, Option, Some, None, if◌then◌else◌}
 use Rattle.std.specs.List.{list_any}
 use Rattle.fs_ident.specs.Ident.{parent}
 use Rattle.fs_ident.specs.declared.actor.LeaseNo.{LeaseNo}
@@ -42,19 +42,22 @@ is_of_item item g = (same_field g.field item.0 && same_kind g.kind item.1) && is
 abbrev pub is_new : List Kept → List Grant → Grant → Bool
 is_new leases before g = not (list_any (has_number g.no) leases) && not (list_any (λ (b : Grant). same_no b.no g.no) before)
 
--- behind the items stands the exclusive lease on the new file's life, where an identifier came, and nothing else
-abbrev pub rest_fits : Option (List ℕ) → List Kept → List Grant → List Grant → Bool
-rest_fits None leases before [] = true
-rest_fits None leases before (g ∷ gs) = false
-rest_fits (Some id) leases before [] = false
-rest_fits (Some id) leases before (g ∷ []) = is_of_item (Life id, Exclusive) g && is_new leases before g
-rest_fits (Some id) leases before (g ∷ h ∷ gs) = false
+-- the grants are of the items at the front, in order
+abbrev pub front_fits : List (Field × LeaseKind) → List Kept → List Grant → List Grant → Bool
+front_fits items leases before [] = true
+front_fits [] leases before (g ∷ gs) = false
+front_fits (x ∷ xs) leases before (g ∷ gs) = (is_of_item x g && is_new leases before g) && front_fits xs leases (before ++ g ∷ []) gs
 
--- the grants are of the items in order, of all where an identifier came and else of some at the front
-abbrev pub grants_fit : List (Field × LeaseKind) → Option (List ℕ) → List Kept → List Grant → List Grant → Bool
-grants_fit [] fresh leases before gs = rest_fits fresh leases before gs
-grants_fit (x ∷ xs) fresh leases before [] = not (is_some fresh)
-grants_fit (x ∷ xs) fresh leases before (g ∷ gs) = (is_of_item x g && is_new leases before g) && grants_fit xs fresh leases (before ++ g ∷ []) gs
+-- the last of the grants is the exclusive lease on the new file's life, and those before it are of the items at the front
+abbrev pub life_last : List (Field × LeaseKind) → List ℕ → List Kept → List Grant → List Grant → Bool
+life_last items id leases front [] = false
+life_last items id leases front (g ∷ []) = front_fits items leases [] front && (is_of_item (Life id, Exclusive) g && is_new leases front g)
+life_last items id leases front (g ∷ h ∷ gs) = life_last items id leases (front ++ g ∷ []) (h ∷ gs)
+
+-- the grants are of the items at the front, and behind them, where an identifier came, of that file's life
+abbrev pub grants_fit : List (Field × LeaseKind) → Option (List ℕ) → List Kept → List Grant → Bool
+grants_fit items None leases gs = front_fits items leases [] gs
+grants_fit items (Some id) leases gs = life_last items id leases [] gs
 
 -- an identifier comes only below the directory that was named
 abbrev pub fresh_fits : Option (List ℕ) → Option (List ℕ) → Bool
@@ -74,16 +77,16 @@ is_entry_at n k [] = false
 is_entry_at n zero (e ∷ es) = e.n == n
 is_entry_at n (suc k) (e ∷ es) = is_entry_at n k es
 
--- a refused entry is the one behind those that were admitted
+-- a refused entry is the one behind those that were admitted, of these that were handed in
 abbrev pub refusal_fits : End → ℕ → List Entry → Bool
-refusal_fits (end.Ended n lease until now) count log = is_entry_at n count log
-refusal_fits e count log = true
+refusal_fits (end.Ended n lease until now) count sent = is_entry_at n count sent
+refusal_fits e count sent = true
 
 abbrev pub answer_fits : ℕ → Exchange → Answer → Client → Bool
-answer_fits from (Asks to items fresh) (Granted grants given e) c = (to == from) && (fresh_fits fresh given && grants_fit items given c.view.leases [] grants)
+answer_fits from (Asks to items fresh) (Granted grants given e) c = (to == from) && (fresh_fits fresh given && grants_fit items given c.view.leases grants)
 answer_fits from (Renews to numbers) (Renewed rows e) c = (to == from) && begins_numbers numbers (map (λ (r : LeaseNo × Option ℕ). r.0) rows)
 answer_fits from (Releases to numbers) (Released count e) c = (to == from) && nat_le count (length numbers)
-answer_fits from (Ships to sent) (Shipped count e) c = (to == from) && (nat_le count sent && refusal_fits e count c.log)
+answer_fits from (Ships to sent) (Shipped count e) c = (to == from) && (nat_le count sent && refusal_fits e count (take sent c.log))
 answer_fits from x a c = false
 
 -- an answer fits the exchange that stands; a recall always fits

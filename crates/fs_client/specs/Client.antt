@@ -10,7 +10,8 @@ use Rattle.fs_map.specs.Map.{Owners, first_map}
 use Rattle.fs_msg.specs.declared.entry.Entry.{Entry}
 use Rattle.fs_msg.specs.declared.limits.TheConstants.{LONGEST}
 use Rattle.fs_view.specs.declared.new_lease.NewLease.{NewLease}
-use Rattle.fs_view.specs.View.{View, lapsed_at, with_pins, with_entry, with_grants, with_end, with_leaving, without_lease, given_up, with_first_admitted, without_pins, with_recall, can_pin_all, can_grant_all}
+use Rattle.fs_view.specs.Kept.{is_leaving}
+use Rattle.fs_view.specs.View.{View, lapsed_at, with_pins, with_entry, with_grants, with_end, with_leaving, without_lease, given_up, with_first_admitted, without_pins, with_recall, can_pin_all, can_grant_all, stands}
 use Rattle.fs_client.specs.declared.change.Change.{Change}
 use Rattle.fs_client.specs.declared.change.Change.TheVariants as change
 use Rattle.fs_client.specs.declared.exchange.Exchange.{Exchange}
@@ -67,9 +68,13 @@ renewed_all (r ∷ rs) v = renewed_all rs (renewed_one r.0 r.1 v)
 abbrev pub with_renewed : List (LeaseNo × Option ℕ) → Client → Client
 with_renewed ends c = record c { view = renewed_all ends c.view; exchange = None }
 
+-- a lease that goes back is given up, and any other stays
+abbrev pub released_one : LeaseNo → View → View
+released_one number v = if stands is_leaving number v.leases then without_lease number v else v
+
 abbrev pub released_all : List LeaseNo → View → View
 released_all [] v = v
-released_all (n ∷ ns) v = released_all ns (without_lease n v)
+released_all (n ∷ ns) v = released_all ns (released_one n v)
 
 abbrev pub with_released : List LeaseNo → Client → Client
 with_released numbers c = record c { view = released_all numbers c.view; exchange = None }

@@ -43,7 +43,7 @@ fn free_all(view: &mut View, entries: &[Entry])
 }
 
 /// The first so many entries, or all.
-fn front(log: &[Entry], count: usize) -> &[Entry]
+pub(crate) fn front(log: &[Entry], count: usize) -> &[Entry]
     ensures { result.now ≡ take count log.now }
 {
     if count < log.len() {

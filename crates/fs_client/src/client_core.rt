@@ -1,5 +1,5 @@
 //! The core of a client as one value.
-ghost use Rattle.std.specs.Prelude.{◌≡◌, ◌⊎◌, ◌≤◌, true, is_some, length, IfOk, IsErrOf, OnOk, OnErr};
+ghost use Rattle.std.specs.Prelude.{◌≡◌, ◌⊎◌, ◌≤◌, true, is_some, length, IfErr, IfOk, IsErrOf, OnOk, OnErr};
 ghost use Rattle.std.specs.Option.{option_copied};
 ghost use Rattle.fs_ident.specs.declared.limits.TheConstants.{LATEST, SESSIONS};
 ghost use Rattle.fs_model.specs.Asking.{may_ask};
@@ -21,7 +21,7 @@ use crate::{acts, answers, commits, turns};
 use fs_ident::{FileId, List, Memory, Session, Twin};
 use fs_map::FileMap;
 use fs_model::Op;
-use fs_msg::{Act, Answer, ClientNote, ClientOut, CoreError};
+use fs_msg::{Act, Answer, ClientNote, ClientOut, CoreError, Entry};
 use fs_view::View;
 use std::alloc::Global;
 use std::marker::Model;
@@ -142,12 +142,14 @@ impl ClientCore {
         Ok(out)
     }
 
-    /// What the client's turn comes to at the reading, and that is done; nothing changed after an error.
-    pub fn turn(&mut self, alloc: Global, now: u64) -> Result<ClientOut<ClientNote>, Memory>
+    /// What the client's turn comes to at the reading, and that is done. No counter rises, so `Spent` never comes;
+    /// nothing changed after an error.
+    pub fn turn(&mut self, alloc: Global, now: u64) -> Result<ClientOut<ClientNote>, CoreError>
         requires { now ≤ LATEST }
         ensures out { IfOk result (λ out. out ≡ (turn_plan self.old now).out) }
         ensures client { OnOk result (self.new ≡
             committed (turn_plan self.old now).ready self.old) }
+        ensures memory { IfErr result (λ e. e ≡ errors.Memory) }
         ensures err { OnErr result (self.new ≡ self.old) }
     {
         let Plan { ready, out } = self.plan_turn(alloc, now)?;
@@ -155,18 +157,20 @@ impl ClientCore {
         Ok(out)
     }
 
-    /// What an answer of that server comes to at the reading, and that is done; nothing changed after an error.
+    /// What an answer of that server comes to at the reading, and that is done. No counter rises, so `Spent` never
+    /// comes; nothing changed after an error.
     pub fn on_answer(
         &mut self,
         alloc: Global,
         now: u64,
         from: u8,
         a: &Answer,
-    ) -> Result<ClientOut<ClientNote>, Memory>
+    ) -> Result<ClientOut<ClientNote>, CoreError>
         requires { now ≤ LATEST }
         ensures out { IfOk result (λ out. out ≡ (answer_plan self.old now from a.now).out) }
         ensures client { OnOk result (self.new ≡
             committed (answer_plan self.old now from a.now).ready self.old) }
+        ensures memory { IfErr result (λ e. e ≡ errors.Memory) }
         ensures err { OnErr result (self.new ≡ self.old) }
     {
         let Plan { ready, out } = self.plan_answer(alloc, now, from, a)?;
@@ -179,6 +183,13 @@ impl ClientCore {
         ensures { result ≡ length self.now.log }
     {
         self.client.log.len() as u64
+    }
+
+    /// What was answered and is not known to be admitted, in order.
+    pub fn log(&self) -> &[Entry]
+        ensures { result.now ≡ self.now.log }
+    {
+        self.client.log.as_slice()
     }
 
     /// The file at whose server the first entry of the log is handed in; none where there is no entry.

@@ -1,13 +1,14 @@
 //! Which answers fit the question that stands.
-ghost use Rattle.std.specs.Prelude.{◌≡◌, ◌&&◌, ◌≤◌, [], length, map, not, is_some};
+ghost use Rattle.std.specs.Prelude.{◌≡◌, ◌&&◌, ◌≤◌, [], length, map, not};
 ghost use Rattle.std.specs.List.{list_any};
 ghost use Rattle.fs_ident.specs.Ident.{parent};
 ghost use Rattle.fs_field.specs.Table.{same_no, is_parent};
 ghost use Rattle.fs_field.specs.Field.{same_field};
 ghost use Rattle.fs_field.specs.declared.field.Field.TheVariants.{Life};
 ghost use Rattle.fs_field.specs.declared.lease_kind.LeaseKind.TheVariants.{Exclusive};
-ghost use Rattle.fs_client.specs.Answers.{answer_fits, begins_numbers, fits, fresh_fits, grants_fit, is_entry_at, is_new, is_of_item, refusal_fits, rest_fits};
+ghost use Rattle.fs_client.specs.Answers.{answer_fits, begins_numbers, fits, fresh_fits, front_fits, grants_fit, is_entry_at, is_new, is_of_item, life_last, refusal_fits};
 
+use crate::admits::front;
 use crate::begun::Begun;
 use crate::exchange::Exchange;
 use fs_field::{Field, LeaseKind};
@@ -48,38 +49,55 @@ fn answer_fits(at: &Begun<'_>, from: u8, exchange: &Exchange, a: &Answer) -> boo
             *to == from && *count <= numbers.len() as u64
         }
         (Exchange::Ships { to, count: sent }, Answer::Shipped { count, end }) => {
-            *to == from && *count <= *sent && refusal_fits(end, *count, at.log().as_slice())
+            *to == from
+                && *count <= *sent
+                && refusal_fits(end, *count, front(at.log().as_slice(), *sent as usize))
         }
         _ => false,
     }
 }
 
-/// Whether the grants are of the items in order: of all where an identifier came, and else of some at the front.
+/// Whether the grants are of the items at the front, and behind them, where an identifier came, of that file's life.
 fn grants_fit(
     at: &Begun<'_>,
     items: &[(Field, LeaseKind)],
     fresh: &Option<FileId>,
     grants: &[Grant],
 ) -> bool
-    ensures { result ≡ grants_fit items.now fresh.now at.now.view.leases [] grants.now }
+    ensures { result ≡ grants_fit items.now fresh.now at.now.view.leases grants.now }
 {
-    for done in 0..items.len() {
-        if done == grants.len() {
-            return is_none(fresh);
+    match fresh {
+        None => front_fits(at, items, grants),
+        Some(id) => life_last(at, items, id, grants),
+    }
+}
+
+/// Whether the grants are of the items at the front, in order.
+fn front_fits(at: &Begun<'_>, items: &[(Field, LeaseKind)], grants: &[Grant]) -> bool
+    ensures { result ≡ front_fits items.now at.now.view.leases [] grants.now }
+{
+    for done in 0..grants.len() {
+        if done == items.len() {
+            return false;
         }
         if !is_next(at, &items[done], &grants[..done], &grants[done]) {
             return false;
         }
     }
-    rest_fits(at, fresh, &grants[..items.len()], &grants[items.len()..])
+    true
 }
 
-fn is_none(fresh: &Option<FileId>) -> bool
-    ensures { result ≡ not (is_some fresh.now) }
+/// Whether the last grant is the exclusive lease on the new file's life, and those before it are of the items at the
+/// front.
+#[tactic(auto, using(crate::proofs::FitsSteps::last_is, crate::proofs::FitsSteps::none_last))]
+fn life_last(at: &Begun<'_>, items: &[(Field, LeaseKind)], id: &FileId, grants: &[Grant]) -> bool
+    ensures { result ≡ life_last items.now id.now at.now.view.leases [] grants.now }
 {
-    match fresh {
-        None => true,
-        Some(_) => false,
+    match grants.split_last() {
+        None => false,
+        Some((last, before)) => {
+            front_fits(at, items, before) && is_life_of(id, last) && is_new(at, before, last)
+        }
     }
 }
 
@@ -109,19 +127,6 @@ fn is_among(grants: &[Grant], no: LeaseNo) -> bool
     ensures { result ≡ list_any (λ b. same_no b.no no) grants.now }
 {
     grants.iter().any(|b| b.no == no)
-}
-
-/// Whether the exclusive lease on the new file's life stands behind the items, where an identifier came, and nothing
-/// else.
-fn rest_fits(at: &Begun<'_>, fresh: &Option<FileId>, before: &[Grant], rest: &[Grant]) -> bool
-    ensures { result ≡ rest_fits fresh.now at.now.view.leases before.now rest.now }
-{
-    match (fresh, rest) {
-        (None, []) => true,
-        (None, _) => false,
-        (Some(id), [g]) => is_life_of(id, g) && is_new(at, before, g),
-        (Some(_), _) => false,
-    }
 }
 
 fn is_life_of(id: &FileId, g: &Grant) -> bool
@@ -176,9 +181,9 @@ fn begins_numbers(sent: &[LeaseNo], rows: &[(LeaseNo, Option<u64>)]) -> bool
     true
 }
 
-/// Whether a refused entry is the one behind those that were admitted.
-fn refusal_fits(end: &End, count: u64, log: &[Entry]) -> bool
-    ensures { result ≡ refusal_fits end.now count log.now }
+/// Whether a refused entry is the one behind those that were admitted, of these that were handed in.
+fn refusal_fits(end: &End, count: u64, sent: &[Entry]) -> bool
+    ensures { result ≡ refusal_fits end.now count sent.now }
 {
     match end {
         End::Ended {
@@ -186,7 +191,7 @@ fn refusal_fits(end: &End, count: u64, log: &[Entry]) -> bool
             lease: _,
             until: _,
             now: _,
-        } => is_entry_at(*n, count as usize, log),
+        } => is_entry_at(*n, count as usize, sent),
         _ => true,
     }
 }

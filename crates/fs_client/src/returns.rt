@@ -1,6 +1,6 @@
 //! What becomes of several leases of a view, one after another, without memory.
 ghost use Rattle.std.specs.Prelude.{◌≡◌};
-ghost use Rattle.fs_client.specs.Client.{leaving_all, released_all, renewed_all, renewed_one};
+ghost use Rattle.fs_client.specs.Client.{leaving_all, released_all, released_one, renewed_all, renewed_one};
 
 use fs_ident::LeaseNo;
 use fs_view::View;
@@ -14,12 +14,21 @@ pub(crate) fn leave_all(view: &mut View, numbers: &[LeaseNo])
     }
 }
 
-/// The server has each of these leases back.
+/// The server has each of these leases back, as far as they go back.
 pub(crate) fn release_all(view: &mut View, numbers: &[LeaseNo])
     ensures { view.new ≡ released_all numbers.now view.old }
 {
     for no in numbers {
-        view.released(*no);
+        release_one(view, *no);
+    }
+}
+
+/// One of them; a lease that does not go back stays.
+fn release_one(view: &mut View, no: LeaseNo)
+    ensures { view.new ≡ released_one no view.old }
+{
+    if view.is_leaving(no) {
+        view.released(no);
     }
 }
 

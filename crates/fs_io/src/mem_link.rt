@@ -122,13 +122,14 @@ impl Link for MemLink {
             (StillTold (calls_told self.old.link) (calls_told self.new.link)) }
         ensures cause { HasCause self.old.link.faults self.new.link.faults result }
         ensures plan { self.new.plan ≡ after_next self.old.plan }
-        ensures failed { IsErr result ↔ (fails_at self.old (room_wanted self.old.link.waiting (length buf.old)) ≡ true) }
+        ensures failed { IsErr result ↔
+            (fails_at self.old (room_wanted self.old.link.waiting (length buf.old)) ≡ true) }
         ensures fault { OnErr result (self.new.link ≡
             after_fault self.old (receive_made result buf.new)) }
         ensures kept { OnOk result (self.new.link ≡
             after_kept self.old.link (drop 1 self.old.link.waiting) (receive_made result buf.new)) }
-        ensures got { IfOk result
-            (λ got. Receives (Some self.old.link.waiting) (Some self.new.link.waiting) got buf.new) }
+        ensures got { IfOk result (λ got. Receives
+            (Some self.old.link.waiting) (Some self.new.link.waiting) got buf.new) }
     {
         if self.plan.next() {
             let call = Call {

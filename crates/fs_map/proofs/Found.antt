@@ -53,7 +53,7 @@ found_In k v (e ∷ es) f =
     ] refl f
 
 -- a key before all is none of them
-before_In : {V : Type 0} (x : List ℕ) (e : List ℕ × V) (listed : Keyed V) → before_all x listed ≡ true → In e listed → Before x e.0
+pub before_In : {V : Type 0} (x : List ℕ) (e : List ℕ × V) (listed : Keyed V) → before_all x listed ≡ true → In e listed → Before x e.0
 before_In x e [] h i = absurd i
 before_In x e (f ∷ fs) h i = elim i [
   | inl q ↦ subst (λ (g : List ℕ × _). Before x g.0) (sym q) (less _ (first _ _ h))

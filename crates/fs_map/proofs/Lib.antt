@@ -9,3 +9,4 @@ pub mod Testing
 pub mod Spliced
 pub mod Spans
 pub mod Replaced
+pub mod Longest

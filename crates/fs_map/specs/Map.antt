@@ -1,5 +1,5 @@
 -- Which server manages which files.
-use Rattle.std.specs.Prelude.{◌≡◌, ◌≢◌, ℕ, Bool, true, false, ◌==◌, ◌&&◌, nat_eq, List, [], ◌∷◌, Option, Some, None, option_map, unwrap_or, if◌then◌else◌}
+use Rattle.std.specs.Prelude.{◌≡◌, ◌≢◌, ◌⊎◌, ◌<◌, length, ℕ, Bool, true, false, ◌==◌, ◌&&◌, nat_eq, List, [], ◌∷◌, Option, Some, None, option_map, unwrap_or, if◌then◌else◌}
 use Rattle.std.specs.List.{starts_with}
 use Rattle.fs_ident.specs.Ident.{parent}
 use Rattle.fs_ident.specs.In.{In}
@@ -19,6 +19,12 @@ or_before None earlier = earlier
 abbrev pub longest : {V : Type 0} → Keyed V → List ℕ → Option (List ℕ × V)
 longest [] id = None
 longest (e ∷ es) id = or_before (longest es id) (if begins e.0 id then Some e else None)
+
+-- the entry is listed, the identifier begins with its prefix, and with no other one that is as long
+pub record IsLongest {V : Type 0} (listed : Keyed V) (id : List ℕ) (e : List ℕ × V) : Type 0 where
+  pub stands : In e listed
+  pub begun : begins e.0 id ≡ true
+  pub longer : (other : List ℕ × V) → In other listed → begins other.0 id ≡ true → (other ≡ e) ⊎ (length other.0 < length e.0)
 
 -- what is told of the identifier
 abbrev pub told_of : {V : Type 0} → Keyed V → List ℕ → Option V

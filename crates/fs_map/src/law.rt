@@ -1,8 +1,8 @@
 //! Laws of maps.
-ghost use Rattle.std.specs.Prelude.{◌≡◌, ◌≢◌, ◌⊎◌, ℕ, Bool, true, false, List, []};
+ghost use Rattle.std.specs.Prelude.{◌≡◌, ◌≢◌, ◌⊎◌, ℕ, Bool, Some, true, false, List, []};
 ghost use Rattle.fs_ident.specs.In.{In};
 ghost use Rattle.fs_ident.specs.Ordered.{Keyed};
-ghost use Rattle.fs_map.specs.Map.{IsMap, IsPiece, Owners, Tells, after_take, gives, is_given, server_of};
+ghost use Rattle.fs_map.specs.Map.{IsLongest, IsMap, IsPiece, Owners, Tells, after_take, begins, gives, is_given, longest, server_of};
 ghost use Rattle.fs_map.specs.Lists.{map_after_take, owns_given, piece_of, places_of};
 
 /// Two maps that tell the same servers are one: a map is listed in one way alone.
@@ -44,4 +44,13 @@ pub fn changes_list_nothing_new()
     ensures given { (owners : Owners) (me : ℕ) (prefix place : List ℕ) →
         In place (places_of (piece_of owners me prefix)) →
         (place ≡ prefix) ⊎ In place (places_of owners) }
+{}
+
+/// What is found for an identifier is the longest listed prefix of it: of a map always, of a piece below its prefix.
+pub fn the_longest_prefix_is_found()
+    ensures map { (owners : Owners) (id : List ℕ) → IsMap owners → (e : List ℕ × ℕ) ×
+        (longest owners id ≡ Some e) × IsLongest owners id e }
+    ensures piece { (prefix id : List ℕ) (given : Keyed Bool) → IsPiece prefix given →
+        begins prefix id ≡ true → (e : List ℕ × Bool) ×
+        (longest given id ≡ Some e) × IsLongest given id e }
 {}

@@ -19,7 +19,7 @@ mod taking;
 pub use file_map::FileMap;
 pub use law::{
     a_piece_is_told_by_what_it_gives, changed_maps_are_maps, changes_list_nothing_new,
-    maps_are_told_by_their_servers, places_show_what_is_owned,
+    maps_are_told_by_their_servers, places_show_what_is_owned, the_longest_prefix_is_found,
 };
 pub use piece::MapPiece;
 pub use taking::Taking;

@@ -4,6 +4,7 @@ ghost use Rattle.std.specs.List.{filter, find, list_any};
 ghost use Rattle.std.specs.Option.{option_copied};
 ghost use Rattle.fs_field.specs.Table.{has_no, is_lease, is_live, lock_on, borne_numbers};
 ghost use Rattle.fs_field.specs.declared.field.Field.TheVariants.{SelfW, Other};
+ghost use Rattle.fs_rows.specs.Bearing.{AreInOrderOnce};
 ghost use Rattle.fs_rows.specs.Moving.{are_new, locked_in, rows_given};
 ghost use Rattle.fs_moderows.specs.Moving.{fits, selves_listed};
 ghost use Rattle.fs_moderows.specs.Answer.{answer_self, answer_other, reap_blocker};
@@ -172,9 +173,9 @@ impl<'a> Live<'a> {
         self.kept().row(no)
     }
 
-    /// The last numbers of the files right below the directory that rows are on, one for each row.
+    /// The last numbers of the files right below the directory that rows are on, each once, ascending.
     pub fn borne(&self, alloc: Global, dir: &FileId) -> Result<List<u32>, Memory>
-        ensures { IfOk result (λ told. told ≡ borne_numbers dir.now self.now) }
+        ensures { IfOk result (AreInOrderOnce (borne_numbers dir.now self.now)) }
     {
         self.kept().borne(alloc, dir)
     }

@@ -6,6 +6,7 @@ ghost use Rattle.fs_ident.specs.declared.actor.LeaseNo.{LeaseNo as Number};
 ghost use Rattle.fs_field.specs.declared.field.Field.TheVariants.{SelfW, Other};
 ghost use Rattle.fs_field.specs.declared.lease_kind.LeaseKind.TheVariants.{Shared, Exclusive};
 ghost use Rattle.fs_field.specs.Table.{has_no, renewed_row, is_live, is_lease, is_unlocked, locked_row, unlocked_row, rows_on, borne_numbers};
+ghost use Rattle.fs_rows.specs.Bearing.{AreInOrderOnce};
 ghost use Rattle.fs_rows.specs.Moving.{are_new, locked_in, rows_given, rows_left};
 ghost use Rattle.fs_moderows.specs.Moving.{are_on_modes, fits, selves_listed};
 ghost use Rattle.fs_moderows.specs.Answer.{answer_self, answer_other, stands_against_self, stands_against_reap, is_self_of_other, given_row, rows_after, reap_blocker, IsLeast};
@@ -19,7 +20,7 @@ use fs_field::{Asked, Field, LeaseKind, Row, Unknown, table};
 use fs_ident::{FileId, LeaseNo, List, Memory, Session, Twin, TxnNo};
 use fs_map::{FileMap, MapPiece};
 use fs_modes::{Mode, Modes};
-use fs_rows::{Rows, drop_given, keep_live, put_each};
+use fs_rows::{Rows, drop_given, keep_live, put_each, put_in_order};
 use std::alloc::Global;
 use std::marker::Model;
 
@@ -256,11 +257,13 @@ impl ModeRows {
         table::rows_on(alloc, self.rows.as_slice(), field)
     }
 
-    /// The last numbers of the files right below the directory that rows are on, one for each row.
+    /// The last numbers of the files right below the directory that rows are on, each once, ascending.
     pub fn borne(&self, alloc: Global, dir: &FileId) -> Result<List<u32>, Memory>
-        ensures { IfOk result (λ told. told ≡ borne_numbers dir.now self.now) }
+        ensures { IfOk result (AreInOrderOnce (borne_numbers dir.now self.now)) }
     {
-        table::borne(alloc, self.rows.as_slice(), dir)
+        let mut told = table::borne(alloc, self.rows.as_slice(), dir)?;
+        put_in_order(told.items_mut());
+        Ok(told)
     }
 
     /// Takes the rows on files that the piece gives out of the table: these, in order of number. `Memory` where memory

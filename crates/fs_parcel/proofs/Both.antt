@@ -29,7 +29,7 @@ pub later : (a b c d : ℕ) → is_lt (ordering_then (nat_cmp a c) (nat_cmp b d)
 later a b c d h = grind (arith, nat_tests)
 
 -- of two numbers only one comes first
-not_back : (a b : LeaseNo) → no_before a b ≡ true → no_before b a ≡ false
+pub not_back : (a b : LeaseNo) → no_before a b ≡ true → no_before b a ≡ false
 not_back a b h = later a.server a.count b.server b.count h
 
 -- the row's number comes before those of all rows

@@ -23,7 +23,7 @@ use Rattle.fs_parcel.proofs.Both.{filter_with_rows, off_table, passing}
 
 -- ## New numbers
 
-ordered_more : (rows more : List Row) → is_ordered rows ≡ true → are_new rows more ≡ true → is_ordered (with_rows more rows) ≡ true
+pub ordered_more : (rows more : List Row) → is_ordered rows ≡ true → are_new rows more ≡ true → is_ordered (with_rows more rows) ≡ true
 ordered_more rows [] o n = o
 ordered_more rows (m ∷ ms) o n =
     let q : (is_new rows m ≡ true) × (are_new (with_row m rows) ms ≡ true) = both_hold (is_new rows m) (are_new (with_row m rows) ms) n in

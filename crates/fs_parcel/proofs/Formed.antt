@@ -1,17 +1,19 @@
 -- What the tests of a parcel say.
-use Rattle.std.proofs.Common.{◌≡◌, ℕ, true, ◌&&◌, List, sym, subst}
+use Rattle.std.proofs.Common.{◌≡◌, ℕ, Bool, true, ◌&&◌, List, sym, subst}
 use Rattle.std.specs.Cmp.Lexicographic.{same_text}
 use Rattle.std.specs.List.{list_all}
 use Rattle.fs_ident.specs.Ident.{same}
 use Rattle.fs_ident.specs.Ordered.{are_keys_in_order}
-use Rattle.fs_ident.proofs.Booleans.{both as both_hold, first}
+use Rattle.fs_ident.proofs.Booleans.{both as both_hold, first, second}
+use Rattle.fs_ident.proofs.Passing.{all-In}
 use Rattle.fs_field.specs.declared.row.Row.{Row}
 use Rattle.fs_map.specs.Lists.{is_piece}
 use Rattle.fs_map.specs.Map.{IsPiece, Owners}
 use Rattle.fs_map.proofs.Testing.{test_piece}
-use Rattle.fs_record.specs.Moving.{are_distinct}
+use Rattle.fs_record.specs.Moving.{AreEachRecords, AreNumbersLeft, are_distinct}
 use Rattle.fs_record.specs.Records.{RecordMap}
 use Rattle.fs_record.specs.declared.parcel.Parcel.{Parcel}
+use Rattle.fs_record.proofs.Rising.{test_order}
 use Rattle.fs_parcel.specs.Parcel.{fits, is_elsewhere, is_formed, is_in_order, is_of_given, rows_fit}
 
 -- ## Its form
@@ -39,6 +41,14 @@ formed_piece p h =
 
 pub formed_order : (p : Parcel) → is_formed p ≡ true → are_keys_in_order p.piece.given ≡ true
 formed_order p h = (formed_piece p h).ordered
+
+-- its records are records, where each has a next number that there is
+pub each_records : (p : Parcel) → AreNumbersLeft p.records → is_formed p ≡ true → AreEachRecords p.records
+each_records p left h e i =
+    let parts : Bool = list_all (λ x. is_in_order x.1) p.records in
+    let sorted : parts ≡ true = second (are_distinct p.records) parts (second (same p.piece.prefix p.prefix && is_piece p.prefix p.piece.given) (are_distinct p.records && parts) h) in
+    let n = left e i in
+    record { in_order = test_order e.1.node (all-In (λ x. is_in_order x.1) p.records sorted e i); least = n.0; most = n.1 }
 
 -- ## The tests
 

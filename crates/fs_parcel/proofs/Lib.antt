@@ -2,6 +2,7 @@ pub mod Both
 pub mod Locks
 pub mod Merging
 pub mod Coming
+pub mod OneList
 pub mod Formed
 pub mod Installed
 pub mod Fitted

@@ -22,6 +22,10 @@ rows_on_modes rows = filter (λ r. not (is_off_modes r)) rows
 abbrev pub both : List Row → List Row → List Row
 both off on = with_rows on off
 
+-- both tables make one list in order: no number stands in both
+abbrev pub are_one_list : List Row → List Row → Bool
+are_one_list off on = is_ordered (both off on)
+
 -- the rows in order of number; no two of them conflict by their sessions, fields and kinds alone
 pub record AreRows (rows : List Row) : Type 0 where
   pub ordered : is_ordered rows ≡ true

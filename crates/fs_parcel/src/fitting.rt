@@ -12,7 +12,7 @@ ghost use Rattle.fs_rows.specs.Moving as off_modes;
 ghost use Rattle.fs_rows.specs.Moving.{are_new, is_on_given};
 ghost use Rattle.fs_rows.specs.Table.{IsTable};
 ghost use Rattle.fs_parcel.specs.Parcel.{fits, is_elsewhere, is_formed, is_in_order, is_of_given, rows_fit, selves_of_records};
-ghost use Rattle.fs_parcel.specs.Rows.{AreRows, both};
+ghost use Rattle.fs_parcel.specs.Rows.{are_one_list, both};
 
 use crate::in_order::files_rise;
 use crate::parts::Parts;
@@ -28,7 +28,8 @@ use std::alloc::Global;
 /// Whether the parcel is one that an honest server sends to `me`: its piece is the reduced list of its prefix; its records
 /// and rows are on identifiers that it gives, of which none is managed here or has a record here; no two records are of
 /// one file, and each is strictly sorted; the numbers of its rows differ from one another and from all here, and none of
-/// them conflicts with another or with one here. That a number of this server's was given is not asked here.
+/// them conflicts with another or with one here. That a number of this server's was given is not asked here. No number
+/// stands in both tables.
 pub fn fits(
     alloc: Global,
     records: &Records,
@@ -38,7 +39,7 @@ pub fn fits(
     me: u8,
     p: &Parcel,
 ) -> Result<bool, Memory>
-    requires { AreRows (both rows.now modes.now) }
+    requires { are_one_list rows.now modes.now ≡ true }
     ensures { IfOk result (λ fit. fit ≡
         fits records.now (both rows.now modes.now) map.now me p.now) }
 {
@@ -57,7 +58,7 @@ pub fn fits_at(
 ) -> Result<bool, Memory>
     requires off { IsTable rows.now }
     requires on { IsModeTable modes.now }
-    requires rows { AreRows (both rows.now modes.now) }
+    requires numbers { are_one_list rows.now modes.now ≡ true }
     ensures { IfOk result (λ fit. fit ≡
         fits records.now (both rows.now modes.now) map.now me p.now) }
 {
@@ -152,7 +153,7 @@ fn rows_fit(
 ) -> Result<bool, Memory>
     requires off { IsTable rows.now }
     requires on { IsModeTable modes.now }
-    requires rows { AreRows (both rows.now modes.now) }
+    requires numbers { are_one_list rows.now modes.now ≡ true }
     ensures { IfOk result (λ fit. fit ≡ rows_fit (both rows.now modes.now) p.now) }
 {
     if !are_new(rows, modes, &p.rows) {

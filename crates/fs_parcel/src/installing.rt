@@ -4,11 +4,11 @@ ghost use Rattle.std.specs.List.{filter};
 ghost use Rattle.fs_field.specs.Table.{is_live};
 ghost use Rattle.fs_map.specs.Lists.{map_after_take};
 ghost use Rattle.fs_moderows.specs.Table.{IsModeTable};
-ghost use Rattle.fs_record.specs.Moving.{AreEachRecords, are_absent, are_distinct, with_records};
+ghost use Rattle.fs_record.specs.Moving.{AreEachRecords, AreNumbersLeft, are_absent, are_distinct, with_records};
 ghost use Rattle.fs_rows.specs.Granted.{with_rows};
 ghost use Rattle.fs_rows.specs.Table.{IsTable};
 ghost use Rattle.fs_parcel.specs.Parcel.{fits};
-ghost use Rattle.fs_parcel.specs.Rows.{AreRows, both, rows_off_modes, rows_on_modes};
+ghost use Rattle.fs_parcel.specs.Rows.{are_one_list, both, rows_off_modes, rows_on_modes};
 
 use crate::parts::Parts;
 use fs_ident::Memory;
@@ -19,7 +19,8 @@ use fs_rows::Rows;
 use std::alloc::Global;
 
 /// Puts all of the parcel in its place at `me`, which manages what it gives from now on. `Memory` where memory is
-/// wanting; all is as it was then.
+/// wanting; all is as it was then. No number stands in both tables. Each record that comes
+/// has a next number from 1 to 4294967296: `Record::has_number_left` is the test.
 pub fn install(
     alloc: Global,
     records: &mut Records,
@@ -30,8 +31,8 @@ pub fn install(
     p: Parcel,
 ) -> Result<(), Memory>
     requires fits { fits records.old (both rows.old modes.old) map.old me p ≡ true }
-    requires nexts { AreEachRecords p.records }
-    requires rows { AreRows (both rows.old modes.old) }
+    requires nexts { AreNumbersLeft p.records }
+    requires numbers { are_one_list rows.old modes.old ≡ true }
     ensures records { OnOk result (records.new ≡ with_records p.records records.old) }
     ensures rows { OnOk result (rows.new ≡ with_rows (rows_off_modes p.rows) rows.old) }
     ensures modes { OnOk result (modes.new ≡ with_rows (rows_on_modes p.rows) modes.old) }
@@ -58,8 +59,8 @@ pub fn install_at(
 ) -> Result<(), Memory>
     requires fits { fits records.old
         (filter (is_live now skew) (both rows.old modes.old)) map.old me p ≡ true }
-    requires nexts { AreEachRecords p.records }
-    requires rows { AreRows (both rows.old modes.old) }
+    requires nexts { AreNumbersLeft p.records }
+    requires numbers { are_one_list rows.old modes.old ≡ true }
     ensures records { OnOk result (records.new ≡ with_records p.records records.old) }
     ensures rows { OnOk result (rows.new ≡
         with_rows (rows_off_modes p.rows) (filter (is_live now skew) rows.old)) }
@@ -96,7 +97,7 @@ fn put_in(
     skew: u64,
     p: Parcel,
 ) -> Result<(), Memory>
-    requires nexts { AreEachRecords p.records }
+    requires records { AreEachRecords p.records }
     requires distinct { are_distinct p.records ≡ true }
     requires absent { are_absent records.old p.records ≡ true }
     requires off { IsTable

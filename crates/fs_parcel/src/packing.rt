@@ -1,5 +1,5 @@
 //! Parcels, packed up where they go.
-ghost use Rattle.std.specs.Prelude.{◌≡◌, ◌≢◌, ◌⊎◌, Some, IfOk, OnOk, OnErr, IsErrOf};
+ghost use Rattle.std.specs.Prelude.{true, ◌≡◌, ◌≢◌, ◌⊎◌, Some, IfOk, OnOk, OnErr, IsErrOf};
 ghost use Rattle.fs_map.specs.Lists.{map_after_give, piece_of};
 ghost use Rattle.fs_map.specs.Map.{server_of};
 ghost use Rattle.fs_moderows.specs.Table.{IsModeTable};
@@ -7,7 +7,7 @@ ghost use Rattle.fs_record.specs.Moving.{records_given, records_left};
 ghost use Rattle.fs_rows.specs.Moving.{rows_given, rows_left};
 ghost use Rattle.fs_rows.specs.Table.{IsTable};
 ghost use Rattle.fs_parcel.specs.Parcel.{move_refusal, parcel_of};
-ghost use Rattle.fs_parcel.specs.Rows.{AreRows, both};
+ghost use Rattle.fs_parcel.specs.Rows.{are_one_list, both};
 ghost use Rattle.fs_parcel.specs.declared.error.MoveError.{MoveError as TheError};
 ghost use Rattle.fs_parcel.specs.declared.error.MoveError.TheVariants.{Memory as Wanting};
 
@@ -34,7 +34,7 @@ pub fn packed(
     requires mine { server_of map.now prefix.now ≡ me }
     requires off { IsTable rows.now }
     requires on { IsModeTable modes.now }
-    requires rows { AreRows (both rows.now modes.now) }
+    requires numbers { are_one_list rows.now modes.now ≡ true }
     ensures { IfOk result (λ p. p ≡
         parcel_of records.now (both rows.now modes.now) map.now me prefix.now) }
 {
@@ -52,7 +52,7 @@ fn filled(
 ) -> Result<Parcel, Memory>
     requires off { IsTable rows.now }
     requires on { IsModeTable modes.now }
-    requires rows { AreRows (both rows.now modes.now) }
+    requires numbers { are_one_list rows.now modes.now ≡ true }
     ensures prefix { IfOk result (λ p. p.prefix ≡ piece.prefix) }
     ensures piece { IfOk result (λ p. p.piece ≡ piece) }
     ensures records { IfOk result (λ p. p.records ≡
@@ -71,7 +71,8 @@ fn filled(
 }
 
 /// Takes all that `me` has below the prefix away, for the server `to`, which manages it from now on. `through` is the
-/// least path lease that goes through a file that would go. After an error all is as it was.
+/// least path lease that goes through a file that would go. After an error all is as it was. No number stands in both
+/// tables.
 pub fn pack_up(
     alloc: Global,
     records: &mut Records,
@@ -83,7 +84,7 @@ pub fn pack_up(
     to: u8,
     through: Option<PathNo>,
 ) -> Result<Parcel, MoveError>
-    requires { AreRows (both rows.old modes.old) }
+    requires { are_one_list rows.old modes.old ≡ true }
     ensures parcel { IfOk result (λ p. p ≡
         parcel_of records.old (both rows.old modes.old) map.old me prefix.now) }
     ensures records { OnOk result

@@ -4,7 +4,9 @@ pub mod FreshNumbers
 pub mod NodeValues
 pub mod ValueChanges
 pub mod Stepping
+pub mod LedStepping
 pub mod NumbersRise
+pub mod NumbersKept
 pub mod NodeMaps
 pub mod BySession
 pub mod AllApplied

@@ -1,4 +1,4 @@
--- The next numbers of records only rise.
+-- The numbers that directories give, and what one effect or gift makes of next numbers.
 use Rattle.std.proofs.Common.{◌≡◌, ℕ, zero, suc, ◌+◌, ◌-◌, ◌<◌, ◌≤◌, ◌^◌, List, [], ◌∷◌, length, Bool, true, false, refl, ap, sym, ◌∙◌, subst, cond, arith, inl, inr, ◌⊎◌}
 use Rattle.std.specs.Prelude.{Option, Some, None, option_map, ◌==◌, is_some}
 use Rattle.std.specs.Ordering.{nat_cmp, eq_by_cmp}
@@ -8,13 +8,11 @@ use Rattle.std.proofs.lemmas.Bool.Decides.{nat_tests}
 use Rattle.fs_ident.specs.Ident.{same}
 use Rattle.fs_field.specs.declared.effect.Effect.{Effect}
 use Rattle.fs_model.specs.declared.node.Node.{Node}
-use Rattle.fs_ident.proofs.Booleans.{first, second}
 use Rattle.fs_record.specs.declared.record.Record.{Record}
 use Rattle.fs_record.specs.Records.{RecordMap, node_of, next_of}
 use Rattle.fs_field.specs.After.{changed_file}
 use Rattle.fs_record.specs.Applied.{node_change, record_change, records_after}
 use Rattle.fs_record.specs.Fresh.{is_borne, least_free, free_from, fresh_number, records_after_gift, with_next, IsLeastFree}
-use Rattle.fs_record.specs.Changes.{Change, effect, gift, after_change, after_changes, has_record_throughout}
 use Rattle.fs_record.proofs.Kept.{get_with_at, free_bounds}
 use Rattle.fs_record.proofs.NodeValues.{tied, key_is}
 
@@ -108,62 +106,3 @@ given_elsewhere m dir id (Some k) h = within (get m dir)
     within : (o : Option Record) → get (with_next m dir (k + 1) o) id ≡ get m id
     within None = refl
     within (Some r) = get-insert nat_list_cmp_total m dir (record { node = r.node; next = k + 1 }) id ∙ ap (λ b. cond b (Some (record { node = r.node; next = k + 1 })) (get m id)) (tied id dir ∙ h)
-
--- ## One thing after the other
-
--- whichever of two this is, the next number is no less
-no_less : (b : Bool) (next : ℕ) (o p : Option Record) → (b ≡ true → next ≤ next_of o) → (b ≡ false → next ≤ next_of p) → next ≤ next_of (cond b o p)
-no_less true next o p f g = f refl
-no_less false next o p f g = g refl
-
-given_rises : (m : RecordMap) (dir d borne : List ℕ) → next_of (get m dir) ≤ next_of (get (records_after_gift m d (fresh_number m d borne)) dir)
-given_rises m dir d borne = within (fresh_number m d borne) refl
-  where
-    within : (o : Option ℕ) → fresh_number m d borne ≡ o → next_of (get m dir) ≤ next_of (get (records_after_gift m d o) dir)
-    within None e = omega arith
-    within (Some k) e = of (get m d) refl
-      where
-        of : (o : Option Record) → get m d ≡ o → next_of (get m dir) ≤ next_of (get (with_next m d (k + 1) o) dir)
-        of None here = omega arith
-        of (Some r) here =
-            subst (λ o. next_of (get m dir) ≤ next_of o) (sym (get-insert nat_list_cmp_total m d (record { node = r.node; next = k + 1 }) dir))
-            (no_less (eq_by_cmp (slice_cmp nat_cmp) dir d) (next_of (get m dir)) (Some (record { node = r.node; next = k + 1 })) (get m dir)
-            (λ t. let p : next_of (get m d) ≤ k = (number_least m d borne k e).from in
-            let q : next_of (get m dir) ≡ next_of (get m d) = ap (λ x. next_of (get m x)) (key_is dir d t) in omega arith)
-            (λ t. omega arith))
-
-change_rises : (m : RecordMap) (dir : List ℕ) (c : Change) → is_some (get (after_change m c) dir) ≡ true → next_of (get m dir) ≤ next_of (get (after_change m c) dir)
-change_rises m dir (effect e) h = let q : next_of (get (records_after m e) dir) ≡ next_of (get m dir) = effect_next m e dir h in omega arith
-change_rises m dir (gift d borne) h = given_rises m dir d borne
-
-stands_first : (m : RecordMap) (dir : List ℕ) (cs : List Change) → has_record_throughout dir m cs ≡ true → is_some (get m dir) ≡ true
-stands_first m dir [] h = h
-stands_first m dir (c ∷ cs) h = first _ _ h
-
-changes_rise : (m : RecordMap) (dir : List ℕ) (cs : List Change) → has_record_throughout dir m cs ≡ true → next_of (get m dir) ≤ next_of (get (after_changes m cs) dir)
-changes_rise m dir [] h = omega arith
-changes_rise m dir (c ∷ cs) h =
-    let onward : has_record_throughout dir (after_change m c) cs ≡ true = second (is_some (get m dir)) (has_record_throughout dir (after_change m c) cs) h in
-    let p : next_of (get m dir) ≤ next_of (get (after_change m c) dir) = change_rises m dir c (stands_first (after_change m c) dir cs onward) in
-    let q : next_of (get (after_change m c) dir) ≤ next_of (get (after_changes (after_change m c) cs) dir) = changes_rise (after_change m c) dir cs onward in
-    omega arith
-
-later_number : (n : RecordMap) (dir later : List ℕ) (k j : ℕ) (cs : List Change) → next_of (get n dir) ≡ k + 1 → has_record_throughout dir n cs ≡ true → fresh_number (after_changes n cs) dir later ≡ Some j → k < j
-later_number n dir later k j cs at h f =
-    let p : next_of (get n dir) ≤ next_of (get (after_changes n cs) dir) = changes_rise n dir cs h in
-    let q : next_of (get (after_changes n cs) dir) ≤ j = (number_least (after_changes n cs) dir later j f).from in
-    omega arith
-
-none_stands : (o : Option Record) → o ≡ None → is_some o ≡ true → ⊥
-none_stands None e h = absurd (cc h)
-none_stands (Some r) e h = absurd (cc e)
-
-given_next : (m : RecordMap) (dir : List ℕ) (k : ℕ) (o : Option Record) → get m dir ≡ o → is_some (get (records_after_gift m dir (Some k)) dir) ≡ true → next_of (get (records_after_gift m dir (Some k)) dir) ≡ k + 1
-given_next m dir k None e h = absurd (none_stands (get (records_after_gift m dir (Some k)) dir) (ap (λ o. get (with_next m dir (k + 1) o) dir) e ∙ e) h)
-given_next m dir k (Some r) e h = ap next_of (given_here m dir k r e)
-
--- while its record stands a directory gives ever greater numbers
-pub numbers_differ : (m : RecordMap) (dir borne later : List ℕ) (k j : ℕ) (cs : List Change) → fresh_number m dir borne ≡ Some k → has_record_throughout dir (records_after_gift m dir (Some k)) cs ≡ true
-    → fresh_number (after_changes (records_after_gift m dir (Some k)) cs) dir later ≡ Some j → k < j
-numbers_differ m dir borne later k j cs e h f =
-    later_number (records_after_gift m dir (Some k)) dir later k j cs (given_next m dir k (get m dir) refl (stands_first (records_after_gift m dir (Some k)) dir cs h)) h f

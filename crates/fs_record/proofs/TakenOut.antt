@@ -32,7 +32,7 @@ either true true o = refl
 either true false o = refl
 either false b o = refl
 
-without_at : (files : List (List ℕ)) (m : RecordMap) (q : List ℕ) → get (records_without files m) q ≡ cond (list_any (eq_by_cmp (slice_cmp nat_cmp) q) files) None (get m q)
+pub without_at : (files : List (List ℕ)) (m : RecordMap) (q : List ℕ) → get (records_without files m) q ≡ cond (list_any (eq_by_cmp (slice_cmp nat_cmp) q) files) None (get m q)
 without_at [] m q = refl
 without_at (f ∷ fs) m q =
     without_at fs (remove m f) q
@@ -46,7 +46,7 @@ without_kept (f ∷ fs) m s = without_kept fs (remove m f) (kept_with_at m f Non
 
 -- ## What came goes again
 
-absent_one : (q : List ℕ) (es : Keyed Record) (m : RecordMap) → are_absent m es ≡ true → list_any (eq_by_cmp (slice_cmp nat_cmp) q) (keys_of es) ≡ true → get m q ≡ None
+pub absent_one : (q : List ℕ) (es : Keyed Record) (m : RecordMap) → are_absent m es ≡ true → list_any (eq_by_cmp (slice_cmp nat_cmp) q) (keys_of es) ≡ true → get m q ≡ None
 absent_one q [] m a h = absurd (cc)
 absent_one q (e ∷ es) m a h =
     elim (eq_by_cmp (slice_cmp nat_cmp) q e.0) as (λ b. eq_by_cmp (slice_cmp nat_cmp) q e.0 ≡ b → (b || list_any (eq_by_cmp (slice_cmp nat_cmp) q) (keys_of es)) ≡ true → get m q ≡ None) [
@@ -54,7 +54,7 @@ absent_one q (e ∷ es) m a h =
       | false ↦ λ t k. absent_one q es m (second _ _ a) k
     ] refl h
 
-came_beside : (q : List ℕ) (es : Keyed Record) (m : RecordMap) → list_any (eq_by_cmp (slice_cmp nat_cmp) q) (keys_of es) ≡ false → get (with_records es m) q ≡ get m q
+pub came_beside : (q : List ℕ) (es : Keyed Record) (m : RecordMap) → list_any (eq_by_cmp (slice_cmp nat_cmp) q) (keys_of es) ≡ false → get (with_records es m) q ≡ get m q
 came_beside q [] m h = refl
 came_beside q (e ∷ es) m h =
     let n = neither (eq_by_cmp (slice_cmp nat_cmp) q e.0) (list_any (eq_by_cmp (slice_cmp nat_cmp) q) (keys_of es)) h in

@@ -2,6 +2,7 @@ pub mod Records
 pub mod ValueOf
 pub mod Applied
 pub mod Effects
+pub mod LedEffects
 pub mod Opens
 pub mod Fresh
 pub mod Changes

@@ -19,7 +19,7 @@ ghost use Rattle.fs_record.specs.Effects.{effects_of, tells_its_effects, reap_ef
 ghost use Rattle.fs_record.specs.Fresh.{IsLeastFree, is_borne, fresh_number, records_after_gift};
 ghost use Rattle.fs_record.specs.Records.{RecordMap, AreRecords, nodes_of, node_of, next_of};
 ghost use Rattle.fs_record.specs.Moving.{AreEachRecords, are_absent, are_distinct, records_given, records_left, with_records};
-ghost use Rattle.fs_record.specs.Changes.{Change, after_changes, has_record_throughout};
+ghost use Rattle.fs_record.specs.Changes.{Change, after_change, after_changes, can_change, can_each_change, has_record_throughout, number_given};
 ghost use Rattle.fs_record.specs.ValueOf.{value_of, is_other, selves_in, selves_of, has_handle, modes_of, modes_told_of, is_by_session};
 ghost use Rattle.fs_model.specs.Handles.{handles_are_in_order};
 ghost use Rattle.fs_model.specs.declared.node.Handle.{Handle};
@@ -71,13 +71,15 @@ pub fn effects_keep_next_numbers()
         next_of (get (records_after m e) id) ≡ next_of (get m id) }
 {}
 
-/// While its record stands a directory gives no number twice, whatever else happens.
+/// While its record stands a directory gives no number twice, whichever calls change the records.
 pub fn no_number_is_given_twice()
-    ensures { (m : RecordMap) (dir borne later : List ℕ) (k j : ℕ) (changes : List Change) →
-        fresh_number m dir borne ≡ Some k →
-        has_record_throughout dir (records_after_gift m dir (Some k)) changes ≡ true →
-        fresh_number (after_changes (records_after_gift m dir (Some k)) changes) dir later ≡
-        Some j →
+    ensures { (m : RecordMap) (dir : List ℕ) (k j : ℕ) (first last : Change)
+        (changes : List Change) →
+        can_change m first ≡ true → number_given m first ≡ Some (dir, k) →
+        has_record_throughout dir (after_change m first) changes ≡ true →
+        can_each_change (after_change m first) changes ≡ true →
+        can_change (after_changes (after_change m first) changes) last ≡ true →
+        number_given (after_changes (after_change m first) changes) last ≡ Some (dir, j) →
         k < j }
 {}
 

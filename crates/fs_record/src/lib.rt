@@ -6,6 +6,9 @@ mod error;
 mod handles;
 mod in_order;
 mod law;
+mod led;
+mod led_end;
+mod led_law;
 mod lookups;
 mod moving;
 mod numbers;
@@ -24,6 +27,9 @@ pub use law::{
     nodes_change_alike, reaps_take_handles, records_go_or_stay, selves_are_by_session,
     values_follow_effects, what_goes_can_come,
 };
+pub use led::led_effects;
+pub use led_end::{LedEnd, Why};
+pub use led_law::led_effects_are_the_step;
 pub use op_effects::{effects, tells_its_effects};
 pub use parcel::Parcel;
 pub use record::Record;

@@ -1,5 +1,5 @@
 //! What a server keeps of a file.
-ghost use Rattle.std.specs.Prelude.{◌≡◌, ◌↔◌, ◌&&◌, true};
+ghost use Rattle.std.specs.Prelude.{◌≡◌, ◌↔◌, ◌≤◌, ◌&&◌, true};
 ghost use Rattle.fs_ident.specs.Ordered.{are_keys_in_order};
 ghost use Rattle.fs_model.specs.Handles.{handles_are_in_order};
 ghost use Rattle.fs_model.specs.Namespace.{IsInOrder};
@@ -25,6 +25,13 @@ impl Record {
         ensures order { result ≡ true ↔ IsInOrder self.now.node }
     {
         is_in_order(&self.node)
+    }
+
+    /// Whether its next number is from 1 to 4294967296.
+    pub fn has_number_left(&self) -> bool
+        ensures { result ≡ true ↔ ((1 ≤ self.now.next) × (self.now.next ≤ 4294967296)) }
+    {
+        1 <= self.next && self.next <= 4294967296
     }
 }
 

@@ -1,5 +1,5 @@
 //! The records of one server as one value.
-ghost use Rattle.std.specs.Prelude.{◌≡◌, ◌↔◌, true, false, not, IfOk, OnOk, OnErr, IsErrOf, Some, None, option_map};
+ghost use Rattle.std.specs.Prelude.{◌≡◌, ◌↔◌, ◌≤◌, true, false, not, IfOk, OnOk, OnErr, IsErrOf, Some, None, option_map};
 ghost use Rattle.std.specs.FinMap as map;
 ghost use Rattle.std.specs.List.{list_all};
 ghost use Rattle.std.specs.Map.{keys_of};
@@ -11,7 +11,7 @@ ghost use Rattle.fs_record.specs.Moving.{AreEachRecords, are_absent, are_distinc
 ghost use Rattle.fs_model.specs.Step.{is_empty};
 ghost use Rattle.fs_record.specs.Opens.{open_files};
 ghost use Rattle.fs_record.specs.Fresh.{fresh_number, is_directory, records_after_gift};
-ghost use Rattle.fs_record.specs.Records.{IsRecord, first_records, AreRecords, root_record};
+ghost use Rattle.fs_record.specs.Records.{IsRecord, first_records, AreRecords, next_of, root_record};
 ghost use Rattle.fs_record.specs.ValueOf.{value_of, is_other, selves_in};
 ghost use Rattle.fs_field.specs.After.{value_after};
 ghost use Rattle.fs_field.specs.declared.field.Field.{Field as TheField};
@@ -19,7 +19,7 @@ ghost use Rattle.fs_ident.specs.declared.actor.Session.{Session as TheSession};
 ghost use Rattle.fs_record.specs.declared.error.FreshError.TheVariants.{NoDir, NoIds};
 
 use crate::error::FreshError;
-use crate::lookups::{files, node, open_files, record};
+use crate::lookups::{files, next, node, open_files, record};
 use crate::op_effects::reap;
 use crate::record::Record;
 use crate::values::{handles, value_at};
@@ -76,9 +76,11 @@ impl Records {
         }
     }
 
-    /// Gives the file this record, whatever it had.
+    /// Gives the file this record, whatever it had. Its next number does not fall: `next_number` is the test, and 1 for
+    /// a file without a record.
     pub fn put(&mut self, id: FileId, kept: Record) -> Result<(), Memory>
-        requires { IsRecord kept }
+        requires kept { IsRecord kept }
+        requires next { next_of (map.get self.old id) ≤ kept.next }
         ensures ok { OnOk result (self.new ≡ map.insert self.old id kept) }
         ensures err { OnErr result (self.new ≡ self.old) }
     {
@@ -199,11 +201,20 @@ impl Records {
     }
 
     /// Gives the last number of an identifier below the directory: the number after it is then the directory's next
-    /// one. It takes no memory, and nothing changes where the directory has no record.
+    /// one. It was given to no file before: it is at least `next_number`. It takes no memory, and nothing changes where
+    /// the directory has no record.
     pub fn gift(&mut self, dir: &FileId, k: u32)
+        requires { next_of (map.get self.old dir.now) ≤ k }
         ensures { self.new ≡ records_after_gift self.old dir.now (Some k) }
     {
         numbers::gift(&mut self.records, dir, k);
+    }
+
+    /// The number from which on the directory gives numbers to new files, which is 1 where it has no record.
+    pub fn next_number(&self, dir: &FileId) -> u64
+        ensures { result ≡ next_of (map.get self.now dir.now) }
+    {
+        next(&self.records, dir)
     }
 
     /// Copies of the records of files that the piece gives, in order of identifier.

@@ -1,3 +1,7 @@
 pub mod Texts
 pub mod Notes
 pub mod Report
+pub mod Json
+pub mod NodeLines
+-- cited by private calls alone
+pub mod Values

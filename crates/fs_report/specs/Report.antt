@@ -1,5 +1,5 @@
 -- The lines of a report.
-use Rattle.std.specs.Prelude.{ℕ, ◌+◌, List, [], ◌∷◌, ◌++◌, codes, Option, Some, None, flat_map, length}
+use Rattle.std.specs.Prelude.{ℕ, ◌+◌, List, [], ◌∷◌, ◌++◌, codes, Option, Some, None, flat_map, map, length}
 use Rattle.std.specs.Fmt.{decimal}
 use Rattle.std.specs.FinMap.{get, keys, len}
 use Rattle.fs_ident.specs.IdText.{id_text}
@@ -37,33 +37,51 @@ outcomes_text k (o ∷ os) = outcome_text k o ++ outcomes_text (k + 1) os
 
 -- ## The journal
 
-abbrev pub item_text : ℕ → Item → List ℕ
-item_text k i = codes "j" ++ (decimal k ++ (codes " " ++ (peer_text i.by ++ (codes " " ++ (decimal i.n ++ (codes " " ++ (op_text i.op ++ (codes " " ++ (reply_text i.reply ++ codes "\n")))))))))
+-- an item's line where items have no numbers
+abbrev pub item_text : Item → List ℕ
+item_text i = peer_text i.by ++ (codes " " ++ (decimal i.n ++ (codes " " ++ (op_text i.op ++ (codes " " ++ (reply_text i.reply ++ codes "\n"))))))
+
+-- the line of the item of number k
+abbrev pub item_line : ℕ → Item → List ℕ
+item_line k i = codes "j" ++ (decimal k ++ (codes " " ++ item_text i))
 
 -- the lines of items, numbered from k
 abbrev pub items_text : ℕ → List Item → List ℕ
 items_text k [] = []
-items_text k (i ∷ is) = item_text k i ++ items_text (k + 1) is
+items_text k (i ∷ is) = item_line k i ++ items_text (k + 1) is
 
 -- ## The namespace
 
-abbrev pub handle_text : List ℕ → Handle → List ℕ
-handle_text id x = codes "h " ++ (id_text id ++ (codes " " ++ (session_text x.session ++ (codes " " ++ (decimal x.h ++ (codes " " ++ (acc_text x.modes ++ (codes " " ++ (deny_text x.modes ++ codes "\n")))))))))
+-- a handle's line, without its line feed
+abbrev pub handle_line : List ℕ → Handle → List ℕ
+handle_line id x = codes "h " ++ (id_text id ++ (codes " " ++ (session_text x.session ++ (codes " " ++ (decimal x.h ++ (codes " " ++ (acc_text x.modes ++ (codes " " ++ deny_text x.modes))))))))
 
 -- the directory and the name, for all but the root
 abbrev pub parent_text : Option (List ℕ × List ℕ) → List ℕ
 parent_text None = []
 parent_text (Some p) = codes " in " ++ (id_text p.0 ++ (codes " " ++ quoted p.1))
 
-abbrev pub node_text : List ℕ → Node → List ℕ
-node_text id n = codes "n " ++ (id_text id ++ (codes " " ++ (kind_text n.kind ++ (codes " " ++ (decimal n.size ++ (codes " " ++ (decimal n.stamp ++ (parent_text n.parent ++ codes "\n"))))))))
+-- a node's line, without its line feed
+abbrev pub node_line : List ℕ → Node → List ℕ
+node_line id n = codes "n " ++ (id_text id ++ (codes " " ++ (kind_text n.kind ++ (codes " " ++ (decimal n.size ++ (codes " " ++ (decimal n.stamp ++ parent_text n.parent)))))))
 
 -- a node's line and those of its handles
-abbrev pub file_text : List ℕ → Option Node → List ℕ
-file_text id None = []
-file_text id (Some n) = node_text id n ++ flat_map (handle_text id) n.handles
+abbrev pub file_lines : List ℕ → Option Node → List (List ℕ)
+file_lines id None = []
+file_lines id (Some n) = node_line id n ∷ map (handle_line id) n.handles
 
 -- the lines of the namespace, by identifier
+abbrev pub space_lines : NodeMap → List (List ℕ)
+space_lines m = flat_map (λ id. file_lines id (get m id)) (keys m)
+
+-- a line and its line feed
+abbrev pub ended : List ℕ → List ℕ
+ended line = line ++ codes "\n"
+
+abbrev pub file_text : List ℕ → Option Node → List ℕ
+file_text id file = flat_map ended (file_lines id file)
+
+-- the same lines as bytes
 abbrev pub space_text : NodeMap → List ℕ
 space_text m = flat_map (λ id. file_text id (get m id)) (keys m)
 

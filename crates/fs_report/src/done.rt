@@ -1,9 +1,8 @@
 //! The last line.
-ghost use Rattle.std.specs.Prelude.{◌≡◌, ◌++◌, ◌∷◌, OnOk, OnErr};
-ghost use Rattle.std.specs.Fmt.{decimal};
+ghost use Rattle.std.specs.Prelude.{◌≡◌, ◌++◌, OnOk, OnErr};
 ghost use Rattle.fs_report.specs.Report.{done_text};
 
-use crate::pieces::{LINE, next_number, put_bytes};
+use crate::pieces::{LINE, next_count, put_bytes};
 use fs_ident::Memory;
 use std::alloc::Global;
 
@@ -39,13 +38,4 @@ fn put_done(
     next_count(alloc, b"nodes", nodes, out)?;
     out.push(b'\n')?;
     Ok(())
-}
-
-/// A space, and how many there are of what the word names.
-fn next_count(alloc: Global, word: &[u8], n: u64, out: &mut Vec<u8>) -> Result<(), Memory>
-    ensures { OnOk result (out.new.items ≡ out.old.items ++ (32 ∷ word.now ++ 32 ∷ decimal n)) }
-{
-    out.push(b' ')?;
-    put_bytes(word, out)?;
-    next_number(alloc, n, out)
 }

@@ -1,10 +1,10 @@
 //! The texts of operations.
 ghost use Rattle.std.specs.Prelude.{◌≡◌, ◌++◌, ◌∷◌, OnOk};
+ghost use Rattle.std.specs.Str.{IsUtf8};
 ghost use Rattle.fs_report.specs.Texts.{op_text};
 
 use crate::pieces::{
-    next_id, next_id_or_dash, next_kind, next_modes, next_name, next_number, next_session,
-    put_bytes,
+    next_id, next_id_or_dash, next_kind, next_modes, next_name, next_number, next_session, put_text,
 };
 use fs_ident::{FileId, Kind, Memory, Name, Session};
 use fs_model::Op;
@@ -13,15 +13,17 @@ use std::alloc::Global;
 
 /// A space and an operation.
 pub(crate) fn next_op(alloc: Global, op: &Op, out: &mut Vec<u8>) -> Result<(), Memory>
-    ensures { OnOk result (out.new.items ≡ out.old.items ++ 32 ∷ op_text op.now) }
+    ensures bytes { OnOk result (out.new.items ≡ out.old.items ++ 32 ∷ op_text op.now) }
+    ensures text { IsUtf8 out.old.items → OnOk result (IsUtf8 out.new.items) }
 {
-    out.push(b' ')?;
+    put_text(" ", out)?;
     put_op(alloc, op, out)
 }
 
 /// An operation.
-fn put_op(alloc: Global, op: &Op, out: &mut Vec<u8>) -> Result<(), Memory>
-    ensures { OnOk result (out.new.items ≡ out.old.items ++ op_text op.now) }
+pub(crate) fn put_op(alloc: Global, op: &Op, out: &mut Vec<u8>) -> Result<(), Memory>
+    ensures bytes { OnOk result (out.new.items ≡ out.old.items ++ op_text op.now) }
+    ensures text { IsUtf8 out.old.items → OnOk result (IsUtf8 out.new.items) }
 {
     match op {
         Op::Lookup { dir, name } => put_lookup(alloc, dir, name, out),
@@ -54,31 +56,35 @@ fn put_op(alloc: Global, op: &Op, out: &mut Vec<u8>) -> Result<(), Memory>
 }
 
 fn put_lookup(alloc: Global, dir: &FileId, name: &Name, out: &mut Vec<u8>) -> Result<(), Memory>
-    ensures { OnOk result (out.new.items ≡ out.old.items ++ op_text (Op.Lookup dir.now name.now)) }
+    ensures bytes { OnOk result (out.new.items ≡ out.old.items ++ op_text (Op.Lookup dir.now name.now)) }
+    ensures text { IsUtf8 out.old.items → OnOk result (IsUtf8 out.new.items) }
 {
-    put_bytes(b"lookup", out)?;
+    put_text("lookup", out)?;
     next_id(alloc, dir, out)?;
     next_name(name, out)
 }
 
 fn put_list(alloc: Global, dir: &FileId, out: &mut Vec<u8>) -> Result<(), Memory>
-    ensures { OnOk result (out.new.items ≡ out.old.items ++ op_text (Op.List dir.now)) }
+    ensures bytes { OnOk result (out.new.items ≡ out.old.items ++ op_text (Op.List dir.now)) }
+    ensures text { IsUtf8 out.old.items → OnOk result (IsUtf8 out.new.items) }
 {
-    put_bytes(b"list", out)?;
+    put_text("list", out)?;
     next_id(alloc, dir, out)
 }
 
 fn put_kind(alloc: Global, file: &FileId, out: &mut Vec<u8>) -> Result<(), Memory>
-    ensures { OnOk result (out.new.items ≡ out.old.items ++ op_text (Op.Kind file.now)) }
+    ensures bytes { OnOk result (out.new.items ≡ out.old.items ++ op_text (Op.Kind file.now)) }
+    ensures text { IsUtf8 out.old.items → OnOk result (IsUtf8 out.new.items) }
 {
-    put_bytes(b"kind", out)?;
+    put_text("kind", out)?;
     next_id(alloc, file, out)
 }
 
 fn put_info(alloc: Global, file: &FileId, out: &mut Vec<u8>) -> Result<(), Memory>
-    ensures { OnOk result (out.new.items ≡ out.old.items ++ op_text (Op.Info file.now)) }
+    ensures bytes { OnOk result (out.new.items ≡ out.old.items ++ op_text (Op.Info file.now)) }
+    ensures text { IsUtf8 out.old.items → OnOk result (IsUtf8 out.new.items) }
 {
-    put_bytes(b"info", out)?;
+    put_text("info", out)?;
     next_id(alloc, file, out)
 }
 
@@ -90,10 +96,11 @@ fn put_create(
     id: &Option<FileId>,
     out: &mut Vec<u8>,
 ) -> Result<(), Memory>
-    ensures { OnOk result (out.new.items ≡ out.old.items ++
+    ensures bytes { OnOk result (out.new.items ≡ out.old.items ++
         op_text (Op.Create dir.now name.now kind id.now)) }
+    ensures text { IsUtf8 out.old.items → OnOk result (IsUtf8 out.new.items) }
 {
-    put_bytes(b"create", out)?;
+    put_text("create", out)?;
     next_id(alloc, dir, out)?;
     next_name(name, out)?;
     next_kind(kind, out)?;
@@ -107,19 +114,21 @@ fn put_open(
     modes: Modes,
     out: &mut Vec<u8>,
 ) -> Result<(), Memory>
-    ensures { OnOk result (out.new.items ≡ out.old.items ++
+    ensures bytes { OnOk result (out.new.items ≡ out.old.items ++
         op_text (Op.OpenFile file.now h modes)) }
+    ensures text { IsUtf8 out.old.items → OnOk result (IsUtf8 out.new.items) }
 {
-    put_bytes(b"open", out)?;
+    put_text("open", out)?;
     next_id(alloc, file, out)?;
     next_number(alloc, u64::from(h), out)?;
     next_modes(modes, out)
 }
 
 fn put_close(alloc: Global, file: &FileId, h: u32, out: &mut Vec<u8>) -> Result<(), Memory>
-    ensures { OnOk result (out.new.items ≡ out.old.items ++ op_text (Op.Close file.now h)) }
+    ensures bytes { OnOk result (out.new.items ≡ out.old.items ++ op_text (Op.Close file.now h)) }
+    ensures text { IsUtf8 out.old.items → OnOk result (IsUtf8 out.new.items) }
 {
-    put_bytes(b"close", out)?;
+    put_text("close", out)?;
     next_id(alloc, file, out)?;
     next_number(alloc, u64::from(h), out)
 }
@@ -132,10 +141,11 @@ fn put_set(
     stamp: u64,
     out: &mut Vec<u8>,
 ) -> Result<(), Memory>
-    ensures { OnOk result (out.new.items ≡ out.old.items ++
+    ensures bytes { OnOk result (out.new.items ≡ out.old.items ++
         op_text (Op.Set file.now h size stamp)) }
+    ensures text { IsUtf8 out.old.items → OnOk result (IsUtf8 out.new.items) }
 {
-    put_bytes(b"set", out)?;
+    put_text("set", out)?;
     next_id(alloc, file, out)?;
     next_number(alloc, u64::from(h), out)?;
     next_number(alloc, size, out)?;
@@ -143,9 +153,10 @@ fn put_set(
 }
 
 fn put_delete(alloc: Global, dir: &FileId, name: &Name, out: &mut Vec<u8>) -> Result<(), Memory>
-    ensures { OnOk result (out.new.items ≡ out.old.items ++ op_text (Op.Delete dir.now name.now)) }
+    ensures bytes { OnOk result (out.new.items ≡ out.old.items ++ op_text (Op.Delete dir.now name.now)) }
+    ensures text { IsUtf8 out.old.items → OnOk result (IsUtf8 out.new.items) }
 {
-    put_bytes(b"delete", out)?;
+    put_text("delete", out)?;
     next_id(alloc, dir, out)?;
     next_name(name, out)
 }
@@ -158,10 +169,11 @@ fn put_rename(
     dname: &Name,
     out: &mut Vec<u8>,
 ) -> Result<(), Memory>
-    ensures { OnOk result (out.new.items ≡ out.old.items ++
+    ensures bytes { OnOk result (out.new.items ≡ out.old.items ++
         op_text (Op.Rename sdir.now sname.now ddir.now dname.now)) }
+    ensures text { IsUtf8 out.old.items → OnOk result (IsUtf8 out.new.items) }
 {
-    put_bytes(b"rename", out)?;
+    put_text("rename", out)?;
     next_id(alloc, sdir, out)?;
     next_name(sname, out)?;
     next_id(alloc, ddir, out)?;
@@ -169,9 +181,10 @@ fn put_rename(
 }
 
 fn put_reap(alloc: Global, file: &FileId, session: Session, out: &mut Vec<u8>) -> Result<(), Memory>
-    ensures { OnOk result (out.new.items ≡ out.old.items ++ op_text (Op.Reap file.now session)) }
+    ensures bytes { OnOk result (out.new.items ≡ out.old.items ++ op_text (Op.Reap file.now session)) }
+    ensures text { IsUtf8 out.old.items → OnOk result (IsUtf8 out.new.items) }
 {
-    put_bytes(b"reap", out)?;
+    put_text("reap", out)?;
     next_id(alloc, file, out)?;
     next_session(alloc, session, out)
 }

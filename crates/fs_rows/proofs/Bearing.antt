@@ -24,7 +24,7 @@ use Rattle.fs_field.proofs.Named.{swapped as or_swapped}
 use Rattle.fs_rows.specs.Granted.{with_rows}
 
 -- the number is among these
-abbrev bears : ℕ → List ℕ → Bool
+abbrev pub bears : ℕ → List ℕ → Bool
 bears k numbers = list_any (λ b. b == k) numbers
 
 abbrev number_below : List ℕ → Row → Option ℕ

@@ -75,3 +75,8 @@ came_table rows (m ∷ ms) t off fit =
 pub joined_table : (result : Result (Unit {0}) Memory) (old new more : List Row) → OnOk result (new ≡ with_rows more old) → OnErr result (new ≡ old) → IsTable old → are_off_modes more ≡ true → fits old more ≡ true → IsTable new
 joined_table (Ok u) old new more p q t off fit = rw p (came_table old more t off fit)
 joined_table (Err m) old new more p q t off fit = rw q t
+
+-- after a grant, whether it had room or not
+pub granted_table : (result : Result (Unit {0}) Memory) (old new left more : List Row) → OnOk result (new ≡ with_rows more left) → OnErr result (new ≡ old) → IsTable (with_rows more left) → IsTable old → IsTable new
+granted_table (Ok u) old new left more p q t s = rw p t
+granted_table (Err m) old new left more p q t s = rw q s

@@ -1,7 +1,9 @@
 pub mod Kept
+mod Knowing
 pub mod Granting
 pub mod Bearing
 pub mod Numbers
 pub mod LiveSteps
 pub mod Comes
 pub mod Goes
+pub mod InOrder

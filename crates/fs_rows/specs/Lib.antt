@@ -4,3 +4,6 @@ pub mod Live
 pub mod Granted
 pub mod Given
 pub mod Moving
+pub mod Bearing
+-- cited by private calls alone
+pub mod Bounds

@@ -5,10 +5,12 @@ ghost use Rattle.std.specs.Option.{option_copied};
 ghost use Rattle.fs_field.specs.Field.{same_field};
 ghost use Rattle.fs_field.specs.declared.row.Row.{Row as TheRow};
 ghost use Rattle.fs_field.specs.Table.{has_no, is_lease, is_live, lock_on, borne_numbers};
+ghost use Rattle.fs_rows.specs.Bearing.{AreInOrderOnce};
 ghost use Rattle.fs_rows.specs.Answer.{answer};
 ghost use Rattle.fs_rows.specs.Live.{unlocked_on};
 ghost use Rattle.fs_rows.specs.Moving.{are_new, fits, locked_in, rows_given};
 
+use crate::once::put_in_order;
 use crate::{moving, reads};
 use fs_field::{Asked, Field, LeaseKind, Row};
 use fs_ident::{FileId, LeaseNo, List, Memory, Session, TxnNo};
@@ -129,11 +131,13 @@ impl<'a> Live<'a> {
         reads::row(self.rows, self.reading, self.skew, no)
     }
 
-    /// The last numbers of the files right below the directory that rows are on, one for each row.
+    /// The last numbers of the files right below the directory that rows are on, each once, ascending.
     pub fn borne(&self, alloc: Global, dir: &FileId) -> Result<List<u32>, Memory>
-        ensures { IfOk result (λ told. told ≡ borne_numbers dir.now self.now) }
+        ensures { IfOk result (AreInOrderOnce (borne_numbers dir.now self.now)) }
     {
-        reads::borne(alloc, self.rows, self.reading, self.skew, dir)
+        let mut told = reads::borne(alloc, self.rows, self.reading, self.skew, dir)?;
+        put_in_order(told.items_mut());
+        Ok(told)
     }
 
     /// The numbers and sessions of the rows on the field that no transaction keeps, in order of number.

@@ -6,14 +6,17 @@ ghost use Rattle.fs_ident.specs.declared.actor.LeaseNo.{LeaseNo};
 ghost use Rattle.fs_field.specs.Field.{tells_no_mode};
 ghost use Rattle.fs_field.specs.Table.{has_no, renewed_row, is_live, is_lease, is_unlocked, locked_row, unlocked_row, rows_on, borne_numbers};
 ghost use Rattle.fs_rows.specs.Moving.{are_off_modes, fits, locked_in, rows_given, rows_left};
+ghost use Rattle.fs_rows.specs.Bearing.{AreInOrderOnce};
 ghost use Rattle.fs_rows.specs.Answer.{answer, given_row, rows_after, IsLeastAgainst};
 ghost use Rattle.fs_rows.specs.Granted.{with_rows};
 ghost use Rattle.fs_rows.specs.Table.{IsTable};
 
 use crate::against::first_against;
+use crate::bounds::{lapse_from, least_end, least_known_lock, lesser, or_locks, unlock_known};
 use crate::grants;
 use crate::live::Live;
 use crate::moving::{add_all, drop_given};
+use crate::once::put_in_order;
 use fs_field::{Asked, Field, LeaseKind, Row, Unknown, table};
 use fs_ident::{FileId, LeaseNo, List, Memory, Session, Twin, TxnNo};
 use fs_map::{FileMap, MapPiece};
@@ -24,18 +27,23 @@ use std::marker::Model;
 #[derive(Debug, Drop)]
 pub struct Rows {
     rows: List<Row>,
+    /// No row that no transaction keeps ends sooner.
+    least: u64,
+    /// Whether a transaction may keep a row.
+    locked: bool,
 }
 
 impl Model for Rows {
     ghost use Rattle.std.specs.Prelude.{List};
     ghost use Rattle.fs_field.specs.declared.row.Row.{Row};
+    ghost use Rattle.fs_rows.specs.Bounds.{AreBounds};
     ghost use Rattle.fs_rows.specs.Table.{IsTable};
 
     ghost Value = { List Row };
 
     ghost view = { λ r. r.rows };
 
-    ghost invariant = { λ r. IsTable r.rows };
+    ghost invariant = { λ r. IsTable r.rows × AreBounds r.least r.locked r.rows };
 }
 
 impl Rows {
@@ -45,6 +53,8 @@ impl Rows {
     {
         Rows {
             rows: List::new(alloc),
+            least: u64::MAX,
+            locked: false,
         }
     }
 
@@ -71,6 +81,7 @@ impl Rows {
             IsLeastAgainst self.old session field.now kind blocker }
         ensures valid { IsTable self.new }
     {
+        self.least = lesser(self.least, until);
         ask(
             self.rows.items_mut(),
             alloc,
@@ -114,7 +125,8 @@ impl Rows {
         ensures err { OnErr result (self.new ≡ self.old) }
         ensures valid { IsTable self.new }
     {
-        grants::grant_all(self.rows.items_mut(), now, skew, rows)
+        self.locked = or_locks(self.locked, rows.as_slice());
+        grants::grant_all(self.rows.items_mut(), &mut self.least, now, skew, rows)
     }
 
     /// Lets the row of this number end no sooner than `until`; its end is never lowered. `Unknown` where there is
@@ -147,7 +159,7 @@ impl Rows {
         ensures rows { self.new ≡ filter (is_live now skew) self.old }
         ensures valid { IsTable self.new }
     {
-        table::lapse(self.rows.items_mut(), now, skew);
+        self.least = lapse_from(self.rows.items_mut(), self.least, now, skew);
     }
 
     /// Whether there is the row of this lease of the session.
@@ -163,6 +175,7 @@ impl Rows {
         ensures rows { self.new ≡ map (locked_row no txn) self.old }
         ensures valid { IsTable self.new }
     {
+        self.locked = true;
         lock(self.rows.items_mut(), no, txn)
     }
 
@@ -171,7 +184,12 @@ impl Rows {
         ensures rows { self.new ≡ map (unlocked_row txn) self.old }
         ensures valid { IsTable self.new }
     {
-        unlock(self.rows.items_mut(), txn);
+        unlock_known(
+            self.rows.items_mut(),
+            &mut self.least,
+            &mut self.locked,
+            txn,
+        );
     }
 
     /// The numbers and sessions of the rows on the field, in order of number, whether a transaction keeps them or
@@ -182,11 +200,13 @@ impl Rows {
         table::rows_on(alloc, self.rows.as_slice(), field)
     }
 
-    /// The last numbers of the files right below the directory that rows are on, one for each row.
+    /// The last numbers of the files right below the directory that rows are on, each once, ascending.
     pub fn borne(&self, alloc: Global, dir: &FileId) -> Result<List<u32>, Memory>
-        ensures { IfOk result (λ told. told ≡ borne_numbers dir.now self.now) }
+        ensures { IfOk result (AreInOrderOnce (borne_numbers dir.now self.now)) }
     {
-        table::borne(alloc, self.rows.as_slice(), dir)
+        let mut told = table::borne(alloc, self.rows.as_slice(), dir)?;
+        put_in_order(told.items_mut());
+        Ok(told)
     }
 
     /// Takes the rows on files that the piece gives out of the table: these, in order of number. `Memory` where memory
@@ -221,6 +241,8 @@ impl Rows {
         ensures err { OnErr result (self.new ≡ self.old) }
         ensures valid { IsTable self.new }
     {
+        self.least = lesser(self.least, least_end(rows.as_slice()));
+        self.locked = or_locks(self.locked, rows.as_slice());
         add_all(self.rows.items_mut(), rows)
     }
 
@@ -236,7 +258,7 @@ impl Rows {
     pub fn locked_in(&self, prefix: &FileId, map: &FileMap, me: u8) -> Option<TxnNo>
         ensures { result ≡ locked_in prefix.now map.now me self.now }
     {
-        Live::all(self.rows.as_slice()).locked_in(prefix, map, me)
+        least_known_lock(self.rows.as_slice(), self.locked, prefix, map, me)
     }
 
     /// The row of this number.
@@ -252,6 +274,8 @@ impl Twin for Rows {
     fn copy(&self, alloc: Global) -> Result<Rows, Memory> {
         Ok(Rows {
             rows: self.rows.copy(alloc)?,
+            least: self.least,
+            locked: self.locked,
         })
     }
 
@@ -305,10 +329,4 @@ fn lock(rows: &mut Vec<Row>, no: LeaseNo, txn: TxnNo) -> bool
     ensures rows { rows.new.items ≡ map (locked_row no txn) rows.old.items }
 {
     table::lock(rows, no, txn)
-}
-
-fn unlock(rows: &mut Vec<Row>, txn: TxnNo)
-    ensures { rows.new.items ≡ map (unlocked_row txn) rows.old.items }
-{
-    table::unlock(rows, txn);
 }

@@ -10,3 +10,4 @@ pub mod Pieces
 pub mod Reading
 pub mod Skews
 pub mod Limited
+pub mod ScriptLaws

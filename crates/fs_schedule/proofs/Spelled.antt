@@ -61,7 +61,7 @@ plain_bytes (x ∷ xs) e =
     ((q.0, r.0), (q.1, r.1))
 
 -- for texts that compute
-fits_by : (xs : List ℕ) → list_all (λ x. not (x == 32) && not (x == 34)) xs ≡ true → FitsWord (Bare xs)
+pub fits_by : (xs : List ℕ) → list_all (λ x. not (x == 32) && not (x == 34)) xs ≡ true → FitsWord (Bare xs)
 fits_by xs e = let p = plain_bytes xs e in fits_bare xs p.0 p.1
 
 digit_other : (b n : ℕ) → b < 48 → (48 + n == b) ≡ false
@@ -162,7 +162,7 @@ fits_digits digits n h = fits_bare digits (digits_lack 32 digits (omega arith) h
 fits_client : (digits : List ℕ) (n : ℕ) → IsNumberOf digits n → FitsWord (client_word digits)
 fits_client digits n h = fits_bare (99 ∷ digits) (refl, digits_lack 32 digits (omega arith) h.valid.1) (refl, digits_lack 34 digits (omega arith) h.valid.1)
 
-fits_server : (k : ℕ) → k < 2 ^ 64 → FitsWord (server_word k)
+pub fits_server : (k : ℕ) → k < 2 ^ 64 → FitsWord (server_word k)
 fits_server k lt = fits_bare (115 ∷ decimal k) (refl, decimal_lacks 32 k (omega arith) lt) (refl, decimal_lacks 34 k (omega arith) lt)
 
 fits_packet : (number : Option ℕ) → IfSome number (λ n. n < 2 ^ 64) → FitsWord (packet_word number)
@@ -192,7 +192,7 @@ are_head_words head line h =
 
 -- ## Operations and events
 
-fits_any_op : (o : Op) → FitsOp Direct o → AllByRecursion FitsWord (op_words o)
+pub fits_any_op : (o : Op) → FitsOp Direct o → AllByRecursion FitsWord (op_words o)
 fits_any_op (op.Lookup dir name) h = (fits_by (codes "lookup") refl, (fits_id dir h.1.0, (fits_name name h.1.1, tt)))
 fits_any_op (op.List dir) h = (fits_by (codes "list") refl, (fits_id dir h.1, tt))
 fits_any_op (op.Kind file) h = (fits_by (codes "kind") refl, (fits_id file h.1, tt))
@@ -208,7 +208,7 @@ fits_any_op (op.Reap file session) h = absurd (no_reap h.0)
     no_reap : false ≡ true → ⊥
     no_reap e = cc
 
-fits_field : (f : Field) → FitsField f → AllByRecursion FitsWord (field_words f)
+pub fits_field : (f : Field) → FitsField f → AllByRecursion FitsWord (field_words f)
 fits_field (field.Life file) h = (fits_by (codes "life") refl, (fits_id file h, tt))
 fits_field (field.Child dir name) h = (fits_by (codes "child") refl, (fits_id dir h.0, (fits_name name h.1, tt)))
 fits_field (field.Names dir) h = (fits_by (codes "names") refl, (fits_id dir h, tt))

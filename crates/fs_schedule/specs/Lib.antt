@@ -3,6 +3,7 @@ pub mod Spelling
 pub mod Lines
 pub mod Skew
 pub mod Faults
+pub mod Script
 pub mod Limits
 pub mod Errors
 -- cited by private calls alone

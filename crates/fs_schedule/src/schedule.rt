@@ -98,7 +98,7 @@ fn read_head(alloc: Global, line: &[u8]) -> Result<Head, ScheduleError>
 }
 
 /// Why a line is refused that is not read.
-fn unread_line(e: Unread, line: u64) -> ScheduleError
+pub fn unread_line(e: Unread, line: u64) -> ScheduleError
     ensures outside { e ≡ Unread.Outside → result ≡ ScheduleError.BadLine line }
     ensures memory { e ≡ Unread.Memory → result ≡ ScheduleError.Memory }
 {
@@ -109,7 +109,7 @@ fn unread_line(e: Unread, line: u64) -> ScheduleError
 }
 
 /// The line of this number is refused exactly where it has more bytes than the limit.
-fn within_length(line: &[u8], at: u64) -> Result<(), ScheduleError>
+pub fn within_length(line: &[u8], at: u64) -> Result<(), ScheduleError>
     ensures short { OnOk result (length line.now ≤ BYTES) }
     ensures long { IfErr result (λ e.
         (BYTES < length line.now) × (e ≡ ScheduleError.Limit Limited.Bytes at)) }

@@ -50,8 +50,8 @@ fn next_word<'a>(bytes: &'a [u8]) -> Option<(Word<'a>, Option<&'a [u8]>)>
 /// The same, where the opening quote was read.
 fn quoted_word<'a>(bytes: &'a [u8]) -> Option<(Word<'a>, Option<&'a [u8]>)>
     ensures fits { IfSome result (λ p. FitsWord (word_of p.0)) }
-    ensures found { IfSome result
-        (λ p. 34 ∷ bytes.now ≡ word_text (word_of p.0) ++ rest_from 32 (option_map (λ r. r.now) p.1)) }
+    ensures found { IfSome result (λ p. 34 ∷ bytes.now ≡
+        word_text (word_of p.0) ++ rest_from 32 (option_map (λ r. r.now) p.1)) }
     ensures none { IfNone result ((w : Spelled) (more : Option (Seq ℕ)) → FitsWord w →
         34 ∷ bytes.now ≡ word_text w ++ rest_from 32 more → ⊥) }
 {

@@ -1,7 +1,7 @@
 -- What a client makes of an operation.
-use Rattle.std.proofs.Common.{◌≡◌, ℕ, ◌+◌, ◌≤◌, ◌==◌, not, ◌&&◌, true, false, List, [], ◌∷◌, cond, refl, sym, ap, subst}
+use Rattle.std.proofs.Common.{◌≡◌, ℕ, ◌+◌, ◌≤◌, ◌==◌, not, ◌&&◌, true, false, List, [], ◌∷◌, cond, refl, sym, ap, ◌∙◌, subst}
 use Rattle.std.proofs.lemmas.Bool.{not-true}
-use Rattle.std.specs.Prelude.{Option, Some, None, is_some}
+use Rattle.std.specs.Prelude.{Option, Some, None, is_some, option_map}
 use Rattle.fs_parcel.proofs.Installed.{empty_is}
 use Rattle.fs_ident.specs.declared.actor.Peer.TheVariants.{Client as OfSession}
 use Rattle.fs_ident.specs.declared.actor.Session.{Session}
@@ -21,6 +21,7 @@ use Rattle.fs_msg.specs.declared.answer.Answer.{Answer}
 use Rattle.fs_msg.specs.declared.client_msg.ClientMsg.{ClientMsg}
 use Rattle.fs_msg.specs.declared.item.Item.{Item}
 use Rattle.fs_record.specs.Effects.{tells_its_effects}
+use Rattle.fs_record.specs.Records.{nodes_of}
 use Rattle.fs_server.specs.Ships.{item_of}
 use Rattle.fs_client.specs.Acts.{act_on, answer_with, answers, ask_for, asks, entry_of, fresh_asked, full_one, hinted, items_of, need_file, needs_at, reads, replies, stays, with_id, worth}
 use Rattle.fs_client.specs.Client.{changed}
@@ -29,19 +30,20 @@ use Rattle.fs_client.specs.declared.plan.Plan.{Plan}
 use Rattle.fs_client.specs.declared.state.Client.{Client}
 use Rattle.fs_view.specs.View.{given_by, known_by, missing_in, reply_in}
 use Rattle.fs_serial.specs.Fresh.{FreshReserved, Reserves, reserved_by}
-use Rattle.fs_serial.specs.Numbers.{items_by}
+use Rattle.fs_serial.specs.Numbers.{is_server, is_session, items_by}
 use Rattle.fs_serial.specs.Parts.{ServersHold, ServersFit}
 use Rattle.fs_serial.specs.Settled.{Settled, settled_now}
 use Rattle.fs_serial.specs.Sight.{Sight}
-use Rattle.fs_serial.specs.Steps.{IsReadNow, IsReplied}
+use Rattle.fs_serial.specs.Steps.{IsReplied}
 use Rattle.fs_serial.specs.World.{is_called, message_in, pushed, told_by}
 use Rattle.fs_serial.proofs.ClientSteps.{IsMoved, with_journal}
 use Rattle.fs_serial.proofs.Facts.{items-other, reaps-still}
 use Rattle.fs_serial.proofs.PlainAsks.{asks_given, some_given}
-use Rattle.fs_serial.proofs.Read.{read_made, read_reserved, read_serial, seat_read, settled_number}
+use Rattle.fs_serial.proofs.Read.{IsReadOf, read_made, read_reserved, read_right, read_serial, seat_read, settled_number}
 use Rattle.fs_serial.proofs.ReplyAll.{replied_settled}
 use Rattle.fs_serial.proofs.ReplySeat.{seat_reply}
-use Rattle.fs_serial.proofs.Seats.{Seat, few}
+use Rattle.fs_serial.proofs.Gone.{MakeAnew}
+use Rattle.fs_serial.proofs.Seats.{Seat, few, seen_at}
 use Rattle.fs_serial.proofs.Sends.{AreOfGivenKinds, seat_asks}
 
 -- what a caller asks for is plain
@@ -64,9 +66,40 @@ pub record IsPlanned {N : Type 0} (skew greatest : ℕ) (s : Sight) (by : Sessio
 pub servers_stay : (s : Sight) → ServersMoved s s
 servers_stay s = record { holds = λ h. h; fits = λ f. f; reserved = λ clients f. f }
 
-module _ (skew greatest : ℕ) (s : Sight) (by : Session) (replied : List Item) (c : Client) (up : List ClientMsg) (down : List Answer) (o : Op) (called : is_called o ≡ true) (within : greatest ≤ c.last + skew) (h : Seat skew greatest s by replied c up down) where
+-- ## What joins the journal
+
+-- another item joins the journal than the plan admits
+abbrev pub with_items : {N : Type 0} → (Item → Item) → Plan N → Plan N
+with_items f p = record { ready = p.ready; out = record { note = p.out.note; send = p.out.send; admitted = option_map f p.out.admitted } }
+
+same_item : (o : Option Item) → option_map (λ i. i) o ≡ o
+same_item None = refl
+same_item (Some i) = refl
+
+pub same_items : {N : Type 0} (p : Plan N) → with_items (λ i. i) p ≡ p
+same_items {N} p = ap (λ (o : Option Item). let q : Plan N = record { ready = p.ready; out = record { note = p.out.note; send = p.out.send; admitted = o } } in q) (same_item p.out.admitted)
+
+-- the read as the client hands it out
+abbrev pub item_read : Client → Op → Reply → Item
+item_read c o r = record { by = OfSession c.session; n = c.next; op = with_id c.view c.last o r; reply = r }
+
+-- what the client makes of the operation; in place of a read this item may join the journal
+module _ (skew greatest : ℕ) (s : Sight) (by : Session) (replied : List Item) (c : Client) (up : List ClientMsg) (down : List Answer) (o : Op) (called : is_called o ≡ true) (h : Seat skew greatest s by replied c up down) where
+  replied_now : (r : Reply) → reply_in c.view c.last o ≡ Some r → IsReplied c down o r
+  replied_now r e = let q = called_plainly o called in record { plain = q.0; asked = q.1; reply = e; few = few skew greatest s by replied c up down h }
+
+  item_is : (r : Reply) → item_of by (entry_of o r c) ≡ item_read c o r
+  item_is r = ap (λ (x : Session). let y : Item = record { by = OfSession x; n = c.next; op = with_id c.view c.last o r; reply = r } in y) (sym h.client.session)
+
+  -- what it reads while its leases last is the namespace's
+  pub reads_right : greatest ≤ c.last + skew → (r : Reply) → reply_in c.view c.last o ≡ Some r → is_change r ≡ false → c.log ≡ [] → IsReadOf (nodes_of s.records) by c.next (item_read c o r)
+  reads_right within r e read empty =
+      subst (IsReadOf (nodes_of s.records) by c.next) (item_is r)
+      (read_right skew greatest s by replied c up down o r h (replied_now r e) (record { read = read; empty = empty; within = within }))
+
+module _ (skew greatest : ℕ) (s : Sight) (by : Session) (replied : List Item) (c : Client) (up : List ClientMsg) (down : List Answer) (o : Op) (called : is_called o ≡ true) (h : Seat skew greatest s by replied c up down) (anew : MakeAnew by s.journal (seen_at by c down).log) (put : Item → Item) (fine : (r : Reply) → reply_in c.view c.last o ≡ Some r → is_change r ≡ false → c.log ≡ [] → IsReadOf (nodes_of s.records) by c.next (put (item_read c o r))) where
   abbrev IsDone : Plan Act → Type 0
-  IsDone p = IsPlanned skew greatest s by replied c up down down p
+  IsDone p = IsPlanned skew greatest s by replied c up down down (with_items put p)
 
   stayed : (a : Act) → IsDone (stays a c)
   stayed a = record { now = refl; moved = record { seat = h; reserves = λ n i r. r }; servers = servers_stay s; others = λ x q. refl }
@@ -99,50 +132,37 @@ module _ (skew greatest : ℕ) (s : Sight) (by : Session) (replied : List Item) 
 
   -- ## Nothing is missing
 
-  replied_now : (r : Reply) → reply_in c.view c.last o ≡ Some r → IsReplied c down o r
-  replied_now r e = let q = called_plainly o called in record { plain = q.0; asked = q.1; reply = e; few = few skew greatest s by replied c up down h }
-
   replying : (r : Reply) → reply_in c.view c.last o ≡ Some r → IsDone (replies o r c)
   replying r e =
-      let a = replied_now r e in
+      let a = replied_now skew greatest s by replied c up down o called h r e in
       record {
         now = refl;
         moved = record {
-          seat = seat_reply skew greatest s by replied c up down o r h a;
+          seat = seat_reply skew greatest s by replied c up down o r h anew a;
           reserves = λ n i q. subst (λ (d : Settled). Reserves d.leases n i) (replied_settled by c down o r a h.client) q;
         };
         servers = servers_stay s;
         others = λ x q. refl;
       }
 
-  -- the read as the client hands it out
-  abbrev item_read : Reply → Item
-  item_read r = record { by = OfSession c.session; n = c.next; op = with_id c.view c.last o r; reply = r }
-
-  item_is : (r : Reply) → item_of by (entry_of o r c) ≡ item_read r
-  item_is r = ap (λ (x : Session). let y : Item = record { by = OfSession x; n = c.next; op = with_id c.view c.last o r; reply = r } in y) (sym h.client.session)
-
-  abbrev IsRead : Reply → Item → Type 0
-  IsRead r item = IsDone (record { ready = record { now = c.last; change = change.Read; hints = None }; out = record { note = act.ReadNow c.next r; send = None; admitted = Some item } })
-
   reading : (r : Reply) → reply_in c.view c.last o ≡ Some r → is_change r ≡ false → c.log ≡ [] → IsDone (reads o r c)
   reading r e read empty =
-      let a = replied_now r e in
-      let t : IsReadNow skew greatest c r = record { read = read; empty = empty; within = within } in
-      let i = item_of by (entry_of o r c) in
-      subst (IsRead r) (item_is r) (record {
+      let a = replied_now skew greatest s by replied c up down o called h r e in
+      let i = put (item_read c o r) in
+      let is : IsReadOf (nodes_of s.records) by c.next i = fine r e read empty in
+      record {
         now = refl;
         moved = record {
-          seat = seat_read skew greatest s by replied c up down o r h a t;
+          seat = seat_read skew greatest s by replied c up down o r h a empty i is;
           reserves = λ n j q. subst (λ (d : Settled). Reserves d.leases n j) (settled_number by (c.next + 1) down (settled_now c)) q;
         };
         servers = record {
-          holds = λ q. record { apart = q.apart; promises = q.promises; serial = read_serial skew greatest s by replied c up down o r h a t q; reaped = reaps-still s.reaps s.journal i (λ k. refl) q.reaped };
-          fits = λ f. record { shaped = f.shaped; counted = f.counted; given = f.given; sound = f.sound; made = read_made skew greatest s by replied c up down o r h a t f.made };
-          reserved = λ clients. read_reserved skew greatest s by replied c up down o r h a t (reserved_by clients);
+          holds = λ q. record { apart = q.apart; promises = q.promises; serial = read_serial skew greatest s by replied c up down o r h a empty i is q; reaped = reaps-still s.reaps s.journal i (λ k. ap (is_server k) is.session) q.reaped };
+          fits = λ f. record { shaped = f.shaped; counted = f.counted; given = f.given; sound = f.sound; made = read_made skew greatest s by replied c up down o r h a empty i is f.made };
+          reserved = λ clients. read_reserved skew greatest s by replied c up down o r h a empty i is (reserved_by clients);
         };
-        others = λ x q. items-other x s.journal i q;
-      })
+        others = λ x q. items-other x s.journal i (ap (is_session x) is.session ∙ q);
+      }
 
   answering : (r : Reply) → reply_in c.view c.last o ≡ Some r → IsDone (answers o r c)
   answering r e = elim (not (is_change r) && is_empty c.log) as (λ b. (not (is_change r) && is_empty c.log) ≡ b → IsDone (cond b (reads o r c) (replies o r c))) [

@@ -1,5 +1,5 @@
 -- The server admits an entry: the parts of its own session.
-use Rattle.std.proofs.Common.{◌≡◌, ℕ, ◌+◌, ◌<◌, Bool, true, false, List, [], ◌∷◌, ◌++◌, map, refl, sym, ap, ◌∙◌, subst, inl, inr, cond, append_assoc}
+use Rattle.std.proofs.Common.{◌≡◌, ℕ, ◌+◌, ◌<◌, Bool, true, false, List, [], ◌∷◌, ◌++◌, ◌⊎◌, map, refl, sym, ap, ◌∙◌, subst, inl, inr, cond, append_assoc}
 use Rattle.std.specs.Prelude.{Option, Some, None, is_some}
 use Rattle.std.specs.List.{list_any}
 use mathlib.Core.Path.{fun_ext}
@@ -29,6 +29,7 @@ use Rattle.fs_view.specs.Kept.{makes}
 use Rattle.fs_view.specs.View.{value_after_all}
 use Rattle.fs_view.proofs.Seeing.{own_values}
 use Rattle.fs_serial.specs.Fresh.{made_by, or_else}
+use Rattle.fs_serial.specs.Gone.{IsOfGone}
 use Rattle.fs_serial.specs.Leases.{IsBacked, LeasesBacked, LeasesTrue, LeasesDistinct, IsRowOf, IsFresh, FreshLeases}
 use Rattle.fs_serial.specs.Numbers.{items_by, all_items, AreNumbered}
 use Rattle.fs_serial.specs.Parts.{ServersHold, ServersFit, SessionHolds, SessionFits}
@@ -39,6 +40,7 @@ use Rattle.fs_serial.specs.Sight.{Counts, Sight, sight_of}
 use Rattle.fs_serial.proofs.Answered.{answered, leads_there, sound_there, no_reap}
 use Rattle.fs_serial.proofs.Births.{life_after, makes_there, names_made}
 use Rattle.fs_serial.proofs.Facts.{each_image, items-own, serial_push, session_itself}
+use Rattle.fs_serial.proofs.Gone.{MakeAnew, gone_later, gone_then, made_more}
 
 -- ## Leases on new files
 
@@ -120,9 +122,12 @@ module _ (o : Counts) (skew greatest : ℕ) (s : Server) (journal : List Item) (
   backed : LeasesBacked skew greatest s.rows then
   backed = each_image (lease_after by (effects_in by e)) (λ l. greatest < l.until + skew → IsBacked s.rows l.no l.until) leases h.backed
 
-  telling : LeasesTrue s.rows (value_of after.records by) then
-  telling = each_image (lease_after by (effects_in by e)) (λ l. (r : Row) → In r s.rows → r.no ≡ l.no → l.base ≡ value_of after.records by l.field) leases
-      (λ l i r j n. ap (λ v. value_after_all by l.field v (effects_in by e)) (h.telling l i r j n) ∙ sym (own l.field))
+  telling : MakeAnew by journal (e ∷ es) → LeasesTrue s.rows (IsOfGone after.records after.journal) (value_of after.records by) then
+  telling anew = each_image (lease_after by (effects_in by e)) (λ l. (r : Row) → In r s.rows → r.no ≡ l.no → IsOfGone after.records after.journal l.field ⊎ (l.base ≡ value_of after.records by l.field)) leases
+      (λ l i r j n. elim (h.telling l i r j n) as (λ _. IsOfGone after.records after.journal l.field ⊎ (value_after_all by l.field l.base (effects_in by e) ≡ value_of after.records by l.field)) [
+        | inl gone ↦ inl (gone_later s.records after.records journal after.journal (made_more journal (item_of by e)) (λ file was. gone_then s.records by leases e plain right sf.sound file (anew e (inl refl) file was)) l.field gone)
+        | inr same ↦ inr (ap (λ v. value_after_all by l.field v (effects_in by e)) same ∙ sym (own l.field))
+      ])
 
   pending : PendingStand s.rows by (value_of after.records by) es
   pending = subst (λ v. PendingStand s.rows by v es) (fun_ext (λ g. sym (own g))) (h.pending stand).1
@@ -130,10 +135,10 @@ module _ (o : Counts) (skew greatest : ℕ) (s : Server) (journal : List Item) (
   border : all_items by after.journal es ≡ all_items by journal (e ∷ es)
   border = ap (λ is. is ++ map (item_of by) es) (items-own by journal (item_of by e) (session_itself by)) ∙ append_assoc (items_by by journal) (item_of by e ∷ []) (map (item_of by) es)
 
-  pub holds : SessionHolds skew greatest after by replied (record { leases = then; log = es; next = next; over = None })
-  holds = record {
+  pub holds : MakeAnew by journal (e ∷ es) → SessionHolds skew greatest after by replied (record { leases = then; log = es; next = next; over = None })
+  holds anew = record {
     backed = backed;
-    telling = telling;
+    telling = telling anew;
     pending = pending;
     numbers = subst (λ is. AreNumbered 1 is next) (sym border) h.numbers;
     replies = border ∙ h.replies;

@@ -1,5 +1,5 @@
 -- The server admits an entry: all parts of all sessions.
-use Rattle.std.proofs.Common.{◌≡◌, ℕ, ◌==◌, Bool, true, false, List, [], ◌∷◌, ◌++◌, map, refl, sym, ap, ◌∙◌, subst, cond}
+use Rattle.std.proofs.Common.{◌≡◌, ℕ, ◌==◌, Bool, true, false, List, [], ◌∷◌, ◌++◌, map, refl, sym, ap, ◌∙◌, subst, inl, cond}
 use Rattle.std.specs.Prelude.{Option, None, is_some}
 use Rattle.fs_ident.specs.declared.actor.LeaseNo.{LeaseNo}
 use Rattle.fs_ident.specs.declared.actor.Session.{Session}
@@ -23,6 +23,7 @@ use Rattle.fs_serial.proofs.AdmitFresh.{fresh_then, made_then}
 use Rattle.fs_serial.proofs.AdmitOthers.{others_rely}
 use Rattle.fs_serial.proofs.AdmitPromises.{promises_admitted}
 use Rattle.fs_serial.proofs.Facts.{reaps-still}
+use Rattle.fs_serial.proofs.Gone.{MakeAnew, all_anew}
 use Rattle.fs_serial.proofs.Relied.{relied_holds, relied_fits}
 use Rattle.fs_serial.proofs.Rowed.{all_found}
 use Rattle.fs_serial.proofs.Together.{each_session, its_client}
@@ -72,6 +73,9 @@ module _ (o : Counts) (skew greatest : ℕ) (s : Server) (journal : List Item) (
   fits : SessionFits skew greatest (sight_of o s journal) by first
   fits = subst (SessionFits skew greatest (sight_of o s journal) by) is_first (h.fitting by)
 
+  anew : MakeAnew by journal (e ∷ a.rest)
+  anew = subst (MakeAnew by journal) a.log (all_anew skew greatest (sight_of o s journal) replied clients h by)
+
   plain : IsEntry d.leases e
   plain = admit.plain o skew greatest s journal by (replied by) d.leases e a.rest d.next stand h.servers h.kept holds fits
 
@@ -85,12 +89,12 @@ module _ (o : Counts) (skew greatest : ℕ) (s : Server) (journal : List Item) (
   all = with_client by then clients
 
   rely : (x : Session) → (by.0 == x.0) ≡ false → Relies skew greatest x (sight_of o s journal) after
-  rely x other = others_rely o skew greatest s journal by x d.leases e other stand plain right h.servers h.kept promises
+  rely x other = others_rely o skew greatest s journal by x d.leases e other stand (anew e (inl refl)) plain right h.servers h.kept promises
 
   sessions : (x : Session) → SessionHolds skew greatest after x (replied x) (all x)
   sessions = each_session (λ x c. SessionHolds skew greatest after x (replied x) c) by then clients
-      (admit.holds o skew greatest s journal by (replied by) d.leases e a.rest d.next stand h.servers h.kept holds fits)
-      (λ x other. relied_holds skew greatest x (sight_of o s journal) after (clients x) (rely x other) (h.fitting x) (replied x) (h.sessions x))
+      (admit.holds o skew greatest s journal by (replied by) d.leases e a.rest d.next stand h.servers h.kept holds fits anew)
+      (λ x other. relied_holds skew greatest x (sight_of o s journal) after (clients x) (rely x other) (h.fitting x) (all_anew skew greatest (sight_of o s journal) replied clients h x) (replied x) (h.sessions x))
 
   fitting : (x : Session) → SessionFits skew greatest after x (all x)
   fitting = each_session (λ x c. SessionFits skew greatest after x c) by then clients

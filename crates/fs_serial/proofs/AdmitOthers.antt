@@ -1,6 +1,7 @@
 -- The server admits an entry: what another session relies on.
-use Rattle.std.proofs.Common.{◌≡◌, ℕ, ◌==◌, ◌&&◌, not, Bool, true, false, List, [], ◌∷◌, ◌++◌, refl, sym, ap, ◌∙◌, subst, arith}
+use Rattle.std.proofs.Common.{◌≡◌, ℕ, ◌==◌, ◌&&◌, not, Bool, true, false, List, [], ◌∷◌, ◌++◌, refl, sym, ap, ◌∙◌, subst, inr, arith}
 use Rattle.std.specs.Cmp.{nat_eq_equiv}
+use Rattle.std.specs.List.{list_any}
 use Rattle.fs_ident.specs.In.{In}
 use Rattle.fs_ident.specs.declared.actor.Session.{Session}
 use Rattle.fs_field.specs.declared.asked.Need.{Need}
@@ -17,18 +18,20 @@ use Rattle.fs_record.specs.Records.{nodes_of}
 use Rattle.fs_record.specs.ValueOf.{value_of, is_other}
 use Rattle.fs_server.specs.Ships.{item_of, with_entry}
 use Rattle.fs_server.specs.declared.state.Server.{Server}
-use Rattle.fs_view.specs.Kept.{is_enough}
+use Rattle.fs_view.specs.Kept.{is_enough, makes}
 use Rattle.fs_view.specs.Laws.{item_meets}
 use Rattle.fs_view.specs.Walk.{walk, known_in, always}
 use Rattle.fs_view.proofs.Unseen.{others_values}
+use Rattle.fs_serial.specs.Fresh.{IsMade}
 use Rattle.fs_serial.specs.Parts.{ServersHold, ServersFit}
 use Rattle.fs_serial.specs.Pending.{AllStand, Stands, IsAnswer, IsCovered, IsEntry}
 use Rattle.fs_serial.specs.Relies.{Relies}
 use Rattle.fs_serial.specs.Rows.{NoRowsConflict, PromisesKept}
-use Rattle.fs_serial.specs.Settled.{Lease}
+use Rattle.fs_serial.specs.Settled.{Lease, effects_in}
 use Rattle.fs_serial.specs.Sight.{Counts, sight_of}
 use Rattle.fs_serial.proofs.Answered.{answered, covered_there}
 use Rattle.fs_serial.proofs.Facts.{items-other}
+use Rattle.fs_serial.proofs.Gone.{gone_then, made_more}
 use Rattle.fs_serial.proofs.Promises.{other_stays}
 
 exclusive : (k : LeaseKind) → is_enough k Exclusive ≡ true → k ≡ Exclusive
@@ -57,7 +60,7 @@ no_item_meets rows by r uses (need.Lease g Exclusive) free i other stand c = ap 
 no_item_meets rows by r uses (need.Fresh dir) free i other stand c = refl
 
 module _ (o : Counts) (skew greatest : ℕ) (s : Server) (journal : List Item) (by y : Session) (leases : List Lease) (e : Entry) (another : (by.0 == y.0) ≡ false)
-    (stand : AllStand s.rows by e.uses) (plain : IsEntry leases e) (right : IsAnswer (value_of s.records by) e)
+    (stand : AllStand s.rows by e.uses) (anew : (file : List ℕ) → IsMade journal file → list_any (makes file) (effects_in by e) ≡ false) (plain : IsEntry leases e) (right : IsAnswer (value_of s.records by) e)
     (sh : ServersHold (sight_of o s journal)) (sf : ServersFit (sight_of o s journal)) (promises : PromisesKept (with_entry by e s).records s.rows) where
   -- on a field that does not tell of others, since it meets no use of the entry
   same_plain : (r : Row) → In r s.rows → r.session ≡ y → is_other r.field ≡ false → value_of (with_entry by e s).records y r.field ≡ value_of s.records y r.field
@@ -78,6 +81,8 @@ module _ (o : Counts) (skew greatest : ℕ) (s : Server) (journal : List Item) (
     given = λ k. omega arith;
     older = λ r i old. record { row = r; stood = i; number = refl; session = refl; field = refl; kind = refl };
     kept = λ r i own live. record { row = r; stands = i; number = refl; lasts = omega arith };
-    values = λ r i old own. same_value r i own;
+    values = λ r i old own. inr (same_value r i own);
+    made = λ file was. made_more journal (item_of by e) file was;
+    gone = λ file was none. gone_then s.records by leases e plain right sf.sound file (anew file was) none;
     items = items-other y journal (item_of by e) another;
   }

@@ -46,6 +46,7 @@ use Rattle.fs_record.specs.ValueOf.{value_of, own_of, handles_of, selves_in}
 use Rattle.fs_record.proofs.NodeMaps.{node_there}
 use Rattle.fs_server.specs.Ships.{with_entry}
 use Rattle.fs_server.specs.declared.state.Server.{Server}
+use Rattle.fs_view.specs.Gone.{known_with}
 use Rattle.fs_view.specs.Laws.{item_meets}
 use Rattle.fs_view.specs.Script.{Script, answer, unless, no_file, ask_others, ask_selves, ask_own, open_free, modes_on, modes_off}
 use Rattle.fs_view.specs.Told.{all_modes, is_other_told, life_told, modes_listed, modes_under, own_conflicts}
@@ -53,7 +54,7 @@ use Rattle.fs_view.specs.View.{value_after_all}
 use Rattle.fs_view.specs.Walk.{walk, walk_along, known_in, always}
 use Rattle.fs_view.proofs.Seeing.{absent, own_values}
 use Rattle.fs_view.proofs.Unseen.{others_values}
-use Rattle.fs_serial.specs.Pending.{AllStand, IsAnswer, IsEntry, Stands, HasUse, known_with}
+use Rattle.fs_serial.specs.Pending.{AllStand, IsAnswer, IsEntry, Stands, HasUse}
 use Rattle.fs_serial.specs.Rows.{PromisesKept}
 use Rattle.fs_serial.specs.Settled.{Lease, Settled}
 use Rattle.fs_serial.proofs.Answered.{answered}

@@ -26,7 +26,7 @@ use Rattle.fs_record.specs.ValueOf.{value_at, value_of}
 use Rattle.fs_server.specs.Asks.{Asking, ask_from, grant_of, kind_for, with_lease}
 use Rattle.fs_server.specs.declared.state.Server.{Server}
 use Rattle.fs_server.proofs.OneByOne.{AskEnds, Items, each_item, elsewhere, kept_off, waits}
-use Rattle.fs_client.specs.Answers.{grants_fit, is_new, is_of_item, rest_fits}
+use Rattle.fs_client.specs.Answers.{front_fits, is_new, is_of_item}
 use Rattle.fs_view.specs.declared.kept.Kept.{Kept}
 use Rattle.fs_view.specs.Kept.{has_number, number_of}
 use Rattle.fs_serial.proofs.Elsewhere.{not_all}
@@ -69,16 +69,14 @@ module _ (by : Session) (kept : List Kept) where
   pub record IsGivenFor (items : List (Field × LeaseKind)) (before : List Grant) (me start : ℕ) (a : Asking) : Type 0 where
     pub new : List Grant
     pub split : a.grants ≡ before ++ new
-    pub some : grants_fit items None kept before new ≡ true
-    -- where all were given, what comes behind them decides
-    pub all : a.end ≡ end.All → (fresh : Option (List ℕ)) (rest : List Grant) → grants_fit items fresh kept before (new ++ rest) ≡ rest_fits fresh kept (before ++ new) rest
+    pub some : front_fits items kept before new ≡ true
     pub numbers : GrantsUpTo a.server.given a.grants
     pub rises : start ≤ a.server.given
     pub here : a.server.me ≡ me
     pub none : a.fresh ≡ None
 
   stopped : (x : Field × LeaseKind) (xs : List (Field × LeaseKind)) (s : Server) (before : List Grant) (e : End) → (e ≡ end.All → ⊥) → GrantsUpTo s.given before → IsGivenFor (x ∷ xs) before s.me s.given (record { server = s; grants = before; fresh = None; end = e })
-  stopped x xs s before e other b = record { new = []; split = sym (append-nil before); some = refl; all = λ q. absurd (other q); numbers = b; rises = omega arith; here = refl; none = refl }
+  stopped x xs s before e other b = record { new = []; split = sym (append-nil before); some = refl; numbers = b; rises = omega arith; here = refl; none = refl }
 
   fits_item : (x : Field × LeaseKind) (s : Server) (before : List Grant) → kind_for x.0 x.1 ≡ x.1 → KeptUpTo s.me s.given kept → GrantsUpTo s.given before → (is_of_item x (grant_of by x.0 (kind_for x.0 x.1) s) && is_new kept before (grant_of by x.0 (kind_for x.0 x.1) s)) ≡ true
   fits_item x s before kind k b =
@@ -100,7 +98,6 @@ module _ (by : Session) (kept : List Kept) where
         new = g ∷ r.new;
         split = r.split ∙ append_assoc before (g ∷ []) r.new;
         some = joined _ _ good r.some;
-        all = λ e fresh rest. ap (λ b. b && grants_fit xs fresh kept (before ++ g ∷ []) (r.new ++ rest)) good ∙ r.all e fresh rest ∙ ap (λ gs. rest_fits fresh kept gs rest) (append_assoc before (g ∷ []) r.new);
         numbers = r.numbers;
         rises = omega arith;
         here = r.here;
@@ -114,6 +111,6 @@ module _ (by : Session) (kept : List Kept) where
 
   pub given_for : (items : Items) (s : Server) (before : List Grant) → ((x : Field × LeaseKind) → In x items → kind_for x.0 x.1 ≡ x.1) → KeptUpTo s.me s.given kept → GrantsUpTo s.given before → IsGivenFor items before s.me s.given (ask_from by items s before)
   given_for = each_item by (λ items s before a. ((x : Field × LeaseKind) → In x items → kind_for x.0 x.1 ≡ x.1) → KeptUpTo s.me s.given kept → GrantsUpTo s.given before → IsGivenFor items before s.me s.given a)
-      (λ s before kinds k b. record { new = []; split = sym (append-nil before); some = refl; all = λ e fresh rest. ap (λ gs. rest_fits fresh kept gs rest) (sym (append-nil before)); numbers = b; rises = omega arith; here = refl; none = refl })
+      (λ s before kinds k b. record { new = []; split = sym (append-nil before); some = refl; numbers = b; rises = omega arith; here = refl; none = refl })
       (λ x xs s before promise a mine e p kinds k b. went_on x xs s before a (fits_item x s before (kinds x (inl refl)) k b) (p (λ y i. kinds y (inr i)) (λ y i at. let q = k y i at in omega arith) (more_up s before x.0 (kind_for x.0 x.1) promise b)))
       (λ x xs s before at why kinds k b. stopped x xs s before at (ended_early x s at why) b)

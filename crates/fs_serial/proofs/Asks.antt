@@ -22,6 +22,7 @@ use Rattle.fs_server.specs.Asks.{Asking, ask_from, ask_fresh, asked_in, fresh_fo
 use Rattle.fs_server.specs.Server.{is_mine, moved}
 use Rattle.fs_server.specs.declared.state.Server.{Server}
 use Rattle.fs_client.specs.Answers.{fresh_fits, grants_fit}
+use Rattle.fs_client.proofs.FitsSteps.{last_is}
 use Rattle.fs_view.specs.declared.kept.Kept.{Kept}
 use Rattle.fs_view.specs.declared.kept.Standing.{Standing}
 use Rattle.fs_view.specs.declared.kept.Standing.TheVariants.{Held, Pinned, Leaving}
@@ -68,7 +69,7 @@ module _ (o : Counts) (skew greatest : ℕ) (journal : List Item) (replied : Ses
   -- the question is answered
   pub record IsAnswer (a : Asking) : Type 0 where
     pub goes : GoesOn skew greatest (sight_of o a.server journal) replied ends (with_client by (told by (Granted a.grants a.fresh a.end) (base by)) base)
-    pub fits : (fresh_fits dir a.fresh && grants_fit items a.fresh kept [] a.grants) ≡ true
+    pub fits : (fresh_fits dir a.fresh && grants_fit items a.fresh kept a.grants) ≡ true
 
   abbrev a : Asking
   a = ask_from by items s []
@@ -89,7 +90,7 @@ module _ (o : Counts) (skew greatest : ℕ) (journal : List Item) (replied : Ses
   bare : (e : End) → IsAnswer (record a { end = e })
   bare e = record {
     goes = subst (λ fresh. GoesOn skew greatest (sight_of o a.server journal) replied ends (with_client by (with_leases (map (granted fresh) a.grants) (base by)) base)) (sym fitting.none) asking.goes;
-    fits = subst (λ fresh. (fresh_fits dir fresh && grants_fit items fresh kept [] a.grants) ≡ true) (sym fitting.none) (ap (grants_fit items None kept []) fitting.split ∙ fitting.some);
+    fits = subst (λ fresh. (fresh_fits dir fresh && grants_fit items fresh kept a.grants) ≡ true) (sym fitting.none) (ap (grants_fit items None kept) fitting.split ∙ fitting.some);
   }
 
   -- with one
@@ -106,7 +107,7 @@ module _ (o : Counts) (skew greatest : ℕ) (journal : List Item) (replied : Ses
         goes = subst (λ x. GoesOn skew greatest t replied ends (with_client by x base)) (sym (told_with o by d k a journal gift.0 gift.1 (base by) end.All asking.rows)) goes;
         fits = joined _ _
             (ap (λ x. fresh_fits x (Some (child d k))) asked ∙ ap (is_parent d) (parent_child d k) ∙ same_self d)
-            (ap (λ gs. grants_fit items (Some (child d k)) kept [] (gs ++ g ∷ [])) fitting.split ∙ fitting.all all (Some (child d k)) (g ∷ []) ∙ joined _ _ of_item new);
+            (ap (λ gs. grants_fit items (Some (child d k)) kept (gs ++ g ∷ [])) fitting.split ∙ last_is items (child d k) kept fitting.new g ∙ joined _ _ fitting.some (joined _ _ of_item new));
       }
 
   of_number : (d : List ℕ) (k : Option ℕ) → dir ≡ Some d → a.end ≡ end.All → is_directory a.server.records d ≡ true → fresh_number a.server.records d (borne_numbers d a.server.rows) ≡ k → IsAnswer (fresh_of by d k a)

@@ -1,5 +1,5 @@
 -- What is on its way while a client goes on.
-use Rattle.std.proofs.Common.{◌≡◌, ℕ, zero, suc, ◌==◌, ◌&&◌, not, true, false, List, [], ◌∷◌, ◌++◌, refl, sym, ap, ◌∙◌, subst, inl, inr, arith, append_assoc, length-append}
+use Rattle.std.proofs.Common.{◌≡◌, ℕ, zero, suc, ◌==◌, ◌&&◌, not, true, false, List, [], ◌∷◌, ◌++◌, refl, sym, ap, ◌∙◌, subst, inl, inr, arith, append_assoc, length-append, take}
 use Rattle.std.specs.Prelude.{Option, Some, None, nat_le}
 use Rattle.std.specs.List.{list_any}
 use Rattle.std.proofs.lemmas.Bool.{not-true}
@@ -22,7 +22,7 @@ use Rattle.fs_msg.specs.declared.client_msg.ClientMsg.{ClientMsg}
 use Rattle.fs_msg.specs.declared.end.End.{End}
 use Rattle.fs_msg.specs.declared.end.End.TheVariants as end
 use Rattle.fs_msg.specs.declared.entry.Entry.{Entry}
-use Rattle.fs_client.specs.Answers.{answer_fits, fresh_fits, grants_fit, rest_fits, is_new, is_of_item, refusal_fits, is_entry_at}
+use Rattle.fs_client.specs.Answers.{answer_fits, fresh_fits, front_fits, grants_fit, is_new, is_of_item, life_last, refusal_fits, is_entry_at}
 use Rattle.fs_client.specs.Turns.{pair_of}
 use Rattle.fs_client.specs.declared.exchange.Exchange.{Exchange}
 use Rattle.fs_client.specs.declared.exchange.Exchange.TheVariants.{Asks, Renews, Releases, Ships}
@@ -51,35 +51,40 @@ new_still old new before g fewer h =
     let q = both (not (list_any (has_number g.no) old)) (not (list_any (λ (b : Grant). same_no b.no g.no) before)) h in
     joined _ _ (ap not (still_none old new g.no fewer (not-true (list_any (has_number g.no) old) q.0))) q.1
 
-rest_still : (old new : List Kept) (fresh : Option (List ℕ)) (before gs : List Grant) → FewerNumbers old new → rest_fits fresh old before gs ≡ true → rest_fits fresh new before gs ≡ true
-rest_still old new None before [] fewer h = refl
-rest_still old new None before (g ∷ gs) fewer h = h
-rest_still old new (Some id) before [] fewer h = h
-rest_still old new (Some id) before (g ∷ []) fewer h =
-    let q = both (is_of_item (Life id, Exclusive) g) (is_new old before g) h in
-    joined _ _ q.0 (new_still old new before g fewer q.1)
-rest_still old new (Some id) before (g ∷ k ∷ gs) fewer h = h
-
-grants_still : (old new : List Kept) (items : List (Field × LeaseKind)) (fresh : Option (List ℕ)) (before gs : List Grant) → FewerNumbers old new → grants_fit items fresh old before gs ≡ true → grants_fit items fresh new before gs ≡ true
-grants_still old new [] fresh before gs fewer h = rest_still old new fresh before gs fewer h
-grants_still old new (x ∷ xs) fresh before [] fewer h = h
-grants_still old new (x ∷ xs) fresh before (g ∷ gs) fewer h =
-    let p = both (is_of_item x g && is_new old before g) (grants_fit xs fresh old (before ++ g ∷ []) gs) h in
+front_still : (old new : List Kept) (items : List (Field × LeaseKind)) (before gs : List Grant) → FewerNumbers old new → front_fits items old before gs ≡ true → front_fits items new before gs ≡ true
+front_still old new items before [] fewer h = refl
+front_still old new [] before (g ∷ gs) fewer h = h
+front_still old new (x ∷ xs) before (g ∷ gs) fewer h =
+    let p = both (is_of_item x g && is_new old before g) (front_fits xs old (before ++ g ∷ []) gs) h in
     let q = both (is_of_item x g) (is_new old before g) p.0 in
-    joined _ _ (joined _ _ q.0 (new_still old new before g fewer q.1)) (grants_still old new xs fresh (before ++ g ∷ []) gs fewer p.1)
+    joined _ _ (joined _ _ q.0 (new_still old new before g fewer q.1)) (front_still old new xs (before ++ g ∷ []) gs fewer p.1)
 
-entry_still : (n k : ℕ) (log more : List Entry) → is_entry_at n k log ≡ true → is_entry_at n k (log ++ more) ≡ true
-entry_still n k [] more h = absurd (cc)
-entry_still n zero (e ∷ es) more h = h
-entry_still n (suc k) (e ∷ es) more h = entry_still n k es more h
+last_still : (old new : List Kept) (items : List (Field × LeaseKind)) (id : List ℕ) (front gs : List Grant) → FewerNumbers old new → life_last items id old front gs ≡ true → life_last items id new front gs ≡ true
+last_still old new items id front [] fewer h = h
+last_still old new items id front (g ∷ []) fewer h =
+    let p = both (front_fits items old [] front) (is_of_item (Life id, Exclusive) g && is_new old front g) h in
+    let q = both (is_of_item (Life id, Exclusive) g) (is_new old front g) p.1 in
+    joined _ _ (front_still old new items [] front fewer p.0) (joined _ _ q.0 (new_still old new front g fewer q.1))
+last_still old new items id front (g ∷ k ∷ gs) fewer h = last_still old new items id (front ++ g ∷ []) (k ∷ gs) fewer h
 
-refusal_still : (e : End) (count : ℕ) (log more : List Entry) → refusal_fits e count log ≡ true → refusal_fits e count (log ++ more) ≡ true
-refusal_still (end.Ended n lease until now) count log more h = entry_still n count log more h
-refusal_still end.All count log more h = h
-refusal_still (end.Wait blocker) count log more h = h
-refusal_still (end.Locked txn) count log more h = h
-refusal_still (end.Moved prefix to) count log more h = h
-refusal_still (end.NoIds dir) count log more h = h
+grants_still : (old new : List Kept) (items : List (Field × LeaseKind)) (fresh : Option (List ℕ)) (gs : List Grant) → FewerNumbers old new → grants_fit items fresh old gs ≡ true → grants_fit items fresh new gs ≡ true
+grants_still old new items None gs fewer h = front_still old new items [] gs fewer h
+grants_still old new items (Some id) gs fewer h = last_still old new items id [] gs fewer h
+
+-- among those that were sent
+entry_still : (n k sent : ℕ) (log more : List Entry) → is_entry_at n k (take sent log) ≡ true → is_entry_at n k (take sent (log ++ more)) ≡ true
+entry_still n k zero log more h = absurd (cc)
+entry_still n k (suc sent) [] more h = absurd (cc)
+entry_still n zero (suc sent) (e ∷ es) more h = h
+entry_still n (suc k) (suc sent) (e ∷ es) more h = entry_still n k sent es more h
+
+refusal_still : (e : End) (count sent : ℕ) (log more : List Entry) → refusal_fits e count (take sent log) ≡ true → refusal_fits e count (take sent (log ++ more)) ≡ true
+refusal_still (end.Ended n lease until now) count sent log more h = entry_still n count sent log more h
+refusal_still end.All count sent log more h = h
+refusal_still (end.Wait blocker) count sent log more h = h
+refusal_still (end.Locked txn) count sent log more h = h
+refusal_still (end.Moved prefix to) count sent log more h = h
+refusal_still (end.NoIds dir) count sent log more h = h
 
 -- ## A client that goes on
 
@@ -101,15 +106,15 @@ pub record GoesOnAs (c d : Client) (more : List Entry) : Type 0 where
 -- an answer that fits still does
 pub fits_still : (c d : Client) (more : List Entry) (from : ℕ) (x : Exchange) (a : Answer) → GoesOnAs c d more → answer_fits from x a c ≡ true → answer_fits from x a d ≡ true
 fits_still c d more from (Asks to items fresh) (Granted grants given e) g h =
-    let p = both (to == from) (fresh_fits fresh given && grants_fit items given c.view.leases [] grants) h in
-    let q = both (fresh_fits fresh given) (grants_fit items given c.view.leases [] grants) p.1 in
-    joined _ _ p.0 (joined _ _ q.0 (grants_still c.view.leases d.view.leases items given [] grants g.fewer q.1))
+    let p = both (to == from) (fresh_fits fresh given && grants_fit items given c.view.leases grants) h in
+    let q = both (fresh_fits fresh given) (grants_fit items given c.view.leases grants) p.1 in
+    joined _ _ p.0 (joined _ _ q.0 (grants_still c.view.leases d.view.leases items given grants g.fewer q.1))
 fits_still c d more from (Renews to numbers) (Renewed rows e) g h = h
 fits_still c d more from (Releases to numbers) (Released count e) g h = h
 fits_still c d more from (Ships to sent) (Shipped count e) g h =
-    let p = both (to == from) (nat_le count sent && refusal_fits e count c.log) h in
-    let q = both (nat_le count sent) (refusal_fits e count c.log) p.1 in
-    joined _ _ p.0 (joined _ _ q.0 (ap (refusal_fits e count) g.log ∙ refusal_still e count c.log more q.1))
+    let p = both (to == from) (nat_le count sent && refusal_fits e count (take sent c.log)) h in
+    let q = both (nat_le count sent) (refusal_fits e count (take sent c.log)) p.1 in
+    joined _ _ p.0 (joined _ _ q.0 (ap (λ log. refusal_fits e count (take sent log)) g.log ∙ refusal_still e count sent c.log more q.1))
 fits_still c d more from x a g h = absurd (cc)
 
 one_still : (c d : Client) (more : List Entry) (x : Option Exchange) (up : List ClientMsg) (down : List Answer) → GoesOnAs c d more → OneExchange c x up down → OneExchange d x up down

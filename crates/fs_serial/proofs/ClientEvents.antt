@@ -2,29 +2,37 @@
 use Rattle.std.proofs.Common.{◌≡◌, ℕ, ◌+◌, ◌≤◌, not, ◌&&◌, ◌/◌, true, false, List, [], ◌∷◌, cond, refl, sym, ap, ◌∙◌, subst, arith}
 use Rattle.std.specs.Prelude.{◌≢◌, Option, Some, None, is_some}
 use Rattle.fs_ident.specs.declared.actor.Session.{Session}
+use Rattle.fs_model.specs.Sound.{is_change}
 use Rattle.fs_model.specs.Step.{is_empty}
 use Rattle.fs_model.specs.declared.op.Op.{Op}
+use Rattle.fs_model.specs.declared.reply.Reply.{Reply}
+use Rattle.fs_msg.specs.declared.act.Act.{Act}
 use Rattle.fs_msg.specs.declared.answer.Answer.{Answer}
 use Rattle.fs_msg.specs.declared.answer.Answer.TheVariants.{Granted, Renewed, Released, Shipped, Recall}
 use Rattle.fs_msg.specs.declared.client_msg.ClientMsg.{ClientMsg}
 use Rattle.fs_msg.specs.declared.client_note.ClientNote.TheVariants as note
 use Rattle.fs_msg.specs.declared.entry.Entry.{Entry}
 use Rattle.fs_msg.specs.declared.item.Item.{Item}
-use Rattle.fs_client.specs.Acts.{act_on}
+use Rattle.fs_record.specs.Records.{nodes_of}
+use Rattle.fs_client.specs.Acts.{act_on, act_plan}
 use Rattle.fs_client.specs.Answers.{answer_plan, fits, hear, strange, told}
 use Rattle.fs_client.specs.Client.{begun, changed, committed, with_hints}
 use Rattle.fs_client.specs.Turns.{ending, idle, release_some, renew_some, returned, ship_some, turn_free, turn_on}
 use Rattle.fs_client.specs.declared.plan.Plan.{Plan}
 use Rattle.fs_client.specs.declared.state.Client.{Client}
+use Rattle.fs_view.specs.View.{reply_in}
 use Rattle.fs_view.specs.declared.kept.Kept.{Kept}
 use Rattle.fs_serial.specs.Exchange.{asked_server, is_recall}
 use Rattle.fs_serial.specs.Numbers.{items_by}
-use Rattle.fs_serial.specs.Sight.{Sight, sight_of}
-use Rattle.fs_serial.specs.World.{CanCome, is_called, ClientEvent, Does, Ends, Hears, Turns, World, WorldHolds, after_client, after_plan, message_in, pushed, settled_at, told_by}
-use Rattle.fs_serial.proofs.ActMoves.{IsPlanned, ServersMoved, act_moved, servers_stay}
+use Rattle.fs_serial.specs.Sight.{Sight}
+use Rattle.fs_serial.specs.World.{CanCome, is_called, ClientEvent, Does, Ends, Hears, Turns, World, WorldHolds, after_client, after_plan, message_in, pushed, settled_at, sight_in, told_by}
+use Rattle.fs_serial.proofs.ActMoves.{IsPlanned, ServersMoved, act_moved, item_read, reads_right, same_items, servers_stay, with_items}
 use Rattle.fs_serial.proofs.ClientSteps.{IsMoved, begun_again, begun_moved, hinted_moved, seat_of, with_journal, world_moved}
+use Rattle.fs_serial.proofs.Gone.{MakeAnew, all_anew, made_pushed}
 use Rattle.fs_serial.proofs.HearMoves.{fits_first, hear_moved}
-use Rattle.fs_serial.proofs.Seats.{Seat}
+use Rattle.fs_serial.proofs.Lapse.{lapse_fewer}
+use Rattle.fs_serial.proofs.Read.{IsReadOf, plain_is_read, plain_read}
+use Rattle.fs_serial.proofs.Seats.{Seat, seen_at}
 use Rattle.fs_serial.proofs.TurnMoves.{turn_moved}
 
 -- ## A plan of a client that has begun
@@ -34,7 +42,7 @@ module _ {N : Type 0} (greatest now : ℕ) (w : World) (by : Session) (rest : Li
   c = (w.ends by).client
 
   abbrev s : Sight
-  s = sight_of w.counts w.server w.journal
+  s = sight_in w
 
   abbrev then : List Item
   then = pushed p.out.admitted w.journal
@@ -56,17 +64,21 @@ module _ {N : Type 0} (greatest now : ℕ) (w : World) (by : Session) (rest : Li
     }
 
     pub plan_keeps : WorldHolds greatest (after_plan by rest p w)
-    plan_keeps = world_moved greatest w by then (told_by by p.ready.change p.out.admitted) (e (committed p.ready c)) h q.others (q.servers.holds h.all.servers) (q.servers.fits h.all.kept)
+    plan_keeps = world_moved greatest w by then (told_by by p.ready.change p.out.admitted) (e (committed p.ready c)) h (made_pushed p.out.admitted w.journal) q.others (q.servers.holds h.all.servers) (q.servers.fits h.all.kept)
         (q.servers.reserved (λ x. settled_at x (w.ends x)) h.all.reserved)
         (subst (λ d. IsMoved w.server.skew greatest s (with_journal then s) by (w.replied by) c (w.ends by).down (told_by by p.ready.change p.out.admitted) (e d)) (sym client_is)
         (hinted_moved w.server.skew greatest s (with_journal then s) by (w.replied by) c d (pushed (message_in p.out.send) (w.ends by).up) (w.ends by).down rest (told_by by p.ready.change p.out.admitted) p.ready.hints moved))
 
 -- ## Plans that admit nothing and answer nothing
 
-record IsQuiet {N : Type 0} (by : Session) (c : Client) (p : Plan N) : Type 0 where
-  now : p.ready.now ≡ c.last
-  admits : p.out.admitted ≡ None
-  tells : told_by by p.ready.change None ≡ None
+pub record IsQuiet {N : Type 0} (by : Session) (c : Client) (p : Plan N) : Type 0 where
+  pub now : p.ready.now ≡ c.last
+  pub admits : p.out.admitted ≡ None
+  pub tells : told_by by p.ready.change None ≡ None
+
+-- the caller is told nothing
+pub quiet_tells : {N : Type 0} (by : Session) (c : Client) (p : Plan N) → IsQuiet by c p → told_by by p.ready.change p.out.admitted ≡ None
+quiet_tells by c p q = ap (told_by by p.ready.change) q.admits ∙ q.tells
 
 quiet_planned : {N : Type 0} (skew greatest : ℕ) (s : Sight) (by : Session) (replied : List Item) (c : Client) (up : List ClientMsg) (down rest : List Answer) (p : Plan N) → IsQuiet by c p
     → IsMoved skew greatest s s by replied c down None (record { client = changed p.ready.change c; up = pushed (message_in p.out.send) up; down = rest }) → IsPlanned skew greatest s by replied c up down rest p
@@ -94,7 +106,7 @@ told_known c (Released count e) h = cc
 told_known c (Shipped count e) h = cc
 told_known c (Recall n) h = cc
 
-hear_quiet : (by : Session) (c : Client) (from : ℕ) (a : Answer) → IsQuiet by c (hear from a c)
+pub hear_quiet : (by : Session) (c : Client) (from : ℕ) (a : Answer) → IsQuiet by c (hear from a c)
 hear_quiet by c from a = elim (fits from c.exchange a c) as (λ b. IsQuiet by c (cond b (told a c) (strange c))) [
   | true ↦ told_quiet by c a
   | false ↦ record { now = refl; admits = refl; tells = refl }
@@ -118,7 +130,7 @@ free_quiet by c = elim (not (is_empty c.log) && not (is_some c.over)) as (λ b. 
   | false ↦ release_quiet by c (returned c.view)
 ]
 
-turn_quiet : (by : Session) (c : Client) → IsQuiet by c (turn_on c)
+pub turn_quiet : (by : Session) (c : Client) → IsQuiet by c (turn_on c)
 turn_quiet by c = elim (is_some c.exchange) as (λ b. IsQuiet by c (cond b (idle c) (turn_free c))) [
   | true ↦ record { now = refl; admits = refl; tells = refl }
   | false ↦ free_quiet by c
@@ -130,33 +142,51 @@ module _ (greatest now : ℕ) (w : World) (by : Session) (h : WorldHolds greates
   abbrev began : Client
   began = begun now (w.ends by).client
 
-  seat_began : Seat w.server.skew greatest (sight_of w.counts w.server w.journal) by (w.replied by) began (w.ends by).up (w.ends by).down
-  seat_began = (begun_moved w.server.skew greatest (sight_of w.counts w.server w.journal) by (w.replied by) (w.ends by).client (w.ends by).up (w.ends by).down now (seat_of greatest w by h)).seat
+  seat_began : Seat w.server.skew greatest (sight_in w) by (w.replied by) began (w.ends by).up (w.ends by).down
+  seat_began = (begun_moved w.server.skew greatest (sight_in w) by (w.replied by) (w.ends by).client (w.ends by).up (w.ends by).down now (seat_of greatest w by h)).seat
+
+  abbrev here : Sight
+  here = sight_in w
+
+  anew : MakeAnew by w.journal (seen_at by began (w.ends by).down).log
+  anew = subst (MakeAnew by w.journal) (sym (lapse_fewer by (w.ends by).client now (h.clients by) (w.ends by).down).log) (all_anew w.server.skew greatest (sight_in w) w.replied (λ x. settled_at x (w.ends x)) h.all by)
+
+  -- another item may join the journal in place of a read
+  acts_as : (o : Op) → is_called o ≡ true → (put : Item → Item)
+      → ((r : Reply) → reply_in began.view began.last o ≡ Some r → is_change r ≡ false → began.log ≡ [] → IsReadOf (nodes_of (sight_in w).records) by began.next (put (item_read began o r)))
+      → WorldHolds greatest (after_plan by (w.ends by).down (with_items put (act_on began.over o began)) w)
+  acts_as o called put fine = plan_keeps greatest now w by (w.ends by).down (with_items put (act_on began.over o began)) h
+      (act_moved w.server.skew greatest here by (w.replied by) began (w.ends by).up (w.ends by).down o called seat_began anew put fine)
 
   acts : (o : Op) → is_called o ≡ true → greatest ≤ now + w.server.skew → WorldHolds greatest (after_client by now (Does o) w)
-  acts o called within = plan_keeps greatest now w by (w.ends by).down (act_on began.over o began) h
-      (act_moved w.server.skew greatest (sight_of w.counts w.server w.journal) by (w.replied by) began (w.ends by).up (w.ends by).down o called (omega arith) seat_began)
+  acts o called within =
+      subst (λ (p : Plan Act). WorldHolds greatest (after_plan by (w.ends by).down p w)) (same_items (act_on began.over o began))
+      (acts_as o called (λ i. i) (reads_right w.server.skew greatest here by (w.replied by) began (w.ends by).up (w.ends by).down o called seat_began (omega arith)))
 
-  turns : WorldHolds greatest (after_client by now Turns w)
-  turns = plan_keeps greatest now w by (w.ends by).down (turn_on began) h
-      (quiet_planned w.server.skew greatest (sight_of w.counts w.server w.journal) by (w.replied by) began (w.ends by).up (w.ends by).down (w.ends by).down (turn_on began) (turn_quiet by began)
-      (turn_moved w.server.skew greatest (sight_of w.counts w.server w.journal) by (w.replied by) began (w.ends by).up (w.ends by).down seat_began))
+  -- with any reading the root's kind, as the servers have it, may join the journal in place of what was read
+  pub acts_plainly : (o : Op) → is_called o ≡ true → WorldHolds greatest (after_plan by (w.ends by).down (with_items (λ i. plain_read (nodes_of (sight_in w).records) by (w.ends by).client.next) (act_plan (w.ends by).client now o)) w)
+  acts_plainly o called = acts_as o called (λ i. plain_read (nodes_of (sight_in w).records) by (w.ends by).client.next) (λ r e read empty. plain_is_read (nodes_of (sight_in w).records) by (w.ends by).client.next)
 
-  hears : (from : ℕ) (a : Answer) (rest : List Answer) → (w.ends by).down ≡ a ∷ rest → (is_recall a ≡ false → asked_server (w.ends by).client.exchange ≡ Some from) → WorldHolds greatest (after_client by now (Hears from a rest) w)
-  hears from a rest first at = plan_keeps greatest now w by rest (hear from a began) h
-      (subst (λ down. IsPlanned w.server.skew greatest (sight_of w.counts w.server w.journal) by (w.replied by) began (w.ends by).up down rest (hear from a began)) (sym first)
-      (quiet_planned w.server.skew greatest (sight_of w.counts w.server w.journal) by (w.replied by) began (w.ends by).up (a ∷ rest) rest (hear from a began) (hear_quiet by began from a)
-      (hear_moved w.server.skew greatest (sight_of w.counts w.server w.journal) by (w.replied by) began (w.ends by).up rest from a at
-      (subst (λ down. Seat w.server.skew greatest (sight_of w.counts w.server w.journal) by (w.replied by) began (w.ends by).up down) first seat_began))))
+  pub turn_keeps : WorldHolds greatest (after_client by now Turns w)
+  turn_keeps = plan_keeps greatest now w by (w.ends by).down (turn_on began) h
+      (quiet_planned w.server.skew greatest (sight_in w) by (w.replied by) began (w.ends by).up (w.ends by).down (w.ends by).down (turn_on began) (turn_quiet by began)
+      (turn_moved w.server.skew greatest (sight_in w) by (w.replied by) began (w.ends by).up (w.ends by).down seat_began))
+
+  pub hear_keeps : (from : ℕ) (a : Answer) (rest : List Answer) → (w.ends by).down ≡ a ∷ rest → (is_recall a ≡ false → asked_server (w.ends by).client.exchange ≡ Some from) → WorldHolds greatest (after_client by now (Hears from a rest) w)
+  hear_keeps from a rest first at = plan_keeps greatest now w by rest (hear from a began) h
+      (subst (λ down. IsPlanned w.server.skew greatest (sight_in w) by (w.replied by) began (w.ends by).up down rest (hear from a began)) (sym first)
+      (quiet_planned w.server.skew greatest (sight_in w) by (w.replied by) began (w.ends by).up (a ∷ rest) rest (hear from a began) (hear_quiet by began from a)
+      (hear_moved w.server.skew greatest (sight_in w) by (w.replied by) began (w.ends by).up rest from a at
+      (subst (λ down. Seat w.server.skew greatest (sight_in w) by (w.replied by) began (w.ends by).up down) first seat_began))))
 
   pub client_keeps : (e : ClientEvent) → CanCome by e w.ends → greatest ≤ now + w.server.skew → WorldHolds greatest (after_client by now e w)
   client_keeps (Does o) can within = acts o can within
-  client_keeps Turns can within = turns
-  client_keeps (Hears from a rest) can within = hears from a rest can.0 can.1
+  client_keeps Turns can within = turn_keeps
+  client_keeps (Hears from a rest) can within = hear_keeps from a rest can.0 can.1
 
   -- no answer that comes is strange
   pub never_strange : (from : ℕ) (a : Answer) (rest : List Answer) → CanCome by (Hears from a rest) w.ends → (answer_plan (w.ends by).client now from a).out.note ≢ note.Strange
   never_strange from a rest can =
-      let fit = fits_first w.server.skew greatest (sight_of w.counts w.server w.journal) by (w.replied by) began (w.ends by).up rest from a can.1
-      (subst (λ down. Seat w.server.skew greatest (sight_of w.counts w.server w.journal) by (w.replied by) began (w.ends by).up down) can.0 seat_began) in
+      let fit = fits_first w.server.skew greatest (sight_in w) by (w.replied by) began (w.ends by).up rest from a can.1
+      (subst (λ down. Seat w.server.skew greatest (sight_in w) by (w.replied by) began (w.ends by).up down) can.0 seat_began) in
       subst (λ b. (cond b (told a began) (strange began)).out.note ≢ note.Strange) (sym fit) (told_known began a)

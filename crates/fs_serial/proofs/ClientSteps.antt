@@ -14,18 +14,19 @@ use Rattle.fs_client.specs.Client.{begun, with_hints}
 use Rattle.fs_view.specs.View.{lapsed_at}
 use Rattle.fs_client.specs.declared.state.Client.{Client}
 use Rattle.fs_client.proofs.Planning.{max_again}
-use Rattle.fs_serial.specs.Fresh.{FreshReserved, Reserves, reserved_by}
+use Rattle.fs_serial.specs.Fresh.{FreshReserved, IsMade, Reserves, reserved_by}
 use Rattle.fs_serial.specs.Numbers.{AreNumbered, all_items, items_by}
 use Rattle.fs_serial.specs.Parts.{ServersHold, ServersFit}
 use Rattle.fs_serial.specs.Settled.{Lease, settled_now}
-use Rattle.fs_serial.specs.Sight.{Sight, sight_of}
-use Rattle.fs_serial.specs.World.{Ends, World, WorldHolds, pushed, settled_at, with_ends, with_told}
+use Rattle.fs_serial.specs.Sight.{Sight, seen, sight_of}
+use Rattle.fs_serial.specs.World.{Ends, World, WorldHolds, pushed, settled_at, sight_in, with_ends, with_told}
 use Rattle.fs_serial.proofs.Carried.{GoesOnAs, exchange_still}
+use Rattle.fs_serial.proofs.Gone.{telling_later}
 use Rattle.fs_serial.proofs.Lapse.{lapse_fewer, seat_lapse}
 use Rattle.fs_serial.proofs.Seats.{Seat, seen_at}
 use Rattle.fs_serial.proofs.Together.{fewer_reserved}
 
-pub seat_of : (greatest : ℕ) (w : World) (x : Session) → WorldHolds greatest w → Seat w.server.skew greatest (sight_of w.counts w.server w.journal) x (w.replied x) (w.ends x).client (w.ends x).up (w.ends x).down
+pub seat_of : (greatest : ℕ) (w : World) (x : Session) → WorldHolds greatest w → Seat w.server.skew greatest (sight_in w) x (w.replied x) (w.ends x).client (w.ends x).up (w.ends x).down
 seat_of greatest w x h = record { holds = h.all.sessions x; fits = h.all.fitting x; client = h.clients x; exchange = h.exchanges x }
 
 -- the sight with another journal
@@ -33,12 +34,12 @@ abbrev pub with_journal : List Item → Sight → Sight
 with_journal journal s = record s { journal = journal }
 
 -- another session's items in the journal are of no matter
-pub seat_beside : (skew greatest : ℕ) (s : Sight) (x : Session) (replied : List Item) (c : Client) (up : List ClientMsg) (down : List Answer) (journal : List Item) → items_by x journal ≡ items_by x s.journal → Seat skew greatest s x replied c up down → Seat skew greatest (with_journal journal s) x replied c up down
-seat_beside skew greatest s x replied c up down journal same h =
+pub seat_beside : (skew greatest : ℕ) (s : Sight) (x : Session) (replied : List Item) (c : Client) (up : List ClientMsg) (down : List Answer) (journal : List Item) → ((id : List ℕ) → IsMade s.journal id → IsMade journal id) → items_by x journal ≡ items_by x s.journal → Seat skew greatest s x replied c up down → Seat skew greatest (with_journal journal s) x replied c up down
+seat_beside skew greatest s x replied c up down journal grows same h =
     let d = seen_at x c down in
     let items : all_items x journal d.log ≡ all_items x s.journal d.log = ap (λ is. is ++ map (item_of x) d.log) same in
     record {
-      holds = record { backed = h.holds.backed; telling = h.holds.telling; pending = h.holds.pending; numbers = subst (λ is. AreNumbered 1 is d.next) (sym items) h.holds.numbers; replies = items ∙ h.holds.replies };
+      holds = record { backed = h.holds.backed; telling = telling_later s.rows s.records s.journal journal grows x d.leases h.holds.telling; pending = h.holds.pending; numbers = subst (λ is. AreNumbered 1 is d.next) (sym items) h.holds.numbers; replies = items ∙ h.holds.replies };
       fits = record { given = h.fits.given; distinct = h.fits.distinct; matching = h.fits.matching; fresh = h.fits.fresh; held = h.fits.held; backed = h.fits.backed; entries = h.fits.entries; once = h.fits.once; refused = h.fits.refused };
       client = h.client;
       exchange = h.exchange;
@@ -61,27 +62,27 @@ each_two P by told e replied ends own others x = elim (by.0 == x.0) as (λ b. (b
   | false ↦ λ q. others x q
 ] refl
 
-module _ (greatest : ℕ) (w : World) (by : Session) (journal : List Item) (told : Option Item) (e : Ends) (h : WorldHolds greatest w) (others : (x : Session) → (by.0 == x.0) ≡ false → items_by x journal ≡ items_by x w.journal) (holds : ServersHold (sight_of w.counts w.server journal)) (fits : ServersFit (sight_of w.counts w.server journal)) (reserved : FreshReserved (reserved_by (λ x. settled_at x (w.ends x))) w.server.records journal) (moved : IsMoved w.server.skew greatest (sight_of w.counts w.server w.journal) (sight_of w.counts w.server journal) by (w.replied by) (w.ends by).client (w.ends by).down told e) where
+module _ (greatest : ℕ) (w : World) (by : Session) (journal : List Item) (told : Option Item) (e : Ends) (h : WorldHolds greatest w) (grows : (id : List ℕ) → IsMade w.journal id → IsMade journal id) (others : (x : Session) → (by.0 == x.0) ≡ false → items_by x journal ≡ items_by x w.journal) (holds : ServersHold (sight_of w.counts (seen w.decided w.server) journal)) (fits : ServersFit (sight_of w.counts (seen w.decided w.server) journal)) (reserved : FreshReserved (reserved_by (λ x. settled_at x (w.ends x))) (sight_in w).records journal) (moved : IsMoved w.server.skew greatest (sight_in w) (sight_of w.counts (seen w.decided w.server) journal) by (w.replied by) (w.ends by).client (w.ends by).down told e) where
   abbrev ends : Session → Ends
   ends = with_ends by e w.ends
 
-  seats : (x : Session) → Seat w.server.skew greatest (sight_of w.counts w.server journal) x (with_told by told w.replied x) (ends x).client (ends x).up (ends x).down
-  seats = each_two (λ x is n. Seat w.server.skew greatest (sight_of w.counts w.server journal) x is n.client n.up n.down) by told e w.replied w.ends moved.seat
-      (λ x q. seat_beside w.server.skew greatest (sight_of w.counts w.server w.journal) x (w.replied x) (w.ends x).client (w.ends x).up (w.ends x).down journal (others x q) (seat_of greatest w x h))
+  seats : (x : Session) → Seat w.server.skew greatest (sight_of w.counts (seen w.decided w.server) journal) x (with_told by told w.replied x) (ends x).client (ends x).up (ends x).down
+  seats = each_two (λ x is n. Seat w.server.skew greatest (sight_of w.counts (seen w.decided w.server) journal) x is n.client n.up n.down) by told e w.replied w.ends moved.seat
+      (λ x q. seat_beside w.server.skew greatest (sight_in w) x (w.replied x) (w.ends x).client (w.ends x).up (w.ends x).down journal grows (others x q) (seat_of greatest w x h))
 
   still_reserved : (x : Session) (n : LeaseNo) (i : List ℕ) → reserved_by (λ x. settled_at x (ends x)) x n i → reserved_by (λ x. settled_at x (w.ends x)) x n i
   still_reserved = each_two (λ x is m. (n : LeaseNo) (i : List ℕ) → Reserves (settled_at x m).leases n i → Reserves (settled_at x (w.ends x)).leases n i) by told e w.replied w.ends
       moved.reserves
       (λ x q n i r. r)
 
-  pub world_moved : WorldHolds greatest (record { server = w.server; counts = w.counts; journal = journal; replied = with_told by told w.replied; ends = ends })
+  pub world_moved : WorldHolds greatest (record { server = w.server; counts = w.counts; decided = w.decided; journal = journal; replied = with_told by told w.replied; ends = ends })
   world_moved = record {
     all = record {
       servers = holds;
       kept = fits;
       sessions = λ x. (seats x).holds;
       fitting = λ x. (seats x).fits;
-      reserved = fewer_reserved (reserved_by (λ x. settled_at x (w.ends x))) (reserved_by (λ x. settled_at x (ends x))) w.server.records journal still_reserved reserved;
+      reserved = fewer_reserved (reserved_by (λ x. settled_at x (w.ends x))) (reserved_by (λ x. settled_at x (ends x))) (sight_in w).records journal still_reserved reserved;
     };
     clock = h.clock;
     clients = λ x. (seats x).client;

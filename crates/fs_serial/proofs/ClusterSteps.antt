@@ -128,10 +128,10 @@ module _ (skew greatest k : ℕ) (c : Cluster) (s : Server) (at : slice_get c.se
 
     -- where the server that has all takes the same step
     seen_after : (small big : Stepped) → IsSameStep k e s small big c
-        → WorldHolds greatest (record { server = big.server; counts = counts_of c.servers; journal = c.journal ++ big.out.admitted; replied = c.replied; ends = world.with_sent big.out.send (world.without_taken e (λ x. ends_of (c.lines x))) })
+        → WorldHolds greatest (record { server = big.server; counts = counts_of c.servers; decided = []; journal = c.journal ++ big.out.admitted; replied = c.replied; ends = world.with_sent big.out.send (world.without_taken e (λ x. ends_of (c.lines x))) })
         → WorldHolds greatest (world_of small.server (after_step k e small c))
     seen_after small big q held =
-        let w : World = record { server = big.server; counts = counts_of c.servers; journal = c.journal ++ big.out.admitted; replied = c.replied; ends = world.with_sent big.out.send (world.without_taken e (λ x. ends_of (c.lines x))) } in
+        let w : World = record { server = big.server; counts = counts_of c.servers; decided = []; journal = c.journal ++ big.out.admitted; replied = c.replied; ends = world.with_sent big.out.send (world.without_taken e (λ x. ends_of (c.lines x))) } in
         let last : small.server.last ≡ s.last = q.last in
         let clock : s.last ≤ greatest = view.clock in
         alike_holds greatest w (world_of small.server (after_step k e small c)) (record {
@@ -150,7 +150,7 @@ module _ (skew greatest k : ℕ) (c : Cluster) (s : Server) (at : slice_get c.se
         }) (omega arith) held
 
     same_step : (small big : Stepped) → small ≡ event_step e s → IsSameStep k e s small big c
-        → WorldHolds greatest (record { server = big.server; counts = counts_of c.servers; journal = c.journal ++ big.out.admitted; replied = c.replied; ends = world.with_sent big.out.send (world.without_taken e (λ x. ends_of (c.lines x))) })
+        → WorldHolds greatest (record { server = big.server; counts = counts_of c.servers; decided = []; journal = c.journal ++ big.out.admitted; replied = c.replied; ends = world.with_sent big.out.send (world.without_taken e (λ x. ends_of (c.lines x))) })
         → ClusterHolds skew greatest (after_step k e small c)
     same_step small big is q held = finish small is q.skew q.last (step_places k e s small big c at h.places q) (seen_after small big q held)
 
@@ -178,7 +178,7 @@ module _ (skew greatest k : ℕ) (c : Cluster) (s : Server) (at : slice_get c.se
   asked_event by m there =
       let e = event.FromClient by m in
       let coming : world.IsThere e (world_of s c).ends = In-mapped (λ (n : ℕ × ClientMsg). n.1) (k, m) (c.lines by).up (found (is_with k) (c.lines by).up (k, m) there).0 in
-      same_step e there (event_step e s) (event_step e (with_all s c)) refl (begun_same greatest k c s e at h.places view coming (λ z. absurd (cc))) (begun_keeps greatest (world_of s c) e coming view)
+      same_step e there (event_step e s) (event_step e (with_all s c)) refl (begun_same greatest k c s e at h.places view coming (λ z. absurd (cc))) (begun_keeps greatest (world_of s c) e refl coming view)
 
   pub step_keeps : (e : ServerEvent) → IsThere k e c → ClusterHolds skew greatest (after_step k e (event_step e s) c)
   step_keeps (event.FromClient by m) there = asked_event by m there
@@ -191,10 +191,10 @@ module _ (skew greatest k : ℕ) (c : Cluster) (s : Server) (at : slice_get c.se
       subst (λ (y : Stepped). ClusterHolds skew greatest (after_step k e y c)) is
       (moved_step e there x is (install_quiet (note.Installs p.prefix) p s) (λ y. refl) same.0 same.1 (arriving_places k from c s p at h.places there))
   step_keeps event.Turn there =
-      same_step event.Turn there (turn_step s) (turn_over (lapsed_in s) (with_all s c)) refl (turn_same k c s at h.places) (turn_some_keeps greatest (world_of s c) (lapsed_in s) (all_let_go c k s at h.places) view)
+      same_step event.Turn there (turn_step s) (turn_over (lapsed_in s) (with_all s c)) refl (turn_same k c s at h.places) (turn_some_keeps greatest (world_of s c) (lapsed_in s) refl (all_let_go c k s at h.places) view)
   step_keeps (event.Recall field) there =
       let e = event.Recall field in
-      same_step e there (event_step e s) (event_step e (with_all s c)) refl (begun_same greatest k c s e at h.places view tt (λ z. absurd (cc))) (begun_keeps greatest (world_of s c) e tt view)
+      same_step e there (event_step e s) (event_step e (with_all s c)) refl (begun_same greatest k c s e at h.places view tt (λ z. absurd (cc))) (begun_keeps greatest (world_of s c) e refl tt view)
   step_keeps (event.Move prefix to) there =
       let e = event.Move prefix to in
       let same = move_same k c s prefix to at h.places in

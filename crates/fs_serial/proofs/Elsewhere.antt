@@ -24,9 +24,9 @@ over_stays (Some x) over = refl
 pub over_still : (s : Server) (id : List ℕ) (over : Option ℕ) → over_after (moved s id) over ≡ over
 over_still s id over = over_stays (longest s.map id) over
 
-refuses_none : (o : Option (List ℕ × ℕ)) (count : ℕ) (log : List Entry) → refusal_fits (moved_at o) count log ≡ true
-refuses_none None count log = refl
-refuses_none (Some x) count log = refl
+refuses_none : (o : Option (List ℕ × ℕ)) (count : ℕ) (sent : List Entry) → refusal_fits (moved_at o) count sent ≡ true
+refuses_none None count sent = refl
+refuses_none (Some x) count sent = refl
 
-pub none_refused : (s : Server) (id : List ℕ) (count : ℕ) (log : List Entry) → refusal_fits (moved s id) count log ≡ true
-none_refused s id count log = refuses_none (longest s.map id) count log
+pub none_refused : (s : Server) (id : List ℕ) (count : ℕ) (sent : List Entry) → refusal_fits (moved s id) count sent ≡ true
+none_refused s id count sent = refuses_none (longest s.map id) count sent

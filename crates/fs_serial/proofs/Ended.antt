@@ -21,10 +21,10 @@ use Rattle.fs_server.proofs.OneByOne.{ShipEnds, each_entry, misplaced, refused}
 use Rattle.fs_serial.specs.Leases.{IsBacked}
 use Rattle.fs_serial.specs.Parts.{SessionFits}
 use Rattle.fs_serial.specs.Settled.{Settled}
-use Rattle.fs_serial.specs.Sight.{Sight, sight_of}
+use Rattle.fs_serial.specs.Sight.{Sight}
 use Rattle.fs_serial.specs.Refusals.{IsFairEnd, IsFairNote}
 use Rattle.fs_serial.specs.Steps.{HadEnded}
-use Rattle.fs_serial.specs.World.{World, WorldHolds, settled_at}
+use Rattle.fs_serial.specs.World.{World, WorldHolds, settled_at, sight_in}
 use Rattle.fs_serial.proofs.Refusing.{use_gone}
 use Rattle.fs_serial.proofs.ServerEvents.{all_plain}
 
@@ -47,7 +47,7 @@ ended skew greatest now s by d e u f i h within =
 pub refused_ended : (greatest now : ℕ) (w : World) (by : Session) (entries : List Entry) → In (Ship entries) (w.ends by).up → WorldHolds greatest w → greatest ≤ now + w.server.skew → (e : Entry) (u : Use) → In e entries → first_gone w.server.rows by e.uses ≡ Some u → HadEnded w.server.rows now e u
 refused_ended greatest now w by entries there h within e u i gone =
     let front = (h.exchanges by).front entries there in
-    ended w.server.skew greatest now (sight_of w.counts w.server w.journal) by (settled_at by (w.ends by)) e u (h.all.fitting by) (subst (λ es. In e es) (sym front.log) (In-front e entries front.rest i)) gone within
+    ended w.server.skew greatest now (sight_in w) by (settled_at by (w.ends by)) e u (h.all.fitting by) (subst (λ es. In e es) (sym front.log) (In-front e entries front.rest i)) gone within
 
 fair_away : (rows : List Row) (by : Session) (now : ℕ) (entries : List Entry) (count : ℕ) (o : Option (List ℕ × ℕ)) → IsFairEnd rows by now entries count (moved_at o) []
 fair_away rows by now entries count None = refl

@@ -21,10 +21,10 @@ use Rattle.fs_record.specs.Records.{RecordMap, nodes_of}
 use Rattle.fs_record.specs.ValueOf.{value_of, value_at}
 use Rattle.fs_record.proofs.NodeMaps.{node_there, nodes_alike}
 use Rattle.fs_record.specs.Applied.{records_after_all}
+use Rattle.fs_view.specs.Gone.{known_with}
 use Rattle.fs_view.specs.Walk.{known_in}
 use Rattle.fs_serial.specs.Fresh.{made, made_in, made_by, or_else, root_kind, IsMade, IsAtOrBelow}
 use Rattle.fs_serial.specs.Numbers.{AreNumbered, ReapsInOrder, is_server, is_session, items_at, items_by}
-use Rattle.fs_serial.specs.Pending.{known_with}
 
 -- ## Lists
 
@@ -102,11 +102,11 @@ pub or_none : (a : Option Kind) → or_else a None ≡ a
 or_none None = refl
 or_none (Some k) = refl
 
-or_assoc : (a b c : Option Kind) → or_else a (or_else b c) ≡ or_else (or_else a b) c
+pub or_assoc : (a b c : Option Kind) → or_else a (or_else b c) ≡ or_else (or_else a b) c
 or_assoc None b c = refl
 or_assoc (Some k) b c = refl
 
-made_in-append : (is : List Item) (i : Item) (id : List ℕ) → made_in (is ++ i ∷ []) id ≡ or_else (made_in is id) (made_by i.op i.reply id)
+pub made_in-append : (is : List Item) (i : Item) (id : List ℕ) → made_in (is ++ i ∷ []) id ≡ or_else (made_in is id) (made_by i.op i.reply id)
 made_in-append [] i id = or_none (made_by i.op i.reply id)
 made_in-append (j ∷ is) i id = ap (or_else (made_by j.op j.reply id)) (made_in-append is i id) ∙ or_assoc (made_by j.op j.reply id) (made_in is id) (made_by i.op i.reply id)
 

@@ -68,7 +68,7 @@ none_counted false n m e f = omega arith
 
 module _ (greatest term : ℕ) (s : Server) (o : Counts) (no_rows : s.rows ≡ []) (first : s.records ≡ records) (no_reaps : s.reaps ≡ 0) (others : (k : ℕ) → o.reaps k ≡ 0) where
   abbrev w : World
-  w = record { server = s; counts = o; journal = []; replied = λ x. []; ends = first_ends term }
+  w = record { server = s; counts = o; decided = []; journal = []; replied = λ x. []; ends = first_ends term }
 
   abbrev sight : Sight
   sight = sight_of o s []

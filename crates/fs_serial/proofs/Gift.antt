@@ -36,6 +36,7 @@ use Rattle.fs_view.specs.Kept.{number_of}
 use Rattle.fs_serial.specs.Exchange.{ReturnsFit}
 use Rattle.fs_serial.specs.Fresh.{FreshReserved, Reserved, reserved_by}
 use Rattle.fs_serial.specs.World.{Ends, GoesOn}
+use Rattle.fs_serial.proofs.Gone.{all_anew}
 use Rattle.fs_serial.proofs.Going.{carried_leased, carried_still}
 use Rattle.fs_serial.specs.Laws.{IsGift, GiftIsRelied, GiftIsTold, GiftKeepsParts, GiftReturnsNone, lease_given, with_given}
 use Rattle.fs_serial.specs.Leases.{IsFresh, IsRowOf, LeasesGiven}
@@ -185,7 +186,7 @@ gift_keeps_parts o skew greatest a journal replied clients by dir k all gift =
     let relied = gift_relied o by dir k a journal gift.0 gift.1 skew greatest in
     let new = new_lease o by dir k a journal gift.0 gift.1 all.kept (reserved_by clients) (clients by).leases all.reserved (all.fitting by).given in
     let fits : (x : Session) → SessionFits skew greatest t x (clients x) = λ x. relied_fits skew greatest x s t (clients x) (relied x) (all.fitting x) in
-    let holds : (x : Session) → SessionHolds skew greatest t x (replied x) (clients x) = λ x. relied_holds skew greatest x s t (clients x) (relied x) (all.fitting x) (replied x) (all.sessions x) in
+    let holds : (x : Session) → SessionHolds skew greatest t x (replied x) (clients x) = λ x. relied_holds skew greatest x s t (clients x) (relied x) (all.fitting x) (all_anew skew greatest s replied clients all x) (replied x) (all.sessions x) in
     record {
       servers = gift_holds o by dir k a journal gift.0 gift.1 all.servers;
       kept = gift_fits o by dir k a journal gift.0 gift.1 all.kept;

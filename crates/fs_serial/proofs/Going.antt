@@ -16,6 +16,7 @@ use Rattle.fs_serial.specs.Settled.{Lease, Settled, settled_now, with_leases}
 use Rattle.fs_serial.specs.Sight.{Sight}
 use Rattle.fs_serial.specs.World.{AllCarried, Ends, GoesOn, HasNumber}
 use Rattle.fs_serial.proofs.Facts.{each_more}
+use Rattle.fs_serial.proofs.Gone.{all_anew}
 use Rattle.fs_serial.proofs.Leased.{IsNewLease, leased_fits, leased_holds}
 use Rattle.fs_serial.proofs.Relied.{ReliesFor, still_fits, still_holds, still_renewals, still_returns}
 use Rattle.fs_serial.proofs.Together.{each_session}
@@ -45,7 +46,7 @@ module _ (skew greatest : ℕ) (s t : Sight) (replied : Session → List Item) (
   all_still h = record {
     servers = c.servers h.servers;
     kept = c.kept h.kept;
-    sessions = λ x. still_holds skew greatest x s t (clients x) (c.relied x) (h.fitting x) (replied x) (h.sessions x);
+    sessions = λ x. still_holds skew greatest x s t (clients x) (c.relied x) (h.fitting x) (all_anew skew greatest s replied clients h x) (replied x) (h.sessions x);
     fitting = λ x. still_fits skew greatest x s t (clients x) (c.relied x) (h.fitting x);
     reserved = subst (λ m. FreshReserved (reserved_by clients) m t.journal) (sym c.records) (subst (λ j. FreshReserved (reserved_by clients) s.records j) (sym c.journal) h.reserved);
   }

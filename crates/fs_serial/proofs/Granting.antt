@@ -64,10 +64,13 @@ alike a b s =
     ∙ ap (λ k. tells_no_mode a.field || is_of_mode a.field k b.promise) s.kind
     ∙ ap (λ p. tells_no_mode a.field || is_of_mode a.field a.kind p) s.promise
 
+pub shapes_mapped : (f : Row → Row) → ((r : Row) → TellsSame r (f r)) → (rows : List Row) → RowsShaped rows → RowsShaped (map f rows)
+shapes_mapped f same rows shaped x i =
+    let q = In-map f x rows i in
+    ap is_shaped q.1.1 ∙ alike q.0 (f q.0) (same q.0) ∙ shaped q.0 q.1.0
+
 pub shapes_renewed : (n : LeaseNo) (until : ℕ) (rows : List Row) → RowsShaped rows → RowsShaped (map (renewed_row n until) rows)
-shapes_renewed n until rows shaped x i =
-    let q = In-map (renewed_row n until) x rows i in
-    ap is_shaped q.1.1 ∙ alike q.0 (renewed_row n until q.0) (renewed_tells n until q.0) ∙ shaped q.0 q.1.0
+shapes_renewed n until = shapes_mapped (renewed_row n until) (renewed_tells n until)
 
 -- ## No conflict
 

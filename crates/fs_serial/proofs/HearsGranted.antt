@@ -23,7 +23,7 @@ use Rattle.fs_msg.specs.declared.client_msg.ClientMsg.{ClientMsg}
 use Rattle.fs_msg.specs.declared.end.End.{End}
 use Rattle.fs_msg.specs.declared.entry.Entry.{Entry}
 use Rattle.fs_msg.specs.declared.item.Item.{Item}
-use Rattle.fs_client.specs.Answers.{answer_fits, fresh_fits, grants_fit, rest_fits, is_new, is_of_item, lease_in, leases_in, full_told}
+use Rattle.fs_client.specs.Answers.{answer_fits, fresh_fits, front_fits, grants_fit, is_new, is_of_item, lease_in, leases_in, life_last, full_told}
 use Rattle.fs_client.specs.Client.{with_granted}
 use Rattle.fs_view.specs.View.{kept_new, with_grants}
 use Rattle.fs_client.specs.Turns.{pair_of}
@@ -51,26 +51,34 @@ use Rattle.fs_serial.proofs.Seats.{Seat, seen_at, settled_none}
 new_is : (leases : List Kept) (before : List Grant) (g : Grant) → is_new leases before g ≡ true → list_any (has_number g.no) leases ≡ false
 new_is leases before g h = not-true (list_any (has_number g.no) leases) (both (not (list_any (has_number g.no) leases)) _ h).0
 
-rest_new : (fresh : Option (List ℕ)) (leases : List Kept) (before gs : List Grant) → rest_fits fresh leases before gs ≡ true → (g : Grant) → In g gs → list_any (has_number g.no) leases ≡ false
-rest_new fresh leases before [] h g i = absurd i
-rest_new None leases before (x ∷ gs) h g i = absurd (cc)
-rest_new (Some id) leases before (x ∷ []) h g (inl e) = ap (λ (y : Grant). list_any (has_number y.no) leases) e ∙ new_is leases before x (both (is_of_item (Life id, Exclusive) x) (is_new leases before x) h).1
-rest_new (Some id) leases before (x ∷ []) h g (inr i) = absurd i
-rest_new (Some id) leases before (x ∷ y ∷ gs) h g i = absurd (cc)
-
-grants_new : (items : List (Field × LeaseKind)) (fresh : Option (List ℕ)) (leases : List Kept) (before gs : List Grant) → grants_fit items fresh leases before gs ≡ true → (g : Grant) → In g gs → list_any (has_number g.no) leases ≡ false
-grants_new [] fresh leases before gs h g i = rest_new fresh leases before gs h g i
-grants_new (x ∷ xs) fresh leases before [] h g i = absurd i
-grants_new (x ∷ xs) fresh leases before (y ∷ gs) h g i =
-    let p = both (is_of_item x y && is_new leases before y) (grants_fit xs fresh leases (before ++ y ∷ []) gs) h in
+front_new : (items : List (Field × LeaseKind)) (leases : List Kept) (before gs : List Grant) → front_fits items leases before gs ≡ true → (g : Grant) → In g gs → list_any (has_number g.no) leases ≡ false
+front_new items leases before [] h g i = absurd i
+front_new [] leases before (y ∷ gs) h g i = absurd (cc)
+front_new (x ∷ xs) leases before (y ∷ gs) h g i =
+    let p = both (is_of_item x y && is_new leases before y) (front_fits xs leases (before ++ y ∷ []) gs) h in
     let q = both (is_of_item x y) (is_new leases before y) p.0 in
-    elim i as (λ _. list_any (has_number g.no) leases ≡ false) [ inl e ↦ ap (λ (y : Grant). list_any (has_number y.no) leases) e ∙ new_is leases before y q.1 | inr j ↦ grants_new xs fresh leases (before ++ y ∷ []) gs p.1 g j ]
+    elim i as (λ _. list_any (has_number g.no) leases ≡ false) [ inl e ↦ ap (λ (y : Grant). list_any (has_number y.no) leases) e ∙ new_is leases before y q.1 | inr j ↦ front_new xs leases (before ++ y ∷ []) gs p.1 g j ]
+
+last_new : (items : List (Field × LeaseKind)) (id : List ℕ) (leases : List Kept) (front gs : List Grant) → life_last items id leases front gs ≡ true → (g : Grant) → In g (front ++ gs) → list_any (has_number g.no) leases ≡ false
+last_new items id leases front [] h g i = absurd (cc)
+last_new items id leases front (x ∷ []) h g i =
+    let p = both (front_fits items leases [] front) (is_of_item (Life id, Exclusive) x && is_new leases front x) h in
+    let q = both (is_of_item (Life id, Exclusive) x) (is_new leases front x) p.1 in
+    elim (In-append g front (x ∷ []) i) as (λ _. list_any (has_number g.no) leases ≡ false) [
+      | inl j ↦ front_new items leases [] front p.0 g j
+      | inr j ↦ elim j as (λ _. list_any (has_number g.no) leases ≡ false) [ inl e ↦ ap (λ (y : Grant). list_any (has_number y.no) leases) e ∙ new_is leases front x q.1 | inr z ↦ absurd z ]
+    ]
+last_new items id leases front (x ∷ y ∷ gs) h g i = last_new items id leases (front ++ x ∷ []) (y ∷ gs) h g (subst (λ gs. In g gs) (sym (append_assoc front (x ∷ []) (y ∷ gs))) i)
+
+grants_new : (items : List (Field × LeaseKind)) (fresh : Option (List ℕ)) (leases : List Kept) (gs : List Grant) → grants_fit items fresh leases gs ≡ true → (g : Grant) → In g gs → list_any (has_number g.no) leases ≡ false
+grants_new items None leases gs h g i = front_new items leases [] gs h g i
+grants_new items (Some id) leases gs h g i = last_new items id leases [] gs h g i
 
 all_new : (c : Client) (from : ℕ) (x : Exchange) (gs : List Grant) (fresh : Option (List ℕ)) (e : End) → answer_fits from x (Granted gs fresh e) c ≡ true → (g : Grant) → In g gs → list_any (has_number g.no) c.view.leases ≡ false
 all_new c from (Asks to items asked) gs fresh e h =
-    let p = both (to == from) (fresh_fits asked fresh && grants_fit items fresh c.view.leases [] gs) h in
-    let q = both (fresh_fits asked fresh) (grants_fit items fresh c.view.leases [] gs) p.1 in
-    grants_new items fresh c.view.leases [] gs q.1
+    let p = both (to == from) (fresh_fits asked fresh && grants_fit items fresh c.view.leases gs) h in
+    let q = both (fresh_fits asked fresh) (grants_fit items fresh c.view.leases gs) p.1 in
+    grants_new items fresh c.view.leases gs q.1
 all_new c from (Renews to numbers) gs fresh e h = absurd (cc)
 all_new c from (Releases to numbers) gs fresh e h = absurd (cc)
 all_new c from (Ships to count) gs fresh e h = absurd (cc)

@@ -13,7 +13,7 @@ use Rattle.fs_msg.specs.declared.client_msg.ClientMsg.{ClientMsg}
 use Rattle.fs_msg.specs.declared.end.End.{End}
 use Rattle.fs_msg.specs.declared.item.Item.{Item}
 use Rattle.fs_client.specs.Answers.{numbers_sent}
-use Rattle.fs_client.specs.Client.{released_all, with_released, with_recalled}
+use Rattle.fs_client.specs.Client.{released_all, released_one, with_released, with_recalled}
 use Rattle.fs_client.specs.Turns.{pair_of}
 use Rattle.fs_client.specs.declared.exchange.Exchange.{Exchange}
 use Rattle.fs_client.specs.declared.exchange.Exchange.TheVariants.{Asks, Renews, Releases, Ships}
@@ -22,7 +22,7 @@ use Rattle.fs_view.specs.declared.kept.Kept.{Kept}
 use Rattle.fs_view.specs.declared.kept.Standing.{Standing}
 use Rattle.fs_view.specs.declared.kept.Standing.TheVariants.{Held, Pinned, Leaving}
 use Rattle.fs_view.specs.Kept.{number_of, has_number, is_leaving, entries_of, lease_of, recalled_as}
-use Rattle.fs_view.specs.View.{View, without_lease}
+use Rattle.fs_view.specs.View.{View, stands, without_lease}
 use Rattle.fs_serial.specs.Client.{times_in}
 use Rattle.fs_serial.specs.Exchange.{IsReturned, ReleasesReturned, ExchangeFits, ReturnFits, ReturnsFit}
 use Rattle.fs_serial.specs.Parts.{SessionHolds, SessionFits}
@@ -126,11 +126,17 @@ pub record HasReturned (v w : View) : Type 0 where
   pub was : (k : Kept) → In k w.leases → In k v.leases
   pub same : filter_map lease_in w.leases ≡ filter_map lease_in v.leases
 
+one_returned : (b : Bool) (n : LeaseNo) (v : View) → ((k : Kept) → In k v.leases → number_of k.standing ≡ n → is_leaving k.standing ≡ true) → HasReturned v (cond b (without_lease n v) v)
+one_returned true n v h = record { session = refl; pending = refl; was = λ k i. In-filter (λ k. not (has_number n k)) k v.leases i; same = one_gone n v.leases h }
+one_returned false n v h = record { session = refl; pending = refl; was = λ k i. i; same = refl }
+
 all_returned : (ns : List LeaseNo) (v : View) → AllGoing ns v.leases → HasReturned v (released_all ns v)
 all_returned [] v h = record { session = refl; pending = refl; was = λ k i. i; same = refl }
 all_returned (n ∷ ns) v h =
-    let q = all_returned ns (without_lease n v) (λ m i k j. h m (inr i) k (In-filter (λ k. not (has_number n k)) k v.leases j)) in
-    record { session = q.session; pending = q.pending; was = λ k i. In-filter (λ k. not (has_number n k)) k v.leases (q.was k i); same = q.same ∙ one_gone n v.leases (h n (inl refl)) }
+    let w : View = released_one n v in
+    let p : HasReturned v w = one_returned (stands is_leaving n v.leases) n v (h n (inl refl)) in
+    let q : HasReturned w (released_all ns w) = all_returned ns w (λ m i k j. h m (inr i) k (p.was k j)) in
+    record { session = q.session ∙ p.session; pending = q.pending ∙ p.pending; was = λ k i. p.was k (q.was k i); same = q.same ∙ p.same }
 
 sent_returned : (x : Option Exchange) (ks : List Kept) → ReleasesReturned x ks → (n : LeaseNo) → In n (numbers_sent x) → IsReturned ks n
 sent_returned None ks h n i = absurd i

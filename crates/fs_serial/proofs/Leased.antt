@@ -1,20 +1,27 @@
 -- One row more, and one lease more.
 use Rattle.std.proofs.Common.{◌≡◌, ℕ, ◌+◌, ◌<◌, ◌≤◌, Bool, true, false, cond, List, [], ◌∷◌, ◌++◌, refl, sym, ap, subst, ◌⊎◌, inl, inr, arith}
+use Rattle.std.specs.FinMap.{get}
 use Rattle.std.specs.Prelude.{Some, ◌≢◌}
 use Rattle.fs_ident.specs.In.{In}
 use Rattle.fs_ident.specs.Ordered.{put_before}
 use Rattle.fs_ident.specs.declared.actor.Session.{Session}
 use Rattle.fs_ident.proofs.Standing.{In-put, In-front}
 use Rattle.fs_field.specs.declared.field.Field.{Field}
+use Rattle.fs_field.specs.declared.field.Field.TheVariants.{Life}
 use Rattle.fs_field.specs.declared.row.Row.{Row}
 use Rattle.fs_field.specs.declared.used.Use.{Use}
+use Rattle.fs_field.specs.declared.value.Value.TheVariants as value
 use Rattle.fs_field.specs.Table.{with_row, no_before}
+use Rattle.fs_model.specs.Sound.{kind_of}
 use Rattle.fs_model.specs.declared.op.Op.{Op}
 use Rattle.fs_model.specs.declared.op.Op.TheVariants as op
 use Rattle.fs_model.specs.declared.reply.Reply.{Reply}
 use Rattle.fs_model.specs.declared.reply.Reply.TheVariants as reply
 use Rattle.fs_msg.specs.declared.item.Item.{Item}
+use Rattle.fs_record.specs.Records.{node_of}
 use Rattle.fs_record.specs.ValueOf.{value_of}
+use Rattle.fs_serial.specs.Fresh.{IsMade}
+use Rattle.fs_serial.specs.Gone.{IsOfGone}
 use Rattle.fs_serial.specs.Leases.{IsBacked, IsRowOf, IsFresh}
 use Rattle.fs_serial.specs.Numbers.{items_by}
 use Rattle.fs_serial.specs.Parts.{SessionHolds, SessionFits}
@@ -23,6 +30,7 @@ use Rattle.fs_serial.specs.Relies.{Relies, Stood}
 use Rattle.fs_serial.specs.Settled.{Lease, Settled, with_leases}
 use Rattle.fs_serial.specs.Sight.{Sight, IsGiven}
 use Rattle.fs_serial.proofs.Facts.{each_more}
+use Rattle.fs_serial.proofs.Gone.{still_gone}
 
 -- ## One row more
 
@@ -48,7 +56,9 @@ row_relied skew greatest by s t row rows new given values journal = record {
     | inr j ↦ record { row = r; stood = j; number = refl; session = refl; field = refl; kind = refl }
   ];
   kept = λ r i own late. record { row = r; stands = subst (λ rs. In r rs) (sym rows) (In-put_still (λ x. no_before row.no x.no) r row s.rows i); number = refl; lasts = omega arith };
-  values = λ r i g own. values r.field;
+  values = λ r i g own. inr (values r.field);
+  made = λ file was. subst (λ j. IsMade j file) (sym journal) was;
+  gone = λ file was none. let life : value.Life (kind_of (node_of (get t.records file))) ≡ value.Life (kind_of (node_of (get s.records file))) = values (Life file) in still_gone s.records t.records file (cc life) none;
   items = ap (items_by by) journal;
 }
 
@@ -92,7 +102,7 @@ module _ (skew greatest : ℕ) (by : Session) (t : Sight) (d : Settled) (l : Lea
   pub leased_holds : (replied : List Item) → SessionHolds skew greatest t by replied d → SessionHolds skew greatest t by replied (with_leases (l ∷ []) d)
   leased_holds replied h = record {
     backed = each_more (λ (k : Lease). greatest < k.until + skew → IsBacked t.rows k.no k.until) d.leases l h.backed (λ late. fits.row);
-    telling = each_more (λ (k : Lease). (r : Row) → In r t.rows → r.no ≡ k.no → k.base ≡ value_of t.records by k.field) d.leases l h.telling (λ r i e. fits.told);
+    telling = each_more (λ (k : Lease). (r : Row) → In r t.rows → r.no ≡ k.no → IsOfGone t.records t.journal k.field ⊎ (k.base ≡ value_of t.records by k.field)) d.leases l h.telling (λ r i e. inr fits.told);
     pending = h.pending;
     numbers = h.numbers;
     replies = h.replies;

@@ -24,6 +24,7 @@ use Rattle.fs_model.specs.declared.reply.Reply.{Reply}
 use Rattle.fs_model.specs.declared.reply.Reply.TheVariants as reply
 use Rattle.fs_record.specs.Effects.{tells_its_effects}
 use Rattle.fs_client.specs.Acts.{with_id}
+use Rattle.fs_view.specs.Gone.{known_with}
 use Rattle.fs_view.specs.Script.{Script, answer, ask, give, unless, no_dir, taken_name, made_reply, new_file, ask_place, ask_others, ask_selves, open_with, open_free, close_with, modes_on, modes_off, no_set, ask_size, ask_own, ask_child, ask_names, ask_info, no_file, script_of}
 use Rattle.fs_view.specs.Told.{life_told, child_told, own_told, is_other_told, modes_under, own_conflicts, modes_listed}
 use Rattle.fs_view.specs.View.{View, fresh}
@@ -31,7 +32,7 @@ use Rattle.fs_view.specs.declared.walk.Walk.{Walk}
 use Rattle.fs_view.specs.Walk.{Known, Given, walk_along, walk, behind, always}
 use Rattle.fs_view.proofs.Walks.{first_behind}
 use Rattle.fs_model.specs.Sound.{AsksAccess}
-use Rattle.fs_serial.specs.Pending.{known_with, HasUse, IsCovered, NamesItsFile, NamesReserved, named_by}
+use Rattle.fs_serial.specs.Pending.{HasUse, IsCovered, NamesItsFile, NamesReserved, named_by}
 use Rattle.fs_serial.specs.Settled.{Lease}
 
 -- ## Scripts that ask for no identifier

@@ -1,12 +1,13 @@
 -- A client with an empty log answers a read, which is admitted at once.
-use Rattle.std.proofs.Common.{◌≡◌, ℕ, zero, suc, ◌+◌, ◌<◌, true, false, List, [], ◌∷◌, ◌++◌, map, refl, sym, ap, ◌∙◌, subst, inl, inr, arith, append-nil}
+use Rattle.std.proofs.Common.{◌≡◌, ℕ, zero, suc, ◌+◌, ◌<◌, true, false, List, [], ◌∷◌, ◌++◌, ◌⊎◌, map, refl, sym, ap, ◌∙◌, subst, inl, inr, arith, append-nil}
 use Rattle.std.proofs.lemmas.Bool.{ltb-true}
 use Rattle.std.specs.Prelude.{Option, Some, None, is_some}
 use Rattle.fs_ident.specs.In.{In}
+use Rattle.fs_ident.specs.declared.actor.Peer.TheVariants.{Client as OfSession}
 use Rattle.fs_ident.specs.declared.actor.Session.{Session}
 use Rattle.fs_ident.specs.declared.kind.Kind.{Kind}
 use Rattle.fs_field.specs.declared.used.Use.{Use}
-use Rattle.fs_model.specs.Namespace.{first_space}
+use Rattle.fs_model.specs.Namespace.{NodeMap, first_space}
 use Rattle.fs_model.specs.Sound.{is_change}
 use Rattle.fs_model.specs.Step.{step}
 use Rattle.fs_model.specs.declared.op.Op.{Op}
@@ -14,6 +15,7 @@ use Rattle.fs_model.specs.declared.op.Op.TheVariants as op
 use Rattle.fs_model.specs.declared.reply.Reply.{Reply}
 use Rattle.fs_model.specs.declared.reply.Reply.TheVariants as reply
 use Rattle.fs_model.proofs.SoundRuns.{step_reads}
+use Rattle.fs_msg.specs.Journal.{item_step, may_admit}
 use Rattle.fs_msg.specs.declared.answer.Answer.{Answer}
 use Rattle.fs_msg.specs.declared.answer.Answer.TheVariants.{Granted, Renewed, Released, Shipped, Recall}
 use Rattle.fs_msg.specs.declared.client_msg.ClientMsg.{ClientMsg}
@@ -26,10 +28,11 @@ use Rattle.fs_client.specs.Answers.{over_after}
 use Rattle.fs_client.specs.Client.{with_read}
 use Rattle.fs_client.specs.declared.state.Client.{Client}
 use Rattle.fs_server.specs.Ships.{item_of}
+use Rattle.fs_view.specs.Gone.{IsUnread}
 use Rattle.fs_view.specs.View.{value_after_log}
 use Rattle.fs_serial.specs.Fresh.{made, made_by, or_else, IsMade, NodesMade, FreshReserved, Reserved}
 use Rattle.fs_serial.specs.Leases.{IsBacked}
-use Rattle.fs_serial.specs.Numbers.{AreNumbered, all_items, items_by}
+use Rattle.fs_serial.specs.Numbers.{AreNumbered, all_items, is_session, items_by}
 use Rattle.fs_serial.specs.Parts.{ServersHold, SessionHolds, SessionFits}
 use Rattle.fs_serial.specs.Pending.{IsAnswer}
 use Rattle.fs_serial.specs.Serial.{JournalSerial}
@@ -40,7 +43,8 @@ use Rattle.fs_serial.proofs.Answered.{answered, no_reap}
 use Rattle.fs_serial.proofs.Carried.{GoesOnAs, exchange_still}
 use Rattle.fs_serial.proofs.Facts.{items-own, made-append, made_before, or_none, serial_push, session_itself}
 use Rattle.fs_serial.proofs.Knowing.{IsUseOf, use_from}
-use Rattle.fs_serial.proofs.Reply.{IsNext, IsOfLease, number_more}
+use Rattle.fs_serial.proofs.Gone.{lost_in, lost_unread, made_more, telling_later}
+use Rattle.fs_serial.proofs.Reply.{IsNext, IsOfLease, number_more, value_seen}
 use Rattle.fs_serial.proofs.ReplyNext.{next}
 use Rattle.fs_serial.proofs.Seats.{Seat, seen_at}
 use Rattle.fs_serial.proofs.Settling.{settled_log}
@@ -71,112 +75,152 @@ nothing_in [] h = refl
 nothing_in (x ∷ xs) h = absurd (h x (inl refl))
 
 -- a read makes no file
-unmade_read : (o : Op) (r : Reply) (id : List ℕ) → is_change r ≡ false → is_some (made_by o r id) ≡ true → ⊥
+pub unmade_read : (o : Op) (r : Reply) (id : List ℕ) → is_change r ≡ false → is_some (made_by o r id) ≡ true → ⊥
 unmade_read (op.Create dir name kind (Some new)) reply.Made id h m = absurd (cc)
 unmade_read o r id h m = absurd (cc)
 
-no_kind : (a : Option Kind) → (is_some a ≡ true → ⊥) → a ≡ None
+pub no_kind : (a : Option Kind) → (is_some a ≡ true → ⊥) → a ≡ None
 no_kind None h = refl
 no_kind (Some k) h = absurd (h refl)
 
+-- ## What may join the journal
+
+-- an item with that number of the session which, where the nodes are these, is the namespace's own, changes nothing and makes no file
+pub record IsReadOf (m : NodeMap) (by : Session) (k : ℕ) (i : Item) : Type 0 where
+  pub session : i.by ≡ OfSession by
+  pub number : i.n ≡ k
+  pub admitted : may_admit i.by i.op ≡ true
+  pub gets : (item_step m i).reply ≡ i.reply
+  pub stays : (item_step m i).nodes ≡ m
+  pub makes : (id : List ℕ) → is_some (made_by i.op i.reply id) ≡ true → ⊥
+
+-- such an item there always is: the root is asked for its kind
+abbrev pub plain_read : NodeMap → Session → ℕ → Item
+plain_read m by k = record { by = OfSession by; n = k; op = op.Kind []; reply = (step m by (op.Kind [])).reply }
+
+pub plain_is_read : (m : NodeMap) (by : Session) (k : ℕ) → IsReadOf m by k (plain_read m by k)
+plain_is_read m by k = record { session = refl; number = refl; admitted = refl; gets = refl; stays = refl; makes = λ id h. absurd (cc) }
+
 -- ## Its session
 
-module _ (skew greatest : ℕ) (s : Sight) (by : Session) (replied : List Item) (c : Client) (up : List ClientMsg) (down : List Answer) (o : Op) (r : Reply) (h : Seat skew greatest s by replied c up down) (a : IsReplied c down o r) (t : IsReadNow skew greatest c r) where
+module _ (skew greatest : ℕ) (s : Sight) (by : Session) (replied : List Item) (c : Client) (up : List ClientMsg) (down : List Answer) (o : Op) (r : Reply) (h : Seat skew greatest s by replied c up down) (a : IsReplied c down o r) where
   abbrev e : Entry
   e = entry_of o r c
 
   abbrev d : Settled
   d = seen_at by c down
 
-  abbrev later : Sight
-  later = record s { journal = s.journal ++ item_of by e ∷ [] }
-
   n : IsNext by d e
   n = next by c down o r a.plain a.asked a.reply h.client h.fits.fresh h.fits.entries
 
-  none : d.log ≡ []
-  none = nothing_in d.log (λ x i. subst (In x) t.empty (settled_log by down (settled_now c) x i))
+  none : c.log ≡ [] → d.log ≡ []
+  none empty = nothing_in d.log (λ x i. subst (In x) empty (settled_log by down (settled_now c) x i))
 
-  -- its leases have their rows, which tell the truth
-  pub right : IsAnswer (value_of s.records by) e
-  right = n.right (value_of s.records by) (λ l held u i same.
-      let w : IsOfLease d.leases u = n.of_lease u i in
-      let q : IsUseOf c.view c.last u = use_from c.view c.last o u (ap is_some a.reply) i in
-      let it : l ≡ w.lease = h.fits.distinct l w.lease held w.held (same ∙ sym w.number) in
-      let until : l.until ≡ q.lease.until = ap (λ (l : Lease). l.until) it ∙ w.until ∙ sym (ap (λ (u : Use). u.until) q.used) in
-      let live : c.last < q.lease.until = ltb-true c.last q.lease.until q.live in
-      let within = t.within in
-      let b : IsBacked s.rows l.no l.until = h.holds.backed l held (omega arith) in
-      sym (h.holds.telling l held b.row b.stands b.number) ∙ sym (ap (λ es. value_after_log by l.field l.base (map (effects_in by) es)) none))
+  -- ## What the client reads is the namespace's, where its leases have not ended
 
-  pub gets : (step (nodes_of s.records) by e.op).reply ≡ r
-  gets = answered s.records by d.leases e n.entry right
+  module _ (t : IsReadNow skew greatest c r) where
+    -- its leases have their rows, which tell the truth
+    right : IsAnswer (value_of s.records by) e
+    right = n.right (value_of s.records by) (λ l held u i same.
+        let w : IsOfLease d.leases u = n.of_lease u i in
+        let q : IsUseOf c.view c.last u = use_from c.view c.last o u (ap is_some a.reply) i in
+        let it : l ≡ w.lease = h.fits.distinct l w.lease held w.held (same ∙ sym w.number) in
+        let until : l.until ≡ q.lease.until = ap (λ (l : Lease). l.until) it ∙ w.until ∙ sym (ap (λ (u : Use). u.until) q.used) in
+        let live : c.last < q.lease.until = ltb-true c.last q.lease.until q.live in
+        let within = t.within in
+        let b : IsBacked s.rows l.no l.until = h.holds.backed l held (omega arith) in
+        elim (h.holds.telling l held b.row b.stands b.number) as (λ _. IsUnread (value_of s.records by) l.field ⊎ (value_of s.records by l.field ≡ value_seen by d l)) [
+          | inl gone ↦ inl (lost_unread s.journal (value_of s.records by) l.field (lost_in s.records by s.journal l.field gone))
+          | inr told ↦ inr (sym told ∙ sym (ap (λ es. value_after_log by l.field l.base (map (effects_in by) es)) (none t.empty)))
+        ])
 
-  pub read_serial : ServersHold s → JournalSerial later.journal s.records
-  read_serial servers = serial_push first_space s.journal (nodes_of s.records) (nodes_of s.records) (item_of by e) servers.serial (no_reap e.op n.entry.plain) gets (step_reads (nodes_of s.records) by e.op (ap is_change gets ∙ t.read))
+    gets : (step (nodes_of s.records) by e.op).reply ≡ r
+    gets = answered s.records by d.leases e n.entry right
 
-  more : all_items by later.journal d.log ≡ all_items by s.journal d.log ++ item_of by e ∷ []
-  more =
-      ap (λ es. all_items by later.journal es) none ∙ append-nil (items_by by later.journal) ∙ items-own by s.journal (item_of by e) (session_itself by)
-      ∙ sym (ap (λ is. is ++ item_of by e ∷ []) (ap (λ es. all_items by s.journal es) none ∙ append-nil (items_by by s.journal)))
+    pub read_right : IsReadOf (nodes_of s.records) by c.next (item_of by e)
+    read_right = record {
+      session = refl;
+      number = refl;
+      admitted = no_reap e.op n.entry.plain;
+      gets = gets;
+      stays = step_reads (nodes_of s.records) by e.op (ap is_change gets ∙ t.read);
+      makes = λ id. unmade_read e.op r id t.read;
+    }
 
-  seen : seen_at by (with_read c) down ≡ with_next (d.next + 1) d
-  seen = settled_number by (c.next + 1) down (settled_now c) ∙ ap (λ k. with_next k d) (ap (λ k. k + 1) n.number)
+  -- ## Such an item joins the journal
 
-  holds : SessionHolds skew greatest later by (replied ++ item_of by e ∷ []) (with_next (d.next + 1) d)
-  holds = record {
-    backed = h.holds.backed;
-    telling = h.holds.telling;
-    pending = h.holds.pending;
-    numbers = subst (λ is. AreNumbered 1 is (d.next + 1)) (sym more) (number_more 1 (all_items by s.journal d.log) d.next (item_of by e) h.holds.numbers n.number);
-    replies = more ∙ ap (λ is. is ++ item_of by e ∷ []) h.holds.replies;
-  }
+  module _ (empty : c.log ≡ []) (i : Item) (is : IsReadOf (nodes_of s.records) by c.next i) where
+    abbrev later : Sight
+    later = record s { journal = s.journal ++ i ∷ [] }
 
-  fits : SessionFits skew greatest later by (with_next (d.next + 1) d)
-  fits = record {
-    given = h.fits.given;
-    distinct = h.fits.distinct;
-    matching = h.fits.matching;
-    fresh = h.fits.fresh;
-    held = h.fits.held;
-    backed = h.fits.backed;
-    entries = h.fits.entries;
-    once = h.fits.once;
-    refused = h.fits.refused;
-  }
+    pub read_serial : ServersHold s → JournalSerial later.journal s.records
+    read_serial servers = serial_push first_space s.journal (nodes_of s.records) (nodes_of s.records) i servers.serial is.admitted is.gets is.stays
 
-  goes_on : GoesOnAs c (with_read c) []
-  goes_on = record {
-    exchange = refl;
-    fewer = λ k i. record { kept = k; among = i; number = refl };
-    log = sym (append-nil c.log);
-    went = λ k i z. record { kept = k; among = i; pair = refl; leaving = z };
-    goes = λ k i z. record { kept = k; among = i; number = refl; leaving = z };
-  }
+    own : is_session by i.by ≡ true
+    own = ap (is_session by) is.session ∙ session_itself by
 
-  pub seat_read : Seat skew greatest later by (replied ++ item_of by e ∷ []) (with_read c) up down
-  seat_read = record {
-    holds = subst (SessionHolds skew greatest later by (replied ++ item_of by e ∷ [])) (sym seen) holds;
-    fits = subst (SessionFits skew greatest later by) (sym seen) fits;
-    client = record { session = h.client.session; viewed = h.client.viewed; pending = h.client.pending; distinct = h.client.distinct; pinned = h.client.pinned; held = h.client.held };
-    exchange = exchange_still skew greatest s.given s.rows by c (with_read c) [] up down (settled_now c) (settled_now (with_read c)) d (seen_at by (with_read c) down) goes_on
-        (λ l i. record { lease = l; held = i; number = refl })
-        (λ l i. record { lease = l; held = subst (λ (x : Settled). In l x.leases) seen i; number = refl })
-        (ap (λ (x : Settled). x.log) seen ∙ sym (append-nil d.log)) (ap (λ (x : Settled). x.over) seen) h.exchange;
-  }
+    more : all_items by later.journal d.log ≡ all_items by s.journal d.log ++ i ∷ []
+    more =
+        ap (λ es. all_items by later.journal es) (none empty) ∙ append-nil (items_by by later.journal) ∙ items-own by s.journal i own
+        ∙ sym (ap (λ is. is ++ i ∷ []) (ap (λ es. all_items by s.journal es) (none empty) ∙ append-nil (items_by by s.journal)))
 
-  -- ## Identifiers
+    seen : seen_at by (with_read c) down ≡ with_next (d.next + 1) d
+    seen = settled_number by (c.next + 1) down (settled_now c) ∙ ap (λ k. with_next k d) (ap (λ k. k + 1) n.number)
 
-  still_made : (id : List ℕ) → IsMade later.journal id → IsMade s.journal id
-  still_made id m = elim (made_before s.journal (item_of by e) id m) as (λ _. IsMade s.journal id) [ inl p ↦ p | inr p ↦ absurd (unmade_read e.op r id t.read p) ]
+    holds : SessionHolds skew greatest later by (replied ++ i ∷ []) (with_next (d.next + 1) d)
+    holds = record {
+      backed = h.holds.backed;
+      telling = telling_later s.rows s.records s.journal later.journal (made_more s.journal i) by d.leases h.holds.telling;
+      pending = h.holds.pending;
+      numbers = subst (λ is. AreNumbered 1 is (d.next + 1)) (sym more) (number_more 1 (all_items by s.journal d.log) d.next i h.holds.numbers (is.number ∙ n.number));
+      replies = more ∙ ap (λ is. is ++ i ∷ []) h.holds.replies;
+    }
 
-  pub read_reserved : (reserved : Reserved) → FreshReserved reserved s.records s.journal → FreshReserved reserved s.records later.journal
-  read_reserved reserved f = record {
-    once = f.once;
-    unmade = λ x n i j p m. f.unmade x n i j p (still_made j m);
-    made_before = λ dir k j q le m. f.made_before dir k j q le (still_made j m);
-    reserved_before = f.reserved_before;
-  }
+    fits : SessionFits skew greatest later by (with_next (d.next + 1) d)
+    fits = record {
+      given = h.fits.given;
+      distinct = h.fits.distinct;
+      matching = h.fits.matching;
+      fresh = h.fits.fresh;
+      held = h.fits.held;
+      backed = h.fits.backed;
+      entries = h.fits.entries;
+      once = h.fits.once;
+      refused = h.fits.refused;
+    }
 
-  pub read_made : NodesMade s.records s.journal → NodesMade s.records later.journal
-  read_made nodes id kind p = made-append s.journal (item_of by e) id ∙ ap (or_else (made s.journal id)) (no_kind (made_by e.op r id) (unmade_read e.op r id t.read)) ∙ or_none (made s.journal id) ∙ nodes id kind p
+    goes_on : GoesOnAs c (with_read c) []
+    goes_on = record {
+      exchange = refl;
+      fewer = λ k i. record { kept = k; among = i; number = refl };
+      log = sym (append-nil c.log);
+      went = λ k i z. record { kept = k; among = i; pair = refl; leaving = z };
+      goes = λ k i z. record { kept = k; among = i; number = refl; leaving = z };
+    }
+
+    pub seat_read : Seat skew greatest later by (replied ++ i ∷ []) (with_read c) up down
+    seat_read = record {
+      holds = subst (SessionHolds skew greatest later by (replied ++ i ∷ [])) (sym seen) holds;
+      fits = subst (SessionFits skew greatest later by) (sym seen) fits;
+      client = record { session = h.client.session; viewed = h.client.viewed; pending = h.client.pending; distinct = h.client.distinct; pinned = h.client.pinned; held = h.client.held };
+      exchange = exchange_still skew greatest s.given s.rows by c (with_read c) [] up down (settled_now c) (settled_now (with_read c)) d (seen_at by (with_read c) down) goes_on
+          (λ l i. record { lease = l; held = i; number = refl })
+          (λ l i. record { lease = l; held = subst (λ (x : Settled). In l x.leases) seen i; number = refl })
+          (ap (λ (x : Settled). x.log) seen ∙ sym (append-nil d.log)) (ap (λ (x : Settled). x.over) seen) h.exchange;
+    }
+
+    -- ## Identifiers
+
+    still_made : (id : List ℕ) → IsMade later.journal id → IsMade s.journal id
+    still_made id m = elim (made_before s.journal i id m) as (λ _. IsMade s.journal id) [ inl p ↦ p | inr p ↦ absurd (is.makes id p) ]
+
+    pub read_reserved : (reserved : Reserved) → FreshReserved reserved s.records s.journal → FreshReserved reserved s.records later.journal
+    read_reserved reserved f = record {
+      once = f.once;
+      unmade = λ x n i j p m. f.unmade x n i j p (still_made j m);
+      made_before = λ dir k j q le m. f.made_before dir k j q le (still_made j m);
+      reserved_before = f.reserved_before;
+    }
+
+    pub read_made : NodesMade s.records s.journal → NodesMade s.records later.journal
+    read_made nodes id kind p = made-append s.journal i id ∙ ap (or_else (made s.journal id)) (no_kind (made_by i.op i.reply id) (is.makes id)) ∙ or_none (made s.journal id) ∙ nodes id kind p

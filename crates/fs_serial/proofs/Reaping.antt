@@ -42,6 +42,7 @@ use Rattle.fs_serial.specs.Serial.{AreSound, JournalSerial}
 use Rattle.fs_serial.specs.Settled.{Settled}
 use Rattle.fs_serial.specs.Sight.{Counts, Sight, sight_of}
 use Rattle.fs_serial.proofs.Facts.{items-other, made-append, made_before, serial_push}
+use Rattle.fs_serial.proofs.Gone.{all_anew, made_more, still_gone}
 use Rattle.fs_serial.proofs.Relied.{relied_fits, relied_holds}
 use Rattle.fs_serial.proofs.Reply.{number_more}
 use Rattle.fs_serial.proofs.Promises.{other_stays}
@@ -108,7 +109,9 @@ module _ (o : Counts) (skew greatest : ℕ) (s : Server) (journal : List Item) (
     given = λ k. omega arith;
     older = λ r i old. record { row = r; stood = i; number = refl; session = refl; field = refl; kind = refl };
     kept = λ r i own live. record { row = r; stands = i; number = refl; lasts = omega arith };
-    values = λ r i old own. value_same s.records s.rows file by sf.shaped sh.promises promises gone x r i own;
+    values = λ r i old own. inr (value_same s.records s.rows file by sf.shaped sh.promises promises gone x r i own);
+    made = λ id was. made_more journal item id was;
+    gone = λ id was none. still_gone s.records after.records id (kind_same s.records file by id) none;
     items = items-other x journal item refl;
   }
 
@@ -167,7 +170,7 @@ reap_keeps o skew greatest s journal replied clients file by h gone free =
     record {
       servers = reap_holds o skew greatest s journal file by h.servers h.kept gone free;
       kept = reap_fits o skew greatest s journal file by h.servers h.kept gone free;
-      sessions = λ x. relied_holds skew greatest x (sight_of o s journal) after (clients x) (rely x) (h.fitting x) (replied x) (h.sessions x);
+      sessions = λ x. relied_holds skew greatest x (sight_of o s journal) after (clients x) (rely x) (h.fitting x) (all_anew skew greatest (sight_of o s journal) replied clients h x) (replied x) (h.sessions x);
       fitting = λ x. relied_fits skew greatest x (sight_of o s journal) after (clients x) (rely x) (h.fitting x);
       reserved = reap_reserved o skew greatest s journal file by h.servers h.kept gone free (reserved_by clients) h.reserved;
     }

@@ -1,55 +1,60 @@
 -- What a session relies on keeps its parts.
-use Rattle.std.proofs.Common.{◌≡◌, ℕ, ◌+◌, ◌<◌, ◌≤◌, List, [], ◌∷◌, ◌++◌, map, refl, sym, ap, ◌∙◌, subst, inl, inr, arith}
-use Rattle.std.specs.Prelude.{Some, is_some}
+use Rattle.std.proofs.Common.{◌≡◌, ℕ, ◌+◌, ◌<◌, ◌≤◌, List, [], ◌∷◌, ◌++◌, ◌⊎◌, map, refl, sym, ap, ◌∙◌, subst, inl, inr, arith}
+use Rattle.std.specs.Prelude.{None, Some, is_some}
+use Rattle.std.specs.FinMap.{get}
 use Rattle.fs_ident.specs.In.{In}
 use Rattle.fs_ident.specs.declared.actor.LeaseNo.{LeaseNo}
 use Rattle.fs_ident.specs.declared.actor.Session.{Session}
-use Rattle.fs_field.specs.declared.asked.Need.{Need}
 use Rattle.fs_field.specs.declared.asked.Need.TheVariants as need
 use Rattle.fs_field.specs.declared.field.Field.{Field}
+use Rattle.fs_field.specs.declared.lease_kind.LeaseKind.{LeaseKind}
 use Rattle.fs_field.specs.declared.row.Row.{Row}
 use Rattle.fs_field.specs.declared.used.Use.{Use}
 use Rattle.fs_field.specs.declared.value.Value.{Value}
 use Rattle.fs_msg.specs.declared.answer.Answer.{Answer}
 use Rattle.fs_msg.specs.declared.entry.Entry.{Entry}
 use Rattle.fs_msg.specs.declared.item.Item.{Item}
+use Rattle.fs_record.specs.Records.{node_of}
 use Rattle.fs_record.specs.ValueOf.{value_of}
 use Rattle.fs_view.specs.declared.kept.Kept.{Kept}
-use Rattle.fs_view.specs.Laws.{HasToo}
-use Rattle.fs_view.specs.Script.{script_of}
 use Rattle.fs_view.specs.View.{value_after_all}
+use Rattle.fs_view.specs.Gone.{IsUnread, known_with}
 use Rattle.fs_view.specs.Walk.{walk, always}
-use Rattle.fs_view.proofs.Walks.{alike}
+use Rattle.fs_view.proofs.Unread.{alike_but_gone}
 use Rattle.fs_client.specs.Turns.{pair_of}
 use Rattle.fs_serial.specs.Exchange.{ReturnsFit, RenewalsBacked}
+use Rattle.fs_serial.specs.Fresh.{IsMade}
+use Rattle.fs_serial.specs.Gone.{IsOfGone}
 use Rattle.fs_serial.specs.Leases.{IsBacked, LeasesBacked, LeasesTrue, LeasesMatch}
 use Rattle.fs_server.specs.Ships.{item_of}
 use Rattle.fs_serial.specs.Numbers.{items_by, AreNumbered, all_items, NumbersInOrder}
 use Rattle.fs_serial.specs.Parts.{SessionHolds, SessionFits}
-use Rattle.fs_serial.specs.Pending.{AllStand, IsAnswer, IsCovered, PendingStand, RefusedGone, UsesBacked, known_with, values_after}
+use Rattle.fs_serial.specs.Pending.{AllStand, IsAnswer, IsCovered, PendingStand, RefusedGone, UsesBacked, values_after}
 use Rattle.fs_serial.specs.Relies.{Relies, Stood}
 use Rattle.fs_serial.specs.Settled.{Lease, Settled, effects_in}
 use Rattle.fs_serial.specs.Sight.{Sight, IsGiven}
+use Rattle.fs_serial.proofs.Gone.{IsLost, MakeAnew, gone_later, lost_after, lost_in, lost_unread}
 use Rattle.fs_serial.proofs.Older.{later_pair}
 
 -- ## Answers
 
--- values that agree on what the answer stands on give the same answer
-pub answers_alike : (rows : List Row) (by : Session) (v w : Field → Value) (e : Entry) → ((r : Row) → In r rows → r.session ≡ by → (u : Use) → In u e.uses → r.no ≡ u.no → w r.field ≡ v r.field) → AllStand rows by e.uses → IsAnswer v e → IsAnswer w e
+-- values that agree on what the answer stands on, but for what is of no matter, give the same answer
+pub answers_alike : (rows : List Row) (by : Session) (v w : Field → Value) (e : Entry) → ((r : Row) → In r rows → r.session ≡ by → (u : Use) → In u e.uses → r.no ≡ u.no → IsUnread w r.field ⊎ (w r.field ≡ v r.field)) → AllStand rows by e.uses → IsAnswer v e → IsAnswer w e
 answers_alike rows by v w e agree stand a =
-    let has : (n : Need) → In n (walk (known_with v) always e.op).items → HasToo (known_with v) (known_with w) always n = λ n i. has_too n (a.covered n i) in
-    let same : walk (known_with w) always e.op ≡ walk (known_with v) always e.op = alike (known_with v) (known_with w) always always (script_of e.op) (ap is_some a.reply) has in
+    let same : walk (known_with w) always e.op ≡ walk (known_with v) always e.op = alike_but_gone (known_with v) always w e.op (ap is_some a.reply) (λ field kind i. has_too field kind (a.covered (need.Lease field kind) i)) in
     record {
       reply = ap (λ k. k.reply) same ∙ a.reply;
       covered = λ n i. a.covered n (subst (λ k. In n k.items) same i);
     }
   where
-    has_too : (n : Need) → IsCovered e.uses n → HasToo (known_with v) (known_with w) always n
-    has_too (need.Lease field kind) c =
+    has_too : (field : Field) (kind : LeaseKind) → IsCovered e.uses (need.Lease field kind) → IsUnread w field ⊎ (Some (w field) ≡ known_with v field kind)
+    has_too field kind c =
         let q = stand c.used c.among in
         let there : q.row.field ≡ field = q.field ∙ c.field in
-        ap Some (ap w (sym there) ∙ agree q.row q.stands q.session c.used c.among q.number ∙ ap v there)
-    has_too (need.Fresh dir) c = absurd c
+        elim (agree q.row q.stands q.session c.used c.among q.number) as (λ _. IsUnread w field ⊎ (Some (w field) ≡ known_with v field kind)) [
+          | inl gone ↦ inl (subst (IsUnread w) there gone)
+          | inr same ↦ inr (ap Some (ap w (sym there) ∙ same ∙ ap v there))
+        ]
 
 -- what a session with these leases relies on
 pub record ReliesFor (skew greatest : ℕ) (by : Session) (s t : Sight) (leases : List Lease) : Type 0 where
@@ -57,7 +62,9 @@ pub record ReliesFor (skew greatest : ℕ) (by : Session) (s t : Sight) (leases 
   pub older : (r : Row) → In r t.rows → IsGiven s.given r.no → Stood s.rows r
   -- the rows of its leases are kept until they have ended
   pub kept : (l : Lease) → In l leases → (r : Row) → In r s.rows → r.no ≡ l.no → greatest < r.until + skew → IsBacked t.rows r.no r.until
-  pub values : (r : Row) → In r t.rows → IsGiven s.given r.no → r.session ≡ by → value_of t.records by r.field ≡ value_of s.records by r.field
+  pub values : (r : Row) → In r t.rows → IsGiven s.given r.no → r.session ≡ by → IsOfGone t.records s.journal r.field ⊎ (value_of t.records by r.field ≡ value_of s.records by r.field)
+  pub made : (file : List ℕ) → IsMade s.journal file → IsMade t.journal file
+  pub gone : (file : List ℕ) → IsMade s.journal file → node_of (get s.records file) ≡ None → node_of (get t.records file) ≡ None
   pub items : items_by by t.journal ≡ items_by by s.journal
 
 module _ (skew greatest : ℕ) (by : Session) (s t : Sight) (d : Settled) (rely : ReliesFor skew greatest by s t d.leases) (f : SessionFits skew greatest s by d) where
@@ -87,12 +94,17 @@ module _ (skew greatest : ℕ) (by : Session) (s t : Sight) (d : Settled) (rely 
   backed : LeasesBacked skew greatest s.rows d.leases → LeasesBacked skew greatest t.rows d.leases
   backed b l h late = backed_still l h l.no l.until refl late (b l h late)
 
-  telling : LeasesTrue s.rows (value_of s.records by) d.leases → LeasesTrue t.rows (value_of t.records by) d.leases
+  telling : LeasesTrue s.rows (IsOfGone s.records s.journal) (value_of s.records by) d.leases → LeasesTrue t.rows (IsOfGone t.records t.journal) (value_of t.records by) d.leases
   telling told l h r i e =
       let q = stood l h r i e in
       let m = matching l h r i e in
-      let values = rely.values r i (subst (λ n. IsGiven s.given n) (sym e) (f.given l h)) m.session in
-      told l h q.row q.stood (q.number ∙ e) ∙ ap (value_of s.records by) (sym m.field) ∙ sym values ∙ ap (value_of t.records by) m.field
+      elim (told l h q.row q.stood (q.number ∙ e)) as (λ _. IsOfGone t.records t.journal l.field ⊎ (l.base ≡ value_of t.records by l.field)) [
+        | inl gone ↦ inl (gone_later s.records t.records s.journal t.journal rely.made rely.gone l.field gone)
+        | inr same ↦ elim (rely.values r i (subst (λ n. IsGiven s.given n) (sym e) (f.given l h)) m.session) as (λ _. IsOfGone t.records t.journal l.field ⊎ (l.base ≡ value_of t.records by l.field)) [
+          | inl gone ↦ inl (subst (IsOfGone t.records t.journal) m.field (gone_later t.records t.records s.journal t.journal rely.made (λ file was n. n) r.field gone))
+          | inr values ↦ inr (same ∙ ap (value_of s.records by) (sym m.field) ∙ sym values ∙ ap (value_of t.records by) m.field)
+        ]
+      ]
 
   -- ## Entries
 
@@ -110,21 +122,35 @@ module _ (skew greatest : ℕ) (by : Session) (s t : Sight) (d : Settled) (rely 
       let p = rely.older q.row q.stands (subst (λ n. IsGiven s.given n) (sym q.number) (use_given e h u i)) in
       record { row = p.row; stands = p.stood; number = p.number ∙ q.number; session = p.session ∙ q.session; field = p.field ∙ q.field; kind = p.kind ∙ q.kind }
 
-  -- the values are the same on what rows of the session are on
+  -- the values are the same on what rows of the session are on, but for size and stamp of files that are gone
   abbrev AgreeOnRows : (Field → Value) → (Field → Value) → Type 0
-  AgreeOnRows v w = (r : Row) → In r t.rows → IsGiven s.given r.no → r.session ≡ by → w r.field ≡ v r.field
+  AgreeOnRows v w = (r : Row) → In r t.rows → IsGiven s.given r.no → r.session ≡ by → IsLost s.journal w r.field ⊎ (w r.field ≡ v r.field)
 
-  pending_from : (log : List Entry) → ((e : Entry) → In e log → In e d.log) → (v w : Field → Value) → AgreeOnRows v w → PendingStand s.rows by v log → PendingStand t.rows by w log
-  pending_from [] within v w agree p = tt
-  pending_from (e ∷ es) within v w agree p = λ stand.
+  agree_at_first : AgreeOnRows (value_of s.records by) (value_of t.records by)
+  agree_at_first r i g own = elim (rely.values r i g own) as (λ _. IsLost s.journal (value_of t.records by) r.field ⊎ (value_of t.records by r.field ≡ value_of s.records by r.field)) [
+    | inl gone ↦ inl (lost_in t.records by s.journal r.field gone)
+    | inr same ↦ inr same
+  ]
+
+  agree_after : (e : Entry) → In e d.log → MakeAnew by s.journal d.log → (v w : Field → Value) → IsAnswer w e → AgreeOnRows v w → AgreeOnRows (values_after by e v) (values_after by e w)
+  agree_after e h anew v w a agree r i g own = elim (agree r i g own) as (λ _. IsLost s.journal (values_after by e w) r.field ⊎ (values_after by e w r.field ≡ values_after by e v r.field)) [
+    | inl lost ↦ inl (lost_after by s.journal w e a (anew e h) r.field lost)
+    | inr same ↦ inr (ap (λ x. value_after_all by r.field x (effects_in by e)) same)
+  ]
+
+  agree_unread : (v w : Field → Value) → AgreeOnRows v w → (r : Row) → In r t.rows → IsGiven s.given r.no → r.session ≡ by → IsUnread w r.field ⊎ (w r.field ≡ v r.field)
+  agree_unread v w agree r i g own = elim (agree r i g own) as (λ _. IsUnread w r.field ⊎ (w r.field ≡ v r.field)) [ inl lost ↦ inl (lost_unread s.journal w r.field lost) | inr same ↦ inr same ]
+
+  pending_from : MakeAnew by s.journal d.log → (log : List Entry) → ((e : Entry) → In e log → In e d.log) → (v w : Field → Value) → AgreeOnRows v w → PendingStand s.rows by v log → PendingStand t.rows by w log
+  pending_from anew [] within v w agree p = tt
+  pending_from anew (e ∷ es) within v w agree p = λ stand.
       let h = within e (inl refl) in
-      let q = p (stood_all e h stand) in (
-        answers_alike t.rows by v w e (λ r i own u j n. agree r i (subst (λ n. IsGiven s.given n) (sym n) (use_given e h u j)) own) stand q.0,
-        pending_from es (λ x i. within x (inr i)) (values_after by e v) (values_after by e w) (λ r i g own. ap (λ x. value_after_all by r.field x (effects_in by e)) (agree r i g own)) q.1,
-      )
+      let q = p (stood_all e h stand) in
+      let a : IsAnswer w e = answers_alike t.rows by v w e (λ r i own u j n. agree_unread v w agree r i (subst (λ n. IsGiven s.given n) (sym n) (use_given e h u j)) own) stand q.0 in
+      (a, pending_from anew es (λ x i. within x (inr i)) (values_after by e v) (values_after by e w) (agree_after e h anew v w a agree) q.1)
 
-  pending : PendingStand s.rows by (value_of s.records by) d.log → PendingStand t.rows by (value_of t.records by) d.log
-  pending p = pending_from d.log (λ e i. i) (value_of s.records by) (value_of t.records by) rely.values p
+  pending : MakeAnew by s.journal d.log → PendingStand s.rows by (value_of s.records by) d.log → PendingStand t.rows by (value_of t.records by) d.log
+  pending anew p = pending_from anew d.log (λ e i. i) (value_of s.records by) (value_of t.records by) agree_at_first p
 
   refused : RefusedGone t.rows d.log d.over
   refused n e =
@@ -163,11 +189,11 @@ module _ (skew greatest : ℕ) (by : Session) (s t : Sight) (d : Settled) (rely 
     refused = refused;
   }
 
-  pub still_holds : (replied : List Item) → SessionHolds skew greatest s by replied d → SessionHolds skew greatest t by replied d
-  still_holds replied h = record {
+  pub still_holds : MakeAnew by s.journal d.log → (replied : List Item) → SessionHolds skew greatest s by replied d → SessionHolds skew greatest t by replied d
+  still_holds anew replied h = record {
     backed = backed h.backed;
     telling = telling h.telling;
-    pending = pending h.pending;
+    pending = pending anew h.pending;
     numbers = numbers h.numbers;
     replies = items d.log ∙ h.replies;
   }
@@ -195,6 +221,8 @@ relies_for skew greatest by s t leases matching rely = record {
   older = rely.older;
   kept = λ l h r i e late. rely.kept r i (matching l h r i e).session late;
   values = rely.values;
+  made = rely.made;
+  gone = rely.gone;
   items = rely.items;
 }
 
@@ -202,5 +230,5 @@ module _ (skew greatest : ℕ) (by : Session) (s t : Sight) (d : Settled) (rely 
   pub relied_fits : SessionFits skew greatest t by d
   relied_fits = still_fits skew greatest by s t d (relies_for skew greatest by s t d.leases f.matching rely) f
 
-  pub relied_holds : (replied : List Item) → SessionHolds skew greatest s by replied d → SessionHolds skew greatest t by replied d
-  relied_holds replied h = still_holds skew greatest by s t d (relies_for skew greatest by s t d.leases f.matching rely) f replied h
+  pub relied_holds : MakeAnew by s.journal d.log → (replied : List Item) → SessionHolds skew greatest s by replied d → SessionHolds skew greatest t by replied d
+  relied_holds anew replied h = still_holds skew greatest by s t d (relies_for skew greatest by s t d.leases f.matching rely) f anew replied h

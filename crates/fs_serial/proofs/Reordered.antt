@@ -16,8 +16,7 @@ use Rattle.fs_serial.specs.Client.{ClientFits}
 use Rattle.fs_serial.specs.Exchange.{OneExchange, ReturnsFit, ShipsFront, due, is_recall}
 use Rattle.fs_serial.specs.Parts.{AllHold}
 use Rattle.fs_serial.specs.Settled.{Settled, settled, settled_now}
-use Rattle.fs_serial.specs.Sight.{sight_of}
-use Rattle.fs_serial.specs.World.{Ends, World, WorldHolds, settled_at, with_ends}
+use Rattle.fs_serial.specs.World.{Ends, World, WorldHolds, settled_at, sight_in, with_ends}
 use Rattle.fs_serial.proofs.Seats.{settled_due}
 use Rattle.fs_serial.proofs.Sending.{EndsFit, each_end}
 
@@ -93,7 +92,7 @@ module _ (greatest : ℕ) (w : World) (by : Session) (front back : List Answer) 
   settled_same : settled_at by new ≡ settled_at by e
   settled_same = settled_due by new.down (settled_now e.client) ∙ ap (λ as_. settled by as_ (settled_now e.client)) due_still ∙ sym (settled_due by e.down (settled_now e.client))
 
-  own_fit : EndsFit w.server.skew greatest (sight_of w.counts w.server w.journal).given w.server.rows by new
+  own_fit : EndsFit w.server.skew greatest (sight_in w).given w.server.rows by new
   own_fit =
       let o = h.exchanges by in
       record {
@@ -103,7 +102,7 @@ module _ (greatest : ℕ) (w : World) (by : Session) (front back : List Answer) 
         released = o.released;
         kinds = o.kinds;
         pairs = o.pairs;
-        returns = subst (λ (d : Settled). ReturnsFit (sight_of w.counts w.server w.journal).given w.server.rows by e.client.view.leases d.leases) (sym settled_same) o.returns;
+        returns = subst (λ (d : Settled). ReturnsFit (sight_in w).given w.server.rows by e.client.view.leases d.leases) (sym settled_same) o.returns;
         renewals = λ ends end i. o.renewals ends end (subst (In (Renewed ends end)) (sym order) (same_answers front back a (Renewed ends end) i));
       }
 
@@ -114,8 +113,8 @@ module _ (greatest : ℕ) (w : World) (by : Session) (front back : List Answer) 
   reordered =
       let same : (λ x. settled_at x (with_ends by new w.ends x)) ≡ (λ x. settled_at x (w.ends x)) = fun_ext (each_end (λ x n. settled_at x n ≡ settled_at x (w.ends x)) by (λ z. new) w.ends (λ x t. subst (λ y. settled_at y new ≡ settled_at y (w.ends y)) (one_session by x t) settled_same) (λ x t. refl)) in
       record {
-        all = subst (λ (c : Session → Settled). AllHold w.server.skew greatest (sight_of w.counts w.server w.journal) w.replied c) (sym same) h.all;
+        all = subst (λ (c : Session → Settled). AllHold w.server.skew greatest (sight_in w) w.replied c) (sym same) h.all;
         clock = h.clock;
         clients = of_by (λ x n. ClientFits x n.client) (h.clients by) h.clients;
-        exchanges = of_by (λ x n. EndsFit w.server.skew greatest (sight_of w.counts w.server w.journal).given w.server.rows x n) own_fit h.exchanges;
+        exchanges = of_by (λ x n. EndsFit w.server.skew greatest (sight_in w).given w.server.rows x n) own_fit h.exchanges;
       }

@@ -1,5 +1,5 @@
 -- A client answers an operation, and its entry joins the log: the parts of its session.
-use Rattle.std.proofs.Common.{◌≡◌, ℕ, ◌+◌, ◌<◌, ◌≤◌, List, [], ◌∷◌, ◌++◌, map, refl, sym, ap, ◌∙◌, subst, inl, inr, append_assoc}
+use Rattle.std.proofs.Common.{◌≡◌, ℕ, ◌+◌, ◌<◌, ◌≤◌, List, [], ◌∷◌, ◌++◌, ◌⊎◌, map, refl, sym, ap, ◌∙◌, subst, inl, inr, append_assoc}
 use Rattle.std.specs.Prelude.{Some}
 use Rattle.std.proofs.lemmas.List.{map-append}
 use Rattle.fs_ident.specs.In.{In}
@@ -12,6 +12,7 @@ use Rattle.fs_msg.specs.declared.entry.Entry.{Entry}
 use Rattle.fs_msg.specs.declared.item.Item.{Item}
 use Rattle.fs_record.specs.ValueOf.{value_of}
 use Rattle.fs_server.specs.Ships.{item_of}
+use Rattle.fs_view.specs.Gone.{IsUnread}
 use Rattle.fs_view.specs.View.{value_after_log}
 use Rattle.fs_serial.specs.Leases.{IsBacked}
 use Rattle.fs_serial.specs.Numbers.{AreNumbered, all_items, items_by}
@@ -20,6 +21,7 @@ use Rattle.fs_serial.specs.Pending.{AllStand, Stands, IsAnswer, PendingStand, Ha
 use Rattle.fs_serial.specs.Settled.{Lease, Settled, effects_in}
 use Rattle.fs_serial.specs.Sight.{Sight}
 use Rattle.fs_serial.proofs.Facts.{each_more}
+use Rattle.fs_serial.proofs.Gone.{IsLost, MakeAnew, lost_after, lost_in, lost_unread}
 
 -- one entry more
 abbrev pub with_last : Entry → Settled → Settled
@@ -42,8 +44,8 @@ pub record IsOfLease (leases : List Lease) (u : Use) : Type 0 where
 pub record IsNext (by : Session) (d : Settled) (e : Entry) : Type 0 where
   pub number : e.n ≡ d.next
   pub of_lease : (u : Use) → In u e.uses → IsOfLease d.leases u
-  -- it is right wherever fields have the values that the leases of its uses tell
-  pub right : (values : Field → Value) → ((l : Lease) → In l d.leases → (u : Use) → In u e.uses → l.no ≡ u.no → values l.field ≡ value_seen by d l) → IsAnswer values e
+  -- it is right wherever fields have the values that the leases of its uses tell, but for what is of no matter
+  pub right : (values : Field → Value) → ((l : Lease) → In l d.leases → (u : Use) → In u e.uses → l.no ≡ u.no → IsUnread values l.field ⊎ (values l.field ≡ value_seen by d l)) → IsAnswer values e
   pub entry : IsEntry d.leases e
   pub once : (f : Entry) (id : List ℕ) → In f d.log → named_by f.op ≡ Some id → named_by e.op ≡ Some id → ⊥
 
@@ -57,9 +59,19 @@ end_seen : (by : Session) (es : List Entry) (v : Field → Value) (g : Field) �
 end_seen by [] v g = refl
 end_seen by (e ∷ es) v g = end_seen by es (values_after by e v) g
 
-stand_more : (rows : List Row) (by : Session) (v : Field → Value) (es : List Entry) (e : Entry) → PendingStand rows by v es → (AllStand rows by e.uses → IsAnswer (values_at_end by es v) e) → PendingStand rows by v (es ++ e ∷ [])
-stand_more rows by v [] e h last = λ stand. (last stand, tt)
-stand_more rows by v (x ∷ es) e h last = λ stand. let q = h stand in (q.0, stand_more rows by (values_after by x v) es e q.1 last)
+-- each entry answers by the values that those before it leave
+abbrev AreAnswers : Session → (Field → Value) → List Entry → Type 0
+AreAnswers by v [] = Unit {0}
+AreAnswers by v (e ∷ es) = IsAnswer v e × AreAnswers by (values_after by e v) es
+
+-- what is gone before is gone at the end
+lost_at_end : (by : Session) (journal : List Item) (es : List Entry) (v : Field → Value) → MakeAnew by journal es → AreAnswers by v es → (field : Field) → IsLost journal v field → IsLost journal (values_at_end by es v) field
+lost_at_end by journal [] v anew a field h = h
+lost_at_end by journal (e ∷ es) v anew a field h = lost_at_end by journal es (values_after by e v) (λ x i. anew x (inr i)) a.1 field (lost_after by journal v e a.0 (anew e (inl refl)) field h)
+
+stand_more : (rows : List Row) (by : Session) (v : Field → Value) (es : List Entry) (e : Entry) → PendingStand rows by v es → (AreAnswers by v es → AllStand rows by e.uses → IsAnswer (values_at_end by es v) e) → PendingStand rows by v (es ++ e ∷ [])
+stand_more rows by v [] e h last = λ stand. (last tt stand, tt)
+stand_more rows by v (x ∷ es) e h last = λ stand. let q = h stand in (q.0, stand_more rows by (values_after by x v) es e q.1 (λ a s. last (q.0, a) s))
 
 -- ## Numbers and names
 
@@ -77,20 +89,23 @@ once_more (x ∷ es) e h new = (
 module _ (skew greatest : ℕ) (s : Sight) (by : Session) (replied : List Item) (d : Settled) (e : Entry) (n : IsNext by d e)
     (h : SessionHolds skew greatest s by replied d) (f : SessionFits skew greatest s by d) where
   -- where the rows of its leases stand, they tell the values at the end of the log
-  right : AllStand s.rows by e.uses → IsAnswer (values_at_end by d.log (value_of s.records by)) e
-  right stand = n.right (values_at_end by d.log (value_of s.records by)) (λ l held u i same.
+  right : MakeAnew by s.journal d.log → AreAnswers by (value_of s.records by) d.log → AllStand s.rows by e.uses → IsAnswer (values_at_end by d.log (value_of s.records by)) e
+  right anew answers stand = n.right (values_at_end by d.log (value_of s.records by)) (λ l held u i same.
       let r : Stands s.rows by u = stand u i in
-      end_seen by d.log (value_of s.records by) l.field
-      ∙ ap (λ v. value_after_log by l.field v (map (effects_in by) d.log)) (sym (h.telling l held r.row r.stands (r.number ∙ sym same))))
+      elim (h.telling l held r.row r.stands (r.number ∙ sym same)) as (λ _. IsUnread (values_at_end by d.log (value_of s.records by)) l.field ⊎ (values_at_end by d.log (value_of s.records by) l.field ≡ value_seen by d l)) [
+        | inl gone ↦ inl (lost_unread s.journal (values_at_end by d.log (value_of s.records by)) l.field
+            (lost_at_end by s.journal d.log (value_of s.records by) anew answers l.field (lost_in s.records by s.journal l.field gone)))
+        | inr told ↦ inr (end_seen by d.log (value_of s.records by) l.field ∙ ap (λ v. value_after_log by l.field v (map (effects_in by) d.log)) (sym told))
+      ])
 
   more_items : all_items by s.journal (d.log ++ e ∷ []) ≡ all_items by s.journal d.log ++ item_of by e ∷ []
   more_items = ap (λ is. items_by by s.journal ++ is) (map-append (item_of by) d.log (e ∷ [])) ∙ sym (append_assoc (items_by by s.journal) (map (item_of by) d.log) (item_of by e ∷ []))
 
-  pub reply_holds : SessionHolds skew greatest s by (replied ++ item_of by e ∷ []) (with_last e d)
-  reply_holds = record {
+  pub reply_holds : MakeAnew by s.journal d.log → SessionHolds skew greatest s by (replied ++ item_of by e ∷ []) (with_last e d)
+  reply_holds anew = record {
     backed = h.backed;
     telling = h.telling;
-    pending = stand_more s.rows by (value_of s.records by) d.log e h.pending right;
+    pending = stand_more s.rows by (value_of s.records by) d.log e h.pending (right anew);
     numbers = subst (λ is. AreNumbered 1 is (d.next + 1)) (sym more_items) (number_more 1 (all_items by s.journal d.log) d.next (item_of by e) h.numbers n.number);
     replies = more_items ∙ ap (λ is. is ++ item_of by e ∷ []) h.replies;
   }

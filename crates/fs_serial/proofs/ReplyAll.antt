@@ -26,6 +26,7 @@ use Rattle.fs_serial.specs.Settled.{Settled, lease_in, lease_with, settled, sett
 use Rattle.fs_serial.specs.Sight.{Sight}
 use Rattle.fs_serial.specs.Steps.{IsReplied}
 use Rattle.fs_serial.specs.Pending.{HasLease}
+use Rattle.fs_serial.proofs.Gone.{MakeAnew, all_anew}
 use Rattle.fs_serial.proofs.Knowing.{In-filter_map, IsUseOf, use_from}
 use Rattle.fs_serial.proofs.Reply.{with_last, reply_holds, reply_fits}
 use Rattle.fs_serial.proofs.ReplyNext.{next}
@@ -73,7 +74,8 @@ reply_kept skew greatest s replied clients by c down o r h f is a =
     let holds = subst (λ d. SessionHolds skew greatest s by (replied by) d) is (h.sessions by) in
     let fits = subst (λ d. SessionFits skew greatest s by d) is (h.fitting by) in
     let n = next by c down o r a.plain a.asked a.reply f fits.fresh fits.entries in
+    let anew : MakeAnew by s.journal d.log = subst (λ (x : Settled). MakeAnew by s.journal x.log) is (all_anew skew greatest s replied clients h by) in
     subst (λ x. AllHold skew greatest s (with_replies by (replied by ++ item_of by e ∷ []) replied) (with_client by x clients)) (sym (replied_settled by c down o r a f))
     (client_changes skew greatest s replied clients by (replied by ++ item_of by e ∷ []) (with_last e d) h
-    (reply_holds skew greatest s by (replied by) d e n holds fits) (reply_fits skew greatest s by (replied by) d e n holds fits)
+    (reply_holds skew greatest s by (replied by) d e n holds fits anew) (reply_fits skew greatest s by (replied by) d e n holds fits)
     (λ n i r. subst (λ (x : Settled). Reserves x.leases n i) (sym is) r))

@@ -15,6 +15,7 @@ use Rattle.fs_field.specs.declared.asked.Need.TheVariants as need
 use Rattle.fs_field.specs.declared.effect.Effect.{Effect}
 use Rattle.fs_field.specs.declared.field.Field.{Field}
 use Rattle.fs_field.specs.declared.field.Field.TheVariants.{Life}
+use Rattle.fs_field.specs.declared.lease_kind.LeaseKind.{LeaseKind}
 use Rattle.fs_field.specs.declared.lease_kind.LeaseKind.TheVariants.{Exclusive}
 use Rattle.fs_field.specs.declared.used.Use.{Use}
 use Rattle.fs_field.specs.declared.value.Value.{Value}
@@ -37,16 +38,16 @@ use Rattle.fs_client.specs.declared.state.Client.{Client}
 use Rattle.fs_view.specs.declared.kept.Kept.{Kept}
 use Rattle.fs_view.specs.declared.kept.Standing.{Standing}
 use Rattle.fs_view.specs.declared.kept.Standing.TheVariants.{Held, Pinned, Leaving}
+use Rattle.fs_view.specs.Gone.{IsUnread, known_with}
 use Rattle.fs_view.specs.Kept.{lease_of, use_of, is_enough, file_in, makes, is_pending, is_unused_in}
-use Rattle.fs_view.specs.Laws.{HasToo}
 use Rattle.fs_view.specs.Script.{script_of}
 use Rattle.fs_view.specs.View.{View, known_by, given_by, fresh, item_use, walk_in, reply_in, value_after_log}
 use Rattle.fs_view.specs.Walk.{walk, always}
-use Rattle.fs_view.proofs.Walks.{alike}
+use Rattle.fs_view.proofs.Unread.{alike_but_gone}
 use Rattle.fs_serial.specs.Client.{ClientFits}
 use Rattle.fs_serial.specs.Fresh.{made_by, or_else}
 use Rattle.fs_serial.specs.Leases.{IsFresh, FreshLeases}
-use Rattle.fs_serial.specs.Pending.{known_with, IsAnswer, AreEntries, NamesItsFile, UsesAtHome, named_by}
+use Rattle.fs_serial.specs.Pending.{IsAnswer, AreEntries, NamesItsFile, UsesAtHome, named_by}
 use Rattle.fs_serial.specs.Settled.{Lease, Settled, lease_in, lease_with, settled_now, settled, effects_in}
 use Rattle.fs_serial.specs.World.{is_called}
 use Rattle.fs_serial.proofs.Births.{life_after, makes_there}
@@ -191,27 +192,34 @@ module _ (by : Session) (c : Client) (answers : List Answer) (o : Op) (r : Reply
 
   -- ### The answer
 
-  module _ (values : Field → Value) (agree : (l : Lease) → In l d.leases → (u : Use) → In u e.uses → l.no ≡ u.no → values l.field ≡ value_seen by d l) where
-    has_too : (n : Need) → In n (walk_in v c.last o).items → HasToo (known_by v c.last) (known_with values) always n
-    has_too (need.Lease field kind) i =
+  module _ (values : Field → Value) (agree : (l : Lease) → In l d.leases → (u : Use) → In u e.uses → l.no ≡ u.no → IsUnread values l.field ⊎ (values l.field ≡ value_seen by d l)) where
+    has_too : (field : Field) (kind : LeaseKind) → In (need.Lease field kind) (walk_in v c.last o).items → IsUnread values field ⊎ (Some (values field) ≡ known_by v c.last field kind)
+    has_too field kind i =
         let k : IsKnown v c.last field kind = known_by_lease v c.last field kind (all_there (known_by v c.last) (given_by v c.last) (script_of o) there (need.Lease field kind) i) in
         let l : Term = k.serving.lease in
         let p : Later by (settled_now c) d (lease_with k.kept l) = kept_later k.kept l k.among k.serving.is in
-        let same : values p.lease.field ≡ value_seen by d p.lease = agree p.lease p.held (use_of l) (used_there v c.last o (need.Lease field kind) (use_of l) i k.used) p.number in
-        ap Some (ap values (sym k.serving.on ∙ sym p.field) ∙ same ∙ p.seen ∙ ap (λ g. value_after_log by g k.kept.base (map (effects_in by) c.log)) k.serving.on)
-        ∙ ap (λ log. Some (value_after_log by field k.kept.base log)) (sym cf.pending)
-        ∙ ap (λ s. Some (value_after_log s field k.kept.base v.pending)) (sym cf.viewed)
-        ∙ sym k.value
-    has_too (need.Fresh dir) i = refl
+        elim (agree p.lease p.held (use_of l) (used_there v c.last o (need.Lease field kind) (use_of l) i k.used) p.number) as (λ _. IsUnread values field ⊎ (Some (values field) ≡ known_by v c.last field kind)) [
+          | inl gone ↦ inl (subst (IsUnread values) (p.field ∙ k.serving.on) gone)
+          | inr same ↦ inr (
+              ap Some (ap values (sym k.serving.on ∙ sym p.field) ∙ same ∙ p.seen ∙ ap (λ g. value_after_log by g k.kept.base (map (effects_in by) c.log)) k.serving.on)
+              ∙ ap (λ log. Some (value_after_log by field k.kept.base log)) (sym cf.pending)
+              ∙ ap (λ s. Some (value_after_log s field k.kept.base v.pending)) (sym cf.viewed)
+              ∙ sym k.value)
+        ]
 
     walked : walk (known_with values) always o ≡ walk_in v c.last o
-    walked = alike (known_by v c.last) (known_with values) (given_by v c.last) always (script_of o) there has_too
+    walked = alike_but_gone (known_by v c.last) (given_by v c.last) values o there has_too
 
     covers : Covers e.uses (walk (known_with values) always o).items
     covers field kind i =
         let j = subst (λ w. In (need.Lease field kind) w.items) walked i in
         let k : IsKnown v c.last field kind = known_by_lease v c.last field kind (all_there (known_by v c.last) (given_by v c.last) (script_of o) there (need.Lease field kind) j) in
         record { used = use_of k.serving.lease; among = used_there v c.last o (need.Lease field kind) (use_of k.serving.lease) j k.used; field = k.serving.on; enough = k.serving.enough }
+
+    -- the life of a file is of matter
+    told_there : (l : Lease) (id : List ℕ) → l.field ≡ Life id → IsUnread values l.field ⊎ (values l.field ≡ value_seen by d l) → values l.field ≡ value_seen by d l
+    told_there l id on (inl gone) = absurd (subst (IsUnread values) on gone)
+    told_there l id on (inr same) = same
 
     given_for : (dir : List ℕ) → In (need.Fresh dir) (walk (known_with values) always o).items → IsGivenFor values e.uses v c.last dir
     given_for dir i =
@@ -220,7 +228,7 @@ module _ (by : Session) (c : Client) (answers : List Answer) (o : Op) (r : Reply
           id = q.id;
           offered = q.offered;
           unborn =
-              ap values (sym q.field) ∙ agree q.lease q.held q.used q.among q.number
+              ap values (sym q.field) ∙ told_there q.lease q.id q.field (agree q.lease q.held q.used q.among q.number)
               ∙ ap (λ g. value_after_log by g q.lease.base (map (effects_in by) d.log)) q.field
               ∙ ap (λ b. value_after_log by (Life q.id) b (map (effects_in by) d.log)) q.base
               ∙ stays_unborn by d.log q.id q.unmade_later;

@@ -28,6 +28,7 @@ use Rattle.fs_serial.specs.Settled.{Settled, settled_now}
 use Rattle.fs_serial.specs.Sight.{Sight}
 use Rattle.fs_serial.specs.Steps.{IsReplied}
 use Rattle.fs_serial.proofs.Carried.{GoesOnAs, exchange_still}
+use Rattle.fs_serial.proofs.Gone.{MakeAnew}
 use Rattle.fs_serial.proofs.Reply.{with_last, reply_holds, reply_fits}
 use Rattle.fs_serial.proofs.ReplyAll.{replied_client, replied_settled}
 use Rattle.fs_serial.proofs.ReplyNext.{next}
@@ -49,7 +50,7 @@ pinned_after (u ∷ us) ks k i =
     let q = pinned_after us (pinned_at u.no ks) (with_pin u.no k) (In-mapped (with_pin u.no) k ks i) in
     (q.0, q.1, q.2 ∙ one_keeps number_of pinned pinned_number u.no k, q.3 ∙ one_keeps is_leaving pinned pin_leaving u.no k)
 
-module _ (skew greatest : ℕ) (s : Sight) (by : Session) (replied : List Item) (c : Client) (up : List ClientMsg) (down : List Answer) (o : Op) (r : Reply) (h : Seat skew greatest s by replied c up down) (a : IsReplied c down o r) where
+module _ (skew greatest : ℕ) (s : Sight) (by : Session) (replied : List Item) (c : Client) (up : List ClientMsg) (down : List Answer) (o : Op) (r : Reply) (h : Seat skew greatest s by replied c up down) (anew : MakeAnew by s.journal (seen_at by c down).log) (a : IsReplied c down o r) where
   abbrev e : Entry
   e = entry_of o r c
 
@@ -78,7 +79,7 @@ module _ (skew greatest : ℕ) (s : Sight) (by : Session) (replied : List Item) 
   seat_reply =
       let n = next by c down o r a.plain a.asked a.reply h.client h.fits.fresh h.fits.entries in
       record {
-        holds = subst (SessionHolds skew greatest s by (replied ++ item_of by e ∷ [])) (sym seen) (reply_holds skew greatest s by replied d e n h.holds h.fits);
+        holds = subst (SessionHolds skew greatest s by (replied ++ item_of by e ∷ [])) (sym seen) (reply_holds skew greatest s by replied d e n h.holds h.fits anew);
         fits = subst (SessionFits skew greatest s by) (sym seen) (reply_fits skew greatest s by replied d e n h.holds h.fits);
         client = replied_client by c down o r a h.client;
         exchange = subst (ExchangeFits skew greatest s.given s.rows by then up down (settled_now then)) (sym seen)

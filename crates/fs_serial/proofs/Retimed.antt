@@ -1,5 +1,5 @@
 -- A lease of a client has another end.
-use Rattle.std.proofs.Common.{◌≡◌, ℕ, ◌+◌, ◌<◌, Bool, true, false, List, map, refl, sym, ap, ◌∙◌, subst, cond}
+use Rattle.std.proofs.Common.{◌≡◌, ℕ, ◌+◌, ◌<◌, Bool, true, false, List, ◌⊎◌, map, refl, sym, ap, ◌∙◌, subst, inl, inr, cond}
 use Rattle.std.specs.Prelude.{Some, None}
 use Rattle.fs_ident.specs.In.{In}
 use Rattle.fs_ident.specs.declared.actor.LeaseNo.{LeaseNo}
@@ -15,6 +15,7 @@ use Rattle.fs_model.specs.declared.reply.Reply.{Reply}
 use Rattle.fs_model.specs.declared.reply.Reply.TheVariants as reply
 use Rattle.fs_msg.specs.declared.item.Item.{Item}
 use Rattle.fs_record.specs.ValueOf.{value_of}
+use Rattle.fs_serial.specs.Gone.{IsOfGone}
 use Rattle.fs_serial.specs.Leases.{IsBacked, IsRowOf, IsFresh}
 use Rattle.fs_serial.specs.Parts.{SessionHolds, SessionFits}
 use Rattle.fs_serial.specs.Pending.{HasLease, UsesHeld, IsEntry, NamesItsFile, HasReserved}
@@ -65,7 +66,11 @@ module _ (skew greatest : ℕ) (s : Sight) (by : Session) (replied : List Item) 
     backed = each_image (retimed n until) (λ l. greatest < l.until + skew → IsBacked s.rows l.no l.until) d.leases (λ l i.
         subst (λ m. greatest < (retimed n until l).until + skew → IsBacked s.rows m (retimed n until l).until) (sym (no_same l))
         (ends_at n until l (λ u. greatest < u + skew → IsBacked s.rows l.no u) (λ e live. subst (λ m. IsBacked s.rows m until) (sym e) (backs l i e live)) (h.backed l i)));
-    telling = each_image (retimed n until) (λ l. (r : Row) → In r s.rows → r.no ≡ l.no → l.base ≡ value_of s.records by l.field) d.leases (λ l i r j e. base_same l ∙ h.telling l i r j (e ∙ no_same l) ∙ ap (value_of s.records by) (sym (field_same l)));
+    telling = each_image (retimed n until) (λ l. (r : Row) → In r s.rows → r.no ≡ l.no → IsOfGone s.records s.journal l.field ⊎ (l.base ≡ value_of s.records by l.field)) d.leases
+        (λ l i r j e. elim (h.telling l i r j (e ∙ no_same l)) as (λ _. IsOfGone s.records s.journal (retimed n until l).field ⊎ ((retimed n until l).base ≡ value_of s.records by (retimed n until l).field)) [
+          | inl gone ↦ inl (subst (IsOfGone s.records s.journal) (sym (field_same l)) gone)
+          | inr same ↦ inr (base_same l ∙ same ∙ ap (value_of s.records by) (sym (field_same l)))
+        ]);
     pending = h.pending;
     numbers = h.numbers;
     replies = h.replies;

@@ -8,8 +8,8 @@ use Rattle.fs_msg.specs.declared.item.Item.{Item}
 use Rattle.fs_server.specs.declared.state.Server.{Server}
 use Rattle.fs_serial.specs.Parts.{AllHold, SessionHolds, SessionFits}
 use Rattle.fs_serial.specs.Settled.{Settled}
-use Rattle.fs_serial.specs.Sight.{Counts, Sight, sight_of}
-use Rattle.fs_serial.specs.World.{World, WorldHolds, settled_at}
+use Rattle.fs_serial.specs.Sight.{Counts, Sight, seen, sight_of}
+use Rattle.fs_serial.specs.World.{World, WorldHolds, settled_at, sight_in}
 use Rattle.fs_serial.proofs.Counting.{given_by}
 use Rattle.fs_serial.proofs.Going.{goes_still}
 use Rattle.fs_serial.proofs.Older.{IsLater, later_among, stood_here}
@@ -45,10 +45,10 @@ module _ (skew greatest later : ℕ) (rises : greatest ≤ later) where
 
 pub world_later : (greatest later : ℕ) (w : World) → greatest ≤ later → WorldHolds greatest w → WorldHolds later w
 world_later greatest later w rises h = record {
-  all = all_later w.server.skew greatest later rises (sight_of w.counts w.server w.journal) w.replied (λ x. settled_at x (w.ends x)) h.all;
+  all = all_later w.server.skew greatest later rises (sight_in w) w.replied (λ x. settled_at x (w.ends x)) h.all;
   clock = let c = h.clock in omega arith;
   clients = h.clients;
-  exchanges = λ x. fit_still w.server.skew greatest later (sight_of w.counts w.server w.journal).given (sight_of w.counts w.server w.journal).given w.server.rows w.server.rows x (w.ends x) (h.exchanges x).pairs (h.exchanges x).returns
+  exchanges = λ x. fit_still w.server.skew greatest later (sight_in w).given (sight_in w).given w.server.rows w.server.rows x (w.ends x) (h.exchanges x).pairs (h.exchanges x).returns
       (λ ends e i n until j l k q late. (h.exchanges x).renewals ends e i n until j l k q (omega arith)) (h.exchanges x);
 }
 
@@ -62,8 +62,8 @@ pub lapse_some_keeps : (greatest : ℕ) (w : World) (keep : Row → Bool) → ((
 lapse_some_keeps greatest w keep over h =
     let t : Server = record w.server { rows = filter keep w.server.rows } in
     world_still greatest w t w.journal refl h.clock (later_kept w.counts w.server keep)
-    (goes_still w.server.skew greatest (sight_of w.counts w.server w.journal) (sight_of w.counts t w.journal) w.replied w.ends (λ x. settled_at x (w.ends x))
-    (rows_lapse greatest w.counts w.server w.journal (λ x. settled_at x (w.ends x)) keep over) (goes_of greatest w h)) h
+    (goes_still w.server.skew greatest (sight_in w) (sight_of w.counts (seen w.decided t) w.journal) w.replied w.ends (λ x. settled_at x (w.ends x))
+    (rows_lapse greatest w.counts (seen w.decided w.server) w.journal (λ x. settled_at x (w.ends x)) keep over) (goes_of greatest w h)) h
 
 -- the server's last reading is another, no greater than the greatest
 pub last_rises : (greatest last : ℕ) (w : World) → last ≤ greatest → WorldHolds greatest w → WorldHolds greatest (record w { server = record w.server { last = last } })

@@ -1,5 +1,5 @@
 -- One session: its client, and what is on its way between it and the server.
-use Rattle.std.proofs.Common.{◌≡◌, ℕ, ◌+◌, ◌≤◌, true, List, [], ◌∷◌, length, refl, ap, ◌∙◌, inl, inr, arith}
+use Rattle.std.proofs.Common.{◌≡◌, ℕ, ◌+◌, ◌≤◌, true, List, [], ◌∷◌, length, take, refl, ap, ◌∙◌, inl, inr, arith}
 use Rattle.std.specs.Prelude.{◌==◌, ◌&&◌, Option, Some, None, nat_le}
 use Rattle.std.proofs.lemmas.Bool.Decides.{nat_tests}
 use Rattle.fs_ident.specs.declared.actor.Session.{Session}
@@ -64,7 +64,7 @@ at_most a b h = grind (arith, nat_tests)
 
 few_by : (c : Client) (from : ℕ) (x : Exchange) (a : Answer) → answer_fits from x a c ≡ true → ShipsLog (Some x) c.log → admitted_in (a ∷ []) ≤ length c.log
 few_by c from (Ships to sent) (Shipped count end) h n =
-    let le : nat_le count sent ≡ true = first (nat_le count sent) (refusal_fits end count c.log) (second (to == from) (nat_le count sent && refusal_fits end count c.log) h) in
+    let le : nat_le count sent ≡ true = first (nat_le count sent) (refusal_fits end count (take sent c.log)) (second (to == from) (nat_le count sent && refusal_fits end count (take sent c.log)) h) in
     let p : count ≤ sent = at_most count sent le in omega arith
 few_by c from (Asks to items fresh) (Granted grants given end) h n = omega arith
 few_by c from (Renews to numbers) (Renewed rows end) h n = omega arith

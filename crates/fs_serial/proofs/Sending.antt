@@ -10,6 +10,7 @@ use Rattle.fs_ident.specs.declared.actor.Peer.{Peer}
 use Rattle.fs_ident.specs.declared.actor.Session.{Session}
 use Rattle.fs_ident.proofs.Standing.{In-map, In-append}
 use Rattle.fs_ident.proofs.Same.{one_session}
+use Rattle.fs_field.specs.declared.effect.Effect.{Effect}
 use Rattle.fs_field.specs.declared.row.Row.{Row}
 use Rattle.fs_field.specs.Table.{has_no}
 use Rattle.fs_msg.specs.declared.answer.Answer.{Answer}
@@ -32,8 +33,8 @@ use Rattle.fs_serial.specs.Exchange.{due, is_recall, ExchangeFits, IsQuestion, O
 use Rattle.fs_serial.specs.Leases.{IsBacked}
 use Rattle.fs_serial.specs.Parts.{AllHold, with_client}
 use Rattle.fs_serial.specs.Settled.{Settled, settled, settled_now, told}
-use Rattle.fs_serial.specs.Sight.{sight_of}
-use Rattle.fs_serial.specs.World.{Ends, GoesOn, World, WorldHolds, settled_at, with_answer, with_sent, without_question}
+use Rattle.fs_serial.specs.Sight.{Counts, seen, sight_of}
+use Rattle.fs_serial.specs.World.{Ends, GoesOn, World, WorldHolds, settled_at, sight_in, with_answer, with_sent, without_question}
 use Rattle.fs_serial.proofs.Older.{IsLater, later_pairs}
 use Rattle.fs_serial.proofs.Settling.{later}
 use Rattle.fs_serial.proofs.Together.{its_client, other_client}
@@ -63,7 +64,7 @@ each_end P to f ends own others x = elim (to.0 == x.0) as (λ b. (to.0 == x.0) �
 
 -- ## What holds between events holds while one goes on
 
-pub goes_of : (greatest : ℕ) (w : World) → WorldHolds greatest w → GoesOn w.server.skew greatest (sight_of w.counts w.server w.journal) w.replied w.ends (λ x. settled_at x (w.ends x))
+pub goes_of : (greatest : ℕ) (w : World) → WorldHolds greatest w → GoesOn w.server.skew greatest (sight_in w) w.replied w.ends (λ x. settled_at x (w.ends x))
 goes_of greatest w h = record {
   all = h.all;
   carried = record {
@@ -72,6 +73,13 @@ goes_of greatest w h = record {
     later = λ x l i. let q = later x (w.ends x).down (settled_now (w.ends x).client) l i in record { lease = q.lease; held = q.held; number = q.number };
   };
 }
+
+-- where nothing is decided that is not applied, sessions see what stands at the server
+pub goes_bare : (o : Counts) (decided : List Effect) (skew greatest : ℕ) (s : Server) (journal : List Item) (replied : Session → List Item) (ends : Session → Ends) (clients : Session → Settled) → decided ≡ [] → GoesOn skew greatest (sight_of o (seen decided s) journal) replied ends clients → GoesOn skew greatest (sight_of o s journal) replied ends clients
+goes_bare o decided skew greatest s journal replied ends clients none h = subst (λ es. GoesOn skew greatest (sight_of o (seen es s) journal) replied ends clients) none h
+
+pub goes_seen : (o : Counts) (decided : List Effect) (skew greatest : ℕ) (s : Server) (journal : List Item) (replied : Session → List Item) (ends : Session → Ends) (clients : Session → Settled) → decided ≡ [] → GoesOn skew greatest (sight_of o s journal) replied ends clients → GoesOn skew greatest (sight_of o (seen decided s) journal) replied ends clients
+goes_seen o decided skew greatest s journal replied ends clients none h = subst (λ es. GoesOn skew greatest (sight_of o (seen es s) journal) replied ends clients) (sym none) h
 
 -- the ends stay, and only what stands at the server has changed
 pub fit_still : (skew greatest later_greatest : ℕ) (given then : ℕ → ℕ) (rows new : List Row) (x : Session) (e : Ends) → PairsFit then new e.up → ReturnsFit then new x e.client.view.leases (settled_at x e).leases → RenewalsBacked skew later_greatest new e.down (settled_now e.client).leases
@@ -88,14 +96,14 @@ fit_still skew greatest later_greatest given then rows new x e pairs returns ren
 }
 
 -- the server changed, and nothing is on its way
-pub world_still : (greatest : ℕ) (w : World) (t : Server) (journal : List Item) → t.skew ≡ w.server.skew → t.last ≤ greatest → IsLater (sight_of w.counts w.server w.journal).given (sight_of w.counts t journal).given w.server.rows t.rows → GoesOn w.server.skew greatest (sight_of w.counts t journal) w.replied w.ends (λ x. settled_at x (w.ends x)) → WorldHolds greatest w
-    → WorldHolds greatest (record { server = t; counts = w.counts; journal = journal; replied = w.replied; ends = w.ends })
+pub world_still : (greatest : ℕ) (w : World) (t : Server) (journal : List Item) → t.skew ≡ w.server.skew → t.last ≤ greatest → IsLater (sight_in w).given (sight_of w.counts (seen w.decided t) journal).given w.server.rows t.rows → GoesOn w.server.skew greatest (sight_of w.counts (seen w.decided t) journal) w.replied w.ends (λ x. settled_at x (w.ends x)) → WorldHolds greatest w
+    → WorldHolds greatest (record { server = t; counts = w.counts; decided = w.decided; journal = journal; replied = w.replied; ends = w.ends })
 world_still greatest w t journal skew clock later goes h = record {
-  all = subst (λ k. AllHold k greatest (sight_of w.counts t journal) w.replied (λ x. settled_at x (w.ends x))) (sym skew) goes.all;
+  all = subst (λ k. AllHold k greatest (sight_of w.counts (seen w.decided t) journal) w.replied (λ x. settled_at x (w.ends x))) (sym skew) goes.all;
   clock = clock;
   clients = h.clients;
-  exchanges = λ x. subst (λ k. EndsFit k greatest (sight_of w.counts t journal).given t.rows x (w.ends x)) (sym skew)
-      (fit_still w.server.skew greatest greatest (sight_of w.counts w.server w.journal).given (sight_of w.counts t journal).given w.server.rows t.rows x (w.ends x) (later_pairs (sight_of w.counts w.server w.journal).given (sight_of w.counts t journal).given w.server.rows t.rows later (w.ends x).up (h.exchanges x).pairs) (goes.carried.returns x) (goes.carried.renewals x) (h.exchanges x));
+  exchanges = λ x. subst (λ k. EndsFit k greatest (sight_of w.counts (seen w.decided t) journal).given t.rows x (w.ends x)) (sym skew)
+      (fit_still w.server.skew greatest greatest (sight_in w).given (sight_of w.counts (seen w.decided t) journal).given w.server.rows t.rows x (w.ends x) (later_pairs (sight_in w).given (sight_of w.counts (seen w.decided t) journal).given w.server.rows t.rows later (w.ends x).up (h.exchanges x).pairs) (goes.carried.returns x) (goes.carried.renewals x) (h.exchanges x));
 }
 
 -- ## A lease is asked back
@@ -126,15 +134,15 @@ fit_recalled skew greatest given rows x n e h = record {
   ];
 }
 
-pub world_recalled : (greatest : ℕ) (w : World) (to : Session) (n : LeaseNo) → WorldHolds greatest w → WorldHolds greatest (record { server = w.server; counts = w.counts; journal = w.journal; replied = w.replied; ends = with_answer to (Recall n) w.ends })
+pub world_recalled : (greatest : ℕ) (w : World) (to : Session) (n : LeaseNo) → WorldHolds greatest w → WorldHolds greatest (record { server = w.server; counts = w.counts; decided = w.decided; journal = w.journal; replied = w.replied; ends = with_answer to (Recall n) w.ends })
 world_recalled greatest w to n h =
     let same : (λ x. settled_at x (with_answer to (Recall n) w.ends x)) ≡ (λ x. settled_at x (w.ends x)) = fun_ext (each_end (λ x e. settled_at x e ≡ settled_at x (w.ends x)) to (recalled n) w.ends (λ x t. settled_recalled x n (w.ends x)) (λ x t. refl)) in
     record {
-      all = subst (λ (c : Session → Settled). AllHold w.server.skew greatest (sight_of w.counts w.server w.journal) w.replied c) (sym same) h.all;
+      all = subst (λ (c : Session → Settled). AllHold w.server.skew greatest (sight_in w) w.replied c) (sym same) h.all;
       clock = h.clock;
       clients = each_end (λ x e. ClientFits x e.client) to (recalled n) w.ends (λ x t. h.clients x) (λ x t. h.clients x);
-      exchanges = each_end (λ x e. EndsFit w.server.skew greatest (sight_of w.counts w.server w.journal).given w.server.rows x e) to (recalled n) w.ends
-          (λ x t. fit_recalled w.server.skew greatest (sight_of w.counts w.server w.journal).given w.server.rows x n (w.ends x) (h.exchanges x))
+      exchanges = each_end (λ x e. EndsFit w.server.skew greatest (sight_in w).given w.server.rows x e) to (recalled n) w.ends
+          (λ x t. fit_recalled w.server.skew greatest (sight_in w).given w.server.rows x n (w.ends x) (h.exchanges x))
           (λ x t. h.exchanges x);
     }
 
@@ -159,12 +167,12 @@ recall_each rows (n ∷ ns) m i = elim (In-append m (recall_of n (find (has_no n
 pub recall_all : (leases : List (LeaseNo × Session)) (m : Peer × Msg) → In m (recalls_of leases) → IsRecallTo m
 recall_all leases m i = let q = In-map (λ (x : LeaseNo × Session). to_session x.1 (Recall x.0)) m leases i in record { to = q.0.1; number = q.0.0; message = q.1.1 }
 
-pub world_all_recalled : (greatest : ℕ) (w : World) (messages : List (Peer × Msg)) → ((m : Peer × Msg) → In m messages → IsRecallTo m) → WorldHolds greatest w → WorldHolds greatest (record { server = w.server; counts = w.counts; journal = w.journal; replied = w.replied; ends = with_sent messages w.ends })
+pub world_all_recalled : (greatest : ℕ) (w : World) (messages : List (Peer × Msg)) → ((m : Peer × Msg) → In m messages → IsRecallTo m) → WorldHolds greatest w → WorldHolds greatest (record { server = w.server; counts = w.counts; decided = w.decided; journal = w.journal; replied = w.replied; ends = with_sent messages w.ends })
 world_all_recalled greatest w [] are h = h
 world_all_recalled greatest w (m ∷ rest) are h =
     let q = are m (inl refl) in
-    subst (λ (k : Peer × Msg). WorldHolds greatest (record { server = w.server; counts = w.counts; journal = w.journal; replied = w.replied; ends = with_sent (k ∷ rest) w.ends })) (sym q.message)
-    (world_all_recalled greatest (record { server = w.server; counts = w.counts; journal = w.journal; replied = w.replied; ends = with_answer q.to (Recall q.number) w.ends }) rest (λ k i. are k (inr i)) (world_recalled greatest w q.to q.number h))
+    subst (λ (k : Peer × Msg). WorldHolds greatest (record { server = w.server; counts = w.counts; decided = w.decided; journal = w.journal; replied = w.replied; ends = with_sent (k ∷ rest) w.ends })) (sym q.message)
+    (world_all_recalled greatest (record { server = w.server; counts = w.counts; decided = w.decided; journal = w.journal; replied = w.replied; ends = with_answer q.to (Recall q.number) w.ends }) rest (λ k i. are k (inr i)) (world_recalled greatest w q.to q.number h))
 
 -- ## A question is answered
 
@@ -202,8 +210,8 @@ module _ (greatest : ℕ) (w : World) (t : Server) (journal : List Item) (by : S
       (λ x q. settled-push x (w.ends x).down a (settled_now (w.ends x).client) ∙ subst (λ y. told y a (base y) ≡ with_client by (told by a (base by)) base y) (one_session by x q) (sym (its_client by (told by a (base by)) base)))
       (λ x q. sym (other_client by x (told by a (base by)) base q)))
 
-  module _ (skew : t.skew ≡ w.server.skew) (clock : t.last ≤ greatest) (later_then : IsLater (sight_of w.counts w.server w.journal).given (sight_of w.counts t journal).given w.server.rows t.rows) (goes : GoesOn w.server.skew greatest (sight_of w.counts t journal) w.replied w.ends (with_client by (told by a (base by)) base)) (answers : is_recall a ≡ false) (fits : (x : Exchange) → (w.ends by).client.exchange ≡ Some x → IsQuestion x m → answer_fits (server_of_question x) x a (w.ends by).client ≡ true) (renewals : (ends : List (LeaseNo × Option ℕ)) (e : End) → a ≡ Renewed ends e → (n : LeaseNo) (until : ℕ) → In (n, Some until) ends → IsBacked t.rows n until) where
-    own_fit : EndsFit w.server.skew greatest (sight_of w.counts t journal).given t.rows by (taken a (w.ends by))
+  module _ (skew : t.skew ≡ w.server.skew) (clock : t.last ≤ greatest) (later_then : IsLater (sight_in w).given (sight_of w.counts (seen w.decided t) journal).given w.server.rows t.rows) (goes : GoesOn w.server.skew greatest (sight_of w.counts (seen w.decided t) journal) w.replied w.ends (with_client by (told by a (base by)) base)) (answers : is_recall a ≡ false) (fits : (x : Exchange) → (w.ends by).client.exchange ≡ Some x → IsQuestion x m → answer_fits (server_of_question x) x a (w.ends by).client ≡ true) (renewals : (ends : List (LeaseNo × Option ℕ)) (e : End) → a ≡ Renewed ends e → (n : LeaseNo) (until : ℕ) → In (n, Some until) ends → IsBacked t.rows n until) where
+    own_fit : EndsFit w.server.skew greatest (sight_of w.counts (seen w.decided t) journal).given t.rows by (taken a (w.ends by))
     own_fit =
         let e = w.ends by in
         let o = h.exchanges by in
@@ -219,27 +227,27 @@ module _ (greatest : ℕ) (w : World) (t : Server) (journal : List Item) (by : S
           released = o.released;
           kinds = λ items fresh i. absurd i;
           pairs = λ m i. absurd i;
-          returns = subst (λ (d : Settled). ReturnsFit (sight_of w.counts t journal).given t.rows by e.client.view.leases d.leases) (its_client by (told by a (base by)) base ∙ sym (settled-push by e.down a (settled_now e.client))) (goes.carried.returns by);
+          returns = subst (λ (d : Settled). ReturnsFit (sight_of w.counts (seen w.decided t) journal).given t.rows by e.client.view.leases d.leases) (its_client by (told by a (base by)) base ∙ sym (settled-push by e.down a (settled_now e.client))) (goes.carried.returns by);
           renewals = λ ends end i number until j l k q late. elim (In-append (Renewed ends end) e.down (a ∷ []) i) as (λ _. IsBacked t.rows number until) [
             | inl old ↦ goes.carried.renewals by ends end old number until j l k q late
             | inr new ↦ elim new as (λ _. IsBacked t.rows number until) [ inl z ↦ renewals ends end (sym z) number until j | inr z ↦ absurd z ]
           ];
         }
 
-    other_fit : (x : Session) → (by.0 == x.0) ≡ false → EndsFit w.server.skew greatest (sight_of w.counts t journal).given t.rows x (w.ends x)
-    other_fit x q = fit_still w.server.skew greatest greatest (sight_of w.counts w.server w.journal).given (sight_of w.counts t journal).given w.server.rows t.rows x (w.ends x)
-        (later_pairs (sight_of w.counts w.server w.journal).given (sight_of w.counts t journal).given w.server.rows t.rows later_then (w.ends x).up (h.exchanges x).pairs)
-        (subst (λ (d : Settled). ReturnsFit (sight_of w.counts t journal).given t.rows x (w.ends x).client.view.leases d.leases) (other_client by x (told by a (base by)) base q) (goes.carried.returns x))
+    other_fit : (x : Session) → (by.0 == x.0) ≡ false → EndsFit w.server.skew greatest (sight_of w.counts (seen w.decided t) journal).given t.rows x (w.ends x)
+    other_fit x q = fit_still w.server.skew greatest greatest (sight_in w).given (sight_of w.counts (seen w.decided t) journal).given w.server.rows t.rows x (w.ends x)
+        (later_pairs (sight_in w).given (sight_of w.counts (seen w.decided t) journal).given w.server.rows t.rows later_then (w.ends x).up (h.exchanges x).pairs)
+        (subst (λ (d : Settled). ReturnsFit (sight_of w.counts (seen w.decided t) journal).given t.rows x (w.ends x).client.view.leases d.leases) (other_client by x (told by a (base by)) base q) (goes.carried.returns x))
         (goes.carried.renewals x) (h.exchanges x)
 
-    pub world_answered : WorldHolds greatest (record { server = t; counts = w.counts; journal = journal; replied = w.replied; ends = with_answer by a (without_question by w.ends) })
-    world_answered = subst (λ (ends : Session → Ends). WorldHolds greatest (record { server = t; counts = w.counts; journal = journal; replied = w.replied; ends = ends })) (sym ends_are) (record {
-      all = subst (λ k. AllHold k greatest (sight_of w.counts t journal) w.replied (λ (x : Session). settled_at x (cond (by.0 == x.0) (taken a (w.ends x)) (w.ends x)))) (sym skew)
-          (subst (λ (c : Session → Settled). AllHold w.server.skew greatest (sight_of w.counts t journal) w.replied c) (sym settled_are) goes.all);
+    pub world_answered : WorldHolds greatest (record { server = t; counts = w.counts; decided = w.decided; journal = journal; replied = w.replied; ends = with_answer by a (without_question by w.ends) })
+    world_answered = subst (λ (ends : Session → Ends). WorldHolds greatest (record { server = t; counts = w.counts; decided = w.decided; journal = journal; replied = w.replied; ends = ends })) (sym ends_are) (record {
+      all = subst (λ k. AllHold k greatest (sight_of w.counts (seen w.decided t) journal) w.replied (λ (x : Session). settled_at x (cond (by.0 == x.0) (taken a (w.ends x)) (w.ends x)))) (sym skew)
+          (subst (λ (c : Session → Settled). AllHold w.server.skew greatest (sight_of w.counts (seen w.decided t) journal) w.replied c) (sym settled_are) goes.all);
       clock = clock;
       clients = each_end (λ x e. ClientFits x e.client) by (taken a) w.ends (λ x q. h.clients x) (λ x q. h.clients x);
-      exchanges = subst (λ k. (x : Session) → EndsFit k greatest (sight_of w.counts t journal).given t.rows x (cond (by.0 == x.0) (taken a (w.ends x)) (w.ends x))) (sym skew)
-          (each_end (λ x e. EndsFit w.server.skew greatest (sight_of w.counts t journal).given t.rows x e) by (taken a) w.ends
-          (λ x q. subst (λ y. EndsFit w.server.skew greatest (sight_of w.counts t journal).given t.rows y (taken a (w.ends y))) (one_session by x q) own_fit)
+      exchanges = subst (λ k. (x : Session) → EndsFit k greatest (sight_of w.counts (seen w.decided t) journal).given t.rows x (cond (by.0 == x.0) (taken a (w.ends x)) (w.ends x))) (sym skew)
+          (each_end (λ x e. EndsFit w.server.skew greatest (sight_of w.counts (seen w.decided t) journal).given t.rows x e) by (taken a) w.ends
+          (λ x q. subst (λ y. EndsFit w.server.skew greatest (sight_of w.counts (seen w.decided t) journal).given t.rows y (taken a (w.ends y))) (one_session by x q) own_fit)
           other_fit);
     })

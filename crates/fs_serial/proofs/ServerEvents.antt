@@ -1,5 +1,5 @@
 -- The server's events keep all that holds.
-use Rattle.std.proofs.Common.{◌≡◌, ℕ, ◌≤◌, ◌&&◌, true, false, List, [], ◌∷◌, ◌++◌, length, map, append-nil, cond, refl, sym, ap, ◌∙◌, subst, inl, inr, arith}
+use Rattle.std.proofs.Common.{◌≡◌, ℕ, ◌≤◌, ◌&&◌, true, false, List, [], ◌∷◌, ◌++◌, length, map, take, append-nil, cond, refl, sym, ap, ◌∙◌, subst, inl, inr, arith}
 use Rattle.std.specs.Prelude.{Option, Some, None, nat_le}
 use Rattle.std.specs.Cmp.{nat_eq_equiv}
 use Rattle.std.specs.List.{list_all}
@@ -8,6 +8,7 @@ use Rattle.fs_ident.specs.In.{In}
 use Rattle.fs_ident.specs.declared.actor.LeaseNo.{LeaseNo}
 use Rattle.fs_ident.specs.declared.actor.Session.{Session}
 use Rattle.fs_ident.proofs.Booleans.{joined}
+use Rattle.std.proofs.Math.Seq.{take-append_seam}
 use Rattle.fs_ident.proofs.Standing.{In-front}
 use Rattle.fs_field.specs.declared.field.Field.{Field}
 use Rattle.fs_field.specs.declared.lease_kind.LeaseKind.{LeaseKind}
@@ -36,27 +37,27 @@ use Rattle.fs_client.specs.declared.state.Client.{Client}
 use Rattle.fs_serial.specs.Exchange.{IsQuestion, IsReturned, OneExchange, ReleasesReturned, server_of_question}
 use Rattle.fs_serial.specs.Parts.{with_client}
 use Rattle.fs_serial.specs.Settled.{Settled, acknowledged_all, settled_now, told, with_over}
-use Rattle.fs_serial.specs.Sight.{Sight, sight_of}
-use Rattle.fs_serial.specs.World.{GoesOn, IsThere, World, WorldHolds, settled_at, with_answer, with_sent, without_question, without_taken}
+use Rattle.fs_serial.specs.Sight.{Sight, seen, sight_of}
+use Rattle.fs_serial.specs.World.{GoesOn, IsThere, World, WorldHolds, settled_at, sight_in, with_answer, with_sent, without_question, without_taken}
 use Rattle.fs_serial.proofs.Again.{client_same}
 use Rattle.fs_serial.proofs.Asks as asks
 use Rattle.fs_serial.proofs.Counting.{given_by}
 use Rattle.fs_serial.proofs.LaterSteps.{released_later, renewed_later}
 use Rattle.fs_serial.proofs.PairLoops.{ends_backed, rows_released, rows_renewed}
 use Rattle.fs_serial.proofs.Seats.{settled_none}
-use Rattle.fs_serial.proofs.Sending.{asked, goes_of, recall_all, recall_with, world_all_recalled, world_answered}
+use Rattle.fs_serial.proofs.Sending.{asked, goes_bare, goes_of, goes_seen, recall_all, recall_with, world_all_recalled, world_answered}
 use Rattle.fs_serial.proofs.ShipLoop.{IsShipped, shipped_still}
 use Rattle.fs_serial.proofs.ServerSame.{asked_same, ships_same}
 use Rattle.fs_serial.proofs.ServerTurn.{turn_keeps}
 
 -- ## Questions for leases
 
-ask_fits : (x : Exchange) (c : Client) (items : List (Field × LeaseKind)) (dir : Option (List ℕ)) (grants : List Grant) (given : Option (List ℕ)) (e : End) → IsQuestion x (Ask items dir) → (fresh_fits dir given && grants_fit items given c.view.leases [] grants) ≡ true
+ask_fits : (x : Exchange) (c : Client) (items : List (Field × LeaseKind)) (dir : Option (List ℕ)) (grants : List Grant) (given : Option (List ℕ)) (e : End) → IsQuestion x (Ask items dir) → (fresh_fits dir given && grants_fit items given c.view.leases grants) ≡ true
     → answer_fits (server_of_question x) x (Granted grants given e) c ≡ true
 ask_fits (Asks to items2 dir2) c items dir grants given e q h =
     let i : items ≡ items2 = cc in
     let d : dir ≡ dir2 = cc in
-    joined _ _ (nat_eq_equiv.refl to) (subst (λ o. (fresh_fits o given && grants_fit items2 given c.view.leases [] grants) ≡ true) d (subst (λ is. (fresh_fits dir given && grants_fit is given c.view.leases [] grants) ≡ true) i h))
+    joined _ _ (nat_eq_equiv.refl to) (subst (λ o. (fresh_fits o given && grants_fit items2 given c.view.leases grants) ≡ true) d (subst (λ is. (fresh_fits dir given && grants_fit is given c.view.leases grants) ≡ true) i h))
 ask_fits (Renews to numbers) c items dir grants given e q h = absurd q
 ask_fits (Releases to numbers) c items dir grants given e q h = absurd q
 ask_fits (Ships to count) c items dir grants given e q h = absurd q
@@ -102,7 +103,7 @@ all_plain greatest w by entries there h =
 
 -- the world after a step of its server that is told the session
 abbrev world_after : World → Session → Stepped → World
-world_after w by st = record { server = st.server; counts = w.counts; journal = w.journal ++ st.out.admitted; replied = w.replied; ends = with_sent st.out.send (without_question by w.ends) }
+world_after w by st = record { server = st.server; counts = w.counts; decided = w.decided; journal = w.journal ++ st.out.admitted; replied = w.replied; ends = with_sent st.out.send (without_question by w.ends) }
 
 module _ (greatest : ℕ) (w : World) (by : Session) (h : WorldHolds greatest w) where
   abbrev s : Server
@@ -114,19 +115,20 @@ module _ (greatest : ℕ) (w : World) (by : Session) (h : WorldHolds greatest w)
   abbrev base : Session → Settled
   base x = settled_at x (w.ends x)
 
-  world_asked : (items : List (Field × LeaseKind)) (dir : Option (List ℕ)) → (w.ends by).up ≡ Ask items dir ∷ [] → WorldHolds greatest (world_after w by (answered by (asked_in by items dir s)))
-  world_asked items dir up =
+  world_asked : w.decided ≡ [] → (items : List (Field × LeaseKind)) (dir : Option (List ℕ)) → (w.ends by).up ≡ Ask items dir ∷ [] → WorldHolds greatest (world_after w by (answered by (asked_in by items dir s)))
+  world_asked none items dir up =
       let there : In (Ask items dir) (w.ends by).up = subst (λ ms. In (Ask items dir) ms) (sym up) (inl refl) in
       let a = asked_in by items dir s in
-      let right = asks.answered_right w.counts s.skew greatest w.journal w.replied w.ends base by items dir s (goes_of greatest w h) ((h.exchanges by).kinds items dir there) in
+      let right = asks.answered_right w.counts s.skew greatest w.journal w.replied w.ends base by items dir s (goes_bare w.counts w.decided s.skew greatest s w.journal w.replied w.ends base none (goes_of greatest w h)) ((h.exchanges by).kinds items dir there) in
       let same = asked_same by items dir s in
       let clock = h.clock in
       let last = same.last in
-      let told = world_answered greatest w a.server w.journal by (Ask items dir) (Granted a.grants a.fresh a.end) up h same.skew (omega arith) (same.later w.counts) right.goes refl
+      let told = world_answered greatest w a.server w.journal by (Ask items dir) (Granted a.grants a.fresh a.end) up h same.skew (omega arith) (same.later w.counts)
+      (goes_seen w.counts w.decided s.skew greatest a.server w.journal w.replied w.ends (with_client by (told by (Granted a.grants a.fresh a.end) (base by)) base) none right.goes) refl
       (λ x e q. ask_fits x c items dir a.grants a.fresh a.end q right.fits)
       (λ ends e q. absurd (cc)) in
-      subst (λ js. WorldHolds greatest (record { server = a.server; counts = w.counts; journal = js; replied = w.replied; ends = with_sent (recalls_at a.end a.server.rows) (with_answer by (Granted a.grants a.fresh a.end) (without_question by w.ends)) })) (sym (append-nil w.journal))
-      (world_all_recalled greatest (record { server = a.server; counts = w.counts; journal = w.journal; replied = w.replied; ends = with_answer by (Granted a.grants a.fresh a.end) (without_question by w.ends) }) (recalls_at a.end a.server.rows) (recall_with a.end a.server.rows) told)
+      subst (λ js. WorldHolds greatest (record { server = a.server; counts = w.counts; decided = w.decided; journal = js; replied = w.replied; ends = with_sent (recalls_at a.end a.server.rows) (with_answer by (Granted a.grants a.fresh a.end) (without_question by w.ends)) })) (sym (append-nil w.journal))
+      (world_all_recalled greatest (record { server = a.server; counts = w.counts; decided = w.decided; journal = w.journal; replied = w.replied; ends = with_answer by (Granted a.grants a.fresh a.end) (without_question by w.ends) }) (recalls_at a.end a.server.rows) (recall_with a.end a.server.rows) told)
 
   -- ## Renewals
 
@@ -146,9 +148,9 @@ module _ (greatest : ℕ) (w : World) (by : Session) (h : WorldHolds greatest w)
       let e = pairs_end s pairs in
       let t : Server = record s { rows = renewed_rows until ns s.rows } in
       let a = Renewed (ends_told until ns s.rows) e in
-      subst (λ js. WorldHolds greatest (record { server = t; counts = w.counts; journal = js; replied = w.replied; ends = with_answer by a (without_question by w.ends) })) (sym (append-nil w.journal))
+      subst (λ js. WorldHolds greatest (record { server = t; counts = w.counts; decided = w.decided; journal = js; replied = w.replied; ends = with_answer by a (without_question by w.ends) })) (sym (append-nil w.journal))
       (world_answered greatest w t w.journal by (Renew pairs) a up h refl h.clock (renewed_later (given_by w.counts s) until ns s.rows)
-      (unchanged a (sight_of w.counts t w.journal) refl (rows_renewed s.skew greatest (sight_of w.counts s w.journal) w.replied w.ends base until ns s.rows (goes_of greatest w h)))
+      (unchanged a (sight_of w.counts (seen w.decided t) w.journal) refl (rows_renewed s.skew greatest (sight_in w) w.replied w.ends base until ns s.rows (goes_of greatest w h)))
       refl
       (λ x z q. renew_fits x pairs until e q)
       (λ ends z q n u i. let same : ends_told until ns s.rows ≡ ends = cc in ends_backed until ns s.rows n u (subst (λ es. In (n, Some u) es) (sym same) i)))
@@ -179,32 +181,33 @@ module _ (greatest : ℕ) (w : World) (by : Session) (h : WorldHolds greatest w)
       let a = Released (length ns) e in
       let o = asked greatest w t w.journal by (Release pairs) a up h in
       let back = returned_by o.exchange pairs o.question (subst (λ x. ReleasesReturned x c.view.leases) o.stands (h.exchanges by).released) in
-      subst (λ js. WorldHolds greatest (record { server = t; counts = w.counts; journal = js; replied = w.replied; ends = with_answer by a (without_question by w.ends) })) (sym (append-nil w.journal))
+      subst (λ js. WorldHolds greatest (record { server = t; counts = w.counts; decided = w.decided; journal = js; replied = w.replied; ends = with_answer by a (without_question by w.ends) })) (sym (append-nil w.journal))
       (world_answered greatest w t w.journal by (Release pairs) a up h refl h.clock (released_later (given_by w.counts s) ns s.rows)
-      (unchanged a (sight_of w.counts t w.journal) refl (rows_released s.skew greatest (sight_of w.counts s w.journal) w.replied w.ends base by ns s.rows (λ n i. back n (here_among s pairs n i)) (goes_of greatest w h)))
+      (unchanged a (sight_of w.counts (seen w.decided t) w.journal) refl (rows_released s.skew greatest (sight_in w) w.replied w.ends base by ns s.rows (λ n i. back n (here_among s pairs n i)) (goes_of greatest w h)))
       refl
       (λ x z q. release_fits x pairs e q)
       (λ ends z q. absurd (cc)))
 
   -- ## Logs
 
-  ship_fits : (x : Exchange) (entries : List Entry) (count : ℕ) (e : End) → IsQuestion x (Ship entries) → count ≤ length entries → refusal_fits e count c.log ≡ true → answer_fits (server_of_question x) x (Shipped count e) c ≡ true
-  ship_fits (Ships to sent) entries count e q few fits =
+  ship_fits : (x : Exchange) (entries rest : List Entry) (count : ℕ) (e : End) → c.log ≡ entries ++ rest → IsQuestion x (Ship entries) → count ≤ length entries → refusal_fits e count entries ≡ true → answer_fits (server_of_question x) x (Shipped count e) c ≡ true
+  ship_fits (Ships to sent) entries rest count e log q few fits =
       let le : nat_le count sent ≡ true = grind (arith, nat_tests) in
-      joined _ _ (nat_eq_equiv.refl to) (joined _ _ le fits)
-  ship_fits (Asks to items fresh) entries count e q few fits = absurd (cc)
-  ship_fits (Renews to numbers) entries count e q few fits = absurd q
-  ship_fits (Releases to numbers) entries count e q few fits = absurd q
+      let own : take sent c.log ≡ entries = ap (take sent) log ∙ ap (λ n. take n (entries ++ rest)) (sym q) ∙ take-append_seam entries rest in
+      joined _ _ (nat_eq_equiv.refl to) (joined _ _ le (ap (refusal_fits e count) own ∙ fits))
+  ship_fits (Asks to items fresh) entries rest count e log q few fits = absurd (cc)
+  ship_fits (Renews to numbers) entries rest count e log q few fits = absurd q
+  ship_fits (Releases to numbers) entries rest count e log q few fits = absurd q
 
-  world_shipped : (entries : List Entry) → (w.ends by).up ≡ Ship entries ∷ [] → WorldHolds greatest (world_after w by (shipped by (ship_from by entries s [])))
-  world_shipped entries up =
+  world_shipped : w.decided ≡ [] → (entries : List Entry) → (w.ends by).up ≡ Ship entries ∷ [] → WorldHolds greatest (world_after w by (shipped by (ship_from by entries s [])))
+  world_shipped none entries up =
       let there : In (Ship entries) (w.ends by).up = subst (λ ms. In (Ship entries) ms) (sym up) (inl refl) in
       let front = (h.exchanges by).front entries there in
       let d = base by in
       let x = ship_from by entries s [] in
       let start : GoesOn s.skew greatest (sight_of w.counts s (w.journal ++ [])) w.replied w.ends (with_client by d base) =
       subst (λ js. GoesOn s.skew greatest (sight_of w.counts s js) w.replied w.ends (with_client by d base)) (sym (append-nil w.journal))
-      (subst (λ k. GoesOn s.skew greatest (sight_of w.counts s w.journal) w.replied w.ends k) (sym (client_same by base)) (goes_of greatest w h)) in
+      (subst (λ k. GoesOn s.skew greatest (sight_of w.counts s w.journal) w.replied w.ends k) (sym (client_same by base)) (goes_bare w.counts w.decided s.skew greatest s w.journal w.replied w.ends base none (goes_of greatest w h))) in
       let r : IsShipped w.counts s.skew greatest w.journal w.replied w.ends base by entries d [] x = shipped_still w.counts s.skew greatest w.journal w.replied w.ends base by entries s [] front.rest d front.log front.over start in
       let count : length x.admitted ≡ length r.more = ap length r.split in
       let same = ships_same by entries s [] in
@@ -213,27 +216,28 @@ module _ (greatest : ℕ) (w : World) (by : Session) (h : WorldHolds greatest w)
       let a = Shipped (length x.admitted) x.end in
       let o = asked greatest w x.server (w.journal ++ x.admitted) by (Ship entries) a up h in
       let log : c.log ≡ d.log = sym (ap (λ (k : Settled). k.log) (settled_none by (w.ends by).down (settled_now c) o.silent)) in
-      let fits : refusal_fits x.end (length x.admitted) c.log ≡ true = ap (refusal_fits x.end (length x.admitted)) log ∙ ap (λ n. refusal_fits x.end n d.log) count ∙ r.fits in
+      let fits : refusal_fits x.end (length x.admitted) entries ≡ true = ap (λ n. refusal_fits x.end n entries) count ∙ r.fits in
       let few = r.few in
       world_answered greatest w x.server (w.journal ++ x.admitted) by (Ship entries) a up h same.skew (omega arith) (same.later w.counts)
-      (subst (λ n. GoesOn s.skew greatest (sight_of w.counts x.server (w.journal ++ x.admitted)) w.replied w.ends (with_client by (with_over (over_after x.end d.over) (acknowledged_all by n d)) base)) (sym count) r.goes)
+      (goes_seen w.counts w.decided s.skew greatest x.server (w.journal ++ x.admitted) w.replied w.ends (with_client by (told by a d) base) none
+      (subst (λ n. GoesOn s.skew greatest (sight_of w.counts x.server (w.journal ++ x.admitted)) w.replied w.ends (with_client by (with_over (over_after x.end d.over) (acknowledged_all by n d)) base)) (sym count) r.goes))
       refl
-      (λ y e q. ship_fits y entries (length x.admitted) x.end q (omega arith) fits)
+      (λ y e q. ship_fits y entries front.rest (length x.admitted) x.end (log ∙ front.log) q (omega arith) fits)
       (λ ends e q. absurd (cc))
 
-  shipped_step : (entries : List Entry) → (w.ends by).up ≡ Ship entries ∷ [] → WorldHolds greatest (world_after w by (ship_step by entries s))
-  shipped_step entries up =
+  shipped_step : w.decided ≡ [] → (entries : List Entry) → (w.ends by).up ≡ Ship entries ∷ [] → WorldHolds greatest (world_after w by (ship_step by entries s))
+  shipped_step none entries up =
       let there : In (Ship entries) (w.ends by).up = subst (λ ms. In (Ship entries) ms) (sym up) (inl refl) in
       let plain = all_plain greatest w by entries there h in
-      subst (λ b. WorldHolds greatest (world_after w by (cond b (shipped by (ship_from by entries s [])) (strange s)))) (sym plain) (world_shipped entries up)
+      subst (λ b. WorldHolds greatest (world_after w by (cond b (shipped by (ship_from by entries s [])) (strange s)))) (sym plain) (world_shipped none entries up)
 
   -- ## Each message
 
-  pub told_message : (m : ClientMsg) → (w.ends by).up ≡ m ∷ [] → WorldHolds greatest (world_after w by (message_step by m s))
-  told_message (Ask items dir) up = world_asked items dir up
-  told_message (Renew pairs) up = renewed_step pairs up
-  told_message (Release pairs) up = released_step pairs up
-  told_message (Ship entries) up = shipped_step entries up
+  pub told_message : w.decided ≡ [] → (m : ClientMsg) → (w.ends by).up ≡ m ∷ [] → WorldHolds greatest (world_after w by (message_step by m s))
+  told_message none (Ask items dir) up = world_asked none items dir up
+  told_message none (Renew pairs) up = renewed_step pairs up
+  told_message none (Release pairs) up = released_step pairs up
+  told_message none (Ship entries) up = shipped_step none entries up
 
 -- ## Each event
 
@@ -247,16 +251,17 @@ abbrev pub after_begun : ServerEvent → World → World
 after_begun e w = record {
   server = (event_step e w.server).server;
   counts = w.counts;
+  decided = w.decided;
   journal = w.journal ++ (event_step e w.server).out.admitted;
   replied = w.replied;
   ends = with_sent (event_step e w.server).out.send (without_taken e w.ends);
 }
 
-pub begun_keeps : (greatest : ℕ) (w : World) (e : ServerEvent) → IsThere e w.ends → WorldHolds greatest w → WorldHolds greatest (after_begun e w)
-begun_keeps greatest w (event.FromClient by m) there h = told_message greatest w by h m (one_up (w.ends by).client (w.ends by).client.exchange (w.ends by).up (w.ends by).down m there (h.exchanges by).one)
-begun_keeps greatest w (event.FromPeer from m) there h = absurd there
-begun_keeps greatest w (event.Move prefix to) there h = absurd there
-begun_keeps greatest w event.Turn there h = turn_keeps greatest w h
-begun_keeps greatest w (event.Recall field) there h =
-    subst (λ js. WorldHolds greatest (record { server = w.server; counts = w.counts; journal = js; replied = w.replied; ends = with_sent (event_step (event.Recall field) w.server).out.send w.ends })) (sym (append-nil w.journal))
+pub begun_keeps : (greatest : ℕ) (w : World) (e : ServerEvent) → w.decided ≡ [] → IsThere e w.ends → WorldHolds greatest w → WorldHolds greatest (after_begun e w)
+begun_keeps greatest w (event.FromClient by m) none there h = told_message greatest w by h none m (one_up (w.ends by).client (w.ends by).client.exchange (w.ends by).up (w.ends by).down m there (h.exchanges by).one)
+begun_keeps greatest w (event.FromPeer from m) none there h = absurd there
+begun_keeps greatest w (event.Move prefix to) none there h = absurd there
+begun_keeps greatest w event.Turn none there h = turn_keeps greatest w none h
+begun_keeps greatest w (event.Recall field) none there h =
+    subst (λ js. WorldHolds greatest (record { server = w.server; counts = w.counts; decided = w.decided; journal = js; replied = w.replied; ends = with_sent (event_step (event.Recall field) w.server).out.send w.ends })) (sym (append-nil w.journal))
     (world_all_recalled greatest w (event_step (event.Recall field) w.server).out.send (recall_all (recalled_on field w.server)) h)

@@ -24,7 +24,7 @@ use Rattle.fs_serial.proofs.Going.{carried_still}
 use Rattle.fs_serial.proofs.Older.{IsLater, later_itself}
 use Rattle.fs_serial.proofs.Reaping.{reap_keeps, reap_relied}
 use Rattle.fs_serial.proofs.Relied.{relies_for}
-use Rattle.fs_serial.proofs.Sending.{goes_of, recall_each, world_all_recalled, world_still}
+use Rattle.fs_serial.proofs.Sending.{goes_bare, goes_of, goes_seen, recall_each, world_all_recalled, world_still}
 
 -- ## Who let go
 
@@ -78,21 +78,23 @@ later_reaped o s t q = subst (λ t. IsLater (given_by o s) (given_by o t) s.rows
 
 -- the world after a step of its server that takes no question
 abbrev pub world_stepped : World → Stepped → World
-world_stepped w st = record { server = st.server; counts = w.counts; journal = w.journal ++ st.out.admitted; replied = w.replied; ends = with_sent st.out.send w.ends }
+world_stepped w st = record { server = st.server; counts = w.counts; decided = w.decided; journal = w.journal ++ st.out.admitted; replied = w.replied; ends = with_sent st.out.send w.ends }
 
 -- those of them that may
-pub turn_some_keeps : (greatest : ℕ) (w : World) (xs : List (List ℕ × Session)) → HaveLetGo w.server.rows xs → WorldHolds greatest w → WorldHolds greatest (world_stepped w (turn_over xs w.server))
-turn_some_keeps greatest w [] gone h = subst (λ js. WorldHolds greatest (record { server = w.server; counts = w.counts; journal = js; replied = w.replied; ends = w.ends })) (sym (append-nil w.journal)) h
-turn_some_keeps greatest w (x ∷ xs) gone h =
+pub turn_some_keeps : (greatest : ℕ) (w : World) (xs : List (List ℕ × Session)) → w.decided ≡ [] → HaveLetGo w.server.rows xs → WorldHolds greatest w → WorldHolds greatest (world_stepped w (turn_over xs w.server))
+turn_some_keeps greatest w [] none gone h = subst (λ js. WorldHolds greatest (record { server = w.server; counts = w.counts; decided = w.decided; journal = js; replied = w.replied; ends = w.ends })) (sym (append-nil w.journal)) h
+turn_some_keeps greatest w (x ∷ xs) none gone h =
     let r : Reaping = reap_from (x ∷ xs) w.server [] [] in
     let same : r.server ≡ record (w.server) { reaps = r.server.reaps; records = r.server.records } = reaps_leave (x ∷ xs) w.server [] [] in
     let clients : Session → Settled = λ y. settled_at y (w.ends y) in
     let clock = h.clock in
     let last = ap (λ t. t.last) same in
     let start : GoesOn w.server.skew greatest (sight_of w.counts w.server (w.journal ++ [])) w.replied w.ends clients =
-    subst (λ js. GoesOn w.server.skew greatest (sight_of w.counts w.server js) w.replied w.ends clients) (sym (append-nil w.journal)) (goes_of greatest w h) in
-    world_all_recalled greatest (record { server = r.server; counts = w.counts; journal = w.journal ++ r.admitted; replied = w.replied; ends = w.ends }) (recalls_for r.server.rows r.blockers) (recall_each r.server.rows r.blockers)
-    (world_still greatest w r.server (w.journal ++ r.admitted) (ap (λ t. t.skew) same) (omega arith) (later_reaped w.counts w.server r.server same) (goes_all w.counts w.server.skew greatest w.journal w.replied w.ends clients (x ∷ xs) w.server [] [] gone start) h)
+    subst (λ js. GoesOn w.server.skew greatest (sight_of w.counts w.server js) w.replied w.ends clients) (sym (append-nil w.journal))
+    (goes_bare w.counts w.decided w.server.skew greatest w.server w.journal w.replied w.ends clients none (goes_of greatest w h)) in
+    world_all_recalled greatest (record { server = r.server; counts = w.counts; decided = w.decided; journal = w.journal ++ r.admitted; replied = w.replied; ends = w.ends }) (recalls_for r.server.rows r.blockers) (recall_each r.server.rows r.blockers)
+    (world_still greatest w r.server (w.journal ++ r.admitted) (ap (λ t. t.skew) same) (omega arith) (later_reaped w.counts w.server r.server same)
+    (goes_seen w.counts w.decided w.server.skew greatest r.server (w.journal ++ r.admitted) w.replied w.ends clients none (goes_all w.counts w.server.skew greatest w.journal w.replied w.ends clients (x ∷ xs) w.server [] [] gone start)) h)
 
-pub turn_keeps : (greatest : ℕ) (w : World) → WorldHolds greatest w → WorldHolds greatest (world_stepped w (turn_step w.server))
-turn_keeps greatest w h = turn_some_keeps greatest w (lapsed_in w.server) (gone_among w.server (keys w.server.records)) h
+pub turn_keeps : (greatest : ℕ) (w : World) → w.decided ≡ [] → WorldHolds greatest w → WorldHolds greatest (world_stepped w (turn_step w.server))
+turn_keeps greatest w none h = turn_some_keeps greatest w (lapsed_in w.server) none (gone_among w.server (keys w.server.records)) h

@@ -57,7 +57,7 @@ module _ (o : Counts) (skew greatest : ℕ) (journal : List Item) (replied : Ses
     pub split : x.admitted ≡ admitted ++ more
     pub goes : GoesOn skew greatest (sight_of o x.server (journal ++ x.admitted)) replied ends (with_client by (with_over (over_after x.end d.over) (acknowledged_all by (length more) d)) base)
     pub few : length more ≤ length es
-    pub fits : refusal_fits x.end (length more) d.log ≡ true
+    pub fits : refusal_fits x.end (length more) es ≡ true
 
   admitted_then : (e : Entry) (es rest : List Entry) (s : Server) (admitted : List Item) (d : Settled) → d.log ≡ e ∷ (es ++ rest) → d.over ≡ None → first_gone s.rows by e.uses ≡ None → GoesOn skew greatest (sight_of o s (journal ++ admitted)) replied ends (with_client by d base)
       → GoesOn skew greatest (sight_of o (with_entry by e s) (journal ++ (admitted ++ item_of by e ∷ []))) replied ends (with_client by (acknowledged by (e ∷ (es ++ rest)) d) base)
@@ -76,7 +76,7 @@ module _ (o : Counts) (skew greatest : ℕ) (journal : List Item) (replied : Ses
         split = r.split ∙ append_assoc admitted (item_of by e ∷ []) r.more;
         goes = subst (λ log. GoesOn skew greatest (sight_of o x.server (journal ++ x.admitted)) replied ends (with_client by (with_over (over_after x.end d.over) (acknowledged_all by (length r.more) (acknowledged by log d))) base)) (sym log) r.goes;
         few = omega arith;
-        fits = ap (refusal_fits x.end (suc (length r.more))) log ∙ refusal_step x.end (length r.more) e (es ++ rest) ∙ r.fits;
+        fits = refusal_step x.end (length r.more) e es ∙ r.fits;
       }
 
   refused_then : (e : Entry) (es rest : List Entry) (s : Server) (admitted : List Item) (d : Settled) (u : Use) (gaps : List ℕ) → d.log ≡ e ∷ (es ++ rest) → first_gone s.rows by e.uses ≡ Some u → GoesOn skew greatest (sight_of o s (journal ++ admitted)) replied ends (with_client by d base)
@@ -87,7 +87,7 @@ module _ (o : Counts) (skew greatest : ℕ) (journal : List Item) (replied : Ses
     goes = goes_again skew greatest (sight_of o s (journal ++ admitted)) replied ends base by d (with_over (Some e.n))
         (entry_refused skew greatest (sight_of o s (journal ++ admitted)) replied ends (with_client by d base) by e (es ++ rest) u (ap (λ (c : Settled). c.log) (its_client by d base) ∙ log) gone h);
     few = omega arith;
-    fits = ap (refusal_fits (end.Ended e.n u.no u.until s.last) 0) log ∙ nat_eq_equiv.refl e.n;
+    fits = nat_eq_equiv.refl e.n;
   }
 
   -- handed in at the wrong server
@@ -98,7 +98,7 @@ module _ (o : Counts) (skew greatest : ℕ) (journal : List Item) (replied : Ses
     split = sym (append-nil admitted);
     goes = subst (λ n. GoesOn skew greatest (sight_of o s (journal ++ admitted)) replied ends (with_client by (with_over n d) base)) (sym (over_still s (home_of e.op) d.over)) h;
     few = omega arith;
-    fits = none_refused s (home_of e.op) 0 d.log;
+    fits = none_refused s (home_of e.op) 0 (e ∷ es);
   }
 
   ends_then : (e : Entry) (es rest : List Entry) (s : Server) (admitted : List Item) (d : Settled) (at : End) (gaps : List ℕ) → ShipEnds by e es s at gaps → d.log ≡ e ∷ (es ++ rest) → GoesOn skew greatest (sight_of o s (journal ++ admitted)) replied ends (with_client by d base)

@@ -17,8 +17,8 @@ use Rattle.fs_serial.specs.Parts.{AllHold}
 use Rattle.fs_serial.specs.Places.{PlacesHold}
 use Rattle.fs_serial.specs.Seen.{given_at, reaps_at, world_of}
 use Rattle.fs_serial.specs.Settled.{settled_now}
-use Rattle.fs_serial.specs.Sight.{Sight, count_with, sight_of}
-use Rattle.fs_serial.specs.World.{Ends, World, WorldHolds, settled_at}
+use Rattle.fs_serial.specs.Sight.{Sight, count_with, seen}
+use Rattle.fs_serial.specs.World.{Ends, World, WorldHolds, settled_at, sight_in}
 use Rattle.fs_serial.proofs.Servers.{In_at}
 use Rattle.fs_serial.proofs.SetAt.{get_other}
 
@@ -28,9 +28,6 @@ record Holds (skew greatest : ℕ) (s : Sight) (replied : Session → List Item)
   all : AllHold skew greatest s replied (λ x. settled_at x (ends x))
   clients : (x : Session) → ClientFits x (ends x).client
   exchanges : (x : Session) → ExchangeFits skew greatest s.given s.rows x (ends x).client (ends x).up (ends x).down (settled_now (ends x).client) (settled_at x (ends x))
-
-abbrev sight_in : World → Sight
-sight_in w = sight_of w.counts w.server w.journal
 
 holds_of : (greatest : ℕ) (w : World) → WorldHolds greatest w → Holds w.server.skew greatest (sight_in w) w.replied w.ends
 holds_of greatest w h = record { all = h.all; clients = h.clients; exchanges = h.exchanges }
@@ -54,7 +51,7 @@ same_sight a b rows records given reaps journal =
 -- sessions see the same in both
 pub record AreAlike (w v : World) : Type 0 where
   pub rows : v.server.rows ≡ w.server.rows
-  pub records : v.server.records ≡ w.server.records
+  pub records : (seen v.decided v.server).records ≡ (seen w.decided w.server).records
   pub skew : v.server.skew ≡ w.server.skew
   pub given : (k : ℕ) → count_with v.server.me v.server.given v.counts.given k ≡ count_with w.server.me w.server.given w.counts.given k
   pub reaps : (k : ℕ) → count_with v.server.me v.server.reaps v.counts.reaps k ≡ count_with w.server.me w.server.reaps w.counts.reaps k

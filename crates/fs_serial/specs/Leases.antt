@@ -1,5 +1,5 @@
 -- Parts about the leases of a session.
-use Rattle.std.specs.Prelude.{◌≡◌, ℕ, ◌+◌, ◌<◌, ◌≤◌, List, Some, None}
+use Rattle.std.specs.Prelude.{◌≡◌, ◌⊎◌, ℕ, ◌+◌, ◌<◌, ◌≤◌, List, Some, None}
 use Rattle.fs_ident.specs.Ident.{child}
 use Rattle.fs_ident.specs.In.{In}
 use Rattle.fs_ident.specs.declared.actor.LeaseNo.{LeaseNo}
@@ -29,9 +29,10 @@ LeasesBacked skew greatest rows leases = (l : Lease) → In l leases → greates
 
 -- ## True
 
--- each lease whose row stands tells what its field says
-abbrev pub LeasesTrue : List Row → (Field → Value) → List Lease → Type 0
-LeasesTrue rows values leases = (l : Lease) → In l leases → (r : Row) → In r rows → r.no ≡ l.no → l.base ≡ values l.field
+-- each lease whose row stands tells what its field says, unless that is of no matter any more
+abbrev pub LeasesTrue : List Row → (Field → Type 0) → (Field → Value) → List Lease → Type 0
+LeasesTrue rows gone values leases =
+    (l : Lease) → In l leases → (r : Row) → In r rows → r.no ≡ l.no → gone l.field ⊎ (l.base ≡ values l.field)
 
 -- ## Numbers
 

@@ -6,12 +6,14 @@ pub mod Pending
 pub mod Numbers
 pub mod Serial
 pub mod Fresh
+pub mod Gone
 pub mod Relies
 pub mod Parts
 pub mod Client
 pub mod Exchange
 pub mod Steps
 pub mod Laws
+pub mod Locks
 pub mod World
 pub mod Joined
 pub mod Cluster

@@ -4,6 +4,7 @@ use Rattle.fs_ident.specs.declared.actor.Session.{Session}
 use Rattle.fs_msg.specs.declared.item.Item.{Item}
 use Rattle.fs_record.specs.ValueOf.{value_of}
 use Rattle.fs_serial.specs.Fresh.{NodesMade, FreshReserved, reserved_by}
+use Rattle.fs_serial.specs.Gone.{IsOfGone}
 use Rattle.fs_serial.specs.Leases.{LeasesBacked, LeasesTrue, LeasesGiven, LeasesDistinct, LeasesMatch, FreshLeases}
 use Rattle.fs_serial.specs.Numbers.{NumbersInOrder, ReapsInOrder, RepliesKept}
 use Rattle.fs_serial.specs.Pending.{PendingStand, UsesHeld, UsesBacked, AreEntries, NamedOnce, RefusedGone}
@@ -34,7 +35,7 @@ pub record ServersFit (s : Sight) : Type 0 where
 -- what is promised
 pub record SessionHolds (skew greatest : ℕ) (s : Sight) (by : Session) (replied : List Item) (d : Settled) : Type 0 where
   pub backed : LeasesBacked skew greatest s.rows d.leases
-  pub telling : LeasesTrue s.rows (value_of s.records by) d.leases
+  pub telling : LeasesTrue s.rows (IsOfGone s.records s.journal) (value_of s.records by) d.leases
   pub pending : PendingStand s.rows by (value_of s.records by) d.log
   pub numbers : NumbersInOrder by s.journal d.log d.next
   pub replies : RepliesKept by s.journal d.log replied

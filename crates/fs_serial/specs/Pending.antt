@@ -20,9 +20,10 @@ use Rattle.fs_model.specs.declared.reply.Reply.TheVariants as reply
 use Rattle.fs_record.specs.Effects.{tells_its_effects}
 use Rattle.fs_model.specs.Asking.{home_of}
 use Rattle.fs_msg.specs.declared.entry.Entry.{Entry}
+use Rattle.fs_view.specs.Gone.{known_with}
 use Rattle.fs_view.specs.Kept.{is_enough}
 use Rattle.fs_view.specs.View.{value_after_all}
-use Rattle.fs_view.specs.Walk.{Known, walk, always}
+use Rattle.fs_view.specs.Walk.{walk, always}
 use Rattle.fs_serial.specs.Leases.{IsBacked}
 use Rattle.fs_serial.specs.Settled.{Lease, effects_in}
 
@@ -39,10 +40,6 @@ pub record Stands (rows : List Row) (by : Session) (u : Use) : Type 0 where
 
 abbrev pub AllStand : List Row → Session → List Use → Type 0
 AllStand rows by uses = (u : Use) → In u uses → Stands rows by u
-
--- every field has its value
-abbrev pub known_with : (Field → Value) → Known
-known_with values field kind = Some (values field)
 
 -- one of the leases that were used is on the field, and is enough
 pub record HasUse (uses : List Use) (on : Field) (wanted : LeaseKind) : Type 0 where

@@ -1,9 +1,13 @@
 -- What a session relies on while the servers change for another.
-use Rattle.std.specs.Prelude.{◌≡◌, ℕ, ◌+◌, ◌<◌, ◌≤◌, List}
+use Rattle.std.specs.Prelude.{◌≡◌, ◌⊎◌, ℕ, ◌+◌, ◌<◌, ◌≤◌, List, None}
+use Rattle.std.specs.FinMap.{get}
 use Rattle.fs_ident.specs.In.{In}
 use Rattle.fs_ident.specs.declared.actor.Session.{Session}
 use Rattle.fs_field.specs.declared.row.Row.{Row}
+use Rattle.fs_record.specs.Records.{node_of}
 use Rattle.fs_record.specs.ValueOf.{value_of}
+use Rattle.fs_serial.specs.Fresh.{IsMade}
+use Rattle.fs_serial.specs.Gone.{IsOfGone}
 use Rattle.fs_serial.specs.Leases.{IsBacked}
 use Rattle.fs_serial.specs.Numbers.{items_by}
 use Rattle.fs_serial.specs.Sight.{Sight, IsGiven}
@@ -24,7 +28,11 @@ pub record Relies (skew greatest : ℕ) (by : Session) (s t : Sight) : Type 0 wh
   pub older : (r : Row) → In r t.rows → IsGiven s.given r.no → Stood s.rows r
   -- its own rows are kept until they have ended
   pub kept : (r : Row) → In r s.rows → r.session ≡ by → greatest < r.until + skew → IsBacked t.rows r.no r.until
-  -- what its own rows are on says the same
-  pub values : (r : Row) → In r t.rows → IsGiven s.given r.no → r.session ≡ by → value_of t.records by r.field ≡ value_of s.records by r.field
+  -- what its own rows are on says the same, but for size and stamp of a file that went
+  pub values : (r : Row) → In r t.rows → IsGiven s.given r.no → r.session ≡ by
+      → IsOfGone t.records s.journal r.field ⊎ (value_of t.records by r.field ≡ value_of s.records by r.field)
+  -- what was made stays made, and once it lives no more it stays gone
+  pub made : (file : List ℕ) → IsMade s.journal file → IsMade t.journal file
+  pub gone : (file : List ℕ) → IsMade s.journal file → node_of (get s.records file) ≡ None → node_of (get t.records file) ≡ None
   -- its own operations in the journal are the same
   pub items : items_by by t.journal ≡ items_by by s.journal

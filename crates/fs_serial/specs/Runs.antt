@@ -8,7 +8,10 @@ use Rattle.fs_server.specs.declared.event.ServerEvent.{ServerEvent}
 use Rattle.fs_serial.specs.Cluster.{CanCome, ClientEvent, Cluster, IsThere, after_client, after_server, parcels_of}
 use Rattle.fs_serial.specs.Joined.{records_of_all}
 use Rattle.fs_serial.specs.Numbers.{AreNumbered, items_at, items_by}
-use Rattle.fs_serial.specs.Serial.{JournalSerial}
+use Rattle.fs_serial.specs.Places.{PlacesHold}
+use Rattle.fs_serial.specs.Refusals.{rows_in}
+use Rattle.fs_serial.specs.Rows.{NoRowsConflict}
+use Rattle.fs_serial.specs.Serial.{AreSound, JournalSerial}
 
 pub data ClusterEvent : Type 0 where
   AtServer : (server : ℕ) → (event : ServerEvent) → ClusterEvent
@@ -58,3 +61,16 @@ pub record IsOneSerialRun (c : Cluster) : Type 0 where
   pub numbered : (x : Session) → AreNumbered 1 (items_by x c.journal) (1 + length (items_by x c.journal))
   pub reaped : (k : ℕ) → AreNumbered 1 (items_at k c.journal) (1 + length (items_at k c.journal))
   pub told : (x : Session) → IsFrontOf (items_by x c.journal) (c.replied x)
+
+-- ## Whatever the clocks show
+
+-- each event can happen when it does
+abbrev pub CanRun : List Dated → Cluster → Type 0
+CanRun [] c = Unit {0}
+CanRun (e ∷ es) c = CanHappen e.what c × CanRun es (after_event e.now e.what c)
+
+-- everything is at its place, no two rows conflict, and what the servers and the parcels between them hold together is sound
+pub record IsOrderly (c : Cluster) : Type 0 where
+  pub places : PlacesHold c
+  pub apart : NoRowsConflict (rows_in c)
+  pub sound : AreSound (held_by c)

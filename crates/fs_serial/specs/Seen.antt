@@ -1,5 +1,5 @@
 -- A cluster as each of its servers would see it if it had all rows and records.
-use Rattle.std.specs.Prelude.{◌≡◌, ℕ, false, List, map, slice_get, Option, Some, None}
+use Rattle.std.specs.Prelude.{◌≡◌, ℕ, false, List, [], map, slice_get, Option, Some, None}
 use Rattle.fs_ident.specs.In.{In}
 use Rattle.fs_ident.specs.declared.actor.Session.{Session}
 use Rattle.fs_msg.specs.declared.answer.Answer.{Answer}
@@ -35,6 +35,7 @@ abbrev pub world_of : Server → Cluster → World
 world_of s c = record {
   server = with_all s c;
   counts = counts_of c.servers;
+  decided = [];
   journal = c.journal;
   replied = c.replied;
   ends = λ x. ends_of (c.lines x);

@@ -1,8 +1,10 @@
 -- What stands at the servers, as far as sessions rely on it.
 use Rattle.std.specs.Prelude.{ℕ, ◌≤◌, ◌==◌, List, if◌then◌else◌}
 use Rattle.fs_ident.specs.declared.actor.LeaseNo.{LeaseNo}
+use Rattle.fs_field.specs.declared.effect.Effect.{Effect}
 use Rattle.fs_field.specs.declared.row.Row.{Row}
 use Rattle.fs_msg.specs.declared.item.Item.{Item}
+use Rattle.fs_record.specs.Applied.{records_after_all}
 use Rattle.fs_record.specs.Records.{RecordMap}
 use Rattle.fs_server.specs.declared.state.Server.{Server}
 
@@ -32,6 +34,10 @@ sight_of others s journal = record {
   reaps = count_with s.me s.reaps others.reaps;
   journal = journal;
 }
+
+-- with the effects that are decided and not applied yet
+abbrev pub seen : List Effect → Server → Server
+seen decided s = record s { records = records_after_all s.records decided }
 
 -- its server gave the number
 abbrev pub IsGiven : (ℕ → ℕ) → LeaseNo → Type 0

@@ -5,6 +5,7 @@ use Rattle.fs_ident.specs.declared.actor.LeaseNo.{LeaseNo}
 use Rattle.fs_ident.specs.declared.actor.Peer.{Peer}
 use Rattle.fs_ident.specs.declared.actor.Peer.TheVariants.{Client as OfSession}
 use Rattle.fs_ident.specs.declared.actor.Session.{Session}
+use Rattle.fs_field.specs.declared.effect.Effect.{Effect}
 use Rattle.fs_model.specs.declared.op.Op.{Op}
 use Rattle.fs_model.specs.Asking.{may_ask}
 use Rattle.fs_record.specs.Effects.{tells_its_effects}
@@ -29,7 +30,7 @@ use Rattle.fs_serial.specs.Client.{ClientFits}
 use Rattle.fs_serial.specs.Exchange.{ExchangeFits, ReturnsFit, RenewalsBacked, asked_server, is_recall}
 use Rattle.fs_serial.specs.Parts.{AllHold}
 use Rattle.fs_serial.specs.Settled.{Lease, Settled, settled, settled_now}
-use Rattle.fs_serial.specs.Sight.{Counts, Sight, sight_of}
+use Rattle.fs_serial.specs.Sight.{Counts, Sight, seen, sight_of}
 
 -- the client, the questions that are on their way to the server, and the answers on their way back
 pub record Ends : Type 0 where
@@ -41,13 +42,19 @@ pub record Ends : Type 0 where
 abbrev pub settled_at : Session → Ends → Settled
 settled_at x e = settled x e.down (settled_now e.client)
 
--- how many leases and reaps other servers made, the journal, and what each session was told so far, are kept beside
+-- how many leases and reaps other servers made, the effects that are decided and not applied yet, the journal, and what
+-- each session was told so far, are kept beside
 pub record World : Type 0 where
   pub server : Server
   pub counts : Counts
+  pub decided : List Effect
   pub journal : List Item
   pub replied : Session → List Item
   pub ends : Session → Ends
+
+-- what stands there, as far as sessions rely on it
+abbrev pub sight_in : World → Sight
+sight_in w = sight_of w.counts (seen w.decided w.server) w.journal
 
 -- each session is new
 abbrev pub first_ends : ℕ → Session → Ends
@@ -89,11 +96,11 @@ pub record GoesOn (skew greatest : ℕ) (s : Sight) (replied : Session → List 
 
 -- all that holds between events, where no reading was greater
 pub record WorldHolds (greatest : ℕ) (w : World) : Type 0 where
-  pub all : AllHold w.server.skew greatest (sight_of w.counts w.server w.journal) w.replied (λ x. settled_at x (w.ends x))
+  pub all : AllHold w.server.skew greatest (sight_in w) w.replied (λ x. settled_at x (w.ends x))
   pub clock : w.server.last ≤ greatest
   pub clients : (x : Session) → ClientFits x (w.ends x).client
   pub exchanges : (x : Session)
-      → ExchangeFits w.server.skew greatest (sight_of w.counts w.server w.journal).given w.server.rows x (w.ends x).client (w.ends x).up (w.ends x).down (settled_now (w.ends x).client) (settled_at x (w.ends x))
+      → ExchangeFits w.server.skew greatest (sight_in w).given w.server.rows x (w.ends x).client (w.ends x).up (w.ends x).down (settled_now (w.ends x).client) (settled_at x (w.ends x))
 
 -- ## The server's events
 
@@ -135,6 +142,7 @@ abbrev pub after_plan : {N : Type 0} → Session → List Answer → Plan N → 
 after_plan by rest p w = record {
   server = w.server;
   counts = w.counts;
+  decided = w.decided;
   journal = pushed p.out.admitted w.journal;
   replied = with_told by (told_by by p.ready.change p.out.admitted) w.replied;
   ends = with_ends by (record { client = committed p.ready (w.ends by).client; up = pushed (message_in p.out.send) (w.ends by).up; down = rest }) w.ends;

@@ -50,7 +50,7 @@ ghost use Rattle.fs_serial.specs.Laws.{GiftIsRelied, GiftIsTold, GiftKeepsParts,
 ghost use Rattle.fs_serial.specs.Parts.{AllHold, ServersFit, ServersHold, SessionFits, with_client, with_replies};
 ghost use Rattle.fs_serial.specs.Settled.{HasLeaseAs, Settled, acknowledged, settled, settled_now};
 ghost use Rattle.fs_serial.specs.Places.{PlacesHold};
-ghost use Rattle.fs_serial.specs.Runs.{Dated, IsOneSerialRun, IsRun, greatest_in, held_by, run};
+ghost use Rattle.fs_serial.specs.Runs.{CanRun, Dated, IsOneSerialRun, IsOrderly, IsRun, greatest_in, held_by, run};
 ghost use Rattle.fs_serial.specs.Seen.{ClusterHolds, ends_of, with_all};
 ghost use Rattle.fs_serial.specs.Sight.{Counts, Sight, sight_of};
 ghost use Rattle.fs_serial.specs.Refusals.{IsFairStep, rows_in};
@@ -227,6 +227,14 @@ pub fn every_run_keeps_all_parts()
         ClusterHolds skew (greatest_in greatest events) (run events c) }
 {}
 
+/// Whatever the clocks show, and whatever happens in whatever order: after every event each identifier has one place, each row and
+/// record is at its place, no number is given twice, no two rows conflict, and what the servers hold together is sound.
+pub fn every_run_is_orderly()
+    ensures { (servers skew term : ℕ) (events : List Dated) → 1 ≤ servers →
+        CanRun events (first_cluster servers skew term) →
+        IsOrderly (run events (first_cluster servers skew term)) }
+{}
+
 /// The journal of every run is one serial run of the namespace, in the order of each session, to the space that the servers
 /// hold together, which is sound; and what each session was told is what the journal has, as far as the journal goes.
 pub fn every_run_is_one_serial_run()
@@ -240,7 +248,8 @@ pub fn every_run_is_one_serial_run()
 pub fn pending_replies_are_the_namespaces()
     ensures one { (o : Counts) (skew greatest : ℕ) (replied : Session → List Item) (by : Session)
         (rest front : List Entry) (s : Server) (journal : List Item)
-        (clients : Session → Settled) → AllHold skew greatest (sight_of o s journal) replied clients →
+        (clients : Session → Settled) →
+        AllHold skew greatest (sight_of o s journal) replied clients →
         (clients by).log ≡ front ++ rest → (clients by).over ≡ None →
         AllStand s.rows by front → AreRepliesFrom (nodes_of s.records) by front }
     ensures together { (skew greatest : ℕ) (c : Cluster) (by : Session) (front rest : List Entry)

@@ -4,7 +4,7 @@ ghost use Rattle.std.specs.FinMap as finite;
 ghost use Rattle.fs_ident.specs.In.{In};
 ghost use Rattle.fs_record.specs.Records.{nodes_of};
 ghost use Rattle.fs_record.specs.declared.parcel.Parcel.{Parcel as TheParcel};
-ghost use Rattle.fs_record.specs.Moving.{AreEachRecords};
+ghost use Rattle.fs_record.specs.Moving.{AreInOrder};
 ghost use Rattle.fs_serial.specs.Joined.{records_of_all, with_node, with_nodes, with_nodes_in};
 
 use fs_ident::{FileId, List, Memory, Twin};
@@ -14,13 +14,14 @@ use fs_server::ServerCore;
 use std::alloc::Global;
 
 /// The namespace that the servers and the parcels on their way between them hold together. Where several have one file, the
-/// last counts: no two of honest servers have.
+/// last counts: no two of honest servers have. The children and the handles of each parcel's records are in order:
+/// `Record::is_in_order` is the test.
 pub fn joined(
     alloc: Global,
     servers: &List<ServerCore>,
     flying: &List<Parcel>,
 ) -> Result<Space, Memory>
-    requires { (p : TheParcel) → In p flying.now → AreEachRecords p.records }
+    requires { (p : TheParcel) → In p flying.now → AreInOrder p.records }
     ensures { IfOk result (λ space. space ≡ nodes_of (records_of_all servers.now flying.now)) }
 {
     let mut space = Space::empty(alloc);
@@ -63,7 +64,7 @@ fn put_node(
 
 /// Gives each of these files the node of its record.
 fn put_all(alloc: Global, records: &[(FileId, Record)], space: &mut Space) -> Result<(), Memory>
-    requires { AreEachRecords records.now }
+    requires { AreInOrder records.now }
     ensures { OnOk result (space.new ≡ with_nodes_in records.now space.old) }
 {
     for entry in records {

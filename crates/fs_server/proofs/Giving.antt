@@ -1,8 +1,9 @@
 -- An identifier for a new file, and the lease on its life.
-use Rattle.std.proofs.Common.{◌≡◌, ◌==◌, ◌||◌, ℕ, ◌+◌, ◌^◌, leb, Bool, true, false, List, [], ◌∷◌, ◌++◌, length, ap, refl, sym, subst, ◌∙◌, arith}
+use Rattle.std.proofs.Common.{◌≡◌, ◌==◌, ◌||◌, ℕ, ◌+◌, ◌≤◌, ◌^◌, leb, Bool, true, false, List, [], ◌∷◌, ◌++◌, length, ap, refl, sym, subst, ◌∙◌, arith}
 use Rattle.std.proofs.lemmas.Bool.Decides.{nat_tests}
 use Rattle.std.proofs.lemmas.List.Folds.{list_any-append}
 use Rattle.std.specs.Prelude.{Option, Some, None, option_map, Ok}
+use Rattle.std.specs.FinMap.{get}
 use Rattle.fs_ident.specs.declared.actor.Session.{Session}
 use Rattle.fs_ident.specs.Ident.{child}
 use Rattle.fs_field.specs.declared.field.Field.TheVariants.{Life}
@@ -16,6 +17,7 @@ use Rattle.fs_msg.specs.declared.end.End.TheVariants as end
 use Rattle.fs_record.specs.declared.error.FreshError.{FreshError}
 use Rattle.fs_record.specs.declared.error.FreshError.TheVariants as fresh
 use Rattle.fs_record.specs.Fresh.{fresh_number, is_borne}
+use Rattle.fs_record.specs.Records.{next_of}
 use Rattle.fs_record.proofs.NumbersRise.{number_least}
 use Rattle.fs_rows.specs.Granted.{with_rows}
 use Rattle.fs_rows.proofs.Bearing.{bears-with_rows, gift_goes}
@@ -24,7 +26,7 @@ use Rattle.fs_server.specs.declared.lent.Lent.{Lent}
 use Rattle.fs_server.specs.declared.state.Server.{Server}
 use Rattle.fs_server.specs.Asks.{Asking, fresh_in, fresh_of, grant_of, with_lease}
 use Rattle.fs_server.specs.Lent.{IsLent, end_without, got_by, lent_by, with_leases}
-use Rattle.fs_server.specs.Plan.{after_gift}
+use Rattle.fs_server.specs.Plan.{IsNewGift, after_gift}
 use Rattle.fs_server.specs.Rows.{AreRows}
 use Rattle.fs_server.specs.Server.{next_number, end_of}
 use Rattle.fs_server.proofs.Ends.{last_number-append}
@@ -48,6 +50,14 @@ given_number dir id (Some j) k e h =
     (ap Some same, is ∙ ap (child dir) same)
 
 -- the rows that stand and those just given bear the same numbers, in whatever order
+-- what is told of two tables, from what is told of each
+pub both_borne : (k : ℕ) (a b c d : List ℕ) → is_borne a k ≡ is_borne c k → is_borne b k ≡ is_borne d k → is_borne (a ++ b) k ≡ is_borne (c ++ d) k
+both_borne k a b c d p q =
+    list_any-append (λ n. n == k) a b
+    ∙ ap (λ x. x || is_borne b k) p
+    ∙ ap (λ x. is_borne c k || x) q
+    ∙ sym (list_any-append (λ n. n == k) c d)
+
 pub same_borne : (dir told : List ℕ) (more rows : List Row) (k : ℕ) → ((j : ℕ) → is_borne told j ≡ is_borne (borne_numbers dir rows) j) → is_borne (told ++ borne_numbers dir more) k ≡ is_borne (borne_numbers dir (with_rows more rows)) k
 same_borne dir told more rows k h =
     list_any-append (λ b. b == k) told (borne_numbers dir more)
@@ -62,6 +72,10 @@ givable by dir id o k rows s l of e is =
     let free : is_borne (borne_numbers dir (with_rows rows s.rows)) k ≡ false = (number_least s.records dir (borne_numbers dir (with_rows rows s.rows)) k (sym of ∙ e)).free in
     subst (λ i. AreRows (with_lease by (Life i) Exclusive None (with_leases rows s)).rows) (sym is)
     (put_rows (given_row (next_number (with_leases rows s)) by (Life (child dir k)) Exclusive (end_of s) None) (with_rows rows s.rows) (given_new s.me (s.given + length rows) (with_rows rows s.rows) l.ready.server.numbers) (gift_goes by dir k Exclusive (with_rows rows s.rows) free) l.ready.table)
+
+-- and the directory did not give it before
+pub new_gift : (dir at : List ℕ) (k : ℕ) (rows : List Row) (s : Server) → fresh_number s.records dir (borne_numbers dir rows) ≡ Some k → at ≡ dir → IsNewGift (Some (at, k)) s.records
+new_gift dir at k rows s e same = subst (λ d. next_of (get s.records d) ≤ k) (sym same) (number_least s.records dir (borne_numbers dir rows) k e).from
 
 -- the answer with a fresh identifier
 abbrev asking : Server → List Grant → List ℕ → List ℕ → ℕ → Server → Asking

@@ -118,15 +118,8 @@ installed_ready p s h r =
     let q = fitted p s h in
     with_others s (with_rows p.rows s.rows) (with_records p.records s.records) (map_after_take s.map s.me p.prefix p.piece.given) r (given_come s.me s.given p.rows s.rows q.1 r.server.numbers) (all_rows s.records s.rows s.map s.me p (fitting s.records s.rows s.map s.me p q.0) r.table)
 
-each_records : (p : Parcel) → AreNumbersLeft p.records → is_formed p ≡ true → AreEachRecords p.records
-each_records p left h e i =
-    let parts : Bool = list_all (λ x. is_in_order x.1) p.records in
-    let sorted : parts ≡ true = second (are_distinct p.records) parts (second (same p.piece.prefix p.prefix && is_piece p.prefix p.piece.given) (are_distinct p.records && parts) h) in
-    let n = left e i in
-    record { in_order = test_order e.1.node (all-In (λ x. is_in_order x.1) p.records sorted e i); least = n.0; most = n.1 }
-
 -- and it can be put in its place
-pub installable : (p : Parcel) (s : Server) → fits_here p s ≡ true → AreNumbersLeft p.records → (fits s.records s.rows s.map s.me p ≡ true) × AreEachRecords p.records
+pub installable : (p : Parcel) (s : Server) → fits_here p s ≡ true → AreNumbersLeft p.records → (fits s.records s.rows s.map s.me p ≡ true) × AreNumbersLeft p.records
 installable p s h left =
     let q = fitted p s h in
-    (q.0, each_records p left (fitting s.records s.rows s.map s.me p q.0).form)
+    (q.0, left)

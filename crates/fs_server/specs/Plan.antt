@@ -1,6 +1,7 @@
 -- What an event changes, once it is read what it comes to.
-use Rattle.std.specs.Prelude.{◌≡◌, ℕ, ◌+◌, ◌<◌, ◌≤◌, ◌^◌, true, List, length, Option, Some, None}
+use Rattle.std.specs.Prelude.{◌≡◌, ℕ, ◌+◌, ◌<◌, ◌≤◌, ◌^◌, true, List, length, Option, Some, None, IfSome}
 use Rattle.std.specs.List.{list_all}
+use Rattle.std.specs.FinMap.{get}
 use Rattle.fs_ident.specs.declared.limits.TheConstants.{LATEST}
 use Rattle.fs_msg.specs.declared.limits.TheConstants.{LONGEST, SERVERS}
 use Rattle.fs_map.specs.Lists.{map_after_take}
@@ -11,8 +12,8 @@ use Rattle.fs_rows.specs.Moving.{rows_left}
 use Rattle.fs_record.specs.Applied.{records_after_all, is_undoable}
 use Rattle.fs_record.specs.Fresh.{records_after_gift}
 use Rattle.fs_parcel.specs.Parcel.{fits}
-use Rattle.fs_record.specs.Moving.{AreEachRecords, records_given, records_left}
-use Rattle.fs_record.specs.Records.{RecordMap}
+use Rattle.fs_record.specs.Moving.{AreNumbersLeft, records_given, records_left}
+use Rattle.fs_record.specs.Records.{RecordMap, next_of}
 use Rattle.fs_server.specs.declared.change.Change.{Change}
 use Rattle.fs_server.specs.declared.change.Change.TheVariants.{Nothing, Grant, Renew, Free, Admit, Reap, Leave, Install}
 use Rattle.fs_server.specs.declared.plan.Plan.{Plan}
@@ -61,12 +62,17 @@ pub record IsServer (s : Server) : Type 0 where
 
 -- ## Which plans can be committed
 
--- the effects of a log can be taken back where memory runs out; what goes is a piece, and the records are those that it gives; a parcel fits
+-- the directory gave the number to no file before: it is no less than the next one
+abbrev pub IsNewGift : Option (List ℕ × ℕ) → RecordMap → Type 0
+IsNewGift gift m = IfSome gift (λ g. next_of (get m g.0) ≤ g.1)
+
+-- a number is given for the first time; the effects of a log can be taken back where memory runs out; what goes is a piece, and the records are those that it gives; a parcel fits
 abbrev pub CanChange : Change → Server → Type 0
+CanChange (Grant rows gift) s = IsNewGift gift s.records
 CanChange (Admit effects) s = list_all is_undoable effects ≡ true
 CanChange (Reap count effects) s = list_all is_undoable effects ≡ true
 CanChange (Leave to piece moved) s = IsPiece piece.prefix piece.given × (moved ≡ records_given piece.prefix piece.given s.records)
-CanChange (Install p) s = (fits s.records s.rows s.map s.me p ≡ true) × AreEachRecords p.records
+CanChange (Install p) s = (fits s.records s.rows s.map s.me p ≡ true) × AreNumbersLeft p.records
 CanChange ch s = Unit {0}
 
 -- what it leads to is a server, with rows in order

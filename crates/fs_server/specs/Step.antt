@@ -1,14 +1,12 @@
 -- The step of a server.
-use Rattle.std.specs.Prelude.{ℕ, ◌≤◌, ◌^◌, nat_le, List, [], length, map, Option, Some, None, if◌then◌else◌}
+use Rattle.std.specs.Prelude.{ℕ, ◌^◌, nat_le, List, [], length, map, Option, Some, None, if◌then◌else◌}
 use Rattle.fs_ident.specs.declared.actor.LeaseNo.{LeaseNo}
 use Rattle.fs_ident.specs.declared.actor.Session.{Session}
 use Rattle.fs_ident.specs.declared.actor.Peer.{Peer}
 use Rattle.fs_field.specs.declared.field.Field.{Field}
 use Rattle.fs_field.specs.Field.{file_of}
 use Rattle.fs_rows.specs.Live.{unlocked_on}
-use Rattle.fs_ident.specs.In.{In}
-use Rattle.fs_ident.specs.Ordered.{Keyed}
-use Rattle.fs_record.specs.declared.record.Record.{Record}
+pub use Rattle.fs_record.specs.Moving.{AreNumbersLeft}
 use Rattle.fs_msg.specs.declared.peer_msg.PeerMsg.TheVariants.{Parcel}
 use Rattle.fs_msg.specs.declared.answer.Answer.TheVariants as reply
 use Rattle.fs_msg.specs.declared.client_msg.ClientMsg.{ClientMsg}
@@ -62,10 +60,6 @@ event_step (Move prefix to) s = move_step prefix to s
 -- one event, at the reading that was handed in: the greatest so far counts
 abbrev pub step : Server → ℕ → ServerEvent → Stepped
 step s now e = event_step e (begun now s)
-
--- each directory of a parcel has a next number that there is
-abbrev pub AreNumbersLeft : Keyed Record → Type 0
-AreNumbersLeft records = (e : List ℕ × Record) → In e records → (1 ≤ e.1.next) × (e.1.next ≤ 2 ^ 32)
 
 -- what the event tells can be read from bytes
 abbrev pub CanBeTold : ServerEvent → Type 0

@@ -4,7 +4,7 @@ ghost use Rattle.std.specs.List.{filter};
 ghost use Rattle.fs_field.specs.Table.{has_no, renewed_row, is_live};
 ghost use Rattle.fs_map.specs.Lists.{map_after_take};
 ghost use Rattle.fs_parcel.specs.Parcel.{fits};
-ghost use Rattle.fs_record.specs.Moving.{AreEachRecords, with_records};
+ghost use Rattle.fs_record.specs.Moving.{AreNumbersLeft, with_records};
 ghost use Rattle.fs_rows.specs.Granted.{with_rows};
 ghost use Rattle.fs_rows.specs.Moving.{rows_left};
 ghost use Rattle.fs_server.specs.Rows.{AreRows};
@@ -125,7 +125,7 @@ impl AllRows {
         p: Parcel,
     ) -> Result<(), Memory>
         requires fits { fits records.old (filter (is_live now skew) self.old) map.old me p ≡ true }
-        requires nexts { AreEachRecords p.records }
+        requires nexts { AreNumbersLeft p.records }
         ensures rows { OnOk result
             (self.new ≡ with_rows p.rows (filter (is_live now skew) self.old)) }
         ensures records { OnOk result (records.new ≡ with_records p.records records.old) }

@@ -7,6 +7,7 @@ ghost use Rattle.fs_rows.specs.Granted.{with_rows};
 ghost use Rattle.fs_server.specs.Asks.{answer_to, answered, ask_from, ask_step, asked_in, kind_for, recalls_at};
 ghost use Rattle.fs_server.specs.Decided.{CanDecide, stepped_by};
 ghost use Rattle.fs_server.specs.Lent.{IsLent, IsReady, got_by, lent_by};
+ghost use Rattle.fs_server.specs.Plan.{IsNewGift};
 
 use crate::begun::Begun;
 use crate::change::Change;
@@ -114,6 +115,7 @@ fn answered(alloc: Global, at: &Begun<'_>, by: Session, got: Got) -> Result<Deci
     requires recalls { recalls_at got.end (with_rows got.lent.rows at.now.rows) ≡
         recalls_at got.end at.now.rows }
     requires ready { IsReady (got_by got at.now).server }
+    requires gift { IsNewGift got.gift at.now.records }
     ensures step { IfOk result (λ d. stepped_by d at.now ≡ answered by (got_by got at.now)) }
     ensures can { IfOk result (λ d. CanDecide d at.now) }
 {

@@ -5,11 +5,11 @@ ghost use Rattle.fs_field.specs.Table.{is_live};
 ghost use Rattle.fs_map.specs.Lists.{map_after_take};
 ghost use Rattle.fs_map.specs.Map.{IsPiece};
 ghost use Rattle.fs_parcel.specs.Parcel.{fits};
-ghost use Rattle.fs_record.specs.Moving.{AreEachRecords, records_given, records_left, with_records};
+ghost use Rattle.fs_record.specs.Moving.{AreNumbersLeft, records_given, records_left, with_records};
 ghost use Rattle.fs_rows.specs.Granted.{with_rows};
 ghost use Rattle.fs_rows.specs.Moving.{rows_left};
 ghost use Rattle.fs_server.specs.Pairs.{released_rows, renewed_rows};
-ghost use Rattle.fs_server.specs.Plan.{AreRows, CanChange, after_gift, changed};
+ghost use Rattle.fs_server.specs.Plan.{AreRows, CanChange, IsNewGift, after_gift, changed};
 ghost use Rattle.fs_server.specs.Lent.{IsReady};
 ghost use Rattle.fs_server.specs.Server.{begun};
 
@@ -73,6 +73,7 @@ fn grant(
     requires table { AreRows
         (with_rows rows (filter (is_live reading server.old.skew) server.old.rows)) }
     requires given { server.old.given + length rows < 2 ^ 64 }
+    requires gift { IsNewGift gift server.old.records }
     ensures ok { OnOk result (server.new ≡ record server.old {
       given = server.old.given + length rows;
       rows = with_rows rows (filter (is_live reading server.old.skew) server.old.rows);
@@ -89,6 +90,7 @@ fn grant(
 
 /// The directory's next number rises above the one that it gave.
 fn give_number(records: &mut Records, gift: Option<(FileId, u32)>)
+    requires { IsNewGift gift records.old }
     ensures { records.new ≡ after_gift gift records.old }
 {
     if let Some((dir, k)) = gift {
@@ -128,7 +130,7 @@ fn install(alloc: Global, server: &mut Server, reading: u64, p: Parcel) -> Resul
     requires fits { fits server.old.records
         (filter (is_live reading server.old.skew) server.old.rows) server.old.map server.old.me p ≡
         true }
-    requires nexts { AreEachRecords p.records }
+    requires nexts { AreNumbersLeft p.records }
     ensures ok { OnOk result (server.new ≡ record server.old {
       records = with_records p.records server.old.records;
       rows = with_rows p.rows (filter (is_live reading server.old.skew) server.old.rows);

@@ -10,6 +10,7 @@ ghost use Rattle.fs_record.specs.Fresh.{fresh_number, is_borne, is_directory};
 ghost use Rattle.fs_rows.specs.Granted.{with_rows};
 ghost use Rattle.fs_server.specs.Asks.{ask_fresh, fresh_for, fresh_in, fresh_of, recalls_at};
 ghost use Rattle.fs_server.specs.Lent.{IsLent, IsReady, end_without, got_by, lent_by, with_leases};
+ghost use Rattle.fs_server.specs.Plan.{IsNewGift};
 
 use crate::begun::Begun;
 use crate::lent::{Lent, lend};
@@ -46,6 +47,7 @@ pub(crate) fn ask_fresh(
     ensures recalls { IfOk result (λ got.
         recalls_at got.end (with_rows got.lent.rows at.now.rows) ≡ recalls_at got.end at.now.rows) }
     ensures ready { IfOk result (λ got. IsReady (got_by got at.now).server) }
+    ensures gift { IfOk result (λ got. IsNewGift got.gift at.now.records) }
     ensures spent { (counter : TheCounter) → IsErrOf result (errors.Spent counter) →
         (counter ≡ Leases) ×
         (nat_le (2 ^ 64) (ask_fresh by dir.now end (lent_by lent end at.now)).server.given ≡ true) }
@@ -87,6 +89,7 @@ fn fresh_below(
     ensures recalls { IfOk result (λ got.
         recalls_at got.end (with_rows got.lent.rows at.now.rows) ≡ recalls_at got.end at.now.rows) }
     ensures ready { IfOk result (λ got. IsReady (got_by got at.now).server) }
+    ensures gift { IfOk result (λ got. IsNewGift got.gift at.now.records) }
     ensures spent { (counter : TheCounter) → IsErrOf result (errors.Spent counter) →
         (counter ≡ Leases) × (nat_le (2 ^ 64)
         (fresh_for by (Some dir.now) (lent_by lent All at.now)).server.given ≡ true) }
@@ -114,6 +117,7 @@ fn fresh_in(
     ensures recalls { IfOk result (λ got.
         recalls_at got.end (with_rows got.lent.rows at.now.rows) ≡ recalls_at got.end at.now.rows) }
     ensures ready { IfOk result (λ got. IsReady (got_by got at.now).server) }
+    ensures gift { IfOk result (λ got. IsNewGift got.gift at.now.records) }
     ensures spent { (counter : TheCounter) → IsErrOf result (errors.Spent counter) →
         (counter ≡ Leases) × (nat_le (2 ^ 64)
         (fresh_in by dir.now (is_directory at.now.records dir.now)
@@ -173,6 +177,7 @@ fn give(
         (borne_numbers dir.now (with_rows lent.rows at.now.rows))) (lent_by lent All at.now)) }
     ensures recalls { IfOk result (λ got. got.end ≡ All) }
     ensures ready { IfOk result (λ got. IsReady (got_by got at.now).server) }
+    ensures gift { IfOk result (λ got. IsNewGift got.gift at.now.records) }
     ensures spent { (counter : TheCounter) → IsErrOf result (errors.Spent counter) →
         (counter ≡ Leases) × ((with_leases lent.rows at.now).given + 1 ≡ 2 ^ 64) }
 {

@@ -2,6 +2,7 @@ pub mod Steps
 pub mod Bases
 pub mod Places
 pub mod Changed
+pub mod GoingBack
 pub mod ModeItems
 pub mod Walks
 pub mod Conflicting
@@ -9,9 +10,12 @@ pub mod Replies
 pub mod Led
 pub mod Reading
 pub mod Seeing
+pub mod Unread
 pub mod Unseen
 pub mod Pins
 pub mod Lapsed
 pub mod Counting
 pub mod Order
 pub mod Grants
+pub mod Best
+pub mod Agreeing

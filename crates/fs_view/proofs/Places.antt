@@ -158,11 +158,11 @@ pub fits_there : (test : Kept → Type 0) (o : Option Kept) (x : Kept) → o ≡
 fits_there test None x e h = absurd (cc)
 fits_there test (Some y) x e h = let q : y ≡ x = cc in subst test q h
 
--- whether there was memory or not
-pub distinct_added : (r : Result (Unit {0}) Memory) (old new : List Kept) (k : Kept) → OnOk r (new ≡ old ++ k ∷ []) → OnErr r (new ≡ old) → list_any (has_number (number_of k.standing)) old ≡ false → are_distinct old ≡ true → are_distinct new ≡ true
-distinct_added (Ok u) old new k p q h d = let e : new ≡ old ++ k ∷ [] = p in ap are_distinct e ∙ distinct_append old k h d
-distinct_added (Err m) old new k p q h d = let e : new ≡ old = q in ap are_distinct e ∙ d
+-- a lease with a new number was put behind the others
+pub distinct_put : (old room new : List Kept) (k : Kept) → new ≡ room ++ k ∷ [] → room ≡ old → list_any (has_number (number_of k.standing)) old ≡ false → are_distinct old ≡ true → are_distinct new ≡ true
+distinct_put old room new k p r h d = ap are_distinct (p ∙ ap (λ (ks : List Kept). ks ++ k ∷ []) r) ∙ distinct_append old k h d
 
+-- whether there was memory or not
 pub distinct_mapped : (r : Result (Unit {0}) Memory) (old new : List Kept) (f : Kept → Kept) → ((k : Kept) → number_of (f k).standing ≡ number_of k.standing) → OnOk r (new ≡ map f old) → OnErr r (new ≡ old) → are_distinct old ≡ true → are_distinct new ≡ true
 distinct_mapped (Ok u) old new f same p q d = let e : new ≡ map f old = p in ap are_distinct e ∙ (distinct_map f same old ∙ d)
 distinct_mapped (Err m) old new f same p q d = let e : new ≡ old = q in ap are_distinct e ∙ d

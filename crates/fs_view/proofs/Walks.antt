@@ -27,11 +27,11 @@ pub replied : (known : Known) (given : Given) (o : Op) → missing known given o
 replied known given o h n = let e : is_some (walk known given o).reply ≡ true = all_there known given (script_of o) h in let f : false ≡ true = sym (ap (λ r. is_some r) n) ∙ e in absurd (cc)
 
 -- an item that is there, and the rest
-behind_alike : (need : Need) (b b' : Bool) (rest rest' : Walk) → is_some (behind need b rest).reply ≡ true → (b ≡ true → b' ≡ true) → (is_some rest.reply ≡ true → b ≡ true → rest' ≡ rest) → behind need b' rest' ≡ behind need b rest
+pub behind_alike : (need : Need) (b b' : Bool) (rest rest' : Walk) → is_some (behind need b rest).reply ≡ true → (b ≡ true → b' ≡ true) → (is_some rest.reply ≡ true → b ≡ true → rest' ≡ rest) → behind need b' rest' ≡ behind need b rest
 behind_alike need true b' rest rest' h there alike = ap (λ c. behind need c rest') (there refl) ∙ ap (behind need true) (alike h refl)
 behind_alike need false b' rest rest' h there alike = absurd (cc)
 
-items_behind : (need x : Need) (b : Bool) (rest : Walk) → In x rest.items → In x (behind need b rest).items
+pub items_behind : (need x : Need) (b : Bool) (rest : Walk) → In x rest.items → In x (behind need b rest).items
 items_behind need x true rest i = inr i
 items_behind need x false rest i = inr i
 

@@ -9,14 +9,18 @@ use Rattle.fs_field.specs.declared.lease_kind.LeaseKind.{LeaseKind}
 use Rattle.fs_field.specs.declared.lease_kind.LeaseKind.TheVariants.{Shared, Exclusive}
 use Rattle.fs_field.specs.Conflict.{meets}
 use Rattle.fs_model.specs.Namespace.{NodeMap}
-use Rattle.fs_model.specs.Step.{is_child}
+use Rattle.fs_model.specs.Step.{is_child, step}
+use Rattle.fs_ident.specs.declared.actor.Session.{Session}
+use Rattle.fs_field.specs.Field.{file_of}
+use Rattle.fs_record.specs.Effects.{effects_of}
+use Rattle.fs_record.specs.ValueOf.{value_at}
 use Rattle.fs_model.specs.declared.op.Op.{Op}
 use Rattle.fs_model.specs.declared.op.Op.TheVariants as op
 use Rattle.fs_model.specs.declared.reply.Reply.{Reply}
 use Rattle.fs_model.specs.declared.reply.Reply.TheVariants as reply
 use Rattle.std.specs.List.{list_all}
 use Rattle.fs_view.specs.declared.kept.Kept.{Kept}
-use Rattle.fs_view.specs.Kept.{entries_of}
+use Rattle.fs_view.specs.Kept.{entries_of, is_better_than, serves}
 use Rattle.fs_view.specs.Walk.{Known, Given}
 
 -- the other knowledge has the item too, with the same value
@@ -48,3 +52,28 @@ item_meets field kind (Fresh dir) = false
 -- each lease can take so many entries more
 abbrev pub have_room : ℕ → List Kept → Bool
 have_room n leases = list_all (λ (k : Kept). nat_le (entries_of k.standing + n) 0xffff_ffff_ffff_ffff) leases
+
+-- the lease serves, and no other that serves is better
+pub record IsBestOf (leases : List Kept) (now : ℕ) (field : Field) (kind : LeaseKind) (k : Kept) : Type 0 where
+  pub among : In k leases
+  pub serving : serves now field kind k.standing ≡ true
+  pub best : (other : Kept) → In other leases → serves now field kind other.standing ≡ true → is_better_than other.standing k.standing ≡ false
+
+-- the two spaces have the same values of these items, as the session sees them
+abbrev pub AgreeOn : NodeMap → NodeMap → Session → List Need → Type 0
+AgreeOn m n by items = (field : Field) (kind : LeaseKind) → In (Lease field kind) items → value_at by field (get n (file_of field)) ≡ value_at by field (get m (file_of field))
+
+-- the identifier that a create names is of no file that lives
+abbrev pub IsUnborn : NodeMap → Op → Type 0
+IsUnborn m (op.Create dir name kind (Some id)) = get m id ≡ None
+IsUnborn m o = Unit {0}
+
+-- the reply as far as needs tell it: that a directory would come into itself, ancestors alone tell
+abbrev pub reply_told : Op → Reply → Reply
+reply_told (op.Rename sdir sname ddir dname) r = but_cycle r
+reply_told o r = r
+
+-- the session's operation gets the same reply in both spaces, and has the same effects
+pub record AreAnsweredAlike (m n : NodeMap) (by : Session) (o : Op) : Type 0 where
+  pub reply : reply_told o (step m by o).reply ≡ reply_told o (step n by o).reply
+  pub effects : effects_of by o (step m by o).reply ≡ effects_of by o (step n by o).reply

@@ -3,6 +3,7 @@ pub mod Script
 pub mod Walk
 pub mod Kept
 pub mod View
+pub mod Gone
 pub mod Laws
 -- cited by private calls alone
 pub mod Change

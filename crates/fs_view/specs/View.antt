@@ -15,6 +15,7 @@ use Rattle.fs_field.specs.Field.{file_of}
 use Rattle.fs_field.specs.declared.asked.Need.{Need}
 use Rattle.fs_field.specs.declared.asked.Need.TheVariants as need
 use Rattle.fs_model.specs.declared.op.Op.{Op}
+use Rattle.fs_model.specs.declared.op.Op.TheVariants as op
 use Rattle.fs_model.specs.declared.reply.Reply.{Reply}
 use Rattle.fs_view.specs.declared.kept.Kept.{Kept}
 use Rattle.fs_view.specs.declared.new_lease.NewLease.{NewLease}
@@ -82,6 +83,11 @@ along v now script = walk_along (known_by v now) (given_by v now) script
 
 abbrev pub walk_in : View → ℕ → Op → Walk
 walk_in v now o = walk (known_by v now) (given_by v now) o
+
+-- the operation without the identifier that a create names: what it needs is what it needs with none named
+abbrev pub nameless : Op → Op
+nameless (op.Create dir name kind id) = op.Create dir name kind None
+nameless o = o
 
 abbrev pub missing_in : View → ℕ → Op → List Need
 missing_in v now o = missing (known_by v now) (given_by v now) o

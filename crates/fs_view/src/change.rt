@@ -1,7 +1,7 @@
 //! Steps of leases in place, which take no memory.
 ghost use Rattle.std.specs.Prelude.{◌≡◌, ◌<◌, ◌≤◌, vec_len, vec_capacity, [], ◌∷◌, ◌++◌, true, not, filter, find, length, IfOk, IfSome, OnOk, OnErr};
 ghost use Rattle.std.specs.List.{position};
-ghost use Rattle.fs_view.specs.Kept.{has_ended, has_number};
+ghost use Rattle.fs_view.specs.Kept.{has_ended, has_number, is_leaving};
 ghost use Rattle.fs_view.specs.Change.{changed, fits};
 ghost use Rattle.fs_view.specs.View.{are_distinct, at_number, can_pin_all, pinned_all, unpinned_all};
 
@@ -97,9 +97,11 @@ pub fn unpin_all(leases: &mut Vec<Kept>, uses: &[Use])
     }
 }
 
-/// Gives up the lease of this number.
-pub fn give_up(leases: &mut Vec<Kept>, no: LeaseNo)
-    requires { are_distinct leases.old.items ≡ true }
+/// Spends the lease of this number, which goes back, now that its server has it.
+pub fn release(leases: &mut Vec<Kept>, no: LeaseNo)
+    requires distinct { are_distinct leases.old.items ≡ true }
+    requires leaving { IfSome (find (has_number no) leases.old.items) (λ k.
+        is_leaving k.standing ≡ true) }
     ensures others { leases.new.items ≡ filter (λ k. not (has_number no k)) leases.old.items }
     ensures distinct { are_distinct leases.new.items ≡ true }
 {
@@ -133,7 +135,7 @@ pub fn lapse(leases: &mut Vec<Kept>, now: u64)
     }
 }
 
-/// Spends every lease.
+/// Spends every lease, with the whole core that has them.
 pub fn discard_all(leases: Vec<Kept>) {
     let mut leases = leases;
     while let Some(kept) = leases.pop() {
@@ -142,17 +144,14 @@ pub fn discard_all(leases: Vec<Kept>) {
     leases.destroy_empty();
 }
 
-/// Adds a lease behind the others, or spends it where memory is wanting.
-pub fn add(leases: &mut Vec<Kept>, kept: Kept) -> Result<(), Memory>
-    ensures ok { OnOk result (leases.new.items ≡ leases.old.items ++ kept ∷ []) }
-    ensures err { OnErr result (leases.new.items ≡ leases.old.items) }
+/// Adds a lease behind the others, where there is room for it.
+pub fn put(leases: &mut Vec<Kept>, kept: Kept)
+    requires { vec_len leases.old < vec_capacity leases.old }
+    ensures { leases.new.items ≡ leases.old.items ++ kept ∷ [] }
 {
     match leases.push(kept) {
-        Ok(()) => Ok(()),
-        Err(full) => {
-            full.value.discard();
-            Err(Memory)
-        }
+        Ok(()) => {}
+        Err(_) => unreachable!(),
     }
 }
 
@@ -173,9 +172,15 @@ pub fn copy_all(alloc: Global, leases: &[Kept]) -> Result<Vec<Kept>, Memory>
     Ok(twin)
 }
 
-/// Adds a copy of the lease.
+/// Adds a copy of the lease, or spends it, with the core that was to have it, where memory is wanting.
 fn add_copy(alloc: Global, twin: &mut Vec<Kept>, kept: &Kept) -> Result<(), Memory>
     ensures { OnOk result (twin.new.items ≡ twin.old.items ++ kept.now ∷ []) }
 {
-    add(twin, kept.copy(alloc)?)
+    match twin.push(kept.copy(alloc)?) {
+        Ok(()) => Ok(()),
+        Err(full) => {
+            full.value.discard();
+            Err(Memory)
+        }
+    }
 }

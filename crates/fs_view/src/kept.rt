@@ -189,16 +189,31 @@ impl Standing {
     {
         match self {
             Standing::Held(held) => held.ended(now),
-            Standing::Pinned(pinned) => pinned.discard(),
-            Standing::Leaving(leaving) => leaving.discard(),
+            Standing::Pinned(pinned) => {
+                pinned.discard();
+                unreachable!()
+            }
+            Standing::Leaving(leaving) => {
+                leaving.discard();
+                unreachable!()
+            }
         }
     }
 
-    /// Its server has it back: spends it.
-    pub fn released(self) {
+    /// It goes back, and its server has it back: spends it.
+    pub fn released(self)
+        requires { is_leaving self ≡ true }
+    {
         match self {
             Standing::Leaving(leaving) => leaving.released(),
-            other => other.discard(),
+            Standing::Held(held) => {
+                held.discard();
+                unreachable!()
+            }
+            Standing::Pinned(pinned) => {
+                pinned.discard();
+                unreachable!()
+            }
         }
     }
 }
@@ -255,8 +270,10 @@ impl Kept {
         standing.ended(now);
     }
 
-    /// Its server has it back: spends it.
-    pub fn released(self) {
+    /// It goes back, and its server has it back: spends it.
+    pub fn released(self)
+        requires { is_leaving self.standing ≡ true }
+    {
         let Kept {
             standing,
             base: _,
@@ -266,7 +283,7 @@ impl Kept {
         standing.released();
     }
 
-    /// Spends it.
+    /// Spends it, with the whole core that has it.
     pub fn discard(self) {
         let Kept {
             standing,

@@ -1,5 +1,5 @@
 //! Laws of needs and replies.
-ghost use Rattle.std.specs.Prelude.{◌≡◌, ◌==◌, ℕ, length, List, false, true, not, Some, is_some};
+ghost use Rattle.std.specs.Prelude.{◌≡◌, ◌==◌, ℕ, length, List, false, true, not, None, Some, is_some};
 ghost use Rattle.std.specs.List.{list_any};
 ghost use Rattle.fs_field.specs.declared.field.Field.{Field};
 ghost use Rattle.fs_field.specs.declared.lease_kind.LeaseKind.{LeaseKind};
@@ -13,9 +13,11 @@ ghost use Rattle.fs_model.specs.declared.reply.Reply.{Reply};
 ghost use Rattle.fs_record.specs.Effects.{effects_of, tells_its_effects};
 ghost use Rattle.fs_record.specs.Records.{AreRecords, RecordMap, nodes_of};
 ghost use Rattle.fs_record.specs.ValueOf.{is_other, value_of};
-ghost use Rattle.fs_view.specs.Laws.{but_cycle, HasAll, IsNewWhereMade, have_room, item_meets};
+ghost use Rattle.fs_view.specs.Laws.{AgreeOn, AreAnsweredAlike, but_cycle, HasAll, IsBestOf, IsUnborn, IsNewWhereMade, have_room, item_meets};
+ghost use Rattle.fs_view.specs.declared.kept.Kept.{Kept};
+ghost use Rattle.fs_view.specs.Kept.{serves};
 ghost use Rattle.fs_record.specs.Applied.{records_after_all};
-ghost use Rattle.fs_view.specs.View.{View, are_distinct, can_pin_all, uses_in, value_after_all};
+ghost use Rattle.fs_view.specs.View.{View, are_distinct, can_pin_all, nameless, taken, uses_in, value_after_all};
 ghost use Rattle.fs_view.specs.Walk.{Known, Given, walk, known_in, always};
 
 /// An operation stands on its items alone: where nothing is missing, whoever knows the items, with the same values,
@@ -82,4 +84,24 @@ pub fn uses_can_be_pinned()
     ensures { (v : View) (now : ℕ) (op : Op) → are_distinct v.leases ≡ true →
         have_room (length (uses_in v now op)) v.leases ≡ true →
         can_pin_all (uses_in v now op) v.leases ≡ true }
+{}
+
+/// Of several leases that serve for a field the one is taken that no other one is better than, and none only where none
+/// serves.
+pub fn the_best_lease_is_taken()
+    ensures best { (v : View) (now : ℕ) (field : Field) (kind : LeaseKind) (k : Kept) →
+        taken v now field kind ≡ Some k → IsBestOf v.leases now field kind k }
+    ensures none { (v : View) (now : ℕ) (field : Field) (kind : LeaseKind) →
+        taken v now field kind ≡ None →
+        list_any (λ (k : Kept). serves now field kind k.standing) v.leases ≡ false }
+{}
+
+/// An operation stands on the values of its needs: two sound spaces that agree on them, as one session sees them, give it
+/// the same reply and the same effects. Apart are a create whose identifier has a node, and whether a rename would bring
+/// a directory into itself: ancestors alone tell that.
+pub fn operations_stand_on_their_needs()
+    ensures { (m n : NodeMap) (by : Session) (op : Op) → IsSound m → IsSound n →
+        IsUnborn m op → IsUnborn n op →
+        AgreeOn m n by (walk (known_in m by) always (nameless op)).items →
+        AreAnsweredAlike m n by op }
 {}

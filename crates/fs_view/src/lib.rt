@@ -4,6 +4,7 @@
 mod admit;
 mod change;
 mod delete;
+mod gone;
 mod kept;
 mod known;
 mod law;
@@ -17,10 +18,12 @@ mod told;
 mod view;
 mod walk;
 
+pub use gone::what_is_gone_is_unread;
 pub use kept::{Kept, Standing};
 pub use law::{
-    deletes_are_the_step, needs_are_enough, other_values_stay, own_values_follow,
-    reads_have_no_effects, renames_are_the_step, replies_are_the_step, uses_can_be_pinned,
+    deletes_are_the_step, needs_are_enough, operations_stand_on_their_needs, other_values_stay,
+    own_values_follow, reads_have_no_effects, renames_are_the_step, replies_are_the_step,
+    the_best_lease_is_taken, uses_can_be_pinned,
 };
 pub use new_lease::NewLease;
 pub use seen::Seen;

@@ -1,10 +1,10 @@
 //! What a view lacks for an operation, what it uses for it, and its reply.
 ghost use Rattle.std.specs.Prelude.{◌≡◌, [], Some, filter, not, IfOk};
 ghost use Rattle.std.specs.List.{filter_map};
-ghost use Rattle.fs_view.specs.View.{given_by, item_use, known_by, missing_in, reply_in, uses_in, walk_in};
+ghost use Rattle.fs_view.specs.View.{given_by, item_use, known_by, missing_in, nameless, reply_in, uses_in, walk_in};
 ghost use Rattle.fs_view.specs.Walk.{is_there};
 
-use crate::table::walk_of;
+use crate::table::{nameless_walk, walk_of};
 use crate::view::View;
 use crate::walk::Walk;
 use fs_field::{Need, Use};
@@ -38,22 +38,24 @@ impl View {
         uses_of(self, alloc, now, items.as_slice())
     }
 
-    /// What the answer to the operation stands on and is not there at the reading, in order.
+    /// What the answer to the operation stands on and is not there at the reading, in order. A create that names an
+    /// identifier needs what one does that names none.
     pub fn missing(&self, alloc: Global, now: u64, op: &Op) -> Result<List<Need>, Memory>
-        ensures { IfOk result (λ needs. needs ≡ missing_in self.now now op.now) }
+        ensures { IfOk result (λ needs. needs ≡ missing_in self.now now (nameless op.now)) }
     {
-        let Walk { items, reply: _ } = walk_of(self, alloc, now, op)?;
+        let Walk { items, reply: _ } = nameless_walk(self, alloc, now, op)?;
         let mut needs = items.into_vec();
         keep_missing(self, now, &mut needs);
         Ok(List::from_vec(needs))
     }
 
-    /// The leases that the operation is answered from at the reading, one for each thing that the answer stands on.
+    /// The leases that the operation is answered from at the reading, one for each thing that the answer stands on. A
+    /// create that names an identifier uses what one does that names none.
     pub fn uses(&self, alloc: Global, now: u64, op: &Op) -> Result<List<Use>, Memory>
-        requires { missing_in self.now now op.now ≡ [] }
-        ensures { IfOk result (λ uses. uses ≡ uses_in self.now now op.now) }
+        requires { missing_in self.now now (nameless op.now) ≡ [] }
+        ensures { IfOk result (λ uses. uses ≡ uses_in self.now now (nameless op.now)) }
     {
-        let Walk { items, reply: _ } = walk_of(self, alloc, now, op)?;
+        let Walk { items, reply: _ } = nameless_walk(self, alloc, now, op)?;
         self.uses_of(alloc, now, &items)
     }
 
@@ -61,10 +63,10 @@ impl View {
     /// lease: that is tested elsewhere, and `Renamed` here.
     #[tactic(auto, using(crate::proofs::Walks::replied))]
     pub fn reply(&self, alloc: Global, now: u64, op: &Op) -> Result<Reply, Memory>
-        requires { missing_in self.now now op.now ≡ [] }
-        ensures { IfOk result (λ reply. reply_in self.now now op.now ≡ Some reply) }
+        requires { missing_in self.now now (nameless op.now) ≡ [] }
+        ensures { IfOk result (λ reply. reply_in self.now now (nameless op.now) ≡ Some reply) }
     {
-        let Walk { items: _, reply } = walk_of(self, alloc, now, op)?;
+        let Walk { items: _, reply } = nameless_walk(self, alloc, now, op)?;
         match reply {
             Some(reply) => Ok(reply),
             None => unreachable!(),

@@ -1,6 +1,6 @@
 //! The table of needs, walked over what a view makes known.
 ghost use Rattle.std.specs.Prelude.{◌≡◌, IfOk};
-ghost use Rattle.fs_view.specs.View.{walk_in};
+ghost use Rattle.fs_view.specs.View.{nameless, walk_in};
 
 use crate::view::View;
 use crate::walk::{self, Walk};
@@ -43,5 +43,20 @@ pub fn walk_of(view: &View, alloc: Global, now: u64, op: &Op) -> Result<Walk, Me
             file: _,
             session: _,
         } => Ok(Walk::answer(alloc, Reply::Reaped)),
+    }
+}
+
+/// The walk of the operation's row of the table, whatever identifier a create names.
+pub fn nameless_walk(view: &View, alloc: Global, now: u64, op: &Op) -> Result<Walk, Memory>
+    ensures { IfOk result (λ w. w ≡ walk_in view.now now (nameless op.now)) }
+{
+    match op {
+        Op::Create {
+            dir,
+            name,
+            kind: _,
+            id: _,
+        } => walk::create(view, alloc, now, dir, name, &None),
+        op => walk_of(view, alloc, now, op),
     }
 }

@@ -8,7 +8,7 @@ ghost use Rattle.fs_view.specs.View.{admitted_front, are_distinct, can_grant_all
 
 use crate::admit::{admit, drop_front, front};
 use crate::change::{
-    Change, add, change_at, copy_all, discard_all, give_up, lapse, pin_all, unpin_all,
+    Change, change_at, copy_all, discard_all, lapse, pin_all, put, release, unpin_all,
 };
 use crate::kept::{Kept, Standing};
 use crate::known::{after_log, has_number, numbered, offered, taken};
@@ -147,13 +147,16 @@ impl View {
             None => None,
             Some(dir) => Some(dir.copy(alloc)?),
         };
+        let field = field.copy(alloc)?;
+        self.leases.reserve(1)?;
         let kept = Kept {
-            standing: Standing::Held(Held::new(no, field.copy(alloc)?, kind, until)),
+            standing: Standing::Held(Held::new(no, field, kind, until)),
             base: value,
             recalled: false,
             below,
         };
-        add(&mut self.leases, kept)
+        put(&mut self.leases, kept);
+        Ok(())
     }
 
     /// What is over at the reading is given up, and these leases are added behind the others, held. `Memory` where
@@ -261,19 +264,22 @@ impl View {
     }
 
     /// The lease of this number is given up, without a word to its server where no entry uses it.
+    #[tactic(auto, using(crate::proofs::GoingBack::view_leaving, crate::proofs::GoingBack::view_gone))]
     pub fn give_up(&mut self, no: LeaseNo)
         ensures { self.new ≡ given_up no self.old }
     {
         if self.is_held(no) {
-            give_up(&mut self.leases, no);
+            self.leave(no);
+            self.released(no);
         }
     }
 
-    /// The server has the lease of this number back: it is given up.
+    /// The server has the lease of this number back, which goes back (`is_leaving` is the test): it is given up.
     pub fn released(&mut self, no: LeaseNo)
+        requires { stands is_leaving no self.old.leases ≡ true }
         ensures { self.new ≡ without_lease no self.old }
     {
-        give_up(&mut self.leases, no);
+        release(&mut self.leases, no);
     }
 
     /// The lease of this number has another end, unless it goes back.
@@ -336,7 +342,7 @@ impl View {
         offered(&self.leases, now, dir, self.pending.as_slice())
     }
 
-    /// Spends every lease.
+    /// Spends every lease, with the whole core that has them.
     pub fn discard(self) {
         let View {
             session: _,

@@ -6,7 +6,6 @@ use Rattle.fs_ident.specs.declared.actor.Peer.{Peer}
 use Rattle.fs_ident.specs.declared.actor.Peer.TheVariants.{Server}
 use Rattle.fs_ident.specs.In.{In}
 use Rattle.fs_record.specs.Moving.{AreEachRecords}
-use Rattle.fs_record.specs.Records.{AreRecords}
 use Rattle.fs_record.specs.declared.parcel.Parcel.{Parcel}
 use Rattle.fs_serial.specs.Cluster.{parcels_of}
 use Rattle.fs_actor.specs.Actor.{is_full_down}
@@ -27,7 +26,7 @@ use Rattle.fs_world.specs.Planned.{IsAnswered, IsOwn, WasSent}
 use Rattle.fs_world.specs.Served.{Seats, ServerStepped, Stepped, at_server, core_step, server_step, server_step_at, server_told_at, with_server}
 use Rattle.fs_world.specs.declared.served.Served.{Served}
 use Rattle.fs_world.proofs.AtSeat.{has_room, linked_after}
-use Rattle.fs_world.proofs.Linked.{own_event, server_linked, told_server_linked}
+use Rattle.fs_world.proofs.Linked.{server_linked, told_server_linked}
 
 -- what is lent out of a list stands there
 pub item_there : {X : Type 0} (xs : List X) (k : ℕ) (x : X) → k < length xs → x ≡ slice_index_or xs k x → slice_get xs k ≡ Some x
@@ -57,16 +56,16 @@ step_there w k turn now e s post there tied = ap₂ (λ (a : Option Core) (b : O
 -- ## The links after it
 
 pub own_after : (r : Result Outcome CoreError) (w new : Served) (k : ℕ) (turn : Bool) (now : ℕ) (e : ServerEvent) (s : Core) (post : Links) → slice_get w.servers k ≡ Some s → slice_get w.posts k ≡ Some post
-    → IsOwn (length w.servers) e → AreRecords s.records → IsLinked w
+    → IsOwn (length w.servers) e → IsLinked w
     → IfOk r (λ told. world_left told new ≡ server_step k turn now e w) → OnOk r (FitsDown (step s now e).out.send) → OnOk r (IsLinked new)
-own_after r w new k turn now e s post there tied own valid h is fits =
+own_after r w new k turn now e s post there tied own h is fits =
     linked_after r new (server_step k turn now e w) (FitsDown (step s now e).out.send)
     (λ fit none.
     let room = sym (ap (λ (y : Stepped). y.spent) (step_there w k turn now e s post there tied)) ∙ none in
-    server_linked w k s post turn now e there tied (own_event (length w.servers) s e own valid) fit (has_room (spent_by s now e) (is_full_down (step s now e).out.send post) room) h)
+    server_linked w k s post turn now e there tied own fit (has_room (spent_by s now e) (is_full_down (step s now e).out.send post) room) h)
     is fits
 
-told_server_at : (w : Served) (k now : ℕ) (from : Peer) (p : Packet) → WasSent from (Server k) (Some p) w.packets.sent
+pub told_server_at : (w : Served) (k now : ℕ) (from : Peer) (p : Packet) → WasSent from (Server k) (Some p) w.packets.sent
     → ((s : Core) (post : Links) → slice_get w.servers k ≡ Some s → slice_get w.posts k ≡ Some post → IsAnswered now (event_heard from (post_accepted post from p).heard.joined) (at_server s (post_accepted post from p).links w))
     → IsLinked w → IsLinked (server_told_at (slice_get w.servers k) (slice_get w.posts k) now k from p w).world
 told_server_at w k now from p x fits h = go (slice_get w.servers k) (slice_get w.posts k) refl refl

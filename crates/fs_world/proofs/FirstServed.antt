@@ -9,10 +9,9 @@ use Rattle.fs_ident.proofs.Standing.{In-append}
 use Rattle.fs_server.specs.Server.{first_server}
 use Rattle.fs_server.specs.declared.state.Server.{Server}
 use Rattle.fs_serial.specs.Cluster.{Lines, first_lines, first_servers}
-use Rattle.fs_serial.specs.Seen.{ClusterHolds}
 use Rattle.fs_world.specs.Parts.{lines_in, lines_of}
 use Rattle.fs_world.specs.Served.{first_served}
-use Rattle.fs_world.proofs.SerialLaws.{SerialLaws}
+use Rattle.fs_world.proofs.SerialLaws.{EventLaws}
 use Rattle.fs_world.proofs.SessionSteps.{HoldsOf}
 use Rattle.fs_world.proofs.StayingServers.{first_count}
 
@@ -29,13 +28,13 @@ no_rows (suc k) skew term s i = either (In-append s (first_servers k skew term) 
     either (inr (inl e)) before = ap (λ (x : Server). x.rows) e
     either (inr (inr z)) before = absurd z
 
-pub first_holds : (laws : SerialLaws) (servers skew term : ℕ) → 1 ≤ servers → HoldsOf servers skew 0 [] (first_served servers skew term)
+pub first_holds : (laws : EventLaws) (servers skew term : ℕ) → 1 ≤ servers → HoldsOf laws servers skew 0 [] (first_served servers skew term)
 first_holds laws servers skew term some = record {
   replied = λ x. [];
-  cluster = subst (λ (lines : Session → Lines). ClusterHolds skew 0 (record { servers = first_servers servers skew term; flying = []; journal = []; replied = λ x. []; lines = lines })) (first_seen term) (laws.first servers skew term 0 some);
+  cluster = subst (λ (lines : Session → Lines). laws.Holds skew 0 (record { servers = first_servers servers skew term; flying = []; journal = []; replied = λ x. []; lines = lines })) (first_seen term) (laws.first servers skew term 0 some);
   many = first_count servers skew term;
   rows = λ s i row j. absurd (subst (In row) (no_rows servers skew term s i) j);
   parcels = λ f i. absurd i;
-  answered = λ t i. absurd i;
+  answered = λ x. tt;
   items = tt;
 }

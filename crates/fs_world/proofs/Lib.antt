@@ -25,6 +25,8 @@ pub mod LinkedSession
 pub mod LinkedCore
 pub mod Linked
 pub mod Carrying
+pub mod InRange
+pub mod Within
 pub mod Arrivals
 pub mod NothingUnsent
 pub mod Serial
@@ -46,6 +48,7 @@ pub mod ServedSteps
 pub mod FirstServed
 pub mod ServedDone
 pub mod GoesOn
+pub mod AnyReadings
 pub mod Runs
 pub mod Whole
 pub mod Right

@@ -2,5 +2,5 @@
 -- its way, as it was sent.
 pub use Rattle.fs_world.proofs.LinkedFirst.{first_linked, join_linked, mark_linked}
 pub use Rattle.fs_world.proofs.LinkedSession.{act_linked, packet_of, sent_between, sent_read, told_seat_first, told_seat_linked, turn_linked, went}
-pub use Rattle.fs_world.proofs.LinkedCore.{IsOwnEvent, own_event, server_linked, told_server_first, told_server_linked}
+pub use Rattle.fs_world.proofs.LinkedCore.{server_linked, told_server_first, told_server_linked}
 pub use Rattle.fs_world.proofs.NamedClients.{answer_silent}

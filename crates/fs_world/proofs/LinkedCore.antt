@@ -38,7 +38,6 @@ use Rattle.fs_msg.specs.declared.peer_msg.PeerMsg.TheVariants.{Parcel as OfParce
 use Rattle.fs_actor.specs.Actor as actor
 use Rattle.fs_actor.specs.Actor.{first_spent, is_full_down, with_pushed}
 use Rattle.fs_actor.specs.Hearing.{event_heard, heard_in, unheard_note}
-use Rattle.fs_record.specs.Records.{AreRecords}
 use Rattle.fs_serial.specs.Cluster.{flying_from, is_between, is_with, without_first}
 use Rattle.fs_serial.specs.declared.flying.Flying.{Flying}
 use Rattle.fs_server.specs.Server.{Stepped as CoreStepped}
@@ -84,7 +83,7 @@ entries_readable : (es : List Entry) → AllByRecursion FitsEntry es → list_al
 entries_readable [] h = refl
 entries_readable (e ∷ es) h = both_joined (is_readable_entry e) (list_all is_readable_entry es) (op_readable e.op h.0.op) (entries_readable es h.1)
 
-message_readable : (m : ClientMsg) → FitsMessage (msg.Client m) → is_readable (msg.Client m) ≡ true
+pub message_readable : (m : ClientMsg) → FitsMessage (msg.Client m) → is_readable (msg.Client m) ≡ true
 message_readable (client.Ask items fresh) h = refl
 message_readable (client.Renew pairs) h = refl
 message_readable (client.Release pairs) h = refl
@@ -277,33 +276,18 @@ module _ (w : Served) (k : ℕ) (few : k < length w.servers) (h : IsLinked w) wh
       let c = carried first.0 first.1 in
       let fits = subst (λ (o : Option ServerEvent). IsAnswered now o (record x { post = post })) first.2 answered in
       subst (λ (o : Option ServerEvent). IsGoing w k (server_hears now k (Server i) heard count o (record x { post = post }))) (sym first.2)
-      (core_goes (record x { post = post; flying = without_first (is_between i k) x.flying }) false heard now (FromPeer i (OfParcel first.0.parcel)) of (c.handles, c.rows) fits.0 fits.1 g)
+      (core_goes (record x { post = post; flying = without_first (is_between i k) x.flying }) false heard now (FromPeer i (OfParcel first.0.parcel)) of (c.each, c.handles, c.rows) fits.0 fits.1 g)
 
 -- ## An event of a server
 
--- one of its own, and no message
-abbrev pub IsOwnEvent : ℕ → Core → ServerEvent → Type 0
-IsOwnEvent servers c Turn = Unit {0}
-IsOwnEvent servers c (Recall field) = Unit {0}
-IsOwnEvent servers c (Move prefix to) = (to < servers) × AreRecords c.records
-IsOwnEvent servers c (FromClient by m) = ⊥
-IsOwnEvent servers c (FromPeer from m) = ⊥
-
-pub own_event : (servers : ℕ) (c : Core) (e : ServerEvent) → IsOwn servers e → AreRecords c.records → IsOwnEvent servers c e
-own_event servers c Turn own valid = tt
-own_event servers c (Recall field) own valid = tt
-own_event servers c (Move prefix to) own valid = (own, valid)
-own_event servers c (FromClient by m) own valid = absurd own
-own_event servers c (FromPeer from m) own valid = absurd own
-
-own_brought : (servers : ℕ) (seats : Seats) (c : Core) (e : ServerEvent) → IsOwnEvent servers c e → IsBrought servers seats c e
+pub own_brought : (servers : ℕ) (seats : Seats) (c : Core) (e : ServerEvent) → IsOwn servers e → IsBrought servers seats c e
 own_brought servers seats c Turn own = tt
 own_brought servers seats c (Recall field) own = tt
 own_brought servers seats c (Move prefix to) own = own
 own_brought servers seats c (FromClient by m) own = absurd own
 own_brought servers seats c (FromPeer from m) own = absurd own
 
-pub server_linked : (w : Served) (k : ℕ) (c : Core) (post : Links) (turn : Bool) (now : ℕ) (e : ServerEvent) → slice_get w.servers k ≡ Some c → slice_get w.posts k ≡ Some post → IsOwnEvent (length w.servers) c e
+pub server_linked : (w : Served) (k : ℕ) (c : Core) (post : Links) (turn : Bool) (now : ℕ) (e : ServerEvent) → slice_get w.servers k ≡ Some c → slice_get w.posts k ≡ Some post → IsOwn (length w.servers) e
     → FitsDown (step c now e).out.send → is_full_down (step c now e).out.send post ≡ false → IsLinked w → IsLinked (server_step k turn now e w).world
 server_linked w k c post turn now e i j own fits room h =
     let few = within w.servers k c i in

@@ -33,7 +33,7 @@ use Rattle.fs_world.proofs.StayingServers.{first_count}
 -- ## Whoever has joined stays
 
 pub served_then : (servers : ℕ) (a b : Seats) (k : ℕ) (s : Core) → ((t : Session) → HasJoined a t → HasJoined b t) → IsServed servers a k s → IsServed servers b k s
-served_then servers a b k s g h = record { me = h.me; named = h.named; handles = h.handles; rows = λ row i. g row.session (h.rows row i) }
+served_then servers a b k s g h = record { me = h.me; named = h.named; records = h.records; handles = h.handles; rows = λ row i. g row.session (h.rows row i) }
 
 pub carried_then : (servers : ℕ) (a b : Seats) (f : Flying) → ((t : Session) → HasJoined a t → HasJoined b t) → IsCarried servers a f → IsCarried servers b f
 carried_then servers a b f g h = record { from = h.from; to = h.to; apart = h.apart; each = h.each; handles = h.handles; rows = λ row i. g row.session (h.rows row i) }

@@ -26,6 +26,7 @@ use Rattle.fs_window.proofs.ReadBack.{written}
 use Rattle.fs_msg.specs.Ranges.{FitsMessage}
 use Rattle.fs_msg.specs.Spelling.{message}
 use Rattle.fs_msg.specs.declared.msg.Msg.{Msg}
+use Rattle.fs_world.specs.Within.{IsInRange}
 use Rattle.fs_world.specs.Linked.{IsFirstOf, IsPair, IsSentOver, IsWay}
 
 -- both directions: these messages go out, and those come back
@@ -53,7 +54,7 @@ pair_elsewhere a b from to messages packets more g h = record {
 
 -- ## A message is pushed
 
-fits_more : (ms : List Msg) (m : Msg) → AllByRecursion FitsMessage ms → FitsMessage m → AllByRecursion FitsMessage (ms ++ m ∷ [])
+fits_more : (ms : List Msg) (m : Msg) → AllByRecursion IsInRange ms → IsInRange m → AllByRecursion IsInRange (ms ++ m ∷ [])
 fits_more [] m h f = (f, tt)
 fits_more (x ∷ xs) m h f = (h.0, fits_more xs m h.1 f)
 
@@ -64,7 +65,7 @@ both_pushed a b here there out back packets m fits short room h = record {
     way = record {
       carries = subst (λ (ms : List (List ℕ)). Carries (link_pushed here (message m)) there ms) (sym (map-append message out (m ∷ [])))
           (carries_pushed here there (map message out) (message m) short room h.going.way.carries);
-      fits = fits_more out m h.going.way.fits fits;
+      fits = fits_more out m h.going.way.fits (record { short = short; fits = fits });
     };
     packets = λ x i e f. going (h.going.packets x i e f);
   };
@@ -147,9 +148,9 @@ few_given held got (Some b) = either (b.0 == got)
 record AreFirst (joined : List Joined) (others : List (List ℕ)) (messages : List Msg) : Type 0 where
   rest : others ≡ map message (rest_of joined messages)
   first : IsFirstOf joined messages
-  fits : AllByRecursion FitsMessage (rest_of joined messages)
+  fits : AllByRecursion IsInRange (rest_of joined messages)
 
-parted : (joined : List Joined) (whole rest : List (List ℕ)) (ms : List Msg) → joined ≡ map Whole whole → length joined ≤ 1 → whole ++ rest ≡ map message ms → AllByRecursion FitsMessage ms → AreFirst joined rest ms
+parted : (joined : List Joined) (whole rest : List (List ℕ)) (ms : List Msg) → joined ≡ map Whole whole → length joined ≤ 1 → whole ++ rest ≡ map message ms → AllByRecursion IsInRange ms → AreFirst joined rest ms
 parted [] [] rest ms e few all fits = record { rest = all; first = tt; fits = fits }
 parted [] (w ∷ ws) rest ms e few all fits = absurd (cc)
 parted (j ∷ js) [] rest ms e few all fits = absurd (cc)
@@ -158,7 +159,7 @@ parted (j ∷ []) (w ∷ []) rest (m ∷ ms) e few all fits =
     let is : j ≡ Whole w = cc in
     let same : w ≡ message m = cc in
     let left : rest ≡ map message ms = cc in
-    record { rest = left; first = (is ∙ ap Whole same, fits.0); fits = fits.1 }
+    record { rest = left; first = (is ∙ ap Whole same, fits.0.fits); fits = fits.1 }
 parted (j ∷ []) (w ∷ v ∷ ws) rest (m ∷ ms) e few all fits = absurd (cc)
 parted (j ∷ k ∷ js) (w ∷ ws) rest (m ∷ ms) e few all fits = absurd (omega arith)
 

@@ -51,6 +51,18 @@ pub record Elsewhere (k : ℕ) (x y : ServerStepped) : Type 0 where
   pub downs : (j t : ℕ) → same_peer (Server j) (Server k) ≡ false → downs_of j (get y.seats t) ≡ downs_of j (get x.seats t)
   pub parcels : (i j : ℕ) → same_peer (Server i) (Server k) ≡ false → same_peer (Server j) (Server k) ≡ false → parcels_between i j y.flying ≡ parcels_between i j x.flying
 
+-- servers with different numbers are not one
+abbrev number_of : Peer → ℕ
+number_of (Server n) = n
+number_of (Client s) = 0
+
+pub different : (a b : ℕ) → a ≢ b → same_peer (Server a) (Server b) ≡ false
+different a b g = either (same_peer (Server a) (Server b)) refl
+  where
+    either : (t : Bool) → same_peer (Server a) (Server b) ≡ t → same_peer (Server a) (Server b) ≡ false
+    either true e = absurd (g (ap number_of (peer_is (Server a) (Server b) e)))
+    either false e = e
+
 module _ (w : Served) (k : ℕ) (there : k < length w.posts) where
   abbrev at : ServerStepped → Served
   at x = serving k x w
@@ -165,17 +177,6 @@ module _ (w : Served) (k : ℕ) (there : k < length w.posts) where
     where
       f : Flying → Msg
       f m = msg.Peer (OfParcel m.parcel)
-
-      number_of : Peer → ℕ
-      number_of (Server n) = n
-      number_of (Client s) = 0
-
-      different : (a b : ℕ) → a ≢ b → same_peer (Server a) (Server b) ≡ false
-      different a b g = either (same_peer (Server a) (Server b)) refl
-        where
-          either : (t : Bool) → same_peer (Server a) (Server b) ≡ t → same_peer (Server a) (Server b) ≡ false
-          either true e = absurd (g (ap number_of (peer_is (Server a) (Server b) e)))
-          either false e = e
 
       here_other : same_peer (Server k) (Server to) ≡ false
       here_other = different k to differ

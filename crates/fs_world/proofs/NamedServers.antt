@@ -2,7 +2,7 @@
 -- can be told; what it sends goes to such sessions and to other servers, and can be read.
 use Rattle.std.proofs.Common.{◌≡◌, ◌≢◌, ◌∙◌, ◌<◌, ◌≤◌, ◌^◌, ℕ, ◌+◌, Bool, true, false, List, [], ◌∷◌, ◌++◌, map, not, Option, Some, None, refl, sym, ap, subst, cond, arith}
 use Rattle.std.specs.Prelude.{◌&&◌, ◌==◌, nat_le}
-use Rattle.std.specs.FinMap.{get}
+use Rattle.std.specs.FinMap.{empty, get}
 use Rattle.std.specs.List.{AllByRecursion, list_all}
 use Rattle.std.proofs.lemmas.Bool.Decides.{nat_tests}
 use Rattle.fs_ident.specs.Ident.{child}
@@ -32,11 +32,15 @@ use Rattle.fs_parcel.specs.Parcel.{move_refusal, not_mine}
 use Rattle.fs_parcel.specs.declared.error.MoveError.{MoveError}
 use Rattle.fs_parcel.specs.declared.error.MoveError.TheVariants as move
 use Rattle.fs_record.specs.Effects.{effects_of, reap_effects, tells_its_effects}
-use Rattle.fs_record.specs.Fresh.{fresh_number, is_directory}
-use Rattle.fs_record.specs.Records.{AreRecords, IsRecord, node_of}
+use Rattle.fs_record.specs.Fresh.{fresh_number, is_directory, records_after_gift}
+use Rattle.fs_record.specs.Moving.{AreEachRecords}
+use Rattle.fs_record.specs.Records.{AreRecords, IsRecord, first_records, node_of, root_record}
 use Rattle.fs_record.specs.ValueOf.{handles_of, own_of, selves_in}
 use Rattle.fs_record.specs.declared.parcel.Parcel.{Parcel}
 use Rattle.fs_record.specs.declared.record.Record.{Record}
+use Rattle.fs_record.proofs.AllApplied.{after_all_kept}
+use Rattle.fs_record.proofs.Coming.{left_kept, with_kept}
+use Rattle.fs_record.proofs.Kept.{given_kept, kept_empty, kept_insert, root_kept}
 use Rattle.fs_record.proofs.Returning.{given_each}
 use Rattle.fs_rows.specs.Moving.{is_on_given}
 use Rattle.fs_model.specs.Asking.{home_of}
@@ -90,8 +94,8 @@ pub record IsStepped (servers : ℕ) (seats : Seats) (k : ℕ) (x : Stepped) : T
 -- what the event brings is of a session that has joined, and can be read; or it is a parcel on its way
 abbrev pub IsBrought : ℕ → Seats → Core → ServerEvent → Type 0
 IsBrought servers seats s (FromClient by m) = HasJoined seats by × (is_readable (msg.Client m) ≡ true)
-IsBrought servers seats s (FromPeer from (OfParcel p)) = RecordsOpen p.records × AreOfJoined seats p.rows
-IsBrought servers seats s (Move prefix to) = (to < servers) × AreRecords s.records
+IsBrought servers seats s (FromPeer from (OfParcel p)) = AreEachRecords p.records × RecordsOpen p.records × AreOfJoined seats p.rows
+IsBrought servers seats s (Move prefix to) = to < servers
 IsBrought servers seats s Turn = Unit {0}
 IsBrought servers seats s (Recall field) = Unit {0}
 
@@ -123,8 +127,12 @@ sent_readable servers seats k (Server to, msg.Peer (OfParcel p)) readable h = pa
 
 -- ## Steps
 
+first_kept : (first : Bool) → AreRecords (first_records first)
+first_kept true = kept_insert empty [] root_record kept_empty root_kept
+first_kept false = kept_empty
+
 pub first_served_core : (servers : ℕ) (seats : Seats) (k skew term : ℕ) → 0 < servers → IsServed servers seats k (first_server k skew term)
-first_served_core servers seats k skew term some = record { me = refl; named = named_first servers some; handles = first_open (k == 0); rows = λ row i. absurd i }
+first_served_core servers seats k skew term some = record { me = refl; named = named_first servers some; records = first_kept (k == 0); handles = first_open (k == 0); rows = λ row i. absurd i }
 
 module _ (servers : ℕ) (seats : Seats) (k : ℕ) (some : k < servers) (readable : (s : Session) → HasJoined seats s → is_readable_session s ≡ true) where
   abbrev Fine : Core → Type 0
@@ -135,10 +143,10 @@ module _ (servers : ℕ) (seats : Seats) (k : ℕ) (some : k < servers) (readabl
 
   -- with other rows, or other records
   with_others : (s : Core) (rows : List Row) → Fine s → AreOf (HasJoined seats) rows → Fine (record s { rows = rows })
-  with_others s rows h g = record { me = h.me; named = h.named; handles = h.handles; rows = g }
+  with_others s rows h g = record { me = h.me; named = h.named; records = h.records; handles = h.handles; rows = g }
 
   begun_fine : (now : ℕ) (s : Core) → Fine s → Fine (begun now s)
-  begun_fine now s h = record { me = h.me; named = h.named; handles = h.handles; rows = filtered (HasJoined seats) (is_live (begun now s).last s.skew) s.rows h.rows }
+  begun_fine now s h = record { me = h.me; named = h.named; records = h.records; handles = h.handles; rows = filtered (HasJoined seats) (is_live (begun now s).last s.skew) s.rows h.rows }
 
   moved_end : (s : Core) (id : List ℕ) → Fine s → IsNamedEnd servers (moved s id)
   moved_end s id h = moved_named servers s id (omega (arith, some)) h.named
@@ -153,7 +161,7 @@ module _ (servers : ℕ) (seats : Seats) (k : ℕ) (some : k < servers) (readabl
   -- ## A question
 
   lease_fine : (by : Session) (field : Field) (kind : LeaseKind) (promise : Option Bool) (s : Core) → HasJoined seats by → Fine s → Fine (with_lease by field kind promise s)
-  lease_fine by field kind promise s of h = record { me = h.me; named = h.named; handles = h.handles; rows = put (HasJoined seats) _ s.rows of h.rows }
+  lease_fine by field kind promise s of h = record { me = h.me; named = h.named; records = h.records; handles = h.handles; rows = put (HasJoined seats) _ s.rows of h.rows }
 
   -- the server, and the answer so far
   record IsAsking (a : Asking) : Type 0 where
@@ -182,18 +190,20 @@ module _ (servers : ℕ) (seats : Seats) (k : ℕ) (some : k < servers) (readabl
       more (lease_fine by x.0 kind promise s of h) (one_grant grants (grant_of by x.0 kind s) g (value_open s.records by x.0 h.handles)))
       (λ x xs s grants at why h g. record { server = h; grants = g; end = ask_end by x s at why h })
 
-  fresh_fine : (by : Session) (dir : List ℕ) (o : Option ℕ) (a : Asking) → HasJoined seats by → IsAsking a → IsAsking (fresh_of by dir o a)
-  fresh_fine by dir None a of h = record { server = h.server; grants = h.grants; end = tt }
-  fresh_fine by dir (Some n) a of h =
+  fresh_fine : (by : Session) (dir borne : List ℕ) (o : Option ℕ) (a : Asking) → fresh_number a.server.records dir borne ≡ o → HasJoined seats by → IsAsking a → IsAsking (fresh_of by dir o a)
+  fresh_fine by dir borne None a is of h = record { server = h.server; grants = h.grants; end = tt }
+  fresh_fine by dir borne (Some n) a is of h =
       let lent = lease_fine by (Life (child dir n)) Exclusive None a.server of h.server in
       record {
-        server = record { me = lent.me; named = lent.named; handles = open_after_gift a.server.records dir n h.server.handles; rows = lent.rows };
+        server = record { me = lent.me; named = lent.named; records = subst (λ (o : Option ℕ). AreRecords (records_after_gift a.server.records dir o)) is (given_kept a.server.records dir borne h.server.records); handles = open_after_gift a.server.records dir n h.server.handles; rows = lent.rows };
         grants = one_grant a.grants (grant_of by (Life (child dir n)) Exclusive a.server) h.grants (value_open a.server.records by (Life (child dir n)) h.server.handles);
         end = tt;
       }
 
   there_fine : (by : Session) (dir : List ℕ) (b : Bool) (a : Asking) → HasJoined seats by → IsAsking a → IsAsking (fresh_in by dir b a)
-  there_fine by dir true a of h = fresh_fine by dir (fresh_number a.server.records dir (borne_numbers dir a.server.rows)) a of h
+  there_fine by dir true a of h =
+      let borne = borne_numbers dir a.server.rows in
+      fresh_fine by dir borne (fresh_number a.server.records dir borne) a refl of h
   there_fine by dir false a of h = h
 
   wanted_fine : (by : Session) (dir : Option (List ℕ)) (a : Asking) → HasJoined seats by → IsAsking a → IsAsking (fresh_for by dir a)
@@ -237,7 +247,7 @@ module _ (servers : ℕ) (seats : Seats) (k : ℕ) (some : k < servers) (readabl
   entries_fine by of = each_entry by (λ es s admitted x. list_all is_readable_entry es ≡ true → Fine s → IsShipping x)
       (λ s admitted r h. record { server = h; end = tt })
       (λ e es s admitted x mine here more r h. more (second _ _ r)
-      (record { me = h.me; named = h.named; handles = open_after_all s.records (effects_of by e.op e.reply) (effects_open by e.op e.reply (readable by of) (first _ _ r)) h.handles; rows = h.rows }))
+      (record { me = h.me; named = h.named; records = after_all_kept s.records (effects_of by e.op e.reply) h.records; handles = open_after_all s.records (effects_of by e.op e.reply) (effects_open by e.op e.reply (readable by of) (first _ _ r)) h.handles; rows = h.rows }))
       (λ e es s admitted at gaps why r h. record { server = h; end = ship_end by e es s at gaps why h })
 
   ship_goes : (by : Session) (entries : List Entry) (s : Core) → HasJoined seats by → list_all is_readable_entry entries ≡ true → Fine s → Goes (ship_step by entries s)
@@ -268,7 +278,7 @@ module _ (servers : ℕ) (seats : Seats) (k : ℕ) (some : k < servers) (readabl
   reaped_fine = each_lapsed (λ xs s admitted blockers r. Fine s → Fine r.server)
       (λ s admitted blockers h. h)
       (λ f x xs s admitted blockers r e more h. more
-      (record { me = h.me; named = h.named; handles = open_after_all s.records (reap_effects s.records f x) (reap_open f x (own_of x (handles_of (node_of (get s.records f))))) h.handles; rows = h.rows }))
+      (record { me = h.me; named = h.named; records = after_all_kept s.records (reap_effects s.records f x) h.records; handles = open_after_all s.records (reap_effects s.records f x) (reap_open f x (own_of x (handles_of (node_of (get s.records f))))) h.handles; rows = h.rows }))
       (λ f x xs s admitted blockers r number e more h. more h)
 
   turn_goes : (xs : List (List ℕ × Session)) (s : Core) → Fine s → Goes (turn_over xs s)
@@ -290,14 +300,15 @@ module _ (servers : ℕ) (seats : Seats) (k : ℕ) (some : k < servers) (readabl
   differ : (to : ℕ) (s : Core) → Fine s → (to == s.me) ≡ false → k ≢ to
   differ to s h e q = let same : (to == s.me) ≡ true = ap (λ (n : ℕ). to == n) (h.me ∙ q) ∙ itself to in absurd (cc)
 
-  moves_goes : (prefix : List ℕ) (to : ℕ) (s : Core) (o : Option MoveError) → move_refusal s.records s.rows s.map s.me prefix to None ≡ o → to < servers → AreRecords s.records → Fine s → Goes (move_at o prefix to s)
-  moves_goes prefix to s (Some why) e few valid h = record { server = h; sends = tt }
-  moves_goes prefix to s None e few valid h =
+  moves_goes : (prefix : List ℕ) (to : ℕ) (s : Core) (o : Option MoveError) → move_refusal s.records s.rows s.map s.me prefix to None ≡ o → to < servers → Fine s → Goes (move_at o prefix to s)
+  moves_goes prefix to s (Some why) e few h = record { server = h; sends = tt }
+  moves_goes prefix to s None e few h =
       let piece = piece_of s.map s.me prefix in
       record {
         server = record {
           me = h.me;
           named = named_give servers s.map s.me prefix to few h.named;
+          records = left_kept prefix piece s.records h.records;
           handles = open_left prefix piece s.records h.handles;
           rows = filtered (HasJoined seats) (λ r. not (is_on_given prefix piece r)) s.rows h.rows;
         };
@@ -306,7 +317,7 @@ module _ (servers : ℕ) (seats : Seats) (k : ℕ) (some : k < servers) (readabl
             from = some;
             to = few;
             apart = differ to s h (not_same _ _ (to == s.me) _ _ e);
-            each = given_each prefix piece s.records valid;
+            each = given_each prefix piece s.records h.records;
             handles = open_given prefix piece s.records h.handles;
             rows = filtered (HasJoined seats) (is_on_given prefix piece) s.rows h.rows;
           },
@@ -316,26 +327,27 @@ module _ (servers : ℕ) (seats : Seats) (k : ℕ) (some : k < servers) (readabl
 
   -- ## A parcel comes
 
-  parcel_goes : (b : Bool) (p : Parcel) (s : Core) → RecordsOpen p.records → AreOf (HasJoined seats) p.rows → Fine s → Goes (parcel_at b p s)
-  parcel_goes true p s open_ of h = record {
+  parcel_goes : (b : Bool) (p : Parcel) (s : Core) → AreEachRecords p.records → RecordsOpen p.records → AreOf (HasJoined seats) p.rows → Fine s → Goes (parcel_at b p s)
+  parcel_goes true p s each open_ of h = record {
     server = record {
       me = h.me;
       named = named_take servers s.map s.me p.prefix p.piece.given (subst (λ (n : ℕ). n < servers) (sym h.me) some) h.named;
+      records = with_kept s.records p.records h.records each;
       handles = open_with p.records s.records open_ h.handles;
       rows = put_all (HasJoined seats) p.rows s.rows of h.rows;
     };
     sends = tt;
   }
-  parcel_goes false p s open_ of h = strange_goes s h
+  parcel_goes false p s each open_ of h = strange_goes s h
 
   -- ## An event
 
   event_goes : (e : ServerEvent) (s : Core) → IsBrought servers seats s e → Fine s → Goes (event_step e s)
   event_goes (FromClient by m) s b h = message_goes by m s b.0 b.1 h
-  event_goes (FromPeer from (OfParcel p)) s b h = parcel_goes (fits_here p s) p s b.0 b.1 h
+  event_goes (FromPeer from (OfParcel p)) s b h = parcel_goes (fits_here p s) p s b.0 b.1 b.2 h
   event_goes Turn s b h = turn_goes (lapsed_in s) s h
   event_goes (Recall field) s b h = record { server = h; sends = recall_sent (HasJoined seats) (IsSent servers seats k) (λ s n h. (h, tt, refl)) (is_mine s (file_of field)) field s.rows h.rows }
-  event_goes (Move prefix to) s b h = moves_goes prefix to s (move_refusal s.records s.rows s.map s.me prefix to None) refl b.0 b.1 h
+  event_goes (Move prefix to) s b h = moves_goes prefix to s (move_refusal s.records s.rows s.map s.me prefix to None) refl b h
 
   pub step_goes : (s : Core) (now : ℕ) (e : ServerEvent) → IsBrought servers seats s e → Fine s → Goes (step s now e)
   step_goes s now e b h = event_goes e (begun now s) (still e b) (begun_fine now s h)

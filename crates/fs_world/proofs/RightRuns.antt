@@ -49,7 +49,7 @@ direct_right ok w what = (record { plain = refl; fair = tt }, tt)
 abbrev fair_in : Form → Event → Answers
 fair_in w e = IsFairAnswer w e (rows_of (step w e).world)
 
-right_at : (laws : SerialLaws) (top : ℕ) (h : Head) (e : Event) (es : List Event) (told : List Told) (w : Form) → Goes top h (e ∷ es) told w → AllRight (fair_in w e) (step w e).outcome.notes
+right_at : (laws : SerialLaws) (top : ℕ) (h : Head) (e : Event) (es : List Event) (told : List Told) (w : Form) → Goes laws top h (e ∷ es) told w → AllRight (fair_in w e) (step w e).outcome.notes
 right_at laws top head.Direct e es told (Direct w) g = direct_right (fair_in (Direct w) e) w e.what
 right_at laws top (head.Servers servers skew term) e es told (Served w) g = step_right laws servers skew g.greatest told w g.holds e.reading g.ahead.0 g.some g.carry.0 term e.what g.called.0
 right_at laws top head.Direct e es told (Served w) g = absurd g
@@ -65,7 +65,7 @@ all_plain : (ok : Answers) (notes : List Note) → AllRight ok notes → AllByRe
 all_plain ok [] h = tt
 all_plain ok (n ∷ ns) h = (h.0.plain, all_plain ok ns h.1)
 
-fair_from : (laws : SerialLaws) (top : ℕ) (h : Head) (es : List Event) (told : List Told) (w : Form) → Goes top h es told w → AllFair w es
+fair_from : (laws : SerialLaws) (top : ℕ) (h : Head) (es : List Event) (told : List Told) (w : Form) → Goes laws top h es told w → AllFair w es
 fair_from laws top h [] told w g = tt
 fair_from laws top h (e ∷ es) told w g = (
   all_fair (fair_in w e) (step w e).outcome.notes (right_at laws top h e es told w g),
@@ -77,7 +77,7 @@ pub one_more : (kind : Note → Bool) (outcomes : List Outcome) (o : Outcome) �
 one_more kind [] o h p = (p, tt)
 one_more kind (x ∷ xs) o h p = (h.0, one_more kind xs o h.1 p)
 
-plain_from : (laws : SerialLaws) (top : ℕ) (h : Head) (es : List Event) (told : List Told) (r : Run) → Goes top h es told r.world → NoneHas is_core_strange r.outcomes → NoneHas is_core_strange (run_on r es).outcomes
+plain_from : (laws : SerialLaws) (top : ℕ) (h : Head) (es : List Event) (told : List Told) (r : Run) → Goes laws top h es told r.world → NoneHas is_core_strange r.outcomes → NoneHas is_core_strange (run_on r es).outcomes
 plain_from laws top h [] told r g p = p
 plain_from laws top h (e ∷ es) told r g p =
     plain_from laws top h es (told ++ told_at e.what (step r.world e).outcome.notes) (more r e) (goes_on laws top h e es told r.world g)

@@ -50,7 +50,7 @@ use Rattle.fs_world.specs.declared.seat.Seat.{Seat}
 use Rattle.fs_world.specs.declared.served.Served.{Served}
 use Rattle.fs_world.proofs.Heard.{first_answer, first_parcel, first_question}
 use Rattle.fs_world.proofs.Right.{Answers, IsRight, TakesEvent, event_right, plain_client, turn_right}
-use Rattle.fs_world.proofs.SerialLaws.{SerialLaws}
+use Rattle.fs_world.proofs.SerialLaws.{SerialLaws, timed}
 use Rattle.fs_world.proofs.ServedHolds.{cluster_of}
 use Rattle.fs_world.proofs.ServedSteps.{to_there}
 use Rattle.fs_world.proofs.ServerHolds.{clock, parcel_there, question_there}
@@ -74,7 +74,7 @@ silent ok (j ∷ js) x = (record { plain = refl; fair = tt }, tt)
 question_found : (k : ℕ) (up : List (ℕ × ClientMsg)) (m : ℕ × ClientMsg) → find (is_with k) up ≡ Some m → find (is_with k) up ≡ Some (k, m.1)
 question_found k up m first = first ∙ ap (λ (j : ℕ). let o : Option (ℕ × ClientMsg) = Some (j, m.1) in o) (eqb-true m.0 k (found (is_with k) up m first).1)
 
-module _ (laws : SerialLaws) (count skew greatest : ℕ) (told : List Told) (w : Served) (h : HoldsOf count skew greatest told w) (now : ℕ) (within : greatest ≤ now + skew) (some : 1 ≤ count) where
+module _ (laws : SerialLaws) (count skew greatest : ℕ) (told : List Told) (w : Served) (h : HoldsOf (timed laws) count skew greatest told w) (now : ℕ) (within : greatest ≤ now + skew) (some : 1 ≤ count) where
   abbrev rows_at : Served → List Row
   rows_at v = rows_of_all v.servers (parcels_of v.flying)
 
@@ -135,10 +135,10 @@ module _ (laws : SerialLaws) (count skew greatest : ℕ) (told : List Told) (w :
       fair_after e = IsFairAnswer (ServedForm w) (record { reading = now; what = what }) (rows_in (after_step k e (step c now e) seen))
 
       abbrev TakesIt : ServerEvent → Type 0
-      TakesIt e = TakesEvent laws skew greatest now k c seen at h.cluster (clock laws count skew greatest told (parts_of w) h now k c at) within (fair_after e) e
+      TakesIt e = TakesEvent laws skew greatest now k c seen at h.cluster (clock (timed laws) count skew greatest told (parts_of w) h now k c at) within (fair_after e) e
 
       event : (e : ServerEvent) → IsThere k e seen → TakesIt e → IsRight (fair_after e) (note.Server (step c now e).out.note)
-      event e there takes = event_right laws skew greatest now k c seen at h.cluster (clock laws count skew greatest told (parts_of w) h now k c at) within (fair_after e) e there takes
+      event e there takes = event_right laws skew greatest now k c seen at h.cluster (clock (timed laws) count skew greatest told (parts_of w) h now k c at) within (fair_after e) e there takes
 
       -- the event tells a packet of the session to this server
       module _ (packet : Sent) (told_so : packet_told w what ≡ Some packet) (here : packet.to ≡ Server k) where
@@ -157,14 +157,14 @@ module _ (laws : SerialLaws) (count skew greatest : ℕ) (told : List Told) (w :
         session_right s (Some seat) from is heard x (j ∷ js) links f =
             let first = first_question k s seat j js f in
             subst (λ (e : Option ServerEvent). Right what (hearing (Client s) heard x e links)) (sym first.2)
-            (event (FromClient s first.0.1) (question_there laws count skew greatest told (parts_of w) h now k c at s seat first.0 is first.1) (takes_log s seat first.0.1 from is (question_found k seat.up first.0 first.1)), tt)
+            (event (FromClient s first.0.1) (question_there (timed laws) count skew greatest told (parts_of w) h now k c at s seat first.0 is first.1) (takes_log s seat first.0.1 from is (question_found k seat.up first.0 first.1)), tt)
 
       peer_right : (i : ℕ) (heard : Option Peer) (x : Heard) (js : List Joined) (links : Links) → IsFirstOf js (parcels_between i k w.flying) → Right what (hearing (Server i) heard x (event_heard (Server i) js) links)
       peer_right i heard x [] links f = silent _ x.joined x
       peer_right i heard x (j ∷ js) links f =
           let first = first_parcel k i w.flying j js f in
           subst (λ (e : Option ServerEvent). Right what (hearing (Server i) heard x e links)) (sym first.2)
-          (event (FromPeer i (OfParcel first.0.parcel)) (parcel_there laws count skew greatest told (parts_of w) h now k c at i first.0 first.1) tt, tt)
+          (event (FromPeer i (OfParcel first.0.parcel)) (parcel_there (timed laws) count skew greatest told (parts_of w) h now k c at i first.0 first.1) tt, tt)
 
       told_server : (packet : Sent) (from : Peer) (p : Packet) → packet_told w what ≡ Some packet → packet.to ≡ Server k → packet.from ≡ from → IsFirstOf (post_accepted post from p).heard.joined (between w from (Server k))
           → Right what (with_server k (server_told now k from p (at_server c post w)) w)
@@ -229,4 +229,4 @@ module _ (laws : SerialLaws) (count skew greatest : ℕ) (told : List Told) (w :
   step_right carry term (Turn (Server k)) may = turn_at_server (Turn (Server k)) k (slice_get w.servers k) (slice_get w.posts k) refl
   step_right carry term (Recall k field) may = recall_at_server (Recall k field) k field (slice_get w.servers k) (slice_get w.posts k) refl
   step_right carry term (Move k prefix to) may =
-      move_at_server (Move k prefix to) k prefix to (slice_get w.servers k) (slice_get w.posts k) refl (to_there laws count skew greatest told w h now within some to (both (nat_lt k count) (nat_lt to count) may).1)
+      move_at_server (Move k prefix to) k prefix to (slice_get w.servers k) (slice_get w.posts k) refl (to_there (timed laws) count skew greatest told w h now within some to (both (nat_lt k count) (nat_lt to count) may).1)

@@ -1,7 +1,10 @@
 -- The laws of servers and their clients on which those of worlds rest.
-use Rattle.std.proofs.Common.{◌≡◌, ℕ, ◌+◌, ◌≤◌, max, List, Some}
+use Rattle.std.proofs.Common.{◌≡◌, ℕ, ◌+◌, ◌≤◌, max, List, Some, sym, subst}
 use Rattle.std.specs.Prelude.{◌≢◌, slice_get}
+use Rattle.fs_ident.specs.In.{In}
 use Rattle.fs_ident.specs.declared.actor.Session.{Session}
+use Rattle.fs_ident.proofs.Standing.{In-front}
+use Rattle.fs_model.specs.Sound.{AsksAccess}
 use Rattle.fs_msg.specs.declared.answer.Answer.{Answer}
 use Rattle.fs_msg.specs.declared.client_msg.ClientMsg.TheVariants.{Ship}
 use Rattle.fs_msg.specs.declared.client_note.ClientNote.TheVariants as client_note
@@ -15,7 +18,7 @@ use Rattle.fs_server.specs.declared.state.Server.{Server}
 use Rattle.fs_serial.specs.Cluster.{CanCome, ClientEvent, Cluster, IsThere, after_client, after_server, first_cluster}
 use Rattle.fs_serial.specs.Cluster.ClientEvent.{Hears}
 use Rattle.fs_serial.specs.Refusals.{IsFairStep}
-use Rattle.fs_serial.specs.Seen.{ClusterHolds}
+use Rattle.fs_serial.specs.Seen.{ClusterHolds, ends_of}
 
 pub record SerialLaws : Type 0 where
   -- every event of a server keeps all that holds, and the greatest reading may rise
@@ -31,3 +34,45 @@ pub record SerialLaws : Type 0 where
   -- refusals are fair
   pub fair : (skew greatest now k : ℕ) (by : Session) (entries : List Entry) (s : Server) (c : Cluster) → slice_get c.servers k ≡ Some s → greatest ≤ now + skew → IsThere k (FromClient by (Ship entries)) c → ClusterHolds skew greatest c
       → IsFairStep now k by entries s c
+
+-- ## What events keep
+
+-- in some sense of what holds of a cluster where no reading was greater, and of when a client's event with a reading comes in time
+pub record EventLaws : Type 1 where
+  pub Holds : ℕ → ℕ → Cluster → Type 0
+  pub Within : ℕ → ℕ → ℕ → Type 0
+  pub event : (skew greatest now k : ℕ) (e : ServerEvent) (s : Server) (c : Cluster) → slice_get c.servers k ≡ Some s → max s.last now ≤ greatest → IsThere k e c → Holds skew greatest c → Holds skew greatest (after_server now k e c)
+  pub rises : (skew greatest later : ℕ) (c : Cluster) → greatest ≤ later → Holds skew greatest c → Holds skew later c
+  pub client : (skew greatest now : ℕ) (c : Cluster) (by : Session) → Holds skew greatest c → (e : ClientEvent) → CanCome by e c → Within skew greatest now → Holds skew greatest (after_client by now e c)
+  pub first : (servers skew term greatest : ℕ) → 1 ≤ servers → Holds skew greatest (first_cluster servers skew term)
+  -- no server's reading was greater, a session hands in what asks for an access where it opens, and its client is its own
+  pub clock : (skew greatest : ℕ) (s : Server) (c : Cluster) → In s c.servers → Holds skew greatest c → s.last ≤ greatest
+  pub asks : (skew greatest : ℕ) (s : Server) (c : Cluster) (by : Session) (entries : List Entry) → In s c.servers → In (Ship entries) (ends_of (c.lines by)).up → Holds skew greatest c → (e : Entry) → In e entries → AsksAccess e.op
+  pub owned : (skew greatest : ℕ) (s : Server) (c : Cluster) (x : Session) → In s c.servers → Holds skew greatest c → (c.lines x).client.session ≡ x
+
+-- of all parts
+pub all_clock : (skew greatest : ℕ) (s : Server) (c : Cluster) → In s c.servers → ClusterHolds skew greatest c → s.last ≤ greatest
+all_clock skew greatest s c i h = (h.parts s i).clock
+
+pub all_asks : (skew greatest : ℕ) (s : Server) (c : Cluster) (by : Session) (entries : List Entry) → In s c.servers → In (Ship entries) (ends_of (c.lines by)).up → ClusterHolds skew greatest c → (e : Entry) → In e entries → AsksAccess e.op
+all_asks skew greatest s c by entries i there h e j =
+    let parts = h.parts s i in
+    let front = (parts.exchanges by).front entries there in
+    ((parts.all.fitting by).entries e (subst (λ es. In e es) (sym front.log) (In-front e entries front.rest j))).access
+
+pub all_owned : (skew greatest : ℕ) (s : Server) (c : Cluster) (x : Session) → In s c.servers → ClusterHolds skew greatest c → (c.lines x).client.session ≡ x
+all_owned skew greatest s c x i h = ((h.parts s i).clients x).session
+
+-- in time is an event where no reading before it is ahead of its own by more than the skew
+abbrev pub timed : SerialLaws → EventLaws
+timed laws = record {
+  Holds = ClusterHolds;
+  Within = λ skew greatest now. greatest ≤ now + skew;
+  event = laws.event;
+  rises = laws.rises;
+  client = laws.client;
+  first = laws.first;
+  clock = all_clock;
+  asks = all_asks;
+  owned = all_owned;
+}

@@ -1,6 +1,7 @@
 -- What holds of a world of the servers form says of its journal.
 use Rattle.std.proofs.Common.{◌≡◌, ℕ, ◌+◌, ◌≤◌, Bool, true, List, [], ◌∷◌, ◌++◌, map, cond, refl, ap, sym, ◌∙◌, subst}
 use Rattle.std.specs.Prelude.{filter}
+use mathlib.Core.Path.{fun_ext}
 use Rattle.fs_ident.specs.In.{In}
 use Rattle.fs_ident.specs.declared.actor.Peer.{Peer}
 use Rattle.fs_ident.specs.declared.actor.Peer.TheVariants.{Server, Client}
@@ -16,18 +17,20 @@ use Rattle.fs_server.specs.declared.state.Server.{Server as Core}
 use Rattle.fs_serial.specs.Cluster.{Cluster, parcels_of}
 use Rattle.fs_serial.specs.Joined.{records_of_all}
 use Rattle.fs_serial.specs.Numbers.{AreNumbered, all_items, is_server, is_session, items_at, items_by}
-use Rattle.fs_serial.specs.Seen.{ends_of, world_of}
+use Rattle.fs_serial.specs.Seen.{ClusterHolds, ends_of, world_of}
 use Rattle.fs_serial.specs.Settled.{Settled}
 use Rattle.fs_serial.specs.World.{WorldHolds, settled_at}
-use Rattle.fs_world.specs.Order.{Agrees, AreNumberedFrom, HasNumberOf, IsInSessionOrder, Told, items_of, same_actor}
-use Rattle.fs_world.specs.Parts.{lines_of}
+use Rattle.fs_world.specs.Order.{Agrees, AreAsTold, AreNumberedFrom, HasNumberOf, IsInSessionOrder, Told, items_of, same_actor, told_to}
+use Rattle.fs_world.specs.Parts.{ServedHold, lines_of, replied_in, seen as seen_by}
 use Rattle.fs_world.specs.declared.served.Served.{Served}
 use Rattle.fs_world.proofs.Fine.{AllFine}
 use Rattle.fs_world.proofs.Numbered.{kept, number_of_one}
 use Rattle.fs_world.proofs.Seen.{turned}
 use Rattle.fs_world.proofs.Serial.{AllAsk}
+use Rattle.fs_world.proofs.SerialLaws.{SerialLaws, timed}
 use Rattle.fs_world.proofs.ServedHolds.{a_server, cluster_of}
 use Rattle.fs_world.proofs.SessionSteps.{HoldsOf, parts_of}
+use Rattle.fs_world.proofs.Told.{among_replies}
 
 -- ## The items of one actor
 
@@ -63,7 +66,7 @@ numbered_front : (k : ℕ) (is more : List Item) → AreNumberedFrom k (is ++ mo
 numbered_front k [] more h = tt
 numbered_front k (i ∷ is) more h = (h.0, numbered_front (k + 1) is more h.1)
 
-module _ (count skew greatest : ℕ) (told : List Told) (w : Served) (h : HoldsOf count skew greatest told w) (some : 1 ≤ count) where
+module _ (laws : SerialLaws) (count skew greatest : ℕ) (told : List Told) (w : Served) (h : HoldsOf (timed laws) count skew greatest told w) (some : 1 ≤ count) where
   abbrev seen : Cluster
   seen = cluster_of h.replied (parts_of w)
 
@@ -71,7 +74,7 @@ module _ (count skew greatest : ℕ) (told : List Told) (w : Served) (h : HoldsO
   server = a_server w.servers (subst (λ (n : ℕ). 1 ≤ n) (sym h.many) some)
 
   holds : WorldHolds greatest (world_of server.0 seen)
-  holds = h.cluster.parts server.0 server.1
+  holds = let all : ClusterHolds skew greatest seen = h.cluster in all.parts server.0 server.1
 
   abbrev settled : Session → Settled
   settled s = settled_at s (ends_of (lines_of w.term w.seats s))
@@ -93,7 +96,7 @@ module _ (count skew greatest : ℕ) (told : List Told) (w : Served) (h : HoldsO
   agreeing : (t : Told) (i : Item) → In t told → In i w.journal → HasNumberOf i t → Agrees i t
   agreeing t i m there has =
       let s = t.session in
-      let found = h.answered t m in
+      let found = among_replies h.replied told h.answered t m in
       let same : i ≡ found.0 = number_of_one 1 (h.replied s) i found.0 (subst (AreNumberedFrom 1) (holds.all.sessions s).replies (told_numbered s)) (in_told s i there has.by) found.1 (has.n ∙ sym found.2.n) in
       subst (λ (x : Item). Agrees x t) (sym same) found.3
 
@@ -105,3 +108,13 @@ module _ (count skew greatest : ℕ) (told : List Told) (w : Served) (h : HoldsO
 
   pub served_asks : AllAsk w.journal
   served_asks = all_ask w.journal h.items
+
+  -- what each session was told is what its items and its log have
+  replied_is : h.replied ≡ replied_in w
+  replied_is = fun_ext (λ x. sym (holds.all.sessions x).replies)
+
+  pub served_parts : ServedHold skew greatest told w
+  served_parts = record {
+    parts = subst (λ (replied : Session → List Item). ClusterHolds skew greatest (seen_by replied w)) replied_is h.cluster;
+    replies = λ x. subst (λ (is : List Item). AreAsTold is (told_to x told)) (sym (holds.all.sessions x).replies) (h.answered x);
+  }

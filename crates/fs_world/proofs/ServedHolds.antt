@@ -11,7 +11,6 @@ use Rattle.fs_client.specs.Client.{committed}
 use Rattle.fs_client.specs.declared.plan.Plan.{Plan}
 use Rattle.fs_server.specs.declared.state.Server.{Server}
 use Rattle.fs_serial.specs.Cluster.{CanCome, ClientEvent, Cluster, Lines, after_client, after_plan, with_lines}
-use Rattle.fs_serial.specs.Seen.{ClusterHolds}
 use Rattle.fs_serial.specs.World.{pushed, told_by, with_told}
 use Rattle.fs_serial.specs.declared.flying.Flying.{Flying}
 use Rattle.fs_world.specs.Linked.{AreOfJoined, HasJoined}
@@ -21,7 +20,7 @@ use Rattle.fs_world.specs.Served.{Seats, first_seat}
 use Rattle.fs_world.specs.declared.seat.Seat.{Seat}
 use Rattle.fs_world.proofs.Fine.{AllFine, MayBeFine, fine_pushed}
 use Rattle.fs_world.proofs.Seen.{joined_still, lines_joined, lines_put, lines_same}
-use Rattle.fs_world.proofs.SerialLaws.{SerialLaws}
+use Rattle.fs_world.proofs.SerialLaws.{EventLaws}
 use Rattle.fs_world.proofs.Told.{AllNew, AllReplied, told_more}
 
 -- what a world has that servers and sessions know of: so many servers, the seats, the parcels on their way, the journal
@@ -36,9 +35,9 @@ abbrev pub cluster_of : (Session → List Item) → Parts → Cluster
 cluster_of replied p = record { servers = p.servers; flying = p.flying; journal = p.journal; replied = replied; lines = lines_of p.term p.seats }
 
 -- of these parts of a world of so many servers in which this was told, where no reading was greater
-pub record Holds (count skew greatest : ℕ) (told : List Told) (p : Parts) : Type 0 where
+pub record Holds (laws : EventLaws) (count skew greatest : ℕ) (told : List Told) (p : Parts) : Type 0 where
   pub replied : Session → List Item
-  pub cluster : ClusterHolds skew greatest (cluster_of replied p)
+  pub cluster : laws.Holds skew greatest (cluster_of replied p)
   pub many : length p.servers ≡ count
   pub rows : (s : Server) → In s p.servers → AreOfJoined p.seats s.rows
   pub parcels : (f : Flying) → In f p.flying → AreOfJoined p.seats f.parcel.rows
@@ -51,14 +50,14 @@ a_server [] some = absurd (omega arith)
 a_server (s ∷ ss) some = (s, inl refl)
 
 -- where nothing was told
-pub holds_untold : (count skew greatest : ℕ) (told : List Told) (p : Parts) → Holds count skew greatest told p → Holds count skew greatest (told ++ []) p
-holds_untold count skew greatest told p h = subst (λ ts. Holds count skew greatest ts p) (sym (append-nil told)) h
+pub holds_untold : (laws : EventLaws) (count skew greatest : ℕ) (told : List Told) (p : Parts) → Holds laws count skew greatest told p → Holds laws count skew greatest (told ++ []) p
+holds_untold laws count skew greatest told p h = subst (λ ts. Holds laws count skew greatest ts p) (sym (append-nil told)) h
 
 abbrev pub with_seats : Seats → Parts → Parts
 with_seats seats p = record p { seats = seats }
 
-module _ (laws : SerialLaws) (count skew greatest : ℕ) (told : List Told) (p : Parts) (h : Holds count skew greatest told p) where
-  pub holds_later : (later : ℕ) → greatest ≤ later → Holds count skew later told p
+module _ (laws : EventLaws) (count skew greatest : ℕ) (told : List Told) (p : Parts) (h : Holds laws count skew greatest told p) where
+  pub holds_later : (later : ℕ) → greatest ≤ later → Holds laws count skew later told p
   holds_later later rises = record {
     replied = h.replied;
     cluster = laws.rises skew greatest later (cluster_of h.replied p) rises h.cluster;
@@ -70,10 +69,10 @@ module _ (laws : SerialLaws) (count skew greatest : ℕ) (told : List Told) (p :
   }
 
   -- other seats, with the same lines
-  pub holds_seated : (seats : Seats) → ((x : Session) → HasJoined p.seats x → HasJoined seats x) → lines_of p.term seats ≡ lines_of p.term p.seats → Holds count skew greatest told (with_seats seats p)
+  pub holds_seated : (seats : Seats) → ((x : Session) → HasJoined p.seats x → HasJoined seats x) → lines_of p.term seats ≡ lines_of p.term p.seats → Holds laws count skew greatest told (with_seats seats p)
   holds_seated seats stay same = record {
     replied = h.replied;
-    cluster = subst (λ (lines : Session → Lines). ClusterHolds skew greatest (record { servers = p.servers; flying = p.flying; journal = p.journal; replied = h.replied; lines = lines })) (sym same) h.cluster;
+    cluster = subst (λ (lines : Session → Lines). laws.Holds skew greatest (record { servers = p.servers; flying = p.flying; journal = p.journal; replied = h.replied; lines = lines })) (sym same) h.cluster;
     many = h.many;
     rows = λ s i row j. stay row.session (h.rows s i row j);
     parcels = λ f i row j. stay row.session (h.parcels f i row j);
@@ -82,12 +81,12 @@ module _ (laws : SerialLaws) (count skew greatest : ℕ) (told : List Told) (p :
   }
 
   -- a session joins
-  pub holds_joined : (s : Session) → get p.seats s.0 ≡ None → Holds count skew greatest told (with_seats (insert p.seats s.0 (first_seat p.term s)) p)
+  pub holds_joined : (s : Session) → get p.seats s.0 ≡ None → Holds laws count skew greatest told (with_seats (insert p.seats s.0 (first_seat p.term s)) p)
   holds_joined s none = holds_seated (insert p.seats s.0 (first_seat p.term s)) (λ x i. joined_still p.seats s x (first_seat p.term s) i) (lines_joined p.term p.seats s none)
 
   module _ (s : Session) (seat : Seat) (at : get p.seats s.0 ≡ Some seat) where
     -- nothing but its links changes at a session
-    pub holds_posted : (next : Seat) → lines_in p.term s (Some next) ≡ lines_in p.term s (Some seat) → Holds count skew greatest told (with_seats (insert p.seats s.0 next) p)
+    pub holds_posted : (next : Seat) → lines_in p.term s (Some next) ≡ lines_in p.term s (Some seat) → Holds laws count skew greatest told (with_seats (insert p.seats s.0 next) p)
     holds_posted next e = holds_seated (insert p.seats s.0 next) (λ x i. joined_still p.seats s x next i) (lines_same p.term p.seats s seat next at e)
 
     -- ## A client's event
@@ -110,17 +109,17 @@ module _ (laws : SerialLaws) (count skew greatest : ℕ) (told : List Told) (p :
         ∙ ap (λ (n : Lines). with_lines s n (lines_of p.term p.seats)) (sym e)
         ∙ sym (lines_put p.term p.seats s next))
 
-    module _ (now : ℕ) (within : greatest ≤ now + skew) where
+    module _ (now : ℕ) (within : laws.Within skew greatest now) where
       abbrev pub with_plan : Seat → Option Item → Parts
       with_plan next admitted = record p { seats = insert p.seats s.0 next; journal = pushed admitted p.journal }
 
       pub client_holds : {N : Type 0} (event : ClientEvent) (rest : List (ℕ × Answer)) (plan : Plan N) (next : Seat) (new : List Told) → after_client s now event (cluster_of h.replied p) ≡ after_plan s rest plan (cluster_of h.replied p)
           → CanCome s event (cluster_of h.replied p) → lines_in p.term s (Some next) ≡ planned rest plan
           → MayBeFine plan.out.admitted → AllNew s (told_by s plan.ready.change plan.out.admitted) new
-          → Holds count skew (max greatest now) (told ++ new) (with_plan next plan.out.admitted)
+          → Holds laws count skew (max greatest now) (told ++ new) (with_plan next plan.out.admitted)
       client_holds event rest plan next new does can e fine tells = record {
         replied = with_told s (told_by s plan.ready.change plan.out.admitted) h.replied;
-        cluster = subst (λ (c : Cluster). ClusterHolds skew (max greatest now) c) (does ∙ plan_seen rest plan next e)
+        cluster = subst (λ (c : Cluster). laws.Holds skew (max greatest now) c) (does ∙ plan_seen rest plan next e)
             (laws.rises skew greatest (max greatest now) (after_client s now event (cluster_of h.replied p)) (omega arith) (laws.client skew greatest now (cluster_of h.replied p) s h.cluster event can within));
         many = h.many;
         rows = λ x i row j. joined_still p.seats s row.session next (h.rows x i row j);

@@ -40,7 +40,7 @@ use Rattle.fs_world.specs.declared.seat.Seat.{Seat}
 use Rattle.fs_world.specs.declared.served.Served.{Served}
 use Rattle.fs_world.proofs.SeenRows.{IsAsked}
 use Rattle.fs_world.specs.Linked.{HasJoined}
-use Rattle.fs_world.proofs.SerialLaws.{SerialLaws}
+use Rattle.fs_world.proofs.SerialLaws.{EventLaws}
 use Rattle.fs_world.proofs.Heard.{first_parcel, first_question}
 use Rattle.fs_world.proofs.ServedHolds.{Holds, Parts, cluster_of}
 use Rattle.fs_world.proofs.ServerHolds.{after_core, message_holds, parcel_of_joined, parcel_there, server_holds}
@@ -50,14 +50,14 @@ use Rattle.fs_world.proofs.SessionSteps.{HoldsOf, Then, do_holds, join_holds, la
 pub is_less : (a b : ℕ) → nat_lt a b ≡ true → a < b
 is_less a b e = grind (arith, nat_tests, e)
 
-module _ (laws : SerialLaws) (count skew greatest : ℕ) (told : List Told) (w : Served) (h : HoldsOf count skew greatest told w) (now : ℕ) (within : greatest ≤ now + skew) (some : 1 ≤ count) where
+module _ (laws : EventLaws) (count skew greatest : ℕ) (told : List Told) (w : Served) (h : HoldsOf laws count skew greatest told w) (now : ℕ) (within : laws.Within skew greatest now) (some : 1 ≤ count) where
   abbrev Is : Served → Type 0
   Is v = Then laws count skew greatest told w h now within some [] v
 
   abbrev same : Is w
   same = still laws count skew greatest told w h now within some
 
-  abbrev quietly : (v : Served) → HoldsOf count skew (max greatest now) told v → Is v
+  abbrev quietly : (v : Served) → HoldsOf laws count skew (max greatest now) told v → Is v
   quietly v x = untold laws count skew greatest told w h now within some v x
 
   -- ## At a server that there is
@@ -67,11 +67,11 @@ module _ (laws : SerialLaws) (count skew greatest : ℕ) (told : List Told) (w :
     left flying journal = record (parts_of w) { servers = slice_set w.servers k c; flying = flying; journal = journal }
 
     -- nothing but its links changes
-    unchanged : Holds count skew (max greatest now) told (left (w.flying ++ []) (w.journal ++ []))
+    unchanged : Holds laws count skew (max greatest now) told (left (w.flying ++ []) (w.journal ++ []))
     unchanged =
-        subst (λ (flying : List Flying). Holds count skew (max greatest now) told (left flying (w.journal ++ []))) (sym (append-nil w.flying))
-        (subst (λ (journal : List Item). Holds count skew (max greatest now) told (left w.flying journal)) (sym (append-nil w.journal))
-        (subst (λ (servers : List Core). Holds count skew (max greatest now) told (record (parts_of w) { servers = servers })) (sym (set_same w.servers k c at)) (later laws count skew greatest told w h now within some)))
+        subst (λ (flying : List Flying). Holds laws count skew (max greatest now) told (left flying (w.journal ++ []))) (sym (append-nil w.flying))
+        (subst (λ (journal : List Item). Holds laws count skew (max greatest now) told (left w.flying journal)) (sym (append-nil w.journal))
+        (subst (λ (servers : List Core). Holds laws count skew (max greatest now) told (record (parts_of w) { servers = servers })) (sym (set_same w.servers k c at)) (later laws count skew greatest told w h now within some)))
 
     abbrev hearing : Peer → Option Peer → Heard → Option ServerEvent → Links → Served
     hearing from heard x event links = (with_server k (server_hears now k from heard x event (record (at_server c post w) { post = links })) w).world
@@ -84,7 +84,7 @@ module _ (laws : SerialLaws) (count skew greatest : ℕ) (told : List Told) (w :
         → Is (hearing (Client s) heard x (Some (FromClient s m.1)) links)
     message_then s seat heard x links m is first =
         quietly (hearing (Client s) heard x (Some (FromClient s m.1)) links)
-        (subst (λ (o : Option Seat). Holds count skew (max greatest now) told (after_core laws count skew greatest told (parts_of w) h now k c at (FromClient s m.1) (without_up k o s.0 w.seats))) (sym is)
+        (subst (λ (o : Option Seat). Holds laws count skew (max greatest now) told (after_core laws count skew greatest told (parts_of w) h now k c at (FromClient s m.1) (without_up k o s.0 w.seats))) (sym is)
         (message_holds laws count skew greatest told (parts_of w) h now k c at s seat m is first))
 
     session_hears : (s : Session) (o : Option Seat) → get w.seats s.0 ≡ o → (heard : Option Peer) (x : Heard) (js : List Joined) (links : Links) → IsFirstOf js (ups_of k o) → Is (hearing (Client s) heard x (event_heard (Client s) js) links)
@@ -118,7 +118,7 @@ module _ (laws : SerialLaws) (count skew greatest : ℕ) (told : List Told) (w :
 
     -- what no message brings
     own_step : (turn : Bool) (e : ServerEvent) → lines_of w.term w.seats ≡ without_question k e (lines_of w.term w.seats) → IsThere k e (cluster_of h.replied (parts_of w)) → IsAsked (HasJoined w.seats) e
-        → Holds count skew (max greatest now) told (after_core laws count skew greatest told (parts_of w) h now k c at e w.seats)
+        → Holds laws count skew (max greatest now) told (after_core laws count skew greatest told (parts_of w) h now k c at e w.seats)
     own_step turn e taken there asker = server_holds laws count skew greatest told (parts_of w) h now k c at e w.seats taken (λ x i. i) there asker
 
   -- ## At any server

@@ -9,7 +9,7 @@ use Rattle.fs_ident.specs.In.{In}
 use Rattle.fs_ident.specs.declared.actor.Session.{Session}
 use Rattle.fs_ident.proofs.Booleans.{both}
 use Rattle.fs_ident.proofs.Passing.{found}
-use Rattle.fs_ident.proofs.Standing.{In-got, In-append, In-front, In-mapped}
+use Rattle.fs_ident.proofs.Standing.{In-got, In-append, In-mapped}
 use Rattle.fs_msg.specs.declared.client_msg.ClientMsg.{ClientMsg}
 use Rattle.fs_msg.specs.declared.client_msg.ClientMsg.TheVariants.{Ask, Renew, Release, Ship}
 use Rattle.fs_msg.specs.declared.entry.Entry.{Entry}
@@ -19,7 +19,7 @@ use Rattle.fs_server.specs.declared.event.ServerEvent.{ServerEvent}
 use Rattle.fs_server.specs.declared.event.ServerEvent.TheVariants.{FromClient, FromPeer, Turn, Recall, Move}
 use Rattle.fs_server.specs.declared.state.Server.{Server}
 use Rattle.fs_serial.specs.Cluster.{Cluster, IsThere, Lines, after_server, after_server_at, flying_from, is_between, is_with, with_lines, with_sent, without_first, without_parcel, without_question}
-use Rattle.fs_serial.specs.Seen.{ClusterHolds, ends_of}
+use Rattle.fs_serial.specs.Seen.{ends_of}
 use Rattle.fs_serial.specs.declared.flying.Flying.{Flying}
 use Rattle.fs_serial.proofs.SetAt.{In_set, In_without}
 use Rattle.fs_world.specs.Linked.{HasJoined}
@@ -31,10 +31,10 @@ use Rattle.fs_world.proofs.Fine.{EntriesAsk, EventAsks, MessageAsks, fine_more, 
 use Rattle.fs_world.proofs.Seen.{joined_still, lines_put}
 use Rattle.fs_world.proofs.SeenRows.{IsAsked, IsOf, step_of}
 use Rattle.fs_world.proofs.SeenSends.{downs_joined, parcels_of_these, sends_seen}
-use Rattle.fs_world.proofs.SerialLaws.{SerialLaws}
+use Rattle.fs_world.proofs.SerialLaws.{EventLaws}
 use Rattle.fs_world.proofs.ServedHolds.{Holds, Parts, cluster_of}
 
-module _ (laws : SerialLaws) (count skew greatest : ℕ) (told : List Told) (p : Parts) (h : Holds count skew greatest told p) (now : ℕ) (k : ℕ) (s : Server) (at : slice_get p.servers k ≡ Some s) where
+module _ (laws : EventLaws) (count skew greatest : ℕ) (told : List Told) (p : Parts) (h : Holds laws count skew greatest told p) (now : ℕ) (k : ℕ) (s : Server) (at : slice_get p.servers k ≡ Some s) where
   abbrev pub c : Cluster
   c = cluster_of h.replied p
 
@@ -43,9 +43,9 @@ module _ (laws : SerialLaws) (count skew greatest : ℕ) (told : List Told) (p :
 
   -- the server's readings were no greater
   pub clock : s.last ≤ greatest
-  clock = (h.cluster.parts s server_in).clock
+  clock = laws.clock skew greatest s c server_in h.cluster
 
-  pub later_holds : ClusterHolds skew (max greatest now) c
+  pub later_holds : laws.Holds skew (max greatest now) c
   later_holds = laws.rises skew greatest (max greatest now) c (omega arith) h.cluster
 
   pub in_time : max s.last now ≤ max greatest now
@@ -54,10 +54,7 @@ module _ (laws : SerialLaws) (count skew greatest : ℕ) (told : List Told) (p :
   -- ## What is handed in asks for an access where it opens
 
   entries_ask : (by : Session) (entries : List Entry) → In (Ship entries) (ends_of (lines_of p.term p.seats by)).up → EntriesAsk entries
-  entries_ask by entries there e i =
-      let parts = h.cluster.parts s server_in in
-      let front = (parts.exchanges by).front entries there in
-      ((parts.all.fitting by).entries e (subst (λ es. In e es) (sym front.log) (In-front e entries front.rest i))).access
+  entries_ask by entries there e i = laws.asks skew greatest s c by entries server_in there h.cluster e i
 
   message_asks : (by : Session) (m : ClientMsg) → In m (ends_of (lines_of p.term p.seats by)).up → MessageAsks m
   message_asks by (Ship entries) there = entries_ask by entries there
@@ -104,10 +101,10 @@ module _ (laws : SerialLaws) (count skew greatest : ℕ) (told : List Told) (p :
     left_there (Recall field) f i = i
     left_there (Move prefix to) f i = i
 
-    pub server_holds : Holds count skew (max greatest now) told (after_core e before)
+    pub server_holds : Holds laws count skew (max greatest now) told (after_core e before)
     server_holds = record {
       replied = h.replied;
-      cluster = subst (λ (d : Cluster). ClusterHolds skew (max greatest now) d) core_seen (laws.event skew (max greatest now) now k e s c at in_time there later_holds);
+      cluster = subst (λ (d : Cluster). laws.Holds skew (max greatest now) d) core_seen (laws.event skew (max greatest now) now k e s c at in_time there later_holds);
       many = length-set p.servers k (step s now e).server ∙ h.many;
       rows = rows;
       parcels = parcels;
@@ -142,7 +139,7 @@ module _ (laws : SerialLaws) (count skew greatest : ℕ) (told : List Told) (p :
       ∙ ap (λ (n : Lines). with_lines by (record n { up = without_first (is_with k) n.up }) (lines_of p.term p.seats)) (sym (ap (lines_in p.term by) is))
 
   pub message_holds : (by : Session) (seat : Seat) (m : ℕ × ClientMsg) → get p.seats by.0 ≡ Some seat → find (is_with k) seat.up ≡ Some m
-      → Holds count skew (max greatest now) told (after_core (FromClient by m.1) (insert p.seats by.0 (record seat { up = without_first (is_with k) seat.up })))
+      → Holds laws count skew (max greatest now) told (after_core (FromClient by m.1) (insert p.seats by.0 (record seat { up = without_first (is_with k) seat.up })))
   message_holds by seat m is first = server_holds (FromClient by m.1) (insert p.seats by.0 (record seat { up = without_first (is_with k) seat.up }))
       (question_taken by seat m.1 is) (λ x i. joined_still p.seats by x (record seat { up = without_first (is_with k) seat.up }) i) (question_there by seat m is first)
       (joined_still p.seats by by (record seat { up = without_first (is_with k) seat.up }) (seat, is))

@@ -18,12 +18,13 @@ use Rattle.fs_msg.specs.declared.note.Note.TheVariants as note
 use Rattle.fs_actor.specs.Hearing.{answer_heard, heard_in}
 use Rattle.fs_client.specs.Acts.{act_plan}
 use Rattle.fs_client.specs.Answers.{answer_plan}
-use Rattle.fs_client.specs.Client.{committed}
+use Rattle.fs_client.specs.Client.{begun, committed}
 use Rattle.fs_client.specs.Turns.{turn_plan}
 use Rattle.fs_client.specs.declared.plan.Plan.{Plan}
 use Rattle.fs_serial.specs.Cluster.{Cluster, Lines, after_plan, is_with, without_first}
 use Rattle.fs_serial.specs.Cluster.ClientEvent.{Does, Hears, Turns}
 use Rattle.fs_serial.specs.World.{is_called, pushed}
+use Rattle.fs_serial.proofs.ClientEvents.{hear_quiet, quiet_tells, turn_quiet}
 use Rattle.fs_world.specs.Calls.{client_hears}
 use Rattle.fs_world.specs.Carried.{IsFirstOf, downs_of, joined_at, seat_post}
 use Rattle.fs_world.specs.Order.{Told, replies_in}
@@ -33,15 +34,15 @@ use Rattle.fs_world.specs.declared.seat.Seat.{Seat}
 use Rattle.fs_world.specs.declared.served.Served.{Served}
 use Rattle.fs_world.proofs.Fine.{act_fine, answer_fine, turn_fine}
 use Rattle.fs_world.proofs.Heard.{first_answer}
-use Rattle.fs_world.proofs.SerialLaws.{SerialLaws}
+use Rattle.fs_world.proofs.SerialLaws.{EventLaws}
 use Rattle.fs_world.proofs.ServedHolds.{Holds, Parts, a_server, client_holds, cluster_of, holds_joined, holds_later, holds_posted, holds_untold, with_seats}
-use Rattle.fs_world.proofs.Told.{act_tells}
+use Rattle.fs_world.proofs.Told.{act_tells, none_new}
 
 abbrev pub parts_of : Served → Parts
 parts_of w = record { term = w.term; servers = w.servers; seats = w.seats; flying = w.flying; journal = w.journal }
 
-abbrev pub HoldsOf : ℕ → ℕ → ℕ → List Told → Served → Type 0
-HoldsOf count skew greatest told w = Holds count skew greatest told (parts_of w)
+abbrev pub HoldsOf : EventLaws → ℕ → ℕ → ℕ → List Told → Served → Type 0
+HoldsOf laws count skew greatest told w = Holds laws count skew greatest told (parts_of w)
 
 -- as two definitions write it
 up_pushed : (send : Option (ℕ × ClientMsg)) (up : List (ℕ × ClientMsg)) → up_after send up ≡ pushed send up
@@ -52,16 +53,16 @@ read_pushed : (o : Option Item) (journal : List Item) → pushed o journal ≡ w
 read_pushed None journal = refl
 read_pushed (Some i) journal = refl
 
-module _ (laws : SerialLaws) (count skew greatest : ℕ) (told : List Told) (w : Served) (h : HoldsOf count skew greatest told w) (now : ℕ) (within : greatest ≤ now + skew) (some : 1 ≤ count) where
+module _ (laws : EventLaws) (count skew greatest : ℕ) (told : List Told) (w : Served) (h : HoldsOf laws count skew greatest told w) (now : ℕ) (within : laws.Within skew greatest now) (some : 1 ≤ count) where
   -- this was told, and the world is this
   abbrev pub Then : List Told → Served → Type 0
-  Then new v = HoldsOf count skew (max greatest now) (told ++ new) v
+  Then new v = HoldsOf laws count skew (max greatest now) (told ++ new) v
 
-  pub later : HoldsOf count skew (max greatest now) told w
+  pub later : HoldsOf laws count skew (max greatest now) told w
   later = holds_later laws count skew greatest told (parts_of w) h (max greatest now) (omega arith)
 
-  pub untold : (v : Served) → HoldsOf count skew (max greatest now) told v → Then [] v
-  untold v k = holds_untold count skew (max greatest now) told (parts_of v) k
+  pub untold : (v : Served) → HoldsOf laws count skew (max greatest now) told v → Then [] v
+  untold v k = holds_untold laws count skew (max greatest now) told (parts_of v) k
 
   pub still : Then [] w
   still = untold w later
@@ -79,12 +80,12 @@ module _ (laws : SerialLaws) (count skew greatest : ℕ) (told : List Told) (w :
     owned : seat.client.session ≡ s
     owned =
         let server = a_server w.servers (subst (λ (n : ℕ). 1 ≤ n) (sym h.many) some) in
-        ap (λ (n : Lines). n.client.session) (sym own) ∙ ((h.cluster.parts server.0 server.1).clients s).session
+        ap (λ (n : Lines). n.client.session) (sym own) ∙ laws.owned skew greatest server.0 seen s server.1 h.cluster
 
     -- ## Nothing but the links changes
 
-    posted : (next : Seat) → lines_in w.term s (Some next) ≡ sits → Holds count skew (max greatest now) (told ++ []) (with_seats (insert w.seats s.0 next) (parts_of w))
-    posted next e = holds_untold count skew (max greatest now) told (with_seats (insert w.seats s.0 next) (parts_of w)) (holds_posted laws count skew (max greatest now) told (parts_of w) later s seat at next e)
+    posted : (next : Seat) → lines_in w.term s (Some next) ≡ sits → Holds laws count skew (max greatest now) (told ++ []) (with_seats (insert w.seats s.0 next) (parts_of w))
+    posted next e = holds_untold laws count skew (max greatest now) told (with_seats (insert w.seats s.0 next) (parts_of w)) (holds_posted laws count skew (max greatest now) told (parts_of w) later s seat at next e)
 
     -- ## The client does something
 
@@ -98,8 +99,8 @@ module _ (laws : SerialLaws) (count skew greatest : ℕ) (told : List Told) (w :
     abbrev parts_with : Seat → List Item → Parts
     parts_with next journal = record (parts_of w) { seats = insert w.seats s.0 next; journal = journal }
 
-    journal_is : (o : Option Item) (new : List Told) (next : Seat) → Holds count skew (max greatest now) (told ++ new) (parts_with next (pushed o w.journal)) → Holds count skew (max greatest now) (told ++ new) (parts_with next (with_read o w.journal))
-    journal_is o new next k = subst (λ journal. Holds count skew (max greatest now) (told ++ new) (parts_with next journal)) (read_pushed o w.journal) k
+    journal_is : (o : Option Item) (new : List Told) (next : Seat) → Holds laws count skew (max greatest now) (told ++ new) (parts_with next (pushed o w.journal)) → Holds laws count skew (max greatest now) (told ++ new) (parts_with next (with_read o w.journal))
+    journal_is o new next k = subst (λ journal. Holds laws count skew (max greatest now) (told ++ new) (parts_with next journal)) (read_pushed o w.journal) k
 
     acts : (o : Op) → is_called o ≡ true → Then (replies_in s o (note.Act (act_plan seat.client now o).out.note ∷ [])) (with_seat s (client_acts now s o seat w.journal w.packets) w).world
     acts o called =
@@ -122,7 +123,7 @@ module _ (laws : SerialLaws) (count skew greatest : ℕ) (told : List Told) (w :
         tt
         (as_planned p next seat.down refl)
         (turn_fine seat.client now)
-        (λ t i. absurd i))
+        (none_new s _ (quiet_tells s (begun now seat.client) (turn_plan seat.client now) (turn_quiet s (begun now seat.client)))))
 
     -- ## A packet comes
 
@@ -136,7 +137,7 @@ module _ (laws : SerialLaws) (count skew greatest : ℕ) (told : List Told) (w :
         (ap (λ (n : Lines). find (is_with k) n.down) own ∙ first)
         (as_planned p next rest refl)
         (answer_fine seat.client now k a)
-        (λ t i. absurd i))
+        (none_new s _ (quiet_tells s (begun now seat.client) (answer_plan seat.client now k a) (hear_quiet s (begun now seat.client) k a))))
 
     hears : (k : ℕ) (heard : Option Peer) (x : Heard) (js : List Joined) (links : Links) → IsFirstOf js (downs_of k (Some seat))
         → Then [] (with_seat s (client_hears now s k heard x (answer_heard js) (record seat { post = links }) w.journal w.packets) w).world

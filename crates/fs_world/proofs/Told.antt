@@ -1,10 +1,10 @@
 -- What a session is told of its operation is what was answered it.
-use Rattle.std.proofs.Common.{◌≡◌, ℕ, ◌==◌, Bool, true, false, not, ◌&&◌, List, [], ◌∷◌, ◌++◌, cond, refl, ap, sym, subst, inl, inr}
+use Rattle.std.proofs.Common.{◌≡◌, ◌∙◌, ℕ, ◌==◌, Bool, true, false, not, ◌&&◌, List, [], ◌∷◌, ◌++◌, append-nil, cond, refl, ap, sym, subst, inl, inr}
+use Rattle.std.proofs.lemmas.List.Elements.{filter-append}
 use Rattle.std.specs.Prelude.{Option, Some, None, is_some}
 use Rattle.fs_ident.specs.In.{In}
 use Rattle.fs_ident.specs.declared.actor.Peer.TheVariants.{Client}
 use Rattle.fs_ident.specs.declared.actor.Session.{Session}
-use Rattle.fs_ident.proofs.Standing.{In-append, In-front, In-behind}
 use Rattle.fs_ident.proofs.Same.{itself}
 use Rattle.fs_field.specs.declared.asked.Need.{Need}
 use Rattle.fs_field.specs.declared.asked.Need.TheVariants as need
@@ -24,49 +24,68 @@ use Rattle.fs_client.specs.Acts.{act_on, act_plan, answer_with, answers, ask_for
 use Rattle.fs_client.specs.Client.{begun}
 use Rattle.fs_client.specs.declared.plan.Plan.{Plan}
 use Rattle.fs_client.specs.declared.state.Client.{Client as ClientState}
-use Rattle.fs_serial.specs.World.{pushed, told_by, with_told}
-use Rattle.fs_world.specs.Order.{Agrees, HasNumberOf, IsAdmitted, SameButId, Told, replies_in}
+use Rattle.fs_serial.specs.World.{told_by, with_told}
+use Rattle.fs_serial.proofs.RowKinds.{In-kept}
+use Rattle.fs_world.specs.Order.{Agrees, AreAsTold, HasNumberOf, IsAdmitted, SameButId, Told, replies_in, told_to}
+use Rattle.fs_world.proofs.Seen.{turned}
+
+-- what was told to each session is its replies, one for one
+abbrev pub AllReplied : (Session → List Item) → List Told → Type 0
+AllReplied replied told = (x : Session) → AreAsTold (replied x) (told_to x told)
 
 -- each reply that was told is among those of its session
-abbrev pub AllReplied : (Session → List Item) → List Told → Type 0
-AllReplied replied told = (t : Told) → In t told → IsAdmitted (replied t.session) t
+among_these : (is : List Item) (ts : List Told) → AreAsTold is ts → (t : Told) → In t ts → IsAdmitted is t
+among_these [] [] h t i = absurd i
+among_these [] (u ∷ us) h t i = absurd h
+among_these (x ∷ xs) [] h t i = absurd h
+among_these (x ∷ xs) (u ∷ us) h t (inl e) = subst (λ (v : Told). IsAdmitted (x ∷ xs) v) (sym e) (x, inl refl, h.0, h.1)
+among_these (x ∷ xs) (u ∷ us) h t (inr i) = let q = among_these xs us h.2 t i in (q.0, inr q.1, q.2, q.3)
+
+pub among_replies : (replied : Session → List Item) (told : List Told) → AllReplied replied told → (t : Told) → In t told → IsAdmitted (replied t.session) t
+among_replies replied told h t i =
+    among_these (replied t.session) (told_to t.session told) (h t.session) t (In-kept (λ (u : Told). t.session.0 == u.session.0) t told i (itself t.session.0))
 
 -- ## One reply more
 
 -- what is told anew is the session's, and is this item
-pub record IsNew (s : Session) (told : Option Item) (t : Told) : Type 0 where
-  pub item : Item
-  pub is : told ≡ Some item
-  pub session : t.session ≡ s
-  pub number : HasNumberOf item t
-  pub agrees : Agrees item t
-
 abbrev pub AllNew : Session → Option Item → List Told → Type 0
-AllNew s told new = (t : Told) → In t new → IsNew s told t
+AllNew s None [] = Unit {0}
+AllNew s (Some i) (t ∷ []) = (t.session ≡ s) × HasNumberOf i t × Agrees i t
+AllNew s told new = ⊥
 
-in_pushed : (o : Option Item) (i : Item) (is : List Item) → In i is → In i (pushed o is)
-in_pushed None i is h = h
-in_pushed (Some j) i is h = In-front i is (j ∷ []) h
+as_told_more : (is : List Item) (ts : List Told) (i : Item) (t : Told) → AreAsTold is ts → HasNumberOf i t → Agrees i t → AreAsTold (is ++ i ∷ []) (ts ++ t ∷ [])
+as_told_more [] [] i t h n a = (n, a, tt)
+as_told_more [] (u ∷ us) i t h n a = absurd h
+as_told_more (x ∷ xs) [] i t h n a = absurd h
+as_told_more (x ∷ xs) (u ∷ us) i t h n a = (h.0, h.1, as_told_more xs us i t h.2 n a)
 
-in_told : (s : Session) (o : Option Item) (replied : Session → List Item) (x : Session) (b : Bool) (i : Item) → In i (replied x) → In i (cond b (pushed o (replied x)) (replied x))
-in_told s o replied x true i h = in_pushed o i (replied x) h
-in_told s o replied x false i h = h
+-- it goes to this session, and to no other
+goes_to : (x : Session) (told : List Told) (t : Told) (b : Bool) → (x.0 == t.session.0) ≡ b → told_to x (told ++ t ∷ []) ≡ told_to x told ++ cond b (t ∷ []) []
+goes_to x told t b e = filter-append (λ (u : Told). x.0 == u.session.0) told (t ∷ []) ∙ ap (λ (c : Bool). told_to x told ++ cond c (t ∷ []) []) e
 
-replied_then : (s : Session) (o : Option Item) (replied : Session → List Item) (t : Told) → IsAdmitted (replied t.session) t → IsAdmitted (with_told s o replied t.session) t
-replied_then s o replied t h = (h.0, in_told s o replied t.session (s.0 == t.session.0) h.0 h.1, h.2, h.3)
+told_one : (s x : Session) (i : Item) (t : Told) (is : List Item) (told : List Told) → t.session ≡ s → HasNumberOf i t → Agrees i t → AreAsTold is (told_to x told) → (b : Bool) → (s.0 == x.0) ≡ b → AreAsTold (cond b (is ++ i ∷ []) is) (told_to x (told ++ t ∷ []))
+told_one s x i t is told own n a h true e =
+    subst (λ (ts : List Told). AreAsTold (is ++ i ∷ []) ts) (sym (goes_to x told t true (turned x.0 t.session.0 ∙ ap (λ (y : Session). y.0 == x.0) own ∙ e)))
+    (as_told_more is (told_to x told) i t h n a)
+told_one s x i t is told own n a h false e =
+    subst (λ (ts : List Told). AreAsTold is ts) (sym (goes_to x told t false (turned x.0 t.session.0 ∙ ap (λ (y : Session). y.0 == x.0) own ∙ e) ∙ append-nil (told_to x told))) h
 
-new_there : (s : Session) (i : Item) (replied : Session → List Item) → In i (with_told s (Some i) replied s)
-new_there s i replied = subst (λ b. In i (cond b (replied s ++ i ∷ []) (replied s))) (sym (itself s.0)) (In-behind i (replied s) (i ∷ []) (inl refl))
-
-replied_new : (s : Session) (o : Option Item) (replied : Session → List Item) (t : Told) → IsNew s o t → IsAdmitted (with_told s o replied t.session) t
-replied_new s o replied t h =
-    (h.item, subst (λ (x : Session). In h.item (with_told s o replied x)) (sym h.session) (subst (λ (p : Option Item). In h.item (with_told s p replied s)) (sym h.is) (new_there s h.item replied)), h.number, h.agrees)
+same_replies : (b : Bool) (is : List Item) → is ≡ cond b is is
+same_replies true is = refl
+same_replies false is = refl
 
 pub told_more : (s : Session) (o : Option Item) (replied : Session → List Item) (told new : List Told) → AllReplied replied told → AllNew s o new → AllReplied (with_told s o replied) (told ++ new)
-told_more s o replied told new h g t i = elim (In-append t told new i) as (λ _. IsAdmitted (with_told s o replied t.session) t) [
-  | inl old ↦ replied_then s o replied t (h t old)
-  | inr one ↦ replied_new s o replied t (g t one)
-]
+told_more s None replied told [] h g x =
+    subst (λ (ts : List Told). AreAsTold (cond (s.0 == x.0) (replied x) (replied x)) (told_to x ts)) (sym (append-nil told))
+    (subst (λ (is : List Item). AreAsTold is (told_to x told)) (same_replies (s.0 == x.0) (replied x)) (h x))
+told_more s None replied told (t ∷ ts) h g x = absurd g
+told_more s (Some i) replied told [] h g x = absurd g
+told_more s (Some i) replied told (t ∷ []) h g x = told_one s x i t (replied x) told g.0 g.1 g.2 (h x) (s.0 == x.0) refl
+told_more s (Some i) replied told (t ∷ u ∷ ts) h g x = absurd g
+
+-- a plan that answers nothing tells nothing
+pub none_new : (s : Session) (o : Option Item) → o ≡ None → AllNew s o []
+none_new s o e = subst (λ (p : Option Item). AllNew s p []) (sym e) tt
 
 -- ## What a client makes of an operation
 
@@ -90,27 +109,20 @@ module _ (s : Session) (o : Op) (c : ClientState) (own : c.session ≡ s) where
   Tells p = AllNew s (told_by s p.ready.change p.out.admitted) (replies_in s o (note.Act p.out.note ∷ []))
 
   full_tells : (needs : List Need) → Tells (full_one needs c)
-  full_tells [] = λ t i. absurd i
+  full_tells [] = tt
   full_tells (need.Lease field kind ∷ needs) = full_tells needs
-  full_tells (need.Fresh dir ∷ needs) = λ t i. absurd i
+  full_tells (need.Fresh dir ∷ needs) = tt
 
   ask_tells : (needs some : List Need) → Tells (ask_for needs some c)
   ask_tells needs [] = full_tells needs
   ask_tells needs (n ∷ ns) = elim (is_some c.exchange) as (λ b. Tells (cond b (stays (act.Busy busy.Exchange) c) (asks (hinted c (need_file n)) (n ∷ ns) c))) [
-    | true ↦ λ t i. absurd i
-    | false ↦ λ t i. absurd i
+    | true ↦ tt
+    | false ↦ tt
   ]
 
   -- the one item, whatever its session is written as
   one_told : (r : Reply) (i : Item) → i.by ≡ Client s → i.n ≡ c.next → i.op ≡ with_id c.view c.last o r → i.reply ≡ r → AllNew s (Some i) (record { session = s; n = c.next; asked = o; reply = r } ∷ [])
-  one_told r i by n op_is reply_is t (inl e) = subst (λ (x : Told). IsNew s (Some i) x) (sym e) (record {
-    item = i;
-    is = refl;
-    session = refl;
-    number = record { by = by; n = n };
-    agrees = record { op = subst (SameButId o) (sym op_is) (same_id c.view c.last o r); reply = reply_is };
-  })
-  one_told r i by n op_is reply_is t (inr z) = absurd z
+  one_told r i by n op_is reply_is = (refl, record { by = by; n = n }, record { op = subst (SameButId o) (sym op_is) (same_id c.view c.last o r); reply = reply_is })
 
   answers_tells : (r : Reply) → Tells (answers o r c)
   answers_tells r = elim (not (is_change r) && is_empty c.log) as (λ b. Tells (cond b (reads o r c) (replies o r c))) [
@@ -123,7 +135,7 @@ module _ (s : Session) (o : Op) (c : ClientState) (own : c.session ≡ s) where
   with_tells None = ask_tells (missing_in c.view c.last o) (worth c.full (missing_in c.view c.last o))
 
   on_tells : (over : Option ℕ) → Tells (act_on over o c)
-  on_tells (Some n) = λ t i. absurd i
+  on_tells (Some n) = tt
   on_tells None = with_tells (reply_in c.view c.last o)
 
 pub act_tells : (s : Session) (o : Op) (c : ClientState) (now : ℕ) → c.session ≡ s → AllNew s (told_by s (act_plan c now o).ready.change (act_plan c now o).out.admitted) (replies_in s o (note.Act (act_plan c now o).out.note ∷ []))

@@ -3,6 +3,7 @@ pub mod Direct
 pub mod Term
 pub mod Served
 pub mod World
+pub mod Within
 pub mod Carried
 pub mod Order
 pub mod Safe

@@ -21,6 +21,7 @@ use Rattle.fs_msg.specs.declared.limits.TheConstants.{SERVERS}
 use Rattle.fs_msg.specs.declared.msg.Msg.{Msg}
 use Rattle.fs_msg.specs.declared.msg.Msg.TheVariants as msg
 use Rattle.fs_record.specs.Moving.{AreEachRecords}
+use Rattle.fs_record.specs.Records.{AreRecords}
 use Rattle.fs_serial.specs.declared.flying.Flying.{Flying}
 use Rattle.fs_server.specs.declared.state.Server.{Server as Core}
 use Rattle.fs_window.specs.OnTheWay.{Carries, IsPacketOf}
@@ -31,6 +32,7 @@ use Rattle.fs_window.specs.declared.link.Link.{Link}
 use Rattle.fs_window.specs.declared.packet.Packet.{Packet}
 use Rattle.fs_window.specs.declared.sent.Sent.{Sent}
 use Rattle.fs_wire.specs.Readable.{is_readable_session}
+use Rattle.fs_world.specs.Within.{IsInRange}
 pub use Rattle.fs_world.specs.Carried.{IsFirstOf, between, downs_of, parcels_between, post_of, seat_post, ups_of}
 use Rattle.fs_world.specs.Readable.{HandlesOpen, LogReadable, RecordsOpen}
 use Rattle.fs_world.specs.Served.{Seats, link_width}
@@ -41,10 +43,10 @@ use Rattle.fs_world.specs.declared.served.Served.{Served}
 
 -- ## The links of two actors
 
--- these messages are on their way from one end of a link to the other, and each can be read
+-- these messages are on their way from one end of a link to the other, and each is in range
 pub record IsWay (from to : Link) (messages : List Msg) : Type 0 where
   pub carries : Carries from to (map message messages)
-  pub fits : AllByRecursion FitsMessage messages
+  pub fits : AllByRecursion IsInRange messages
 
 -- the bytes are those of a packet that one end made for the other
 pub record IsSentOver (from to : Link) (bytes : List ℕ) : Type 0 where
@@ -117,6 +119,7 @@ AreOfJoined seats rows = (row : Row) → In row rows → HasJoined seats row.ses
 pub record IsServed (servers : ℕ) (seats : Seats) (k : ℕ) (s : Core) : Type 0 where
   pub me : s.me ≡ k
   pub named : AreNamed servers s.map
+  pub records : AreRecords s.records
   pub handles : HandlesOpen s.records
   pub rows : AreOfJoined seats s.rows
 

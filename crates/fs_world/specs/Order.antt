@@ -74,6 +74,16 @@ pub record Agrees (i : Item) (t : Told) : Type 0 where
   pub op : SameButId t.asked i.op
   pub reply : i.reply ≡ t.reply
 
+-- what was told to the session, in order
+abbrev pub told_to : Session → List Told → List Told
+told_to s told = filter (λ (t : Told). s.0 == t.session.0) told
+
+-- the items are what was told, one for one
+abbrev pub AreAsTold : List Item → List Told → Type 0
+AreAsTold [] [] = Unit {0}
+AreAsTold (i ∷ is) (t ∷ ts) = HasNumberOf i t × Agrees i t × AreAsTold is ts
+AreAsTold is ts = ⊥
+
 -- each actor's items are numbered from 1, and where one has the number of what was told it agrees
 pub record IsInSessionOrder (journal : List Item) (told : List Told) : Type 0 where
   pub numbered : (who : Peer) → AreNumberedFrom 1 (items_of who journal)

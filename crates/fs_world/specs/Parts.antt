@@ -7,8 +7,13 @@ use Rattle.fs_schedule.specs.declared.event.Event.{Event}
 use Rattle.fs_schedule.specs.declared.event.Head.{Head}
 use Rattle.fs_schedule.specs.declared.event.Head.TheVariants as head
 use Rattle.fs_serial.specs.Cluster.{Cluster, Lines, first_lines}
-use Rattle.fs_serial.specs.Seen.{ClusterHolds}
+use Rattle.fs_serial.specs.Numbers.{all_items}
+use Rattle.fs_serial.specs.Runs.{IsOrderly}
+use Rattle.fs_serial.specs.Seen.{ClusterHolds, ends_of}
+use Rattle.fs_serial.specs.World.{settled_at}
+use Rattle.fs_world.specs.Order.{AreAsTold, Told, told_of, told_to}
 use Rattle.fs_world.specs.Served.{Seats}
+use Rattle.fs_world.specs.World.{Run}
 use Rattle.fs_world.specs.declared.form.Form.{Form}
 use Rattle.fs_world.specs.declared.form.Form.TheVariants as form
 use Rattle.fs_world.specs.declared.seat.Seat.{Seat}
@@ -26,17 +31,31 @@ lines_of term seats x = lines_in term x (get seats x.0)
 abbrev pub seen : (Session → List Item) → Served → Cluster
 seen replied w = record { servers = w.servers; flying = w.flying; journal = w.journal; replied = replied; lines = lines_of w.term w.seats }
 
--- where no reading was greater than this one, all parts of the invariant hold with what sessions were told; the direct form has none
-abbrev pub PartsHold : Head → ℕ → Form → Type 0
-PartsHold head.Direct greatest (form.Direct w) = Unit {0}
-PartsHold (head.Servers servers skew term) greatest (form.Served w) = (replied : Session → List Item) × ClusterHolds skew greatest (seen replied w)
-PartsHold h greatest w = ⊥
+-- what each session was told, as the journal and its client have it: its items, and then its log as that will be
+abbrev pub replied_in : Served → Session → List Item
+replied_in w x = all_items x w.journal (settled_at x (ends_of (lines_of w.term w.seats x))).log
+
+-- where no reading was greater and this was told: all parts of the invariant hold, and those items are what the notes told each session
+pub record ServedHold (skew greatest : ℕ) (told : List Told) (w : Served) : Type 0 where
+  pub parts : ClusterHolds skew greatest (seen (replied_in w) w)
+  pub replies : (x : Session) → AreAsTold (replied_in w x) (told_to x told)
+
+-- the direct form has no parts
+abbrev pub PartsHold : Head → ℕ → List Told → Form → Type 0
+PartsHold head.Direct greatest told (form.Direct w) = Unit {0}
+PartsHold (head.Servers servers skew term) greatest told (form.Served w) = ServedHold skew greatest told w
+PartsHold h greatest told w = ⊥
 
 -- the greatest reading of these events, if it is greater than that one
 abbrev pub greatest_of : ℕ → List Event → ℕ
 greatest_of greatest [] = greatest
 greatest_of greatest (e ∷ es) = greatest_of (max greatest e.reading) es
 
--- after these events
-abbrev pub AllPartsHold : Head → List Event → Form → Type 0
-AllPartsHold h events w = PartsHold h (greatest_of 0 events) w
+-- after the run of these events
+abbrev pub AllPartsHold : Head → List Event → Run → Type 0
+AllPartsHold h events r = PartsHold h (greatest_of 0 events) (told_of events r.outcomes) r.world
+
+-- everything is at its place, no two rows conflict, and the namespace that the servers hold together is sound; the direct form has no places
+abbrev pub IsOrderlyWorld : Form → Type 0
+IsOrderlyWorld (form.Direct w) = Unit {0}
+IsOrderlyWorld (form.Served w) = IsOrderly (seen (λ x. []) w)

@@ -3,7 +3,6 @@ ghost use Rattle.std.specs.Prelude.{◌≡◌, ◌<◌, ◌≤◌, length, true,
 ghost use Rattle.std.specs.FinMap as map;
 ghost use Rattle.fs_ident.specs.declared.limits.TheConstants.{LATEST, SESSIONS};
 ghost use Rattle.fs_msg.specs.declared.limits.TheConstants.{LONGEST, SERVERS};
-ghost use Rattle.fs_record.specs.Records.{AreRecords};
 ghost use Rattle.fs_serial.specs.Cluster.{first_servers};
 ghost use Rattle.fs_serial.specs.World.{is_called};
 ghost use Rattle.fs_server.specs.declared.event.ServerEvent.TheVariants.{Move as TheMove, Recall as TheRecall};
@@ -226,7 +225,6 @@ impl Served {
     {
         let at = k as usize;
         let core = self.servers.at_mut(at);
-        know_records(core);
         core_step(
             alloc,
             k,
@@ -276,13 +274,6 @@ impl Twin for Served {
         } = self;
         seats.discard();
     }
-}
-
-/// The records of a server are in order, as each look-up tells.
-fn know_records(core: &ServerCore)
-    ensures { AreRecords core.now.records }
-{
-    core.records();
 }
 
 /// So many new servers.

@@ -44,6 +44,7 @@ impl World {
     ghost use Rattle.fs_schedule.specs.Spelling.{FitsHead};
     ghost use Rattle.fs_world.specs.Carried.{LinksCarry};
     ghost use Rattle.fs_world.specs.Refusals.{HasNone, is_link_strange};
+    ghost use Rattle.fs_world.specs.Within.{IsWithin};
     ghost use Rattle.fs_world.specs.World.{FitsWorld, first_world, journal_of, packets_of, space_of, step};
 
     /// The world of the form before its first event.
@@ -70,7 +71,8 @@ impl World {
 
     /// One event: what it comes to. `Spent` only where the event would raise that counter above its end; there nothing but
     /// want of memory comes in its place.
-    /// All that comes over a link was sent over it. After an error the world is as it was.
+    /// All that comes over a link was sent over it. What happens is within the limits of numbers and lengths. After an error the
+    /// world is as it was.
     pub fn step(&mut self, alloc: Global, event: &Event) -> Result<Outcome, CoreError>
         requires reading { event.now.reading ≤ LATEST }
         requires asked { FitsWorld self.old event.now.what }
@@ -78,6 +80,7 @@ impl World {
         ensures world { OnOk result (self.new ≡ (step self.old event.now).world) }
         ensures known { IfOk result (HasNone is_link_strange) }
         ensures carried { LinksCarry self.old }
+        ensures within { OnOk result (IsWithin self.old event.now) }
         ensures spent { (counter : TheCounter) → IsErrOf result (errors.Spent counter) →
             (step self.old event.now).spent ≡ Some counter }
         ensures only { (counter : TheCounter) → (step self.old event.now).spent ≡ Some counter →

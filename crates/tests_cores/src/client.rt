@@ -438,16 +438,35 @@ const STRANGE: &[Line] = &[
     (1, Comes::Heard(0, said::FRESH_BELOW), ("strange", 0, None)),
     // an identifier without the lease on its life
     (1, Comes::Heard(0, said::FRESH_ALONE), ("strange", 0, None)),
+    // an identifier with the lease on its life behind what is not next
+    (1, Comes::Heard(0, said::FRESH_BEHIND), ("strange", 0, None)),
+    // and before it
+    (1, Comes::Heard(0, said::FRESH_BEFORE), ("strange", 0, None)),
     // the answer to another question
     (1, Comes::Heard(0, said::GONE), ("strange", 0, None)),
     (1, Comes::Heard(0, said::GRANTED), ("granted", 3, None)),
     (2, Comes::Act(Asking::Create), ("replied", 1, None)),
     (2, Comes::Turn, ("ships", 1, Some(0))),
+    // an entry that was written down meanwhile, and never handed in
+    (3, Comes::Act(Asking::Kind("/")), ("replied", 2, None)),
+    (
+        3,
+        Comes::Heard(0, said::REFUSED_BEHIND),
+        ("strange", 0, None),
+    ),
     (3, Comes::Heard(0, said::SHIPPED_2), ("strange", 0, None)),
     (3, Comes::Heard(0, said::SHIPPED_1), ("shipped", 1, None)),
 ];
 
+/// An identifier comes with some of the items: then the others are asked for.
+const EARLY: &[Line] = &[
+    (0, Comes::Act(Asking::Create), ("asked", 3, Some(0))),
+    (1, Comes::Heard(0, said::FRESH_EARLY), ("granted", 2, None)),
+    (2, Comes::Act(Asking::Create), ("asked", 1, Some(0))),
+];
+
 #[test]
 fn odd_answers_are_strange(rt: HostRuntime) -> Result<(), Fail> {
-    plays_new(&rt, rt.alloc(), &[STRANGE])
+    plays_new(&rt, rt.alloc(), &[STRANGE])?;
+    plays_new(&rt, rt.alloc(), &[EARLY])
 }

@@ -1,4 +1,5 @@
 //! What is told, copied, written and read.
+mod counts;
 mod faults;
 mod messages;
 mod parcels;

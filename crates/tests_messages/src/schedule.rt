@@ -103,8 +103,12 @@ fn every_event_is_read_and_copied(rt: HostRuntime) -> Result<(), Fail> {
     is_read(&rt, rt.alloc(), FIFTEEN, FIFTEEN_SHOWN)
 }
 
-/// Texts that are refused for their first line or by its limits, each behind what comes of it.
-const FIRST_LINES: [(&str, &str); 25] = [
+/// Texts with the greatest numbers of a first line, and texts that are refused for it, each behind what comes of it.
+const FIRST_LINES: [(&str, &str); 26] = [
+    (
+        "read",
+        "farsite 1 servers 15 skew 1000000000 term 1000000000\n",
+    ),
     ("1", ""),
     ("1", "\n"),
     ("1", "farsite 1 direct\r\n"),

@@ -1,4 +1,4 @@
-//! Tests of rows, records, parcels and views.
+//! Tests of rows, records, transactions, parcels and views.
 #![tactic(auto)]
 
 #[cfg(test)]
@@ -11,5 +11,7 @@ mod parcel;
 mod record;
 #[cfg(test)]
 mod rows;
+#[cfg(test)]
+mod txn;
 #[cfg(test)]
 mod view;

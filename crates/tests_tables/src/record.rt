@@ -29,7 +29,7 @@ fn put_directory(
     dir: &FileId,
     next: u64,
 ) -> Result<(), Fail> {
-    if next < 1 || next > 4294967296 {
+    if next < 1 || next > 4294967296 || next < records.next_number(dir) {
         return Ok(());
     }
     let dir = dir.copy(alloc)?;
@@ -341,7 +341,9 @@ fn are_given(
     same(rt, records.is_directory(root), true);
     same(rt, next_number(alloc, records, root)?, 1);
     same(rt, next_number(alloc, records, root)?, 1);
-    records.gift(root, 7);
+    if records.next_number(root) <= 7 {
+        records.gift(root, 7);
+    }
     same(rt, next_number(alloc, records, root)?, 8);
     Ok(())
 }

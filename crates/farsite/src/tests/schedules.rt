@@ -19,6 +19,9 @@ n /1 dir 0 0 in / \"a\"
 done events 4 journal 3 nodes 2
 ";
 
+pub(super) const FIRST_JOURNAL: &[u8] =
+    b"{\"journal\":[{\"by\":\"c1\",\"n\":1,\"op\":\"create / \\\"a\\\" dir /1\",\"reply\":\"made\"},{\"by\":\"c1\",\"n\":2,\"op\":\"lookup / \\\"a\\\"\",\"reply\":\"found /1\"},{\"by\":\"c1\",\"n\":3,\"op\":\"create / \\\"a\\\" file -\",\"reply\":\"exists\"}],\"space\":[\"n / dir 0 0\",\"n /1 dir 0 0 in / \\\"a\\\"\"]}\n";
+
 pub(super) const RENAMES: &[u8] = b"farsite 1 direct
 0 join c1
 0 do c1 create / \"a\" dir

@@ -58,6 +58,27 @@ pub(crate) const FRESH_ALONE: &[u8] = &[
     0,
 ];
 
+/// The first and the third, with the identifier of the file 1.
+pub(crate) const FRESH_EARLY: &[u8] = &[
+    17, 0, 0, 0, 0, 0, 0, 0, 2, 0, 0, 0, 0, 0, 0, 0, 0, 1, 0, 0, 0, 0, 0, 0, 0, 0, 0, 0, 100, 0, 1,
+    1, 0, 0, 0, 0, 0, 0, 0, 0, 3, 0, 1, 0, 0, 0, 1, 1, 0, 0, 0, 0, 0, 0, 0, 100, 0, 0, 1, 1, 0, 0,
+    0, 1, 0,
+];
+
+/// The second and the third, with it.
+pub(crate) const FRESH_BEHIND: &[u8] = &[
+    17, 0, 0, 0, 0, 0, 0, 0, 2, 0, 0, 0, 0, 0, 0, 0, 0, 2, 1, 0, 1, 97, 1, 0, 0, 0, 0, 0, 0, 0,
+    100, 1, 0, 0, 0, 0, 0, 0, 0, 0, 0, 3, 0, 1, 0, 0, 0, 1, 1, 0, 0, 0, 0, 0, 0, 0, 100, 0, 0, 1,
+    1, 0, 0, 0, 1, 0,
+];
+
+/// The third and the first, with it.
+pub(crate) const FRESH_BEFORE: &[u8] = &[
+    17, 0, 0, 0, 0, 0, 0, 0, 2, 0, 0, 0, 0, 0, 0, 0, 0, 3, 0, 1, 0, 0, 0, 1, 1, 0, 0, 0, 0, 0, 0,
+    0, 100, 0, 0, 0, 0, 0, 0, 0, 0, 0, 0, 1, 0, 0, 0, 0, 0, 0, 0, 0, 0, 0, 100, 0, 1, 1, 1, 1, 0,
+    0, 0, 1, 0,
+];
+
 /// The name, shared, under the number 1.
 pub(crate) const NAME_FIRST: &[u8] = &[
     17, 0, 0, 0, 0, 0, 0, 0, 1, 0, 0, 0, 0, 0, 0, 0, 0, 1, 1, 0, 1, 97, 0, 0, 0, 0, 0, 0, 0, 0,
@@ -89,6 +110,12 @@ pub(crate) const REFUSED_1: &[u8] = &[
 /// The same of entry 2.
 pub(crate) const REFUSED_2: &[u8] = &[
     20, 0, 0, 0, 0, 0, 0, 0, 0, 5, 0, 0, 0, 0, 0, 0, 0, 2, 0, 0, 0, 0, 0, 0, 0, 0, 1, 0, 0, 0, 0,
+    0, 0, 0, 100, 0, 0, 0, 0, 0, 0, 0, 110,
+];
+
+/// One entry is admitted, and entry 2 is not, since a lease of it has ended.
+pub(crate) const REFUSED_BEHIND: &[u8] = &[
+    20, 0, 0, 0, 0, 0, 0, 0, 1, 5, 0, 0, 0, 0, 0, 0, 0, 2, 0, 0, 0, 0, 0, 0, 0, 0, 1, 0, 0, 0, 0,
     0, 0, 0, 100, 0, 0, 0, 0, 0, 0, 0, 110,
 ];
 

@@ -206,6 +206,25 @@ fn a_file_comes_once(rt: HostRuntime) -> Result<(), Fail> {
     comes_in(&rt, rt.alloc(), Way::Planned)
 }
 
+const NO_NUMBER: &str = "Grants { count: 0, end: NoIds { dir: FileId { numbers: [1] } } }";
+
+/// A directory whose numbers are all given has none for a new file.
+const FULL: &[Line] = &[
+    (7, Event::Peer(0, said::FULL_PARCEL), Seen::Note, INSTALLS),
+    (
+        8,
+        Event::From(2, said::ASK_FRESH_BELOW),
+        Seen::Note,
+        NO_NUMBER,
+    ),
+];
+
+#[test]
+fn a_full_directory_has_no_number(rt: HostRuntime) -> Result<(), Fail> {
+    plays_on(&rt, rt.alloc(), other(rt.alloc())?, Way::AtOnce, FULL)?;
+    plays_on(&rt, rt.alloc(), other(rt.alloc())?, Way::Planned, FULL)
+}
+
 /// A parcel that no honest server sends changes nothing.
 const ODD: &[Line] = &[(7, Event::Peer(0, said::ODD_PARCEL), Seen::Note, "Strange")];
 

@@ -1,4 +1,5 @@
 //! Records that go with their files, and come again.
+ghost use Rattle.std.specs.Prelude.{◌≡◌, ◌+◌};
 ghost use Rattle.fs_record.specs.Records.{IsRecord};
 
 use crate::forms::{add, kept, kept_by, one, reads, same, spend, with};
@@ -16,7 +17,8 @@ const FILES: &[&str] = &["/", "/1", "/1/2", "/1/2/5", "/1/3", "/10", "/2"];
 
 /// The record of a directory in which so many files were made.
 fn directory(alloc: Global, made: u32) -> Record
-    ensures { IsRecord result }
+    ensures record { IsRecord result }
+    ensures next { result.next ≡ made + 1 }
 {
     Record {
         node: Node::new(alloc, Kind::Dir, None),
@@ -24,12 +26,21 @@ fn directory(alloc: Global, made: u32) -> Record
     }
 }
 
+/// The record of the file, in which so many files were made, if more were not made before.
+fn put_new(alloc: Global, records: &mut Records, file: FileId, made: u32) -> Result<(), Fail> {
+    if u64::from(made) + 1 < records.next_number(&file) {
+        return Ok(());
+    }
+    records.put(file, directory(alloc, made))?;
+    Ok(())
+}
+
 /// The records of these files, each with another next number.
 fn put_each(alloc: Global, records: &mut Records, files: &[&str]) -> Result<(), Fail> {
     let mut made = 0u32;
     for file in files {
         let file = id(alloc, file)?;
-        records.put(file, directory(alloc, made))?;
+        put_new(alloc, records, file, made)?;
         made = made.wrapping_add(1);
     }
     Ok(())

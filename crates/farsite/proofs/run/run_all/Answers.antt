@@ -11,14 +11,15 @@ use Rattle.farsite.proofs.Asked.{fits_further}
 use Rattle.farsite.proofs.Runs.{carried_on, flooded, goes_on, no_error, run_step, unspent}
 use Rattle.farsite.proofs.run.run_all.Goals as goal
 
-pub returns-then-len-gt-PACKETS-clause-packets : goal.returns-then-len-gt-PACKETS-clause-packets
-returns-then-len-gt-PACKETS-clause-packets c = λ line h.
+pub returns-in-Some-clause-packets : goal.returns-in-Some-clause-packets
+returns-in-Some-clause-packets c = λ line h.
     let i = c.loop-at.at in
     let e = c.index-events-at.result in
     let none : (step c.loop-at.world e).spent ≡ None = unspent (step c.loop-at.world e).spent (λ k h. elim (c.in-Ok.ensures.only k h) [ inl x ↦ no_error _ _ x | inr x ↦ no_error _ _ x ]) in
     let count : c.len.result ≡ length (packets_of c.step.new.self) = cc in
-    let more : PACKETS < length (packets_of c.step.new.self) = omega (arith, count) in
-    let same : i + 2 ≡ line = cc h in
+    let over = c.in-Some.ensures.many in
+    let more : PACKETS < length (packets_of c.step.new.self) = omega (arith, count, over.0) in
+    let same : i + 2 ≡ line = cc (h, over.1) in
     sym c.loop-at.invariant.stop
     ∙ flooded c.loop-at.world c.step.new.self (i + 2) c.args.events.now i e c.loop-at-test.true c.index-events-at.is c.in-Ok.ensures.world none more
     ∙ ap (λ (n : ℕ). Some (AtPackets n)) same
@@ -34,7 +35,7 @@ loop-at-preserved c =
     let told : c.push.new.self ≡ c.loop-at.told ++ (step w e).outcome ∷ [] = c.in_ok-push-in-Ok.ensures.ok ∙ ap (λ (o : Outcome). c.loop-at.told ++ o ∷ []) c.in-Ok.ensures.outcome in
     let none : (step w e).spent ≡ None = unspent (step w e).spent (λ k h. elim (c.in-Ok.ensures.only k h) [ inl x ↦ no_error _ _ x | inr x ↦ no_error _ _ x ]) in
     let count : c.len.result ≡ length (packets_of c.step.new.self) = cc in
-    let less : length (packets_of c.step.new.self) ≤ PACKETS = omega (arith, count) in
+    let less : length (packets_of c.step.new.self) ≤ PACKETS = omega (arith, count, c.in-None.ensures.few) in
     let line : i + 1 + 2 ≡ i + 2 + 1 = omega arith in
     record {
       so_far = ap (λ (v : Form). run_on (record { world = v; outcomes = c.push.new.self }) rest) c.in-Ok.ensures.world

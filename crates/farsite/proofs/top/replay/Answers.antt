@@ -5,14 +5,14 @@ use Rattle.farsite.proofs.Asked.{all_asked, all_fit}
 use Rattle.farsite.proofs.Done.{limit_told, read_limit, replayed}
 use Rattle.farsite.proofs.top.replay.Goals as goal
 
-pub report_of-requires-clause-events : goal.report_of-requires-clause-events
-report_of-requires-clause-events g c = all_fit c.in-Ok.schedule.head c.in-Ok.schedule.events c.in-Ok.ensures.fits
+pub text_of-requires-clause-events : goal.text_of-requires-clause-events
+text_of-requires-clause-events g c = all_fit c.in-Ok.schedule.head c.in-Ok.schedule.events c.in-Ok.ensures.fits
 
 pub returns-in-Ok-write_lines-clause-done : goal.returns-in-Ok-write_lines-clause-done
 returns-in-Ok-write_lines-clause-done g c = λ _.
-    replayed c.in-Ok.schedule c.args.bytes.now (g.K.Sink.written c.args.out.now) (g.K.Sink.written c.write_lines.new.out) c.in-Ok.ensures.ok (all_asked c.in-Ok.schedule.head c.in-Ok.schedule.events c.in-Ok.ensures.fits)
-    c.in-Ok-report_of.ensures.whole c.in-Ok-report_of.ensures.known c.in-Ok-report_of.ensures.carried
-    (subst (λ (bs : List ℕ). Appends (g.K.Sink.written c.args.out.now) (g.K.Sink.written c.write_lines.new.out) bs) (c.deref.ensures.value ∙ c.in-Ok-report_of.ensures.ok) c.in-Ok-write_lines.ensures.ok)
+    replayed c.args.command c.in-Ok.schedule c.args.bytes.now (g.K.Sink.written c.args.out.now) (g.K.Sink.written c.write_lines.new.out) c.in-Ok.ensures.ok (all_asked c.in-Ok.schedule.head c.in-Ok.schedule.events c.in-Ok.ensures.fits)
+    c.in-Ok-text_of.ensures.whole c.in-Ok-text_of.ensures.known c.in-Ok-text_of.ensures.carried
+    (subst (λ (bs : List ℕ). Appends (g.K.Sink.written c.args.out.now) (g.K.Sink.written c.write_lines.new.out) bs) (c.deref.ensures.value ∙ c.in-Ok-text_of.ensures.ok) c.in-Ok-write_lines.ensures.ok)
 
 pub returns-clause-limit : goal.returns-clause-limit
 returns-clause-limit g c = λ which at h.

@@ -5,6 +5,7 @@ use Rattle.fs_rows.specs.Moving as off_modes
 use Rattle.fs_parcel.specs.Parcel.{selves_of_records}
 use Rattle.fs_parcel.specs.Rows.{rows_off_modes, rows_on_modes}
 use Rattle.fs_parcel.proofs.Fitted.{by_tables}
+use Rattle.fs_parcel.proofs.OneList.{both_rows}
 use Rattle.fs_parcel.proofs.fitting.rows_fit.Goals as goal
 
 pub returns : goal.returns
@@ -21,4 +22,4 @@ returns c =
     ∙ ap (λ more. off_modes.fits off more && on_modes.fits (selves_listed selves) on parts.on) is_off
     ∙ ap (λ more. off_modes.fits off (rows_off_modes p.rows) && on_modes.fits (selves_listed selves) on more) is_on
     ∙ ap (λ s. off_modes.fits off (rows_off_modes p.rows) && on_modes.fits (selves_listed s) on (rows_on_modes p.rows)) told
-    ∙ by_tables off on p (c.requires.off, (c.requires.on, c.requires.rows)) (sym c.are_new.ensures ∙ c.if-not-are_new.false)
+    ∙ by_tables off on p (c.requires.off, (c.requires.on, both_rows off on c.requires.off c.requires.on c.requires.numbers)) (sym c.are_new.ensures ∙ c.if-not-are_new.false)

@@ -18,13 +18,13 @@ merged-requires-clause-both c =
     let all : both c.in_ok-off.off c.in_ok-on.on ≡ rows_given c.args.piece.prefix c.args.piece.given (both c.args.rows.now c.args.modes.now) =
     ap (λ rows. both rows c.in_ok-on.on) c.in_ok-off.ensures
     ∙ ap (both (rows_given c.args.piece.prefix c.args.piece.given c.args.rows.now)) c.in_ok-on.ensures
-    ∙ sym (filter_with_rows test c.args.modes.now c.args.rows.now c.requires.rows.ordered)
+    ∙ sym (filter_with_rows test c.args.modes.now c.args.rows.now c.requires.numbers)
     in
-    ap is_ordered all ∙ ordered_filter test (both c.args.rows.now c.args.modes.now) c.requires.rows.ordered
+    ap is_ordered all ∙ ordered_filter test (both c.args.rows.now c.args.modes.now) c.requires.numbers
 
 pub returns-clause-rows : goal.returns-clause-rows
 returns-clause-rows c =
     c.in_ok-merged.ensures
     ∙ ap (λ rows. both rows c.in_ok-on.on) c.in_ok-off.ensures
     ∙ ap (both (rows_given c.args.piece.prefix c.args.piece.given c.args.rows.now)) c.in_ok-on.ensures
-    ∙ sym (filter_with_rows (is_on_given c.args.piece.prefix c.args.piece.given) c.args.modes.now c.args.rows.now c.requires.rows.ordered)
+    ∙ sym (filter_with_rows (is_on_given c.args.piece.prefix c.args.piece.given) c.args.modes.now c.args.rows.now c.requires.numbers)

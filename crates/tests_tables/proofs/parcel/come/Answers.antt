@@ -1,5 +1,5 @@
 use Rattle.std.proofs.Common.{subst}
-use Rattle.fs_record.specs.Moving.{AreEachRecords}
+use Rattle.fs_record.specs.Moving.{AreNumbersLeft}
 use Rattle.fs_parcel.proofs.Formed.{fitting}
 use Rattle.fs_parcel.proofs.Installed.{all_rows}
 use Rattle.fs_parcel.proofs.Moved.{came_both}
@@ -8,7 +8,9 @@ use Rattle.std.proofs.Common.{sym, ◌∙◌}
 use Rattle.tests_tables.proofs.parcel.come.Goals as goal
 
 pub install-requires-clause-nexts : goal.install-requires-clause-nexts
-install-requires-clause-nexts c = subst AreEachRecords c.as_slice.ensures (c.are_records.ensures c.if-not-are_records.false)
+install-requires-clause-nexts c =
+    let each = c.are_records.ensures c.if-not-are_records.false in
+    subst AreNumbersLeft c.as_slice.ensures (λ e i. ((each e i).least, (each e i).most))
 
 pub returns : goal.returns
 returns c =

@@ -1,8 +1,9 @@
+use Rattle.fs_rows.proofs.Knowing.{bounds_filter}
 use Rattle.fs_rows.proofs.Kept.{filtered_table}
 use Rattle.fs_rows.proofs.rows.Rows.release.Goals as goal
 
 pub invariant_of-self : goal.invariant_of-self
-invariant_of-self c = rw (c.release.ensures.rows, c.items_mut.ensures.value) (filtered_table _ _ c.self.invariant)
+invariant_of-self c = (rw (c.release.ensures.rows, c.items_mut.ensures.value) (filtered_table _ _ c.self.invariant.0), rw (c.release.ensures.rows, c.items_mut.ensures.value) (bounds_filter _ _ _ _ c.self.invariant.1))
 
 pub returns-clause-valid : goal.returns-clause-valid
-returns-clause-valid c = rw (c.release.ensures.rows, c.items_mut.ensures.value) (filtered_table _ _ c.self.invariant)
+returns-clause-valid c = rw (c.release.ensures.rows, c.items_mut.ensures.value) (filtered_table _ _ c.self.invariant.0)

@@ -1,14 +1,15 @@
 use Rattle.std.proofs.Common.{sym, ◌∙◌}
+use Rattle.fs_rows.proofs.Knowing.{bounds_renewed}
 use Rattle.fs_rows.proofs.Kept.{renewed_table}
 use Rattle.fs_field.proofs.Leases.{none_renewed}
 use Rattle.fs_rows.proofs.rows.Rows.renew.Goals.{then-renew, else-renew}
 use Rattle.fs_rows.proofs.rows.Rows.renew.Goals as goal
 
 pub invariant_of-self : goal.invariant_of-self
-invariant_of-self c = rw (c.renew.ensures.rows, c.items_mut.ensures.value) (renewed_table _ _ _ c.self.invariant)
+invariant_of-self c = (rw (c.renew.ensures.rows, c.items_mut.ensures.value) (renewed_table _ _ _ c.self.invariant.0), rw (c.renew.ensures.rows, c.items_mut.ensures.value) (bounds_renewed _ _ _ _ _ c.self.invariant.1))
 
 pub returns-clause-valid : goal.returns-clause-valid
-returns-clause-valid c = rw (c.renew.ensures.rows, c.items_mut.ensures.value) (renewed_table _ _ _ c.self.invariant)
+returns-clause-valid c = rw (c.renew.ensures.rows, c.items_mut.ensures.value) (renewed_table _ _ _ c.self.invariant.0)
 
 pub returns-clause-err : goal.returns-clause-err
 returns-clause-err c = elim c.if-renew.branch [

@@ -11,9 +11,6 @@ use Rattle.fs_server.proofs.all_rows.AllRows.install.Goals as goal
 pub install_at-requires-clause-fits : goal.install_at-requires-clause-fits
 install_at-requires-clause-fits c = subst (λ rows. fits c.args.records.now (filter (is_live c.args.now c.args.skew) rows) c.args.map.now c.args.me c.args.p ≡ true) (sym c.self.view_is) c.requires.fits
 
-pub install_at-requires-clause-rows : goal.install_at-requires-clause-rows
-install_at-requires-clause-rows c = c.self.invariant.1.1
-
 pub invariant_of-self : goal.invariant_of-self
 invariant_of-self c =
     let live = is_live c.args.now c.args.skew in

@@ -35,7 +35,7 @@ returns-clause-done c = done c
 pub returns-clause-linked : goal.returns-clause-linked
 returns-clause-linked c =
     let a = c.args in
-    own_after c.core_step.result a.self.now (new c) a.k a.turn a.now a.event.now c.at_mut-core.result.now c.at_mut.result.now (there c) (tied c) c.requires.own c.know_records.ensures c.requires.linked (done c) c.core_step.ensures.fits
+    own_after c.core_step.result a.self.now (new c) a.k a.turn a.now a.event.now c.at_mut-core.result.now c.at_mut.result.now (there c) (tied c) c.requires.own c.requires.linked (done c) c.core_step.ensures.fits
 
 pub returns-clause-spends : goal.returns-clause-spends
 returns-clause-spends c = rw (is_step c) c.core_step.ensures.spends

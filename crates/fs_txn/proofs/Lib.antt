@@ -1,0 +1,10 @@
+pub mod Steps
+pub mod Locking
+pub mod Yeses
+pub mod Once
+pub mod Parted
+pub mod HomeTold
+pub mod Swaps
+pub mod Past
+pub mod Guarded
+pub mod Shared

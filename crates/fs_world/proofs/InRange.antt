@@ -1,0 +1,166 @@
+-- Messages on their way are in range: where links carry them, and what a core sends where all are in range then.
+use Rattle.std.proofs.Common.{◌≡◌, ◌∙◌, ◌==◌, ℕ, Bool, true, false, List, [], ◌∷◌, ◌++◌, filter, Option, Some, None, refl, sym, ap, subst, inl, inr}
+use Rattle.std.specs.FinMap.{get, insert}
+use Rattle.std.specs.List.{AllByRecursion}
+use Rattle.fs_ident.specs.In.{In}
+use Rattle.fs_ident.specs.declared.actor.Peer.{Peer}
+use Rattle.fs_ident.specs.declared.actor.Peer.TheVariants.{Server, Client}
+use Rattle.fs_ident.specs.declared.actor.Session.{Session}
+use Rattle.fs_ident.proofs.Booleans.{joined as both_joined}
+use Rattle.fs_ident.proofs.Same.{itself}
+use Rattle.fs_ident.proofs.Standing.{In-behind, In-front, In-last, In-mapped}
+use Rattle.fs_msg.specs.declared.answer.Answer.{Answer}
+use Rattle.fs_msg.specs.declared.client_msg.ClientMsg.{ClientMsg}
+use Rattle.fs_msg.specs.declared.msg.Msg.{Msg}
+use Rattle.fs_msg.specs.declared.msg.Msg.TheVariants as msg
+use Rattle.fs_msg.specs.declared.peer_msg.PeerMsg.TheVariants.{Parcel as OfParcel}
+use Rattle.fs_record.specs.declared.parcel.Parcel.{Parcel}
+use Rattle.fs_serial.specs.Cluster.{flying_from, is_between, is_with}
+use Rattle.fs_serial.specs.declared.flying.Flying.{Flying}
+use Rattle.fs_serial.proofs.RowKinds.{In-kept}
+use Rattle.fs_window.specs.Peers.{same_peer}
+use Rattle.fs_window.proofs.Lists.{some_is}
+use Rattle.fs_world.specs.Linked.{FitsDown, FitsUp, HasJoined, IsLinked, IsWritten, downs_of, parcels_between, seat_post, ups_of}
+use Rattle.fs_world.specs.Served.{Seats, up_after, with_down, with_down_at, with_downs}
+use Rattle.fs_world.specs.Within.{AllInRange, IsInRange}
+use Rattle.fs_world.specs.declared.seat.Seat.{Seat}
+use Rattle.fs_world.specs.declared.served.Served.{Served}
+use Rattle.fs_world.proofs.LinkedFirst.{posts_there}
+use Rattle.fs_world.proofs.LinkedSeats.{got_here, got_there, session_is}
+use Rattle.fs_world.proofs.LinkedServed.{different}
+use Rattle.fs_world.proofs.NamedServers.{AreSent, IsSent}
+use Rattle.fs_world.proofs.SeenSends.{down_joined}
+
+-- ## Lists
+
+each_of : {X : Type 0} (P : X → Type 0) (xs : List X) → AllByRecursion P xs → (x : X) → In x xs → P x
+each_of P [] h x i = absurd i
+each_of P (y ∷ ys) h x (inl e) = subst P (sym e) h.0
+each_of P (y ∷ ys) h x (inr i) = each_of P ys h.1 x i
+
+all_of : {X : Type 0} (P : X → Type 0) (xs : List X) → ((x : X) → In x xs → P x) → AllByRecursion P xs
+all_of P [] f = tt
+all_of P (y ∷ ys) f = (f y (inl refl), all_of P ys (λ x i. f x (inr i)))
+
+-- ## What the links carry
+
+module _ (w : Served) (h : IsLinked w) where
+  ups_fit : (s : Session) (seat : Seat) (m : ℕ × ClientMsg) → get w.seats s.0 ≡ Some seat → In m seat.up → IsInRange (msg.Client m.1)
+  ups_fit s seat m at i =
+      let q = posts_there w h m.0 ((h.seats s seat at).up m i) in
+      let way = (h.ties.pairs (Client s) (Server m.0) seat.post q.0 refl (ap seat_post at) q.1).way in
+      each_of IsInRange (ups_of m.0 (get w.seats s.0)) way.fits (msg.Client m.1)
+      (subst (λ (o : Option Seat). In (msg.Client m.1) (ups_of m.0 o)) (sym at)
+      (In-mapped (λ (x : ℕ × ClientMsg). msg.Client x.1) m (filter (is_with m.0) seat.up) (In-kept (is_with m.0) m seat.up i (itself m.0))))
+
+  downs_fit : (s : Session) (seat : Seat) (m : ℕ × Answer) → get w.seats s.0 ≡ Some seat → In m seat.down → IsInRange (msg.Answer m.1)
+  downs_fit s seat m at i =
+      let q = posts_there w h m.0 ((h.seats s seat at).down m i).0 in
+      let way = (h.ties.pairs (Server m.0) (Client s) q.0 seat.post refl q.1 (ap seat_post at)).way in
+      each_of IsInRange (downs_of m.0 (get w.seats s.0)) way.fits (msg.Answer m.1)
+      (subst (λ (o : Option Seat). In (msg.Answer m.1) (downs_of m.0 o)) (sym at)
+      (In-mapped (λ (x : ℕ × Answer). msg.Answer x.1) m (filter (is_with m.0) seat.down) (In-kept (is_with m.0) m seat.down i (itself m.0))))
+
+  flying_fits : (f : Flying) → In f w.flying → IsInRange (msg.Peer (OfParcel f.parcel))
+  flying_fits f i =
+      let c = h.flying f i in
+      let p = posts_there w h f.from c.from in
+      let q = posts_there w h f.to c.to in
+      let way = (h.ties.pairs (Server f.from) (Server f.to) p.0 q.0 (different f.from f.to c.apart) p.1 q.1).way in
+      each_of IsInRange (parcels_between f.from f.to w.flying) way.fits (msg.Peer (OfParcel f.parcel))
+      (In-mapped (λ (x : Flying). msg.Peer (OfParcel x.parcel)) f (filter (is_between f.from f.to) w.flying)
+      (In-kept (is_between f.from f.to) f w.flying i (both_joined (f.from == f.from) (f.to == f.to) (itself f.from) (itself f.to))))
+
+  pub linked_in_range : AllInRange w
+  linked_in_range = record { up = ups_fit; down = downs_fit; flying = flying_fits }
+
+-- ## What is sent
+
+written : (m : Msg) → IsInRange m → IsWritten m
+written m r = record { short = r.short; fits = λ e. r.fits }
+
+-- by a client
+pub up_written : (w : Served) (s : Session) (seat : Seat) (send : Option (ℕ × ClientMsg)) (up : List (ℕ × ClientMsg)) → get w.seats s.0 ≡ Some seat → seat.up ≡ up_after send up → AllInRange w → FitsUp send
+up_written w s seat None up at is r = tt
+up_written w s seat (Some m) up at is r = written (msg.Client m.1) (r.up s seat m at (subst (λ (ms : List (ℕ × ClientMsg)). In m ms) (sym is) (In-last up m)))
+
+-- an answer is on its way to the session
+record HasDown (seats : Seats) (s : Session) (y : ℕ × Answer) : Type 0 where
+  seat : Seat
+  at : get seats s.0 ≡ Some seat
+  among : In y seat.down
+
+down_put : (seats : Seats) (t : Session) (old : Seat) (x y : ℕ × Answer) (s : Session) → get seats t.0 ≡ Some old → HasDown seats s y → HasDown (insert seats t.0 (record old { down = old.down ++ x ∷ [] })) s y
+down_put seats t old x y s at h = either (same_peer (Client s) (Client t)) refl
+  where
+    new : Seat
+    new = record old { down = old.down ++ x ∷ [] }
+
+    either : (b : Bool) → same_peer (Client s) (Client t) ≡ b → HasDown (insert seats t.0 new) s y
+    either true e =
+        let is : s ≡ t = session_is s t e in
+        let same : h.seat ≡ old = some_is h.seat old (sym h.at ∙ ap (λ (z : Session). get seats z.0) is ∙ at) in
+        record {
+          seat = new;
+          at = ap (λ (z : Session). get (insert seats t.0 new) z.0) is ∙ got_here seats t new;
+          among = In-front y old.down (x ∷ []) (subst (λ (z : Seat). In y z.down) same h.among);
+        }
+    either false e = record { seat = h.seat; at = got_there seats t s new e ∙ h.at; among = h.among }
+
+one_stays : (k : ℕ) (m : Peer × Msg) (seats : Seats) (s : Session) (y : ℕ × Answer) → HasDown seats s y → HasDown (with_down k m seats) s y
+one_stays k (Client t, msg.Answer a) seats s y h = at (get seats t.0) refl
+  where
+    at : (o : Option Seat) → get seats t.0 ≡ o → HasDown (with_down_at o t.0 (k, a) seats) s y
+    at None e = h
+    at (Some old) e = down_put seats t old (k, a) y s e h
+one_stays k (Client t, msg.Client m) seats s y h = h
+one_stays k (Client t, msg.Peer m) seats s y h = h
+one_stays k (Server to, m) seats s y h = h
+
+all_stay : (k : ℕ) (xs : List (Peer × Msg)) (seats : Seats) (s : Session) (y : ℕ × Answer) → HasDown seats s y → HasDown (with_downs k xs seats) s y
+all_stay k [] seats s y h = h
+all_stay k (x ∷ xs) seats s y h = all_stay k xs (with_down k x seats) s y (one_stays k x seats s y h)
+
+one_goes : (k : ℕ) (s : Session) (a : Answer) (seats : Seats) → HasJoined seats s → HasDown (with_down k (Client s, msg.Answer a) seats) s (k, a)
+one_goes k s a seats j =
+    let seat : Seat = j.0 in
+    let new : Seat = record seat { down = seat.down ++ (k, a) ∷ [] } in
+    subst (λ (o : Option Seat). HasDown (with_down_at o s.0 (k, a) seats) s (k, a)) (sym j.1)
+    (record { seat = new; at = got_here seats s new; among = In-last seat.down (k, a) })
+
+answers_go : (k : ℕ) (xs : List (Peer × Msg)) (seats : Seats) (s : Session) (a : Answer) → HasJoined seats s → In (Client s, msg.Answer a) xs → HasDown (with_downs k xs seats) s (k, a)
+answers_go k [] seats s a j i = absurd i
+answers_go k (x ∷ xs) seats s a j (inl e) =
+    subst (λ (z : Peer × Msg). HasDown (with_downs k xs (with_down k z seats)) s (k, a)) e
+    (all_stay k xs (with_down k (Client s, msg.Answer a) seats) s (k, a) (one_goes k s a seats j))
+answers_go k (x ∷ xs) seats s a j (inr i) = answers_go k xs (with_down k x seats) s a (down_joined k x seats s j) i
+
+more_fly : (k : ℕ) (x : Peer × Msg) (xs : List (Peer × Msg)) (f : Flying) → In f (flying_from k xs) → In f (flying_from k (x ∷ xs))
+more_fly k (Server to, msg.Peer (OfParcel p)) xs f i = inr i
+more_fly k (Server to, msg.Answer a) xs f i = i
+more_fly k (Server to, msg.Client m) xs f i = i
+more_fly k (Client s, m) xs f i = i
+
+parcels_go : (k : ℕ) (xs : List (Peer × Msg)) (to : ℕ) (p : Parcel) → In (Server to, msg.Peer (OfParcel p)) xs → In (record { from = k; to = to; parcel = p }) (flying_from k xs)
+parcels_go k [] to p i = absurd i
+parcels_go k (x ∷ xs) to p (inl e) =
+    let f : Flying = record { from = k; to = to; parcel = p } in
+    subst (λ (z : Peer × Msg). In f (flying_from k (z ∷ xs))) e (inl refl)
+parcels_go k (x ∷ xs) to p (inr i) = more_fly k x xs (record { from = k; to = to; parcel = p }) (parcels_go k xs to p i)
+
+-- by a server
+pub down_written : (servers : ℕ) (seats before : Seats) (k : ℕ) (xs : List (Peer × Msg)) (flying : List Flying) (w : Served) → AreSent servers seats k xs → ((t : Session) → HasJoined seats t → HasJoined before t)
+    → w.seats ≡ with_downs k xs before → w.flying ≡ flying ++ flying_from k xs → AllInRange w → FitsDown xs
+down_written servers seats before k xs flying w sent joined seats_are flying_is r = all_of (λ (x : Peer × Msg). IsWritten x.1) xs (λ x i. one x i (each_of (IsSent servers seats k) xs sent x i))
+  where
+    one : (x : Peer × Msg) → In x xs → IsSent servers seats k x → IsWritten x.1
+    one (Client s, msg.Answer a) i q =
+        let d = answers_go k xs before s a (joined s q.0) i in
+        written (msg.Answer a) (r.down s d.seat (k, a) (ap (λ (m : Seats). get m s.0) seats_are ∙ d.at) d.among)
+    one (Server to, msg.Peer (OfParcel p)) i q =
+        let f : Flying = record { from = k; to = to; parcel = p } in
+        written (msg.Peer (OfParcel p)) (r.flying f (subst (λ (fs : List Flying). In f fs) (sym flying_is) (In-behind f flying (flying_from k xs) (parcels_go k xs to p i))))
+    one (Client s, msg.Client m) i q = absurd q
+    one (Client s, msg.Peer m) i q = absurd q
+    one (Server to, msg.Answer a) i q = absurd q
+    one (Server to, msg.Client m) i q = absurd q
