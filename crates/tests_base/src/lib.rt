@@ -15,6 +15,8 @@ mod map;
 mod model;
 #[cfg(test)]
 mod modes;
+#[cfg(test)]
+mod packed;
 
 #[cfg(test)]
 use fs_ident::{Memory, Twin};
