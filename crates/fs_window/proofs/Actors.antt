@@ -35,7 +35,7 @@ new_sent : (width : ℕ) → after_due (new_link_end width) ≡ new_link_end wid
 new_sent width = ap (λ (n : ℕ). sent_so n) (nothing_unsent width)
   where
     sent_so : ℕ → LinkEnd
-    sent_so n = record { width = width; acked = 0; sent = 0 + n; waiting = drop {A = List ℕ} (min 0 (0 + n) - min 0 0) []; got = 0 }
+    sent_so n = record { width = width; acked = 0; sent = 0 + n; waiting = drop {A = List ℕ} (min 0 (0 + n) - min 0 0) []; got = 0; kept = [] }
 
 find_changed : (f : Link → Link) (es : ByPeer Link) (peer : Peer) → find peer_cmp peer (map (λ e. (e.0, f e.1)) es) ≡ option_map f (find peer_cmp peer es)
 find_changed f [] peer = refl

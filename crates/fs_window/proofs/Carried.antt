@@ -48,9 +48,9 @@ given_back from to pushed gave p fits h = record {
   all = ap (λ (w : List (List ℕ)). gave ++ w) (back_way from to p fits h.direction) ∙ h.all;
 }
 
-pub given_told : (from to : LinkEnd) (pushed gave : List (List ℕ)) (p : Packet) → IsBodyOf from to p.body → HasGiven from to pushed gave → HasGiven from (after_accept to p) pushed (gave ++ given_by to.got p.body)
+pub given_told : (from to : LinkEnd) (pushed gave : List (List ℕ)) (p : Packet) → IsBodyOf from to p.body → HasGiven from to pushed gave → HasGiven from (after_accept to p) pushed (gave ++ given_by to p.body)
 given_told from to pushed gave p b h =
-    let gs = given_by to.got p.body in
+    let gs = given_by to p.body in
     record {
       direction = told_direction from to p b h.direction;
       count = omega (arith, (given from to p.body h.direction b).count, h.count, length-append gave gs);
@@ -62,13 +62,13 @@ pub given_other_pushed : (from to : LinkEnd) (pushed gave ss : List (List ℕ)) 
 given_other_pushed from to pushed gave ss h = record { direction = other h.direction; count = h.count; all = h.all }
   where
     other : IsDirection from to → IsDirection from (after_pushes to ss)
-    other d = record { few = d.few; sent = d.sent; acked = d.acked; got = d.got }
+    other d = record { few = d.few; sent = d.sent; acked = d.acked; got = d.got; kept = d.kept }
 
 pub given_other_sent : (from to : LinkEnd) (pushed gave : List (List ℕ)) → HasGiven from to pushed gave → HasGiven from (after_due to) pushed gave
 given_other_sent from to pushed gave h = record { direction = other h.direction; count = h.count; all = h.all }
   where
     other : IsDirection from to → IsDirection from (after_due to)
-    other d = record { few = d.few; sent = d.sent; acked = d.acked; got = d.got }
+    other d = record { few = d.few; sent = d.sent; acked = d.acked; got = d.got; kept = d.kept }
 
 -- ---- packets
 
@@ -144,13 +144,13 @@ pub carries_other_pushed : (from to : Link) (ms : List (List ℕ)) (m : List ℕ
 carries_other_pushed from to ms m h = record { segments = h.segments; direction = other h.direction; coming = h.coming }
   where
     other : IsDirection from.window to.window → IsDirection from.window (after_pushes to.window (cut_of m))
-    other d = record { few = d.few; sent = d.sent; acked = d.acked; got = d.got }
+    other d = record { few = d.few; sent = d.sent; acked = d.acked; got = d.got; kept = d.kept }
 
 pub carries_other_sent : (from to : Link) (ms : List (List ℕ)) → Carries from to ms → Carries from (link_sent to) ms
 carries_other_sent from to ms h = record { segments = h.segments; direction = other h.direction; coming = h.coming }
   where
     other : IsDirection from.window to.window → IsDirection from.window (after_due to.window)
-    other d = record { few = d.few; sent = d.sent; acked = d.acked; got = d.got }
+    other d = record { few = d.few; sent = d.sent; acked = d.acked; got = d.got; kept = d.kept }
 
 -- ---- what is made can be written down
 

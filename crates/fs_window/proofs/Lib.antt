@@ -2,10 +2,12 @@ pub mod Actors
 pub mod ByActor
 pub mod Carried
 pub mod Lists
+pub mod Narrow
 pub mod OneStep
 pub mod PacketSteps
 pub mod PeerOrder
 pub mod Places
 pub mod ReadBack
 pub mod Schedule
+pub mod Slots
 pub mod Undone

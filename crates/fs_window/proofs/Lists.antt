@@ -1,11 +1,14 @@
 -- Lists: the element at a place, and what is made of the elements one after another.
-use Rattle.std.proofs.Common.{◌≡◌, ℕ, zero, suc, ◌+◌, ◌<◌, List, [], ◌∷◌, ◌++◌, length, map, get_or, take, drop, Option, Some, refl, sym, ap, ◌∙◌, append_assoc, inl, inr, arith}
+use Rattle.std.proofs.Common.{◌≡◌, ℕ, zero, suc, ◌+◌, ◌<◌, List, [], ◌∷◌, ◌++◌, length, map, get_or, take, drop, Option, Some, None, refl, sym, ap, ◌∙◌, append_assoc, inl, inr, arith}
 use Rattle.std.specs.Prelude.{slice_get}
 use Rattle.fs_ident.specs.In.{In}
 use Rattle.std.proofs.lemmas.List.{drop-drop, drop_more}
 
 abbrev pub some_of : {A : Type 0} → A → Option A
 some_of x = Some x
+
+abbrev pub none_of : {A : Type 0} → Option A
+none_of = None
 
 pub some_is : {A : Type 0} (x y : A) → some_of x ≡ some_of y → x ≡ y
 some_is x y e = cc
@@ -21,10 +24,10 @@ get_drop [] (suc n) w ws e = absurd cc
 get_drop (x ∷ xs) zero w ws e = cc
 get_drop (x ∷ xs) (suc n) w ws e = get_drop xs n w ws e
 
-pub get_past : (xs : List (List ℕ)) (j k : ℕ) → slice_get (drop j xs) k ≡ slice_get xs (j + k)
+pub get_past : {A : Type 0} (xs : List A) (j k : ℕ) → slice_get (drop j xs) k ≡ slice_get xs (j + k)
 get_past xs zero k = ap (λ (n : ℕ). slice_get xs n) (omega arith)
 get_past [] (suc j) k = refl
-get_past (x ∷ xs) (suc j) k =
+get_past {A} (x ∷ xs) (suc j) k =
     let one : suc (j + k) ≡ suc j + k = omega arith in
     get_past xs j k ∙ ap (λ (n : ℕ). slice_get (x ∷ xs) n) one
 

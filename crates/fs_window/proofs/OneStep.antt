@@ -1,30 +1,41 @@
 -- What one event does to one direction of a link.
 use Rattle.std.proofs.Common.{◌≡◌, ℕ, zero, suc, ◌+◌, ◌-◌, ◌^◌, ◌<◌, ◌≤◌, min, max, Bool, true, false, cond, eqb, leb, List, [], ◌∷◌, ◌++◌, length, take, drop, Option, Some, None, refl, sym, ap, subst, ◌∙◌, inl, inr, arith}
 use Rattle.std.specs.Prelude.{slice_get}
-use Rattle.std.proofs.lemmas.Bool.{cases_lt, eqb-true}
+use Rattle.std.proofs.lemmas.Bool.{cases_lt, eqb-true, ltb-true}
 use Rattle.std.proofs.lemmas.List.{length-append, length-drop, length-take, drop-append-le, drop-drop}
 use Rattle.fs_ident.specs.In.{In}
+use Rattle.fs_ident.proofs.Booleans.{first}
 use Rattle.fs_ident.proofs.Standing.{In-both}
 use Rattle.fs_window.specs.declared.packet.Packet.{Packet}
-use Rattle.fs_window.specs.LinkEnd.{LinkEnd, new_link_end, pushed_count, after_pushes, moved, acked_after, given_by, got_after, after_accept, packets_from, unsent, unacked, with_bodies, or_alone, due_of, after_due}
-use Rattle.fs_window.specs.OnTheWay.{on_the_way, IsDirection, IsBodyOf, IsPacketOf}
-use Rattle.fs_window.proofs.Lists.{some_is, get_more, get_drop, get_past, get_behind, drop_next, in_dropped, in_taken}
+use Rattle.fs_window.specs.LinkEnd.{LinkEnd, new_link_end, pushed_count, after_pushes, moved, acked_after, without_hole, given_by, with_kept, is_early, kept_by, got_after, after_accept, packets_from, unsent, unacked, with_bodies, or_alone, due_of, after_due}
+use Rattle.fs_window.specs.OnTheWay.{on_the_way, AreOnTheWay, IsDirection, IsBodyOf, IsPacketOf}
+use Rattle.fs_window.proofs.Slots.{front_of, got_kept}
+use Rattle.fs_window.proofs.Lists.{none_of, some_of, some_is, get_more, get_drop, get_past, get_behind, drop_next, in_dropped, in_taken}
 
 -- ---- new ends
 
 pub new_direction : (a b : ℕ) → IsDirection (new_link_end a) (new_link_end b)
-new_direction a b = record { few = omega arith; sent = omega arith; acked = omega arith; got = omega arith }
+new_direction a b = record { few = omega arith; sent = omega arith; acked = omega arith; got = omega arith; kept = λ i s e. absurd (none_kept s e) }
+  where
+    none_kept : (s : List ℕ) → none_of ≡ some_of (some_of s) → ⊥
+    none_kept s e = cc
 
 -- ---- segments are pushed
-
-pub pushed_direction : (from to : LinkEnd) (ss : List (List ℕ)) → pushed_count from + length ss < 2 ^ 64 → IsDirection from to → IsDirection (after_pushes from ss) to
-pushed_direction from to ss room h =
-    let len = length-append from.waiting ss in
-    record { few = omega arith; sent = omega (arith, h.sent); acked = h.acked; got = omega (arith, h.got) }
 
 -- they are on their way behind the others
 pub pushed_way : (from to : LinkEnd) (ss : List (List ℕ)) → IsDirection from to → on_the_way (after_pushes from ss) to ≡ on_the_way from to ++ ss
 pushed_way from to ss h = drop-append-le (to.got - min from.acked from.sent) from.waiting ss (omega (arith, h.got))
+
+pub pushed_direction : (from to : LinkEnd) (ss : List (List ℕ)) → pushed_count from + length ss < 2 ^ 64 → IsDirection from to → IsDirection (after_pushes from ss) to
+pushed_direction from to ss room h =
+    let len = length-append from.waiting ss in
+    record {
+      few = omega arith;
+      sent = omega (arith, h.sent);
+      acked = h.acked;
+      got = omega (arith, h.got);
+      kept = λ i s e. ap (λ (w : List (List ℕ)). slice_get w (suc i)) (pushed_way from to ss h) ∙ get_more (on_the_way from to) ss (suc i) s (h.kept i s e);
+    }
 
 pub pushed_body : (from to : LinkEnd) (ss : List (List ℕ)) (body : Option (ℕ × List ℕ)) → IsDirection from to → IsBodyOf from to body → IsBodyOf (after_pushes from ss) to body
 pushed_body from to ss None h b = tt
@@ -51,16 +62,6 @@ moved_count from to acked sent h n =
     let e = h.sent in
     omega arith
 
-moved_direction : (from to : LinkEnd) (acked sent : ℕ) → IsDirection from to → AreNext from to acked sent → IsDirection (moved from acked sent) to
-moved_direction from to acked sent h n =
-    let same = moved_count from to acked sent h n in
-    record {
-      few = omega (arith, h.few, same);
-      sent = omega (arith, n.sent_fits, same);
-      acked = n.acked_fits;
-      got = omega (arith, h.got, same);
-    }
-
 -- what is on its way stays
 moved_way : (from to : LinkEnd) (acked sent : ℕ) → IsDirection from to → AreNext from to acked sent → on_the_way (moved from acked sent) to ≡ on_the_way from to
 moved_way from to acked sent h n =
@@ -71,6 +72,17 @@ moved_way from to acked sent h n =
     let new = min acked sent in
     let sum : (new - old) + (to.got - new) ≡ to.got - old = omega arith in
     drop-drop (to.got - new) (new - old) from.waiting ∙ ap (λ (k : ℕ). drop k from.waiting) sum
+
+moved_direction : (from to : LinkEnd) (acked sent : ℕ) → IsDirection from to → AreNext from to acked sent → IsDirection (moved from acked sent) to
+moved_direction from to acked sent h n =
+    let same = moved_count from to acked sent h n in
+    record {
+      few = omega (arith, h.few, same);
+      sent = omega (arith, n.sent_fits, same);
+      acked = n.acked_fits;
+      got = omega (arith, h.got, same);
+      kept = λ i s e. ap (λ (w : List (List ℕ)). slice_get w (suc i)) (moved_way from to acked sent h n) ∙ h.kept i s e;
+    }
 
 -- the same for an end that differs in what it was given
 same_body : (from to after : LinkEnd) (body : Option (ℕ × List ℕ)) → pushed_count after ≡ pushed_count from → on_the_way after to ≡ on_the_way from to → IsBodyOf from to body → IsBodyOf after to body
@@ -205,7 +217,7 @@ told_next from to p fits h = record { acked_rises = acked_rises from p.ack; sent
 pub back_direction : (from to : LinkEnd) (p : Packet) → p.ack ≤ to.got → IsDirection from to → IsDirection (after_accept from p) to
 back_direction from to p fits h =
     let d = moved_direction from to (acked_after from p.ack) from.sent h (told_next from to p fits h) in
-    record { few = d.few; sent = d.sent; acked = d.acked; got = d.got }
+    record { few = d.few; sent = d.sent; acked = d.acked; got = d.got; kept = d.kept }
 
 pub back_way : (from to : LinkEnd) (p : Packet) → p.ack ≤ to.got → IsDirection from to → on_the_way (after_accept from p) to ≡ on_the_way from to
 back_way from to p fits h = moved_way from to (acked_after from p.ack) from.sent h (told_next from to p fits h)
@@ -221,54 +233,100 @@ pub record IsGiven (from to : LinkEnd) (gs : List (List ℕ)) : Type 0 where
   pub few : to.got + length gs ≤ pushed_count from
   pub way : on_the_way from to ≡ gs ++ drop (to.got + length gs - min from.acked from.sent) from.waiting
 
-given_none : (from to : LinkEnd) → IsDirection from to → IsGiven from to []
-given_none from to h =
+is_given : (from to : LinkEnd) (gs : List (List ℕ)) → IsDirection from to → on_the_way from to ≡ gs ++ drop (to.got + length gs - min from.acked from.sent) from.waiting → IsGiven from to gs
+is_given from to gs h way =
+    let old = min from.acked from.sent in
+    let rest = drop (to.got + length gs - old) from.waiting in
+    let a = h.acked in
     let g = h.got in
     let f = h.few in
-    let same : to.got - min from.acked from.sent ≡ to.got + 0 - min from.acked from.sent = omega arith in
-    record { count = omega arith; few = omega arith; way = ap (λ (k : ℕ). drop k from.waiting) same }
+    let left = length-drop (to.got - old) from.waiting in
+    let len : length (on_the_way from to) ≡ length gs + length rest = ap (λ (x : List (List ℕ)). length x) way ∙ length-append gs rest in
+    record { count = omega arith; few = omega arith; way = way }
 
-given_one : (from to : LinkEnd) (s : List ℕ) → IsDirection from to → to.got < pushed_count from → slice_get (on_the_way from to) 0 ≡ Some s → IsGiven from to (s ∷ [])
-given_one from to s h lt e =
-    let f = h.few in
+given_none : (from to : LinkEnd) → IsDirection from to → IsGiven from to []
+given_none from to h =
+    let same : to.got - min from.acked from.sent ≡ to.got + 0 - min from.acked from.sent = omega arith in
+    is_given from to [] h (ap (λ (k : ℕ). drop k from.waiting) same)
+
+-- the next one, and those kept that follow
+given_some : (from to : LinkEnd) (s : List ℕ) → IsDirection from to → slice_get (on_the_way from to) 0 ≡ Some s → IsGiven from to (s ∷ without_hole to.kept)
+given_some from to s h e =
     let a = h.acked in
     let old = min from.acked from.sent in
-    let next : (to.got - old) + 1 ≡ to.got + 1 - old = omega arith in
-    let rest : drop 1 (on_the_way from to) ≡ drop (to.got + 1 - old) from.waiting = drop-drop 1 (to.got - old) from.waiting ∙ ap (λ (k : ℕ). drop k from.waiting) next in
-    record { count = omega arith; few = omega arith; way = split (on_the_way from to) e ∙ ap (λ (x : List (List ℕ)). s ∷ x) rest }
+    let way = on_the_way from to in
+    let next = without_hole to.kept in
+    let sum : length next + (1 + (to.got - old)) ≡ to.got + length (s ∷ next) - old = omega arith in
+    let head : way ≡ s ∷ drop 1 way = split way e in
+    let tail : drop 1 way ≡ next ++ drop (length next) (drop 1 way) = front_of to.kept (drop 1 way) (λ i t k. ap (λ (w : List (List ℕ)). slice_get w (suc i)) (sym head) ∙ h.kept i t k) in
+    let rest : drop (length next) (drop 1 way) ≡ drop (to.got + length (s ∷ next) - old) from.waiting =
+    ap (λ (x : List (List ℕ)). drop (length next) x) (drop-drop 1 (to.got - old) from.waiting) ∙ drop-drop (length next) ((to.got - old) + 1) from.waiting ∙ ap (λ (k : ℕ). drop k from.waiting) (omega (arith, sum)) in
+    is_given from to (s ∷ next) h (head ∙ ap (λ (x : List (List ℕ)). s ∷ x) (tail ∙ ap (λ (x : List (List ℕ)). next ++ x) rest))
   where
     split : (xs : List (List ℕ)) → slice_get xs 0 ≡ Some s → xs ≡ s ∷ drop 1 xs
     split [] q = absurd cc
     split (x ∷ xs) q = ap (λ (y : List ℕ). y ∷ xs) (some_is x s q)
 
-pub given : (from to : LinkEnd) (body : Option (ℕ × List ℕ)) → IsDirection from to → IsBodyOf from to body → IsGiven from to (given_by to.got body)
+pub given : (from to : LinkEnd) (body : Option (ℕ × List ℕ)) → IsDirection from to → IsBodyOf from to body → IsGiven from to (given_by to body)
 given from to None h b = given_none from to h
 given from to (Some x) h b = go (eqb x.0 to.got) refl
   where
-    go : (next : Bool) → eqb x.0 to.got ≡ next → IsGiven from to (cond next (x.1 ∷ []) [])
+    go : (next : Bool) → eqb x.0 to.got ≡ next → IsGiven from to (cond next (x.1 ∷ without_hole to.kept) [])
     go true is =
         let same : x.0 ≡ to.got = eqb-true x.0 to.got is in
-        let low = b.0 in
         let none : x.0 - to.got ≡ 0 = omega arith in
-        given_one from to x.1 h (omega arith) (ap (λ (k : ℕ). slice_get (on_the_way from to) k) (sym none) ∙ b.1 (omega arith))
+        given_some from to x.1 h (ap (λ (k : ℕ). slice_get (on_the_way from to) k) (sym none) ∙ b.1 (omega arith))
     go false is = given_none from to h
+
+pub told_way : (from to : LinkEnd) (p : Packet) → IsBodyOf from to p.body → IsDirection from to → on_the_way from to ≡ given_by to p.body ++ on_the_way from (after_accept to p)
+told_way from to p b h =
+    let g = given from to p.body h b in
+    g.way ∙ ap (λ (n : ℕ). given_by to p.body ++ drop (n - min from.acked from.sent) from.waiting) (sym g.count)
+
+-- what is kept is on its way, with one more
+kept_with : (from to : LinkEnd) (body : Option (ℕ × List ℕ)) → IsDirection from to → IsBodyOf from to body → AreOnTheWay (kept_by to body) (on_the_way from to)
+kept_with from to None h b = h.kept
+kept_with from to (Some x) h b = go (is_early to x.0) refl
+  where
+    go : (early : Bool) → is_early to x.0 ≡ early → AreOnTheWay (cond early (with_kept (x.0 - to.got - 1) x.1 to.kept) to.kept) (on_the_way from to)
+    go true is = λ i s e.
+        let lt : to.got < x.0 = ltb-true to.got x.0 (first _ _ is) in
+        elim (got_kept to.kept (x.0 - to.got - 1) x.1 i s e) [
+          | inl q ↦ (
+              let at = q.0 in
+              let place : suc i ≡ x.0 - to.got = omega arith in
+              ap (λ (k : ℕ). slice_get (on_the_way from to) k) place ∙ b.1 (omega arith) ∙ ap (λ (t : List ℕ). some_of t) q.1
+              )
+          | inr k ↦ h.kept i s k
+        ]
+    go false is = h.kept
+
+-- and still is behind those that were given
+kept_behind_given : (gs way later : List (List ℕ)) (slots : List (Option (List ℕ))) → way ≡ gs ++ later → AreOnTheWay slots way → AreOnTheWay (drop (length gs) slots) later
+kept_behind_given gs way later slots is h = λ i s e.
+    let next : length gs + suc i ≡ suc (length gs + i) = omega arith in
+    sym (get_behind gs later (suc i))
+    ∙ ap (λ (k : ℕ). slice_get (gs ++ later) k) next
+    ∙ ap (λ (w : List (List ℕ)). slice_get w (suc (length gs + i))) (sym is)
+    ∙ h (length gs + i) s (sym (get_past slots (length gs) i) ∙ e)
 
 pub told_direction : (from to : LinkEnd) (p : Packet) → IsBodyOf from to p.body → IsDirection from to → IsDirection from (after_accept to p)
 told_direction from to p b h =
     let g = given from to p.body h b in
     let c = g.count in
     let a = h.acked in
-    record { few = h.few; sent = h.sent; acked = omega arith; got = omega (arith, g.few) }
-
-pub told_way : (from to : LinkEnd) (p : Packet) → IsBodyOf from to p.body → IsDirection from to → on_the_way from to ≡ given_by to.got p.body ++ on_the_way from (after_accept to p)
-told_way from to p b h =
-    let g = given from to p.body h b in
-    g.way ∙ ap (λ (n : ℕ). given_by to.got p.body ++ drop (n - min from.acked from.sent) from.waiting) (sym g.count)
+    record {
+      few = h.few;
+      sent = h.sent;
+      acked = omega arith;
+      got = omega (arith, g.few);
+      kept = kept_behind_given (given_by to p.body) (on_the_way from to) (on_the_way from (after_accept to p)) (kept_by to p.body) (told_way from to p b h) (kept_with from to p.body h b);
+    }
 
 pub told_body : (from to : LinkEnd) (p : Packet) (body : Option (ℕ × List ℕ)) → IsBodyOf from to p.body → IsDirection from to → IsBodyOf from to body → IsBodyOf from (after_accept to p) body
 told_body from to p None b h q = tt
 told_body from to p (Some x) b h q =
-    let gs = given_by to.got p.body in
+    let gs = given_by to p.body in
     let g = given from to p.body h b in
     let c = g.count in
     let way = told_way from to p b h in (

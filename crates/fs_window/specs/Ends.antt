@@ -32,7 +32,12 @@ made_on e again heard = record { link = after_due e.link; pushed = e.pushed; giv
 -- a packet comes, if there is one
 abbrev pub accepted_on : End → Option Packet → End
 accepted_on e None = e
-accepted_on e (Some p) = record { link = after_accept e.link p; pushed = e.pushed; given = e.given ++ given_by e.link.got p.body; made = e.made }
+accepted_on e (Some p) = record {
+  link = after_accept e.link p;
+  pushed = e.pushed;
+  given = e.given ++ given_by e.link p.body;
+  made = e.made;
+}
 
 -- an event at one end, with the other end beside it
 abbrev pub happens_at : Event → End → End → End

@@ -1,10 +1,10 @@
 -- One end of a link: what it sends, and what it takes from the other end. Segments are numbered from 0.
-use Rattle.std.specs.Prelude.{ℕ, ◌+◌, ◌-◌, ◌^◌, ◌<◌, ◌≤◌, min, max, Bool, List, [], ◌∷◌, ◌++◌, length, take, drop, Option, Some, None, nat_le, ◌==◌, if◌then◌else◌}
+use Rattle.std.specs.Prelude.{◌≡◌, ℕ, zero, suc, ◌+◌, ◌-◌, ◌^◌, ◌<◌, ◌≤◌, min, max, Bool, ◌&&◌, List, [], ◌∷◌, ◌++◌, length, take, drop, Option, Some, None, nat_le, nat_lt, ◌==◌, if◌then◌else◌}
 use Rattle.fs_window.specs.declared.packet.Packet.{Packet}
 
 -- what an end knows
 pub record LinkEnd : Type 0 where
-  -- how many segments may be on their way
+  -- how many segments may be on their way, counted from the first that is not acknowledged, or not given
   pub width : ℕ
   -- the greatest acknowledgement that was taken: the other end has the segments below it
   pub acked : ℕ
@@ -14,10 +14,13 @@ pub record LinkEnd : Type 0 where
   pub waiting : List (List ℕ)
   -- how many segments were given here
   pub got : ℕ
+  -- the segments that came before their turn, each at its place: first the number behind the next one, then the one behind that.
+  -- `None` is a hole
+  pub kept : List (Option (List ℕ))
 
 -- a new end
 abbrev pub new_link_end : ℕ → LinkEnd
-new_link_end width = record { width = width; acked = 0; sent = 0; waiting = []; got = 0 }
+new_link_end width = record { width = width; acked = 0; sent = 0; waiting = []; got = 0; kept = [] }
 
 -- how many segments were pushed
 abbrev pub pushed_count : LinkEnd → ℕ
@@ -30,10 +33,16 @@ pub record IsLinkEnd (l : LinkEnd) : Type 0 where
   pub acked : l.acked ≤ pushed_count l
   pub sent : l.sent ≤ pushed_count l
   pub few : pushed_count l < 2 ^ 64
+  pub kept : length l.kept < l.width
+
+-- an end of which one segment is on its way at a time: it keeps none
+pub record IsNarrow (l : LinkEnd) : Type 0 where
+  pub width : l.width ≡ 1
+  pub kept : l.kept ≡ []
 
 -- with more segments to send
 abbrev pub after_pushes : LinkEnd → List (List ℕ) → LinkEnd
-after_pushes l ss = record { width = l.width; acked = l.acked; sent = l.sent; waiting = l.waiting ++ ss; got = l.got }
+after_pushes l ss = record { width = l.width; acked = l.acked; sent = l.sent; waiting = l.waiting ++ ss; got = l.got; kept = l.kept }
 
 -- with one more segment to send
 abbrev pub after_push : LinkEnd → List ℕ → LinkEnd
@@ -47,30 +56,60 @@ moved l acked sent = record {
   sent = sent;
   waiting = drop (min acked sent - min l.acked l.sent) l.waiting;
   got = l.got;
+  kept = l.kept;
 }
 
 -- the greatest acknowledgement once another one has come; one above the number pushed is not taken
 abbrev pub acked_after : LinkEnd → ℕ → ℕ
 acked_after l ack = if nat_le ack (pushed_count l) then max l.acked ack else l.acked
 
--- the segment that a body gives where so many were given: the one whose number is next
-abbrev pub given_by : ℕ → Option (ℕ × List ℕ) → List (List ℕ)
-given_by got None = []
-given_by got (Some b) = if b.0 == got then b.1 ∷ [] else []
+-- the segments up to the first hole
+abbrev pub without_hole : List (Option (List ℕ)) → List (List ℕ)
+without_hole [] = []
+without_hole (None ∷ slots) = []
+without_hole (Some s ∷ slots) = s ∷ without_hole slots
+
+-- the segments that a body gives: the one whose number is next, and those kept that then follow without a hole
+abbrev pub given_by : LinkEnd → Option (ℕ × List ℕ) → List (List ℕ)
+given_by l None = []
+given_by l (Some b) = if b.0 == l.got then b.1 ∷ without_hole l.kept else []
+
+-- a hole takes the segment; one that is there stays
+abbrev pub filled : Option (List ℕ) → List ℕ → Option (List ℕ)
+filled None s = Some s
+filled (Some t) s = Some t
+
+-- with a segment at a place where there is none yet
+abbrev pub with_kept : ℕ → List ℕ → List (Option (List ℕ)) → List (Option (List ℕ))
+with_kept zero s [] = Some s ∷ []
+with_kept zero s (slot ∷ slots) = filled slot s ∷ slots
+with_kept (suc n) s [] = None ∷ with_kept n s []
+with_kept (suc n) s (slot ∷ slots) = slot ∷ with_kept n s slots
+
+-- whether a segment of this number is kept: it comes before its turn, and the width reaches it
+abbrev pub is_early : LinkEnd → ℕ → Bool
+is_early l number = nat_lt l.got number && nat_lt number (l.got + l.width)
+
+-- what is kept once a body has come that gives nothing
+abbrev pub kept_by : LinkEnd → Option (ℕ × List ℕ) → List (Option (List ℕ))
+kept_by l None = l.kept
+kept_by l (Some b) = if is_early l b.0 then with_kept (b.0 - l.got - 1) b.1 l.kept else l.kept
 
 -- how many were given, with so many more; the count stands still at the greatest number
 abbrev pub got_after : ℕ → ℕ → ℕ
 got_after got more = min (got + more) (2 ^ 64 - 1)
 
+-- with these kept
+abbrev pub with_slots : LinkEnd → List (Option (List ℕ)) → LinkEnd
+with_slots l slots = record l { kept = slots }
+
+-- once so many were given: their places are let go
+abbrev pub with_given : LinkEnd → ℕ → LinkEnd
+with_given l n = record l { got = got_after l.got n; kept = drop n l.kept }
+
 -- the end once a packet has come
 abbrev pub after_accept : LinkEnd → Packet → LinkEnd
-after_accept l p = record {
-  width = l.width;
-  acked = (moved l (acked_after l p.ack) l.sent).acked;
-  sent = l.sent;
-  waiting = (moved l (acked_after l p.ack) l.sent).waiting;
-  got = got_after l.got (length (given_by l.got p.body));
-}
+after_accept l p = with_given (with_slots (moved l (acked_after l p.ack) l.sent) (kept_by l p.body)) (length (given_by l p.body))
 
 -- packets with these segments, numbered from n on
 abbrev pub packets_from : ℕ → ℕ → List (List ℕ) → List Packet

@@ -1,5 +1,5 @@
 -- One direction of a link: what was pushed at one end and is on its way to the other.
-use Rattle.std.specs.Prelude.{◌≡◌, ℕ, ◌+◌, ◌-◌, ◌^◌, ◌<◌, ◌≤◌, min, List, ◌++◌, drop, length, map, Option, Some, None, slice_get}
+use Rattle.std.specs.Prelude.{◌≡◌, ℕ, suc, ◌+◌, ◌-◌, ◌^◌, ◌<◌, ◌≤◌, min, List, ◌++◌, drop, length, map, Option, Some, None, slice_get}
 use Rattle.fs_ident.specs.In.{In}
 use Rattle.fs_frag.specs.Coming.{IsComing}
 use Rattle.fs_frag.specs.declared.joined.Joined.TheVariants.{Whole}
@@ -13,6 +13,10 @@ use Rattle.fs_window.specs.Post.{link_accepted, heard_on}
 abbrev pub on_the_way : LinkEnd → LinkEnd → List (List ℕ)
 on_the_way from to = drop (to.got - min from.acked from.sent) from.waiting
 
+-- each segment that is kept is the one on its way at its place, behind the next one
+abbrev pub AreOnTheWay : List (Option (List ℕ)) → List (List ℕ) → Type 0
+AreOnTheWay kept way = (i : ℕ) (s : List ℕ) → slice_get kept i ≡ Some (Some s) → slice_get way (suc i) ≡ Some s
+
 -- the two ends fit
 pub record IsDirection (from to : LinkEnd) : Type 0 where
   pub few : pushed_count from < 2 ^ 64
@@ -20,6 +24,7 @@ pub record IsDirection (from to : LinkEnd) : Type 0 where
   -- nothing counts as acknowledged that was not given, and nothing was given that was not pushed
   pub acked : from.acked ≤ to.got
   pub got : to.got ≤ pushed_count from
+  pub kept : AreOnTheWay to.kept (on_the_way from to)
 
 -- the segment of a body was pushed; if it was not given yet, it is on its way at its number
 abbrev pub IsBodyOf : LinkEnd → LinkEnd → Option (ℕ × List ℕ) → Type 0

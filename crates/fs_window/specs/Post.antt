@@ -25,11 +25,15 @@ link_pushed l message = record l { window = after_pushes l.window (cut_of messag
 
 -- the segments that a packet gives
 abbrev pub given_on : Link → Packet → List (List ℕ)
-given_on l p = given_by l.window.got p.body
+given_on l p = given_by l.window p.body
 
 -- once a packet has come
 abbrev pub link_accepted : Link → Packet → Link
 link_accepted l p = record { window = after_accept l.window p; joiner = held_by l.joiner (given_on l p) }
+
+-- what a packet gives that gives no segment
+abbrev pub no_segment : Heard
+no_segment = record { fresh = 0; joined = [] }
 
 -- what a packet gives
 abbrev pub heard_on : Link → Packet → Heard

@@ -1,5 +1,5 @@
 //! What links are for.
-ghost use Rattle.std.specs.Prelude.{◌≡◌, ◌+◌, ◌<◌, ◌^◌, ◌++◌, ◌∷◌, [], ℕ, Bool, true, length, if◌then◌else◌};
+ghost use Rattle.std.specs.Prelude.{◌≡◌, ◌+◌, ◌<◌, ◌≤◌, ◌^◌, ◌++◌, ◌∷◌, [], ℕ, Bool, true, length, if◌then◌else◌};
 ghost use Rattle.std.specs.Prelude.{Option as Maybe, Some as Found, List as Seq};
 ghost use Rattle.fs_ident.specs.In.{In};
 ghost use Rattle.fs_ident.specs.declared.actor.Peer.{Peer as Actor};
@@ -7,8 +7,9 @@ ghost use Rattle.fs_frag.specs.Cut.{cut_of};
 ghost use Rattle.fs_window.specs.declared.link.Link.{Link as TheLink};
 ghost use Rattle.fs_window.specs.declared.packet.Packet.{Packet as ThePacket};
 ghost use Rattle.fs_window.specs.declared.sent.Sent.{Sent as TheSent};
+ghost use Rattle.fs_window.specs.declared.width.TheConstants.{LINK_WIDTH};
 ghost use Rattle.fs_window.specs.Ends.{Event, run, new_ends, IsDeliveredPrefix, IsPrefixOf};
-ghost use Rattle.fs_window.specs.LinkEnd.{LinkEnd, new_link_end, pushed_count, after_pushes, given_by, after_accept, due_of, after_due};
+ghost use Rattle.fs_window.specs.LinkEnd.{LinkEnd, IsNarrow, new_link_end, pushed_count, after_pushes, given_by, after_accept, due_of, after_due};
 ghost use Rattle.fs_window.specs.OnTheWay.{IsDirection, IsPacketOf, HasGiven, Carries, HasHeard};
 ghost use Rattle.fs_window.specs.Packet.{IsPacket, packet_text};
 ghost use Rattle.fs_window.specs.Reading.{packet_at};
@@ -38,7 +39,7 @@ pub fn segments_stay_in_order()
     // A packet of the end that pushes comes at the other.
     ensures tell { (from to : LinkEnd) (pushed given : Seq (Seq ℕ)) (p : ThePacket) →
         IsPacketOf from to p → HasGiven from to pushed given →
-        HasGiven from (after_accept to p) pushed (given ++ given_by to.got p.body) }
+        HasGiven from (after_accept to p) pushed (given ++ given_by to p.body) }
     // A packet of the other end comes back.
     ensures back { (from to : LinkEnd) (pushed given : Seq (Seq ℕ)) (p : ThePacket) →
         IsPacketOf to from p → HasGiven from to pushed given →
@@ -98,6 +99,23 @@ pub fn messages_stay_in_order()
         Carries from to messages → Carries from (link_pushed to message) messages }
     ensures other_due { (from to : TheLink) (messages : Seq (Seq ℕ)) →
         Carries from to messages → Carries from (link_sent to) messages }
+{}
+
+/// Links are as wide as windows can be.
+pub fn links_have_a_width()
+    ensures wide { 1 ≤ LINK_WIDTH }
+    ensures narrow { LINK_WIDTH ≤ 64 }
+{}
+
+/// An end of width 1 keeps no segment, and a packet gives it no more than its own.
+pub fn a_narrow_end_keeps_nothing()
+    ensures new { IsNarrow (new_link_end 1) }
+    ensures push { (end : LinkEnd) (segments : Seq (Seq ℕ)) →
+        IsNarrow end → IsNarrow (after_pushes end segments) }
+    ensures due { (end : LinkEnd) → IsNarrow end → IsNarrow (after_due end) }
+    ensures accept { (end : LinkEnd) (p : ThePacket) → IsNarrow end → IsNarrow (after_accept end p) }
+    ensures gives { (end : LinkEnd) (p : ThePacket) →
+        IsNarrow end → length (given_by end p.body) ≤ 1 }
 {}
 
 /// What is written of a packet is read as that packet.

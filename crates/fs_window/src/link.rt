@@ -3,7 +3,7 @@ ghost use Rattle.std.specs.Prelude.{◌≡◌, ◌+◌, ◌≤◌, ◌^◌, ◌�
 ghost use Rattle.fs_frag.specs.Cut.{cut_of};
 ghost use Rattle.fs_frag.specs.Joined.{held_before};
 ghost use Rattle.fs_window.specs.LinkEnd.{pushed_count, due_of};
-ghost use Rattle.fs_window.specs.Post.{new_link, link_pushed, link_accepted, heard_on, link_sent};
+ghost use Rattle.fs_window.specs.Post.{new_link, link_pushed, link_accepted, no_segment, heard_on, link_sent};
 ghost use Rattle.fs_window.specs.Undo.{link_before};
 
 use crate::error::LinkError;
@@ -87,8 +87,15 @@ impl Link {
         ensures err { OnErr result (self.new ≡ self.old) }
     {
         let segments = self.window.gives(alloc, p)?;
+        if segments.is_empty() {
+            self.window.take(alloc, p)?;
+            return Ok((nothing_heard(alloc), Back::Same));
+        }
         let (joined, back) = self.joiner.add_all(alloc, segments.as_slice())?;
-        self.window.take(p);
+        match self.window.take(alloc, p) {
+            Ok(()) => {}
+            Err(_) => unreachable!(),
+        }
         let heard = Heard {
             fresh: segments.len() as u64,
             joined,
@@ -177,4 +184,14 @@ impl Twin for Link {
     }
 
     fn discard(self) {}
+}
+
+/// What a packet gives that gives no segment.
+fn nothing_heard(alloc: Global) -> Heard
+    ensures { result ≡ no_segment }
+{
+    Heard {
+        fresh: 0,
+        joined: List::new(alloc),
+    }
 }

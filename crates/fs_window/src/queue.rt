@@ -9,8 +9,8 @@ use fs_ident::{List, Memory, Twin};
 use std::alloc::Global;
 use std::collections::VecDeque;
 
-/// Lets go of the first segments.
-pub(crate) fn forget(waiting: &mut VecDeque<Segment>, count: u64)
+/// Lets go of the first values.
+pub(crate) fn forget<T: Drop>(waiting: &mut VecDeque<T>, count: u64)
     ensures { waiting.new.items ≡ drop count waiting.old.items }
 {
     for _ in 0..count {
@@ -46,11 +46,11 @@ pub(crate) fn add_packets(
     Ok(())
 }
 
-/// The same segments.
-pub(crate) fn copies(
+/// The same values.
+pub(crate) fn copies<T: Twin + Drop>(
     alloc: Global,
-    waiting: &VecDeque<Segment>,
-) -> Result<VecDeque<Segment>, Memory>
+    waiting: &VecDeque<T>,
+) -> Result<VecDeque<T>, Memory>
     ensures { IfOk result (λ twin. twin.items ≡ waiting.now.items) }
 {
     let mut twin = VecDeque::with_capacity(alloc, waiting.len())?;

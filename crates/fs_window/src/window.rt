@@ -1,8 +1,9 @@
 //! One end of a link.
 ghost use Rattle.std.specs.Prelude.{◌≡◌, ◌≤◌, ◌+◌, ◌-◌, ◌^◌, ◌++◌, ◌↔◌, [], length, IfOk, IsOk, IsErrOf, OnOk, OnErr};
-ghost use Rattle.fs_window.specs.LinkEnd.{IsLinkEnd, new_link_end, pushed_count, after_push, after_pushes, moved, acked_after, given_by, after_accept, packets_from, unsent, unacked, with_bodies, or_alone, due_of, after_due};
+ghost use Rattle.fs_window.specs.LinkEnd.{IsLinkEnd, new_link_end, pushed_count, after_push, after_pushes, moved, acked_after, given_by, kept_by, with_slots, with_given, after_accept, packets_from, unsent, unacked, with_bodies, or_alone, due_of, after_due};
 
 use crate::error::LinkError;
+use crate::kept::{add_front, front_len, keep_at};
 use crate::packet::Packet;
 use crate::queue::{add_packets, copies, forget};
 use fs_frag::Segment;
@@ -12,7 +13,8 @@ use std::collections::VecDeque;
 use std::marker::Model;
 
 /// One end of a link: it sends the segments that are pushed here, and gives those that the other end pushed,
-/// each once and in their order, whatever the network loses, repeats or reorders.
+/// each once and in their order, whatever the network loses, repeats or reorders. It keeps those that come before
+/// their turn, as far as the width reaches.
 #[derive(Debug, Drop)]
 pub struct Window {
     width: u64,
@@ -20,6 +22,7 @@ pub struct Window {
     sent: u64,
     waiting: VecDeque<Segment>,
     got: u64,
+    kept: VecDeque<Option<Segment>>,
 }
 
 impl Model for Window {
@@ -33,6 +36,7 @@ impl Model for Window {
       sent = w.sent;
       waiting = w.waiting.items;
       got = w.got;
+      kept = w.kept.items;
     } };
 
     ghost invariant = { λ w. IsLinkEnd (record {
@@ -41,6 +45,7 @@ impl Model for Window {
       sent = w.sent;
       waiting = w.waiting.items;
       got = w.got;
+      kept = w.kept.items;
     }) };
 }
 
@@ -57,6 +62,7 @@ impl Window {
             sent: 0,
             waiting: VecDeque::new(alloc),
             got: 0,
+            kept: VecDeque::new(alloc),
         }
     }
 
@@ -103,51 +109,84 @@ impl Window {
         Ok(())
     }
 
-    /// The segment that a packet would give: the one whose number is next. Takes memory only for that segment.
+    /// The segments that a packet would give: the one whose number is next, and those kept that then follow without a
+    /// hole. Takes memory only for these segments.
     pub fn gives(&self, alloc: Global, p: &Packet) -> Result<List<Segment>, Memory>
-        ensures given { IfOk result (λ segments. segments ≡ given_by self.now.got p.now.body) }
-        ensures no_memory { given_by self.now.got p.now.body ≡ [] → IsOk result }
+        ensures given { IfOk result (λ segments. segments ≡ given_by self.now p.now.body) }
+        ensures no_memory { given_by self.now p.now.body ≡ [] → IsOk result }
     {
         let mut segments = List::new(alloc);
         if let Some((number, segment)) = &p.body {
             if *number == self.got {
                 segments.push(segment.copy(alloc)?)?;
+                add_front(alloc, &self.kept, &mut segments)?;
             }
         }
         Ok(segments)
     }
 
-    /// Takes a packet of the other end: its acknowledgement, and its segment, which is given exactly where it
-    /// is the next one. Takes memory only for a segment that it gives.
+    /// Takes a packet of the other end: its acknowledgement, and its segment. Where that is the next one it is given,
+    /// with those kept that follow without a hole; where it comes before its turn and the width reaches it, it is kept.
+    /// Takes memory only for segments that it gives, and for one that it keeps and did not have.
     pub fn accept(&mut self, alloc: Global, p: &Packet) -> Result<List<Segment>, Memory>
-        ensures given { IfOk result (λ segments. segments ≡ given_by self.old.got p.now.body) }
+        ensures given { IfOk result (λ segments. segments ≡ given_by self.old p.now.body) }
         ensures state { OnOk result (self.new ≡ after_accept self.old p.now) }
         ensures err { OnErr result (self.new ≡ self.old) }
-        ensures no_memory { given_by self.old.got p.now.body ≡ [] → IsOk result }
+        ensures no_memory { given_by self.old p.now.body ≡ [] →
+            kept_by self.old p.now.body ≡ self.old.kept → IsOk result }
     {
         let segments = self.gives(alloc, p)?;
-        self.take(p);
+        self.take(alloc, p)?;
         Ok(segments)
     }
 
-    /// Takes a packet whose segments `gives` told: its acknowledgement counts, and they are given. Takes no memory.
-    pub fn take(&mut self, p: &Packet)
-        ensures { self.new ≡ after_accept self.old p.now }
+    /// Takes a packet whose segments `gives` told: its acknowledgement counts, and they are given; a segment that comes
+    /// before its turn is kept. Takes memory only for one that it keeps and did not have.
+    pub fn take(&mut self, alloc: Global, p: &Packet) -> Result<(), Memory>
+        ensures state { OnOk result (self.new ≡ after_accept self.old p.now) }
+        ensures err { OnErr result (self.new ≡ self.old) }
+        ensures no_memory { kept_by self.old p.now.body ≡ self.old.kept → IsOk result }
     {
         let given = self.given_count(p);
+        self.keep(alloc, p)?;
         let acked = self.acked_after(p.ack);
         self.move_to(acked, self.sent);
-        self.got = self.got.saturating_add(given);
+        self.count_given(given);
+        Ok(())
     }
 
     /// How many segments a packet gives.
     fn given_count(&self, p: &Packet) -> u64
-        ensures { result ≡ length (given_by self.now.got p.now.body) }
+        ensures { result ≡ length (given_by self.now p.now.body) }
     {
         match &p.body {
-            Some((number, _)) if *number == self.got => 1,
+            Some((number, _)) if *number == self.got => front_len(&self.kept) as u64 + 1,
             _ => 0,
         }
+    }
+
+    /// Keeps the segment of a packet, if it comes before its turn and the width reaches it.
+    fn keep(&mut self, alloc: Global, p: &Packet) -> Result<(), Memory>
+        ensures state { OnOk result (self.new ≡ with_slots self.old (kept_by self.old p.now.body)) }
+        ensures err { OnErr result (self.new ≡ self.old) }
+        ensures no_memory { kept_by self.old p.now.body ≡ self.old.kept → IsOk result }
+    {
+        let Some((number, segment)) = &p.body else {
+            return Ok(());
+        };
+        if *number <= self.got || *number - self.got >= self.width {
+            return Ok(());
+        }
+        let place = (*number - self.got - 1) as usize;
+        keep_at(alloc, &mut self.kept, place, segment)
+    }
+
+    /// Counts so many segments as given, and lets go of their places.
+    fn count_given(&mut self, given: u64)
+        ensures { self.new ≡ with_given self.old given }
+    {
+        forget(&mut self.kept, given);
+        self.got = self.got.saturating_add(given);
     }
 
     /// What goes to the other end: the segments that were not sent yet, as far as the width reaches, and then,
@@ -263,6 +302,7 @@ impl Twin for Window {
             sent: self.sent,
             waiting: copies(alloc, &self.waiting)?,
             got: self.got,
+            kept: copies(alloc, &self.kept)?,
         })
     }
 

@@ -2,9 +2,9 @@ use crate::same;
 use fs_frag::{Segment, cut};
 use fs_ident::{List, Memory, Peer, Session, Twin};
 use fs_window::{
-    LinkError, Packet, Post, Sent, Undo, Window, each_actor_has_a_link, in_order,
-    messages_stay_in_order, packets_are_read_back, packets_stay_honest, read_packet,
-    segments_stay_in_order, write_packet,
+    Heard, LINK_WIDTH, LinkError, Packet, Post, Sent, Undo, Window, a_narrow_end_keeps_nothing,
+    each_actor_has_a_link, in_order, links_have_a_width, messages_stay_in_order,
+    packets_are_read_back, packets_stay_honest, read_packet, segments_stay_in_order, write_packet,
 };
 use std::alloc::Global;
 use std::process::Abort;
@@ -84,6 +84,112 @@ fn laws() {
     packets_are_read_back();
     messages_stay_in_order();
     each_actor_has_a_link();
+    a_narrow_end_keeps_nothing();
+    links_have_a_width();
+    let _ = LINK_WIDTH;
+}
+
+/// How wide a window can be.
+const WIDEST: u64 = 64;
+
+/// A new window takes packets of these numbers, and gives so many segments for each.
+fn told_in_turn(rt: &impl Abort, alloc: Global, told: &[(u64, usize)]) -> Result<Window, Fail> {
+    let mut window = Window::new(alloc, WIDEST);
+    for (number, count) in told {
+        same(rt, given(alloc, &mut window, *number)?, (*count, *count));
+    }
+    Ok(window)
+}
+
+#[test]
+fn segments_before_their_turn(rt: HostRuntime) -> Result<(), Fail> {
+    let alloc = rt.alloc();
+    let back = told_in_turn(&rt, alloc, &[(2, 0), (1, 0), (0, 3)])?;
+    same(&rt, back.got(), 3);
+    let hole = told_in_turn(
+        &rt,
+        alloc,
+        &[(1, 0), (3, 0), (3, 0), (0, 2), (1, 0), (2, 2)],
+    )?;
+    same(&rt, hole.got(), 4);
+    let twin = told_in_turn(&rt, alloc, &[(1, 0)])?.copy(alloc)?;
+    same(&rt, given(alloc, &mut told_on(alloc, twin)?, 1)?, (0, 0));
+    Ok(())
+}
+
+/// The window once the packet of number 0 has come.
+fn told_on(alloc: Global, mut window: Window) -> Result<Window, Fail> {
+    given(alloc, &mut window, 0)?;
+    Ok(window)
+}
+
+/// How many segments the packet of number 63 gives, behind those of numbers 1 to 62, one after another.
+fn up_to_the_last(alloc: Global, window: &mut Window) -> Result<(usize, usize), Fail> {
+    for number in 1..WIDEST - 1 {
+        given(alloc, window, number)?;
+    }
+    given(alloc, window, WIDEST - 1)
+}
+
+#[test]
+fn what_is_too_far_ahead_is_not_kept(rt: HostRuntime) -> Result<(), Fail> {
+    let alloc = rt.alloc();
+    let mut once = told_in_turn(&rt, alloc, &[(64, 0), (0, 1)])?;
+    same(&rt, up_to_the_last(alloc, &mut once)?, (1, 1));
+    let mut again = told_in_turn(&rt, alloc, &[(64, 0), (0, 1), (64, 0)])?;
+    same(&rt, up_to_the_last(alloc, &mut again)?, (2, 2));
+    Ok(())
+}
+
+/// An end to which 65 segments are pushed, one more than may be on their way.
+fn more_than_fit(alloc: Global) -> Result<Window, Fail> {
+    let mut window = Window::new(alloc, WIDEST);
+    for _ in 0..WIDEST + 1 {
+        window.push(alloc, segment(alloc, 65)?)?;
+    }
+    Ok(window)
+}
+
+/// As below, of a wide window: on a turn the new segments go first, and then those that were sent.
+const WIDE_DUE: [(u64, bool, bool, (usize, bool, u64)); 5] = [
+    (0, false, false, (64, true, 63)),
+    (0, true, false, (64, true, 63)),
+    (1, true, false, (64, true, 63)),
+    (2, false, true, (1, false, 0)),
+    (64, true, false, (1, true, 64)),
+];
+
+#[test]
+fn what_is_due_of_a_wide_window(rt: HostRuntime) -> Result<(), Fail> {
+    let mut window = more_than_fit(rt.alloc())?;
+    for (ack, turn, heard, goes) in WIDE_DUE {
+        same(&rt, due(rt.alloc(), &mut window, ack, turn, heard)?, goes);
+    }
+    Ok(())
+}
+
+/// What each of the packets gave, the last one told first.
+fn told_backwards(alloc: Global, to: &mut Post, sent: &[Sent]) -> Result<Vec<(u64, usize)>, Fail> {
+    let mut told = Vec::new(alloc);
+    for sent in sent.iter().rev() {
+        let packet = read_packet(alloc, sent.bytes.as_slice())?.ok_or("it is a packet")?;
+        let Heard { fresh, joined } = to.accept(alloc, CLIENT, &packet)?;
+        told.push((fresh, joined.len()))?;
+    }
+    Ok(told)
+}
+
+#[test]
+fn one_packet_makes_two_messages_whole(rt: HostRuntime) -> Result<(), Fail> {
+    let alloc = rt.alloc();
+    let mut client = Post::new(alloc, CLIENT, WIDEST)?;
+    client.push(alloc, SERVER, &[7; 1016])?;
+    client.push(alloc, SERVER, &[8; 1017])?;
+    let sent = client.due(alloc, false, None)?;
+    let mut server = Post::new(alloc, SERVER, WIDEST)?;
+    let told = told_backwards(alloc, &mut server, sent.as_slice())?;
+    same(&rt, told.as_slice(), &[(0, 0), (0, 0), (3, 2)]);
+    Ok(())
 }
 
 /// An end to which two segments are pushed.
