@@ -1,6 +1,6 @@
 -- Where a handle stands, and the order of handles after an edit.
 use Rattle.std.proofs.Common.{◌≡◌, ℕ, zero, suc, ◌+◌, ◌<◌, ◌≤◌, List, [], ◌∷◌, length, get_or, refl, ap, ◌∙◌, arith, cond, Bool, true, false, not}
-use Rattle.std.specs.Prelude.{Option, Some, None, filter, slice_set, nat_lt}
+use Rattle.std.specs.Prelude.{Option, Some, None, filter, slice_set}
 use Rattle.std.specs.List.{position, position_or_len}
 use Rattle.std.proofs.lemmas.Bool.Decides.{nat_tests}
 use Rattle.std.proofs.lemmas.List.Quantifiers.{position-Some}

@@ -1,6 +1,6 @@
 -- Each step leaves every node in order.
 use Rattle.std.proofs.Common.{◌≡◌, ℕ, List, Bool, true, false, refl, sym, subst, cond}
-use Rattle.std.specs.Prelude.{Option, Some, None, not, is_some, nat_eq, ◌==◌, T, ◌&&◌, Result, Ok, Err, IfOk, OnErr}
+use Rattle.std.specs.Prelude.{Option, Some, None, not, is_some, nat_eq, ◌==◌, ◌&&◌, Result, Ok, Err, IfOk, OnErr}
 use Rattle.std.specs.Ordering.{nat_cmp, eq_by_cmp}
 use Rattle.std.specs.Cmp.Lexicographic.{slice_cmp, nat_list_cmp_total, pointwise}
 use Rattle.std.specs.FinMap.{get}

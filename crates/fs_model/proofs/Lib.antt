@@ -1,8 +1,10 @@
 pub mod Spaces
 pub mod Chains
+pub mod WaysUp
 pub mod HandleOrder
 pub mod Keeping
 pub mod SoundMaps
+pub mod WaysKept
 pub mod SoundChains
 pub mod SoundHandles
 pub mod SoundNodes

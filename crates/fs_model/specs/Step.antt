@@ -97,7 +97,8 @@ with_new_node m dir name kind id = with_change (with_link name id) (insert m id 
 abbrev pub create_as : NodeMap → List ℕ → List ℕ → Kind → Option (List ℕ) → Stepped
 create_as m dir name kind None = reply_alone m reply.BadId
 create_as m dir name kind (Some id) =
-    if is_child dir id && not (is_some (get m id)) then record { reply = reply.Made; nodes = with_new_node m dir name kind id } else reply_alone m reply.BadId
+    if is_child dir id && not (is_some (get m id)) then record { reply = reply.Made; nodes = with_new_node m dir name kind id }
+    else reply_alone m reply.BadId
 
 abbrev pub create_in : Kind → NodeMap → Node → List ℕ → List ℕ → Kind → Option (List ℕ) → Stepped
 create_in File m d dir name kind id = reply_alone m reply.NotDir
@@ -119,7 +120,8 @@ open_file (Some n) m by file h modes =
 abbrev pub close : Option Node → NodeMap → Session → List ℕ → ℕ → Stepped
 close None m by file h = reply_alone m reply.NoHandle
 close (Some n) m by file h =
-    if is_some (handle_at n.handles by h) then record { reply = reply.Closed; nodes = with_change (without_open by h) m file } else reply_alone m reply.NoHandle
+    if is_some (handle_at n.handles by h) then record { reply = reply.Closed; nodes = with_change (without_open by h) m file }
+    else reply_alone m reply.NoHandle
 
 abbrev pub set_by : Option Modes → NodeMap → List ℕ → ℕ → ℕ → Stepped
 set_by None m file size stamp = reply_alone m reply.NoHandle
@@ -171,7 +173,8 @@ denies_delete (Some n) = any_denies_delete n.handles
 
 -- the destination gets the name, the source loses it, and the file gets its place
 abbrev pub with_moved_node : NodeMap → List ℕ → List ℕ → List ℕ → List ℕ → List ℕ → NodeMap
-with_moved_node m file sdir sname ddir dname = with_change (at_place ddir dname) (with_change (without_link sname) (with_change (with_link dname file) m ddir) sdir) file
+with_moved_node m file sdir sname ddir dname =
+    with_change (at_place ddir dname) (with_change (without_link sname) (with_change (with_link dname file) m ddir) sdir) file
 
 abbrev pub rename_child : NodeMap → List ℕ → List ℕ → Node → List ℕ → List ℕ → Option (List ℕ) → Stepped
 rename_child m sdir sname d ddir dname None = reply_alone m reply.NoName

@@ -17,6 +17,7 @@ mod renames;
 mod reply;
 mod space;
 mod steps;
+mod ways;
 
 pub use law::{
     every_ancestor_is_listed, first_space_is_sound, no_file_is_its_own_ancestor,

@@ -3,6 +3,7 @@ ghost use Rattle.std.specs.Prelude.{◌≡◌, IfOk, OnOk, OnErr};
 ghost use Rattle.std.specs.FinMap as map;
 ghost use Rattle.fs_model.specs.Namespace.{IsSpace};
 ghost use Rattle.fs_ident.specs.Maps.{map_of};
+ghost use Rattle.fs_model.specs.Ways.{AreTrue};
 ghost use Rattle.fs_model.specs.Step.{rename, with_moved_node, denies_delete};
 
 use crate::chain::is_on_chain;
@@ -12,6 +13,7 @@ use crate::handles::any_denies_delete;
 use crate::lookups::node_at;
 use crate::node::Node;
 use crate::reply::Reply;
+use crate::ways::Ways;
 use fs_ident::{FileId, Kind, Memory, Name, Twin, both, copy_two};
 use std::alloc::Global;
 use std::collections::BTreeMap;
@@ -20,12 +22,14 @@ use std::collections::BTreeMap;
 pub fn rename(
     alloc: Global,
     nodes: &mut BTreeMap<FileId, Node>,
+    ways: &mut Ways,
     sdir: &FileId,
     sname: &Name,
     ddir: &FileId,
     dname: &Name,
 ) -> Result<Reply, Memory>
-    requires { IsSpace (map_of nodes.old) }
+    requires space { IsSpace (map_of nodes.old) }
+    requires ways { AreTrue (map_of nodes.old) ways.old }
     ensures reply { IfOk result (λ reply. reply ≡
         (rename (map.get (map_of nodes.old) sdir.now) (map_of nodes.old) sdir.now sname.now ddir.now
         dname.now).reply) }
@@ -33,6 +37,7 @@ pub fn rename(
         (rename (map.get (map_of nodes.old) sdir.now) (map_of nodes.old) sdir.now sname.now ddir.now
         dname.now).nodes) }
     ensures err { OnErr result (map_of nodes.new ≡ map_of nodes.old) }
+    ensures ways { AreTrue (map_of nodes.new) ways.new }
 {
     let Some(from) = node_at(nodes, sdir) else {
         return Ok(Reply::Gone);
@@ -58,11 +63,11 @@ pub fn rename(
     if denies_delete(nodes, file) {
         return Ok(Reply::Sharing);
     }
-    if is_on_chain(nodes, file, ddir) {
+    if is_on_chain(alloc, nodes, ways, file, ddir)? {
         return Ok(Reply::Cycle);
     }
     let file = file.copy(alloc)?;
-    move_node(alloc, nodes, &file, sdir, sname, ddir, dname)?;
+    move_node(alloc, nodes, ways, &file, sdir, sname, ddir, dname)?;
     Ok(Reply::Renamed)
 }
 
@@ -81,21 +86,25 @@ fn denies_delete(nodes: &BTreeMap<FileId, Node>, file: &FileId) -> bool
 fn move_node(
     alloc: Global,
     nodes: &mut BTreeMap<FileId, Node>,
+    ways: &mut Ways,
     file: &FileId,
     sdir: &FileId,
     sname: &Name,
     ddir: &FileId,
     dname: &Name,
 ) -> Result<(), Memory>
-    requires { IsSpace (map_of nodes.old) }
+    requires space { IsSpace (map_of nodes.old) }
+    requires ways { AreTrue (map_of nodes.old) ways.old }
     ensures ok { OnOk result (map_of nodes.new ≡
         with_moved_node (map_of nodes.old) file.now sdir.now sname.now ddir.now dname.now) }
     ensures err { OnErr result (map_of nodes.new ≡ map_of nodes.old) }
+    ensures ways { AreTrue (map_of nodes.new) ways.new }
 {
     let place = copy_two(alloc, ddir, dname)?;
     let (place, (child, child_name)) = both(place, copy_two(alloc, file, dname))?;
     let ((dir, name), _) = both(place, changes::link(nodes, ddir, child_name, child))?;
     changes::unlink(nodes, sdir, sname);
     changes::reparent(nodes, file, dir, name);
+    ways.forget(file);
     Ok(())
 }

@@ -10,6 +10,7 @@ use crate::node::Node;
 use crate::op::Op;
 use crate::reply::Reply;
 use crate::steps::step;
+use crate::ways::Ways;
 use fs_ident::{FileId, Kind, List, Memory, Session, Twin, copy_map};
 use std::alloc::Global;
 use std::collections::BTreeMap;
@@ -19,12 +20,14 @@ use std::marker::Model;
 #[derive(Drop)]
 pub struct Space {
     nodes: BTreeMap<FileId, Node>,
+    ways: Ways,
 }
 
 impl Model for Space {
     ghost use Rattle.std.specs.FinMap as map;
     ghost use Rattle.std.specs.Coded.{coded_list, coded_ℕ};
     ghost use Rattle.fs_model.specs.Namespace.{NodeMap, IsSpace};
+    ghost use Rattle.fs_model.specs.Ways.{AreTrue};
     ghost use Rattle.fs_ident.specs.Maps.{map_of};
     ghost use Rattle.fs_model.specs.contracts.node.Node as node;
 
@@ -34,7 +37,7 @@ impl Model for Space {
 
     ghost view = { λ s. map_of s.nodes };
 
-    ghost invariant = { λ s. IsSpace (map_of s.nodes) };
+    ghost invariant = { λ s. IsSpace (map_of s.nodes) × AreTrue (map_of s.nodes) s.ways };
 }
 
 impl Space {
@@ -59,6 +62,7 @@ impl Space {
     {
         Space {
             nodes: BTreeMap::new(alloc),
+            ways: Ways::new(alloc),
         }
     }
 
@@ -70,7 +74,9 @@ impl Space {
         ensures err { OnErr result (self.new ≡ self.old) }
     {
         let key = id.copy(alloc)?;
-        changes::add(&mut self.nodes, key, node)
+        let done = changes::add(&mut self.nodes, key, node);
+        self.ways.forget(id);
+        done
     }
 
     /// The identifiers of all files and directories, in order.
@@ -100,7 +106,7 @@ impl Space {
         ensures nodes { IfOk result (λ _. self.new ≡ (step self.old by op.now).nodes) }
         ensures err { OnErr result (self.new ≡ self.old) }
     {
-        step(alloc, &mut self.nodes, by, op)
+        step(alloc, &mut self.nodes, &mut self.ways, by, op)
     }
 }
 
@@ -108,6 +114,7 @@ impl Twin for Space {
     fn copy(&self, alloc: Global) -> Result<Space, Memory> {
         Ok(Space {
             nodes: copy_map(alloc, &self.nodes)?,
+            ways: Ways::new(alloc),
         })
     }
 

@@ -2,6 +2,7 @@
 ghost use Rattle.std.specs.Prelude.{◌≡◌, IfOk, OnErr};
 ghost use Rattle.fs_model.specs.Namespace.{IsSpace};
 ghost use Rattle.fs_ident.specs.Maps.{map_of};
+ghost use Rattle.fs_model.specs.Ways.{AreTrue};
 ghost use Rattle.fs_model.specs.Step.{step};
 
 use crate::changes::reap;
@@ -13,6 +14,7 @@ use crate::opens::{close, open_file, set};
 use crate::reads::{info, kind, list, look_up};
 use crate::renames::rename;
 use crate::reply::Reply;
+use crate::ways::Ways;
 use fs_ident::{FileId, Memory, Session};
 use std::alloc::Global;
 use std::collections::BTreeMap;
@@ -21,14 +23,17 @@ use std::collections::BTreeMap;
 pub fn step(
     alloc: Global,
     nodes: &mut BTreeMap<FileId, Node>,
+    ways: &mut Ways,
     by: Session,
     op: &Op,
 ) -> Result<Reply, Memory>
-    requires { IsSpace (map_of nodes.old) }
+    requires space { IsSpace (map_of nodes.old) }
+    requires ways { AreTrue (map_of nodes.old) ways.old }
     ensures reply { IfOk result (λ reply. reply ≡ (step (map_of nodes.old) by op.now).reply) }
     ensures nodes { IfOk result (λ _. map_of nodes.new ≡
         (step (map_of nodes.old) by op.now).nodes) }
     ensures err { OnErr result (map_of nodes.new ≡ map_of nodes.old) }
+    ensures ways { AreTrue (map_of nodes.new) ways.new }
 {
     match op {
         Op::Lookup { dir, name } => look_up(alloc, nodes, dir, name),
@@ -49,13 +54,13 @@ pub fn step(
             size,
             stamp,
         } => Ok(set(nodes, by, file, *h, *size, *stamp)),
-        Op::Delete { dir, name } => Ok(delete(nodes, dir, name)),
+        Op::Delete { dir, name } => Ok(delete(nodes, ways, dir, name)),
         Op::Rename {
             sdir,
             sname,
             ddir,
             dname,
-        } => rename(alloc, nodes, sdir, sname, ddir, dname),
+        } => rename(alloc, nodes, ways, sdir, sname, ddir, dname),
         Op::Reap { file, session } => {
             reap(nodes, file, *session);
             Ok(Reply::Reaped)

@@ -18,3 +18,4 @@ pub mod Coming
 pub mod Rising
 pub mod Returning
 pub mod TakenOut
+pub mod Marked

@@ -1,6 +1,6 @@
 -- The files that are open, and a walk over the entries.
 use Rattle.std.proofs.Common.{◌≡◌, ℕ, List, [], ◌∷◌, Bool, true, false, refl, ap, ap₂, sym, ◌∙◌, cond, length, arith}
-use Rattle.std.specs.Prelude.{Some, not, ◌==◌, T}
+use Rattle.std.specs.Prelude.{Some, not, ◌==◌}
 use Rattle.std.specs.List.{filter, list_all}
 use Rattle.std.proofs.lemmas.Bool.Decides.{nat_tests}
 use Rattle.std.proofs.lemmas.List.Elements.{filter_agree}

@@ -10,3 +10,4 @@ pub mod Moving
 -- cited by private calls alone
 pub mod Undo
 pub mod Walk
+pub mod Marks

@@ -10,6 +10,7 @@ mod led;
 mod led_end;
 mod led_law;
 mod lookups;
+mod marks;
 mod moving;
 mod numbers;
 mod op_effects;

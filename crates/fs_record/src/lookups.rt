@@ -1,10 +1,9 @@
 //! Looking up records.
-ghost use Rattle.std.specs.Prelude.{◌≡◌, ◌≤◌, IfOk, IfSome, Some};
+ghost use Rattle.std.specs.Prelude.{◌≡◌, ◌≤◌, IfOk, IfSome};
 ghost use Rattle.std.specs.FinMap as map;
 ghost use Rattle.std.specs.Option.{option_copied};
 ghost use Rattle.fs_model.specs.Namespace.{IsInOrder};
 ghost use Rattle.fs_record.specs.Records.{AreRecords, node_of, next_of};
-ghost use Rattle.fs_record.specs.Opens.{is_open, open_files};
 ghost use Rattle.fs_ident.specs.Maps.{map_of};
 
 use crate::record::Record;
@@ -48,8 +47,8 @@ pub fn next(records: &BTreeMap<FileId, Record>, id: &FileId) -> u64
     }
 }
 
-/// The identifiers of all records, in order.
-pub fn files(alloc: Global, records: &BTreeMap<FileId, Record>) -> Result<List<FileId>, Memory>
+/// The identifiers that have a value, in order.
+pub fn files<V>(alloc: Global, records: &BTreeMap<FileId, V>) -> Result<List<FileId>, Memory>
     ensures { IfOk result (λ ids. ids ≡ map.keys (map_of records.now)) }
 {
     let mut ids = List::from_vec(Vec::with_capacity(alloc, records.len())?);
@@ -57,25 +56,4 @@ pub fn files(alloc: Global, records: &BTreeMap<FileId, Record>) -> Result<List<F
         add_copy(alloc, &mut ids, id)?;
     }
     Ok(ids)
-}
-
-/// The identifiers of the files with handles, in order. No other is copied.
-pub fn open_files(alloc: Global, records: &BTreeMap<FileId, Record>) -> Result<List<FileId>, Memory>
-    ensures { IfOk result (λ ids. ids ≡ open_files (map_of records.now)) }
-{
-    let mut ids = List::new(alloc);
-    for entry in records.iter() {
-        if is_open(entry.1) {
-            add_copy(alloc, &mut ids, entry.0)?;
-        }
-    }
-    Ok(ids)
-}
-
-/// Whether some session has a handle on the file.
-#[tactic(auto, using(crate::proofs::OpenFiles::none_is_empty))]
-fn is_open(kept: &Record) -> bool
-    ensures { result ≡ is_open (Some kept.now.node) }
-{
-    !kept.node.handles.is_empty()
 }

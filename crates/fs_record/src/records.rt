@@ -19,11 +19,12 @@ ghost use Rattle.fs_ident.specs.declared.actor.Session.{Session as TheSession};
 ghost use Rattle.fs_record.specs.declared.error.FreshError.TheVariants.{NoDir, NoIds};
 
 use crate::error::FreshError;
-use crate::lookups::{files, next, node, open_files, record};
+use crate::lookups::{files, next, node, record};
+use crate::marks::{Mark, settle_all, settle_these};
 use crate::op_effects::reap;
 use crate::record::Record;
 use crate::values::{handles, value_at};
-use crate::{changes, handles as opens, moving, numbers, together};
+use crate::{handles as opens, marks, moving, numbers};
 use fs_field::{Effect, Field, Value};
 use fs_ident::{FileId, Kind, List, Memory, Session, Twin, copy_map};
 use fs_map::MapPiece;
@@ -33,17 +34,21 @@ use std::alloc::Global;
 use std::collections::BTreeMap;
 use std::marker::Model;
 
-/// The records of files, by identifier.
+/// The records of files, by identifier. The files that sessions have handles on are marked.
 #[derive(Drop)]
 pub struct Records {
+    alloc: Global,
     records: BTreeMap<FileId, Record>,
+    marks: BTreeMap<FileId, Mark>,
 }
 
 impl Model for Records {
     ghost use Rattle.std.specs.FinMap as map;
     ghost use Rattle.std.specs.Coded.{coded_list, coded_ℕ};
     ghost use Rattle.fs_record.specs.Records.{RecordMap, AreRecords};
+    ghost use Rattle.std.specs.Prelude.{[]};
     ghost use Rattle.fs_ident.specs.Maps.{map_of};
+    ghost use Rattle.fs_record.specs.Marks.{MarkOpen};
     ghost use Rattle.fs_record.specs.contracts.record.Record as kept;
 
     ghost Value = { RecordMap };
@@ -52,7 +57,8 @@ impl Model for Records {
 
     ghost view = { λ s. map_of s.records };
 
-    ghost invariant = { λ s. AreRecords (map_of s.records) };
+    ghost invariant = { λ s.
+        AreRecords (map_of s.records) × MarkOpen [] (map_of s.marks) (map_of s.records) };
 }
 
 impl Records {
@@ -72,7 +78,9 @@ impl Records {
         ensures { result ≡ map.empty }
     {
         Records {
+            alloc,
             records: BTreeMap::new(alloc),
+            marks: BTreeMap::new(alloc),
         }
     }
 
@@ -84,7 +92,7 @@ impl Records {
         ensures ok { OnOk result (self.new ≡ map.insert self.old id kept) }
         ensures err { OnErr result (self.new ≡ self.old) }
     {
-        changes::add(&mut self.records, id, kept)
+        marks::put(self.alloc, &mut self.marks, &mut self.records, id, kept)
     }
 
     /// The record of the file.
@@ -103,11 +111,12 @@ impl Records {
     }
 
     /// The identifiers of the files that sessions have handles on, in order.
+    #[tactic(auto, using(crate::proofs::Marked::keys_open))]
     pub fn open_files(&self, alloc: Global) -> Result<List<FileId>, Memory>
         ensures files { IfOk result (λ ids. ids ≡ open_files self.now) }
         ensures valid { AreRecords self.now }
     {
-        open_files(alloc, &self.records)
+        files(alloc, &self.marks)
     }
 
     /// The value of the field, as the session sees it. A file without a record does not live, and has no names, no
@@ -146,7 +155,7 @@ impl Records {
             value_of self.new s field ≡ value_after s field (value_of self.old s field) e.now) }
         ensures err { OnErr result (self.new ≡ self.old) }
     {
-        changes::apply(alloc, &mut self.records, e)
+        marks::apply(alloc, &mut self.marks, &mut self.records, e)
     }
 
     /// Does the effects in order, or none of them where memory is wanting; nothing has changed then. `is_undoable` is
@@ -156,7 +165,12 @@ impl Records {
         ensures ok { OnOk result (self.new ≡ records_after_all self.old effects.now) }
         ensures err { OnErr result (self.new ≡ self.old) }
     {
-        together::apply_all(alloc, &mut self.records, effects.as_slice())
+        marks::apply_all(
+            alloc,
+            &mut self.marks,
+            &mut self.records,
+            effects.as_slice(),
+        )
     }
 
     /// Gives the identifier of a new file in the directory: with the least number, from the directory's next one
@@ -231,6 +245,7 @@ impl Records {
         ensures { self.new ≡ records_without files.now self.old }
     {
         moving::leave_files(&mut self.records, files.as_slice());
+        settle_all(&mut self.marks, &self.records, files.as_slice());
     }
 
     /// Drops these records, which are those of files that the piece gives: `given` tells them. It searches for each of
@@ -240,6 +255,7 @@ impl Records {
         ensures { self.new ≡ records_left piece.now.prefix piece.now.given self.old }
     {
         moving::leave_these(&mut self.records, moved.as_slice());
+        settle_these(&mut self.marks, &self.records, moved.as_slice());
     }
 
     /// Whether a file that the piece gives has a record.
@@ -264,7 +280,7 @@ impl Records {
         ensures err { OnErr result (self.new ≡ self.old) }
         ensures valid { AreRecords self.old }
     {
-        moving::split(alloc, &mut self.records, piece)
+        marks::split(alloc, &mut self.marks, &mut self.records, piece)
     }
 
     /// Gives these files their records; none has one here, and none stands twice. `Memory` where memory is wanting; the
@@ -293,7 +309,12 @@ impl Records {
         ensures ok { OnOk result (self.new ≡ with_records records self.old) }
         ensures err { OnErr result (self.new ≡ self.old) }
     {
-        moving::join(alloc, &mut self.records, records.into_vec())
+        marks::join(
+            alloc,
+            &mut self.marks,
+            &mut self.records,
+            records.into_vec(),
+        )
     }
 
     /// Whether it is a directory that has a record here.
@@ -306,8 +327,11 @@ impl Records {
 
 impl Twin for Records {
     fn copy(&self, alloc: Global) -> Result<Records, Memory> {
+        let marks = copy_map(alloc, &self.marks)?;
         Ok(Records {
+            alloc,
             records: copy_map(alloc, &self.records)?,
+            marks,
         })
     }
 

@@ -20,7 +20,7 @@ use Rattle.fs_field.specs.Table.{has_no, no_before, with_row, is_live, is_unlock
 use Rattle.fs_map.specs.Map.{Owners, is_given}
 use Rattle.fs_rows.specs.Answer.{given_row, rows_after}
 use Rattle.fs_rows.specs.Granted.{with_rows}
-use Rattle.fs_rows.specs.Moving.{least_of, lock_below, locked_in}
+use Rattle.fs_rows.specs.Moving.{least_of, locked_in}
 use Rattle.fs_rows.specs.Bounds.{end_or, least_end, EndNoSooner, AreLocksKnown, AreBounds}
 
 -- ## The least end

@@ -7,3 +7,7 @@ pub mod LiveSteps
 pub mod Comes
 pub mod Goes
 pub mod InOrder
+pub mod ByField
+pub mod Tied
+pub mod Seeking
+pub mod Reading

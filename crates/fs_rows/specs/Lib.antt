@@ -6,4 +6,6 @@ pub mod Given
 pub mod Moving
 pub mod Bearing
 -- cited by private calls alone
+pub mod Index
+pub mod Sought
 pub mod Bounds

@@ -1,29 +1,11 @@
 //! Which rows keep a session from a lease.
 ghost use Rattle.std.specs.Prelude.{◌≡◌};
-ghost use Rattle.std.specs.List.{find};
 ghost use Rattle.std.specs.Option.{option_copied};
+ghost use Rattle.fs_rows.specs.Sought.{directory_of, is_list};
 ghost use Rattle.fs_field.specs.Conflict.{is_exclusive, one_shared, names_over, meets, stands_against};
 
 use fs_field::{Field, LeaseKind, Row};
-use fs_ident::Session;
-
-/// The first row that keeps the session from such a lease.
-#[tactic(auto, using(fs_field::proofs::Rows::find_step))]
-pub fn first_against<'a>(
-    rows: &'a [Row],
-    session: Session,
-    field: &Field,
-    kind: LeaseKind,
-) -> Option<&'a Row>
-    ensures { option_copied result ≡ find (stands_against session field.now kind) rows.now }
-{
-    for row in rows {
-        if stands_against(row, session, field, kind) {
-            return Some(row);
-        }
-    }
-    None
-}
+use fs_ident::{FileId, Session};
 
 /// Whether the row keeps the session from such a lease: another session's does, where the two leases do not go
 /// together.
@@ -71,5 +53,22 @@ fn names_over(f: &Field, g: &Field) -> bool
     match (f, g) {
         (Field::Names(a), Field::Child(b, _)) => a == b,
         _ => false,
+    }
+}
+
+/// Whether it is the names of a directory, against which rows on other fields than itself can be.
+pub fn is_list(field: &Field) -> bool
+    ensures { result ≡ is_list field.now }
+{
+    matches!(field, Field::Names(_))
+}
+
+/// The directory of a child, against which rows on the names of that directory can be too.
+pub fn directory_of(field: &Field) -> Option<&FileId>
+    ensures { option_copied result ≡ directory_of field.now }
+{
+    match field {
+        Field::Child(dir, _) => Some(dir),
+        _ => None,
     }
 }

@@ -1,12 +1,15 @@
 //! What a table knows of all its rows, so as not to look at each where there is nothing to find.
-ghost use Rattle.std.specs.Prelude.{◌≡◌, ◌+◌, ◌≤◌, ◌||◌, nat_lt, is_some, map, vec_len, vec_capacity};
+ghost use Rattle.std.specs.Prelude.{◌≡◌, true, ◌+◌, ◌≤◌, ◌||◌, nat_lt, is_some, map, vec_len, vec_capacity};
 ghost use Rattle.std.specs.List.{filter, list_any};
 ghost use Rattle.fs_field.specs.declared.row.Row.{Row as TheRow};
-ghost use Rattle.fs_field.specs.Table.{is_live, unlocked_row};
+ghost use Rattle.fs_field.specs.Table.{is_live, is_ordered, unlocked_row};
 ghost use Rattle.fs_rows.specs.Moving.{locked_in};
+ghost use Rattle.fs_rows.specs.Index.{IsIndexOf};
 ghost use Rattle.fs_rows.specs.Bounds.{end_or, least_end, EndNoSooner, AreLocksKnown};
 
 use crate::grants::keep_live;
+use crate::index::FieldIndex;
+use crate::indexed::forget_over;
 use crate::moving::least_lock;
 use fs_field::{Row, table};
 use fs_ident::{FileId, TxnNo};
@@ -73,16 +76,26 @@ pub(crate) fn lesser(a: u64, b: u64) -> u64
 /// Drops the rows that are over at the reading, where the others end no sooner than `least`, and tells a reading that
 /// is as good for what is left. No row is looked at where none can be over.
 #[tactic(auto, using(crate::proofs::Knowing::none_over))]
-pub(crate) fn lapse_from(rows: &mut Vec<Row>, least: u64, now: u64, skew: u64) -> u64
-    requires { EndNoSooner least rows.old.items }
+pub(crate) fn lapse_from(
+    rows: &mut Vec<Row>,
+    index: &mut FieldIndex,
+    least: u64,
+    now: u64,
+    skew: u64,
+) -> u64
+    requires ends { EndNoSooner least rows.old.items }
+    requires ordered { is_ordered rows.old.items ≡ true }
+    requires index { IsIndexOf index.old rows.old.items }
     ensures live { rows.new.items ≡ filter (is_live now skew) rows.old.items }
     ensures least { EndNoSooner result rows.new.items }
     ensures fewer { vec_len rows.new ≤ vec_len rows.old }
     ensures room { vec_capacity rows.new ≡ vec_capacity rows.old }
+    ensures index { IsIndexOf index.new rows.new.items }
 {
     if is_ahead(now, skew, least) {
         return least;
     }
+    forget_over(index, rows, now, skew);
     keep_live(rows, now, skew);
     least_end(rows)
 }

@@ -1,34 +1,44 @@
 //! Several rows more at once, and those that are over dropped.
-ghost use Rattle.std.specs.Prelude.{◌≡◌, ◌+◌, ◌<◌, ◌≤◌, length, vec_len, vec_capacity, OnOk, OnErr};
+ghost use Rattle.std.specs.Prelude.{◌≡◌, true, ◌+◌, ◌<◌, ◌≤◌, length, vec_len, vec_capacity, OnOk, OnErr};
 ghost use Rattle.std.specs.List.{filter};
-ghost use Rattle.fs_field.specs.Table.{is_live, with_row};
+ghost use Rattle.fs_field.specs.Table.{is_live, is_ordered, with_row};
 ghost use Rattle.fs_rows.specs.Bounds.{EndNoSooner};
 ghost use Rattle.fs_rows.specs.Granted.{with_rows};
+ghost use Rattle.fs_rows.specs.Index.{IsIndexOf};
 
 use crate::bounds::{lapse_from, least_end, lesser};
+use crate::index::FieldIndex;
+use crate::indexed::note_each;
 use fs_field::Row;
 use fs_field::table::{is_live, place};
 use fs_ident::{List, Memory};
+use std::alloc::Global;
 
 /// Drops the rows that are over at the reading, and puts in the others, in order. Room is made first, and nothing can
 /// fail then. No row that no transaction keeps ends sooner than `least`, before and after.
 pub(crate) fn grant_all(
     rows: &mut Vec<Row>,
+    index: &mut FieldIndex,
+    alloc: Global,
     least: &mut u64,
     now: u64,
     skew: u64,
     more: List<Row>,
 ) -> Result<(), Memory>
-    requires { EndNoSooner least.old rows.old.items }
+    requires ends { EndNoSooner least.old rows.old.items }
+    requires ordered { is_ordered rows.old.items ≡ true }
+    requires index { IsIndexOf index.old rows.old.items }
     ensures ok { OnOk result (rows.new.items ≡
         with_rows more (filter (is_live now skew) rows.old.items)) }
     ensures err { OnErr result (rows.new.items ≡ rows.old.items) }
     ensures ends { EndNoSooner least.new rows.new.items }
+    ensures index { IsIndexOf index.new rows.new.items }
 {
     rows.reserve(more.len())?;
     let ends = least_end(more.as_slice());
-    let left = lapse_from(rows, *least, now, skew);
+    let left = lapse_from(rows, index, *least, now, skew);
     *least = lesser(left, ends);
+    note_each(index, alloc, more.as_slice());
     put_each(rows, more);
     Ok(())
 }

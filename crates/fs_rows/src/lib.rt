@@ -5,12 +5,15 @@ mod against;
 mod bounds;
 mod given_files;
 mod grants;
+mod index;
+mod indexed;
 mod law;
 mod live;
 mod moving;
 mod once;
 mod reads;
 mod rows;
+mod seek;
 
 pub use grants::{keep_live, put_each};
 pub use law::{numbers_tell_rows_apart, rows_that_move_leave_tables, tables_are_without_conflict};

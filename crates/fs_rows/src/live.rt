@@ -1,15 +1,17 @@
 //! The rows that are not over at a reading, while the table is only read.
-ghost use Rattle.std.specs.Prelude.{◌≡◌, ◌==◌, ◌&&◌, IfOk};
+ghost use Rattle.std.specs.Prelude.{◌≡◌, ◌==◌, ◌&&◌, true, IfOk};
 ghost use Rattle.std.specs.List.{filter, find, list_any};
 ghost use Rattle.std.specs.Option.{option_copied};
 ghost use Rattle.fs_field.specs.Field.{same_field};
 ghost use Rattle.fs_field.specs.declared.row.Row.{Row as TheRow};
-ghost use Rattle.fs_field.specs.Table.{has_no, is_lease, is_live, lock_on, borne_numbers};
+ghost use Rattle.fs_field.specs.Table.{has_no, is_lease, is_live, is_ordered, lock_on, borne_numbers};
 ghost use Rattle.fs_rows.specs.Bearing.{AreInOrderOnce};
 ghost use Rattle.fs_rows.specs.Answer.{answer};
+ghost use Rattle.fs_rows.specs.Index.{IsIndexOf};
 ghost use Rattle.fs_rows.specs.Live.{unlocked_on};
 ghost use Rattle.fs_rows.specs.Moving.{are_new, fits, locked_in, rows_given};
 
+use crate::index::FieldIndex;
 use crate::once::put_in_order;
 use crate::{moving, reads};
 use fs_field::{Asked, Field, LeaseKind, Row};
@@ -23,6 +25,7 @@ use std::marker::Model;
 #[derive(Drop)]
 pub struct Live<'a> {
     rows: &'a [Row],
+    index: Option<&'a FieldIndex>,
     reading: u64,
     skew: u64,
 }
@@ -32,10 +35,13 @@ impl<'a> Model for Live<'a> {
     ghost use Rattle.std.specs.List.{filter};
     ghost use Rattle.fs_field.specs.declared.row.Row.{Row};
     ghost use Rattle.fs_field.specs.Table.{is_live};
+    ghost use Rattle.fs_rows.specs.Index.{IsSeen};
 
     ghost Value = { List Row };
 
     ghost view = { λ l. filter (is_live l.reading l.skew) l.rows.now };
+
+    ghost invariant = { λ l. IsSeen l.index l.rows.now };
 }
 
 impl<'a> Live<'a> {
@@ -45,6 +51,21 @@ impl<'a> Live<'a> {
     {
         Live {
             rows,
+            index: None,
+            reading: now,
+            skew,
+        }
+    }
+
+    /// The same, with an index of the rows, which are in order.
+    pub(crate) fn through(rows: &'a [Row], index: &'a FieldIndex, now: u64, skew: u64) -> Live<'a>
+        requires index { IsIndexOf index.now rows.now }
+        requires ordered { is_ordered rows.now ≡ true }
+        ensures { result ≡ filter (is_live now skew) rows.now }
+    {
+        Live {
+            rows,
+            index: Some(index),
             reading: now,
             skew,
         }
@@ -54,14 +75,22 @@ impl<'a> Live<'a> {
     pub fn answer(&self, session: Session, field: &Field, kind: LeaseKind) -> Asked
         ensures { result ≡ answer self.now session field.now kind }
     {
-        reads::answer(self.rows, self.reading, self.skew, session, field, kind)
+        reads::answer(
+            self.rows,
+            self.index,
+            self.reading,
+            self.skew,
+            session,
+            field,
+            kind,
+        )
     }
 
     /// The transaction that keeps the first row on the field that one keeps.
     pub fn lock_on(&self, field: &Field) -> Option<TxnNo>
         ensures { result ≡ lock_on field.now self.now }
     {
-        reads::lock_on(self.rows, self.reading, self.skew, field)
+        reads::lock_on(self.rows, self.index, self.reading, self.skew, field)
     }
 
     /// Whether there is the row of this number.

@@ -4,10 +4,13 @@ ghost use Rattle.std.specs.List.{filter, list_any};
 ghost use Rattle.fs_field.specs.Conflict.{plain_conflict};
 ghost use Rattle.fs_field.specs.Table.{is_live};
 ghost use Rattle.fs_rows.specs.Granted.{with_rows};
+ghost use Rattle.fs_rows.specs.Index.{IsIndexOf};
 ghost use Rattle.fs_rows.specs.Moving.{are_new, fits, is_new, least_of, lock_below, locked_in, rows_given, rows_left, stands_beside};
 
 use crate::given_files::GivenFiles;
 use crate::grants::put_each;
+use crate::index::FieldIndex;
+use crate::indexed::note_each;
 use crate::reads;
 use fs_field::Row;
 use fs_field::table::{self, is_live};
@@ -67,11 +70,19 @@ pub fn least_lock(
 }
 
 /// Puts in the rows, in order. Room is made first, and nothing can fail then.
-pub(crate) fn add_all(rows: &mut Vec<Row>, more: List<Row>) -> Result<(), Memory>
+pub(crate) fn add_all(
+    rows: &mut Vec<Row>,
+    index: &mut FieldIndex,
+    alloc: Global,
+    more: List<Row>,
+) -> Result<(), Memory>
+    requires { IsIndexOf index.old rows.old.items }
     ensures ok { OnOk result (rows.new.items ≡ with_rows more rows.old.items) }
     ensures err { OnErr result (rows.new.items ≡ rows.old.items) }
+    ensures index { IsIndexOf index.new rows.new.items }
 {
     rows.reserve(more.len())?;
+    note_each(index, alloc, more.as_slice());
     put_each(rows, more);
     Ok(())
 }
@@ -143,5 +154,5 @@ fn stands_beside(rows: &[Row], now: u64, skew: u64, row: &Row) -> bool
 fn is_against_any(rows: &[Row], now: u64, skew: u64, row: &Row) -> bool
     ensures { result ≡ list_any (plain_conflict row.now) (filter (is_live now skew) rows.now) }
 {
-    reads::first_against(rows, now, skew, row.session, &row.field, row.kind).is_some()
+    reads::first_in(rows, now, skew, row.session, &row.field, row.kind).is_some()
 }

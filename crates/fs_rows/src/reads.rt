@@ -1,43 +1,80 @@
 //! What is read of the rows that are not over at a reading.
-ghost use Rattle.std.specs.Prelude.{◌≡◌, ◌==◌, ◌&&◌, IfOk};
+ghost use Rattle.std.specs.Prelude.{◌≡◌, ◌==◌, ◌&&◌, true, IfOk};
 ghost use Rattle.std.specs.List.{filter, find, list_any};
 ghost use Rattle.std.specs.Option.{option_copied};
 ghost use Rattle.fs_field.specs.Conflict.{stands_against};
 ghost use Rattle.fs_field.specs.Field.{same_field};
 ghost use Rattle.fs_field.specs.declared.row.Row.{Row as TheRow};
-ghost use Rattle.fs_field.specs.Table.{has_no, is_lease, is_live, lock_on, child_number, borne_numbers};
+ghost use Rattle.fs_field.specs.Table.{has_no, is_lease, is_live, is_ordered, lock_on, child_number, borne_numbers};
 ghost use Rattle.fs_rows.specs.Answer.{answer};
+ghost use Rattle.fs_rows.specs.Index.{IsIndexOf, IsSeen};
 ghost use Rattle.fs_rows.specs.Live.{unlocked_on};
 
-use crate::against::stands_against;
+use crate::against::{directory_of, is_list, stands_against};
+use crate::index::FieldIndex;
+use crate::seek::{Sought, least_among, lesser};
 use fs_field::table::{child_number, is_lease, is_live};
 use fs_field::{Asked, Field, LeaseKind, Row};
 use fs_ident::{FileId, LeaseNo, List, Memory, Session, TxnNo};
 use std::alloc::Global;
 
 /// What a question for such a lease is answered.
-pub fn answer(
+pub(crate) fn answer(
     rows: &[Row],
+    index: Option<&FieldIndex>,
     now: u64,
     skew: u64,
     session: Session,
     field: &Field,
     kind: LeaseKind,
 ) -> Asked
+    requires { IsSeen index rows.now }
     ensures { result ≡ answer (filter (is_live now skew) rows.now) session field.now kind }
 {
-    if let Some(txn) = lock_on(rows, now, skew, field) {
+    if let Some(txn) = lock_on(rows, index, now, skew, field) {
         return Asked::Locked { txn };
     }
-    if let Some(row) = first_against(rows, now, skew, session, field, kind) {
+    if let Some(row) = first_against(rows, index, now, skew, session, field, kind) {
         return Asked::Wait { blocker: row.no };
     }
     Asked::Granted { value: None }
 }
 
 /// The transaction that keeps the first row on the field that one keeps.
+pub(crate) fn lock_on(
+    rows: &[Row],
+    index: Option<&FieldIndex>,
+    now: u64,
+    skew: u64,
+    field: &Field,
+) -> Option<TxnNo>
+    requires { IsSeen index rows.now }
+    ensures { result ≡ lock_on field.now (filter (is_live now skew) rows.now) }
+{
+    if let Some(index) = index {
+        if index.is_whole() {
+            return lock_by(rows, index, now, skew, field);
+        }
+    }
+    lock_in(rows, now, skew, field)
+}
+
+/// The same, of the rows with the numbers on the field.
+fn lock_by(rows: &[Row], index: &FieldIndex, now: u64, skew: u64, field: &Field) -> Option<TxnNo>
+    requires index { IsIndexOf index.now rows.now }
+    requires ordered { is_ordered rows.now ≡ true }
+    requires whole { index.now.whole ≡ true }
+    ensures { result ≡ lock_on field.now (filter (is_live now skew) rows.now) }
+{
+    match least_among(rows, index.on(field), now, skew, &Sought::Lock(field)) {
+        Some(row) => row.lock,
+        None => None,
+    }
+}
+
+/// The same, of all rows in turn.
 #[tactic(auto, using(crate::proofs::LiveSteps::lock_step))]
-pub fn lock_on(rows: &[Row], now: u64, skew: u64, field: &Field) -> Option<TxnNo>
+fn lock_in(rows: &[Row], now: u64, skew: u64, field: &Field) -> Option<TxnNo>
     ensures { result ≡ lock_on field.now (filter (is_live now skew) rows.now) }
 {
     for row in rows {
@@ -49,8 +86,61 @@ pub fn lock_on(rows: &[Row], now: u64, skew: u64, field: &Field) -> Option<TxnNo
 }
 
 /// The first row that keeps the session from such a lease.
+pub(crate) fn first_against<'a>(
+    rows: &'a [Row],
+    index: Option<&FieldIndex>,
+    now: u64,
+    skew: u64,
+    session: Session,
+    field: &Field,
+    kind: LeaseKind,
+) -> Option<&'a Row>
+    requires { IsSeen index rows.now }
+    ensures { option_copied result ≡
+        find (stands_against session field.now kind) (filter (is_live now skew) rows.now) }
+{
+    if let Some(index) = index {
+        if index.is_whole() {
+            return first_by(rows, index, now, skew, session, field, kind);
+        }
+    }
+    first_in(rows, now, skew, session, field, kind)
+}
+
+/// The same, of the rows with numbers on the fields that can be against it. For a list of names all rows are looked
+/// at.
+fn first_by<'a>(
+    rows: &'a [Row],
+    index: &FieldIndex,
+    now: u64,
+    skew: u64,
+    session: Session,
+    field: &Field,
+    kind: LeaseKind,
+) -> Option<&'a Row>
+    requires index { IsIndexOf index.now rows.now }
+    requires ordered { is_ordered rows.now ≡ true }
+    requires whole { index.now.whole ≡ true }
+    ensures { option_copied result ≡
+        find (stands_against session field.now kind) (filter (is_live now skew) rows.now) }
+{
+    if is_list(field) {
+        return first_in(rows, now, skew, session, field, kind);
+    }
+    let sought = Sought::Against(session, field, kind);
+    let here = least_among(rows, index.on(field), now, skew, &sought);
+    match directory_of(field) {
+        Some(dir) => {
+            let above = least_among(rows, index.on_names(dir), now, skew, &sought);
+            lesser(here, above)
+        }
+        None => here,
+    }
+}
+
+/// The same, of all rows in turn.
 #[tactic(auto, using(crate::proofs::LiveSteps::find_step))]
-pub fn first_against<'a>(
+pub fn first_in<'a>(
     rows: &'a [Row],
     now: u64,
     skew: u64,

@@ -4,19 +4,22 @@ ghost use Rattle.std.specs.List.{filter, find, list_any};
 ghost use Rattle.std.specs.Option.{option_copied};
 ghost use Rattle.fs_ident.specs.declared.actor.LeaseNo.{LeaseNo};
 ghost use Rattle.fs_field.specs.Field.{tells_no_mode};
-ghost use Rattle.fs_field.specs.Table.{has_no, renewed_row, is_live, is_lease, is_unlocked, locked_row, unlocked_row, rows_on, borne_numbers};
+ghost use Rattle.fs_field.specs.Table.{has_no, renewed_row, is_live, is_lease, is_ordered, is_unlocked, locked_row, unlocked_row, rows_on, borne_numbers};
 ghost use Rattle.fs_rows.specs.Moving.{are_off_modes, fits, locked_in, rows_given, rows_left};
 ghost use Rattle.fs_rows.specs.Bearing.{AreInOrderOnce};
 ghost use Rattle.fs_rows.specs.Answer.{answer, given_row, rows_after, IsLeastAgainst};
 ghost use Rattle.fs_rows.specs.Granted.{with_rows};
+ghost use Rattle.fs_rows.specs.Index.{IsIndexOf};
 ghost use Rattle.fs_rows.specs.Table.{IsTable};
 
-use crate::against::first_against;
 use crate::bounds::{lapse_from, least_end, least_known_lock, lesser, or_locks, unlock_known};
-use crate::grants;
+use crate::index::FieldIndex;
+use crate::indexed::{forget_given, forget_row};
 use crate::live::Live;
 use crate::moving::{add_all, drop_given};
 use crate::once::put_in_order;
+use crate::seek::{put_row, row_at};
+use crate::{grants, reads};
 use fs_field::{Asked, Field, LeaseKind, Row, Unknown, table};
 use fs_ident::{FileId, LeaseNo, List, Memory, Session, Twin, TxnNo};
 use fs_map::{FileMap, MapPiece};
@@ -27,6 +30,8 @@ use std::marker::Model;
 #[derive(Debug, Drop)]
 pub struct Rows {
     rows: List<Row>,
+    /// Their numbers, by field.
+    index: FieldIndex,
     /// No row that no transaction keeps ends sooner.
     least: u64,
     /// Whether a transaction may keep a row.
@@ -37,13 +42,15 @@ impl Model for Rows {
     ghost use Rattle.std.specs.Prelude.{List};
     ghost use Rattle.fs_field.specs.declared.row.Row.{Row};
     ghost use Rattle.fs_rows.specs.Bounds.{AreBounds};
+    ghost use Rattle.fs_rows.specs.Index.{IsIndexOf};
     ghost use Rattle.fs_rows.specs.Table.{IsTable};
 
     ghost Value = { List Row };
 
     ghost view = { λ r. r.rows };
 
-    ghost invariant = { λ r. IsTable r.rows × AreBounds r.least r.locked r.rows };
+    ghost invariant = { λ r. IsTable r.rows × AreBounds r.least r.locked r.rows
+        × IsIndexOf r.index r.rows };
 }
 
 impl Rows {
@@ -53,6 +60,7 @@ impl Rows {
     {
         Rows {
             rows: List::new(alloc),
+            index: FieldIndex::new(alloc),
             least: u64::MAX,
             locked: false,
         }
@@ -84,6 +92,7 @@ impl Rows {
         self.least = lesser(self.least, until);
         ask(
             self.rows.items_mut(),
+            &mut self.index,
             alloc,
             no,
             session,
@@ -99,7 +108,7 @@ impl Rows {
         ensures rows { result ≡ filter (is_live now skew) self.now }
         ensures valid { IsTable result }
     {
-        Live::at(self.rows.as_slice(), now, skew)
+        Live::through(self.rows.as_slice(), &self.index, now, skew)
     }
 
     /// All rows, to be read: at the first reading and with some skew none is over.
@@ -126,7 +135,15 @@ impl Rows {
         ensures valid { IsTable self.new }
     {
         self.locked = or_locks(self.locked, rows.as_slice());
-        grants::grant_all(self.rows.items_mut(), &mut self.least, now, skew, rows)
+        grants::grant_all(
+            self.rows.items_mut(),
+            &mut self.index,
+            alloc,
+            &mut self.least,
+            now,
+            skew,
+            rows,
+        )
     }
 
     /// Lets the row of this number end no sooner than `until`; its end is never lowered. `Unknown` where there is
@@ -151,6 +168,7 @@ impl Rows {
         ensures rows { self.new ≡ filter (λ r. not (has_no no r)) self.old }
         ensures valid { IsTable self.new }
     {
+        forget_row(&mut self.index, self.rows.as_slice(), no);
         table::release(self.rows.items_mut(), no)
     }
 
@@ -159,7 +177,13 @@ impl Rows {
         ensures rows { self.new ≡ filter (is_live now skew) self.old }
         ensures valid { IsTable self.new }
     {
-        self.least = lapse_from(self.rows.items_mut(), self.least, now, skew);
+        self.least = lapse_from(
+            self.rows.items_mut(),
+            &mut self.index,
+            self.least,
+            now,
+            skew,
+        );
     }
 
     /// Whether there is the row of this lease of the session.
@@ -220,6 +244,7 @@ impl Rows {
         ensures valid { IsTable self.new }
     {
         let moved = Live::all(self.rows.as_slice()).given(alloc, piece)?;
+        forget_given(&mut self.index, self.rows.as_slice(), piece);
         drop_given(self.rows.items_mut(), piece);
         Ok(moved)
     }
@@ -229,6 +254,7 @@ impl Rows {
         ensures left { self.new ≡ rows_left piece.now.prefix piece.now.given self.old }
         ensures valid { IsTable self.new }
     {
+        forget_given(&mut self.index, self.rows.as_slice(), piece);
         drop_given(self.rows.items_mut(), piece);
     }
 
@@ -243,7 +269,7 @@ impl Rows {
     {
         self.least = lesser(self.least, least_end(rows.as_slice()));
         self.locked = or_locks(self.locked, rows.as_slice());
-        add_all(self.rows.items_mut(), rows)
+        add_all(self.rows.items_mut(), &mut self.index, alloc, rows)
     }
 
     /// Whether these rows conflict neither with one another nor with a row here, and their numbers differ from one
@@ -266,14 +292,17 @@ impl Rows {
         ensures row { option_copied result ≡ find (has_no no) self.now }
         ensures valid { IsTable self.now }
     {
-        table::row(self.rows.as_slice(), no)
+        row_at(self.rows.as_slice(), no)
     }
 }
 
 impl Twin for Rows {
     fn copy(&self, alloc: Global) -> Result<Rows, Memory> {
+        let rows = self.rows.copy(alloc)?;
+        let index = FieldIndex::of(alloc, rows.as_slice());
         Ok(Rows {
-            rows: self.rows.copy(alloc)?,
+            rows,
+            index,
             least: self.least,
             locked: self.locked,
         })
@@ -285,6 +314,7 @@ impl Twin for Rows {
 /// Answers the question, and adds the row where the lease is given.
 fn ask(
     rows: &mut Vec<Row>,
+    index: &mut FieldIndex,
     alloc: Global,
     no: LeaseNo,
     session: Session,
@@ -292,28 +322,45 @@ fn ask(
     kind: LeaseKind,
     until: u64,
 ) -> Result<Asked, Memory>
+    requires ordered { is_ordered rows.old.items ≡ true }
+    requires index { IsIndexOf index.old rows.old.items }
     ensures answer { IfOk result (λ asked. asked ≡ answer rows.old.items session field.now kind) }
     ensures rows { IfOk result (λ asked. rows.new.items ≡
         rows_after asked (given_row no session field.now kind until) rows.old.items) }
     ensures err { OnErr result (rows.new.items ≡ rows.old.items) }
+    ensures index { IsIndexOf index.new rows.new.items }
 {
-    if let Some(txn) = table::lock_on(rows, field) {
-        return Ok(Asked::Locked { txn });
+    let asked = answer(rows, index, session, field, kind);
+    if let Asked::Granted { .. } = asked {
+        let row = Row {
+            no,
+            session,
+            field: field.copy(alloc)?,
+            kind,
+            until,
+            promise: None,
+            lock: None,
+        };
+        put_row(rows, row)?;
+        index.add(alloc, field, no);
     }
-    if let Some(row) = first_against(rows, session, field, kind) {
-        return Ok(Asked::Wait { blocker: row.no });
-    }
-    let row = Row {
-        no,
-        session,
-        field: field.copy(alloc)?,
-        kind,
-        until,
-        promise: None,
-        lock: None,
-    };
-    table::put(rows, row)?;
-    Ok(Asked::Granted { value: None })
+    Ok(asked)
+}
+
+/// What the question is answered.
+#[tactic(auto, using(crate::proofs::Goes::all_live))]
+fn answer(
+    rows: &[Row],
+    index: &FieldIndex,
+    session: Session,
+    field: &Field,
+    kind: LeaseKind,
+) -> Asked
+    requires ordered { is_ordered rows.now ≡ true }
+    requires index { IsIndexOf index.now rows.now }
+    ensures { result ≡ answer rows.now session field.now kind }
+{
+    reads::answer(rows, Some(index), 0, 1, session, field, kind)
 }
 
 /// The same on the rows as they stand in memory.

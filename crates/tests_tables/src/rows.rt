@@ -113,7 +113,9 @@ fn rows_lapse_at_their_end_and_the_skew(rt: HostRuntime) -> Result<(), Fail> {
 
 const ROW: &str = "Rows { rows: List { items: [Row { no: LeaseNo { server: 0, count: 1 }, session: \
     Session(1), field: Life(FileId { numbers: [3] }), kind: Exclusive, until: 200, promise: \
-    None, lock: None }] }, least: 0, locked: false }";
+    None, lock: None }] }, index: FieldIndex { files: {FileId { numbers: [3] }: OnFile { life: \
+    List { items: [LeaseNo { server: 0, count: 1 }] }, names: List { items: [] }, info: List { \
+    items: [] }, own: List { items: [] }, children: {} }}, whole: true }, least: 0, locked: false }";
 
 /// Each call that needs no memory but the last.
 fn changes(rt: &impl Abort, rows: &mut Rows) {

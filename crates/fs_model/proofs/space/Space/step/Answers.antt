@@ -7,4 +7,4 @@ pub invariant_of-self : goal.invariant_of-self
 invariant_of-self c =
     let old = map_of c.self.inside.nodes in
     let told = step old c.args.by c.args.op.now in
-    either_kept c.step.result old (map_of c.step.new.nodes) told.nodes c.step.ensures.nodes c.step.ensures.err c.self.invariant (step_kept old c.args.by c.args.op.now c.self.invariant)
+    (either_kept c.step.result old (map_of c.step.new.nodes) told.nodes c.step.ensures.nodes c.step.ensures.err c.self.invariant.0 (step_kept old c.args.by c.args.op.now c.self.invariant.0), c.step.ensures.ways)

@@ -8,7 +8,7 @@ use Rattle.fs_record.proofs.records.Records.apply.Goals as goal
 pub invariant_of-self : goal.invariant_of-self
 invariant_of-self c =
     let old = map_of c.self.inside.records in
-    either_kept c.apply.result old (map_of c.apply.new.records) (records_after old c.args.e.now) c.apply.ensures.ok c.apply.ensures.err c.self.invariant (after_kept old c.args.e.now c.self.invariant)
+    (either_kept c.apply.result old (map_of c.apply.new.records) (records_after old c.args.e.now) c.apply.ensures.ok c.apply.ensures.err c.self.invariant.0 (after_kept old c.args.e.now c.self.invariant.0), c.apply.ensures.marks)
 
 pub returns-clause-values : goal.returns-clause-values
-returns-clause-values c = values_follow c.apply.result c.args.self.now (map_of c.self.inside.records) (map_of c.apply.new.records) c.args.e.now (sym c.self.view_is) c.self.invariant c.apply.ensures.ok
+returns-clause-values c = values_follow c.apply.result c.args.self.now (map_of c.self.inside.records) (map_of c.apply.new.records) c.args.e.now (sym c.self.view_is) c.self.invariant.0 c.apply.ensures.ok

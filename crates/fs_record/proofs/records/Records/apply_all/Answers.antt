@@ -8,4 +8,4 @@ pub invariant_of-self : goal.invariant_of-self
 invariant_of-self c =
     let old = map_of c.self.inside.records in
     let es = c.as_slice.result.now in
-    either_kept c.apply_all.result old (map_of c.apply_all.new.records) (records_after_all old es) c.apply_all.ensures.ok c.apply_all.ensures.err c.self.invariant (after_all_kept old es c.self.invariant)
+    (either_kept c.apply_all.result old (map_of c.apply_all.new.records) (records_after_all old es) c.apply_all.ensures.ok c.apply_all.ensures.err c.self.invariant.0 (after_all_kept old es c.self.invariant.0), c.apply_all.ensures.marks)

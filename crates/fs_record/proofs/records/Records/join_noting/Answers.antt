@@ -9,4 +9,4 @@ pub invariant_of-self : goal.invariant_of-self
 invariant_of-self c =
     let old = map_of c.self.inside.records in
     let came = c.into_vec.result.items in
-    either_kept c.join.result old (map_of c.join.new.records) (with_records came old) c.join.ensures.ok c.join.ensures.err c.self.invariant (with_kept old came c.self.invariant (subst AreEachRecords (sym c.into_vec.ensures) c.requires.records))
+    (either_kept c.join.result old (map_of c.join.new.records) (with_records came old) c.join.ensures.ok c.join.ensures.err c.self.invariant.0 (with_kept old came c.self.invariant.0 (subst AreEachRecords (sym c.into_vec.ensures) c.requires.records)), c.join.ensures.marks)

@@ -6,4 +6,4 @@ use Rattle.fs_record.proofs.records.Records.put.Goals as goal
 pub invariant_of-self : goal.invariant_of-self
 invariant_of-self c =
     let old = map_of c.self.inside.records in
-    either_kept c.add.result old (map_of c.add.new.records) (insert old c.args.id c.args.kept) c.add.ensures.ok c.add.ensures.err c.self.invariant (kept_insert old c.args.id c.args.kept c.self.invariant c.requires.kept)
+    (either_kept c.put.result old (map_of c.put.new.records) (insert old c.args.id c.args.kept) c.put.ensures.ok c.put.ensures.err c.self.invariant.0 (kept_insert old c.args.id c.args.kept c.self.invariant.0 c.requires.kept), c.put.ensures.marks)

@@ -14,6 +14,7 @@ invariant_of-self c =
     let bounds : AreBounds c.self.inside.least c.self.inside.locked c.items_mut.result.now.items = subst (AreBounds c.self.inside.least c.self.inside.locked) (sym c.items_mut.ensures.value) c.self.invariant.1 in (
       asked_table c.ask.result _ _ _ _ _ _ _ new c.requires.off_modes table c.ask.ensures.answer c.ask.ensures.rows (c.ask.ensures.err),
       bounds_asked c.ask.result _ _ _ _ _ c.self.inside.least _ _ _ _ c.ask.ensures.rows c.ask.ensures.err c.lesser-self-inside.ensures.first c.lesser-self-inside.ensures.second bounds,
+      c.ask.ensures.index,
     )
 
 pub returns-clause-valid : goal.returns-clause-valid

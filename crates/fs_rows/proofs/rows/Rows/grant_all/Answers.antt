@@ -1,4 +1,4 @@
-use Rattle.std.proofs.Common.{◌≡◌, ◌||◌, ap, sym, subst, ◌∙◌}
+use Rattle.std.proofs.Common.{◌||◌, ap, sym, subst, ◌∙◌}
 use Rattle.std.specs.Prelude.{List, is_some}
 use Rattle.std.specs.List.{filter, list_any}
 use Rattle.fs_field.specs.declared.row.Row.{Row}
@@ -19,6 +19,7 @@ invariant_of-self c =
     let known = c.or_locks-self-inside.ensures ∙ ap (λ (rs : List Row). c.self.inside.locked || list_any (λ (r : Row). is_some r.lock) rs) c.as_slice.ensures in (
       granted_table c.grant_all.result c.items_mut.result.now.items c.grant_all.new.rows.items (filter (is_live c.args.now c.args.skew) c.items_mut.result.now.items) c.args.rows c.grant_all.ensures.ok c.grant_all.ensures.err all table,
       record { ends = c.grant_all.ensures.ends; locks = locks_granted c.grant_all.result c.self.inside.locked c.or_locks-self-inside.result (is_live c.args.now c.args.skew) c.items_mut.result.now.items c.grant_all.new.rows.items c.args.rows c.grant_all.ensures.ok c.grant_all.ensures.err known locks },
+      c.grant_all.ensures.index,
     )
 
 pub returns-clause-valid : goal.returns-clause-valid

@@ -19,6 +19,7 @@ invariant_of-self c =
       joined_table c.add_all.result _ _ _ c.add_all.ensures.ok c.add_all.ensures.err table c.requires.off_modes fit,
       bounds_joined c.add_all.result c.self.inside.least c.least_end.result c.lesser-self-inside.result c.self.inside.locked c.or_locks-self-inside.result c.items_mut.result.now.items c.add_all.new.rows.items c.args.rows
           c.add_all.ensures.ok c.add_all.ensures.err c.lesser-self-inside.ensures.first c.lesser-self-inside.ensures.second ends known bounds,
+      c.add_all.ensures.index,
     )
 
 pub returns-clause-valid : goal.returns-clause-valid

@@ -12,4 +12,5 @@ invariant_of-self c = (
     ends = c.lapse_from-self-inside.ensures.least;
     locks = rw (c.lapse_from-self-inside.ensures.live, c.items_mut.ensures.value) (bounds_filter _ _ _ _ c.self.invariant.1).locks;
   },
+  c.lapse_from-self-inside.ensures.index,
 )

@@ -1,12 +1,14 @@
 use Rattle.std.proofs.Common.{sym, ◌∙◌}
+use Rattle.fs_field.specs.Table.{renewed_row}
+use Rattle.fs_rows.proofs.Tied.{rows_changed}
 use Rattle.fs_rows.proofs.Knowing.{bounds_renewed}
 use Rattle.fs_rows.proofs.Kept.{renewed_table}
-use Rattle.fs_field.proofs.Leases.{none_renewed}
+use Rattle.fs_field.proofs.Leases.{none_renewed, renewed_same}
 use Rattle.fs_rows.proofs.rows.Rows.renew.Goals.{then-renew, else-renew}
 use Rattle.fs_rows.proofs.rows.Rows.renew.Goals as goal
 
 pub invariant_of-self : goal.invariant_of-self
-invariant_of-self c = (rw (c.renew.ensures.rows, c.items_mut.ensures.value) (renewed_table _ _ _ c.self.invariant.0), rw (c.renew.ensures.rows, c.items_mut.ensures.value) (bounds_renewed _ _ _ _ _ c.self.invariant.1))
+invariant_of-self c = (rw (c.renew.ensures.rows, c.items_mut.ensures.value) (renewed_table _ _ _ c.self.invariant.0), rw (c.renew.ensures.rows, c.items_mut.ensures.value) (bounds_renewed _ _ _ _ _ c.self.invariant.1), rw (c.renew.ensures.rows, c.items_mut.ensures.value) (rows_changed _ (renewed_row c.args.no c.args.until) (renewed_same c.args.no c.args.until) _ c.self.invariant.2))
 
 pub returns-clause-valid : goal.returns-clause-valid
 returns-clause-valid c = rw (c.renew.ensures.rows, c.items_mut.ensures.value) (renewed_table _ _ _ c.self.invariant.0)

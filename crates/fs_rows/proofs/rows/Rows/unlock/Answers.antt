@@ -1,5 +1,6 @@
-use Rattle.std.proofs.Common.{◌≡◌, ap, sym, subst, ◌∙◌}
-use Rattle.fs_rows.specs.Table.{IsTable}
+use Rattle.fs_field.specs.Table.{unlocked_row}
+use Rattle.fs_field.proofs.Leases.{unlocked_same}
+use Rattle.fs_rows.proofs.Tied.{rows_changed}
 use Rattle.fs_rows.proofs.Kept.{unlocked_table}
 use Rattle.fs_rows.proofs.rows.Rows.unlock.Goals as goal
 
@@ -7,4 +8,4 @@ pub returns-clause-valid : goal.returns-clause-valid
 returns-clause-valid c = rw (c.unlock_known.ensures.rows, c.items_mut.ensures.value) (unlocked_table _ _ c.self.invariant.0)
 
 pub invariant_of-self : goal.invariant_of-self
-invariant_of-self c = (returns-clause-valid c, record { ends = c.unlock_known.ensures.ends; locks = c.unlock_known.ensures.locks })
+invariant_of-self c = (returns-clause-valid c, record { ends = c.unlock_known.ensures.ends; locks = c.unlock_known.ensures.locks }, rw (c.unlock_known.ensures.rows, c.items_mut.ensures.value) (rows_changed _ (unlocked_row c.args.txn) (unlocked_same c.args.txn) _ c.self.invariant.2))

@@ -1,0 +1,120 @@
+//! Rows by number, and the first of those with given numbers.
+ghost use Rattle.std.specs.Prelude.{◌≡◌, ◌≤◌, ◌&&◌, true, length, unwrap_or, OnOk, OnErr};
+ghost use Rattle.std.specs.List.{find, position};
+ghost use Rattle.std.specs.Option.{option_copied};
+ghost use Rattle.fs_field.specs.Table.{has_no, is_live, is_ordered, no_before, with_row};
+ghost use Rattle.fs_rows.specs.Index.{has_number};
+ghost use Rattle.fs_rows.specs.Sought.{lesser_row, passes};
+
+use crate::against::stands_against;
+use fs_field::table::is_live;
+use fs_field::{Field, LeaseKind, Row};
+use fs_ident::{LeaseNo, Memory, Session};
+
+/// Which rows are sought.
+#[derive(Drop)]
+pub(crate) enum Sought<'a> {
+    /// Those on the field that a transaction keeps.
+    Lock(&'a Field),
+    /// Those that keep the session from such a lease.
+    Against(Session, &'a Field, LeaseKind),
+}
+
+impl<'a> Sought<'a> {
+    fn passes(&self, row: &Row) -> bool
+        ensures { result ≡ passes self.now row.now }
+    {
+        match self {
+            Sought::Lock(field) => row.field.is(field) && row.lock.is_some(),
+            Sought::Against(session, field, kind) => stands_against(row, *session, field, *kind),
+        }
+    }
+}
+
+/// The row of the number, by a search: the rows are in order.
+pub(crate) fn row_at(rows: &[Row], no: LeaseNo) -> Option<&Row>
+    requires { is_ordered rows.now ≡ true }
+    ensures { option_copied result ≡ find (has_no no) rows.now }
+{
+    let at = rows.partition_point(|row| row.no < no);
+    match rows.get(at) {
+        Some(row) => { if row.no == no { Some(row) } else { None } }
+        None => None,
+    }
+}
+
+/// The first of the rows with these numbers that is not over and is sought.
+pub(crate) fn least_among<'a>(
+    rows: &'a [Row],
+    numbers: &[LeaseNo],
+    now: u64,
+    skew: u64,
+    sought: &Sought<'_>,
+) -> Option<&'a Row>
+    requires { is_ordered rows.now ≡ true }
+    ensures { option_copied result ≡ find (λ r. has_number r.no numbers.now &&
+        (is_live now skew r && passes sought.now r)) rows.now }
+{
+    let mut least = None;
+    for no in numbers {
+        least = lesser(least, sought_at(rows, no, now, skew, sought));
+    }
+    least
+}
+
+/// The row of the number, where it is not over and is sought.
+fn sought_at<'a>(
+    rows: &'a [Row],
+    no: &LeaseNo,
+    now: u64,
+    skew: u64,
+    sought: &Sought<'_>,
+) -> Option<&'a Row>
+    requires { is_ordered rows.now ≡ true }
+    ensures { option_copied result ≡ find (λ r. has_no no.now r &&
+        (is_live now skew r && passes sought.now r)) rows.now }
+{
+    match row_at(rows, *no) {
+        Some(row) => {
+            if is_live(row, now, skew) && sought.passes(row) {
+                Some(row)
+            } else {
+                None
+            }
+        }
+        None => None,
+    }
+}
+
+/// The one with the lesser number of two rows, of which either may be wanting.
+pub(crate) fn lesser<'a>(first: Option<&'a Row>, second: Option<&'a Row>) -> Option<&'a Row>
+    ensures { option_copied result ≡
+        lesser_row (option_copied first.entry) (option_copied second.entry) }
+{
+    match (first, second) {
+        (None, _) => second,
+        (Some(_), None) => first,
+        (Some(a), Some(b)) => { if b.no < a.no { second } else { first } }
+    }
+}
+
+/// Puts a row before the first with a greater number: the rows are in order.
+pub(crate) fn put_row(rows: &mut Vec<Row>, row: Row) -> Result<(), Memory>
+    requires { is_ordered rows.old.items ≡ true }
+    ensures ok { OnOk result (rows.new.items ≡ with_row row rows.old.items) }
+    ensures err { OnErr result (rows.new.items ≡ rows.old.items) }
+{
+    let at = place_at(rows, row.no);
+    rows.insert(at, row)?;
+    Ok(())
+}
+
+/// Where the first row with a greater number stands, or the length.
+fn place_at(rows: &[Row], no: LeaseNo) -> usize
+    requires { is_ordered rows.now ≡ true }
+    ensures place { result ≡ unwrap_or (position (λ r. no_before no r.no) rows.now)
+        (length rows.now) }
+    ensures within { result ≤ length rows.now }
+{
+    rows.partition_point(|row| !(no < row.no))
+}
