@@ -1,6 +1,7 @@
 pub mod EntryWires
 pub mod EndWires
 pub mod GrantWires
+pub mod LedWires
 pub mod ClientWires
 pub mod AnswerWires
 pub mod PeerWires

@@ -31,7 +31,8 @@ item_step m i = step m (asker i.by) i.op
 -- end in the last space
 abbrev pub IsSerialRun : NodeMap → List Item → NodeMap → Type 0
 IsSerialRun first [] last = first ≡ last
-IsSerialRun first (i ∷ is) last = (may_admit i.by i.op ≡ true) × ((item_step first i).reply ≡ i.reply) × IsSerialRun (item_step first i).nodes is last
+IsSerialRun first (i ∷ is) last =
+    (may_admit i.by i.op ≡ true) × ((item_step first i).reply ≡ i.reply) × IsSerialRun (item_step first i).nodes is last
 
 -- the spaces after each item
 abbrev pub spaces_after : NodeMap → List Item → List NodeMap

@@ -3,6 +3,15 @@ use Rattle.fs_ident.specs.Ident.{IsId}
 use Rattle.fs_map.specs.declared.piece.MapPiece.{MapPiece}
 use Rattle.fs_record.specs.declared.record.Record.{Record}
 use Rattle.fs_record.specs.declared.parcel.Parcel.{Parcel}
+use Rattle.fs_record.specs.declared.led_end.Why.{Why}
+use Rattle.fs_record.specs.declared.led_end.Why.TheVariants as why_
+use Rattle.fs_record.specs.declared.led_end.LedEnd.{LedEnd}
+use Rattle.fs_record.specs.declared.led_end.LedEnd.TheVariants as led_
+use Rattle.fs_msg.specs.declared.lead.Lead.{Lead}
+use Rattle.fs_msg.specs.declared.prepare.Prepare.{Prepare}
+use Rattle.fs_msg.specs.declared.voted.Voted.{Voted}
+use Rattle.fs_msg.specs.declared.decide.Decide.{Decide}
+use Rattle.fs_msg.specs.declared.done.Done.{Done}
 use Rattle.fs_msg.specs.declared.entry.Entry.{Entry}
 use Rattle.fs_msg.specs.declared.end.End.{End}
 use Rattle.fs_msg.specs.declared.end.End.TheVariants as end_
@@ -15,7 +24,7 @@ use Rattle.fs_msg.specs.declared.peer_msg.PeerMsg.{PeerMsg}
 use Rattle.fs_msg.specs.declared.peer_msg.PeerMsg.TheVariants as peer_
 use Rattle.fs_msg.specs.declared.msg.Msg.{Msg}
 use Rattle.fs_msg.specs.declared.msg.Msg.TheVariants as msg_
-use Rattle.fs_wire.specs.Ranges.{FitsOne, FitsEight, FitsAlways, FitsOption, FitsList, FitsPair, FitsLease, FitsTransaction, FitsField, FitsValue, FitsOp, FitsReply, FitsUse, FitsRow, FitsNode, FitsNext}
+use Rattle.fs_wire.specs.Ranges.{FitsOne, FitsEight, FitsAlways, FitsOption, FitsList, FitsPair, FitsSession, FitsLease, FitsTransaction, FitsPathLease, FitsField, FitsValue, FitsOp, FitsReply, FitsUse, FitsRow, FitsNode, FitsNext, FitsEffect, FitsPart, FitsVote}
 
 pub record FitsEntry (e : Entry) : Type 0 where
   pub n : FitsEight e.n
@@ -30,6 +39,45 @@ FitsEnd (end_.Locked txn) = FitsTransaction txn
 FitsEnd (end_.Moved prefix to) = IsId prefix × FitsOne to
 FitsEnd (end_.NoIds dir) = IsId dir
 FitsEnd (end_.Ended n missed until now) = FitsEight n × FitsLease missed × FitsEight until × FitsEight now
+
+abbrev pub FitsWhy : Why → Type 0
+FitsWhy (why_.Moved prefix to) = IsId prefix × FitsOne to
+FitsWhy (why_.Wanted file) = IsId file
+FitsWhy (why_.Frozen file txn) = IsId file × FitsTransaction txn
+FitsWhy (why_.PathsOut given) = FitsPathLease given
+FitsWhy why_.Changed = Unit {0}
+FitsWhy why_.NoChild = Unit {0}
+
+abbrev pub FitsLedEnd : LedEnd → Type 0
+FitsLedEnd (led_.Done r) = FitsReply r
+FitsLedEnd (led_.Ended missed until now) = FitsLease missed × FitsEight until × FitsEight now
+FitsLedEnd (led_.Again w) = FitsWhy w
+
+pub record FitsLead (m : Lead) : Type 0 where
+  pub n : FitsEight m.n
+  pub op : FitsOp m.op
+  pub file : IsId m.file
+  pub uses : FitsList FitsUse m.uses
+
+pub record FitsPrepare (m : Prepare) : Type 0 where
+  pub txn : FitsTransaction m.txn
+  pub number : FitsOne m.number
+  pub session : FitsSession m.session
+  pub part : FitsPart m.part
+
+pub record FitsVoted (m : Voted) : Type 0 where
+  pub txn : FitsTransaction m.txn
+  pub number : FitsOne m.number
+  pub vote : FitsVote m.vote
+
+pub record FitsDecide (m : Decide) : Type 0 where
+  pub txn : FitsTransaction m.txn
+  pub number : FitsOne m.number
+  pub effects : FitsList FitsEffect m.effects
+
+pub record FitsDone (m : Done) : Type 0 where
+  pub txn : FitsTransaction m.txn
+  pub number : FitsOne m.number
 
 pub record FitsGrant (g : Grant) : Type 0 where
   pub no : FitsLease g.no

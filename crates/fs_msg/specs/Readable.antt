@@ -3,6 +3,9 @@ use Rattle.std.specs.Prelude.{Bool, true, ◌&&◌}
 use Rattle.std.specs.List.{list_all}
 use Rattle.fs_record.specs.declared.record.Record.{Record}
 use Rattle.fs_record.specs.declared.parcel.Parcel.{Parcel}
+use Rattle.fs_msg.specs.declared.lead.Lead.{Lead}
+use Rattle.fs_msg.specs.declared.prepare.Prepare.{Prepare}
+use Rattle.fs_msg.specs.declared.decide.Decide.{Decide}
 use Rattle.fs_msg.specs.declared.entry.Entry.{Entry}
 use Rattle.fs_msg.specs.declared.answer.Grant.{Grant}
 use Rattle.fs_msg.specs.declared.answer.Answer.{Answer}
@@ -13,7 +16,7 @@ use Rattle.fs_msg.specs.declared.peer_msg.PeerMsg.{PeerMsg}
 use Rattle.fs_msg.specs.declared.peer_msg.PeerMsg.TheVariants as peer_
 use Rattle.fs_msg.specs.declared.msg.Msg.{Msg}
 use Rattle.fs_msg.specs.declared.msg.Msg.TheVariants as msg_
-use Rattle.fs_wire.specs.Readable.{is_readable_op, is_readable_value, is_readable_row, is_readable_node, is_readable_next}
+use Rattle.fs_wire.specs.Readable.{is_readable_session, is_readable_op, is_readable_value, is_readable_row, is_readable_node, is_readable_next, is_readable_effect}
 
 -- its operation is readable
 abbrev pub is_readable_entry : Entry → Bool
@@ -22,6 +25,18 @@ is_readable_entry e = is_readable_op e.op
 -- its value is readable
 abbrev pub is_readable_grant : Grant → Bool
 is_readable_grant g = is_readable_value g.value
+
+-- its operation is readable
+abbrev pub is_readable_lead : Lead → Bool
+is_readable_lead m = is_readable_op m.op
+
+-- its session is one that there may be
+abbrev pub is_readable_prepare : Prepare → Bool
+is_readable_prepare m = is_readable_session m.session
+
+-- its effects are readable
+abbrev pub is_readable_decide : Decide → Bool
+is_readable_decide m = list_all is_readable_effect m.effects
 
 -- the entries that it hands in are readable
 abbrev pub is_readable_request : ClientMsg → Bool

@@ -3,6 +3,15 @@ use Rattle.std.specs.Prelude.{ℕ, List, [], ◌∷◌, ◌++◌}
 use Rattle.fs_map.specs.declared.piece.MapPiece.{MapPiece}
 use Rattle.fs_record.specs.declared.record.Record.{Record}
 use Rattle.fs_record.specs.declared.parcel.Parcel.{Parcel}
+use Rattle.fs_record.specs.declared.led_end.Why.{Why}
+use Rattle.fs_record.specs.declared.led_end.Why.TheVariants as why_
+use Rattle.fs_record.specs.declared.led_end.LedEnd.{LedEnd}
+use Rattle.fs_record.specs.declared.led_end.LedEnd.TheVariants as led_
+use Rattle.fs_msg.specs.declared.lead.Lead.{Lead}
+use Rattle.fs_msg.specs.declared.prepare.Prepare.{Prepare}
+use Rattle.fs_msg.specs.declared.voted.Voted.{Voted}
+use Rattle.fs_msg.specs.declared.decide.Decide.{Decide}
+use Rattle.fs_msg.specs.declared.done.Done.{Done}
 use Rattle.fs_msg.specs.declared.entry.Entry.{Entry}
 use Rattle.fs_msg.specs.declared.end.End.{End}
 use Rattle.fs_msg.specs.declared.end.End.TheVariants as end_
@@ -15,7 +24,7 @@ use Rattle.fs_msg.specs.declared.peer_msg.PeerMsg.{PeerMsg}
 use Rattle.fs_msg.specs.declared.peer_msg.PeerMsg.TheVariants as peer_
 use Rattle.fs_msg.specs.declared.msg.Msg.{Msg}
 use Rattle.fs_msg.specs.declared.msg.Msg.TheVariants as msg_
-use Rattle.fs_wire.specs.Spelling.{truth, eight, option, list, pair, identifier, lease, transaction, lease_kind, field, value, op, reply, lease_use, row, node}
+use Rattle.fs_wire.specs.Spelling.{truth, eight, option, list, pair, identifier, session, lease, transaction, path_lease, kind, lease_kind, field, value, op, reply, lease_use, row, node, effect, part, vote}
 
 unfoldable pub entry : Entry → List ℕ
 entry e = eight e.n ++ (op e.op ++ (reply e.reply ++ list lease_use e.uses))
@@ -27,6 +36,37 @@ end (end_.Locked txn) = 2 ∷ transaction txn
 end (end_.Moved prefix to) = 3 ∷ identifier prefix ++ to ∷ []
 end (end_.NoIds dir) = 4 ∷ identifier dir
 end (end_.Ended n missed until now) = 5 ∷ eight n ++ (lease missed ++ (eight until ++ eight now))
+
+-- why something has to be asked again
+unfoldable pub why : Why → List ℕ
+why (why_.Moved prefix to) = 0 ∷ identifier prefix ++ to ∷ []
+why (why_.Wanted file) = 1 ∷ identifier file
+why (why_.Frozen file txn) = 2 ∷ identifier file ++ transaction txn
+why (why_.PathsOut given) = 3 ∷ path_lease given
+why why_.Changed = 4 ∷ []
+why why_.NoChild = 5 ∷ []
+
+-- how a led operation ends
+unfoldable pub led_end : LedEnd → List ℕ
+led_end (led_.Done r) = 0 ∷ reply r
+led_end (led_.Ended missed until now) = 1 ∷ lease missed ++ (eight until ++ eight now)
+led_end (led_.Again w) = 2 ∷ why w
+
+-- what the messages of led operations carry, behind their tags
+unfoldable pub lead : Lead → List ℕ
+lead m = eight m.n ++ (op m.op ++ (identifier m.file ++ (kind m.kind ++ list lease_use m.uses)))
+
+unfoldable pub prepare : Prepare → List ℕ
+prepare m = transaction m.txn ++ (m.number ∷ session m.session ++ part m.part)
+
+unfoldable pub voted : Voted → List ℕ
+voted m = transaction m.txn ++ (m.number ∷ vote m.vote)
+
+unfoldable pub decide : Decide → List ℕ
+decide m = transaction m.txn ++ (m.number ∷ list effect m.effects)
+
+unfoldable pub done : Done → List ℕ
+done m = transaction m.txn ++ m.number ∷ []
 
 unfoldable pub grant : Grant → List ℕ
 grant g = lease g.no ++ (field g.field ++ (lease_kind g.kind ++ (eight g.until ++ value g.value)))

@@ -11,4 +11,7 @@ pub mod FieldWires
 pub mod RowWires
 pub mod OpWires
 pub mod ReplyWires
+pub mod EffectWires
+pub mod PartWires
 pub mod Readable
+pub mod Places

@@ -12,11 +12,11 @@ use Rattle.fs_modes.specs.declared.modes.Mode.{Mode}
 use Rattle.fs_modes.specs.declared.modes.Mode.TheVariants.{AccR, AccW, AccD, DenyR, DenyW, DenyD}
 use Rattle.fs_field.specs.declared.lease_kind.LeaseKind.{LeaseKind}
 use Rattle.fs_field.specs.declared.lease_kind.LeaseKind.TheVariants.{Shared, Exclusive}
-use Rattle.fs_wire.specs.Spelling.{two, truth, kind, lease_kind, mode, modes, session, lease, transaction}
-use Rattle.fs_wire.specs.Ranges.{FitsAlways, FitsModes, FitsSession, FitsLease, FitsTransaction}
+use Rattle.fs_wire.specs.Spelling.{two, truth, kind, lease_kind, mode, modes, session, lease, transaction, path_lease}
+use Rattle.fs_wire.specs.Ranges.{FitsAlways, FitsModes, FitsSession, FitsLease, FitsTransaction, FitsPathLease}
 use Rattle.fs_wire.specs.Tags.{plain}
 use Rattle.fs_wire.specs.Readers.{map_at, one_at, choice_at, truth_of, truth_at}
-use Rattle.fs_wire.specs.Reading.{kind_of, kind_at, lease_kind_of, lease_kind_at, mode_of, mode_at, is_modes_byte, modes_of, modes_at, is_session, session_of, session_at, lease_at, transaction_at}
+use Rattle.fs_wire.specs.Reading.{kind_of, kind_at, lease_kind_of, lease_kind_at, mode_of, mode_at, is_modes_byte, modes_of, modes_at, is_session, session_of, session_at, lease_at, transaction_at, path_lease_at}
 use Rattle.fs_wire.proofs.Readers.{IsOne, IsReader, then-reader, map-reader, one-reader}
 use Rattle.fs_wire.proofs.Says.{Says, says-then, says-map, says-one}
 use Rattle.fs_wire.proofs.Behind.{implied}
@@ -203,7 +203,7 @@ session-says s fits =
 pub session-wire : IsWire session_at FitsSession session (λ s. plain (session s))
 session-wire = record { reads = session-reads; says = session-says }
 
--- ---- leases and transactions
+-- ---- leases, transactions and path leases
 
 pub lease-wire : IsWire lease_at FitsLease lease (λ l. plain (lease l))
 unfolding lease_at
@@ -212,3 +212,7 @@ lease-wire = remade (λ x. record { server = x.0; count = x.1 }) (λ l. (l.serve
 pub transaction-wire : IsWire transaction_at FitsTransaction transaction (λ l. plain (transaction l))
 unfolding transaction_at
 transaction-wire = remade (λ x. record { server = x.0; count = x.1 }) (λ l. (l.server, l.count)) FitsTransaction transaction (λ l. plain (transaction l)) (pair-wire byte-wire eight-wire) (λ v f. f) (λ w f. f) (λ v. refl) (λ w s. s)
+
+pub path_lease-wire : IsWire path_lease_at FitsPathLease path_lease (λ l. plain (path_lease l))
+unfolding path_lease_at
+path_lease-wire = remade (λ x. record { server = x.0; count = x.1 }) (λ l. (l.server, l.count)) FitsPathLease path_lease (λ l. plain (path_lease l)) (pair-wire byte-wire eight-wire) (λ v f. f) (λ w f. f) (λ v. refl) (λ w s. s)

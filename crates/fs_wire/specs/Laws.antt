@@ -9,4 +9,5 @@ IsReadBack {A = A} read Fits text = (v : A) (rest : List ℕ) → Fits v → rea
 
 -- what is read was spelled so
 abbrev pub WasSpelled : {A : Type 0} → Reader A → (A → Type 0) → (A → List ℕ) → Type 0
-WasSpelled {A = A} read Fits text = (bytes rest : List ℕ) (v : A) → IsBytes bytes → read bytes ≡ Ok (v, rest) → Fits v × (bytes ≡ text v ++ rest)
+WasSpelled {A = A} read Fits text =
+    (bytes rest : List ℕ) (v : A) → IsBytes bytes → read bytes ≡ Ok (v, rest) → Fits v × (bytes ≡ text v ++ rest)

@@ -5,3 +5,4 @@ pub mod Readers
 pub mod Reading
 pub mod Readable
 pub mod Laws
+pub mod Places

@@ -5,6 +5,7 @@ use Rattle.fs_ident.specs.Ident.{IsId}
 use Rattle.fs_ident.specs.Name.{IsName}
 use Rattle.fs_ident.specs.declared.actor.LeaseNo.{LeaseNo}
 use Rattle.fs_ident.specs.declared.actor.TxnNo.{TxnNo}
+use Rattle.fs_ident.specs.declared.actor.PathNo.{PathNo}
 use Rattle.fs_ident.specs.declared.actor.Session.{Session}
 use Rattle.fs_ident.specs.declared.limits.TheConstants.{SESSIONS}
 use Rattle.fs_modes.specs.declared.modes.Modes.{Modes}
@@ -15,6 +16,11 @@ use Rattle.fs_field.specs.declared.value.Value.{Value}
 use Rattle.fs_field.specs.declared.value.Value.TheVariants as value_
 use Rattle.fs_field.specs.declared.used.Use.{Use}
 use Rattle.fs_field.specs.declared.row.Row.{Row}
+use Rattle.fs_field.specs.declared.effect.Effect.{Effect}
+use Rattle.fs_field.specs.declared.effect.Effect.TheVariants as effect_
+use Rattle.fs_field.specs.declared.used.Part.{Part}
+use Rattle.fs_field.specs.declared.vote.Vote.{Vote}
+use Rattle.fs_field.specs.declared.vote.Vote.TheVariants as vote_
 use Rattle.fs_model.specs.declared.node.Handle.{Handle}
 use Rattle.fs_model.specs.declared.node.Node.{Node}
 use Rattle.fs_model.specs.declared.op.Op.{Op}
@@ -58,6 +64,9 @@ FitsLease l = FitsOne l.server × FitsEight l.count
 
 abbrev pub FitsTransaction : TxnNo → Type 0
 FitsTransaction t = FitsOne t.server × FitsEight t.count
+
+abbrev pub FitsPathLease : PathNo → Type 0
+FitsPathLease p = FitsOne p.server × FitsEight p.count
 
 -- the next number of a directory, which is one above the greatest when none is left
 abbrev pub FitsNext : ℕ → Type 0
@@ -115,6 +124,26 @@ pub record FitsRow (r : Row) : Type 0 where
   pub field : FitsField r.field
   pub until : FitsEight r.until
   pub lock : FitsOption FitsTransaction r.lock
+
+abbrev pub FitsEffect : Effect → Type 0
+FitsEffect (effect_.SetChild dir n to) = IsId dir × IsName n × FitsOption IsId to
+FitsEffect (effect_.SetParent file dir n) = IsId file × IsId dir × IsName n
+FitsEffect (effect_.NewNode file k dir n) = IsId file × IsId dir × IsName n
+FitsEffect (effect_.RemoveNode file) = IsId file
+FitsEffect (effect_.AddHandle file s h m) = IsId file × FitsSession s × FitsFour h × FitsModes m
+FitsEffect (effect_.RemoveHandle file s h) = IsId file × FitsSession s × FitsFour h
+FitsEffect (effect_.SetInfo file size stamp) = IsId file × FitsEight size × FitsEight stamp
+
+pub record FitsPart (p : Part) : Type 0 where
+  pub file : IsId p.file
+  pub uses : FitsList FitsUse p.uses
+  pub freeze : FitsOption IsId p.freeze
+
+abbrev pub FitsVote : Vote → Type 0
+FitsVote vote_.Yes = Unit {0}
+FitsVote (vote_.Ended missed until now) = FitsLease missed × FitsEight until × FitsEight now
+FitsVote (vote_.Moved prefix to) = IsId prefix × FitsOne to
+FitsVote (vote_.PathsOut given) = FitsPathLease given
 
 pub record FitsHandle (o : Handle) : Type 0 where
   pub session : FitsSession o.session

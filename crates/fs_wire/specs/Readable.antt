@@ -7,6 +7,8 @@ use Rattle.fs_modes.specs.Modes.{has_access}
 use Rattle.fs_field.specs.declared.value.Value.{Value}
 use Rattle.fs_field.specs.declared.value.Value.TheVariants as value_
 use Rattle.fs_field.specs.declared.row.Row.{Row}
+use Rattle.fs_field.specs.declared.effect.Effect.{Effect}
+use Rattle.fs_field.specs.declared.effect.Effect.TheVariants as effect_
 use Rattle.fs_model.specs.declared.node.Handle.{Handle}
 use Rattle.fs_model.specs.declared.node.Node.{Node}
 use Rattle.fs_model.specs.declared.op.Op.{Op}
@@ -43,6 +45,12 @@ is_readable_next n = nat_le 1 n && nat_le n (2 ^ 32)
 -- its session is one that there may be
 abbrev pub is_readable_row : Row → Bool
 is_readable_row r = is_readable_session r.session
+
+-- its session is one that there may be, and where a handle begins it has an access
+abbrev pub is_readable_effect : Effect → Bool
+is_readable_effect (effect_.AddHandle file s h m) = is_readable_session s && has_access m
+is_readable_effect (effect_.RemoveHandle file s h) = is_readable_session s
+is_readable_effect e = true
 
 -- its session is one that there may be, and it has an access
 abbrev pub is_readable_handle : Handle → Bool

@@ -74,7 +74,8 @@ tag_at limit bytes = one_at true (λ b. nat_lt b limit) bytes
 
 -- a number of so many bytes
 unfoldable pub number_at : Width → Reader ℕ
-number_at w bytes = if nat_lt (length bytes) (byte_len w) then stop false 0 else Ok (from_be_bytes w (take (byte_len w) bytes), drop (byte_len w) bytes)
+number_at w bytes = if nat_lt (length bytes) (byte_len w) then stop false 0
+    else Ok (from_be_bytes w (take (byte_len w) bytes), drop (byte_len w) bytes)
 
 unfoldable pub four_at : Reader ℕ
 four_at bytes = number_at w32 bytes

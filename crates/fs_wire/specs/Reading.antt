@@ -3,6 +3,7 @@ use Rattle.std.specs.Prelude.{ℕ, zero, suc, ◌+◌, ◌-◌, ◌*◌, ◌/◌
 use Rattle.fs_ident.specs.Name.{first_bad, is_dots}
 use Rattle.fs_ident.specs.declared.actor.LeaseNo.{LeaseNo}
 use Rattle.fs_ident.specs.declared.actor.TxnNo.{TxnNo}
+use Rattle.fs_ident.specs.declared.actor.PathNo.{PathNo}
 use Rattle.fs_ident.specs.declared.actor.Session.{Session}
 use Rattle.fs_ident.specs.declared.limits.TheConstants.{SESSIONS}
 use Rattle.fs_ident.specs.declared.kind.Kind.{Kind}
@@ -18,6 +19,11 @@ use Rattle.fs_field.specs.declared.lease_kind.LeaseKind.{LeaseKind}
 use Rattle.fs_field.specs.declared.lease_kind.LeaseKind.TheVariants.{Shared, Exclusive}
 use Rattle.fs_field.specs.declared.used.Use.{Use}
 use Rattle.fs_field.specs.declared.row.Row.{Row}
+use Rattle.fs_field.specs.declared.effect.Effect.{Effect}
+use Rattle.fs_field.specs.declared.effect.Effect.TheVariants as effect_
+use Rattle.fs_field.specs.declared.used.Part.{Part}
+use Rattle.fs_field.specs.declared.vote.Vote.{Vote}
+use Rattle.fs_field.specs.declared.vote.Vote.TheVariants as vote_
 use Rattle.fs_model.specs.declared.node.Handle.{Handle}
 use Rattle.fs_model.specs.declared.node.Node.{Node}
 use Rattle.fs_model.specs.declared.op.Op.{Op}
@@ -42,7 +48,9 @@ unfoldable pub lease_kind_at : Reader LeaseKind
 lease_kind_at bytes = map_at lease_kind_of (choice_at 2) bytes
 
 abbrev pub mode_of : ℕ → Mode
-mode_of place = if place == 0 then AccR else if place == 1 then AccW else if place == 2 then AccD else if place == 3 then DenyR else if place == 4 then DenyW else DenyD
+mode_of place =
+    if place == 0 then AccR else if place == 1 then AccW else if place == 2 then AccD
+    else if place == 3 then DenyR else if place == 4 then DenyW else DenyD
 
 unfoldable pub mode_at : Reader Mode
 mode_at bytes = map_at mode_of (choice_at 6) bytes
@@ -52,7 +60,14 @@ abbrev pub is_modes_byte : ℕ → Bool
 is_modes_byte b = nat_lt b 64 && not (b % 8 == 0)
 
 abbrev pub modes_of : ℕ → Modes
-modes_of b = record { acc_r = b % 2 == 1; acc_w = (b / 2) % 2 == 1; acc_d = (b / 4) % 2 == 1; deny_r = (b / 8) % 2 == 1; deny_w = (b / 16) % 2 == 1; deny_d = (b / 32) % 2 == 1 }
+modes_of b = record {
+  acc_r = b % 2 == 1;
+  acc_w = (b / 2) % 2 == 1;
+  acc_d = (b / 4) % 2 == 1;
+  deny_r = (b / 8) % 2 == 1;
+  deny_w = (b / 16) % 2 == 1;
+  deny_d = (b / 32) % 2 == 1;
+}
 
 unfoldable pub modes_at : Reader Modes
 modes_at bytes = map_at modes_of (one_at false is_modes_byte) bytes
@@ -95,7 +110,9 @@ next_at bytes = then_at zeros_at (λ z. then_at (choice_at 2) next_of) bytes
 -- so many bytes of a name: a byte goes wrong that no name holds, and the last one of dots alone
 abbrev pub chars_of : ℕ → List ℕ → Option ℕ → Result (List ℕ × List ℕ) Fault
 chars_of n bytes (Some at) = stop false (length bytes - at)
-chars_of n bytes None = if nat_lt (length bytes) n then stop false 0 else if is_dots (take n bytes) then stop false (1 + length (drop n bytes)) else Ok (take n bytes, drop n bytes)
+chars_of n bytes None =
+    if nat_lt (length bytes) n then stop false 0 else if is_dots (take n bytes) then stop false (1 + length (drop n bytes))
+    else Ok (take n bytes, drop n bytes)
 
 unfoldable pub chars_at : ℕ → Reader (List ℕ)
 chars_at n bytes = chars_of n bytes (first_bad (take n bytes))
@@ -108,6 +125,9 @@ lease_at bytes = map_at (λ x. record { server = x.0; count = x.1 }) (pair_at by
 
 unfoldable pub transaction_at : Reader TxnNo
 transaction_at bytes = map_at (λ x. record { server = x.0; count = x.1 }) (pair_at byte_at eight_at) bytes
+
+unfoldable pub path_lease_at : Reader PathNo
+path_lease_at bytes = map_at (λ x. record { server = x.0; count = x.1 }) (pair_at byte_at eight_at) bytes
 
 -- ---- fields and values
 
@@ -138,10 +158,22 @@ unfoldable pub value_at : Reader Value
 value_at bytes = then_at (tag_at 7) value_of bytes
 
 unfoldable pub lease_use_at : Reader Use
-lease_use_at bytes = map_at (λ x. record { field = x.0; kind = x.1.0; no = x.1.1.0; until = x.1.1.1 }) (pair_at field_at (pair_at lease_kind_at (pair_at lease_at eight_at))) bytes
+lease_use_at bytes = map_at (λ x. record { field = x.0; kind = x.1.0; no = x.1.1.0; until = x.1.1.1 })
+    (pair_at field_at (pair_at lease_kind_at (pair_at lease_at eight_at))) bytes
 
 unfoldable pub row_at : Reader Row
-row_at bytes = map_at (λ x. record { no = x.0; session = x.1.0; field = x.1.1.0; kind = x.1.1.1.0; until = x.1.1.1.1.0; promise = x.1.1.1.1.1.0; lock = x.1.1.1.1.1.1 }) (pair_at lease_at (pair_at session_at (pair_at field_at (pair_at lease_kind_at (pair_at eight_at (pair_at (option_at truth_at) (option_at transaction_at))))))) bytes
+row_at bytes = map_at
+    (λ x. record {
+      no = x.0;
+      session = x.1.0;
+      field = x.1.1.0;
+      kind = x.1.1.1.0;
+      until = x.1.1.1.1.0;
+      promise = x.1.1.1.1.1.0;
+      lock = x.1.1.1.1.1.1;
+    })
+    (pair_at lease_at (pair_at session_at
+    (pair_at field_at (pair_at lease_kind_at (pair_at eight_at (pair_at (option_at truth_at) (option_at transaction_at))))))) bytes
 
 -- ---- nodes
 
@@ -149,7 +181,10 @@ unfoldable pub handle_at : Reader Handle
 handle_at bytes = map_at (λ x. record { session = x.0; h = x.1.0; modes = x.1.1 }) (pair_at session_at (pair_at four_at modes_at)) bytes
 
 unfoldable pub node_at : Reader Node
-node_at bytes = map_at (λ x. record { kind = x.0; parent = x.1.0; children = x.1.1.0; size = x.1.1.1.0; stamp = x.1.1.1.1.0; handles = x.1.1.1.1.1 }) (pair_at kind_at (pair_at (option_at (pair_at identifier_at name_at)) (pair_at (list_at (pair_at name_at identifier_at)) (pair_at eight_at (pair_at eight_at (list_at handle_at)))))) bytes
+node_at bytes = map_at
+    (λ x. record { kind = x.0; parent = x.1.0; children = x.1.1.0; size = x.1.1.1.0; stamp = x.1.1.1.1.0; handles = x.1.1.1.1.1 })
+    (pair_at kind_at (pair_at (option_at (pair_at identifier_at name_at))
+    (pair_at (list_at (pair_at name_at identifier_at)) (pair_at eight_at (pair_at eight_at (list_at handle_at)))))) bytes
 
 -- ---- operations and replies
 
@@ -164,7 +199,8 @@ lookup_to_info_of tag =
 -- the operations of the tags from 4 to 7
 abbrev pub create_to_set_of : ℕ → Reader Op
 create_to_set_of tag =
-    either_at (tag == 4) (map_at (λ x. op_.Create x.0 x.1.0 x.1.1.0 x.1.1.1) (pair_at identifier_at (pair_at name_at (pair_at kind_at (option_at identifier_at))))) (
+    either_at (tag == 4) (map_at (λ x. op_.Create x.0 x.1.0 x.1.1.0 x.1.1.1)
+    (pair_at identifier_at (pair_at name_at (pair_at kind_at (option_at identifier_at))))) (
     either_at (tag == 5) (map_at (λ x. op_.OpenFile x.0 x.1.0 x.1.1) (pair_at identifier_at (pair_at four_at modes_at))) (
     either_at (tag == 6) (map_at (λ x. op_.Close x.0 x.1) (pair_at identifier_at four_at)) (
     map_at (λ x. op_.Set x.0 x.1.0 x.1.1.0 x.1.1.1) (pair_at identifier_at (pair_at four_at (pair_at eight_at eight_at))))))
@@ -173,7 +209,8 @@ create_to_set_of tag =
 abbrev pub delete_to_reap_of : ℕ → Reader Op
 delete_to_reap_of tag =
     either_at (tag == 8) (map_at (λ x. op_.Delete x.0 x.1) (pair_at identifier_at name_at)) (
-    either_at (tag == 9) (map_at (λ x. op_.Rename x.0 x.1.0 x.1.1.0 x.1.1.1) (pair_at identifier_at (pair_at name_at (pair_at identifier_at name_at)))) (
+    either_at (tag == 9) (map_at (λ x. op_.Rename x.0 x.1.0 x.1.1.0 x.1.1.1)
+    (pair_at identifier_at (pair_at name_at (pair_at identifier_at name_at)))) (
     map_at (λ x. op_.Reap x.0 x.1) (pair_at identifier_at session_at)))
 
 abbrev pub op_of : ℕ → Reader Op
@@ -221,3 +258,43 @@ reply_of tag = either_at (nat_lt tag 10) (gone_to_info_of tag) (exists_to_reaped
 
 unfoldable pub reply_at : Reader Reply
 reply_at bytes = then_at (tag_at 26) reply_of bytes
+
+-- ---- led operations
+
+-- the effects of the tags from 0 to 3
+abbrev pub set_child_to_remove_node_of : ℕ → Reader Effect
+set_child_to_remove_node_of tag =
+    either_at (tag == 0) (map_at (λ x. effect_.SetChild x.0 x.1.0 x.1.1)
+    (pair_at identifier_at (pair_at name_at (option_at identifier_at)))) (
+    either_at (tag == 1) (map_at (λ x. effect_.SetParent x.0 x.1.0 x.1.1) (pair_at identifier_at (pair_at identifier_at name_at))) (
+    either_at (tag == 2) (map_at (λ x. effect_.NewNode x.0 x.1.0 x.1.1.0 x.1.1.1)
+    (pair_at identifier_at (pair_at kind_at (pair_at identifier_at name_at)))) (
+    map_at (λ x. effect_.RemoveNode x) identifier_at)))
+
+-- the effects of the tags from 4 on
+abbrev pub add_handle_to_set_info_of : ℕ → Reader Effect
+add_handle_to_set_info_of tag =
+    either_at (tag == 4) (map_at (λ x. effect_.AddHandle x.0 x.1.0 x.1.1.0 x.1.1.1)
+    (pair_at identifier_at (pair_at session_at (pair_at four_at modes_at)))) (
+    either_at (tag == 5) (map_at (λ x. effect_.RemoveHandle x.0 x.1.0 x.1.1) (pair_at identifier_at (pair_at session_at four_at))) (
+    map_at (λ x. effect_.SetInfo x.0 x.1.0 x.1.1) (pair_at identifier_at (pair_at eight_at eight_at))))
+
+abbrev pub effect_of : ℕ → Reader Effect
+effect_of tag = either_at (nat_lt tag 4) (set_child_to_remove_node_of tag) (add_handle_to_set_info_of tag)
+
+unfoldable pub effect_at : Reader Effect
+effect_at bytes = then_at (tag_at 7) effect_of bytes
+
+unfoldable pub part_at : Reader Part
+part_at bytes = map_at (λ x. record { file = x.0; uses = x.1.0; freeze = x.1.1 })
+    (pair_at identifier_at (pair_at (list_at lease_use_at) (option_at identifier_at))) bytes
+
+abbrev pub vote_of : ℕ → Reader Vote
+vote_of tag =
+    either_at (tag == 0) (always_at vote_.Yes) (
+    either_at (tag == 1) (map_at (λ x. vote_.Ended x.0 x.1.0 x.1.1) (pair_at lease_at (pair_at eight_at eight_at))) (
+    either_at (tag == 2) (map_at (λ x. vote_.Moved x.0 x.1) (pair_at identifier_at byte_at)) (
+    map_at (λ x. vote_.PathsOut x) path_lease_at)))
+
+unfoldable pub vote_at : Reader Vote
+vote_at bytes = then_at (tag_at 4) vote_of bytes

@@ -4,6 +4,7 @@ use Rattle.std.specs.List.{flat_map}
 use Rattle.std.specs.Int.{w16, w32, w64, to_be_bytes}
 use Rattle.fs_ident.specs.declared.actor.LeaseNo.{LeaseNo}
 use Rattle.fs_ident.specs.declared.actor.TxnNo.{TxnNo}
+use Rattle.fs_ident.specs.declared.actor.PathNo.{PathNo}
 use Rattle.fs_ident.specs.declared.actor.Session.{Session}
 use Rattle.fs_ident.specs.declared.kind.Kind.{Kind}
 use Rattle.fs_ident.specs.declared.kind.Kind.TheVariants.{File, Dir}
@@ -19,6 +20,11 @@ use Rattle.fs_field.specs.declared.lease_kind.LeaseKind.{LeaseKind}
 use Rattle.fs_field.specs.declared.lease_kind.LeaseKind.TheVariants.{Shared, Exclusive}
 use Rattle.fs_field.specs.declared.used.Use.{Use}
 use Rattle.fs_field.specs.declared.row.Row.{Row}
+use Rattle.fs_field.specs.declared.effect.Effect.{Effect}
+use Rattle.fs_field.specs.declared.effect.Effect.TheVariants as effect_
+use Rattle.fs_field.specs.declared.used.Part.{Part}
+use Rattle.fs_field.specs.declared.vote.Vote.{Vote}
+use Rattle.fs_field.specs.declared.vote.Vote.TheVariants as vote_
 use Rattle.fs_model.specs.declared.node.Handle.{Handle}
 use Rattle.fs_model.specs.declared.node.Node.{Node}
 use Rattle.fs_model.specs.declared.op.Op.{Op}
@@ -71,6 +77,9 @@ lease l = l.server ∷ eight l.count
 
 abbrev pub transaction : TxnNo → List ℕ
 transaction t = t.server ∷ eight t.count
+
+abbrev pub path_lease : PathNo → List ℕ
+path_lease p = p.server ∷ eight p.count
 
 abbrev pub kind : Kind → List ℕ
 kind File = 0 ∷ []
@@ -152,11 +161,36 @@ lease_use u = field u.field ++ (lease_kind u.kind ++ (lease u.no ++ eight u.unti
 
 -- a lease that was given
 unfoldable pub row : Row → List ℕ
-row r = lease r.no ++ (session r.session ++ (field r.field ++ (lease_kind r.kind ++ (eight r.until ++ (option truth r.promise ++ option transaction r.lock)))))
+row r = lease r.no ++
+    (session r.session ++
+    (field r.field ++ (lease_kind r.kind ++ (eight r.until ++ (option truth r.promise ++ option transaction r.lock)))))
+
+-- a change of the namespace
+unfoldable pub effect : Effect → List ℕ
+effect (effect_.SetChild dir n to) = 0 ∷ identifier dir ++ (name n ++ option identifier to)
+effect (effect_.SetParent file dir n) = 1 ∷ identifier file ++ (identifier dir ++ name n)
+effect (effect_.NewNode file k dir n) = 2 ∷ identifier file ++ (kind k ++ (identifier dir ++ name n))
+effect (effect_.RemoveNode file) = 3 ∷ identifier file
+effect (effect_.AddHandle file s h m) = 4 ∷ identifier file ++ (session s ++ (four h ++ modes m))
+effect (effect_.RemoveHandle file s h) = 5 ∷ identifier file ++ (session s ++ four h)
+effect (effect_.SetInfo file size stamp) = 6 ∷ identifier file ++ (eight size ++ eight stamp)
+
+-- what a led operation asks of the server of one file
+unfoldable pub part : Part → List ℕ
+part p = identifier p.file ++ (list lease_use p.uses ++ option identifier p.freeze)
+
+-- whether it is ready
+unfoldable pub vote : Vote → List ℕ
+vote vote_.Yes = 0 ∷ []
+vote (vote_.Ended missed until now) = 1 ∷ lease missed ++ (eight until ++ eight now)
+vote (vote_.Moved prefix to) = 2 ∷ identifier prefix ++ to ∷ []
+vote (vote_.PathsOut given) = 3 ∷ path_lease given
 
 -- the session, its number for the open, and the modes
 abbrev pub handle : Handle → List ℕ
 handle h = session h.session ++ (four h.h ++ modes h.modes)
 
 unfoldable pub node : Node → List ℕ
-node n = kind n.kind ++ (option (pair identifier name) n.parent ++ (list (pair name identifier) n.children ++ (eight n.size ++ (eight n.stamp ++ list handle n.handles))))
+node n = kind n.kind
+    ++ (option (pair identifier name) n.parent
+    ++ (list (pair name identifier) n.children ++ (eight n.size ++ (eight n.stamp ++ list handle n.handles))))

@@ -1,15 +1,15 @@
-//! Sessions, and the numbers of leases and transactions.
+//! Sessions, and the numbers of leases, transactions and path leases.
 ghost use Rattle.std.specs.Prelude.{false, true};
-ghost use Rattle.fs_wire.specs.Spelling.{session, lease, transaction};
+ghost use Rattle.fs_wire.specs.Spelling.{session, lease, transaction, path_lease};
 ghost use Rattle.fs_wire.specs.Readers.{Gives, one_at};
-ghost use Rattle.fs_wire.specs.Reading.{is_session, session_at, lease_at, transaction_at};
-ghost use Rattle.fs_wire.specs.Ranges.{FitsLease, FitsSession, FitsTransaction};
+ghost use Rattle.fs_wire.specs.Reading.{is_session, session_at, lease_at, transaction_at, path_lease_at};
+ghost use Rattle.fs_wire.specs.Ranges.{FitsLease, FitsPathLease, FitsSession, FitsTransaction};
 ghost use Rattle.fs_wire.specs.Readable.{is_readable_session};
 
 use crate::fault::{ReadError, stop};
 use crate::numbers::choice_of;
 use crate::wire::Wire;
-use fs_ident::{LeaseNo, SESSIONS, Session, TxnNo};
+use fs_ident::{LeaseNo, PathNo, SESSIONS, Session, TxnNo};
 use std::alloc::{AllocError, Global};
 
 impl Wire for Session {
@@ -90,5 +90,26 @@ impl Wire for TxnNo {
     fn get(alloc: Global, bytes: &[u8]) -> Result<(TxnNo, &[u8]), ReadError> {
         let ((server, count), rest) = <(u8, u64)>::get(alloc, bytes)?;
         Ok((TxnNo { server, count }, rest))
+    }
+}
+
+impl Wire for PathNo {
+    ghost text = { path_lease };
+
+    ghost at = { path_lease_at };
+
+    ghost fits = { FitsPathLease };
+
+    ghost readable = { λ _. true };
+
+    fn put(&self, out: &mut Vec<u8>) -> Result<(), AllocError> {
+        out.push(self.server)?;
+        self.count.put(out)
+    }
+
+    #[tactic(auto, unfolding(crate::specs::Reading::path_lease_at, crate::specs::Readers::map_at))]
+    fn get(alloc: Global, bytes: &[u8]) -> Result<(PathNo, &[u8]), ReadError> {
+        let ((server, count), rest) = <(u8, u64)>::get(alloc, bytes)?;
+        Ok((PathNo { server, count }, rest))
     }
 }

@@ -1,5 +1,5 @@
 //! Options, pairs and lists.
-ghost use Rattle.std.specs.Prelude.{◌≡◌, true, List, ◌++◌, OnOk, flat_map};
+ghost use Rattle.std.specs.Prelude.{◌≡◌, ◌≤◌, ◌*◌, true, List, ◌++◌, OnOk, flat_map};
 ghost use Rattle.std.specs.List.{list_all, AllByRecursion};
 ghost use Rattle.fs_wire.specs.Spelling.{option, pair, list};
 ghost use Rattle.fs_wire.specs.Readers.{Gives, option_at, pair_at, many_at, list_at};
@@ -103,7 +103,10 @@ pub(crate) fn put_each<T: Wire>(items: &[T], out: &mut Vec<u8>) -> Result<(), Al
 }
 
 /// For how many items room is made at once: no more than are said, and than some sixteen bytes each leave room for.
-fn room_for(count: u64, left: usize) -> usize {
+fn room_for(count: u64, left: usize) -> usize
+    ensures said { result ≤ count }
+    ensures bytes { result * 16 ≤ left }
+{
     min(count, (left / 16) as u64) as usize
 }
 

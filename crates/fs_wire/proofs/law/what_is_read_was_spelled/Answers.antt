@@ -3,6 +3,8 @@ use Rattle.fs_wire.proofs.OpWires.{op-wire}
 use Rattle.fs_wire.proofs.ReplyWires.{reply-wire}
 use Rattle.fs_wire.proofs.RowWires.{row-wire, node-wire}
 use Rattle.fs_wire.proofs.NextWires.{next-wire}
+use Rattle.fs_wire.proofs.EffectWires.{effect-wire}
+use Rattle.fs_wire.proofs.PartWires.{part-wire, vote-wire}
 use Rattle.fs_wire.proofs.Wires.{was_spelled}
 use Rattle.fs_wire.proofs.law.what_is_read_was_spelled.Goals as goal
 
@@ -16,4 +18,7 @@ returns c = record {
   rows = was_spelled row-wire;
   nodes = was_spelled node-wire;
   nexts = was_spelled next-wire;
+  effects = was_spelled effect-wire;
+  parts = was_spelled part-wire;
+  votes = was_spelled vote-wire;
 }

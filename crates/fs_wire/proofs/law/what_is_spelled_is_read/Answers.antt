@@ -3,6 +3,8 @@ use Rattle.fs_wire.proofs.OpWires.{op-wire}
 use Rattle.fs_wire.proofs.ReplyWires.{reply-wire}
 use Rattle.fs_wire.proofs.RowWires.{row-wire, node-wire}
 use Rattle.fs_wire.proofs.NextWires.{next-wire}
+use Rattle.fs_wire.proofs.EffectWires.{effect-wire}
+use Rattle.fs_wire.proofs.PartWires.{part-wire, vote-wire}
 use Rattle.fs_wire.proofs.law.what_is_spelled_is_read.Goals as goal
 use Rattle.fs_wire.proofs.Wires.{is_read_back}
 
@@ -16,4 +18,7 @@ returns c = record {
   rows = is_read_back row-wire;
   nodes = is_read_back node-wire;
   nexts = is_read_back next-wire;
+  effects = is_read_back effect-wire;
+  parts = is_read_back part-wire;
+  votes = is_read_back vote-wire;
 }
