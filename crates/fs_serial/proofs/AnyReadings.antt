@@ -18,9 +18,9 @@ use Rattle.fs_msg.specs.declared.act.Busy.TheVariants as busy
 use Rattle.fs_msg.specs.declared.answer.Answer.{Answer}
 use Rattle.fs_msg.specs.declared.client_note.ClientNote.TheVariants as client_note
 use Rattle.fs_msg.specs.declared.item.Item.{Item}
-use Rattle.fs_msg.specs.declared.peer_msg.PeerMsg.TheVariants.{Parcel as OfParcel}
 use Rattle.fs_msg.specs.declared.server_note.ServerNote.TheVariants as server_note
 use Rattle.fs_record.specs.Records.{nodes_of}
+use Rattle.fs_record.specs.declared.parcel.Parcel.{Parcel}
 use Rattle.fs_client.specs.Acts.{act_on, act_plan, answer_with, answers, ask_for, asks, full_one, hinted, need_file, reads, replies, stays, with_id, worth}
 use Rattle.fs_client.specs.Answers.{answer_plan}
 use Rattle.fs_client.specs.Client.{begun}
@@ -31,7 +31,7 @@ use Rattle.fs_server.specs.declared.event.ServerEvent.{ServerEvent}
 use Rattle.fs_server.specs.declared.event.ServerEvent.TheVariants.{FromClient, FromPeer, Turn, Recall, Move}
 use Rattle.fs_server.specs.declared.state.Server.{Server}
 use Rattle.fs_view.specs.View.{missing_in, reply_in}
-use Rattle.fs_serial.specs.Cluster.{CanCome, ClientEvent, Cluster, Does, Flying, Hears, IsThere, Turns, after_client, after_server, after_server_at, first_cluster}
+use Rattle.fs_serial.specs.Cluster.{CanCome, ClientEvent, Cluster, Does, Hears, IsThere, Turns, after_client, after_server, after_server_at, first_cluster}
 use Rattle.fs_serial.specs.Fresh.{IsMade, made_by, made_in, or_else, root_kind}
 use Rattle.fs_serial.specs.Places.{IsHome, IsSent, PlacesHold}
 use Rattle.fs_serial.specs.Runs.{AtClient, AtServer, CanHappen, CanRun, ClusterEvent, Dated, IsOrderly, after_event, greatest_in, held_by, run}
@@ -121,7 +121,7 @@ first_anyhow servers skew term greatest some = record { journal = []; replied = 
 
 there_too : (k : ℕ) (e : ServerEvent) (journal : List Item) (replied : Session → List Item) (c : Cluster) → IsThere k e c → IsThere k e (told_as journal replied c)
 there_too k (FromClient by m) journal replied c there = there
-there_too k (FromPeer from (OfParcel p)) journal replied c there = there
+there_too k (FromPeer from m) journal replied c there = there
 there_too k Turn journal replied c there = tt
 there_too k (Recall field) journal replied c there = tt
 there_too k (Move prefix to) journal replied c there = there
@@ -189,13 +189,13 @@ module _ (skew greatest : ℕ) (c : Cluster) (h : HoldsAnyhow skew greatest c) w
   home_too : (s : Server) → IsHome h.journal s → IsHome c.journal s
   home_too s p = record { map = p.map; listed = λ place i. made_too place (p.listed place i); rows = p.rows; records = p.records; ordered = p.ordered }
 
-  sent_too : (servers : ℕ) (f : Flying) → IsSent servers h.journal f → IsSent servers c.journal f
-  sent_too servers f p = record { formed = p.formed; given = p.given; listed = λ place i. made_too place (p.listed place i); each = p.each; ordered = p.ordered; to = p.to }
+  sent_too : (a : Parcel) → IsSent h.journal a → IsSent c.journal a
+  sent_too a p = record { formed = p.formed; given = p.given; listed = λ place i. made_too place (p.listed place i); each = p.each; ordered = p.ordered }
 
   pub anyhow_places : PlacesHold c
   anyhow_places =
       let p = h.holds.places in
-      record { one = p.one; homes = λ s i. home_too s (p.homes s i); sent = λ f i. sent_too _ f (p.sent f i); ordered = p.ordered; numbered = p.numbered }
+      record { one = p.one; homes = λ s i. home_too s (p.homes s i); sent = λ a i. sent_too a (p.sent a i); goes = p.goes; ordered = p.ordered; numbered = p.numbered }
 
   pub anyhow_orderly : IsOrderly c
   anyhow_orderly =

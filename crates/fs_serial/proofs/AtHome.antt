@@ -1,15 +1,15 @@
 -- Where everything is at its place, what others have is on files that are not managed here.
-use Rattle.std.proofs.Common.{◌≡◌, ℕ, true, false, List, length, sym, ap, ◌∙◌, subst}
+use Rattle.std.proofs.Common.{◌≡◌, ℕ, true, false, List, sym, ap, ◌∙◌}
 use Rattle.std.proofs.lemmas.Bool.{false_from_ne_true}
 use Rattle.std.specs.Prelude.{◌≢◌, Some, slice_get}
 use Rattle.fs_ident.specs.In.{In}
-use Rattle.fs_ident.proofs.Standing.{In-map, In-got}
+use Rattle.fs_ident.proofs.Standing.{In-got}
 use Rattle.fs_field.specs.Field.{file_of}
 use Rattle.fs_field.specs.declared.row.Row.{Row}
 use Rattle.fs_record.specs.declared.parcel.Parcel.{Parcel}
 use Rattle.fs_server.specs.Server.{is_mine}
 use Rattle.fs_server.specs.declared.state.Server.{Server}
-use Rattle.fs_serial.specs.Cluster.{Cluster, Flying, parcels_of}
+use Rattle.fs_serial.specs.Cluster.{Cluster, parcels_of}
 use Rattle.fs_serial.specs.Places.{PlacesHold}
 use Rattle.fs_serial.proofs.OnePlaces.{not_both, one_server, row_sent}
 
@@ -17,7 +17,7 @@ module _ (c : Cluster) (k : ℕ) (s : Server) (at : slice_get c.servers k ≡ So
   -- what another server manages is not managed here
   elsewhere : (id : List ℕ) (j : ℕ) (t : Server) → slice_get c.servers j ≡ Some t → j ≢ k → is_mine t id ≡ true → is_mine s id ≡ false
   elsewhere id j t there other own = false_from_ne_true (is_mine s id) (λ here.
-      let same : t ≡ s = one_server c.servers c.flying places.one id t s (In-got c.servers j t there) (In-got c.servers k s at) own here in
+      let same : t ≡ s = one_server c.servers (parcels_of c.flying) places.one id t s (In-got c.servers j t there) (In-got c.servers k s at) own here in
       other (sym (places.numbered j t there) ∙ ap (λ (u : Server). u.me) same ∙ places.numbered k s at))
 
   pub others_rows : (j : ℕ) (t : Server) → slice_get c.servers j ≡ Some t → j ≢ k → (r : Row) → In r t.rows → is_mine s (file_of r.field) ≡ false
@@ -25,6 +25,5 @@ module _ (c : Cluster) (k : ℕ) (s : Server) (at : slice_get c.servers k ≡ So
 
   pub parcels_rows : (p : Parcel) → In p (parcels_of c.flying) → (r : Row) → In r p.rows → is_mine s (file_of r.field) ≡ false
   parcels_rows p i r j =
-      let q = In-map (λ (f : Flying). f.parcel) p c.flying i in
-      let gives = row_sent (length c.servers) c.journal q.0 (places.sent q.0 q.1.0) r (subst (λ (x : Parcel). In r x.rows) q.1.1 j) in
-      false_from_ne_true (is_mine s (file_of r.field)) (λ here. not_both c.servers c.flying places.one (file_of r.field) s q.0 (In-got c.servers k s at) q.1.0 here gives)
+      let gives = row_sent c.journal p (places.sent p i) r j in
+      false_from_ne_true (is_mine s (file_of r.field)) (λ here. not_both c.servers (parcels_of c.flying) places.one (file_of r.field) s p (In-got c.servers k s at) i here gives)

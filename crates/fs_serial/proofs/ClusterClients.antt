@@ -19,7 +19,7 @@ use Rattle.fs_client.specs.Client.{begun, committed}
 use Rattle.fs_client.specs.Turns.{turn_plan}
 use Rattle.fs_client.specs.declared.plan.Plan.{Plan}
 use Rattle.fs_client.specs.declared.state.Client.{Client}
-use Rattle.fs_serial.specs.Cluster.{CanCome, ClientEvent, Cluster, Does, Flying, Hears, Lines, Turns, after_client, after_plan, is_with, with_lines, without_first}
+use Rattle.fs_serial.specs.Cluster.{CanCome, ClientEvent, Cluster, Does, Flying, Hears, Lines, Turns, after_client, after_plan, is_with, parcels_of, with_lines, without_first}
 use Rattle.fs_serial.specs.Exchange.{OneExchange, asked_server}
 use Rattle.fs_serial.specs.Fresh.{IsMade}
 use Rattle.fs_serial.specs.Places.{PlacesHold, places_for}
@@ -47,7 +47,8 @@ pub places_later : (c : Cluster) (journal : List Item) (replied : Session → Li
 places_later c journal replied lines still p = record {
   one = p.one;
   homes = λ s i. let home = p.homes s i in record { map = home.map; listed = λ place j. still place (home.listed place j); rows = home.rows; records = home.records; ordered = home.ordered };
-  sent = λ f i. let q = p.sent f i in record { formed = q.formed; given = q.given; listed = λ place j. still place (q.listed place j); each = q.each; ordered = q.ordered; to = q.to };
+  sent = λ a i. let q = p.sent a i in record { formed = q.formed; given = q.given; listed = λ place j. still place (q.listed place j); each = q.each; ordered = q.ordered };
+  goes = p.goes;
   ordered = p.ordered;
   numbered = p.numbered;
 }
@@ -59,13 +60,13 @@ not_empty [] n h = absurd (omega arith)
 not_empty (s ∷ ss) n h = (s, inl refl)
 
 -- each identifier has a place: a server, or a parcel on its way to one
-server_for : (servers ss : List Server) (fs : List Flying) → ((s : Server) → In s ss → In s servers) → ((f : Flying) → In f fs → f.to < length servers) → places_for [] ss fs ≡ 1 → (s : Server) × In s servers
+server_for : (servers ss : List Server) (fs : List Flying) → ((s : Server) → In s ss → In s servers) → ((f : Flying) → In f fs → f.to < length servers) → places_for [] ss (parcels_of fs) ≡ 1 → (s : Server) × In s servers
 server_for servers (s ∷ ss) fs among to one = (s, among s (inl refl))
 server_for servers [] (f ∷ fs) among to one = not_empty servers f.to (to f (inl refl))
 server_for servers [] [] among to one = absurd (omega arith)
 
 pub some_server : (c : Cluster) → PlacesHold c → (s : Server) × In s c.servers
-some_server c p = server_for c.servers c.servers c.flying (λ s i. i) (λ f i. (p.sent f i).to) (p.one [])
+some_server c p = server_for c.servers c.servers c.flying (λ s i. i) p.goes (p.one [])
 
 -- ## A client's event as each server sees it
 

@@ -8,6 +8,7 @@ use Rattle.fs_ident.proofs.Passing.{found}
 use Rattle.fs_ident.proofs.Standing.{In-got, In-mapped}
 use Rattle.fs_ident.proofs.Same.{one_session}
 use Rattle.fs_msg.specs.declared.client_msg.ClientMsg.{ClientMsg}
+use Rattle.fs_msg.specs.declared.peer_msg.PeerMsg.{PeerMsg}
 use Rattle.fs_msg.specs.declared.peer_msg.PeerMsg.TheVariants as peer
 use Rattle.fs_msg.specs.declared.server_note.ServerNote.{ServerNote}
 use Rattle.fs_msg.specs.declared.server_note.ServerNote.TheVariants as note
@@ -180,9 +181,8 @@ module _ (skew greatest k : ℕ) (c : Cluster) (s : Server) (at : slice_get c.se
       let coming : world.IsThere e (world_of s c).ends = In-mapped (λ (n : ℕ × ClientMsg). n.1) (k, m) (c.lines by).up (found (is_with k) (c.lines by).up (k, m) there).0 in
       same_step e there (event_step e s) (event_step e (with_all s c)) refl (begun_same greatest k c s e at h.places view coming (λ z. absurd (cc))) (begun_keeps greatest (world_of s c) e refl coming view)
 
-  pub step_keeps : (e : ServerEvent) → IsThere k e c → ClusterHolds skew greatest (after_step k e (event_step e s) c)
-  step_keeps (event.FromClient by m) there = asked_event by m there
-  step_keeps (event.FromPeer from (peer.Parcel p)) there =
+  peer_event : (from : ℕ) (m : PeerMsg) → IsThere k (event.FromPeer from m) c → ClusterHolds skew greatest (after_step k (event.FromPeer from m) (event_step (event.FromPeer from m) s) c)
+  peer_event from (peer.Parcel p) there =
       let e = event.FromPeer from (peer.Parcel p) in
       let fits : fits_here p s ≡ true = parcel_fits k from c s p at h.places there (counts_of c.servers) view.all.servers view.all.kept in
       let x = only_noted (note.Installs p.prefix) (installed p s) in
@@ -190,6 +190,10 @@ module _ (skew greatest k : ℕ) (c : Cluster) (s : Server) (at : slice_get c.se
       let same = arriving_same k from c s p at h.places there in
       subst (λ (y : Stepped). ClusterHolds skew greatest (after_step k e y c)) is
       (moved_step e there x is (install_quiet (note.Installs p.prefix) p s) (λ y. refl) same.0 same.1 (arriving_places k from c s p at h.places there))
+
+  pub step_keeps : (e : ServerEvent) → IsThere k e c → ClusterHolds skew greatest (after_step k e (event_step e s) c)
+  step_keeps (event.FromClient by m) there = asked_event by m there
+  step_keeps (event.FromPeer from m) there = peer_event from m there
   step_keeps event.Turn there =
       same_step event.Turn there (turn_step s) (turn_over (lapsed_in s) (with_all s c)) refl (turn_same k c s at h.places) (turn_some_keeps greatest (world_of s c) (lapsed_in s) refl (all_let_go c k s at h.places) view)
   step_keeps (event.Recall field) there =
@@ -204,7 +208,7 @@ module _ (skew greatest k : ℕ) (c : Cluster) (s : Server) (at : slice_get c.se
 
 pub there_begun : (now k : ℕ) (s : Server) (e : ServerEvent) (c : Cluster) → IsThere k e c → IsThere k e (begun_at now k s c)
 there_begun now k s (event.FromClient by m) c there = there
-there_begun now k s (event.FromPeer from (peer.Parcel p)) c there = there
+there_begun now k s (event.FromPeer from m) c there = there
 there_begun now k s event.Turn c there = tt
 there_begun now k s (event.Recall field) c there = tt
 there_begun now k s (event.Move prefix to) c there = subst (λ n. to < n) (sym (length-set c.servers k (begun now s))) there

@@ -1,5 +1,5 @@
 -- Sums over lists, and how many items pass a test.
-use Rattle.std.proofs.Common.{◌≡◌, ◌+◌, ◌≤◌, ℕ, zero, suc, Bool, true, false, List, [], ◌∷◌, ◌++◌, refl, ap, sym, ◌∙◌, inl, inr, cond, length, map, arith}
+use Rattle.std.proofs.Common.{◌≡◌, ◌+◌, ◌≤◌, ℕ, zero, suc, Bool, true, false, List, [], ◌∷◌, ◌++◌, refl, ap, sym, ◌∙◌, inl, inr, cond, length, arith}
 use Rattle.std.specs.Prelude.{Some, slice_get, slice_set, ◌||◌}
 use Rattle.std.specs.List.{filter, find, list_any}
 use Rattle.fs_ident.specs.In.{In}
@@ -13,10 +13,6 @@ total f (x ∷ xs) = f x + total f xs
 pub total_append : {X : Type 0} (f : X → ℕ) (xs ys : List X) → total f (xs ++ ys) ≡ total f xs + total f ys
 total_append f [] ys = omega arith
 total_append f (x ∷ xs) ys = let e = total_append f xs ys in omega arith
-
-pub total_map : {X Y : Type 0} (f : Y → ℕ) (g : X → Y) (xs : List X) → total f (map g xs) ≡ total (λ x. f (g x)) xs
-total_map f g [] = refl
-total_map f g (x ∷ xs) = ap (λ n. f (g x) + n) (total_map f g xs)
 
 -- with one item replaced
 pub total_set : {X : Type 0} (f : X → ℕ) (xs : List X) (k : ℕ) (x y : X) → slice_get xs k ≡ Some x → total f (slice_set xs k y) + f x ≡ total f xs + f y

@@ -12,13 +12,14 @@ use Rattle.fs_msg.specs.declared.client_msg.ClientMsg.{ClientMsg}
 use Rattle.fs_msg.specs.declared.client_msg.ClientMsg.TheVariants.{Ask, Renew, Release, Ship}
 use Rattle.fs_msg.specs.declared.entry.Entry.{Entry}
 use Rattle.fs_msg.specs.declared.msg.Msg.{Msg}
+use Rattle.fs_msg.specs.declared.peer_msg.PeerMsg.{PeerMsg}
 use Rattle.fs_msg.specs.declared.peer_msg.PeerMsg.TheVariants as peer
 use Rattle.fs_parcel.specs.Parcel.{move_refusal}
 use Rattle.fs_parcel.specs.declared.error.MoveError.{MoveError}
 use Rattle.fs_record.specs.Effects.{tells_its_effects}
 use Rattle.fs_record.specs.declared.parcel.Parcel.{Parcel}
 use Rattle.fs_server.specs.Asks.{asked_in, recalls_at}
-use Rattle.fs_server.specs.Moves.{fits_here, move_at, parcel_at}
+use Rattle.fs_server.specs.Moves.{fits_here, move_at, parcel_at, peer_step}
 use Rattle.fs_server.specs.Reaps.{lapsed_in, reap_from, recalls_for, turn_over}
 use Rattle.fs_server.specs.Server.{strange, to_session}
 use Rattle.fs_server.specs.Ships.{ship_from, shipped}
@@ -61,6 +62,9 @@ module _ (k : ℕ) (asked : Session → Option ℕ) where
   parcel_due true p s = none_due
   parcel_due false p s = none_due
 
+  peer_due : (m : PeerMsg) (s : Server) → AreDue k (peer_step m s).out.send asked
+  peer_due (peer.Parcel p) s = parcel_due (fits_here p s) p s
+
   move_due : (o : Option MoveError) (prefix : List ℕ) (to : ℕ) (s : Server) → AreDue k (move_at o prefix to s).out.send asked
   move_due None prefix to s = λ x a i d. elim i as (λ _. asked x ≡ Some k) [
     | inl e ↦ let same : OfSession x ≡ OfServer to = ap (λ (p : Peer × Msg). p.0) e in absurd (cc)
@@ -75,7 +79,7 @@ module _ (k : ℕ) (asked : Session → Option ℕ) where
 
   pub event_due : (e : ServerEvent) (s : Server) → HasAsked e → AreDue k (event_step e s).out.send asked
   event_due (event.FromClient by m) s due = message_due by m s due
-  event_due (event.FromPeer from (peer.Parcel p)) s due = parcel_due (fits_here p s) p s
+  event_due (event.FromPeer from m) s due = peer_due m s
   event_due event.Turn s due = turn_due (lapsed_in s) s
   event_due (event.Recall field) s due = recalls_due k (recalls_of (recalled_on field s)) asked (recall_all (recalled_on field s))
   event_due (event.Move prefix to) s due = move_due (move_refusal s.records s.rows s.map s.me prefix to None) prefix to s

@@ -141,7 +141,8 @@ module _ (n skew term greatest : ℕ) where
   first_places = record {
     one = λ id. let q = first_manages n skew term id in omega arith;
     homes = each (IsHome []) (λ k. first_home k skew term);
-    sent = λ f i. absurd i;
+    sent = λ p i. absurd i;
+    goes = λ f i. absurd i;
     ordered = ap is_ordered no_row;
     numbered = λ k s e. ap (λ (t : Server). t.me) (first_at skew term (suc n) k s e);
   }

@@ -11,7 +11,9 @@ use Rattle.fs_map.specs.Map.{begins, gives, server_of}
 use Rattle.fs_map.proofs.Owned.{piece_piece, taken_map}
 use Rattle.fs_moderows.proofs.Witnesses.{In_filtered}
 use Rattle.fs_parcel.specs.Parcel.{parcel_of}
+use Rattle.fs_msg.specs.declared.peer_msg.PeerMsg.TheVariants.{Parcel as OfParcel}
 use Rattle.fs_record.specs.Moving.{records_given, records_left}
+use Rattle.fs_record.specs.declared.parcel.Parcel.{Parcel}
 use Rattle.fs_record.specs.declared.record.Record.{Record}
 use Rattle.fs_record.proofs.Parting.{left_at}
 use Rattle.fs_record.proofs.Returning.{there}
@@ -33,10 +35,14 @@ chosen : {X : Type 0} (b : Bool) (o : Option X) (r : X) → cond (not b) o None 
 chosen true o r h = absurd (cc)
 chosen false o r h = (h, refl)
 
-abbrev pub going : ℕ → List ℕ → ℕ → Server → Flying
-going k prefix to s = record { from = k; to = to; parcel = parcel_of s.records s.rows s.map s.me prefix }
+-- the parcel, and its message
+abbrev pub parted : List ℕ → Server → Parcel
+parted prefix s = parcel_of s.records s.rows s.map s.me prefix
 
-module _ (k : ℕ) (prefix : List ℕ) (to : ℕ) (s : Server) where
+abbrev pub going : ℕ → List ℕ → ℕ → Server → Flying
+going k prefix to s = record { from = k; to = to; message = OfParcel (parted prefix s) }
+
+module _ (prefix : List ℕ) (to : ℕ) (s : Server) where
   abbrev given : Keyed Bool
   given = piece_of s.map s.me prefix
 
@@ -52,7 +58,7 @@ module _ (k : ℕ) (prefix : List ℕ) (to : ℕ) (s : Server) where
     | inr e ↦ inr (In_filtered (λ (x : List ℕ × Record). gives prefix given x.0) _ (id, r) (entry_of s.records id r h) e)
   ]
 
-  pub parts : ArePartsOf s (without_given prefix to s) (going k prefix to s)
+  pub parts : ArePartsOf s (without_given prefix to s) (parted prefix s)
   parts = record {
     rows_part = row_either;
     rows_left = λ r i. In-filter (λ r. not (is_on_given prefix given r)) r s.rows i;
@@ -78,5 +84,5 @@ module _ (k : ℕ) (prefix : List ℕ) (to : ℕ) (s : Server) where
     split false true gone then now a o g t = let e : one_if (now == s.me) ≡ 0 = ap one_if o in rw (t, g) (omega arith)
     split false false gone then now a o g t = let e : one_if (now == s.me) ≡ 0 = ap one_if o in rw (t, g) (omega arith)
 
-    pub managed : (to == s.me) ≡ false → AreManaged s (without_given prefix to s) (going k prefix to s)
+    pub managed : (to == s.me) ≡ false → AreManaged s (without_given prefix to s) (parted prefix s)
     managed other id = split (server_of s.map id == s.me) (begins prefix id) (gives prefix given id) (server_of (map_after_give s.map s.me prefix to) id) (server_of s.map id) other refl ((piece_piece s.map s.me prefix mine).1 id) (tells id)

@@ -1,5 +1,5 @@
 -- At the begin of a server's event its own rows that are over lapse.
-use Rattle.std.proofs.Common.{◌≡◌, ℕ, zero, suc, ◌+◌, ◌≤◌, ◌==◌, ◌||◌, max, not, nat_lt, Bool, true, false, List, [], ◌∷◌, length, length-set, cond, refl, sym, ap, ◌∙◌, subst, inl, inr, arith}
+use Rattle.std.proofs.Common.{◌≡◌, ℕ, zero, suc, ◌+◌, ◌<◌, ◌≤◌, ◌==◌, ◌||◌, max, not, nat_lt, Bool, true, false, List, [], ◌∷◌, length, length-set, cond, refl, sym, ap, ◌∙◌, subst, inl, inr, arith}
 use Rattle.std.specs.Prelude.{◌≢◌, Some, is_some, slice_get, slice_set}
 use Rattle.std.specs.List.{filter}
 use Rattle.std.proofs.lemmas.Bool.{or_parts, eqb-true, eqb-false, ltb-false}
@@ -18,9 +18,9 @@ use Rattle.fs_record.specs.declared.parcel.Parcel.{Parcel}
 use Rattle.fs_rows.specs.Granted.{with_rows}
 use Rattle.fs_server.specs.Server.{begun, is_mine}
 use Rattle.fs_server.specs.declared.state.Server.{Server}
-use Rattle.fs_serial.specs.Cluster.{Cluster, Flying, parcels_of}
+use Rattle.fs_serial.specs.Cluster.{Cluster, parcels_of}
 use Rattle.fs_serial.specs.Joined.{rows_of_all, with_all_of, with_parcels, with_rows_in, with_rows_of}
-use Rattle.fs_serial.specs.Places.{IsHome, IsSent, PlacesHold, gives_it}
+use Rattle.fs_serial.specs.Places.{IsHome, PlacesHold, gives_it}
 use Rattle.fs_serial.specs.Seen.{ClusterHolds, given_at, reaps_at, world_of}
 use Rattle.fs_serial.specs.World.{World, WorldHolds}
 use Rattle.fs_serial.proofs.AtHome.{others_rows, parcels_rows}
@@ -96,10 +96,11 @@ same_records (x ∷ xs) (suc k) s t m at e = same_records xs k s t (with_records
 
 pub places_set : (c : Cluster) (k : ℕ) (s t : Server) → slice_get c.servers k ≡ Some s → PlacesHold c → t.map ≡ s.map → t.me ≡ s.me → IsHome c.journal t → is_ordered (rows_of_all (slice_set c.servers k t) (parcels_of c.flying)) ≡ true → PlacesHold (record c { servers = slice_set c.servers k t })
 places_set c k s t at p map me home ordered = record {
-  one = λ id. ap (λ (n : ℕ). n + length (filter (λ (f : Flying). gives_it id f) c.flying))
+  one = λ id. ap (λ (n : ℕ). n + length (filter (gives_it id) (parcels_of c.flying)))
       (as_many (λ (u : Server). is_mine u id) c.servers k s t at (ap (λ m. server_of m id == t.me) map ∙ ap (λ n. server_of s.map id == n) me)) ∙ p.one id;
   homes = λ u i. elim (In_set c.servers k t u i) as (λ _. IsHome c.journal u) [ inl e ↦ subst (IsHome c.journal) (sym e) home | inr j ↦ p.homes u j ];
-  sent = λ f i. subst (λ n. IsSent n c.journal f) (sym (length-set c.servers k t)) (p.sent f i);
+  sent = p.sent;
+  goes = λ f i. subst (λ n. f.to < n) (sym (length-set c.servers k t)) (p.goes f i);
   ordered = ordered;
   numbered = λ j u e. elim (j == k) as (λ b. (j == k) ≡ b → u.me ≡ j) [
     | true ↦ λ q.

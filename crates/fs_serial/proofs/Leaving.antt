@@ -21,6 +21,7 @@ use Rattle.fs_parcel.proofs.Parting.{parcel_formed, parcel_of_given}
 use Rattle.fs_parcel.proofs.Refused.{is_mine as prefix_is_mine}
 use Rattle.fs_record.specs.Moving.{records_left}
 use Rattle.fs_record.specs.Records.{AreRecords, IsRecord}
+use Rattle.fs_record.specs.declared.parcel.Parcel.{Parcel}
 use Rattle.fs_record.specs.declared.record.Record.{Record}
 use Rattle.fs_record.proofs.Kept.{record_at}
 use Rattle.fs_record.proofs.Parting.{left_at}
@@ -37,18 +38,19 @@ use Rattle.fs_serial.specs.Cluster.{Cluster, Flying, after_step, parcels_of}
 use Rattle.fs_serial.specs.Fresh.{IsMade}
 use Rattle.fs_serial.specs.Joined.{records_of_all, rows_of_all}
 use Rattle.fs_serial.specs.Parts.{ServersFit}
-use Rattle.fs_serial.specs.Places.{IsHome, IsSent, PlacesHold}
+use Rattle.fs_serial.specs.Places.{IsHome, IsSent, OnePlace, PlacesHold}
 use Rattle.fs_serial.specs.Refusals.{rows_in}
 use Rattle.fs_serial.specs.Runs.{held_by}
 use Rattle.fs_serial.specs.Seen.{with_all}
 use Rattle.fs_serial.specs.Sight.{Counts, sight_of}
 use Rattle.fs_serial.proofs.Counted.{total, total_append, total_set}
 use Rattle.fs_serial.proofs.Facts.{there_is}
-use Rattle.fs_serial.proofs.GoingParts.{going, managed, parts, still_mine}
+use Rattle.fs_serial.proofs.GoingParts.{going, managed, parted, parts, still_mine}
 use Rattle.fs_serial.proofs.HeldRecords.{has_record, same_records}
 use Rattle.fs_serial.proofs.HeldRows.{same_rows}
 use Rattle.fs_serial.proofs.Listed.{map_made, piece_made}
 use Rattle.fs_serial.proofs.OnePlaces.{one_record}
+use Rattle.fs_serial.proofs.Parcels.{parcels-append}
 use Rattle.fs_serial.proofs.Parted.{IsInPlace, one_parted, record_parted, record_whole, row_parted, row_whole, times_same}
 use Rattle.fs_serial.proofs.Replaced.{replaced_places}
 use Rattle.fs_serial.proofs.SetAt.{In_kept, In_new, In_set, set_same}
@@ -56,49 +58,62 @@ use Rattle.fs_serial.proofs.Times.{all_once}
 
 -- ## What is there then
 
+last_or_before : {X : Type 0} (xs : List X) (y x : X) → In x (xs ++ y ∷ []) → (x ≡ y) ⊎ In x xs
+last_or_before xs y x i = elim (In-append x xs (y ∷ []) i) as (λ _. (x ≡ y) ⊎ In x xs) [
+  | inl j ↦ inr j
+  | inr j ↦ elim j as (λ _. (x ≡ y) ⊎ In x xs) [ inl e ↦ inl e | inr z ↦ absurd z ]
+]
+
 module _ (k : ℕ) (c : Cluster) (s : Server) (prefix : List ℕ) (to : ℕ) (at : slice_get c.servers k ≡ Some s) where
   abbrev keeps : Server
   keeps = without_given prefix to s
 
-  abbrev goes : Flying
-  goes = going k prefix to s
+  abbrev goes : Parcel
+  goes = parted prefix s
 
   abbrev servers_then : List Server
   servers_then = slice_set c.servers k keeps
 
   abbrev flying_then : List Flying
-  flying_then = c.flying ++ goes ∷ []
+  flying_then = c.flying ++ going k prefix to s ∷ []
 
-  last_or_before : (x : Flying) → In x flying_then → (x ≡ goes) ⊎ In x c.flying
-  last_or_before x i = elim (In-append x c.flying (goes ∷ []) i) as (λ _. (x ≡ goes) ⊎ In x c.flying) [
-    | inl j ↦ inr j
-    | inr j ↦ elim j as (λ _. (x ≡ goes) ⊎ In x c.flying) [ inl e ↦ inl e | inr z ↦ absurd z ]
-  ]
+  abbrev before : List Parcel
+  before = parcels_of c.flying
 
-  in_place : IsInPlace s keeps goes c.servers servers_then c.flying flying_then
+  abbrev parcels_then : List Parcel
+  parcels_then = before ++ goes ∷ []
+
+  parcels_are : parcels_of flying_then ≡ parcels_then
+  parcels_are = parcels-append c.flying (going k prefix to s ∷ [])
+
+  in_place : IsInPlace s keeps goes c.servers servers_then before parcels_then
   in_place = record {
     there = In-got c.servers k s at;
     here = In_new c.servers k s keeps at;
     whole_kept = λ x i. In_kept c.servers k s keeps x at i;
     parted_kept = λ x i. In_set c.servers k keeps x i;
     servers = λ g. sym (total_set g c.servers k s keeps at);
-    flies = In-behind goes c.flying (goes ∷ []) (inl refl);
-    less_kept = λ x i. In-front x c.flying (goes ∷ []) i;
-    more_kept = last_or_before;
-    flying = λ g. let e : total g flying_then ≡ total g c.flying + (g goes + 0) = total_append g c.flying (goes ∷ []) in omega arith;
+    flies = In-behind goes before (goes ∷ []) (inl refl);
+    less_kept = λ x i. In-front x before (goes ∷ []) i;
+    more_kept = last_or_before before goes;
+    flying = λ g. let e : total g parcels_then ≡ total g before + (g goes + 0) = total_append g before (goes ∷ []) in omega arith;
   }
 
   module _ (h : PlacesHold c) where
-    rows_then : rows_of_all servers_then (parcels_of flying_then) ≡ rows_of_all c.servers (parcels_of c.flying)
-    rows_then = same_rows c.servers servers_then (parcels_of c.flying) (parcels_of flying_then) h.ordered
-        (λ n. subst (λ j. j ≤ 1) (sym (times_same s keeps goes c.servers servers_then c.flying flying_then in_place (parts k prefix to s) n)) (all_once c.servers (parcels_of c.flying) h.ordered n))
-        (row_parted s keeps goes c.servers servers_then c.flying flying_then in_place (parts k prefix to s))
-        (row_whole s keeps goes c.servers servers_then c.flying flying_then in_place (parts k prefix to s))
+    rows_then : rows_of_all servers_then (parcels_of flying_then) ≡ rows_of_all c.servers before
+    rows_then =
+        ap (rows_of_all servers_then) parcels_are
+        ∙ same_rows c.servers servers_then before parcels_then h.ordered
+        (λ n. subst (λ j. j ≤ 1) (sym (times_same s keeps goes c.servers servers_then before parcels_then in_place (parts prefix to s) n)) (all_once c.servers before h.ordered n))
+        (row_parted s keeps goes c.servers servers_then before parcels_then in_place (parts prefix to s))
+        (row_whole s keeps goes c.servers servers_then before parcels_then in_place (parts prefix to s))
 
-    records_then : records_of_all servers_then (parcels_of flying_then) ≡ records_of_all c.servers (parcels_of c.flying)
-    records_then = same_records c.servers servers_then (parcels_of c.flying) (parcels_of flying_then) (one_record c h)
-        (record_parted s keeps goes c.servers servers_then c.flying flying_then in_place (parts k prefix to s))
-        (record_whole s keeps goes c.servers servers_then c.flying flying_then in_place (parts k prefix to s))
+    records_then : records_of_all servers_then (parcels_of flying_then) ≡ records_of_all c.servers before
+    records_then =
+        ap (records_of_all servers_then) parcels_are
+        ∙ same_records c.servers servers_then before parcels_then (one_record c h)
+        (record_parted s keeps goes c.servers servers_then before parcels_then in_place (parts prefix to s))
+        (record_whole s keeps goes c.servers servers_then before parcels_then in_place (parts prefix to s))
 
 -- all rows and records are as before
 pub leaving_same : (k : ℕ) (c : Cluster) (s : Server) (prefix : List ℕ) (to : ℕ) → slice_get c.servers k ≡ Some s → PlacesHold c
@@ -166,7 +181,7 @@ module _ (k : ℕ) (c : Cluster) (s : Server) (prefix : List ℕ) (to : ℕ) (at
 
   row_home : (r : Row) → In r (rows_left prefix given s.rows) → is_mine left (file_of r.field) ≡ true
   row_home r i =
-      still_mine k prefix to s m.mine (file_of r.field) (not-true (is_on_given prefix given r) (passing (λ (r : Row). not (is_on_given prefix given r)) s.rows r i))
+      still_mine prefix to s m.mine (file_of r.field) (not-true (is_on_given prefix given r) (passing (λ (r : Row). not (is_on_given prefix given r)) s.rows r i))
       ∙ home.rows r (In-filter (λ (r : Row). not (is_on_given prefix given r)) r s.rows i)
 
   kept_record : (b : Bool) (o : Option Record) → is_some (cond (not b) o None) ≡ true → (b ≡ false) × (is_some o ≡ true)
@@ -176,7 +191,7 @@ module _ (k : ℕ) (c : Cluster) (s : Server) (prefix : List ℕ) (to : ℕ) (at
   record_home : (id : List ℕ) → is_some (get (records_left prefix given s.records) id) ≡ true → is_mine left id ≡ true
   record_home id e =
       let q = kept_record (gives prefix given id) (get s.records id) (ap (λ (o : Option Record). is_some o) (sym (left_at prefix given s.records id)) ∙ e) in
-      still_mine k prefix to s m.mine id q.0 ∙ home.records id q.1
+      still_mine prefix to s m.mine id q.0 ∙ home.records id q.1
 
   home_left : IsHome c.journal left
   home_left = record {
@@ -187,27 +202,37 @@ module _ (k : ℕ) (c : Cluster) (s : Server) (prefix : List ℕ) (to : ℕ) (at
     ordered = ordered_filter (λ (r : Row). not (is_on_given prefix given r)) s.rows home.ordered;
   }
 
-  sent_going : to < length c.servers → IsSent (length c.servers) c.journal (going k prefix to s)
-  sent_going is = record {
+  sent_going : IsSent c.journal (parted prefix s)
+  sent_going = record {
     formed = parcel_formed s.records s.map s.me prefix s.rows m.mine sound;
     given = parcel_of_given s.records s.map s.me prefix s.rows;
     listed = piece_made c.journal s.map s.me prefix prefix_made home.listed;
     each = given_each prefix given s.records sound;
     ordered = ordered_filter (is_on_given prefix given) s.rows home.ordered;
-    to = is;
   }
 
-  sent_then : to < length c.servers → (x : Flying) → In x (c.flying ++ going k prefix to s ∷ []) → IsSent (length c.servers) c.journal x
-  sent_then is x i = elim (last_or_before k c s prefix to at x i) as (λ _. IsSent (length c.servers) c.journal x) [
-    | inl e ↦ subst (IsSent (length c.servers) c.journal) (sym e) (sent_going is)
-    | inr j ↦ h.sent x j
+  sent_then : (p : Parcel) → In p (parcels_of (c.flying ++ going k prefix to s ∷ [])) → IsSent c.journal p
+  sent_then p i = elim (last_or_before (parcels_of c.flying) (parted prefix s) p (subst (In p) (parcels_are k c s prefix to at) i)) as (λ _. IsSent c.journal p) [
+    | inl e ↦ subst (IsSent c.journal) (sym e) sent_going
+    | inr j ↦ h.sent p j
   ]
+
+  goes_then : to < length c.servers → (x : Flying) → In x (c.flying ++ going k prefix to s ∷ []) → x.to < length c.servers
+  goes_then is x i = elim (last_or_before c.flying (going k prefix to s) x i) as (λ _. x.to < length c.servers) [
+    | inl e ↦ subst (λ (f : Flying). f.to < length c.servers) (sym e) is
+    | inr j ↦ h.goes x j
+  ]
+
+  one_then : OnePlace (slice_set c.servers k left) (parcels_of (c.flying ++ going k prefix to s ∷ []))
+  one_then = subst (OnePlace (slice_set c.servers k left)) (sym (parcels_are k c s prefix to at))
+      (one_parted s left (parted prefix s) c.servers (slice_set c.servers k left) (parcels_of c.flying) (parcels_of c.flying ++ parted prefix s ∷ []) (in_place k c s prefix to at) (managed prefix to s m.mine m.other) h.one)
 
   places_then : to < length c.servers → PlacesHold (after_step k (Move prefix to) (hands_over prefix to s) c)
   places_then is = replaced_places c h k s left at (c.flying ++ going k prefix to s ∷ []) c.lines refl
-      (one_parted s left (going k prefix to s) c.servers (slice_set c.servers k left) c.flying (c.flying ++ going k prefix to s ∷ []) (in_place k c s prefix to at) (managed k prefix to s m.mine m.other) h.one)
+      one_then
       home_left
-      (sent_then is)
+      sent_then
+      (goes_then is)
       (rows_then k c s prefix to at h)
 
 -- everything is at its place

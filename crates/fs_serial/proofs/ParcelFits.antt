@@ -13,7 +13,7 @@ use Rattle.fs_ident.specs.In.{In}
 use Rattle.fs_ident.specs.declared.actor.Session.{Session}
 use Rattle.fs_ident.proofs.Booleans.{first, joined}
 use Rattle.fs_ident.proofs.Passing.{In-all}
-use Rattle.fs_ident.proofs.Standing.{In-filter, In-map, In-mapped}
+use Rattle.fs_ident.proofs.Standing.{In-filter}
 use Rattle.fs_field.specs.Conflict.{Selves, conflicts, has_fixed, is_self, mode_conflict, plain_conflict}
 use Rattle.fs_field.specs.Field.{file_of, same_mode}
 use Rattle.fs_field.specs.Table.{with_row}
@@ -49,7 +49,7 @@ use Rattle.fs_rows.specs.Moving as off_modes
 use Rattle.fs_server.specs.Moves.{fits_here, was_given}
 use Rattle.fs_server.specs.Server.{is_mine}
 use Rattle.fs_server.specs.declared.state.Server.{Server}
-use Rattle.fs_serial.specs.Cluster.{Cluster, Flying, parcels_of}
+use Rattle.fs_serial.specs.Cluster.{Cluster, parcels_of}
 use Rattle.fs_serial.specs.Parts.{ServersFit, ServersHold}
 use Rattle.fs_serial.specs.Places.{PlacesHold, gives_it}
 use Rattle.fs_serial.specs.Refusals.{rows_in}
@@ -107,10 +107,7 @@ no_items : {X : Type 0} (xs : List X) → ((x : X) → In x xs → ⊥) → is_e
 no_items [] h = refl
 no_items (x ∷ xs) h = absurd (h x (inl refl))
 
-module _ (c : Cluster) (h : PlacesHold c) (s : Server) (i : In s c.servers) (f : Flying) (j : In f c.flying) where
-  abbrev p : Parcel
-  p = f.parcel
-
+module _ (c : Cluster) (h : PlacesHold c) (s : Server) (i : In s c.servers) (p : Parcel) (j : In p (parcels_of c.flying)) where
   abbrev all : List Row
   all = rows_in c
 
@@ -118,8 +115,8 @@ module _ (c : Cluster) (h : PlacesHold c) (s : Server) (i : In s c.servers) (f :
   records = held_by c
 
   -- nothing that it gives is here
-  apart : (id : List ℕ) → is_mine s id ≡ true → gives_it id f ≡ true → ⊥
-  apart id a b = not_both c.servers c.flying h.one id s f i j a b
+  apart : (id : List ℕ) → is_mine s id ≡ true → gives_it id p ≡ true → ⊥
+  apart id a b = not_both c.servers (parcels_of c.flying) h.one id s p i j a b
 
   none_owned : owns_given s.map s.me p.prefix p.piece.given ≡ false
   none_owned = go (owns_given s.map s.me p.prefix p.piece.given) refl
@@ -140,7 +137,7 @@ module _ (c : Cluster) (h : PlacesHold c) (s : Server) (i : In s c.servers) (f :
   -- ## Its rows among all
 
   row_came : (r : Row) → In r p.rows → In r all
-  row_came r k = row_of_all c.servers (parcels_of c.flying) r (inr (p, In-mapped (λ (x : Flying). x.parcel) f c.flying j, k))
+  row_came r k = row_of_all c.servers (parcels_of c.flying) r (inr (p, j, k))
 
   row_here : (r : Row) → In r s.rows → In r all
   row_here r k = row_of_all c.servers (parcels_of c.flying) r (inl (s, i, k))
@@ -151,7 +148,7 @@ module _ (c : Cluster) (h : PlacesHold c) (s : Server) (i : In s c.servers) (f :
 
   module _ (o : Counts) (hold : ServersHold (sight_of o (with_all s c) c.journal)) (fit : ServersFit (sight_of o (with_all s c) c.journal)) where
     off_fit : off_modes.fits (rows_off_modes s.rows) (rows_off_modes p.rows) ≡ true
-    off_fit = quiet_fits (rows_off_modes p.rows) (rows_off_modes s.rows) (once_parts is_off_modes p.rows s.rows (once c h s i f j))
+    off_fit = quiet_fits (rows_off_modes p.rows) (rows_off_modes s.rows) (once_parts is_off_modes p.rows s.rows (once c h s i p j))
         (λ a b k l. hold.apart a b (row_came a (In-filter is_off_modes a p.rows k)) (either_row b (elim l as (λ _. In b p.rows ⊎ In b s.rows) [
           | inl m ↦ inl (In-filter is_off_modes b p.rows m)
           | inr m ↦ inr (In-filter is_off_modes b s.rows m)
@@ -166,7 +163,7 @@ module _ (c : Cluster) (h : PlacesHold c) (s : Server) (i : In s c.servers) (f :
     listed = selves_listed (selves_of_records p.records)
 
     -- the record of a file that it gives is in it, if there is one
-    its_record : (id : List ℕ) → gives_it id f ≡ true → get (with_records p.records empty) id ≡ get records id
+    its_record : (id : List ℕ) → gives_it id p ≡ true → get (with_records p.records empty) id ≡ get records id
     its_record id g =
         let nothing : RecordMap = empty in
         let none : IsOneOf (λ r. ⊥) (get nothing id) = subst (IsOneOf (λ r. ⊥)) (sym (get-empty (slice_cmp nat_cmp) id)) (λ r z. z) in
@@ -174,24 +171,22 @@ module _ (c : Cluster) (h : PlacesHold c) (s : Server) (i : In s c.servers) (f :
         sym (one_alone (HasRecord c.servers (parcels_of c.flying) id) (λ r. ⊥ ⊎ In (id, r) p.records) (get records id) (get (with_records p.records empty) id) back forth alone (record_of_all c.servers (parcels_of c.flying) id) own)
       where
         back : (r : Record) → HasRecord c.servers (parcels_of c.flying) id r → ⊥ ⊎ In (id, r) p.records
-        back r (inl a) = absurd (not_both c.servers c.flying h.one id a.0 f a.1 j (record_home c h a.0 a.1 id r a.2) g)
+        back r (inl a) = absurd (not_both c.servers (parcels_of c.flying) h.one id a.0 p a.1 j (record_home c h a.0 a.1 id r a.2) g)
         back r (inr a) =
-            let q = In-map (λ (x : Flying). x.parcel) a.0 c.flying a.1 in
-            let k : In (id, r) q.0.parcel.records = subst (λ (x : Parcel). In (id, r) x.records) q.1.1 a.2 in
-            let e : q.0 ≡ f = one_parcel c.servers c.flying h.one id q.0 f q.1.0 j (record_flies c h q.0 q.1.0 id r k) g in
-            inr (subst (λ (x : Flying). In (id, r) x.parcel.records) e k)
+            let e : a.0 ≡ p = one_parcel c.servers (parcels_of c.flying) h.one id a.0 p a.1 j (record_flies c h a.0 a.1 id r a.2) g in
+            inr (subst (λ (x : Parcel). In (id, r) x.records) e a.2)
 
         forth : (r : Record) → ⊥ ⊎ In (id, r) p.records → HasRecord c.servers (parcels_of c.flying) id r
         forth r (inl z) = absurd z
-        forth r (inr k) = inr (p, In-mapped (λ (x : Flying). x.parcel) f c.flying j, k)
+        forth r (inr k) = inr (p, j, k)
 
         alone : (r t : Record) → HasRecord c.servers (parcels_of c.flying) id r → HasRecord c.servers (parcels_of c.flying) id t → r ≡ t
         alone r t a b = one_record c h id r t a b
 
-    its_selves : (id : List ℕ) → gives_it id f ≡ true → selves_in records id ≡ listed id
+    its_selves : (id : List ℕ) → gives_it id p ≡ true → selves_in records id ≡ listed id
     its_selves id g =
         ap (λ (o : Option Record). selves_of (handles_of (node_of o))) (sym (its_record id g))
-        ∙ listed_at p.records id (formed p (h.sent f j).formed).distinct empty (get-empty (slice_cmp nat_cmp) id)
+        ∙ listed_at p.records id (formed p (h.sent p j).formed).distinct empty (get-empty (slice_cmp nat_cmp) id)
 
     abbrev of_modes : List Row
     of_modes = with_rows (rows_on_modes p.rows) (rows_on_modes s.rows)
@@ -203,7 +198,7 @@ module _ (c : Cluster) (h : PlacesHold c) (s : Server) (i : In s c.servers) (f :
     ])
 
     -- who is fixed among all is fixed among these
-    its_fixed : (id : List ℕ) (m : Mode) (x y : Session) → gives_it id f ≡ true → has_fixed (selves_in records) all id m x y ≡ true → has_fixed listed of_modes id m x y ≡ true
+    its_fixed : (id : List ℕ) (m : Mode) (x y : Session) → gives_it id p ≡ true → has_fixed (selves_in records) all id m x y ≡ true → has_fixed listed of_modes id m x y ≡ true
     its_fixed id m x y g k =
         let w : Witness (selves_in records) all id m x y = witness (selves_in records) all id m x y k in
         witnessed listed of_modes id m x y (record {
@@ -215,31 +210,31 @@ module _ (c : Cluster) (h : PlacesHold c) (s : Server) (i : In s c.servers) (f :
           fixed = fixed_from of_modes id m w.entry.0 (λ r l e. fixed_row all id m w.entry.0 r w.fixed (of_all r l) e);
         })
 
-    gives_row : (r : Row) → In r p.rows → gives_it (file_of r.field) f ≡ true
-    gives_row r k = row_sent _ c.journal f (h.sent f j) r k
+    gives_row : (r : Row) → In r p.rows → gives_it (file_of r.field) p ≡ true
+    gives_row r k = row_sent c.journal p (h.sent p j) r k
 
     pair_free : (r x : Row) → In r p.rows → In x all → conflicts listed of_modes r x ≡ false
     pair_free r x k l = or_from (plain_conflict r x) (mode_conflict listed of_modes r x) (hold.apart r x (row_came r k) l) (goes_apart listed of_modes r x
         (λ d id n e t.
         let q = apart_goes (selves_in records) all r x (free r x (row_came r k) l) d id n e t in
-        (q.0, its_fixed id n r.session x.session (subst (λ z. gives_it z f ≡ true) (ap file_of e) (gives_row r k)) q.1))
+        (q.0, its_fixed id n r.session x.session (subst (λ z. gives_it z p ≡ true) (ap file_of e) (gives_row r k)) q.1))
         (λ d id n e t.
         let q = apart_goes (selves_in records) all x r (free x r l (row_came r k)) d id n e t in
-        (q.0, its_fixed id n x.session r.session (subst (λ z. gives_it z f ≡ true) (self_file id n r.field t) (gives_row r k)) q.1)))
+        (q.0, its_fixed id n x.session r.session (subst (λ z. gives_it z p ≡ true) (self_file id n r.field t) (gives_row r k)) q.1)))
 
     on_fit : on_modes.fits listed (rows_on_modes s.rows) (rows_on_modes p.rows) ≡ true
     on_fit = joined (are_new (rows_on_modes s.rows) (rows_on_modes p.rows)) (list_all (is_free listed of_modes) (rows_on_modes p.rows))
-        (once_new (rows_on_modes p.rows) (rows_on_modes s.rows) (once_parts (λ r. not (is_off_modes r)) p.rows s.rows (once c h s i f j)))
+        (once_new (rows_on_modes p.rows) (rows_on_modes s.rows) (once_parts (λ r. not (is_off_modes r)) p.rows s.rows (once c h s i p j)))
         (In-all (is_free listed of_modes) (rows_on_modes p.rows) (λ r k. ap not (In_none (conflicts listed of_modes r) of_modes (λ x l. pair_free r x (In-filter (λ r. not (is_off_modes r)) r p.rows k) (of_all x l)))))
 
     rows_fit_here : rows_fit s.rows p ≡ true
     rows_fit_here = joined (are_new s.rows p.rows) (off_modes.fits (rows_off_modes s.rows) (rows_off_modes p.rows) && on_modes.fits listed (rows_on_modes s.rows) (rows_on_modes p.rows))
-        (once_new p.rows s.rows (once c h s i f j))
+        (once_new p.rows s.rows (once c h s i p j))
         (joined (off_modes.fits (rows_off_modes s.rows) (rows_off_modes p.rows)) (on_modes.fits listed (rows_on_modes s.rows) (rows_on_modes p.rows)) off_fit on_fit)
 
     it_fits : fits s.records s.rows s.map s.me p ≡ true
     it_fits = joined (is_formed p && is_of_given p) (is_elsewhere s.records s.map s.me p && rows_fit s.rows p)
-        (joined (is_formed p) (is_of_given p) (h.sent f j).formed (h.sent f j).given)
+        (joined (is_formed p) (is_of_given p) (h.sent p j).formed (h.sent p j).given)
         (joined (is_elsewhere s.records s.map s.me p) (rows_fit s.rows p) elsewhere rows_fit_here)
 
     -- ## Its numbers

@@ -1,9 +1,10 @@
 -- Everything is at its place after a server took the place of another and parcels came or went.
-use Rattle.std.proofs.Common.{◌≡◌, ℕ, List, [], ◌++◌, length, length-set, ap, sym, ◌∙◌, subst, inl, inr, append-nil}
+use Rattle.std.proofs.Common.{◌≡◌, ◌<◌, ℕ, List, [], ◌++◌, length, length-set, ap, sym, ◌∙◌, subst, inl, inr, append-nil}
 use Rattle.std.specs.Prelude.{Some, slice_get, slice_set}
 use Rattle.fs_ident.specs.In.{In}
 use Rattle.fs_ident.specs.declared.actor.Session.{Session}
 use Rattle.fs_field.specs.Table.{is_ordered}
+use Rattle.fs_record.specs.declared.parcel.Parcel.{Parcel}
 use Rattle.fs_server.specs.declared.state.Server.{Server}
 use Rattle.fs_serial.specs.Cluster.{Cluster, Flying, Lines, parcels_of}
 use Rattle.fs_serial.specs.Joined.{rows_of_all}
@@ -27,10 +28,11 @@ module _ (c : Cluster) (h : PlacesHold c) (k : ℕ) (s t : Server) (at : slice_g
     | inr j ↦ h.homes x j
   ])
 
-  sent_then : ((f : Flying) → In f flying → IsSent (length c.servers) c.journal f) → (f : Flying) → In f flying → IsSent (length (slice_set c.servers k t)) (c.journal ++ []) f
-  sent_then each f i =
-      subst (λ n. IsSent n (c.journal ++ []) f) (sym (length-set c.servers k t))
-      (subst (λ j. IsSent (length c.servers) j f) (sym (append-nil c.journal)) (each f i))
+  sent_then : ((p : Parcel) → In p (parcels_of flying) → IsSent c.journal p) → (p : Parcel) → In p (parcels_of flying) → IsSent (c.journal ++ []) p
+  sent_then each p i = subst (λ j. IsSent j p) (sym (append-nil c.journal)) (each p i)
+
+  goes_then : ((f : Flying) → In f flying → f.to < length c.servers) → (f : Flying) → In f flying → f.to < length (slice_set c.servers k t)
+  goes_then goes f i = subst (λ n. f.to < n) (sym (length-set c.servers k t)) (goes f i)
 
   numbered_then : t.me ≡ s.me → (j : ℕ) (x : Server) → slice_get (slice_set c.servers k t) j ≡ Some x → x.me ≡ j
   numbered_then me j x e = elim (get_set c.servers k j t x e) as (λ _. x.me ≡ j) [
@@ -38,14 +40,16 @@ module _ (c : Cluster) (h : PlacesHold c) (k : ℕ) (s t : Server) (at : slice_g
     | inr g ↦ h.numbered j x g
   ]
 
-  pub replaced_places : t.me ≡ s.me → OnePlace (slice_set c.servers k t) flying → IsHome c.journal t
-      → ((f : Flying) → In f flying → IsSent (length c.servers) c.journal f)
+  pub replaced_places : t.me ≡ s.me → OnePlace (slice_set c.servers k t) (parcels_of flying) → IsHome c.journal t
+      → ((p : Parcel) → In p (parcels_of flying) → IsSent c.journal p)
+      → ((f : Flying) → In f flying → f.to < length c.servers)
       → rows_of_all (slice_set c.servers k t) (parcels_of flying) ≡ rows_of_all c.servers (parcels_of c.flying)
       → PlacesHold (replaced k t flying lines c)
-  replaced_places me one own each rows = record {
+  replaced_places me one own each goes rows = record {
     one = one;
     homes = home_then own;
     sent = sent_then each;
+    goes = goes_then goes;
     ordered = ap is_ordered rows ∙ h.ordered;
     numbered = numbered_then me;
   }

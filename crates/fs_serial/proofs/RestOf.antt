@@ -9,7 +9,7 @@ use Rattle.fs_ident.specs.In.{In}
 use Rattle.fs_ident.specs.Ordered.{Keyed}
 use Rattle.fs_ident.proofs.Booleans.{both}
 use Rattle.fs_ident.proofs.Passing.{all-In}
-use Rattle.fs_ident.proofs.Standing.{In-map, In-append, In-front, In-behind}
+use Rattle.fs_ident.proofs.Standing.{In-append, In-front, In-behind}
 use Rattle.fs_field.specs.declared.row.Row.{Row}
 use Rattle.fs_field.specs.Field.{file_of}
 use Rattle.fs_field.specs.Table.{is_ordered}
@@ -24,7 +24,7 @@ use Rattle.fs_rows.specs.Granted.{with_rows}
 use Rattle.fs_rows.specs.Moving.{is_on_given}
 use Rattle.fs_server.specs.Server.{is_mine}
 use Rattle.fs_server.specs.declared.state.Server.{Server}
-use Rattle.fs_serial.specs.Cluster.{Cluster, Flying, parcels_of}
+use Rattle.fs_serial.specs.Cluster.{Cluster, parcels_of}
 use Rattle.fs_serial.specs.Joined.{records_of_all, rows_of_all, with_all_of, with_parcels, with_rows_in, with_rows_of}
 use Rattle.fs_serial.specs.Places.{IsHome, PlacesHold, gives_it, places_for}
 use Rattle.fs_serial.specs.Seen.{with_all}
@@ -158,13 +158,13 @@ count_some test x (y ∷ ys) i h =
       ]
     ] refl
 
-module _ (front back : List Server) (flying : List Flying) (s : Server) (id : List ℕ) (one : places_for id (front ++ s ∷ back) flying ≡ 1) (mine : is_mine s id ≡ true) where
+module _ (front back : List Server) (parcels : List Parcel) (s : Server) (id : List ℕ) (one : places_for id (front ++ s ∷ back) parcels ≡ 1) (mine : is_mine s id ≡ true) where
   abbrev manages : Server → Bool
   manages t = is_mine t id
 
-  counted : (length (filter manages front) + (1 + length (filter manages back))) + length (filter (gives_it id) flying) ≡ 1
+  counted : (length (filter manages front) + (1 + length (filter manages back))) + length (filter (gives_it id) parcels) ≡ 1
   counted =
-      ap (λ n. n + length (filter (gives_it id) flying)) (sym (
+      ap (λ n. n + length (filter (gives_it id) parcels)) (sym (
       ap length (filter-append manages front (s ∷ back))
       ∙ length-append (filter manages front) (filter manages (s ∷ back))
       ∙ ap (λ n. length (filter manages front) + n) (ap (λ b. length (cond b (s ∷ filter manages back) (filter manages back))) mine ∙ one_more (filter manages back))))
@@ -179,8 +179,8 @@ module _ (front back : List Server) (flying : List Flying) (s : Server) (id : Li
   pub not_back : (t : Server) → In t back → is_mine t id ≡ false
   not_back t i = false_from_ne_true (is_mine t id) (λ h. let l = count_some manages t back i h in let c = counted in absurd (omega arith))
 
-  pub not_flying : (f : Flying) → In f flying → gives_it id f ≡ false
-  not_flying f i = false_from_ne_true (gives_it id f) (λ h. let l = count_some (gives_it id) f flying i h in let c = counted in absurd (omega arith))
+  pub not_flying : (p : Parcel) → In p parcels → gives_it id p ≡ false
+  not_flying p i = false_from_ne_true (gives_it id p) (λ h. let l = count_some (gives_it id) p parcels i h in let c = counted in absurd (omega arith))
 
 -- a row of several servers is one of them
 row_of : (ss : List Server) (r : Row) → In r (rows_of_servers ss) → (t : Server) × In t ss × In r t.rows
@@ -218,8 +218,8 @@ module _ (c : Cluster) (k : ℕ) (s : Server) (places : PlacesHold c) (b : IsBet
   abbrev rest : Rest
   rest = rest_of b.front b.back parcels
 
-  one_place : (id : List ℕ) → places_for id (b.front ++ s ∷ b.back) c.flying ≡ 1
-  one_place id = subst (λ servers. places_for id servers c.flying ≡ 1) b.is (places.one id)
+  one_place : (id : List ℕ) → places_for id (b.front ++ s ∷ b.back) parcels ≡ 1
+  one_place id = subst (λ servers. places_for id servers parcels ≡ 1) b.is (places.one id)
 
   front_home : (t : Server) → In t b.front → IsHome c.journal t
   front_home t i = places.homes t (subst (In t) (sym b.is) (In-front t b.front (s ∷ b.back) i))
@@ -237,16 +237,16 @@ module _ (c : Cluster) (k : ℕ) (s : Server) (places : PlacesHold c) (b : IsBet
   off_rows r i mine = elim (In-append r (rows_of_servers b.front) (rows_of_servers b.back ++ rows_of_parcels parcels) i) as (λ _. ⊥) [
     | inl j ↦
         let q = row_of b.front r j in
-        opposite ((front_home q.0 q.1).rows r q.2) (not_front b.front b.back c.flying s (file_of r.field) (one_place (file_of r.field)) mine q.0 q.1)
+        opposite ((front_home q.0 q.1).rows r q.2) (not_front b.front b.back parcels s (file_of r.field) (one_place (file_of r.field)) mine q.0 q.1)
     | inr j ↦ elim (In-append r (rows_of_servers b.back) (rows_of_parcels parcels) j) as (λ _. ⊥) [
       | inl l ↦
           let q = row_of b.back r l in
-          opposite ((back_home q.0 q.1).rows r q.2) (not_back b.front b.back c.flying s (file_of r.field) (one_place (file_of r.field)) mine q.0 q.1)
+          opposite ((back_home q.0 q.1).rows r q.2) (not_back b.front b.back parcels s (file_of r.field) (one_place (file_of r.field)) mine q.0 q.1)
       | inr l ↦
           let q = row_in parcels r l in
-          let f : (f : Flying) × (In f c.flying × (q.0 ≡ f.parcel)) = In-map (λ (f : Flying). f.parcel) q.0 c.flying q.1 in
-          let on : list_all (is_on_given f.0.parcel.prefix f.0.parcel.piece.given) f.0.parcel.rows ≡ true = (both (list_all (λ e. gives f.0.parcel.prefix f.0.parcel.piece.given e.0) f.0.parcel.records) (list_all (is_on_given f.0.parcel.prefix f.0.parcel.piece.given) f.0.parcel.rows) (places.sent f.0 f.1.0).given).1 in
-          opposite (all-In (is_on_given f.0.parcel.prefix f.0.parcel.piece.given) f.0.parcel.rows on r (subst (λ (p : Parcel). In r p.rows) f.1.1 q.2)) (not_flying b.front b.back c.flying s (file_of r.field) (one_place (file_of r.field)) mine f.0 f.1.0)
+          let p : Parcel = q.0 in
+          let on : list_all (is_on_given p.prefix p.piece.given) p.rows ≡ true = (both (list_all (λ e. gives p.prefix p.piece.given e.0) p.records) (list_all (is_on_given p.prefix p.piece.given) p.rows) (places.sent p q.1).given).1 in
+          opposite (all-In (is_on_given p.prefix p.piece.given) p.rows on r q.2) (not_flying b.front b.back parcels s (file_of r.field) (one_place (file_of r.field)) mine p q.1)
     ]
   ]
 
@@ -257,16 +257,16 @@ module _ (c : Cluster) (k : ℕ) (s : Server) (places : PlacesHold c) (b : IsBet
   off_files e i mine = elim (In-append e (records_of_servers b.front) (records_of_servers b.back ++ records_of_parcels parcels) i) as (λ _. ⊥) [
     | inl j ↦
         let q = record_of b.front e j in
-        opposite (has_key q.0 e (front_home q.0 q.1) q.2) (not_front b.front b.back c.flying s e.0 (one_place e.0) mine q.0 q.1)
+        opposite (has_key q.0 e (front_home q.0 q.1) q.2) (not_front b.front b.back parcels s e.0 (one_place e.0) mine q.0 q.1)
     | inr j ↦ elim (In-append e (records_of_servers b.back) (records_of_parcels parcels) j) as (λ _. ⊥) [
       | inl l ↦
           let q = record_of b.back e l in
-          opposite (has_key q.0 e (back_home q.0 q.1) q.2) (not_back b.front b.back c.flying s e.0 (one_place e.0) mine q.0 q.1)
+          opposite (has_key q.0 e (back_home q.0 q.1) q.2) (not_back b.front b.back parcels s e.0 (one_place e.0) mine q.0 q.1)
       | inr l ↦
           let q = record_in parcels e l in
-          let f : (f : Flying) × (In f c.flying × (q.0 ≡ f.parcel)) = In-map (λ (f : Flying). f.parcel) q.0 c.flying q.1 in
-          let on : list_all (λ e. gives f.0.parcel.prefix f.0.parcel.piece.given e.0) f.0.parcel.records ≡ true = (both (list_all (λ e. gives f.0.parcel.prefix f.0.parcel.piece.given e.0) f.0.parcel.records) (list_all (is_on_given f.0.parcel.prefix f.0.parcel.piece.given) f.0.parcel.rows) (places.sent f.0 f.1.0).given).0 in
-          opposite (all-In (λ e. gives f.0.parcel.prefix f.0.parcel.piece.given e.0) f.0.parcel.records on e (subst (λ (p : Parcel). In e p.records) f.1.1 q.2)) (not_flying b.front b.back c.flying s e.0 (one_place e.0) mine f.0 f.1.0)
+          let p : Parcel = q.0 in
+          let on : list_all (λ e. gives p.prefix p.piece.given e.0) p.records ≡ true = (both (list_all (λ e. gives p.prefix p.piece.given e.0) p.records) (list_all (is_on_given p.prefix p.piece.given) p.rows) (places.sent p q.1).given).0 in
+          opposite (all-In (λ e. gives p.prefix p.piece.given e.0) p.records on e q.2) (not_flying b.front b.back parcels s e.0 (one_place e.0) mine p q.1)
     ]
   ]
 

@@ -41,7 +41,7 @@ use Rattle.fs_server.specs.Step.{event_step, recall_step}
 use Rattle.fs_server.specs.declared.event.ServerEvent.{ServerEvent}
 use Rattle.fs_server.specs.declared.event.ServerEvent.TheVariants.{FromClient, FromPeer, Move, Recall, Turn}
 use Rattle.fs_server.specs.declared.state.Server.{Server}
-use Rattle.fs_serial.specs.Cluster.{Cluster, Flying, after_step, parcels_of, without_parcel}
+use Rattle.fs_serial.specs.Cluster.{Cluster, Flying, after_step, parcels_of, without_arrived}
 use Rattle.fs_serial.specs.Exchange.{pairs_in}
 use Rattle.fs_serial.specs.Fresh.{IsAtOrBelow, IsMade}
 use Rattle.fs_serial.specs.Joined.{records_of_all, rows_of_all}
@@ -76,9 +76,9 @@ pub record IsSameStep (k : ℕ) (e : ServerEvent) (s : Server) (small big : Step
   pub ordered : is_ordered big.server.rows ≡ true
   pub still : (after_step k e small c).flying ≡ c.flying
 
--- no parcel comes by the event
+-- no message of a server comes by the event
 abbrev pub BringsNone : ℕ → ServerEvent → Type 0
-BringsNone k e = (flying : List Flying) → without_parcel k e flying ≡ flying
+BringsNone k e = (flying : List Flying) → without_arrived k e flying ≡ flying
 
 module _ (k : ℕ) (e : ServerEvent) (c : Cluster) (s : Server) (places : PlacesHold c) (b : IsBetween c.servers k s) (none : BringsNone k e) where
   abbrev rest : Rest

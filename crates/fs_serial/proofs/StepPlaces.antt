@@ -1,5 +1,5 @@
 -- After a step that comes to the same at the server that has all, everything is at its place again.
-use Rattle.std.proofs.Common.{◌≡◌, ℕ, zero, suc, ◌+◌, ◌==◌, Bool, true, false, List, [], ◌∷◌, ◌++◌, length, length-append, refl, ap, ap₂, cond, subst, sym, ◌∙◌, inl, inr, arith}
+use Rattle.std.proofs.Common.{◌≡◌, ℕ, zero, suc, ◌+◌, ◌<◌, ◌==◌, Bool, true, false, List, [], ◌∷◌, ◌++◌, length, length-append, refl, ap, ap₂, cond, subst, sym, ◌∙◌, inl, inr, arith}
 use Rattle.std.specs.Prelude.{Option, Some, None, is_some, slice_get, slice_set}
 use Rattle.std.specs.List.{filter}
 use Rattle.std.proofs.lemmas.List.Elements.{filter-append}
@@ -9,10 +9,11 @@ use Rattle.fs_ident.proofs.Standing.{In-append, In-front, In-behind}
 use Rattle.fs_field.specs.Table.{is_ordered}
 use Rattle.fs_map.specs.Map.{server_of}
 use Rattle.fs_msg.specs.declared.item.Item.{Item}
+use Rattle.fs_record.specs.declared.parcel.Parcel.{Parcel}
 use Rattle.fs_server.specs.Server.{Stepped, is_mine}
 use Rattle.fs_server.specs.declared.event.ServerEvent.{ServerEvent}
 use Rattle.fs_server.specs.declared.state.Server.{Server}
-use Rattle.fs_serial.specs.Cluster.{Cluster, Flying, after_step}
+use Rattle.fs_serial.specs.Cluster.{Cluster, after_step, parcels_of}
 use Rattle.fs_serial.specs.Fresh.{IsMade, made_in, made_by, or_else, root_kind}
 use Rattle.fs_serial.specs.Places.{IsHome, IsSent, OnePlace, PlacesHold, gives_it, places_for}
 use Rattle.fs_serial.proofs.RestOf.{IsBetween, between}
@@ -35,8 +36,8 @@ made_still is more id h = or_more (root_kind id) (made_in is id) (made_in (is ++
 pub home_still : (is more : List Item) (s : Server) → IsHome is s → IsHome (is ++ more) s
 home_still is more s h = record { map = h.map; listed = λ place i. made_still is more place (h.listed place i); rows = h.rows; records = h.records; ordered = h.ordered }
 
-pub sent_still : (servers : ℕ) (is more : List Item) (f : Flying) → IsSent servers is f → IsSent servers (is ++ more) f
-sent_still servers is more f h = record { formed = h.formed; given = h.given; listed = λ place i. made_still is more place (h.listed place i); each = h.each; ordered = h.ordered; to = h.to }
+pub sent_still : (is more : List Item) (p : Parcel) → IsSent is p → IsSent (is ++ more) p
+sent_still is more p h = record { formed = h.formed; given = h.given; listed = λ place i. made_still is more place (h.listed place i); each = h.each; ordered = h.ordered }
 
 -- ## One server in place of another
 
@@ -45,9 +46,9 @@ module _ (front back : List Server) (s t : Server) (me : t.me ≡ s.me) (map : t
   mine_same : (id : List ℕ) → is_mine t id ≡ is_mine s id
   mine_same id = ap₂ (λ owners me. server_of owners id == me) map me
 
-  one_same : (flying : List Flying) → OnePlace (front ++ s ∷ back) flying → OnePlace (front ++ t ∷ back) flying
-  one_same flying one id =
-      ap (λ n. n + length (filter (gives_it id) flying)) (
+  one_same : (parcels : List Parcel) → OnePlace (front ++ s ∷ back) parcels → OnePlace (front ++ t ∷ back) parcels
+  one_same parcels one id =
+      ap (λ n. n + length (filter (gives_it id) parcels)) (
       ap length (filter-append (λ (x : Server). is_mine x id) front (t ∷ back))
       ∙ length-append (filter (λ (x : Server). is_mine x id) front) (filter (λ (x : Server). is_mine x id) (t ∷ back))
       ∙ ap (λ n. length (filter (λ (x : Server). is_mine x id) front) + n) (counts (is_mine t id) (is_mine s id) (filter (λ (x : Server). is_mine x id) back) (mine_same id))
@@ -93,9 +94,10 @@ step_places k e s small big c is places h =
     let servers : slice_set c.servers k t ≡ b.front ++ t ∷ b.back = b.set t in
     let n : length (b.front ++ t ∷ b.back) ≡ length c.servers = length_same b.front b.back s t h.me h.map ∙ sym (ap length b.is) in
     record {
-      one = λ id. ap₂ (λ ss fs. places_for id ss fs) servers h.still ∙ one_same b.front b.back s t h.me h.map c.flying (λ id. ap (λ ss. places_for id ss c.flying) (sym b.is) ∙ places.one id) id;
+      one = λ id. ap₂ (λ ss fs. places_for id ss (parcels_of fs)) servers h.still ∙ one_same b.front b.back s t h.me h.map (parcels_of c.flying) (λ id. ap (λ ss. places_for id ss (parcels_of c.flying)) (sym b.is) ∙ places.one id) id;
       homes = λ x i. home_still c.journal small.out.admitted x (each_same b.front b.back s t h.me h.map (IsHome c.journal) (λ y j. places.homes y (subst (In y) (sym b.is) j)) h.home x (subst (In x) servers i));
-      sent = λ f i. subst (λ m. IsSent m (c.journal ++ small.out.admitted) f) (sym (ap length servers ∙ n)) (sent_still (length c.servers) c.journal small.out.admitted f (places.sent f (subst (In f) h.still i)));
+      sent = λ p i. sent_still c.journal small.out.admitted p (places.sent p (subst (λ fs. In p (parcels_of fs)) h.still i));
+      goes = λ f i. subst (λ m. f.to < m) (sym (ap length servers ∙ n)) (places.goes f (subst (In f) h.still i));
       ordered = subst (λ (u : Server). is_ordered u.rows ≡ true) h.server h.ordered;
       numbered = λ j x e. numbered_same b.front b.back s t h.me 0 (λ i y d. places.numbered i y (ap (λ ss. slice_get ss i) b.is ∙ d) ∙ zero_more i) j x (ap (λ ss. slice_get ss j) (sym servers) ∙ e) ∙ sym (zero_more j);
     }

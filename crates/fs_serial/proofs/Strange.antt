@@ -8,12 +8,13 @@ use Rattle.fs_ident.proofs.Standing.{In-got, In-mapped}
 use Rattle.fs_msg.specs.declared.client_msg.ClientMsg.{ClientMsg}
 use Rattle.fs_msg.specs.declared.client_msg.ClientMsg.TheVariants.{Ask, Renew, Release, Ship}
 use Rattle.fs_msg.specs.declared.entry.Entry.{Entry}
+use Rattle.fs_msg.specs.declared.peer_msg.PeerMsg.{PeerMsg}
 use Rattle.fs_msg.specs.declared.peer_msg.PeerMsg.TheVariants as peer
 use Rattle.fs_msg.specs.declared.server_note.ServerNote.TheVariants.{Strange}
 use Rattle.fs_parcel.specs.Parcel.{move_refusal}
 use Rattle.fs_parcel.specs.declared.error.MoveError.{MoveError}
 use Rattle.fs_record.specs.Effects.{tells_its_effects}
-use Rattle.fs_server.specs.Moves.{fits_here, move_at, parcel_at}
+use Rattle.fs_server.specs.Moves.{fits_here, move_at, parcel_at, peer_step}
 use Rattle.fs_server.specs.Reaps.{lapsed_in, turn_over}
 use Rattle.fs_server.specs.Server.{begun, strange}
 use Rattle.fs_server.specs.Ships.{ship_from, shipped}
@@ -54,11 +55,14 @@ module _ (skew greatest k : ℕ) (c : Cluster) (s : Server) (at : slice_get c.se
   message_note by (Ship entries) there =
       ship_note by entries s (all_plain greatest (world_of s c) by entries (In-mapped (λ (n : ℕ × ClientMsg). n.1) (k, Ship entries) (c.lines by).up (found (is_with k) (c.lines by).up (k, Ship entries) there).0) view)
 
-  event_note : (e : ServerEvent) → IsThere k e c → (event_step e s).out.note ≢ Strange
-  event_note (event.FromClient by m) there = message_note by m there
-  event_note (event.FromPeer from (peer.Parcel p)) there =
+  peer_note : (from : ℕ) (m : PeerMsg) → IsThere k (event.FromPeer from m) c → (peer_step m s).out.note ≢ Strange
+  peer_note from (peer.Parcel p) there =
       let fits : fits_here p s ≡ true = parcel_fits k from c s p at h.places there (counts_of c.servers) view.all.servers view.all.kept in
       subst (λ b. (parcel_at b p s).out.note ≢ Strange) (sym fits) (λ e. absurd (cc))
+
+  event_note : (e : ServerEvent) → IsThere k e c → (event_step e s).out.note ≢ Strange
+  event_note (event.FromClient by m) there = message_note by m there
+  event_note (event.FromPeer from m) there = peer_note from m there
   event_note event.Turn there = turn_note (lapsed_in s) s
   event_note (event.Recall field) there = λ e. absurd (cc)
   event_note (event.Move prefix to) there = move_note (move_refusal s.records s.rows s.map s.me prefix to None) prefix to s

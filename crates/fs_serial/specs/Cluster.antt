@@ -1,6 +1,6 @@
 -- Several servers, the sessions' clients, and what is on its way between them.
-use Rattle.std.specs.Prelude.{◌≡◌, ℕ, zero, suc, ◌<◌, ◌==◌, ◌&&◌, Bool, true, List, [], ◌∷◌, ◌++◌, length, map, slice_get, slice_set, Option, Some, None, if◌then◌else◌}
-use Rattle.std.specs.List.{find}
+use Rattle.std.specs.Prelude.{◌≡◌, ℕ, zero, suc, ◌<◌, ◌==◌, ◌&&◌, Bool, true, List, [], ◌∷◌, ◌++◌, length, slice_get, slice_set, Option, Some, None, if◌then◌else◌}
+use Rattle.std.specs.List.{filter_map, find}
 use Rattle.fs_ident.specs.declared.actor.Peer.{Peer}
 use Rattle.fs_ident.specs.declared.actor.Peer.TheVariants.{Client as OfSession, Server as OfServer}
 use Rattle.fs_ident.specs.declared.actor.Session.{Session}
@@ -10,6 +10,7 @@ use Rattle.fs_msg.specs.declared.client_msg.ClientMsg.{ClientMsg}
 use Rattle.fs_msg.specs.declared.item.Item.{Item}
 use Rattle.fs_msg.specs.declared.msg.Msg.{Msg}
 use Rattle.fs_msg.specs.declared.msg.Msg.TheVariants as msg
+use Rattle.fs_msg.specs.declared.peer_msg.PeerMsg.{PeerMsg}
 use Rattle.fs_msg.specs.declared.peer_msg.PeerMsg.TheVariants.{Parcel as OfParcel}
 use Rattle.fs_record.specs.declared.parcel.Parcel.{Parcel}
 use Rattle.fs_server.specs.declared.event.ServerEvent.{ServerEvent}
@@ -59,9 +60,13 @@ first_cluster servers skew term = record {
   lines = first_lines term;
 }
 
--- the parcels on their way
+-- the parcel that the message brings, if it brings one
+abbrev pub parcel_in : PeerMsg → Option Parcel
+parcel_in (OfParcel p) = Some p
+
+-- the parcels among the messages on their way, in order
 abbrev pub parcels_of : List Flying → List Parcel
-parcels_of flying = map (λ (f : Flying). f.parcel) flying
+parcels_of flying = filter_map (λ (f : Flying). parcel_in f.message) flying
 
 -- ## Messages that come
 
@@ -91,10 +96,10 @@ with_sent k [] lines = lines
 with_sent k ((OfSession to, msg.Answer a) ∷ rest) lines = with_sent k rest (with_answer k to a lines)
 with_sent k (m ∷ rest) lines = with_sent k rest lines
 
--- and its parcels to their servers
+-- and its messages to servers
 abbrev pub flying_from : ℕ → List (Peer × Msg) → List Flying
 flying_from k [] = []
-flying_from k ((OfServer to, msg.Peer (OfParcel p)) ∷ rest) = record { from = k; to = to; parcel = p } ∷ flying_from k rest
+flying_from k ((OfServer to, msg.Peer m) ∷ rest) = record { from = k; to = to; message = m } ∷ flying_from k rest
 flying_from k (m ∷ rest) = flying_from k rest
 
 -- ## A server's events
@@ -102,7 +107,7 @@ flying_from k (m ∷ rest) = flying_from k rest
 -- the message that the event is about is on its way before
 abbrev pub IsThere : ℕ → ServerEvent → Cluster → Type 0
 IsThere k (FromClient by m) c = find (is_with k) (c.lines by).up ≡ Some (k, m)
-IsThere k (FromPeer from (OfParcel p)) c = find (is_between from k) c.flying ≡ Some (record { from = from; to = k; parcel = p })
+IsThere k (FromPeer from m) c = find (is_between from k) c.flying ≡ Some (record { from = from; to = k; message = m })
 IsThere k (Move prefix to) c = to < length c.servers
 IsThere k e c = Unit {0}
 
@@ -111,14 +116,14 @@ abbrev pub without_question : ℕ → ServerEvent → (Session → Lines) → Se
 without_question k (FromClient by m) lines = with_lines by (record (lines by) { up = without_first (is_with k) (lines by).up }) lines
 without_question k e lines = lines
 
-abbrev pub without_parcel : ℕ → ServerEvent → List Flying → List Flying
-without_parcel k (FromPeer from m) flying = without_first (is_between from k) flying
-without_parcel k e flying = flying
+abbrev pub without_arrived : ℕ → ServerEvent → List Flying → List Flying
+without_arrived k (FromPeer from m) flying = without_first (is_between from k) flying
+without_arrived k e flying = flying
 
 abbrev pub after_step : ℕ → ServerEvent → Stepped → Cluster → Cluster
 after_step k e x c = record {
   servers = slice_set c.servers k x.server;
-  flying = without_parcel k e c.flying ++ flying_from k x.out.send;
+  flying = without_arrived k e c.flying ++ flying_from k x.out.send;
   journal = c.journal ++ x.out.admitted;
   replied = c.replied;
   lines = with_sent k x.out.send (without_question k e c.lines);

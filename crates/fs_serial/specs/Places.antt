@@ -10,6 +10,7 @@ use Rattle.fs_map.specs.Map.{IsMap, gives}
 use Rattle.fs_msg.specs.declared.item.Item.{Item}
 use Rattle.fs_parcel.specs.Parcel.{is_formed, is_of_given}
 use Rattle.fs_record.specs.Moving.{AreEachRecords}
+use Rattle.fs_record.specs.declared.parcel.Parcel.{Parcel}
 use Rattle.fs_server.specs.Server.{is_mine}
 use Rattle.fs_server.specs.declared.state.Server.{Server}
 use Rattle.fs_serial.specs.Cluster.{Cluster, Flying, parcels_of}
@@ -19,16 +20,16 @@ use Rattle.fs_serial.specs.Joined.{rows_of_all}
 -- ## One place
 
 -- the parcel gives the identifier
-abbrev pub gives_it : List ℕ → Flying → Bool
-gives_it id f = gives f.parcel.prefix f.parcel.piece.given id
+abbrev pub gives_it : List ℕ → Parcel → Bool
+gives_it id p = gives p.prefix p.piece.given id
 
 -- how many servers manage the identifier, and how many parcels give it
-abbrev pub places_for : List ℕ → List Server → List Flying → ℕ
-places_for id servers flying = length (filter (λ (s : Server). is_mine s id) servers) + length (filter (gives_it id) flying)
+abbrev pub places_for : List ℕ → List Server → List Parcel → ℕ
+places_for id servers parcels = length (filter (λ (s : Server). is_mine s id) servers) + length (filter (gives_it id) parcels)
 
 -- exactly one server manages each, or exactly one parcel gives it
-abbrev pub OnePlace : List Server → List Flying → Type 0
-OnePlace servers flying = (id : List ℕ) → places_for id servers flying ≡ 1
+abbrev pub OnePlace : List Server → List Parcel → Type 0
+OnePlace servers parcels = (id : List ℕ) → places_for id servers parcels ≡ 1
 
 -- ## At its place
 
@@ -40,19 +41,19 @@ pub record IsHome (journal : List Item) (s : Server) : Type 0 where
   pub records : (id : List ℕ) → is_some (get s.records id) ≡ true → is_mine s id ≡ true
   pub ordered : is_ordered s.rows ≡ true
 
--- the parcel is such as honest servers send, to a server that there is
-pub record IsSent (servers : ℕ) (journal : List Item) (f : Flying) : Type 0 where
-  pub formed : is_formed f.parcel ≡ true
-  pub given : is_of_given f.parcel ≡ true
-  pub listed : (place : List ℕ) → In place (places_of f.parcel.piece.given) → IsMade journal place
-  pub each : AreEachRecords f.parcel.records
-  pub ordered : is_ordered f.parcel.rows ≡ true
-  pub to : f.to < servers
+-- the parcel is such as honest servers send
+pub record IsSent (journal : List Item) (p : Parcel) : Type 0 where
+  pub formed : is_formed p ≡ true
+  pub given : is_of_given p ≡ true
+  pub listed : (place : List ℕ) → In place (places_of p.piece.given) → IsMade journal place
+  pub each : AreEachRecords p.records
+  pub ordered : is_ordered p.rows ≡ true
 
--- everything is at its place, and no two rows have one number
+-- everything is at its place, each message goes to a server that there is, and no two rows have one number
 pub record PlacesHold (c : Cluster) : Type 0 where
-  pub one : OnePlace c.servers c.flying
+  pub one : OnePlace c.servers (parcels_of c.flying)
   pub homes : (s : Server) → In s c.servers → IsHome c.journal s
-  pub sent : (f : Flying) → In f c.flying → IsSent (length c.servers) c.journal f
+  pub sent : (p : Parcel) → In p (parcels_of c.flying) → IsSent c.journal p
+  pub goes : (f : Flying) → In f c.flying → f.to < length c.servers
   pub ordered : is_ordered (rows_of_all c.servers (parcels_of c.flying)) ≡ true
   pub numbered : (k : ℕ) (s : Server) → slice_get c.servers k ≡ Some s → s.me ≡ k

@@ -1,14 +1,14 @@
 //! What is on its way between servers.
 use fs_ident::{Memory, Twin};
-use fs_record::Parcel;
+use fs_msg::PeerMsg;
 use std::alloc::Global;
 
-/// A parcel on its way from one server to another, by their numbers.
+/// A message on its way from one server to another, by their numbers.
 #[derive(Debug, Drop)]
 pub struct Flying {
     pub from: u8,
     pub to: u8,
-    pub parcel: Parcel,
+    pub message: PeerMsg,
 }
 
 impl Twin for Flying {
@@ -16,7 +16,7 @@ impl Twin for Flying {
         Ok(Flying {
             from: self.from,
             to: self.to,
-            parcel: self.parcel.copy(alloc)?,
+            message: self.message.copy(alloc)?,
         })
     }
 

@@ -10,7 +10,6 @@ use Rattle.fs_actor.specs.Actor.{is_full_down}
 use Rattle.fs_msg.specs.declared.core_error.CoreError.{CoreError}
 use Rattle.fs_msg.specs.declared.msg.Msg.{Msg}
 use Rattle.fs_msg.specs.declared.msg.Msg.TheVariants as msg
-use Rattle.fs_msg.specs.declared.peer_msg.PeerMsg.TheVariants.{Parcel as OfParcel}
 use Rattle.fs_schedule.specs.declared.outcome.Outcome.{Outcome}
 use Rattle.fs_serial.specs.Cluster.{flying_from, is_between, without_first}
 use Rattle.fs_serial.specs.declared.flying.Flying.{Flying}
@@ -56,8 +55,8 @@ from_there k [] f i = absurd i
 from_there k ((Client s, m) ∷ xs) f i = from_there k xs f i
 from_there k ((Server to, msg.Answer a) ∷ xs) f i = from_there k xs f i
 from_there k ((Server to, msg.Client m) ∷ xs) f i = from_there k xs f i
-from_there k ((Server to, msg.Peer (OfParcel p)) ∷ xs) f (inl e) = ap (λ (g : Flying). g.from) e
-from_there k ((Server to, msg.Peer (OfParcel p)) ∷ xs) f (inr i) = from_there k xs f i
+from_there k ((Server to, msg.Peer m) ∷ xs) f (inl e) = ap (λ (g : Flying). g.from) e
+from_there k ((Server to, msg.Peer m) ∷ xs) f (inr i) = from_there k xs f i
 
 one_false : (a b : Bool) → a ≡ false → (a && b) ≡ false
 one_false true b e = absurd (cc)
@@ -66,10 +65,10 @@ one_false false b e = refl
 goes_out : (j k : ℕ) (xs : List (Peer × Msg)) → same_peer (Server j) (Server k) ≡ false → (f : Flying) → In f (flying_from k xs) → is_between j k f ≡ false
 goes_out j k xs apart f i = one_false (f.from == j) (f.to == k) (ap (λ (n : ℕ). n == j) (from_there k xs f i) ∙ turned_apart j k apart)
 
-pub taken_parcel : (k j : ℕ) (to : Option Peer) (now : ℕ) (e : ServerEvent) (x y : ServerStepped) (flying : List Flying)
+pub taken_flying : (k j : ℕ) (to : Option Peer) (now : ℕ) (e : ServerEvent) (x y : ServerStepped) (flying : List Flying)
     → same_peer (Server j) (Server k) ≡ false → y ≡ core_step k false to now e x → flying ≡ without_first (is_between j k) y.flying
     → record y { flying = flying } ≡ core_step k false to now e (without_message k (Server j) x)
-taken_parcel k j to now e x y flying apart is taken =
+taken_flying k j to now e x y flying apart is taken =
     ap (λ (fs : List Flying). let z : ServerStepped = record y { flying = fs } in z) taken
     ∙ ap (λ (z : ServerStepped). let u : ServerStepped = record z { flying = without_first (is_between j k) z.flying } in u) is
     ∙ ap (λ (fs : List Flying). let z : ServerStepped = record (core_step k false to now e x) { flying = fs } in z) (first_before (is_between j k) x.flying (flying_from k (sent_by x now e)) (goes_out j k (sent_by x now e) apart))

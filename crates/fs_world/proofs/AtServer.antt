@@ -7,7 +7,7 @@ use Rattle.fs_ident.specs.declared.actor.Peer.TheVariants.{Server}
 use Rattle.fs_ident.specs.In.{In}
 use Rattle.fs_record.specs.Moving.{AreEachRecords}
 use Rattle.fs_record.specs.declared.parcel.Parcel.{Parcel}
-use Rattle.fs_serial.specs.Cluster.{parcels_of}
+use Rattle.fs_serial.specs.Cluster.{parcel_in, parcels_of}
 use Rattle.fs_actor.specs.Actor.{is_full_down}
 use Rattle.fs_actor.specs.Hearing.{event_heard}
 use Rattle.fs_server.specs.Step.{spent_by, step}
@@ -27,6 +27,8 @@ use Rattle.fs_world.specs.Served.{Seats, ServerStepped, Stepped, at_server, core
 use Rattle.fs_world.specs.declared.served.Served.{Served}
 use Rattle.fs_world.proofs.AtSeat.{has_room, linked_after}
 use Rattle.fs_world.proofs.Linked.{server_linked, told_server_linked}
+use Rattle.fs_serial.proofs.Parcels.{at_some, parcel_flies}
+use Rattle.fs_world.specs.Linked.{IsParcelOf}
 
 -- what is lent out of a list stands there
 pub item_there : {X : Type 0} (xs : List X) (k : ℕ) (x : X) → k < length xs → x ≡ slice_index_or xs k x → slice_get xs k ≡ Some x
@@ -83,10 +85,8 @@ told_after (Err o) w new k now from p x fits h is = tt
 
 -- ## Parcels on their way
 
-of_flying : (flying : List Flying) → ((f : Flying) → In f flying → AreEachRecords f.parcel.records) → (p : Parcel) → In p (parcels_of flying) → AreEachRecords p.records
-of_flying [] h p i = absurd i
-of_flying (f ∷ fs) h p (inl e) = subst (λ (q : Parcel). AreEachRecords q.records) (sym e) (h f (inl refl))
-of_flying (f ∷ fs) h p (inr i) = of_flying fs (λ g j. h g (inr j)) p i
-
 pub parcels_apart : (w : Served) → IsLinked w → (parcels : List Parcel) → parcels ≡ parcels_of w.flying → (p : Parcel) → In p parcels → AreEachRecords p.records
-parcels_apart w h parcels is p i = of_flying w.flying (λ f j. (h.flying f j).each) p (subst (λ (ps : List Parcel). In p ps) is i)
+parcels_apart w h parcels is p i =
+    let q = parcel_flies p w.flying (subst (λ (ps : List Parcel). In p ps) is i) in
+    let own : IsParcelOf w.seats p = at_some (IsParcelOf w.seats) (parcel_in q.0.message) p q.1.1 (h.flying q.0 q.1.0).parcel in
+    own.each

@@ -28,6 +28,7 @@ use Rattle.fs_msg.specs.declared.end.End.{End}
 use Rattle.fs_msg.specs.declared.end.End.TheVariants as end
 use Rattle.fs_msg.specs.declared.entry.Entry.{Entry}
 use Rattle.fs_msg.specs.declared.note.Note.TheVariants as note
+use Rattle.fs_msg.specs.declared.peer_msg.PeerMsg.{PeerMsg}
 use Rattle.fs_msg.specs.declared.peer_msg.PeerMsg.TheVariants.{Parcel as OfParcel}
 use Rattle.fs_msg.specs.declared.server_note.ServerNote.{ServerNote}
 use Rattle.fs_msg.specs.declared.server_note.ServerNote.TheVariants as server
@@ -44,7 +45,7 @@ use Rattle.fs_client.specs.Turns.{ending, idle, release_some, renew_some, return
 use Rattle.fs_client.specs.declared.state.Client.{Client as ClientState}
 use Rattle.fs_client.proofs.Refused.{act_over, acts_stay, answers_tell, turns_stay}
 use Rattle.fs_server.specs.Asks.{asked_in, recall_of, recalls_at}
-use Rattle.fs_server.specs.Moves.{fits_here, move_at, parcel_at}
+use Rattle.fs_server.specs.Moves.{fits_here, move_at, parcel_at, peer_step}
 use Rattle.fs_server.specs.Reaps.{lapsed_in, reap_from, recalls_for, turn_over}
 use Rattle.fs_server.specs.Server.{begun as server_begun, strange as server_strange}
 use Rattle.fs_server.specs.Ships.{ship_from, shipped}
@@ -61,12 +62,12 @@ use Rattle.fs_world.specs.Over.{AllCaused, Said, all_said, sender_in}
 use Rattle.fs_world.specs.Packets.{first_untold}
 use Rattle.fs_world.specs.Refusals.{packet_told}
 use Rattle.fs_world.specs.Calls.{client_hears, server_hears}
-use Rattle.fs_world.specs.Carried.{Carries, GivesFirst, IsFirstOf, between, downs_of, joined_at, parcels_between, post_of, seat_post, ups_of}
+use Rattle.fs_world.specs.Carried.{Carries, GivesFirst, IsFirstOf, between, downs_of, joined_at, flying_between, post_of, seat_post, ups_of}
 use Rattle.fs_world.specs.Served.{Seats, Stepped, arrives, at_server, client_acts, client_turns, comes, do_at, first_seat, join_at, server_step_at, server_told, server_told_at, step_of, tell_at, told_at, turn_at, with_downs, with_seat, with_server, without_up}
 use Rattle.fs_world.specs.declared.form.Form.TheVariants as form
 use Rattle.fs_world.specs.declared.seat.Seat.{Seat}
 use Rattle.fs_world.specs.declared.served.Served.{Served}
-use Rattle.fs_world.proofs.Heard.{first_answer, first_parcel, first_question}
+use Rattle.fs_world.proofs.Heard.{first_answer, first_flying, first_question}
 use Rattle.fs_world.proofs.Said.{AreGiven, AreKnown, IsKnown, IsNoted, WasGiven, act_caused, all_more, downs_known, given_append, given_behind_all, heard_more, known_put, note_caused, note_heard}
 
 -- ## What a client notes of a turn is no answer
@@ -134,6 +135,9 @@ parcel_given : (now : List Said) (b : Bool) (p : Parcel) (s : Core) → AreGiven
 parcel_given now true p s = tt
 parcel_given now false p s = tt
 
+peer_given : (now : List Said) (m : PeerMsg) (s : Core) → AreGiven now (peer_step m s).out.send
+peer_given now (OfParcel p) s = parcel_given now (fits_here p s) p s
+
 -- a packet of the session brings the question
 abbrev IsFrom : Option Peer → ServerEvent → Type 0
 IsFrom from (FromClient by m) = from ≡ Some (Client by)
@@ -156,7 +160,7 @@ message_given k by (Ship entries) s now from e = ship_given k by entries (server
 
 step_given : (k : ℕ) (s : Core) (now : ℕ) (e : ServerEvent) (from : Option Peer) → IsFrom from e → AreGiven (says from k (core_steps s now e).out.note) (core_steps s now e).out.send
 step_given k s now (FromClient by m) from is = message_given k by m s now from is
-step_given k s now (FromPeer j (OfParcel p)) from is = let b : Core = server_begun now s in parcel_given (says from k (core_steps s now (FromPeer j (OfParcel p))).out.note) (fits_here p b) p b
+step_given k s now (FromPeer j m) from is = peer_given (says from k (core_steps s now (FromPeer j m)).out.note) m (server_begun now s)
 step_given k s now TheTurn from is = let b : Core = server_begun now s in turn_given (says from k (core_steps s now TheTurn).out.note) (lapsed_in b) b
 step_given k s now (TheRecall field) from is = recalls_given (says from k (core_steps s now (TheRecall field)).out.note) (recalled_on field (server_begun now s))
 step_given k s now (TheMove prefix to) from is = let b : Core = server_begun now s in move_given (says from k (core_steps s now (TheMove prefix to)).out.note) (move_refusal b.records b.rows b.map b.me prefix to None) prefix to b
@@ -305,11 +309,11 @@ module _ (before : List Said) (w : Served) (h : AreKnown before w.seats) (now : 
         let first = first_question k s seat j js f in
         subst (λ (e : Option ServerEvent). Tells (hearing (Client s) heard x e links)) (sym first.2) (message_says s seat heard x links first.0 of is)
 
-    peer_says : (i : ℕ) (heard : Option Peer) (x : HeardThere) (js : List Joined) (links : Links) → IsFirstOf js (parcels_between i k w.flying) → Tells (hearing (Server i) heard x (event_heard (Server i) js) links)
+    peer_says : (i : ℕ) (heard : Option Peer) (x : HeardThere) (js : List Joined) (links : Links) → IsFirstOf js (flying_between i k w.flying) → Tells (hearing (Server i) heard x (event_heard (Server i) js) links)
     peer_says i heard x [] links f = unheard_says (Server i) heard x links
     peer_says i heard x (j ∷ js) links f =
-        let first = first_parcel k i w.flying j js f in
-        subst (λ (e : Option ServerEvent). Tells (hearing (Server i) heard x e links)) (sym first.2) (steps (FromPeer i (OfParcel first.0.parcel)) w.seats tt h)
+        let first = first_flying k i w.flying j js f in
+        subst (λ (e : Option ServerEvent). Tells (hearing (Server i) heard x e links)) (sym first.2) (steps (FromPeer i first.0.message) w.seats tt h)
 
     told_server : (who : Peer) (p : Packet) → from ≡ Some who → IsFirstOf (post_accepted post who p).heard.joined (between w who (Server k)) → Tells (with_server k (server_told now k who p (at_server c post w)) w)
     told_server (Client s) p of f =

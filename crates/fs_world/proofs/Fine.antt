@@ -37,9 +37,10 @@ use Rattle.fs_record.specs.ValueOf.{selves_in}
 use Rattle.fs_parcel.specs.Parcel.{move_refusal}
 use Rattle.fs_parcel.specs.declared.error.MoveError.{MoveError}
 use Rattle.fs_record.specs.declared.parcel.Parcel.{Parcel}
+use Rattle.fs_msg.specs.declared.peer_msg.PeerMsg.{PeerMsg}
 use Rattle.fs_msg.specs.declared.peer_msg.PeerMsg.TheVariants.{Parcel as OfParcel}
 use Rattle.fs_server.proofs.OneByOne.{each_entry, each_lapsed}
-use Rattle.fs_server.specs.Moves.{fits_here, move_at, parcel_at}
+use Rattle.fs_server.specs.Moves.{fits_here, move_at, parcel_at, peer_step}
 use Rattle.fs_server.specs.Reaps.{Reaping, lapsed_in, reap_from, reap_item, turn_over, with_blocker, with_reap}
 use Rattle.fs_server.specs.Server.{begun as server_begun, is_mine, moved, strange as server_strange}
 use Rattle.fs_server.specs.Ships.{Shipping, first_gone, item_of, ship_from, shipped, with_entry}
@@ -191,6 +192,9 @@ parcel_fine : (b : Bool) (p : Parcel) (s : ServerState) → AllFine (parcel_at b
 parcel_fine true p s = tt
 parcel_fine false p s = tt
 
+peer_fine : (m : PeerMsg) (s : ServerState) → AllFine (peer_step m s).out.admitted
+peer_fine (OfParcel p) s = parcel_fine (fits_here p s) p s
+
 abbrev pub EventAsks : ServerEvent → Type 0
 EventAsks (FromClient by m) = MessageAsks m
 EventAsks e = Unit {0}
@@ -199,5 +203,5 @@ pub step_fine : (s : ServerState) (now : ℕ) (e : ServerEvent) → EventAsks e 
 step_fine s now (FromClient by m) a = message_fine by m (server_begun now s) a
 step_fine s now Turn a = let b : ServerState = server_begun now s in turn_over_fine (lapsed_in b) b
 step_fine s now (TheRecall field) a = tt
-step_fine s now (FromPeer from (OfParcel p)) a = let b : ServerState = server_begun now s in parcel_fine (fits_here p b) p b
+step_fine s now (FromPeer from m) a = peer_fine m (server_begun now s)
 step_fine s now (Move prefix to) a = let b : ServerState = server_begun now s in move_fine (move_refusal b.records b.rows b.map b.me prefix to None) prefix to b

@@ -11,13 +11,12 @@ use Rattle.fs_msg.specs.declared.answer.Answer.{Answer}
 use Rattle.fs_msg.specs.declared.client_msg.ClientMsg.{ClientMsg}
 use Rattle.fs_msg.specs.declared.msg.Msg.{Msg}
 use Rattle.fs_msg.specs.declared.msg.Msg.TheVariants as msg
-use Rattle.fs_msg.specs.declared.peer_msg.PeerMsg.TheVariants.{Parcel as OfParcel}
 use Rattle.fs_actor.specs.Hearing.{answer_heard, answer_of, event_heard, event_of}
 use Rattle.fs_actor.proofs.AsSent.{sent_read}
 use Rattle.fs_serial.specs.Cluster.{is_between, is_with}
 use Rattle.fs_serial.specs.declared.flying.Flying.{Flying}
 use Rattle.fs_server.specs.declared.event.ServerEvent.TheVariants.{FromClient, FromPeer}
-use Rattle.fs_world.specs.Carried.{IsFirstOf, downs_of, parcels_between, ups_of}
+use Rattle.fs_world.specs.Carried.{IsFirstOf, downs_of, flying_between, ups_of}
 use Rattle.fs_world.specs.declared.seat.Seat.{Seat}
 use Rattle.fs_world.proofs.LinkedLists.{found_joined}
 
@@ -51,16 +50,16 @@ first_question k s seat j js f = at (find (is_with k) seat.up) refl
         let here = found_joined as_sent (is_with k) seat.up (j ∷ js) (Some m) e f in
         (m, e, ap (event_of (Client s)) (sent_read j (msg.Client m.1) here.0 here.1), here.1)
 
--- a parcel of the server
-pub first_parcel : (k i : ℕ) (flying : List Flying) (j : Joined) (js : List Joined) → IsFirstOf (j ∷ js) (parcels_between i k flying)
-    → (f : Flying) × (find (is_between i k) flying ≡ Some f) × (event_heard (Server i) (j ∷ js) ≡ Some (FromPeer i (OfParcel f.parcel)))
-first_parcel k i flying j js f = at (find (is_between i k) flying) refl
+-- a message of another server
+pub first_flying : (k i : ℕ) (flying : List Flying) (j : Joined) (js : List Joined) → IsFirstOf (j ∷ js) (flying_between i k flying)
+    → (f : Flying) × (find (is_between i k) flying ≡ Some f) × (event_heard (Server i) (j ∷ js) ≡ Some (FromPeer i f.message))
+first_flying k i flying j js f = at (find (is_between i k) flying) refl
   where
     as_sent : Flying → Msg
-    as_sent x = msg.Peer (OfParcel x.parcel)
+    as_sent x = msg.Peer x.message
 
-    at : (o : Option Flying) → find (is_between i k) flying ≡ o → (x : Flying) × (find (is_between i k) flying ≡ Some x) × (event_heard (Server i) (j ∷ js) ≡ Some (FromPeer i (OfParcel x.parcel)))
+    at : (o : Option Flying) → find (is_between i k) flying ≡ o → (x : Flying) × (find (is_between i k) flying ≡ Some x) × (event_heard (Server i) (j ∷ js) ≡ Some (FromPeer i x.message))
     at None e = absurd (found_joined as_sent (is_between i k) flying (j ∷ js) None e f)
     at (Some x) e =
         let here = found_joined as_sent (is_between i k) flying (j ∷ js) (Some x) e f in
-        (x, e, ap (event_of (Server i)) (sent_read j (msg.Peer (OfParcel x.parcel)) here.0 here.1))
+        (x, e, ap (event_of (Server i)) (sent_read j (msg.Peer x.message) here.0 here.1))

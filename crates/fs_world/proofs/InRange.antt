@@ -13,14 +13,13 @@ use Rattle.fs_msg.specs.declared.answer.Answer.{Answer}
 use Rattle.fs_msg.specs.declared.client_msg.ClientMsg.{ClientMsg}
 use Rattle.fs_msg.specs.declared.msg.Msg.{Msg}
 use Rattle.fs_msg.specs.declared.msg.Msg.TheVariants as msg
-use Rattle.fs_msg.specs.declared.peer_msg.PeerMsg.TheVariants.{Parcel as OfParcel}
-use Rattle.fs_record.specs.declared.parcel.Parcel.{Parcel}
+use Rattle.fs_msg.specs.declared.peer_msg.PeerMsg.{PeerMsg}
 use Rattle.fs_serial.specs.Cluster.{flying_from, is_between, is_with}
 use Rattle.fs_serial.specs.declared.flying.Flying.{Flying}
 use Rattle.fs_serial.proofs.RowKinds.{In-kept}
 use Rattle.fs_window.specs.Peers.{same_peer}
 use Rattle.fs_window.proofs.Lists.{some_is}
-use Rattle.fs_world.specs.Linked.{FitsDown, FitsUp, HasJoined, IsLinked, IsWritten, downs_of, parcels_between, seat_post, ups_of}
+use Rattle.fs_world.specs.Linked.{FitsDown, FitsUp, HasJoined, IsLinked, IsWritten, downs_of, flying_between, seat_post, ups_of}
 use Rattle.fs_world.specs.Served.{Seats, up_after, with_down, with_down_at, with_downs}
 use Rattle.fs_world.specs.Within.{AllInRange, IsInRange}
 use Rattle.fs_world.specs.declared.seat.Seat.{Seat}
@@ -61,14 +60,14 @@ module _ (w : Served) (h : IsLinked w) where
       (subst (λ (o : Option Seat). In (msg.Answer m.1) (downs_of m.0 o)) (sym at)
       (In-mapped (λ (x : ℕ × Answer). msg.Answer x.1) m (filter (is_with m.0) seat.down) (In-kept (is_with m.0) m seat.down i (itself m.0))))
 
-  flying_fits : (f : Flying) → In f w.flying → IsInRange (msg.Peer (OfParcel f.parcel))
+  flying_fits : (f : Flying) → In f w.flying → IsInRange (msg.Peer f.message)
   flying_fits f i =
       let c = h.flying f i in
       let p = posts_there w h f.from c.from in
       let q = posts_there w h f.to c.to in
       let way = (h.ties.pairs (Server f.from) (Server f.to) p.0 q.0 (different f.from f.to c.apart) p.1 q.1).way in
-      each_of IsInRange (parcels_between f.from f.to w.flying) way.fits (msg.Peer (OfParcel f.parcel))
-      (In-mapped (λ (x : Flying). msg.Peer (OfParcel x.parcel)) f (filter (is_between f.from f.to) w.flying)
+      each_of IsInRange (flying_between f.from f.to w.flying) way.fits (msg.Peer f.message)
+      (In-mapped (λ (x : Flying). msg.Peer x.message) f (filter (is_between f.from f.to) w.flying)
       (In-kept (is_between f.from f.to) f w.flying i (both_joined (f.from == f.from) (f.to == f.to) (itself f.from) (itself f.to))))
 
   pub linked_in_range : AllInRange w
@@ -136,17 +135,17 @@ answers_go k (x ∷ xs) seats s a j (inl e) =
 answers_go k (x ∷ xs) seats s a j (inr i) = answers_go k xs (with_down k x seats) s a (down_joined k x seats s j) i
 
 more_fly : (k : ℕ) (x : Peer × Msg) (xs : List (Peer × Msg)) (f : Flying) → In f (flying_from k xs) → In f (flying_from k (x ∷ xs))
-more_fly k (Server to, msg.Peer (OfParcel p)) xs f i = inr i
+more_fly k (Server to, msg.Peer m) xs f i = inr i
 more_fly k (Server to, msg.Answer a) xs f i = i
 more_fly k (Server to, msg.Client m) xs f i = i
 more_fly k (Client s, m) xs f i = i
 
-parcels_go : (k : ℕ) (xs : List (Peer × Msg)) (to : ℕ) (p : Parcel) → In (Server to, msg.Peer (OfParcel p)) xs → In (record { from = k; to = to; parcel = p }) (flying_from k xs)
-parcels_go k [] to p i = absurd i
-parcels_go k (x ∷ xs) to p (inl e) =
-    let f : Flying = record { from = k; to = to; parcel = p } in
+peers_go : (k : ℕ) (xs : List (Peer × Msg)) (to : ℕ) (m : PeerMsg) → In (Server to, msg.Peer m) xs → In (record { from = k; to = to; message = m }) (flying_from k xs)
+peers_go k [] to m i = absurd i
+peers_go k (x ∷ xs) to m (inl e) =
+    let f : Flying = record { from = k; to = to; message = m } in
     subst (λ (z : Peer × Msg). In f (flying_from k (z ∷ xs))) e (inl refl)
-parcels_go k (x ∷ xs) to p (inr i) = more_fly k x xs (record { from = k; to = to; parcel = p }) (parcels_go k xs to p i)
+peers_go k (x ∷ xs) to m (inr i) = more_fly k x xs (record { from = k; to = to; message = m }) (peers_go k xs to m i)
 
 -- by a server
 pub down_written : (servers : ℕ) (seats before : Seats) (k : ℕ) (xs : List (Peer × Msg)) (flying : List Flying) (w : Served) → AreSent servers seats k xs → ((t : Session) → HasJoined seats t → HasJoined before t)
@@ -157,9 +156,9 @@ down_written servers seats before k xs flying w sent joined seats_are flying_is 
     one (Client s, msg.Answer a) i q =
         let d = answers_go k xs before s a (joined s q.0) i in
         written (msg.Answer a) (r.down s d.seat (k, a) (ap (λ (m : Seats). get m s.0) seats_are ∙ d.at) d.among)
-    one (Server to, msg.Peer (OfParcel p)) i q =
-        let f : Flying = record { from = k; to = to; parcel = p } in
-        written (msg.Peer (OfParcel p)) (r.flying f (subst (λ (fs : List Flying). In f fs) (sym flying_is) (In-behind f flying (flying_from k xs) (parcels_go k xs to p i))))
+    one (Server to, msg.Peer m) i q =
+        let f : Flying = record { from = k; to = to; message = m } in
+        written (msg.Peer m) (r.flying f (subst (λ (fs : List Flying). In f fs) (sym flying_is) (In-behind f flying (flying_from k xs) (peers_go k xs to m i))))
     one (Client s, msg.Client m) i q = absurd q
     one (Client s, msg.Peer m) i q = absurd q
     one (Server to, msg.Answer a) i q = absurd q

@@ -24,7 +24,7 @@ use Rattle.fs_msg.specs.Ranges.{FitsMessage}
 use Rattle.fs_msg.specs.Spelling.{message}
 use Rattle.fs_msg.specs.declared.msg.Msg.{Msg}
 use Rattle.fs_serial.specs.declared.flying.Flying.{Flying}
-use Rattle.fs_world.specs.Linked.{AreTied, GoesBetween, IsFirstOf, IsPair, IsPost, IsThere, between, downs_of, parcels_between, post_of, seat_post, ups_of}
+use Rattle.fs_world.specs.Linked.{AreTied, GoesBetween, IsFirstOf, IsPair, IsPost, IsThere, between, downs_of, flying_between, post_of, seat_post, ups_of}
 use Rattle.fs_world.specs.Served.{Seats, link_width}
 use Rattle.fs_world.specs.declared.served.Served.{Served}
 use Rattle.fs_world.proofs.LinkedPair.{BothWays, GoesElsewhere, IsDue, both_accepted, both_due, both_new, both_pushed, first_joined, pair_elsewhere, rest_of}
@@ -139,7 +139,7 @@ tied_alike w v posts seats flying sent h = record { posts = posts_of; pairs = pa
     way_same : (a b : Peer) → between v a b ≡ between w a b
     way_same (Client s) (Server k) = ap (λ (m : Seats). ups_of k (get m s.0)) seats
     way_same (Server k) (Client s) = ap (λ (m : Seats). downs_of k (get m s.0)) seats
-    way_same (Server j) (Server k) = ap (λ (fs : List Flying). parcels_between j k fs) flying
+    way_same (Server j) (Server k) = ap (λ (fs : List Flying). flying_between j k fs) flying
     way_same (Client s) (Client t) = refl
 
     posts_of : (a : Peer) (p : Links) → post_of v a ≡ Some p → IsPost a p
@@ -368,5 +368,5 @@ tied_joined a w v none c ways h = tied_changed a (no_links a link_width) w v [] 
     at x r f k =
         subst (λ (m : Link). BothWays a x (new_link link_width) m (between v a x) (between v x a) v.packets.sent) (sym (h.alone x a r k none))
         (both_alike a x (new_link link_width) (new_link link_width) [] (between v a x) [] (between v x a) w.packets.sent v.packets.sent (ways x).0 (ways x).1 packets
-        (both_new a x link_width link_width w.packets.sent
+        (both_new a x w.packets.sent
         (λ y n e g. gone (subst (λ (z : Peer). IsThere w z) e (h.between y n).from)) (λ y n e g. gone (subst (λ (z : Peer). IsThere w z) g (h.between y n).to))))

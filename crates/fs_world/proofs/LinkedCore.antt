@@ -34,7 +34,6 @@ use Rattle.fs_msg.specs.declared.msg.Msg.{Msg}
 use Rattle.fs_msg.specs.declared.msg.Msg.TheVariants as msg
 use Rattle.fs_msg.specs.declared.note.Note.{Note}
 use Rattle.fs_msg.specs.declared.note.Note.TheVariants as note
-use Rattle.fs_msg.specs.declared.peer_msg.PeerMsg.TheVariants.{Parcel as OfParcel}
 use Rattle.fs_actor.specs.Actor as actor
 use Rattle.fs_actor.specs.Actor.{first_spent, is_full_down, with_pushed}
 use Rattle.fs_actor.specs.Hearing.{event_heard, heard_in, unheard_note}
@@ -46,7 +45,7 @@ use Rattle.fs_server.specs.declared.event.ServerEvent.{ServerEvent}
 use Rattle.fs_server.specs.declared.event.ServerEvent.TheVariants.{FromClient, FromPeer, Move, Recall, Turn}
 use Rattle.fs_server.specs.declared.state.Server.{Server as Core}
 use Rattle.fs_serial.proofs.SetAt.{In_without, set_same}
-use Rattle.fs_world.specs.Linked.{AreTied, FitsDown, HasJoined, IsCarried, IsFirstOf, IsLinked, IsNamedAnswer, IsSeated, IsServed, between, parcels_between, seat_post, ups_of}
+use Rattle.fs_world.specs.Linked.{AreTied, FitsDown, HasJoined, IsCarried, IsFirstOf, IsLinked, IsNamedAnswer, IsSeated, IsServed, between, flying_between, seat_post, ups_of}
 use Rattle.fs_world.specs.Planned.{IsAnswered, IsOwn, WasSent}
 use Rattle.fs_world.specs.Calls.{server_goes, server_hears}
 use Rattle.fs_world.specs.Served.{Seats, ServerStepped, at_server, core_of, core_step, server_step, server_step_at, server_stepped, server_told, with_down, with_down_at, with_downs, with_server, without_up}
@@ -54,7 +53,7 @@ use Rattle.fs_world.specs.declared.seat.Seat.{Seat}
 use Rattle.fs_world.specs.declared.served.Served.{Served}
 use Rattle.fs_world.proofs.LinkedChange.{IsHeard, first_of, other_way, tied_alike}
 use Rattle.fs_world.proofs.GoesAlone.{goes_alone}
-use Rattle.fs_world.proofs.Heard.{first_parcel, first_question}
+use Rattle.fs_world.proofs.Heard.{first_flying, first_question}
 use Rattle.fs_world.proofs.LinkedLists.{got_set, within}
 use Rattle.fs_world.proofs.LinkedSeats.{all_put, got_here, put_same, taken}
 use Rattle.fs_world.proofs.LinkedServed.{other_post, server_due, server_hears_server, server_hears_session, server_sends, serving}
@@ -205,8 +204,8 @@ module _ (w : Served) (k : ℕ) (few : k < length w.servers) (h : IsLinked w) wh
   flying_carried seats ((Client s, msg.Peer c) ∷ xs) sent f i = absurd sent.0
   flying_carried seats ((Server to, msg.Answer a) ∷ xs) sent f i = absurd sent.0
   flying_carried seats ((Server to, msg.Client c) ∷ xs) sent f i = absurd sent.0
-  flying_carried seats ((Server to, msg.Peer (OfParcel p)) ∷ xs) sent f (inl e) = subst (λ (y : Flying). IsCarried server_count seats y) (sym e) sent.0
-  flying_carried seats ((Server to, msg.Peer (OfParcel p)) ∷ xs) sent f (inr i) = flying_carried seats xs sent.1 f i
+  flying_carried seats ((Server to, msg.Peer m) ∷ xs) sent f (inl e) = subst (λ (y : Flying). IsCarried server_count seats y) (sym e) sent.0
+  flying_carried seats ((Server to, msg.Peer m) ∷ xs) sent f (inr i) = flying_carried seats xs sent.1 f i
 
   pub core_goes : (x : ServerStepped) (turn : Bool) (heard : Option Peer) (now : ℕ) (e : ServerEvent) → IsOther server_count x.seats k heard → IsBrought server_count x.seats x.server e → FitsDown (step x.server now e).out.send → is_full_down (step x.server now e).out.send x.post ≡ false
       → IsGoing w k x → IsGoing w k (core_step k turn heard now e x)
@@ -266,17 +265,17 @@ module _ (w : Served) (k : ℕ) (few : k < length w.servers) (h : IsLinked w) wh
 
   -- of another server
   server_comes : (x : ServerStepped) (i : ℕ) (now : ℕ) (heard : Option Peer) (count : Heard) (post : Links) (joined : List Joined)
-      → IsOther server_count x.seats k heard → IsFirstOf joined (parcels_between i k x.flying) → ((f : Flying) → find (is_between i k) x.flying ≡ Some f → IsCarried server_count x.seats f)
+      → IsOther server_count x.seats k heard → IsFirstOf joined (flying_between i k x.flying) → ((f : Flying) → find (is_between i k) x.flying ≡ Some f → IsCarried server_count x.seats f)
       → IsGoing w k (record x { post = post; flying = taken joined (is_between i k) x.flying })
       → IsAnswered now (event_heard (Server i) joined) (record x { post = post })
       → IsGoing w k (server_hears now k (Server i) heard count (event_heard (Server i) joined) (record x { post = post }))
   server_comes x i now heard count post [] of f carried g answered = none_heard (record x { post = post }) heard (unheard_note count) of g
   server_comes x i now heard count post (j ∷ js) of f carried g answered =
-      let first = first_parcel k i x.flying j js f in
+      let first = first_flying k i x.flying j js f in
       let c = carried first.0 first.1 in
       let fits = subst (λ (o : Option ServerEvent). IsAnswered now o (record x { post = post })) first.2 answered in
       subst (λ (o : Option ServerEvent). IsGoing w k (server_hears now k (Server i) heard count o (record x { post = post }))) (sym first.2)
-      (core_goes (record x { post = post; flying = without_first (is_between i k) x.flying }) false heard now (FromPeer i (OfParcel first.0.parcel)) of (c.each, c.handles, c.rows) fits.0 fits.1 g)
+      (core_goes (record x { post = post; flying = without_first (is_between i k) x.flying }) false heard now (FromPeer i first.0.message) of c.parcel fits.0 fits.1 g)
 
 -- ## An event of a server
 

@@ -15,7 +15,7 @@ use Rattle.fs_serial.specs.Cluster.{first_servers}
 use Rattle.fs_serial.specs.declared.flying.Flying.{Flying}
 use Rattle.fs_server.specs.Server.{first_server}
 use Rattle.fs_server.specs.declared.state.Server.{Server as Core}
-use Rattle.fs_world.specs.Linked.{AreTied, HasJoined, IsCarried, IsLinked, IsPair, IsPost, IsSeated, IsServed, between, downs_of, post_of, seat_post, ups_of}
+use Rattle.fs_world.specs.Linked.{AreTied, HasJoined, IsCarried, IsLinked, IsPair, IsParcelOf, IsPost, IsSeated, IsServed, between, downs_of, post_of, seat_post, ups_of}
 use Rattle.fs_world.specs.Packets.{with_told}
 use Rattle.fs_world.specs.Served.{Seats, first_posts, first_seat, first_served, join_at, link_width}
 use Rattle.fs_world.specs.declared.seat.Seat.{Seat}
@@ -29,6 +29,8 @@ pub use Rattle.fs_world.proofs.NamedClients.{answer_silent}
 use Rattle.fs_world.proofs.NamedServers.{first_served_core, in_range}
 use Rattle.fs_world.proofs.Seen.{joined_still}
 use Rattle.fs_world.proofs.StayingServers.{first_count}
+use Rattle.fs_serial.specs.Cluster.{parcel_in}
+use Rattle.fs_serial.proofs.Parcels.{if_some}
 
 -- ## Whoever has joined stays
 
@@ -36,7 +38,7 @@ pub served_then : (servers : ℕ) (a b : Seats) (k : ℕ) (s : Core) → ((t : S
 served_then servers a b k s g h = record { me = h.me; named = h.named; records = h.records; handles = h.handles; rows = λ row i. g row.session (h.rows row i) }
 
 pub carried_then : (servers : ℕ) (a b : Seats) (f : Flying) → ((t : Session) → HasJoined a t → HasJoined b t) → IsCarried servers a f → IsCarried servers b f
-carried_then servers a b f g h = record { from = h.from; to = h.to; apart = h.apart; each = h.each; handles = h.handles; rows = λ row i. g row.session (h.rows row i) }
+carried_then servers a b f g h = record { from = h.from; to = h.to; apart = h.apart; parcel = if_some (IsParcelOf a) (IsParcelOf b) (λ p q. record { each = q.each; handles = q.handles; rows = λ row i. g row.session (q.rows row i) }) (parcel_in f.message) h.parcel }
 
 abbrev pub AllSeated : ℕ → Seats → Type 0
 AllSeated servers seats = AtAll (IsSeated servers) seats
@@ -85,7 +87,7 @@ first_tied n skew term = record {
       subst (λ (x : Links). IsPair a b (link_with x b) (link_with q a) (between (first_served n skew term) a b) []) (sym (first_peer n skew term a p e))
       (subst (λ (x : Links). IsPair a b (new_link link_width) (link_with x a) (between (first_served n skew term) a b) []) (sym (first_peer n skew term b q g))
       (subst (λ (ms : List Msg). IsPair a b (new_link link_width) (new_link link_width) ms []) (sym (first_between n skew term a b))
-      (both_new a b link_width link_width [] (λ x i e f. absurd i) (λ x i e f. absurd i)).going));
+      (both_new a b [] (λ x i e f. absurd i) (λ x i e f. absurd i)).going));
   alone = λ a b p e g. ap (λ (x : Links). link_with x b) (first_peer n skew term a p e);
   between = λ x i. absurd i;
 }

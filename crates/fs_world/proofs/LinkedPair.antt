@@ -1,7 +1,7 @@
 -- The links of two actors with each other: what is pushed, what goes out, and what comes.
-use Rattle.std.proofs.Common.{◌≡◌, ℕ, ◌+◌, ◌<◌, ◌≤◌, ◌^◌, Bool, true, false, List, [], ◌∷◌, ◌++◌, length, map, Option, Some, None, sym, ap, subst, cond, ◌∙◌, arith}
+use Rattle.std.proofs.Common.{◌≡◌, ℕ, ◌+◌, ◌<◌, ◌≤◌, ◌^◌, Bool, List, [], ◌∷◌, ◌++◌, length, map, Option, Some, None, sym, ap, subst, ◌∙◌, arith}
 use Rattle.std.specs.List.{AllByRecursion}
-use Rattle.std.specs.Prelude.{Result, Ok, Err, ◌==◌}
+use Rattle.std.specs.Prelude.{Result, Ok, Err}
 use Rattle.std.proofs.lemmas.List.{map-append}
 use Rattle.fs_ident.specs.In.{In}
 use Rattle.fs_ident.specs.declared.actor.Peer.{Peer}
@@ -21,11 +21,13 @@ use Rattle.fs_window.specs.Post.{heard_on, link_accepted, link_pushed, link_sent
 use Rattle.fs_window.specs.Reading.{packet_at}
 use Rattle.fs_window.proofs.Carried.{carries_new, carries_pushed, carries_sent, carries_told, carries_back, carries_other_pushed, carries_other_sent, made_fits, packet_pushed, packet_sent, packet_told, packet_back, packet_other_pushed, packet_other_sent}
 use Rattle.fs_window.proofs.Lists.{some_is}
+use Rattle.fs_window.proofs.Narrow.{narrow_new, narrow_pushed, narrow_sent, narrow_accepted, one_given}
 use Rattle.fs_window.proofs.OneStep.{made_packet}
 use Rattle.fs_window.proofs.ReadBack.{written}
 use Rattle.fs_msg.specs.Ranges.{FitsMessage}
 use Rattle.fs_msg.specs.Spelling.{message}
 use Rattle.fs_msg.specs.declared.msg.Msg.{Msg}
+use Rattle.fs_world.specs.Served.{link_width}
 use Rattle.fs_world.specs.Within.{IsInRange}
 use Rattle.fs_world.specs.Linked.{IsFirstOf, IsPair, IsSentOver, IsWay}
 
@@ -39,10 +41,10 @@ abbrev pub GoesElsewhere : Peer → Peer → List Sent → Type 0
 GoesElsewhere a b packets = (x : Sent) → In x packets → x.from ≡ a → x.to ≡ b → ⊥
 
 -- two new links
-pub both_new : (a b : Peer) (v w : ℕ) (packets : List Sent) → GoesElsewhere a b packets → GoesElsewhere b a packets → BothWays a b (new_link v) (new_link w) [] [] packets
-both_new a b v w packets g k = record {
-  going = record { way = record { carries = carries_new v w; fits = tt }; packets = λ x i e f. absurd (g x i e f) };
-  coming = record { way = record { carries = carries_new w v; fits = tt }; packets = λ x i e f. absurd (k x i e f) };
+pub both_new : (a b : Peer) (packets : List Sent) → GoesElsewhere a b packets → GoesElsewhere b a packets → BothWays a b (new_link link_width) (new_link link_width) [] [] packets
+both_new a b packets g k = record {
+  going = record { way = record { narrow = narrow_new; carries = carries_new link_width link_width; fits = tt }; packets = λ x i e f. absurd (g x i e f) };
+  coming = record { way = record { narrow = narrow_new; carries = carries_new link_width link_width; fits = tt }; packets = λ x i e f. absurd (k x i e f) };
 }
 
 -- packets go out elsewhere
@@ -63,6 +65,7 @@ pub both_pushed : (a b : Peer) (here there : Link) (out back : List Msg) (packet
 both_pushed a b here there out back packets m fits short room h = record {
   going = record {
     way = record {
+      narrow = h.going.way.narrow;
       carries = subst (λ (ms : List (List ℕ)). Carries (link_pushed here (message m)) there ms) (sym (map-append message out (m ∷ [])))
           (carries_pushed here there (map message out) (message m) short room h.going.way.carries);
       fits = fits_more out m h.going.way.fits (record { short = short; fits = fits });
@@ -70,7 +73,7 @@ both_pushed a b here there out back packets m fits short room h = record {
     packets = λ x i e f. going (h.going.packets x i e f);
   };
   coming = record {
-    way = record { carries = carries_other_pushed there here (map message back) (message m) h.coming.way.carries; fits = h.coming.way.fits };
+    way = record { narrow = narrow_pushed here.window (cut_of (message m)) h.coming.way.narrow; carries = carries_other_pushed there here (map message back) (message m) h.coming.way.carries; fits = h.coming.way.fits };
     packets = λ x i e f. coming (h.coming.packets x i e f);
   };
 }
@@ -95,11 +98,11 @@ pub both_due : (a b : Peer) (here there : Link) (out back : List Msg) (packets m
     → BothWays a b here there out back packets → BothWays a b (link_sent here) there out back (packets ++ more)
 both_due a b here there out back packets more due elsewhere h = record {
   going = record {
-    way = record { carries = carries_sent here there (map message out) h.going.way.carries; fits = h.going.way.fits };
+    way = record { narrow = h.going.way.narrow; carries = carries_sent here there (map message out) h.going.way.carries; fits = h.going.way.fits };
     packets = λ x i e f. In-both x packets more (IsSentOver (link_sent here) there x.bytes) (λ j. going (h.going.packets x j e f)) (λ j. made (due x j e f)) i;
   };
   coming = record {
-    way = record { carries = carries_other_sent there here (map message back) h.coming.way.carries; fits = h.coming.way.fits };
+    way = record { narrow = narrow_sent here.window h.coming.way.narrow; carries = carries_other_sent there here (map message back) h.coming.way.carries; fits = h.coming.way.fits };
     packets = λ x i e f. In-both x packets more (IsSentOver there (link_sent here) x.bytes) (λ j. coming (h.coming.packets x j e f)) (λ j. absurd (elsewhere x j e f)) i;
   };
 }
@@ -136,13 +139,10 @@ one_answer (Ok (Some m)) = omega arith
 one_answer (Ok None) = omega arith
 one_answer (Err e) = omega arith
 
-few_given : (held : List ℕ) (got : ℕ) (body : Option (ℕ × List ℕ)) → length (joined_of (answers held (given_by got body))) ≤ 1
-few_given held got None = omega arith
-few_given held got (Some b) = either (b.0 == got)
-  where
-    either : (next : Bool) → length (joined_of (answers held (cond next (b.1 ∷ []) []))) ≤ 1
-    either true = one_answer (answer_of (held ++ b.1))
-    either false = omega arith
+few_joined : (held : List ℕ) (segments : List (List ℕ)) → length segments ≤ 1 → length (joined_of (answers held segments)) ≤ 1
+few_joined held [] few = omega arith
+few_joined held (s ∷ []) few = one_answer (answer_of (held ++ s))
+few_joined held (s ∷ t ∷ segments) few = absurd (omega arith)
 
 -- where these come whole
 record AreFirst (joined : List Joined) (others : List (List ℕ)) (messages : List Msg) : Type 0 where
@@ -166,7 +166,7 @@ parted (j ∷ k ∷ js) (w ∷ ws) rest (m ∷ ms) e few all fits = absurd (omeg
 heard_first : (from to : Link) (ms : List Msg) (p : Packet) → IsPacketOf from.window to.window p → IsWay from to ms → (rest : List (List ℕ)) × (AreFirst (heard_on to p).joined rest ms × Carries from (link_accepted to p) rest)
 heard_first from to ms p q h =
     let t : HasHeard from to p (map message ms) = carries_told from to (map message ms) p q.body h.carries in
-    (t.rest, (parted (heard_on to p).joined t.whole t.rest ms t.joined (few_given to.joiner to.window.got p.body) t.all h.fits, t.carries))
+    (t.rest, (parted (heard_on to p).joined t.whole t.rest ms t.joined (few_joined to.joiner (given_by to.window p.body) (one_given to.window p.body h.narrow)) t.all h.fits, t.carries))
 
 -- what it completes is the first message on its way
 pub first_joined : (from to : Link) (messages : List Msg) (p : Packet) → IsPacketOf from.window to.window p → IsWay from to messages → IsFirstOf (heard_on to p).joined messages
@@ -178,11 +178,11 @@ both_accepted a b here there out back packets p q h =
     let t = heard_first there here back p q h.coming.way in
     record {
       going = record {
-        way = record { carries = carries_back here there (map message out) p q.ack h.going.way.carries; fits = h.going.way.fits };
+        way = record { narrow = h.going.way.narrow; carries = carries_back here there (map message out) p q.ack h.going.way.carries; fits = h.going.way.fits };
         packets = λ x i e f. going (h.going.packets x i e f);
       };
       coming = record {
-        way = record { carries = subst (λ (ms : List (List ℕ)). Carries there (link_accepted here p) ms) t.1.0.rest t.1.1; fits = t.1.0.fits };
+        way = record { narrow = narrow_accepted here.window p h.coming.way.narrow; carries = subst (λ (ms : List (List ℕ)). Carries there (link_accepted here p) ms) t.1.0.rest t.1.1; fits = t.1.0.fits };
         packets = λ x i e f. coming (h.coming.packets x i e f);
       };
     }

@@ -22,13 +22,13 @@ use Rattle.fs_msg.specs.declared.answer.Answer.{Answer}
 use Rattle.fs_msg.specs.declared.client_msg.ClientMsg.{ClientMsg}
 use Rattle.fs_msg.specs.declared.msg.Msg.{Msg}
 use Rattle.fs_msg.specs.declared.msg.Msg.TheVariants as msg
-use Rattle.fs_msg.specs.declared.peer_msg.PeerMsg.TheVariants.{Parcel as OfParcel}
+use Rattle.fs_msg.specs.declared.peer_msg.PeerMsg.{PeerMsg}
 use Rattle.fs_record.specs.declared.parcel.Parcel.{Parcel}
 use Rattle.fs_actor.specs.Actor.{is_full_down, is_full_for, with_pushed}
 use Rattle.fs_serial.specs.Cluster.{flying_from, is_between, is_with}
 use Rattle.fs_serial.specs.declared.flying.Flying.{Flying}
 use Rattle.fs_wire.specs.Readable.{is_readable_session}
-use Rattle.fs_world.specs.Linked.{AreTied, FitsDown, HasJoined, IsWritten, between, downs_of, parcels_between, post_of, seat_post, ups_of}
+use Rattle.fs_world.specs.Linked.{AreTied, FitsDown, HasJoined, IsWritten, between, downs_of, flying_between, post_of, seat_post, ups_of}
 use Rattle.fs_world.specs.Packets.{Packets, with_sent}
 use Rattle.fs_world.specs.Served.{Seats, ServerStepped, with_down, with_down_at, with_downs, with_server}
 use Rattle.fs_world.specs.declared.seat.Seat.{Seat}
@@ -49,7 +49,7 @@ pub record Elsewhere (k : ℕ) (x y : ServerStepped) : Type 0 where
   pub posts : (t : ℕ) → seat_post (get y.seats t) ≡ seat_post (get x.seats t)
   pub ups : (j t : ℕ) → same_peer (Server j) (Server k) ≡ false → ups_of j (get y.seats t) ≡ ups_of j (get x.seats t)
   pub downs : (j t : ℕ) → same_peer (Server j) (Server k) ≡ false → downs_of j (get y.seats t) ≡ downs_of j (get x.seats t)
-  pub parcels : (i j : ℕ) → same_peer (Server i) (Server k) ≡ false → same_peer (Server j) (Server k) ≡ false → parcels_between i j y.flying ≡ parcels_between i j x.flying
+  pub parcels : (i j : ℕ) → same_peer (Server i) (Server k) ≡ false → same_peer (Server j) (Server k) ≡ false → flying_between i j y.flying ≡ flying_between i j x.flying
 
 -- servers with different numbers are not one
 abbrev number_of : Peer → ℕ
@@ -96,14 +96,14 @@ module _ (w : Served) (k : ℕ) (there : k < length w.posts) where
         posts = λ t. ap (λ (m : Seats). seat_post (get m t)) seats;
         ups = λ j t f. ap (λ (m : Seats). ups_of j (get m t)) seats;
         downs = λ j t f. ap (λ (m : Seats). downs_of j (get m t)) seats;
-        parcels = λ i j f g. ap (λ (fs : List Flying). parcels_between i j fs) flying;
+        parcels = λ i j f g. ap (λ (fs : List Flying). flying_between i j fs) flying;
       }) (ap (λ (p : Packets). p.sent) sent)))
       ways h
     where
       ways : (b c : Peer) → between (at y) b c ≡ between (at x) b c
       ways (Client t) (Server j) = ap (λ (m : Seats). ups_of j (get m t.0)) seats
       ways (Server j) (Client t) = ap (λ (m : Seats). downs_of j (get m t.0)) seats
-      ways (Server i) (Server j) = ap (λ (fs : List Flying). parcels_between i j fs) flying
+      ways (Server i) (Server j) = ap (λ (fs : List Flying). flying_between i j fs) flying
       ways (Client t) (Client u) = refl
 
   -- ## An answer goes to a session that has joined
@@ -153,13 +153,13 @@ module _ (w : Served) (k : ℕ) (there : k < length w.posts) where
       )
       others (Server j) e = (refl, refl)
 
-  -- ## A parcel goes to another server
+  -- ## A message goes to another server
 
-  abbrev flies : ℕ → Parcel → Flying
-  flies to p = record { from = k; to = to; parcel = p }
+  abbrev flies : ℕ → PeerMsg → Flying
+  flies to m = record { from = k; to = to; message = m }
 
-  abbrev moving : ℕ → Parcel → ServerStepped → ServerStepped
-  moving to p x = record x { post = post_pushed x.post (Server to) (message (msg.Peer (OfParcel p))); flying = x.flying ++ flies to p ∷ [] }
+  abbrev moving : ℕ → PeerMsg → ServerStepped → ServerStepped
+  moving to p x = record x { post = post_pushed x.post (Server to) (message (msg.Peer p)); flying = x.flying ++ flies to p ∷ [] }
 
   both_false : (a b : Bool) → b ≡ false → (a && b) ≡ false
   both_false true b e = e
@@ -169,14 +169,14 @@ module _ (w : Served) (k : ℕ) (there : k < length w.posts) where
   one_false true b e = absurd (cc)
   one_false false b e = refl
 
-  moved : (to : ℕ) (p : Parcel) (x : ServerStepped) (q : Links) → slice_get w.posts to ≡ Some q → k ≢ to → is_readable (msg.Peer (OfParcel p)) ≡ true → IsWritten (msg.Peer (OfParcel p)) → is_full_for x.post (Server to) (message (msg.Peer (OfParcel p))) ≡ false → AreTied (at x) → AreTied (at (moving to p x))
+  moved : (to : ℕ) (p : PeerMsg) (x : ServerStepped) (q : Links) → slice_get w.posts to ≡ Some q → k ≢ to → is_readable (msg.Peer p) ≡ true → IsWritten (msg.Peer p) → is_full_for x.post (Server to) (message (msg.Peer p)) ≡ false → AreTied (at x) → AreTied (at (moving to p x))
   moved to p x q is differ readable written room h =
-      tied_pushed (Server k) (Server to) x.post q (msg.Peer (OfParcel p)) (at x) (at (moving to p x)) (server_post x) (other_post x to there_other ∙ is) here_other
+      tied_pushed (Server k) (Server to) x.post q (msg.Peer p) (at x) (at (moving to p x)) (server_post x) (other_post x to there_other ∙ is) here_other
       (written.fits readable) written.short (let free = leb-false _ _ room in omega (arith, free))
       (server_changes x (moving to p x) [] elsewhere (sym (append-nil x.packets.sent))) out back others h
     where
       f : Flying → Msg
-      f m = msg.Peer (OfParcel m.parcel)
+      f m = msg.Peer m.message
 
       here_other : same_peer (Server k) (Server to) ≡ false
       here_other = different k to differ
@@ -192,10 +192,10 @@ module _ (w : Served) (k : ℕ) (there : k < length w.posts) where
         parcels = λ i j e g. ap (λ (ms : List Flying). map f ms) (no_more (is_between i j) x.flying (flies to p) (one_false (k == i) (to == j) (turned_apart i k e)));
       }
 
-      out : parcels_between k to (x.flying ++ flies to p ∷ []) ≡ parcels_between k to x.flying ++ msg.Peer (OfParcel p) ∷ []
+      out : flying_between k to (x.flying ++ flies to p ∷ []) ≡ flying_between k to x.flying ++ msg.Peer p ∷ []
       out = one_more f (is_between k to) x.flying (flies to p) (joined (k == k) (to == to) (itself k) (itself to))
 
-      back : parcels_between to k (x.flying ++ flies to p ∷ []) ≡ parcels_between to k x.flying
+      back : flying_between to k (x.flying ++ flies to p ∷ []) ≡ flying_between to k x.flying
       back = ap (λ (ms : List Flying). map f ms) (no_more (is_between to k) x.flying (flies to p) (one_false (k == to) (to == k) (number_apart k to here_other)))
 
       others : (c : Peer) → same_peer c (Server to) ≡ false → (between (at (moving to p x)) (Server k) c ≡ between (at x) (Server k) c) × (between (at (moving to p x)) c (Server k) ≡ between (at x) c (Server k))
@@ -219,11 +219,11 @@ module _ (w : Served) (k : ℕ) (there : k < length w.posts) where
         server_sends xs (answering s a x) (λ t g. down_joined k (Client s, msg.Answer a) x.seats t (joined t g)) sent.1 fits.1 rooms.1 (answered s a x seat.0 seat.1 sent.0.2 fits.0 rooms.0 h)
     server_sends ((Client s, msg.Client m) ∷ xs) x joined sent fits room h = absurd sent.0
     server_sends ((Client s, msg.Peer m) ∷ xs) x joined sent fits room h = absurd sent.0
-    server_sends ((Server to, msg.Peer (OfParcel p)) ∷ xs) x joined sent fits room h =
-        let rooms = neither (is_full_for x.post (Server to) (message (msg.Peer (OfParcel p)))) (is_full_down xs (post_pushed x.post (Server to) (message (msg.Peer (OfParcel p))))) room in
+    server_sends ((Server to, msg.Peer p) ∷ xs) x joined sent fits room h =
+        let rooms = neither (is_full_for x.post (Server to) (message (msg.Peer p))) (is_full_down xs (post_pushed x.post (Server to) (message (msg.Peer p)))) room in
         let q = posts to sent.0.to in
         subst (λ (fs : List Flying). AreTied (at (record (sending xs (moving to p x)) { flying = fs }))) (append_assoc x.flying (flies to p ∷ []) (flying_from k xs))
-        (server_sends xs (moving to p x) joined sent.1 fits.1 rooms.1 (moved to p x q.0 q.1 sent.0.apart (sent_readable servers seats k (Server to, msg.Peer (OfParcel p)) readable sent.0) fits.0 rooms.0 h))
+        (server_sends xs (moving to p x) joined sent.1 fits.1 rooms.1 (moved to p x q.0 q.1 sent.0.apart (sent_readable servers seats k (Server to, msg.Peer p) readable sent.0) fits.0 rooms.0 h))
     server_sends ((Server to, msg.Answer a) ∷ xs) x joined sent fits room h = absurd sent.0
     server_sends ((Server to, msg.Client m) ∷ xs) x joined sent fits room h = absurd sent.0
 
@@ -279,7 +279,7 @@ module _ (w : Served) (k : ℕ) (there : k < length w.posts) where
       joined = (post_accepted x.post (Server j) p).heard.joined
 
       f : Flying → Msg
-      f m = msg.Peer (OfParcel m.parcel)
+      f m = msg.Peer m.message
 
       -- what goes there does not go elsewhere
       to_other : (i n : ℕ) → same_peer (Server n) (Server k) ≡ false → (m : Flying) → is_between j k m ≡ true → is_between i n m ≡ false
@@ -296,10 +296,10 @@ module _ (w : Served) (k : ℕ) (there : k < length w.posts) where
         parcels = λ i n e g. ap (λ (ms : List Flying). map f ms) (others_taken joined (is_between j k) (is_between i n) x.flying (λ m q. to_other i n g m q));
       }
 
-      out : parcels_between k j (taken joined (is_between j k) x.flying) ≡ parcels_between k j x.flying
+      out : flying_between k j (taken joined (is_between j k) x.flying) ≡ flying_between k j x.flying
       out = ap (λ (ms : List Flying). map f ms) (others_taken joined (is_between j k) (is_between k j) x.flying (λ m q. from_other k j apart_here m q))
 
-      back : parcels_between j k (taken joined (is_between j k) x.flying) ≡ rest_of joined (parcels_between j k x.flying)
+      back : flying_between j k (taken joined (is_between j k) x.flying) ≡ rest_of joined (flying_between j k x.flying)
       back = rest_taken f joined (is_between j k) x.flying
 
       others : (c : Peer) → same_peer c (Server j) ≡ false → (between (at (receiving j p x)) (Server k) c ≡ between (at x) (Server k) c) × (between (at (receiving j p x)) c (Server k) ≡ between (at x) c (Server k))

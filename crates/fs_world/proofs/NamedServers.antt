@@ -1,7 +1,7 @@
 -- What a server has and sends: it knows of servers that there are, has rows of sessions that have joined, and its handles
 -- can be told; what it sends goes to such sessions and to other servers, and can be read.
 use Rattle.std.proofs.Common.{◌≡◌, ◌≢◌, ◌∙◌, ◌<◌, ◌≤◌, ◌^◌, ℕ, ◌+◌, Bool, true, false, List, [], ◌∷◌, ◌++◌, map, not, Option, Some, None, refl, sym, ap, subst, cond, arith}
-use Rattle.std.specs.Prelude.{◌&&◌, ◌==◌, nat_le}
+use Rattle.std.specs.Prelude.{◌&&◌, ◌==◌, IfSome, nat_le}
 use Rattle.std.specs.FinMap.{empty, get}
 use Rattle.std.specs.List.{AllByRecursion, list_all}
 use Rattle.std.proofs.lemmas.Bool.Decides.{nat_tests}
@@ -54,11 +54,12 @@ use Rattle.fs_msg.specs.declared.entry.Entry.{Entry}
 use Rattle.fs_msg.specs.declared.item.Item.{Item}
 use Rattle.fs_msg.specs.declared.msg.Msg.{Msg}
 use Rattle.fs_msg.specs.declared.msg.Msg.TheVariants as msg
+use Rattle.fs_msg.specs.declared.peer_msg.PeerMsg.{PeerMsg}
 use Rattle.fs_msg.specs.declared.peer_msg.PeerMsg.TheVariants.{Parcel as OfParcel}
-use Rattle.fs_serial.specs.declared.flying.Flying.{Flying}
+use Rattle.fs_serial.specs.Cluster.{parcel_in}
 use Rattle.fs_server.proofs.OneByOne.{AskEnds, ShipEnds, each_entry, each_item, each_lapsed, elsewhere, kept_off, misplaced, refused, waits}
 use Rattle.fs_server.specs.Asks.{Asking, answer_to, ask_fresh, ask_from, ask_step, asked_in, fresh_for, fresh_in, fresh_of, grant_of, kind_for, with_lease}
-use Rattle.fs_server.specs.Moves.{fits_here, move_at, parcel_at}
+use Rattle.fs_server.specs.Moves.{fits_here, move_at, parcel_at, peer_step}
 use Rattle.fs_server.specs.Pairs.{numbers_in, pairs_end, pairs_here, released_rows, renewed_rows}
 use Rattle.fs_server.specs.Reaps.{Reaping, lapsed_in, reap_from, reap_item, turn_over, with_blocker, with_reap}
 use Rattle.fs_server.specs.Server.{Stepped, begun, end_of, first_server, is_mine, moved, strange}
@@ -68,7 +69,7 @@ use Rattle.fs_server.specs.declared.event.ServerEvent.{ServerEvent}
 use Rattle.fs_server.specs.declared.event.ServerEvent.TheVariants.{FromClient, FromPeer, Move, Recall, Turn}
 use Rattle.fs_server.specs.declared.state.Server.{Server as Core}
 use Rattle.fs_wire.specs.Readable.{is_readable_handle, is_readable_row, is_readable_session}
-use Rattle.fs_world.specs.Linked.{AreOfJoined, HasJoined, IsCarried, IsNamedAnswer, IsNamedEnd, IsServed}
+use Rattle.fs_world.specs.Linked.{AreOfJoined, HasJoined, IsCarried, IsNamedAnswer, IsNamedEnd, IsParcelOf, IsServed}
 use Rattle.fs_world.specs.Readable.{HasOpenHandles, RecordsOpen}
 use Rattle.fs_world.specs.Served.{Seats}
 use Rattle.fs_world.proofs.NamedMaps.{moved_named, named_first, named_give, named_take}
@@ -77,10 +78,10 @@ use Rattle.fs_world.proofs.SeenRows.{AreOf, filtered, put, put_all, recall_sent,
 
 -- ## What is sent
 
--- an answer to a session that has joined, which names servers that there are and can be read, or a parcel for another server
+-- an answer to a session that has joined, which names servers that there are and can be read, or a message for another server
 abbrev pub IsSent : ℕ → Seats → ℕ → Peer × Msg → Type 0
 IsSent servers seats k (Client s, msg.Answer a) = HasJoined seats s × IsNamedAnswer servers a × (is_readable_answer a ≡ true)
-IsSent servers seats k (Server to, msg.Peer (OfParcel p)) = IsCarried servers seats (record { from = k; to = to; parcel = p })
+IsSent servers seats k (Server to, msg.Peer m) = IsCarried servers seats (record { from = k; to = to; message = m })
 IsSent servers seats k x = ⊥
 
 abbrev pub AreSent : ℕ → Seats → ℕ → List (Peer × Msg) → Type 0
@@ -91,15 +92,15 @@ pub record IsStepped (servers : ℕ) (seats : Seats) (k : ℕ) (x : Stepped) : T
   pub server : IsServed servers seats k x.server
   pub sends : AreSent servers seats k x.out.send
 
--- what the event brings is of a session that has joined, and can be read; or it is a parcel on its way
+-- what the event brings is of a session that has joined, and can be read; or a server sent it
 abbrev pub IsBrought : ℕ → Seats → Core → ServerEvent → Type 0
 IsBrought servers seats s (FromClient by m) = HasJoined seats by × (is_readable (msg.Client m) ≡ true)
-IsBrought servers seats s (FromPeer from (OfParcel p)) = AreEachRecords p.records × RecordsOpen p.records × AreOfJoined seats p.rows
+IsBrought servers seats s (FromPeer from m) = IfSome (parcel_in m) (IsParcelOf seats)
 IsBrought servers seats s (Move prefix to) = to < servers
 IsBrought servers seats s Turn = Unit {0}
 IsBrought servers seats s (Recall field) = Unit {0}
 
--- ## A parcel can be read
+-- ## What is sent can be read
 
 handles_pass : (hs : List Handle) → AllByRecursion (λ (h : Handle). is_readable_handle h ≡ true) hs → list_all is_readable_handle hs ≡ true
 handles_pass [] h = refl
@@ -112,10 +113,13 @@ in_range n least most some few = grind (arith, nat_tests)
 record_passes : (r : Record) → HasOpenHandles r → IsRecord r → is_readable_record r ≡ true
 record_passes r h own = joined _ _ (handles_pass r.node.handles h) (in_range r.next 1 (2 ^ 32) own.least own.most)
 
-pub parcel_readable : (servers : ℕ) (seats : Seats) (f : Flying) → ((s : Session) → HasJoined seats s → is_readable_session s ≡ true) → IsCarried servers seats f → is_readable_parcel f.parcel ≡ true
-parcel_readable servers seats f readable h =
-    joined _ _ (In-all (λ (e : List ℕ × Record). is_readable_record e.1) f.parcel.records (λ e i. record_passes e.1 (h.handles e i) (h.each e i)))
-    (In-all is_readable_row f.parcel.rows (λ row i. readable row.session (h.rows row i)))
+parcel_readable : (seats : Seats) (p : Parcel) → ((s : Session) → HasJoined seats s → is_readable_session s ≡ true) → IsParcelOf seats p → is_readable_parcel p ≡ true
+parcel_readable seats p readable h =
+    joined _ _ (In-all (λ (e : List ℕ × Record). is_readable_record e.1) p.records (λ e i. record_passes e.1 (h.handles e i) (h.each e i)))
+    (In-all is_readable_row p.rows (λ row i. readable row.session (h.rows row i)))
+
+peer_readable : (seats : Seats) (m : PeerMsg) → ((s : Session) → HasJoined seats s → is_readable_session s ≡ true) → IfSome (parcel_in m) (IsParcelOf seats) → is_readable (msg.Peer m) ≡ true
+peer_readable seats (OfParcel p) readable h = parcel_readable seats p readable h
 
 pub sent_readable : (servers : ℕ) (seats : Seats) (k : ℕ) (x : Peer × Msg) → ((s : Session) → HasJoined seats s → is_readable_session s ≡ true) → IsSent servers seats k x → is_readable x.1 ≡ true
 sent_readable servers seats k (Client s, msg.Answer a) readable h = h.2
@@ -123,7 +127,7 @@ sent_readable servers seats k (Client s, msg.Client m) readable h = absurd h
 sent_readable servers seats k (Client s, msg.Peer m) readable h = absurd h
 sent_readable servers seats k (Server to, msg.Answer a) readable h = absurd h
 sent_readable servers seats k (Server to, msg.Client m) readable h = absurd h
-sent_readable servers seats k (Server to, msg.Peer (OfParcel p)) readable h = parcel_readable servers seats (record { from = k; to = to; parcel = p }) readable h
+sent_readable servers seats k (Server to, msg.Peer m) readable h = peer_readable seats m readable h.parcel
 
 -- ## Steps
 
@@ -317,9 +321,11 @@ module _ (servers : ℕ) (seats : Seats) (k : ℕ) (some : k < servers) (readabl
             from = some;
             to = few;
             apart = differ to s h (not_same _ _ (to == s.me) _ _ e);
-            each = given_each prefix piece s.records h.records;
-            handles = open_given prefix piece s.records h.handles;
-            rows = filtered (HasJoined seats) (is_on_given prefix piece) s.rows h.rows;
+            parcel = record {
+              each = given_each prefix piece s.records h.records;
+              handles = open_given prefix piece s.records h.handles;
+              rows = filtered (HasJoined seats) (is_on_given prefix piece) s.rows h.rows;
+            };
           },
           tt,
         );
@@ -327,24 +333,27 @@ module _ (servers : ℕ) (seats : Seats) (k : ℕ) (some : k < servers) (readabl
 
   -- ## A parcel comes
 
-  parcel_goes : (b : Bool) (p : Parcel) (s : Core) → AreEachRecords p.records → RecordsOpen p.records → AreOf (HasJoined seats) p.rows → Fine s → Goes (parcel_at b p s)
-  parcel_goes true p s each open_ of h = record {
+  parcel_goes : (b : Bool) (p : Parcel) (s : Core) → IsParcelOf seats p → Fine s → Goes (parcel_at b p s)
+  parcel_goes true p s of h = record {
     server = record {
       me = h.me;
       named = named_take servers s.map s.me p.prefix p.piece.given (subst (λ (n : ℕ). n < servers) (sym h.me) some) h.named;
-      records = with_kept s.records p.records h.records each;
-      handles = open_with p.records s.records open_ h.handles;
-      rows = put_all (HasJoined seats) p.rows s.rows of h.rows;
+      records = with_kept s.records p.records h.records of.each;
+      handles = open_with p.records s.records of.handles h.handles;
+      rows = put_all (HasJoined seats) p.rows s.rows of.rows h.rows;
     };
     sends = tt;
   }
-  parcel_goes false p s each open_ of h = strange_goes s h
+  parcel_goes false p s of h = strange_goes s h
+
+  peer_goes : (m : PeerMsg) (s : Core) → IfSome (parcel_in m) (IsParcelOf seats) → Fine s → Goes (peer_step m s)
+  peer_goes (OfParcel p) s of h = parcel_goes (fits_here p s) p s of h
 
   -- ## An event
 
   event_goes : (e : ServerEvent) (s : Core) → IsBrought servers seats s e → Fine s → Goes (event_step e s)
   event_goes (FromClient by m) s b h = message_goes by m s b.0 b.1 h
-  event_goes (FromPeer from (OfParcel p)) s b h = parcel_goes (fits_here p s) p s b.0 b.1 b.2 h
+  event_goes (FromPeer from m) s b h = peer_goes m s b h
   event_goes Turn s b h = turn_goes (lapsed_in s) s h
   event_goes (Recall field) s b h = record { server = h; sends = recall_sent (HasJoined seats) (IsSent servers seats k) (λ s n h. (h, tt, refl)) (is_mine s (file_of field)) field s.rows h.rows }
   event_goes (Move prefix to) s b h = moves_goes prefix to s (move_refusal s.records s.rows s.map s.me prefix to None) refl b h
@@ -354,7 +363,7 @@ module _ (servers : ℕ) (seats : Seats) (k : ℕ) (some : k < servers) (readabl
     where
       still : (e : ServerEvent) → IsBrought servers seats s e → IsBrought servers seats (begun now s) e
       still (FromClient by m) b = b
-      still (FromPeer from (OfParcel p)) b = b
+      still (FromPeer from m) b = b
       still Turn b = b
       still (Recall field) b = b
       still (Move prefix to) b = b

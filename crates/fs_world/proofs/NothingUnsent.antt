@@ -26,7 +26,7 @@ use Rattle.fs_server.specs.declared.event.ServerEvent.{ServerEvent}
 use Rattle.fs_server.specs.declared.event.ServerEvent.TheVariants.{Turn as TheTurn, Recall as TheRecall, Move as TheMove}
 use Rattle.fs_server.specs.declared.state.Server.{Server as Core}
 use Rattle.fs_world.specs.Direct as direct
-use Rattle.fs_world.specs.Carried.{Carries, GivesFirst, IsFirstOf, LinksCarry, between, downs_of, joined_at, parcels_between, post_of, seat_post, ups_of}
+use Rattle.fs_world.specs.Carried.{Carries, GivesFirst, IsFirstOf, LinksCarry, between, downs_of, joined_at, flying_between, post_of, seat_post, ups_of}
 use Rattle.fs_world.specs.Packets.{Packets, first_untold}
 use Rattle.fs_world.specs.Refusals.{HasNone, is_link_strange}
 use Rattle.fs_world.specs.Served as served
@@ -38,7 +38,7 @@ use Rattle.fs_world.specs.declared.form.Form.{Form}
 use Rattle.fs_world.specs.declared.form.Form.TheVariants.{Direct, Served}
 use Rattle.fs_world.specs.declared.seat.Seat.{Seat}
 use Rattle.fs_world.specs.declared.served.Served.{Served as TheServed}
-use Rattle.fs_world.proofs.Heard.{first_answer, first_parcel, first_question}
+use Rattle.fs_world.proofs.Heard.{first_answer, first_flying, first_question}
 
 -- nothing unsent came over a link
 abbrev IsPlain : Outcome → Type 0
@@ -66,10 +66,10 @@ module _ (w : TheServed) (now k : ℕ) (from : Option Peer) (h : Heard) (x : Ser
   session_plain s (Some seat) (j ∷ js) e f =
       subst (λ (y : Option ServerEvent). IsPlain (server_hears now k (Client s) from h y x).outcome) (sym (first_question k s seat j js f).2) (refl, tt)
 
-  peer_plain : (i : ℕ) (js : List Joined) → h.joined ≡ js → IsFirstOf js (parcels_between i k w.flying) → IsPlain (server_hears now k (Server i) from h (event_heard (Server i) js) x).outcome
+  peer_plain : (i : ℕ) (js : List Joined) → h.joined ≡ js → IsFirstOf js (flying_between i k w.flying) → IsPlain (server_hears now k (Server i) from h (event_heard (Server i) js) x).outcome
   peer_plain i [] e f = (silent_plain h e, tt)
   peer_plain i (j ∷ js) e f =
-      subst (λ (y : Option ServerEvent). IsPlain (server_hears now k (Server i) from h y x).outcome) (sym (first_parcel k i w.flying j js f).2) (refl, tt)
+      subst (λ (y : Option ServerEvent). IsPlain (server_hears now k (Server i) from h y x).outcome) (sym (first_flying k i w.flying j js f).2) (refl, tt)
 
   server_plain : (who : Peer) → IsFirstOf h.joined (between w who (Server k)) → IsPlain (server_hears now k who from h (event_heard who h.joined) x).outcome
   server_plain (Client s) f = session_plain s (get w.seats s.0) h.joined refl f

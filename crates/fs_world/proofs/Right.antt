@@ -13,6 +13,7 @@ use Rattle.fs_msg.specs.declared.end.End.{End}
 use Rattle.fs_msg.specs.declared.entry.Entry.{Entry}
 use Rattle.fs_msg.specs.declared.note.Note.{Note}
 use Rattle.fs_msg.specs.declared.note.Note.TheVariants as note
+use Rattle.fs_msg.specs.declared.peer_msg.PeerMsg.{PeerMsg}
 use Rattle.fs_msg.specs.declared.peer_msg.PeerMsg.TheVariants.{Parcel as OfParcel}
 use Rattle.fs_msg.specs.declared.server_note.ServerNote.{ServerNote}
 use Rattle.fs_msg.specs.declared.server_note.ServerNote.TheVariants as server_note
@@ -22,7 +23,7 @@ use Rattle.fs_record.specs.declared.parcel.Parcel.{Parcel}
 use Rattle.fs_client.specs.Client.{begun}
 use Rattle.fs_client.specs.Turns.{ending, idle, release_some, renew_some, returned, ship_some, turn_free, turn_on, turn_plan}
 use Rattle.fs_client.specs.declared.state.Client.{Client}
-use Rattle.fs_server.specs.Moves.{fits_here, move_at, parcel_at}
+use Rattle.fs_server.specs.Moves.{fits_here, move_at, parcel_at, peer_step}
 use Rattle.fs_server.specs.Reaps.{lapsed_in, turn_over}
 use Rattle.fs_server.specs.Server.{begun as server_begun}
 use Rattle.fs_server.specs.Step.{step}
@@ -94,6 +95,9 @@ parcel_fair : (ok : Answers) (b : Bool) (p : Parcel) (s : Server) → IsFair ok 
 parcel_fair ok true p s = tt
 parcel_fair ok false p s = tt
 
+peer_fair : (ok : Answers) (m : PeerMsg) (s : Server) → IsFair ok (note.Server (peer_step m s).out.note)
+peer_fair ok (OfParcel p) s = parcel_fair ok (fits_here p s) p s
+
 -- where each fair answer to the entries is one of these, so is what is noted
 ship_fair : (ok : Answers) (rows : List Row) (by : Session) (now : ℕ) (entries : List Entry) (n : ServerNote) → ((count : ℕ) (at : End) (gaps : List ℕ) → IsFairEnd rows by now entries count at gaps → ok count at gaps) → IsFairNote rows by now entries n → IsFair ok (note.Server n)
 ship_fair ok rows by now entries (server_note.Admits count at gaps) taken h = taken count at gaps h
@@ -121,7 +125,7 @@ module _ (laws : SerialLaws) (skew greatest now k : ℕ) (s : Server) (c : Clust
 
   event_fair : (ok : Answers) (e : ServerEvent) → IsThere k e c → TakesEvent ok e → IsFair ok (note.Server (step s now e).out.note)
   event_fair ok (FromClient by m) there takes = message_fair ok by m there takes
-  event_fair ok (FromPeer from (OfParcel p)) there takes = let b : Server = server_begun now s in parcel_fair ok (fits_here p b) p b
+  event_fair ok (FromPeer from m) there takes = peer_fair ok m (server_begun now s)
   event_fair ok Turn there takes = let b : Server = server_begun now s in turned_over_fair ok (lapsed_in b) b
   event_fair ok (TheRecall field) there takes = tt
   event_fair ok (Move prefix to) there takes = let b : Server = server_begun now s in move_fair ok (move_refusal b.records b.rows b.map b.me prefix to None) prefix to b

@@ -24,7 +24,6 @@ use Rattle.fs_msg.specs.declared.client_msg.ClientMsg.{ClientMsg}
 use Rattle.fs_msg.specs.declared.client_msg.ClientMsg.TheVariants.{Ask, Release, Renew, Ship}
 use Rattle.fs_msg.specs.declared.note.Note.{Note}
 use Rattle.fs_msg.specs.declared.note.Note.TheVariants as note
-use Rattle.fs_msg.specs.declared.peer_msg.PeerMsg.TheVariants.{Parcel as OfParcel}
 use Rattle.fs_actor.specs.Hearing.{answer_heard, event_heard, heard_in, quiet_note, silent_note}
 use Rattle.fs_client.specs.Answers.{answer_plan}
 use Rattle.fs_server.specs.Step.{step}
@@ -38,7 +37,7 @@ use Rattle.fs_serial.specs.Cluster.{Cluster, IsThere, Lines, after_step, is_with
 use Rattle.fs_serial.specs.Refusals.{rows_in}
 use Rattle.fs_serial.specs.Joined.{rows_of_all}
 use Rattle.fs_world.specs.Calls.{client_hears, server_hears}
-use Rattle.fs_world.specs.Carried.{Carries, GivesFirst, IsFirstOf, between, downs_of, joined_at, parcels_between, post_of, seat_post, ups_of}
+use Rattle.fs_world.specs.Carried.{Carries, GivesFirst, IsFirstOf, between, downs_of, joined_at, flying_between, post_of, seat_post, ups_of}
 use Rattle.fs_world.specs.Order.{Told}
 use Rattle.fs_world.specs.Packets.{first_untold}
 use Rattle.fs_world.specs.Parts.{lines_in, lines_of}
@@ -48,12 +47,12 @@ use Rattle.fs_world.specs.World.{may_happen}
 use Rattle.fs_world.specs.declared.form.Form.TheVariants.{Served as ServedForm}
 use Rattle.fs_world.specs.declared.seat.Seat.{Seat}
 use Rattle.fs_world.specs.declared.served.Served.{Served}
-use Rattle.fs_world.proofs.Heard.{first_answer, first_parcel, first_question}
+use Rattle.fs_world.proofs.Heard.{first_answer, first_flying, first_question}
 use Rattle.fs_world.proofs.Right.{Answers, IsRight, TakesEvent, event_right, plain_client, turn_right}
 use Rattle.fs_world.proofs.SerialLaws.{SerialLaws, timed}
 use Rattle.fs_world.proofs.ServedHolds.{cluster_of}
 use Rattle.fs_world.proofs.ServedSteps.{to_there}
-use Rattle.fs_world.proofs.ServerHolds.{clock, parcel_there, question_there}
+use Rattle.fs_world.proofs.ServerHolds.{clock, flying_there, question_there}
 use Rattle.fs_world.proofs.SessionSteps.{HoldsOf, parts_of}
 
 -- what the event notes is right
@@ -159,12 +158,12 @@ module _ (laws : SerialLaws) (count skew greatest : ℕ) (told : List Told) (w :
             subst (λ (e : Option ServerEvent). Right what (hearing (Client s) heard x e links)) (sym first.2)
             (event (FromClient s first.0.1) (question_there (timed laws) count skew greatest told (parts_of w) h now k c at s seat first.0 is first.1) (takes_log s seat first.0.1 from is (question_found k seat.up first.0 first.1)), tt)
 
-      peer_right : (i : ℕ) (heard : Option Peer) (x : Heard) (js : List Joined) (links : Links) → IsFirstOf js (parcels_between i k w.flying) → Right what (hearing (Server i) heard x (event_heard (Server i) js) links)
+      peer_right : (i : ℕ) (heard : Option Peer) (x : Heard) (js : List Joined) (links : Links) → IsFirstOf js (flying_between i k w.flying) → Right what (hearing (Server i) heard x (event_heard (Server i) js) links)
       peer_right i heard x [] links f = silent _ x.joined x
       peer_right i heard x (j ∷ js) links f =
-          let first = first_parcel k i w.flying j js f in
+          let first = first_flying k i w.flying j js f in
           subst (λ (e : Option ServerEvent). Right what (hearing (Server i) heard x e links)) (sym first.2)
-          (event (FromPeer i (OfParcel first.0.parcel)) (parcel_there (timed laws) count skew greatest told (parts_of w) h now k c at i first.0 first.1) tt, tt)
+          (event (FromPeer i first.0.message) (flying_there (timed laws) count skew greatest told (parts_of w) h now k c at i first.0 first.1) tt, tt)
 
       told_server : (packet : Sent) (from : Peer) (p : Packet) → packet_told w what ≡ Some packet → packet.to ≡ Server k → packet.from ≡ from → IsFirstOf (post_accepted post from p).heard.joined (between w from (Server k))
           → Right what (with_server k (server_told now k from p (at_server c post w)) w)

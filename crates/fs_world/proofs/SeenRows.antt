@@ -40,11 +40,12 @@ use Rattle.fs_msg.specs.declared.entry.Entry.{Entry}
 use Rattle.fs_msg.specs.declared.item.Item.{Item}
 use Rattle.fs_msg.specs.declared.msg.Msg.{Msg}
 use Rattle.fs_msg.specs.declared.msg.Msg.TheVariants as msg
+use Rattle.fs_msg.specs.declared.peer_msg.PeerMsg.{PeerMsg}
 use Rattle.fs_msg.specs.declared.peer_msg.PeerMsg.TheVariants.{Parcel as OfParcel}
 use Rattle.fs_record.specs.Effects.{tells_its_effects}
 use Rattle.fs_server.proofs.OneByOne.{each_item, reaps_leave, ships_leave}
 use Rattle.fs_server.specs.Asks.{Asking, answer_to, ask_fresh, ask_from, ask_step, asked_in, fresh_for, fresh_in, fresh_of, grant_of, kind_for, recall_of, recalls_at, with_lease}
-use Rattle.fs_server.specs.Moves.{fits_here, move_at, parcel_at}
+use Rattle.fs_server.specs.Moves.{fits_here, move_at, parcel_at, peer_step}
 use Rattle.fs_server.specs.Pairs.{numbers_in, pairs_here, released_rows, renewed_rows}
 use Rattle.fs_server.specs.Reaps.{Reaping, lapsed_in, reap_from, reap_item, recalls_for, turn_over, with_blocker, with_reap}
 use Rattle.fs_server.specs.Server.{Stepped, begun, end_of, is_mine, moved, strange, to_session}
@@ -54,15 +55,25 @@ use Rattle.fs_server.specs.declared.event.ServerEvent.{ServerEvent}
 use Rattle.fs_server.specs.declared.event.ServerEvent.TheVariants.{FromClient, FromPeer, Turn, Recall, Move}
 use Rattle.fs_server.specs.declared.state.Server.{Server}
 use Rattle.fs_field.specs.declared.used.Use.{Use}
+use Rattle.std.specs.Prelude.{IfSome}
+use Rattle.fs_serial.specs.Cluster.{parcel_in}
+use Rattle.fs_serial.proofs.Parcels.{if_some}
 
 -- each row is of one of these sessions
 abbrev pub AreOf : (Session → Type 0) → List Row → Type 0
 AreOf these rows = (row : Row) → In row rows → these row.session
 
--- it goes to one of these sessions, or is a parcel with rows of these
+-- the rows of the parcel that the message brings, if it brings one, are of these sessions
+abbrev pub BringsOf : (Session → Type 0) → PeerMsg → Type 0
+BringsOf these m = IfSome (parcel_in m) (λ (p : Parcel). AreOf these p.rows)
+
+pub brings_still : (these those : Session → Type 0) → ((s : Session) → these s → those s) → (m : PeerMsg) → BringsOf these m → BringsOf those m
+brings_still these those stay m h = if_some (λ (p : Parcel). AreOf these p.rows) (λ (p : Parcel). AreOf those p.rows) (λ p of row i. stay row.session (of row i)) (parcel_in m) h
+
+-- it goes to one of these sessions, or to a server with rows of these
 abbrev pub IsSentTo : (Session → Type 0) → Peer × Msg → Type 0
 IsSentTo these (Client s, msg.Answer a) = these s
-IsSentTo these (OfServer to, msg.Peer (OfParcel p)) = AreOf these p.rows
+IsSentTo these (OfServer to, msg.Peer m) = BringsOf these m
 IsSentTo these x = ⊥
 
 abbrev pub AreSentTo : (Session → Type 0) → List (Peer × Msg) → Type 0
@@ -115,7 +126,7 @@ module _ (these : Session → Type 0) where
   -- the session that the event is of, if it is of one, is one of these, and so are those of the rows that come
   abbrev pub IsAsked : ServerEvent → Type 0
   IsAsked (FromClient by m) = these by
-  IsAsked (FromPeer from (OfParcel p)) = AreOf these p.rows
+  IsAsked (FromPeer from m) = BringsOf these m
   IsAsked e = Unit {0}
 
   -- the rows that a step leaves are of these sessions, and so is whoever it sends to
@@ -246,11 +257,14 @@ module _ (these : Session → Type 0) where
   parcel_of true p s come h = record { rows = put_all p.rows s.rows come h; sends = tt }
   parcel_of false p s come h = strange_of s h
 
+  peer_of : (m : PeerMsg) (s : Server) → BringsOf these m → AreOf these s.rows → IsOf (peer_step m s)
+  peer_of (OfParcel p) s come h = parcel_of (fits_here p s) p s come h
+
   -- ## An event
 
   event_of : (e : ServerEvent) (s : Server) → IsAsked e → AreOf these s.rows → IsOf (event_step e s)
   event_of (FromClient by m) s p h = message_of by m s p h
-  event_of (FromPeer from (OfParcel p)) s come h = parcel_of (fits_here p s) p s come h
+  event_of (FromPeer from m) s come h = peer_of m s come h
   event_of Turn s p h = turn_of (lapsed_in s) s h
   event_of (Recall field) s p h = record { rows = h; sends = recall_sent these (λ (x : Peer × Msg). IsSentTo these x) (λ s n h. h) (is_mine s (file_of field)) field s.rows h }
   event_of (Move prefix to) s p h = move_of (move_refusal s.records s.rows s.map s.me prefix to None) prefix to s h

@@ -1,5 +1,5 @@
 -- What a server sends is on its way in both, as far as it goes to sessions that have joined.
-use Rattle.std.proofs.Common.{◌≡◌, ℕ, List, [], ◌∷◌, ◌++◌, refl, ap, subst, ◌∙◌, inl, inr}
+use Rattle.std.proofs.Common.{◌≡◌, ℕ, List, [], ◌∷◌, ◌++◌, refl, ap, sym, subst, ◌∙◌, inl, inr}
 use Rattle.std.specs.Prelude.{Option, Some, None}
 use Rattle.std.specs.FinMap.{get}
 use Rattle.fs_ident.specs.In.{In}
@@ -9,7 +9,6 @@ use Rattle.fs_ident.specs.declared.actor.Session.{Session}
 use Rattle.fs_msg.specs.declared.answer.Answer.{Answer}
 use Rattle.fs_msg.specs.declared.msg.Msg.{Msg}
 use Rattle.fs_msg.specs.declared.msg.Msg.TheVariants as msg
-use Rattle.fs_msg.specs.declared.peer_msg.PeerMsg.TheVariants.{Parcel as OfParcel}
 use Rattle.fs_serial.specs.Cluster.{Lines, flying_from, with_answer, with_sent}
 use Rattle.fs_serial.specs.declared.flying.Flying.{Flying}
 use Rattle.fs_world.specs.Linked.{HasJoined}
@@ -17,7 +16,7 @@ use Rattle.fs_world.specs.Parts.{lines_of}
 use Rattle.fs_world.specs.Served.{Seats, with_down, with_down_at, with_downs}
 use Rattle.fs_world.specs.declared.seat.Seat.{Seat}
 use Rattle.fs_world.proofs.Seen.{joined_still, lines_changed}
-use Rattle.fs_world.proofs.SeenRows.{AreOf, AreSentTo, IsSentTo}
+use Rattle.fs_world.proofs.SeenRows.{AreSentTo, BringsOf, IsSentTo, brings_still}
 
 -- ## Who has joined stays
 
@@ -37,7 +36,7 @@ downs_joined k (m ∷ rest) seats x h = downs_joined k rest (with_down k m seats
 
 still_to : (seats later : Seats) → ((x : Session) → HasJoined seats x → HasJoined later x) → (m : Peer × Msg) → IsSentTo (HasJoined seats) m → IsSentTo (HasJoined later) m
 still_to seats later stay (Client s, msg.Answer a) h = stay s h
-still_to seats later stay (Server to, msg.Peer (OfParcel p)) h = λ row i. stay row.session (h row i)
+still_to seats later stay (Server to, msg.Peer m) h = brings_still (HasJoined seats) (HasJoined later) stay m h
 still_to seats later stay (Client s, msg.Client m) h = absurd h
 still_to seats later stay (Client s, msg.Peer m) h = absurd h
 still_to seats later stay (Server to, msg.Client m) h = absurd h
@@ -68,11 +67,11 @@ pub sends_seen : (term k : ℕ) (messages : List (Peer × Msg)) (seats : Seats) 
 sends_seen term k [] seats h = refl
 sends_seen term k (m ∷ rest) seats h = sends_seen term k rest (with_down k m seats) (still_all seats (with_down k m seats) (λ x i. down_joined k m seats x i) rest h.1) ∙ down_seen term k seats m rest h.0
 
--- the parcels among them have rows of these sessions
-pub parcels_of_these : (these : Session → Type 0) (k : ℕ) (messages : List (Peer × Msg)) → AreSentTo these messages → (f : Flying) → In f (flying_from k messages) → AreOf these f.parcel.rows
-parcels_of_these these k [] h f i = absurd i
-parcels_of_these these k ((Server to, msg.Peer (OfParcel p)) ∷ rest) h f (inl e) = λ row i. h.0 row (subst (λ (g : Flying). In row g.parcel.rows) e i)
-parcels_of_these these k ((Server to, msg.Peer (OfParcel p)) ∷ rest) h f (inr i) = parcels_of_these these k rest h.1 f i
-parcels_of_these these k ((Client s, m) ∷ rest) h f i = parcels_of_these these k rest h.1 f i
-parcels_of_these these k ((Server to, msg.Client m) ∷ rest) h f i = absurd h.0
-parcels_of_these these k ((Server to, msg.Answer m) ∷ rest) h f i = absurd h.0
+-- those to servers bring rows of these sessions
+pub flying_of_these : (these : Session → Type 0) (k : ℕ) (messages : List (Peer × Msg)) → AreSentTo these messages → (f : Flying) → In f (flying_from k messages) → BringsOf these f.message
+flying_of_these these k [] h f i = absurd i
+flying_of_these these k ((Server to, msg.Peer m) ∷ rest) h f (inl e) = subst (λ (g : Flying). BringsOf these g.message) (sym e) h.0
+flying_of_these these k ((Server to, msg.Peer m) ∷ rest) h f (inr i) = flying_of_these these k rest h.1 f i
+flying_of_these these k ((Client s, m) ∷ rest) h f i = flying_of_these these k rest h.1 f i
+flying_of_these these k ((Server to, msg.Client m) ∷ rest) h f i = absurd h.0
+flying_of_these these k ((Server to, msg.Answer m) ∷ rest) h f i = absurd h.0

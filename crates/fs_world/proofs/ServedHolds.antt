@@ -22,8 +22,9 @@ use Rattle.fs_world.proofs.Fine.{AllFine, MayBeFine, fine_pushed}
 use Rattle.fs_world.proofs.Seen.{joined_still, lines_joined, lines_put, lines_same}
 use Rattle.fs_world.proofs.SerialLaws.{EventLaws}
 use Rattle.fs_world.proofs.Told.{AllNew, AllReplied, told_more}
+use Rattle.fs_world.proofs.SeenRows.{BringsOf, brings_still}
 
--- what a world has that servers and sessions know of: so many servers, the seats, the parcels on their way, the journal
+-- what a world has that servers and sessions know of: so many servers, the seats, the messages between servers, the journal
 pub record Parts : Type 0 where
   pub term : ℕ
   pub servers : List Server
@@ -40,7 +41,7 @@ pub record Holds (laws : EventLaws) (count skew greatest : ℕ) (told : List Tol
   pub cluster : laws.Holds skew greatest (cluster_of replied p)
   pub many : length p.servers ≡ count
   pub rows : (s : Server) → In s p.servers → AreOfJoined p.seats s.rows
-  pub parcels : (f : Flying) → In f p.flying → AreOfJoined p.seats f.parcel.rows
+  pub parcels : (f : Flying) → In f p.flying → BringsOf (HasJoined p.seats) f.message
   pub answered : AllReplied replied told
   pub items : AllFine p.journal
 
@@ -75,7 +76,7 @@ module _ (laws : EventLaws) (count skew greatest : ℕ) (told : List Told) (p : 
     cluster = subst (λ (lines : Session → Lines). laws.Holds skew greatest (record { servers = p.servers; flying = p.flying; journal = p.journal; replied = h.replied; lines = lines })) (sym same) h.cluster;
     many = h.many;
     rows = λ s i row j. stay row.session (h.rows s i row j);
-    parcels = λ f i row j. stay row.session (h.parcels f i row j);
+    parcels = λ f i. brings_still (HasJoined p.seats) (HasJoined seats) stay f.message (h.parcels f i);
     answered = h.answered;
     items = h.items;
   }
@@ -123,7 +124,7 @@ module _ (laws : EventLaws) (count skew greatest : ℕ) (told : List Told) (p : 
             (laws.rises skew greatest (max greatest now) (after_client s now event (cluster_of h.replied p)) (omega arith) (laws.client skew greatest now (cluster_of h.replied p) s h.cluster event can within));
         many = h.many;
         rows = λ x i row j. joined_still p.seats s row.session next (h.rows x i row j);
-        parcels = λ f i row j. joined_still p.seats s row.session next (h.parcels f i row j);
+        parcels = λ f i. brings_still (HasJoined p.seats) (HasJoined (insert p.seats s.0 next)) (λ x y. joined_still p.seats s x next y) f.message (h.parcels f i);
         answered = told_more s (told_by s plan.ready.change plan.out.admitted) h.replied told new h.answered tells;
         items = fine_pushed plan.out.admitted p.journal fine h.items;
       }

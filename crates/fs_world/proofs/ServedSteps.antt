@@ -18,7 +18,6 @@ use Rattle.fs_window.specs.declared.sent.Sent.{Sent}
 use Rattle.fs_field.specs.declared.field.Field.{Field}
 use Rattle.fs_msg.specs.declared.client_msg.ClientMsg.{ClientMsg}
 use Rattle.fs_msg.specs.declared.item.Item.{Item}
-use Rattle.fs_msg.specs.declared.peer_msg.PeerMsg.TheVariants.{Parcel as OfParcel}
 use Rattle.fs_schedule.specs.declared.event.Head.TheVariants.{Servers}
 use Rattle.fs_schedule.specs.declared.event.What.{What}
 use Rattle.fs_schedule.specs.declared.event.What.TheVariants.{Join, Do, Tell, Turn, Recall, Move}
@@ -30,7 +29,7 @@ use Rattle.fs_serial.specs.Cluster.{IsThere, is_between, is_with, without_questi
 use Rattle.fs_serial.specs.declared.flying.Flying.{Flying}
 use Rattle.fs_serial.proofs.SetAt.{set_same}
 use Rattle.fs_world.specs.Calls.{server_hears}
-use Rattle.fs_world.specs.Carried.{Carries, GivesFirst, IsFirstOf, between, joined_at, parcels_between, post_of, ups_of}
+use Rattle.fs_world.specs.Carried.{Carries, GivesFirst, IsFirstOf, between, joined_at, flying_between, post_of, ups_of}
 use Rattle.fs_world.specs.Order.{Told, told_at as told_in}
 use Rattle.fs_world.specs.Packets.{first_untold}
 use Rattle.fs_world.specs.Parts.{lines_of}
@@ -41,9 +40,9 @@ use Rattle.fs_world.specs.declared.served.Served.{Served}
 use Rattle.fs_world.proofs.SeenRows.{IsAsked}
 use Rattle.fs_world.specs.Linked.{HasJoined}
 use Rattle.fs_world.proofs.SerialLaws.{EventLaws}
-use Rattle.fs_world.proofs.Heard.{first_parcel, first_question}
+use Rattle.fs_world.proofs.Heard.{first_flying, first_question}
 use Rattle.fs_world.proofs.ServedHolds.{Holds, Parts, cluster_of}
-use Rattle.fs_world.proofs.ServerHolds.{after_core, message_holds, parcel_of_joined, parcel_there, server_holds}
+use Rattle.fs_world.proofs.ServerHolds.{after_core, message_holds, flying_of_joined, flying_there, server_holds}
 use Rattle.fs_world.proofs.SessionSteps.{HoldsOf, Then, do_holds, join_holds, later, parts_of, still, told_holds, turn_holds, untold}
 
 -- what the test says
@@ -94,19 +93,19 @@ module _ (laws : EventLaws) (count skew greatest : ℕ) (told : List Told) (w : 
         let first = first_question k s seat j js f in
         subst (λ (e : Option ServerEvent). Is (hearing (Client s) heard x e links)) (sym first.2) (message_then s seat heard x links first.0 is first.1)
 
-    -- a parcel that is there
-    parcel_then : (i : ℕ) (heard : Option Peer) (x : Heard) (links : Links) (f : Flying) → find (is_between i k) w.flying ≡ Some f → Is (hearing (Server i) heard x (Some (FromPeer i (OfParcel f.parcel))) links)
-    parcel_then i heard x links f first =
-        quietly (hearing (Server i) heard x (Some (FromPeer i (OfParcel f.parcel))) links)
-        (server_holds laws count skew greatest told (parts_of w) h now k c at (FromPeer i (OfParcel f.parcel)) w.seats refl (λ x i. i)
-        (parcel_there laws count skew greatest told (parts_of w) h now k c at i f first)
-        (parcel_of_joined laws count skew greatest told (parts_of w) h now k c at i f first))
+    -- a message of another server that is there
+    peer_then : (i : ℕ) (heard : Option Peer) (x : Heard) (links : Links) (f : Flying) → find (is_between i k) w.flying ≡ Some f → Is (hearing (Server i) heard x (Some (FromPeer i f.message)) links)
+    peer_then i heard x links f first =
+        quietly (hearing (Server i) heard x (Some (FromPeer i f.message)) links)
+        (server_holds laws count skew greatest told (parts_of w) h now k c at (FromPeer i f.message) w.seats refl (λ x i. i)
+        (flying_there laws count skew greatest told (parts_of w) h now k c at i f first)
+        (flying_of_joined laws count skew greatest told (parts_of w) h now k c at i f first))
 
-    server_hears_then : (i : ℕ) (heard : Option Peer) (x : Heard) (js : List Joined) (links : Links) → IsFirstOf js (parcels_between i k w.flying) → Is (hearing (Server i) heard x (event_heard (Server i) js) links)
+    server_hears_then : (i : ℕ) (heard : Option Peer) (x : Heard) (js : List Joined) (links : Links) → IsFirstOf js (flying_between i k w.flying) → Is (hearing (Server i) heard x (event_heard (Server i) js) links)
     server_hears_then i heard x [] links f = none_hears (Server i) heard x links
     server_hears_then i heard x (j ∷ js) links f =
-        let first = first_parcel k i w.flying j js f in
-        subst (λ (e : Option ServerEvent). Is (hearing (Server i) heard x e links)) (sym first.2) (parcel_then i heard x links first.0 first.1)
+        let first = first_flying k i w.flying j js f in
+        subst (λ (e : Option ServerEvent). Is (hearing (Server i) heard x e links)) (sym first.2) (peer_then i heard x links first.0 first.1)
 
     told_server : (from : Peer) (p : Packet) → IsFirstOf (post_accepted post from p).heard.joined (between w from (Server k)) → Is (with_server k (server_told now k from p (at_server c post w)) w).world
     told_server (Client s) p f =

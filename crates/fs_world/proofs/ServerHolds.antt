@@ -13,12 +13,11 @@ use Rattle.fs_ident.proofs.Standing.{In-got, In-append, In-mapped}
 use Rattle.fs_msg.specs.declared.client_msg.ClientMsg.{ClientMsg}
 use Rattle.fs_msg.specs.declared.client_msg.ClientMsg.TheVariants.{Ask, Renew, Release, Ship}
 use Rattle.fs_msg.specs.declared.entry.Entry.{Entry}
-use Rattle.fs_msg.specs.declared.peer_msg.PeerMsg.TheVariants.{Parcel as OfParcel}
 use Rattle.fs_server.specs.Step.{step}
 use Rattle.fs_server.specs.declared.event.ServerEvent.{ServerEvent}
 use Rattle.fs_server.specs.declared.event.ServerEvent.TheVariants.{FromClient, FromPeer, Turn, Recall, Move}
 use Rattle.fs_server.specs.declared.state.Server.{Server}
-use Rattle.fs_serial.specs.Cluster.{Cluster, IsThere, Lines, after_server, after_server_at, flying_from, is_between, is_with, with_lines, with_sent, without_first, without_parcel, without_question}
+use Rattle.fs_serial.specs.Cluster.{Cluster, IsThere, Lines, after_server, after_server_at, flying_from, is_between, is_with, with_lines, with_sent, without_first, without_arrived, without_question}
 use Rattle.fs_serial.specs.Seen.{ends_of}
 use Rattle.fs_serial.specs.declared.flying.Flying.{Flying}
 use Rattle.fs_serial.proofs.SetAt.{In_set, In_without}
@@ -29,8 +28,8 @@ use Rattle.fs_world.specs.Served.{Seats, with_downs}
 use Rattle.fs_world.specs.declared.seat.Seat.{Seat}
 use Rattle.fs_world.proofs.Fine.{EntriesAsk, EventAsks, MessageAsks, fine_more, step_fine}
 use Rattle.fs_world.proofs.Seen.{joined_still, lines_put}
-use Rattle.fs_world.proofs.SeenRows.{IsAsked, IsOf, step_of}
-use Rattle.fs_world.proofs.SeenSends.{downs_joined, parcels_of_these, sends_seen}
+use Rattle.fs_world.proofs.SeenRows.{BringsOf, IsAsked, IsOf, brings_still, step_of}
+use Rattle.fs_world.proofs.SeenSends.{downs_joined, flying_of_these, sends_seen}
 use Rattle.fs_world.proofs.SerialLaws.{EventLaws}
 use Rattle.fs_world.proofs.ServedHolds.{Holds, Parts, cluster_of}
 
@@ -75,7 +74,7 @@ module _ (laws : EventLaws) (count skew greatest : ℕ) (told : List Told) (p : 
   after_core e before = record p {
     servers = slice_set p.servers k (step s now e).server;
     seats = with_downs k (step s now e).out.send before;
-    flying = without_parcel k e p.flying ++ flying_from k (step s now e).out.send;
+    flying = without_arrived k e p.flying ++ flying_from k (step s now e).out.send;
     journal = p.journal ++ (step s now e).out.admitted;
   }
 
@@ -84,7 +83,7 @@ module _ (laws : EventLaws) (count skew greatest : ℕ) (told : List Told) (p : 
     step_is = step_of (HasJoined before) s now e asker (λ row i. stay row.session (h.rows s server_in row i))
 
     abbrev stepped : (Session → Lines) → Cluster
-    stepped lines = record { servers = slice_set p.servers k (step s now e).server; flying = without_parcel k e p.flying ++ flying_from k (step s now e).out.send; journal = p.journal ++ (step s now e).out.admitted; replied = h.replied; lines = lines }
+    stepped lines = record { servers = slice_set p.servers k (step s now e).server; flying = without_arrived k e p.flying ++ flying_from k (step s now e).out.send; journal = p.journal ++ (step s now e).out.admitted; replied = h.replied; lines = lines }
 
     pub core_seen : after_server now k e c ≡ cluster_of h.replied (after_core e before)
     core_seen =
@@ -94,7 +93,7 @@ module _ (laws : EventLaws) (count skew greatest : ℕ) (told : List Told) (p : 
     joined_then : (x : Session) → HasJoined before x → HasJoined (after_core e before).seats x
     joined_then x i = downs_joined k (step s now e).out.send before x i
 
-    left_there : (e : ServerEvent) (f : Flying) → In f (without_parcel k e p.flying) → In f p.flying
+    left_there : (e : ServerEvent) (f : Flying) → In f (without_arrived k e p.flying) → In f p.flying
     left_there (FromPeer from m) f i = In_without (is_between from k) p.flying f i
     left_there (FromClient by m) f i = i
     left_there Turn f i = i
@@ -118,10 +117,10 @@ module _ (laws : EventLaws) (count skew greatest : ℕ) (told : List Told) (p : 
           | inr old ↦ joined_then row.session (stay row.session (h.rows x old row j))
         ]
 
-        parcels : (f : Flying) → In f (after_core e before).flying → (row : _) → In row f.parcel.rows → HasJoined (after_core e before).seats row.session
-        parcels f i row j = elim (In-append f (without_parcel k e p.flying) (flying_from k (step s now e).out.send) i) as (λ _. HasJoined (after_core e before).seats row.session) [
-          | inl old ↦ joined_then row.session (stay row.session (h.parcels f (left_there e f old) row j))
-          | inr new ↦ joined_then row.session (parcels_of_these (HasJoined before) k (step s now e).out.send step_is.sends f new row j)
+        parcels : (f : Flying) → In f (after_core e before).flying → BringsOf (HasJoined (after_core e before).seats) f.message
+        parcels f i = elim (In-append f (without_arrived k e p.flying) (flying_from k (step s now e).out.send) i) as (λ _. BringsOf (HasJoined (after_core e before).seats) f.message) [
+          | inl old ↦ brings_still (HasJoined p.seats) (HasJoined (after_core e before).seats) (λ x y. joined_then x (stay x y)) f.message (h.parcels f (left_there e f old))
+          | inr new ↦ brings_still (HasJoined before) (HasJoined (after_core e before).seats) joined_then f.message (flying_of_these (HasJoined before) k (step s now e).out.send step_is.sends f new)
         ]
 
   -- ## A message that comes
@@ -144,14 +143,14 @@ module _ (laws : EventLaws) (count skew greatest : ℕ) (told : List Told) (p : 
       (question_taken by seat m.1 is) (λ x i. joined_still p.seats by x (record seat { up = without_first (is_with k) seat.up }) i) (question_there by seat m is first)
       (joined_still p.seats by by (record seat { up = without_first (is_with k) seat.up }) (seat, is))
 
-  -- the parcel is there, as it was found
-  parcel_is : (j : ℕ) (f : Flying) → f.from ≡ j → f.to ≡ k → f ≡ record { from = j; to = k; parcel = f.parcel }
-  parcel_is j f a b = ap (λ (i : ℕ). let g : Flying = record { from = i; to = f.to; parcel = f.parcel } in g) a ∙ ap (λ (i : ℕ). let g : Flying = record { from = j; to = i; parcel = f.parcel } in g) b
+  -- the message of another server is there, as it was found
+  flying_is : (j : ℕ) (f : Flying) → f.from ≡ j → f.to ≡ k → f ≡ record { from = j; to = k; message = f.message }
+  flying_is j f a b = ap (λ (i : ℕ). let g : Flying = record { from = i; to = f.to; message = f.message } in g) a ∙ ap (λ (i : ℕ). let g : Flying = record { from = j; to = i; message = f.message } in g) b
 
-  pub parcel_there : (j : ℕ) (f : Flying) → find (is_between j k) p.flying ≡ Some f → IsThere k (FromPeer j (OfParcel f.parcel)) c
-  parcel_there j f first =
+  pub flying_there : (j : ℕ) (f : Flying) → find (is_between j k) p.flying ≡ Some f → IsThere k (FromPeer j f.message) c
+  flying_there j f first =
       let is = both (f.from == j) (f.to == k) (found (is_between j k) p.flying f first).1 in
-      first ∙ ap (λ (g : Flying). let o : Option Flying = Some g in o) (parcel_is j f (eqb-true f.from j is.0) (eqb-true f.to k is.1))
+      first ∙ ap (λ (g : Flying). let o : Option Flying = Some g in o) (flying_is j f (eqb-true f.from j is.0) (eqb-true f.to k is.1))
 
-  pub parcel_of_joined : (j : ℕ) (f : Flying) → find (is_between j k) p.flying ≡ Some f → IsAsked (HasJoined p.seats) (FromPeer j (OfParcel f.parcel))
-  parcel_of_joined j f first = h.parcels f (found (is_between j k) p.flying f first).0
+  pub flying_of_joined : (j : ℕ) (f : Flying) → find (is_between j k) p.flying ≡ Some f → IsAsked (HasJoined p.seats) (FromPeer j f.message)
+  flying_of_joined j f first = h.parcels f (found (is_between j k) p.flying f first).0

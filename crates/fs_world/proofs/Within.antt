@@ -34,7 +34,7 @@ use Rattle.fs_server.specs.declared.event.ServerEvent.{ServerEvent}
 use Rattle.fs_server.specs.declared.event.ServerEvent.TheVariants.{Turn as TheTurn, Recall as TheRecall, Move as TheMove}
 use Rattle.fs_server.specs.declared.state.Server.{Server as Core}
 use Rattle.fs_world.specs.Calls.{server_hears, world_left}
-use Rattle.fs_world.specs.Carried.{AllCarry, IsFirstOf, between, parcels_between, ups_of}
+use Rattle.fs_world.specs.Carried.{AllCarry, IsFirstOf, between, flying_between, ups_of}
 use Rattle.fs_world.specs.Direct.{first_direct}
 use Rattle.fs_world.specs.Direct as direct
 use Rattle.fs_world.specs.Linked.{HasJoined, IsLinked}
@@ -50,7 +50,7 @@ use Rattle.fs_world.specs.declared.served.Served.{Served as TheServed}
 use Rattle.fs_world.proofs.AtSeat.{has_room, told_linked}
 use Rattle.fs_world.proofs.AtServer.{step_there, told_server_at}
 use Rattle.fs_world.proofs.Carrying.{linked_carries}
-use Rattle.fs_world.proofs.Heard.{first_parcel, first_question}
+use Rattle.fs_world.proofs.Heard.{first_flying, first_question}
 use Rattle.fs_world.proofs.InRange.{down_written, linked_in_range, up_written}
 use Rattle.fs_world.proofs.Linked.{act_linked, first_linked, join_linked, mark_linked, server_linked, told_server_first, turn_linked}
 use Rattle.fs_world.proofs.LinkedCore.{message_readable, own_brought}
@@ -114,16 +114,16 @@ message_brings w k c s (Some seat) at (j ∷ js) f =
     let first = first_question k s seat j js f in
     subst (λ (e : Option ServerEvent). Brings (length w.servers) w.seats c e) (sym first.2) ((seat, at), message_readable first.0.1 first.3)
 
-parcel_brings : (w : TheServed) (k : ℕ) (c : Core) (i : ℕ) → IsLinked w → (joined : List Joined) → IsFirstOf joined (parcels_between i k w.flying) → Brings (length w.servers) w.seats c (event_heard (Server i) joined)
-parcel_brings w k c i h [] f = tt
-parcel_brings w k c i h (j ∷ js) f =
-    let first = first_parcel k i w.flying j js f in
+peer_brings : (w : TheServed) (k : ℕ) (c : Core) (i : ℕ) → IsLinked w → (joined : List Joined) → IsFirstOf joined (flying_between i k w.flying) → Brings (length w.servers) w.seats c (event_heard (Server i) joined)
+peer_brings w k c i h [] f = tt
+peer_brings w k c i h (j ∷ js) f =
+    let first = first_flying k i w.flying j js f in
     let it = h.flying first.0 (found (is_between i k) w.flying first.0 first.1).0 in
-    subst (λ (e : Option ServerEvent). Brings (length w.servers) w.seats c e) (sym first.2) (it.each, it.handles, it.rows)
+    subst (λ (e : Option ServerEvent). Brings (length w.servers) w.seats c e) (sym first.2) it.parcel
 
 heard_brings : (w : TheServed) (k : ℕ) (c : Core) (from : Peer) → IsLinked w → (joined : List Joined) → IsFirstOf joined (between w from (Server k)) → Brings (length w.servers) w.seats c (event_heard from joined)
 heard_brings w k c (Client s) h joined f = message_brings w k c s (get w.seats s.0) refl joined f
-heard_brings w k c (Server i) h joined f = parcel_brings w k c i h joined f
+heard_brings w k c (Server i) h joined f = peer_brings w k c i h joined f
 
 -- whoever has joined has, without the first message of an actor
 still_joined : (k : ℕ) (from : Peer) (seats : Seats) (t : Session) → HasJoined seats t → HasJoined (seats_without k from seats) t

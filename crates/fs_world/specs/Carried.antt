@@ -13,7 +13,6 @@ use Rattle.fs_msg.specs.declared.answer.Answer.{Answer}
 use Rattle.fs_msg.specs.declared.client_msg.ClientMsg.{ClientMsg}
 use Rattle.fs_msg.specs.declared.msg.Msg.{Msg}
 use Rattle.fs_msg.specs.declared.msg.Msg.TheVariants as msg
-use Rattle.fs_msg.specs.declared.peer_msg.PeerMsg.TheVariants.{Parcel as OfParcel}
 use Rattle.fs_schedule.specs.declared.event.Event.{Event}
 use Rattle.fs_serial.specs.Cluster.{is_between, is_with}
 use Rattle.fs_serial.specs.declared.flying.Flying.{Flying}
@@ -45,14 +44,14 @@ abbrev pub downs_of : ℕ → Option Seat → List Msg
 downs_of k None = []
 downs_of k (Some seat) = map (λ (m : ℕ × Answer). msg.Answer m.1) (filter (is_with k) seat.down)
 
-abbrev pub parcels_between : ℕ → ℕ → List Flying → List Msg
-parcels_between j k flying = map (λ (f : Flying). msg.Peer (OfParcel f.parcel)) (filter (is_between j k) flying)
+abbrev pub flying_between : ℕ → ℕ → List Flying → List Msg
+flying_between j k flying = map (λ (f : Flying). msg.Peer f.message) (filter (is_between j k) flying)
 
 -- the messages from one actor to another, in order
 abbrev pub between : Served → Peer → Peer → List Msg
 between w (Client s) (Server k) = ups_of k (get w.seats s.0)
 between w (Server k) (Client s) = downs_of k (get w.seats s.0)
-between w (Server j) (Server k) = parcels_between j k w.flying
+between w (Server j) (Server k) = flying_between j k w.flying
 between w (Client s) (Client t) = []
 
 -- ## What a packet gives

@@ -1,6 +1,6 @@
 -- What holds of the links between servers and clients, whatever was lost, repeated or reordered: they carry the very
 -- messages that are on their way, and these can be read.
-use Rattle.std.specs.Prelude.{◌≡◌, ◌≢◌, ℕ, ◌<◌, ◌^◌, ◌≤◌, true, false, List, map, length, slice_get, Option, Some, None}
+use Rattle.std.specs.Prelude.{◌≡◌, ◌≢◌, ℕ, ◌<◌, ◌^◌, ◌≤◌, true, false, List, map, length, slice_get, IfSome, Option, Some, None}
 use Rattle.std.specs.List.{AllByRecursion}
 use Rattle.std.specs.FinMap.{get}
 use Rattle.fs_ident.specs.In.{In}
@@ -22,8 +22,11 @@ use Rattle.fs_msg.specs.declared.msg.Msg.{Msg}
 use Rattle.fs_msg.specs.declared.msg.Msg.TheVariants as msg
 use Rattle.fs_record.specs.Moving.{AreEachRecords}
 use Rattle.fs_record.specs.Records.{AreRecords}
+use Rattle.fs_record.specs.declared.parcel.Parcel.{Parcel}
+use Rattle.fs_serial.specs.Cluster.{parcel_in}
 use Rattle.fs_serial.specs.declared.flying.Flying.{Flying}
 use Rattle.fs_server.specs.declared.state.Server.{Server as Core}
+use Rattle.fs_window.specs.LinkEnd.{IsNarrow}
 use Rattle.fs_window.specs.OnTheWay.{Carries, IsPacketOf}
 use Rattle.fs_window.specs.Packet.{IsPacket, packet_text}
 use Rattle.fs_window.specs.Peers.{same_peer}
@@ -33,7 +36,7 @@ use Rattle.fs_window.specs.declared.packet.Packet.{Packet}
 use Rattle.fs_window.specs.declared.sent.Sent.{Sent}
 use Rattle.fs_wire.specs.Readable.{is_readable_session}
 use Rattle.fs_world.specs.Within.{IsInRange}
-pub use Rattle.fs_world.specs.Carried.{IsFirstOf, between, downs_of, parcels_between, post_of, seat_post, ups_of}
+pub use Rattle.fs_world.specs.Carried.{IsFirstOf, between, downs_of, flying_between, post_of, seat_post, ups_of}
 use Rattle.fs_world.specs.Readable.{HandlesOpen, LogReadable, RecordsOpen}
 use Rattle.fs_world.specs.Served.{Seats, link_width}
 use Rattle.fs_world.specs.declared.form.Form.{Form}
@@ -43,8 +46,9 @@ use Rattle.fs_world.specs.declared.served.Served.{Served}
 
 -- ## The links of two actors
 
--- these messages are on their way from one end of a link to the other, and each is in range
+-- these messages are on their way from one end of a link to the other, a segment at a time, and each is in range
 pub record IsWay (from to : Link) (messages : List Msg) : Type 0 where
+  pub narrow : IsNarrow to.window
   pub carries : Carries from to (map message messages)
   pub fits : AllByRecursion IsInRange messages
 
@@ -132,14 +136,18 @@ pub record IsSeated (servers : ℕ) (s : Session) (seat : Seat) : Type 0 where
   pub up : (m : ℕ × ClientMsg) → In m seat.up → m.0 < servers
   pub down : (m : ℕ × Answer) → In m seat.down → (m.0 < servers) × IsNamedAnswer servers m.1
 
--- so is a parcel, which goes from one server to another
+-- a parcel has whole records, handles that can be told, and rows of sessions that have joined
+pub record IsParcelOf (seats : Seats) (p : Parcel) : Type 0 where
+  pub each : AreEachRecords p.records
+  pub handles : RecordsOpen p.records
+  pub rows : AreOfJoined seats p.rows
+
+-- a message goes from one server to another, and so is the parcel that it brings, if it brings one
 pub record IsCarried (servers : ℕ) (seats : Seats) (f : Flying) : Type 0 where
   pub from : f.from < servers
   pub to : f.to < servers
   pub apart : f.from ≢ f.to
-  pub each : AreEachRecords f.parcel.records
-  pub handles : RecordsOpen f.parcel.records
-  pub rows : AreOfJoined seats f.parcel.rows
+  pub parcel : IfSome (parcel_in f.message) (IsParcelOf seats)
 
 pub record IsLinked (w : Served) : Type 0 where
   pub posts : length w.posts ≡ length w.servers

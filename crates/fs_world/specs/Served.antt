@@ -9,6 +9,7 @@ use Rattle.fs_window.specs.Post.{Links, no_links, post_accepted}
 use Rattle.fs_window.specs.Reading.{packet_at}
 use Rattle.fs_window.specs.declared.packet.Packet.{Packet}
 use Rattle.fs_window.specs.declared.sent.Sent.{Sent}
+use Rattle.fs_window.specs.declared.width.TheConstants.{LINK_WIDTH}
 use Rattle.fs_model.specs.declared.op.Op.{Op}
 use Rattle.fs_msg.specs.declared.answer.Answer.{Answer}
 use Rattle.fs_msg.specs.declared.client_msg.ClientMsg.{ClientMsg}
@@ -41,9 +42,9 @@ use Rattle.fs_world.specs.declared.served.Served.{Served}
 abbrev pub Seats : Type 0
 Seats = FinMap nat_cmp Seat
 
--- one segment at a time is on its way on each link
+-- so many segments may be on their way on each link
 abbrev pub link_width : ℕ
-link_width = 1
+link_width = LINK_WIDTH
 
 abbrev pub first_seat : ℕ → Session → Seat
 first_seat term s = record { client = first_client s term; post = no_links (Client s) link_width; up = []; down = [] }

@@ -1,13 +1,13 @@
-//! Parcels on their way from a server.
+//! Messages on their way from a server to others.
 ghost use Rattle.std.specs.Prelude.{◌≡◌, ◌++◌, ◌∷◌, [], length, take, OnOk, OnErr};
 ghost use Rattle.fs_serial.specs.Cluster.{flying_from};
 
 use fs_ident::{List, Memory, Peer, Twin};
-use fs_msg::{Msg, PeerMsg};
+use fs_msg::Msg;
 use fs_serial::Flying;
 use std::alloc::Global;
 
-/// The parcels among these messages of the server are on their way: all of them, or none where memory is wanting.
+/// Those of these messages of the server that go to servers are on their way: all of them, or none where memory is wanting.
 pub(crate) fn push_flying(
     alloc: Global,
     k: u8,
@@ -43,7 +43,7 @@ fn push_each(
     Ok(())
 }
 
-/// The parcel that is the message, if it is one.
+/// The message, if it goes to a server.
 fn push_one(
     alloc: Global,
     k: u8,
@@ -54,12 +54,12 @@ fn push_one(
     ensures err { OnErr result (flying.new ≡ flying.old) }
 {
     match sent {
-        (Peer::Server(to), Msg::Peer(PeerMsg::Parcel { parcel })) => {
-            let parcel = parcel.copy(alloc)?;
+        (Peer::Server(to), Msg::Peer(m)) => {
+            let message = m.copy(alloc)?;
             flying.push(Flying {
                 from: k,
                 to: *to,
-                parcel,
+                message,
             })
         }
         _ => Ok(()),

@@ -18,7 +18,7 @@ pub(crate) fn remove_first<T: Drop>(messages: &mut List<(u8, T)>, k: u8)
     }
 }
 
-/// The first parcel from one server to the other, if there is one, is taken off. Takes no memory.
+/// The first message from one server to the other, if there is one, is taken off. Takes no memory.
 pub(crate) fn remove_flying(flying: &mut List<Flying>, from: u8, to: u8)
     ensures { flying.new ≡ without_first (is_between from to) flying.old }
 {
@@ -38,7 +38,7 @@ fn first_with<T>(messages: &[(u8, T)], k: u8) -> Option<usize>
     messages.iter().position(|m| m.0 == k)
 }
 
-/// The place of the first parcel from one server to the other.
+/// The place of the first message from one server to the other.
 fn first_between(flying: &[Flying], from: u8, to: u8) -> Option<usize>
     ensures same { result ≡ position (is_between from to) flying.now }
     ensures within { IfSome result (λ at. at < length flying.now) }

@@ -7,11 +7,8 @@ use crate::term::Term;
 use fs_client::ClientCore;
 use fs_ident::{List, Memory, Peer, Session, Twin, both, copy_three};
 use fs_msg::{Answer, ClientMsg};
-use fs_window::Post;
+use fs_window::{LINK_WIDTH, Post};
 use std::alloc::Global;
-
-/// How many segments are on their way on each link at once.
-pub(crate) const LINK_WIDTH: u64 = 1;
 
 /// A client, its links, and the messages on their way between it and servers, each with the server's number.
 #[derive(Debug)]

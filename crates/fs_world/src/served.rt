@@ -15,7 +15,7 @@ ghost use Rattle.fs_world.specs.World.{FitsServed};
 use crate::clients::{acts, turns};
 use crate::goes::outcome;
 use crate::packets::Packets;
-use crate::seat::{LINK_WIDTH, Seat};
+use crate::seat::Seat;
 use crate::seats::Seats;
 use crate::servers::core_step;
 use crate::term::Term;
@@ -26,10 +26,10 @@ use fs_msg::{CoreError, Item, Note};
 use fs_schedule::{Outcome, What};
 use fs_serial::Flying;
 use fs_server::{ServerCore, ServerEvent};
-use fs_window::Post;
+use fs_window::{LINK_WIDTH, Post};
 use std::alloc::Global;
 
-/// Servers with their links, in order of number, the sessions that have joined, the parcels on their way between servers, in
+/// Servers with their links, in order of number, the sessions that have joined, the messages on their way between servers, in
 /// order of sending, the journal, and the packets that were sent.
 pub(crate) struct Served {
     pub(crate) servers: List<ServerCore>,

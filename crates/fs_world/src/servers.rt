@@ -170,14 +170,14 @@ fn admit(
     let mut plan = plan;
     let admitted = mem::replace(&mut plan.out.admitted, List::new(alloc));
     let send = mem::replace(&mut plan.out.send, List::new(alloc));
-    let (items, parcels) = (journal.len(), flying.len());
+    let (items, messages) = (journal.len(), flying.len());
     append(journal, admitted)?;
     if let Err(e) = push_flying(alloc, k, flying, send.as_slice()) {
         journal.truncate(items);
         return Err(e);
     }
     if let Err(e) = push_downs(alloc, k, seats, send.as_slice()) {
-        flying.truncate(parcels);
+        flying.truncate(messages);
         journal.truncate(items);
         return Err(e);
     }
@@ -185,7 +185,7 @@ fn admit(
         Ok(()) => Ok(()),
         Err(e) => {
             undo_downs(k, seats, send.as_slice());
-            flying.truncate(parcels);
+            flying.truncate(messages);
             journal.truncate(items);
             Err(e)
         }

@@ -1,5 +1,5 @@
 //! The world of a schedule as one value.
-ghost use Rattle.std.specs.Prelude.{◌≡◌, ◌≤◌, ◌⊎◌, Some, IfOk, OnErr, OnOk, IsErrOf};
+ghost use Rattle.std.specs.Prelude.{◌≡◌, ◌≤◌, ◌⊎◌, ◌∷◌, ◌++◌, [], Some, IfOk, OnErr, OnOk, IsErrOf};
 ghost use Rattle.fs_ident.specs.declared.limits.TheConstants.{LATEST};
 ghost use Rattle.fs_msg.specs.declared.core_error.Counter.{Counter as TheCounter};
 ghost use Rattle.fs_msg.specs.declared.core_error.CoreError.TheVariants as errors;
@@ -10,7 +10,7 @@ use crate::form::Form;
 use crate::served::Served;
 use fs_ident::{List, Memory, Twin};
 use fs_model::Space;
-use fs_msg::{CoreError, Item};
+use fs_msg::{CoreError, Item, PeerMsg};
 use fs_record::Parcel;
 use fs_schedule::{Event, Head, Outcome};
 use fs_serial::{Flying, joined};
@@ -154,13 +154,22 @@ impl Twin for World {
     }
 }
 
-/// The parcels on their way.
+/// The parcels among the messages on their way.
 fn parcels_of(alloc: Global, flying: &[Flying]) -> Result<List<Parcel>, Memory>
     ensures { IfOk result (λ parcels. parcels ≡ parcels_of flying.now) }
 {
     let mut parcels = List::new(alloc);
     for f in flying {
-        parcels.push(f.parcel.copy(alloc)?)?;
+        push_parcel(alloc, &mut parcels, f)?;
     }
     Ok(parcels)
+}
+
+/// The parcel that the message brings, if it brings one.
+fn push_parcel(alloc: Global, parcels: &mut List<Parcel>, f: &Flying) -> Result<(), Memory>
+    ensures { OnOk result (parcels.new ≡ parcels.old ++ parcels_of (f.now ∷ [])) }
+{
+    match &f.message {
+        PeerMsg::Parcel { parcel } => parcels.push(parcel.copy(alloc)?),
+    }
 }
