@@ -1,3 +1,4 @@
 pub mod Whole
 pub mod AsSent
 pub mod Several
+pub mod Spending

@@ -1,12 +1,11 @@
 -- One turn more, and one packet more.
 use Rattle.std.proofs.Common.{◌≡◌, ◌≤◌, ◌<◌, ℕ, ◌+◌, Bool, true, false, List, [], ◌∷◌, ◌++◌, refl, ap, sym, ◌∙◌, length, take, append_assoc, append-nil, arith, subst, fold, length-append}
 use Rattle.std.proofs.lemmas.List.{length-take-le}
-use Rattle.std.proofs.Math.Seq.{take-append-add}
 use Rattle.std.specs.Prelude.{Option, Some, None, Result, Ok, Err, IfOk, IfSome, IsErrAnd, IsErrOf}
 use Rattle.std.specs.Io.KnownBytes.{Appends}
 use Rattle.fs_io.specs.Bytes.{IsPrefixWritten}
 use Rattle.fs_io.specs.Calls.{Made, receive_made}
-use Rattle.fs_io.specs.Told.{Adds}
+use Rattle.fs_io.specs.Told.{Adds, AddsAll}
 use Rattle.fs_io.specs.declared.addr.Addr.{Addr}
 use Rattle.fs_io.specs.declared.call.CallKind.TheVariants.{Receive}
 use Rattle.fs_io.specs.declared.failed.Failed.{Failed}
@@ -14,7 +13,7 @@ use Rattle.fs_io.proofs.Known.{appends_none, appends_more}
 use Rattle.fs_msg.specs.declared.core_error.Counter.{Counter}
 use Rattle.fs_turns.specs.declared.counts.Counts.{Counts}
 use Rattle.fs_turns.specs.declared.stop.Stop.{Stop}
-use Rattle.fs_turns.specs.Run.{AddsAll, AreTurns, Due, Given, IsRun, IsRunCut, IsRunSpent, IsSent, IsSentOne, IsSpentTurn, IsTaken, IsTurn, IsTurnCut, IsWritten, Node, Outside, Run, Steps, calls_in, came_in, counted, counted_one, failed_count, first_run, got_of, more, node_after, receive_call, run_of, send_call, send_calls, step_at}
+use Rattle.fs_turns.specs.Run.{AreTurns, Due, Given, IsRun, IsRunCut, IsRunSpent, IsSent, IsSentOne, IsSpentTurn, IsTaken, IsTurn, IsTurnCut, IsWritten, Node, Outside, Run, Steps, calls_in, came_in, counted, counted_one, failed_count, first_run, got_of, more, node_after, receive_call, run_of, send_call, send_calls, step_at}
 
 -- ## What is told
 
@@ -163,23 +162,20 @@ run_ends over step n m a b o p r less last = record {
   lines = r.lines;
 }
 
--- a part of the lines behind what was written is a part of all
-part_more : (a b c : Option (List ℕ)) (xs ys : List ℕ) → Appends a b xs → IsPrefixWritten b c ys → IsPrefixWritten a c (xs ++ ys)
-part_more a b c xs ys p q =
-    let all : take (length xs + q.0) (xs ++ ys) ≡ xs ++ take q.0 ys = take-append-add xs ys q.0 in
-    (length xs + q.0, omega (arith, length-append xs ys, q.1), subst (λ zs. Appends a c zs) (sym all) (appends_more a b c xs (take q.0 ys) p q.2))
-
 pub run_cut : {X : Type 0} (over : X → Bool) (step : Steps X) (n m : ℕ) (a b : Node X) (o p q : Outside) → IsSoFar over step n a b o p → n < m → over b.actor ≡ false → IsTurnCut step b.actor p q → IsRunCut over step m a o q
 run_cut over step n m a b o p q r less going t =
     let last : run_of step a (r.given ++ t.given ∷ []) ≡ more step (run_of step a r.given) t.given = fold_last step (first_run a) r.given t.given in
     let here : b.actor ≡ (run_of step a r.given).node.actor = ap (λ x. x.actor) r.after in
     record {
-      given = r.given ++ t.given ∷ [];
+      given = r.given;
+      final = t.given;
       turned = turned_more over step (first_run a) r.given t.given r.turned (ap over (sym here) ∙ going) (ap (λ x. (step_at step x t.given).spent) (sym here) ∙ t.unspent);
-      many = omega (arith, length-append r.given (t.given ∷ []), r.many, less);
+      many = omega (arith, r.many, less);
       readings = subst (λ xs. AddsAll o.readings q.readings xs) (sym (ap (λ x. x.readings) last)) (adds_more o.readings p.readings q.readings _ _ r.readings t.readings);
       calls = subst (λ xs. AddsAll o.calls q.calls xs) (sym (ap (λ x. x.calls) last)) (adds_more o.calls p.calls q.calls _ _ r.calls (subst (λ x. AddsAll p.calls q.calls (calls_in step x t.given)) here t.calls));
-      lines = subst (λ xs. IsPrefixWritten o.written q.written xs) (sym (ap (λ x. x.lines) last)) (part_more o.written p.written q.written _ _ r.lines (subst (λ x. IsPrefixWritten p.written q.written (step_at step x t.given).lines) here t.lines));
+      written = p.written;
+      whole = r.lines;
+      part = subst (λ x. IsPrefixWritten p.written q.written (step_at step x t.given).lines) here t.lines;
     }
 
 pub run_spent : {X : Type 0} (over : X → Bool) (step : Steps X) (n m : ℕ) (counter : Counter) (a b : Node X) (o p : Outside) (readings : Option (List ℕ)) (calls : Option (List Made)) (written : Option (List ℕ)) → IsSoFar over step n a b o p → n < m → over b.actor ≡ false → IsSpentTurn step counter b.actor p.readings readings p.calls calls → written ≡ p.written → IsRunSpent over step m counter a o (record { readings = readings; calls = calls; written = written })

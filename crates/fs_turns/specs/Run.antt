@@ -5,6 +5,7 @@ use Rattle.std.specs.Io.KnownBytes.{Appends}
 use Rattle.fs_io.specs.Bytes.{IsPrefixWritten}
 use Rattle.fs_io.specs.Calls.{Datagram, Made, send_made}
 use Rattle.fs_io.specs.Faults.{raised}
+use Rattle.fs_io.specs.Told.{AddsAll}
 use Rattle.fs_io.specs.declared.addr.Addr.{Addr}
 use Rattle.fs_io.specs.declared.call.CallKind.TheVariants.{Receive}
 use Rattle.fs_io.specs.declared.failed.Failed.{Failed}
@@ -49,7 +50,8 @@ pub record Given : Type 0 where
 abbrev pub Due : Type 0
 Due = Option Addr × List ℕ
 
--- what a turn makes of an actor, what is due, its lines, and the counter that it would have raised above its end: then there is no such turn
+-- what a turn makes of an actor, what is due, its lines, and the counter that it would have raised above its end: then there is no such
+-- turn
 pub record Stepped (X : Type 0) : Type 0 where
   pub after : X
   pub due : List Due
@@ -69,7 +71,10 @@ pub record Node (X : Type 0) : Type 0 where
 abbrev pub receive_call : Got → Made
 receive_call Lost = record { call = record { what = Receive; addr = None; size = 1100; len = 0; failed = true }; bytes = [] }
 receive_call Nothing = record { call = record { what = Receive; addr = None; size = 1100; len = 0; failed = false }; bytes = [] }
-receive_call (Came d) = record { call = record { what = Receive; addr = Some d.0; size = 1100; len = length d.1; failed = false }; bytes = d.1 }
+receive_call (Came d) = record {
+  call = record { what = Receive; addr = Some d.0; size = 1100; len = length d.1; failed = false };
+  bytes = d.1;
+}
 
 abbrev pub answer : Bool → Result (Unit {0}) Failed
 answer true = Ok (tt {0})
@@ -146,12 +151,6 @@ AreTurns over step x (g ∷ gs) = (over x ≡ false) × ((step_at step x g).spen
 
 -- ## What is told of it
 
--- what is told now is what was told before, and these
-abbrev pub AddsAll : {X : Type 0} → Option (List X) → Option (List X) → List X → Type 0
-AddsAll old None xs = Unit {0}
-AddsAll None (Some now) xs = ⊥
-AddsAll (Some before) (Some now) xs = now ≡ before ++ xs
-
 -- what clock, link and sink tell
 pub record Outside : Type 0 where
   pub readings : Option (List ℕ)
@@ -172,7 +171,8 @@ pub record IsSent (due : List Due) (faults faults_now : ℕ) (before now : Optio
   pub calls : AddsAll before now (send_calls due went)
 
 -- the clock was read, something was received, and the actor took it: this is due, and these are the lines
-pub record IsTaken {X : Type 0} (step : Steps X) (node next : Node X) (due : List Due) (lines : List ℕ) (readings readings_now : Option (List ℕ)) (calls calls_now : Option (List Made)) : Type 0 where
+pub record IsTaken {X : Type 0} (step : Steps X) (node next : Node X) (due : List Due) (lines : List ℕ)
+    (readings readings_now : Option (List ℕ)) (calls calls_now : Option (List Made)) : Type 0 where
   pub reading : ℕ
   pub got : Got
   pub read : AddsAll readings readings_now (reading ∷ [])
@@ -203,7 +203,7 @@ pub record IsRun {X : Type 0} (over : X → Bool) (step : Steps X) (turns : ℕ)
   pub calls : AddsAll before.calls now.calls (run_of step node given).calls
   pub lines : Appends before.written now.written (run_of step node given).lines
 
--- the same, but of the last turn's lines a part from the front on was written
+-- one turn was made, and of its lines a part from the front on was written
 pub record IsTurnCut {X : Type 0} (step : Steps X) (actor : X) (before now : Outside) : Type 0 where
   pub given : Given
   pub unspent : (step_at step actor given).spent ≡ None
@@ -211,23 +211,29 @@ pub record IsTurnCut {X : Type 0} (step : Steps X) (actor : X) (before now : Out
   pub calls : AddsAll before.calls now.calls (calls_in step actor given)
   pub lines : IsPrefixWritten before.written now.written (step_at step actor given).lines
 
+-- after these turns, whose lines were written, came a last one, of whose lines a part from the front on was written
 pub record IsRunCut {X : Type 0} (over : X → Bool) (step : Steps X) (turns : ℕ) (node : Node X) (before now : Outside) : Type 0 where
   pub given : List Given
-  pub turned : AreTurns over step node.actor given
-  pub many : length given ≤ turns
-  pub readings : AddsAll before.readings now.readings (run_of step node given).readings
-  pub calls : AddsAll before.calls now.calls (run_of step node given).calls
-  pub lines : IsPrefixWritten before.written now.written (run_of step node given).lines
+  pub final : Given
+  pub turned : AreTurns over step node.actor (given ++ final ∷ [])
+  pub many : length given < turns
+  pub readings : AddsAll before.readings now.readings (run_of step node (given ++ final ∷ [])).readings
+  pub calls : AddsAll before.calls now.calls (run_of step node (given ++ final ∷ [])).calls
+  pub written : Option (List ℕ)
+  pub whole : Appends before.written written (run_of step node given).lines
+  pub part : IsPrefixWritten written now.written (step_at step (run_of step node given).node.actor final).lines
 
 -- what was written is the lines of fewer turns
-pub record IsWritten {X : Type 0} (over : X → Bool) (step : Steps X) (turns : ℕ) (node : Node X) (before now : Option (List ℕ)) : Type 0 where
+pub record IsWritten {X : Type 0} (over : X → Bool) (step : Steps X) (turns : ℕ) (node : Node X)
+    (before now : Option (List ℕ)) : Type 0 where
   pub given : List Given
   pub turned : AreTurns over step node.actor given
   pub many : length given < turns
   pub lines : Appends before now (run_of step node given).lines
 
 -- the actor's step at this reading, with what was received, needs a number after the counter's last one: nothing was sent
-pub record IsSpentTurn {X : Type 0} (step : Steps X) (counter : Counter) (actor : X) (readings readings_now : Option (List ℕ)) (calls calls_now : Option (List Made)) : Type 0 where
+pub record IsSpentTurn {X : Type 0} (step : Steps X) (counter : Counter) (actor : X) (readings readings_now : Option (List ℕ))
+    (calls calls_now : Option (List Made)) : Type 0 where
   pub reading : ℕ
   pub got : Got
   pub spent : (step actor reading (came_in got)).spent ≡ Some counter
@@ -235,7 +241,8 @@ pub record IsSpentTurn {X : Type 0} (step : Steps X) (counter : Counter) (actor 
   pub call : AddsAll calls calls_now (receive_call got ∷ [])
 
 -- after fewer turns, whose lines were written, came one that needs such a number
-pub record IsRunSpent {X : Type 0} (over : X → Bool) (step : Steps X) (turns : ℕ) (counter : Counter) (node : Node X) (before now : Outside) : Type 0 where
+pub record IsRunSpent {X : Type 0} (over : X → Bool) (step : Steps X) (turns : ℕ) (counter : Counter) (node : Node X)
+    (before now : Outside) : Type 0 where
   pub given : List Given
   pub turned : AreTurns over step node.actor given
   pub many : length given < turns

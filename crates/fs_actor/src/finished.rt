@@ -1,0 +1,71 @@
+//! What a client finishes in an event.
+ghost use Rattle.std.specs.Prelude.{◌≡◌, IfOk, take};
+ghost use Rattle.fs_actor.specs.Finished.{finished, shipped_count};
+ghost use Rattle.fs_actor.specs.Several.{listed};
+ghost use Rattle.fs_server.specs.Ships.{item_of};
+
+use fs_ident::{List, Memory, Peer, Session, Twin};
+use fs_msg::{ClientNote, Entry, Item, Note};
+use std::alloc::Global;
+
+/// What the client of the session read and admitted at once, and the entries at the front of its log that are admitted, as it is told.
+pub(crate) fn finished(
+    alloc: Global,
+    s: Session,
+    log: &[Entry],
+    read: Option<Item>,
+    note: &Note,
+) -> Result<List<Item>, Memory>
+    ensures { IfOk result (λ items. items ≡ finished s log.now read note.now) }
+{
+    let mut items = listed(alloc, read)?;
+    for entry in front(log, shipped_count(note) as usize) {
+        items.push(item_of(alloc, s, entry)?)?;
+    }
+    Ok(items)
+}
+
+/// The item alone, if there is one.
+fn listed(alloc: Global, item: Option<Item>) -> Result<List<Item>, Memory>
+    ensures { IfOk result (λ items. items ≡ listed item) }
+{
+    let mut items = List::new(alloc);
+    match item {
+        Some(item) => items.push(item)?,
+        None => {}
+    }
+    Ok(items)
+}
+
+/// The first so many entries, or all.
+fn front(log: &[Entry], count: usize) -> &[Entry]
+    ensures { result.now ≡ take count log.now }
+{
+    if count < log.len() {
+        &log[..count]
+    } else {
+        log
+    }
+}
+
+/// So many entries of its log are admitted, as it is told.
+fn shipped_count(note: &Note) -> u64
+    ensures { result ≡ shipped_count note.now }
+{
+    match note {
+        Note::Client(ClientNote::Shipped { count, .. }) => *count,
+        _ => 0,
+    }
+}
+
+/// The item of an entry of the session's log.
+fn item_of(alloc: Global, s: Session, entry: &Entry) -> Result<Item, Memory>
+    ensures { IfOk result (λ item. item ≡ item_of s entry.now) }
+{
+    Ok(Item {
+        by: Peer::Client(s),
+        n: entry.n,
+        op: entry.op.copy(alloc)?,
+        reply: entry.reply.copy(alloc)?,
+    })
+}

@@ -1,0 +1,5 @@
+//! Tests of nodes over links in memory and over sockets.
+#![tactic(auto)]
+
+#[cfg(test)]
+mod nodes;
