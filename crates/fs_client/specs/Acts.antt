@@ -31,7 +31,10 @@ use Rattle.fs_client.specs.Client.{begun, can_change}
 
 -- nothing is sent and nothing admitted
 abbrev pub only_noted : {N : Type 0} → Change → N → Client → Plan N
-only_noted ch n c = record { ready = record { now = c.last; change = ch; hints = None }; out = record { note = n; send = None; admitted = None } }
+only_noted ch n c = record {
+  ready = record { now = c.last; change = ch; hints = None };
+  out = record { note = n; send = None; admitted = None };
+}
 
 abbrev pub stays : Act → Client → Plan Act
 stays a c = only_noted change.Nothing a c
@@ -80,7 +83,11 @@ needs_at c to needs = filter (λ n. hinted c (need_file n) == to) needs
 -- all that is missing is told, and what is said to be at that server is asked for there
 abbrev pub asks : ℕ → List Need → Client → Plan Act
 asks to needs c = record {
-  ready = record { now = c.last; change = change.Ask (exchange.Asks to (items_of (needs_at c to needs)) (fresh_asked (needs_at c to needs))); hints = None };
+  ready = record {
+    now = c.last;
+    change = change.Ask (exchange.Asks to (items_of (needs_at c to needs)) (fresh_asked (needs_at c to needs)));
+    hints = None;
+  };
   out = record {
     note = act.Asked needs to;
     send = Some (to, client.Ask (items_of (needs_at c to needs)) (fresh_asked (needs_at c to needs)));
@@ -119,7 +126,11 @@ replies o r c = only_noted (change.Reply (entry_of o r c) (effects_of c.session 
 abbrev pub reads : Op → Reply → Client → Plan Act
 reads o r c = record {
   ready = record { now = c.last; change = change.Read; hints = None };
-  out = record { note = act.ReadNow c.next r; send = None; admitted = Some (record { by = OfSession c.session; n = c.next; op = with_id c.view c.last o r; reply = r }) };
+  out = record {
+    note = act.ReadNow c.next r;
+    send = None;
+    admitted = Some (record { by = OfSession c.session; n = c.next; op = with_id c.view c.last o r; reply = r });
+  };
 }
 
 -- a reply that changes nothing is a read; with an empty log it is admitted at once

@@ -83,8 +83,10 @@ refusal_fits (end.Ended n lease until now) count sent = is_entry_at n count sent
 refusal_fits e count sent = true
 
 abbrev pub answer_fits : ℕ → Exchange → Answer → Client → Bool
-answer_fits from (Asks to items fresh) (Granted grants given e) c = (to == from) && (fresh_fits fresh given && grants_fit items given c.view.leases grants)
-answer_fits from (Renews to numbers) (Renewed rows e) c = (to == from) && begins_numbers numbers (map (λ (r : LeaseNo × Option ℕ). r.0) rows)
+answer_fits from (Asks to items fresh) (Granted grants given e) c =
+    (to == from) && (fresh_fits fresh given && grants_fit items given c.view.leases grants)
+answer_fits from (Renews to numbers) (Renewed rows e) c =
+    (to == from) && begins_numbers numbers (map (λ (r : LeaseNo × Option ℕ). r.0) rows)
 answer_fits from (Releases to numbers) (Released count e) c = (to == from) && nat_le count (length numbers)
 answer_fits from (Ships to sent) (Shipped count e) c = (to == from) && (nat_le count sent && refusal_fits e count (take sent c.log))
 answer_fits from x a c = false
@@ -131,7 +133,10 @@ hints_told e hints = None
 
 -- the change, and what is said
 abbrev pub noted_with : Change → End → ClientNote → Client → Plan ClientNote
-noted_with ch e n c = record { ready = record { now = c.last; change = ch; hints = hints_told e c.hints }; out = record { note = n; send = None; admitted = None } }
+noted_with ch e n c = record {
+  ready = record { now = c.last; change = ch; hints = hints_told e c.hints };
+  out = record { note = n; send = None; admitted = None };
+}
 
 abbrev pub granted_plan : List Grant → Option (List ℕ) → End → Client → Plan ClientNote
 granted_plan gs fresh e c = noted_with (change.Grant (leases_in fresh gs) (full_told e)) e (note.Granted (length gs) e) c

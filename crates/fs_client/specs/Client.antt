@@ -21,7 +21,18 @@ use Rattle.fs_client.specs.declared.state.Client.{Client}
 
 -- a client that has no lease and has answered nothing; it takes everything to be at the first server
 abbrev pub first_client : Session → ℕ → Client
-first_client s term = record { session = s; term = term; last = 0; view = record { session = s; leases = []; pending = [] }; log = []; exchange = None; hints = first_map; full = []; next = 1; over = None }
+first_client s term = record {
+  session = s;
+  term = term;
+  last = 0;
+  view = record { session = s; leases = []; pending = [] };
+  log = [];
+  exchange = None;
+  hints = first_map;
+  full = [];
+  next = 1;
+  over = None;
+}
 
 -- the reading of the event is the greatest so far, and the leases that no entry uses and that are over at it go
 abbrev pub begun : ℕ → Client → Client

@@ -33,7 +33,10 @@ abbrev pub numbers_in : List Kept → List LeaseNo
 numbers_in ks = map (λ (k : Kept). number_of k.standing) ks
 
 abbrev pub sends : ℕ → ClientNote → ClientMsg → Change → Client → Plan ClientNote
-sends to n m ch c = record { ready = record { now = c.last; change = ch; hints = None }; out = record { note = n; send = Some (to, m); admitted = None } }
+sends to n m ch c = record {
+  ready = record { now = c.last; change = ch; hints = None };
+  out = record { note = n; send = Some (to, m); admitted = None };
+}
 
 -- ## The log is handed in
 

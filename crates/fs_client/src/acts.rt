@@ -11,7 +11,7 @@ ghost use Rattle.fs_client.specs.Acts.{act_on, act_plan, answers, ask_for, asks,
 ghost use Rattle.fs_client.specs.Client.{IsClient, can_change, can_commit, has_number_left};
 ghost use Rattle.fs_client.specs.Live.{absent_from};
 
-use crate::begun::Begun;
+use crate::at_reading::AtReading;
 use crate::change::Change;
 use crate::exchange::Exchange;
 use crate::needs::{fresh_asked, full_dir, items_of, need_file, needs_at, worth};
@@ -42,13 +42,13 @@ pub(crate) fn plan(
     ensures only { is_act_spent client.now now op.now ≡ true →
         (IsErrOf result (errors.Spent Entries)) ⊎ (IsErrOf result errors.Memory) }
 {
-    let at = Begun::at(client, now);
+    let at = AtReading::at(client, now);
     act(alloc, &at, op)
 }
 
 /// What the operation comes to at the event.
 #[tactic(auto, using(crate::proofs::Needed::asking_can))]
-fn act(alloc: Global, at: &Begun<'_>, op: &Op) -> Result<Plan<Act>, CoreError>
+fn act(alloc: Global, at: &AtReading<'_>, op: &Op) -> Result<Plan<Act>, CoreError>
     requires { tells_its_effects op.now ≡ true }
     ensures plan { IfOk result (λ p. p ≡ act_on at.now.over op.now at.now) }
     ensures can { IfOk result (λ p. can_change p.ready.change at.now ≡ true) }
@@ -67,7 +67,7 @@ fn act(alloc: Global, at: &Begun<'_>, op: &Op) -> Result<Plan<Act>, CoreError>
 }
 
 /// The reading and this change, and nothing but this is noted.
-pub(crate) fn only_noted<N: Drop>(at: &Begun<'_>, change: Change, note: N) -> Plan<N>
+pub(crate) fn only_noted<N: Drop>(at: &AtReading<'_>, change: Change, note: N) -> Plan<N>
     ensures { result ≡ only_noted change note at.now }
 {
     Plan {
@@ -84,7 +84,7 @@ pub(crate) fn only_noted<N: Drop>(at: &Begun<'_>, change: Change, note: N) -> Pl
     }
 }
 
-fn stays(at: &Begun<'_>, act: Act) -> Plan<Act>
+fn stays(at: &AtReading<'_>, act: Act) -> Plan<Act>
     ensures { result ≡ stays act at.now }
 {
     only_noted(at, Change::Nothing, act)
@@ -92,7 +92,7 @@ fn stays(at: &Begun<'_>, act: Act) -> Plan<Act>
 
 /// Something is missing.
 #[tactic(auto, using(crate::proofs::Needed::nothing_worth, crate::proofs::Needed::something_worth))]
-fn ask_for(alloc: Global, at: &Begun<'_>, items: List<Need>) -> Result<Plan<Act>, Memory>
+fn ask_for(alloc: Global, at: &AtReading<'_>, items: List<Need>) -> Result<Plan<Act>, Memory>
     ensures { IfOk result (λ p. let missing = absent_from at.now items in
         p ≡ ask_for missing (worth at.now.full missing) at.now) }
 {
@@ -117,7 +117,7 @@ fn ask_for(alloc: Global, at: &Begun<'_>, items: List<Need>) -> Result<Plan<Act>
 /// All that is missing is told, and what is said to be at that server is asked for there.
 pub(crate) fn asks(
     alloc: Global,
-    at: &Begun<'_>,
+    at: &AtReading<'_>,
     to: u8,
     needs: List<Need>,
 ) -> Result<Plan<Act>, Memory>
@@ -148,7 +148,7 @@ pub(crate) fn asks(
 /// Nothing is missing.
 fn answer(
     alloc: Global,
-    at: &Begun<'_>,
+    at: &AtReading<'_>,
     op: &Op,
     reply: Reply,
     items: &List<Need>,
@@ -167,7 +167,7 @@ fn answer(
     replies(alloc, at, op, reply, items)
 }
 
-fn has_number_left(at: &Begun<'_>) -> bool
+fn has_number_left(at: &AtReading<'_>) -> bool
     ensures { result ≡ has_number_left at.now }
 {
     at.next() < u64::MAX
@@ -187,7 +187,7 @@ fn unless_spent(left: bool) -> Result<(), CoreError>
 }
 
 /// It is answered and admitted at once.
-fn reads(alloc: Global, at: &Begun<'_>, op: &Op, reply: Reply) -> Result<Plan<Act>, CoreError>
+fn reads(alloc: Global, at: &AtReading<'_>, op: &Op, reply: Reply) -> Result<Plan<Act>, CoreError>
     ensures plan { IfOk result (λ p. p ≡ reads op.now reply at.now) }
     ensures can { IfOk result (λ p. has_number_left at.now ≡ true) }
     ensures spent { (counter : TheCounter) → IsErrOf result (errors.Spent counter) →
@@ -220,7 +220,7 @@ fn reads(alloc: Global, at: &Begun<'_>, op: &Op, reply: Reply) -> Result<Plan<Ac
 /// It is answered, and its entry joins the log.
 fn replies(
     alloc: Global,
-    at: &Begun<'_>,
+    at: &AtReading<'_>,
     op: &Op,
     reply: Reply,
     items: &List<Need>,
@@ -242,7 +242,7 @@ fn replies(
 /// The entry of the operation, with these leases that it used.
 fn entry(
     alloc: Global,
-    at: &Begun<'_>,
+    at: &AtReading<'_>,
     op: &Op,
     reply: Reply,
     uses: List<Use>,
@@ -270,7 +270,7 @@ fn entry(
 }
 
 /// A create that is made has the identifier that the view offers, and any other create none.
-fn with_id(alloc: Global, at: &Begun<'_>, op: &Op, reply: &Reply) -> Result<Op, Memory>
+fn with_id(alloc: Global, at: &AtReading<'_>, op: &Op, reply: &Reply) -> Result<Op, Memory>
     ensures { IfOk result (λ o. o ≡ with_id at.now.view at.now.last op.now reply.now) }
 {
     match (op, reply) {
@@ -307,7 +307,7 @@ fn with_id(alloc: Global, at: &Begun<'_>, op: &Op, reply: &Reply) -> Result<Op, 
 }
 
 /// The identifier that the view offers for a new file in the directory.
-fn fresh_copy(alloc: Global, at: &Begun<'_>, dir: &FileId) -> Result<Option<FileId>, Memory>
+fn fresh_copy(alloc: Global, at: &AtReading<'_>, dir: &FileId) -> Result<Option<FileId>, Memory>
     ensures { IfOk result (λ id. id ≡ fresh at.now.view at.now.last dir.now) }
 {
     match at.fresh(dir) {

@@ -5,7 +5,7 @@ ghost use Rattle.fs_client.specs.Answers.{answer_plan, below_field, fits, full_t
 ghost use Rattle.fs_client.specs.Client.{IsClient, can_change, can_commit};
 
 use crate::acts::only_noted;
-use crate::begun::Begun;
+use crate::at_reading::AtReading;
 use crate::change::Change;
 use crate::exchange::Exchange;
 use crate::fits::{fits, is_life};
@@ -31,12 +31,17 @@ pub(crate) fn plan(
     ensures plan { IfOk result (λ p. p ≡ answer_plan client.now now from a.now) }
     ensures can { IfOk result (λ p. can_commit p.ready client.now ≡ true) }
 {
-    let at = Begun::at(client, now);
+    let at = AtReading::at(client, now);
     answer(alloc, &at, from, a)
 }
 
 /// What the answer of that server comes to at the event.
-fn answer(alloc: Global, at: &Begun<'_>, from: u8, a: &Answer) -> Result<Plan<ClientNote>, Memory>
+fn answer(
+    alloc: Global,
+    at: &AtReading<'_>,
+    from: u8,
+    a: &Answer,
+) -> Result<Plan<ClientNote>, Memory>
     ensures plan { IfOk result (λ p. p ≡ hear from a.now at.now) }
     ensures can { IfOk result (λ p. can_change p.ready.change at.now ≡ true) }
 {
@@ -47,14 +52,14 @@ fn answer(alloc: Global, at: &Begun<'_>, from: u8, a: &Answer) -> Result<Plan<Cl
 }
 
 /// It fits no question that stands.
-fn strange(at: &Begun<'_>) -> Plan<ClientNote>
+fn strange(at: &AtReading<'_>) -> Plan<ClientNote>
     ensures { result ≡ strange at.now }
 {
     only_noted(at, Change::Nothing, ClientNote::Strange)
 }
 
 /// It fits the question that stands, or is a recall.
-fn told(alloc: Global, at: &Begun<'_>, a: &Answer) -> Result<Plan<ClientNote>, Memory>
+fn told(alloc: Global, at: &AtReading<'_>, a: &Answer) -> Result<Plan<ClientNote>, Memory>
     ensures { IfOk result (λ p. p ≡ told a.now at.now) }
 {
     match a {
@@ -74,7 +79,7 @@ fn told(alloc: Global, at: &Begun<'_>, a: &Answer) -> Result<Plan<ClientNote>, M
 
 fn granted(
     alloc: Global,
-    at: &Begun<'_>,
+    at: &AtReading<'_>,
     grants: &[Grant],
     fresh: &Option<FileId>,
     end: &End,
@@ -92,7 +97,7 @@ fn granted(
 
 fn renewed(
     alloc: Global,
-    at: &Begun<'_>,
+    at: &AtReading<'_>,
     rows: &List<(LeaseNo, Option<u64>)>,
     end: &End,
 ) -> Result<Plan<ClientNote>, Memory>
@@ -108,7 +113,7 @@ fn renewed(
 
 fn released(
     alloc: Global,
-    at: &Begun<'_>,
+    at: &AtReading<'_>,
     count: u64,
     end: &End,
 ) -> Result<Plan<ClientNote>, Memory>
@@ -122,7 +127,12 @@ fn released(
     noted_with(alloc, at, Change::Release { numbers }, end, note)
 }
 
-fn shipped(alloc: Global, at: &Begun<'_>, count: u64, end: &End) -> Result<Plan<ClientNote>, Memory>
+fn shipped(
+    alloc: Global,
+    at: &AtReading<'_>,
+    count: u64,
+    end: &End,
+) -> Result<Plan<ClientNote>, Memory>
     ensures { IfOk result (λ p. p ≡ shipped_plan count end.now at.now) }
 {
     let over = over_after(end, at.over());
@@ -136,7 +146,7 @@ fn shipped(alloc: Global, at: &Begun<'_>, count: u64, end: &End) -> Result<Plan<
 /// The change, and what the end of the answer says of who manages what.
 fn noted_with(
     alloc: Global,
-    at: &Begun<'_>,
+    at: &AtReading<'_>,
     change: Change,
     end: &End,
     note: ClientNote,

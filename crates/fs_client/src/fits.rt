@@ -9,14 +9,14 @@ ghost use Rattle.fs_field.specs.declared.lease_kind.LeaseKind.TheVariants.{Exclu
 ghost use Rattle.fs_client.specs.Answers.{answer_fits, begins_numbers, fits, fresh_fits, front_fits, grants_fit, is_entry_at, is_new, is_of_item, life_last, refusal_fits};
 
 use crate::admits::front;
-use crate::begun::Begun;
+use crate::at_reading::AtReading;
 use crate::exchange::Exchange;
 use fs_field::{Field, LeaseKind};
 use fs_ident::{FileId, LeaseNo};
 use fs_msg::{Answer, End, Entry, Grant};
 
 /// Whether the answer of that server fits the question that stands; a recall always does.
-pub(crate) fn fits(at: &Begun<'_>, from: u8, a: &Answer) -> bool
+pub(crate) fn fits(at: &AtReading<'_>, from: u8, a: &Answer) -> bool
     ensures { result ≡ fits from at.now.exchange a.now at.now }
 {
     match (at.exchange(), a) {
@@ -26,7 +26,7 @@ pub(crate) fn fits(at: &Begun<'_>, from: u8, a: &Answer) -> bool
     }
 }
 
-fn answer_fits(at: &Begun<'_>, from: u8, exchange: &Exchange, a: &Answer) -> bool
+fn answer_fits(at: &AtReading<'_>, from: u8, exchange: &Exchange, a: &Answer) -> bool
     ensures { result ≡ answer_fits from exchange.now a.now at.now }
 {
     match (exchange, a) {
@@ -59,7 +59,7 @@ fn answer_fits(at: &Begun<'_>, from: u8, exchange: &Exchange, a: &Answer) -> boo
 
 /// Whether the grants are of the items at the front, and behind them, where an identifier came, of that file's life.
 fn grants_fit(
-    at: &Begun<'_>,
+    at: &AtReading<'_>,
     items: &[(Field, LeaseKind)],
     fresh: &Option<FileId>,
     grants: &[Grant],
@@ -73,7 +73,7 @@ fn grants_fit(
 }
 
 /// Whether the grants are of the items at the front, in order.
-fn front_fits(at: &Begun<'_>, items: &[(Field, LeaseKind)], grants: &[Grant]) -> bool
+fn front_fits(at: &AtReading<'_>, items: &[(Field, LeaseKind)], grants: &[Grant]) -> bool
     ensures { result ≡ front_fits items.now at.now.view.leases [] grants.now }
 {
     for done in 0..grants.len() {
@@ -90,7 +90,12 @@ fn front_fits(at: &Begun<'_>, items: &[(Field, LeaseKind)], grants: &[Grant]) ->
 /// Whether the last grant is the exclusive lease on the new file's life, and those before it are of the items at the
 /// front.
 #[tactic(auto, using(crate::proofs::FitsSteps::last_is, crate::proofs::FitsSteps::none_last))]
-fn life_last(at: &Begun<'_>, items: &[(Field, LeaseKind)], id: &FileId, grants: &[Grant]) -> bool
+fn life_last(
+    at: &AtReading<'_>,
+    items: &[(Field, LeaseKind)],
+    id: &FileId,
+    grants: &[Grant],
+) -> bool
     ensures { result ≡ life_last items.now id.now at.now.view.leases [] grants.now }
 {
     match grants.split_last() {
@@ -102,7 +107,7 @@ fn life_last(at: &Begun<'_>, items: &[(Field, LeaseKind)], id: &FileId, grants: 
 }
 
 /// Whether the grant is of this item, and its number is new.
-fn is_next(at: &Begun<'_>, item: &(Field, LeaseKind), before: &[Grant], g: &Grant) -> bool
+fn is_next(at: &AtReading<'_>, item: &(Field, LeaseKind), before: &[Grant], g: &Grant) -> bool
     ensures { result ≡
         (is_of_item item.now g.now && is_new at.now.view.leases before.now g.now) }
 {
@@ -117,7 +122,7 @@ fn is_of_item(field: &Field, kind: LeaseKind, g: &Grant) -> bool
 }
 
 /// Whether no lease has its number, and none of these grants.
-fn is_new(at: &Begun<'_>, before: &[Grant], g: &Grant) -> bool
+fn is_new(at: &AtReading<'_>, before: &[Grant], g: &Grant) -> bool
     ensures { result ≡ is_new at.now.view.leases before.now g.now }
 {
     !at.has(g.no) && !is_among(before, g.no)

@@ -4,7 +4,7 @@
 mod acts;
 mod admits;
 mod answers;
-mod begun;
+mod at_reading;
 mod change;
 mod client_core;
 mod commits;

@@ -4,7 +4,7 @@ ghost use Rattle.std.specs.List.{list_any};
 ghost use Rattle.fs_ident.specs.Ident.{same};
 ghost use Rattle.fs_client.specs.Acts.{fresh_asked, hinted, is_full, is_futile, items_of, need_file, needs_at, worth};
 
-use crate::begun::Begun;
+use crate::at_reading::AtReading;
 use fs_field::{Field, LeaseKind, Need};
 use fs_ident::{DEPTH, FileId, List, Memory, Twin};
 use std::alloc::Global;
@@ -58,7 +58,7 @@ pub(crate) fn need_file(need: &Need) -> &FileId
 }
 
 /// Those of the needs that are said to be at the server.
-pub(crate) fn needs_at(at: &Begun<'_>, to: u8, needs: List<Need>) -> List<Need>
+pub(crate) fn needs_at(at: &AtReading<'_>, to: u8, needs: List<Need>) -> List<Need>
     ensures { result ≡ needs_at at.now to needs }
 {
     let mut needs = needs.into_vec();
@@ -66,7 +66,7 @@ pub(crate) fn needs_at(at: &Begun<'_>, to: u8, needs: List<Need>) -> List<Need>
     List::from_vec(needs)
 }
 
-fn is_at(at: &Begun<'_>, to: u8, need: &Need) -> bool
+fn is_at(at: &AtReading<'_>, to: u8, need: &Need) -> bool
     ensures { result ≡ (hinted at.now (need_file need.now) == to) }
 {
     at.hinted(need_file(need)) == to

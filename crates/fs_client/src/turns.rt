@@ -7,7 +7,7 @@ ghost use Rattle.fs_client.specs.Acts.{hinted};
 ghost use Rattle.fs_client.specs.Turns.{ending, entries_at, idle, kept_at, pair_of, release_some, releases, renew_some, renews, returned, sends, ship_some, ships, turn_on, turn_plan};
 
 use crate::acts::only_noted;
-use crate::begun::Begun;
+use crate::at_reading::AtReading;
 use crate::change::Change;
 use crate::exchange::Exchange;
 use crate::plan::{Plan, Ready};
@@ -23,13 +23,13 @@ pub(crate) fn plan(alloc: Global, client: &Client, now: u64) -> Result<Plan<Clie
     ensures plan { IfOk result (λ p. p ≡ turn_plan client.now now) }
     ensures can { IfOk result (λ p. can_commit p.ready client.now ≡ true) }
 {
-    let at = Begun::at(client, now);
+    let at = AtReading::at(client, now);
     turn(alloc, &at)
 }
 
 /// What the turn comes to at the event.
 #[tactic(auto, using(crate::proofs::Turning::turn_can))]
-fn turn(alloc: Global, at: &Begun<'_>) -> Result<Plan<ClientNote>, Memory>
+fn turn(alloc: Global, at: &AtReading<'_>) -> Result<Plan<ClientNote>, Memory>
     requires { IsClient at.now }
     ensures plan { IfOk result (λ p. p ≡ turn_on at.now) }
     ensures can { IfOk result (λ p. can_change p.ready.change at.now ≡ true) }
@@ -43,7 +43,7 @@ fn turn(alloc: Global, at: &Begun<'_>) -> Result<Plan<ClientNote>, Memory>
     release_some(alloc, at)
 }
 
-fn idle(at: &Begun<'_>) -> Plan<ClientNote>
+fn idle(at: &AtReading<'_>) -> Plan<ClientNote>
     ensures { result ≡ idle at.now }
 {
     only_noted(at, Change::Nothing, ClientNote::Idle)
@@ -51,7 +51,7 @@ fn idle(at: &Begun<'_>) -> Plan<ClientNote>
 
 /// A message goes out to the server.
 fn sends(
-    at: &Begun<'_>,
+    at: &AtReading<'_>,
     to: u8,
     note: ClientNote,
     message: ClientMsg,
@@ -74,7 +74,7 @@ fn sends(
 }
 
 /// The entries at the front of the log are handed in, those that go where the first one goes.
-fn ship_some(alloc: Global, at: &Begun<'_>) -> Result<Plan<ClientNote>, Memory>
+fn ship_some(alloc: Global, at: &AtReading<'_>) -> Result<Plan<ClientNote>, Memory>
     ensures { IfOk result (λ p. p ≡ ship_some at.now.log at.now) }
 {
     let log = at.log().as_slice();
@@ -88,7 +88,7 @@ fn ship_some(alloc: Global, at: &Begun<'_>) -> Result<Plan<ClientNote>, Memory>
 }
 
 /// These entries are handed in.
-fn ships(at: &Begun<'_>, to: u8, entries: List<Entry>) -> Plan<ClientNote>
+fn ships(at: &AtReading<'_>, to: u8, entries: List<Entry>) -> Plan<ClientNote>
     ensures { result ≡ ships to entries at.now }
 {
     let count = entries.len() as u64;
@@ -103,7 +103,12 @@ fn ships(at: &Begun<'_>, to: u8, entries: List<Entry>) -> Plan<ClientNote>
 }
 
 /// The entries at the front that are handed in at the server.
-fn entries_at(alloc: Global, at: &Begun<'_>, to: u8, log: &[Entry]) -> Result<List<Entry>, Memory>
+fn entries_at(
+    alloc: Global,
+    at: &AtReading<'_>,
+    to: u8,
+    log: &[Entry],
+) -> Result<List<Entry>, Memory>
     ensures { IfOk result (λ entries. entries ≡ entries_at at.now to log.now) }
 {
     copies(alloc, &log[..count_at(at, to, log)])
@@ -111,7 +116,7 @@ fn entries_at(alloc: Global, at: &Begun<'_>, to: u8, log: &[Entry]) -> Result<Li
 
 /// How many entries at the front are handed in at the server.
 #[tactic(auto, using(crate::proofs::Turning::entries_more, crate::proofs::Turning::entries_stop))]
-fn count_at(at: &Begun<'_>, to: u8, log: &[Entry]) -> usize
+fn count_at(at: &AtReading<'_>, to: u8, log: &[Entry]) -> usize
     ensures within { result ≤ length log.now }
     ensures front { take result log.now ≡ entries_at at.now to log.now }
 {
@@ -137,7 +142,7 @@ fn copies(alloc: Global, entries: &[Entry]) -> Result<List<Entry>, Memory>
 
 /// Leases go back, or else are kept.
 #[tactic(auto, using(crate::proofs::Turning::none_returned, crate::proofs::Turning::some_returned, crate::proofs::Turning::pairs_at))]
-fn release_some(alloc: Global, at: &Begun<'_>) -> Result<Plan<ClientNote>, Memory>
+fn release_some(alloc: Global, at: &AtReading<'_>) -> Result<Plan<ClientNote>, Memory>
     requires { IsClient at.now }
     ensures { IfOk result (λ p. p ≡ release_some (returned at.now.view) at.now) }
 {
@@ -153,7 +158,7 @@ fn release_some(alloc: Global, at: &Begun<'_>) -> Result<Plan<ClientNote>, Memor
 #[tactic(auto, using(crate::proofs::Turning::sent_back))]
 fn releases(
     alloc: Global,
-    at: &Begun<'_>,
+    at: &AtReading<'_>,
     to: u8,
     pairs: List<(FileId, LeaseNo)>,
 ) -> Result<Plan<ClientNote>, Memory>
@@ -174,7 +179,7 @@ fn releases(
 
 /// Leases are kept longer, or else there is nothing to do.
 #[tactic(auto, using(crate::proofs::Turning::none_ending, crate::proofs::Turning::some_ending, crate::proofs::Turning::pairs_at))]
-fn renew_some(alloc: Global, at: &Begun<'_>) -> Result<Plan<ClientNote>, Memory>
+fn renew_some(alloc: Global, at: &AtReading<'_>) -> Result<Plan<ClientNote>, Memory>
     requires { IsClient at.now }
     ensures { IfOk result (λ p. p ≡
         renew_some (ending (at.now.last + at.now.term / 2) at.now.view) at.now) }
@@ -192,7 +197,7 @@ fn renew_some(alloc: Global, at: &Begun<'_>) -> Result<Plan<ClientNote>, Memory>
 #[tactic(auto, using(crate::proofs::Turning::sent_on))]
 fn renews(
     alloc: Global,
-    at: &Begun<'_>,
+    at: &AtReading<'_>,
     to: u8,
     pairs: List<(FileId, LeaseNo)>,
     soon: u64,
@@ -214,7 +219,7 @@ fn renews(
 }
 
 /// Those of the leases that are on files said to be at the server.
-fn pairs_at(at: &Begun<'_>, to: u8, pairs: List<(FileId, LeaseNo)>) -> List<(FileId, LeaseNo)>
+fn pairs_at(at: &AtReading<'_>, to: u8, pairs: List<(FileId, LeaseNo)>) -> List<(FileId, LeaseNo)>
     ensures { result ≡ filter (λ pair. hinted at.now pair.0 == to) pairs }
 {
     let mut pairs = pairs.into_vec();
@@ -222,7 +227,7 @@ fn pairs_at(at: &Begun<'_>, to: u8, pairs: List<(FileId, LeaseNo)>) -> List<(Fil
     List::from_vec(pairs)
 }
 
-fn is_at(at: &Begun<'_>, to: u8, id: &FileId) -> bool
+fn is_at(at: &AtReading<'_>, to: u8, id: &FileId) -> bool
     ensures { result ≡ (hinted at.now id.now == to) }
 {
     at.hinted(id) == to

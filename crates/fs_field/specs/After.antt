@@ -88,7 +88,8 @@ child_after d n child e = child
 
 -- the names of the directory
 abbrev pub names_after : List ℕ → List (List ℕ) → Effect → List (List ℕ)
-names_after d names (SetChild dir name to) = if same d dir then (if is_some to then with_name names name else without_name names name) else names
+names_after d names (SetChild dir name to) =
+    if same d dir then (if is_some to then with_name names name else without_name names name) else names
 names_after d names (NewNode file kind dir name) = if same d file then [] else names
 names_after d names (RemoveNode file) = if same d file then [] else names
 names_after d names e = names

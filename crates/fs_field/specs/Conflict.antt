@@ -33,7 +33,8 @@ names_over f g = false
 
 -- leases on these fields, of these kinds, do not go together, whoever has a handle
 abbrev pub meets : Field → LeaseKind → Field → LeaseKind → Bool
-meets f k g l = (one_shared f g && (is_exclusive k || is_exclusive l)) || ((names_over f g && is_exclusive l) || (names_over g f && is_exclusive k))
+meets f k g l = (one_shared f g && (is_exclusive k || is_exclusive l))
+    || ((names_over f g && is_exclusive l) || (names_over g f && is_exclusive k))
 
 -- the row keeps the session from such a lease, whoever has a handle
 abbrev pub stands_against : Session → Field → LeaseKind → Row → Bool
@@ -58,7 +59,8 @@ is_fixed rows f m s = not (list_any (λ row. is_self f m row.field && (row.sessi
 
 -- a third session, neither of these two, has the mode on the file and is fixed
 abbrev pub has_fixed : Selves → List Row → List ℕ → Mode → Session → Session → Bool
-has_fixed selves rows f m x y = list_any (λ e. ((not (e.0.0 == x.0) && not (e.0.0 == y.0)) && has e.1 m) && is_fixed rows f m e.0) (selves f)
+has_fixed selves rows f m x y =
+    list_any (λ e. ((not (e.0.0 == x.0) && not (e.0.0 == y.0)) && has e.1 m) && is_fixed rows f m e.0) (selves f)
 
 -- what was told of the others can become untrue: that one has the mode, unless a fixed one has it, or that none has;
 -- where nothing was told it is taken that none has
@@ -74,7 +76,10 @@ mode_meets selves rows x f promise y g = false
 
 -- one of the two rows tells its session what others have of a mode, and the other lets its session change it
 abbrev pub mode_conflict : Selves → List Row → Row → Row → Bool
-mode_conflict selves rows a b = not (a.session.0 == b.session.0) && (mode_meets selves rows a.session a.field a.promise b.session b.field || mode_meets selves rows b.session b.field b.promise a.session a.field)
+mode_conflict selves rows a b =
+    not (a.session.0 == b.session.0)
+    && (mode_meets selves rows a.session a.field a.promise b.session b.field
+    || mode_meets selves rows b.session b.field b.promise a.session a.field)
 
 -- the two rows of a table conflict, plainly or over a mode
 abbrev pub conflicts : Selves → List Row → Row → Row → Bool

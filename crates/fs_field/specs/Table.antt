@@ -43,7 +43,8 @@ same_kind Exclusive b = is_exclusive b
 
 -- the row is that of this lease of the session
 abbrev pub is_lease : LeaseNo → Session → Field → LeaseKind → Row → Bool
-is_lease number session field kind row = ((has_no number row && (row.session.0 == session.0)) && same_field row.field field) && same_kind row.kind kind
+is_lease number session field kind row =
+    ((has_no number row && (row.session.0 == session.0)) && same_field row.field field) && same_kind row.kind kind
 
 -- the row lives until its end and the skew are over, and longer while a transaction keeps it
 abbrev pub is_live : ℕ → ℕ → Row → Bool

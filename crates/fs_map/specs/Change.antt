@@ -26,7 +26,8 @@ turned same f top (n ∷ ns) = if begins top (front n ns) && not (same (f (front
 
 -- the place is the first of both lists, and these are left
 pub record IsNext {A B : Type 0} (old : Keyed A) (new : Keyed B) (place : List ℕ) (old_rest : Keyed A) (new_rest : Keyed B) : Type 0 where
-  pub passed : (id : List ℕ) → before_all id old ≡ true → before_all id new ≡ true → (slice_cmp nat_cmp id place ≡ Less) × (before_all id old_rest ≡ true) × (before_all id new_rest ≡ true)
+  pub passed : (id : List ℕ) → before_all id old ≡ true → before_all id new ≡ true → (slice_cmp nat_cmp id place ≡ Less)
+      × (before_all id old_rest ≡ true) × (before_all id new_rest ≡ true)
   pub old_after : before_all place old_rest ≡ true
   pub new_after : before_all place new_rest ≡ true
   pub old_left : (id : List ℕ) → (id ≡ place → ⊥) → at id old_rest ≡ None → at id old ≡ None

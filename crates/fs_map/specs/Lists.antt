@@ -72,4 +72,5 @@ is_piece prefix given = begins_at prefix given && (are_keys_in_order given && li
 
 -- some identifier that is given is the server's: a place of either list is, where any is
 abbrev pub owns_given : Owners → ℕ → List ℕ → Keyed Bool → Bool
-owns_given owners me prefix given = list_any (λ id. gives prefix given id && (server_of owners id == me)) (places_of owners ++ places_of given)
+owns_given owners me prefix given =
+    list_any (λ id. gives prefix given id && (server_of owners id == me)) (places_of owners ++ places_of given)

@@ -35,7 +35,8 @@ pub record IsReduced {V : Type 0} (top : List ℕ) (listed : Keyed V) : Type 0 w
   pub ordered : are_keys_in_order listed ≡ true
   pub first : (value : V) × (rest : Keyed V) × (listed ≡ (top, value) ∷ rest)
   pub below : (e : List ℕ × V) → In e listed → begins top e.0 ≡ true
-  pub telling : (e : List ℕ × V) → In e listed → (above : List ℕ) → parent e.0 ≡ Some above → begins top above ≡ true → told_of listed above ≢ Some e.1
+  pub telling : (e : List ℕ × V) → In e listed → (above : List ℕ) → parent e.0 ≡ Some above → begins top above ≡ true
+      → told_of listed above ≢ Some e.1
 
 -- ## A map
 

@@ -30,17 +30,21 @@ pub record IsPartOf (prefix : List ℕ) (part owners : Owners) : Type 0 where
 -- the list of the changed servers from the prefix on
 abbrev pub part_after : Owners → ℕ → List ℕ → Keyed Bool → Owners
 part_after owners me prefix given =
-    (prefix, after_take owners me prefix given prefix) ∷ turns nat_eq (after_take owners me prefix given) prefix (places_of owners ++ places_of given)
+    (prefix, after_take owners me prefix given prefix) ∷ turns nat_eq (after_take owners me prefix given) prefix
+    (places_of owners ++ places_of given)
 
 -- the place above the prefix is at the same server
 abbrev pub is_as_above : Owners → ℕ → List ℕ → Keyed Bool → List ℕ → Bool
 is_as_above owners me prefix given [] = false
-is_as_above owners me prefix given (n ∷ ns) = nat_eq (after_take owners me prefix given (front n ns)) (after_take owners me prefix given (n ∷ ns))
+is_as_above owners me prefix given (n ∷ ns) =
+    nat_eq (after_take owners me prefix given (front n ns)) (after_take owners me prefix given (n ∷ ns))
 
 -- what stands in the map's list: where the place above the prefix is at the same server the prefix is not listed
 abbrev pub new_part : Owners → ℕ → List ℕ → Keyed Bool → Owners
 new_part owners me prefix given =
-    if is_as_above owners me prefix given prefix then turns nat_eq (after_take owners me prefix given) prefix (places_of owners ++ places_of given) else part_after owners me prefix given
+    if is_as_above owners me prefix given prefix
+    then turns nat_eq (after_take owners me prefix given) prefix (places_of owners ++ places_of given)
+    else part_after owners me prefix given
 
 -- ## In the place of the part
 

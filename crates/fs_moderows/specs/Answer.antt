@@ -33,7 +33,8 @@ is_self_of_other f m x row = is_self f m row.field && not (row.session.0 == x.0)
 -- the row tells another session what others have of the mode on the file, and does not go with a lease that lets this
 -- session change it
 abbrev pub stands_against_self : Opens → List Row → Session → List ℕ → Mode → Row → Bool
-stands_against_self opens rows y f m row = not (row.session.0 == y.0) && mode_meets (λ g. opens) rows row.session row.field row.promise y (SelfW f m)
+stands_against_self opens rows y f m row =
+    not (row.session.0 == y.0) && mode_meets (λ g. opens) rows row.session row.field row.promise y (SelfW f m)
 
 -- a transaction on the field goes before all else
 abbrev pub unless_locked : Option TxnNo → Asked → Asked
@@ -51,11 +52,21 @@ answer_self opens rows y f m = unless_locked (lock_on (SelfW f m) rows) (waits_o
 
 -- the answer to a session that would know whether others have the mode on the file
 abbrev pub answer_other : Opens → List Row → Session → List ℕ → Mode → Asked
-answer_other opens rows x f m = unless_locked (lock_on (Other f m) rows) (if has_fixed_other opens rows f m x then Granted (Some true) else waits_or (find (is_self_of_other f m x) rows) (Some false))
+answer_other opens rows x f m =
+    unless_locked (lock_on (Other f m) rows)
+    (if has_fixed_other opens rows f m x then Granted (Some true) else waits_or (find (is_self_of_other f m x) rows) (Some false))
 
 -- the row of a lease that is given with this value
 abbrev pub given_row : LeaseNo → Session → Field → LeaseKind → ℕ → Option Bool → Row
-given_row number session field kind until value = record { no = number; session = session; field = field; kind = kind; until = until; promise = value; lock = None }
+given_row number session field kind until value = record {
+  no = number;
+  session = session;
+  field = field;
+  kind = kind;
+  until = until;
+  promise = value;
+  lock = None;
+}
 
 -- the rows after the answer: one more where the lease is given, which promises the value
 abbrev pub rows_after : Asked → (Option Bool → Row) → List Row → List Row
@@ -74,7 +85,8 @@ is_told_true None = false
 
 -- what was told of this field of the file would become untrue without the session's handles
 abbrev pub rests_on : Opens → List Row → Session → List ℕ → Session → Field → Option Bool → Bool
-rests_on opens rows s f x (Other g m) promise = (same g f && has_mode opens s m) && (is_told_true promise && not (has_fixed (λ h. opens) rows g m x s))
+rests_on opens rows s f x (Other g m) promise =
+    (same g f && has_mode opens s m) && (is_told_true promise && not (has_fixed (λ h. opens) rows g m x s))
 rests_on opens rows s f x field promise = false
 
 -- the row keeps the session from losing its handles on the file

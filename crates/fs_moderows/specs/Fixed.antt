@@ -63,4 +63,6 @@ stands_by_each each s f row = not (row.session.0 == s.0) && rests_by_each each f
 
 -- what was found tells of each row on the mode whether it keeps the session from losing its handles on the file
 abbrev pub TellsOfMode : Opens → List Row → Session → List ℕ → Mode → Option Fixed → Type 0
-TellsOfMode opens rows s f m found = (row : Row) → In row rows → is_other f m row.field ≡ true → stands_against_reap opens rows s f row ≡ (not (row.session.0 == s.0) && rests_by found row.session row.promise)
+TellsOfMode opens rows s f m found =
+    (row : Row) → In row rows → is_other f m row.field ≡ true
+    → stands_against_reap opens rows s f row ≡ (not (row.session.0 == s.0) && rests_by found row.session row.promise)

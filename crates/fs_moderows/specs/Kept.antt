@@ -42,4 +42,5 @@ selves_without f s selves g = if same g f then filter (λ e. not (e.0.0 == s.0))
 
 -- handles came or went, and every session that no row lets change whether it has a mode has it as before
 abbrev pub ChangesByRows : List Row → Selves → Selves → Type 0
-ChangesByRows rows before after = (f : List ℕ) (m : Mode) (s : Session) → is_fixed rows f m s ≡ true → has_mode (after f) s m ≡ has_mode (before f) s m
+ChangesByRows rows before after =
+    (f : List ℕ) (m : Mode) (s : Session) → is_fixed rows f m s ≡ true → has_mode (after f) s m ≡ has_mode (before f) s m

@@ -39,7 +39,14 @@ conflicts a b = is_denied a b || is_denied b a
 
 -- what one of the two has
 abbrev pub or : Modes → Modes → Modes
-or a b = record { acc_r = a.acc_r || b.acc_r; acc_w = a.acc_w || b.acc_w; acc_d = a.acc_d || b.acc_d; deny_r = a.deny_r || b.deny_r; deny_w = a.deny_w || b.deny_w; deny_d = a.deny_d || b.deny_d }
+or a b = record {
+  acc_r = a.acc_r || b.acc_r;
+  acc_w = a.acc_w || b.acc_w;
+  acc_d = a.acc_d || b.acc_d;
+  deny_r = a.deny_r || b.deny_r;
+  deny_w = a.deny_w || b.deny_w;
+  deny_d = a.deny_d || b.deny_d;
+}
 
 -- accesses and denials exchanged: what others must not have
 abbrev pub opposing : Modes → Modes
@@ -47,4 +54,11 @@ opposing m = record { acc_r = m.deny_r; acc_w = m.deny_w; acc_d = m.deny_d; deny
 
 -- what the first has and the second has not
 abbrev pub without : Modes → Modes → Modes
-without a b = record { acc_r = a.acc_r && not b.acc_r; acc_w = a.acc_w && not b.acc_w; acc_d = a.acc_d && not b.acc_d; deny_r = a.deny_r && not b.deny_r; deny_w = a.deny_w && not b.deny_w; deny_d = a.deny_d && not b.deny_d }
+without a b = record {
+  acc_r = a.acc_r && not b.acc_r;
+  acc_w = a.acc_w && not b.acc_w;
+  acc_d = a.acc_d && not b.acc_d;
+  deny_r = a.deny_r && not b.deny_r;
+  deny_w = a.deny_w && not b.deny_w;
+  deny_d = a.deny_d && not b.deny_d;
+}

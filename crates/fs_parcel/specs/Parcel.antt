@@ -77,7 +77,8 @@ is_of_given p = list_all (λ e. gives p.prefix p.piece.given e.0) p.records && l
 
 -- its piece is one of its prefix, its records are records in order, and no two are of one file
 abbrev pub is_formed : Parcel → Bool
-is_formed p = (same p.piece.prefix p.prefix && is_piece p.prefix p.piece.given) && (are_distinct p.records && list_all (λ e. is_in_order e.1) p.records)
+is_formed p = (same p.piece.prefix p.prefix && is_piece p.prefix p.piece.given)
+    && (are_distinct p.records && list_all (λ e. is_in_order e.1) p.records)
 
 -- nothing that it gives is here
 abbrev pub is_elsewhere : RecordMap → Owners → ℕ → Parcel → Bool

@@ -34,7 +34,8 @@ end_text (end.Wait blocker) = codes "wait " ++ lease_text blocker
 end_text (end.Locked txn) = codes "locked " ++ txn_text txn
 end_text (end.Moved prefix to) = codes "moved " ++ (id_text prefix ++ (codes " " ++ server_text to))
 end_text (end.NoIds dir) = codes "noids " ++ id_text dir
-end_text (end.Ended n lease until now) = codes "ended " ++ (decimal n ++ (codes " " ++ (lease_text lease ++ (codes " " ++ (decimal until ++ (codes " " ++ decimal now))))))
+end_text (end.Ended n lease until now) =
+    codes "ended " ++ (decimal n ++ (codes " " ++ (lease_text lease ++ (codes " " ++ (decimal until ++ (codes " " ++ decimal now))))))
 
 -- a word for what was done, how often, and why no more often
 abbrev pub progress_text : List ℕ → ℕ → End → List ℕ

@@ -28,7 +28,8 @@ sent_text [] = []
 sent_text (n ∷ ns) = codes " sends" ++ flat_map (λ m. 32 ∷ decimal m) (n ∷ ns)
 
 abbrev pub outcome_text : ℕ → Outcome → List ℕ
-outcome_text k o = codes "e" ++ (decimal k ++ (codes " " ++ (who_text o.who ++ (codes " " ++ (notes_text o.notes ++ (sent_text o.sent ++ codes "\n"))))))
+outcome_text k o = codes "e"
+    ++ (decimal k ++ (codes " " ++ (who_text o.who ++ (codes " " ++ (notes_text o.notes ++ (sent_text o.sent ++ codes "\n"))))))
 
 -- the lines of outcomes, numbered from k
 abbrev pub outcomes_text : ℕ → List Outcome → List ℕ
@@ -39,7 +40,8 @@ outcomes_text k (o ∷ os) = outcome_text k o ++ outcomes_text (k + 1) os
 
 -- an item's line where items have no numbers
 abbrev pub item_text : Item → List ℕ
-item_text i = peer_text i.by ++ (codes " " ++ (decimal i.n ++ (codes " " ++ (op_text i.op ++ (codes " " ++ (reply_text i.reply ++ codes "\n"))))))
+item_text i = peer_text i.by
+    ++ (codes " " ++ (decimal i.n ++ (codes " " ++ (op_text i.op ++ (codes " " ++ (reply_text i.reply ++ codes "\n"))))))
 
 -- the line of the item of number k
 abbrev pub item_line : ℕ → Item → List ℕ
@@ -54,7 +56,9 @@ items_text k (i ∷ is) = item_line k i ++ items_text (k + 1) is
 
 -- a handle's line, without its line feed
 abbrev pub handle_line : List ℕ → Handle → List ℕ
-handle_line id x = codes "h " ++ (id_text id ++ (codes " " ++ (session_text x.session ++ (codes " " ++ (decimal x.h ++ (codes " " ++ (acc_text x.modes ++ (codes " " ++ deny_text x.modes))))))))
+handle_line id x = codes "h "
+    ++ (id_text id ++ (codes " "
+    ++ (session_text x.session ++ (codes " " ++ (decimal x.h ++ (codes " " ++ (acc_text x.modes ++ (codes " " ++ deny_text x.modes))))))))
 
 -- the directory and the name, for all but the root
 abbrev pub parent_text : Option (List ℕ × List ℕ) → List ℕ
@@ -63,7 +67,9 @@ parent_text (Some p) = codes " in " ++ (id_text p.0 ++ (codes " " ++ quoted p.1)
 
 -- a node's line, without its line feed
 abbrev pub node_line : List ℕ → Node → List ℕ
-node_line id n = codes "n " ++ (id_text id ++ (codes " " ++ (kind_text n.kind ++ (codes " " ++ (decimal n.size ++ (codes " " ++ (decimal n.stamp ++ parent_text n.parent)))))))
+node_line id n = codes "n "
+    ++ (id_text id ++ (codes " "
+    ++ (kind_text n.kind ++ (codes " " ++ (decimal n.size ++ (codes " " ++ (decimal n.stamp ++ parent_text n.parent)))))))
 
 -- a node's line and those of its handles
 abbrev pub file_lines : List ℕ → Option Node → List (List ℕ)
@@ -88,8 +94,11 @@ space_text m = flat_map (λ id. file_text id (get m id)) (keys m)
 -- ## The last line
 
 abbrev pub done_text : ℕ → ℕ → ℕ → List ℕ
-done_text events journal nodes = codes "done events " ++ (decimal events ++ (codes " journal " ++ (decimal journal ++ (codes " nodes " ++ (decimal nodes ++ codes "\n")))))
+done_text events journal nodes =
+    codes "done events "
+    ++ (decimal events ++ (codes " journal " ++ (decimal journal ++ (codes " nodes " ++ (decimal nodes ++ codes "\n")))))
 
 -- the whole report
 abbrev pub report_text : List Outcome → List Item → NodeMap → List ℕ
-report_text outcomes journal m = outcomes_text 1 outcomes ++ (items_text 1 journal ++ (space_text m ++ done_text (length outcomes) (length journal) (len m)))
+report_text outcomes journal m =
+    outcomes_text 1 outcomes ++ (items_text 1 journal ++ (space_text m ++ done_text (length outcomes) (length journal) (len m)))

@@ -9,7 +9,12 @@ use Rattle.fs_report.specs.Report.{space_lines}
 use Rattle.fs_report.specs.Texts.{op_text, reply_text}
 
 abbrev pub item_value : Item → Data
-item_value i = object (member (codes "by") (string (peer_text i.by)) (member (codes "n") (number (unsigned i.n)) (member (codes "op") (string (op_text i.op)) (member (codes "reply") (string (reply_text i.reply)) no_members))))
+item_value i = object
+    (member (codes "by") (string (peer_text i.by))
+    (member (codes "n") (number (unsigned i.n))
+    (member (codes "op") (string (op_text i.op)) (member (codes "reply") (string (reply_text i.reply)) no_members))))
 
 abbrev pub journal_value : List Item → NodeMap → Data
-journal_value journal m = object (member (codes "journal") (array (items_of (map item_value journal))) (member (codes "space") (array (items_of (map string (space_lines m)))) no_members))
+journal_value journal m =
+    object (member (codes "journal") (array (items_of (map item_value journal)))
+    (member (codes "space") (array (items_of (map string (space_lines m)))) no_members))

@@ -96,7 +96,8 @@ IsScheduleText s bytes = AreLinesOf s (lines_of bytes) × IsTimely s.head s.even
 -- of all lines the one of number `at` is the first faulty one
 abbrev pub LinesFaultAt : LineFault → ℕ → List (List ℕ) → Type 0
 LinesFaultAt fault at [] = ⊥
-LinesFaultAt fault at (line ∷ lines) = ((at ≡ 1) × HeadHas fault line) ⊎ ((head : Head) × HeadPasses head line × FaultsAt fault head at 0 lines)
+LinesFaultAt fault at (line ∷ lines) =
+    ((at ≡ 1) × HeadHas fault line) ⊎ ((head : Head) × HeadPasses head line × FaultsAt fault head at 0 lines)
 
 -- why a text is no schedule: a line, counted from 1, is faulty; or no line is, and one is more than the skew before an earlier one
 pub data Fault : Type 0 where

@@ -113,7 +113,8 @@ IsToldWhat head w words = (full : What) × IsSpelled head full words × (w ≡ c
 
 -- the words tell the event
 abbrev pub IsToldEvent : Head → Event → List Word → Type 0
-IsToldEvent head e words = (e.reading ≤ LATEST) × ((rest : List Word) × (words ≡ Bare (decimal e.reading) ∷ rest) × IsToldWhat head e.what rest)
+IsToldEvent head e words =
+    (e.reading ≤ LATEST) × ((rest : List Word) × (words ≡ Bare (decimal e.reading) ∷ rest) × IsToldWhat head e.what rest)
 
 -- the line tells the event
 abbrev pub IsToldLine : Head → Event → List ℕ → Type 0

@@ -51,14 +51,16 @@ pub record PassesAfter (client : Bool) (head : Head) (before : ℕ) (s : Script)
 abbrev pub ScriptLineHas : LineFault → Bool → Head → ℕ → List ℕ → Type 0
 ScriptLineHas (PassesLimit Bytes) client head before line = BYTES < length line
 ScriptLineHas IsOutside client head before line = (length line ≤ BYTES) × IsNoScriptLine client head line
-ScriptLineHas (PassesLimit Events) client head before line = (length line ≤ BYTES) × ((s : Script) × IsScriptLine client head s line) × (EVENTS ≤ before)
+ScriptLineHas (PassesLimit Events) client head before line =
+    (length line ≤ BYTES) × ((s : Script) × IsScriptLine client head s line) × (EVENTS ≤ before)
 ScriptLineHas (PassesLimit which) client head before line = ⊥
 
 -- these lines after so many lines are those of the script
 abbrev pub AreScriptLines : Bool → Head → ℕ → List Script → List (List ℕ) → Type 0
 AreScriptLines client head before [] lines = lines ≡ []
 AreScriptLines client head before (s ∷ ss) [] = ⊥
-AreScriptLines client head before (s ∷ ss) (line ∷ lines) = PassesAfter client head before s line × AreScriptLines client head (before + 1) ss lines
+AreScriptLines client head before (s ∷ ss) (line ∷ lines) =
+    PassesAfter client head before s line × AreScriptLines client head (before + 1) ss lines
 
 -- of these lines after so many lines the one of number `at` is the first faulty one
 abbrev pub ScriptFaultsAt : LineFault → Bool → Head → ℕ → ℕ → List (List ℕ) → Type 0

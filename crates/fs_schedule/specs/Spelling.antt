@@ -103,11 +103,14 @@ op_words (op.List dir) = Bare (codes "list") ∷ Bare (id_text dir) ∷ []
 op_words (op.Kind file) = Bare (codes "kind") ∷ Bare (id_text file) ∷ []
 op_words (op.Info file) = Bare (codes "info") ∷ Bare (id_text file) ∷ []
 op_words (op.Create dir name kind id) = Bare (codes "create") ∷ Bare (id_text dir) ∷ Quoted name ∷ Bare (kind_text kind) ∷ []
-op_words (op.OpenFile file h modes) = Bare (codes "open") ∷ Bare (id_text file) ∷ Bare (decimal h) ∷ Bare (acc_text modes) ∷ Bare (deny_text modes) ∷ []
+op_words (op.OpenFile file h modes) =
+    Bare (codes "open") ∷ Bare (id_text file) ∷ Bare (decimal h) ∷ Bare (acc_text modes) ∷ Bare (deny_text modes) ∷ []
 op_words (op.Close file h) = Bare (codes "close") ∷ Bare (id_text file) ∷ Bare (decimal h) ∷ []
-op_words (op.Set file h size stamp) = Bare (codes "set") ∷ Bare (id_text file) ∷ Bare (decimal h) ∷ Bare (decimal size) ∷ Bare (decimal stamp) ∷ []
+op_words (op.Set file h size stamp) =
+    Bare (codes "set") ∷ Bare (id_text file) ∷ Bare (decimal h) ∷ Bare (decimal size) ∷ Bare (decimal stamp) ∷ []
 op_words (op.Delete dir name) = Bare (codes "delete") ∷ Bare (id_text dir) ∷ Quoted name ∷ []
-op_words (op.Rename sdir sname ddir dname) = Bare (codes "rename") ∷ Bare (id_text sdir) ∷ Quoted sname ∷ Bare (id_text ddir) ∷ Quoted dname ∷ []
+op_words (op.Rename sdir sname ddir dname) =
+    Bare (codes "rename") ∷ Bare (id_text sdir) ∷ Quoted sname ∷ Bare (id_text ddir) ∷ Quoted dname ∷ []
 op_words (op.Reap file session) = []
 
 -- the parts of the operation are in their ranges

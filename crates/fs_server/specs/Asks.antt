@@ -43,7 +43,10 @@ answer_to by field kind s = answer s.rows by field kind
 
 -- one lease more: its number is used up, and its row stands, with what it promises
 abbrev pub with_lease : Session → Field → LeaseKind → Option Bool → Server → Server
-with_lease by field kind promise s = record s { given = s.given + 1; rows = with_row (given_row (next_number s) by field kind (end_of s) promise) s.rows }
+with_lease by field kind promise s = record s {
+  given = s.given + 1;
+  rows = with_row (given_row (next_number s) by field kind (end_of s) promise) s.rows;
+}
 
 -- what the session is told of that lease
 abbrev pub grant_of : Session → Field → LeaseKind → Server → Grant
@@ -62,7 +65,8 @@ ask_from by [] s grants = record { server = s; grants = grants; fresh = None; en
 ask_from by (x ∷ xs) s grants =
     if is_mine s (file_of x.0) then
     elim (answer_to by x.0 (kind_for x.0 x.1) s) as (λ _. Asking) [
-      | Granted promise ↦ ask_from by xs (with_lease by x.0 (kind_for x.0 x.1) promise s) (grants ++ grant_of by x.0 (kind_for x.0 x.1) s ∷ [])
+      | Granted promise ↦ ask_from by xs (with_lease by x.0 (kind_for x.0 x.1) promise s)
+          (grants ++ grant_of by x.0 (kind_for x.0 x.1) s ∷ [])
       | Wait blocker ↦ record { server = s; grants = grants; fresh = None; end = end.Wait blocker }
       | Locked txn ↦ record { server = s; grants = grants; fresh = None; end = end.Locked txn }
     ]
@@ -73,7 +77,9 @@ ask_from by (x ∷ xs) s grants =
 -- it is the directory's next free number; an exclusive lease on its life comes with it
 abbrev pub with_fresh : Session → List ℕ → ℕ → Asking → Asking
 with_fresh by dir k a = record {
-  server = record (with_lease by (Life (child dir k)) Exclusive None a.server) { records = records_after_gift a.server.records dir (Some k) };
+  server = record (with_lease by (Life (child dir k)) Exclusive None a.server) {
+    records = records_after_gift a.server.records dir (Some k);
+  };
   grants = a.grants ++ grant_of by (Life (child dir k)) Exclusive a.server ∷ [];
   fresh = Some (child dir k);
   end = end.All;

@@ -38,12 +38,19 @@ pub record IsLent (by : Session) (rows : List Row) (s : Server) : Type 0 where
   -- they change no answer to the session
   pub answers : (field : Field) (kind : LeaseKind) → answer_to by field kind (with_leases rows s) ≡ answer_to by field kind s
   -- no number was given before
-  pub new : (number : LeaseNo) → (number.server ≡ s.me → number.count ≤ s.given) → find (has_no number) (with_rows rows s.rows) ≡ find (has_no number) s.rows
+  pub new : (number : LeaseNo) → (number.server ≡ s.me → number.count ≤ s.given)
+      → find (has_no number) (with_rows rows s.rows) ≡ find (has_no number) s.rows
   pub ready : IsReady (with_leases rows s)
 
 -- what a session is told of the lease of this number
 abbrev pub numbered_grant : LeaseNo → Session → Field → LeaseKind → Server → Grant
-numbered_grant number by field kind s = record { no = number; field = field; kind = kind; until = end_of s; value = value_of s.records by field }
+numbered_grant number by field kind s = record {
+  no = number;
+  field = field;
+  kind = kind;
+  until = end_of s;
+  value = value_of s.records by field;
+}
 
 -- how a question ends that gets no identifier below the directory
 abbrev pub end_without : FreshError → List ℕ → Result End CoreError
@@ -57,4 +64,9 @@ lent_by lent e s = record { server = with_leases lent.rows s; grants = lent.gran
 
 -- the server and the answer where the question got this
 abbrev pub got_by : Got → Server → Asking
-got_by got s = record { server = changed (change.Grant got.lent.rows got.gift) s; grants = got.lent.grants; fresh = got.fresh; end = got.end }
+got_by got s = record {
+  server = changed (change.Grant got.lent.rows got.gift) s;
+  grants = got.lent.grants;
+  fresh = got.fresh;
+  end = got.end;
+}

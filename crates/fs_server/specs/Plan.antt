@@ -66,7 +66,8 @@ pub record IsServer (s : Server) : Type 0 where
 abbrev pub IsNewGift : Option (List ℕ × ℕ) → RecordMap → Type 0
 IsNewGift gift m = IfSome gift (λ g. next_of (get m g.0) ≤ g.1)
 
--- a number is given for the first time; the effects of a log can be taken back where memory runs out; what goes is a piece, and the records are those that it gives; a parcel fits
+-- a number is given for the first time; the effects of a log can be taken back where memory runs out; what goes is a piece, and the records
+-- are those that it gives; a parcel fits
 abbrev pub CanChange : Change → Server → Type 0
 CanChange (Grant rows gift) s = IsNewGift gift s.records
 CanChange (Admit effects) s = list_all is_undoable effects ≡ true

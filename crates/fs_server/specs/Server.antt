@@ -24,7 +24,17 @@ pub record Stepped : Type 0 where
 
 -- the first server has the root directory, no other has a record; each knows that everything is at the first
 abbrev pub first_server : ℕ → ℕ → ℕ → Server
-first_server me skew term = record { me = me; skew = skew; term = term; last = 0; given = 0; reaps = 0; rows = []; records = first_records (me == 0); map = first_map }
+first_server me skew term = record {
+  me = me;
+  skew = skew;
+  term = term;
+  last = 0;
+  given = 0;
+  reaps = 0;
+  rows = [];
+  records = first_records (me == 0);
+  map = first_map;
+}
 
 -- the reading of the event is the greatest so far, and the rows that are over at it are dropped
 abbrev pub begun : ℕ → Server → Server

@@ -63,4 +63,5 @@ shipped by x = record {
 }
 
 abbrev pub ship_step : Session → List Entry → Server → Stepped
-ship_step by entries s = if list_all (λ (e : Entry). tells_its_effects e.op) entries then shipped by (ship_from by entries s []) else strange s
+ship_step by entries s =
+    if list_all (λ (e : Entry). tells_its_effects e.op) entries then shipped by (ship_from by entries s []) else strange s

@@ -9,7 +9,7 @@ ghost use Rattle.fs_server.specs.Decided.{CanDecide, stepped_by};
 ghost use Rattle.fs_server.specs.Lent.{IsLent, IsReady, got_by, lent_by};
 ghost use Rattle.fs_server.specs.Plan.{IsNewGift};
 
-use crate::begun::Begun;
+use crate::at_reading::AtReading;
 use crate::change::Change;
 use crate::decide::{Decided, recall, to_session};
 use crate::fresh::{Got, ask_fresh};
@@ -23,7 +23,7 @@ use std::alloc::Global;
 /// The session asks for leases on the fields, in order, and for an identifier below a directory.
 pub(crate) fn ask(
     alloc: Global,
-    at: &Begun<'_>,
+    at: &AtReading<'_>,
     by: Session,
     items: &List<(Field, LeaseKind)>,
     dir: &Option<FileId>,
@@ -43,7 +43,7 @@ pub(crate) fn ask(
 /// The items in order, up to the first that cannot be given, or whose file is with another server.
 fn ask_items(
     alloc: Global,
-    at: &Begun<'_>,
+    at: &AtReading<'_>,
     by: Session,
     items: &[(Field, LeaseKind)],
 ) -> Result<(Lent, End), CoreError>
@@ -90,7 +90,7 @@ fn kind_for(field: &Field, kind: LeaseKind) -> LeaseKind
 /// The answer to the session's question for such a lease.
 fn answer_to(
     alloc: Global,
-    at: &Begun<'_>,
+    at: &AtReading<'_>,
     by: Session,
     field: &Field,
     kind: LeaseKind,
@@ -111,7 +111,7 @@ fn answer_to(
 }
 
 /// The session is told what it got, and what stands in the way is asked back.
-fn answered(alloc: Global, at: &Begun<'_>, by: Session, got: Got) -> Result<Decided, Memory>
+fn answered(alloc: Global, at: &AtReading<'_>, by: Session, got: Got) -> Result<Decided, Memory>
     requires recalls { recalls_at got.end (with_rows got.lent.rows at.now.rows) ≡
         recalls_at got.end at.now.rows }
     requires ready { IsReady (got_by got at.now).server }
@@ -142,7 +142,7 @@ fn answered(alloc: Global, at: &Begun<'_>, by: Session, got: Got) -> Result<Deci
 }
 
 /// What stands in the way is asked back.
-fn recalls_at(alloc: Global, at: &Begun<'_>, end: &End) -> Result<List<(Peer, Msg)>, Memory>
+fn recalls_at(alloc: Global, at: &AtReading<'_>, end: &End) -> Result<List<(Peer, Msg)>, Memory>
     ensures { IfOk result (λ send. send ≡ recalls_at end.now at.now.rows) }
 {
     let mut send = List::new(alloc);

@@ -11,7 +11,7 @@ ghost use Rattle.fs_server.specs.Server.{to_session};
 ghost use Rattle.fs_server.specs.Step.{CanBeTold, counter_over, event_step, message_step};
 
 use crate::asks::ask;
-use crate::begun::Begun;
+use crate::at_reading::AtReading;
 use crate::change::Change;
 use crate::event::ServerEvent;
 use crate::moves::{installs, move_to};
@@ -33,7 +33,11 @@ pub(crate) struct Decided {
 }
 
 /// What the event comes to.
-pub(crate) fn decide(alloc: Global, at: &Begun<'_>, ev: &ServerEvent) -> Result<Decided, CoreError>
+pub(crate) fn decide(
+    alloc: Global,
+    at: &AtReading<'_>,
+    ev: &ServerEvent,
+) -> Result<Decided, CoreError>
     requires ready { IsReady at.now }
     requires told { CanBeTold ev.now }
     ensures step { IfOk result (λ d. stepped_by d at.now ≡ event_step ev.now at.now) }
@@ -60,7 +64,12 @@ pub(crate) fn parcel(m: &PeerMsg) -> &Parcel
 }
 
 /// What a message of the session comes to.
-fn message(alloc: Global, at: &Begun<'_>, by: Session, m: &ClientMsg) -> Result<Decided, CoreError>
+fn message(
+    alloc: Global,
+    at: &AtReading<'_>,
+    by: Session,
+    m: &ClientMsg,
+) -> Result<Decided, CoreError>
     requires { IsReady at.now }
     ensures step { IfOk result (λ d. stepped_by d at.now ≡ message_step by m.now at.now) }
     ensures can { IfOk result (λ d. CanDecide d at.now) }

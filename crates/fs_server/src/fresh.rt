@@ -12,7 +12,7 @@ ghost use Rattle.fs_server.specs.Asks.{ask_fresh, fresh_for, fresh_in, fresh_of,
 ghost use Rattle.fs_server.specs.Lent.{IsLent, IsReady, end_without, got_by, lent_by, with_leases};
 ghost use Rattle.fs_server.specs.Plan.{IsNewGift};
 
-use crate::begun::Begun;
+use crate::at_reading::AtReading;
 use crate::lent::{Lent, lend};
 use fs_field::{Field, LeaseKind, table};
 use fs_ident::{FileId, List, Memory, Session, Twin};
@@ -32,7 +32,7 @@ pub(crate) struct Got {
 /// The fresh identifier, where one is asked for and all leases were given.
 pub(crate) fn ask_fresh(
     alloc: Global,
-    at: &Begun<'_>,
+    at: &AtReading<'_>,
     by: Session,
     dir: &Option<FileId>,
     lent: Lent,
@@ -77,7 +77,7 @@ fn without(lent: Lent, end: End) -> Got
 /// An identifier below the directory, which may be with another server.
 fn fresh_below(
     alloc: Global,
-    at: &Begun<'_>,
+    at: &AtReading<'_>,
     by: Session,
     dir: &FileId,
     lent: Lent,
@@ -105,7 +105,7 @@ fn fresh_below(
 /// An identifier below what is managed here. One that is no directory gives none, and is not spoken of.
 fn fresh_in(
     alloc: Global,
-    at: &Begun<'_>,
+    at: &AtReading<'_>,
     by: Session,
     dir: &FileId,
     lent: Lent,
@@ -147,7 +147,7 @@ fn end_without(none: FreshError, dir: FileId) -> Result<End, CoreError>
 
 /// The last numbers of the files right below the directory that rows are on, or that the question was given leases on,
 /// in some order.
-fn borne(alloc: Global, at: &Begun<'_>, dir: &FileId, lent: &Lent) -> Result<List<u32>, Memory>
+fn borne(alloc: Global, at: &AtReading<'_>, dir: &FileId, lent: &Lent) -> Result<List<u32>, Memory>
     ensures { IfOk result (λ told. (k : ℕ) → is_borne told k ≡
         is_borne (borne_numbers dir.now (with_rows lent.now.rows at.now.rows)) k) }
 {
@@ -162,7 +162,7 @@ fn borne(alloc: Global, at: &Begun<'_>, dir: &FileId, lent: &Lent) -> Result<Lis
 /// The directory's next free number, with an exclusive lease on the life of the file.
 fn give(
     alloc: Global,
-    at: &Begun<'_>,
+    at: &AtReading<'_>,
     by: Session,
     dir: &FileId,
     id: FileId,

@@ -9,7 +9,7 @@ ghost use Rattle.fs_server.specs.Asks.{grant_of, with_lease};
 ghost use Rattle.fs_server.specs.Lent.{IsLent, IsReady, numbered_grant, with_leases};
 ghost use Rattle.fs_server.specs.Server.{end_of};
 
-use crate::begun::Begun;
+use crate::at_reading::AtReading;
 use fs_field::{Field, LeaseKind, Row};
 use fs_ident::{LeaseNo, List, Memory, Session, Twin};
 use fs_msg::{CoreError, Counter, Grant};
@@ -25,7 +25,7 @@ pub(crate) struct Lent {
 /// One lease more. `Spent` where its number would be above u64::MAX.
 pub(crate) fn lend(
     alloc: Global,
-    at: &Begun<'_>,
+    at: &AtReading<'_>,
     by: Session,
     field: &Field,
     kind: LeaseKind,
@@ -62,7 +62,7 @@ pub(crate) fn lend(
 /// The lease of this number.
 fn add(
     alloc: Global,
-    at: &Begun<'_>,
+    at: &AtReading<'_>,
     by: Session,
     field: &Field,
     kind: LeaseKind,

@@ -24,7 +24,7 @@
 mod all_live;
 mod all_rows;
 mod asks;
-mod begun;
+mod at_reading;
 mod change;
 mod commits;
 mod decide;

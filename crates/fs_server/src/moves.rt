@@ -9,7 +9,7 @@ ghost use Rattle.fs_server.specs.Lent.{IsReady};
 ghost use Rattle.fs_server.specs.Moves.{fits_here, hands_over, move_step, parcel_at, refusal_of, was_given};
 ghost use Rattle.fs_server.specs.Step.{AreNumbersLeft};
 
-use crate::begun::Begun;
+use crate::at_reading::AtReading;
 use crate::change::Change;
 use crate::decide::{Decided, only, only_noted, strange};
 use crate::out::ServerOut;
@@ -23,7 +23,7 @@ use std::alloc::Global;
 /// What the server has below the prefix goes to another, or it is noted why it stays.
 pub(crate) fn move_to(
     alloc: Global,
-    at: &Begun<'_>,
+    at: &AtReading<'_>,
     prefix: &FileId,
     to: u8,
 ) -> Result<Decided, Memory>
@@ -40,7 +40,7 @@ pub(crate) fn move_to(
 /// Why it stays. There are no path leases.
 fn refused(
     alloc: Global,
-    at: &Begun<'_>,
+    at: &AtReading<'_>,
     prefix: &FileId,
     to: u8,
 ) -> Result<Option<MoveError>, Memory>
@@ -82,7 +82,7 @@ fn refusal_of(why: MoveError) -> Refusal
 }
 
 /// A copy of all that the server has below the prefix, which it manages, goes to the other.
-fn hands_over(alloc: Global, at: &Begun<'_>, prefix: &FileId, to: u8) -> Result<Decided, Memory>
+fn hands_over(alloc: Global, at: &AtReading<'_>, prefix: &FileId, to: u8) -> Result<Decided, Memory>
     requires ready { IsReady at.now }
     requires mine { server_of at.now.map prefix.now ≡ at.now.me }
     ensures step { IfOk result (λ d. stepped_by d at.now ≡ hands_over prefix.now to at.now) }
@@ -108,7 +108,7 @@ fn hands_over(alloc: Global, at: &Begun<'_>, prefix: &FileId, to: u8) -> Result<
 }
 
 /// What another server hands over is put in its place, if an honest one sends it.
-pub(crate) fn installs(alloc: Global, at: &Begun<'_>, p: &Parcel) -> Result<Decided, Memory>
+pub(crate) fn installs(alloc: Global, at: &AtReading<'_>, p: &Parcel) -> Result<Decided, Memory>
     requires ready { IsReady at.now }
     requires told { AreNumbersLeft p.now.records }
     ensures step { IfOk result (λ d.
@@ -133,7 +133,7 @@ pub(crate) fn installs(alloc: Global, at: &Begun<'_>, p: &Parcel) -> Result<Deci
 }
 
 /// Whether an honest server sends the parcel.
-fn fits_here(alloc: Global, at: &Begun<'_>, p: &Parcel) -> Result<bool, Memory>
+fn fits_here(alloc: Global, at: &AtReading<'_>, p: &Parcel) -> Result<bool, Memory>
     ensures { IfOk result (λ fit. fit ≡ fits_here p.now at.now) }
 {
     let (off, on) = at.rows().tables();

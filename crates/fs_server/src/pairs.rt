@@ -4,7 +4,7 @@ ghost use Rattle.fs_server.specs.Decided.{CanDecide, stepped_by};
 ghost use Rattle.fs_server.specs.Lent.{IsReady};
 ghost use Rattle.fs_server.specs.Pairs.{end_told, ends_told, numbers_in, pairs_end, pairs_here, release_step, renew_step};
 
-use crate::begun::Begun;
+use crate::at_reading::AtReading;
 use crate::change::Change;
 use crate::decide::{Decided, only, to_session};
 use crate::out::ServerOut;
@@ -15,7 +15,7 @@ use std::alloc::Global;
 /// The session asks for later ends of leases.
 pub(crate) fn renew(
     alloc: Global,
-    at: &Begun<'_>,
+    at: &AtReading<'_>,
     by: Session,
     pairs: &List<(FileId, LeaseNo)>,
 ) -> Result<Decided, Memory>
@@ -43,7 +43,7 @@ pub(crate) fn renew(
 /// The session gives leases back.
 pub(crate) fn release(
     alloc: Global,
-    at: &Begun<'_>,
+    at: &AtReading<'_>,
     by: Session,
     pairs: &List<(FileId, LeaseNo)>,
 ) -> Result<Decided, Memory>
@@ -70,7 +70,7 @@ pub(crate) fn release(
 /// The numbers of the pairs up to the first whose file is with another server, and why no more.
 fn pairs_here(
     alloc: Global,
-    at: &Begun<'_>,
+    at: &AtReading<'_>,
     pairs: &[(FileId, LeaseNo)],
 ) -> Result<(List<LeaseNo>, End), Memory>
     ensures numbers { IfOk result (λ got. got.0 ≡ numbers_in (pairs_here at.now pairs.now)) }
@@ -89,7 +89,7 @@ fn pairs_here(
 /// The new ends of the leases; none of one whose row is not there.
 fn ends_told(
     alloc: Global,
-    at: &Begun<'_>,
+    at: &AtReading<'_>,
     until: u64,
     numbers: &[LeaseNo],
 ) -> Result<List<(LeaseNo, Option<u64>)>, Memory>
@@ -102,7 +102,7 @@ fn ends_told(
     Ok(told)
 }
 
-fn end_told(at: &Begun<'_>, until: u64, no: LeaseNo) -> (LeaseNo, Option<u64>)
+fn end_told(at: &AtReading<'_>, until: u64, no: LeaseNo) -> (LeaseNo, Option<u64>)
     ensures { result ≡ end_told until no at.now.rows }
 {
     if at.rows().has(no) {

@@ -16,7 +16,7 @@ ghost use Rattle.fs_server.specs.Lost.{CanLose, reaping_by, turned_by};
 ghost use Rattle.fs_server.specs.Reaps.{lapsed_among, lapsed_on, reap_from, reap_item, recalls_for, turn_step, with_blocker};
 ghost use Rattle.fs_server.specs.Step.{counter_over};
 
-use crate::begun::Begun;
+use crate::at_reading::AtReading;
 use crate::change::Change;
 use crate::decide::{Decided, only_noted, recall};
 use crate::out::ServerOut;
@@ -36,7 +36,7 @@ pub(crate) struct Lost {
 }
 
 /// Each session with handles on a file and no lease on them loses these, unless a row keeps it from that.
-pub(crate) fn turn(alloc: Global, at: &Begun<'_>) -> Result<Decided, CoreError>
+pub(crate) fn turn(alloc: Global, at: &AtReading<'_>) -> Result<Decided, CoreError>
     requires { IsReady at.now }
     ensures step { IfOk result (λ d. stepped_by d at.now ≡ turn_step at.now) }
     ensures can { IfOk result (λ d. CanDecide d at.now) }
@@ -49,7 +49,7 @@ pub(crate) fn turn(alloc: Global, at: &Begun<'_>) -> Result<Decided, CoreError>
 }
 
 /// The sessions on each of the files, in order.
-fn lose_all(alloc: Global, at: &Begun<'_>, files: &[FileId]) -> Result<Lost, CoreError>
+fn lose_all(alloc: Global, at: &AtReading<'_>, files: &[FileId]) -> Result<Lost, CoreError>
     requires ready { IsReady at.now }
     requires valid { AreRecords at.now.records }
     requires apart { are_apart files.now ≡ true }
@@ -72,7 +72,12 @@ fn lose_all(alloc: Global, at: &Begun<'_>, files: &[FileId]) -> Result<Lost, Cor
 }
 
 /// The sessions on the file, in order.
-fn lose_on(alloc: Global, at: &Begun<'_>, file: &FileId, lost: &mut Lost) -> Result<(), CoreError>
+fn lose_on(
+    alloc: Global,
+    at: &AtReading<'_>,
+    file: &FileId,
+    lost: &mut Lost,
+) -> Result<(), CoreError>
     requires valid { AreRecords at.now.records }
     requires still { get (reaping_by lost.old at.now).server.records file.now ≡
         get at.now.records file.now }
@@ -100,7 +105,7 @@ fn lose_on(alloc: Global, at: &Begun<'_>, file: &FileId, lost: &mut Lost) -> Res
 /// The session loses its handles on the file, and is one of `selves` no more, or the lease in the way is noted.
 fn lose(
     alloc: Global,
-    at: &Begun<'_>,
+    at: &AtReading<'_>,
     file: &FileId,
     session: Session,
     selves: &mut List<(Session, Modes)>,
@@ -136,7 +141,7 @@ fn lose(
 /// The reap of the session's handles on the file. `Spent` where its number would be above u64::MAX.
 fn reap(
     alloc: Global,
-    at: &Begun<'_>,
+    at: &AtReading<'_>,
     file: &FileId,
     session: Session,
     lost: &mut Lost,
@@ -219,7 +224,7 @@ fn first_after(blockers: &[LeaseNo], no: LeaseNo) -> Option<usize>
 }
 
 /// The leases in the way are asked back, and the reaps are told.
-fn told(alloc: Global, at: &Begun<'_>, lost: Lost) -> Result<Decided, Memory>
+fn told(alloc: Global, at: &AtReading<'_>, lost: Lost) -> Result<Decided, Memory>
     requires ready { IsReady at.now }
     requires can { CanLose lost at.now }
     ensures step { IfOk result (λ d. stepped_by d at.now ≡ turned_by lost at.now) }
@@ -247,7 +252,7 @@ fn told(alloc: Global, at: &Begun<'_>, lost: Lost) -> Result<Decided, Memory>
 /// Each of the leases is asked back from the session of its row.
 fn recalls_for(
     alloc: Global,
-    at: &Begun<'_>,
+    at: &AtReading<'_>,
     blockers: &[LeaseNo],
 ) -> Result<List<(Peer, Msg)>, Memory>
     ensures { IfOk result (λ send. send ≡ recalls_for at.now.rows blockers.now) }

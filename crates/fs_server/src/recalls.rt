@@ -4,7 +4,7 @@ ghost use Rattle.fs_server.specs.Decided.{CanDecide, stepped_by};
 ghost use Rattle.fs_server.specs.Lent.{IsReady};
 ghost use Rattle.fs_server.specs.Step.{recall_step, recalled_on, recalls_of};
 
-use crate::begun::Begun;
+use crate::at_reading::AtReading;
 use crate::change::Change;
 use crate::decide::{Decided, recall};
 use crate::out::ServerOut;
@@ -14,7 +14,11 @@ use fs_msg::{Msg, ServerNote};
 use std::alloc::Global;
 
 /// The leases on the field whose rows no transaction keeps are asked back.
-pub(crate) fn recall_all(alloc: Global, at: &Begun<'_>, field: &Field) -> Result<Decided, Memory>
+pub(crate) fn recall_all(
+    alloc: Global,
+    at: &AtReading<'_>,
+    field: &Field,
+) -> Result<Decided, Memory>
     requires { IsReady at.now }
     ensures step { IfOk result (λ d. stepped_by d at.now ≡ recall_step field.now at.now) }
     ensures can { IfOk result (λ d. CanDecide d at.now) }
@@ -35,7 +39,7 @@ pub(crate) fn recall_all(alloc: Global, at: &Begun<'_>, field: &Field) -> Result
 /// The leases on the field whose rows no transaction keeps; a field that is with another server has none.
 fn recalled_on(
     alloc: Global,
-    at: &Begun<'_>,
+    at: &AtReading<'_>,
     field: &Field,
 ) -> Result<List<(LeaseNo, Session)>, Memory>
     ensures { IfOk result (λ leases. leases ≡ recalled_on field.now at.now) }

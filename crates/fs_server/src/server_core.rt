@@ -6,7 +6,7 @@ ghost use Rattle.fs_msg.specs.declared.core_error.CoreError.TheVariants as error
 ghost use Rattle.fs_msg.specs.declared.limits.TheConstants.{LONGEST, SERVERS};
 
 use crate::all_rows::AllRows;
-use crate::begun::Begun;
+use crate::at_reading::AtReading;
 use crate::commits::commit;
 use crate::decide::{Decided, decide};
 use crate::event::ServerEvent;
@@ -85,7 +85,7 @@ impl ServerCore {
         ensures only { (counter : TheCounter) → spent_by self.now now ev.now ≡ Some counter →
             IsErrOf result (errors.Spent counter) ⊎ IsErrOf result errors.Memory }
     {
-        let at = Begun::at(&self.server, now);
+        let at = AtReading::at(&self.server, now);
         let Decided { change, out } = decide(alloc, &at, ev)?;
         Ok(Plan::new(now, change, out))
     }

@@ -14,7 +14,7 @@ ghost use Rattle.fs_server.specs.Server.{is_mine};
 ghost use Rattle.fs_server.specs.Shipped.{shipped_by};
 ghost use Rattle.fs_server.specs.Ships.{first_gone, has_row, item_of, ship_from, ship_step, shipped};
 
-use crate::begun::Begun;
+use crate::at_reading::AtReading;
 use crate::change::Change;
 use crate::decide::{Decided, only, strange, to_session};
 use crate::out::ServerOut;
@@ -35,7 +35,7 @@ pub(crate) struct Taken {
 /// The session hands in entries of its log.
 pub(crate) fn ship(
     alloc: Global,
-    at: &Begun<'_>,
+    at: &AtReading<'_>,
     by: Session,
     entries: &List<Entry>,
 ) -> Result<Decided, Memory>
@@ -61,7 +61,7 @@ fn tell_their_effects(entries: &[Entry]) -> bool
 /// and the numbers of those behind the latter.
 fn ship_entries(
     alloc: Global,
-    at: &Begun<'_>,
+    at: &AtReading<'_>,
     by: Session,
     entries: &[Entry],
 ) -> Result<(Taken, End, List<u64>), Memory>
@@ -93,20 +93,20 @@ fn ship_entries(
 }
 
 /// Whether the operation is handed in where it is to be.
-fn is_here(at: &Begun<'_>, op: &Op) -> bool
+fn is_here(at: &AtReading<'_>, op: &Op) -> bool
     ensures { result ≡ is_mine at.now (home_of op.now) }
 {
     at.is_mine(op.home())
 }
 
 /// The first use without its row.
-fn first_gone<'a>(at: &Begun<'_>, by: Session, uses: &'a [Use]) -> Option<&'a Use>
+fn first_gone<'a>(at: &AtReading<'_>, by: Session, uses: &'a [Use]) -> Option<&'a Use>
     ensures { option_copied result ≡ first_gone at.now.rows by uses.now }
 {
     uses.iter().find(|used| !has_row(at, by, used))
 }
 
-fn has_row(at: &Begun<'_>, by: Session, used: &Use) -> bool
+fn has_row(at: &AtReading<'_>, by: Session, used: &Use) -> bool
     ensures { result ≡ has_row at.now.rows by used.now }
 {
     at.rows().holds(used.no, by, &used.field, used.kind)

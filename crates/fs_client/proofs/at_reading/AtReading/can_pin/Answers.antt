@@ -3,7 +3,7 @@ use Rattle.std.specs.List.{filter_map}
 use Rattle.fs_view.specs.View.{can_pin_all, item_use}
 use Rattle.fs_client.specs.declared.state.Client.{Client}
 use Rattle.fs_client.proofs.Pinnable.{pinned_at}
-use Rattle.fs_client.proofs.begun.Begun.can_pin.Goals as goal
+use Rattle.fs_client.proofs.at_reading.AtReading.can_pin.Goals as goal
 
 pub returns : goal.returns
 returns c =

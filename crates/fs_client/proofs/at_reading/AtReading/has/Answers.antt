@@ -3,7 +3,7 @@ use Rattle.std.specs.List.{list_any}
 use Rattle.fs_view.specs.Kept.{has_number}
 use Rattle.fs_view.proofs.Lapsed.{any_live}
 use Rattle.fs_client.specs.declared.state.Client.{Client}
-use Rattle.fs_client.proofs.begun.Begun.has.Goals as goal
+use Rattle.fs_client.proofs.at_reading.AtReading.has.Goals as goal
 
 pub returns : goal.returns
 returns c =

@@ -16,13 +16,13 @@ use std::marker::Model;
 
 /// A server at the reading of an event: the rows that are over at it are not seen. Nothing is copied.
 #[derive(Drop)]
-pub(crate) struct Begun<'a> {
+pub(crate) struct AtReading<'a> {
     server: &'a Server,
     reading: u64,
     live: AllLive<'a>,
 }
 
-impl<'a> Model for Begun<'a> {
+impl<'a> Model for AtReading<'a> {
     ghost use Rattle.fs_server.specs.declared.state.Server.{Server};
     ghost use Rattle.fs_server.specs.contracts.state.Server as whole;
 
@@ -33,16 +33,16 @@ impl<'a> Model for Begun<'a> {
     ghost view = { λ b. record b.server.now { last = b.reading; rows = b.live } };
 }
 
-impl<'a> Begun<'a> {
+impl<'a> AtReading<'a> {
     /// The server at the greatest reading so far, where this one is handed in.
-    pub(crate) fn at(server: &'a Server, now: u64) -> Begun<'a>
+    pub(crate) fn at(server: &'a Server, now: u64) -> AtReading<'a>
         requires server { IsServer server.now }
         requires reading { now ≤ LATEST }
         ensures begun { result ≡ begun now server.now }
         ensures ready { IsReady result }
     {
         let reading = server.last.max(now);
-        Begun {
+        AtReading {
             server,
             reading,
             live: server.rows.live(reading, server.skew),

@@ -5,7 +5,7 @@ use Rattle.fs_field.specs.declared.used.Use.{Use}
 use Rattle.fs_view.specs.View.{item_use}
 use Rattle.fs_client.specs.declared.state.Client.{Client}
 use Rattle.fs_client.proofs.Pinnable.{uses_at}
-use Rattle.fs_client.proofs.begun.Begun.uses_of.Goals as goal
+use Rattle.fs_client.proofs.at_reading.AtReading.uses_of.Goals as goal
 
 pub returns : goal.returns
 returns c =

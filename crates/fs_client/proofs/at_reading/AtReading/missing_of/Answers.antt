@@ -4,7 +4,7 @@ use Rattle.fs_view.specs.View.{known_by, given_by}
 use Rattle.fs_view.specs.Walk.{is_there}
 use Rattle.fs_view.proofs.Lapsed.{absent_pass}
 use Rattle.fs_client.specs.declared.state.Client.{Client}
-use Rattle.fs_client.proofs.begun.Begun.missing_of.Goals as goal
+use Rattle.fs_client.proofs.at_reading.AtReading.missing_of.Goals as goal
 
 pub returns : goal.returns
 returns c =

@@ -24,12 +24,12 @@ use std::marker::Model;
 /// A client at the reading of an event: the leases that no entry uses and that are over at it are not seen. Nothing is
 /// copied.
 #[derive(Drop)]
-pub(crate) struct Begun<'a> {
+pub(crate) struct AtReading<'a> {
     client: &'a Client,
     reading: u64,
 }
 
-impl<'a> Model for Begun<'a> {
+impl<'a> Model for AtReading<'a> {
     ghost use Rattle.fs_client.specs.declared.state.Client.{Client};
     ghost use Rattle.fs_view.specs.View.{lapsed_at};
 
@@ -39,12 +39,12 @@ impl<'a> Model for Begun<'a> {
         record b.client.now { last = b.reading; view = lapsed_at b.reading b.client.now.view } };
 }
 
-impl<'a> Begun<'a> {
+impl<'a> AtReading<'a> {
     /// The client at the greatest reading so far, where this one is handed in.
-    pub(crate) fn at(client: &'a Client, now: u64) -> Begun<'a>
+    pub(crate) fn at(client: &'a Client, now: u64) -> AtReading<'a>
         ensures { result ≡ begun now client.now }
     {
-        Begun {
+        AtReading {
             client,
             reading: client.last.max(now),
         }

@@ -4,7 +4,7 @@ use Rattle.fs_field.specs.Table.{is_live}
 use Rattle.fs_rows.specs.Given.{AreGiven}
 use Rattle.fs_rows.proofs.Numbers.{given_filter}
 use Rattle.fs_server.specs.declared.state.Server.{Server}
-use Rattle.fs_server.proofs.begun.Begun.at.Goals as goal
+use Rattle.fs_server.proofs.at_reading.AtReading.at.Goals as goal
 
 pub returns-clause-ready : goal.returns-clause-ready
 returns-clause-ready c =
