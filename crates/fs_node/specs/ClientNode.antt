@@ -18,6 +18,7 @@ use Rattle.fs_report.specs.Report.{item_text}
 use Rattle.fs_schedule.specs.declared.script.Script.{Script}
 use Rattle.fs_turns.specs.Run.{Stepped}
 use Rattle.fs_window.specs.Post.{no_links}
+use Rattle.fs_window.specs.declared.width.TheConstants.{LINK_WIDTH}
 use Rattle.fs_node.specs.Arrivals.{arrival_of}
 use Rattle.fs_node.specs.Counting.{raised_by}
 use Rattle.fs_node.specs.Peers.{Peers, due_of}
@@ -26,16 +27,12 @@ use Rattle.fs_node.specs.declared.arrival.Arrival.{Arrival}
 use Rattle.fs_node.specs.declared.arrival.Arrival.TheVariants.{Quiet, Dropped, Came}
 use Rattle.fs_node.specs.declared.client_state.ClientState.{ClientState}
 
--- one segment at a time is on its way on each link, as in a world
-abbrev pub link_width : ℕ
-link_width = 1
-
 -- a client before its first turn
 abbrev pub first_client_node : Session → ℕ → Peers → List Script → ClientState
 first_client_node s term peers script = record {
   session = s;
   client = first_client s term;
-  post = no_links (Client s) link_width;
+  post = no_links (Client s) LINK_WIDTH;
   peers = peers;
   script = script;
   done = 0;

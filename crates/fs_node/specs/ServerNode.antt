@@ -12,8 +12,8 @@ use Rattle.fs_server.specs.declared.event.ServerEvent.{ServerEvent}
 use Rattle.fs_server.specs.declared.event.ServerEvent.TheVariants.{Turn}
 use Rattle.fs_turns.specs.Run.{Stepped}
 use Rattle.fs_window.specs.Post.{no_links}
+use Rattle.fs_window.specs.declared.width.TheConstants.{LINK_WIDTH}
 use Rattle.fs_node.specs.Arrivals.{arrival_of}
-use Rattle.fs_node.specs.ClientNode.{link_width}
 use Rattle.fs_node.specs.Counting.{raised_by}
 use Rattle.fs_node.specs.Peers.{Peers, due_of}
 use Rattle.fs_node.specs.Scripts.{event_by}
@@ -26,7 +26,7 @@ abbrev pub first_server_node : ℕ → ℕ → ℕ → Peers → List Script →
 first_server_node me skew term peers script = record {
   me = me;
   server = first_server me skew term;
-  post = no_links (Server me) link_width;
+  post = no_links (Server me) LINK_WIDTH;
   peers = peers;
   script = script;
   taken = 0;

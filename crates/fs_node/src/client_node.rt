@@ -9,14 +9,13 @@ ghost use Rattle.fs_node.specs.Scripts.{AreAskable};
 use crate::arrival::arrival_of;
 use crate::client_state::ClientState;
 use crate::ending::ending;
-use crate::width::LINK_WIDTH;
 use fs_client::ClientCore;
 use fs_ident::{LATEST, List, Memory, Peer, Session};
 use fs_io::Addr;
 use fs_msg::CoreError;
 use fs_schedule::Script;
 use fs_turns::{Actor, Counts, Turn};
-use fs_window::Post;
+use fs_window::{LINK_WIDTH, Post};
 use std::alloc::Global;
 use std::marker::Model;
 

@@ -13,7 +13,6 @@ mod server_state;
 mod server_turns;
 mod texts;
 mod turns;
-mod width;
 
 pub use client_node::ClientNode;
 pub use server_node::ServerNode;

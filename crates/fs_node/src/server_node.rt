@@ -7,14 +7,13 @@ ghost use Rattle.fs_node.specs.ServerNode.{first_server_node, server_is_over, se
 use crate::arrival::arrival_of;
 use crate::ending::ending;
 use crate::server_state::ServerState;
-use crate::width::LINK_WIDTH;
 use fs_ident::{LATEST, List, Memory, Peer};
 use fs_io::Addr;
 use fs_msg::CoreError;
 use fs_schedule::Script;
 use fs_server::ServerCore;
 use fs_turns::{Actor, Counts, Turn};
-use fs_window::Post;
+use fs_window::{LINK_WIDTH, Post};
 use std::alloc::Global;
 use std::marker::Model;
 
