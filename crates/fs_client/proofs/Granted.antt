@@ -16,7 +16,7 @@ use Rattle.fs_field.specs.declared.lease_kind.LeaseKind.TheVariants.{Exclusive}
 use Rattle.fs_field.specs.Table.{same_no}
 use Rattle.fs_field.specs.Value.{is_value_of}
 use Rattle.fs_msg.specs.declared.answer.Answer.{Answer}
-use Rattle.fs_msg.specs.declared.answer.Answer.TheVariants.{Granted, Renewed, Released, Shipped, Recall}
+use Rattle.fs_msg.specs.declared.answer.Answer.TheVariants.{Granted, Renewed, Released, Shipped, Recall, Led}
 use Rattle.fs_msg.specs.declared.answer.Grant.{Grant}
 use Rattle.fs_view.specs.declared.kept.Kept.{Kept}
 use Rattle.fs_view.specs.Kept.{has_number}
@@ -99,6 +99,7 @@ fits_can from x (Recall number) c h = refl
 fits_can from x (Renewed rows e) c h = refl
 fits_can from x (Released count e) c h = refl
 fits_can from x (Shipped count e) c h = refl
+fits_can from x (Led e) c h = refl
 fits_can from None (Granted gs given e) c h = absurd (cc)
 fits_can from (Some (Asks to items asked)) (Granted gs given e) c h = grants_can items given given c.view.leases gs (both _ _ (both _ _ h).1).1
 fits_can from (Some (Renews to numbers)) (Granted gs given e) c h = absurd (cc)

@@ -15,7 +15,7 @@ use Rattle.fs_msg.specs.declared.act.Act.{Act}
 use Rattle.fs_msg.specs.declared.act.Act.TheVariants as act
 use Rattle.fs_msg.specs.declared.act.Busy.TheVariants as busy
 use Rattle.fs_msg.specs.declared.answer.Answer.{Answer}
-use Rattle.fs_msg.specs.declared.answer.Answer.TheVariants.{Granted, Renewed, Released, Shipped, Recall}
+use Rattle.fs_msg.specs.declared.answer.Answer.TheVariants.{Granted, Renewed, Released, Shipped, Recall, Led}
 use Rattle.fs_msg.specs.declared.client_note.ClientNote.{ClientNote}
 use Rattle.fs_msg.specs.declared.entry.Entry.{Entry}
 use Rattle.fs_msg.specs.declared.core_error.Counter.{Counter}
@@ -130,6 +130,7 @@ told_now (Granted gs fresh e) c = refl
 told_now (Renewed rows e) c = refl
 told_now (Released count e) c = refl
 told_now (Shipped count e) c = refl
+told_now (Led e) c = refl
 told_now (Recall number) c = refl
 
 hear_now : (from : ℕ) (a : Answer) (c : Client) → (hear from a c).ready.now ≡ c.last

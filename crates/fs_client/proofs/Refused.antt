@@ -12,7 +12,7 @@ use Rattle.fs_msg.specs.declared.act.Act.{Act}
 use Rattle.fs_msg.specs.declared.act.Act.TheVariants as act
 use Rattle.fs_msg.specs.declared.act.Busy.TheVariants as busy
 use Rattle.fs_msg.specs.declared.answer.Answer.{Answer}
-use Rattle.fs_msg.specs.declared.answer.Answer.TheVariants.{Granted, Renewed, Released, Shipped, Recall}
+use Rattle.fs_msg.specs.declared.answer.Answer.TheVariants.{Granted, Renewed, Released, Shipped, Recall, Led}
 use Rattle.fs_msg.specs.declared.entry.Entry.{Entry}
 use Rattle.fs_view.specs.declared.kept.Kept.{Kept}
 use Rattle.fs_view.specs.View.{given_by, known_by, missing_in, reply_in}
@@ -140,6 +140,7 @@ told_over (Granted grants fresh e) c = refl
 told_over (Renewed rows e) c = refl
 told_over (Released count e) c = refl
 told_over (Shipped count e) c = refl
+told_over (Led e) c = refl
 told_over (Recall number) c = refl
 
 heard_over : (from : ℕ) (a : Answer) (c : Client) → over_in (hear from a c).ready.change c.over ≡ over_told (hear from a c).out.note c.over

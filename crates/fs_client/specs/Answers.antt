@@ -13,7 +13,7 @@ use Rattle.fs_field.specs.Value.{is_value_of}
 use Rattle.fs_map.specs.Lists.{map_after_hint}
 use Rattle.fs_map.specs.Map.{Owners}
 use Rattle.fs_msg.specs.declared.answer.Answer.{Answer}
-use Rattle.fs_msg.specs.declared.answer.Answer.TheVariants.{Granted, Renewed, Released, Shipped, Recall}
+use Rattle.fs_msg.specs.declared.answer.Answer.TheVariants.{Granted, Renewed, Released, Shipped, Led, Recall}
 use Rattle.fs_msg.specs.declared.answer.Grant.{Grant}
 use Rattle.fs_msg.specs.declared.client_note.ClientNote.{ClientNote}
 use Rattle.fs_msg.specs.declared.client_note.ClientNote.TheVariants as note
@@ -150,17 +150,18 @@ released_plan count e c = noted_with (change.Release (take count (numbers_sent c
 abbrev pub shipped_plan : ℕ → End → Client → Plan ClientNote
 shipped_plan count e c = noted_with (change.Admit count (over_after e c.over)) e (note.Shipped count e) c
 
--- an answer that fits; all but a recall end the exchange
+-- an answer that fits no question changes no more than any event does
+abbrev pub strange : Client → Plan ClientNote
+strange c = only_noted change.Nothing note.Strange c
+
+-- an answer that fits; all but a recall end the exchange. No client asks a server to lead an operation yet
 abbrev pub told : Answer → Client → Plan ClientNote
 told (Granted gs fresh e) c = granted_plan gs fresh e c
 told (Renewed rows e) c = renewed_plan rows e c
 told (Released count e) c = released_plan count e c
 told (Shipped count e) c = shipped_plan count e c
+told (Led e) c = strange c
 told (Recall number) c = only_noted (change.Recall number) (note.Recall number) c
-
--- an answer that fits no question changes no more than any event does
-abbrev pub strange : Client → Plan ClientNote
-strange c = only_noted change.Nothing note.Strange c
 
 abbrev pub hear : ℕ → Answer → Client → Plan ClientNote
 hear from a c = if fits from c.exchange a c then told a c else strange c

@@ -1,10 +1,9 @@
 -- The leases that are not over at a reading, and what is read of them.
 use Rattle.std.specs.Prelude.{ℕ, Bool, not, ◌&&◌, List}
 use Rattle.std.specs.List.{filter}
-use Rattle.fs_ident.specs.declared.actor.LeaseNo.{LeaseNo}
 use Rattle.fs_field.specs.declared.asked.Need.{Need}
 use Rattle.fs_view.specs.declared.kept.Kept.{Kept}
-use Rattle.fs_view.specs.Kept.{has_number, is_live}
+use Rattle.fs_view.specs.Kept.{is_live}
 use Rattle.fs_view.specs.View.{given_by, known_by}
 use Rattle.fs_view.specs.Walk.{is_there}
 use Rattle.fs_client.specs.declared.state.Client.{Client}
@@ -12,9 +11,6 @@ use Rattle.fs_client.specs.Turns.{ends_by, has_to_go}
 
 abbrev pub live_of : ℕ → List Kept → List Kept
 live_of now leases = filter (is_live now) leases
-
-abbrev pub has_live : ℕ → LeaseNo → Kept → Bool
-has_live now number k = is_live now k && has_number number k
 
 abbrev pub is_returned : ℕ → Kept → Bool
 is_returned now k = is_live now k && has_to_go k.recalled k.standing

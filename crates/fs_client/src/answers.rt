@@ -69,6 +69,7 @@ fn told(alloc: Global, at: &AtReading<'_>, a: &Answer) -> Result<Plan<ClientNote
         Answer::Renewed { rows, end } => renewed(alloc, at, rows, end),
         Answer::Released { count, end } => released(alloc, at, *count, end),
         Answer::Shipped { count, end } => shipped(alloc, at, *count, end),
+        Answer::Led { end: _ } => Ok(strange(at)),
         Answer::Recall { no } => Ok(only_noted(
             at,
             Change::Recall { no: *no },

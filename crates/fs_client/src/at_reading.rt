@@ -166,7 +166,7 @@ impl<'a> AtReading<'a> {
     pub(crate) fn has(&self, no: LeaseNo) -> bool
         ensures { result ≡ list_any (has_number no) self.now.view.leases }
     {
-        live::has(self.client.view.kept(), self.reading, no)
+        self.client.view.has_at(self.reading, no)
     }
 
     /// The leases that have to go back, each with its file.
@@ -180,6 +180,6 @@ impl<'a> AtReading<'a> {
     pub(crate) fn ending(&self, alloc: Global, soon: u64) -> Result<List<(FileId, LeaseNo)>, Memory>
         ensures { IfOk result (λ pairs. pairs ≡ map pair_of (ending soon self.now.view)) }
     {
-        live::ending(alloc, self.client.view.kept(), self.reading, soon)
+        live::ending(alloc, &self.client.view, self.reading, soon)
     }
 }

@@ -48,7 +48,7 @@ fn make(alloc: Global, client: &mut Client, now: u64, change: Change) -> Result<
         Change::Reply { entry, effects } => return reply(client, now, entry, effects),
         Change::Ask { exchange } => ask(client, now, exchange),
         Change::Leave { to, numbers } => leave(client, now, to, numbers),
-        Change::Grant { leases, full } => return grant(client, now, leases, full),
+        Change::Grant { leases, full } => return grant(alloc, client, now, leases, full),
         Change::Renew { ends } => renew(client, now, ends),
         Change::Release { numbers } => release(client, now, numbers),
         Change::Admit { count, over } => return admit(alloc, client, now, count, over),

@@ -7,9 +7,11 @@ use crate::needs::is_among;
 use crate::state::Client;
 use fs_ident::{FileId, List, Memory};
 use fs_view::NewLease;
+use std::alloc::Global;
 
 /// The leases join the others, a directory without a number left is remembered, and no question stands any more.
 pub(crate) fn grant(
+    alloc: Global,
     client: &mut Client,
     now: u64,
     leases: List<NewLease>,
@@ -22,7 +24,7 @@ pub(crate) fn grant(
     let reading = client.last.max(now);
     let before = client.full.len();
     remember(&mut client.full, full)?;
-    match client.view.grant_all(reading, leases) {
+    match client.view.grant_all(alloc, reading, leases) {
         Ok(()) => {}
         Err(e) => {
             client.full.truncate(before);

@@ -1,25 +1,12 @@
 //! The leases that are not over at a reading.
 ghost use Rattle.std.specs.Prelude.{◌≡◌, ◌&&◌, not, map, IfOk};
-ghost use Rattle.std.specs.List.{filter, list_any};
-ghost use Rattle.fs_client.specs.Live.{has_live, is_ending, is_returned, live_of};
+ghost use Rattle.std.specs.List.{filter};
+ghost use Rattle.fs_client.specs.Live.{is_ending, is_returned, live_of};
 ghost use Rattle.fs_client.specs.Turns.{ends_by, has_to_go, pair_of};
 
 use fs_ident::{FileId, LeaseNo, List, Memory, Twin};
-use fs_view::{Kept, Standing};
+use fs_view::{Kept, Standing, View};
 use std::alloc::Global;
-
-/// Whether one of them has this number.
-pub(crate) fn has(leases: &[Kept], reading: u64, no: LeaseNo) -> bool
-    ensures { result ≡ list_any (has_live reading no) leases.now }
-{
-    leases.iter().any(|kept| is_numbered(kept, reading, no))
-}
-
-fn is_numbered(kept: &Kept, reading: u64, no: LeaseNo) -> bool
-    ensures { result ≡ has_live reading no kept.now }
-{
-    !kept.standing.has_ended(reading) && kept.standing.no() == no
-}
 
 /// Those that have to go back, each with its file.
 #[tactic(auto, using(crate::proofs::Chosen::chosen_step))]
@@ -40,9 +27,26 @@ pub(crate) fn returned(
     Ok(pairs)
 }
 
-/// Those that do not go back and end at this reading or before, each with its file.
-#[tactic(auto, using(crate::proofs::Chosen::chosen_step))]
+/// Those that do not go back and end at this reading or before, each with its file. No lease is looked at where none can.
+#[tactic(auto, using(crate::proofs::Chosen::none_ends))]
 pub(crate) fn ending(
+    alloc: Global,
+    view: &View,
+    reading: u64,
+    soon: u64,
+) -> Result<List<(FileId, LeaseNo)>, Memory>
+    ensures { IfOk result (λ pairs. pairs ≡ map pair_of
+        (filter (λ k. not k.recalled && ends_by soon k.standing)
+        (live_of reading view.now.leases))) }
+{
+    if view.may_end(soon) {
+        return each_ending(alloc, view.kept(), reading, soon);
+    }
+    Ok(List::new(alloc))
+}
+
+#[tactic(auto, using(crate::proofs::Chosen::chosen_step))]
+fn each_ending(
     alloc: Global,
     leases: &[Kept],
     reading: u64,

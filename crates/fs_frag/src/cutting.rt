@@ -1,6 +1,6 @@
 //! Messages cut into segments.
-ghost use Rattle.std.specs.Prelude.{◌≡◌, length, IfOk};
-ghost use Rattle.fs_frag.specs.Cut.{framed, cut_of, pieces, piece_count};
+ghost use Rattle.std.specs.Prelude.{◌≡◌, ◌++◌, length, IfOk, OnOk};
+ghost use Rattle.fs_frag.specs.Cut.{cut_of, pieces, piece_count};
 
 use crate::segment::{SEGMENT, Segment};
 use fs_ident::{List, Memory};
@@ -10,8 +10,11 @@ use std::alloc::Global;
 pub fn cut(alloc: Global, message: &[u8]) -> Result<List<Segment>, Memory>
     ensures { IfOk result (λ segments. segments ≡ cut_of message.now) }
 {
-    let bytes = framed(alloc, message)?;
-    pieces(alloc, &bytes)
+    let (front, rest) = message.split_at(message.len().min(SEGMENT - 8));
+    let mut segments = List::new(alloc);
+    segments.push(Segment::behind_length(alloc, message.len() as u64, front)?)?;
+    add_pieces(alloc, rest, &mut segments)?;
+    Ok(segments)
 }
 
 /// How many segments the message has.
@@ -21,22 +24,11 @@ pub fn segment_count(message: &[u8]) -> u64
     (message.len() as u64 + 8).div_ceil(SEGMENT as u64)
 }
 
-/// The message behind its length.
-fn framed(alloc: Global, message: &[u8]) -> Result<Vec<u8>, Memory>
-    ensures { IfOk result (λ bytes. bytes.items ≡ framed message.now) }
+/// Adds the bytes in full segments and a rest.
+fn add_pieces(alloc: Global, bytes: &[u8], segments: &mut List<Segment>) -> Result<(), Memory>
+    ensures { OnOk result (segments.new ≡
+        segments.old ++ pieces (piece_count (length bytes.now)) bytes.now) }
 {
-    let mut bytes = Vec::new(alloc);
-    bytes.extend_from_slice(&(message.len() as u64).to_be_bytes())?;
-    bytes.extend_from_slice(message)?;
-    Ok(bytes)
-}
-
-/// The bytes in full segments and a rest.
-fn pieces(alloc: Global, bytes: &[u8]) -> Result<List<Segment>, Memory>
-    ensures { IfOk result (λ segments. segments ≡
-        pieces (piece_count (length bytes.now)) bytes.now) }
-{
-    let mut segments = List::new(alloc);
     let mut rest = bytes;
     while !rest.is_empty() {
         let (prefix, after) = rest.split_at(rest.len().min(SEGMENT));
@@ -46,5 +38,5 @@ fn pieces(alloc: Global, bytes: &[u8]) -> Result<List<Segment>, Memory>
         }
         rest = after;
     }
-    Ok(segments)
+    Ok(())
 }

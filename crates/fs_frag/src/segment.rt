@@ -1,5 +1,6 @@
 //! What one packet carries of a message.
-ghost use Rattle.std.specs.Prelude.{◌≡◌, ◌≤◌, length, IfOk, IfSome, IfNone};
+ghost use Rattle.std.specs.Prelude.{◌≡◌, ◌≤◌, ◌++◌, length, IfOk, IfSome, IfNone};
+ghost use Rattle.std.specs.Int.{w64, to_be_bytes};
 ghost use Rattle.fs_frag.specs.Segment.{IsSegment};
 
 use fs_ident::{Memory, Twin};
@@ -40,6 +41,19 @@ impl Segment {
         Ok(Some(Segment {
             bytes: Rc::new(alloc, Vec::from_slice(alloc, bytes)?)?,
         }))
+    }
+
+    /// A message's first segment: its length as eight bytes, and the bytes at its front.
+    pub(crate) fn behind_length(alloc: Global, len: u64, front: &[u8]) -> Result<Segment, Memory>
+        requires { length front.now ≤ 1016 }
+        ensures { IfOk result (λ s. s ≡ to_be_bytes w64 len ++ front.now) }
+    {
+        let mut bytes = Vec::with_capacity(alloc, 8 + front.len())?;
+        bytes.extend_from_slice(&len.to_be_bytes())?;
+        bytes.extend_from_slice(front)?;
+        Ok(Segment {
+            bytes: Rc::new(alloc, bytes)?,
+        })
     }
 
     /// Its bytes.

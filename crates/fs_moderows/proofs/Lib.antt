@@ -8,3 +8,7 @@ pub mod Changes
 pub mod Moves
 pub mod FoundOnce
 mod Apart
+mod InOrder
+mod Tied
+mod Through
+mod Bounded

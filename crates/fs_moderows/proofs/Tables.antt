@@ -1,6 +1,6 @@
 -- What keeps a table of rows on modes one.
 use Rattle.std.proofs.Common.{◌≡◌, ◌||◌, ℕ, Bool, true, false, List, [], ◌∷◌, refl, ap, cond, sym, ◌∙◌, map, inl, inr}
-use Rattle.std.specs.Prelude.{Option, Some, None, is_some, option_map, Result, Ok, Err, IfOk, OnErr}
+use Rattle.std.specs.Prelude.{Option, Some, None, is_some, option_map, Result, Ok, Err, IfOk, OnOk, OnErr}
 use Rattle.std.specs.List.{filter, find, list_any}
 use Rattle.fs_ident.specs.In.{In}
 use Rattle.fs_ident.specs.declared.actor.LeaseNo.{LeaseNo}
@@ -20,6 +20,7 @@ use Rattle.fs_field.specs.declared.row.Row.{Row}
 use Rattle.fs_field.specs.Field.{tells_no_mode}
 use Rattle.fs_field.specs.Table.{has_no, no_before, with_row, renewed_row, locked_row, unlocked_row, lock_on, is_unlocked, is_lock_of}
 use Rattle.fs_field.proofs.Order.{ordered_filter, ordered_map, ordered_put, found_least}
+use Rattle.fs_rows.specs.Granted.{with_rows}
 use Rattle.fs_moderows.specs.Table.{is_of_mode, IsModeTable}
 use Rattle.fs_moderows.specs.Answer.{Opens, unless_locked, waits_or, answer_self, answer_other, stands_against_self, is_self_of_other, has_fixed_other, given_row, rows_after, IsLeast}
 
@@ -170,3 +171,8 @@ numbered_least test rows blocker t h = by (find test rows) refl h where
   by : (first : Option Row) → find test rows ≡ first → option_map (λ (row : Row). row.no) first ≡ Some blocker → IsLeast test rows blocker
   by (Some row) e g = let same : row.no ≡ blocker = cc in first_is_least test rows row blocker t e same
   by None e g = absurd (cc)
+
+-- after a grant, whether it had room or not
+pub granted_table : (result : Result (Unit {0}) Memory) (old new left more : List Row) → OnOk result (new ≡ with_rows more left) → OnErr result (new ≡ old) → IsModeTable (with_rows more left) → IsModeTable old → IsModeTable new
+granted_table (Ok u) old new left more p q t s = rw p t
+granted_table (Err m) old new left more p q t s = rw q s

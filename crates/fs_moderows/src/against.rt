@@ -1,16 +1,15 @@
 //! Which rows keep a session from changing what it tells of a mode.
 ghost use Rattle.std.specs.Prelude.{◌≡◌, ◌&&◌};
-ghost use Rattle.std.specs.List.{filter, find};
+ghost use Rattle.std.specs.List.{find};
 ghost use Rattle.std.specs.Option.{option_copied};
 ghost use Rattle.fs_field.specs.Conflict.{can_fail};
-ghost use Rattle.fs_field.specs.Table.{is_live};
 ghost use Rattle.fs_moderows.specs.Answer.{is_told_true, is_self_of_other, stands_against_self, stands_against_reap};
 ghost use Rattle.fs_moderows.specs.Fixed.{has_but, is_other, rests_by, rests_by_each, stands_by, stands_by_each};
 
 use crate::fixed::{EachMode, Fixed, each_mode, fixed_but, is_other, is_self, is_told};
 use crate::joined::Joined;
 use crate::live::Live;
-use fs_field::table::is_live;
+use crate::sought::Sought;
 use fs_field::{Field, Row};
 use fs_ident::{FileId, Session};
 use fs_modes::{Mode, Modes};
@@ -24,24 +23,7 @@ pub fn first_self_of_other<'a>(
 ) -> Option<&'a Row>
     ensures { option_copied result ≡ find (is_self_of_other file.now m session) rows.now }
 {
-    live_self_of_other(rows.rows, rows.reading, rows.skew, file, m, session)
-}
-
-/// The first of them that is not over.
-fn live_self_of_other<'a>(
-    rows: &'a [Row],
-    now: u64,
-    skew: u64,
-    file: &FileId,
-    m: Mode,
-    session: Session,
-) -> Option<&'a Row>
-    ensures { option_copied result ≡
-        find (is_self_of_other file.now m session) (filter (is_live now skew) rows.now) }
-{
-    rows.iter()
-        .filter(|row| is_live(row, now, skew))
-        .find(|row| is_self_of_other(row, file, m, session))
+    rows.first(&Sought::SelfOfOther(file, m, session))
 }
 
 pub fn is_self_of_other(row: &Row, file: &FileId, m: Mode, session: Session) -> bool
@@ -66,25 +48,7 @@ pub fn first_against_self<'a>(
         return None;
     }
     let fixed = fixed_but(opens, &Joined::only(rows), file, m, session);
-    live_against_self(rows.rows, rows.reading, rows.skew, fixed, session, file, m)
-}
-
-/// The first of these that is not over and keeps the session from it, where these others are fixed.
-fn live_against_self<'a>(
-    rows: &'a [Row],
-    now: u64,
-    skew: u64,
-    fixed: Fixed,
-    session: Session,
-    file: &FileId,
-    m: Mode,
-) -> Option<&'a Row>
-    ensures { option_copied result ≡
-        find (stands_by fixed session file.now m) (filter (is_live now skew) rows.now) }
-{
-    rows.iter()
-        .filter(|row| is_live(row, now, skew))
-        .find(|row| stands_by(fixed, session, file, m, row))
+    rows.first(&Sought::Against(file, m, session, fixed))
 }
 
 pub fn stands_by(fixed: Fixed, session: Session, file: &FileId, m: Mode, row: &Row) -> bool
@@ -122,27 +86,10 @@ pub fn first_against_reap<'a>(
         find (stands_against_reap opens.now rows.now session file.now) rows.now }
 {
     let each = each_mode(opens, rows, session, file);
-    live_against_reap(rows.rows, rows.reading, rows.skew, &each, session, file)
+    rows.first(&Sought::Resting(file, session, &each))
 }
 
-/// The first of these that is not over and keeps the session from it, by what was found of each mode.
-fn live_against_reap<'a>(
-    rows: &'a [Row],
-    now: u64,
-    skew: u64,
-    each: &EachMode,
-    session: Session,
-    file: &FileId,
-) -> Option<&'a Row>
-    ensures { option_copied result ≡
-        find (stands_by_each each.now session file.now) (filter (is_live now skew) rows.now) }
-{
-    rows.iter()
-        .filter(|row| is_live(row, now, skew))
-        .find(|row| stands_by_each(each, session, file, row))
-}
-
-fn stands_by_each(each: &EachMode, session: Session, file: &FileId, row: &Row) -> bool
+pub fn stands_by_each(each: &EachMode, session: Session, file: &FileId, row: &Row) -> bool
     ensures { result ≡ stands_by_each each.now session file.now row.now }
 {
     row.session != session && rests_by_each(each, file, row)

@@ -1,17 +1,21 @@
 //! How questions for leases on what sessions tell of modes are answered.
 ghost use Rattle.std.specs.Prelude.{◌≡◌, Some, None, true, false, if◌then◌else◌, OnOk, OnErr};
 ghost use Rattle.std.specs.List.{find};
-ghost use Rattle.fs_field.specs.Table.{lock_on};
+ghost use Rattle.fs_field.specs.Table.{is_ordered, lock_on};
 ghost use Rattle.fs_field.specs.declared.asked.Asked.TheVariants.{Granted};
+ghost use Rattle.fs_moderows.specs.Index.{IsIndexOf};
 ghost use Rattle.fs_moderows.specs.Answer.{has_fixed_other, is_self_of_other, stands_against_self, unless_locked, waits_or, given_row, rows_after};
 
 use crate::against::{first_against_self, first_self_of_other};
 use crate::fixed::has_fixed;
+use crate::index::FileIndex;
+use crate::indexed::add_row;
 use crate::joined::Joined;
 use crate::live::Live;
-use fs_field::{Asked, Field, LeaseKind, Row, table};
+use fs_field::{Asked, Field, LeaseKind, Row};
 use fs_ident::{FileId, LeaseNo, Memory, Session};
 use fs_modes::{Mode, Modes};
+use std::alloc::Global;
 
 /// The answer to a session that would change what it tells of the mode on the file, which is the field.
 pub fn answer_self(
@@ -61,8 +65,10 @@ pub fn answer_other(
 }
 
 /// Adds the row where the lease is given; it promises the value.
-pub fn give(
+pub(crate) fn give(
     rows: &mut Vec<Row>,
+    index: &mut FileIndex,
+    alloc: Global,
     asked: Asked,
     no: LeaseNo,
     session: Session,
@@ -70,9 +76,12 @@ pub fn give(
     kind: LeaseKind,
     until: u64,
 ) -> Result<(), Memory>
+    requires ordered { is_ordered rows.old.items ≡ true }
+    requires index { IsIndexOf index.old rows.old.items }
     ensures ok { OnOk result (rows.new.items ≡
         rows_after asked (given_row no session field kind until) rows.old.items) }
     ensures err { OnErr result (rows.new.items ≡ rows.old.items) }
+    ensures index { IsIndexOf index.new rows.new.items }
 {
     let Asked::Granted { value } = asked else {
         return Ok(());
@@ -86,5 +95,5 @@ pub fn give(
         promise: value,
         lock: None,
     };
-    table::put(rows, row)
+    add_row(rows, index, alloc, row)
 }

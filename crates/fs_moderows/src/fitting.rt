@@ -1,19 +1,18 @@
 //! Whether rows that come from another server go with those of a table and with one another.
 ghost use Rattle.std.specs.Prelude.{◌≡◌, ◌&&◌, not};
-ghost use Rattle.std.specs.List.{filter, find, list_all, list_any};
+ghost use Rattle.std.specs.List.{find, list_all, list_any};
 ghost use Rattle.std.specs.Option.{option_copied};
 ghost use Rattle.fs_ident.specs.Ident.{same};
 ghost use Rattle.fs_field.specs.Conflict.{can_fail, has_fixed, mode_conflict};
-ghost use Rattle.fs_field.specs.Table.{is_live};
 ghost use Rattle.fs_moderows.specs.Answer.{is_self_of_other, stands_against_self};
 ghost use Rattle.fs_moderows.specs.Fixed.{is_other_of_other, stands_by};
 ghost use Rattle.fs_moderows.specs.Moving.{selves_listed};
 
-use crate::against::{can_fail, is_self_of_other, stands_by};
+use crate::against::can_fail;
 use crate::fixed::{Fixed, fixed_but, has_fixed, is_told};
 use crate::joined::Joined;
 use crate::live::Live;
-use fs_field::table::is_live;
+use crate::sought::Sought;
 use fs_field::{Field, Row};
 use fs_ident::{FileId, List, Session};
 use fs_modes::{Mode, Modes};
@@ -113,25 +112,7 @@ fn is_against_in(rows: &Joined<'_>, fixed: Fixed, session: Session, file: &FileI
 fn is_against(rows: &Live<'_>, fixed: Fixed, session: Session, file: &FileId, m: Mode) -> bool
     ensures { result ≡ list_any (stands_by fixed session file.now m) rows.now }
 {
-    is_live_against(rows.rows, rows.reading, rows.skew, fixed, session, file, m)
-}
-
-/// Whether one of these that is not over keeps the session from it, where these others are fixed.
-fn is_live_against(
-    rows: &[Row],
-    now: u64,
-    skew: u64,
-    fixed: Fixed,
-    session: Session,
-    file: &FileId,
-    m: Mode,
-) -> bool
-    ensures { result ≡
-        list_any (stands_by fixed session file.now m) (filter (is_live now skew) rows.now) }
-{
-    rows.iter()
-        .filter(|row| is_live(row, now, skew))
-        .any(|row| stands_by(fixed, session, file, m, row))
+    rows.any(&Sought::Against(file, m, session, fixed))
 }
 
 /// Whether a row lets another session change what it tells of the mode on the file, and that could make untrue what
@@ -161,15 +142,5 @@ fn is_let_in(rows: &Joined<'_>, file: &FileId, m: Mode, session: Session) -> boo
 fn is_let(rows: &Live<'_>, file: &FileId, m: Mode, session: Session) -> bool
     ensures { result ≡ list_any (is_self_of_other file.now m session) rows.now }
 {
-    is_live_let(rows.rows, rows.reading, rows.skew, file, m, session)
-}
-
-/// Whether one of these that is not over lets another session change it.
-fn is_live_let(rows: &[Row], now: u64, skew: u64, file: &FileId, m: Mode, session: Session) -> bool
-    ensures { result ≡
-        list_any (is_self_of_other file.now m session) (filter (is_live now skew) rows.now) }
-{
-    rows.iter()
-        .filter(|row| is_live(row, now, skew))
-        .any(|row| is_self_of_other(row, file, m, session))
+    rows.any(&Sought::SelfOfOther(file, m, session))
 }

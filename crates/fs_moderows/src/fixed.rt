@@ -1,16 +1,15 @@
 //! Which sessions have a mode on a file and cannot change that.
 ghost use Rattle.std.specs.Prelude.{◌≡◌, ◌==◌, ◌&&◌, not};
-ghost use Rattle.std.specs.List.{filter, find, list_any};
+ghost use Rattle.std.specs.List.{find, list_any};
 ghost use Rattle.std.specs.Option.{option_copied};
 ghost use Rattle.fs_field.specs.Conflict.{is_self, is_fixed, has_fixed};
-ghost use Rattle.fs_field.specs.Table.{is_live};
 ghost use Rattle.fs_modes.specs.Modes.{has};
 ghost use Rattle.fs_moderows.specs.Answer.{has_mode};
 ghost use Rattle.fs_moderows.specs.Fixed.{has_but, AreFixedBut, of_mode, rests_by, is_other, is_other_of_other, TellsOfMode};
 
 use crate::joined::Joined;
 use crate::live::Live;
-use fs_field::table::is_live;
+use crate::sought::Sought;
 use fs_field::{Field, Row};
 use fs_ident::{FileId, Session};
 use fs_modes::{Mode, Modes};
@@ -112,21 +111,10 @@ fn is_free_among(rows: &Live<'_>, file: &FileId, m: Mode, session: Session) -> b
         list_any (λ row. is_self file.now m row.field && (row.session.0 == session.0))
         rows.now }
 {
-    is_free_live(rows.rows, rows.reading, rows.skew, file, m, session)
+    rows.any(&Sought::SelfOf(file, m, session))
 }
 
-/// Whether one of these that is not over does.
-fn is_free_live(rows: &[Row], now: u64, skew: u64, file: &FileId, m: Mode, session: Session) -> bool
-    ensures { result ≡
-        list_any (λ row. is_self file.now m row.field && (row.session.0 == session.0))
-        (filter (is_live now skew) rows.now) }
-{
-    rows.iter()
-        .filter(|row| is_live(row, now, skew))
-        .any(|row| lets_change(row, file, m, session))
-}
-
-fn lets_change(row: &Row, file: &FileId, m: Mode, session: Session) -> bool
+pub fn lets_change(row: &Row, file: &FileId, m: Mode, session: Session) -> bool
     ensures { result ≡ (is_self file.now m row.now.field && (row.now.session.0 == session.0)) }
 {
     is_self(&row.field, file, m) && row.session == session
@@ -146,20 +134,10 @@ pub fn is_self(field: &Field, file: &FileId, m: Mode) -> bool
 pub fn is_told(rows: &Live<'_>, file: &FileId, m: Mode, y: Session) -> bool
     ensures { result ≡ list_any (is_other_of_other file.now m y) rows.now }
 {
-    is_live_told(rows.rows, rows.reading, rows.skew, file, m, y)
+    rows.any(&Sought::OtherOfOther(file, m, y))
 }
 
-/// Whether one that is not over does.
-fn is_live_told(rows: &[Row], now: u64, skew: u64, file: &FileId, m: Mode, y: Session) -> bool
-    ensures { result ≡
-        list_any (is_other_of_other file.now m y) (filter (is_live now skew) rows.now) }
-{
-    rows.iter()
-        .filter(|row| is_live(row, now, skew))
-        .any(|row| is_other_of_other(row, file, m, y))
-}
-
-fn is_other_of_other(row: &Row, file: &FileId, m: Mode, y: Session) -> bool
+pub fn is_other_of_other(row: &Row, file: &FileId, m: Mode, y: Session) -> bool
     ensures { result ≡ is_other_of_other file.now m y row.now }
 {
     is_other(&row.field, file, m) && row.session != y

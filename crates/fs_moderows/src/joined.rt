@@ -30,7 +30,7 @@ impl<'a> Joined<'a> {
         ensures { result ≡ with_rows came.now rows.now }
     {
         Joined {
-            here: Live::at(rows.rows, rows.reading, rows.skew),
+            here: rows.again(),
             came: Live::all(came),
         }
     }

@@ -1,11 +1,13 @@
 //! The rows that are not over at a reading, while the table is only read.
-ghost use Rattle.std.specs.Prelude.{◌≡◌, IfOk};
+ghost use Rattle.std.specs.Prelude.{◌≡◌, true, IfOk};
 ghost use Rattle.std.specs.List.{filter, find, list_any};
 ghost use Rattle.std.specs.Option.{option_copied};
-ghost use Rattle.fs_field.specs.Table.{has_no, is_lease, is_live, lock_on, borne_numbers};
+ghost use Rattle.fs_field.specs.Table.{has_no, is_lease, is_live, is_ordered, lock_on, borne_numbers};
 ghost use Rattle.fs_field.specs.declared.field.Field.TheVariants.{SelfW, Other};
 ghost use Rattle.fs_rows.specs.Bearing.{AreInOrderOnce};
 ghost use Rattle.fs_rows.specs.Moving.{are_new, locked_in, rows_given};
+ghost use Rattle.fs_moderows.specs.Index.{IsIndexOf};
+ghost use Rattle.fs_moderows.specs.Sought.{passes};
 ghost use Rattle.fs_moderows.specs.Moving.{fits, selves_listed};
 ghost use Rattle.fs_moderows.specs.Answer.{answer_self, answer_other, reap_blocker};
 ghost use Rattle.fs_rows.specs.Live.{unlocked_on};
@@ -13,12 +15,14 @@ ghost use Rattle.fs_rows.specs.Live.{unlocked_on};
 use crate::against::first_against_reap;
 use crate::answers;
 use crate::fitting::are_apart;
+use crate::index::FileIndex;
 use crate::joined::Joined;
+use crate::sought::{Sought, first_sought};
 use fs_field::{Asked, Field, LeaseKind, Row};
 use fs_ident::{FileId, LeaseNo, List, Memory, Session, TxnNo};
 use fs_map::{FileMap, MapPiece};
 use fs_modes::{Mode, Modes};
-use fs_rows::Live as Kept;
+use fs_rows::{Live as Kept, holds_at, live_at};
 use std::alloc::Global;
 use std::marker::Model;
 
@@ -26,9 +30,10 @@ use std::marker::Model;
 /// over. Nothing is copied.
 #[derive(Drop)]
 pub struct Live<'a> {
-    pub(crate) rows: &'a [Row],
-    pub(crate) reading: u64,
-    pub(crate) skew: u64,
+    rows: &'a [Row],
+    index: Option<&'a FileIndex>,
+    reading: u64,
+    skew: u64,
 }
 
 impl<'a> Model for Live<'a> {
@@ -36,10 +41,13 @@ impl<'a> Model for Live<'a> {
     ghost use Rattle.std.specs.List.{filter};
     ghost use Rattle.fs_field.specs.declared.row.Row.{Row};
     ghost use Rattle.fs_field.specs.Table.{is_live};
+    ghost use Rattle.fs_moderows.specs.Index.{IsSeen};
 
     ghost Value = { List Row };
 
     ghost view = { λ l. filter (is_live l.reading l.skew) l.rows.now };
+
+    ghost invariant = { λ l. IsSeen l.index l.rows.now };
 }
 
 impl<'a> Live<'a> {
@@ -49,9 +57,61 @@ impl<'a> Live<'a> {
     {
         Live {
             rows,
+            index: None,
             reading: now,
             skew,
         }
+    }
+
+    /// The same, with an index of the rows, which are in order.
+    pub(crate) fn through(rows: &'a [Row], index: &'a FileIndex, now: u64, skew: u64) -> Live<'a>
+        requires index { IsIndexOf index.now rows.now }
+        requires ordered { is_ordered rows.now ≡ true }
+        ensures { result ≡ filter (is_live now skew) rows.now }
+    {
+        Live {
+            rows,
+            index: Some(index),
+            reading: now,
+            skew,
+        }
+    }
+
+    /// All of these rows, which are in order, with an index of them.
+    #[tactic(auto, using(fs_rows::proofs::Goes::all_live))]
+    pub(crate) fn whole(rows: &'a [Row], index: &'a FileIndex) -> Live<'a>
+        requires index { IsIndexOf index.now rows.now }
+        requires ordered { is_ordered rows.now ≡ true }
+        ensures { result ≡ rows.now }
+    {
+        Live::through(rows, index, 0, 1)
+    }
+
+    /// The same once more.
+    pub(crate) fn again(&self) -> Live<'a>
+        ensures { result ≡ self.now }
+    {
+        Live {
+            rows: self.rows,
+            index: self.index,
+            reading: self.reading,
+            skew: self.skew,
+        }
+    }
+
+    /// The first of these that is sought.
+    pub(crate) fn first(&self, sought: &Sought<'_>) -> Option<&'a Row>
+        ensures { option_copied result ≡ find (passes sought.now) self.now }
+    {
+        first_sought(self.rows, self.index, self.reading, self.skew, sought)
+    }
+
+    /// Whether one of these is sought.
+    #[tactic(auto, using(fs_rows::proofs::LiveSteps::found))]
+    pub(crate) fn any(&self, sought: &Sought<'_>) -> bool
+        ensures { result ≡ list_any (passes sought.now) self.now }
+    {
+        self.first(sought).is_some()
     }
 
     /// All of these rows: at the first reading and with some skew none is over.
@@ -119,21 +179,28 @@ impl<'a> Live<'a> {
     pub(crate) fn lock_on(&self, field: &Field) -> Option<TxnNo>
         ensures { result ≡ lock_on field.now self.now }
     {
-        self.kept().lock_on(field)
+        match self.first(&Sought::Kept(field)) {
+            Some(row) => row.lock,
+            None => None,
+        }
     }
 
     /// Whether there is the row of this number.
+    #[tactic(auto, using(fs_rows::proofs::LiveSteps::found))]
     pub fn has(&self, no: LeaseNo) -> bool
         ensures { result ≡ list_any (has_no no) self.now }
     {
-        self.kept().has(no)
+        self.row(no).is_some()
     }
 
     /// Whether there is the row of this lease of the session.
     pub fn holds(&self, no: LeaseNo, session: Session, field: &Field, kind: LeaseKind) -> bool
         ensures { result ≡ list_any (is_lease no session field.now kind) self.now }
     {
-        self.kept().holds(no, session, field, kind)
+        match self.index {
+            Some(_) => holds_at(self.rows, self.reading, self.skew, no, session, field, kind),
+            None => self.kept().holds(no, session, field, kind),
+        }
     }
 
     /// Copies of the rows on files that the piece gives.
@@ -170,7 +237,10 @@ impl<'a> Live<'a> {
     pub fn row(&self, no: LeaseNo) -> Option<&Row>
         ensures { option_copied result ≡ find (has_no no) self.now }
     {
-        self.kept().row(no)
+        match self.index {
+            Some(_) => live_at(self.rows, no, self.reading, self.skew),
+            None => self.kept().row(no),
+        }
     }
 
     /// The last numbers of the files right below the directory that rows are on, each once, ascending.

@@ -5,22 +5,30 @@ ghost use Rattle.std.specs.Option.{option_copied};
 ghost use Rattle.fs_ident.specs.declared.actor.LeaseNo.{LeaseNo as Number};
 ghost use Rattle.fs_field.specs.declared.field.Field.TheVariants.{SelfW, Other};
 ghost use Rattle.fs_field.specs.declared.lease_kind.LeaseKind.TheVariants.{Shared, Exclusive};
-ghost use Rattle.fs_field.specs.Table.{has_no, renewed_row, is_live, is_lease, is_unlocked, locked_row, unlocked_row, rows_on, borne_numbers};
+ghost use Rattle.fs_field.specs.Table.{has_no, renewed_row, is_live, is_lease, is_ordered, is_unlocked, locked_row, unlocked_row, rows_on, borne_numbers};
 ghost use Rattle.fs_rows.specs.Bearing.{AreInOrderOnce};
+ghost use Rattle.fs_rows.specs.Bounds.{EndNoSooner};
 ghost use Rattle.fs_rows.specs.Moving.{are_new, locked_in, rows_given, rows_left};
 ghost use Rattle.fs_moderows.specs.Moving.{are_on_modes, fits, selves_listed};
 ghost use Rattle.fs_moderows.specs.Answer.{answer_self, answer_other, stands_against_self, stands_against_reap, is_self_of_other, given_row, rows_after, reap_blocker, IsLeast};
+ghost use Rattle.fs_moderows.specs.Index.{IsIndexOf};
 ghost use Rattle.fs_moderows.specs.Table.{IsModeTable};
 ghost use Rattle.fs_rows.specs.Granted.{with_rows};
 ghost use Rattle.fs_rows.specs.Table.{IsTable};
 
 use crate::answers;
+use crate::bounds::{lapse_from, least_known_lock, unlock_known};
+use crate::index::FileIndex;
+use crate::indexed::{forget_given, forget_row, note_each};
 use crate::live::Live;
+use crate::putting::put_each;
 use fs_field::{Asked, Field, LeaseKind, Row, Unknown, table};
 use fs_ident::{FileId, LeaseNo, List, Memory, Session, Twin, TxnNo};
 use fs_map::{FileMap, MapPiece};
 use fs_modes::{Mode, Modes};
-use fs_rows::{Rows, drop_given, keep_live, put_each, put_in_order};
+use fs_rows::{
+    Rows, drop_given, holds_at, least_end, lesser, numbered, or_locks, put_in_order, row_at,
+};
 use std::alloc::Global;
 use std::marker::Model;
 
@@ -30,18 +38,27 @@ use std::marker::Model;
 #[derive(Debug, Drop)]
 pub struct ModeRows {
     rows: List<Row>,
+    /// Their numbers, by file.
+    index: FileIndex,
+    /// No row that no transaction keeps ends sooner.
+    least: u64,
+    /// Whether a transaction may keep a row.
+    locked: bool,
 }
 
 impl Model for ModeRows {
     ghost use Rattle.std.specs.Prelude.{List};
     ghost use Rattle.fs_field.specs.declared.row.Row.{Row};
+    ghost use Rattle.fs_rows.specs.Bounds.{AreBounds};
+    ghost use Rattle.fs_moderows.specs.Index.{IsIndexOf};
     ghost use Rattle.fs_moderows.specs.Table.{IsModeTable};
 
     ghost Value = { List Row };
 
     ghost view = { λ r. r.rows };
 
-    ghost invariant = { λ r. IsModeTable r.rows };
+    ghost invariant = { λ r. IsModeTable r.rows × AreBounds r.least r.locked r.rows
+        × IsIndexOf r.index r.rows };
 }
 
 impl ModeRows {
@@ -51,6 +68,9 @@ impl ModeRows {
     {
         ModeRows {
             rows: List::new(alloc),
+            index: FileIndex::new(alloc),
+            least: u64::MAX,
+            locked: false,
         }
     }
 
@@ -79,8 +99,10 @@ impl ModeRows {
             IsLeast (stands_against_self selves.now self.old session file.now m) self.old blocker }
         ensures valid { IsModeTable self.new }
     {
+        self.least = lesser(self.least, until);
         ask_self(
             self.rows.items_mut(),
+            &mut self.index,
             alloc,
             selves.as_slice(),
             no,
@@ -116,8 +138,10 @@ impl ModeRows {
             IsLeast (is_self_of_other file.now m session) self.old blocker }
         ensures valid { IsModeTable self.new }
     {
+        self.least = lesser(self.least, until);
         ask_other(
             self.rows.items_mut(),
+            &mut self.index,
             alloc,
             selves.as_slice(),
             no,
@@ -140,7 +164,7 @@ impl ModeRows {
         ensures least { (blocker : Number) → result ≡ Some blocker →
             IsLeast (stands_against_reap selves.now self.now session file.now) self.now blocker }
     {
-        Live::all(self.rows.as_slice()).may_reap(selves, session, file)
+        self.all().may_reap(selves, session, file)
     }
 
     /// The rows that are not over at the reading `now`: a transaction keeps them, or their end and the skew are not
@@ -149,7 +173,7 @@ impl ModeRows {
         ensures rows { result ≡ filter (is_live now skew) self.now }
         ensures valid { IsModeTable result }
     {
-        Live::at(self.rows.as_slice(), now, skew)
+        Live::through(self.rows.as_slice(), &self.index, now, skew)
     }
 
     /// All rows, to be read: at the first reading and with some skew none is over.
@@ -181,9 +205,12 @@ impl ModeRows {
             with_rows others (filter (is_live now skew) beside.old)) }
         ensures err_beside { OnErr result (beside.new ≡ beside.old) }
     {
+        self.locked = or_locks(self.locked, rows.as_slice());
         grant_all(
             self.rows.items_mut(),
+            &mut self.index,
             alloc,
+            &mut self.least,
             now,
             skew,
             rows,
@@ -201,7 +228,7 @@ impl ModeRows {
         ensures err { OnErr result (self.new ≡ self.old) }
         ensures valid { IsModeTable self.new }
     {
-        if renew(self.rows.items_mut(), no, until) {
+        if numbered::renew(self.rows.items_mut(), no, until) {
             Ok(())
         } else {
             Err(Unknown { no })
@@ -214,7 +241,8 @@ impl ModeRows {
         ensures rows { self.new ≡ filter (λ r. not (has_no no r)) self.old }
         ensures valid { IsModeTable self.new }
     {
-        table::release(self.rows.items_mut(), no)
+        forget_row(&mut self.index, self.rows.as_slice(), no);
+        numbered::release(self.rows.items_mut(), no)
     }
 
     /// Drops the rows whose end and the skew are over at the reading `now`, but for those that a transaction keeps.
@@ -222,14 +250,21 @@ impl ModeRows {
         ensures rows { self.new ≡ filter (is_live now skew) self.old }
         ensures valid { IsModeTable self.new }
     {
-        table::lapse(self.rows.items_mut(), now, skew);
+        self.least = lapse_from(
+            self.rows.items_mut(),
+            &mut self.index,
+            self.least,
+            now,
+            skew,
+        );
     }
 
     /// Whether there is the row of this lease of the session.
+    #[tactic(auto, using(fs_rows::proofs::Goes::all_live))]
     pub fn holds(&self, no: LeaseNo, session: Session, field: &Field, kind: LeaseKind) -> bool
         ensures { result ≡ list_any (is_lease no session field.now kind) self.now }
     {
-        table::holds(self.rows.as_slice(), no, session, field, kind)
+        holds_at(self.rows.as_slice(), 0, 1, no, session, field, kind)
     }
 
     /// Lets the transaction keep the row of this number, and tells whether there was one that none kept.
@@ -238,7 +273,8 @@ impl ModeRows {
         ensures rows { self.new ≡ map (locked_row no txn) self.old }
         ensures valid { IsModeTable self.new }
     {
-        lock(self.rows.items_mut(), no, txn)
+        self.locked = true;
+        numbered::lock(self.rows.items_mut(), no, txn)
     }
 
     /// Lets the transaction keep no row any more.
@@ -246,7 +282,12 @@ impl ModeRows {
         ensures rows { self.new ≡ map (unlocked_row txn) self.old }
         ensures valid { IsModeTable self.new }
     {
-        unlock(self.rows.items_mut(), txn);
+        unlock_known(
+            self.rows.items_mut(),
+            &mut self.least,
+            &mut self.locked,
+            txn,
+        );
     }
 
     /// The numbers and sessions of the rows on the field, in order of number, whether a transaction keeps them or
@@ -277,6 +318,7 @@ impl ModeRows {
         ensures valid { IsModeTable self.new }
     {
         let moved = Live::all(self.rows.as_slice()).given(alloc, piece)?;
+        forget_given(&mut self.index, self.rows.as_slice(), piece);
         drop_given(self.rows.items_mut(), piece);
         Ok(moved)
     }
@@ -286,6 +328,7 @@ impl ModeRows {
         ensures left { self.new ≡ rows_left piece.now.prefix piece.now.given self.old }
         ensures valid { IsModeTable self.new }
     {
+        forget_given(&mut self.index, self.rows.as_slice(), piece);
         drop_given(self.rows.items_mut(), piece);
     }
 
@@ -298,7 +341,9 @@ impl ModeRows {
         ensures err { OnErr result (self.new ≡ self.old) }
         ensures valid { IsModeTable self.new }
     {
-        join(self.rows.items_mut(), rows)
+        self.least = lesser(self.least, least_end(rows.as_slice()));
+        self.locked = or_locks(self.locked, rows.as_slice());
+        join(self.rows.items_mut(), &mut self.index, alloc, rows)
     }
 
     /// Whether these rows conflict neither with one another nor with a row here, all in one table, and their numbers
@@ -314,7 +359,7 @@ impl ModeRows {
     pub fn locked_in(&self, prefix: &FileId, map: &FileMap, me: u8) -> Option<TxnNo>
         ensures { result ≡ locked_in prefix.now map.now me self.now }
     {
-        Live::all(self.rows.as_slice()).locked_in(prefix, map, me)
+        least_known_lock(self.rows.as_slice(), self.locked, prefix, map, me)
     }
 
     /// The row of this number.
@@ -322,7 +367,7 @@ impl ModeRows {
         ensures row { option_copied result ≡ find (has_no no) self.now }
         ensures valid { IsModeTable self.now }
     {
-        table::row(self.rows.as_slice(), no)
+        row_at(self.rows.as_slice(), no)
     }
 }
 
@@ -330,6 +375,9 @@ impl Twin for ModeRows {
     fn copy(&self, alloc: Global) -> Result<ModeRows, Memory> {
         Ok(ModeRows {
             rows: self.rows.copy(alloc)?,
+            index: self.index.copy(alloc)?,
+            least: self.least,
+            locked: self.locked,
         })
     }
 
@@ -339,6 +387,7 @@ impl Twin for ModeRows {
 /// Answers the question, and adds the row where the lease is given.
 fn ask_self(
     rows: &mut Vec<Row>,
+    index: &mut FileIndex,
     alloc: Global,
     selves: &[(Session, Modes)],
     no: LeaseNo,
@@ -347,20 +396,26 @@ fn ask_self(
     m: Mode,
     until: u64,
 ) -> Result<Asked, Memory>
+    requires ordered { is_ordered rows.old.items ≡ true }
+    requires index { IsIndexOf index.old rows.old.items }
     ensures answer { IfOk result (λ asked. asked ≡
         answer_self selves.now rows.old.items session file.now m) }
     ensures rows { IfOk result (λ asked. rows.new.items ≡
         rows_after asked (given_row no session (SelfW file.now m) Exclusive until) rows.old.items) }
     ensures err { OnErr result (rows.new.items ≡ rows.old.items) }
+    ensures index { IsIndexOf index.new rows.new.items }
 {
     let field = Field::SelfW(file.copy(alloc)?, m);
-    let asked = answers::answer_self(selves, &Live::all(rows), session, &field, file, m);
-    answers::give(rows, asked, no, session, field, LeaseKind::Exclusive, until)?;
+    let live = Live::whole(rows, index);
+    let asked = answers::answer_self(selves, &live, session, &field, file, m);
+    let kind = LeaseKind::Exclusive;
+    answers::give(rows, index, alloc, asked, no, session, field, kind, until)?;
     Ok(asked)
 }
 
 fn ask_other(
     rows: &mut Vec<Row>,
+    index: &mut FileIndex,
     alloc: Global,
     selves: &[(Session, Modes)],
     no: LeaseNo,
@@ -369,70 +424,74 @@ fn ask_other(
     m: Mode,
     until: u64,
 ) -> Result<Asked, Memory>
+    requires ordered { is_ordered rows.old.items ≡ true }
+    requires index { IsIndexOf index.old rows.old.items }
     ensures answer { IfOk result (λ asked. asked ≡
         answer_other selves.now rows.old.items session file.now m) }
     ensures rows { IfOk result (λ asked. rows.new.items ≡
         rows_after asked (given_row no session (Other file.now m) Shared until) rows.old.items) }
     ensures err { OnErr result (rows.new.items ≡ rows.old.items) }
+    ensures index { IsIndexOf index.new rows.new.items }
 {
     let field = Field::Other(file.copy(alloc)?, m);
-    let asked = answers::answer_other(selves, &Live::all(rows), session, &field, file, m);
-    answers::give(rows, asked, no, session, field, LeaseKind::Shared, until)?;
+    let live = Live::whole(rows, index);
+    let asked = answers::answer_other(selves, &live, session, &field, file, m);
+    let kind = LeaseKind::Shared;
+    answers::give(rows, index, alloc, asked, no, session, field, kind, until)?;
     Ok(asked)
 }
 
 /// Room is made first, then the table beside takes its rows or fails, and the rest cannot fail.
 fn grant_all(
     rows: &mut Vec<Row>,
+    index: &mut FileIndex,
     alloc: Global,
+    least: &mut u64,
     now: u64,
     skew: u64,
     more: List<Row>,
     beside: &mut Rows,
     others: List<Row>,
 ) -> Result<(), Memory>
-    requires { IsTable (with_rows others (filter (is_live now skew) beside.old)) }
+    requires ends { EndNoSooner least.old rows.old.items }
+    requires ordered { is_ordered rows.old.items ≡ true }
+    requires index { IsIndexOf index.old rows.old.items }
+    requires table { IsModeTable (with_rows more (filter (is_live now skew) rows.old.items)) }
+    requires beside { IsTable (with_rows others (filter (is_live now skew) beside.old)) }
     ensures ok { OnOk result (rows.new.items ≡
         with_rows more (filter (is_live now skew) rows.old.items)) }
     ensures err { OnErr result (rows.new.items ≡ rows.old.items) }
+    ensures ends { EndNoSooner least.new rows.new.items }
+    ensures index { IsIndexOf index.new rows.new.items }
     ensures ok_beside { OnOk result (beside.new ≡
         with_rows others (filter (is_live now skew) beside.old)) }
     ensures err_beside { OnErr result (beside.new ≡ beside.old) }
 {
     rows.reserve(more.len())?;
     beside.grant_all(alloc, now, skew, others)?;
-    keep_live(rows, now, skew);
+    let ends = least_end(more.as_slice());
+    let left = lapse_from(rows, index, *least, now, skew);
+    *least = lesser(left, ends);
+    note_each(index, alloc, more.as_slice());
     put_each(rows, more);
     Ok(())
 }
 
 /// Puts in the rows, in order. Room is made first, and nothing can fail then.
-fn join(rows: &mut Vec<Row>, came: List<Row>) -> Result<(), Memory>
+fn join(
+    rows: &mut Vec<Row>,
+    index: &mut FileIndex,
+    alloc: Global,
+    came: List<Row>,
+) -> Result<(), Memory>
+    requires ordered { is_ordered (with_rows came rows.old.items) ≡ true }
+    requires index { IsIndexOf index.old rows.old.items }
     ensures ok { OnOk result (rows.new.items ≡ with_rows came rows.old.items) }
     ensures err { OnErr result (rows.new.items ≡ rows.old.items) }
+    ensures index { IsIndexOf index.new rows.new.items }
 {
     rows.reserve(came.len())?;
+    note_each(index, alloc, came.as_slice());
     put_each(rows, came);
     Ok(())
-}
-
-/// The same on the rows as they stand in memory.
-fn renew(rows: &mut Vec<Row>, no: LeaseNo, until: u64) -> bool
-    ensures found { result ≡ list_any (has_no no) rows.old.items }
-    ensures rows { rows.new.items ≡ map (renewed_row no until) rows.old.items }
-{
-    table::renew(rows, no, until)
-}
-
-fn lock(rows: &mut Vec<Row>, no: LeaseNo, txn: TxnNo) -> bool
-    ensures found { result ≡ list_any (is_unlocked no) rows.old.items }
-    ensures rows { rows.new.items ≡ map (locked_row no txn) rows.old.items }
-{
-    table::lock(rows, no, txn)
-}
-
-fn unlock(rows: &mut Vec<Row>, txn: TxnNo)
-    ensures { rows.new.items ≡ map (unlocked_row txn) rows.old.items }
-{
-    table::unlock(rows, txn);
 }

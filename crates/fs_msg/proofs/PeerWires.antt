@@ -1,12 +1,13 @@
 -- Messages between servers behind their tags, and what they carry.
-use Rattle.std.proofs.Common.{◌≡◌, ℕ, Bool, true, List, ◌++◌, refl, arith}
-use Rattle.std.proofs.lemmas.Bool.{eqb-true}
+use Rattle.std.proofs.Common.{◌≡◌, ℕ, ◌<◌, not, ◌||◌, Bool, true, false, eqb, List, ◌++◌, refl, arith}
+use Rattle.std.proofs.lemmas.Bool.{eqb-true, agree_below_at}
 use Rattle.fs_msg.specs.declared.peer_msg.PeerMsg.{PeerMsg}
 use Rattle.fs_msg.specs.declared.peer_msg.PeerMsg.TheVariants as peer_
 use Rattle.fs_wire.specs.Tags.{plain}
-use Rattle.fs_wire.proofs.Readers.{IsOne, IsReader}
+use Rattle.fs_wire.specs.Readers.{either_at}
+use Rattle.fs_wire.proofs.Readers.{IsOne, IsReader, either-reader}
 use Rattle.fs_wire.proofs.Says.{says-map}
-use Rattle.fs_wire.proofs.Behind.{IsBehind, behind}
+use Rattle.fs_wire.proofs.Behind.{IsBehind, behind, other, implied}
 use Rattle.fs_wire.proofs.Wires.{Spelled, IsWire, arm, pair-wire, plain-pair, remade}
 use Rattle.fs_wire.proofs.NumberWires.{list-wire, plain-list}
 use Rattle.fs_wire.proofs.SmallWires.{truth-wire}
@@ -17,6 +18,7 @@ use Rattle.fs_msg.specs.Spelling.{file_record, piece, parcel, peer_message}
 use Rattle.fs_msg.specs.Ranges.{FitsRecord, FitsPiece, FitsParcel, FitsPeerMessage}
 use Rattle.fs_msg.specs.Tags.{parcel_tags, peer_tags}
 use Rattle.fs_msg.specs.Reading.{record_at, piece_at, parcel_at, is_peer_tag, peer_of}
+use Rattle.fs_msg.proofs.LedWires.{prepare-wire, voted-wire, decide-wire, done-wire}
 
 pub record-wire : IsWire record_at FitsRecord file_record (λ r. plain (file_record r))
 unfolding record_at file_record
@@ -33,10 +35,28 @@ unfolding parcel_at parcel parcel_tags
 parcel-wire = remade _ (λ p. (p.prefix, (p.piece, (p.records, p.rows)))) FitsParcel parcel parcel_tags (pair-wire identifier-wire (pair-wire piece-wire (pair-wire (plain-list (plain-pair identifier-wire record-wire)) (list-wire row-wire))))
     (λ v f. record { prefix = f.0; piece = f.1.0; records = f.1.1.0; rows = f.1.1.1 }) (λ w f. (f.prefix, (f.piece, (f.records, f.rows)))) (λ v. refl) (λ w s. s)
 
+-- each tag of a message between servers is one of these
+abbrev is_listed : ℕ → Bool
+is_listed b = not (is_peer_tag b) || (eqb b 33 || (eqb b 34 || (eqb b 35 || (eqb b 36 || eqb b 37))))
+
+last-tag : (tag : ℕ) → tag < 256 → is_peer_tag tag ≡ true → eqb tag 33 ≡ false → eqb tag 34 ≡ false → eqb tag 35 ≡ false → eqb tag 36 ≡ false → tag ≡ 37
+last-tag tag lt passes a b c d =
+    let listed = implied _ _ (agree_below_at is_listed (λ b. true) 256 tag refl lt) passes in
+    eqb-true tag 37 (other _ _ (other _ _ (other _ _ (other _ _ listed a) b) c) d)
+
 pub peer-reads : {test : ℕ → Bool} (tag : ℕ) (t : List ℕ) → IsOne test tag t → is_peer_tag tag ≡ true → IsReader (peer_of tag) (λ w u. Spelled FitsPeerMessage peer_message w (t ++ u))
 unfolding peer_message
-peer-reads tag t q passes = arm _ 37 q (eqb-true tag 37 passes) parcel-wire (λ v f. f) (λ v. refl)
+peer-reads tag t q passes =
+    either-reader _ _ _ _ (λ e. arm _ 33 q (eqb-true tag 33 e) prepare-wire (λ v f. f) (λ v. refl)) (λ e33.
+    either-reader _ _ _ _ (λ e. arm _ 34 q (eqb-true tag 34 e) voted-wire (λ v f. f) (λ v. refl)) (λ e34.
+    either-reader _ _ _ _ (λ e. arm _ 35 q (eqb-true tag 35 e) decide-wire (λ v f. f) (λ v. refl)) (λ e35.
+    either-reader _ _ _ _ (λ e. arm _ 36 q (eqb-true tag 36 e) done-wire (λ v f. f) (λ v. refl)) (λ e36.
+    arm _ 37 q (last-tag tag q.below passes e33 e34 e35 e36) parcel-wire (λ v f. f) (λ v. refl)))))
 
 pub peer-says : (m : PeerMsg) → FitsPeerMessage m → IsBehind peer_of is_peer_tag m (peer_message m) (peer_tags m)
-unfolding peer_message peer_tags
+unfolding peer_message peer_tags either_at
+peer-says (peer_.Prepare m) fits = behind 33 (omega arith) refl (says-map (λ x. peer_.Prepare x) (prepare-wire.says m fits)) refl refl
+peer-says (peer_.Vote m) fits = behind 34 (omega arith) refl (says-map (λ x. peer_.Vote x) (voted-wire.says m fits)) refl refl
+peer-says (peer_.Decide m) fits = behind 35 (omega arith) refl (says-map (λ x. peer_.Decide x) (decide-wire.says m fits)) refl refl
+peer-says (peer_.Done m) fits = behind 36 (omega arith) refl (says-map (λ x. peer_.Done x) (done-wire.says m fits)) refl refl
 peer-says (peer_.Parcel p) fits = behind 37 (omega arith) refl (says-map (λ x. peer_.Parcel x) (parcel-wire.says p fits)) refl refl

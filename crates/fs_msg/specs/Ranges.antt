@@ -90,12 +90,14 @@ FitsClientMessage (client_.Ask items fresh) = FitsList (FitsPair FitsField FitsA
 FitsClientMessage (client_.Renew pairs) = FitsList (FitsPair IsId FitsLease) pairs
 FitsClientMessage (client_.Release pairs) = FitsList (FitsPair IsId FitsLease) pairs
 FitsClientMessage (client_.Ship entries) = FitsList FitsEntry entries
+FitsClientMessage (client_.Lead m) = FitsLead m
 
 abbrev pub FitsAnswer : Answer → Type 0
 FitsAnswer (answer_.Granted grants fresh e) = FitsList FitsGrant grants × FitsOption IsId fresh × FitsEnd e
 FitsAnswer (answer_.Renewed rows e) = FitsList (FitsPair FitsLease (FitsOption FitsEight)) rows × FitsEnd e
 FitsAnswer (answer_.Released count e) = FitsEight count × FitsEnd e
 FitsAnswer (answer_.Shipped count e) = FitsEight count × FitsEnd e
+FitsAnswer (answer_.Led e) = FitsLedEnd e
 FitsAnswer (answer_.Recall wanted) = FitsLease wanted
 
 pub record FitsRecord (r : Record) : Type 0 where
@@ -113,6 +115,10 @@ pub record FitsParcel (p : Parcel) : Type 0 where
   pub rows : FitsList FitsRow p.rows
 
 abbrev pub FitsPeerMessage : PeerMsg → Type 0
+FitsPeerMessage (peer_.Prepare m) = FitsPrepare m
+FitsPeerMessage (peer_.Vote m) = FitsVoted m
+FitsPeerMessage (peer_.Decide m) = FitsDecide m
+FitsPeerMessage (peer_.Done m) = FitsDone m
 FitsPeerMessage (peer_.Parcel p) = FitsParcel p
 
 abbrev pub FitsMessage : Msg → Type 0

@@ -38,9 +38,10 @@ is_readable_prepare m = is_readable_session m.session
 abbrev pub is_readable_decide : Decide → Bool
 is_readable_decide m = list_all is_readable_effect m.effects
 
--- the entries that it hands in are readable
+-- the entries that it hands in are readable, and what is to be led
 abbrev pub is_readable_request : ClientMsg → Bool
 is_readable_request (client_.Ship entries) = list_all is_readable_entry entries
+is_readable_request (client_.Lead m) = is_readable_lead m
 is_readable_request m = true
 
 -- the leases that it grants are readable
@@ -58,6 +59,10 @@ is_readable_parcel p = list_all (λ e. is_readable_record e.1) p.records && list
 
 -- what it carries is readable
 abbrev pub is_readable_peer_message : PeerMsg → Bool
+is_readable_peer_message (peer_.Prepare m) = is_readable_prepare m
+is_readable_peer_message (peer_.Vote m) = true
+is_readable_peer_message (peer_.Decide m) = is_readable_decide m
+is_readable_peer_message (peer_.Done m) = true
 is_readable_peer_message (peer_.Parcel p) = is_readable_parcel p
 
 abbrev pub is_readable : Msg → Bool

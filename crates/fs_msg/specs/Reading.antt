@@ -98,13 +98,13 @@ parcel_at bytes = map_at (λ x. record { prefix = x.0; piece = x.1.0; records = 
 
 -- the tags of clients' messages, those of answers, and those of messages between servers
 abbrev pub is_client_tag : ℕ → Bool
-is_client_tag b = nat_le 1 b && nat_le b 4
+is_client_tag b = nat_le 1 b && nat_le b 5
 
 abbrev pub is_answer_tag : ℕ → Bool
-is_answer_tag b = (nat_le 17 b && nat_le b 20) || b == 22
+is_answer_tag b = nat_le 17 b && nat_le b 22
 
 abbrev pub is_peer_tag : ℕ → Bool
-is_peer_tag b = b == 37
+is_peer_tag b = nat_le 33 b && nat_le b 37
 
 abbrev pub is_message_tag : ℕ → Bool
 is_message_tag b = is_client_tag b || (is_answer_tag b || is_peer_tag b)
@@ -116,7 +116,8 @@ client_of tag =
     (map_at (λ x. client_.Ask x.0 x.1) (pair_at (list_at (pair_at field_at lease_kind_at)) (option_at identifier_at))) (
     either_at (tag == 2) (map_at (λ x. client_.Renew x) (list_at (pair_at identifier_at lease_at))) (
     either_at (tag == 3) (map_at (λ x. client_.Release x) (list_at (pair_at identifier_at lease_at))) (
-    map_at (λ x. client_.Ship x) (list_at entry_at))))
+    either_at (tag == 4) (map_at (λ x. client_.Ship x) (list_at entry_at)) (
+    map_at (λ x. client_.Lead x) lead_at))))
 
 -- what stands behind the tag of an answer
 abbrev pub answer_of : ℕ → Reader Answer
@@ -126,11 +127,17 @@ answer_of tag =
     either_at (tag == 18) (map_at (λ x. answer_.Renewed x.0 x.1) (pair_at (list_at (pair_at lease_at (option_at eight_at))) end_at)) (
     either_at (tag == 19) (map_at (λ x. answer_.Released x.0 x.1) (pair_at eight_at end_at)) (
     either_at (tag == 20) (map_at (λ x. answer_.Shipped x.0 x.1) (pair_at eight_at end_at)) (
-    map_at (λ x. answer_.Recall x) lease_at))))
+    either_at (tag == 21) (map_at (λ x. answer_.Led x) led_end_at) (
+    map_at (λ x. answer_.Recall x) lease_at)))))
 
 -- what stands behind the tag of a message between servers
 abbrev pub peer_of : ℕ → Reader PeerMsg
-peer_of tag = map_at (λ x. peer_.Parcel x) parcel_at
+peer_of tag =
+    either_at (tag == 33) (map_at (λ x. peer_.Prepare x) prepare_at) (
+    either_at (tag == 34) (map_at (λ x. peer_.Vote x) voted_at) (
+    either_at (tag == 35) (map_at (λ x. peer_.Decide x) decide_at) (
+    either_at (tag == 36) (map_at (λ x. peer_.Done x) done_at) (
+    map_at (λ x. peer_.Parcel x) parcel_at))))
 
 -- what stands behind a tag
 abbrev pub message_of : ℕ → Reader Msg

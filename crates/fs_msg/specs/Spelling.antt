@@ -76,12 +76,14 @@ client_message (client_.Ask items fresh) = 1 ∷ list (pair field lease_kind) it
 client_message (client_.Renew pairs) = 2 ∷ list (pair identifier lease) pairs
 client_message (client_.Release pairs) = 3 ∷ list (pair identifier lease) pairs
 client_message (client_.Ship entries) = 4 ∷ list entry entries
+client_message (client_.Lead m) = 5 ∷ lead m
 
 unfoldable pub answer : Answer → List ℕ
 answer (answer_.Granted grants fresh e) = 17 ∷ list grant grants ++ (option identifier fresh ++ end e)
 answer (answer_.Renewed rows e) = 18 ∷ list (pair lease (option eight)) rows ++ end e
 answer (answer_.Released count e) = 19 ∷ eight count ++ end e
 answer (answer_.Shipped count e) = 20 ∷ eight count ++ end e
+answer (answer_.Led e) = 21 ∷ led_end e
 answer (answer_.Recall wanted) = 22 ∷ lease wanted
 
 -- a file or a directory, and the next number in it
@@ -95,6 +97,10 @@ unfoldable pub parcel : Parcel → List ℕ
 parcel p = identifier p.prefix ++ (piece p.piece ++ (list (pair identifier file_record) p.records ++ list row p.rows))
 
 unfoldable pub peer_message : PeerMsg → List ℕ
+peer_message (peer_.Prepare m) = 33 ∷ prepare m
+peer_message (peer_.Vote m) = 34 ∷ voted m
+peer_message (peer_.Decide m) = 35 ∷ decide m
+peer_message (peer_.Done m) = 36 ∷ done m
 peer_message (peer_.Parcel p) = 37 ∷ parcel p
 
 unfoldable pub message : Msg → List ℕ

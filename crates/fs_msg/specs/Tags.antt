@@ -21,7 +21,7 @@ use Rattle.fs_msg.specs.declared.msg.Msg.{Msg}
 use Rattle.fs_msg.specs.declared.msg.Msg.TheVariants as msg_
 use Rattle.fs_wire.specs.Spelling.{eight, option, list, identifier, session, lease, transaction, kind, lease_kind, pair, field, value, op, reply, effect, vote}
 use Rattle.fs_wire.specs.Tags.{plain, one_tag, list_tags, lease_use_tags, row_tags, part_tags}
-use Rattle.fs_msg.specs.Spelling.{end, why, file_record, piece}
+use Rattle.fs_msg.specs.Spelling.{done, end, why, file_record, piece}
 
 unfoldable pub entry_tags : Entry → List Bool
 entry_tags e = plain (eight e.n) ++ (one_tag (op e.op) ++ (one_tag (reply e.reply) ++ list_tags lease_use_tags e.uses))
@@ -58,12 +58,14 @@ client_tags (client_.Ask items fresh) = true ∷ list_tags item_tags items ++ pl
 client_tags (client_.Renew pairs) = true ∷ plain (list (pair identifier lease) pairs)
 client_tags (client_.Release pairs) = true ∷ plain (list (pair identifier lease) pairs)
 client_tags (client_.Ship entries) = true ∷ list_tags entry_tags entries
+client_tags (client_.Lead m) = true ∷ lead_tags m
 
 unfoldable pub answer_tags : Answer → List Bool
 answer_tags (answer_.Granted grants fresh e) = true ∷ list_tags grant_tags grants ++ (plain (option identifier fresh) ++ one_tag (end e))
 answer_tags (answer_.Renewed rows e) = true ∷ plain (list (pair lease (option eight)) rows) ++ one_tag (end e)
 answer_tags (answer_.Released count e) = true ∷ plain (eight count) ++ one_tag (end e)
 answer_tags (answer_.Shipped count e) = true ∷ plain (eight count) ++ one_tag (end e)
+answer_tags (answer_.Led e) = true ∷ led_end_tags e
 answer_tags (answer_.Recall wanted) = true ∷ plain (lease wanted)
 
 -- of what is in a parcel, rows alone have tags, those of their fields
@@ -72,6 +74,10 @@ parcel_tags p = plain (identifier p.prefix)
     ++ (plain (piece p.piece) ++ (plain (list (pair identifier file_record) p.records) ++ list_tags row_tags p.rows))
 
 unfoldable pub peer_tags : PeerMsg → List Bool
+peer_tags (peer_.Prepare m) = true ∷ prepare_tags m
+peer_tags (peer_.Vote m) = true ∷ voted_tags m
+peer_tags (peer_.Decide m) = true ∷ decide_tags m
+peer_tags (peer_.Done m) = true ∷ plain (done m)
 peer_tags (peer_.Parcel p) = true ∷ parcel_tags p
 
 unfoldable pub tags_of : Msg → List Bool

@@ -26,6 +26,8 @@ pub enum Act {
     ReadNow { n: u64, reply: Reply },
     /// These are missing; they are asked for.
     Asked { needs: List<Need>, to: u8 },
+    /// The server is to lead it, under that number.
+    Leading { n: u64, to: u8 },
     /// It has to wait.
     Busy { what: Busy },
     /// The directory has no number left for a new child.
@@ -57,6 +59,7 @@ impl Twin for Act {
                 needs: needs.copy(alloc)?,
                 to: *to,
             }),
+            Act::Leading { n, to } => Ok(Act::Leading { n: *n, to: *to }),
             Act::Busy { what } => Ok(Act::Busy { what: *what }),
             Act::NoIds { dir } => Ok(Act::NoIds {
                 dir: dir.copy(alloc)?,

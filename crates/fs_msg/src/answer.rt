@@ -2,6 +2,7 @@
 use crate::end::End;
 use fs_field::{Field, LeaseKind, Value};
 use fs_ident::{FileId, LeaseNo, List, Memory, Twin, copy_three, copy_two};
+use fs_record::LedEnd;
 use std::alloc::Global;
 
 /// A lease that a server gives, with what its field says.
@@ -38,6 +39,10 @@ pub enum Answer {
     Shipped {
         count: u64,
         end: End,
+    },
+    /// How the operation that the server led ended.
+    Led {
+        end: LedEnd,
     },
     /// Asks the client to give a lease back.
     Recall {
@@ -79,6 +84,9 @@ impl Twin for Answer {
             }),
             Answer::Shipped { count, end } => Ok(Answer::Shipped {
                 count: *count,
+                end: end.copy(alloc)?,
+            }),
+            Answer::Led { end } => Ok(Answer::Led {
                 end: end.copy(alloc)?,
             }),
             Answer::Recall { no } => Ok(Answer::Recall { no: *no }),

@@ -1,5 +1,6 @@
 //! What clients send to servers.
 use crate::entry::Entry;
+use crate::lead::Lead;
 use fs_field::{Field, LeaseKind};
 use fs_ident::{FileId, LeaseNo, List, Memory, Twin, copy_two};
 use std::alloc::Global;
@@ -24,6 +25,10 @@ pub enum ClientMsg {
     Ship {
         entries: List<Entry>,
     },
+    /// Asks the server to lead an operation.
+    Lead {
+        lead: Lead,
+    },
 }
 
 impl Twin for ClientMsg {
@@ -41,6 +46,9 @@ impl Twin for ClientMsg {
             }),
             ClientMsg::Ship { entries } => Ok(ClientMsg::Ship {
                 entries: entries.copy(alloc)?,
+            }),
+            ClientMsg::Lead { lead } => Ok(ClientMsg::Lead {
+                lead: lead.copy(alloc)?,
             }),
         }
     }

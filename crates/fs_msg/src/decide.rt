@@ -3,7 +3,7 @@ use fs_field::Effect;
 use fs_ident::{List, Memory, Twin, TxnNo};
 use std::alloc::Global;
 
-/// What a part that was ready does now: its effects in order, or none where the operation is given up. No message carries it yet.
+/// What a part that was ready does now: its effects in order, or none where the operation is given up.
 #[derive(Debug, Drop)]
 pub struct Decide {
     pub txn: TxnNo,

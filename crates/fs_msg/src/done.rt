@@ -2,7 +2,7 @@
 use fs_ident::{Memory, Twin, TxnNo};
 use std::alloc::Global;
 
-/// A part did what was decided. No message carries it yet.
+/// A part did what was decided.
 #[derive(Debug, Drop)]
 pub struct Done {
     pub txn: TxnNo,

@@ -3,6 +3,7 @@ ghost use Rattle.std.specs.Prelude.{◌≡◌, ◌++◌, [], List, ℕ};
 ghost use Rattle.fs_wire.specs.Laws.{IsReadBack, WasSpelled};
 ghost use Rattle.fs_wire.specs.Places.{AreApart, StopsInPlace};
 ghost use Rattle.fs_wire.specs.Tags.{one_tag, plain};
+ghost use Rattle.fs_msg.specs.declared.limits.TheConstants.{LONGEST, SERVERS};
 ghost use Rattle.fs_msg.specs.declared.msg.Msg.{Msg};
 ghost use Rattle.fs_msg.specs.Ranges.{FitsDecide, FitsDone, FitsLead, FitsLedEnd, FitsMessage, FitsPrepare, FitsVoted, FitsWhy};
 ghost use Rattle.fs_msg.specs.Reading.{decide_at, done_at, lead_at, led_end_at, prepare_at, voted_at, why_at};
@@ -59,4 +60,10 @@ pub fn what_led_messages_carry_stops_in_place()
     ensures votes { StopsInPlace voted_at FitsVoted voted voted_tags }
     ensures decides { StopsInPlace decide_at FitsDecide decide decide_tags }
     ensures dones { StopsInPlace done_at FitsDone done (λ m. plain (done m)) }
+{}
+
+/// The limits of a service, each as a number: how many servers it has at most, and the greatest skew and term in milliseconds.
+pub fn limits_of_a_service()
+    ensures servers { SERVERS ≡ 15 }
+    ensures longest { LONGEST ≡ 1000000000 }
 {}

@@ -4,7 +4,7 @@ use fs_ident::{FileId, Kind, List, Memory, Twin, copy_three};
 use fs_model::Op;
 use std::alloc::Global;
 
-/// An operation that a server is to lead, with what decided it. No message carries it yet.
+/// An operation that a server is to lead, with what decided it.
 #[derive(Debug, Drop)]
 pub struct Lead {
     /// The number of the operation in its session.

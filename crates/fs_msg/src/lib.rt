@@ -40,7 +40,7 @@ pub use entry::Entry;
 pub use error::MsgError;
 pub use item::Item;
 pub use law::{
-    no_message_begins_another, what_led_messages_carry_is_apart,
+    limits_of_a_service, no_message_begins_another, what_led_messages_carry_is_apart,
     what_led_messages_carry_is_read_back, what_led_messages_carry_stops_in_place,
     what_led_messages_carry_was_spelled,
 };

@@ -3,7 +3,7 @@ use fs_field::Part;
 use fs_ident::{Memory, Session, Twin, TxnNo};
 use std::alloc::Global;
 
-/// A part that a server is to make ready. No message carries it yet.
+/// A part that a server is to make ready.
 #[derive(Debug, Drop)]
 pub struct Prepare {
     pub txn: TxnNo,

@@ -1,7 +1,10 @@
 //! What a server notes of an event.
 use crate::end::End;
 use crate::refusal::Refusal;
-use fs_ident::{FileId, List, Memory, Twin, copy_two};
+use fs_field::Vote;
+use fs_ident::{FileId, LeaseNo, List, Memory, Twin, TxnNo, copy_two};
+use fs_model::Reply;
+use fs_record::Why;
 use std::alloc::Global;
 
 /// What a server notes of an event.
@@ -27,6 +30,53 @@ pub enum ServerNote {
         count: u64,
         end: End,
         gaps: List<u64>,
+    },
+    /// What it was to lead may be asked for again.
+    Refuses {
+        why: Why,
+    },
+    /// It began to lead the transaction, and waits for votes.
+    Prepares {
+        txn: TxnNo,
+    },
+    /// The operation that it led is admitted, with this reply.
+    Commits {
+        txn: TxnNo,
+        reply: Reply,
+    },
+    /// The operation that it led is not admitted, and may be asked for again.
+    Aborts {
+        txn: TxnNo,
+        why: Why,
+    },
+    /// The operation that it led is refused: the lease ended at the first reading, and the reading of the vote was the second.
+    AbortsEnded {
+        txn: TxnNo,
+        lease: LeaseNo,
+        until: u64,
+        now: u64,
+    },
+    /// Its vote on a part of the transaction.
+    Votes {
+        txn: TxnNo,
+        vote: Vote,
+    },
+    /// More votes, or more parts that are done, are awaited.
+    Waits {
+        txn: TxnNo,
+    },
+    /// The part was sent on to that server.
+    Seeks {
+        txn: TxnNo,
+        to: u8,
+    },
+    /// The part did what was decided.
+    Applies {
+        txn: TxnNo,
+    },
+    /// All parts did what was decided.
+    Ends {
+        txn: TxnNo,
     },
     /// So many times a session lost its handles on a file.
     Reaps {
@@ -78,6 +128,37 @@ impl Twin for ServerNote {
                     gaps,
                 })
             }
+            ServerNote::Refuses { why } => Ok(ServerNote::Refuses {
+                why: why.copy(alloc)?,
+            }),
+            ServerNote::Prepares { txn } => Ok(ServerNote::Prepares { txn: *txn }),
+            ServerNote::Commits { txn, reply } => Ok(ServerNote::Commits {
+                txn: *txn,
+                reply: reply.copy(alloc)?,
+            }),
+            ServerNote::Aborts { txn, why } => Ok(ServerNote::Aborts {
+                txn: *txn,
+                why: why.copy(alloc)?,
+            }),
+            ServerNote::AbortsEnded {
+                txn,
+                lease,
+                until,
+                now,
+            } => Ok(ServerNote::AbortsEnded {
+                txn: *txn,
+                lease: *lease,
+                until: *until,
+                now: *now,
+            }),
+            ServerNote::Votes { txn, vote } => Ok(ServerNote::Votes {
+                txn: *txn,
+                vote: vote.copy(alloc)?,
+            }),
+            ServerNote::Waits { txn } => Ok(ServerNote::Waits { txn: *txn }),
+            ServerNote::Seeks { txn, to } => Ok(ServerNote::Seeks { txn: *txn, to: *to }),
+            ServerNote::Applies { txn } => Ok(ServerNote::Applies { txn: *txn }),
+            ServerNote::Ends { txn } => Ok(ServerNote::Ends { txn: *txn }),
             ServerNote::Reaps { count } => Ok(ServerNote::Reaps { count: *count }),
             ServerNote::Recalls { count } => Ok(ServerNote::Recalls { count: *count }),
             ServerNote::Installs { prefix } => Ok(ServerNote::Installs {

@@ -3,7 +3,7 @@ use fs_field::Vote;
 use fs_ident::{Memory, Twin, TxnNo};
 use std::alloc::Global;
 
-/// Whether a part is ready. No message carries it yet.
+/// Whether a part is ready.
 #[derive(Debug, Drop)]
 pub struct Voted {
     pub txn: TxnNo,

@@ -1,10 +1,8 @@
 -- One list in order of the rows of two tables.
-use Rattle.std.proofs.Common.{◌≡◌, ◌++◌, ℕ, Bool, true, false, List, [], ◌∷◌, refl, ap, cond, sym, ◌∙◌, subst, inl, inr, reverse, length, ◌+◌, arith}
+use Rattle.std.proofs.Common.{◌≡◌, ◌++◌, ℕ, true, false, List, [], ◌∷◌, refl, ap, cond, sym, ◌∙◌, subst, reverse, length, ◌+◌, arith}
 use Rattle.std.specs.Prelude.{Option, Some, None, MatchOption}
 use Rattle.std.specs.Option.{option_to_list}
 use Rattle.std.proofs.lemmas.List.{reverse-append, append-nil}
-use Rattle.fs_ident.specs.In.{In}
-use Rattle.fs_ident.specs.Ordered.{put_before}
 use Rattle.fs_ident.proofs.Booleans.{first, second}
 use Rattle.fs_ident.proofs.Passing.{all-In}
 use Rattle.fs_ident.proofs.Standing.{In-put_here}

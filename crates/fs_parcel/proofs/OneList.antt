@@ -1,7 +1,6 @@
 -- Two tables that make one list in order.
-use Rattle.std.proofs.Common.{◌≡◌, not, ◌&&◌, ◌||◌, Bool, true, false, List, [], ◌∷◌, refl, ap, cond, sym, ◌∙◌, subst}
+use Rattle.std.proofs.Common.{◌≡◌, not, ◌||◌, Bool, true, false, List, [], ◌∷◌, refl, ap, cond, sym, ◌∙◌, subst}
 use Rattle.std.specs.List.{list_any}
-use Rattle.std.proofs.lemmas.Bool.{not-true}
 use Rattle.fs_ident.specs.declared.actor.LeaseNo.{LeaseNo}
 use Rattle.fs_ident.proofs.Booleans.{both as both_hold, first, joined}
 use Rattle.fs_ident.proofs.Passing.{all-In}
@@ -12,10 +11,10 @@ use Rattle.fs_field.specs.Table.{has_no, is_ordered, no_before, same_no, with_ro
 use Rattle.fs_field.proofs.SameNo.{same_no_is, same_no_symm}
 use Rattle.fs_moderows.specs.Table.{IsModeTable}
 use Rattle.fs_rows.specs.Granted.{with_rows}
-use Rattle.fs_rows.specs.Moving.{are_new, is_new}
+use Rattle.fs_rows.specs.Moving.{are_new, is_new, is_on_given, rows_given}
 use Rattle.fs_rows.specs.Table.{IsTable}
 use Rattle.fs_parcel.specs.Rows.{AreRows, are_one_list, both}
-use Rattle.fs_parcel.proofs.Both.{leads, not_back, off_part, ordered_before}
+use Rattle.fs_parcel.proofs.Both.{all_pass, leads, not_back, off_part, ordered_before}
 use Rattle.fs_parcel.proofs.Coming.{off_are_enough, ordered_more}
 
 -- ## No number twice
@@ -60,6 +59,10 @@ same_test false false f g = refl
 -- two tables make one list where the numbers of the second are new to the first
 pub one_list : (off on : List Row) → is_ordered off ≡ true → are_new off on ≡ are_one_list off on
 one_list off on o = same_test (are_new off on) (are_one_list off on) (ordered_more off on o) (were_new off on)
+
+-- the piece of the root that is one alone gives all rows
+pub all_given : (rows : List Row) → rows_given [] (([], true) ∷ []) rows ≡ rows
+all_given rows = all_pass (is_on_given [] (([], true) ∷ [])) rows (λ r i. refl)
 
 -- ## What that makes of tables
 

@@ -9,6 +9,7 @@ mod fitting;
 mod in_order;
 mod installing;
 mod law;
+mod one_list;
 mod packing;
 mod parts;
 mod refusing;
@@ -20,6 +21,7 @@ pub use law::{
     moved_rows_are_in_order, moves_are_without_conflict, packed_parcels_are_formed,
     what_goes_is_below_the_prefix,
 };
+pub use one_list::are_one_list;
 pub use packing::{pack_up, packed};
 pub use parts::Parts;
 pub use refusing::refusal;

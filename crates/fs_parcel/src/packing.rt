@@ -72,7 +72,7 @@ fn filled(
 
 /// Takes all that `me` has below the prefix away, for the server `to`, which manages it from now on. `through` is the
 /// least path lease that goes through a file that would go. After an error all is as it was. No number stands in both
-/// tables.
+/// tables: `are_one_list` is the test.
 pub fn pack_up(
     alloc: Global,
     records: &mut Records,

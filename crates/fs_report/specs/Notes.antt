@@ -10,6 +10,12 @@ use Rattle.fs_field.specs.declared.lease_kind.LeaseKind.{LeaseKind}
 use Rattle.fs_field.specs.declared.lease_kind.LeaseKind.TheVariants.{Shared, Exclusive}
 use Rattle.fs_field.specs.declared.asked.Need.{Need}
 use Rattle.fs_field.specs.declared.asked.Need.TheVariants.{Lease, Fresh}
+use Rattle.fs_field.specs.declared.vote.Vote.{Vote}
+use Rattle.fs_field.specs.declared.vote.Vote.TheVariants as vote
+use Rattle.fs_ident.specs.declared.actor.LeaseNo.{LeaseNo}
+use Rattle.fs_ident.specs.declared.actor.TxnNo.{TxnNo}
+use Rattle.fs_record.specs.declared.led_end.Why.{Why}
+use Rattle.fs_record.specs.declared.led_end.Why.TheVariants as why
 use Rattle.fs_msg.specs.declared.end.End.{End}
 use Rattle.fs_msg.specs.declared.end.End.TheVariants as end
 use Rattle.fs_msg.specs.declared.refusal.Refusal.{Refusal}
@@ -54,6 +60,35 @@ refusal_text refusal.Same = codes "same"
 refusal_text (refusal.Busy txn) = codes "busy " ++ txn_text txn
 refusal_text (refusal.Paths number) = codes "paths " ++ path_text number
 
+-- ## Led operations
+
+-- a word and the transaction that it is said of
+abbrev pub txn_note : List ℕ → TxnNo → List ℕ
+txn_note word txn = word ++ (codes " " ++ txn_text txn)
+
+-- a lease that was over, its end, and the reading at which that was seen
+abbrev pub ended_text : LeaseNo → ℕ → ℕ → List ℕ
+ended_text lease until now = codes "ended " ++ (lease_text lease ++ (codes " " ++ (decimal until ++ (codes " " ++ decimal now))))
+
+-- another server has what begins with the prefix
+abbrev pub moved_text : List ℕ → ℕ → List ℕ
+moved_text prefix to = codes "moved " ++ (id_text prefix ++ (codes " " ++ server_text to))
+
+-- why something is asked again
+abbrev pub why_text : Why → List ℕ
+why_text (why.Moved prefix to) = moved_text prefix to
+why_text (why.Wanted file) = codes "wanted " ++ id_text file
+why_text (why.Frozen file txn) = codes "frozen " ++ (id_text file ++ (codes " " ++ txn_text txn))
+why_text (why.PathsOut number) = codes "pathsout " ++ path_text number
+why_text why.Changed = codes "changed"
+why_text why.NoChild = codes "nochild"
+
+abbrev pub vote_text : Vote → List ℕ
+vote_text vote.Yes = codes "yes"
+vote_text (vote.Ended lease until now) = ended_text lease until now
+vote_text (vote.Moved prefix to) = moved_text prefix to
+vote_text (vote.PathsOut number) = codes "pathsout " ++ path_text number
+
 -- ## What a client needs
 
 -- the kind of a lease, but nothing for one on a session's own handles
@@ -78,6 +113,16 @@ server_note_text (server.Grants count e) = progress_text (codes "grants") count 
 server_note_text (server.Renews count e) = progress_text (codes "renews") count e
 server_note_text (server.Frees count e) = progress_text (codes "frees") count e
 server_note_text (server.Admits count e gaps) = progress_text (codes "admits") count e ++ gaps_text gaps
+server_note_text (server.Refuses w) = codes "refuses " ++ why_text w
+server_note_text (server.Prepares txn) = txn_note (codes "prepares") txn
+server_note_text (server.Commits txn r) = txn_note (codes "commits") txn ++ (codes " " ++ reply_text r)
+server_note_text (server.Aborts txn w) = txn_note (codes "aborts") txn ++ (codes " " ++ why_text w)
+server_note_text (server.AbortsEnded txn lease until now) = txn_note (codes "aborts") txn ++ (codes " " ++ ended_text lease until now)
+server_note_text (server.Votes txn v) = txn_note (codes "votes") txn ++ (codes " " ++ vote_text v)
+server_note_text (server.Waits txn) = txn_note (codes "waits") txn
+server_note_text (server.Seeks txn to) = txn_note (codes "seeks") txn ++ (codes " " ++ server_text to)
+server_note_text (server.Applies txn) = txn_note (codes "applies") txn
+server_note_text (server.Ends txn) = txn_note (codes "ends") txn
 server_note_text (server.Reaps count) = codes "reaps " ++ decimal count
 server_note_text (server.Recalls count) = codes "recalls " ++ decimal count
 server_note_text (server.Installs prefix) = codes "installs " ++ id_text prefix
@@ -100,6 +145,9 @@ client_note_text (client.Renewed count e) = progress_text (codes "renewed") coun
 client_note_text (client.Released count e) = progress_text (codes "released") count e
 client_note_text (client.Shipped count e) = progress_text (codes "shipped") count e
 client_note_text (client.Recall number) = codes "recall " ++ lease_text number
+client_note_text (client.Led n r) = codes "led " ++ (decimal n ++ (codes " " ++ reply_text r))
+client_note_text (client.LedAgain w) = codes "led again " ++ why_text w
+client_note_text (client.LedEnded lease until now) = codes "led " ++ ended_text lease until now
 client_note_text client.Strange = codes "strange"
 
 abbrev pub busy_text : Busy → List ℕ
@@ -111,6 +159,7 @@ abbrev pub act_text : Act → List ℕ
 act_text (act.Replied n r) = codes "replied " ++ (decimal n ++ (codes " " ++ reply_text r))
 act_text (act.ReadNow n r) = codes "read " ++ (decimal n ++ (codes " " ++ reply_text r))
 act_text (act.Asked needs to) = codes "asked " ++ (server_text to ++ (codes " " ++ needs_text needs))
+act_text (act.Leading n to) = codes "leading " ++ (decimal n ++ (codes " " ++ server_text to))
 act_text (act.Busy what) = busy_text what
 act_text (act.NoIds dir) = codes "noids " ++ id_text dir
 act_text (act.Over n) = codes "over " ++ decimal n

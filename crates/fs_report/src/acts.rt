@@ -30,6 +30,11 @@ pub(crate) fn put_act(alloc: Global, act: &Act, out: &mut Vec<u8>) -> Result<(),
             out.push(b' ')?;
             put_needs(alloc, needs.as_slice(), out)
         }
+        Act::Leading { n, to } => {
+            put_bytes(b"leading", out)?;
+            next_number(alloc, *n, out)?;
+            next_peer(alloc, Peer::Server(*to), out)
+        }
         Act::Busy { what } => put_busy(*what, out),
         Act::NoIds { dir } => {
             put_bytes(b"noids", out)?;

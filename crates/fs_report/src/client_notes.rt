@@ -3,7 +3,9 @@ ghost use Rattle.std.specs.Prelude.{◌≡◌, ◌++◌, OnOk};
 ghost use Rattle.fs_report.specs.Notes.{request_text, client_note_text};
 
 use crate::ends::put_progress;
+use crate::led::{next_ended, next_why};
 use crate::pieces::{next_lease, next_number, next_peer, put_bytes};
+use crate::reply_text::next_reply;
 use fs_ident::{Memory, Peer};
 use fs_msg::ClientNote;
 use std::alloc::Global;
@@ -28,6 +30,19 @@ pub(crate) fn put_client_note(
         ClientNote::Recall { no } => {
             put_bytes(b"recall", out)?;
             next_lease(alloc, *no, out)
+        }
+        ClientNote::Led { n, reply } => {
+            put_bytes(b"led", out)?;
+            next_number(alloc, *n, out)?;
+            next_reply(alloc, reply, out)
+        }
+        ClientNote::LedAgain { why } => {
+            put_bytes(b"led again", out)?;
+            next_why(alloc, why, out)
+        }
+        ClientNote::LedEnded { lease, until, now } => {
+            put_bytes(b"led", out)?;
+            next_ended(alloc, *lease, *until, *now, out)
         }
         ClientNote::Strange => put_bytes(b"strange", out),
     }

@@ -8,6 +8,7 @@ mod ends;
 mod items;
 mod journal;
 mod law;
+mod led;
 mod needs;
 mod node_end;
 mod node_lines;

@@ -3,8 +3,10 @@ ghost use Rattle.std.specs.Prelude.{◌≡◌, ◌++◌, OnOk};
 ghost use Rattle.fs_report.specs.Notes.{gaps_text, server_note_text};
 
 use crate::ends::put_progress;
+use crate::led::{next_ended, next_vote, next_why, put_txn_note};
 use crate::pieces::{next_id, next_number, next_peer, put_bytes};
 use crate::refusals::next_refusal;
+use crate::reply_text::next_reply;
 use fs_ident::{Memory, Peer};
 use fs_msg::ServerNote;
 use std::alloc::Global;
@@ -25,6 +27,39 @@ pub(crate) fn put_server_note(
             put_progress(alloc, b"admits", *count, end, out)?;
             put_gaps(alloc, gaps.as_slice(), out)
         }
+        ServerNote::Refuses { why } => {
+            put_bytes(b"refuses", out)?;
+            next_why(alloc, why, out)
+        }
+        ServerNote::Prepares { txn } => put_txn_note(alloc, b"prepares", *txn, out),
+        ServerNote::Commits { txn, reply } => {
+            put_txn_note(alloc, b"commits", *txn, out)?;
+            next_reply(alloc, reply, out)
+        }
+        ServerNote::Aborts { txn, why } => {
+            put_txn_note(alloc, b"aborts", *txn, out)?;
+            next_why(alloc, why, out)
+        }
+        ServerNote::AbortsEnded {
+            txn,
+            lease,
+            until,
+            now,
+        } => {
+            put_txn_note(alloc, b"aborts", *txn, out)?;
+            next_ended(alloc, *lease, *until, *now, out)
+        }
+        ServerNote::Votes { txn, vote } => {
+            put_txn_note(alloc, b"votes", *txn, out)?;
+            next_vote(alloc, vote, out)
+        }
+        ServerNote::Waits { txn } => put_txn_note(alloc, b"waits", *txn, out),
+        ServerNote::Seeks { txn, to } => {
+            put_txn_note(alloc, b"seeks", *txn, out)?;
+            next_peer(alloc, Peer::Server(*to), out)
+        }
+        ServerNote::Applies { txn } => put_txn_note(alloc, b"applies", *txn, out),
+        ServerNote::Ends { txn } => put_txn_note(alloc, b"ends", *txn, out),
         ServerNote::Reaps { count } => {
             put_bytes(b"reaps", out)?;
             next_number(alloc, *count, out)

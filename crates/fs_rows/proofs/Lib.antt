@@ -1,5 +1,5 @@
 pub mod Kept
-mod Knowing
+pub mod Knowing
 pub mod Granting
 pub mod Bearing
 pub mod Numbers
@@ -11,3 +11,8 @@ pub mod ByField
 pub mod Tied
 pub mod Seeking
 pub mod Reading
+mod ByNumber
+mod Placing
+mod Children
+mod Picking
+mod InOrderOf

@@ -54,27 +54,27 @@ lock_told index rows o w h f live =
 
 -- ## What stands against a lease
 
-found_live : (t live : Test) (rows : List Row) → find (λ r. live r && t r) rows ≡ find t (filter live rows)
+pub found_live : (t live : Test) (rows : List Row) → find (λ r. live r && t r) rows ≡ find t (filter live rows)
 found_live t live [] = refl
 found_live t live (r ∷ rs) = elim (live r) as (λ b. cond (b && t r) (Some r) (find (λ x. live x && t x) rs) ≡ find t (cond b (r ∷ filter live rs) (filter live rs))) [
   | true ↦ ap (cond (t r) (Some r)) (found_live t live rs)
   | false ↦ found_live t live rs
 ]
 
-within : (a b c : Bool) → (c ≡ true → a ≡ true) → (a && (b && c)) ≡ (b && c)
+pub within : (a b c : Bool) → (c ≡ true → a ≡ true) → (a && (b && c)) ≡ (b && c)
 within true b c h = refl
 within false true true h = let wrong : false ≡ true = h refl in absurd (cc)
 within false true false h = refl
 within false false c h = refl
 
-one_told : (index : FieldIndex) (rows : List Row) → is_ordered rows ≡ true → index.whole ≡ true → IsIndexOf index rows → (f : Field) (t live : Test) → ((r : Row) → t r ≡ true → same_field r.field f ≡ true)
+pub one_told : (index : FieldIndex) (rows : List Row) → is_ordered rows ≡ true → index.whole ≡ true → IsIndexOf index rows → (f : Field) (t live : Test) → ((r : Row) → t r ≡ true → same_field r.field f ≡ true)
     → find (λ r. has_number r.no (numbers_of index.files f) && (live r && t r)) rows ≡ find t (filter live rows)
 one_told index rows o w h f t live k =
     find_alike (λ r. has_number r.no (numbers_of index.files f) && (live r && t r)) (λ r. live r && t r) rows
     (λ r i. ap (λ b. b && (live r && t r)) (told_of index rows o w h f r i) ∙ within (same_field r.field f) (live r) (t r) (k r))
     ∙ found_live t live rows
 
-spread : (a b c : Bool) → ((a && c) || (b && c)) ≡ ((a || b) && c)
+pub spread : (a b c : Bool) → ((a && c) || (b && c)) ≡ ((a || b) && c)
 spread true true true = refl
 spread true true false = refl
 spread true false true = refl
@@ -92,7 +92,7 @@ two_told index rows o w h f g t live k =
     ∙ within (same_field r.field f || same_field r.field g) (live r) (t r) (k r))
     ∙ found_live t live rows
 
-only : (a x : Bool) → ((a && x) || false) ≡ true → a ≡ true
+pub only : (a x : Bool) → ((a && x) || false) ≡ true → a ≡ true
 only true x h = refl
 only false x h = absurd (cc)
 
@@ -100,10 +100,10 @@ only_second : (a x : Bool) → (a && x) ≡ true → a ≡ true
 only_second true x h = refl
 only_second false x h = absurd (cc)
 
-first_of : (a b : Bool) → a ≡ true → (a || b) ≡ true
+pub first_of : (a b : Bool) → a ≡ true → (a || b) ≡ true
 first_of a b h = ap (λ t. t || b) h
 
-turn : (a b : List ℕ) → same a b ≡ true → same b a ≡ true
+pub turn : (a b : List ℕ) → same a b ≡ true → same b a ≡ true
 turn a b h = nat_list_eq_equiv.symm b a ∙ h
 
 turn_both : (a b m n : List ℕ) → (same a b && same m n) ≡ true → (same b a && same n m) ≡ true

@@ -26,10 +26,10 @@ apart a b c d h = grind (arith, nat_tests)
 one_way : (a b c d : ℕ) → is_lt (ordering_then (nat_cmp a c) (nat_cmp b d)) ≡ true → is_lt (ordering_then (nat_cmp c a) (nat_cmp d b)) ≡ false
 one_way a b c d h = grind (arith, nat_tests)
 
-unlike : (a b : LeaseNo) → no_before a b ≡ true → same_no a b ≡ false
+pub unlike : (a b : LeaseNo) → no_before a b ≡ true → same_no a b ≡ false
 unlike a b h = apart a.server a.count b.server b.count h
 
-not_back : (a b : LeaseNo) → no_before a b ≡ true → no_before b a ≡ false
+pub not_back : (a b : LeaseNo) → no_before a b ≡ true → no_before b a ≡ false
 not_back a b h = one_way a.server a.count b.server b.count h
 
 -- ## The row of a number
@@ -53,7 +53,7 @@ first_or_none m r rs h k = elim (same_no r.no m) as (λ b. same_no r.no m ≡ b 
 ] refl
 
 -- those before the place have lesser numbers, and those from it on have not
-abbrev IsPlace : LeaseNo → List Row → ℕ → Type 0
+abbrev pub IsPlace : LeaseNo → List Row → ℕ → Type 0
 IsPlace m rows i = ((k : ℕ) (d : Row) → k < i → k < length rows → no_before (get_or rows k d).no m ≡ true) × ((k : ℕ) (d : Row) → i ≤ k → k < length rows → no_before (get_or rows k d).no m ≡ false)
 
 behind_one : (m : LeaseNo) (r : Row) (rs : List Row) (i : ℕ) → IsPlace m (r ∷ rs) (suc i) → IsPlace m rs i
@@ -73,13 +73,13 @@ at_end m [] i p l = refl
 at_end m (r ∷ rs) zero p l = absurd (omega arith)
 at_end m (r ∷ rs) (suc i) p l = ap (λ t. cond t (Some r) (find (has_no m) rs)) (unlike r.no m (p.0 0 r (omega arith) (omega arith))) ∙ at_end m rs i (behind_one m r rs i p) (omega arith)
 
-below : (i n : ℕ) → true ≡ nat_lt i n → i < n
+pub below : (i n : ℕ) → true ≡ nat_lt i n → i < n
 below i n h = grind (arith, nat_tests)
 
 not_below : (i n : ℕ) → false ≡ nat_lt i n → n ≤ i
 not_below i n h = grind (arith, nat_tests)
 
-In-there : (xs : List Row) (k : ℕ) (d : Row) → k < length xs → In (get_or xs k d) xs
+pub In-there : (xs : List Row) (k : ℕ) (d : Row) → k < length xs → In (get_or xs k d) xs
 In-there [] k d l = absurd (omega arith)
 In-there (x ∷ xs) zero d l = inl refl
 In-there (x ∷ xs) (suc k) d l = inr (In-there xs k d (omega arith))
@@ -141,7 +141,7 @@ first_of_either p q (r ∷ rs) o =
       ]
     ]
 
-both_or : (a b c : Bool) → ((a || b) && c) ≡ ((a && c) || (b && c))
+pub both_or : (a b c : Bool) → ((a || b) && c) ≡ ((a && c) || (b && c))
 both_or true true true = refl
 both_or true true false = refl
 both_or true false true = refl
@@ -228,7 +228,7 @@ falls m (r ∷ rs) o (suc i) (suc j) d l n h = falls m rs (both (list_all (λ s.
 pub partitioned_behind : (m : LeaseNo) (rows : List Row) → is_ordered rows ≡ true → IsPartitionedBy (λ (r : Row). not (no_before m r.no)) rows
 partitioned_behind m rows o i j d l n h = flip (no_before m (get_or rows j d).no) (no_before m (get_or rows i d).no) (falls m rows o i j d l n) h
 
-is_place : (m : LeaseNo) (rows : List Row) (i : ℕ) → IsPartitionPoint (λ (r : Row). no_before r.no m ≡ true) (λ (r : Row). no_before r.no m ≡ false) rows i → IsPlace m rows i
+pub is_place : (m : LeaseNo) (rows : List Row) (i : ℕ) → IsPartitionPoint (λ (r : Row). no_before r.no m ≡ true) (λ (r : Row). no_before r.no m ≡ false) rows i → IsPlace m rows i
 is_place m rows i p = (λ k d l n. p.0 k d (omega arith) l, λ k d l n. p.1 k d l n)
 
 pub found_at : (m : LeaseNo) (rows : List Row) (i : ℕ) (x : Row) → is_ordered rows ≡ true → IsPartitionPoint (λ (r : Row). no_before r.no m ≡ true) (λ (r : Row). no_before r.no m ≡ false) rows i → true ≡ nat_lt i (length rows) → x ≡ get_or rows i x → find (has_no m) rows ≡ cond (same_no x.no m) (Some x) None

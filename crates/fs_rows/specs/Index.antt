@@ -30,6 +30,10 @@ numbers_in o (Own f) = o.own
 numbers_in o (SelfW f m) = []
 numbers_in o (Other f m) = []
 
+-- the numbers on the children of a directory, by name
+abbrev pub children_of : OnFile → BTreeMap (List ℕ) (List LeaseNo)
+children_of o = o.children
+
 -- nothing where no row is on the file
 abbrev pub numbers_at : Option OnFile → Field → List LeaseNo
 numbers_at None field = []
@@ -78,6 +82,10 @@ but_number number numbers = filter (λ n. not (same_no n number)) numbers
 -- the number is one of these
 abbrev pub has_number : LeaseNo → List LeaseNo → Bool
 has_number number numbers = list_any (λ n. same_no n number) numbers
+
+-- it is listed under one of the names
+abbrev pub is_listed : LeaseNo → List (List ℕ × List LeaseNo) → Bool
+is_listed number named = list_any (λ e. has_number number e.1) named
 
 -- a row of this number is on the field
 abbrev pub has_row_on : Field → LeaseNo → List Row → Bool

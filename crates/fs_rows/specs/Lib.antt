@@ -5,7 +5,8 @@ pub mod Granted
 pub mod Given
 pub mod Moving
 pub mod Bearing
+pub mod Bounds
 -- cited by private calls alone
 pub mod Index
 pub mod Sought
-pub mod Bounds
+pub mod Told

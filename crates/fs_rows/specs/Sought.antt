@@ -1,5 +1,5 @@
 -- Which rows are sought by their numbers.
-use Rattle.std.specs.Prelude.{ℕ, List, true, false, Bool, ◌&&◌, Option, Some, None, is_some, if◌then◌else◌}
+use Rattle.std.specs.Prelude.{◌==◌, not, ℕ, List, true, false, Bool, ◌&&◌, Option, Some, None, is_some, if◌then◌else◌}
 use Rattle.fs_field.specs.Conflict.{stands_against}
 use Rattle.fs_field.specs.Field.{same_field}
 use Rattle.fs_field.specs.Table.{no_before}
@@ -7,11 +7,14 @@ use Rattle.fs_field.specs.declared.field.Field.{Field}
 use Rattle.fs_field.specs.declared.field.Field.TheVariants.{Child, Names}
 use Rattle.fs_field.specs.declared.row.Row.{Row}
 use Rattle.fs_rows.specs.declared.seek.Sought.{Sought}
-use Rattle.fs_rows.specs.declared.seek.Sought.TheVariants.{Lock, Against}
+use Rattle.fs_rows.specs.declared.seek.Sought.TheVariants.{Lock, Against, Of, On, Free}
 
 abbrev pub passes : Sought → Row → Bool
 passes (Lock field) row = same_field row.field field.now && is_some row.lock
 passes (Against session field kind) row = stands_against session field.now kind row
+passes (Of session field) row = same_field row.field field.now && (row.session.0 == session.0)
+passes (On field) row = same_field row.field field.now
+passes (Free field) row = same_field row.field field.now && not (is_some row.lock)
 
 -- the one with the lesser number
 abbrev pub lesser_row : Option Row → Option Row → Option Row

@@ -17,7 +17,7 @@ use fs_map::FileMap;
 
 /// The least end of the rows that no transaction keeps.
 #[tactic(auto, using(crate::proofs::Knowing::ends_are))]
-pub(crate) fn least_end(rows: &[Row]) -> u64
+pub fn least_end(rows: &[Row]) -> u64
     ensures { EndNoSooner result rows.now }
 {
     least_from(rows)
@@ -46,27 +46,28 @@ fn end_or(least: u64, row: &Row) -> u64
 }
 
 /// Whether it was so before, or a transaction keeps one of the rows.
-pub(crate) fn or_locks(locked: bool, rows: &[Row]) -> bool
+pub fn or_locks(locked: bool, rows: &[Row]) -> bool
     ensures { result ≡ (locked || list_any (λ (r : TheRow). is_some r.lock) rows.now) }
 {
     locked || any_lock(rows)
 }
 
-fn any_lock(rows: &[Row]) -> bool
+/// Whether a transaction keeps one of the rows.
+pub fn any_lock(rows: &[Row]) -> bool
     ensures { result ≡ list_any (λ (r : TheRow). is_some r.lock) rows.now }
 {
     rows.iter().any(|row| row.lock.is_some())
 }
 
 /// Whether the end and the skew are still to come.
-fn is_ahead(now: u64, skew: u64, end: u64) -> bool
+pub fn is_ahead(now: u64, skew: u64, end: u64) -> bool
     ensures { result ≡ nat_lt now (end + skew) }
 {
     now < skew || now - skew < end
 }
 
 /// The lesser of two ends.
-pub(crate) fn lesser(a: u64, b: u64) -> u64
+pub fn lesser(a: u64, b: u64) -> u64
     ensures first { result ≤ a }
     ensures second { result ≤ b }
 {

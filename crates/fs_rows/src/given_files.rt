@@ -9,7 +9,7 @@ use std::marker::Model;
 /// The files that a piece gives. Whether the piece is in order is looked at once: then each file is found by a search,
 /// and else by going over all of the piece.
 #[derive(Drop)]
-pub(crate) struct GivenFiles<'a> {
+pub struct GivenFiles<'a> {
     piece: &'a MapPiece,
     in_order: bool,
 }
@@ -26,7 +26,8 @@ impl<'a> Model for GivenFiles<'a> {
 }
 
 impl<'a> GivenFiles<'a> {
-    pub(crate) fn of(piece: &'a MapPiece) -> GivenFiles<'a>
+    /// The files that this piece gives.
+    pub fn of(piece: &'a MapPiece) -> GivenFiles<'a>
         ensures { result ≡ (piece.now.prefix, piece.now.given) }
     {
         GivenFiles {
@@ -36,7 +37,7 @@ impl<'a> GivenFiles<'a> {
     }
 
     /// Whether the piece gives the file.
-    pub(crate) fn has(&self, file: &FileId) -> bool
+    pub fn has(&self, file: &FileId) -> bool
         ensures { result ≡ gives self.now.0 self.now.1 file.now }
     {
         if self.in_order {

@@ -1,12 +1,12 @@
 //! The numbers of the rows on each field: by file, in order, and for each file by what of it a row is on.
 ghost use Rattle.std.specs.Prelude.{◌≡◌, ◌∷◌, [], true, IfOk, OnOk};
-ghost use Rattle.std.specs.Option.{option_copied};
+ghost use Rattle.std.specs.Option.{option_copied, option_map};
 ghost use Rattle.std.specs.FinMap.{get, insert};
 ghost use Rattle.fs_ident.specs.Maps.{map_of};
 ghost use Rattle.fs_field.specs.declared.field.Field.{Field as TheField};
 ghost use Rattle.fs_field.specs.declared.field.Field.TheVariants.{Names};
 ghost use Rattle.fs_field.specs.Field.{file_of, tells_no_mode};
-ghost use Rattle.fs_rows.specs.Index.{ChangesAt, ChangesIn, ChangesOf, IsIndexOf, IsNoted, and_number, but_number, has_none, listed, numbers_at, numbers_in, numbers_of};
+ghost use Rattle.fs_rows.specs.Index.{ChangesAt, ChangesIn, ChangesOf, IsIndexOf, IsNoted, and_number, but_number, children_of, has_none, listed, numbers_at, numbers_in, numbers_of};
 
 use fs_field::{Field, Row};
 use fs_ident::{FileId, LeaseNo, List, Memory, Name, Twin};
@@ -77,6 +77,17 @@ impl FieldIndex {
         match found(&self.files, dir) {
             Some(on_file) => on_file.names.as_slice(),
             None => &[],
+        }
+    }
+
+    /// The numbers on the children of the directory, by name.
+    pub(crate) fn on_children(&self, dir: &FileId) -> Option<&BTreeMap<Name, List<LeaseNo>>>
+        ensures { option_copied result ≡
+            option_map children_of (get (map_of self.now.files) dir.now) }
+    {
+        match found(&self.files, dir) {
+            Some(on_file) => Some(&on_file.children),
+            None => None,
         }
     }
 

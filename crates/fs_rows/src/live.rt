@@ -97,14 +97,23 @@ impl<'a> Live<'a> {
     pub fn has(&self, no: LeaseNo) -> bool
         ensures { result ≡ list_any (has_no no) self.now }
     {
-        reads::has(self.rows, self.reading, self.skew, no)
+        reads::has(self.rows, self.index, self.reading, self.skew, no)
     }
 
     /// Whether there is the row of this lease of the session.
     pub fn holds(&self, no: LeaseNo, session: Session, field: &Field, kind: LeaseKind) -> bool
         ensures { result ≡ list_any (is_lease no session field.now kind) self.now }
     {
-        reads::holds(self.rows, self.reading, self.skew, no, session, field, kind)
+        reads::holds(
+            self.rows,
+            self.index,
+            self.reading,
+            self.skew,
+            no,
+            session,
+            field,
+            kind,
+        )
     }
 
     /// Whether there is a row of the session on the field.
@@ -112,7 +121,14 @@ impl<'a> Live<'a> {
         ensures { result ≡ list_any (λ (r : TheRow).
             same_field r.field field.now && (r.session.0 == session.0)) self.now }
     {
-        reads::has_on(self.rows, self.reading, self.skew, field, session)
+        reads::has_on(
+            self.rows,
+            self.index,
+            self.reading,
+            self.skew,
+            field,
+            session,
+        )
     }
 
     /// All rows of the table: a reading at which none is over.
@@ -143,21 +159,33 @@ impl<'a> Live<'a> {
     pub fn fits(&self, rows: &List<Row>) -> bool
         ensures { result ≡ fits self.now rows.now }
     {
-        moving::fit(self.rows, self.reading, self.skew, rows.as_slice())
+        moving::fit(
+            self.rows,
+            self.index,
+            self.reading,
+            self.skew,
+            rows.as_slice(),
+        )
     }
 
     /// Whether the numbers of these rows differ from one another and from all here.
     pub fn are_new(&self, rows: &List<Row>) -> bool
         ensures { result ≡ are_new self.now rows.now }
     {
-        moving::are_new(self.rows, self.reading, self.skew, rows.as_slice())
+        moving::are_new(
+            self.rows,
+            self.index,
+            self.reading,
+            self.skew,
+            rows.as_slice(),
+        )
     }
 
     /// The row of this number.
     pub fn row(&self, no: LeaseNo) -> Option<&'a Row>
         ensures { option_copied result ≡ find (has_no no) self.now }
     {
-        reads::row(self.rows, self.reading, self.skew, no)
+        reads::row(self.rows, self.index, self.reading, self.skew, no)
     }
 
     /// The last numbers of the files right below the directory that rows are on, each once, ascending.
@@ -177,6 +205,6 @@ impl<'a> Live<'a> {
     ) -> Result<List<(LeaseNo, Session)>, Memory>
         ensures { IfOk result (λ told. told ≡ unlocked_on field.now self.now) }
     {
-        reads::unlocked_on(alloc, self.rows, self.reading, self.skew, field)
+        reads::unlocked_on(alloc, self.rows, self.index, self.reading, self.skew, field)
     }
 }

@@ -1,14 +1,14 @@
 //! Rows that go to another server, and rows that come from one, over plain lists of rows.
-ghost use Rattle.std.specs.Prelude.{◌≡◌, IfOk, OnOk, OnErr};
+ghost use Rattle.std.specs.Prelude.{◌≡◌, true, IfOk, OnOk, OnErr};
 ghost use Rattle.std.specs.List.{filter, list_any};
 ghost use Rattle.fs_field.specs.Conflict.{plain_conflict};
-ghost use Rattle.fs_field.specs.Table.{is_live};
+ghost use Rattle.fs_field.specs.Table.{is_live, is_ordered};
 ghost use Rattle.fs_rows.specs.Granted.{with_rows};
-ghost use Rattle.fs_rows.specs.Index.{IsIndexOf};
+ghost use Rattle.fs_rows.specs.Index.{IsIndexOf, IsSeen};
 ghost use Rattle.fs_rows.specs.Moving.{are_new, fits, is_new, least_of, lock_below, locked_in, rows_given, rows_left, stands_beside};
 
 use crate::given_files::GivenFiles;
-use crate::grants::put_each;
+use crate::grants::put_all;
 use crate::index::FieldIndex;
 use crate::indexed::note_each;
 use crate::reads;
@@ -76,14 +76,15 @@ pub(crate) fn add_all(
     alloc: Global,
     more: List<Row>,
 ) -> Result<(), Memory>
-    requires { IsIndexOf index.old rows.old.items }
+    requires index { IsIndexOf index.old rows.old.items }
+    requires after { is_ordered (with_rows more rows.old.items) ≡ true }
     ensures ok { OnOk result (rows.new.items ≡ with_rows more rows.old.items) }
     ensures err { OnErr result (rows.new.items ≡ rows.old.items) }
     ensures index { IsIndexOf index.new rows.new.items }
 {
     rows.reserve(more.len())?;
     note_each(index, alloc, more.as_slice());
-    put_each(rows, more);
+    put_all(rows, more);
     Ok(())
 }
 
@@ -113,12 +114,19 @@ fn least_of(first: Option<TxnNo>, second: Option<TxnNo>) -> Option<TxnNo>
 /// Whether each of the rows has a number that no row here, not over at the reading `now`, and none of those before it
 /// has.
 #[tactic(auto, using(crate::proofs::Comes::are_new_append))]
-pub fn are_new(rows: &[Row], now: u64, skew: u64, more: &[Row]) -> bool
+pub(crate) fn are_new(
+    rows: &[Row],
+    index: Option<&FieldIndex>,
+    now: u64,
+    skew: u64,
+    more: &[Row],
+) -> bool
+    requires { IsSeen index rows.now }
     ensures { result ≡ are_new (filter (is_live now skew) rows.now) more.now }
 {
     let mut before = more;
     while let Some((row, earlier)) = before.split_last() {
-        if reads::has(rows, now, skew, row.no) || table::has_row(earlier, row.no) {
+        if reads::has(rows, index, now, skew, row.no) || table::has_row(earlier, row.no) {
             return false;
         }
         before = earlier;
@@ -128,12 +136,19 @@ pub fn are_new(rows: &[Row], now: u64, skew: u64, more: &[Row]) -> bool
 
 /// The same, and none conflicts with one of these by sessions, fields and kinds alone.
 #[tactic(auto, using(crate::proofs::Comes::fits_append, crate::proofs::Goes::all_live))]
-pub fn fit(rows: &[Row], now: u64, skew: u64, more: &[Row]) -> bool
+pub(crate) fn fit(
+    rows: &[Row],
+    index: Option<&FieldIndex>,
+    now: u64,
+    skew: u64,
+    more: &[Row],
+) -> bool
+    requires { IsSeen index rows.now }
     ensures { result ≡ fits (filter (is_live now skew) rows.now) more.now }
 {
     let mut before = more;
     while let Some((row, earlier)) = before.split_last() {
-        if !stands_beside(rows, now, skew, row) || !stands_beside(earlier, 0, 1, row) {
+        if !stands_beside(rows, index, now, skew, row) || !stands_beside(earlier, None, 0, 1, row) {
             return false;
         }
         before = earlier;
@@ -143,16 +158,18 @@ pub fn fit(rows: &[Row], now: u64, skew: u64, more: &[Row]) -> bool
 
 /// Whether no row, not over at the reading `now`, has the number of this one or conflicts with it by sessions, fields
 /// and kinds alone. At the reading 0 with a skew of 1 no row is over.
-fn stands_beside(rows: &[Row], now: u64, skew: u64, row: &Row) -> bool
+fn stands_beside(rows: &[Row], index: Option<&FieldIndex>, now: u64, skew: u64, row: &Row) -> bool
+    requires { IsSeen index rows.now }
     ensures { result ≡ stands_beside (filter (is_live now skew) rows.now) row.now }
 {
-    !reads::has(rows, now, skew, row.no) && !is_against_any(rows, now, skew, row)
+    !reads::has(rows, index, now, skew, row.no) && !is_against_any(rows, index, now, skew, row)
 }
 
 /// Whether such a row conflicts with this one by sessions, fields and kinds alone.
 #[tactic(auto, using(crate::proofs::LiveSteps::found))]
-fn is_against_any(rows: &[Row], now: u64, skew: u64, row: &Row) -> bool
+fn is_against_any(rows: &[Row], index: Option<&FieldIndex>, now: u64, skew: u64, row: &Row) -> bool
+    requires { IsSeen index rows.now }
     ensures { result ≡ list_any (plain_conflict row.now) (filter (is_live now skew) rows.now) }
 {
-    reads::first_in(rows, now, skew, row.session, &row.field, row.kind).is_some()
+    reads::first_against(rows, index, now, skew, row.session, &row.field, row.kind).is_some()
 }

@@ -9,10 +9,12 @@ ghost use Rattle.fs_field.specs.Table.{has_no, is_lease, is_live, is_ordered, lo
 ghost use Rattle.fs_rows.specs.Answer.{answer};
 ghost use Rattle.fs_rows.specs.Index.{IsIndexOf, IsSeen};
 ghost use Rattle.fs_rows.specs.Live.{unlocked_on};
+ghost use Rattle.fs_rows.specs.Sought.{is_list};
 
 use crate::against::{directory_of, is_list, stands_against};
 use crate::index::FieldIndex;
-use crate::seek::{Sought, least_among, lesser};
+use crate::seek::{Sought, least_among, least_named, lesser, live_at};
+use crate::told::unlocked_by;
 use fs_field::table::{child_number, is_lease, is_live};
 use fs_field::{Asked, Field, LeaseKind, Row};
 use fs_ident::{FileId, LeaseNo, List, Memory, Session, TxnNo};
@@ -107,8 +109,7 @@ pub(crate) fn first_against<'a>(
     first_in(rows, now, skew, session, field, kind)
 }
 
-/// The same, of the rows with numbers on the fields that can be against it. For a list of names all rows are looked
-/// at.
+/// The same, of the rows with numbers on the fields that can be against it.
 fn first_by<'a>(
     rows: &'a [Row],
     index: &FieldIndex,
@@ -125,7 +126,7 @@ fn first_by<'a>(
         find (stands_against session field.now kind) (filter (is_live now skew) rows.now) }
 {
     if is_list(field) {
-        return first_in(rows, now, skew, session, field, kind);
+        return first_listed(rows, index, now, skew, session, field, kind);
     }
     let sought = Sought::Against(session, field, kind);
     let here = least_among(rows, index.on(field), now, skew, &sought);
@@ -134,6 +135,31 @@ fn first_by<'a>(
             let above = least_among(rows, index.on_names(dir), now, skew, &sought);
             lesser(here, above)
         }
+        None => here,
+    }
+}
+
+/// The same for a list of names, of the rows on it and on the children of its directory.
+fn first_listed<'a>(
+    rows: &'a [Row],
+    index: &FieldIndex,
+    now: u64,
+    skew: u64,
+    session: Session,
+    field: &Field,
+    kind: LeaseKind,
+) -> Option<&'a Row>
+    requires index { IsIndexOf index.now rows.now }
+    requires ordered { is_ordered rows.now ≡ true }
+    requires whole { index.now.whole ≡ true }
+    requires list { is_list field.now ≡ true }
+    ensures { option_copied result ≡
+        find (stands_against session field.now kind) (filter (is_live now skew) rows.now) }
+{
+    let sought = Sought::Against(session, field, kind);
+    let here = least_among(rows, index.on(field), now, skew, &sought);
+    match index.on_children(field.file()) {
+        Some(children) => lesser(here, least_named(rows, children, now, skew, &sought)),
         None => here,
     }
 }
@@ -160,8 +186,25 @@ pub fn first_in<'a>(
 }
 
 /// The row of this number.
+pub(crate) fn row<'a>(
+    rows: &'a [Row],
+    index: Option<&FieldIndex>,
+    now: u64,
+    skew: u64,
+    no: LeaseNo,
+) -> Option<&'a Row>
+    requires { IsSeen index rows.now }
+    ensures { option_copied result ≡ find (has_no no) (filter (is_live now skew) rows.now) }
+{
+    match index {
+        Some(_) => live_at(rows, no, now, skew),
+        None => row_in(rows, now, skew, no),
+    }
+}
+
+/// The same, of all rows in turn.
 #[tactic(auto, using(crate::proofs::LiveSteps::find_step))]
-pub fn row(rows: &[Row], now: u64, skew: u64, no: LeaseNo) -> Option<&Row>
+fn row_in(rows: &[Row], now: u64, skew: u64, no: LeaseNo) -> Option<&Row>
     ensures { option_copied result ≡ find (has_no no) (filter (is_live now skew) rows.now) }
 {
     for row in rows {
@@ -174,14 +217,63 @@ pub fn row(rows: &[Row], now: u64, skew: u64, no: LeaseNo) -> Option<&Row>
 
 /// Whether there is the row of this number.
 #[tactic(auto, using(crate::proofs::LiveSteps::found))]
-pub fn has(rows: &[Row], now: u64, skew: u64, no: LeaseNo) -> bool
+pub(crate) fn has(
+    rows: &[Row],
+    index: Option<&FieldIndex>,
+    now: u64,
+    skew: u64,
+    no: LeaseNo,
+) -> bool
+    requires { IsSeen index rows.now }
     ensures { result ≡ list_any (has_no no) (filter (is_live now skew) rows.now) }
 {
-    row(rows, now, skew, no).is_some()
+    row(rows, index, now, skew, no).is_some()
 }
 
 /// Whether there is a row of the session on the field.
-pub fn has_on(rows: &[Row], now: u64, skew: u64, field: &Field, session: Session) -> bool
+pub(crate) fn has_on(
+    rows: &[Row],
+    index: Option<&FieldIndex>,
+    now: u64,
+    skew: u64,
+    field: &Field,
+    session: Session,
+) -> bool
+    requires { IsSeen index rows.now }
+    ensures { result ≡ list_any (λ (r : TheRow).
+        same_field r.field field.now && (r.session.0 == session.0))
+        (filter (is_live now skew) rows.now) }
+{
+    if let Some(index) = index {
+        if index.is_whole() {
+            return has_by(rows, index, now, skew, field, session);
+        }
+    }
+    has_in(rows, now, skew, field, session)
+}
+
+/// The same, of the rows with the numbers on the field.
+fn has_by(
+    rows: &[Row],
+    index: &FieldIndex,
+    now: u64,
+    skew: u64,
+    field: &Field,
+    session: Session,
+) -> bool
+    requires index { IsIndexOf index.now rows.now }
+    requires ordered { is_ordered rows.now ≡ true }
+    requires whole { index.now.whole ≡ true }
+    ensures { result ≡ list_any (λ (r : TheRow).
+        same_field r.field field.now && (r.session.0 == session.0))
+        (filter (is_live now skew) rows.now) }
+{
+    let sought = Sought::Of(session, field);
+    least_among(rows, index.on(field), now, skew, &sought).is_some()
+}
+
+/// The same, of all rows in turn.
+fn has_in(rows: &[Row], now: u64, skew: u64, field: &Field, session: Session) -> bool
     ensures { result ≡ list_any (λ (r : TheRow).
         same_field r.field field.now && (r.session.0 == session.0))
         (filter (is_live now skew) rows.now) }
@@ -195,7 +287,48 @@ pub fn has_on(rows: &[Row], now: u64, skew: u64, field: &Field, session: Session
 }
 
 /// Whether there is the row of this lease of the session.
-pub fn holds(
+pub(crate) fn holds(
+    rows: &[Row],
+    index: Option<&FieldIndex>,
+    now: u64,
+    skew: u64,
+    no: LeaseNo,
+    session: Session,
+    field: &Field,
+    kind: LeaseKind,
+) -> bool
+    requires { IsSeen index rows.now }
+    ensures { result ≡
+        list_any (is_lease no session field.now kind) (filter (is_live now skew) rows.now) }
+{
+    match index {
+        Some(_) => holds_at(rows, now, skew, no, session, field, kind),
+        None => holds_in(rows, now, skew, no, session, field, kind),
+    }
+}
+
+/// The same, of the row of the number.
+pub fn holds_at(
+    rows: &[Row],
+    now: u64,
+    skew: u64,
+    no: LeaseNo,
+    session: Session,
+    field: &Field,
+    kind: LeaseKind,
+) -> bool
+    requires { is_ordered rows.now ≡ true }
+    ensures { result ≡
+        list_any (is_lease no session field.now kind) (filter (is_live now skew) rows.now) }
+{
+    match live_at(rows, no, now, skew) {
+        Some(row) => is_lease(row, no, session, field, kind),
+        None => false,
+    }
+}
+
+/// The same, of all rows in turn.
+fn holds_in(
     rows: &[Row],
     now: u64,
     skew: u64,
@@ -239,8 +372,29 @@ pub fn borne(
 }
 
 /// The numbers and sessions of the rows on the field that no transaction keeps.
+pub(crate) fn unlocked_on(
+    alloc: Global,
+    rows: &[Row],
+    index: Option<&FieldIndex>,
+    now: u64,
+    skew: u64,
+    field: &Field,
+) -> Result<List<(LeaseNo, Session)>, Memory>
+    requires { IsSeen index rows.now }
+    ensures { IfOk result (λ told. told ≡
+        unlocked_on field.now (filter (is_live now skew) rows.now)) }
+{
+    if let Some(index) = index {
+        if index.is_whole() {
+            return unlocked_by(alloc, rows, index, now, skew, field);
+        }
+    }
+    unlocked_in(alloc, rows, now, skew, field)
+}
+
+/// The same, of all rows in turn.
 #[tactic(auto, using(crate::proofs::LiveSteps::unlocked_step))]
-pub fn unlocked_on(
+fn unlocked_in(
     alloc: Global,
     rows: &[Row],
     now: u64,

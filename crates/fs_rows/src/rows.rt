@@ -19,7 +19,8 @@ use crate::live::Live;
 use crate::moving::{add_all, drop_given};
 use crate::once::put_in_order;
 use crate::seek::{put_row, row_at};
-use crate::{grants, reads};
+use crate::told::on_by;
+use crate::{grants, numbered, reads};
 use fs_field::{Asked, Field, LeaseKind, Row, Unknown, table};
 use fs_ident::{FileId, LeaseNo, List, Memory, Session, Twin, TxnNo};
 use fs_map::{FileMap, MapPiece};
@@ -155,7 +156,7 @@ impl Rows {
         ensures err { OnErr result (self.new ≡ self.old) }
         ensures valid { IsTable self.new }
     {
-        if renew(self.rows.items_mut(), no, until) {
+        if numbered::renew(self.rows.items_mut(), no, until) {
             Ok(())
         } else {
             Err(Unknown { no })
@@ -169,7 +170,7 @@ impl Rows {
         ensures valid { IsTable self.new }
     {
         forget_row(&mut self.index, self.rows.as_slice(), no);
-        table::release(self.rows.items_mut(), no)
+        numbered::release(self.rows.items_mut(), no)
     }
 
     /// Drops the rows whose end and the skew are over at the reading `now`, but for those that a transaction keeps.
@@ -190,7 +191,7 @@ impl Rows {
     pub fn holds(&self, no: LeaseNo, session: Session, field: &Field, kind: LeaseKind) -> bool
         ensures { result ≡ list_any (is_lease no session field.now kind) self.now }
     {
-        table::holds(self.rows.as_slice(), no, session, field, kind)
+        self.all().holds(no, session, field, kind)
     }
 
     /// Lets the transaction keep the row of this number, and tells whether there was one that none kept.
@@ -200,7 +201,7 @@ impl Rows {
         ensures valid { IsTable self.new }
     {
         self.locked = true;
-        lock(self.rows.items_mut(), no, txn)
+        numbered::lock(self.rows.items_mut(), no, txn)
     }
 
     /// Lets the transaction keep no row any more.
@@ -221,7 +222,7 @@ impl Rows {
     pub fn on(&self, alloc: Global, field: &Field) -> Result<List<(LeaseNo, Session)>, Memory>
         ensures { IfOk result (λ told. told ≡ rows_on field.now self.now) }
     {
-        table::rows_on(alloc, self.rows.as_slice(), field)
+        rows_on(alloc, self.rows.as_slice(), &self.index, field)
     }
 
     /// The last numbers of the files right below the directory that rows are on, each once, ascending.
@@ -277,7 +278,7 @@ impl Rows {
     pub fn fits(&self, rows: &List<Row>) -> bool
         ensures { result ≡ fits self.now rows.now }
     {
-        Live::all(self.rows.as_slice()).fits(rows)
+        self.all().fits(rows)
     }
 
     /// The least transaction that keeps a row on a file that begins with the prefix and is `me`'s.
@@ -363,17 +364,20 @@ fn answer(
     reads::answer(rows, Some(index), 0, 1, session, field, kind)
 }
 
-/// The same on the rows as they stand in memory.
-fn renew(rows: &mut Vec<Row>, no: LeaseNo, until: u64) -> bool
-    ensures found { result ≡ list_any (has_no no) rows.old.items }
-    ensures rows { rows.new.items ≡ map (renewed_row no until) rows.old.items }
+/// The numbers and sessions of the rows on the field.
+fn rows_on(
+    alloc: Global,
+    rows: &[Row],
+    index: &FieldIndex,
+    field: &Field,
+) -> Result<List<(LeaseNo, Session)>, Memory>
+    requires ordered { is_ordered rows.now ≡ true }
+    requires index { IsIndexOf index.now rows.now }
+    ensures { IfOk result (λ told. told ≡ rows_on field.now rows.now) }
 {
-    table::renew(rows, no, until)
-}
-
-fn lock(rows: &mut Vec<Row>, no: LeaseNo, txn: TxnNo) -> bool
-    ensures found { result ≡ list_any (is_unlocked no) rows.old.items }
-    ensures rows { rows.new.items ≡ map (locked_row no txn) rows.old.items }
-{
-    table::lock(rows, no, txn)
+    if index.is_whole() {
+        on_by(alloc, rows, index, field)
+    } else {
+        table::rows_on(alloc, rows, field)
+    }
 }

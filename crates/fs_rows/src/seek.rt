@@ -1,15 +1,16 @@
 //! Rows by number, and the first of those with given numbers.
 ghost use Rattle.std.specs.Prelude.{◌≡◌, ◌≤◌, ◌&&◌, true, length, unwrap_or, OnOk, OnErr};
-ghost use Rattle.std.specs.List.{find, position};
+ghost use Rattle.std.specs.List.{filter, find, position};
 ghost use Rattle.std.specs.Option.{option_copied};
 ghost use Rattle.fs_field.specs.Table.{has_no, is_live, is_ordered, no_before, with_row};
-ghost use Rattle.fs_rows.specs.Index.{has_number};
+ghost use Rattle.fs_rows.specs.Index.{has_number, is_listed};
 ghost use Rattle.fs_rows.specs.Sought.{lesser_row, passes};
 
 use crate::against::stands_against;
 use fs_field::table::is_live;
 use fs_field::{Field, LeaseKind, Row};
-use fs_ident::{LeaseNo, Memory, Session};
+use fs_ident::{LeaseNo, List, Memory, Name, Session};
+use std::collections::BTreeMap;
 
 /// Which rows are sought.
 #[derive(Drop)]
@@ -18,6 +19,12 @@ pub(crate) enum Sought<'a> {
     Lock(&'a Field),
     /// Those that keep the session from such a lease.
     Against(Session, &'a Field, LeaseKind),
+    /// Those of the session on the field.
+    Of(Session, &'a Field),
+    /// Those on the field.
+    On(&'a Field),
+    /// Those on the field that no transaction keeps.
+    Free(&'a Field),
 }
 
 impl<'a> Sought<'a> {
@@ -27,18 +34,38 @@ impl<'a> Sought<'a> {
         match self {
             Sought::Lock(field) => row.field.is(field) && row.lock.is_some(),
             Sought::Against(session, field, kind) => stands_against(row, *session, field, *kind),
+            Sought::Of(session, field) => row.field.is(field) && row.session == *session,
+            Sought::On(field) => row.field.is(field),
+            Sought::Free(field) => row.field.is(field) && row.lock.is_none(),
         }
     }
 }
 
 /// The row of the number, by a search: the rows are in order.
-pub(crate) fn row_at(rows: &[Row], no: LeaseNo) -> Option<&Row>
+pub fn row_at(rows: &[Row], no: LeaseNo) -> Option<&Row>
     requires { is_ordered rows.now ≡ true }
     ensures { option_copied result ≡ find (has_no no) rows.now }
 {
     let at = rows.partition_point(|row| row.no < no);
     match rows.get(at) {
         Some(row) => { if row.no == no { Some(row) } else { None } }
+        None => None,
+    }
+}
+
+/// The row of the number, where it is not over.
+pub fn live_at(rows: &[Row], no: LeaseNo, now: u64, skew: u64) -> Option<&Row>
+    requires { is_ordered rows.now ≡ true }
+    ensures { option_copied result ≡ find (has_no no) (filter (is_live now skew) rows.now) }
+{
+    match row_at(rows, no) {
+        Some(row) => {
+            if is_live(row, now, skew) {
+                Some(row)
+            } else {
+                None
+            }
+        }
         None => None,
     }
 }
@@ -62,8 +89,30 @@ pub(crate) fn least_among<'a>(
     least
 }
 
+/// The first of the rows with the numbers under any of the names that is not over and is sought.
+pub(crate) fn least_named<'a>(
+    rows: &'a [Row],
+    named: &BTreeMap<Name, List<LeaseNo>>,
+    now: u64,
+    skew: u64,
+    sought: &Sought<'_>,
+) -> Option<&'a Row>
+    requires { is_ordered rows.now ≡ true }
+    ensures { option_copied result ≡ find (λ r. is_listed r.no named.now.entries &&
+        (is_live now skew r && passes sought.now r)) rows.now }
+{
+    let mut least = None;
+    for entry in named.iter() {
+        least = lesser(
+            least,
+            least_among(rows, entry.1.as_slice(), now, skew, sought),
+        );
+    }
+    least
+}
+
 /// The row of the number, where it is not over and is sought.
-fn sought_at<'a>(
+pub(crate) fn sought_at<'a>(
     rows: &'a [Row],
     no: &LeaseNo,
     now: u64,
@@ -110,7 +159,7 @@ pub(crate) fn put_row(rows: &mut Vec<Row>, row: Row) -> Result<(), Memory>
 }
 
 /// Where the first row with a greater number stands, or the length.
-fn place_at(rows: &[Row], no: LeaseNo) -> usize
+pub fn place_at(rows: &[Row], no: LeaseNo) -> usize
     requires { is_ordered rows.now ≡ true }
     ensures place { result ≡ unwrap_or (position (λ r. no_before no r.no) rows.now)
         (length rows.now) }

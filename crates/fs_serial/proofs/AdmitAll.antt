@@ -5,6 +5,7 @@ use Rattle.fs_ident.specs.declared.actor.LeaseNo.{LeaseNo}
 use Rattle.fs_ident.specs.declared.actor.Session.{Session}
 use Rattle.fs_ident.proofs.Standing.{In-map}
 use Rattle.fs_field.specs.Field.{file_of}
+use Rattle.fs_field.specs.declared.effect.Effect.{Effect}
 use Rattle.fs_msg.specs.declared.entry.Entry.{Entry}
 use Rattle.fs_msg.specs.declared.item.Item.{Item}
 use Rattle.fs_server.specs.Ships.{item_of, with_entry}
@@ -33,9 +34,10 @@ below_before : (b : Bool) (below : Option (List ℕ)) → is_some (cond b None b
 below_before true below h = absurd (cc)
 below_before false below h = h
 
-fewer_reserved : (by : Session) (e : Entry) (leases : List Lease) (n : LeaseNo) (id : List ℕ) → Reserves (map (lease_after by (effects_in by e)) leases) n id → Reserves leases n id
-fewer_reserved by e leases n id r =
-    let k = In-map (lease_after by (effects_in by e)) r.lease leases r.held in
+-- effects that are known to be admitted reserve nothing
+pub fewer_reserved : (by : Session) (es : List Effect) (leases : List Lease) (n : LeaseNo) (id : List ℕ) → Reserves (map (lease_after by es) leases) n id → Reserves leases n id
+fewer_reserved by es leases n id r =
+    let k = In-map (lease_after by es) r.lease leases r.held in
     record {
       lease = k.0;
       held = k.1.0;
@@ -103,7 +105,7 @@ module _ (o : Counts) (skew greatest : ℕ) (s : Server) (journal : List Item) (
 
   -- fewer identifiers are reserved
   fewer : (x : Session) (n : LeaseNo) (i : List ℕ) → reserved_by all x n i → reserved_by clients x n i
-  fewer = each_session (λ x (c : Settled). (n : LeaseNo) (i : List ℕ) → Reserves c.leases n i → Reserves (clients x).leases n i) by then clients (fewer_reserved by e d.leases) (λ x other n i r. r)
+  fewer = each_session (λ x (c : Settled). (n : LeaseNo) (i : List ℕ) → Reserves c.leases n i → Reserves (clients x).leases n i) by then clients (fewer_reserved by (effects_in by e) d.leases) (λ x other n i r. r)
 
   still : (n : LeaseNo) (i : List ℕ) → reserved_by all by n i → Reserves then.leases n i
   still n i r = subst (λ (c : Settled). Reserves c.leases n i) (its_client by then clients) r

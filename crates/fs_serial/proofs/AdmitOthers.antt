@@ -54,7 +54,7 @@ not_met rows by r u free i other s x =
     turned a b h = nat_eq_equiv.symm a.0 b.0 ∙ h
 
 -- the entry meets no row of another session
-no_item_meets : (rows : List Row) (by : Session) (r : Row) (uses : List Use) (n : Need) → NoRowsConflict rows → In r rows → (by.0 == r.session.0) ≡ false → AllStand rows by uses → IsCovered uses n → item_meets r.field r.kind n ≡ false
+pub no_item_meets : (rows : List Row) (by : Session) (r : Row) (uses : List Use) (n : Need) → NoRowsConflict rows → In r rows → (by.0 == r.session.0) ≡ false → AllStand rows by uses → IsCovered uses n → item_meets r.field r.kind n ≡ false
 no_item_meets rows by r uses (need.Lease g Shared) free i other stand c = refl
 no_item_meets rows by r uses (need.Lease g Exclusive) free i other stand c = ap (λ x. meets r.field r.kind x Exclusive) (sym c.field) ∙ not_met rows by r c.used free i other (stand c.used c.among) (exclusive c.used.kind c.enough)
 no_item_meets rows by r uses (need.Fresh dir) free i other stand c = refl

@@ -8,7 +8,7 @@ use Rattle.fs_model.specs.declared.op.Op.{Op}
 use Rattle.fs_model.specs.declared.reply.Reply.{Reply}
 use Rattle.fs_msg.specs.declared.act.Act.{Act}
 use Rattle.fs_msg.specs.declared.answer.Answer.{Answer}
-use Rattle.fs_msg.specs.declared.answer.Answer.TheVariants.{Granted, Renewed, Released, Shipped, Recall}
+use Rattle.fs_msg.specs.declared.answer.Answer.TheVariants.{Granted, Renewed, Released, Shipped, Recall, Led}
 use Rattle.fs_msg.specs.declared.client_msg.ClientMsg.{ClientMsg}
 use Rattle.fs_msg.specs.declared.client_note.ClientNote.TheVariants as note
 use Rattle.fs_msg.specs.declared.entry.Entry.{Entry}
@@ -34,6 +34,7 @@ use Rattle.fs_serial.proofs.Lapse.{lapse_fewer}
 use Rattle.fs_serial.proofs.Read.{IsReadOf, plain_is_read, plain_read}
 use Rattle.fs_serial.proofs.Seats.{Seat, seen_at}
 use Rattle.fs_serial.proofs.TurnMoves.{turn_moved}
+use Rattle.fs_serial.proofs.Unled.{none_told}
 
 -- ## A plan of a client that has begun
 
@@ -96,15 +97,17 @@ told_quiet by c (Granted gs fresh e) = record { now = refl; admits = refl; tells
 told_quiet by c (Renewed ends e) = record { now = refl; admits = refl; tells = refl }
 told_quiet by c (Released count e) = record { now = refl; admits = refl; tells = refl }
 told_quiet by c (Shipped count e) = record { now = refl; admits = refl; tells = refl }
+told_quiet by c (Led e) = record { now = refl; admits = refl; tells = refl }
 told_quiet by c (Recall n) = record { now = refl; admits = refl; tells = refl }
 
 -- what is told is noted
-told_known : (c : Client) (a : Answer) → (told a c).out.note ≢ note.Strange
-told_known c (Granted gs fresh e) h = cc
-told_known c (Renewed ends e) h = cc
-told_known c (Released count e) h = cc
-told_known c (Shipped count e) h = cc
-told_known c (Recall n) h = cc
+told_known : (c : Client) (from : ℕ) (a : Answer) → fits from c.exchange a c ≡ true → (told a c).out.note ≢ note.Strange
+told_known c from (Granted gs fresh e) fit h = cc
+told_known c from (Renewed ends e) fit h = cc
+told_known c from (Released count e) fit h = cc
+told_known c from (Shipped count e) fit h = cc
+told_known c from (Led e) fit h = none_told from c.exchange e c fit
+told_known c from (Recall n) fit h = cc
 
 pub hear_quiet : (by : Session) (c : Client) (from : ℕ) (a : Answer) → IsQuiet by c (hear from a c)
 hear_quiet by c from a = elim (fits from c.exchange a c) as (λ b. IsQuiet by c (cond b (told a c) (strange c))) [
@@ -189,4 +192,4 @@ module _ (greatest now : ℕ) (w : World) (by : Session) (h : WorldHolds greates
   never_strange from a rest can =
       let fit = fits_first w.server.skew greatest (sight_in w) by (w.replied by) began (w.ends by).up rest from a can.1
       (subst (λ down. Seat w.server.skew greatest (sight_in w) by (w.replied by) began (w.ends by).up down) can.0 seat_began) in
-      subst (λ b. (cond b (told a began) (strange began)).out.note ≢ note.Strange) (sym fit) (told_known began a)
+      subst (λ b. (cond b (told a began) (strange began)).out.note ≢ note.Strange) (sym fit) (told_known began from a fit)

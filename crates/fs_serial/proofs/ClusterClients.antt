@@ -22,7 +22,7 @@ use Rattle.fs_client.specs.declared.state.Client.{Client}
 use Rattle.fs_serial.specs.Cluster.{CanCome, ClientEvent, Cluster, Does, Flying, Hears, Lines, Turns, after_client, after_plan, is_with, parcels_of, with_lines, without_first}
 use Rattle.fs_serial.specs.Exchange.{OneExchange, asked_server}
 use Rattle.fs_serial.specs.Fresh.{IsMade}
-use Rattle.fs_serial.specs.Places.{PlacesHold, places_for}
+use Rattle.fs_serial.specs.Places.{PlacesHold, places_for, IsHandover}
 use Rattle.fs_serial.specs.Runs.{held_by}
 use Rattle.fs_serial.specs.Seen.{ClusterHolds, IsAddressed, ends_of, world_of}
 use Rattle.fs_serial.specs.World.{Ends, World, WorldHolds, is_called, message_in, pushed, told_by, with_ends, with_told}
@@ -60,9 +60,9 @@ not_empty [] n h = absurd (omega arith)
 not_empty (s ∷ ss) n h = (s, inl refl)
 
 -- each identifier has a place: a server, or a parcel on its way to one
-server_for : (servers ss : List Server) (fs : List Flying) → ((s : Server) → In s ss → In s servers) → ((f : Flying) → In f fs → f.to < length servers) → places_for [] ss (parcels_of fs) ≡ 1 → (s : Server) × In s servers
+server_for : (servers ss : List Server) (fs : List Flying) → ((s : Server) → In s ss → In s servers) → ((f : Flying) → In f fs → IsHandover (length servers) f) → places_for [] ss (parcels_of fs) ≡ 1 → (s : Server) × In s servers
 server_for servers (s ∷ ss) fs among to one = (s, among s (inl refl))
-server_for servers [] (f ∷ fs) among to one = not_empty servers f.to (to f (inl refl))
+server_for servers [] (f ∷ fs) among to one = not_empty servers f.to (to f (inl refl)).0
 server_for servers [] [] among to one = absurd (omega arith)
 
 pub some_server : (c : Cluster) → PlacesHold c → (s : Server) × In s c.servers

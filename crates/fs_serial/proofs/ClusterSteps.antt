@@ -24,7 +24,7 @@ use Rattle.fs_server.specs.declared.event.ServerEvent.TheVariants as event
 use Rattle.fs_server.specs.declared.out.ServerOut.{ServerOut}
 use Rattle.fs_server.specs.declared.state.Server.{Server}
 use Rattle.fs_client.specs.declared.state.Client.{Client}
-use Rattle.fs_serial.specs.Cluster.{Cluster, IsThere, Lines, after_server, after_server_at, after_step, is_with, with_sent, without_first, without_question}
+use Rattle.fs_serial.specs.Cluster.{Cluster, IsThere, Lines, after_server, after_server_at, after_step, is_with, with_sent, without_first, without_question, parcel_in}
 use Rattle.fs_serial.specs.Exchange.{OneExchange, asked_server}
 use Rattle.fs_serial.specs.Places.{PlacesHold}
 use Rattle.fs_serial.specs.Refusals.{rows_in}
@@ -46,6 +46,7 @@ use Rattle.fs_serial.proofs.SetAt.{In_set, In_without, get_here, set_twice}
 use Rattle.fs_serial.proofs.StepPlaces.{step_places}
 use Rattle.fs_serial.proofs.Traffic.{ends_sent, ends_taken, messages}
 use Rattle.fs_serial.proofs.Views.{all_views, alike_holds, count_set}
+use Rattle.fs_serial.proofs.Unled.{none_flies}
 
 -- ## What moves sends no session anything
 
@@ -181,6 +182,9 @@ module _ (skew greatest k : ℕ) (c : Cluster) (s : Server) (at : slice_get c.se
       let coming : world.IsThere e (world_of s c).ends = In-mapped (λ (n : ℕ × ClientMsg). n.1) (k, m) (c.lines by).up (found (is_with k) (c.lines by).up (k, m) there).0 in
       same_step e there (event_step e s) (event_step e (with_all s c)) refl (begun_same greatest k c s e at h.places view coming (λ z. absurd (cc))) (begun_keeps greatest (world_of s c) e refl coming view)
 
+  none_led : (from : ℕ) (m : PeerMsg) → IsThere k (event.FromPeer from m) c → parcel_in m ≡ None → ⊥
+  none_led from m there is = none_flies k from c m h.places there is
+
   peer_event : (from : ℕ) (m : PeerMsg) → IsThere k (event.FromPeer from m) c → ClusterHolds skew greatest (after_step k (event.FromPeer from m) (event_step (event.FromPeer from m) s) c)
   peer_event from (peer.Parcel p) there =
       let e = event.FromPeer from (peer.Parcel p) in
@@ -190,6 +194,10 @@ module _ (skew greatest k : ℕ) (c : Cluster) (s : Server) (at : slice_get c.se
       let same = arriving_same k from c s p at h.places there in
       subst (λ (y : Stepped). ClusterHolds skew greatest (after_step k e y c)) is
       (moved_step e there x is (install_quiet (note.Installs p.prefix) p s) (λ y. refl) same.0 same.1 (arriving_places k from c s p at h.places there))
+  peer_event from (peer.Prepare m) there = absurd (none_led from (peer.Prepare m) there refl)
+  peer_event from (peer.Vote m) there = absurd (none_led from (peer.Vote m) there refl)
+  peer_event from (peer.Decide m) there = absurd (none_led from (peer.Decide m) there refl)
+  peer_event from (peer.Done m) there = absurd (none_led from (peer.Done m) there refl)
 
   pub step_keeps : (e : ServerEvent) → IsThere k e c → ClusterHolds skew greatest (after_step k e (event_step e s) c)
   step_keeps (event.FromClient by m) there = asked_event by m there

@@ -9,7 +9,7 @@ use Rattle.fs_ident.specs.declared.actor.Session.{Session}
 use Rattle.fs_msg.specs.declared.answer.Answer.{Answer}
 use Rattle.fs_msg.specs.declared.answer.Answer.TheVariants.{Granted, Shipped}
 use Rattle.fs_msg.specs.declared.client_msg.ClientMsg.{ClientMsg}
-use Rattle.fs_msg.specs.declared.client_msg.ClientMsg.TheVariants.{Ask, Renew, Release, Ship}
+use Rattle.fs_msg.specs.declared.client_msg.ClientMsg.TheVariants.{Ask, Renew, Release, Ship, Lead}
 use Rattle.fs_msg.specs.declared.entry.Entry.{Entry}
 use Rattle.fs_msg.specs.declared.msg.Msg.{Msg}
 use Rattle.fs_msg.specs.declared.peer_msg.PeerMsg.{PeerMsg}
@@ -53,6 +53,7 @@ module _ (k : ℕ) (asked : Session → Option ℕ) where
   message_due by (Renew pairs) s due = λ to b i d. one_due by _ [] due (λ m j. absurd j) to b i d
   message_due by (Release pairs) s due = λ to b i d. one_due by _ [] due (λ m j. absurd j) to b i d
   message_due by (Ship entries) s due = ship_due by entries s (list_all (λ (e : Entry). tells_its_effects e.op) entries) due
+  message_due by (Lead m) s due = none_due
 
   turn_due : (xs : List (List ℕ × Session)) (s : Server) → AreDue k (turn_over xs s).out.send asked
   turn_due [] s = none_due
@@ -64,6 +65,10 @@ module _ (k : ℕ) (asked : Session → Option ℕ) where
 
   peer_due : (m : PeerMsg) (s : Server) → AreDue k (peer_step m s).out.send asked
   peer_due (peer.Parcel p) s = parcel_due (fits_here p s) p s
+  peer_due (peer.Prepare m) s = none_due
+  peer_due (peer.Vote m) s = none_due
+  peer_due (peer.Decide m) s = none_due
+  peer_due (peer.Done m) s = none_due
 
   move_due : (o : Option MoveError) (prefix : List ℕ) (to : ℕ) (s : Server) → AreDue k (move_at o prefix to s).out.send asked
   move_due None prefix to s = λ x a i d. elim i as (λ _. asked x ≡ Some k) [

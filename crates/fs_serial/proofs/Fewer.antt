@@ -11,7 +11,7 @@ use Rattle.fs_model.specs.declared.op.Op.TheVariants as op
 use Rattle.fs_model.specs.declared.reply.Reply.{Reply}
 use Rattle.fs_model.specs.declared.reply.Reply.TheVariants as reply
 use Rattle.fs_msg.specs.declared.answer.Answer.{Answer}
-use Rattle.fs_msg.specs.declared.answer.Answer.TheVariants.{Granted, Renewed, Released, Shipped, Recall}
+use Rattle.fs_msg.specs.declared.answer.Answer.TheVariants.{Granted, Renewed, Released, Shipped, Recall, Led}
 use Rattle.fs_msg.specs.declared.entry.Entry.{Entry}
 use Rattle.fs_msg.specs.declared.item.Item.{Item}
 use Rattle.fs_record.specs.ValueOf.{value_of}
@@ -64,6 +64,7 @@ settled_fewer these by (Granted grants fresh end ∷ rest) d e h = settled_fewer
 settled_fewer these by (Shipped count end ∷ rest) d e h = settled_fewer these by rest (told by (Shipped count end) d) (told by (Shipped count end) e) (over_fewer these (over_after end) d e (acknowledged_all by count d) (acknowledged_all by count e) h.over (all_fewer these by count d e h))
 settled_fewer these by (Renewed rows end ∷ rest) d e h = settled_fewer these by rest d e h
 settled_fewer these by (Released count end ∷ rest) d e h = settled_fewer these by rest d e h
+settled_fewer these by (Led end ∷ rest) d e h = settled_fewer these by rest d e h
 settled_fewer these by (Recall number ∷ rest) d e h = settled_fewer these by rest d e h
 
 -- ## The parts

@@ -4,7 +4,7 @@ use Rattle.std.specs.Prelude.{Some, None}
 use Rattle.fs_ident.specs.declared.actor.LeaseNo.{LeaseNo}
 use Rattle.fs_ident.specs.declared.actor.Session.{Session}
 use Rattle.fs_msg.specs.declared.answer.Answer.{Answer}
-use Rattle.fs_msg.specs.declared.answer.Answer.TheVariants.{Granted, Renewed, Released, Shipped, Recall}
+use Rattle.fs_msg.specs.declared.answer.Answer.TheVariants.{Granted, Renewed, Released, Shipped, Recall, Led}
 use Rattle.fs_msg.specs.declared.client_msg.ClientMsg.{ClientMsg}
 use Rattle.fs_msg.specs.declared.client_note.ClientNote.{ClientNote}
 use Rattle.fs_msg.specs.declared.item.Item.{Item}
@@ -25,6 +25,7 @@ use Rattle.fs_serial.proofs.HearsRenewed.{seat_renewed, renewed_reserves}
 use Rattle.fs_serial.proofs.HearsReturned.{seat_recalled, recalled_seen, seat_released, released_seen}
 use Rattle.fs_serial.proofs.HearsShipped.{seat_shipped, shipped_seen}
 use Rattle.fs_serial.proofs.Seats.{Seat, seen_at}
+use Rattle.fs_serial.proofs.Unled.{none_fits}
 
 -- the question was sent to the server
 sent_to : (c : Client) (x : Exchange) (from : ℕ) → c.exchange ≡ Some x → asked_server c.exchange ≡ Some from → server_of_question x ≡ from
@@ -40,6 +41,7 @@ fits_due c up from (Granted grants fresh end) rest e w = ap (λ x. fits from x (
 fits_due c up from (Renewed rows end) rest e w = ap (λ x. fits from x (Renewed rows end) c) w.open_ ∙ due_from c up from (Renewed rows end) rest e w
 fits_due c up from (Released count end) rest e w = ap (λ x. fits from x (Released count end) c) w.open_ ∙ due_from c up from (Released count end) rest e w
 fits_due c up from (Shipped count end) rest e w = ap (λ x. fits from x (Shipped count end) c) w.open_ ∙ due_from c up from (Shipped count end) rest e w
+fits_due c up from (Led end) rest e w = ap (λ x. fits from x (Led end) c) w.open_ ∙ due_from c up from (Led end) rest e w
 
 module _ (skew greatest : ℕ) (s : Sight) (by : Session) (replied : List Item) (c : Client) (up : List ClientMsg) (rest : List Answer) where
   -- the session where the client did as planned
@@ -55,6 +57,9 @@ module _ (skew greatest : ℕ) (s : Sight) (by : Session) (replied : List Item) 
   told_moved (Renewed ends e) h = record { seat = seat_renewed skew greatest s by replied c up ends e rest h; reserves = renewed_reserves skew greatest s by replied c up ends e rest h }
   told_moved (Released count e) h = record { seat = seat_released skew greatest s by replied c up count e rest h; reserves = same_reserves _ (seen_at by c (Released count e ∷ rest)) (released_seen skew greatest s by replied c up count e rest h) }
   told_moved (Shipped count e) h = record { seat = seat_shipped skew greatest s by replied c up count e rest h; reserves = same_reserves _ (seen_at by c (Shipped count e ∷ rest)) (shipped_seen skew greatest s by replied c up count e rest h) }
+  told_moved (Led e) h =
+      let w : IsHeard c up (Led e) rest = heard c c.exchange up (Led e) rest refl refl h.exchange.one in
+      absurd (none_fits (server_of_question w.exchange) w.exchange e c w.fits)
   told_moved (Recall n) h = record { seat = seat_recalled skew greatest s by replied c up n rest h; reserves = same_reserves _ (seen_at by c (Recall n ∷ rest)) (recalled_seen skew greatest s by replied c up n rest h) }
 
   -- the first answer on its way fits
@@ -64,6 +69,7 @@ module _ (skew greatest : ℕ) (s : Sight) (by : Session) (replied : List Item) 
   fits_first from (Renewed ends e) at h = fits_due c up from (Renewed ends e) rest (at refl) (heard c c.exchange up (Renewed ends e) rest refl refl h.exchange.one)
   fits_first from (Released count e) at h = fits_due c up from (Released count e) rest (at refl) (heard c c.exchange up (Released count e) rest refl refl h.exchange.one)
   fits_first from (Shipped count e) at h = fits_due c up from (Shipped count e) rest (at refl) (heard c c.exchange up (Shipped count e) rest refl refl h.exchange.one)
+  fits_first from (Led e) at h = fits_due c up from (Led e) rest (at refl) (heard c c.exchange up (Led e) rest refl refl h.exchange.one)
 
   -- the answer is never strange, and the session goes on as it was to
   pub hear_moved : (from : ℕ) (a : Answer) → (is_recall a ≡ false → asked_server c.exchange ≡ Some from) → Seat skew greatest s by replied c up (a ∷ rest) → Moves a (hear from a c)

@@ -6,7 +6,7 @@ use Rattle.fs_ident.specs.declared.actor.LeaseNo.{LeaseNo}
 use Rattle.fs_ident.specs.declared.actor.Session.{Session}
 use Rattle.fs_field.specs.declared.row.Row.{Row}
 use Rattle.fs_msg.specs.declared.answer.Answer.{Answer}
-use Rattle.fs_msg.specs.declared.answer.Answer.TheVariants.{Granted, Renewed, Released, Shipped, Recall}
+use Rattle.fs_msg.specs.declared.answer.Answer.TheVariants.{Granted, Renewed, Released, Shipped, Recall, Led}
 use Rattle.fs_msg.specs.declared.client_msg.ClientMsg.{ClientMsg}
 use Rattle.fs_msg.specs.declared.end.End.{End}
 use Rattle.fs_client.specs.Answers.{answer_fits}
@@ -46,6 +46,7 @@ quiet_renewed (Granted grants fresh end ∷ rest) q ends e i = absurd (cc)
 quiet_renewed (Renewed rows end ∷ rest) q ends e i = absurd (cc)
 quiet_renewed (Released count end ∷ rest) q ends e i = absurd (cc)
 quiet_renewed (Shipped count end ∷ rest) q ends e i = absurd (cc)
+quiet_renewed (Led end ∷ rest) q ends e i = absurd (cc)
 
 pub quiet_exchange : (skew greatest : ℕ) (given : ℕ → ℕ) (rows : List Row) (by : Session) (c : Client) (rest : List Answer) (now d : Settled) → c.exchange ≡ None → due rest ≡ [] → ReturnsFit given rows by c.view.leases d.leases → ExchangeFits skew greatest given rows by c [] rest now d
 quiet_exchange skew greatest given rows by c rest now d none quiet returns = record {

@@ -20,7 +20,7 @@ use Rattle.fs_server.specs.Server.{begun, is_mine}
 use Rattle.fs_server.specs.declared.state.Server.{Server}
 use Rattle.fs_serial.specs.Cluster.{Cluster, parcels_of}
 use Rattle.fs_serial.specs.Joined.{rows_of_all, with_all_of, with_parcels, with_rows_in, with_rows_of}
-use Rattle.fs_serial.specs.Places.{IsHome, PlacesHold, gives_it}
+use Rattle.fs_serial.specs.Places.{IsHome, PlacesHold, gives_it, IsHandover}
 use Rattle.fs_serial.specs.Seen.{ClusterHolds, given_at, reaps_at, world_of}
 use Rattle.fs_serial.specs.World.{World, WorldHolds}
 use Rattle.fs_serial.proofs.AtHome.{others_rows, parcels_rows}
@@ -100,7 +100,7 @@ places_set c k s t at p map me home ordered = record {
       (as_many (λ (u : Server). is_mine u id) c.servers k s t at (ap (λ m. server_of m id == t.me) map ∙ ap (λ n. server_of s.map id == n) me)) ∙ p.one id;
   homes = λ u i. elim (In_set c.servers k t u i) as (λ _. IsHome c.journal u) [ inl e ↦ subst (IsHome c.journal) (sym e) home | inr j ↦ p.homes u j ];
   sent = p.sent;
-  goes = λ f i. subst (λ n. f.to < n) (sym (length-set c.servers k t)) (p.goes f i);
+  goes = λ f i. subst (λ n. IsHandover n f) (sym (length-set c.servers k t)) (p.goes f i);
   ordered = ordered;
   numbered = λ j u e. elim (j == k) as (λ b. (j == k) ≡ b → u.me ≡ j) [
     | true ↦ λ q.

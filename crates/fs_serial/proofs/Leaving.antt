@@ -38,7 +38,7 @@ use Rattle.fs_serial.specs.Cluster.{Cluster, Flying, after_step, parcels_of}
 use Rattle.fs_serial.specs.Fresh.{IsMade}
 use Rattle.fs_serial.specs.Joined.{records_of_all, rows_of_all}
 use Rattle.fs_serial.specs.Parts.{ServersFit}
-use Rattle.fs_serial.specs.Places.{IsHome, IsSent, OnePlace, PlacesHold}
+use Rattle.fs_serial.specs.Places.{IsHome, IsSent, OnePlace, PlacesHold, IsHandover}
 use Rattle.fs_serial.specs.Refusals.{rows_in}
 use Rattle.fs_serial.specs.Runs.{held_by}
 use Rattle.fs_serial.specs.Seen.{with_all}
@@ -217,9 +217,9 @@ module _ (k : ℕ) (c : Cluster) (s : Server) (prefix : List ℕ) (to : ℕ) (at
     | inr j ↦ h.sent p j
   ]
 
-  goes_then : to < length c.servers → (x : Flying) → In x (c.flying ++ going k prefix to s ∷ []) → x.to < length c.servers
-  goes_then is x i = elim (last_or_before c.flying (going k prefix to s) x i) as (λ _. x.to < length c.servers) [
-    | inl e ↦ subst (λ (f : Flying). f.to < length c.servers) (sym e) is
+  goes_then : to < length c.servers → (x : Flying) → In x (c.flying ++ going k prefix to s ∷ []) → IsHandover (length c.servers) x
+  goes_then is x i = elim (last_or_before c.flying (going k prefix to s) x i) as (λ _. IsHandover (length c.servers) x) [
+    | inl e ↦ subst (IsHandover (length c.servers)) (sym e) (is, refl)
     | inr j ↦ h.goes x j
   ]
 

@@ -10,7 +10,7 @@ use Rattle.fs_model.specs.Step.{is_empty}
 use Rattle.fs_model.specs.declared.op.Op.{Op}
 use Rattle.fs_model.specs.declared.reply.Reply.{Reply}
 use Rattle.fs_msg.specs.declared.answer.Answer.{Answer}
-use Rattle.fs_msg.specs.declared.answer.Answer.TheVariants.{Granted, Renewed, Released, Shipped, Recall}
+use Rattle.fs_msg.specs.declared.answer.Answer.TheVariants.{Granted, Renewed, Released, Shipped, Recall, Led}
 use Rattle.fs_msg.specs.declared.act.Act.TheVariants as act
 use Rattle.fs_msg.specs.declared.act.Busy.TheVariants as busy
 use Rattle.fs_msg.specs.declared.client_msg.ClientMsg.{ClientMsg}
@@ -125,6 +125,7 @@ told_posted (Granted grants fresh e) c = refl
 told_posted (Renewed ends e) c = refl
 told_posted (Released count e) c = refl
 told_posted (Shipped count e) c = refl
+told_posted (Led e) c = refl
 told_posted (Recall number) c = refl
 
 pub hear_posted : (from : ℕ) (a : Answer) (c : Client) → IsPosted (hear from a c)

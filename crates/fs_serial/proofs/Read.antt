@@ -17,7 +17,7 @@ use Rattle.fs_model.specs.declared.reply.Reply.TheVariants as reply
 use Rattle.fs_model.proofs.SoundRuns.{step_reads}
 use Rattle.fs_msg.specs.Journal.{item_step, may_admit}
 use Rattle.fs_msg.specs.declared.answer.Answer.{Answer}
-use Rattle.fs_msg.specs.declared.answer.Answer.TheVariants.{Granted, Renewed, Released, Shipped, Recall}
+use Rattle.fs_msg.specs.declared.answer.Answer.TheVariants.{Granted, Renewed, Released, Shipped, Recall, Led}
 use Rattle.fs_msg.specs.declared.client_msg.ClientMsg.{ClientMsg}
 use Rattle.fs_msg.specs.declared.entry.Entry.{Entry}
 use Rattle.fs_msg.specs.declared.item.Item.{Item}
@@ -68,6 +68,7 @@ settled_number by n (Granted grants fresh end ∷ rest) d = settled_number by n 
 settled_number by n (Shipped count end ∷ rest) d = ap (λ x. settled by rest (with_over (over_after end d.over) x)) (all_next by n count d) ∙ settled_number by n rest (told by (Shipped count end) d)
 settled_number by n (Renewed rows end ∷ rest) d = settled_number by n rest d
 settled_number by n (Released count end ∷ rest) d = settled_number by n rest d
+settled_number by n (Led end ∷ rest) d = settled_number by n rest d
 settled_number by n (Recall number ∷ rest) d = settled_number by n rest d
 
 nothing_in : {X : Type 0} (xs : List X) → ((x : X) → In x xs → ⊥) → xs ≡ []

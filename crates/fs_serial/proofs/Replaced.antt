@@ -8,7 +8,7 @@ use Rattle.fs_record.specs.declared.parcel.Parcel.{Parcel}
 use Rattle.fs_server.specs.declared.state.Server.{Server}
 use Rattle.fs_serial.specs.Cluster.{Cluster, Flying, Lines, parcels_of}
 use Rattle.fs_serial.specs.Joined.{rows_of_all}
-use Rattle.fs_serial.specs.Places.{IsHome, IsSent, OnePlace, PlacesHold}
+use Rattle.fs_serial.specs.Places.{IsHome, IsSent, OnePlace, PlacesHold, IsHandover}
 use Rattle.fs_serial.proofs.SetAt.{In_set, get_set}
 
 -- the cluster then: no entry joined the journal
@@ -31,8 +31,8 @@ module _ (c : Cluster) (h : PlacesHold c) (k : ℕ) (s t : Server) (at : slice_g
   sent_then : ((p : Parcel) → In p (parcels_of flying) → IsSent c.journal p) → (p : Parcel) → In p (parcels_of flying) → IsSent (c.journal ++ []) p
   sent_then each p i = subst (λ j. IsSent j p) (sym (append-nil c.journal)) (each p i)
 
-  goes_then : ((f : Flying) → In f flying → f.to < length c.servers) → (f : Flying) → In f flying → f.to < length (slice_set c.servers k t)
-  goes_then goes f i = subst (λ n. f.to < n) (sym (length-set c.servers k t)) (goes f i)
+  goes_then : ((f : Flying) → In f flying → IsHandover (length c.servers) f) → (f : Flying) → In f flying → IsHandover (length (slice_set c.servers k t)) f
+  goes_then goes f i = subst (λ n. IsHandover n f) (sym (length-set c.servers k t)) (goes f i)
 
   numbered_then : t.me ≡ s.me → (j : ℕ) (x : Server) → slice_get (slice_set c.servers k t) j ≡ Some x → x.me ≡ j
   numbered_then me j x e = elim (get_set c.servers k j t x e) as (λ _. x.me ≡ j) [
@@ -42,7 +42,7 @@ module _ (c : Cluster) (h : PlacesHold c) (k : ℕ) (s t : Server) (at : slice_g
 
   pub replaced_places : t.me ≡ s.me → OnePlace (slice_set c.servers k t) (parcels_of flying) → IsHome c.journal t
       → ((p : Parcel) → In p (parcels_of flying) → IsSent c.journal p)
-      → ((f : Flying) → In f flying → f.to < length c.servers)
+      → ((f : Flying) → In f flying → IsHandover (length c.servers) f)
       → rows_of_all (slice_set c.servers k t) (parcels_of flying) ≡ rows_of_all c.servers (parcels_of c.flying)
       → PlacesHold (replaced k t flying lines c)
   replaced_places me one own each goes rows = record {

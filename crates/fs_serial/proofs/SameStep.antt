@@ -25,7 +25,7 @@ use Rattle.fs_model.specs.declared.reply.Reply.{Reply}
 use Rattle.fs_model.specs.declared.reply.Reply.TheVariants as reply
 use Rattle.fs_model.specs.Asking.{home_of}
 use Rattle.fs_msg.specs.declared.client_msg.ClientMsg.{ClientMsg}
-use Rattle.fs_msg.specs.declared.client_msg.ClientMsg.TheVariants.{Ask, Renew, Release, Ship}
+use Rattle.fs_msg.specs.declared.client_msg.ClientMsg.TheVariants.{Ask, Renew, Release, Ship, Lead}
 use Rattle.fs_msg.specs.declared.entry.Entry.{Entry}
 use Rattle.fs_parcel.proofs.Both.{ordered_before}
 use Rattle.fs_field.specs.After.{changed_file}
@@ -60,6 +60,7 @@ use Rattle.fs_serial.proofs.SimAsk.{HasFreshHere, ask_sim}
 use Rattle.fs_serial.proofs.SimPairs.{ArePairsHere, recall_sim, release_sim, renew_sim}
 use Rattle.fs_serial.proofs.SimShip.{AreEntriesHere, ship_sim}
 use Rattle.fs_serial.proofs.SimTurn.{lapsed_here, turn_sim}
+use Rattle.fs_serial.proofs.Unled.{none_asked}
 
 -- ## What it is
 
@@ -265,6 +266,7 @@ begun_same greatest k c s (FromClient by (Ask items dir)) is places w there q = 
 begun_same greatest k c s (FromClient by (Renew pairs)) is places w there q = renew_same greatest k c s by pairs is places w there
 begun_same greatest k c s (FromClient by (Release pairs)) is places w there q = release_same greatest k c s by pairs is places w there
 begun_same greatest k c s (FromClient by (Ship entries)) is places w there q = ship_same greatest k c s by entries is places w there
+begun_same greatest k c s (FromClient by (Lead m)) is places w there q = let e = ends_of (c.lines by) in absurd (none_asked e.client e.client.exchange m e.up e.down there (w.exchanges by).one)
 begun_same greatest k c s (FromPeer from m) is places w there q = absurd there
 begun_same greatest k c s Turn is places w there q = absurd (q refl)
 begun_same greatest k c s (Recall field) is places w there q = recall_same k c s field is places

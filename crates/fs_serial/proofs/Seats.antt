@@ -5,7 +5,7 @@ use Rattle.std.proofs.lemmas.Bool.Decides.{nat_tests}
 use Rattle.fs_ident.specs.declared.actor.Session.{Session}
 use Rattle.fs_ident.proofs.Booleans.{first, second}
 use Rattle.fs_msg.specs.declared.answer.Answer.{Answer}
-use Rattle.fs_msg.specs.declared.answer.Answer.TheVariants.{Granted, Renewed, Released, Shipped, Recall}
+use Rattle.fs_msg.specs.declared.answer.Answer.TheVariants.{Granted, Renewed, Released, Shipped, Recall, Led}
 use Rattle.fs_msg.specs.declared.client_msg.ClientMsg.{ClientMsg}
 use Rattle.fs_msg.specs.declared.item.Item.{Item}
 use Rattle.fs_client.specs.Answers.{answer_fits, refusal_fits}
@@ -37,6 +37,7 @@ settled_due by [] d = refl
 settled_due by (Granted grants fresh end ∷ rest) d = settled_due by rest (told by (Granted grants fresh end) d)
 settled_due by (Renewed rows end ∷ rest) d = settled_due by rest d
 settled_due by (Released count end ∷ rest) d = settled_due by rest d
+settled_due by (Led end ∷ rest) d = settled_due by rest d
 settled_due by (Shipped count end ∷ rest) d = settled_due by rest (told by (Shipped count end) d)
 settled_due by (Recall number ∷ rest) d = settled_due by rest d
 
@@ -45,6 +46,7 @@ admitted_due [] = refl
 admitted_due (Granted grants fresh end ∷ rest) = admitted_due rest
 admitted_due (Renewed rows end ∷ rest) = admitted_due rest
 admitted_due (Released count end ∷ rest) = admitted_due rest
+admitted_due (Led end ∷ rest) = admitted_due rest
 admitted_due (Shipped count end ∷ rest) = ap (λ n. count + n) (admitted_due rest)
 admitted_due (Recall number ∷ rest) = admitted_due rest
 

@@ -18,7 +18,7 @@ use Rattle.fs_msg.specs.declared.answer.Answer.{Answer}
 use Rattle.fs_msg.specs.declared.answer.Answer.TheVariants.{Granted, Renewed, Released, Shipped}
 use Rattle.fs_msg.specs.declared.answer.Grant.{Grant}
 use Rattle.fs_msg.specs.declared.client_msg.ClientMsg.{ClientMsg}
-use Rattle.fs_msg.specs.declared.client_msg.ClientMsg.TheVariants.{Ask, Renew, Release, Ship}
+use Rattle.fs_msg.specs.declared.client_msg.ClientMsg.TheVariants.{Ask, Renew, Release, Ship, Lead}
 use Rattle.fs_msg.specs.declared.end.End.{End}
 use Rattle.fs_msg.specs.declared.entry.Entry.{Entry}
 use Rattle.fs_record.specs.Effects.{tells_its_effects}
@@ -49,6 +49,7 @@ use Rattle.fs_serial.proofs.Sending.{asked, goes_bare, goes_of, goes_seen, recal
 use Rattle.fs_serial.proofs.ShipLoop.{IsShipped, shipped_still}
 use Rattle.fs_serial.proofs.ServerSame.{asked_same, ships_same}
 use Rattle.fs_serial.proofs.ServerTurn.{turn_keeps}
+use Rattle.fs_serial.proofs.Unled.{none_asked}
 
 -- ## Questions for leases
 
@@ -238,6 +239,7 @@ module _ (greatest : ℕ) (w : World) (by : Session) (h : WorldHolds greatest w)
   told_message none (Renew pairs) up = renewed_step pairs up
   told_message none (Release pairs) up = released_step pairs up
   told_message none (Ship entries) up = shipped_step none entries up
+  told_message none (Lead m) up = absurd (none_asked (w.ends by).client (w.ends by).client.exchange m (w.ends by).up (w.ends by).down (subst (λ ms. In (Lead m) ms) (sym up) (inl refl)) (h.exchanges by).one)
 
 -- ## Each event
 

@@ -8,7 +8,7 @@ use Rattle.fs_ident.proofs.Booleans.{neither}
 use Rattle.fs_ident.proofs.Standing.{In-front, In-mapped}
 use Rattle.fs_field.specs.Field.{file_of}
 use Rattle.fs_msg.specs.declared.answer.Answer.{Answer}
-use Rattle.fs_msg.specs.declared.answer.Answer.TheVariants.{Granted, Renewed, Released, Shipped, Recall}
+use Rattle.fs_msg.specs.declared.answer.Answer.TheVariants.{Granted, Renewed, Released, Shipped, Recall, Led}
 use Rattle.fs_msg.specs.declared.entry.Entry.{Entry}
 use Rattle.fs_view.specs.Kept.{makes, is_pending}
 use Rattle.fs_view.specs.View.{value_after_log}
@@ -44,6 +44,7 @@ settled_last by (Shipped count end ∷ rest) e d h =
     ∙ settled_last by rest e (told by (Shipped count end) d) (let q = left_all by count d (omega arith) in omega arith)
 settled_last by (Renewed rows end ∷ rest) e d h = settled_last by rest e d h
 settled_last by (Released count end ∷ rest) e d h = settled_last by rest e d h
+settled_last by (Led end ∷ rest) e d h = settled_last by rest e d h
 settled_last by (Recall number ∷ rest) e d h = settled_last by rest e d h
 
 next_all : (by : Session) (k : ℕ) (d : Settled) → (acknowledged_all by k d).next ≡ d.next
@@ -61,6 +62,7 @@ settled_next by (Granted grants fresh end ∷ rest) d = settled_next by rest (to
 settled_next by (Shipped count end ∷ rest) d = settled_next by rest (told by (Shipped count end) d) ∙ next_all by count d
 settled_next by (Renewed rows end ∷ rest) d = settled_next by rest d
 settled_next by (Released count end ∷ rest) d = settled_next by rest d
+settled_next by (Led end ∷ rest) d = settled_next by rest d
 settled_next by (Recall number ∷ rest) d = settled_next by rest d
 
 -- ## A lease later
@@ -139,6 +141,7 @@ later by (Shipped count end ∷ rest) d l i =
     later_then by d (told by (Shipped count end) d) (settled by rest (told by (Shipped count end) d)) l p (later by rest (told by (Shipped count end) d) p.lease p.held)
 later by (Renewed rows end ∷ rest) d l i = later by rest d l i
 later by (Released count end ∷ rest) d l i = later by rest d l i
+later by (Led end ∷ rest) d l i = later by rest d l i
 later by (Recall number ∷ rest) d l i = later by rest d l i
 
 -- ## Entries later
@@ -158,4 +161,5 @@ settled_log by (Granted grants fresh end ∷ rest) d e i = settled_log by rest (
 settled_log by (Shipped count end ∷ rest) d e i = log_all by count d e (settled_log by rest (told by (Shipped count end) d) e i)
 settled_log by (Renewed rows end ∷ rest) d e i = settled_log by rest d e i
 settled_log by (Released count end ∷ rest) d e i = settled_log by rest d e i
+settled_log by (Led end ∷ rest) d e i = settled_log by rest d e i
 settled_log by (Recall number ∷ rest) d e i = settled_log by rest d e i

@@ -15,7 +15,7 @@ use Rattle.fs_server.specs.declared.event.ServerEvent.{ServerEvent}
 use Rattle.fs_server.specs.declared.state.Server.{Server}
 use Rattle.fs_serial.specs.Cluster.{Cluster, after_step, parcels_of}
 use Rattle.fs_serial.specs.Fresh.{IsMade, made_in, made_by, or_else, root_kind}
-use Rattle.fs_serial.specs.Places.{IsHome, IsSent, OnePlace, PlacesHold, gives_it, places_for}
+use Rattle.fs_serial.specs.Places.{IsHome, IsSent, OnePlace, PlacesHold, gives_it, places_for, IsHandover}
 use Rattle.fs_serial.proofs.RestOf.{IsBetween, between}
 use Rattle.fs_serial.proofs.SameStep.{IsSameStep}
 
@@ -97,7 +97,7 @@ step_places k e s small big c is places h =
       one = λ id. ap₂ (λ ss fs. places_for id ss (parcels_of fs)) servers h.still ∙ one_same b.front b.back s t h.me h.map (parcels_of c.flying) (λ id. ap (λ ss. places_for id ss (parcels_of c.flying)) (sym b.is) ∙ places.one id) id;
       homes = λ x i. home_still c.journal small.out.admitted x (each_same b.front b.back s t h.me h.map (IsHome c.journal) (λ y j. places.homes y (subst (In y) (sym b.is) j)) h.home x (subst (In x) servers i));
       sent = λ p i. sent_still c.journal small.out.admitted p (places.sent p (subst (λ fs. In p (parcels_of fs)) h.still i));
-      goes = λ f i. subst (λ m. f.to < m) (sym (ap length servers ∙ n)) (places.goes f (subst (In f) h.still i));
+      goes = λ f i. subst (λ m. IsHandover m f) (sym (ap length servers ∙ n)) (places.goes f (subst (In f) h.still i));
       ordered = subst (λ (u : Server). is_ordered u.rows ≡ true) h.server h.ordered;
       numbered = λ j x e. numbered_same b.front b.back s t h.me 0 (λ i y d. places.numbered i y (ap (λ ss. slice_get ss i) b.is ∙ d) ∙ zero_more i) j x (ap (λ ss. slice_get ss j) (sym servers) ∙ e) ∙ sym (zero_more j);
     }

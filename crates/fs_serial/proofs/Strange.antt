@@ -1,12 +1,12 @@
 -- No question and no parcel that comes to a server is strange.
-use Rattle.std.proofs.Common.{◌≡◌, ℕ, ◌≤◌, max, true, List, [], ◌∷◌, cond, sym, subst}
+use Rattle.std.proofs.Common.{◌≡◌, ℕ, ◌≤◌, max, true, List, [], ◌∷◌, cond, refl, sym, subst}
 use Rattle.std.specs.Prelude.{◌≢◌, Option, Some, None, slice_get}
 use Rattle.std.specs.List.{list_all}
 use Rattle.fs_ident.specs.declared.actor.Session.{Session}
 use Rattle.fs_ident.proofs.Passing.{found}
 use Rattle.fs_ident.proofs.Standing.{In-got, In-mapped}
 use Rattle.fs_msg.specs.declared.client_msg.ClientMsg.{ClientMsg}
-use Rattle.fs_msg.specs.declared.client_msg.ClientMsg.TheVariants.{Ask, Renew, Release, Ship}
+use Rattle.fs_msg.specs.declared.client_msg.ClientMsg.TheVariants.{Ask, Renew, Release, Ship, Lead}
 use Rattle.fs_msg.specs.declared.entry.Entry.{Entry}
 use Rattle.fs_msg.specs.declared.peer_msg.PeerMsg.{PeerMsg}
 use Rattle.fs_msg.specs.declared.peer_msg.PeerMsg.TheVariants as peer
@@ -23,13 +23,14 @@ use Rattle.fs_server.specs.declared.event.ServerEvent.{ServerEvent}
 use Rattle.fs_server.specs.declared.event.ServerEvent.TheVariants as event
 use Rattle.fs_server.specs.declared.state.Server.{Server}
 use Rattle.fs_serial.specs.Cluster.{Cluster, IsThere, is_with}
-use Rattle.fs_serial.specs.Seen.{ClusterHolds, counts_of, world_of}
+use Rattle.fs_serial.specs.Seen.{ClusterHolds, counts_of, world_of, ends_of}
 use Rattle.fs_serial.specs.World.{WorldHolds}
 use Rattle.fs_serial.proofs.Arriving.{parcel_fits}
 use Rattle.fs_serial.proofs.ClusterSteps.{there_begun}
 use Rattle.fs_serial.proofs.Lapsing.{begins, begun_at}
 use Rattle.fs_serial.proofs.ServerEvents.{all_plain}
 use Rattle.fs_serial.proofs.SetAt.{get_here}
+use Rattle.fs_serial.proofs.Unled.{none_asked, none_flies}
 
 turn_note : (xs : List (List ℕ × Session)) (s : Server) → (turn_over xs s).out.note ≢ Strange
 turn_note [] s e = absurd (cc)
@@ -52,6 +53,7 @@ module _ (skew greatest k : ℕ) (c : Cluster) (s : Server) (at : slice_get c.se
   message_note by (Ask items dir) there = λ e. absurd (cc)
   message_note by (Renew pairs) there = λ e. absurd (cc)
   message_note by (Release pairs) there = λ e. absurd (cc)
+  message_note by (Lead m) there = λ e. none_asked (c.lines by).client (c.lines by).client.exchange m (ends_of (c.lines by)).up (ends_of (c.lines by)).down (In-mapped (λ (n : ℕ × ClientMsg). n.1) (k, Lead m) (c.lines by).up (found (is_with k) (c.lines by).up (k, Lead m) there).0) (view.exchanges by).one
   message_note by (Ship entries) there =
       ship_note by entries s (all_plain greatest (world_of s c) by entries (In-mapped (λ (n : ℕ × ClientMsg). n.1) (k, Ship entries) (c.lines by).up (found (is_with k) (c.lines by).up (k, Ship entries) there).0) view)
 
@@ -59,6 +61,10 @@ module _ (skew greatest k : ℕ) (c : Cluster) (s : Server) (at : slice_get c.se
   peer_note from (peer.Parcel p) there =
       let fits : fits_here p s ≡ true = parcel_fits k from c s p at h.places there (counts_of c.servers) view.all.servers view.all.kept in
       subst (λ b. (parcel_at b p s).out.note ≢ Strange) (sym fits) (λ e. absurd (cc))
+  peer_note from (peer.Prepare m) there = λ e. none_flies k from c (peer.Prepare m) h.places there refl
+  peer_note from (peer.Vote m) there = λ e. none_flies k from c (peer.Vote m) h.places there refl
+  peer_note from (peer.Decide m) there = λ e. none_flies k from c (peer.Decide m) h.places there refl
+  peer_note from (peer.Done m) there = λ e. none_flies k from c (peer.Done m) h.places there refl
 
   event_note : (e : ServerEvent) → IsThere k e c → (event_step e s).out.note ≢ Strange
   event_note (event.FromClient by m) there = message_note by m there

@@ -63,6 +63,7 @@ first_cluster servers skew term = record {
 -- the parcel that the message brings, if it brings one
 abbrev pub parcel_in : PeerMsg → Option Parcel
 parcel_in (OfParcel p) = Some p
+parcel_in m = None
 
 -- the parcels among the messages on their way, in order
 abbrev pub parcels_of : List Flying → List Parcel

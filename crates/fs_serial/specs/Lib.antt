@@ -14,6 +14,7 @@ pub mod Exchange
 pub mod Steps
 pub mod Laws
 pub mod Locks
+pub mod Commits
 pub mod World
 pub mod Joined
 pub mod Cluster

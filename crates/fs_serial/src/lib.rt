@@ -1,11 +1,13 @@
 //! Why every schedule's journal is one serial run: the parts of the invariant, and the laws that keep them.
 #![tactic(auto)]
 
+mod commit;
 mod flying;
 mod law;
 mod locks;
 mod space;
 
+pub use commit::a_commit_keeps_the_parts;
 pub use flying::Flying;
 pub use law::{
     a_gift_keeps_the_parts, a_move_leaves_all_as_it_was, a_parcel_that_comes_leaves_all_as_it_was,

@@ -3,10 +3,11 @@ ghost use Rattle.std.specs.Prelude.{◌≡◌, [], ◌∷◌, IfOk, IsErrOf, Som
 ghost use Rattle.fs_msg.specs.declared.answer.Answer.TheVariants as reply;
 ghost use Rattle.fs_msg.specs.declared.core_error.Counter.{Counter as TheCounter};
 ghost use Rattle.fs_msg.specs.declared.core_error.CoreError.TheVariants as errors;
-ghost use Rattle.fs_msg.specs.declared.peer_msg.PeerMsg.TheVariants as peer;
 ghost use Rattle.fs_msg.specs.declared.server_note.ServerNote.TheVariants as note;
 ghost use Rattle.fs_server.specs.Decided.{CanDecide, noted_only, stepped_by};
+ghost use Rattle.fs_server.specs.declared.event.ServerEvent.TheVariants.{FromPeer};
 ghost use Rattle.fs_server.specs.Lent.{IsReady};
+ghost use Rattle.fs_server.specs.Moves.{peer_step};
 ghost use Rattle.fs_server.specs.Server.{to_session};
 ghost use Rattle.fs_server.specs.Step.{CanBeTold, counter_over, event_step, message_step};
 
@@ -22,7 +23,6 @@ use crate::recalls::recall_all;
 use crate::ships::ship;
 use fs_ident::{LeaseNo, List, Memory, Peer, Session};
 use fs_msg::{Answer, ClientMsg, CoreError, Msg, PeerMsg, ServerNote};
-use fs_record::Parcel;
 use std::alloc::Global;
 
 /// What an event was decided to come to.
@@ -49,17 +49,24 @@ pub(crate) fn decide(
         ServerEvent::FromClient(by, m) => message(alloc, at, *by, m),
         ServerEvent::Turn => turn(alloc, at),
         ServerEvent::Recall(field) => Ok(recall_all(alloc, at, field)?),
-        ServerEvent::FromPeer(_, m) => Ok(installs(alloc, at, parcel(m))?),
+        ServerEvent::FromPeer(from, m) => Ok(from_peer(alloc, at, *from, m)?),
         ServerEvent::Move { prefix, to } => Ok(move_to(alloc, at, prefix, *to)?),
     }
 }
 
-/// The parcel that the message hands over.
-pub(crate) fn parcel(m: &PeerMsg) -> &Parcel
-    ensures { m.now ≡ peer.Parcel result.now }
+/// What a message of another server comes to. No server leads an operation yet.
+fn from_peer(alloc: Global, at: &AtReading<'_>, from: u8, m: &PeerMsg) -> Result<Decided, Memory>
+    requires ready { IsReady at.now }
+    requires told { CanBeTold (FromPeer from m.now) }
+    ensures step { IfOk result (λ d. stepped_by d at.now ≡ peer_step m.now at.now) }
+    ensures can { IfOk result (λ d. CanDecide d at.now) }
 {
     match m {
-        PeerMsg::Parcel { parcel } => parcel,
+        PeerMsg::Parcel { parcel } => installs(alloc, at, parcel),
+        PeerMsg::Prepare { prepare: _ } => Ok(strange(alloc)),
+        PeerMsg::Vote { voted: _ } => Ok(strange(alloc)),
+        PeerMsg::Decide { decide: _ } => Ok(strange(alloc)),
+        PeerMsg::Done { done: _ } => Ok(strange(alloc)),
     }
 }
 
@@ -81,6 +88,7 @@ fn message(
         ClientMsg::Renew { pairs } => Ok(renew(alloc, at, by, pairs)?),
         ClientMsg::Release { pairs } => Ok(release(alloc, at, by, pairs)?),
         ClientMsg::Ship { entries } => Ok(ship(alloc, at, by, entries)?),
+        ClientMsg::Lead { lead: _ } => Ok(strange(alloc)),
     }
 }
 

@@ -22,11 +22,11 @@ use Rattle.fs_txn.specs.Guards.{HasLocked, IsGuarded, is_enough}
 first_meets : (a k l n m : Bool) → a ≡ true → k ≡ true → ((a && (k || l)) || ((n && l) || (m && k))) ≡ true
 first_meets a k l n m h s = ap (λ x. (x && (k || l)) || ((n && l) || (m && k))) h ∙ ap (λ x. (x || l) || ((n && l) || (m && x))) s
 
-enough_is : (k : LeaseKind) → is_enough Exclusive k ≡ true → is_exclusive k ≡ true
+pub enough_is : (k : LeaseKind) → is_enough Exclusive k ≡ true → is_exclusive k ≡ true
 enough_is Shared h = absurd (cc h)
 enough_is Exclusive h = refl
 
-turned : (x y : ℕ) → (x == y) ≡ false → (y == x) ≡ false
+pub turned : (x y : ℕ) → (x == y) ≡ false → (y == x) ≡ false
 turned x y h = by (y == x) refl
   where
     by : (b : Bool) → (y == x) ≡ b → b ≡ false

@@ -7,4 +7,8 @@ pub mod HomeTold
 pub mod Swaps
 pub mod Past
 pub mod Guarded
+pub mod GrantsTrue
 pub mod Shared
+pub mod Keys
+pub mod Telling
+pub mod Locked

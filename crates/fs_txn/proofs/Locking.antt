@@ -23,7 +23,7 @@ use Rattle.fs_field.specs.declared.vote.Vote.TheVariants.{Yes}
 use Rattle.fs_map.specs.Map.{Owners, longest, server_of}
 use Rattle.fs_txn.specs.Preparing.{first_gone, has_row, is_used, moved_to, path_against, row_locked, rows_locked, rows_voted, table_of, uses_of_modes, uses_off, vote_by, vote_on}
 
-abbrev locked : TxnNo → Row → Row
+abbrev pub locked : TxnNo → Row → Row
 locked txn r = record r { lock = Some txn }
 
 -- ## One more lease
@@ -33,7 +33,7 @@ never true x y = refl
 never false x y = refl
 
 -- a row that is locked already stays as it is
-stays : (txn : TxnNo) (us : List Use) (r : Row) → is_some r.lock ≡ true → row_locked txn us r ≡ r
+pub stays : (txn : TxnNo) (us : List Use) (r : Row) → is_some r.lock ≡ true → row_locked txn us r ≡ r
 stays txn us r e = ap (λ s. cond (is_used us r && not s) (locked txn r) r) e ∙ never (is_used us r) (locked txn r) r
 
 -- a row that is locked for one lease, and then for the others, is locked for all of them
@@ -82,7 +82,7 @@ lease_stays number by field kind txn us r = at (is_used us r && not (is_some r.l
     at true = refl
     at false = refl
 
-used_by : (us : List Use) (u : Use) (r : Row) → In u us → has_no u.no r ≡ true → is_used us r ≡ true
+pub used_by : (us : List Use) (u : Use) (r : Row) → In u us → has_no u.no r ≡ true → is_used us r ≡ true
 used_by [] u r i h = absurd i
 used_by (x ∷ xs) u r (inl e) h = ap (λ (y : Use). has_no y.no r || is_used xs r) (sym e) ∙ ap (λ b. b || is_used xs r) h
 used_by (x ∷ xs) u r (inr i) h = at (has_no x.no r) (used_by xs u r i h)

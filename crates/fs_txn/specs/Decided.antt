@@ -1,11 +1,11 @@
 -- Effects that were decided, on their way to the servers of their files.
-use Rattle.std.specs.Prelude.{◌≡◌, ◌≢◌, List, None}
+use Rattle.std.specs.Prelude.{◌≡◌, ◌≢◌, ◌++◌, Bool, not, List, filter, None}
 use Rattle.fs_ident.specs.In.{In}
 use Rattle.fs_field.specs.After.{changed_file}
 use Rattle.fs_field.specs.declared.effect.Effect.{Effect}
 use Rattle.fs_field.specs.declared.effect.Effect.TheVariants.{SetChild, SetParent, NewNode, RemoveNode}
 use Rattle.fs_record.specs.Applied.{records_after_all}
-use Rattle.fs_record.specs.Records.{RecordMap}
+use Rattle.fs_record.specs.Records.{AreRecords, RecordMap}
 
 -- what is decided for another server than the leader: a name goes, a file gets its place, or a file goes
 abbrev pub IsDecided : Effect → Type 0
@@ -40,3 +40,17 @@ AreApart ds es = (d e : Effect) → In d ds → In e es → IsApart d e
 -- what all servers hold together: the records, with what was decided
 abbrev pub held_with : List Effect → RecordMap → RecordMap
 held_with decided m = records_after_all m decided
+
+-- the effects that go to other servers, and those that stay with the leader
+abbrev pub going : (Effect → Bool) → List Effect → List Effect
+going goes es = filter goes es
+
+abbrev pub staying : (Effect → Bool) → List Effect → List Effect
+staying goes es = filter (λ e. not (goes e)) es
+
+-- a commit that applies those that stay and sends the others is one step of what all hold, by all effects in their order
+abbrev pub SplitIsOneStep : Type 0
+SplitIsOneStep =
+    (m : RecordMap) (decided es : List Effect) (goes : Effect → Bool) → AreRecords m → AreDecided decided → AreDecided (going goes es)
+    → AreApart decided (staying goes es) → AreApart (going goes es) (staying goes es)
+    → held_with (decided ++ going goes es) (records_after_all m (staying goes es)) ≡ records_after_all (held_with decided m) es

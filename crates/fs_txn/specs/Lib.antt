@@ -4,4 +4,8 @@ pub mod Votes
 pub mod Deciding
 pub mod Decided
 pub mod Guards
+pub mod Grants
 pub mod Numbers
+pub mod Stages
+pub mod Telling
+pub mod Locks

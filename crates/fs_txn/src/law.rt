@@ -24,8 +24,9 @@ ghost use Rattle.fs_record.specs.Applied.{records_after_all};
 ghost use Rattle.fs_record.specs.LedEffects.{led_effects};
 ghost use Rattle.fs_record.specs.Records.{AreRecords, RecordMap};
 ghost use Rattle.fs_record.specs.declared.led_end.LedEnd.{LedEnd};
-ghost use Rattle.fs_txn.specs.Decided.{AreApart, AreDecided, IsApart, held_with};
+ghost use Rattle.fs_txn.specs.Decided.{AreApart, AreDecided, IsApart, SplitIsOneStep, held_with};
 ghost use Rattle.fs_txn.specs.Deciding.{decision, effects_on, told_effects};
+ghost use Rattle.fs_txn.specs.Grants.{GrantIsTrue};
 ghost use Rattle.fs_txn.specs.Guards.{IsGuarded};
 ghost use Rattle.fs_txn.specs.Parts.{parts_of, source_of};
 ghost use Rattle.fs_txn.specs.Preparing.{rows_voted, table_of, uses_of_modes, uses_off, vote_on};
@@ -102,6 +103,12 @@ pub fn decided_effects_go_past()
         held_with (front ++ (its ++ back)) m }
 {}
 
+/// A commit that applies the effects of the leader's own parts and sends the others, whichever these are, is one step of what all
+/// servers hold together: all its effects in their order.
+pub fn a_split_commit_is_one_step()
+    ensures { SplitIsOneStep }
+{}
+
 /// Effects that are decided for two sessions are apart while both have their rows locked.
 pub fn guarded_effects_are_apart()
     ensures { (rows : List Row) (held : NodeMap) (x y : Session) (d e : Effect) →
@@ -117,4 +124,10 @@ pub fn parts_share_all_effects()
         flat_map (λ (a : Part). effects_on (led_effects op file reply) a.file)
         (parts_of op file uses mode) ≡
         led_effects op file reply }
+{}
+
+/// What a server tells with a lease that it gives is what all servers hold together, though effects that were decided for other
+/// sessions are still on their way to its records; but for size and stamp of a file that goes.
+pub fn a_grant_is_true()
+    ensures { GrantIsTrue }
 {}

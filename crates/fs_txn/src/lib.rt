@@ -5,21 +5,25 @@ mod deciding;
 mod decision;
 mod law;
 mod leader;
+mod locks;
 mod mode;
 mod number;
 mod parting;
 mod preparing;
+mod stages;
 mod tally;
 
 pub use decision::Decision;
 pub use law::{
-    a_commit_has_every_yes, a_part_votes_once, a_yes_locks_every_lease, aborts_have_no_effects,
-    decided_effects_go_past, guarded_effects_are_apart, parts_are_told_apart,
-    parts_share_all_effects,
+    a_commit_has_every_yes, a_grant_is_true, a_part_votes_once, a_split_commit_is_one_step,
+    a_yes_locks_every_lease, aborts_have_no_effects, decided_effects_go_past,
+    guarded_effects_are_apart, parts_are_told_apart, parts_share_all_effects,
 };
 pub use leader::Leader;
+pub use locks::steps_keep_locks;
 pub use mode::Mode2;
 pub use number::next_txn;
 pub use parting::parts;
 pub use preparing::prepare;
+pub use stages::words_keep_stages;
 pub use tally::Tally;

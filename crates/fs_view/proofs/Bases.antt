@@ -44,7 +44,7 @@ either true false x = refl
 either false true x = refl
 either false false x = refl
 
-knows : (s : Session) (log : List (List Effect)) (st : Standing) (base : Value) (recalled : Bool) (below : Option (List ℕ)) → knowing_all s log (kept st base recalled below) ≡ kept st (base_after_log s log st base) recalled (below_after_log log st below)
+pub knows : (s : Session) (log : List (List Effect)) (st : Standing) (base : Value) (recalled : Bool) (below : Option (List ℕ)) → knowing_all s log (kept st base recalled below) ≡ kept st (base_after_log s log st base) recalled (below_after_log log st below)
 knows s [] (Held l) base recalled below = refl
 knows s [] (Pinned u) base recalled below = refl
 knows s [] (Leaving l) base recalled below = refl

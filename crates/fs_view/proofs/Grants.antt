@@ -1,5 +1,5 @@
 -- Leases that are granted, one after another.
-use Rattle.std.proofs.Common.{◌≡◌, ◌&&◌, true, not, List, [], ◌∷◌, ◌++◌, ap, map, sym, ◌∙◌, append_assoc}
+use Rattle.std.proofs.Common.{◌≡◌, ◌&&◌, true, false, not, List, [], ◌∷◌, ◌++◌, ap, map, sym, ◌∙◌, append_assoc}
 use Rattle.std.specs.List.{list_any}
 use Rattle.std.proofs.lemmas.Bool.{not-true}
 use Rattle.fs_ident.proofs.Booleans.{both}
@@ -15,6 +15,12 @@ pub record Adding (new : List NewLease) (leases all : List Kept) : Type 0 where
   pub fits : can_grant_all new leases ≡ true
   pub distinct : are_distinct leases ≡ true
   pub added : leases ++ map kept_new new ≡ all
+
+-- the first has a number that no lease has
+pub one_new : (x : NewLease) (rest new : List NewLease) (before : List Kept) → new ≡ x ∷ rest → can_grant_all new before ≡ true → list_any (has_number x.no) before ≡ false
+one_new x rest new before e h =
+    let q = both (is_value_of x.field x.value && not (list_any (has_number x.no) before)) (can_grant_all rest (before ++ kept_new x ∷ [])) (ap (λ xs. can_grant_all xs before) (sym e) ∙ h) in
+    not-true (list_any (has_number x.no) before) (both (is_value_of x.field x.value) (not (list_any (has_number x.no) before)) q.0).1
 
 pub one_added : (x : NewLease) (rest new : List NewLease) (k : Kept) (before after all : List Kept) → new ≡ x ∷ rest → k ≡ kept_new x → after ≡ before ++ k ∷ [] → Adding new before all → Adding rest after all
 one_added x rest new k before after all e is put a =

@@ -12,6 +12,7 @@ pub mod Reading
 pub mod Seeing
 pub mod Unread
 pub mod Unseen
+pub mod LedValues
 pub mod Pins
 pub mod Lapsed
 pub mod Counting
@@ -19,3 +20,9 @@ pub mod Order
 pub mod Grants
 pub mod Best
 pub mod Agreeing
+mod LedNeeds
+mod ByField
+mod Finding
+mod Indexing
+mod Ending
+mod Found

@@ -77,7 +77,7 @@ none_removed number (k ∷ ks) h =
     ap (λ b. cond (not b) (k ∷ filter (λ j. not (has_number number j)) ks) (filter (λ j. not (has_number number j)) ks)) q.0 ∙ ap (λ rest. k ∷ rest) (none_removed number ks q.1)
 
 -- behind the first lease of a number there is no other
-alone : (number : LeaseNo) (k : Kept) (ks : List Kept) → has_number number k ≡ true → are_distinct (k ∷ ks) ≡ true → list_any (has_number number) ks ≡ false
+pub alone : (number : LeaseNo) (k : Kept) (ks : List Kept) → has_number number k ≡ true → are_distinct (k ∷ ks) ≡ true → list_any (has_number number) ks ≡ false
 alone number k ks h d =
     let q : (not (list_any (has_number (number_of k.standing)) ks) ≡ true) × (are_distinct ks ≡ true) = both _ (are_distinct ks) d in
     ap (λ (n : LeaseNo). list_any (has_number n) ks) (sym (same_no_is (number_of k.standing) number h)) ∙ not-true (list_any (has_number (number_of k.standing)) ks) q.0
@@ -112,7 +112,7 @@ changed_by f same false k = refl
 pub distinct_at : (number : LeaseNo) (f : Kept → Kept) → ((k : Kept) → number_of (f k).standing ≡ number_of k.standing) → (ks : List Kept) → are_distinct (at_number number f ks) ≡ are_distinct ks
 distinct_at number f same ks = distinct_map (λ k. cond (has_number number k) (f k) k) (λ k. changed_by f same (has_number number k) k) ks
 
-any_filter : (n : LeaseNo) (test : Kept → Bool) (ks : List Kept) → list_any (has_number n) ks ≡ false → list_any (has_number n) (filter test ks) ≡ false
+pub any_filter : (n : LeaseNo) (test : Kept → Bool) (ks : List Kept) → list_any (has_number n) ks ≡ false → list_any (has_number n) (filter test ks) ≡ false
 any_filter n test [] h = refl
 any_filter n test (k ∷ ks) h =
     let q : (has_number n k ≡ false) × (list_any (has_number n) ks ≡ false) = neither (has_number n k) _ h in

@@ -60,7 +60,7 @@ own_taken s md h [] = refl
 own_taken s md h (x ∷ xs) = taken_by s md x (without_handle xs s h) xs (x.session.0 == s.0) (x.h == h) refl (own_taken s md h xs)
 
 -- the others' modes on the file of the effect stay
-abbrev OthersStay : Session → Effect → Option Node → Type 0
+abbrev pub OthersStay : Session → Effect → Option Node → Type 0
 OthersStay s e o = (md : Mode) → others_have s md (handles_of (node_change e o)) ≡ others_have s md (handles_of o)
 
 child_stays : (s : Session) (dir name id : List ℕ) (o : Option Node) → OthersStay s (SetChild dir name (Some id)) o
@@ -98,7 +98,7 @@ other_stays m s f md e stays =
     go false t = refl
 
 -- what the session itself sees after one of its effects
-follow : (m : RecordMap) (s : Session) (field : Field) (e : Effect) → AreRecords m → has_target m e ≡ true → OthersStay s e (node_of (get m (changed_file e))) → value_of (records_after m e) s field ≡ value_after s field (value_of m s field) e
+pub follow : (m : RecordMap) (s : Session) (field : Field) (e : Effect) → AreRecords m → has_target m e ≡ true → OthersStay s e (node_of (get m (changed_file e))) → value_of (records_after m e) s field ≡ value_after s field (value_of m s field) e
 follow m s (Life f) e own met stays = value_follows m s (Life f) e own refl met
 follow m s (Child f n) e own met stays = value_follows m s (Child f n) e own refl met
 follow m s (Names f) e own met stays = value_follows m s (Names f) e own refl met

@@ -53,7 +53,7 @@ front false c h = refl
 
 -- ## What no exclusive item meets is not touched
 
-child_untouched : (field : Field) (kind : LeaseKind) (dir name : List ℕ) (to : Option (List ℕ)) → meets field kind (Child dir name) Exclusive ≡ false → touches (SetChild dir name to) field ≡ false
+pub child_untouched : (field : Field) (kind : LeaseKind) (dir name : List ℕ) (to : Option (List ℕ)) → meets field kind (Child dir name) Exclusive ≡ false → touches (SetChild dir name to) field ≡ false
 child_untouched (Life f) kind dir name to h = refl
 child_untouched (Child d n) Shared dir name to h = front (same d dir && same n name) _ h
 child_untouched (Child d n) Exclusive dir name to h = front (same d dir && same n name) _ h
@@ -64,7 +64,7 @@ child_untouched (Own f) kind dir name to h = refl
 child_untouched (SelfW f m) kind dir name to h = refl
 child_untouched (Other f m) kind dir name to h = refl
 
-life_untouched : (f : List ℕ) (kind : LeaseKind) (id : List ℕ) → meets (Life f) kind (Life id) Exclusive ≡ false → same f id ≡ false
+pub life_untouched : (f : List ℕ) (kind : LeaseKind) (id : List ℕ) → meets (Life f) kind (Life id) Exclusive ≡ false → same f id ≡ false
 life_untouched f Shared id h = front (same f id) _ h
 life_untouched f Exclusive id h = front (same f id) _ h
 
@@ -134,7 +134,7 @@ new_unseen m y (Other f md) kind id k dir name own none h = new_unseen_by m y (O
 -- ## Operations
 
 -- no exclusive item of this part of the walk meets the field
-abbrev Free : RecordMap → Session → Field → LeaseKind → Script → Type 0
+abbrev pub Free : RecordMap → Session → Field → LeaseKind → Script → Type 0
 Free m s field kind script = list_any (item_meets field kind) (walk_along (known_in (nodes_of m) s) always script).items ≡ false
 
 -- the other session sees of the field what it saw before the outcome's effects

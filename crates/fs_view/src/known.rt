@@ -3,17 +3,22 @@ ghost use Rattle.std.specs.Prelude.{◌≡◌, None, is_some, find, option_map, 
 ghost use Rattle.std.specs.List.{list_any};
 ghost use Rattle.std.specs.Option.{option_copied};
 ghost use Rattle.fs_field.specs.Table.{is_parent};
-ghost use Rattle.fs_view.specs.Kept.{has_number, is_better, is_pending, is_unused_in, makes, offers};
+ghost use Rattle.fs_view.specs.Kept.{is_better, is_pending, is_unused_in, makes, offers};
 ghost use Rattle.fs_view.specs.View.{taken_from, value_after_all, value_after_log};
 
 use crate::kept::{Kept, Standing};
 use fs_field::{Effect, Field, LeaseKind, Value, apply};
-use fs_ident::{FileId, LeaseNo, List, Memory, Session};
+use fs_ident::{FileId, List, Memory, Session};
 use std::alloc::Global;
 
 /// The lease that is taken for the field at the reading: of those that serve for it the one that ends last, and of
 /// several that end together the one with the least number.
-pub fn taken<'a>(leases: &'a [Kept], now: u64, field: &Field, kind: LeaseKind) -> Option<&'a Kept>
+pub fn taken_of<'a>(
+    leases: &'a [Kept],
+    now: u64,
+    field: &Field,
+    kind: LeaseKind,
+) -> Option<&'a Kept>
     ensures { option_copied result ≡ taken_from now field.now kind None leases.now }
 {
     let mut best: Option<&'a Kept> = None;
@@ -25,7 +30,8 @@ pub fn taken<'a>(leases: &'a [Kept], now: u64, field: &Field, kind: LeaseKind) -
     best
 }
 
-fn is_better(kept: &Kept, best: Option<&Kept>) -> bool
+/// Whether it is taken before the best so far.
+pub fn is_better(kept: &Kept, best: Option<&Kept>) -> bool
     ensures { result ≡ is_better kept.now (option_copied best.entry) }
 {
     match best {
@@ -139,24 +145,4 @@ fn makes(file: &FileId, e: &Effect) -> bool
         } => new == file,
         _ => false,
     }
-}
-
-/// The lease of this number.
-#[tactic(auto, using(crate::proofs::Steps::find_step))]
-pub fn numbered(leases: &[Kept], no: LeaseNo) -> Option<&Kept>
-    ensures { option_copied result ≡ find (has_number no) leases.now }
-{
-    for kept in leases {
-        if kept.standing.no() == no {
-            return Some(kept);
-        }
-    }
-    None
-}
-
-/// Whether a lease has this number.
-pub fn has_number(leases: &[Kept], no: LeaseNo) -> bool
-    ensures { result ≡ list_any (has_number no) leases.now }
-{
-    leases.iter().any(|kept| kept.standing.no() == no)
 }

@@ -14,6 +14,7 @@ ghost use Rattle.fs_record.specs.Effects.{effects_of, tells_its_effects};
 ghost use Rattle.fs_record.specs.Records.{AreRecords, RecordMap, nodes_of};
 ghost use Rattle.fs_record.specs.ValueOf.{is_other, value_of};
 ghost use Rattle.fs_view.specs.Laws.{AgreeOn, AreAnsweredAlike, but_cycle, HasAll, IsBestOf, IsUnborn, IsNewWhereMade, have_room, item_meets};
+ghost use Rattle.fs_view.specs.LedLaws.{LedValuesFollow, LedValuesStay};
 ghost use Rattle.fs_view.specs.declared.kept.Kept.{Kept};
 ghost use Rattle.fs_view.specs.Kept.{serves};
 ghost use Rattle.fs_record.specs.Applied.{records_after_all};
@@ -77,6 +78,14 @@ pub fn other_values_stay()
         list_any (item_meets field kind) (walk (known_in (nodes_of m) by) always op).items ≡ false →
         value_of (records_after_all m (effects_of by op reply)) other field ≡
         value_of m other field }
+{}
+
+/// After the effects of a delete or a rename that got its reply any session sees of every field what the effects make of the
+/// value that it saw. That is what it saw, unless an exclusive item of the operation meets the field, or the field is size
+/// and stamp of a file that went.
+pub fn led_values_follow()
+    ensures follow { LedValuesFollow }
+    ensures stay { LedValuesStay }
 {}
 
 /// The leases that an operation is answered from take an entry more each, where no lease has too many already.

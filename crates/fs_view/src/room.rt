@@ -1,17 +1,19 @@
 //! Whether entries more can use leases.
 ghost use Rattle.std.specs.Prelude.{◌≡◌, ◌+◌, ◌≤◌, length};
+ghost use Rattle.fs_view.specs.Index.{AreFound};
 ghost use Rattle.fs_view.specs.Kept.{has_number, takes_pin};
 ghost use Rattle.fs_view.specs.Pins.{takes_after, times_in};
 ghost use Rattle.fs_view.specs.View.{can_pin_all, stands};
 
-use crate::kept::{Kept, Standing};
-use crate::known::numbered;
+use crate::kept::Standing;
+use crate::leases::{Leases, numbered};
 use fs_field::Use;
 use fs_ident::LeaseNo;
 
 /// Whether one entry more can use each of these leases, one after another.
-pub fn can_pin_all(leases: &[Kept], uses: &[Use]) -> bool
-    ensures { result ≡ can_pin_all uses.now leases.now }
+pub(crate) fn can_pin_all(leases: &Leases, uses: &[Use]) -> bool
+    requires { AreFound leases.now }
+    ensures { result ≡ can_pin_all uses.now leases.now.kept.items }
 {
     for at in 0..uses.len() {
         let no = uses[at].no;
@@ -37,8 +39,9 @@ fn times_in(uses: &[Use], no: LeaseNo) -> u64
 }
 
 /// Whether one entry more can use the lease of this number when so many more do.
-fn takes_after(leases: &[Kept], no: LeaseNo, more: u64) -> bool
-    ensures { result ≡ stands (takes_after more) no leases.now }
+fn takes_after(leases: &Leases, no: LeaseNo, more: u64) -> bool
+    requires { AreFound leases.now }
+    ensures { result ≡ stands (takes_after more) no leases.now.kept.items }
 {
     match numbered(leases, no) {
         None => false,

@@ -1,23 +1,24 @@
 //! What a client knows.
-ghost use Rattle.std.specs.Prelude.{◌≡◌, ◌<◌, [], ◌∷◌, ◌++◌, true, false, is_some, length, map, Some, find, IfOk, OnOk, OnErr};
-ghost use Rattle.std.specs.List.{list_any};
+ghost use Rattle.std.specs.Prelude.{◌≡◌, ◌<◌, ◌||◌, nat_lt, [], ◌∷◌, ◌++◌, true, false, is_some, length, map, Some, find, IfOk, OnOk, OnErr};
+ghost use Rattle.std.specs.List.{list_all, list_any};
 ghost use Rattle.std.specs.Option.{option_copied};
 ghost use Rattle.fs_field.specs.Value.{is_value_of};
-ghost use Rattle.fs_view.specs.Kept.{has_number, seen_of, takes_pin, is_held, is_pinned, is_leaving};
+ghost use Rattle.fs_view.specs.Kept.{has_number, seen_of, takes_pin, is_held, is_pinned, is_leaving, until_of};
+ghost use Rattle.fs_view.specs.declared.kept.Kept.{Kept as TheKept};
 ghost use Rattle.fs_view.specs.View.{admitted_front, are_distinct, can_grant_all, can_pin_all, is_in_hand, stands, lapsed_at, given_up, with_grant, with_grants, fresh, given_by, known_by, offered, taken, with_pins, without_pins, with_entry, with_admitted, with_first_admitted, with_recall, with_leaving, without_lease, with_end};
 
 use crate::admit::{admit, drop_front, front};
-use crate::change::{
-    Change, change_at, copy_all, discard_all, lapse, pin_all, put, release, unpin_all,
-};
-use crate::kept::{Kept, Standing};
-use crate::known::{after_log, has_number, numbered, offered, taken};
-use crate::new_lease::{NewLease, add_all};
+use crate::change::{Change, change_at, pin_all, release, unpin_all};
+use crate::ends::{self, lapse};
+use crate::kept::Kept;
+use crate::known::{after_log, offered};
+use crate::leases::{self, Leases, numbered, reserve};
+use crate::new_lease::{NewLease, add_all, add_one};
 use crate::room::can_pin_all;
 use crate::seen::Seen;
+use crate::twin;
 use fs_field::{Effect, Field, LeaseKind, Use, Value};
 use fs_ident::{FileId, LeaseNo, List, Memory, Session, Twin};
-use fs_lease::Held;
 use std::alloc::Global;
 use std::marker::Model;
 use std::slice;
@@ -27,20 +28,20 @@ use std::slice;
 #[derive(Debug)]
 pub struct View {
     session: Session,
-    leases: Vec<Kept>,
+    leases: Leases,
     pending: List<List<Effect>>,
 }
 
 impl Model for View {
-    ghost use Rattle.std.specs.Prelude.{◌≡◌, true};
-    ghost use Rattle.fs_view.specs.View.{View as Knowing, are_distinct};
+    ghost use Rattle.fs_view.specs.Index.{AreFound};
+    ghost use Rattle.fs_view.specs.View.{View as Knowing};
 
     ghost Value = { Knowing };
 
     ghost view = { λ v.
-        record { session = v.session; leases = v.leases.items; pending = v.pending } };
+        record { session = v.session; leases = v.leases.kept.items; pending = v.pending } };
 
-    ghost invariant = { λ v. are_distinct v.leases.items ≡ true };
+    ghost invariant = { λ v. AreFound v.leases };
 }
 
 impl View {
@@ -50,7 +51,7 @@ impl View {
     {
         View {
             session,
-            leases: Vec::new(alloc),
+            leases: Leases::new(alloc),
             pending: List::new(alloc),
         }
     }
@@ -61,7 +62,7 @@ impl View {
         ensures { IfOk result (λ seen. seen ≡ map seen_of self.now.leases) }
     {
         let mut seen = List::new(alloc);
-        for kept in &self.leases {
+        for kept in &self.leases.kept {
             seen.push(kept.seen(alloc)?)?;
         }
         Ok(seen)
@@ -71,7 +72,7 @@ impl View {
     pub fn kept(&self) -> &[Kept]
         ensures { result.now ≡ self.now.leases }
     {
-        &self.leases
+        &self.leases.kept
     }
 
     /// The lease of this number, if there is one.
@@ -85,7 +86,23 @@ impl View {
     pub fn has(&self, no: LeaseNo) -> bool
         ensures { result ≡ list_any (has_number no) self.now.leases }
     {
-        has_number(&self.leases, no)
+        leases::has(&self.leases, no)
+    }
+
+    /// Whether a lease has this number once those are given up that no entry uses and that are over at the reading.
+    pub fn has_at(&self, now: u64, no: LeaseNo) -> bool
+        ensures { result ≡ list_any (has_number no) (lapsed_at now self.now).leases }
+    {
+        leases::has_live(&self.leases, now, no)
+    }
+
+    /// Whether a lease that does not go back may end at this reading or before. Where not, none does.
+    pub fn may_end(&self, soon: u64) -> bool
+        ensures { result ≡ false → list_all
+            (λ (k : TheKept). is_leaving k.standing || nat_lt soon (until_of k.standing))
+            self.now.leases ≡ true }
+    {
+        ends::may_end(&self.leases, soon)
     }
 
     /// Whether the lease of this number is there and no entry uses it.
@@ -147,28 +164,34 @@ impl View {
             None => None,
             Some(dir) => Some(dir.copy(alloc)?),
         };
-        let field = field.copy(alloc)?;
-        self.leases.reserve(1)?;
-        let kept = Kept {
-            standing: Standing::Held(Held::new(no, field, kind, until)),
-            base: value,
-            recalled: false,
+        let lease = NewLease {
+            no,
+            field: field.copy(alloc)?,
+            kind,
+            until,
+            value,
             below,
         };
-        put(&mut self.leases, kept);
+        reserve(&mut self.leases, 1)?;
+        add_one(&mut self.leases, alloc, lease);
         Ok(())
     }
 
     /// What is over at the reading is given up, and these leases are added behind the others, held. `Memory` where
     /// memory is wanting; nothing changed then.
-    pub fn grant_all(&mut self, now: u64, leases: List<NewLease>) -> Result<(), Memory>
+    pub fn grant_all(
+        &mut self,
+        alloc: Global,
+        now: u64,
+        leases: List<NewLease>,
+    ) -> Result<(), Memory>
         requires { can_grant_all leases (lapsed_at now self.old).leases ≡ true }
         ensures ok { OnOk result (self.new ≡ with_grants leases (lapsed_at now self.old)) }
         ensures err { OnErr result (self.new ≡ self.old) }
     {
-        self.leases.reserve(leases.len())?;
+        reserve(&mut self.leases, leases.len())?;
         lapse(&mut self.leases, now);
-        add_all(&mut self.leases, leases);
+        add_all(&mut self.leases, alloc, leases);
         Ok(())
     }
 
@@ -230,7 +253,7 @@ impl View {
         ensures err { OnErr result (self.new ≡ self.old) }
     {
         let admitted = front(self.pending.as_slice(), count);
-        admit(&mut self.leases, alloc, self.session, admitted)?;
+        admit(&mut self.leases.kept, alloc, self.session, admitted)?;
         drop_front(self.pending.items_mut(), count);
         Ok(())
     }
@@ -242,7 +265,7 @@ impl View {
         ensures err { OnErr result (self.new ≡ self.old) }
     {
         admit(
-            &mut self.leases,
+            &mut self.leases.kept,
             alloc,
             self.session,
             slice::from_ref(effects),
@@ -331,7 +354,7 @@ impl View {
     pub fn taken(&self, now: u64, field: &Field, kind: LeaseKind) -> Option<&Kept>
         ensures { option_copied result ≡ taken self.now now field.now kind }
     {
-        taken(&self.leases, now, field, kind)
+        leases::taken(&self.leases, now, field, kind)
     }
 
     /// The first lease that offers an identifier below the directory at the reading.
@@ -339,7 +362,7 @@ impl View {
     pub fn offered(&self, now: u64, dir: &FileId) -> Option<&Kept>
         ensures { option_copied result ≡ offered self.now now dir.now }
     {
-        offered(&self.leases, now, dir, self.pending.as_slice())
+        offered(&self.leases.kept, now, dir, self.pending.as_slice())
     }
 
     /// Spends every lease, with the whole core that has them.
@@ -349,7 +372,7 @@ impl View {
             leases,
             pending: _,
         } = self;
-        discard_all(leases);
+        twin::discard(leases);
     }
 }
 
@@ -358,7 +381,7 @@ impl Twin for View {
         let pending = self.pending.copy(alloc)?;
         Ok(View {
             session: self.session,
-            leases: copy_all(alloc, &self.leases)?,
+            leases: twin::copy(alloc, &self.leases)?,
             pending,
         })
     }

@@ -4,7 +4,9 @@ pub mod Says
 pub mod Behind
 pub mod Wires
 pub mod NumberWires
+pub mod Codes
 pub mod SmallWires
+pub mod IdWires
 pub mod NameWires
 pub mod NextWires
 pub mod FieldWires

@@ -1,165 +1,23 @@
--- Identifiers and names.
-use Rattle.std.proofs.Common.{◌≡◌, ℕ, zero, suc, ◌+◌, ◌-◌, ◌<◌, ◌≤◌, ◌^◌, ◌⊎◌, inl, inr, Bool, true, false, not, cond, ltb, leb, List, [], ◌∷◌, ◌++◌, length, get_or, take, drop, flat_map, Option, Some, None, Result, Ok, Err, refl, sym, ap, subst, ◌∙◌, append_assoc, arith, nat_eq, length-append}
+-- Names; and beside them the identifiers of IdWires.
+use Rattle.std.proofs.Common.{◌≡◌, ℕ, zero, suc, ◌+◌, ◌-◌, ◌<◌, ◌≤◌, ◌⊎◌, inl, inr, Bool, true, false, not, cond, ltb, leb, List, [], ◌∷◌, ◌++◌, length, get_or, take, drop, Option, Some, None, Result, Ok, Err, refl, sym, ap, subst, ◌∙◌, append_assoc, arith, nat_eq, length-append}
 use Rattle.std.specs.List.{AllByRecursion, position_from}
-use Rattle.std.specs.Int.{w32, from_be_bytes}
 use Rattle.std.specs.Cmp.Lexicographic.{pointwise, same_text}
-use Rattle.std.proofs.Math.Seq.{take-append-add, get_or-append_seam}
+use Rattle.std.proofs.Math.Seq.{take-append-add}
 use Rattle.std.proofs.lemmas.Bool.{ltb-true, ltb-false, lt-ltb, le-ltb, leb-true, le-leb, or_cases}
 use Rattle.std.proofs.lemmas.List.{append-nil, take_at, drop_at, take_all, take-append-drop, length-take}
-use Rattle.std.proofs.lemmas.List.Elements.{All-from_recursion, recursion_from_All}
 use Rattle.std.proofs.lemmas.Iterator.Adapters.{position_from-zero}
-use Rattle.fs_ident.specs.Ident.{IsId, IsNumber}
 use Rattle.fs_ident.specs.Name.{IsName, is_name_byte, first_bad, is_dots}
 use Rattle.fs_ident.proofs.Options.{cond_none}
 use Rattle.fs_wire.specs.declared.fault.Fault.{Fault}
-use Rattle.fs_wire.specs.Spelling.{four, identifier, name}
-use Rattle.fs_wire.specs.Ranges.{IsBytes, FitsFour}
+use Rattle.fs_wire.specs.Spelling.{name}
+use Rattle.fs_wire.specs.Ranges.{IsBytes}
 use Rattle.fs_wire.specs.Tags.{plain}
-use Rattle.fs_wire.specs.Readers.{◌>>=◌, stop, then_at, one_at, choice_at, number_at, four_at, many_at}
-use Rattle.fs_wire.specs.Reading.{unless_zero, id_number_at, identifier_at, chars_of, chars_at, name_at}
-use Rattle.fs_wire.proofs.Readers.{IsBytes-both, IsBytes-one, IsOne, bind_ok, bind_err, ok_is, Took, Stopped, GoesOn, IsReader, then-reader, one-reader, weaker}
-use Rattle.fs_wire.proofs.Says.{Says, says-then, says-one, says-many}
-use Rattle.fs_wire.proofs.Wires.{Spelled, IsWire, AreMany, many-reader, each-says, choice-reader, plain-false, length-plain}
-use Rattle.fs_wire.proofs.NumberWires.{zeros, length-zeros, IsBytes-zeros, wide32, number-failed, number-full, four-wire, plain-flat}
-
--- ---- a number of an identifier
-
-abbrev step : ℕ × List ℕ → Result (ℕ × List ℕ) Fault
-step x = unless_zero x.0 x.1
-
-step-took : (n : ℕ) (rest bytes : List ℕ) (x : ℕ × List ℕ) → Took four_at (Spelled FitsFour four) bytes (n, rest) → unless_zero n rest ≡ Ok x → Took id_number_at (Spelled IsNumber four) bytes x
-unfolding id_number_at then_at
-step-took zero rest bytes x t e = absurd cc
-step-took (suc n) rest bytes x t e =
-    let made : Took id_number_at (Spelled IsNumber four) bytes (suc n, rest) = record {
-      text = t.text;
-      is = record { fits = record { positive = omega arith; fits = t.is.fits }; text_is = t.is.text_is };
-      parts = t.parts;
-      again = λ m. ap (λ (z : Result (ℕ × List ℕ) Fault). z >>= step) (t.again m);
-    } in
-    subst (λ (z : ℕ × List ℕ). Took id_number_at (Spelled IsNumber four) bytes z) (ok_is (suc n, rest) x e) made
-
--- the last byte of a number is 0 and the three before are
-step-past : (bytes rest : List ℕ) → Took four_at (Spelled FitsFour four) bytes (0, rest) → (m : List ℕ) → id_number_at (0 ∷ 0 ∷ 0 ∷ 0 ∷ m) ≡ stop false (length (0 ∷ m))
-unfolding id_number_at then_at four
-step-past bytes rest t m =
-    let read : four_at (0 ∷ 0 ∷ 0 ∷ 0 ∷ m) ≡ Ok (0, m) = ap (λ (z : List ℕ). four_at (z ++ m)) (sym t.is.text_is) ∙ t.again m in
-    ap (λ (z : Result (ℕ × List ℕ) Fault). z >>= step) read ∙ ap (λ (z : ℕ). stop {A = ℕ × List ℕ} false z) (omega arith)
-
-step-begins : id_number_at (0 ∷ 0 ∷ 0 ∷ []) ≡ stop false 0
-unfolding id_number_at then_at four_at number_at
-step-begins = refl
-
-step-zero : (n : ℕ) (rest bytes : List ℕ) (f : Fault) → Took four_at (Spelled FitsFour four) bytes (n, rest) → unless_zero n rest ≡ Err f → Stopped id_number_at bytes f × (f.left ≡ 1 + length rest)
-unfolding four
-step-zero (suc n) rest bytes f t e = absurd cc
-step-zero zero rest bytes f t e =
-    let g : (record { left = 1 + length rest; tag = false }) ≡ f = cc in
-    let made : Stopped id_number_at bytes (record { left = 1 + length rest; tag = false }) = record {
-      front = 0 ∷ 0 ∷ 0 ∷ [];
-      rest = 0 ∷ rest;
-      parts = t.parts ∙ ap (λ (z : List ℕ). z ++ rest) t.is.text_is;
-      left = omega arith;
-      begins = step-begins;
-      past = λ b others h m. let same : 0 ≡ b = cc in subst (λ (z : ℕ). id_number_at (0 ∷ 0 ∷ 0 ∷ z ∷ m) ≡ stop false (length (z ∷ m))) same (step-past bytes rest t m);
-    } in
-    (subst (λ (z : Fault). Stopped id_number_at bytes z) g made, ap (λ (z : Fault). z.left) (sym g))
-
-step-stopped : (bytes : List ℕ) (f : Fault) → IsBytes bytes → (four_at bytes >>= step) ≡ Err f → Stopped id_number_at bytes f
-unfolding id_number_at then_at
-step-stopped bytes f fits e =
-    elim (bind_err (four_at bytes) step f e) [
-      | inl a ↦
-          let s = four-wire.reads.stopped bytes f fits a in
-          record {
-            front = s.front;
-            rest = s.rest;
-            parts = s.parts;
-            left = s.left;
-            begins = ap (λ (z : Result (ℕ × List ℕ) Fault). z >>= step) s.begins;
-            past = λ b others h m. ap (λ (z : Result (ℕ × List ℕ) Fault). z >>= step) (s.past b others h m);
-          }
-      | inr a ↦ (step-zero a.0.0 a.0.1 bytes f (four-wire.reads.took bytes a.0 fits a.1) a.2).0
-    ]
-
-not-zero : (n : ℕ) (rest : List ℕ) → 1 ≤ n → unless_zero n rest ≡ Ok (n, rest)
-not-zero zero rest h = absurd (omega arith)
-not-zero (suc n) rest h = refl
-
-four-failed : (bytes : List ℕ) (f : Fault) → four_at bytes ≡ Err f → length bytes < 4
-unfolding four_at
-four-failed bytes f e = (number-failed w32 (2 ^ 32) wide32 bytes f e).0
-
-four-full : (bytes : List ℕ) → length bytes ≡ 4 → four_at bytes ≡ Ok (from_be_bytes w32 bytes, [])
-unfolding four_at
-four-full bytes len = number-full w32 (2 ^ 32) wide32 bytes len
-
--- fewer than four bytes go on with zeros and a one
-step-completed : (bytes : List ℕ) → length bytes < 4 → GoesOn id_number_at bytes
-unfolding id_number_at then_at
-step-completed bytes lt =
-    let front = bytes ++ zeros (3 - length bytes) in
-    let len : length front ≡ 3 = omega (arith, length-append bytes (zeros (3 - length bytes)), length-zeros (3 - length bytes)) in
-    let whole = front ++ 1 ∷ [] in
-    let last : get_or whole 3 0 ≡ 1 = subst (λ (z : ℕ). get_or whole z 0 ≡ 1) len (get_or-append_seam front 1 [] 0) in
-    let some : 1 ≤ from_be_bytes w32 whole = omega (arith, last) in
-    let full : length whole ≡ 4 = omega (arith, length-append front (1 ∷ []), len) in
-    record {
-      text = zeros (3 - length bytes) ++ 1 ∷ [];
-      text_fits = IsBytes-both (zeros (3 - length bytes)) (1 ∷ []) (IsBytes-zeros (3 - length bytes)) (IsBytes-one 1 (omega arith));
-      value = from_be_bytes w32 whole;
-      whole = ap (λ (z : List ℕ). four_at z >>= step) (sym (append_assoc bytes (zeros (3 - length bytes)) (1 ∷ []))) ∙ ap (λ (z : Result (ℕ × List ℕ) Fault). z >>= step) (four-full whole full) ∙ not-zero (from_be_bytes w32 whole) [] some;
-    }
-
-step-goes_on : (bytes : List ℕ) (f : Fault) → IsBytes bytes → (four_at bytes >>= step) ≡ Err f → f.left ≡ 0 → GoesOn id_number_at bytes
-step-goes_on bytes f fits e left =
-    elim (bind_err (four_at bytes) step f e) [
-      | inl a ↦ step-completed bytes (four-failed bytes f a)
-      | inr a ↦ let much = (step-zero a.0.0 a.0.1 bytes f (four-wire.reads.took bytes a.0 fits a.1) a.2).1 in absurd (omega (arith, much))
-    ]
-
-step-reads : IsReader id_number_at (Spelled IsNumber four)
-unfolding id_number_at then_at
-step-reads = record {
-  took = λ bytes x fits e. let a = bind_ok (four_at bytes) step x e in step-took a.0.0 a.0.1 bytes x (four-wire.reads.took bytes a.0 fits a.1) a.2;
-  stopped = step-stopped;
-  goes_on = step-goes_on;
-}
-
-step-says : (n : ℕ) → IsNumber n → Says id_number_at n (four n) (plain (four n))
-unfolding id_number_at then_at
-step-says n fits =
-    let s = four-wire.says n fits.fits in
-    record {
-      again = λ m. ap (λ (z : Result (ℕ × List ℕ) Fault). z >>= step) (s.again m) ∙ not-zero n m fits.positive;
-      marks = λ front b rest e. ap (λ (z : Result (ℕ × List ℕ) Fault). z >>= step) (s.marks front b rest e);
-      same = s.same;
-    }
-
-pub step-wire : IsWire id_number_at IsNumber four (λ n. plain (four n))
-step-wire = record { reads = step-reads; says = step-says }
-
--- ---- identifiers
-
-identifier-reads : IsReader identifier_at (Spelled IsId identifier)
-unfolding identifier_at identifier
-identifier-reads = then-reader (choice_at 33) (many_at id_number_at) (IsOne (λ b. ltb b 33)) (Spelled IsId identifier) (choice-reader 33 (omega arith))
-    (λ depth t q. weaker (many_at id_number_at depth) (AreMany IsNumber four depth) (λ id u. Spelled IsId identifier id (t ++ u)) (many-reader step-reads depth)
-    (λ id u m.
-    let few : depth < 33 = ltb-true depth 33 q.passes in
-    record {
-      fits = record { few = omega (arith, m.count); each = All-from_recursion IsNumber id m.each };
-      text_is = ap (λ (z : List ℕ). z ++ u) (q.text_is ∙ ap (λ (z : ℕ). z ∷ []) (sym m.count)) ∙ ap (λ (z : List ℕ). length id ∷ z) m.text_is;
-    }))
-
-identifier-says : (id : List ℕ) → IsId id → Says identifier_at id (identifier id) (plain (identifier id))
-unfolding identifier_at identifier choice_at
-identifier-says id fits =
-    let numbers : Says (many_at id_number_at (length id)) id (flat_map four id) (plain (flat_map four id)) = subst (λ (z : List Bool). Says (many_at id_number_at (length id)) id (flat_map four id) z) (plain-flat four id) (says-many id_number_at four (λ n. plain (four n)) id (each-says step-wire id (recursion_from_All IsNumber id fits.each))) in
-    says-then _ (says-one false (λ b. ltb b 33) (length id) (lt-ltb (length id) 33 (omega (arith, fits.few)))) numbers
-
-pub identifier-wire : IsWire identifier_at IsId identifier (λ id. plain (identifier id))
-identifier-wire = record { reads = identifier-reads; says = identifier-says }
+use Rattle.fs_wire.specs.Readers.{stop, one_at}
+use Rattle.fs_wire.specs.Reading.{chars_of, chars_at, name_at}
+use Rattle.fs_wire.proofs.Readers.{IsOne, Took, Stopped, GoesOn, IsReader, then-reader, one-reader, weaker}
+use Rattle.fs_wire.proofs.Says.{Says, says-then, says-one}
+use Rattle.fs_wire.proofs.Wires.{Spelled, IsWire, plain-false, length-plain}
+pub use Rattle.fs_wire.proofs.IdWires.{identifier-wire}
 
 -- ---- the first of some numbers that passes a test
 

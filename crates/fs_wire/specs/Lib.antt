@@ -2,6 +2,7 @@ pub mod Spelling
 pub mod Ranges
 pub mod Tags
 pub mod Readers
+pub mod Codes
 pub mod Reading
 pub mod Readable
 pub mod Laws

@@ -1,6 +1,7 @@
 -- How each value is read.
-use Rattle.std.specs.Prelude.{ℕ, zero, suc, ◌+◌, ◌-◌, ◌*◌, ◌/◌, ◌%◌, ◌^◌, Bool, false, not, ◌&&◌, List, length, take, drop, Option, Some, None, Result, Ok, nat_lt, nat_le, ◌==◌, if◌then◌else◌}
+use Rattle.std.specs.Prelude.{ℕ, zero, suc, ◌+◌, ◌-◌, ◌*◌, ◌/◌, ◌%◌, ◌^◌, Bool, false, not, ◌&&◌, List, length, take, drop, Option, Some, None, Result, Ok, Err, nat_lt, nat_le, ◌==◌, if◌then◌else◌}
 use Rattle.fs_ident.specs.Name.{first_bad, is_dots}
+use Rattle.fs_ident.specs.Packed.{bits_of}
 use Rattle.fs_ident.specs.declared.actor.LeaseNo.{LeaseNo}
 use Rattle.fs_ident.specs.declared.actor.TxnNo.{TxnNo}
 use Rattle.fs_ident.specs.declared.actor.PathNo.{PathNo}
@@ -31,7 +32,8 @@ use Rattle.fs_model.specs.declared.op.Op.TheVariants as op_
 use Rattle.fs_model.specs.declared.reply.Reply.{Reply}
 use Rattle.fs_model.specs.declared.reply.Reply.TheVariants as reply_
 use Rattle.fs_wire.specs.declared.fault.Fault.{Fault}
-use Rattle.fs_wire.specs.Readers.{Reader, stop, then_at, map_at, always_at, either_at, pair_at, many_at, one_at, byte_at, choice_at, tag_at, four_at, eight_at, list_at, option_at, truth_at}
+use Rattle.fs_wire.specs.Codes.{identifier_in}
+use Rattle.fs_wire.specs.Readers.{Reader, stop, then_at, map_at, always_at, either_at, pair_at, one_at, byte_at, choice_at, tag_at, four_at, eight_at, list_at, option_at, truth_at}
 
 -- ---- kinds and modes
 
@@ -89,11 +91,16 @@ abbrev pub unless_zero : ℕ → List ℕ → Result (ℕ × List ℕ) Fault
 unless_zero zero rest = stop false (1 + length rest)
 unless_zero (suc n) rest = Ok (suc n, rest)
 
-unfoldable pub id_number_at : Reader ℕ
-id_number_at bytes = then_at four_at unless_zero bytes
+unfoldable pub positive_at : Reader ℕ
+positive_at bytes = then_at four_at unless_zero bytes
+
+-- an identifier that is read from bits; where it goes wrong, reading stops before the byte that holds the bit
+abbrev pub identifier_of : Result (List ℕ × ℕ) ℕ → Reader (List ℕ)
+identifier_of (Ok x) bytes = Ok (x.0, drop x.1 bytes)
+identifier_of (Err at) bytes = stop false (length bytes - at / 8)
 
 unfoldable pub identifier_at : Reader (List ℕ)
-identifier_at bytes = then_at (choice_at 33) (many_at id_number_at) bytes
+identifier_at bytes = identifier_of (identifier_in (bits_of bytes)) bytes
 
 -- three bytes that are 0
 unfoldable pub zeros_at : Reader ℕ
@@ -101,7 +108,7 @@ zeros_at bytes = then_at (choice_at 1) (λ a. then_at (choice_at 1) (λ b. choic
 
 -- what stands behind the first four bytes of a next number: behind a 0 a number that is not 0, behind a 1 nothing but 0
 abbrev pub next_of : ℕ → Reader ℕ
-next_of flag = either_at (flag == 0) id_number_at (map_at (λ z. 2 ^ 32) (then_at (choice_at 1) (λ a. zeros_at)))
+next_of flag = either_at (flag == 0) positive_at (map_at (λ z. 2 ^ 32) (then_at (choice_at 1) (λ a. zeros_at)))
 
 -- a number of eight bytes from 1 to 2^32: it goes wrong at the first byte after which it cannot be one
 unfoldable pub next_at : Reader ℕ

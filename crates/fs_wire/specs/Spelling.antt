@@ -2,6 +2,7 @@
 use Rattle.std.specs.Prelude.{ℕ, ◌+◌, ◌*◌, Bool, true, false, List, [], ◌∷◌, ◌++◌, length, Option, Some, None}
 use Rattle.std.specs.List.{flat_map}
 use Rattle.std.specs.Int.{w16, w32, w64, to_be_bytes}
+use Rattle.fs_ident.specs.Packed.{packed}
 use Rattle.fs_ident.specs.declared.actor.LeaseNo.{LeaseNo}
 use Rattle.fs_ident.specs.declared.actor.TxnNo.{TxnNo}
 use Rattle.fs_ident.specs.declared.actor.PathNo.{PathNo}
@@ -60,9 +61,9 @@ list text xs = eight (length xs) ++ flat_map text xs
 abbrev pub pair : {A B : Type 0} → (A → List ℕ) → (B → List ℕ) → A × B → List ℕ
 pair first second p = first p.0 ++ second p.1
 
--- the depth, and each number
-unfoldable pub identifier : List ℕ → List ℕ
-identifier id = length id ∷ flat_map four id
+-- the packed form: codes of the depth and one and of each number, bit by bit, and zeros up to a whole byte
+abbrev pub identifier : List ℕ → List ℕ
+identifier id = packed id
 
 -- the length, and the bytes
 abbrev pub name : List ℕ → List ℕ

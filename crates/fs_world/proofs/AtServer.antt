@@ -20,15 +20,17 @@ use Rattle.fs_server.specs.declared.state.Server.{Server as Core}
 use Rattle.fs_window.specs.Post.{Links, post_accepted}
 use Rattle.fs_window.specs.declared.packet.Packet.{Packet}
 use Rattle.fs_world.specs.Calls.{server_left, world_left}
-use Rattle.fs_world.specs.Linked.{FitsDown, IsLinked}
+use Rattle.fs_world.specs.Linked.{FitsDown, IsLinked, BringsParcel}
 use Rattle.fs_world.specs.Packets.{Packets}
 use Rattle.fs_world.specs.Planned.{IsAnswered, IsOwn, WasSent}
 use Rattle.fs_world.specs.Served.{Seats, ServerStepped, Stepped, at_server, core_step, server_step, server_step_at, server_told_at, with_server}
 use Rattle.fs_world.specs.declared.served.Served.{Served}
 use Rattle.fs_world.proofs.AtSeat.{has_room, linked_after}
 use Rattle.fs_world.proofs.Linked.{server_linked, told_server_linked}
-use Rattle.fs_serial.proofs.Parcels.{at_some, parcel_flies}
+use Rattle.fs_serial.proofs.Parcels.{parcel_flies}
 use Rattle.fs_world.specs.Linked.{IsParcelOf}
+use Rattle.fs_msg.specs.declared.peer_msg.PeerMsg.{PeerMsg}
+use Rattle.fs_msg.specs.declared.peer_msg.PeerMsg.TheVariants.{Parcel as OfParcel, Prepare, Vote, Decide, Done}
 
 -- what is lent out of a list stands there
 pub item_there : {X : Type 0} (xs : List X) (k : ℕ) (x : X) → k < length xs → x ≡ slice_index_or xs k x → slice_get xs k ≡ Some x
@@ -85,8 +87,15 @@ told_after (Err o) w new k now from p x fits h is = tt
 
 -- ## Parcels on their way
 
+brought : (seats : Seats) (m : PeerMsg) (p : Parcel) → parcel_in m ≡ Some p → BringsParcel seats m → IsParcelOf seats p
+brought seats (OfParcel q) p e h = let same : q ≡ p = cc in subst (IsParcelOf seats) same h
+brought seats (Prepare m) p e h = absurd h
+brought seats (Vote m) p e h = absurd h
+brought seats (Decide m) p e h = absurd h
+brought seats (Done m) p e h = absurd h
+
 pub parcels_apart : (w : Served) → IsLinked w → (parcels : List Parcel) → parcels ≡ parcels_of w.flying → (p : Parcel) → In p parcels → AreEachRecords p.records
 parcels_apart w h parcels is p i =
     let q = parcel_flies p w.flying (subst (λ (ps : List Parcel). In p ps) is i) in
-    let own : IsParcelOf w.seats p = at_some (IsParcelOf w.seats) (parcel_in q.0.message) p q.1.1 (h.flying q.0 q.1.0).parcel in
+    let own : IsParcelOf w.seats p = brought w.seats q.0.message p q.1.1 (h.flying q.0 q.1.0).parcel in
     own.each

@@ -21,15 +21,15 @@ use Rattle.fs_window.specs.declared.sent.Sent.{Sent}
 use Rattle.fs_model.specs.Step.{is_empty}
 use Rattle.fs_model.specs.declared.op.Op.{Op}
 use Rattle.fs_msg.specs.declared.answer.Answer.{Answer}
-use Rattle.fs_msg.specs.declared.answer.Answer.TheVariants.{Granted, Renewed, Released, Shipped, Recall}
+use Rattle.fs_msg.specs.declared.answer.Answer.TheVariants.{Granted, Renewed, Released, Shipped, Recall, Led}
 use Rattle.fs_msg.specs.declared.client_msg.ClientMsg.{ClientMsg}
-use Rattle.fs_msg.specs.declared.client_msg.ClientMsg.TheVariants.{Ask, Renew, Release, Ship}
+use Rattle.fs_msg.specs.declared.client_msg.ClientMsg.TheVariants.{Ask, Renew, Release, Ship, Lead}
 use Rattle.fs_msg.specs.declared.end.End.{End}
 use Rattle.fs_msg.specs.declared.end.End.TheVariants as end
 use Rattle.fs_msg.specs.declared.entry.Entry.{Entry}
 use Rattle.fs_msg.specs.declared.note.Note.TheVariants as note
 use Rattle.fs_msg.specs.declared.peer_msg.PeerMsg.{PeerMsg}
-use Rattle.fs_msg.specs.declared.peer_msg.PeerMsg.TheVariants.{Parcel as OfParcel}
+use Rattle.fs_msg.specs.declared.peer_msg.PeerMsg.TheVariants.{Parcel as OfParcel, Prepare, Vote, Decide, Done}
 use Rattle.fs_msg.specs.declared.server_note.ServerNote.{ServerNote}
 use Rattle.fs_msg.specs.declared.server_note.ServerNote.TheVariants as server
 use Rattle.fs_parcel.specs.Parcel.{move_refusal}
@@ -100,6 +100,7 @@ told_noted before s (Granted grants fresh e) c g = tt
 told_noted before s (Renewed rows e) c g = tt
 told_noted before s (Released count e) c g = tt
 told_noted before s (Shipped count e) c g = g
+told_noted before s (Led e) c g = tt
 told_noted before s (Recall number) c g = tt
 
 hear_noted : (before : List Said) (s : Session) (from : ℕ) (a : Answer) (c : ClientState) → WasGiven before s a → IsNoted before s (hear from a c).out.note
@@ -137,6 +138,10 @@ parcel_given now false p s = tt
 
 peer_given : (now : List Said) (m : PeerMsg) (s : Core) → AreGiven now (peer_step m s).out.send
 peer_given now (OfParcel p) s = parcel_given now (fits_here p s) p s
+peer_given now (Prepare m) s = tt
+peer_given now (Vote m) s = tt
+peer_given now (Decide m) s = tt
+peer_given now (Done m) s = tt
 
 -- a packet of the session brings the question
 abbrev IsFrom : Option Peer → ServerEvent → Type 0
@@ -156,6 +161,7 @@ message_given : (k : ℕ) (by : Session) (m : ClientMsg) (s : Core) (now : ℕ) 
 message_given k by (Ask items dir) s now from e = let a = asked_in by items dir (server_begun now s) in (tt, ask_given (says from k (core_steps s now (FromClient by (Ask items dir))).out.note) a.end a.server.rows)
 message_given k by (Renew pairs) s now from e = (tt, tt)
 message_given k by (Release pairs) s now from e = (tt, tt)
+message_given k by (Lead m) s now from e = tt
 message_given k by (Ship entries) s now from e = ship_given k by entries (server_begun now s) from e (list_all (λ (e : Entry). tells_its_effects e.op) entries)
 
 step_given : (k : ℕ) (s : Core) (now : ℕ) (e : ServerEvent) (from : Option Peer) → IsFrom from e → AreGiven (says from k (core_steps s now e).out.note) (core_steps s now e).out.send

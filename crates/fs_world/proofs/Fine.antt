@@ -21,9 +21,9 @@ use Rattle.fs_msg.specs.declared.act.Act.TheVariants as act
 use Rattle.fs_msg.specs.declared.act.Busy.TheVariants as busy
 use Rattle.fs_model.specs.Asking.{home_of}
 use Rattle.fs_msg.specs.declared.answer.Answer.{Answer}
-use Rattle.fs_msg.specs.declared.answer.Answer.TheVariants.{Granted, Renewed, Released, Shipped, Recall}
+use Rattle.fs_msg.specs.declared.answer.Answer.TheVariants.{Granted, Renewed, Released, Shipped, Recall, Led}
 use Rattle.fs_msg.specs.declared.client_msg.ClientMsg.{ClientMsg}
-use Rattle.fs_msg.specs.declared.client_msg.ClientMsg.TheVariants.{Ask, Renew, Release, Ship}
+use Rattle.fs_msg.specs.declared.client_msg.ClientMsg.TheVariants.{Ask, Renew, Release, Ship, Lead}
 use Rattle.fs_msg.specs.declared.end.End.TheVariants as end
 use Rattle.fs_msg.specs.declared.entry.Entry.{Entry}
 use Rattle.fs_msg.specs.declared.item.Item.{Item}
@@ -38,7 +38,7 @@ use Rattle.fs_parcel.specs.Parcel.{move_refusal}
 use Rattle.fs_parcel.specs.declared.error.MoveError.{MoveError}
 use Rattle.fs_record.specs.declared.parcel.Parcel.{Parcel}
 use Rattle.fs_msg.specs.declared.peer_msg.PeerMsg.{PeerMsg}
-use Rattle.fs_msg.specs.declared.peer_msg.PeerMsg.TheVariants.{Parcel as OfParcel}
+use Rattle.fs_msg.specs.declared.peer_msg.PeerMsg.TheVariants.{Parcel as OfParcel, Prepare, Vote, Decide, Done}
 use Rattle.fs_server.proofs.OneByOne.{each_entry, each_lapsed}
 use Rattle.fs_server.specs.Moves.{fits_here, move_at, parcel_at, peer_step}
 use Rattle.fs_server.specs.Reaps.{Reaping, lapsed_in, reap_from, reap_item, turn_over, with_blocker, with_reap}
@@ -141,6 +141,7 @@ told_fine (Granted gs fresh e) c = tt
 told_fine (Renewed rows e) c = tt
 told_fine (Released count e) c = tt
 told_fine (Shipped count e) c = tt
+told_fine (Led e) c = tt
 told_fine (Recall number) c = tt
 
 heard_fine : (from : ℕ) (a : Answer) (c : ClientState) → MayBeFine (hear from a c).out.admitted
@@ -168,6 +169,7 @@ message_fine : (by : Session) (m : ClientMsg) (s : ServerState) → MessageAsks 
 message_fine by (Ask items dir) s a = tt
 message_fine by (Renew pairs) s a = tt
 message_fine by (Release pairs) s a = tt
+message_fine by (Lead m) s a = tt
 message_fine by (Ship entries) s a = elim (list_all (λ (e : Entry). tells_its_effects e.op) entries) as (λ b. AllFine (cond b (shipped by (ship_from by entries s [])) (server_strange s)).out.admitted) [
   | true ↦ ships_fine by entries s [] a tt
   | false ↦ tt
@@ -194,6 +196,10 @@ parcel_fine false p s = tt
 
 peer_fine : (m : PeerMsg) (s : ServerState) → AllFine (peer_step m s).out.admitted
 peer_fine (OfParcel p) s = parcel_fine (fits_here p s) p s
+peer_fine (Prepare m) s = tt
+peer_fine (Vote m) s = tt
+peer_fine (Decide m) s = tt
+peer_fine (Done m) s = tt
 
 abbrev pub EventAsks : ServerEvent → Type 0
 EventAsks (FromClient by m) = MessageAsks m

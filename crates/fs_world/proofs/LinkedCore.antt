@@ -87,6 +87,7 @@ message_readable (client.Ask items fresh) h = refl
 message_readable (client.Renew pairs) h = refl
 message_readable (client.Release pairs) h = refl
 message_readable (client.Ship entries) h = entries_readable entries h.1
+message_readable (client.Lead m) h = op_readable m.op h.op
 
 -- ## While a server is at its step
 

@@ -15,7 +15,7 @@ use Rattle.fs_serial.specs.Cluster.{first_servers}
 use Rattle.fs_serial.specs.declared.flying.Flying.{Flying}
 use Rattle.fs_server.specs.Server.{first_server}
 use Rattle.fs_server.specs.declared.state.Server.{Server as Core}
-use Rattle.fs_world.specs.Linked.{AreTied, HasJoined, IsCarried, IsLinked, IsPair, IsParcelOf, IsPost, IsSeated, IsServed, between, downs_of, post_of, seat_post, ups_of}
+use Rattle.fs_world.specs.Linked.{AreTied, HasJoined, IsCarried, IsLinked, IsPair, IsParcelOf, IsPost, IsSeated, IsServed, between, downs_of, post_of, seat_post, ups_of, BringsParcel}
 use Rattle.fs_world.specs.Packets.{with_told}
 use Rattle.fs_world.specs.Served.{Seats, first_posts, first_seat, first_served, join_at, link_width}
 use Rattle.fs_world.specs.declared.seat.Seat.{Seat}
@@ -29,16 +29,23 @@ pub use Rattle.fs_world.proofs.NamedClients.{answer_silent}
 use Rattle.fs_world.proofs.NamedServers.{first_served_core, in_range}
 use Rattle.fs_world.proofs.Seen.{joined_still}
 use Rattle.fs_world.proofs.StayingServers.{first_count}
-use Rattle.fs_serial.specs.Cluster.{parcel_in}
-use Rattle.fs_serial.proofs.Parcels.{if_some}
+use Rattle.fs_msg.specs.declared.peer_msg.PeerMsg.{PeerMsg}
+use Rattle.fs_msg.specs.declared.peer_msg.PeerMsg.TheVariants.{Parcel as OfParcel, Prepare, Vote, Decide, Done}
 
 -- ## Whoever has joined stays
 
 pub served_then : (servers : ℕ) (a b : Seats) (k : ℕ) (s : Core) → ((t : Session) → HasJoined a t → HasJoined b t) → IsServed servers a k s → IsServed servers b k s
 served_then servers a b k s g h = record { me = h.me; named = h.named; records = h.records; handles = h.handles; rows = λ row i. g row.session (h.rows row i) }
 
+brings_then : (a b : Seats) (m : PeerMsg) → ((t : Session) → HasJoined a t → HasJoined b t) → BringsParcel a m → BringsParcel b m
+brings_then a b (OfParcel p) g h = record { each = h.each; handles = h.handles; rows = λ row i. g row.session (h.rows row i) }
+brings_then a b (Prepare m) g h = h
+brings_then a b (Vote m) g h = h
+brings_then a b (Decide m) g h = h
+brings_then a b (Done m) g h = h
+
 pub carried_then : (servers : ℕ) (a b : Seats) (f : Flying) → ((t : Session) → HasJoined a t → HasJoined b t) → IsCarried servers a f → IsCarried servers b f
-carried_then servers a b f g h = record { from = h.from; to = h.to; apart = h.apart; parcel = if_some (IsParcelOf a) (IsParcelOf b) (λ p q. record { each = q.each; handles = q.handles; rows = λ row i. g row.session (q.rows row i) }) (parcel_in f.message) h.parcel }
+carried_then servers a b f g h = record { from = h.from; to = h.to; apart = h.apart; parcel = brings_then a b f.message g h.parcel }
 
 abbrev pub AllSeated : ℕ → Seats → Type 0
 AllSeated servers seats = AtAll (IsSeated servers) seats

@@ -206,6 +206,7 @@ module _ (servers : ℕ) (some : 0 < servers) where
   told_planned (answer_.Renewed rows e) c named h = record { joins = tt; hints = told_hints e c named h; sends = tt }
   told_planned (answer_.Released count e) c named h = record { joins = tt; hints = told_hints e c named h; sends = tt }
   told_planned (answer_.Shipped count e) c named h = record { joins = tt; hints = told_hints e c named h; sends = tt }
+  told_planned (answer_.Led e) c named h = record { joins = tt; hints = tt; sends = tt }
   told_planned (answer_.Recall number) c named h = record { joins = tt; hints = tt; sends = tt }
 
   hear_planned : (from : ℕ) (a : Answer) (c : Client) → IsNamedAnswer servers a → IsFine servers c → IsPlanned servers (hear from a c)
@@ -220,6 +221,7 @@ told_silent (answer_.Granted gs fresh e) c = refl
 told_silent (answer_.Renewed rows e) c = refl
 told_silent (answer_.Released count e) c = refl
 told_silent (answer_.Shipped count e) c = refl
+told_silent (answer_.Led e) c = refl
 told_silent (answer_.Recall number) c = refl
 
 pub answer_silent : (c : Client) (now from : ℕ) (a : Answer) → (answer_plan c now from a).out.send ≡ None

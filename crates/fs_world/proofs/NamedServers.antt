@@ -1,7 +1,7 @@
 -- What a server has and sends: it knows of servers that there are, has rows of sessions that have joined, and its handles
 -- can be told; what it sends goes to such sessions and to other servers, and can be read.
 use Rattle.std.proofs.Common.{◌≡◌, ◌≢◌, ◌∙◌, ◌<◌, ◌≤◌, ◌^◌, ℕ, ◌+◌, Bool, true, false, List, [], ◌∷◌, ◌++◌, map, not, Option, Some, None, refl, sym, ap, subst, cond, arith}
-use Rattle.std.specs.Prelude.{◌&&◌, ◌==◌, IfSome, nat_le}
+use Rattle.std.specs.Prelude.{◌&&◌, ◌==◌, nat_le}
 use Rattle.std.specs.FinMap.{empty, get}
 use Rattle.std.specs.List.{AllByRecursion, list_all}
 use Rattle.std.proofs.lemmas.Bool.Decides.{nat_tests}
@@ -47,7 +47,7 @@ use Rattle.fs_model.specs.Asking.{home_of}
 use Rattle.fs_msg.specs.Readable.{is_readable, is_readable_answer, is_readable_entry, is_readable_grant, is_readable_parcel, is_readable_record}
 use Rattle.fs_msg.specs.declared.answer.Grant.{Grant}
 use Rattle.fs_msg.specs.declared.client_msg.ClientMsg.{ClientMsg}
-use Rattle.fs_msg.specs.declared.client_msg.ClientMsg.TheVariants.{Ask, Renew, Release, Ship}
+use Rattle.fs_msg.specs.declared.client_msg.ClientMsg.TheVariants.{Ask, Renew, Release, Ship, Lead}
 use Rattle.fs_msg.specs.declared.end.End.{End}
 use Rattle.fs_msg.specs.declared.end.End.TheVariants as end
 use Rattle.fs_msg.specs.declared.entry.Entry.{Entry}
@@ -55,8 +55,7 @@ use Rattle.fs_msg.specs.declared.item.Item.{Item}
 use Rattle.fs_msg.specs.declared.msg.Msg.{Msg}
 use Rattle.fs_msg.specs.declared.msg.Msg.TheVariants as msg
 use Rattle.fs_msg.specs.declared.peer_msg.PeerMsg.{PeerMsg}
-use Rattle.fs_msg.specs.declared.peer_msg.PeerMsg.TheVariants.{Parcel as OfParcel}
-use Rattle.fs_serial.specs.Cluster.{parcel_in}
+use Rattle.fs_msg.specs.declared.peer_msg.PeerMsg.TheVariants.{Parcel as OfParcel, Prepare, Vote, Decide, Done}
 use Rattle.fs_server.proofs.OneByOne.{AskEnds, ShipEnds, each_entry, each_item, each_lapsed, elsewhere, kept_off, misplaced, refused, waits}
 use Rattle.fs_server.specs.Asks.{Asking, answer_to, ask_fresh, ask_from, ask_step, asked_in, fresh_for, fresh_in, fresh_of, grant_of, kind_for, with_lease}
 use Rattle.fs_server.specs.Moves.{fits_here, move_at, parcel_at, peer_step}
@@ -69,7 +68,7 @@ use Rattle.fs_server.specs.declared.event.ServerEvent.{ServerEvent}
 use Rattle.fs_server.specs.declared.event.ServerEvent.TheVariants.{FromClient, FromPeer, Move, Recall, Turn}
 use Rattle.fs_server.specs.declared.state.Server.{Server as Core}
 use Rattle.fs_wire.specs.Readable.{is_readable_handle, is_readable_row, is_readable_session}
-use Rattle.fs_world.specs.Linked.{AreOfJoined, HasJoined, IsCarried, IsNamedAnswer, IsNamedEnd, IsParcelOf, IsServed}
+use Rattle.fs_world.specs.Linked.{AreOfJoined, HasJoined, IsCarried, IsNamedAnswer, IsNamedEnd, IsParcelOf, IsServed, BringsParcel}
 use Rattle.fs_world.specs.Readable.{HasOpenHandles, RecordsOpen}
 use Rattle.fs_world.specs.Served.{Seats}
 use Rattle.fs_world.proofs.NamedMaps.{moved_named, named_first, named_give, named_take}
@@ -95,7 +94,7 @@ pub record IsStepped (servers : ℕ) (seats : Seats) (k : ℕ) (x : Stepped) : T
 -- what the event brings is of a session that has joined, and can be read; or a server sent it
 abbrev pub IsBrought : ℕ → Seats → Core → ServerEvent → Type 0
 IsBrought servers seats s (FromClient by m) = HasJoined seats by × (is_readable (msg.Client m) ≡ true)
-IsBrought servers seats s (FromPeer from m) = IfSome (parcel_in m) (IsParcelOf seats)
+IsBrought servers seats s (FromPeer from m) = BringsParcel seats m
 IsBrought servers seats s (Move prefix to) = to < servers
 IsBrought servers seats s Turn = Unit {0}
 IsBrought servers seats s (Recall field) = Unit {0}
@@ -118,8 +117,12 @@ parcel_readable seats p readable h =
     joined _ _ (In-all (λ (e : List ℕ × Record). is_readable_record e.1) p.records (λ e i. record_passes e.1 (h.handles e i) (h.each e i)))
     (In-all is_readable_row p.rows (λ row i. readable row.session (h.rows row i)))
 
-peer_readable : (seats : Seats) (m : PeerMsg) → ((s : Session) → HasJoined seats s → is_readable_session s ≡ true) → IfSome (parcel_in m) (IsParcelOf seats) → is_readable (msg.Peer m) ≡ true
+peer_readable : (seats : Seats) (m : PeerMsg) → ((s : Session) → HasJoined seats s → is_readable_session s ≡ true) → BringsParcel seats m → is_readable (msg.Peer m) ≡ true
 peer_readable seats (OfParcel p) readable h = parcel_readable seats p readable h
+peer_readable seats (Prepare m) readable h = absurd h
+peer_readable seats (Vote m) readable h = absurd h
+peer_readable seats (Decide m) readable h = absurd h
+peer_readable seats (Done m) readable h = absurd h
 
 pub sent_readable : (servers : ℕ) (seats : Seats) (k : ℕ) (x : Peer × Msg) → ((s : Session) → HasJoined seats s → is_readable_session s ≡ true) → IsSent servers seats k x → is_readable x.1 ≡ true
 sent_readable servers seats k (Client s, msg.Answer a) readable h = h.2
@@ -270,6 +273,7 @@ module _ (servers : ℕ) (seats : Seats) (k : ℕ) (some : k < servers) (readabl
     sends = ((of, pairs_fine s pairs h, refl), tt);
   }
   message_goes by (Ship entries) s of r h = ship_goes by entries s of r h
+  message_goes by (Lead m) s of r h = strange_goes s h
 
   -- ## Reaps
 
@@ -346,8 +350,12 @@ module _ (servers : ℕ) (seats : Seats) (k : ℕ) (some : k < servers) (readabl
   }
   parcel_goes false p s of h = strange_goes s h
 
-  peer_goes : (m : PeerMsg) (s : Core) → IfSome (parcel_in m) (IsParcelOf seats) → Fine s → Goes (peer_step m s)
+  peer_goes : (m : PeerMsg) (s : Core) → BringsParcel seats m → Fine s → Goes (peer_step m s)
   peer_goes (OfParcel p) s of h = parcel_goes (fits_here p s) p s of h
+  peer_goes (Prepare m) s of h = absurd of
+  peer_goes (Vote m) s of h = absurd of
+  peer_goes (Decide m) s of h = absurd of
+  peer_goes (Done m) s of h = absurd of
 
   -- ## An event
 

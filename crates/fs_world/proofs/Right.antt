@@ -6,7 +6,7 @@ use Rattle.fs_field.specs.declared.row.Row.{Row}
 use Rattle.fs_model.specs.Step.{is_empty}
 use Rattle.fs_view.specs.declared.kept.Kept.{Kept}
 use Rattle.fs_msg.specs.declared.client_msg.ClientMsg.{ClientMsg}
-use Rattle.fs_msg.specs.declared.client_msg.ClientMsg.TheVariants.{Ask, Renew, Release, Ship}
+use Rattle.fs_msg.specs.declared.client_msg.ClientMsg.TheVariants.{Ask, Renew, Release, Ship, Lead}
 use Rattle.fs_msg.specs.declared.client_note.ClientNote.{ClientNote}
 use Rattle.fs_msg.specs.declared.client_note.ClientNote.TheVariants as client_note
 use Rattle.fs_msg.specs.declared.end.End.{End}
@@ -14,7 +14,7 @@ use Rattle.fs_msg.specs.declared.entry.Entry.{Entry}
 use Rattle.fs_msg.specs.declared.note.Note.{Note}
 use Rattle.fs_msg.specs.declared.note.Note.TheVariants as note
 use Rattle.fs_msg.specs.declared.peer_msg.PeerMsg.{PeerMsg}
-use Rattle.fs_msg.specs.declared.peer_msg.PeerMsg.TheVariants.{Parcel as OfParcel}
+use Rattle.fs_msg.specs.declared.peer_msg.PeerMsg.TheVariants.{Parcel as OfParcel, Prepare, Vote, Decide, Done}
 use Rattle.fs_msg.specs.declared.server_note.ServerNote.{ServerNote}
 use Rattle.fs_msg.specs.declared.server_note.ServerNote.TheVariants as server_note
 use Rattle.fs_parcel.specs.Parcel.{move_refusal}
@@ -97,6 +97,10 @@ parcel_fair ok false p s = tt
 
 peer_fair : (ok : Answers) (m : PeerMsg) (s : Server) → IsFair ok (note.Server (peer_step m s).out.note)
 peer_fair ok (OfParcel p) s = parcel_fair ok (fits_here p s) p s
+peer_fair ok (Prepare m) s = tt
+peer_fair ok (Vote m) s = tt
+peer_fair ok (Decide m) s = tt
+peer_fair ok (Done m) s = tt
 
 -- where each fair answer to the entries is one of these, so is what is noted
 ship_fair : (ok : Answers) (rows : List Row) (by : Session) (now : ℕ) (entries : List Entry) (n : ServerNote) → ((count : ℕ) (at : End) (gaps : List ℕ) → IsFairEnd rows by now entries count at gaps → ok count at gaps) → IsFairNote rows by now entries n → IsFair ok (note.Server n)
@@ -121,6 +125,7 @@ module _ (laws : SerialLaws) (skew greatest now k : ℕ) (s : Server) (c : Clust
   message_fair ok by (Ask items dir) there takes = tt
   message_fair ok by (Renew pairs) there takes = tt
   message_fair ok by (Release pairs) there takes = tt
+  message_fair ok by (Lead m) there takes = tt
   message_fair ok by (Ship entries) there takes = ship_fair ok (rows_then (FromClient by (Ship entries))) by (max s.last now) entries (step s now (FromClient by (Ship entries))).out.note takes (laws.fair skew greatest now k by entries s c at within there h)
 
   event_fair : (ok : Answers) (e : ServerEvent) → IsThere k e c → TakesEvent ok e → IsFair ok (note.Server (step s now e).out.note)

@@ -21,7 +21,7 @@ use Rattle.fs_window.specs.declared.packet.Packet.{Packet}
 use Rattle.fs_window.specs.declared.sent.Sent.{Sent}
 use Rattle.fs_msg.specs.declared.answer.Answer.{Answer}
 use Rattle.fs_msg.specs.declared.client_msg.ClientMsg.{ClientMsg}
-use Rattle.fs_msg.specs.declared.client_msg.ClientMsg.TheVariants.{Ask, Release, Renew, Ship}
+use Rattle.fs_msg.specs.declared.client_msg.ClientMsg.TheVariants.{Ask, Release, Renew, Ship, Lead}
 use Rattle.fs_msg.specs.declared.note.Note.{Note}
 use Rattle.fs_msg.specs.declared.note.Note.TheVariants as note
 use Rattle.fs_actor.specs.Hearing.{answer_heard, event_heard, heard_in, quiet_note, silent_note}
@@ -149,6 +149,7 @@ module _ (laws : SerialLaws) (count skew greatest : ℕ) (told : List Told) (w :
         takes_log s seat (Ask items dir) from is first = tt
         takes_log s seat (Renew pairs) from is first = tt
         takes_log s seat (Release pairs) from is first = tt
+        takes_log s seat (Lead m) from is first = tt
 
         session_right : (s : Session) (o : Option Seat) → packet.from ≡ Client s → get w.seats s.0 ≡ o → (heard : Option Peer) (x : Heard) (js : List Joined) (links : Links) → IsFirstOf js (ups_of k o) → Right what (hearing (Client s) heard x (event_heard (Client s) js) links)
         session_right s o from is heard x [] links f = silent _ x.joined x

@@ -33,7 +33,7 @@ use Rattle.fs_model.specs.Asking.{home_of}
 use Rattle.fs_msg.specs.declared.answer.Answer.TheVariants as reply
 use Rattle.fs_msg.specs.declared.answer.Grant.{Grant}
 use Rattle.fs_msg.specs.declared.client_msg.ClientMsg.{ClientMsg}
-use Rattle.fs_msg.specs.declared.client_msg.ClientMsg.TheVariants.{Ask, Renew, Release, Ship}
+use Rattle.fs_msg.specs.declared.client_msg.ClientMsg.TheVariants.{Ask, Renew, Release, Ship, Lead}
 use Rattle.fs_msg.specs.declared.end.End.{End}
 use Rattle.fs_msg.specs.declared.end.End.TheVariants as end
 use Rattle.fs_msg.specs.declared.entry.Entry.{Entry}
@@ -41,7 +41,7 @@ use Rattle.fs_msg.specs.declared.item.Item.{Item}
 use Rattle.fs_msg.specs.declared.msg.Msg.{Msg}
 use Rattle.fs_msg.specs.declared.msg.Msg.TheVariants as msg
 use Rattle.fs_msg.specs.declared.peer_msg.PeerMsg.{PeerMsg}
-use Rattle.fs_msg.specs.declared.peer_msg.PeerMsg.TheVariants.{Parcel as OfParcel}
+use Rattle.fs_msg.specs.declared.peer_msg.PeerMsg.TheVariants.{Parcel as OfParcel, Prepare, Vote, Decide, Done}
 use Rattle.fs_record.specs.Effects.{tells_its_effects}
 use Rattle.fs_server.proofs.OneByOne.{each_item, reaps_leave, ships_leave}
 use Rattle.fs_server.specs.Asks.{Asking, answer_to, ask_fresh, ask_from, ask_step, asked_in, fresh_for, fresh_in, fresh_of, grant_of, kind_for, recall_of, recalls_at, with_lease}
@@ -228,6 +228,7 @@ module _ (these : Session → Type 0) where
   message_of by (Renew pairs) s p h = record { rows = renewed (end_of s) (numbers_in (pairs_here s pairs)) s.rows h; sends = (p, tt) }
   message_of by (Release pairs) s p h = record { rows = released (numbers_in (pairs_here s pairs)) s.rows h; sends = (p, tt) }
   message_of by (Ship entries) s p h = ship_of by entries s p h
+  message_of by (Lead m) s p h = strange_of s h
 
   -- ## Reaps
 
@@ -259,6 +260,10 @@ module _ (these : Session → Type 0) where
 
   peer_of : (m : PeerMsg) (s : Server) → BringsOf these m → AreOf these s.rows → IsOf (peer_step m s)
   peer_of (OfParcel p) s come h = parcel_of (fits_here p s) p s come h
+  peer_of (Prepare m) s come h = strange_of s h
+  peer_of (Vote m) s come h = strange_of s h
+  peer_of (Decide m) s come h = strange_of s h
+  peer_of (Done m) s come h = strange_of s h
 
   -- ## An event
 

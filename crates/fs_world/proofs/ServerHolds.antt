@@ -11,7 +11,7 @@ use Rattle.fs_ident.proofs.Booleans.{both}
 use Rattle.fs_ident.proofs.Passing.{found}
 use Rattle.fs_ident.proofs.Standing.{In-got, In-append, In-mapped}
 use Rattle.fs_msg.specs.declared.client_msg.ClientMsg.{ClientMsg}
-use Rattle.fs_msg.specs.declared.client_msg.ClientMsg.TheVariants.{Ask, Renew, Release, Ship}
+use Rattle.fs_msg.specs.declared.client_msg.ClientMsg.TheVariants.{Ask, Renew, Release, Ship, Lead}
 use Rattle.fs_msg.specs.declared.entry.Entry.{Entry}
 use Rattle.fs_server.specs.Step.{step}
 use Rattle.fs_server.specs.declared.event.ServerEvent.{ServerEvent}
@@ -60,6 +60,7 @@ module _ (laws : EventLaws) (count skew greatest : ℕ) (told : List Told) (p : 
   message_asks by (Ask items dir) there = tt
   message_asks by (Renew pairs) there = tt
   message_asks by (Release pairs) there = tt
+  message_asks by (Lead m) there = tt
 
   event_asks : (e : ServerEvent) → IsThere k e c → EventAsks e
   event_asks (FromClient by m) there = message_asks by m (In-mapped (λ (x : ℕ × ClientMsg). x.1) (k, m) (lines_of p.term p.seats by).up (found (is_with k) (lines_of p.term p.seats by).up (k, m) there).0)

@@ -1,6 +1,6 @@
 -- What holds of the links between servers and clients, whatever was lost, repeated or reordered: they carry the very
 -- messages that are on their way, and these can be read.
-use Rattle.std.specs.Prelude.{◌≡◌, ◌≢◌, ℕ, ◌<◌, ◌^◌, ◌≤◌, true, false, List, map, length, slice_get, IfSome, Option, Some, None}
+use Rattle.std.specs.Prelude.{◌≡◌, ◌≢◌, ℕ, ◌<◌, ◌^◌, ◌≤◌, true, false, List, map, length, slice_get, Option, Some, None}
 use Rattle.std.specs.List.{AllByRecursion}
 use Rattle.std.specs.FinMap.{get}
 use Rattle.fs_ident.specs.In.{In}
@@ -23,7 +23,6 @@ use Rattle.fs_msg.specs.declared.msg.Msg.TheVariants as msg
 use Rattle.fs_record.specs.Moving.{AreEachRecords}
 use Rattle.fs_record.specs.Records.{AreRecords}
 use Rattle.fs_record.specs.declared.parcel.Parcel.{Parcel}
-use Rattle.fs_serial.specs.Cluster.{parcel_in}
 use Rattle.fs_serial.specs.declared.flying.Flying.{Flying}
 use Rattle.fs_server.specs.declared.state.Server.{Server as Core}
 use Rattle.fs_window.specs.LinkEnd.{IsNarrow}
@@ -43,6 +42,8 @@ use Rattle.fs_world.specs.declared.form.Form.{Form}
 use Rattle.fs_world.specs.declared.form.Form.TheVariants as form
 use Rattle.fs_world.specs.declared.seat.Seat.{Seat}
 use Rattle.fs_world.specs.declared.served.Served.{Served}
+use Rattle.fs_msg.specs.declared.peer_msg.PeerMsg.{PeerMsg}
+use Rattle.fs_msg.specs.declared.peer_msg.PeerMsg.TheVariants.{Parcel as OfParcel}
 
 -- ## The links of two actors
 
@@ -142,12 +143,17 @@ pub record IsParcelOf (seats : Seats) (p : Parcel) : Type 0 where
   pub handles : RecordsOpen p.records
   pub rows : AreOfJoined seats p.rows
 
--- a message goes from one server to another, and so is the parcel that it brings, if it brings one
+-- the message hands over such a parcel; no operation is led yet
+abbrev pub BringsParcel : Seats → PeerMsg → Type 0
+BringsParcel seats (OfParcel p) = IsParcelOf seats p
+BringsParcel seats m = ⊥
+
+-- a message goes from one server to another, and so is the parcel that it brings
 pub record IsCarried (servers : ℕ) (seats : Seats) (f : Flying) : Type 0 where
   pub from : f.from < servers
   pub to : f.to < servers
   pub apart : f.from ≢ f.to
-  pub parcel : IfSome (parcel_in f.message) (IsParcelOf seats)
+  pub parcel : BringsParcel seats f.message
 
 pub record IsLinked (w : Served) : Type 0 where
   pub posts : length w.posts ≡ length w.servers

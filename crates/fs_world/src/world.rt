@@ -171,5 +171,6 @@ fn push_parcel(alloc: Global, parcels: &mut List<Parcel>, f: &Flying) -> Result<
 {
     match &f.message {
         PeerMsg::Parcel { parcel } => parcels.push(parcel.copy(alloc)?),
+        _ => Ok(()),
     }
 }

@@ -45,6 +45,7 @@ fn act_word(act: &Act) -> (&'static str, u64) {
         Act::Replied { n, .. } => ("replied", *n),
         Act::ReadNow { n, .. } => ("read", *n),
         Act::Asked { needs, .. } => ("asked", needs.len() as u64),
+        Act::Leading { n, .. } => ("leading", *n),
         Act::Busy { .. } => ("busy", 0),
         Act::NoIds { .. } => ("noids", 0),
         Act::Over { n } => ("over", *n),
@@ -62,6 +63,9 @@ fn note_word(note: &ClientNote) -> (&'static str, u64) {
         ClientNote::Released { count, .. } => ("released", *count),
         ClientNote::Shipped { count, .. } => ("shipped", *count),
         ClientNote::Recall { no } => ("recall", no.count),
+        ClientNote::Led { n, .. } => ("led", *n),
+        ClientNote::LedAgain { .. } => ("led again", 0),
+        ClientNote::LedEnded { lease, .. } => ("led ended", lease.count),
         ClientNote::Strange => ("strange", 0),
     }
 }
@@ -444,6 +448,8 @@ const STRANGE: &[Line] = &[
     (1, Comes::Heard(0, said::FRESH_BEFORE), ("strange", 0, None)),
     // the answer to another question
     (1, Comes::Heard(0, said::GONE), ("strange", 0, None)),
+    // the end of an operation that was not to be led
+    (1, Comes::Heard(0, said::LED_AGAIN), ("strange", 0, None)),
     (1, Comes::Heard(0, said::GRANTED), ("granted", 3, None)),
     (2, Comes::Act(Asking::Create), ("replied", 1, None)),
     (2, Comes::Turn, ("ships", 1, Some(0))),

@@ -2,8 +2,8 @@
 //! messages that no honest actor sends.
 ghost use Rattle.std.specs.Prelude.{◌≡◌, ◌≤◌, ◌^◌, true};
 ghost use Rattle.fs_ident.specs.declared.limits.TheConstants.{LATEST};
-ghost use Rattle.fs_msg.specs.declared.peer_msg.PeerMsg.TheVariants as peer;
 ghost use Rattle.fs_server.specs.Step.{AreNumbersLeft, CanBeTold};
+ghost use Rattle.fs_server.specs.declared.event.ServerEvent.TheVariants.{FromPeer};
 
 mod moves;
 mod opens;
@@ -13,7 +13,7 @@ use crate::forms::{copied, none_such, reads, same, spend};
 use fs_field::Field;
 use fs_ident::{FileId, LATEST, Memory, Session, Twin};
 use fs_msg::{Msg, PeerMsg, read_whole};
-use fs_record::{Parcel, Record};
+use fs_record::Record;
 use fs_server::{ServerCore, ServerEvent, ServerOut};
 use std::alloc::Global;
 use std::process::Abort;
@@ -89,7 +89,7 @@ fn can_be_told(ev: &ServerEvent) -> bool
     ensures { result ≡ true → CanBeTold ev.now }
 {
     match ev {
-        ServerEvent::FromPeer(_, m) => are_numbers_left(parcel(m).records.as_slice()),
+        ServerEvent::FromPeer(from, m) => can_be_brought(*from, m),
         ServerEvent::FromClient(_, _)
         | ServerEvent::Turn
         | ServerEvent::Recall(_)
@@ -97,12 +97,16 @@ fn can_be_told(ev: &ServerEvent) -> bool
     }
 }
 
-/// The parcel that the message hands over.
-fn parcel(m: &PeerMsg) -> &Parcel
-    ensures { m.now ≡ peer.Parcel result.now }
+/// Whether what another server sends can be read from bytes.
+fn can_be_brought(from: u8, m: &PeerMsg) -> bool
+    ensures { result ≡ true → CanBeTold (FromPeer from m.now) }
 {
     match m {
-        PeerMsg::Parcel { parcel } => parcel,
+        PeerMsg::Parcel { parcel } => are_numbers_left(parcel.records.as_slice()),
+        PeerMsg::Prepare { .. }
+        | PeerMsg::Vote { .. }
+        | PeerMsg::Decide { .. }
+        | PeerMsg::Done { .. } => true,
     }
 }
 
@@ -441,15 +445,18 @@ fn leases_are_renewed_and_released(rt: HostRuntime) -> Result<(), Fail> {
     done
 }
 
-/// A log with a delete.
-const DELETES: &[Line] = &[(
-    0,
-    Event::From(1, said::LOG_OF_DELETE),
-    Seen::Note,
-    "Strange",
-)];
+/// A log with a delete; and while no server leads operations, that a part is done.
+const ODD: &[Line] = &[
+    (
+        0,
+        Event::From(1, said::LOG_OF_DELETE),
+        Seen::Note,
+        "Strange",
+    ),
+    (0, Event::Peer(1, said::DONE), Seen::Note, "Strange"),
+];
 
 #[test]
 fn what_no_honest_actor_sends_is_strange(rt: HostRuntime) -> Result<(), Fail> {
-    plays_first(&rt, rt.alloc(), DELETES)
+    plays_first(&rt, rt.alloc(), ODD)
 }

@@ -2,7 +2,7 @@
 use crate::{reads, same};
 use fs_field::{Effect, Part, Vote};
 use fs_ident::FileId;
-use fs_msg::{Decide, Done, Lead, Prepare, Voted, led_end_of, put_led_end, put_why, why_of};
+use fs_msg::{Decide, Done, Lead, Msg, Prepare, Voted, led_end_of, put_led_end, put_why, why_of};
 use fs_wire::{ReadError, Wire, stop};
 use std::alloc::Global;
 use std::fmt::Debug;
@@ -449,4 +449,63 @@ fn a_reason_alone(rt: HostRuntime) -> Result<(), Fail> {
     put_why(&why, &mut out)?;
     same(&rt, out.as_slice(), &[4]);
     reads(&rt, rt.alloc(), why, "Changed")
+}
+
+/// Each message that carries one of these, behind its tag.
+const MESSAGES: [(&[Piece], &str); 6] = [
+    (
+        &[
+            Piece::These(&[5, 0, 0, 0, 0, 0, 0, 0, 6, 8]),
+            Piece::Id(b"/"),
+            Piece::These(&[1, 33]),
+            Piece::Id(b"/9"),
+            Piece::These(&[0, 0, 0, 0, 0, 0, 0, 0, 0]),
+        ],
+        "Client(Lead { lead: Lead { n: 6, op: Delete { dir: FileId { numbers: [] }, \
+            name: Name { bytes: [33] } }, file: FileId { numbers: [9] }, kind: File, \
+            uses: List { items: [] } } })",
+    ),
+    (
+        &[Piece::These(&[21, 2, 4])],
+        "Answer(Led { end: Again { why: Changed } })",
+    ),
+    (
+        &[
+            Piece::These(&[33]),
+            PLACE,
+            Piece::These(&[3, 232]),
+            Piece::Id(b"/9"),
+            Piece::These(&[0, 0, 0, 0, 0, 0, 0, 0, 0]),
+        ],
+        "Peer(Prepare { prepare: Prepare { txn: TxnNo { server: 2, count: 7 }, number: 4, \
+            session: Session(1000), part: Part { file: FileId { numbers: [9] }, \
+            uses: List { items: [] }, freeze: None } } })",
+    ),
+    (
+        &[Piece::These(&[34]), PLACE, Piece::These(&[0])],
+        "Peer(Vote { voted: Voted { txn: TxnNo { server: 2, count: 7 }, number: 4, vote: Yes } })",
+    ),
+    (
+        &[
+            Piece::These(&[35]),
+            PLACE,
+            Piece::These(&[0, 0, 0, 0, 0, 0, 0, 0]),
+        ],
+        "Peer(Decide { decide: Decide { txn: TxnNo { server: 2, count: 7 }, number: 4, \
+            effects: List { items: [] } } })",
+    ),
+    (
+        &[Piece::These(&[36]), PLACE],
+        "Peer(Done { done: Done { txn: TxnNo { server: 2, count: 7 }, number: 4 } })",
+    ),
+];
+
+#[test]
+fn messages_that_carry_them(rt: HostRuntime) -> Result<(), Fail> {
+    let alloc = rt.alloc();
+    are_values::<Msg>(&rt, alloc, &MESSAGES)?;
+    stops::<Msg>(&rt, alloc, &[Piece::These(&[6])], true, 1)?;
+    stops::<Msg>(&rt, alloc, &[Piece::These(&[23])], true, 1)?;
+    stops::<Msg>(&rt, alloc, &[Piece::These(&[32])], true, 1)?;
+    stops::<Msg>(&rt, alloc, &[Piece::These(&[38])], true, 1)
 }

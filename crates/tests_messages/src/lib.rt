@@ -4,6 +4,8 @@
 ghost use Rattle.std.specs.Prelude.{◌≡◌, IfOk};
 
 #[cfg(test)]
+mod identifiers;
+#[cfg(test)]
 mod led;
 #[cfg(test)]
 mod msg;

@@ -1,3 +1,4 @@
+mod led;
 mod notes;
 
 use crate::{same, spend, with};

@@ -1,7 +1,7 @@
 //! The bytes of values, worked out from the table of bytes: each field at its least and at its greatest value.
 use crate::same;
 use fs_field::{Field, Row, Use, Value};
-use fs_ident::{FileId, Kind, LeaseNo, List, Name, Session, TxnNo};
+use fs_ident::{Kind, LeaseNo, List, Name, Session, TxnNo};
 use fs_model::{Node, Op, Reply};
 use fs_modes::{Mode, Modes};
 use fs_wire::{ReadError, Wire, next_of, put_next, stop};
@@ -33,13 +33,13 @@ fn error_of<T: Wire>(alloc: Global, bytes: &[u8]) -> Option<ReadError> {
 }
 
 const FIELDS: [&[u8]; 7] = [
-    &[0, 1, 255, 255, 255, 255],
-    &[1, 0, 1, 33],
-    &[2, 0],
-    &[3, 0],
-    &[4, 0],
-    &[5, 0, 0],
-    &[6, 0, 5],
+    &[0, 64, 0, 0, 0, 63, 255, 255, 255, 192],
+    &[1, 128, 1, 33],
+    &[2, 128],
+    &[3, 128],
+    &[4, 128],
+    &[5, 128, 0],
+    &[6, 128, 5],
 ];
 
 #[test]
@@ -56,7 +56,7 @@ fn fields(rt: HostRuntime) -> Result<(), Fail> {
 const VALUES: [&[u8]; 8] = [
     &[0, 0],
     &[0, 1, 1],
-    &[1, 1, 0],
+    &[1, 1, 128],
     &[2, 0, 0, 0, 0, 0, 0, 0, 2, 1, 33, 2, 46, 97],
     &[
         3, 0, 0, 0, 0, 0, 0, 0, 9, 255, 255, 255, 255, 255, 255, 255, 255,
@@ -73,20 +73,20 @@ fn values(rt: HostRuntime) -> Result<(), Fail> {
 }
 
 const OPERATIONS: [&[u8]; 12] = [
-    &[0, 0, 1, 33],
-    &[1, 0],
-    &[2, 0],
-    &[3, 0],
-    &[4, 0, 1, 33, 0, 0],
-    &[4, 0, 1, 33, 1, 1, 1, 0, 0, 0, 1],
-    &[5, 0, 255, 255, 255, 255, 1],
-    &[6, 0, 0, 0, 0, 2],
+    &[0, 128, 1, 33],
+    &[1, 128],
+    &[2, 128],
+    &[3, 128],
+    &[4, 128, 1, 33, 0, 0],
+    &[4, 128, 1, 33, 1, 1, 80],
+    &[5, 128, 255, 255, 255, 255, 1],
+    &[6, 128, 0, 0, 0, 2],
     &[
-        7, 0, 0, 0, 0, 2, 0, 0, 0, 0, 0, 0, 0, 3, 255, 255, 255, 255, 255, 255, 255, 255,
+        7, 128, 0, 0, 0, 2, 0, 0, 0, 0, 0, 0, 0, 3, 255, 255, 255, 255, 255, 255, 255, 255,
     ],
-    &[8, 0, 1, 126],
-    &[9, 0, 1, 33, 1, 0, 0, 0, 7, 1, 35],
-    &[10, 0, 3, 232],
+    &[8, 128, 1, 126],
+    &[9, 128, 1, 33, 71, 1, 35],
+    &[10, 128, 3, 232],
 ];
 
 #[test]
@@ -102,10 +102,10 @@ fn operations(rt: HostRuntime) -> Result<(), Fail> {
 
 const ROWS: [&[u8]; 2] = [
     &[
-        0, 0, 0, 0, 0, 0, 0, 0, 0, 0, 1, 0, 0, 0, 0, 0, 0, 0, 0, 0, 0, 0, 0, 0,
+        0, 0, 0, 0, 0, 0, 0, 0, 0, 0, 1, 0, 128, 0, 0, 0, 0, 0, 0, 0, 0, 0, 0, 0,
     ],
     &[
-        15, 255, 255, 255, 255, 255, 255, 255, 255, 3, 232, 6, 0, 5, 1, 255, 255, 255, 255, 255,
+        15, 255, 255, 255, 255, 255, 255, 255, 255, 3, 232, 6, 128, 5, 1, 255, 255, 255, 255, 255,
         255, 255, 255, 1, 1, 1, 15, 0, 0, 0, 0, 0, 0, 0, 9,
     ],
 ];
@@ -122,8 +122,8 @@ const NODES: [&[u8]; 2] = [
         0, 0, 0, 0,
     ],
     &[
-        0, 1, 0, 1, 33, 0, 0, 0, 0, 0, 0, 0, 1, 1, 33, 1, 0, 0, 0, 9, 0, 0, 0, 0, 0, 0, 0, 9, 255,
-        255, 255, 255, 255, 255, 255, 255, 0, 0, 0, 0, 0, 0, 0, 1, 3, 232, 255, 255, 255, 255, 63,
+        0, 1, 128, 1, 33, 0, 0, 0, 0, 0, 0, 0, 1, 1, 33, 66, 64, 0, 0, 0, 0, 0, 0, 0, 9, 255, 255,
+        255, 255, 255, 255, 255, 255, 0, 0, 0, 0, 0, 0, 0, 1, 3, 232, 255, 255, 255, 255, 63,
     ],
 ];
 
@@ -134,7 +134,7 @@ fn nodes(rt: HostRuntime) -> Result<(), Fail> {
 }
 
 const REPLIES: [&[u8]; 3] = [
-    &[5, 0],
+    &[5, 128],
     &[6, 0, 0, 0, 0, 0, 0, 0, 1, 1, 33],
     &[
         9, 0, 0, 0, 0, 0, 0, 0, 9, 255, 255, 255, 255, 255, 255, 255, 255,
@@ -157,7 +157,7 @@ fn replies(rt: HostRuntime) -> Result<(), Fail> {
 }
 
 const USE: [u8; 20] = [
-    2, 0, 1, 255, 0, 0, 0, 0, 0, 0, 0, 9, 255, 255, 255, 255, 255, 255, 255, 255,
+    2, 128, 1, 255, 0, 0, 0, 0, 0, 0, 0, 9, 255, 255, 255, 255, 255, 255, 255, 255,
 ];
 
 const NUMBER: [u8; 9] = [15, 0, 0, 0, 0, 0, 0, 0, 9];
@@ -240,8 +240,6 @@ fn what_goes_wrong(rt: HostRuntime) {
     let alloc = rt.alloc();
     stops::<Session>(&rt, alloc, &[0, 0, 9], 2);
     stops::<Session>(&rt, alloc, &[3, 233], 1);
-    stops::<FileId>(&rt, alloc, &[33], 1);
-    stops::<FileId>(&rt, alloc, &[1, 0, 0, 0, 0, 9], 2);
     stops::<Name>(&rt, alloc, &[0, 33], 2);
     stops::<Name>(&rt, alloc, &[2, 46, 46, 9], 2);
     stops::<Mode>(&rt, alloc, &[6], 1);
@@ -257,14 +255,9 @@ fn is_spelled_behind<T: Wire>(alloc: Global, first: u8, bytes: &[u8]) -> Result<
     Ok(is_spelled_again::<T>(alloc, &all)?)
 }
 
-/// The deepest identifier, and the longest name.
+/// The longest name.
 #[test]
 fn the_greatest(rt: HostRuntime) -> Result<(), Fail> {
-    same(
-        &rt,
-        is_spelled_behind::<FileId>(rt.alloc(), 32, &[255; 128])?,
-        true,
-    );
     same(
         &rt,
         is_spelled_behind::<Name>(rt.alloc(), 255, &[65; 255])?,

@@ -295,7 +295,9 @@ fn a_reap_waits_for_the_least_of_all_modes(rt: HostRuntime) -> Result<(), Fail> 
 
 const ROW: &str = "ModeRows { rows: List { items: [Row { no: LeaseNo { server: 0, count: 1 }, \
     session: Session(1), field: SelfW(FileId { numbers: [] }, AccW), kind: Exclusive, until: 200, \
-    promise: None, lock: Some(TxnNo { server: 0, count: 7 }) }] } }";
+    promise: None, lock: Some(TxnNo { server: 0, count: 7 }) }] }, index: FileIndex { files: {FileId \
+    { numbers: [] }: List { items: [LeaseNo { server: 0, count: 1 }] }}, whole: true }, least: 100, \
+    locked: true }";
 
 /// A row that a transaction keeps.
 fn keeps(rt: &impl Abort, rows: &mut ModeRows) {

@@ -6,6 +6,7 @@ ghost use Rattle.fs_parcel.specs.Rows.{AreRows, both};
 
 mod fitting;
 mod moving;
+mod one_list;
 mod refusing;
 mod shown;
 

@@ -7,16 +7,17 @@ ghost use Rattle.fs_msg.specs.Ranges.{FitsAnswer};
 ghost use Rattle.fs_msg.specs.Readable.{is_readable_answer};
 
 use crate::answer::{Answer, Grant};
+use crate::bytes::led_end::{led_end_of, put_led_end};
 use crate::end::End;
 use fs_ident::{FileId, LeaseNo, List};
-use fs_wire::{ReadError, Wire, put_tag_1, put_tag_2, put_tag_3};
+use fs_wire::{ReadError, Wire, put_tag, put_tag_1, put_tag_2, put_tag_3};
 use std::alloc::{AllocError, Global};
 
 /// Whether an answer has the tag.
 pub(crate) fn is_answer_tag(b: u8) -> bool
     ensures { result ≡ is_answer_tag b }
 {
-    17 <= b && b <= 20 || b == 22
+    17 <= b && b <= 22
 }
 
 /// Adds the spelling of an answer at the end.
@@ -30,6 +31,10 @@ pub(crate) fn put_answer(a: &Answer, out: &mut Vec<u8>) -> Result<(), AllocError
         Answer::Renewed { rows, end } => put_tag_2(18, rows, end, out),
         Answer::Released { count, end } => put_tag_2(19, count, end, out),
         Answer::Shipped { count, end } => put_tag_2(20, count, end, out),
+        Answer::Led { end } => {
+            put_tag(21, out)?;
+            put_led_end(end, out)
+        }
         Answer::Recall { no } => put_tag_1(22, no, out),
     }
 }
@@ -57,6 +62,10 @@ pub(crate) fn answer_of(alloc: Global, tag: u8, rest: &[u8]) -> Result<(Answer, 
         20 => {
             let ((count, end), rest) = <(u64, End)>::get(alloc, rest)?;
             Ok((Answer::Shipped { count, end }, rest))
+        }
+        21 => {
+            let (end, rest) = led_end_of(alloc, rest)?;
+            Ok((Answer::Led { end }, rest))
         }
         _ => {
             let (no, rest) = LeaseNo::get(alloc, rest)?;

@@ -8,6 +8,7 @@ ghost use Rattle.fs_msg.specs.Readable.{is_readable_request};
 
 use crate::client_msg::ClientMsg;
 use crate::entry::Entry;
+use crate::lead::Lead;
 use fs_field::{Field, LeaseKind};
 use fs_ident::{FileId, LeaseNo, List};
 use fs_wire::{ReadError, Wire, put_tag_1, put_tag_2};
@@ -17,7 +18,7 @@ use std::alloc::{AllocError, Global};
 pub(crate) fn is_client_tag(b: u8) -> bool
     ensures { result ≡ is_client_tag b }
 {
-    1 <= b && b <= 4
+    1 <= b && b <= 5
 }
 
 /// Adds the spelling of a client's request at the end.
@@ -31,6 +32,7 @@ pub(crate) fn put_client(m: &ClientMsg, out: &mut Vec<u8>) -> Result<(), AllocEr
         ClientMsg::Renew { pairs } => put_tag_1(2, pairs, out),
         ClientMsg::Release { pairs } => put_tag_1(3, pairs, out),
         ClientMsg::Ship { entries } => put_tag_1(4, entries, out),
+        ClientMsg::Lead { lead } => put_tag_1(5, lead, out),
     }
 }
 
@@ -58,9 +60,13 @@ pub(crate) fn client_of(
             let (pairs, rest) = <List<(FileId, LeaseNo)>>::get(alloc, rest)?;
             Ok((ClientMsg::Release { pairs }, rest))
         }
-        _ => {
+        4 => {
             let (entries, rest) = <List<Entry>>::get(alloc, rest)?;
             Ok((ClientMsg::Ship { entries }, rest))
+        }
+        _ => {
+            let (lead, rest) = Lead::get(alloc, rest)?;
+            Ok((ClientMsg::Lead { lead }, rest))
         }
     }
 }

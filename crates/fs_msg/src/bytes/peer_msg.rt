@@ -7,15 +7,19 @@ ghost use Rattle.fs_msg.specs.Ranges.{FitsPeerMessage};
 ghost use Rattle.fs_msg.specs.Readable.{is_readable_peer_message};
 
 use crate::bytes::parcel::{parcel_of, put_parcel};
+use crate::decide::Decide;
+use crate::done::Done;
 use crate::peer_msg::PeerMsg;
-use fs_wire::{ReadError, put_tag};
+use crate::prepare::Prepare;
+use crate::voted::Voted;
+use fs_wire::{ReadError, Wire, put_tag, put_tag_1};
 use std::alloc::{AllocError, Global};
 
 /// Whether a message between servers has the tag.
 pub(crate) fn is_peer_tag(b: u8) -> bool
     ensures { result ≡ is_peer_tag b }
 {
-    b == 37
+    33 <= b && b <= 37
 }
 
 /// Adds the spelling of a message between servers at the end.
@@ -25,6 +29,10 @@ pub(crate) fn put_peer(m: &PeerMsg, out: &mut Vec<u8>) -> Result<(), AllocError>
     ensures fits { OnOk result (is_readable_peer_message m.now ≡ true → FitsPeerMessage m.now) }
 {
     match m {
+        PeerMsg::Prepare { prepare } => put_tag_1(33, prepare, out),
+        PeerMsg::Vote { voted } => put_tag_1(34, voted, out),
+        PeerMsg::Decide { decide } => put_tag_1(35, decide, out),
+        PeerMsg::Done { done } => put_tag_1(36, done, out),
         PeerMsg::Parcel { parcel } => {
             put_tag(37, out)?;
             put_parcel(parcel, out)
@@ -33,10 +41,30 @@ pub(crate) fn put_peer(m: &PeerMsg, out: &mut Vec<u8>) -> Result<(), AllocError>
 }
 
 /// The message between servers behind its tag.
-#[tactic(auto, unfolding(fs_wire::specs::Readers::map_at))]
+#[tactic(auto, unfolding(fs_wire::specs::Readers::either_at, fs_wire::specs::Readers::map_at))]
 pub(crate) fn peer_of(alloc: Global, tag: u8, rest: &[u8]) -> Result<(PeerMsg, &[u8]), ReadError>
     ensures { Gives (λ x. (x.0, x.1.now)) result (peer_of tag rest.now) }
 {
-    let (parcel, rest) = parcel_of(alloc, rest)?;
-    Ok((PeerMsg::Parcel { parcel }, rest))
+    match tag {
+        33 => {
+            let (prepare, rest) = Prepare::get(alloc, rest)?;
+            Ok((PeerMsg::Prepare { prepare }, rest))
+        }
+        34 => {
+            let (voted, rest) = Voted::get(alloc, rest)?;
+            Ok((PeerMsg::Vote { voted }, rest))
+        }
+        35 => {
+            let (decide, rest) = Decide::get(alloc, rest)?;
+            Ok((PeerMsg::Decide { decide }, rest))
+        }
+        36 => {
+            let (done, rest) = Done::get(alloc, rest)?;
+            Ok((PeerMsg::Done { done }, rest))
+        }
+        _ => {
+            let (parcel, rest) = parcel_of(alloc, rest)?;
+            Ok((PeerMsg::Parcel { parcel }, rest))
+        }
+    }
 }

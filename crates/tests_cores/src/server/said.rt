@@ -1,96 +1,96 @@
 //! The bytes of messages that come to servers, by the table of bytes.
 
 /// For what a create of `a` in the root wants: the life of the root, the name, and an identifier below the root.
-pub(crate) const ASK_TO_CREATE: &[u8] = &[1, 0, 0, 0, 0, 0, 0, 0, 2, 0, 0, 0, 1, 0, 1, 97, 1, 1, 0];
-
-/// For the life of the file 1.
-pub(crate) const ASK_FIRST: &[u8] = &[1, 0, 0, 0, 0, 0, 0, 0, 1, 0, 1, 0, 0, 0, 1, 0, 0];
-
-/// For the life of the root, and that of the file 1.
-pub(crate) const ASK_ROOT_AND_FIRST: &[u8] = &[
-    1, 0, 0, 0, 0, 0, 0, 0, 2, 0, 0, 0, 0, 1, 0, 0, 0, 1, 0, 0,
+pub(crate) const ASK_TO_CREATE: &[u8] = &[
+    1, 0, 0, 0, 0, 0, 0, 0, 2, 0, 128, 0, 1, 128, 1, 97, 1, 1, 128,
 ];
 
+/// For the life of the file 1.
+pub(crate) const ASK_FIRST: &[u8] = &[1, 0, 0, 0, 0, 0, 0, 0, 1, 0, 80, 0, 0];
+
+/// For the life of the root, and that of the file 1.
+pub(crate) const ASK_ROOT_AND_FIRST: &[u8] = &[1, 0, 0, 0, 0, 0, 0, 0, 2, 0, 128, 0, 0, 80, 0, 0];
+
 /// For the life of the root, and an identifier below it.
-pub(crate) const ASK_ROOT_AND_FRESH: &[u8] = &[1, 0, 0, 0, 0, 0, 0, 0, 1, 0, 0, 0, 1, 0];
+pub(crate) const ASK_ROOT_AND_FRESH: &[u8] = &[1, 0, 0, 0, 0, 0, 0, 0, 1, 0, 128, 0, 1, 128];
 
 /// For an identifier below the root alone.
-pub(crate) const ASK_FRESH: &[u8] = &[1, 0, 0, 0, 0, 0, 0, 0, 0, 1, 0];
+pub(crate) const ASK_FRESH: &[u8] = &[1, 0, 0, 0, 0, 0, 0, 0, 0, 1, 128];
 
 /// For its handles on the file 1, what it tells of writing, and whether another denies that.
 pub(crate) const ASK_TO_OPEN: &[u8] = &[
-    1, 0, 0, 0, 0, 0, 0, 0, 3, 4, 1, 0, 0, 0, 1, 0, 5, 1, 0, 0, 0, 1, 1, 0, 6, 1, 0, 0, 0, 1, 4, 1,
-    0,
+    1, 0, 0, 0, 0, 0, 0, 0, 3, 4, 80, 0, 5, 80, 1, 0, 6, 80, 4, 1, 0,
 ];
 
 /// For what it tells of writing to the file 1.
-pub(crate) const ASK_SELF_WRITES: &[u8] = &[1, 0, 0, 0, 0, 0, 0, 0, 1, 5, 1, 0, 0, 0, 1, 1, 0, 0];
+pub(crate) const ASK_SELF_WRITES: &[u8] = &[1, 0, 0, 0, 0, 0, 0, 0, 1, 5, 80, 1, 0, 0];
 
 /// For what it tells of denying writes.
-pub(crate) const ASK_SELF_DENIES: &[u8] = &[1, 0, 0, 0, 0, 0, 0, 0, 1, 5, 1, 0, 0, 0, 1, 4, 0, 0];
+pub(crate) const ASK_SELF_DENIES: &[u8] = &[1, 0, 0, 0, 0, 0, 0, 0, 1, 5, 80, 4, 0, 0];
 
 /// For what others tell of writing.
-pub(crate) const ASK_OTHER_WRITES: &[u8] = &[1, 0, 0, 0, 0, 0, 0, 0, 1, 6, 1, 0, 0, 0, 1, 1, 1, 0];
+pub(crate) const ASK_OTHER_WRITES: &[u8] = &[1, 0, 0, 0, 0, 0, 0, 0, 1, 6, 80, 1, 1, 0];
 
 /// A log of the create of a file, as the file 1, and of a look at the root behind it, each by the first lease.
 pub(crate) const LOG: &[u8] = &[
-    4, 0, 0, 0, 0, 0, 0, 0, 2, 0, 0, 0, 0, 0, 0, 0, 1, 4, 0, 1, 97, 0, 1, 1, 0, 0, 0, 1, 12, 0, 0,
-    0, 0, 0, 0, 0, 1, 0, 0, 0, 0, 0, 0, 0, 0, 0, 0, 0, 1, 0, 0, 0, 0, 0, 0, 0, 100, 0, 0, 0, 0, 0,
-    0, 0, 2, 2, 0, 8, 0, 0, 0, 0, 0, 0, 0, 1, 0, 0, 0, 0, 0, 0, 0, 0, 0, 0, 0, 1, 0, 0, 0, 0, 0, 0,
+    4, 0, 0, 0, 0, 0, 0, 0, 2, 0, 0, 0, 0, 0, 0, 0, 1, 4, 128, 1, 97, 0, 1, 80, 12, 0, 0, 0, 0, 0,
+    0, 0, 1, 0, 128, 0, 0, 0, 0, 0, 0, 0, 0, 0, 1, 0, 0, 0, 0, 0, 0, 0, 100, 0, 0, 0, 0, 0, 0, 0,
+    2, 2, 128, 8, 0, 0, 0, 0, 0, 0, 0, 1, 0, 128, 0, 0, 0, 0, 0, 0, 0, 0, 0, 1, 0, 0, 0, 0, 0, 0,
     0, 100,
 ];
 
 /// A log in which it opens the file 1 for writing, by no lease.
 pub(crate) const LOG_OF_OPEN: &[u8] = &[
-    4, 0, 0, 0, 0, 0, 0, 0, 1, 0, 0, 0, 0, 0, 0, 0, 3, 5, 1, 0, 0, 0, 1, 0, 0, 0, 1, 2, 15, 0, 0,
-    0, 0, 0, 0, 0, 0,
+    4, 0, 0, 0, 0, 0, 0, 0, 1, 0, 0, 0, 0, 0, 0, 0, 3, 5, 80, 0, 0, 0, 1, 2, 15, 0, 0, 0, 0, 0, 0,
+    0, 0,
 ];
 
 /// A log in which it deletes `a`, by the first lease.
 pub(crate) const LOG_OF_DELETE: &[u8] = &[
-    4, 0, 0, 0, 0, 0, 0, 0, 1, 0, 0, 0, 0, 0, 0, 0, 1, 8, 0, 1, 97, 22, 0, 0, 0, 0, 0, 0, 0, 1, 0,
-    0, 0, 0, 0, 0, 0, 0, 0, 0, 0, 1, 0, 0, 0, 0, 0, 0, 0, 100,
+    4, 0, 0, 0, 0, 0, 0, 0, 1, 0, 0, 0, 0, 0, 0, 0, 1, 8, 128, 1, 97, 22, 0, 0, 0, 0, 0, 0, 0, 1,
+    0, 128, 0, 0, 0, 0, 0, 0, 0, 0, 0, 1, 0, 0, 0, 0, 0, 0, 0, 100,
 ];
 
 /// It renews the first lease, and one that was never given.
 pub(crate) const RENEW: &[u8] = &[
-    2, 0, 0, 0, 0, 0, 0, 0, 2, 0, 0, 0, 0, 0, 0, 0, 0, 0, 1, 0, 0, 0, 0, 0, 0, 0, 0, 0, 9,
+    2, 0, 0, 0, 0, 0, 0, 0, 2, 128, 0, 0, 0, 0, 0, 0, 0, 0, 1, 128, 0, 0, 0, 0, 0, 0, 0, 0, 9,
 ];
 
 /// It gives them back.
 pub(crate) const RELEASE: &[u8] = &[
-    3, 0, 0, 0, 0, 0, 0, 0, 2, 0, 0, 0, 0, 0, 0, 0, 0, 0, 1, 0, 0, 0, 0, 0, 0, 0, 0, 0, 9,
+    3, 0, 0, 0, 0, 0, 0, 0, 2, 128, 0, 0, 0, 0, 0, 0, 0, 0, 1, 128, 0, 0, 0, 0, 0, 0, 0, 0, 9,
 ];
 
 /// It gives the fourth lease back, on the file 1.
 pub(crate) const RELEASE_FOURTH: &[u8] = &[
-    3, 0, 0, 0, 0, 0, 0, 0, 1, 1, 0, 0, 0, 1, 0, 0, 0, 0, 0, 0, 0, 0, 4,
+    3, 0, 0, 0, 0, 0, 0, 0, 1, 80, 0, 0, 0, 0, 0, 0, 0, 0, 4,
 ];
 
 /// The parcel of the file 1, which the first session has open for writing and whose life it has leased.
 pub(crate) const PARCEL: &[u8] = &[
-    37, 1, 0, 0, 0, 1, 1, 0, 0, 0, 1, 0, 0, 0, 0, 0, 0, 0, 1, 1, 0, 0, 0, 1, 1, 0, 0, 0, 0, 0, 0,
-    0, 1, 1, 0, 0, 0, 1, 0, 1, 0, 1, 97, 0, 0, 0, 0, 0, 0, 0, 0, 0, 0, 0, 0, 0, 0, 0, 0, 0, 0, 0,
-    0, 0, 0, 0, 0, 0, 0, 0, 0, 0, 0, 0, 1, 0, 1, 0, 0, 0, 1, 2, 0, 0, 0, 0, 0, 0, 0, 1, 0, 0, 0, 0,
-    0, 0, 0, 1, 0, 0, 0, 0, 0, 0, 0, 0, 3, 0, 1, 0, 1, 0, 0, 0, 1, 1, 0, 0, 0, 0, 0, 0, 0, 100, 0,
-    0,
+    37, 80, 80, 0, 0, 0, 0, 0, 0, 0, 1, 80, 1, 0, 0, 0, 0, 0, 0, 0, 1, 80, 0, 1, 128, 1, 97, 0, 0,
+    0, 0, 0, 0, 0, 0, 0, 0, 0, 0, 0, 0, 0, 0, 0, 0, 0, 0, 0, 0, 0, 0, 0, 0, 0, 0, 0, 0, 0, 1, 0, 1,
+    0, 0, 0, 1, 2, 0, 0, 0, 0, 0, 0, 0, 1, 0, 0, 0, 0, 0, 0, 0, 1, 0, 0, 0, 0, 0, 0, 0, 0, 3, 0, 1,
+    0, 80, 1, 0, 0, 0, 0, 0, 0, 0, 100, 0, 0,
 ];
 
 /// The same with a row whose number the server that it comes to never gave, though it is one of its own.
 pub(crate) const ODD_PARCEL: &[u8] = &[
-    37, 1, 0, 0, 0, 1, 1, 0, 0, 0, 1, 0, 0, 0, 0, 0, 0, 0, 1, 1, 0, 0, 0, 1, 1, 0, 0, 0, 0, 0, 0,
-    0, 1, 1, 0, 0, 0, 1, 0, 1, 0, 1, 97, 0, 0, 0, 0, 0, 0, 0, 0, 0, 0, 0, 0, 0, 0, 0, 0, 0, 0, 0,
-    0, 0, 0, 0, 0, 0, 0, 0, 0, 0, 0, 0, 1, 0, 1, 0, 0, 0, 1, 2, 0, 0, 0, 0, 0, 0, 0, 1, 0, 0, 0, 0,
-    0, 0, 0, 1, 1, 0, 0, 0, 0, 0, 0, 0, 1, 0, 1, 0, 1, 0, 0, 0, 1, 1, 0, 0, 0, 0, 0, 0, 0, 100, 0,
-    0,
+    37, 80, 80, 0, 0, 0, 0, 0, 0, 0, 1, 80, 1, 0, 0, 0, 0, 0, 0, 0, 1, 80, 0, 1, 128, 1, 97, 0, 0,
+    0, 0, 0, 0, 0, 0, 0, 0, 0, 0, 0, 0, 0, 0, 0, 0, 0, 0, 0, 0, 0, 0, 0, 0, 0, 0, 0, 0, 0, 1, 0, 1,
+    0, 0, 0, 1, 2, 0, 0, 0, 0, 0, 0, 0, 1, 0, 0, 0, 0, 0, 0, 0, 1, 1, 0, 0, 0, 0, 0, 0, 0, 1, 0, 1,
+    0, 80, 1, 0, 0, 0, 0, 0, 0, 0, 100, 0, 0,
 ];
 
 /// The parcel of the directory 1, whose numbers are all given.
 pub(crate) const FULL_PARCEL: &[u8] = &[
-    37, 1, 0, 0, 0, 1, 1, 0, 0, 0, 1, 0, 0, 0, 0, 0, 0, 0, 1, 1, 0, 0, 0, 1, 1, 0, 0, 0, 0, 0, 0,
-    0, 1, 1, 0, 0, 0, 1, 1, 1, 0, 1, 97, 0, 0, 0, 0, 0, 0, 0, 0, 0, 0, 0, 0, 0, 0, 0, 0, 0, 0, 0,
-    0, 0, 0, 0, 0, 0, 0, 0, 0, 0, 0, 0, 0, 0, 0, 0, 1, 0, 0, 0, 0, 0, 0, 0, 0, 0, 0, 0, 0,
+    37, 80, 80, 0, 0, 0, 0, 0, 0, 0, 1, 80, 1, 0, 0, 0, 0, 0, 0, 0, 1, 80, 1, 1, 128, 1, 97, 0, 0,
+    0, 0, 0, 0, 0, 0, 0, 0, 0, 0, 0, 0, 0, 0, 0, 0, 0, 0, 0, 0, 0, 0, 0, 0, 0, 0, 0, 0, 0, 0, 0, 0,
+    0, 1, 0, 0, 0, 0, 0, 0, 0, 0, 0, 0, 0, 0,
 ];
 
 /// For an identifier below the directory 1.
-pub(crate) const ASK_FRESH_BELOW: &[u8] = &[1, 0, 0, 0, 0, 0, 0, 0, 0, 1, 1, 0, 0, 0, 1];
+pub(crate) const ASK_FRESH_BELOW: &[u8] = &[1, 0, 0, 0, 0, 0, 0, 0, 0, 1, 80];
+
+/// The fifth part of the seventh transaction that the server 2 leads is done.
+pub(crate) const DONE: &[u8] = &[36, 2, 0, 0, 0, 0, 0, 0, 0, 7, 4];

@@ -272,15 +272,15 @@ fn note(alloc: Global, k: u64) -> Result<Note, Fail> {
     }
 }
 
-fn add_note(alloc: Global, notes: &mut List<Note>, k: u64) -> Result<(), Fail> {
-    notes.push(note(alloc, k)?)?;
+fn add_note(notes: &mut List<Note>, note: Note) -> Result<(), Fail> {
+    notes.push(note)?;
     Ok(())
 }
 
-/// The note of this number, and nothing that is sent.
-fn outcome(alloc: Global, k: u64) -> Result<Outcome, Fail> {
+/// The note, and nothing that is sent.
+fn outcome(alloc: Global, note: Note) -> Result<Outcome, Fail> {
     let mut notes = List::new(alloc);
-    let done = add_note(alloc, &mut notes, k);
+    let done = add_note(&mut notes, note);
     let (notes, ()) = with(notes, done)?;
     Ok(Outcome {
         who: Some(Peer::Client(Session(1))),
@@ -289,9 +289,14 @@ fn outcome(alloc: Global, k: u64) -> Result<Outcome, Fail> {
     })
 }
 
-/// The note of this number is so written.
-fn writes_note(rt: &impl Abort, alloc: Global, k: u64, text: &[u8]) -> Result<(), Fail> {
-    let found = line_of_outcome(alloc, b"", 1, outcome(alloc, k)?)?;
+/// The note is so written.
+pub(crate) fn writes_note(
+    rt: &impl Abort,
+    alloc: Global,
+    note: Note,
+    text: &[u8],
+) -> Result<(), Fail> {
+    let found = line_of_outcome(alloc, b"", 1, outcome(alloc, note)?)?;
     let (found, wanted) = with(found, line(alloc, b"e1 c1 ", text))?;
     same(rt, found.as_slice(), wanted.as_slice());
     Ok(())
@@ -300,7 +305,7 @@ fn writes_note(rt: &impl Abort, alloc: Global, k: u64, text: &[u8]) -> Result<()
 #[test]
 fn writes_notes(rt: HostRuntime) -> Result<(), Fail> {
     for (k, text) in NOTES.iter().enumerate() {
-        writes_note(&rt, rt.alloc(), k as u64, *text)?;
+        writes_note(&rt, rt.alloc(), note(rt.alloc(), k as u64)?, *text)?;
     }
     Ok(())
 }

@@ -197,7 +197,7 @@ fn grants(
 ) -> Result<(), Fail>
     requires { can_grant_all leases (lapsed_at 0 view.old).leases ≡ true }
 {
-    view.grant_all(0, leases)?;
+    view.grant_all(alloc, 0, leases)?;
     same(rt, view.kept().len(), 1);
     walks(rt, alloc, view)
 }

@@ -1,12 +1,6 @@
-use Rattle.std.proofs.Common.{◌&&◌, not, map, sym, ap, ◌∙◌}
-use Rattle.fs_view.specs.declared.kept.Kept.{Kept}
-use Rattle.fs_view.proofs.Lapsed.{filter_live}
-use Rattle.fs_client.specs.Live.{is_ending}
-use Rattle.fs_client.specs.Turns.{ends_by, pair_of}
-use Rattle.fs_client.proofs.Chosen.{chosen_end}
+use Rattle.std.proofs.Common.{sym, ◌∙◌}
+use Rattle.fs_client.proofs.Chosen.{none_ends}
 use Rattle.fs_client.proofs.live.ending.Goals as goal
 
 pub returns : goal.returns
-returns c =
-    chosen_end (is_ending c.args.reading c.args.soon) c.args.leases.now c.loop-kept.kept-index c.loop-kept.pairs _ c.loop-kept-test.false c.loop-kept.invariant
-    ∙ ap (map pair_of) (sym (filter_live c.args.reading (λ (k : Kept). not k.recalled && ends_by c.args.soon k.standing) c.args.leases.now))
+returns c = c.new.ensures ∙ sym (none_ends c.args.reading c.args.soon c.args.view.now.leases (c.may_end.ensures c.if-may_end.false))

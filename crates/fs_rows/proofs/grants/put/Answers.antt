@@ -7,5 +7,5 @@ use Rattle.fs_rows.proofs.grants.put.Goals as goal
 pub returns-clause-rows : goal.returns-clause-rows
 returns-clause-rows c =
     c.in-Ok.ensures.items
-    ∙ ap (λ n. insert c.args.rows.now.items n c.args.row) (rw c.deref.ensures.value at c.place-at.ensures.place)
+    ∙ ap (λ n. insert c.args.rows.now.items n c.args.row) c.requires.place
     ∙ sym (put_at (λ r. no_before c.args.row.no r.no) c.args.row c.args.rows.now.items)

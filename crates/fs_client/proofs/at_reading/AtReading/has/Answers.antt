@@ -1,10 +1,8 @@
-use Rattle.std.proofs.Common.{sym, ap, ◌∙◌}
+use Rattle.std.proofs.Common.{ap, ◌∙◌}
 use Rattle.std.specs.List.{list_any}
 use Rattle.fs_view.specs.Kept.{has_number}
-use Rattle.fs_view.proofs.Lapsed.{any_live}
 use Rattle.fs_client.specs.declared.state.Client.{Client}
 use Rattle.fs_client.proofs.at_reading.AtReading.has.Goals as goal
 
 pub returns : goal.returns
-returns c =
-    c.has.ensures ∙ (ap (list_any _) c.kept.ensures ∙ (sym (any_live c.self.inside.reading (has_number c.args.no) c.self.inside.client.now.view.leases) ∙ ap (λ (x : Client). list_any (has_number c.args.no) x.view.leases) c.self.view_is))
+returns c = c.has_at.ensures ∙ ap (λ (x : Client). list_any (has_number c.args.no) x.view.leases) c.self.view_is

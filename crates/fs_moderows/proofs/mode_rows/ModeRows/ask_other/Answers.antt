@@ -1,20 +1,26 @@
 use Rattle.std.proofs.Common.{◌≡◌, false, ap, sym, subst, ◌∙◌}
 use Rattle.std.specs.List.{list_any}
 use Rattle.fs_field.specs.Table.{has_no}
+use Rattle.fs_rows.specs.Bounds.{AreBounds}
 use Rattle.fs_moderows.specs.Table.{IsModeTable}
+use Rattle.fs_moderows.proofs.Bounded.{bounds_asked}
 use Rattle.fs_moderows.proofs.Tables.{asked_table, other_table, other_least}
 use Rattle.fs_moderows.proofs.mode_rows.ModeRows.ask_other.Goals as goal
 
 pub invariant_of-self : goal.invariant_of-self
 invariant_of-self c =
-    let table : IsModeTable c.items_mut.result.now.items = subst IsModeTable (sym c.items_mut.ensures.value) c.self.invariant in
+    let table : IsModeTable c.items_mut.result.now.items = subst IsModeTable (sym c.items_mut.ensures.value) c.self.invariant.0 in
     let new : list_any (has_no c.args.no) c.items_mut.result.now.items ≡ false = ap (list_any (has_no c.args.no)) (c.items_mut.ensures.value ∙ c.self.view_is) ∙ c.requires.new in
-    asked_table c.ask_other.result _ _ _ _ table (other_table _ _ _ _ _ _ _ new table) c.ask_other.ensures.answer c.ask_other.ensures.rows c.ask_other.ensures.err
+    let bounds : AreBounds c.self.inside.least c.self.inside.locked c.items_mut.result.now.items = subst (AreBounds c.self.inside.least c.self.inside.locked) (sym c.items_mut.ensures.value) c.self.invariant.1 in (
+      asked_table c.ask_other.result _ _ _ _ table (other_table _ _ _ _ _ _ _ new table) c.ask_other.ensures.answer c.ask_other.ensures.rows c.ask_other.ensures.err,
+      bounds_asked c.ask_other.result _ _ _ _ _ c.self.inside.least _ _ _ _ c.ask_other.ensures.rows c.ask_other.ensures.err c.lesser-self-inside.ensures.first c.lesser-self-inside.ensures.second bounds,
+      c.ask_other.ensures.index,
+    )
 
 pub returns-clause-valid : goal.returns-clause-valid
-returns-clause-valid c = invariant_of-self c
+returns-clause-valid c = (invariant_of-self c).0
 
 pub returns-clause-least : goal.returns-clause-least
 returns-clause-least c =
-    let table : IsModeTable c.items_mut.result.now.items = subst IsModeTable (sym c.items_mut.ensures.value) c.self.invariant in
+    let table : IsModeTable c.items_mut.result.now.items = subst IsModeTable (sym c.items_mut.ensures.value) c.self.invariant.0 in
     rw (← c.self.view_is, ← c.items_mut.ensures.value) (other_least c.ask_other.result _ _ _ _ _ table c.ask_other.ensures.answer)

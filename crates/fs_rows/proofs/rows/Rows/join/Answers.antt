@@ -6,7 +6,7 @@ use Rattle.fs_rows.specs.Bounds.{AreBounds, EndNoSooner}
 use Rattle.fs_rows.specs.Moving.{fits}
 use Rattle.fs_rows.specs.Table.{IsTable}
 use Rattle.fs_rows.proofs.Knowing.{bounds_joined}
-use Rattle.fs_rows.proofs.Comes.{joined_table}
+use Rattle.fs_rows.proofs.Comes.{came_table, joined_table}
 use Rattle.fs_rows.proofs.rows.Rows.join.Goals as goal
 
 pub invariant_of-self : goal.invariant_of-self
@@ -24,3 +24,9 @@ invariant_of-self c =
 
 pub returns-clause-valid : goal.returns-clause-valid
 returns-clause-valid c = (invariant_of-self c).0
+
+pub add_all-requires-clause-after : goal.add_all-requires-clause-after
+add_all-requires-clause-after c =
+    let table : IsTable c.items_mut.result.now.items = subst IsTable (sym c.items_mut.ensures.value) c.self.invariant.0 in
+    let fit : fits c.items_mut.result.now.items c.args.rows ≡ true = ap (λ z. fits z c.args.rows) (c.items_mut.ensures.value ∙ c.self.view_is) ∙ c.requires.fits in
+    (came_table c.items_mut.result.now.items c.args.rows table c.requires.off_modes fit).ordered

@@ -1,0 +1,4 @@
+pub mod Actors
+pub mod Askable
+pub mod Bound
+pub mod Endings
