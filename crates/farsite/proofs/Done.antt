@@ -1,6 +1,6 @@
 -- The end of a replay.
 use Rattle.std.proofs.Common.{◌≡◌, ℕ, ◌+◌, List, [], ◌∷◌, ◌++◌, ap, sym, ◌∙◌, subst, append_assoc, inl, inr}
-use Rattle.std.specs.Prelude.{Option, Some, None, IfSome}
+use Rattle.std.specs.Prelude.{Option, Some, None, IfSome, Ok, IfOk}
 use Rattle.std.specs.Io.KnownBytes.{Appends}
 use Rattle.fs_schedule.specs.declared.event.Schedule.{Schedule}
 use Rattle.fs_schedule.specs.Faults.{AtLine, FaultsAt, IsFirstFault, IsScheduleText, LinesFaultAt, PassesLimit}
@@ -22,6 +22,8 @@ use Rattle.fs_schedule.specs.declared.error.ScheduleError.TheVariants as schedul
 use Rattle.farsite.specs.Status.{schedule_status}
 use Rattle.farsite.specs.declared.status.Status.TheVariants as status
 use Rattle.farsite.specs.Headline.{IsLimit, IsRun, text_of}
+use Rattle.fs_words.specs.Usage.{Asked}
+use Rattle.fs_words.specs.declared.command.Command.{Command}
 use Rattle.fs_words.specs.declared.command.Format.{Format}
 
 -- a schedule's run was written in the format
@@ -81,3 +83,7 @@ last_line o j s a b c x y z p q r =
     ap (λ n. o ++ (j ++ (s ++ done_text n b c))) p
     ∙ ap (λ n. o ++ (j ++ (s ++ done_text x n c))) q
     ∙ ap (λ n. o ++ (j ++ (s ++ done_text x y n))) r
+
+-- what holds of the command holds of what the words ask for
+pub as_asked : {o : Asked} {x command : Command} → Ok x ≡ o → x ≡ command → (P : Command → Type 0) → P command → IfOk o P
+as_asked e is P h = subst (λ (y : Asked). IfOk y P) e (subst P (sym is) h)
