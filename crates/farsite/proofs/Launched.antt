@@ -5,7 +5,7 @@ use Rattle.fs_io.specs.declared.reading.ReadError.TheVariants as reading
 use Rattle.fs_launch.specs.Launch.{IsUnturned, NodeComesTo}
 use Rattle.fs_launch.specs.declared.error.LaunchError.{LaunchError}
 use Rattle.fs_launch.specs.declared.error.LaunchError.TheVariants as error
-use Rattle.fs_node.specs.Peers.{Peers}
+use Rattle.fs_words.specs.Places.{Place}
 use Rattle.fs_schedule.specs.declared.error.ScheduleError.TheVariants as schedule
 use Rattle.fs_turns.specs.Run.{Outside}
 use Rattle.fs_turns.specs.declared.stop.Stop.{Stop}
@@ -51,5 +51,5 @@ wanting (error.Turns (stop.Spent n)) h a b = absurd (cc h)
 wanting (error.Turns stop.Memory) h a b = inr (b refl)
 
 -- the places are those that the words tell
-pub among : (n : Settings) (places others : Peers) (left : Option (List ℕ)) (ended : Result (Unit {0}) Stop) (before now : Outside) → places ≡ others → IfSome left (λ bytes. NodeComesTo n places bytes ended before now) → IfSome left (λ bytes. NodeComesTo n others bytes ended before now)
-among n places others left ended before now e h = subst (λ (ps : Peers). IfSome left (λ bytes. NodeComesTo n ps bytes ended before now)) e h
+pub among : (n : Settings) (places others : List Place) (left : Option (List ℕ)) (ended : Result (Unit {0}) Stop) (before now : Outside) → places ≡ others → IfSome left (λ bytes. NodeComesTo n places bytes ended before now) → IfSome left (λ bytes. NodeComesTo n others bytes ended before now)
+among n places others left ended before now e h = subst (λ (ps : List Place). IfSome left (λ bytes. NodeComesTo n ps bytes ended before now)) e h
