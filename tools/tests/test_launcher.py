@@ -48,6 +48,13 @@ class Answering(unittest.TestCase):
     def test_version(self):
         self.assertEqual(self.launched('--version'), (0, 'farsite 0.1.0\n', ''))
 
+    def test_a_node_is_run_by_the_built_program_alone(self):
+        if self.launched('state')[1] == 'built\n':
+            self.skipTest('the program is built')
+        status, output, errors = self.launched('node', 's0')
+        self.assertEqual((status, output), (22, ''))
+        self.assertIn('only the built program runs a node', errors)
+
     def test_state(self):
         status, output, errors = self.launched('state')
         self.assertEqual((status, errors), (0, ''))

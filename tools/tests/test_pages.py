@@ -30,7 +30,7 @@ class ManPage(unittest.TestCase):
     def test_it_has_every_status_of_the_reference(self):
         reference = trying.text_of(os.path.join(trying.ROOT, 'docs', 'REFERENCE.md'))
         page = trying.text_of(MAN_PAGE)
-        for status in ('0', '2', '3', '4', '5', '6', '7', '8', '9', '10', '20', '24', '129', '130', '143'):
+        for status in ('0', '2', '3', '4', '5', '6', '7', '8', '9', '10', '11', '20', '24', '129', '130', '143'):
             self.assertRegex(reference, r'(?m)^\| ([0-9, ]*, )?%s(,[0-9, ]*)? \|' % status)
             self.assertRegex(page, r'(?m)^\.BR? .*\b%s\b' % status)
 

@@ -14,8 +14,8 @@ use Rattle.fs_world.specs.Over.{AllCaused, said_from}
 use Rattle.fs_world.specs.Refusals.{AllFair, NoneStrange}
 use Rattle.fs_world.specs.Safe.{IsSerial}
 use Rattle.fs_world.specs.World.{Run, Stop, AtPackets, first_world, journal_of, run_of, space_of, stop_of}
-use Rattle.farsite.specs.declared.words.Command.{Command}
-use Rattle.farsite.specs.declared.words.Command.TheVariants.{Replay, Journal}
+use Rattle.fs_words.specs.declared.command.Format.{Format}
+use Rattle.fs_words.specs.declared.command.Format.TheVariants.{Report, Json}
 use Rattle.farsite.specs.declared.status.Status.{Status}
 use Rattle.farsite.specs.declared.status.Status.TheVariants as status
 
@@ -25,28 +25,28 @@ report_of r = report_text r.outcomes (journal_of r.world) (space_of r.world)
 abbrev pub json_of : Run → List ℕ
 json_of r = journal_json (journal_of r.world) (space_of r.world)
 
--- what is written of a run
-abbrev pub text_of : Command → Run → List ℕ
-text_of Replay r = report_of r
-text_of Journal r = json_of r
+-- what is written of a run in this format
+abbrev pub text_of : Format → Run → List ℕ
+text_of Report r = report_of r
+text_of Json r = json_of r
 
--- what was written is what the command writes of the run of the schedule that was read, which went to its end; its journal is serial; an entry of a
+-- what was written is, in the format, the run of the schedule that was read, which went to its end; its journal is serial; an entry of a
 -- log is refused only where a lease that it used had ended, or behind such a one, and a session is over only behind such a refusal;
 -- nothing that was told is strange, neither to a link nor to a core; and in the direct form the journal has every reply that was told
-pub record IsRun (command : Command) (bytes : List ℕ) (before now : Option (List ℕ)) : Type 0 where
+pub record IsRun (format : Format) (bytes : List ℕ) (before now : Option (List ℕ)) : Type 0 where
   pub schedule : Schedule
   pub read : IsScheduleText schedule bytes
   pub whole : stop_of schedule ≡ None
-  pub written : Appends before now (text_of command (run_of schedule))
+  pub written : Appends before now (text_of format (run_of schedule))
   pub headline : IsSerial schedule.events (run_of schedule)
   pub fair : AllFair (first_world schedule.head) schedule.events
   pub over : AllCaused [] (said_from (first_world schedule.head) schedule.events)
   pub known : NoneStrange (run_of schedule).outcomes
   pub admitted : schedule.head ≡ Direct → AllAdmitted (journal_of (run_of schedule).world) (told_of schedule.events (run_of schedule).outcomes)
 
--- the bytes are a schedule, whose run went to its end, and a part of what the command writes of it from the front on was written
-abbrev pub IsPartOfRun : Command → List ℕ → Option (List ℕ) → Option (List ℕ) → Type 0
-IsPartOfRun command bytes before now = (s : Schedule) × IsScheduleText s bytes × (stop_of s ≡ None) × IsPrefixWritten before now (text_of command (run_of s))
+-- the bytes are a schedule, whose run went to its end, and a part of it in the format from the front on was written
+abbrev pub IsPartOfRun : Format → List ℕ → Option (List ℕ) → Option (List ℕ) → Type 0
+IsPartOfRun format bytes before now = (s : Schedule) × IsScheduleText s bytes × (stop_of s ≡ None) × IsPrefixWritten before now (text_of format (run_of s))
 
 -- the bytes are a schedule, whose run is broken off there
 abbrev pub IsStopped : Stop → List ℕ → Type 0

@@ -1,5 +1,6 @@
 pub mod Headline
-pub mod Usage
+pub mod Commands
+pub mod Pages
 pub mod Status
 pub mod Lines
 -- cited by private calls alone

@@ -9,6 +9,10 @@ use Rattle.fs_schedule.specs.declared.error.ScheduleError.TheVariants as schedul
 use Rattle.fs_io.specs.declared.reading.ReadError.{ReadError}
 use Rattle.fs_io.specs.declared.reading.ReadError.TheVariants as reading
 use Rattle.fs_schedule.specs.declared.error.Which.TheVariants.{Packets}
+use Rattle.fs_launch.specs.declared.error.LaunchError.{LaunchError}
+use Rattle.fs_launch.specs.declared.error.LaunchError.TheVariants as launch
+use Rattle.fs_turns.specs.declared.stop.Stop.{Stop}
+use Rattle.fs_turns.specs.declared.stop.Stop.TheVariants as stop
 use Rattle.farsite.specs.declared.run_error.RunError.{RunError}
 use Rattle.farsite.specs.declared.run_error.RunError.TheVariants as run
 use Rattle.farsite.specs.declared.status.Status.{Status}
@@ -26,6 +30,7 @@ number_of status.ReadFault = 7
 number_of status.WriteFault = 8
 number_of (status.Spent counter) = 9
 number_of status.Memory = 10
+number_of status.LinkFault = 11
 
 abbrev pub status_text : Status → List ℕ
 status_text status.Done = codes "done"
@@ -38,6 +43,7 @@ status_text status.ReadFault = codes "the input could not be read"
 status_text status.WriteFault = codes "the output could not be written"
 status_text (status.Spent counter) = codes "a counter is spent"
 status_text status.Memory = codes "memory is wanting"
+status_text status.LinkFault = codes "the address could not be bound"
 
 -- the status of an input that was not read to its end
 abbrev pub read_status : ReadError → Status
@@ -45,7 +51,7 @@ read_status reading.ReadFault = status.ReadFault
 read_status (reading.TooLong limit) = status.TooLong limit
 read_status reading.Memory = status.Memory
 
--- the status of an input that is no schedule
+-- the status of an input that is no schedule, or no script
 abbrev pub schedule_status : ScheduleError → Status
 schedule_status (schedule.BadLine line) = status.BadLine line
 schedule_status (schedule.Limit which at) = status.Limit which at
@@ -62,3 +68,16 @@ abbrev pub run_status : RunError → Status
 run_status (run.Spent counter) = status.Spent counter
 run_status (run.Packets line) = status.Limit Packets line
 run_status run.Memory = status.Memory
+
+-- the status of a node that was broken off
+abbrev pub stop_status : Stop → Status
+stop_status stop.Write = status.WriteFault
+stop_status (stop.Spent counter) = status.Spent counter
+stop_status stop.Memory = status.Memory
+
+-- the status of a node that did not end as it should
+abbrev pub launch_status : LaunchError → Status
+launch_status launch.Bind = status.LinkFault
+launch_status (launch.Read why) = read_status why
+launch_status (launch.Script why) = schedule_status why
+launch_status (launch.Turns why) = stop_status why

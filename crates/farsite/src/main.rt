@@ -1,22 +1,25 @@
-//! The program: reads a schedule, runs it, and writes what is asked for of the run.
+//! The program: runs a schedule and writes what is asked for of the run, or runs one server or client as a node.
 #![tactic(auto)]
 
+mod causes;
 mod lines;
+mod node;
 mod page;
 mod replay;
 mod run;
 mod run_error;
+mod scheduled;
 mod status;
 mod top;
-mod words;
 
-ghost use Rattle.std.specs.Prelude.{◌≡◌, ◌⊎◌, ◌+◌, ◌<◌, ◌^◌};
+ghost use Rattle.std.specs.Prelude.{◌≡◌, ◌↔◌, ◌⊎◌, ◌+◌, ◌<◌, ◌^◌, ℕ, Err, map, string_bytes};
 ghost use Rattle.std.specs.Io.KnownBytes.{Appends};
 ghost use Rattle.std.specs.Process.{exit_status};
 ghost use Rattle.fs_io.specs.Bytes.{IsPrefixWritten};
 ghost use Rattle.fs_io.specs.Faults.{Rose};
+ghost use Rattle.fs_words.specs.Usage.{command_of};
 ghost use Rattle.farsite.specs.Status.{number_of};
-ghost use Rattle.farsite.specs.Usage.{page_text};
+ghost use Rattle.farsite.specs.Pages.{page_text};
 ghost use Rattle.farsite.specs.declared.status.Status.TheVariants.{Done, WriteFault};
 
 use crate::lines::write_lines;
@@ -24,11 +27,13 @@ use crate::page::{Page, page_of};
 use crate::status::Status;
 use crate::top::farsite;
 use fs_ident::Memory;
-use fs_io::{Failed, MemClock, Sink, SureLink, standard_input, standard_output};
+use fs_io::{Failed, Sink, SystemClock, UdpLink, standard_input, standard_output};
 use std::alloc::Global;
 use std::env::FillError;
+use std::net::Net;
 use std::process::ExitCode;
 use std::rt::Env;
+use std::time::Clock as Time;
 
 fn main(rt: HostRuntime) -> ExitCode {
     let status = call(&rt);
@@ -36,7 +41,7 @@ fn main(rt: HostRuntime) -> ExitCode {
 }
 
 /// What the words of the command line ask for.
-fn call<R: Env + Input + Print + AllocGlobal>(rt: &R) -> Status {
+fn call<R: Env + Input + Print + Net + Time + AllocGlobal>(rt: &R) -> Status {
     let Ok(words) = words_of(rt.alloc(), rt) else {
         return Status::Memory;
     };
@@ -100,16 +105,24 @@ fn printed<K: Sink>(page: Page, out: &mut K) -> Status
     }
 }
 
-/// The top call over standard input and output; no clock and no link is asked for.
-fn called<R: Input + Print + AllocGlobal>(rt: &R, words: &[String]) -> Status {
-    let alloc = rt.alloc();
+/// The top call over standard input and output, the system's clock, and a link over UDP, which has no socket before a node binds
+/// its address.
+fn called<R: Input + Print + Net + Time + AllocGlobal>(rt: &R, words: &[String]) -> Status
+    ensures usage { (word : ℕ) → (result ≡ Status.Usage word) ↔
+        (command_of (map string_bytes words.now) ≡ Err word) }
+{
     let mut input = standard_input(rt);
     let mut out = standard_output(rt);
-    let mut clock = MemClock::new(Vec::new(alloc));
-    let Ok(mut link) = SureLink::new(alloc, Vec::new(alloc), 0) else {
-        return Status::Memory;
-    };
-    farsite(alloc, words, &mut input, &mut out, &mut clock, &mut link)
+    let mut clock = SystemClock::new(rt);
+    let mut link = UdpLink::new(rt);
+    farsite(
+        rt.alloc(),
+        words,
+        &mut input,
+        &mut out,
+        &mut clock,
+        &mut link,
+    )
 }
 
 /// Says how the call ended on standard error, unless it is done, and ends with the status's number, also where nothing

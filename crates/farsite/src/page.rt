@@ -1,8 +1,8 @@
 //! What the program tells of itself.
 ghost use Rattle.std.specs.Prelude.{◌≡◌, map, string_bytes};
-ghost use Rattle.farsite.specs.Usage.{page_of, page_text};
+ghost use Rattle.farsite.specs.Pages.{page_of, page_text};
 
-use crate::words::is_word;
+use fs_words::is_word;
 
 /// A text on the program, which is printed in place of a call.
 #[derive(Clone, Copy, Debug, PartialEq, Eq)]
@@ -27,9 +27,11 @@ impl Page {
 
 const HELP: &str = "usage: farsite replay < SCHEDULE
        farsite journal < SCHEDULE
+       farsite node ACTOR SERVERS SKEW TERM TURNS PEER.. < SCRIPT
 
 Reads a schedule and runs it. `replay` writes its report: an outcome for each event, the
 journal, and the namespace at the end. `journal` writes the journal and the namespace in JSON.
+`node` runs one server or client over UDP with a script, and writes each operation that it ends.
 ";
 
 const VERSION: &str = "farsite 0.1.0\n";

@@ -13,25 +13,25 @@ ghost use Rattle.farsite.specs.declared.run_error.RunError.TheVariants.{Packets,
 
 use crate::run::run;
 use crate::run_error::RunError;
-use crate::words::Command;
 use fs_ident::{List, Memory};
 use fs_model::Space;
 use fs_msg::Item;
 use fs_report::{done_line, item_line, journal_json, outcome_line, space_lines};
 use fs_schedule::{Outcome, Schedule};
+use fs_words::Format;
 use fs_world::World;
 use std::alloc::Global;
 
-/// What the command writes of the schedule's run. `Spent` where an event needs a number after a counter's last one, `Packets`
+/// The schedule's run in the format. `Spent` where an event needs a number after a counter's last one, `Packets`
 /// where more packets are sent than the limit.
 pub(crate) fn text_of(
     alloc: Global,
-    command: Command,
+    format: Format,
     schedule: &Schedule,
 ) -> Result<Vec<u8>, RunError>
     requires head { FitsHead schedule.now.head }
     requires events { MayHappen (first_world schedule.now.head) schedule.now.events }
-    ensures ok { IfOk result (λ v. v.items ≡ text_of command (run_of schedule.now)) }
+    ensures ok { IfOk result (λ v. v.items ≡ text_of format (run_of schedule.now)) }
     ensures known { OnOk result (NoneHas is_link_strange (run_of schedule.now).outcomes) }
     ensures carried { OnOk result (AllCarry (first_world schedule.now.head) schedule.now.events) }
     ensures whole { OnOk result (stop_of schedule.now ≡ None) }
@@ -41,25 +41,25 @@ pub(crate) fn text_of(
         stop_of schedule.now ≡ Some (AtPackets line) }
 {
     let (world, told) = run(alloc, schedule)?;
-    let text = text(alloc, command, &world, &told);
+    let text = text(alloc, format, &world, &told);
     world.discard();
     Ok(text?)
 }
 
-/// What the command writes of a world and of what its events came to.
+/// A world and what its events came to, in the format.
 fn text(
     alloc: Global,
-    command: Command,
+    format: Format,
     world: &World,
     told: &List<Outcome>,
 ) -> Result<Vec<u8>, Memory>
     ensures { IfOk result (λ v. v.items ≡
-        text_of command (record { world = world.now; outcomes = told.now })) }
+        text_of format (record { world = world.now; outcomes = told.now })) }
 {
     let space = world.space(alloc)?;
-    match command {
-        Command::Replay => report(alloc, told, world.journal(), &space),
-        Command::Journal => json(alloc, world.journal(), &space),
+    match format {
+        Format::Report => report(alloc, told, world.journal(), &space),
+        Format::Json => json(alloc, world.journal(), &space),
     }
 }
 

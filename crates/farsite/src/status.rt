@@ -14,7 +14,7 @@ pub enum Status {
     Usage { word: u64 },
     /// The first faulty line is outside the grammar.
     BadLine { line: u64 },
-    /// All lines pass, and the line's reading is more than the skew before that of an earlier one.
+    /// All lines pass, and the line's reading is more than the skew before that of an earlier one. Never of a script.
     Skewed { line: u64, earlier: u64 },
     /// The first faulty line passes a limit, or the run passes that of packets at the line's event.
     Limit { which: Which, at: u64 },
@@ -28,6 +28,8 @@ pub enum Status {
     Spent { counter: Counter },
     /// Memory is wanting.
     Memory,
+    /// The address of a node could not be bound.
+    LinkFault,
 }
 
 impl Status {
@@ -48,6 +50,7 @@ impl Status {
             Status::WriteFault => 8,
             Status::Spent { .. } => 9,
             Status::Memory => 10,
+            Status::LinkFault => 11,
         }
     }
 }
@@ -71,6 +74,7 @@ impl fmt::Display for Status {
             Status::WriteFault => f.write_str("the output could not be written"),
             Status::Spent { .. } => f.write_str("a counter is spent"),
             Status::Memory => f.write_str("memory is wanting"),
+            Status::LinkFault => f.write_str("the address could not be bound"),
         }
     }
 }

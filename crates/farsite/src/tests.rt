@@ -1,4 +1,5 @@
 mod moves;
+mod nodes;
 mod schedules;
 mod served;
 
@@ -424,7 +425,10 @@ fn words_that_are_no_form(rt: HostRuntime) -> Result<(), Fail> {
     is_no_form(&rt, rt.alloc(), &[], 1)?;
     is_no_form(&rt, rt.alloc(), &["replay", "x"], 2)?;
     is_no_form(&rt, rt.alloc(), &["journal", "x"], 2)?;
-    is_no_form(&rt, rt.alloc(), &["journals"], 1)
+    is_no_form(&rt, rt.alloc(), &["journals"], 1)?;
+    is_no_form(&rt, rt.alloc(), &["node", "s1", "1"], 3)?;
+    let alone = ["node", "s0", "1", "10", "100", "2"];
+    is_no_form(&rt, rt.alloc(), &alone, 7)
 }
 
 /// Standard output is full, and the words are long ones, the second of which is not text.

@@ -3,11 +3,11 @@ use Rattle.fs_schedule.specs.Faults.{AtLine, IsFirstFault, IsOutside, IsSkewed}
 use Rattle.fs_world.specs.World.{AtCounter}
 use Rattle.farsite.specs.Headline.{IsLimit, IsPartOfRun, IsRun, IsStopped}
 use Rattle.farsite.proofs.Done.{as_told}
-use Rattle.farsite.proofs.top.commanded.Goals as goal
+use Rattle.farsite.proofs.scheduled.scheduled.Goals as goal
 
 pub returns-in-Ok-clause-done : goal.returns-in-Ok-clause-done
 returns-in-Ok-clause-done g c = λ e.
-    let P : List ℕ → Type 0 = λ bs. IsRun c.args.command bs (g.K.Sink.written c.args.out.now) (g.K.Sink.written c.replay.new.out) in
+    let P : List ℕ → Type 0 = λ bs. IsRun c.args.format bs (g.K.Sink.written c.args.out.now) (g.K.Sink.written c.replay.new.out) in
     as_told (g.S.Source.left c.args.input.now) c.in-Ok.bytes.items P c.in-Ok.ensures.all (subst P c.deref.ensures.value (c.replay.ensures.done e))
 
 pub returns-in-Ok-clause-bad_line : goal.returns-in-Ok-clause-bad_line
@@ -32,5 +32,5 @@ returns-in-Ok-clause-spent g c = λ counter e.
 
 pub returns-in-Ok-clause-prefix : goal.returns-in-Ok-clause-prefix
 returns-in-Ok-clause-prefix g c = λ e.
-    let P : List ℕ → Type 0 = λ bs. IsPartOfRun c.args.command bs (g.K.Sink.written c.args.out.now) (g.K.Sink.written c.replay.new.out) in
+    let P : List ℕ → Type 0 = λ bs. IsPartOfRun c.args.format bs (g.K.Sink.written c.args.out.now) (g.K.Sink.written c.replay.new.out) in
     as_told (g.S.Source.left c.args.input.now) c.in-Ok.bytes.items P c.in-Ok.ensures.all (subst P c.deref.ensures.value (c.replay.ensures.prefix e))
