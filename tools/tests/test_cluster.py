@@ -26,6 +26,8 @@ esac
 echo "$2 1 kind / isdir"
 echo 'summary turns 3 admitted 1 dropped 0 receive_faults 0 send_faults 0'
 """
+# How many datagrams are sent, of a few bytes each.
+COUNT = 200
 # Seconds: that a datagram may take on a busy machine, beyond what the relay has it wait.
 SLOW = 2.0
 
@@ -133,7 +135,8 @@ class Relaying(unittest.TestCase):
         return dict(zip(words[::2], map(int, words[1::2])))
 
     def sent(self, nodes, stands, count):
-        """Sends numbers from one to the other, and gives those that came with the time that each took."""
+        """Sends numbers from one to the other, and gives those that came with the time that each took: no more than a socket keeps, so that
+        none is lost but by the relay."""
         came, times = [], []
 
         def take(seconds):
@@ -148,10 +151,8 @@ class Relaying(unittest.TestCase):
         for k in range(count):
             times.append(time.monotonic())
             nodes[0].sendto(b'%d' % k, stands[1])
-            # (no more at once than a socket keeps)
-            time.sleep(0.001)
             take(0)
-        take(0.5)
+        take(1)
         return came
 
     def test_all_goes_on(self):
@@ -173,13 +174,13 @@ class Relaying(unittest.TestCase):
         seen = []
         for seed in ('1', '1', '2'):
             nodes, stands = self.relayed('--loss', '20', '--repeat', '30', '--seed', seed)
-            came = [k for k, _ in self.sent(nodes, stands, 400)]
+            came = [k for k, _ in self.sent(nodes, stands, COUNT)]
             counts = self.counts()
-            self.assertEqual((counts['datagrams'], counts['dropped']), (400, 0))
-            self.assertEqual(len(set(came)), 400 - counts['lost'])
+            self.assertEqual((counts['datagrams'], counts['dropped']), (COUNT, 0))
+            self.assertEqual(len(set(came)), COUNT - counts['lost'])
             self.assertEqual(len(came) - len(set(came)), counts['repeated'])
-            self.assertTrue(40 < counts['lost'] < 130, counts)
-            self.assertTrue(50 < counts['repeated'] < 150, counts)
+            self.assertTrue(20 < counts['lost'] < 65, counts)
+            self.assertTrue(25 < counts['repeated'] < 75, counts)
             seen.append(came)
         self.assertEqual(seen[0], seen[1])
         self.assertNotEqual(seen[0], seen[2])
@@ -191,9 +192,9 @@ class Relaying(unittest.TestCase):
 
     def test_delay(self):
         nodes, stands = self.relayed('--delay', '60')
-        came = self.sent(nodes, stands, 200)
-        self.assertEqual(sorted(k for k, _ in came), list(range(200)))
-        self.assertNotEqual([k for k, _ in came], list(range(200)), 'none came before an earlier one')
+        came = self.sent(nodes, stands, COUNT)
+        self.assertEqual(sorted(k for k, _ in came), list(range(COUNT)))
+        self.assertNotEqual([k for k, _ in came], list(range(COUNT)), 'none came before an earlier one')
         took = [seconds for _, seconds in came]
         self.assertGreaterEqual(min(took), 0.030)
         self.assertLess(min(took), SLOW)
