@@ -1,6 +1,6 @@
 -- The end of a replay.
 use Rattle.std.proofs.Common.{◌≡◌, ℕ, ◌+◌, List, [], ◌∷◌, ◌++◌, ap, sym, ◌∙◌, subst, append_assoc, inl, inr}
-use Rattle.std.specs.Prelude.{Option, Some, None, IfSome, Ok, IfOk}
+use Rattle.std.specs.Prelude.{Option, Some, None, IfSome}
 use Rattle.std.specs.Io.KnownBytes.{Appends}
 use Rattle.fs_schedule.specs.declared.event.Schedule.{Schedule}
 use Rattle.fs_schedule.specs.Faults.{AtLine, FaultsAt, IsFirstFault, IsScheduleText, LinesFaultAt, PassesLimit}
@@ -22,8 +22,6 @@ use Rattle.fs_schedule.specs.declared.error.ScheduleError.TheVariants as schedul
 use Rattle.farsite.specs.Status.{schedule_status}
 use Rattle.farsite.specs.declared.status.Status.TheVariants as status
 use Rattle.farsite.specs.Headline.{IsLimit, IsRun, text_of}
-use Rattle.fs_words.specs.Usage.{Asked}
-use Rattle.fs_words.specs.declared.command.Command.{Command}
 use Rattle.fs_words.specs.declared.command.Format.{Format}
 
 -- a schedule's run was written in the format
@@ -83,11 +81,3 @@ last_line o j s a b c x y z p q r =
     ap (λ n. o ++ (j ++ (s ++ done_text n b c))) p
     ∙ ap (λ n. o ++ (j ++ (s ++ done_text x n c))) q
     ∙ ap (λ n. o ++ (j ++ (s ++ done_text x y n))) r
-
--- what holds of the command holds of what the words ask for
-pub as_asked : (o : Asked) (command : Command) (P : Command → Type 0) → Ok command ≡ o → P command → IfOk o P
-as_asked o command P e h = subst (λ (x : Asked). IfOk x P) e h
-
--- what holds of any command holds of what the words ask for, where they are a form
-pub stays_asked : (o : Asked) (command : Command) (P : Asked → Type 0) → Ok command ≡ o → P o → P (Ok command)
-stays_asked o command P e h = subst P (sym e) h

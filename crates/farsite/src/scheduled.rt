@@ -29,6 +29,7 @@ pub(crate) fn scheduled<S: Source, K: Sink>(
         (λ bytes. IsRun format bytes (K.written out.old) (K.written out.new)) }
     ensures end { result ≡ Status.Done → IsAtEnd (S.left input.new) }
     ensures usage { (word : ℕ) → result ≢ Status.Usage word }
+    ensures linked { result ≢ Status.LinkFault }
     ensures bad_line { (line : ℕ) → result ≡ Status.BadLine line →
         IfSome (S.left input.old) (λ bytes. IsFirstFault (AtLine line IsOutside) bytes) }
     ensures skewed { (line earlier : ℕ) → result ≡ Status.Skewed line earlier →
@@ -61,6 +62,7 @@ fn replay<K: Sink>(alloc: Global, format: Format, bytes: &[u8], out: &mut K) -> 
     ensures done { result ≡ Status.Done →
         IsRun format bytes.now (K.written out.old) (K.written out.new) }
     ensures usage { (word : ℕ) → result ≢ Status.Usage word }
+    ensures linked { result ≢ Status.LinkFault }
     ensures bad_line { (line : ℕ) → result ≡ Status.BadLine line →
         IsFirstFault (AtLine line IsOutside) bytes.now }
     ensures skewed { (line earlier : ℕ) → result ≡ Status.Skewed line earlier →

@@ -1,14 +1,13 @@
 mod moves;
 mod nodes;
+mod poor;
 mod schedules;
 mod served;
 
-use crate::page::Page;
 use crate::run::flooded;
 use crate::status::Status;
 use crate::top::farsite;
-use crate::{printed, words_of};
-use fs_io::{MemClock, MemSink, MemSource, SureLink, standard_output};
+use fs_io::{MemClock, MemSink, MemSource, SureLink};
 use fs_schedule::Which;
 use moves::{
     DELEGATION, DELEGATION_REPORT, REFUSED_MOVES, REFUSED_MOVES_REPORT, SENT_ON, SENT_ON_REPORT,
@@ -26,9 +25,7 @@ use served::{
     WITHIN_SKEW, WITHIN_SKEW_REPORT,
 };
 use std::alloc::Global;
-use std::env::{Env, FillError};
-use std::fmt::{Debug, Display};
-use std::io;
+use std::fmt::Debug;
 use std::process::Abort;
 use std::test::Fail;
 
@@ -429,73 +426,6 @@ fn words_that_are_no_form(rt: HostRuntime) -> Result<(), Fail> {
     is_no_form(&rt, rt.alloc(), &["node", "s1", "1"], 3)?;
     let alone = ["node", "s0", "1", "10", "100", "2"];
     is_no_form(&rt, rt.alloc(), &alone, 7)
-}
-
-/// Standard output is full, and the words are long ones, the second of which is not text.
-struct Poor;
-
-impl Print for Poor {
-    fn print<D: Display + Drop>(&self, _: D) -> io::Result<()> {
-        Err(io::Error::from(io::ErrorKind::StorageFull))
-    }
-
-    fn println<D: Display + Drop>(&self, _: D) -> io::Result<()> {
-        Err(io::Error::from(io::ErrorKind::StorageFull))
-    }
-
-    fn write_all(&self, _: &[u8]) -> io::Result<()> {
-        Err(io::Error::from(io::ErrorKind::StorageFull))
-    }
-}
-
-impl Env for Poor {
-    fn arg(&self, i: usize, buf: &mut [u8]) -> Result<usize, FillError> {
-        if i > 2 {
-            return Err(FillError::NotPresent);
-        }
-        if buf.len() < 300 {
-            return Err(FillError::TooLong);
-        }
-        buf[..300].fill(if i == 2 { 0xff } else { b'a' });
-        Ok(300)
-    }
-
-    fn var(&self, _: &str, _: &mut [u8]) -> Result<usize, FillError> {
-        Err(FillError::NotPresent)
-    }
-
-    fn var_at(&self, _: usize, _: &mut [u8]) -> Result<usize, FillError> {
-        Err(FillError::NotPresent)
-    }
-}
-
-/// Whether the word is all `a`.
-fn is_plain(word: &str) -> bool {
-    word.as_bytes().iter().all(|b| *b == b'a')
-}
-
-/// The lengths of two words, and whether they are all `a`.
-fn told(words: &[String]) -> Result<[(bool, bool); 2], Fail> {
-    match words {
-        [first, second] => Ok([
-            (is_plain(first.as_str()), first.is_empty()),
-            (is_plain(second.as_str()), second.is_empty()),
-        ]),
-        _ => Err(Fail::from("there are not two words")),
-    }
-}
-
-#[test]
-fn words_that_are_not_text(rt: HostRuntime) -> Result<(), Fail> {
-    let words = words_of(rt.alloc(), &Poor)?;
-    same(&rt, told(&words)?, [(true, false), (false, false)]);
-    Ok(())
-}
-
-#[test]
-fn a_full_output(rt: HostRuntime) {
-    let mut out = standard_output(&Poor);
-    same(&rt, printed(Page::Help, &mut out), Status::WriteFault);
 }
 
 #[test]
