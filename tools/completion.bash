@@ -23,4 +23,5 @@ complete -F _farsite farsite ./farsite
 for _farsite_name in explain make shrink chart diff; do
   complete -o filenames -F _farsite_tool "tools/$_farsite_name" "./tools/$_farsite_name"
 done
+complete -o filenames -F _farsite_tool examples/cluster/run ./examples/cluster/run
 unset _farsite_name

@@ -50,6 +50,7 @@ class Completion(unittest.TestCase):
 
     def test_options_and_files(self):
         self.assertIn('--skew', self.completed('tools/make', '--s'))
+        self.assertIn('--loss', self.completed('examples/cluster/run', '--l'))
         self.assertIn('examples/first.schedule', self.completed('tools/explain', 'examples/f'))
 
 
