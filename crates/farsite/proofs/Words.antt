@@ -1,6 +1,6 @@
 -- What the words ask for, where they are a form.
 use Rattle.std.proofs.Common.{◌≡◌, ℕ, subst, sym, ◌∙◌, inl, inr}
-use Rattle.std.specs.Prelude.{Ok, Err, IfOk, OnErr, ◌⊎◌}
+use Rattle.std.specs.Prelude.{Ok, Err, IfOk, ◌⊎◌}
 use Rattle.fs_words.specs.Usage.{Asked}
 use Rattle.fs_words.specs.declared.command.Command.{Command}
 use Rattle.fs_words.specs.declared.command.Command.TheVariants.{Run, Node}
@@ -26,9 +26,6 @@ module _ {o : Asked} {x command : Command} (e : Ok x ≡ o) (is : x ≡ command)
   -- they are a form
   pub no_word : {A : Type 0} (word : ℕ) → o ≡ Err word → A
   no_word word h = absurd (cc (e, h))
-
-  pub no_error : (A : Type 0) → OnErr o A
-  no_error A = subst (λ (y : Asked). OnErr y A) e tt
 
 pub is_scheduled : {o : Asked} {x : Command} {format : Format} → Ok x ≡ o → x ≡ Run format → IsScheduled o
 is_scheduled e is = subst (λ (y : Asked). IsScheduled y) e (subst (λ (y : Command). IsScheduled (Ok y)) (sym is) tt)
