@@ -7,7 +7,7 @@ _farsite_words() {
 
 _farsite() {
   COMPREPLY=()
-  [ "$COMP_CWORD" = 1 ] && _farsite_words 'replay journal node build state --help --version -h'
+  [ "$COMP_CWORD" = 1 ] && _farsite_words 'replay journal gen node build state --help --version -h'
 }
 
 # The options of a tool as its own --help lists them; files, where no option is begun.

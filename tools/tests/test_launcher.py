@@ -30,10 +30,12 @@ class Answering(unittest.TestCase):
         return ended
 
     def test_faulty_words(self):
-        first, second = ('farsite: word %d is not understood\n' % k for k in (1, 2))
+        first, second, third = ('farsite: word %d is not understood\n' % k for k in (1, 2, 3))
         for words, said in (((), first), (('x',), first), (('',), first), (('--help', 'x'), first), (('-h', 'x'), first),
                             (('\udcff',), first), (('replay', 'x'), second + HINT), (('replay', ''), second + HINT),
-                            (('replay', 'replay', 'x'), second + HINT), (('build', 'x'), second), (('state', 'x'), second)):
+                            (('replay', 'replay', 'x'), second + HINT), (('build', 'x'), second), (('state', 'x'), second),
+                            (('gen',), second), (('gen', '-1'), second), (('gen', '01'), second),
+                            (('gen', '18446744073709551616'), second), (('gen', '1', 'x'), third)):
             self.assertEqual(self.launched(*words), (2, '', said), words)
 
     def test_help(self):

@@ -1,8 +1,12 @@
 -- The end of a replay.
 use Rattle.std.proofs.Common.{◌≡◌, ℕ, ◌+◌, List, [], ◌∷◌, ◌++◌, ap, sym, ◌∙◌, subst, append_assoc, inl, inr}
-use Rattle.std.specs.Prelude.{Option, Some, None, IfSome, Ok, IfOk}
+use Rattle.std.specs.Prelude.{Option, Some, None, IfSome}
 use Rattle.std.specs.Io.KnownBytes.{Appends}
 use Rattle.fs_schedule.specs.declared.event.Schedule.{Schedule}
+use Rattle.fs_schedule.specs.Made.{made}
+use Rattle.fs_schedule.specs.Skew.{IsTimely}
+use Rattle.fs_schedule.specs.Spelling.{FitsHead}
+use Rattle.fs_schedule.proofs.MadeEvents.{made_fits, made_form, made_timely}
 use Rattle.fs_schedule.specs.Faults.{AtLine, FaultsAt, IsFirstFault, IsScheduleText, LinesFaultAt, PassesLimit}
 use Rattle.fs_report.specs.Report.{done_text}
 use Rattle.fs_schedule.proofs.Single.{form_fits}
@@ -19,26 +23,34 @@ use Rattle.fs_schedule.specs.declared.error.Which.TheVariants.{Bytes, Events, Pa
 use Rattle.fs_schedule.specs.declared.event.Head.{Head}
 use Rattle.fs_schedule.specs.declared.error.ScheduleError.{ScheduleError}
 use Rattle.fs_schedule.specs.declared.error.ScheduleError.TheVariants as schedule
+use Rattle.farsite.specs.Generated.{generated_text}
 use Rattle.farsite.specs.Status.{schedule_status}
+use Rattle.farsite.proofs.Asked.{all_asked}
 use Rattle.farsite.specs.declared.status.Status.TheVariants as status
-use Rattle.farsite.specs.Headline.{IsLimit, IsRun, text_of}
-use Rattle.fs_words.specs.Usage.{Asked}
-use Rattle.fs_words.specs.declared.command.Command.{Command}
+use Rattle.farsite.specs.Headline.{IsLimit, IsRun, IsRunOf, text_of}
 use Rattle.fs_words.specs.declared.command.Format.{Format}
+
+-- this text of a schedule's run was written
+pub run_written : (s : Schedule) (text : List ℕ) (a b : Option (List ℕ)) → FitsHead s.head → IsTimely s.head s.events → AllMayHappen s.head s.events → stop_of s ≡ None → NoneHas is_link_strange (run_of s).outcomes → AllCarry (first_world s.head) s.events → Appends a b text → IsRunOf s text a b
+run_written s text a b form timely f h k carry w = record {
+  whole = h;
+  written = w;
+  headline = run_is_serial serial_laws s form f timely carry;
+  fair = refusals_fair serial_laws s form f timely carry;
+  over = all_caused s.head s.events carry;
+  known = neither_strange (run_of s).outcomes k (no_core_strange serial_laws s form f timely carry);
+  admitted = λ direct. told_is_admitted serial_laws s direct f;
+}
 
 -- a schedule's run was written in the format
 pub replayed : (format : Format) (s : Schedule) (bytes : List ℕ) (a b : Option (List ℕ)) → IsScheduleText s bytes → AllMayHappen s.head s.events → stop_of s ≡ None → NoneHas is_link_strange (run_of s).outcomes → AllCarry (first_world s.head) s.events → Appends a b (text_of format (run_of s)) → IsRun format bytes a b
-replayed format s bytes a b r f h k carry w = record {
-  schedule = s;
-  read = r;
-  whole = h;
-  written = w;
-  headline = run_is_serial serial_laws s (form_fits s bytes r) f r.1 carry;
-  fair = refusals_fair serial_laws s (form_fits s bytes r) f r.1 carry;
-  over = all_caused s.head s.events carry;
-  known = neither_strange (run_of s).outcomes k (no_core_strange serial_laws s (form_fits s bytes r) f r.1 carry);
-  admitted = λ direct. told_is_admitted serial_laws s direct f;
-}
+replayed format s bytes a b r f h k carry w = record { schedule = s; read = r; run = run_written s (text_of format (run_of s)) a b (form_fits s bytes r) r.1 f h k carry w }
+
+-- the line of a made schedule's run was written
+pub generated : (n : ℕ) (s : Schedule) (a b : Option (List ℕ)) → made n ≡ s → stop_of s ≡ None → NoneHas is_link_strange (run_of s).outcomes → AllCarry (first_world s.head) s.events → Appends a b (generated_text n (run_of s)) → IsRunOf (made n) (generated_text n (run_of (made n))) a b
+generated n s a b same =
+    let P : Schedule → Type 0 = λ t. stop_of t ≡ None → NoneHas is_link_strange (run_of t).outcomes → AllCarry (first_world t.head) t.events → Appends a b (generated_text n (run_of t)) → IsRunOf (made n) (generated_text n (run_of (made n))) a b in
+    subst P same (run_written (made n) (generated_text n (run_of (made n))) a b (made_form n) (made_timely n) (all_asked (made n).head (made n).events (made_fits n)))
 
 -- no line that is read passes the limit of packets
 no_line_floods : (h : Head) (at before : ℕ) (lines : List (List ℕ)) → FaultsAt (PassesLimit Packets) h at before lines → ⊥
@@ -83,7 +95,3 @@ last_line o j s a b c x y z p q r =
     ap (λ n. o ++ (j ++ (s ++ done_text n b c))) p
     ∙ ap (λ n. o ++ (j ++ (s ++ done_text x n c))) q
     ∙ ap (λ n. o ++ (j ++ (s ++ done_text x y n))) r
-
--- what holds of the command holds of what the words ask for
-pub as_asked : {o : Asked} {x command : Command} → Ok x ≡ o → x ≡ command → (P : Command → Type 0) → P command → IfOk o P
-as_asked e is P h = subst (λ (y : Asked). IfOk y P) e (subst P (sym is) h)

@@ -30,19 +30,23 @@ abbrev pub text_of : Format → Run → List ℕ
 text_of Report r = report_of r
 text_of Json r = json_of r
 
--- what was written is, in the format, the run of the schedule that was read, which went to its end; its journal is serial; an entry of a
+-- what was written is this text, of the schedule's run, which went to its end; its journal is serial; an entry of a
 -- log is refused only where a lease that it used had ended, or behind such a one, and a session is over only behind such a refusal;
 -- nothing that was told is strange, neither to a link nor to a core; and in the direct form the journal has every reply that was told
-pub record IsRun (format : Format) (bytes : List ℕ) (before now : Option (List ℕ)) : Type 0 where
-  pub schedule : Schedule
-  pub read : IsScheduleText schedule bytes
+pub record IsRunOf (schedule : Schedule) (text : List ℕ) (before now : Option (List ℕ)) : Type 0 where
   pub whole : stop_of schedule ≡ None
-  pub written : Appends before now (text_of format (run_of schedule))
+  pub written : Appends before now text
   pub headline : IsSerial schedule.events (run_of schedule)
   pub fair : AllFair (first_world schedule.head) schedule.events
   pub over : AllCaused [] (said_from (first_world schedule.head) schedule.events)
   pub known : NoneStrange (run_of schedule).outcomes
   pub admitted : schedule.head ≡ Direct → AllAdmitted (journal_of (run_of schedule).world) (told_of schedule.events (run_of schedule).outcomes)
+
+-- what was written is, in the format, the run of the schedule that was read
+pub record IsRun (format : Format) (bytes : List ℕ) (before now : Option (List ℕ)) : Type 0 where
+  pub schedule : Schedule
+  pub read : IsScheduleText schedule bytes
+  pub run : IsRunOf schedule (text_of format (run_of schedule)) before now
 
 -- the bytes are a schedule, whose run went to its end, and a part of it in the format from the front on was written
 abbrev pub IsPartOfRun : Format → List ℕ → Option (List ℕ) → Option (List ℕ) → Type 0

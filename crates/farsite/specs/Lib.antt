@@ -1,4 +1,5 @@
 pub mod Headline
+pub mod Generated
 pub mod Commands
 pub mod Pages
 pub mod Status

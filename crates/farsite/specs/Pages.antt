@@ -14,8 +14,10 @@ page_of (w ∷ (v ∷ ws)) = None
 abbrev pub page_text : Page → List ℕ
 page_text Help =
     codes "usage: farsite replay < SCHEDULE\n       farsite journal < SCHEDULE\n"
+    ++ codes "       farsite gen N\n"
     ++ codes "       farsite node ACTOR SERVERS SKEW TERM TURNS PEER.. < SCRIPT\n\n"
     ++ codes "Reads a schedule and runs it. `replay` writes its report: an outcome for each event, the\n"
     ++ codes "journal, and the namespace at the end. `journal` writes the journal and the namespace in JSON.\n"
+    ++ codes "`gen` makes a schedule from a number, runs it, and writes one line with what it counted.\n"
     ++ codes "`node` runs one server or client over UDP with a script, and writes each operation that it ends.\n"
 page_text Version = codes "farsite 0.1.0\n"

@@ -2,6 +2,7 @@
 #![tactic(auto)]
 
 mod causes;
+mod generated;
 mod lines;
 mod node;
 mod page;

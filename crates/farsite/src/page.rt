@@ -27,10 +27,12 @@ impl Page {
 
 const HELP: &str = "usage: farsite replay < SCHEDULE
        farsite journal < SCHEDULE
+       farsite gen N
        farsite node ACTOR SERVERS SKEW TERM TURNS PEER.. < SCRIPT
 
 Reads a schedule and runs it. `replay` writes its report: an outcome for each event, the
 journal, and the namespace at the end. `journal` writes the journal and the namespace in JSON.
+`gen` makes a schedule from a number, runs it, and writes one line with what it counted.
 `node` runs one server or client over UDP with a script, and writes each operation that it ends.
 ";
 

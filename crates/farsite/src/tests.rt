@@ -1,3 +1,4 @@
+mod generated;
 mod moves;
 mod nodes;
 mod poor;
@@ -423,6 +424,11 @@ fn words_that_are_no_form(rt: HostRuntime) -> Result<(), Fail> {
     is_no_form(&rt, rt.alloc(), &["replay", "x"], 2)?;
     is_no_form(&rt, rt.alloc(), &["journal", "x"], 2)?;
     is_no_form(&rt, rt.alloc(), &["journals"], 1)?;
+    is_no_form(&rt, rt.alloc(), &["gen"], 2)?;
+    is_no_form(&rt, rt.alloc(), &["gen", "-1"], 2)?;
+    is_no_form(&rt, rt.alloc(), &["gen", "01"], 2)?;
+    is_no_form(&rt, rt.alloc(), &["gen", "18446744073709551616"], 2)?;
+    is_no_form(&rt, rt.alloc(), &["gen", "1", "x"], 3)?;
     is_no_form(&rt, rt.alloc(), &["node", "s1", "1"], 3)?;
     let alone = ["node", "s0", "1", "10", "100", "2"];
     is_no_form(&rt, rt.alloc(), &alone, 7)

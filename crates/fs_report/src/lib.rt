@@ -5,6 +5,7 @@ mod acts;
 mod client_notes;
 mod done;
 mod ends;
+mod generated;
 mod items;
 mod journal;
 mod law;
@@ -24,6 +25,7 @@ mod spaces;
 mod strings;
 
 pub use done::done_line;
+pub use generated::generated_line;
 pub use items::{item_line, item_text};
 pub use journal::journal_json;
 pub use law::the_namespace_is_its_lines;

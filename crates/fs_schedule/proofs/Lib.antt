@@ -11,3 +11,6 @@ pub mod Reading
 pub mod Skews
 pub mod Limited
 pub mod ScriptLaws
+pub mod Parts
+pub mod Making
+pub mod MadeEvents

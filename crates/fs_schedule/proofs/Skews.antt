@@ -11,7 +11,7 @@ use Rattle.fs_schedule.specs.Ahead.{AllReadBelow, IsFirstAhead}
 
 -- ## Events in order
 
-all_append : (P : Event → Type 0) (xs ys : List Event) → AllByRecursion P xs → AllByRecursion P ys → AllByRecursion P (xs ++ ys)
+pub all_append : (P : Event → Type 0) (xs ys : List Event) → AllByRecursion P xs → AllByRecursion P ys → AllByRecursion P (xs ++ ys)
 all_append P [] ys h k = k
 all_append P (x ∷ xs) ys h k = (h.0, all_append P xs ys h.1 k)
 
@@ -19,7 +19,7 @@ all_at : (P : Event → Type 0) (xs : List Event) (x : Event) (ys : List Event) 
 all_at P [] x ys h = h.0
 all_at P (z ∷ xs) x ys h = all_at P xs x ys h.1
 
-all_weaker : (m n : ℕ) (es : List Event) → m ≤ n → AllReadBelow m es → AllReadBelow n es
+pub all_weaker : (m n : ℕ) (es : List Event) → m ≤ n → AllReadBelow m es → AllReadBelow n es
 all_weaker m n [] le h = tt
 all_weaker m n (e ∷ es) le h = (omega (arith, h.0), all_weaker m n es le h.1)
 
@@ -28,7 +28,7 @@ within_pair : (skew : ℕ) (before between after : List Event) (ahead late : Eve
 within_pair skew [] between after ahead late h = all_at (λ (f : Event). ahead.reading ≤ f.reading + skew) between late after h.0
 within_pair skew (e ∷ es) between after ahead late h = within_pair skew es between after ahead late h.1
 
-within_push : (skew : ℕ) (es : List Event) (e : Event) → IsWithinSkew skew es → AllReadBelow (e.reading + skew) es → IsWithinSkew skew (es ++ e ∷ [])
+pub within_push : (skew : ℕ) (es : List Event) (e : Event) → IsWithinSkew skew es → AllReadBelow (e.reading + skew) es → IsWithinSkew skew (es ++ e ∷ [])
 within_push skew [] e h k = (tt, tt)
 within_push skew (f ∷ es) e h k = (all_append (λ (g : Event). f.reading ≤ g.reading + skew) es (e ∷ []) h.0 (k.0, tt), within_push skew es e h.1 k.1)
 

@@ -6,6 +6,7 @@ pub mod Faults
 pub mod Script
 pub mod Limits
 pub mod Errors
+pub mod Made
 -- cited by private calls alone
 pub mod Separated
 pub mod Ahead

@@ -1,10 +1,12 @@
 //! Laws of schedules and their texts.
-ghost use Rattle.std.specs.Prelude.{◌≡◌, ℕ, Bool, List as Seq};
+ghost use Rattle.std.specs.Prelude.{◌≡◌, ◌≤◌, ℕ, Bool, List as Seq, length};
 ghost use Rattle.std.specs.List.{AllByRecursion};
 ghost use Rattle.fs_ident.specs.declared.limits.TheConstants.{LATEST, SESSIONS};
 ghost use Rattle.fs_msg.specs.declared.limits.TheConstants.{LONGEST, SERVERS};
 ghost use Rattle.fs_schedule.specs.declared.limits.TheConstants.{BYTES, EVENTS, PACKETS};
 ghost use Rattle.fs_schedule.specs.declared.event.Schedule.{Schedule as Told};
+ghost use Rattle.fs_schedule.specs.Made.{made};
+ghost use Rattle.fs_schedule.specs.Skew.{IsTimely};
 ghost use Rattle.fs_schedule.specs.Spelling.{FitsHead, FitsEvent};
 ghost use Rattle.fs_schedule.specs.declared.script.Script.{Script as ScriptLine};
 ghost use Rattle.fs_schedule.specs.Faults.{Fault, IsScheduleText, IsFirstFault, LineFault};
@@ -50,4 +52,14 @@ pub fn one_script()
     ensures fits { (client : Bool) (servers : ℕ) (s : Seq ScriptLine) (bytes : Seq ℕ) →
         IsScriptText client servers s bytes →
         AllByRecursion (FitsScript client (served servers)) s }
+{}
+
+/// Every made schedule is one that may be run, as those that are read are: of a form and of events
+/// of the grammar, no more of them than there may be, and no reading is before an earlier one by
+/// more than the skew.
+pub fn made_schedules()
+    ensures form { (n : ℕ) → FitsHead (made n).head }
+    ensures fits { (n : ℕ) → AllByRecursion (FitsEvent (made n).head) (made n).events }
+    ensures timely { (n : ℕ) → IsTimely (made n).head (made n).events }
+    ensures few { (n : ℕ) → length (made n).events ≤ EVENTS }
 {}

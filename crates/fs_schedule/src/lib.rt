@@ -3,6 +3,8 @@
 
 mod actor;
 mod cut;
+mod drawn_op;
+mod draws;
 mod error;
 mod event;
 mod field;
@@ -10,6 +12,7 @@ mod head;
 mod law;
 mod limits;
 mod line;
+mod made;
 mod number;
 mod operand;
 mod operands;
@@ -27,8 +30,9 @@ mod words;
 
 pub use error::{ScheduleError, Which};
 pub use event::{Event, Head, Schedule, What};
-pub use law::{limits_of_schedules, one_reading, one_script};
+pub use law::{limits_of_schedules, made_schedules, one_reading, one_script};
 pub use limits::{BYTES, EVENTS, PACKETS};
+pub use made::make;
 pub use outcome::Outcome;
 pub use schedule::read_schedule;
 pub use script::Script;

@@ -75,13 +75,13 @@ read_digits most n m (d ∷ ds) le h =
 not_zero : (b n : ℕ) (o : Option ℕ) → (if b == 48 then None else o) ≡ Some n → (b ≢ 48) × (o ≡ Some n)
 not_zero b n o h = grind (arith, nat_tests)
 
-one_form : (most n : ℕ) (ds : List ℕ) → most ≤ 2 ^ 32 → 0 < length ds → (get_or ds 0 0 ≡ 48 → length ds ≡ 1) → with_digits most 0 ds ≡ Some n → (ds ≡ decimal n) × (n ≤ most)
+one_form : (most n : ℕ) (ds : List ℕ) → most < 2 ^ 64 → 0 < length ds → (get_or ds 0 0 ≡ 48 → length ds ≡ 1) → with_digits most 0 ds ≡ Some n → (ds ≡ decimal n) × (n ≤ most)
 one_form most n ds limit some lead h =
     let r = read_digits most 0 n ds (omega arith) h in
     let small : digits_value 10 ds < 2 ^ 64 = omega (arith, r.value, r.small, limit) in
     (sym (decimal-digits_value (numerals_by_value _ tells_digits) ds r.all some lead small) ∙ ap decimal r.value, r.small)
 
-pub number_is_decimal : (most n : ℕ) (text : List ℕ) → most ≤ 2 ^ 32 → number_in most text ≡ Some n → (text ≡ decimal n) × (n ≤ most)
+pub number_is_decimal : (most n : ℕ) (text : List ℕ) → most < 2 ^ 64 → number_in most text ≡ Some n → (text ≡ decimal n) × (n ≤ most)
 number_is_decimal most n [] limit h = absurd (cc h)
 number_is_decimal most n (b ∷ []) limit h = one_form most n (b ∷ []) limit (omega arith) (λ _. refl) h
 number_is_decimal most n (b ∷ (c ∷ bs)) limit h =
@@ -103,7 +103,7 @@ begins_well : (n : ℕ) → n < 2 ^ 64 → get_or (decimal n) 0 0 ≡ 48 → len
 begins_well zero small h = ap length (decimal_digit 0 (omega arith))
 begins_well (suc n) small h = absurd (omega (arith, first_decimal (suc n) (omega arith) small, h))
 
-pub decimal_is_number : (most n : ℕ) → most ≤ 2 ^ 32 → n ≤ most → number_in most (decimal n) ≡ Some n
+pub decimal_is_number : (most n : ℕ) → most < 2 ^ 64 → n ≤ most → number_in most (decimal n) ≡ Some n
 decimal_is_number most n limit small =
     let below : n < 2 ^ 64 = omega (arith, limit, small) in
     let k = decimal_is_IsNumeral n below in

@@ -1,14 +1,14 @@
 -- The words of the command line, and what they ask for.
-use Rattle.std.specs.Prelude.{◌≤◌, ◌<◌, ℕ, ◌+◌, Bool, List, [], ◌∷◌, codes, drop, nat_eq, slice_get, Option, Some, None, option_and_then, Result, Ok, Err, if◌then◌else◌}
+use Rattle.std.specs.Prelude.{◌≤◌, ◌<◌, ℕ, ◌+◌, ◌-◌, ◌^◌, Bool, List, [], ◌∷◌, codes, drop, nat_eq, slice_get, Option, Some, None, option_and_then, Result, Ok, Err, if◌then◌else◌}
 use Rattle.std.specs.Cmp.Lexicographic.{pointwise}
 use Rattle.fs_ident.specs.declared.actor.Peer.{Peer}
 use Rattle.fs_ident.specs.declared.actor.Peer.TheVariants.{Server, Client}
 use Rattle.fs_ident.specs.declared.limits.TheConstants.{SESSIONS}
 use Rattle.fs_msg.specs.declared.limits.TheConstants.{LONGEST, SERVERS}
-use Rattle.fs_words.specs.Numbers.{number_between}
+use Rattle.fs_words.specs.Numbers.{number_between, number_in}
 use Rattle.fs_words.specs.Places.{actor_in, is_among, own_stand, places_at_front}
 use Rattle.fs_words.specs.declared.command.Command.{Command}
-use Rattle.fs_words.specs.declared.command.Command.TheVariants.{Run, Node}
+use Rattle.fs_words.specs.declared.command.Command.TheVariants.{Run, Generate, Node}
 use Rattle.fs_words.specs.declared.command.Format.{Format}
 use Rattle.fs_words.specs.declared.command.Format.TheVariants.{Report, Json}
 use Rattle.fs_words.specs.declared.command.Settings.{Settings}
@@ -32,6 +32,18 @@ read_then number (Some x) next = next x
 abbrev pub run_words : Format → List (List ℕ) → Asked
 run_words format [] = Ok (Run format)
 run_words format (w ∷ ws) = Err 2
+
+-- ## `gen N`, behind its first word
+
+-- behind the number, where it was read, no word stands
+abbrev pub made_words : Option ℕ → List (List ℕ) → Asked
+made_words None words = Err 2
+made_words (Some n) [] = Ok (Generate n)
+made_words (Some n) (w ∷ ws) = Err 3
+
+abbrev pub generate_words : List (List ℕ) → Asked
+generate_words [] = Err 2
+generate_words (w ∷ ws) = made_words (number_in (2 ^ 64 - 1) w) ws
 
 -- ## `node ACTOR SERVERS SKEW TERM TURNS PEER..`, behind its first word
 
@@ -60,7 +72,8 @@ command_of [] = Err 1
 command_of (w ∷ ws) =
     if is_word w (codes "replay") then run_words Report ws
     else (if is_word w (codes "journal") then run_words Json ws
-    else (if is_word w (codes "node") then node_words ws else Err 1))
+    else (if is_word w (codes "gen") then generate_words ws
+    else (if is_word w (codes "node") then node_words ws else Err 1)))
 
 -- ## What is read
 
@@ -84,4 +97,5 @@ pub record FitsSettings (n : Settings) : Type 0 where
 
 abbrev pub FitsCommand : Command → Type 0
 FitsCommand (Run format) = Unit {0}
+FitsCommand (Generate n) = Unit {0}
 FitsCommand (Node n) = FitsSettings n

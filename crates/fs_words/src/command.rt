@@ -10,6 +10,8 @@ pub const TURNS: u64 = 1_000_000;
 pub enum Command {
     /// A schedule is read from the input to its end and run, and its run is written like this.
     Run(Format),
+    /// The schedule that is made from the number is run, and what it came to is counted.
+    Generate { n: u64 },
     /// One client or server is run as a node, with the script that the input is.
     Node(Settings),
 }

@@ -1,5 +1,5 @@
 //! The words of a node.
-ghost use Rattle.std.specs.Prelude.{◌≡◌, ◌≤◌, ◌^◌, map, string_bytes, drop, length, option_and_then, slice_get, IfSome, IfOk};
+ghost use Rattle.std.specs.Prelude.{◌≡◌, ◌≤◌, map, string_bytes, drop, length, option_and_then, slice_get, IfSome, IfOk};
 ghost use Rattle.fs_words.specs.Numbers.{number_between as number_in};
 ghost use Rattle.fs_words.specs.Places.{actor_in as actor_spelled};
 ghost use Rattle.fs_words.specs.Usage.{FitsActor, FitsCommand, IsActor, node_words, read_at, servers_for};
@@ -70,7 +70,6 @@ fn servers_at(words: &[String], who: Peer) -> Option<u8>
 
 /// The number that stands there, where it is within both bounds.
 fn number_at(words: &[String], at: usize, least: u64, most: u64) -> Option<u64>
-    requires { most ≤ 2 ^ 32 }
     ensures number { result ≡ read_at (number_in least most) (map string_bytes words.now) at }
     ensures least { IfSome result (λ n. least ≤ n) }
     ensures most { IfSome result (λ n. n ≤ most) }

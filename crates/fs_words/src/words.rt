@@ -1,12 +1,14 @@
 //! The words of the command line.
 ghost use Rattle.std.specs.Prelude.{◌≡◌, map, string_bytes, nat_eq, IfOk};
 ghost use Rattle.std.specs.Cmp.Lexicographic.{pointwise};
-ghost use Rattle.fs_words.specs.Usage.{FitsCommand, command_of, node_words, run_words};
+ghost use Rattle.fs_words.specs.Usage.{FitsCommand, command_of, generate_words, made_words, node_words, run_words};
 
 use crate::command::{Command, Format};
 use crate::node::node_of;
+use crate::number::number_in;
 
-/// What the words ask for, or the number of the first word, from 1, that no form of the command line has there.
+/// What the words ask for, or the number of the first word, from 1, that no form of the command
+/// line has there.
 pub fn command_of(words: &[String]) -> Result<Command, u64>
     ensures asked { result ≡ command_of (map string_bytes words.now) }
     ensures fits { IfOk result FitsCommand }
@@ -18,6 +20,8 @@ pub fn command_of(words: &[String]) -> Result<Command, u64>
         run_of(Format::Report, rest)
     } else if is_word(first, b"journal") {
         run_of(Format::Json, rest)
+    } else if is_word(first, b"gen") {
+        generate_of(rest)
     } else if is_word(first, b"node") {
         node_of(rest)
     } else {
@@ -33,6 +37,31 @@ fn run_of(format: Format, rest: &[String]) -> Result<Command, u64>
     match rest {
         [] => Ok(Command::Run(format)),
         _ => Err(2),
+    }
+}
+
+/// A run of what is made from a number, where one stands behind and no other word.
+fn generate_of(rest: &[String]) -> Result<Command, u64>
+    ensures asked { result ≡ generate_words (map string_bytes rest.now) }
+    ensures fits { IfOk result FitsCommand }
+{
+    match rest {
+        [] => Err(2),
+        [number, behind @ ..] => made_of(number_in(u64::MAX, number.as_bytes()), behind),
+    }
+}
+
+/// The same, where the number was read, if it is one.
+fn made_of(number: Option<u64>, behind: &[String]) -> Result<Command, u64>
+    ensures asked { result ≡ made_words number (map string_bytes behind.now) }
+    ensures fits { IfOk result FitsCommand }
+{
+    match number {
+        Some(n) => match behind {
+            [] => Ok(Command::Generate { n }),
+            _ => Err(3),
+        },
+        None => Err(2),
     }
 }
 

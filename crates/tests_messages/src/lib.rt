@@ -8,6 +8,8 @@ mod identifiers;
 #[cfg(test)]
 mod led;
 #[cfg(test)]
+mod made;
+#[cfg(test)]
 mod msg;
 #[cfg(test)]
 mod report;

@@ -1,0 +1,6 @@
+use Rattle.std.proofs.Common.{◌≡◌}
+use Rattle.fs_schedule.specs.Made.{asks, each, with_events}
+use Rattle.fs_schedule.proofs.made.add_asks.Given as goal
+
+abbrev pub invariant-loop-k : goal.invariant-loop-k
+invariant-loop-k l = l.events ≡ with_events l.initial.events (each (λ _. asks l.session l.op) l.k)
