@@ -46,7 +46,7 @@ returns-in-Ok-Run-clause-limit g c = λ which at h.
 
 pub returns-in-Ok-Run-clause-spent : goal.returns-in-Ok-Run-clause-spent
 returns-in-Ok-Run-clause-spent g c = λ counter h.
-    as_asked c.in-Ok-Run.ensures.asked c.in-Ok-Run.field-0-is (λ (command : Command). IfSome (g.S.Source.left c.args.input.now) (λ bytes. IsSpentAt counter command (map string_bytes c.args.words.now) bytes (told (g.C.Clock.readings c.args.clock.now) (g.L.Link.calls c.args.link.now) (g.K.Sink.written c.args.out.now)) (told (g.C.Clock.readings c.args.clock.now) (g.L.Link.calls c.args.link.now) (g.K.Sink.written c.scheduled.new.out)))) (c.scheduled.ensures.spent counter h)
+    as_asked c.in-Ok-Run.ensures.asked c.in-Ok-Run.field-0-is (λ (command : Command). IfSome (read_by command (g.S.Source.left c.args.input.now)) (λ bytes. IsSpentAt counter command (map string_bytes c.args.words.now) bytes (told (g.C.Clock.readings c.args.clock.now) (g.L.Link.calls c.args.link.now) (g.K.Sink.written c.args.out.now)) (told (g.C.Clock.readings c.args.clock.now) (g.L.Link.calls c.args.link.now) (g.K.Sink.written c.scheduled.new.out)))) (c.scheduled.ensures.spent counter h)
 
 pub returns-in-Ok-Run-clause-memory : goal.returns-in-Ok-Run-clause-memory
 returns-in-Ok-Run-clause-memory g c = λ h. inl (c.scheduled.ensures.silent (λ e. cc (h, e)) (λ e. cc (h, e)))
@@ -83,7 +83,7 @@ returns-in-Ok-Generate-clause-limit g c = λ which at h.
 
 pub returns-in-Ok-Generate-clause-spent : goal.returns-in-Ok-Generate-clause-spent
 returns-in-Ok-Generate-clause-spent g c = λ counter h.
-    as_asked c.in-Ok-Generate.ensures.asked c.in-Ok-Generate.field-0-is (λ (command : Command). IfSome (g.S.Source.left c.args.input.now) (λ bytes. IsSpentAt counter command (map string_bytes c.args.words.now) bytes (told (g.C.Clock.readings c.args.clock.now) (g.L.Link.calls c.args.link.now) (g.K.Sink.written c.args.out.now)) (told (g.C.Clock.readings c.args.clock.now) (g.L.Link.calls c.args.link.now) (g.K.Sink.written c.generated.new.out)))) (c.generated.ensures.spent counter h)
+    as_asked c.in-Ok-Generate.ensures.asked c.in-Ok-Generate.field-0-is (λ (command : Command). IfSome (read_by command (g.S.Source.left c.args.input.now)) (λ bytes. IsSpentAt counter command (map string_bytes c.args.words.now) bytes (told (g.C.Clock.readings c.args.clock.now) (g.L.Link.calls c.args.link.now) (g.K.Sink.written c.args.out.now)) (told (g.C.Clock.readings c.args.clock.now) (g.L.Link.calls c.args.link.now) (g.K.Sink.written c.generated.new.out)))) (c.generated.ensures.spent counter h)
 
 pub returns-in-Ok-Generate-clause-memory : goal.returns-in-Ok-Generate-clause-memory
 returns-in-Ok-Generate-clause-memory g c = λ h. inl (c.generated.ensures.silent (λ e. cc (h, e)) (λ e. cc (h, e)))
@@ -158,7 +158,7 @@ returns-in-Ok-Node-clause-limit g c = λ which at h.
 
 pub returns-in-Ok-Node-clause-spent : goal.returns-in-Ok-Node-clause-spent
 returns-in-Ok-Node-clause-spent g c = λ counter h.
-    as_asked c.in-Ok-Node.ensures.asked c.in-Ok-Node.field-0-is (λ (command : Command). IfSome (g.S.Source.left c.args.input.now) (λ bytes. IsSpentAt counter command (map string_bytes c.args.words.now) bytes (told (g.C.Clock.readings c.args.clock.now) (g.L.Link.calls c.args.link.now) (g.K.Sink.written c.args.out.now)) (told (g.C.Clock.readings c.node.new.clock) (g.L.Link.calls c.node.new.link) (g.K.Sink.written c.node.new.out)))) (c.node.ensures.spent counter h)
+    as_asked c.in-Ok-Node.ensures.asked c.in-Ok-Node.field-0-is (λ (command : Command). IfSome (read_by command (g.S.Source.left c.args.input.now)) (λ bytes. IsSpentAt counter command (map string_bytes c.args.words.now) bytes (told (g.C.Clock.readings c.args.clock.now) (g.L.Link.calls c.args.link.now) (g.K.Sink.written c.args.out.now)) (told (g.C.Clock.readings c.node.new.clock) (g.L.Link.calls c.node.new.link) (g.K.Sink.written c.node.new.out)))) (c.node.ensures.spent counter h)
 
 pub returns-in-Ok-Node-clause-memory : goal.returns-in-Ok-Node-clause-memory
 returns-in-Ok-Node-clause-memory g c = λ h.
