@@ -19,7 +19,7 @@ ended_in end = []
 -- the numbers of the entries of a log that a server refused: the one whose lease had ended, and the gaps behind it
 abbrev pub refused_by : Note → List ℕ
 refused_by (Server (Admits count end gaps)) = ended_in end ++ gaps
-refused_by note = []
+refused_by _ = []
 
 -- the same of all events, in order
 abbrev pub refused_in : List Outcome → List ℕ
