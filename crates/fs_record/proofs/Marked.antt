@@ -21,7 +21,7 @@ use Rattle.fs_model.specs.Handles.{is_at}
 use Rattle.fs_model.specs.Step.{is_empty}
 use Rattle.fs_record.specs.declared.record.Record.{Record}
 use Rattle.fs_record.specs.declared.marks.Mark.{Mark}
-use Rattle.fs_record.specs.Applied.{node_change, record_change, records_after, records_after_all}
+use Rattle.fs_record.specs.Applied.{node_change, record_change, records_after, records_after_all, takes_away}
 use Rattle.fs_record.specs.Fresh.{records_after_gift, with_next}
 use Rattle.fs_record.specs.Marks.{Marks, mark, is_open_at, MarkOpen, settled, AreBetween, AreMarked, opens, open_among, changed_files, opened_by}
 use Rattle.fs_record.specs.Moving.{are_absent, records_without, with_records}
@@ -482,6 +482,20 @@ opened_marked e p q same f i = by (opens e) i
 pub applied_marks : {X E : Type 0} (r : Result X E) (es : List Effect) (p q : Marks) (m n : RecordMap) → MarkOpen [] p m → AreBetween p q (changed_files es) → AreMarked (opened_by es) q → OnOk r (n ≡ records_after_all m es) → OnErr r (n ≡ m) → MarkOpen (changed_files es) q n
 applied_marks (Ok u) es p q m n own between marked ok err = subst (λ k. MarkOpen (changed_files es) q k) (sym ok) (marked_after es p q m own between marked)
 applied_marks (Err e) es p q m n own between marked ok err = subst (λ k. MarkOpen (changed_files es) q k) (sym err) (vain_marks (changed_files es) p q m own between)
+
+-- what takes a file or a name away opens nothing
+none_opened : (e : Effect) → takes_away e ≡ true → opened_by (e ∷ []) ≡ []
+none_opened (SetChild dir name None) h = refl
+none_opened (SetChild dir name (Some to)) h = absurd (cc)
+none_opened (SetParent file dir name) h = absurd (cc)
+none_opened (NewNode file kind dir name) h = absurd (cc)
+none_opened (RemoveNode file) h = refl
+none_opened (AddHandle file session number modes) h = absurd (cc)
+none_opened (RemoveHandle file session number) h = absurd (cc)
+none_opened (SetInfo file size stamp) h = absurd (cc)
+
+pub taken_marks : (e : Effect) (marks : Marks) (m : RecordMap) → takes_away e ≡ true → MarkOpen [] marks m → MarkOpen (changed_file e ∷ []) marks (records_after m e)
+taken_marks e marks m h own = marked_after (e ∷ []) marks marks m own (between_same marks (changed_file e ∷ [])) (subst (λ fs. AreMarked fs marks) (sym (none_opened e h)) (λ f i. absurd i))
 
 pub joined_marks : {X E : Type 0} (r : Result X E) (rs : Keyed Record) (p q : Marks) (m n : RecordMap) → are_absent m rs ≡ true → MarkOpen [] p m → AreBetween p q (open_among rs) → AreMarked (open_among rs) q → OnOk r (n ≡ with_records rs m) → OnErr r (n ≡ m) → MarkOpen (open_among rs) q n
 joined_marks (Ok u) rs p q m n a own between marked ok err = subst (λ k. MarkOpen (open_among rs) q k) (sym ok) (marked_with rs p q m a own between marked)

@@ -1,5 +1,5 @@
 -- The records, and the nodes, after an effect.
-use Rattle.std.specs.Prelude.{ℕ, Bool, true, false, ◌||◌, List, [], ◌∷◌, Option, Some, None, option_map, is_some}
+use Rattle.std.specs.Prelude.{ℕ, Bool, true, false, not, ◌||◌, List, [], ◌∷◌, Option, Some, None, option_map, is_some}
 use Rattle.std.specs.FinMap.{FinMap, get, insert, remove}
 use Rattle.std.specs.Ordering.{nat_cmp}
 use Rattle.std.specs.Cmp.Lexicographic.{slice_cmp}
@@ -74,3 +74,7 @@ abbrev pub is_undoable : Effect → Bool
 is_undoable (SetChild dir name None) = false
 is_undoable (RemoveNode file) = false
 is_undoable e = true
+
+-- it only takes a file or a name away, which wants no memory
+abbrev pub takes_away : Effect → Bool
+takes_away e = not (is_undoable e)

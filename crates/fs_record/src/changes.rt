@@ -1,8 +1,8 @@
 //! Changes of one record.
-ghost use Rattle.std.specs.Prelude.{◌≡◌, IfOk, OnOk, OnErr, None, Some};
+ghost use Rattle.std.specs.Prelude.{◌≡◌, true, IfOk, OnOk, OnErr, None, Some};
 ghost use Rattle.std.specs.FinMap as map;
 ghost use Rattle.fs_field.specs.declared.effect.Effect.TheVariants.{SetChild, SetParent, NewNode, RemoveNode, AddHandle, RemoveHandle, SetInfo};
-ghost use Rattle.fs_record.specs.Applied.{records_after};
+ghost use Rattle.fs_record.specs.Applied.{records_after, takes_away};
 ghost use Rattle.fs_record.specs.Fresh.{with_next};
 ghost use Rattle.fs_record.specs.Records.{AreRecords};
 ghost use Rattle.fs_ident.specs.Maps.{map_of};
@@ -61,6 +61,23 @@ pub fn apply(
         Effect::SetInfo { file, size, stamp } => set(records, file, *size, *stamp),
     }
     Ok(())
+}
+
+/// Takes the name or the file of the effect away.
+pub fn take_away(records: &mut BTreeMap<FileId, Record>, e: &Effect)
+    requires kept { AreRecords (map_of records.old) }
+    requires removal { takes_away e.now ≡ true }
+    ensures { map_of records.new ≡ records_after (map_of records.old) e.now }
+{
+    match e {
+        Effect::SetChild {
+            dir,
+            name,
+            to: None,
+        } => unlink(records, dir, name),
+        Effect::RemoveNode { file } => remove(records, file),
+        _ => unreachable!(),
+    }
 }
 
 /// Gives the file this record, whatever it had.

@@ -4,7 +4,7 @@ ghost use Rattle.std.specs.FinMap as map;
 ghost use Rattle.std.specs.List.{list_all};
 ghost use Rattle.std.specs.Map.{keys_of};
 ghost use Rattle.fs_ident.specs.Maps.{map_of};
-ghost use Rattle.fs_record.specs.Applied.{is_undoable, records_after, records_after_all};
+ghost use Rattle.fs_record.specs.Applied.{is_undoable, records_after, records_after_all, takes_away};
 ghost use Rattle.fs_record.specs.Marks.{AreBetween, AreMarked, MarkOpen, changed_files, is_open_at, mark, open_among, opened_by, opens, settled};
 ghost use Rattle.fs_record.specs.Moving.{are_absent, are_distinct, records_given, records_left, with_records};
 ghost use Rattle.fs_record.specs.Opens.{is_open};
@@ -156,6 +156,22 @@ pub fn apply(
     };
     settle(marks, records, e.changed_file());
     done
+}
+
+/// Takes the name or the file of the effect away.
+pub fn take_away(
+    marks: &mut BTreeMap<FileId, Mark>,
+    records: &mut BTreeMap<FileId, Record>,
+    e: &Effect,
+)
+    requires records { AreRecords (map_of records.old) }
+    requires removal { takes_away e.now ≡ true }
+    requires marks { MarkOpen [] (map_of marks.old) (map_of records.old) }
+    ensures records { map_of records.new ≡ records_after (map_of records.old) e.now }
+    ensures marks { MarkOpen [] (map_of marks.new) (map_of records.new) }
+{
+    changes::take_away(records, e);
+    settle(marks, records, e.changed_file());
 }
 
 /// Does the effects in order, or none of them where memory is wanting.

@@ -5,7 +5,7 @@ ghost use Rattle.std.specs.List.{list_all};
 ghost use Rattle.std.specs.Map.{keys_of};
 ghost use Rattle.std.specs.Option.{option_copied};
 ghost use Rattle.fs_ident.specs.Ident.{child};
-ghost use Rattle.fs_record.specs.Applied.{records_after, records_after_all, has_target, is_undoable};
+ghost use Rattle.fs_record.specs.Applied.{records_after, records_after_all, has_target, is_undoable, takes_away};
 ghost use Rattle.fs_record.specs.Effects.{reap_effects};
 ghost use Rattle.fs_record.specs.Moving.{AreEachRecords, are_absent, are_distinct, records_given, records_left, records_without, with_records};
 ghost use Rattle.fs_model.specs.Step.{is_empty};
@@ -171,6 +171,14 @@ impl Records {
             &mut self.records,
             effects.as_slice(),
         )
+    }
+
+    /// Does the effect, which takes a file or a name away: it is none that `is_undoable` takes. It wants no memory.
+    pub fn take_away(&mut self, e: &Effect)
+        requires { takes_away e.now ≡ true }
+        ensures { self.new ≡ records_after self.old e.now }
+    {
+        marks::take_away(&mut self.marks, &mut self.records, e);
     }
 
     /// Gives the identifier of a new file in the directory: with the least number, from the directory's next one
