@@ -3,6 +3,7 @@ use Rattle.std.specs.Prelude.{ℕ, Bool, false, not, ◌&&◌, ◌||◌, ◌==�
 use Rattle.std.specs.List.{list_any, filter_map}
 use Rattle.fs_ident.specs.Ident.{same}
 use Rattle.fs_ident.specs.declared.actor.Peer.TheVariants.{Client as OfSession}
+use Rattle.fs_ident.specs.declared.kind.Kind.{Kind}
 use Rattle.fs_field.specs.declared.asked.Need.{Need}
 use Rattle.fs_field.specs.declared.asked.Need.TheVariants.{Lease, Fresh}
 use Rattle.fs_field.specs.declared.field.Field.{Field}
@@ -13,21 +14,24 @@ use Rattle.fs_model.specs.declared.op.Op.{Op}
 use Rattle.fs_model.specs.declared.op.Op.TheVariants as op
 use Rattle.fs_model.specs.declared.reply.Reply.{Reply}
 use Rattle.fs_model.specs.declared.reply.Reply.TheVariants as reply
+use Rattle.fs_model.specs.Asking.{home_of}
 use Rattle.fs_model.specs.Sound.{is_change}
 use Rattle.fs_model.specs.Step.{is_empty}
-use Rattle.fs_record.specs.Effects.{effects_of}
+use Rattle.fs_record.specs.Effects.{effects_of, tells_its_effects}
 use Rattle.fs_msg.specs.declared.act.Act.{Act}
 use Rattle.fs_msg.specs.declared.act.Act.TheVariants as act
 use Rattle.fs_msg.specs.declared.act.Busy.TheVariants as busy
 use Rattle.fs_msg.specs.declared.client_msg.ClientMsg.TheVariants as client
 use Rattle.fs_msg.specs.declared.entry.Entry.{Entry}
-use Rattle.fs_view.specs.View.{View, missing_in, reply_in, uses_in, fresh}
+use Rattle.fs_view.specs.View.{View, known_by, missing_in, reply_in, uses_in, fresh}
 use Rattle.fs_client.specs.declared.change.Change.{Change}
 use Rattle.fs_client.specs.declared.change.Change.TheVariants as change
 use Rattle.fs_client.specs.declared.exchange.Exchange.TheVariants as exchange
+use Rattle.fs_client.specs.declared.led.Led.{Led}
 use Rattle.fs_client.specs.declared.plan.Plan.{Plan}
 use Rattle.fs_client.specs.declared.state.Client.{Client}
 use Rattle.fs_client.specs.Client.{begun, can_change}
+use Rattle.fs_client.specs.Led.{is_led, lead_of, moved_known}
 
 -- nothing is sent and nothing admitted
 abbrev pub only_noted : {N : Type 0} → Change → N → Client → Plan N
@@ -134,8 +138,44 @@ reads o r c = record {
 }
 
 -- a reply that changes nothing is a read; with an empty log it is admitted at once
+abbrev pub answers_plain : Op → Reply → Client → Plan Act
+answers_plain o r c = if not (is_change r) && is_empty c.log then reads o r c else replies o r c
+
+-- ## What is led
+
+-- the operation, with its reply and the leases that decided it, and the file that moves or goes
+abbrev pub led_with : Op → Reply → List ℕ × Kind → Client → Led
+led_with o r moved c = record { entry = record { n = c.next; op = o; reply = r; uses = uses_in c.view c.last o }; file = moved.0; kind = moved.1 }
+
+-- the server is to lead it
+abbrev pub leads : ℕ → Led → Client → Plan Act
+leads to l c = record {
+  ready = record { now = c.last; change = change.Lead to l; hints = None };
+  out = record { note = act.Leading l.entry.n to; send = Some (to, client.Lead (lead_of l)); admitted = None };
+}
+
+-- the server that is said to manage its home is to lead it; where all is known that it needs, its file is
+abbrev pub leads_on : Option (List ℕ × Kind) → Op → Reply → Client → Plan Act
+leads_on None o r c = stays (act.NoIds []) c
+leads_on (Some moved) o r c = leads (hinted c (home_of o)) (led_with o r moved c) c
+
+-- nothing is led while a question stands, or before the log is empty
+abbrev pub leads_or_waits : Op → Reply → Client → Plan Act
+leads_or_waits o r c =
+    if is_some c.exchange then stays (act.Busy busy.Exchange) c
+    else if is_empty c.log then leads_on (moved_known (known_by c.view c.last) o) o r c
+    else stays (act.Busy busy.Log) c
+
+-- what it used may be at several servers: it is never an entry of the log
+abbrev pub reads_or_waits : Op → Reply → Client → Plan Act
+reads_or_waits o r c = if is_empty c.log then reads o r c else stays (act.Busy busy.Log) c
+
+-- a delete or a rename: it is led where it changes something, and else it is a read
+abbrev pub answers_move : Op → Reply → Client → Plan Act
+answers_move o r c = if is_led o r then leads_or_waits o r c else reads_or_waits o r c
+
 abbrev pub answers : Op → Reply → Client → Plan Act
-answers o r c = if not (is_change r) && is_empty c.log then reads o r c else replies o r c
+answers o r c = if tells_its_effects o then answers_plain o r c else answers_move o r c
 
 abbrev pub answer_with : Option Reply → Op → Client → Plan Act
 answer_with (Some r) o c = answers o r c
@@ -143,10 +183,15 @@ answer_with None o c = ask_for (missing_in c.view c.last o) (worth c.full (missi
 
 -- ## The operation
 
+-- nothing else is done while an operation is led
+abbrev pub unless_led : Option Led → Op → Client → Plan Act
+unless_led (Some l) o c = stays (act.Busy busy.Led) c
+unless_led None o c = answer_with (reply_in c.view c.last o) o c
+
 -- a session whose entry was refused is over
 abbrev pub act_on : Option ℕ → Op → Client → Plan Act
 act_on (Some n) o c = stays (act.Over n) c
-act_on None o c = answer_with (reply_in c.view c.last o) o c
+act_on None o c = unless_led c.led o c
 
 abbrev pub act_plan : Client → ℕ → Op → Plan Act
 act_plan c now o = act_on c.over o (begun now c)

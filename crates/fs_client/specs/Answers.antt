@@ -13,24 +13,29 @@ use Rattle.fs_field.specs.Value.{is_value_of}
 use Rattle.fs_map.specs.Lists.{map_after_hint}
 use Rattle.fs_map.specs.Map.{Owners}
 use Rattle.fs_msg.specs.declared.answer.Answer.{Answer}
-use Rattle.fs_msg.specs.declared.answer.Answer.TheVariants.{Granted, Renewed, Released, Shipped, Led, Recall}
+use Rattle.fs_msg.specs.declared.answer.Answer.TheVariants.{Granted, Renewed, Released, Shipped, Recall}
+use Rattle.fs_msg.specs.declared.answer.Answer.TheVariants as answer
 use Rattle.fs_msg.specs.declared.answer.Grant.{Grant}
 use Rattle.fs_msg.specs.declared.client_note.ClientNote.{ClientNote}
 use Rattle.fs_msg.specs.declared.client_note.ClientNote.TheVariants as note
 use Rattle.fs_msg.specs.declared.end.End.{End}
 use Rattle.fs_msg.specs.declared.end.End.TheVariants as end
 use Rattle.fs_msg.specs.declared.entry.Entry.{Entry}
+use Rattle.fs_record.specs.declared.led_end.LedEnd.{LedEnd}
+use Rattle.fs_record.specs.declared.led_end.LedEnd.TheVariants as led
 use Rattle.fs_view.specs.declared.kept.Kept.{Kept}
 use Rattle.fs_view.specs.declared.new_lease.NewLease.{NewLease}
 use Rattle.fs_view.specs.Kept.{has_number}
 use Rattle.fs_client.specs.declared.change.Change.{Change}
 use Rattle.fs_client.specs.declared.change.Change.TheVariants as change
 use Rattle.fs_client.specs.declared.exchange.Exchange.{Exchange}
-use Rattle.fs_client.specs.declared.exchange.Exchange.TheVariants.{Asks, Renews, Releases, Ships}
+use Rattle.fs_client.specs.declared.exchange.Exchange.TheVariants.{Asks, Renews, Releases, Ships, Leads}
+use Rattle.fs_client.specs.declared.led.Led.{Led}
 use Rattle.fs_client.specs.declared.plan.Plan.{Plan}
 use Rattle.fs_client.specs.declared.state.Client.{Client}
 use Rattle.fs_client.specs.Client.{begun}
 use Rattle.fs_client.specs.Acts.{only_noted}
+use Rattle.fs_client.specs.Led.{effects_of_led, end_fits, hints_again}
 
 -- ## Which answers fit
 
@@ -89,6 +94,7 @@ answer_fits from (Renews to numbers) (Renewed rows e) c =
     (to == from) && begins_numbers numbers (map (λ (r : LeaseNo × Option ℕ). r.0) rows)
 answer_fits from (Releases to numbers) (Released count e) c = (to == from) && nat_le count (length numbers)
 answer_fits from (Ships to sent) (Shipped count e) c = (to == from) && (nat_le count sent && refusal_fits e count (take sent c.log))
+answer_fits from (Leads to) (answer.Led e) c = (to == from) && end_fits c.led e
 answer_fits from x a c = false
 
 -- an answer fits the exchange that stands; a recall always fits
@@ -154,13 +160,26 @@ shipped_plan count e c = noted_with (change.Admit count (over_after e c.over)) e
 abbrev pub strange : Client → Plan ClientNote
 strange c = only_noted change.Nothing note.Strange c
 
--- an answer that fits; all but a recall end the exchange. No client asks a server to lead an operation yet
+-- what was led is done, or refused, or may be asked for again
+abbrev pub ended_plan : Led → LedEnd → Client → Plan ClientNote
+ended_plan l (led.Done r) c = only_noted (change.LedDone (effects_of_led l r)) (note.Led l.entry.n r) c
+ended_plan l (led.Ended lease until now) c = only_noted change.LedFreed (note.LedEnded lease until now) c
+ended_plan l (led.Again why) c = record {
+  ready = record { now = c.last; change = change.LedFreed; hints = hints_again why c.hints };
+  out = record { note = note.LedAgain why; send = None; admitted = None };
+}
+
+abbrev pub led_plan : Option Led → LedEnd → Client → Plan ClientNote
+led_plan None e c = strange c
+led_plan (Some l) e c = ended_plan l e c
+
+-- an answer that fits; all but a recall end the exchange
 abbrev pub told : Answer → Client → Plan ClientNote
 told (Granted gs fresh e) c = granted_plan gs fresh e c
 told (Renewed rows e) c = renewed_plan rows e c
 told (Released count e) c = released_plan count e c
 told (Shipped count e) c = shipped_plan count e c
-told (Led e) c = strange c
+told (answer.Led e) c = led_plan c.led e c
 told (Recall number) c = only_noted (change.Recall number) (note.Recall number) c
 
 abbrev pub hear : ℕ → Answer → Client → Plan ClientNote

@@ -1,5 +1,5 @@
 -- A client: what every event begins with, and what an event can change.
-use Rattle.std.specs.Prelude.{ℕ, zero, suc, ◌+◌, ◌≤◌, max, nat_lt, nat_le, Bool, true, ◌&&◌, List, [], ◌∷◌, ◌++◌, Option, Some, None, if◌then◌else◌}
+use Rattle.std.specs.Prelude.{◌≡◌, ℕ, zero, suc, ◌+◌, ◌≤◌, max, nat_lt, nat_le, Bool, true, not, ◌&&◌, List, [], ◌∷◌, ◌++◌, Option, Some, None, is_some, if◌then◌else◌}
 use Rattle.std.specs.List.{list_any}
 use Rattle.fs_ident.specs.Ident.{same}
 use Rattle.fs_ident.specs.declared.actor.LeaseNo.{LeaseNo}
@@ -11,13 +11,15 @@ use Rattle.fs_msg.specs.declared.entry.Entry.{Entry}
 use Rattle.fs_msg.specs.declared.limits.TheConstants.{LONGEST}
 use Rattle.fs_view.specs.declared.new_lease.NewLease.{NewLease}
 use Rattle.fs_view.specs.Kept.{is_leaving}
-use Rattle.fs_view.specs.View.{View, lapsed_at, with_pins, with_entry, with_grants, with_end, with_leaving, without_lease, given_up, with_first_admitted, without_pins, with_recall, can_pin_all, can_grant_all, stands}
+use Rattle.fs_view.specs.View.{View, lapsed_at, with_pins, with_entry, with_grants, with_end, with_leaving, without_lease, given_up, with_admitted, with_first_admitted, without_pins, with_recall, can_pin_all, can_grant_all, stands}
 use Rattle.fs_client.specs.declared.change.Change.{Change}
 use Rattle.fs_client.specs.declared.change.Change.TheVariants as change
 use Rattle.fs_client.specs.declared.exchange.Exchange.{Exchange}
 use Rattle.fs_client.specs.declared.exchange.Exchange.TheVariants as exchange
+use Rattle.fs_client.specs.declared.led.Led.{Led}
 use Rattle.fs_client.specs.declared.plan.Ready.{Ready}
 use Rattle.fs_client.specs.declared.state.Client.{Client}
+use Rattle.fs_client.specs.Led.{without_led_pins}
 
 -- a client that has no lease and has answered nothing; it takes everything to be at the first server
 abbrev pub first_client : Session → ℕ → Client
@@ -28,6 +30,7 @@ first_client s term = record {
   view = record { session = s; leases = []; pending = [] };
   log = [];
   exchange = None;
+  led = None;
   hints = first_map;
   full = [];
   next = 1;
@@ -102,6 +105,18 @@ admitted_all (suc k) c = admitted_all k (admitted_one c c.log)
 abbrev pub with_shipped : ℕ → Option ℕ → Client → Client
 with_shipped count over c = record (admitted_all count c) { over = over; exchange = None }
 
+-- its server is asked to lead the operation: the leases that it uses are pinned
+abbrev pub with_lead : ℕ → Led → Client → Client
+with_lead to led c = record c { view = with_pins led.entry.uses c.view; exchange = Some (exchange.Leads to); led = Some led }
+
+-- what was led is admitted: its effects join the values, and its number is used up
+abbrev pub with_led_done : List Effect → Client → Client
+with_led_done effects c = record c { view = without_led_pins c.led (with_admitted effects c.view); exchange = None; led = None; next = c.next + 1 }
+
+-- what was led is not admitted, and its number is free
+abbrev pub with_led_freed : Client → Client
+with_led_freed c = record c { view = without_led_pins c.led c.view; exchange = None; led = None }
+
 abbrev pub with_recalled : LeaseNo → Client → Client
 with_recalled number c = record c { view = with_recall number c.view }
 
@@ -115,6 +130,9 @@ changed (change.Grant leases full) c = with_granted leases full c
 changed (change.Renew ends) c = with_renewed ends c
 changed (change.Release numbers) c = with_released numbers c
 changed (change.Admit count over) c = with_shipped count over c
+changed (change.Lead to led) c = with_lead to led c
+changed (change.LedDone effects) c = with_led_done effects c
+changed change.LedFreed c = with_led_freed c
 changed (change.Recall number) c = with_recalled number c
 
 -- ## Plans
@@ -132,11 +150,17 @@ committed r c = with_hints r.hints (changed r.change (begun r.now c))
 abbrev pub has_number_left : Client → Bool
 has_number_left c = nat_lt c.next 0xffff_ffff_ffff_ffff
 
+-- and no operation that is led may need it
+abbrev pub may_use_number : Client → Bool
+may_use_number c = has_number_left c && not (is_some c.led)
+
 -- the counters that the change raises can rise, and the leases that come are new
 abbrev pub can_change : Change → Client → Bool
-can_change change.Read c = has_number_left c
-can_change (change.Reply entry effects) c = has_number_left c && can_pin_all entry.uses c.view.leases
+can_change change.Read c = may_use_number c
+can_change (change.Reply entry effects) c = may_use_number c && can_pin_all entry.uses c.view.leases
 can_change (change.Grant leases full) c = can_grant_all leases c.view.leases
+can_change (change.Lead to led) c = has_number_left c && can_pin_all led.entry.uses c.view.leases
+can_change (change.LedDone effects) c = has_number_left c
 can_change ch c = true
 
 abbrev pub can_commit : Ready → Client → Bool
@@ -144,7 +168,8 @@ can_commit r c = nat_le r.now LATEST && can_change r.change (begun r.now c)
 
 -- ## What every client is
 
--- its term and its readings are in their ranges
+-- its term and its readings are in their ranges, and a number is left for what is led
 pub record IsClient (c : Client) : Type 0 where
   pub term : c.term ≤ LONGEST
   pub last : c.last ≤ LATEST
+  pub led : is_some c.led ≡ true → has_number_left c ≡ true

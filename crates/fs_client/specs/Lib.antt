@@ -1,4 +1,5 @@
 pub mod Client
+pub mod Led
 pub mod Acts
 pub mod Turns
 pub mod Answers

@@ -1,5 +1,6 @@
 //! What an event changes at a client.
 use crate::exchange::Exchange;
+use crate::led::Led;
 use fs_field::Effect;
 use fs_ident::{FileId, LeaseNo, List, Memory, Twin, copy_two};
 use fs_msg::Entry;
@@ -45,6 +46,17 @@ pub enum Change {
         count: u64,
         over: Option<u64>,
     },
+    /// The server is asked to lead an operation.
+    Lead {
+        to: u8,
+        led: Led,
+    },
+    /// What was led is admitted, with what it did.
+    LedDone {
+        effects: List<Effect>,
+    },
+    /// What was led is not admitted.
+    LedFreed,
     /// The server asked for a lease.
     Recall {
         no: LeaseNo,
@@ -81,6 +93,14 @@ impl Twin for Change {
                 count: *count,
                 over: *over,
             }),
+            Change::Lead { to, led } => Ok(Change::Lead {
+                to: *to,
+                led: led.copy(alloc)?,
+            }),
+            Change::LedDone { effects } => Ok(Change::LedDone {
+                effects: effects.copy(alloc)?,
+            }),
+            Change::LedFreed => Ok(Change::LedFreed),
             Change::Recall { no } => Ok(Change::Recall { no: *no }),
         }
     }

@@ -7,7 +7,6 @@ ghost use Rattle.fs_msg.specs.declared.core_error.Counter.{Counter as TheCounter
 ghost use Rattle.fs_msg.specs.declared.core_error.Counter.TheVariants.{Entries};
 ghost use Rattle.fs_msg.specs.declared.core_error.CoreError.TheVariants as errors;
 ghost use Rattle.fs_msg.specs.declared.limits.TheConstants.{LONGEST};
-ghost use Rattle.fs_record.specs.Effects.{tells_its_effects};
 ghost use Rattle.fs_client.specs.Acts.{act_plan, is_act_spent};
 ghost use Rattle.fs_client.specs.Answers.{answer_plan};
 ghost use Rattle.fs_client.specs.Client.{can_commit, committed, first_client};
@@ -63,6 +62,7 @@ impl ClientCore {
                 view: View::new(alloc, session),
                 log: List::new(alloc),
                 exchange: None,
+                led: None,
                 hints,
                 full: List::new(alloc),
                 next: 1,
@@ -77,7 +77,6 @@ impl ClientCore {
     pub fn plan_act(&self, alloc: Global, now: u64, op: &Op) -> Result<Plan<Act>, CoreError>
         requires reading { now ≤ LATEST }
         requires asked { may_ask op.now ≡ true }
-        requires plain { tells_its_effects op.now ≡ true }
         ensures plan { IfOk result (λ p. p ≡ act_plan self.now now op.now) }
         ensures can { IfOk result (λ p. can_commit p.ready self.now ≡ true) }
         ensures spent { (counter : TheCounter) → IsErrOf result (errors.Spent counter) →
@@ -127,7 +126,6 @@ impl ClientCore {
     pub fn act(&mut self, alloc: Global, now: u64, op: &Op) -> Result<ClientOut<Act>, CoreError>
         requires reading { now ≤ LATEST }
         requires asked { may_ask op.now ≡ true }
-        requires plain { tells_its_effects op.now ≡ true }
         ensures out { IfOk result (λ out. out ≡ (act_plan self.old now op.now).out) }
         ensures client { OnOk result (self.new ≡
             committed (act_plan self.old now op.now).ready self.old) }

@@ -27,6 +27,10 @@ pub enum Exchange {
         to: u8,
         count: u64,
     },
+    /// An operation is led.
+    Leads {
+        to: u8,
+    },
 }
 
 impl Twin for Exchange {
@@ -52,6 +56,7 @@ impl Twin for Exchange {
                 to: *to,
                 count: *count,
             }),
+            Exchange::Leads { to } => Ok(Exchange::Leads { to: *to }),
         }
     }
 

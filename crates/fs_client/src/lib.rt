@@ -13,7 +13,9 @@ mod fits;
 mod grants;
 mod home;
 mod law;
+mod led;
 mod live;
+mod moves;
 mod needs;
 mod plan;
 mod replies;
@@ -23,5 +25,9 @@ mod turns;
 
 pub use client_core::ClientCore;
 pub use exchange::Exchange;
-pub use law::{only_answers_refuse, only_the_refused_are_over, what_is_known_is_answered};
+pub use law::{
+    only_answers_refuse, only_its_answers_end_what_is_led, only_the_refused_are_over,
+    what_is_known_is_answered,
+};
+pub use led::Led;
 pub use plan::{Plan, Ready};

@@ -1,6 +1,7 @@
 //! The state of a client.
 use crate::exchange::Exchange;
-use fs_ident::{FileId, List, Memory, Session, Twin, both, copy_three};
+use crate::led::Led;
+use fs_ident::{FileId, List, Memory, Session, Twin, both, copy_three, copy_two};
 use fs_map::FileMap;
 use fs_msg::Entry;
 use fs_view::View;
@@ -18,6 +19,8 @@ pub(crate) struct Client {
     /// What was answered and is not known to be admitted, in order.
     pub(crate) log: List<Entry>,
     pub(crate) exchange: Option<Exchange>,
+    /// The operation that a server leads.
+    pub(crate) led: Option<Led>,
     /// Which server manages which files, as far as servers said.
     pub(crate) hints: FileMap,
     /// The directories of which a server said that they have no number left.
@@ -31,8 +34,10 @@ pub(crate) struct Client {
 impl Twin for Client {
     fn copy(&self, alloc: Global) -> Result<Client, Memory> {
         let parts = copy_three(alloc, &self.log, &self.exchange, &self.hints)?;
-        let (parts, full) = both(parts, self.full.copy(alloc))?;
-        let (((log, exchange, hints), full), view) = both((parts, full), self.view.copy(alloc))?;
+        let (parts, others) = both(parts, copy_two(alloc, &self.led, &self.full))?;
+        let ((parts, others), view) = both((parts, others), self.view.copy(alloc))?;
+        let (log, exchange, hints) = parts;
+        let (led, full) = others;
         Ok(Client {
             session: self.session,
             term: self.term,
@@ -40,6 +45,7 @@ impl Twin for Client {
             view,
             log,
             exchange,
+            led,
             hints,
             full,
             next: self.next,
@@ -55,6 +61,7 @@ impl Twin for Client {
             view,
             log: _,
             exchange: _,
+            led: _,
             hints: _,
             full: _,
             next: _,
