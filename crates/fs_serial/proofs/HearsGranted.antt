@@ -179,6 +179,7 @@ module _ (by : Session) (c : Client) (gs : List Grant) (fresh : Option (List ℕ
       | inr a ↦ ap (λ (k : Kept). entries_of k.standing) a.is ∙ sym (none_uses a.grant a.among) ∙ ap (λ n. times_in n c.log) (ap (λ (k : Kept). number_of k.standing) (sym a.is))
     ];
     held = held;
+    unled = f.unled;
   }
 
 -- all that holds of its session

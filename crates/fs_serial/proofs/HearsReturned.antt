@@ -92,6 +92,7 @@ module _ (skew greatest : ℕ) (s : Sight) (by : Session) (replied : List Item) 
       distinct = distinct_mapped (one_recall n) number c.view.leases h.client.distinct;
       pinned = each_image (one_recall n) (λ k. entries_of k.standing ≡ times_in (number_of k.standing) c.log) c.view.leases (λ k i. ap entries_of (recall_standing n k) ∙ h.client.pinned k i ∙ ap (λ m. times_in m c.log) (sym (number k)));
       held = subst (λ (d : Settled). UsesHeld d.leases c.log) (sym now) h.client.held;
+      unled = h.client.unled;
     };
     exchange = exchange_still skew greatest s.given s.rows by c recalled [] up rest (settled_now c) (settled_now recalled) (seen_at by c (Recall n ∷ rest)) (seen_at by recalled rest) goes_on
         (λ l i. record { lease = l; held = subst (λ (d : Settled). In l d.leases) now i; number = refl })
@@ -173,6 +174,7 @@ seat_released skew greatest s by replied c up count e rest h =
         distinct = λ k l i j. h.client.distinct k l (q.was k i) (q.was l j);
         pinned = λ k i. h.client.pinned k (q.was k i);
         held = subst (λ (d : Settled). UsesHeld d.leases c.log) (sym now) h.client.held;
+        unled = h.client.unled;
       };
       exchange = subst (λ up. ExchangeFits skew greatest s.given s.rows by then_ up rest (settled_now then_) (seen_at by then_ rest)) (sym w.asked) (quiet_exchange skew greatest s.given s.rows by then_ rest (settled_now then_) (seen_at by then_ rest) refl w.quiet returns);
     }
