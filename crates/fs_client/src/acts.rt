@@ -1,19 +1,22 @@
 //! What a client makes of an operation of its user.
 ghost use Rattle.std.specs.Prelude.{◌≡◌, ◌≤◌, ◌⊎◌, true, false, IfOk, IfErr, OnOk, IsErrOf};
+ghost use Rattle.std.specs.List.{filter_map};
 ghost use Rattle.fs_ident.specs.declared.limits.TheConstants.{LATEST};
 ghost use Rattle.fs_model.specs.Sound.{is_change};
+ghost use Rattle.fs_msg.specs.declared.act.Act.TheVariants as act;
 ghost use Rattle.fs_msg.specs.declared.core_error.Counter.{Counter as TheCounter};
 ghost use Rattle.fs_msg.specs.declared.core_error.Counter.TheVariants.{Entries};
 ghost use Rattle.fs_msg.specs.declared.core_error.CoreError.TheVariants as errors;
 ghost use Rattle.fs_record.specs.Effects.{tells_its_effects};
-ghost use Rattle.fs_view.specs.View.{fresh, uses_in, walk_in};
-ghost use Rattle.fs_client.specs.Acts.{act_on, act_plan, answers, ask_for, asks, is_act_spent, only_noted, reads, replies, stays, with_id, worth};
-ghost use Rattle.fs_client.specs.Client.{IsClient, can_change, can_commit, has_number_left};
+ghost use Rattle.fs_view.specs.View.{can_pin_all, fresh, item_use, reply_in, uses_in, walk_in};
+ghost use Rattle.fs_client.specs.Acts.{act_on, act_plan, answer_with, answers, answers_plain, ask_for, asks, is_act_spent, only_noted, reads, replies, stays, unless_led, with_id, worth};
+ghost use Rattle.fs_client.specs.Client.{IsClient, can_change, can_commit, may_use_number};
 ghost use Rattle.fs_client.specs.Live.{absent_from};
 
 use crate::at_reading::AtReading;
 use crate::change::Change;
 use crate::exchange::Exchange;
+use crate::moves::answer_move;
 use crate::needs::{fresh_asked, full_dir, items_of, need_file, needs_at, worth};
 use crate::plan::{Plan, Ready};
 use crate::state::Client;
@@ -21,7 +24,7 @@ use fs_field::{Need, Use};
 use fs_ident::{FileId, List, Memory, Peer, Twin};
 use fs_model::{Op, Reply};
 use fs_msg::{Act, Busy, ClientMsg, ClientOut, CoreError, Counter, Entry, Item};
-use fs_record::effects;
+use fs_record::{effects, tells_its_effects};
 use fs_view::Walk;
 use std::alloc::Global;
 
@@ -34,7 +37,6 @@ pub(crate) fn plan(
 ) -> Result<Plan<Act>, CoreError>
     requires client { IsClient client.now }
     requires reading { now ≤ LATEST }
-    requires plain { tells_its_effects op.now ≡ true }
     ensures plan { IfOk result (λ p. p ≡ act_plan client.now now op.now) }
     ensures can { IfOk result (λ p. can_commit p.ready client.now ≡ true) }
     ensures spent { (counter : TheCounter) → IsErrOf result (errors.Spent counter) →
@@ -47,9 +49,7 @@ pub(crate) fn plan(
 }
 
 /// What the operation comes to at the event.
-#[tactic(auto, using(crate::proofs::Needed::asking_can))]
 fn act(alloc: Global, at: &AtReading<'_>, op: &Op) -> Result<Plan<Act>, CoreError>
-    requires { tells_its_effects op.now ≡ true }
     ensures plan { IfOk result (λ p. p ≡ act_on at.now.over op.now at.now) }
     ensures can { IfOk result (λ p. can_change p.ready.change at.now ≡ true) }
     ensures spent { (counter : TheCounter) → IsErrOf result (errors.Spent counter) →
@@ -59,6 +59,34 @@ fn act(alloc: Global, at: &AtReading<'_>, op: &Op) -> Result<Plan<Act>, CoreErro
     if let Some(n) = at.over() {
         return Ok(stays(at, Act::Over { n }));
     }
+    unless_led(alloc, at, op)
+}
+
+/// Nothing else is done while an operation is led.
+fn unless_led(alloc: Global, at: &AtReading<'_>, op: &Op) -> Result<Plan<Act>, CoreError>
+    ensures plan { IfOk result (λ p. p ≡ unless_led at.now.led op.now at.now) }
+    ensures can { IfOk result (λ p. can_change p.ready.change at.now ≡ true) }
+    ensures spent { (counter : TheCounter) → IsErrOf result (errors.Spent counter) →
+        (counter ≡ Entries) ×
+        (can_change (unless_led at.now.led op.now at.now).ready.change at.now ≡ false) }
+{
+    if at.led().is_some() {
+        return Ok(waits(at, Busy::Led));
+    }
+    walked(alloc, at, op)
+}
+
+/// It is answered where nothing is missing, and else what is missing is asked for.
+#[tactic(auto, using(crate::proofs::Needed::asking_can))]
+fn walked(alloc: Global, at: &AtReading<'_>, op: &Op) -> Result<Plan<Act>, CoreError>
+    ensures plan { IfOk result (λ p. p ≡
+        answer_with (reply_in at.now.view at.now.last op.now) op.now at.now) }
+    ensures can { IfOk result (λ p. can_change p.ready.change at.now ≡ true) }
+    ensures spent { (counter : TheCounter) → IsErrOf result (errors.Spent counter) →
+        (counter ≡ Entries) ×
+        (can_change (answer_with (reply_in at.now.view at.now.last op.now) op.now at.now)
+            .ready.change at.now ≡ false) }
+{
     let Walk { items, reply } = at.walk(alloc, op)?;
     let Some(reply) = reply else {
         return Ok(ask_for(alloc, at, items)?);
@@ -84,10 +112,18 @@ pub(crate) fn only_noted<N: Drop>(at: &AtReading<'_>, change: Change, note: N) -
     }
 }
 
-fn stays(at: &AtReading<'_>, act: Act) -> Plan<Act>
+/// Nothing changes.
+pub(crate) fn stays(at: &AtReading<'_>, act: Act) -> Plan<Act>
     ensures { result ≡ stays act at.now }
 {
     only_noted(at, Change::Nothing, act)
+}
+
+/// It has to wait.
+pub(crate) fn waits(at: &AtReading<'_>, what: Busy) -> Plan<Act>
+    ensures { result ≡ stays (act.Busy what) at.now }
+{
+    stays(at, Act::Busy { what })
 }
 
 /// Something is missing.
@@ -104,12 +140,7 @@ fn ask_for(alloc: Global, at: &AtReading<'_>, items: List<Need>) -> Result<Plan<
     };
     let to = at.hinted(need_file(first));
     if at.exchange().is_some() {
-        return Ok(stays(
-            at,
-            Act::Busy {
-                what: Busy::Exchange,
-            },
-        ));
+        return Ok(waits(at, Busy::Exchange));
     }
     asks(alloc, at, to, needs)
 }
@@ -153,7 +184,6 @@ fn answer(
     reply: Reply,
     items: &List<Need>,
 ) -> Result<Plan<Act>, CoreError>
-    requires plain { tells_its_effects op.now ≡ true }
     requires walked { items.now ≡ (walk_in at.now.view at.now.last op.now).items }
     ensures plan { IfOk result (λ p. p ≡ answers op.now reply at.now) }
     ensures can { IfOk result (λ p. can_change p.ready.change at.now ≡ true) }
@@ -161,20 +191,43 @@ fn answer(
         (counter ≡ Entries) ×
         (can_change (answers op.now reply at.now).ready.change at.now ≡ false) }
 {
+    if tells_its_effects(op) {
+        return answer_plain(alloc, at, op, reply, items);
+    }
+    answer_move(alloc, at, op, reply, items)
+}
+
+/// Nothing is missing of an operation that is neither a delete nor a rename.
+fn answer_plain(
+    alloc: Global,
+    at: &AtReading<'_>,
+    op: &Op,
+    reply: Reply,
+    items: &List<Need>,
+) -> Result<Plan<Act>, CoreError>
+    requires plain { tells_its_effects op.now ≡ true }
+    requires walked { items.now ≡ (walk_in at.now.view at.now.last op.now).items }
+    ensures plan { IfOk result (λ p. p ≡ answers_plain op.now reply at.now) }
+    ensures can { IfOk result (λ p. can_change p.ready.change at.now ≡ true) }
+    ensures spent { (counter : TheCounter) → IsErrOf result (errors.Spent counter) →
+        (counter ≡ Entries) ×
+        (can_change (answers_plain op.now reply at.now).ready.change at.now ≡ false) }
+{
     if !is_change(&reply) && at.log().is_empty() {
         return reads(alloc, at, op, reply);
     }
     replies(alloc, at, op, reply, items)
 }
 
-fn has_number_left(at: &AtReading<'_>) -> bool
-    ensures { result ≡ has_number_left at.now }
+/// Whether a number is left that no operation that is led may need.
+fn may_use_number(at: &AtReading<'_>) -> bool
+    ensures { result ≡ may_use_number at.now }
 {
-    at.next() < u64::MAX
+    at.next() < u64::MAX && at.led().is_none()
 }
 
 /// The count of entries is spent exactly where none is left.
-fn unless_spent(left: bool) -> Result<(), CoreError>
+pub(crate) fn unless_spent(left: bool) -> Result<(), CoreError>
     ensures left { OnOk result (left ≡ true) }
     ensures spent { IfErr result (λ e. (left ≡ false) × (e ≡ errors.Spent Entries)) }
 {
@@ -186,14 +239,45 @@ fn unless_spent(left: bool) -> Result<(), CoreError>
     })
 }
 
-/// It is answered and admitted at once.
-fn reads(alloc: Global, at: &AtReading<'_>, op: &Op, reply: Reply) -> Result<Plan<Act>, CoreError>
-    ensures plan { IfOk result (λ p. p ≡ reads op.now reply at.now) }
-    ensures can { IfOk result (λ p. has_number_left at.now ≡ true) }
+/// The leases that the items are answered from, where one entry more can use each of them.
+pub(crate) fn uses_to_pin(
+    alloc: Global,
+    at: &AtReading<'_>,
+    items: &List<Need>,
+) -> Result<List<Use>, CoreError>
+    ensures uses { IfOk result (λ uses. uses ≡
+        filter_map (item_use at.now.view at.now.last) items.now) }
+    ensures can { IfOk result (λ uses. can_pin_all uses at.now.view.leases ≡ true) }
     ensures spent { (counter : TheCounter) → IsErrOf result (errors.Spent counter) →
-        (counter ≡ Entries) × (has_number_left at.now ≡ false) }
+        (counter ≡ Entries) ×
+        (can_pin_all (filter_map (item_use at.now.view at.now.last) items.now)
+            at.now.view.leases ≡ false) }
 {
-    unless_spent(has_number_left(at))?;
+    let uses = at.uses_of(alloc, items)?;
+    unless_spent(at.can_pin(&uses))?;
+    Ok(uses)
+}
+
+/// It is answered and admitted at once.
+pub(crate) fn reads(
+    alloc: Global,
+    at: &AtReading<'_>,
+    op: &Op,
+    reply: Reply,
+) -> Result<Plan<Act>, CoreError>
+    ensures plan { IfOk result (λ p. p ≡ reads op.now reply at.now) }
+    ensures can { IfOk result (λ p. may_use_number at.now ≡ true) }
+    ensures spent { (counter : TheCounter) → IsErrOf result (errors.Spent counter) →
+        (counter ≡ Entries) × (may_use_number at.now ≡ false) }
+{
+    unless_spent(may_use_number(at))?;
+    Ok(read(alloc, at, op, reply)?)
+}
+
+/// The item that is admitted, and the reply.
+fn read(alloc: Global, at: &AtReading<'_>, op: &Op, reply: Reply) -> Result<Plan<Act>, Memory>
+    ensures { IfOk result (λ p. p ≡ reads op.now reply at.now) }
+{
     let item = Item {
         by: Peer::Client(at.session()),
         n: at.next(),
@@ -233,9 +317,8 @@ fn replies(
         (counter ≡ Entries) ×
         (can_change (replies op.now reply at.now).ready.change at.now ≡ false) }
 {
-    unless_spent(has_number_left(at))?;
-    let uses = at.uses_of(alloc, items)?;
-    unless_spent(at.can_pin(&uses))?;
+    unless_spent(may_use_number(at))?;
+    let uses = uses_to_pin(alloc, at, items)?;
     Ok(entry(alloc, at, op, reply, uses)?)
 }
 

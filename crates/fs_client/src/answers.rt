@@ -7,6 +7,7 @@ ghost use Rattle.fs_client.specs.Client.{IsClient, can_change, can_commit};
 use crate::acts::only_noted;
 use crate::at_reading::AtReading;
 use crate::change::Change;
+use crate::ended::led_plan;
 use crate::exchange::Exchange;
 use crate::fits::{fits, is_life};
 use crate::plan::{Plan, Ready};
@@ -42,6 +43,7 @@ fn answer(
     from: u8,
     a: &Answer,
 ) -> Result<Plan<ClientNote>, Memory>
+    requires { IsClient at.now }
     ensures plan { IfOk result (λ p. p ≡ hear from a.now at.now) }
     ensures can { IfOk result (λ p. can_change p.ready.change at.now ≡ true) }
 {
@@ -52,7 +54,7 @@ fn answer(
 }
 
 /// It fits no question that stands.
-fn strange(at: &AtReading<'_>) -> Plan<ClientNote>
+pub(crate) fn strange(at: &AtReading<'_>) -> Plan<ClientNote>
     ensures { result ≡ strange at.now }
 {
     only_noted(at, Change::Nothing, ClientNote::Strange)
@@ -69,7 +71,7 @@ fn told(alloc: Global, at: &AtReading<'_>, a: &Answer) -> Result<Plan<ClientNote
         Answer::Renewed { rows, end } => renewed(alloc, at, rows, end),
         Answer::Released { count, end } => released(alloc, at, *count, end),
         Answer::Shipped { count, end } => shipped(alloc, at, *count, end),
-        Answer::Led { end: _ } => Ok(strange(at)),
+        Answer::Led { end } => led_plan(alloc, at, end),
         Answer::Recall { no } => Ok(only_noted(
             at,
             Change::Recall { no: *no },

@@ -10,9 +10,10 @@ ghost use Rattle.fs_client.specs.Client.{begun};
 ghost use Rattle.fs_client.specs.Turns.{ending, pair_of, returned};
 
 use crate::exchange::Exchange;
+use crate::led::Led;
 use crate::live;
 use crate::state::Client;
-use fs_field::{Need, Use};
+use fs_field::{Field, LeaseKind, Need, Use, Value};
 use fs_ident::{FileId, LeaseNo, List, Memory, Session};
 use fs_map::FileMap;
 use fs_model::Op;
@@ -92,6 +93,13 @@ impl<'a> AtReading<'a> {
         &self.client.exchange
     }
 
+    /// The operation that a server leads.
+    pub(crate) fn led(&self) -> &Option<Led>
+        ensures { result.now ≡ self.now.led }
+    {
+        &self.client.led
+    }
+
     /// What was answered and is not known to be admitted.
     pub(crate) fn log(&self) -> &List<Entry>
         ensures { result.now ≡ self.now.log }
@@ -126,6 +134,18 @@ impl<'a> AtReading<'a> {
         ensures { IfOk result (λ w. w ≡ walk_in self.now.view self.now.last op.now) }
     {
         self.client.view.walk(alloc, self.reading, op)
+    }
+
+    /// What leases of the kind or a stronger one make known of the field.
+    pub(crate) fn known(
+        &self,
+        alloc: Global,
+        field: &Field,
+        kind: LeaseKind,
+    ) -> Result<Option<Value>, Memory>
+        ensures { IfOk result (λ v. v ≡ known_by self.now.view self.now.last field.now kind) }
+    {
+        self.client.view.known(alloc, self.reading, field, kind)
     }
 
     /// Those of the items that are not there.

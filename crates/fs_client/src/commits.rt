@@ -1,15 +1,17 @@
 //! What a plan says is done: memory first, then what cannot fail.
 ghost use Rattle.std.specs.Prelude.{◌≡◌, ◌≤◌, true, OnOk, OnErr};
-ghost use Rattle.fs_client.specs.Client.{begun, can_change, can_commit, changed, committed, with_exchange, with_hints, with_read, with_recalled, with_release, with_released, with_renewed};
+ghost use Rattle.fs_client.specs.Client.{begun, can_change, can_commit, changed, committed, with_exchange, with_hints, with_lead, with_led_done, with_led_freed, with_read, with_recalled, with_release, with_released, with_renewed};
 
 use crate::admits::admit;
 use crate::change::Change;
 use crate::exchange::Exchange;
 use crate::grants::grant;
+use crate::led::Led;
 use crate::plan::Ready;
 use crate::replies::reply;
 use crate::returns::{leave_all, release_all, renew_all};
 use crate::state::Client;
+use fs_field::Effect;
 use fs_ident::{LeaseNo, List, Memory};
 use fs_map::FileMap;
 use std::alloc::Global;
@@ -52,6 +54,9 @@ fn make(alloc: Global, client: &mut Client, now: u64, change: Change) -> Result<
         Change::Renew { ends } => renew(client, now, ends),
         Change::Release { numbers } => release(client, now, numbers),
         Change::Admit { count, over } => return admit(alloc, client, now, count, over),
+        Change::Lead { to, led } => lead(client, now, to, led),
+        Change::LedDone { effects } => return led_done(alloc, client, now, effects),
+        Change::LedFreed => led_freed(client, now),
         Change::Recall { no } => recall(client, now, no),
     }
     Ok(())
@@ -104,6 +109,46 @@ fn release(client: &mut Client, now: u64, numbers: List<LeaseNo>)
     begin(client, now);
     release_all(&mut client.view, numbers.as_slice());
     client.exchange = None;
+}
+
+/// The operation is led, and the leases that it uses are pinned.
+fn lead(client: &mut Client, now: u64, to: u8, led: Led)
+    requires { can_change (Change.Lead to led) (begun now client.old) ≡ true }
+    ensures { client.new ≡ with_lead to led (begun now client.old) }
+{
+    begin(client, now);
+    client.view.pin(&led.entry.uses);
+    client.exchange = Some(Exchange::Leads { to });
+    client.led = Some(led);
+}
+
+/// What was led is admitted: its effects are known, and its number is used up.
+fn led_done(
+    alloc: Global,
+    client: &mut Client,
+    now: u64,
+    effects: List<Effect>,
+) -> Result<(), Memory>
+    requires { can_change (Change.LedDone effects) (begun now client.old) ≡ true }
+    ensures ok { OnOk result (client.new ≡ with_led_done effects (begun now client.old)) }
+    ensures err { OnErr result (client.new ≡ client.old) }
+{
+    client.view.admit(alloc, &effects)?;
+    led_freed(client, now);
+    client.next += 1;
+    Ok(())
+}
+
+/// Nothing is led any more, and the leases that it used are unpinned.
+fn led_freed(client: &mut Client, now: u64)
+    ensures { client.new ≡ with_led_freed (begun now client.old) }
+{
+    begin(client, now);
+    if let Some(led) = &client.led {
+        client.view.unpin(&led.entry.uses);
+    }
+    client.exchange = None;
+    client.led = None;
 }
 
 fn recall(client: &mut Client, now: u64, no: LeaseNo)

@@ -6,14 +6,18 @@ ghost use Rattle.fs_field.specs.Table.{same_no, is_parent};
 ghost use Rattle.fs_field.specs.Field.{same_field};
 ghost use Rattle.fs_field.specs.declared.field.Field.TheVariants.{Life};
 ghost use Rattle.fs_field.specs.declared.lease_kind.LeaseKind.TheVariants.{Exclusive};
+ghost use Rattle.fs_client.specs.Led.{can_end_with, end_fits};
 ghost use Rattle.fs_client.specs.Answers.{answer_fits, begins_numbers, fits, fresh_fits, front_fits, grants_fit, is_entry_at, is_new, is_of_item, life_last, refusal_fits};
 
 use crate::admits::front;
 use crate::at_reading::AtReading;
 use crate::exchange::Exchange;
+use crate::led::Led;
 use fs_field::{Field, LeaseKind};
 use fs_ident::{FileId, LeaseNo};
+use fs_model::{Op, Reply};
 use fs_msg::{Answer, End, Entry, Grant};
+use fs_record::LedEnd;
 
 /// Whether the answer of that server fits the question that stands; a recall always does.
 pub(crate) fn fits(at: &AtReading<'_>, from: u8, a: &Answer) -> bool
@@ -53,8 +57,32 @@ fn answer_fits(at: &AtReading<'_>, from: u8, exchange: &Exchange, a: &Answer) ->
                 && *count <= *sent
                 && refusal_fits(end, *count, front(at.log().as_slice(), *sent as usize))
         }
+        (Exchange::Leads { to }, Answer::Led { end }) => *to == from && end_fits(at.led(), end),
         _ => false,
     }
+}
+
+/// Whether something is led that can end so.
+fn end_fits(led: &Option<Led>, end: &LedEnd) -> bool
+    ensures { result ≡ end_fits led.now end.now }
+{
+    match (led, end) {
+        (None, _) => false,
+        (Some(led), LedEnd::Done { reply }) => can_end_with(&led.entry.op, reply),
+        _ => true,
+    }
+}
+
+/// Whether a server that led it can say that it is done with this reply.
+fn can_end_with(op: &Op, reply: &Reply) -> bool
+    ensures { result ≡ can_end_with op.now reply.now }
+{
+    matches!(
+        (op, reply),
+        (Op::Delete { .. }, Reply::Deleted)
+            | (Op::Rename { .. }, Reply::Renamed)
+            | (Op::Rename { .. }, Reply::Cycle)
+    )
 }
 
 /// Whether the grants are of the items at the front, and behind them, where an identifier came, of that file's life.

@@ -8,6 +8,7 @@ mod at_reading;
 mod change;
 mod client_core;
 mod commits;
+mod ended;
 mod exchange;
 mod fits;
 mod grants;
