@@ -13,3 +13,4 @@ mod Moving
 mod Losing
 pub mod InOrder
 pub mod Making
+pub mod Leading

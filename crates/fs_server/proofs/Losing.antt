@@ -307,11 +307,11 @@ turn_server : (xs : Lapsed) (s : Server) → (turn_over xs s).server ≡ (reap_f
 turn_server [] s = refl
 turn_server (x ∷ xs) s = refl
 
-over : (given reaps : ℕ) → given < 2 ^ 64 → 2 ^ 64 ≤ reaps → cond (nat_le (2 ^ 64) given) (Some Leases) (cond (nat_le (2 ^ 64) reaps) (Some Reaps) None) ≡ Some Reaps
-over given reaps g r = grind (arith, nat_tests)
+over : (given reaps : ℕ) (rest : Option Counter) → given < 2 ^ 64 → 2 ^ 64 ≤ reaps → cond (nat_le (2 ^ 64) given) (Some Leases) (cond (nat_le (2 ^ 64) reaps) (Some Reaps) rest) ≡ Some Reaps
+over given reaps rest g r = grind (arith, nat_tests)
 
 pub turn_spent : (s : Server) (counter : Counter) → s.given < 2 ^ 64 → counter ≡ Reaps → 2 ^ 64 ≤ (reap_from (lapsed_among s (open_files s.records)) s [] []).server.reaps → counter_over (turn_step s).server ≡ Some counter
 turn_spent s counter g is h =
     ap counter_over (turn_server (lapsed_in s) s ∙ ap (λ xs. (reap_from xs s [] []).server) (sym (lapsed_open s)))
-    ∙ over _ _ (subst (λ n. n < 2 ^ 64) (sym (ap (λ t. t.given) (reaps_leave (lapsed_among s (open_files s.records)) s [] []))) g) h
+    ∙ over _ _ _ (subst (λ n. n < 2 ^ 64) (sym (ap (λ t. t.given) (reaps_leave (lapsed_among s (open_files s.records)) s [] []))) g) h
     ∙ ap Some (sym is)

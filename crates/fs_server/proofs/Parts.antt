@@ -54,7 +54,7 @@ filter_part test part h (x ∷ xs) =
       passed true k = let wrong : true ≡ false = k refl in absurd (cc)
       passed false k = refl
 
-any_part : {X : Type 0} (test part : X → Bool) → ((x : X) → test x ≡ true → part x ≡ true) → (xs : List X) → list_any test xs ≡ list_any test (filter part xs)
+pub any_part : {X : Type 0} (test part : X → Bool) → ((x : X) → test x ≡ true → part x ≡ true) → (xs : List X) → list_any test xs ≡ list_any test (filter part xs)
 any_part test part h xs = sym (any-filter_same test part true h xs)
 
 lock_part : (field : Field) (part : Row → Bool) → ((r : Row) → (same_field r.field field && is_some r.lock) ≡ true → part r ≡ true) → (rows : List Row) → lock_on field rows ≡ lock_on field (filter part rows)
@@ -71,7 +71,7 @@ lock_part field part h (r ∷ rs) =
 -- ## Fields of one part
 
 -- one field is of one part
-same_part : (g f : Field) → same_field g f ≡ true → tells_no_mode g ≡ tells_no_mode f
+pub same_part : (g f : Field) → same_field g f ≡ true → tells_no_mode g ≡ tells_no_mode f
 same_part (Life a) (Life b) h = refl
 same_part (Child a m) (Child b n) h = refl
 same_part (Names a) (Names b) h = refl

@@ -1,7 +1,10 @@
 -- What the laws of a server say.
-use Rattle.std.specs.Prelude.{◌≡◌, ◌⊎◌, ℕ, List, [], ◌∷◌, ◌++◌, map, Option, Some, None, is_some, if◌then◌else◌}
+use Rattle.std.specs.Prelude.{◌≡◌, ◌⊎◌, ℕ, ◌+◌, List, [], ◌∷◌, ◌++◌, map, Option, Some, None, is_some, if◌then◌else◌}
+use Rattle.std.specs.List.{flat_map}
 use Rattle.fs_ident.specs.Ident.{child}
+use Rattle.fs_ident.specs.declared.actor.Peer.TheVariants.{Client}
 use Rattle.fs_ident.specs.declared.actor.Session.{Session}
+use Rattle.fs_ident.specs.declared.actor.TxnNo.{TxnNo}
 use Rattle.fs_field.specs.declared.asked.Asked.{Asked}
 use Rattle.fs_field.specs.declared.asked.Asked.TheVariants.{Granted, Wait, Locked}
 use Rattle.fs_field.specs.declared.field.Field.{Field}
@@ -9,11 +12,28 @@ use Rattle.fs_field.specs.declared.field.Field.TheVariants.{Life}
 use Rattle.fs_field.specs.declared.lease_kind.LeaseKind.{LeaseKind}
 use Rattle.fs_field.specs.declared.lease_kind.LeaseKind.TheVariants.{Exclusive}
 use Rattle.fs_field.specs.Field.{file_of}
+use Rattle.fs_field.specs.declared.effect.Effect.{Effect}
+use Rattle.fs_field.specs.declared.used.Part.{Part}
+use Rattle.fs_msg.specs.declared.answer.Answer.TheVariants as answer
 use Rattle.fs_msg.specs.declared.answer.Grant.{Grant}
 use Rattle.fs_msg.specs.declared.end.End.{End}
 use Rattle.fs_msg.specs.declared.end.End.TheVariants as end
+use Rattle.fs_msg.specs.declared.item.Item.{Item}
+use Rattle.fs_msg.specs.declared.lead.Lead.{Lead}
+use Rattle.fs_msg.specs.declared.server_note.ServerNote.{ServerNote}
+use Rattle.fs_msg.specs.declared.server_note.ServerNote.TheVariants as note
+use Rattle.fs_record.specs.Applied.{records_after_all}
+use Rattle.fs_record.specs.declared.led_end.LedEnd.{LedEnd}
+use Rattle.fs_record.specs.declared.led_end.LedEnd.TheVariants as led
+use Rattle.fs_txn.specs.Preparing.{vote_on}
+use Rattle.fs_txn.specs.declared.decision.Decision.{Decision}
+use Rattle.fs_txn.specs.declared.decision.Decision.TheVariants.{Commit, Abort}
+use Rattle.fs_txn.specs.declared.leader.Leader.{Leader}
+use Rattle.fs_txn.specs.declared.mode.Mode2.TheVariants.{Plain}
 use Rattle.fs_server.specs.Asks.{Asking, answer_to, kind_for}
-use Rattle.fs_server.specs.Server.{is_mine, moved}
+use Rattle.fs_server.specs.Leads.{parts_in, txn_of}
+use Rattle.fs_server.specs.Rows.{rows_off_modes, rows_on_modes}
+use Rattle.fs_server.specs.Server.{Stepped, is_mine, moved, to_session}
 use Rattle.fs_server.specs.declared.state.Server.{Server}
 
 -- ## The items of a question
@@ -55,3 +75,48 @@ pub record FreshGiven (dir : List ℕ) (items : List (Field × LeaseKind)) (a : 
 -- it comes, or the directory has no number left
 abbrev pub FreshComes : List ℕ → List (Field × LeaseKind) → Asking → Type 0
 FreshComes dir items a = FreshGiven dir items a ⊎ (a.end ≡ end.NoIds dir)
+
+-- ## An operation that is led
+
+-- the leader of the operation, whose parts voted by the rows of this server
+abbrev pub leader_of : Session → Lead → Server → Leader
+leader_of by m s = record {
+  txn = txn_of s;
+  session = by;
+  n = m.n;
+  op = m.op;
+  file = m.file;
+  parts = parts_in m;
+  mode = Plain;
+  votes = map (λ (p : Part). Some (vote_on (rows_off_modes s.rows) (rows_on_modes s.rows) s.map s.me s.last by p None)) (parts_in m);
+}
+
+-- how it is noted that a transaction ended in this way
+abbrev pub end_note : TxnNo → LedEnd → ServerNote
+end_note txn (led.Done r) = note.Commits txn r
+end_note txn (led.Ended lease until now) = note.AbortsEnded txn lease until now
+end_note txn (led.Again w) = note.Aborts txn w
+
+abbrev pub end_of_decision : Decision → LedEnd
+end_of_decision (Commit r effects) = led.Done r
+end_of_decision (Abort e) = e
+
+-- the effects of all parts, in their order
+abbrev pub all_effects : Decision → List Effect
+all_effects (Commit r effects) = flat_map (λ (es : List Effect). es) effects
+all_effects (Abort e) = []
+
+abbrev pub admitted_by : Decision → Session → Lead → List Item
+admitted_by (Commit r effects) by m = record { by = Client by; n = m.n; op = m.op; reply = r } ∷ []
+admitted_by (Abort e) by m = []
+
+-- the transaction ends as the leader decides, and all its parts are here
+abbrev pub concluded : Decision → Session → Lead → Server → Stepped
+concluded d by m s = record {
+  server = record s { txns = s.txns + 1; records = records_after_all s.records (all_effects d) };
+  out = record {
+    note = end_note (txn_of s) (end_of_decision d);
+    send = to_session by (answer.Led (end_of_decision d)) ∷ [];
+    admitted = admitted_by d by m;
+  };
+}

@@ -5,6 +5,7 @@ pub mod Pairs
 pub mod Moves
 pub mod Reaps
 pub mod Ships
+pub mod Leads
 pub mod Step
 pub mod Plan
 pub mod Laws

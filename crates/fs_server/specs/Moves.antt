@@ -79,7 +79,7 @@ abbrev pub parcel_at : Bool → Parcel → Server → Stepped
 parcel_at true p s = only_noted (note.Installs p.prefix) (installed p s)
 parcel_at false p s = strange s
 
--- what a message of another server comes to; none leads an operation yet
+-- what a message of another server comes to; none leads an operation with a part at another one yet
 abbrev pub peer_step : PeerMsg → Server → Stepped
 peer_step (peer.Parcel p) s = parcel_at (fits_here p s) p s
 peer_step (peer.Prepare m) s = strange s

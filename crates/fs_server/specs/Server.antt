@@ -31,6 +31,7 @@ first_server me skew term = record {
   last = 0;
   given = 0;
   reaps = 0;
+  txns = 0;
   rows = [];
   records = first_records (me == 0);
   map = first_map;

@@ -12,26 +12,27 @@ use Rattle.fs_msg.specs.declared.answer.Answer.TheVariants as reply
 use Rattle.fs_msg.specs.declared.client_msg.ClientMsg.{ClientMsg}
 use Rattle.fs_msg.specs.declared.client_msg.ClientMsg.TheVariants.{Ask, Renew, Release, Ship, Lead}
 use Rattle.fs_msg.specs.declared.core_error.Counter.{Counter}
-use Rattle.fs_msg.specs.declared.core_error.Counter.TheVariants.{Leases, Reaps}
+use Rattle.fs_msg.specs.declared.core_error.Counter.TheVariants.{Leases, Reaps, Transactions}
 use Rattle.fs_msg.specs.declared.msg.Msg.{Msg}
 use Rattle.fs_msg.specs.declared.server_note.ServerNote.TheVariants as note
 use Rattle.fs_server.specs.declared.event.ServerEvent.{ServerEvent}
 use Rattle.fs_server.specs.declared.event.ServerEvent.TheVariants.{FromClient, FromPeer, Turn, Recall, Move}
 use Rattle.fs_server.specs.declared.state.Server.{Server}
-use Rattle.fs_server.specs.Server.{Stepped, begun, is_mine, strange, to_session}
+use Rattle.fs_server.specs.Server.{Stepped, begun, is_mine, to_session}
 use Rattle.fs_server.specs.Asks.{ask_step}
+use Rattle.fs_server.specs.Leads.{lead_step}
 use Rattle.fs_server.specs.Moves.{move_step, peer_step}
 use Rattle.fs_server.specs.Pairs.{renew_step, release_step}
 use Rattle.fs_server.specs.Reaps.{turn_step}
 use Rattle.fs_server.specs.Ships.{ship_step}
 
--- what a message of a session comes to; no server leads an operation yet
+-- what a message of a session comes to
 abbrev pub message_step : Session → ClientMsg → Server → Stepped
 message_step by (Ask items fresh) s = ask_step by items fresh s
 message_step by (Renew pairs) s = renew_step by pairs s
 message_step by (Release pairs) s = release_step by pairs s
 message_step by (Ship entries) s = ship_step by entries s
-message_step by (Lead m) s = strange s
+message_step by (Lead m) s = lead_step by m s
 
 -- each of the leases is asked back from its session
 abbrev pub recalls_of : List (LeaseNo × Session) → List (Peer × Msg)
@@ -69,7 +70,9 @@ CanBeTold e = Unit {0}
 
 -- the counter that the step would raise above its end
 abbrev pub counter_over : Server → Option Counter
-counter_over s = if nat_le (2 ^ 64) s.given then Some Leases else (if nat_le (2 ^ 64) s.reaps then Some Reaps else None)
+counter_over s =
+    if nat_le (2 ^ 64) s.given then Some Leases
+    else (if nat_le (2 ^ 64) s.reaps then Some Reaps else (if nat_le (2 ^ 64) s.txns then Some Transactions else None))
 
 abbrev pub spent_by : Server → ℕ → ServerEvent → Option Counter
 spent_by s now e = counter_over (step s now e).server

@@ -63,6 +63,13 @@ impl<'a> AtReading<'a> {
         self.server.reaps
     }
 
+    /// How many transactions it led so far.
+    pub(crate) fn txns(&self) -> u64
+        ensures { result ≡ self.now.txns }
+    {
+        self.server.txns
+    }
+
     /// How many leases were given so far.
     pub(crate) fn given(&self) -> u64
         ensures { result ≡ self.now.given }

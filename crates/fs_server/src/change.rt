@@ -32,6 +32,11 @@ pub(crate) enum Change {
         count: u64,
         effects: List<Effect>,
     },
+    /// A transaction, and its effects: those of `removals` take a file or a name away, and come behind the others.
+    Lead {
+        effects: List<Effect>,
+        removals: List<Effect>,
+    },
     /// What the piece gives goes to that server, these records among it.
     Leave {
         to: u8,
@@ -66,6 +71,10 @@ impl Twin for Change {
                 count: *count,
                 effects: effects.copy(alloc)?,
             }),
+            Change::Lead { effects, removals } => {
+                let (effects, removals) = copy_two(alloc, effects, removals)?;
+                Ok(Change::Lead { effects, removals })
+            }
             Change::Leave { to, piece, moved } => {
                 let (piece, moved) = copy_two(alloc, piece, moved)?;
                 Ok(Change::Leave {

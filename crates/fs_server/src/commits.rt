@@ -1,10 +1,11 @@
 //! What an event changes is carried out: all of it, or nothing.
 ghost use Rattle.std.specs.Prelude.{◌≡◌, ◌+◌, ◌<◌, ◌^◌, length, true, OnOk, OnErr};
-ghost use Rattle.std.specs.List.{filter};
+ghost use Rattle.std.specs.List.{filter, list_all};
 ghost use Rattle.fs_field.specs.Table.{is_live};
 ghost use Rattle.fs_map.specs.Lists.{map_after_take};
 ghost use Rattle.fs_map.specs.Map.{IsPiece};
 ghost use Rattle.fs_parcel.specs.Parcel.{fits};
+ghost use Rattle.fs_record.specs.Applied.{is_undoable, records_after_all, takes_away};
 ghost use Rattle.fs_record.specs.Moving.{AreNumbersLeft, records_given, records_left, with_records};
 ghost use Rattle.fs_rows.specs.Granted.{with_rows};
 ghost use Rattle.fs_rows.specs.Moving.{rows_left};
@@ -16,7 +17,7 @@ ghost use Rattle.fs_server.specs.Server.{begun};
 use crate::all_rows::AllRows;
 use crate::change::Change;
 use crate::state::Server;
-use fs_field::Row;
+use fs_field::{Effect, Row};
 use fs_ident::{FileId, LeaseNo, List, Memory};
 use fs_map::MapPiece;
 use fs_record::{Parcel, Record, Records};
@@ -54,6 +55,9 @@ pub(crate) fn commit(
             server.records.apply_all(alloc, &effects)?;
             server.rows.lapse(reading, server.skew);
             server.reaps += count;
+        }
+        Change::Lead { effects, removals } => {
+            lead(alloc, server, reading, &effects, removals.as_slice())?;
         }
         Change::Leave { to, piece, moved } => leave(alloc, server, reading, to, &piece, &moved)?,
         Change::Install { parcel } => install(alloc, server, reading, parcel)?,
@@ -95,6 +99,41 @@ fn give_number(records: &mut Records, gift: Option<(FileId, u32)>)
 {
     if let Some((dir, k)) = gift {
         records.gift(&dir, k);
+    }
+}
+
+/// The effects of a transaction are applied: after those that can be taken back, those that want no memory.
+fn lead(
+    alloc: Global,
+    server: &mut Server,
+    reading: u64,
+    effects: &List<Effect>,
+    removals: &[Effect],
+) -> Result<(), Memory>
+    requires effects { list_all is_undoable effects.now ≡ true }
+    requires removals { list_all takes_away removals.now ≡ true }
+    requires txns { server.old.txns + 1 < 2 ^ 64 }
+    ensures ok { OnOk result (server.new ≡ record server.old {
+      txns = server.old.txns + 1;
+      rows = filter (is_live reading server.old.skew) server.old.rows;
+      records = records_after_all (records_after_all server.old.records effects.now) removals.now;
+    }) }
+    ensures err { OnErr result (server.new ≡ server.old) }
+{
+    server.records.apply_all(alloc, effects)?;
+    take_all_away(&mut server.records, removals);
+    server.rows.lapse(reading, server.skew);
+    server.txns += 1;
+    Ok(())
+}
+
+/// These names and files are there no more.
+fn take_all_away(records: &mut Records, removals: &[Effect])
+    requires { list_all takes_away removals.now ≡ true }
+    ensures { records.new ≡ records_after_all records.old removals.now }
+{
+    for e in removals {
+        records.take_away(e);
     }
 }
 

@@ -15,6 +15,7 @@ use crate::asks::ask;
 use crate::at_reading::AtReading;
 use crate::change::Change;
 use crate::event::ServerEvent;
+use crate::leads::lead;
 use crate::moves::{installs, move_to};
 use crate::out::ServerOut;
 use crate::pairs::{release, renew};
@@ -54,7 +55,7 @@ pub(crate) fn decide(
     }
 }
 
-/// What a message of another server comes to. No server leads an operation yet.
+/// What a message of another server comes to. No server leads an operation with a part at another one yet.
 fn from_peer(alloc: Global, at: &AtReading<'_>, from: u8, m: &PeerMsg) -> Result<Decided, Memory>
     requires ready { IsReady at.now }
     requires told { CanBeTold (FromPeer from m.now) }
@@ -88,7 +89,7 @@ fn message(
         ClientMsg::Renew { pairs } => Ok(renew(alloc, at, by, pairs)?),
         ClientMsg::Release { pairs } => Ok(release(alloc, at, by, pairs)?),
         ClientMsg::Ship { entries } => Ok(ship(alloc, at, by, entries)?),
-        ClientMsg::Lead { lead: _ } => Ok(strange(alloc)),
+        ClientMsg::Lead { lead: m } => lead(alloc, at, by, m),
     }
 }
 

@@ -4,18 +4,23 @@ ghost use Rattle.fs_field.specs.declared.field.Field.{Field};
 ghost use Rattle.fs_field.specs.declared.lease_kind.LeaseKind.{LeaseKind};
 ghost use Rattle.fs_ident.specs.declared.actor.Peer.TheVariants as peer;
 ghost use Rattle.fs_ident.specs.declared.actor.Session.{Session};
+ghost use Rattle.fs_map.specs.Map.{longest};
+ghost use Rattle.fs_model.specs.Asking.{home_of};
 ghost use Rattle.fs_msg.specs.declared.end.End.TheVariants as end;
+ghost use Rattle.fs_msg.specs.declared.lead.Lead.{Lead};
 ghost use Rattle.fs_msg.specs.declared.msg.Msg.TheVariants as msg;
 ghost use Rattle.fs_msg.specs.declared.peer_msg.PeerMsg.TheVariants.{Parcel};
 ghost use Rattle.fs_msg.specs.declared.server_note.ServerNote.TheVariants as note;
 ghost use Rattle.fs_parcel.specs.Parcel.{move_refusal, parcel_of};
 ghost use Rattle.fs_record.specs.Fresh.{is_directory};
 ghost use Rattle.fs_server.specs.Asks.{ask_from, asked_in};
-ghost use Rattle.fs_server.specs.Laws.{FreshComes, free_items, item_in, items_end};
+ghost use Rattle.fs_server.specs.Laws.{FreshComes, concluded, free_items, item_in, items_end, leader_of};
+ghost use Rattle.fs_server.specs.Leads.{is_led, lead_refusal, lead_step, moved_why, refuses};
 ghost use Rattle.fs_server.specs.Server.{begun, is_mine};
 ghost use Rattle.fs_server.specs.Step.{step};
 ghost use Rattle.fs_server.specs.declared.event.ServerEvent.TheVariants.{Move};
 ghost use Rattle.fs_server.specs.declared.state.Server.{Server};
+ghost use Rattle.fs_txn.specs.Deciding.{decision};
 
 /// The items of a question are given in order up to the first that the session could not have before it was given any: no
 /// lease that it is given keeps the next one from it.
@@ -33,6 +38,26 @@ pub fn an_identifier_comes_behind_all_items()
         items_end by s items ≡ end.All → is_mine s dir ≡ true →
         is_directory s.records dir ≡ true →
         FreshComes dir (free_items by s items) (asked_in by items (Some dir) s) }
+{}
+
+/// An operation whose home another server manages is not led: the session is told where it is said to be, whatever else is wanting.
+pub fn operations_are_led_at_home()
+    ensures { (by : Session) (m : Lead) (s : Server) → is_led m.op ≡ true →
+        is_mine s (home_of m.op) ≡ false →
+        lead_step by m s ≡ refuses by (moved_why (longest s.map (home_of m.op))) s }
+{}
+
+/// Where nothing is admitted no file changes: at most a number of a transaction is used up.
+pub fn what_is_not_admitted_changes_no_file()
+    ensures { (by : Session) (m : Lead) (s : Server) → (lead_step by m s).out.admitted ≡ [] →
+        (lead_step by m s).server ≡ record s { txns = (lead_step by m s).server.txns } }
+{}
+
+/// Where all files of the operation are managed here, all its parts vote at once by the rows that stand, and the leader decides.
+pub fn parts_here_vote_at_once()
+    ensures { (by : Session) (m : Lead) (s : Server) → is_led m.op ≡ true →
+        lead_refusal s m ≡ None →
+        lead_step by m s ≡ concluded (decision (leader_of by m s) None) by m s }
 {}
 
 /// A move with none of the refusals is made in its own event: a parcel with all that is below the prefix goes out.

@@ -10,6 +10,8 @@
 //! - a fresh identifier scans the rows once, and then the numbers that they bear for each number that it tries;
 //! - a renewal and a release scan the rows for each pair, a log for each use up to the first whose row is gone;
 //! - an entry that is admitted finds its records (log f), and a create puts a name among those of its directory;
+//! - an operation that is led scans the rows for each use up to the first whose row is gone; a commit finds three records
+//!   (log f), and puts a name among those of its directory or takes one away;
 //! - a turn looks at every record once for the files that are open, and scans the rows once for each session with handles
 //!   on one of these. For one with no lease on its handles it scans them once more, and for each row that was told of the
 //!   modes of others on the file once for each session with handles on it. A handle that is lost finds its record (log f);
@@ -31,6 +33,7 @@ mod decide;
 mod event;
 mod fresh;
 mod law;
+mod leads;
 mod lent;
 mod moves;
 mod out;
@@ -45,7 +48,8 @@ mod state;
 pub use event::ServerEvent;
 pub use law::{
     a_move_that_nothing_refuses_is_made, an_identifier_comes_behind_all_items,
-    items_are_given_in_order,
+    items_are_given_in_order, operations_are_led_at_home, parts_here_vote_at_once,
+    what_is_not_admitted_changes_no_file,
 };
 pub use out::ServerOut;
 pub use plan::Plan;

@@ -64,6 +64,7 @@ impl ServerCore {
                 last: 0,
                 given: 0,
                 reaps: 0,
+                txns: 0,
                 rows: AllRows::new(alloc),
                 records: Records::new(alloc, me == 0)?,
                 map: FileMap::new(alloc)?,
@@ -71,8 +72,8 @@ impl ServerCore {
         })
     }
 
-    /// What the event at the reading `now`, in milliseconds, comes to; nothing is changed. `Spent` where a lease
-    /// or a reap would have a number above u64::MAX, and only there.
+    /// What the event at the reading `now`, in milliseconds, comes to; nothing is changed. `Spent` where a lease,
+    /// a reap or a transaction would have a number above u64::MAX, and only there.
     pub fn plan(&self, alloc: Global, now: u64, ev: &ServerEvent) -> Result<Plan, CoreError>
         requires reading { now ≤ LATEST }
         requires told { CanBeTold ev.now }
@@ -101,8 +102,8 @@ impl ServerCore {
         commit(alloc, &mut self.server, now, change)
     }
 
-    /// One event at the reading `now`, in milliseconds. `Spent` where a lease or a reap would have a number above
-    /// u64::MAX, and only there. After an error the server is as it was.
+    /// One event at the reading `now`, in milliseconds. `Spent` where a lease, a reap or a transaction would have a
+    /// number above u64::MAX, and only there. After an error the server is as it was.
     pub fn step(
         &mut self,
         alloc: Global,

@@ -100,7 +100,7 @@ fn is_here(at: &AtReading<'_>, op: &Op) -> bool
 }
 
 /// The first use without its row.
-fn first_gone<'a>(at: &AtReading<'_>, by: Session, uses: &'a [Use]) -> Option<&'a Use>
+pub(crate) fn first_gone<'a>(at: &AtReading<'_>, by: Session, uses: &'a [Use]) -> Option<&'a Use>
     ensures { option_copied result ≡ first_gone at.now.rows by uses.now }
 {
     uses.iter().find(|used| !has_row(at, by, used))

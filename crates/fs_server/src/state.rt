@@ -24,6 +24,8 @@ pub(crate) struct Server {
     pub(crate) given: u64,
     /// How often a session lost its handles on a file so far.
     pub(crate) reaps: u64,
+    /// How many transactions it led so far.
+    pub(crate) txns: u64,
     pub(crate) rows: AllRows,
     pub(crate) records: Records,
     /// Which server manages which files, as far as it knows.
@@ -64,6 +66,7 @@ impl Twin for Server {
             last: self.last,
             given: self.given,
             reaps: self.reaps,
+            txns: self.txns,
             rows,
             records,
             map,

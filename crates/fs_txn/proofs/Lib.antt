@@ -9,6 +9,7 @@ pub mod Past
 pub mod Guarded
 pub mod GrantsTrue
 pub mod Shared
+pub mod Whole
 pub mod Keys
 pub mod Telling
 pub mod Locked

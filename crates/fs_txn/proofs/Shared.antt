@@ -22,10 +22,10 @@ use Rattle.fs_txn.proofs.Parted.{turned}
 
 -- ## Lists of files
 
-file_old : (f : List ℕ) (fs : List (List ℕ)) → list_any (λ g. same g f) fs ≡ true → with_file f fs ≡ fs
+pub file_old : (f : List ℕ) (fs : List (List ℕ)) → list_any (λ g. same g f) fs ≡ true → with_file f fs ≡ fs
 file_old f fs h = ap (λ b. cond b fs (fs ++ f ∷ [])) h
 
-file_new : (f : List ℕ) (fs : List (List ℕ)) → list_any (λ g. same g f) fs ≡ false → with_file f fs ≡ fs ++ f ∷ []
+pub file_new : (f : List ℕ) (fs : List (List ℕ)) → list_any (λ g. same g f) fs ≡ false → with_file f fs ≡ fs ++ f ∷ []
 file_new f fs h = ap (λ b. cond b fs (fs ++ f ∷ [])) h
 
 -- the home and the source are one, and the file is another
@@ -42,14 +42,14 @@ three_files home source file d h s =
 
 -- ## What a file gets of two effects, or of three
 
-of_two : (x y : Effect) (f : List ℕ) (a b : Bool) → same (changed_file x) f ≡ a → same (changed_file y) f ≡ b
+pub of_two : (x y : Effect) (f : List ℕ) (a b : Bool) → same (changed_file x) f ≡ a → same (changed_file y) f ≡ b
     → effects_on (x ∷ y ∷ []) f ≡ cond a (x ∷ cond b (y ∷ []) []) (cond b (y ∷ []) [])
 of_two x y f a b h k = ap₂ (λ p q. cond p (x ∷ cond q (y ∷ []) []) (cond q (y ∷ []) [])) h k
 
 abbrev rest_of_three : Effect → Effect → Bool → Bool → List Effect
 rest_of_three y z b c = cond b (y ∷ cond c (z ∷ []) []) (cond c (z ∷ []) [])
 
-of_three : (x y z : Effect) (f : List ℕ) (a b c : Bool) → same (changed_file x) f ≡ a → same (changed_file y) f ≡ b → same (changed_file z) f ≡ c
+pub of_three : (x y z : Effect) (f : List ℕ) (a b c : Bool) → same (changed_file x) f ≡ a → same (changed_file y) f ≡ b → same (changed_file z) f ≡ c
     → effects_on (x ∷ y ∷ z ∷ []) f ≡ cond a (x ∷ rest_of_three y z b c) (rest_of_three y z b c)
 of_three x y z f a b c h k l =
     ap (λ p. cond p (x ∷ effects_on (y ∷ z ∷ []) f) (effects_on (y ∷ z ∷ []) f)) h
@@ -61,14 +61,14 @@ of_three x y z f a b c h k l =
 abbrev Shares : List Effect → List (List ℕ) → Type 0
 Shares es files = flat_map (effects_on es) files ≡ es
 
-none_shared : (files : List (List ℕ)) → Shares [] files
+pub none_shared : (files : List (List ℕ)) → Shares [] files
 none_shared [] = refl
 none_shared (f ∷ fs) = none_shared fs
 
 two_shared : (x y : Effect) (f g : List ℕ) → effects_on (x ∷ y ∷ []) f ≡ x ∷ [] → effects_on (x ∷ y ∷ []) g ≡ y ∷ [] → Shares (x ∷ y ∷ []) (f ∷ g ∷ [])
 two_shared x y f g h k = ap₂ (λ a b. a ++ (b ++ [])) h k
 
-removal_shared : (file dir name : List ℕ) → same file dir ≡ false → Shares (removal_effects file dir name) (led_files (op.Delete dir name) file)
+pub removal_shared : (file dir name : List ℕ) → same file dir ≡ false → Shares (removal_effects file dir name) (led_files (op.Delete dir name) file)
 removal_shared file dir name h =
     let x : Effect = SetChild dir name None in
     let y : Effect = RemoveNode file in
@@ -95,7 +95,7 @@ moved_across file sdir sname ddir dname d h s =
     ∙ ap (λ a. a ++ (effects_on es sdir ++ (effects_on es file ++ []))) (of_three x y z ddir true false false (same_self ddir) (turned ddir sdir d) h)
     ∙ ap₂ (λ a b. (x ∷ []) ++ (a ++ (b ++ []))) (of_three x y z sdir false true false d (same_self sdir) s) (of_three x y z file false false true (turned file ddir h) (turned file sdir s) (same_self file))
 
-moved_shared : (file sdir sname ddir dname : List ℕ) → same file ddir ≡ false → same file sdir ≡ false → Shares (move_effects file sdir sname ddir dname) (led_files (op.Rename sdir sname ddir dname) file)
+pub moved_shared : (file sdir sname ddir dname : List ℕ) → same file ddir ≡ false → same file sdir ≡ false → Shares (move_effects file sdir sname ddir dname) (led_files (op.Rename sdir sname ddir dname) file)
 moved_shared file sdir sname ddir dname h s = by (same ddir sdir) refl
   where
     by : (b : Bool) → same ddir sdir ≡ b → Shares (move_effects file sdir sname ddir dname) (led_files (op.Rename sdir sname ddir dname) file)
@@ -171,7 +171,7 @@ led_shared (op.Close f m) file r h s = none_shared (led_files (op.Close f m) fil
 led_shared (op.Set f m size stamp) file r h s = none_shared (led_files (op.Set f m size stamp) file)
 led_shared (op.Reap f session) file r h s = none_shared (led_files (op.Reap f session) file)
 
-at_files : (es : List Effect) (mode : Mode2) (o : Op) (file : List ℕ) (uses : List Use) (files : List (List ℕ)) → flat_map (λ (a : Part). effects_on es a.file) (map (part_at mode o file uses) files) ≡ flat_map (effects_on es) files
+pub at_files : (es : List Effect) (mode : Mode2) (o : Op) (file : List ℕ) (uses : List Use) (files : List (List ℕ)) → flat_map (λ (a : Part). effects_on es a.file) (map (part_at mode o file uses) files) ≡ flat_map (effects_on es) files
 at_files es mode o file uses [] = refl
 at_files es mode o file uses (f ∷ fs) = ap (λ rest. effects_on es f ++ rest) (at_files es mode o file uses fs)
 

@@ -123,12 +123,12 @@ in_record (SetInfo f x y) e k h o s = absurd k
 
 -- ## All records
 
-on_one : (m : RecordMap) (f : List ℕ) (d e : Effect) → IsDecided d → ChangesOther d e → AreRecords m → with_at (with_at m f (record_change e (get m f))) f (record_change d (get (with_at m f (record_change e (get m f))) f)) ≡ with_at (with_at m f (record_change d (get m f))) f (record_change e (get (with_at m f (record_change d (get m f))) f))
-on_one m f d e k h s =
+on_one : (m : RecordMap) (f : List ℕ) (d e : Effect) → record_change d (record_change e (get m f)) ≡ record_change e (record_change d (get m f)) → with_at (with_at m f (record_change e (get m f))) f (record_change d (get (with_at m f (record_change e (get m f))) f)) ≡ with_at (with_at m f (record_change d (get m f))) f (record_change e (get (with_at m f (record_change d (get m f))) f))
+on_one m f d e one =
     let o = get m f in
     ap (λ p. with_at (with_at m f (record_change e o)) f (record_change d p)) (get_here m f (record_change e o))
     ∙ with_at-with_at m f (record_change e o) (record_change d (record_change e o))
-    ∙ ap (with_at m f) (in_record d e k h o (s f))
+    ∙ ap (with_at m f) one
     ∙ sym (ap (λ p. with_at (with_at m f (record_change d o)) f (record_change e p)) (get_here m f (record_change d o)) ∙ with_at-with_at m f (record_change d o) (record_change e (record_change d o)))
 
 on_two : (m : RecordMap) (d e : Effect) → (changed_file d ≡ changed_file e → ⊥) → records_after (records_after m e) d ≡ records_after (records_after m d) e
@@ -139,12 +139,16 @@ on_two m d e h =
     ∙ at_swap m g f (record_change e (get m g)) (record_change d (get m f)) (λ q. h (sym q))
     ∙ sym (ap (λ o. with_at (records_after m d) g (record_change e o)) (get_there m f g (record_change d (get m f)) (λ q. h (sym q))))
 
-pub goes_past : (m : RecordMap) (d e : Effect) → IsDecided d → IsApart d e → AreRecords m → records_after (records_after m e) d ≡ records_after (records_after m d) e
-goes_past m d e k apart s = elim (tied (changed_file d) (changed_file e)) as (λ b. tied (changed_file d) (changed_file e) ≡ b → records_after (records_after m e) d ≡ records_after (records_after m d) e) [
+-- effects that go past each other on the one record that both change do so on all
+pub past_by : (m : RecordMap) (d e : Effect) → (changed_file d ≡ changed_file e → record_change d (record_change e (get m (changed_file d))) ≡ record_change e (record_change d (get m (changed_file d)))) → records_after (records_after m e) d ≡ records_after (records_after m d) e
+past_by m d e one = elim (tied (changed_file d) (changed_file e)) as (λ b. tied (changed_file d) (changed_file e) ≡ b → records_after (records_after m e) d ≡ records_after (records_after m d) e) [
   | true ↦ λ t.
       let q : changed_file d ≡ changed_file e = key_is (changed_file d) (changed_file e) t in
       ap (λ g. with_at (with_at m g (record_change e (get m g))) (changed_file d) (record_change d (get (with_at m g (record_change e (get m g))) (changed_file d)))) (sym q)
-      ∙ on_one m (changed_file d) d e k (apart q) s
+      ∙ on_one m (changed_file d) d e (one q)
       ∙ ap (λ g. with_at (with_at m (changed_file d) (record_change d (get m (changed_file d)))) g (record_change e (get (with_at m (changed_file d) (record_change d (get m (changed_file d)))) g))) q
   | false ↦ λ t. on_two m d e (λ q. let wrong : true ≡ false = sym (same_self (changed_file d)) ∙ ap (tied (changed_file d)) q ∙ t in absurd (cc wrong))
 ] refl
+
+pub goes_past : (m : RecordMap) (d e : Effect) → IsDecided d → IsApart d e → AreRecords m → records_after (records_after m e) d ≡ records_after (records_after m d) e
+goes_past m d e k apart s = past_by m d e (λ q. in_record d e k (apart q) (get m (changed_file d)) (s (changed_file d)))

@@ -98,8 +98,8 @@ fn needs_path(mode: Mode2, op: &Op) -> bool
     }
 }
 
-/// The reply to an operation that goes on.
-fn reply_of(op: &Op) -> Reply
+/// The reply to a delete or a rename that goes on: `Deleted` to the one, `Renamed` to the other.
+pub fn reply_of(op: &Op) -> Reply
     ensures { result ≡ reply_of op.now }
 {
     match op {

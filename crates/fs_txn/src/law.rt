@@ -117,13 +117,18 @@ pub fn guarded_effects_are_apart()
 {}
 
 /// All parts together are told the operation's effects, in order, where the file that moves or goes is not a directory that gets or
-/// loses its name.
+/// loses its name. Whatever it is, records to which all parts are applied, one after another, are those after the operation's effects.
 pub fn parts_share_all_effects()
-    ensures { (op : Op) (file : List ℕ) (uses : List Use) (mode : Mode2) (reply : Reply) →
+    ensures told { (op : Op) (file : List ℕ) (uses : List Use) (mode : Mode2) (reply : Reply) →
         same file (home_of op) ≡ false → same file (source_of op) ≡ false →
         flat_map (λ (a : Part). effects_on (led_effects op file reply) a.file)
         (parts_of op file uses mode) ≡
         led_effects op file reply }
+    ensures records { (m : RecordMap) (op : Op) (file : List ℕ) (uses : List Use) (mode : Mode2)
+        (reply : Reply) →
+        records_after_all m (flat_map (λ (a : Part). effects_on (led_effects op file reply) a.file)
+        (parts_of op file uses mode)) ≡
+        records_after_all m (led_effects op file reply) }
 {}
 
 /// What a server tells with a lease that it gives is what all servers hold together, though effects that were decided for other

@@ -13,6 +13,7 @@ mod preparing;
 mod stages;
 mod tally;
 
+pub use deciding::reply_of;
 pub use decision::Decision;
 pub use law::{
     a_commit_has_every_yes, a_grant_is_true, a_part_votes_once, a_split_commit_is_one_step,

@@ -18,6 +18,7 @@ returns-clause-ready c =
         last = latest;
         given = c.requires.server.given;
         reaps = c.requires.server.reaps;
+        txns = c.requires.server.txns;
         numbers = subst (λ rows. AreGiven s.me s.given rows) (sym c.live.ensures.rows) (given_filter s.me s.given (is_live c.max-reading.result s.skew) s.rows c.requires.server.numbers);
       };
       table = c.live.ensures.valid;

@@ -1,0 +1,131 @@
+-- A delete or a rename that the server leads for a session, where it manages all files of the operation.
+use Rattle.std.specs.Prelude.{ℕ, ◌+◌, Bool, true, false, not, ◌&&◌, ◌||◌, List, [], ◌∷◌, Option, Some, None, is_some, if◌then◌else◌}
+use Rattle.std.specs.FinMap.{get}
+use Rattle.std.specs.List.{flat_map, list_all}
+use Rattle.fs_ident.specs.Ident.{same}
+use Rattle.fs_ident.specs.declared.actor.Peer.TheVariants.{Client}
+use Rattle.fs_ident.specs.declared.actor.Session.{Session}
+use Rattle.fs_ident.specs.declared.actor.TxnNo.{TxnNo}
+use Rattle.fs_field.specs.declared.used.Part.{Part}
+use Rattle.fs_field.specs.declared.used.Use.{Use}
+use Rattle.fs_map.specs.Map.{longest}
+use Rattle.fs_model.specs.Asking.{home_of}
+use Rattle.fs_ident.specs.declared.kind.Kind.{Kind}
+use Rattle.fs_ident.specs.declared.kind.Kind.TheVariants.{File, Dir}
+use Rattle.fs_model.specs.declared.op.Op.{Op}
+use Rattle.fs_model.specs.declared.op.Op.TheVariants as op
+use Rattle.fs_msg.specs.declared.answer.Answer.TheVariants as answer
+use Rattle.fs_msg.specs.declared.item.Item.{Item}
+use Rattle.fs_msg.specs.declared.lead.Lead.{Lead}
+use Rattle.fs_msg.specs.declared.server_note.ServerNote.TheVariants as note
+use Rattle.fs_record.specs.Applied.{records_after_all}
+use Rattle.fs_record.specs.LedEffects.{led_effects}
+use Rattle.fs_record.specs.declared.led_end.LedEnd.TheVariants as end
+use Rattle.fs_record.specs.declared.led_end.Why.{Why}
+use Rattle.fs_record.specs.declared.led_end.Why.TheVariants as why
+pub use Rattle.fs_txn.specs.Deciding.{reply_of}
+use Rattle.fs_txn.specs.Parts.{parts_of}
+use Rattle.fs_txn.specs.declared.mode.Mode2.TheVariants.{Plain}
+use Rattle.fs_server.specs.Server.{Stepped, is_mine, strange, to_session}
+use Rattle.fs_server.specs.Ships.{first_gone}
+use Rattle.fs_server.specs.declared.state.Server.{Server}
+
+-- deletes and renames are led
+abbrev pub is_led : Op → Bool
+is_led (op.Delete dir name) = true
+is_led (op.Rename sdir sname ddir dname) = true
+is_led o = false
+
+-- ## What it asks of whom
+
+-- its parts, each with the leases on its file
+abbrev pub parts_in : Lead → List Part
+parts_in m = parts_of m.op m.file m.uses Plain
+
+-- the leases of the parts, in their order
+abbrev pub uses_of : List Part → List Use
+uses_of parts = flat_map (λ (p : Part). p.uses) parts
+
+-- the server manages the file of each part
+abbrev pub has_all : Server → List Part → Bool
+has_all s parts = list_all (λ (p : Part). is_mine s p.file) parts
+
+-- ## Why it is not led now
+
+-- the file is said to be where the entry tells
+abbrev pub moved_why : Option (List ℕ × ℕ) → Why
+moved_why None = why.Moved [] 0
+moved_why (Some e) = why.Moved e.0 e.1
+
+-- where its file is a directory the operation changes paths: it goes, or comes into another one, which has its record here
+abbrev pub changes_paths : Server → Op → Bool
+changes_paths s (op.Delete dir name) = true
+changes_paths s (op.Rename sdir sname ddir dname) = not (same sdir ddir) && is_some (get s.records ddir)
+changes_paths s o = false
+
+-- paths may go over the file
+abbrev pub is_over_paths : Server → Op → Kind → Bool
+is_over_paths s o File = false
+is_over_paths s o Dir = changes_paths s o
+
+-- its home is with another server; or paths go over the file, or another server has a part, and no server leads such an operation yet
+abbrev pub lead_refusal : Server → Lead → Option Why
+lead_refusal s m =
+    if is_mine s (home_of m.op) then
+    (if is_over_paths s m.op m.kind || not (has_all s (parts_in m)) then Some (why.Wanted (home_of m.op)) else None)
+    else Some (moved_why (longest s.map (home_of m.op)))
+
+-- nothing is admitted and nothing changes
+abbrev pub refuses : Session → Why → Server → Stepped
+refuses by w s = record {
+  server = s;
+  out = record {
+    note = note.Refuses w;
+    send = to_session by (answer.Led (end.Again w)) ∷ [];
+    admitted = [];
+  };
+}
+
+-- ## What comes of it
+
+-- the number of the next transaction
+abbrev pub txn_of : Server → TxnNo
+txn_of s = record { server = s.me; count = s.txns + 1 }
+
+-- the row of this lease is gone: the transaction is over, and nothing is admitted
+abbrev pub aborts : Session → Use → Server → Stepped
+aborts by u s = record {
+  server = record s { txns = s.txns + 1 };
+  out = record {
+    note = note.AbortsEnded (txn_of s) u.no u.until s.last;
+    send = to_session by (answer.Led (end.Ended u.no u.until s.last)) ∷ [];
+    admitted = [];
+  };
+}
+
+abbrev pub led_item : Session → Lead → Item
+led_item by m = record { by = Client by; n = m.n; op = m.op; reply = reply_of m.op }
+
+-- all rows stand: the operation is admitted, and its effects are applied
+abbrev pub commits : Session → Lead → Server → Stepped
+commits by m s = record {
+  server = record s { txns = s.txns + 1; records = records_after_all s.records (led_effects m.op m.file (reply_of m.op)) };
+  out = record {
+    note = note.Commits (txn_of s) (reply_of m.op);
+    send = to_session by (answer.Led (end.Done (reply_of m.op))) ∷ [];
+    admitted = led_item by m ∷ [];
+  };
+}
+
+-- the first of its leases without a row decides
+abbrev pub decided_by : Option Use → Session → Lead → Server → Stepped
+decided_by None by m s = commits by m s
+decided_by (Some u) by m s = aborts by u s
+
+abbrev pub leads_unless : Option Why → Session → Lead → Server → Stepped
+leads_unless None by m s = decided_by (first_gone s.rows by (uses_of (parts_in m))) by m s
+leads_unless (Some w) by m s = refuses by w s
+
+-- the session asks the server to lead an operation
+abbrev pub lead_step : Session → Lead → Server → Stepped
+lead_step by m s = if is_led m.op then leads_unless (lead_refusal s m) by m s else strange s
