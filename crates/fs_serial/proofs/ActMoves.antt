@@ -23,7 +23,7 @@ use Rattle.fs_msg.specs.declared.item.Item.{Item}
 use Rattle.fs_record.specs.Effects.{tells_its_effects}
 use Rattle.fs_record.specs.Records.{nodes_of}
 use Rattle.fs_server.specs.Ships.{item_of}
-use Rattle.fs_client.specs.Acts.{act_on, answer_with, answers, ask_for, asks, entry_of, fresh_asked, full_one, hinted, items_of, need_file, needs_at, reads, replies, stays, with_id, worth}
+use Rattle.fs_client.specs.Acts.{act_on, answer_with, answers, answers_move, answers_plain, ask_for, asks, entry_of, fresh_asked, full_one, hinted, items_of, need_file, needs_at, reads, replies, stays, unless_led, with_id, worth}
 use Rattle.fs_client.specs.Client.{changed}
 use Rattle.fs_client.specs.declared.change.Change.TheVariants as change
 use Rattle.fs_client.specs.declared.plan.Plan.{Plan}
@@ -164,11 +164,14 @@ module _ (skew greatest : ℕ) (s : Sight) (by : Session) (replied : List Item) 
         others = λ x q. items-other x s.journal i (ap (is_session x) is.session ∙ q);
       }
 
-  answering : (r : Reply) → reply_in c.view c.last o ≡ Some r → IsDone (answers o r c)
-  answering r e = elim (not (is_change r) && is_empty c.log) as (λ b. (not (is_change r) && is_empty c.log) ≡ b → IsDone (cond b (reads o r c) (replies o r c))) [
+  plainly : (r : Reply) → reply_in c.view c.last o ≡ Some r → IsDone (answers_plain o r c)
+  plainly r e = elim (not (is_change r) && is_empty c.log) as (λ b. (not (is_change r) && is_empty c.log) ≡ b → IsDone (cond b (reads o r c) (replies o r c))) [
     | true ↦ λ q. let p = both (not (is_change r)) (is_empty c.log) q in reading r e (not-true (is_change r) p.0) (empty_is c.log p.1)
     | false ↦ λ q. replying r e
   ] refl
+
+  answering : (r : Reply) → reply_in c.view c.last o ≡ Some r → IsDone (answers o r c)
+  answering r e = subst (λ b. IsDone (cond b (answers_plain o r c) (answers_move o r c))) (sym (called_plainly o called).0) (plainly r e)
 
   answered_with : (r : Option Reply) → reply_in c.view c.last o ≡ r → IsDone (answer_with r o c)
   answered_with (Some r) e = answering r e
@@ -176,7 +179,7 @@ module _ (skew greatest : ℕ) (s : Sight) (by : Session) (replied : List Item) 
 
   on : (over : Option ℕ) → IsDone (act_on over o c)
   on (Some n) = stayed (act.Over n)
-  on None = answered_with (reply_in c.view c.last o) refl
+  on None = subst (λ l. IsDone (unless_led l o c)) (sym h.client.unled) (answered_with (reply_in c.view c.last o) refl)
 
   pub act_moved : IsDone (act_on c.over o c)
   act_moved = on c.over

@@ -100,6 +100,7 @@ hinted_moved skew greatest s t by replied c d up down rest told (Some hints) m =
     let n : Client = with_hints (Some hints) d in
     let same : GoesOnAs d n [] = record {
       exchange = refl;
+      led = refl;
       fewer = λ k i. record { kept = k; among = i; number = refl };
       log = sym (append-nil d.log);
       went = λ k i z. record { kept = k; among = i; pair = refl; leaving = z };

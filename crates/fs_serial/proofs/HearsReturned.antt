@@ -16,7 +16,7 @@ use Rattle.fs_client.specs.Answers.{numbers_sent}
 use Rattle.fs_client.specs.Client.{released_all, released_one, with_released, with_recalled}
 use Rattle.fs_client.specs.Turns.{pair_of}
 use Rattle.fs_client.specs.declared.exchange.Exchange.{Exchange}
-use Rattle.fs_client.specs.declared.exchange.Exchange.TheVariants.{Asks, Renews, Releases, Ships}
+use Rattle.fs_client.specs.declared.exchange.Exchange.TheVariants.{Asks, Renews, Releases, Ships, Leads}
 use Rattle.fs_client.specs.declared.state.Client.{Client}
 use Rattle.fs_view.specs.declared.kept.Kept.{Kept}
 use Rattle.fs_view.specs.declared.kept.Standing.{Standing}
@@ -73,6 +73,7 @@ module _ (skew greatest : ℕ) (s : Sight) (by : Session) (replied : List Item) 
   goes_on : GoesOnAs c recalled []
   goes_on = record {
     exchange = refl;
+    led = refl;
     fewer = λ k i. let q = In-map (one_recall n) k c.view.leases i in record { kept = q.0; among = q.1.0; number = sym (number q.0) ∙ ap (λ (k : Kept). number_of k.standing) (sym q.1.1) };
     log = sym (append-nil c.log);
     went = λ k i t.
@@ -145,6 +146,7 @@ sent_returned (Some (Asks to items fresh)) ks h n i = absurd i
 sent_returned (Some (Renews to numbers)) ks h n i = absurd i
 sent_returned (Some (Releases to numbers)) ks h n i = h n i
 sent_returned (Some (Ships to count)) ks h n i = absurd i
+sent_returned (Some (Leads to)) ks h n i = absurd i
 
 in_front : {X : Type 0} (k : ℕ) (x : X) (xs : List X) → In x (take k xs) → In x xs
 in_front zero x xs i = absurd i

@@ -124,6 +124,7 @@ module _ (by : Session) (c : Client) (now : ℕ) (f : ClientFits by c) where
   pub lapse_goes_on : GoesOnAs c then []
   lapse_goes_on = record {
     exchange = refl;
+    led = refl;
     fewer = λ k i. record { kept = k; among = was k i; number = refl };
     log = sym (append-nil c.log);
     went = λ k i t. record { kept = k; among = was k i; pair = refl; leaving = t };

@@ -193,6 +193,7 @@ module _ (skew greatest : ℕ) (s : Sight) (by : Session) (replied : List Item) 
     goes_on : GoesOnAs c (with_read c) []
     goes_on = record {
       exchange = refl;
+      led = refl;
       fewer = λ k i. record { kept = k; among = i; number = refl };
       log = sym (append-nil c.log);
       went = λ k i z. record { kept = k; among = i; pair = refl; leaving = z };
