@@ -1,6 +1,6 @@
 -- Grants that fit the question are leases that can come.
 use Rattle.std.proofs.Common.{◌≡◌, ℕ, ◌+◌, ◌<◌, Bool, true, false, not, ◌&&◌, ◌||◌, List, [], ◌∷◌, ◌++◌, append-nil, append_assoc, refl, ap, sym, ◌∙◌, get_or, length, take}
-use Rattle.std.specs.Prelude.{Option, Some, None, Result, Ok, Err, IfOk}
+use Rattle.std.specs.Prelude.{Option, Some, None, Result, Ok, Err, IfOk, is_some}
 use Rattle.fs_ident.specs.declared.memory.Memory.{Memory}
 use Rattle.fs_msg.specs.declared.client_note.ClientNote.{ClientNote}
 use Rattle.fs_client.specs.declared.plan.Plan.{Plan}
@@ -16,16 +16,20 @@ use Rattle.fs_field.specs.declared.lease_kind.LeaseKind.TheVariants.{Exclusive}
 use Rattle.fs_field.specs.Table.{same_no}
 use Rattle.fs_field.specs.Value.{is_value_of}
 use Rattle.fs_msg.specs.declared.answer.Answer.{Answer}
-use Rattle.fs_msg.specs.declared.answer.Answer.TheVariants.{Granted, Renewed, Released, Shipped, Recall, Led}
+use Rattle.fs_msg.specs.declared.answer.Answer.TheVariants.{Granted, Renewed, Released, Shipped, Recall}
+use Rattle.fs_msg.specs.declared.answer.Answer.TheVariants as answer
 use Rattle.fs_msg.specs.declared.answer.Grant.{Grant}
+use Rattle.fs_record.specs.declared.led_end.LedEnd.{LedEnd}
+use Rattle.fs_record.specs.declared.led_end.LedEnd.TheVariants as led
 use Rattle.fs_view.specs.declared.kept.Kept.{Kept}
 use Rattle.fs_view.specs.Kept.{has_number}
 use Rattle.fs_view.specs.View.{can_grant_all, kept_new}
 use Rattle.fs_client.specs.declared.exchange.Exchange.{Exchange}
-use Rattle.fs_client.specs.declared.exchange.Exchange.TheVariants.{Asks, Renews, Releases, Ships}
+use Rattle.fs_client.specs.declared.exchange.Exchange.TheVariants.{Asks, Renews, Releases, Ships, Leads}
+use Rattle.fs_client.specs.declared.led.Led.{Led}
 use Rattle.fs_client.specs.declared.state.Client.{Client}
-use Rattle.fs_client.specs.Answers.{fits, front_fits, grants_fit, is_new, is_of_item, lease_in, leases_in, life_last, told}
-use Rattle.fs_client.specs.Client.{can_change}
+use Rattle.fs_client.specs.Answers.{ended_plan, fits, front_fits, grants_fit, is_new, is_of_item, lease_in, leases_in, led_plan, life_last, told}
+use Rattle.fs_client.specs.Client.{IsClient, can_change, has_number_left}
 
 pub leases_step : (fresh : Option (List ℕ)) (gs : List Grant) (i : ℕ) (d : Grant) → i < length gs → leases_in fresh (take (i + 1) gs) ≡ leases_in fresh (take i gs) ++ lease_in fresh (get_or gs i d) ∷ []
 leases_step fresh gs i d h = rw (take_more gs i d h) (map-append (lease_in fresh) (take i gs) (get_or gs i d ∷ []))
@@ -94,17 +98,27 @@ grants_can items given (Some id) leases gs h = last_can items id given leases []
 
 -- ## What an answer that fits changes
 
-pub fits_can : (from : ℕ) (x : Option Exchange) (a : Answer) (c : Client) → fits from x a c ≡ true → can_change (told a c).ready.change c ≡ true
-fits_can from x (Recall number) c h = refl
-fits_can from x (Renewed rows e) c h = refl
-fits_can from x (Released count e) c h = refl
-fits_can from x (Shipped count e) c h = refl
-fits_can from x (Led e) c h = refl
-fits_can from None (Granted gs given e) c h = absurd (cc)
-fits_can from (Some (Asks to items asked)) (Granted gs given e) c h = grants_can items given given c.view.leases gs (both _ _ (both _ _ h).1).1
-fits_can from (Some (Renews to numbers)) (Granted gs given e) c h = absurd (cc)
-fits_can from (Some (Releases to numbers)) (Granted gs given e) c h = absurd (cc)
-fits_can from (Some (Ships to count)) (Granted gs given e) c h = absurd (cc)
+ended_can : (l : Led) (e : LedEnd) (c : Client) → has_number_left c ≡ true → can_change (ended_plan l e c).ready.change c ≡ true
+ended_can l (led.Done r) c h = h
+ended_can l (led.Ended lease until now) c h = refl
+ended_can l (led.Again why) c h = refl
+
+led_can : (o : Option Led) (e : LedEnd) (c : Client) → (is_some o ≡ true → has_number_left c ≡ true) → can_change (led_plan o e c).ready.change c ≡ true
+led_can None e c h = refl
+led_can (Some l) e c h = ended_can l e c (h refl)
+
+pub fits_can : (from : ℕ) (x : Option Exchange) (a : Answer) (c : Client) → IsClient c → fits from x a c ≡ true → can_change (told a c).ready.change c ≡ true
+fits_can from x (Recall number) c i h = refl
+fits_can from x (Renewed rows e) c i h = refl
+fits_can from x (Released count e) c i h = refl
+fits_can from x (Shipped count e) c i h = refl
+fits_can from x (answer.Led e) c i h = led_can c.led e c i.led
+fits_can from None (Granted gs given e) c i h = absurd (cc)
+fits_can from (Some (Asks to items asked)) (Granted gs given e) c i h = grants_can items given given c.view.leases gs (both _ _ (both _ _ h).1).1
+fits_can from (Some (Renews to numbers)) (Granted gs given e) c i h = absurd (cc)
+fits_can from (Some (Releases to numbers)) (Granted gs given e) c i h = absurd (cc)
+fits_can from (Some (Ships to count)) (Granted gs given e) c i h = absurd (cc)
+fits_can from (Some (Leads to)) (Granted gs given e) c i h = absurd (cc)
 
 pub ok_can : (r : Result (Plan ClientNote) Memory) (q : Plan ClientNote) (c : Client) → IfOk r (λ p. p ≡ q) → can_change q.ready.change c ≡ true → IfOk r (λ p. can_change p.ready.change c ≡ true)
 ok_can (Ok p) q c e h = ap (λ (x : Plan ClientNote). can_change x.ready.change c) e ∙ h

@@ -8,3 +8,4 @@ pub mod FitsSteps
 pub mod Granted
 pub mod Keeping
 pub mod Refused
+pub mod Ends

@@ -14,7 +14,7 @@ use Rattle.fs_model.specs.declared.op.Op.{Op}
 use Rattle.fs_view.specs.declared.walk.Walk.{Walk}
 use Rattle.fs_view.specs.View.{reply_in, walk_in}
 use Rattle.fs_client.specs.Live.{absent_from}
-use Rattle.fs_client.specs.Acts.{act_on, answer_with, ask_for, asks, fresh_asked, full_one, hinted, item_of, items_of, need_file, stays, worth}
+use Rattle.fs_client.specs.Acts.{answer_with, ask_for, asks, fresh_asked, full_one, hinted, item_of, items_of, need_file, stays, worth}
 use Rattle.fs_client.specs.Client.{can_change}
 
 pub items_step : (needs : List Need) (i : ℕ) (d : Need) → i < length needs → items_of (drop i needs) ≡ cons_option (item_of (get_or needs i d)) (items_of (drop (i + 1) needs))
@@ -43,9 +43,9 @@ asking_can needs [] c = ap (λ (p : Plan Act). can_change p.ready.change c) (ful
 asking_can needs (n ∷ ns) c = elim (is_some c.exchange) as (λ b. can_change (cond b (stays (act.Busy busy.Exchange) c) (asks (hinted c (need_file n)) (n ∷ ns) c)).ready.change c ≡ true) [ true ↦ refl | false ↦ refl ]
 
 -- what is missing is asked for
-pub asking_is : (c : Client) (o : Op) (w : Walk) (p : Plan Act) → c.over ≡ None → w ≡ walk_in c.view c.last o → w.reply ≡ None → p ≡ ask_for (absent_from c w.items) (worth c.full (absent_from c w.items)) c → p ≡ act_on c.over o c
-asking_is c o w p h e n q =
+pub asking_is : (c : Client) (o : Op) (w : Walk) (p : Plan Act) → w ≡ walk_in c.view c.last o → w.reply ≡ None → p ≡ ask_for (absent_from c w.items) (worth c.full (absent_from c w.items)) c → p ≡ answer_with (reply_in c.view c.last o) o c
+asking_is c o w p e n q =
     let r : reply_in c.view c.last o ≡ None = ap (λ (x : Walk). x.reply) (sym e) ∙ n in
     q
     ∙ (ap (λ (x : Walk). ask_for (absent_from c x.items) (worth c.full (absent_from c x.items)) c) e
-    ∙ (ap (λ reply. answer_with reply o c) (sym r) ∙ ap (λ over. act_on over o c) (sym h)))
+    ∙ ap (λ reply. answer_with reply o c) (sym r))

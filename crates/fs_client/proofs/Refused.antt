@@ -1,8 +1,9 @@
 -- Who says that it is over, and what makes a client so; and that what is known is answered.
-use Rattle.std.proofs.Common.{◌≡◌, ℕ, ◌/◌, ◌+◌, not, ◌&&◌, true, false, List, [], ◌∷◌, cond, refl, ap, sym, ◌∙◌, subst, inl, inr}
+use Rattle.std.proofs.Common.{◌≡◌, ℕ, ◌/◌, ◌+◌, not, ◌&&◌, Bool, true, false, List, [], ◌∷◌, cond, refl, ap, sym, ◌∙◌, subst, inl, inr}
 use Rattle.std.specs.Prelude.{Option, Some, None, is_some}
 use Rattle.fs_field.specs.declared.asked.Need.{Need}
 use Rattle.fs_field.specs.declared.asked.Need.TheVariants as need
+use Rattle.fs_ident.specs.declared.kind.Kind.{Kind}
 use Rattle.fs_map.specs.Map.{Owners}
 use Rattle.fs_model.specs.Sound.{is_change}
 use Rattle.fs_model.specs.Step.{is_empty}
@@ -10,20 +11,27 @@ use Rattle.fs_model.specs.declared.op.Op.{Op}
 use Rattle.fs_model.specs.declared.reply.Reply.{Reply}
 use Rattle.fs_msg.specs.declared.act.Act.{Act}
 use Rattle.fs_msg.specs.declared.act.Act.TheVariants as act
+use Rattle.fs_msg.specs.declared.act.Busy.{Busy}
 use Rattle.fs_msg.specs.declared.act.Busy.TheVariants as busy
 use Rattle.fs_msg.specs.declared.answer.Answer.{Answer}
-use Rattle.fs_msg.specs.declared.answer.Answer.TheVariants.{Granted, Renewed, Released, Shipped, Recall, Led}
+use Rattle.fs_msg.specs.declared.answer.Answer.TheVariants.{Granted, Renewed, Released, Shipped, Recall}
+use Rattle.fs_msg.specs.declared.answer.Answer.TheVariants as answer
 use Rattle.fs_msg.specs.declared.entry.Entry.{Entry}
+use Rattle.fs_record.specs.Effects.{tells_its_effects}
+use Rattle.fs_record.specs.declared.led_end.LedEnd.{LedEnd}
+use Rattle.fs_record.specs.declared.led_end.LedEnd.TheVariants as led
 use Rattle.fs_view.specs.declared.kept.Kept.{Kept}
 use Rattle.fs_view.specs.View.{given_by, known_by, missing_in, reply_in}
 use Rattle.fs_view.proofs.Walks.{replied}
-use Rattle.fs_client.specs.Acts.{act_on, act_plan, answer_with, answers, ask_for, asks, full_one, hinted, need_file, reads, replies, stays, worth}
-use Rattle.fs_client.specs.Answers.{answer_plan, fits, hear, strange, told}
+use Rattle.fs_client.specs.Acts.{act_on, act_plan, answer_with, answers, answers_move, answers_plain, ask_for, asks, full_one, hinted, leads_on, leads_or_waits, need_file, reads, reads_or_waits, replies, stays, unless_led, worth}
+use Rattle.fs_client.specs.Answers.{answer_plan, ended_plan, fits, hear, led_plan, strange, told}
 use Rattle.fs_client.specs.Client.{begun, changed, committed, with_hints}
 use Rattle.fs_client.specs.Laws.{IsAnswered, over_told}
+use Rattle.fs_client.specs.Led.{is_led, moved_known}
 use Rattle.fs_client.specs.Turns.{ending, idle, release_some, renew_some, returned, ship_some, turn_free, turn_on, turn_plan}
 use Rattle.fs_client.specs.declared.change.Change.{Change}
 use Rattle.fs_client.specs.declared.change.Change.TheVariants as change
+use Rattle.fs_client.specs.declared.led.Led.{Led}
 use Rattle.fs_client.specs.declared.plan.Plan.{Plan}
 use Rattle.fs_client.specs.declared.plan.Ready.{Ready}
 use Rattle.fs_client.specs.declared.state.Client.{Client}
@@ -40,6 +48,9 @@ over_in (change.Grant leases full) over = over
 over_in (change.Renew ends) over = over
 over_in (change.Release numbers) over = over
 over_in (change.Admit count now) over = now
+over_in (change.Lead to led) over = over
+over_in (change.LedDone effects) over = over
+over_in change.LedFreed over = over
 over_in (change.Recall number) over = over
 
 changed_over : (ch : Change) (c : Client) → (changed ch c).over ≡ over_in ch c.over
@@ -52,6 +63,9 @@ changed_over (change.Grant leases full) c = refl
 changed_over (change.Renew ends) c = refl
 changed_over (change.Release numbers) c = refl
 changed_over (change.Admit count now) c = refl
+changed_over (change.Lead to led) c = refl
+changed_over (change.LedDone effects) c = refl
+changed_over change.LedFreed c = refl
 changed_over (change.Recall number) c = refl
 
 hints_over : (o : Option Owners) (c : Client) → (with_hints o c).over ≡ c.over
@@ -68,35 +82,62 @@ record GoesOn (p : Plan Act) : Type 0 where
   note : (n : ℕ) → p.out.note ≡ act.Over n → ⊥
   stays : (over : Option ℕ) → over_in p.ready.change over ≡ over
 
+waits_goes : (what : Busy) (c : Client) → GoesOn (stays (act.Busy what) c)
+waits_goes what c = record { note = λ n e. absurd (cc e); stays = λ over. refl }
+
 full_goes : (needs : List Need) (c : Client) → GoesOn (full_one needs c)
 full_goes [] c = record { note = λ n e. absurd (cc e); stays = λ over. refl }
 full_goes (need.Lease field kind ∷ needs) c = full_goes needs c
 full_goes (need.Fresh dir ∷ needs) c = record { note = λ n e. absurd (cc e); stays = λ over. refl }
 
+either_goes : (b : Bool) (p q : Plan Act) → GoesOn p → GoesOn q → GoesOn (cond b p q)
+either_goes true p q h g = h
+either_goes false p q h g = g
+
 ask_goes : (needs wanted : List Need) (c : Client) → GoesOn (ask_for needs wanted c)
 ask_goes needs [] c = full_goes needs c
-ask_goes needs (n ∷ ns) c = elim (is_some c.exchange) as (λ b. GoesOn (cond b (stays (act.Busy busy.Exchange) c) (asks (hinted c (need_file n)) (n ∷ ns) c))) [
-  | true ↦ record { note = λ n e. absurd (cc e); stays = λ over. refl }
-  | false ↦ record { note = λ n e. absurd (cc e); stays = λ over. refl }
-]
+ask_goes needs (n ∷ ns) c = either_goes (is_some c.exchange) (stays (act.Busy busy.Exchange) c) (asks (hinted c (need_file n)) (n ∷ ns) c) (waits_goes busy.Exchange c) (record { note = λ n e. absurd (cc e); stays = λ over. refl })
+
+reads_go : (o : Op) (r : Reply) (c : Client) → GoesOn (reads o r c)
+reads_go o r c = record { note = λ n e. absurd (cc e); stays = λ over. refl }
+
+plain_goes : (o : Op) (r : Reply) (c : Client) → GoesOn (answers_plain o r c)
+plain_goes o r c = either_goes (not (is_change r) && is_empty c.log) (reads o r c) (replies o r c) (reads_go o r c) (record { note = λ n e. absurd (cc e); stays = λ over. refl })
+
+on_goes : (moved : Option (List ℕ × Kind)) (o : Op) (r : Reply) (c : Client) → GoesOn (leads_on moved o r c)
+on_goes None o r c = record { note = λ n e. absurd (cc e); stays = λ over. refl }
+on_goes (Some moved) o r c = record { note = λ n e. absurd (cc e); stays = λ over. refl }
+
+lead_goes : (o : Op) (r : Reply) (c : Client) → GoesOn (leads_or_waits o r c)
+lead_goes o r c =
+    let moved = moved_known (known_by c.view c.last) o in
+    let log = stays (act.Busy busy.Log) c in
+    either_goes (is_some c.exchange) (stays (act.Busy busy.Exchange) c) (cond (is_empty c.log) (leads_on moved o r c) log) (waits_goes busy.Exchange c)
+    (either_goes (is_empty c.log) (leads_on moved o r c) log (on_goes moved o r c) (waits_goes busy.Log c))
+
+move_goes : (o : Op) (r : Reply) (c : Client) → GoesOn (answers_move o r c)
+move_goes o r c =
+    either_goes (is_led o r) (leads_or_waits o r c) (reads_or_waits o r c) (lead_goes o r c)
+    (either_goes (is_empty c.log) (reads o r c) (stays (act.Busy busy.Log) c) (reads_go o r c) (waits_goes busy.Log c))
 
 answers_go : (o : Op) (r : Reply) (c : Client) → GoesOn (answers o r c)
-answers_go o r c = elim (not (is_change r) && is_empty c.log) as (λ b. GoesOn (cond b (reads o r c) (replies o r c))) [
-  | true ↦ record { note = λ n e. absurd (cc e); stays = λ over. refl }
-  | false ↦ record { note = λ n e. absurd (cc e); stays = λ over. refl }
-]
+answers_go o r c = either_goes (tells_its_effects o) (answers_plain o r c) (answers_move o r c) (plain_goes o r c) (move_goes o r c)
 
 with_goes : (r : Option Reply) (o : Op) (c : Client) → GoesOn (answer_with r o c)
 with_goes (Some r) o c = answers_go o r c
 with_goes None o c = ask_goes (missing_in c.view c.last o) (worth c.full (missing_in c.view c.last o)) c
 
+unless_goes : (led : Option Led) (o : Op) (c : Client) → GoesOn (unless_led led o c)
+unless_goes (Some l) o c = waits_goes busy.Led c
+unless_goes None o c = with_goes (reply_in c.view c.last o) o c
+
 on_over : (over : Option ℕ) (o : Op) (c : Client) (n : ℕ) → (act_on over o c).out.note ≡ act.Over n → over ≡ Some n
 on_over (Some m) o c n e = let same : m ≡ n = cc e in ap Some same
-on_over None o c n e = absurd ((with_goes (reply_in c.view c.last o) o c).note n e)
+on_over None o c n e = absurd ((unless_goes c.led o c).note n e)
 
 on_stays : (over : Option ℕ) (o : Op) (c : Client) (was : Option ℕ) → over_in (act_on over o c).ready.change was ≡ was
 on_stays (Some m) o c was = refl
-on_stays None o c was = (with_goes (reply_in c.view c.last o) o c).stays was
+on_stays None o c was = (unless_goes c.led o c).stays was
 
 pub act_over : (c : Client) (now n : ℕ) (o : Op) → (act_plan c now o).out.note ≡ act.Over n → c.over ≡ Some n
 act_over c now n o e = on_over c.over o (begun now c) n e
@@ -135,12 +176,21 @@ turns_stay c now = committed_over (turn_plan c now).ready c ∙ turned_stays (be
 
 -- ## An answer
 
+ended_over : (l : Led) (e : LedEnd) (c : Client) → over_in (ended_plan l e c).ready.change c.over ≡ over_told (ended_plan l e c).out.note c.over
+ended_over l (led.Done r) c = refl
+ended_over l (led.Ended lease until now) c = refl
+ended_over l (led.Again why) c = refl
+
+led_over : (o : Option Led) (e : LedEnd) (c : Client) → over_in (led_plan o e c).ready.change c.over ≡ over_told (led_plan o e c).out.note c.over
+led_over None e c = refl
+led_over (Some l) e c = ended_over l e c
+
 told_over : (a : Answer) (c : Client) → over_in (told a c).ready.change c.over ≡ over_told (told a c).out.note c.over
 told_over (Granted grants fresh e) c = refl
 told_over (Renewed rows e) c = refl
 told_over (Released count e) c = refl
 told_over (Shipped count e) c = refl
-told_over (Led e) c = refl
+told_over (answer.Led e) c = led_over c.led e c
 told_over (Recall number) c = refl
 
 heard_over : (from : ℕ) (a : Answer) (c : Client) → over_in (hear from a c).ready.change c.over ≡ over_told (hear from a c).out.note c.over
@@ -151,16 +201,23 @@ answers_tell c now from a = committed_over (answer_plan c now from a).ready c �
 
 -- ## What is known
 
-answered_by : (o : Op) (r : Reply) (c : Client) → reply_in c.view c.last o ≡ Some r → IsAnswered c o (answers o r c)
-answered_by o r c e = elim (not (is_change r) && is_empty c.log) as (λ b. IsAnswered c o (cond b (reads o r c) (replies o r c))) [
+answered_plainly : (o : Op) (r : Reply) (c : Client) → reply_in c.view c.last o ≡ Some r → IsAnswered c o (answers_plain o r c)
+answered_plainly o r c e = elim (not (is_change r) && is_empty c.log) as (λ b. IsAnswered c o (cond b (reads o r c) (replies o r c))) [
   | true ↦ record { reply = r; known = e; told = inr refl; silent = refl }
   | false ↦ record { reply = r; known = e; told = inl refl; silent = refl }
 ]
 
-answered_with : (r : Option Reply) (o : Op) (c : Client) → missing_in c.view c.last o ≡ [] → reply_in c.view c.last o ≡ r → IsAnswered c o (answer_with r o c)
-answered_with (Some r) o c none e = answered_by o r c e
-answered_with None o c none e = absurd (replied (known_by c.view c.last) (given_by c.view c.last) o none e)
+answered_by : (o : Op) (r : Reply) (c : Client) → tells_its_effects o ≡ true → reply_in c.view c.last o ≡ Some r → IsAnswered c o (answers o r c)
+answered_by o r c plain e = subst (λ b. IsAnswered c o (cond b (answers_plain o r c) (answers_move o r c))) (sym plain) (answered_plainly o r c e)
 
-pub answered_at_once : (c : Client) (now : ℕ) (o : Op) → c.over ≡ None → missing_in (begun now c).view (begun now c).last o ≡ [] → IsAnswered (begun now c) o (act_plan c now o)
-answered_at_once c now o over none =
-    subst (λ (x : Option ℕ). IsAnswered (begun now c) o (act_on x o (begun now c))) (sym over) (answered_with (reply_in (begun now c).view (begun now c).last o) o (begun now c) none refl)
+answered_with : (r : Option Reply) (o : Op) (c : Client) → tells_its_effects o ≡ true → missing_in c.view c.last o ≡ [] → reply_in c.view c.last o ≡ r → IsAnswered c o (answer_with r o c)
+answered_with (Some r) o c plain none e = answered_by o r c plain e
+answered_with None o c plain none e = absurd (replied (known_by c.view c.last) (given_by c.view c.last) o none e)
+
+answered_unless : (led : Option Led) (o : Op) (c : Client) → tells_its_effects o ≡ true → led ≡ None → missing_in c.view c.last o ≡ [] → IsAnswered c o (unless_led led o c)
+answered_unless (Some l) o c plain unled none = absurd (cc)
+answered_unless None o c plain unled none = answered_with (reply_in c.view c.last o) o c plain none refl
+
+pub answered_at_once : (c : Client) (now : ℕ) (o : Op) → tells_its_effects o ≡ true → c.over ≡ None → c.led ≡ None → missing_in (begun now c).view (begun now c).last o ≡ [] → IsAnswered (begun now c) o (act_plan c now o)
+answered_at_once c now o plain over unled none =
+    subst (λ (x : Option ℕ). IsAnswered (begun now c) o (act_on x o (begun now c))) (sym over) (answered_unless c.led o (begun now c) plain unled none)

@@ -84,8 +84,8 @@ fn walked(alloc: Global, at: &AtReading<'_>, op: &Op) -> Result<Plan<Act>, CoreE
     ensures can { IfOk result (λ p. can_change p.ready.change at.now ≡ true) }
     ensures spent { (counter : TheCounter) → IsErrOf result (errors.Spent counter) →
         (counter ≡ Entries) ×
-        (can_change (answer_with (reply_in at.now.view at.now.last op.now) op.now at.now)
-            .ready.change at.now ≡ false) }
+        (let p = answer_with (reply_in at.now.view at.now.last op.now) op.now at.now in
+        can_change p.ready.change at.now ≡ false) }
 {
     let Walk { items, reply } = at.walk(alloc, op)?;
     let Some(reply) = reply else {
@@ -251,7 +251,7 @@ pub(crate) fn uses_to_pin(
     ensures spent { (counter : TheCounter) → IsErrOf result (errors.Spent counter) →
         (counter ≡ Entries) ×
         (can_pin_all (filter_map (item_use at.now.view at.now.last) items.now)
-            at.now.view.leases ≡ false) }
+        at.now.view.leases ≡ false) }
 {
     let uses = at.uses_of(alloc, items)?;
     unless_spent(at.can_pin(&uses))?;

@@ -4,6 +4,7 @@ ghost use Rattle.fs_field.specs.Field.{tells_no_mode};
 ghost use Rattle.fs_rows.specs.Granted.{with_rows};
 ghost use Rattle.fs_rows.specs.Table.{IsTable};
 
+mod many;
 mod moving;
 
 use crate::forms::{kept_by, same, shows, spend};

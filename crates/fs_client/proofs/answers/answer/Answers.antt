@@ -6,4 +6,4 @@ use Rattle.fs_client.proofs.answers.answer.Goals as goal
 pub returns-then-fits-clause-can : goal.returns-then-fits-clause-can
 returns-then-fits-clause-can c =
     ok_can c.told.result (told c.args.a.now c.args.at.now) c.args.at.now c.told.ensures
-    (fits_can c.args.from c.args.at.now.exchange c.args.a.now c.args.at.now (sym c.fits.ensures ∙ c.if-fits.true))
+    (fits_can c.args.from c.args.at.now.exchange c.args.a.now c.args.at.now c.requires (sym c.fits.ensures ∙ c.if-fits.true))

@@ -2,11 +2,10 @@ use Rattle.std.proofs.Common.{rules, ◌≡◌}
 use Rattle.std.specs.Prelude.{None}
 use Rattle.fs_view.specs.View.{walk_in}
 use Rattle.fs_client.proofs.Needed.{asking_is}
-use Rattle.fs_client.proofs.acts.act.Goals as goal
+use Rattle.fs_client.proofs.acts.walked.Goals as goal
 
 pub returns-in_default-reply-clause-plan : goal.returns-in_default-reply-clause-plan
 returns-in_default-reply-clause-plan c =
-    let over : c.args.at.now.over ≡ None = search rules in
     let walked : c.in_ok-items.field-0 ≡ walk_in c.args.at.now.view c.args.at.now.last c.args.op.now = search rules in
     let unanswered : c.in_ok-items.field-0.reply ≡ None = search rules in
-    asking_is c.args.at.now c.args.op.now c.in_ok-items.field-0 c.in_ok-ask_for.field-0 over walked unanswered c.in_ok-ask_for.ensures
+    asking_is c.args.at.now c.args.op.now c.in_ok-items.field-0 c.in_ok-ask_for.field-0 walked unanswered c.in_ok-ask_for.ensures
