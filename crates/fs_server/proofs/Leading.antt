@@ -28,7 +28,7 @@ use Rattle.fs_record.specs.Applied.{is_undoable, records_after, records_after_al
 use Rattle.fs_record.specs.LedEffects.{led_effects}
 use Rattle.fs_record.specs.Records.{RecordMap}
 use Rattle.fs_record.specs.declared.led_end.LedEnd.{LedEnd}
-use Rattle.fs_record.specs.declared.led_end.LedEnd.TheVariants as led
+use Rattle.fs_record.specs.declared.led_end.LedEnd.TheVariants as end
 use Rattle.fs_record.specs.declared.led_end.Why.{Why}
 use Rattle.fs_record.specs.declared.led_end.Why.TheVariants as why
 use Rattle.fs_txn.specs.Deciding.{commit, decision, effects_on, first_end, unless_ended}
@@ -208,7 +208,7 @@ no_path None = refl
 no_path (Some file) = refl
 
 abbrev ended_at : ℕ → Use → LedEnd
-ended_at now u = led.Ended u.no u.until now
+ended_at now u = end.Ended u.no u.until now
 
 abbrev votes_by : Session → Server → List Part → Option LedEnd
 votes_by by s parts = first_end (map (λ (p : Part). Some (prepare.vote_on (rows_off_modes s.rows) (rows_on_modes s.rows) s.map s.me s.last by p None)) parts)

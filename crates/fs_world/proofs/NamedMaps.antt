@@ -12,9 +12,11 @@ use Rattle.fs_ident.specs.Ordered.{Keyed}
 use Rattle.fs_map.specs.Change.{turned}
 use Rattle.fs_map.specs.Lists.{map_after_give, map_after_hint, map_after_take, piece_of, places_of, turns, with_turn}
 use Rattle.fs_map.specs.Map.{Owners, after_take, begins, first_map, gives, longest, or_before, server_of}
+use Rattle.fs_record.specs.declared.led_end.LedEnd.TheVariants as led
+use Rattle.fs_server.specs.Leads.{moved_why}
 use Rattle.fs_server.specs.Server.{moved, moved_at}
 use Rattle.fs_server.specs.declared.state.Server.{Server}
-use Rattle.fs_world.specs.Linked.{AreNamed, IsNamedEnd}
+use Rattle.fs_world.specs.Linked.{AreNamed, IsNamedEnd, IsNamedLed}
 
 -- ## What a map tells
 
@@ -38,6 +40,13 @@ pub moved_named : (servers : ℕ) (s : Server) (id : List ℕ) → 0 < servers �
 moved_named servers s id some h = at (longest s.map id) (λ x e. longest_In s.map id x e)
   where
     at : (o : Option (List ℕ × ℕ)) → ((x : List ℕ × ℕ) → o ≡ Some x → In x s.map) → IsNamedEnd servers (moved_at o)
+    at None g = some
+    at (Some e) g = h e (g e refl)
+
+pub why_named : (servers : ℕ) (owners : Owners) (id : List ℕ) → 0 < servers → AreNamed servers owners → IsNamedLed servers (led.Again (moved_why (longest owners id)))
+why_named servers owners id some h = at (longest owners id) (λ x e. longest_In owners id x e)
+  where
+    at : (o : Option (List ℕ × ℕ)) → ((x : List ℕ × ℕ) → o ≡ Some x → In x owners) → IsNamedLed servers (led.Again (moved_why o))
     at None g = some
     at (Some e) g = h e (g e refl)
 

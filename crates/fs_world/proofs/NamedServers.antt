@@ -1,6 +1,6 @@
 -- What a server has and sends: it knows of servers that there are, has rows of sessions that have joined, and its handles
 -- can be told; what it sends goes to such sessions and to other servers, and can be read.
-use Rattle.std.proofs.Common.{◌≡◌, ◌≢◌, ◌∙◌, ◌<◌, ◌≤◌, ◌^◌, ℕ, ◌+◌, Bool, true, false, List, [], ◌∷◌, ◌++◌, map, not, Option, Some, None, refl, sym, ap, subst, cond, arith}
+use Rattle.std.proofs.Common.{◌≡◌, ◌≢◌, ◌⊎◌, ◌∙◌, ◌<◌, ◌≤◌, ◌^◌, ℕ, ◌+◌, Bool, true, false, List, [], ◌∷◌, ◌++◌, map, not, Option, Some, None, refl, sym, ap, subst, cond, inl, inr, arith}
 use Rattle.std.specs.Prelude.{◌&&◌, ◌==◌, nat_le}
 use Rattle.std.specs.FinMap.{empty, get}
 use Rattle.std.specs.List.{AllByRecursion, list_all}
@@ -26,6 +26,7 @@ use Rattle.fs_field.specs.declared.lease_kind.LeaseKind.TheVariants.{Exclusive}
 use Rattle.fs_field.specs.declared.row.Row.{Row}
 use Rattle.fs_field.specs.declared.used.Use.{Use}
 use Rattle.fs_map.specs.Lists.{piece_of}
+use Rattle.fs_map.specs.Map.{longest}
 use Rattle.fs_model.specs.declared.node.Handle.{Handle}
 use Rattle.fs_moderows.specs.Answer.{reap_blocker}
 use Rattle.fs_parcel.specs.Parcel.{move_refusal, not_mine}
@@ -33,9 +34,13 @@ use Rattle.fs_parcel.specs.declared.error.MoveError.{MoveError}
 use Rattle.fs_parcel.specs.declared.error.MoveError.TheVariants as move
 use Rattle.fs_record.specs.Effects.{effects_of, reap_effects, tells_its_effects}
 use Rattle.fs_record.specs.Fresh.{fresh_number, is_directory, records_after_gift}
+use Rattle.fs_record.specs.LedEffects.{led_effects}
 use Rattle.fs_record.specs.Moving.{AreEachRecords}
 use Rattle.fs_record.specs.Records.{AreRecords, IsRecord, first_records, node_of, root_record}
 use Rattle.fs_record.specs.ValueOf.{handles_of, own_of, selves_in}
+use Rattle.fs_record.specs.declared.led_end.LedEnd.TheVariants as led_end
+use Rattle.fs_record.specs.declared.led_end.Why.{Why}
+use Rattle.fs_record.specs.declared.led_end.Why.TheVariants as why
 use Rattle.fs_record.specs.declared.parcel.Parcel.{Parcel}
 use Rattle.fs_record.specs.declared.record.Record.{Record}
 use Rattle.fs_record.proofs.AllApplied.{after_all_kept}
@@ -44,6 +49,10 @@ use Rattle.fs_record.proofs.Kept.{given_kept, kept_empty, kept_insert, root_kept
 use Rattle.fs_record.proofs.Returning.{given_each}
 use Rattle.fs_rows.specs.Moving.{is_on_given}
 use Rattle.fs_model.specs.Asking.{home_of}
+use Rattle.fs_model.specs.declared.op.Op.{Op}
+use Rattle.fs_model.specs.declared.op.Op.TheVariants as op
+use Rattle.fs_model.specs.declared.reply.Reply.{Reply}
+use Rattle.fs_model.specs.declared.reply.Reply.TheVariants as reply
 use Rattle.fs_msg.specs.Readable.{is_readable, is_readable_answer, is_readable_entry, is_readable_grant, is_readable_parcel, is_readable_record}
 use Rattle.fs_msg.specs.declared.answer.Grant.{Grant}
 use Rattle.fs_msg.specs.declared.client_msg.ClientMsg.{ClientMsg}
@@ -52,12 +61,15 @@ use Rattle.fs_msg.specs.declared.end.End.{End}
 use Rattle.fs_msg.specs.declared.end.End.TheVariants as end
 use Rattle.fs_msg.specs.declared.entry.Entry.{Entry}
 use Rattle.fs_msg.specs.declared.item.Item.{Item}
+use Rattle.fs_msg.specs.declared.lead.Lead.{Lead as ToLead}
 use Rattle.fs_msg.specs.declared.msg.Msg.{Msg}
 use Rattle.fs_msg.specs.declared.msg.Msg.TheVariants as msg
 use Rattle.fs_msg.specs.declared.peer_msg.PeerMsg.{PeerMsg}
 use Rattle.fs_msg.specs.declared.peer_msg.PeerMsg.TheVariants.{Parcel as OfParcel, Prepare, Vote, Decide, Done}
+use Rattle.fs_server.proofs.Leading.{LeadEnds, aborted, lead_ends, led, put_off, refusal_is, unled}
 use Rattle.fs_server.proofs.OneByOne.{AskEnds, ShipEnds, each_entry, each_item, each_lapsed, elsewhere, kept_off, misplaced, refused, waits}
 use Rattle.fs_server.specs.Asks.{Asking, answer_to, ask_fresh, ask_from, ask_step, asked_in, fresh_for, fresh_in, fresh_of, grant_of, kind_for, with_lease}
+use Rattle.fs_server.specs.Leads.{lead_refusal, lead_step, moved_why, reply_of}
 use Rattle.fs_server.specs.Moves.{fits_here, move_at, parcel_at, peer_step}
 use Rattle.fs_server.specs.Pairs.{numbers_in, pairs_end, pairs_here, released_rows, renewed_rows}
 use Rattle.fs_server.specs.Reaps.{Reaping, lapsed_in, reap_from, reap_item, turn_over, with_blocker, with_reap}
@@ -68,10 +80,10 @@ use Rattle.fs_server.specs.declared.event.ServerEvent.{ServerEvent}
 use Rattle.fs_server.specs.declared.event.ServerEvent.TheVariants.{FromClient, FromPeer, Move, Recall, Turn}
 use Rattle.fs_server.specs.declared.state.Server.{Server as Core}
 use Rattle.fs_wire.specs.Readable.{is_readable_handle, is_readable_row, is_readable_session}
-use Rattle.fs_world.specs.Linked.{AreOfJoined, HasJoined, IsCarried, IsNamedAnswer, IsNamedEnd, IsParcelOf, IsServed, BringsParcel}
+use Rattle.fs_world.specs.Linked.{AreOfJoined, HasJoined, IsCarried, IsNamedAnswer, IsNamedEnd, IsNamedLed, IsParcelOf, IsServed, BringsParcel}
 use Rattle.fs_world.specs.Readable.{HasOpenHandles, RecordsOpen}
 use Rattle.fs_world.specs.Served.{Seats}
-use Rattle.fs_world.proofs.NamedMaps.{moved_named, named_first, named_give, named_take}
+use Rattle.fs_world.proofs.NamedMaps.{moved_named, named_first, named_give, named_take, why_named}
 use Rattle.fs_world.proofs.OpenHandles.{AddsOpen, effects_open, first_open, open_after_all, open_after_gift, open_given, open_left, open_with, value_open}
 use Rattle.fs_world.proofs.SeenRows.{AreOf, filtered, put, put_all, recall_sent, recalled_at, recalled_for, released, renewed}
 
@@ -131,6 +143,12 @@ sent_readable servers seats k (Client s, msg.Peer m) readable h = absurd h
 sent_readable servers seats k (Server to, msg.Answer a) readable h = absurd h
 sent_readable servers seats k (Server to, msg.Client m) readable h = absurd h
 sent_readable servers seats k (Server to, msg.Peer m) readable h = peer_readable seats m readable h.parcel
+
+-- a rename and a delete add no handle
+led_open : (o : Op) (file : List ℕ) (r : Reply) → AllByRecursion AddsOpen (led_effects o file r)
+led_open (op.Rename sdir sname ddir dname) file reply.Renamed = (tt, tt, tt, tt)
+led_open (op.Delete dir name) file reply.Deleted = (tt, tt, tt)
+led_open o file r = tt
 
 -- ## Steps
 
@@ -262,6 +280,26 @@ module _ (servers : ℕ) (seats : Seats) (k : ℕ) (some : k < servers) (readabl
       let all : IsShipping (ship_from by entries s []) = entries_fine by of entries s [] r h in
       either_goes (list_all (λ (e : Entry). tells_its_effects e.op) entries) (shipped by (ship_from by entries s [])) (strange s) (record { server = all.server; sends = ((of, all.end, refl), tt) }) (strange_goes s h)
 
+  -- ## An operation that is led
+
+  why_fine : (m : ToLead) (s : Core) (w : Why) → lead_refusal s m ≡ Some w → Fine s → IsNamedLed servers (led_end.Again w)
+  why_fine m s w e h = at (refusal_is s m w e)
+    where
+      at : ((is_mine s (home_of m.op) ≡ false) × (w ≡ moved_why (longest s.map (home_of m.op)))) ⊎ (w ≡ why.Wanted (home_of m.op)) → IsNamedLed servers (led_end.Again w)
+      at (inl q) = subst (λ v. IsNamedLed servers (led_end.Again v)) (sym q.1) (why_named servers s.map (home_of m.op) (omega (arith, some)) h.named)
+      at (inr q) = subst (λ v. IsNamedLed servers (led_end.Again v)) (sym q) tt
+
+  lead_goes : (by : Session) (m : ToLead) (s : Core) (x : Stepped) → LeadEnds by m s x → HasJoined seats by → Fine s → Goes x
+  lead_goes by m s x (unled l) of h = strange_goes s h
+  lead_goes by m s x (put_off w l r) of h = record { server = h; sends = ((of, why_fine m s w r h, refl), tt) }
+  lead_goes by m s x (aborted u l r g) of h = record { server = record { me = h.me; named = h.named; records = h.records; handles = h.handles; rows = h.rows }; sends = ((of, tt, refl), tt) }
+  lead_goes by m s x (led l r g) of h =
+      let es = led_effects m.op m.file (reply_of m.op) in
+      record {
+        server = record { me = h.me; named = h.named; records = after_all_kept s.records es h.records; handles = open_after_all s.records es (led_open m.op m.file (reply_of m.op)) h.handles; rows = h.rows };
+        sends = ((of, tt, refl), tt);
+      }
+
   message_goes : (by : Session) (m : ClientMsg) (s : Core) → HasJoined seats by → is_readable (msg.Client m) ≡ true → Fine s → Goes (message_step by m s)
   message_goes by (Ask items fresh) s of r h = ask_goes by items fresh s of h
   message_goes by (Renew pairs) s of r h = record {
@@ -273,7 +311,7 @@ module _ (servers : ℕ) (seats : Seats) (k : ℕ) (some : k < servers) (readabl
     sends = ((of, pairs_fine s pairs h, refl), tt);
   }
   message_goes by (Ship entries) s of r h = ship_goes by entries s of r h
-  message_goes by (Lead m) s of r h = strange_goes s h
+  message_goes by (Lead m) s of r h = lead_goes by m s (lead_step by m s) (lead_ends by m s) of h
 
   -- ## Reaps
 

@@ -13,7 +13,7 @@ use Rattle.fs_msg.specs.Ranges.{FitsMessage}
 use Rattle.fs_msg.specs.Readable.{is_readable}
 use Rattle.fs_msg.specs.Spelling.{message}
 use Rattle.fs_msg.specs.declared.answer.Answer.{Answer}
-use Rattle.fs_msg.specs.declared.answer.Answer.TheVariants.{Granted, Renewed, Released, Shipped}
+use Rattle.fs_msg.specs.declared.answer.Answer.TheVariants.{Granted, Renewed, Released, Shipped, Led}
 use Rattle.fs_msg.specs.declared.client_msg.ClientMsg.{ClientMsg}
 use Rattle.fs_msg.specs.declared.end.End.{End}
 use Rattle.fs_msg.specs.declared.end.End.TheVariants.{Moved}
@@ -22,6 +22,9 @@ use Rattle.fs_msg.specs.declared.msg.Msg.{Msg}
 use Rattle.fs_msg.specs.declared.msg.Msg.TheVariants as msg
 use Rattle.fs_record.specs.Moving.{AreEachRecords}
 use Rattle.fs_record.specs.Records.{AreRecords}
+use Rattle.fs_record.specs.declared.led_end.LedEnd.{LedEnd}
+use Rattle.fs_record.specs.declared.led_end.LedEnd.TheVariants as led
+use Rattle.fs_record.specs.declared.led_end.Why.TheVariants as why
 use Rattle.fs_record.specs.declared.parcel.Parcel.{Parcel}
 use Rattle.fs_serial.specs.declared.flying.Flying.{Flying}
 use Rattle.fs_server.specs.declared.state.Server.{Server as Core}
@@ -104,11 +107,16 @@ abbrev pub IsNamedEnd : ℕ → End → Type 0
 IsNamedEnd servers (Moved prefix to) = to < servers
 IsNamedEnd servers e = Unit {0}
 
+abbrev pub IsNamedLed : ℕ → LedEnd → Type 0
+IsNamedLed servers (led.Again (why.Moved prefix to)) = to < servers
+IsNamedLed servers e = Unit {0}
+
 abbrev pub IsNamedAnswer : ℕ → Answer → Type 0
 IsNamedAnswer servers (Granted grants fresh e) = IsNamedEnd servers e
 IsNamedAnswer servers (Renewed rows e) = IsNamedEnd servers e
 IsNamedAnswer servers (Released count e) = IsNamedEnd servers e
 IsNamedAnswer servers (Shipped count e) = IsNamedEnd servers e
+IsNamedAnswer servers (Led e) = IsNamedLed servers e
 IsNamedAnswer servers a = Unit {0}
 
 -- ## All of it

@@ -5,6 +5,7 @@ ghost use Rattle.fs_ident.specs.declared.limits.TheConstants.{LATEST};
 ghost use Rattle.fs_server.specs.Step.{AreNumbersLeft, CanBeTold};
 ghost use Rattle.fs_server.specs.declared.event.ServerEvent.TheVariants.{FromPeer};
 
+mod leads;
 mod moves;
 mod opens;
 mod said;
@@ -445,7 +446,7 @@ fn leases_are_renewed_and_released(rt: HostRuntime) -> Result<(), Fail> {
     done
 }
 
-/// A log with a delete; and while no server leads operations, that a part is done.
+/// A log with a delete; to lead a look-up; and while no server leads operations with parts elsewhere, that a part is done.
 const ODD: &[Line] = &[
     (
         0,
@@ -453,6 +454,7 @@ const ODD: &[Line] = &[
         Seen::Note,
         "Strange",
     ),
+    (0, Event::From(1, said::LEAD_LOOKUP), Seen::Note, "Strange"),
     (0, Event::Peer(1, said::DONE), Seen::Note, "Strange"),
 ];
 

@@ -94,3 +94,32 @@ pub(crate) const ASK_FRESH_BELOW: &[u8] = &[1, 0, 0, 0, 0, 0, 0, 0, 0, 1, 80];
 
 /// The fifth part of the seventh transaction that the server 2 leads is done.
 pub(crate) const DONE: &[u8] = &[36, 2, 0, 0, 0, 0, 0, 0, 0, 7, 4];
+
+/// To lead the delete of `a`, the file 1, by its first three leases.
+pub(crate) const LEAD_DELETE: &[u8] = &[
+    5, 0, 0, 0, 0, 0, 0, 0, 3, 8, 128, 1, 97, 80, 0, 0, 0, 0, 0, 0, 0, 0, 3, 0, 128, 0, 0, 0, 0, 0,
+    0, 0, 0, 0, 1, 0, 0, 0, 0, 0, 0, 0, 100, 1, 128, 1, 97, 1, 0, 0, 0, 0, 0, 0, 0, 0, 2, 0, 0, 0,
+    0, 0, 0, 0, 100, 0, 80, 1, 0, 0, 0, 0, 0, 0, 0, 0, 3, 0, 0, 0, 0, 0, 0, 0, 100,
+];
+
+/// The same of a directory.
+pub(crate) const LEAD_DELETE_OF_DIR: &[u8] = &[
+    5, 0, 0, 0, 0, 0, 0, 0, 3, 8, 128, 1, 97, 80, 1, 0, 0, 0, 0, 0, 0, 0, 3, 0, 128, 0, 0, 0, 0, 0,
+    0, 0, 0, 0, 1, 0, 0, 0, 0, 0, 0, 0, 100, 1, 128, 1, 97, 1, 0, 0, 0, 0, 0, 0, 0, 0, 2, 0, 0, 0,
+    0, 0, 0, 0, 100, 0, 80, 1, 0, 0, 0, 0, 0, 0, 0, 0, 3, 0, 0, 0, 0, 0, 0, 0, 100,
+];
+
+/// To lead the rename of `a`, the file 1, to `b` in the same directory, by these leases.
+pub(crate) const LEAD_RENAME: &[u8] = &[
+    5, 0, 0, 0, 0, 0, 0, 0, 3, 9, 128, 1, 97, 128, 1, 98, 80, 0, 0, 0, 0, 0, 0, 0, 0, 3, 0, 128, 0,
+    0, 0, 0, 0, 0, 0, 0, 0, 1, 0, 0, 0, 0, 0, 0, 0, 100, 1, 128, 1, 97, 1, 0, 0, 0, 0, 0, 0, 0, 0,
+    2, 0, 0, 0, 0, 0, 0, 0, 100, 0, 80, 1, 0, 0, 0, 0, 0, 0, 0, 0, 3, 0, 0, 0, 0, 0, 0, 0, 100,
+];
+
+/// To lead a look-up, which no server leads.
+pub(crate) const LEAD_LOOKUP: &[u8] = &[
+    5, 0, 0, 0, 0, 0, 0, 0, 3, 0, 128, 1, 97, 80, 0, 0, 0, 0, 0, 0, 0, 0, 0,
+];
+
+/// For what `b` stands for in the root.
+pub(crate) const ASK_B: &[u8] = &[1, 0, 0, 0, 0, 0, 0, 0, 1, 1, 128, 1, 98, 0, 0];
