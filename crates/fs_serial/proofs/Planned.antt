@@ -1,30 +1,27 @@
 -- A client's question goes out with its exchange.
-use Rattle.std.proofs.Common.{◌≡◌, ℕ, not, ◌&&◌, ◌/◌, ◌+◌, Bool, true, false, List, [], ◌∷◌, cond, refl, ap, ◌∙◌, subst}
+use Rattle.std.proofs.Common.{◌≡◌, ℕ, not, ◌&&◌, ◌/◌, ◌+◌, true, false, List, [], ◌∷◌, cond, refl, ap, ◌∙◌, subst}
 use Rattle.std.specs.Prelude.{Option, Some, None, is_some}
 use Rattle.fs_ident.specs.In.{In}
-use Rattle.fs_ident.specs.declared.kind.Kind.{Kind}
 use Rattle.fs_field.specs.declared.asked.Need.{Need}
 use Rattle.fs_field.specs.declared.asked.Need.TheVariants as need
 use Rattle.fs_map.specs.Map.{Owners}
-use Rattle.fs_model.specs.Sound.{is_change}
 use Rattle.fs_model.specs.Step.{is_empty}
 use Rattle.fs_model.specs.declared.op.Op.{Op}
 use Rattle.fs_model.specs.declared.reply.Reply.{Reply}
 use Rattle.fs_msg.specs.declared.answer.Answer.{Answer}
 use Rattle.fs_msg.specs.declared.answer.Answer.TheVariants.{Granted, Renewed, Released, Shipped, Recall, Led}
+use Rattle.fs_msg.specs.declared.act.Act.{Act}
 use Rattle.fs_msg.specs.declared.act.Act.TheVariants as act
 use Rattle.fs_msg.specs.declared.act.Busy.TheVariants as busy
 use Rattle.fs_msg.specs.declared.client_msg.ClientMsg.{ClientMsg}
 use Rattle.fs_msg.specs.declared.entry.Entry.{Entry}
 use Rattle.fs_view.specs.declared.kept.Kept.{Kept}
-use Rattle.fs_view.specs.View.{known_by, missing_in, reply_in}
-use Rattle.fs_record.specs.Effects.{tells_its_effects}
+use Rattle.fs_view.specs.View.{missing_in, reply_in}
 use Rattle.fs_record.specs.declared.led_end.LedEnd.{LedEnd}
 use Rattle.fs_record.specs.declared.led_end.LedEnd.TheVariants as end
-use Rattle.fs_client.specs.Acts.{act_on, answer_with, answers, answers_move, answers_plain, ask_for, asks, full_one, hinted, leads_on, leads_or_waits, need_file, reads, reads_or_waits, replies, stays, unless_led, worth}
+use Rattle.fs_client.specs.Acts.{act_on, answer_with, answers, ask_for, asks, full_one, hinted, need_file, stays, unless_led, worth}
 use Rattle.fs_client.specs.Answers.{ended_plan, fits, hear, led_plan, strange, told}
 use Rattle.fs_client.specs.Client.{begun, changed, committed, with_hints}
-use Rattle.fs_client.specs.Led.{is_led, moved_known}
 use Rattle.fs_client.specs.Turns.{ending, idle, release_some, renew_some, returned, ship_some, turn_free, turn_on}
 use Rattle.fs_client.specs.declared.change.Change.{Change}
 use Rattle.fs_client.specs.declared.change.Change.TheVariants as change
@@ -39,6 +36,7 @@ use Rattle.fs_serial.specs.Exchange.{OneExchange, server_of_question}
 use Rattle.fs_serial.specs.Seen.{IsAddressed}
 use Rattle.fs_serial.specs.World.{pushed}
 use Rattle.fs_serial.proofs.Addressing.{addressed_still, none_asked, one_asked}
+use Rattle.fs_serial.proofs.Answering.{AnswerEnds, answer_ends, as_entry, as_led, as_move, as_read, not_told, put_off}
 use Rattle.fs_serial.proofs.Traffic.{messages}
 
 -- ## The exchange after a change
@@ -104,30 +102,16 @@ ask_posted needs (n ∷ ns) c = elim (is_some c.exchange) as (λ b. IsPosted (co
   | false ↦ (_, refl)
 ]
 
-plain_posted : (o : Op) (r : Reply) (c : Client) → IsPosted (answers_plain o r c)
-plain_posted o r c = elim (not (is_change r) && is_empty c.log) as (λ b. IsPosted (cond b (reads o r c) (replies o r c))) [ true ↦ refl | false ↦ refl ]
-
-leads_posted : (moved : Option (List ℕ × Kind)) (o : Op) (r : Reply) (c : Client) → IsPosted (leads_on moved o r c)
-leads_posted None o r c = refl
-leads_posted (Some moved) o r c = (_, refl)
-
-led_or_waits : (o : Op) (r : Reply) (c : Client) (asks here : Bool) → IsPosted (cond asks (stays (act.Busy busy.Exchange) c) (cond here (leads_on (moved_known (known_by c.view c.last) o) o r c) (stays (act.Busy busy.Log) c)))
-led_or_waits o r c true here = refl
-led_or_waits o r c false true = leads_posted (moved_known (known_by c.view c.last) o) o r c
-led_or_waits o r c false false = refl
-
-read_or_waits : (o : Op) (r : Reply) (c : Client) (here : Bool) → IsPosted (cond here (reads o r c) (stays (act.Busy busy.Log) c))
-read_or_waits o r c true = refl
-read_or_waits o r c false = refl
-
-move_posted : (o : Op) (r : Reply) (c : Client) → IsPosted (answers_move o r c)
-move_posted o r c = elim (is_led o r) as (λ b. IsPosted (cond b (leads_or_waits o r c) (reads_or_waits o r c))) [
-  | true ↦ led_or_waits o r c (is_some c.exchange) (is_empty c.log)
-  | false ↦ read_or_waits o r c (is_empty c.log)
-]
+each_posted : (o : Op) (r : Reply) (c : Client) (p : Plan Act) → AnswerEnds o r c p → IsPosted p
+each_posted o r c p (as_entry t) = refl
+each_posted o r c p (as_read t n e) = refl
+each_posted o r c p (as_move t n e) = refl
+each_posted o r c p (as_led t l x e moved k) = (_, refl)
+each_posted o r c p (put_off what) = refl
+each_posted o r c p not_told = refl
 
 answers_posted : (o : Op) (r : Reply) (c : Client) → IsPosted (answers o r c)
-answers_posted o r c = elim (tells_its_effects o) as (λ b. IsPosted (cond b (answers_plain o r c) (answers_move o r c))) [ true ↦ plain_posted o r c | false ↦ move_posted o r c ]
+answers_posted o r c = each_posted o r c (answers o r c) (answer_ends o r c)
 
 with_posted : (r : Option Reply) (o : Op) (c : Client) → IsPosted (answer_with r o c)
 with_posted (Some r) o c = answers_posted o r c
