@@ -1,12 +1,14 @@
 -- Entries that are admitted one by one, or together.
-use Rattle.std.proofs.Common.{◌≡◌, ℕ, zero, suc, List, [], ◌∷◌, refl, ap, sym, ◌∙◌, length, take, drop}
+use Rattle.std.proofs.Common.{◌≡◌, ℕ, ◌+◌, zero, suc, List, [], ◌∷◌, refl, ap, sym, ◌∙◌, length, take, drop}
 use Rattle.std.specs.Prelude.{Option, None, max}
 use Rattle.fs_msg.specs.declared.entry.Entry.{Entry}
-use Rattle.fs_view.specs.View.{View, admitted_front, lapsed_at, with_first_admitted, without_pins}
+use Rattle.fs_field.specs.declared.effect.Effect.{Effect}
+use Rattle.fs_view.specs.View.{View, admitted_front, lapsed_at, with_admitted, with_first_admitted, without_pins}
 use Rattle.fs_view.proofs.Order.{lapse_before_front, unpin_after_front}
 use Rattle.fs_client.specs.declared.state.Client.{Client}
 use Rattle.fs_client.specs.Admitted.{freed}
-use Rattle.fs_client.specs.Client.{admitted_all, begun, with_shipped}
+use Rattle.fs_client.specs.Client.{admitted_all, begun, with_led_done, with_led_freed, with_shipped}
+use Rattle.fs_client.specs.Led.{without_led_pins}
 
 -- the client with this view and this log
 abbrev pub with_log : Client → View → List Entry → Client
@@ -50,3 +52,16 @@ shipped_is now count some over c b v log hs hb hv hl =
     ∙ ap (shipped_after over count) hb
     ∙ ap (λ (n : ℕ). shipped_after over count (begun now (record c { view = admitted_front n c.view }))) hs
     ∙ ap (λ (x : Client). record x { over = over; exchange = None }) (admitted_begun (max c.last now) count (begun now c) c.log c.view)
+
+-- ## What was led
+
+-- its effects join the values before or after leases lapse
+lapse_before_led : (now : ℕ) (effects : List Effect) (v : View) → lapsed_at now (with_admitted effects v) ≡ with_admitted effects (lapsed_at now v)
+lapse_before_led now effects v = ap (λ (w : View). record v { leases = w.leases }) (lapse_before_front now 1 (record v { pending = effects ∷ [] }))
+
+-- the client once it is done
+pub led_done_is : (now : ℕ) (effects : List Effect) (c b : Client) → b ≡ with_led_freed (begun now (record c { view = with_admitted effects c.view }))
+    → record b { next = b.next + 1 } ≡ with_led_done effects (begun now c)
+led_done_is now effects c b e =
+    ap (λ (x : Client). record x { next = x.next + 1 }) e
+    ∙ ap (λ (v : View). record c { last = max c.last now; view = without_led_pins c.led v; exchange = None; led = None; next = c.next + 1 }) (lapse_before_led (max c.last now) effects c.view)

@@ -1,5 +1,5 @@
 -- What a change keeps of a client.
-use Rattle.std.proofs.Common.{◌≡◌, ◌≤◌, ℕ, zero, suc, true, List, [], ◌∷◌, refl, arith, sym, ◌∙◌, Ok, Err, subst}
+use Rattle.std.proofs.Common.{◌≡◌, ◌≤◌, ℕ, zero, suc, true, List, [], ◌∷◌, refl, ap, arith, sym, ◌∙◌, Ok, Err, subst}
 use Rattle.std.specs.Prelude.{Option, Some, None, Result, OnOk, OnErr, is_some, max, nat_le, nat_lt, not}
 use Rattle.std.proofs.lemmas.Bool.Decides.{nat_tests}
 use Rattle.fs_ident.proofs.Booleans.{both}

@@ -2,10 +2,10 @@
 ghost use Rattle.std.specs.Prelude.{◌≡◌, ◌≤◌, true};
 ghost use Rattle.fs_ident.specs.declared.limits.TheConstants.{LATEST};
 ghost use Rattle.fs_model.specs.Asking.{may_ask};
-ghost use Rattle.fs_record.specs.Effects.{tells_its_effects};
 
 mod asked;
 mod hints;
+mod led;
 mod opens;
 mod said;
 
@@ -108,7 +108,6 @@ fn acts(
 fn act(alloc: Global, core: &mut ClientCore, now: u64, op: &Op) -> Result<Short, Fail>
     requires reading { now ≤ LATEST }
     requires asked { may_ask op.now ≡ true }
-    requires plain { tells_its_effects op.now ≡ true }
 {
     let out = core.act(alloc, now, op)?;
     let short = acted(&out);
@@ -119,7 +118,6 @@ fn act(alloc: Global, core: &mut ClientCore, now: u64, op: &Op) -> Result<Short,
 fn plan_act(alloc: Global, core: &mut ClientCore, now: u64, op: &Op) -> Result<Short, Fail>
     requires reading { now ≤ LATEST }
     requires asked { may_ask op.now ≡ true }
-    requires plain { tells_its_effects op.now ≡ true }
 {
     let Plan { ready, out } = copied(alloc, core.plan_act(alloc, now, op)?)?;
     let short = acted(&out);

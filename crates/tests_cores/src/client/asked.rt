@@ -1,7 +1,6 @@
 //! What the user of a client asks for.
 ghost use Rattle.std.specs.Prelude.{◌≡◌, true, IfOk};
 ghost use Rattle.fs_model.specs.Asking.{may_ask};
-ghost use Rattle.fs_record.specs.Effects.{tells_its_effects};
 
 use fs_ident::{FileId, Kind, Name};
 use fs_model::Op;
@@ -15,23 +14,24 @@ pub(crate) enum Asking {
     Create,
     /// Of `a` in the root.
     Lookup,
+    /// Of `a` in the root.
+    Delete,
     Kind(&'static str),
 }
 
 pub(crate) fn op_of(alloc: Global, asking: Asking) -> Result<Op, Fail>
-    ensures asked { IfOk result (λ op. may_ask op ≡ true) }
-    ensures plain { IfOk result (λ op. tells_its_effects op ≡ true) }
+    ensures { IfOk result (λ op. may_ask op ≡ true) }
 {
     match asking {
         Asking::Create => create(alloc),
         Asking::Lookup => look_up(alloc),
+        Asking::Delete => delete(alloc),
         Asking::Kind(file) => kind_of(alloc, file),
     }
 }
 
 fn create(alloc: Global) -> Result<Op, Fail>
-    ensures asked { IfOk result (λ op. may_ask op ≡ true) }
-    ensures plain { IfOk result (λ op. tells_its_effects op ≡ true) }
+    ensures { IfOk result (λ op. may_ask op ≡ true) }
 {
     let name = Name::new(alloc, b"a")?;
     Ok(Op::Create {
@@ -43,8 +43,7 @@ fn create(alloc: Global) -> Result<Op, Fail>
 }
 
 fn look_up(alloc: Global) -> Result<Op, Fail>
-    ensures asked { IfOk result (λ op. may_ask op ≡ true) }
-    ensures plain { IfOk result (λ op. tells_its_effects op ≡ true) }
+    ensures { IfOk result (λ op. may_ask op ≡ true) }
 {
     let name = Name::new(alloc, b"a")?;
     Ok(Op::Lookup {
@@ -53,9 +52,18 @@ fn look_up(alloc: Global) -> Result<Op, Fail>
     })
 }
 
+fn delete(alloc: Global) -> Result<Op, Fail>
+    ensures { IfOk result (λ op. may_ask op ≡ true) }
+{
+    let name = Name::new(alloc, b"a")?;
+    Ok(Op::Delete {
+        dir: FileId::root(alloc),
+        name,
+    })
+}
+
 fn kind_of(alloc: Global, file: &str) -> Result<Op, Fail>
-    ensures asked { IfOk result (λ op. may_ask op ≡ true) }
-    ensures plain { IfOk result (λ op. tells_its_effects op ≡ true) }
+    ensures { IfOk result (λ op. may_ask op ≡ true) }
 {
     Ok(Op::Kind {
         file: FileId::parse(alloc, file.as_bytes())?,

@@ -1,7 +1,6 @@
 //! An open and a close of the file 1, all at one reading.
 ghost use Rattle.std.specs.Prelude.{◌≡◌, true, IfOk};
 ghost use Rattle.fs_model.specs.Asking.{may_ask};
-ghost use Rattle.fs_record.specs.Effects.{tells_its_effects};
 
 use crate::client::{Way, hears, said};
 use crate::forms::{reads, same, spend, text_of};
@@ -48,8 +47,7 @@ enum Asking {
 }
 
 fn op_of(alloc: Global, asking: Asking) -> Result<Op, Fail>
-    ensures asked { IfOk result (λ op. may_ask op ≡ true) }
-    ensures plain { IfOk result (λ op. tells_its_effects op ≡ true) }
+    ensures { IfOk result (λ op. may_ask op ≡ true) }
 {
     let file = FileId::parse(alloc, b"/1")?;
     match asking {
@@ -81,8 +79,7 @@ fn noted(alloc: Global, core: &mut ClientCore, asking: Asking) -> Result<String,
 }
 
 fn noted_of(alloc: Global, core: &mut ClientCore, op: &Op) -> Result<String, Fail>
-    requires asked { may_ask op.now ≡ true }
-    requires plain { tells_its_effects op.now ≡ true }
+    requires { may_ask op.now ≡ true }
 {
     let out = core.act(alloc, NOW, op)?;
     let text = text_of(alloc, &out.note);

@@ -164,5 +164,33 @@ pub(crate) const SELVES: &[u8] = &[
     8, 5, 80, 5, 1, 0, 0, 0, 0, 0, 0, 0, 100, 5, 0, 0,
 ];
 
-/// An operation that was to be led may be asked for again.
+/// An operation that was to be led may be asked for again, since something is no longer what it was.
 pub(crate) const LED_AGAIN: &[u8] = &[21, 2, 4];
+
+/// It is done: the file is deleted.
+pub(crate) const LED_DELETED: &[u8] = &[21, 0, 22];
+
+/// It is done: a file is renamed.
+pub(crate) const LED_RENAMED: &[u8] = &[21, 0, 24];
+
+/// It is refused: its first lease had ended at 100, and the server read 110.
+pub(crate) const LED_ENDED: &[u8] = &[
+    21, 1, 0, 0, 0, 0, 0, 0, 0, 0, 1, 0, 0, 0, 0, 0, 0, 0, 100, 0, 0, 0, 0, 0, 0, 0, 110,
+];
+
+/// What a delete of `a` in the root wants first: the life of the root and the name, which the file 1 has, under the numbers 1
+/// and 2.
+pub(crate) const NAMED: &[u8] = &[
+    17, 0, 0, 0, 0, 0, 0, 0, 2, 0, 0, 0, 0, 0, 0, 0, 0, 1, 0, 128, 0, 0, 0, 0, 0, 0, 0, 0, 100, 0,
+    1, 1, 0, 0, 0, 0, 0, 0, 0, 0, 2, 1, 128, 1, 97, 1, 0, 0, 0, 0, 0, 0, 0, 100, 1, 1, 80, 0, 0,
+];
+
+/// What it wants of that file: its life, its names, its handles, and that no other opened it, under the numbers 3 to 8.
+pub(crate) const UNUSED: &[u8] = &[
+    17, 0, 0, 0, 0, 0, 0, 0, 6, 0, 0, 0, 0, 0, 0, 0, 0, 3, 0, 80, 1, 0, 0, 0, 0, 0, 0, 0, 100, 0,
+    1, 0, 0, 0, 0, 0, 0, 0, 0, 0, 4, 2, 80, 0, 0, 0, 0, 0, 0, 0, 0, 100, 2, 0, 0, 0, 0, 0, 0, 0, 0,
+    0, 0, 0, 0, 0, 0, 0, 0, 5, 4, 80, 1, 0, 0, 0, 0, 0, 0, 0, 100, 4, 0, 0, 0, 0, 0, 0, 0, 0, 0, 0,
+    0, 0, 0, 0, 0, 0, 6, 6, 80, 0, 0, 0, 0, 0, 0, 0, 0, 0, 100, 6, 0, 0, 0, 0, 0, 0, 0, 0, 0, 7, 6,
+    80, 1, 0, 0, 0, 0, 0, 0, 0, 0, 100, 6, 0, 0, 0, 0, 0, 0, 0, 0, 0, 8, 6, 80, 2, 0, 0, 0, 0, 0,
+    0, 0, 0, 100, 6, 0, 0, 0,
+];
