@@ -1,5 +1,5 @@
 -- What a client makes of an operation.
-use Rattle.std.proofs.Common.{◌≡◌, ℕ, ◌+◌, ◌≤◌, ◌==◌, not, ◌&&◌, true, false, List, [], ◌∷◌, cond, refl, sym, ap, ◌∙◌, subst}
+use Rattle.std.proofs.Common.{◌≡◌, ℕ, ◌+◌, ◌≤◌, ◌==◌, true, false, List, [], ◌∷◌, cond, refl, sym, ap, ◌∙◌, subst}
 use Rattle.std.specs.Prelude.{Option, Some, None, is_some, option_map}
 use Rattle.fs_ident.specs.declared.actor.Peer.TheVariants.{Client as OfSession}
 use Rattle.fs_ident.specs.declared.actor.Session.{Session}
@@ -22,7 +22,6 @@ use Rattle.fs_record.specs.Records.{nodes_of}
 use Rattle.fs_server.specs.Ships.{item_of}
 use Rattle.fs_client.specs.Acts.{act_on, answer_with, answers, ask_for, asks, entry_of, fresh_asked, full_one, hinted, items_of, need_file, needs_at, reads, replies, stays, unless_led, with_id, worth}
 use Rattle.fs_client.specs.Client.{changed}
-use Rattle.fs_client.specs.declared.change.Change.TheVariants as change
 use Rattle.fs_client.specs.declared.plan.Plan.{Plan}
 use Rattle.fs_client.specs.declared.state.Client.{Client}
 use Rattle.fs_view.specs.View.{given_by, known_by, missing_in, reply_in}

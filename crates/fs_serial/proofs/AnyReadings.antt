@@ -1,6 +1,6 @@
 -- What holds whatever the clocks show. Clocks matter for what is admitted at once: a session whose lease has lost its row may read
 -- what is no longer so. Nothing else rests on such an item, so that another one may stand in its place, which is right and makes no file.
-use Rattle.std.proofs.Common.{◌≡◌, ℕ, ◌+◌, ◌≤◌, max, true, false, List, [], ◌∷◌, ◌++◌, cond, refl, ap, sym, ◌∙◌, subst, arith}
+use Rattle.std.proofs.Common.{◌≡◌, ℕ, ◌≤◌, max, true, false, List, [], ◌∷◌, ◌++◌, cond, refl, ap, sym, ◌∙◌, subst, arith}
 use Rattle.std.specs.Prelude.{◌≢◌, Option, Some, None, is_some, option_map, slice_get}
 use Rattle.fs_ident.specs.declared.actor.Session.{Session}
 use Rattle.fs_ident.specs.declared.kind.Kind.{Kind}

@@ -1,5 +1,5 @@
 -- Nothing of led operations is on its way: no client asks for one yet.
-use Rattle.std.proofs.Common.{◌≡◌, ℕ, ◌==◌, true, List, [], ◌∷◌, ◌⊎◌, inl, inr, ap, sym, ◌∙◌, subst}
+use Rattle.std.proofs.Common.{◌≡◌, ℕ, ◌==◌, true, List, inl, inr, ap, sym, ◌∙◌, subst}
 use Rattle.std.specs.Prelude.{Option, Some, None, is_some}
 use Rattle.fs_ident.specs.In.{In}
 use Rattle.fs_ident.proofs.Booleans.{second}
