@@ -1,8 +1,6 @@
 -- What a client makes of an operation.
-use Rattle.std.proofs.Common.{◌≡◌, ℕ, ◌+◌, ◌≤◌, ◌==◌, not, ◌&&◌, true, false, List, [], ◌∷◌, cond, refl, sym, ap, ◌∙◌, subst}
-use Rattle.std.proofs.lemmas.Bool.{not-true}
+use Rattle.std.proofs.Common.{◌≡◌, ℕ, ◌+◌, ◌≤◌, ◌==◌, true, false, List, [], ◌∷◌, cond, refl, sym, ap, ◌∙◌, subst}
 use Rattle.std.specs.Prelude.{Option, Some, None, is_some, option_map}
-use Rattle.fs_parcel.proofs.Installed.{empty_is}
 use Rattle.fs_ident.specs.declared.actor.Peer.TheVariants.{Client as OfSession}
 use Rattle.fs_ident.specs.declared.actor.Session.{Session}
 use Rattle.fs_ident.proofs.Booleans.{both}
@@ -11,7 +9,6 @@ use Rattle.fs_field.specs.declared.asked.Need.{Need}
 use Rattle.fs_field.specs.declared.asked.Need.TheVariants as need
 use Rattle.fs_model.specs.Asking.{may_ask}
 use Rattle.fs_model.specs.Sound.{is_change}
-use Rattle.fs_model.specs.Step.{is_empty}
 use Rattle.fs_model.specs.declared.op.Op.{Op}
 use Rattle.fs_model.specs.declared.reply.Reply.{Reply}
 use Rattle.fs_msg.specs.declared.act.Act.{Act}
@@ -23,9 +20,8 @@ use Rattle.fs_msg.specs.declared.item.Item.{Item}
 use Rattle.fs_record.specs.Effects.{tells_its_effects}
 use Rattle.fs_record.specs.Records.{nodes_of}
 use Rattle.fs_server.specs.Ships.{item_of}
-use Rattle.fs_client.specs.Acts.{act_on, answer_with, answers, ask_for, asks, entry_of, fresh_asked, full_one, hinted, items_of, need_file, needs_at, reads, replies, stays, with_id, worth}
+use Rattle.fs_client.specs.Acts.{act_on, answer_with, answers, ask_for, asks, entry_of, fresh_asked, full_one, hinted, items_of, need_file, needs_at, reads, replies, stays, unless_led, with_id, worth}
 use Rattle.fs_client.specs.Client.{changed}
-use Rattle.fs_client.specs.declared.change.Change.TheVariants as change
 use Rattle.fs_client.specs.declared.plan.Plan.{Plan}
 use Rattle.fs_client.specs.declared.state.Client.{Client}
 use Rattle.fs_view.specs.View.{given_by, known_by, missing_in, reply_in}
@@ -36,6 +32,7 @@ use Rattle.fs_serial.specs.Settled.{Settled, settled_now}
 use Rattle.fs_serial.specs.Sight.{Sight}
 use Rattle.fs_serial.specs.Steps.{IsReplied}
 use Rattle.fs_serial.specs.World.{is_called, message_in, pushed, told_by}
+use Rattle.fs_serial.proofs.Answering.{AnswerEnds, answer_ends, as_entry, as_led, as_move, as_read, not_told, put_off}
 use Rattle.fs_serial.proofs.ClientSteps.{IsMoved, with_journal}
 use Rattle.fs_serial.proofs.Facts.{items-other, reaps-still}
 use Rattle.fs_serial.proofs.PlainAsks.{asks_given, some_given}
@@ -164,11 +161,20 @@ module _ (skew greatest : ℕ) (s : Sight) (by : Session) (replied : List Item) 
         others = λ x q. items-other x s.journal i (ap (is_session x) is.session ∙ q);
       }
 
+  -- what is called for is plain
+  plainly : {X : Type 0} → tells_its_effects o ≡ false → X
+  plainly t = absurd (let z : true ≡ false = sym (called_plainly o called).0 ∙ t in cc)
+
+  by_end : (r : Reply) → reply_in c.view c.last o ≡ Some r → (p : Plan Act) → AnswerEnds o r c p → IsDone p
+  by_end r e p (as_entry t) = replying r e
+  by_end r e p (as_read t n empty) = reading r e n empty
+  by_end r e p (as_move t n empty) = plainly t
+  by_end r e p (as_led t l x empty moved k) = plainly t
+  by_end r e p (put_off what) = stayed (act.Busy what)
+  by_end r e p not_told = stayed (act.NoIds [])
+
   answering : (r : Reply) → reply_in c.view c.last o ≡ Some r → IsDone (answers o r c)
-  answering r e = elim (not (is_change r) && is_empty c.log) as (λ b. (not (is_change r) && is_empty c.log) ≡ b → IsDone (cond b (reads o r c) (replies o r c))) [
-    | true ↦ λ q. let p = both (not (is_change r)) (is_empty c.log) q in reading r e (not-true (is_change r) p.0) (empty_is c.log p.1)
-    | false ↦ λ q. replying r e
-  ] refl
+  answering r e = by_end r e (answers o r c) (answer_ends o r c)
 
   answered_with : (r : Option Reply) → reply_in c.view c.last o ≡ r → IsDone (answer_with r o c)
   answered_with (Some r) e = answering r e
@@ -176,7 +182,7 @@ module _ (skew greatest : ℕ) (s : Sight) (by : Session) (replied : List Item) 
 
   on : (over : Option ℕ) → IsDone (act_on over o c)
   on (Some n) = stayed (act.Over n)
-  on None = answered_with (reply_in c.view c.last o) refl
+  on None = subst (λ l. IsDone (unless_led l o c)) (sym h.client.unled) (answered_with (reply_in c.view c.last o) refl)
 
   pub act_moved : IsDone (act_on c.over o c)
   act_moved = on c.over

@@ -1,42 +1,44 @@
 -- What holds whatever the clocks show. Clocks matter for what is admitted at once: a session whose lease has lost its row may read
 -- what is no longer so. Nothing else rests on such an item, so that another one may stand in its place, which is right and makes no file.
-use Rattle.std.proofs.Common.{◌≡◌, ℕ, ◌+◌, ◌≤◌, not, ◌&&◌, max, true, false, List, [], ◌∷◌, ◌++◌, cond, refl, ap, sym, ◌∙◌, subst, arith}
-use Rattle.std.proofs.lemmas.Bool.{not-true}
+use Rattle.std.proofs.Common.{◌≡◌, ℕ, ◌≤◌, max, true, false, List, [], ◌∷◌, ◌++◌, cond, refl, ap, sym, ◌∙◌, subst, arith}
 use Rattle.std.specs.Prelude.{◌≢◌, Option, Some, None, is_some, option_map, slice_get}
 use Rattle.fs_ident.specs.declared.actor.Session.{Session}
 use Rattle.fs_ident.specs.declared.kind.Kind.{Kind}
-use Rattle.fs_ident.proofs.Booleans.{both}
 use Rattle.fs_ident.proofs.Standing.{In-got}
 use Rattle.fs_field.specs.declared.asked.Need.{Need}
 use Rattle.fs_field.specs.declared.asked.Need.TheVariants as need
-use Rattle.fs_model.specs.Sound.{is_change}
-use Rattle.fs_model.specs.Step.{is_empty}
 use Rattle.fs_model.specs.declared.op.Op.{Op}
+use Rattle.fs_model.specs.declared.op.Op.TheVariants as op
 use Rattle.fs_model.specs.declared.reply.Reply.{Reply}
+use Rattle.fs_msg.specs.declared.act.Act.{Act}
 use Rattle.fs_msg.specs.declared.act.Act.TheVariants as act
 use Rattle.fs_msg.specs.declared.act.Busy.TheVariants as busy
 use Rattle.fs_msg.specs.declared.answer.Answer.{Answer}
 use Rattle.fs_msg.specs.declared.client_note.ClientNote.TheVariants as client_note
 use Rattle.fs_msg.specs.declared.item.Item.{Item}
 use Rattle.fs_msg.specs.declared.server_note.ServerNote.TheVariants as server_note
+use Rattle.fs_record.specs.Effects.{tells_its_effects}
 use Rattle.fs_record.specs.Records.{nodes_of}
 use Rattle.fs_record.specs.declared.parcel.Parcel.{Parcel}
-use Rattle.fs_client.specs.Acts.{act_on, act_plan, answer_with, answers, ask_for, asks, full_one, hinted, need_file, reads, replies, stays, with_id, worth}
+use Rattle.fs_client.specs.Acts.{act_on, act_plan, answer_with, answers, ask_for, asks, full_one, hinted, need_file, stays, unless_led, with_id, worth}
 use Rattle.fs_client.specs.Answers.{answer_plan}
 use Rattle.fs_client.specs.Client.{begun}
 use Rattle.fs_client.specs.Turns.{turn_plan}
+use Rattle.fs_client.specs.declared.led.Led.{Led}
+use Rattle.fs_client.specs.declared.plan.Plan.{Plan}
 use Rattle.fs_client.specs.declared.state.Client.{Client}
 use Rattle.fs_server.specs.Step.{step}
 use Rattle.fs_server.specs.declared.event.ServerEvent.{ServerEvent}
 use Rattle.fs_server.specs.declared.event.ServerEvent.TheVariants.{FromClient, FromPeer, Turn, Recall, Move}
 use Rattle.fs_server.specs.declared.state.Server.{Server}
-use Rattle.fs_view.specs.View.{missing_in, reply_in}
+use Rattle.fs_view.specs.View.{View, missing_in, reply_in}
 use Rattle.fs_serial.specs.Cluster.{CanCome, ClientEvent, Cluster, Does, Hears, IsThere, Turns, after_client, after_server, after_server_at, first_cluster}
 use Rattle.fs_serial.specs.Fresh.{IsMade, made_by, made_in, or_else, root_kind}
 use Rattle.fs_serial.specs.Places.{IsHome, IsSent, PlacesHold}
 use Rattle.fs_serial.specs.Runs.{AtClient, AtServer, CanHappen, CanRun, ClusterEvent, Dated, IsOrderly, after_event, greatest_in, held_by, run}
 use Rattle.fs_serial.specs.Seen.{ClusterHolds}
 use Rattle.fs_serial.specs.World.{pushed, told_by, with_told}
+use Rattle.fs_serial.proofs.Answering.{AnswerEnds, answer_ends, as_entry, as_led, as_move, as_read, not_told, put_off}
 use Rattle.fs_serial.proofs.ClusterClients.{answer_fits, does_plainly, hear_event, plain_event, some_server, turn_event}
 use Rattle.fs_serial.proofs.ClusterRuns.{cluster_later}
 use Rattle.fs_serial.proofs.ClusterSteps.{server_keeps}
@@ -82,19 +84,33 @@ ask_none : (needs some : List Need) (c : Client) → MakesNone (ask_for needs so
 ask_none needs [] c = full_none needs c
 ask_none needs (n ∷ ns) c = elim (is_some c.exchange) as (λ b. MakesNone (cond b (stays (act.Busy busy.Exchange) c) (asks (hinted c (need_file n)) (n ∷ ns) c)).out.admitted) [ true ↦ tt | false ↦ tt ]
 
+-- nor does a delete or a rename
+unmade_move : (v : View) (now : ℕ) (o : Op) (r : Reply) (id : List ℕ) → tells_its_effects o ≡ false → made_by (with_id v now o r) r id ≡ None
+unmade_move v now (op.Create dir name kind new) r id h = absurd (cc)
+unmade_move v now o r id h = refl
+
+each_none : (o : Op) (r : Reply) (c : Client) (p : Plan Act) → AnswerEnds o r c p → MakesNone p.out.admitted
+each_none o r c p (as_entry t) = tt
+each_none o r c p (as_read t n e) = λ id. no_kind (made_by (with_id c.view c.last o r) r id) (unmade_read (with_id c.view c.last o r) r id n)
+each_none o r c p (as_move t n e) = λ id. unmade_move c.view c.last o r id t
+each_none o r c p (as_led t l x e moved k) = tt
+each_none o r c p (put_off what) = tt
+each_none o r c p not_told = tt
+
 answers_none : (o : Op) (r : Reply) (c : Client) → MakesNone (answers o r c).out.admitted
-answers_none o r c = elim (not (is_change r) && is_empty c.log) as (λ b. (not (is_change r) && is_empty c.log) ≡ b → MakesNone (cond b (reads o r c) (replies o r c)).out.admitted) [
-  | true ↦ λ q id. no_kind (made_by (with_id c.view c.last o r) r id) (unmade_read (with_id c.view c.last o r) r id (not-true (is_change r) (both (not (is_change r)) (is_empty c.log) q).0))
-  | false ↦ λ q. tt
-] refl
+answers_none o r c = each_none o r c (answers o r c) (answer_ends o r c)
 
 with_none : (r : Option Reply) (o : Op) (c : Client) → MakesNone (answer_with r o c).out.admitted
 with_none (Some r) o c = answers_none o r c
 with_none None o c = ask_none (missing_in c.view c.last o) (worth c.full (missing_in c.view c.last o)) c
 
+unless_none : (led : Option Led) (o : Op) (c : Client) → MakesNone (unless_led led o c).out.admitted
+unless_none (Some l) o c = tt
+unless_none None o c = with_none (reply_in c.view c.last o) o c
+
 on_none : (over : Option ℕ) (o : Op) (c : Client) → MakesNone (act_on over o c).out.admitted
 on_none (Some n) o c = tt
-on_none None o c = with_none (reply_in c.view c.last o) o c
+on_none None o c = unless_none c.led o c
 
 act_none : (c : Client) (now : ℕ) (o : Op) → MakesNone (act_plan c now o).out.admitted
 act_none c now o = on_none c.over o (begun now c)

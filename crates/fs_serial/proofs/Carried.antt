@@ -16,16 +16,17 @@ use Rattle.fs_field.specs.declared.row.Row.{Row}
 use Rattle.fs_field.specs.Table.{same_no}
 use Rattle.fs_moderows.proofs.Witnesses.{In_none}
 use Rattle.fs_msg.specs.declared.answer.Answer.{Answer}
-use Rattle.fs_msg.specs.declared.answer.Answer.TheVariants.{Granted, Renewed, Released, Shipped}
+use Rattle.fs_msg.specs.declared.answer.Answer.TheVariants.{Granted, Renewed, Released, Shipped, Led}
 use Rattle.fs_msg.specs.declared.answer.Grant.{Grant}
 use Rattle.fs_msg.specs.declared.client_msg.ClientMsg.{ClientMsg}
 use Rattle.fs_msg.specs.declared.end.End.{End}
 use Rattle.fs_msg.specs.declared.end.End.TheVariants as end
 use Rattle.fs_msg.specs.declared.entry.Entry.{Entry}
 use Rattle.fs_client.specs.Answers.{answer_fits, fresh_fits, front_fits, grants_fit, is_new, is_of_item, life_last, refusal_fits, is_entry_at}
+use Rattle.fs_client.specs.Led.{end_fits}
 use Rattle.fs_client.specs.Turns.{pair_of}
 use Rattle.fs_client.specs.declared.exchange.Exchange.{Exchange}
-use Rattle.fs_client.specs.declared.exchange.Exchange.TheVariants.{Asks, Renews, Releases, Ships}
+use Rattle.fs_client.specs.declared.exchange.Exchange.TheVariants.{Asks, Renews, Releases, Ships, Leads}
 use Rattle.fs_client.specs.declared.state.Client.{Client}
 use Rattle.fs_view.specs.declared.kept.Kept.{Kept}
 use Rattle.fs_view.specs.Kept.{number_of, has_number, is_leaving}
@@ -98,6 +99,7 @@ pub record WentBack (leases : List Kept) (wanted : List ℕ × LeaseNo) : Type 0
 -- it has no more leases, the same ones go back, and entries come behind its log
 pub record GoesOnAs (c d : Client) (more : List Entry) : Type 0 where
   pub exchange : d.exchange ≡ c.exchange
+  pub led : d.led ≡ c.led
   pub fewer : FewerNumbers c.view.leases d.view.leases
   pub log : d.log ≡ c.log ++ more
   pub went : (k : Kept) → In k d.view.leases → is_leaving k.standing ≡ true → WentBack c.view.leases (pair_of k)
@@ -115,6 +117,7 @@ fits_still c d more from (Ships to sent) (Shipped count e) g h =
     let p = both (to == from) (nat_le count sent && refusal_fits e count (take sent c.log)) h in
     let q = both (nat_le count sent) (refusal_fits e count (take sent c.log)) p.1 in
     joined _ _ p.0 (joined _ _ q.0 (ap (λ log. refusal_fits e count (take sent log)) g.log ∙ refusal_still e count sent c.log more q.1))
+fits_still c d more from (Leads to) (Led e) g h = ap (λ o. (to == from) && end_fits o e) g.led ∙ h
 fits_still c d more from x a g h = absurd (cc)
 
 one_still : (c d : Client) (more : List Entry) (x : Option Exchange) (up : List ClientMsg) (down : List Answer) → GoesOnAs c d more → OneExchange c x up down → OneExchange d x up down
@@ -128,6 +131,7 @@ ships_still (Some (Asks to items fresh)) log more h = tt
 ships_still (Some (Renews to numbers)) log more h = tt
 ships_still (Some (Releases to numbers)) log more h = tt
 ships_still (Some (Ships to count)) log more h = let q = length-append log more in omega arith
+ships_still (Some (Leads to)) log more h = tt
 
 released_still : (x : Option Exchange) (c d : Client) (more : List Entry) → GoesOnAs c d more → ReleasesReturned x c.view.leases → ReleasesReturned x d.view.leases
 released_still None c d more g h = tt
@@ -135,6 +139,7 @@ released_still (Some (Asks to items fresh)) c d more g h = tt
 released_still (Some (Renews to numbers)) c d more g h = tt
 released_still (Some (Releases to numbers)) c d more g h = λ n i. let q : IsReturned c.view.leases n = h n i in let p = g.goes q.kept q.among q.leaving in record { kept = p.kept; among = p.among; number = p.number ∙ q.number; leaving = p.leaving }
 released_still (Some (Ships to count)) c d more g h = tt
+released_still (Some (Leads to)) c d more g h = tt
 
 -- no lease has a number that none had
 abbrev pub FewerLeases : List Lease → List Lease → Type 0

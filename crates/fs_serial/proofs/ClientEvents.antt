@@ -1,7 +1,8 @@
 -- The clients' events keep all that holds.
-use Rattle.std.proofs.Common.{◌≡◌, ℕ, ◌+◌, ◌≤◌, not, ◌&&◌, ◌/◌, true, false, List, [], ◌∷◌, cond, refl, sym, ap, ◌∙◌, subst, arith}
+use Rattle.std.proofs.Common.{◌≡◌, ℕ, ◌+◌, ◌≤◌, ◌==◌, not, ◌&&◌, ◌/◌, true, false, List, [], ◌∷◌, cond, refl, sym, ap, ◌∙◌, subst, arith}
 use Rattle.std.specs.Prelude.{◌≢◌, Option, Some, None, is_some}
 use Rattle.fs_ident.specs.declared.actor.Session.{Session}
+use Rattle.fs_ident.proofs.Booleans.{second}
 use Rattle.fs_model.specs.Sound.{is_change}
 use Rattle.fs_model.specs.Step.{is_empty}
 use Rattle.fs_model.specs.declared.op.Op.{Op}
@@ -15,9 +16,15 @@ use Rattle.fs_msg.specs.declared.entry.Entry.{Entry}
 use Rattle.fs_msg.specs.declared.item.Item.{Item}
 use Rattle.fs_record.specs.Records.{nodes_of}
 use Rattle.fs_client.specs.Acts.{act_on, act_plan}
-use Rattle.fs_client.specs.Answers.{answer_plan, fits, hear, strange, told}
+use Rattle.fs_record.specs.declared.led_end.LedEnd.{LedEnd}
+use Rattle.fs_record.specs.declared.led_end.LedEnd.TheVariants as end
+use Rattle.fs_client.specs.Answers.{answer_plan, ended_plan, fits, hear, led_plan, strange, told}
 use Rattle.fs_client.specs.Client.{begun, changed, committed, with_hints}
 use Rattle.fs_client.specs.Turns.{ending, idle, release_some, renew_some, returned, ship_some, turn_free, turn_on}
+use Rattle.fs_client.specs.Led.{end_fits}
+use Rattle.fs_client.specs.declared.exchange.Exchange.{Exchange}
+use Rattle.fs_client.specs.declared.exchange.Exchange.TheVariants.{Leads}
+use Rattle.fs_client.specs.declared.led.Led.{Led as TheLed}
 use Rattle.fs_client.specs.declared.plan.Plan.{Plan}
 use Rattle.fs_client.specs.declared.state.Client.{Client}
 use Rattle.fs_view.specs.View.{reply_in}
@@ -34,7 +41,6 @@ use Rattle.fs_serial.proofs.Lapse.{lapse_fewer}
 use Rattle.fs_serial.proofs.Read.{IsReadOf, plain_is_read, plain_read}
 use Rattle.fs_serial.proofs.Seats.{Seat, seen_at}
 use Rattle.fs_serial.proofs.TurnMoves.{turn_moved}
-use Rattle.fs_serial.proofs.Unled.{none_told}
 
 -- ## A plan of a client that has begun
 
@@ -92,22 +98,46 @@ quiet_planned skew greatest s by replied c up down rest p q m =
       others = λ x o. ap (λ a. items_by x (pushed a s.journal)) q.admits;
     }
 
+ended_quiet : (by : Session) (c : Client) (l : TheLed) (e : LedEnd) → IsQuiet by c (ended_plan l e c)
+ended_quiet by c l (end.Done r) = record { now = refl; admits = refl; tells = refl }
+ended_quiet by c l (end.Ended lease until now) = record { now = refl; admits = refl; tells = refl }
+ended_quiet by c l (end.Again why) = record { now = refl; admits = refl; tells = refl }
+
+led_quiet : (by : Session) (c : Client) (led : Option TheLed) (e : LedEnd) → IsQuiet by c (led_plan led e c)
+led_quiet by c None e = record { now = refl; admits = refl; tells = refl }
+led_quiet by c (Some l) e = ended_quiet by c l e
+
 told_quiet : (by : Session) (c : Client) (a : Answer) → IsQuiet by c (told a c)
 told_quiet by c (Granted gs fresh e) = record { now = refl; admits = refl; tells = refl }
 told_quiet by c (Renewed ends e) = record { now = refl; admits = refl; tells = refl }
 told_quiet by c (Released count e) = record { now = refl; admits = refl; tells = refl }
 told_quiet by c (Shipped count e) = record { now = refl; admits = refl; tells = refl }
-told_quiet by c (Led e) = record { now = refl; admits = refl; tells = refl }
+told_quiet by c (Led e) = led_quiet by c c.led e
 told_quiet by c (Recall n) = record { now = refl; admits = refl; tells = refl }
+
+-- the end of what is led fits only where something is
+led_end_fits : (from : ℕ) (x : Option Exchange) (e : LedEnd) (c : Client) → fits from x (Led e) c ≡ true → end_fits c.led e ≡ true
+led_end_fits from None e c h = absurd (cc)
+led_end_fits from (Some (Leads to)) e c h = second (to == from) (end_fits c.led e) h
+led_end_fits from (Some x) e c h = absurd (cc)
+
+ended_known : (c : Client) (l : TheLed) (e : LedEnd) → (ended_plan l e c).out.note ≢ note.Strange
+ended_known c l (end.Done r) = λ h. cc
+ended_known c l (end.Ended lease until now) = λ h. cc
+ended_known c l (end.Again why) = λ h. cc
+
+led_known : (c : Client) (led : Option TheLed) (e : LedEnd) → end_fits led e ≡ true → (led_plan led e c).out.note ≢ note.Strange
+led_known c None e fit = absurd (cc)
+led_known c (Some l) e fit = ended_known c l e
 
 -- what is told is noted
 told_known : (c : Client) (from : ℕ) (a : Answer) → fits from c.exchange a c ≡ true → (told a c).out.note ≢ note.Strange
-told_known c from (Granted gs fresh e) fit h = cc
-told_known c from (Renewed ends e) fit h = cc
-told_known c from (Released count e) fit h = cc
-told_known c from (Shipped count e) fit h = cc
-told_known c from (Led e) fit h = none_told from c.exchange e c fit
-told_known c from (Recall n) fit h = cc
+told_known c from (Granted gs fresh e) fit = λ h. cc
+told_known c from (Renewed ends e) fit = λ h. cc
+told_known c from (Released count e) fit = λ h. cc
+told_known c from (Shipped count e) fit = λ h. cc
+told_known c from (Led e) fit = led_known c c.led e (led_end_fits from c.exchange e c fit)
+told_known c from (Recall n) fit = λ h. cc
 
 pub hear_quiet : (by : Session) (c : Client) (from : ℕ) (a : Answer) → IsQuiet by c (hear from a c)
 hear_quiet by c from a = elim (fits from c.exchange a c) as (λ b. IsQuiet by c (cond b (told a c) (strange c))) [

@@ -100,6 +100,7 @@ hinted_moved skew greatest s t by replied c d up down rest told (Some hints) m =
     let n : Client = with_hints (Some hints) d in
     let same : GoesOnAs d n [] = record {
       exchange = refl;
+      led = refl;
       fewer = λ k i. record { kept = k; among = i; number = refl };
       log = sym (append-nil d.log);
       went = λ k i z. record { kept = k; among = i; pair = refl; leaving = z };
@@ -109,7 +110,7 @@ hinted_moved skew greatest s t by replied c d up down rest told (Some hints) m =
       seat = record {
         holds = h.holds;
         fits = h.fits;
-        client = record { session = h.client.session; viewed = h.client.viewed; pending = h.client.pending; distinct = h.client.distinct; pinned = h.client.pinned; held = h.client.held };
+        client = record { session = h.client.session; viewed = h.client.viewed; pending = h.client.pending; distinct = h.client.distinct; pinned = h.client.pinned; held = h.client.held; unled = h.client.unled };
         exchange = exchange_still skew greatest t.given t.rows by d n [] up rest (settled_now d) (settled_now n) (seen_at by d rest) (seen_at by n rest) same
             (λ l i. record { lease = l; held = i; number = refl }) (λ l i. record { lease = l; held = i; number = refl }) (sym (append-nil (seen_at by d rest).log)) refl h.exchange;
       };

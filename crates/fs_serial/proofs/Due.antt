@@ -6,23 +6,27 @@ use Rattle.fs_ident.specs.In.{In}
 use Rattle.fs_ident.specs.declared.actor.Peer.{Peer}
 use Rattle.fs_ident.specs.declared.actor.Peer.TheVariants.{Client as OfSession, Server as OfServer}
 use Rattle.fs_ident.specs.declared.actor.Session.{Session}
+use Rattle.fs_field.specs.declared.used.Use.{Use}
 use Rattle.fs_msg.specs.declared.answer.Answer.{Answer}
 use Rattle.fs_msg.specs.declared.answer.Answer.TheVariants.{Granted, Shipped}
 use Rattle.fs_msg.specs.declared.client_msg.ClientMsg.{ClientMsg}
 use Rattle.fs_msg.specs.declared.client_msg.ClientMsg.TheVariants.{Ask, Renew, Release, Ship, Lead}
 use Rattle.fs_msg.specs.declared.entry.Entry.{Entry}
 use Rattle.fs_msg.specs.declared.msg.Msg.{Msg}
+use Rattle.fs_msg.specs.declared.lead.Lead.{Lead as ToLead}
 use Rattle.fs_msg.specs.declared.peer_msg.PeerMsg.{PeerMsg}
 use Rattle.fs_msg.specs.declared.peer_msg.PeerMsg.TheVariants as peer
 use Rattle.fs_parcel.specs.Parcel.{move_refusal}
 use Rattle.fs_parcel.specs.declared.error.MoveError.{MoveError}
 use Rattle.fs_record.specs.Effects.{tells_its_effects}
+use Rattle.fs_record.specs.declared.led_end.Why.{Why}
 use Rattle.fs_record.specs.declared.parcel.Parcel.{Parcel}
 use Rattle.fs_server.specs.Asks.{asked_in, recalls_at}
+use Rattle.fs_server.specs.Leads.{decided_by, is_led, lead_refusal, leads_unless, parts_in, uses_of}
 use Rattle.fs_server.specs.Moves.{fits_here, move_at, parcel_at, peer_step}
 use Rattle.fs_server.specs.Reaps.{lapsed_in, reap_from, recalls_for, turn_over}
 use Rattle.fs_server.specs.Server.{strange, to_session}
-use Rattle.fs_server.specs.Ships.{ship_from, shipped}
+use Rattle.fs_server.specs.Ships.{first_gone, ship_from, shipped}
 use Rattle.fs_server.specs.Step.{event_step, recalled_on, recalls_of}
 use Rattle.fs_server.specs.declared.event.ServerEvent.{ServerEvent}
 use Rattle.fs_server.specs.declared.event.ServerEvent.TheVariants as event
@@ -48,12 +52,24 @@ module _ (k : ℕ) (asked : Session → Option ℕ) where
   ship_due by entries s true due = let x = ship_from by entries s [] in one_due by (Shipped (length x.admitted) x.end) [] due (λ m i. absurd i)
   ship_due by entries s false due = none_due
 
+  decided_due : (by : Session) (m : ToLead) (s : Server) (o : Option Use) → asked by ≡ Some k → AreDue k (decided_by o by m s).out.send asked
+  decided_due by m s None due = λ to b i d. one_due by _ [] due (λ m j. absurd j) to b i d
+  decided_due by m s (Some u) due = λ to b i d. one_due by _ [] due (λ m j. absurd j) to b i d
+
+  leads_due : (by : Session) (m : ToLead) (s : Server) (o : Option Why) → asked by ≡ Some k → AreDue k (leads_unless o by m s).out.send asked
+  leads_due by m s None due = decided_due by m s (first_gone s.rows by (uses_of (parts_in m))) due
+  leads_due by m s (Some w) due = λ to b i d. one_due by _ [] due (λ m j. absurd j) to b i d
+
+  lead_due : (by : Session) (m : ToLead) (s : Server) (b : Bool) → asked by ≡ Some k → AreDue k (cond b (leads_unless (lead_refusal s m) by m s) (strange s)).out.send asked
+  lead_due by m s true due = leads_due by m s (lead_refusal s m) due
+  lead_due by m s false due = none_due
+
   message_due : (by : Session) (m : ClientMsg) (s : Server) → asked by ≡ Some k → AreDue k (event_step (event.FromClient by m) s).out.send asked
   message_due by (Ask items dir) s due = let a = asked_in by items dir s in one_due by (Granted a.grants a.fresh a.end) (recalls_at a.end a.server.rows) due (recall_with a.end a.server.rows)
   message_due by (Renew pairs) s due = λ to b i d. one_due by _ [] due (λ m j. absurd j) to b i d
   message_due by (Release pairs) s due = λ to b i d. one_due by _ [] due (λ m j. absurd j) to b i d
   message_due by (Ship entries) s due = ship_due by entries s (list_all (λ (e : Entry). tells_its_effects e.op) entries) due
-  message_due by (Lead m) s due = none_due
+  message_due by (Lead m) s due = lead_due by m s (is_led m.op) due
 
   turn_due : (xs : List (List ℕ × Session)) (s : Server) → AreDue k (turn_over xs s).out.send asked
   turn_due [] s = none_due

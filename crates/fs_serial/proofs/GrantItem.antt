@@ -1,7 +1,6 @@
 -- A session is given a lease that it asked for.
 use Rattle.std.proofs.Common.{◌≡◌, ℕ, ◌≤◌, Bool, List, [], ◌∷◌, refl, sym, ap, subst, inl, inr, arith}
 use Rattle.std.specs.Prelude.{Option, None}
-use Rattle.fs_ident.specs.In.{In}
 use Rattle.fs_ident.specs.declared.actor.Session.{Session}
 use Rattle.fs_ident.proofs.Standing.{In-put_here}
 use Rattle.fs_field.specs.declared.asked.Asked.TheVariants.{Granted}

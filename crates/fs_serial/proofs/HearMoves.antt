@@ -59,7 +59,7 @@ module _ (skew greatest : ℕ) (s : Sight) (by : Session) (replied : List Item) 
   told_moved (Shipped count e) h = record { seat = seat_shipped skew greatest s by replied c up count e rest h; reserves = same_reserves _ (seen_at by c (Shipped count e ∷ rest)) (shipped_seen skew greatest s by replied c up count e rest h) }
   told_moved (Led e) h =
       let w : IsHeard c up (Led e) rest = heard c c.exchange up (Led e) rest refl refl h.exchange.one in
-      absurd (none_fits (server_of_question w.exchange) w.exchange e c w.fits)
+      absurd (none_fits (server_of_question w.exchange) w.exchange e c h.client.unled w.fits)
   told_moved (Recall n) h = record { seat = seat_recalled skew greatest s by replied c up n rest h; reserves = same_reserves _ (seen_at by c (Recall n ∷ rest)) (recalled_seen skew greatest s by replied c up n rest h) }
 
   -- the first answer on its way fits

@@ -28,7 +28,7 @@ use Rattle.fs_client.specs.Client.{with_granted}
 use Rattle.fs_view.specs.View.{kept_new, with_grants}
 use Rattle.fs_client.specs.Turns.{pair_of}
 use Rattle.fs_client.specs.declared.exchange.Exchange.{Exchange}
-use Rattle.fs_client.specs.declared.exchange.Exchange.TheVariants.{Asks, Renews, Releases, Ships}
+use Rattle.fs_client.specs.declared.exchange.Exchange.TheVariants.{Asks, Renews, Releases, Ships, Leads}
 use Rattle.fs_view.specs.declared.new_lease.NewLease.{NewLease}
 use Rattle.fs_client.specs.declared.state.Client.{Client}
 use Rattle.fs_view.specs.declared.kept.Kept.{Kept}
@@ -82,6 +82,7 @@ all_new c from (Asks to items asked) gs fresh e h =
 all_new c from (Renews to numbers) gs fresh e h = absurd (cc)
 all_new c from (Releases to numbers) gs fresh e h = absurd (cc)
 all_new c from (Ships to count) gs fresh e h = absurd (cc)
+all_new c from (Leads to) gs fresh e h = absurd (cc)
 
 -- ## The leases then
 
@@ -179,6 +180,7 @@ module _ (by : Session) (c : Client) (gs : List Grant) (fresh : Option (List ℕ
       | inr a ↦ ap (λ (k : Kept). entries_of k.standing) a.is ∙ sym (none_uses a.grant a.among) ∙ ap (λ n. times_in n c.log) (ap (λ (k : Kept). number_of k.standing) (sym a.is))
     ];
     held = held;
+    unled = f.unled;
   }
 
 -- all that holds of its session

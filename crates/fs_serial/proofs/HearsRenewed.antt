@@ -15,7 +15,6 @@ use Rattle.fs_field.specs.declared.value.Value.{Value}
 use Rattle.fs_field.specs.Field.{file_of}
 use Rattle.fs_field.specs.Table.{same_no}
 use Rattle.fs_field.proofs.SameNo.{same_no_is}
-use Rattle.fs_lease.specs.Lease.{Lease as Term}
 use Rattle.fs_msg.specs.declared.answer.Answer.{Answer}
 use Rattle.fs_msg.specs.declared.answer.Answer.TheVariants.{Renewed}
 use Rattle.fs_msg.specs.declared.client_msg.ClientMsg.{ClientMsg}
@@ -149,6 +148,7 @@ module _ (skew greatest : ℕ) (s : Sight) (by : Session) (replied : List Item) 
           distinct = distinct_mapped (one_end n until) number v.leases h.client.distinct;
           pinned = each_image (one_end n until) (λ k. entries_of k.standing ≡ times_in (number_of k.standing) c.log) v.leases (λ k i. one_keeps entries_of (renewed until) (end_entries until) n k ∙ h.client.pinned k i ∙ ap (λ m. times_in m c.log) (sym (number k)));
           held = subst (λ ls. UsesHeld ls c.log) same (held skew greatest s by replied n until d by_lease h.client.held);
+          unled = h.client.unled;
         };
         returns = each_image (one_end n until) (λ k. is_leaving k.standing ≡ true → ReturnFits s.given s.rows by (filter_map lease_in (map (one_end n until) v.leases)) (pair_of k)) v.leases (λ k i t.
             let q : ReturnFits s.given s.rows by (filter_map lease_in v.leases) (pair_of k) = h.returns k i (sym (one_keeps is_leaving (renewed until) (end_leaving until) n k) ∙ t) in
@@ -196,6 +196,7 @@ module _ (skew greatest : ℕ) (s : Sight) (by : Session) (replied : List Item) 
           distinct = λ k l i j. h.client.distinct k l (was k i) (was l j);
           pinned = λ k i. h.client.pinned k (was k i);
           held = λ x i u j. let q : HasLease d.leases u = h.client.held x i u j in record { lease = q.lease; held = g.still q.lease q.held (record { entry = x; logged = i; used = u; among = j; number = sym q.number }); number = q.number; field = q.field; kind = q.kind };
+          unled = h.client.unled;
         };
         returns = λ k i l. let q = h.returns k (was k i) l in record { fits = q.fits; alone = λ m j. q.alone m (g.fewer m j); own = q.own };
         fewer = λ l i. h.fewer l (g.fewer l i);
@@ -240,7 +241,7 @@ seat_renewed skew greatest s by replied c up ends e rest h =
     record {
       holds = subst (SessionHolds skew greatest s by replied) (sym now) q.holds;
       fits = subst (SessionFits skew greatest s by) (sym now) q.fits;
-      client = record { session = q.client.session; viewed = q.client.viewed; pending = q.client.pending; distinct = q.client.distinct; pinned = q.client.pinned; held = q.client.held };
+      client = record { session = q.client.session; viewed = q.client.viewed; pending = q.client.pending; distinct = q.client.distinct; pinned = q.client.pinned; held = q.client.held; unled = q.client.unled };
       exchange = subst (λ up. ExchangeFits skew greatest s.given s.rows by then_ up rest (settled_now then_) (seen_at by then_ rest)) (sym w.asked)
           (quiet_exchange skew greatest s.given s.rows by then_ rest (settled_now then_) (seen_at by then_ rest) refl w.quiet (subst (λ (d : Settled). ReturnsFit s.given s.rows by then_.view.leases d.leases) (sym now) q.returns));
     }

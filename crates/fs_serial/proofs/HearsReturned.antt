@@ -16,7 +16,7 @@ use Rattle.fs_client.specs.Answers.{numbers_sent}
 use Rattle.fs_client.specs.Client.{released_all, released_one, with_released, with_recalled}
 use Rattle.fs_client.specs.Turns.{pair_of}
 use Rattle.fs_client.specs.declared.exchange.Exchange.{Exchange}
-use Rattle.fs_client.specs.declared.exchange.Exchange.TheVariants.{Asks, Renews, Releases, Ships}
+use Rattle.fs_client.specs.declared.exchange.Exchange.TheVariants.{Asks, Renews, Releases, Ships, Leads}
 use Rattle.fs_client.specs.declared.state.Client.{Client}
 use Rattle.fs_view.specs.declared.kept.Kept.{Kept}
 use Rattle.fs_view.specs.declared.kept.Standing.{Standing}
@@ -73,6 +73,7 @@ module _ (skew greatest : ℕ) (s : Sight) (by : Session) (replied : List Item) 
   goes_on : GoesOnAs c recalled []
   goes_on = record {
     exchange = refl;
+    led = refl;
     fewer = λ k i. let q = In-map (one_recall n) k c.view.leases i in record { kept = q.0; among = q.1.0; number = sym (number q.0) ∙ ap (λ (k : Kept). number_of k.standing) (sym q.1.1) };
     log = sym (append-nil c.log);
     went = λ k i t.
@@ -92,6 +93,7 @@ module _ (skew greatest : ℕ) (s : Sight) (by : Session) (replied : List Item) 
       distinct = distinct_mapped (one_recall n) number c.view.leases h.client.distinct;
       pinned = each_image (one_recall n) (λ k. entries_of k.standing ≡ times_in (number_of k.standing) c.log) c.view.leases (λ k i. ap entries_of (recall_standing n k) ∙ h.client.pinned k i ∙ ap (λ m. times_in m c.log) (sym (number k)));
       held = subst (λ (d : Settled). UsesHeld d.leases c.log) (sym now) h.client.held;
+      unled = h.client.unled;
     };
     exchange = exchange_still skew greatest s.given s.rows by c recalled [] up rest (settled_now c) (settled_now recalled) (seen_at by c (Recall n ∷ rest)) (seen_at by recalled rest) goes_on
         (λ l i. record { lease = l; held = subst (λ (d : Settled). In l d.leases) now i; number = refl })
@@ -144,6 +146,7 @@ sent_returned (Some (Asks to items fresh)) ks h n i = absurd i
 sent_returned (Some (Renews to numbers)) ks h n i = absurd i
 sent_returned (Some (Releases to numbers)) ks h n i = h n i
 sent_returned (Some (Ships to count)) ks h n i = absurd i
+sent_returned (Some (Leads to)) ks h n i = absurd i
 
 in_front : {X : Type 0} (k : ℕ) (x : X) (xs : List X) → In x (take k xs) → In x xs
 in_front zero x xs i = absurd i
@@ -173,6 +176,7 @@ seat_released skew greatest s by replied c up count e rest h =
         distinct = λ k l i j. h.client.distinct k l (q.was k i) (q.was l j);
         pinned = λ k i. h.client.pinned k (q.was k i);
         held = subst (λ (d : Settled). UsesHeld d.leases c.log) (sym now) h.client.held;
+        unled = h.client.unled;
       };
       exchange = subst (λ up. ExchangeFits skew greatest s.given s.rows by then_ up rest (settled_now then_) (seen_at by then_ rest)) (sym w.asked) (quiet_exchange skew greatest s.given s.rows by then_ rest (settled_now then_) (seen_at by then_ rest) refl w.quiet returns);
     }

@@ -191,6 +191,7 @@ module _ (by : Session) (c : Client) (x : Entry) (es : List Entry) (first : c.lo
     held = λ y i u j.
         let q : HasLease (settled_now c).leases u = f.held y (subst (In y) (sym first) (inr i)) u j in
         record { lease = lease_after by eff q.lease; held = subst (λ (d : Settled). In (lease_after by eff q.lease) d.leases) (sym one_settled) (In-mapped (lease_after by eff) q.lease (settled_now c).leases q.held); number = q.number; field = q.field; kind = q.kind };
+    unled = f.unled;
   }
 
 -- ## Several
@@ -230,7 +231,7 @@ seat_shipped skew greatest s by replied c up count e rest h =
     record {
       holds = subst (SessionHolds skew greatest s by replied) seen h.holds;
       fits = subst (SessionFits skew greatest s by) seen h.fits;
-      client = record { session = q.client.session; viewed = q.client.viewed; pending = q.client.pending; distinct = q.client.distinct; pinned = q.client.pinned; held = q.client.held };
+      client = record { session = q.client.session; viewed = q.client.viewed; pending = q.client.pending; distinct = q.client.distinct; pinned = q.client.pinned; held = q.client.held; unled = q.client.unled };
       exchange = subst (λ up. ExchangeFits skew greatest s.given s.rows by then_ up rest (settled_now then_) (seen_at by then_ rest)) (sym w.asked) (quiet_exchange skew greatest s.given s.rows by then_ rest (settled_now then_) (seen_at by then_ rest) refl w.quiet returns);
     }
 

@@ -118,11 +118,13 @@ module _ (by : Session) (c : Client) (now : ℕ) (f : ClientFits by c) where
     distinct = λ k l i j. f.distinct k l (was k i) (was l j);
     pinned = λ k i. f.pinned k (was k i);
     held = λ e i u j. let q : HasLease (settled_now c).leases u = f.held e i u j in record { lease = q.lease; held = fewer.still q.lease q.held (record { entry = e; logged = i; used = u; among = j; number = sym q.number }); number = q.number; field = q.field; kind = q.kind };
+    unled = f.unled;
   }
 
   pub lapse_goes_on : GoesOnAs c then []
   lapse_goes_on = record {
     exchange = refl;
+    led = refl;
     fewer = λ k i. record { kept = k; among = was k i; number = refl };
     log = sym (append-nil c.log);
     went = λ k i t. record { kept = k; among = was k i; pair = refl; leaving = t };

@@ -4,21 +4,18 @@ use Rattle.std.specs.Prelude.{Option, nat_le}
 use Rattle.std.specs.FinMap.{empty, get, get-empty}
 use Rattle.std.specs.List.{filter, list_all, list_any}
 use Rattle.std.specs.Cmp.{nat_eq_equiv}
-use Rattle.std.specs.Cmp.Lexicographic.{same_text, slice_cmp}
+use Rattle.std.specs.Cmp.Lexicographic.{slice_cmp}
 use Rattle.std.specs.Ordering.{nat_cmp}
 use Rattle.std.proofs.lemmas.Bool.Decides.{nat_tests}
 use Rattle.std.proofs.lemmas.Bool.{or_from}
-use Rattle.fs_ident.specs.Ident.{same}
 use Rattle.fs_ident.specs.In.{In}
 use Rattle.fs_ident.specs.declared.actor.Session.{Session}
-use Rattle.fs_ident.proofs.Booleans.{first, joined}
+use Rattle.fs_ident.proofs.Booleans.{joined}
 use Rattle.fs_ident.proofs.Passing.{In-all}
 use Rattle.fs_ident.proofs.Standing.{In-filter}
-use Rattle.fs_field.specs.Conflict.{Selves, conflicts, has_fixed, is_self, mode_conflict, plain_conflict}
-use Rattle.fs_field.specs.Field.{file_of, same_mode}
+use Rattle.fs_field.specs.Conflict.{Selves, conflicts, has_fixed, mode_conflict, plain_conflict}
+use Rattle.fs_field.specs.Field.{file_of}
 use Rattle.fs_field.specs.Table.{with_row}
-use Rattle.fs_field.specs.declared.field.Field.{Field}
-use Rattle.fs_field.specs.declared.field.Field.TheVariants.{SelfW}
 use Rattle.fs_field.specs.declared.row.Row.{Row}
 use Rattle.fs_field.proofs.Conflicts.{self_file}
 use Rattle.fs_map.specs.Lists.{owns_given}

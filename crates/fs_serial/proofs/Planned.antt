@@ -5,26 +5,29 @@ use Rattle.fs_ident.specs.In.{In}
 use Rattle.fs_field.specs.declared.asked.Need.{Need}
 use Rattle.fs_field.specs.declared.asked.Need.TheVariants as need
 use Rattle.fs_map.specs.Map.{Owners}
-use Rattle.fs_model.specs.Sound.{is_change}
 use Rattle.fs_model.specs.Step.{is_empty}
 use Rattle.fs_model.specs.declared.op.Op.{Op}
 use Rattle.fs_model.specs.declared.reply.Reply.{Reply}
 use Rattle.fs_msg.specs.declared.answer.Answer.{Answer}
 use Rattle.fs_msg.specs.declared.answer.Answer.TheVariants.{Granted, Renewed, Released, Shipped, Recall, Led}
+use Rattle.fs_msg.specs.declared.act.Act.{Act}
 use Rattle.fs_msg.specs.declared.act.Act.TheVariants as act
 use Rattle.fs_msg.specs.declared.act.Busy.TheVariants as busy
 use Rattle.fs_msg.specs.declared.client_msg.ClientMsg.{ClientMsg}
 use Rattle.fs_msg.specs.declared.entry.Entry.{Entry}
 use Rattle.fs_view.specs.declared.kept.Kept.{Kept}
 use Rattle.fs_view.specs.View.{missing_in, reply_in}
-use Rattle.fs_client.specs.Acts.{act_on, answer_with, answers, ask_for, asks, full_one, hinted, need_file, reads, replies, stays, worth}
-use Rattle.fs_client.specs.Answers.{fits, hear, strange, told}
+use Rattle.fs_record.specs.declared.led_end.LedEnd.{LedEnd}
+use Rattle.fs_record.specs.declared.led_end.LedEnd.TheVariants as end
+use Rattle.fs_client.specs.Acts.{act_on, answer_with, answers, ask_for, asks, full_one, hinted, need_file, stays, unless_led, worth}
+use Rattle.fs_client.specs.Answers.{ended_plan, fits, hear, led_plan, strange, told}
 use Rattle.fs_client.specs.Client.{begun, changed, committed, with_hints}
 use Rattle.fs_client.specs.Turns.{ending, idle, release_some, renew_some, returned, ship_some, turn_free, turn_on}
 use Rattle.fs_client.specs.declared.change.Change.{Change}
 use Rattle.fs_client.specs.declared.change.Change.TheVariants as change
 use Rattle.fs_client.specs.declared.exchange.Exchange.{Exchange}
-use Rattle.fs_client.specs.declared.exchange.Exchange.TheVariants.{Releases}
+use Rattle.fs_client.specs.declared.exchange.Exchange.TheVariants.{Leads, Releases}
+use Rattle.fs_client.specs.declared.led.Led.{Led as TheLed}
 use Rattle.fs_client.specs.declared.plan.Plan.{Plan}
 use Rattle.fs_client.specs.declared.plan.Ready.{Ready}
 use Rattle.fs_client.specs.declared.state.Client.{Client}
@@ -33,6 +36,7 @@ use Rattle.fs_serial.specs.Exchange.{OneExchange, server_of_question}
 use Rattle.fs_serial.specs.Seen.{IsAddressed}
 use Rattle.fs_serial.specs.World.{pushed}
 use Rattle.fs_serial.proofs.Addressing.{addressed_still, none_asked, one_asked}
+use Rattle.fs_serial.proofs.Answering.{AnswerEnds, answer_ends, as_entry, as_led, as_move, as_read, not_told, put_off}
 use Rattle.fs_serial.proofs.Traffic.{messages}
 
 -- ## The exchange after a change
@@ -47,6 +51,9 @@ exchange_after (change.Grant leases full) x = None
 exchange_after (change.Renew ends) x = None
 exchange_after (change.Release numbers) x = None
 exchange_after (change.Admit count over) x = None
+exchange_after (change.Lead to led) x = Some (Leads to)
+exchange_after (change.LedDone effects) x = None
+exchange_after change.LedFreed x = None
 exchange_after (change.Recall number) x = x
 
 changed_exchange : (ch : Change) (c : Client) → (changed ch c).exchange ≡ exchange_after ch c.exchange
@@ -59,6 +66,9 @@ changed_exchange (change.Grant leases full) c = refl
 changed_exchange (change.Renew ends) c = refl
 changed_exchange (change.Release numbers) c = refl
 changed_exchange (change.Admit count over) c = refl
+changed_exchange (change.Lead to led) c = refl
+changed_exchange (change.LedDone effects) c = refl
+changed_exchange change.LedFreed c = refl
 changed_exchange (change.Recall number) c = refl
 
 hints_exchange : (o : Option Owners) (c : Client) → (with_hints o c).exchange ≡ c.exchange
@@ -74,6 +84,7 @@ committed_exchange r c = hints_exchange r.hints (changed r.change (begun r.now c
 abbrev pub GoesWith : Change → Option (ℕ × ClientMsg) → Type 0
 GoesWith (change.Ask x) sent = (m : ClientMsg) × (sent ≡ Some (server_of_question x, m))
 GoesWith (change.Leave to numbers) sent = (m : ClientMsg) × (sent ≡ Some (to, m))
+GoesWith (change.Lead to led) sent = (m : ClientMsg) × (sent ≡ Some (to, m))
 GoesWith ch sent = sent ≡ None
 
 abbrev pub IsPosted : {N : Type 0} → Plan N → Type 0
@@ -91,16 +102,28 @@ ask_posted needs (n ∷ ns) c = elim (is_some c.exchange) as (λ b. IsPosted (co
   | false ↦ (_, refl)
 ]
 
+each_posted : (o : Op) (r : Reply) (c : Client) (p : Plan Act) → AnswerEnds o r c p → IsPosted p
+each_posted o r c p (as_entry t) = refl
+each_posted o r c p (as_read t n e) = refl
+each_posted o r c p (as_move t n e) = refl
+each_posted o r c p (as_led t l x e moved k) = (_, refl)
+each_posted o r c p (put_off what) = refl
+each_posted o r c p not_told = refl
+
 answers_posted : (o : Op) (r : Reply) (c : Client) → IsPosted (answers o r c)
-answers_posted o r c = elim (not (is_change r) && is_empty c.log) as (λ b. IsPosted (cond b (reads o r c) (replies o r c))) [ true ↦ refl | false ↦ refl ]
+answers_posted o r c = each_posted o r c (answers o r c) (answer_ends o r c)
 
 with_posted : (r : Option Reply) (o : Op) (c : Client) → IsPosted (answer_with r o c)
 with_posted (Some r) o c = answers_posted o r c
 with_posted None o c = ask_posted (missing_in c.view c.last o) (worth c.full (missing_in c.view c.last o)) c
 
+unless_posted : (led : Option TheLed) (o : Op) (c : Client) → IsPosted (unless_led led o c)
+unless_posted (Some l) o c = refl
+unless_posted None o c = with_posted (reply_in c.view c.last o) o c
+
 pub act_posted : (over : Option ℕ) (o : Op) (c : Client) → IsPosted (act_on over o c)
 act_posted (Some n) o c = refl
-act_posted None o c = with_posted (reply_in c.view c.last o) o c
+act_posted None o c = unless_posted c.led o c
 
 ship_posted : (log : List Entry) (c : Client) → IsPosted (ship_some log c)
 ship_posted [] c = refl
@@ -120,12 +143,21 @@ free_posted c = elim (not (is_empty c.log) && not (is_some c.over)) as (λ b. Is
 pub turn_posted : (c : Client) → IsPosted (turn_on c)
 turn_posted c = elim (is_some c.exchange) as (λ b. IsPosted (cond b (idle c) (turn_free c))) [ true ↦ refl | false ↦ free_posted c ]
 
+ended_posted : (l : TheLed) (e : LedEnd) (c : Client) → IsPosted (ended_plan l e c)
+ended_posted l (end.Done r) c = refl
+ended_posted l (end.Ended lease until now) c = refl
+ended_posted l (end.Again why) c = refl
+
+led_posted : (led : Option TheLed) (e : LedEnd) (c : Client) → IsPosted (led_plan led e c)
+led_posted None e c = refl
+led_posted (Some l) e c = ended_posted l e c
+
 told_posted : (a : Answer) (c : Client) → IsPosted (told a c)
 told_posted (Granted grants fresh e) c = refl
 told_posted (Renewed ends e) c = refl
 told_posted (Released count e) c = refl
 told_posted (Shipped count e) c = refl
-told_posted (Led e) c = refl
+told_posted (Led e) c = led_posted c.led e c
 told_posted (Recall number) c = refl
 
 pub hear_posted : (from : ℕ) (a : Answer) (c : Client) → IsPosted (hear from a c)
@@ -159,6 +191,9 @@ module _ (c : Client) (l : Lines) (sent : Option (ℕ × ClientMsg)) (rest : Lis
   by_change (change.Renew es) g e one = ends e one
   by_change (change.Release numbers) g e one = ends e one
   by_change (change.Admit count over) g e one = ends e one
+  by_change (change.Lead to led) g e one = goes (Leads to) g.0 e g.1 one
+  by_change (change.LedDone effects) g e one = ends e one
+  by_change change.LedFreed g e one = ends e one
   by_change (change.Recall number) g e one = stands e g
 
 pub plan_addressed : {N : Type 0} (p : Plan N) (l : Lines) (rest : List (ℕ × Answer)) → ((m : ℕ × Answer) → In m rest → In m l.down) → IsPosted p

@@ -193,6 +193,7 @@ module _ (skew greatest : ℕ) (s : Sight) (by : Session) (replied : List Item) 
     goes_on : GoesOnAs c (with_read c) []
     goes_on = record {
       exchange = refl;
+      led = refl;
       fewer = λ k i. record { kept = k; among = i; number = refl };
       log = sym (append-nil c.log);
       went = λ k i z. record { kept = k; among = i; pair = refl; leaving = z };
@@ -203,7 +204,7 @@ module _ (skew greatest : ℕ) (s : Sight) (by : Session) (replied : List Item) 
     seat_read = record {
       holds = subst (SessionHolds skew greatest later by (replied ++ i ∷ [])) (sym seen) holds;
       fits = subst (SessionFits skew greatest later by) (sym seen) fits;
-      client = record { session = h.client.session; viewed = h.client.viewed; pending = h.client.pending; distinct = h.client.distinct; pinned = h.client.pinned; held = h.client.held };
+      client = record { session = h.client.session; viewed = h.client.viewed; pending = h.client.pending; distinct = h.client.distinct; pinned = h.client.pinned; held = h.client.held; unled = h.client.unled };
       exchange = exchange_still skew greatest s.given s.rows by c (with_read c) [] up down (settled_now c) (settled_now (with_read c)) d (seen_at by (with_read c) down) goes_on
           (λ l i. record { lease = l; held = i; number = refl })
           (λ l i. record { lease = l; held = subst (λ (x : Settled). In l x.leases) seen i; number = refl })

@@ -1,5 +1,5 @@
 -- The server refuses an entry: a lease that it used has no row.
-use Rattle.std.proofs.Common.{◌≡◌, ℕ, not, Bool, true, false, List, ◌∷◌, refl, sym, ◌∙◌, subst, inl}
+use Rattle.std.proofs.Common.{◌≡◌, ℕ, not, true, List, ◌∷◌, refl, sym, ◌∙◌, subst, inl}
 use Rattle.std.specs.Prelude.{◌≢◌, Some}
 use Rattle.fs_ident.specs.In.{In}
 use Rattle.fs_ident.specs.declared.actor.LeaseNo.{LeaseNo}

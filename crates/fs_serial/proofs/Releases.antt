@@ -154,6 +154,7 @@ module _ (skew greatest : ℕ) (s : Sight) (by : Session) (replied : List Item) 
       distinct = distinct;
       pinned = λ k i. let q : CameFrom c.view.leases k = came_all ns c.view k i in sym q.entries ∙ h.client.pinned q.kept q.among ∙ ap (λ n. times_in n c.log) q.number;
       held = λ x i u j. let q : HasLease (settled_now c).leases u = h.client.held x i u j in record { lease = q.lease; held = fewer.still q.lease q.held (record { entry = x; logged = i; used = u; among = j; number = sym q.number }); number = q.number; field = q.field; kind = q.kind };
+      unled = h.client.unled;
     };
     exchange = asking_exchange skew greatest s.given s.rows by c then (Releases to ns) (Release (map pair_of ks)) up down (settled_now then) (seen_at by then down) refl refl none.0 none.1
         (subst (IsAsking s.given s.rows c (Releases to ns) (Release (map pair_of ks)) then.view.leases) (sym later) asks)

@@ -140,6 +140,7 @@ reply_client by c e f hand own = record {
   distinct = distinct_all e.uses c.view.leases f.distinct;
   pinned = λ k i. counted_all e.uses c.view.leases (λ n. times_in n c.log) hand f.pinned k i ∙ sym (times-append (number_of k.standing) c.log e);
   held = subst (λ ls. UsesHeld ls (c.log ++ e ∷ [])) (sym (pinned_leases e.uses c.view.leases)) (each_more (λ x. (u : Use) → In u x.uses → HasLease (settled_now c).leases u) c.log e f.held own);
+  unled = f.unled;
 }
 
 -- what servers see of it has one entry more

@@ -63,6 +63,7 @@ module _ (skew greatest : ℕ) (s : Sight) (by : Session) (replied : List Item) 
   goes_on : GoesOnAs c then (e ∷ [])
   goes_on = record {
     exchange = refl;
+    led = refl;
     fewer = λ k i. let q = pinned_before e.uses c.view.leases k i in record { kept = q.0; among = q.1; number = ap (λ (p : List ℕ × LeaseNo). p.1) q.2 };
     log = refl;
     went = λ k i t. let q = pinned_before e.uses c.view.leases k i in record { kept = q.0; among = q.1; pair = q.2; leaving = q.3 ∙ t };

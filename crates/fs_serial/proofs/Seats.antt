@@ -10,7 +10,7 @@ use Rattle.fs_msg.specs.declared.client_msg.ClientMsg.{ClientMsg}
 use Rattle.fs_msg.specs.declared.item.Item.{Item}
 use Rattle.fs_client.specs.Answers.{answer_fits, refusal_fits}
 use Rattle.fs_client.specs.declared.exchange.Exchange.{Exchange}
-use Rattle.fs_client.specs.declared.exchange.Exchange.TheVariants.{Asks, Renews, Releases, Ships}
+use Rattle.fs_client.specs.declared.exchange.Exchange.TheVariants.{Asks, Renews, Releases, Ships, Leads}
 use Rattle.fs_client.specs.declared.state.Client.{Client}
 use Rattle.fs_serial.specs.Client.{ClientFits}
 use Rattle.fs_serial.specs.Exchange.{due, admitted_in, OneExchange, ShipsLog, ExchangeFits, server_of_question}
@@ -71,6 +71,7 @@ few_by c from (Ships to sent) (Shipped count end) h n =
 few_by c from (Asks to items fresh) (Granted grants given end) h n = omega arith
 few_by c from (Renews to numbers) (Renewed rows end) h n = omega arith
 few_by c from (Releases to numbers) (Released count end) h n = omega arith
+few_by c from (Leads to) (Led end) h n = omega arith
 few_by c from x a h n = absurd (cc)
 
 few_one : (c : Client) (x : Option Exchange) (up : List ClientMsg) (down : List Answer) → OneExchange c x up down → ShipsLog x c.log → admitted_in (due down) ≤ length c.log

@@ -71,7 +71,7 @@ seat_asking skew greatest s by replied c up down x m idle a h =
     record {
       holds = h.holds;
       fits = h.fits;
-      client = record { session = h.client.session; viewed = h.client.viewed; pending = h.client.pending; distinct = h.client.distinct; pinned = h.client.pinned; held = h.client.held };
+      client = record { session = h.client.session; viewed = h.client.viewed; pending = h.client.pending; distinct = h.client.distinct; pinned = h.client.pinned; held = h.client.held; unled = h.client.unled };
       exchange = asking_exchange skew greatest s.given s.rows by c (with_exchange x c) x m up down (settled_now c) (seen_at by c down) refl refl q.0 q.1 (subst (IsAsking s.given s.rows c x m c.view.leases) now a) h.exchange.returns h.exchange.renewals;
     }
 

@@ -32,7 +32,7 @@ use Rattle.fs_server.specs.declared.event.ServerEvent.TheVariants as event
 use Rattle.fs_server.specs.declared.state.Server.{Server}
 use Rattle.fs_client.specs.Answers.{answer_fits, begins_numbers, fresh_fits, grants_fit, over_after, refusal_fits}
 use Rattle.fs_client.specs.declared.exchange.Exchange.{Exchange}
-use Rattle.fs_client.specs.declared.exchange.Exchange.TheVariants.{Asks, Renews, Releases, Ships}
+use Rattle.fs_client.specs.declared.exchange.Exchange.TheVariants.{Asks, Renews, Releases, Ships, Leads}
 use Rattle.fs_client.specs.declared.state.Client.{Client}
 use Rattle.fs_serial.specs.Exchange.{IsQuestion, IsReturned, OneExchange, ReleasesReturned, server_of_question}
 use Rattle.fs_serial.specs.Parts.{with_client}
@@ -62,6 +62,7 @@ ask_fits (Asks to items2 dir2) c items dir grants given e q h =
 ask_fits (Renews to numbers) c items dir grants given e q h = absurd q
 ask_fits (Releases to numbers) c items dir grants given e q h = absurd q
 ask_fits (Ships to count) c items dir grants given e q h = absurd q
+ask_fits (Leads to) c items dir grants given e q h = absurd q
 
 at_most : (a b : ℕ) → a ≤ b → nat_le a b ≡ true
 at_most a b h = grind (arith, nat_tests)
@@ -138,6 +139,7 @@ module _ (greatest : ℕ) (w : World) (by : Session) (h : WorldHolds greatest w)
   renew_fits (Asks to items fresh) pairs until e q = absurd (cc)
   renew_fits (Releases to numbers) pairs until e q = absurd q
   renew_fits (Ships to count) pairs until e q = absurd q
+  renew_fits (Leads to) pairs until e q = absurd q
 
   unchanged : (a : Answer) (t : Sight) → told by a (base by) ≡ base by → GoesOn s.skew greatest t w.replied w.ends base → GoesOn s.skew greatest t w.replied w.ends (with_client by (told by a (base by)) base)
   unchanged a t e g = subst (λ k. GoesOn s.skew greatest t w.replied w.ends k) (sym (ap (λ d. with_client by d base) e ∙ client_same by base)) g
@@ -167,12 +169,14 @@ module _ (greatest : ℕ) (w : World) (by : Session) (h : WorldHolds greatest w)
   release_fits (Asks to items fresh) pairs e q = absurd (cc)
   release_fits (Renews to numbers) pairs e q = absurd q
   release_fits (Ships to count) pairs e q = absurd q
+  release_fits (Leads to) pairs e q = absurd q
 
   returned_by : (x : Exchange) (pairs : List (List ℕ × LeaseNo)) → IsQuestion x (Release pairs) → ReleasesReturned (Some x) c.view.leases → (n : LeaseNo) → In n (numbers_in pairs) → IsReturned c.view.leases n
   returned_by (Releases to numbers) pairs q r n i = r n (subst (λ ns. In n ns) q i)
   returned_by (Asks to items fresh) pairs q r n i = absurd (cc)
   returned_by (Renews to numbers) pairs q r n i = absurd q
   returned_by (Ships to count) pairs q r n i = absurd q
+  returned_by (Leads to) pairs q r n i = absurd q
 
   released_step : (pairs : List (List ℕ × LeaseNo)) → (w.ends by).up ≡ Release pairs ∷ [] → WorldHolds greatest (world_after w by (message_step by (Release pairs) s))
   released_step pairs up =
@@ -199,6 +203,7 @@ module _ (greatest : ℕ) (w : World) (by : Session) (h : WorldHolds greatest w)
   ship_fits (Asks to items fresh) entries rest count e log q few fits = absurd (cc)
   ship_fits (Renews to numbers) entries rest count e log q few fits = absurd q
   ship_fits (Releases to numbers) entries rest count e log q few fits = absurd q
+  ship_fits (Leads to) entries rest count e log q few fits = absurd q
 
   world_shipped : w.decided ≡ [] → (entries : List Entry) → (w.ends by).up ≡ Ship entries ∷ [] → WorldHolds greatest (world_after w by (shipped by (ship_from by entries s [])))
   world_shipped none entries up =

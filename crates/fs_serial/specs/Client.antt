@@ -1,5 +1,5 @@
 -- What holds inside a client, whatever the servers do.
-use Rattle.std.specs.Prelude.{◌≡◌, ℕ, ◌+◌, List, [], ◌∷◌, map, if◌then◌else◌}
+use Rattle.std.specs.Prelude.{◌≡◌, ℕ, ◌+◌, List, [], ◌∷◌, map, None, if◌then◌else◌}
 use Rattle.fs_ident.specs.In.{In}
 use Rattle.fs_ident.specs.declared.actor.LeaseNo.{LeaseNo}
 use Rattle.fs_ident.specs.declared.actor.Session.{Session}
@@ -39,3 +39,5 @@ pub record ClientFits (by : Session) (c : Client) : Type 0 where
   pub pinned : PinsCounted c.view.leases c.log
   -- what its entries use it has, and that does not go back
   pub held : UsesHeld (settled_now c).leases c.log
+  -- no server leads an operation for it yet
+  pub unled : c.led ≡ None

@@ -20,7 +20,7 @@ use Rattle.fs_view.specs.Kept.{number_of, is_leaving}
 use Rattle.fs_client.specs.Answers.{answer_fits}
 use Rattle.fs_client.specs.Turns.{pair_of}
 use Rattle.fs_client.specs.declared.exchange.Exchange.{Exchange}
-use Rattle.fs_client.specs.declared.exchange.Exchange.TheVariants.{Asks, Renews, Releases, Ships}
+use Rattle.fs_client.specs.declared.exchange.Exchange.TheVariants.{Asks, Renews, Releases, Ships, Leads}
 use Rattle.fs_client.specs.declared.state.Client.{Client}
 use Rattle.fs_serial.specs.Leases.{IsBacked}
 use Rattle.fs_serial.specs.Settled.{Lease, Settled}
@@ -42,6 +42,7 @@ server_of_question (Asks to items fresh) = to
 server_of_question (Renews to numbers) = to
 server_of_question (Releases to numbers) = to
 server_of_question (Ships to count) = to
+server_of_question (Leads to) = to
 
 abbrev pub asked_server : Option Exchange → Option ℕ
 asked_server x = option_map server_of_question x

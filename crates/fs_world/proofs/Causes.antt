@@ -27,6 +27,7 @@ use Rattle.fs_msg.specs.declared.client_msg.ClientMsg.TheVariants.{Ask, Renew, R
 use Rattle.fs_msg.specs.declared.end.End.{End}
 use Rattle.fs_msg.specs.declared.end.End.TheVariants as end
 use Rattle.fs_msg.specs.declared.entry.Entry.{Entry}
+use Rattle.fs_msg.specs.declared.lead.Lead.{Lead as ToLead}
 use Rattle.fs_msg.specs.declared.note.Note.TheVariants as note
 use Rattle.fs_msg.specs.declared.peer_msg.PeerMsg.{PeerMsg}
 use Rattle.fs_msg.specs.declared.peer_msg.PeerMsg.TheVariants.{Parcel as OfParcel, Prepare, Vote, Decide, Done}
@@ -35,26 +36,30 @@ use Rattle.fs_msg.specs.declared.server_note.ServerNote.TheVariants as server
 use Rattle.fs_parcel.specs.Parcel.{move_refusal}
 use Rattle.fs_parcel.specs.declared.error.MoveError.{MoveError}
 use Rattle.fs_record.specs.Effects.{tells_its_effects}
+use Rattle.fs_record.specs.declared.led_end.LedEnd.{LedEnd}
+use Rattle.fs_record.specs.declared.led_end.LedEnd.TheVariants as led_end
 use Rattle.fs_record.specs.declared.parcel.Parcel.{Parcel}
 use Rattle.fs_view.specs.declared.kept.Kept.{Kept}
 use Rattle.fs_client.specs.Acts.{act_plan}
-use Rattle.fs_client.specs.Answers.{answer_plan, fits, hear, strange, told}
-use Rattle.fs_actor.specs.Hearing.{answer_heard, event_heard, heard_in, quiet_note, silent_note}
+use Rattle.fs_client.specs.Answers.{answer_plan, ended_plan, fits, hear, led_plan, strange, told}
+use Rattle.fs_actor.specs.Hearing.{answer_heard, event_heard, heard_in, silent_note}
 use Rattle.fs_client.specs.Client.{begun}
 use Rattle.fs_client.specs.Turns.{ending, idle, release_some, renew_some, returned, ship_some, turn_free, turn_on, turn_plan}
+use Rattle.fs_client.specs.declared.led.Led.{Led as TheLed}
 use Rattle.fs_client.specs.declared.state.Client.{Client as ClientState}
 use Rattle.fs_client.proofs.Refused.{act_over, acts_stay, answers_tell, turns_stay}
+use Rattle.fs_server.proofs.Leading.{LeadEnds, aborted, lead_ends, led, put_off, unled}
+use Rattle.fs_server.specs.Leads.{lead_step}
 use Rattle.fs_server.specs.Asks.{asked_in, recall_of, recalls_at}
 use Rattle.fs_server.specs.Moves.{fits_here, move_at, parcel_at, peer_step}
 use Rattle.fs_server.specs.Reaps.{lapsed_in, reap_from, recalls_for, turn_over}
-use Rattle.fs_server.specs.Server.{begun as server_begun, strange as server_strange}
+use Rattle.fs_server.specs.Server.{Stepped as ServerStepped, begun as server_begun, strange as server_strange}
 use Rattle.fs_server.specs.Ships.{ship_from, shipped}
 use Rattle.fs_server.specs.Step.{recalled_on, recalls_of, step as core_steps}
 use Rattle.fs_server.specs.declared.event.ServerEvent.{ServerEvent}
 use Rattle.fs_server.specs.declared.event.ServerEvent.TheVariants.{FromClient, FromPeer, Turn as TheTurn, Recall as TheRecall, Move as TheMove}
 use Rattle.fs_server.specs.declared.state.Server.{Server as Core}
-use Rattle.fs_serial.specs.Cluster.{is_between, is_with, without_first}
-use Rattle.fs_serial.specs.declared.flying.Flying.{Flying}
+use Rattle.fs_serial.specs.Cluster.{is_with, without_first}
 use Rattle.fs_serial.proofs.SetAt.{In_without}
 use Rattle.fs_schedule.specs.declared.event.What.{What}
 use Rattle.fs_schedule.specs.declared.event.What.TheVariants.{Join, Do, Tell, Turn, Recall as AskBack, Move}
@@ -95,12 +100,21 @@ turn_noted before s c = elim (is_some c.exchange) as (λ b. IsNoted before s (co
 
 -- ## What it notes of an answer, a server gave
 
+ended_noted : (before : List Said) (s : Session) (l : TheLed) (e : LedEnd) (c : ClientState) → IsNoted before s (ended_plan l e c).out.note
+ended_noted before s l (led_end.Done r) c = tt
+ended_noted before s l (led_end.Ended lease until now) c = tt
+ended_noted before s l (led_end.Again w) c = tt
+
+led_noted : (before : List Said) (s : Session) (led : Option TheLed) (e : LedEnd) (c : ClientState) → IsNoted before s (led_plan led e c).out.note
+led_noted before s None e c = tt
+led_noted before s (Some l) e c = ended_noted before s l e c
+
 told_noted : (before : List Said) (s : Session) (a : Answer) (c : ClientState) → WasGiven before s a → IsNoted before s (told a c).out.note
 told_noted before s (Granted grants fresh e) c g = tt
 told_noted before s (Renewed rows e) c g = tt
 told_noted before s (Released count e) c g = tt
 told_noted before s (Shipped count e) c g = g
-told_noted before s (Led e) c g = tt
+told_noted before s (Led e) c g = led_noted before s c.led e c
 told_noted before s (Recall number) c g = tt
 
 hear_noted : (before : List Said) (s : Session) (from : ℕ) (a : Answer) (c : ClientState) → WasGiven before s a → IsNoted before s (hear from a c).out.note
@@ -157,11 +171,17 @@ ship_given : (k : ℕ) (by : Session) (entries : List Entry) (s : Core) (from : 
 ship_given k by entries s from e true = subst (λ (o : Option Peer). AreGiven (says o k (shipped by (ship_from by entries s [])).out.note) (shipped by (ship_from by entries s [])).out.send) (sym e) (inl refl, tt)
 ship_given k by entries s from e false = tt
 
+lead_given : (k : ℕ) (by : Session) (m : ToLead) (s : Core) (from : Option Peer) (x : ServerStepped) → LeadEnds by m s x → AreGiven (says from k x.out.note) x.out.send
+lead_given k by m s from x (unled l) = tt
+lead_given k by m s from x (put_off w l r) = (tt, tt)
+lead_given k by m s from x (aborted u l r g) = (tt, tt)
+lead_given k by m s from x (led l r g) = (tt, tt)
+
 message_given : (k : ℕ) (by : Session) (m : ClientMsg) (s : Core) (now : ℕ) (from : Option Peer) → from ≡ Some (Client by) → AreGiven (says from k (core_steps s now (FromClient by m)).out.note) (core_steps s now (FromClient by m)).out.send
 message_given k by (Ask items dir) s now from e = let a = asked_in by items dir (server_begun now s) in (tt, ask_given (says from k (core_steps s now (FromClient by (Ask items dir))).out.note) a.end a.server.rows)
 message_given k by (Renew pairs) s now from e = (tt, tt)
 message_given k by (Release pairs) s now from e = (tt, tt)
-message_given k by (Lead m) s now from e = tt
+message_given k by (Lead m) s now from e = let b : Core = server_begun now s in lead_given k by m b from (lead_step by m b) (lead_ends by m b)
 message_given k by (Ship entries) s now from e = ship_given k by entries (server_begun now s) from e (list_all (λ (e : Entry). tells_its_effects e.op) entries)
 
 step_given : (k : ℕ) (s : Core) (now : ℕ) (e : ServerEvent) (from : Option Peer) → IsFrom from e → AreGiven (says from k (core_steps s now e).out.note) (core_steps s now e).out.send

@@ -1,5 +1,5 @@
 -- What joins the journal of the servers form: items of sessions, each of which asks for an access where it opens.
-use Rattle.std.proofs.Common.{◌≡◌, ℕ, ◌+◌, ◌/◌, Bool, true, false, not, ◌&&◌, List, [], ◌∷◌, ◌++◌, map, cond, refl, inl, inr}
+use Rattle.std.proofs.Common.{◌≡◌, ℕ, ◌+◌, ◌/◌, Bool, true, false, not, ◌&&◌, List, [], ◌∷◌, ◌++◌, cond, refl, inl, inr}
 use Rattle.std.specs.Prelude.{Option, Some, None, is_some}
 use Rattle.std.specs.List.{AllByRecursion, list_all}
 use Rattle.fs_ident.specs.In.{In}
@@ -7,48 +7,52 @@ use Rattle.fs_ident.specs.declared.actor.LeaseNo.{LeaseNo}
 use Rattle.fs_ident.specs.declared.actor.Session.{Session}
 use Rattle.fs_field.specs.declared.asked.Need.{Need}
 use Rattle.fs_field.specs.declared.asked.Need.TheVariants as need
-use Rattle.fs_field.specs.declared.used.Use.{Use}
-use Rattle.fs_model.specs.Sound.{AsksAccess, is_change}
+use Rattle.fs_model.specs.Sound.{AsksAccess}
 use Rattle.fs_model.specs.Step.{is_empty}
 use Rattle.fs_model.specs.declared.op.Op.{Op}
 use Rattle.fs_model.specs.declared.op.Op.TheVariants as op
 use Rattle.fs_model.specs.declared.reply.Reply.{Reply}
 use Rattle.fs_model.specs.declared.reply.Reply.TheVariants as reply
 use Rattle.fs_record.specs.Effects.{tells_its_effects}
+use Rattle.fs_record.specs.declared.led_end.LedEnd.{LedEnd}
+use Rattle.fs_record.specs.declared.led_end.LedEnd.TheVariants as led_end
 use Rattle.fs_view.specs.declared.kept.Kept.{Kept}
 use Rattle.fs_view.specs.View.{View, missing_in, reply_in}
+use Rattle.fs_msg.specs.declared.act.Act.{Act}
 use Rattle.fs_msg.specs.declared.act.Act.TheVariants as act
 use Rattle.fs_msg.specs.declared.act.Busy.TheVariants as busy
-use Rattle.fs_model.specs.Asking.{home_of}
 use Rattle.fs_msg.specs.declared.answer.Answer.{Answer}
 use Rattle.fs_msg.specs.declared.answer.Answer.TheVariants.{Granted, Renewed, Released, Shipped, Recall, Led}
 use Rattle.fs_msg.specs.declared.client_msg.ClientMsg.{ClientMsg}
 use Rattle.fs_msg.specs.declared.client_msg.ClientMsg.TheVariants.{Ask, Renew, Release, Ship, Lead}
-use Rattle.fs_msg.specs.declared.end.End.TheVariants as end
 use Rattle.fs_msg.specs.declared.entry.Entry.{Entry}
 use Rattle.fs_msg.specs.declared.item.Item.{Item}
-use Rattle.fs_client.specs.Acts.{act_on, act_plan, answer_with, answers, ask_for, asks, full_one, hinted, need_file, reads, replies, stays, with_id, worth}
-use Rattle.fs_client.specs.Answers.{answer_plan, fits, hear, strange, told}
+use Rattle.fs_msg.specs.declared.lead.Lead.{Lead as ToLead}
+use Rattle.fs_client.specs.Acts.{act_on, act_plan, answer_with, answers, ask_for, asks, full_one, hinted, need_file, stays, unless_led, with_id, worth}
+use Rattle.fs_client.specs.Answers.{answer_plan, ended_plan, fits, hear, led_plan, strange, told}
 use Rattle.fs_client.specs.Client.{begun}
 use Rattle.fs_client.specs.Turns.{ending, idle, release_some, renew_some, returned, ship_some, turn_free, turn_on, turn_plan}
+use Rattle.fs_client.specs.declared.led.Led.{Led as TheLed}
+use Rattle.fs_client.specs.declared.plan.Plan.{Plan}
 use Rattle.fs_client.specs.declared.state.Client.{Client as ClientState}
-use Rattle.fs_moderows.specs.Answer.{reap_blocker}
-use Rattle.fs_record.specs.ValueOf.{selves_in}
 use Rattle.fs_parcel.specs.Parcel.{move_refusal}
 use Rattle.fs_parcel.specs.declared.error.MoveError.{MoveError}
 use Rattle.fs_record.specs.declared.parcel.Parcel.{Parcel}
 use Rattle.fs_msg.specs.declared.peer_msg.PeerMsg.{PeerMsg}
 use Rattle.fs_msg.specs.declared.peer_msg.PeerMsg.TheVariants.{Parcel as OfParcel, Prepare, Vote, Decide, Done}
+use Rattle.fs_server.proofs.Leading.{LeadEnds, aborted, lead_ends, led, put_off as server_puts_off, unled}
 use Rattle.fs_server.proofs.OneByOne.{each_entry, each_lapsed}
+use Rattle.fs_server.specs.Leads.{is_led, lead_step}
 use Rattle.fs_server.specs.Moves.{fits_here, move_at, parcel_at, peer_step}
-use Rattle.fs_server.specs.Reaps.{Reaping, lapsed_in, reap_from, reap_item, turn_over, with_blocker, with_reap}
-use Rattle.fs_server.specs.Server.{begun as server_begun, is_mine, moved, strange as server_strange}
-use Rattle.fs_server.specs.Ships.{Shipping, first_gone, item_of, ship_from, shipped, with_entry}
+use Rattle.fs_server.specs.Reaps.{lapsed_in, reap_from, reap_item, turn_over}
+use Rattle.fs_server.specs.Server.{Stepped, begun as server_begun, moved, strange as server_strange}
+use Rattle.fs_server.specs.Ships.{item_of, ship_from, shipped}
 use Rattle.fs_server.specs.Step.{message_step, step}
 use Rattle.fs_server.specs.declared.event.ServerEvent.{ServerEvent}
 use Rattle.fs_server.specs.declared.event.ServerEvent.TheVariants.{FromClient, FromPeer, Turn, Recall as TheRecall, Move}
 use Rattle.fs_server.specs.declared.state.Server.{Server as ServerState}
 use Rattle.fs_serial.specs.World.{is_called, pushed}
+use Rattle.fs_serial.proofs.Answering.{AnswerEnds, answer_ends, as_entry, as_led, as_move, as_read, not_told, put_off}
 
 -- it asks for an access where it opens
 pub record IsFine (i : Item) : Type 0 where
@@ -93,19 +97,28 @@ ask_fine : (needs some : List Need) (c : ClientState) → MayBeFine (ask_for nee
 ask_fine needs [] c = full_fine needs c
 ask_fine needs (n ∷ ns) c = elim (is_some c.exchange) as (λ b. MayBeFine (cond b (stays (act.Busy busy.Exchange) c) (asks (hinted c (need_file n)) (n ∷ ns) c)).out.admitted) [ true ↦ tt | false ↦ tt ]
 
+end_fine : (o : Op) (r : Reply) (c : ClientState) (p : Plan Act) → AnswerEnds o r c p → is_called o ≡ true → MayBeFine p.out.admitted
+end_fine o r c p (as_entry t) h = tt
+end_fine o r c p (as_read t n e) h = record { asks = id_asks c.view c.last o r h }
+end_fine o r c p (as_move t n e) h = record { asks = id_asks c.view c.last o r h }
+end_fine o r c p (as_led t l x e moved k) h = tt
+end_fine o r c p (put_off what) h = tt
+end_fine o r c p not_told h = tt
+
 answers_fine : (o : Op) (r : Reply) (c : ClientState) → is_called o ≡ true → MayBeFine (answers o r c).out.admitted
-answers_fine o r c h = elim (not (is_change r) && is_empty c.log) as (λ b. MayBeFine (cond b (reads o r c) (replies o r c)).out.admitted) [
-  | true ↦ record { asks = id_asks c.view c.last o r h }
-  | false ↦ tt
-]
+answers_fine o r c h = end_fine o r c (answers o r c) (answer_ends o r c) h
 
 with_fine : (r : Option Reply) (o : Op) (c : ClientState) → is_called o ≡ true → MayBeFine (answer_with r o c).out.admitted
 with_fine (Some r) o c h = answers_fine o r c h
 with_fine None o c h = ask_fine (missing_in c.view c.last o) (worth c.full (missing_in c.view c.last o)) c
 
+unless_fine : (led : Option TheLed) (o : Op) (c : ClientState) → is_called o ≡ true → MayBeFine (unless_led led o c).out.admitted
+unless_fine (Some l) o c h = tt
+unless_fine None o c h = with_fine (reply_in c.view c.last o) o c h
+
 on_fine : (over : Option ℕ) (o : Op) (c : ClientState) → is_called o ≡ true → MayBeFine (act_on over o c).out.admitted
 on_fine (Some n) o c h = tt
-on_fine None o c h = with_fine (reply_in c.view c.last o) o c h
+on_fine None o c h = unless_fine c.led o c h
 
 pub act_fine : (c : ClientState) (now : ℕ) (o : Op) → is_called o ≡ true → MayBeFine (act_plan c now o).out.admitted
 act_fine c now o h = let b : ClientState = begun now c in on_fine b.over o b h
@@ -136,12 +149,21 @@ turned_fine c = elim (is_some c.exchange) as (λ b. MayBeFine (cond b (idle c) (
 pub turn_fine : (c : ClientState) (now : ℕ) → MayBeFine (turn_plan c now).out.admitted
 turn_fine c now = turned_fine (begun now c)
 
+ended_fine : (l : TheLed) (e : LedEnd) (c : ClientState) → MayBeFine (ended_plan l e c).out.admitted
+ended_fine l (led_end.Done r) c = tt
+ended_fine l (led_end.Ended lease until now) c = tt
+ended_fine l (led_end.Again w) c = tt
+
+led_fine : (led : Option TheLed) (e : LedEnd) (c : ClientState) → MayBeFine (led_plan led e c).out.admitted
+led_fine None e c = tt
+led_fine (Some l) e c = ended_fine l e c
+
 told_fine : (a : Answer) (c : ClientState) → MayBeFine (told a c).out.admitted
 told_fine (Granted gs fresh e) c = tt
 told_fine (Renewed rows e) c = tt
 told_fine (Released count e) c = tt
 told_fine (Shipped count e) c = tt
-told_fine (Led e) c = tt
+told_fine (Led e) c = led_fine c.led e c
 told_fine (Recall number) c = tt
 
 heard_fine : (from : ℕ) (a : Answer) (c : ClientState) → MayBeFine (hear from a c).out.admitted
@@ -165,11 +187,22 @@ abbrev pub MessageAsks : ClientMsg → Type 0
 MessageAsks (Ship entries) = EntriesAsk entries
 MessageAsks m = Unit {0}
 
+-- what is led opens nothing
+led_asks : (o : Op) → is_led o ≡ true → AsksAccess o
+led_asks (op.OpenFile file x modes) h = absurd (cc)
+led_asks o h = tt
+
+lead_fine : (by : Session) (m : ToLead) (s : ServerState) (x : Stepped) → LeadEnds by m s x → AllFine x.out.admitted
+lead_fine by m s x (unled l) = tt
+lead_fine by m s x (server_puts_off w l r) = tt
+lead_fine by m s x (aborted u l r g) = tt
+lead_fine by m s x (led l r g) = (record { asks = led_asks m.op l }, tt)
+
 message_fine : (by : Session) (m : ClientMsg) (s : ServerState) → MessageAsks m → AllFine (message_step by m s).out.admitted
 message_fine by (Ask items dir) s a = tt
 message_fine by (Renew pairs) s a = tt
 message_fine by (Release pairs) s a = tt
-message_fine by (Lead m) s a = tt
+message_fine by (Lead m) s a = lead_fine by m s (lead_step by m s) (lead_ends by m s)
 message_fine by (Ship entries) s a = elim (list_all (λ (e : Entry). tells_its_effects e.op) entries) as (λ b. AllFine (cond b (shipped by (ship_from by entries s [])) (server_strange s)).out.admitted) [
   | true ↦ ships_fine by entries s [] a tt
   | false ↦ tt

@@ -15,7 +15,7 @@ use Rattle.fs_serial.specs.Cluster.{first_servers}
 use Rattle.fs_serial.specs.declared.flying.Flying.{Flying}
 use Rattle.fs_server.specs.Server.{first_server}
 use Rattle.fs_server.specs.declared.state.Server.{Server as Core}
-use Rattle.fs_world.specs.Linked.{AreTied, HasJoined, IsCarried, IsLinked, IsPair, IsParcelOf, IsPost, IsSeated, IsServed, between, downs_of, post_of, seat_post, ups_of, BringsParcel}
+use Rattle.fs_world.specs.Linked.{AreTied, HasJoined, IsCarried, IsLinked, IsPair, IsPost, IsSeated, IsServed, between, downs_of, post_of, seat_post, ups_of, BringsParcel}
 use Rattle.fs_world.specs.Packets.{with_told}
 use Rattle.fs_world.specs.Served.{Seats, first_posts, first_seat, first_served, join_at, link_width}
 use Rattle.fs_world.specs.declared.seat.Seat.{Seat}

@@ -5,7 +5,6 @@ use Rattle.std.specs.List.{find}
 use Rattle.std.proofs.lemmas.Bool.Decides.{nat_tests}
 use Rattle.std.proofs.lemmas.List.{map-append}
 use Rattle.std.proofs.lemmas.List.Elements.{filter-append}
-use Rattle.fs_ident.specs.In.{In}
 use Rattle.fs_ident.proofs.Same.{after_zero, zero_before}
 use Rattle.fs_frag.specs.declared.joined.Joined.{Joined}
 use Rattle.fs_msg.specs.declared.msg.Msg.{Msg}

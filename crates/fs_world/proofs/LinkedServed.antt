@@ -23,7 +23,6 @@ use Rattle.fs_msg.specs.declared.client_msg.ClientMsg.{ClientMsg}
 use Rattle.fs_msg.specs.declared.msg.Msg.{Msg}
 use Rattle.fs_msg.specs.declared.msg.Msg.TheVariants as msg
 use Rattle.fs_msg.specs.declared.peer_msg.PeerMsg.{PeerMsg}
-use Rattle.fs_record.specs.declared.parcel.Parcel.{Parcel}
 use Rattle.fs_actor.specs.Actor.{is_full_down, is_full_for, with_pushed}
 use Rattle.fs_serial.specs.Cluster.{flying_from, is_between, is_with}
 use Rattle.fs_serial.specs.declared.flying.Flying.{Flying}

@@ -12,9 +12,13 @@ use Rattle.fs_model.specs.declared.op.Op.{Op}
 use Rattle.fs_model.specs.declared.op.Op.TheVariants as op
 use Rattle.fs_model.specs.declared.reply.Reply.{Reply}
 use Rattle.fs_model.specs.declared.reply.Reply.TheVariants as reply
-use Rattle.fs_model.specs.Sound.{is_change}
 use Rattle.fs_model.specs.Step.{is_empty}
 use Rattle.fs_record.specs.Effects.{tells_its_effects}
+use Rattle.fs_record.specs.declared.led_end.LedEnd.{LedEnd}
+use Rattle.fs_record.specs.declared.led_end.LedEnd.TheVariants as led_end
+use Rattle.fs_record.specs.declared.led_end.Why.{Why}
+use Rattle.fs_record.specs.declared.led_end.Why.TheVariants as why
+use Rattle.fs_msg.specs.declared.act.Act.{Act}
 use Rattle.fs_msg.specs.declared.act.Act.TheVariants as act
 use Rattle.fs_msg.specs.declared.act.Busy.TheVariants as busy
 use Rattle.fs_msg.specs.declared.answer.Answer.{Answer}
@@ -30,17 +34,20 @@ use Rattle.fs_view.specs.declared.kept.Kept.{Kept}
 use Rattle.fs_view.specs.Kept.{file_in}
 use Rattle.fs_view.specs.View.{View, missing_in, reply_in}
 use Rattle.fs_serial.specs.World.{is_called}
+use Rattle.fs_serial.proofs.Answering.{AnswerEnds, answer_ends, as_entry, as_led, as_move, as_read, not_told, put_off}
 use Rattle.fs_client.specs.declared.change.Change.{Change}
 use Rattle.fs_client.specs.declared.change.Change.TheVariants as change
+use Rattle.fs_client.specs.declared.led.Led.{Led}
 use Rattle.fs_client.specs.declared.plan.Plan.{Plan}
 use Rattle.fs_client.specs.declared.plan.Ready.{Ready}
 use Rattle.fs_client.specs.declared.state.Client.{Client}
-use Rattle.fs_client.specs.Acts.{act_on, act_plan, answer_with, ask_for, asks, full_one, hinted, need_file, reads, replies, stays, with_id, worth}
-use Rattle.fs_client.specs.Answers.{answer_plan, fits, hear, hints_told, strange, told}
+use Rattle.fs_client.specs.Acts.{act_on, act_plan, answer_with, answers, ask_for, asks, full_one, hinted, need_file, stays, unless_led, with_id, worth}
+use Rattle.fs_client.specs.Answers.{answer_plan, ended_plan, fits, hear, hints_told, led_plan, strange, told}
 use Rattle.fs_client.specs.Client.{admitted_all, admitted_one, begun, changed, committed, first_client, with_hints}
+use Rattle.fs_client.specs.Led.{hints_again}
 use Rattle.fs_client.specs.Turns.{ending, entries_at, idle, release_some, renew_some, returned, ship_some, turn_free, turn_on, turn_plan}
 use Rattle.fs_client.proofs.Keeping.{keeps}
-use Rattle.fs_world.specs.Linked.{AreNamed, IsNamedAnswer, IsNamedEnd}
+use Rattle.fs_world.specs.Linked.{AreNamed, IsNamedAnswer, IsNamedEnd, IsNamedLed}
 use Rattle.fs_world.specs.Readable.{LogReadable}
 use Rattle.fs_world.proofs.NamedMaps.{named_first, named_hint, server_named}
 
@@ -84,6 +91,9 @@ changed_log (change.Grant leases full) c own h = h
 changed_log (change.Renew ends) c own h = h
 changed_log (change.Release numbers) c own h = h
 changed_log (change.Admit count over) c own h = all_admitted count c h
+changed_log (change.Lead to led) c own h = h
+changed_log (change.LedDone effects) c own h = h
+changed_log change.LedFreed c own h = h
 changed_log (change.Recall number) c own h = h
 
 hints_session : (o : Option Owners) (c : Client) → (with_hints o c).session ≡ c.session
@@ -149,14 +159,30 @@ module _ (servers : ℕ) (some : 0 < servers) where
       either_planned servers (is_some c.exchange) (stays (act.Busy busy.Exchange) c) (asks (hinted c (need_file n)) (n ∷ ns) c) (record { joins = tt; hints = tt; sends = tt })
       (record { joins = tt; hints = tt; sends = (hinted_there c (need_file n) h, refl) })
 
+  as_it_is : (o : Op) → may_ask o ≡ true → is_readable_op o ≡ true
+  as_it_is (op.OpenFile file x modes) h = h
+  as_it_is (op.Reap file session) h = absurd (cc)
+  as_it_is o h = refl
+
+  end_planned : (r : Reply) (o : Op) (c : Client) → may_ask o ≡ true → IsFine servers c → (p : Plan Act) → AnswerEnds o r c p → IsPlanned servers p
+  end_planned r o c may h p (as_entry t) = record { joins = op_readable c.view c.last o r may; hints = tt; sends = tt }
+  end_planned r o c may h p (as_read t n e) = record { joins = tt; hints = tt; sends = tt }
+  end_planned r o c may h p (as_move t n e) = record { joins = tt; hints = tt; sends = tt }
+  end_planned r o c may h p (as_led t l x e moved k) = record { joins = tt; hints = tt; sends = (hinted_there c (home_of o) h, as_it_is o may) }
+  end_planned r o c may h p (put_off what) = record { joins = tt; hints = tt; sends = tt }
+  end_planned r o c may h p not_told = record { joins = tt; hints = tt; sends = tt }
+
   answer_planned : (r : Option Reply) (o : Op) (c : Client) → may_ask o ≡ true → IsFine servers c → IsPlanned servers (answer_with r o c)
-  answer_planned (Some r) o c may h =
-      either_planned servers (not (is_change r) && is_empty c.log) (reads o r c) (replies o r c) (record { joins = tt; hints = tt; sends = tt }) (record { joins = op_readable c.view c.last o r may; hints = tt; sends = tt })
+  answer_planned (Some r) o c may h = end_planned r o c may h (answers o r c) (answer_ends o r c)
   answer_planned None o c may h = ask_planned (missing_in c.view c.last o) (worth c.full (missing_in c.view c.last o)) c h
+
+  unless_planned : (led : Option Led) (o : Op) (c : Client) → may_ask o ≡ true → IsFine servers c → IsPlanned servers (unless_led led o c)
+  unless_planned (Some l) o c may h = record { joins = tt; hints = tt; sends = tt }
+  unless_planned None o c may h = answer_planned (reply_in c.view c.last o) o c may h
 
   act_planned : (over : Option ℕ) (o : Op) (c : Client) → may_ask o ≡ true → IsFine servers c → IsPlanned servers (act_on over o c)
   act_planned (Some n) o c may h = record { joins = tt; hints = tt; sends = tt }
-  act_planned None o c may h = answer_planned (reply_in c.view c.last o) o c may h
+  act_planned None o c may h = unless_planned c.led o c may h
 
   pub act_fine : (c : Client) (now : ℕ) (o : Op) → is_called o ≡ true → IsFine servers c → IsPlanned servers (act_plan c now o)
   act_fine c now o called h = act_planned c.over o (begun now c) (second (tells_its_effects o) (may_ask o) called) (record { log = h.log; hints = h.hints })
@@ -201,12 +227,25 @@ module _ (servers : ℕ) (some : 0 < servers) where
   told_hints (end.NoIds dir) c named h = tt
   told_hints (end.Ended n lease until now) c named h = tt
 
+  why_hints : (w : Why) (c : Client) → IsNamedLed servers (led_end.Again w) → IsFine servers c → HintsNamed servers (hints_again w c.hints)
+  why_hints (why.Moved prefix to) c named h = named_hint servers c.hints prefix to named h.hints
+  why_hints w c named h = tt
+
+  ended_planned : (l : Led) (e : LedEnd) (c : Client) → IsNamedLed servers e → IsFine servers c → IsPlanned servers (ended_plan l e c)
+  ended_planned l (led_end.Done r) c named h = record { joins = tt; hints = tt; sends = tt }
+  ended_planned l (led_end.Ended lease until now) c named h = record { joins = tt; hints = tt; sends = tt }
+  ended_planned l (led_end.Again w) c named h = record { joins = tt; hints = why_hints w c named h; sends = tt }
+
+  led_planned : (led : Option Led) (e : LedEnd) (c : Client) → IsNamedLed servers e → IsFine servers c → IsPlanned servers (led_plan led e c)
+  led_planned None e c named h = record { joins = tt; hints = tt; sends = tt }
+  led_planned (Some l) e c named h = ended_planned l e c named h
+
   told_planned : (a : Answer) (c : Client) → IsNamedAnswer servers a → IsFine servers c → IsPlanned servers (told a c)
   told_planned (answer_.Granted gs fresh e) c named h = record { joins = tt; hints = told_hints e c named h; sends = tt }
   told_planned (answer_.Renewed rows e) c named h = record { joins = tt; hints = told_hints e c named h; sends = tt }
   told_planned (answer_.Released count e) c named h = record { joins = tt; hints = told_hints e c named h; sends = tt }
   told_planned (answer_.Shipped count e) c named h = record { joins = tt; hints = told_hints e c named h; sends = tt }
-  told_planned (answer_.Led e) c named h = record { joins = tt; hints = tt; sends = tt }
+  told_planned (answer_.Led e) c named h = led_planned c.led e c named h
   told_planned (answer_.Recall number) c named h = record { joins = tt; hints = tt; sends = tt }
 
   hear_planned : (from : ℕ) (a : Answer) (c : Client) → IsNamedAnswer servers a → IsFine servers c → IsPlanned servers (hear from a c)
@@ -215,13 +254,22 @@ module _ (servers : ℕ) (some : 0 < servers) where
   pub answer_fine : (c : Client) (now from : ℕ) (a : Answer) → IsNamedAnswer servers a → IsFine servers c → IsPlanned servers (answer_plan c now from a)
   answer_fine c now from a named h = hear_planned from a (begun now c) named (record { log = h.log; hints = h.hints })
 
+ended_silent : (l : Led) (e : LedEnd) (c : Client) → (ended_plan l e c).out.send ≡ None
+ended_silent l (led_end.Done r) c = refl
+ended_silent l (led_end.Ended lease until now) c = refl
+ended_silent l (led_end.Again w) c = refl
+
+led_silent : (led : Option Led) (e : LedEnd) (c : Client) → (led_plan led e c).out.send ≡ None
+led_silent None e c = refl
+led_silent (Some l) e c = ended_silent l e c
+
 -- a client answers no answer
 told_silent : (a : Answer) (c : Client) → (told a c).out.send ≡ None
 told_silent (answer_.Granted gs fresh e) c = refl
 told_silent (answer_.Renewed rows e) c = refl
 told_silent (answer_.Released count e) c = refl
 told_silent (answer_.Shipped count e) c = refl
-told_silent (answer_.Led e) c = refl
+told_silent (answer_.Led e) c = led_silent c.led e c
 told_silent (answer_.Recall number) c = refl
 
 pub answer_silent : (c : Client) (now from : ℕ) (a : Answer) → (answer_plan c now from a).out.send ≡ None

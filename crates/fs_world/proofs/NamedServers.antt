@@ -146,8 +146,8 @@ sent_readable servers seats k (Server to, msg.Peer m) readable h = peer_readable
 
 -- a rename and a delete add no handle
 led_open : (o : Op) (file : List ℕ) (r : Reply) → AllByRecursion AddsOpen (led_effects o file r)
-led_open (op.Rename sdir sname ddir dname) file reply.Renamed = (tt, tt, tt, tt)
-led_open (op.Delete dir name) file reply.Deleted = (tt, tt, tt)
+led_open (op.Rename sdir sname ddir dname) file reply.Renamed = (tt, (tt, (tt, tt)))
+led_open (op.Delete dir name) file reply.Deleted = (tt, (tt, tt))
 led_open o file r = tt
 
 -- ## Steps

@@ -11,6 +11,7 @@ use Rattle.fs_msg.specs.declared.client_note.ClientNote.{ClientNote}
 use Rattle.fs_msg.specs.declared.client_note.ClientNote.TheVariants as client_note
 use Rattle.fs_msg.specs.declared.end.End.{End}
 use Rattle.fs_msg.specs.declared.entry.Entry.{Entry}
+use Rattle.fs_msg.specs.declared.lead.Lead.{Lead as ToLead}
 use Rattle.fs_msg.specs.declared.note.Note.{Note}
 use Rattle.fs_msg.specs.declared.note.Note.TheVariants as note
 use Rattle.fs_msg.specs.declared.peer_msg.PeerMsg.{PeerMsg}
@@ -23,9 +24,11 @@ use Rattle.fs_record.specs.declared.parcel.Parcel.{Parcel}
 use Rattle.fs_client.specs.Client.{begun}
 use Rattle.fs_client.specs.Turns.{ending, idle, release_some, renew_some, returned, ship_some, turn_free, turn_on, turn_plan}
 use Rattle.fs_client.specs.declared.state.Client.{Client}
+use Rattle.fs_server.proofs.Leading.{LeadEnds, aborted, lead_ends, led, put_off, unled}
+use Rattle.fs_server.specs.Leads.{lead_step}
 use Rattle.fs_server.specs.Moves.{fits_here, move_at, parcel_at, peer_step}
 use Rattle.fs_server.specs.Reaps.{lapsed_in, turn_over}
-use Rattle.fs_server.specs.Server.{begun as server_begun}
+use Rattle.fs_server.specs.Server.{Stepped, begun as server_begun}
 use Rattle.fs_server.specs.Step.{step}
 use Rattle.fs_server.specs.declared.event.ServerEvent.{ServerEvent}
 use Rattle.fs_server.specs.declared.event.ServerEvent.TheVariants.{FromClient, FromPeer, Turn, Recall as TheRecall, Move}
@@ -102,6 +105,12 @@ peer_fair ok (Vote m) s = tt
 peer_fair ok (Decide m) s = tt
 peer_fair ok (Done m) s = tt
 
+lead_fair : (ok : Answers) (by : Session) (m : ToLead) (s : Server) (x : Stepped) → LeadEnds by m s x → IsFair ok (note.Server x.out.note)
+lead_fair ok by m s x (unled l) = tt
+lead_fair ok by m s x (put_off w l r) = tt
+lead_fair ok by m s x (aborted u l r g) = tt
+lead_fair ok by m s x (led l r g) = tt
+
 -- where each fair answer to the entries is one of these, so is what is noted
 ship_fair : (ok : Answers) (rows : List Row) (by : Session) (now : ℕ) (entries : List Entry) (n : ServerNote) → ((count : ℕ) (at : End) (gaps : List ℕ) → IsFairEnd rows by now entries count at gaps → ok count at gaps) → IsFairNote rows by now entries n → IsFair ok (note.Server n)
 ship_fair ok rows by now entries (server_note.Admits count at gaps) taken h = taken count at gaps h
@@ -125,7 +134,7 @@ module _ (laws : SerialLaws) (skew greatest now k : ℕ) (s : Server) (c : Clust
   message_fair ok by (Ask items dir) there takes = tt
   message_fair ok by (Renew pairs) there takes = tt
   message_fair ok by (Release pairs) there takes = tt
-  message_fair ok by (Lead m) there takes = tt
+  message_fair ok by (Lead m) there takes = let b : Server = server_begun now s in lead_fair ok by m b (lead_step by m b) (lead_ends by m b)
   message_fair ok by (Ship entries) there takes = ship_fair ok (rows_then (FromClient by (Ship entries))) by (max s.last now) entries (step s now (FromClient by (Ship entries))).out.note takes (laws.fair skew greatest now k by entries s c at within there h)
 
   event_fair : (ok : Answers) (e : ServerEvent) → IsThere k e c → TakesEvent ok e → IsFair ok (note.Server (step s now e).out.note)

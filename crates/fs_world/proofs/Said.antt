@@ -1,5 +1,5 @@
 -- What is known of the answers on their way and of the sessions that are over, behind what was said.
-use Rattle.std.proofs.Common.{◌≡◌, ℕ, ◌==◌, Bool, true, false, List, [], ◌∷◌, ◌++◌, cond, refl, ap, sym, ◌∙◌, subst, append_assoc, inl, inr}
+use Rattle.std.proofs.Common.{◌≡◌, ℕ, ◌==◌, Bool, true, false, List, [], ◌∷◌, ◌++◌, cond, refl, sym, ◌∙◌, subst, append_assoc, inl, inr}
 use Rattle.std.proofs.lemmas.List.{append-nil}
 use Rattle.std.specs.Prelude.{◌⊎◌, Option, Some, None}
 use Rattle.std.specs.FinMap.{get, insert}
@@ -22,7 +22,7 @@ use Rattle.fs_msg.specs.declared.msg.Msg.TheVariants as msg
 use Rattle.fs_msg.specs.declared.note.Note.TheVariants as note
 use Rattle.fs_client.specs.Answers.{over_after}
 use Rattle.fs_client.specs.Laws.{over_told}
-use Rattle.fs_world.specs.Over.{AllCaused, Answered, Heard, HeardRefused, IsCaused, Said, all_said}
+use Rattle.fs_world.specs.Over.{AllCaused, Answered, Heard, HeardRefused, Said, all_said}
 use Rattle.fs_world.specs.Served.{Seats, with_down, with_down_at, with_downs}
 use Rattle.fs_world.specs.declared.seat.Seat.{Seat}
 use Rattle.fs_world.proofs.Seen.{seat_put}

@@ -1,5 +1,5 @@
 -- Whose rows a server has, and to whom it sends: the sessions that asked.
-use Rattle.std.proofs.Common.{◌≡◌, ℕ, ◌+◌, Bool, true, false, List, [], ◌∷◌, ◌++◌, map, not, Option, Some, None, refl, sym, ap, subst, cond, ◌∙◌, inl, inr}
+use Rattle.std.proofs.Common.{◌≡◌, ℕ, Bool, true, false, List, [], ◌∷◌, ◌++◌, map, not, Option, Some, None, refl, sym, ap, subst, cond, ◌∙◌, inl, inr}
 use Rattle.std.specs.Prelude.{◌&&◌, is_some, nat_lt}
 use Rattle.std.specs.List.{AllByRecursion, filter, find, list_all}
 use Rattle.fs_ident.specs.Ident.{child}
@@ -10,8 +10,6 @@ use Rattle.fs_ident.specs.declared.actor.Peer.TheVariants.{Client, Server as OfS
 use Rattle.fs_ident.specs.declared.actor.Session.{Session}
 use Rattle.fs_ident.proofs.Passing.{found}
 use Rattle.fs_ident.proofs.Standing.{In-filter, In-map, In-put}
-use Rattle.fs_field.specs.declared.asked.Asked.{Asked}
-use Rattle.fs_field.specs.declared.asked.Asked.TheVariants.{Granted, Wait, Locked}
 use Rattle.fs_field.specs.declared.field.Field.{Field}
 use Rattle.fs_field.specs.declared.field.Field.TheVariants.{Life}
 use Rattle.fs_field.specs.declared.lease_kind.LeaseKind.{LeaseKind}
@@ -20,16 +18,13 @@ use Rattle.fs_field.specs.declared.row.Row.{Row}
 use Rattle.fs_field.specs.Field.{file_of, same_field}
 use Rattle.fs_field.specs.Table.{borne_numbers, has_no, is_live, no_before, renewed_row, with_row}
 use Rattle.fs_map.specs.Lists.{piece_of}
-use Rattle.fs_moderows.specs.Answer.{reap_blocker}
 use Rattle.fs_parcel.specs.Parcel.{move_refusal}
 use Rattle.fs_parcel.specs.declared.error.MoveError.{MoveError}
 use Rattle.fs_rows.specs.Granted.{with_rows}
 use Rattle.fs_rows.specs.Live.{unlocked_on, unlocked_rows_on}
 use Rattle.fs_rows.specs.Moving.{is_on_given}
 use Rattle.fs_record.specs.Fresh.{fresh_number, is_directory}
-use Rattle.fs_record.specs.ValueOf.{selves_in}
 use Rattle.fs_record.specs.declared.parcel.Parcel.{Parcel}
-use Rattle.fs_model.specs.Asking.{home_of}
 use Rattle.fs_msg.specs.declared.answer.Answer.TheVariants as reply
 use Rattle.fs_msg.specs.declared.answer.Grant.{Grant}
 use Rattle.fs_msg.specs.declared.client_msg.ClientMsg.{ClientMsg}
@@ -38,23 +33,25 @@ use Rattle.fs_msg.specs.declared.end.End.{End}
 use Rattle.fs_msg.specs.declared.end.End.TheVariants as end
 use Rattle.fs_msg.specs.declared.entry.Entry.{Entry}
 use Rattle.fs_msg.specs.declared.item.Item.{Item}
+use Rattle.fs_msg.specs.declared.lead.Lead.{Lead as ToLead}
 use Rattle.fs_msg.specs.declared.msg.Msg.{Msg}
 use Rattle.fs_msg.specs.declared.msg.Msg.TheVariants as msg
 use Rattle.fs_msg.specs.declared.peer_msg.PeerMsg.{PeerMsg}
 use Rattle.fs_msg.specs.declared.peer_msg.PeerMsg.TheVariants.{Parcel as OfParcel, Prepare, Vote, Decide, Done}
 use Rattle.fs_record.specs.Effects.{tells_its_effects}
+use Rattle.fs_server.proofs.Leading.{LeadEnds, aborted, lead_ends, led, put_off, unled}
 use Rattle.fs_server.proofs.OneByOne.{each_item, reaps_leave, ships_leave}
-use Rattle.fs_server.specs.Asks.{Asking, answer_to, ask_fresh, ask_from, ask_step, asked_in, fresh_for, fresh_in, fresh_of, grant_of, kind_for, recall_of, recalls_at, with_lease}
+use Rattle.fs_server.specs.Leads.{lead_step}
+use Rattle.fs_server.specs.Asks.{Asking, ask_fresh, ask_from, ask_step, asked_in, fresh_for, fresh_in, fresh_of, kind_for, recall_of, recalls_at, with_lease}
 use Rattle.fs_server.specs.Moves.{fits_here, move_at, parcel_at, peer_step}
 use Rattle.fs_server.specs.Pairs.{numbers_in, pairs_here, released_rows, renewed_rows}
-use Rattle.fs_server.specs.Reaps.{Reaping, lapsed_in, reap_from, reap_item, recalls_for, turn_over, with_blocker, with_reap}
+use Rattle.fs_server.specs.Reaps.{Reaping, lapsed_in, reap_from, recalls_for, turn_over}
 use Rattle.fs_server.specs.Server.{Stepped, begun, end_of, is_mine, moved, strange, to_session}
-use Rattle.fs_server.specs.Ships.{Shipping, first_gone, item_of, ship_from, ship_step, shipped, with_entry}
+use Rattle.fs_server.specs.Ships.{ship_from, ship_step, shipped}
 use Rattle.fs_server.specs.Step.{event_step, message_step, recalls_of, step}
 use Rattle.fs_server.specs.declared.event.ServerEvent.{ServerEvent}
 use Rattle.fs_server.specs.declared.event.ServerEvent.TheVariants.{FromClient, FromPeer, Turn, Recall, Move}
 use Rattle.fs_server.specs.declared.state.Server.{Server}
-use Rattle.fs_field.specs.declared.used.Use.{Use}
 use Rattle.std.specs.Prelude.{IfSome}
 use Rattle.fs_serial.specs.Cluster.{parcel_in}
 use Rattle.fs_serial.proofs.Parcels.{if_some}
@@ -223,12 +220,19 @@ module _ (these : Session → Type 0) where
       either true = record { rows = after_entries by entries s [] h; sends = (p, tt) }
       either false = strange_of s h
 
+  -- what is led changes no row
+  lead_of : (by : Session) (m : ToLead) (s : Server) (x : Stepped) → LeadEnds by m s x → these by → AreOf these s.rows → IsOf x
+  lead_of by m s x (unled l) p h = strange_of s h
+  lead_of by m s x (put_off w l r) p h = record { rows = h; sends = (p, tt) }
+  lead_of by m s x (aborted u l r g) p h = record { rows = h; sends = (p, tt) }
+  lead_of by m s x (led l r g) p h = record { rows = h; sends = (p, tt) }
+
   message_of : (by : Session) (m : ClientMsg) (s : Server) → these by → AreOf these s.rows → IsOf (message_step by m s)
   message_of by (Ask items fresh) s p h = ask_of by items fresh s p h
   message_of by (Renew pairs) s p h = record { rows = renewed (end_of s) (numbers_in (pairs_here s pairs)) s.rows h; sends = (p, tt) }
   message_of by (Release pairs) s p h = record { rows = released (numbers_in (pairs_here s pairs)) s.rows h; sends = (p, tt) }
   message_of by (Ship entries) s p h = ship_of by entries s p h
-  message_of by (Lead m) s p h = strange_of s h
+  message_of by (Lead m) s p h = lead_of by m s (lead_step by m s) (lead_ends by m s) p h
 
   -- ## Reaps
 

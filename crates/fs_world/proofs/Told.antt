@@ -1,5 +1,5 @@
 -- What a session is told of its operation is what was answered it.
-use Rattle.std.proofs.Common.{◌≡◌, ◌∙◌, ℕ, ◌==◌, Bool, true, false, not, ◌&&◌, List, [], ◌∷◌, ◌++◌, append-nil, cond, refl, ap, sym, subst, inl, inr}
+use Rattle.std.proofs.Common.{◌≡◌, ◌∙◌, ℕ, ◌==◌, Bool, true, false, List, [], ◌∷◌, ◌++◌, append-nil, cond, refl, ap, sym, subst, inl, inr}
 use Rattle.std.proofs.lemmas.List.Elements.{filter-append}
 use Rattle.std.specs.Prelude.{Option, Some, None, is_some}
 use Rattle.fs_ident.specs.In.{In}
@@ -8,8 +8,6 @@ use Rattle.fs_ident.specs.declared.actor.Session.{Session}
 use Rattle.fs_ident.proofs.Same.{itself}
 use Rattle.fs_field.specs.declared.asked.Need.{Need}
 use Rattle.fs_field.specs.declared.asked.Need.TheVariants as need
-use Rattle.fs_model.specs.Sound.{is_change}
-use Rattle.fs_model.specs.Step.{is_empty}
 use Rattle.fs_model.specs.declared.op.Op.{Op}
 use Rattle.fs_model.specs.declared.op.Op.TheVariants as op
 use Rattle.fs_model.specs.declared.reply.Reply.{Reply}
@@ -20,11 +18,13 @@ use Rattle.fs_msg.specs.declared.act.Act.TheVariants as act
 use Rattle.fs_msg.specs.declared.act.Busy.TheVariants as busy
 use Rattle.fs_msg.specs.declared.item.Item.{Item}
 use Rattle.fs_msg.specs.declared.note.Note.TheVariants as note
-use Rattle.fs_client.specs.Acts.{act_on, act_plan, answer_with, answers, ask_for, asks, full_one, hinted, need_file, reads, replies, stays, with_id, worth}
+use Rattle.fs_client.specs.Acts.{act_on, act_plan, answer_with, answers, ask_for, asks, full_one, hinted, need_file, stays, unless_led, with_id, worth}
 use Rattle.fs_client.specs.Client.{begun}
+use Rattle.fs_client.specs.declared.led.Led.{Led}
 use Rattle.fs_client.specs.declared.plan.Plan.{Plan}
 use Rattle.fs_client.specs.declared.state.Client.{Client as ClientState}
 use Rattle.fs_serial.specs.World.{told_by, with_told}
+use Rattle.fs_serial.proofs.Answering.{AnswerEnds, answer_ends, as_entry, as_led, as_move, as_read, not_told, put_off}
 use Rattle.fs_serial.proofs.RowKinds.{In-kept}
 use Rattle.fs_world.specs.Order.{Agrees, AreAsTold, HasNumberOf, IsAdmitted, SameButId, Told, replies_in, told_to}
 use Rattle.fs_world.proofs.Seen.{turned}
@@ -124,19 +124,28 @@ module _ (s : Session) (o : Op) (c : ClientState) (own : c.session ≡ s) where
   one_told : (r : Reply) (i : Item) → i.by ≡ Client s → i.n ≡ c.next → i.op ≡ with_id c.view c.last o r → i.reply ≡ r → AllNew s (Some i) (record { session = s; n = c.next; asked = o; reply = r } ∷ [])
   one_told r i by n op_is reply_is = (refl, record { by = by; n = n }, record { op = subst (SameButId o) (sym op_is) (same_id c.view c.last o r); reply = reply_is })
 
+  end_tells : (r : Reply) (p : Plan Act) → AnswerEnds o r c p → Tells p
+  end_tells r p (as_entry t) = one_told r (record { by = Client s; n = c.next; op = with_id c.view c.last o r; reply = r }) refl refl refl refl
+  end_tells r p (as_read t n e) = one_told r (record { by = Client c.session; n = c.next; op = with_id c.view c.last o r; reply = r }) (ap Client own) refl refl refl
+  end_tells r p (as_move t n e) = one_told r (record { by = Client c.session; n = c.next; op = with_id c.view c.last o r; reply = r }) (ap Client own) refl refl refl
+  end_tells r p (as_led t l x e moved k) = tt
+  end_tells r p (put_off what) = tt
+  end_tells r p not_told = tt
+
   answers_tells : (r : Reply) → Tells (answers o r c)
-  answers_tells r = elim (not (is_change r) && is_empty c.log) as (λ b. Tells (cond b (reads o r c) (replies o r c))) [
-    | true ↦ one_told r (record { by = Client c.session; n = c.next; op = with_id c.view c.last o r; reply = r }) (ap Client own) refl refl refl
-    | false ↦ one_told r (record { by = Client s; n = c.next; op = with_id c.view c.last o r; reply = r }) refl refl refl refl
-  ]
+  answers_tells r = end_tells r (answers o r c) (answer_ends o r c)
 
   with_tells : (r : Option Reply) → Tells (answer_with r o c)
   with_tells (Some r) = answers_tells r
   with_tells None = ask_tells (missing_in c.view c.last o) (worth c.full (missing_in c.view c.last o))
 
+  unless_tells : (led : Option Led) → Tells (unless_led led o c)
+  unless_tells (Some l) = tt
+  unless_tells None = with_tells (reply_in c.view c.last o)
+
   on_tells : (over : Option ℕ) → Tells (act_on over o c)
   on_tells (Some n) = tt
-  on_tells None = with_tells (reply_in c.view c.last o)
+  on_tells None = unless_tells c.led
 
 pub act_tells : (s : Session) (o : Op) (c : ClientState) (now : ℕ) → c.session ≡ s → AllNew s (told_by s (act_plan c now o).ready.change (act_plan c now o).out.admitted) (replies_in s o (note.Act (act_plan c now o).out.note ∷ []))
 act_tells s o c now own = on_tells s o (begun now c) own c.over

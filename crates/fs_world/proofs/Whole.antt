@@ -1,5 +1,5 @@
 -- The headline, whatever the form.
-use Rattle.std.proofs.Common.{◌≡◌, ℕ, List, [], ◌∷◌, refl, subst}
+use Rattle.std.proofs.Common.{◌≡◌, ℕ, List, [], refl, subst}
 use Rattle.fs_model.specs.Namespace.{first_space}
 use Rattle.fs_model.proofs.SoundRuns.{first_sound}
 use Rattle.fs_msg.specs.Journal.{IsSerialRun}
