@@ -1,13 +1,13 @@
 -- What a client finishes in an event.
 use Rattle.std.specs.Prelude.{ℕ, List, ◌++◌, Option, map, take}
 use Rattle.fs_ident.specs.declared.actor.Session.{Session}
+use Rattle.fs_client.specs.declared.state.Client.{Client as ClientCore}
 use Rattle.fs_msg.specs.declared.client_note.ClientNote.TheVariants.{Shipped}
-use Rattle.fs_msg.specs.declared.entry.Entry.{Entry}
 use Rattle.fs_msg.specs.declared.item.Item.{Item}
 use Rattle.fs_msg.specs.declared.note.Note.{Note}
 use Rattle.fs_msg.specs.declared.note.Note.TheVariants.{Client}
 use Rattle.fs_server.specs.Ships.{item_of}
-use Rattle.fs_actor.specs.Several.{listed}
+use Rattle.fs_actor.specs.Listed.{listed}
 
 -- so many entries of its log are admitted, as it is told
 abbrev pub shipped_count : Note → ℕ
@@ -15,5 +15,5 @@ shipped_count (Client (Shipped count e)) = count
 shipped_count n = 0
 
 -- what it read and admitted at once, and the entries at the front of its log that are admitted, as it is told
-abbrev pub finished : Session → List Entry → Option Item → Note → List Item
-finished s log read n = listed read ++ map (item_of s) (take (shipped_count n) log)
+abbrev pub finished : Session → ClientCore → Option Item → Note → List Item
+finished s c read n = listed read ++ map (item_of s) (take (shipped_count n) c.log)

@@ -1,9 +1,10 @@
 //! What a client finishes in an event.
 ghost use Rattle.std.specs.Prelude.{◌≡◌, IfOk, take};
 ghost use Rattle.fs_actor.specs.Finished.{finished, shipped_count};
-ghost use Rattle.fs_actor.specs.Several.{listed};
+ghost use Rattle.fs_actor.specs.Listed.{listed};
 ghost use Rattle.fs_server.specs.Ships.{item_of};
 
+use fs_client::ClientCore;
 use fs_ident::{List, Memory, Peer, Session, Twin};
 use fs_msg::{ClientNote, Entry, Item, Note};
 use std::alloc::Global;
@@ -12,14 +13,14 @@ use std::alloc::Global;
 pub(crate) fn finished(
     alloc: Global,
     s: Session,
-    log: &[Entry],
+    client: &ClientCore,
     read: Option<Item>,
     note: &Note,
 ) -> Result<List<Item>, Memory>
-    ensures { IfOk result (λ items. items ≡ finished s log.now read note.now) }
+    ensures { IfOk result (λ items. items ≡ finished s client.now read note.now) }
 {
     let mut items = listed(alloc, read)?;
-    for entry in front(log, shipped_count(note) as usize) {
+    for entry in front(client.log(), shipped_count(note) as usize) {
         items.push(item_of(alloc, s, entry)?)?;
     }
     Ok(items)
