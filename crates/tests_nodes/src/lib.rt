@@ -3,3 +3,6 @@
 
 #[cfg(test)]
 mod nodes;
+
+#[cfg(test)]
+mod several;
