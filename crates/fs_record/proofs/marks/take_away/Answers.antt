@@ -11,4 +11,4 @@ returns-clause-marks c =
     let marks = map_of c.args.marks.now in
     let m = map_of c.take_away.new.records in
     settled_one (changed_file e) marks (map_of c.settle.new.marks) m (c.settle.ensures ∙ ap (settled m marks) c.changed_file.ensures)
-        (subst (MarkOpen (changed_file e ∷ []) marks) (sym c.take_away.ensures) (taken_marks e marks (map_of c.args.records.now) c.requires.removal c.requires.marks))
+    (subst (MarkOpen (changed_file e ∷ []) marks) (sym c.take_away.ensures) (taken_marks e marks (map_of c.args.records.now) c.requires.removal c.requires.marks))
