@@ -110,10 +110,11 @@ fn takes_one(
     ensures err_post { OnErr result (post.new ≡ post.old) }
 {
     let ClientEvent {
-        note: _,
+        note,
         finished,
         packets,
     } = took(alloc, now, s, from, replied, heard, client, post)?;
+    drop(note);
     Ok(ClientTold { finished, packets })
 }
 
