@@ -1,8 +1,8 @@
 -- How an operation ends that a session asks the server to lead.
-use Rattle.std.proofs.Common.{◌≡◌, ◌⊎◌, ◌==◌, ◌||◌, ◌&&◌, ◌+◌, ◌<◌, ◌^◌, ℕ, Bool, true, false, not, List, [], ◌∷◌, length, get_or, drop, map, refl, ap, ap₂, sym, ◌∙◌, subst, cond, inl, inr, arith, rules}
+use Rattle.std.proofs.Common.{◌≡◌, ◌⊎◌, ◌==◌, ◌||◌, ◌&&◌, ◌+◌, ◌<◌, ◌^◌, ℕ, Bool, true, false, not, List, [], ◌∷◌, length, get_or, drop, map, refl, ap, ap₂, sym, ◌∙◌, subst, cond, inl, inr, arith}
 use mathlib.Core.Path.{fun_ext}
 use Rattle.std.specs.Prelude.{Option, Some, None, option_map, nat_le, nat_lt}
-use Rattle.std.specs.List.{filter, find, flat_map, list_all, list_any}
+use Rattle.std.specs.List.{filter, find, list_all, list_any}
 use Rattle.std.specs.Option.{option_or}
 use Rattle.std.proofs.lemmas.Bool.Decides.{nat_tests}
 use Rattle.std.proofs.lemmas.List.{drop_more}
@@ -13,7 +13,7 @@ use Rattle.fs_ident.specs.declared.actor.TxnNo.{TxnNo}
 use Rattle.fs_field.specs.Field.{same_field, tells_no_mode}
 use Rattle.fs_field.specs.Table.{has_no, is_lease, same_kind}
 use Rattle.fs_field.specs.declared.effect.Effect.{Effect}
-use Rattle.fs_field.specs.declared.effect.Effect.TheVariants.{SetChild, SetParent}
+use Rattle.fs_field.specs.declared.effect.Effect.TheVariants.{SetChild}
 use Rattle.fs_field.specs.declared.row.Row.{Row}
 use Rattle.fs_field.specs.declared.used.Part.{Part}
 use Rattle.fs_field.specs.declared.used.Use.{Use}
@@ -21,7 +21,6 @@ use Rattle.fs_map.specs.Map.{longest}
 use Rattle.fs_model.specs.Asking.{home_of}
 use Rattle.fs_model.specs.declared.op.Op.{Op}
 use Rattle.fs_model.specs.declared.op.Op.TheVariants as op
-use Rattle.fs_msg.specs.declared.core_error.Counter.{Counter}
 use Rattle.fs_msg.specs.declared.core_error.Counter.TheVariants.{Leases, Reaps, Transactions}
 use Rattle.fs_msg.specs.declared.lead.Lead.{Lead}
 use Rattle.fs_record.specs.Applied.{is_undoable, records_after, records_after_all, takes_away}
@@ -34,7 +33,6 @@ use Rattle.fs_record.specs.declared.led_end.Why.TheVariants as why
 use Rattle.fs_txn.specs.Deciding.{commit, decision, effects_on, first_end, unless_ended}
 use Rattle.fs_txn.specs.Numbers.{next_txn}
 use Rattle.fs_txn.specs.Preparing as prepare
-use Rattle.fs_txn.specs.declared.decision.Decision.{Decision}
 use Rattle.fs_txn.specs.declared.mode.Mode2.TheVariants.{Plain}
 use Rattle.fs_txn.proofs.Whole.{name_and_place, parts_make}
 use Rattle.fs_server.specs.Laws.{concluded, leader_of}
