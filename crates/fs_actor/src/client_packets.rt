@@ -49,7 +49,9 @@ pub fn client_told_all(
     let mut undo = Undo::new(alloc);
     let heard = post.accept_with_undo(alloc, from, p, &mut undo)?;
     let replied = heard_in(from, p);
-    match takes(alloc, now, s, from, replied, &heard, client, post, &mut undo) {
+    match takes(
+        alloc, now, s, from, replied, &heard, client, post, &mut undo,
+    ) {
         Ok(told) => Ok(told),
         Err(e) => {
             post.undo(undo);

@@ -1,8 +1,8 @@
 //! What a client finishes in an event.
 ghost use Rattle.std.specs.Prelude.{◌≡◌, IfOk, take};
+ghost use Rattle.std.specs.Option.{option_copied};
 ghost use Rattle.fs_actor.specs.Finished.{finished, led_item, shipped_count};
 ghost use Rattle.fs_actor.specs.Listed.{listed};
-ghost use Rattle.std.specs.Option.{option_copied};
 ghost use Rattle.fs_server.specs.Ships.{item_of};
 
 use crate::lists::add;
