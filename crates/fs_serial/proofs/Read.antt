@@ -44,10 +44,11 @@ use Rattle.fs_serial.proofs.Carried.{GoesOnAs, exchange_still}
 use Rattle.fs_serial.proofs.Facts.{items-own, made-append, made_before, or_none, serial_push, session_itself}
 use Rattle.fs_serial.proofs.Knowing.{IsUseOf, use_from}
 use Rattle.fs_serial.proofs.Gone.{lost_in, lost_unread, made_more, telling_later}
+use Rattle.fs_serial.proofs.LedKept.{none_led}
 use Rattle.fs_serial.proofs.Reply.{IsNext, IsOfLease, number_more, value_seen}
 use Rattle.fs_serial.proofs.ReplyNext.{next}
 use Rattle.fs_serial.proofs.Seats.{Seat, seen_at}
-use Rattle.fs_serial.proofs.Settling.{settled_log}
+use Rattle.fs_serial.proofs.Settling.{led_all, none_ends, settled_log}
 
 -- ## One number more
 
@@ -62,14 +63,14 @@ all_next : (by : Session) (n k : ℕ) (d : Settled) → acknowledged_all by k (w
 all_next by n zero d = refl
 all_next by n (suc k) d = ap (acknowledged_all by k) (one_next by n d.log d) ∙ all_next by n k (acknowledged by d.log d)
 
-pub settled_number : (by : Session) (n : ℕ) (answers : List Answer) (d : Settled) → settled by answers (with_next n d) ≡ with_next n (settled by answers d)
-settled_number by n [] d = refl
-settled_number by n (Granted grants fresh end ∷ rest) d = settled_number by n rest (told by (Granted grants fresh end) d)
-settled_number by n (Shipped count end ∷ rest) d = ap (λ x. settled by rest (with_over (over_after end d.over) x)) (all_next by n count d) ∙ settled_number by n rest (told by (Shipped count end) d)
-settled_number by n (Renewed rows end ∷ rest) d = settled_number by n rest d
-settled_number by n (Released count end ∷ rest) d = settled_number by n rest d
-settled_number by n (Led end ∷ rest) d = settled_number by n rest d
-settled_number by n (Recall number ∷ rest) d = settled_number by n rest d
+pub settled_number : (by : Session) (n : ℕ) (answers : List Answer) (d : Settled) → d.led ≡ None → settled by answers (with_next n d) ≡ with_next n (settled by answers d)
+settled_number by n [] d z = refl
+settled_number by n (Granted grants fresh end ∷ rest) d z = settled_number by n rest (told by (Granted grants fresh end) d) z
+settled_number by n (Shipped count end ∷ rest) d z = ap (λ x. settled by rest (with_over (over_after end d.over) x)) (all_next by n count d) ∙ settled_number by n rest (told by (Shipped count end) d) (led_all by count d ∙ z)
+settled_number by n (Renewed rows end ∷ rest) d z = settled_number by n rest d z
+settled_number by n (Released count end ∷ rest) d z = settled_number by n rest d z
+settled_number by n (Led end ∷ rest) d z = ap (settled by rest) (none_ends by end (with_next n d) z) ∙ settled_number by n rest d z ∙ ap (λ x. with_next n (settled by rest x)) (sym (none_ends by end d z))
+settled_number by n (Recall number ∷ rest) d z = settled_number by n rest d z
 
 nothing_in : {X : Type 0} (xs : List X) → ((x : X) → In x xs → ⊥) → xs ≡ []
 nothing_in [] h = refl
@@ -112,7 +113,7 @@ module _ (skew greatest : ℕ) (s : Sight) (by : Session) (replied : List Item) 
   d = seen_at by c down
 
   n : IsNext by d e
-  n = next by c down o r a.plain a.asked a.reply h.client h.fits.fresh h.fits.entries
+  n = next by c down o r a.reply h.client a.unled a.plain a.asked h.fits.fresh h.fits.entries
 
   none : c.log ≡ [] → d.log ≡ []
   none empty = nothing_in d.log (λ x i. subst (In x) empty (settled_log by down (settled_now c) x i))
@@ -166,7 +167,7 @@ module _ (skew greatest : ℕ) (s : Sight) (by : Session) (replied : List Item) 
         ∙ sym (ap (λ is. is ++ i ∷ []) (ap (λ es. all_items by s.journal es) (none empty) ∙ append-nil (items_by by s.journal)))
 
     seen : seen_at by (with_read c) down ≡ with_next (d.next + 1) d
-    seen = settled_number by (c.next + 1) down (settled_now c) ∙ ap (λ k. with_next k d) (ap (λ k. k + 1) n.number)
+    seen = settled_number by (c.next + 1) down (settled_now c) a.unled ∙ ap (λ k. with_next k d) (ap (λ k. k + 1) n.number)
 
     holds : SessionHolds skew greatest later by (replied ++ i ∷ []) (with_next (d.next + 1) d)
     holds = record {
@@ -188,6 +189,7 @@ module _ (skew greatest : ℕ) (s : Sight) (by : Session) (replied : List Item) 
       entries = h.fits.entries;
       once = h.fits.once;
       refused = h.fits.refused;
+      led = none_led skew greatest later by (with_next (d.next + 1) d) n.unled;
     }
 
     goes_on : GoesOnAs c (with_read c) []
@@ -204,7 +206,7 @@ module _ (skew greatest : ℕ) (s : Sight) (by : Session) (replied : List Item) 
     seat_read = record {
       holds = subst (SessionHolds skew greatest later by (replied ++ i ∷ [])) (sym seen) holds;
       fits = subst (SessionFits skew greatest later by) (sym seen) fits;
-      client = record { session = h.client.session; viewed = h.client.viewed; pending = h.client.pending; distinct = h.client.distinct; pinned = h.client.pinned; held = h.client.held; unled = h.client.unled };
+      client = record { session = h.client.session; viewed = h.client.viewed; pending = h.client.pending; distinct = h.client.distinct; pinned = h.client.pinned; held = h.client.held };
       exchange = exchange_still skew greatest s.given s.rows by c (with_read c) [] up down (settled_now c) (settled_now (with_read c)) d (seen_at by (with_read c) down) goes_on
           (λ l i. record { lease = l; held = i; number = refl })
           (λ l i. record { lease = l; held = subst (λ (x : Settled). In l x.leases) seen i; number = refl })

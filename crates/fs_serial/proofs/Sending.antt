@@ -36,7 +36,7 @@ use Rattle.fs_serial.specs.Settled.{Settled, settled, settled_now, told}
 use Rattle.fs_serial.specs.Sight.{Counts, seen, sight_of}
 use Rattle.fs_serial.specs.World.{Ends, GoesOn, World, WorldHolds, settled_at, sight_in, with_answer, with_sent, without_question}
 use Rattle.fs_serial.proofs.Older.{IsLater, later_pairs}
-use Rattle.fs_serial.proofs.Settling.{later}
+use Rattle.fs_serial.proofs.Settling.{stays}
 use Rattle.fs_serial.proofs.Together.{its_client, other_client}
 
 -- ## One answer more
@@ -70,7 +70,7 @@ goes_of greatest w h = record {
   carried = record {
     returns = λ x. (h.exchanges x).returns;
     renewals = λ x. (h.exchanges x).renewals;
-    later = λ x l i. let q = later x (w.ends x).down (settled_now (w.ends x).client) l i in record { lease = q.lease; held = q.held; number = q.number };
+    later = λ x l i. let q = stays x (w.ends x).down (settled_now (w.ends x).client) l i in record { lease = q.lease; held = q.held; number = q.number };
   };
 }
 
@@ -88,6 +88,7 @@ fit_still skew greatest later_greatest given then rows new x e pairs returns ren
   one = h.one;
   ships = h.ships;
   front = h.front;
+  leads = h.leads;
   released = h.released;
   kinds = h.kinds;
   pairs = pairs;
@@ -124,6 +125,7 @@ fit_recalled skew greatest given rows x n e h = record {
   one = one_recalled e.client e.client.exchange e.up e.down n h.one;
   ships = h.ships;
   front = subst (ShipsFront e.up) (sym (settled_recalled x n e)) h.front;
+  leads = h.leads;
   released = h.released;
   kinds = h.kinds;
   pairs = h.pairs;
@@ -224,6 +226,7 @@ module _ (greatest : ℕ) (w : World) (t : Server) (journal : List Item) (by : S
           }));
           ships = o.ships;
           front = λ entries i. absurd i;
+          leads = λ m i. absurd i;
           released = o.released;
           kinds = λ items fresh i. absurd i;
           pairs = λ m i. absurd i;
