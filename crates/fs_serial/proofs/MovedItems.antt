@@ -19,10 +19,16 @@ use Rattle.fs_model.specs.declared.op.Op.{Op}
 use Rattle.fs_model.specs.declared.op.Op.TheVariants as op
 use Rattle.fs_model.specs.declared.reply.Reply.{Reply}
 use Rattle.fs_model.specs.declared.reply.Reply.TheVariants as reply
+use Rattle.std.specs.FinMap.{get}
+use Rattle.fs_ident.specs.declared.actor.Session.{Session}
+use Rattle.fs_model.specs.Sound.{kind_of}
+use Rattle.fs_record.specs.Records.{RecordMap, node_of}
+use Rattle.fs_record.specs.ValueOf.{value_of}
 use Rattle.fs_client.specs.Led.{file_known, file_told, is_led, kind_known, kind_told, life_kind, moved_known}
 use Rattle.fs_view.specs.Script.{Script, answer, ask, ask_delete, ask_deleted, ask_moved, ask_moved_file, ask_movable, ask_new_place, ask_old_place, ask_other_dir, ask_rename, ask_unless_there, no_dir, no_dir_to, no_name, script_of, taken_name, unless}
 use Rattle.fs_view.specs.Told.{child_told, life_told}
-use Rattle.fs_view.specs.Walk.{Given, Known, behind, walk, walk_along}
+use Rattle.fs_view.specs.Gone.{known_with}
+use Rattle.fs_view.specs.Walk.{Given, Known, always, behind, walk, walk_along}
 use Rattle.fs_view.specs.declared.walk.Walk.{Walk}
 use Rattle.fs_serial.proofs.Naming.{reply_behind}
 
@@ -230,3 +236,16 @@ moved_alike known other given (op.Rename sdir sname ddir dname) r m l h k names 
     let q = moved_items known given (op.Rename sdir sname ddir dname) r m.0 l h p.0 in
     moved_whole other (op.Rename sdir sname ddir dname) m (ap file_told (names sdir sname q.child) ∙ p.0) (ap kind_told (lives m.0 Shared q.life) ∙ p.1)
 moved_alike known other given o r m l h k names lives = absurd (cc)
+
+-- the directory to which something goes lives, where the values give such a reply
+lives_as : (k : Option Kind) → no_dir_to (Some k) ≡ None → k ≡ Some Dir
+lives_as None h = absurd (cc)
+lives_as (Some File) h = absurd (cc)
+lives_as (Some Dir) h = refl
+
+pub other_dir_lives : (m : RecordMap) (by : Session) (sdir sname ddir dname : List ℕ) → same sdir ddir ≡ false → (walk (known_with (value_of m by)) always (op.Rename sdir sname ddir dname)).reply ≡ Some reply.Renamed → kind_of (node_of (get m ddir)) ≡ Some Dir
+other_dir_lives m by sdir sname ddir dname t h =
+    let known = known_with (value_of m by) in
+    let there : (walk_along known always (ask_other_dir sdir sname ddir dname)).reply ≡ Some reply.Renamed = subst (λ b. (walk_along known always (cond b (ask_old_place sdir sname ddir dname) (ask_other_dir sdir sname ddir dname))).reply ≡ Some reply.Renamed) t (to_rename known always sdir sname ddir dname h).comes in
+    let o : Option Reply = no_dir_to (Some (kind_of (node_of (get m ddir)))) in
+    lives_as (kind_of (node_of (get m ddir))) (past known always o (ask_old_place sdir sname ddir dname) reply.Renamed (no_dir_to_else known always (Some (kind_of (node_of (get m ddir))))) there).0

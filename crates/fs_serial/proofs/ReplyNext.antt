@@ -49,7 +49,6 @@ use Rattle.fs_serial.specs.Fresh.{made_by, or_else}
 use Rattle.fs_serial.specs.Leases.{IsFresh, FreshLeases}
 use Rattle.fs_serial.specs.Pending.{IsAnswer, AreEntries, NamesItsFile, UsesAtHome, named_by}
 use Rattle.fs_serial.specs.Settled.{Lease, Settled, lease_in, lease_with, settled_now, settled, effects_in}
-use Rattle.fs_serial.specs.World.{is_called}
 use Rattle.fs_serial.proofs.Births.{life_after, makes_there}
 use Rattle.fs_serial.proofs.HomeAsks.{IsGivenHere, MayGive, called_home, given_home, home_with_id, items_home, names_fresh}
 use Rattle.fs_serial.proofs.Knowing.{In-filter_map, all_there, from-filter_map, IsKnown, known_by_lease, IsOffered, offered_by_lease, used_there, IsUseOf, use_from}
@@ -248,7 +247,7 @@ module _ (by : Session) (c : Client) (answers : List Answer) (o : Op) (r : Reply
         let q = from-filter_map (item_use v c.last) u (walk_in v c.last o).items i in
         subst (λ home. (file_of u.field ≡ home) ⊎ (named_by e.op ≡ Some (file_of u.field))) (sym (home_with_id v c.last o r)) (of_item q.0 q.1 q.2)
       where
-        called : is_called o ≡ true
+        called : (tells_its_effects o && may_ask o) ≡ true
         called = joined (tells_its_effects o) (may_ask o) plain may
 
         of_item : (n : Need) → In n (walk_in v c.last o).items → item_use v c.last n ≡ Some u → (file_of u.field ≡ home_of o) ⊎ (named_by e.op ≡ Some (file_of u.field))
