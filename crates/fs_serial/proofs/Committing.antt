@@ -1,12 +1,10 @@
 -- An operation that is led commits where the rows of all its leases stand.
-use Rattle.std.proofs.Common.{◌≡◌, ℕ, ◌&&◌, ◌⊎◌, not, true, false, List, [], ◌∷◌, refl, sym, ap, ◌∙◌, subst, inl, inr}
-use Rattle.std.specs.Prelude.{Option, Some, None}
+use Rattle.std.proofs.Common.{◌≡◌, ℕ, ◌⊎◌, true, List, refl, sym, ap, ◌∙◌, inl, inr}
+use Rattle.std.specs.Prelude.{Some}
 use Rattle.std.specs.FinMap.{get}
 use Rattle.fs_ident.specs.Ident.{same}
 use Rattle.fs_ident.specs.declared.actor.Session.{Session}
-use Rattle.fs_ident.specs.declared.kind.Kind.{Kind}
-use Rattle.fs_ident.specs.declared.kind.Kind.TheVariants.{File, Dir}
-use Rattle.fs_field.specs.declared.value.Value.TheVariants as value
+use Rattle.fs_ident.specs.declared.kind.Kind.TheVariants.{File}
 use Rattle.fs_model.specs.Namespace.{NodeMap}
 use Rattle.fs_model.specs.Sound.{IsSound, child_of, kind_of}
 use Rattle.fs_model.specs.Step.{step}
@@ -18,7 +16,7 @@ use Rattle.fs_record.specs.LedEffects.{moves_or_removes, named_file}
 use Rattle.fs_record.specs.Records.{RecordMap, node_of, nodes_of}
 use Rattle.fs_record.specs.ValueOf.{value_of}
 use Rattle.fs_record.proofs.NodeMaps.{node_there}
-use Rattle.fs_client.specs.Led.{file_known, file_told, is_led, kind_known, kind_told}
+use Rattle.fs_client.specs.Led.{file_known, is_led}
 use Rattle.fs_client.specs.declared.led.Led.{Led}
 use Rattle.fs_server.specs.Leads.{reply_of}
 use Rattle.fs_view.specs.Gone.{known_with}

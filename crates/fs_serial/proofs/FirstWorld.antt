@@ -125,7 +125,7 @@ module _ (greatest term : ℕ) (s : Server) (o : Counts) (no_rows : s.rows ≡ [
   first_holds clock = record {
     all = record { servers = first_servers; kept = first_kept; sessions = first_session; fitting = first_fits; reserved = first_reserved };
     clock = clock;
-    clients = λ x. record { session = refl; viewed = refl; pending = refl; distinct = λ k l i j e. absurd i; pinned = λ k i. absurd i; held = λ e i u j. absurd i};
+    clients = λ x. record { session = refl; viewed = refl; pending = refl; distinct = λ k l i j e. absurd i; pinned = λ k i. absurd i; held = λ e i u j. absurd i };
     exchanges = λ x. record {
       one = (refl, refl);
       ships = tt;

@@ -12,7 +12,7 @@ use Rattle.fs_msg.specs.declared.end.End.{End}
 use Rattle.fs_view.specs.declared.kept.Kept.{Kept}
 use Rattle.fs_view.specs.Kept.{lease_of}
 use Rattle.fs_client.specs.declared.state.Client.{Client}
-use Rattle.fs_serial.specs.Settled.{HasLeaseAs, Lease, Settled, granted, lease_in, lease_with, settled, settled_now, told}
+use Rattle.fs_serial.specs.Settled.{HasLeaseAs, Settled, granted, lease_in, lease_with, settled, settled_now, told}
 use Rattle.fs_serial.proofs.Knowing.{In-filter_map}
 use Rattle.fs_serial.proofs.Settling.{stays}
 

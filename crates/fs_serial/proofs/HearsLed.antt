@@ -1,9 +1,7 @@
 -- A client hears how what was led ended.
-use Rattle.std.proofs.Common.{◌≡◌, ℕ, ◌+◌, ◌==◌, true, List, [], ◌∷◌, map, refl, sym, ap, ◌∙◌, subst, inl, inr}
+use Rattle.std.proofs.Common.{◌≡◌, ℕ, ◌+◌, ◌==◌, true, List, ◌∷◌, map, refl, sym, ap, ◌∙◌, subst, inr}
 use Rattle.std.specs.Prelude.{Option, Some, None}
-use Rattle.std.specs.List.{filter_map}
 use Rattle.fs_ident.specs.In.{In}
-use Rattle.fs_ident.specs.declared.actor.LeaseNo.{LeaseNo}
 use Rattle.fs_ident.specs.declared.actor.Session.{Session}
 use Rattle.fs_ident.proofs.Booleans.{second}
 use Rattle.fs_ident.proofs.Standing.{In-map, In-mapped}
@@ -14,7 +12,7 @@ use Rattle.fs_msg.specs.declared.client_msg.ClientMsg.{ClientMsg}
 use Rattle.fs_msg.specs.declared.item.Item.{Item}
 use Rattle.fs_record.specs.declared.led_end.LedEnd.{LedEnd}
 use Rattle.fs_record.specs.declared.led_end.LedEnd.TheVariants as end
-use Rattle.fs_client.specs.Answers.{answer_fits, ended_plan, led_plan}
+use Rattle.fs_client.specs.Answers.{answer_fits, ended_plan}
 use Rattle.fs_client.specs.Client.{changed, with_led_done, with_led_freed}
 use Rattle.fs_client.specs.Led.{effects_of_led, end_fits, without_led_pins}
 use Rattle.fs_client.specs.Turns.{pair_of}
@@ -24,12 +22,12 @@ use Rattle.fs_client.specs.declared.led.Led.{Led as TheLed}
 use Rattle.fs_client.specs.declared.state.Client.{Client}
 use Rattle.fs_view.specs.declared.kept.Kept.{Kept}
 use Rattle.fs_view.specs.Kept.{entries_of, is_leaving, number_of}
-use Rattle.fs_view.specs.View.{View, knowing, unpinned_all}
+use Rattle.fs_view.specs.View.{knowing, unpinned_all}
 use Rattle.fs_serial.specs.Client.{ClientFits, led_before, times_in, times_used}
-use Rattle.fs_serial.specs.Exchange.{ExchangeFits, ReturnFits, ReturnsFit, server_of_question}
+use Rattle.fs_serial.specs.Exchange.{ExchangeFits, ReturnFits, ReturnsFit}
 use Rattle.fs_serial.specs.Parts.{SessionFits, SessionHolds}
 use Rattle.fs_serial.specs.Pending.{HasLease}
-use Rattle.fs_serial.specs.Settled.{Lease, Settled, lease_after, lease_in, led_done, led_ended, led_freed, led_over, settled, settled_now, told}
+use Rattle.fs_serial.specs.Settled.{Settled, lease_after, led_done, led_ended, led_freed, settled, settled_now, told}
 use Rattle.fs_serial.specs.Sight.{Sight}
 use Rattle.fs_serial.proofs.Facts.{each_image}
 use Rattle.fs_serial.proofs.Heard.{IsHeard, heard, quiet_exchange}

@@ -1,5 +1,5 @@
 -- A server that leads an operation steps as the server that has all does.
-use Rattle.std.proofs.Common.{◌≡◌, ℕ, ◌+◌, ◌==◌, ◌&&◌, ◌⊎◌, not, Bool, true, false, List, [], ◌∷◌, refl, sym, ap, ◌∙◌, subst, inl, inr, cond}
+use Rattle.std.proofs.Common.{◌≡◌, ℕ, ◌+◌, ◌&&◌, ◌⊎◌, not, Bool, true, false, List, refl, sym, ap, ◌∙◌, subst, inl, inr}
 use Rattle.std.specs.Prelude.{Option, Some, None, is_some, slice_get}
 use Rattle.std.specs.FinMap.{get}
 use Rattle.fs_ident.specs.Ident.{same}
@@ -20,7 +20,6 @@ use Rattle.fs_model.specs.declared.reply.Reply.{Reply}
 use Rattle.fs_model.specs.declared.reply.Reply.TheVariants as reply
 use Rattle.fs_msg.specs.declared.client_msg.ClientMsg.TheVariants.{Lead}
 use Rattle.fs_msg.specs.declared.lead.Lead.{Lead as ToLead}
-use Rattle.fs_record.specs.Applied.{records_after_all}
 use Rattle.fs_record.specs.LedEffects.{led_effects}
 use Rattle.fs_record.specs.Records.{node_of}
 use Rattle.fs_record.specs.ValueOf.{value_of}
@@ -29,7 +28,7 @@ use Rattle.fs_record.specs.declared.record.Record.{Record}
 use Rattle.fs_client.specs.Led.{is_led, lead_of}
 use Rattle.fs_client.specs.declared.led.Led.{Led}
 use Rattle.fs_server.specs.Leads.{aborts, changes_paths, commits, has_all, is_over_paths, parts_in, refuses, reply_of}
-use Rattle.fs_server.specs.Server.{Stepped, is_mine}
+use Rattle.fs_server.specs.Server.{is_mine}
 use Rattle.fs_server.specs.declared.event.ServerEvent.TheVariants.{FromClient}
 use Rattle.fs_server.specs.declared.state.Server.{Server}
 use Rattle.fs_txn.specs.Parts.{led_files, part_at}
@@ -45,8 +44,8 @@ use Rattle.fs_serial.proofs.MoveScripts.{file_led, home_led, source_led}
 use Rattle.fs_serial.proofs.MovedItems.{other_dir_lives}
 use Rattle.fs_serial.proofs.PutRecords.{AreOn}
 use Rattle.fs_serial.proofs.Rest.{IsApart, Rest, effects_apart, effects_joined, itself, joined, record_here}
+use Rattle.fs_serial.proofs.RestOf.{IsBetween, between}
 use Rattle.fs_serial.proofs.SameStep.{IsSameStep, apart, here, more, stepped}
-use Rattle.fs_serial.proofs.SetAt.{IsBetween, between}
 use Rattle.fs_serial.proofs.Sim.{IsSim}
 
 -- ## What is changed is here

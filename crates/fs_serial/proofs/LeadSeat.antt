@@ -1,7 +1,6 @@
 -- A client asks a server to lead an operation: all that holds of its session.
-use Rattle.std.proofs.Common.{◌≡◌, ℕ, ◌+◌, ◌<◌, ◌≤◌, ◌&&◌, not, true, false, List, [], ◌∷◌, ◌++◌, ◌⊎◌, map, refl, sym, ap, ◌∙◌, subst, inl, inr, arith}
-use Rattle.std.specs.Prelude.{Option, Some, None, is_some, option_map}
-use Rattle.std.specs.List.{filter_map}
+use Rattle.std.proofs.Common.{◌≡◌, ℕ, ◌+◌, ◌<◌, ◌≤◌, true, List, [], ◌∷◌, ◌++◌, ◌⊎◌, map, refl, sym, ap, ◌∙◌, subst, inl, inr, arith}
+use Rattle.std.specs.Prelude.{Some, None, is_some, option_map}
 use Rattle.fs_ident.specs.In.{In}
 use Rattle.fs_ident.specs.declared.actor.LeaseNo.{LeaseNo}
 use Rattle.fs_ident.specs.declared.actor.Session.{Session}
@@ -13,13 +12,10 @@ use Rattle.fs_field.specs.declared.field.Field.{Field}
 use Rattle.fs_field.specs.declared.field.Field.TheVariants.{Child, Life}
 use Rattle.fs_field.specs.declared.lease_kind.LeaseKind.{LeaseKind}
 use Rattle.fs_field.specs.declared.lease_kind.LeaseKind.TheVariants.{Exclusive}
-use Rattle.fs_field.specs.declared.row.Row.{Row}
 use Rattle.fs_field.specs.declared.used.Use.{Use}
 use Rattle.fs_field.specs.declared.value.Value.{Value}
 use Rattle.fs_model.specs.declared.op.Op.{Op}
-use Rattle.fs_model.specs.declared.op.Op.TheVariants as op
 use Rattle.fs_model.specs.declared.reply.Reply.{Reply}
-use Rattle.fs_model.specs.declared.reply.Reply.TheVariants as reply
 use Rattle.fs_msg.specs.declared.answer.Answer.{Answer}
 use Rattle.fs_msg.specs.declared.client_msg.ClientMsg.{ClientMsg}
 use Rattle.fs_msg.specs.declared.client_msg.ClientMsg.TheVariants.{Lead}
@@ -28,19 +24,18 @@ use Rattle.fs_msg.specs.declared.item.Item.{Item}
 use Rattle.fs_record.specs.ValueOf.{value_of}
 use Rattle.fs_client.specs.Acts.{led_with}
 use Rattle.fs_client.specs.Client.{with_lead}
-use Rattle.fs_client.specs.Led.{file_told, is_led, lead_of, moved_known}
+use Rattle.fs_client.specs.Led.{is_led, lead_of, moved_known}
 use Rattle.fs_client.specs.Turns.{pair_of}
-use Rattle.fs_client.specs.declared.exchange.Exchange.TheVariants.{Leads}
 use Rattle.fs_client.specs.declared.led.Led.{Led}
 use Rattle.fs_client.specs.declared.state.Client.{Client}
 use Rattle.fs_txn.specs.Parts.{led_files}
 use Rattle.fs_view.specs.declared.kept.Kept.{Kept}
 use Rattle.fs_view.specs.Gone.{IsUnread, known_with}
-use Rattle.fs_view.specs.Kept.{entries_of, is_leaving, number_of, use_of}
+use Rattle.fs_view.specs.Kept.{is_leaving, number_of, use_of}
 use Rattle.fs_view.specs.Script.{script_of}
-use Rattle.fs_view.specs.View.{given_by, item_use, known_by, pinned_all, reply_in, uses_in, value_after_log, walk_in}
+use Rattle.fs_view.specs.View.{given_by, item_use, known_by, reply_in, value_after_log, walk_in}
 use Rattle.fs_view.specs.Walk.{always, walk}
-use Rattle.fs_serial.specs.Client.{ClientFits, led_before, times_in, times_used}
+use Rattle.fs_serial.specs.Client.{ClientFits, led_before, times_in}
 use Rattle.fs_server.specs.Asks.{kind_for}
 use Rattle.fs_server.specs.Leads.{parts_in, uses_of}
 use Rattle.fs_serial.specs.Exchange.{ExchangeFits, IsFront, IsToBeLed, ReturnFits, ReturnsFit, due}

@@ -1,6 +1,6 @@
 -- The server that has all is asked to lead an operation.
-use Rattle.std.proofs.Common.{◌≡◌, ℕ, ◌+◌, ◌≤◌, ◌==◌, ◌&&◌, true, false, List, [], ◌∷◌, ◌++◌, refl, sym, ap, ◌∙◌, subst, inl, inr, arith}
-use Rattle.std.specs.Prelude.{Option, Some, None}
+use Rattle.std.proofs.Common.{◌≡◌, ℕ, true, List, [], ◌∷◌, ◌++◌, refl, sym, ap, ◌∙◌, subst, inl}
+use Rattle.std.specs.Prelude.{Some}
 use Rattle.std.specs.Cmp.{nat_eq_equiv}
 use Rattle.fs_ident.specs.In.{In}
 use Rattle.fs_ident.specs.declared.actor.LeaseNo.{LeaseNo}
@@ -10,8 +10,7 @@ use Rattle.fs_ident.proofs.Standing.{In-map, In-mapped}
 use Rattle.fs_model.specs.declared.op.Op.{Op}
 use Rattle.fs_model.specs.declared.op.Op.TheVariants as op
 use Rattle.fs_model.specs.declared.reply.Reply.{Reply}
-use Rattle.fs_model.specs.declared.reply.Reply.TheVariants as reply
-use Rattle.fs_msg.specs.declared.answer.Answer.TheVariants.{Led, Renewed}
+use Rattle.fs_msg.specs.declared.answer.Answer.TheVariants.{Led}
 use Rattle.fs_msg.specs.declared.client_msg.ClientMsg.TheVariants.{Lead}
 use Rattle.fs_msg.specs.declared.item.Item.{Item}
 use Rattle.fs_msg.specs.declared.lead.Lead.{Lead as ToLead}
@@ -24,7 +23,7 @@ use Rattle.fs_server.specs.Leads.{led_item, reply_of}
 use Rattle.fs_server.specs.Ships.{item_of}
 use Rattle.fs_server.specs.declared.state.Server.{Server}
 use Rattle.fs_client.specs.Answers.{answer_fits}
-use Rattle.fs_client.specs.Led.{can_end_with, effects_of_led, end_fits, is_led, lead_of}
+use Rattle.fs_client.specs.Led.{can_end_with, end_fits, is_led, lead_of}
 use Rattle.fs_client.specs.declared.exchange.Exchange.{Exchange}
 use Rattle.fs_client.specs.declared.exchange.Exchange.TheVariants.{Asks, Renews, Releases, Ships, Leads}
 use Rattle.fs_client.specs.declared.led.Led.{Led as TheLed}
@@ -33,10 +32,10 @@ use Rattle.fs_serial.specs.Commits.{IsCommitted, with_commit, with_led}
 use Rattle.fs_serial.specs.Exchange.{IsQuestion, IsToBeLed, server_of_question}
 use Rattle.fs_serial.specs.Fresh.{Reserves, reserved_by}
 use Rattle.fs_serial.specs.Led.{LedFits, LedStands}
-use Rattle.fs_serial.specs.Parts.{AllHold, SessionFits, SessionHolds, with_client, with_replies}
+use Rattle.fs_serial.specs.Parts.{SessionFits, SessionHolds, with_client, with_replies}
 use Rattle.fs_serial.specs.Settled.{Lease, Settled, lease_after, led_done, led_ended, led_freed, led_over, settled_now, told}
-use Rattle.fs_serial.specs.Sight.{Sight, sight_of, seen}
-use Rattle.fs_serial.specs.World.{AllCarried, Ends, GoesOn, HasNumber, World, WorldHolds, settled_at, sight_in, with_answer, without_question}
+use Rattle.fs_serial.specs.Sight.{Sight, sight_of}
+use Rattle.fs_serial.specs.World.{GoesOn, HasNumber, World, WorldHolds, settled_at, sight_in, with_answer, without_question}
 use Rattle.fs_serial.proofs.Committed.{commit_keeps_parts}
 use Rattle.fs_serial.proofs.Committing.{led_reply}
 use Rattle.fs_serial.proofs.Counting.{given_by}

@@ -1,8 +1,7 @@
 -- A client answers a delete or a rename that changes nothing.
-use Rattle.std.proofs.Common.{◌≡◌, ℕ, ◌+◌, ◌<◌, ◌≤◌, ◌&&◌, ◌⊎◌, not, Bool, true, false, List, [], ◌∷◌, map, refl, sym, ap, ◌∙◌, subst, inl, inr, cond, arith}
+use Rattle.std.proofs.Common.{◌≡◌, ℕ, ◌+◌, ◌<◌, ◌≤◌, ◌&&◌, ◌⊎◌, not, Bool, true, false, List, [], map, refl, sym, ap, ◌∙◌, subst, inl, inr, cond, arith}
 use Rattle.std.specs.Prelude.{Option, Some, None, is_some}
 use Rattle.std.specs.FinMap.{get}
-use Rattle.std.proofs.lemmas.Bool.{not-true}
 use Rattle.std.proofs.lemmas.Bool.{ltb-true}
 use Rattle.fs_ident.specs.In.{In}
 use Rattle.fs_ident.specs.Ident.{same}
@@ -32,7 +31,7 @@ use Rattle.fs_record.specs.ValueOf.{value_of}
 use Rattle.fs_client.specs.Acts.{with_id}
 use Rattle.fs_client.specs.Led.{is_led}
 use Rattle.fs_client.specs.declared.state.Client.{Client}
-use Rattle.fs_view.specs.Gone.{IsUnread, known_with}
+use Rattle.fs_view.specs.Gone.{IsUnread}
 use Rattle.fs_view.specs.Laws.{but_cycle}
 use Rattle.fs_view.specs.View.{reply_in, uses_in, value_after_log}
 use Rattle.fs_view.specs.Walk.{always, known_in, walk}
@@ -43,7 +42,7 @@ use Rattle.fs_serial.specs.Fresh.{made_by}
 use Rattle.fs_serial.specs.Leases.{IsBacked}
 use Rattle.fs_serial.specs.Settled.{Lease, Settled, effects_in, settled_now}
 use Rattle.fs_serial.specs.Sight.{Sight}
-use Rattle.fs_serial.proofs.Cycles.{WouldCycle, cycle_named, cycles}
+use Rattle.fs_serial.proofs.Cycles.{cycle_named, cycles}
 use Rattle.fs_serial.proofs.Facts.{known_nodes}
 use Rattle.fs_serial.proofs.Gone.{lost_in, lost_unread}
 use Rattle.fs_serial.proofs.Knowing.{IsUseOf, use_from}
@@ -130,8 +129,8 @@ move_reply m by (op.Rename sdir sname ddir dname) r sound t may h w =
     let q : Some (but_cycle (step m by o).reply) ≡ Some r = sym (renames m by sdir sname ddir dname) ∙ w in
     let p : but_cycle (step m by o).reply ≡ r = cc in
     but_renamed (step m by o).reply r p (λ c e.
-        let f = cycle_named m sdir sname ddir dname (get m sdir) c in
-        own_place sdir sname ddir dname r e h (cycles m sdir sname ddir dname f.0 (get m sdir) f.1 c).other)
+    let f = cycle_named m sdir sname ddir dname (get m sdir) c in
+    own_place sdir sname ddir dname r e h (cycles m sdir sname ddir dname f.0 (get m sdir) f.1 c).other)
 move_reply m by o r sound t may h w = absurd (cc)
 
 same_op : (c : Client) (o : Op) (r : Reply) → tells_its_effects o ≡ false → with_id c.view c.last o r ≡ o

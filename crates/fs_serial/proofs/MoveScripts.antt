@@ -1,14 +1,12 @@
 -- What a delete or a rename asks for: kinds that servers give, on its files alone.
-use Rattle.std.proofs.Common.{◌≡◌, ℕ, ◌&&◌, ◌||◌, Bool, true, false, List, [], ◌∷◌, ◌++◌, map, refl, sym, ap, ◌∙◌, subst, inl, inr, cond}
+use Rattle.std.proofs.Common.{◌≡◌, ℕ, ◌&&◌, ◌||◌, Bool, true, false, List, [], ◌∷◌, ◌++◌, map, refl, sym, subst, inl, inr, cond}
 use Rattle.std.specs.Prelude.{Option, Some, None, is_some}
 use Rattle.std.specs.List.{flat_map, list_any}
 use Rattle.fs_ident.specs.Ident.{same}
 use Rattle.fs_ident.specs.In.{In}
-use Rattle.fs_ident.specs.declared.kind.Kind.{Kind}
 use Rattle.fs_ident.proofs.Same.{same_is, same_self}
 use Rattle.fs_ident.proofs.Standing.{In-behind, In-front, In-mapped}
 use Rattle.fs_modes.specs.declared.modes.Mode.{Mode}
-use Rattle.fs_field.specs.After.{Handles}
 use Rattle.fs_field.specs.Field.{file_of}
 use Rattle.fs_field.specs.declared.asked.Need.{Need}
 use Rattle.fs_field.specs.declared.asked.Need.TheVariants as need
@@ -28,9 +26,9 @@ use Rattle.fs_client.specs.Led.{file_known, file_told, is_led, lead_of}
 use Rattle.fs_client.specs.declared.led.Led.{Led}
 use Rattle.fs_server.specs.Asks.{kind_for}
 use Rattle.fs_server.specs.Leads.{parts_in, uses_of}
-use Rattle.fs_txn.specs.Parts.{led_files, part_at, source_of, uses_on, with_file}
+use Rattle.fs_txn.specs.Parts.{led_files, part_at, source_of, with_file}
 use Rattle.fs_txn.specs.declared.mode.Mode2.TheVariants.{Plain}
-use Rattle.fs_view.specs.Script.{Script, accesses, answer, ask, ask_delete, ask_deleted, ask_empty, ask_movable, ask_moved, ask_moved_file, ask_new_place, ask_old_place, ask_other_dir, ask_others, ask_rename, ask_unless_there, ask_unused, denied, give, in_use, no_dir, no_dir_to, no_name, not_empty, script_of, taken_name, unless}
+use Rattle.fs_view.specs.Script.{Script, accesses, answer, ask, ask_delete, ask_deleted, ask_empty, ask_movable, ask_moved, ask_new_place, ask_old_place, ask_other_dir, ask_others, ask_rename, ask_unless_there, ask_unused, denied, give, in_use, no_dir, no_dir_to, no_name, not_empty, script_of, taken_name, unless}
 use Rattle.fs_view.specs.Told.{child_told, is_other_told, life_told, names_told, own_told}
 use Rattle.fs_view.specs.Walk.{Given, Known, behind, walk_along}
 use Rattle.fs_view.specs.declared.walk.Walk.{Walk}
@@ -112,13 +110,21 @@ module _ (on : List ℕ → Type 0) (known : Known) where
     child = child_told (known (Child sdir sname) Exclusive)
 
     old_on : Asks (ask_old_place sdir sname ddir dname)
-    old_on = (refl, s, unless_on (no_name child) (ask_unless_there sdir sname ddir dname child)
-        (either_on (same sdir ddir && same sname dname) (answer reply.Renamed) (ask_new_place sdir ddir dname child) tt
-        (refl, d, unless_on (taken_name (child_told (known (Child ddir dname) Exclusive))) (ask_moved sdir ddir child) (moved_on sdir ddir child (λ file e. f file (told_child (known (Child sdir sname) Exclusive) file e))))))
+    old_on = (
+      refl,
+      s,
+      unless_on (no_name child) (ask_unless_there sdir sname ddir dname child)
+          (either_on (same sdir ddir && same sname dname) (answer reply.Renamed) (ask_new_place sdir ddir dname child) tt
+          (refl, d, unless_on (taken_name (child_told (known (Child ddir dname) Exclusive))) (ask_moved sdir ddir child) (moved_on sdir ddir child (λ file e. f file (told_child (known (Child sdir sname) Exclusive) file e))))),
+    )
 
     pub rename_on : Asks (script_of (op.Rename sdir sname ddir dname))
-    rename_on = (refl, s, unless_on (no_dir (life_told (known (Life sdir) Shared))) (ask_rename sdir sname ddir dname)
-        (either_on (same sdir ddir) (ask_old_place sdir sname ddir dname) (ask_other_dir sdir sname ddir dname) old_on (refl, d, unless_on (no_dir_to (life_told (known (Life ddir) Shared))) (ask_old_place sdir sname ddir dname) old_on)))
+    rename_on = (
+      refl,
+      s,
+      unless_on (no_dir (life_told (known (Life sdir) Shared))) (ask_rename sdir sname ddir dname)
+          (either_on (same sdir ddir) (ask_old_place sdir sname ddir dname) (ask_other_dir sdir sname ddir dname) old_on (refl, d, unless_on (no_dir_to (life_told (known (Life ddir) Shared))) (ask_old_place sdir sname ddir dname) old_on)),
+    )
 
 -- ## Either
 

@@ -1,5 +1,5 @@
 -- What stands in the walk of a delete or a rename that is led.
-use Rattle.std.proofs.Common.{◌≡◌, ℕ, ◌&&◌, ◌||◌, Bool, true, false, not, List, [], ◌∷◌, refl, sym, ap, ◌∙◌, subst, inl, inr, cond}
+use Rattle.std.proofs.Common.{◌≡◌, ℕ, ◌&&◌, ◌||◌, Bool, true, false, List, refl, sym, ap, ◌∙◌, subst, inl, inr, cond}
 use Rattle.std.proofs.lemmas.Bool.{not-true}
 use Rattle.std.specs.Prelude.{Option, Some, None, is_some, option_map}
 use Rattle.std.specs.Option.{option_and_then}
@@ -25,7 +25,7 @@ use Rattle.fs_model.specs.Sound.{kind_of}
 use Rattle.fs_record.specs.Records.{RecordMap, node_of}
 use Rattle.fs_record.specs.ValueOf.{value_of}
 use Rattle.fs_client.specs.Led.{file_known, file_told, is_led, kind_known, kind_told, life_kind, moved_known}
-use Rattle.fs_view.specs.Script.{Script, answer, ask, ask_delete, ask_deleted, ask_moved, ask_moved_file, ask_movable, ask_new_place, ask_old_place, ask_other_dir, ask_rename, ask_unless_there, no_dir, no_dir_to, no_name, script_of, taken_name, unless}
+use Rattle.fs_view.specs.Script.{Script, answer, ask, ask_delete, ask_deleted, ask_moved_file, ask_movable, ask_new_place, ask_old_place, ask_other_dir, ask_rename, ask_unless_there, no_dir, no_dir_to, no_name, script_of, taken_name, unless}
 use Rattle.fs_view.specs.Told.{child_told, life_told}
 use Rattle.fs_view.specs.Gone.{known_with}
 use Rattle.fs_view.specs.Walk.{Given, Known, always, behind, walk, walk_along}
