@@ -1,26 +1,20 @@
 -- What is used at a reading, where leases that are over are not seen.
-use Rattle.std.proofs.Common.{◌≡◌, ℕ, Bool, true, false, List, refl, sym, ap, ◌∙◌}
-use Rattle.std.specs.Prelude.{◌&&◌, Result, Ok, Err, IfOk, IsErr, IsErrOf}
-use Rattle.std.specs.Result.{IsErrAnd}
+use Rattle.std.proofs.Common.{◌≡◌, ℕ, Bool, true, List, sym, ap, ◌∙◌}
+use Rattle.std.specs.Prelude.{Option, Result, Ok, Err, IfOk}
 use Rattle.std.specs.List.{filter_map}
 use Rattle.fs_field.specs.declared.asked.Need.{Need}
+use Rattle.fs_field.specs.declared.field.Field.{Field}
+use Rattle.fs_field.specs.declared.lease_kind.LeaseKind.{LeaseKind}
 use Rattle.fs_field.specs.declared.used.Use.{Use}
-use Rattle.fs_msg.specs.declared.core_error.CoreError.{CoreError}
-use Rattle.fs_msg.specs.declared.core_error.CoreError.TheVariants as error
-use Rattle.fs_msg.specs.declared.core_error.Counter.{Counter}
-use Rattle.fs_msg.specs.declared.core_error.Counter.TheVariants.{Entries}
-use Rattle.fs_view.specs.View.{View, are_distinct, can_pin_all, item_use, lapsed_at}
+use Rattle.fs_field.specs.declared.value.Value.{Value}
+use Rattle.fs_view.specs.View.{View, are_distinct, can_pin_all, item_use, known_by, lapsed_at}
+use Rattle.fs_view.specs.Walk.{Known}
 use Rattle.fs_view.proofs.Counting.{pins_pass}
-use Rattle.fs_view.proofs.Lapsed.{used_pass}
+use Rattle.fs_view.proofs.Lapsed.{known_passes, used_pass}
 
-pub no_room : (a b : Bool) → b ≡ false → (a && b) ≡ false
-no_room true b h = h
-no_room false b h = refl
-
--- what is passed on as a spent count is one of entries
-pub only_entries : {X : Type 0} (r : Result X CoreError) (e : CoreError) (counter : Counter) → IsErr r × IsErrAnd r (λ x. x ≡ e) → e ≡ error.Spent Entries → IsErrOf r (error.Spent counter) → counter ≡ Entries
-only_entries (Ok x) e counter p q h = absurd (cc)
-only_entries (Err f) e counter p q h = let same = p.1 in cc
+pub known_at : {E : Type 0} (now : ℕ) (v : View) (field : Field) (kind : LeaseKind) (r : Result (Option Value) E) → IfOk r (λ x. x ≡ known_by v now field kind) → IfOk r (λ x. x ≡ known_by (lapsed_at now v) now field kind)
+known_at now v field kind (Ok x) h = h ∙ sym (ap (λ (known : Known). known field kind) (known_passes now v))
+known_at now v field kind (Err e) h = tt
 
 pub uses_at : {E : Type 0} (now : ℕ) (v : View) (items : List Need) (r : Result (List Use) E) → IfOk r (λ uses. uses ≡ filter_map (item_use v now) items) → IfOk r (λ uses. uses ≡ filter_map (item_use (lapsed_at now v) now) items)
 uses_at now v items (Ok uses) h = h ∙ sym (used_pass now v items)

@@ -14,6 +14,7 @@ ghost use Rattle.fs_client.specs.Home.{first_home};
 ghost use Rattle.fs_client.specs.Turns.{turn_plan};
 
 use crate::home::first_home;
+use crate::led::Led;
 use crate::plan::{Plan, Ready};
 use crate::state::Client;
 use crate::{acts, answers, commits, turns};
@@ -188,6 +189,13 @@ impl ClientCore {
         ensures { result.now ≡ self.now.log }
     {
         self.client.log.as_slice()
+    }
+
+    /// The operation that a server was asked to lead, until it has ended.
+    pub fn led(&self) -> Option<&Led>
+        ensures { option_copied result ≡ self.now.led }
+    {
+        self.client.led.as_ref()
     }
 
     /// The file at whose server the first entry of the log is handed in; none where there is no entry.

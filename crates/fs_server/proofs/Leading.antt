@@ -1,8 +1,8 @@
 -- How an operation ends that a session asks the server to lead.
-use Rattle.std.proofs.Common.{◌≡◌, ◌⊎◌, ◌||◌, ◌&&◌, ◌+◌, ◌<◌, ◌^◌, ℕ, Bool, true, false, not, List, [], ◌∷◌, length, get_or, drop, map, refl, ap, ap₂, sym, ◌∙◌, cond, inl, inr, arith, rules}
+use Rattle.std.proofs.Common.{◌≡◌, ◌⊎◌, ◌==◌, ◌||◌, ◌&&◌, ◌+◌, ◌<◌, ◌^◌, ℕ, Bool, true, false, not, List, [], ◌∷◌, length, get_or, drop, map, refl, ap, ap₂, sym, ◌∙◌, subst, cond, inl, inr, arith}
 use mathlib.Core.Path.{fun_ext}
 use Rattle.std.specs.Prelude.{Option, Some, None, option_map, nat_le, nat_lt}
-use Rattle.std.specs.List.{filter, find, flat_map, list_all, list_any}
+use Rattle.std.specs.List.{filter, find, list_all, list_any}
 use Rattle.std.specs.Option.{option_or}
 use Rattle.std.proofs.lemmas.Bool.Decides.{nat_tests}
 use Rattle.std.proofs.lemmas.List.{drop_more}
@@ -13,7 +13,7 @@ use Rattle.fs_ident.specs.declared.actor.TxnNo.{TxnNo}
 use Rattle.fs_field.specs.Field.{same_field, tells_no_mode}
 use Rattle.fs_field.specs.Table.{has_no, is_lease, same_kind}
 use Rattle.fs_field.specs.declared.effect.Effect.{Effect}
-use Rattle.fs_field.specs.declared.effect.Effect.TheVariants.{SetChild, SetParent}
+use Rattle.fs_field.specs.declared.effect.Effect.TheVariants.{SetChild}
 use Rattle.fs_field.specs.declared.row.Row.{Row}
 use Rattle.fs_field.specs.declared.used.Part.{Part}
 use Rattle.fs_field.specs.declared.used.Use.{Use}
@@ -21,7 +21,6 @@ use Rattle.fs_map.specs.Map.{longest}
 use Rattle.fs_model.specs.Asking.{home_of}
 use Rattle.fs_model.specs.declared.op.Op.{Op}
 use Rattle.fs_model.specs.declared.op.Op.TheVariants as op
-use Rattle.fs_msg.specs.declared.core_error.Counter.{Counter}
 use Rattle.fs_msg.specs.declared.core_error.Counter.TheVariants.{Leases, Reaps, Transactions}
 use Rattle.fs_msg.specs.declared.lead.Lead.{Lead}
 use Rattle.fs_record.specs.Applied.{is_undoable, records_after, records_after_all, takes_away}
@@ -34,15 +33,20 @@ use Rattle.fs_record.specs.declared.led_end.Why.TheVariants as why
 use Rattle.fs_txn.specs.Deciding.{commit, decision, effects_on, first_end, unless_ended}
 use Rattle.fs_txn.specs.Numbers.{next_txn}
 use Rattle.fs_txn.specs.Preparing as prepare
-use Rattle.fs_txn.specs.declared.decision.Decision.{Decision}
 use Rattle.fs_txn.specs.declared.mode.Mode2.TheVariants.{Plain}
 use Rattle.fs_txn.proofs.Whole.{name_and_place, parts_make}
 use Rattle.fs_server.specs.Laws.{concluded, leader_of}
-use Rattle.fs_server.specs.Leads.{aborts, commits, decided_by, has_all, is_led, is_over_paths, lead_refusal, lead_step, leads_unless, moved_why, parts_in, refuses, reply_of, txn_of, uses_of}
+use Rattle.fs_server.specs.Leads.{aborts, commits, decided_by, has_all, is_led, is_over_paths, lead_refusal, lead_step, leads_unless, led_item, moved_why, parts_in, refuses, reply_of, txn_of, uses_of}
 use Rattle.fs_server.specs.Lent.{IsReady}
-use Rattle.fs_server.specs.Plan.{changed}
+use Rattle.fs_server.specs.Decided.{CanDecide, stepped_by}
+use Rattle.fs_server.specs.declared.change.Change.{Change}
+use Rattle.fs_server.specs.declared.decide.Decided.{Decided}
+use Rattle.fs_server.specs.declared.out.ServerOut.{ServerOut}
+use Rattle.fs_msg.specs.declared.answer.Answer.TheVariants as answer
+use Rattle.fs_msg.specs.declared.server_note.ServerNote.TheVariants as note
+use Rattle.fs_server.specs.Plan.{CanChange, changed}
 use Rattle.fs_server.specs.Rows.{is_off_modes, rows_off_modes, rows_on_modes}
-use Rattle.fs_server.specs.Server.{Stepped, is_mine, strange}
+use Rattle.fs_server.specs.Server.{Stepped, is_mine, strange, to_session}
 use Rattle.fs_server.specs.Ships.{first_gone, has_row}
 use Rattle.fs_server.specs.Step.{counter_over}
 use Rattle.fs_server.specs.declared.change.Change.TheVariants as change
@@ -108,11 +112,19 @@ none_refuses s m h = by (is_mine s (home_of m.op)) (is_over_paths s m.op m.kind)
 pub here_step : (s : Server) (xs : List Part) (i : ℕ) (d : Part) → i < length xs → has_all s (drop i xs) ≡ (is_mine s (get_or xs i d).file && has_all s (drop (i + 1) xs))
 here_step s xs i d lt = rw (drop_more xs i d lt)
 
-pub gone_step : (rows : List Row) (by : Session) (xs : List Part) (i : ℕ) (d : Part) → i < length xs
+gone_step : (rows : List Row) (by : Session) (xs : List Part) (i : ℕ) (d : Part) → i < length xs
     → first_gone rows by (uses_of (drop i xs)) ≡ option_or (first_gone rows by (get_or xs i d).uses) (first_gone rows by (uses_of (drop (i + 1) xs)))
 gone_step rows by xs i d lt =
     ap (λ ps. first_gone rows by (uses_of ps)) (drop_more xs i d lt)
     ∙ find-append (λ u. not (has_row rows by u)) (get_or xs i d).uses (uses_of (drop (i + 1) xs))
+
+pub gone_here : (rows : List Row) (by : Session) (xs : List Part) (i : ℕ) (d : Part) (u : Use) → i < length xs → first_gone rows by (get_or xs i d).uses ≡ Some u
+    → first_gone rows by (uses_of xs) ≡ first_gone rows by (uses_of (drop i xs)) → Some u ≡ first_gone rows by (uses_of xs)
+gone_here rows by xs i d u lt g h = sym (h ∙ gone_step rows by xs i d lt ∙ ap (λ o. option_or o (first_gone rows by (uses_of (drop (i + 1) xs)))) g)
+
+pub gone_behind : (rows : List Row) (by : Session) (xs : List Part) (i : ℕ) (d : Part) → i < length xs → first_gone rows by (get_or xs i d).uses ≡ None
+    → first_gone rows by (uses_of xs) ≡ first_gone rows by (uses_of (drop i xs)) → first_gone rows by (uses_of xs) ≡ first_gone rows by (uses_of (drop (i + 1) xs))
+gone_behind rows by xs i d lt g h = h ∙ gone_step rows by xs i d lt ∙ ap (λ o. option_or o (first_gone rows by (uses_of (drop (i + 1) xs)))) g
 
 pub undoable_step : (xs : List Effect) (i : ℕ) (d : Effect) → i < length xs → filter is_undoable (drop i xs) ≡ cond (is_undoable (get_or xs i d)) (get_or xs i d ∷ filter is_undoable (drop (i + 1) xs)) (filter is_undoable (drop (i + 1) xs))
 undoable_step xs i d lt = rw (drop_more xs i d lt)
@@ -124,11 +136,11 @@ removal_step xs i d lt = rw (drop_more xs i d lt)
 
 pub all_filtered : {X : Type 0} (test : X → Bool) (xs : List X) → list_all test (filter test xs) ≡ true
 all_filtered test [] = refl
-all_filtered test (x ∷ xs) = by (test x) refl
+all_filtered test (x ∷ xs) = by (test x) refl (all_filtered test xs)
   where
-    by : (b : Bool) → test x ≡ b → list_all test (cond b (x ∷ filter test xs) (filter test xs)) ≡ true
-    by true t = ap₂ (λ a b. a && b) t (all_filtered test xs)
-    by false t = all_filtered test xs
+    by : (b : Bool) → test x ≡ b → list_all test (filter test xs) ≡ true → list_all test (cond b (x ∷ filter test xs) (filter test xs)) ≡ true
+    by true t rest = ap₂ (λ a b. a && b) t rest
+    by false t rest = rest
 
 -- the effects of an admitted operation, what they take away behind the others
 pub removals_last : (m : RecordMap) (o : Op) (file : List ℕ) → records_after_all (records_after_all m (filter is_undoable (led_effects o file (reply_of o)))) (filter takes_away (led_effects o file (reply_of o))) ≡ records_after_all m (led_effects o file (reply_of o))
@@ -164,6 +176,30 @@ led_ready s txn effects removals h r = record {
     numbers = r.server.numbers;
   };
   table = r.table;
+}
+
+abbrev pub effects_in : Lead → List Effect
+effects_in m = led_effects m.op m.file (reply_of m.op)
+
+-- what is told of the transaction of this number where it is admitted
+abbrev pub told_done : Session → TxnNo → Lead → ServerOut
+told_done by txn m = record {
+  note = note.Commits txn (reply_of m.op);
+  send = to_session by (answer.Led (end.Done (reply_of m.op))) ∷ [];
+  admitted = led_item by m ∷ [];
+}
+
+pub committed_so : (by : Session) (m : Lead) (s : Server) (txn : TxnNo) (d : Decided) → next_txn s.me s.txns ≡ Some txn
+    → d.change ≡ change.Lead (filter is_undoable (effects_in m)) (filter takes_away (effects_in m)) → d.out ≡ told_done by txn m → stepped_by d s ≡ commits by m s
+committed_so by m s txn d h ch out =
+    ap₂ (λ (c : Change) (o : ServerOut). let x : Stepped = record { server = changed c s; out = o } in x) ch (out ∙ ap (λ t. told_done by t m) (is_next s txn h))
+    ∙ ap (λ (records : RecordMap). let x : Stepped = record { server = record s { txns = s.txns + 1; records = records }; out = (commits by m s).out } in x) (removals_last s.records m.op m.file)
+
+pub led_can : (s : Server) (txn : TxnNo) (d : Decided) (effects removals : List Effect) → next_txn s.me s.txns ≡ Some txn → IsReady s → list_all is_undoable effects ≡ true → list_all takes_away removals ≡ true
+    → d.change ≡ change.Lead effects removals → CanDecide d s
+led_can s txn d effects removals h r u a ch = record {
+  change = subst (λ c. CanChange c s) (sym ch) (u, a);
+  ready = subst (λ c. IsReady (changed c s)) (sym ch) (led_ready s txn effects removals h r);
 }
 
 -- no number is left for it
@@ -219,12 +255,12 @@ end_here by s [] h = refl
 end_here by s (p ∷ ps) h =
     ap (λ b. first_end (Some (cond b (prepare.vote_by (prepare.first_gone (rows_off_modes s.rows) (rows_on_modes s.rows) by p.uses) (prepare.path_against p.freeze None) s.last) (prepare.moved_to (longest s.map p.file))) ∷ map (λ (p : Part). Some (prepare.vote_on (rows_off_modes s.rows) (rows_on_modes s.rows) s.map s.me s.last by p None)) ps)) (first (is_mine s p.file) (has_all s ps) h)
     ∙ ap₂ (λ o q. first_end (Some (prepare.vote_by o q s.last) ∷ map (λ (p : Part). Some (prepare.vote_on (rows_off_modes s.rows) (rows_on_modes s.rows) s.map s.me s.last by p None)) ps)) (same_gone s.rows by p.uses) (no_path p.freeze)
-    ∙ by_first (first_gone s.rows by p.uses)
+    ∙ by_first (first_gone s.rows by p.uses) (end_here by s ps (second (is_mine s p.file) (has_all s ps) h))
     ∙ sym (ap (option_map (ended_at s.last)) (find-append (λ u. not (has_row s.rows by u)) p.uses (uses_of ps)))
   where
-    by_first : (o : Option Use) → first_end (Some (prepare.vote_by o None s.last) ∷ map (λ (p : Part). Some (prepare.vote_on (rows_off_modes s.rows) (rows_on_modes s.rows) s.map s.me s.last by p None)) ps) ≡ option_map (ended_at s.last) (option_or o (first_gone s.rows by (uses_of ps)))
-    by_first None = end_here by s ps (second (is_mine s p.file) (has_all s ps) h)
-    by_first (Some u) = refl
+    by_first : (o : Option Use) → votes_by by s ps ≡ option_map (ended_at s.last) (first_gone s.rows by (uses_of ps)) → first_end (Some (prepare.vote_by o None s.last) ∷ map (λ (p : Part). Some (prepare.vote_on (rows_off_modes s.rows) (rows_on_modes s.rows) s.map s.me s.last by p None)) ps) ≡ option_map (ended_at s.last) (option_or o (first_gone s.rows by (uses_of ps)))
+    by_first None rest = rest
+    by_first (Some u) rest = refl
 
 -- the effects of the parts make of the records what those of the operation make
 concluded_so : (by : Session) (m : Lead) (s : Server) (o : Option Use) → concluded (unless_ended (option_map (ended_at s.last) o) (commit (leader_of by m s) (reply_of m.op))) by m s ≡ decided_by o by m s

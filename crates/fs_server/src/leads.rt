@@ -1,15 +1,17 @@
 //! A delete or a rename that the server leads.
-ghost use Rattle.std.specs.Prelude.{◌≡◌, ◌×◌, true, [], ◌∷◌, None, Some, IfOk, IsErrOf};
-ghost use Rattle.std.specs.List.{filter, list_all};
+ghost use Rattle.std.specs.Prelude.{◌≡◌, [], ◌∷◌, None, Some, IfOk, IsErrOf};
+ghost use Rattle.std.specs.List.{filter};
 ghost use Rattle.std.specs.Option.{option_copied};
 ghost use Rattle.fs_map.specs.Map.{longest};
 ghost use Rattle.fs_msg.specs.declared.answer.Answer.TheVariants as answer;
+ghost use Rattle.fs_msg.specs.declared.server_note.ServerNote.TheVariants as note;
+ghost use Rattle.fs_record.specs.declared.led_end.LedEnd.TheVariants as end;
 ghost use Rattle.fs_msg.specs.declared.core_error.Counter.{Counter as TheCounter};
 ghost use Rattle.fs_msg.specs.declared.core_error.CoreError.TheVariants as errors;
 ghost use Rattle.fs_record.specs.Applied.{is_undoable, takes_away};
 ghost use Rattle.fs_record.specs.LedEffects.{led_effects};
 ghost use Rattle.fs_server.specs.Decided.{CanDecide, stepped_by};
-ghost use Rattle.fs_server.specs.Leads.{aborts, changes_paths, commits, decided_by, has_all, is_led, is_over_paths, lead_refusal, lead_step, led_item, leads_unless, moved_why, parts_in, refuses, reply_of, txn_of, uses_of};
+ghost use Rattle.fs_server.specs.Leads.{aborts, changes_paths, commits, decided_by, has_all, is_led, is_over_paths, lead_refusal, lead_step, led_item, leads_unless, moved_why, parts_in, refuses, reply_of, uses_of};
 ghost use Rattle.fs_server.specs.Lent.{IsReady};
 ghost use Rattle.fs_server.specs.Server.{to_session};
 ghost use Rattle.fs_server.specs.Ships.{first_gone};
@@ -202,14 +204,12 @@ fn decided(
 }
 
 /// The first use of the parts without its row.
-#[tactic(auto, using(crate::proofs::Leading::gone_step))]
 fn first_gone_in<'a>(at: &AtReading<'_>, by: Session, parts: &'a [Part]) -> Option<&'a Use>
     ensures { option_copied result ≡ first_gone at.now.rows by (uses_of parts.now) }
 {
     for part in parts {
-        let gone = first_gone(at, by, part.uses.as_slice());
-        if gone.is_some() {
-            return gone;
+        if let Some(used) = first_gone(at, by, part.uses.as_slice()) {
+            return Some(used);
         }
     }
     None
@@ -265,7 +265,11 @@ fn commit(
 
 /// The session is told that the operation is admitted.
 fn told_done(alloc: Global, by: Session, txn: TxnNo, m: &Lead) -> Result<ServerOut, Memory>
-    ensures { (s : TheServer) → txn ≡ txn_of s → IfOk result (λ out. out ≡ (commits by m.now s).out) }
+    ensures { IfOk result (λ out. out ≡ record {
+      note = note.Commits txn (reply_of m.now.op);
+      send = to_session by (answer.Led (end.Done (reply_of m.now.op))) ∷ [];
+      admitted = led_item by m.now ∷ [];
+    }) }
 {
     let end = LedEnd::Done {
         reply: reply_of(&m.op),
