@@ -1,14 +1,14 @@
 -- What a client makes of an operation.
-use Rattle.std.proofs.Common.{◌≡◌, ℕ, ◌+◌, ◌≤◌, ◌==◌, true, false, List, [], ◌∷◌, cond, refl, sym, ap, ◌∙◌, subst}
+use Rattle.std.proofs.Common.{◌≡◌, ℕ, ◌+◌, ◌≤◌, ◌==◌, true, false, List, [], ◌∷◌, cond, refl, sym, ap, ◌∙◌, subst, ◌⊎◌, inl, inr}
 use Rattle.std.specs.Prelude.{Option, Some, None, is_some, option_map}
 use Rattle.fs_ident.specs.declared.actor.Peer.TheVariants.{Client as OfSession}
 use Rattle.fs_ident.specs.declared.actor.Session.{Session}
-use Rattle.fs_ident.proofs.Booleans.{both}
 use Rattle.fs_ident.proofs.Options.{not_some}
 use Rattle.fs_field.specs.declared.asked.Need.{Need}
 use Rattle.fs_field.specs.declared.asked.Need.TheVariants as need
-use Rattle.fs_model.specs.Asking.{may_ask}
-use Rattle.fs_model.specs.Sound.{is_change}
+use Rattle.fs_ident.specs.declared.kind.Kind.{Kind}
+use Rattle.fs_model.specs.Asking.{home_of}
+use Rattle.fs_model.specs.Sound.{IsSound, is_change}
 use Rattle.fs_model.specs.declared.op.Op.{Op}
 use Rattle.fs_model.specs.declared.reply.Reply.{Reply}
 use Rattle.fs_msg.specs.declared.act.Act.{Act}
@@ -20,8 +20,10 @@ use Rattle.fs_msg.specs.declared.item.Item.{Item}
 use Rattle.fs_record.specs.Effects.{tells_its_effects}
 use Rattle.fs_record.specs.Records.{nodes_of}
 use Rattle.fs_server.specs.Ships.{item_of}
-use Rattle.fs_client.specs.Acts.{act_on, answer_with, answers, ask_for, asks, entry_of, fresh_asked, full_one, hinted, items_of, need_file, needs_at, reads, replies, stays, unless_led, with_id, worth}
+use Rattle.fs_client.specs.Acts.{act_on, answer_with, answers, ask_for, asks, entry_of, fresh_asked, full_one, hinted, items_of, leads, led_with, need_file, needs_at, reads, replies, stays, unless_led, with_id, worth}
 use Rattle.fs_client.specs.Client.{changed}
+use Rattle.fs_client.specs.Led.{is_led, moved_known}
+use Rattle.fs_client.specs.declared.led.Led.{Led}
 use Rattle.fs_client.specs.declared.plan.Plan.{Plan}
 use Rattle.fs_client.specs.declared.state.Client.{Client}
 use Rattle.fs_view.specs.View.{given_by, known_by, missing_in, reply_in}
@@ -35,17 +37,15 @@ use Rattle.fs_serial.specs.World.{is_called, message_in, pushed, told_by}
 use Rattle.fs_serial.proofs.Answering.{AnswerEnds, answer_ends, as_entry, as_led, as_move, as_read, not_told, put_off}
 use Rattle.fs_serial.proofs.ClientSteps.{IsMoved, with_journal}
 use Rattle.fs_serial.proofs.Facts.{items-other, reaps-still}
+use Rattle.fs_serial.proofs.LeadSeat.{leads_reserves, seat_leads}
+use Rattle.fs_serial.proofs.MoveReads.{move_read}
 use Rattle.fs_serial.proofs.PlainAsks.{asks_given, some_given}
-use Rattle.fs_serial.proofs.Read.{IsReadOf, read_made, read_reserved, read_right, read_serial, seat_read, settled_number}
+use Rattle.fs_serial.proofs.Read.{IsReadOf, item_read, read_made, read_reserved, read_right, read_serial, seat_read, settled_number}
 use Rattle.fs_serial.proofs.ReplyAll.{replied_settled}
 use Rattle.fs_serial.proofs.ReplySeat.{seat_reply}
 use Rattle.fs_serial.proofs.Gone.{MakeAnew}
 use Rattle.fs_serial.proofs.Seats.{Seat, few, seen_at}
 use Rattle.fs_serial.proofs.Sends.{AreOfGivenKinds, seat_asks}
-
--- what a caller asks for is plain
-pub called_plainly : (o : Op) → is_called o ≡ true → (tells_its_effects o ≡ true) × (may_ask o ≡ true)
-called_plainly o h = both (tells_its_effects o) (may_ask o) h
 
 -- what an item more does to the servers' parts
 pub record ServersMoved (s t : Sight) : Type 0 where
@@ -76,25 +76,27 @@ same_item (Some i) = refl
 pub same_items : {N : Type 0} (p : Plan N) → with_items (λ i. i) p ≡ p
 same_items {N} p = ap (λ (o : Option Item). let q : Plan N = record { ready = p.ready; out = record { note = p.out.note; send = p.out.send; admitted = o } } in q) (same_item p.out.admitted)
 
--- the read as the client hands it out
-abbrev pub item_read : Client → Op → Reply → Item
-item_read c o r = record { by = OfSession c.session; n = c.next; op = with_id c.view c.last o r; reply = r }
-
--- what the client makes of the operation; in place of a read this item may join the journal
+-- what the client makes of the operation, where nothing is led; in place of a read this item may join the journal
 module _ (skew greatest : ℕ) (s : Sight) (by : Session) (replied : List Item) (c : Client) (up : List ClientMsg) (down : List Answer) (o : Op) (called : is_called o ≡ true) (h : Seat skew greatest s by replied c up down) where
-  replied_now : (r : Reply) → reply_in c.view c.last o ≡ Some r → IsReplied c down o r
-  replied_now r e = let q = called_plainly o called in record { plain = q.0; asked = q.1; reply = e; few = few skew greatest s by replied c up down h }
+  -- it reads at once
+  abbrev pub ReadsAt : Reply → Type 0
+  ReadsAt r = (c.led ≡ None) × (reply_in c.view c.last o ≡ Some r) × (c.log ≡ []) × ((is_change r ≡ false × tells_its_effects o ≡ true) ⊎ (is_led o r ≡ false × tells_its_effects o ≡ false))
+
+  plainly : (r : Reply) → tells_its_effects o ≡ true → c.led ≡ None → reply_in c.view c.last o ≡ Some r → IsReplied c down o r
+  plainly r plain unled e = record { plain = plain; asked = called; reply = e; few = few skew greatest s by replied c up down h; unled = unled }
 
   item_is : (r : Reply) → item_of by (entry_of o r c) ≡ item_read c o r
   item_is r = ap (λ (x : Session). let y : Item = record { by = OfSession x; n = c.next; op = with_id c.view c.last o r; reply = r } in y) (sym h.client.session)
 
   -- what it reads while its leases last is the namespace's
-  pub reads_right : greatest ≤ c.last + skew → (r : Reply) → reply_in c.view c.last o ≡ Some r → is_change r ≡ false → c.log ≡ [] → IsReadOf (nodes_of s.records) by c.next (item_read c o r)
-  reads_right within r e read empty =
-      subst (IsReadOf (nodes_of s.records) by c.next) (item_is r)
-      (read_right skew greatest s by replied c up down o r h (replied_now r e) (record { read = read; empty = empty; within = within }))
+  pub reads_right : IsSound (nodes_of s.records) → greatest ≤ c.last + skew → (r : Reply) → ReadsAt r → IsReadOf (nodes_of s.records) by c.next (item_read c o r)
+  reads_right sound within r a = elim a.3 as (λ _. IsReadOf (nodes_of s.records) by c.next (item_read c o r)) [
+    | inl p ↦ subst (IsReadOf (nodes_of s.records) by c.next) (item_is r)
+        (read_right skew greatest s by replied c up down h a.0 o r (plainly r p.1 a.0 a.1) (record { read = p.0; empty = a.2; within = within }))
+    | inr p ↦ move_read skew greatest s by replied c up down h a.0 o r sound p.1 called p.0 a.1 a.2 within
+  ]
 
-module _ (skew greatest : ℕ) (s : Sight) (by : Session) (replied : List Item) (c : Client) (up : List ClientMsg) (down : List Answer) (o : Op) (called : is_called o ≡ true) (h : Seat skew greatest s by replied c up down) (anew : MakeAnew by s.journal (seen_at by c down).log) (put : Item → Item) (fine : (r : Reply) → reply_in c.view c.last o ≡ Some r → is_change r ≡ false → c.log ≡ [] → IsReadOf (nodes_of s.records) by c.next (put (item_read c o r))) where
+module _ (skew greatest : ℕ) (s : Sight) (by : Session) (replied : List Item) (c : Client) (up : List ClientMsg) (down : List Answer) (o : Op) (called : is_called o ≡ true) (h : Seat skew greatest s by replied c up down) (anew : MakeAnew by s.journal (seen_at by c down).log) (put : Item → Item) (fine : (r : Reply) → ReadsAt skew greatest s by replied c up down o called h r → IsReadOf (nodes_of s.records) by c.next (put (item_read c o r))) where
   abbrev IsDone : Plan Act → Type 0
   IsDone p = IsPlanned skew greatest s by replied c up down down (with_items put p)
 
@@ -129,60 +131,69 @@ module _ (skew greatest : ℕ) (s : Sight) (by : Session) (replied : List Item) 
 
   -- ## Nothing is missing
 
-  replying : (r : Reply) → reply_in c.view c.last o ≡ Some r → IsDone (replies o r c)
-  replying r e =
-      let a = replied_now skew greatest s by replied c up down o called h r e in
-      record {
-        now = refl;
-        moved = record {
-          seat = seat_reply skew greatest s by replied c up down o r h anew a;
-          reserves = λ n i q. subst (λ (d : Settled). Reserves d.leases n i) (replied_settled by c down o r a h.client) q;
-        };
-        servers = servers_stay s;
-        others = λ x q. refl;
-      }
+  -- and nothing is led
+  module _ (unled : c.led ≡ None) where
+    replying : (r : Reply) → tells_its_effects o ≡ true → reply_in c.view c.last o ≡ Some r → IsDone (replies o r c)
+    replying r plain e =
+        let a = plainly skew greatest s by replied c up down o called h r plain unled e in
+        record {
+          now = refl;
+          moved = record {
+            seat = seat_reply skew greatest s by replied c up down o r h anew a;
+            reserves = λ n i q. subst (λ (d : Settled). Reserves d.leases n i) (replied_settled by c down o r a h.client) q;
+          };
+          servers = servers_stay s;
+          others = λ x q. refl;
+        }
 
-  reading : (r : Reply) → reply_in c.view c.last o ≡ Some r → is_change r ≡ false → c.log ≡ [] → IsDone (reads o r c)
-  reading r e read empty =
-      let a = replied_now skew greatest s by replied c up down o called h r e in
-      let i = put (item_read c o r) in
-      let is : IsReadOf (nodes_of s.records) by c.next i = fine r e read empty in
-      record {
-        now = refl;
-        moved = record {
-          seat = seat_read skew greatest s by replied c up down o r h a empty i is;
-          reserves = λ n j q. subst (λ (d : Settled). Reserves d.leases n j) (settled_number by (c.next + 1) down (settled_now c)) q;
-        };
-        servers = record {
-          holds = λ q. record { apart = q.apart; promises = q.promises; serial = read_serial skew greatest s by replied c up down o r h a empty i is q; reaped = reaps-still s.reaps s.journal i (λ k. ap (is_server k) is.session) q.reaped };
-          fits = λ f. record { shaped = f.shaped; counted = f.counted; given = f.given; sound = f.sound; made = read_made skew greatest s by replied c up down o r h a empty i is f.made };
-          reserved = λ clients. read_reserved skew greatest s by replied c up down o r h a empty i is (reserved_by clients);
-        };
-        others = λ x q. items-other x s.journal i (ap (is_session x) is.session ∙ q);
-      }
+    reading : (r : Reply) → ReadsAt skew greatest s by replied c up down o called h r → IsDone (reads o r c)
+    reading r a =
+        let i = put (item_read c o r) in
+        let is : IsReadOf (nodes_of s.records) by c.next i = fine r a in
+        record {
+          now = refl;
+          moved = record {
+            seat = seat_read skew greatest s by replied c up down h unled a.2 i is;
+            reserves = λ n j q. subst (λ (d : Settled). Reserves d.leases n j) (settled_number by (c.next + 1) down (settled_now c) unled) q;
+          };
+          servers = record {
+            holds = λ q. record { apart = q.apart; promises = q.promises; serial = read_serial skew greatest s by replied c up down h unled a.2 i is q; reaped = reaps-still s.reaps s.journal i (λ k. ap (is_server k) is.session) q.reaped };
+            fits = λ f. record { shaped = f.shaped; counted = f.counted; given = f.given; sound = f.sound; made = read_made skew greatest s by replied c up down h unled a.2 i is f.made };
+            reserved = λ clients. read_reserved skew greatest s by replied c up down h unled a.2 i is (reserved_by clients);
+          };
+          others = λ x q. items-other x s.journal i (ap (is_session x) is.session ∙ q);
+        }
 
-  -- what is called for is plain
-  plainly : {X : Type 0} → tells_its_effects o ≡ false → X
-  plainly t = absurd (let z : true ≡ false = sym (called_plainly o called).0 ∙ t in cc)
+    leading : (r : Reply) → is_led o r ≡ true → c.exchange ≡ None → c.log ≡ [] → reply_in c.view c.last o ≡ Some r → (moved : List ℕ × Kind) → moved_known (known_by c.view c.last) o ≡ Some moved → (to : ℕ) → IsDone (leads to (led_with o r moved c) c)
+    leading r l idle empty e moved k to = record {
+      now = refl;
+      moved = record {
+        seat = seat_leads skew greatest s by replied c up down o r h l idle empty unled e moved k to;
+        reserves = leads_reserves skew greatest s by replied c up down o r h l idle empty unled e moved k to;
+      };
+      servers = servers_stay s;
+      others = λ x q. refl;
+    }
 
-  by_end : (r : Reply) → reply_in c.view c.last o ≡ Some r → (p : Plan Act) → AnswerEnds o r c p → IsDone p
-  by_end r e p (as_entry t) = replying r e
-  by_end r e p (as_read t n empty) = reading r e n empty
-  by_end r e p (as_move t n empty) = plainly t
-  by_end r e p (as_led t l x empty moved k) = plainly t
-  by_end r e p (put_off what) = stayed (act.Busy what)
-  by_end r e p not_told = stayed (act.NoIds [])
+    by_end : (r : Reply) → reply_in c.view c.last o ≡ Some r → (p : Plan Act) → AnswerEnds o r c p → IsDone p
+    by_end r e p (as_entry t) = replying r t e
+    by_end r e p (as_read t n empty) = reading r (unled, e, empty, inl (n, t))
+    by_end r e p (as_move t n empty) = reading r (unled, e, empty, inr (n, t))
+    by_end r e p (as_led t l x empty moved k) = leading r l x empty e moved k (hinted c (home_of o))
+    by_end r e p (put_off what) = stayed (act.Busy what)
+    by_end r e p not_told = stayed (act.NoIds [])
 
-  answering : (r : Reply) → reply_in c.view c.last o ≡ Some r → IsDone (answers o r c)
-  answering r e = by_end r e (answers o r c) (answer_ends o r c)
+    answered_with : (r : Option Reply) → reply_in c.view c.last o ≡ r → IsDone (answer_with r o c)
+    answered_with (Some r) e = by_end r e (answers o r c) (answer_ends o r c)
+    answered_with None e = asked_for (missing_in c.view c.last o) (worth c.full (missing_in c.view c.last o)) refl
 
-  answered_with : (r : Option Reply) → reply_in c.view c.last o ≡ r → IsDone (answer_with r o c)
-  answered_with (Some r) e = answering r e
-  answered_with None e = asked_for (missing_in c.view c.last o) (worth c.full (missing_in c.view c.last o)) refl
+  unless : (led : Option Led) → c.led ≡ led → IsDone (unless_led led o c)
+  unless (Some l) e = stayed (act.Busy busy.Led)
+  unless None e = answered_with e (reply_in c.view c.last o) refl
 
   on : (over : Option ℕ) → IsDone (act_on over o c)
   on (Some n) = stayed (act.Over n)
-  on None = subst (λ l. IsDone (unless_led l o c)) (sym h.client.unled) (answered_with (reply_in c.view c.last o) refl)
+  on None = unless c.led refl
 
   pub act_moved : IsDone (act_on c.over o c)
   act_moved = on c.over

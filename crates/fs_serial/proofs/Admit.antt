@@ -28,6 +28,7 @@ use Rattle.fs_server.specs.declared.state.Server.{Server}
 use Rattle.fs_view.specs.Kept.{makes}
 use Rattle.fs_view.specs.View.{value_after_all}
 use Rattle.fs_view.proofs.Seeing.{own_values}
+use Rattle.fs_client.specs.declared.led.Led.{Led}
 use Rattle.fs_serial.specs.Fresh.{made_by, or_else}
 use Rattle.fs_serial.specs.Gone.{IsOfGone}
 use Rattle.fs_serial.specs.Leases.{IsBacked, LeasesBacked, LeasesTrue, LeasesDistinct, IsRowOf, IsFresh, FreshLeases}
@@ -37,6 +38,7 @@ use Rattle.fs_serial.specs.Pending.{AllStand, IsAnswer, PendingStand, HasLease, 
 use Rattle.fs_serial.specs.Serial.{JournalSerial, AreSound}
 use Rattle.fs_serial.specs.Settled.{Lease, lease_after, effects_in}
 use Rattle.fs_serial.specs.Sight.{Counts, Sight, sight_of}
+use Rattle.fs_serial.proofs.LedKept.{each_led}
 use Rattle.fs_serial.proofs.Answered.{answered, leads_there, sound_there, no_reap}
 use Rattle.fs_serial.proofs.Births.{life_after, makes_there, names_made}
 use Rattle.fs_serial.proofs.Facts.{each_image, items-own, serial_push, session_itself}
@@ -89,11 +91,11 @@ still_named by e leases uses o r other n = n
 
 -- ## The parts
 
-module _ (o : Counts) (skew greatest : ℕ) (s : Server) (journal : List Item) (by : Session) (replied : List Item) (leases : List Lease) (e : Entry) (es : List Entry) (next : ℕ)
+module _ (o : Counts) (skew greatest : ℕ) (s : Server) (journal : List Item) (by : Session) (replied : List Item) (leases : List Lease) (e : Entry) (es : List Entry) (next : ℕ) (led : Option Led)
     (stand : AllStand s.rows by e.uses)
     (sh : ServersHold (sight_of o s journal)) (sf : ServersFit (sight_of o s journal))
-    (h : SessionHolds skew greatest (sight_of o s journal) by replied (record { leases = leases; log = e ∷ es; next = next; over = None }))
-    (f : SessionFits skew greatest (sight_of o s journal) by (record { leases = leases; log = e ∷ es; next = next; over = None })) where
+    (h : SessionHolds skew greatest (sight_of o s journal) by replied (record { leases = leases; log = e ∷ es; next = next; over = None; led = led }))
+    (f : SessionFits skew greatest (sight_of o s journal) by (record { leases = leases; log = e ∷ es; next = next; over = None; led = led })) where
   -- the servers, and the client, after it
   abbrev after : Sight
   after = sight_of o (with_entry by e s) (journal ++ item_of by e ∷ [])
@@ -135,7 +137,7 @@ module _ (o : Counts) (skew greatest : ℕ) (s : Server) (journal : List Item) (
   border : all_items by after.journal es ≡ all_items by journal (e ∷ es)
   border = ap (λ is. is ++ map (item_of by) es) (items-own by journal (item_of by e) (session_itself by)) ∙ append_assoc (items_by by journal) (item_of by e ∷ []) (map (item_of by) es)
 
-  pub holds : MakeAnew by journal (e ∷ es) → SessionHolds skew greatest after by replied (record { leases = then; log = es; next = next; over = None })
+  pub holds : MakeAnew by journal (e ∷ es) → SessionHolds skew greatest after by replied (record { leases = then; log = es; next = next; over = None; led = led })
   holds anew = record {
     backed = backed;
     telling = telling anew;
@@ -174,7 +176,7 @@ module _ (o : Counts) (skew greatest : ℕ) (s : Server) (journal : List Item) (
       let q : IsEntry leases x = f.entries x (inr i) in
       record { plain = q.plain; access = q.access; named = still_named by e leases x.uses x.op x.reply (other x i) q.named; home = q.home }
 
-  pub fits : SessionFits skew greatest after by (record { leases = then; log = es; next = next; over = None })
+  pub fits : SessionFits skew greatest after by (record { leases = then; log = es; next = next; over = None; led = led })
   fits = record {
     given = each_image (lease_after by (effects_in by e)) _ leases f.given;
     distinct = distinct;
@@ -185,4 +187,5 @@ module _ (o : Counts) (skew greatest : ℕ) (s : Server) (journal : List Item) (
     entries = entries;
     once = f.once.1;
     refused = λ n o. absurd (cc);
+    led = each_led skew greatest greatest (sight_of o s journal) after by (record { leases = leases; log = e ∷ es; next = next; over = None; led = led }) (record { leases = then; log = es; next = next; over = None; led = led }) led (λ l is h. absurd (let q : e ∷ es ≡ [] = h.empty in cc)) f.led;
   }

@@ -52,16 +52,16 @@ module _ (o : Counts) (skew greatest : ℕ) (s : Server) (journal : List Item) (
 
   -- the client as the law of its own session has it
   abbrev first : Settled
-  first = record { leases = d.leases; log = e ∷ a.rest; next = d.next; over = None }
+  first = record { leases = d.leases; log = e ∷ a.rest; next = d.next; over = None; led = d.led }
 
   is_first : d ≡ first
-  is_first = ap (λ l. let x : Settled = record { leases = d.leases; log = l; next = d.next; over = d.over } in x) a.log ∙ ap (λ o. let x : Settled = record { leases = d.leases; log = e ∷ a.rest; next = d.next; over = o } in x) a.going
+  is_first = ap (λ l. let x : Settled = record { leases = d.leases; log = l; next = d.next; over = d.over; led = d.led } in x) a.log ∙ ap (λ o. let x : Settled = record { leases = d.leases; log = e ∷ a.rest; next = d.next; over = o; led = d.led } in x) a.going
 
   abbrev then : Settled
-  then = record { leases = map (lease_after by (effects_in by e)) d.leases; log = a.rest; next = d.next; over = None }
+  then = record { leases = map (lease_after by (effects_in by e)) d.leases; log = a.rest; next = d.next; over = None; led = d.led }
 
   is_then : then ≡ acknowledged by d.log d
-  is_then = ap (λ o. let x : Settled = record { leases = map (lease_after by (effects_in by e)) d.leases; log = a.rest; next = d.next; over = o } in x) (sym a.going) ∙ ap (λ l. acknowledged by l d) (sym a.log)
+  is_then = ap (λ o. let x : Settled = record { leases = map (lease_after by (effects_in by e)) d.leases; log = a.rest; next = d.next; over = o; led = d.led } in x) (sym a.going) ∙ ap (λ l. acknowledged by l d) (sym a.log)
 
   abbrev after : Sight
   after = sight_of o (with_entry by e s) (journal ++ item_of by e ∷ [])
@@ -79,10 +79,10 @@ module _ (o : Counts) (skew greatest : ℕ) (s : Server) (journal : List Item) (
   anew = subst (MakeAnew by journal) a.log (all_anew skew greatest (sight_of o s journal) replied clients h by)
 
   plain : IsEntry d.leases e
-  plain = admit.plain o skew greatest s journal by (replied by) d.leases e a.rest d.next stand h.servers h.kept holds fits
+  plain = admit.plain o skew greatest s journal by (replied by) d.leases e a.rest d.next d.led stand h.servers h.kept holds fits
 
   right : IsAnswer (value_of s.records by) e
-  right = admit.right o skew greatest s journal by (replied by) d.leases e a.rest d.next stand h.servers h.kept holds fits
+  right = admit.right o skew greatest s journal by (replied by) d.leases e a.rest d.next d.led stand h.servers h.kept holds fits
 
   promises : PromisesKept (with_entry by e s).records s.rows
   promises = promises_admitted s by d e stand plain right h.kept.sound.records h.servers.promises
@@ -95,12 +95,12 @@ module _ (o : Counts) (skew greatest : ℕ) (s : Server) (journal : List Item) (
 
   sessions : (x : Session) → SessionHolds skew greatest after x (replied x) (all x)
   sessions = each_session (λ x c. SessionHolds skew greatest after x (replied x) c) by then clients
-      (admit.holds o skew greatest s journal by (replied by) d.leases e a.rest d.next stand h.servers h.kept holds fits anew)
+      (admit.holds o skew greatest s journal by (replied by) d.leases e a.rest d.next d.led stand h.servers h.kept holds fits anew)
       (λ x other. relied_holds skew greatest x (sight_of o s journal) after (clients x) (rely x other) (h.fitting x) (all_anew skew greatest (sight_of o s journal) replied clients h x) (replied x) (h.sessions x))
 
   fitting : (x : Session) → SessionFits skew greatest after x (all x)
   fitting = each_session (λ x c. SessionFits skew greatest after x c) by then clients
-      (admit.fits o skew greatest s journal by (replied by) d.leases e a.rest d.next stand h.servers h.kept holds fits)
+      (admit.fits o skew greatest s journal by (replied by) d.leases e a.rest d.next d.led stand h.servers h.kept holds fits)
       (λ x other. relied_fits skew greatest x (sight_of o s journal) after (clients x) (rely x other) (h.fitting x))
 
   -- fewer identifiers are reserved
@@ -115,14 +115,14 @@ module _ (o : Counts) (skew greatest : ℕ) (s : Server) (journal : List Item) (
     servers = record {
       apart = h.servers.apart;
       promises = promises;
-      serial = admit.serial o skew greatest s journal by (replied by) d.leases e a.rest d.next stand h.servers h.kept holds fits;
+      serial = admit.serial o skew greatest s journal by (replied by) d.leases e a.rest d.next d.led stand h.servers h.kept holds fits;
       reaped = reaps-still (count_with s.me s.reaps o.reaps) journal (item_of by e) (λ k. refl) h.servers.reaped;
     };
     kept = record {
       shaped = h.kept.shaped;
       counted = h.kept.counted;
       given = h.kept.given;
-      sound = admit.sound o skew greatest s journal by (replied by) d.leases e a.rest d.next stand h.servers h.kept holds fits;
+      sound = admit.sound o skew greatest s journal by (replied by) d.leases e a.rest d.next d.led stand h.servers h.kept holds fits;
       made = made_then s journal by d.leases e plain right h.kept.sound fits.distinct (reserved_by clients) (reserved_by all) fewer (λ n i r. r) still h.reserved h.kept.made;
     };
     sessions = sessions;

@@ -17,7 +17,7 @@ twice false x y z = refl
 pub client_again : (by : Session) (c d : Settled) (clients : Session → Settled) → with_client by d (with_client by c clients) ≡ with_client by d clients
 client_again by c d clients = fun_ext (λ x. twice (by.0 == x.0) d c (clients x))
 
-its_own : {X : Type 0} (by x : Session) (clients : Session → X) (b : Bool) → (by.0 == x.0) ≡ b → cond b (clients by) (clients x) ≡ clients x
+pub its_own : {X : Type 0} (by x : Session) (clients : Session → X) (b : Bool) → (by.0 == x.0) ≡ b → cond b (clients by) (clients x) ≡ clients x
 its_own by x clients true e = ap clients (one_session by x e)
 its_own by x clients false e = refl
 

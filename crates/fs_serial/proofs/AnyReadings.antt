@@ -32,7 +32,7 @@ use Rattle.fs_server.specs.declared.event.ServerEvent.{ServerEvent}
 use Rattle.fs_server.specs.declared.event.ServerEvent.TheVariants.{FromClient, FromPeer, Turn, Recall, Move}
 use Rattle.fs_server.specs.declared.state.Server.{Server}
 use Rattle.fs_view.specs.View.{View, missing_in, reply_in}
-use Rattle.fs_serial.specs.Cluster.{CanCome, ClientEvent, Cluster, Does, Hears, IsThere, Turns, after_client, after_server, after_server_at, first_cluster}
+use Rattle.fs_serial.specs.Cluster.{replies_after, CanCome, ClientEvent, Cluster, Does, Hears, IsThere, Turns, after_client, after_server, after_server_at, first_cluster}
 use Rattle.fs_serial.specs.Fresh.{IsMade, made_by, made_in, or_else, root_kind}
 use Rattle.fs_serial.specs.Places.{IsHome, IsSent, PlacesHold}
 use Rattle.fs_serial.specs.Runs.{AtClient, AtServer, CanHappen, CanRun, ClusterEvent, Dated, IsOrderly, after_event, greatest_in, held_by, run}
@@ -149,7 +149,7 @@ server_anyhow skew greatest now k e s c at before there h =
     let more = (step s now e).out.admitted in
     subst (λ (o : Option Server). HoldsAnyhow skew greatest (after_server_at o now k e c)) (sym at) (record {
       journal = h.journal ++ more;
-      replied = h.replied;
+      replied = replies_after e more h.replied;
       same = λ id. same_behind h.journal c.journal more id (h.same id);
       holds = subst (λ (o : Option Server). ClusterHolds skew greatest (after_server_at o now k e d)) at kept;
     })

@@ -30,7 +30,7 @@ use Rattle.fs_client.specs.declared.exchange.Exchange.TheVariants.{Asks, Renews,
 use Rattle.fs_client.specs.declared.state.Client.{Client}
 use Rattle.fs_view.specs.declared.kept.Kept.{Kept}
 use Rattle.fs_view.specs.Kept.{number_of, has_number, is_leaving}
-use Rattle.fs_serial.specs.Exchange.{OneExchange, ShipsLog, IsFront, IsReturned, ReleasesReturned, ReturnFits, ReturnsFit, server_of_question, ExchangeFits}
+use Rattle.fs_serial.specs.Exchange.{OneExchange, ShipsLog, IsFront, IsReturned, LeadsTold, ReleasesReturned, ReturnFits, ReturnsFit, server_of_question, ExchangeFits}
 use Rattle.fs_serial.specs.Settled.{Lease, Settled}
 use Rattle.fs_serial.specs.World.{HasNumber}
 
@@ -157,6 +157,7 @@ exchange_still skew greatest given rows by c d more up down now then seen later 
   one = subst (λ x. OneExchange d x up down) (sym g.exchange) (one_still c d more c.exchange up down g h.one);
   ships = subst (λ x. ShipsLog x d.log) (sym g.exchange) (subst (ShipsLog c.exchange) (sym g.log) (ships_still c.exchange c.log more h.ships));
   front = λ entries i. let q : IsFront entries seen = h.front entries i in record { rest = q.rest ++ more; log = log ∙ ap (λ es. es ++ more) q.log ∙ append_assoc entries q.rest more; over = over ∙ q.over };
+  leads = subst (LeadsTold up) (sym g.led) h.leads;
   released = subst (λ x. ReleasesReturned x d.view.leases) (sym g.exchange) (released_still c.exchange c d more g h.released);
   kinds = h.kinds;
   pairs = h.pairs;

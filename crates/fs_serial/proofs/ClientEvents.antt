@@ -3,7 +3,6 @@ use Rattle.std.proofs.Common.{◌≡◌, ℕ, ◌+◌, ◌≤◌, ◌==◌, not,
 use Rattle.std.specs.Prelude.{◌≢◌, Option, Some, None, is_some}
 use Rattle.fs_ident.specs.declared.actor.Session.{Session}
 use Rattle.fs_ident.proofs.Booleans.{second}
-use Rattle.fs_model.specs.Sound.{is_change}
 use Rattle.fs_model.specs.Step.{is_empty}
 use Rattle.fs_model.specs.declared.op.Op.{Op}
 use Rattle.fs_model.specs.declared.reply.Reply.{Reply}
@@ -27,18 +26,17 @@ use Rattle.fs_client.specs.declared.exchange.Exchange.TheVariants.{Leads}
 use Rattle.fs_client.specs.declared.led.Led.{Led as TheLed}
 use Rattle.fs_client.specs.declared.plan.Plan.{Plan}
 use Rattle.fs_client.specs.declared.state.Client.{Client}
-use Rattle.fs_view.specs.View.{reply_in}
 use Rattle.fs_view.specs.declared.kept.Kept.{Kept}
 use Rattle.fs_serial.specs.Exchange.{asked_server, is_recall}
 use Rattle.fs_serial.specs.Numbers.{items_by}
 use Rattle.fs_serial.specs.Sight.{Sight}
 use Rattle.fs_serial.specs.World.{CanCome, is_called, ClientEvent, Does, Ends, Hears, Turns, World, WorldHolds, after_client, after_plan, message_in, pushed, settled_at, sight_in, told_by}
-use Rattle.fs_serial.proofs.ActMoves.{IsPlanned, ServersMoved, act_moved, item_read, reads_right, same_items, servers_stay, with_items}
+use Rattle.fs_serial.proofs.ActMoves.{IsPlanned, ServersMoved, ReadsAt, act_moved, reads_right, same_items, servers_stay, with_items}
 use Rattle.fs_serial.proofs.ClientSteps.{IsMoved, begun_again, begun_moved, hinted_moved, seat_of, with_journal, world_moved}
 use Rattle.fs_serial.proofs.Gone.{MakeAnew, all_anew, made_pushed}
 use Rattle.fs_serial.proofs.HearMoves.{fits_first, hear_moved}
 use Rattle.fs_serial.proofs.Lapse.{lapse_fewer}
-use Rattle.fs_serial.proofs.Read.{IsReadOf, plain_is_read, plain_read}
+use Rattle.fs_serial.proofs.Read.{IsReadOf, item_read, plain_is_read, plain_read}
 use Rattle.fs_serial.proofs.Seats.{Seat, seen_at}
 use Rattle.fs_serial.proofs.TurnMoves.{turn_moved}
 
@@ -185,8 +183,8 @@ module _ (greatest now : ℕ) (w : World) (by : Session) (h : WorldHolds greates
   anew = subst (MakeAnew by w.journal) (sym (lapse_fewer by (w.ends by).client now (h.clients by) (w.ends by).down).log) (all_anew w.server.skew greatest (sight_in w) w.replied (λ x. settled_at x (w.ends x)) h.all by)
 
   -- another item may join the journal in place of a read
-  acts_as : (o : Op) → is_called o ≡ true → (put : Item → Item)
-      → ((r : Reply) → reply_in began.view began.last o ≡ Some r → is_change r ≡ false → began.log ≡ [] → IsReadOf (nodes_of (sight_in w).records) by began.next (put (item_read began o r)))
+  acts_as : (o : Op) (called : is_called o ≡ true) (put : Item → Item)
+      → ((r : Reply) → ReadsAt w.server.skew greatest here by (w.replied by) began (w.ends by).up (w.ends by).down o called seat_began r → IsReadOf (nodes_of (sight_in w).records) by began.next (put (item_read began o r)))
       → WorldHolds greatest (after_plan by (w.ends by).down (with_items put (act_on began.over o began)) w)
   acts_as o called put fine = plan_keeps greatest now w by (w.ends by).down (with_items put (act_on began.over o began)) h
       (act_moved w.server.skew greatest here by (w.replied by) began (w.ends by).up (w.ends by).down o called seat_began anew put fine)
@@ -194,11 +192,11 @@ module _ (greatest now : ℕ) (w : World) (by : Session) (h : WorldHolds greates
   acts : (o : Op) → is_called o ≡ true → greatest ≤ now + w.server.skew → WorldHolds greatest (after_client by now (Does o) w)
   acts o called within =
       subst (λ (p : Plan Act). WorldHolds greatest (after_plan by (w.ends by).down p w)) (same_items (act_on began.over o began))
-      (acts_as o called (λ i. i) (reads_right w.server.skew greatest here by (w.replied by) began (w.ends by).up (w.ends by).down o called seat_began (omega arith)))
+      (acts_as o called (λ i. i) (reads_right w.server.skew greatest here by (w.replied by) began (w.ends by).up (w.ends by).down o called seat_began h.all.kept.sound.space (omega arith)))
 
   -- with any reading the root's kind, as the servers have it, may join the journal in place of what was read
   pub acts_plainly : (o : Op) → is_called o ≡ true → WorldHolds greatest (after_plan by (w.ends by).down (with_items (λ i. plain_read (nodes_of (sight_in w).records) by (w.ends by).client.next) (act_plan (w.ends by).client now o)) w)
-  acts_plainly o called = acts_as o called (λ i. plain_read (nodes_of (sight_in w).records) by (w.ends by).client.next) (λ r e read empty. plain_is_read (nodes_of (sight_in w).records) by (w.ends by).client.next)
+  acts_plainly o called = acts_as o called (λ i. plain_read (nodes_of (sight_in w).records) by (w.ends by).client.next) (λ r a. plain_is_read (nodes_of (sight_in w).records) by (w.ends by).client.next)
 
   pub turn_keeps : WorldHolds greatest (after_client by now Turns w)
   turn_keeps = plan_keeps greatest now w by (w.ends by).down (turn_on began) h

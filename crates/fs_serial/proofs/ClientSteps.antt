@@ -20,6 +20,7 @@ use Rattle.fs_serial.specs.Parts.{ServersHold, ServersFit}
 use Rattle.fs_serial.specs.Settled.{Lease, settled_now}
 use Rattle.fs_serial.specs.Sight.{Sight, seen, sight_of}
 use Rattle.fs_serial.specs.World.{Ends, World, WorldHolds, pushed, settled_at, sight_in, with_ends, with_told}
+use Rattle.fs_serial.proofs.LedKept.{each_led}
 use Rattle.fs_serial.proofs.Carried.{GoesOnAs, exchange_still}
 use Rattle.fs_serial.proofs.Gone.{telling_later}
 use Rattle.fs_serial.proofs.Lapse.{lapse_fewer, seat_lapse}
@@ -40,7 +41,7 @@ seat_beside skew greatest s x replied c up down journal grows same h =
     let items : all_items x journal d.log ≡ all_items x s.journal d.log = ap (λ is. is ++ map (item_of x) d.log) same in
     record {
       holds = record { backed = h.holds.backed; telling = telling_later s.rows s.records s.journal journal grows x d.leases h.holds.telling; pending = h.holds.pending; numbers = subst (λ is. AreNumbered 1 is d.next) (sym items) h.holds.numbers; replies = items ∙ h.holds.replies };
-      fits = record { given = h.fits.given; distinct = h.fits.distinct; matching = h.fits.matching; fresh = h.fits.fresh; held = h.fits.held; backed = h.fits.backed; entries = h.fits.entries; once = h.fits.once; refused = h.fits.refused };
+      fits = record { given = h.fits.given; distinct = h.fits.distinct; matching = h.fits.matching; fresh = h.fits.fresh; held = h.fits.held; backed = h.fits.backed; entries = h.fits.entries; once = h.fits.once; refused = h.fits.refused; led = each_led skew greatest greatest s (with_journal journal s) x d d d.led (λ l is h. record { leads = h.leads; number = h.number; empty = h.empty; held = h.held; backed = h.backed; parts = h.parts; right = h.right }) h.fits.led };
       client = h.client;
       exchange = h.exchange;
     }
@@ -110,7 +111,7 @@ hinted_moved skew greatest s t by replied c d up down rest told (Some hints) m =
       seat = record {
         holds = h.holds;
         fits = h.fits;
-        client = record { session = h.client.session; viewed = h.client.viewed; pending = h.client.pending; distinct = h.client.distinct; pinned = h.client.pinned; held = h.client.held; unled = h.client.unled };
+        client = record { session = h.client.session; viewed = h.client.viewed; pending = h.client.pending; distinct = h.client.distinct; pinned = h.client.pinned; held = h.client.held };
         exchange = exchange_still skew greatest t.given t.rows by d n [] up rest (settled_now d) (settled_now n) (seen_at by d rest) (seen_at by n rest) same
             (λ l i. record { lease = l; held = i; number = refl }) (λ l i. record { lease = l; held = i; number = refl }) (sym (append-nil (seen_at by d rest).log)) refl h.exchange;
       };

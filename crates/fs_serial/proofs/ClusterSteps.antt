@@ -8,6 +8,8 @@ use Rattle.fs_ident.proofs.Passing.{found}
 use Rattle.fs_ident.proofs.Standing.{In-got, In-mapped}
 use Rattle.fs_ident.proofs.Same.{one_session}
 use Rattle.fs_msg.specs.declared.client_msg.ClientMsg.{ClientMsg}
+use Rattle.fs_msg.specs.declared.client_msg.ClientMsg.TheVariants.{Ask, Renew, Release, Ship, Lead}
+use Rattle.fs_msg.specs.declared.lead.Lead.{Lead as ToLead}
 use Rattle.fs_msg.specs.declared.peer_msg.PeerMsg.{PeerMsg}
 use Rattle.fs_msg.specs.declared.peer_msg.PeerMsg.TheVariants as peer
 use Rattle.fs_msg.specs.declared.server_note.ServerNote.{ServerNote}
@@ -15,6 +17,8 @@ use Rattle.fs_msg.specs.declared.server_note.ServerNote.TheVariants as note
 use Rattle.fs_parcel.specs.Parcel.{move_refusal}
 use Rattle.fs_parcel.specs.declared.error.MoveError.{MoveError}
 use Rattle.fs_record.specs.declared.parcel.Parcel.{Parcel}
+use Rattle.fs_server.proofs.Leading.{LeadEnds, aborted, lead_ends, led, none_refuses, put_off, unled}
+use Rattle.fs_server.specs.Leads.{aborts, commits, lead_step, refuses}
 use Rattle.fs_server.specs.Moves.{fits_here, installed, move_at, parcel_at}
 use Rattle.fs_server.specs.Reaps.{lapsed_in, turn_over, turn_step}
 use Rattle.fs_server.specs.Server.{Stepped, begun, only_noted}
@@ -24,7 +28,7 @@ use Rattle.fs_server.specs.declared.event.ServerEvent.TheVariants as event
 use Rattle.fs_server.specs.declared.out.ServerOut.{ServerOut}
 use Rattle.fs_server.specs.declared.state.Server.{Server}
 use Rattle.fs_client.specs.declared.state.Client.{Client}
-use Rattle.fs_serial.specs.Cluster.{Cluster, IsThere, Lines, after_server, after_server_at, after_step, is_with, with_sent, without_first, without_question, parcel_in}
+use Rattle.fs_serial.specs.Cluster.{Cluster, IsThere, Lines, after_server, after_server_at, after_step, is_with, replies_after, with_sent, without_first, without_question, parcel_in}
 use Rattle.fs_serial.specs.Exchange.{OneExchange, asked_server}
 use Rattle.fs_serial.specs.Places.{PlacesHold}
 use Rattle.fs_serial.specs.Refusals.{rows_in}
@@ -37,6 +41,8 @@ use Rattle.fs_serial.proofs.Addressing.{AreDue, addressed_still, sent_addressed}
 use Rattle.fs_serial.proofs.Arriving.{arriving_places, arriving_same, parcel_fits}
 use Rattle.fs_serial.proofs.Due.{HasAsked, event_due}
 use Rattle.fs_serial.proofs.Lapsing.{begins, begun_at}
+use Rattle.fs_serial.proofs.LeadEvents.{aborted_holds, led_holds, led_there, put_off_holds, replies_still}
+use Rattle.fs_serial.proofs.LeadSame.{abort_same, commit_same, refuse_same}
 use Rattle.fs_serial.proofs.Leaving.{move_places, move_same}
 use Rattle.fs_serial.proofs.LetGo.{all_let_go}
 use Rattle.fs_serial.proofs.SameStep.{IsSameStep, begun_same, turn_same}
@@ -46,7 +52,7 @@ use Rattle.fs_serial.proofs.SetAt.{In_set, In_without, get_here, set_twice}
 use Rattle.fs_serial.proofs.StepPlaces.{step_places}
 use Rattle.fs_serial.proofs.Traffic.{ends_sent, ends_taken, messages}
 use Rattle.fs_serial.proofs.Views.{all_views, alike_holds, count_set}
-use Rattle.fs_serial.proofs.Unled.{none_flies}
+use Rattle.fs_serial.proofs.Unled.{IsOther, none_flies}
 
 -- ## What moves sends no session anything
 
@@ -130,10 +136,10 @@ module _ (skew greatest k : ℕ) (c : Cluster) (s : Server) (at : slice_get c.se
 
     -- where the server that has all takes the same step
     seen_after : (small big : Stepped) → IsSameStep k e s small big c
-        → WorldHolds greatest (record { server = big.server; counts = counts_of c.servers; decided = []; journal = c.journal ++ big.out.admitted; replied = c.replied; ends = world.with_sent big.out.send (world.without_taken e (λ x. ends_of (c.lines x))) })
+        → WorldHolds greatest (record { server = big.server; counts = counts_of c.servers; decided = []; journal = c.journal ++ big.out.admitted; replied = replies_after e big.out.admitted c.replied; ends = world.with_sent big.out.send (world.without_taken e (λ x. ends_of (c.lines x))) })
         → WorldHolds greatest (world_of small.server (after_step k e small c))
     seen_after small big q held =
-        let w : World = record { server = big.server; counts = counts_of c.servers; decided = []; journal = c.journal ++ big.out.admitted; replied = c.replied; ends = world.with_sent big.out.send (world.without_taken e (λ x. ends_of (c.lines x))) } in
+        let w : World = record { server = big.server; counts = counts_of c.servers; decided = []; journal = c.journal ++ big.out.admitted; replied = replies_after e big.out.admitted c.replied; ends = world.with_sent big.out.send (world.without_taken e (λ x. ends_of (c.lines x))) } in
         let last : small.server.last ≡ s.last = q.last in
         let clock : s.last ≤ greatest = view.clock in
         alike_holds greatest w (world_of small.server (after_step k e small c)) (record {
@@ -145,20 +151,20 @@ module _ (skew greatest k : ℕ) (c : Cluster) (s : Server) (at : slice_get c.se
           reaps = λ j. count_set reaps_at c.servers k small.server.me small.server.reaps small.server (q.me ∙ me) j
               ∙ sym (ap (λ (t : Server). count_with t.me t.reaps (λ i. reaps_at (slice_get c.servers i)) j) q.server);
           journal = ap (λ (o : ServerOut). c.journal ++ o.admitted) q.out;
-          replied = refl;
+          replied = ap (λ (o : ServerOut). replies_after e o.admitted c.replied) q.out;
           ends = λ x. ends_sent k small.out.send (without_question k e c.lines) x
               ∙ ap (λ (ends : Session → Ends). world.with_sent small.out.send ends x) (fun_ext (ends_taken k e c there ones))
               ∙ ap (λ (o : ServerOut). world.with_sent o.send (world.without_taken e (λ y. ends_of (c.lines y))) x) q.out;
         }) (omega arith) held
 
     same_step : (small big : Stepped) → small ≡ event_step e s → IsSameStep k e s small big c
-        → WorldHolds greatest (record { server = big.server; counts = counts_of c.servers; decided = []; journal = c.journal ++ big.out.admitted; replied = c.replied; ends = world.with_sent big.out.send (world.without_taken e (λ x. ends_of (c.lines x))) })
+        → WorldHolds greatest (record { server = big.server; counts = counts_of c.servers; decided = []; journal = c.journal ++ big.out.admitted; replied = replies_after e big.out.admitted c.replied; ends = world.with_sent big.out.send (world.without_taken e (λ x. ends_of (c.lines x))) })
         → ClusterHolds skew greatest (after_step k e small c)
     same_step small big is q held = finish small is q.skew q.last (step_places k e s small big c at h.places q) (seen_after small big q held)
 
     -- where all rows and records stay
-    moved_step : (x : Stepped) → x ≡ event_step e s → IsQuietStep s x → ((y : Session) → without_question k e c.lines y ≡ c.lines y) → rows_in (after_step k e x c) ≡ rows_in c → held_by (after_step k e x c) ≡ held_by c → PlacesHold (after_step k e x c) → ClusterHolds skew greatest (after_step k e x c)
-    moved_step x is q still rows records places =
+    moved_step : (x : Stepped) → x ≡ event_step e s → replies_after e x.out.admitted c.replied ≡ c.replied → IsQuietStep s x → ((y : Session) → without_question k e c.lines y ≡ c.lines y) → rows_in (after_step k e x c) ≡ rows_in c → held_by (after_step k e x c) ≡ held_by c → PlacesHold (after_step k e x c) → ClusterHolds skew greatest (after_step k e x c)
+    moved_step x is told q still rows records places =
         let last : x.server.last ≡ s.last = q.last in
         let clock : s.last ≤ greatest = view.clock in
         finish x is q.skew q.last places (alike_holds greatest (world_of s c) (world_of x.server (after_step k e x c)) (record {
@@ -172,15 +178,31 @@ module _ (skew greatest k : ℕ) (c : Cluster) (s : Server) (at : slice_get c.se
               ∙ ap (λ n. count_with n x.server.reaps (λ i. reaps_at (slice_get c.servers i)) j) q.me
               ∙ ap (λ n. count_with s.me n (λ i. reaps_at (slice_get c.servers i)) j) q.reaps;
           journal = ap (λ is. c.journal ++ is) q.admitted ∙ append-nil c.journal;
-          replied = refl;
+          replied = told;
           ends = λ y. ap ends_of (q.sent k (without_question k e c.lines) y ∙ still y);
         }) (omega arith) view)
 
-  asked_event : (by : Session) (m : ClientMsg) → IsThere k (event.FromClient by m) c → ClusterHolds skew greatest (after_step k (event.FromClient by m) (event_step (event.FromClient by m) s) c)
-  asked_event by m there =
+  other_event : (by : Session) (m : ClientMsg) → IsOther (event.FromClient by m) → IsThere k (event.FromClient by m) c → ClusterHolds skew greatest (after_step k (event.FromClient by m) (event_step (event.FromClient by m) s) c)
+  other_event by m other there =
       let e = event.FromClient by m in
       let coming : world.IsThere e (world_of s c).ends = In-mapped (λ (n : ℕ × ClientMsg). n.1) (k, m) (c.lines by).up (found (is_with k) (c.lines by).up (k, m) there).0 in
-      same_step e there (event_step e s) (event_step e (with_all s c)) refl (begun_same greatest k c s e at h.places view coming (λ z. absurd (cc))) (begun_keeps greatest (world_of s c) e refl coming view)
+      let big : Stepped = event_step e (with_all s c) in
+      same_step e there (event_step e s) big refl (begun_same greatest k c s e at h.places view coming other (λ z. absurd (cc)))
+      (subst (λ replied. WorldHolds greatest (record { server = big.server; counts = counts_of c.servers; decided = []; journal = c.journal ++ big.out.admitted; replied = replied; ends = world.with_sent big.out.send (world.without_taken e (λ x. ends_of (c.lines x))) })) (sym (replies_still e other big.out.admitted c.replied))
+      (begun_keeps greatest (world_of s c) e refl coming other view))
+
+  lead_event : (by : Session) (m : ToLead) (x : Stepped) → LeadEnds by m s x → x ≡ lead_step by m s → IsThere k (event.FromClient by (Lead m)) c → ClusterHolds skew greatest (after_step k (event.FromClient by (Lead m)) x c)
+  lead_event by m x (unled never) is there = absurd (let z : true ≡ false = sym (led_there skew greatest k c s at h by m there) ∙ never in cc)
+  lead_event by m x (put_off why asks r) is there = same_step (event.FromClient by (Lead m)) there (refuses by why s) (refuses by why (with_all s c)) is (refuse_same k c s by m at h.places why) (put_off_holds skew greatest k c s at h by m there why)
+  lead_event by m x (aborted u asks r g) is there = same_step (event.FromClient by (Lead m)) there (aborts by u s) (aborts by u (with_all s c)) is (abort_same k c s by m at h.places u) (aborted_holds skew greatest k c s at h by m there u)
+  lead_event by m x (led asks r g) is there = same_step (event.FromClient by (Lead m)) there (commits by m s) (commits by m (with_all s c)) is (commit_same k c s by m at h.places (none_refuses s m r).1.1) (led_holds skew greatest k c s at h by m there r g)
+
+  asked_event : (by : Session) (m : ClientMsg) → IsThere k (event.FromClient by m) c → ClusterHolds skew greatest (after_step k (event.FromClient by m) (event_step (event.FromClient by m) s) c)
+  asked_event by (Lead m) there = lead_event by m (lead_step by m s) (lead_ends by m s) refl there
+  asked_event by (Ask items dir) there = other_event by (Ask items dir) tt there
+  asked_event by (Renew pairs) there = other_event by (Renew pairs) tt there
+  asked_event by (Release pairs) there = other_event by (Release pairs) tt there
+  asked_event by (Ship entries) there = other_event by (Ship entries) tt there
 
   none_led : (from : ℕ) (m : PeerMsg) → IsThere k (event.FromPeer from m) c → parcel_in m ≡ None → ⊥
   none_led from m there is = none_flies k from c m h.places there is
@@ -193,7 +215,7 @@ module _ (skew greatest k : ℕ) (c : Cluster) (s : Server) (at : slice_get c.se
       let is : x ≡ event_step e s = ap (λ b. parcel_at b p s) (sym fits) in
       let same = arriving_same k from c s p at h.places there in
       subst (λ (y : Stepped). ClusterHolds skew greatest (after_step k e y c)) is
-      (moved_step e there x is (install_quiet (note.Installs p.prefix) p s) (λ y. refl) same.0 same.1 (arriving_places k from c s p at h.places there))
+      (moved_step e there x is refl (install_quiet (note.Installs p.prefix) p s) (λ y. refl) same.0 same.1 (arriving_places k from c s p at h.places there))
   peer_event from (peer.Prepare m) there = absurd (none_led from (peer.Prepare m) there refl)
   peer_event from (peer.Vote m) there = absurd (none_led from (peer.Vote m) there refl)
   peer_event from (peer.Decide m) there = absurd (none_led from (peer.Decide m) there refl)
@@ -206,11 +228,11 @@ module _ (skew greatest k : ℕ) (c : Cluster) (s : Server) (at : slice_get c.se
       same_step event.Turn there (turn_step s) (turn_over (lapsed_in s) (with_all s c)) refl (turn_same k c s at h.places) (turn_some_keeps greatest (world_of s c) (lapsed_in s) refl (all_let_go c k s at h.places) view)
   step_keeps (event.Recall field) there =
       let e = event.Recall field in
-      same_step e there (event_step e s) (event_step e (with_all s c)) refl (begun_same greatest k c s e at h.places view tt (λ z. absurd (cc))) (begun_keeps greatest (world_of s c) e refl tt view)
+      same_step e there (event_step e s) (event_step e (with_all s c)) refl (begun_same greatest k c s e at h.places view tt tt (λ z. absurd (cc))) (begun_keeps greatest (world_of s c) e refl tt tt view)
   step_keeps (event.Move prefix to) there =
       let e = event.Move prefix to in
       let same = move_same k c s prefix to at h.places in
-      moved_step e there (event_step e s) refl (move_quiet (move_refusal s.records s.rows s.map s.me prefix to None) prefix to s) (λ y. refl) same.0 same.1 (move_places k c s prefix to at h.places (counts_of c.servers) view.all.kept there)
+      moved_step e there (event_step e s) refl refl (move_quiet (move_refusal s.records s.rows s.map s.me prefix to None) prefix to s) (λ y. refl) same.0 same.1 (move_places k c s prefix to at h.places (counts_of c.servers) view.all.kept there)
 
 -- ## Every event
 

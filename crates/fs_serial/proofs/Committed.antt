@@ -271,6 +271,7 @@ module _ (skew greatest : ℕ) (s : Sight) (by : Session) (d : Settled) (e : Ent
     entries = λ x i. none_waits x i;
     once = f.once;
     refused = f.refused;
+    led = tt;
   }
 
 -- ## All parts

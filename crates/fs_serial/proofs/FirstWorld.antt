@@ -118,17 +118,19 @@ module _ (greatest term : ℕ) (s : Server) (o : Counts) (no_rows : s.rows ≡ [
     entries = λ e i. absurd i;
     once = tt;
     refused = λ n e. absurd (cc);
+    led = tt;
   }
 
   pub first_holds : s.last ≤ greatest → WorldHolds greatest w
   first_holds clock = record {
     all = record { servers = first_servers; kept = first_kept; sessions = first_session; fitting = first_fits; reserved = first_reserved };
     clock = clock;
-    clients = λ x. record { session = refl; viewed = refl; pending = refl; distinct = λ k l i j e. absurd i; pinned = λ k i. absurd i; held = λ e i u j. absurd i; unled = refl };
+    clients = λ x. record { session = refl; viewed = refl; pending = refl; distinct = λ k l i j e. absurd i; pinned = λ k i. absurd i; held = λ e i u j. absurd i };
     exchanges = λ x. record {
       one = (refl, refl);
       ships = tt;
       front = λ entries i. absurd i;
+      leads = λ m i. absurd i;
       released = tt;
       kinds = λ items fresh i. absurd i;
       pairs = λ m i. absurd i;

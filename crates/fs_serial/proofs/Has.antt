@@ -12,13 +12,9 @@ use Rattle.fs_msg.specs.declared.end.End.{End}
 use Rattle.fs_view.specs.declared.kept.Kept.{Kept}
 use Rattle.fs_view.specs.Kept.{lease_of}
 use Rattle.fs_client.specs.declared.state.Client.{Client}
-use Rattle.fs_serial.specs.Settled.{HasLeaseAs, Lease, Settled, granted, lease_in, lease_with, settled, settled_now, told}
+use Rattle.fs_serial.specs.Settled.{HasLeaseAs, Settled, granted, lease_in, lease_with, settled, settled_now, told}
 use Rattle.fs_serial.proofs.Knowing.{In-filter_map}
-use Rattle.fs_serial.proofs.Settling.{later}
-
--- one that it has stays, whatever comes
-stays : (by : Session) (down : List Answer) (d : Settled) (l : Lease) → In l d.leases → HasLeaseAs (settled by down d).leases l.no l.field l.kind l.until
-stays by down d l i = let p = later by down d l i in record { lease = p.lease; held = p.held; number = p.number; field = p.field; kind = p.kind; until = p.until }
+use Rattle.fs_serial.proofs.Settling.{stays}
 
 pub has_held : (by : Session) (c : Client) (down : List Answer) (k : Kept) (l : Term) → In k c.view.leases → lease_of k.standing ≡ Some l → HasLeaseAs (settled by down (settled_now c)).leases l.no l.field l.kind l.until
 has_held by c down k l i is = stays by down (settled_now c) (lease_with k l) (In-filter_map lease_in k (lease_with k l) c.view.leases i (ap (option_map (lease_with k)) is))

@@ -8,9 +8,12 @@ use Rattle.fs_msg.specs.declared.answer.Answer.TheVariants.{Granted, Renewed, Re
 use Rattle.fs_msg.specs.declared.client_msg.ClientMsg.{ClientMsg}
 use Rattle.fs_msg.specs.declared.client_note.ClientNote.{ClientNote}
 use Rattle.fs_msg.specs.declared.item.Item.{Item}
-use Rattle.fs_client.specs.Answers.{answer_fits, fits, hear, told, strange}
+use Rattle.fs_record.specs.declared.led_end.LedEnd.{LedEnd}
+use Rattle.fs_record.specs.declared.led_end.LedEnd.TheVariants as end
+use Rattle.fs_client.specs.Answers.{answer_fits, ended_plan, fits, hear, led_plan, told, strange}
 use Rattle.fs_client.specs.Client.{changed}
 use Rattle.fs_client.specs.declared.exchange.Exchange.{Exchange}
+use Rattle.fs_client.specs.declared.led.Led.{Led as TheLed}
 use Rattle.fs_client.specs.declared.plan.Plan.{Plan}
 use Rattle.fs_client.specs.declared.state.Client.{Client}
 use Rattle.fs_serial.specs.Exchange.{asked_server, is_recall, server_of_question}
@@ -21,11 +24,11 @@ use Rattle.fs_serial.specs.World.{message_in, pushed}
 use Rattle.fs_serial.proofs.ClientSteps.{IsMoved}
 use Rattle.fs_serial.proofs.Heard.{IsHeard, heard}
 use Rattle.fs_serial.proofs.HearsGranted.{seat_granted, granted_seen}
+use Rattle.fs_serial.proofs.HearsLed.{led_fits, led_seen, seat_led}
 use Rattle.fs_serial.proofs.HearsRenewed.{seat_renewed, renewed_reserves}
 use Rattle.fs_serial.proofs.HearsReturned.{seat_recalled, recalled_seen, seat_released, released_seen}
 use Rattle.fs_serial.proofs.HearsShipped.{seat_shipped, shipped_seen}
 use Rattle.fs_serial.proofs.Seats.{Seat, seen_at}
-use Rattle.fs_serial.proofs.Unled.{none_fits}
 
 -- the question was sent to the server
 sent_to : (c : Client) (x : Exchange) (from : ℕ) → c.exchange ≡ Some x → asked_server c.exchange ≡ Some from → server_of_question x ≡ from
@@ -52,6 +55,11 @@ module _ (skew greatest : ℕ) (s : Sight) (by : Session) (replied : List Item) 
   same_reserves : (a b : Settled) → a ≡ b → (n : LeaseNo) (i : List ℕ) → Reserves a.leases n i → Reserves b.leases n i
   same_reserves a b e n i r = subst (λ (d : Settled). Reserves d.leases n i) e r
 
+  led_moves : (l : TheLed) → c.led ≡ Some l → (e : LedEnd) → Seat skew greatest s by replied c up (Led e ∷ rest) → Moves (Led e) (ended_plan l e c)
+  led_moves l is (end.Done r) h = record { seat = seat_led skew greatest s by replied c up l is (end.Done r) rest h; reserves = same_reserves _ (seen_at by c (Led (end.Done r) ∷ rest)) (led_seen skew greatest s by replied c up l is (end.Done r) rest h) }
+  led_moves l is (end.Ended lease until now) h = record { seat = seat_led skew greatest s by replied c up l is (end.Ended lease until now) rest h; reserves = same_reserves _ (seen_at by c (Led (end.Ended lease until now) ∷ rest)) (led_seen skew greatest s by replied c up l is (end.Ended lease until now) rest h) }
+  led_moves l is (end.Again why) h = record { seat = seat_led skew greatest s by replied c up l is (end.Again why) rest h; reserves = same_reserves _ (seen_at by c (Led (end.Again why) ∷ rest)) (led_seen skew greatest s by replied c up l is (end.Again why) rest h) }
+
   told_moved : (a : Answer) → Seat skew greatest s by replied c up (a ∷ rest) → Moves a (told a c)
   told_moved (Granted gs fresh e) h = record { seat = seat_granted skew greatest s by replied c up gs fresh e rest h; reserves = same_reserves _ (seen_at by c (Granted gs fresh e ∷ rest)) (granted_seen skew greatest s by replied c up gs fresh e rest h) }
   told_moved (Renewed ends e) h = record { seat = seat_renewed skew greatest s by replied c up ends e rest h; reserves = renewed_reserves skew greatest s by replied c up ends e rest h }
@@ -59,7 +67,8 @@ module _ (skew greatest : ℕ) (s : Sight) (by : Session) (replied : List Item) 
   told_moved (Shipped count e) h = record { seat = seat_shipped skew greatest s by replied c up count e rest h; reserves = same_reserves _ (seen_at by c (Shipped count e ∷ rest)) (shipped_seen skew greatest s by replied c up count e rest h) }
   told_moved (Led e) h =
       let w : IsHeard c up (Led e) rest = heard c c.exchange up (Led e) rest refl refl h.exchange.one in
-      absurd (none_fits (server_of_question w.exchange) w.exchange e c h.client.unled w.fits)
+      let l = led_fits (server_of_question w.exchange) w.exchange e c w.fits in
+      subst (λ o. Moves (Led e) (led_plan o e c)) (sym l.1) (led_moves l.0 l.1 e h)
   told_moved (Recall n) h = record { seat = seat_recalled skew greatest s by replied c up n rest h; reserves = same_reserves _ (seen_at by c (Recall n ∷ rest)) (recalled_seen skew greatest s by replied c up n rest h) }
 
   -- the first answer on its way fits

@@ -34,7 +34,7 @@ use Rattle.fs_client.specs.declared.state.Client.{Client}
 use Rattle.fs_view.specs.declared.kept.Kept.{Kept}
 use Rattle.fs_view.specs.Kept.{number_of, has_number, is_leaving, entries_of}
 use Rattle.fs_view.specs.View.{View}
-use Rattle.fs_serial.specs.Client.{ClientFits, times_used, times_in}
+use Rattle.fs_serial.specs.Client.{led_before, ClientFits, times_used, times_in}
 use Rattle.fs_serial.specs.Leases.{LeasesDistinct}
 use Rattle.fs_serial.specs.Parts.{SessionHolds, SessionFits}
 use Rattle.fs_serial.specs.Pending.{HasLease, UsesHeld}
@@ -123,7 +123,7 @@ module _ (by : Session) (c : Client) (gs : List Grant) (fresh : Option (List ℕ
 
   -- what it is, it was going to be
   pub granted_now : settled_now then ≡ told by (Granted gs fresh e) (settled_now c)
-  granted_now = ap (λ ls. let x : Settled = record { leases = ls; log = c.log; next = c.next; over = c.over } in x)
+  granted_now = ap (λ ls. let x : Settled = record { leases = ls; log = c.log; next = c.next; over = c.over; led = c.led } in x)
       (ap (filter_map kept_lease) leases_then ∙ filter_map-append kept_lease c.view.leases (map kept_new (leases_in fresh gs)) ∙ ap (λ ls. filter_map kept_lease c.view.leases ++ ls) (new_leases fresh gs))
 
   -- an old lease, or one that came
@@ -147,14 +147,14 @@ module _ (by : Session) (c : Client) (gs : List Grant) (fresh : Option (List ℕ
       let same : number_of k.standing ≡ n.grant.no = e ∙ ap (λ (k : Kept). number_of k.standing) n.is in
       absurd (let z : true ≡ false = sym (ap (λ m. same_no m n.grant.no) same ∙ same_no_self n.grant.no) ∙ no in cc)
 
-  held : UsesHeld (settled_now then).leases c.log
+  held : UsesHeld (settled_now then).leases (led_before c.led c.log)
   held x i u j =
       let q : HasLease (settled_now c).leases u = f.held x i u j in
       record { lease = q.lease; held = subst (λ (d : Settled). In q.lease d.leases) (sym granted_now) (In-front q.lease (settled_now c).leases (map (granted fresh) gs) q.held); number = q.number; field = q.field; kind = q.kind }
 
   -- no entry uses what comes
-  none_uses : (g : Grant) → In g gs → times_in g.no c.log ≡ 0
-  none_uses g i = unused_in g.no c.log (λ x j u k.
+  none_uses : (g : Grant) → In g gs → times_in g.no (led_before c.led c.log) ≡ 0
+  none_uses g i = unused_in g.no (led_before c.led c.log) (λ x j u k.
       let q : HasLease (settled_now c).leases u = f.held x j u k in
       let p = from-filter_map kept_lease q.lease c.view.leases q.held in
       ap (λ m. same_no m g.no) (sym (its_number p.0 q.lease p.2 ∙ q.number)) ∙ none_any (has_number g.no) c.view.leases (new g i) p.0 p.1)
@@ -175,12 +175,11 @@ module _ (by : Session) (c : Client) (gs : List Grant) (fresh : Option (List ℕ
             (ap (λ (k : Kept). number_of k.standing) (sym a.is) ∙ same ∙ ap (λ (k : Kept). number_of k.standing) b.is)) ∙ sym b.is
       ]
     ];
-    pinned = λ k i. elim (split k i) as (λ _. entries_of k.standing ≡ times_in (number_of k.standing) c.log) [
+    pinned = λ k i. elim (split k i) as (λ _. entries_of k.standing ≡ times_in (number_of k.standing) (led_before c.led c.log)) [
       | inl a ↦ f.pinned k a
-      | inr a ↦ ap (λ (k : Kept). entries_of k.standing) a.is ∙ sym (none_uses a.grant a.among) ∙ ap (λ n. times_in n c.log) (ap (λ (k : Kept). number_of k.standing) (sym a.is))
+      | inr a ↦ ap (λ (k : Kept). entries_of k.standing) a.is ∙ sym (none_uses a.grant a.among) ∙ ap (λ n. times_in n (led_before c.led c.log)) (ap (λ (k : Kept). number_of k.standing) (sym a.is))
     ];
     held = held;
-    unled = f.unled;
   }
 
 -- all that holds of its session

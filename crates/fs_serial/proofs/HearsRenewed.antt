@@ -30,7 +30,7 @@ use Rattle.fs_view.specs.declared.kept.Standing.TheVariants.{Held, Pinned, Leavi
 use Rattle.fs_view.specs.Kept.{number_of, has_number, is_leaving, is_held, entries_of, lease_of, renewed}
 use Rattle.fs_view.specs.View.{View, stands, with_end, without_lease}
 use Rattle.fs_view.proofs.Changed.{renewed_number}
-use Rattle.fs_serial.specs.Client.{ClientFits, times_in}
+use Rattle.fs_serial.specs.Client.{led_before, ClientFits, times_in}
 use Rattle.fs_serial.specs.Exchange.{ExchangeFits, ReturnFits, ReturnsFit}
 use Rattle.fs_serial.specs.Leases.{IsBacked}
 use Rattle.fs_serial.specs.Parts.{SessionHolds, SessionFits}
@@ -135,7 +135,7 @@ module _ (skew greatest : ℕ) (s : Sight) (by : Session) (replied : List Item) 
   end_told until backs =
       let d : Settled = settled_now at in
       let same : map (retimed n until) (filter_map lease_in v.leases) ≡ filter_map lease_in (map (one_end n until) v.leases) = sym (end_leases n until v.leases) in
-      let seen : with_until n until d ≡ settled_now (record c { view = with_end n until v }) = ap (λ ls. let x : Settled = record { leases = ls; log = c.log; next = c.next; over = c.over } in x) same in
+      let seen : with_until n until d ≡ settled_now (record c { view = with_end n until v }) = ap (λ ls. let x : Settled = record { leases = ls; log = c.log; next = c.next; over = c.over; led = c.led } in x) same in
       let by_lease : (l : Lease) → In l d.leases → l.no ≡ n → greatest < until + skew → IsBacked s.rows n until = backs in
       let number : (k : Kept) → number_of (one_end n until k).standing ≡ number_of k.standing = one_keeps number_of (renewed until) (renewed_number until) n in
       record {
@@ -146,9 +146,8 @@ module _ (skew greatest : ℕ) (s : Sight) (by : Session) (replied : List Item) 
           viewed = h.client.viewed;
           pending = h.client.pending;
           distinct = distinct_mapped (one_end n until) number v.leases h.client.distinct;
-          pinned = each_image (one_end n until) (λ k. entries_of k.standing ≡ times_in (number_of k.standing) c.log) v.leases (λ k i. one_keeps entries_of (renewed until) (end_entries until) n k ∙ h.client.pinned k i ∙ ap (λ m. times_in m c.log) (sym (number k)));
-          held = subst (λ ls. UsesHeld ls c.log) same (held skew greatest s by replied n until d by_lease h.client.held);
-          unled = h.client.unled;
+          pinned = each_image (one_end n until) (λ k. entries_of k.standing ≡ times_in (number_of k.standing) (led_before c.led c.log)) v.leases (λ k i. one_keeps entries_of (renewed until) (end_entries until) n k ∙ h.client.pinned k i ∙ ap (λ m. times_in m (led_before c.led c.log)) (sym (number k)));
+          held = subst (λ ls. UsesHeld ls (led_before c.led c.log)) same (held skew greatest s by replied n until d by_lease (led_before c.led c.log) h.client.held);
         };
         returns = each_image (one_end n until) (λ k. is_leaving k.standing ≡ true → ReturnFits s.given s.rows by (filter_map lease_in (map (one_end n until) v.leases)) (pair_of k)) v.leases (λ k i t.
             let q : ReturnFits s.given s.rows by (filter_map lease_in v.leases) (pair_of k) = h.returns k i (sym (one_keeps is_leaving (renewed until) (end_leaving until) n k) ∙ t) in
@@ -177,18 +176,19 @@ module _ (skew greatest : ℕ) (s : Sight) (by : Session) (replied : List Item) 
       let w : View = without_lease n v in
       let was : (k : Kept) → In k w.leases → In k v.leases = λ k i. In-filter (λ k. not (has_number n k)) k v.leases i in
       let first : IsHeldThere v.leases n = the_held v.leases n (find (has_number n) v.leases) refl t in
-      let unused : times_in n c.log ≡ 0 = ap (λ m. times_in m c.log) (sym first.number) ∙ sym (h.client.pinned first.kept first.among) ∙ held_none first.kept.standing first.held in
-      let g : HasFewer (IsUsed c.log) d (settled_now (record c { view = w })) = record {
+      let unused : times_in n (led_before c.led c.log) ≡ 0 = ap (λ m. times_in m (led_before c.led c.log)) (sym first.number) ∙ sym (h.client.pinned first.kept first.among) ∙ held_none first.kept.standing first.held in
+      let g : HasFewer (IsUsed (led_before c.led c.log)) d (settled_now (record c { view = w })) = record {
         log = refl;
         next = refl;
         over = refl;
+        led = refl;
         fewer = λ l i. let q = from-filter_map lease_in l w.leases i in In-filter_map lease_in q.0 l v.leases (was q.0 q.1) q.2;
-        still = λ l i u. let q = from-filter_map lease_in l v.leases i in In-filter_map lease_in q.0 l w.leases (In-kept (λ k. not (has_number n k)) q.0 v.leases q.1 (other_number n c.log q.0 l unused u (its_number q.0 l q.2))) q.2;
+        still = λ l i u. let q = from-filter_map lease_in l v.leases i in In-filter_map lease_in q.0 l w.leases (In-kept (λ k. not (has_number n k)) q.0 v.leases q.1 (other_number n (led_before c.led c.log) q.0 l unused u (its_number q.0 l q.2))) q.2;
       } in
-      let used : (x : Entry) → In x c.log → (u : Use) → In u x.uses → IsUsed c.log u.no = λ x i u j. record { entry = x; logged = i; used = u; among = j; number = refl } in
+      let used : (x : Entry) → In x (led_before c.led c.log) → (u : Use) → In u x.uses → IsUsed (led_before c.led c.log) u.no = λ x i u j. record { entry = x; logged = i; used = u; among = j; number = refl } in
       record {
-        holds = fewer_holds skew greatest s by replied (IsUsed c.log) d (settled_now (record c { view = w })) g used h.holds;
-        fits = fewer_fits skew greatest s by replied (IsUsed c.log) d (settled_now (record c { view = w })) g used h.fits;
+        holds = fewer_holds skew greatest s by replied (IsUsed (led_before c.led c.log)) d (settled_now (record c { view = w })) g used h.holds;
+        fits = fewer_fits skew greatest s by replied (IsUsed (led_before c.led c.log)) d (settled_now (record c { view = w })) g used h.fits;
         client = record {
           session = h.client.session;
           viewed = h.client.viewed;
@@ -196,7 +196,6 @@ module _ (skew greatest : ℕ) (s : Sight) (by : Session) (replied : List Item) 
           distinct = λ k l i j. h.client.distinct k l (was k i) (was l j);
           pinned = λ k i. h.client.pinned k (was k i);
           held = λ x i u j. let q : HasLease d.leases u = h.client.held x i u j in record { lease = q.lease; held = g.still q.lease q.held (record { entry = x; logged = i; used = u; among = j; number = sym q.number }); number = q.number; field = q.field; kind = q.kind };
-          unled = h.client.unled;
         };
         returns = λ k i l. let q = h.returns k (was k i) l in record { fits = q.fits; alone = λ m j. q.alone m (g.fewer m j); own = q.own };
         fewer = λ l i. h.fewer l (g.fewer l i);
@@ -241,7 +240,7 @@ seat_renewed skew greatest s by replied c up ends e rest h =
     record {
       holds = subst (SessionHolds skew greatest s by replied) (sym now) q.holds;
       fits = subst (SessionFits skew greatest s by) (sym now) q.fits;
-      client = record { session = q.client.session; viewed = q.client.viewed; pending = q.client.pending; distinct = q.client.distinct; pinned = q.client.pinned; held = q.client.held; unled = q.client.unled };
+      client = record { session = q.client.session; viewed = q.client.viewed; pending = q.client.pending; distinct = q.client.distinct; pinned = q.client.pinned; held = q.client.held };
       exchange = subst (λ up. ExchangeFits skew greatest s.given s.rows by then_ up rest (settled_now then_) (seen_at by then_ rest)) (sym w.asked)
           (quiet_exchange skew greatest s.given s.rows by then_ rest (settled_now then_) (seen_at by then_ rest) refl w.quiet (subst (λ (d : Settled). ReturnsFit s.given s.rows by then_.view.leases d.leases) (sym now) q.returns));
     }

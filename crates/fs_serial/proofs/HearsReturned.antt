@@ -23,7 +23,7 @@ use Rattle.fs_view.specs.declared.kept.Standing.{Standing}
 use Rattle.fs_view.specs.declared.kept.Standing.TheVariants.{Held, Pinned, Leaving}
 use Rattle.fs_view.specs.Kept.{number_of, has_number, is_leaving, entries_of, lease_of, recalled_as}
 use Rattle.fs_view.specs.View.{View, stands, without_lease}
-use Rattle.fs_serial.specs.Client.{times_in}
+use Rattle.fs_serial.specs.Client.{led_before, times_in}
 use Rattle.fs_serial.specs.Exchange.{IsReturned, ReleasesReturned, ExchangeFits, ReturnFits, ReturnsFit}
 use Rattle.fs_serial.specs.Parts.{SessionHolds, SessionFits}
 use Rattle.fs_serial.specs.Pending.{UsesHeld}
@@ -65,7 +65,7 @@ module _ (skew greatest : ℕ) (s : Sight) (by : Session) (replied : List Item) 
   pair k = ap pair_in (recall_standing n k)
 
   now : settled_now recalled ≡ settled_now c
-  now = ap (λ ls. let x : Settled = record { leases = ls; log = c.log; next = c.next; over = c.over } in x) (same_leases (one_recall n) (recall_lease n) c.view.leases)
+  now = ap (λ ls. let x : Settled = record { leases = ls; log = c.log; next = c.next; over = c.over; led = c.led } in x) (same_leases (one_recall n) (recall_lease n) c.view.leases)
 
   pub recalled_seen : seen_at by recalled rest ≡ seen_at by c (Recall n ∷ rest)
   recalled_seen = ap (settled by rest) now
@@ -91,9 +91,8 @@ module _ (skew greatest : ℕ) (s : Sight) (by : Session) (replied : List Item) 
       viewed = h.client.viewed;
       pending = h.client.pending;
       distinct = distinct_mapped (one_recall n) number c.view.leases h.client.distinct;
-      pinned = each_image (one_recall n) (λ k. entries_of k.standing ≡ times_in (number_of k.standing) c.log) c.view.leases (λ k i. ap entries_of (recall_standing n k) ∙ h.client.pinned k i ∙ ap (λ m. times_in m c.log) (sym (number k)));
-      held = subst (λ (d : Settled). UsesHeld d.leases c.log) (sym now) h.client.held;
-      unled = h.client.unled;
+      pinned = each_image (one_recall n) (λ k. entries_of k.standing ≡ times_in (number_of k.standing) (led_before c.led c.log)) c.view.leases (λ k i. ap entries_of (recall_standing n k) ∙ h.client.pinned k i ∙ ap (λ m. times_in m (led_before c.led c.log)) (sym (number k)));
+      held = subst (λ (d : Settled). UsesHeld d.leases (led_before c.led c.log)) (sym now) h.client.held;
     };
     exchange = exchange_still skew greatest s.given s.rows by c recalled [] up rest (settled_now c) (settled_now recalled) (seen_at by c (Recall n ∷ rest)) (seen_at by recalled rest) goes_on
         (λ l i. record { lease = l; held = subst (λ (d : Settled). In l d.leases) now i; number = refl })
@@ -163,7 +162,7 @@ seat_released skew greatest s by replied c up count e rest h =
     let r = sent_returned c.exchange c.view.leases h.exchange.released n (in_front count n (numbers_sent c.exchange) i) in
     ap (λ (k : Kept). is_leaving k.standing) (h.client.distinct k r.kept j r.among (same ∙ sym r.number)) ∙ r.leaving in
     let q : HasReturned c.view then_.view = all_returned ns c.view going in
-    let now : settled_now then_ ≡ settled_now c = ap (λ ls. let x : Settled = record { leases = ls; log = c.log; next = c.next; over = c.over } in x) q.same in
+    let now : settled_now then_ ≡ settled_now c = ap (λ ls. let x : Settled = record { leases = ls; log = c.log; next = c.next; over = c.over; led = c.led } in x) q.same in
     let seen : seen_at by c (Released count e ∷ rest) ≡ seen_at by then_ rest = ap (settled by rest) (sym now) in
     let returns : ReturnsFit s.given s.rows by then_.view.leases (seen_at by then_ rest).leases = λ k i t. subst (λ (d : Settled). ReturnFits s.given s.rows by d.leases (pair_of k)) seen (h.exchange.returns k (q.was k i) t) in
     record {
@@ -175,8 +174,7 @@ seat_released skew greatest s by replied c up count e rest h =
         pending = q.pending ∙ h.client.pending;
         distinct = λ k l i j. h.client.distinct k l (q.was k i) (q.was l j);
         pinned = λ k i. h.client.pinned k (q.was k i);
-        held = subst (λ (d : Settled). UsesHeld d.leases c.log) (sym now) h.client.held;
-        unled = h.client.unled;
+        held = subst (λ (d : Settled). UsesHeld d.leases (led_before c.led c.log)) (sym now) h.client.held;
       };
       exchange = subst (λ up. ExchangeFits skew greatest s.given s.rows by then_ up rest (settled_now then_) (seen_at by then_ rest)) (sym w.asked) (quiet_exchange skew greatest s.given s.rows by then_ rest (settled_now then_) (seen_at by then_ rest) refl w.quiet returns);
     }
@@ -189,4 +187,4 @@ released_seen skew greatest s by replied c up count e rest h =
     let r = sent_returned c.exchange c.view.leases h.exchange.released n (in_front count n (numbers_sent c.exchange) i) in
     ap (λ (k : Kept). is_leaving k.standing) (h.client.distinct k r.kept j r.among (same ∙ sym r.number)) ∙ r.leaving in
     let q : HasReturned c.view (with_released ns c).view = all_returned ns c.view going in
-    ap (settled by rest) (ap (λ ls. let x : Settled = record { leases = ls; log = c.log; next = c.next; over = c.over } in x) q.same)
+    ap (settled by rest) (ap (λ ls. let x : Settled = record { leases = ls; log = c.log; next = c.next; over = c.over; led = c.led } in x) q.same)

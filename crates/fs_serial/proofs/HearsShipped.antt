@@ -1,5 +1,5 @@
 -- A client hears that entries of its log were admitted.
-use Rattle.std.proofs.Common.{◌≡◌, ℕ, zero, suc, ◌+◌, ◌-◌, ◌==◌, Bool, true, false, List, [], ◌∷◌, map, refl, sym, ap, ◌∙◌, subst, inr, cond, arith}
+use Rattle.std.proofs.Common.{◌≡◌, ℕ, zero, suc, ◌+◌, ◌-◌, ◌==◌, Bool, true, false, List, [], ◌∷◌, map, refl, sym, ap, ◌∙◌, subst, cond, arith}
 use Rattle.std.specs.Prelude.{Option, Some, None, option_map}
 use Rattle.std.specs.List.{filter_map, cons_option}
 use Rattle.std.proofs.lemmas.Bool.Decides.{nat_tests}
@@ -30,12 +30,13 @@ use Rattle.fs_view.specs.declared.kept.Standing.TheVariants.{Held, Pinned, Leavi
 use Rattle.fs_view.specs.Kept.{number_of, has_number, is_leaving, entries_of, lease_of, unpinned}
 use Rattle.fs_view.specs.View.{View, base_after, below_after, knowing, first_admitted, unpinned_at, unpinned_all}
 use Rattle.fs_view.proofs.Changed.{unpinned_number}
-use Rattle.fs_serial.specs.Client.{ClientFits, KeptDistinct, times_used, times_in}
+use Rattle.fs_serial.specs.Client.{led_before, ClientFits, KeptDistinct, times_used, times_in}
 use Rattle.fs_serial.specs.Exchange.{ExchangeFits, ReturnFits, ReturnsFit}
 use Rattle.fs_serial.specs.Parts.{SessionHolds, SessionFits}
 use Rattle.fs_serial.specs.Pending.{HasLease}
 use Rattle.fs_serial.specs.Settled.{Lease, Settled, lease_in, lease_after, effects_in, acknowledged, acknowledged_all, with_over, told, settled, settled_now}
 use Rattle.fs_serial.specs.Sight.{Sight}
+use Rattle.fs_serial.proofs.LedKept.{tail_before, times_led}
 use Rattle.fs_serial.proofs.Facts.{each_image}
 use Rattle.fs_serial.proofs.Heard.{IsHeard, heard, quiet_exchange}
 use Rattle.fs_serial.proofs.ReplyPins.{distinct_mapped, one_keeps, pair_in, same_leases}
@@ -81,11 +82,11 @@ unpin_in n k = within (has_number n k)
     within true = ap (λ o. option_map (λ (l : Term). let x : Lease = record { no = l.no; field = l.field; kind = l.kind; until = l.until; base = k.base; below = k.below } in x) o) (free_lease k.standing)
     within false = refl
 
-unpinned_leases : (us : List Use) (ks : List Kept) → filter_map lease_in (unpinned_all us ks) ≡ filter_map lease_in ks
+pub unpinned_leases : (us : List Use) (ks : List Kept) → filter_map lease_in (unpinned_all us ks) ≡ filter_map lease_in ks
 unpinned_leases [] ks = refl
 unpinned_leases (u ∷ us) ks = unpinned_leases us (unpinned_at u.no ks) ∙ same_leases (one_unpin u.no) (unpin_in u.no) ks
 
-distinct_all : (us : List Use) (ks : List Kept) → KeptDistinct ks → KeptDistinct (unpinned_all us ks)
+pub distinct_all : (us : List Use) (ks : List Kept) → KeptDistinct ks → KeptDistinct (unpinned_all us ks)
 distinct_all [] ks h = h
 distinct_all (u ∷ us) ks h = distinct_all us (unpinned_at u.no ks) (distinct_mapped (one_unpin u.no) (one_keeps number_of unpinned unpinned_number u.no) ks h)
 
@@ -96,7 +97,7 @@ pub record WasKept (ks : List Kept) (k : Kept) : Type 0 where
   pub pair : pair_of kept ≡ pair_of k
   pub leaving : is_leaving kept.standing ≡ is_leaving k.standing
 
-was_all : (us : List Use) (ks : List Kept) (k : Kept) → In k (unpinned_all us ks) → WasKept ks k
+pub was_all : (us : List Use) (ks : List Kept) (k : Kept) → In k (unpinned_all us ks) → WasKept ks k
 was_all [] ks k i = record { kept = k; among = i; pair = refl; leaving = refl }
 was_all (u ∷ us) ks k i =
     let q = was_all us (unpinned_at u.no ks) k i in
@@ -127,7 +128,7 @@ less_more : (b : Bool) (t c : ℕ) → cond b (t + 1) t + c ≡ cond b ((t + c) 
 less_more true t c = omega arith
 less_more false t c = refl
 
-counted_all : (us : List Use) (ks : List Kept) (count : LeaseNo → ℕ) → ((k : Kept) → In k ks → entries_of k.standing ≡ times_used (number_of k.standing) us + count (number_of k.standing)) → (k : Kept) → In k (unpinned_all us ks) → entries_of k.standing ≡ count (number_of k.standing)
+pub counted_all : (us : List Use) (ks : List Kept) (count : LeaseNo → ℕ) → ((k : Kept) → In k ks → entries_of k.standing ≡ times_used (number_of k.standing) us + count (number_of k.standing)) → (k : Kept) → In k (unpinned_all us ks) → entries_of k.standing ≡ count (number_of k.standing)
 counted_all [] ks count h k i = let q = h k i in omega arith
 counted_all (u ∷ us) ks count h k i = counted_all us (unpinned_at u.no ks) count
     (counted_one u ks (λ n. times_used n us + count n) (λ k i. h k i ∙ less_more (same_no u.no (number_of k.standing)) (times_used (number_of k.standing) us) (count (number_of k.standing)))) k i
@@ -145,7 +146,7 @@ know_parts by es (Leaving l) base below = refl
 know_in : (by : Session) (es : List Effect) (k : Kept) → lease_in (knowing by es k) ≡ option_map (lease_after by es) (lease_in k)
 know_in by es k = know_parts by es k.standing k.base k.below
 
-known_leases : (by : Session) (es : List Effect) (ks : List Kept) → filter_map lease_in (map (knowing by es) ks) ≡ map (lease_after by es) (filter_map lease_in ks)
+pub known_leases : (by : Session) (es : List Effect) (ks : List Kept) → filter_map lease_in (map (knowing by es) ks) ≡ map (lease_after by es) (filter_map lease_in ks)
 known_leases by es [] = refl
 known_leases by es (k ∷ ks) = ap (λ o. cons_option o (filter_map lease_in (map (knowing by es) ks))) (know_in by es k) ∙ ap (cons_option (option_map (lease_after by es) (lease_in k))) (known_leases by es ks) ∙ joined (lease_in k) (filter_map lease_in ks)
   where
@@ -173,7 +174,7 @@ module _ (by : Session) (c : Client) (x : Entry) (es : List Entry) (first : c.lo
   is_then = ap (λ (v : View). let y : Client = record c { view = record v { leases = unpinned_all x.uses v.leases }; log = es } in y) (sym (one_view by c.view eff (map (effects_in by) es) (f.pending ∙ ap (map (effects_in by)) first) f.viewed)) ∙ ap (admitted_one c) (sym first)
 
   one_settled : settled_now then ≡ acknowledged by (x ∷ es) (settled_now c)
-  one_settled = ap (λ ls. let y : Settled = record { leases = ls; log = es; next = c.next; over = c.over } in y) (unpinned_leases x.uses (map (knowing by eff) c.view.leases) ∙ known_leases by eff c.view.leases)
+  one_settled = ap (λ ls. let y : Settled = record { leases = ls; log = es; next = c.next; over = c.over; led = c.led } in y) (unpinned_leases x.uses (map (knowing by eff) c.view.leases) ∙ known_leases by eff c.view.leases)
 
   was : (k : Kept) → In k then.view.leases → WasKept c.view.leases k
   was k i =
@@ -187,11 +188,10 @@ module _ (by : Session) (c : Client) (x : Entry) (es : List Entry) (first : c.lo
     viewed = refl;
     pending = refl;
     distinct = distinct_all x.uses (map (knowing by eff) c.view.leases) (distinct_mapped (knowing by eff) (λ k. refl) c.view.leases f.distinct);
-    pinned = counted_all x.uses (map (knowing by eff) c.view.leases) (λ n. times_in n es) (each_image (knowing by eff) (λ k. entries_of k.standing ≡ times_used (number_of k.standing) x.uses + times_in (number_of k.standing) es) c.view.leases (λ k i. f.pinned k i ∙ ap (times_in (number_of k.standing)) first));
+    pinned = counted_all x.uses (map (knowing by eff) c.view.leases) (λ n. times_in n (led_before c.led es)) (each_image (knowing by eff) (λ k. entries_of k.standing ≡ times_used (number_of k.standing) x.uses + times_in (number_of k.standing) (led_before c.led es)) c.view.leases (λ k i. f.pinned k i ∙ ap (λ log. times_in (number_of k.standing) (led_before c.led log)) first ∙ times_led (number_of k.standing) c.led x es));
     held = λ y i u j.
-        let q : HasLease (settled_now c).leases u = f.held y (subst (In y) (sym first) (inr i)) u j in
+        let q : HasLease (settled_now c).leases u = f.held y (subst (λ log. In y (led_before c.led log)) (sym first) (tail_before c.led x es y i)) u j in
         record { lease = lease_after by eff q.lease; held = subst (λ (d : Settled). In (lease_after by eff q.lease) d.leases) (sym one_settled) (In-mapped (lease_after by eff) q.lease (settled_now c).leases q.held); number = q.number; field = q.field; kind = q.kind };
-    unled = f.unled;
   }
 
 -- ## Several
@@ -231,7 +231,7 @@ seat_shipped skew greatest s by replied c up count e rest h =
     record {
       holds = subst (SessionHolds skew greatest s by replied) seen h.holds;
       fits = subst (SessionFits skew greatest s by) seen h.fits;
-      client = record { session = q.client.session; viewed = q.client.viewed; pending = q.client.pending; distinct = q.client.distinct; pinned = q.client.pinned; held = q.client.held; unled = q.client.unled };
+      client = record { session = q.client.session; viewed = q.client.viewed; pending = q.client.pending; distinct = q.client.distinct; pinned = q.client.pinned; held = q.client.held };
       exchange = subst (λ up. ExchangeFits skew greatest s.given s.rows by then_ up rest (settled_now then_) (seen_at by then_ rest)) (sym w.asked) (quiet_exchange skew greatest s.given s.rows by then_ rest (settled_now then_) (seen_at by then_ rest) refl w.quiet returns);
     }
 

@@ -1,5 +1,5 @@
 -- What an operation asks for is on the file where it is handed in, and of the kind that is given.
-use Rattle.std.proofs.Common.{◌≡◌, ℕ, ◌||◌, Bool, true, false, List, [], ◌∷◌, cond, refl, sym, ◌∙◌, subst, inl, inr}
+use Rattle.std.proofs.Common.{◌≡◌, ℕ, ◌||◌, ◌&&◌, Bool, true, false, List, [], ◌∷◌, cond, refl, sym, ◌∙◌, subst, inl, inr}
 use Rattle.std.specs.Prelude.{Option, Some, None, is_some}
 use Rattle.fs_ident.specs.In.{In}
 use Rattle.fs_modes.specs.declared.modes.Mode.{Mode}
@@ -14,7 +14,7 @@ use Rattle.fs_model.specs.declared.op.Op.{Op}
 use Rattle.fs_model.specs.declared.op.Op.TheVariants as op
 use Rattle.fs_model.specs.declared.reply.Reply.{Reply}
 use Rattle.fs_model.specs.declared.reply.Reply.TheVariants as reply
-use Rattle.fs_model.specs.Asking.{home_of}
+use Rattle.fs_model.specs.Asking.{home_of, may_ask}
 use Rattle.fs_client.specs.Acts.{with_id}
 use Rattle.fs_server.specs.Asks.{kind_for}
 use Rattle.fs_view.specs.Script.{Script, answer, ask, give, unless, no_dir, no_file, taken_name, ask_child, ask_names, ask_info, ask_place, new_file, ask_others, ask_selves, modes_on, modes_off, open_free, open_with, close_with, ask_own, no_set, ask_size, script_of}
@@ -23,7 +23,7 @@ use Rattle.fs_view.specs.View.{View, fresh}
 use Rattle.fs_view.specs.Walk.{Known, Given, walk_along, behind}
 use Rattle.fs_view.specs.declared.walk.Walk.{Walk}
 use Rattle.fs_serial.specs.Pending.{named_by}
-use Rattle.fs_serial.specs.World.{is_called}
+use Rattle.fs_record.specs.Effects.{tells_its_effects}
 use Rattle.fs_serial.proofs.Naming.{reply_behind}
 
 -- a lease of the kind that is given, on the file
@@ -148,7 +148,7 @@ module _ (gives : Type 0) (file : List ℕ) where
 
 -- ## Every operation that a caller asks for
 
-pub called_home : (o : Op) → is_called o ≡ true → AsksAtHome (MayGive o) (home_of o) (script_of o)
+pub called_home : (o : Op) → (tells_its_effects o && may_ask o) ≡ true → AsksAtHome (MayGive o) (home_of o) (script_of o)
 called_home (op.Lookup dir name) h = (refl, refl, λ life. unless_home ⊥ dir (no_dir (life_told life)) (ask_child dir name) (refl, refl, λ child. tt))
 called_home (op.List dir) h = (refl, refl, λ life. unless_home ⊥ dir (no_dir (life_told life)) (ask_names dir) (refl, refl, λ names. tt))
 called_home (op.Kind file) h = (refl, refl, λ life. tt)

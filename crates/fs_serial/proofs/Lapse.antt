@@ -19,7 +19,7 @@ use Rattle.fs_view.specs.declared.kept.Kept.{Kept}
 use Rattle.fs_view.specs.declared.kept.Standing.{Standing}
 use Rattle.fs_view.specs.declared.kept.Standing.TheVariants.{Held, Pinned, Leaving}
 use Rattle.fs_view.specs.Kept.{lease_of, number_of, entries_of, has_ended, is_leaving}
-use Rattle.fs_serial.specs.Client.{ClientFits, times_used, times_in}
+use Rattle.fs_serial.specs.Client.{led_before, ClientFits, times_used, times_in}
 use Rattle.fs_serial.specs.Pending.{HasLease}
 use Rattle.fs_serial.specs.Settled.{Lease, lease_in, lease_with, settled_now}
 use Rattle.fs_serial.specs.Sight.{Sight}
@@ -28,7 +28,7 @@ use Rattle.fs_serial.proofs.Fewer.{HasFewer, settled_fewer, fewer_holds, fewer_f
 use Rattle.fs_serial.proofs.Knowing.{In-filter_map, from-filter_map}
 use Rattle.fs_serial.proofs.RowKinds.{In-kept}
 use Rattle.fs_serial.proofs.Seats.{Seat, seen_at}
-use Rattle.fs_serial.proofs.Settling.{settled_log}
+use Rattle.fs_serial.proofs.Settling.{settled_before}
 
 -- ## Used leases
 
@@ -96,16 +96,17 @@ module _ (by : Session) (c : Client) (now : ℕ) (f : ClientFits by c) where
   was : (k : Kept) → In k then.view.leases → In k c.view.leases
   was k i = In-filter (λ k. not (has_ended at k.standing)) k c.view.leases i
 
-  fewer : HasFewer (IsUsed c.log) (settled_now c) (settled_now then)
+  fewer : HasFewer (IsUsed (led_before c.led c.log)) (settled_now c) (settled_now then)
   fewer = record {
     log = refl;
     next = refl;
     over = refl;
+    led = refl;
     fewer = λ l i. let q = from-filter_map lease_in l then.view.leases i in In-filter_map lease_in q.0 l c.view.leases (was q.0 q.1) q.2;
     still = λ l i u.
         let q = from-filter_map lease_in l c.view.leases i in
         let n : number_of q.0.standing ≡ l.no = its_number q.0 l q.2 in
-        let more : 1 ≤ times_in (number_of q.0.standing) c.log = used_in (number_of q.0.standing) c.log u.entry u.logged u.used u.among (u.number ∙ sym n) in
+        let more : 1 ≤ times_in (number_of q.0.standing) (led_before c.led c.log) = used_in (number_of q.0.standing) (led_before c.led c.log) u.entry u.logged u.used u.among (u.number ∙ sym n) in
         let pins = f.pinned q.0 q.1 in
         In-filter_map lease_in q.0 l then.view.leases (stays q.0 q.1 (in_use at q.0.standing (omega arith))) q.2;
   }
@@ -118,7 +119,6 @@ module _ (by : Session) (c : Client) (now : ℕ) (f : ClientFits by c) where
     distinct = λ k l i j. f.distinct k l (was k i) (was l j);
     pinned = λ k i. f.pinned k (was k i);
     held = λ e i u j. let q : HasLease (settled_now c).leases u = f.held e i u j in record { lease = q.lease; held = fewer.still q.lease q.held (record { entry = e; logged = i; used = u; among = j; number = sym q.number }); number = q.number; field = q.field; kind = q.kind };
-    unled = f.unled;
   }
 
   pub lapse_goes_on : GoesOnAs c then []
@@ -131,17 +131,17 @@ module _ (by : Session) (c : Client) (now : ℕ) (f : ClientFits by c) where
     goes = λ k i t. record { kept = k; among = stays k i (leaving_stays at k.standing t); number = refl; leaving = t };
   }
 
-  pub lapse_fewer : (down : List Answer) → HasFewer (IsUsed c.log) (seen_at by c down) (seen_at by then down)
-  lapse_fewer down = settled_fewer (IsUsed c.log) by down (settled_now c) (settled_now then) fewer
+  pub lapse_fewer : (down : List Answer) → HasFewer (IsUsed (led_before c.led c.log)) (seen_at by c down) (seen_at by then down)
+  lapse_fewer down = settled_fewer (IsUsed (led_before c.led c.log)) by down (settled_now c) (settled_now then) fewer
 
 -- all that holds of its session
 pub seat_lapse : (skew greatest : ℕ) (s : Sight) (by : Session) (replied : List Item) (c : Client) (up : List ClientMsg) (down : List Answer) (now : ℕ) → Seat skew greatest s by replied c up down → Seat skew greatest s by replied (begun now c) up down
 seat_lapse skew greatest s by replied c up down now h =
     let g = lapse_fewer by c now h.client down in
-    let used = λ (x : Entry) (i : In x (seen_at by c down).log) (u : Use) (j : In u x.uses). let z : IsUsed c.log u.no = record { entry = x; logged = settled_log by down (settled_now c) x i; used = u; among = j; number = refl } in z in
+    let used = λ (x : Entry) (i : In x (led_before (seen_at by c down).led (seen_at by c down).log)) (u : Use) (j : In u x.uses). let z : IsUsed (led_before c.led c.log) u.no = record { entry = x; logged = settled_before by down (settled_now c) x i; used = u; among = j; number = refl } in z in
     record {
-      holds = fewer_holds skew greatest s by replied (IsUsed c.log) (seen_at by c down) (seen_at by (begun now c) down) g used h.holds;
-      fits = fewer_fits skew greatest s by replied (IsUsed c.log) (seen_at by c down) (seen_at by (begun now c) down) g used h.fits;
+      holds = fewer_holds skew greatest s by replied (IsUsed (led_before c.led c.log)) (seen_at by c down) (seen_at by (begun now c) down) g used h.holds;
+      fits = fewer_fits skew greatest s by replied (IsUsed (led_before c.led c.log)) (seen_at by c down) (seen_at by (begun now c) down) g used h.fits;
       client = lapse_client by c now h.client;
       exchange = exchange_still skew greatest s.given s.rows by c (begun now c) [] up down (settled_now c) (settled_now (begun now c)) (seen_at by c down) (seen_at by (begun now c) down) (lapse_goes_on by c now h.client)
           (λ l i. record { lease = l; held = (lapse_fewer by c now h.client []).fewer l i; number = refl })

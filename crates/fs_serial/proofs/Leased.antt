@@ -29,6 +29,7 @@ use Rattle.fs_serial.specs.Pending.{NamesItsFile}
 use Rattle.fs_serial.specs.Relies.{Relies, Stood}
 use Rattle.fs_serial.specs.Settled.{Lease, Settled, with_leases}
 use Rattle.fs_serial.specs.Sight.{Sight, IsGiven}
+use Rattle.fs_serial.proofs.LedKept.{each_led}
 use Rattle.fs_serial.proofs.Facts.{each_more}
 use Rattle.fs_serial.proofs.Gone.{still_gone}
 
@@ -97,6 +98,15 @@ module _ (skew greatest : ℕ) (by : Session) (t : Sight) (d : Settled) (l : Lea
     entries = λ e h. let q = f.entries e h in record { plain = q.plain; access = q.access; named = names_still d.leases (l ∷ []) e.uses e.op e.reply q.named; home = q.home };
     once = f.once;
     refused = f.refused;
+    led = each_led skew greatest greatest t t by d (with_leases (l ∷ []) d) d.led (λ led is h. record {
+      leads = h.leads;
+      number = h.number;
+      empty = h.empty;
+      held = λ e i u j. let q = h.held e i u j in record { lease = q.lease; held = In-front q.lease d.leases (l ∷ []) q.held; number = q.number; field = q.field; kind = q.kind };
+      backed = h.backed;
+      parts = h.parts;
+      right = h.right;
+    }) f.led;
   }
 
   pub leased_holds : (replied : List Item) → SessionHolds skew greatest t by replied d → SessionHolds skew greatest t by replied (with_leases (l ∷ []) d)

@@ -93,7 +93,7 @@ lease_items known given (give dir go) h n i = absurd h
 abbrev pub Covers : List Use → List Need → Type 0
 Covers uses items = (field : Field) (kind : LeaseKind) → In (need.Lease field kind) items → HasUse uses field kind
 
-all_covered : (uses : List Use) (items : List Need) → Covers uses items → ((n : Need) → In n items → IsLeaseItem n) → (n : Need) → In n items → IsCovered uses n
+pub all_covered : (uses : List Use) (items : List Need) → Covers uses items → ((n : Need) → In n items → IsLeaseItem n) → (n : Need) → In n items → IsCovered uses n
 all_covered uses items cover free (need.Lease field kind) i = cover field kind i
 all_covered uses items cover free (need.Fresh dir) i = absurd (free (need.Fresh dir) i)
 
@@ -102,7 +102,7 @@ pub record IsRight (w : Field → Value) (uses : List Use) (r : Reply) (s : Scri
   pub reply : (walk_along (known_with w) always s).reply ≡ Some r
   pub covered : (n : Need) → In n (walk_along (known_with w) always s).items → IsCovered uses n
 
-free_right : (w : Field → Value) (uses : List Use) (r : Reply) (s : Script) → NoGive s → (walk_along (known_with w) always s).reply ≡ Some r → Covers uses (walk_along (known_with w) always s).items → IsRight w uses r s
+pub free_right : (w : Field → Value) (uses : List Use) (r : Reply) (s : Script) → NoGive s → (walk_along (known_with w) always s).reply ≡ Some r → Covers uses (walk_along (known_with w) always s).items → IsRight w uses r s
 free_right w uses r s h e cover = record { reply = e; covered = all_covered uses (walk_along (known_with w) always s).items cover (lease_items (known_with w) always s h) }
 
 -- one lease before it

@@ -23,7 +23,7 @@ use Rattle.fs_msg.specs.declared.entry.Entry.{Entry}
 use Rattle.fs_msg.specs.declared.item.Item.{Item}
 use Rattle.fs_record.specs.Records.{nodes_of}
 use Rattle.fs_record.specs.ValueOf.{value_of}
-use Rattle.fs_client.specs.Acts.{entry_of}
+use Rattle.fs_client.specs.Acts.{entry_of, with_id}
 use Rattle.fs_client.specs.Answers.{over_after}
 use Rattle.fs_client.specs.Client.{with_read}
 use Rattle.fs_client.specs.declared.state.Client.{Client}
@@ -44,10 +44,11 @@ use Rattle.fs_serial.proofs.Carried.{GoesOnAs, exchange_still}
 use Rattle.fs_serial.proofs.Facts.{items-own, made-append, made_before, or_none, serial_push, session_itself}
 use Rattle.fs_serial.proofs.Knowing.{IsUseOf, use_from}
 use Rattle.fs_serial.proofs.Gone.{lost_in, lost_unread, made_more, telling_later}
+use Rattle.fs_serial.proofs.LedKept.{none_led}
 use Rattle.fs_serial.proofs.Reply.{IsNext, IsOfLease, number_more, value_seen}
 use Rattle.fs_serial.proofs.ReplyNext.{next}
 use Rattle.fs_serial.proofs.Seats.{Seat, seen_at}
-use Rattle.fs_serial.proofs.Settling.{settled_log}
+use Rattle.fs_serial.proofs.Settling.{led_all, none_ends, settled_log, settled_next, settled_unled}
 
 -- ## One number more
 
@@ -62,16 +63,16 @@ all_next : (by : Session) (n k : ℕ) (d : Settled) → acknowledged_all by k (w
 all_next by n zero d = refl
 all_next by n (suc k) d = ap (acknowledged_all by k) (one_next by n d.log d) ∙ all_next by n k (acknowledged by d.log d)
 
-pub settled_number : (by : Session) (n : ℕ) (answers : List Answer) (d : Settled) → settled by answers (with_next n d) ≡ with_next n (settled by answers d)
-settled_number by n [] d = refl
-settled_number by n (Granted grants fresh end ∷ rest) d = settled_number by n rest (told by (Granted grants fresh end) d)
-settled_number by n (Shipped count end ∷ rest) d = ap (λ x. settled by rest (with_over (over_after end d.over) x)) (all_next by n count d) ∙ settled_number by n rest (told by (Shipped count end) d)
-settled_number by n (Renewed rows end ∷ rest) d = settled_number by n rest d
-settled_number by n (Released count end ∷ rest) d = settled_number by n rest d
-settled_number by n (Led end ∷ rest) d = settled_number by n rest d
-settled_number by n (Recall number ∷ rest) d = settled_number by n rest d
+pub settled_number : (by : Session) (n : ℕ) (answers : List Answer) (d : Settled) → d.led ≡ None → settled by answers (with_next n d) ≡ with_next n (settled by answers d)
+settled_number by n [] d z = refl
+settled_number by n (Granted grants fresh end ∷ rest) d z = settled_number by n rest (told by (Granted grants fresh end) d) z
+settled_number by n (Shipped count end ∷ rest) d z = ap (λ x. settled by rest (with_over (over_after end d.over) x)) (all_next by n count d) ∙ settled_number by n rest (told by (Shipped count end) d) (led_all by count d ∙ z)
+settled_number by n (Renewed rows end ∷ rest) d z = settled_number by n rest d z
+settled_number by n (Released count end ∷ rest) d z = settled_number by n rest d z
+settled_number by n (Led end ∷ rest) d z = ap (settled by rest) (none_ends by end (with_next n d) z) ∙ settled_number by n rest d z ∙ ap (λ x. with_next n (settled by rest x)) (sym (none_ends by end d z))
+settled_number by n (Recall number ∷ rest) d z = settled_number by n rest d z
 
-nothing_in : {X : Type 0} (xs : List X) → ((x : X) → In x xs → ⊥) → xs ≡ []
+pub nothing_in : {X : Type 0} (xs : List X) → ((x : X) → In x xs → ⊥) → xs ≡ []
 nothing_in [] h = refl
 nothing_in (x ∷ xs) h = absurd (h x (inl refl))
 
@@ -95,6 +96,10 @@ pub record IsReadOf (m : NodeMap) (by : Session) (k : ℕ) (i : Item) : Type 0 w
   pub stays : (item_step m i).nodes ≡ m
   pub makes : (id : List ℕ) → is_some (made_by i.op i.reply id) ≡ true → ⊥
 
+-- the read as the client hands it out
+abbrev pub item_read : Client → Op → Reply → Item
+item_read c o r = record { by = OfSession c.session; n = c.next; op = with_id c.view c.last o r; reply = r }
+
 -- such an item there always is: the root is asked for its kind
 abbrev pub plain_read : NodeMap → Session → ℕ → Item
 plain_read m by k = record { by = OfSession by; n = k; op = op.Kind []; reply = (step m by (op.Kind [])).reply }
@@ -104,49 +109,57 @@ plain_is_read m by k = record { session = refl; number = refl; admitted = refl; 
 
 -- ## Its session
 
-module _ (skew greatest : ℕ) (s : Sight) (by : Session) (replied : List Item) (c : Client) (up : List ClientMsg) (down : List Answer) (o : Op) (r : Reply) (h : Seat skew greatest s by replied c up down) (a : IsReplied c down o r) where
-  abbrev e : Entry
-  e = entry_of o r c
-
+module _ (skew greatest : ℕ) (s : Sight) (by : Session) (replied : List Item) (c : Client) (up : List ClientMsg) (down : List Answer) (h : Seat skew greatest s by replied c up down) (unled : c.led ≡ None) where
   abbrev d : Settled
   d = seen_at by c down
 
-  n : IsNext by d e
-  n = next by c down o r a.plain a.asked a.reply h.client h.fits.fresh h.fits.entries
+  -- the client's next number, and that nothing is led, stay
+  number : c.next ≡ d.next
+  number = sym (settled_next by down (settled_now c) unled)
+
+  none_then : d.led ≡ None
+  none_then = settled_unled by down (settled_now c) unled
 
   none : c.log ≡ [] → d.log ≡ []
   none empty = nothing_in d.log (λ x i. subst (In x) empty (settled_log by down (settled_now c) x i))
 
-  -- ## What the client reads is the namespace's, where its leases have not ended
+  module _ (o : Op) (r : Reply) (a : IsReplied c down o r) where
+    abbrev e : Entry
+    e = entry_of o r c
 
-  module _ (t : IsReadNow skew greatest c r) where
-    -- its leases have their rows, which tell the truth
-    right : IsAnswer (value_of s.records by) e
-    right = n.right (value_of s.records by) (λ l held u i same.
-        let w : IsOfLease d.leases u = n.of_lease u i in
-        let q : IsUseOf c.view c.last u = use_from c.view c.last o u (ap is_some a.reply) i in
-        let it : l ≡ w.lease = h.fits.distinct l w.lease held w.held (same ∙ sym w.number) in
-        let until : l.until ≡ q.lease.until = ap (λ (l : Lease). l.until) it ∙ w.until ∙ sym (ap (λ (u : Use). u.until) q.used) in
-        let live : c.last < q.lease.until = ltb-true c.last q.lease.until q.live in
-        let within = t.within in
-        let b : IsBacked s.rows l.no l.until = h.holds.backed l held (omega arith) in
-        elim (h.holds.telling l held b.row b.stands b.number) as (λ _. IsUnread (value_of s.records by) l.field ⊎ (value_of s.records by l.field ≡ value_seen by d l)) [
-          | inl gone ↦ inl (lost_unread s.journal (value_of s.records by) l.field (lost_in s.records by s.journal l.field gone))
-          | inr told ↦ inr (sym told ∙ sym (ap (λ es. value_after_log by l.field l.base (map (effects_in by) es)) (none t.empty)))
-        ])
+    n : IsNext by d e
+    n = next by c down o r a.reply h.client a.unled a.plain a.asked h.fits.fresh h.fits.entries
 
-    gets : (step (nodes_of s.records) by e.op).reply ≡ r
-    gets = answered s.records by d.leases e n.entry right
+    -- ## What the client reads is the namespace's, where its leases have not ended
 
-    pub read_right : IsReadOf (nodes_of s.records) by c.next (item_of by e)
-    read_right = record {
-      session = refl;
-      number = refl;
-      admitted = no_reap e.op n.entry.plain;
-      gets = gets;
-      stays = step_reads (nodes_of s.records) by e.op (ap is_change gets ∙ t.read);
-      makes = λ id. unmade_read e.op r id t.read;
-    }
+    module _ (t : IsReadNow skew greatest c r) where
+      -- its leases have their rows, which tell the truth
+      right : IsAnswer (value_of s.records by) e
+      right = n.right (value_of s.records by) (λ l held u i same.
+          let w : IsOfLease d.leases u = n.of_lease u i in
+          let q : IsUseOf c.view c.last u = use_from c.view c.last o u (ap is_some a.reply) i in
+          let it : l ≡ w.lease = h.fits.distinct l w.lease held w.held (same ∙ sym w.number) in
+          let until : l.until ≡ q.lease.until = ap (λ (l : Lease). l.until) it ∙ w.until ∙ sym (ap (λ (u : Use). u.until) q.used) in
+          let live : c.last < q.lease.until = ltb-true c.last q.lease.until q.live in
+          let within = t.within in
+          let b : IsBacked s.rows l.no l.until = h.holds.backed l held (omega arith) in
+          elim (h.holds.telling l held b.row b.stands b.number) as (λ _. IsUnread (value_of s.records by) l.field ⊎ (value_of s.records by l.field ≡ value_seen by d l)) [
+            | inl gone ↦ inl (lost_unread s.journal (value_of s.records by) l.field (lost_in s.records by s.journal l.field gone))
+            | inr told ↦ inr (sym told ∙ sym (ap (λ es. value_after_log by l.field l.base (map (effects_in by) es)) (none t.empty)))
+          ])
+
+      gets : (step (nodes_of s.records) by e.op).reply ≡ r
+      gets = answered s.records by d.leases e n.entry right
+
+      pub read_right : IsReadOf (nodes_of s.records) by c.next (item_of by e)
+      read_right = record {
+        session = refl;
+        number = refl;
+        admitted = no_reap e.op n.entry.plain;
+        gets = gets;
+        stays = step_reads (nodes_of s.records) by e.op (ap is_change gets ∙ t.read);
+        makes = λ id. unmade_read e.op r id t.read;
+      }
 
   -- ## Such an item joins the journal
 
@@ -166,14 +179,14 @@ module _ (skew greatest : ℕ) (s : Sight) (by : Session) (replied : List Item) 
         ∙ sym (ap (λ is. is ++ i ∷ []) (ap (λ es. all_items by s.journal es) (none empty) ∙ append-nil (items_by by s.journal)))
 
     seen : seen_at by (with_read c) down ≡ with_next (d.next + 1) d
-    seen = settled_number by (c.next + 1) down (settled_now c) ∙ ap (λ k. with_next k d) (ap (λ k. k + 1) n.number)
+    seen = settled_number by (c.next + 1) down (settled_now c) unled ∙ ap (λ k. with_next k d) (ap (λ k. k + 1) number)
 
     holds : SessionHolds skew greatest later by (replied ++ i ∷ []) (with_next (d.next + 1) d)
     holds = record {
       backed = h.holds.backed;
       telling = telling_later s.rows s.records s.journal later.journal (made_more s.journal i) by d.leases h.holds.telling;
       pending = h.holds.pending;
-      numbers = subst (λ is. AreNumbered 1 is (d.next + 1)) (sym more) (number_more 1 (all_items by s.journal d.log) d.next i h.holds.numbers (is.number ∙ n.number));
+      numbers = subst (λ is. AreNumbered 1 is (d.next + 1)) (sym more) (number_more 1 (all_items by s.journal d.log) d.next i h.holds.numbers (is.number ∙ number));
       replies = more ∙ ap (λ is. is ++ i ∷ []) h.holds.replies;
     }
 
@@ -188,6 +201,7 @@ module _ (skew greatest : ℕ) (s : Sight) (by : Session) (replied : List Item) 
       entries = h.fits.entries;
       once = h.fits.once;
       refused = h.fits.refused;
+      led = none_led skew greatest later by (with_next (d.next + 1) d) none_then;
     }
 
     goes_on : GoesOnAs c (with_read c) []
@@ -204,7 +218,7 @@ module _ (skew greatest : ℕ) (s : Sight) (by : Session) (replied : List Item) 
     seat_read = record {
       holds = subst (SessionHolds skew greatest later by (replied ++ i ∷ [])) (sym seen) holds;
       fits = subst (SessionFits skew greatest later by) (sym seen) fits;
-      client = record { session = h.client.session; viewed = h.client.viewed; pending = h.client.pending; distinct = h.client.distinct; pinned = h.client.pinned; held = h.client.held; unled = h.client.unled };
+      client = record { session = h.client.session; viewed = h.client.viewed; pending = h.client.pending; distinct = h.client.distinct; pinned = h.client.pinned; held = h.client.held };
       exchange = exchange_still skew greatest s.given s.rows by c (with_read c) [] up down (settled_now c) (settled_now (with_read c)) d (seen_at by (with_read c) down) goes_on
           (λ l i. record { lease = l; held = i; number = refl })
           (λ l i. record { lease = l; held = subst (λ (x : Settled). In l x.leases) seen i; number = refl })

@@ -18,6 +18,7 @@ use Rattle.fs_serial.specs.Parts.{with_client, SessionHolds, SessionFits}
 use Rattle.fs_serial.specs.Settled.{Settled, with_over}
 use Rattle.fs_serial.specs.Sight.{Sight}
 use Rattle.fs_serial.specs.World.{Ends, GoesOn}
+use Rattle.fs_serial.proofs.LedKept.{each_led}
 use Rattle.fs_serial.proofs.Going.{carried_alike}
 use Rattle.fs_serial.proofs.OneLease.{lease_is}
 use Rattle.fs_serial.proofs.Together.{each_session}
@@ -54,6 +55,7 @@ module _ (skew greatest : ℕ) (s : Sight) (replied : Session → List Item) (en
           among = q.0;
           gone = use_gone skew greatest s by (clients by) e u f (subst (λ es. In e es) (sym log) (inl refl)) q.0 q.1;
         };
+        led = each_led skew greatest greatest s s by (clients by) d (clients by).led (λ l is h. record { leads = h.leads; number = h.number; empty = h.empty; held = h.held; backed = h.backed; parts = h.parts; right = h.right }) f.led;
       }
 
   still : (x : Session) (n : LeaseNo) (i : List ℕ) → reserved_by (with_client by d clients) x n i → reserved_by clients x n i

@@ -22,7 +22,7 @@ use Rattle.fs_view.specs.declared.kept.Kept.{Kept}
 use Rattle.fs_view.specs.declared.kept.Standing.{Standing}
 use Rattle.fs_view.specs.declared.kept.Standing.TheVariants.{Held, Pinned, Leaving}
 use Rattle.fs_view.specs.Kept.{number_of, is_leaving, is_pinned, entries_of, lease_of}
-use Rattle.fs_serial.specs.Client.{KeptDistinct, times_in}
+use Rattle.fs_serial.specs.Client.{led_before, KeptDistinct, times_in}
 use Rattle.fs_serial.specs.Exchange.{due, IsFront, IsReturned, PairFits, ReturnFits, ReturnsFit}
 use Rattle.fs_serial.specs.Parts.{SessionHolds, SessionFits}
 use Rattle.fs_serial.specs.Pending.{HasLease}
@@ -34,7 +34,7 @@ use Rattle.fs_serial.proofs.KeptPairs.{kept_pair, releases_pairs}
 use Rattle.fs_serial.proofs.Knowing.{In-filter_map, from-filter_map}
 use Rattle.fs_serial.proofs.Lapse.{IsUsed, its_number, used_in}
 use Rattle.fs_serial.proofs.Seats.{Seat, seen_at, idle_due, settled_none}
-use Rattle.fs_serial.proofs.Sends.{IsAsking, asking_exchange, CameFrom, came_all, goes_all, left_all, all_session, all_pending, all_distinct, pair_numbers_of, unused_returned}
+use Rattle.fs_serial.proofs.Sends.{IsAsking, asking_exchange, CameFrom, came_all, goes_all, left_all, all_session, all_pending, all_distinct, pair_numbers_of, unused_returned, led_nothing}
 
 used_pinned : (s : Standing) → 1 ≤ entries_of s → is_pinned s ≡ true
 used_pinned (Held l) h = absurd (omega arith)
@@ -75,24 +75,25 @@ module _ (skew greatest : ℕ) (s : Sight) (by : Session) (replied : List Item) 
   later : seen_at by then down ≡ settled_now then
   later = settled_none by down (settled_now then) none.1
 
-  fewer : HasFewer (IsUsed c.log) (settled_now c) (settled_now then)
+  fewer : HasFewer (IsUsed (led_before c.led c.log)) (settled_now c) (settled_now then)
   fewer = record {
     log = refl;
     next = refl;
     over = refl;
+    led = refl;
     fewer = λ l i.
         let q = from-filter_map lease_in l then.view.leases i in
         let k : CameFrom c.view.leases q.0 = came_all ns c.view q.0 q.1 in
         In-filter_map lease_in k.kept l c.view.leases k.among (k.lease l q.2);
     still = λ l i u.
         let q = from-filter_map lease_in l c.view.leases i in
-        let more : 1 ≤ times_in (number_of q.0.standing) c.log = used_in (number_of q.0.standing) c.log u.entry u.logged u.used u.among (u.number ∙ sym (its_number q.0 l q.2)) in
+        let more : 1 ≤ times_in (number_of q.0.standing) (led_before c.led c.log) = used_in (number_of q.0.standing) (led_before c.led c.log) u.entry u.logged u.used u.among (u.number ∙ sym (its_number q.0 l q.2)) in
         let pins = h.client.pinned q.0 q.1 in
         let g = goes_all ns c.view q.0 q.1 in
         In-filter_map lease_in q.0 l then.view.leases (subst (λ k. In k then.view.leases) (g.pinned (used_pinned q.0.standing (omega arith))) g.among) q.2;
   }
 
-  used : (x : Entry) → In x c.log → (u : Use) → In u x.uses → IsUsed c.log u.no
+  used : (x : Entry) → In x (led_before c.led c.log) → (u : Use) → In u x.uses → IsUsed (led_before c.led c.log) u.no
   used x i u j = record { entry = x; logged = i; used = u; among = j; number = refl }
 
   distinct : KeptDistinct then.view.leases
@@ -132,6 +133,7 @@ module _ (skew greatest : ℕ) (s : Sight) (by : Session) (replied : List Item) 
     question = pair_numbers_of ks;
     ships = tt;
     front = λ entries i. elim i as (λ _. IsFront entries (settled_now then)) [ inl e ↦ absurd (cc) | inr z ↦ absurd z ];
+    leads = led_nothing (Release (map pair_of ks)) c.led (λ n e. absurd (cc));
     released = λ n i.
         let q = In-map (λ (k : Kept). number_of k.standing) n ks i in
         let j : In q.0 c.view.leases = among q.0 q.1.0 in
@@ -145,18 +147,17 @@ module _ (skew greatest : ℕ) (s : Sight) (by : Session) (replied : List Item) 
 
   pub seat_releases : Seat skew greatest s by replied then (up ++ Release (map pair_of ks) ∷ []) down
   seat_releases = record {
-    holds = subst (SessionHolds skew greatest s by replied) (sym later) (fewer_holds skew greatest s by replied (IsUsed c.log) (settled_now c) (settled_now then) fewer used (subst (SessionHolds skew greatest s by replied) now h.holds));
-    fits = subst (SessionFits skew greatest s by) (sym later) (fewer_fits skew greatest s by replied (IsUsed c.log) (settled_now c) (settled_now then) fewer used (subst (SessionFits skew greatest s by) now h.fits));
+    holds = subst (SessionHolds skew greatest s by replied) (sym later) (fewer_holds skew greatest s by replied (IsUsed (led_before c.led c.log)) (settled_now c) (settled_now then) fewer used (subst (SessionHolds skew greatest s by replied) now h.holds));
+    fits = subst (SessionFits skew greatest s by) (sym later) (fewer_fits skew greatest s by replied (IsUsed (led_before c.led c.log)) (settled_now c) (settled_now then) fewer used (subst (SessionFits skew greatest s by) now h.fits));
     client = record {
       session = h.client.session;
       viewed = all_session ns c.view ∙ h.client.viewed;
       pending = all_pending ns c.view ∙ h.client.pending;
       distinct = distinct;
-      pinned = λ k i. let q : CameFrom c.view.leases k = came_all ns c.view k i in sym q.entries ∙ h.client.pinned q.kept q.among ∙ ap (λ n. times_in n c.log) q.number;
+      pinned = λ k i. let q : CameFrom c.view.leases k = came_all ns c.view k i in sym q.entries ∙ h.client.pinned q.kept q.among ∙ ap (λ n. times_in n (led_before c.led c.log)) q.number;
       held = λ x i u j. let q : HasLease (settled_now c).leases u = h.client.held x i u j in record { lease = q.lease; held = fewer.still q.lease q.held (record { entry = x; logged = i; used = u; among = j; number = sym q.number }); number = q.number; field = q.field; kind = q.kind };
-      unled = h.client.unled;
     };
-    exchange = asking_exchange skew greatest s.given s.rows by c then (Releases to ns) (Release (map pair_of ks)) up down (settled_now then) (seen_at by then down) refl refl none.0 none.1
+    exchange = asking_exchange skew greatest s.given s.rows by c then (Releases to ns) (Release (map pair_of ks)) up down (settled_now then) (seen_at by then down) refl refl refl none.0 none.1
         (subst (IsAsking s.given s.rows c (Releases to ns) (Release (map pair_of ks)) then.view.leases) (sym later) asks)
         (subst (λ (d : Settled). ReturnsFit s.given s.rows by then.view.leases d.leases) (sym later) returns)
         (λ ends e i. absurd (quiet_renewed down none.1 ends e i));

@@ -1,5 +1,5 @@
 -- What a session relies on keeps its parts.
-use Rattle.std.proofs.Common.{◌≡◌, ℕ, ◌+◌, ◌<◌, ◌≤◌, List, [], ◌∷◌, ◌++◌, ◌⊎◌, map, refl, sym, ap, ◌∙◌, subst, inl, inr, arith}
+use Rattle.std.proofs.Common.{◌≡◌, ℕ, ◌+◌, ◌<◌, ◌≤◌, true, List, [], ◌∷◌, ◌++◌, ◌⊎◌, map, refl, sym, ap, ◌∙◌, subst, inl, inr, arith}
 use Rattle.std.specs.Prelude.{None, Some, is_some}
 use Rattle.std.specs.FinMap.{get}
 use Rattle.fs_ident.specs.In.{In}
@@ -7,7 +7,9 @@ use Rattle.fs_ident.specs.declared.actor.LeaseNo.{LeaseNo}
 use Rattle.fs_ident.specs.declared.actor.Session.{Session}
 use Rattle.fs_field.specs.declared.asked.Need.TheVariants as need
 use Rattle.fs_field.specs.declared.field.Field.{Field}
+use Rattle.fs_field.specs.declared.field.Field.TheVariants.{Child, Life}
 use Rattle.fs_field.specs.declared.lease_kind.LeaseKind.{LeaseKind}
+use Rattle.fs_field.specs.declared.lease_kind.LeaseKind.TheVariants.{Exclusive}
 use Rattle.fs_field.specs.declared.row.Row.{Row}
 use Rattle.fs_field.specs.declared.used.Use.{Use}
 use Rattle.fs_field.specs.declared.value.Value.{Value}
@@ -21,19 +23,24 @@ use Rattle.fs_view.specs.View.{value_after_all}
 use Rattle.fs_view.specs.Gone.{IsUnread, known_with}
 use Rattle.fs_view.specs.Walk.{walk, always}
 use Rattle.fs_view.proofs.Unread.{alike_but_gone}
+use Rattle.fs_client.specs.Led.{is_led}
+use Rattle.fs_client.specs.declared.led.Led.{Led}
 use Rattle.fs_client.specs.Turns.{pair_of}
 use Rattle.fs_serial.specs.Exchange.{ReturnsFit, RenewalsBacked}
 use Rattle.fs_serial.specs.Fresh.{IsMade}
 use Rattle.fs_serial.specs.Gone.{IsOfGone}
+use Rattle.fs_serial.specs.Led.{IsLeadAnswer, LedStands}
 use Rattle.fs_serial.specs.Leases.{IsBacked, LeasesBacked, LeasesTrue, LeasesMatch}
 use Rattle.fs_server.specs.Ships.{item_of}
 use Rattle.fs_serial.specs.Numbers.{items_by, AreNumbered, all_items, NumbersInOrder}
 use Rattle.fs_serial.specs.Parts.{SessionHolds, SessionFits}
-use Rattle.fs_serial.specs.Pending.{AllStand, IsAnswer, IsCovered, PendingStand, RefusedGone, UsesBacked, values_after}
+use Rattle.fs_serial.specs.Pending.{AllStand, HasLease, IsAnswer, IsCovered, PendingStand, RefusedGone, UsesBacked, values_after}
 use Rattle.fs_serial.specs.Relies.{Relies, Stood}
 use Rattle.fs_serial.specs.Settled.{Lease, Settled, effects_in}
 use Rattle.fs_serial.specs.Sight.{Sight, IsGiven}
 use Rattle.fs_serial.proofs.Gone.{IsLost, MakeAnew, gone_later, lost_after, lost_in, lost_unread}
+use Rattle.fs_serial.proofs.LedKept.{each_led, one_entry}
+use Rattle.fs_serial.proofs.MovedItems.{moved_alike}
 use Rattle.fs_serial.proofs.Older.{later_pair}
 
 -- ## Answers
@@ -54,6 +61,25 @@ answers_alike rows by v w e agree stand a =
         elim (agree q.row q.stands q.session c.used c.among q.number) as (λ _. IsUnread w field ⊎ (Some (w field) ≡ known_with v field kind)) [
           | inl gone ↦ inl (subst (IsUnread w) there gone)
           | inr same ↦ inr (ap Some (ap w (sym there) ∙ same ∙ ap v there))
+        ]
+
+-- so it is of what is led
+lead_alike : (rows : List Row) (by : Session) (v w : Field → Value) (l : Led) → is_led l.entry.op l.entry.reply ≡ true
+    → ((r : Row) → In r rows → r.session ≡ by → (u : Use) → In u l.entry.uses → r.no ≡ u.no → IsUnread w r.field ⊎ (w r.field ≡ v r.field)) → AllStand rows by l.entry.uses → IsLeadAnswer v l → IsLeadAnswer w l
+lead_alike rows by v w l leads agree stand a = record {
+  answer = answers_alike rows by v w l.entry agree stand a.answer;
+  moved = moved_alike (known_with v) (known_with w) always l.entry.op l.entry.reply (l.file, l.kind) leads a.answer.reply a.moved
+      (λ dir name i. told_alike (Child dir name) Exclusive (a.answer.covered (need.Lease (Child dir name) Exclusive) i) (λ z. z))
+      (λ file kind i. told_alike (Life file) kind (a.answer.covered (need.Lease (Life file) kind) i) (λ z. z));
+}
+  where
+    told_alike : (field : Field) (kind : LeaseKind) → IsCovered l.entry.uses (need.Lease field kind) → (IsUnread w field → ⊥) → known_with w field kind ≡ known_with v field kind
+    told_alike field kind c unread =
+        let q = stand c.used c.among in
+        let there : q.row.field ≡ field = q.field ∙ c.field in
+        elim (agree q.row q.stands q.session c.used c.among q.number) as (λ _. known_with w field kind ≡ known_with v field kind) [
+          | inl gone ↦ absurd (unread (subst (IsUnread w) there gone))
+          | inr same ↦ ap Some (ap w (sym there) ∙ same ∙ ap v there)
         ]
 
 -- what a session with these leases relies on
@@ -108,18 +134,21 @@ module _ (skew greatest : ℕ) (by : Session) (s t : Sight) (d : Settled) (rely 
 
   -- ## Entries
 
+  given_by : (u : Use) → HasLease d.leases u → IsGiven s.given u.no
+  given_by u l = subst (λ n. IsGiven s.given n) l.number (f.given l.lease l.held)
+
   use_given : (e : Entry) → In e d.log → (u : Use) → In u e.uses → IsGiven s.given u.no
-  use_given e h u i = let l = f.held e h u i in subst (λ n. IsGiven s.given n) l.number (f.given l.lease l.held)
+  use_given e h u i = given_by u (f.held e h u i)
 
   uses_backed : UsesBacked skew greatest t.rows d.log
   uses_backed e h u i late =
       let l = f.held e h u i in
       backed_still l.lease l.held u.no u.until (sym l.number) late (f.backed e h u i late)
 
-  stood_all : (e : Entry) → In e d.log → AllStand t.rows by e.uses → AllStand s.rows by e.uses
-  stood_all e h stand u i =
+  stood_all : (e : Entry) → ((u : Use) → In u e.uses → HasLease d.leases u) → AllStand t.rows by e.uses → AllStand s.rows by e.uses
+  stood_all e has stand u i =
       let q = stand u i in
-      let p = rely.older q.row q.stands (subst (λ n. IsGiven s.given n) (sym q.number) (use_given e h u i)) in
+      let p = rely.older q.row q.stands (subst (λ n. IsGiven s.given n) (sym q.number) (given_by u (has u i))) in
       record { row = p.row; stands = p.stood; number = p.number ∙ q.number; session = p.session ∙ q.session; field = p.field ∙ q.field; kind = p.kind ∙ q.kind }
 
   -- the values are the same on what rows of the session are on, but for size and stamp of files that are gone
@@ -145,7 +174,7 @@ module _ (skew greatest : ℕ) (by : Session) (s t : Sight) (d : Settled) (rely 
   pending_from anew [] within v w agree p = tt
   pending_from anew (e ∷ es) within v w agree p = λ stand.
       let h = within e (inl refl) in
-      let q = p (stood_all e h stand) in
+      let q = p (stood_all e (f.held e h) stand) in
       let a : IsAnswer w e = answers_alike t.rows by v w e (λ r i own u j n. agree_unread v w agree r i (subst (λ n. IsGiven s.given n) (sym n) (use_given e h u j)) own) stand q.0 in
       (a, pending_from anew es (λ x i. within x (inr i)) (values_after by e v) (values_after by e w) (agree_after e h anew v w a agree) q.1)
 
@@ -165,6 +194,21 @@ module _ (skew greatest : ℕ) (by : Session) (s t : Sight) (d : Settled) (rely 
         among = q.among;
         gone = λ r i m. let p = rely.older r i (subst (λ n. IsGiven s.given n) (sym m) (use_given q.first first q.used q.among)) in q.gone p.row p.stood (p.number ∙ m);
       }
+
+  -- ## What is led
+
+  led_still : (l : Led) → LedStands skew greatest s by d l → LedStands skew greatest t by d l
+  led_still l h = record {
+    leads = h.leads;
+    number = h.number;
+    empty = h.empty;
+    held = h.held;
+    backed = one_entry l.entry (λ u i late. let q = h.held l.entry (inl refl) u i in backed_still q.lease q.held u.no u.until (sym q.number) late (h.backed l.entry (inl refl) u i late));
+    parts = h.parts;
+    right = λ stand. lead_alike t.rows by (value_of s.records by) (value_of t.records by) l h.leads
+        (λ r i own u j n. agree_unread (value_of s.records by) (value_of t.records by) agree_at_first r i (subst (λ n. IsGiven s.given n) (sym n) (given_by u (h.held l.entry (inl refl) u j))) own)
+        stand (h.right (stood_all l.entry (h.held l.entry (inl refl)) stand));
+  }
 
   -- ## Numbers
 
@@ -187,6 +231,7 @@ module _ (skew greatest : ℕ) (by : Session) (s t : Sight) (d : Settled) (rely 
     entries = f.entries;
     once = f.once;
     refused = refused;
+    led = each_led skew greatest greatest s t by d d d.led (λ l is. led_still l) f.led;
   }
 
   pub still_holds : MakeAnew by s.journal d.log → (replied : List Item) → SessionHolds skew greatest s by replied d → SessionHolds skew greatest t by replied d

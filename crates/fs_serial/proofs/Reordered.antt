@@ -99,6 +99,7 @@ module _ (greatest : ℕ) (w : World) (by : Session) (front back : List Answer) 
         one = same_one e.client e.client.exchange e.up e.down new.down due_still o.one;
         ships = o.ships;
         front = subst (ShipsFront e.up) (sym settled_same) o.front;
+        leads = o.leads;
         released = o.released;
         kinds = o.kinds;
         pairs = o.pairs;

@@ -1,6 +1,6 @@
 -- A client answers an operation, and its entry joins the log: the parts of its session.
 use Rattle.std.proofs.Common.{◌≡◌, ℕ, ◌+◌, ◌<◌, ◌≤◌, List, [], ◌∷◌, ◌++◌, ◌⊎◌, map, refl, sym, ap, ◌∙◌, subst, inl, inr, append_assoc}
-use Rattle.std.specs.Prelude.{Some}
+use Rattle.std.specs.Prelude.{Some, None}
 use Rattle.std.proofs.lemmas.List.{map-append}
 use Rattle.fs_ident.specs.In.{In}
 use Rattle.fs_ident.specs.declared.actor.Session.{Session}
@@ -20,6 +20,7 @@ use Rattle.fs_serial.specs.Parts.{SessionHolds, SessionFits}
 use Rattle.fs_serial.specs.Pending.{AllStand, Stands, IsAnswer, PendingStand, HasLease, UsesHeld, UsesBacked, IsEntry, NamedOnce, named_by, RefusedGone, IsGone, values_after}
 use Rattle.fs_serial.specs.Settled.{Lease, Settled, effects_in}
 use Rattle.fs_serial.specs.Sight.{Sight}
+use Rattle.fs_serial.proofs.LedKept.{none_led}
 use Rattle.fs_serial.proofs.Facts.{each_more}
 use Rattle.fs_serial.proofs.Gone.{IsLost, MakeAnew, lost_after, lost_in, lost_unread}
 
@@ -43,6 +44,7 @@ pub record IsOfLease (leases : List Lease) (u : Use) : Type 0 where
 -- the entry is the next answer that the client gives
 pub record IsNext (by : Session) (d : Settled) (e : Entry) : Type 0 where
   pub number : e.n ≡ d.next
+  pub unled : d.led ≡ None
   pub of_lease : (u : Use) → In u e.uses → IsOfLease d.leases u
   -- it is right wherever fields have the values that the leases of its uses tell, but for what is of no matter
   pub right : (values : Field → Value) → ((l : Lease) → In l d.leases → (u : Use) → In u e.uses → l.no ≡ u.no → IsUnread values l.field ⊎ (values l.field ≡ value_seen by d l)) → IsAnswer values e
@@ -137,4 +139,5 @@ module _ (skew greatest : ℕ) (s : Sight) (by : Session) (replied : List Item) 
     entries = each_more (IsEntry d.leases) d.log e f.entries n.entry;
     once = once_more d.log e f.once n.once;
     refused = refused;
+    led = none_led skew greatest s by (with_last e d) n.unled;
   }

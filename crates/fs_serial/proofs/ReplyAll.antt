@@ -35,7 +35,7 @@ use Rattle.fs_serial.proofs.Settling.{settled_last}
 use Rattle.fs_serial.proofs.Together.{client_changes}
 use Rattle.fs_serial.proofs.Lapse.{number_there}
 
-not_leaving : (s : Standing) (l : Term) → lease_of s ≡ Some l → is_leaving s ≡ false
+pub not_leaving : (s : Standing) (l : Term) → lease_of s ≡ Some l → is_leaving s ≡ false
 not_leaving (Held x) l e = refl
 not_leaving (Pinned u) l e = refl
 not_leaving (Leaving x) l e = absurd (cc)
@@ -60,11 +60,11 @@ module _ (by : Session) (c : Client) (down : List Answer) (o : Op) (r : Reply) (
       }
 
   pub replied_client : ClientFits by (changed (replies o r c).ready.change c)
-  replied_client = reply_client by c (entry_of o r c) f in_hand own
+  replied_client = reply_client by c (entry_of o r c) a.unled f in_hand own
 
   -- as it will be, it has one entry more
   pub replied_settled : settled by down (settled_now (changed (replies o r c).ready.change c)) ≡ with_last (entry_of o r c) (settled by down (settled_now c))
-  replied_settled = ap (settled by down) (reply_settled c (entry_of o r c) (effects_of c.session (entry_of o r c).op r)) ∙ settled_last by down (entry_of o r c) (settled_now c) a.few
+  replied_settled = ap (settled by down) (reply_settled c (entry_of o r c) (effects_of c.session (entry_of o r c).op r)) ∙ settled_last by down (entry_of o r c) (settled_now c) a.unled a.few
 
 pub reply_kept : (skew greatest : ℕ) (s : Sight) (replied : Session → List Item) (clients : Session → Settled) (by : Session) (c : Client) (down : List Answer) (o : Op) (r : Reply) → AllHold skew greatest s replied clients → ClientFits by c → clients by ≡ settled by down (settled_now c) → IsReplied c down o r
     → AllHold skew greatest s (with_replies by (replied by ++ item_of by (entry_of o r c) ∷ []) replied) (with_client by (settled by down (settled_now (changed (replies o r c).ready.change c))) clients)
@@ -73,7 +73,7 @@ reply_kept skew greatest s replied clients by c down o r h f is a =
     let d : Settled = settled by down (settled_now c) in
     let holds = subst (λ d. SessionHolds skew greatest s by (replied by) d) is (h.sessions by) in
     let fits = subst (λ d. SessionFits skew greatest s by d) is (h.fitting by) in
-    let n = next by c down o r a.plain a.asked a.reply f fits.fresh fits.entries in
+    let n = next by c down o r a.reply f a.unled a.plain a.asked fits.fresh fits.entries in
     let anew : MakeAnew by s.journal d.log = subst (λ (x : Settled). MakeAnew by s.journal x.log) is (all_anew skew greatest s replied clients h by) in
     subst (λ x. AllHold skew greatest s (with_replies by (replied by ++ item_of by e ∷ []) replied) (with_client by x clients)) (sym (replied_settled by c down o r a f))
     (client_changes skew greatest s replied clients by (replied by ++ item_of by e ∷ []) (with_last e d) h

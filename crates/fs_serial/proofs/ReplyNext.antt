@@ -49,13 +49,12 @@ use Rattle.fs_serial.specs.Fresh.{made_by, or_else}
 use Rattle.fs_serial.specs.Leases.{IsFresh, FreshLeases}
 use Rattle.fs_serial.specs.Pending.{IsAnswer, AreEntries, NamesItsFile, UsesAtHome, named_by}
 use Rattle.fs_serial.specs.Settled.{Lease, Settled, lease_in, lease_with, settled_now, settled, effects_in}
-use Rattle.fs_serial.specs.World.{is_called}
 use Rattle.fs_serial.proofs.Births.{life_after, makes_there}
 use Rattle.fs_serial.proofs.HomeAsks.{IsGivenHere, MayGive, called_home, given_home, home_with_id, items_home, names_fresh}
 use Rattle.fs_serial.proofs.Knowing.{In-filter_map, all_there, from-filter_map, IsKnown, known_by_lease, IsOffered, offered_by_lease, used_there, IsUseOf, use_from}
 use Rattle.fs_serial.proofs.Naming.{Covers, IsGivenFor, IsNamedFor, named_for, names_its_file, plain_with_id, access_with_id, right_with_id}
 use Rattle.fs_serial.proofs.Reply.{IsNext, IsOfLease, value_seen}
-use Rattle.fs_serial.proofs.Settling.{Later, later, is_made_by_log, settled_log, settled_next}
+use Rattle.fs_serial.proofs.Settling.{Later, later, is_made_by_log, settled_log, settled_next, settled_unled}
 
 -- ## Standings
 
@@ -113,8 +112,7 @@ named_makes leases uses (op.Create dir name kind (Some new)) r id n h = absurd n
 named_makes leases uses (op.Create dir name kind None) r id n h = absurd (cc)
 named_makes leases uses o r id n h = absurd (cc)
 
-module _ (by : Session) (c : Client) (answers : List Answer) (o : Op) (r : Reply) (plain : tells_its_effects o ≡ true) (may : may_ask o ≡ true) (replied : reply_in c.view c.last o ≡ Some r) (cf : ClientFits by c)
-    (new : FreshLeases (settled by answers (settled_now c)).leases) (entries : AreEntries (settled by answers (settled_now c)).leases (settled by answers (settled_now c)).log) where
+module _ (by : Session) (c : Client) (answers : List Answer) (o : Op) (r : Reply) (replied : reply_in c.view c.last o ≡ Some r) (cf : ClientFits by c) (unled : c.led ≡ None) where
   abbrev v : View
   v = c.view
 
@@ -124,76 +122,23 @@ module _ (by : Session) (c : Client) (answers : List Answer) (o : Op) (r : Reply
   abbrev e : Entry
   e = entry_of o r c
 
-  there : is_some (walk_in v c.last o).reply ≡ true
+  pub there : is_some (walk_in v c.last o).reply ≡ true
   there = ap is_some replied
 
   -- a lease of the client as it will be
   kept_later : (k : Kept) (l : Term) → In k v.leases → lease_of k.standing ≡ Some l → Later by (settled_now c) d (lease_with k l)
-  kept_later k l i is = later by answers (settled_now c) (lease_with k l) (In-filter_map lease_in k (lease_with k l) v.leases i (ap (option_map (lease_with k)) is))
+  kept_later k l i is = later by answers (settled_now c) (lease_with k l) unled (In-filter_map lease_in k (lease_with k l) v.leases i (ap (option_map (lease_with k)) is))
 
-  of_lease : (u : Use) → In u e.uses → IsOfLease d.leases u
+  pub of_lease : (u : Use) → In u e.uses → IsOfLease d.leases u
   of_lease u i =
       let q : IsUseOf v c.last u = use_from v c.last o u there i in
       let p = kept_later q.kept q.lease q.among q.is in
       record { lease = p.lease; held = p.held; number = p.number ∙ ap (λ (u : Use). u.no) q.used; field = p.field ∙ ap (λ (u : Use). u.field) q.used; kind = p.kind ∙ ap (λ (u : Use). u.kind) q.used; until = p.until ∙ ap (λ (u : Use). u.until) q.used }
 
-  -- ### The identifier
-
-  pub record IsReservedFor (dir : List ℕ) : Type 0 where
-    pub id : List ℕ
-    pub offered : fresh v c.last dir ≡ Some id
-    pub lease : Lease
-    pub held : In lease d.leases
-    pub below : lease.below ≡ Some dir
-    pub field : lease.field ≡ Life id
-    pub base : lease.base ≡ value.Life None
-    pub kind : lease.kind ≡ Exclusive
-    pub child : is_child dir id ≡ true
-    pub used : Use
-    pub among : In used e.uses
-    pub number : lease.no ≡ used.no
-    pub on : used.field ≡ lease.field
-    pub of : used.kind ≡ lease.kind
-    pub item : item_use v c.last (need.Fresh dir) ≡ Some used
-    -- no entry of the log makes it, nor of what will be left of it
-    pub unmade : is_made_by_log by id c.log ≡ false
-    pub unmade_later : is_made_by_log by id d.log ≡ false
-
-  reserved_for : (dir : List ℕ) → In (need.Fresh dir) (walk_in v c.last o).items → IsReservedFor dir
-  reserved_for dir i =
-      let q : IsOffered v c.last dir = offered_by_lease v c.last dir (all_there (known_by v c.last) (given_by v c.last) (script_of o) there (need.Fresh dir) i) in
-      let l : Term = q.term.lease in
-      let p : Later by (settled_now c) d (lease_with q.kept l) = kept_later q.kept l q.among q.term.is in
-      let b = both (is_parent dir q.kept.below) (is_unused_in c.last v.pending q.kept.standing) q.offers in
-      let unmade : is_made_by_log by (file_of l.field) c.log ≡ false = ap (is_pending (file_of l.field)) (sym cf.pending) ∙ unused_unmade c.last v.pending q.kept.standing l q.term.is b.1 in
-      let below : p.lease.below ≡ Some dir = p.below unmade ∙ parent_is dir q.kept.below b.0 in
-      let f : IsFresh dir p.lease = new p.lease p.held dir below in
-      let on : l.field ≡ Life (child dir f.number) = sym p.field ∙ f.field in
-      let file : file_of l.field ≡ child dir f.number = ap file_of on in
-      record {
-        id = child dir f.number;
-        offered = ap (λ o. option_map (λ (k : Kept). file_in k.standing) o) q.first ∙ ap Some (file_is q.kept.standing l q.term.is ∙ file);
-        lease = p.lease;
-        held = p.held;
-        below = below;
-        field = f.field;
-        base = f.base;
-        kind = f.kind;
-        child = child_there dir f.number;
-        used = use_of l;
-        among = used_there v c.last o (need.Fresh dir) (use_of l) i q.used;
-        number = p.number;
-        on = sym p.field;
-        of = sym p.kind;
-        item = q.used;
-        unmade = ap (λ i. is_made_by_log by i c.log) (sym file) ∙ unmade;
-        unmade_later = ap (λ i. is_made_by_log by i d.log) (sym file) ∙ p.unmade unmade;
-      }
-
   -- ### The answer
 
   module _ (values : Field → Value) (agree : (l : Lease) → In l d.leases → (u : Use) → In u e.uses → l.no ≡ u.no → IsUnread values l.field ⊎ (values l.field ≡ value_seen by d l)) where
-    has_too : (field : Field) (kind : LeaseKind) → In (need.Lease field kind) (walk_in v c.last o).items → IsUnread values field ⊎ (Some (values field) ≡ known_by v c.last field kind)
+    pub has_too : (field : Field) (kind : LeaseKind) → In (need.Lease field kind) (walk_in v c.last o).items → IsUnread values field ⊎ (Some (values field) ≡ known_by v c.last field kind)
     has_too field kind i =
         let k : IsKnown v c.last field kind = known_by_lease v c.last field kind (all_there (known_by v c.last) (given_by v c.last) (script_of o) there (need.Lease field kind) i) in
         let l : Term = k.serving.lease in
@@ -207,81 +152,139 @@ module _ (by : Session) (c : Client) (answers : List Answer) (o : Op) (r : Reply
               ∙ sym k.value)
         ]
 
-    walked : walk (known_with values) always o ≡ walk_in v c.last o
+    pub walked : walk (known_with values) always o ≡ walk_in v c.last o
     walked = alike_but_gone (known_by v c.last) (given_by v c.last) values o there has_too
 
-    covers : Covers e.uses (walk (known_with values) always o).items
+    pub covers : Covers e.uses (walk (known_with values) always o).items
     covers field kind i =
         let j = subst (λ w. In (need.Lease field kind) w.items) walked i in
         let k : IsKnown v c.last field kind = known_by_lease v c.last field kind (all_there (known_by v c.last) (given_by v c.last) (script_of o) there (need.Lease field kind) j) in
         record { used = use_of k.serving.lease; among = used_there v c.last o (need.Lease field kind) (use_of k.serving.lease) j k.used; field = k.serving.on; enough = k.serving.enough }
 
-    -- the life of a file is of matter
-    told_there : (l : Lease) (id : List ℕ) → l.field ≡ Life id → IsUnread values l.field ⊎ (values l.field ≡ value_seen by d l) → values l.field ≡ value_seen by d l
-    told_there l id on (inl gone) = absurd (subst (IsUnread values) on gone)
-    told_there l id on (inr same) = same
+  module _ (plain : tells_its_effects o ≡ true) (may : may_ask o ≡ true) (new : FreshLeases d.leases) (entries : AreEntries d.leases d.log) where
+    -- ### The identifier
 
-    given_for : (dir : List ℕ) → In (need.Fresh dir) (walk (known_with values) always o).items → IsGivenFor values e.uses v c.last dir
-    given_for dir i =
-        let q : IsReservedFor dir = reserved_for dir (subst (λ w. In (need.Fresh dir) w.items) walked i) in
+    pub record IsReservedFor (dir : List ℕ) : Type 0 where
+      pub id : List ℕ
+      pub offered : fresh v c.last dir ≡ Some id
+      pub lease : Lease
+      pub held : In lease d.leases
+      pub below : lease.below ≡ Some dir
+      pub field : lease.field ≡ Life id
+      pub base : lease.base ≡ value.Life None
+      pub kind : lease.kind ≡ Exclusive
+      pub child : is_child dir id ≡ true
+      pub used : Use
+      pub among : In used e.uses
+      pub number : lease.no ≡ used.no
+      pub on : used.field ≡ lease.field
+      pub of : used.kind ≡ lease.kind
+      pub item : item_use v c.last (need.Fresh dir) ≡ Some used
+      -- no entry of the log makes it, nor of what will be left of it
+      pub unmade : is_made_by_log by id c.log ≡ false
+      pub unmade_later : is_made_by_log by id d.log ≡ false
+
+    reserved_for : (dir : List ℕ) → In (need.Fresh dir) (walk_in v c.last o).items → IsReservedFor dir
+    reserved_for dir i =
+        let q : IsOffered v c.last dir = offered_by_lease v c.last dir (all_there (known_by v c.last) (given_by v c.last) (script_of o) there (need.Fresh dir) i) in
+        let l : Term = q.term.lease in
+        let p : Later by (settled_now c) d (lease_with q.kept l) = kept_later q.kept l q.among q.term.is in
+        let b = both (is_parent dir q.kept.below) (is_unused_in c.last v.pending q.kept.standing) q.offers in
+        let unmade : is_made_by_log by (file_of l.field) c.log ≡ false = ap (is_pending (file_of l.field)) (sym cf.pending) ∙ unused_unmade c.last v.pending q.kept.standing l q.term.is b.1 in
+        let below : p.lease.below ≡ Some dir = p.below unmade ∙ parent_is dir q.kept.below b.0 in
+        let f : IsFresh dir p.lease = new p.lease p.held dir below in
+        let on : l.field ≡ Life (child dir f.number) = sym p.field ∙ f.field in
+        let file : file_of l.field ≡ child dir f.number = ap file_of on in
         record {
-          id = q.id;
-          offered = q.offered;
-          unborn =
-              ap values (sym q.field) ∙ told_there q.lease q.id q.field (agree q.lease q.held q.used q.among q.number)
-              ∙ ap (λ g. value_after_log by g q.lease.base (map (effects_in by) d.log)) q.field
-              ∙ ap (λ b. value_after_log by (Life q.id) b (map (effects_in by) d.log)) q.base
-              ∙ stays_unborn by d.log q.id q.unmade_later;
-          used = record { used = q.used; among = q.among; field = q.on ∙ q.field; enough = ap (λ k. is_enough k Exclusive) (q.of ∙ q.kind) };
+          id = child dir f.number;
+          offered = ap (λ o. option_map (λ (k : Kept). file_in k.standing) o) q.first ∙ ap Some (file_is q.kept.standing l q.term.is ∙ file);
+          lease = p.lease;
+          held = p.held;
+          below = below;
+          field = f.field;
+          base = f.base;
+          kind = f.kind;
+          child = child_there dir f.number;
+          used = use_of l;
+          among = used_there v c.last o (need.Fresh dir) (use_of l) i q.used;
+          number = p.number;
+          on = sym p.field;
+          of = sym p.kind;
+          item = q.used;
+          unmade = ap (λ i. is_made_by_log by i c.log) (sym file) ∙ unmade;
+          unmade_later = ap (λ i. is_made_by_log by i d.log) (sym file) ∙ p.unmade unmade;
         }
 
-    right : IsAnswer values e
-    right = let q = right_with_id values e.uses v c.last o r plain may (ap (λ w. w.reply) walked ∙ replied) covers given_for in record { reply = q.reply; covered = q.covered }
+    -- ### The answer with it
 
-  -- ### Where it is handed in
+    module _ (values : Field → Value) (agree : (l : Lease) → In l d.leases → (u : Use) → In u e.uses → l.no ≡ u.no → IsUnread values l.field ⊎ (values l.field ≡ value_seen by d l)) where
+      -- the life of a file is of matter
+      told_there : (l : Lease) (id : List ℕ) → l.field ≡ Life id → IsUnread values l.field ⊎ (values l.field ≡ value_seen by d l) → values l.field ≡ value_seen by d l
+      told_there l id on (inl gone) = absurd (subst (IsUnread values) on gone)
+      told_there l id on (inr same) = same
 
-  at_home : UsesAtHome e.op e.uses
-  at_home u i =
-      let q = from-filter_map (item_use v c.last) u (walk_in v c.last o).items i in
-      subst (λ home. (file_of u.field ≡ home) ⊎ (named_by e.op ≡ Some (file_of u.field))) (sym (home_with_id v c.last o r)) (of_item q.0 q.1 q.2)
-    where
-      called : is_called o ≡ true
-      called = joined (tells_its_effects o) (may_ask o) plain may
+      given_for : (dir : List ℕ) → In (need.Fresh dir) (walk (known_with values) always o).items → IsGivenFor values e.uses v c.last dir
+      given_for dir i =
+          let q : IsReservedFor dir = reserved_for dir (subst (λ w. In (need.Fresh dir) w.items) (walked values agree) i) in
+          record {
+            id = q.id;
+            offered = q.offered;
+            unborn =
+                ap values (sym q.field) ∙ told_there q.lease q.id q.field (agree q.lease q.held q.used q.among q.number)
+                ∙ ap (λ g. value_after_log by g q.lease.base (map (effects_in by) d.log)) q.field
+                ∙ ap (λ b. value_after_log by (Life q.id) b (map (effects_in by) d.log)) q.base
+                ∙ stays_unborn by d.log q.id q.unmade_later;
+            used = record { used = q.used; among = q.among; field = q.on ∙ q.field; enough = ap (λ k. is_enough k Exclusive) (q.of ∙ q.kind) };
+          }
 
-      of_item : (n : Need) → In n (walk_in v c.last o).items → item_use v c.last n ≡ Some u → (file_of u.field ≡ home_of o) ⊎ (named_by e.op ≡ Some (file_of u.field))
-      of_item (need.Lease field kind) j is =
-          let k : IsKnown v c.last field kind = known_by_lease v c.last field kind (all_there (known_by v c.last) (given_by v c.last) (script_of o) there (need.Lease field kind) j) in
-          let same : use_of k.serving.lease ≡ u = cc (k.used, is) in
-          let home = items_home (MayGive o) (known_by v c.last) (given_by v c.last) (home_of o) (script_of o) (called_home o called) (need.Lease field kind) j in
-          inl (ap (λ (x : Use). file_of x.field) (sym same) ∙ ap file_of k.serving.on ∙ home.1)
-      of_item (need.Fresh dir) j is =
-          let q : IsReservedFor dir = reserved_for dir j in
-          let same : q.used ≡ u = cc (q.item, is) in
-          let g : IsGivenHere (MayGive o) (home_of o) dir r = given_home (MayGive o) (known_by v c.last) (given_by v c.last) (home_of o) (script_of o) (called_home o called) dir r j replied in
-          let file : file_of u.field ≡ q.id = ap (λ (x : Use). file_of x.field) (sym same) ∙ ap file_of (q.on ∙ q.field) in
-          inr (names_fresh v c.last o r g.allowed g.made ∙ ap (fresh v c.last) (sym g.below) ∙ q.offered ∙ ap Some (sym file))
+      right : IsAnswer values e
+      right = let q = right_with_id values e.uses v c.last o r plain may (ap (λ w. w.reply) (walked values agree) ∙ replied) (covers values agree) given_for in record { reply = q.reply; covered = q.covered }
 
-  -- ### The entry
+    -- ### Where it is handed in
 
-  named : NamesItsFile d.leases e.uses e.op r
-  named = names_its_file d.leases e.uses v c.last o r (known_by v c.last) (given_by v c.last) may replied (λ dir i.
-      let q : IsReservedFor dir = reserved_for dir i in
-      (q.id, q.offered, record { reserved = record { lease = q.lease; held = q.held; below = q.below; field = q.field; used = q.used; among = q.among; number = sym q.number }; child = q.child }))
+    at_home : UsesAtHome e.op e.uses
+    at_home u i =
+        let q = from-filter_map (item_use v c.last) u (walk_in v c.last o).items i in
+        subst (λ home. (file_of u.field ≡ home) ⊎ (named_by e.op ≡ Some (file_of u.field))) (sym (home_with_id v c.last o r)) (of_item q.0 q.1 q.2)
+      where
+        called : (tells_its_effects o && may_ask o) ≡ true
+        called = joined (tells_its_effects o) (may_ask o) plain may
 
-  once : (f : Entry) (id : List ℕ) → In f d.log → named_by f.op ≡ Some id → named_by e.op ≡ Some id → ⊥
-  once f id i a b =
-      let n : IsNamedFor v c.last o r id = named_for v c.last o r id may b in
-      let q : IsReservedFor n.dir = reserved_for n.dir (n.asked (known_by v c.last) (given_by v c.last) replied) in
-      let same : q.id ≡ id = cc (q.offered, n.offered) in
-      let made : list_any (makes id) (effects_in by f) ≡ true = makes_there by f.op f.reply id ∙ named_makes d.leases f.uses f.op f.reply id (entries f i).named a in
-      let not_made : list_any (makes id) (effects_in by f) ≡ false = none_makes by c.log id (ap (λ i. is_made_by_log by i c.log) (sym same) ∙ q.unmade) f (settled_log by answers (settled_now c) f i) in
-      absurd (let z : true ≡ false = sym made ∙ not_made in cc)
+        of_item : (n : Need) → In n (walk_in v c.last o).items → item_use v c.last n ≡ Some u → (file_of u.field ≡ home_of o) ⊎ (named_by e.op ≡ Some (file_of u.field))
+        of_item (need.Lease field kind) j is =
+            let k : IsKnown v c.last field kind = known_by_lease v c.last field kind (all_there (known_by v c.last) (given_by v c.last) (script_of o) there (need.Lease field kind) j) in
+            let same : use_of k.serving.lease ≡ u = cc (k.used, is) in
+            let home = items_home (MayGive o) (known_by v c.last) (given_by v c.last) (home_of o) (script_of o) (called_home o called) (need.Lease field kind) j in
+            inl (ap (λ (x : Use). file_of x.field) (sym same) ∙ ap file_of k.serving.on ∙ home.1)
+        of_item (need.Fresh dir) j is =
+            let q : IsReservedFor dir = reserved_for dir j in
+            let same : q.used ≡ u = cc (q.item, is) in
+            let g : IsGivenHere (MayGive o) (home_of o) dir r = given_home (MayGive o) (known_by v c.last) (given_by v c.last) (home_of o) (script_of o) (called_home o called) dir r j replied in
+            let file : file_of u.field ≡ q.id = ap (λ (x : Use). file_of x.field) (sym same) ∙ ap file_of (q.on ∙ q.field) in
+            inr (names_fresh v c.last o r g.allowed g.made ∙ ap (fresh v c.last) (sym g.below) ∙ q.offered ∙ ap Some (sym file))
 
-  pub next : IsNext by d e
-  next = record {
-    number = sym (settled_next by answers (settled_now c));
-    of_lease = of_lease;
-    right = right;
-    entry = record { plain = plain_with_id v c.last o r plain; access = access_with_id v c.last o r (asks_access o may); named = named; home = at_home };
-    once = once;
-  }
+    -- ### The entry
+
+    named : NamesItsFile d.leases e.uses e.op r
+    named = names_its_file d.leases e.uses v c.last o r (known_by v c.last) (given_by v c.last) may replied (λ dir i.
+        let q : IsReservedFor dir = reserved_for dir i in
+        (q.id, q.offered, record { reserved = record { lease = q.lease; held = q.held; below = q.below; field = q.field; used = q.used; among = q.among; number = sym q.number }; child = q.child }))
+
+    once : (f : Entry) (id : List ℕ) → In f d.log → named_by f.op ≡ Some id → named_by e.op ≡ Some id → ⊥
+    once f id i a b =
+        let n : IsNamedFor v c.last o r id = named_for v c.last o r id may b in
+        let q : IsReservedFor n.dir = reserved_for n.dir (n.asked (known_by v c.last) (given_by v c.last) replied) in
+        let same : q.id ≡ id = cc (q.offered, n.offered) in
+        let made : list_any (makes id) (effects_in by f) ≡ true = makes_there by f.op f.reply id ∙ named_makes d.leases f.uses f.op f.reply id (entries f i).named a in
+        let not_made : list_any (makes id) (effects_in by f) ≡ false = none_makes by c.log id (ap (λ i. is_made_by_log by i c.log) (sym same) ∙ q.unmade) f (settled_log by answers (settled_now c) f i) in
+        absurd (let z : true ≡ false = sym made ∙ not_made in cc)
+
+    pub next : IsNext by d e
+    next = record {
+      number = sym (settled_next by answers (settled_now c) unled);
+      unled = settled_unled by answers (settled_now c) unled;
+      of_lease = of_lease;
+      right = right;
+      entry = record { plain = plain_with_id v c.last o r plain; access = access_with_id v c.last o r (asks_access o may); named = named; home = at_home };
+      once = once;
+    }

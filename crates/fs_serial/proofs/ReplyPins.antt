@@ -1,6 +1,6 @@
 -- A client answers: its leases are in use by one entry more.
 use Rattle.std.proofs.Common.{◌≡◌, ℕ, ◌+◌, Bool, true, false, List, [], ◌∷◌, ◌++◌, map, refl, sym, ap, ◌∙◌, subst, inl, inr, cond, arith}
-use Rattle.std.specs.Prelude.{option_map}
+use Rattle.std.specs.Prelude.{option_map, None}
 use Rattle.std.specs.List.{filter_map, cons_option}
 use Rattle.std.proofs.lemmas.List.{map-append}
 use Rattle.fs_ident.specs.In.{In}
@@ -23,7 +23,7 @@ use Rattle.fs_view.specs.Kept.{number_of, entries_of, file_in, lease_of, has_num
 use Rattle.fs_view.specs.View.{pinned_at, pinned_all}
 use Rattle.fs_view.proofs.Pins.{with_pin}
 use Rattle.fs_view.proofs.Changed.{pinned_number}
-use Rattle.fs_serial.specs.Client.{ClientFits, KeptDistinct, times_used, times_in}
+use Rattle.fs_serial.specs.Client.{led_before, ClientFits, KeptDistinct, times_used, times_in}
 use Rattle.fs_serial.specs.Settled.{Lease, Settled, lease_in, effects_in, settled_now}
 use Rattle.fs_serial.specs.Pending.{HasLease, UsesHeld}
 use Rattle.fs_serial.proofs.Facts.{each_image, each_more}
@@ -88,7 +88,7 @@ distinct_mapped f same ks h k l i j e =
     let q = In-map f l ks j in
     p.1.1 ∙ ap f (h p.0 q.0 p.1.0 q.1.0 (sym (ap (λ (x : Kept). number_of x.standing) p.1.1 ∙ same p.0) ∙ e ∙ ap (λ (x : Kept). number_of x.standing) q.1.1 ∙ same q.0)) ∙ sym q.1.1
 
-distinct_all : (us : List Use) (ks : List Kept) → KeptDistinct ks → KeptDistinct (pinned_all us ks)
+pub distinct_all : (us : List Use) (ks : List Kept) → KeptDistinct ks → KeptDistinct (pinned_all us ks)
 distinct_all [] ks h = h
 distinct_all (u ∷ us) ks h = distinct_all us (pinned_at u.no ks) (distinct_mapped (with_pin u.no) (one_keeps number_of pinned pinned_number u.no) ks h)
 
@@ -120,7 +120,7 @@ sum_more : (b : Bool) (c t : ℕ) → one_more b c + t ≡ c + cond b (t + 1) t
 sum_more true c t = omega arith
 sum_more false c t = refl
 
-counted_all : (us : List Use) (ks : List Kept) (count : LeaseNo → ℕ) → InHand us ks → ((k : Kept) → In k ks → entries_of k.standing ≡ count (number_of k.standing)) → (k : Kept) → In k (pinned_all us ks) → entries_of k.standing ≡ count (number_of k.standing) + times_used (number_of k.standing) us
+pub counted_all : (us : List Use) (ks : List Kept) (count : LeaseNo → ℕ) → InHand us ks → ((k : Kept) → In k ks → entries_of k.standing ≡ count (number_of k.standing)) → (k : Kept) → In k (pinned_all us ks) → entries_of k.standing ≡ count (number_of k.standing) + times_used (number_of k.standing) us
 counted_all [] ks count hand h k i = let q = h k i in omega arith
 counted_all (u ∷ us) ks count hand h k i =
     counted_all us (pinned_at u.no ks) (λ n. one_more (same_no u.no n) (count n)) (in_hand_still us u.no ks (λ v j. hand v (inr j))) (counted_one u ks count (hand u (inl refl)) h) k i
@@ -132,17 +132,18 @@ times-append n (x ∷ es) e = let q = times-append n es e in omega arith
 
 -- ## The client
 
-pub reply_client : (by : Session) (c : Client) (e : Entry) → ClientFits by c → InHand e.uses c.view.leases → ((u : Use) → In u e.uses → HasLease (settled_now c).leases u) → ClientFits by (with_reply e (effects_of c.session e.op e.reply) c)
-reply_client by c e f hand own = record {
+pub reply_client : (by : Session) (c : Client) (e : Entry) → c.led ≡ None → ClientFits by c → InHand e.uses c.view.leases → ((u : Use) → In u e.uses → HasLease (settled_now c).leases u) → ClientFits by (with_reply e (effects_of c.session e.op e.reply) c)
+reply_client by c e n f hand own = record {
   session = f.session;
   viewed = f.viewed;
   pending = ap (λ s. c.view.pending ++ effects_of s e.op e.reply ∷ []) f.session ∙ ap (λ es. es ++ effects_in by e ∷ []) f.pending ∙ sym (map-append (effects_in by) c.log (e ∷ []));
   distinct = distinct_all e.uses c.view.leases f.distinct;
-  pinned = λ k i. counted_all e.uses c.view.leases (λ n. times_in n c.log) hand f.pinned k i ∙ sym (times-append (number_of k.standing) c.log e);
-  held = subst (λ ls. UsesHeld ls (c.log ++ e ∷ [])) (sym (pinned_leases e.uses c.view.leases)) (each_more (λ x. (u : Use) → In u x.uses → HasLease (settled_now c).leases u) c.log e f.held own);
-  unled = f.unled;
+  pinned = λ k i. counted_all e.uses c.view.leases (λ n. times_in n c.log) hand (λ j h. f.pinned j h ∙ ap (λ o. times_in (number_of j.standing) (led_before o c.log)) n) k i ∙ sym (times-append (number_of k.standing) c.log e)
+      ∙ ap (λ o. times_in (number_of k.standing) (led_before o (c.log ++ e ∷ []))) (sym n);
+  held = subst (λ o. UsesHeld (settled_now (with_reply e (effects_of c.session e.op e.reply) c)).leases (led_before o (c.log ++ e ∷ []))) (sym n)
+      (subst (λ ls. UsesHeld ls (c.log ++ e ∷ [])) (sym (pinned_leases e.uses c.view.leases)) (each_more (λ x. (u : Use) → In u x.uses → HasLease (settled_now c).leases u) c.log e (subst (λ o. UsesHeld (settled_now c).leases (led_before o c.log)) n f.held) own));
 }
 
 -- what servers see of it has one entry more
 pub reply_settled : (c : Client) (e : Entry) (effects : List Effect) → settled_now (with_reply e effects c) ≡ with_last e (settled_now c)
-reply_settled c e effects = ap (λ ls. let x : Settled = record { leases = ls; log = c.log ++ e ∷ []; next = c.next + 1; over = c.over } in x) (pinned_leases e.uses c.view.leases)
+reply_settled c e effects = ap (λ ls. let x : Settled = record { leases = ls; log = c.log ++ e ∷ []; next = c.next + 1; over = c.over; led = c.led } in x) (pinned_leases e.uses c.view.leases)

@@ -37,14 +37,14 @@ use Rattle.fs_serial.proofs.Seats.{Seat, seen_at}
 
 -- ## Pinned leases keep their numbers and files, and which go back
 
-pinned_before : (us : List Use) (ks : List Kept) (k : Kept) → In k (pinned_all us ks) → (j : Kept) × In j ks × (pair_of j ≡ pair_of k) × (is_leaving j.standing ≡ is_leaving k.standing)
+pub pinned_before : (us : List Use) (ks : List Kept) (k : Kept) → In k (pinned_all us ks) → (j : Kept) × In j ks × (pair_of j ≡ pair_of k) × (is_leaving j.standing ≡ is_leaving k.standing)
 pinned_before [] ks k i = (k, i, refl, refl)
 pinned_before (u ∷ us) ks k i =
     let q = pinned_before us (pinned_at u.no ks) k i in
     let p = In-map (with_pin u.no) q.0 ks q.1 in
     (p.0, p.1.0, sym (one_keeps pair_in pinned pin_pair u.no p.0) ∙ ap pair_of (sym p.1.1) ∙ q.2, sym (one_keeps is_leaving pinned pin_leaving u.no p.0) ∙ ap (λ (x : Kept). is_leaving x.standing) (sym p.1.1) ∙ q.3)
 
-pinned_after : (us : List Use) (ks : List Kept) (k : Kept) → In k ks → (j : Kept) × In j (pinned_all us ks) × (number_of j.standing ≡ number_of k.standing) × (is_leaving j.standing ≡ is_leaving k.standing)
+pub pinned_after : (us : List Use) (ks : List Kept) (k : Kept) → In k ks → (j : Kept) × In j (pinned_all us ks) × (number_of j.standing ≡ number_of k.standing) × (is_leaving j.standing ≡ is_leaving k.standing)
 pinned_after [] ks k i = (k, i, refl, refl)
 pinned_after (u ∷ us) ks k i =
     let q = pinned_after us (pinned_at u.no ks) (with_pin u.no k) (In-mapped (with_pin u.no) k ks i) in
@@ -78,7 +78,7 @@ module _ (skew greatest : ℕ) (s : Sight) (by : Session) (replied : List Item) 
 
   pub seat_reply : Seat skew greatest s by (replied ++ item_of by e ∷ []) then up down
   seat_reply =
-      let n = next by c down o r a.plain a.asked a.reply h.client h.fits.fresh h.fits.entries in
+      let n = next by c down o r a.reply h.client a.unled a.plain a.asked h.fits.fresh h.fits.entries in
       record {
         holds = subst (SessionHolds skew greatest s by (replied ++ item_of by e ∷ [])) (sym seen) (reply_holds skew greatest s by replied d e n h.holds h.fits anew);
         fits = subst (SessionFits skew greatest s by) (sym seen) (reply_fits skew greatest s by replied d e n h.holds h.fits);

@@ -13,6 +13,7 @@ use Rattle.fs_model.specs.declared.op.Op.{Op}
 use Rattle.fs_model.specs.declared.op.Op.TheVariants as op
 use Rattle.fs_model.specs.declared.reply.Reply.{Reply}
 use Rattle.fs_model.specs.declared.reply.Reply.TheVariants as reply
+use Rattle.fs_msg.specs.declared.entry.Entry.{Entry}
 use Rattle.fs_msg.specs.declared.item.Item.{Item}
 use Rattle.fs_record.specs.ValueOf.{value_of}
 use Rattle.fs_serial.specs.Gone.{IsOfGone}
@@ -21,6 +22,7 @@ use Rattle.fs_serial.specs.Parts.{SessionHolds, SessionFits}
 use Rattle.fs_serial.specs.Pending.{HasLease, UsesHeld, IsEntry, NamesItsFile, HasReserved}
 use Rattle.fs_serial.specs.Settled.{Lease, Settled}
 use Rattle.fs_serial.specs.Sight.{Sight, IsGiven}
+use Rattle.fs_serial.proofs.LedKept.{each_led, one_entry}
 use Rattle.fs_serial.proofs.Facts.{each_image}
 
 abbrev pub retimed : LeaseNo → ℕ → Lease → Lease
@@ -76,10 +78,11 @@ module _ (skew greatest : ℕ) (s : Sight) (by : Session) (replied : List Item) 
     replies = h.replies;
   }
 
-  pub held : UsesHeld d.leases d.log → UsesHeld (map (retimed n until) d.leases) d.log
-  held h x i u j =
-      let q : HasLease d.leases u = h x i u j in
-      record { lease = retimed n until q.lease; held = In-mapped (retimed n until) q.lease d.leases q.held; number = no_same q.lease ∙ q.number; field = field_same q.lease ∙ q.field; kind = kind_same q.lease ∙ q.kind }
+  one_held : (u : Use) → HasLease d.leases u → HasLease (map (retimed n until) d.leases) u
+  one_held u q = record { lease = retimed n until q.lease; held = In-mapped (retimed n until) q.lease d.leases q.held; number = no_same q.lease ∙ q.number; field = field_same q.lease ∙ q.field; kind = kind_same q.lease ∙ q.kind }
+
+  pub held : (log : List Entry) → UsesHeld d.leases log → UsesHeld (map (retimed n until) d.leases) log
+  held log h x i u j = one_held u (h x i u j)
 
   named : (uses : List Use) (o : Op) (r : Reply) → NamesItsFile d.leases uses o r → NamesItsFile (map (retimed n until) d.leases) uses o r
   named uses (op.Create dir name kind (Some id)) reply.Made p =
@@ -105,9 +108,18 @@ module _ (skew greatest : ℕ) (s : Sight) (by : Session) (replied : List Item) 
     matching = each_image (retimed n until) (λ l. (r : Row) → In r s.rows → r.no ≡ l.no → IsRowOf by l.field l.kind r) d.leases (λ l i r j e.
         let q : IsRowOf by l.field l.kind r = f.matching l i r j (e ∙ no_same l) in record { session = q.session; field = q.field ∙ sym (field_same l); kind = q.kind ∙ sym (kind_same l) });
     fresh = each_image (retimed n until) (λ l. (dir : List ℕ) → l.below ≡ Some dir → IsFresh dir l) d.leases (λ l i dir b. fresh_same dir l (f.fresh l i dir (sym (below_same l) ∙ b)));
-    held = held f.held;
+    held = held d.log f.held;
     backed = f.backed;
     entries = λ x i. let q : IsEntry d.leases x = f.entries x i in record { plain = q.plain; access = q.access; named = named x.uses x.op x.reply q.named; home = q.home };
     once = f.once;
     refused = f.refused;
+    led = each_led skew greatest greatest s s by d (with_until n until d) d.led (λ led is h. record {
+      leads = h.leads;
+      number = h.number;
+      empty = h.empty;
+      held = one_entry led.entry (λ u i. one_held u (h.held led.entry (inl refl) u i));
+      backed = h.backed;
+      parts = h.parts;
+      right = h.right;
+    }) f.led;
   }

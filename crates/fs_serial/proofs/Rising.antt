@@ -10,6 +10,7 @@ use Rattle.fs_serial.specs.Parts.{AllHold, SessionHolds, SessionFits}
 use Rattle.fs_serial.specs.Settled.{Settled}
 use Rattle.fs_serial.specs.Sight.{Counts, Sight, seen, sight_of}
 use Rattle.fs_serial.specs.World.{World, WorldHolds, settled_at, sight_in}
+use Rattle.fs_serial.proofs.LedKept.{each_led}
 use Rattle.fs_serial.proofs.Counting.{given_by}
 use Rattle.fs_serial.proofs.Going.{goes_still}
 use Rattle.fs_serial.proofs.Older.{IsLater, later_among, stood_here}
@@ -32,6 +33,7 @@ module _ (skew greatest later : ℕ) (rises : greatest ≤ later) where
     entries = f.entries;
     once = f.once;
     refused = f.refused;
+    led = each_led skew greatest later s s by d d d.led (λ l is h. record { leads = h.leads; number = h.number; empty = h.empty; held = h.held; backed = λ e i u j late. h.backed e i u j (omega arith); parts = h.parts; right = h.right }) f.led;
   }
 
   pub all_later : (s : Sight) (replied : Session → List Item) (clients : Session → Settled) → AllHold skew greatest s replied clients → AllHold skew later s replied clients

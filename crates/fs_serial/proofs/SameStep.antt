@@ -60,7 +60,7 @@ use Rattle.fs_serial.proofs.SimAsk.{HasFreshHere, ask_sim}
 use Rattle.fs_serial.proofs.SimPairs.{ArePairsHere, recall_sim, release_sim, renew_sim}
 use Rattle.fs_serial.proofs.SimShip.{AreEntriesHere, ship_sim}
 use Rattle.fs_serial.proofs.SimTurn.{lapsed_here, turn_sim}
-use Rattle.fs_serial.proofs.Unled.{none_asked}
+use Rattle.fs_serial.proofs.Unled.{IsOther}
 
 -- ## What it is
 
@@ -118,17 +118,17 @@ module _ (k : ℕ) (e : ServerEvent) (c : Cluster) (s : Server) (places : Places
 -- ## Of the server that has all
 
 module _ (k : ℕ) (c : Cluster) (s : Server) (places : PlacesHold c) (b : IsBetween c.servers k s) where
-  abbrev more : Rest
+  abbrev pub more : Rest
   more = rest_of b.front b.back (parcels_of c.flying)
 
-  apart : IsApart more s
+  pub apart : IsApart more s
   apart = apart_of c k s places b
 
-  here : with_all s c ≡ joined more s
+  pub here : with_all s c ≡ joined more s
   here = all_here c k s places b
 
   -- a step at the one is a step at the other
-  stepped : (e : ServerEvent) → BringsNone k e → (f : Server → Stepped) (small : Stepped) → IsSim more s (f (joined more s)) small → IsSameStep k e s small (f (with_all s c)) c
+  pub stepped : (e : ServerEvent) → BringsNone k e → (f : Server → Stepped) (small : Stepped) → IsSim more s (f (joined more s)) small → IsSameStep k e s small (f (with_all s c)) c
   stepped e none f small h = subst (λ t. IsSameStep k e s small (f t) c) (sym here) (same_step k e c s places b none (f (joined more s)) small h)
 
   -- what no place lists goes with its directory
@@ -260,14 +260,14 @@ turn_same k c s is places =
     stepped k c s places b Turn (λ flying. refl) (turn_over (lapsed_in s)) (turn_step s) (turn_sim (more k c s places b) (lapsed_in s) s (apart k c s places b) (lapsed_here (more k c s places b) s (apart k c s places b)))
 
 -- a question that is on its way, or a recall
-pub begun_same : (greatest k : ℕ) (c : Cluster) (s : Server) (e : ServerEvent) → slice_get c.servers k ≡ Some s → PlacesHold c → WorldHolds greatest (world_of s c) → IsThere e (world_of s c).ends → (e ≡ Turn → ⊥)
+pub begun_same : (greatest k : ℕ) (c : Cluster) (s : Server) (e : ServerEvent) → slice_get c.servers k ≡ Some s → PlacesHold c → WorldHolds greatest (world_of s c) → IsThere e (world_of s c).ends → IsOther e → (e ≡ Turn → ⊥)
     → IsSameStep k e s (event_step e s) (event_step e (with_all s c)) c
-begun_same greatest k c s (FromClient by (Ask items dir)) is places w there q = ask_same greatest k c s by items dir is places w
-begun_same greatest k c s (FromClient by (Renew pairs)) is places w there q = renew_same greatest k c s by pairs is places w there
-begun_same greatest k c s (FromClient by (Release pairs)) is places w there q = release_same greatest k c s by pairs is places w there
-begun_same greatest k c s (FromClient by (Ship entries)) is places w there q = ship_same greatest k c s by entries is places w there
-begun_same greatest k c s (FromClient by (Lead m)) is places w there q = let e = ends_of (c.lines by) in absurd (none_asked e.client e.client.exchange m e.up e.down there (w.exchanges by).one)
-begun_same greatest k c s (FromPeer from m) is places w there q = absurd there
-begun_same greatest k c s Turn is places w there q = absurd (q refl)
-begun_same greatest k c s (Recall field) is places w there q = recall_same k c s field is places
-begun_same greatest k c s (Move prefix to) is places w there q = absurd there
+begun_same greatest k c s (FromClient by (Ask items dir)) is places w there o q = ask_same greatest k c s by items dir is places w
+begun_same greatest k c s (FromClient by (Renew pairs)) is places w there o q = renew_same greatest k c s by pairs is places w there
+begun_same greatest k c s (FromClient by (Release pairs)) is places w there o q = release_same greatest k c s by pairs is places w there
+begun_same greatest k c s (FromClient by (Ship entries)) is places w there o q = ship_same greatest k c s by entries is places w there
+begun_same greatest k c s (FromClient by (Lead m)) is places w there o q = absurd o
+begun_same greatest k c s (FromPeer from m) is places w there o q = absurd there
+begun_same greatest k c s Turn is places w there o q = absurd (q refl)
+begun_same greatest k c s (Recall field) is places w there o q = recall_same k c s field is places
+begun_same greatest k c s (Move prefix to) is places w there o q = absurd there

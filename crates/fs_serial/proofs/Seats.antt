@@ -37,7 +37,7 @@ settled_due by [] d = refl
 settled_due by (Granted grants fresh end ∷ rest) d = settled_due by rest (told by (Granted grants fresh end) d)
 settled_due by (Renewed rows end ∷ rest) d = settled_due by rest d
 settled_due by (Released count end ∷ rest) d = settled_due by rest d
-settled_due by (Led end ∷ rest) d = settled_due by rest d
+settled_due by (Led end ∷ rest) d = settled_due by rest (told by (Led end) d)
 settled_due by (Shipped count end ∷ rest) d = settled_due by rest (told by (Shipped count end) d)
 settled_due by (Recall number ∷ rest) d = settled_due by rest d
 

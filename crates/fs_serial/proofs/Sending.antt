@@ -36,7 +36,7 @@ use Rattle.fs_serial.specs.Settled.{Settled, settled, settled_now, told}
 use Rattle.fs_serial.specs.Sight.{Counts, seen, sight_of}
 use Rattle.fs_serial.specs.World.{Ends, GoesOn, World, WorldHolds, settled_at, sight_in, with_answer, with_sent, without_question}
 use Rattle.fs_serial.proofs.Older.{IsLater, later_pairs}
-use Rattle.fs_serial.proofs.Settling.{later}
+use Rattle.fs_serial.proofs.Settling.{stays}
 use Rattle.fs_serial.proofs.Together.{its_client, other_client}
 
 -- ## One answer more
@@ -70,7 +70,7 @@ goes_of greatest w h = record {
   carried = record {
     returns = λ x. (h.exchanges x).returns;
     renewals = λ x. (h.exchanges x).renewals;
-    later = λ x l i. let q = later x (w.ends x).down (settled_now (w.ends x).client) l i in record { lease = q.lease; held = q.held; number = q.number };
+    later = λ x l i. let q = stays x (w.ends x).down (settled_now (w.ends x).client) l i in record { lease = q.lease; held = q.held; number = q.number };
   };
 }
 
@@ -88,6 +88,7 @@ fit_still skew greatest later_greatest given then rows new x e pairs returns ren
   one = h.one;
   ships = h.ships;
   front = h.front;
+  leads = h.leads;
   released = h.released;
   kinds = h.kinds;
   pairs = pairs;
@@ -124,6 +125,7 @@ fit_recalled skew greatest given rows x n e h = record {
   one = one_recalled e.client e.client.exchange e.up e.down n h.one;
   ships = h.ships;
   front = subst (ShipsFront e.up) (sym (settled_recalled x n e)) h.front;
+  leads = h.leads;
   released = h.released;
   kinds = h.kinds;
   pairs = h.pairs;
@@ -210,7 +212,7 @@ module _ (greatest : ℕ) (w : World) (t : Server) (journal : List Item) (by : S
       (λ x q. settled-push x (w.ends x).down a (settled_now (w.ends x).client) ∙ subst (λ y. told y a (base y) ≡ with_client by (told by a (base by)) base y) (one_session by x q) (sym (its_client by (told by a (base by)) base)))
       (λ x q. sym (other_client by x (told by a (base by)) base q)))
 
-  module _ (skew : t.skew ≡ w.server.skew) (clock : t.last ≤ greatest) (later_then : IsLater (sight_in w).given (sight_of w.counts (seen w.decided t) journal).given w.server.rows t.rows) (goes : GoesOn w.server.skew greatest (sight_of w.counts (seen w.decided t) journal) w.replied w.ends (with_client by (told by a (base by)) base)) (answers : is_recall a ≡ false) (fits : (x : Exchange) → (w.ends by).client.exchange ≡ Some x → IsQuestion x m → answer_fits (server_of_question x) x a (w.ends by).client ≡ true) (renewals : (ends : List (LeaseNo × Option ℕ)) (e : End) → a ≡ Renewed ends e → (n : LeaseNo) (until : ℕ) → In (n, Some until) ends → IsBacked t.rows n until) where
+  module _ (replied : Session → List Item) (skew : t.skew ≡ w.server.skew) (clock : t.last ≤ greatest) (later_then : IsLater (sight_in w).given (sight_of w.counts (seen w.decided t) journal).given w.server.rows t.rows) (goes : GoesOn w.server.skew greatest (sight_of w.counts (seen w.decided t) journal) replied w.ends (with_client by (told by a (base by)) base)) (answers : is_recall a ≡ false) (fits : (x : Exchange) → (w.ends by).client.exchange ≡ Some x → IsQuestion x m → answer_fits (server_of_question x) x a (w.ends by).client ≡ true) (renewals : (ends : List (LeaseNo × Option ℕ)) (e : End) → a ≡ Renewed ends e → (n : LeaseNo) (until : ℕ) → In (n, Some until) ends → IsBacked t.rows n until) where
     own_fit : EndsFit w.server.skew greatest (sight_of w.counts (seen w.decided t) journal).given t.rows by (taken a (w.ends by))
     own_fit =
         let e = w.ends by in
@@ -224,6 +226,7 @@ module _ (greatest : ℕ) (w : World) (t : Server) (journal : List Item) (by : S
           }));
           ships = o.ships;
           front = λ entries i. absurd i;
+          leads = λ m i. absurd i;
           released = o.released;
           kinds = λ items fresh i. absurd i;
           pairs = λ m i. absurd i;
@@ -240,10 +243,10 @@ module _ (greatest : ℕ) (w : World) (t : Server) (journal : List Item) (by : S
         (subst (λ (d : Settled). ReturnsFit (sight_of w.counts (seen w.decided t) journal).given t.rows x (w.ends x).client.view.leases d.leases) (other_client by x (told by a (base by)) base q) (goes.carried.returns x))
         (goes.carried.renewals x) (h.exchanges x)
 
-    pub world_answered : WorldHolds greatest (record { server = t; counts = w.counts; decided = w.decided; journal = journal; replied = w.replied; ends = with_answer by a (without_question by w.ends) })
-    world_answered = subst (λ (ends : Session → Ends). WorldHolds greatest (record { server = t; counts = w.counts; decided = w.decided; journal = journal; replied = w.replied; ends = ends })) (sym ends_are) (record {
-      all = subst (λ k. AllHold k greatest (sight_of w.counts (seen w.decided t) journal) w.replied (λ (x : Session). settled_at x (cond (by.0 == x.0) (taken a (w.ends x)) (w.ends x)))) (sym skew)
-          (subst (λ (c : Session → Settled). AllHold w.server.skew greatest (sight_of w.counts (seen w.decided t) journal) w.replied c) (sym settled_are) goes.all);
+    pub world_answered : WorldHolds greatest (record { server = t; counts = w.counts; decided = w.decided; journal = journal; replied = replied; ends = with_answer by a (without_question by w.ends) })
+    world_answered = subst (λ (ends : Session → Ends). WorldHolds greatest (record { server = t; counts = w.counts; decided = w.decided; journal = journal; replied = replied; ends = ends })) (sym ends_are) (record {
+      all = subst (λ k. AllHold k greatest (sight_of w.counts (seen w.decided t) journal) replied (λ (x : Session). settled_at x (cond (by.0 == x.0) (taken a (w.ends x)) (w.ends x)))) (sym skew)
+          (subst (λ (c : Session → Settled). AllHold w.server.skew greatest (sight_of w.counts (seen w.decided t) journal) replied c) (sym settled_are) goes.all);
       clock = clock;
       clients = each_end (λ x e. ClientFits x e.client) by (taken a) w.ends (λ x q. h.clients x) (λ x q. h.clients x);
       exchanges = subst (λ k. (x : Session) → EndsFit k greatest (sight_of w.counts (seen w.decided t) journal).given t.rows x (cond (by.0 == x.0) (taken a (w.ends x)) (w.ends x))) (sym skew)

@@ -13,13 +13,15 @@ use Rattle.fs_field.proofs.SameNo.{same_no_self}
 use Rattle.fs_lease.specs.Lease.{Lease as Term}
 use Rattle.fs_msg.specs.declared.answer.Answer.{Answer}
 use Rattle.fs_msg.specs.declared.client_msg.ClientMsg.{ClientMsg}
-use Rattle.fs_msg.specs.declared.client_msg.ClientMsg.TheVariants.{Ask, Renew, Ship}
+use Rattle.fs_msg.specs.declared.client_msg.ClientMsg.TheVariants.{Ask, Renew, Ship, Lead}
 use Rattle.fs_msg.specs.declared.entry.Entry.{Entry}
 use Rattle.fs_msg.specs.declared.item.Item.{Item}
+use Rattle.fs_msg.specs.declared.lead.Lead.{Lead as ToLead}
 use Rattle.fs_client.specs.Client.{with_exchange, leaving_all}
 use Rattle.fs_client.specs.Turns.{pair_of, numbers_in, has_to_go}
 use Rattle.fs_client.specs.declared.exchange.Exchange.{Exchange}
 use Rattle.fs_client.specs.declared.exchange.Exchange.TheVariants.{Asks, Renews, Ships}
+use Rattle.fs_client.specs.declared.led.Led.{Led}
 use Rattle.fs_client.specs.declared.state.Client.{Client}
 use Rattle.fs_server.specs.Asks.{kind_for}
 use Rattle.fs_server.specs.Pairs.{numbers_in as pair_numbers}
@@ -30,7 +32,7 @@ use Rattle.fs_view.specs.Kept.{number_of, has_number, is_leaving, is_pinned, ent
 use Rattle.fs_view.specs.View.{View, with_leaving}
 use Rattle.fs_view.proofs.Changed.{leaving_number}
 use Rattle.fs_serial.specs.Client.{KeptDistinct}
-use Rattle.fs_serial.specs.Exchange.{due, IsQuestion, OneExchange, PairsFit, ShipsLog, ShipsFront, IsFront, IsReturned, ReleasesReturned, AsksGivenKinds, ReturnsFit, RenewalsBacked, ExchangeFits}
+use Rattle.fs_serial.specs.Exchange.{due, IsQuestion, OneExchange, PairsFit, ShipsLog, ShipsFront, IsFront, IsReturned, LeadsTold, ReleasesReturned, AsksGivenKinds, ReturnsFit, RenewalsBacked, ExchangeFits}
 use Rattle.fs_serial.specs.Settled.{Lease, Settled, lease_in, lease_with, settled_now}
 use Rattle.fs_serial.specs.Sight.{Sight}
 use Rattle.fs_serial.proofs.KeptPairs.{kept_pair, no_pairs, renews_pairs}
@@ -44,24 +46,31 @@ pub record IsAsking (given : ℕ → ℕ) (rows : List Row) (c : Client) (x : Ex
   pub question : IsQuestion x m
   pub ships : ShipsLog (Some x) c.log
   pub front : ShipsFront (m ∷ []) d
+  pub leads : LeadsTold (m ∷ []) c.led
   pub released : ReleasesReturned (Some x) ks
   pub kinds : AsksGivenKinds (m ∷ [])
   pub pairs : PairsFit given rows (m ∷ [])
 
-pub asking_exchange : (skew greatest : ℕ) (given : ℕ → ℕ) (rows : List Row) (by : Session) (c d : Client) (x : Exchange) (m : ClientMsg) (up : List ClientMsg) (down : List Answer) (now seen : Settled) → d.exchange ≡ Some x → d.log ≡ c.log → up ≡ [] → due down ≡ [] → IsAsking given rows c x m d.view.leases seen
+pub asking_exchange : (skew greatest : ℕ) (given : ℕ → ℕ) (rows : List Row) (by : Session) (c d : Client) (x : Exchange) (m : ClientMsg) (up : List ClientMsg) (down : List Answer) (now seen : Settled) → d.exchange ≡ Some x → d.log ≡ c.log → d.led ≡ c.led → up ≡ [] → due down ≡ [] → IsAsking given rows c x m d.view.leases seen
     → ReturnsFit given rows by d.view.leases seen.leases → RenewalsBacked skew greatest rows down now.leases → ExchangeFits skew greatest given rows by d (up ++ m ∷ []) down now seen
-asking_exchange skew greatest given rows by c d x m up down now seen e log none silent a returns renewals =
+asking_exchange skew greatest given rows by c d x m up down now seen e log led none silent a returns renewals =
     let only : up ++ m ∷ [] ≡ m ∷ [] = ap (λ up. up ++ m ∷ []) none in
     record {
       one = subst (λ o. OneExchange d o (up ++ m ∷ []) down) (sym e) (inl (record { message = m; asked = only; question = a.question; silent = silent }));
       ships = subst (λ o. ShipsLog o d.log) (sym e) (subst (ShipsLog (Some x)) (sym log) a.ships);
       front = subst (λ up. ShipsFront up seen) (sym only) a.front;
+      leads = subst (λ up. LeadsTold up d.led) (sym only) (subst (LeadsTold (m ∷ [])) (sym led) a.leads);
       released = subst (λ o. ReleasesReturned o d.view.leases) (sym e) a.released;
       kinds = subst AsksGivenKinds (sym only) a.kinds;
       pairs = subst (PairsFit given rows) (sym only) a.pairs;
       returns = returns;
       renewals = renewals;
     }
+
+-- a question that is none to lead an operation
+pub led_nothing : (m : ClientMsg) (led : Option Led) → ((n : ToLead) → Lead n ≡ m → ⊥) → LeadsTold (m ∷ []) led
+led_nothing m led other n (inl e) = absurd (other n e)
+led_nothing m led other n (inr z) = absurd z
 
 -- a question that leaves the client's leases
 pub seat_asking : (skew greatest : ℕ) (s : Sight) (by : Session) (replied : List Item) (c : Client) (up : List ClientMsg) (down : List Answer) (x : Exchange) (m : ClientMsg) → c.exchange ≡ None → IsAsking s.given s.rows c x m c.view.leases (settled_now c) → Seat skew greatest s by replied c up down → Seat skew greatest s by replied (with_exchange x c) (up ++ m ∷ []) down
@@ -71,8 +80,8 @@ seat_asking skew greatest s by replied c up down x m idle a h =
     record {
       holds = h.holds;
       fits = h.fits;
-      client = record { session = h.client.session; viewed = h.client.viewed; pending = h.client.pending; distinct = h.client.distinct; pinned = h.client.pinned; held = h.client.held; unled = h.client.unled };
-      exchange = asking_exchange skew greatest s.given s.rows by c (with_exchange x c) x m up down (settled_now c) (seen_at by c down) refl refl q.0 q.1 (subst (IsAsking s.given s.rows c x m c.view.leases) now a) h.exchange.returns h.exchange.renewals;
+      client = record { session = h.client.session; viewed = h.client.viewed; pending = h.client.pending; distinct = h.client.distinct; pinned = h.client.pinned; held = h.client.held };
+      exchange = asking_exchange skew greatest s.given s.rows by c (with_exchange x c) x m up down (settled_now c) (seen_at by c down) refl refl refl q.0 q.1 (subst (IsAsking s.given s.rows c x m c.view.leases) now a) h.exchange.returns h.exchange.renewals;
     }
 
 -- ## A question for leases
@@ -87,6 +96,7 @@ seat_asks skew greatest s by replied c up down to items fresh idle given h = sea
   question = refl;
   ships = tt;
   front = λ entries i. elim i as (λ _. IsFront entries (settled_now c)) [ inl e ↦ absurd (cc) | inr z ↦ absurd z ];
+  leads = led_nothing (Ask items fresh) c.led (λ n e. absurd (cc));
   released = tt;
   kinds = λ xs f i x j. elim i as (λ _. kind_for x.0 x.1 ≡ x.1) [
     | inl e ↦ let q : xs ≡ items = cc in given x (subst (In x) q j)
@@ -103,6 +113,7 @@ pub seat_ships : (skew greatest : ℕ) (s : Sight) (by : Session) (replied : Lis
 seat_ships skew greatest s by replied c up down to sent rest log idle open_ h = seat_asking skew greatest s by replied c up down (Ships to (length sent)) (Ship sent) idle (record {
   question = refl;
   ships = let n = ap length log in let m = length-append sent rest in omega arith;
+  leads = led_nothing (Ship sent) c.led (λ n e. absurd (cc));
   front = λ entries i. elim i as (λ _. IsFront entries (settled_now c)) [
     | inl e ↦ let q : entries ≡ sent = cc in record { rest = rest; log = log ∙ ap (λ es. es ++ rest) (sym q); over = open_ }
     | inr z ↦ absurd z
@@ -124,6 +135,7 @@ seat_renews skew greatest s by replied c up down to ks among idle h = seat_askin
   question = pair_numbers_of ks;
   ships = tt;
   front = λ entries i. elim i as (λ _. IsFront entries (settled_now c)) [ inl e ↦ absurd (cc) | inr z ↦ absurd z ];
+  leads = led_nothing (Renew (map pair_of ks)) c.led (λ n e. absurd (cc));
   released = tt;
   kinds = λ xs f i x j. elim i as (λ _. kind_for x.0 x.1 ≡ x.1) [ inl e ↦ absurd (cc) | inr z ↦ absurd z ];
   pairs = renews_pairs s.given s.rows ks (λ k i. kept_pair skew greatest s by replied c up down idle h k (among k i));

@@ -49,7 +49,7 @@ use Rattle.fs_serial.proofs.Sending.{asked, goes_bare, goes_of, goes_seen, recal
 use Rattle.fs_serial.proofs.ShipLoop.{IsShipped, shipped_still}
 use Rattle.fs_serial.proofs.ServerSame.{asked_same, ships_same}
 use Rattle.fs_serial.proofs.ServerTurn.{turn_keeps}
-use Rattle.fs_serial.proofs.Unled.{none_asked}
+use Rattle.fs_serial.proofs.Unled.{IsOther}
 
 -- ## Questions for leases
 
@@ -125,7 +125,7 @@ module _ (greatest : ℕ) (w : World) (by : Session) (h : WorldHolds greatest w)
       let same = asked_same by items dir s in
       let clock = h.clock in
       let last = same.last in
-      let told = world_answered greatest w a.server w.journal by (Ask items dir) (Granted a.grants a.fresh a.end) up h same.skew (omega arith) (same.later w.counts)
+      let told = world_answered greatest w a.server w.journal by (Ask items dir) (Granted a.grants a.fresh a.end) up h w.replied same.skew (omega arith) (same.later w.counts)
       (goes_seen w.counts w.decided s.skew greatest a.server w.journal w.replied w.ends (with_client by (told by (Granted a.grants a.fresh a.end) (base by)) base) none right.goes) refl
       (λ x e q. ask_fits x c items dir a.grants a.fresh a.end q right.fits)
       (λ ends e q. absurd (cc)) in
@@ -152,7 +152,7 @@ module _ (greatest : ℕ) (w : World) (by : Session) (h : WorldHolds greatest w)
       let t : Server = record s { rows = renewed_rows until ns s.rows } in
       let a = Renewed (ends_told until ns s.rows) e in
       subst (λ js. WorldHolds greatest (record { server = t; counts = w.counts; decided = w.decided; journal = js; replied = w.replied; ends = with_answer by a (without_question by w.ends) })) (sym (append-nil w.journal))
-      (world_answered greatest w t w.journal by (Renew pairs) a up h refl h.clock (renewed_later (given_by w.counts s) until ns s.rows)
+      (world_answered greatest w t w.journal by (Renew pairs) a up h w.replied refl h.clock (renewed_later (given_by w.counts s) until ns s.rows)
       (unchanged a (sight_of w.counts (seen w.decided t) w.journal) refl (rows_renewed s.skew greatest (sight_in w) w.replied w.ends base until ns s.rows (goes_of greatest w h)))
       refl
       (λ x z q. renew_fits x pairs until e q)
@@ -187,7 +187,7 @@ module _ (greatest : ℕ) (w : World) (by : Session) (h : WorldHolds greatest w)
       let o = asked greatest w t w.journal by (Release pairs) a up h in
       let back = returned_by o.exchange pairs o.question (subst (λ x. ReleasesReturned x c.view.leases) o.stands (h.exchanges by).released) in
       subst (λ js. WorldHolds greatest (record { server = t; counts = w.counts; decided = w.decided; journal = js; replied = w.replied; ends = with_answer by a (without_question by w.ends) })) (sym (append-nil w.journal))
-      (world_answered greatest w t w.journal by (Release pairs) a up h refl h.clock (released_later (given_by w.counts s) ns s.rows)
+      (world_answered greatest w t w.journal by (Release pairs) a up h w.replied refl h.clock (released_later (given_by w.counts s) ns s.rows)
       (unchanged a (sight_of w.counts (seen w.decided t) w.journal) refl (rows_released s.skew greatest (sight_in w) w.replied w.ends base by ns s.rows (λ n i. back n (here_among s pairs n i)) (goes_of greatest w h)))
       refl
       (λ x z q. release_fits x pairs e q)
@@ -224,7 +224,7 @@ module _ (greatest : ℕ) (w : World) (by : Session) (h : WorldHolds greatest w)
       let log : c.log ≡ d.log = sym (ap (λ (k : Settled). k.log) (settled_none by (w.ends by).down (settled_now c) o.silent)) in
       let fits : refusal_fits x.end (length x.admitted) entries ≡ true = ap (λ n. refusal_fits x.end n entries) count ∙ r.fits in
       let few = r.few in
-      world_answered greatest w x.server (w.journal ++ x.admitted) by (Ship entries) a up h same.skew (omega arith) (same.later w.counts)
+      world_answered greatest w x.server (w.journal ++ x.admitted) by (Ship entries) a up h w.replied same.skew (omega arith) (same.later w.counts)
       (goes_seen w.counts w.decided s.skew greatest x.server (w.journal ++ x.admitted) w.replied w.ends (with_client by (told by a d) base) none
       (subst (λ n. GoesOn s.skew greatest (sight_of w.counts x.server (w.journal ++ x.admitted)) w.replied w.ends (with_client by (with_over (over_after x.end d.over) (acknowledged_all by n d)) base)) (sym count) r.goes))
       refl
@@ -239,12 +239,12 @@ module _ (greatest : ℕ) (w : World) (by : Session) (h : WorldHolds greatest w)
 
   -- ## Each message
 
-  pub told_message : w.decided ≡ [] → (m : ClientMsg) → (w.ends by).up ≡ m ∷ [] → WorldHolds greatest (world_after w by (message_step by m s))
-  told_message none (Ask items dir) up = world_asked none items dir up
-  told_message none (Renew pairs) up = renewed_step pairs up
-  told_message none (Release pairs) up = released_step pairs up
-  told_message none (Ship entries) up = shipped_step none entries up
-  told_message none (Lead m) up = absurd (none_asked (w.ends by).client (w.ends by).client.exchange m (w.ends by).up (w.ends by).down (subst (λ ms. In (Lead m) ms) (sym up) (inl refl)) (h.exchanges by).one)
+  pub told_message : w.decided ≡ [] → (m : ClientMsg) → IsOther (event.FromClient by m) → (w.ends by).up ≡ m ∷ [] → WorldHolds greatest (world_after w by (message_step by m s))
+  told_message none (Ask items dir) o up = world_asked none items dir up
+  told_message none (Renew pairs) o up = renewed_step pairs up
+  told_message none (Release pairs) o up = released_step pairs up
+  told_message none (Ship entries) o up = shipped_step none entries up
+  told_message none (Lead m) o up = absurd o
 
 -- ## Each event
 
@@ -264,11 +264,11 @@ after_begun e w = record {
   ends = with_sent (event_step e w.server).out.send (without_taken e w.ends);
 }
 
-pub begun_keeps : (greatest : ℕ) (w : World) (e : ServerEvent) → w.decided ≡ [] → IsThere e w.ends → WorldHolds greatest w → WorldHolds greatest (after_begun e w)
-begun_keeps greatest w (event.FromClient by m) none there h = told_message greatest w by h none m (one_up (w.ends by).client (w.ends by).client.exchange (w.ends by).up (w.ends by).down m there (h.exchanges by).one)
-begun_keeps greatest w (event.FromPeer from m) none there h = absurd there
-begun_keeps greatest w (event.Move prefix to) none there h = absurd there
-begun_keeps greatest w event.Turn none there h = turn_keeps greatest w none h
-begun_keeps greatest w (event.Recall field) none there h =
+pub begun_keeps : (greatest : ℕ) (w : World) (e : ServerEvent) → w.decided ≡ [] → IsThere e w.ends → IsOther e → WorldHolds greatest w → WorldHolds greatest (after_begun e w)
+begun_keeps greatest w (event.FromClient by m) none there o h = told_message greatest w by h none m o (one_up (w.ends by).client (w.ends by).client.exchange (w.ends by).up (w.ends by).down m there (h.exchanges by).one)
+begun_keeps greatest w (event.FromPeer from m) none there o h = absurd there
+begun_keeps greatest w (event.Move prefix to) none there o h = absurd there
+begun_keeps greatest w event.Turn none there o h = turn_keeps greatest w none h
+begun_keeps greatest w (event.Recall field) none there o h =
     subst (λ js. WorldHolds greatest (record { server = w.server; counts = w.counts; decided = w.decided; journal = js; replied = w.replied; ends = with_sent (event_step (event.Recall field) w.server).out.send w.ends })) (sym (append-nil w.journal))
     (world_all_recalled greatest w (event_step (event.Recall field) w.server).out.send (recall_all (recalled_on field w.server)) h)

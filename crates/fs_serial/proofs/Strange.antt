@@ -1,5 +1,5 @@
 -- No question and no parcel that comes to a server is strange.
-use Rattle.std.proofs.Common.{◌≡◌, ℕ, ◌≤◌, max, true, List, [], ◌∷◌, cond, refl, sym, subst}
+use Rattle.std.proofs.Common.{◌≡◌, ℕ, ◌≤◌, max, true, List, [], ◌∷◌, cond, refl, sym, ◌∙◌, subst, false}
 use Rattle.std.specs.Prelude.{◌≢◌, Option, Some, None, slice_get}
 use Rattle.std.specs.List.{list_all}
 use Rattle.fs_ident.specs.declared.actor.Session.{Session}
@@ -8,29 +8,33 @@ use Rattle.fs_ident.proofs.Standing.{In-got, In-mapped}
 use Rattle.fs_msg.specs.declared.client_msg.ClientMsg.{ClientMsg}
 use Rattle.fs_msg.specs.declared.client_msg.ClientMsg.TheVariants.{Ask, Renew, Release, Ship, Lead}
 use Rattle.fs_msg.specs.declared.entry.Entry.{Entry}
+use Rattle.fs_msg.specs.declared.lead.Lead.{Lead as ToLead}
 use Rattle.fs_msg.specs.declared.peer_msg.PeerMsg.{PeerMsg}
 use Rattle.fs_msg.specs.declared.peer_msg.PeerMsg.TheVariants as peer
 use Rattle.fs_msg.specs.declared.server_note.ServerNote.TheVariants.{Strange}
 use Rattle.fs_parcel.specs.Parcel.{move_refusal}
 use Rattle.fs_parcel.specs.declared.error.MoveError.{MoveError}
 use Rattle.fs_record.specs.Effects.{tells_its_effects}
+use Rattle.fs_server.proofs.Leading.{LeadEnds, aborted, lead_ends, led, put_off, unled}
+use Rattle.fs_server.specs.Leads.{lead_step}
 use Rattle.fs_server.specs.Moves.{fits_here, move_at, parcel_at, peer_step}
 use Rattle.fs_server.specs.Reaps.{lapsed_in, turn_over}
-use Rattle.fs_server.specs.Server.{begun, strange}
+use Rattle.fs_server.specs.Server.{Stepped, begun, strange}
 use Rattle.fs_server.specs.Ships.{ship_from, shipped}
 use Rattle.fs_server.specs.Step.{event_step, message_step, step}
 use Rattle.fs_server.specs.declared.event.ServerEvent.{ServerEvent}
 use Rattle.fs_server.specs.declared.event.ServerEvent.TheVariants as event
 use Rattle.fs_server.specs.declared.state.Server.{Server}
 use Rattle.fs_serial.specs.Cluster.{Cluster, IsThere, is_with}
-use Rattle.fs_serial.specs.Seen.{ClusterHolds, counts_of, world_of, ends_of}
+use Rattle.fs_serial.specs.Seen.{ClusterHolds, counts_of, world_of}
 use Rattle.fs_serial.specs.World.{WorldHolds}
 use Rattle.fs_serial.proofs.Arriving.{parcel_fits}
 use Rattle.fs_serial.proofs.ClusterSteps.{there_begun}
+use Rattle.fs_serial.proofs.LeadEvents.{led_there}
 use Rattle.fs_serial.proofs.Lapsing.{begins, begun_at}
 use Rattle.fs_serial.proofs.ServerEvents.{all_plain}
 use Rattle.fs_serial.proofs.SetAt.{get_here}
-use Rattle.fs_serial.proofs.Unled.{none_asked, none_flies}
+use Rattle.fs_serial.proofs.Unled.{none_flies}
 
 turn_note : (xs : List (List ℕ × Session)) (s : Server) → (turn_over xs s).out.note ≢ Strange
 turn_note [] s e = absurd (cc)
@@ -49,11 +53,17 @@ module _ (skew greatest k : ℕ) (c : Cluster) (s : Server) (at : slice_get c.se
   view : WorldHolds greatest (world_of s c)
   view = h.parts s (In-got c.servers k s at)
 
+  lead_note : (by : Session) (m : ToLead) (x : Stepped) → LeadEnds by m s x → IsThere k (event.FromClient by (Lead m)) c → x.out.note ≢ Strange
+  lead_note by m x (unled never) there = absurd (let z : true ≡ false = sym (led_there skew greatest k c s at h by m there) ∙ never in cc)
+  lead_note by m x (put_off why asks r) there = λ e. absurd (cc)
+  lead_note by m x (aborted u asks r g) there = λ e. absurd (cc)
+  lead_note by m x (led asks r g) there = λ e. absurd (cc)
+
   message_note : (by : Session) (m : ClientMsg) → IsThere k (event.FromClient by m) c → (message_step by m s).out.note ≢ Strange
   message_note by (Ask items dir) there = λ e. absurd (cc)
   message_note by (Renew pairs) there = λ e. absurd (cc)
   message_note by (Release pairs) there = λ e. absurd (cc)
-  message_note by (Lead m) there = λ e. none_asked (c.lines by).client (c.lines by).client.exchange m (ends_of (c.lines by)).up (ends_of (c.lines by)).down (In-mapped (λ (n : ℕ × ClientMsg). n.1) (k, Lead m) (c.lines by).up (found (is_with k) (c.lines by).up (k, Lead m) there).0) (view.exchanges by).one
+  message_note by (Lead m) there = lead_note by m (lead_step by m s) (lead_ends by m s) there
   message_note by (Ship entries) there =
       ship_note by entries s (all_plain greatest (world_of s c) by entries (In-mapped (λ (n : ℕ × ClientMsg). n.1) (k, Ship entries) (c.lines by).up (found (is_with k) (c.lines by).up (k, Ship entries) there).0) view)
 

@@ -7,6 +7,7 @@ use Rattle.fs_ident.specs.declared.actor.Session.{Session}
 use Rattle.fs_model.specs.declared.op.Op.{Op}
 use Rattle.fs_msg.specs.declared.answer.Answer.{Answer}
 use Rattle.fs_msg.specs.declared.client_msg.ClientMsg.{ClientMsg}
+use Rattle.fs_msg.specs.declared.client_msg.ClientMsg.TheVariants.{Lead}
 use Rattle.fs_msg.specs.declared.item.Item.{Item}
 use Rattle.fs_msg.specs.declared.msg.Msg.{Msg}
 use Rattle.fs_msg.specs.declared.msg.Msg.TheVariants as msg
@@ -25,6 +26,7 @@ use Rattle.fs_client.specs.Turns.{turn_plan}
 use Rattle.fs_client.specs.declared.plan.Plan.{Plan}
 use Rattle.fs_client.specs.declared.state.Client.{Client}
 pub use Rattle.fs_serial.specs.declared.flying.Flying.{Flying}
+use Rattle.fs_serial.specs.Parts.{with_replies}
 use Rattle.fs_serial.specs.World.{is_called, pushed, told_by, with_told}
 
 -- ## What stands in it
@@ -121,12 +123,17 @@ abbrev pub without_arrived : ℕ → ServerEvent → List Flying → List Flying
 without_arrived k (FromPeer from m) flying = without_first (is_between from k) flying
 without_arrived k e flying = flying
 
+-- what is admitted where a session asked to lead it is its reply
+abbrev pub replies_after : ServerEvent → List Item → (Session → List Item) → Session → List Item
+replies_after (FromClient by (Lead m)) items replied = with_replies by (replied by ++ items) replied
+replies_after e items replied = replied
+
 abbrev pub after_step : ℕ → ServerEvent → Stepped → Cluster → Cluster
 after_step k e x c = record {
   servers = slice_set c.servers k x.server;
   flying = without_arrived k e c.flying ++ flying_from k x.out.send;
   journal = c.journal ++ x.out.admitted;
-  replied = c.replied;
+  replied = replies_after e x.out.admitted c.replied;
   lines = with_sent k x.out.send (without_question k e c.lines);
 }
 

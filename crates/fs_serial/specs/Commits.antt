@@ -1,5 +1,5 @@
 -- A led operation that commits: a delete or a rename that gets its reply, in one step of what servers hold together.
-use Rattle.std.specs.Prelude.{◌≡◌, ◌==◌, ℕ, ◌+◌, true, false, List, [], ◌∷◌, ◌++◌, map, Some}
+use Rattle.std.specs.Prelude.{◌≡◌, ◌==◌, ℕ, true, false, List, [], ◌∷◌, ◌++◌, Some}
 use Rattle.fs_ident.specs.In.{In}
 use Rattle.fs_ident.specs.declared.actor.Session.{Session}
 use Rattle.fs_field.specs.declared.asked.Need.{Need}
@@ -17,7 +17,7 @@ use Rattle.fs_view.specs.Walk.{always, walk}
 use Rattle.fs_serial.specs.Parts.{AllHold, with_client, with_replies}
 use Rattle.fs_serial.specs.Pending.{AllStand, IsCovered}
 use Rattle.fs_serial.specs.Relies.{Relies}
-use Rattle.fs_serial.specs.Settled.{Settled, lease_after}
+use Rattle.fs_serial.specs.Settled.{Settled, led_done}
 use Rattle.fs_serial.specs.Sight.{Sight}
 
 -- the operation moves or removes the file and gets its reply from the namespace; the rows of all leases that it used stand, and
@@ -38,9 +38,9 @@ effects_led file e = led_effects e.op file e.reply
 abbrev pub with_commit : Session → List ℕ → Entry → Sight → Sight
 with_commit by file e s = record s { records = records_after_all s.records (effects_led file e); journal = s.journal ++ item_of by e ∷ [] }
 
--- its session is told so: the effects are known to be admitted, and the number is taken
+-- its session is told so
 abbrev pub with_led : Session → List ℕ → Entry → Settled → Settled
-with_led by file e d = record d { leases = map (lease_after by (effects_led file e)) d.leases; next = d.next + 1 }
+with_led by file e d = led_done by (effects_led file e) d
 
 -- all parts hold then
 abbrev pub CommitKeepsParts : Type 0

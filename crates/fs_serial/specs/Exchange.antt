@@ -10,17 +10,20 @@ use Rattle.fs_field.specs.declared.row.Row.{Row}
 use Rattle.fs_msg.specs.declared.answer.Answer.{Answer}
 use Rattle.fs_msg.specs.declared.answer.Answer.TheVariants.{Recall, Renewed, Shipped}
 use Rattle.fs_msg.specs.declared.client_msg.ClientMsg.{ClientMsg}
-use Rattle.fs_msg.specs.declared.client_msg.ClientMsg.TheVariants.{Ask, Renew, Release, Ship}
+use Rattle.fs_msg.specs.declared.client_msg.ClientMsg.TheVariants.{Ask, Renew, Release, Ship, Lead}
 use Rattle.fs_msg.specs.declared.end.End.{End}
 use Rattle.fs_msg.specs.declared.entry.Entry.{Entry}
+use Rattle.fs_msg.specs.declared.lead.Lead.{Lead as ToLead}
 use Rattle.fs_server.specs.Asks.{kind_for}
 use Rattle.fs_server.specs.Pairs.{numbers_in}
 use Rattle.fs_view.specs.declared.kept.Kept.{Kept}
 use Rattle.fs_view.specs.Kept.{number_of, is_leaving}
 use Rattle.fs_client.specs.Answers.{answer_fits}
+use Rattle.fs_client.specs.Led.{lead_of}
 use Rattle.fs_client.specs.Turns.{pair_of}
 use Rattle.fs_client.specs.declared.exchange.Exchange.{Exchange}
 use Rattle.fs_client.specs.declared.exchange.Exchange.TheVariants.{Asks, Renews, Releases, Ships, Leads}
+use Rattle.fs_client.specs.declared.led.Led.{Led}
 use Rattle.fs_client.specs.declared.state.Client.{Client}
 use Rattle.fs_serial.specs.Leases.{IsBacked}
 use Rattle.fs_serial.specs.Settled.{Lease, Settled}
@@ -53,6 +56,7 @@ IsQuestion (Asks to items fresh) m = m ≡ Ask items fresh
 IsQuestion (Renews to numbers) (Renew pairs) = numbers_in pairs ≡ numbers
 IsQuestion (Releases to numbers) (Release pairs) = numbers_in pairs ≡ numbers
 IsQuestion (Ships to count) (Ship entries) = length entries ≡ count
+IsQuestion (Leads to) (Lead m) = Unit {0}
 IsQuestion x m = ⊥
 
 -- the question is on its way
@@ -95,6 +99,15 @@ pub record IsFront (entries : List Entry) (d : Settled) : Type 0 where
 
 abbrev pub ShipsFront : List ClientMsg → Settled → Type 0
 ShipsFront up d = (entries : List Entry) → In (Ship entries) up → IsFront entries d
+
+-- a server is asked to lead what is led
+pub record IsToBeLed (stands : Option Led) (m : ToLead) : Type 0 where
+  pub led : Led
+  pub is : stands ≡ Some led
+  pub told : m ≡ lead_of led
+
+abbrev pub LeadsTold : List ClientMsg → Option Led → Type 0
+LeadsTold up led = (m : ToLead) → In (Lead m) up → IsToBeLed led m
 
 -- the lease goes back
 pub record IsReturned (leases : List Kept) (wanted : LeaseNo) : Type 0 where
@@ -151,6 +164,7 @@ pub record ExchangeFits (skew greatest : ℕ) (given : ℕ → ℕ) (rows : List
   pub one : OneExchange c c.exchange up down
   pub ships : ShipsLog c.exchange c.log
   pub front : ShipsFront up d
+  pub leads : LeadsTold up c.led
   pub released : ReleasesReturned c.exchange c.view.leases
   pub kinds : AsksGivenKinds up
   pub pairs : PairsFit given rows up

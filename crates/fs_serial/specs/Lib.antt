@@ -3,6 +3,7 @@ pub mod Sight
 pub mod Rows
 pub mod Leases
 pub mod Pending
+pub mod Led
 pub mod Numbers
 pub mod Serial
 pub mod Fresh

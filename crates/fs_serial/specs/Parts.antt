@@ -6,6 +6,7 @@ use Rattle.fs_record.specs.ValueOf.{value_of}
 use Rattle.fs_serial.specs.Fresh.{NodesMade, FreshReserved, reserved_by}
 use Rattle.fs_serial.specs.Gone.{IsOfGone}
 use Rattle.fs_serial.specs.Leases.{LeasesBacked, LeasesTrue, LeasesGiven, LeasesDistinct, LeasesMatch, FreshLeases}
+use Rattle.fs_serial.specs.Led.{LedFits}
 use Rattle.fs_serial.specs.Numbers.{NumbersInOrder, ReapsInOrder, RepliesKept}
 use Rattle.fs_serial.specs.Pending.{PendingStand, UsesHeld, UsesBacked, AreEntries, NamedOnce, RefusedGone}
 use Rattle.fs_serial.specs.Rows.{NoRowsConflict, PromisesKept, RowsCounted, RowsShaped, RowsGiven}
@@ -51,6 +52,7 @@ pub record SessionFits (skew greatest : ℕ) (s : Sight) (by : Session) (d : Set
   pub entries : AreEntries d.leases d.log
   pub once : NamedOnce d.log
   pub refused : RefusedGone s.rows d.log d.over
+  pub led : LedFits skew greatest s by d d.led
 
 -- ## Together
 

@@ -28,12 +28,13 @@ pub record IsAdmitted (s : Server) (by : Session) (d : Settled) (e : Entry) : Ty
   pub going : d.over ≡ None
   pub found : first_gone s.rows by e.uses ≡ None
 
--- the client knows the reply to a plain operation, and no more of its log is acknowledged than there is
+-- the client, for which nothing is led, knows the reply to a plain operation, and no more of its log is acknowledged than there is
 pub record IsReplied (c : Client) (down : List Answer) (o : Op) (r : Reply) : Type 0 where
   pub plain : tells_its_effects o ≡ true
   pub asked : may_ask o ≡ true
   pub reply : reply_in c.view c.last o ≡ Some r
   pub few : admitted_in down ≤ length c.log
+  pub unled : c.led ≡ None
 
 -- the reply changes nothing, no entry waits, and no clock is ahead of the client's by more than the skew
 pub record IsReadNow (skew greatest : ℕ) (c : Client) (r : Reply) : Type 0 where

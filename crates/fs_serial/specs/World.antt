@@ -1,5 +1,5 @@
 -- The server, and for each session its client with what is on its way between the two.
-use Rattle.std.specs.Prelude.{◌≡◌, ℕ, ◌≤◌, ◌==◌, ◌&&◌, Bool, true, false, List, [], ◌∷◌, ◌++◌, Option, Some, None, option_map, if◌then◌else◌}
+use Rattle.std.specs.Prelude.{◌≡◌, ℕ, ◌≤◌, ◌==◌, Bool, true, false, List, [], ◌∷◌, ◌++◌, Option, Some, None, option_map, if◌then◌else◌}
 use Rattle.fs_ident.specs.In.{In}
 use Rattle.fs_ident.specs.declared.actor.LeaseNo.{LeaseNo}
 use Rattle.fs_ident.specs.declared.actor.Peer.{Peer}
@@ -8,7 +8,6 @@ use Rattle.fs_ident.specs.declared.actor.Session.{Session}
 use Rattle.fs_field.specs.declared.effect.Effect.{Effect}
 use Rattle.fs_model.specs.declared.op.Op.{Op}
 use Rattle.fs_model.specs.Asking.{may_ask}
-use Rattle.fs_record.specs.Effects.{tells_its_effects}
 use Rattle.fs_msg.specs.declared.answer.Answer.{Answer}
 use Rattle.fs_msg.specs.declared.client_msg.ClientMsg.{ClientMsg}
 use Rattle.fs_msg.specs.declared.item.Item.{Item}
@@ -160,9 +159,9 @@ after_client by now (Does o) w = after_plan by (w.ends by).down (act_plan (w.end
 after_client by now Turns w = after_plan by (w.ends by).down (turn_plan (w.ends by).client now) w
 after_client by now (Hears from a rest) w = after_plan by rest (answer_plan (w.ends by).client now from a) w
 
--- a caller may ask for it, and it is no delete or rename, for which no caller asks yet
+-- a caller may ask for it
 abbrev pub is_called : Op → Bool
-is_called o = tells_its_effects o && may_ask o
+is_called o = may_ask o
 
 -- the event can come; an answer comes from the server of the question
 abbrev pub CanCome : Session → ClientEvent → (Session → Ends) → Type 0

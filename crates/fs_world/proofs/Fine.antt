@@ -86,6 +86,8 @@ id_asks v now (op.Create dir name kind id) r h = tt
 id_asks v now (op.OpenFile file x modes) r h = h
 id_asks v now (op.Close file x) r h = tt
 id_asks v now (op.Set file x size stamp) r h = tt
+id_asks v now (op.Delete dir name) r h = tt
+id_asks v now (op.Rename sdir sname ddir dname) r h = tt
 id_asks v now o r h = absurd (cc)
 
 full_fine : (needs : List Need) (c : ClientState) → MayBeFine (full_one needs c).out.admitted

@@ -3,7 +3,7 @@ use Rattle.std.proofs.Common.{◌≡◌, ◌∙◌, ◌<◌, ℕ, zero, suc, ◌
 use Rattle.std.specs.Prelude.{Option, Some, None, IfSome, is_some, not, ◌&&◌, ◌==◌}
 use Rattle.std.specs.List.{AllByRecursion, list_all}
 use Rattle.fs_ident.specs.declared.actor.Session.{Session}
-use Rattle.fs_ident.proofs.Booleans.{joined, second}
+use Rattle.fs_ident.proofs.Booleans.{joined}
 use Rattle.fs_field.specs.declared.asked.Need.{Need}
 use Rattle.fs_field.specs.declared.asked.Need.TheVariants.{Lease, Fresh}
 use Rattle.fs_map.specs.Map.{Owners}
@@ -13,7 +13,6 @@ use Rattle.fs_model.specs.declared.op.Op.TheVariants as op
 use Rattle.fs_model.specs.declared.reply.Reply.{Reply}
 use Rattle.fs_model.specs.declared.reply.Reply.TheVariants as reply
 use Rattle.fs_model.specs.Step.{is_empty}
-use Rattle.fs_record.specs.Effects.{tells_its_effects}
 use Rattle.fs_record.specs.declared.led_end.LedEnd.{LedEnd}
 use Rattle.fs_record.specs.declared.led_end.LedEnd.TheVariants as led_end
 use Rattle.fs_record.specs.declared.led_end.Why.{Why}
@@ -185,7 +184,7 @@ module _ (servers : ℕ) (some : 0 < servers) where
   act_planned None o c may h = unless_planned c.led o c may h
 
   pub act_fine : (c : Client) (now : ℕ) (o : Op) → is_called o ≡ true → IsFine servers c → IsPlanned servers (act_plan c now o)
-  act_fine c now o called h = act_planned c.over o (begun now c) (second (tells_its_effects o) (may_ask o) called) (record { log = h.log; hints = h.hints })
+  act_fine c now o called h = act_planned c.over o (begun now c) called (record { log = h.log; hints = h.hints })
 
   -- ## A turn
 

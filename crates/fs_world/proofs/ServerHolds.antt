@@ -17,7 +17,7 @@ use Rattle.fs_server.specs.Step.{step}
 use Rattle.fs_server.specs.declared.event.ServerEvent.{ServerEvent}
 use Rattle.fs_server.specs.declared.event.ServerEvent.TheVariants.{FromClient, FromPeer, Turn, Recall, Move}
 use Rattle.fs_server.specs.declared.state.Server.{Server}
-use Rattle.fs_serial.specs.Cluster.{Cluster, IsThere, Lines, after_server, after_server_at, flying_from, is_between, is_with, with_lines, with_sent, without_first, without_arrived, without_question}
+use Rattle.fs_serial.specs.Cluster.{Cluster, IsThere, Lines, after_server, after_server_at, flying_from, is_between, is_with, replies_after, with_lines, with_sent, without_first, without_arrived, without_question}
 use Rattle.fs_serial.specs.Seen.{ends_of}
 use Rattle.fs_serial.specs.declared.flying.Flying.{Flying}
 use Rattle.fs_serial.proofs.SetAt.{In_set, In_without}
@@ -32,6 +32,7 @@ use Rattle.fs_world.proofs.SeenRows.{BringsOf, IsAsked, IsOf, brings_still, step
 use Rattle.fs_world.proofs.SeenSends.{downs_joined, flying_of_these, sends_seen}
 use Rattle.fs_world.proofs.SerialLaws.{EventLaws}
 use Rattle.fs_world.proofs.ServedHolds.{Holds, Parts, cluster_of}
+use Rattle.fs_world.proofs.Told.{step_led, told_led}
 
 module _ (laws : EventLaws) (count skew greatest : ℕ) (told : List Told) (p : Parts) (h : Holds laws count skew greatest told p) (now : ℕ) (k : ℕ) (s : Server) (at : slice_get p.servers k ≡ Some s) where
   abbrev pub c : Cluster
@@ -84,9 +85,9 @@ module _ (laws : EventLaws) (count skew greatest : ℕ) (told : List Told) (p : 
     step_is = step_of (HasJoined before) s now e asker (λ row i. stay row.session (h.rows s server_in row i))
 
     abbrev stepped : (Session → Lines) → Cluster
-    stepped lines = record { servers = slice_set p.servers k (step s now e).server; flying = without_arrived k e p.flying ++ flying_from k (step s now e).out.send; journal = p.journal ++ (step s now e).out.admitted; replied = h.replied; lines = lines }
+    stepped lines = record { servers = slice_set p.servers k (step s now e).server; flying = without_arrived k e p.flying ++ flying_from k (step s now e).out.send; journal = p.journal ++ (step s now e).out.admitted; replied = replies_after e (step s now e).out.admitted h.replied; lines = lines }
 
-    pub core_seen : after_server now k e c ≡ cluster_of h.replied (after_core e before)
+    pub core_seen : after_server now k e c ≡ cluster_of (replies_after e (step s now e).out.admitted h.replied) (after_core e before)
     core_seen =
         ap (λ (o : Option Server). after_server_at o now k e c) at
         ∙ ap (λ (lines : Session → Lines). stepped lines) (ap (with_sent k (step s now e).out.send) (sym taken) ∙ sym (sends_seen p.term k (step s now e).out.send before step_is.sends))
@@ -103,12 +104,12 @@ module _ (laws : EventLaws) (count skew greatest : ℕ) (told : List Told) (p : 
 
     pub server_holds : Holds laws count skew (max greatest now) told (after_core e before)
     server_holds = record {
-      replied = h.replied;
+      replied = replies_after e (step s now e).out.admitted h.replied;
       cluster = subst (λ (d : Cluster). laws.Holds skew (max greatest now) d) core_seen (laws.event skew (max greatest now) now k e s c at in_time there later_holds);
       many = length-set p.servers k (step s now e).server ∙ h.many;
       rows = rows;
       parcels = parcels;
-      answered = h.answered;
+      answered = told_led e (step s now e).out.admitted h.replied told h.answered (step_led s now e);
       items = fine_more p.journal (step s now e).out.admitted h.items (step_fine s now e (event_asks e there));
     }
       where

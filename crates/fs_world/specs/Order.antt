@@ -1,5 +1,5 @@
 -- Session order: each actor's items have the numbers 1, 2, 3 .., and the replies that were told are theirs.
-use Rattle.std.specs.Prelude.{◌≡◌, ℕ, ◌+◌, Bool, false, ◌==◌, List, [], ◌∷◌, ◌++◌, Option, filter}
+use Rattle.std.specs.Prelude.{◌≡◌, ℕ, ◌+◌, Bool, false, ◌==◌, List, [], ◌∷◌, ◌++◌, Option, filter, ◌⊎◌}
 use Rattle.fs_ident.specs.declared.actor.Session.{Session}
 use Rattle.fs_ident.specs.declared.actor.Peer.{Peer}
 use Rattle.fs_ident.specs.declared.actor.Peer.TheVariants.{Server, Client}
@@ -7,6 +7,7 @@ use Rattle.fs_ident.specs.In.{In}
 use Rattle.fs_model.specs.declared.op.Op.{Op}
 use Rattle.fs_model.specs.declared.op.Op.TheVariants as op
 use Rattle.fs_model.specs.declared.reply.Reply.{Reply}
+use Rattle.fs_record.specs.Effects.{tells_its_effects}
 use Rattle.fs_msg.specs.declared.act.Act.TheVariants.{Replied, ReadNow}
 use Rattle.fs_msg.specs.declared.item.Item.{Item}
 use Rattle.fs_msg.specs.declared.note.Note.{Note}
@@ -78,11 +79,16 @@ pub record Agrees (i : Item) (t : Told) : Type 0 where
 abbrev pub told_to : Session → List Told → List Told
 told_to s told = filter (λ (t : Told). s.0 == t.session.0) told
 
--- the items are what was told, one for one
+-- a server led the operation
+abbrev pub WasLed : Item → Type 0
+WasLed i = tells_its_effects i.op ≡ false
+
+-- the items are what was told, one for one, but for some that servers led
 abbrev pub AreAsTold : List Item → List Told → Type 0
 AreAsTold [] [] = Unit {0}
-AreAsTold (i ∷ is) (t ∷ ts) = HasNumberOf i t × Agrees i t × AreAsTold is ts
-AreAsTold is ts = ⊥
+AreAsTold [] (t ∷ ts) = ⊥
+AreAsTold (i ∷ is) [] = WasLed i × AreAsTold is []
+AreAsTold (i ∷ is) (t ∷ ts) = (HasNumberOf i t × Agrees i t × AreAsTold is ts) ⊎ (WasLed i × AreAsTold is (t ∷ ts))
 
 -- each actor's items are numbered from 1, and where one has the number of what was told it agrees
 pub record IsInSessionOrder (journal : List Item) (told : List Told) : Type 0 where

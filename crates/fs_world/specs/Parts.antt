@@ -35,7 +35,7 @@ seen replied w = record { servers = w.servers; flying = w.flying; journal = w.jo
 abbrev pub replied_in : Served → Session → List Item
 replied_in w x = all_items x w.journal (settled_at x (ends_of (lines_of w.term w.seats x))).log
 
--- where no reading was greater and this was told: all parts of the invariant hold, and those items are what the notes told each session
+-- where no reading was greater and this was told: all parts of the invariant hold, and those items are what the notes told each session, but for some that servers led
 pub record ServedHold (skew greatest : ℕ) (told : List Told) (w : Served) : Type 0 where
   pub parts : ClusterHolds skew greatest (seen (replied_in w) w)
   pub replies : (x : Session) → AreAsTold (replied_in w x) (told_to x told)

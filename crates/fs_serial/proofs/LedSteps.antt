@@ -1,0 +1,168 @@
+-- The server that has all is asked to lead an operation.
+use Rattle.std.proofs.Common.{◌≡◌, ℕ, true, List, [], ◌∷◌, ◌++◌, refl, sym, ap, ◌∙◌, subst, inl}
+use Rattle.std.specs.Prelude.{Some}
+use Rattle.std.specs.Cmp.{nat_eq_equiv}
+use Rattle.fs_ident.specs.In.{In}
+use Rattle.fs_ident.specs.declared.actor.LeaseNo.{LeaseNo}
+use Rattle.fs_ident.specs.declared.actor.Session.{Session}
+use Rattle.fs_ident.proofs.Booleans.{joined}
+use Rattle.fs_ident.proofs.Standing.{In-map, In-mapped}
+use Rattle.fs_model.specs.declared.op.Op.{Op}
+use Rattle.fs_model.specs.declared.op.Op.TheVariants as op
+use Rattle.fs_model.specs.declared.reply.Reply.{Reply}
+use Rattle.fs_msg.specs.declared.answer.Answer.TheVariants.{Led}
+use Rattle.fs_msg.specs.declared.client_msg.ClientMsg.TheVariants.{Lead}
+use Rattle.fs_msg.specs.declared.item.Item.{Item}
+use Rattle.fs_msg.specs.declared.lead.Lead.{Lead as ToLead}
+use Rattle.fs_record.specs.Applied.{records_after_all}
+use Rattle.fs_record.specs.LedEffects.{led_effects}
+use Rattle.fs_record.specs.declared.led_end.LedEnd.{LedEnd}
+use Rattle.fs_record.specs.declared.led_end.LedEnd.TheVariants as end
+use Rattle.fs_record.specs.declared.led_end.Why.TheVariants as why
+use Rattle.fs_server.specs.Leads.{led_item, reply_of}
+use Rattle.fs_server.specs.Ships.{item_of}
+use Rattle.fs_server.specs.declared.state.Server.{Server}
+use Rattle.fs_client.specs.Answers.{answer_fits}
+use Rattle.fs_client.specs.Led.{can_end_with, end_fits, is_led, lead_of}
+use Rattle.fs_client.specs.declared.exchange.Exchange.{Exchange}
+use Rattle.fs_client.specs.declared.exchange.Exchange.TheVariants.{Asks, Renews, Releases, Ships, Leads}
+use Rattle.fs_client.specs.declared.led.Led.{Led as TheLed}
+use Rattle.fs_client.specs.declared.state.Client.{Client}
+use Rattle.fs_serial.specs.Commits.{IsCommitted, with_commit, with_led}
+use Rattle.fs_serial.specs.Exchange.{IsQuestion, IsToBeLed, server_of_question}
+use Rattle.fs_serial.specs.Fresh.{Reserves, reserved_by}
+use Rattle.fs_serial.specs.Led.{LedFits, LedStands}
+use Rattle.fs_serial.specs.Parts.{SessionFits, SessionHolds, with_client, with_replies}
+use Rattle.fs_serial.specs.Settled.{Lease, Settled, lease_after, led_done, led_ended, led_freed, led_over, settled_now, told}
+use Rattle.fs_serial.specs.Sight.{Sight, sight_of}
+use Rattle.fs_serial.specs.World.{GoesOn, HasNumber, World, WorldHolds, settled_at, sight_in, with_answer, without_question}
+use Rattle.fs_serial.proofs.Committed.{commit_keeps_parts}
+use Rattle.fs_serial.proofs.Committing.{led_reply}
+use Rattle.fs_serial.proofs.Counting.{given_by}
+use Rattle.fs_serial.proofs.Going.{carried_alike}
+use Rattle.fs_serial.proofs.Older.{later_itself}
+use Rattle.fs_serial.proofs.Seats.{settled_none}
+use Rattle.fs_serial.proofs.Sending.{asked, goes_bare, goes_of, goes_seen, world_answered}
+use Rattle.fs_serial.proofs.Together.{each_session, fewer_reserved}
+
+can_end : (o : Op) (r : Reply) → is_led o r ≡ true → can_end_with o (reply_of o) ≡ true
+can_end (op.Delete dir name) r h = refl
+can_end (op.Rename sdir sname ddir dname) r h = refl
+can_end o r h = absurd (cc)
+
+module _ (greatest : ℕ) (w : World) (by : Session) (m : ToLead) (up : (w.ends by).up ≡ Lead m ∷ []) (none : w.decided ≡ []) (h : WorldHolds greatest w) where
+  abbrev s : Server
+  s = w.server
+
+  abbrev c : Client
+  c = (w.ends by).client
+
+  abbrev base : Session → Settled
+  base x = settled_at x (w.ends x)
+
+  -- what it is asked to lead is led
+  pub to_lead : IsToBeLed c.led m
+  to_lead = (h.exchanges by).leads m (subst (λ ms. In (Lead m) ms) (sym up) (inl refl))
+
+  abbrev l : TheLed
+  l = to_lead.led
+
+  pub led_is : (base by).led ≡ Some l
+  led_is = ap (λ (x : Settled). x.led) (settled_none by (w.ends by).down (settled_now c) (asked greatest w s w.journal by (Lead m) (Led (end.Again why.Changed)) up h).silent) ∙ to_lead.is
+
+  pub led_stands : LedStands s.skew greatest (sight_in w) by (base by) l
+  led_stands = subst (LedFits s.skew greatest (sight_in w) by (base by)) led_is (h.all.fitting by).led
+
+  -- its end fits
+  end_fits_there : (e : LedEnd) → end_fits (Some l) e ≡ true → (x : Exchange) → c.exchange ≡ Some x → IsQuestion x (Lead m) → answer_fits (server_of_question x) x (Led e) c ≡ true
+  end_fits_there e f (Leads to) is q = joined _ _ (nat_eq_equiv.refl to) (ap (λ o. end_fits o e) to_lead.is ∙ f)
+  end_fits_there e f (Asks to items fresh) is q = absurd (cc)
+  end_fits_there e f (Renews to numbers) is q = absurd q
+  end_fits_there e f (Releases to numbers) is q = absurd q
+  end_fits_there e f (Ships to count) is q = absurd q
+
+  ended_is : (e : LedEnd) → told by (Led e) (base by) ≡ led_over by l e (base by)
+  ended_is e = ap (λ o. led_ended by o e (base by)) led_is
+
+  goes : GoesOn s.skew greatest (sight_in w) w.replied w.ends base
+  goes = goes_of greatest w h
+
+  -- ## It is put off or aborted
+
+  freed_goes : GoesOn s.skew greatest (sight_in w) w.replied w.ends (with_client by (led_freed (base by)) base)
+  freed_goes = record {
+    all = record {
+      servers = goes.all.servers;
+      kept = goes.all.kept;
+      sessions = each_session (λ x d. SessionHolds s.skew greatest (sight_in w) x (w.replied x) d) by (led_freed (base by)) base
+          (let q = goes.all.sessions by in record { backed = q.backed; telling = q.telling; pending = q.pending; numbers = q.numbers; replies = q.replies })
+          (λ x other. goes.all.sessions x);
+      fitting = each_session (λ x d. SessionFits s.skew greatest (sight_in w) x d) by (led_freed (base by)) base
+          (let q = goes.all.fitting by in record { given = q.given; distinct = q.distinct; matching = q.matching; fresh = q.fresh; held = q.held; backed = q.backed; entries = q.entries; once = q.once; refused = q.refused; led = tt })
+          (λ x other. goes.all.fitting x);
+      reserved = fewer_reserved (reserved_by base) (reserved_by (with_client by (led_freed (base by)) base)) (sight_in w).records (sight_in w).journal
+          (each_session (λ x (d : Settled). (n : LeaseNo) (i : List ℕ) → Reserves d.leases n i → Reserves (base x).leases n i) by (led_freed (base by)) base (λ n i r. r) (λ x other n i r. r)) goes.all.reserved;
+    };
+    carried = carried_alike s.skew greatest (sight_in w) w.ends base by (led_freed (base by)) (λ l i. record { lease = l; held = i; number = refl }) (λ l i. record { lease = l; held = i; number = refl }) goes.carried;
+  }
+
+  -- so many transactions were begun then
+  pub world_freed : (txns : ℕ) (e : LedEnd) → end_fits (Some l) e ≡ true → led_over by l e (base by) ≡ led_freed (base by)
+      → WorldHolds greatest (record { server = record s { txns = txns }; counts = w.counts; decided = w.decided; journal = w.journal; replied = w.replied; ends = with_answer by (Led e) (without_question by w.ends) })
+  world_freed txns e fits freed =
+      let t : Server = record s { txns = txns } in
+      world_answered greatest w t w.journal by (Lead m) (Led e) up h w.replied refl h.clock (later_itself (given_by w.counts s) s.rows)
+      (subst (λ d. GoesOn s.skew greatest (sight_in w) w.replied w.ends (with_client by d base)) (sym (ended_is e ∙ freed)) freed_goes)
+      refl (end_fits_there e fits) (λ ends x q. absurd (cc))
+
+  -- ## It is admitted
+
+  module _ (committed : IsCommitted (sight_of w.counts s w.journal) by (base by) l.entry l.file) where
+    abbrev bare : Sight
+    bare = sight_of w.counts s w.journal
+
+    abbrev after : Sight
+    after = with_commit by l.file l.entry bare
+
+    abbrev told_then : Session → List Item
+    told_then = with_replies by (w.replied by ++ item_of by l.entry ∷ []) w.replied
+
+    abbrev then : Settled
+    then = with_led by l.file l.entry (base by)
+
+    bare_goes : GoesOn s.skew greatest bare w.replied w.ends base
+    bare_goes = goes_bare w.counts w.decided s.skew greatest s w.journal w.replied w.ends base none goes
+
+    numbers_then : (x : Lease) → In x then.leases → HasNumber (base by).leases x.no
+    numbers_then x i = let q = In-map (lease_after by (led_effects l.entry.op l.file l.entry.reply)) x (base by).leases i in record { lease = q.0; held = q.1.0; number = ap (λ (y : Lease). y.no) (sym q.1.1) }
+
+    numbers_still : (x : Lease) → In x (base by).leases → HasNumber then.leases x.no
+    numbers_still x i = let f = lease_after by (led_effects l.entry.op l.file l.entry.reply) in record { lease = f x; held = In-mapped f x (base by).leases i; number = refl }
+
+    commit_goes : GoesOn s.skew greatest after told_then w.ends (with_client by then base)
+    commit_goes =
+        let q = carried_alike s.skew greatest bare w.ends base by then numbers_then numbers_still bare_goes.carried in
+        record {
+          all = commit_keeps_parts s.skew greatest bare w.replied base by l.entry l.file bare_goes.all committed;
+          carried = record { returns = q.returns; renewals = q.renewals; later = q.later };
+        }
+
+    same_reply : reply_of l.entry.op ≡ l.entry.reply
+    same_reply = led_reply l.entry.op l.entry.reply led_stands.leads
+
+    told_led : told by (Led (end.Done (reply_of l.entry.op))) (base by) ≡ then
+    told_led = ended_is (end.Done (reply_of l.entry.op)) ∙ ap (λ r. led_done by (led_effects l.entry.op l.file r) (base by)) same_reply
+
+    pub world_led : (txns : ℕ)
+        → WorldHolds greatest (record { server = record s { txns = txns; records = records_after_all s.records (led_effects m.op m.file (reply_of m.op)) }; counts = w.counts; decided = w.decided; journal = w.journal ++ led_item by m ∷ []; replied = with_replies by (w.replied by ++ led_item by m ∷ []) w.replied; ends = with_answer by (Led (end.Done (reply_of m.op))) (without_question by w.ends) })
+    world_led txns =
+        let e = end.Done (reply_of l.entry.op) in
+        let t : Server = record s { txns = txns; records = records_after_all s.records (led_effects l.entry.op l.file (reply_of l.entry.op)) } in
+        let item : Item = led_item by (lead_of l) in
+        let goes_then : GoesOn s.skew greatest (sight_of w.counts t (w.journal ++ item ∷ [])) (with_replies by (w.replied by ++ item ∷ []) w.replied) w.ends (with_client by (told by (Led e) (base by)) base) =
+        subst (λ d. GoesOn s.skew greatest (sight_of w.counts t (w.journal ++ item ∷ [])) (with_replies by (w.replied by ++ item ∷ []) w.replied) w.ends (with_client by d base)) (sym told_led)
+        (subst (λ r. let x : Item = record (item_of by l.entry) { reply = r } in GoesOn s.skew greatest (sight_of w.counts (record s { txns = txns; records = records_after_all s.records (led_effects l.entry.op l.file r) }) (w.journal ++ x ∷ [])) (with_replies by (w.replied by ++ x ∷ []) w.replied) w.ends (with_client by then base)) (sym same_reply) commit_goes) in
+        subst (λ (n : ToLead). WorldHolds greatest (record { server = record s { txns = txns; records = records_after_all s.records (led_effects n.op n.file (reply_of n.op)) }; counts = w.counts; decided = w.decided; journal = w.journal ++ led_item by n ∷ []; replied = with_replies by (w.replied by ++ led_item by n ∷ []) w.replied; ends = with_answer by (Led (end.Done (reply_of n.op))) (without_question by w.ends) })) (sym to_lead.told)
+        (world_answered greatest w t (w.journal ++ item ∷ []) by (Lead m) (Led e) up h (with_replies by (w.replied by ++ item ∷ []) w.replied) refl h.clock (later_itself (given_by w.counts s) s.rows)
+        (goes_seen w.counts w.decided s.skew greatest t (w.journal ++ item ∷ []) (with_replies by (w.replied by ++ item ∷ []) w.replied) w.ends (with_client by (told by (Led e) (base by)) base) none goes_then)
+        refl (end_fits_there e (can_end l.entry.op l.entry.reply led_stands.leads)) (λ ends x q. absurd (cc)))
