@@ -56,12 +56,16 @@ fn wait_for_each(rt: &impl Abort, alloc: Global, rows: &mut Rows) -> Result<(), 
     Ok(())
 }
 
+fn ask_for_each(rt: &impl Abort, alloc: Global, rows: &mut Rows) -> Result<(), Fail> {
+    grant_each(rt, alloc, rows)?;
+    wait_for_each(rt, alloc, rows)
+}
+
 #[test]
 fn many_files_are_asked_for(rt: HostRuntime) -> Result<(), Fail> {
     let alloc = rt.alloc();
     let mut rows = Rows::new(alloc);
-    let granted = grant_each(&rt, alloc, &mut rows);
-    let waited = wait_for_each(&rt, alloc, &mut rows);
+    let done = ask_for_each(&rt, alloc, &mut rows);
     spend(rows);
-    granted.and(waited)
+    done
 }
