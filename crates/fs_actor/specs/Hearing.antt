@@ -1,5 +1,5 @@
 -- What an actor hears of what its links join.
-use Rattle.std.specs.Prelude.{◌==◌, List, [], ◌∷◌, Option, Some, None, is_some, if◌then◌else◌}
+use Rattle.std.specs.Prelude.{ℕ, ◌==◌, List, [], ◌∷◌, Option, Some, None, is_some, if◌then◌else◌}
 use Rattle.fs_ident.specs.declared.actor.Peer.{Peer}
 use Rattle.fs_ident.specs.declared.actor.Peer.TheVariants.{Client, Server}
 use Rattle.fs_frag.specs.declared.joined.Joined.{Joined}
@@ -35,6 +35,11 @@ answer_of m = None
 
 abbrev pub answer_heard : List Joined → Option Answer
 answer_heard joined = answer_of (message_heard joined)
+
+-- of servers alone: the server's number and its answer
+abbrev pub answer_from : Peer → Option Msg → Option (ℕ × Answer)
+answer_from (Server k) (Some (msg.Answer a)) = Some (k, a)
+answer_from from m = None
 
 -- a server hears the questions of a session, and what another server hands over
 abbrev pub event_of : Peer → Option Msg → Option ServerEvent

@@ -1,7 +1,7 @@
 //! A client's events, over its core and its links.
 ghost use Rattle.std.specs.Prelude.{◌≡◌, ◌≤◌, true, false, None, Some, IfOk, IsErrOf, OnErr, OnOk};
 ghost use Rattle.fs_actor.specs.Actor.{client_acts, client_does, client_goes, client_hears, client_noted, client_turns, is_full_up, post_after};
-ghost use Rattle.fs_actor.specs.Comes.{client_comes, client_took};
+ghost use Rattle.fs_actor.specs.Comes.{client_took};
 ghost use Rattle.fs_actor.specs.Events.{ClientDid};
 ghost use Rattle.fs_actor.specs.Hearing.{answer_heard, unheard_note};
 ghost use Rattle.fs_client.specs.Answers.{answer_plan};
@@ -15,14 +15,14 @@ ghost use Rattle.fs_record.specs.Effects.{tells_its_effects};
 ghost use Rattle.fs_window.specs.Post.{post_due};
 
 use crate::finished::finished;
-use crate::hearing::{answer_heard, heard_in, unheard_note};
+use crate::hearing::{answer_heard, unheard_note};
 use crate::noted::{act_noted, client_noted};
 use crate::pushes::push_up;
 use fs_client::{ClientCore, Plan, Ready};
 use fs_ident::{List, Memory, Peer, Session};
 use fs_model::Op;
 use fs_msg::{Answer, ClientMsg, ClientOut, CoreError, Item, Note};
-use fs_window::{Heard, Packet, Post, Sent, Undo};
+use fs_window::{Heard, Post, Sent, Undo};
 use std::alloc::Global;
 
 /// What came of an event of a client: what is noted, what it finished, and the packets that go out.
@@ -46,7 +46,7 @@ pub fn client_acts(
     requires reading { now ≤ LATEST }
     requires asked { may_ask op.now ≡ true }
     requires plain { tells_its_effects op.now ≡ true }
-    ensures done { IfOk result (ClientDid s client.old.log
+    ensures done { IfOk result (ClientDid s client.old
         (client_acts now op.now (record { client = client.old; post = post.old }))
         client.new post.new) }
     ensures spent { (counter : TheCounter) → IsErrOf result (errors.Spent counter) →
@@ -69,7 +69,7 @@ pub fn client_turns(
     post: &mut Post,
 ) -> Result<ClientEvent, CoreError>
     requires reading { now ≤ LATEST }
-    ensures done { IfOk result (ClientDid s client.old.log
+    ensures done { IfOk result (ClientDid s client.old
         (client_turns now (record { client = client.old; post = post.old }))
         client.new post.new) }
     ensures spent { (counter : TheCounter) → IsErrOf result (errors.Spent counter) →
@@ -82,40 +82,8 @@ pub fn client_turns(
     does(alloc, s, true, None, plan, client, post)
 }
 
-/// A packet of another actor comes to the client. `Spent` where the event needs a number after that counter's last one.
-/// After an error all is as it was.
-pub fn client_told(
-    alloc: Global,
-    now: u64,
-    s: Session,
-    from: Peer,
-    p: &Packet,
-    client: &mut ClientCore,
-    post: &mut Post,
-) -> Result<ClientEvent, CoreError>
-    requires reading { now ≤ LATEST }
-    ensures done { IfOk result (ClientDid s client.old.log
-        (client_comes now from p.now (record { client = client.old; post = post.old }))
-        client.new post.new) }
-    ensures spent { (counter : TheCounter) → IsErrOf result (errors.Spent counter) →
-        (client_comes now from p.now (record { client = client.old; post = post.old })).spent ≡
-        Some counter }
-    ensures err_client { OnErr result (client.new ≡ client.old) }
-    ensures err_post { OnErr result (post.new ≡ post.old) }
-{
-    let mut undo = Undo::new(alloc);
-    let heard = post.accept_with_undo(alloc, from, p, &mut undo)?;
-    match took(alloc, now, s, from, heard_in(from, p), &heard, client, post) {
-        Ok(event) => Ok(event),
-        Err(e) => {
-            post.undo(undo);
-            Err(e)
-        }
-    }
-}
-
-/// The links took the actor's packet, and gave this. A client hears servers alone.
-fn took(
+/// The links took the actor's packet, and gave this: one message at most. A client hears servers alone.
+pub(crate) fn took(
     alloc: Global,
     now: u64,
     s: Session,
@@ -126,7 +94,7 @@ fn took(
     post: &mut Post,
 ) -> Result<ClientEvent, CoreError>
     requires reading { now ≤ LATEST }
-    ensures done { IfOk result (ClientDid s client.old.log
+    ensures done { IfOk result (ClientDid s client.old
         (client_took now from replied heard.now (record { client = client.old; post = post.old }))
         client.new post.new) }
     ensures spent { (counter : TheCounter) → IsErrOf result (errors.Spent counter) →
@@ -153,7 +121,7 @@ fn hears(
     post: &mut Post,
 ) -> Result<ClientEvent, CoreError>
     requires reading { now ≤ LATEST }
-    ensures done { IfOk result (ClientDid s client.old.log
+    ensures done { IfOk result (ClientDid s client.old
         (client_hears now k replied heard.now (answer_heard heard.now.joined)
         (record { client = client.old; post = post.old })) client.new post.new) }
     ensures spent { (counter : TheCounter) → IsErrOf result (errors.Spent counter) →
@@ -180,7 +148,7 @@ fn takes(
     post: &mut Post,
 ) -> Result<ClientEvent, CoreError>
     requires reading { now ≤ LATEST }
-    ensures done { IfOk result (ClientDid s client.old.log
+    ensures done { IfOk result (ClientDid s client.old
         (client_does false replied false (client_noted (answer_plan client.old now k a.now))
         (record { client = client.old; post = post.old })) client.new post.new) }
     ensures spent { (counter : TheCounter) → IsErrOf result (errors.Spent counter) →
@@ -202,7 +170,7 @@ fn passes(
     client: &ClientCore,
     post: &mut Post,
 ) -> Result<ClientEvent, CoreError>
-    ensures done { IfOk result (ClientDid s client.now.log
+    ensures done { IfOk result (ClientDid s client.now
         (client_goes false replied (unheard_note heard.now)
         (record { client = client.now; post = post.old })) client.now post.new) }
     ensures unspent { (counter : TheCounter) → IsErrOf result (errors.Spent counter) → ⊥ }
@@ -226,7 +194,7 @@ fn does(
     post: &mut Post,
 ) -> Result<ClientEvent, CoreError>
     requires { can_commit plan.ready client.old ≡ true }
-    ensures done { IfOk result (ClientDid s client.old.log
+    ensures done { IfOk result (ClientDid s client.old
         (client_does turn heard false plan (record { client = client.old; post = post.old }))
         client.new post.new) }
     ensures spent { (counter : TheCounter) → IsErrOf result (errors.Spent counter) →
@@ -241,7 +209,7 @@ fn does(
         send,
         admitted,
     } = out;
-    match finished(alloc, s, client.log(), admitted, &note) {
+    match finished(alloc, s, client, admitted, &note) {
         Ok(finished) => match sends(alloc, turn, heard, send, ready, client, post) {
             Ok(packets) => Ok(ClientEvent {
                 note,

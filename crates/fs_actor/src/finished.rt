@@ -1,28 +1,53 @@
 //! What a client finishes in an event.
 ghost use Rattle.std.specs.Prelude.{◌≡◌, IfOk, take};
-ghost use Rattle.fs_actor.specs.Finished.{finished, shipped_count};
-ghost use Rattle.fs_actor.specs.Several.{listed};
+ghost use Rattle.std.specs.Option.{option_copied};
+ghost use Rattle.fs_actor.specs.Finished.{finished, led_item, shipped_count};
+ghost use Rattle.fs_actor.specs.Listed.{listed};
 ghost use Rattle.fs_server.specs.Ships.{item_of};
 
+use crate::lists::add;
+use fs_client::{ClientCore, Led};
 use fs_ident::{List, Memory, Peer, Session, Twin};
 use fs_msg::{ClientNote, Entry, Item, Note};
 use std::alloc::Global;
 
-/// What the client of the session read and admitted at once, and the entries at the front of its log that are admitted, as it is told.
+/// What the client of the session read and admitted at once, the entries at the front of its log that are admitted, and what a server
+/// led, as it is told.
 pub(crate) fn finished(
     alloc: Global,
     s: Session,
-    log: &[Entry],
+    client: &ClientCore,
     read: Option<Item>,
     note: &Note,
 ) -> Result<List<Item>, Memory>
-    ensures { IfOk result (λ items. items ≡ finished s log.now read note.now) }
+    ensures { IfOk result (λ items. items ≡ finished s client.now read note.now) }
 {
     let mut items = listed(alloc, read)?;
-    for entry in front(log, shipped_count(note) as usize) {
+    for entry in front(client.log(), shipped_count(note) as usize) {
         items.push(item_of(alloc, s, entry)?)?;
     }
+    add(&mut items, led_item(alloc, s, note, client.led())?)?;
     Ok(items)
+}
+
+/// What a server led is admitted with this reply, as the client is told.
+fn led_item(
+    alloc: Global,
+    s: Session,
+    note: &Note,
+    led: Option<&Led>,
+) -> Result<Option<Item>, Memory>
+    ensures { IfOk result (λ item. item ≡ led_item s note.now (option_copied led.entry)) }
+{
+    match (note, led) {
+        (Note::Client(ClientNote::Led { n, reply }), Some(led)) => Ok(Some(Item {
+            by: Peer::Client(s),
+            n: *n,
+            op: led.entry.op.copy(alloc)?,
+            reply: reply.copy(alloc)?,
+        })),
+        _ => Ok(None),
+    }
 }
 
 /// The item alone, if there is one.

@@ -1,6 +1,6 @@
 //! What an actor hears of what its links join.
 ghost use Rattle.std.specs.Prelude.{◌≡◌, ◌≢◌, IfOk, IfSome, None, OnOk};
-ghost use Rattle.fs_actor.specs.Hearing.{answer_heard, answer_of, event_heard, event_of, heard_in, message_heard, message_in, quiet_note, unheard_note};
+ghost use Rattle.fs_actor.specs.Hearing.{answer_from, answer_heard, answer_of, event_heard, event_of, heard_in, message_heard, message_in, quiet_note, unheard_note};
 ghost use Rattle.fs_actor.specs.Whole.{whole_message};
 ghost use Rattle.fs_msg.specs.Ranges.{FitsMessage};
 ghost use Rattle.fs_msg.specs.declared.error.MsgError.TheVariants as errors;
@@ -29,6 +29,29 @@ pub fn event_heard(
     ensures told { IfOk result (λ e. IfSome e CanBeTold) }
 {
     Ok(event_of(from, message_heard(alloc, joined)?))
+}
+
+/// The answer that a client hears of what was joined, with the number of its server, if it is one.
+pub(crate) fn answer_in(
+    alloc: Global,
+    from: Peer,
+    joined: &Joined,
+) -> Result<Option<(u8, Answer)>, Memory>
+    ensures { IfOk result (λ a. a ≡ answer_from from (message_in joined.now)) }
+{
+    Ok(answer_from(from, message_in(alloc, joined)?))
+}
+
+/// The event that a server hears of what was joined, if it is one. It can be told to a core.
+pub(crate) fn event_in(
+    alloc: Global,
+    from: Peer,
+    joined: &Joined,
+) -> Result<Option<ServerEvent>, Memory>
+    ensures event { IfOk result (λ e. e ≡ event_of from (message_in joined.now)) }
+    ensures told { IfOk result (λ e. IfSome e CanBeTold) }
+{
+    Ok(event_of(from, message_in(alloc, joined)?))
 }
 
 /// What is noted where an actor heard no message.
@@ -65,6 +88,16 @@ fn answer_of(m: Option<Msg>) -> Option<Answer>
 {
     match m {
         Some(Msg::Answer(a)) => Some(a),
+        _ => None,
+    }
+}
+
+/// The answer that the message of the actor is, if the actor is a server and it is one.
+fn answer_from(from: Peer, m: Option<Msg>) -> Option<(u8, Answer)>
+    ensures { result ≡ answer_from from m }
+{
+    match (from, m) {
+        (Peer::Server(k), Some(Msg::Answer(a))) => Some((k, a)),
         _ => None,
     }
 }

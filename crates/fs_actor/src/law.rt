@@ -1,11 +1,12 @@
 //! The laws of what is read and heard.
 ghost use Rattle.std.specs.Prelude.{◌≡◌, ◌≤◌, List, Some, length, ℕ};
-ghost use Rattle.fs_actor.specs.Actor.{ClientSide, ServerSide, client_told, server_told};
+ghost use Rattle.fs_actor.specs.Actor.{ClientSide, ServerSide, server_told};
+ghost use Rattle.fs_actor.specs.Comes.{client_comes};
 ghost use Rattle.fs_actor.specs.Laws.{client_alone, server_alone};
 ghost use Rattle.fs_actor.specs.Several.{client_told_all, server_told_all};
 ghost use Rattle.fs_actor.specs.Whole.{whole_message};
 ghost use Rattle.fs_ident.specs.declared.actor.Peer.{Peer};
-ghost use Rattle.fs_ident.specs.declared.actor.Peer.TheVariants.{Server};
+ghost use Rattle.fs_ident.specs.declared.actor.Session.{Session};
 ghost use Rattle.fs_msg.specs.Ranges.{FitsMessage};
 ghost use Rattle.fs_msg.specs.Spelling.{message};
 ghost use Rattle.fs_msg.specs.declared.msg.Msg.{Msg};
@@ -23,9 +24,9 @@ pub fn a_message_is_read_from_its_bytes()
 /// An actor hears all that a packet joined, one message after another, and then what is due goes out. Where that is one message at
 /// most, as with links of one segment, it is the event of that one.
 pub fn one_message_is_heard_as_one()
-    ensures client { (now k : ℕ) (p : Packet) (x : ClientSide) →
-        length (post_accepted x.post (Server k) p).heard.joined ≤ 1 →
-        client_told_all now k p x ≡ client_alone (client_told now k p x) }
+    ensures client { (s : Session) (now : ℕ) (from : Peer) (p : Packet) (x : ClientSide) →
+        length (post_accepted x.post from p).heard.joined ≤ 1 →
+        client_told_all s now from p x ≡ client_alone s x.client (client_comes now from p x) }
     ensures server { (now : ℕ) (from : Peer) (p : Packet) (x : ServerSide) →
         length (post_accepted x.post from p).heard.joined ≤ 1 →
         server_told_all now from p x ≡ server_alone (server_told now from p x) }

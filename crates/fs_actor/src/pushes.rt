@@ -42,7 +42,7 @@ pub(crate) fn push_up(
     undo: &mut Undo,
 ) -> Result<(), CoreError>
     ensures ok { OnOk result (post.new ≡ post_after send post.old) }
-    ensures undo { OnOk result (undone undo.new post.new ≡ undone undo.old post.old) }
+    ensures undo { undone undo.new post.new ≡ undone undo.old post.old }
     ensures spent { (counter : TheCounter) → IsErrOf result (errors.Spent counter) →
         (counter ≡ Segments) × (is_full_up send post.old ≡ true) }
     ensures room { OnOk result (is_full_up send post.old ≡ false) }

@@ -1,6 +1,6 @@
 //! A server's events, over its core and its links.
 ghost use Rattle.std.specs.Prelude.{◌≡◌, ◌≤◌, true, false, None, Some, IfOk, IsErrOf, OnErr, OnOk};
-ghost use Rattle.fs_actor.specs.Actor.{is_full_down, server_does, server_goes, server_hears, server_steps, server_told, with_pushed};
+ghost use Rattle.fs_actor.specs.Actor.{is_full_down, server_does, server_goes, server_hears, server_steps, with_pushed};
 ghost use Rattle.fs_actor.specs.Events.{ServerDid};
 ghost use Rattle.fs_actor.specs.Hearing.{event_heard, unheard_note};
 ghost use Rattle.fs_ident.specs.declared.limits.TheConstants.{LATEST};
@@ -12,12 +12,12 @@ ghost use Rattle.fs_server.specs.Step.{CanBeTold};
 ghost use Rattle.fs_window.specs.Post.{post_due};
 ghost use Rattle.fs_window.specs.Undo.{undone};
 
-use crate::hearing::{event_heard, heard_in, unheard_note};
+use crate::hearing::{event_heard, unheard_note};
 use crate::pushes::push_all;
 use fs_ident::{List, Memory, Peer};
 use fs_msg::{CoreError, Item};
 use fs_server::{Plan, ServerCore, ServerEvent};
-use fs_window::{Heard, Packet, Post, Sent, Undo};
+use fs_window::{Heard, Post, Sent, Undo};
 use std::alloc::Global;
 use std::mem;
 
@@ -28,39 +28,8 @@ pub struct ServerTold {
     pub packets: List<Sent>,
 }
 
-/// A packet of another actor comes to the server. `Spent` where the event needs a number after that counter's last one.
-/// After an error all is as it was.
-pub fn server_told(
-    alloc: Global,
-    now: u64,
-    from: Peer,
-    p: &Packet,
-    server: &mut ServerCore,
-    post: &mut Post,
-) -> Result<ServerTold, CoreError>
-    requires reading { now ≤ LATEST }
-    ensures done { IfOk result (ServerDid
-        (server_told now from p.now (record { server = server.old; post = post.old }))
-        server.new post.new) }
-    ensures spent { (counter : TheCounter) → IsErrOf result (errors.Spent counter) →
-        (server_told now from p.now (record { server = server.old; post = post.old })).spent ≡
-        Some counter }
-    ensures err_server { OnErr result (server.new ≡ server.old) }
-    ensures err_post { OnErr result (post.new ≡ post.old) }
-{
-    let mut undo = Undo::new(alloc);
-    let heard = post.accept_with_undo(alloc, from, p, &mut undo)?;
-    match hears(alloc, now, from, heard_in(from, p), &heard, server, post) {
-        Ok(event) => Ok(event),
-        Err(e) => {
-            post.undo(undo);
-            Err(e)
-        }
-    }
-}
-
 /// What the actor's packet gave is read: it brought no message for a server, or one.
-fn hears(
+pub(crate) fn hears(
     alloc: Global,
     now: u64,
     from: Peer,

@@ -1,8 +1,8 @@
 -- A client as a node runs it.
 use Rattle.std.specs.Prelude.{ℕ, ◌+◌, min, nat_lt, Bool, true, false, not, ◌&&◌, ◌||◌, is_some, List, length, flat_map, slice_get, Option, Some, None, if◌then◌else◌}
 use Rattle.fs_actor.specs.Actor.{ClientSide, ClientStep, client_acts, client_turns}
-use Rattle.fs_actor.specs.Comes.{client_comes}
-use Rattle.fs_actor.specs.Finished.{finished}
+use Rattle.fs_actor.specs.Laws.{client_alone}
+use Rattle.fs_actor.specs.Several.{ClientRun, client_told_all}
 use Rattle.fs_client.specs.Client.{first_client}
 use Rattle.fs_ident.specs.declared.actor.Peer.TheVariants.{Client}
 use Rattle.fs_ident.specs.declared.actor.Session.{Session}
@@ -11,7 +11,6 @@ use Rattle.fs_io.specs.Calls.{Datagram}
 use Rattle.fs_io.specs.Faults.{raised}
 use Rattle.fs_model.specs.declared.op.Op.{Op}
 use Rattle.fs_msg.specs.declared.act.Act.TheVariants.{Replied, ReadNow, NoIds}
-use Rattle.fs_msg.specs.declared.item.Item.{Item}
 use Rattle.fs_msg.specs.declared.note.Note.{Note}
 use Rattle.fs_msg.specs.declared.note.Note.TheVariants.{Act}
 use Rattle.fs_report.specs.Report.{item_text}
@@ -53,17 +52,17 @@ lines_done n = 0
 
 -- ## A turn
 
--- it finished these, and each has its line
-abbrev pub with_event : ClientStep → List Item → ClientState → Stepped ClientState
-with_event y items x = record {
-  after = record x { client = y.client; post = y.post; admitted = raised_by x.admitted (length items) };
+-- each item that it finished has its line
+abbrev pub after_run : ClientRun → ClientState → Stepped ClientState
+after_run y x = record {
+  after = record x { client = y.client; post = y.post; admitted = raised_by x.admitted (length y.finished) };
   due = due_of x.peers y.packets;
-  lines = flat_map item_text items;
+  lines = flat_map item_text y.finished;
   spent = y.spent;
 }
 
 abbrev pub after_event : ClientStep → ClientState → Stepped ClientState
-after_event y x = with_event y (finished x.session x.client.log y.admitted y.note) x
+after_event y x = after_run (client_alone x.session x.client y) x
 
 -- it was asked for a line of the script
 abbrev pub after_line : ClientStep → ClientState → Stepped ClientState
@@ -83,7 +82,7 @@ abbrev pub client_idles : ℕ → ClientState → Stepped ClientState
 client_idles now x = client_asks now (next_asked x) (record x { odd = not x.odd })
 
 abbrev pub client_at : ℕ → Arrival → ClientState → Stepped ClientState
-client_at now (Came from p) x = after_event (client_comes now from p (side_of x)) x
+client_at now (Came from p) x = after_run (client_told_all x.session now from p (side_of x)) x
 client_at now Dropped x = client_idles now (record x { dropped = raised x.dropped })
 client_at now Quiet x = client_idles now x
 

@@ -1,6 +1,8 @@
 -- A server as a node runs it.
 use Rattle.std.specs.Prelude.{ℕ, ◌+◌, min, nat_lt, Bool, true, false, not, List, length, flat_map, slice_get, Option, Some, None, if◌then◌else◌}
-use Rattle.fs_actor.specs.Actor.{ServerSide, ServerStep, server_steps, server_told}
+use Rattle.fs_actor.specs.Actor.{ServerSide, ServerStep, server_steps}
+use Rattle.fs_actor.specs.Laws.{server_alone}
+use Rattle.fs_actor.specs.Several.{ServerRun, server_told_all}
 use Rattle.fs_ident.specs.declared.actor.Peer.TheVariants.{Server}
 use Rattle.fs_ident.specs.declared.limits.TheConstants.{LATEST}
 use Rattle.fs_io.specs.Calls.{Datagram}
@@ -41,13 +43,16 @@ side_of x = record { server = x.server; post = x.post }
 -- ## A turn
 
 -- each item that it admitted has its line
-abbrev pub after_event : ServerStep → ServerState → Stepped ServerState
-after_event y x = record {
+abbrev pub after_run : ServerRun → ServerState → Stepped ServerState
+after_run y x = record {
   after = record x { server = y.server; post = y.post; admitted = raised_by x.admitted (length y.admitted) };
   due = due_of x.peers y.packets;
   lines = flat_map item_text y.admitted;
   spent = y.spent;
 }
+
+abbrev pub after_event : ServerStep → ServerState → Stepped ServerState
+after_event y x = after_run (server_alone y) x
 
 -- the script's event, if there is one to be taken, and its own turn otherwise
 abbrev pub server_takes : ℕ → Option ServerEvent → ServerState → Stepped ServerState
@@ -63,7 +68,7 @@ abbrev pub server_idles : ℕ → ServerState → Stepped ServerState
 server_idles now x = server_takes now (next_event x) (record x { odd = not x.odd })
 
 abbrev pub server_at : ℕ → Arrival → ServerState → Stepped ServerState
-server_at now (Came from p) x = after_event (server_told now from p (side_of x)) x
+server_at now (Came from p) x = after_run (server_told_all now from p (side_of x)) x
 server_at now Dropped x = server_idles now (record x { dropped = raised x.dropped })
 server_at now Quiet x = server_idles now x
 

@@ -1,12 +1,12 @@
 //! The turns of a client's node.
 ghost use Rattle.std.specs.Prelude.{◌≡◌, ◌+◌, ◌^◌, ◌<◌, ◌≤◌, true, Some, IfOk, IsErrOf};
 ghost use Rattle.fs_actor.specs.Actor.{client_acts, client_turns};
-ghost use Rattle.fs_actor.specs.Comes.{client_comes};
+ghost use Rattle.fs_actor.specs.Several.{client_told_all};
 ghost use Rattle.fs_ident.specs.declared.limits.TheConstants.{LATEST};
 ghost use Rattle.fs_model.specs.Asking.{may_ask};
 ghost use Rattle.fs_msg.specs.declared.core_error.Counter.{Counter as TheCounter};
 ghost use Rattle.fs_msg.specs.declared.core_error.CoreError.TheVariants as errors;
-ghost use Rattle.fs_node.specs.ClientNode.{after_event, after_line, client_at, client_idles, is_open, lines_done, side_of};
+ghost use Rattle.fs_node.specs.ClientNode.{after_event, after_line, after_run, client_at, client_idles, is_open, lines_done, side_of};
 ghost use Rattle.fs_node.specs.Scripts.{AreAskable};
 ghost use Rattle.fs_node.specs.Turns.{TookTurn};
 ghost use Rattle.fs_record.specs.Effects.{tells_its_effects};
@@ -15,7 +15,7 @@ use crate::arrival::Arrival;
 use crate::client_state::ClientState;
 use crate::scripts::asked_by;
 use crate::turns::turn_of;
-use fs_actor::{ClientEvent, client_acts, client_told, client_turns};
+use fs_actor::{ClientEvent, ClientTold, client_acts, client_told_all, client_turns};
 use fs_ident::Peer;
 use fs_model::Op;
 use fs_msg::{Act, CoreError, Note};
@@ -52,16 +52,14 @@ impl ClientState {
     fn told(&mut self, alloc: Global, now: u64, from: Peer, p: &Packet) -> Result<Turn, CoreError>
         requires reading { now ≤ LATEST }
         ensures done { IfOk result (TookTurn
-            (after_event (client_comes now from p.now (side_of self.old)) self.old) self.new) }
+            (after_run (client_told_all self.old.session now from p.now (side_of self.old))
+            self.old) self.new) }
         ensures spent { (counter : TheCounter) → IsErrOf result (errors.Spent counter) →
-            (client_comes now from p.now (side_of self.old)).spent ≡ Some counter }
+            (client_told_all self.old.session now from p.now (side_of self.old)).spent ≡
+            Some counter }
         ensures script { self.new.script ≡ self.old.script }
     {
-        let ClientEvent {
-            note: _,
-            finished,
-            packets,
-        } = client_told(
+        let ClientTold { finished, packets } = client_told_all(
             alloc,
             now,
             self.session,

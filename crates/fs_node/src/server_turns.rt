@@ -1,10 +1,11 @@
 //! The turns of a server's node.
 ghost use Rattle.std.specs.Prelude.{◌≡◌, ◌≤◌, ◌+◌, ◌<◌, ◌^◌, Bool, None, Some, IfOk, IsErrOf, OnErr};
-ghost use Rattle.fs_actor.specs.Actor.{server_steps, server_told};
+ghost use Rattle.fs_actor.specs.Actor.{server_steps};
+ghost use Rattle.fs_actor.specs.Several.{server_told_all};
 ghost use Rattle.fs_ident.specs.declared.limits.TheConstants.{LATEST};
 ghost use Rattle.fs_msg.specs.declared.core_error.Counter.{Counter as TheCounter};
 ghost use Rattle.fs_msg.specs.declared.core_error.CoreError.TheVariants as errors;
-ghost use Rattle.fs_node.specs.ServerNode.{after_event, is_open, server_at, server_idles, server_takes, side_of};
+ghost use Rattle.fs_node.specs.ServerNode.{after_event, after_run, is_open, server_at, server_idles, server_takes, side_of};
 ghost use Rattle.fs_node.specs.Turns.{TookTurn};
 ghost use Rattle.fs_server.specs.Step.{CanBeTold};
 
@@ -12,7 +13,7 @@ use crate::arrival::Arrival;
 use crate::scripts::event_by;
 use crate::server_state::ServerState;
 use crate::turns::turn_of;
-use fs_actor::{ServerTold, server_steps, server_told};
+use fs_actor::{ServerTold, server_steps, server_told_all};
 use fs_ident::Peer;
 use fs_msg::CoreError;
 use fs_server::ServerEvent;
@@ -47,11 +48,11 @@ impl ServerState {
     fn told(&mut self, alloc: Global, now: u64, from: Peer, p: &Packet) -> Result<Turn, CoreError>
         requires reading { now ≤ LATEST }
         ensures done { IfOk result (TookTurn
-            (after_event (server_told now from p.now (side_of self.old)) self.old) self.new) }
+            (after_run (server_told_all now from p.now (side_of self.old)) self.old) self.new) }
         ensures spent { (counter : TheCounter) → IsErrOf result (errors.Spent counter) →
-            (server_told now from p.now (side_of self.old)).spent ≡ Some counter }
+            (server_told_all now from p.now (side_of self.old)).spent ≡ Some counter }
     {
-        let ServerTold { admitted, packets } = server_told(
+        let ServerTold { admitted, packets } = server_told_all(
             alloc,
             now,
             from,

@@ -13,10 +13,9 @@ ghost use Rattle.fs_world.specs.Served.{client_acts, client_told, client_turns};
 
 use crate::does::does;
 use crate::hears::hears;
-use crate::noted::{act_noted, client_noted};
 use crate::packets::Packets;
 use crate::seat::Seat;
-use fs_actor::heard_in;
+use fs_actor::{act_noted, client_noted, heard_in};
 use fs_ident::{List, Peer, Session};
 use fs_model::Op;
 use fs_msg::{CoreError, Item};

@@ -6,11 +6,10 @@ ghost use Rattle.fs_world.specs.Calls.{Spends, client_hears, client_takes, seat_
 
 use crate::does::does;
 use crate::goes::send_due;
-use crate::noted::client_noted;
 use crate::packets::Packets;
 use crate::removals::remove_first;
 use crate::seat::Seat;
-use fs_actor::{answer_heard, unheard_note};
+use fs_actor::{answer_heard, client_noted, unheard_note};
 use fs_ident::{List, Peer, Session};
 use fs_msg::{Answer, CoreError, Item};
 use fs_schedule::Outcome;

@@ -14,8 +14,6 @@ mod goes;
 mod hearing;
 mod hears;
 mod law;
-mod lists;
-mod noted;
 mod numbers;
 mod packets;
 mod pushes;

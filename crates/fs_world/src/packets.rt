@@ -4,7 +4,7 @@ ghost use Rattle.std.specs.Option.{option_copied};
 ghost use Rattle.fs_window.specs.declared.sent.Sent.{Sent as ThePacket};
 ghost use Rattle.fs_world.specs.Packets.{Packets as ThePackets, first_untold, no_packets, with_sent, with_told};
 
-use crate::lists::append;
+use fs_actor::append;
 use fs_ident::{List, Memory, Twin};
 use fs_window::Sent;
 use std::alloc::Global;

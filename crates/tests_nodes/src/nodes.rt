@@ -27,12 +27,12 @@ const NOBODY: Addr = Addr {
 };
 
 /// The packet of a client that asks for the life of the root.
-const QUESTION: [u8; 39] = [
+pub(crate) const QUESTION: [u8; 39] = [
     0x46, 0, 0, 0, 0, 0, 0, 0, 0, 1, 0, 0, 0, 0, 0, 0, 0, 0, 0, 0, 0, 0, 0, 0, 0, 13, 1, 0, 0, 0,
     0, 0, 0, 0, 1, 0, 128, 0, 0,
 ];
 
-fn same<T: PartialEq + Debug + Drop>(rt: &impl Abort, found: T, wanted: T) {
+pub(crate) fn same<T: PartialEq + Debug + Drop>(rt: &impl Abort, found: T, wanted: T) {
     assert_eq!(rt; found, wanted);
 }
 

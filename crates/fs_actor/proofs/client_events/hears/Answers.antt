@@ -13,7 +13,7 @@ returns-in-Some-clause-done c =
     let a = c.args in
     let n = c.takes.new in
     let heard : Some c.in-Some.a ≡ answer_heard a.heard.now.joined = sym c.in-Some.is ∙ c.in_ok-a.ensures ∙ ap answer_heard c.as_slice.ensures in
-    subst (λ (o : Option Answer). IfOk c.takes.result (ClientDid a.s a.client.now.log (client_hears a.now a.k a.replied a.heard.now o (record { client = a.client.now; post = a.post.now })) n.client n.post)) heard c.takes.ensures.done
+    subst (λ (o : Option Answer). IfOk c.takes.result (ClientDid a.s a.client.now (client_hears a.now a.k a.replied a.heard.now o (record { client = a.client.now; post = a.post.now })) n.client n.post)) heard c.takes.ensures.done
 
 pub returns-in-Some-clause-spent : goal.returns-in-Some-clause-spent
 returns-in-Some-clause-spent c =
@@ -26,7 +26,7 @@ returns-in-None-clause-done c =
     let a = c.args in
     let n = c.passes.new in
     let none : None ≡ answer_heard a.heard.now.joined = sym c.in-None.is ∙ c.in_ok-a.ensures ∙ ap answer_heard c.as_slice.ensures in
-    subst (λ (o : Option Answer). IfOk c.passes.result (ClientDid a.s a.client.now.log (client_hears a.now a.k a.replied a.heard.now o (record { client = a.client.now; post = a.post.now })) a.client.now n.post)) none c.passes.ensures.done
+    subst (λ (o : Option Answer). IfOk c.passes.result (ClientDid a.s a.client.now (client_hears a.now a.k a.replied a.heard.now o (record { client = a.client.now; post = a.post.now })) a.client.now n.post)) none c.passes.ensures.done
 
 pub returns-in-Some-clause-err_client : goal.returns-in-Some-clause-err_client
 returns-in-Some-clause-err_client c = c.takes.ensures.err_client

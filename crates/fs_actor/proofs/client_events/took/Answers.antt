@@ -11,7 +11,7 @@ pub returns-in-Server-clause-done : goal.returns-in-Server-clause-done
 returns-in-Server-clause-done c =
     let a = c.args in
     let n = c.hears.new in
-    subst (λ (f : Peer). IfOk c.hears.result (ClientDid a.s a.client.now.log (client_took a.now f a.replied a.heard.now (record { client = a.client.now; post = a.post.now })) n.client n.post)) (sym c.in-Server.is) c.hears.ensures.done
+    subst (λ (f : Peer). IfOk c.hears.result (ClientDid a.s a.client.now (client_took a.now f a.replied a.heard.now (record { client = a.client.now; post = a.post.now })) n.client n.post)) (sym c.in-Server.is) c.hears.ensures.done
 
 pub returns-in-Server-clause-spent : goal.returns-in-Server-clause-spent
 returns-in-Server-clause-spent c =
@@ -22,4 +22,4 @@ pub returns-in-Client-clause-done : goal.returns-in-Client-clause-done
 returns-in-Client-clause-done c =
     let a = c.args in
     let n = c.passes.new in
-    subst (λ (f : Peer). IfOk c.passes.result (ClientDid a.s a.client.now.log (client_took a.now f a.replied a.heard.now (record { client = a.client.now; post = a.post.now })) a.client.now n.post)) (sym c.in-Client.is) c.passes.ensures.done
+    subst (λ (f : Peer). IfOk c.passes.result (ClientDid a.s a.client.now (client_took a.now f a.replied a.heard.now (record { client = a.client.now; post = a.post.now })) a.client.now n.post)) (sym c.in-Client.is) c.passes.ensures.done
