@@ -37,7 +37,7 @@ fn led_item(
     note: &Note,
     led: Option<&Led>,
 ) -> Result<Option<Item>, Memory>
-    ensures { IfOk result (λ item. item ≡ led_item s note.now (option_copied led)) }
+    ensures { IfOk result (λ item. item ≡ led_item s note.now (option_copied led.entry)) }
 {
     match (note, led) {
         (Note::Client(ClientNote::Led { n, reply }), Some(led)) => Ok(Some(Item {

@@ -114,7 +114,7 @@ told_quiet by c (Led e) = led_quiet by c c.led e
 told_quiet by c (Recall n) = record { now = refl; admits = refl; tells = refl }
 
 -- the end of what is led fits only where something is
-led_end_fits : (from : ℕ) (x : Option Exchange) (e : LedEnd) (c : Client) → fits from x (Led e) c ≡ true → end_fits c.led e ≡ true
+pub led_end_fits : (from : ℕ) (x : Option Exchange) (e : LedEnd) (c : Client) → fits from x (Led e) c ≡ true → end_fits c.led e ≡ true
 led_end_fits from None e c h = absurd (cc)
 led_end_fits from (Some (Leads to)) e c h = second (to == from) (end_fits c.led e) h
 led_end_fits from (Some x) e c h = absurd (cc)

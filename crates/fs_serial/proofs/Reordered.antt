@@ -62,9 +62,9 @@ module _ (c : Client) (x : Option Exchange) (up : List ClientMsg) (front back : 
   ] refl
 
 same_one : (c : Client) (x : Option Exchange) (up : List ClientMsg) (down then : List Answer) → due then ≡ due down → OneExchange c x up down → OneExchange c x up then
-same_one c None up down then e h = (h.0, e ∙ h.1)
-same_one c (Some x) up down then e (inl h) = inl (record { message = h.message; asked = h.asked; question = h.question; silent = e ∙ h.silent })
-same_one c (Some x) up down then e (inr h) = inr (record { answer = h.answer; told = e ∙ h.told; asked = h.asked; fits = h.fits })
+same_one c None up before later e h = (h.0, e ∙ h.1)
+same_one c (Some x) up before later e (inl h) = inl (record { message = h.message; asked = h.asked; question = h.question; silent = e ∙ h.silent })
+same_one c (Some x) up before later e (inr h) = inr (record { answer = h.answer; told = e ∙ h.told; asked = h.asked; fits = h.fits })
 
 same_answers : (front back : List Answer) (a x : Answer) → In x (a ∷ (front ++ back)) → In x (front ++ a ∷ back)
 same_answers front back a x (inl e) = In-behind x front (a ∷ back) (inl e)

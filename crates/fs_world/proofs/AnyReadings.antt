@@ -1,5 +1,5 @@
 -- Whatever the clocks show, everything is at its place after every event.
-use Rattle.std.proofs.Common.{ℕ, ◌≤◌, max, List, [], ◌∷◌, ◌++◌}
+use Rattle.std.proofs.Common.{ℕ, ◌≤◌, max, List, [], ◌∷◌}
 use Rattle.fs_ident.specs.declared.actor.Session.{Session}
 use Rattle.fs_msg.specs.declared.item.Item.{Item}
 use Rattle.fs_schedule.specs.declared.event.Event.{Event}
@@ -12,7 +12,7 @@ use Rattle.fs_serial.specs.Runs.{IsOrderly}
 use Rattle.fs_serial.proofs.AnyReadings.{HoldsAnyhow, anyhow_later, anyhow_orderly, client_anyhow, first_anyhow, server_anyhow, told_as}
 use Rattle.fs_serial.proofs.ClusterClients.{places_later}
 use Rattle.fs_world.specs.Carried.{AllCarry}
-use Rattle.fs_world.specs.Order.{Told, told_at}
+use Rattle.fs_world.specs.Order.{Tale, after, first_tale}
 use Rattle.fs_world.specs.Parts.{IsOrderlyWorld, seen}
 use Rattle.fs_world.specs.Served.{step_of}
 use Rattle.fs_world.specs.World.{AllMayHappen, Run, first_run, first_world, more, run_of, run_on, step}
@@ -20,7 +20,7 @@ use Rattle.fs_world.specs.declared.form.Form.{Form}
 use Rattle.fs_world.specs.declared.form.Form.TheVariants.{Direct, Served}
 use Rattle.fs_world.specs.declared.served.Served.{Served as TheServed}
 use Rattle.fs_world.proofs.FirstServed.{first_holds}
-use Rattle.fs_world.proofs.SerialLaws.{EventLaws, all_asks, all_clock, all_owned}
+use Rattle.fs_world.proofs.SerialLaws.{EventLaws, all_asks, all_clock, all_exchanges, all_owned}
 use Rattle.fs_world.proofs.ServedHolds.{cluster_of}
 use Rattle.fs_world.proofs.ServedSteps.{step_holds}
 use Rattle.fs_world.proofs.SessionSteps.{HoldsOf, parts_of}
@@ -37,14 +37,15 @@ anyhow_laws = record {
   clock = λ skew greatest s c i h. all_clock skew greatest s (told_as h.journal h.replied c) i h.holds;
   asks = λ skew greatest s c by entries i there h. all_asks skew greatest s (told_as h.journal h.replied c) by entries i there h.holds;
   owned = λ skew greatest s c x i h. all_owned skew greatest s (told_as h.journal h.replied c) x i h.holds;
+  exchanges = λ skew greatest s c x i h. all_exchanges skew greatest s (told_as h.journal h.replied c) x i h.holds;
 }
 
 -- while these events are to come
 record GoesAnyhow (servers skew term : ℕ) (es : List Event) (w : TheServed) : Type 0 where
   greatest : ℕ
-  told : List Told
+  tale : Tale
   some : 1 ≤ servers
-  holds : HoldsOf anyhow_laws servers skew greatest told w
+  holds : HoldsOf anyhow_laws servers skew greatest tale w
   called : AllMayHappen (head.Servers servers skew term) es
   carry : AllCarry (Served w) es
 
@@ -57,9 +58,9 @@ goes_on : (h : Head) (e : Event) (es : List Event) (w : Form) → Goes h (e ∷ 
 goes_on head.Direct e es (Direct w) g = tt
 goes_on (head.Servers servers skew term) e es (Served w) g = record {
   greatest = max g.greatest e.reading;
-  told = g.told ++ told_at e.what (step_of w e.reading e.what).outcome.notes;
+  tale = after e.what (step_of w e.reading e.what).outcome g.tale;
   some = g.some;
-  holds = step_holds anyhow_laws servers skew g.greatest g.told w g.holds e.reading tt g.some g.carry.0 term e.what g.called.0;
+  holds = step_holds anyhow_laws servers skew g.greatest g.tale w g.holds e.reading tt g.some g.carry.0 term e.what g.called.0;
   called = g.called.1;
   carry = g.carry.1;
 }
@@ -72,7 +73,7 @@ goes_all h (e ∷ es) r g = goes_all h es (more r e) (goes_on h e es r.world g)
 
 goes_first : (h : Head) (es : List Event) → FitsHead h → AllMayHappen h es → AllCarry (first_world h) es → Goes h es (first_world h)
 goes_first head.Direct es fits called carry = tt
-goes_first (head.Servers servers skew term) es fits called carry = record { greatest = 0; told = []; some = fits.0; holds = first_holds anyhow_laws servers skew term fits.0; called = called; carry = carry }
+goes_first (head.Servers servers skew term) es fits called carry = record { greatest = 0; tale = first_tale; some = fits.0; holds = first_holds anyhow_laws servers skew term fits.0; called = called; carry = carry }
 
 -- what sessions were told is of no matter
 untold : (replied : Session → List Item) (w : TheServed) → IsOrderly (cluster_of replied (parts_of w)) → IsOrderly (seen (λ x. []) w)

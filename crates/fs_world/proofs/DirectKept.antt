@@ -18,7 +18,7 @@ use Rattle.fs_schedule.specs.declared.event.What.TheVariants.{Join, Do, Tell, Tu
 use Rattle.fs_world.specs.declared.direct.Direct.{Direct}
 use Rattle.fs_world.specs.Direct.{Answer, Stepped, answer, answer_step, do_at, first_direct, item_of, join_at, join_step, step_of}
 use Rattle.fs_world.specs.World.{may_happen}
-use Rattle.fs_world.specs.Order.{Told, told_at, AllAdmitted, HasNumberOf, Agrees, AreNumberedFrom, items_of}
+use Rattle.fs_world.specs.Order.{Tale, Told, after, AllAdmitted, HasNumberOf, Agrees, AreNumberedFrom, items_of}
 use Rattle.fs_world.proofs.Serial.{serial_push, IsStep, answer_steps, AllAsk, asks_push}
 use Rattle.fs_world.proofs.Numbered.{IsCounted, counted_joined, counted_answered, none_served, one_item}
 use Rattle.fs_world.proofs.Replies.{admitted_push, admitted_still}
@@ -56,24 +56,24 @@ holds_answered told w s o n a some steps h = record {
 }
 
 -- what the step told is told, and the step's world is left
-abbrev StepHolds : List Told → What → Stepped → Type 0
-StepHolds told what s = Holds (told ++ told_at what s.outcome.notes) s.world
+abbrev StepHolds : Tale → What → Stepped → Type 0
+StepHolds tale what s = Holds (after what s.outcome tale).told s.world
 
-join_holds : (told : List Told) (w : Direct) (s : Session) (c : Option ℕ) → get w.asked s.0 ≡ c → Holds told w → StepHolds told (Join s) (join_at c w s)
-join_holds told w s None at h = holds_begun told w s at h
-join_holds told w s (Some n) at h = holds_nothing told w h
+join_holds : (tale : Tale) (w : Direct) (s : Session) (c : Option ℕ) → get w.asked s.0 ≡ c → Holds tale.told w → StepHolds tale (Join s) (join_at c w s)
+join_holds tale w s None at h = holds_begun tale.told w s at h
+join_holds tale w s (Some n) at h = holds_nothing tale.told w h
 
-do_holds : (told : List Told) (w : Direct) (s : Session) (o : Op) (c : Option ℕ) → get w.asked s.0 ≡ c → may_ask o ≡ true → Holds told w → StepHolds told (Do s o) (do_at c w s o)
-do_holds told w s o None at f h = holds_nothing told w h
-do_holds told w s o (Some n) at f h = holds_answered told w s o n (answer w.space w.next s o) at (answer_steps w.space w.next s o f) h
+do_holds : (tale : Tale) (w : Direct) (s : Session) (o : Op) (c : Option ℕ) → get w.asked s.0 ≡ c → may_ask o ≡ true → Holds tale.told w → StepHolds tale (Do s o) (do_at c w s o)
+do_holds tale w s o None at f h = holds_nothing tale.told w h
+do_holds tale w s o (Some n) at f h = holds_answered tale.told w s o n (answer w.space w.next s o) at (answer_steps w.space w.next s o f) h
 
-pub step_holds : (told : List Told) (w : Direct) (what : What) → may_happen head.Direct what ≡ true → Holds told w → StepHolds told what (step_of w what)
-step_holds told w (Join s) f h = join_holds told w s (get w.asked s.0) refl h
-step_holds told w (Do s o) f h = do_holds told w s o (get w.asked s.0) refl f h
-step_holds told w (Tell number) f h = holds_nothing told w h
-step_holds told w (Turn who) f h = holds_nothing told w h
-step_holds told w (Recall server field) f h = holds_nothing told w h
-step_holds told w (Move at prefix to) f h = holds_nothing told w h
+pub step_holds : (tale : Tale) (w : Direct) (what : What) → may_happen head.Direct what ≡ true → Holds tale.told w → StepHolds tale what (step_of w what)
+step_holds tale w (Join s) f h = join_holds tale w s (get w.asked s.0) refl h
+step_holds tale w (Do s o) f h = do_holds tale w s o (get w.asked s.0) refl f h
+step_holds tale w (Tell number) f h = holds_nothing tale.told w h
+step_holds tale w (Turn who) f h = holds_nothing tale.told w h
+step_holds tale w (Recall server field) f h = holds_nothing tale.told w h
+step_holds tale w (Move at prefix to) f h = holds_nothing tale.told w h
 
 -- ## What holds then
 

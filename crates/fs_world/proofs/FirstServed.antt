@@ -1,5 +1,6 @@
 -- What holds holds of the first world of the servers form.
-use Rattle.std.proofs.Common.{◌≡◌, ℕ, zero, suc, ◌≤◌, [], ◌∷◌, inl, inr, ◌⊎◌, ap, sym, subst}
+use Rattle.std.proofs.Common.{◌≡◌, ℕ, zero, suc, ◌≤◌, [], ◌∷◌, inl, inr, ◌⊎◌, refl, ap, sym, subst}
+use Rattle.std.specs.Prelude.{None}
 use Rattle.std.specs.FinMap.{empty, get-empty}
 use Rattle.std.specs.Ordering.{nat_cmp}
 use mathlib.Core.Path.{fun_ext}
@@ -9,9 +10,11 @@ use Rattle.fs_ident.proofs.Standing.{In-append}
 use Rattle.fs_server.specs.Server.{first_server}
 use Rattle.fs_server.specs.declared.state.Server.{Server}
 use Rattle.fs_serial.specs.Cluster.{Lines, first_lines, first_servers}
+use Rattle.fs_world.specs.Order.{first_tale}
 use Rattle.fs_world.specs.Parts.{lines_in, lines_of}
 use Rattle.fs_world.specs.Served.{first_served}
 use Rattle.fs_world.proofs.SerialLaws.{EventLaws}
+use Rattle.fs_world.proofs.Told.{IsTelling}
 use Rattle.fs_world.proofs.SessionSteps.{HoldsOf}
 use Rattle.fs_world.proofs.StayingServers.{first_count}
 
@@ -28,13 +31,13 @@ no_rows (suc k) skew term s i = either (In-append s (first_servers k skew term) 
     either (inr (inl e)) before = ap (λ (x : Server). x.rows) e
     either (inr (inr z)) before = absurd z
 
-pub first_holds : (laws : EventLaws) (servers skew term : ℕ) → 1 ≤ servers → HoldsOf laws servers skew 0 [] (first_served servers skew term)
+pub first_holds : (laws : EventLaws) (servers skew term : ℕ) → 1 ≤ servers → HoldsOf laws servers skew 0 first_tale (first_served servers skew term)
 first_holds laws servers skew term some = record {
   replied = λ x. [];
   cluster = subst (λ (lines : Session → Lines). laws.Holds skew 0 (record { servers = first_servers servers skew term; flying = []; journal = []; replied = λ x. []; lines = lines })) (first_seen term) (laws.first servers skew term 0 some);
   many = first_count servers skew term;
   rows = λ s i row j. absurd (subst (In row) (no_rows servers skew term s i) j);
   parcels = λ f i. absurd i;
-  answered = λ x. tt;
+  answered = λ x. subst (λ (l : Lines). IsTelling x l [] [] None) (ap (λ (f : Session → Lines). f x) (first_seen term)) (record { told = record { front = []; split = refl; told = tt }; asked = λ d e. absurd (cc) });
   items = tt;
 }

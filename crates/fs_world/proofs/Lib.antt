@@ -40,6 +40,7 @@ pub mod SeenRows
 pub mod SerialLaws
 pub mod Seen
 pub mod SeenSends
+pub mod Coming
 pub mod Told
 pub mod ServedHolds
 pub mod ServerHolds

@@ -1,19 +1,19 @@
 -- Replies that were told, one event after another.
-use Rattle.std.proofs.Common.{◌≡◌, ◌⊎◌, List, [], ◌∷◌, ◌++◌, length, ap, sym, ◌∙◌, inl, inr, append_assoc, arith, subst}
+use Rattle.std.proofs.Common.{◌≡◌, ◌⊎◌, List, [], ◌∷◌, ◌++◌, length, sym, refl, inl, inr, arith, subst}
 use Rattle.std.proofs.lemmas.List.{append-nil}
 use Rattle.fs_ident.specs.In.{In}
 use Rattle.fs_ident.proofs.Standing.{In-append, In-front, In-last}
 use Rattle.fs_msg.specs.declared.item.Item.{Item}
 use Rattle.fs_schedule.specs.declared.event.Event.{Event}
 use Rattle.fs_schedule.specs.declared.outcome.Outcome.{Outcome}
-use Rattle.fs_world.specs.Order.{Told, told_at, told_of, IsAdmitted, AllAdmitted, HasNumberOf, Agrees}
+use Rattle.fs_world.specs.Order.{Tale, Told, after, tale_of, IsAdmitted, AllAdmitted, HasNumberOf, Agrees}
 
 -- one more event, with its outcome
-pub told_push : (es : List Event) (os : List Outcome) (e : Event) (o : Outcome) → length es ≡ length os → told_of (es ++ e ∷ []) (os ++ o ∷ []) ≡ told_of es os ++ told_at e.what o.notes
-told_push [] [] e o h = append-nil (told_at e.what o.notes)
-told_push [] (p ∷ ps) e o h = absurd (omega arith)
-told_push (d ∷ ds) [] e o h = absurd (omega arith)
-told_push (d ∷ ds) (p ∷ ps) e o h = ap (λ (ts : List Told). told_at d.what p.notes ++ ts) (told_push ds ps e o (omega arith)) ∙ sym (append_assoc (told_at d.what p.notes) (told_of ds ps) (told_at e.what o.notes))
+pub tale_push : (t : Tale) (es : List Event) (os : List Outcome) (e : Event) (o : Outcome) → length es ≡ length os → tale_of t (es ++ e ∷ []) (os ++ o ∷ []) ≡ after e.what o (tale_of t es os)
+tale_push t [] [] e o h = refl
+tale_push t [] (p ∷ ps) e o h = absurd (omega arith)
+tale_push t (d ∷ ds) [] e o h = absurd (omega arith)
+tale_push t (d ∷ ds) (p ∷ ps) e o h = tale_push (after d.what p t) ds ps e o (omega arith)
 
 grown : (j : List Item) (i : Item) (t : Told) → IsAdmitted j t → IsAdmitted (j ++ i ∷ []) t
 grown j i t h = (h.0, In-front h.0 j (i ∷ []) h.1, h.2, h.3)

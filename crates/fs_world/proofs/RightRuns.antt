@@ -16,7 +16,7 @@ use Rattle.fs_schedule.specs.declared.event.What.TheVariants.{Join, Do}
 use Rattle.fs_schedule.specs.declared.outcome.Outcome.{Outcome}
 use Rattle.fs_world.specs.Carried.{AllCarry}
 use Rattle.fs_world.specs.Direct.{do_at, join_at, step_of}
-use Rattle.fs_world.specs.Order.{Told, told_at}
+use Rattle.fs_world.specs.Order.{Tale, after, first_tale}
 use Rattle.fs_world.specs.Refusals.{AllFair, HasNone, IsFair, IsFairAnswer, NoneHas, NoneStrange, is_core_strange, is_link_strange, is_strange, rows_of}
 use Rattle.fs_schedule.specs.Skew.{IsTimely}
 use Rattle.fs_schedule.specs.Spelling.{FitsHead}
@@ -49,11 +49,11 @@ direct_right ok w what = (record { plain = refl; fair = tt }, tt)
 abbrev fair_in : Form → Event → Answers
 fair_in w e = IsFairAnswer w e (rows_of (step w e).world)
 
-right_at : (laws : SerialLaws) (top : ℕ) (h : Head) (e : Event) (es : List Event) (told : List Told) (w : Form) → Goes laws top h (e ∷ es) told w → AllRight (fair_in w e) (step w e).outcome.notes
-right_at laws top head.Direct e es told (Direct w) g = direct_right (fair_in (Direct w) e) w e.what
-right_at laws top (head.Servers servers skew term) e es told (Served w) g = step_right laws servers skew g.greatest told w g.holds e.reading g.ahead.0 g.some g.carry.0 term e.what g.called.0
-right_at laws top head.Direct e es told (Served w) g = absurd g
-right_at laws top (head.Servers servers skew term) e es told (Direct w) g = absurd g
+right_at : (laws : SerialLaws) (top : ℕ) (h : Head) (e : Event) (es : List Event) (tale : Tale) (w : Form) → Goes laws top h (e ∷ es) tale w → AllRight (fair_in w e) (step w e).outcome.notes
+right_at laws top head.Direct e es tale (Direct w) g = direct_right (fair_in (Direct w) e) w e.what
+right_at laws top (head.Servers servers skew term) e es tale (Served w) g = step_right laws servers skew g.greatest tale w g.holds e.reading g.ahead.0 g.some g.carry.0 term e.what g.called.0
+right_at laws top head.Direct e es tale (Served w) g = absurd g
+right_at laws top (head.Servers servers skew term) e es tale (Direct w) g = absurd g
 
 -- ## All events
 
@@ -65,11 +65,11 @@ all_plain : (ok : Answers) (notes : List Note) → AllRight ok notes → AllByRe
 all_plain ok [] h = tt
 all_plain ok (n ∷ ns) h = (h.0.plain, all_plain ok ns h.1)
 
-fair_from : (laws : SerialLaws) (top : ℕ) (h : Head) (es : List Event) (told : List Told) (w : Form) → Goes laws top h es told w → AllFair w es
-fair_from laws top h [] told w g = tt
-fair_from laws top h (e ∷ es) told w g = (
-  all_fair (fair_in w e) (step w e).outcome.notes (right_at laws top h e es told w g),
-  fair_from laws top h es (told ++ told_at e.what (step w e).outcome.notes) (step w e).world (goes_on laws top h e es told w g),
+fair_from : (laws : SerialLaws) (top : ℕ) (h : Head) (es : List Event) (tale : Tale) (w : Form) → Goes laws top h es tale w → AllFair w es
+fair_from laws top h [] tale w g = tt
+fair_from laws top h (e ∷ es) tale w g = (
+  all_fair (fair_in w e) (step w e).outcome.notes (right_at laws top h e es tale w g),
+  fair_from laws top h es (after e.what (step w e).outcome tale) (step w e).world (goes_on laws top h e es tale w g),
 )
 
 -- one more outcome has no note of the kind
@@ -77,17 +77,17 @@ pub one_more : (kind : Note → Bool) (outcomes : List Outcome) (o : Outcome) �
 one_more kind [] o h p = (p, tt)
 one_more kind (x ∷ xs) o h p = (h.0, one_more kind xs o h.1 p)
 
-plain_from : (laws : SerialLaws) (top : ℕ) (h : Head) (es : List Event) (told : List Told) (r : Run) → Goes laws top h es told r.world → NoneHas is_core_strange r.outcomes → NoneHas is_core_strange (run_on r es).outcomes
-plain_from laws top h [] told r g p = p
-plain_from laws top h (e ∷ es) told r g p =
-    plain_from laws top h es (told ++ told_at e.what (step r.world e).outcome.notes) (more r e) (goes_on laws top h e es told r.world g)
-    (one_more is_core_strange r.outcomes (step r.world e).outcome p (all_plain (fair_in r.world e) (step r.world e).outcome.notes (right_at laws top h e es told r.world g)))
+plain_from : (laws : SerialLaws) (top : ℕ) (h : Head) (es : List Event) (tale : Tale) (r : Run) → Goes laws top h es tale r.world → NoneHas is_core_strange r.outcomes → NoneHas is_core_strange (run_on r es).outcomes
+plain_from laws top h [] tale r g p = p
+plain_from laws top h (e ∷ es) tale r g p =
+    plain_from laws top h es (after e.what (step r.world e).outcome tale) (more r e) (goes_on laws top h e es tale r.world g)
+    (one_more is_core_strange r.outcomes (step r.world e).outcome p (all_plain (fair_in r.world e) (step r.world e).outcome.notes (right_at laws top h e es tale r.world g)))
 
 pub no_core_strange : (laws : SerialLaws) (s : Schedule) → FitsHead s.head → AllMayHappen s.head s.events → IsTimely s.head s.events → AllCarry (first_world s.head) s.events → NoneHas is_core_strange (run_of s).outcomes
-no_core_strange laws s fits may timely carry = plain_from laws (greatest_of 0 s.events) s.head s.events [] (first_run s.head) (goes_first laws s.head s.events fits may timely carry) tt
+no_core_strange laws s fits may timely carry = plain_from laws (greatest_of 0 s.events) s.head s.events first_tale (first_run s.head) (goes_first laws s.head s.events fits may timely carry) tt
 
 pub refusals_fair : (laws : SerialLaws) (s : Schedule) → FitsHead s.head → AllMayHappen s.head s.events → IsTimely s.head s.events → AllCarry (first_world s.head) s.events → AllFair (first_world s.head) s.events
-refusals_fair laws s fits may timely carry = fair_from laws (greatest_of 0 s.events) s.head s.events [] (first_world s.head) (goes_first laws s.head s.events fits may timely carry)
+refusals_fair laws s fits may timely carry = fair_from laws (greatest_of 0 s.events) s.head s.events first_tale (first_world s.head) (goes_first laws s.head s.events fits may timely carry)
 
 -- ## Strange to no link, and to no core
 

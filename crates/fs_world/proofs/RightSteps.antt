@@ -38,7 +38,7 @@ use Rattle.fs_serial.specs.Refusals.{rows_in}
 use Rattle.fs_serial.specs.Joined.{rows_of_all}
 use Rattle.fs_world.specs.Calls.{client_hears, server_hears}
 use Rattle.fs_world.specs.Carried.{Carries, GivesFirst, IsFirstOf, between, downs_of, joined_at, flying_between, post_of, seat_post, ups_of}
-use Rattle.fs_world.specs.Order.{Told}
+use Rattle.fs_world.specs.Order.{Tale}
 use Rattle.fs_world.specs.Packets.{first_untold}
 use Rattle.fs_world.specs.Parts.{lines_in, lines_of}
 use Rattle.fs_world.specs.Served.{Stepped, arrives, at_server, comes, do_at, join_at, server_step_at, server_told, server_told_at, step_of, tell_at, told_at, turn_at, with_seat, with_server}
@@ -73,7 +73,7 @@ silent ok (j ∷ js) x = (record { plain = refl; fair = tt }, tt)
 question_found : (k : ℕ) (up : List (ℕ × ClientMsg)) (m : ℕ × ClientMsg) → find (is_with k) up ≡ Some m → find (is_with k) up ≡ Some (k, m.1)
 question_found k up m first = first ∙ ap (λ (j : ℕ). let o : Option (ℕ × ClientMsg) = Some (j, m.1) in o) (eqb-true m.0 k (found (is_with k) up m first).1)
 
-module _ (laws : SerialLaws) (count skew greatest : ℕ) (told : List Told) (w : Served) (h : HoldsOf (timed laws) count skew greatest told w) (now : ℕ) (within : greatest ≤ now + skew) (some : 1 ≤ count) where
+module _ (laws : SerialLaws) (count skew greatest : ℕ) (tale : Tale) (w : Served) (h : HoldsOf (timed laws) count skew greatest tale w) (now : ℕ) (within : greatest ≤ now + skew) (some : 1 ≤ count) where
   abbrev rows_at : Served → List Row
   rows_at v = rows_of_all v.servers (parcels_of v.flying)
 
@@ -134,10 +134,10 @@ module _ (laws : SerialLaws) (count skew greatest : ℕ) (told : List Told) (w :
       fair_after e = IsFairAnswer (ServedForm w) (record { reading = now; what = what }) (rows_in (after_step k e (step c now e) seen))
 
       abbrev TakesIt : ServerEvent → Type 0
-      TakesIt e = TakesEvent laws skew greatest now k c seen at h.cluster (clock (timed laws) count skew greatest told (parts_of w) h now k c at) within (fair_after e) e
+      TakesIt e = TakesEvent laws skew greatest now k c seen at h.cluster (clock (timed laws) count skew greatest tale (parts_of w) h now k c at) within (fair_after e) e
 
       event : (e : ServerEvent) → IsThere k e seen → TakesIt e → IsRight (fair_after e) (note.Server (step c now e).out.note)
-      event e there takes = event_right laws skew greatest now k c seen at h.cluster (clock (timed laws) count skew greatest told (parts_of w) h now k c at) within (fair_after e) e there takes
+      event e there takes = event_right laws skew greatest now k c seen at h.cluster (clock (timed laws) count skew greatest tale (parts_of w) h now k c at) within (fair_after e) e there takes
 
       -- the event tells a packet of the session to this server
       module _ (packet : Sent) (told_so : packet_told w what ≡ Some packet) (here : packet.to ≡ Server k) where
@@ -157,14 +157,14 @@ module _ (laws : SerialLaws) (count skew greatest : ℕ) (told : List Told) (w :
         session_right s (Some seat) from is heard x (j ∷ js) links f =
             let first = first_question k s seat j js f in
             subst (λ (e : Option ServerEvent). Right what (hearing (Client s) heard x e links)) (sym first.2)
-            (event (FromClient s first.0.1) (question_there (timed laws) count skew greatest told (parts_of w) h now k c at s seat first.0 is first.1) (takes_log s seat first.0.1 from is (question_found k seat.up first.0 first.1)), tt)
+            (event (FromClient s first.0.1) (question_there (timed laws) count skew greatest tale (parts_of w) h now k c at s seat first.0 is first.1) (takes_log s seat first.0.1 from is (question_found k seat.up first.0 first.1)), tt)
 
       peer_right : (i : ℕ) (heard : Option Peer) (x : Heard) (js : List Joined) (links : Links) → IsFirstOf js (flying_between i k w.flying) → Right what (hearing (Server i) heard x (event_heard (Server i) js) links)
       peer_right i heard x [] links f = silent _ x.joined x
       peer_right i heard x (j ∷ js) links f =
           let first = first_flying k i w.flying j js f in
           subst (λ (e : Option ServerEvent). Right what (hearing (Server i) heard x e links)) (sym first.2)
-          (event (FromPeer i first.0.message) (flying_there (timed laws) count skew greatest told (parts_of w) h now k c at i first.0 first.1) tt, tt)
+          (event (FromPeer i first.0.message) (flying_there (timed laws) count skew greatest tale (parts_of w) h now k c at i first.0 first.1) tt, tt)
 
       told_server : (packet : Sent) (from : Peer) (p : Packet) → packet_told w what ≡ Some packet → packet.to ≡ Server k → packet.from ≡ from → IsFirstOf (post_accepted post from p).heard.joined (between w from (Server k))
           → Right what (with_server k (server_told now k from p (at_server c post w)) w)
@@ -229,4 +229,4 @@ module _ (laws : SerialLaws) (count skew greatest : ℕ) (told : List Told) (w :
   step_right carry term (Turn (Server k)) may = turn_at_server (Turn (Server k)) k (slice_get w.servers k) (slice_get w.posts k) refl
   step_right carry term (Recall k field) may = recall_at_server (Recall k field) k field (slice_get w.servers k) (slice_get w.posts k) refl
   step_right carry term (Move k prefix to) may =
-      move_at_server (Move k prefix to) k prefix to (slice_get w.servers k) (slice_get w.posts k) refl (to_there (timed laws) count skew greatest told w h now within some to (both (nat_lt k count) (nat_lt to count) may).1)
+      move_at_server (Move k prefix to) k prefix to (slice_get w.servers k) (slice_get w.posts k) refl (to_there (timed laws) count skew greatest tale w h now within some to (both (nat_lt k count) (nat_lt to count) may).1)

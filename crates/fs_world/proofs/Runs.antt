@@ -2,25 +2,25 @@
 use Rattle.std.proofs.Common.{◌≡◌, ◌+◌, List, [], ◌∷◌, ◌++◌, length, ap, sym, ◌∙◌, subst, append_assoc, length-append}
 use Rattle.std.proofs.lemmas.List.{append-nil}
 use Rattle.fs_schedule.specs.declared.event.Event.{Event}
-use Rattle.fs_world.specs.Order.{Told, told_at, told_of}
+use Rattle.fs_world.specs.Order.{Tale, after, first_tale, tale_of}
 use Rattle.fs_world.specs.World.{Run, more, run_on, step}
 use Rattle.fs_world.specs.declared.form.Form.{Form}
-use Rattle.fs_world.proofs.Replies.{told_push}
+use Rattle.fs_world.proofs.Replies.{tale_push}
 
 -- what holds while these events are to come, where this was told
-module _ (P : List Event → List Told → Form → Type 0) where
+module _ (P : List Event → Tale → Form → Type 0) where
   abbrev pub Keeps : Type 0
-  Keeps = (e : Event) (es : List Event) (told : List Told) (w : Form) → P (e ∷ es) told w → P es (told ++ told_at e.what (step w e).outcome.notes) (step w e).world
+  Keeps = (e : Event) (es : List Event) (tale : Tale) (w : Form) → P (e ∷ es) tale w → P es (after e.what (step w e).outcome tale) (step w e).world
 
   -- the outcomes are those of the events that are done
   pub record IsAt (done es : List Event) (r : Run) : Type 0 where
     pub counted : length done ≡ length r.outcomes
-    pub holds : P es (told_of done r.outcomes) r.world
+    pub holds : P es (tale_of first_tale done r.outcomes) r.world
 
   more_keeps : Keeps → (done es : List Event) (e : Event) (r : Run) → IsAt done (e ∷ es) r → IsAt (done ++ e ∷ []) es (more r e)
   more_keeps keeps done es e r h = record {
     counted = length-append done (e ∷ []) ∙ ap (λ n. n + 1) h.counted ∙ sym (length-append r.outcomes ((step r.world e).outcome ∷ []));
-    holds = subst (λ (ts : List Told). P es ts (step r.world e).world) (sym (told_push done r.outcomes e (step r.world e).outcome h.counted)) (keeps e es (told_of done r.outcomes) r.world h.holds);
+    holds = subst (λ (t : Tale). P es t (step r.world e).world) (sym (tale_push first_tale done r.outcomes e (step r.world e).outcome h.counted)) (keeps e es (tale_of first_tale done r.outcomes) r.world h.holds);
   }
 
   pub run_keeps : Keeps → (done es : List Event) (r : Run) → IsAt done es r → IsAt (done ++ es) [] (run_on r es)

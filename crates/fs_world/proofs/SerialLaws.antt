@@ -15,10 +15,11 @@ use Rattle.fs_server.specs.Step.{step}
 use Rattle.fs_server.specs.declared.event.ServerEvent.{ServerEvent}
 use Rattle.fs_server.specs.declared.event.ServerEvent.TheVariants.{FromClient}
 use Rattle.fs_server.specs.declared.state.Server.{Server}
-use Rattle.fs_serial.specs.Cluster.{CanCome, ClientEvent, Cluster, IsThere, after_client, after_server, first_cluster}
+use Rattle.fs_serial.specs.Cluster.{CanCome, ClientEvent, Cluster, IsThere, Lines, after_client, after_server, first_cluster}
 use Rattle.fs_serial.specs.Cluster.ClientEvent.{Hears}
+use Rattle.fs_serial.specs.Exchange.{LeadsTold, OneExchange}
 use Rattle.fs_serial.specs.Refusals.{IsFairStep}
-use Rattle.fs_serial.specs.Seen.{ClusterHolds, ends_of}
+use Rattle.fs_serial.specs.Seen.{ClusterHolds, IsAddressed, ends_of}
 
 pub record SerialLaws : Type 0 where
   -- every event of a server keeps all that holds, and the greatest reading may rise
@@ -37,6 +38,12 @@ pub record SerialLaws : Type 0 where
 
 -- ## What events keep
 
+-- one question is on its way or its answer, with the server's number, and what a server is asked to lead is led
+pub record AsksOne (l : Lines) : Type 0 where
+  pub one : OneExchange l.client l.client.exchange (ends_of l).up (ends_of l).down
+  pub leads : LeadsTold (ends_of l).up l.client.led
+  pub addressed : IsAddressed l
+
 -- in some sense of what holds of a cluster where no reading was greater, and of when a client's event with a reading comes in time
 pub record EventLaws : Type 1 where
   pub Holds : ℕ → ℕ → Cluster → Type 0
@@ -49,6 +56,8 @@ pub record EventLaws : Type 1 where
   pub clock : (skew greatest : ℕ) (s : Server) (c : Cluster) → In s c.servers → Holds skew greatest c → s.last ≤ greatest
   pub asks : (skew greatest : ℕ) (s : Server) (c : Cluster) (by : Session) (entries : List Entry) → In s c.servers → In (Ship entries) (ends_of (c.lines by)).up → Holds skew greatest c → (e : Entry) → In e entries → AsksAccess e.op
   pub owned : (skew greatest : ℕ) (s : Server) (c : Cluster) (x : Session) → In s c.servers → Holds skew greatest c → (c.lines x).client.session ≡ x
+  -- and asks one question at a time
+  pub exchanges : (skew greatest : ℕ) (s : Server) (c : Cluster) (x : Session) → In s c.servers → Holds skew greatest c → AsksOne (c.lines x)
 
 -- of all parts
 pub all_clock : (skew greatest : ℕ) (s : Server) (c : Cluster) → In s c.servers → ClusterHolds skew greatest c → s.last ≤ greatest
@@ -63,6 +72,9 @@ all_asks skew greatest s c by entries i there h e j =
 pub all_owned : (skew greatest : ℕ) (s : Server) (c : Cluster) (x : Session) → In s c.servers → ClusterHolds skew greatest c → (c.lines x).client.session ≡ x
 all_owned skew greatest s c x i h = ((h.parts s i).clients x).session
 
+pub all_exchanges : (skew greatest : ℕ) (s : Server) (c : Cluster) (x : Session) → In s c.servers → ClusterHolds skew greatest c → AsksOne (c.lines x)
+all_exchanges skew greatest s c x i h = let e = (h.parts s i).exchanges x in record { one = e.one; leads = e.leads; addressed = h.addressed x }
+
 -- in time is an event where no reading before it is ahead of its own by more than the skew
 abbrev pub timed : SerialLaws → EventLaws
 timed laws = record {
@@ -75,4 +87,5 @@ timed laws = record {
   clock = all_clock;
   asks = all_asks;
   owned = all_owned;
+  exchanges = all_exchanges;
 }

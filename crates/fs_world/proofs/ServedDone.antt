@@ -20,7 +20,8 @@ use Rattle.fs_serial.specs.Numbers.{AreNumbered, all_items, is_server, is_sessio
 use Rattle.fs_serial.specs.Seen.{ClusterHolds, ends_of, world_of}
 use Rattle.fs_serial.specs.Settled.{Settled}
 use Rattle.fs_serial.specs.World.{WorldHolds, settled_at}
-use Rattle.fs_world.specs.Order.{Agrees, AreAsTold, AreNumberedFrom, HasNumberOf, IsInSessionOrder, Told, items_of, same_actor, told_to}
+use Rattle.fs_world.specs.Coming.{IsTold}
+use Rattle.fs_world.specs.Order.{Agrees, AreNumberedFrom, HasNumberOf, IsInSessionOrder, Tale, Told, items_of, same_actor, told_to}
 use Rattle.fs_world.specs.Parts.{ServedHold, lines_of, replied_in, seen as seen_by}
 use Rattle.fs_world.specs.declared.served.Served.{Served}
 use Rattle.fs_world.proofs.Fine.{AllFine}
@@ -66,7 +67,7 @@ numbered_front : (k : ℕ) (is more : List Item) → AreNumberedFrom k (is ++ mo
 numbered_front k [] more h = tt
 numbered_front k (i ∷ is) more h = (h.0, numbered_front (k + 1) is more h.1)
 
-module _ (laws : SerialLaws) (count skew greatest : ℕ) (told : List Told) (w : Served) (h : HoldsOf (timed laws) count skew greatest told w) (some : 1 ≤ count) where
+module _ (laws : SerialLaws) (count skew greatest : ℕ) (tale : Tale) (w : Served) (h : HoldsOf (timed laws) count skew greatest tale w) (some : 1 ≤ count) where
   abbrev seen : Cluster
   seen = cluster_of h.replied (parts_of w)
 
@@ -93,17 +94,17 @@ module _ (laws : SerialLaws) (count skew greatest : ℕ) (told : List Told) (w :
       let own : is_session s i.by ≡ true = ap (is_session s) by ∙ itself s.0 in
       subst (In i) (holds.all.sessions s).replies (In-front i (items_by s w.journal) (map (item_of s) (settled s).log) (kept (λ (i : Item). is_session s i.by) w.journal i own there))
 
-  agreeing : (t : Told) (i : Item) → In t told → In i w.journal → HasNumberOf i t → Agrees i t
+  agreeing : (t : Told) (i : Item) → In t tale.told → In i w.journal → HasNumberOf i t → Agrees i t
   agreeing t i m there has =
       let s = t.session in
-      let found = among_replies h.replied told h.answered t m in
+      let found = among_replies (lines_of w.term w.seats) h.replied tale h.answered t m in
       let same : i ≡ found.0 = number_of_one 1 (h.replied s) i found.0 (subst (AreNumberedFrom 1) (holds.all.sessions s).replies (told_numbered s)) (in_told s i there has.by) found.1 (has.n ∙ sym found.2.n) in
       subst (λ (x : Item). Agrees x t) (sym same) found.3
 
   pub served_serial : IsSerialRun first_space w.journal (nodes_of (records_of_all w.servers (parcels_of w.flying)))
   served_serial = holds.all.servers.serial
 
-  pub served_ordered : IsInSessionOrder w.journal told
+  pub served_ordered : IsInSessionOrder w.journal tale.told
   served_ordered = record { numbered = numbered; agreeing = agreeing }
 
   pub served_asks : AllAsk w.journal
@@ -113,8 +114,8 @@ module _ (laws : SerialLaws) (count skew greatest : ℕ) (told : List Told) (w :
   replied_is : h.replied ≡ replied_in w
   replied_is = fun_ext (λ x. sym (holds.all.sessions x).replies)
 
-  pub served_parts : ServedHold skew greatest told w
+  pub served_parts : ServedHold skew greatest tale.told w
   served_parts = record {
     parts = subst (λ (replied : Session → List Item). ClusterHolds skew greatest (seen_by replied w)) replied_is h.cluster;
-    replies = λ x. subst (λ (is : List Item). AreAsTold is (told_to x told)) (sym (holds.all.sessions x).replies) (h.answered x);
+    replies = λ x. subst (λ (is : List Item). IsTold x (lines_of w.term w.seats x) is (told_to x tale.told)) (sym (holds.all.sessions x).replies) (h.answered x).told;
   }

@@ -14,14 +14,15 @@ use Rattle.fs_serial.specs.Cluster.{CanCome, ClientEvent, Cluster, Lines, after_
 use Rattle.fs_serial.specs.World.{pushed, told_by, with_told}
 use Rattle.fs_serial.specs.declared.flying.Flying.{Flying}
 use Rattle.fs_world.specs.Linked.{AreOfJoined, HasJoined}
-use Rattle.fs_world.specs.Order.{Told}
+use Rattle.fs_world.specs.Order.{Leads, Tale, Told}
 use Rattle.fs_world.specs.Parts.{lines_in, lines_of}
 use Rattle.fs_world.specs.Served.{Seats, first_seat}
 use Rattle.fs_world.specs.declared.seat.Seat.{Seat}
 use Rattle.fs_world.proofs.Fine.{AllFine, MayBeFine, fine_pushed}
 use Rattle.fs_world.proofs.Seen.{joined_still, lines_joined, lines_put, lines_same}
 use Rattle.fs_world.proofs.SerialLaws.{EventLaws}
-use Rattle.fs_world.proofs.Told.{AllNew, AllReplied, told_more}
+use Rattle.fs_world.proofs.Coming.{led_after, led_then}
+use Rattle.fs_world.proofs.Told.{AllTelling, TellsOf, told_more}
 use Rattle.fs_world.proofs.SeenRows.{BringsOf, brings_still}
 
 -- what a world has that servers and sessions know of: so many servers, the seats, the messages between servers, the journal
@@ -36,13 +37,13 @@ abbrev pub cluster_of : (Session → List Item) → Parts → Cluster
 cluster_of replied p = record { servers = p.servers; flying = p.flying; journal = p.journal; replied = replied; lines = lines_of p.term p.seats }
 
 -- of these parts of a world of so many servers in which this was told, where no reading was greater
-pub record Holds (laws : EventLaws) (count skew greatest : ℕ) (told : List Told) (p : Parts) : Type 0 where
+pub record Holds (laws : EventLaws) (count skew greatest : ℕ) (tale : Tale) (p : Parts) : Type 0 where
   pub replied : Session → List Item
   pub cluster : laws.Holds skew greatest (cluster_of replied p)
   pub many : length p.servers ≡ count
   pub rows : (s : Server) → In s p.servers → AreOfJoined p.seats s.rows
   pub parcels : (f : Flying) → In f p.flying → BringsOf (HasJoined p.seats) f.message
-  pub answered : AllReplied replied told
+  pub answered : AllTelling (lines_of p.term p.seats) replied tale
   pub items : AllFine p.journal
 
 -- there is a server
@@ -51,14 +52,17 @@ a_server [] some = absurd (omega arith)
 a_server (s ∷ ss) some = (s, inl refl)
 
 -- where nothing was told
-pub holds_untold : (laws : EventLaws) (count skew greatest : ℕ) (told : List Told) (p : Parts) → Holds laws count skew greatest told p → Holds laws count skew greatest (told ++ []) p
-holds_untold laws count skew greatest told p h = subst (λ ts. Holds laws count skew greatest ts p) (sym (append-nil told)) h
+abbrev pub untold : Tale → Tale
+untold tale = record { told = tale.told ++ []; leads = tale.leads }
+
+pub holds_untold : (laws : EventLaws) (count skew greatest : ℕ) (tale : Tale) (p : Parts) → Holds laws count skew greatest tale p → Holds laws count skew greatest (untold tale) p
+holds_untold laws count skew greatest tale p h = subst (λ ts. let t : Tale = record { told = ts; leads = tale.leads } in Holds laws count skew greatest t p) (sym (append-nil tale.told)) h
 
 abbrev pub with_seats : Seats → Parts → Parts
 with_seats seats p = record p { seats = seats }
 
-module _ (laws : EventLaws) (count skew greatest : ℕ) (told : List Told) (p : Parts) (h : Holds laws count skew greatest told p) where
-  pub holds_later : (later : ℕ) → greatest ≤ later → Holds laws count skew later told p
+module _ (laws : EventLaws) (count skew greatest : ℕ) (tale : Tale) (p : Parts) (h : Holds laws count skew greatest tale p) where
+  pub holds_later : (later : ℕ) → greatest ≤ later → Holds laws count skew later tale p
   holds_later later rises = record {
     replied = h.replied;
     cluster = laws.rises skew greatest later (cluster_of h.replied p) rises h.cluster;
@@ -70,24 +74,24 @@ module _ (laws : EventLaws) (count skew greatest : ℕ) (told : List Told) (p : 
   }
 
   -- other seats, with the same lines
-  pub holds_seated : (seats : Seats) → ((x : Session) → HasJoined p.seats x → HasJoined seats x) → lines_of p.term seats ≡ lines_of p.term p.seats → Holds laws count skew greatest told (with_seats seats p)
+  pub holds_seated : (seats : Seats) → ((x : Session) → HasJoined p.seats x → HasJoined seats x) → lines_of p.term seats ≡ lines_of p.term p.seats → Holds laws count skew greatest tale (with_seats seats p)
   holds_seated seats stay same = record {
     replied = h.replied;
     cluster = subst (λ (lines : Session → Lines). laws.Holds skew greatest (record { servers = p.servers; flying = p.flying; journal = p.journal; replied = h.replied; lines = lines })) (sym same) h.cluster;
     many = h.many;
     rows = λ s i row j. stay row.session (h.rows s i row j);
     parcels = λ f i. brings_still (HasJoined p.seats) (HasJoined seats) stay f.message (h.parcels f i);
-    answered = h.answered;
+    answered = subst (λ (lines : Session → Lines). AllTelling lines h.replied tale) (sym same) h.answered;
     items = h.items;
   }
 
   -- a session joins
-  pub holds_joined : (s : Session) → get p.seats s.0 ≡ None → Holds laws count skew greatest told (with_seats (insert p.seats s.0 (first_seat p.term s)) p)
+  pub holds_joined : (s : Session) → get p.seats s.0 ≡ None → Holds laws count skew greatest tale (with_seats (insert p.seats s.0 (first_seat p.term s)) p)
   holds_joined s none = holds_seated (insert p.seats s.0 (first_seat p.term s)) (λ x i. joined_still p.seats s x (first_seat p.term s) i) (lines_joined p.term p.seats s none)
 
   module _ (s : Session) (seat : Seat) (at : get p.seats s.0 ≡ Some seat) where
     -- nothing but its links changes at a session
-    pub holds_posted : (next : Seat) → lines_in p.term s (Some next) ≡ lines_in p.term s (Some seat) → Holds laws count skew greatest told (with_seats (insert p.seats s.0 next) p)
+    pub holds_posted : (next : Seat) → lines_in p.term s (Some next) ≡ lines_in p.term s (Some seat) → Holds laws count skew greatest tale (with_seats (insert p.seats s.0 next) p)
     holds_posted next e = holds_seated (insert p.seats s.0 next) (λ x i. joined_still p.seats s x next i) (lines_same p.term p.seats s seat next at e)
 
     -- ## A client's event
@@ -114,17 +118,28 @@ module _ (laws : EventLaws) (count skew greatest : ℕ) (told : List Told) (p : 
       abbrev pub with_plan : Seat → Option Item → Parts
       with_plan next admitted = record p { seats = insert p.seats s.0 next; journal = pushed admitted p.journal }
 
-      pub client_holds : {N : Type 0} (event : ClientEvent) (rest : List (ℕ × Answer)) (plan : Plan N) (next : Seat) (new : List Told) → after_client s now event (cluster_of h.replied p) ≡ after_plan s rest plan (cluster_of h.replied p)
+      pub client_holds : {N : Type 0} (event : ClientEvent) (rest : List (ℕ × Answer)) (plan : Plan N) (next : Seat) (new : List Told) (leads : Leads) → after_client s now event (cluster_of h.replied p) ≡ after_plan s rest plan (cluster_of h.replied p)
           → CanCome s event (cluster_of h.replied p) → lines_in p.term s (Some next) ≡ planned rest plan
-          → MayBeFine plan.out.admitted → AllNew s (told_by s plan.ready.change plan.out.admitted) new
-          → Holds laws count skew (max greatest now) (told ++ new) (with_plan next plan.out.admitted)
-      client_holds event rest plan next new does can e fine tells = record {
+          → MayBeFine plan.out.admitted → TellsOf s seat.client.led (led_after plan.ready.change seat.client.led) seat.down rest (told_by s plan.ready.change plan.out.admitted) new tale.leads leads
+          → Holds laws count skew (max greatest now) (record { told = tale.told ++ new; leads = leads }) (with_plan next plan.out.admitted)
+      client_holds event rest plan next new leads does can e fine tells = record {
         replied = with_told s (told_by s plan.ready.change plan.out.admitted) h.replied;
         cluster = subst (λ (c : Cluster). laws.Holds skew (max greatest now) c) (does ∙ plan_seen rest plan next e)
             (laws.rises skew greatest (max greatest now) (after_client s now event (cluster_of h.replied p)) (omega arith) (laws.client skew greatest now (cluster_of h.replied p) s h.cluster event can within));
         many = h.many;
         rows = λ x i row j. joined_still p.seats s row.session next (h.rows x i row j);
         parcels = λ f i. brings_still (HasJoined p.seats) (HasJoined (insert p.seats s.0 next)) (λ x y. joined_still p.seats s x next y) f.message (h.parcels f i);
-        answered = told_more s (told_by s plan.ready.change plan.out.admitted) h.replied told new h.answered tells;
+        answered = subst (λ (lines : Session → Lines). AllTelling lines (with_told s o h.replied) (record { told = tale.told ++ new; leads = leads })) (sym (lines_put p.term p.seats s next))
+            (told_more s (lines_in p.term s (Some next)) (lines_of p.term p.seats) h.replied tale o new leads h.answered there);
         items = fine_pushed plan.out.admitted p.journal fine h.items;
       }
+        where
+          o : Option Item
+          o = told_by s plan.ready.change plan.out.admitted
+
+          then : TellsOf s seat.client.led (lines_in p.term s (Some next)).client.led seat.down (lines_in p.term s (Some next)).down o new tale.leads leads
+          then = subst (λ (n : Lines). TellsOf s seat.client.led n.client.led seat.down n.down o new tale.leads leads) (sym e)
+              (subst (λ d. TellsOf s seat.client.led d seat.down rest o new tale.leads leads) (sym (led_then plan.ready seat.client)) tells)
+
+          there : TellsOf s (lines_of p.term p.seats s).client.led (lines_in p.term s (Some next)).client.led (lines_of p.term p.seats s).down (lines_in p.term s (Some next)).down o new tale.leads leads
+          there = subst (λ (l : Lines). TellsOf s l.client.led (lines_in p.term s (Some next)).client.led l.down (lines_in p.term s (Some next)).down o new tale.leads leads) (sym own) then

@@ -18,6 +18,7 @@ use Rattle.fs_window.specs.declared.sent.Sent.{Sent}
 use Rattle.fs_field.specs.declared.field.Field.{Field}
 use Rattle.fs_msg.specs.declared.client_msg.ClientMsg.{ClientMsg}
 use Rattle.fs_msg.specs.declared.item.Item.{Item}
+use Rattle.fs_msg.specs.declared.note.Note.TheVariants as note
 use Rattle.fs_schedule.specs.declared.event.Head.TheVariants.{Servers}
 use Rattle.fs_schedule.specs.declared.event.What.{What}
 use Rattle.fs_schedule.specs.declared.event.What.TheVariants.{Join, Do, Tell, Turn, Recall, Move}
@@ -30,10 +31,10 @@ use Rattle.fs_serial.specs.declared.flying.Flying.{Flying}
 use Rattle.fs_serial.proofs.SetAt.{set_same}
 use Rattle.fs_world.specs.Calls.{server_hears}
 use Rattle.fs_world.specs.Carried.{Carries, GivesFirst, IsFirstOf, between, joined_at, flying_between, post_of, ups_of}
-use Rattle.fs_world.specs.Order.{Told, told_at as told_in}
+use Rattle.fs_world.specs.Order.{Tale, after}
 use Rattle.fs_world.specs.Packets.{first_untold}
 use Rattle.fs_world.specs.Parts.{lines_of}
-use Rattle.fs_world.specs.Served.{arrives, at_server, comes, server_step_at, server_told, server_told_at, step_of, tell_at, with_server, without_up}
+use Rattle.fs_world.specs.Served.{Stepped, arrives, at_server, comes, server_step_at, server_told, server_told_at, step_of, tell_at, with_server, without_up}
 use Rattle.fs_world.specs.World.{may_happen}
 use Rattle.fs_world.specs.declared.seat.Seat.{Seat}
 use Rattle.fs_world.specs.declared.served.Served.{Served}
@@ -43,21 +44,22 @@ use Rattle.fs_world.proofs.SerialLaws.{EventLaws}
 use Rattle.fs_world.proofs.Heard.{first_flying, first_question}
 use Rattle.fs_world.proofs.ServedHolds.{Holds, Parts, cluster_of}
 use Rattle.fs_world.proofs.ServerHolds.{after_core, message_holds, flying_of_joined, flying_there, server_holds}
+use Rattle.fs_world.proofs.Told.{quiet_note}
 use Rattle.fs_world.proofs.SessionSteps.{HoldsOf, Then, do_holds, join_holds, later, parts_of, still, told_holds, turn_holds, untold}
 
 -- what the test says
 pub is_less : (a b : ℕ) → nat_lt a b ≡ true → a < b
 is_less a b e = grind (arith, nat_tests, e)
 
-module _ (laws : EventLaws) (count skew greatest : ℕ) (told : List Told) (w : Served) (h : HoldsOf laws count skew greatest told w) (now : ℕ) (within : laws.Within skew greatest now) (some : 1 ≤ count) where
+module _ (laws : EventLaws) (count skew greatest : ℕ) (tale : Tale) (w : Served) (h : HoldsOf laws count skew greatest tale w) (now : ℕ) (within : laws.Within skew greatest now) (some : 1 ≤ count) where
   abbrev Is : Served → Type 0
-  Is v = Then laws count skew greatest told w h now within some [] v
+  Is v = Then laws count skew greatest tale w h now within some [] tale.leads v
 
   abbrev same : Is w
-  same = still laws count skew greatest told w h now within some
+  same = still laws count skew greatest tale w h now within some
 
-  abbrev quietly : (v : Served) → HoldsOf laws count skew (max greatest now) told v → Is v
-  quietly v x = untold laws count skew greatest told w h now within some v x
+  abbrev quietly : (v : Served) → HoldsOf laws count skew (max greatest now) tale v → Is v
+  quietly v x = untold laws count skew greatest tale w h now within some v x
 
   -- ## At a server that there is
 
@@ -66,11 +68,11 @@ module _ (laws : EventLaws) (count skew greatest : ℕ) (told : List Told) (w : 
     left flying journal = record (parts_of w) { servers = slice_set w.servers k c; flying = flying; journal = journal }
 
     -- nothing but its links changes
-    unchanged : Holds laws count skew (max greatest now) told (left (w.flying ++ []) (w.journal ++ []))
+    unchanged : Holds laws count skew (max greatest now) tale (left (w.flying ++ []) (w.journal ++ []))
     unchanged =
-        subst (λ (flying : List Flying). Holds laws count skew (max greatest now) told (left flying (w.journal ++ []))) (sym (append-nil w.flying))
-        (subst (λ (journal : List Item). Holds laws count skew (max greatest now) told (left w.flying journal)) (sym (append-nil w.journal))
-        (subst (λ (servers : List Core). Holds laws count skew (max greatest now) told (record (parts_of w) { servers = servers })) (sym (set_same w.servers k c at)) (later laws count skew greatest told w h now within some)))
+        subst (λ (flying : List Flying). Holds laws count skew (max greatest now) tale (left flying (w.journal ++ []))) (sym (append-nil w.flying))
+        (subst (λ (journal : List Item). Holds laws count skew (max greatest now) tale (left w.flying journal)) (sym (append-nil w.journal))
+        (subst (λ (servers : List Core). Holds laws count skew (max greatest now) tale (record (parts_of w) { servers = servers })) (sym (set_same w.servers k c at)) (later laws count skew greatest tale w h now within some)))
 
     abbrev hearing : Peer → Option Peer → Heard → Option ServerEvent → Links → Served
     hearing from heard x event links = (with_server k (server_hears now k from heard x event (record (at_server c post w) { post = links })) w).world
@@ -83,8 +85,8 @@ module _ (laws : EventLaws) (count skew greatest : ℕ) (told : List Told) (w : 
         → Is (hearing (Client s) heard x (Some (FromClient s m.1)) links)
     message_then s seat heard x links m is first =
         quietly (hearing (Client s) heard x (Some (FromClient s m.1)) links)
-        (subst (λ (o : Option Seat). Holds laws count skew (max greatest now) told (after_core laws count skew greatest told (parts_of w) h now k c at (FromClient s m.1) (without_up k o s.0 w.seats))) (sym is)
-        (message_holds laws count skew greatest told (parts_of w) h now k c at s seat m is first))
+        (subst (λ (o : Option Seat). Holds laws count skew (max greatest now) tale (after_core laws count skew greatest tale (parts_of w) h now k c at (FromClient s m.1) (without_up k o s.0 w.seats))) (sym is)
+        (message_holds laws count skew greatest tale (parts_of w) h now k c at s seat m is first))
 
     session_hears : (s : Session) (o : Option Seat) → get w.seats s.0 ≡ o → (heard : Option Peer) (x : Heard) (js : List Joined) (links : Links) → IsFirstOf js (ups_of k o) → Is (hearing (Client s) heard x (event_heard (Client s) js) links)
     session_hears s o is heard x [] links f = none_hears (Client s) heard x links
@@ -97,9 +99,9 @@ module _ (laws : EventLaws) (count skew greatest : ℕ) (told : List Told) (w : 
     peer_then : (i : ℕ) (heard : Option Peer) (x : Heard) (links : Links) (f : Flying) → find (is_between i k) w.flying ≡ Some f → Is (hearing (Server i) heard x (Some (FromPeer i f.message)) links)
     peer_then i heard x links f first =
         quietly (hearing (Server i) heard x (Some (FromPeer i f.message)) links)
-        (server_holds laws count skew greatest told (parts_of w) h now k c at (FromPeer i f.message) w.seats refl (λ x i. i)
-        (flying_there laws count skew greatest told (parts_of w) h now k c at i f first)
-        (flying_of_joined laws count skew greatest told (parts_of w) h now k c at i f first))
+        (server_holds laws count skew greatest tale (parts_of w) h now k c at (FromPeer i f.message) w.seats refl (λ x i. i)
+        (flying_there laws count skew greatest tale (parts_of w) h now k c at i f first)
+        (flying_of_joined laws count skew greatest tale (parts_of w) h now k c at i f first))
 
     server_hears_then : (i : ℕ) (heard : Option Peer) (x : Heard) (js : List Joined) (links : Links) → IsFirstOf js (flying_between i k w.flying) → Is (hearing (Server i) heard x (event_heard (Server i) js) links)
     server_hears_then i heard x [] links f = none_hears (Server i) heard x links
@@ -117,16 +119,19 @@ module _ (laws : EventLaws) (count skew greatest : ℕ) (told : List Told) (w : 
 
     -- what no message brings
     own_step : (turn : Bool) (e : ServerEvent) → lines_of w.term w.seats ≡ without_question k e (lines_of w.term w.seats) → IsThere k e (cluster_of h.replied (parts_of w)) → IsAsked (HasJoined w.seats) e
-        → Holds laws count skew (max greatest now) told (after_core laws count skew greatest told (parts_of w) h now k c at e w.seats)
-    own_step turn e taken there asker = server_holds laws count skew greatest told (parts_of w) h now k c at e w.seats taken (λ x i. i) there asker
+        → Holds laws count skew (max greatest now) tale (after_core laws count skew greatest tale (parts_of w) h now k c at e w.seats)
+    own_step turn e taken there asker = server_holds laws count skew greatest tale (parts_of w) h now k c at e w.seats taken (λ x i. i) there asker
 
   -- ## At any server
 
-  told_at_server : (k : ℕ) (from : Peer) (p : Packet) (c : Option Core) (post : Option Links) → slice_get w.servers k ≡ c → IsFirstOf (joined_at post from p) (between w from (Server k)) → Is (server_told_at c post now k from p w).world
-  told_at_server k from p (Some c) (Some post) at f = told_server k c post at from p f
-  told_at_server k from p (Some c) None at f = same
-  told_at_server k from p None (Some post) at f = same
-  told_at_server k from p None None at f = same
+  abbrev After : What → Stepped → Type 0
+  After what x = HoldsOf laws count skew (max greatest now) (after what x.outcome tale) x.world
+
+  told_at_server : (number : Option ℕ) (k : ℕ) (from : Peer) (p : Packet) (c : Option Core) (post : Option Links) → slice_get w.servers k ≡ c → IsFirstOf (joined_at post from p) (between w from (Server k)) → After (Tell number) (server_told_at c post now k from p w)
+  told_at_server number k from p (Some c) (Some post) at f = told_server k c post at from p f
+  told_at_server number k from p (Some c) None at f = same
+  told_at_server number k from p None (Some post) at f = same
+  told_at_server number k from p None None at f = same
 
   turn_at_server : (k : ℕ) (c : Option Core) (post : Option Links) → slice_get w.servers k ≡ c → Is (server_step_at c post k true now TheTurn w).world
   turn_at_server k (Some c) (Some post) at = quietly (server_step_at (Some c) (Some post) k true now TheTurn w).world (own_step k c post at true TheTurn refl tt tt)
@@ -148,32 +153,33 @@ module _ (laws : EventLaws) (count skew greatest : ℕ) (told : List Told) (w : 
 
   -- ## A packet is told
 
-  comes_then : (from to : Peer) (p : Packet) → IsFirstOf (joined_at (post_of w to) from p) (between w from to) → Is (comes now from to p w).world
-  comes_then (Client s) (Server k) p f = told_at_server k (Client s) p (slice_get w.servers k) (slice_get w.posts k) refl f
-  comes_then (Server j) (Server k) p f = told_at_server k (Server j) p (slice_get w.servers k) (slice_get w.posts k) refl f
-  comes_then (Server j) (Client s) p f = told_holds laws count skew greatest told w h now within some s j p (get w.seats s.0) refl f
-  comes_then (Client r) (Client s) p f = same
+  comes_then : (number : Option ℕ) (from to : Peer) (p : Packet) → IsFirstOf (joined_at (post_of w to) from p) (between w from to) → After (Tell number) (comes now from to p w)
+  comes_then number (Client s) (Server k) p f = told_at_server number k (Client s) p (slice_get w.servers k) (slice_get w.posts k) refl f
+  comes_then number (Server j) (Server k) p f = told_at_server number k (Server j) p (slice_get w.servers k) (slice_get w.posts k) refl f
+  comes_then number (Server j) (Client s) p f = told_holds laws count skew greatest tale w h now within some s j p (get w.seats s.0) refl f
+  comes_then number (Client r) (Client s) p f = same
 
-  arrives_then : (from to : Peer) (p : Option Packet) → GivesFirst w from to p → Is (arrives now from to p w).world
-  arrives_then from to None f = same
-  arrives_then from to (Some p) f = comes_then from to p f
+  arrives_then : (number : Option ℕ) (from to : Peer) (p : Option Packet) → GivesFirst w from to p → After (Tell number) (arrives now from to p w)
+  arrives_then number from (Server k) None f = same
+  arrives_then number from (Client s) None f = subst (λ ts. Then laws count skew greatest tale w h now within some ts tale.leads w) (sym (quiet_note s (tale.leads s) note.Strange refl)) same
+  arrives_then number from to (Some p) f = comes_then number from to p f
 
   -- that it counts as told is of no matter
-  tell_then : Carries w → (o : Option Sent) (k : ℕ) → slice_get w.packets.sent k ≡ o → Is (tell_at o now k w).world
-  tell_then carry None k at = same
-  tell_then carry (Some x) k at = arrives_then x.from x.to (packet_at x.bytes) (carry x (In-got w.packets.sent k x at))
+  tell_then : (number : Option ℕ) → Carries w → (o : Option Sent) (k : ℕ) → slice_get w.packets.sent k ≡ o → After (Tell number) (tell_at o now k w)
+  tell_then number carry None k at = same
+  tell_then number carry (Some x) k at = arrives_then number x.from x.to (packet_at x.bytes) (carry x (In-got w.packets.sent k x at))
 
   -- ## Each event
 
   pub to_there : (to : ℕ) → nat_lt to count ≡ true → to < length w.servers
   to_there to e = subst (λ (n : ℕ). to < n) (sym h.many) (is_less to count e)
 
-  pub step_holds : Carries w → (term : ℕ) (what : What) → may_happen (Servers count skew term) what ≡ true → Then laws count skew greatest told w h now within some (told_in what (step_of w now what).outcome.notes) (step_of w now what).world
-  step_holds carry term (Join s) may = join_holds laws count skew greatest told w h now within some s (get w.seats s.0) refl
-  step_holds carry term (Do s o) may = do_holds laws count skew greatest told w h now within some s o (get w.seats s.0) refl may
-  step_holds carry term (Tell None) may = tell_then carry (slice_get w.packets.sent (first_untold w.packets.told)) (first_untold w.packets.told) refl
-  step_holds carry term (Tell (Some k)) may = tell_then carry (slice_get w.packets.sent k) k refl
-  step_holds carry term (Turn (Client s)) may = turn_holds laws count skew greatest told w h now within some s (get w.seats s.0) refl
+  pub step_holds : Carries w → (term : ℕ) (what : What) → may_happen (Servers count skew term) what ≡ true → After what (step_of w now what)
+  step_holds carry term (Join s) may = join_holds laws count skew greatest tale w h now within some s (get w.seats s.0) refl
+  step_holds carry term (Do s o) may = do_holds laws count skew greatest tale w h now within some s o (get w.seats s.0) refl may
+  step_holds carry term (Tell None) may = tell_then None carry (slice_get w.packets.sent (first_untold w.packets.told)) (first_untold w.packets.told) refl
+  step_holds carry term (Tell (Some k)) may = tell_then (Some k) carry (slice_get w.packets.sent k) k refl
+  step_holds carry term (Turn (Client s)) may = turn_holds laws count skew greatest tale w h now within some s (get w.seats s.0) refl
   step_holds carry term (Turn (Server k)) may = turn_at_server k (slice_get w.servers k) (slice_get w.posts k) refl
   step_holds carry term (Recall k field) may = recall_at_server k field (slice_get w.servers k) (slice_get w.posts k) refl
   step_holds carry term (Move k prefix to) may = move_at_server k prefix to (slice_get w.servers k) (slice_get w.posts k) refl (to_there to (both (nat_lt k count) (nat_lt to count) may).1)

@@ -1,5 +1,5 @@
 -- What an event of a server makes of what holds of a world of the servers form.
-use Rattle.std.proofs.Common.{◌≡◌, ℕ, ◌≤◌, ◌==◌, max, List, ◌++◌, ap, sym, ◌∙◌, subst, inl, inr, arith}
+use Rattle.std.proofs.Common.{◌≡◌, ℕ, ◌≤◌, ◌==◌, true, max, List, ◌++◌, ap, sym, ◌∙◌, subst, inl, inr, arith}
 use Rattle.std.proofs.lemmas.Bool.{eqb-true}
 use Rattle.std.proofs.lemmas.List.{length-set}
 use Rattle.std.specs.Prelude.{Option, Some, slice_get, slice_set}
@@ -9,20 +9,25 @@ use Rattle.fs_ident.specs.In.{In}
 use Rattle.fs_ident.specs.declared.actor.Session.{Session}
 use Rattle.fs_ident.proofs.Booleans.{both}
 use Rattle.fs_ident.proofs.Passing.{found}
+use Rattle.fs_ident.proofs.Same.{one_session}
 use Rattle.fs_ident.proofs.Standing.{In-got, In-append, In-mapped}
 use Rattle.fs_msg.specs.declared.client_msg.ClientMsg.{ClientMsg}
 use Rattle.fs_msg.specs.declared.client_msg.ClientMsg.TheVariants.{Ask, Renew, Release, Ship, Lead}
 use Rattle.fs_msg.specs.declared.entry.Entry.{Entry}
+use Rattle.fs_msg.specs.declared.item.Item.{Item}
+use Rattle.fs_msg.specs.declared.lead.Lead.{Lead as ToLead}
+use Rattle.fs_server.specs.Server.{begun}
 use Rattle.fs_server.specs.Step.{step}
 use Rattle.fs_server.specs.declared.event.ServerEvent.{ServerEvent}
 use Rattle.fs_server.specs.declared.event.ServerEvent.TheVariants.{FromClient, FromPeer, Turn, Recall, Move}
 use Rattle.fs_server.specs.declared.state.Server.{Server}
 use Rattle.fs_serial.specs.Cluster.{Cluster, IsThere, Lines, after_server, after_server_at, flying_from, is_between, is_with, replies_after, with_lines, with_sent, without_first, without_arrived, without_question}
+use Rattle.fs_serial.specs.Exchange.{IsToBeLed}
 use Rattle.fs_serial.specs.Seen.{ends_of}
 use Rattle.fs_serial.specs.declared.flying.Flying.{Flying}
 use Rattle.fs_serial.proofs.SetAt.{In_set, In_without}
 use Rattle.fs_world.specs.Linked.{HasJoined}
-use Rattle.fs_world.specs.Order.{Told}
+use Rattle.fs_world.specs.Order.{Tale, told_to}
 use Rattle.fs_world.specs.Parts.{lines_in, lines_of}
 use Rattle.fs_world.specs.Served.{Seats, with_downs}
 use Rattle.fs_world.specs.declared.seat.Seat.{Seat}
@@ -32,9 +37,10 @@ use Rattle.fs_world.proofs.SeenRows.{BringsOf, IsAsked, IsOf, brings_still, step
 use Rattle.fs_world.proofs.SeenSends.{downs_joined, flying_of_these, sends_seen}
 use Rattle.fs_world.proofs.SerialLaws.{EventLaws}
 use Rattle.fs_world.proofs.ServedHolds.{Holds, Parts, cluster_of}
-use Rattle.fs_world.proofs.Told.{step_led, told_led}
+use Rattle.fs_world.proofs.Coming.{answers_to, sent_line, taken_line, with_more}
+use Rattle.fs_world.proofs.Told.{AllTelling, AsksLed, IsTelling, answered_telling, brought, event_brings, replies_with}
 
-module _ (laws : EventLaws) (count skew greatest : ℕ) (told : List Told) (p : Parts) (h : Holds laws count skew greatest told p) (now : ℕ) (k : ℕ) (s : Server) (at : slice_get p.servers k ≡ Some s) where
+module _ (laws : EventLaws) (count skew greatest : ℕ) (tale : Tale) (p : Parts) (h : Holds laws count skew greatest tale p) (now : ℕ) (k : ℕ) (s : Server) (at : slice_get p.servers k ≡ Some s) where
   abbrev pub c : Cluster
   c = cluster_of h.replied p
 
@@ -70,6 +76,23 @@ module _ (laws : EventLaws) (count skew greatest : ℕ) (told : List Told) (p : 
   event_asks (Recall field) there = tt
   event_asks (Move prefix to) there = tt
 
+  -- what a session asks to be led is led
+  lead_asked : (by x : Session) (m : ToLead) → IsThere k (FromClient by (Lead m)) c → (by.0 == x.0) ≡ true → IsToBeLed (lines_of p.term p.seats x).client.led m
+  lead_asked by x m there e =
+      subst (λ (y : Session). IsToBeLed (lines_of p.term p.seats y).client.led m) (one_session by x e)
+      ((laws.exchanges skew greatest s c by server_in h.cluster).leads m (In-mapped (λ (n : ℕ × ClientMsg). n.1) (k, Lead m) (lines_of p.term p.seats by).up (found (is_with k) (lines_of p.term p.seats by).up (k, Lead m) there).0))
+
+  asks_led : (x : Session) (e : ServerEvent) → IsThere k e c → AsksLed e x (lines_of p.term p.seats x).client.led
+  asks_led x (FromClient by (Lead m)) there = lead_asked by x m there
+  asks_led x (FromClient by (Ask items dir)) there = tt
+  asks_led x (FromClient by (Renew pairs)) there = tt
+  asks_led x (FromClient by (Release pairs)) there = tt
+  asks_led x (FromClient by (Ship entries)) there = tt
+  asks_led x (FromPeer from m) there = tt
+  asks_led x Turn there = tt
+  asks_led x (Recall field) there = tt
+  asks_led x (Move prefix to) there = tt
+
   -- ## An event, whose message is gone from these seats
 
   abbrev pub after_core : ServerEvent → Seats → Parts
@@ -92,6 +115,17 @@ module _ (laws : EventLaws) (count skew greatest : ℕ) (told : List Told) (p : 
         ap (λ (o : Option Server). after_server_at o now k e c) at
         ∙ ap (λ (lines : Session → Lines). stepped lines) (ap (with_sent k (step s now e).out.send) (sym taken) ∙ sym (sends_seen p.term k (step s now e).out.send before step_is.sends))
 
+    -- what it brings to each session
+    at_each : AllTelling (with_sent k (step s now e).out.send (without_question k e (lines_of p.term p.seats))) (replies_after e (step s now e).out.admitted h.replied) tale
+    at_each x =
+        let send = (step s now e).out.send in
+        let l : Lines = lines_of p.term p.seats x in
+        let t = taken_line k e (lines_of p.term p.seats) x in
+        subst (λ (n : Lines). IsTelling x n (replies_after e (step s now e).out.admitted h.replied x) (told_to x tale.told) (tale.leads x)) (sym (sent_line k send (without_question k e (lines_of p.term p.seats)) x ∙ ap (with_more (answers_to k x send)) t.1))
+        (subst (λ (items : List Item). IsTelling x (with_more (answers_to k x send) (record l { up = t.0 })) items (told_to x tale.told) (tale.leads x)) (sym (replies_with e x (step s now e).out.admitted h.replied))
+        (answered_telling k x l (h.replied x) (brought e x (step s now e).out.admitted) (told_to x tale.told) (tale.leads x) (h.answered x) send t.0
+        (event_brings k x l.client.led e (begun now s) (asks_led x e there))))
+
     joined_then : (x : Session) → HasJoined before x → HasJoined (after_core e before).seats x
     joined_then x i = downs_joined k (step s now e).out.send before x i
 
@@ -102,17 +136,21 @@ module _ (laws : EventLaws) (count skew greatest : ℕ) (told : List Told) (p : 
     left_there (Recall field) f i = i
     left_there (Move prefix to) f i = i
 
-    pub server_holds : Holds laws count skew (max greatest now) told (after_core e before)
+    pub server_holds : Holds laws count skew (max greatest now) tale (after_core e before)
     server_holds = record {
       replied = replies_after e (step s now e).out.admitted h.replied;
       cluster = subst (λ (d : Cluster). laws.Holds skew (max greatest now) d) core_seen (laws.event skew (max greatest now) now k e s c at in_time there later_holds);
       many = length-set p.servers k (step s now e).server ∙ h.many;
       rows = rows;
       parcels = parcels;
-      answered = told_led e (step s now e).out.admitted h.replied told h.answered (step_led s now e);
+      answered = answered;
       items = fine_more p.journal (step s now e).out.admitted h.items (step_fine s now e (event_asks e there));
     }
       where
+        answered : AllTelling (lines_of p.term (after_core e before).seats) (replies_after e (step s now e).out.admitted h.replied) tale
+        answered = subst (λ (lines : Session → Lines). AllTelling lines (replies_after e (step s now e).out.admitted h.replied) tale)
+            (ap (with_sent k (step s now e).out.send) (sym taken) ∙ sym (sends_seen p.term k (step s now e).out.send before step_is.sends)) at_each
+
         rows : (x : Server) → In x (after_core e before).servers → (row : _) → In row x.rows → HasJoined (after_core e before).seats row.session
         rows x i row j = elim (In_set p.servers k (step s now e).server x i) as (λ _. HasJoined (after_core e before).seats row.session) [
           | inl same ↦ joined_then row.session (step_is.rows row (subst (λ (y : Server). In row y.rows) same j))
@@ -140,7 +178,7 @@ module _ (laws : EventLaws) (count skew greatest : ℕ) (told : List Told) (p : 
       ∙ ap (λ (n : Lines). with_lines by (record n { up = without_first (is_with k) n.up }) (lines_of p.term p.seats)) (sym (ap (lines_in p.term by) is))
 
   pub message_holds : (by : Session) (seat : Seat) (m : ℕ × ClientMsg) → get p.seats by.0 ≡ Some seat → find (is_with k) seat.up ≡ Some m
-      → Holds laws count skew (max greatest now) told (after_core (FromClient by m.1) (insert p.seats by.0 (record seat { up = without_first (is_with k) seat.up })))
+      → Holds laws count skew (max greatest now) tale (after_core (FromClient by m.1) (insert p.seats by.0 (record seat { up = without_first (is_with k) seat.up })))
   message_holds by seat m is first = server_holds (FromClient by m.1) (insert p.seats by.0 (record seat { up = without_first (is_with k) seat.up }))
       (question_taken by seat m.1 is) (λ x i. joined_still p.seats by x (record seat { up = without_first (is_with k) seat.up }) i) (question_there by seat m is first)
       (joined_still p.seats by by (record seat { up = without_first (is_with k) seat.up }) (seat, is))

@@ -6,6 +6,7 @@ pub mod World
 pub mod Within
 pub mod Carried
 pub mod Order
+pub mod Coming
 pub mod Safe
 pub mod Refusals
 pub mod Over

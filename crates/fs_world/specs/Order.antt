@@ -1,5 +1,5 @@
 -- Session order: each actor's items have the numbers 1, 2, 3 .., and the replies that were told are theirs.
-use Rattle.std.specs.Prelude.{◌≡◌, ℕ, ◌+◌, Bool, false, ◌==◌, List, [], ◌∷◌, ◌++◌, Option, filter, ◌⊎◌}
+use Rattle.std.specs.Prelude.{◌≡◌, ℕ, ◌+◌, Bool, false, ◌==◌, List, [], ◌∷◌, ◌++◌, Option, Some, None, filter, if◌then◌else◌}
 use Rattle.fs_ident.specs.declared.actor.Session.{Session}
 use Rattle.fs_ident.specs.declared.actor.Peer.{Peer}
 use Rattle.fs_ident.specs.declared.actor.Peer.TheVariants.{Server, Client}
@@ -7,14 +7,14 @@ use Rattle.fs_ident.specs.In.{In}
 use Rattle.fs_model.specs.declared.op.Op.{Op}
 use Rattle.fs_model.specs.declared.op.Op.TheVariants as op
 use Rattle.fs_model.specs.declared.reply.Reply.{Reply}
-use Rattle.fs_record.specs.Effects.{tells_its_effects}
-use Rattle.fs_msg.specs.declared.act.Act.TheVariants.{Replied, ReadNow}
+use Rattle.fs_msg.specs.declared.act.Act.TheVariants.{Leading, Replied, ReadNow}
+use Rattle.fs_msg.specs.declared.client_note.ClientNote.TheVariants.{Led}
 use Rattle.fs_msg.specs.declared.item.Item.{Item}
 use Rattle.fs_msg.specs.declared.note.Note.{Note}
 use Rattle.fs_msg.specs.declared.note.Note.TheVariants as note
 use Rattle.fs_schedule.specs.declared.event.Event.{Event}
 use Rattle.fs_schedule.specs.declared.event.What.{What}
-use Rattle.fs_schedule.specs.declared.event.What.TheVariants.{Do}
+use Rattle.fs_schedule.specs.declared.event.What.TheVariants.{Do, Tell}
 use Rattle.fs_schedule.specs.declared.outcome.Outcome.{Outcome}
 
 -- ## The items of one actor
@@ -49,14 +49,62 @@ replies_in s o (note.Act (Replied n r) ∷ ns) = record { session = s; n = n; as
 replies_in s o (note.Act (ReadNow n r) ∷ ns) = record { session = s; n = n; asked = o; reply = r } ∷ replies_in s o ns
 replies_in s o (_ ∷ ns) = replies_in s o ns
 
-abbrev pub told_at : What → List Note → List Told
-told_at (Do s o) notes = replies_in s o notes
-told_at _ notes = []
+-- of each session the newest operation that a server was asked to lead for it
+abbrev pub Leads : Type 0
+Leads = Session → Option Op
+
+abbrev pub with_lead : Session → Op → Leads → Leads
+with_lead s o leads x = if s.0 == x.0 then Some o else leads x
+
+-- as the notes on the session's operation tell
+abbrev pub leads_in : Session → Op → List Note → Leads → Leads
+leads_in s o [] leads = leads
+leads_in s o (note.Act (Leading n to) ∷ ns) leads = leads_in s o ns (with_lead s o leads)
+leads_in s o (_ ∷ ns) leads = leads_in s o ns leads
+
+-- the reply that is told with the end of what was led
+abbrev pub reply_told : Note → Option (ℕ × Reply)
+reply_told (note.Client (Led n r)) = Some (n, r)
+reply_told n = None
+
+abbrev pub told_with : Session → Op → Option (ℕ × Reply) → List Told
+told_with s o None = []
+told_with s o (Some x) = record { session = s; n = x.0; asked = o; reply = x.1 } ∷ []
+
+-- those among the session's notes, where it was that operation
+abbrev pub ended_in : Session → Option Op → List Note → List Told
+ended_in s (Some o) (n ∷ ns) = told_with s o (reply_told n) ++ ended_in s (Some o) ns
+ended_in s o notes = []
+
+-- what the notes tell: to an operation at once, or later with an answer
+abbrev pub told_at : What → Option Peer → List Note → Leads → List Told
+told_at (Do s o) who notes leads = replies_in s o notes
+told_at (Tell number) (Some (Client s)) notes leads = ended_in s (leads s) notes
+told_at what who notes leads = []
+
+abbrev pub leads_at : What → List Note → Leads → Leads
+leads_at (Do s o) notes leads = leads_in s o notes leads
+leads_at what notes leads = leads
+
+-- what sessions were told so far, in order
+pub record Tale : Type 0 where
+  pub told : List Told
+  pub leads : Leads
+
+abbrev pub first_tale : Tale
+first_tale = record { told = []; leads = λ x. None }
+
+abbrev pub after : What → Outcome → Tale → Tale
+after what o t = record { told = t.told ++ told_at what o.who o.notes t.leads; leads = leads_at what o.notes t.leads }
+
+-- with the outcomes of these events
+abbrev pub tale_of : Tale → List Event → List Outcome → Tale
+tale_of t (e ∷ es) (o ∷ os) = tale_of (after e.what o t) es os
+tale_of t es os = t
 
 -- what the outcomes of the events told, in order
 abbrev pub told_of : List Event → List Outcome → List Told
-told_of (e ∷ es) (o ∷ os) = told_at e.what o.notes ++ told_of es os
-told_of _ _ = []
+told_of es os = (tale_of first_tale es os).told
 
 -- ## The journal against what was told
 
@@ -79,16 +127,11 @@ pub record Agrees (i : Item) (t : Told) : Type 0 where
 abbrev pub told_to : Session → List Told → List Told
 told_to s told = filter (λ (t : Told). s.0 == t.session.0) told
 
--- a server led the operation
-abbrev pub WasLed : Item → Type 0
-WasLed i = tells_its_effects i.op ≡ false
-
--- the items are what was told, one for one, but for some that servers led
+-- the items are what was told, one for one
 abbrev pub AreAsTold : List Item → List Told → Type 0
 AreAsTold [] [] = Unit {0}
-AreAsTold [] (t ∷ ts) = ⊥
-AreAsTold (i ∷ is) [] = WasLed i × AreAsTold is []
-AreAsTold (i ∷ is) (t ∷ ts) = (HasNumberOf i t × Agrees i t × AreAsTold is ts) ⊎ (WasLed i × AreAsTold is (t ∷ ts))
+AreAsTold (i ∷ is) (t ∷ ts) = HasNumberOf i t × Agrees i t × AreAsTold is ts
+AreAsTold is ts = ⊥
 
 -- each actor's items are numbered from 1, and where one has the number of what was told it agrees
 pub record IsInSessionOrder (journal : List Item) (told : List Told) : Type 0 where

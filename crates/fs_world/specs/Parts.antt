@@ -11,7 +11,8 @@ use Rattle.fs_serial.specs.Numbers.{all_items}
 use Rattle.fs_serial.specs.Runs.{IsOrderly}
 use Rattle.fs_serial.specs.Seen.{ClusterHolds, ends_of}
 use Rattle.fs_serial.specs.World.{settled_at}
-use Rattle.fs_world.specs.Order.{AreAsTold, Told, told_of, told_to}
+use Rattle.fs_world.specs.Coming.{IsTold}
+use Rattle.fs_world.specs.Order.{Told, told_of, told_to}
 use Rattle.fs_world.specs.Served.{Seats}
 use Rattle.fs_world.specs.World.{Run}
 use Rattle.fs_world.specs.declared.form.Form.{Form}
@@ -35,10 +36,10 @@ seen replied w = record { servers = w.servers; flying = w.flying; journal = w.jo
 abbrev pub replied_in : Served → Session → List Item
 replied_in w x = all_items x w.journal (settled_at x (ends_of (lines_of w.term w.seats x))).log
 
--- where no reading was greater and this was told: all parts of the invariant hold, and those items are what the notes told each session, but for some that servers led
+-- where no reading was greater and this was told: all parts of the invariant hold, and those items are what the notes told each session, and what is on its way to it
 pub record ServedHold (skew greatest : ℕ) (told : List Told) (w : Served) : Type 0 where
   pub parts : ClusterHolds skew greatest (seen (replied_in w) w)
-  pub replies : (x : Session) → AreAsTold (replied_in w x) (told_to x told)
+  pub replies : (x : Session) → IsTold x (lines_of w.term w.seats x) (replied_in w x) (told_to x told)
 
 -- the direct form has no parts
 abbrev pub PartsHold : Head → ℕ → List Told → Form → Type 0

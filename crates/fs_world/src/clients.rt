@@ -3,7 +3,6 @@ ghost use Rattle.std.specs.Prelude.{◌≡◌, ◌≤◌, true, IfOk, OnOk, OnEr
 ghost use Rattle.fs_ident.specs.declared.limits.TheConstants.{LATEST};
 ghost use Rattle.fs_model.specs.Asking.{may_ask};
 ghost use Rattle.fs_msg.specs.declared.answer.Answer.{Answer as TheAnswer};
-ghost use Rattle.fs_record.specs.Effects.{tells_its_effects};
 ghost use Rattle.fs_client.specs.Acts.{act_plan};
 ghost use Rattle.fs_client.specs.Answers.{answer_plan};
 ghost use Rattle.fs_client.specs.Turns.{turn_plan};
@@ -35,7 +34,6 @@ pub(crate) fn acts(
 ) -> Result<Outcome, CoreError>
     requires reading { now ≤ LATEST }
     requires asked { may_ask op.now ≡ true }
-    requires plain { tells_its_effects op.now ≡ true }
     ensures done { IfOk result (λ told. seat_left told seat.new journal.new packets.new ≡
         client_acts now s op.now seat.old journal.old packets.old) }
     ensures fits { OnOk result (FitsUp (act_plan seat.old.client now op.now).out.send) }

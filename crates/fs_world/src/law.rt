@@ -27,7 +27,7 @@ pub fn every_run_is_serial()
 
 /// After every event of such a run, since each ends a run of its own, all parts of the invariant of the servers and their
 /// clients hold, for the skew of the head and the greatest reading so far; and what the journal and each client's log have for a
-/// session is, one for one, what the notes of the run told it, but for some of what servers led.
+/// session is, one for one, what the notes of the run told it, and then the reply that is on its way of what a server led.
 pub fn every_run_keeps_all_parts()
     ensures { (s : Schedule) → FitsHead s.head → AllMayHappen s.head s.events →
         IsTimely s.head s.events → AllWithin (first_world s.head) s.events →
