@@ -227,7 +227,7 @@ const SKEWS_AND_HEADS: [(&[u8], &[u8], Status); 6] = [
     ),
     (
         b"farsite 1 servers 1 skew 10 term 100\n",
-        b"0 do c1 delete / \"a\"\n",
+        b"0 do c1 reap / c2\n",
         Status::BadLine { line: 2 },
     ),
 ];

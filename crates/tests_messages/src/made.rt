@@ -8,9 +8,8 @@ use std::test::Fail;
 /// How many of the blocks behind the directories are looked at.
 const BLOCKS: u32 = 24;
 
-/// How many events a made schedule has as long as the blocks whose operation is a delete or a
-/// rename are left out: with them there are 52424.
-const EVENTS: usize = 38_800;
+/// How many events a made schedule has.
+const EVENTS: usize = 52_424;
 
 /// A text that grows line by line, and the number of its last event.
 #[derive(Drop)]
@@ -59,16 +58,17 @@ fn draw(x: &mut u128, bound: u128) -> u64 {
     }
 }
 
-/// The operation of a kind, but for those that are not there yet.
-fn op_of(alloc: Global, kind: u64, d: u64, j: u64) -> Result<Option<String>, Fail> {
+/// The operation of a kind; a file that is moved goes to the directory `t`.
+fn op_of(alloc: Global, kind: u64, d: u64, j: u64, t: u64) -> Result<String, Fail> {
     Ok(match kind {
-        0 => Some(format!(in alloc; "create /{d} \"f{j}\" file")?),
-        1 => Some(format!(in alloc; "lookup /{d} \"f{j}\"")?),
-        2 => Some(format!(in alloc; "list /{d}")?),
-        3 => Some(format!(in alloc; "open /{d}/{j} 1 R -")?),
-        4 => Some(format!(in alloc; "close /{d}/{j} 1")?),
-        5 => Some(format!(in alloc; "info /{d}/{j}")?),
-        _ => None,
+        0 => format!(in alloc; "create /{d} \"f{j}\" file")?,
+        1 => format!(in alloc; "lookup /{d} \"f{j}\"")?,
+        2 => format!(in alloc; "list /{d}")?,
+        3 => format!(in alloc; "open /{d}/{j} 1 R -")?,
+        4 => format!(in alloc; "close /{d}/{j} 1")?,
+        5 => format!(in alloc; "info /{d}/{j}")?,
+        6 => format!(in alloc; "rename /{d} \"f{j}\" /{t} \"f{j}\"")?,
+        _ => format!(in alloc; "delete /{d} \"f{j}\"")?,
     })
 }
 
@@ -78,13 +78,13 @@ fn add_drawn(alloc: Global, text: &mut Text, x: &mut u128) -> Result<(), Fail> {
     let d = draw(x, 8).wrapping_add(1);
     let j = draw(x, 5).wrapping_add(1);
     let kind = draw(x, 8);
-    if kind == 6 {
-        let _ = draw(x, 8);
-    }
-    match op_of(alloc, kind, d, j)? {
-        Some(op) => add_block(alloc, text, c, &op),
-        None => Ok(()),
-    }
+    let t = if kind == 6 {
+        draw(x, 8).wrapping_add(1)
+    } else {
+        1
+    };
+    let op = op_of(alloc, kind, d, j, t)?;
+    add_block(alloc, text, c, &op)
 }
 
 /// The text of the first events of what is made from the number.

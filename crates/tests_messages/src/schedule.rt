@@ -175,7 +175,7 @@ const DIRECT_LINES: [(&str, &str); 25] = [
 ];
 
 /// The same behind the first line of the servers form.
-const SERVED_LINES: [(&str, &str); 33] = [
+const SERVED_LINES: [(&str, &str); 35] = [
     ("2", "0 tell"),
     ("2", "0 tell 00"),
     ("2", "0 tell last"),
@@ -207,8 +207,10 @@ const SERVED_LINES: [(&str, &str); 33] = [
     ("2", "0 move s0 /1 s0 s0"),
     ("2", "0 do c1 open /1 1 - R"),
     ("2", "0 do c1 reap /1 c2"),
-    ("2", "0 do c1 delete / \"a\""),
-    ("2", "0 do c1 rename / \"a\" / \"b\""),
+    ("read", "0 do c1 delete / \"a\""),
+    ("read", "0 do c1 rename / \"a\" / \"b\""),
+    ("2", "0 do c1 delete /"),
+    ("2", "0 do c1 rename / \"a\" /"),
 ];
 
 /// The same there, with a skew of 10.

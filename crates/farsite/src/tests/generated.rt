@@ -5,9 +5,8 @@ use std::alloc::Global;
 use std::process::Abort;
 use std::test::Fail;
 
-/// How the line begins as long as the blocks whose operation is a delete or a rename are left out:
-/// with them there are 52424 events.
-const BEGINS: &[u8] = b"gen 1 events 38800 journal ";
+/// How the line begins.
+const BEGINS: &[u8] = b"gen 1 events 52424 journal ";
 
 /// No entry is refused, since no lease ends.
 const NONE_REFUSED: &[u8] = b" refused 0 nodes ";
