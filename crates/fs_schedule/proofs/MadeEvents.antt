@@ -5,13 +5,14 @@ use Rattle.std.specs.Prelude.{None, IfSome, if◌then◌else◌, ◌==◌}
 use Rattle.std.specs.List.{AllByRecursion}
 use Rattle.fs_ident.specs.declared.actor.Session.{Session}
 use Rattle.fs_ident.specs.declared.limits.TheConstants.{SESSIONS, LATEST}
+use Rattle.fs_model.specs.Asking.{may_ask}
 use Rattle.fs_model.specs.declared.op.Op.{Op}
 use Rattle.fs_schedule.specs.declared.event.Event.{Event}
 use Rattle.fs_schedule.specs.declared.event.What.{What}
 use Rattle.fs_schedule.specs.declared.event.What.TheVariants.{Join, Do, Tell, Turn, Move}
 use Rattle.fs_schedule.specs.declared.limits.TheConstants.{EVENTS}
 use Rattle.fs_schedule.specs.Ahead.{AllReadBelow}
-use Rattle.fs_schedule.specs.Made.{asks, block, block_at, blocks, creates_dir, draws_from, drawn, drawn_op, each, happenings, is_fixed, is_there, made, made_head, moves_before, moves_dir, op_of, session, state_after, state_before, stirred, turns, with_event, with_events}
+use Rattle.fs_schedule.specs.Made.{asks, block, block_at, blocks, creates_dir, draws_from, drawn, drawn_op, each, happenings, is_fixed, made, made_head, moves_before, moves_dir, op_of, session, state_after, state_before, stirred, turns, with_event, with_events}
 use Rattle.fs_schedule.specs.Skew.{IsTimely, IsWithinSkew}
 use Rattle.fs_schedule.specs.Spelling.{FitsEvent, FitsHead, FitsParts, FitsWhat, session_in}
 use Rattle.fs_schedule.proofs.Parts.{dir_named, dir_valid, file_named, file_valid, root_valid}
@@ -48,15 +49,14 @@ join_suits k some few = (record { session = (some, omega arith); what = tt }, tt
 turns_suit : (k : ℕ) → 1 ≤ k → k ≤ 6 → AllByRecursion Suits (turns k)
 turns_suit k some few = (record { session = (some, omega arith); what = omega arith }, tells_suit 3)
 
-asks_suit : (s : Session) (o : Op) → 1 ≤ s.0 → s.0 ≤ 6 → FitsParts o → is_there o ≡ true → AllByRecursion Suits (asks s o)
+asks_suit : (s : Session) (o : Op) → 1 ≤ s.0 → s.0 ≤ 6 → FitsParts o → may_ask o ≡ true → AllByRecursion Suits (asks s o)
 asks_suit s o some few parts there = (record { session = (some, omega arith); what = (there, parts) }, tells_suit 6)
 
-block_suits : (s : Session) (o : Op) → 1 ≤ s.0 → s.0 ≤ 6 → FitsParts o → AllByRecursion Suits (block s o)
-block_suits s o some few parts =
-    all_if Suits (is_there o) _ _ (λ there. all_append Suits _ _ (all_each Suits (λ _. asks s o) 4 (λ _ _ _. asks_suit s o some few parts there)) (all_each Suits turns 6 turns_suit)) tt
+block_suits : (s : Session) (o : Op) → 1 ≤ s.0 → s.0 ≤ 6 → FitsParts o → may_ask o ≡ true → AllByRecursion Suits (block s o)
+block_suits s o some few parts asked = all_append Suits _ _ (all_each Suits (λ _. asks s o) 4 (λ _ _ _. asks_suit s o some few parts asked)) (all_each Suits turns 6 turns_suit)
 
 dir_suits : (k : ℕ) → 1 ≤ k → k ≤ 8 → AllByRecursion Suits (block (session 1) (creates_dir k))
-dir_suits k some few = block_suits (session 1) (creates_dir k) (omega arith) (omega arith) (root_valid, dir_named k (omega arith))
+dir_suits k some few = block_suits (session 1) (creates_dir k) (omega arith) (omega arith) (root_valid, dir_named k (omega arith)) refl
 
 -- ## Blocks
 
@@ -78,6 +78,20 @@ op_suits kind dir file to d e f g t u =
     (parts_if (kind == 5) _ _ inside
     (parts_if (kind == 6) _ _ (here, name, there, name) (here, name)))))))
 
+asked_if : (b : Bool) (o p : Op) → may_ask o ≡ true → may_ask p ≡ true → may_ask (if b then o else p) ≡ true
+asked_if true o p h k = h
+asked_if false o p h k = k
+
+op_asked : (kind dir file to : ℕ) → may_ask (op_of kind dir file to) ≡ true
+op_asked kind dir file to =
+    asked_if (kind == 0) _ _ refl
+    (asked_if (kind == 1) _ _ refl
+    (asked_if (kind == 2) _ _ refl
+    (asked_if (kind == 3) _ _ refl
+    (asked_if (kind == 4) _ _ refl
+    (asked_if (kind == 5) _ _ refl
+    (asked_if (kind == 6) _ _ refl refl))))))
+
 below : (x many : ℕ) → 0 < many → drawn x many < many
 below x many some = mod_below (x / 2 ^ 33) many some
 
@@ -89,6 +103,7 @@ drawn_suits x =
     let c = below (stirred (stirred (stirred x))) 5 (omega arith) in
     let t = below (stirred w.state) 8 (omega arith) in
     block_suits (session w.session) (drawn_op w) (omega arith) (omega arith) (op_suits w.kind w.dir w.file (1 + drawn (stirred w.state) 8) (omega arith) (omega arith) (omega arith) (omega arith) (omega arith) (omega arith))
+    (op_asked w.kind w.dir w.file (1 + drawn (stirred w.state) 8))
 
 move_suits : (k : ℕ) → 1 ≤ k → k ≤ 2 → AllByRecursion Suits (Move 0 (k ∷ []) k ∷ [])
 move_suits k some few = (record { session = tt; what = ((omega arith, omega arith), dir_valid k some (omega arith), (omega arith, omega arith)) }, tt)
@@ -97,7 +112,7 @@ moves_suit : (b : ℕ) → AllByRecursion Suits (moves_before b)
 moves_suit b = all_if Suits (b == 300) _ _ (λ _. move_suits 1 (omega arith) (omega arith)) (all_if Suits (b == 600) _ _ (λ _. move_suits 2 (omega arith) (omega arith)) tt)
 
 block_at_suits : (b x : ℕ) → AllByRecursion Suits (block_at b x)
-block_at_suits b x = all_if Suits (is_fixed b) _ _ (λ _. block_suits (session 1) moves_dir (omega arith) (omega arith) (root_valid, dir_named 1 (omega arith), dir_valid 2 (omega arith) (omega arith), dir_named 1 (omega arith))) (drawn_suits x)
+block_at_suits b x = all_if Suits (is_fixed b) _ _ (λ _. block_suits (session 1) moves_dir (omega arith) (omega arith) (root_valid, dir_named 1 (omega arith), dir_valid 2 (omega arith) (omega arith), dir_named 1 (omega arith)) refl) (drawn_suits x)
 
 blocks_suit : (n b : ℕ) → AllByRecursion Suits (blocks n b)
 unfolding blocks
@@ -115,7 +130,7 @@ length_if false vs ws n h k = k
 
 block_few : (s : Session) (o : Op) → length (block s o) ≤ 52
 unfolding each
-block_few s o = length_if (is_there o) _ _ 52 (omega arith) (omega arith)
+block_few s o = omega arith
 
 moves_few : (b : ℕ) → length (moves_before b) ≤ 1
 moves_few b = length_if (b == 300) _ _ 1 (omega arith) (length_if (b == 600) _ _ 1 (omega arith) (omega arith))

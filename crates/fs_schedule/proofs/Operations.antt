@@ -19,7 +19,6 @@ use Rattle.fs_modes.specs.declared.modes.Mode.TheVariants.{AccR, AccW, AccD, Den
 use Rattle.fs_modes.specs.Letters.{letters, dashed, acc_text, deny_text, mode_text}
 use Rattle.fs_model.specs.declared.op.Op.{Op}
 use Rattle.fs_model.specs.declared.op.Op.TheVariants as op
-use Rattle.fs_schedule.specs.declared.event.Head.TheVariants.{Direct}
 use Rattle.fs_schedule.specs.Words.{Word, Bare}
 use Rattle.fs_schedule.specs.Separated.{Lacks}
 use Rattle.fs_schedule.specs.Spelling.{kind_text, op_words, FitsOp, field_words, FitsField, server_word, packet_word}
@@ -103,7 +102,7 @@ no_id : (id : Option (List ℕ)) → not (is_some id) ≡ true → id ≡ None
 no_id None e = refl
 no_id (Some id) e = absurd (no_reap e)
 
-lookup_one : (dir name : List ℕ) (p : Op) → FitsOp Direct (op.Lookup dir name) → FitsOp Direct p → op_words (op.Lookup dir name) ≡ op_words p → op.Lookup dir name ≡ p
+lookup_one : (dir name : List ℕ) (p : Op) → FitsOp (op.Lookup dir name) → FitsOp p → op_words (op.Lookup dir name) ≡ op_words p → op.Lookup dir name ≡ p
 lookup_one dir name (op.Lookup d n) h f e =
     let t1 : id_text dir ≡ id_text d = cc in
     let q1 : dir ≡ d = id_one dir d h.1.0 f.1.0 t1 in
@@ -112,7 +111,7 @@ lookup_one dir name (op.Lookup d n) h f e =
 lookup_one dir name (op.Reap fi se) h f e = absurd (no_reap f.0)
 lookup_one dir name p h f e = absurd (distinct (codes "lookup") _ _ _ e refl)
 
-delete_one : (dir name : List ℕ) (p : Op) → FitsOp Direct (op.Delete dir name) → FitsOp Direct p → op_words (op.Delete dir name) ≡ op_words p → op.Delete dir name ≡ p
+delete_one : (dir name : List ℕ) (p : Op) → FitsOp (op.Delete dir name) → FitsOp p → op_words (op.Delete dir name) ≡ op_words p → op.Delete dir name ≡ p
 delete_one dir name (op.Delete d n) h f e =
     let t1 : id_text dir ≡ id_text d = cc in
     let q1 : dir ≡ d = id_one dir d h.1.0 f.1.0 t1 in
@@ -121,28 +120,28 @@ delete_one dir name (op.Delete d n) h f e =
 delete_one dir name (op.Reap fi se) h f e = absurd (no_reap f.0)
 delete_one dir name p h f e = absurd (distinct (codes "delete") _ _ _ e refl)
 
-list_one : (dir : List ℕ) (p : Op) → FitsOp Direct (op.List dir) → FitsOp Direct p → op_words (op.List dir) ≡ op_words p → op.List dir ≡ p
+list_one : (dir : List ℕ) (p : Op) → FitsOp (op.List dir) → FitsOp p → op_words (op.List dir) ≡ op_words p → op.List dir ≡ p
 list_one dir (op.List d) h f e =
     let t1 : id_text dir ≡ id_text d = cc in
     ap (λ (x : List ℕ). op.List x) (id_one dir d h.1 f.1 t1)
 list_one dir (op.Reap fi se) h f e = absurd (no_reap f.0)
 list_one dir p h f e = absurd (distinct (codes "list") _ _ _ e refl)
 
-kind_asked_one : (file : List ℕ) (p : Op) → FitsOp Direct (op.Kind file) → FitsOp Direct p → op_words (op.Kind file) ≡ op_words p → op.Kind file ≡ p
+kind_asked_one : (file : List ℕ) (p : Op) → FitsOp (op.Kind file) → FitsOp p → op_words (op.Kind file) ≡ op_words p → op.Kind file ≡ p
 kind_asked_one file (op.Kind d) h f e =
     let t1 : id_text file ≡ id_text d = cc in
     ap (λ (x : List ℕ). op.Kind x) (id_one file d h.1 f.1 t1)
 kind_asked_one file (op.Reap fi se) h f e = absurd (no_reap f.0)
 kind_asked_one file p h f e = absurd (distinct (codes "kind") _ _ _ e refl)
 
-info_one : (file : List ℕ) (p : Op) → FitsOp Direct (op.Info file) → FitsOp Direct p → op_words (op.Info file) ≡ op_words p → op.Info file ≡ p
+info_one : (file : List ℕ) (p : Op) → FitsOp (op.Info file) → FitsOp p → op_words (op.Info file) ≡ op_words p → op.Info file ≡ p
 info_one file (op.Info d) h f e =
     let t1 : id_text file ≡ id_text d = cc in
     ap (λ (x : List ℕ). op.Info x) (id_one file d h.1 f.1 t1)
 info_one file (op.Reap fi se) h f e = absurd (no_reap f.0)
 info_one file p h f e = absurd (distinct (codes "info") _ _ _ e refl)
 
-create_one : (dir name : List ℕ) (kind : Kind) (id : Option (List ℕ)) (p : Op) → FitsOp Direct (op.Create dir name kind id) → FitsOp Direct p → op_words (op.Create dir name kind id) ≡ op_words p → op.Create dir name kind id ≡ p
+create_one : (dir name : List ℕ) (kind : Kind) (id : Option (List ℕ)) (p : Op) → FitsOp (op.Create dir name kind id) → FitsOp p → op_words (op.Create dir name kind id) ≡ op_words p → op.Create dir name kind id ≡ p
 create_one dir name kind id (op.Create d n k i) h f e =
     let t1 : id_text dir ≡ id_text d = cc in
     let q1 : dir ≡ d = id_one dir d h.1.0 f.1.0 t1 in
@@ -154,7 +153,7 @@ create_one dir name kind id (op.Create d n k i) h f e =
 create_one dir name kind id (op.Reap fi se) h f e = absurd (no_reap f.0)
 create_one dir name kind id p h f e = absurd (distinct (codes "create") _ _ _ e refl)
 
-open_one : (file : List ℕ) (n : ℕ) (modes : Modes) (p : Op) → FitsOp Direct (op.OpenFile file n modes) → FitsOp Direct p → op_words (op.OpenFile file n modes) ≡ op_words p → op.OpenFile file n modes ≡ p
+open_one : (file : List ℕ) (n : ℕ) (modes : Modes) (p : Op) → FitsOp (op.OpenFile file n modes) → FitsOp p → op_words (op.OpenFile file n modes) ≡ op_words p → op.OpenFile file n modes ≡ p
 open_one file n modes (op.OpenFile d k m) h f e =
     let t1 : id_text file ≡ id_text d = cc in
     let q1 : file ≡ d = id_one file d h.1.0 f.1.0 t1 in
@@ -167,7 +166,7 @@ open_one file n modes (op.OpenFile d k m) h f e =
 open_one file n modes (op.Reap fi se) h f e = absurd (no_reap f.0)
 open_one file n modes p h f e = absurd (distinct (codes "open") _ _ _ e refl)
 
-close_one : (file : List ℕ) (n : ℕ) (p : Op) → FitsOp Direct (op.Close file n) → FitsOp Direct p → op_words (op.Close file n) ≡ op_words p → op.Close file n ≡ p
+close_one : (file : List ℕ) (n : ℕ) (p : Op) → FitsOp (op.Close file n) → FitsOp p → op_words (op.Close file n) ≡ op_words p → op.Close file n ≡ p
 close_one file n (op.Close d k) h f e =
     let t1 : id_text file ≡ id_text d = cc in
     let q1 : file ≡ d = id_one file d h.1.0 f.1.0 t1 in
@@ -177,7 +176,7 @@ close_one file n (op.Close d k) h f e =
 close_one file n (op.Reap fi se) h f e = absurd (no_reap f.0)
 close_one file n p h f e = absurd (distinct (codes "close") _ _ _ e refl)
 
-set_one : (file : List ℕ) (n size stamp : ℕ) (p : Op) → FitsOp Direct (op.Set file n size stamp) → FitsOp Direct p → op_words (op.Set file n size stamp) ≡ op_words p → op.Set file n size stamp ≡ p
+set_one : (file : List ℕ) (n size stamp : ℕ) (p : Op) → FitsOp (op.Set file n size stamp) → FitsOp p → op_words (op.Set file n size stamp) ≡ op_words p → op.Set file n size stamp ≡ p
 set_one file n size stamp (op.Set d k s t) h f e =
     let t1 : id_text file ≡ id_text d = cc in
     let q1 : file ≡ d = id_one file d h.1.0 f.1.0 t1 in
@@ -191,7 +190,7 @@ set_one file n size stamp (op.Set d k s t) h f e =
 set_one file n size stamp (op.Reap fi se) h f e = absurd (no_reap f.0)
 set_one file n size stamp p h f e = absurd (distinct (codes "set") _ _ _ e refl)
 
-rename_one : (sdir sname ddir dname : List ℕ) (p : Op) → FitsOp Direct (op.Rename sdir sname ddir dname) → FitsOp Direct p → op_words (op.Rename sdir sname ddir dname) ≡ op_words p → op.Rename sdir sname ddir dname ≡ p
+rename_one : (sdir sname ddir dname : List ℕ) (p : Op) → FitsOp (op.Rename sdir sname ddir dname) → FitsOp p → op_words (op.Rename sdir sname ddir dname) ≡ op_words p → op.Rename sdir sname ddir dname ≡ p
 rename_one sdir sname ddir dname (op.Rename a b c d) h f e =
     let t1 : id_text sdir ≡ id_text a = cc in
     let q1 : sdir ≡ a = id_one sdir a h.1.0 f.1.0 t1 in
@@ -203,7 +202,7 @@ rename_one sdir sname ddir dname (op.Rename a b c d) h f e =
 rename_one sdir sname ddir dname (op.Reap fi se) h f e = absurd (no_reap f.0)
 rename_one sdir sname ddir dname p h f e = absurd (distinct (codes "rename") _ _ _ e refl)
 
-pub op_one : (o p : Op) → FitsOp Direct o → FitsOp Direct p → op_words o ≡ op_words p → o ≡ p
+pub op_one : (o p : Op) → FitsOp o → FitsOp p → op_words o ≡ op_words p → o ≡ p
 op_one (op.Lookup dir name) p h f e = lookup_one dir name p h f e
 op_one (op.List dir) p h f e = list_one dir p h f e
 op_one (op.Kind file) p h f e = kind_asked_one file p h f e

@@ -132,7 +132,7 @@ told_join head n s h =
     let number = h.2 in
     (Join (record { 0 = number.0 }), record { digits = h.0; session = number.1; fits = tt; spelled = ap (λ (w : Word). Bare (codes "join") ∷ w ∷ []) h.1 }, session_is n number.0 number.2 (λ s. Join s))
 
-pub told_do : (head : Head) (n : ℕ) (s : Word) (o : Op) (ws : List Word) → IsToldSession n s → FitsOp head o × (ws ≡ op_words o) → IsToldWhat head (Do (record { 0 = n }) o) (Bare (codes "do") ∷ s ∷ ws)
+pub told_do : (head : Head) (n : ℕ) (s : Word) (o : Op) (ws : List Word) → IsToldSession n s → FitsOp o × (ws ≡ op_words o) → IsToldWhat head (Do (record { 0 = n }) o) (Bare (codes "do") ∷ s ∷ ws)
 told_do head n s o ws h k =
     let digits = h.0 in
     let number = h.2 in

@@ -13,7 +13,6 @@ use Rattle.fs_schedule.specs.declared.error.Which.TheVariants.{Bytes, Servers, S
 use Rattle.fs_schedule.specs.declared.error.ScheduleError.{ScheduleError}
 use Rattle.fs_schedule.specs.declared.error.ScheduleError.TheVariants.{Limit}
 use Rattle.fs_schedule.specs.declared.event.Head.{Head}
-use Rattle.fs_schedule.specs.declared.event.Head.TheVariants.{Direct}
 use Rattle.fs_schedule.specs.declared.limits.TheConstants.{BYTES, EVENTS}
 use Rattle.fs_schedule.specs.declared.script.Script.{Script}
 use Rattle.fs_schedule.specs.declared.script.Script.TheVariants.{Op, Recall, Move}
@@ -26,15 +25,15 @@ use Rattle.fs_schedule.specs.Script.{AreScriptLines, FitsScript, HasScriptFault,
 use Rattle.fs_schedule.specs.Separated.{AreWords, FitsWord}
 use Rattle.fs_schedule.specs.Spelling.{FitsField, FitsOp, IsServerIn, field_words, op_words, server_word}
 use Rattle.fs_schedule.specs.Words.{Word, Bare, line_text}
-use Rattle.fs_schedule.proofs.Asked.{any_op, bare_one}
+use Rattle.fs_schedule.proofs.Asked.{bare_one}
 use Rattle.fs_schedule.proofs.Cuts.{words_one}
 use Rattle.fs_schedule.proofs.Operations.{distinct, fields_one, id_one, no_reap, op_one, server_one}
 use Rattle.fs_schedule.proofs.Single.{behind, first_operand}
-use Rattle.fs_schedule.proofs.Spelled.{fits_any_op, fits_by, fits_field, fits_id, fits_server, text_of}
+use Rattle.fs_schedule.proofs.Spelled.{fits_op, fits_by, fits_field, fits_id, fits_server, text_of}
 
 -- ## A line's words are words
 
-op_is_words : (o : Asked) (line : List ℕ) → FitsOp Direct o → AllByRecursion FitsWord (op_words o) → line ≡ line_text (op_words o) → AreWords (op_words o) line
+op_is_words : (o : Asked) (line : List ℕ) → FitsOp o → AllByRecursion FitsWord (op_words o) → line ≡ line_text (op_words o) → AreWords (op_words o) line
 op_is_words (op.Lookup dir name) line f h e = (h.0, h.1, e)
 op_is_words (op.List dir) line f h e = (h.0, h.1, e)
 op_is_words (op.Kind file) line f h e = (h.0, h.1, e)
@@ -48,7 +47,7 @@ op_is_words (op.Rename sdir sname ddir dname) line f h e = (h.0, h.1, e)
 op_is_words (op.Reap file session) line f h e = absurd (no_reap f.0)
 
 are_words : (client : Bool) (head : Head) (s : Script) (line : List ℕ) → IsScriptLine client head s line → AreWords (script_words s) line
-are_words true head (Op o) line h = op_is_words o line (any_op head o h.0) (fits_any_op o (any_op head o h.0)) h.1
+are_words true head (Op o) line h = op_is_words o line h.0 (fits_op o h.0) h.1
 are_words true head (Recall f) line h = absurd h.0
 are_words true head (Move prefix to) line h = absurd h.0
 are_words false head (Op o) line h = absurd h.0
@@ -66,7 +65,7 @@ tells_script client head (Err f) ws line a h = λ o s is. h o s is.0 (words_one 
 
 -- ## Words that are no line
 
-pub no_op_line : (head : Head) (ws : List Word) → ((o : Asked) → FitsOp head o → ws ≡ op_words o → ⊥) → (s : Script) → FitsScript true head s → ws ≡ script_words s → ⊥
+pub no_op_line : (head : Head) (ws : List Word) → ((o : Asked) → FitsOp o → ws ≡ op_words o → ⊥) → (s : Script) → FitsScript true head s → ws ≡ script_words s → ⊥
 no_op_line head ws none (Op o) f e = none o f e
 no_op_line head ws none (Recall x) f e = f
 no_op_line head ws none (Move prefix to) f e = f
@@ -128,7 +127,7 @@ script_is_over client head s before n which line (Err f) is short over h =
 -- ## One script, one fault
 
 words_tell : (client : Bool) (head : Head) (s t : Script) → FitsScript client head s → FitsScript client head t → script_words s ≡ script_words t → s ≡ t
-words_tell true head (Op o) (Op p) f g e = ap Op (op_one o p (any_op head o f) (any_op head p g) e)
+words_tell true head (Op o) (Op p) f g e = ap Op (op_one o p f g e)
 words_tell true head (Op o) (Recall y) f g e = absurd g
 words_tell true head (Op o) (Move q k) f g e = absurd g
 words_tell true head (Recall x) t f g e = absurd f

@@ -23,7 +23,6 @@ use Rattle.fs_schedule.specs.Spelling.{FitsHead, FitsTimes, IsCountOf, has_many,
 use Rattle.fs_schedule.specs.Skew.{IsUntimely}
 use Rattle.fs_schedule.specs.Faults.{IsFormLine, NamesManyServers, IsEventLine, NamesLateSession, Passes, LineFault, PassesLimit, IsOutside, HeadPasses, HeadHas, LineHas, AreEventLines, FaultsAt, AreLinesOf, IsScheduleText, LinesFaultAt, Fault, AtLine, IsSkewed, IsFirstFault}
 use Rattle.fs_schedule.proofs.Cuts.{words_one}
-use Rattle.fs_schedule.proofs.Asked.{any_op}
 use Rattle.fs_schedule.proofs.Operations.{distinct, no_reap, id_one, op_one, fields_one, server_one, packet_one}
 use Rattle.fs_schedule.proofs.Spelled.{are_head_words, are_event_words}
 use Rattle.fs_schedule.proofs.Skews.{one_untimely, timely_or_not}
@@ -94,7 +93,7 @@ what_one : (head : Head) (w v : What) (ds es : List ℕ) → IfSome (session_in 
 what_one head (Join s) (Join t) ds es h k f g e = ap (λ (r : Session). Join r) (session_one s t ds es h k (digits_one ds es _ _ (behind _ _ _ _ e)))
 what_one head (Do s o) (Do t p) ds es h k f g e =
     let sessions : s ≡ t = session_one s t ds es h k (digits_one ds es _ _ (behind _ _ _ _ e)) in
-    let ops : o ≡ p = op_one o p (any_op head o f) (any_op head p g) (others _ _ _ _ _ _ e) in
+    let ops : o ≡ p = op_one o p f g (others _ _ _ _ _ _ e) in
     cc
 what_one head (Tell a) (Tell b) ds es h k f g e = ap (λ (n : Option ℕ). Tell n) (packet_one a b f.1 g.1 (first_operand _ _ _ _ _ _ e))
 what_one head (Turn (Client s)) (Turn (Client t)) ds es h k f g e = ap (λ (r : Session). Turn (Client r)) (session_one s t ds es h k (digits_one ds es _ _ (behind _ _ _ _ e)))

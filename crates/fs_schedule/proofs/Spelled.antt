@@ -35,7 +35,6 @@ use Rattle.fs_schedule.specs.declared.event.Head.TheVariants.{Direct, Servers}
 use Rattle.fs_schedule.specs.Separated.{Lacks, FitsWord, AreWords, begins_quoted}
 use Rattle.fs_schedule.specs.Spelling.{FitsTimes, IsCountOf, head_words, IsHeadLine, kind_text, op_words, FitsOp, field_words, FitsField, session_in, IsNumberOf, client_word, server_word, packet_word, what_words, FitsWhat, IsSpelled, IsLineOf}
 use Rattle.fs_schedule.specs.Reading.{IsToldHead, IsToldHeadLine, IsToldEvent, IsToldLine}
-use Rattle.fs_schedule.proofs.Asked.{any_op}
 use Rattle.fs_schedule.proofs.Cuts.{lacks_push, lacks_append, words_one}
 
 -- ## Bytes
@@ -192,18 +191,18 @@ are_head_words head line h =
 
 -- ## Operations and events
 
-pub fits_any_op : (o : Op) → FitsOp Direct o → AllByRecursion FitsWord (op_words o)
-fits_any_op (op.Lookup dir name) h = (fits_by (codes "lookup") refl, (fits_id dir h.1.0, (fits_name name h.1.1, tt)))
-fits_any_op (op.List dir) h = (fits_by (codes "list") refl, (fits_id dir h.1, tt))
-fits_any_op (op.Kind file) h = (fits_by (codes "kind") refl, (fits_id file h.1, tt))
-fits_any_op (op.Info file) h = (fits_by (codes "info") refl, (fits_id file h.1, tt))
-fits_any_op (op.Create dir name kind id) h = (fits_by (codes "create") refl, (fits_id dir h.1.0, (fits_name name h.1.1, (fits_kind kind, tt))))
-fits_any_op (op.OpenFile file n modes) h = (fits_by (codes "open") refl, (fits_id file h.1.0, (fits_decimal n (omega (arith, h.1.1)), (fits_letters modes.acc_r modes.acc_w modes.acc_d, (fits_dashed modes.deny_r modes.deny_w modes.deny_d, tt)))))
-fits_any_op (op.Close file n) h = (fits_by (codes "close") refl, (fits_id file h.1.0, (fits_decimal n (omega (arith, h.1.1)), tt)))
-fits_any_op (op.Set file n size stamp) h = (fits_by (codes "set") refl, (fits_id file h.1.0, (fits_decimal n (omega (arith, h.1.1)), (fits_decimal size h.1.2, (fits_decimal stamp h.1.3, tt)))))
-fits_any_op (op.Delete dir name) h = (fits_by (codes "delete") refl, (fits_id dir h.1.0, (fits_name name h.1.1, tt)))
-fits_any_op (op.Rename sdir sname ddir dname) h = (fits_by (codes "rename") refl, (fits_id sdir h.1.0, (fits_name sname h.1.1, (fits_id ddir h.1.2, (fits_name dname h.1.3, tt)))))
-fits_any_op (op.Reap file session) h = absurd (no_reap h.0)
+pub fits_op : (o : Op) → FitsOp o → AllByRecursion FitsWord (op_words o)
+fits_op (op.Lookup dir name) h = (fits_by (codes "lookup") refl, (fits_id dir h.1.0, (fits_name name h.1.1, tt)))
+fits_op (op.List dir) h = (fits_by (codes "list") refl, (fits_id dir h.1, tt))
+fits_op (op.Kind file) h = (fits_by (codes "kind") refl, (fits_id file h.1, tt))
+fits_op (op.Info file) h = (fits_by (codes "info") refl, (fits_id file h.1, tt))
+fits_op (op.Create dir name kind id) h = (fits_by (codes "create") refl, (fits_id dir h.1.0, (fits_name name h.1.1, (fits_kind kind, tt))))
+fits_op (op.OpenFile file n modes) h = (fits_by (codes "open") refl, (fits_id file h.1.0, (fits_decimal n (omega (arith, h.1.1)), (fits_letters modes.acc_r modes.acc_w modes.acc_d, (fits_dashed modes.deny_r modes.deny_w modes.deny_d, tt)))))
+fits_op (op.Close file n) h = (fits_by (codes "close") refl, (fits_id file h.1.0, (fits_decimal n (omega (arith, h.1.1)), tt)))
+fits_op (op.Set file n size stamp) h = (fits_by (codes "set") refl, (fits_id file h.1.0, (fits_decimal n (omega (arith, h.1.1)), (fits_decimal size h.1.2, (fits_decimal stamp h.1.3, tt)))))
+fits_op (op.Delete dir name) h = (fits_by (codes "delete") refl, (fits_id dir h.1.0, (fits_name name h.1.1, tt)))
+fits_op (op.Rename sdir sname ddir dname) h = (fits_by (codes "rename") refl, (fits_id sdir h.1.0, (fits_name sname h.1.1, (fits_id ddir h.1.2, (fits_name dname h.1.3, tt)))))
+fits_op (op.Reap file session) h = absurd (no_reap h.0)
   where
     no_reap : false ≡ true → ⊥
     no_reap e = cc
@@ -219,7 +218,7 @@ fits_field (field.Other file mode) h = (fits_by (codes "other") refl, (fits_id f
 
 fits_words : (head : Head) (w : What) (digits : List ℕ) → IfSome (session_in w) (λ s. IsNumberOf digits s.0) → FitsWhat head w → AllByRecursion FitsWord (what_words digits w)
 fits_words head (Join s) digits h k = (fits_by (codes "join") refl, (fits_client digits s.0 h, tt))
-fits_words head (Do s o) digits h k = (fits_by (codes "do") refl, (fits_client digits s.0 h, fits_any_op o (any_op head o k)))
+fits_words head (Do s o) digits h k = (fits_by (codes "do") refl, (fits_client digits s.0 h, fits_op o k))
 fits_words head (Tell number) digits h k = (fits_by (codes "tell") refl, (fits_packet number k.1, tt))
 fits_words head (Turn (Client s)) digits h k = (fits_by (codes "turn") refl, (fits_client digits s.0 h, tt))
 fits_words head (Turn (Server n)) digits h k = (fits_by (codes "turn") refl, (fits_server n (omega (arith, k.1)), tt))

@@ -13,7 +13,6 @@ use Rattle.fs_schedule.specs.declared.event.Schedule.{Schedule}
 use Rattle.fs_schedule.specs.declared.event.What.{What}
 use Rattle.fs_schedule.specs.declared.event.What.TheVariants.{Join, Do, Tell, Turn, Move}
 use Rattle.fs_schedule.specs.declared.draws.Draws.{Draws}
-use Rattle.fs_schedule.specs.Spelling.{has_op}
 
 -- three servers whose clocks agree, and a term that no made schedule outlasts
 abbrev pub made_head : Head
@@ -83,10 +82,6 @@ state_behind w = if w.kind == 6 then stirred w.state else w.state
 
 -- ## Events
 
--- the operation is one that the form has so far
-abbrev pub is_there : Op → Bool
-is_there o = has_op made_head o
-
 -- what comes of the numbers from 1 to this one, in order
 unfoldable pub each : (ℕ → List What) → ℕ → List What
 each f zero = []
@@ -107,9 +102,9 @@ asks s o = Do s o ∷ tells 6
 abbrev pub turns : ℕ → List What
 turns k = Turn (Client (session k)) ∷ tells 3
 
--- 52 events: the session asks four times, and then each session has its turn; a block with an operation that is not there is left out
+-- 52 events: the session asks four times, and then each session has its turn
 abbrev pub block : Session → Op → List What
-block s o = if is_there o then each (λ _. asks s o) 4 ++ each turns 6 else []
+block s o = each (λ _. asks s o) 4 ++ each turns 6
 
 -- what stands before the block of a number: two of the directories go to other servers
 abbrev pub moves_before : ℕ → List What

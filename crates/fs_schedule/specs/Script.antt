@@ -26,7 +26,7 @@ script_words (Move prefix to) = Bare (codes "move") ∷ Bare (id_text prefix) �
 
 -- a client asks for the form's operations; a server recalls the rows on a field or gives what it manages to one of the form's servers
 abbrev pub FitsScript : Bool → Head → Script → Type 0
-FitsScript true head (Op o) = FitsOp head o
+FitsScript true head (Op o) = FitsOp o
 FitsScript true head (Recall f) = ⊥
 FitsScript true head (Move prefix to) = ⊥
 FitsScript false head (Op o) = ⊥

@@ -84,13 +84,6 @@ pub record IsHeadLine (head : Head) (line : List ℕ) : Type 0 where
 abbrev pub IsServerIn : Head → ℕ → Type 0
 IsServerIn head k = (k < servers_in head) × (k < 2 ^ 8)
 
--- the operations that a form has: all that may be asked, but with servers no delete and no rename yet
-abbrev pub has_op : Head → Op → Bool
-has_op Direct o = may_ask o
-has_op (Servers servers skew term) (op.Delete dir name) = false
-has_op (Servers servers skew term) (op.Rename sdir sname ddir dname) = false
-has_op (Servers servers skew term) o = may_ask o
-
 -- ## Operations
 
 abbrev pub kind_text : Kind → List ℕ
@@ -127,9 +120,9 @@ FitsParts (op.Delete dir name) = IsId dir × IsName name
 FitsParts (op.Rename sdir sname ddir dname) = IsId sdir × IsName sname × IsId ddir × IsName dname
 FitsParts (op.Reap file session) = IsId file
 
--- an operation that a schedule of the form can ask for
-abbrev pub FitsOp : Head → Op → Type 0
-FitsOp head o = (has_op head o ≡ true) × FitsParts o
+-- an operation that a schedule can ask for: each form has all that may be asked
+abbrev pub FitsOp : Op → Type 0
+FitsOp o = (may_ask o ≡ true) × FitsParts o
 
 -- ## Fields
 
@@ -157,7 +150,7 @@ FitsField (field.Other file mode) = IsId file
 -- an event that the form has, its parts in their ranges; a session's number has a limit, and no range
 abbrev pub FitsWhat : Head → What → Type 0
 FitsWhat head (Join s) = Unit {0}
-FitsWhat head (Do s o) = FitsOp head o
+FitsWhat head (Do s o) = FitsOp o
 FitsWhat head (Tell number) = (0 < servers_in head) × IfSome number (λ n. n < 2 ^ 64)
 FitsWhat head (Turn (Client s)) = 0 < servers_in head
 FitsWhat head (Turn (Server k)) = IsServerIn head k

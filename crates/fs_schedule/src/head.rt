@@ -1,7 +1,7 @@
 //! Forms: what they have, and the first line that names one.
 ghost use Rattle.std.specs.Prelude.{◌≡◌, ◌∷◌, [], codes};
 ghost use Rattle.fs_schedule.specs.Words.{Bare};
-ghost use Rattle.fs_schedule.specs.Spelling.{servers_in, has_many, has_op};
+ghost use Rattle.fs_schedule.specs.Spelling.{servers_in, has_many};
 ghost use Rattle.fs_schedule.specs.Reading.{Tells, TellsSurely, word_of, words_in, IsToldCount, IsToldHead, IsToldHeadLine};
 
 use crate::event::Head;
@@ -31,19 +31,6 @@ pub fn has_many(head: Head) -> bool
     match head {
         Head::Direct => false,
         Head::Servers { servers, .. } => SERVERS < servers,
-    }
-}
-
-/// Whether a schedule of the form can ask for the operation.
-pub fn has_op(head: Head, op: &Op) -> bool
-    ensures { result ≡ has_op head op.now }
-{
-    match head {
-        Head::Direct => op.may_be_asked(),
-        Head::Servers { .. } => match op {
-            Op::Delete { .. } | Op::Rename { .. } => false,
-            _ => op.may_be_asked(),
-        },
     }
 }
 

@@ -108,7 +108,7 @@ fn do_by(alloc: Global, head: Head, session: &Word, words: &[Word]) -> Result<Wh
         (Bare (codes "do") ∷ word_of session.now ∷ words_in words.now) }
 {
     let number = session_at(session)?;
-    let op = op_at(alloc, head, words)?;
+    let op = op_at(alloc, words)?;
     Ok(What::Do(Session(number), op))
 }
 

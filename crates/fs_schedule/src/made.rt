@@ -6,7 +6,6 @@ ghost use Rattle.fs_schedule.specs.declared.event.What.TheVariants as happens;
 use crate::drawn_op::{create_dir, dir_id, drawn_op, move_dir};
 use crate::draws::draws_from;
 use crate::event::{Event, Head, Schedule, What};
-use crate::head::has_op;
 use fs_ident::{List, Memory, Peer, Session, Twin};
 use fs_model::Op;
 use std::alloc::Global;
@@ -105,7 +104,7 @@ fn add_block_at(alloc: Global, b: u32, state: u64, events: &mut List<Event>) -> 
 }
 
 /// Adds 52 events: the session asks for the operation four times, and then each session has its
-/// turn. Nothing where the operation is not there.
+/// turn.
 fn add_block(
     alloc: Global,
     session: Session,
@@ -114,24 +113,9 @@ fn add_block(
 ) -> Result<(), Memory>
     ensures { OnOk result (events.new ≡ with_events events.old (block session op)) }
 {
-    let added = add_block_of(alloc, session, &op, events);
+    let added = add_asks_and_turns(alloc, session, &op, events);
     drop(op);
     added
-}
-
-fn add_block_of(
-    alloc: Global,
-    session: Session,
-    op: &Op,
-    events: &mut List<Event>,
-) -> Result<(), Memory>
-    ensures { OnOk result (events.new ≡ with_events events.old (block session op.now)) }
-{
-    if has_op(HEAD, op) {
-        add_asks_and_turns(alloc, session, op, events)
-    } else {
-        Ok(())
-    }
 }
 
 fn add_asks_and_turns(
@@ -141,7 +125,7 @@ fn add_asks_and_turns(
     events: &mut List<Event>,
 ) -> Result<(), Memory>
     ensures { OnOk result (events.new ≡
-        with_events events.old (each (λ _. asks session op.now) 4 ++ each turns 6)) }
+        with_events events.old (block session op.now)) }
 {
     add_asks(alloc, session, op, events)?;
     add_turns(events)?;

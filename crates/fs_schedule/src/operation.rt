@@ -1,12 +1,9 @@
 //! Operations, read from words.
 ghost use Rattle.std.specs.Prelude.{◌∷◌, codes};
-ghost use Rattle.fs_schedule.specs.declared.event.Head.TheVariants.{Direct};
 ghost use Rattle.fs_schedule.specs.Words.{Bare};
 ghost use Rattle.fs_schedule.specs.Spelling.{op_words, FitsOp};
 ghost use Rattle.fs_schedule.specs.Reading.{Reads, word_of, words_in};
 
-use crate::event::Head;
-use crate::head::has_op;
 use crate::operand::is_bare;
 use crate::operands::{entry_in, file_in, handle_in, opening_in, place_in, places_in, setting_in};
 use crate::unread::Unread;
@@ -14,22 +11,9 @@ use crate::word::Word;
 use fs_model::Op;
 use std::alloc::Global;
 
-/// The operation that the words ask for in the form.
-pub fn op_at(alloc: Global, head: Head, words: &[Word]) -> Result<Op, Unread>
-    ensures { Reads op_words (FitsOp head) result (words_in words.now) }
-{
-    let op = any_op_at(alloc, words)?;
-    if has_op(head, &op) {
-        Ok(op)
-    } else {
-        drop(op);
-        Err(Unread::Outside)
-    }
-}
-
-/// The same in the direct form, which has every operation of the others.
-fn any_op_at(alloc: Global, words: &[Word]) -> Result<Op, Unread>
-    ensures { Reads op_words (FitsOp Direct) result (words_in words.now) }
+/// The operation that the words ask for.
+pub fn op_at(alloc: Global, words: &[Word]) -> Result<Op, Unread>
+    ensures { Reads op_words FitsOp result (words_in words.now) }
 {
     let [first, operands @ ..] = words else {
         return Err(Unread::Outside);
@@ -39,7 +23,7 @@ fn any_op_at(alloc: Global, words: &[Word]) -> Result<Op, Unread>
 
 /// The same, where the first word was parted from the others.
 fn op_by(alloc: Global, first: &Word, operands: &[Word]) -> Result<Op, Unread>
-    ensures { Reads op_words (FitsOp Direct) result (word_of first.now ∷ words_in operands.now) }
+    ensures { Reads op_words FitsOp result (word_of first.now ∷ words_in operands.now) }
 {
     if is_bare(first, b"lookup") {
         lookup_of(alloc, operands)
@@ -67,7 +51,7 @@ fn op_by(alloc: Global, first: &Word, operands: &[Word]) -> Result<Op, Unread>
 }
 
 fn lookup_of(alloc: Global, operands: &[Word]) -> Result<Op, Unread>
-    ensures { Reads op_words (FitsOp Direct) result
+    ensures { Reads op_words FitsOp result
         (Bare (codes "lookup") ∷ words_in operands.now) }
 {
     let (dir, name) = place_in(alloc, operands)?;
@@ -75,7 +59,7 @@ fn lookup_of(alloc: Global, operands: &[Word]) -> Result<Op, Unread>
 }
 
 fn list_of(alloc: Global, operands: &[Word]) -> Result<Op, Unread>
-    ensures { Reads op_words (FitsOp Direct) result
+    ensures { Reads op_words FitsOp result
         (Bare (codes "list") ∷ words_in operands.now) }
 {
     let dir = file_in(alloc, operands)?;
@@ -83,7 +67,7 @@ fn list_of(alloc: Global, operands: &[Word]) -> Result<Op, Unread>
 }
 
 fn kind_of(alloc: Global, operands: &[Word]) -> Result<Op, Unread>
-    ensures { Reads op_words (FitsOp Direct) result
+    ensures { Reads op_words FitsOp result
         (Bare (codes "kind") ∷ words_in operands.now) }
 {
     let file = file_in(alloc, operands)?;
@@ -91,7 +75,7 @@ fn kind_of(alloc: Global, operands: &[Word]) -> Result<Op, Unread>
 }
 
 fn info_of(alloc: Global, operands: &[Word]) -> Result<Op, Unread>
-    ensures { Reads op_words (FitsOp Direct) result
+    ensures { Reads op_words FitsOp result
         (Bare (codes "info") ∷ words_in operands.now) }
 {
     let file = file_in(alloc, operands)?;
@@ -99,7 +83,7 @@ fn info_of(alloc: Global, operands: &[Word]) -> Result<Op, Unread>
 }
 
 fn create_of(alloc: Global, operands: &[Word]) -> Result<Op, Unread>
-    ensures { Reads op_words (FitsOp Direct) result
+    ensures { Reads op_words FitsOp result
         (Bare (codes "create") ∷ words_in operands.now) }
 {
     let (dir, name, kind) = entry_in(alloc, operands)?;
@@ -112,7 +96,7 @@ fn create_of(alloc: Global, operands: &[Word]) -> Result<Op, Unread>
 }
 
 fn open_of(alloc: Global, operands: &[Word]) -> Result<Op, Unread>
-    ensures { Reads op_words (FitsOp Direct) result
+    ensures { Reads op_words FitsOp result
         (Bare (codes "open") ∷ words_in operands.now) }
 {
     let (file, h, modes) = opening_in(alloc, operands)?;
@@ -120,7 +104,7 @@ fn open_of(alloc: Global, operands: &[Word]) -> Result<Op, Unread>
 }
 
 fn close_of(alloc: Global, operands: &[Word]) -> Result<Op, Unread>
-    ensures { Reads op_words (FitsOp Direct) result
+    ensures { Reads op_words FitsOp result
         (Bare (codes "close") ∷ words_in operands.now) }
 {
     let (file, h) = handle_in(alloc, operands)?;
@@ -128,7 +112,7 @@ fn close_of(alloc: Global, operands: &[Word]) -> Result<Op, Unread>
 }
 
 fn set_of(alloc: Global, operands: &[Word]) -> Result<Op, Unread>
-    ensures { Reads op_words (FitsOp Direct) result
+    ensures { Reads op_words FitsOp result
         (Bare (codes "set") ∷ words_in operands.now) }
 {
     let (file, h, size, stamp) = setting_in(alloc, operands)?;
@@ -141,7 +125,7 @@ fn set_of(alloc: Global, operands: &[Word]) -> Result<Op, Unread>
 }
 
 fn delete_of(alloc: Global, operands: &[Word]) -> Result<Op, Unread>
-    ensures { Reads op_words (FitsOp Direct) result
+    ensures { Reads op_words FitsOp result
         (Bare (codes "delete") ∷ words_in operands.now) }
 {
     let (dir, name) = place_in(alloc, operands)?;
@@ -149,7 +133,7 @@ fn delete_of(alloc: Global, operands: &[Word]) -> Result<Op, Unread>
 }
 
 fn rename_of(alloc: Global, operands: &[Word]) -> Result<Op, Unread>
-    ensures { Reads op_words (FitsOp Direct) result
+    ensures { Reads op_words FitsOp result
         (Bare (codes "rename") ∷ words_in operands.now) }
 {
     let (sdir, sname, ddir, dname) = places_in(alloc, operands)?;

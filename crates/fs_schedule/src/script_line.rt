@@ -37,7 +37,7 @@ fn script_of(alloc: Global, client: bool, head: Head, words: &[Word]) -> Result<
 fn client_line(alloc: Global, head: Head, words: &[Word]) -> Result<Script, Unread>
     ensures { Reads script_words (FitsScript true head) result (words_in words.now) }
 {
-    let op = op_at(alloc, head, words)?;
+    let op = op_at(alloc, words)?;
     Ok(Script::Op(op))
 }
 
