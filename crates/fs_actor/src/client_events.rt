@@ -11,7 +11,6 @@ ghost use Rattle.fs_model.specs.Asking.{may_ask};
 ghost use Rattle.fs_msg.specs.declared.core_error.Counter.{Counter as TheCounter};
 ghost use Rattle.fs_msg.specs.declared.core_error.Counter.TheVariants.{Segments};
 ghost use Rattle.fs_msg.specs.declared.core_error.CoreError.TheVariants as errors;
-ghost use Rattle.fs_record.specs.Effects.{tells_its_effects};
 ghost use Rattle.fs_window.specs.Post.{post_due};
 
 use crate::finished::finished;
@@ -45,7 +44,6 @@ pub fn client_acts(
 ) -> Result<ClientEvent, CoreError>
     requires reading { now ≤ LATEST }
     requires asked { may_ask op.now ≡ true }
-    requires plain { tells_its_effects op.now ≡ true }
     ensures done { IfOk result (ClientDid s client.old
         (client_acts now op.now (record { client = client.old; post = post.old }))
         client.new post.new) }

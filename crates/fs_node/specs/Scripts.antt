@@ -3,7 +3,6 @@ use Rattle.std.specs.Prelude.{◌≡◌, true, List, Option, Some, None}
 use Rattle.std.specs.List.{AllByRecursion}
 use Rattle.fs_model.specs.Asking.{may_ask}
 use Rattle.fs_model.specs.declared.op.Op.{Op as TheOp}
-use Rattle.fs_record.specs.Effects.{tells_its_effects}
 use Rattle.fs_schedule.specs.declared.script.Script.{Script}
 use Rattle.fs_schedule.specs.declared.script.Script.TheVariants.{Op, Recall, Move}
 use Rattle.fs_server.specs.declared.event.ServerEvent.{ServerEvent}
@@ -22,7 +21,7 @@ event_by line = None
 
 -- a client can be asked for it
 abbrev pub CanBeAsked : TheOp → Type 0
-CanBeAsked o = (may_ask o ≡ true) × (tells_its_effects o ≡ true)
+CanBeAsked o = may_ask o ≡ true
 
 abbrev pub IsAskable : Script → Type 0
 IsAskable (Op o) = CanBeAsked o

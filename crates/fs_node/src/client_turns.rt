@@ -9,7 +9,6 @@ ghost use Rattle.fs_msg.specs.declared.core_error.CoreError.TheVariants as error
 ghost use Rattle.fs_node.specs.ClientNode.{after_event, after_line, after_run, client_at, client_idles, is_open, lines_done, side_of};
 ghost use Rattle.fs_node.specs.Scripts.{AreAskable};
 ghost use Rattle.fs_node.specs.Turns.{TookTurn};
-ghost use Rattle.fs_record.specs.Effects.{tells_its_effects};
 
 use crate::arrival::Arrival;
 use crate::client_state::ClientState;
@@ -101,7 +100,6 @@ impl ClientState {
     fn ask(&mut self, alloc: Global, now: u64, op: &Op) -> Result<Turn, CoreError>
         requires reading { now ≤ LATEST }
         requires asked { may_ask op.now ≡ true }
-        requires plain { tells_its_effects op.now ≡ true }
         requires room { self.old.done + 1 < 2 ^ 64 }
         ensures done { IfOk result (TookTurn
             (after_line (client_acts now op.now (side_of self.old)) self.old) self.new) }

@@ -14,12 +14,11 @@ use Rattle.fs_schedule.specs.Spelling.{FitsEvent, FitsWhat, session_in}
 use Rattle.fs_world.specs.World.{FitsServed, FitsWorld, first_world, step}
 use Rattle.fs_world.specs.declared.form.Form.{Form}
 use Rattle.fs_world.specs.declared.form.Form.TheVariants.{Direct, Served}
-use Rattle.fs_world.proofs.Forms.{called}
 use Rattle.fs_world.proofs.StayingServers.{first_count, servers_stay}
 
 served_fits : (n k t : ℕ) (w : What) → IfSome (session_in w) (λ (s : Session). (1 ≤ s.0) × (s.0 ≤ SESSIONS)) → FitsWhat (head.Servers n k t) w → FitsServed n w
 served_fits n k t (Join s) session f = session
-served_fits n k t (Do s o) session f = called n k t o f.0
+served_fits n k t (Do s o) session f = f.0
 served_fits n k t (Tell number) session f = tt
 served_fits n k t (Turn (Client s)) session f = tt
 served_fits n k t (Turn (Server j)) session f = f.0

@@ -34,7 +34,6 @@ pub mod Numbered
 pub mod Replies
 pub mod DirectKept
 pub mod Bounded
-pub mod Forms
 pub mod Fine
 pub mod SeenRows
 pub mod SerialLaws
