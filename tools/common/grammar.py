@@ -14,8 +14,6 @@ LINE_BYTES = 4_096
 EVENTS = 65_536
 
 OPERATIONS = ('lookup', 'list', 'kind', 'info', 'create', 'open', 'close', 'set', 'delete', 'rename')
-# What the servers form does not have yet: `has_op` in crates/fs_schedule/src/head.rt. Empty this once it has them.
-NOT_WITH_SERVERS = ('delete', 'rename')
 EVENT_WORDS = ('join', 'do', 'tell', 'turn', 'recall', 'move')
 DIRECT_EVENT_WORDS = ('join', 'do')
 FIELDS = ('life', 'child', 'names', 'info', 'self', 'other')
@@ -37,20 +35,12 @@ BOMS = ((b'\xef\xbb\xbf', 'UTF-8'), (b'\xff\xfe', 'UTF-16'), (b'\xfe\xff', 'UTF-
 
 
 class Head:
-    """The form of a schedule: how many servers, none in the direct form, their skew and the term of leases.
-
-    `refused` are operations that the form does not have yet.
-    """
+    """The form of a schedule: how many servers, none in the direct form, their skew and the term of leases."""
 
     def __init__(self, servers, skew=0, term=0):
         self.servers = servers
         self.skew = skew
         self.term = term
-        self.refused = () if servers == 0 else NOT_WITH_SERVERS
-
-    def operations(self):
-        """The operations that the form has."""
-        return [name for name in OPERATIONS if name not in self.refused]
 
     def is_direct(self):
         return self.servers == 0
@@ -247,11 +237,9 @@ def read_join(_head, walk, event):
     walk.end('a `join`')
 
 
-def read_do(head, walk, event):
+def read_do(_head, walk, event):
     event.session = walk.take(SESSION, operands.session)
-    names = head.operations()
-    elsewhere = [(name, 'the servers form has no `%s` yet' % name) for name in head.refused]
-    operation = walk.take('an operation: one of %s' % listed(names), operands.choice(names, 'operation', elsewhere))
+    operation = walk.take('an operation: one of %s' % listed(OPERATIONS), operands.choice(OPERATIONS, 'operation'))
     for expected, read in OPERATION_OPERANDS[operation]:
         walk.take(expected, read)
     walk.end('a `%s`' % operation)
@@ -308,28 +296,23 @@ FIELD_OPERANDS = {'life': [AN_ID], 'child': [AN_ID, A_NAME], 'names': [AN_ID], '
                   'self': [AN_ID, A_MODE], 'other': [AN_ID, A_MODE]}
 
 
-def read_file(path, of_later=False):
+def read_file(path):
     """The bytes of a file and the schedule that they are the text of; else a sentence, for tools that do not explain."""
     data = read_input(path)
     try:
-        return data, read_schedule(data, of_later)
+        return data, read_schedule(data)
     except Fault as fault:
         if fault.problem is None:
             raise Failed('%s: %s' % (shown(path), fault)) from fault
         raise Failed('%s: %s: %s; tools/explain says more' % (shown(path), fault, fault.problem)) from fault
 
 
-def read_schedule(data, of_later=False):
-    """The schedule that the bytes are the text of; else a Fault, of the first line that the program refuses.
-
-    A schedule of a later program may have every operation in either form.
-    """
+def read_schedule(data):
+    """The schedule that the bytes are the text of; else a Fault, of the first line that the program refuses."""
     if len(data) > INPUT_BYTES:
         raise Fault('the input has more than %d bytes' % INPUT_BYTES)
     lines = lines_of(data)
     head = first_line(*next(lines))
-    if of_later:
-        head.refused = ()
     events = []
     for at, (line, is_last) in enumerate(lines, 2):
         events.append(later_line(head, at, line, is_last))

@@ -57,10 +57,10 @@ FAULTS = [
 ]
 
 
-def fault_of(data, of_later=False):
+def fault_of(data):
     """What is wrong with the bytes; None where they are a schedule."""
     try:
-        grammar.read_schedule(data, of_later)
+        grammar.read_schedule(data)
     except grammar.Fault as fault:
         return fault
     return None
@@ -97,12 +97,6 @@ class Reading(unittest.TestCase):
         self.assertEqual((found['SERVERS'], found['SESSIONS']), (operands.SERVERS, operands.SESSIONS))
         self.assertEqual(found['LONGEST'], operands.DURATIONS)
 
-    def test_operations_with_servers_are_those_of_the_sources(self):
-        """Where this fails, `NOT_WITH_SERVERS` in tools/common/grammar.py is to follow `has_op`."""
-        body = re.search(r'pub fn has_op\(.*?\n}\n', trying.source('fs_schedule', 'src', 'head.rt'), re.DOTALL).group(0)
-        refused = re.findall(r'Op::(\w+) \{ \.\. \}', body)
-        self.assertEqual(tuple(name.lower() for name in refused), grammar.NOT_WITH_SERVERS)
-
 
 @functools.lru_cache(None)
 def case_at(path):
@@ -119,34 +113,20 @@ class Agreeing(unittest.TestCase):
     def test_it_agrees_with_the_program_on_every_case(self):
         for path, said in trying.conformance_cases():
             fault = case_at(path)[1]
-            if not said and fault is not None and self.is_of_later(path, fault):
-                fault = fault_of(trying.bytes_of(path), of_later=True)
             self.assertEqual('farsite: %s' % fault if fault else '', said, path)
 
     @unittest.skipUnless(os.path.isdir(trying.CONFORMANCE), 'no ../shared/conformance')
     def test_with_a_report_it_finds_every_line_that_does_nothing(self):
-        """Also with deletes and renames with servers, which a later program has."""
         for path, said in trying.conformance_cases():
             if said:
                 continue
-            schedule = case_at(path)[0] or grammar.read_schedule(trying.bytes_of(path), of_later=True)
+            schedule = case_at(path)[0]
             with open(path[:-len('schedule')] + 'out', 'rb') as stream:
                 run = runs.run_in(schedule, stream, path)
             told = [line for line in explain.warnings(schedule, run) if 'does nothing' in line]
             idle = ['line %d ' % at for at, outcome in enumerate(run.outcomes, 2) if outcome.actor is None]
             self.assertEqual([line[:len(start)] for line, start in zip(told, idle)], idle, path)
             self.assertEqual(len(told), len(idle), path)
-
-    def is_of_later(self, path, fault):
-        """Whether the case is refused today for the first operation that the servers form has not yet."""
-        lines = trying.bytes_of(path).split(b'\n')
-        later = [at for at, line in enumerate(lines, 1) if self.operation(line) in grammar.NOT_WITH_SERVERS]
-        return lines[0].startswith(b'farsite 1 servers') and later[:1] == [fault.line]
-
-    @staticmethod
-    def operation(line):
-        words = line.split(b' ')
-        return words[3].decode('ascii', 'replace') if len(words) > 3 and words[1] == b'do' else None
 
     @unittest.skipUnless(files.launcher_state() == 'built', 'the program is not built')
     def test_it_agrees_with_the_built_program_on_spoiled_examples(self):

@@ -17,7 +17,6 @@ use Rattle.fs_world.specs.World.{AllMayHappen, FitsServed, first_world, may_happ
 use Rattle.fs_world.specs.declared.form.Form.{Form}
 use Rattle.fs_world.specs.declared.form.Form.TheVariants.{Direct, Served}
 use Rattle.fs_world.specs.Served.{step_of}
-use Rattle.fs_world.proofs.Forms.{called}
 use Rattle.fs_world.proofs.Fitting.{what_fits}
 use Rattle.fs_world.proofs.StayingServers.{servers_stay}
 use Rattle.farsite.specs.Fitting.{MayHappen}
@@ -33,7 +32,7 @@ what_asked head.Direct (Turn who) f = refl
 what_asked head.Direct (Recall k field) f = refl
 what_asked head.Direct (Move k prefix to) f = refl
 what_asked (head.Servers n k t) (Join s) f = refl
-what_asked (head.Servers n k t) (Do s o) f = called n k t o f.0
+what_asked (head.Servers n k t) (Do s o) f = f.0
 what_asked (head.Servers n k t) (Tell number) f = refl
 what_asked (head.Servers n k t) (Turn (Client s)) f = refl
 what_asked (head.Servers n k t) (Turn (Server j)) f = below j n f.0

@@ -1,4 +1,4 @@
--- Nothing of led operations is on its way between servers yet.
+-- Nothing of led operations is on its way between servers.
 use Rattle.std.proofs.Common.{◌≡◌, ℕ, true}
 use Rattle.std.specs.Prelude.{None, is_some}
 use Rattle.fs_ident.proofs.Passing.{found}

@@ -49,7 +49,7 @@ pub record IsSent (journal : List Item) (p : Parcel) : Type 0 where
   pub each : AreEachRecords p.records
   pub ordered : is_ordered p.rows ≡ true
 
--- the message goes to one of so many servers, and hands something over: no operation is led yet
+-- the message goes to one of so many servers, and hands something over: what a server leads it has whole
 abbrev pub IsHandover : ℕ → Flying → Type 0
 IsHandover servers f = (f.to < servers) × (is_some (parcel_in f.message) ≡ true)
 

@@ -102,8 +102,8 @@ pub fn what_was_promised_is_so()
         value_of s.records r.session r.field ≡ value.Other promise }
 {}
 
-/// A client that knows the reply to a plain operation answers it, and the entry joins its log, whatever is on its way
-/// to the client. All parts hold then, and what holds inside the client does.
+/// A client for which nothing is led, and that knows the reply to a plain operation, answers it, and the entry joins its
+/// log, whatever is on its way to the client. All parts hold then, and what holds inside the client does.
 pub fn a_reply_keeps_the_parts()
     ensures parts { (skew greatest : ℕ) (s : Sight) (replied : Session → List Item)
         (clients : Session → Settled) (by : Session) (c : Client) (down : List Answer) (o : Op)

@@ -151,7 +151,7 @@ pub record IsParcelOf (seats : Seats) (p : Parcel) : Type 0 where
   pub handles : RecordsOpen p.records
   pub rows : AreOfJoined seats p.rows
 
--- the message hands over such a parcel; no operation is led yet
+-- the message hands over such a parcel: what a server leads it has whole
 abbrev pub BringsParcel : Seats → PeerMsg → Type 0
 BringsParcel seats (OfParcel p) = IsParcelOf seats p
 BringsParcel seats m = ⊥

@@ -121,7 +121,7 @@ stop_of s = stop_in (first_world s.head) 2 s.events
 
 -- ## What callers may ask
 
--- an event of the form: with servers, callers ask for no delete or rename yet, and an event is one of servers that there are
+-- an event of the form: callers ask for what may be asked, and an event is one of servers that there are
 abbrev pub may_happen : Head → What → Bool
 may_happen head.Direct (Do s o) = may_ask o
 may_happen (head.Servers servers skew term) (Do s o) = is_called o
