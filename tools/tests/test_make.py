@@ -48,7 +48,7 @@ class Made(unittest.TestCase):
 
     def test_with_a_program_every_tell_names_a_packet_that_was_sent(self):
         with mock.patch.object(files, 'report_of', lambda command, data: toy.report_of(data)):
-            data = made(5, 400, command=['toy'])
+            data = made(6, 400, command=['toy'])
         schedule = grammar.read_schedule(data)
         run = runs.run_in(schedule, io.BytesIO(toy.report_of(data)), 'the report')
         self.assertNotIn(None, run.packet_of.values())

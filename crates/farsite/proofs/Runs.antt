@@ -60,7 +60,7 @@ stands_here w (e ∷ es) = inl refl
 pub stands_on : (w after : Form) (es : List Event) (i : ℕ) (e : Event) → i < length es → e ≡ get_or es i e → after ≡ (step w e).world → (step w e).spent ≡ None → length (packets_of after) ≤ PACKETS → (now : Form) → StandsIn after (drop (i + 1) es) now → StandsIn w (drop i es) now
 stands_on w after es i e lt is eq none less now rest =
     subst (λ (xs : List Event). StandsIn w xs now) (sym (drop_more es i e lt ∙ ap (λ (x : Event). x ∷ drop (i + 1) es) (sym is)))
-        (inr (none, subst (λ (v : Form). length (packets_of v) ≤ PACKETS) eq less, subst (λ (v : Form). StandsIn v (drop (i + 1) es) now) eq rest))
+    (inr (none, subst (λ (v : Form). length (packets_of v) ≤ PACKETS) eq less, subst (λ (v : Form). StandsIn v (drop (i + 1) es) now) eq rest))
 
 -- what was sent is carried before an event, and before those that follow
 pub carried_on : (w after : Form) (es : List Event) (i : ℕ) (e : Event) → i < length es → e ≡ get_or es i e → after ≡ (step w e).world → LinksCarry w → AllCarry after (drop (i + 1) es) → AllCarry w (drop i es)
