@@ -1,5 +1,5 @@
 -- How many lines of its script are done by a packet that comes to a client.
-use Rattle.std.proofs.Common.{◌≡◌, ◌∙◌, ◌==◌, ℕ, ◌+◌, ◌≤◌, Bool, true, false, List, [], ◌∷◌, ◌++◌, length, take, drop, Option, Some, None, cond, refl, ap, arith}
+use Rattle.std.proofs.Common.{◌≡◌, ◌∙◌, ◌==◌, ℕ, ◌+◌, ◌≤◌, Bool, true, false, List, [], ◌∷◌, length, take, drop, Option, Some, None, cond, refl, ap, arith}
 use Rattle.std.proofs.lemmas.List.{length-append, length-drop, length-map, length-take}
 use Rattle.std.proofs.lemmas.List.Sums.{sum_by-append}
 use Rattle.std.specs.List.{sum_by}
@@ -10,7 +10,6 @@ use Rattle.fs_frag.specs.declared.joined.Joined.{Joined}
 use Rattle.fs_map.specs.Map.{Owners}
 use Rattle.fs_msg.specs.declared.answer.Answer.{Answer}
 use Rattle.fs_msg.specs.declared.answer.Answer.TheVariants as answer
-use Rattle.fs_msg.specs.declared.client_note.ClientNote.{ClientNote}
 use Rattle.fs_msg.specs.declared.client_note.ClientNote.TheVariants as said
 use Rattle.fs_msg.specs.declared.note.Note.{Note}
 use Rattle.fs_msg.specs.declared.note.Note.TheVariants as note
@@ -24,12 +23,12 @@ use Rattle.fs_client.specs.declared.led.Led.{Led}
 use Rattle.fs_client.specs.declared.plan.Plan.{Plan}
 use Rattle.fs_client.specs.declared.state.Client.{Client}
 use Rattle.fs_client.proofs.AdmittedFront.{admitted_is}
-use Rattle.fs_window.specs.Post.{Links, post_accepted}
+use Rattle.fs_window.specs.Post.{post_accepted}
 use Rattle.fs_window.specs.declared.heard.Heard.{Heard}
 use Rattle.fs_window.specs.declared.packet.Packet.{Packet}
 use Rattle.fs_actor.specs.Actor.{ClientSide, client_noted}
 use Rattle.fs_actor.specs.Finished.{finished, led_item}
-use Rattle.fs_actor.specs.Hearing.{answer_from, message_in, quiet_note}
+use Rattle.fs_actor.specs.Hearing.{answer_from, message_in}
 use Rattle.fs_actor.specs.Listed.{listed}
 use Rattle.fs_actor.specs.Several.{ClientRun, client_begins, client_hears_each, client_hears_one, client_told_all, client_with, unjoined_notes}
 use Rattle.fs_node.specs.ClientNode.{lines_done}
