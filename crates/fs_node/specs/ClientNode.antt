@@ -1,5 +1,5 @@
 -- A client as a node runs it.
-use Rattle.std.specs.Prelude.{ℕ, min, nat_lt, Bool, true, false, not, ◌&&◌, ◌||◌, is_some, List, length, flat_map, slice_get, Option, Some, None, if◌then◌else◌}
+use Rattle.std.specs.Prelude.{ℕ, min, nat_lt, Bool, true, not, ◌&&◌, ◌||◌, is_some, List, length, flat_map, slice_get, Option, Some, None, if◌then◌else◌}
 use Rattle.std.specs.List.{sum_by}
 use Rattle.fs_actor.specs.Actor.{ClientSide, ClientStep, client_acts, client_turns}
 use Rattle.fs_actor.specs.Laws.{client_alone}

@@ -1,6 +1,5 @@
-use Rattle.std.proofs.Common.{◌≡◌, List, length, ap, arith}
+use Rattle.std.proofs.Common.{length, ap, arith}
 use Rattle.fs_client.specs.declared.state.Client.{Client}
-use Rattle.fs_msg.specs.declared.item.Item.{Item}
 use Rattle.fs_node.proofs.Lines.{all_counted}
 use Rattle.fs_node.proofs.client_turns.hears.Goals as goal
 
