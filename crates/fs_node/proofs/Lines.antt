@@ -123,7 +123,7 @@ counted_each before s now from (j ∷ js) x h =
     counted_each before s now from js (client_hears_one s now a x) (counted_one before s now a x h)
 
 -- nothing is noted before the first that counts
-unjoined_none : (js : List Joined) (h : Heard) → sum_by lines_done (unjoined_notes js h) ≡ 0
+pub unjoined_none : (js : List Joined) (h : Heard) → sum_by lines_done (unjoined_notes js h) ≡ 0
 unjoined_none (j ∷ js) h = refl
 unjoined_none [] h = go (h.fresh == 0)
   where
