@@ -1,5 +1,6 @@
 -- A client as a node runs it.
-use Rattle.std.specs.Prelude.{ℕ, ◌+◌, min, nat_lt, Bool, true, false, not, ◌&&◌, ◌||◌, is_some, List, length, flat_map, slice_get, Option, Some, None, if◌then◌else◌}
+use Rattle.std.specs.Prelude.{ℕ, min, nat_lt, Bool, true, not, ◌&&◌, ◌||◌, is_some, List, length, flat_map, slice_get, Option, Some, None, if◌then◌else◌}
+use Rattle.std.specs.List.{sum_by}
 use Rattle.fs_actor.specs.Actor.{ClientSide, ClientStep, client_acts, client_turns}
 use Rattle.fs_actor.specs.Laws.{client_alone}
 use Rattle.fs_actor.specs.Several.{ClientRun, client_told_all}
@@ -11,8 +12,9 @@ use Rattle.fs_io.specs.Calls.{Datagram}
 use Rattle.fs_io.specs.Faults.{raised}
 use Rattle.fs_model.specs.declared.op.Op.{Op}
 use Rattle.fs_msg.specs.declared.act.Act.TheVariants.{Replied, ReadNow, NoIds}
+use Rattle.fs_msg.specs.declared.client_note.ClientNote.TheVariants.{Led}
 use Rattle.fs_msg.specs.declared.note.Note.{Note}
-use Rattle.fs_msg.specs.declared.note.Note.TheVariants.{Act}
+use Rattle.fs_msg.specs.declared.note.Note.TheVariants as note
 use Rattle.fs_report.specs.Report.{item_text}
 use Rattle.fs_schedule.specs.declared.script.Script.{Script}
 use Rattle.fs_turns.specs.Run.{Stepped}
@@ -43,19 +45,25 @@ first_client_node s term peers script = record {
 abbrev pub side_of : ClientState → ClientSide
 side_of x = record { client = x.client; post = x.post }
 
--- a line of the script is done that it has answered, or never will be able to; any other is asked again
+-- a line of the script is done that it answers, or never will be able to, or that a server has led to its end; any other is asked again
 abbrev pub lines_done : Note → ℕ
-lines_done (Act (Replied n r)) = 1
-lines_done (Act (ReadNow n r)) = 1
-lines_done (Act (NoIds dir)) = 1
+lines_done (note.Act (Replied n r)) = 1
+lines_done (note.Act (ReadNow n r)) = 1
+lines_done (note.Act (NoIds dir)) = 1
+lines_done (note.Client (Led n r)) = 1
 lines_done n = 0
 
 -- ## A turn
 
--- each item that it finished has its line
+-- each item that it finished has its line, and the lines of the script that are done, as it notes, are counted
 abbrev pub after_run : ClientRun → ClientState → Stepped ClientState
 after_run y x = record {
-  after = record x { client = y.client; post = y.post; admitted = raised_by x.admitted (length y.finished) };
+  after = record x {
+    client = y.client;
+    post = y.post;
+    done = raised_by x.done (sum_by lines_done y.notes);
+    admitted = raised_by x.admitted (length y.finished);
+  };
   due = due_of x.peers y.packets;
   lines = flat_map item_text y.finished;
   spent = y.spent;
@@ -64,13 +72,9 @@ after_run y x = record {
 abbrev pub after_event : ClientStep → ClientState → Stepped ClientState
 after_event y x = after_run (client_alone x.session x.client y) x
 
--- it was asked for a line of the script
-abbrev pub after_line : ClientStep → ClientState → Stepped ClientState
-after_line y x = after_event y (record x { done = x.done + lines_done y.note })
-
 -- it asks for the script's operation, if it is to and there is one, and takes its turn otherwise
 abbrev pub client_asks : ℕ → Option Op → ClientState → Stepped ClientState
-client_asks now (Some o) x = after_line (client_acts now o (side_of x)) x
+client_asks now (Some o) x = after_event (client_acts now o (side_of x)) x
 client_asks now None x = after_event (client_turns now (side_of x)) x
 
 -- the script's next line, on an odd idle turn while no exchange stands

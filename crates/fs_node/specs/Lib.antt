@@ -4,5 +4,6 @@ pub mod Counting
 pub mod Turns
 pub mod Scripts
 pub mod ClientNode
+pub mod ScriptLines
 pub mod ServerNode
 pub mod Endings

@@ -1,12 +1,14 @@
 //! The turns of a client's node.
-ghost use Rattle.std.specs.Prelude.{◌≡◌, ◌+◌, ◌^◌, ◌<◌, ◌≤◌, true, Some, IfOk, IsErrOf};
+ghost use Rattle.std.specs.Prelude.{◌≡◌, ◌≤◌, true, Some, IfOk, IsErrOf};
+ghost use Rattle.std.specs.List.{sum_by};
 ghost use Rattle.fs_actor.specs.Actor.{client_acts, client_turns};
+ghost use Rattle.fs_actor.specs.Events.{ClientTook};
 ghost use Rattle.fs_actor.specs.Several.{client_told_all};
 ghost use Rattle.fs_ident.specs.declared.limits.TheConstants.{LATEST};
 ghost use Rattle.fs_model.specs.Asking.{may_ask};
 ghost use Rattle.fs_msg.specs.declared.core_error.Counter.{Counter as TheCounter};
 ghost use Rattle.fs_msg.specs.declared.core_error.CoreError.TheVariants as errors;
-ghost use Rattle.fs_node.specs.ClientNode.{after_event, after_line, after_run, client_at, client_idles, is_open, lines_done, side_of};
+ghost use Rattle.fs_node.specs.ClientNode.{after_event, after_run, client_at, client_idles, is_open, lines_done, side_of};
 ghost use Rattle.fs_node.specs.Scripts.{AreAskable};
 ghost use Rattle.fs_node.specs.Turns.{TookTurn};
 
@@ -15,11 +17,12 @@ use crate::client_state::ClientState;
 use crate::scripts::asked_by;
 use crate::turns::turn_of;
 use fs_actor::{ClientEvent, ClientTold, client_acts, client_told_all, client_turns};
-use fs_ident::Peer;
+use fs_client::ClientCore;
+use fs_ident::{Peer, Session};
 use fs_model::Op;
-use fs_msg::{Act, CoreError, Note};
+use fs_msg::{Act, ClientNote, CoreError, Note};
 use fs_turns::Turn;
-use fs_window::Packet;
+use fs_window::{Packet, Post};
 use std::alloc::Global;
 
 impl ClientState {
@@ -58,7 +61,7 @@ impl ClientState {
             Some counter }
         ensures script { self.new.script ≡ self.old.script }
     {
-        let ClientTold { finished, packets } = client_told_all(
+        let (told, lines) = hears(
             alloc,
             now,
             self.session,
@@ -67,6 +70,8 @@ impl ClientState {
             &mut self.client,
             &mut self.post,
         )?;
+        let ClientTold { finished, packets } = told;
+        self.done = self.done.saturating_add(lines);
         Ok(turn_of(
             alloc,
             self.peers.as_slice(),
@@ -100,9 +105,8 @@ impl ClientState {
     fn ask(&mut self, alloc: Global, now: u64, op: &Op) -> Result<Turn, CoreError>
         requires reading { now ≤ LATEST }
         requires asked { may_ask op.now ≡ true }
-        requires room { self.old.done + 1 < 2 ^ 64 }
         ensures done { IfOk result (TookTurn
-            (after_line (client_acts now op.now (side_of self.old)) self.old) self.new) }
+            (after_event (client_acts now op.now (side_of self.old)) self.old) self.new) }
         ensures spent { (counter : TheCounter) → IsErrOf result (errors.Spent counter) →
             (client_acts now op.now (side_of self.old)).spent ≡ Some counter }
         ensures script { self.new.script ≡ self.old.script }
@@ -119,7 +123,7 @@ impl ClientState {
             &mut self.client,
             &mut self.post,
         )?;
-        self.done += lines_done(&note);
+        self.done = self.done.saturating_add(lines_done(&note));
         Ok(turn_of(
             alloc,
             self.peers.as_slice(),
@@ -139,10 +143,11 @@ impl ClientState {
         ensures script { self.new.script ≡ self.old.script }
     {
         let ClientEvent {
-            note: _,
+            note,
             finished,
             packets,
         } = client_turns(alloc, now, self.session, &mut self.client, &mut self.post)?;
+        self.done = self.done.saturating_add(lines_done(&note));
         Ok(turn_of(
             alloc,
             self.peers.as_slice(),
@@ -160,13 +165,42 @@ impl ClientState {
     }
 }
 
-/// How many lines of the script are done where one came to this.
+/// The client hears the packet. With what came of it stands how many lines of the script are done by it: all that it finished
+/// left its log or was led, so it is those that did not leave the log.
+fn hears(
+    alloc: Global,
+    now: u64,
+    s: Session,
+    from: Peer,
+    p: &Packet,
+    client: &mut ClientCore,
+    post: &mut Post,
+) -> Result<(ClientTold, usize), CoreError>
+    requires reading { now ≤ LATEST }
+    ensures done { IfOk result (λ told. ClientTook
+        (client_told_all s now from p.now (record { client = client.old; post = post.old }))
+        client.new post.new told.0) }
+    ensures lines { IfOk result (λ told. told.1 ≡ sum_by lines_done
+        (client_told_all s now from p.now
+        (record { client = client.old; post = post.old })).notes) }
+    ensures spent { (counter : TheCounter) → IsErrOf result (errors.Spent counter) →
+        (client_told_all s now from p.now
+        (record { client = client.old; post = post.old })).spent ≡ Some counter }
+{
+    let before = client.log().len();
+    let told = client_told_all(alloc, now, s, from, p, client, post)?;
+    let left = before - client.log().len();
+    let lines = told.finished.len() - left;
+    Ok((told, lines))
+}
+
+/// How many lines of the script are done where an event came to this.
 fn lines_done(note: &Note) -> usize
-    ensures lines { result ≡ lines_done note.now }
-    ensures few { result ≤ 1 }
+    ensures { result ≡ lines_done note.now }
 {
     match note {
-        Note::Act(Act::Replied { .. } | Act::ReadNow { .. } | Act::NoIds { .. }) => 1,
+        Note::Act(Act::Replied { .. } | Act::ReadNow { .. } | Act::NoIds { .. })
+        | Note::Client(ClientNote::Led { .. }) => 1,
         _ => 0,
     }
 }

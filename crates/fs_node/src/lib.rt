@@ -6,6 +6,7 @@ mod client_node;
 mod client_state;
 mod client_turns;
 mod ending;
+mod law;
 mod peers;
 mod scripts;
 mod server_node;
@@ -15,4 +16,5 @@ mod texts;
 mod turns;
 
 pub use client_node::ClientNode;
+pub use law::no_more_lines_are_done_than_there_are;
 pub use server_node::ServerNode;

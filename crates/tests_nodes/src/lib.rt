@@ -2,6 +2,8 @@
 #![tactic(auto)]
 
 #[cfg(test)]
+mod led;
+#[cfg(test)]
 mod nodes;
 #[cfg(test)]
 mod several;

@@ -11,12 +11,12 @@ use std::process::Abort;
 use std::test::Fail;
 
 /// Where the server stands, where the client does, and where nobody does.
-const SERVER: Addr = Addr {
+pub(crate) const SERVER: Addr = Addr {
     ip: [127, 0, 0, 1],
     port: 7000,
 };
 
-const CLIENT: Addr = Addr {
+pub(crate) const CLIENT: Addr = Addr {
     ip: [127, 0, 0, 1],
     port: 7001,
 };
@@ -37,7 +37,7 @@ pub(crate) fn same<T: PartialEq + Debug + Drop>(rt: &impl Abort, found: T, wante
 }
 
 /// The server of number 0 and the client of session 1, each at its place.
-fn peers(alloc: Global) -> Result<List<(Peer, Addr)>, Fail> {
+pub(crate) fn peers(alloc: Global) -> Result<List<(Peer, Addr)>, Fail> {
     let mut peers = List::new(alloc);
     peers.push((Peer::Server(0), SERVER))?;
     peers.push((Peer::Client(Session(1)), CLIENT))?;
