@@ -1,5 +1,5 @@
 -- What a client's script asks for, its node can ask.
-use Rattle.std.proofs.Common.{ℕ, List, [], ◌∷◌}
+use Rattle.std.proofs.Common.{true, ℕ, List, [], ◌∷◌}
 use Rattle.std.specs.List.{AllByRecursion}
 use Rattle.fs_node.specs.Scripts.{AreAskable}
 use Rattle.fs_schedule.specs.Script.{FitsScript, served}
