@@ -1,6 +1,6 @@
 -- What a status says of the error that a node was launched with.
 use Rattle.std.proofs.Common.{◌≡◌, refl, ℕ, List, ap, sym, subst, ◌∙◌, inl, inr}
-use Rattle.std.specs.Prelude.{Option, Some, None, Result, Err, IfSome, IsErrOf, ◌⊎◌}
+use Rattle.std.specs.Prelude.{Option, Some, None, Result, Ok, Err, IfSome, IsErrOf, ◌⊎◌}
 use Rattle.fs_io.specs.declared.reading.ReadError.TheVariants as reading
 use Rattle.fs_launch.specs.Launch.{IsUnturned, NodeComesTo}
 use Rattle.fs_launch.specs.declared.error.LaunchError.{LaunchError}

@@ -1,5 +1,5 @@
 -- What the words ask for, where they are a form.
-use Rattle.std.proofs.Common.{◌≡◌, ℕ, subst, sym, inl, inr}
+use Rattle.std.proofs.Common.{◌≡◌, ℕ, subst, sym, ◌∙◌, inl, inr}
 use Rattle.std.specs.Prelude.{Ok, Err, IfOk, ◌⊎◌}
 use Rattle.fs_words.specs.Usage.{Asked}
 use Rattle.fs_words.specs.declared.command.Command.{Command}

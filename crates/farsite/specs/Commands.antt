@@ -1,5 +1,5 @@
 -- What comes of the words of the command line: of a run of a schedule that is read or made, or of a node.
-use Rattle.std.specs.Prelude.{◌≡◌, ℕ, List, [], Option, Some, None, Ok, Err}
+use Rattle.std.specs.Prelude.{◌≡◌, ℕ, List, [], Option, Some, None, Result, Ok, Err}
 use Rattle.fs_io.specs.Calls.{Made}
 use Rattle.fs_io.specs.Told.{Adds}
 use Rattle.fs_launch.specs.Launch.{HasNodeFault, NodeComesTo, bind_call}

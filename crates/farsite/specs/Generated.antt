@@ -5,6 +5,7 @@ use Rattle.fs_msg.specs.declared.end.End.{End}
 use Rattle.fs_msg.specs.declared.end.End.TheVariants.{Ended}
 use Rattle.fs_msg.specs.declared.note.Note.{Note}
 use Rattle.fs_msg.specs.declared.note.Note.TheVariants.{Server}
+use Rattle.fs_msg.specs.declared.server_note.ServerNote.{ServerNote}
 use Rattle.fs_msg.specs.declared.server_note.ServerNote.TheVariants.{Admits}
 use Rattle.fs_report.specs.Generated.{generated_line}
 use Rattle.fs_schedule.specs.declared.outcome.Outcome.{Outcome}

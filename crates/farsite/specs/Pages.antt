@@ -1,5 +1,5 @@
 -- What the program tells of itself.
-use Rattle.std.specs.Prelude.{ℕ, List, [], ◌∷◌, ◌++◌, Option, None, codes}
+use Rattle.std.specs.Prelude.{ℕ, List, [], ◌∷◌, ◌++◌, Option, Some, None, codes, if◌then◌else◌}
 use Rattle.fs_words.specs.Usage.{is_word}
 use Rattle.farsite.specs.declared.page.Page.{Page}
 use Rattle.farsite.specs.declared.page.Page.TheVariants.{Help, Version}

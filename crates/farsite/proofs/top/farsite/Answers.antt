@@ -1,4 +1,4 @@
-use Rattle.std.proofs.Common.{◌≤◌, ◌<◌, refl, arith, length, map, string_bytes, subst, inl}
+use Rattle.std.proofs.Common.{◌≡◌, ◌≤◌, ◌<◌, refl, arith, List, length, map, string_bytes, subst, inl}
 use Rattle.std.specs.Io.KnownBytes.{IsAtEnd}
 use Rattle.fs_io.specs.declared.reading.TheConstants.{LIMIT}
 use Rattle.std.specs.Prelude.{IfSome}
