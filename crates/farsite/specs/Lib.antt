@@ -6,4 +6,3 @@ pub mod Status
 pub mod Lines
 -- cited by private calls alone
 pub mod Fitting
-pub mod Stopping
