@@ -27,7 +27,7 @@ use Rattle.fs_client.specs.declared.led.Led.{Led}
 use Rattle.fs_client.specs.declared.plan.Plan.{Plan}
 use Rattle.fs_client.specs.declared.state.Client.{Client}
 use Rattle.fs_view.specs.View.{given_by, known_by, missing_in, reply_in}
-use Rattle.fs_serial.specs.Fresh.{FreshReserved, Reserves, reserved_by}
+use Rattle.fs_serial.specs.Fresh.{FreshReserved, reserved_by}
 use Rattle.fs_serial.specs.Numbers.{is_server, is_session, items_by}
 use Rattle.fs_serial.specs.Parts.{ServersHold, ServersFit}
 use Rattle.fs_serial.specs.Settled.{Settled, settled_now}
@@ -41,8 +41,8 @@ use Rattle.fs_serial.proofs.LeadSeat.{leads_reserves, seat_leads}
 use Rattle.fs_serial.proofs.MoveReads.{move_read}
 use Rattle.fs_serial.proofs.PlainAsks.{asks_given, some_given}
 use Rattle.fs_serial.proofs.Read.{IsReadOf, item_read, read_made, read_reserved, read_right, read_serial, seat_read, settled_number}
-use Rattle.fs_serial.proofs.ReplyAll.{replied_settled}
-use Rattle.fs_serial.proofs.ReplySeat.{seat_reply}
+use Rattle.fs_serial.proofs.ReplySeat.{reply_reserves, seat_reply}
+use Rattle.fs_serial.proofs.Claims.{AreUnborn, NoneAnew, none_anew}
 use Rattle.fs_serial.proofs.Gone.{MakeAnew}
 use Rattle.fs_serial.proofs.Seats.{Seat, few, seen_at}
 use Rattle.fs_serial.proofs.Sends.{AreOfGivenKinds, seat_asks}
@@ -96,12 +96,12 @@ module _ (skew greatest : ℕ) (s : Sight) (by : Session) (replied : List Item) 
     | inr p ↦ move_read skew greatest s by replied c up down h a.0 o r sound p.1 called p.0 a.1 a.2 within
   ]
 
-module _ (skew greatest : ℕ) (s : Sight) (by : Session) (replied : List Item) (c : Client) (up : List ClientMsg) (down : List Answer) (o : Op) (called : is_called o ≡ true) (h : Seat skew greatest s by replied c up down) (anew : MakeAnew by s.journal (seen_at by c down).log) (put : Item → Item) (fine : (r : Reply) → ReadsAt skew greatest s by replied c up down o called h r → IsReadOf (nodes_of s.records) by c.next (put (item_read c o r))) where
+module _ (skew greatest : ℕ) (s : Sight) (by : Session) (replied : List Item) (c : Client) (up : List ClientMsg) (down : List Answer) (o : Op) (called : is_called o ≡ true) (h : Seat skew greatest s by replied c up down) (anew : MakeAnew by s.journal (seen_at by c down).log) (unborn : AreUnborn s.records (seen_at by c down)) (put : Item → Item) (fine : (r : Reply) → ReadsAt skew greatest s by replied c up down o called h r → IsReadOf (nodes_of s.records) by c.next (put (item_read c o r))) where
   abbrev IsDone : Plan Act → Type 0
   IsDone p = IsPlanned skew greatest s by replied c up down down (with_items put p)
 
   stayed : (a : Act) → IsDone (stays a c)
-  stayed a = record { now = refl; moved = record { seat = h; reserves = λ n i r. r }; servers = servers_stay s; others = λ x q. refl }
+  stayed a = record { now = refl; moved = record { seat = h; reserves = none_anew (seen_at by c down) }; servers = servers_stay s; others = λ x q. refl }
 
   -- ## Something is missing
 
@@ -116,7 +116,7 @@ module _ (skew greatest : ℕ) (s : Sight) (by : Session) (replied : List Item) 
     moved = record {
       seat = seat_asks skew greatest s by replied c up down to (items_of (needs_at c to needs)) (fresh_asked (needs_at c to needs)) idle
           (some_given (λ n. hinted c (need_file n) == to) needs (subst (λ ns. AreOfGivenKinds (items_of ns)) (sym is) (asks_given (known_by c.view c.last) (given_by c.view c.last) c.full o called))) h;
-      reserves = λ n i r. r;
+      reserves = none_anew (seen_at by c down);
     };
     servers = servers_stay s;
     others = λ x q. refl;
@@ -139,8 +139,8 @@ module _ (skew greatest : ℕ) (s : Sight) (by : Session) (replied : List Item) 
         record {
           now = refl;
           moved = record {
-            seat = seat_reply skew greatest s by replied c up down o r h anew a;
-            reserves = λ n i q. subst (λ (d : Settled). Reserves d.leases n i) (replied_settled by c down o r a h.client) q;
+            seat = seat_reply skew greatest s by replied c up down o r h anew unborn a;
+            reserves = reply_reserves skew greatest s by replied c up down o r h anew unborn a;
           };
           servers = servers_stay s;
           others = λ x q. refl;
@@ -154,7 +154,7 @@ module _ (skew greatest : ℕ) (s : Sight) (by : Session) (replied : List Item) 
           now = refl;
           moved = record {
             seat = seat_read skew greatest s by replied c up down h unled a.2 i is;
-            reserves = λ n j q. subst (λ (d : Settled). Reserves d.leases n j) (settled_number by (c.next + 1) down (settled_now c) unled) q;
+            reserves = subst (NoneAnew (seen_at by c down)) (sym (settled_number by (c.next + 1) down (settled_now c) unled)) (none_anew (seen_at by c down));
           };
           servers = record {
             holds = λ q. record { apart = q.apart; promises = q.promises; serial = read_serial skew greatest s by replied c up down h unled a.2 i is q; reaped = reaps-still s.reaps s.journal i (λ k. ap (is_server k) is.session) q.reaped };

@@ -34,7 +34,7 @@ use Rattle.fs_serial.specs.Gone.{IsOfGone}
 use Rattle.fs_serial.specs.Leases.{IsBacked, LeasesBacked, LeasesTrue, LeasesDistinct, IsRowOf, IsFresh, FreshLeases}
 use Rattle.fs_serial.specs.Numbers.{items_by, all_items, AreNumbered}
 use Rattle.fs_serial.specs.Parts.{ServersHold, ServersFit, SessionHolds, SessionFits}
-use Rattle.fs_serial.specs.Pending.{AllStand, IsAnswer, PendingStand, HasLease, UsesHeld, IsEntry, NamesItsFile, HasReserved, AreEntries, named_by}
+use Rattle.fs_serial.specs.Pending.{AllStand, IsAnswer, PendingStand, HasLease, UsesHeld, IsEntry}
 use Rattle.fs_serial.specs.Serial.{JournalSerial, AreSound}
 use Rattle.fs_serial.specs.Settled.{Lease, lease_after, effects_in}
 use Rattle.fs_serial.specs.Sight.{Counts, Sight, sight_of}
@@ -67,28 +67,6 @@ fresh_after by e l dir none f =
           ∙ ap (λ k. value.Life (or_else k None)) unmade;
     }
 
--- ## The entries behind it
-
--- a reserved lease that the first entry does not use up stays reserved
-still_reserved : (by : Session) (e : Entry) (leases : List Lease) (uses : List Use) (dir id : List ℕ) → made_by e.op e.reply id ≡ None → HasReserved leases uses dir id → HasReserved (map (lease_after by (effects_in by e)) leases) uses dir id
-still_reserved by e leases uses dir id unmade h =
-    let none : list_any (makes (file_of h.lease.field)) (effects_in by e) ≡ false = ap (λ g. list_any (makes (file_of g)) (effects_in by e)) h.field ∙ makes_there by e.op e.reply id ∙ ap is_some unmade in
-    record {
-      lease = lease_after by (effects_in by e) h.lease;
-      held = In-mapped (lease_after by (effects_in by e)) h.lease leases h.held;
-      below = ap (λ b. cond b None h.lease.below) none ∙ h.below;
-      field = h.field;
-      used = h.used;
-      among = h.among;
-      number = h.number;
-    }
-
-still_named : (by : Session) (e : Entry) (leases : List Lease) (uses : List Use) (o : Op) (r : Reply) → ((id : List ℕ) → named_by o ≡ Some id → made_by e.op e.reply id ≡ None) → NamesItsFile leases uses o r → NamesItsFile (map (lease_after by (effects_in by e)) leases) uses o r
-still_named by e leases uses (op.Create dir name kind (Some id)) reply.Made other n = record { reserved = still_reserved by e leases uses dir id (other id refl) n.reserved; child = n.child }
-still_named by e leases uses (op.Create dir name kind None) reply.Made other n = n
-still_named by e leases uses (op.Create dir name kind (Some id)) r other n = n
-still_named by e leases uses o r other n = n
-
 -- ## The parts
 
 module _ (o : Counts) (skew greatest : ℕ) (s : Server) (journal : List Item) (by : Session) (replied : List Item) (leases : List Lease) (e : Entry) (es : List Entry) (next : ℕ) (led : Option Led)
@@ -103,7 +81,7 @@ module _ (o : Counts) (skew greatest : ℕ) (s : Server) (journal : List Item) (
   abbrev then : List Lease
   then = map (lease_after by (effects_in by e)) leases
 
-  pub plain : IsEntry leases e
+  pub plain : IsEntry e
   plain = f.entries e (inl refl)
 
   pub right : IsAnswer (value_of s.records by) e
@@ -111,13 +89,13 @@ module _ (o : Counts) (skew greatest : ℕ) (s : Server) (journal : List Item) (
 
   -- what the session sees
   own : (g : Field) → value_of after.records by g ≡ value_after_all by g (value_of s.records by g) (effects_in by e)
-  own g = own_values s.records by e.op e.reply g sf.sound.records plain.plain (answered s.records by leases e plain right)
+  own g = own_values s.records by e.op e.reply g sf.sound.records plain.plain (answered s.records by e plain right)
 
   pub serial : JournalSerial after.journal after.records
-  serial = serial_push first_space journal (nodes_of s.records) (nodes_of after.records) (item_of by e) sh.serial (no_reap e.op plain.plain) (answered s.records by leases e plain right) (sym (leads_there s.records by leases e plain right))
+  serial = serial_push first_space journal (nodes_of s.records) (nodes_of after.records) (item_of by e) sh.serial (no_reap e.op plain.plain) (answered s.records by e plain right) (sym (leads_there s.records by e plain right))
 
   pub sound : AreSound after.records
-  sound = sound_there s.records by leases e plain right sf.sound
+  sound = sound_there s.records by e plain right sf.sound
 
   -- ### What is promised of the session
 
@@ -127,7 +105,7 @@ module _ (o : Counts) (skew greatest : ℕ) (s : Server) (journal : List Item) (
   telling : MakeAnew by journal (e ∷ es) → LeasesTrue s.rows (IsOfGone after.records after.journal) (value_of after.records by) then
   telling anew = each_image (lease_after by (effects_in by e)) (λ l. (r : Row) → In r s.rows → r.no ≡ l.no → IsOfGone after.records after.journal l.field ⊎ (l.base ≡ value_of after.records by l.field)) leases
       (λ l i r j n. elim (h.telling l i r j n) as (λ _. IsOfGone after.records after.journal l.field ⊎ (value_after_all by l.field l.base (effects_in by e) ≡ value_of after.records by l.field)) [
-        | inl gone ↦ inl (gone_later s.records after.records journal after.journal (made_more journal (item_of by e)) (λ file was. gone_then s.records by leases e plain right sf.sound file (anew e (inl refl) file was)) l.field gone)
+        | inl gone ↦ inl (gone_later s.records after.records journal after.journal (made_more journal (item_of by e)) (λ file was. gone_then s.records by e plain right sf.sound file (anew e (inl refl) file was)) l.field gone)
         | inr same ↦ inr (ap (λ v. value_after_all by l.field v (effects_in by e)) same ∙ sym (own l.field))
       ])
 
@@ -164,18 +142,6 @@ module _ (o : Counts) (skew greatest : ℕ) (s : Server) (journal : List Item) (
       let q : HasLease leases u = f.held x (inr i) u j in
       record { lease = lease_after by (effects_in by e) q.lease; held = In-mapped (lease_after by (effects_in by e)) q.lease leases q.held; number = q.number; field = q.field; kind = q.kind }
 
-  -- an entry behind it names another file
-  other : (x : Entry) → In x es → (id : List ℕ) → named_by x.op ≡ Some id → made_by e.op e.reply id ≡ None
-  other x i id n = elim (is_some (made_by e.op e.reply id)) as (λ b. is_some (made_by e.op e.reply id) ≡ b → made_by e.op e.reply id ≡ None) [
-    | true ↦ λ t. absurd (f.once.0 x id i (names_made e.op e.reply id t) n)
-    | false ↦ λ t. not_some (made_by e.op e.reply id) t
-  ] refl
-
-  entries : AreEntries then es
-  entries x i =
-      let q : IsEntry leases x = f.entries x (inr i) in
-      record { plain = q.plain; access = q.access; named = still_named by e leases x.uses x.op x.reply (other x i) q.named; home = q.home }
-
   pub fits : SessionFits skew greatest after by (record { leases = then; log = es; next = next; over = None; led = led })
   fits = record {
     given = each_image (lease_after by (effects_in by e)) _ leases f.given;
@@ -184,7 +150,7 @@ module _ (o : Counts) (skew greatest : ℕ) (s : Server) (journal : List Item) (
     fresh = fresh;
     held = held;
     backed = λ x i. f.backed x (inr i);
-    entries = entries;
+    entries = λ x i. f.entries x (inr i);
     once = f.once.1;
     refused = λ n o. absurd (cc);
     led = each_led skew greatest greatest (sight_of o s journal) after by (record { leases = leases; log = e ∷ es; next = next; over = None; led = led }) (record { leases = then; log = es; next = next; over = None; led = led }) led (λ l is h. absurd (let q : e ∷ es ≡ [] = h.empty in cc)) f.led;

@@ -1,6 +1,8 @@
 -- The server admits an entry: all parts of all sessions.
-use Rattle.std.proofs.Common.{◌≡◌, ℕ, ◌==◌, Bool, true, false, List, [], ◌∷◌, ◌++◌, map, refl, sym, ap, ◌∙◌, subst, inl, cond}
-use Rattle.std.specs.Prelude.{Option, None, is_some}
+use Rattle.std.proofs.Common.{◌≡◌, ℕ, ◌==◌, Bool, true, false, List, [], ◌∷◌, ◌++◌, map, refl, sym, ap, ◌∙◌, subst, inl, inr, cond}
+use Rattle.std.specs.Prelude.{Option, Some, None, is_some}
+use Rattle.std.specs.List.{list_any}
+use Rattle.fs_ident.specs.In.{In}
 use Rattle.fs_ident.specs.declared.actor.LeaseNo.{LeaseNo}
 use Rattle.fs_ident.specs.declared.actor.Session.{Session}
 use Rattle.fs_ident.proofs.Standing.{In-map}
@@ -10,10 +12,11 @@ use Rattle.fs_msg.specs.declared.entry.Entry.{Entry}
 use Rattle.fs_msg.specs.declared.item.Item.{Item}
 use Rattle.fs_server.specs.Ships.{item_of, with_entry}
 use Rattle.fs_server.specs.declared.state.Server.{Server}
-use Rattle.fs_serial.specs.Fresh.{Reserves, reserved_by}
+use Rattle.fs_view.specs.Kept.{makes}
+use Rattle.fs_serial.specs.Fresh.{ByLease, ByLog, Claim, HoldsFresh, Reserves, reserved_by}
 use Rattle.fs_serial.specs.Parts.{AllHold, SessionHolds, SessionFits, with_client}
 use Rattle.fs_record.specs.ValueOf.{value_of}
-use Rattle.fs_serial.specs.Pending.{AllStand, IsAnswer, IsEntry}
+use Rattle.fs_serial.specs.Pending.{AllStand, IsAnswer, IsEntry, named_by}
 use Rattle.fs_serial.specs.Relies.{Relies}
 use Rattle.fs_serial.specs.Settled.{Lease, Settled, acknowledged, lease_after, effects_in}
 use Rattle.fs_serial.specs.Rows.{PromisesKept}
@@ -23,6 +26,8 @@ use Rattle.fs_serial.proofs.Admit as admit
 use Rattle.fs_serial.proofs.AdmitFresh.{fresh_then, made_then}
 use Rattle.fs_serial.proofs.AdmitOthers.{others_rely}
 use Rattle.fs_serial.proofs.AdmitPromises.{promises_admitted}
+use Rattle.fs_serial.proofs.Births.{makes_there, named_makes}
+use Rattle.fs_serial.proofs.Claims.{NoneAnew, Was, none_anew}
 use Rattle.fs_serial.proofs.Facts.{reaps-still}
 use Rattle.fs_serial.proofs.Gone.{MakeAnew, all_anew}
 use Rattle.fs_serial.proofs.Relied.{relied_holds, relied_fits}
@@ -35,8 +40,8 @@ below_before true below h = absurd (cc)
 below_before false below h = h
 
 -- effects that are known to be admitted reserve nothing
-pub fewer_reserved : (by : Session) (es : List Effect) (leases : List Lease) (n : LeaseNo) (id : List ℕ) → Reserves (map (lease_after by es) leases) n id → Reserves leases n id
-fewer_reserved by es leases n id r =
+held_before : (by : Session) (es : List Effect) (leases : List Lease) (n : LeaseNo) (id : List ℕ) → HoldsFresh (map (lease_after by es) leases) n id → HoldsFresh leases n id
+held_before by es leases n id r =
     let k = In-map (lease_after by es) r.lease leases r.held in
     record {
       lease = k.0;
@@ -45,6 +50,22 @@ fewer_reserved by es leases n id r =
       fresh = below_before _ k.0.below (ap (λ (l : Lease). is_some l.below) (sym k.1.1) ∙ r.fresh);
       file = ap (λ (l : Lease). file_of l.field) (sym k.1.1) ∙ r.file;
     }
+
+-- nor does a log with fewer entries
+pub fewer_anew : (by : Session) (es : List Effect) (d e : Settled) → e.leases ≡ map (lease_after by es) d.leases → ((x : Entry) → In x e.log → In x d.log) → NoneAnew d e
+fewer_anew by es d e leases log (ByLease n) id r = held_before by es d.leases n id (subst (λ ls. HoldsFresh ls n id) leases r)
+fewer_anew by es d e leases log ByLog id r = (ByLog, record { entry = r.entry; among = log r.entry r.among; named = r.named })
+
+-- what the effects make no lease reserves any more
+pub made_held : (by : Session) (es : List Effect) (leases : List Lease) (n : LeaseNo) (id : List ℕ) → list_any (makes id) es ≡ true → HoldsFresh (map (lease_after by es) leases) n id → ⊥
+made_held by es leases n id makes_it r =
+    let k = In-map (lease_after by es) r.lease leases r.held in
+    let there : list_any (makes (file_of k.0.field)) es ≡ true = ap (λ j. list_any (makes j) es) (ap (λ (l : Lease). file_of l.field) (sym k.1.1) ∙ r.file) ∙ makes_it in
+    cleared (list_any (makes (file_of k.0.field)) es) k.0.below there (ap (λ (l : Lease). is_some l.below) (sym k.1.1) ∙ r.fresh)
+  where
+    cleared : (b : Bool) (o : Option (List ℕ)) → b ≡ true → is_some (cond b None o) ≡ true → ⊥
+    cleared true o t g = absurd (cc)
+    cleared false o t g = absurd (cc)
 
 module _ (o : Counts) (skew greatest : ℕ) (s : Server) (journal : List Item) (replied : Session → List Item) (clients : Session → Settled) (by : Session) (e : Entry) (h : AllHold skew greatest (sight_of o s journal) replied clients) (a : IsAdmitted s by (clients by) e) where
   abbrev d : Settled
@@ -78,20 +99,20 @@ module _ (o : Counts) (skew greatest : ℕ) (s : Server) (journal : List Item) (
   anew : MakeAnew by journal (e ∷ a.rest)
   anew = subst (MakeAnew by journal) a.log (all_anew skew greatest (sight_of o s journal) replied clients h by)
 
-  plain : IsEntry d.leases e
+  plain : IsEntry e
   plain = admit.plain o skew greatest s journal by (replied by) d.leases e a.rest d.next d.led stand h.servers h.kept holds fits
 
   right : IsAnswer (value_of s.records by) e
   right = admit.right o skew greatest s journal by (replied by) d.leases e a.rest d.next d.led stand h.servers h.kept holds fits
 
   promises : PromisesKept (with_entry by e s).records s.rows
-  promises = promises_admitted s by d e stand plain right h.kept.sound.records h.servers.promises
+  promises = promises_admitted s by e stand plain right h.kept.sound.records h.servers.promises
 
   abbrev all : Session → Settled
   all = with_client by then clients
 
   rely : (x : Session) → (by.0 == x.0) ≡ false → Relies skew greatest x (sight_of o s journal) after
-  rely x other = others_rely o skew greatest s journal by x d.leases e other stand (anew e (inl refl)) plain right h.servers h.kept promises
+  rely x other = others_rely o skew greatest s journal by x e other stand (anew e (inl refl)) plain right h.servers h.kept promises
 
   sessions : (x : Session) → SessionHolds skew greatest after x (replied x) (all x)
   sessions = each_session (λ x c. SessionHolds skew greatest after x (replied x) c) by then clients
@@ -104,11 +125,19 @@ module _ (o : Counts) (skew greatest : ℕ) (s : Server) (journal : List Item) (
       (λ x other. relied_fits skew greatest x (sight_of o s journal) after (clients x) (rely x other) (h.fitting x))
 
   -- fewer identifiers are reserved
-  fewer : (x : Session) (n : LeaseNo) (i : List ℕ) → reserved_by all x n i → reserved_by clients x n i
-  fewer = each_session (λ x (c : Settled). (n : LeaseNo) (i : List ℕ) → Reserves c.leases n i → Reserves (clients x).leases n i) by then clients (fewer_reserved by (effects_in by e) d.leases) (λ x other n i r. r)
+  fewer : (x : Session) (n : Claim) (i : List ℕ) → reserved_by all x n i → Was (reserved_by clients x) n i
+  fewer = each_session (λ x (c : Settled). NoneAnew (clients x) c) by then clients (fewer_anew by (effects_in by e) d then refl (λ x i. subst (In x) (sym a.log) (inr i))) (λ x other. none_anew (clients x))
 
-  still : (n : LeaseNo) (i : List ℕ) → reserved_by all by n i → Reserves then.leases n i
-  still n i r = subst (λ (c : Settled). Reserves c.leases n i) (its_client by then clients) r
+  named : (id : List ℕ) → named_by e.op ≡ Some id → reserved_by clients by ByLog id
+  named id is = record { entry = e; among = subst (In e) (sym a.log) (inl refl); named = is }
+
+  -- and not any more the one that the entry names
+  used_up : (n : Claim) (id : List ℕ) → named_by e.op ≡ Some id → reserved_by all by n id → ⊥
+  used_up n id is r = spent n (subst (λ (c : Settled). Reserves c n id) (its_client by then clients) r)
+    where
+      spent : (n : Claim) → Reserves then n id → ⊥
+      spent (ByLease n) r = made_held by (effects_in by e) d.leases n id (makes_there by e.op e.reply id ∙ named_makes e.uses e.op e.reply id plain.named is) r
+      spent ByLog r = fits.once.0 r.entry id r.among is r.named
 
   kept : AllHold skew greatest after replied all
   kept = record {
@@ -123,11 +152,11 @@ module _ (o : Counts) (skew greatest : ℕ) (s : Server) (journal : List Item) (
       counted = h.kept.counted;
       given = h.kept.given;
       sound = admit.sound o skew greatest s journal by (replied by) d.leases e a.rest d.next d.led stand h.servers h.kept holds fits;
-      made = made_then s journal by d.leases e plain right h.kept.sound fits.distinct (reserved_by clients) (reserved_by all) fewer (λ n i r. r) still h.reserved h.kept.made;
+      made = made_then s journal by e plain right h.kept.sound (reserved_by clients) (reserved_by all) fewer named used_up h.reserved h.kept.made;
     };
     sessions = sessions;
     fitting = fitting;
-    reserved = fresh_then s journal by d.leases e plain right h.kept.sound fits.distinct (reserved_by clients) (reserved_by all) fewer (λ n i r. r) still h.reserved;
+    reserved = fresh_then s journal by e plain right h.kept.sound (reserved_by clients) (reserved_by all) fewer named used_up h.reserved;
   }
 
   pub admit_kept : AllHold skew greatest after replied (with_client by (acknowledged by d.log d) clients)

@@ -6,17 +6,13 @@ use Rattle.std.specs.List.{list_any}
 use Rattle.std.specs.Ordering.{nat_cmp, eq_by_cmp}
 use Rattle.std.specs.Cmp.Lexicographic.{slice_cmp}
 use Rattle.fs_ident.specs.Ident.{child}
-use Rattle.fs_ident.specs.In.{In}
-use Rattle.fs_ident.specs.declared.actor.LeaseNo.{LeaseNo}
 use Rattle.fs_ident.specs.declared.actor.Session.{Session}
 use Rattle.fs_ident.specs.declared.kind.Kind.{Kind}
 use Rattle.fs_ident.proofs.Booleans.{neither}
-use Rattle.fs_ident.proofs.Standing.{In-map}
 use Rattle.fs_field.specs.declared.effect.Effect.{Effect}
 use Rattle.fs_field.specs.declared.effect.Effect.TheVariants.{SetChild, SetParent, NewNode, RemoveNode, AddHandle, RemoveHandle, SetInfo}
 use Rattle.fs_field.specs.declared.field.Field.TheVariants.{Life}
 use Rattle.fs_field.specs.declared.value.Value.TheVariants as value
-use Rattle.fs_field.specs.Field.{file_of}
 use Rattle.fs_model.specs.Sound.{kind_of}
 use Rattle.fs_model.specs.declared.op.Op.{Op}
 use Rattle.fs_model.specs.declared.op.Op.TheVariants as op
@@ -35,16 +31,14 @@ use Rattle.fs_record.proofs.Kept.{get_with_at}
 use Rattle.fs_record.proofs.NodeValues.{key_is}
 use Rattle.fs_server.specs.Ships.{item_of, with_entry}
 use Rattle.fs_server.specs.declared.state.Server.{Server}
-use Rattle.fs_view.specs.Kept.{makes}
 use Rattle.fs_record.specs.Applied.{records_after_all}
 use Rattle.fs_view.proofs.Seeing.{own_values}
-use Rattle.fs_serial.specs.Fresh.{made, made_by, or_else, IsMade, NodesMade, IsAtOrBelow, Reserved, Reserves, FreshReserved}
-use Rattle.fs_serial.specs.Leases.{LeasesDistinct}
-use Rattle.fs_serial.specs.Pending.{IsAnswer, IsEntry}
+use Rattle.fs_serial.specs.Fresh.{made, made_by, or_else, ByLog, Claim, IsMade, NodesMade, IsAtOrBelow, Reserved, FreshReserved}
+use Rattle.fs_serial.specs.Pending.{IsAnswer, IsEntry, named_by}
 use Rattle.fs_serial.specs.Serial.{AreSound}
-use Rattle.fs_serial.specs.Settled.{Lease, lease_after, effects_in}
 use Rattle.fs_serial.proofs.Answered.{answered}
-use Rattle.fs_serial.proofs.Births.{IsBirth, birth, life_after, makes_there, names_made}
+use Rattle.fs_serial.proofs.Births.{life_after, names_made}
+use Rattle.fs_serial.proofs.Claims.{Was, one_still, was_there}
 use Rattle.fs_serial.proofs.Facts.{made-append, made_before, below-trans, below_itself}
 
 -- ## Next numbers and lives
@@ -104,10 +98,10 @@ not_below_itself dir k p = let q = ap length p.1 in let a = length-append (child
 below_child : (dir : List ℕ) (k : ℕ) → IsAtOrBelow dir (child dir k)
 below_child dir k = (k ∷ [], refl)
 
-module _ (s : Server) (journal : List Item) (by : Session) (leases : List Lease) (e : Entry) (plain : IsEntry leases e) (right : IsAnswer (value_of s.records by) e) (sound : AreSound s.records) (distinct : LeasesDistinct leases)
-    (old new : Reserved) (fewer : (x : Session) (n : LeaseNo) (i : List ℕ) → new x n i → old x n i)
-    (own : (n : LeaseNo) (i : List ℕ) → Reserves leases n i → old by n i)
-    (then : (n : LeaseNo) (i : List ℕ) → new by n i → Reserves (map (lease_after by (effects_in by e)) leases) n i)
+module _ (s : Server) (journal : List Item) (by : Session) (e : Entry) (plain : IsEntry e) (right : IsAnswer (value_of s.records by) e) (sound : AreSound s.records)
+    (old new : Reserved) (fewer : (x : Session) (n : Claim) (i : List ℕ) → new x n i → Was (old x) n i)
+    (named : (id : List ℕ) → named_by e.op ≡ Some id → old by ByLog id)
+    (used_up : (n : Claim) (id : List ℕ) → named_by e.op ≡ Some id → new by n id → ⊥)
     (f : FreshReserved old s.records journal) where
   abbrev m : RecordMap
   m = (with_entry by e s).records
@@ -123,54 +117,39 @@ module _ (s : Server) (journal : List Item) (by : Session) (leases : List Lease)
 
   kind_then : (id : List ℕ) → kind_of (node_of (get m id)) ≡ or_else (made_by e.op e.reply id) (kind_of (node_of (get s.records id)))
   kind_then id =
-      let q : value_of m by (Life id) ≡ value.Life (or_else (made_by e.op e.reply id) (kind_of (node_of (get s.records id)))) = own_values s.records by e.op e.reply (Life id) sound.records plain.plain (answered s.records by leases e plain right) ∙ life_after by e.op e.reply id (kind_of (node_of (get s.records id))) in
+      let q : value_of m by (Life id) ≡ value.Life (or_else (made_by e.op e.reply id) (kind_of (node_of (get s.records id)))) = own_values s.records by e.op e.reply (Life id) sound.records plain.plain (answered s.records by e plain right) ∙ life_after by e.op e.reply id (kind_of (node_of (get s.records id))) in
       cc
 
   was_dir : (dir : List ℕ) → is_directory m dir ≡ true → makes_it dir ⊎ (is_directory s.records dir ≡ true)
   was_dir dir h = dir_before (made_by e.op e.reply dir) (kind_of (node_of (get s.records dir))) (ap is_dir (sym (kind_then dir)) ∙ h)
 
-  born : (id : List ℕ) → makes_it id → IsBirth leases id
-  born id = birth leases e.uses e.op e.reply id plain.named
+  -- the entry had reserved the file that it makes
+  held : (id : List ℕ) → makes_it id → old by ByLog id
+  held id h = named id (names_made e.op e.reply id h)
 
-  -- the lease that the made file had reserved
-  held : (id : List ℕ) (h : makes_it id) → old by (born id h).lease.no id
-  held id h = let b = born id h in own b.lease.no id (record { lease = b.lease; held = b.held; number = refl; fresh = b.fresh; file = b.file })
-
-  -- no lease reserves any more what was made, or what is below or above it
-  used_up : (id : List ℕ) (h : makes_it id) (i : List ℕ) → new by (born id h).lease.no i → ⊥
-  used_up id h i r =
-      let b : IsBirth leases id = born id h in
-      let q : Reserves (map (lease_after by (effects_in by e)) leases) b.lease.no i = then b.lease.no i r in
-      let k : (x : Lease) × (In x leases × (q.lease ≡ lease_after by (effects_in by e) x)) = In-map (lease_after by (effects_in by e)) q.lease leases q.held in
-      let same : k.0 ≡ b.lease = distinct k.0 b.lease k.1.0 b.held (ap (λ (l : Lease). l.no) (sym k.1.1) ∙ q.number) in
-      let there : list_any (makes (file_of k.0.field)) (effects_in by e) ≡ true = ap (λ (l : Lease). list_any (makes (file_of l.field)) (effects_in by e)) same ∙ ap (λ j. list_any (makes j) (effects_in by e)) b.file ∙ makes_there by e.op e.reply id ∙ h in
-      let gone : is_some (cond (list_any (makes (file_of k.0.field)) (effects_in by e)) None k.0.below) ≡ true = ap (λ (l : Lease). is_some l.below) (sym k.1.1) ∙ q.fresh in
-      absurd (cleared _ k.0.below there gone)
-    where
-      cleared : (b : Bool) (o : Option (List ℕ)) → b ≡ true → is_some (cond b None o) ≡ true → ⊥
-      cleared true o t g = absurd (cc)
-      cleared false o t g = absurd (cc)
-
-  apart_above : (x : Session) (n : LeaseNo) (i id : List ℕ) (h : makes_it id) → new x n i → IsAtOrBelow i id → ⊥
+  -- nothing reserves any more what was made, or what is below or above it
+  apart_above : (x : Session) (n : Claim) (i id : List ℕ) (h : makes_it id) → new x n i → IsAtOrBelow i id → ⊥
   apart_above x n i id h r p =
-      let q = f.once x by n (born id h).lease.no i id (fewer x n i r) (held id h) p in
-      used_up id h i (subst (λ k. new by k i) q.1 (subst (λ y. new y n i) q.0 r))
+      let c = was_there (old x) n i (fewer x n i r) in
+      let q = f.once x by c.0 ByLog i id c.1 (held id h) p in
+      used_up n id (names_made e.op e.reply id h) (subst (λ j. new by n j) q.1 (subst (λ y. new y n i) q.0 r))
 
-  apart_below : (x : Session) (n : LeaseNo) (i id : List ℕ) (h : makes_it id) → new x n i → IsAtOrBelow id i → ⊥
+  apart_below : (x : Session) (n : Claim) (i id : List ℕ) (h : makes_it id) → new x n i → IsAtOrBelow id i → ⊥
   apart_below x n i id h r p =
-      let q = f.once by x (born id h).lease.no n id i (held id h) (fewer x n i r) p in
-      used_up id h i (subst (λ k. new by k i) (sym q.1) (subst (λ y. new y n i) (sym q.0) r))
+      let c = was_there (old x) n i (fewer x n i r) in
+      let q = f.once by x ByLog c.0 id i (held id h) c.1 p in
+      used_up n id (names_made e.op e.reply id h) (subst (λ j. new by n j) (sym q.1) (subst (λ y. new y n i) (sym q.0) r))
 
-  unmade : (x : Session) (n : LeaseNo) (i j : List ℕ) → new x n i → IsMade js j → IsAtOrBelow i j → ⊥
+  unmade : (x : Session) (n : Claim) (i j : List ℕ) → new x n i → IsMade js j → IsAtOrBelow i j → ⊥
   unmade x n i j r h p = elim (made_before journal (item_of by e) j h) as (λ _. ⊥) [
-    | inl a ↦ f.unmade x n i j (fewer x n i r) a p
+    | inl a ↦ let c = was_there (old x) n i (fewer x n i r) in f.unmade x c.0 i j c.1 a p
     | inr a ↦ apart_above x n i j a r p
   ]
 
   -- below a directory that the entry made nothing was made
   none_below : (dir : List ℕ) (k : ℕ) (j : List ℕ) → makes_it dir → IsMade js j → IsAtOrBelow (child dir k) j → ⊥
   none_below dir k j d h p = elim (made_before journal (item_of by e) j h) as (λ _. ⊥) [
-    | inl a ↦ f.unmade by (born dir d).lease.no dir j (held dir d) a (below-trans dir (child dir k) j (below_child dir k) p)
+    | inl a ↦ f.unmade by ByLog dir j (held dir d) a (below-trans dir (child dir k) j (below_child dir k) p)
     | inr a ↦ two_made dir k j d a p
   ]
     where
@@ -184,19 +163,19 @@ module _ (s : Server) (journal : List Item) (by : Session) (leases : List Lease)
     | inl a ↦ none_below dir k j a h p
     | inr a ↦ elim (made_before journal (item_of by e) j h) as (λ _. ⊥) [
       | inl b ↦ f.made_before dir k j a (subst (λ n. n ≤ k) (next_same dir) le) b p
-      | inr b ↦ f.reserved_before dir k by (born j b).lease.no j a (subst (λ n. n ≤ k) (next_same dir) le) (held j b) p
+      | inr b ↦ f.reserved_before dir k by ByLog j a (subst (λ n. n ≤ k) (next_same dir) le) (held j b) p
     ]
   ]
 
-  reserved_first : (dir : List ℕ) (k : ℕ) (x : Session) (n : LeaseNo) (j : List ℕ) → is_directory m dir ≡ true → next_of (get m dir) ≤ k → new x n j → IsAtOrBelow (child dir k) j → ⊥
+  reserved_first : (dir : List ℕ) (k : ℕ) (x : Session) (n : Claim) (j : List ℕ) → is_directory m dir ≡ true → next_of (get m dir) ≤ k → new x n j → IsAtOrBelow (child dir k) j → ⊥
   reserved_first dir k x n j d le r p = elim (was_dir dir d) as (λ _. ⊥) [
     | inl a ↦ apart_below x n j dir a r (below-trans dir (child dir k) j (below_child dir k) p)
-    | inr a ↦ f.reserved_before dir k x n j a (subst (λ q. q ≤ k) (next_same dir) le) (fewer x n j r) p
+    | inr a ↦ let c = was_there (old x) n j (fewer x n j r) in f.reserved_before dir k x c.0 j a (subst (λ q. q ≤ k) (next_same dir) le) c.1 p
   ]
 
   pub fresh_then : FreshReserved new m js
   fresh_then = record {
-    once = λ x y n k i j a b p. f.once x y n k i j (fewer x n i a) (fewer y k j b) p;
+    once = λ x y n k i j a b p. one_still old s.records journal f x y n k i j (fewer x n i a) (fewer y k j b) p;
     unmade = unmade;
     made_before = made_first;
     reserved_before = reserved_first;
@@ -214,5 +193,5 @@ module _ (s : Server) (journal : List Item) (by : Session) (leases : List Lease)
           let is : Some x ≡ Some kind = sym (kind_then id ∙ ap (λ a. or_else a (kind_of (node_of (get s.records id)))) t) ∙ h in
           elim (made journal id) as (λ o. made journal id ≡ o → or_else o (Some x) ≡ Some kind) [
             | None ↦ λ q. is
-            | Some y ↦ λ q. let b : makes_it id = ap is_some t in absurd (f.unmade by (born id b).lease.no id id (held id b) (ap is_some q) (below_itself id))
+            | Some y ↦ λ q. let b : makes_it id = ap is_some t in absurd (f.unmade by ByLog id id (held id b) (ap is_some q) (below_itself id))
           ] refl

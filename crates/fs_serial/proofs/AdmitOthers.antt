@@ -59,15 +59,15 @@ no_item_meets rows by r uses (need.Lease g Shared) free i other stand c = refl
 no_item_meets rows by r uses (need.Lease g Exclusive) free i other stand c = ap (λ x. meets r.field r.kind x Exclusive) (sym c.field) ∙ not_met rows by r c.used free i other (stand c.used c.among) (exclusive c.used.kind c.enough)
 no_item_meets rows by r uses (need.Fresh dir) free i other stand c = refl
 
-module _ (o : Counts) (skew greatest : ℕ) (s : Server) (journal : List Item) (by y : Session) (leases : List Lease) (e : Entry) (another : (by.0 == y.0) ≡ false)
-    (stand : AllStand s.rows by e.uses) (anew : (file : List ℕ) → IsMade journal file → list_any (makes file) (effects_in by e) ≡ false) (plain : IsEntry leases e) (right : IsAnswer (value_of s.records by) e)
+module _ (o : Counts) (skew greatest : ℕ) (s : Server) (journal : List Item) (by y : Session) (e : Entry) (another : (by.0 == y.0) ≡ false)
+    (stand : AllStand s.rows by e.uses) (anew : (file : List ℕ) → IsMade journal file → list_any (makes file) (effects_in by e) ≡ false) (plain : IsEntry e) (right : IsAnswer (value_of s.records by) e)
     (sh : ServersHold (sight_of o s journal)) (sf : ServersFit (sight_of o s journal)) (promises : PromisesKept (with_entry by e s).records s.rows) where
   -- on a field that does not tell of others, since it meets no use of the entry
   same_plain : (r : Row) → In r s.rows → r.session ≡ y → is_other r.field ≡ false → value_of (with_entry by e s).records y r.field ≡ value_of s.records y r.field
   same_plain r i own plainly =
-      others_values s.records by y e.op e.reply r.field r.kind sf.sound.records plain.plain (answered s.records by leases e plain right) another plainly
+      others_values s.records by y e.op e.reply r.field r.kind sf.sound.records plain.plain (answered s.records by e plain right) another plainly
       (In_none (item_meets r.field r.kind) (walk (known_in (nodes_of s.records) by) always e.op).items (λ n j.
-      no_item_meets s.rows by r e.uses n sh.apart i (ap (λ (x : Session). by.0 == x.0) own ∙ another) stand (covered_there s.records by leases e plain right n j)))
+      no_item_meets s.rows by r e.uses n sh.apart i (ap (λ (x : Session). by.0 == x.0) own ∙ another) stand (covered_there s.records by e plain right n j)))
 
   -- nothing that a row of the other session is on changes for it: what its others have of a mode is what it was promised
   same_value : (r : Row) → In r s.rows → r.session ≡ y → value_of (with_entry by e s).records y r.field ≡ value_of s.records y r.field
@@ -83,6 +83,6 @@ module _ (o : Counts) (skew greatest : ℕ) (s : Server) (journal : List Item) (
     kept = λ r i own live. record { row = r; stands = i; number = refl; lasts = omega arith };
     values = λ r i old own. inr (same_value r i own);
     made = λ file was. made_more journal (item_of by e) file was;
-    gone = λ file was none. gone_then s.records by leases e plain right sf.sound file (anew file was) none;
+    gone = λ file was none. gone_then s.records by e plain right sf.sound file (anew file was) none;
     items = items-other y journal (item_of by e) another;
   }

@@ -274,7 +274,7 @@ own_unmet f (need.Fresh dir) = refl
 tells_itself : (f : List ℕ) (m : Mode) → is_self f m (SelfW f m) ≡ true
 tells_itself f m = joined (same f f) (same_mode m m) (same_self f) (nat_eq_equiv.refl (mode_rank m))
 
-module _ (s : Server) (by : Session) (leases : List Lease) (e : Entry) (stand : AllStand s.rows by e.uses) (plain : IsEntry leases e) (right : IsAnswer (value_of s.records by) e) (records : AreRecords s.records) where
+module _ (s : Server) (by : Session) (e : Entry) (stand : AllStand s.rows by e.uses) (plain : IsEntry e) (right : IsAnswer (value_of s.records by) e) (records : AreRecords s.records) where
   abbrev after : RecordMap
   after = records_after_all s.records (effects_of by e.op e.reply)
 
@@ -289,7 +289,7 @@ module _ (s : Server) (by : Session) (leases : List Lease) (e : Entry) (stand : 
 
   own_fixed : (f : List ℕ) (mode : Mode) → is_fixed s.rows f mode by ≡ true → has_mode (selves_in after f) by mode ≡ has_mode (selves_in s.records f) by mode
   own_fixed f mode fixed =
-      let reply = answered s.records by leases e plain right in
+      let reply = answered s.records by e plain right in
       mode_by_own after f mode by
       ∙ ap (λ v. list_any (has_it mode) (own_in s.records by v)) (own_values s.records by e.op e.reply (Own f) records plain.plain reply)
       ∙ own_stays s.records by e.op e.reply f mode right.reply (dead s.records by e.op e.reply reply) (unasked f mode fixed)
@@ -299,7 +299,7 @@ module _ (s : Server) (by : Session) (leases : List Lease) (e : Entry) (stand : 
   others_fixed f mode x other =
       mode_by_own after f mode x
       ∙ ap (λ v. list_any (has_it mode) (own_in s.records by v))
-      (others_values s.records by x e.op e.reply (Own f) Shared records plain.plain (answered s.records by leases e plain right) other refl
+      (others_values s.records by x e.op e.reply (Own f) Shared records plain.plain (answered s.records by e plain right) other refl
       (In_none (item_meets (Own f) Shared) (walk (known_in (nodes_of s.records) by) always e.op).items (λ n j. own_unmet f n)))
       ∙ sym (mode_by_own s.records f mode x)
 
@@ -316,5 +316,5 @@ module _ (s : Server) (by : Session) (leases : List Lease) (e : Entry) (stand : 
   promises_stand = changes_kept s.rows (selves_in s.records) (selves_in after) changes
 
 -- the same of an entry of a client as it will be
-pub promises_admitted : (s : Server) (by : Session) (d : Settled) (e : Entry) → AllStand s.rows by e.uses → IsEntry d.leases e → IsAnswer (value_of s.records by) e → AreRecords s.records → PromisesKept s.records s.rows → PromisesKept (with_entry by e s).records (with_entry by e s).rows
-promises_admitted s by d e stand plain right records = promises_stand s by d.leases e stand plain right records
+pub promises_admitted : (s : Server) (by : Session) (e : Entry) → AllStand s.rows by e.uses → IsEntry e → IsAnswer (value_of s.records by) e → AreRecords s.records → PromisesKept s.records s.rows → PromisesKept (with_entry by e s).records (with_entry by e s).rows
+promises_admitted s by e stand plain right records = promises_stand s by e stand plain right records

@@ -31,7 +31,6 @@ use Rattle.fs_view.specs.Walk.{walk, known_in, always}
 use Rattle.fs_view.proofs.Replies.{reply_along, replies}
 use Rattle.fs_serial.specs.Pending.{IsAnswer, IsCovered, IsEntry, NamesItsFile}
 use Rattle.fs_serial.specs.Serial.{AreSound}
-use Rattle.fs_serial.specs.Settled.{Lease}
 use Rattle.fs_serial.proofs.Facts.{known_nodes, nodes_all}
 
 -- a create that comes to Made in a space names a file that does not live there
@@ -48,22 +47,22 @@ dir_absent m s dir name id None h = absurd (cc)
 dir_absent m s dir name id (Some File) h = absurd (cc)
 dir_absent m s dir name id (Some Dir) h = place_absent m s dir id (child_of (get m dir) name) h
 
-new_where_made : (m : NodeMap) (s : Session) (leases : List Lease) (uses : List Use) (o : Op) (r : Reply) → NamesItsFile leases uses o r → (walk (known_in m s) always o).reply ≡ Some r → IsNewWhereMade m o r
-new_where_made m s leases uses (op.Create dir name kind (Some id)) reply.Made n h = (n.child, dir_absent m s dir name id (kind_of (get m dir)) h)
-new_where_made m s leases uses (op.Create dir name kind None) reply.Made n h = n
-new_where_made m s leases uses o r n h = tt
+new_where_made : (m : NodeMap) (s : Session) (uses : List Use) (o : Op) (r : Reply) → NamesItsFile uses o r → (walk (known_in m s) always o).reply ≡ Some r → IsNewWhereMade m o r
+new_where_made m s uses (op.Create dir name kind (Some id)) reply.Made n h = (n.child, dir_absent m s dir name id (kind_of (get m dir)) h)
+new_where_made m s uses (op.Create dir name kind None) reply.Made n h = n
+new_where_made m s uses o r n h = tt
 
 pub no_reap : (o : Op) → tells_its_effects o ≡ true → not (is_reap o) ≡ true
 no_reap (op.Reap file session) h = absurd (cc)
 no_reap o h = refl
 
-module _ (m : RecordMap) (by : Session) (leases : List Lease) (e : Entry) (plain : IsEntry leases e) (right : IsAnswer (value_of m by) e) where
+module _ (m : RecordMap) (by : Session) (e : Entry) (plain : IsEntry e) (right : IsAnswer (value_of m by) e) where
   walked : (walk (known_in (nodes_of m) by) always e.op).reply ≡ Some e.reply
   walked = ap (λ k. (walk k always e.op).reply) (sym (known_nodes m by)) ∙ right.reply
 
   -- its reply is the namespace's
   pub answered : (step (nodes_of m) by e.op).reply ≡ e.reply
-  answered = replies (nodes_of m) by e.op e.reply plain.plain (new_where_made (nodes_of m) by leases e.uses e.op e.reply plain.named walked) walked
+  answered = replies (nodes_of m) by e.op e.reply plain.plain (new_where_made (nodes_of m) by e.uses e.op e.reply plain.named walked) walked
 
   -- and its items in that space are covered
   pub covered_there : (n : Need) → In n (walk (known_in (nodes_of m) by) always e.op).items → IsCovered e.uses n

@@ -1,26 +1,26 @@
 -- Which file an entry makes.
-use Rattle.std.proofs.Common.{◌≡◌, ℕ, ◌||◌, Bool, true, false, List, refl, ap, ◌∙◌, cond}
+use Rattle.std.proofs.Common.{◌≡◌, ℕ, ◌||◌, Bool, true, false, List, [], ◌∷◌, map, refl, sym, ap, ◌∙◌, cond}
 use Rattle.std.specs.Prelude.{Option, Some, None, is_some}
 use Rattle.std.specs.List.{list_any}
 use Rattle.fs_ident.specs.Ident.{same}
-use Rattle.fs_ident.specs.In.{In}
 use Rattle.fs_ident.specs.declared.actor.Session.{Session}
 use Rattle.fs_ident.specs.declared.kind.Kind.{Kind}
-use Rattle.fs_ident.proofs.Same.{same_is}
+use Rattle.fs_ident.proofs.Booleans.{neither}
+use Rattle.fs_ident.proofs.Same.{same_is, same_self}
 use Rattle.fs_field.specs.declared.field.Field.TheVariants.{Life}
 use Rattle.fs_field.specs.declared.used.Use.{Use}
 use Rattle.fs_field.specs.declared.value.Value.TheVariants as value
-use Rattle.fs_field.specs.Field.{file_of}
 use Rattle.fs_model.specs.declared.op.Op.{Op}
 use Rattle.fs_model.specs.declared.op.Op.TheVariants as op
 use Rattle.fs_model.specs.declared.reply.Reply.{Reply}
 use Rattle.fs_model.specs.declared.reply.Reply.TheVariants as reply
+use Rattle.fs_msg.specs.declared.entry.Entry.{Entry}
 use Rattle.fs_record.specs.Effects.{effects_of}
-use Rattle.fs_view.specs.Kept.{makes}
-use Rattle.fs_view.specs.View.{value_after_all}
+use Rattle.fs_view.specs.Kept.{is_pending, makes}
+use Rattle.fs_view.specs.View.{value_after_all, value_after_log}
 use Rattle.fs_serial.specs.Fresh.{made_by, or_else}
-use Rattle.fs_serial.specs.Pending.{NamesItsFile, HasReserved, named_by}
-use Rattle.fs_serial.specs.Settled.{Lease}
+use Rattle.fs_serial.specs.Pending.{NamesItsFile, named_by}
+use Rattle.fs_serial.specs.Settled.{effects_in}
 use Rattle.fs_serial.proofs.Facts.{same_symm}
 
 -- ## What the effects say
@@ -61,18 +61,26 @@ pub names_made : (o : Op) (r : Reply) (id : List ℕ) → is_some (made_by o r i
 names_made (op.Create dir name kind (Some new)) reply.Made id h = ap Some (same_is new id (at_once (same new id) kind h))
 names_made o r id h = absurd (cc)
 
--- and a lease that it uses reserves it
-pub record IsBirth (leases : List Lease) (id : List ℕ) : Type 0 where
-  pub lease : Lease
-  pub held : In lease leases
-  pub fresh : is_some lease.below ≡ true
-  pub file : file_of lease.field ≡ id
+-- an entry that names a file makes it
+once_made : (b : Bool) (k : Kind) → b ≡ true → is_some (cond b (Some k) None) ≡ true
+once_made true k h = refl
+once_made false k h = absurd (cc)
 
-some_there : {X : Type 0} (o : Option X) (x : X) → o ≡ Some x → is_some o ≡ true
-some_there o x e = ap is_some e
+pub named_makes : (uses : List Use) (o : Op) (r : Reply) (id : List ℕ) → NamesItsFile uses o r → named_by o ≡ Some id → is_some (made_by o r id) ≡ true
+named_makes uses (op.Create dir name kind (Some new)) reply.Made id n h = let q : new ≡ id = cc in once_made (same new id) kind (ap (same new) (sym q) ∙ same_self new)
+named_makes uses (op.Create dir name kind (Some new)) r id n h = absurd n
+named_makes uses (op.Create dir name kind None) r id n h = absurd (cc)
+named_makes uses o r id n h = absurd (cc)
 
-pub birth : (leases : List Lease) (uses : List Use) (o : Op) (r : Reply) (id : List ℕ) → NamesItsFile leases uses o r → is_some (made_by o r id) ≡ true → IsBirth leases id
-birth leases uses (op.Create dir name kind (Some new)) reply.Made id n h =
-    let q : HasReserved leases uses dir new = n.reserved in
-    record { lease = q.lease; held = q.held; fresh = some_there q.lease.below dir q.below; file = ap file_of q.field ∙ same_is new id (at_once (same new id) kind h) }
-birth leases uses o r id n h = absurd (cc)
+-- ## Logs that do not make a file
+
+none_or : (a l : Option Kind) → is_some a ≡ false → or_else a l ≡ l
+none_or None l h = refl
+none_or (Some k) l h = absurd (cc)
+
+pub stays_unborn : (by : Session) (es : List Entry) (id : List ℕ) → is_pending id (map (effects_in by) es) ≡ false → value_after_log by (Life id) (value.Life None) (map (effects_in by) es) ≡ value.Life None
+stays_unborn by [] id h = refl
+stays_unborn by (e ∷ es) id h =
+    let q = neither (list_any (makes id) (effects_in by e)) (is_pending id (map (effects_in by) es)) h in
+    ap (λ v. value_after_log by (Life id) v (map (effects_in by) es)) (life_after by e.op e.reply id None ∙ ap value.Life (none_or (made_by e.op e.reply id) None (sym (makes_there by e.op e.reply id) ∙ q.0)))
+    ∙ stays_unborn by es id q.1

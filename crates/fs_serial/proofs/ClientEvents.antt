@@ -33,7 +33,8 @@ use Rattle.fs_serial.specs.Sight.{Sight}
 use Rattle.fs_serial.specs.World.{CanCome, is_called, ClientEvent, Does, Ends, Hears, Turns, World, WorldHolds, after_client, after_plan, message_in, pushed, settled_at, sight_in, told_by}
 use Rattle.fs_serial.proofs.ActMoves.{IsPlanned, ServersMoved, ReadsAt, act_moved, reads_right, same_items, servers_stay, with_items}
 use Rattle.fs_serial.proofs.ClientSteps.{IsMoved, begun_again, begun_moved, hinted_moved, seat_of, with_journal, world_moved}
-use Rattle.fs_serial.proofs.Gone.{MakeAnew, all_anew, made_pushed}
+use Rattle.fs_serial.proofs.Claims.{AreUnborn, none_anew_then}
+use Rattle.fs_serial.proofs.Gone.{MakeAnew, all_anew, all_unborn, made_pushed}
 use Rattle.fs_serial.proofs.HearMoves.{fits_first, hear_moved}
 use Rattle.fs_serial.proofs.Lapse.{lapse_fewer}
 use Rattle.fs_serial.proofs.Read.{IsReadOf, item_read, plain_is_read, plain_read}
@@ -65,7 +66,8 @@ module _ {N : Type 0} (greatest now : ℕ) (w : World) (by : Session) (rest : Li
     moved : IsMoved w.server.skew greatest s (with_journal then s) by (w.replied by) c (w.ends by).down (told_by by p.ready.change p.out.admitted) (e d)
     moved = record {
       seat = q.moved.seat;
-      reserves = λ n i r. (begun_moved w.server.skew greatest s by (w.replied by) c (w.ends by).up (w.ends by).down now (seat_of greatest w by h)).reserves n i (q.moved.reserves n i r);
+      reserves = none_anew_then (seen_at by c (w.ends by).down) (seen_at by (begun now c) (w.ends by).down) (seen_at by d rest)
+          (begun_moved w.server.skew greatest s by (w.replied by) c (w.ends by).up (w.ends by).down now (seat_of greatest w by h)).reserves q.moved.reserves;
     }
 
     pub plan_keeps : WorldHolds greatest (after_plan by rest p w)
@@ -182,12 +184,16 @@ module _ (greatest now : ℕ) (w : World) (by : Session) (h : WorldHolds greates
   anew : MakeAnew by w.journal (seen_at by began (w.ends by).down).log
   anew = subst (MakeAnew by w.journal) (sym (lapse_fewer by (w.ends by).client now (h.clients by) (w.ends by).down).log) (all_anew w.server.skew greatest (sight_in w) w.replied (λ x. settled_at x (w.ends x)) h.all by)
 
+  unborn : AreUnborn here.records (seen_at by began (w.ends by).down)
+  unborn n id r = all_unborn w.server.skew greatest (sight_in w) w.replied (λ x. settled_at x (w.ends x)) h.all by n id
+      (record { lease = r.lease; held = (lapse_fewer by (w.ends by).client now (h.clients by) (w.ends by).down).fewer r.lease r.held; number = r.number; fresh = r.fresh; file = r.file })
+
   -- another item may join the journal in place of a read
   acts_as : (o : Op) (called : is_called o ≡ true) (put : Item → Item)
       → ((r : Reply) → ReadsAt w.server.skew greatest here by (w.replied by) began (w.ends by).up (w.ends by).down o called seat_began r → IsReadOf (nodes_of (sight_in w).records) by began.next (put (item_read began o r)))
       → WorldHolds greatest (after_plan by (w.ends by).down (with_items put (act_on began.over o began)) w)
   acts_as o called put fine = plan_keeps greatest now w by (w.ends by).down (with_items put (act_on began.over o began)) h
-      (act_moved w.server.skew greatest here by (w.replied by) began (w.ends by).up (w.ends by).down o called seat_began anew put fine)
+      (act_moved w.server.skew greatest here by (w.replied by) began (w.ends by).up (w.ends by).down o called seat_began anew unborn put fine)
 
   acts : (o : Op) → is_called o ≡ true → greatest ≤ now + w.server.skew → WorldHolds greatest (after_client by now (Does o) w)
   acts o called within =

@@ -14,7 +14,7 @@ use Rattle.fs_client.specs.Client.{begun, with_hints}
 use Rattle.fs_view.specs.View.{lapsed_at}
 use Rattle.fs_client.specs.declared.state.Client.{Client}
 use Rattle.fs_client.proofs.Planning.{max_again}
-use Rattle.fs_serial.specs.Fresh.{FreshReserved, IsMade, Reserves, reserved_by}
+use Rattle.fs_serial.specs.Fresh.{FreshReserved, IsMade, reserved_by}
 use Rattle.fs_serial.specs.Numbers.{AreNumbered, all_items, items_by}
 use Rattle.fs_serial.specs.Parts.{ServersHold, ServersFit}
 use Rattle.fs_serial.specs.Settled.{Lease, settled_now}
@@ -25,6 +25,7 @@ use Rattle.fs_serial.proofs.Carried.{GoesOnAs, exchange_still}
 use Rattle.fs_serial.proofs.Gone.{telling_later}
 use Rattle.fs_serial.proofs.Lapse.{lapse_fewer, seat_lapse}
 use Rattle.fs_serial.proofs.Seats.{Seat, seen_at}
+use Rattle.fs_serial.proofs.Claims.{NoneAnew, none_anew, none_anew_in}
 use Rattle.fs_serial.proofs.Together.{fewer_reserved}
 
 pub seat_of : (greatest : ℕ) (w : World) (x : Session) → WorldHolds greatest w → Seat w.server.skew greatest (sight_in w) x (w.replied x) (w.ends x).client (w.ends x).up (w.ends x).down
@@ -50,10 +51,7 @@ seat_beside skew greatest s x replied c up down journal grows same h =
 pub record IsMoved (skew greatest : ℕ) (s t : Sight) (by : Session) (replied : List Item) (c : Client) (down : List Answer) (told : Option Item) (e : Ends) : Type 0 where
   pub seat : Seat skew greatest t by (pushed told replied) e.client e.up e.down
   -- no identifier is reserved anew
-  pub reserves : (n : LeaseNo) (i : List ℕ) → Reserves (settled_at by e).leases n i → Reserves (seen_at by c down).leases n i
-
-pub reserves_in : (old new : List Lease) → ((l : Lease) → In l new → In l old) → (n : LeaseNo) (i : List ℕ) → Reserves new n i → Reserves old n i
-reserves_in old new fewer n i r = record { lease = r.lease; held = fewer r.lease r.held; number = r.number; fresh = r.fresh; file = r.file }
+  pub reserves : NoneAnew (seen_at by c down) (settled_at by e)
 
 -- what holds of each session where one has changed
 each_two : (P : Session → List Item → Ends → Type 0) (by : Session) (told : Option Item) (e : Ends) (replied : Session → List Item) (ends : Session → Ends) → P by (pushed told (replied by)) e → ((x : Session) → (by.0 == x.0) ≡ false → P x (replied x) (ends x)) → (x : Session)
@@ -71,10 +69,10 @@ module _ (greatest : ℕ) (w : World) (by : Session) (journal : List Item) (told
   seats = each_two (λ x is n. Seat w.server.skew greatest (sight_of w.counts (seen w.decided w.server) journal) x is n.client n.up n.down) by told e w.replied w.ends moved.seat
       (λ x q. seat_beside w.server.skew greatest (sight_in w) x (w.replied x) (w.ends x).client (w.ends x).up (w.ends x).down journal grows (others x q) (seat_of greatest w x h))
 
-  still_reserved : (x : Session) (n : LeaseNo) (i : List ℕ) → reserved_by (λ x. settled_at x (ends x)) x n i → reserved_by (λ x. settled_at x (w.ends x)) x n i
-  still_reserved = each_two (λ x is m. (n : LeaseNo) (i : List ℕ) → Reserves (settled_at x m).leases n i → Reserves (settled_at x (w.ends x)).leases n i) by told e w.replied w.ends
+  still_reserved : (x : Session) → NoneAnew (settled_at x (w.ends x)) (settled_at x (ends x))
+  still_reserved = each_two (λ x is m. NoneAnew (settled_at x (w.ends x)) (settled_at x m)) by told e w.replied w.ends
       moved.reserves
-      (λ x q n i r. r)
+      (λ x q. none_anew (settled_at x (w.ends x)))
 
   pub world_moved : WorldHolds greatest (record { server = w.server; counts = w.counts; decided = w.decided; journal = journal; replied = with_told by told w.replied; ends = ends })
   world_moved = record {
@@ -123,7 +121,7 @@ hinted_moved skew greatest s t by replied c d up down rest told (Some hints) m =
 pub begun_moved : (skew greatest : ℕ) (s : Sight) (by : Session) (replied : List Item) (c : Client) (up : List ClientMsg) (down : List Answer) (now : ℕ) → Seat skew greatest s by replied c up down → IsMoved skew greatest s s by replied c down None (record { client = begun now c; up = up; down = down })
 begun_moved skew greatest s by replied c up down now h = record {
   seat = seat_lapse skew greatest s by replied c up down now h;
-  reserves = reserves_in (seen_at by c down).leases (seen_at by (begun now c) down).leases (lapse_fewer by c now h.client down).fewer;
+  reserves = let q = lapse_fewer by c now h.client down in none_anew_in (seen_at by c down) (seen_at by (begun now c) down) q.fewer (λ x i. subst (In x) q.log i);
 }
 
 -- the reading of the event is the greatest so far

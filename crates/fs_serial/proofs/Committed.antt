@@ -47,7 +47,7 @@ use Rattle.fs_view.specs.View.{value_after_all}
 use Rattle.fs_view.specs.Walk.{always, known_in, walk}
 use Rattle.fs_view.proofs.LedValues.{led_follows, led_handles, led_lives, led_next, led_stays}
 use Rattle.fs_serial.specs.Commits.{CommitIsRelied, CommitKeepsParts, IsCommitted, effects_led, with_commit, with_led}
-use Rattle.fs_serial.specs.Fresh.{FreshReserved, IsMade, NodesMade, Reserved, Reserves, made, made_by, or_else, reserved_by}
+use Rattle.fs_serial.specs.Fresh.{Claim, FreshReserved, IsMade, NodesMade, Reserved, made, made_by, or_else, reserved_by}
 use Rattle.fs_serial.specs.Gone.{IsOfGone}
 use Rattle.fs_serial.specs.Leases.{FreshLeases, IsBacked, IsFresh, IsRowOf, LeasesDistinct, LeasesTrue}
 use Rattle.fs_serial.specs.Numbers.{AreNumbered, all_items, items_by}
@@ -59,7 +59,8 @@ use Rattle.fs_serial.specs.Serial.{AreSound, JournalSerial}
 use Rattle.fs_serial.specs.Settled.{Lease, Settled, lease_after}
 use Rattle.fs_serial.specs.Sight.{Sight}
 use Rattle.fs_serial.proofs.Admit.{stays_below}
-use Rattle.fs_serial.proofs.AdmitAll.{fewer_reserved}
+use Rattle.fs_serial.proofs.AdmitAll.{fewer_anew}
+use Rattle.fs_serial.proofs.Claims.{NoneAnew, Was, none_anew, one_still, was_there}
 use Rattle.fs_serial.proofs.AdmitOthers.{no_item_meets}
 use Rattle.fs_serial.proofs.Facts.{each_image, items-other, items-own, known_nodes, made-append, made_before, nodes_all, or_none, reaps-still, serial_push, session_itself}
 use Rattle.fs_serial.proofs.Gone.{all_anew, gone_later, made_more}
@@ -201,12 +202,12 @@ module _ (skew greatest : ℕ) (s : Sight) (by : Session) (d : Settled) (e : Ent
   was_next : (dir : List ℕ) (k : ℕ) → is_directory after.records dir ≡ true → next_of (get after.records dir) ≤ k → next_of (get s.records dir) ≤ k
   was_next dir k h le = subst (λ n. n ≤ k) (led_next s.records by e.op file e.reply led dir (some_record (get after.records dir) Dir (dir_is (kind_of (node_of (get after.records dir))) h))) le
 
-  pub commit_reserved : (old new : Reserved) → ((x : Session) (n : LeaseNo) (i : List ℕ) → new x n i → old x n i) → FreshReserved old s.records s.journal → FreshReserved new after.records after.journal
+  pub commit_reserved : (old new : Reserved) → ((x : Session) (n : Claim) (i : List ℕ) → new x n i → Was (old x) n i) → FreshReserved old s.records s.journal → FreshReserved new after.records after.journal
   commit_reserved old new fewer f = record {
-    once = λ x y n k i j a b p. f.once x y n k i j (fewer x n i a) (fewer y k j b) p;
-    unmade = λ x n i j a m p. f.unmade x n i j (fewer x n i a) (was_made j m) p;
+    once = λ x y n k i j a b p. one_still old s.records s.journal f x y n k i j (fewer x n i a) (fewer y k j b) p;
+    unmade = λ x n i j a m p. let q = was_there (old x) n i (fewer x n i a) in f.unmade x q.0 i j q.1 (was_made j m) p;
     made_before = λ dir k j h le m p. f.made_before dir k j (was_dir dir h) (was_next dir k h le) (was_made j m) p;
-    reserved_before = λ dir k x n j h le a p. f.reserved_before dir k x n j (was_dir dir h) (was_next dir k h le) (fewer x n j a) p;
+    reserved_before = λ dir k x n j h le a p. let q = was_there (old x) n j (fewer x n j a) in f.reserved_before dir k x q.0 j (was_dir dir h) (was_next dir k h le) q.1 p;
   }
 
   -- ## Its own session
@@ -302,7 +303,7 @@ module _ (skew greatest : ℕ) (s : Sight) (replied : Session → List Item) (cl
     sessions = sessions;
     fitting = each_session (λ x n. SessionFits skew greatest committed x n) by now clients (own_fits skew greatest s by (clients by) e file c h.servers h.kept (h.fitting by)) (λ x other. relied_fits skew greatest x s committed (clients x) (rely x other) (h.fitting x));
     reserved = commit_reserved skew greatest s by (clients by) e file c h.servers h.kept (reserved_by clients) (reserved_by (with_client by now clients))
-        (each_session (λ x (n : Settled). (k : LeaseNo) (i : List ℕ) → Reserves n.leases k i → Reserves (clients x).leases k i) by now clients (fewer_reserved by (effects_led file e) (clients by).leases) (λ x other k i r. r)) h.reserved;
+        (each_session (λ x (n : Settled). NoneAnew (clients x) n) by now clients (fewer_anew by (effects_led file e) (clients by) now refl (λ x i. i)) (λ x other. none_anew (clients x))) h.reserved;
   }
 
 pub commit_keeps_parts : CommitKeepsParts

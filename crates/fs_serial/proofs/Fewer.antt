@@ -6,10 +6,6 @@ use Rattle.fs_ident.specs.declared.actor.LeaseNo.{LeaseNo}
 use Rattle.fs_ident.specs.declared.actor.Session.{Session}
 use Rattle.fs_ident.proofs.Standing.{In-map, In-append, In-front, In-behind, In-mapped}
 use Rattle.fs_field.specs.declared.used.Use.{Use}
-use Rattle.fs_model.specs.declared.op.Op.{Op}
-use Rattle.fs_model.specs.declared.op.Op.TheVariants as op
-use Rattle.fs_model.specs.declared.reply.Reply.{Reply}
-use Rattle.fs_model.specs.declared.reply.Reply.TheVariants as reply
 use Rattle.fs_msg.specs.declared.answer.Answer.{Answer}
 use Rattle.fs_msg.specs.declared.answer.Answer.TheVariants.{Granted, Renewed, Released, Shipped, Recall, Led}
 use Rattle.fs_msg.specs.declared.entry.Entry.{Entry}
@@ -24,7 +20,7 @@ use Rattle.fs_serial.specs.Client.{led_before}
 use Rattle.fs_serial.specs.Led.{LedFits, LedStands}
 use Rattle.fs_serial.specs.Numbers.{AreNumbered, all_items}
 use Rattle.fs_serial.specs.Parts.{SessionHolds, SessionFits}
-use Rattle.fs_serial.specs.Pending.{PendingStand, HasLease, UsesHeld, UsesBacked, IsEntry, NamesItsFile, HasReserved, AreEntries, NamedOnce, RefusedGone}
+use Rattle.fs_serial.specs.Pending.{PendingStand, HasLease, UsesHeld, UsesBacked, AreEntries, NamedOnce, RefusedGone}
 use Rattle.fs_serial.specs.Settled.{Lease, Settled, acknowledged, acknowledged_all, lease_after, effects_in, granted, led_ended, led_over, with_leases, with_over, told, settled}
 use Rattle.fs_serial.specs.Sight.{Sight}
 use Rattle.fs_serial.proofs.LedKept.{each_led, in_before, led_first, one_entry}
@@ -101,17 +97,6 @@ settled_fewer these by (Recall number ∷ rest) d e h = settled_fewer these by r
 
 -- ## The parts
 
-named_still : (leases now : List Lease) (these : LeaseNo → Type 0) (uses : List Use) (o : Op) (r : Reply) → ((u : Use) → In u uses → these u.no) → ((l : Lease) → In l leases → these l.no → In l now) → NamesItsFile leases uses o r → NamesItsFile now uses o r
-named_still leases now these uses (op.Create dir name kind (Some id)) reply.Made used still n =
-    let q : HasReserved leases uses dir id = n.reserved in
-    record {
-      reserved = record { lease = q.lease; held = still q.lease q.held (subst these q.number (used q.used q.among)); below = q.below; field = q.field; used = q.used; among = q.among; number = q.number };
-      child = n.child;
-    }
-named_still leases now these uses (op.Create dir name kind None) reply.Made used still n = n
-named_still leases now these uses (op.Create dir name kind (Some id)) r used still n = n
-named_still leases now these uses o r used still n = n
-
 module _ (skew greatest : ℕ) (s : Sight) (by : Session) (replied : List Item) (these : LeaseNo → Type 0) (d e : Settled) (f : HasFewer these d e) (used : (x : Entry) → In x (led_before d.led d.log) → (u : Use) → In u x.uses → these u.no) where
   pub fewer_holds : SessionHolds skew greatest s by replied d → SessionHolds skew greatest s by replied e
   fewer_holds h = record {
@@ -124,9 +109,6 @@ module _ (skew greatest : ℕ) (s : Sight) (by : Session) (replied : List Item) 
 
   held : UsesHeld d.leases d.log → UsesHeld e.leases d.log
   held h x i u j = let q : HasLease d.leases u = h x i u j in record { lease = q.lease; held = f.still q.lease q.held (subst these (sym q.number) (used x (in_before d.led d.log x i) u j)); number = q.number; field = q.field; kind = q.kind }
-
-  entries : AreEntries d.leases d.log → AreEntries e.leases d.log
-  entries h x i = let q : IsEntry d.leases x = h x i in record { plain = q.plain; access = q.access; named = named_still d.leases e.leases these x.uses x.op x.reply (used x (in_before d.led d.log x i)) f.still q.named; home = q.home }
 
   led_still : (l : TheLed) → ((u : Use) → In u l.entry.uses → these u.no) → LedStands skew greatest s by d l → LedStands skew greatest s by e l
   led_still l here h = record {
@@ -147,7 +129,7 @@ module _ (skew greatest : ℕ) (s : Sight) (by : Session) (replied : List Item) 
     fresh = λ l i. h.fresh l (f.fewer l i);
     held = subst (UsesHeld e.leases) (sym f.log) (held h.held);
     backed = subst (UsesBacked skew greatest s.rows) (sym f.log) h.backed;
-    entries = subst (AreEntries e.leases) (sym f.log) (entries h.entries);
+    entries = subst AreEntries (sym f.log) h.entries;
     once = subst NamedOnce (sym f.log) h.once;
     refused = subst (λ o. RefusedGone s.rows e.log o) (sym f.over) (subst (λ es. RefusedGone s.rows es d.over) (sym f.log) h.refused);
     led = subst (LedFits skew greatest s by e) (sym f.led) (each_led skew greatest greatest s s by d e d.led (λ l is. led_still l (used l.entry (led_first d.led d.log l is))) h.led);

@@ -19,7 +19,7 @@ use Rattle.fs_record.proofs.Kept.{kept_empty, kept_insert, root_kept}
 use Rattle.fs_record.proofs.NodeMaps.{node_there}
 use Rattle.fs_record.proofs.NodeValues.{key_is}
 use Rattle.fs_server.specs.declared.state.Server.{Server}
-use Rattle.fs_serial.specs.Fresh.{FreshReserved, IsAtOrBelow, IsMade, NodesMade, made, reserved_by}
+use Rattle.fs_serial.specs.Fresh.{ByLease, ByLog, Claim, FreshReserved, IsAtOrBelow, IsMade, NodesMade, Reserves, made, reserved_by}
 use Rattle.fs_serial.specs.Parts.{ServersFit, ServersHold, SessionHolds, SessionFits}
 use Rattle.fs_serial.specs.Numbers.{ReapsInOrder}
 use Rattle.fs_serial.specs.Serial.{AreSound, JournalSerial}
@@ -96,12 +96,16 @@ module _ (greatest term : ℕ) (s : Server) (o : Counts) (no_rows : s.rows ≡ [
     made = subst (λ m. NodesMade m []) (sym first) first_made;
   }
 
+  none_claimed : (x : Session) (n : Claim) (i : List ℕ) → Reserves (settled_at x (w.ends x)) n i → ⊥
+  none_claimed x (ByLease n) i r = r.held
+  none_claimed x ByLog i r = r.among
+
   first_reserved : FreshReserved (reserved_by (λ x. settled_at x (w.ends x))) s.records []
   first_reserved = record {
-    once = λ x y n k i j r t b. absurd r.held;
-    unmade = λ x n i j r made b. absurd r.held;
+    once = λ x y n k i j r t b. absurd (none_claimed x n i r);
+    unmade = λ x n i j r made b. none_claimed x n i r;
     made_before = λ dir k j here free made b. not_below dir k j made b;
-    reserved_before = λ dir k x n j here free r b. absurd r.held;
+    reserved_before = λ dir k x n j here free r b. none_claimed x n j r;
   }
 
   first_session : (x : Session) → SessionHolds s.skew greatest sight x [] (settled_at x (w.ends x))

@@ -49,7 +49,8 @@ use Rattle.fs_serial.specs.Sight.{Counts, Sight, sight_of, IsGiven}
 use Rattle.fs_serial.proofs.Children.{parent_child}
 use Rattle.fs_serial.proofs.Facts.{each_more, below_itself}
 use Rattle.fs_serial.proofs.Counting.{given_is_other, next_is_given, next_is_new, one_more_given, still_given}
-use Rattle.fs_serial.proofs.GiftReserved.{reserved_still, reserved_then, unmade_dead}
+use Rattle.fs_serial.proofs.Claims.{unmade_dead}
+use Rattle.fs_serial.proofs.GiftReserved.{reserved_still, reserved_then}
 use Rattle.fs_serial.proofs.GiftedRecords.{made_still, serial_still, sound_still, values_stay}
 use Rattle.fs_serial.proofs.Granting.{shapes_beside}
 use Rattle.fs_serial.proofs.Leased.{In-with_row, IsNewLease, leased_fits, leased_holds, row_relied}

@@ -13,7 +13,7 @@ use Rattle.fs_model.specs.Sound.{kind_of}
 use Rattle.fs_msg.specs.declared.item.Item.{Item}
 use Rattle.fs_record.specs.Fresh.{is_dir, is_directory, records_after_gift}
 use Rattle.fs_record.specs.Records.{RecordMap, node_of, next_of}
-use Rattle.fs_serial.specs.Fresh.{FreshReserved, IsAtOrBelow, IsMade, NodesMade, Reserved, Reserves, reserved_by}
+use Rattle.fs_serial.specs.Fresh.{AreOne, ByLease, ByLog, Claim, FreshReserved, IsAtOrBelow, IsMade, NodesMade, Reserved, Reserves, reserved_by}
 use Rattle.fs_serial.specs.Settled.{Lease, Settled, with_leases}
 use Rattle.fs_serial.proofs.Children.{above_child, child_is}
 use Rattle.fs_serial.specs.Parts.{with_client}
@@ -31,59 +31,56 @@ dir_kind (Some Dir) h = refl
 pub directory_made : (m : RecordMap) (journal : List Item) (dir : List ℕ) → NodesMade m journal → is_directory m dir ≡ true → IsMade journal dir
 directory_made m journal dir h here = ap is_some (h dir Dir (dir_kind (kind_of (node_of (get m dir))) here))
 
--- what was not made does not live
-pub unmade_dead : (m : RecordMap) (journal : List Item) (id : List ℕ) → NodesMade m journal → (IsMade journal id → ⊥) → kind_of (node_of (get m id)) ≡ None
-unmade_dead m journal id h never_made =
-    elim (kind_of (node_of (get m id))) as (λ o. kind_of (node_of (get m id)) ≡ o → o ≡ None) [
-      | None ↦ λ e. refl
-      | Some kind ↦ λ e. absurd (never_made (ap is_some (h id kind e)))
-    ] refl
-
 -- ## Reserved identifiers
 
 -- it is the identifier that is given
-pub record IsTheGift (by : Session) (number : LeaseNo) (id : List ℕ) (x : Session) (n : LeaseNo) (i : List ℕ) : Type 0 where
+pub record IsTheGift (by : Session) (number : LeaseNo) (id : List ℕ) (x : Session) (n : Claim) (i : List ℕ) : Type 0 where
   pub session : x ≡ by
-  pub lease : n ≡ number
+  pub claim : n ≡ ByLease number
   pub file : i ≡ id
 
 -- what is reserved was reserved, or is given
-pub reserved_then : (clients : Session → Settled) (by : Session) (l : Lease) → (x : Session) (n : LeaseNo) (i : List ℕ) → reserved_by (with_client by (with_leases (l ∷ []) (clients by)) clients) x n i → reserved_by clients x n i ⊎ IsTheGift by l.no (file_of l.field) x n i
-reserved_then clients by l = each_session (λ x d. (n : LeaseNo) (i : List ℕ) → Reserves d.leases n i → reserved_by clients x n i ⊎ IsTheGift by l.no (file_of l.field) x n i) by (with_leases (l ∷ []) (clients by)) clients own (λ x other n i r. inl r)
+pub reserved_then : (clients : Session → Settled) (by : Session) (l : Lease) → (x : Session) (n : Claim) (i : List ℕ) → reserved_by (with_client by (with_leases (l ∷ []) (clients by)) clients) x n i → reserved_by clients x n i ⊎ IsTheGift by l.no (file_of l.field) x n i
+reserved_then clients by l = each_session (λ x d. (n : Claim) (i : List ℕ) → Reserves d n i → reserved_by clients x n i ⊎ IsTheGift by l.no (file_of l.field) x n i) by (with_leases (l ∷ []) (clients by)) clients own (λ x other n i r. inl r)
   where
-    own : (n : LeaseNo) (i : List ℕ) → Reserves ((clients by).leases ++ l ∷ []) n i → reserved_by clients by n i ⊎ IsTheGift by l.no (file_of l.field) by n i
-    own n i q = elim (In-append q.lease (clients by).leases (l ∷ []) q.held) as (λ _. reserved_by clients by n i ⊎ IsTheGift by l.no (file_of l.field) by n i) [
+    own : (n : Claim) (i : List ℕ) → Reserves (with_leases (l ∷ []) (clients by)) n i → reserved_by clients by n i ⊎ IsTheGift by l.no (file_of l.field) by n i
+    own (ByLease n) i q = elim (In-append q.lease (clients by).leases (l ∷ []) q.held) as (λ _. reserved_by clients by (ByLease n) i ⊎ IsTheGift by l.no (file_of l.field) by (ByLease n) i) [
       | inl h ↦ inl (record { lease = q.lease; held = h; number = q.number; fresh = q.fresh; file = q.file })
-      | inr h ↦ elim h as (λ _. reserved_by clients by n i ⊎ IsTheGift by l.no (file_of l.field) by n i) [
-        | inl is ↦ inr (record { session = refl; lease = sym q.number ∙ ap (λ (k : Lease). k.no) is; file = sym q.file ∙ ap (λ (k : Lease). file_of k.field) is })
+      | inr h ↦ elim h as (λ _. reserved_by clients by (ByLease n) i ⊎ IsTheGift by l.no (file_of l.field) by (ByLease n) i) [
+        | inl is ↦ inr (record { session = refl; claim = ap (λ k. ByLease k) (sym q.number ∙ ap (λ (k : Lease). k.no) is); file = sym q.file ∙ ap (λ (k : Lease). file_of k.field) is })
         | inr z ↦ absurd z
       ]
     ]
+    own ByLog i q = inl q
 
-module _ (m : RecordMap) (journal : List Item) (dir : List ℕ) (k : ℕ) (here : is_directory m dir ≡ true) (low : next_of (get m dir) ≤ k) (nodes : NodesMade m journal) (before later : Reserved) (by : Session) (number : LeaseNo) (then : (x : Session) (n : LeaseNo) (i : List ℕ) → later x n i → before x n i ⊎ IsTheGift by number (child dir k) x n i) (f : FreshReserved before m journal) where
+module _ (m : RecordMap) (journal : List Item) (dir : List ℕ) (k : ℕ) (here : is_directory m dir ≡ true) (low : next_of (get m dir) ≤ k) (nodes : NodesMade m journal) (before later : Reserved) (by : Session) (number : LeaseNo) (then : (x : Session) (n : Claim) (i : List ℕ) → later x n i → before x n i ⊎ IsTheGift by number (child dir k) x n i) (f : FreshReserved before m journal) where
   -- no reserved identifier is at, above or below the one that is given
-  not_above : (x : Session) (n : LeaseNo) (i : List ℕ) → before x n i → IsAtOrBelow i (child dir k) → ⊥
+  not_above : (x : Session) (n : Claim) (i : List ℕ) → before x n i → IsAtOrBelow i (child dir k) → ⊥
   not_above x n i r p = elim (above_child i dir k p) as (λ _. ⊥) [
     | inl e ↦ f.reserved_before dir k x n i here low r (subst (IsAtOrBelow (child dir k)) (sym e) (below_itself (child dir k)))
     | inr q ↦ f.unmade x n i dir r (directory_made m journal dir nodes here) q
   ]
 
-  not_below : (x : Session) (n : LeaseNo) (i : List ℕ) → before x n i → IsAtOrBelow (child dir k) i → ⊥
+  not_below : (x : Session) (n : Claim) (i : List ℕ) → before x n i → IsAtOrBelow (child dir k) i → ⊥
   not_below x n i r p = f.reserved_before dir k x n i here low r p
 
-  once : (x y : Session) (n l : LeaseNo) (i j : List ℕ) → later x n i → later y l j → IsAtOrBelow i j → (x ≡ y) × (n ≡ l)
-  once x y n l i j p q b = elim (then x n i p) as (λ _. (x ≡ y) × (n ≡ l)) [
-    | inl r ↦ elim (then y l j q) as (λ _. (x ≡ y) × (n ≡ l)) [
+  -- the gift is one
+  one_gift : (n l : Claim) → n ≡ ByLease number → l ≡ ByLease number → AreOne n l
+  one_gift n l e g = subst (λ c. AreOne c l) (sym e) (subst (λ c. AreOne (ByLease number) c) (sym g) refl)
+
+  once : (x y : Session) (n l : Claim) (i j : List ℕ) → later x n i → later y l j → IsAtOrBelow i j → (x ≡ y) × (i ≡ j) × AreOne n l
+  once x y n l i j p q b = elim (then x n i p) as (λ _. (x ≡ y) × (i ≡ j) × AreOne n l) [
+    | inl r ↦ elim (then y l j q) as (λ _. (x ≡ y) × (i ≡ j) × AreOne n l) [
       | inl t ↦ f.once x y n l i j r t b
       | inr g ↦ absurd (not_above x n i r (subst (IsAtOrBelow i) g.file b))
     ]
-    | inr g ↦ elim (then y l j q) as (λ _. (x ≡ y) × (n ≡ l)) [
+    | inr g ↦ elim (then y l j q) as (λ _. (x ≡ y) × (i ≡ j) × AreOne n l) [
       | inl t ↦ absurd (not_below y l j t (subst (λ a. IsAtOrBelow a j) g.file b))
-      | inr h ↦ (g.session ∙ sym h.session, g.lease ∙ sym h.lease)
+      | inr h ↦ (g.session ∙ sym h.session, g.file ∙ sym h.file, one_gift n l g.claim h.claim)
     ]
   ]
 
-  unmade : (x : Session) (n : LeaseNo) (i j : List ℕ) → later x n i → IsMade journal j → IsAtOrBelow i j → ⊥
+  unmade : (x : Session) (n : Claim) (i j : List ℕ) → later x n i → IsMade journal j → IsAtOrBelow i j → ⊥
   unmade x n i j p h b = elim (then x n i p) as (λ _. ⊥) [
     | inl r ↦ f.unmade x n i j r h b
     | inr g ↦ f.made_before dir k j here low h (subst (λ a. IsAtOrBelow a j) g.file b)

@@ -10,16 +10,17 @@ use Rattle.fs_record.specs.Records.{RecordMap}
 use Rattle.fs_view.specs.declared.kept.Kept.{Kept}
 use Rattle.fs_view.specs.Kept.{number_of, is_leaving}
 use Rattle.fs_serial.specs.Exchange.{ReturnsFit}
-use Rattle.fs_serial.specs.Fresh.{FreshReserved, Reserves, reserved_by}
+use Rattle.fs_serial.specs.Fresh.{ByLease, ByLog, FreshReserved, HoldsFresh, reserved_by}
 use Rattle.fs_serial.specs.Parts.{AllHold, with_client, ServersHold, ServersFit, SessionHolds, SessionFits}
 use Rattle.fs_serial.specs.Settled.{Lease, Settled, settled_now, with_leases}
 use Rattle.fs_serial.specs.Sight.{Sight}
 use Rattle.fs_serial.specs.World.{AllCarried, Ends, GoesOn, HasNumber}
+use Rattle.fs_serial.proofs.Claims.{NoneAnew, none_anew}
 use Rattle.fs_serial.proofs.Facts.{each_more}
 use Rattle.fs_serial.proofs.Gone.{all_anew}
 use Rattle.fs_serial.proofs.Leased.{IsNewLease, leased_fits, leased_holds}
 use Rattle.fs_serial.proofs.Relied.{ReliesFor, still_fits, still_holds, still_renewals, still_returns}
-use Rattle.fs_serial.proofs.Together.{each_session}
+use Rattle.fs_serial.proofs.Together.{each_session, fewer_reserved}
 
 -- ## Rows alone change
 
@@ -73,25 +74,19 @@ carried_alike skew greatest s ends clients by d old new h = record {
 -- a lease that reserves nothing adds nothing that is reserved
 pub reserved_none : (clients : Session → Settled) (by : Session) (l : Lease) (m : RecordMap) (journal : List Item) → is_some l.below ≡ false → FreshReserved (reserved_by clients) m journal
     → FreshReserved (reserved_by (with_client by (with_leases (l ∷ []) (clients by)) clients)) m journal
-reserved_none clients by l m journal none f =
-    record {
-      once = λ x y n k i j p q. f.once x y n k i j (was x n i p) (was y k j q);
-      unmade = λ x n i j p. f.unmade x n i j (was x n i p);
-      made_before = f.made_before;
-      reserved_before = λ d k x n j h free p. f.reserved_before d k x n j h free (was x n j p);
-    }
+reserved_none clients by l m journal none =
+    fewer_reserved (reserved_by clients) (reserved_by (with_client by (with_leases (l ∷ []) (clients by)) clients)) m journal
+    (each_session (λ x d. NoneAnew (clients x) d) by (with_leases (l ∷ []) (clients by)) clients own (λ x other. none_anew (clients x)))
   where
-    own : (n : LeaseNo) (i : List ℕ) → Reserves ((clients by).leases ++ l ∷ []) n i → reserved_by clients by n i
-    own n i q = elim (In-append q.lease (clients by).leases (l ∷ []) q.held) as (λ _. reserved_by clients by n i) [
+    own : NoneAnew (clients by) (with_leases (l ∷ []) (clients by))
+    own (ByLease n) i q = elim (In-append q.lease (clients by).leases (l ∷ []) q.held) as (λ _. HoldsFresh (clients by).leases n i) [
       | inl h ↦ record { lease = q.lease; held = h; number = q.number; fresh = q.fresh; file = q.file }
-      | inr h ↦ elim h as (λ _. reserved_by clients by n i) [
+      | inr h ↦ elim h as (λ _. HoldsFresh (clients by).leases n i) [
         | inl is ↦ let wrong : true ≡ false = sym q.fresh ∙ ap (λ (k : Lease). is_some k.below) is ∙ none in absurd (cc)
         | inr z ↦ absurd z
       ]
     ]
-
-    was : (x : Session) (n : LeaseNo) (i : List ℕ) → reserved_by (with_client by (with_leases (l ∷ []) (clients by)) clients) x n i → reserved_by clients x n i
-    was = each_session (λ x d. (n : LeaseNo) (i : List ℕ) → Reserves d.leases n i → reserved_by clients x n i) by (with_leases (l ∷ []) (clients by)) clients own (λ x other n i r. r)
+    own ByLog i q = (ByLog, q)
 
 module _ (skew greatest : ℕ) (t : Sight) (replied : Session → List Item) (ends : Session → Ends) (clients : Session → Settled) (by : Session) (l : Lease) (new : IsNewLease t by (clients by).leases l) (unreturned : (k : Kept) → In k (ends by).client.view.leases → is_leaving k.standing ≡ true → l.no ≢ number_of k.standing) where
   abbrev d : Settled

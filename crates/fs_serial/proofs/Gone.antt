@@ -24,17 +24,18 @@ use Rattle.fs_view.specs.Gone.{IsGone, IsUnread}
 use Rattle.fs_view.specs.Kept.{makes}
 use Rattle.fs_view.proofs.Seeing.{own_values}
 use Rattle.fs_view.proofs.Unread.{gone_in, gone_stays}
-use Rattle.fs_serial.specs.Fresh.{made, made_by, or_else, IsMade, FreshReserved, Reserves, reserved_by}
+use Rattle.fs_serial.specs.Fresh.{made, made_by, or_else, ByLease, ByLog, IsMade, FreshReserved, reserved_by}
 use Rattle.fs_serial.specs.Gone.{IsOfGone}
 use Rattle.fs_serial.specs.Leases.{LeasesTrue}
 use Rattle.fs_serial.specs.Parts.{AllHold}
-use Rattle.fs_serial.specs.Pending.{AreEntries, IsAnswer, IsEntry, values_after}
+use Rattle.fs_serial.specs.Pending.{IsAnswer, IsEntry, values_after}
 use Rattle.fs_serial.specs.Serial.{AreSound}
 use Rattle.fs_serial.specs.Settled.{Lease, Settled, effects_in}
 use Rattle.fs_serial.specs.Sight.{Sight}
 use Rattle.fs_serial.specs.World.{pushed}
 use Rattle.fs_serial.proofs.Answered.{answered}
-use Rattle.fs_serial.proofs.Births.{IsBirth, birth, life_after, makes_there}
+use Rattle.fs_serial.proofs.Births.{life_after, makes_there, names_made}
+use Rattle.fs_serial.proofs.Claims.{AreUnborn, unmade_dead}
 use Rattle.fs_serial.proofs.Facts.{below_itself, made-append}
 
 -- ## What was made
@@ -55,19 +56,19 @@ made_pushed (Some i) is id h = made_more is i id h
 abbrev pub MakeAnew : Session → List Item → List Entry → Type 0
 MakeAnew by journal log = (e : Entry) → In e log → (id : List ℕ) → IsMade journal id → list_any (makes id) (effects_in by e) ≡ false
 
--- it makes one that a lease of its own reserves
-pub makes_anew : (clients : Session → Settled) (by : Session) (m : RecordMap) (journal : List Item) → FreshReserved (reserved_by clients) m journal → AreEntries (clients by).leases (clients by).log → MakeAnew by journal (clients by).log
-makes_anew clients by m journal f entries e i id was = makes_there by e.op e.reply id ∙ within (is_some (made_by e.op e.reply id)) refl
+-- it makes the one that it names
+pub makes_anew : (clients : Session → Settled) (by : Session) (m : RecordMap) (journal : List Item) → FreshReserved (reserved_by clients) m journal → MakeAnew by journal (clients by).log
+makes_anew clients by m journal f e i id was = makes_there by e.op e.reply id ∙ within (is_some (made_by e.op e.reply id)) refl
   where
     within : (b : Bool) → is_some (made_by e.op e.reply id) ≡ b → b ≡ false
-    within true t =
-        let b : IsBirth (clients by).leases id = birth (clients by).leases e.uses e.op e.reply id (entries e i).named t in
-        let r : Reserves (clients by).leases b.lease.no id = record { lease = b.lease; held = b.held; number = refl; fresh = b.fresh; file = b.file } in
-        absurd (f.unmade by b.lease.no id id r was (below_itself id))
+    within true t = absurd (f.unmade by ByLog id id (record { entry = e; among = i; named = names_made e.op e.reply id t }) was (below_itself id))
     within false t = refl
 
 pub all_anew : (skew greatest : ℕ) (s : Sight) (replied : Session → List Item) (clients : Session → Settled) → AllHold skew greatest s replied clients → (by : Session) → MakeAnew by s.journal (clients by).log
-all_anew skew greatest s replied clients h by = makes_anew clients by s.records s.journal h.reserved (h.fitting by).entries
+all_anew skew greatest s replied clients h by = makes_anew clients by s.records s.journal h.reserved
+
+pub all_unborn : (skew greatest : ℕ) (s : Sight) (replied : Session → List Item) (clients : Session → Settled) → AllHold skew greatest s replied clients → (by : Session) → AreUnborn s.records (clients by)
+all_unborn skew greatest s replied clients h by n id r = unmade_dead s.records s.journal id h.kept.made (λ made. h.reserved.unmade by (ByLease n) id id r made (below_itself id))
 
 -- ## What is gone
 
@@ -80,12 +81,12 @@ pub still_gone : (m n : RecordMap) (file : List ℕ) → kind_of (node_of (get n
 still_gone m n file same h = lifeless (node_of (get n file)) (same ∙ ap kind_of h)
 
 -- after an entry that does not make it
-pub gone_then : (m : RecordMap) (by : Session) (leases : List Lease) (e : Entry) → IsEntry leases e → IsAnswer (value_of m by) e → AreSound m → (file : List ℕ) → list_any (makes file) (effects_in by e) ≡ false → node_of (get m file) ≡ None
+pub gone_then : (m : RecordMap) (by : Session) (e : Entry) → IsEntry e → IsAnswer (value_of m by) e → AreSound m → (file : List ℕ) → list_any (makes file) (effects_in by e) ≡ false → node_of (get m file) ≡ None
     → node_of (get (records_after_all m (effects_of by e.op e.reply)) file) ≡ None
-gone_then m by leases e plain right sound file unmade h =
+gone_then m by e plain right sound file unmade h =
     let after : RecordMap = records_after_all m (effects_of by e.op e.reply) in
     let life : value_of after by (Life file) ≡ value.Life (or_else (made_by e.op e.reply file) (kind_of (node_of (get m file)))) =
-    own_values m by e.op e.reply (Life file) sound.records plain.plain (answered m by leases e plain right) ∙ life_after by e.op e.reply file (kind_of (node_of (get m file))) in
+    own_values m by e.op e.reply (Life file) sound.records plain.plain (answered m by e plain right) ∙ life_after by e.op e.reply file (kind_of (node_of (get m file))) in
     let kind : kind_of (node_of (get after file)) ≡ or_else (made_by e.op e.reply file) (kind_of (node_of (get m file))) = cc life in
     let none : made_by e.op e.reply file ≡ None = not_some (made_by e.op e.reply file) (sym (makes_there by e.op e.reply file) ∙ unmade) in
     still_gone m after file (kind ∙ ap (λ a. or_else a (kind_of (node_of (get m file)))) none) h

@@ -17,7 +17,6 @@ use Rattle.fs_client.specs.declared.led.Led.{Led as TheLed}
 use Rattle.fs_client.specs.declared.plan.Plan.{Plan}
 use Rattle.fs_client.specs.declared.state.Client.{Client}
 use Rattle.fs_serial.specs.Exchange.{asked_server, is_recall, server_of_question}
-use Rattle.fs_serial.specs.Fresh.{Reserves}
 use Rattle.fs_serial.specs.Settled.{Settled}
 use Rattle.fs_serial.specs.Sight.{Sight}
 use Rattle.fs_serial.specs.World.{message_in, pushed}
@@ -25,6 +24,7 @@ use Rattle.fs_serial.proofs.ClientSteps.{IsMoved}
 use Rattle.fs_serial.proofs.Heard.{IsHeard, heard}
 use Rattle.fs_serial.proofs.HearsGranted.{seat_granted, granted_seen}
 use Rattle.fs_serial.proofs.HearsLed.{led_fits, led_seen, seat_led}
+use Rattle.fs_serial.proofs.Claims.{NoneAnew, none_anew_as}
 use Rattle.fs_serial.proofs.HearsRenewed.{seat_renewed, renewed_reserves}
 use Rattle.fs_serial.proofs.HearsReturned.{seat_recalled, recalled_seen, seat_released, released_seen}
 use Rattle.fs_serial.proofs.HearsShipped.{seat_shipped, shipped_seen}
@@ -52,8 +52,8 @@ module _ (skew greatest : ℕ) (s : Sight) (by : Session) (replied : List Item) 
   Moves a p = IsMoved skew greatest s s by replied c (a ∷ rest) None (record { client = changed p.ready.change c; up = pushed (message_in p.out.send) up; down = rest })
 
   -- what will be is what was to be
-  same_reserves : (a b : Settled) → a ≡ b → (n : LeaseNo) (i : List ℕ) → Reserves a.leases n i → Reserves b.leases n i
-  same_reserves a b e n i r = subst (λ (d : Settled). Reserves d.leases n i) e r
+  same_reserves : (a b : Settled) → a ≡ b → NoneAnew b a
+  same_reserves a b e = none_anew_as b a e
 
   led_moves : (l : TheLed) → c.led ≡ Some l → (e : LedEnd) → Seat skew greatest s by replied c up (Led e ∷ rest) → Moves (Led e) (ended_plan l e c)
   led_moves l is (end.Done r) h = record { seat = seat_led skew greatest s by replied c up l is (end.Done r) rest h; reserves = same_reserves _ (seen_at by c (Led (end.Done r) ∷ rest)) (led_seen skew greatest s by replied c up l is (end.Done r) rest h) }

@@ -37,8 +37,9 @@ use Rattle.fs_serial.specs.Parts.{SessionHolds, SessionFits}
 use Rattle.fs_serial.specs.Pending.{HasLease, UsesHeld}
 use Rattle.fs_serial.specs.Settled.{Lease, Settled, lease_in, settled_now}
 use Rattle.fs_serial.specs.Sight.{Sight}
-use Rattle.fs_serial.specs.Fresh.{Reserves}
+use Rattle.fs_serial.specs.Fresh.{HoldsFresh}
 use Rattle.fs_serial.specs.World.{HasNumber}
+use Rattle.fs_serial.proofs.Claims.{NoneAnew, none_anew_held}
 use Rattle.fs_serial.proofs.Carried.{FewerLeases}
 use Rattle.fs_serial.proofs.Facts.{each_image}
 use Rattle.fs_serial.proofs.Fewer.{HasFewer, fewer_holds, fewer_fits}
@@ -103,7 +104,7 @@ pub record HasView (skew greatest : ℕ) (s : Sight) (by : Session) (replied : L
   pub client : ClientFits by (record c { view = v })
   pub returns : ReturnsFit s.given s.rows by v.leases (filter_map lease_in v.leases)
   pub fewer : FewerLeases (settled_now c).leases (filter_map lease_in v.leases)
-  pub reserves : (n : LeaseNo) (i : List ℕ) → Reserves (filter_map lease_in v.leases) n i → Reserves (settled_now c).leases n i
+  pub reserves : (n : LeaseNo) (i : List ℕ) → HoldsFresh (filter_map lease_in v.leases) n i → HoldsFresh (settled_now c).leases n i
 
 held_none : (s : Standing) → is_held s ≡ true → entries_of s ≡ 0
 held_none (Held l) h = refl
@@ -246,8 +247,9 @@ seat_renewed skew greatest s by replied c up ends e rest h =
     }
 
 -- no identifier is reserved that was not
-pub renewed_reserves : (skew greatest : ℕ) (s : Sight) (by : Session) (replied : List Item) (c : Client) (up : List ClientMsg) (ends : List (LeaseNo × Option ℕ)) (e : End) (rest : List Answer) → Seat skew greatest s by replied c up (Renewed ends e ∷ rest) → (n : LeaseNo) (i : List ℕ) → Reserves (seen_at by (with_renewed ends c) rest).leases n i → Reserves (seen_at by c (Renewed ends e ∷ rest)).leases n i
-renewed_reserves skew greatest s by replied c up ends e rest h n i r =
+pub renewed_reserves : (skew greatest : ℕ) (s : Sight) (by : Session) (replied : List Item) (c : Client) (up : List ClientMsg) (ends : List (LeaseNo × Option ℕ)) (e : End) (rest : List Answer) → Seat skew greatest s by replied c up (Renewed ends e ∷ rest) → NoneAnew (seen_at by c (Renewed ends e ∷ rest)) (seen_at by (with_renewed ends c) rest)
+renewed_reserves skew greatest s by replied c up ends e rest h =
     let w : IsHeard c up (Renewed ends e) rest = heard c c.exchange up (Renewed ends e) rest refl refl h.exchange.one in
     let q = renewed_view skew greatest s by replied c up ends e rest h in
-    subst (λ (d : Settled). Reserves d.leases n i) (sym (settled_none by rest (settled_now c) w.quiet)) (q.reserves n i (subst (λ (d : Settled). Reserves d.leases n i) (settled_none by rest (settled_now (with_renewed ends c)) w.quiet) r))
+    subst (λ (d : Settled). NoneAnew d (seen_at by (with_renewed ends c) rest)) (sym (settled_none by rest (settled_now c) w.quiet))
+    (subst (NoneAnew (settled_now c)) (sym (settled_none by rest (settled_now (with_renewed ends c)) w.quiet)) (none_anew_held (settled_now c) (settled_now (with_renewed ends c)) q.reserves (λ x i. i)))

@@ -5,24 +5,26 @@ use Rattle.std.specs.Option.{option_and_then}
 use Rattle.std.specs.List.{filter_map, cons_option}
 use Rattle.fs_ident.specs.In.{In}
 use Rattle.fs_ident.proofs.Booleans.{both}
-use Rattle.fs_ident.proofs.Passing.{found}
 use Rattle.fs_field.specs.declared.asked.Need.{Need}
 use Rattle.fs_field.specs.declared.asked.Need.TheVariants as need
-use Rattle.fs_field.specs.declared.effect.Effect.{Effect}
 use Rattle.fs_field.specs.declared.field.Field.{Field}
+use Rattle.fs_field.specs.declared.field.Field.TheVariants.{Life}
 use Rattle.fs_field.specs.declared.lease_kind.LeaseKind.{LeaseKind}
+use Rattle.fs_field.specs.declared.lease_kind.LeaseKind.TheVariants.{Exclusive}
 use Rattle.fs_field.specs.declared.used.Use.{Use}
-use Rattle.fs_field.specs.Field.{same_field, file_of}
+use Rattle.fs_field.specs.Field.{same_field}
 use Rattle.fs_field.specs.Table.{is_parent}
 use Rattle.fs_lease.specs.Lease.{Lease as Term}
 use Rattle.fs_model.specs.declared.op.Op.{Op}
 use Rattle.fs_view.specs.declared.kept.Kept.{Kept}
 use Rattle.fs_view.specs.declared.kept.Standing.{Standing}
 use Rattle.fs_view.specs.declared.kept.Standing.TheVariants.{Held, Pinned, Leaving}
-use Rattle.fs_view.specs.Kept.{lease_of, use_of, use_in, serves, makes_known, is_enough, is_better, is_pending, is_unused_in, offers}
+use Rattle.fs_view.specs.Kept.{file_in, lease_of, use_of, use_in, serves, makes_known, is_enough, is_better, is_pending}
+use Rattle.fs_view.specs.Laws.{IsUsedByBest}
 use Rattle.fs_view.specs.Script.{Script, answer, ask, give}
-use Rattle.fs_view.specs.View.{View, taken, taken_from, known_by, offered, given_by, item_use, uses_in, walk_in, value_after_log}
+use Rattle.fs_view.specs.View.{View, taken, taken_from, known_by, offered, fresh, given_by, item_use, uses_in, walk_in, value_after_log}
 use Rattle.fs_view.specs.Walk.{Known, Given, walk_along, behind, is_there}
+use Rattle.fs_view.proofs.Offering.{IsTheOffer, the_offer, used_by_best}
 use Rattle.fs_serial.proofs.Rowed.{same_field_is}
 
 -- ## Lists
@@ -68,12 +70,6 @@ taken_among now field kind best (k ∷ ks) x h = split (serves now field kind k.
     split true t (inl e) = let same : k ≡ x = cc in inr (inl (sym same), ap (λ (y : Kept). serves now field kind y.standing) (sym same) ∙ (both (serves now field kind k.standing) (is_better k best) t).0)
     split false t (inl e) = inl e
     split b t (inr q) = inr (inr q.0, q.1)
-
--- the lease is in use or may be
-pub record IsTerm (now : ℕ) (s : Standing) : Type 0 where
-  pub lease : Term
-  pub is : lease_of s ≡ Some lease
-  pub live : nat_lt now lease.until ≡ true
 
 pub record IsServing (now : ℕ) (field : Field) (kind : LeaseKind) (s : Standing) : Type 0 where
   pub lease : Term
@@ -123,29 +119,38 @@ known_by_lease v now field kind h = known_there v now field kind (taken v now fi
 
 -- ## Identifiers that are offered
 
-unused_term : (now : ℕ) (log : List (List Effect)) (s : Standing) → is_unused_in now log s ≡ true → IsTerm now s
-unused_term now log (Held l) h = record { lease = l; is = refl; live = (both (nat_lt now l.until) (not (is_pending (file_of l.field) log)) h).0 }
-unused_term now log (Pinned u) h = record { lease = u.lease; is = refl; live = (both (nat_lt now u.lease.until) (not (is_pending (file_of u.lease.field) log)) h).0 }
-unused_term now log (Leaving l) h = absurd (cc)
-
+-- the first lease that offers one, and the best on the life of that file
 pub record IsOffered (v : View) (now : ℕ) (dir : List ℕ) : Type 0 where
   pub kept : Kept
   pub among : In kept v.leases
-  pub term : IsTerm now kept.standing
-  pub offers : offers now dir v.pending kept ≡ true
-  pub first : offered v now dir ≡ Some kept
-  pub used : item_use v now (need.Fresh dir) ≡ Some (use_of term.lease)
+  pub serving : IsServing now (Life (file_in kept.standing)) Exclusive kept.standing
+  pub below : is_parent dir kept.below ≡ true
+  pub unmade : is_pending (file_in kept.standing) v.pending ≡ false
+  pub fresh : fresh v now dir ≡ Some (file_in kept.standing)
+  pub best : Kept
+  pub listed : In best v.leases
+  pub taken : IsServing now (Life (file_in kept.standing)) Exclusive best.standing
+  pub used : item_use v now (need.Fresh dir) ≡ Some (use_of taken.lease)
 
 offered_there : (v : View) (now : ℕ) (dir : List ℕ) (o : Option Kept) → offered v now dir ≡ o → is_some o ≡ true → IsOffered v now dir
-unfolding offered
 offered_there v now dir None e h = absurd (cc)
 offered_there v now dir (Some x) e h =
-    let q = in_leases e in
-    let t = unused_term now v.pending x.standing (both (is_parent dir x.below) (is_unused_in now v.pending x.standing) q.1).1 in
-    record { kept = x; among = q.0; term = t; offers = q.1; first = e; used = ap (λ o. option_and_then (λ (k : Kept). use_in k.standing) o) e ∙ ap (λ o. option_map use_of o) t.is }
-  where
-    in_leases : offered v now dir ≡ Some x → In x v.leases × (offers now dir v.pending x ≡ true)
-    in_leases e = found (offers now dir v.pending) v.leases x e
+    let q : IsTheOffer v now dir x = the_offer v now dir x e in
+    let is : fresh v now dir ≡ Some (file_in x.standing) = ap (option_map (λ (k : Kept). file_in k.standing)) e in
+    let b : IsUsedByBest v now dir (file_in x.standing) = used_by_best v now dir (file_in x.standing) is in
+    let s = serving now (Life (file_in x.standing)) Exclusive b.lease.standing b.best.serving in
+    record {
+      kept = x;
+      among = q.among;
+      serving = serving now (Life (file_in x.standing)) Exclusive x.standing q.serving;
+      below = q.below;
+      unmade = q.unmade;
+      fresh = is;
+      best = b.lease;
+      listed = b.best.among;
+      taken = s;
+      used = ap (λ o. option_and_then (λ (k : Kept). use_in k.standing) o) b.taken ∙ ap (λ o. option_map use_of o) s.is;
+    }
 
 pub offered_by_lease : (v : View) (now : ℕ) (dir : List ℕ) → given_by v now dir ≡ true → IsOffered v now dir
 offered_by_lease v now dir h = offered_there v now dir (offered v now dir) refl h
@@ -173,4 +178,4 @@ use_from v now o u h i =
   where
     of_item : (n : Need) → is_there (known_by v now) (given_by v now) n ≡ true → item_use v now n ≡ Some u → IsUseOf v now u
     of_item (need.Lease field kind) t e = let k = known_by_lease v now field kind t in record { kept = k.kept; among = k.among; lease = k.serving.lease; is = k.serving.is; used = cc (k.used, e); live = k.serving.live }
-    of_item (need.Fresh dir) t e = let k = offered_by_lease v now dir t in record { kept = k.kept; among = k.among; lease = k.term.lease; is = k.term.is; used = cc (k.used, e); live = k.term.live }
+    of_item (need.Fresh dir) t e = let k = offered_by_lease v now dir t in record { kept = k.best; among = k.listed; lease = k.taken.lease; is = k.taken.is; used = cc (k.used, e); live = k.taken.live }

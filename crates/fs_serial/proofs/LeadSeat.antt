@@ -39,13 +39,13 @@ use Rattle.fs_serial.specs.Client.{ClientFits, led_before, times_in}
 use Rattle.fs_server.specs.Asks.{kind_for}
 use Rattle.fs_server.specs.Leads.{parts_in, uses_of}
 use Rattle.fs_serial.specs.Exchange.{ExchangeFits, IsFront, IsToBeLed, ReturnFits, ReturnsFit, due}
-use Rattle.fs_serial.specs.Fresh.{Reserves}
 use Rattle.fs_serial.specs.Leases.{IsBacked}
 use Rattle.fs_serial.specs.Led.{IsLeadAnswer, LedStands}
 use Rattle.fs_serial.specs.Parts.{SessionFits, SessionHolds}
 use Rattle.fs_serial.specs.Pending.{AllStand, HasLease, IsCovered, Stands}
 use Rattle.fs_serial.specs.Settled.{Lease, Settled, effects_in, lease_in, lease_with, settled_now}
 use Rattle.fs_serial.specs.Sight.{Sight}
+use Rattle.fs_serial.proofs.Claims.{NoneAnew, none_anew}
 use Rattle.fs_serial.proofs.Gone.{lost_in, lost_unread}
 use Rattle.fs_serial.proofs.Heard.{quiet_renewed}
 use Rattle.fs_serial.proofs.KeptPairs.{no_pairs}
@@ -235,5 +235,5 @@ module _ (skew greatest : ℕ) (s : Sight) (by : Session) (replied : List Item) 
   }
 
   -- no lease is new in what is seen
-  pub leads_reserves : (n : LeaseNo) (i : List ℕ) → Reserves (seen_at by then down).leases n i → Reserves (seen_at by c down).leases n i
-  leads_reserves n i q = subst (λ (x : Settled). Reserves x.leases n i) (sym now) (subst (λ (x : Settled). Reserves x.leases n i) seen q)
+  pub leads_reserves : NoneAnew (seen_at by c down) (seen_at by then down)
+  leads_reserves = subst (NoneAnew (seen_at by c down)) (sym seen) (subst (λ (x : Settled). NoneAnew x (led_as l d)) (sym now) (none_anew d))

@@ -25,7 +25,6 @@ use Rattle.fs_serial.specs.Gone.{IsOfGone}
 use Rattle.fs_serial.specs.Leases.{IsBacked, IsRowOf, IsFresh}
 use Rattle.fs_serial.specs.Numbers.{items_by}
 use Rattle.fs_serial.specs.Parts.{SessionHolds, SessionFits}
-use Rattle.fs_serial.specs.Pending.{NamesItsFile}
 use Rattle.fs_serial.specs.Relies.{Relies, Stood}
 use Rattle.fs_serial.specs.Settled.{Lease, Settled, with_leases}
 use Rattle.fs_serial.specs.Sight.{Sight, IsGiven}
@@ -74,13 +73,6 @@ pub record IsNewLease (t : Sight) (by : Session) (leases : List Lease) (l : Leas
   pub told : l.base ≡ value_of t.records by l.field
   pub fresh : (dir : List ℕ) → l.below ≡ Some dir → IsFresh dir l
 
-names_still : (leases more : List Lease) (uses : List Use) (o : Op) (r : Reply) → NamesItsFile leases uses o r → NamesItsFile (leases ++ more) uses o r
-names_still leases more uses (op.Create dir name kind (Some id)) reply.Made n = record {
-  reserved = record { lease = n.reserved.lease; held = In-front n.reserved.lease leases more n.reserved.held; below = n.reserved.below; field = n.reserved.field; used = n.reserved.used; among = n.reserved.among; number = n.reserved.number };
-  child = n.child;
-}
-names_still leases more uses o r n = n
-
 module _ (skew greatest : ℕ) (by : Session) (t : Sight) (d : Settled) (l : Lease) (fits : IsNewLease t by d.leases l) (f : SessionFits skew greatest t by d) where
   distinct : (j : Lease) → In j (d.leases ++ l ∷ []) → (k : Lease) → In k (d.leases ++ l ∷ []) → j.no ≡ k.no → j ≡ k
   distinct = each_more (λ (j : Lease). (k : Lease) → In k (d.leases ++ l ∷ []) → j.no ≡ k.no → j ≡ k) d.leases l
@@ -95,7 +87,7 @@ module _ (skew greatest : ℕ) (by : Session) (t : Sight) (d : Settled) (l : Lea
     fresh = each_more (λ (k : Lease). (dir : List ℕ) → k.below ≡ Some dir → IsFresh dir k) d.leases l f.fresh fits.fresh;
     held = λ e h u i. let q = f.held e h u i in record { lease = q.lease; held = In-front q.lease d.leases (l ∷ []) q.held; number = q.number; field = q.field; kind = q.kind };
     backed = f.backed;
-    entries = λ e h. let q = f.entries e h in record { plain = q.plain; access = q.access; named = names_still d.leases (l ∷ []) e.uses e.op e.reply q.named; home = q.home };
+    entries = f.entries;
     once = f.once;
     refused = f.refused;
     led = each_led skew greatest greatest t t by d (with_leases (l ∷ []) d) d.led (λ led is h. record {

@@ -30,7 +30,7 @@ use Rattle.fs_client.specs.declared.led.Led.{Led as TheLed}
 use Rattle.fs_client.specs.declared.state.Client.{Client}
 use Rattle.fs_serial.specs.Commits.{IsCommitted, with_commit, with_led}
 use Rattle.fs_serial.specs.Exchange.{IsQuestion, IsToBeLed, server_of_question}
-use Rattle.fs_serial.specs.Fresh.{Reserves, reserved_by}
+use Rattle.fs_serial.specs.Fresh.{reserved_by}
 use Rattle.fs_serial.specs.Led.{LedFits, LedStands}
 use Rattle.fs_serial.specs.Parts.{SessionFits, SessionHolds, with_client, with_replies}
 use Rattle.fs_serial.specs.Settled.{Lease, Settled, lease_after, led_done, led_ended, led_freed, led_over, settled_now, told}
@@ -43,6 +43,7 @@ use Rattle.fs_serial.proofs.Going.{carried_alike}
 use Rattle.fs_serial.proofs.Older.{later_itself}
 use Rattle.fs_serial.proofs.Seats.{settled_none}
 use Rattle.fs_serial.proofs.Sending.{asked, goes_bare, goes_of, goes_seen, world_answered}
+use Rattle.fs_serial.proofs.Claims.{NoneAnew, none_anew}
 use Rattle.fs_serial.proofs.Together.{each_session, fewer_reserved}
 
 can_end : (o : Op) (r : Reply) → is_led o r ≡ true → can_end_with o (reply_of o) ≡ true
@@ -101,7 +102,7 @@ module _ (greatest : ℕ) (w : World) (by : Session) (m : ToLead) (up : (w.ends 
           (let q = goes.all.fitting by in record { given = q.given; distinct = q.distinct; matching = q.matching; fresh = q.fresh; held = q.held; backed = q.backed; entries = q.entries; once = q.once; refused = q.refused; led = tt })
           (λ x other. goes.all.fitting x);
       reserved = fewer_reserved (reserved_by base) (reserved_by (with_client by (led_freed (base by)) base)) (sight_in w).records (sight_in w).journal
-          (each_session (λ x (d : Settled). (n : LeaseNo) (i : List ℕ) → Reserves d.leases n i → Reserves (base x).leases n i) by (led_freed (base by)) base (λ n i r. r) (λ x other n i r. r)) goes.all.reserved;
+          (each_session (λ x (d : Settled). NoneAnew (base x) d) by (led_freed (base by)) base (none_anew (base by)) (λ x other. none_anew (base x))) goes.all.reserved;
     };
     carried = carried_alike s.skew greatest (sight_in w) w.ends base by (led_freed (base by)) (λ l i. record { lease = l; held = i; number = refl }) (λ l i. record { lease = l; held = i; number = refl }) goes.carried;
   }

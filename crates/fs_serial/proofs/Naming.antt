@@ -33,7 +33,6 @@ use Rattle.fs_view.specs.Walk.{Known, Given, walk_along, walk, behind, always}
 use Rattle.fs_view.proofs.Walks.{first_behind}
 use Rattle.fs_model.specs.Sound.{AsksAccess}
 use Rattle.fs_serial.specs.Pending.{HasUse, IsCovered, NamesItsFile, NamesReserved, named_by}
-use Rattle.fs_serial.specs.Settled.{Lease}
 
 -- ## Scripts that ask for no identifier
 
@@ -232,11 +231,11 @@ access_with_id v now (op.Create dir name kind id) r a = tt
 access_with_id v now o r a = a
 
 -- the entry names its file where an identifier that was asked for is reserved
-pub names_its_file : (leases : List Lease) (uses : List Use) (v : View) (now : ℕ) (o : Op) (r : Reply) (known : Known) (given : Given) → may_ask o ≡ true → (walk known given o).reply ≡ Some r
-    → ((dir : List ℕ) → In (need.Fresh dir) (walk known given o).items → (id : List ℕ) × (fresh v now dir ≡ Some id) × NamesReserved leases uses dir id) → NamesItsFile leases uses (with_id v now o r) r
-names_its_file leases uses v now (op.Create dir name kind (Some id)) r known given m h ids = absurd (cc)
-names_its_file leases uses v now (op.Create dir name kind None) reply.Made known given m h ids =
+pub names_its_file : (uses : List Use) (v : View) (now : ℕ) (o : Op) (r : Reply) (known : Known) (given : Given) → may_ask o ≡ true → (walk known given o).reply ≡ Some r
+    → ((dir : List ℕ) → In (need.Fresh dir) (walk known given o).items → (id : List ℕ) × (fresh v now dir ≡ Some id) × NamesReserved uses dir id) → NamesItsFile uses (with_id v now o r) r
+names_its_file uses v now (op.Create dir name kind (Some id)) r known given m h ids = absurd (cc)
+names_its_file uses v now (op.Create dir name kind None) reply.Made known given m h ids =
     let q = ids dir (create_asked known given dir name kind h) in
-    subst (λ o. NamesItsFile leases uses (op.Create dir name kind o) reply.Made) (sym q.1) q.2
-names_its_file leases uses v now (op.Create dir name kind None) r known given m h ids = tt
-names_its_file leases uses v now o r known given m h ids = tt
+    subst (λ o. NamesItsFile uses (op.Create dir name kind o) reply.Made) (sym q.1) q.2
+names_its_file uses v now (op.Create dir name kind None) r known given m h ids = tt
+names_its_file uses v now o r known given m h ids = tt

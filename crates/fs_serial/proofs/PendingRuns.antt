@@ -34,13 +34,13 @@ pub pending_from : (o : Counts) (skew greatest : ℕ) (replied : Session → Lis
 pending_from o skew greatest replied by rest [] s journal clients h log over stand = (nodes_of s.records, refl)
 pending_from o skew greatest replied by rest (e ∷ es) s journal clients h log over stand =
     let d : Settled = clients by in
-    let plain : IsEntry d.leases e = (h.fitting by).entries e (subst (In e) (sym log) (inl refl)) in
+    let plain : IsEntry e = (h.fitting by).entries e (subst (In e) (sym log) (inl refl)) in
     let right : IsAnswer (value_of s.records by) e = (subst (PendingStand s.rows by (value_of s.records by)) log (h.sessions by).pending (all_found s.rows by e.uses stand.0)).0 in
     let then = admit_kept o skew greatest s journal replied clients by e h (record { rest = es ++ rest; log = log; going = over; found = stand.0 }) in
     let is = its_client by (acknowledged by d.log d) clients in
     let more = pending_from o skew greatest replied by rest es (with_entry by e s) (journal ++ item_of by e ∷ []) (with_client by (acknowledged by d.log d) clients) then
     (ap (λ (c : Settled). c.log) is ∙ ap (λ l. (acknowledged by l d).log) log) (ap (λ (c : Settled). c.over) is ∙ (over_then by d.log d ∙ over)) stand.1 in
-    (more.0, (no_reap e.op plain.plain, answered s.records by d.leases e plain right, subst (λ m. IsSerialRun m (map (item_of by) es) more.0) (leads_there s.records by d.leases e plain right) more.1))
+    (more.0, (no_reap e.op plain.plain, answered s.records by e plain right, subst (λ m. IsSerialRun m (map (item_of by) es) more.0) (leads_there s.records by e plain right) more.1))
 
 -- the same of what all servers hold together
 pub pending_together : (skew greatest : ℕ) (c : Cluster) (by : Session) (front rest : List Entry) (s : Server) → ClusterHolds skew greatest c → In s c.servers

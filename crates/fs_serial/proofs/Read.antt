@@ -45,6 +45,7 @@ use Rattle.fs_serial.proofs.Facts.{items-own, made-append, made_before, or_none,
 use Rattle.fs_serial.proofs.Knowing.{IsUseOf, use_from}
 use Rattle.fs_serial.proofs.Gone.{lost_in, lost_unread, made_more, telling_later}
 use Rattle.fs_serial.proofs.LedKept.{none_led}
+use Rattle.fs_serial.proofs.Births.{named_makes}
 use Rattle.fs_serial.proofs.Reply.{IsNext, IsOfLease, number_more, value_seen}
 use Rattle.fs_serial.proofs.ReplyNext.{next}
 use Rattle.fs_serial.proofs.Seats.{Seat, seen_at}
@@ -147,9 +148,11 @@ module _ (skew greatest : ℕ) (s : Sight) (by : Session) (replied : List Item) 
             | inl gone ↦ inl (lost_unread s.journal (value_of s.records by) l.field (lost_in s.records by s.journal l.field gone))
             | inr told ↦ inr (sym told ∙ sym (ap (λ es. value_after_log by l.field l.base (map (effects_in by) es)) (none t.empty)))
           ])
+          -- a read names no identifier
+          (λ id is. absurd (unmade_read e.op r id t.read (named_makes e.uses e.op r id n.entry.named is)))
 
       gets : (step (nodes_of s.records) by e.op).reply ≡ r
-      gets = answered s.records by d.leases e n.entry right
+      gets = answered s.records by e n.entry right
 
       pub read_right : IsReadOf (nodes_of s.records) by c.next (item_of by e)
       read_right = record {

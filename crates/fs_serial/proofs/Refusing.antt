@@ -13,7 +13,7 @@ use Rattle.fs_moderows.proofs.Witnesses.{In_any}
 use Rattle.fs_msg.specs.declared.entry.Entry.{Entry}
 use Rattle.fs_msg.specs.declared.item.Item.{Item}
 use Rattle.fs_server.specs.Ships.{first_gone, has_row}
-use Rattle.fs_serial.specs.Fresh.{Reserves, reserved_by}
+use Rattle.fs_serial.specs.Fresh.{reserved_by}
 use Rattle.fs_serial.specs.Parts.{with_client, SessionHolds, SessionFits}
 use Rattle.fs_serial.specs.Settled.{Settled, with_over}
 use Rattle.fs_serial.specs.Sight.{Sight}
@@ -21,7 +21,8 @@ use Rattle.fs_serial.specs.World.{Ends, GoesOn}
 use Rattle.fs_serial.proofs.LedKept.{each_led}
 use Rattle.fs_serial.proofs.Going.{carried_alike}
 use Rattle.fs_serial.proofs.OneLease.{lease_is}
-use Rattle.fs_serial.proofs.Together.{each_session}
+use Rattle.fs_serial.proofs.Claims.{NoneAnew, none_anew}
+use Rattle.fs_serial.proofs.Together.{each_session, fewer_reserved}
 
 -- the row of a used lease is the row that the entry stands on
 pub use_gone : (skew greatest : ℕ) (s : Sight) (by : Session) (d : Settled) (e : Entry) (u : Use) → SessionFits skew greatest s by d → In e d.log → In u e.uses → not (has_row s.rows by u) ≡ true → (r : Row) → In r s.rows → r.no ≢ u.no
@@ -58,8 +59,8 @@ module _ (skew greatest : ℕ) (s : Sight) (replied : Session → List Item) (en
         led = each_led skew greatest greatest s s by (clients by) d (clients by).led (λ l is h. record { leads = h.leads; number = h.number; empty = h.empty; held = h.held; backed = h.backed; parts = h.parts; right = h.right }) f.led;
       }
 
-  still : (x : Session) (n : LeaseNo) (i : List ℕ) → reserved_by (with_client by d clients) x n i → reserved_by clients x n i
-  still = each_session (λ x (c : Settled). (n : LeaseNo) (i : List ℕ) → Reserves c.leases n i → reserved_by clients x n i) by d clients (λ n i r. r) (λ x other n i r. r)
+  still : (x : Session) → NoneAnew (clients x) (with_client by d clients x)
+  still = each_session (λ x (c : Settled). NoneAnew (clients x) c) by d clients (none_anew (clients by)) (λ x other. none_anew (clients x))
 
   pub entry_refused : GoesOn skew greatest s replied ends clients → GoesOn skew greatest s replied ends (with_client by d clients)
   entry_refused h = record {
@@ -70,12 +71,7 @@ module _ (skew greatest : ℕ) (s : Sight) (replied : Session → List Item) (en
           (let q = h.all.sessions by in record { backed = q.backed; telling = q.telling; pending = q.pending; numbers = q.numbers; replies = q.replies })
           (λ x other. h.all.sessions x);
       fitting = each_session (λ x c. SessionFits skew greatest s x c) by d clients (refused_fits (h.all.fitting by)) (λ x other. h.all.fitting x);
-      reserved = let f = h.all.reserved in record {
-        once = λ x y n k i j p q. f.once x y n k i j (still x n i p) (still y k j q);
-        unmade = λ x n i j p. f.unmade x n i j (still x n i p);
-        made_before = f.made_before;
-        reserved_before = λ dir k x n j a free p. f.reserved_before dir k x n j a free (still x n j p);
-      };
+      reserved = fewer_reserved (reserved_by clients) (reserved_by (with_client by d clients)) s.records s.journal still h.all.reserved;
     };
     carried = carried_alike skew greatest s ends clients by d (λ l i. record { lease = l; held = i; number = refl }) (λ l i. record { lease = l; held = i; number = refl }) h.carried;
   }

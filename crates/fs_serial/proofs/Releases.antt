@@ -28,6 +28,7 @@ use Rattle.fs_serial.specs.Parts.{SessionHolds, SessionFits}
 use Rattle.fs_serial.specs.Pending.{HasLease}
 use Rattle.fs_serial.specs.Settled.{Lease, Settled, lease_in, lease_with, settled_now}
 use Rattle.fs_serial.specs.Sight.{Sight}
+use Rattle.fs_serial.proofs.Claims.{NoneAnew, none_anew_in}
 use Rattle.fs_serial.proofs.Fewer.{HasFewer, fewer_holds, fewer_fits}
 use Rattle.fs_serial.proofs.Heard.{quiet_renewed}
 use Rattle.fs_serial.proofs.KeptPairs.{kept_pair, releases_pairs}
@@ -164,5 +165,5 @@ module _ (skew greatest : ℕ) (s : Sight) (by : Session) (replied : List Item) 
   }
 
   -- no lease is new in what is seen
-  pub releases_fewer : (l : Lease) → In l (seen_at by then down).leases → In l (seen_at by c down).leases
-  releases_fewer l i = subst (λ (d : Settled). In l d.leases) (sym now) (fewer.fewer l (subst (λ (d : Settled). In l d.leases) later i))
+  pub releases_anew : NoneAnew (seen_at by c down) (seen_at by then down)
+  releases_anew = subst (NoneAnew (seen_at by c down)) (sym later) (subst (λ (d : Settled). NoneAnew d (settled_now then)) (sym now) (none_anew_in (settled_now c) (settled_now then) fewer.fewer (λ x i. subst (In x) fewer.log i)))

@@ -1,25 +1,33 @@
 -- A client answers an operation, and its entry joins the log: the parts of its session.
-use Rattle.std.proofs.Common.{◌≡◌, ℕ, ◌+◌, ◌<◌, ◌≤◌, List, [], ◌∷◌, ◌++◌, ◌⊎◌, map, refl, sym, ap, ◌∙◌, subst, inl, inr, append_assoc}
+use Rattle.std.proofs.Common.{◌≡◌, ℕ, ◌+◌, ◌<◌, ◌≤◌, false, List, [], ◌∷◌, ◌++◌, ◌⊎◌, map, refl, sym, ap, ◌∙◌, subst, inl, inr, append_assoc}
 use Rattle.std.specs.Prelude.{Some, None}
 use Rattle.std.proofs.lemmas.List.{map-append}
 use Rattle.fs_ident.specs.In.{In}
+use Rattle.fs_ident.specs.declared.actor.LeaseNo.{LeaseNo}
 use Rattle.fs_ident.specs.declared.actor.Session.{Session}
+use Rattle.fs_ident.proofs.Standing.{In-append}
 use Rattle.fs_field.specs.declared.field.Field.{Field}
+use Rattle.fs_field.specs.declared.field.Field.TheVariants.{Life}
 use Rattle.fs_field.specs.declared.row.Row.{Row}
 use Rattle.fs_field.specs.declared.used.Use.{Use}
 use Rattle.fs_field.specs.declared.value.Value.{Value}
+use Rattle.fs_field.specs.declared.value.Value.TheVariants as value
 use Rattle.fs_msg.specs.declared.entry.Entry.{Entry}
 use Rattle.fs_msg.specs.declared.item.Item.{Item}
 use Rattle.fs_record.specs.ValueOf.{value_of}
 use Rattle.fs_server.specs.Ships.{item_of}
 use Rattle.fs_view.specs.Gone.{IsUnread}
+use Rattle.fs_view.specs.Kept.{is_pending}
 use Rattle.fs_view.specs.View.{value_after_log}
+use Rattle.fs_serial.specs.Fresh.{ByLease, ByLog, Claim, HoldsFresh, Reserves}
 use Rattle.fs_serial.specs.Leases.{IsBacked}
 use Rattle.fs_serial.specs.Numbers.{AreNumbered, all_items, items_by}
 use Rattle.fs_serial.specs.Parts.{SessionHolds, SessionFits}
 use Rattle.fs_serial.specs.Pending.{AllStand, Stands, IsAnswer, PendingStand, HasLease, UsesHeld, UsesBacked, IsEntry, NamedOnce, named_by, RefusedGone, IsGone, values_after}
 use Rattle.fs_serial.specs.Settled.{Lease, Settled, effects_in}
 use Rattle.fs_serial.specs.Sight.{Sight}
+use Rattle.fs_serial.proofs.Births.{stays_unborn}
+use Rattle.fs_serial.proofs.Claims.{AreUnborn, NoneAnew}
 use Rattle.fs_serial.proofs.LedKept.{none_led}
 use Rattle.fs_serial.proofs.Facts.{each_more}
 use Rattle.fs_serial.proofs.Gone.{IsLost, MakeAnew, lost_after, lost_in, lost_unread}
@@ -46,10 +54,26 @@ pub record IsNext (by : Session) (d : Settled) (e : Entry) : Type 0 where
   pub number : e.n ≡ d.next
   pub unled : d.led ≡ None
   pub of_lease : (u : Use) → In u e.uses → IsOfLease d.leases u
-  -- it is right wherever fields have the values that the leases of its uses tell, but for what is of no matter
-  pub right : (values : Field → Value) → ((l : Lease) → In l d.leases → (u : Use) → In u e.uses → l.no ≡ u.no → IsUnread values l.field ⊎ (values l.field ≡ value_seen by d l)) → IsAnswer values e
-  pub entry : IsEntry d.leases e
+  -- it is right wherever fields have the values that the leases of its uses tell, but for what is of no matter, and what it names
+  -- does not live
+  pub right : (values : Field → Value) → ((l : Lease) → In l d.leases → (u : Use) → In u e.uses → l.no ≡ u.no → IsUnread values l.field ⊎ (values l.field ≡ value_seen by d l))
+      → ((id : List ℕ) → named_by e.op ≡ Some id → values (Life id) ≡ value.Life None) → IsAnswer values e
+  pub entry : IsEntry e
+  -- what it names is reserved by a lease, and no entry of the log makes it
+  pub reserved : (id : List ℕ) → named_by e.op ≡ Some id → (n : LeaseNo) × HoldsFresh d.leases n id
+  pub unmade : (id : List ℕ) → named_by e.op ≡ Some id → is_pending id (map (effects_in by) d.log) ≡ false
   pub once : (f : Entry) (id : List ℕ) → In f d.log → named_by f.op ≡ Some id → named_by e.op ≡ Some id → ⊥
+
+-- what it names was reserved by a lease
+pub reply_anew : (by : Session) (d : Settled) (e : Entry) → IsNext by d e → NoneAnew d (with_last e d)
+reply_anew by d e n (ByLease k) i r = r
+reply_anew by d e n ByLog i r = elim (In-append r.entry d.log (e ∷ []) r.among) as (λ _. (k : Claim) × Reserves d k i) [
+  | inl j ↦ (ByLog, record { entry = r.entry; among = j; named = r.named })
+  | inr j ↦ elim j as (λ _. (k : Claim) × Reserves d k i) [
+    | inl is ↦ let q = n.reserved i (ap (λ (x : Entry). named_by x.op) (sym is) ∙ r.named) in (ByLease q.0, q.1)
+    | inr z ↦ absurd z
+  ]
+]
 
 -- ## Values at the end of a log
 
@@ -90,24 +114,32 @@ once_more (x ∷ es) e h new = (
 
 module _ (skew greatest : ℕ) (s : Sight) (by : Session) (replied : List Item) (d : Settled) (e : Entry) (n : IsNext by d e)
     (h : SessionHolds skew greatest s by replied d) (f : SessionFits skew greatest s by d) where
+  -- what it names does not live at the end of the log
+  unborn : AreUnborn s.records d → (id : List ℕ) → named_by e.op ≡ Some id → values_at_end by d.log (value_of s.records by) (Life id) ≡ value.Life None
+  unborn none id is =
+      let q = n.reserved id is in
+      end_seen by d.log (value_of s.records by) (Life id)
+      ∙ ap (λ k. value_after_log by (Life id) (value.Life k) (map (effects_in by) d.log)) (none q.0 id q.1)
+      ∙ stays_unborn by d.log id (n.unmade id is)
+
   -- where the rows of its leases stand, they tell the values at the end of the log
-  right : MakeAnew by s.journal d.log → AreAnswers by (value_of s.records by) d.log → AllStand s.rows by e.uses → IsAnswer (values_at_end by d.log (value_of s.records by)) e
-  right anew answers stand = n.right (values_at_end by d.log (value_of s.records by)) (λ l held u i same.
+  right : MakeAnew by s.journal d.log → AreUnborn s.records d → AreAnswers by (value_of s.records by) d.log → AllStand s.rows by e.uses → IsAnswer (values_at_end by d.log (value_of s.records by)) e
+  right anew none answers stand = n.right (values_at_end by d.log (value_of s.records by)) (λ l held u i same.
       let r : Stands s.rows by u = stand u i in
       elim (h.telling l held r.row r.stands (r.number ∙ sym same)) as (λ _. IsUnread (values_at_end by d.log (value_of s.records by)) l.field ⊎ (values_at_end by d.log (value_of s.records by) l.field ≡ value_seen by d l)) [
         | inl gone ↦ inl (lost_unread s.journal (values_at_end by d.log (value_of s.records by)) l.field
             (lost_at_end by s.journal d.log (value_of s.records by) anew answers l.field (lost_in s.records by s.journal l.field gone)))
         | inr told ↦ inr (end_seen by d.log (value_of s.records by) l.field ∙ ap (λ v. value_after_log by l.field v (map (effects_in by) d.log)) (sym told))
-      ])
+      ]) (unborn none)
 
   more_items : all_items by s.journal (d.log ++ e ∷ []) ≡ all_items by s.journal d.log ++ item_of by e ∷ []
   more_items = ap (λ is. items_by by s.journal ++ is) (map-append (item_of by) d.log (e ∷ [])) ∙ sym (append_assoc (items_by by s.journal) (map (item_of by) d.log) (item_of by e ∷ []))
 
-  pub reply_holds : MakeAnew by s.journal d.log → SessionHolds skew greatest s by (replied ++ item_of by e ∷ []) (with_last e d)
-  reply_holds anew = record {
+  pub reply_holds : MakeAnew by s.journal d.log → AreUnborn s.records d → SessionHolds skew greatest s by (replied ++ item_of by e ∷ []) (with_last e d)
+  reply_holds anew none = record {
     backed = h.backed;
     telling = h.telling;
-    pending = stand_more s.rows by (value_of s.records by) d.log e h.pending (right anew);
+    pending = stand_more s.rows by (value_of s.records by) d.log e h.pending (right anew none);
     numbers = subst (λ is. AreNumbered 1 is (d.next + 1)) (sym more_items) (number_more 1 (all_items by s.journal d.log) d.next (item_of by e) h.numbers n.number);
     replies = more_items ∙ ap (λ is. is ++ item_of by e ∷ []) h.replies;
   }
@@ -136,7 +168,7 @@ module _ (skew greatest : ℕ) (s : Sight) (by : Session) (replied : List Item) 
     fresh = f.fresh;
     held = held;
     backed = backed;
-    entries = each_more (IsEntry d.leases) d.log e f.entries n.entry;
+    entries = each_more IsEntry d.log e f.entries n.entry;
     once = once_more d.log e f.once n.once;
     refused = refused;
     led = none_led skew greatest s by (with_last e d) n.unled;

@@ -20,15 +20,15 @@ use Rattle.fs_view.specs.declared.kept.Standing.{Standing}
 use Rattle.fs_view.specs.declared.kept.Standing.TheVariants.{Held, Pinned, Leaving}
 use Rattle.fs_view.specs.Kept.{lease_of, is_leaving}
 use Rattle.fs_serial.specs.Client.{ClientFits}
-use Rattle.fs_serial.specs.Fresh.{Reserves}
 use Rattle.fs_serial.specs.Parts.{AllHold, SessionHolds, SessionFits, with_client, with_replies}
 use Rattle.fs_serial.specs.Settled.{Settled, lease_in, lease_with, settled, settled_now}
 use Rattle.fs_serial.specs.Sight.{Sight}
 use Rattle.fs_serial.specs.Steps.{IsReplied}
 use Rattle.fs_serial.specs.Pending.{HasLease}
-use Rattle.fs_serial.proofs.Gone.{MakeAnew, all_anew}
+use Rattle.fs_serial.proofs.Claims.{AreUnborn, NoneAnew}
+use Rattle.fs_serial.proofs.Gone.{MakeAnew, all_anew, all_unborn}
 use Rattle.fs_serial.proofs.Knowing.{In-filter_map, IsUseOf, use_from}
-use Rattle.fs_serial.proofs.Reply.{with_last, reply_holds, reply_fits}
+use Rattle.fs_serial.proofs.Reply.{with_last, reply_anew, reply_holds, reply_fits}
 use Rattle.fs_serial.proofs.ReplyNext.{next}
 use Rattle.fs_serial.proofs.ReplyPins.{InHand, reply_client, reply_settled}
 use Rattle.fs_serial.proofs.Settling.{settled_last}
@@ -75,7 +75,8 @@ reply_kept skew greatest s replied clients by c down o r h f is a =
     let fits = subst (λ d. SessionFits skew greatest s by d) is (h.fitting by) in
     let n = next by c down o r a.reply f a.unled a.plain a.asked fits.fresh fits.entries in
     let anew : MakeAnew by s.journal d.log = subst (λ (x : Settled). MakeAnew by s.journal x.log) is (all_anew skew greatest s replied clients h by) in
+    let unborn : AreUnborn s.records d = subst (AreUnborn s.records) is (all_unborn skew greatest s replied clients h by) in
     subst (λ x. AllHold skew greatest s (with_replies by (replied by ++ item_of by e ∷ []) replied) (with_client by x clients)) (sym (replied_settled by c down o r a f))
     (client_changes skew greatest s replied clients by (replied by ++ item_of by e ∷ []) (with_last e d) h
-    (reply_holds skew greatest s by (replied by) d e n holds fits anew) (reply_fits skew greatest s by (replied by) d e n holds fits)
-    (λ n i r. subst (λ (x : Settled). Reserves x.leases n i) (sym is) r))
+    (reply_holds skew greatest s by (replied by) d e n holds fits anew unborn) (reply_fits skew greatest s by (replied by) d e n holds fits)
+    (subst (λ (x : Settled). NoneAnew x (with_last e d)) (sym is) (reply_anew by d e n)))

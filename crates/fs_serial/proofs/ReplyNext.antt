@@ -6,6 +6,7 @@ use Rattle.std.proofs.Math.Seq.{take-append_seam}
 use Rattle.std.proofs.lemmas.Bool.Decides.{nat_tests}
 use Rattle.fs_ident.specs.In.{In}
 use Rattle.fs_ident.specs.Ident.{child, same}
+use Rattle.fs_ident.specs.declared.actor.LeaseNo.{LeaseNo}
 use Rattle.fs_ident.specs.declared.actor.Session.{Session}
 use Rattle.fs_ident.specs.declared.kind.Kind.{Kind}
 use Rattle.fs_ident.proofs.Booleans.{both, neither, joined}
@@ -39,17 +40,17 @@ use Rattle.fs_view.specs.declared.kept.Kept.{Kept}
 use Rattle.fs_view.specs.declared.kept.Standing.{Standing}
 use Rattle.fs_view.specs.declared.kept.Standing.TheVariants.{Held, Pinned, Leaving}
 use Rattle.fs_view.specs.Gone.{IsUnread, known_with}
-use Rattle.fs_view.specs.Kept.{lease_of, use_of, is_enough, file_in, makes, is_pending, is_unused_in}
+use Rattle.fs_view.specs.Kept.{lease_of, use_of, is_enough, file_in, makes, is_pending}
 use Rattle.fs_view.specs.Script.{script_of}
 use Rattle.fs_view.specs.View.{View, known_by, given_by, fresh, item_use, walk_in, reply_in, value_after_log}
 use Rattle.fs_view.specs.Walk.{walk, always}
 use Rattle.fs_view.proofs.Unread.{alike_but_gone}
 use Rattle.fs_serial.specs.Client.{ClientFits}
-use Rattle.fs_serial.specs.Fresh.{made_by, or_else}
+use Rattle.fs_serial.specs.Fresh.{HoldsFresh}
 use Rattle.fs_serial.specs.Leases.{IsFresh, FreshLeases}
-use Rattle.fs_serial.specs.Pending.{IsAnswer, AreEntries, NamesItsFile, UsesAtHome, named_by}
+use Rattle.fs_serial.specs.Pending.{IsAnswer, AreEntries, HasUse, NamesItsFile, UsesAtHome, named_by}
 use Rattle.fs_serial.specs.Settled.{Lease, Settled, lease_in, lease_with, settled_now, settled, effects_in}
-use Rattle.fs_serial.proofs.Births.{life_after, makes_there}
+use Rattle.fs_serial.proofs.Births.{makes_there, named_makes}
 use Rattle.fs_serial.proofs.HomeAsks.{IsGivenHere, MayGive, called_home, given_home, home_with_id, items_home, names_fresh}
 use Rattle.fs_serial.proofs.Knowing.{In-filter_map, all_there, from-filter_map, IsKnown, known_by_lease, IsOffered, offered_by_lease, used_there, IsUseOf, use_from}
 use Rattle.fs_serial.proofs.Naming.{Covers, IsGivenFor, IsNamedFor, named_for, names_its_file, plain_with_id, access_with_id, right_with_id}
@@ -63,15 +64,6 @@ file_is (Held x) l e = let q : x ≡ l = cc in ap (λ (l : Term). file_of l.fiel
 file_is (Pinned u) l e = let q : u.lease ≡ l = cc in ap (λ (l : Term). file_of l.field) q
 file_is (Leaving x) l e = absurd (cc)
 
-not_pending : (now until : ℕ) (b : Bool) → (nat_lt now until && not b) ≡ true → b ≡ false
-not_pending now until true h = absurd (let q = both (nat_lt now until) false h in let z : false ≡ true = q.1 in cc)
-not_pending now until false h = refl
-
-unused_unmade : (now : ℕ) (log : List (List Effect)) (s : Standing) (l : Term) → lease_of s ≡ Some l → is_unused_in now log s ≡ true → is_pending (file_of l.field) log ≡ false
-unused_unmade now log (Held x) l e h = let q : x ≡ l = cc in ap (λ (l : Term). is_pending (file_of l.field) log) (sym q) ∙ not_pending now x.until (is_pending (file_of x.field) log) h
-unused_unmade now log (Pinned u) l e h = let q : u.lease ≡ l = cc in ap (λ (l : Term). is_pending (file_of l.field) log) (sym q) ∙ not_pending now u.lease.until (is_pending (file_of u.lease.field) log) h
-unused_unmade now log (Leaving x) l e h = absurd (cc)
-
 parent_is : (dir : List ℕ) (o : Option (List ℕ)) → is_parent dir o ≡ true → o ≡ Some dir
 parent_is dir None h = absurd (cc)
 parent_is dir (Some other) h = ap Some (same_is other dir h)
@@ -84,33 +76,11 @@ child_there dir k =
 
 -- ## Logs that do not make a file
 
-none_or : (a l : Option Kind) → is_some a ≡ false → or_else a l ≡ l
-none_or None l h = refl
-none_or (Some k) l h = absurd (cc)
-
-stays_unborn : (by : Session) (es : List Entry) (id : List ℕ) → is_made_by_log by id es ≡ false → value_after_log by (Life id) (value.Life None) (map (effects_in by) es) ≡ value.Life None
-stays_unborn by [] id h = refl
-stays_unborn by (e ∷ es) id h =
-    let q = neither (list_any (makes id) (effects_in by e)) (is_made_by_log by id es) h in
-    ap (λ v. value_after_log by (Life id) v (map (effects_in by) es)) (life_after by e.op e.reply id None ∙ ap value.Life (none_or (made_by e.op e.reply id) None (sym (makes_there by e.op e.reply id) ∙ q.0)))
-    ∙ stays_unborn by es id q.1
-
 none_makes : (by : Session) (es : List Entry) (id : List ℕ) → is_made_by_log by id es ≡ false → (e : Entry) → In e es → list_any (makes id) (effects_in by e) ≡ false
 none_makes by [] id h e i = absurd i
 none_makes by (x ∷ es) id h e i =
     let q = neither (list_any (makes id) (effects_in by x)) (is_made_by_log by id es) h in
     elim i as (λ _. list_any (makes id) (effects_in by e) ≡ false) [ inl p ↦ ap (λ y. list_any (makes id) (effects_in by y)) p ∙ q.0 | inr j ↦ none_makes by es id q.1 e j ]
-
-at_once : (b : Bool) (k : Kind) → b ≡ true → is_some (cond b (Some k) None) ≡ true
-at_once true k h = refl
-at_once false k h = absurd (cc)
-
--- an entry that names a file makes it
-named_makes : (leases : List Lease) (uses : List Use) (o : Op) (r : Reply) (id : List ℕ) → NamesItsFile leases uses o r → named_by o ≡ Some id → is_some (made_by o r id) ≡ true
-named_makes leases uses (op.Create dir name kind (Some new)) reply.Made id n h = let q : new ≡ id = cc in at_once (same new id) kind (ap (same new) (sym q) ∙ same_self new)
-named_makes leases uses (op.Create dir name kind (Some new)) r id n h = absurd n
-named_makes leases uses (op.Create dir name kind None) r id n h = absurd (cc)
-named_makes leases uses o r id n h = absurd (cc)
 
 module _ (by : Session) (c : Client) (answers : List Answer) (o : Op) (r : Reply) (replied : reply_in c.view c.last o ≡ Some r) (cf : ClientFits by c) (unled : c.led ≡ None) where
   abbrev v : View
@@ -161,9 +131,10 @@ module _ (by : Session) (c : Client) (answers : List Answer) (o : Op) (r : Reply
         let k : IsKnown v c.last field kind = known_by_lease v c.last field kind (all_there (known_by v c.last) (given_by v c.last) (script_of o) there (need.Lease field kind) j) in
         record { used = use_of k.serving.lease; among = used_there v c.last o (need.Lease field kind) (use_of k.serving.lease) j k.used; field = k.serving.on; enough = k.serving.enough }
 
-  module _ (plain : tells_its_effects o ≡ true) (may : may_ask o ≡ true) (new : FreshLeases d.leases) (entries : AreEntries d.leases d.log) where
+  module _ (plain : tells_its_effects o ≡ true) (may : may_ask o ≡ true) (new : FreshLeases d.leases) (entries : AreEntries d.log) where
     -- ### The identifier
 
+    -- a lease reserves it, and an exclusive one on that file's life is used
     pub record IsReservedFor (dir : List ℕ) : Type 0 where
       pub id : List ℕ
       pub offered : fresh v c.last dir ≡ Some id
@@ -171,14 +142,11 @@ module _ (by : Session) (c : Client) (answers : List Answer) (o : Op) (r : Reply
       pub held : In lease d.leases
       pub below : lease.below ≡ Some dir
       pub field : lease.field ≡ Life id
-      pub base : lease.base ≡ value.Life None
-      pub kind : lease.kind ≡ Exclusive
       pub child : is_child dir id ≡ true
       pub used : Use
       pub among : In used e.uses
-      pub number : lease.no ≡ used.no
-      pub on : used.field ≡ lease.field
-      pub of : used.kind ≡ lease.kind
+      pub on : used.field ≡ Life id
+      pub enough : is_enough used.kind Exclusive ≡ true
       pub item : item_use v c.last (need.Fresh dir) ≡ Some used
       -- no entry of the log makes it, nor of what will be left of it
       pub unmade : is_made_by_log by id c.log ≡ false
@@ -187,58 +155,63 @@ module _ (by : Session) (c : Client) (answers : List Answer) (o : Op) (r : Reply
     reserved_for : (dir : List ℕ) → In (need.Fresh dir) (walk_in v c.last o).items → IsReservedFor dir
     reserved_for dir i =
         let q : IsOffered v c.last dir = offered_by_lease v c.last dir (all_there (known_by v c.last) (given_by v c.last) (script_of o) there (need.Fresh dir) i) in
-        let l : Term = q.term.lease in
-        let p : Later by (settled_now c) d (lease_with q.kept l) = kept_later q.kept l q.among q.term.is in
-        let b = both (is_parent dir q.kept.below) (is_unused_in c.last v.pending q.kept.standing) q.offers in
-        let unmade : is_made_by_log by (file_of l.field) c.log ≡ false = ap (is_pending (file_of l.field)) (sym cf.pending) ∙ unused_unmade c.last v.pending q.kept.standing l q.term.is b.1 in
-        let below : p.lease.below ≡ Some dir = p.below unmade ∙ parent_is dir q.kept.below b.0 in
+        let l : Term = q.serving.lease in
+        let p : Later by (settled_now c) d (lease_with q.kept l) = kept_later q.kept l q.among q.serving.is in
+        let at : file_in q.kept.standing ≡ file_of l.field = file_is q.kept.standing l q.serving.is in
+        let unmade : is_made_by_log by (file_of l.field) c.log ≡ false = ap (is_pending (file_of l.field)) (sym cf.pending) ∙ ap (λ i. is_pending i v.pending) (sym at) ∙ q.unmade in
+        let below : p.lease.below ≡ Some dir = p.below unmade ∙ parent_is dir q.kept.below q.below in
         let f : IsFresh dir p.lease = new p.lease p.held dir below in
         let on : l.field ≡ Life (child dir f.number) = sym p.field ∙ f.field in
         let file : file_of l.field ≡ child dir f.number = ap file_of on in
         record {
           id = child dir f.number;
-          offered = ap (λ o. option_map (λ (k : Kept). file_in k.standing) o) q.first ∙ ap Some (file_is q.kept.standing l q.term.is ∙ file);
+          offered = q.fresh ∙ ap Some (at ∙ file);
           lease = p.lease;
           held = p.held;
           below = below;
           field = f.field;
-          base = f.base;
-          kind = f.kind;
           child = child_there dir f.number;
-          used = use_of l;
-          among = used_there v c.last o (need.Fresh dir) (use_of l) i q.used;
-          number = p.number;
-          on = sym p.field;
-          of = sym p.kind;
+          used = use_of q.taken.lease;
+          among = used_there v c.last o (need.Fresh dir) (use_of q.taken.lease) i q.used;
+          on = q.taken.on ∙ ap (λ i. Life i) (at ∙ file);
+          enough = q.taken.enough;
           item = q.used;
           unmade = ap (λ i. is_made_by_log by i c.log) (sym file) ∙ unmade;
           unmade_later = ap (λ i. is_made_by_log by i d.log) (sym file) ∙ p.unmade unmade;
         }
 
+    called : (tells_its_effects o && may_ask o) ≡ true
+    called = joined (tells_its_effects o) (may_ask o) plain may
+
+    -- the entry names it
+    names_it : (dir : List ℕ) → In (need.Fresh dir) (walk_in v c.last o).items → named_by e.op ≡ fresh v c.last dir
+    names_it dir i =
+        let g : IsGivenHere (MayGive o) (home_of o) dir r = given_home (MayGive o) (known_by v c.last) (given_by v c.last) (home_of o) (script_of o) (called_home o called) dir r i replied in
+        names_fresh v c.last o r g.allowed g.made ∙ ap (fresh v c.last) (sym g.below)
+
+    -- and all that it names is so
+    named_at : (id : List ℕ) → named_by e.op ≡ Some id → (dir : List ℕ) × (q : IsReservedFor dir) × (q.id ≡ id)
+    named_at id is =
+        let n : IsNamedFor v c.last o r id = named_for v c.last o r id may is in
+        let q : IsReservedFor n.dir = reserved_for n.dir (n.asked (known_by v c.last) (given_by v c.last) replied) in
+        let same : q.id ≡ id = cc (q.offered, n.offered) in
+        (n.dir, q, same)
+
+    has_use : (dir : List ℕ) (q : IsReservedFor dir) → HasUse e.uses (Life q.id) Exclusive
+    has_use dir q = record { used = q.used; among = q.among; field = q.on; enough = q.enough }
+
     -- ### The answer with it
 
     module _ (values : Field → Value) (agree : (l : Lease) → In l d.leases → (u : Use) → In u e.uses → l.no ≡ u.no → IsUnread values l.field ⊎ (values l.field ≡ value_seen by d l)) where
-      -- the life of a file is of matter
-      told_there : (l : Lease) (id : List ℕ) → l.field ≡ Life id → IsUnread values l.field ⊎ (values l.field ≡ value_seen by d l) → values l.field ≡ value_seen by d l
-      told_there l id on (inl gone) = absurd (subst (IsUnread values) on gone)
-      told_there l id on (inr same) = same
+      module _ (unborn : (id : List ℕ) → named_by e.op ≡ Some id → values (Life id) ≡ value.Life None) where
+        given_for : (dir : List ℕ) → In (need.Fresh dir) (walk (known_with values) always o).items → IsGivenFor values e.uses v c.last dir
+        given_for dir i =
+            let j = subst (λ w. In (need.Fresh dir) w.items) (walked values agree) i in
+            let q : IsReservedFor dir = reserved_for dir j in
+            record { id = q.id; offered = q.offered; unborn = unborn q.id (names_it dir j ∙ q.offered); used = has_use dir q }
 
-      given_for : (dir : List ℕ) → In (need.Fresh dir) (walk (known_with values) always o).items → IsGivenFor values e.uses v c.last dir
-      given_for dir i =
-          let q : IsReservedFor dir = reserved_for dir (subst (λ w. In (need.Fresh dir) w.items) (walked values agree) i) in
-          record {
-            id = q.id;
-            offered = q.offered;
-            unborn =
-                ap values (sym q.field) ∙ told_there q.lease q.id q.field (agree q.lease q.held q.used q.among q.number)
-                ∙ ap (λ g. value_after_log by g q.lease.base (map (effects_in by) d.log)) q.field
-                ∙ ap (λ b. value_after_log by (Life q.id) b (map (effects_in by) d.log)) q.base
-                ∙ stays_unborn by d.log q.id q.unmade_later;
-            used = record { used = q.used; among = q.among; field = q.on ∙ q.field; enough = ap (λ k. is_enough k Exclusive) (q.of ∙ q.kind) };
-          }
-
-      right : IsAnswer values e
-      right = let q = right_with_id values e.uses v c.last o r plain may (ap (λ w. w.reply) (walked values agree) ∙ replied) (covers values agree) given_for in record { reply = q.reply; covered = q.covered }
+        right : IsAnswer values e
+        right = let q = right_with_id values e.uses v c.last o r plain may (ap (λ w. w.reply) (walked values agree) ∙ replied) (covers values agree) given_for in record { reply = q.reply; covered = q.covered }
 
     -- ### Where it is handed in
 
@@ -247,9 +220,6 @@ module _ (by : Session) (c : Client) (answers : List Answer) (o : Op) (r : Reply
         let q = from-filter_map (item_use v c.last) u (walk_in v c.last o).items i in
         subst (λ home. (file_of u.field ≡ home) ⊎ (named_by e.op ≡ Some (file_of u.field))) (sym (home_with_id v c.last o r)) (of_item q.0 q.1 q.2)
       where
-        called : (tells_its_effects o && may_ask o) ≡ true
-        called = joined (tells_its_effects o) (may_ask o) plain may
-
         of_item : (n : Need) → In n (walk_in v c.last o).items → item_use v c.last n ≡ Some u → (file_of u.field ≡ home_of o) ⊎ (named_by e.op ≡ Some (file_of u.field))
         of_item (need.Lease field kind) j is =
             let k : IsKnown v c.last field kind = known_by_lease v c.last field kind (all_there (known_by v c.last) (given_by v c.last) (script_of o) there (need.Lease field kind) j) in
@@ -259,25 +229,27 @@ module _ (by : Session) (c : Client) (answers : List Answer) (o : Op) (r : Reply
         of_item (need.Fresh dir) j is =
             let q : IsReservedFor dir = reserved_for dir j in
             let same : q.used ≡ u = cc (q.item, is) in
-            let g : IsGivenHere (MayGive o) (home_of o) dir r = given_home (MayGive o) (known_by v c.last) (given_by v c.last) (home_of o) (script_of o) (called_home o called) dir r j replied in
-            let file : file_of u.field ≡ q.id = ap (λ (x : Use). file_of x.field) (sym same) ∙ ap file_of (q.on ∙ q.field) in
-            inr (names_fresh v c.last o r g.allowed g.made ∙ ap (fresh v c.last) (sym g.below) ∙ q.offered ∙ ap Some (sym file))
+            let file : file_of u.field ≡ q.id = ap (λ (x : Use). file_of x.field) (sym same) ∙ ap file_of q.on in
+            inr (names_it dir j ∙ q.offered ∙ ap Some (sym file))
 
     -- ### The entry
 
-    named : NamesItsFile d.leases e.uses e.op r
-    named = names_its_file d.leases e.uses v c.last o r (known_by v c.last) (given_by v c.last) may replied (λ dir i.
+    named : NamesItsFile e.uses e.op r
+    named = names_its_file e.uses v c.last o r (known_by v c.last) (given_by v c.last) may replied (λ dir i.
         let q : IsReservedFor dir = reserved_for dir i in
-        (q.id, q.offered, record { reserved = record { lease = q.lease; held = q.held; below = q.below; field = q.field; used = q.used; among = q.among; number = sym q.number }; child = q.child }))
+        (q.id, q.offered, record { used = has_use dir q; child = q.child }))
 
     once : (f : Entry) (id : List ℕ) → In f d.log → named_by f.op ≡ Some id → named_by e.op ≡ Some id → ⊥
     once f id i a b =
-        let n : IsNamedFor v c.last o r id = named_for v c.last o r id may b in
-        let q : IsReservedFor n.dir = reserved_for n.dir (n.asked (known_by v c.last) (given_by v c.last) replied) in
-        let same : q.id ≡ id = cc (q.offered, n.offered) in
-        let made : list_any (makes id) (effects_in by f) ≡ true = makes_there by f.op f.reply id ∙ named_makes d.leases f.uses f.op f.reply id (entries f i).named a in
-        let not_made : list_any (makes id) (effects_in by f) ≡ false = none_makes by c.log id (ap (λ i. is_made_by_log by i c.log) (sym same) ∙ q.unmade) f (settled_log by answers (settled_now c) f i) in
+        let q = named_at id b in
+        let made : list_any (makes id) (effects_in by f) ≡ true = makes_there by f.op f.reply id ∙ named_makes f.uses f.op f.reply id (entries f i).named a in
+        let not_made : list_any (makes id) (effects_in by f) ≡ false = none_makes by c.log id (ap (λ i. is_made_by_log by i c.log) (sym q.2) ∙ q.1.unmade) f (settled_log by answers (settled_now c) f i) in
         absurd (let z : true ≡ false = sym made ∙ not_made in cc)
+
+    reserved : (id : List ℕ) → named_by e.op ≡ Some id → (n : LeaseNo) × HoldsFresh d.leases n id
+    reserved id is =
+        let q = named_at id is in
+        (q.1.lease.no, record { lease = q.1.lease; held = q.1.held; number = refl; fresh = ap is_some q.1.below; file = ap file_of q.1.field ∙ q.2 })
 
     pub next : IsNext by d e
     next = record {
@@ -286,5 +258,7 @@ module _ (by : Session) (c : Client) (answers : List Answer) (o : Op) (r : Reply
       of_lease = of_lease;
       right = right;
       entry = record { plain = plain_with_id v c.last o r plain; access = access_with_id v c.last o r (asks_access o may); named = named; home = at_home };
+      reserved = reserved;
+      unmade = λ id is. let q = named_at id is in ap (λ i. is_made_by_log by i d.log) (sym q.2) ∙ q.1.unmade_later;
       once = once;
     }

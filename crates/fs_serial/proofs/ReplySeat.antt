@@ -28,8 +28,9 @@ use Rattle.fs_serial.specs.Settled.{Settled, settled_now}
 use Rattle.fs_serial.specs.Sight.{Sight}
 use Rattle.fs_serial.specs.Steps.{IsReplied}
 use Rattle.fs_serial.proofs.Carried.{GoesOnAs, exchange_still}
+use Rattle.fs_serial.proofs.Claims.{AreUnborn, NoneAnew}
 use Rattle.fs_serial.proofs.Gone.{MakeAnew}
-use Rattle.fs_serial.proofs.Reply.{with_last, reply_holds, reply_fits}
+use Rattle.fs_serial.proofs.Reply.{with_last, reply_anew, reply_holds, reply_fits}
 use Rattle.fs_serial.proofs.ReplyAll.{replied_client, replied_settled}
 use Rattle.fs_serial.proofs.ReplyNext.{next}
 use Rattle.fs_serial.proofs.ReplyPins.{one_keeps, pair_in, pin_pair, pin_leaving, reply_settled}
@@ -50,7 +51,7 @@ pinned_after (u ∷ us) ks k i =
     let q = pinned_after us (pinned_at u.no ks) (with_pin u.no k) (In-mapped (with_pin u.no) k ks i) in
     (q.0, q.1, q.2 ∙ one_keeps number_of pinned pinned_number u.no k, q.3 ∙ one_keeps is_leaving pinned pin_leaving u.no k)
 
-module _ (skew greatest : ℕ) (s : Sight) (by : Session) (replied : List Item) (c : Client) (up : List ClientMsg) (down : List Answer) (o : Op) (r : Reply) (h : Seat skew greatest s by replied c up down) (anew : MakeAnew by s.journal (seen_at by c down).log) (a : IsReplied c down o r) where
+module _ (skew greatest : ℕ) (s : Sight) (by : Session) (replied : List Item) (c : Client) (up : List ClientMsg) (down : List Answer) (o : Op) (r : Reply) (h : Seat skew greatest s by replied c up down) (anew : MakeAnew by s.journal (seen_at by c down).log) (unborn : AreUnborn s.records (seen_at by c down)) (a : IsReplied c down o r) where
   abbrev e : Entry
   e = entry_of o r c
 
@@ -76,11 +77,15 @@ module _ (skew greatest : ℕ) (s : Sight) (by : Session) (replied : List Item) 
   seen : seen_at by then down ≡ with_last e d
   seen = replied_settled by c down o r a h.client
 
+  -- what it names was reserved by a lease
+  pub reply_reserves : NoneAnew d (seen_at by then down)
+  reply_reserves = subst (NoneAnew d) (sym seen) (reply_anew by d e (next by c down o r a.reply h.client a.unled a.plain a.asked h.fits.fresh h.fits.entries))
+
   pub seat_reply : Seat skew greatest s by (replied ++ item_of by e ∷ []) then up down
   seat_reply =
       let n = next by c down o r a.reply h.client a.unled a.plain a.asked h.fits.fresh h.fits.entries in
       record {
-        holds = subst (SessionHolds skew greatest s by (replied ++ item_of by e ∷ [])) (sym seen) (reply_holds skew greatest s by replied d e n h.holds h.fits anew);
+        holds = subst (SessionHolds skew greatest s by (replied ++ item_of by e ∷ [])) (sym seen) (reply_holds skew greatest s by replied d e n h.holds h.fits anew unborn);
         fits = subst (SessionFits skew greatest s by) (sym seen) (reply_fits skew greatest s by replied d e n h.holds h.fits);
         client = replied_client by c down o r a h.client;
         exchange = subst (ExchangeFits skew greatest s.given s.rows by then up down (settled_now then)) (sym seen)

@@ -19,7 +19,7 @@ use Rattle.fs_record.specs.ValueOf.{value_of}
 use Rattle.fs_serial.specs.Gone.{IsOfGone}
 use Rattle.fs_serial.specs.Leases.{IsBacked, IsRowOf, IsFresh}
 use Rattle.fs_serial.specs.Parts.{SessionHolds, SessionFits}
-use Rattle.fs_serial.specs.Pending.{HasLease, UsesHeld, IsEntry, NamesItsFile, HasReserved}
+use Rattle.fs_serial.specs.Pending.{HasLease, UsesHeld}
 use Rattle.fs_serial.specs.Settled.{Lease, Settled}
 use Rattle.fs_serial.specs.Sight.{Sight, IsGiven}
 use Rattle.fs_serial.proofs.LedKept.{each_led, one_entry}
@@ -84,17 +84,6 @@ module _ (skew greatest : ℕ) (s : Sight) (by : Session) (replied : List Item) 
   pub held : (log : List Entry) → UsesHeld d.leases log → UsesHeld (map (retimed n until) d.leases) log
   held log h x i u j = one_held u (h x i u j)
 
-  named : (uses : List Use) (o : Op) (r : Reply) → NamesItsFile d.leases uses o r → NamesItsFile (map (retimed n until) d.leases) uses o r
-  named uses (op.Create dir name kind (Some id)) reply.Made p =
-      let q : HasReserved d.leases uses dir id = p.reserved in
-      record {
-        reserved = record { lease = retimed n until q.lease; held = In-mapped (retimed n until) q.lease d.leases q.held; below = below_same q.lease ∙ q.below; field = field_same q.lease ∙ q.field; used = q.used; among = q.among; number = q.number ∙ sym (no_same q.lease) };
-        child = p.child;
-      }
-  named uses (op.Create dir name kind None) reply.Made p = p
-  named uses (op.Create dir name kind (Some id)) r p = p
-  named uses o r p = p
-
   fresh_same : (dir : List ℕ) (l : Lease) → IsFresh dir l → IsFresh dir (retimed n until l)
   fresh_same dir l f = record { number = f.number; field = field_same l ∙ f.field; kind = kind_same l ∙ f.kind; base = base_same l ∙ f.base }
 
@@ -110,7 +99,7 @@ module _ (skew greatest : ℕ) (s : Sight) (by : Session) (replied : List Item) 
     fresh = each_image (retimed n until) (λ l. (dir : List ℕ) → l.below ≡ Some dir → IsFresh dir l) d.leases (λ l i dir b. fresh_same dir l (f.fresh l i dir (sym (below_same l) ∙ b)));
     held = held d.log f.held;
     backed = f.backed;
-    entries = λ x i. let q : IsEntry d.leases x = f.entries x i in record { plain = q.plain; access = q.access; named = named x.uses x.op x.reply q.named; home = q.home };
+    entries = f.entries;
     once = f.once;
     refused = f.refused;
     led = each_led skew greatest greatest s s by d (with_until n until d) d.led (λ led is h. record {

@@ -43,13 +43,14 @@ use Rattle.fs_server.specs.declared.event.ServerEvent.TheVariants.{FromClient, F
 use Rattle.fs_server.specs.declared.state.Server.{Server}
 use Rattle.fs_serial.specs.Cluster.{Cluster, Flying, after_step, parcels_of, without_arrived}
 use Rattle.fs_serial.specs.Exchange.{pairs_in}
-use Rattle.fs_serial.specs.Fresh.{IsAtOrBelow, IsMade}
+use Rattle.fs_serial.specs.Fresh.{ByLog, IsMade}
 use Rattle.fs_serial.specs.Joined.{records_of_all, rows_of_all}
 use Rattle.fs_serial.specs.Pending.{IsEntry, NamesItsFile, named_by}
 use Rattle.fs_serial.specs.Places.{IsHome, PlacesHold}
 use Rattle.fs_serial.specs.Seen.{ends_of, given_at, with_all, world_of}
 use Rattle.fs_serial.specs.Settled.{Lease, Settled}
 use Rattle.fs_serial.specs.World.{IsThere, WorldHolds, settled_at}
+use Rattle.fs_serial.proofs.Children.{the_child}
 use Rattle.fs_serial.proofs.Facts.{below_itself}
 use Rattle.fs_serial.proofs.PutRows.{In-puts_here}
 use Rattle.fs_serial.proofs.PutRecords.{AreOn}
@@ -177,24 +178,22 @@ module _ (k : ℕ) (c : Cluster) (s : Server) (places : PlacesHold c) (b : IsBet
 
     -- ## Entries
 
-    named_here : (by : Session) (uses : List Use) (o : Op) (r : Reply) (id : List ℕ) → NamesItsFile (clients by).leases uses o r → named_by o ≡ Some id → is_mine s (home_of o) ≡ true → is_mine s id ≡ true
-    named_here by uses (op.Create dir name kind (Some new)) reply.Made id h e mine =
+    named_here : (by : Session) (uses : List Use) (o : Op) (r : Reply) (id : List ℕ) → NamesItsFile uses o r → (IsMade c.journal id → ⊥) → named_by o ≡ Some id → is_mine s (home_of o) ≡ true → is_mine s id ≡ true
+    named_here by uses (op.Create dir name kind (Some new)) reply.Made id h free e mine =
         let same : new ≡ id = cc in
-        let l : Lease = h.reserved.lease in
-        let fresh = (w.all.fitting by).fresh l h.reserved.held dir h.reserved.below in
-        let is : new ≡ child dir fresh.number = ap file_of (sym h.reserved.field ∙ fresh.field) in
-        ap (is_mine s) (sym same ∙ is)
-        ∙ child_here dir fresh.number (λ made. w.all.reserved.unmade by l.no new (child dir fresh.number)
-        (record { lease = l; held = h.reserved.held; number = refl; fresh = ap is_some h.reserved.below; file = ap file_of h.reserved.field })
-        made
-        (subst (λ id. IsAtOrBelow new id) is (below_itself new))) mine
-    named_here by uses (op.Create dir name kind (Some new)) r id h e mine = absurd h
-    named_here by uses o r id h e mine = absurd (cc)
+        let k : (k : ℕ) × (new ≡ child dir k) = the_child dir new h.child in
+        ap (is_mine s) (sym same ∙ k.1) ∙ child_here dir k.0 (λ made. free (subst (IsMade c.journal) (sym k.1 ∙ same) made)) mine
+    named_here by uses (op.Create dir name kind (Some new)) r id h free e mine = absurd h
+    named_here by uses o r id h free e mine = absurd (cc)
 
-    used_here : (by : Session) (e : Entry) → IsEntry (clients by).leases e → is_mine s (home_of e.op) ≡ true → (u : Use) → In u e.uses → is_mine s (file_of u.field) ≡ true
-    used_here by e h mine u i = elim (h.home u i) as (λ _. is_mine s (file_of u.field) ≡ true) [
+    -- what an entry names was not made
+    unmade_here : (by : Session) (e : Entry) → In e (clients by).log → (id : List ℕ) → named_by e.op ≡ Some id → IsMade c.journal id → ⊥
+    unmade_here by e i id is made = w.all.reserved.unmade by ByLog id id (record { entry = e; among = i; named = is }) made (below_itself id)
+
+    used_here : (by : Session) (e : Entry) → In e (clients by).log → IsEntry e → is_mine s (home_of e.op) ≡ true → (u : Use) → In u e.uses → is_mine s (file_of u.field) ≡ true
+    used_here by e i h mine u j = elim (h.home u j) as (λ _. is_mine s (file_of u.field) ≡ true) [
       | inl q ↦ ap (is_mine s) q ∙ mine
-      | inr q ↦ named_here by e.uses e.op e.reply (file_of u.field) h.named q mine
+      | inr q ↦ named_here by e.uses e.op e.reply (file_of u.field) h.named (unmade_here by e i (file_of u.field) q) q mine
     ]
 
     changed_here : (by : Session) (o : Op) (r : Reply) → ((id : List ℕ) → named_by o ≡ Some id → is_mine s id ≡ true) → is_mine s (home_of o) ≡ true → AreOn (is_mine s) (effects_of by o r)
@@ -213,10 +212,11 @@ module _ (k : ℕ) (c : Cluster) (s : Server) (places : PlacesHold c) (b : IsBet
     entries_at_home : (by : Session) (entries : List Entry) → In (Ship entries) (ends_of (c.lines by)).up → AreEntriesHere s by entries
     entries_at_home by entries i e j mine =
         let front = (w.exchanges by).front entries i in
-        let is : IsEntry (clients by).leases e = (w.all.fitting by).entries e (subst (In e) (sym front.log) (In-front e entries front.rest j)) in
+        let there : In e (clients by).log = subst (In e) (sym front.log) (In-front e entries front.rest j) in
+        let is : IsEntry e = (w.all.fitting by).entries e there in
         record {
-          used = used_here by e is mine;
-          changed = changed_here by e.op e.reply (λ id q. named_here by e.uses e.op e.reply id is.named q mine) mine;
+          used = used_here by e there is mine;
+          changed = changed_here by e.op e.reply (λ id q. named_here by e.uses e.op e.reply id is.named (unmade_here by e there id q) q mine) mine;
         }
 
 -- ## Each kind

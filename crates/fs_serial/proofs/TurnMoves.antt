@@ -23,8 +23,9 @@ use Rattle.fs_view.specs.declared.kept.Kept.{Kept}
 use Rattle.fs_view.specs.Kept.{file_in}
 use Rattle.fs_serial.specs.Sight.{Sight}
 use Rattle.fs_serial.specs.World.{message_in, pushed}
-use Rattle.fs_serial.proofs.ClientSteps.{IsMoved, reserves_in}
-use Rattle.fs_serial.proofs.Releases.{seat_releases, releases_fewer}
+use Rattle.fs_serial.proofs.Claims.{none_anew}
+use Rattle.fs_serial.proofs.ClientSteps.{IsMoved}
+use Rattle.fs_serial.proofs.Releases.{seat_releases, releases_anew}
 use Rattle.fs_serial.proofs.Seats.{Seat, seen_at}
 use Rattle.fs_serial.proofs.Sends.{seat_ships, seat_renews}
 
@@ -39,7 +40,7 @@ module _ (skew greatest : ℕ) (s : Sight) (by : Session) (replied : List Item) 
   Moves p = IsMoved skew greatest s s by replied c down None (record { client = changed p.ready.change c; up = pushed (message_in p.out.send) up; down = down })
 
   stays : Moves (idle c)
-  stays = record { seat = h; reserves = λ n i r. r }
+  stays = record { seat = h; reserves = none_anew (seen_at by c down) }
 
   front : (to : ℕ) (es : List Entry) → HasFront (entries_at c to es) es
   front to [] = record { rest = []; is = refl }
@@ -53,13 +54,13 @@ module _ (skew greatest : ℕ) (s : Sight) (by : Session) (replied : List Item) 
   hands_in idle going (e ∷ es) log =
       let to = hinted c (home_of e.op) in
       let q = front to (e ∷ es) in
-      record { seat = seat_ships skew greatest s by replied c up down to (entries_at c to (e ∷ es)) q.rest (log ∙ q.is) idle going h; reserves = λ n i r. r }
+      record { seat = seat_ships skew greatest s by replied c up down to (entries_at c to (e ∷ es)) q.rest (log ∙ q.is) idle going h; reserves = none_anew (seen_at by c down) }
 
   keeps : c.exchange ≡ None → (ks : List Kept) → ((k : Kept) → In k ks → In k c.view.leases) → Moves (renew_some ks c)
   keeps idle [] among = stays
   keeps idle (k ∷ ks) among =
       let to = hinted c (file_in k.standing) in
-      record { seat = seat_renews skew greatest s by replied c up down to (kept_at c to (k ∷ ks)) (λ x i. among x (In-filter (λ (z : Kept). hinted c (file_in z.standing) == to) x (k ∷ ks) i)) idle h; reserves = λ n i r. r }
+      record { seat = seat_renews skew greatest s by replied c up down to (kept_at c to (k ∷ ks)) (λ x i. among x (In-filter (λ (z : Kept). hinted c (file_in z.standing) == to) x (k ∷ ks) i)) idle h; reserves = none_anew (seen_at by c down) }
 
   ending_now : c.exchange ≡ None → Moves (renew_some (ending (c.last + c.term / 2) c.view) c)
   ending_now idle = keeps idle (ending (c.last + c.term / 2) c.view) (λ k i. In-filter (λ (x : Kept). not x.recalled && ends_by (c.last + c.term / 2) x.standing) k c.view.leases i)
@@ -71,7 +72,7 @@ module _ (skew greatest : ℕ) (s : Sight) (by : Session) (replied : List Item) 
       let these : (x : Kept) → In x (kept_at c to (k ∷ ks)) → In x (returned c.view) = λ x i. subst (In x) (sym e) (In-filter (λ (z : Kept). hinted c (file_in z.standing) == to) x (k ∷ ks) i) in
       record {
         seat = seat_releases skew greatest s by replied c up down to (kept_at c to (k ∷ ks)) these idle h;
-        reserves = reserves_in (seen_at by c down).leases _ (releases_fewer skew greatest s by replied c up down to (kept_at c to (k ∷ ks)) these idle h);
+        reserves = releases_anew skew greatest s by replied c up down to (kept_at c to (k ∷ ks)) these idle h;
       }
 
   goes_on : c.exchange ≡ None → (b : Bool) → (not (is_empty c.log) && not (is_some c.over)) ≡ b → Moves (cond b (ship_some c.log c) (release_some (returned c.view) c))

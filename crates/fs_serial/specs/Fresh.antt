@@ -13,9 +13,11 @@ use Rattle.fs_model.specs.declared.op.Op.{Op}
 use Rattle.fs_model.specs.declared.op.Op.TheVariants as op
 use Rattle.fs_model.specs.declared.reply.Reply.{Reply}
 use Rattle.fs_model.specs.declared.reply.Reply.TheVariants as reply
+use Rattle.fs_msg.specs.declared.entry.Entry.{Entry}
 use Rattle.fs_msg.specs.declared.item.Item.{Item}
 use Rattle.fs_record.specs.Fresh.{is_directory}
 use Rattle.fs_record.specs.Records.{RecordMap, node_of, next_of}
+use Rattle.fs_serial.specs.Pending.{named_by}
 use Rattle.fs_serial.specs.Settled.{Lease, Settled}
 
 -- ## Made
@@ -55,25 +57,50 @@ NodesMade m journal = (id : List ℕ) (kind : Kind) → kind_of (node_of (get m 
 abbrev pub IsAtOrBelow : List ℕ → List ℕ → Type 0
 IsAtOrBelow top id = (rest : List ℕ) × (id ≡ top ++ rest)
 
--- a lease of the session with that number reserves the identifier
-abbrev pub Reserved : Type 1
-Reserved = Session → LeaseNo → List ℕ → Type 0
+-- what reserves an identifier: a lease, by its number, or the log
+pub data Claim : Type 0 where
+  ByLease : LeaseNo → Claim
+  ByLog : Claim
 
-pub record Reserves (leases : List Lease) (wanted : LeaseNo) (id : List ℕ) : Type 0 where
+-- a lease with that number is on the file, and was given for it until it is known to be made
+pub record HoldsFresh (leases : List Lease) (wanted : LeaseNo) (id : List ℕ) : Type 0 where
   pub lease : Lease
   pub held : In lease leases
   pub number : lease.no ≡ wanted
   pub fresh : is_some lease.below ≡ true
   pub file : file_of lease.field ≡ id
 
--- the identifiers that leases of clients reserve
+-- an entry of the log names it
+pub record NamesFresh (log : List Entry) (id : List ℕ) : Type 0 where
+  pub entry : Entry
+  pub among : In entry log
+  pub named : named_by entry.op ≡ Some id
+
+abbrev pub IsReserved : List Lease → List Entry → Claim → List ℕ → Type 0
+IsReserved leases log (ByLease number) id = HoldsFresh leases number id
+IsReserved leases log ByLog id = NamesFresh log id
+
+abbrev pub Reserves : Settled → Claim → List ℕ → Type 0
+Reserves d claim id = IsReserved d.leases d.log claim id
+
+-- what each session reserves, and by what
+abbrev pub Reserved : Type 1
+Reserved = Session → Claim → List ℕ → Type 0
+
+-- the identifiers that leases of clients, and entries of their logs, reserve
 abbrev pub reserved_by : (Session → Settled) → Reserved
-reserved_by clients by number id = Reserves (clients by).leases number id
+reserved_by clients by claim id = Reserves (clients by) claim id
+
+-- of two leases it is one and the same
+abbrev pub AreOne : Claim → Claim → Type 0
+AreOne (ByLease n) (ByLease k) = n ≡ k
+AreOne (ByLease n) ByLog = Unit {0}
+AreOne ByLog k = Unit {0}
 
 -- fresh identifiers are reserved once, and nothing was made at one or below it; nor was anything made, or is anything
 -- reserved, at or below an identifier that a directory has not given yet
 pub record FreshReserved (reserved : Reserved) (m : RecordMap) (journal : List Item) : Type 0 where
-  pub once : (x y : Session) (n k : LeaseNo) (i j : List ℕ) → reserved x n i → reserved y k j → IsAtOrBelow i j → (x ≡ y) × (n ≡ k)
-  pub unmade : (x : Session) (n : LeaseNo) (i j : List ℕ) → reserved x n i → IsMade journal j → IsAtOrBelow i j → ⊥
+  pub once : (x y : Session) (n k : Claim) (i j : List ℕ) → reserved x n i → reserved y k j → IsAtOrBelow i j → (x ≡ y) × (i ≡ j) × AreOne n k
+  pub unmade : (x : Session) (n : Claim) (i j : List ℕ) → reserved x n i → IsMade journal j → IsAtOrBelow i j → ⊥
   pub made_before : (dir : List ℕ) (k : ℕ) (j : List ℕ) → is_directory m dir ≡ true → next_of (get m dir) ≤ k → IsMade journal j → IsAtOrBelow (child dir k) j → ⊥
-  pub reserved_before : (dir : List ℕ) (k : ℕ) (x : Session) (n : LeaseNo) (j : List ℕ) → is_directory m dir ≡ true → next_of (get m dir) ≤ k → reserved x n j → IsAtOrBelow (child dir k) j → ⊥
+  pub reserved_before : (dir : List ℕ) (k : ℕ) (x : Session) (n : Claim) (j : List ℕ) → is_directory m dir ≡ true → next_of (get m dir) ≤ k → reserved x n j → IsAtOrBelow (child dir k) j → ⊥

@@ -49,7 +49,7 @@ pub record SessionFits (skew greatest : ℕ) (s : Sight) (by : Session) (d : Set
   pub fresh : FreshLeases d.leases
   pub held : UsesHeld d.leases d.log
   pub backed : UsesBacked skew greatest s.rows d.log
-  pub entries : AreEntries d.leases d.log
+  pub entries : AreEntries d.log
   pub once : NamedOnce d.log
   pub refused : RefusedGone s.rows d.log d.over
   pub led : LedFits skew greatest s by d d.led

@@ -8,6 +8,7 @@ use Rattle.fs_field.specs.declared.field.Field.{Field}
 use Rattle.fs_field.specs.Field.{file_of}
 use Rattle.fs_field.specs.declared.field.Field.TheVariants.{Life}
 use Rattle.fs_field.specs.declared.lease_kind.LeaseKind.{LeaseKind}
+use Rattle.fs_field.specs.declared.lease_kind.LeaseKind.TheVariants.{Exclusive}
 use Rattle.fs_field.specs.declared.row.Row.{Row}
 use Rattle.fs_field.specs.declared.used.Use.{Use}
 use Rattle.fs_field.specs.declared.value.Value.{Value}
@@ -85,26 +86,17 @@ UsesBacked skew greatest rows log = (e : Entry) → In e log → (u : Use) → I
 
 -- ## Entries
 
--- a lease that the entry uses was given for a new file with that identifier in the directory
-pub record HasReserved (leases : List Lease) (uses : List Use) (dir id : List ℕ) : Type 0 where
-  pub lease : Lease
-  pub held : In lease leases
-  pub below : lease.below ≡ Some dir
-  pub field : lease.field ≡ Life id
-  pub used : Use
-  pub among : In used uses
-  pub number : used.no ≡ lease.no
-
-pub record NamesReserved (leases : List Lease) (uses : List Use) (dir id : List ℕ) : Type 0 where
-  pub reserved : HasReserved leases uses dir id
+-- an exclusive lease on the life of that file is used, and its identifier is one for the directory
+pub record NamesReserved (uses : List Use) (dir id : List ℕ) : Type 0 where
+  pub used : HasUse uses (Life id) Exclusive
   pub child : is_child dir id ≡ true
 
 -- a create is made exactly where it names an identifier, and that is a reserved one
-abbrev pub NamesItsFile : List Lease → List Use → Op → Reply → Type 0
-NamesItsFile leases uses (op.Create dir name kind (Some id)) reply.Made = NamesReserved leases uses dir id
-NamesItsFile leases uses (op.Create dir name kind None) reply.Made = ⊥
-NamesItsFile leases uses (op.Create dir name kind (Some id)) r = ⊥
-NamesItsFile leases uses o r = Unit {0}
+abbrev pub NamesItsFile : List Use → Op → Reply → Type 0
+NamesItsFile uses (op.Create dir name kind (Some id)) reply.Made = NamesReserved uses dir id
+NamesItsFile uses (op.Create dir name kind None) reply.Made = ⊥
+NamesItsFile uses (op.Create dir name kind (Some id)) r = ⊥
+NamesItsFile uses o r = Unit {0}
 
 -- the identifier that a create names
 abbrev pub named_by : Op → Option (List ℕ)
@@ -116,14 +108,14 @@ abbrev pub UsesAtHome : Op → List Use → Type 0
 UsesAtHome o uses = (u : Use) → In u uses → (file_of u.field ≡ home_of o) ⊎ (named_by o ≡ Some (file_of u.field))
 
 -- what may stand in a log
-pub record IsEntry (leases : List Lease) (e : Entry) : Type 0 where
+pub record IsEntry (e : Entry) : Type 0 where
   pub plain : tells_its_effects e.op ≡ true
   pub access : AsksAccess e.op
-  pub named : NamesItsFile leases e.uses e.op e.reply
+  pub named : NamesItsFile e.uses e.op e.reply
   pub home : UsesAtHome e.op e.uses
 
-abbrev pub AreEntries : List Lease → List Entry → Type 0
-AreEntries leases log = (e : Entry) → In e log → IsEntry leases e
+abbrev pub AreEntries : List Entry → Type 0
+AreEntries log = (e : Entry) → In e log → IsEntry e
 
 -- no two entries name one identifier
 abbrev pub NamedOnce : List Entry → Type 0

@@ -11,16 +11,19 @@ use Rattle.fs_field.specs.declared.asked.Need.{Need}
 use Rattle.fs_field.specs.declared.asked.Need.TheVariants as need
 use Rattle.fs_field.specs.declared.effect.Effect.{Effect}
 use Rattle.fs_field.specs.declared.field.Field.{Field}
+use Rattle.fs_field.specs.declared.field.Field.TheVariants.{Life}
 use Rattle.fs_field.specs.declared.lease_kind.LeaseKind.{LeaseKind}
+use Rattle.fs_field.specs.declared.lease_kind.LeaseKind.TheVariants.{Exclusive}
 use Rattle.fs_field.specs.declared.used.Use.{Use}
 use Rattle.fs_field.specs.Table.{is_parent, same_no}
 use Rattle.fs_field.proofs.SameNo.{same_no_is, same_no_symm}
 use Rattle.fs_view.specs.declared.kept.Kept.{Kept}
 use Rattle.fs_view.specs.declared.kept.Standing.{Standing}
 use Rattle.fs_view.specs.declared.kept.Standing.TheVariants.{Held, Pinned, Leaving}
-use Rattle.fs_view.specs.Kept.{number_of, has_number, has_ended, is_better, is_unused_in, offers, pinned, serves, takes_pin, use_in, is_live}
+use Rattle.fs_view.specs.Kept.{number_of, has_number, has_ended, is_better, pinned, serves, takes_pin, use_in, is_live}
 use Rattle.fs_view.specs.Pins.{takes_after, times_in, can_pin_after}
-use Rattle.fs_view.specs.View.{View, are_distinct, can_pin_all, lapsed_at, offered, pinned_all, pinned_at, stands, taken, taken_from, item_use}
+use Rattle.fs_view.specs.View.{View, are_distinct, can_pin_all, lapsed_at, pinned_all, pinned_at, stands, taken, taken_fresh, taken_from, item_use}
+use Rattle.fs_view.proofs.Offering.{fresh_taken}
 use Rattle.fs_view.proofs.Pins.{with_pin, find_pinned, stands_there, found_in, from_none, used_by}
 
 -- ## A pin is one entry more
@@ -86,11 +89,6 @@ served_lives now field kind (Held l) h = grind (arith, nat_tests)
 served_lives now field kind (Pinned u) h = refl
 served_lives now field kind (Leaving l) h = refl
 
-offered_lives : (now : ℕ) (dir : List ℕ) (log : List (List Effect)) (s : Standing) → is_unused_in now log s ≡ true → not (has_ended now s) ≡ true
-offered_lives now dir log (Held l) h = grind (arith, nat_tests)
-offered_lives now dir log (Pinned u) h = refl
-offered_lives now dir log (Leaving l) h = refl
-
 taken_serves : (now : ℕ) (field : Field) (kind : LeaseKind) (best : Option Kept) (ks : List Kept) (k : Kept) → taken_from now field kind best ks ≡ Some k → (best ≡ Some k) ⊎ (serves now field kind k.standing ≡ true)
 taken_serves now field kind best [] k h = inl h
 taken_serves now field kind best (j ∷ ks) k h =
@@ -113,10 +111,13 @@ live_from now ks None u within d e = absurd (cc)
 live_from now ks (Some k) u within d e =
     ap (λ (n : LeaseNo). stands (lives_at now) n ks) (used_by k.standing u e).1 ∙ stands_there (lives_at now) k ks (within k refl).0 d (within k refl).1
 
+taken_lives : (v : View) (now : ℕ) (field : Field) (kind : LeaseKind) (k : Kept) → taken v now field kind ≡ Some k → In k v.leases × (lives_at now k.standing ≡ true)
+unfolding taken
+taken_lives v now field kind k h = (from_none now field kind v.leases k h, served_lives now field kind k.standing (none_serves now field kind v.leases k h))
+
 item_lives : (v : View) (now : ℕ) (n : Need) (u : Use) → are_distinct v.leases ≡ true → item_use v now n ≡ Some u → stands (lives_at now) u.no v.leases ≡ true
-unfolding taken offered
-item_lives v now (need.Lease field kind) u d e = live_from now v.leases (taken v now field kind) u (λ k h. (from_none now field kind v.leases k h, served_lives now field kind k.standing (none_serves now field kind v.leases k h))) d e
-item_lives v now (need.Fresh dir) u d e = live_from now v.leases (offered v now dir) u (λ k h. (found_in (offers now dir v.pending) v.leases k h, offered_lives now dir v.pending k.standing (both (is_parent dir k.below) (is_unused_in now v.pending k.standing) (found_has (offers now dir v.pending) v.leases k h)).1)) d e
+item_lives v now (need.Lease field kind) u d e = live_from now v.leases (taken v now field kind) u (λ k h. taken_lives v now field kind k h) d e
+item_lives v now (need.Fresh dir) u d e = live_from now v.leases (taken_fresh v now dir) u (λ k h. let q = fresh_taken v now dir k h in taken_lives v now (Life q.0) Exclusive k q.1) d e
 
 abbrev AreLive : ℕ → List Use → List Kept → Type 0
 AreLive now uses ks = list_all (λ (u : Use). stands (lives_at now) u.no ks) uses ≡ true

@@ -9,14 +9,16 @@ use Rattle.fs_field.specs.declared.asked.Need.{Need}
 use Rattle.fs_field.specs.declared.asked.Need.TheVariants as need
 use Rattle.fs_field.specs.declared.effect.Effect.{Effect}
 use Rattle.fs_field.specs.declared.field.Field.{Field}
+use Rattle.fs_field.specs.declared.field.Field.TheVariants.{Life}
 use Rattle.fs_field.specs.declared.lease_kind.LeaseKind.{LeaseKind}
+use Rattle.fs_field.specs.declared.lease_kind.LeaseKind.TheVariants.{Exclusive}
 use Rattle.fs_field.specs.declared.used.Use.{Use}
 use Rattle.fs_model.specs.declared.op.Op.{Op}
 use Rattle.fs_view.specs.declared.kept.Kept.{Kept}
 use Rattle.fs_view.specs.declared.kept.Standing.{Standing}
 use Rattle.fs_view.specs.declared.kept.Standing.TheVariants.{Held, Pinned, Leaving}
-use Rattle.fs_view.specs.Kept.{has_ended, is_better, is_live, is_unused_in, offers, serves, use_in, file_in}
-use Rattle.fs_view.specs.View.{View, lapsed_at, taken, taken_from, offered, known_by, given_by, fresh, item_use, uses_in, walk_in, value_after_log}
+use Rattle.fs_view.specs.Kept.{has_ended, is_better, is_live, is_pending, is_unused, offers, serves, use_in, file_in}
+use Rattle.fs_view.specs.View.{View, lapsed_at, taken, taken_fresh, taken_from, offered, known_by, given_by, fresh, item_use, uses_in, walk_in, value_after_log}
 use Rattle.fs_view.specs.Walk.{Known, Given, is_there, walk}
 
 ended_serves : (now : ℕ) (field : Field) (kind : LeaseKind) (s : Standing) → has_ended now s ≡ true → serves now field kind s ≡ false
@@ -24,10 +26,8 @@ ended_serves now field kind (Held l) h = grind (arith, nat_tests)
 ended_serves now field kind (Pinned u) h = absurd (cc)
 ended_serves now field kind (Leaving l) h = absurd (cc)
 
-ended_unused : (now : ℕ) (log : List (List Effect)) (s : Standing) → has_ended now s ≡ true → is_unused_in now log s ≡ false
-ended_unused now log (Held l) h = grind (arith, nat_tests)
-ended_unused now log (Pinned u) h = absurd (cc)
-ended_unused now log (Leaving l) h = absurd (cc)
+ended_unused : (now : ℕ) (log : List (List Effect)) (s : Standing) → has_ended now s ≡ true → is_unused now log s ≡ false
+ended_unused now log s h = ap (λ b. b && not (is_pending (file_in s) log)) (ended_serves now (Life (file_in s)) Exclusive s h)
 
 taken_still : (now : ℕ) (field : Field) (kind : LeaseKind) (best : Option Kept) (ks : List Kept) → taken_from now field kind best (filter (is_live now) ks) ≡ taken_from now field kind best ks
 taken_still now field kind best [] = refl
@@ -41,7 +41,7 @@ found_still : (now : ℕ) (dir : List ℕ) (log : List (List Effect)) (ks : List
 found_still now dir log [] = refl
 found_still now dir log (k ∷ ks) =
     elim (has_ended now k.standing) as (λ b. has_ended now k.standing ≡ b → find (offers now dir log) (cond (not b) (k ∷ filter (is_live now) ks) (filter (is_live now) ks)) ≡ cond (offers now dir log k) (Some k) (find (offers now dir log) ks)) [
-      | true ↦ λ e. found_still now dir log ks ∙ sym (ap (λ b. cond b (Some k) (find (offers now dir log) ks)) (and_right _ (is_unused_in now log k.standing) (ended_unused now log k.standing e)))
+      | true ↦ λ e. found_still now dir log ks ∙ sym (ap (λ b. cond b (Some k) (find (offers now dir log) ks)) (and_right _ (is_unused now log k.standing) (ended_unused now log k.standing e)))
       | false ↦ λ e. ap (cond (offers now dir log k) (Some k)) (found_still now dir log ks)
     ] refl
 
@@ -68,12 +68,17 @@ given_passes now v = λ i dir. is_some (offered_passes now v dir i)
 pub fresh_passes : (now : ℕ) (v : View) (dir : List ℕ) → fresh (lapsed_at now v) now dir ≡ fresh v now dir
 fresh_passes now v dir = ap (option_map (λ (k : Kept). file_in k.standing)) (offered_passes now v dir)
 
+taken_fresh_passes : (now : ℕ) (v : View) (dir : List ℕ) → taken_fresh (lapsed_at now v) now dir ≡ taken_fresh v now dir
+taken_fresh_passes now v dir =
+    ap (option_and_then (λ (id : List ℕ). taken (lapsed_at now v) now (Life id) Exclusive)) (fresh_passes now v dir)
+    ∙ (λ i. option_and_then (λ (id : List ℕ). taken_passes now v (Life id) Exclusive i) (fresh v now dir))
+
 pub walk_passes : (now : ℕ) (v : View) (o : Op) → walk_in (lapsed_at now v) now o ≡ walk_in v now o
 walk_passes now v o = ap (λ (known : Known). walk known (given_by (lapsed_at now v) now) o) (known_passes now v) ∙ ap (λ (given : Given). walk (known_by v now) given o) (given_passes now v)
 
 item_use_passes : (now : ℕ) (v : View) (n : Need) → item_use (lapsed_at now v) now n ≡ item_use v now n
 item_use_passes now v (need.Lease field kind) = ap (option_and_then (λ (k : Kept). use_in k.standing)) (taken_passes now v field kind)
-item_use_passes now v (need.Fresh dir) = ap (option_and_then (λ (k : Kept). use_in k.standing)) (offered_passes now v dir)
+item_use_passes now v (need.Fresh dir) = ap (option_and_then (λ (k : Kept). use_in k.standing)) (taken_fresh_passes now v dir)
 
 pub item_uses_pass : (now : ℕ) (v : View) → item_use (lapsed_at now v) now ≡ item_use v now
 item_uses_pass now v = λ i n. item_use_passes now v n i

@@ -19,6 +19,7 @@ pub mod Counting
 pub mod Order
 pub mod Grants
 pub mod Best
+pub mod Offering
 pub mod Agreeing
 mod LedNeeds
 mod ByField

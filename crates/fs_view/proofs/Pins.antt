@@ -11,7 +11,9 @@ use Rattle.fs_ident.specs.declared.actor.LeaseNo.{LeaseNo}
 use Rattle.fs_field.specs.declared.asked.Need.{Need}
 use Rattle.fs_field.specs.declared.asked.Need.TheVariants as need
 use Rattle.fs_field.specs.declared.field.Field.{Field}
+use Rattle.fs_field.specs.declared.field.Field.TheVariants.{Life}
 use Rattle.fs_field.specs.declared.lease_kind.LeaseKind.{LeaseKind}
+use Rattle.fs_field.specs.declared.lease_kind.LeaseKind.TheVariants.{Exclusive}
 use Rattle.fs_field.specs.declared.used.Use.{Use}
 use Rattle.fs_field.specs.Table.{same_no}
 use Rattle.fs_field.proofs.SameNo.{same_no_symm, same_no_self}
@@ -19,10 +21,11 @@ use Rattle.fs_model.specs.declared.op.Op.{Op}
 use Rattle.fs_view.specs.declared.kept.Kept.{Kept}
 use Rattle.fs_view.specs.declared.kept.Standing.{Standing}
 use Rattle.fs_view.specs.declared.kept.Standing.TheVariants.{Held, Pinned, Leaving}
-use Rattle.fs_view.specs.Kept.{number_of, has_number, entries_of, pinned, takes_pin, use_of, use_in, serves, is_better, offers}
-use Rattle.fs_view.specs.View.{View, are_distinct, stands, is_in_hand, pinned_at, can_pin_all, taken, taken_from, offered, item_use, uses_in, walk_in}
+use Rattle.fs_view.specs.Kept.{number_of, has_number, entries_of, pinned, takes_pin, use_of, use_in, serves, is_better}
+use Rattle.fs_view.specs.View.{View, are_distinct, stands, is_in_hand, pinned_at, can_pin_all, taken, taken_fresh, taken_from, item_use, uses_in, walk_in}
 use Rattle.fs_view.specs.Laws.{have_room}
 use Rattle.fs_view.proofs.Changed.{pinned_number}
+use Rattle.fs_view.proofs.Offering.{fresh_taken}
 
 -- ## A pin changes no number, and takes no lease out of hand
 
@@ -170,10 +173,13 @@ hand_from ks (Some k) u within d e =
 pub from_none : (now : ℕ) (field : Field) (kind : LeaseKind) (ks : List Kept) (k : Kept) → taken_from now field kind None ks ≡ Some k → In k ks
 from_none now field kind ks k h = elim (taken_in now field kind None ks k h) [ inl e ↦ absurd (cc) | inr r ↦ r ]
 
+taken_there : (v : View) (now : ℕ) (field : Field) (kind : LeaseKind) (k : Kept) → taken v now field kind ≡ Some k → In k v.leases
+unfolding taken
+taken_there v now field kind k h = from_none now field kind v.leases k h
+
 item_in_hand : (v : View) (now : ℕ) (n : Need) (u : Use) → are_distinct v.leases ≡ true → item_use v now n ≡ Some u → stands is_in_hand u.no v.leases ≡ true
-unfolding taken offered
-item_in_hand v now (need.Lease field kind) u d e = hand_from v.leases (taken v now field kind) u (λ k h. from_none now field kind v.leases k h) d e
-item_in_hand v now (need.Fresh dir) u d e = hand_from v.leases (offered v now dir) u (λ k h. found_in (offers now dir v.pending) v.leases k h) d e
+item_in_hand v now (need.Lease field kind) u d e = hand_from v.leases (taken v now field kind) u (λ k h. taken_there v now field kind k h) d e
+item_in_hand v now (need.Fresh dir) u d e = hand_from v.leases (taken_fresh v now dir) u (λ k h. let q = fresh_taken v now dir k h in taken_there v now (Life q.0) Exclusive k q.1) d e
 
 with_more : (v : View) (o : Option Use) (us : List Use) → ((u : Use) → o ≡ Some u → stands is_in_hand u.no v.leases ≡ true) → AreInHand us v.leases → AreInHand (cons_option o us) v.leases
 with_more v None us one rest = rest

@@ -6,7 +6,9 @@ use Rattle.fs_ident.specs.declared.actor.LeaseNo.{LeaseNo}
 use Rattle.fs_field.specs.declared.effect.Effect.{Effect}
 use Rattle.fs_field.specs.declared.effect.Effect.TheVariants.{NewNode}
 use Rattle.fs_field.specs.declared.field.Field.{Field}
+use Rattle.fs_field.specs.declared.field.Field.TheVariants.{Life}
 use Rattle.fs_field.specs.declared.lease_kind.LeaseKind.{LeaseKind}
+use Rattle.fs_field.specs.declared.lease_kind.LeaseKind.TheVariants.{Exclusive}
 use Rattle.fs_field.specs.declared.used.Use.{Use}
 use Rattle.fs_field.specs.Conflict.{is_exclusive}
 use Rattle.fs_field.specs.Field.{same_field, file_of}
@@ -38,6 +40,9 @@ abbrev pub until_of : Standing → ℕ
 until_of (Held l) = l.until
 until_of (Pinned u) = u.lease.until
 until_of (Leaving l) = 0
+
+abbrev pub field_in : Standing → Option Field
+field_in s = option_map (λ (l : Lease). l.field) (lease_of s)
 
 abbrev pub file_in : Standing → List ℕ
 file_in (Held l) = file_of l.field
@@ -96,18 +101,18 @@ makes file e = false
 abbrev pub is_pending : List ℕ → List (List Effect) → Bool
 is_pending file log = list_any (λ es. list_any (makes file) es) log
 
--- the lease is live at the reading, and on a file that no entry makes
-abbrev pub is_unused : ℕ → List (List Effect) → Lease → Bool
-is_unused now log l = nat_lt now l.until && not (is_pending (file_of l.field) log)
+-- the field is the life of its file
+abbrev pub is_life : Field → Bool
+is_life (Life file) = true
+is_life field = false
 
-abbrev pub is_unused_in : ℕ → List (List Effect) → Standing → Bool
-is_unused_in now log (Held l) = is_unused now log l
-is_unused_in now log (Pinned u) = is_unused now log u.lease
-is_unused_in now log (Leaving l) = false
+-- at the reading it is an exclusive lease on the life of its file, and no entry makes that file
+abbrev pub is_unused : ℕ → List (List Effect) → Standing → Bool
+is_unused now log s = serves now (Life (file_in s)) Exclusive s && not (is_pending (file_in s) log)
 
 -- it is on an unused file whose identifier was given for the directory
 abbrev pub offers : ℕ → List ℕ → List (List Effect) → Kept → Bool
-offers now dir log k = is_parent dir k.below && is_unused_in now log k.standing
+offers now dir log k = is_parent dir k.below && is_unused now log k.standing
 
 -- ## Steps
 

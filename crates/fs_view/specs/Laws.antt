@@ -5,6 +5,7 @@ use Rattle.fs_field.specs.declared.asked.Need.{Need}
 use Rattle.fs_field.specs.declared.asked.Need.TheVariants.{Lease, Fresh}
 use Rattle.fs_ident.specs.In.{In}
 use Rattle.fs_field.specs.declared.field.Field.{Field}
+use Rattle.fs_field.specs.declared.field.Field.TheVariants.{Life}
 use Rattle.fs_field.specs.declared.lease_kind.LeaseKind.{LeaseKind}
 use Rattle.fs_field.specs.declared.lease_kind.LeaseKind.TheVariants.{Shared, Exclusive}
 use Rattle.fs_field.specs.Conflict.{meets}
@@ -20,7 +21,8 @@ use Rattle.fs_model.specs.declared.reply.Reply.{Reply}
 use Rattle.fs_model.specs.declared.reply.Reply.TheVariants as reply
 use Rattle.std.specs.List.{list_all}
 use Rattle.fs_view.specs.declared.kept.Kept.{Kept}
-use Rattle.fs_view.specs.Kept.{entries_of, is_better_than, serves}
+use Rattle.fs_view.specs.Kept.{entries_of, file_in, is_better_than, is_pending, serves}
+use Rattle.fs_view.specs.View.{View, taken_fresh}
 use Rattle.fs_view.specs.Walk.{Known, Given}
 
 -- the other knowledge has the item too, with the same value
@@ -58,6 +60,25 @@ pub record IsBestOf (leases : List Kept) (now : ℕ) (field : Field) (kind : Lea
   pub among : In k leases
   pub serving : serves now field kind k.standing ≡ true
   pub best : (other : Kept) → In other leases → serves now field kind other.standing ≡ true → is_better_than other.standing k.standing ≡ false
+
+-- the lease that is used for the identifier is the best on the life of that file
+pub record IsUsedByBest (v : View) (now : ℕ) (dir id : List ℕ) : Type 0 where
+  pub lease : Kept
+  pub taken : taken_fresh v now dir ≡ Some lease
+  pub best : IsBestOf v.leases now (Life id) Exclusive lease
+
+-- an exclusive lease on the file's life, for which the directory gave the identifier, serves, and no entry makes the file
+pub record IsOffered (v : View) (now : ℕ) (dir id : List ℕ) : Type 0 where
+  pub lease : Kept
+  pub among : In lease v.leases
+  pub below : lease.below ≡ Some dir
+  pub file : file_in lease.standing ≡ id
+  pub serving : serves now (Life id) Exclusive lease.standing ≡ true
+  pub unmade : is_pending id v.pending ≡ false
+
+-- an entry makes the file of each lease that would offer an identifier
+abbrev pub NoneIsOffered : View → ℕ → List ℕ → Type 0
+NoneIsOffered v now dir = (k : Kept) → In k v.leases → k.below ≡ Some dir → serves now (Life (file_in k.standing)) Exclusive k.standing ≡ true → is_pending (file_in k.standing) v.pending ≡ true
 
 -- the two spaces have the same values of these items, as the session sees them
 abbrev pub AgreeOn : NodeMap → NodeMap → Session → List Need → Type 0

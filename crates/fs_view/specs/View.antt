@@ -6,7 +6,9 @@ use Rattle.fs_ident.specs.declared.actor.LeaseNo.{LeaseNo}
 use Rattle.fs_ident.specs.declared.actor.Session.{Session}
 use Rattle.fs_field.specs.declared.effect.Effect.{Effect}
 use Rattle.fs_field.specs.declared.field.Field.{Field}
+use Rattle.fs_field.specs.declared.field.Field.TheVariants.{Life}
 use Rattle.fs_field.specs.declared.lease_kind.LeaseKind.{LeaseKind}
+use Rattle.fs_field.specs.declared.lease_kind.LeaseKind.TheVariants.{Exclusive}
 use Rattle.fs_field.specs.declared.used.Use.{Use}
 use Rattle.fs_field.specs.declared.value.Value.{Value}
 use Rattle.fs_field.specs.After.{value_after}
@@ -75,6 +77,10 @@ fresh v now dir = option_map (λ (k : Kept). file_in k.standing) (offered v now 
 abbrev pub given_by : View → ℕ → Given
 given_by v now dir = is_some (offered v now dir)
 
+-- the lease that is used for it: the best on the life of that file
+abbrev pub taken_fresh : View → ℕ → List ℕ → Option Kept
+taken_fresh v now dir = option_and_then (λ (id : List ℕ). taken v now (Life id) Exclusive) (fresh v now dir)
+
 -- ## Needs, uses and replies of the session
 
 -- the walk along a part of the table
@@ -98,7 +104,7 @@ reply_in v now o = (walk_in v now o).reply
 -- the lease that an item is answered from, as an entry names it
 abbrev pub item_use : View → ℕ → Need → Option Use
 item_use v now (need.Lease field kind) = option_and_then (λ (k : Kept). use_in k.standing) (taken v now field kind)
-item_use v now (need.Fresh dir) = option_and_then (λ (k : Kept). use_in k.standing) (offered v now dir)
+item_use v now (need.Fresh dir) = option_and_then (λ (k : Kept). use_in k.standing) (taken_fresh v now dir)
 
 -- one use for each item
 abbrev pub uses_in : View → ℕ → Op → List Use

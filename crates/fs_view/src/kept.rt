@@ -1,6 +1,7 @@
 //! A lease that a client keeps.
 ghost use Rattle.std.specs.Prelude.{◌≡◌, ◌+◌, ◌<◌, ◌≤◌, true, IfOk};
-ghost use Rattle.fs_view.specs.Kept.{entries_of, file_in, has_ended, is_better_than, is_enough, is_held, is_leaving, leaving, makes_known, number_of, pinned, recalled_as, renewed, seen_of, serves, takes_pin, unpinned, until_of, use_in};
+ghost use Rattle.std.specs.Option.{option_copied};
+ghost use Rattle.fs_view.specs.Kept.{entries_of, field_in, file_in, has_ended, is_better_than, is_enough, is_held, is_leaving, leaving, makes_known, number_of, pinned, recalled_as, renewed, seen_of, serves, takes_pin, unpinned, until_of, use_in};
 
 use crate::seen::Seen;
 use fs_field::{Field, LeaseKind, Use, Value};
@@ -65,6 +66,17 @@ impl Standing {
             Standing::Held(held) => held.until(),
             Standing::Pinned(pinned) => pinned.until(),
             Standing::Leaving(_) => 0,
+        }
+    }
+
+    /// Its field, unless it goes back.
+    pub fn field(&self) -> Option<&Field>
+        ensures { option_copied result ≡ field_in self.now }
+    {
+        match self {
+            Standing::Held(held) => Some(held.field()),
+            Standing::Pinned(pinned) => Some(pinned.field()),
+            Standing::Leaving(_) => None,
         }
     }
 

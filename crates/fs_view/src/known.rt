@@ -3,7 +3,7 @@ ghost use Rattle.std.specs.Prelude.{◌≡◌, None, is_some, find, option_map, 
 ghost use Rattle.std.specs.List.{list_any};
 ghost use Rattle.std.specs.Option.{option_copied};
 ghost use Rattle.fs_field.specs.Table.{is_parent};
-ghost use Rattle.fs_view.specs.Kept.{is_better, is_pending, is_unused_in, makes, offers};
+ghost use Rattle.fs_view.specs.Kept.{is_better, is_life, is_pending, is_unused, makes, offers};
 ghost use Rattle.fs_view.specs.View.{taken_from, value_after_all, value_after_log};
 
 use crate::kept::{Kept, Standing};
@@ -108,15 +108,26 @@ fn is_parent(dir: &FileId, below: &Option<FileId>) -> bool
     }
 }
 
-/// Whether the lease is live and no entry makes its file.
+/// Whether it is an exclusive lease on the life of its file at the reading, and no entry makes that file.
+#[tactic(auto, using(crate::proofs::Offering::unused_by))]
 fn is_unused(standing: &Standing, now: u64, log: &[List<Effect>]) -> bool
-    ensures { result ≡ is_unused_in now log.now standing.now }
+    ensures { result ≡ is_unused now log.now standing.now }
 {
-    match standing {
-        Standing::Held(held) => now < held.until() && !is_pending(held.field().file(), log),
-        Standing::Pinned(pinned) => now < pinned.until() && !is_pending(pinned.field().file(), log),
-        Standing::Leaving(_) => false,
+    match standing.field() {
+        None => false,
+        Some(field) => {
+            is_life(field)
+                && standing.serves(now, field, LeaseKind::Exclusive)
+                && !is_pending(field.file(), log)
+        }
     }
+}
+
+/// Whether the field is the life of its file.
+fn is_life(field: &Field) -> bool
+    ensures { result ≡ is_life field.now }
+{
+    matches!(field, Field::Life(_))
 }
 
 /// Whether an entry of the log makes the file.

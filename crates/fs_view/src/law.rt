@@ -13,12 +13,12 @@ ghost use Rattle.fs_model.specs.declared.reply.Reply.{Reply};
 ghost use Rattle.fs_record.specs.Effects.{effects_of, tells_its_effects};
 ghost use Rattle.fs_record.specs.Records.{AreRecords, RecordMap, nodes_of};
 ghost use Rattle.fs_record.specs.ValueOf.{is_other, value_of};
-ghost use Rattle.fs_view.specs.Laws.{AgreeOn, AreAnsweredAlike, but_cycle, HasAll, IsBestOf, IsUnborn, IsNewWhereMade, have_room, item_meets};
+ghost use Rattle.fs_view.specs.Laws.{AgreeOn, AreAnsweredAlike, but_cycle, HasAll, IsBestOf, IsOffered, IsUnborn, IsNewWhereMade, IsUsedByBest, NoneIsOffered, have_room, item_meets};
 ghost use Rattle.fs_view.specs.LedLaws.{LedValuesFollow, LedValuesStay};
 ghost use Rattle.fs_view.specs.declared.kept.Kept.{Kept};
 ghost use Rattle.fs_view.specs.Kept.{serves};
 ghost use Rattle.fs_record.specs.Applied.{records_after_all};
-ghost use Rattle.fs_view.specs.View.{View, are_distinct, can_pin_all, nameless, taken, uses_in, value_after_all};
+ghost use Rattle.fs_view.specs.View.{View, are_distinct, can_pin_all, fresh, nameless, taken, uses_in, value_after_all};
 ghost use Rattle.fs_view.specs.Walk.{Known, Given, walk, known_in, always};
 
 /// An operation stands on its items alone: where nothing is missing, whoever knows the items, with the same values,
@@ -96,13 +96,24 @@ pub fn uses_can_be_pinned()
 {}
 
 /// Of several leases that serve for a field the one is taken that no other one is better than, and none only where none
-/// serves.
+/// serves. For a fresh identifier it is the one that is taken for the life of its file.
 pub fn the_best_lease_is_taken()
     ensures best { (v : View) (now : ℕ) (field : Field) (kind : LeaseKind) (k : Kept) →
         taken v now field kind ≡ Some k → IsBestOf v.leases now field kind k }
     ensures none { (v : View) (now : ℕ) (field : Field) (kind : LeaseKind) →
         taken v now field kind ≡ None →
         list_any (λ (k : Kept). serves now field kind k.standing) v.leases ≡ false }
+    ensures fresh { (v : View) (now : ℕ) (dir id : List ℕ) →
+        fresh v now dir ≡ Some id → IsUsedByBest v now dir id }
+{}
+
+/// An identifier is there for a new file in the directory exactly where an exclusive lease on the life of its file serves,
+/// the identifier was given for that directory, and no entry of the log makes the file.
+pub fn identifiers_are_offered_by_leases()
+    ensures some { (v : View) (now : ℕ) (dir id : List ℕ) →
+        fresh v now dir ≡ Some id → IsOffered v now dir id }
+    ensures none { (v : View) (now : ℕ) (dir : List ℕ) →
+        fresh v now dir ≡ None → NoneIsOffered v now dir }
 {}
 
 /// An operation stands on the values of its needs: two sound spaces that agree on them, as one session sees them, give it

@@ -113,7 +113,7 @@ fn item_use(view: &View, alloc: Global, now: u64, need: &Need) -> Result<Option<
 {
     let kept = match need {
         Need::Lease(field, kind) => view.taken(now, field, *kind),
-        Need::Fresh(dir) => view.offered(now, dir),
+        Need::Fresh(dir) => view.taken_fresh(now, dir),
     };
     match kept {
         None => Ok(None),

@@ -5,7 +5,7 @@ ghost use Rattle.std.specs.Option.{option_copied};
 ghost use Rattle.fs_field.specs.Value.{is_value_of};
 ghost use Rattle.fs_view.specs.Kept.{has_number, seen_of, takes_pin, is_held, is_pinned, is_leaving, until_of};
 ghost use Rattle.fs_view.specs.declared.kept.Kept.{Kept as TheKept};
-ghost use Rattle.fs_view.specs.View.{admitted_front, are_distinct, can_grant_all, can_pin_all, is_in_hand, stands, lapsed_at, given_up, with_grant, with_grants, fresh, given_by, known_by, offered, taken, with_pins, without_pins, with_entry, with_admitted, with_first_admitted, with_recall, with_leaving, without_lease, with_end};
+ghost use Rattle.fs_view.specs.View.{admitted_front, are_distinct, can_grant_all, can_pin_all, is_in_hand, stands, lapsed_at, given_up, with_grant, with_grants, fresh, given_by, known_by, offered, taken, taken_fresh, with_pins, without_pins, with_entry, with_admitted, with_first_admitted, with_recall, with_leaving, without_lease, with_end};
 
 use crate::admit::{admit, drop_front, front};
 use crate::change::{Change, change_at, pin_all, release, unpin_all};
@@ -195,7 +195,8 @@ impl View {
         Ok(())
     }
 
-    /// The first identifier for a new file in the directory that is live at the reading and that no entry makes.
+    /// The first identifier for a new file in the directory whose lease is exclusive and on that file's life, and is not over
+    /// at the reading, where no entry makes the file.
     pub fn fresh(&self, now: u64, dir: &FileId) -> Option<&FileId>
         ensures { option_copied result ≡ fresh self.now now dir.now }
     {
@@ -363,6 +364,20 @@ impl View {
         ensures { option_copied result ≡ offered self.now now dir.now }
     {
         offered(&self.leases.kept, now, dir, self.pending.as_slice())
+    }
+
+    /// The lease that is used for the identifier of a new file in the directory at the reading.
+    #[tactic(auto, using(crate::proofs::Offering::taken_for))]
+    pub fn taken_fresh(&self, now: u64, dir: &FileId) -> Option<&Kept>
+        ensures { option_copied result ≡ taken_fresh self.now now dir.now }
+    {
+        match self.offered(now, dir) {
+            None => None,
+            Some(kept) => match kept.standing.field() {
+                None => None,
+                Some(field) => self.taken(now, field, LeaseKind::Exclusive),
+            },
+        }
     }
 
     /// Spends every lease, with the whole core that has them.

@@ -2,6 +2,7 @@
 ghost use Rattle.std.specs.Prelude.{◌≡◌, true, IfOk};
 ghost use Rattle.fs_record.specs.Effects.{tells_its_effects};
 
+mod fresh;
 mod held;
 
 use crate::forms::{kept_by, same, shows, spend, with};
