@@ -30,6 +30,7 @@ abbrev anyhow_laws : EventLaws
 anyhow_laws = record {
   Holds = HoldsAnyhow;
   Within = λ skew greatest now. Unit {0};
+  again = λ skew greatest now within. tt;
   event = server_anyhow;
   rises = anyhow_later;
   client = λ skew greatest now c by h e can within. client_anyhow skew greatest now c by h e can;

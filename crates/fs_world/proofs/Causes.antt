@@ -1,5 +1,5 @@
 -- Every event of every run says only what was caused.
-use Rattle.std.proofs.Common.{◌≡◌, ℕ, ◌==◌, ◌/◌, ◌+◌, not, ◌&&◌, Bool, true, false, List, [], ◌∷◌, ◌++◌, cond, refl, ap, sym, ◌∙◌, subst, inl}
+use Rattle.std.proofs.Common.{◌≡◌, ℕ, ◌==◌, ◌/◌, ◌+◌, not, ◌&&◌, Bool, true, false, List, [], ◌∷◌, ◌++◌, cond, refl, sym, ◌∙◌, subst, inl}
 use Rattle.std.specs.Prelude.{Option, Some, None, is_some, option_map, slice_get}
 use Rattle.std.specs.FinMap.{get, insert}
 use Rattle.std.specs.List.{find, list_all}
@@ -8,12 +8,11 @@ use Rattle.fs_ident.specs.declared.actor.LeaseNo.{LeaseNo}
 use Rattle.fs_ident.specs.declared.actor.Peer.{Peer}
 use Rattle.fs_ident.specs.declared.actor.Peer.TheVariants.{Server, Client}
 use Rattle.fs_ident.specs.declared.actor.Session.{Session}
-use Rattle.fs_ident.proofs.Passing.{found}
 use Rattle.fs_ident.proofs.Standing.{In-got}
 use Rattle.fs_field.specs.declared.row.Row.{Row}
 use Rattle.fs_field.specs.Table.{has_no}
 use Rattle.fs_frag.specs.declared.joined.Joined.{Joined}
-use Rattle.fs_window.specs.Post.{Links, post_accepted}
+use Rattle.fs_window.specs.Post.{Links, post_accepted, post_due}
 use Rattle.fs_window.specs.Reading.{packet_at}
 use Rattle.fs_window.specs.declared.heard.Heard.{Heard as HeardThere}
 use Rattle.fs_window.specs.declared.packet.Packet.{Packet}
@@ -21,7 +20,6 @@ use Rattle.fs_window.specs.declared.sent.Sent.{Sent}
 use Rattle.fs_model.specs.Step.{is_empty}
 use Rattle.fs_model.specs.declared.op.Op.{Op}
 use Rattle.fs_msg.specs.declared.answer.Answer.{Answer}
-use Rattle.fs_msg.specs.declared.answer.Answer.TheVariants.{Granted, Renewed, Released, Shipped, Recall, Led}
 use Rattle.fs_msg.specs.declared.client_msg.ClientMsg.{ClientMsg}
 use Rattle.fs_msg.specs.declared.client_msg.ClientMsg.TheVariants.{Ask, Renew, Release, Ship, Lead}
 use Rattle.fs_msg.specs.declared.end.End.{End}
@@ -36,18 +34,16 @@ use Rattle.fs_msg.specs.declared.server_note.ServerNote.TheVariants as server
 use Rattle.fs_parcel.specs.Parcel.{move_refusal}
 use Rattle.fs_parcel.specs.declared.error.MoveError.{MoveError}
 use Rattle.fs_record.specs.Effects.{tells_its_effects}
-use Rattle.fs_record.specs.declared.led_end.LedEnd.{LedEnd}
 use Rattle.fs_record.specs.declared.led_end.LedEnd.TheVariants as led_end
 use Rattle.fs_record.specs.declared.parcel.Parcel.{Parcel}
 use Rattle.fs_view.specs.declared.kept.Kept.{Kept}
 use Rattle.fs_client.specs.Acts.{act_plan}
-use Rattle.fs_client.specs.Answers.{answer_plan, ended_plan, fits, hear, led_plan, strange, told}
-use Rattle.fs_actor.specs.Hearing.{answer_heard, event_heard, heard_in, silent_note}
+use Rattle.fs_client.specs.Answers.{told}
+use Rattle.fs_actor.specs.Hearing.{event_heard, heard_in, silent_note}
 use Rattle.fs_client.specs.Client.{begun}
 use Rattle.fs_client.specs.Turns.{ending, idle, release_some, renew_some, returned, ship_some, turn_free, turn_on, turn_plan}
-use Rattle.fs_client.specs.declared.led.Led.{Led as TheLed}
 use Rattle.fs_client.specs.declared.state.Client.{Client as ClientState}
-use Rattle.fs_client.proofs.Refused.{act_over, acts_stay, answers_tell, turns_stay}
+use Rattle.fs_client.proofs.Refused.{act_over, acts_stay, turns_stay}
 use Rattle.fs_server.proofs.Leading.{LeadEnds, aborted, lead_ends, led, put_off, unled}
 use Rattle.fs_server.specs.Leads.{lead_step}
 use Rattle.fs_server.specs.Asks.{asked_in, recall_of, recalls_at}
@@ -60,20 +56,21 @@ use Rattle.fs_server.specs.declared.event.ServerEvent.{ServerEvent}
 use Rattle.fs_server.specs.declared.event.ServerEvent.TheVariants.{FromClient, FromPeer, Turn as TheTurn, Recall as TheRecall, Move as TheMove}
 use Rattle.fs_server.specs.declared.state.Server.{Server as Core}
 use Rattle.fs_serial.specs.Cluster.{is_with, without_first}
-use Rattle.fs_serial.proofs.SetAt.{In_without}
 use Rattle.fs_schedule.specs.declared.event.What.{What}
 use Rattle.fs_schedule.specs.declared.event.What.TheVariants.{Join, Do, Tell, Turn, Recall as AskBack, Move}
 use Rattle.fs_world.specs.Over.{AllCaused, Said, all_said, sender_in}
 use Rattle.fs_world.specs.Packets.{first_untold}
 use Rattle.fs_world.specs.Refusals.{packet_told}
-use Rattle.fs_world.specs.Calls.{client_hears, server_hears}
-use Rattle.fs_world.specs.Carried.{Carries, GivesFirst, IsFirstOf, between, downs_of, joined_at, flying_between, post_of, seat_post, ups_of}
-use Rattle.fs_world.specs.Served.{Seats, Stepped, arrives, at_server, client_acts, client_turns, comes, do_at, first_seat, join_at, server_step_at, server_told, server_told_at, step_of, tell_at, told_at, turn_at, with_downs, with_seat, with_server, without_up}
+use Rattle.fs_world.specs.Calls.{server_hears}
+use Rattle.fs_world.specs.Carried.{Carries, GivesFirst, AreFirstOf, between, downs_of, joined_at, flying_between, post_of, seat_post, ups_of}
+use Rattle.fs_world.specs.Served.{SeatStepped, Seats, Stepped, arrives, at_server, client_acts, client_turns, comes, do_at, first_seat, join_at, server_step_at, server_told, server_told_at, step_of, tell_at, told_at, turn_at, with_downs, with_seat, with_server, without_up}
 use Rattle.fs_world.specs.declared.form.Form.TheVariants as form
 use Rattle.fs_world.specs.declared.seat.Seat.{Seat}
 use Rattle.fs_world.specs.declared.served.Served.{Served}
-use Rattle.fs_world.proofs.Heard.{first_answer, first_flying, first_question}
-use Rattle.fs_world.proofs.Said.{AreGiven, AreKnown, IsKnown, IsNoted, WasGiven, act_caused, all_more, downs_known, given_append, given_behind_all, heard_more, known_put, note_caused, note_heard}
+use Rattle.fs_world.proofs.Heard.{first_flying, first_question}
+use Rattle.fs_world.proofs.HeardEach.{answers_in, heard_is}
+use Rattle.fs_world.proofs.HeardSays.{Says, heard_says}
+use Rattle.fs_world.proofs.Said.{AreGiven, AreKnown, IsKnown, IsNoted, WasGiven, act_caused, all_more, downs_known, given_append, given_behind_all, heard_more, known_put, note_caused}
 
 -- ## What a client notes of a turn is no answer
 
@@ -97,28 +94,6 @@ free_noted before s c = elim (not (is_empty c.log) && not (is_some c.over)) as (
 
 turn_noted : (before : List Said) (s : Session) (c : ClientState) → IsNoted before s (turn_on c).out.note
 turn_noted before s c = elim (is_some c.exchange) as (λ b. IsNoted before s (cond b (idle c) (turn_free c)).out.note) [ true ↦ tt | false ↦ free_noted before s c ]
-
--- ## What it notes of an answer, a server gave
-
-ended_noted : (before : List Said) (s : Session) (l : TheLed) (e : LedEnd) (c : ClientState) → IsNoted before s (ended_plan l e c).out.note
-ended_noted before s l (led_end.Done r) c = tt
-ended_noted before s l (led_end.Ended lease until now) c = tt
-ended_noted before s l (led_end.Again w) c = tt
-
-led_noted : (before : List Said) (s : Session) (led : Option TheLed) (e : LedEnd) (c : ClientState) → IsNoted before s (led_plan led e c).out.note
-led_noted before s None e c = tt
-led_noted before s (Some l) e c = ended_noted before s l e c
-
-told_noted : (before : List Said) (s : Session) (a : Answer) (c : ClientState) → WasGiven before s a → IsNoted before s (told a c).out.note
-told_noted before s (Granted grants fresh e) c g = tt
-told_noted before s (Renewed rows e) c g = tt
-told_noted before s (Released count e) c g = tt
-told_noted before s (Shipped count e) c g = g
-told_noted before s (Led e) c g = led_noted before s c.led e c
-told_noted before s (Recall number) c g = tt
-
-hear_noted : (before : List Said) (s : Session) (from : ℕ) (a : Answer) (c : ClientState) → WasGiven before s a → IsNoted before s (hear from a c).out.note
-hear_noted before s from a c g = elim (fits from c.exchange a c) as (λ b. IsNoted before s (cond b (told a c) (strange c)).out.note) [ true ↦ told_noted before s a c g | false ↦ tt ]
 
 -- ## What a server sends
 
@@ -199,11 +174,6 @@ answered_caused before from k n = tt
 
 -- ## Each event
 
--- what it says is caused, and what stands then is known
-pub record Says (before new : List Said) (seats : Seats) : Type 0 where
-  pub caused : AllCaused before new
-  pub known : AreKnown (before ++ new) seats
-
 module _ (before : List Said) (w : Served) (h : AreKnown before w.seats) (now : ℕ) (from : Option Peer) where
   abbrev pub Tells : Stepped → Type 0
   Tells x = Says before (all_said from x.outcome.who x.outcome.notes) x.world.seats
@@ -223,13 +193,6 @@ module _ (before : List Said) (w : Served) (h : AreKnown before w.seats) (now : 
 
     still_coming : (new : List Said) (down : List (ℕ × Answer)) → ((m : ℕ × Answer) → In m down → In m seat.down) → (m : ℕ × Answer) → In m down → WasGiven (before ++ new) s m.1
     still_coming new down few m i = (all_more before new w.seats h s seat at).coming m (few m i)
-
-    -- nothing but the links changes
-    posts : (next : Seat) → next.client ≡ seat.client → next.down ≡ seat.down → Says before [] (insert w.seats s.0 next)
-    posts next client down = sits [] next tt (record {
-      over = λ n e. heard_more before [] s n (seated.over n (sym (ap (λ (c : ClientState). c.over) client) ∙ e));
-      coming = still_coming [] next.down (λ m i. subst (λ (ms : List (ℕ × Answer)). In m ms) down i);
-    })
 
     acts : (o : Op) → Tells (do_at (Some seat) now s o w)
     acts o =
@@ -253,35 +216,6 @@ module _ (before : List Said) (w : Served) (h : AreKnown before w.seats) (now : 
           coming = still_coming new seat.down (λ m i. i);
         })
 
-    answered : (k : ℕ) (heard : Option Peer) (x : HeardThere) (links : Links) (a : Answer) → find (is_with k) seat.down ≡ Some (k, a) → Tells (with_seat s (client_hears now s k heard x (Some a) (record seat { post = links }) w.journal w.packets) w)
-    answered k heard x links a first =
-        let p = answer_plan seat.client now k a in
-        let new = all_said from (Some (Client s)) (note.Client p.out.note ∷ []) in
-        let given : WasGiven before s a = seated.coming (k, a) (found (is_with k) seat.down (k, a) first).0 in
-        let noted : IsNoted before s p.out.note = hear_noted before s k a (begun now seat.client) given in
-        sits new (client_hears now s k heard x (Some a) (record seat { post = links }) w.journal w.packets).seat
-        (note_caused before from s p.out.note noted)
-        (record {
-          over = λ n e. note_heard before from s p.out.note seat.client.over seated.over n (sym (answers_tell seat.client now k a) ∙ e);
-          coming = still_coming new (without_first (is_with k) seat.down) (λ i at. In_without (is_with k) seat.down i at);
-        })
-
-    unheard : (k : ℕ) (heard : Option Peer) (x : HeardThere) (links : Links) → Tells (with_seat s (client_hears now s k heard x None (record seat { post = links }) w.journal w.packets) w)
-    unheard k heard x links = noted x.joined
-      where
-        noted : (js : List Joined) → Says before (all_said from (Some (Client s)) (silent_note js x ∷ [])) (insert w.seats s.0 (client_hears now s k heard x None (record seat { post = links }) w.journal w.packets).seat)
-        noted [] = elim (x.fresh == 0) as (λ b. Says before (all_said from (Some (Client s)) (cond b note.None note.Part ∷ [])) (insert w.seats s.0 (client_hears now s k heard x None (record seat { post = links }) w.journal w.packets).seat)) [
-          | true ↦ posts (client_hears now s k heard x None (record seat { post = links }) w.journal w.packets).seat refl refl
-          | false ↦ posts (client_hears now s k heard x None (record seat { post = links }) w.journal w.packets).seat refl refl
-        ]
-        noted (j ∷ js) = posts (client_hears now s k heard x None (record seat { post = links }) w.journal w.packets).seat refl refl
-
-    hears : (k : ℕ) (heard : Option Peer) (x : HeardThere) (js : List Joined) (links : Links) → IsFirstOf js (downs_of k (Some seat)) → Tells (with_seat s (client_hears now s k heard x (answer_heard js) (record seat { post = links }) w.journal w.packets) w)
-    hears k heard x [] links f = unheard k heard x links
-    hears k heard x (j ∷ js) links f =
-        let first = first_answer k seat j js f in
-        subst (λ (o : Option Answer). Tells (with_seat s (client_hears now s k heard x o (record seat { post = links }) w.journal w.packets) w)) (sym first.2) (answered k heard x links first.0 first.1)
-
   join_says : (s : Session) (o : Option Seat) → Tells (join_at o s w)
   join_says s None = silent (insert w.seats s.0 (first_seat w.term s)) (known_put before w.seats s (first_seat w.term s) h (record { over = λ n e. absurd (cc e); coming = λ m i. absurd i }))
   join_says s (Some seat) = silent w.seats h
@@ -294,11 +228,14 @@ module _ (before : List Said) (w : Served) (h : AreKnown before w.seats) (now : 
   turns_says s None at = silent w.seats h
   turns_says s (Some seat) at = turns s seat at
 
-  told_says : (s : Session) (k : ℕ) (p : Packet) (o : Option Seat) → get w.seats s.0 ≡ o → IsFirstOf (joined_at (seat_post o) (Server k) p) (downs_of k o) → Tells (told_at o now s k p w)
+  told_says : (s : Session) (k : ℕ) (p : Packet) (o : Option Seat) → get w.seats s.0 ≡ o → AreFirstOf (joined_at (seat_post o) (Server k) p) (downs_of k o) → Tells (told_at o now s k p w)
   told_says s k p None at f = silent w.seats h
   told_says s k p (Some seat) at f =
       let a = post_accepted seat.post (Server k) p in
-      hears s seat at k (heard_in (Server k) p) a.heard a.heard.joined a.links f
+      let there : Seat = record seat { post = a.links } in
+      let heard = answers_in k a.heard.joined seat.down f in
+      subst (λ (x : SeatStepped). Tells (with_seat s x w)) (sym (heard_is s now k (heard_in (Server k) p) a.heard heard.0 there w.journal w.packets heard.1))
+      (heard_says before w.seats h now from s seat at k (post_due a.links false (heard_in (Server k) p)).links a.heard heard.0 heard.2)
 
   -- ## At a server that there is
 
@@ -328,20 +265,20 @@ module _ (before : List Said) (w : Served) (h : AreKnown before w.seats) (now : 
         (steps (FromClient s m.1) (insert w.seats s.0 (record seat { up = without_first (is_with k) seat.up })) of
         (known_put before w.seats s (record seat { up = without_first (is_with k) seat.up }) h (record { over = (h s seat is).over; coming = (h s seat is).coming })))
 
-    session_says : (s : Session) (o : Option Seat) → from ≡ Some (Client s) → get w.seats s.0 ≡ o → (heard : Option Peer) (x : HeardThere) (js : List Joined) (links : Links) → IsFirstOf js (ups_of k o) → Tells (hearing (Client s) heard x (event_heard (Client s) js) links)
+    session_says : (s : Session) (o : Option Seat) → from ≡ Some (Client s) → get w.seats s.0 ≡ o → (heard : Option Peer) (x : HeardThere) (js : List Joined) (links : Links) → AreFirstOf js (ups_of k o) → Tells (hearing (Client s) heard x (event_heard (Client s) js) links)
     session_says s o of is heard x [] links f = unheard_says (Client s) heard x links
     session_says s None of is heard x (j ∷ js) links f = absurd f
     session_says s (Some seat) of is heard x (j ∷ js) links f =
         let first = first_question k s seat j js f in
         subst (λ (e : Option ServerEvent). Tells (hearing (Client s) heard x e links)) (sym first.2) (message_says s seat heard x links first.0 of is)
 
-    peer_says : (i : ℕ) (heard : Option Peer) (x : HeardThere) (js : List Joined) (links : Links) → IsFirstOf js (flying_between i k w.flying) → Tells (hearing (Server i) heard x (event_heard (Server i) js) links)
+    peer_says : (i : ℕ) (heard : Option Peer) (x : HeardThere) (js : List Joined) (links : Links) → AreFirstOf js (flying_between i k w.flying) → Tells (hearing (Server i) heard x (event_heard (Server i) js) links)
     peer_says i heard x [] links f = unheard_says (Server i) heard x links
     peer_says i heard x (j ∷ js) links f =
         let first = first_flying k i w.flying j js f in
         subst (λ (e : Option ServerEvent). Tells (hearing (Server i) heard x e links)) (sym first.2) (steps (FromPeer i first.0.message) w.seats tt h)
 
-    told_server : (who : Peer) (p : Packet) → from ≡ Some who → IsFirstOf (post_accepted post who p).heard.joined (between w who (Server k)) → Tells (with_server k (server_told now k who p (at_server c post w)) w)
+    told_server : (who : Peer) (p : Packet) → from ≡ Some who → AreFirstOf (post_accepted post who p).heard.joined (between w who (Server k)) → Tells (with_server k (server_told now k who p (at_server c post w)) w)
     told_server (Client s) p of f =
         let a = post_accepted post (Client s) p in
         session_says s (get w.seats s.0) of refl (heard_in (Client s) p) a.heard a.heard.joined a.links f
@@ -351,7 +288,7 @@ module _ (before : List Said) (w : Served) (h : AreKnown before w.seats) (now : 
 
   -- ## At any server
 
-  told_at_server : (k : ℕ) (who : Peer) (p : Packet) (c : Option Core) (post : Option Links) → from ≡ Some who → IsFirstOf (joined_at post who p) (between w who (Server k)) → Tells (server_told_at c post now k who p w)
+  told_at_server : (k : ℕ) (who : Peer) (p : Packet) (c : Option Core) (post : Option Links) → from ≡ Some who → AreFirstOf (joined_at post who p) (between w who (Server k)) → Tells (server_told_at c post now k who p w)
   told_at_server k who p (Some c) (Some post) of f = told_server k c post who p of f
   told_at_server k who p (Some c) None of f = silent w.seats h
   told_at_server k who p None (Some post) of f = silent w.seats h
@@ -365,7 +302,7 @@ module _ (before : List Said) (w : Served) (h : AreKnown before w.seats) (now : 
 
   -- ## A packet is told
 
-  comes_says : (who to : Peer) (p : Packet) → from ≡ Some who → IsFirstOf (joined_at (post_of w to) who p) (between w who to) → Tells (comes now who to p w)
+  comes_says : (who to : Peer) (p : Packet) → from ≡ Some who → AreFirstOf (joined_at (post_of w to) who p) (between w who to) → Tells (comes now who to p w)
   comes_says (Client s) (Server k) p of f = told_at_server k (Client s) p (slice_get w.servers k) (slice_get w.posts k) of f
   comes_says (Server j) (Server k) p of f = told_at_server k (Server j) p (slice_get w.servers k) (slice_get w.posts k) of f
   comes_says (Server j) (Client s) p of f = told_says s j p (get w.seats s.0) refl f

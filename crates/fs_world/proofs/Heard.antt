@@ -1,42 +1,24 @@
--- What an actor hears is the first message that is on its way to it.
-use Rattle.std.proofs.Common.{◌≡◌, ℕ, List, ◌∷◌, Option, Some, None, refl, ap, ◌∙◌}
+-- What a server hears is the first message that is on its way to it.
+use Rattle.std.proofs.Common.{◌≡◌, ℕ, List, ◌∷◌, Option, Some, None, refl, ap}
 use Rattle.std.specs.List.{find}
-use Rattle.std.proofs.lemmas.Bool.{eqb-true}
 use Rattle.fs_ident.specs.declared.actor.Peer.TheVariants.{Server, Client}
 use Rattle.fs_ident.specs.declared.actor.Session.{Session}
-use Rattle.fs_ident.proofs.Passing.{found}
 use Rattle.fs_frag.specs.declared.joined.Joined.{Joined}
 use Rattle.fs_msg.specs.Ranges.{FitsMessage}
-use Rattle.fs_msg.specs.declared.answer.Answer.{Answer}
 use Rattle.fs_msg.specs.declared.client_msg.ClientMsg.{ClientMsg}
 use Rattle.fs_msg.specs.declared.msg.Msg.{Msg}
 use Rattle.fs_msg.specs.declared.msg.Msg.TheVariants as msg
-use Rattle.fs_actor.specs.Hearing.{answer_heard, answer_of, event_heard, event_of}
+use Rattle.fs_actor.specs.Hearing.{event_heard, event_of}
 use Rattle.fs_actor.proofs.AsSent.{sent_read}
 use Rattle.fs_serial.specs.Cluster.{is_between, is_with}
 use Rattle.fs_serial.specs.declared.flying.Flying.{Flying}
 use Rattle.fs_server.specs.declared.event.ServerEvent.TheVariants.{FromClient, FromPeer}
-use Rattle.fs_world.specs.Carried.{IsFirstOf, downs_of, flying_between, ups_of}
+use Rattle.fs_world.specs.Carried.{AreFirstOf, flying_between, ups_of}
 use Rattle.fs_world.specs.declared.seat.Seat.{Seat}
 use Rattle.fs_world.proofs.LinkedLists.{found_joined}
 
--- an answer of the server
-pub first_answer : (k : ℕ) (seat : Seat) (j : Joined) (js : List Joined) → IsFirstOf (j ∷ js) (downs_of k (Some seat))
-    → (a : Answer) × (find (is_with k) seat.down ≡ Some (k, a)) × (answer_heard (j ∷ js) ≡ Some a)
-first_answer k seat j js f = at (find (is_with k) seat.down) refl
-  where
-    as_sent : ℕ × Answer → Msg
-    as_sent m = msg.Answer m.1
-
-    at : (o : Option (ℕ × Answer)) → find (is_with k) seat.down ≡ o → (a : Answer) × (find (is_with k) seat.down ≡ Some (k, a)) × (answer_heard (j ∷ js) ≡ Some a)
-    at None e = absurd (found_joined as_sent (is_with k) seat.down (j ∷ js) None e f)
-    at (Some m) e =
-        let here = found_joined as_sent (is_with k) seat.down (j ∷ js) (Some m) e f in
-        let same : m.0 ≡ k = eqb-true m.0 k (found (is_with k) seat.down m e).1 in
-        (m.1, e ∙ ap (λ (n : ℕ). Some (n, m.1)) same, ap answer_of (sent_read j (msg.Answer m.1) here.0 here.1))
-
 -- a question of the session
-pub first_question : (k : ℕ) (s : Session) (seat : Seat) (j : Joined) (js : List Joined) → IsFirstOf (j ∷ js) (ups_of k (Some seat))
+pub first_question : (k : ℕ) (s : Session) (seat : Seat) (j : Joined) (js : List Joined) → AreFirstOf (j ∷ js) (ups_of k (Some seat))
     → (m : ℕ × ClientMsg) × (find (is_with k) seat.up ≡ Some m) × (event_heard (Client s) (j ∷ js) ≡ Some (FromClient s m.1)) × FitsMessage (msg.Client m.1)
 first_question k s seat j js f = at (find (is_with k) seat.up) refl
   where
@@ -48,10 +30,10 @@ first_question k s seat j js f = at (find (is_with k) seat.up) refl
     at None e = absurd (found_joined as_sent (is_with k) seat.up (j ∷ js) None e f)
     at (Some m) e =
         let here = found_joined as_sent (is_with k) seat.up (j ∷ js) (Some m) e f in
-        (m, e, ap (event_of (Client s)) (sent_read j (msg.Client m.1) here.0 here.1), here.1)
+        (m, e, ap (event_of (Client s)) (sent_read j (msg.Client m.1) here.0.0 here.0.1), here.0.1)
 
 -- a message of another server
-pub first_flying : (k i : ℕ) (flying : List Flying) (j : Joined) (js : List Joined) → IsFirstOf (j ∷ js) (flying_between i k flying)
+pub first_flying : (k i : ℕ) (flying : List Flying) (j : Joined) (js : List Joined) → AreFirstOf (j ∷ js) (flying_between i k flying)
     → (f : Flying) × (find (is_between i k) flying ≡ Some f) × (event_heard (Server i) (j ∷ js) ≡ Some (FromPeer i f.message))
 first_flying k i flying j js f = at (find (is_between i k) flying) refl
   where
@@ -62,4 +44,4 @@ first_flying k i flying j js f = at (find (is_between i k) flying) refl
     at None e = absurd (found_joined as_sent (is_between i k) flying (j ∷ js) None e f)
     at (Some x) e =
         let here = found_joined as_sent (is_between i k) flying (j ∷ js) (Some x) e f in
-        (x, e, ap (event_of (Server i)) (sent_read j (msg.Peer x.message) here.0 here.1))
+        (x, e, ap (event_of (Server i)) (sent_read j (msg.Peer x.message) here.0.0 here.0.1))

@@ -16,6 +16,7 @@ pub mod NamedClients
 pub mod NamedServers
 pub mod LinkedLists
 pub mod Heard
+pub mod HeardEach
 pub mod LinkedPair
 pub mod LinkedChange
 pub mod LinkedSeats
@@ -58,5 +59,6 @@ pub mod HeldLaws
 pub mod StayingServers
 pub mod Fitting
 pub mod Said
+pub mod HeardSays
 pub mod Causes
 pub mod CausedRuns

@@ -1,5 +1,5 @@
 -- What happens at a server keeps what holds of the links, and what comes to it is the first message on its way.
-use Rattle.std.proofs.Common.{◌≡◌, ◌∙◌, ◌<◌, ◌==◌, ℕ, Bool, true, false, List, [], ◌∷◌, ◌++◌, length, Option, Some, None, refl, sym, ap, subst, cond, inl, inr, arith}
+use Rattle.std.proofs.Common.{◌≡◌, ◌∙◌, ◌<◌, ◌≤◌, ◌==◌, ℕ, Bool, true, false, List, [], ◌∷◌, ◌++◌, length, Option, Some, None, refl, sym, ap, subst, cond, inl, inr, arith}
 use Rattle.std.specs.Prelude.{is_some, slice_get, slice_set}
 use Rattle.std.specs.FinMap.{get, insert}
 use Rattle.std.specs.List.{AllByRecursion, find, list_all}
@@ -45,17 +45,17 @@ use Rattle.fs_server.specs.declared.event.ServerEvent.{ServerEvent}
 use Rattle.fs_server.specs.declared.event.ServerEvent.TheVariants.{FromClient, FromPeer, Move, Recall, Turn}
 use Rattle.fs_server.specs.declared.state.Server.{Server as Core}
 use Rattle.fs_serial.proofs.SetAt.{In_without, set_same}
-use Rattle.fs_world.specs.Linked.{AreTied, FitsDown, HasJoined, IsCarried, IsFirstOf, IsLinked, IsNamedAnswer, IsSeated, IsServed, between, flying_between, seat_post, ups_of}
+use Rattle.fs_world.specs.Linked.{AreTied, FitsDown, HasJoined, IsCarried, AreFirstOf, IsLinked, IsNamedAnswer, IsSeated, IsServed, between, flying_between, seat_post, ups_of}
 use Rattle.fs_world.specs.Planned.{IsAnswered, IsOwn, WasSent}
 use Rattle.fs_world.specs.Calls.{server_goes, server_hears}
-use Rattle.fs_world.specs.Served.{Seats, ServerStepped, at_server, core_of, core_step, server_step, server_step_at, server_stepped, server_told, with_down, with_down_at, with_downs, with_server, without_up}
+use Rattle.fs_world.specs.Served.{Seats, ServerStepped, at_server, core_of, core_step, server_step, server_step_at, server_stepped, server_told, with_down, with_down_at, with_downs, with_server, without_up, without_each}
 use Rattle.fs_world.specs.declared.seat.Seat.{Seat}
 use Rattle.fs_world.specs.declared.served.Served.{Served}
-use Rattle.fs_world.proofs.LinkedChange.{IsHeard, first_of, other_way, tied_alike}
+use Rattle.fs_world.proofs.LinkedChange.{IsHeard, few_of, first_of, other_way, tied_alike}
 use Rattle.fs_world.proofs.GoesAlone.{goes_alone}
 use Rattle.fs_world.proofs.Heard.{first_flying, first_question}
 use Rattle.fs_world.proofs.LinkedLists.{got_set, within}
-use Rattle.fs_world.proofs.LinkedSeats.{all_put, got_here, put_same, taken}
+use Rattle.fs_world.proofs.LinkedSeats.{all_put, got_here, put_same}
 use Rattle.fs_world.proofs.LinkedServed.{other_post, server_due, server_hears_server, server_hears_session, server_sends, serving}
 use Rattle.fs_world.proofs.NamedServers.{AreSent, IsBrought, IsStepped, in_range, step_goes}
 use Rattle.fs_world.proofs.LinkedFirst.{AllSeated, carried_then, posts_there, readable_in, served_then}
@@ -247,14 +247,15 @@ module _ (w : Served) (k : ℕ) (few : k < length w.servers) (h : IsLinked w) wh
 
   -- of a session
   session_comes : (x : ServerStepped) (s : Session) (seat : Seat) (now : ℕ) (heard : Option Peer) (count : Heard) (post : Links) (joined : List Joined)
-      → get x.seats s.0 ≡ Some seat → IsOther server_count x.seats k heard → IsFirstOf joined (ups_of k (Some seat))
-      → IsGoing w k (record x { post = post; seats = insert x.seats s.0 (record seat { up = taken joined (is_with k) seat.up }) })
+      → get x.seats s.0 ≡ Some seat → IsOther server_count x.seats k heard → AreFirstOf joined (ups_of k (Some seat)) → length joined ≤ 1
+      → IsGoing w k (record x { post = post; seats = insert x.seats s.0 (record seat { up = without_each joined (is_with k) seat.up }) })
       → IsAnswered now (event_heard (Client s) joined) (record x { post = post })
       → IsGoing w k (server_hears now k (Client s) heard count (event_heard (Client s) joined) (record x { post = post }))
-  session_comes x s seat now heard count post [] is of f g answered =
+  session_comes x s seat now heard count post [] is of f one g answered =
       none_heard (record x { post = post }) heard (unheard_note count) of (subst (λ (seats : Seats). IsGoing w k (record x { post = post; seats = seats })) (put_same x.seats s seat is) g)
-  session_comes x s seat now heard count post (j ∷ js) is of f g answered =
-      let first = first_question k s seat j js f in
+  session_comes x s seat now heard count post (j ∷ i ∷ js) is of f one g answered = absurd (omega arith)
+  session_comes x s seat now heard count post (j ∷ []) is of f one g answered =
+      let first = first_question k s seat j [] f in
       let m = first.0 in
       let fits = subst (λ (o : Option ServerEvent). IsAnswered now o (record x { post = post })) first.2 answered in
       let left : Seat = record seat { up = without_first (is_with k) seat.up } in
@@ -266,13 +267,14 @@ module _ (w : Served) (k : ℕ) (few : k < length w.servers) (h : IsLinked w) wh
 
   -- of another server
   server_comes : (x : ServerStepped) (i : ℕ) (now : ℕ) (heard : Option Peer) (count : Heard) (post : Links) (joined : List Joined)
-      → IsOther server_count x.seats k heard → IsFirstOf joined (flying_between i k x.flying) → ((f : Flying) → find (is_between i k) x.flying ≡ Some f → IsCarried server_count x.seats f)
-      → IsGoing w k (record x { post = post; flying = taken joined (is_between i k) x.flying })
+      → IsOther server_count x.seats k heard → AreFirstOf joined (flying_between i k x.flying) → length joined ≤ 1 → ((f : Flying) → find (is_between i k) x.flying ≡ Some f → IsCarried server_count x.seats f)
+      → IsGoing w k (record x { post = post; flying = without_each joined (is_between i k) x.flying })
       → IsAnswered now (event_heard (Server i) joined) (record x { post = post })
       → IsGoing w k (server_hears now k (Server i) heard count (event_heard (Server i) joined) (record x { post = post }))
-  server_comes x i now heard count post [] of f carried g answered = none_heard (record x { post = post }) heard (unheard_note count) of g
-  server_comes x i now heard count post (j ∷ js) of f carried g answered =
-      let first = first_flying k i x.flying j js f in
+  server_comes x i now heard count post [] of f one carried g answered = none_heard (record x { post = post }) heard (unheard_note count) of g
+  server_comes x i now heard count post (j ∷ n ∷ js) of f one carried g answered = absurd (omega arith)
+  server_comes x i now heard count post (j ∷ []) of f one carried g answered =
+      let first = first_flying k i x.flying j [] f in
       let c = carried first.0 first.1 in
       let fits = subst (λ (o : Option ServerEvent). IsAnswered now o (record x { post = post })) first.2 answered in
       subst (λ (o : Option ServerEvent). IsGoing w k (server_hears now k (Server i) heard count o (record x { post = post }))) (sym first.2)
@@ -299,10 +301,15 @@ server_linked w k c post turn now e i j own fits room h =
 -- ## A packet comes to a server
 
 pub told_server_first : (w : Served) (k : ℕ) (post : Links) (from : Peer) (p : Packet) → slice_get w.posts k ≡ Some post → WasSent from (Server k) (Some p) w.packets.sent
-    → IsLinked w → IsFirstOf (post_accepted post from p).heard.joined (between w from (Server k))
+    → IsLinked w → AreFirstOf (post_accepted post from p).heard.joined (between w from (Server k))
 told_server_first w k post from p e x h =
     let g = went w from (Server k) p x h in
     first_of (Server k) from post g.from.0 p w e g.from.1 (other_way from (Server k) g.apart) (packet_of w from (Server k) g.from.0 post p g.from.1 e x h) h.ties
+
+told_server_few : (w : Served) (k : ℕ) (post : Links) (from : Peer) (p : Packet) → slice_get w.posts k ≡ Some post → WasSent from (Server k) (Some p) w.packets.sent → IsLinked w → length (post_accepted post from p).heard.joined ≤ 1
+told_server_few w k post from p e x h =
+    let g = went w from (Server k) p x h in
+    few_of (Server k) from post g.from.0 p w e g.from.1 (other_way from (Server k) g.apart) h.ties
 
 -- the session that has these links
 seat_there : (w : Served) (s : Session) (q : Links) → seat_post (get w.seats s.0) ≡ Some q → (seat : Seat) × (get w.seats s.0 ≡ Some seat)
@@ -312,13 +319,14 @@ seat_there w s q e = at (get w.seats s.0) refl e
     at None i f = absurd (cc)
     at (Some seat) i f = (seat, i)
 
-up_seated : (servers : ℕ) (s : Session) (seat : Seat) (joined : List Joined) (is : ℕ × ClientMsg → Bool) → IsSeated servers s seat → IsSeated servers s (record seat { up = taken joined is seat.up })
+up_seated : (servers : ℕ) (s : Session) (seat : Seat) (joined : List Joined) (is : ℕ × ClientMsg → Bool) → IsSeated servers s seat → IsSeated servers s (record seat { up = without_each joined is seat.up })
 up_seated servers s seat [] is g = g
-up_seated servers s seat (j ∷ js) is g = record { number = g.number; session = g.session; log = g.log; hints = g.hints; up = λ m i. g.up m (In_without is seat.up m i); down = g.down }
+up_seated servers s seat (j ∷ js) is g =
+    up_seated servers s (record seat { up = without_first is seat.up }) js is (record { number = g.number; session = g.session; log = g.log; hints = g.hints; up = λ m i. g.up m (In_without is seat.up m i); down = g.down })
 
-In-taken : (joined : List Joined) (is : Flying → Bool) (f : Flying) (flying : List Flying) → In f (taken joined is flying) → In f flying
+In-taken : (joined : List Joined) (is : Flying → Bool) (f : Flying) (flying : List Flying) → In f (without_each joined is flying) → In f flying
 In-taken [] is f flying i = i
-In-taken (j ∷ js) is f flying i = In_without is flying f i
+In-taken (j ∷ js) is f flying i = In_without is flying f (In-taken js is f (without_first is flying) i)
 
 pub told_server_linked : (w : Served) (k : ℕ) (c : Core) (post : Links) (now : ℕ) (from : Peer) (p : Packet) → slice_get w.servers k ≡ Some c → slice_get w.posts k ≡ Some post → WasSent from (Server k) (Some p) w.packets.sent
     → IsAnswered now (event_heard from (post_accepted post from p).heard.joined) (record (at_server c post w) { post = (post_accepted post from p).links })
@@ -333,10 +341,11 @@ told_server_linked w k c post now (Client s) p i e x answered h =
     let a = post_accepted post (Client s) p in
     let n = length w.servers in
     let start = begins w k c post i e h in
-    let left : Seat = record seat { up = taken a.heard.joined (is_with k) seat.up } in
+    let left : Seat = record seat { up = without_each a.heard.joined (is_with k) seat.up } in
     going_linked w k (server_told now k (Client s) p y) few
     (session_comes w k few h y s seat now (heard_in (Client s) p) a.heard a.links a.heard.joined is (of_other w k few h y (Client s) p (seat, is))
-    (subst (λ (o : Option Seat). IsFirstOf a.heard.joined (ups_of k o)) is (told_server_first w k post (Client s) p e x h))
+    (subst (λ (o : Option Seat). AreFirstOf a.heard.joined (ups_of k o)) is (told_server_first w k post (Client s) p e x h))
+    (told_server_few w k post (Client s) p e x h)
     (record {
       tied = server_hears_session w k (within w.posts k post e) s seat p y is (packet_of w (Client s) (Server k) seat.post post p (ap seat_post is) e x h) start.tied;
       server = served_then n w.seats (insert w.seats s.0 left) k c (λ t q. joined_still w.seats s t left q) start.server;
@@ -356,7 +365,7 @@ told_server_linked w k c post now (Server i) p at e x answered h =
     let from_few : i < n = subst (λ (m : ℕ). i < m) h.posts (within w.posts i g.from.0 g.from.1) in
     going_linked w k (server_told now k (Server i) p y) few
     (server_comes w k few h y i now (heard_in (Server i) p) a.heard a.links a.heard.joined (of_other w k few h y (Server i) p (from_few, g.apart))
-    (told_server_first w k post (Server i) p e x h) (λ f q. h.flying f (found (is_between i k) w.flying f q).0)
+    (told_server_first w k post (Server i) p e x h) (told_server_few w k post (Server i) p e x h) (λ f q. h.flying f (found (is_between i k) w.flying f q).0)
     (record {
       tied = server_hears_server w k (within w.posts k post e) i g.from.0 p y g.from.1 g.apart (other_way (Server i) (Server k) g.apart) (packet_of w (Server i) (Server k) g.from.0 post p g.from.1 e x h) start.tied;
       server = start.server;

@@ -9,7 +9,7 @@ use Rattle.fs_ident.proofs.Same.{after_zero, zero_before}
 use Rattle.fs_frag.specs.declared.joined.Joined.{Joined}
 use Rattle.fs_msg.specs.declared.msg.Msg.{Msg}
 use Rattle.fs_serial.specs.Cluster.{without_first}
-use Rattle.fs_world.specs.Linked.{IsFirstOf}
+use Rattle.fs_world.specs.Linked.{AreFirstOf}
 
 -- ## The first that passes a test
 
@@ -51,8 +51,8 @@ found_first {X} is (x ∷ xs) o e = either (is x) o (λ q. found_first is xs o q
     either false o more f = more f
 
 -- what is joined is of the one that is found
-pub found_joined : {X : Type 0} (g : X → Msg) (is : X → Bool) (xs : List X) (joined : List Joined) (o : Option X) (e : find is xs ≡ o) → IsFirstOf joined (map g (filter is xs)) → IsFirstOf joined (map g (first_before o (found_first is xs o e).0))
-found_joined {X} g is xs joined o e f = subst (λ (ys : List X). IsFirstOf joined (map g ys)) (found_first is xs o e).1 f
+pub found_joined : {X : Type 0} (g : X → Msg) (is : X → Bool) (xs : List X) (joined : List Joined) (o : Option X) (e : find is xs ≡ o) → AreFirstOf joined (map g (filter is xs)) → AreFirstOf joined (map g (first_before o (found_first is xs o e).0))
+found_joined {X} g is xs joined o e f = subst (λ (ys : List X). AreFirstOf joined (map g ys)) (found_first is xs o e).1 f
 
 -- one more of them
 pub one_more : {X Y : Type 0} (f : X → Y) (is : X → Bool) (xs : List X) (x : X) → is x ≡ true → map f (filter is (xs ++ x ∷ [])) ≡ map f (filter is xs) ++ f x ∷ []

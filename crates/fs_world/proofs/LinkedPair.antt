@@ -29,7 +29,7 @@ use Rattle.fs_msg.specs.Spelling.{message}
 use Rattle.fs_msg.specs.declared.msg.Msg.{Msg}
 use Rattle.fs_world.specs.Served.{link_width}
 use Rattle.fs_world.specs.Within.{IsInRange}
-use Rattle.fs_world.specs.Linked.{IsFirstOf, IsPair, IsSentOver, IsWay}
+use Rattle.fs_world.specs.Linked.{AreFirstOf, IsPair, IsSentOver, IsWay}
 
 -- both directions: these messages go out, and those come back
 pub record BothWays (a b : Peer) (here there : Link) (out back : List Msg) (packets : List Sent) : Type 0 where
@@ -127,11 +127,11 @@ both_due a b here there out back packets more due elsewhere h = record {
 pub read_of : (from to : Link) (bytes : List ℕ) (p : Packet) → packet_at bytes ≡ Some p → IsSentOver from to bytes → IsPacketOf from.window to.window p
 read_of from to bytes p e h = subst (λ (q : Packet). IsPacketOf from.window to.window q) (some_is h.packet p (sym (written h.packet h.spelled) ∙ ap packet_at (sym h.text) ∙ e)) h.of
 
--- the messages that are left where the first was joined, if one was
+-- the messages that are left where so many of them were joined
 abbrev pub rest_of : {X : Type 0} → List Joined → List X → List X
 rest_of [] ms = ms
 rest_of (j ∷ js) [] = []
-rest_of (j ∷ js) (m ∷ ms) = ms
+rest_of (j ∷ js) (m ∷ ms) = rest_of js ms
 
 -- a packet completes no more than one message
 one_answer : (r : Result (Option (List ℕ)) FragError) → length (joined_of (r ∷ [])) ≤ 1
@@ -144,32 +144,35 @@ few_joined held [] few = omega arith
 few_joined held (s ∷ []) few = one_answer (answer_of (held ++ s))
 few_joined held (s ∷ t ∷ segments) few = absurd (omega arith)
 
+pub narrow_joined : (from to : Link) (messages : List Msg) (p : Packet) → IsWay from to messages → length (heard_on to p).joined ≤ 1
+narrow_joined from to messages p h = few_joined to.joiner (given_by to.window p.body) (one_given to.window p.body h.narrow)
+
 -- where these come whole
 record AreFirst (joined : List Joined) (others : List (List ℕ)) (messages : List Msg) : Type 0 where
   rest : others ≡ map message (rest_of joined messages)
-  first : IsFirstOf joined messages
+  first : AreFirstOf joined messages
   fits : AllByRecursion IsInRange (rest_of joined messages)
 
-parted : (joined : List Joined) (whole rest : List (List ℕ)) (ms : List Msg) → joined ≡ map Whole whole → length joined ≤ 1 → whole ++ rest ≡ map message ms → AllByRecursion IsInRange ms → AreFirst joined rest ms
-parted [] [] rest ms e few all fits = record { rest = all; first = tt; fits = fits }
-parted [] (w ∷ ws) rest ms e few all fits = absurd (cc)
-parted (j ∷ js) [] rest ms e few all fits = absurd (cc)
-parted (j ∷ js) (w ∷ ws) rest [] e few all fits = absurd (cc)
-parted (j ∷ []) (w ∷ []) rest (m ∷ ms) e few all fits =
+parted : (joined : List Joined) (whole rest : List (List ℕ)) (ms : List Msg) → joined ≡ map Whole whole → whole ++ rest ≡ map message ms → AllByRecursion IsInRange ms → AreFirst joined rest ms
+parted [] [] rest ms e all fits = record { rest = all; first = tt; fits = fits }
+parted [] (w ∷ ws) rest ms e all fits = absurd (cc)
+parted (j ∷ js) [] rest ms e all fits = absurd (cc)
+parted (j ∷ js) (w ∷ ws) rest [] e all fits = absurd (cc)
+parted (j ∷ js) (w ∷ ws) rest (m ∷ ms) e all fits =
     let is : j ≡ Whole w = cc in
     let same : w ≡ message m = cc in
-    let left : rest ≡ map message ms = cc in
-    record { rest = left; first = (is ∙ ap Whole same, fits.0.fits); fits = fits.1 }
-parted (j ∷ []) (w ∷ v ∷ ws) rest (m ∷ ms) e few all fits = absurd (cc)
-parted (j ∷ k ∷ js) (w ∷ ws) rest (m ∷ ms) e few all fits = absurd (omega arith)
+    let others : js ≡ map Whole ws = cc in
+    let left : ws ++ rest ≡ map message ms = cc in
+    let later = parted js ws rest ms others left fits.1 in
+    record { rest = later.rest; first = ((is ∙ ap Whole same, fits.0.fits), later.first); fits = later.fits }
 
 heard_first : (from to : Link) (ms : List Msg) (p : Packet) → IsPacketOf from.window to.window p → IsWay from to ms → (rest : List (List ℕ)) × (AreFirst (heard_on to p).joined rest ms × Carries from (link_accepted to p) rest)
 heard_first from to ms p q h =
     let t : HasHeard from to p (map message ms) = carries_told from to (map message ms) p q.body h.carries in
-    (t.rest, (parted (heard_on to p).joined t.whole t.rest ms t.joined (few_joined to.joiner (given_by to.window p.body) (one_given to.window p.body h.narrow)) t.all h.fits, t.carries))
+    (t.rest, (parted (heard_on to p).joined t.whole t.rest ms t.joined t.all h.fits, t.carries))
 
--- what it completes is the first message on its way
-pub first_joined : (from to : Link) (messages : List Msg) (p : Packet) → IsPacketOf from.window to.window p → IsWay from to messages → IsFirstOf (heard_on to p).joined messages
+-- what it completes are the first messages on their way
+pub first_joined : (from to : Link) (messages : List Msg) (p : Packet) → IsPacketOf from.window to.window p → IsWay from to messages → AreFirstOf (heard_on to p).joined messages
 first_joined from to messages p q h = (heard_first from to messages p q h).1.0.first
 
 pub both_accepted : (a b : Peer) (here there : Link) (out back : List Msg) (packets : List Sent) (p : Packet) → IsPacketOf there.window here.window p → BothWays a b here there out back packets

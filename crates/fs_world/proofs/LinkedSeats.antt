@@ -28,7 +28,7 @@ use Rattle.fs_actor.specs.Actor.{is_full_up, post_after}
 use Rattle.fs_serial.specs.Cluster.{is_with, without_first}
 use Rattle.fs_world.specs.Linked.{AreTied, FitsUp, between, downs_of, post_of, seat_post, ups_of}
 use Rattle.fs_world.specs.Packets.{Packets, with_sent}
-use Rattle.fs_world.specs.Served.{Seats, first_seat, up_after}
+use Rattle.fs_world.specs.Served.{Seats, first_seat, up_after, without_each}
 use Rattle.fs_world.specs.declared.seat.Seat.{Seat}
 use Rattle.fs_world.specs.declared.served.Served.{Served}
 use Rattle.fs_world.proofs.LinkedChange.{Changes, IsHeard, apart, tied_accepted, tied_due, tied_joined, tied_pushed}
@@ -77,6 +77,18 @@ put_same seats s seat h = same_map nat_cmp_total nat_cmp-IsAntisymmetric (insert
         either : (b : Bool) → eq_by_cmp nat_cmp q s.0 ≡ b → cond b (Some seat) (get seats q) ≡ get seats q
         either true e = sym h ∙ ap (λ n. get seats n) (sym (nat_cmp-IsAntisymmetric q s.0 (equal_is (nat_cmp q s.0) e)))
         either false e = refl
+
+-- of two seats that are put at one place the second stands there
+pub put_again : (seats : Seats) (s : Session) (first second : Seat) → insert (insert seats s.0 first) s.0 second ≡ insert seats s.0 second
+put_again seats s first second = same_map nat_cmp_total nat_cmp-IsAntisymmetric (insert (insert seats s.0 first) s.0 second) (insert seats s.0 second) (λ (q : ℕ).
+    get-insert nat_cmp_total (insert seats s.0 first) s.0 second q
+    ∙ ap (λ (o : Option Seat). cond (eq_by_cmp nat_cmp q s.0) (Some second) o) (get-insert nat_cmp_total seats s.0 first q)
+    ∙ either (eq_by_cmp nat_cmp q s.0) (get seats q)
+    ∙ sym (get-insert nat_cmp_total seats s.0 second q))
+  where
+    either : (b : Bool) (o : Option Seat) → cond b (Some second) (cond b (Some first) o) ≡ cond b (Some second) o
+    either true o = refl
+    either false o = refl
 
 -- what is the same of two seats is the same wherever one looks
 pub unseen : {X : Type 0} (f : Option Seat → X) (seats : Seats) (s : ℕ) (old new : Seat) → f (Some new) ≡ f (Some old) → (t : ℕ) → f (get (insert seats s new) t) ≡ f (get (insert seats s old) t)
@@ -179,22 +191,21 @@ module _ (w : Served) (s : Session) (seat : Seat) (journal : List Item) (packets
 
 -- ## A packet of a server comes to a session
 
--- the first message is taken, where one was joined
-abbrev pub taken : {X : Type 0} → List Joined → (X → Bool) → List X → List X
-taken [] is xs = xs
-taken (j ∷ js) is xs = without_first is xs
+none_left : {Y : Type 0} (joined : List Joined) → rest_of {X = Y} joined [] ≡ []
+none_left [] = refl
+none_left (j ∷ js) = refl
 
-pub rest_taken : {X Y : Type 0} (f : X → Y) (joined : List Joined) (is : X → Bool) (xs : List X) → map f (filter is (taken joined is xs)) ≡ rest_of joined (map f (filter is xs))
+rest_behind : {X Y : Type 0} (f : X → Y) (j : Joined) (js : List Joined) (xs : List X) → rest_of js (map f (behind xs)) ≡ rest_of (j ∷ js) (map f xs)
+rest_behind f j js [] = none_left js
+rest_behind f j js (x ∷ xs) = refl
+
+pub rest_taken : {X Y : Type 0} (f : X → Y) (joined : List Joined) (is : X → Bool) (xs : List X) → map f (filter is (without_each joined is xs)) ≡ rest_of joined (map f (filter is xs))
 rest_taken f [] is xs = refl
-rest_taken {X} f (j ∷ js) is xs = ap (λ (ys : List X). map f ys) (first_gone is xs) ∙ behind_of (filter is xs)
-  where
-    behind_of : (ys : List X) → map f (behind ys) ≡ rest_of (j ∷ js) (map f ys)
-    behind_of [] = refl
-    behind_of (y ∷ ys) = refl
+rest_taken {X} f (j ∷ js) is xs = rest_taken f js is (without_first is xs) ∙ ap (λ (ys : List X). rest_of js (map f ys)) (first_gone is xs) ∙ rest_behind f j js (filter is xs)
 
-pub others_taken : {X : Type 0} (joined : List Joined) (is other : X → Bool) (xs : List X) → ((x : X) → is x ≡ true → other x ≡ false) → filter other (taken joined is xs) ≡ filter other xs
+pub others_taken : {X : Type 0} (joined : List Joined) (is other : X → Bool) (xs : List X) → ((x : X) → is x ≡ true → other x ≡ false) → filter other (without_each joined is xs) ≡ filter other xs
 others_taken [] is other xs g = refl
-others_taken (j ∷ js) is other xs g = others_there is other xs g
+others_taken (j ∷ js) is other xs g = others_taken js is other (without_first is xs) g ∙ others_there is other xs g
 
 -- a message with this server is none with another
 pub with_other : {X : Type 0} (j k : ℕ) (m : ℕ × X) → same_peer (Server j) (Server k) ≡ false → is_with k m ≡ true → is_with j m ≡ false
@@ -202,7 +213,7 @@ with_other j k m e q = ap (λ (n : ℕ). n == j) (eqb-true m.0 k q) ∙ turned_a
 
 module _ (w : Served) (s : Session) (seat : Seat) (k : ℕ) (post : Links) (p : Packet) (journal : List Item) (packets : Packets) where
   abbrev accepting : Served
-  accepting = seated s (record seat { post = (post_accepted seat.post (Server k) p).links; down = taken (post_accepted seat.post (Server k) p).heard.joined (is_with k) seat.down }) journal packets w
+  accepting = seated s (record seat { post = (post_accepted seat.post (Server k) p).links; down = without_each (post_accepted seat.post (Server k) p).heard.joined (is_with k) seat.down }) journal packets w
 
   pub seat_accepts : slice_get w.posts k ≡ Some post → IsPacketOf (link_with post (Client s)).window (link_with seat.post (Server k)).window p → AreTied (seated s seat journal packets w) → AreTied accepting
   seat_accepts there of h =
@@ -217,7 +228,7 @@ module _ (w : Served) (s : Session) (seat : Seat) (k : ℕ) (post : Links) (p : 
       f x = msg.Answer x.1
 
       later : Seat
-      later = record seat { post = (post_accepted seat.post (Server k) p).links; down = taken joined (is_with k) seat.down }
+      later = record seat { post = (post_accepted seat.post (Server k) p).links; down = without_each joined (is_with k) seat.down }
 
       back : downs_of k (get (insert w.seats s.0 later) s.0) ≡ rest_of joined (downs_of k (get (insert w.seats s.0 seat) s.0))
       back = ap (downs_of k) (got_here w.seats s later) ∙ rest_taken f joined (is_with k) seat.down ∙ ap (λ (o : Option Seat). rest_of joined (downs_of k o)) (sym (got_here w.seats s seat))

@@ -29,13 +29,13 @@ use Rattle.fs_serial.specs.declared.flying.Flying.{Flying}
 use Rattle.fs_wire.specs.Readable.{is_readable_session}
 use Rattle.fs_world.specs.Linked.{AreTied, FitsDown, HasJoined, IsWritten, between, downs_of, flying_between, post_of, seat_post, ups_of}
 use Rattle.fs_world.specs.Packets.{Packets, with_sent}
-use Rattle.fs_world.specs.Served.{Seats, ServerStepped, with_down, with_down_at, with_downs, with_server}
+use Rattle.fs_world.specs.Served.{Seats, ServerStepped, with_down, with_down_at, with_downs, with_server, without_each}
 use Rattle.fs_world.specs.declared.seat.Seat.{Seat}
 use Rattle.fs_world.specs.declared.served.Served.{Served}
 use Rattle.fs_world.proofs.LinkedChange.{Changes, IsHeard, peer_is, tied_accepted, tied_due, tied_pushed}
 use Rattle.fs_world.proofs.LinkedLists.{got_set, no_more, one_more}
 use Rattle.fs_world.proofs.LinkedPair.{rest_of}
-use Rattle.fs_world.proofs.LinkedSeats.{got_here, number_apart, others_taken, rest_taken, taken, turned_apart, with_other}
+use Rattle.fs_world.proofs.LinkedSeats.{got_here, number_apart, others_taken, rest_taken, turned_apart, with_other}
 use Rattle.fs_world.proofs.NamedServers.{AreSent, sent_readable}
 use Rattle.fs_world.proofs.SeenSends.{down_joined}
 
@@ -230,7 +230,7 @@ module _ (w : Served) (k : ℕ) (there : k < length w.posts) where
 
   -- of a session
   abbrev hearing : Session → Seat → Packet → ServerStepped → ServerStepped
-  hearing s seat p x = record x { post = (post_accepted x.post (Client s) p).links; seats = insert x.seats s.0 (record seat { up = taken (post_accepted x.post (Client s) p).heard.joined (is_with k) seat.up }) }
+  hearing s seat p x = record x { post = (post_accepted x.post (Client s) p).links; seats = insert x.seats s.0 (record seat { up = without_each (post_accepted x.post (Client s) p).heard.joined (is_with k) seat.up }) }
 
   pub server_hears_session : (s : Session) (seat : Seat) (p : Packet) (x : ServerStepped) → get x.seats s.0 ≡ Some seat → IsPacketOf (link_with seat.post (Server k)).window (link_with x.post (Client s)).window p → AreTied (at x) → AreTied (at (hearing s seat p x))
   server_hears_session s seat p x is of h =
@@ -241,7 +241,7 @@ module _ (w : Served) (k : ℕ) (there : k < length w.posts) where
       joined = (post_accepted x.post (Client s) p).heard.joined
 
       new : Seat
-      new = record seat { up = taken joined (is_with k) seat.up }
+      new = record seat { up = without_each joined (is_with k) seat.up }
 
       f : ℕ × ClientMsg → Msg
       f m = msg.Client m.1
@@ -266,7 +266,7 @@ module _ (w : Served) (k : ℕ) (there : k < length w.posts) where
 
   -- of another server
   abbrev receiving : ℕ → Packet → ServerStepped → ServerStepped
-  receiving j p x = record x { post = (post_accepted x.post (Server j) p).links; flying = taken (post_accepted x.post (Server j) p).heard.joined (is_between j k) x.flying }
+  receiving j p x = record x { post = (post_accepted x.post (Server j) p).links; flying = without_each (post_accepted x.post (Server j) p).heard.joined (is_between j k) x.flying }
 
   pub server_hears_server : (j : ℕ) (post : Links) (p : Packet) (x : ServerStepped) → slice_get w.posts j ≡ Some post → same_peer (Server j) (Server k) ≡ false → same_peer (Server k) (Server j) ≡ false
       → IsPacketOf (link_with post (Server k)).window (link_with x.post (Server j)).window p → AreTied (at x) → AreTied (at (receiving j p x))
@@ -295,10 +295,10 @@ module _ (w : Served) (k : ℕ) (there : k < length w.posts) where
         parcels = λ i n e g. ap (λ (ms : List Flying). map f ms) (others_taken joined (is_between j k) (is_between i n) x.flying (λ m q. to_other i n g m q));
       }
 
-      out : flying_between k j (taken joined (is_between j k) x.flying) ≡ flying_between k j x.flying
+      out : flying_between k j (without_each joined (is_between j k) x.flying) ≡ flying_between k j x.flying
       out = ap (λ (ms : List Flying). map f ms) (others_taken joined (is_between j k) (is_between k j) x.flying (λ m q. from_other k j apart_here m q))
 
-      back : flying_between j k (taken joined (is_between j k) x.flying) ≡ rest_of joined (flying_between j k x.flying)
+      back : flying_between j k (without_each joined (is_between j k) x.flying) ≡ rest_of joined (flying_between j k x.flying)
       back = rest_taken f joined (is_between j k) x.flying
 
       others : (c : Peer) → same_peer c (Server j) ≡ false → (between (at (receiving j p x)) (Server k) c ≡ between (at x) (Server k) c) × (between (at (receiving j p x)) c (Server k) ≡ between (at x) c (Server k))

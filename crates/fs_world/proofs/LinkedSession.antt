@@ -1,17 +1,14 @@
--- What happens at a session keeps what holds of the links, and what comes to it is the first answer on its way.
+-- What happens at a session keeps what holds of the links, and what comes to it are the first answers on their way.
 use Rattle.std.proofs.Common.{◌≡◌, ◌∙◌, ◌<◌, ℕ, Bool, true, false, List, [], ◌∷◌, length, Option, Some, None, refl, sym, ap, subst, cond, arith}
 use Rattle.std.specs.Prelude.{is_some}
 use Rattle.std.specs.FinMap.{get, insert}
-use Rattle.std.specs.List.{find}
 use Rattle.fs_ident.specs.In.{In}
 use Rattle.fs_ident.specs.declared.actor.Peer.{Peer}
 use Rattle.fs_ident.specs.declared.actor.Peer.TheVariants.{Server, Client}
 use Rattle.fs_ident.specs.declared.actor.Session.{Session}
 use Rattle.fs_ident.proofs.Passing.{found}
 use Rattle.fs_ident.proofs.Standing.{In-more}
-use Rattle.fs_frag.specs.declared.joined.Joined.{Joined}
 use Rattle.fs_model.specs.declared.op.Op.{Op}
-use Rattle.fs_window.specs.declared.heard.Heard.{Heard}
 use Rattle.fs_window.specs.declared.link.Link.{Link}
 use Rattle.fs_window.specs.declared.packet.Packet.{Packet}
 use Rattle.fs_window.specs.declared.sent.Sent.{Sent}
@@ -25,28 +22,29 @@ use Rattle.fs_msg.specs.declared.client_msg.ClientMsg.{ClientMsg}
 use Rattle.fs_msg.specs.declared.item.Item.{Item}
 use Rattle.fs_msg.specs.declared.note.Note.{Note}
 use Rattle.fs_actor.specs.Actor.{act_noted, client_noted, is_full_up, post_after}
-use Rattle.fs_actor.specs.Hearing.{answer_heard, heard_in, unheard_note}
+use Rattle.fs_actor.specs.Hearing.{heard_in}
 use Rattle.fs_client.specs.Acts.{act_plan, is_act_spent}
 use Rattle.fs_client.specs.Answers.{answer_plan}
 use Rattle.fs_client.specs.Client.{committed}
 use Rattle.fs_client.specs.Turns.{turn_plan}
 use Rattle.fs_client.specs.declared.plan.Plan.{Plan}
+use Rattle.fs_client.specs.declared.state.Client.{Client as ClientCore}
 use Rattle.fs_serial.specs.Cluster.{is_with, without_first}
 use Rattle.fs_serial.specs.World.{is_called}
 use Rattle.fs_serial.proofs.SetAt.{In_without}
-use Rattle.fs_world.specs.Linked.{AreTied, FitsUp, GoesBetween, IsFirstOf, IsLinked, IsNamedAnswer, IsSeated, IsSentOver, IsThere, downs_of, post_of, seat_post}
+use Rattle.fs_world.specs.Linked.{AreTied, FitsUp, GoesBetween, AreFirstOf, IsLinked, IsNamedAnswer, IsSeated, IsSentOver, IsThere, downs_of, post_of, seat_post}
 use Rattle.fs_world.specs.Packets.{Packets, with_sent}
 use Rattle.fs_world.specs.Planned.{WasSent}
-use Rattle.fs_world.specs.Calls.{client_does, client_hears, seat_goes}
-use Rattle.fs_world.specs.Served.{Seats, client_acts, client_told, client_turns, up_after, with_read, with_seat}
+use Rattle.fs_world.specs.Calls.{client_does, seat_goes}
+use Rattle.fs_world.specs.Served.{SeatStepped, Seats, client_acts, client_told, client_turns, up_after, with_read, with_seat, without_each}
 use Rattle.fs_world.specs.declared.seat.Seat.{Seat}
 use Rattle.fs_world.specs.declared.served.Served.{Served}
 use Rattle.fs_world.proofs.LinkedChange.{IsHeard, first_of}
-use Rattle.fs_world.proofs.Heard.{first_answer}
+use Rattle.fs_world.proofs.HeardEach.{AreNext, answers_in, gone_alike, heard_all, heard_is, heard_notes, seat_after, seat_heard}
 use Rattle.fs_world.proofs.LinkedLists.{within}
 use Rattle.fs_world.proofs.LinkedPair.{read_of}
-use Rattle.fs_world.proofs.LinkedSeats.{all_put, put_same, seat_accepts, seat_due, seat_sends, seated, taken}
-use Rattle.fs_world.proofs.NamedClients.{IsFine, IsPlanned, SendsFine, act_fine, answer_fine, answer_silent, committed_fine, session_kept, turn_fine}
+use Rattle.fs_world.proofs.LinkedSeats.{all_put, put_same, seat_accepts, seat_due, seat_sends, seated}
+use Rattle.fs_world.proofs.NamedClients.{IsFine, IsPlanned, SendsFine, act_fine, answer_fine, committed_fine, session_kept, turn_fine}
 pub use Rattle.fs_world.proofs.NamedClients.{answer_silent}
 use Rattle.fs_world.proofs.LinkedFirst.{carried_then, posts_there, served_then}
 use Rattle.fs_world.proofs.Seen.{joined_still}
@@ -105,8 +103,8 @@ up_named servers None up fine h m i = h m i
 up_named servers (Some x) up fine h m i = In-more m up x (m.0 < servers) (λ j. h m j) (λ e. subst (λ (y : ℕ × ClientMsg). y.0 < servers) (sym e) fine.0) i
 
 -- the seat of a client that has changed as planned, and sends
-abbrev seat_after : Plan Note → Seat → Seat
-seat_after p seat = record seat { client = committed p.ready seat.client; post = post_after p.out.send seat.post; up = up_after p.out.send seat.up }
+abbrev planned_seat : Plan Note → Seat → Seat
+planned_seat p seat = record seat { client = committed p.ready seat.client; post = post_after p.out.send seat.post; up = up_after p.out.send seat.up }
 
 -- the client does what it planned
 session_does : (w : Served) (s : Session) (turn : Bool) (heard : Option Peer) (spent : Bool) (p : Plan Note) (seat : Seat) (journal : List Item) (packets : Packets) → IsOfServer w heard → IsPlanned (length w.servers) p → FitsUp p.out.send → is_full_up p.out.send seat.post ≡ false
@@ -114,8 +112,8 @@ session_does : (w : Served) (s : Session) (turn : Bool) (heard : Option Peer) (s
 session_does w s turn heard spent p seat journal packets of planned fits room k h =
     let n = length w.servers in
     let sent : Seat = record seat { post = post_after p.out.send seat.post; up = up_after p.out.send seat.up } in
-    let due = post_due (seat_after p seat).post turn heard in
-    let now : Seat = record (seat_after p seat) { post = due.links } in
+    let due = post_due (planned_seat p seat).post turn heard in
+    let now : Seat = record (planned_seat p seat) { post = due.links } in
     let fine : IsFine n (committed p.ready seat.client) = committed_fine n p seat.client planned (record { log = k.here.log; hints = k.here.hints }) in
     sitting_linked w s now (with_read p.out.admitted journal) (with_sent due.sent packets) (record {
       tied = seat_due w s sent now journal (with_read p.out.admitted journal) packets (with_sent due.sent packets) turn heard refl refl refl refl (heard_there w s sent journal packets heard of h)
@@ -186,10 +184,10 @@ sent_read w x i h =
 -- ## A packet of a server comes to a session
 
 pub told_seat_first : (w : Served) (s : Session) (seat : Seat) (k : ℕ) (p : Packet) → get w.seats s.0 ≡ Some seat → WasSent (Server k) (Client s) (Some p) w.packets.sent
-    → IsLinked w → IsFirstOf (post_accepted seat.post (Server k) p).heard.joined (downs_of k (Some seat))
+    → IsLinked w → AreFirstOf (post_accepted seat.post (Server k) p).heard.joined (downs_of k (Some seat))
 told_seat_first w s seat k p e x h =
     let g = went w (Server k) (Client s) p x h in
-    subst (λ (o : Option Seat). IsFirstOf (post_accepted seat.post (Server k) p).heard.joined (downs_of k o)) e
+    subst (λ (o : Option Seat). AreFirstOf (post_accepted seat.post (Server k) p).heard.joined (downs_of k o)) e
     (first_of (Client s) (Server k) seat.post g.from.0 p w (ap seat_post e) g.from.1 refl (packet_of w (Server k) (Client s) g.from.0 seat.post p g.from.1 (ap seat_post e) x h) h.ties)
 
 of_server : (w : Served) (k : ℕ) (p : Packet) → k < length w.servers → IsOfServer w (heard_in (Server k) p)
@@ -199,23 +197,41 @@ of_server w k p few = either (is_some p.body)
     either true = few
     either false = tt
 
-down_taken : (servers : ℕ) (joined : List Joined) (is : ℕ × Answer → Bool) (down : List (ℕ × Answer)) → ((m : ℕ × Answer) → In m down → (m.0 < servers) × IsNamedAnswer servers m.1) → (m : ℕ × Answer) → In m (taken joined is down) → (m.0 < servers) × IsNamedAnswer servers m.1
-down_taken servers [] is down h m i = h m i
-down_taken servers (j ∷ js) is down h m i = h m (In_without is down m i)
+down_gone : {Y : Type 0} (servers : ℕ) (gone : List Y) (is : ℕ × Answer → Bool) (down : List (ℕ × Answer)) → ((m : ℕ × Answer) → In m down → (m.0 < servers) × IsNamedAnswer servers m.1) → (m : ℕ × Answer) → In m (without_each gone is down) → (m.0 < servers) × IsNamedAnswer servers m.1
+down_gone servers [] is down h m i = h m i
+down_gone servers (y ∷ ys) is down h m i = down_gone servers ys is (without_first is down) (λ n j. h n (In_without is down n j)) m i
 
-session_hears : (w : Served) (s : Session) (now k : ℕ) (heard : Option Peer) (count : Heard) (joined : List Joined) (seat : Seat) (journal : List Item) (packets : Packets)
-    → IsOfServer w heard → IsFirstOf joined (downs_of k (Some seat)) → ((m : ℕ × Answer) → find (is_with k) seat.down ≡ Some m → IsNamedAnswer (length w.servers) m.1)
-    → IsSitting w s (record seat { down = taken joined (is_with k) seat.down }) journal packets → IsLinked w → IsLinked (with_seat s (client_hears now s k heard count (answer_heard joined) seat journal packets) w).world
-session_hears w s now k heard count [] seat journal packets of f named sitting h = session_goes w s false heard (unheard_note count) seat journal packets of sitting h
-session_hears w s now k heard count (j ∷ js) seat journal packets of f named sitting h =
-    let first = first_answer k seat j js f in
-    let a = first.0 in
-    let left : Seat = record seat { down = without_first (is_with k) seat.down } in
-    let none : None ≡ (answer_plan seat.client now k a).out.send = sym (answer_silent seat.client now k a) in
-    let planned = answer_fine (length w.servers) (zero_below w h) seat.client now k a (named (k, a) first.1) (record { log = sitting.here.log; hints = sitting.here.hints }) in
-    subst (λ (o : Option Answer). IsLinked (with_seat s (client_hears now s k heard count o seat journal packets) w).world) (sym first.2)
-    (session_does w s false heard false (client_noted (answer_plan seat.client now k a)) left journal packets of (record { joins = planned.joins; hints = planned.hints; sends = planned.sends })
-    (subst (λ (x : Option (ℕ × ClientMsg)). FitsUp x) none tt) (subst (λ (x : Option (ℕ × ClientMsg)). is_full_up x seat.post ≡ false) none refl) sitting h)
+-- a client that hears answers which name servers that there are knows of no others
+heard_fine : (servers : ℕ) → 0 < servers → (now k : ℕ) (answers : List Answer) (down : List (ℕ × Answer)) (c : ClientCore) → AreNext k answers down → ((m : ℕ × Answer) → In m down → (m.0 < servers) × IsNamedAnswer servers m.1) → IsFine servers c → IsFine servers (heard_all now k answers c)
+heard_fine servers some now k [] down c next named h = h
+heard_fine servers some now k (a ∷ answers) down c next named h =
+    let p = answer_plan c now k a in
+    let planned = answer_fine servers some c now k a (named (k, a) (found (is_with k) down (k, a) next.0).0).1 h in
+    heard_fine servers some now k answers (without_first (is_with k) down) (committed p.ready c) next.1 (λ m i. named m (In_without (is_with k) down m i))
+    (committed_fine servers (client_noted p) c (record { joins = planned.joins; hints = planned.hints; sends = planned.sends }) h)
+
+heard_kept : (now k : ℕ) (answers : List Answer) (c : ClientCore) → (heard_all now k answers c).session ≡ c.session
+heard_kept now k [] c = refl
+heard_kept now k (a ∷ answers) c = heard_kept now k answers (committed (answer_plan c now k a).ready c) ∙ session_kept (answer_plan c now k a).ready c
+
+session_heard : (w : Served) (s : Session) (now k : ℕ) (from : Option Peer) (answers : List Answer) (notes : List Note) (seat : Seat) (journal : List Item) (packets : Packets)
+    → IsOfServer w from → IsFine (length w.servers) (heard_all now k answers seat.client) → IsSitting w s (record seat { down = without_each answers (is_with k) seat.down }) journal packets → IsLinked w
+    → IsLinked (with_seat s (seat_heard s now k from answers notes seat journal packets) w).world
+session_heard w s now k from answers notes seat journal packets of fine sitting h =
+    let due = post_due seat.post false from in
+    let left : Seat = record seat { down = without_each answers (is_with k) seat.down } in
+    let then : Seat = seat_after now k answers due.links seat in
+    sitting_linked w s then journal (with_sent due.sent packets) (record {
+      tied = seat_due w s left then journal journal packets (with_sent due.sent packets) false from refl refl refl refl (heard_there w s left journal packets from of h) sitting.tied;
+      here = record {
+        number = sitting.here.number;
+        session = heard_kept now k answers seat.client ∙ sitting.here.session;
+        log = fine.log;
+        hints = fine.hints;
+        up = sitting.here.up;
+        down = sitting.here.down;
+      };
+    }) h
 
 pub told_seat_linked : (w : Served) (s : Session) (seat : Seat) (now k : ℕ) (p : Packet) → get w.seats s.0 ≡ Some seat → WasSent (Server k) (Client s) (Some p) w.packets.sent
     → IsLinked w → IsLinked (with_seat s (client_told now s k p seat w.journal w.packets) w).world
@@ -224,10 +240,21 @@ told_seat_linked w s seat now k p e x h =
     let a = post_accepted seat.post (Server k) p in
     let few : k < length w.servers = subst (λ (n : ℕ). k < n) h.posts (within w.posts k g.from.0 g.from.1) in
     let start = sits w s seat e h in
-    let k_seat = h.seats s seat e in
-    session_hears w s now k (heard_in (Server k) p) a.heard a.heard.joined (record seat { post = a.links }) w.journal w.packets (of_server w k p few) (told_seat_first w s seat k p e x h)
-    (λ m q. (k_seat.down m (found (is_with k) seat.down m q).0).1)
-    (record {
+    let found_there = h.seats s seat e in
+    let now_there : Seat = record seat { post = a.links } in
+    let heard = answers_in k a.heard.joined seat.down (told_seat_first w s seat k p e x h) in
+    let sitting : IsSitting w s (record now_there { down = without_each a.heard.joined (is_with k) seat.down }) w.journal w.packets = record {
       tied = seat_accepts w s seat k g.from.0 p w.journal w.packets g.from.1 (packet_of w (Server k) (Client s) g.from.0 seat.post p g.from.1 (ap seat_post e) x h) start.tied;
-      here = record { number = k_seat.number; session = k_seat.session; log = k_seat.log; hints = k_seat.hints; up = k_seat.up; down = down_taken (length w.servers) a.heard.joined (is_with k) seat.down k_seat.down };
-    }) h
+      here = record {
+        number = found_there.number;
+        session = found_there.session;
+        log = found_there.log;
+        hints = found_there.hints;
+        up = found_there.up;
+        down = down_gone (length w.servers) a.heard.joined (is_with k) seat.down found_there.down;
+      };
+    } in
+    subst (λ (x : SeatStepped). IsLinked (with_seat s x w).world) (sym (heard_is s now k (heard_in (Server k) p) a.heard heard.0 now_there w.journal w.packets heard.1))
+    (session_heard w s now k (heard_in (Server k) p) heard.0 (heard_notes a.heard now k heard.0 seat.client) now_there w.journal w.packets (of_server w k p few)
+    (heard_fine (length w.servers) (zero_below w h) now k heard.0 seat.down seat.client heard.2 found_there.down (record { log = found_there.log; hints = found_there.hints }))
+    (subst (λ (down : List (ℕ × Answer)). IsSitting w s (record now_there { down = down }) w.journal w.packets) (gone_alike k a.heard.joined heard.0 (is_with k) seat.down heard.1) sitting) h)

@@ -277,3 +277,28 @@ answer_silent c now from a = either (fits from (begun now c).exchange a (begun n
     either : (b : Bool) → (cond b (told a (begun now c)) (strange (begun now c))).out.send ≡ None
     either true = told_silent a (begun now c)
     either false = refl
+
+ended_admits : (l : Led) (e : LedEnd) (c : Client) → (ended_plan l e c).out.admitted ≡ None
+ended_admits l (led_end.Done r) c = refl
+ended_admits l (led_end.Ended lease until now) c = refl
+ended_admits l (led_end.Again w) c = refl
+
+led_admits : (led : Option Led) (e : LedEnd) (c : Client) → (led_plan led e c).out.admitted ≡ None
+led_admits None e c = refl
+led_admits (Some l) e c = ended_admits l e c
+
+-- nor does it admit anything at once
+told_admits : (a : Answer) (c : Client) → (told a c).out.admitted ≡ None
+told_admits (answer_.Granted gs fresh e) c = refl
+told_admits (answer_.Renewed rows e) c = refl
+told_admits (answer_.Released count e) c = refl
+told_admits (answer_.Shipped count e) c = refl
+told_admits (answer_.Led e) c = led_admits c.led e c
+told_admits (answer_.Recall number) c = refl
+
+pub answer_admits : (c : Client) (now from : ℕ) (a : Answer) → (answer_plan c now from a).out.admitted ≡ None
+answer_admits c now from a = either (fits from (begun now c).exchange a (begun now c))
+  where
+    either : (b : Bool) → (cond b (told a (begun now c)) (strange (begun now c))).out.admitted ≡ None
+    either true = told_admits a (begun now c)
+    either false = refl

@@ -2,12 +2,13 @@
 use Rattle.std.proofs.Common.{◌≡◌, ℕ, Bool, true, false, List, [], ◌∷◌, Option, Some, None, refl, sym, subst, cond}
 use Rattle.std.specs.Prelude.{Result, Ok, Err, IfOk, slice_get, ◌==◌}
 use Rattle.std.specs.FinMap.{get}
+use Rattle.std.specs.List.{AllByRecursion}
 use Rattle.fs_ident.specs.declared.actor.Peer.{Peer}
 use Rattle.fs_ident.specs.declared.actor.Peer.TheVariants.{Server, Client}
 use Rattle.fs_ident.specs.declared.actor.Session.{Session}
 use Rattle.fs_ident.proofs.Standing.{In-got}
 use Rattle.fs_frag.specs.declared.joined.Joined.{Joined}
-use Rattle.fs_actor.specs.Hearing.{answer_heard, event_heard, heard_in, quiet_note, silent_note, unheard_note}
+use Rattle.fs_actor.specs.Hearing.{event_heard, heard_in, quiet_note, silent_note, unheard_note}
 use Rattle.fs_model.specs.declared.op.Op.{Op}
 use Rattle.fs_window.specs.Post.{Links, post_accepted}
 use Rattle.fs_window.specs.Reading.{packet_at}
@@ -17,7 +18,11 @@ use Rattle.fs_window.specs.declared.sent.Sent.{Sent}
 use Rattle.fs_msg.specs.declared.answer.Answer.{Answer}
 use Rattle.fs_msg.specs.declared.core_error.CoreError.{CoreError}
 use Rattle.fs_msg.specs.declared.item.Item.{Item}
+use Rattle.fs_msg.specs.declared.note.Note.{Note}
 use Rattle.fs_msg.specs.declared.note.Note.TheVariants as note
+use Rattle.fs_client.specs.Answers.{answer_plan}
+use Rattle.fs_client.specs.Client.{committed}
+use Rattle.fs_client.specs.declared.state.Client.{Client as ClientCore}
 use Rattle.fs_schedule.specs.declared.event.Event.{Event}
 use Rattle.fs_schedule.specs.declared.event.What.{What}
 use Rattle.fs_schedule.specs.declared.event.What.TheVariants.{Join, Do, Tell, Turn, Recall, Move}
@@ -26,19 +31,20 @@ use Rattle.fs_server.specs.declared.event.ServerEvent.{ServerEvent}
 use Rattle.fs_server.specs.declared.event.ServerEvent.TheVariants.{Turn as TheTurn, Recall as TheRecall, Move as TheMove}
 use Rattle.fs_server.specs.declared.state.Server.{Server as Core}
 use Rattle.fs_world.specs.Direct as direct
-use Rattle.fs_world.specs.Carried.{Carries, GivesFirst, IsFirstOf, LinksCarry, between, downs_of, joined_at, flying_between, post_of, seat_post, ups_of}
+use Rattle.fs_world.specs.Carried.{Carries, GivesFirst, AreFirstOf, LinksCarry, between, downs_of, joined_at, flying_between, post_of, seat_post, ups_of}
 use Rattle.fs_world.specs.Packets.{Packets, first_untold}
 use Rattle.fs_world.specs.Refusals.{HasNone, is_link_strange}
 use Rattle.fs_world.specs.Served as served
 use Rattle.fs_world.specs.Calls.{client_hears, server_hears}
-use Rattle.fs_world.specs.Served.{ServerStepped, arrives, at_server, comes, do_at, join_at, server_step_at, server_told_at, tell, tell_at, told_at, turn_at}
+use Rattle.fs_world.specs.Served.{SeatStepped, ServerStepped, arrives, at_server, comes, do_at, join_at, server_step_at, server_told_at, tell, tell_at, told_at, turn_at}
 use Rattle.fs_world.specs.World.{step}
 use Rattle.fs_world.specs.declared.direct.Direct.{Direct as TheDirect}
 use Rattle.fs_world.specs.declared.form.Form.{Form}
 use Rattle.fs_world.specs.declared.form.Form.TheVariants.{Direct, Served}
 use Rattle.fs_world.specs.declared.seat.Seat.{Seat}
 use Rattle.fs_world.specs.declared.served.Served.{Served as TheServed}
-use Rattle.fs_world.proofs.Heard.{first_answer, first_flying, first_question}
+use Rattle.fs_world.proofs.Heard.{first_flying, first_question}
+use Rattle.fs_world.proofs.HeardEach.{answers_in, heard_is, heard_notes, notes_all}
 
 -- nothing unsent came over a link
 abbrev IsPlain : Outcome → Type 0
@@ -53,45 +59,52 @@ quiet_plain h = elim (h.fresh == 0) as (λ (b : Bool). is_link_strange (cond b n
 silent_plain : (h : Heard) → h.joined ≡ [] → is_link_strange (unheard_note h) ≡ false
 silent_plain h e = subst (λ (js : List Joined). is_link_strange (silent_note js h) ≡ false) (sym e) (quiet_plain h)
 
-client_plain : (now : ℕ) (s : Session) (k : ℕ) (from : Option Peer) (h : Heard) (js : List Joined) (seat : Seat) (journal : List Item) (p : Packets)
-    → h.joined ≡ js → IsFirstOf js (downs_of k (Some seat)) → IsPlain (client_hears now s k from h (answer_heard js) seat journal p).outcome
-client_plain now s k from h [] seat journal p e f = (silent_plain h e, tt)
-client_plain now s k from h (j ∷ js) seat journal p e f =
-    subst (λ (o : Option Answer). IsPlain (client_hears now s k from h o seat journal p).outcome) (sym (first_answer k seat j js f).2) (refl, tt)
+answers_plain : (now k : ℕ) (answers : List Answer) (c : ClientCore) → AllByRecursion (λ (n : Note). is_link_strange n ≡ false) (notes_all now k answers c)
+answers_plain now k [] c = tt
+answers_plain now k (a ∷ answers) c = (refl, answers_plain now k answers (committed (answer_plan c now k a).ready c))
+
+heard_plain : (h : Heard) (now k : ℕ) (answers : List Answer) (c : ClientCore) → AllByRecursion (λ (n : Note). is_link_strange n ≡ false) (heard_notes h now k answers c)
+heard_plain h now k [] c = (quiet_plain h, tt)
+heard_plain h now k (a ∷ answers) c = answers_plain now k (a ∷ answers) c
+
+client_plain : (now : ℕ) (s : Session) (k : ℕ) (from : Option Peer) (h : Heard) (seat : Seat) (journal : List Item) (p : Packets) → AreFirstOf h.joined (downs_of k (Some seat)) → IsPlain (client_hears now s k from h seat journal p).outcome
+client_plain now s k from h seat journal p f =
+    let heard = answers_in k h.joined seat.down f in
+    subst (λ (x : SeatStepped). IsPlain x.outcome) (sym (heard_is s now k from h heard.0 seat journal p heard.1)) (heard_plain h now k heard.0 seat.client)
 
 module _ (w : TheServed) (now k : ℕ) (from : Option Peer) (h : Heard) (x : ServerStepped) where
-  session_plain : (s : Session) (o : Option Seat) (js : List Joined) → h.joined ≡ js → IsFirstOf js (ups_of k o) → IsPlain (server_hears now k (Client s) from h (event_heard (Client s) js) x).outcome
+  session_plain : (s : Session) (o : Option Seat) (js : List Joined) → h.joined ≡ js → AreFirstOf js (ups_of k o) → IsPlain (server_hears now k (Client s) from h (event_heard (Client s) js) x).outcome
   session_plain s o [] e f = (silent_plain h e, tt)
   session_plain s None (j ∷ js) e f = absurd f
   session_plain s (Some seat) (j ∷ js) e f =
       subst (λ (y : Option ServerEvent). IsPlain (server_hears now k (Client s) from h y x).outcome) (sym (first_question k s seat j js f).2) (refl, tt)
 
-  peer_plain : (i : ℕ) (js : List Joined) → h.joined ≡ js → IsFirstOf js (flying_between i k w.flying) → IsPlain (server_hears now k (Server i) from h (event_heard (Server i) js) x).outcome
+  peer_plain : (i : ℕ) (js : List Joined) → h.joined ≡ js → AreFirstOf js (flying_between i k w.flying) → IsPlain (server_hears now k (Server i) from h (event_heard (Server i) js) x).outcome
   peer_plain i [] e f = (silent_plain h e, tt)
   peer_plain i (j ∷ js) e f =
       subst (λ (y : Option ServerEvent). IsPlain (server_hears now k (Server i) from h y x).outcome) (sym (first_flying k i w.flying j js f).2) (refl, tt)
 
-  server_plain : (who : Peer) → IsFirstOf h.joined (between w who (Server k)) → IsPlain (server_hears now k who from h (event_heard who h.joined) x).outcome
+  server_plain : (who : Peer) → AreFirstOf h.joined (between w who (Server k)) → IsPlain (server_hears now k who from h (event_heard who h.joined) x).outcome
   server_plain (Client s) f = session_plain s (get w.seats s.0) h.joined refl f
   server_plain (Server i) f = peer_plain i h.joined refl f
 
 -- ## A packet is told
 
 module _ (w : TheServed) (now : ℕ) where
-  told_plain : (s : Session) (k : ℕ) (p : Packet) (o : Option Seat) → IsFirstOf (joined_at (seat_post o) (Server k) p) (downs_of k o) → IsPlain (told_at o now s k p w).outcome
+  told_plain : (s : Session) (k : ℕ) (p : Packet) (o : Option Seat) → AreFirstOf (joined_at (seat_post o) (Server k) p) (downs_of k o) → IsPlain (told_at o now s k p w).outcome
   told_plain s k p None f = (refl, tt)
   told_plain s k p (Some seat) f =
       let a = post_accepted seat.post (Server k) p in
-      client_plain now s k (heard_in (Server k) p) a.heard a.heard.joined (record seat { post = a.links }) w.journal w.packets refl f
+      client_plain now s k (heard_in (Server k) p) a.heard (record seat { post = a.links }) w.journal w.packets f
 
-  server_comes_plain : (k : ℕ) (from : Peer) (p : Packet) (c : Option Core) (o : Option Links) → IsFirstOf (joined_at o from p) (between w from (Server k)) → IsPlain (server_told_at c o now k from p w).outcome
+  server_comes_plain : (k : ℕ) (from : Peer) (p : Packet) (c : Option Core) (o : Option Links) → AreFirstOf (joined_at o from p) (between w from (Server k)) → IsPlain (server_told_at c o now k from p w).outcome
   server_comes_plain k from p None o f = (refl, tt)
   server_comes_plain k from p (Some c) None f = (refl, tt)
   server_comes_plain k from p (Some c) (Some post) f =
       let a = post_accepted post from p in
       server_plain w now k (heard_in from p) a.heard (record (at_server c post w) { post = a.links }) from f
 
-  comes_plain : (from to : Peer) (p : Packet) → IsFirstOf (joined_at (post_of w to) from p) (between w from to) → IsPlain (comes now from to p w).outcome
+  comes_plain : (from to : Peer) (p : Packet) → AreFirstOf (joined_at (post_of w to) from p) (between w from to) → IsPlain (comes now from to p w).outcome
   comes_plain from (Server k) p f = server_comes_plain k from p (slice_get w.servers k) (slice_get w.posts k) f
   comes_plain (Server k) (Client s) p f = told_plain s k p (get w.seats s.0) f
   comes_plain (Client t) (Client s) p f = (refl, tt)

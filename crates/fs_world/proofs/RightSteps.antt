@@ -1,8 +1,8 @@
 -- Every event of a world of the servers form notes what is right.
-use Rattle.std.proofs.Common.{◌≡◌, ℕ, ◌+◌, ◌==◌, ◌≤◌, ◌<◌, true, false, List, [], ◌∷◌, length, cond, refl, sym, ap, ◌∙◌, subst}
+use Rattle.std.proofs.Common.{◌≡◌, ℕ, ◌+◌, ◌==◌, ◌≤◌, ◌<◌, max, true, false, List, [], ◌∷◌, ◌++◌, length, cond, refl, sym, ap, ◌∙◌, subst, arith}
 use Rattle.std.proofs.lemmas.Bool.{eqb-true}
 use Rattle.std.specs.Prelude.{Option, Some, None, nat_lt, slice_get}
-use Rattle.std.specs.FinMap.{get}
+use Rattle.std.specs.FinMap.{get, insert}
 use Rattle.std.specs.List.{AllByRecursion, find}
 use Rattle.fs_ident.specs.declared.actor.Peer.{Peer}
 use Rattle.fs_ident.specs.declared.actor.Peer.TheVariants.{Server, Client}
@@ -24,7 +24,7 @@ use Rattle.fs_msg.specs.declared.client_msg.ClientMsg.{ClientMsg}
 use Rattle.fs_msg.specs.declared.client_msg.ClientMsg.TheVariants.{Ask, Release, Renew, Ship, Lead}
 use Rattle.fs_msg.specs.declared.note.Note.{Note}
 use Rattle.fs_msg.specs.declared.note.Note.TheVariants as note
-use Rattle.fs_actor.specs.Hearing.{answer_heard, event_heard, heard_in, quiet_note, silent_note}
+use Rattle.fs_actor.specs.Hearing.{event_heard, heard_in, quiet_note, silent_note}
 use Rattle.fs_client.specs.Answers.{answer_plan}
 use Rattle.fs_server.specs.Step.{step}
 use Rattle.fs_server.specs.declared.event.ServerEvent.{ServerEvent}
@@ -36,24 +36,26 @@ use Rattle.fs_schedule.specs.declared.event.What.TheVariants.{Join, Do, Tell, Tu
 use Rattle.fs_serial.specs.Cluster.{Cluster, IsThere, Lines, after_step, is_with, parcels_of}
 use Rattle.fs_serial.specs.Refusals.{rows_in}
 use Rattle.fs_serial.specs.Joined.{rows_of_all}
-use Rattle.fs_world.specs.Calls.{client_hears, server_hears}
-use Rattle.fs_world.specs.Carried.{Carries, GivesFirst, IsFirstOf, between, downs_of, joined_at, flying_between, post_of, seat_post, ups_of}
-use Rattle.fs_world.specs.Order.{Tale}
+use Rattle.fs_world.specs.Calls.{server_hears}
+use Rattle.fs_world.specs.Carried.{Carries, GivesFirst, AreFirstOf, between, downs_of, joined_at, flying_between, post_of, seat_post, ups_of}
+use Rattle.fs_world.specs.Order.{Tale, ended_in}
 use Rattle.fs_world.specs.Packets.{first_untold}
 use Rattle.fs_world.specs.Parts.{lines_in, lines_of}
-use Rattle.fs_world.specs.Served.{Stepped, arrives, at_server, comes, do_at, join_at, server_step_at, server_told, server_told_at, step_of, tell_at, told_at, turn_at, with_seat, with_server}
+use Rattle.fs_world.specs.Served.{SeatStepped, Stepped, arrives, at_server, comes, do_at, join_at, server_step_at, server_told, server_told_at, step_of, tell_at, told_at, turn_at, with_seat, with_server}
 use Rattle.fs_world.specs.Refusals.{IsFairAnswer, packet_told}
 use Rattle.fs_world.specs.World.{may_happen}
 use Rattle.fs_world.specs.declared.form.Form.TheVariants.{Served as ServedForm}
 use Rattle.fs_world.specs.declared.seat.Seat.{Seat}
 use Rattle.fs_world.specs.declared.served.Served.{Served}
-use Rattle.fs_world.proofs.Heard.{first_answer, first_flying, first_question}
+use Rattle.fs_world.proofs.Heard.{first_flying, first_question}
+use Rattle.fs_world.proofs.HeardEach.{AreNext, answers_in, heard_is, heard_notes, notes_all, seat_after}
+use Rattle.fs_world.proofs.LinkedSeats.{got_here}
 use Rattle.fs_world.proofs.Right.{Answers, IsRight, TakesEvent, event_right, plain_client, turn_right}
 use Rattle.fs_world.proofs.SerialLaws.{SerialLaws, timed}
 use Rattle.fs_world.proofs.ServedHolds.{cluster_of}
 use Rattle.fs_world.proofs.ServedSteps.{to_there}
 use Rattle.fs_world.proofs.ServerHolds.{clock, flying_there, question_there}
-use Rattle.fs_world.proofs.SessionSteps.{HoldsOf, parts_of}
+use Rattle.fs_world.proofs.SessionSteps.{HoldsOf, heard_next, parts_of}
 
 -- what the event notes is right
 abbrev pub AllRight : Answers → List Note → Type 0
@@ -72,6 +74,21 @@ silent ok (j ∷ js) x = (record { plain = refl; fair = tt }, tt)
 -- the question is the first of the server's, as it was found
 question_found : (k : ℕ) (up : List (ℕ × ClientMsg)) (m : ℕ × ClientMsg) → find (is_with k) up ≡ Some m → find (is_with k) up ≡ Some (k, m.1)
 question_found k up m first = first ∙ ap (λ (j : ℕ). let o : Option (ℕ × ClientMsg) = Some (j, m.1) in o) (eqb-true m.0 k (found (is_with k) up m first).1)
+
+-- what a client notes of the next answers of a server, one after another
+notes_right : (answers : List Answer) (laws : SerialLaws) (count skew greatest : ℕ) (tale : Tale) (w : Served) (h : HoldsOf (timed laws) count skew greatest tale w) (now : ℕ) (within : greatest ≤ now + skew) (some : 1 ≤ count)
+    (s : Session) (seat : Seat) (at : get w.seats s.0 ≡ Some seat) (k : ℕ) (ok : Answers) → AreNext k answers seat.down → AllRight ok (notes_all now k answers seat.client)
+notes_right [] laws count skew greatest tale w h now within some s seat at k ok next = tt
+notes_right (a ∷ answers) laws count skew greatest tale w h now within some s seat at k ok next =
+    let own : lines_of w.term w.seats s ≡ lines_in w.term s (Some seat) = ap (lines_in w.term s) at in
+    let one = seat_after now k (a ∷ []) seat.post seat in
+    let between : Tale = record { told = tale.told ++ ended_in s (tale.leads s) (note.Client (answer_plan seat.client now k a).out.note ∷ []); leads = tale.leads } in
+    let v : Served = record w { seats = insert w.seats s.0 one } in (
+      subst (λ (n : Lines). IsRight ok (note.Client (answer_plan n.client now k a).out.note)) own
+          (plain_client ok (answer_plan (lines_of w.term w.seats s).client now k a).out.note
+          (laws.client_plain skew greatest now k a s (cluster_of h.replied (parts_of w)) (ap (λ (n : Lines). find (is_with k) n.down) own ∙ next.0) h.cluster)),
+      notes_right answers laws count skew (max greatest now) between v (heard_next (timed laws) count skew greatest tale w h now within some s seat at k a seat.post next.0) now (omega (arith, within)) some s one (got_here w.seats s one) k ok next.1,
+    )
 
 module _ (laws : SerialLaws) (count skew greatest : ℕ) (tale : Tale) (w : Served) (h : HoldsOf (timed laws) count skew greatest tale w) (now : ℕ) (within : greatest ≤ now + skew) (some : 1 ≤ count) where
   abbrev rows_at : Served → List Row
@@ -102,26 +119,17 @@ module _ (laws : SerialLaws) (count skew greatest : ℕ) (tale : Tale) (w : Serv
     turns_right s None = (record { plain = refl; fair = tt }, tt)
     turns_right s (Some seat) = (turn_right (fair_at what w) seat.client now, tt)
 
-    answer_right : (s : Session) (k : ℕ) (seat : Seat) (heard : Option Peer) (x : Heard) (links : Links) (a : Answer) → get w.seats s.0 ≡ Some seat → find (is_with k) seat.down ≡ Some (k, a)
-        → Right what (with_seat s (client_hears now s k heard x (Some a) (record seat { post = links }) w.journal w.packets) w)
-    answer_right s k seat heard x links a at first =
-        let own : lines_of w.term w.seats s ≡ lines_in w.term s (Some seat) = ap (lines_in w.term s) at in (
-          subst (λ (n : Lines). IsRight (fair_at what w) (note.Client (answer_plan n.client now k a).out.note)) own
-              (plain_client (fair_at what w) (answer_plan (lines_of w.term w.seats s).client now k a).out.note
-              (laws.client_plain skew greatest now k a s seen (ap (λ (n : Lines). find (is_with k) n.down) own ∙ first) h.cluster)),
-          tt,
-        )
+    heard_right : (s : Session) (k : ℕ) (seat : Seat) (x : Heard) (answers : List Answer) → get w.seats s.0 ≡ Some seat → AreNext k answers seat.down → AllRight (fair_at what w) (heard_notes x now k answers seat.client)
+    heard_right s k seat x [] at next = quiet (fair_at what w) x
+    heard_right s k seat x (a ∷ answers) at next = notes_right (a ∷ answers) laws count skew greatest tale w h now within some s seat at k (fair_at what w) next
 
-    hears_right : (s : Session) (k : ℕ) (seat : Seat) (heard : Option Peer) (x : Heard) (js : List Joined) (links : Links) → get w.seats s.0 ≡ Some seat → IsFirstOf js (downs_of k (Some seat))
-        → Right what (with_seat s (client_hears now s k heard x (answer_heard js) (record seat { post = links }) w.journal w.packets) w)
-    hears_right s k seat heard x [] links at f = silent (fair_at what w) x.joined x
-    hears_right s k seat heard x (j ∷ js) links at f =
-        let first = first_answer k seat j js f in
-        subst (λ (o : Option Answer). Right what (with_seat s (client_hears now s k heard x o (record seat { post = links }) w.journal w.packets) w)) (sym first.2) (answer_right s k seat heard x links first.0 at first.1)
-
-    told_right : (s : Session) (k : ℕ) (p : Packet) (o : Option Seat) → get w.seats s.0 ≡ o → IsFirstOf (joined_at (seat_post o) (Server k) p) (downs_of k o) → Right what (told_at o now s k p w)
+    told_right : (s : Session) (k : ℕ) (p : Packet) (o : Option Seat) → get w.seats s.0 ≡ o → AreFirstOf (joined_at (seat_post o) (Server k) p) (downs_of k o) → Right what (told_at o now s k p w)
     told_right s k p None at f = (record { plain = refl; fair = tt }, tt)
-    told_right s k p (Some seat) at f = let a = post_accepted seat.post (Server k) p in hears_right s k seat (heard_in (Server k) p) a.heard a.heard.joined a.links at f
+    told_right s k p (Some seat) at f =
+        let a = post_accepted seat.post (Server k) p in
+        let there : Seat = record seat { post = a.links } in
+        let heard = answers_in k a.heard.joined seat.down f in
+        subst (λ (x : SeatStepped). Right what (with_seat s x w)) (sym (heard_is s now k (heard_in (Server k) p) a.heard heard.0 there w.journal w.packets heard.1)) (heard_right s k seat a.heard heard.0 at heard.2)
 
     -- ## At a server that there is
 
@@ -151,7 +159,7 @@ module _ (laws : SerialLaws) (count skew greatest : ℕ) (tale : Tale) (w : Serv
         takes_log s seat (Release pairs) from is first = tt
         takes_log s seat (Lead m) from is first = tt
 
-        session_right : (s : Session) (o : Option Seat) → packet.from ≡ Client s → get w.seats s.0 ≡ o → (heard : Option Peer) (x : Heard) (js : List Joined) (links : Links) → IsFirstOf js (ups_of k o) → Right what (hearing (Client s) heard x (event_heard (Client s) js) links)
+        session_right : (s : Session) (o : Option Seat) → packet.from ≡ Client s → get w.seats s.0 ≡ o → (heard : Option Peer) (x : Heard) (js : List Joined) (links : Links) → AreFirstOf js (ups_of k o) → Right what (hearing (Client s) heard x (event_heard (Client s) js) links)
         session_right s o from is heard x [] links f = silent _ x.joined x
         session_right s None from is heard x (j ∷ js) links f = absurd f
         session_right s (Some seat) from is heard x (j ∷ js) links f =
@@ -159,14 +167,14 @@ module _ (laws : SerialLaws) (count skew greatest : ℕ) (tale : Tale) (w : Serv
             subst (λ (e : Option ServerEvent). Right what (hearing (Client s) heard x e links)) (sym first.2)
             (event (FromClient s first.0.1) (question_there (timed laws) count skew greatest tale (parts_of w) h now k c at s seat first.0 is first.1) (takes_log s seat first.0.1 from is (question_found k seat.up first.0 first.1)), tt)
 
-      peer_right : (i : ℕ) (heard : Option Peer) (x : Heard) (js : List Joined) (links : Links) → IsFirstOf js (flying_between i k w.flying) → Right what (hearing (Server i) heard x (event_heard (Server i) js) links)
+      peer_right : (i : ℕ) (heard : Option Peer) (x : Heard) (js : List Joined) (links : Links) → AreFirstOf js (flying_between i k w.flying) → Right what (hearing (Server i) heard x (event_heard (Server i) js) links)
       peer_right i heard x [] links f = silent _ x.joined x
       peer_right i heard x (j ∷ js) links f =
           let first = first_flying k i w.flying j js f in
           subst (λ (e : Option ServerEvent). Right what (hearing (Server i) heard x e links)) (sym first.2)
           (event (FromPeer i first.0.message) (flying_there (timed laws) count skew greatest tale (parts_of w) h now k c at i first.0 first.1) tt, tt)
 
-      told_server : (packet : Sent) (from : Peer) (p : Packet) → packet_told w what ≡ Some packet → packet.to ≡ Server k → packet.from ≡ from → IsFirstOf (post_accepted post from p).heard.joined (between w from (Server k))
+      told_server : (packet : Sent) (from : Peer) (p : Packet) → packet_told w what ≡ Some packet → packet.to ≡ Server k → packet.from ≡ from → AreFirstOf (post_accepted post from p).heard.joined (between w from (Server k))
           → Right what (with_server k (server_told now k from p (at_server c post w)) w)
       told_server packet (Client s) p told_so here is f =
           let a = post_accepted post (Client s) p in
@@ -178,7 +186,7 @@ module _ (laws : SerialLaws) (count skew greatest : ℕ) (tale : Tale) (w : Serv
     -- ## At any server
 
     told_at_server : (k : ℕ) (packet : Sent) (from : Peer) (p : Packet) (c : Option Core) (post : Option Links) → packet_told w what ≡ Some packet → packet.to ≡ Server k → packet.from ≡ from → slice_get w.servers k ≡ c
-        → IsFirstOf (joined_at post from p) (between w from (Server k)) → Right what (server_told_at c post now k from p w)
+        → AreFirstOf (joined_at post from p) (between w from (Server k)) → Right what (server_told_at c post now k from p w)
     told_at_server k packet from p (Some c) (Some post) told_so here is at f = told_server k c post at packet from p told_so here is f
     told_at_server k packet from p (Some c) None told_so here is at f = (record { plain = refl; fair = tt }, tt)
     told_at_server k packet from p None (Some post) told_so here is at f = (record { plain = refl; fair = tt }, tt)
@@ -204,7 +212,7 @@ module _ (laws : SerialLaws) (count skew greatest : ℕ) (tale : Tale) (w : Serv
 
     -- ## A packet is told
 
-    comes_right : (packet : Sent) (from to : Peer) (p : Packet) → packet_told w what ≡ Some packet → packet.from ≡ from → packet.to ≡ to → IsFirstOf (joined_at (post_of w to) from p) (between w from to) → Right what (comes now from to p w)
+    comes_right : (packet : Sent) (from to : Peer) (p : Packet) → packet_told w what ≡ Some packet → packet.from ≡ from → packet.to ≡ to → AreFirstOf (joined_at (post_of w to) from p) (between w from to) → Right what (comes now from to p w)
     comes_right packet (Client s) (Server k) p told_so of here f = told_at_server k packet (Client s) p (slice_get w.servers k) (slice_get w.posts k) told_so here of refl f
     comes_right packet (Server j) (Server k) p told_so of here f = told_at_server k packet (Server j) p (slice_get w.servers k) (slice_get w.posts k) told_so here of refl f
     comes_right packet (Server j) (Client s) p told_so of here f = told_right s j p (get w.seats s.0) refl f

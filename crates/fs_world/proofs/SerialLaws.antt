@@ -1,5 +1,5 @@
 -- The laws of servers and their clients on which those of worlds rest.
-use Rattle.std.proofs.Common.{◌≡◌, ℕ, ◌+◌, ◌≤◌, max, List, Some, sym, subst}
+use Rattle.std.proofs.Common.{◌≡◌, ℕ, ◌+◌, ◌≤◌, max, List, Some, sym, subst, arith}
 use Rattle.std.specs.Prelude.{◌≢◌, slice_get}
 use Rattle.fs_ident.specs.In.{In}
 use Rattle.fs_ident.specs.declared.actor.Session.{Session}
@@ -50,6 +50,8 @@ pub record EventLaws : Type 1 where
   pub Within : ℕ → ℕ → ℕ → Type 0
   pub event : (skew greatest now k : ℕ) (e : ServerEvent) (s : Server) (c : Cluster) → slice_get c.servers k ≡ Some s → max s.last now ≤ greatest → IsThere k e c → Holds skew greatest c → Holds skew greatest (after_server now k e c)
   pub rises : (skew greatest later : ℕ) (c : Cluster) → greatest ≤ later → Holds skew greatest c → Holds skew later c
+  -- then it comes in time again with the same reading
+  pub again : (skew greatest now : ℕ) → Within skew greatest now → Within skew (max greatest now) now
   pub client : (skew greatest now : ℕ) (c : Cluster) (by : Session) → Holds skew greatest c → (e : ClientEvent) → CanCome by e c → Within skew greatest now → Holds skew greatest (after_client by now e c)
   pub first : (servers skew term greatest : ℕ) → 1 ≤ servers → Holds skew greatest (first_cluster servers skew term)
   -- no server's reading was greater, a session hands in what asks for an access where it opens, and its client is its own
@@ -80,6 +82,7 @@ abbrev pub timed : SerialLaws → EventLaws
 timed laws = record {
   Holds = ClusterHolds;
   Within = λ skew greatest now. greatest ≤ now + skew;
+  again = λ skew greatest now within. omega (arith, within);
   event = laws.event;
   rises = laws.rises;
   client = laws.client;

@@ -30,7 +30,7 @@ use Rattle.fs_serial.specs.Cluster.{IsThere, is_between, is_with, without_questi
 use Rattle.fs_serial.specs.declared.flying.Flying.{Flying}
 use Rattle.fs_serial.proofs.SetAt.{set_same}
 use Rattle.fs_world.specs.Calls.{server_hears}
-use Rattle.fs_world.specs.Carried.{Carries, GivesFirst, IsFirstOf, between, joined_at, flying_between, post_of, ups_of}
+use Rattle.fs_world.specs.Carried.{Carries, GivesFirst, AreFirstOf, between, joined_at, flying_between, post_of, ups_of}
 use Rattle.fs_world.specs.Order.{Tale, after}
 use Rattle.fs_world.specs.Packets.{first_untold}
 use Rattle.fs_world.specs.Parts.{lines_of}
@@ -88,7 +88,7 @@ module _ (laws : EventLaws) (count skew greatest : ℕ) (tale : Tale) (w : Serve
         (subst (λ (o : Option Seat). Holds laws count skew (max greatest now) tale (after_core laws count skew greatest tale (parts_of w) h now k c at (FromClient s m.1) (without_up k o s.0 w.seats))) (sym is)
         (message_holds laws count skew greatest tale (parts_of w) h now k c at s seat m is first))
 
-    session_hears : (s : Session) (o : Option Seat) → get w.seats s.0 ≡ o → (heard : Option Peer) (x : Heard) (js : List Joined) (links : Links) → IsFirstOf js (ups_of k o) → Is (hearing (Client s) heard x (event_heard (Client s) js) links)
+    session_hears : (s : Session) (o : Option Seat) → get w.seats s.0 ≡ o → (heard : Option Peer) (x : Heard) (js : List Joined) (links : Links) → AreFirstOf js (ups_of k o) → Is (hearing (Client s) heard x (event_heard (Client s) js) links)
     session_hears s o is heard x [] links f = none_hears (Client s) heard x links
     session_hears s None is heard x (j ∷ js) links f = absurd f
     session_hears s (Some seat) is heard x (j ∷ js) links f =
@@ -103,13 +103,13 @@ module _ (laws : EventLaws) (count skew greatest : ℕ) (tale : Tale) (w : Serve
         (flying_there laws count skew greatest tale (parts_of w) h now k c at i f first)
         (flying_of_joined laws count skew greatest tale (parts_of w) h now k c at i f first))
 
-    server_hears_then : (i : ℕ) (heard : Option Peer) (x : Heard) (js : List Joined) (links : Links) → IsFirstOf js (flying_between i k w.flying) → Is (hearing (Server i) heard x (event_heard (Server i) js) links)
+    server_hears_then : (i : ℕ) (heard : Option Peer) (x : Heard) (js : List Joined) (links : Links) → AreFirstOf js (flying_between i k w.flying) → Is (hearing (Server i) heard x (event_heard (Server i) js) links)
     server_hears_then i heard x [] links f = none_hears (Server i) heard x links
     server_hears_then i heard x (j ∷ js) links f =
         let first = first_flying k i w.flying j js f in
         subst (λ (e : Option ServerEvent). Is (hearing (Server i) heard x e links)) (sym first.2) (peer_then i heard x links first.0 first.1)
 
-    told_server : (from : Peer) (p : Packet) → IsFirstOf (post_accepted post from p).heard.joined (between w from (Server k)) → Is (with_server k (server_told now k from p (at_server c post w)) w).world
+    told_server : (from : Peer) (p : Packet) → AreFirstOf (post_accepted post from p).heard.joined (between w from (Server k)) → Is (with_server k (server_told now k from p (at_server c post w)) w).world
     told_server (Client s) p f =
         let a = post_accepted post (Client s) p in
         session_hears s (get w.seats s.0) refl (heard_in (Client s) p) a.heard a.heard.joined a.links f
@@ -127,7 +127,7 @@ module _ (laws : EventLaws) (count skew greatest : ℕ) (tale : Tale) (w : Serve
   abbrev After : What → Stepped → Type 0
   After what x = HoldsOf laws count skew (max greatest now) (after what x.outcome tale) x.world
 
-  told_at_server : (number : Option ℕ) (k : ℕ) (from : Peer) (p : Packet) (c : Option Core) (post : Option Links) → slice_get w.servers k ≡ c → IsFirstOf (joined_at post from p) (between w from (Server k)) → After (Tell number) (server_told_at c post now k from p w)
+  told_at_server : (number : Option ℕ) (k : ℕ) (from : Peer) (p : Packet) (c : Option Core) (post : Option Links) → slice_get w.servers k ≡ c → AreFirstOf (joined_at post from p) (between w from (Server k)) → After (Tell number) (server_told_at c post now k from p w)
   told_at_server number k from p (Some c) (Some post) at f = told_server k c post at from p f
   told_at_server number k from p (Some c) None at f = same
   told_at_server number k from p None (Some post) at f = same
@@ -153,7 +153,7 @@ module _ (laws : EventLaws) (count skew greatest : ℕ) (tale : Tale) (w : Serve
 
   -- ## A packet is told
 
-  comes_then : (number : Option ℕ) (from to : Peer) (p : Packet) → IsFirstOf (joined_at (post_of w to) from p) (between w from to) → After (Tell number) (comes now from to p w)
+  comes_then : (number : Option ℕ) (from to : Peer) (p : Packet) → AreFirstOf (joined_at (post_of w to) from p) (between w from to) → After (Tell number) (comes now from to p w)
   comes_then number (Client s) (Server k) p f = told_at_server number k (Client s) p (slice_get w.servers k) (slice_get w.posts k) refl f
   comes_then number (Server j) (Server k) p f = told_at_server number k (Server j) p (slice_get w.servers k) (slice_get w.posts k) refl f
   comes_then number (Server j) (Client s) p f = told_holds laws count skew greatest tale w h now within some s j p (get w.seats s.0) refl f

@@ -1,42 +1,43 @@
 -- Every event of a session keeps what holds of a world of the servers form.
-use Rattle.std.proofs.Common.{◌≡◌, ℕ, ◌≤◌, max, ◌==◌, true, false, cond, List, [], ◌∷◌, ◌++◌, refl, ap, sym, ◌∙◌, subst, arith}
+use Rattle.std.proofs.Common.{◌≡◌, ℕ, ◌≤◌, max, ◌==◌, true, false, cond, List, [], ◌∷◌, ◌++◌, append-nil, append_assoc, refl, ap, sym, ◌∙◌, subst, arith}
 use Rattle.std.specs.Prelude.{Option, Some, None}
 use Rattle.std.specs.FinMap.{get, insert}
 use Rattle.std.specs.List.{find}
-use Rattle.fs_ident.specs.declared.actor.Peer.{Peer}
 use Rattle.fs_ident.specs.declared.actor.Peer.TheVariants.{Server}
 use Rattle.fs_ident.specs.declared.actor.Session.{Session}
 use Rattle.fs_ident.proofs.Passing.{found}
-use Rattle.fs_frag.specs.declared.joined.Joined.{Joined}
-use Rattle.fs_window.specs.Post.{Links, post_accepted}
+use Rattle.fs_window.specs.Post.{Links, post_accepted, post_due}
 use Rattle.fs_window.specs.declared.heard.Heard.{Heard}
 use Rattle.fs_window.specs.declared.packet.Packet.{Packet}
 use Rattle.fs_model.specs.declared.op.Op.{Op}
 use Rattle.fs_msg.specs.declared.answer.Answer.{Answer}
 use Rattle.fs_msg.specs.declared.client_msg.ClientMsg.{ClientMsg}
 use Rattle.fs_msg.specs.declared.item.Item.{Item}
+use Rattle.fs_msg.specs.declared.note.Note.{Note}
 use Rattle.fs_msg.specs.declared.note.Note.TheVariants as note
 use Rattle.fs_schedule.specs.declared.event.What.TheVariants.{Tell}
-use Rattle.fs_actor.specs.Hearing.{answer_heard, heard_in, silent_note, unheard_note}
+use Rattle.fs_actor.specs.Hearing.{heard_in, quiet_note as unjoined}
 use Rattle.fs_client.specs.Acts.{act_plan}
 use Rattle.fs_client.specs.Answers.{answer_plan}
 use Rattle.fs_client.specs.Client.{committed}
 use Rattle.fs_client.specs.Turns.{turn_plan}
 use Rattle.fs_client.specs.declared.plan.Plan.{Plan}
+use Rattle.fs_client.specs.declared.state.Client.{Client as ClientCore}
 use Rattle.fs_serial.specs.Cluster.{Cluster, Lines, after_plan, is_with, without_first}
 use Rattle.fs_serial.specs.Cluster.ClientEvent.{Does, Hears, Turns}
 use Rattle.fs_serial.specs.World.{is_called, pushed}
 use Rattle.fs_serial.proofs.Seats.{idle_due}
 use Rattle.fs_serial.proofs.Traffic.{messages}
-use Rattle.fs_world.specs.Calls.{client_hears}
-use Rattle.fs_world.specs.Carried.{IsFirstOf, downs_of, joined_at, seat_post}
-use Rattle.fs_world.specs.Order.{Leads, Tale, Told, ended_in, leads_in, replies_in, reply_told, told_at as told_in, told_to}
+use Rattle.fs_world.specs.Carried.{AreFirstOf, downs_of, joined_at, seat_post}
+use Rattle.fs_world.specs.Order.{Leads, Tale, Told, ended_in, leads_in, replies_in, reply_told, told_at as told_in, told_to, told_with}
 use Rattle.fs_world.specs.Parts.{lines_in, lines_of}
-use Rattle.fs_world.specs.Served.{SeatStepped, client_acts, client_told, client_turns, do_at, join_at, told_at, turn_at, up_after, with_read, with_seat}
+use Rattle.fs_world.specs.Served.{SeatStepped, Seats, client_acts, client_turns, do_at, join_at, told_at, turn_at, up_after, with_read, with_seat}
 use Rattle.fs_world.specs.declared.seat.Seat.{Seat}
 use Rattle.fs_world.specs.declared.served.Served.{Served}
 use Rattle.fs_world.proofs.Fine.{act_fine, answer_fine, turn_fine}
-use Rattle.fs_world.proofs.Heard.{first_answer}
+use Rattle.fs_world.proofs.HeardEach.{AreNext, answers_in, heard_is, heard_notes, notes_all, seat_after}
+use Rattle.fs_world.proofs.LinkedSeats.{got_here, put_again}
+use Rattle.fs_world.proofs.NamedClients.{answer_admits, answer_silent}
 use Rattle.fs_world.proofs.SerialLaws.{AsksOne, EventLaws}
 use Rattle.fs_world.proofs.ServedHolds.{Holds, Parts, a_server, client_holds, cluster_of, holds_joined, holds_later, holds_posted, holds_untold, untold as all_untold, with_seats}
 use Rattle.fs_world.proofs.Told.{IsTelling, act_tells, hear_tells, quiet_note, turn_tells}
@@ -48,12 +49,8 @@ abbrev pub HoldsOf : EventLaws → ℕ → ℕ → ℕ → Tale → Served → T
 HoldsOf laws count skew greatest tale w = Holds laws count skew greatest tale (parts_of w)
 
 -- a packet that gives no message ends nothing
-silent_quiet : (js : List Joined) (x : Heard) → reply_told (silent_note js x) ≡ None
-silent_quiet [] x = elim (x.fresh == 0) as (λ b. reply_told (cond b note.None note.Part) ≡ None) [ true ↦ refl | false ↦ refl ]
-silent_quiet (j ∷ js) x = refl
-
-unheard_quiet : (x : Heard) → reply_told (unheard_note x) ≡ None
-unheard_quiet x = silent_quiet x.joined x
+unjoined_quiet : (x : Heard) → reply_told (unjoined x) ≡ None
+unjoined_quiet x = elim (x.fresh == 0) as (λ b. reply_told (cond b note.None note.Part) ≡ None) [ true ↦ refl | false ↦ refl ]
 
 -- as two definitions write it
 up_pushed : (send : Option (ℕ × ClientMsg)) (up : List (ℕ × ClientMsg)) → up_after send up ≡ pushed send up
@@ -146,43 +143,24 @@ module _ (laws : EventLaws) (count skew greatest : ℕ) (tale : Tale) (w : Serve
         (turn_fine seat.client now)
         (turn_tells s seat.client now seat.down tale.leads))
 
-    -- ## A packet comes
+    -- ## Its client hears an answer
 
-    -- as its note tells
-    abbrev Noted : SeatStepped → Type 0
-    Noted x = Then (ended_in s (tale.leads s) x.outcome.notes) tale.leads (with_seat s x w).world
-
-    answered : (k : ℕ) (heard : Option Peer) (x : Heard) (links : Links) (a : Answer) → find (is_with k) seat.down ≡ Some (k, a) → Noted (client_hears now s k heard x (Some a) (record seat { post = links }) w.journal w.packets)
-    answered k heard x links a first =
+    -- the next one of a server that is on its way
+    pub heard_next : (k : ℕ) (a : Answer) (post : Links) → find (is_with k) seat.down ≡ Some (k, a)
+        → Then (ended_in s (tale.leads s) (note.Client (answer_plan seat.client now k a).out.note ∷ [])) tale.leads (record w { seats = insert w.seats s.0 (seat_after now k (a ∷ []) post seat) })
+    heard_next k a post first =
         let p = answer_plan seat.client now k a in
-        let next = (client_hears now s k heard x (Some a) (record seat { post = links }) w.journal w.packets).seat in
+        let next = seat_after now k (a ∷ []) post seat in
         let rest = without_first (is_with k) seat.down in
         let new = ended_in s (tale.leads s) (note.Client p.out.note ∷ []) in
-        journal_is p.out.admitted new tale.leads next (client_holds laws count skew greatest tale (parts_of w) h s seat at now within (Hears k a) rest p next new tale.leads
+        subst (λ (o : Option Item). Holds laws count skew (max greatest now) (record { told = tale.told ++ new; leads = tale.leads }) (parts_with next (pushed o w.journal))) (answer_admits seat.client now k a)
+        (client_holds laws count skew greatest tale (parts_of w) h s seat at now within (Hears k a) rest p next new tale.leads
         (ap (λ (n : Lines). after_plan s (without_first (is_with k) n.down) (answer_plan n.client now k a) seen) own)
         (ap (λ (n : Lines). find (is_with k) n.down) own ∙ first)
-        (as_planned p next rest refl)
+        (ap (λ (m : Option (ℕ × ClientMsg)). lines_after p (pushed m seat.up) rest) (sym (answer_silent seat.client now k a)))
         (answer_fine seat.client now k a)
         (hear_tells s k seat.client now (messages seat.up) seat.down one.one tale.leads telling.asked a first
         (λ e. one.addressed.down (k, a) (found (is_with k) seat.down (k, a) first).0 e)))
-
-    -- what gives no message tells nothing
-    unheard : (k : ℕ) (heard : Option Peer) (x : Heard) (links : Links) → Noted (client_hears now s k heard x None (record seat { post = links }) w.journal w.packets)
-    unheard k heard x links =
-        let y = client_hears now s k heard x None (record seat { post = links }) w.journal w.packets in
-        subst (λ ts. Then ts tale.leads (with_seat s y w).world) (sym (quiet_note s (tale.leads s) (unheard_note x) (unheard_quiet x))) (posted y.seat refl)
-
-    hears : (k : ℕ) (heard : Option Peer) (x : Heard) (js : List Joined) (links : Links) → IsFirstOf js (downs_of k (Some seat))
-        → Noted (client_hears now s k heard x (answer_heard js) (record seat { post = links }) w.journal w.packets)
-    hears k heard x [] links f = unheard k heard x links
-    hears k heard x (j ∷ js) links f =
-        let first = first_answer k seat j js f in
-        subst (λ (o : Option Answer). Noted (client_hears now s k heard x o (record seat { post = links }) w.journal w.packets)) (sym first.2) (answered k heard x links first.0 first.1)
-
-    comes : (k : ℕ) (p : Packet) → IsFirstOf (post_accepted seat.post (Server k) p).heard.joined (downs_of k (Some seat)) → Noted (client_told now s k p seat w.journal w.packets)
-    comes k p f =
-        let a = post_accepted seat.post (Server k) p in
-        hears k (heard_in (Server k) p) a.heard a.heard.joined a.links f
 
   -- ## Each event at a session
 
@@ -198,7 +176,56 @@ module _ (laws : EventLaws) (count skew greatest : ℕ) (tale : Tale) (w : Serve
   turn_holds s None at = still
   turn_holds s (Some seat) at = turns s seat at
 
-  pub told_holds : (s : Session) (k : ℕ) (p : Packet) (o : Option Seat) → get w.seats s.0 ≡ o → IsFirstOf (joined_at (seat_post o) (Server k) p) (downs_of k o)
-      → Then (told_in (Tell (Some 0)) (told_at o now s k p w).outcome.who (told_at o now s k p w).outcome.notes tale.leads) tale.leads (told_at o now s k p w).world
-  told_holds s k p None at f = still
-  told_holds s k p (Some seat) at f = comes s seat at k p f
+-- ## A packet comes to a session
+
+none_ended : (s : Session) (lead : Option Op) → ended_in s lead [] ≡ []
+none_ended s None = refl
+none_ended s (Some o) = refl
+
+ended_more : (s : Session) (lead : Option Op) (n : Note) (ns : List Note) → ended_in s lead (n ∷ []) ++ ended_in s lead ns ≡ ended_in s lead (n ∷ ns)
+ended_more s None n ns = refl
+ended_more s (Some o) n ns = ap (λ (ts : List Told). ts ++ ended_in s (Some o) ns) (append-nil (told_with s o (reply_told n)))
+
+-- its client hears the next answers of a server, one after another
+all_heard : (answers : List Answer) (laws : EventLaws) (count skew greatest : ℕ) (tale : Tale) (w : Served) (h : HoldsOf laws count skew greatest tale w) (now : ℕ) (within : laws.Within skew greatest now) (some : 1 ≤ count)
+    (s : Session) (seat : Seat) (at : get w.seats s.0 ≡ Some seat) (k : ℕ) (post : Links) → AreNext k answers seat.down
+    → HoldsOf laws count skew (max greatest now) (record { told = tale.told ++ ended_in s (tale.leads s) (notes_all now k answers seat.client); leads = tale.leads }) (record w { seats = insert w.seats s.0 (seat_after now k answers post seat) })
+all_heard [] laws count skew greatest tale w h now within some s seat at k post next =
+    let v : Served = record w { seats = insert w.seats s.0 (seat_after now k [] post seat) } in
+    subst (λ (ts : List Told). HoldsOf laws count skew (max greatest now) (record { told = tale.told ++ ts; leads = tale.leads }) v) (sym (none_ended s (tale.leads s)))
+    (posted laws count skew greatest tale w h now within some s seat at (seat_after now k [] post seat) refl)
+all_heard (a ∷ answers) laws count skew greatest tale w h now within some s seat at k post next =
+    let note_of : Note = note.Client (answer_plan seat.client now k a).out.note in
+    let one = seat_after now k (a ∷ []) post seat in
+    let all = seat_after now k (a ∷ answers) post seat in
+    let lead = tale.leads s in
+    let first = ended_in s lead (note_of ∷ []) in
+    let rest = ended_in s lead (notes_all now k answers one.client) in
+    let between : Tale = record { told = tale.told ++ first; leads = tale.leads } in
+    let v : Served = record w { seats = insert w.seats s.0 one } in
+    let then = all_heard answers laws count skew (max greatest now) between v (heard_next laws count skew greatest tale w h now within some s seat at k a post next.0) now (laws.again skew greatest now within) some s one (got_here w.seats s one) k post next.1 in
+    let same : max (max greatest now) now ≡ max greatest now = omega arith in
+    let told : (tale.told ++ first) ++ rest ≡ tale.told ++ ended_in s lead (notes_all now k (a ∷ answers) seat.client) =
+    append_assoc tale.told first rest ∙ ap (λ (ts : List Told). tale.told ++ ts) (ended_more s lead note_of (notes_all now k answers one.client)) in
+    subst (λ (seats : Seats). HoldsOf laws count skew (max greatest now) (record { told = tale.told ++ ended_in s lead (notes_all now k (a ∷ answers) seat.client); leads = tale.leads }) (record w { seats = seats })) (put_again w.seats s one all)
+    (subst (λ (ts : List Told). HoldsOf laws count skew (max greatest now) (record { told = ts; leads = tale.leads }) (record w { seats = insert (insert w.seats s.0 one) s.0 all })) told
+    (subst (λ (g : ℕ). HoldsOf laws count skew g (record { told = (tale.told ++ first) ++ rest; leads = tale.leads }) (record w { seats = insert (insert w.seats s.0 one) s.0 all })) same then))
+
+-- as is noted
+noted_heard : (s : Session) (lead : Option Op) (x : Heard) (now k : ℕ) (answers : List Answer) (c : ClientCore) → ended_in s lead (notes_all now k answers c) ≡ ended_in s lead (heard_notes x now k answers c)
+noted_heard s lead x now k [] c = none_ended s lead ∙ sym (quiet_note s lead (unjoined x) (unjoined_quiet x))
+noted_heard s lead x now k (a ∷ answers) c = refl
+
+pub told_holds : (laws : EventLaws) (count skew greatest : ℕ) (tale : Tale) (w : Served) (h : HoldsOf laws count skew greatest tale w) (now : ℕ) (within : laws.Within skew greatest now) (some : 1 ≤ count)
+    (s : Session) (k : ℕ) (p : Packet) (o : Option Seat) → get w.seats s.0 ≡ o → AreFirstOf (joined_at (seat_post o) (Server k) p) (downs_of k o)
+    → Then laws count skew greatest tale w h now within some (told_in (Tell (Some 0)) (told_at o now s k p w).outcome.who (told_at o now s k p w).outcome.notes tale.leads) tale.leads (told_at o now s k p w).world
+told_holds laws count skew greatest tale w h now within some s k p None at f = still laws count skew greatest tale w h now within some
+told_holds laws count skew greatest tale w h now within some s k p (Some seat) at f =
+    let a = post_accepted seat.post (Server k) p in
+    let there : Seat = record seat { post = a.links } in
+    let from = heard_in (Server k) p in
+    let heard = answers_in k a.heard.joined seat.down f in
+    let left : Served = record w { seats = insert w.seats s.0 (seat_after now k heard.0 (post_due a.links false from).links seat) } in
+    subst (λ (x : SeatStepped). Then laws count skew greatest tale w h now within some (ended_in s (tale.leads s) x.outcome.notes) tale.leads (with_seat s x w).world) (sym (heard_is s now k from a.heard heard.0 there w.journal w.packets heard.1))
+    (subst (λ (ts : List Told). Then laws count skew greatest tale w h now within some ts tale.leads left) (noted_heard s (tale.leads s) a.heard now k heard.0 seat.client)
+    (all_heard heard.0 laws count skew greatest tale w h now within some s seat at k (post_due a.links false from).links heard.2))

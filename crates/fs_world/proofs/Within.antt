@@ -34,7 +34,7 @@ use Rattle.fs_server.specs.declared.event.ServerEvent.{ServerEvent}
 use Rattle.fs_server.specs.declared.event.ServerEvent.TheVariants.{Turn as TheTurn, Recall as TheRecall, Move as TheMove}
 use Rattle.fs_server.specs.declared.state.Server.{Server as Core}
 use Rattle.fs_world.specs.Calls.{server_hears, world_left}
-use Rattle.fs_world.specs.Carried.{AllCarry, IsFirstOf, between, flying_between, ups_of}
+use Rattle.fs_world.specs.Carried.{AllCarry, AreFirstOf, between, flying_between, ups_of}
 use Rattle.fs_world.specs.Direct.{first_direct}
 use Rattle.fs_world.specs.Direct as direct
 use Rattle.fs_world.specs.Linked.{HasJoined, IsLinked}
@@ -107,21 +107,21 @@ abbrev Brings : ℕ → Seats → Core → Option ServerEvent → Type 0
 Brings servers seats c None = Unit {0}
 Brings servers seats c (Some e) = IsBrought servers seats c e
 
-message_brings : (w : TheServed) (k : ℕ) (c : Core) (s : Session) (o : Option Seat) → get w.seats s.0 ≡ o → (joined : List Joined) → IsFirstOf joined (ups_of k o) → Brings (length w.servers) w.seats c (event_heard (Client s) joined)
+message_brings : (w : TheServed) (k : ℕ) (c : Core) (s : Session) (o : Option Seat) → get w.seats s.0 ≡ o → (joined : List Joined) → AreFirstOf joined (ups_of k o) → Brings (length w.servers) w.seats c (event_heard (Client s) joined)
 message_brings w k c s o at [] f = tt
 message_brings w k c s None at (j ∷ js) f = absurd f
 message_brings w k c s (Some seat) at (j ∷ js) f =
     let first = first_question k s seat j js f in
     subst (λ (e : Option ServerEvent). Brings (length w.servers) w.seats c e) (sym first.2) ((seat, at), message_readable first.0.1 first.3)
 
-peer_brings : (w : TheServed) (k : ℕ) (c : Core) (i : ℕ) → IsLinked w → (joined : List Joined) → IsFirstOf joined (flying_between i k w.flying) → Brings (length w.servers) w.seats c (event_heard (Server i) joined)
+peer_brings : (w : TheServed) (k : ℕ) (c : Core) (i : ℕ) → IsLinked w → (joined : List Joined) → AreFirstOf joined (flying_between i k w.flying) → Brings (length w.servers) w.seats c (event_heard (Server i) joined)
 peer_brings w k c i h [] f = tt
 peer_brings w k c i h (j ∷ js) f =
     let first = first_flying k i w.flying j js f in
     let it = h.flying first.0 (found (is_between i k) w.flying first.0 first.1).0 in
     subst (λ (e : Option ServerEvent). Brings (length w.servers) w.seats c e) (sym first.2) it.parcel
 
-heard_brings : (w : TheServed) (k : ℕ) (c : Core) (from : Peer) → IsLinked w → (joined : List Joined) → IsFirstOf joined (between w from (Server k)) → Brings (length w.servers) w.seats c (event_heard from joined)
+heard_brings : (w : TheServed) (k : ℕ) (c : Core) (from : Peer) → IsLinked w → (joined : List Joined) → AreFirstOf joined (between w from (Server k)) → Brings (length w.servers) w.seats c (event_heard from joined)
 heard_brings w k c (Client s) h joined f = message_brings w k c s (get w.seats s.0) refl joined f
 heard_brings w k c (Server i) h joined f = peer_brings w k c i h joined f
 

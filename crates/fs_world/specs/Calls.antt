@@ -2,10 +2,12 @@
 use Rattle.std.specs.Prelude.{◌≡◌, ◌⊎◌, ◌∷◌, [], ◌++◌, ℕ, Bool, false, List, length, Option, Some, None, Result, IsErrOf}
 use Rattle.fs_actor.specs.Actor as actor
 use Rattle.fs_actor.specs.Actor.{client_noted}
+use Rattle.fs_actor.specs.Several.{ClientRun, client_takes_all}
 use Rattle.fs_client.specs.Answers.{answer_plan}
 use Rattle.fs_client.specs.declared.plan.Plan.{Plan as Planned}
+use Rattle.fs_client.specs.declared.state.Client.{Client as ClientCore}
 use Rattle.fs_ident.specs.declared.actor.Peer.{Peer}
-use Rattle.fs_ident.specs.declared.actor.Peer.TheVariants.{Server as TheServer}
+use Rattle.fs_ident.specs.declared.actor.Peer.TheVariants.{Client as TheClient, Server as TheServer}
 use Rattle.fs_ident.specs.declared.actor.Session.{Session}
 use Rattle.fs_msg.specs.declared.answer.Answer.{Answer}
 use Rattle.fs_msg.specs.declared.core_error.CoreError.{CoreError}
@@ -15,7 +17,7 @@ use Rattle.fs_msg.specs.declared.item.Item.{Item}
 use Rattle.fs_msg.specs.declared.note.Note.{Note}
 use Rattle.fs_msg.specs.declared.note.Note.TheVariants as note
 use Rattle.fs_schedule.specs.declared.outcome.Outcome.{Outcome}
-use Rattle.fs_serial.specs.Cluster.{flying_from, is_with, without_first}
+use Rattle.fs_serial.specs.Cluster.{flying_from, is_with}
 use Rattle.fs_serial.specs.declared.flying.Flying.{Flying}
 use Rattle.fs_server.specs.Plan.{committed}
 use Rattle.fs_server.specs.Server.{Stepped as CoreStepped}
@@ -26,7 +28,7 @@ use Rattle.fs_window.specs.Post.{Links, post_due}
 use Rattle.fs_window.specs.declared.heard.Heard.{Heard}
 use Rattle.fs_world.specs.Direct.{outcome_of}
 use Rattle.fs_world.specs.Packets.{Packets, numbers_from, with_sent}
-use Rattle.fs_world.specs.Served.{SeatStepped, Seats, ServerStepped, Stepped, core_of, down_after, flying_without, nothing, seat_stepped, seats_without, server_found, server_stepped, side_of, with_downs, without_heard}
+use Rattle.fs_world.specs.Served.{SeatStepped, Seats, ServerStepped, Stepped, core_of, flying_without, nothing, seat_ran, seat_stepped, seats_without, server_found, server_stepped, side_of, with_downs, without_each, without_heard}
 use Rattle.fs_world.specs.declared.seat.Seat.{Seat}
 use Rattle.fs_world.specs.declared.served.Served.{Served}
 
@@ -66,15 +68,30 @@ seat_goes s turn heard n seat journal packets = seat_stepped s (actor.client_goe
 abbrev pub client_does : Session → Bool → Option Peer → Bool → Planned Note → Seat → List Item → Packets → SeatStepped
 client_does s turn heard spent p seat journal packets = seat_stepped s (actor.client_does turn heard spent p (side_of seat)) seat.down seat journal packets
 
--- what it heard of the server of number k
-abbrev pub client_hears : ℕ → Session → ℕ → Option Peer → Heard → Option Answer → Seat → List Item → Packets → SeatStepped
-client_hears now s k from h heard seat journal packets =
-    seat_stepped s (actor.client_hears now k from h heard (side_of seat)) (down_after k heard seat.down) seat journal packets
+-- what it heard of the server of number k, where this was one answer at most
+abbrev pub client_hears_one : ℕ → Session → ℕ → Option Peer → Heard → Option Answer → Seat → List Item → Packets → SeatStepped
+client_hears_one now s k from h heard seat journal packets = seat_stepped s (actor.client_hears now k from h heard (side_of seat)) seat.down seat journal packets
 
--- an answer of the server of number k comes to it, and is on its way no more
+-- an answer of the server of number k comes to it
 abbrev pub client_takes : ℕ → Session → ℕ → Option Peer → Answer → Seat → List Item → Packets → SeatStepped
-client_takes now s k from a seat journal packets =
-    client_does s false from false (client_noted (answer_plan seat.client now k a)) (record seat { down = without_first (is_with k) seat.down }) journal packets
+client_takes now s k from a seat journal packets = client_does s false from false (client_noted (answer_plan seat.client now k a)) seat journal packets
+
+-- what came of all that it heard, while no answer is taken off its way
+abbrev pub client_heard : ℕ → Session → ℕ → Option Peer → Heard → Seat → List Item → Packets → SeatStepped
+client_heard now s k from h seat journal packets =
+    seat_ran s (client_takes_all s now (TheServer k) from (record { links = seat.post; heard = h }) seat.client) seat.down seat journal packets
+
+-- what came of a run at a session: its client and its links are these, these are the packets behind those before, and this is told
+pub record IsRun (x : ClientRun) (s : Session) (before : Packets) (told : Outcome) (client : ClientCore) (post : Links) (packets : Packets) : Type 0 where
+  pub client_then : client ≡ x.client
+  pub post_then : post ≡ x.post
+  pub packets_then : packets ≡ with_sent x.packets before
+  pub told_then : told ≡ record { who = Some (TheClient s); notes = x.notes; sent = numbers_from (length before.sent) x.packets }
+  pub unspent : x.spent ≡ None
+
+-- what it heard of the server of number k, which is on its way no more
+abbrev pub client_hears : ℕ → Session → ℕ → Option Peer → Heard → Seat → List Item → Packets → SeatStepped
+client_hears now s k from h seat journal packets = client_heard now s k from h (record seat { down = without_each h.joined (is_with k) seat.down }) journal packets
 
 -- nothing happens at the server but that what is due goes out
 abbrev pub server_goes : ℕ → Bool → Option Peer → Note → Option Counter → ServerStepped → ServerStepped

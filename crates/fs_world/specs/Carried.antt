@@ -1,5 +1,5 @@
--- What the links of a world give: whatever was sent is a packet, and what it joins where it comes is the first message that is on its
--- way between the two, as it was sent.
+-- What the links of a world give: whatever was sent is a packet, and what it joins where it comes are the first messages that are on
+-- their way between the two, in order and as they were sent.
 use Rattle.std.specs.Prelude.{◌≡◌, ℕ, List, [], ◌∷◌, map, filter, slice_get, Option, Some, None, option_map}
 use Rattle.std.specs.FinMap.{get}
 use Rattle.fs_ident.specs.In.{In}
@@ -56,21 +56,21 @@ between w (Client s) (Client t) = []
 
 -- ## What a packet gives
 
--- what is joined, if something is, is the first of these messages, as it was sent, and it can be read
-abbrev pub IsFirstOf : List Joined → List Msg → Type 0
-IsFirstOf [] messages = Unit {0}
-IsFirstOf (j ∷ js) [] = ⊥
-IsFirstOf (j ∷ js) (m ∷ ms) = (j ≡ Whole (message m)) × FitsMessage m
+-- what is joined are the first of these messages, in order, each as it was sent, and each can be read
+abbrev pub AreFirstOf : List Joined → List Msg → Type 0
+AreFirstOf [] messages = Unit {0}
+AreFirstOf (j ∷ js) [] = ⊥
+AreFirstOf (j ∷ js) (m ∷ ms) = ((j ≡ Whole (message m)) × FitsMessage m) × AreFirstOf js ms
 
 -- what a packet of the actor joins at these links, if there are any
 abbrev pub joined_at : Option Links → Peer → Packet → List Joined
 joined_at None from p = []
 joined_at (Some post) from p = (post_accepted post from p).heard.joined
 
--- what went from one actor to another is a packet, and gives there the first message between the two
+-- what went from one actor to another is a packet, and gives there the first messages between the two
 abbrev pub GivesFirst : Served → Peer → Peer → Option Packet → Type 0
 GivesFirst w from to None = ⊥
-GivesFirst w from to (Some p) = IsFirstOf (joined_at (post_of w to) from p) (between w from to)
+GivesFirst w from to (Some p) = AreFirstOf (joined_at (post_of w to) from p) (between w from to)
 
 -- whatever was sent, however often it is told and however late
 abbrev pub Carries : Served → Type 0

@@ -38,7 +38,7 @@ use Rattle.fs_window.specs.declared.packet.Packet.{Packet}
 use Rattle.fs_window.specs.declared.sent.Sent.{Sent}
 use Rattle.fs_wire.specs.Readable.{is_readable_session}
 use Rattle.fs_world.specs.Within.{IsInRange}
-pub use Rattle.fs_world.specs.Carried.{IsFirstOf, between, downs_of, flying_between, post_of, seat_post, ups_of}
+pub use Rattle.fs_world.specs.Carried.{AreFirstOf, between, downs_of, flying_between, post_of, seat_post, ups_of}
 use Rattle.fs_world.specs.Readable.{HandlesOpen, LogReadable, RecordsOpen}
 use Rattle.fs_world.specs.Served.{Seats, link_width}
 use Rattle.fs_world.specs.declared.form.Form.{Form}

@@ -26,7 +26,8 @@ use Rattle.fs_server.specs.declared.event.ServerEvent.TheVariants.{Turn as TheTu
 use Rattle.fs_server.specs.declared.state.Server.{Server as Core}
 use Rattle.fs_actor.specs.Actor as actor
 use Rattle.fs_actor.specs.Actor.{ClientSide, ClientStep, ServerSide, ServerStep}
-use Rattle.fs_actor.specs.Hearing.{answer_heard, event_heard}
+use Rattle.fs_actor.specs.Hearing.{event_heard}
+use Rattle.fs_actor.specs.Several.{ClientRun, client_told_all}
 use Rattle.fs_schedule.specs.declared.event.What.{What}
 use Rattle.fs_schedule.specs.declared.event.What.TheVariants.{Join, Do, Tell, Turn, Recall, Move}
 use Rattle.fs_schedule.specs.declared.outcome.Outcome.{Outcome}
@@ -117,16 +118,26 @@ client_acts now s o seat journal packets = seat_stepped s (actor.client_acts now
 abbrev pub client_turns : ℕ → Session → Seat → List Item → Packets → SeatStepped
 client_turns now s seat journal packets = seat_stepped s (actor.client_turns now (side_of seat)) seat.down seat journal packets
 
--- an answer of the server of number k that was heard is on its way no more: it was the first from there
-abbrev pub down_after : ℕ → Option Answer → List (ℕ × Answer) → List (ℕ × Answer)
-down_after k None down = down
-down_after k (Some a) down = without_first (is_with k) down
+-- as many messages that pass a test, from the front, are gone as there are of these
+abbrev pub without_each : {X Y : Type 0} → List Y → (X → Bool) → List X → List X
+without_each [] is xs = xs
+without_each (y ∷ ys) is xs = without_each ys is (without_first is xs)
 
--- a packet of the server of number k comes to it
+-- what an event of several messages leaves, where these answers are still on their way to it
+abbrev pub seat_ran : Session → ClientRun → List (ℕ × Answer) → Seat → List Item → Packets → SeatStepped
+seat_ran s x rest seat journal packets = record {
+  seat = record { client = x.client; post = x.post; up = seat.up ++ x.send; down = rest };
+  journal = journal ++ x.admitted;
+  packets = with_sent x.packets packets;
+  outcome = record { who = Some (Client s); notes = x.notes; sent = numbers_from (length packets.sent) x.packets };
+  spent = x.spent;
+}
+
+-- a packet of the server of number k comes to it: whatever this joins was on its way from there, and is so no more
 abbrev pub client_told : ℕ → Session → ℕ → Packet → Seat → List Item → Packets → SeatStepped
 client_told now s k p seat journal packets =
-    seat_stepped s (actor.client_told now k p (side_of seat))
-    (down_after k (answer_heard (post_accepted seat.post (Server k) p).heard.joined) seat.down) seat journal packets
+    seat_ran s (client_told_all s now (Server k) p (side_of seat))
+    (without_each (post_accepted seat.post (Server k) p).heard.joined (is_with k) seat.down) seat journal packets
 
 -- ## Where they stand in the world
 

@@ -93,7 +93,9 @@ pub(crate) fn told(
     let mut undo = Undo::new(alloc);
     let heard = seat.post.accept_with_undo(alloc, server, p, &mut undo)?;
     let from = heard_in(server, p);
-    match hears(alloc, now, s, k, from, &heard, seat, journal, packets) {
+    match hears(
+        alloc, now, s, k, from, &heard, seat, journal, packets, &mut undo,
+    ) {
         Ok(outcome) => Ok(outcome),
         Err(e) => {
             seat.post.undo(undo);

@@ -46,29 +46,33 @@ pub(crate) fn send_due(
         with_sent (post_due post.now turn heard).sent packets.old) }
     ensures err { OnErr result (packets.new ≡ packets.old) }
 {
-    let due = post.packets(alloc, turn, heard)?;
-    let outcome = outcome_with(alloc, who, note, packets.sent().as_slice(), due.as_slice())?;
-    packets.add(alloc, due)?;
-    Ok(outcome)
-}
-
-/// An outcome of an actor's one note, with the numbers of the packets that it sends behind those that were sent before.
-fn outcome_with(
-    alloc: Global,
-    who: Peer,
-    note: Note,
-    before: &[Sent],
-    packets: &[Sent],
-) -> Result<Outcome, Memory>
-    ensures { IfOk result (λ o. o ≡ record {
-      who = Some who;
-      notes = note ∷ [];
-      sent = numbers_from (length before.now) packets.now;
-    }) }
-{
     let mut notes = List::new(alloc);
     notes.push(note)?;
-    let sent = numbers(alloc, before, packets)?;
+    send_noted(alloc, who, turn, heard, notes, post, packets)
+}
+
+/// The same, where these are its notes.
+pub(crate) fn send_noted(
+    alloc: Global,
+    who: Peer,
+    turn: bool,
+    heard: Option<Peer>,
+    notes: List<Note>,
+    post: &Post,
+    packets: &mut Packets,
+) -> Result<Outcome, Memory>
+    ensures outcome { IfOk result (λ o. o ≡ record {
+      who = Some who;
+      notes = notes;
+      sent = numbers_from (length packets.old.sent) (post_due post.now turn heard).sent;
+    }) }
+    ensures ok { OnOk result (packets.new ≡
+        with_sent (post_due post.now turn heard).sent packets.old) }
+    ensures err { OnErr result (packets.new ≡ packets.old) }
+{
+    let due = post.packets(alloc, turn, heard)?;
+    let sent = numbers(alloc, packets.sent().as_slice(), due.as_slice())?;
+    packets.add(alloc, due)?;
     Ok(Outcome {
         who: Some(who),
         notes,

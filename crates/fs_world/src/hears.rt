@@ -1,23 +1,90 @@
 //! What a session hears in the packets of a server.
-ghost use Rattle.std.specs.Prelude.{◌≡◌, ◌≤◌, IfOk, OnErr};
+ghost use Rattle.std.specs.Prelude.{◌≡◌, ◌≤◌, ◌<◌, IfOk, IsErrOf, List as Seq, OnErr, Some, [], length};
 ghost use Rattle.fs_actor.specs.Hearing.{answer_heard};
+ghost use Rattle.fs_actor.specs.Several.{client_begins, client_hears_each, client_replies};
+ghost use Rattle.fs_ident.specs.declared.actor.Peer.TheVariants.{Server};
 ghost use Rattle.fs_ident.specs.declared.limits.TheConstants.{LATEST};
-ghost use Rattle.fs_world.specs.Calls.{Spends, client_hears, client_takes, seat_found, seat_left};
+ghost use Rattle.fs_msg.specs.declared.core_error.Counter.{Counter as TheCounter};
+ghost use Rattle.fs_msg.specs.declared.core_error.CoreError.TheVariants as errors;
+ghost use Rattle.fs_msg.specs.declared.item.Item.{Item as TheItem};
+ghost use Rattle.fs_window.specs.Undo.{undone};
+ghost use Rattle.fs_world.specs.Calls.{IsRun, Spends, client_heard, client_hears, client_hears_one, client_takes, seat_found, seat_left};
 
 use crate::does::does;
-use crate::goes::send_due;
+use crate::goes::{send_due, send_noted};
 use crate::packets::Packets;
-use crate::removals::remove_first;
+use crate::removals::remove_each;
 use crate::seat::Seat;
-use fs_actor::{answer_heard, client_noted, unheard_note};
-use fs_ident::{List, Peer, Session};
+use fs_actor::{ClientHeard, answer_heard, client_hears_each, client_noted, unheard_note};
+use fs_client::ClientCore;
+use fs_ident::{List, Peer, Session, Twin};
 use fs_msg::{Answer, CoreError, Item};
 use fs_schedule::Outcome;
-use fs_window::Heard;
+use fs_window::{Heard, Joined, Post, Undo};
 use std::alloc::Global;
+use std::mem;
 
-/// What a packet gave is read: it brought no answer, or one. After an error all is as it was.
+/// What a packet gave is read: the client hears all that was joined, and this is on its way no more. After an error the links
+/// are as `undo` keeps, and all else is as it was.
 pub(crate) fn hears(
+    alloc: Global,
+    now: u64,
+    s: Session,
+    k: u8,
+    from: Option<Peer>,
+    heard: &Heard,
+    seat: &mut Seat,
+    journal: &mut List<Item>,
+    packets: &mut Packets,
+    undo: &mut Undo,
+) -> Result<Outcome, CoreError>
+    requires reading { now ≤ LATEST }
+    ensures done { IfOk result (λ told. seat_left told seat.new journal.new packets.new ≡
+        client_hears now s k from heard.now seat.old journal.old packets.old) }
+    ensures spends { Spends result
+        (client_hears now s k from heard.now seat.old journal.old packets.old).spent }
+    ensures err { OnErr result (
+        seat_found (record seat.new { post = seat.old.post }) journal.new packets.new ≡
+        seat_found seat.old journal.old packets.old) }
+    ensures undo { OnErr result (undone undo.new seat.new.post ≡ undone undo.old seat.old.post) }
+{
+    let told = hears_all(alloc, now, s, k, from, heard, seat, journal, packets, undo)?;
+    remove_each(&mut seat.down, k, heard.joined.as_slice());
+    Ok(told)
+}
+
+/// It was one message at most, or several.
+fn hears_all(
+    alloc: Global,
+    now: u64,
+    s: Session,
+    k: u8,
+    from: Option<Peer>,
+    heard: &Heard,
+    seat: &mut Seat,
+    journal: &mut List<Item>,
+    packets: &mut Packets,
+    undo: &mut Undo,
+) -> Result<Outcome, CoreError>
+    requires reading { now ≤ LATEST }
+    ensures done { IfOk result (λ told. seat_left told seat.new journal.new packets.new ≡
+        client_heard now s k from heard.now seat.old journal.old packets.old) }
+    ensures spends { Spends result
+        (client_heard now s k from heard.now seat.old journal.old packets.old).spent }
+    ensures err { OnErr result (
+        seat_found (record seat.new { post = seat.old.post }) journal.new packets.new ≡
+        seat_found seat.old journal.old packets.old) }
+    ensures undo { OnErr result (undone undo.new seat.new.post ≡ undone undo.old seat.old.post) }
+{
+    if heard.joined.len() <= 1 {
+        hears_one(alloc, now, s, k, from, heard, seat, journal, packets)
+    } else {
+        hears_several(alloc, now, s, k, from, heard, seat, packets, undo)
+    }
+}
+
+/// It brought no answer, or one: the client itself takes the step. After an error all is as it was.
+fn hears_one(
     alloc: Global,
     now: u64,
     s: Session,
@@ -30,9 +97,9 @@ pub(crate) fn hears(
 ) -> Result<Outcome, CoreError>
     requires reading { now ≤ LATEST }
     ensures done { IfOk result (λ told. seat_left told seat.new journal.new packets.new ≡
-        client_hears now s k from heard.now (answer_heard heard.now.joined) seat.old journal.old
-        packets.old) }
-    ensures spends { Spends result (client_hears now s k from heard.now
+        client_hears_one now s k from heard.now (answer_heard heard.now.joined) seat.old
+        journal.old packets.old) }
+    ensures spends { Spends result (client_hears_one now s k from heard.now
         (answer_heard heard.now.joined) seat.old journal.old packets.old).spent }
     ensures err { OnErr result (seat_found seat.new journal.new packets.new ≡
         seat_found seat.old journal.old packets.old) }
@@ -49,7 +116,7 @@ pub(crate) fn hears(
     }
 }
 
-/// An answer came, and the first on its way is on its way no more. After an error all is as it was.
+/// An answer came. After an error all is as it was.
 fn takes(
     alloc: Global,
     now: u64,
@@ -70,7 +137,79 @@ fn takes(
         seat_found seat.old journal.old packets.old) }
 {
     let plan = client_noted(seat.client.plan_answer(alloc, now, k, a)?);
-    let told = does(alloc, s, false, from, plan, seat, journal, packets)?;
-    remove_first(&mut seat.down, k);
+    does(alloc, s, false, from, plan, seat, journal, packets)
+}
+
+/// It brought several: a copy of the client hears them, and stands in its place then. Answers make a client send nothing and
+/// admit nothing.
+fn hears_several(
+    alloc: Global,
+    now: u64,
+    s: Session,
+    k: u8,
+    from: Option<Peer>,
+    heard: &Heard,
+    seat: &mut Seat,
+    packets: &mut Packets,
+    undo: &mut Undo,
+) -> Result<Outcome, CoreError>
+    requires reading { now ≤ LATEST }
+    requires several { 1 < length heard.now.joined }
+    ensures done { (journal : Seq TheItem) → IfOk result (λ told.
+        seat_left told seat.new journal packets.new ≡
+        client_heard now s k from heard.now seat.old journal packets.old) }
+    ensures spends { (journal : Seq TheItem) → Spends result
+        (client_heard now s k from heard.now seat.old journal packets.old).spent }
+    ensures err { OnErr result (record seat.new { post = seat.old.post } ≡ seat.old) }
+    ensures err_packets { OnErr result (packets.new ≡ packets.old) }
+    ensures undo { OnErr result (undone undo.new seat.new.post ≡ undone undo.old seat.old.post) }
+{
+    let mut after = seat.client.copy(alloc)?;
+    let joined = heard.joined.as_slice();
+    match replies(
+        alloc, now, s, k, from, joined, &mut after, &mut seat.post, packets, undo,
+    ) {
+        Ok(told) => {
+            mem::replace(&mut seat.client, after).discard();
+            Ok(told)
+        }
+        Err(e) => {
+            after.discard();
+            Err(e)
+        }
+    }
+}
+
+/// The client hears each of them, and what is due goes out.
+fn replies(
+    alloc: Global,
+    now: u64,
+    s: Session,
+    k: u8,
+    from: Option<Peer>,
+    joined: &[Joined],
+    client: &mut ClientCore,
+    post: &mut Post,
+    packets: &mut Packets,
+    undo: &mut Undo,
+) -> Result<Outcome, CoreError>
+    requires reading { now ≤ LATEST }
+    ensures done { IfOk result (λ told. IsRun (client_replies from
+        (client_hears_each s now (Server k) joined.now (client_begins client.old post.old [])))
+        s packets.old told client.new post.new packets.new) }
+    ensures spent { (counter : TheCounter) → IsErrOf result (errors.Spent counter) →
+        (client_hears_each s now (Server k) joined.now
+        (client_begins client.old post.old [])).spent ≡ Some counter }
+    ensures err { OnErr result (packets.new ≡ packets.old) }
+    ensures undo { OnErr result (undone undo.new post.new ≡ undone undo.old post.old) }
+{
+    let mut heard = ClientHeard::new(alloc);
+    client_hears_each(
+        alloc, now, s, Peer::Server(k), joined, client, post, undo, &mut heard,
+    )?;
+    let told = send_noted(
+        alloc, Peer::Client(s), false, from, heard.notes, post, packets,
+    )?;
+    post.mark_sent();
     Ok(told)
 }

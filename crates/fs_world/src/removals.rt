@@ -2,6 +2,7 @@
 ghost use Rattle.std.specs.Prelude.{◌≡◌, ◌<◌, ◌==◌, length, IfSome};
 ghost use Rattle.std.specs.List.{position};
 ghost use Rattle.fs_serial.specs.Cluster.{is_between, is_with, without_first};
+ghost use Rattle.fs_world.specs.Served.{without_each};
 
 use fs_ident::List;
 use fs_serial::Flying;
@@ -15,6 +16,15 @@ pub(crate) fn remove_first<T: Drop>(messages: &mut List<(u8, T)>, k: u8)
             messages.remove(at);
         }
         None => {}
+    }
+}
+
+/// As many messages to or from the server, from the front, are taken off as there are of these. Takes no memory.
+pub(crate) fn remove_each<T: Drop, U>(messages: &mut List<(u8, T)>, k: u8, gone: &[U])
+    ensures { messages.new ≡ without_each gone.now (is_with k) messages.old }
+{
+    for _ in gone {
+        remove_first(messages, k);
     }
 }
 
