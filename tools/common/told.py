@@ -96,6 +96,12 @@ class Telling:
 
     client_answered = client_read
 
+    def client_leading(self, actor, event, number, server):
+        """A delete or a rename goes to the server that is to lead it."""
+        operation = event.text.split(" ", 2)[2]
+        actor.request = (server, "lead", operation)
+        self.say("question", f"asks {server} to lead operation {number}: {operation}")
+
     def client_over(self, _actor, _event, number, _rest):
         """The session is over."""
         self.say("note", f"The session is over: its entry {number} was refused.")
@@ -163,6 +169,16 @@ class Telling:
         if end.startswith("ended"):
             self.say("note", f"The session is over: {end}.")
         self.ended(actor, end)
+
+    def client_led(self, actor, _event, number, reply):
+        """What a server led is done, or may be asked for again."""
+        operation = actor.request[2] if actor.request and actor.request[1] == "lead" else ""
+        if number in ("ended", "again"):
+            self.say("note", f"It may ask again, since the server did not carry it out: {operation} ({reply}).")
+            self.ended(actor, reply)
+        else:
+            self.say("answer", number, operation, reply)
+            self.ended(actor, "")
 
     def client_recall(self, actor, _event, number, _rest):
         """A lease is asked back."""
@@ -241,6 +257,20 @@ class Telling:
         client, _ = self.client_of(event, "ship")
         whose = f" of {client.name}" if client else ""
         self.say("note", f"Admits {count}{whose}, then: {end}.")
+
+    def server_commits(self, _actor, event, number, reply):
+        """An operation that it led is admitted."""
+        asker = self.client_of(event, "lead")[0]
+        whose = f" for {asker.name}" if asker and asker.name[0] == "c" else ""
+        self.say("note", f"Admits what it led{whose} as {number}: {reply}.")
+
+    def server_aborts(self, _actor, _event, number, why):
+        """An operation that it led is given up."""
+        self.say("note", f"Gives up {number}: {why}.")
+
+    def server_refuses(self, _actor, _event, why, what):
+        """An operation that it does not lead."""
+        self.say("note", f"Does not lead what it was asked to: {why} {what}.")
 
     def server_reaps(self, _actor, _event, count, _rest):
         """Handles that were taken."""

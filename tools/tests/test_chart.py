@@ -92,6 +92,20 @@ class Pages(Folder):
         self.assertEqual(changes[4], [["log", "1", 'create / "a" dir'], ["answer", "1", 'create / "a" dir', "made"]])
         self.assertEqual(changes[7], [["admitted", 1], ["question", ""]])
 
+    def test_a_page_shows_what_a_server_leads(self):
+        lines = ["join c1", 'do c1 delete / "a"', "tell 0", "tell 1", 'do c1 delete / "b"', "tell 3", "tell 4"]
+        schedule = self.file("a.schedule", "farsite 1 servers 1 skew 0 term 9\n" + "".join(f"0 {line}\n" for line in lines))
+        outcomes = ["c1 joined", "c1 leading 1 s0 sends 0", "s0 commits s0#1 deleted sends 1", "c1 led 1 deleted sends 2",
+                    "c1 leading 2 s0 sends 3", "s0 refuses wanted / sends 4", "c1 led again wanted / sends 5"]
+        report = "".join(f"e{k} {line}\n" for k, line in enumerate(outcomes, 1)) + "n / dir 0 0\ndone events 7 journal 0 nodes 1\n"
+        page, said, _ = chart(schedule, self.file("a.report", report))
+        self.assertEqual(said, "")
+        self.assertEqual([event[4] for event in data_in(page)["events"]], [
+            [], [["question", 'asks s0 to lead operation 1: delete / "a"']], [["note", "Admits what it led for c1 as s0#1: deleted."]],
+            [["answer", "1", 'delete / "a"', "deleted"], ["question", ""]], [["question", 'asks s0 to lead operation 2: delete / "b"']],
+            [["note", "Does not lead what it was asked to: wanted /."]],
+            [["note", 'It may ask again, since the server did not carry it out: delete / "b" (wanted /).'], ["question", ""]]])
+
     def test_repeats_and_overtakings_are_told_apart(self):
         lines = ["join c1", "do c1 kind /", "turn c1", "tell 1", "tell 0", "tell 0"]
         schedule = self.file("a.schedule", "farsite 1 servers 1 skew 0 term 9\n" + "".join(f"0 {line}\n" for line in lines))

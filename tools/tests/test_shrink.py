@@ -126,6 +126,7 @@ class Called(unittest.TestCase):
         for words, said in (([self.path, './no-such-command'], 'could not be started'),
                             ([self.path, 'sh', '-c', 'no-such-command-at-all'], 'could not be run'),
                             ([self.path], 'a COMMAND is wanting'),
+                            ([self.path, '--report', 'x', 'false'], '--report stands before SCHEDULE'),
                             (['no-such-file', 'false'], 'could not be read')):
             status, output, errors = self.shrunk(*words)
             self.assertEqual((status, output), (2, ''), words)
