@@ -1,5 +1,5 @@
 -- The loops over events, outcomes, items and lines.
-use Rattle.std.proofs.Common.{◌≡◌, Bool, true, false, refl, ℕ, ◌+◌, ◌-◌, ◌<◌, ◌≤◌, List, ◌∷◌, length, get_or, take, drop, ap, sym, ◌∙◌, arith, subst}
+use Rattle.std.proofs.Common.{◌≡◌, Bool, true, false, refl, ℕ, ◌+◌, ◌-◌, ◌<◌, ◌≤◌, List, [], ◌∷◌, inl, inr, length, get_or, take, drop, ap, sym, ◌∙◌, arith, subst}
 use Rattle.std.proofs.lemmas.List.{drop_more, take-take, length-take}
 use Rattle.std.proofs.Math.Seq.{take-add}
 use Rattle.std.specs.Prelude.{Option, Some, None, nat_lt, if◌then◌else◌, Ok}
@@ -13,6 +13,7 @@ use Rattle.fs_msg.specs.declared.core_error.Counter.{Counter}
 use Rattle.fs_schedule.specs.declared.limits.TheConstants.{PACKETS}
 use Rattle.fs_world.specs.declared.form.Form.{Form}
 use Rattle.fs_world.specs.Carried.{AllCarry, LinksCarry}
+use Rattle.farsite.specs.Stopping.{StandsIn}
 use Rattle.fs_world.specs.World.{Run, AtPackets, more, packets_of, run_on, step, stop_after, stop_at, stop_in}
 
 -- the run goes on with one more event
@@ -49,6 +50,17 @@ goes_on w after line es i e lt is eq none less =
     ∙ ap (λ (o : Option Counter). stop_at o (stop_after line (packets_of (step w e).world) (stop_in (step w e).world (line + 1) (drop (i + 1) es)))) none
     ∙ ap (λ (v : Form). stop_after line (packets_of v) (stop_in v (line + 1) (drop (i + 1) es))) (sym eq)
     ∙ ap (λ (b : Bool). if b then Some (AtPackets line) else stop_in after (line + 1) (drop (i + 1) es)) (few (length (packets_of after)) less)
+
+-- a run stands where it begins
+pub stands_here : (w : Form) (es : List Event) → StandsIn w es w
+stands_here w [] = refl
+stands_here w (e ∷ es) = inl refl
+
+-- and where it stands in what follows an event that does not break it off
+pub stands_on : (w after : Form) (es : List Event) (i : ℕ) (e : Event) → i < length es → e ≡ get_or es i e → after ≡ (step w e).world → (step w e).spent ≡ None → length (packets_of after) ≤ PACKETS → (now : Form) → StandsIn after (drop (i + 1) es) now → StandsIn w (drop i es) now
+stands_on w after es i e lt is eq none less now rest =
+    subst (λ (xs : List Event). StandsIn w xs now) (sym (drop_more es i e lt ∙ ap (λ (x : Event). x ∷ drop (i + 1) es) (sym is)))
+    (inr (none, subst (λ (v : Form). length (packets_of v) ≤ PACKETS) eq less, subst (λ (v : Form). StandsIn v (drop (i + 1) es) now) eq rest))
 
 -- what was sent is carried before an event, and before those that follow
 pub carried_on : (w after : Form) (es : List Event) (i : ℕ) (e : Event) → i < length es → e ≡ get_or es i e → after ≡ (step w e).world → LinksCarry w → AllCarry after (drop (i + 1) es) → AllCarry w (drop i es)

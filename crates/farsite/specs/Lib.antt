@@ -6,3 +6,4 @@ pub mod Status
 pub mod Lines
 -- cited by private calls alone
 pub mod Fitting
+pub mod Stopping

@@ -7,7 +7,8 @@ ghost use Rattle.fs_world.specs.Refusals.{NoneHas, is_link_strange};
 ghost use Rattle.fs_world.specs.World.{AtCounter, AtPackets, first_world, run_of, run_on, stop_in, stop_of};
 ghost use Rattle.farsite.specs.Fitting.{MayHappen};
 ghost use Rattle.farsite.specs.Status.{run_error};
-ghost use Rattle.farsite.specs.declared.run_error.RunError.TheVariants.{Packets, Spent};
+ghost use Rattle.farsite.specs.Stopping.{StandsIn};
+ghost use Rattle.farsite.specs.declared.run_error.RunError.TheVariants.{Memory as WantOfMemory, Packets, Spent};
 
 use crate::run_error::RunError;
 use fs_ident::List;
@@ -42,7 +43,8 @@ pub(crate) fn run(alloc: Global, schedule: &Schedule) -> Result<(World, List<Out
     }
 }
 
-/// The events happen to the world, one after another, and what each comes to is told. The first stands at line 2.
+/// The events happen to the world, one after another, and what each comes to is told. The first stands at line 2. `Memory` is
+/// never told in place of a limit that was passed: the run was not broken off up to where it stands then.
 fn run_all(
     alloc: Global,
     events: &[Event],
@@ -60,15 +62,16 @@ fn run_all(
         stop_in world.old 2 events.now ≡ Some (AtCounter counter) }
     ensures packets { (line : ℕ) → IsErrOf result (Packets line) →
         stop_in world.old 2 events.now ≡ Some (AtPackets line) }
+    ensures memory { IsErrOf result WantOfMemory → StandsIn world.old events.now world.new }
 {
     for (at, e) in events.iter().enumerate() {
-        match world.step(alloc, e) {
-            Ok(outcome) => told.push(outcome)?,
+        let done = match world.step(alloc, e) {
+            Ok(outcome) => told.push(outcome),
             Err(e) => return Err(run_error(e)),
-        }
-        match flooded(world.packets().len(), at as u64 + 2) {
+        };
+        match flooded(world.packet_count(), at as u64 + 2) {
             Some(line) => return Err(RunError::Packets { line }),
-            None => {}
+            None => done?,
         }
     }
     Ok(())

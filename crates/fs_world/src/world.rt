@@ -1,5 +1,5 @@
 //! The world of a schedule as one value.
-ghost use Rattle.std.specs.Prelude.{◌≡◌, ◌≤◌, ◌⊎◌, ◌∷◌, ◌++◌, [], Some, IfOk, OnErr, OnOk, IsErrOf};
+ghost use Rattle.std.specs.Prelude.{◌≡◌, ◌≤◌, ◌⊎◌, ◌∷◌, ◌++◌, [], length, Some, IfOk, OnErr, OnOk, IsErrOf};
 ghost use Rattle.fs_ident.specs.declared.limits.TheConstants.{LATEST};
 ghost use Rattle.fs_msg.specs.declared.core_error.Counter.{Counter as TheCounter};
 ghost use Rattle.fs_msg.specs.declared.core_error.CoreError.TheVariants as errors;
@@ -14,22 +14,18 @@ use fs_msg::{CoreError, Item, PeerMsg};
 use fs_record::Parcel;
 use fs_schedule::{Event, Head, Outcome};
 use fs_serial::{Flying, joined};
-use fs_window::Sent;
 use std::alloc::Global;
 use std::marker::Model;
 
 /// What a schedule's events happen to.
 pub struct World {
     form: Form,
-    /// None is sent in the direct form.
-    none: List<Sent>,
 }
 
 impl Model for World {
     ghost use Rattle.fs_world.specs.declared.form.Form.{Form};
     ghost use Rattle.fs_world.specs.contracts.form.Form as whole;
     ghost use Rattle.fs_world.specs.Linked.{IsWhole};
-    ghost use Rattle.std.specs.Prelude.{◌≡◌, []};
 
     ghost Value = { Form };
 
@@ -37,7 +33,7 @@ impl Model for World {
 
     ghost view = { λ w. w.form };
 
-    ghost invariant = { λ w. (w.none ≡ []) × IsWhole w.form };
+    ghost invariant = { λ w. IsWhole w.form };
 }
 
 impl World {
@@ -52,11 +48,10 @@ impl World {
         requires { FitsHead head.now }
         ensures { IfOk result (λ w. w ≡ first_world head.now) }
     {
-        let none = List::new(alloc);
         match *head {
             Head::Direct => {
                 let form = Form::Direct(Direct::new(alloc)?);
-                Ok(World { form, none })
+                Ok(World { form })
             }
             Head::Servers {
                 servers,
@@ -64,7 +59,7 @@ impl World {
                 term,
             } => {
                 let form = Form::Served(Served::new(alloc, servers, skew, term)?);
-                Ok(World { form, none })
+                Ok(World { form })
             }
         }
     }
@@ -111,13 +106,13 @@ impl World {
         }
     }
 
-    /// The packets that were sent, in order: none in the direct form.
-    pub fn packets(&self) -> &List<Sent>
-        ensures { result.now ≡ packets_of self.now }
+    /// How many packets were sent: none in the direct form.
+    pub fn packet_count(&self) -> usize
+        ensures { result ≡ length (packets_of self.now) }
     {
         match &self.form {
-            Form::Direct(_) => &self.none,
-            Form::Served(served) => served.packets.sent(),
+            Form::Direct(_) => 0,
+            Form::Served(served) => served.packets.sent().len(),
         }
     }
 
@@ -136,7 +131,7 @@ impl World {
 
     /// Gives the world up, with every lease of its clients.
     pub fn discard(self) {
-        let World { form, none: _ } = self;
+        let World { form } = self;
         form.discard();
     }
 }
@@ -145,7 +140,6 @@ impl Twin for World {
     fn copy(&self, alloc: Global) -> Result<World, Memory> {
         Ok(World {
             form: self.form.copy(alloc)?,
-            none: List::new(alloc),
         })
     }
 

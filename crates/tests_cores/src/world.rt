@@ -60,7 +60,7 @@ fn counted(alloc: Global, world: World) -> Result<Counts, Fail> {
 
 fn counts_in(alloc: Global, world: &World) -> Result<Counts, Fail> {
     let files = files_in(alloc, world)?;
-    Ok((world.journal().len(), world.packets().len(), files))
+    Ok((world.journal().len(), world.packet_count(), files))
 }
 
 fn files_in(alloc: Global, world: &World) -> Result<usize, Fail> {

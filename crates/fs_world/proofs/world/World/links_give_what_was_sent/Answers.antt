@@ -4,4 +4,4 @@ use Rattle.fs_world.proofs.Carrying.{links_carry}
 use Rattle.fs_world.proofs.world.World.links_give_what_was_sent.Goals as goal
 
 pub returns : goal.returns
-returns c = subst LinksCarry c.self.view_is (links_carry c.self.inside.form c.self.invariant.1)
+returns c = subst LinksCarry c.self.view_is (links_carry c.self.inside.form c.self.invariant)

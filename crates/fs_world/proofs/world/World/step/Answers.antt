@@ -23,11 +23,11 @@ returns-clause-known c = elim c.match-self.branch [
       (answered_plain (Direct w.in-Direct.direct) c.args.event.now w.step.result tt w.step.ensures.outcome)
   | in-Served w ↦
       subst (λ (r : Result Outcome CoreError). IfOk r (HasNone is_link_strange)) (sym w.result-is)
-      (answered_plain (Served w.in-Served.served) c.args.event.now w.step-in-Served.result (subst LinksCarry w.in-Served.is (links_carry c.self.inside.form c.self.invariant.1)) (told_then w.step-in-Served.result w.step-in-Served.new.self (step_of w.in-Served.served c.args.event.now.reading c.args.event.now.what) w.step-in-Served.ensures.done))
+      (answered_plain (Served w.in-Served.served) c.args.event.now w.step-in-Served.result (subst LinksCarry w.in-Served.is (links_carry c.self.inside.form c.self.invariant)) (told_then w.step-in-Served.result w.step-in-Served.new.self (step_of w.in-Served.served c.args.event.now.reading c.args.event.now.what) w.step-in-Served.ensures.done))
 ]
 
 pub returns-clause-carried : goal.returns-clause-carried
-returns-clause-carried c = subst LinksCarry c.self.view_is (links_carry c.self.inside.form c.self.invariant.1)
+returns-clause-carried c = subst LinksCarry c.self.view_is (links_carry c.self.inside.form c.self.invariant)
 
 always_ok : (r : Result Outcome CoreError) (P : Type 0) → P → OnOk r P
 always_ok (Ok o) P h = h
