@@ -1,6 +1,6 @@
 -- The server admits an entry: the parts of its own session.
 use Rattle.std.proofs.Common.{◌≡◌, ℕ, ◌+◌, ◌<◌, Bool, true, false, List, [], ◌∷◌, ◌++◌, ◌⊎◌, map, refl, sym, ap, ◌∙◌, subst, inl, inr, cond, append_assoc}
-use Rattle.std.specs.Prelude.{Option, Some, None, is_some}
+use Rattle.std.specs.Prelude.{Option, Some, None}
 use Rattle.std.specs.List.{list_any}
 use mathlib.Core.Path.{fun_ext}
 use Rattle.fs_ident.specs.In.{In}
@@ -11,14 +11,9 @@ use Rattle.fs_ident.proofs.Options.{not_some}
 use Rattle.fs_field.specs.declared.field.Field.{Field}
 use Rattle.fs_field.specs.declared.field.Field.TheVariants.{Life}
 use Rattle.fs_field.specs.declared.row.Row.{Row}
-use Rattle.fs_field.specs.declared.used.Use.{Use}
 use Rattle.fs_field.specs.declared.value.Value.TheVariants as value
 use Rattle.fs_field.specs.Field.{file_of}
 use Rattle.fs_model.specs.Namespace.{first_space}
-use Rattle.fs_model.specs.declared.op.Op.{Op}
-use Rattle.fs_model.specs.declared.op.Op.TheVariants as op
-use Rattle.fs_model.specs.declared.reply.Reply.{Reply}
-use Rattle.fs_model.specs.declared.reply.Reply.TheVariants as reply
 use Rattle.fs_msg.specs.declared.entry.Entry.{Entry}
 use Rattle.fs_msg.specs.declared.item.Item.{Item}
 use Rattle.fs_record.specs.Records.{nodes_of}
@@ -40,7 +35,7 @@ use Rattle.fs_serial.specs.Settled.{Lease, lease_after, effects_in}
 use Rattle.fs_serial.specs.Sight.{Counts, Sight, sight_of}
 use Rattle.fs_serial.proofs.LedKept.{each_led}
 use Rattle.fs_serial.proofs.Answered.{answered, leads_there, sound_there, no_reap}
-use Rattle.fs_serial.proofs.Births.{life_after, makes_there, names_made}
+use Rattle.fs_serial.proofs.Births.{life_after, makes_there}
 use Rattle.fs_serial.proofs.Facts.{each_image, items-own, serial_push, session_itself}
 use Rattle.fs_serial.proofs.Gone.{MakeAnew, gone_later, gone_then, made_more}
 

@@ -27,7 +27,7 @@ use Rattle.fs_serial.specs.Parts.{ServersHold, ServersFit}
 use Rattle.fs_serial.specs.Pending.{AllStand, Stands, IsAnswer, IsCovered, IsEntry}
 use Rattle.fs_serial.specs.Relies.{Relies}
 use Rattle.fs_serial.specs.Rows.{NoRowsConflict, PromisesKept}
-use Rattle.fs_serial.specs.Settled.{Lease, effects_in}
+use Rattle.fs_serial.specs.Settled.{effects_in}
 use Rattle.fs_serial.specs.Sight.{Counts, sight_of}
 use Rattle.fs_serial.proofs.Answered.{answered, covered_there}
 use Rattle.fs_serial.proofs.Facts.{items-other}

@@ -56,7 +56,6 @@ use Rattle.fs_view.proofs.Seeing.{absent, own_values}
 use Rattle.fs_view.proofs.Unseen.{others_values}
 use Rattle.fs_serial.specs.Pending.{AllStand, IsAnswer, IsEntry, Stands, HasUse}
 use Rattle.fs_serial.specs.Rows.{PromisesKept}
-use Rattle.fs_serial.specs.Settled.{Lease, Settled}
 use Rattle.fs_serial.proofs.Answered.{answered}
 use Rattle.fs_serial.proofs.Modes.{has_all, mode_by_own}
 

@@ -2,7 +2,6 @@
 use Rattle.std.proofs.Common.{◌≡◌, ℕ, ◌==◌, true, false, List, [], ◌++◌, append-nil, map, cond, refl, sym, ap, ◌∙◌, subst}
 use Rattle.std.specs.Prelude.{Option, Some, None}
 use Rattle.fs_ident.specs.In.{In}
-use Rattle.fs_ident.specs.declared.actor.LeaseNo.{LeaseNo}
 use Rattle.fs_ident.specs.declared.actor.Session.{Session}
 use Rattle.fs_ident.proofs.Same.{one_session}
 use Rattle.fs_map.specs.Map.{Owners}
@@ -17,7 +16,7 @@ use Rattle.fs_client.proofs.Planning.{max_again}
 use Rattle.fs_serial.specs.Fresh.{FreshReserved, IsMade, reserved_by}
 use Rattle.fs_serial.specs.Numbers.{AreNumbered, all_items, items_by}
 use Rattle.fs_serial.specs.Parts.{ServersHold, ServersFit}
-use Rattle.fs_serial.specs.Settled.{Lease, settled_now}
+use Rattle.fs_serial.specs.Settled.{settled_now}
 use Rattle.fs_serial.specs.Sight.{Sight, seen, sight_of}
 use Rattle.fs_serial.specs.World.{Ends, World, WorldHolds, pushed, settled_at, sight_in, with_ends, with_told}
 use Rattle.fs_serial.proofs.LedKept.{each_led}

@@ -6,7 +6,6 @@ use Rattle.std.specs.List.{list_any}
 use mathlib.Core.Path.{fun_ext}
 use Rattle.fs_ident.specs.In.{In}
 use Rattle.fs_ident.specs.Ident.{child, same}
-use Rattle.fs_ident.specs.declared.actor.LeaseNo.{LeaseNo}
 use Rattle.fs_ident.specs.declared.actor.Session.{Session}
 use Rattle.fs_ident.specs.declared.kind.Kind.{Kind}
 use Rattle.fs_ident.specs.declared.kind.Kind.TheVariants.{File, Dir}

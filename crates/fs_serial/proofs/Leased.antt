@@ -9,14 +9,9 @@ use Rattle.fs_ident.proofs.Standing.{In-put, In-front}
 use Rattle.fs_field.specs.declared.field.Field.{Field}
 use Rattle.fs_field.specs.declared.field.Field.TheVariants.{Life}
 use Rattle.fs_field.specs.declared.row.Row.{Row}
-use Rattle.fs_field.specs.declared.used.Use.{Use}
 use Rattle.fs_field.specs.declared.value.Value.TheVariants as value
 use Rattle.fs_field.specs.Table.{with_row, no_before}
 use Rattle.fs_model.specs.Sound.{kind_of}
-use Rattle.fs_model.specs.declared.op.Op.{Op}
-use Rattle.fs_model.specs.declared.op.Op.TheVariants as op
-use Rattle.fs_model.specs.declared.reply.Reply.{Reply}
-use Rattle.fs_model.specs.declared.reply.Reply.TheVariants as reply
 use Rattle.fs_msg.specs.declared.item.Item.{Item}
 use Rattle.fs_record.specs.Records.{node_of}
 use Rattle.fs_record.specs.ValueOf.{value_of}

@@ -1,6 +1,6 @@
 -- In a cluster where everything is at its place, what comes of an event at a server comes of it at the one that has all.
 use Rattle.std.proofs.Common.{◌≡◌, ℕ, ◌==◌, ◌≤◌, true, false, List, ◌++◌, refl, ap, ap₂, cond, subst, sym, ◌∙◌, inl, inr, append-nil}
-use Rattle.std.specs.Prelude.{Option, Some, None, is_some, option_map, slice_get, unwrap_or}
+use Rattle.std.specs.Prelude.{Option, Some, None, option_map, slice_get, unwrap_or}
 use Rattle.std.specs.FinMap.{get}
 use Rattle.std.specs.Cmp.{nat_eq_equiv}
 use Rattle.fs_ident.specs.Ident.{child}
@@ -48,7 +48,7 @@ use Rattle.fs_serial.specs.Joined.{records_of_all, rows_of_all}
 use Rattle.fs_serial.specs.Pending.{IsEntry, NamesItsFile, named_by}
 use Rattle.fs_serial.specs.Places.{IsHome, PlacesHold}
 use Rattle.fs_serial.specs.Seen.{ends_of, given_at, with_all, world_of}
-use Rattle.fs_serial.specs.Settled.{Lease, Settled}
+use Rattle.fs_serial.specs.Settled.{Settled}
 use Rattle.fs_serial.specs.World.{IsThere, WorldHolds, settled_at}
 use Rattle.fs_serial.proofs.Children.{the_child}
 use Rattle.fs_serial.proofs.Facts.{below_itself}

@@ -1,6 +1,5 @@
 -- One session's client changes, and all others stay.
 use Rattle.std.proofs.Common.{◌≡◌, ℕ, ◌==◌, true, false, List, refl, ap, subst, cond}
-use Rattle.fs_ident.specs.declared.actor.LeaseNo.{LeaseNo}
 use Rattle.fs_ident.specs.declared.actor.Session.{Session}
 use Rattle.fs_ident.proofs.Same.{one_session}
 use Rattle.fs_msg.specs.declared.item.Item.{Item}

@@ -147,12 +147,24 @@ used_by_best v now dir id h = by (taken v now (Life id) Exclusive) refl
         absurd (cc)
 
 -- the lease that is used, by the field of the one that offers
-pub taken_by_field : (v : View) (now : ℕ) (dir : List ℕ) → taken_fresh v now dir ≡ option_and_then (λ (k : Kept). option_and_then (λ (f : Field). taken v now f Exclusive) (field_in k.standing)) (offered v now dir)
+abbrev by_field : View → ℕ → Option Kept → Option Kept
+by_field v now o = option_and_then (λ (k : Kept). option_and_then (λ (f : Field). taken v now f Exclusive) (field_in k.standing)) o
+
+taken_by_field : (v : View) (now : ℕ) (dir : List ℕ) → taken_fresh v now dir ≡ by_field v now (offered v now dir)
 taken_by_field v now dir = by (offered v now dir) refl
   where
-    by : (o : Option Kept) → offered v now dir ≡ o → option_and_then (λ (id : List ℕ). taken v now (Life id) Exclusive) (option_map (λ (k : Kept). file_in k.standing) o) ≡ option_and_then (λ (k : Kept). option_and_then (λ (f : Field). taken v now f Exclusive) (field_in k.standing)) o
+    by : (o : Option Kept) → offered v now dir ≡ o → option_and_then (λ (id : List ℕ). taken v now (Life id) Exclusive) (option_map (λ (k : Kept). file_in k.standing) o) ≡ by_field v now o
     by None e = refl
     by (Some k) e = let q : IsTheOffer v now dir k = the_offer v now dir k e in sym (ap (option_and_then (λ (f : Field). taken v now f Exclusive)) (serving_field now k.standing q.serving))
+
+pub taken_for_none : (v : View) (now : ℕ) (dir : List ℕ) → None ≡ offered v now dir → None ≡ taken_fresh v now dir
+taken_for_none v now dir h = ap (by_field v now) h ∙ sym (taken_by_field v now dir)
+
+pub taken_off_field : (v : View) (now : ℕ) (dir : List ℕ) (k : Kept) → Some k ≡ offered v now dir → None ≡ field_in k.standing → None ≡ taken_fresh v now dir
+taken_off_field v now dir k h e = ap (option_and_then (λ (f : Field). taken v now f Exclusive)) e ∙ ap (by_field v now) h ∙ sym (taken_by_field v now dir)
+
+pub taken_on_field : (v : View) (now : ℕ) (dir : List ℕ) (k : Kept) (f : Field) → Some k ≡ offered v now dir → Some f ≡ field_in k.standing → taken v now f Exclusive ≡ taken_fresh v now dir
+taken_on_field v now dir k f h e = ap (option_and_then (λ (f : Field). taken v now f Exclusive)) e ∙ ap (by_field v now) h ∙ sym (taken_by_field v now dir)
 
 -- what is used is taken on a life
 pub fresh_taken : (v : View) (now : ℕ) (dir : List ℕ) (k : Kept) → taken_fresh v now dir ≡ Some k → (id : List ℕ) × (taken v now (Life id) Exclusive ≡ Some k)

@@ -367,7 +367,6 @@ impl View {
     }
 
     /// The lease that is used for the identifier of a new file in the directory at the reading.
-    #[tactic(auto, using(crate::proofs::Offering::taken_for))]
     pub fn taken_fresh(&self, now: u64, dir: &FileId) -> Option<&Kept>
         ensures { option_copied result ≡ taken_fresh self.now now dir.now }
     {
