@@ -10,7 +10,6 @@ use Rattle.fs_ident.specs.declared.actor.Peer.{Peer}
 use Rattle.fs_ident.specs.declared.actor.Session.{Session}
 use Rattle.fs_ident.proofs.Standing.{In-map, In-append}
 use Rattle.fs_ident.proofs.Same.{one_session}
-use Rattle.fs_field.specs.declared.effect.Effect.{Effect}
 use Rattle.fs_field.specs.declared.row.Row.{Row}
 use Rattle.fs_field.specs.Table.{has_no}
 use Rattle.fs_msg.specs.declared.answer.Answer.{Answer}
@@ -25,6 +24,7 @@ use Rattle.fs_server.specs.Reaps.{recalls_for}
 use Rattle.fs_server.specs.Server.{to_session}
 use Rattle.fs_server.specs.Step.{recalls_of}
 use Rattle.fs_server.specs.declared.state.Server.{Server}
+use Rattle.fs_txn.specs.Grants.{Decided}
 use Rattle.fs_client.specs.Answers.{answer_fits}
 use Rattle.fs_client.specs.declared.exchange.Exchange.{Exchange}
 use Rattle.fs_client.specs.declared.state.Client.{Client}
@@ -75,10 +75,10 @@ goes_of greatest w h = record {
 }
 
 -- where nothing is decided that is not applied, sessions see what stands at the server
-pub goes_bare : (o : Counts) (decided : List Effect) (skew greatest : ℕ) (s : Server) (journal : List Item) (replied : Session → List Item) (ends : Session → Ends) (clients : Session → Settled) → decided ≡ [] → GoesOn skew greatest (sight_of o (seen decided s) journal) replied ends clients → GoesOn skew greatest (sight_of o s journal) replied ends clients
+pub goes_bare : (o : Counts) (decided : List Decided) (skew greatest : ℕ) (s : Server) (journal : List Item) (replied : Session → List Item) (ends : Session → Ends) (clients : Session → Settled) → decided ≡ [] → GoesOn skew greatest (sight_of o (seen decided s) journal) replied ends clients → GoesOn skew greatest (sight_of o s journal) replied ends clients
 goes_bare o decided skew greatest s journal replied ends clients none h = subst (λ es. GoesOn skew greatest (sight_of o (seen es s) journal) replied ends clients) none h
 
-pub goes_seen : (o : Counts) (decided : List Effect) (skew greatest : ℕ) (s : Server) (journal : List Item) (replied : Session → List Item) (ends : Session → Ends) (clients : Session → Settled) → decided ≡ [] → GoesOn skew greatest (sight_of o s journal) replied ends clients → GoesOn skew greatest (sight_of o (seen decided s) journal) replied ends clients
+pub goes_seen : (o : Counts) (decided : List Decided) (skew greatest : ℕ) (s : Server) (journal : List Item) (replied : Session → List Item) (ends : Session → Ends) (clients : Session → Settled) → decided ≡ [] → GoesOn skew greatest (sight_of o s journal) replied ends clients → GoesOn skew greatest (sight_of o (seen decided s) journal) replied ends clients
 goes_seen o decided skew greatest s journal replied ends clients none h = subst (λ es. GoesOn skew greatest (sight_of o (seen es s) journal) replied ends clients) (sym none) h
 
 -- the ends stay, and only what stands at the server has changed
