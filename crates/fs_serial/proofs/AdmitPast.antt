@@ -71,21 +71,21 @@ module _ (rows : List Row) (by y : Session) (uses : List Use) (free : NoRowsConf
       let apart : (by.0 == a.row.session.0) ≡ false = ap (λ (s : Session). by.0 == s.0) a.session ∙ turned y.0 by.0 other in
       (a.row.kind, ap (λ z. meets z a.row.kind f Exclusive) (sym a.field) ∙ no_item_meets rows by a.row uses (need.Lease f Exclusive) free a.stands apart stand c)
 
-  life_apart : (f id : List ℕ) (w : LeaseKind) → HasLocked rows y (Life f) w → IsCovered uses (need.Lease (Life id) Exclusive) → f ≡ id → ⊥
+  pub life_apart : (f id : List ℕ) (w : LeaseKind) → HasLocked rows y (Life f) w → IsCovered uses (need.Lease (Life id) Exclusive) → f ≡ id → ⊥
   life_apart f id w a c e =
       let q = unmet (Life f) w (Life id) a c in
       let wrong : true ≡ false = sym (same_self f) ∙ ap (same f) e ∙ life_untouched f q.0 id q.1 in
       absurd (cc)
 
-  name_apart : (d n dir name : List ℕ) (w : LeaseKind) → HasLocked rows y (Child d n) w → IsCovered uses (need.Lease (Child dir name) Exclusive) → d ≡ dir → n ≡ name → ⊥
+  pub name_apart : (d n dir name : List ℕ) (w : LeaseKind) → HasLocked rows y (Child d n) w → IsCovered uses (need.Lease (Child dir name) Exclusive) → d ≡ dir → n ≡ name → ⊥
   name_apart d n dir name w a c e t =
       let q = unmet (Child d n) w (Child dir name) a c in
       let wrong : true ≡ false = sym (ap₂ (λ x z. x && z) (same_self d) (same_self n)) ∙ ap₂ (λ x z. same d x && same n z) e t ∙ child_untouched (Child d n) q.0 dir name None q.1 in
       absurd (cc)
 
   module _ (held : NodeMap) where
-    -- a name that a new file gets
-    named : (d : Effect) (dir name id : List ℕ) → IsDecided d → IsGuarded rows held y d → (d ≡ RemoveNode dir → ⊥) → IsCovered uses (need.Lease (Child dir name) Exclusive) → IsApart d (SetChild dir name (Some id))
+    -- a name that is set
+    pub named : (d : Effect) (dir name : List ℕ) (id : Option (List ℕ)) → IsDecided d → IsGuarded rows held y d → (d ≡ RemoveNode dir → ⊥) → IsCovered uses (need.Lease (Child dir name) Exclusive) → IsApart d (SetChild dir name id)
     named (SetChild a b None) dir name id k g gone c = λ s t. name_apart a b dir name _ g.0 c s t
     named (SetParent f a b) dir name id k g gone c = λ s. tt
     named (RemoveNode f) dir name id k g gone c = λ s. absurd (gone (ap RemoveNode s))
@@ -137,7 +137,7 @@ module _ (m : NodeMap) (rows : List Row) (by y : Session) (uses : List Use) (fre
   entry_apart (op.Create dir name kind (Some id)) reply.Made h covered e i =
       let q = made_items m by dir name id kind h in
       elim i as (λ _. IsApart d e) [
-        | inl s ↦ subst (IsApart d) (sym s) (named rows by y uses free other stand m d dir name id decided guarded (λ g. made_living m by dir name id kind (gone dir g) h) (covered _ q.0))
+        | inl s ↦ subst (IsApart d) (sym s) (named rows by y uses free other stand m d dir name (Some id) decided guarded (λ g. made_living m by dir name id kind (gone dir g) h) (covered _ q.0))
         | inr j ↦ elim j as (λ _. IsApart d e) [
           | inl s ↦ subst (IsApart d) (sym s) (born rows by y uses free other stand m d id kind dir name decided guarded (covered _ q.1))
           | inr z ↦ absurd z

@@ -128,7 +128,7 @@ module _ (greatest : ℕ) (w : World) (by : Session) (h : WorldHolds greatest w)
       let same = asked_same by items dir s in
       let clock = h.clock in
       let last = same.last in
-      let told = world_answered greatest w a.server w.journal by (Ask items dir) (Granted a.grants a.fresh a.end) up h w.replied same.skew (omega arith) (same.later w.counts) right.goes refl
+      let told = world_answered greatest w a.server w.journal by (Ask items dir) (Granted a.grants a.fresh a.end) up h w.decided w.replied same.skew (omega arith) (same.later w.counts) right.goes refl
       (λ x e q. ask_fits x c items dir a.grants a.fresh a.end q right.fits)
       (λ ends e q. absurd (cc)) in
       let ends : Session → Ends = with_answer by (Granted a.grants a.fresh a.end) (without_question by w.ends) in
@@ -157,7 +157,7 @@ module _ (greatest : ℕ) (w : World) (by : Session) (h : WorldHolds greatest w)
       let t : Server = record s { rows = renewed_rows until ns s.rows } in
       let a = Renewed (ends_told until ns s.rows) e in
       subst (λ js. WorldStands greatest (record { server = t; counts = w.counts; decided = w.decided; journal = js; replied = w.replied; ends = with_answer by a (without_question by w.ends) })) (sym (append-nil w.journal)) (
-        world_answered greatest w t w.journal by (Renew pairs) a up h w.replied refl h.clock (renewed_later (given_by w.counts s) until ns s.rows)
+        world_answered greatest w t w.journal by (Renew pairs) a up h w.decided w.replied refl h.clock (renewed_later (given_by w.counts s) until ns s.rows)
             (unchanged a (sight_of w.counts (seen w.decided t) w.journal) refl (rows_renewed s.skew greatest (sight_in w) w.replied w.ends base until ns s.rows (goes_of greatest w h)))
             refl
             (λ x z q. renew_fits x pairs until e q)
@@ -199,7 +199,7 @@ module _ (greatest : ℕ) (w : World) (by : Session) (h : WorldHolds greatest w)
       let back = returned_by o.exchange pairs o.question (subst (λ x. ReleasesReturned x c.view.leases) o.stands (h.exchanges by).released) in
       let others = others_in greatest w by (Release pairs) (subst (λ ms. In (Release pairs) ms) (sym up) (inl refl)) h f in
       subst (λ js. WorldStands greatest (record { server = t; counts = w.counts; decided = w.decided; journal = js; replied = w.replied; ends = with_answer by a (without_question by w.ends) })) (sym (append-nil w.journal)) (
-        world_answered greatest w t w.journal by (Release pairs) a up h w.replied refl h.clock (released_later (given_by w.counts s) ns s.rows)
+        world_answered greatest w t w.journal by (Release pairs) a up h w.decided w.replied refl h.clock (released_later (given_by w.counts s) ns s.rows)
             (unchanged a (sight_of w.counts (seen w.decided t) w.journal) refl (rows_released s.skew greatest (sight_in w) w.replied w.ends base by ns s.rows (λ n i. back n (here_among s pairs n i)) (goes_of greatest w h)))
             refl
             (λ x z q. release_fits x pairs e q)
@@ -241,7 +241,7 @@ module _ (greatest : ℕ) (w : World) (by : Session) (h : WorldHolds greatest w)
       let log : c.log ≡ d.log = sym (ap (λ (k : Settled). k.log) (settled_none by (w.ends by).down (settled_now c) o.silent)) in
       let fits : refusal_fits x.end (length x.admitted) entries ≡ true = ap (λ n. refusal_fits x.end n entries) count ∙ r.fits in
       let few = r.few in (
-        world_answered greatest w x.server (w.journal ++ x.admitted) by (Ship entries) a up h w.replied same.skew (omega arith) (same.later w.counts)
+        world_answered greatest w x.server (w.journal ++ x.admitted) by (Ship entries) a up h w.decided w.replied same.skew (omega arith) (same.later w.counts)
             (subst (λ n. GoesOn s.skew greatest (sight_of w.counts (seen w.decided x.server) (w.journal ++ x.admitted)) w.replied w.ends (with_client by (with_over (over_after x.end d.over) (acknowledged_all by n d)) base)) (sym count) r.goes)
             refl
             (λ y e q. ship_fits y entries front.rest (length x.admitted) x.end (log ∙ front.log) q (omega arith) fits)
