@@ -87,7 +87,7 @@ module _ (o : Counts) (skew greatest : ℕ) (s : Server) (journal : List Item) (
   abbrev after : Sight
   after = sight_of o (with_entry by e s) (journal ++ item_of by e ∷ [])
 
-  stand : AllStand s.rows by e.uses
+  pub stand : AllStand s.rows by e.uses
   stand = all_found s.rows by e.uses a.found
 
   holds : SessionHolds skew greatest (sight_of o s journal) by (replied by) first
@@ -99,10 +99,10 @@ module _ (o : Counts) (skew greatest : ℕ) (s : Server) (journal : List Item) (
   anew : MakeAnew by journal (e ∷ a.rest)
   anew = subst (MakeAnew by journal) a.log (all_anew skew greatest (sight_of o s journal) replied clients h by)
 
-  plain : IsEntry e
+  pub plain : IsEntry e
   plain = admit.plain o skew greatest s journal by (replied by) d.leases e a.rest d.next d.led stand h.servers h.kept holds fits
 
-  right : IsAnswer (value_of s.records by) e
+  pub right : IsAnswer (value_of s.records by) e
   right = admit.right o skew greatest s journal by (replied by) d.leases e a.rest d.next d.led stand h.servers h.kept holds fits
 
   promises : PromisesKept (with_entry by e s).records s.rows

@@ -1,5 +1,5 @@
 -- The items of a question for leases, one after another.
-use Rattle.std.proofs.Common.{◌≡◌, ℕ, Bool, List, [], ◌∷◌, ◌++◌, map, append_assoc, sym, ap, ◌∙◌, subst, inl, inr}
+use Rattle.std.proofs.Common.{◌≡◌, ◌==◌, ℕ, Bool, false, List, [], ◌∷◌, ◌++◌, map, append_assoc, sym, ap, ◌∙◌, subst, inl, inr}
 use Rattle.std.specs.Prelude.{Option, None}
 use Rattle.std.proofs.lemmas.List.{map-append}
 use Rattle.fs_ident.specs.In.{In}
@@ -17,12 +17,16 @@ use Rattle.fs_server.specs.Asks.{answer_to, ask_from, grant_of, kind_for, with_l
 use Rattle.fs_server.specs.Server.{next_number, end_of}
 use Rattle.fs_server.specs.declared.state.Server.{Server}
 use Rattle.fs_server.proofs.OneByOne.{Items, each_item}
+use Rattle.fs_record.specs.ValueOf.{value_of}
+use Rattle.fs_txn.specs.Grants.{Decided}
+use Rattle.fs_serial.specs.Decided.{AllDecidedStand}
 use Rattle.fs_serial.specs.Parts.{with_client}
 use Rattle.fs_serial.specs.Settled.{Settled, granted, with_leases}
-use Rattle.fs_serial.specs.Sight.{Counts, sight_of}
+use Rattle.fs_serial.specs.Sight.{Counts, seen, sight_of}
 use Rattle.fs_serial.specs.World.{Ends, GoesOn}
 use Rattle.fs_serial.proofs.Again.{goes_again}
 use Rattle.fs_serial.proofs.GrantItem.{item_granted}
+use Rattle.fs_serial.proofs.GrantsPast.{answers_alike, stand_leased, told_right}
 use Rattle.fs_serial.proofs.Leased.{In-put_still}
 
 -- the client with the leases that it is given so far
@@ -37,11 +41,12 @@ given_more grants g d =
 abbrev pub GrantsHaveRows : List Row → List Grant → Type 0
 GrantsHaveRows rows grants = (g : Grant) → In g grants → (r : Row) × In r rows × (r.field ≡ g.field)
 
-module _ (o : Counts) (skew greatest : ℕ) (journal : List Item) (replied : Session → List Item) (ends : Session → Ends) (base : Session → Settled) (by : Session) (d : Settled) where
+module _ (o : Counts) (skew greatest : ℕ) (journal : List Item) (replied : Session → List Item) (ends : Session → Ends) (base : Session → Settled) (by : Session) (d : Settled) (ds : List Decided) (others : (x : Decided) → In x ds → (x.by.0 == by.0) ≡ false) where
   -- what holds after some of the items
   pub record IsAsking (s : Server) (grants : List Grant) : Type 0 where
-    pub goes : GoesOn skew greatest (sight_of o s journal) replied ends (with_client by (given_so_far grants d) base)
+    pub goes : GoesOn skew greatest (sight_of o (seen ds s) journal) replied ends (with_client by (given_so_far grants d) base)
     pub rows : GrantsHaveRows s.rows grants
+    pub decided : AllDecidedStand ds s journal
 
   one_more : (s : Server) (grants : List Grant) (field : Field) (asked : LeaseKind) (promise : Option Bool) → answer_to by field (kind_for field asked) s ≡ Granted promise → IsAsking s grants → IsAsking (with_lease by field (kind_for field asked) promise s) (grants ++ grant_of by field (kind_for field asked) s ∷ [])
   one_more s grants field asked promise ok h =
@@ -50,9 +55,10 @@ module _ (o : Counts) (skew greatest : ℕ) (journal : List Item) (replied : Ses
       let row = given_row (next_number s) by field kind (end_of s) promise in
       let g = grant_of by field kind s in
       record {
-        goes = subst (λ (x : Settled). GoesOn skew greatest (sight_of o t journal) replied ends (with_client by x base)) (given_more grants g d)
-            (goes_again skew greatest (sight_of o t journal) replied ends base by (given_so_far grants d) (with_leases (granted None g ∷ []))
-            (item_granted o by field asked promise s journal skew greatest replied ends (with_client by (given_so_far grants d) base) ok h.goes));
+        goes = subst (λ (x : Settled). GoesOn skew greatest (sight_of o (seen ds t) journal) replied ends (with_client by x base)) (given_more grants g d)
+            (goes_again skew greatest (sight_of o (seen ds t) journal) replied ends base by (given_so_far grants d) (with_leases (granted None g ∷ []))
+            (item_granted o by field asked promise (seen ds s) journal (value_of s.records by field) (told_right ds s journal h.decided by field kind promise others ok) skew greatest replied ends (with_client by (given_so_far grants d) base) (answers_alike ds s journal h.decided by field kind ∙ ok) h.goes));
+        decided = stand_leased ds s journal h.decided by field kind promise;
         rows = λ x i. elim (In-append x grants (g ∷ []) i) as (λ _. (r : Row) × In r t.rows × (r.field ≡ x.field)) [
           | inl j ↦ let r = h.rows x j in (r.0, In-put_still (λ y. no_before row.no y.no) r.0 row s.rows r.1, r.2)
           | inr j ↦ elim j as (λ _. (r : Row) × In r t.rows × (r.field ≡ x.field)) [

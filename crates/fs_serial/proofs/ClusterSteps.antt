@@ -46,6 +46,7 @@ use Rattle.fs_serial.proofs.LeadSame.{abort_same, commit_same, refuse_same}
 use Rattle.fs_serial.proofs.Leaving.{move_places, move_same}
 use Rattle.fs_serial.proofs.LetGo.{all_let_go}
 use Rattle.fs_serial.proofs.SameStep.{IsSameStep, begun_same, turn_same}
+use Rattle.fs_serial.proofs.Owing.{none_fits}
 use Rattle.fs_serial.proofs.ServerEvents.{begun_keeps}
 use Rattle.fs_serial.proofs.ServerTurn.{turn_some_keeps}
 use Rattle.fs_serial.proofs.SetAt.{In_set, In_without, get_here, set_twice}
@@ -189,7 +190,7 @@ module _ (skew greatest k : ℕ) (c : Cluster) (s : Server) (at : slice_get c.se
       let big : Stepped = event_step e (with_all s c) in
       same_step e there (event_step e s) big refl (begun_same greatest k c s e at h.places view coming other (λ z. absurd (cc)))
       (subst (λ replied. WorldHolds greatest (record { server = big.server; counts = counts_of c.servers; decided = []; journal = c.journal ++ big.out.admitted; replied = replied; ends = world.with_sent big.out.send (world.without_taken e (λ x. ends_of (c.lines x))) })) (sym (replies_still e other big.out.admitted c.replied))
-      (begun_keeps greatest (world_of s c) e refl coming other view))
+      (begun_keeps greatest (world_of s c) e (none_fits greatest (world_of s c) refl view) coming other view).0)
 
   lead_event : (by : Session) (m : ToLead) (x : Stepped) → LeadEnds by m s x → x ≡ lead_step by m s → IsThere k (event.FromClient by (Lead m)) c → ClusterHolds skew greatest (after_step k (event.FromClient by (Lead m)) x c)
   lead_event by m x (unled never) is there = absurd (let z : true ≡ false = sym (led_there skew greatest k c s at h by m there) ∙ never in cc)
@@ -225,10 +226,10 @@ module _ (skew greatest k : ℕ) (c : Cluster) (s : Server) (at : slice_get c.se
   step_keeps (event.FromClient by m) there = asked_event by m there
   step_keeps (event.FromPeer from m) there = peer_event from m there
   step_keeps event.Turn there =
-      same_step event.Turn there (turn_step s) (turn_over (lapsed_in s) (with_all s c)) refl (turn_same k c s at h.places) (turn_some_keeps greatest (world_of s c) (lapsed_in s) refl (all_let_go c k s at h.places) view)
+      same_step event.Turn there (turn_step s) (turn_over (lapsed_in s) (with_all s c)) refl (turn_same k c s at h.places) (turn_some_keeps greatest (world_of s c) (lapsed_in s) (none_fits greatest (world_of s c) refl view) (all_let_go c k s at h.places) view).0
   step_keeps (event.Recall field) there =
       let e = event.Recall field in
-      same_step e there (event_step e s) (event_step e (with_all s c)) refl (begun_same greatest k c s e at h.places view tt tt (λ z. absurd (cc))) (begun_keeps greatest (world_of s c) e refl tt tt view)
+      same_step e there (event_step e s) (event_step e (with_all s c)) refl (begun_same greatest k c s e at h.places view tt tt (λ z. absurd (cc))) (begun_keeps greatest (world_of s c) e (none_fits greatest (world_of s c) refl view) tt tt view).0
   step_keeps (event.Move prefix to) there =
       let e = event.Move prefix to in
       let same = move_same k c s prefix to at h.places in

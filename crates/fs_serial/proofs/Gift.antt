@@ -144,7 +144,7 @@ module _ (o : Counts) (by : Session) (dir : List ℕ) (k : ℕ) (a : Asking) (jo
       | inl q ↦ subst (IsRowOf by l.field l.kind) (sym q) (record { session = refl; field = refl; kind = refl })
       | inr j ↦ absurd (given_is_other o s r.no (f.given r j) e)
     ];
-    told = sym (values_stay s.records dir k by (Life (child dir k)));
+    told = inr (sym (values_stay s.records dir k by (Life (child dir k))));
     fresh = fresh f reserved r;
   }
 

@@ -1,5 +1,5 @@
 -- A session is given a lease that it asked for.
-use Rattle.std.proofs.Common.{◌≡◌, ℕ, ◌≤◌, Bool, List, [], ◌∷◌, refl, sym, ap, subst, inl, inr, arith}
+use Rattle.std.proofs.Common.{◌≡◌, ℕ, ◌≤◌, ◌⊎◌, Bool, List, [], ◌∷◌, refl, sym, ap, subst, inl, inr, arith}
 use Rattle.std.specs.Prelude.{Option, None}
 use Rattle.fs_ident.specs.declared.actor.Session.{Session}
 use Rattle.fs_ident.proofs.Standing.{In-put_here}
@@ -8,12 +8,16 @@ use Rattle.fs_field.specs.declared.field.Field.{Field}
 use Rattle.fs_field.specs.declared.lease_kind.LeaseKind.{LeaseKind}
 use Rattle.fs_field.specs.declared.row.Row.{Row}
 use Rattle.fs_field.specs.Table.{no_before}
+use Rattle.fs_field.specs.declared.value.Value.{Value}
+use Rattle.fs_msg.specs.declared.answer.Grant.{Grant}
 use Rattle.fs_msg.specs.declared.item.Item.{Item}
 use Rattle.fs_moderows.specs.Answer.{given_row}
+use Rattle.fs_record.specs.ValueOf.{value_of}
 use Rattle.fs_server.specs.Asks.{answer_to, grant_of, kind_for, with_lease}
 use Rattle.fs_server.specs.Server.{next_number, end_of}
 use Rattle.fs_server.specs.declared.state.Server.{Server}
 use Rattle.fs_view.specs.Kept.{number_of}
+use Rattle.fs_serial.specs.Gone.{IsOfGone}
 use Rattle.fs_serial.specs.Leases.{IsRowOf, LeasesGiven, LeasesMatch}
 use Rattle.fs_serial.specs.Rows.{RowsGiven}
 use Rattle.fs_serial.specs.Parts.{with_client}
@@ -26,7 +30,11 @@ use Rattle.fs_serial.proofs.Granting.{apart_granted, promises_granted, shapes_gr
 use Rattle.fs_serial.proofs.Leased.{In-with_row, IsNewLease, row_relied}
 use Rattle.fs_serial.proofs.Relied.{relies_for}
 
-module _ (o : Counts) (by : Session) (field : Field) (asked : LeaseKind) (promise : Option Bool) (s : Server) (journal : List Item) where
+-- the grant with this value
+abbrev pub with_value : Value → Grant → Grant
+with_value value g = record g { value = value }
+
+module _ (o : Counts) (by : Session) (field : Field) (asked : LeaseKind) (promise : Option Bool) (s : Server) (journal : List Item) (value : Value) (right : IsOfGone s.records journal field ⊎ (value ≡ value_of s.records by field)) where
   -- the kind that the server gives
   abbrev kind : LeaseKind
   kind = kind_for field asked
@@ -37,9 +45,9 @@ module _ (o : Counts) (by : Session) (field : Field) (asked : LeaseKind) (promis
   abbrev row : Row
   row = given_row (next_number s) by field kind (end_of s) promise
 
-  -- the lease that the session is told of
+  -- the lease that the session is told of; its value is the field's, unless that is of no matter any more
   abbrev pub item_lease : Lease
-  item_lease = granted None (grant_of by field kind s)
+  item_lease = granted None (with_value value (grant_of by field kind s))
 
   pub row_granted : (skew greatest : ℕ) (clients : Session → Settled) → answer_to by field kind s ≡ Granted promise
       → ((x : Session) → LeasesMatch s.rows x (clients x).leases) → RowsChange skew greatest (sight_of o s journal) (sight_of o t journal) clients
@@ -78,7 +86,7 @@ module _ (o : Counts) (by : Session) (field : Field) (asked : LeaseKind) (promis
       | inl q ↦ subst (IsRowOf by field kind) (sym q) (record { session = refl; field = refl; kind = refl })
       | inr j ↦ absurd (given_is_other o s r.no (rows r j) e)
     ];
-    told = refl;
+    told = right;
     fresh = λ d e. absurd (cc);
   }
 

@@ -38,7 +38,8 @@ use Rattle.fs_serial.specs.World as world
 use Rattle.fs_serial.proofs.Again.{its_own}
 use Rattle.fs_serial.proofs.Committing.{committed_led}
 use Rattle.fs_serial.proofs.LeadSame.{stays_apart}
-use Rattle.fs_serial.proofs.LedSteps.{led_stands, to_lead, world_freed, world_led}
+use Rattle.fs_serial.proofs.LedSteps.{led_stands, to_lead, world_freed, world_led_whole}
+use Rattle.fs_serial.proofs.Owing.{none_fits}
 use Rattle.fs_serial.proofs.PutRows.{In-puts_still}
 use Rattle.fs_serial.proofs.RestOf.{IsBetween, between}
 use Rattle.fs_serial.proofs.Rowed.{all_found}
@@ -78,13 +79,13 @@ module _ (skew greatest k : ℕ) (c : Cluster) (s : Server) (at : slice_get c.se
   up = one_up (w.ends by).client (w.ends by).client.exchange (w.ends by).up (w.ends by).down (Lead m) (In-mapped (λ (n : ℕ × ClientMsg). n.1) (k, Lead m) (c.lines by).up (found (is_with k) (c.lines by).up (k, Lead m) there).0) (view.exchanges by).one
 
   abbrev l : Led
-  l = (to_lead greatest w by m up refl view).led
+  l = (to_lead greatest w by m up view).led
 
   asked : m ≡ lead_of l
-  asked = (to_lead greatest w by m up refl view).told
+  asked = (to_lead greatest w by m up view).told
 
   stands : LedStands s.skew greatest (world.sight_in w) by (settled_at by (w.ends by)) l
-  stands = led_stands greatest w by m up refl view
+  stands = led_stands greatest w by m up view
 
   pub led_there : server.is_led m.op ≡ true
   led_there = ap (λ (n : ToLead). server.is_led n.op) asked ∙ asked_as l.entry.op l.entry.reply stands.leads
@@ -98,14 +99,14 @@ module _ (skew greatest k : ℕ) (c : Cluster) (s : Server) (at : slice_get c.se
       let x : Stepped = refuses by why all in
       subst (λ journal. WorldHolds greatest (record { server = x.server; counts = counts_of c.servers; decided = []; journal = journal; replied = replies_after e [] c.replied; ends = world.with_sent x.out.send (world.without_taken e (λ y. ends_of (c.lines y))) })) (sym (append-nil c.journal))
       (subst (λ replied. WorldHolds greatest (record { server = x.server; counts = counts_of c.servers; decided = []; journal = c.journal; replied = replied; ends = world.with_sent x.out.send (world.without_taken e (λ y. ends_of (c.lines y))) })) (sym (none_more by c.replied))
-      (world_freed greatest w by m up refl view s.txns (end.Again why) refl refl))
+      (world_freed greatest w by m up view s.txns (end.Again why) refl refl))
 
   pub aborted_holds : (u : Use) → HoldsThen (aborts by u all)
   aborted_holds u =
       let x : Stepped = aborts by u all in
       subst (λ journal. WorldHolds greatest (record { server = x.server; counts = counts_of c.servers; decided = []; journal = journal; replied = replies_after e [] c.replied; ends = world.with_sent x.out.send (world.without_taken e (λ y. ends_of (c.lines y))) })) (sym (append-nil c.journal))
       (subst (λ replied. WorldHolds greatest (record { server = x.server; counts = counts_of c.servers; decided = []; journal = c.journal; replied = replied; ends = world.with_sent x.out.send (world.without_taken e (λ y. ends_of (c.lines y))) })) (sym (none_more by c.replied))
-      (world_freed greatest w by m up refl view (s.txns + 1) (end.Ended u.no u.until s.last) refl refl))
+      (world_freed greatest w by m up view (s.txns + 1) (end.Ended u.no u.until s.last) refl refl))
 
   -- ## It commits
 
@@ -128,4 +129,4 @@ module _ (skew greatest k : ℕ) (c : Cluster) (s : Server) (at : slice_get c.se
         (ap (λ (n : ToLead). has_all s (parts_in n)) (sym asked) ∙ p.1.1))
 
     pub led_holds : HoldsThen (commits by m all)
-    led_holds = world_led greatest w by m up refl view committed (s.txns + 1)
+    led_holds = world_led_whole greatest w by m up view (none_fits greatest w refl view) committed (s.txns + 1)

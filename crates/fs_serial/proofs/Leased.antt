@@ -65,7 +65,7 @@ pub record IsNewLease (t : Sight) (by : Session) (leases : List Lease) (l : Leas
   pub new : (k : Lease) → In k leases → k.no ≢ l.no
   pub row : IsBacked t.rows l.no l.until
   pub own : (r : Row) → In r t.rows → r.no ≡ l.no → IsRowOf by l.field l.kind r
-  pub told : l.base ≡ value_of t.records by l.field
+  pub told : IsOfGone t.records t.journal l.field ⊎ (l.base ≡ value_of t.records by l.field)
   pub fresh : (dir : List ℕ) → l.below ≡ Some dir → IsFresh dir l
 
 module _ (skew greatest : ℕ) (by : Session) (t : Sight) (d : Settled) (l : Lease) (fits : IsNewLease t by d.leases l) (f : SessionFits skew greatest t by d) where
@@ -99,7 +99,7 @@ module _ (skew greatest : ℕ) (by : Session) (t : Sight) (d : Settled) (l : Lea
   pub leased_holds : (replied : List Item) → SessionHolds skew greatest t by replied d → SessionHolds skew greatest t by replied (with_leases (l ∷ []) d)
   leased_holds replied h = record {
     backed = each_more (λ (k : Lease). greatest < k.until + skew → IsBacked t.rows k.no k.until) d.leases l h.backed (λ late. fits.row);
-    telling = each_more (λ (k : Lease). (r : Row) → In r t.rows → r.no ≡ k.no → IsOfGone t.records t.journal k.field ⊎ (k.base ≡ value_of t.records by k.field)) d.leases l h.telling (λ r i e. inr fits.told);
+    telling = each_more (λ (k : Lease). (r : Row) → In r t.rows → r.no ≡ k.no → IsOfGone t.records t.journal k.field ⊎ (k.base ≡ value_of t.records by k.field)) d.leases l h.telling (λ r i e. fits.told);
     pending = h.pending;
     numbers = h.numbers;
     replies = h.replies;

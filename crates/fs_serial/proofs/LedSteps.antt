@@ -1,11 +1,12 @@
 -- The server that has all is asked to lead an operation.
-use Rattle.std.proofs.Common.{◌≡◌, ℕ, true, List, [], ◌∷◌, ◌++◌, refl, sym, ap, ◌∙◌, subst, inl}
+use Rattle.std.proofs.Common.{◌≡◌, ℕ, not, Bool, true, false, List, [], ◌∷◌, ◌++◌, append-nil, refl, sym, ap, ◌∙◌, subst, inl}
 use Rattle.std.specs.Prelude.{Some}
 use Rattle.std.specs.Cmp.{nat_eq_equiv}
 use Rattle.fs_ident.specs.In.{In}
 use Rattle.fs_ident.specs.declared.actor.Session.{Session}
 use Rattle.fs_ident.proofs.Booleans.{joined}
-use Rattle.fs_ident.proofs.Standing.{In-map, In-mapped}
+use Rattle.fs_ident.proofs.Standing.{In-filter, In-map, In-mapped}
+use Rattle.fs_field.specs.declared.effect.Effect.{Effect}
 use Rattle.fs_model.specs.declared.op.Op.{Op}
 use Rattle.fs_model.specs.declared.op.Op.TheVariants as op
 use Rattle.fs_model.specs.declared.reply.Reply.{Reply}
@@ -15,12 +16,17 @@ use Rattle.fs_msg.specs.declared.item.Item.{Item}
 use Rattle.fs_msg.specs.declared.lead.Lead.{Lead as ToLead}
 use Rattle.fs_record.specs.Applied.{records_after_all}
 use Rattle.fs_record.specs.LedEffects.{led_effects}
+use Rattle.fs_record.specs.ValueOf.{value_of}
 use Rattle.fs_record.specs.declared.led_end.LedEnd.{LedEnd}
 use Rattle.fs_record.specs.declared.led_end.LedEnd.TheVariants as end
 use Rattle.fs_record.specs.declared.led_end.Why.TheVariants as why
 use Rattle.fs_server.specs.Leads.{led_item, reply_of}
 use Rattle.fs_server.specs.Ships.{item_of}
 use Rattle.fs_server.specs.declared.state.Server.{Server}
+use Rattle.fs_txn.specs.Decided.{going, held_with, staying}
+use Rattle.fs_txn.specs.Grants.{Decided, effects_in}
+use Rattle.fs_txn.proofs.Past.{split_past}
+use Rattle.fs_view.specs.Gone.{known_with}
 use Rattle.fs_client.specs.Answers.{answer_fits}
 use Rattle.fs_client.specs.Led.{can_end_with, end_fits, is_led, lead_of}
 use Rattle.fs_client.specs.declared.exchange.Exchange.{Exchange}
@@ -28,29 +34,64 @@ use Rattle.fs_client.specs.declared.exchange.Exchange.TheVariants.{Asks, Renews,
 use Rattle.fs_client.specs.declared.led.Led.{Led as TheLed}
 use Rattle.fs_client.specs.declared.state.Client.{Client}
 use Rattle.fs_serial.specs.Commits.{IsCommitted, with_commit, with_led}
+use Rattle.fs_serial.specs.Decided.{DecidedFits, IsSplit, after_commit, decided_for}
 use Rattle.fs_serial.specs.Exchange.{IsQuestion, IsToBeLed, server_of_question}
 use Rattle.fs_serial.specs.Fresh.{reserved_by}
-use Rattle.fs_serial.specs.Led.{LedFits, LedStands}
+use Rattle.fs_serial.specs.Led.{IsLeadAnswer, LedFits, LedStands}
 use Rattle.fs_serial.specs.Parts.{SessionFits, SessionHolds, with_client, with_replies}
 use Rattle.fs_serial.specs.Settled.{Lease, Settled, lease_after, led_done, led_ended, led_freed, led_over, settled_now, told}
-use Rattle.fs_serial.specs.Sight.{Sight, sight_of}
+use Rattle.fs_serial.specs.Sight.{Sight, seen, sight_of}
 use Rattle.fs_serial.specs.World.{GoesOn, HasNumber, World, WorldHolds, settled_at, sight_in, with_answer, without_question}
+use Rattle.fs_serial.proofs.CommitPast.{commit_apart}
 use Rattle.fs_serial.proofs.Committed.{commit_keeps_parts}
 use Rattle.fs_serial.proofs.Committing.{led_reply}
 use Rattle.fs_serial.proofs.Counting.{given_by}
 use Rattle.fs_serial.proofs.Going.{carried_alike}
+use Rattle.fs_serial.proofs.GrantsPast.{all_decided, gone_there}
+use Rattle.fs_serial.proofs.MovedItems.{moved_parts}
 use Rattle.fs_serial.proofs.Older.{later_itself}
+use Rattle.fs_serial.proofs.Owing.{answered_owed, fits_then, others_in}
 use Rattle.fs_serial.proofs.Seats.{settled_none}
-use Rattle.fs_serial.proofs.Sending.{asked, goes_bare, goes_of, goes_seen, world_answered}
+use Rattle.fs_serial.proofs.Sending.{asked, goes_of, world_answered}
 use Rattle.fs_serial.proofs.Claims.{NoneAnew, none_anew}
+use Rattle.fs_serial.proofs.StandPast.{AllApart}
 use Rattle.fs_serial.proofs.Together.{each_session, fewer_reserved}
+use Rattle.fs_serial.proofs.Underway.{are_apart}
 
 can_end : (o : Op) (r : Reply) → is_led o r ≡ true → can_end_with o (reply_of o) ≡ true
 can_end (op.Delete dir name) r h = refl
 can_end (op.Rename sdir sname ddir dname) r h = refl
 can_end o r h = absurd (cc)
 
-module _ (greatest : ℕ) (w : World) (by : Session) (m : ToLead) (up : (w.ends by).up ≡ Lead m ∷ []) (none : w.decided ≡ []) (h : WorldHolds greatest w) where
+-- ## Effects that stay, and that go
+
+-- none goes
+abbrev pub none_sent : Effect → Bool
+none_sent e = false
+
+none_go : (es : List Effect) → going none_sent es ≡ []
+none_go [] = refl
+none_go (e ∷ es) = none_go es
+
+all_stay : (es : List Effect) → staying none_sent es ≡ es
+all_stay [] = refl
+all_stay (e ∷ es) = ap (λ xs. e ∷ xs) (all_stay es)
+
+none_split : (es : List Effect) → IsSplit none_sent es
+none_split es = record {
+  decided = λ d i. absurd (subst (In d) (none_go es) i);
+  apart = λ d e i j. absurd (subst (In d) (none_go es) i);
+}
+
+effects_of_sent : (by : Session) (es : List Effect) → effects_in (decided_for by es) ≡ es
+effects_of_sent by [] = refl
+effects_of_sent by (e ∷ es) = ap (λ xs. e ∷ xs) (effects_of_sent by es)
+
+effects_sent : (by : Session) (ds : List Decided) (es : List Effect) → effects_in (ds ++ decided_for by es) ≡ effects_in ds ++ es
+effects_sent by [] es = effects_of_sent by es
+effects_sent by (d ∷ ds) es = ap (λ xs. d.effect ∷ xs) (effects_sent by ds es)
+
+module _ (greatest : ℕ) (w : World) (by : Session) (m : ToLead) (up : (w.ends by).up ≡ Lead m ∷ []) (h : WorldHolds greatest w) where
   abbrev s : Server
   s = w.server
 
@@ -111,27 +152,30 @@ module _ (greatest : ℕ) (w : World) (by : Session) (m : ToLead) (up : (w.ends 
       → WorldHolds greatest (record { server = record s { txns = txns }; counts = w.counts; decided = w.decided; journal = w.journal; replied = w.replied; ends = with_answer by (Led e) (without_question by w.ends) })
   world_freed txns e fits freed =
       let t : Server = record s { txns = txns } in
-      world_answered greatest w t w.journal by (Lead m) (Led e) up h w.replied refl h.clock (later_itself (given_by w.counts s) s.rows)
+      world_answered greatest w t w.journal by (Lead m) (Led e) up h w.decided w.replied refl h.clock (later_itself (given_by w.counts s) s.rows)
       (subst (λ d. GoesOn s.skew greatest (sight_in w) w.replied w.ends (with_client by d base)) (sym (ended_is e ∙ freed)) freed_goes)
       refl (end_fits_there e fits) (λ ends x q. absurd (cc))
 
+  pub freed_fits : (txns : ℕ) (e : LedEnd) → DecidedFits w → DecidedFits (record { server = record s { txns = txns }; counts = w.counts; decided = w.decided; journal = w.journal; replied = w.replied; ends = with_answer by (Led e) (without_question by w.ends) })
+  freed_fits txns e f = fits_then w (record s { txns = txns }) w.journal w.replied (with_answer by (Led e) (without_question by w.ends)) (record { records = f.all.records; stand = f.all.stand }) (answered_owed by (Led e) [] w.ends) f
+
   -- ## It is admitted
 
-  module _ (committed : IsCommitted (sight_of w.counts s w.journal) by (base by) l.entry l.file) where
-    abbrev bare : Sight
-    bare = sight_of w.counts s w.journal
+  module _ (f : DecidedFits w) (committed : IsCommitted (sight_in w) by (base by) l.entry l.file) where
+    abbrev there : Server
+    there = seen w.decided s
+
+    abbrev now : Sight
+    now = sight_in w
 
     abbrev after : Sight
-    after = with_commit by l.file l.entry bare
+    after = with_commit by l.file l.entry now
 
     abbrev told_then : Session → List Item
     told_then = with_replies by (w.replied by ++ item_of by l.entry ∷ []) w.replied
 
     abbrev then : Settled
     then = with_led by l.file l.entry (base by)
-
-    bare_goes : GoesOn s.skew greatest bare w.replied w.ends base
-    bare_goes = goes_bare w.counts w.decided s.skew greatest s w.journal w.replied w.ends base none goes
 
     numbers_then : (x : Lease) → In x then.leases → HasNumber (base by).leases x.no
     numbers_then x i = let q = In-map (lease_after by (led_effects l.entry.op l.file l.entry.reply)) x (base by).leases i in record { lease = q.0; held = q.1.0; number = ap (λ (y : Lease). y.no) (sym q.1.1) }
@@ -141,9 +185,9 @@ module _ (greatest : ℕ) (w : World) (by : Session) (m : ToLead) (up : (w.ends 
 
     commit_goes : GoesOn s.skew greatest after told_then w.ends (with_client by then base)
     commit_goes =
-        let q = carried_alike s.skew greatest bare w.ends base by then numbers_then numbers_still bare_goes.carried in
+        let q = carried_alike s.skew greatest now w.ends base by then numbers_then numbers_still goes.carried in
         record {
-          all = commit_keeps_parts s.skew greatest bare w.replied base by l.entry l.file bare_goes.all committed;
+          all = commit_keeps_parts s.skew greatest now w.replied base by l.entry l.file goes.all committed;
           carried = record { returns = q.returns; renewals = q.renewals; later = q.later };
         }
 
@@ -153,16 +197,49 @@ module _ (greatest : ℕ) (w : World) (by : Session) (m : ToLead) (up : (w.ends 
     told_led : told by (Led (end.Done (reply_of l.entry.op))) (base by) ≡ then
     told_led = ended_is (end.Done (reply_of l.entry.op)) ∙ ap (λ r. led_done by (led_effects l.entry.op l.file r) (base by)) same_reply
 
-    pub world_led : (txns : ℕ)
-        → WorldHolds greatest (record { server = record s { txns = txns; records = records_after_all s.records (led_effects m.op m.file (reply_of m.op)) }; counts = w.counts; decided = w.decided; journal = w.journal ++ led_item by m ∷ []; replied = with_replies by (w.replied by ++ led_item by m ∷ []) w.replied; ends = with_answer by (Led (end.Done (reply_of m.op))) (without_question by w.ends) })
-    world_led txns =
+    -- its effects go past what is decided for others
+    past : AllApart w.decided (led_effects l.entry.op l.file l.entry.reply)
+    past d i e j =
+        let q = f.all.stand d i in
+        let a : IsLeadAnswer (value_of now.records by) l = led_stands.right committed.stand in
+        let p = moved_parts (known_with (value_of now.records by)) l.entry.op (l.file, l.kind) a.moved in
+        let there_in : In (Lead m) (w.ends by).up = subst (λ ms. In (Lead m) ms) (sym up) (inl refl) in
+        commit_apart there.records s.rows by d.by l.entry.uses goes.all.servers.apart (others_in greatest w by (Lead m) there_in h f d i) committed.stand d.effect q.decided q.guarded (gone_there w.decided s w.journal f.all d i)
+        l.entry.op l.entry.reply l.file (record { records = goes.all.kept.sound.records; space = goes.all.kept.sound.space; moves = committed.moves; named = committed.named; reply = committed.reply })
+        led_stands.leads a.answer.reply p.0 a.answer.covered e j
+
+    abbrev effects : List Effect
+    effects = led_effects l.entry.op l.file (reply_of l.entry.op)
+
+    effects_past : AllApart w.decided effects
+    effects_past = subst (λ r. AllApart w.decided (led_effects l.entry.op l.file r)) (sym same_reply) past
+
+    -- some of them are applied, and the others are decided: one step of what all hold together
+    one_step : (sends : Effect → Bool) → IsSplit sends effects → held_with (effects_in (w.decided ++ decided_for by (going sends effects))) (records_after_all s.records (staying sends effects)) ≡ records_after_all there.records effects
+    one_step sends split =
+        ap (λ es. held_with es (records_after_all s.records (staying sends effects))) (effects_sent by w.decided (going sends effects))
+        ∙ split_past s.records (effects_in w.decided) effects sends f.all.records (all_decided w.decided s w.journal f.all) split.decided
+        (are_apart w.decided (staying sends effects) (λ d i e j. effects_past d i e (In-filter (λ x. not (sends x)) e effects j))) split.apart
+
+    pub world_led : (sends : Effect → Bool) (txns : ℕ) → IsSplit sends (led_effects m.op m.file (reply_of m.op)) → WorldHolds greatest (after_commit sends txns by m w)
+    world_led sends txns =
         let e = end.Done (reply_of l.entry.op) in
-        let t : Server = record s { txns = txns; records = records_after_all s.records (led_effects l.entry.op l.file (reply_of l.entry.op)) } in
         let item : Item = led_item by (lead_of l) in
-        let goes_then : GoesOn s.skew greatest (sight_of w.counts t (w.journal ++ item ∷ [])) (with_replies by (w.replied by ++ item ∷ []) w.replied) w.ends (with_client by (told by (Led e) (base by)) base) =
-        subst (λ d. GoesOn s.skew greatest (sight_of w.counts t (w.journal ++ item ∷ [])) (with_replies by (w.replied by ++ item ∷ []) w.replied) w.ends (with_client by d base)) (sym told_led)
-        (subst (λ r. let x : Item = record (item_of by l.entry) { reply = r } in GoesOn s.skew greatest (sight_of w.counts (record s { txns = txns; records = records_after_all s.records (led_effects l.entry.op l.file r) }) (w.journal ++ x ∷ [])) (with_replies by (w.replied by ++ x ∷ []) w.replied) w.ends (with_client by then base)) (sym same_reply) commit_goes) in
-        subst (λ (n : ToLead). WorldHolds greatest (record { server = record s { txns = txns; records = records_after_all s.records (led_effects n.op n.file (reply_of n.op)) }; counts = w.counts; decided = w.decided; journal = w.journal ++ led_item by n ∷ []; replied = with_replies by (w.replied by ++ led_item by n ∷ []) w.replied; ends = with_answer by (Led (end.Done (reply_of n.op))) (without_question by w.ends) })) (sym to_lead.told)
-        (world_answered greatest w t (w.journal ++ item ∷ []) by (Lead m) (Led e) up h (with_replies by (w.replied by ++ item ∷ []) w.replied) refl h.clock (later_itself (given_by w.counts s) s.rows)
-        (goes_seen w.counts w.decided s.skew greatest t (w.journal ++ item ∷ []) (with_replies by (w.replied by ++ item ∷ []) w.replied) w.ends (with_client by (told by (Led e) (base by)) base) none goes_then)
+        let replied : Session → List Item = with_replies by (w.replied by ++ item ∷ []) w.replied in
+        let goes_there : GoesOn s.skew greatest (sight_of w.counts (record s { txns = txns; records = records_after_all there.records effects }) (w.journal ++ item ∷ [])) replied w.ends (with_client by (told by (Led e) (base by)) base) =
+        subst (λ d. GoesOn s.skew greatest (sight_of w.counts (record s { txns = txns; records = records_after_all there.records effects }) (w.journal ++ item ∷ [])) replied w.ends (with_client by d base)) (sym told_led)
+        (subst (λ r. let x : Item = record (item_of by l.entry) { reply = r } in GoesOn s.skew greatest (sight_of w.counts (record s { txns = txns; records = records_after_all there.records (led_effects l.entry.op l.file r) }) (w.journal ++ x ∷ [])) (with_replies by (w.replied by ++ x ∷ []) w.replied) w.ends (with_client by then base)) (sym same_reply) commit_goes) in
+        subst (λ (n : ToLead). IsSplit sends (led_effects n.op n.file (reply_of n.op)) → WorldHolds greatest (after_commit sends txns by n w)) (sym to_lead.told)
+        (λ split. world_answered greatest w (record s { txns = txns; records = records_after_all s.records (staying sends effects) }) (w.journal ++ item ∷ []) by (Lead m) (Led e) up h (w.decided ++ decided_for by (going sends effects)) replied refl h.clock (later_itself (given_by w.counts s) s.rows)
+        (subst (λ r. GoesOn s.skew greatest (sight_of w.counts (record s { txns = txns; records = r }) (w.journal ++ item ∷ [])) replied w.ends (with_client by (told by (Led e) (base by)) base)) (sym (one_step sends split)) goes_there)
         refl (end_fits_there e (can_end l.entry.op l.entry.reply led_stands.leads)) (λ ends x q. absurd (cc)))
+
+    -- where all are applied
+    pub world_led_whole : (txns : ℕ)
+        → WorldHolds greatest (record { server = record s { txns = txns; records = records_after_all s.records (led_effects m.op m.file (reply_of m.op)) }; counts = w.counts; decided = w.decided; journal = w.journal ++ led_item by m ∷ []; replied = with_replies by (w.replied by ++ led_item by m ∷ []) w.replied; ends = with_answer by (Led (end.Done (reply_of m.op))) (without_question by w.ends) })
+    world_led_whole txns =
+        let es : List Effect = led_effects m.op m.file (reply_of m.op) in
+        subst (λ ds. WorldHolds greatest (record { server = record s { txns = txns; records = records_after_all s.records es }; counts = w.counts; decided = ds; journal = w.journal ++ led_item by m ∷ []; replied = with_replies by (w.replied by ++ led_item by m ∷ []) w.replied; ends = with_answer by (Led (end.Done (reply_of m.op))) (without_question by w.ends) })) (append-nil w.decided)
+        (subst (λ xs. WorldHolds greatest (record { server = record s { txns = txns; records = records_after_all s.records es }; counts = w.counts; decided = w.decided ++ decided_for by xs; journal = w.journal ++ led_item by m ∷ []; replied = with_replies by (w.replied by ++ led_item by m ∷ []) w.replied; ends = with_answer by (Led (end.Done (reply_of m.op))) (without_question by w.ends) })) (none_go es)
+        (subst (λ xs. WorldHolds greatest (record { server = record s { txns = txns; records = records_after_all s.records xs }; counts = w.counts; decided = w.decided ++ decided_for by (going none_sent es); journal = w.journal ++ led_item by m ∷ []; replied = with_replies by (w.replied by ++ led_item by m ∷ []) w.replied; ends = with_answer by (Led (end.Done (reply_of m.op))) (without_question by w.ends) })) (all_stay es)
+        (world_led none_sent txns (none_split es))))

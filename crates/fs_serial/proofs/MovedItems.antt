@@ -191,6 +191,10 @@ module _ (known : Known) (given : Given) where
         life = life_by (same file sdir) (same file ddir) refl refl;
       }
 
+      -- so is the new name
+      new_name : In (need.Lease (Child ddir dname) Exclusive) (items_in there)
+      new_name = (through (ask_new_place sdir ddir dname (Some (Some file))) old there (from_old h) to_new).all (need.Lease (Child ddir dname) Exclusive) (stands_first (need.Lease (Child ddir dname) Exclusive) (is_some (known (Child ddir dname) Exclusive)) _)
+
   -- ## Either
 
   -- what is led asks for the name and the life of the file
@@ -205,6 +209,17 @@ module _ (known : Known) (given : Given) where
   moved_items (op.Rename sdir sname ddir dname) reply.Renamed file l h f = rename_asks sdir sname ddir dname file f (not-true (same sdir ddir && same sname dname) l) h
   moved_items (op.Rename sdir sname ddir dname) r file l h f = absurd (cc)
   moved_items o r file l h f = absurd (cc)
+
+  -- a rename asks for the new name
+  abbrev pub HasPlace : Op → Type 0
+  HasPlace (op.Rename sdir sname ddir dname) = In (need.Lease (Child ddir dname) Exclusive) (items_in (script_of (op.Rename sdir sname ddir dname)))
+  HasPlace o = Unit {0}
+
+  pub placed_items : (o : Op) (r : Reply) (file : List ℕ) → is_led o r ≡ true → (walk known given o).reply ≡ Some r → file_known known o ≡ Some file → HasPlace o
+  placed_items (op.Rename sdir sname ddir dname) reply.Renamed file l h f = new_name sdir sname ddir dname file f (not-true (same sdir ddir && same sname dname) l) h
+  placed_items (op.Rename sdir sname ddir dname) r file l h f = absurd (cc)
+  placed_items (op.Delete dir name) r file l h f = tt
+  placed_items o r file l h f = absurd (cc)
 
 -- ## Whoever knows both the same
 

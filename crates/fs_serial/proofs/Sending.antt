@@ -10,7 +10,6 @@ use Rattle.fs_ident.specs.declared.actor.Peer.{Peer}
 use Rattle.fs_ident.specs.declared.actor.Session.{Session}
 use Rattle.fs_ident.proofs.Standing.{In-map, In-append}
 use Rattle.fs_ident.proofs.Same.{one_session}
-use Rattle.fs_field.specs.declared.effect.Effect.{Effect}
 use Rattle.fs_field.specs.declared.row.Row.{Row}
 use Rattle.fs_field.specs.Table.{has_no}
 use Rattle.fs_msg.specs.declared.answer.Answer.{Answer}
@@ -25,6 +24,7 @@ use Rattle.fs_server.specs.Reaps.{recalls_for}
 use Rattle.fs_server.specs.Server.{to_session}
 use Rattle.fs_server.specs.Step.{recalls_of}
 use Rattle.fs_server.specs.declared.state.Server.{Server}
+use Rattle.fs_txn.specs.Grants.{Decided}
 use Rattle.fs_client.specs.Answers.{answer_fits}
 use Rattle.fs_client.specs.declared.exchange.Exchange.{Exchange}
 use Rattle.fs_client.specs.declared.state.Client.{Client}
@@ -73,13 +73,6 @@ goes_of greatest w h = record {
     later = λ x l i. let q = stays x (w.ends x).down (settled_now (w.ends x).client) l i in record { lease = q.lease; held = q.held; number = q.number };
   };
 }
-
--- where nothing is decided that is not applied, sessions see what stands at the server
-pub goes_bare : (o : Counts) (decided : List Effect) (skew greatest : ℕ) (s : Server) (journal : List Item) (replied : Session → List Item) (ends : Session → Ends) (clients : Session → Settled) → decided ≡ [] → GoesOn skew greatest (sight_of o (seen decided s) journal) replied ends clients → GoesOn skew greatest (sight_of o s journal) replied ends clients
-goes_bare o decided skew greatest s journal replied ends clients none h = subst (λ es. GoesOn skew greatest (sight_of o (seen es s) journal) replied ends clients) none h
-
-pub goes_seen : (o : Counts) (decided : List Effect) (skew greatest : ℕ) (s : Server) (journal : List Item) (replied : Session → List Item) (ends : Session → Ends) (clients : Session → Settled) → decided ≡ [] → GoesOn skew greatest (sight_of o s journal) replied ends clients → GoesOn skew greatest (sight_of o (seen decided s) journal) replied ends clients
-goes_seen o decided skew greatest s journal replied ends clients none h = subst (λ es. GoesOn skew greatest (sight_of o (seen es s) journal) replied ends clients) (sym none) h
 
 -- the ends stay, and only what stands at the server has changed
 pub fit_still : (skew greatest later_greatest : ℕ) (given then : ℕ → ℕ) (rows new : List Row) (x : Session) (e : Ends) → PairsFit then new e.up → ReturnsFit then new x e.client.view.leases (settled_at x e).leases → RenewalsBacked skew later_greatest new e.down (settled_now e.client).leases
@@ -212,8 +205,8 @@ module _ (greatest : ℕ) (w : World) (t : Server) (journal : List Item) (by : S
       (λ x q. settled-push x (w.ends x).down a (settled_now (w.ends x).client) ∙ subst (λ y. told y a (base y) ≡ with_client by (told by a (base by)) base y) (one_session by x q) (sym (its_client by (told by a (base by)) base)))
       (λ x q. sym (other_client by x (told by a (base by)) base q)))
 
-  module _ (replied : Session → List Item) (skew : t.skew ≡ w.server.skew) (clock : t.last ≤ greatest) (later_then : IsLater (sight_in w).given (sight_of w.counts (seen w.decided t) journal).given w.server.rows t.rows) (goes : GoesOn w.server.skew greatest (sight_of w.counts (seen w.decided t) journal) replied w.ends (with_client by (told by a (base by)) base)) (answers : is_recall a ≡ false) (fits : (x : Exchange) → (w.ends by).client.exchange ≡ Some x → IsQuestion x m → answer_fits (server_of_question x) x a (w.ends by).client ≡ true) (renewals : (ends : List (LeaseNo × Option ℕ)) (e : End) → a ≡ Renewed ends e → (n : LeaseNo) (until : ℕ) → In (n, Some until) ends → IsBacked t.rows n until) where
-    own_fit : EndsFit w.server.skew greatest (sight_of w.counts (seen w.decided t) journal).given t.rows by (taken a (w.ends by))
+  module _ (ds : List Decided) (replied : Session → List Item) (skew : t.skew ≡ w.server.skew) (clock : t.last ≤ greatest) (later_then : IsLater (sight_in w).given (sight_of w.counts (seen ds t) journal).given w.server.rows t.rows) (goes : GoesOn w.server.skew greatest (sight_of w.counts (seen ds t) journal) replied w.ends (with_client by (told by a (base by)) base)) (answers : is_recall a ≡ false) (fits : (x : Exchange) → (w.ends by).client.exchange ≡ Some x → IsQuestion x m → answer_fits (server_of_question x) x a (w.ends by).client ≡ true) (renewals : (ends : List (LeaseNo × Option ℕ)) (e : End) → a ≡ Renewed ends e → (n : LeaseNo) (until : ℕ) → In (n, Some until) ends → IsBacked t.rows n until) where
+    own_fit : EndsFit w.server.skew greatest (sight_of w.counts (seen ds t) journal).given t.rows by (taken a (w.ends by))
     own_fit =
         let e = w.ends by in
         let o = h.exchanges by in
@@ -230,27 +223,27 @@ module _ (greatest : ℕ) (w : World) (t : Server) (journal : List Item) (by : S
           released = o.released;
           kinds = λ items fresh i. absurd i;
           pairs = λ m i. absurd i;
-          returns = subst (λ (d : Settled). ReturnsFit (sight_of w.counts (seen w.decided t) journal).given t.rows by e.client.view.leases d.leases) (its_client by (told by a (base by)) base ∙ sym (settled-push by e.down a (settled_now e.client))) (goes.carried.returns by);
+          returns = subst (λ (d : Settled). ReturnsFit (sight_of w.counts (seen ds t) journal).given t.rows by e.client.view.leases d.leases) (its_client by (told by a (base by)) base ∙ sym (settled-push by e.down a (settled_now e.client))) (goes.carried.returns by);
           renewals = λ ends end i number until j l k q late. elim (In-append (Renewed ends end) e.down (a ∷ []) i) as (λ _. IsBacked t.rows number until) [
             | inl old ↦ goes.carried.renewals by ends end old number until j l k q late
             | inr new ↦ elim new as (λ _. IsBacked t.rows number until) [ inl z ↦ renewals ends end (sym z) number until j | inr z ↦ absurd z ]
           ];
         }
 
-    other_fit : (x : Session) → (by.0 == x.0) ≡ false → EndsFit w.server.skew greatest (sight_of w.counts (seen w.decided t) journal).given t.rows x (w.ends x)
-    other_fit x q = fit_still w.server.skew greatest greatest (sight_in w).given (sight_of w.counts (seen w.decided t) journal).given w.server.rows t.rows x (w.ends x)
-        (later_pairs (sight_in w).given (sight_of w.counts (seen w.decided t) journal).given w.server.rows t.rows later_then (w.ends x).up (h.exchanges x).pairs)
-        (subst (λ (d : Settled). ReturnsFit (sight_of w.counts (seen w.decided t) journal).given t.rows x (w.ends x).client.view.leases d.leases) (other_client by x (told by a (base by)) base q) (goes.carried.returns x))
+    other_fit : (x : Session) → (by.0 == x.0) ≡ false → EndsFit w.server.skew greatest (sight_of w.counts (seen ds t) journal).given t.rows x (w.ends x)
+    other_fit x q = fit_still w.server.skew greatest greatest (sight_in w).given (sight_of w.counts (seen ds t) journal).given w.server.rows t.rows x (w.ends x)
+        (later_pairs (sight_in w).given (sight_of w.counts (seen ds t) journal).given w.server.rows t.rows later_then (w.ends x).up (h.exchanges x).pairs)
+        (subst (λ (d : Settled). ReturnsFit (sight_of w.counts (seen ds t) journal).given t.rows x (w.ends x).client.view.leases d.leases) (other_client by x (told by a (base by)) base q) (goes.carried.returns x))
         (goes.carried.renewals x) (h.exchanges x)
 
-    pub world_answered : WorldHolds greatest (record { server = t; counts = w.counts; decided = w.decided; journal = journal; replied = replied; ends = with_answer by a (without_question by w.ends) })
-    world_answered = subst (λ (ends : Session → Ends). WorldHolds greatest (record { server = t; counts = w.counts; decided = w.decided; journal = journal; replied = replied; ends = ends })) (sym ends_are) (record {
-      all = subst (λ k. AllHold k greatest (sight_of w.counts (seen w.decided t) journal) replied (λ (x : Session). settled_at x (cond (by.0 == x.0) (taken a (w.ends x)) (w.ends x)))) (sym skew)
-          (subst (λ (c : Session → Settled). AllHold w.server.skew greatest (sight_of w.counts (seen w.decided t) journal) replied c) (sym settled_are) goes.all);
+    pub world_answered : WorldHolds greatest (record { server = t; counts = w.counts; decided = ds; journal = journal; replied = replied; ends = with_answer by a (without_question by w.ends) })
+    world_answered = subst (λ (ends : Session → Ends). WorldHolds greatest (record { server = t; counts = w.counts; decided = ds; journal = journal; replied = replied; ends = ends })) (sym ends_are) (record {
+      all = subst (λ k. AllHold k greatest (sight_of w.counts (seen ds t) journal) replied (λ (x : Session). settled_at x (cond (by.0 == x.0) (taken a (w.ends x)) (w.ends x)))) (sym skew)
+          (subst (λ (c : Session → Settled). AllHold w.server.skew greatest (sight_of w.counts (seen ds t) journal) replied c) (sym settled_are) goes.all);
       clock = clock;
       clients = each_end (λ x e. ClientFits x e.client) by (taken a) w.ends (λ x q. h.clients x) (λ x q. h.clients x);
-      exchanges = subst (λ k. (x : Session) → EndsFit k greatest (sight_of w.counts (seen w.decided t) journal).given t.rows x (cond (by.0 == x.0) (taken a (w.ends x)) (w.ends x))) (sym skew)
-          (each_end (λ x e. EndsFit w.server.skew greatest (sight_of w.counts (seen w.decided t) journal).given t.rows x e) by (taken a) w.ends
-          (λ x q. subst (λ y. EndsFit w.server.skew greatest (sight_of w.counts (seen w.decided t) journal).given t.rows y (taken a (w.ends y))) (one_session by x q) own_fit)
+      exchanges = subst (λ k. (x : Session) → EndsFit k greatest (sight_of w.counts (seen ds t) journal).given t.rows x (cond (by.0 == x.0) (taken a (w.ends x)) (w.ends x))) (sym skew)
+          (each_end (λ x e. EndsFit w.server.skew greatest (sight_of w.counts (seen ds t) journal).given t.rows x e) by (taken a) w.ends
+          (λ x q. subst (λ y. EndsFit w.server.skew greatest (sight_of w.counts (seen ds t) journal).given t.rows y (taken a (w.ends y))) (one_session by x q) own_fit)
           other_fit);
     })

@@ -34,18 +34,21 @@ use Rattle.fs_client.specs.Answers.{answer_fits, begins_numbers, fresh_fits, gra
 use Rattle.fs_client.specs.declared.exchange.Exchange.{Exchange}
 use Rattle.fs_client.specs.declared.exchange.Exchange.TheVariants.{Asks, Renews, Releases, Ships, Leads}
 use Rattle.fs_client.specs.declared.state.Client.{Client}
+use Rattle.fs_serial.specs.Decided.{AllDecidedStand, DecidedFits, WorldStands}
 use Rattle.fs_serial.specs.Exchange.{IsQuestion, IsReturned, OneExchange, ReleasesReturned, server_of_question}
 use Rattle.fs_serial.specs.Parts.{with_client}
 use Rattle.fs_serial.specs.Settled.{Settled, acknowledged_all, settled_now, told, with_over}
 use Rattle.fs_serial.specs.Sight.{Sight, seen, sight_of}
-use Rattle.fs_serial.specs.World.{GoesOn, IsThere, World, WorldHolds, settled_at, sight_in, with_answer, with_sent, without_question, without_taken}
+use Rattle.fs_serial.specs.World.{Ends, GoesOn, IsThere, World, WorldHolds, settled_at, sight_in, with_answer, with_sent, without_question, without_taken}
 use Rattle.fs_serial.proofs.Again.{client_same}
 use Rattle.fs_serial.proofs.Asks as asks
 use Rattle.fs_serial.proofs.Counting.{given_by}
+use Rattle.fs_serial.proofs.GuardRows.{released_locks, renewed_locks, stand_rows}
 use Rattle.fs_serial.proofs.LaterSteps.{released_later, renewed_later}
+use Rattle.fs_serial.proofs.Owing.{answered_owed, fits_then, others_in, sent_owed}
 use Rattle.fs_serial.proofs.PairLoops.{ends_backed, rows_released, rows_renewed}
 use Rattle.fs_serial.proofs.Seats.{settled_none}
-use Rattle.fs_serial.proofs.Sending.{asked, goes_bare, goes_of, goes_seen, recall_all, recall_with, world_all_recalled, world_answered}
+use Rattle.fs_serial.proofs.Sending.{asked, goes_of, recall_all, recall_with, world_all_recalled, world_answered}
 use Rattle.fs_serial.proofs.ShipLoop.{IsShipped, shipped_still}
 use Rattle.fs_serial.proofs.ServerSame.{asked_same, ships_same}
 use Rattle.fs_serial.proofs.ServerTurn.{turn_keeps}
@@ -117,20 +120,22 @@ module _ (greatest : ℕ) (w : World) (by : Session) (h : WorldHolds greatest w)
   abbrev base : Session → Settled
   base x = settled_at x (w.ends x)
 
-  world_asked : w.decided ≡ [] → (items : List (Field × LeaseKind)) (dir : Option (List ℕ)) → (w.ends by).up ≡ Ask items dir ∷ [] → WorldHolds greatest (world_after w by (answered by (asked_in by items dir s)))
-  world_asked none items dir up =
+  world_asked : DecidedFits w → (items : List (Field × LeaseKind)) (dir : Option (List ℕ)) → (w.ends by).up ≡ Ask items dir ∷ [] → WorldStands greatest (world_after w by (answered by (asked_in by items dir s)))
+  world_asked f items dir up =
       let there : In (Ask items dir) (w.ends by).up = subst (λ ms. In (Ask items dir) ms) (sym up) (inl refl) in
       let a = asked_in by items dir s in
-      let right = asks.answered_right w.counts s.skew greatest w.journal w.replied w.ends base by items dir s (goes_bare w.counts w.decided s.skew greatest s w.journal w.replied w.ends base none (goes_of greatest w h)) ((h.exchanges by).kinds items dir there) in
+      let right = asks.answered_right w.counts s.skew greatest w.journal w.replied w.ends base by items dir s w.decided (others_in greatest w by (Ask items dir) there h f) f.all (goes_of greatest w h) ((h.exchanges by).kinds items dir there) in
       let same = asked_same by items dir s in
       let clock = h.clock in
       let last = same.last in
-      let told = world_answered greatest w a.server w.journal by (Ask items dir) (Granted a.grants a.fresh a.end) up h w.replied same.skew (omega arith) (same.later w.counts)
-      (goes_seen w.counts w.decided s.skew greatest a.server w.journal w.replied w.ends (with_client by (told by (Granted a.grants a.fresh a.end) (base by)) base) none right.goes) refl
+      let told = world_answered greatest w a.server w.journal by (Ask items dir) (Granted a.grants a.fresh a.end) up h w.decided w.replied same.skew (omega arith) (same.later w.counts) right.goes refl
       (λ x e q. ask_fits x c items dir a.grants a.fresh a.end q right.fits)
       (λ ends e q. absurd (cc)) in
-      subst (λ js. WorldHolds greatest (record { server = a.server; counts = w.counts; decided = w.decided; journal = js; replied = w.replied; ends = with_sent (recalls_at a.end a.server.rows) (with_answer by (Granted a.grants a.fresh a.end) (without_question by w.ends)) })) (sym (append-nil w.journal))
-      (world_all_recalled greatest (record { server = a.server; counts = w.counts; decided = w.decided; journal = w.journal; replied = w.replied; ends = with_answer by (Granted a.grants a.fresh a.end) (without_question by w.ends) }) (recalls_at a.end a.server.rows) (recall_with a.end a.server.rows) told)
+      let ends : Session → Ends = with_answer by (Granted a.grants a.fresh a.end) (without_question by w.ends) in
+      subst (λ js. WorldStands greatest (record { server = a.server; counts = w.counts; decided = w.decided; journal = js; replied = w.replied; ends = with_sent (recalls_at a.end a.server.rows) ends })) (sym (append-nil w.journal)) (
+        world_all_recalled greatest (record { server = a.server; counts = w.counts; decided = w.decided; journal = w.journal; replied = w.replied; ends = ends }) (recalls_at a.end a.server.rows) (recall_with a.end a.server.rows) told,
+        fits_then w a.server w.journal w.replied (with_sent (recalls_at a.end a.server.rows) ends) right.decided (answered_owed by (Granted a.grants a.fresh a.end) (recalls_at a.end a.server.rows) w.ends) f,
+      )
 
   -- ## Renewals
 
@@ -144,19 +149,21 @@ module _ (greatest : ℕ) (w : World) (by : Session) (h : WorldHolds greatest w)
   unchanged : (a : Answer) (t : Sight) → told by a (base by) ≡ base by → GoesOn s.skew greatest t w.replied w.ends base → GoesOn s.skew greatest t w.replied w.ends (with_client by (told by a (base by)) base)
   unchanged a t e g = subst (λ k. GoesOn s.skew greatest t w.replied w.ends k) (sym (ap (λ d. with_client by d base) e ∙ client_same by base)) g
 
-  renewed_step : (pairs : List (List ℕ × LeaseNo)) → (w.ends by).up ≡ Renew pairs ∷ [] → WorldHolds greatest (world_after w by (message_step by (Renew pairs) s))
-  renewed_step pairs up =
+  renewed_step : DecidedFits w → (pairs : List (List ℕ × LeaseNo)) → (w.ends by).up ≡ Renew pairs ∷ [] → WorldStands greatest (world_after w by (message_step by (Renew pairs) s))
+  renewed_step f pairs up =
       let until = end_of s in
       let ns = numbers_in (pairs_here s pairs) in
       let e = pairs_end s pairs in
       let t : Server = record s { rows = renewed_rows until ns s.rows } in
       let a = Renewed (ends_told until ns s.rows) e in
-      subst (λ js. WorldHolds greatest (record { server = t; counts = w.counts; decided = w.decided; journal = js; replied = w.replied; ends = with_answer by a (without_question by w.ends) })) (sym (append-nil w.journal))
-      (world_answered greatest w t w.journal by (Renew pairs) a up h w.replied refl h.clock (renewed_later (given_by w.counts s) until ns s.rows)
-      (unchanged a (sight_of w.counts (seen w.decided t) w.journal) refl (rows_renewed s.skew greatest (sight_in w) w.replied w.ends base until ns s.rows (goes_of greatest w h)))
-      refl
-      (λ x z q. renew_fits x pairs until e q)
-      (λ ends z q n u i. let same : ends_told until ns s.rows ≡ ends = cc in ends_backed until ns s.rows n u (subst (λ es. In (n, Some u) es) (sym same) i)))
+      subst (λ js. WorldStands greatest (record { server = t; counts = w.counts; decided = w.decided; journal = js; replied = w.replied; ends = with_answer by a (without_question by w.ends) })) (sym (append-nil w.journal)) (
+        world_answered greatest w t w.journal by (Renew pairs) a up h w.decided w.replied refl h.clock (renewed_later (given_by w.counts s) until ns s.rows)
+            (unchanged a (sight_of w.counts (seen w.decided t) w.journal) refl (rows_renewed s.skew greatest (sight_in w) w.replied w.ends base until ns s.rows (goes_of greatest w h)))
+            refl
+            (λ x z q. renew_fits x pairs until e q)
+            (λ ends z q n u i. let same : ends_told until ns s.rows ≡ ends = cc in ends_backed until ns s.rows n u (subst (λ es. In (n, Some u) es) (sym same) i)),
+        fits_then w t w.journal w.replied (with_answer by a (without_question by w.ends)) (stand_rows w.decided s w.journal (renewed_rows until ns s.rows) (λ d i. renewed_locks d.by until ns s.rows) f.all) (answered_owed by a [] w.ends) f,
+      )
 
   -- ## Releases
 
@@ -178,20 +185,28 @@ module _ (greatest : ℕ) (w : World) (by : Session) (h : WorldHolds greatest w)
   returned_by (Ships to count) pairs q r n i = absurd q
   returned_by (Leads to) pairs q r n i = absurd q
 
-  released_step : (pairs : List (List ℕ × LeaseNo)) → (w.ends by).up ≡ Release pairs ∷ [] → WorldHolds greatest (world_after w by (message_step by (Release pairs) s))
-  released_step pairs up =
+  -- a row with the number of a lease that goes back is the session's
+  its_row : (n : LeaseNo) → IsReturned c.view.leases n → (r : Row) → In r s.rows → r.no ≡ n → r.session ≡ by
+  its_row n back r i e = ((h.exchanges by).returns back.kept back.among back.leaving).own r i (e ∙ sym back.number)
+
+  released_step : DecidedFits w → (pairs : List (List ℕ × LeaseNo)) → (w.ends by).up ≡ Release pairs ∷ [] → WorldStands greatest (world_after w by (message_step by (Release pairs) s))
+  released_step f pairs up =
       let ns = numbers_in (pairs_here s pairs) in
       let e = pairs_end s pairs in
       let t : Server = record s { rows = released_rows ns s.rows } in
       let a = Released (length ns) e in
       let o = asked greatest w t w.journal by (Release pairs) a up h in
       let back = returned_by o.exchange pairs o.question (subst (λ x. ReleasesReturned x c.view.leases) o.stands (h.exchanges by).released) in
-      subst (λ js. WorldHolds greatest (record { server = t; counts = w.counts; decided = w.decided; journal = js; replied = w.replied; ends = with_answer by a (without_question by w.ends) })) (sym (append-nil w.journal))
-      (world_answered greatest w t w.journal by (Release pairs) a up h w.replied refl h.clock (released_later (given_by w.counts s) ns s.rows)
-      (unchanged a (sight_of w.counts (seen w.decided t) w.journal) refl (rows_released s.skew greatest (sight_in w) w.replied w.ends base by ns s.rows (λ n i. back n (here_among s pairs n i)) (goes_of greatest w h)))
-      refl
-      (λ x z q. release_fits x pairs e q)
-      (λ ends z q. absurd (cc)))
+      let others = others_in greatest w by (Release pairs) (subst (λ ms. In (Release pairs) ms) (sym up) (inl refl)) h f in
+      subst (λ js. WorldStands greatest (record { server = t; counts = w.counts; decided = w.decided; journal = js; replied = w.replied; ends = with_answer by a (without_question by w.ends) })) (sym (append-nil w.journal)) (
+        world_answered greatest w t w.journal by (Release pairs) a up h w.decided w.replied refl h.clock (released_later (given_by w.counts s) ns s.rows)
+            (unchanged a (sight_of w.counts (seen w.decided t) w.journal) refl (rows_released s.skew greatest (sight_in w) w.replied w.ends base by ns s.rows (λ n i. back n (here_among s pairs n i)) (goes_of greatest w h)))
+            refl
+            (λ x z q. release_fits x pairs e q)
+            (λ ends z q. absurd (cc)),
+        fits_then w t w.journal w.replied (with_answer by a (without_question by w.ends))
+            (stand_rows w.decided s w.journal (released_rows ns s.rows) (λ d i. released_locks d.by by (others d i) ns s.rows (λ n j r k z. its_row n (back n (here_among s pairs n j)) r k z)) f.all) (answered_owed by a [] w.ends) f,
+      )
 
   -- ## Logs
 
@@ -205,16 +220,18 @@ module _ (greatest : ℕ) (w : World) (by : Session) (h : WorldHolds greatest w)
   ship_fits (Releases to numbers) entries rest count e log q few fits = absurd q
   ship_fits (Leads to) entries rest count e log q few fits = absurd q
 
-  world_shipped : w.decided ≡ [] → (entries : List Entry) → (w.ends by).up ≡ Ship entries ∷ [] → WorldHolds greatest (world_after w by (shipped by (ship_from by entries s [])))
-  world_shipped none entries up =
+  world_shipped : DecidedFits w → (entries : List Entry) → (w.ends by).up ≡ Ship entries ∷ [] → WorldStands greatest (world_after w by (shipped by (ship_from by entries s [])))
+  world_shipped f entries up =
       let there : In (Ship entries) (w.ends by).up = subst (λ ms. In (Ship entries) ms) (sym up) (inl refl) in
       let front = (h.exchanges by).front entries there in
       let d = base by in
       let x = ship_from by entries s [] in
-      let start : GoesOn s.skew greatest (sight_of w.counts s (w.journal ++ [])) w.replied w.ends (with_client by d base) =
-      subst (λ js. GoesOn s.skew greatest (sight_of w.counts s js) w.replied w.ends (with_client by d base)) (sym (append-nil w.journal))
-      (subst (λ k. GoesOn s.skew greatest (sight_of w.counts s w.journal) w.replied w.ends k) (sym (client_same by base)) (goes_bare w.counts w.decided s.skew greatest s w.journal w.replied w.ends base none (goes_of greatest w h))) in
-      let r : IsShipped w.counts s.skew greatest w.journal w.replied w.ends base by entries d [] x = shipped_still w.counts s.skew greatest w.journal w.replied w.ends base by entries s [] front.rest d front.log front.over start in
+      let others = others_in greatest w by (Ship entries) there h f in
+      let start : GoesOn s.skew greatest (sight_of w.counts (seen w.decided s) (w.journal ++ [])) w.replied w.ends (with_client by d base) =
+      subst (λ js. GoesOn s.skew greatest (sight_of w.counts (seen w.decided s) js) w.replied w.ends (with_client by d base)) (sym (append-nil w.journal))
+      (subst (λ k. GoesOn s.skew greatest (sight_in w) w.replied w.ends k) (sym (client_same by base)) (goes_of greatest w h)) in
+      let under : AllDecidedStand w.decided s (w.journal ++ []) = subst (AllDecidedStand w.decided s) (sym (append-nil w.journal)) f.all in
+      let r : IsShipped w.counts s.skew greatest w.journal w.replied w.ends base by w.decided others entries d [] x = shipped_still w.counts s.skew greatest w.journal w.replied w.ends base by w.decided others entries s [] front.rest d front.log front.over under start in
       let count : length x.admitted ≡ length r.more = ap length r.split in
       let same = ships_same by entries s [] in
       let clock = h.clock in
@@ -223,28 +240,29 @@ module _ (greatest : ℕ) (w : World) (by : Session) (h : WorldHolds greatest w)
       let o = asked greatest w x.server (w.journal ++ x.admitted) by (Ship entries) a up h in
       let log : c.log ≡ d.log = sym (ap (λ (k : Settled). k.log) (settled_none by (w.ends by).down (settled_now c) o.silent)) in
       let fits : refusal_fits x.end (length x.admitted) entries ≡ true = ap (λ n. refusal_fits x.end n entries) count ∙ r.fits in
-      let few = r.few in
-      world_answered greatest w x.server (w.journal ++ x.admitted) by (Ship entries) a up h w.replied same.skew (omega arith) (same.later w.counts)
-      (goes_seen w.counts w.decided s.skew greatest x.server (w.journal ++ x.admitted) w.replied w.ends (with_client by (told by a d) base) none
-      (subst (λ n. GoesOn s.skew greatest (sight_of w.counts x.server (w.journal ++ x.admitted)) w.replied w.ends (with_client by (with_over (over_after x.end d.over) (acknowledged_all by n d)) base)) (sym count) r.goes))
-      refl
-      (λ y e q. ship_fits y entries front.rest (length x.admitted) x.end (log ∙ front.log) q (omega arith) fits)
-      (λ ends e q. absurd (cc))
+      let few = r.few in (
+        world_answered greatest w x.server (w.journal ++ x.admitted) by (Ship entries) a up h w.decided w.replied same.skew (omega arith) (same.later w.counts)
+            (subst (λ n. GoesOn s.skew greatest (sight_of w.counts (seen w.decided x.server) (w.journal ++ x.admitted)) w.replied w.ends (with_client by (with_over (over_after x.end d.over) (acknowledged_all by n d)) base)) (sym count) r.goes)
+            refl
+            (λ y e q. ship_fits y entries front.rest (length x.admitted) x.end (log ∙ front.log) q (omega arith) fits)
+            (λ ends e q. absurd (cc)),
+        fits_then w x.server (w.journal ++ x.admitted) w.replied (with_answer by a (without_question by w.ends)) r.decided (answered_owed by a [] w.ends) f,
+      )
 
-  shipped_step : w.decided ≡ [] → (entries : List Entry) → (w.ends by).up ≡ Ship entries ∷ [] → WorldHolds greatest (world_after w by (ship_step by entries s))
-  shipped_step none entries up =
+  shipped_step : DecidedFits w → (entries : List Entry) → (w.ends by).up ≡ Ship entries ∷ [] → WorldStands greatest (world_after w by (ship_step by entries s))
+  shipped_step f entries up =
       let there : In (Ship entries) (w.ends by).up = subst (λ ms. In (Ship entries) ms) (sym up) (inl refl) in
       let plain = all_plain greatest w by entries there h in
-      subst (λ b. WorldHolds greatest (world_after w by (cond b (shipped by (ship_from by entries s [])) (strange s)))) (sym plain) (world_shipped none entries up)
+      subst (λ b. WorldStands greatest (world_after w by (cond b (shipped by (ship_from by entries s [])) (strange s)))) (sym plain) (world_shipped f entries up)
 
   -- ## Each message
 
-  pub told_message : w.decided ≡ [] → (m : ClientMsg) → IsOther (event.FromClient by m) → (w.ends by).up ≡ m ∷ [] → WorldHolds greatest (world_after w by (message_step by m s))
-  told_message none (Ask items dir) o up = world_asked none items dir up
-  told_message none (Renew pairs) o up = renewed_step pairs up
-  told_message none (Release pairs) o up = released_step pairs up
-  told_message none (Ship entries) o up = shipped_step none entries up
-  told_message none (Lead m) o up = absurd o
+  pub told_message : DecidedFits w → (m : ClientMsg) → IsOther (event.FromClient by m) → (w.ends by).up ≡ m ∷ [] → WorldStands greatest (world_after w by (message_step by m s))
+  told_message f (Ask items dir) o up = world_asked f items dir up
+  told_message f (Renew pairs) o up = renewed_step f pairs up
+  told_message f (Release pairs) o up = released_step f pairs up
+  told_message f (Ship entries) o up = shipped_step f entries up
+  told_message f (Lead m) o up = absurd o
 
 -- ## Each event
 
@@ -264,11 +282,12 @@ after_begun e w = record {
   ends = with_sent (event_step e w.server).out.send (without_taken e w.ends);
 }
 
-pub begun_keeps : (greatest : ℕ) (w : World) (e : ServerEvent) → w.decided ≡ [] → IsThere e w.ends → IsOther e → WorldHolds greatest w → WorldHolds greatest (after_begun e w)
-begun_keeps greatest w (event.FromClient by m) none there o h = told_message greatest w by h none m o (one_up (w.ends by).client (w.ends by).client.exchange (w.ends by).up (w.ends by).down m there (h.exchanges by).one)
-begun_keeps greatest w (event.FromPeer from m) none there o h = absurd there
-begun_keeps greatest w (event.Move prefix to) none there o h = absurd there
-begun_keeps greatest w event.Turn none there o h = turn_keeps greatest w none h
-begun_keeps greatest w (event.Recall field) none there o h =
-    subst (λ js. WorldHolds greatest (record { server = w.server; counts = w.counts; decided = w.decided; journal = js; replied = w.replied; ends = with_sent (event_step (event.Recall field) w.server).out.send w.ends })) (sym (append-nil w.journal))
-    (world_all_recalled greatest w (event_step (event.Recall field) w.server).out.send (recall_all (recalled_on field w.server)) h)
+pub begun_keeps : (greatest : ℕ) (w : World) (e : ServerEvent) → DecidedFits w → IsThere e w.ends → IsOther e → WorldHolds greatest w → WorldStands greatest (after_begun e w)
+begun_keeps greatest w (event.FromClient by m) f there o h = told_message greatest w by h f m o (one_up (w.ends by).client (w.ends by).client.exchange (w.ends by).up (w.ends by).down m there (h.exchanges by).one)
+begun_keeps greatest w (event.FromPeer from m) f there o h = absurd there
+begun_keeps greatest w (event.Move prefix to) f there o h = absurd there
+begun_keeps greatest w event.Turn f there o h = turn_keeps greatest w f h
+begun_keeps greatest w (event.Recall field) f there o h =
+    let recalls = (event_step (event.Recall field) w.server).out.send in
+    subst (λ js. WorldStands greatest (record { server = w.server; counts = w.counts; decided = w.decided; journal = js; replied = w.replied; ends = with_sent (event_step (event.Recall field) w.server).out.send w.ends })) (sym (append-nil w.journal))
+    (world_all_recalled greatest w recalls (recall_all (recalled_on field w.server)) h, fits_then w w.server w.journal w.replied (with_sent recalls w.ends) f.all (sent_owed recalls w.ends) f)

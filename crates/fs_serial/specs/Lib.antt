@@ -17,6 +17,7 @@ pub mod Laws
 pub mod Locks
 pub mod Commits
 pub mod World
+pub mod Decided
 pub mod Joined
 pub mod Cluster
 pub mod Places

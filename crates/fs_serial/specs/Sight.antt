@@ -1,12 +1,12 @@
 -- What stands at the servers, as far as sessions rely on it.
 use Rattle.std.specs.Prelude.{ℕ, ◌≤◌, ◌==◌, List, if◌then◌else◌}
 use Rattle.fs_ident.specs.declared.actor.LeaseNo.{LeaseNo}
-use Rattle.fs_field.specs.declared.effect.Effect.{Effect}
 use Rattle.fs_field.specs.declared.row.Row.{Row}
 use Rattle.fs_msg.specs.declared.item.Item.{Item}
-use Rattle.fs_record.specs.Applied.{records_after_all}
 use Rattle.fs_record.specs.Records.{RecordMap}
 use Rattle.fs_server.specs.declared.state.Server.{Server}
+use Rattle.fs_txn.specs.Decided.{held_with}
+use Rattle.fs_txn.specs.Grants.{Decided, effects_in}
 
 -- all rows, the records of all files, how many leases each server gave and how many reaps it made, and the journal
 pub record Sight : Type 0 where
@@ -36,8 +36,8 @@ sight_of others s journal = record {
 }
 
 -- with the effects that are decided and not applied yet
-abbrev pub seen : List Effect → Server → Server
-seen decided s = record s { records = records_after_all s.records decided }
+abbrev pub seen : List Decided → Server → Server
+seen decided s = record s { records = held_with (effects_in decided) s.records }
 
 -- its server gave the number
 abbrev pub IsGiven : (ℕ → ℕ) → LeaseNo → Type 0

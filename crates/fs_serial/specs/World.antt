@@ -5,7 +5,6 @@ use Rattle.fs_ident.specs.declared.actor.LeaseNo.{LeaseNo}
 use Rattle.fs_ident.specs.declared.actor.Peer.{Peer}
 use Rattle.fs_ident.specs.declared.actor.Peer.TheVariants.{Client as OfSession}
 use Rattle.fs_ident.specs.declared.actor.Session.{Session}
-use Rattle.fs_field.specs.declared.effect.Effect.{Effect}
 use Rattle.fs_model.specs.declared.op.Op.{Op}
 use Rattle.fs_model.specs.Asking.{may_ask}
 use Rattle.fs_msg.specs.declared.answer.Answer.{Answer}
@@ -17,6 +16,7 @@ use Rattle.fs_server.specs.declared.event.ServerEvent.{ServerEvent}
 use Rattle.fs_server.specs.declared.event.ServerEvent.TheVariants.{FromClient, FromPeer, Move}
 use Rattle.fs_server.specs.declared.state.Server.{Server}
 use Rattle.fs_server.specs.Ships.{item_of}
+use Rattle.fs_txn.specs.Grants.{Decided}
 use Rattle.fs_client.specs.Acts.{act_plan}
 use Rattle.fs_client.specs.Answers.{answer_plan}
 use Rattle.fs_client.specs.Client.{committed, first_client}
@@ -46,7 +46,7 @@ settled_at x e = settled x e.down (settled_now e.client)
 pub record World : Type 0 where
   pub server : Server
   pub counts : Counts
-  pub decided : List Effect
+  pub decided : List Decided
   pub journal : List Item
   pub replied : Session → List Item
   pub ends : Session → Ends
