@@ -81,7 +81,7 @@ module _ (o : Counts) (skew greatest : ℕ) (journal : List Item) (replied : Ses
       let right = admit.right o skew greatest there now replied clients by e h.all is in
       let q = under.stand x i in
       entry_apart (nodes_of there.records) s.rows by x.by e.uses h.all.servers.apart (others x i) stand x.effect q.decided q.guarded (gone_there ds s now under x i)
-      e.op e.reply (ap (λ k. (walk k always e.op).reply) (sym (known_nodes there.records by)) ∙ right.reply) (covered_there there.records by (clients by).leases e plain right) z j
+      e.op e.reply (ap (λ k. (walk k always e.op).reply) (sym (known_nodes there.records by)) ∙ right.reply) (covered_there there.records by e plain right) z j
 
   admitted_then : (e : Entry) (es rest : List Entry) (s : Server) (admitted : List Item) (d : Settled) → d.log ≡ e ∷ (es ++ rest) → d.over ≡ None → first_gone s.rows by e.uses ≡ None → AllDecidedStand ds s (journal ++ admitted) → GoesOn skew greatest (sight_of o (seen ds s) (journal ++ admitted)) replied ends (with_client by d base)
       → AllDecidedStand ds (with_entry by e s) (journal ++ (admitted ++ item_of by e ∷ [])) × GoesOn skew greatest (sight_of o (seen ds (with_entry by e s)) (journal ++ (admitted ++ item_of by e ∷ []))) replied ends (with_client by (acknowledged by (e ∷ (es ++ rest)) d) base)
