@@ -17,6 +17,7 @@ pub mod NamedServers
 pub mod LinkedLists
 pub mod Heard
 pub mod HeardEach
+pub mod HeardCalls
 pub mod LinkedPair
 pub mod LinkedChange
 pub mod LinkedSeats

@@ -167,7 +167,16 @@ fn hears_several(
     let mut after = seat.client.copy(alloc)?;
     let joined = heard.joined.as_slice();
     match replies(
-        alloc, now, s, k, from, joined, &mut after, &mut seat.post, packets, undo,
+        alloc,
+        now,
+        s,
+        k,
+        from,
+        joined,
+        &mut after,
+        &mut seat.post,
+        packets,
+        undo,
     ) {
         Ok(told) => {
             mem::replace(&mut seat.client, after).discard();
@@ -205,10 +214,24 @@ fn replies(
 {
     let mut heard = ClientHeard::new(alloc);
     client_hears_each(
-        alloc, now, s, Peer::Server(k), joined, client, post, undo, &mut heard,
+        alloc,
+        now,
+        s,
+        Peer::Server(k),
+        joined,
+        client,
+        post,
+        undo,
+        &mut heard,
     )?;
     let told = send_noted(
-        alloc, Peer::Client(s), false, from, heard.notes, post, packets,
+        alloc,
+        Peer::Client(s),
+        false,
+        from,
+        heard.notes,
+        post,
+        packets,
     )?;
     post.mark_sent();
     Ok(told)

@@ -65,8 +65,8 @@ pub fn refusals_are_fair()
 {}
 
 /// Along every run from a first world within the limits of numbers and lengths, with any readings, links carry what was sent: before
-/// each event whatever was sent is a packet, and what it joins where it comes, however often it is told and however late, is
-/// exactly the bytes of the first message between the two, which can be read.
+/// each event whatever was sent is a packet, and what it joins where it comes, however often it is told and however late, are
+/// exactly the bytes of the first messages between the two, in order, each of which can be read.
 pub fn links_carry_along_every_run()
     ensures { (s : Schedule) → FitsHead s.head → AllWithin (first_world s.head) s.events →
         AllCarry (first_world s.head) s.events }

@@ -6,6 +6,7 @@ ghost use Rattle.fs_world.specs.Served.{without_each};
 
 use fs_ident::List;
 use fs_serial::Flying;
+use fs_window::Joined;
 
 /// The first message to or from the server, if there is one, is taken off. Takes no memory.
 pub(crate) fn remove_first<T: Drop>(messages: &mut List<(u8, T)>, k: u8)
@@ -20,7 +21,7 @@ pub(crate) fn remove_first<T: Drop>(messages: &mut List<(u8, T)>, k: u8)
 }
 
 /// As many messages to or from the server, from the front, are taken off as there are of these. Takes no memory.
-pub(crate) fn remove_each<T: Drop, U>(messages: &mut List<(u8, T)>, k: u8, gone: &[U])
+pub(crate) fn remove_each<T: Drop>(messages: &mut List<(u8, T)>, k: u8, gone: &[Joined])
     ensures { messages.new ≡ without_each gone.now (is_with k) messages.old }
 {
     for _ in gone {

@@ -89,7 +89,7 @@ impl World {
     }
 
     /// A law of every world that steps make: whatever was sent is a packet, and what it joins where it comes, however often it
-    /// is told and however late, is exactly the bytes of the first message between the two, which can be read.
+    /// is told and however late, are exactly the bytes of the first messages between the two, in order, each of which can be read.
     pub fn links_give_what_was_sent(&self)
         ensures { LinksCarry self.now }
     {
