@@ -54,13 +54,7 @@ fn give_names(alloc: Global, view: &mut View, lease: (u64, LeaseKind, u64)) -> R
 }
 
 /// The first identifier is offered at the reading for a file in the root, or none is.
-fn offers(
-    rt: &impl Abort,
-    alloc: Global,
-    view: &View,
-    now: u64,
-    wanted: bool,
-) -> Result<(), Fail> {
+fn offers(rt: &impl Abort, alloc: Global, view: &View, now: u64, wanted: bool) -> Result<(), Fail> {
     let root = FileId::root(alloc);
     let is_there = view.gives(now, &root);
     let offered = view.fresh(now, &root);
