@@ -14,7 +14,7 @@ use Rattle.fs_txn.specs.Decided.{IsApart, held_with}
 use Rattle.fs_txn.specs.Grants.{Decided, effects_in}
 use Rattle.fs_txn.proofs.Guarded.{guarded_apart}
 use Rattle.fs_txn.proofs.Past.{decide_past}
-use Rattle.fs_serial.specs.Decided.{DecidedFits, IsOwnApart, WorldStands, after_decide}
+use Rattle.fs_serial.specs.Decided.{DecideKeepsAll, DecidedFits, IsOwnApart, WorldStands, after_decide}
 use Rattle.fs_serial.specs.Parts.{AllHold}
 use Rattle.fs_serial.specs.Sight.{seen, sight_of}
 use Rattle.fs_serial.specs.World.{World, WorldHolds, settled_at}
@@ -89,3 +89,6 @@ module _ (greatest : ℕ) (w : World) (front its back : List Decided) (whole : w
 
   pub decide_keeps : WorldStands greatest (after_decide front its back w)
   decide_keeps = (decide_holds, decide_fits)
+
+pub decide_all : DecideKeepsAll
+decide_all greatest w front its back whole own h = (same_held greatest w front its back whole own h, decide_keeps greatest w front its back whole own h)
