@@ -1,10 +1,8 @@
 -- A part applies what was decided for it: what all hold together is what it was.
-use Rattle.std.proofs.Common.{◌≡◌, ◌==◌, ℕ, Bool, true, false, List, [], ◌∷◌, ◌++◌, map, refl, sym, ap, ap₂, ◌∙◌, subst, inl, inr}
+use Rattle.std.proofs.Common.{◌≡◌, ◌==◌, ℕ, Bool, true, false, List, ◌++◌, refl, sym, ap, ◌∙◌, subst, inl, inr}
 use Rattle.std.proofs.lemmas.List.{map-append}
 use Rattle.fs_ident.specs.In.{In}
-use Rattle.fs_ident.specs.declared.actor.Session.{Session}
 use Rattle.fs_ident.proofs.Standing.{In-append, In-behind, In-front, In-map}
-use Rattle.fs_field.specs.declared.effect.Effect.{Effect}
 use Rattle.fs_model.specs.Namespace.{NodeMap}
 use Rattle.fs_record.specs.Applied.{records_after_all}
 use Rattle.fs_record.specs.Records.{RecordMap, nodes_of}

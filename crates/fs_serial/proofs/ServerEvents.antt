@@ -39,7 +39,7 @@ use Rattle.fs_serial.specs.Exchange.{IsQuestion, IsReturned, OneExchange, Releas
 use Rattle.fs_serial.specs.Parts.{with_client}
 use Rattle.fs_serial.specs.Settled.{Settled, acknowledged_all, settled_now, told, with_over}
 use Rattle.fs_serial.specs.Sight.{Sight, seen, sight_of}
-use Rattle.fs_serial.specs.World.{Ends, GoesOn, IsThere, after_begun, World, WorldHolds, settled_at, sight_in, with_answer, with_sent, without_question, without_taken}
+use Rattle.fs_serial.specs.World.{Ends, GoesOn, IsThere, after_begun, World, WorldHolds, settled_at, sight_in, with_answer, with_sent, without_question}
 use Rattle.fs_serial.proofs.Again.{client_same}
 use Rattle.fs_serial.proofs.Asks as asks
 use Rattle.fs_serial.proofs.Counting.{given_by}

@@ -3,8 +3,7 @@ use Rattle.std.proofs.Common.{◌≡◌, ℕ, true}
 use Rattle.std.specs.Prelude.{None, is_some}
 use Rattle.fs_ident.proofs.Passing.{found}
 use Rattle.fs_msg.specs.declared.peer_msg.PeerMsg.{PeerMsg}
-use Rattle.fs_server.specs.declared.event.ServerEvent.{ServerEvent}
-use Rattle.fs_server.specs.declared.event.ServerEvent.TheVariants.{FromClient, FromPeer}
+use Rattle.fs_server.specs.declared.event.ServerEvent.TheVariants.{FromPeer}
 use Rattle.fs_serial.specs.Cluster.{Cluster, IsThere, is_between, parcel_in}
 use Rattle.fs_serial.specs.Places.{PlacesHold}
 pub use Rattle.fs_serial.specs.World.{IsOther}
