@@ -43,7 +43,7 @@ pub record DecidedStands (rows : List Row) (m : RecordMap) (held : NodeMap) (jou
   pub guarded : IsGuarded rows held d.by d.effect
   -- a file that goes has nothing in it, and nobody has it open
   pub bare : IsBare m d.effect
-  -- and no identifier was given below it
+  -- and it was made, and is no directory
   pub file : IsOfFile m journal d.effect
 
 -- all of them, at a server that has all rows and records
