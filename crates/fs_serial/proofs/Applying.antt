@@ -1,10 +1,8 @@
 -- A part applies what was decided for it: what all hold together is what it was.
-use Rattle.std.proofs.Common.{◌≡◌, ◌==◌, ℕ, Bool, true, false, List, [], ◌∷◌, ◌++◌, map, refl, sym, ap, ap₂, ◌∙◌, subst, inl, inr}
+use Rattle.std.proofs.Common.{◌≡◌, ◌==◌, ℕ, Bool, true, false, List, ◌++◌, refl, sym, ap, ◌∙◌, subst, inl, inr}
 use Rattle.std.proofs.lemmas.List.{map-append}
 use Rattle.fs_ident.specs.In.{In}
-use Rattle.fs_ident.specs.declared.actor.Session.{Session}
 use Rattle.fs_ident.proofs.Standing.{In-append, In-behind, In-front, In-map}
-use Rattle.fs_field.specs.declared.effect.Effect.{Effect}
 use Rattle.fs_model.specs.Namespace.{NodeMap}
 use Rattle.fs_record.specs.Applied.{records_after_all}
 use Rattle.fs_record.specs.Records.{RecordMap, nodes_of}
@@ -14,7 +12,7 @@ use Rattle.fs_txn.specs.Decided.{IsApart, held_with}
 use Rattle.fs_txn.specs.Grants.{Decided, effects_in}
 use Rattle.fs_txn.proofs.Guarded.{guarded_apart}
 use Rattle.fs_txn.proofs.Past.{decide_past}
-use Rattle.fs_serial.specs.Decided.{DecidedFits, IsOwnApart, WorldStands, after_decide}
+use Rattle.fs_serial.specs.Decided.{DecideKeepsAll, DecidedFits, IsOwnApart, WorldStands, after_decide}
 use Rattle.fs_serial.specs.Parts.{AllHold}
 use Rattle.fs_serial.specs.Sight.{seen, sight_of}
 use Rattle.fs_serial.specs.World.{World, WorldHolds, settled_at}
@@ -89,3 +87,6 @@ module _ (greatest : ℕ) (w : World) (front its back : List Decided) (whole : w
 
   pub decide_keeps : WorldStands greatest (after_decide front its back w)
   decide_keeps = (decide_holds, decide_fits)
+
+pub decide_all : DecideKeepsAll
+decide_all greatest w front its back whole own h = (same_held greatest w front its back whole own h, decide_keeps greatest w front its back whole own h)

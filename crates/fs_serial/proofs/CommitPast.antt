@@ -14,8 +14,7 @@ use Rattle.fs_field.specs.declared.lease_kind.LeaseKind.TheVariants.{Exclusive}
 use Rattle.fs_field.specs.declared.row.Row.{Row}
 use Rattle.fs_field.specs.declared.used.Use.{Use}
 use Rattle.fs_model.specs.Namespace.{NodeMap}
-use Rattle.fs_model.specs.Sound.{IsTree, child_of, kind_of, parent_of}
-use Rattle.fs_model.specs.declared.node.Node.{Node}
+use Rattle.fs_model.specs.Sound.{IsTree, kind_of, parent_of}
 use Rattle.fs_model.specs.declared.op.Op.{Op}
 use Rattle.fs_model.specs.declared.op.Op.TheVariants as op
 use Rattle.fs_model.specs.declared.reply.Reply.{Reply}

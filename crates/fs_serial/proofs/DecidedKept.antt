@@ -1,11 +1,10 @@
 -- What is decided stays so while a client takes a step, while rows lapse, and while clocks go on.
 use Rattle.std.proofs.Common.{◌≡◌, ◌==◌, not, ℕ, Bool, true, false, List, [], ◌∷◌, filter, cond, refl, sym, ap, ◌∙◌, subst}
-use Rattle.std.specs.Prelude.{Option, Some, None, is_some}
+use Rattle.std.specs.Prelude.{is_some}
 use Rattle.fs_ident.specs.In.{In}
 use Rattle.fs_ident.specs.declared.actor.Session.{Session}
 use Rattle.fs_ident.proofs.Same.{itself, one_session}
 use Rattle.fs_field.specs.declared.row.Row.{Row}
-use Rattle.fs_model.specs.declared.op.Op.{Op}
 use Rattle.fs_msg.specs.declared.answer.Answer.{Answer}
 use Rattle.fs_msg.specs.declared.item.Item.{Item}
 use Rattle.fs_server.specs.declared.state.Server.{Server}
@@ -14,7 +13,7 @@ use Rattle.fs_client.specs.Answers.{answer_plan}
 use Rattle.fs_client.specs.Turns.{turn_plan}
 use Rattle.fs_client.specs.declared.plan.Plan.{Plan}
 use Rattle.fs_txn.specs.Grants.{Decided}
-use Rattle.fs_serial.specs.Decided.{AllDecidedStand, DecidedFits, DecidedStands, IsBehind}
+use Rattle.fs_serial.specs.Decided.{AllDecidedStand, DecidedFits, IsBehind}
 use Rattle.fs_serial.specs.Exchange.{due, is_recall}
 use Rattle.fs_serial.specs.Fresh.{IsMade}
 use Rattle.fs_serial.specs.World.{CanCome, ClientEvent, Ends, World, after_client, after_plan, pushed, with_ends}

@@ -9,10 +9,10 @@ use Rattle.fs_ident.specs.declared.actor.Session.{Session}
 use Rattle.fs_ident.specs.declared.actor.TxnNo.{TxnNo}
 use Rattle.fs_ident.proofs.MapsOf.{anti}
 use Rattle.fs_ident.proofs.Same.{same_is}
-use Rattle.fs_ident.proofs.Standing.{In-map, In-mapped, In-put_here}
+use Rattle.fs_ident.proofs.Standing.{In-map, In-mapped}
 use Rattle.fs_field.specs.After.{changed_file}
 use Rattle.fs_field.specs.Field.{file_of}
-use Rattle.fs_field.specs.Table.{borne_numbers, no_before, with_row}
+use Rattle.fs_field.specs.Table.{borne_numbers, no_before}
 use Rattle.fs_field.specs.declared.asked.Asked.TheVariants.{Granted}
 use Rattle.fs_field.specs.declared.effect.Effect.{Effect}
 use Rattle.fs_field.specs.declared.effect.Effect.TheVariants.{SetChild, SetParent, NewNode, RemoveNode, AddHandle, RemoveHandle, SetInfo}
@@ -21,12 +21,11 @@ use Rattle.fs_field.specs.declared.field.Field.TheVariants.{Life, Child, Names, 
 use Rattle.fs_field.specs.declared.lease_kind.LeaseKind.{LeaseKind}
 use Rattle.fs_field.specs.declared.row.Row.{Row}
 use Rattle.fs_field.specs.declared.value.Value.TheVariants as value
-use Rattle.fs_model.specs.Namespace.{NodeMap}
 use Rattle.fs_model.specs.Sound.{kind_of}
 use Rattle.fs_moderows.specs.Answer.{answer_other, answer_self}
 use Rattle.fs_msg.specs.declared.item.Item.{Item}
-use Rattle.fs_record.specs.Applied.{record_change, records_after, records_after_all}
-use Rattle.fs_record.specs.Fresh.{IsLeastFree, free_from, fresh_number, is_dir, is_directory, records_after_gift, with_next}
+use Rattle.fs_record.specs.Applied.{record_change, records_after}
+use Rattle.fs_record.specs.Fresh.{IsLeastFree, free_from, is_dir, is_directory, records_after_gift, with_next}
 use Rattle.fs_record.specs.Records.{AreRecords, RecordMap, next_of, node_of, nodes_of}
 use Rattle.fs_record.specs.ValueOf.{handles_of, selves_in, selves_of, value_of}
 use Rattle.fs_record.specs.declared.record.Record.{Record}
@@ -34,15 +33,15 @@ use Rattle.fs_record.proofs.Kept.{given_kept}
 use Rattle.fs_record.proofs.NodeMaps.{node_there}
 use Rattle.fs_record.proofs.NumbersRise.{effect_next, given_elsewhere, given_here, number_least}
 use Rattle.fs_record.proofs.Undoing.{get_here}
-use Rattle.fs_rows.specs.Answer.{answer, answer_by}
+use Rattle.fs_rows.specs.Answer.{answer_by}
 use Rattle.fs_rows.proofs.Bearing.{not_on}
-use Rattle.fs_server.specs.Asks.{Asking, answer_to, with_fresh, with_lease}
+use Rattle.fs_server.specs.Asks.{answer_to, with_lease}
 use Rattle.fs_server.specs.declared.state.Server.{Server}
 use Rattle.fs_txn.specs.Decided.{AreDecided, IsDecided, held_with}
-use Rattle.fs_txn.specs.Grants.{Decided, IsAllowed, IsBare, IsLost, IsOfOther, effects_in}
-use Rattle.fs_txn.specs.Guards.{HasLocked, IsGuarded}
+use Rattle.fs_txn.specs.Grants.{Decided, IsAllowed, IsLost, effects_in}
+use Rattle.fs_txn.specs.Guards.{HasLocked}
 use Rattle.fs_txn.proofs.GrantsTrue.{grant_true}
-use Rattle.fs_serial.specs.Decided.{AllDecidedStand, DecidedStands, IsOfFile}
+use Rattle.fs_serial.specs.Decided.{AllDecidedStand, DecidedStands}
 use Rattle.fs_serial.specs.Gone.{IsOfGone}
 use Rattle.fs_serial.specs.Laws.{IsGift}
 use Rattle.fs_serial.specs.Sight.{seen}

@@ -1,11 +1,11 @@
 -- The server that has all is asked to lead an operation.
-use Rattle.std.proofs.Common.{◌≡◌, ℕ, not, Bool, true, false, List, [], ◌∷◌, ◌++◌, append-nil, refl, sym, ap, ◌∙◌, subst, inl}
+use Rattle.std.proofs.Common.{◌≡◌, ℕ, not, Bool, true, false, List, [], ◌∷◌, ◌++◌, append-nil, refl, sym, ap, ◌∙◌, subst, inl, inr}
 use Rattle.std.specs.Prelude.{Some}
 use Rattle.std.specs.Cmp.{nat_eq_equiv}
 use Rattle.fs_ident.specs.In.{In}
 use Rattle.fs_ident.specs.declared.actor.Session.{Session}
 use Rattle.fs_ident.proofs.Booleans.{joined}
-use Rattle.fs_ident.proofs.Standing.{In-filter, In-map, In-mapped}
+use Rattle.fs_ident.proofs.Standing.{In-append, In-filter, In-map, In-mapped}
 use Rattle.fs_field.specs.declared.effect.Effect.{Effect}
 use Rattle.fs_model.specs.declared.op.Op.{Op}
 use Rattle.fs_model.specs.declared.op.Op.TheVariants as op
@@ -16,7 +16,9 @@ use Rattle.fs_msg.specs.declared.item.Item.{Item}
 use Rattle.fs_msg.specs.declared.lead.Lead.{Lead as ToLead}
 use Rattle.fs_record.specs.Applied.{records_after_all}
 use Rattle.fs_record.specs.LedEffects.{led_effects}
+use Rattle.fs_record.specs.Records.{RecordMap, nodes_of}
 use Rattle.fs_record.specs.ValueOf.{value_of}
+use Rattle.fs_record.proofs.AllApplied.{after_all_kept}
 use Rattle.fs_record.specs.declared.led_end.LedEnd.{LedEnd}
 use Rattle.fs_record.specs.declared.led_end.LedEnd.TheVariants as end
 use Rattle.fs_record.specs.declared.led_end.Why.TheVariants as why
@@ -34,8 +36,8 @@ use Rattle.fs_client.specs.declared.exchange.Exchange.TheVariants.{Asks, Renews,
 use Rattle.fs_client.specs.declared.led.Led.{Led as TheLed}
 use Rattle.fs_client.specs.declared.state.Client.{Client}
 use Rattle.fs_serial.specs.Commits.{IsCommitted, with_commit, with_led}
-use Rattle.fs_serial.specs.Decided.{DecidedFits, IsSplit, after_commit, decided_for}
-use Rattle.fs_serial.specs.Exchange.{IsQuestion, IsToBeLed, server_of_question}
+use Rattle.fs_serial.specs.Decided.{CommitGoesPast, DecidedFits, DecidedStands, IsSplit, StandsIn, after_commit, decided_for}
+use Rattle.fs_serial.specs.Exchange.{IsQuestion, due, IsToBeLed, server_of_question}
 use Rattle.fs_serial.specs.Fresh.{reserved_by}
 use Rattle.fs_serial.specs.Led.{IsLeadAnswer, LedFits, LedStands}
 use Rattle.fs_serial.specs.Parts.{SessionFits, SessionHolds, with_client, with_replies}
@@ -47,16 +49,17 @@ use Rattle.fs_serial.proofs.Committed.{commit_keeps_parts}
 use Rattle.fs_serial.proofs.Committing.{led_reply}
 use Rattle.fs_serial.proofs.Counting.{given_by}
 use Rattle.fs_serial.proofs.Going.{carried_alike}
+use Rattle.fs_serial.proofs.Gone.{made_more}
 use Rattle.fs_serial.proofs.GrantsPast.{all_decided, gone_there}
 use Rattle.fs_serial.proofs.MovedItems.{moved_parts}
 use Rattle.fs_serial.proofs.Older.{later_itself}
-use Rattle.fs_serial.proofs.Owing.{answered_owed, fits_then, others_in}
+use Rattle.fs_serial.proofs.Owing.{answered_owed, fits_then, led_owed, others_in}
 use Rattle.fs_serial.proofs.Seats.{settled_none}
 use Rattle.fs_serial.proofs.Sending.{asked, goes_of, world_answered}
 use Rattle.fs_serial.proofs.Claims.{NoneAnew, none_anew}
 use Rattle.fs_serial.proofs.StandPast.{AllApart}
 use Rattle.fs_serial.proofs.Together.{each_session, fewer_reserved}
-use Rattle.fs_serial.proofs.Underway.{are_apart}
+use Rattle.fs_serial.proofs.Underway.{PlaceStays, are_apart, going_past, locks_stay, place_past, stands_then}
 
 can_end : (o : Op) (r : Reply) → is_led o r ≡ true → can_end_with o (reply_of o) ≡ true
 can_end (op.Delete dir name) r h = refl
@@ -234,6 +237,39 @@ module _ (greatest : ℕ) (w : World) (by : Session) (m : ToLead) (up : (w.ends 
         (subst (λ r. GoesOn s.skew greatest (sight_of w.counts (record s { txns = txns; records = r }) (w.journal ++ item ∷ [])) replied w.ends (with_client by (told by (Led e) (base by)) base)) (sym (one_step sends split)) goes_there)
         refl (end_fits_there e (can_end l.entry.op l.entry.reply led_stands.leads)) (λ ends x q. absurd (cc)))
 
+    -- ## What is decided then
+
+    abbrev item_then : Item
+    item_then = led_item by (lead_of l)
+
+    -- what was decided before
+    old_stands : (sends : Effect → Bool) → IsSplit sends effects → (d : Decided) → In d w.decided → DecidedStands s.rows (records_after_all s.records (staying sends effects)) (nodes_of (held_with (effects_in (w.decided ++ decided_for by (going sends effects))) (records_after_all s.records (staying sends effects)))) (w.journal ++ item_then ∷ []) d
+    old_stands sends split d i =
+        let then : RecordMap = records_after_all s.records (staying sends effects) in
+        let held : RecordMap = held_with (effects_in (w.decided ++ decided_for by (going sends effects))) then in
+        stands_then s.rows s.rows s.records then (nodes_of there.records) (nodes_of held) w.journal (w.journal ++ item_then ∷ []) d (locks_stay d.by s.rows)
+        (subst (λ (x : RecordMap). PlaceStays (nodes_of there.records) (nodes_of x) d.effect) (sym (one_step sends split)) (place_past there.records d.effect effects (effects_past d i)))
+        (going_past s.records d.effect (staying sends effects) (λ e j. effects_past d i e (In-filter (λ x. not (sends x)) e effects j)))
+        (made_more w.journal item_then) (f.all.stand d i)
+
+    -- what it sends stands where it is guarded, and what goes was made, is no directory, and has nothing in it
+    pub commit_fits : (sends : Effect → Bool) (txns : ℕ) → IsSplit sends (led_effects m.op m.file (reply_of m.op)) → ((d : Decided) → In d (decided_for by (going sends (led_effects m.op m.file (reply_of m.op)))) → StandsIn (after_commit sends txns by m w) d) → DecidedFits (after_commit sends txns by m w)
+    commit_fits sends txns =
+        subst (λ (n : ToLead). IsSplit sends (led_effects n.op n.file (reply_of n.op)) → ((d : Decided) → In d (decided_for by (going sends (led_effects n.op n.file (reply_of n.op)))) → StandsIn (after_commit sends txns by n w) d) → DecidedFits (after_commit sends txns by n w)) (sym to_lead.told)
+        (λ split new. record {
+          all = record {
+            records = after_all_kept s.records (staying sends effects) f.all.records;
+            stand = λ d i. elim (In-append d w.decided (decided_for by (going sends effects)) i) as (λ _. StandsIn (after_commit sends txns by (lead_of l) w) d) [
+              | inl j ↦ old_stands sends split d j
+              | inr j ↦ new d j
+            ];
+          };
+          owed = λ d i e. elim (In-append d w.decided (decided_for by (going sends effects)) i) as (λ _. ⊥) [
+            | inl j ↦ f.owed d j (answered_owed by (Led (end.Done (reply_of l.entry.op))) [] w.ends d.by e)
+            | inr j ↦ led_owed by (Led (end.Done (reply_of l.entry.op))) w.ends refl (let q = In-map (λ x. let y : Decided = record { by = by; effect = x } in y) d (going sends effects) j in subst (λ (x : Session). due (with_answer by (Led (end.Done (reply_of l.entry.op))) (without_question by w.ends) x).down ≡ []) (ap (λ (y : Decided). y.by) q.1.1) e)
+          ];
+        })
+
     -- where all are applied
     pub world_led_whole : (txns : ℕ)
         → WorldHolds greatest (record { server = record s { txns = txns; records = records_after_all s.records (led_effects m.op m.file (reply_of m.op)) }; counts = w.counts; decided = w.decided; journal = w.journal ++ led_item by m ∷ []; replied = with_replies by (w.replied by ++ led_item by m ∷ []) w.replied; ends = with_answer by (Led (end.Done (reply_of m.op))) (without_question by w.ends) })
@@ -243,3 +279,11 @@ module _ (greatest : ℕ) (w : World) (by : Session) (m : ToLead) (up : (w.ends 
         (subst (λ xs. WorldHolds greatest (record { server = record s { txns = txns; records = records_after_all s.records es }; counts = w.counts; decided = w.decided ++ decided_for by xs; journal = w.journal ++ led_item by m ∷ []; replied = with_replies by (w.replied by ++ led_item by m ∷ []) w.replied; ends = with_answer by (Led (end.Done (reply_of m.op))) (without_question by w.ends) })) (none_go es)
         (subst (λ xs. WorldHolds greatest (record { server = record s { txns = txns; records = records_after_all s.records xs }; counts = w.counts; decided = w.decided ++ decided_for by (going none_sent es); journal = w.journal ++ led_item by m ∷ []; replied = with_replies by (w.replied by ++ led_item by m ∷ []) w.replied; ends = with_answer by (Led (end.Done (reply_of m.op))) (without_question by w.ends) })) (all_stay es)
         (world_led none_sent txns (none_split es))))
+
+-- said of whatever the client has led
+pub commit_past_all : CommitGoesPast
+commit_past_all greatest w by m l sends txns up led committed split h =
+    let there = to_lead greatest w by m up h.0 in
+    let same : Some l ≡ Some there.led = sym led ∙ there.is in
+    let is : l ≡ there.led = cc in
+    world_led greatest w by m up h.0 h.1 (subst (λ (x : TheLed). IsCommitted (sight_in w) by (settled_at by (w.ends by)) x.entry x.file) is committed) sends txns split

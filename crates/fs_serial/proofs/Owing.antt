@@ -1,11 +1,11 @@
 -- The worlds in which decided effects are on their way.
-use Rattle.std.proofs.Common.{◌≡◌, ℕ, ◌==◌, Bool, true, false, List, [], ◌∷◌, ◌++◌, cond, refl, sym, ap, ◌∙◌, subst, inl, inr}
+use Rattle.std.proofs.Common.{◌≡◌, ℕ, ◌==◌, not, Bool, true, false, List, [], ◌∷◌, ◌++◌, cond, refl, sym, ap, ◌∙◌, subst, inl, inr}
 use Rattle.std.specs.Prelude.{Option, Some, None}
 use Rattle.fs_ident.specs.In.{In}
 use Rattle.fs_ident.specs.declared.actor.Peer.{Peer}
-use Rattle.fs_ident.specs.declared.actor.Peer.TheVariants.{Client as OfSession, Server as OfServer}
+use Rattle.fs_ident.specs.declared.actor.Peer.TheVariants.{Client as OfSession}
 use Rattle.fs_ident.specs.declared.actor.Session.{Session}
-use Rattle.fs_ident.proofs.Same.{one_session}
+use Rattle.fs_ident.proofs.Same.{itself, one_session}
 use Rattle.fs_msg.specs.declared.answer.Answer.{Answer}
 use Rattle.fs_msg.specs.declared.client_msg.ClientMsg.{ClientMsg}
 use Rattle.fs_msg.specs.declared.item.Item.{Item}
@@ -18,7 +18,7 @@ use Rattle.fs_client.specs.declared.exchange.Exchange.{Exchange}
 use Rattle.fs_client.specs.declared.state.Client.{Client}
 use Rattle.fs_txn.specs.Grants.{Decided, effects_in}
 use Rattle.fs_serial.specs.Decided.{AllDecidedStand, DecidedFits}
-use Rattle.fs_serial.specs.Exchange.{OneExchange, due}
+use Rattle.fs_serial.specs.Exchange.{OneExchange, due, is_recall}
 use Rattle.fs_serial.specs.World.{Ends, World, WorldHolds, with_answer, with_sent, without_question}
 use Rattle.fs_serial.proofs.Sending.{due-push}
 
@@ -57,6 +57,10 @@ front_none : {X : Type 0} (xs ys : List X) → xs ++ ys ≡ [] → xs ≡ []
 front_none [] ys h = refl
 front_none (x ∷ xs) ys h = absurd (cc)
 
+not_empty : {X : Type 0} (xs : List X) (x : X) → xs ++ x ∷ [] ≡ [] → ⊥
+not_empty [] x h = absurd (cc)
+not_empty (y ∷ ys) x h = absurd (cc)
+
 answer_owed : (to : Session) (a : Answer) (ends : Session → Ends) (x : Session) → due (with_answer to a ends x).down ≡ [] → due (ends x).down ≡ []
 answer_owed to a ends x = by (to.0 == x.0)
   where
@@ -78,6 +82,16 @@ taken_owed by ends x = of (by.0 == x.0)
 
 pub answered_owed : (by : Session) (a : Answer) (messages : List (Peer × Msg)) (ends : Session → Ends) (x : Session) → due (with_sent messages (with_answer by a (without_question by ends)) x).down ≡ [] → due (ends x).down ≡ []
 answered_owed by a messages ends x h = taken_owed by ends x (answer_owed by a (without_question by ends) x (sent_owed messages (with_answer by a (without_question by ends)) x h))
+
+due_end : (down : List Answer) (a : Answer) → is_recall a ≡ false → due (down ++ a ∷ []) ≡ [] → ⊥
+due_end down a h e = not_empty (due down) a (ap (λ xs. due down ++ xs) (sym (ap (λ b. cond (not b) (a ∷ []) []) h)) ∙ sym (due-push down a) ∙ e)
+
+-- so is whoever is answered
+pub led_owed : (by : Session) (a : Answer) (ends : Session → Ends) → is_recall a ≡ false → due (with_answer by a (without_question by ends) by).down ≡ [] → ⊥
+led_owed by a ends h e = due_end (ends by).down a h (sym (ap (λ b. due (let y : Ends = cond b (record (own b) { down = (own b).down ++ a ∷ [] }) (own b) in y).down) (itself by.0)) ∙ e)
+  where
+    own : Bool → Ends
+    own b = let y : Ends = cond b (record (ends by) { up = [] }) (ends by) in y
 
 -- where its server and its journal are others, and more is on its way
 pub fits_then : (w : World) (t : Server) (journal : List Item) (replied : Session → List Item) (ends : Session → Ends) → AllDecidedStand w.decided t journal → ((x : Session) → due (ends x).down ≡ [] → due (w.ends x).down ≡ []) → DecidedFits w

@@ -33,7 +33,7 @@ use Rattle.fs_serial.specs.Exchange.{due, is_recall, ExchangeFits, IsQuestion, O
 use Rattle.fs_serial.specs.Leases.{IsBacked}
 use Rattle.fs_serial.specs.Parts.{AllHold, with_client}
 use Rattle.fs_serial.specs.Settled.{Settled, settled, settled_now, told}
-use Rattle.fs_serial.specs.Sight.{Counts, seen, sight_of}
+use Rattle.fs_serial.specs.Sight.{seen, sight_of}
 use Rattle.fs_serial.specs.World.{Ends, GoesOn, World, WorldHolds, settled_at, sight_in, with_answer, with_sent, without_question}
 use Rattle.fs_serial.proofs.Older.{IsLater, later_pairs}
 use Rattle.fs_serial.proofs.Settling.{stays}

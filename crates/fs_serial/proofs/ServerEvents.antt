@@ -34,12 +34,12 @@ use Rattle.fs_client.specs.Answers.{answer_fits, begins_numbers, fresh_fits, gra
 use Rattle.fs_client.specs.declared.exchange.Exchange.{Exchange}
 use Rattle.fs_client.specs.declared.exchange.Exchange.TheVariants.{Asks, Renews, Releases, Ships, Leads}
 use Rattle.fs_client.specs.declared.state.Client.{Client}
-use Rattle.fs_serial.specs.Decided.{AllDecidedStand, DecidedFits, WorldStands}
+use Rattle.fs_serial.specs.Decided.{AllDecidedStand, DecidedFits, EventGoesPast, WorldStands}
 use Rattle.fs_serial.specs.Exchange.{IsQuestion, IsReturned, OneExchange, ReleasesReturned, server_of_question}
 use Rattle.fs_serial.specs.Parts.{with_client}
 use Rattle.fs_serial.specs.Settled.{Settled, acknowledged_all, settled_now, told, with_over}
 use Rattle.fs_serial.specs.Sight.{Sight, seen, sight_of}
-use Rattle.fs_serial.specs.World.{Ends, GoesOn, IsThere, World, WorldHolds, settled_at, sight_in, with_answer, with_sent, without_question, without_taken}
+use Rattle.fs_serial.specs.World.{Ends, GoesOn, IsThere, after_begun, World, WorldHolds, settled_at, sight_in, with_answer, with_sent, without_question}
 use Rattle.fs_serial.proofs.Again.{client_same}
 use Rattle.fs_serial.proofs.Asks as asks
 use Rattle.fs_serial.proofs.Counting.{given_by}
@@ -271,17 +271,6 @@ one_up c None up down m i h = absurd (subst (λ ms. In m ms) h.0 i)
 one_up c (Some x) up down m i (inl a) = elim (subst (λ ms. In m ms) a.asked i) as (λ _. up ≡ m ∷ []) [ inl e ↦ a.asked ∙ ap (λ k. k ∷ []) (sym e) | inr z ↦ absurd z ]
 one_up c (Some x) up down m i (inr a) = absurd (subst (λ ms. In m ms) a.asked i)
 
--- the world after an event, once the clock was set
-abbrev pub after_begun : ServerEvent → World → World
-after_begun e w = record {
-  server = (event_step e w.server).server;
-  counts = w.counts;
-  decided = w.decided;
-  journal = w.journal ++ (event_step e w.server).out.admitted;
-  replied = w.replied;
-  ends = with_sent (event_step e w.server).out.send (without_taken e w.ends);
-}
-
 pub begun_keeps : (greatest : ℕ) (w : World) (e : ServerEvent) → DecidedFits w → IsThere e w.ends → IsOther e → WorldHolds greatest w → WorldStands greatest (after_begun e w)
 begun_keeps greatest w (event.FromClient by m) f there o h = told_message greatest w by h f m o (one_up (w.ends by).client (w.ends by).client.exchange (w.ends by).up (w.ends by).down m there (h.exchanges by).one)
 begun_keeps greatest w (event.FromPeer from m) f there o h = absurd there
@@ -291,3 +280,6 @@ begun_keeps greatest w (event.Recall field) f there o h =
     let recalls = (event_step (event.Recall field) w.server).out.send in
     subst (λ js. WorldStands greatest (record { server = w.server; counts = w.counts; decided = w.decided; journal = js; replied = w.replied; ends = with_sent (event_step (event.Recall field) w.server).out.send w.ends })) (sym (append-nil w.journal))
     (world_all_recalled greatest w recalls (recall_all (recalled_on field w.server)) h, fits_then w w.server w.journal w.replied (with_sent recalls w.ends) f.all (sent_owed recalls w.ends) f)
+
+pub event_past : EventGoesPast
+event_past greatest w e f there o h = begun_keeps greatest w e f there o h

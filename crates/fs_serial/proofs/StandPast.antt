@@ -1,5 +1,5 @@
 -- What servers apply while decided effects are on their way.
-use Rattle.std.proofs.Common.{◌≡◌, ℕ, List, refl, sym, ap, ◌∙◌, subst}
+use Rattle.std.proofs.Common.{◌≡◌, ℕ, List, sym, subst}
 use Rattle.fs_ident.specs.In.{In}
 use Rattle.fs_field.specs.declared.effect.Effect.{Effect}
 use Rattle.fs_msg.specs.declared.item.Item.{Item}

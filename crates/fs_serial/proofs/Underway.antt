@@ -1,15 +1,14 @@
 -- Decided effects while they are on their way: what they leave of records and rows, and what leaves them as they are.
-use Rattle.std.proofs.Common.{◌≡◌, ℕ, ◌+◌, ◌==◌, Bool, true, false, List, [], ◌∷◌, ◌++◌, cond, map, refl, sym, ap, ◌∙◌, subst, ◌⊎◌, inl, inr}
-use Rattle.std.specs.Prelude.{Option, Some, None, option_map, is_some}
+use Rattle.std.proofs.Common.{◌≡◌, ℕ, Bool, true, false, List, [], ◌∷◌, cond, refl, sym, ap, ◌∙◌, subst, ◌⊎◌, inl, inr}
+use Rattle.std.specs.Prelude.{Option, Some, None, is_some}
 use Rattle.std.specs.Ordering.{nat_cmp, eq_by_cmp}
-use Rattle.std.specs.Cmp.Lexicographic.{slice_cmp, nat_list_cmp_total}
-use Rattle.std.specs.FinMap.{get, same_map}
+use Rattle.std.specs.Cmp.Lexicographic.{slice_cmp}
+use Rattle.std.specs.FinMap.{get}
 use Rattle.fs_ident.specs.In.{In}
 use Rattle.fs_ident.specs.Ident.{same}
 use Rattle.fs_ident.specs.declared.actor.Session.{Session}
-use Rattle.fs_ident.proofs.MapsOf.{anti}
 use Rattle.fs_ident.proofs.Same.{same_is, same_self}
-use Rattle.fs_ident.proofs.Standing.{In-map, In-mapped}
+use Rattle.fs_ident.proofs.Standing.{In-map}
 use Rattle.fs_field.specs.After.{changed_file}
 use Rattle.fs_field.specs.declared.effect.Effect.{Effect}
 use Rattle.fs_field.specs.declared.effect.Effect.TheVariants.{SetChild, SetParent, NewNode, RemoveNode, AddHandle, RemoveHandle, SetInfo}
@@ -21,15 +20,14 @@ use Rattle.fs_model.specs.Sound.{kind_of, parent_of}
 use Rattle.fs_model.specs.Step.{children_of}
 use Rattle.fs_model.specs.declared.node.Node.{Node}
 use Rattle.fs_msg.specs.declared.item.Item.{Item}
-use Rattle.fs_record.specs.Applied.{node_change, record_change, records_after, records_after_all, with_at}
-use Rattle.fs_record.specs.Fresh.{is_dir, is_directory, records_after_gift, with_next}
-use Rattle.fs_record.specs.Records.{AreRecords, RecordMap, next_of, node_of, nodes_of}
+use Rattle.fs_record.specs.Applied.{node_change, record_change, records_after, records_after_all}
+use Rattle.fs_record.specs.Fresh.{is_dir}
+use Rattle.fs_record.specs.Records.{RecordMap, node_of, nodes_of}
 use Rattle.fs_record.specs.ValueOf.{handles_of}
 use Rattle.fs_record.specs.declared.record.Record.{Record}
 use Rattle.fs_record.proofs.Kept.{get_with_at}
 use Rattle.fs_record.proofs.NodeMaps.{node_there}
 use Rattle.fs_record.proofs.NodeValues.{key_is}
-use Rattle.fs_record.proofs.NumbersRise.{given_elsewhere, given_here}
 use Rattle.fs_record.proofs.Undoing.{get_here}
 use Rattle.fs_record.proofs.ValueChanges.{change_node}
 use Rattle.fs_txn.specs.Decided.{AreApart, AreDecided, IsApart, IsDecided, held_with}

@@ -2,17 +2,11 @@
 use Rattle.std.proofs.Common.{◌≡◌, ℕ, true}
 use Rattle.std.specs.Prelude.{None, is_some}
 use Rattle.fs_ident.proofs.Passing.{found}
-use Rattle.fs_msg.specs.declared.client_msg.ClientMsg.TheVariants.{Lead}
 use Rattle.fs_msg.specs.declared.peer_msg.PeerMsg.{PeerMsg}
-use Rattle.fs_server.specs.declared.event.ServerEvent.{ServerEvent}
-use Rattle.fs_server.specs.declared.event.ServerEvent.TheVariants.{FromClient, FromPeer}
+use Rattle.fs_server.specs.declared.event.ServerEvent.TheVariants.{FromPeer}
 use Rattle.fs_serial.specs.Cluster.{Cluster, IsThere, is_between, parcel_in}
 use Rattle.fs_serial.specs.Places.{PlacesHold}
-
--- what comes is no question to lead an operation
-abbrev pub IsOther : ServerEvent → Type 0
-IsOther (FromClient by (Lead m)) = ⊥
-IsOther e = Unit {0}
+pub use Rattle.fs_serial.specs.World.{IsOther}
 
 -- each message between servers hands something over
 pub none_flies : (k from : ℕ) (c : Cluster) (m : PeerMsg) → PlacesHold c → IsThere k (FromPeer from m) c → parcel_in m ≡ None → ⊥

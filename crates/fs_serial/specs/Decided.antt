@@ -1,5 +1,5 @@
 -- What holds of effects that are decided, while they are on their way to the servers of their files.
-use Rattle.std.specs.Prelude.{◌≡◌, ◌==◌, ℕ, Bool, true, false, List, [], ◌∷◌, ◌++◌, map}
+use Rattle.std.specs.Prelude.{◌≡◌, ◌==◌, ℕ, Bool, true, false, List, [], ◌∷◌, ◌++◌, map, Some}
 use Rattle.fs_ident.specs.In.{In}
 use Rattle.fs_ident.specs.declared.actor.Session.{Session}
 use Rattle.fs_field.specs.declared.effect.Effect.{Effect}
@@ -7,6 +7,7 @@ use Rattle.fs_field.specs.declared.effect.Effect.TheVariants.{RemoveNode}
 use Rattle.fs_field.specs.declared.row.Row.{Row}
 use Rattle.fs_model.specs.Namespace.{NodeMap}
 use Rattle.fs_msg.specs.declared.answer.Answer.TheVariants.{Led}
+use Rattle.fs_msg.specs.declared.client_msg.ClientMsg.TheVariants as message
 use Rattle.fs_msg.specs.declared.item.Item.{Item}
 use Rattle.fs_msg.specs.declared.lead.Lead.{Lead}
 use Rattle.fs_record.specs.Applied.{records_after_all}
@@ -15,15 +16,18 @@ use Rattle.fs_record.specs.LedEffects.{led_effects}
 use Rattle.fs_record.specs.Records.{AreRecords, RecordMap, nodes_of}
 use Rattle.fs_record.specs.declared.led_end.LedEnd.TheVariants as end
 use Rattle.fs_server.specs.Leads.{led_item, reply_of}
+use Rattle.fs_server.specs.declared.event.ServerEvent.{ServerEvent}
 use Rattle.fs_server.specs.declared.state.Server.{Server}
+use Rattle.fs_client.specs.declared.led.Led.{Led as TheLed}
 use Rattle.fs_txn.specs.Decided.{AreApart, AreDecided, IsApart, IsDecided, going, staying}
 use Rattle.fs_txn.specs.Grants.{Decided, IsBare, effects_in}
 use Rattle.fs_txn.specs.Guards.{IsGuarded}
+use Rattle.fs_serial.specs.Commits.{IsCommitted}
 use Rattle.fs_serial.specs.Exchange.{due, is_recall}
 use Rattle.fs_serial.specs.Fresh.{IsMade}
 use Rattle.fs_serial.specs.Sight.{seen}
 use Rattle.fs_serial.specs.Parts.{with_replies}
-use Rattle.fs_serial.specs.World.{ClientEvent, World, WorldHolds, with_answer, without_question}
+use Rattle.fs_serial.specs.World.{CanCome, ClientEvent, IsOther, IsThere, World, WorldHolds, after_begun, after_client, settled_at, sight_in, with_answer, without_question}
 use Rattle.fs_serial.specs.World.ClientEvent.{Hears}
 
 -- a file that goes was made, and is no directory
@@ -39,7 +43,7 @@ pub record DecidedStands (rows : List Row) (m : RecordMap) (held : NodeMap) (jou
   pub guarded : IsGuarded rows held d.by d.effect
   -- a file that goes has nothing in it, and nobody has it open
   pub bare : IsBare m d.effect
-  -- and no identifier was given below it
+  -- and it was made, and is no directory
   pub file : IsOfFile m journal d.effect
 
 -- all of them, at a server that has all rows and records
@@ -53,6 +57,10 @@ pub record DecidedFits (w : World) : Type 0 where
   pub all : AllDecidedStand w.decided w.server w.journal
   -- the session of each is owed an answer, so it asks for nothing
   pub owed : (d : Decided) → In d w.decided → due (w.ends d.by).down ≡ [] → ⊥
+
+-- one of them, in a world
+abbrev pub StandsIn : World → Decided → Type 0
+StandsIn w d = DecidedStands w.server.rows w.server.records (nodes_of (seen w.decided w.server).records) w.journal d
 
 -- ## A commit that applies some of its effects, and sends the others
 
@@ -106,3 +114,26 @@ IsBehind w by e = Unit {0}
 -- all that holds between events, with what is decided
 abbrev pub WorldStands : ℕ → World → Type 0
 WorldStands greatest w = WorldHolds greatest w × DecidedFits w
+
+-- ## Laws
+
+-- a server's event, but a question to lead, keeps all of it
+abbrev pub EventGoesPast : Type 0
+EventGoesPast = (greatest : ℕ) (w : World) (e : ServerEvent) → DecidedFits w → IsThere e w.ends → IsOther e → WorldHolds greatest w → WorldStands greatest (after_begun e w)
+
+-- a client's event keeps what is decided
+abbrev pub ClientGoesPast : Type 0
+ClientGoesPast = (now : ℕ) (w : World) (by : Session) (e : ClientEvent) → CanCome by e w.ends → IsBehind w by e → DecidedFits w → DecidedFits (after_client by now e w)
+
+-- a delete or a rename that is led commits where its rows stand, whichever of its effects are applied and whichever are sent
+abbrev pub CommitGoesPast : Type 0
+CommitGoesPast =
+    (greatest : ℕ) (w : World) (by : Session) (m : Lead) (l : TheLed) (sends : Effect → Bool) (txns : ℕ)
+    → (w.ends by).up ≡ message.Lead m ∷ [] → (w.ends by).client.led ≡ Some l → IsCommitted (sight_in w) by (settled_at by (w.ends by)) l.entry l.file
+    → IsSplit sends (led_effects m.op m.file (reply_of m.op)) → WorldStands greatest w → WorldHolds greatest (after_commit sends txns by m w)
+
+-- a part that applies what was decided for it leaves what all hold together as it was
+abbrev pub DecideKeepsAll : Type 0
+DecideKeepsAll =
+    (greatest : ℕ) (w : World) (front its back : List Decided) → w.decided ≡ front ++ (its ++ back) → IsOwnApart (front ++ back) its → WorldStands greatest w
+    → ((sight_in (after_decide front its back w)).records ≡ (sight_in w).records) × WorldStands greatest (after_decide front its back w)

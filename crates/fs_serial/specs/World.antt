@@ -9,6 +9,7 @@ use Rattle.fs_model.specs.declared.op.Op.{Op}
 use Rattle.fs_model.specs.Asking.{may_ask}
 use Rattle.fs_msg.specs.declared.answer.Answer.{Answer}
 use Rattle.fs_msg.specs.declared.client_msg.ClientMsg.{ClientMsg}
+use Rattle.fs_msg.specs.declared.client_msg.ClientMsg.TheVariants.{Lead}
 use Rattle.fs_msg.specs.declared.item.Item.{Item}
 use Rattle.fs_msg.specs.declared.msg.Msg.{Msg}
 use Rattle.fs_msg.specs.declared.msg.Msg.TheVariants as msg
@@ -16,6 +17,7 @@ use Rattle.fs_server.specs.declared.event.ServerEvent.{ServerEvent}
 use Rattle.fs_server.specs.declared.event.ServerEvent.TheVariants.{FromClient, FromPeer, Move}
 use Rattle.fs_server.specs.declared.state.Server.{Server}
 use Rattle.fs_server.specs.Ships.{item_of}
+use Rattle.fs_server.specs.Step.{event_step}
 use Rattle.fs_txn.specs.Grants.{Decided}
 use Rattle.fs_client.specs.Acts.{act_plan}
 use Rattle.fs_client.specs.Answers.{answer_plan}
@@ -114,6 +116,22 @@ IsThere (FromClient by m) ends = In m (ends by).up
 IsThere (FromPeer from m) ends = ⊥
 IsThere (Move prefix to) ends = ⊥
 IsThere e ends = Unit {0}
+
+-- it is no question to lead an operation
+abbrev pub IsOther : ServerEvent → Type 0
+IsOther (FromClient by (Lead m)) = ⊥
+IsOther e = Unit {0}
+
+-- the world after an event, once the clock was set
+abbrev pub after_begun : ServerEvent → World → World
+after_begun e w = record {
+  server = (event_step e w.server).server;
+  counts = w.counts;
+  decided = w.decided;
+  journal = w.journal ++ (event_step e w.server).out.admitted;
+  replied = w.replied;
+  ends = with_sent (event_step e w.server).out.send (without_taken e w.ends);
+}
 
 -- ## A client's events
 

@@ -2,12 +2,14 @@
 #![tactic(auto)]
 
 mod commit;
+mod decided;
 mod flying;
 mod law;
 mod locks;
 mod space;
 
 pub use commit::a_commit_keeps_the_parts;
+pub use decided::what_is_decided_goes_past_all_events;
 pub use flying::Flying;
 pub use law::{
     a_gift_keeps_the_parts, a_move_leaves_all_as_it_was, a_parcel_that_comes_leaves_all_as_it_was,
