@@ -1,0 +1,5 @@
+mod Steps
+mod Placing
+mod Going
+mod Meeting
+mod Walking

@@ -1,0 +1,5 @@
+use Rattle.fs_path.proofs.Going.{freezes, thaws}
+use Rattle.fs_path.proofs.law.a_file_is_frozen_until_all_are_over.Goals as goal
+
+pub returns : goal.returns
+returns c = record { frozen = freezes; own = thaws }

@@ -1,0 +1,5 @@
+use Rattle.fs_path.proofs.Going.{goes, stays}
+use Rattle.fs_path.proofs.law.what_goes_back_is_on_no_path.Goals as goal
+
+pub returns : goal.returns
+returns c = record { goes = goes; stays = stays }

@@ -1,0 +1,12 @@
+use Rattle.std.proofs.Common.{ap, sym, ◌∙◌}
+use Rattle.fs_path.specs.Returns.{held_from, is_of}
+use Rattle.fs_path.specs.Tables.{PathTables, lease_of}
+use Rattle.fs_path.specs.declared.having.Having.{Having}
+use Rattle.fs_path.proofs.Placing.{none_of}
+use Rattle.fs_path.proofs.paths.Paths.recalled.Goals as goal
+
+pub returns-in_default-clause-state : goal.returns-in_default-clause-state
+returns-in_default-clause-state c =
+    let none = sym (ap (λ (t : PathTables). held_from c.args.no t.held) c.self.view_is) ∙ sym (ap (held_from c.args.no) c.as_slice.ensures) ∙ sym c.held_from.ensures ∙ c.in_default.is in
+    let t : PathTables = c.args.self.now in
+    sym (ap (λ hs. let u : PathTables = record t { held = hs } in u) (none_of (λ (h : Having). (lease_of h).peer) (is_of c.args.no) t.issued t.held none))

@@ -1,0 +1,8 @@
+pub mod Leases
+pub mod Tables
+pub mod Returns
+pub mod Walk
+pub mod Numbers
+pub mod Laws
+-- cited by private calls alone
+pub mod Asked

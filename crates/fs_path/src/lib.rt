@@ -1,0 +1,34 @@
+//! Path leases: a server that has a file's directory hands the path from the root to the file down to the server that has the file,
+//! and asks it back before a file on it moves.
+#![tactic(auto)]
+
+mod asked;
+mod entering;
+mod files;
+mod giving;
+mod having;
+mod held;
+mod issued;
+mod law;
+mod leaving;
+mod number;
+mod paths;
+mod reads;
+mod recalled;
+mod rise;
+mod used;
+mod walk;
+
+pub use having::Having;
+pub use held::Held;
+pub use issued::Issued;
+pub use law::{
+    a_file_is_frozen_until_all_are_over, a_leaving_lease_is_used_for_nothing,
+    a_path_that_is_taken_begins_at_the_top, each_number_is_given_once,
+    what_goes_back_is_on_no_path, what_stands_in_the_way_is_told,
+};
+pub use leaving::Leaving;
+pub use number::next_path;
+pub use paths::Paths;
+pub use recalled::{GiveBack, Recalled};
+pub use used::Used;

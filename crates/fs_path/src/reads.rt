@@ -1,0 +1,123 @@
+//! What is read of the tables.
+ghost use Rattle.std.specs.Prelude.{◌≡◌, option_map};
+ghost use Rattle.std.specs.List.{find};
+ghost use Rattle.std.specs.Option.{option_copied};
+ghost use Rattle.fs_path.specs.Leases.{PathLease, goes_into, goes_over, has_no, lesser_no};
+ghost use Rattle.fs_path.specs.Returns.{held_from};
+ghost use Rattle.fs_path.specs.Tables.{frozen_for, holds, issued_to, lease_of, through};
+ghost use Rattle.fs_path.specs.Walk.{used_for};
+
+use crate::having::Having;
+use crate::issued::Issued;
+use crate::used::Used;
+use fs_ident::{FileId, PathNo, TxnNo};
+use fs_map::FileMap;
+
+/// The server to which the lease of the number is given out.
+#[tactic(auto, using(crate::proofs::Steps::find_step))]
+pub(crate) fn issued_to(issued: &[Issued], no: PathNo) -> Option<u8>
+    ensures { result ≡ issued_to no issued.now }
+{
+    for l in issued {
+        if l.no() == no {
+            return Some(l.to());
+        }
+    }
+    None
+}
+
+/// Whether the lease of the number is had.
+#[tactic(auto, using(crate::proofs::Steps::any_step))]
+pub(crate) fn holds(held: &[Having], no: PathNo) -> bool
+    ensures { result ≡ holds no held.now }
+{
+    for h in held {
+        if h.no() == no {
+            return true;
+        }
+    }
+    false
+}
+
+/// The server from which the lease of the number is had.
+#[tactic(auto, using(crate::proofs::Steps::find_step))]
+pub(crate) fn held_from(held: &[Having], no: PathNo) -> Option<u8>
+    ensures { result ≡ held_from no held.now }
+{
+    for h in held {
+        if h.no() == no {
+            return Some(h.told().0);
+        }
+    }
+    None
+}
+
+/// The first one given out whose path goes over the file.
+#[tactic(auto, using(crate::proofs::Steps::find_step))]
+pub(crate) fn through(issued: &[Issued], file: &FileId) -> Option<PathNo>
+    ensures { result ≡ through file.now issued.now }
+{
+    for l in issued {
+        if l.goes_over(file) {
+            return Some(l.no());
+        }
+    }
+    None
+}
+
+/// The first one given out whose path goes over a file below the prefix that is `me`'s.
+#[tactic(auto, using(crate::proofs::Steps::find_step))]
+pub(crate) fn first_issued(
+    issued: &[Issued],
+    map: &FileMap,
+    me: u8,
+    prefix: &FileId,
+) -> Option<PathNo>
+    ensures { result ≡ option_map (λ (l : PathLease). l.no)
+        (find (goes_into map.now me prefix.now) issued.now) }
+{
+    for l in issued {
+        if l.goes_into(map, me, prefix) {
+            return Some(l.no());
+        }
+    }
+    None
+}
+
+/// The first one from another server whose path does.
+#[tactic(auto, using(crate::proofs::Steps::find_step))]
+pub(crate) fn first_held(held: &[Having], map: &FileMap, me: u8, prefix: &FileId) -> Option<PathNo>
+    ensures { result ≡ option_map (λ h. (lease_of h).no)
+        (find (λ h. goes_into map.now me prefix.now (lease_of h)) held.now) }
+{
+    for h in held {
+        if h.goes_into(map, me, prefix) {
+            return Some(h.no());
+        }
+    }
+    None
+}
+
+/// The lesser of two numbers, of which either may be wanting.
+pub(crate) fn lesser(first: Option<PathNo>, second: Option<PathNo>) -> Option<PathNo>
+    ensures { result ≡ lesser_no first second }
+{
+    match (first, second) {
+        (None, _) => second,
+        (Some(_), None) => first,
+        (Some(a), Some(b)) => { if b < a { second } else { first } }
+    }
+}
+
+/// The first transaction that keeps the file.
+#[tactic(auto, using(crate::proofs::Steps::find_step))]
+pub(crate) fn frozen_for(frozen: &[(FileId, TxnNo)], file: &FileId) -> Option<TxnNo>
+    ensures { result ≡ frozen_for file.now frozen.now }
+{
+    for kept in frozen {
+        if &kept.0 == file {
+            return Some(kept.1);
+        }
+    }
+    None
+}

@@ -1,0 +1,91 @@
+//! The path of a file, as its server knows it.
+ghost use Rattle.std.specs.Prelude.{◌≡◌, ◌++◌, [], IfOk, option_map};
+ghost use Rattle.fs_path.specs.Walk.{at_top, path_of, used_for};
+ghost use Rattle.fs_path.specs.declared.having.Having.TheVariants.{Held};
+ghost use Rattle.fs_path.specs.declared.used.Used.{Used as TheUsed};
+
+use crate::having::Having;
+use crate::reads::frozen_for;
+use crate::rise::{Rise, rise_at};
+use crate::used::Used;
+use fs_field::PathAnswer;
+use fs_ident::{FileId, List, Memory, Twin, TxnNo, add_copy};
+use fs_record::Records;
+use std::alloc::Global;
+
+/// The path of the file: upwards by parents, and from the topmost file here on by a lease that may be used.
+pub(crate) fn path_of(
+    alloc: Global,
+    held: &[Having],
+    frozen: &[(FileId, TxnNo)],
+    records: &Records,
+    file: &FileId,
+) -> Result<PathAnswer, Memory>
+    ensures { IfOk result (λ a. a ≡ path_of (record { issued = []; held = held.now; frozen = frozen.now })
+        records.now file.now) }
+{
+    let mut below = List::new(alloc);
+    let mut at = file.copy(alloc)?;
+    loop {
+        match rise_at(
+            alloc,
+            records,
+            &at,
+            below.as_slice(),
+            frozen_for(frozen, &at),
+        )? {
+            Rise::Frozen(txn) => return Ok(PathAnswer::Frozen { file: at, txn }),
+            Rise::Ends => {
+                below.insert(0, at)?;
+                return Ok(PathAnswer::Path(below));
+            }
+            Rise::Topmost(parent) => return at_top(alloc, held, at, parent, below.as_slice()),
+            Rise::On(parent) => {
+                below.insert(0, at)?;
+                at = parent;
+            }
+        }
+    }
+}
+
+/// The path from the topmost file here on.
+fn at_top(
+    alloc: Global,
+    held: &[Having],
+    file: FileId,
+    parent: FileId,
+    below: &[FileId],
+) -> Result<PathAnswer, Memory>
+    ensures { IfOk result (λ a. a ≡ at_top (used_for file held.now) file parent below.now) }
+{
+    match used_for(held, &file) {
+        Some(used) => Ok(PathAnswer::Path(joined(alloc, used.path(), below)?)),
+        None => Ok(PathAnswer::Wanted { file, parent }),
+    }
+}
+
+/// The first lease for the file that does not leave: it is used now.
+#[tactic(auto, using(crate::proofs::Steps::find_step))]
+fn used_for<'a>(held: &'a [Having], file: &FileId) -> Option<Used<'a>>
+    ensures { option_map (λ (u : TheUsed). Held u.lease.now) result ≡ used_for file.now held.now }
+{
+    for h in held {
+        if let Having::Held(lease) = h {
+            if lease.file() == file {
+                return Some(lease.used());
+            }
+        }
+    }
+    None
+}
+
+/// Copies of the files of both.
+fn joined(alloc: Global, front: &List<FileId>, back: &[FileId]) -> Result<List<FileId>, Memory>
+    ensures { IfOk result (λ files. files ≡ front.now ++ back.now) }
+{
+    let mut files = front.copy(alloc)?;
+    for file in back {
+        add_copy(alloc, &mut files, file)?;
+    }
+    Ok(files)
+}
