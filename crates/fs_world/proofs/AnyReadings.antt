@@ -9,8 +9,8 @@ use Rattle.fs_schedule.specs.declared.event.Schedule.{Schedule}
 use Rattle.fs_schedule.specs.Spelling.{FitsHead}
 use Rattle.fs_serial.specs.Cluster.{Cluster}
 use Rattle.fs_serial.specs.Runs.{IsOrderly}
-use Rattle.fs_serial.proofs.AnyReadings.{HoldsAnyhow, anyhow_later, anyhow_orderly, client_anyhow, first_anyhow, server_anyhow, told_as}
-use Rattle.fs_serial.proofs.ClusterClients.{places_later}
+use Rattle.fs_serial.proofs.WholeRuns.AnyReadings.{HoldsAnyhow, anyhow_later, anyhow_orderly, client_anyhow, first_anyhow, server_anyhow, told_as}
+use Rattle.fs_serial.proofs.WholeRuns.ClusterClients.{places_later}
 use Rattle.fs_world.specs.Carried.{AllCarry}
 use Rattle.fs_world.specs.Order.{Tale, after, first_tale}
 use Rattle.fs_world.specs.Parts.{IsOrderlyWorld, seen}

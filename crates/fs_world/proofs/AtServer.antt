@@ -27,7 +27,7 @@ use Rattle.fs_world.specs.Served.{Seats, ServerStepped, Stepped, at_server, core
 use Rattle.fs_world.specs.declared.served.Served.{Served}
 use Rattle.fs_world.proofs.AtSeat.{has_room, linked_after}
 use Rattle.fs_world.proofs.Linked.{server_linked, told_server_linked}
-use Rattle.fs_serial.proofs.Parcels.{parcel_flies}
+use Rattle.fs_serial.proofs.Moves.Parcels.{parcel_flies}
 use Rattle.fs_world.specs.Linked.{IsParcelOf}
 use Rattle.fs_msg.specs.declared.peer_msg.PeerMsg.{PeerMsg}
 use Rattle.fs_msg.specs.declared.peer_msg.PeerMsg.TheVariants.{Parcel as OfParcel, Prepare, Vote, Decide, Done}

@@ -20,7 +20,7 @@ use Rattle.fs_client.specs.declared.state.Client.{Client}
 use Rattle.fs_msg.specs.declared.entry.Entry.{Entry}
 use Rattle.fs_serial.specs.Cluster.{Lines, is_with, with_answer, with_sent, without_first, without_question}
 use Rattle.fs_serial.specs.Exchange.{due}
-use Rattle.fs_serial.proofs.Traffic.{messages}
+use Rattle.fs_serial.proofs.Lists.Traffic.{messages}
 use Rattle.fs_server.specs.declared.event.ServerEvent.{ServerEvent}
 use Rattle.fs_server.specs.declared.event.ServerEvent.TheVariants.{FromClient, FromPeer, Turn, Recall as TheRecall, Move}
 use Rattle.fs_world.specs.Coming.{item_with, items_with}

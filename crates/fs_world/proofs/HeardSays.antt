@@ -21,7 +21,7 @@ use Rattle.fs_client.specs.declared.led.Led.{Led as TheLed}
 use Rattle.fs_client.specs.declared.state.Client.{Client as ClientState}
 use Rattle.fs_client.proofs.Refused.{answers_tell}
 use Rattle.fs_serial.specs.Cluster.{is_with}
-use Rattle.fs_serial.proofs.SetAt.{In_without}
+use Rattle.fs_serial.proofs.Lists.SetAt.{In_without}
 use Rattle.fs_world.specs.Over.{AllCaused, Said, all_said, said_in}
 use Rattle.fs_world.specs.Served.{Seats}
 use Rattle.fs_world.specs.declared.seat.Seat.{Seat}

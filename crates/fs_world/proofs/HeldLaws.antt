@@ -1,10 +1,10 @@
 -- That the laws of servers and their clients hold.
-use Rattle.fs_serial.proofs.ClusterClients.{answer_fits, client_event}
-use Rattle.fs_serial.proofs.ClusterRuns.{cluster_later}
-use Rattle.fs_serial.proofs.ClusterSteps.{server_keeps}
-use Rattle.fs_serial.proofs.Fair.{fair}
-use Rattle.fs_serial.proofs.FirstCluster.{first_all}
-use Rattle.fs_serial.proofs.Strange.{none_strange}
+use Rattle.fs_serial.proofs.WholeRuns.ClusterClients.{answer_fits, client_event}
+use Rattle.fs_serial.proofs.WholeRuns.ClusterRuns.{cluster_later}
+use Rattle.fs_serial.proofs.WholeRuns.ClusterSteps.{server_keeps}
+use Rattle.fs_serial.proofs.Admission.Fair.{fair}
+use Rattle.fs_serial.proofs.WholeRuns.FirstCluster.{first_all}
+use Rattle.fs_serial.proofs.WholeRuns.Strange.{none_strange}
 use Rattle.fs_world.proofs.SerialLaws.{SerialLaws}
 
 pub serial_laws : SerialLaws

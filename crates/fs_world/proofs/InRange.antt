@@ -16,7 +16,7 @@ use Rattle.fs_msg.specs.declared.msg.Msg.TheVariants as msg
 use Rattle.fs_msg.specs.declared.peer_msg.PeerMsg.{PeerMsg}
 use Rattle.fs_serial.specs.Cluster.{flying_from, is_between, is_with}
 use Rattle.fs_serial.specs.declared.flying.Flying.{Flying}
-use Rattle.fs_serial.proofs.RowKinds.{In-kept}
+use Rattle.fs_serial.proofs.Grants.RowKinds.{In-kept}
 use Rattle.fs_window.specs.Peers.{same_peer}
 use Rattle.fs_window.proofs.Lists.{some_is}
 use Rattle.fs_world.specs.Linked.{FitsDown, FitsUp, HasJoined, IsLinked, IsWritten, downs_of, flying_between, seat_post, ups_of}

@@ -44,7 +44,7 @@ use Rattle.fs_server.specs.Step.{spent_by, step}
 use Rattle.fs_server.specs.declared.event.ServerEvent.{ServerEvent}
 use Rattle.fs_server.specs.declared.event.ServerEvent.TheVariants.{FromClient, FromPeer, Move, Recall, Turn}
 use Rattle.fs_server.specs.declared.state.Server.{Server as Core}
-use Rattle.fs_serial.proofs.SetAt.{In_without, set_same}
+use Rattle.fs_serial.proofs.Lists.SetAt.{In_without, set_same}
 use Rattle.fs_world.specs.Linked.{AreTied, FitsDown, HasJoined, IsCarried, AreFirstOf, IsLinked, IsNamedAnswer, IsSeated, IsServed, between, flying_between, seat_post, ups_of}
 use Rattle.fs_world.specs.Planned.{IsAnswered, IsOwn, WasSent}
 use Rattle.fs_world.specs.Calls.{server_goes, server_hears}

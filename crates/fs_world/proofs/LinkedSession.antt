@@ -31,7 +31,7 @@ use Rattle.fs_client.specs.declared.plan.Plan.{Plan}
 use Rattle.fs_client.specs.declared.state.Client.{Client as ClientCore}
 use Rattle.fs_serial.specs.Cluster.{is_with, without_first}
 use Rattle.fs_serial.specs.World.{is_called}
-use Rattle.fs_serial.proofs.SetAt.{In_without}
+use Rattle.fs_serial.proofs.Lists.SetAt.{In_without}
 use Rattle.fs_world.specs.Linked.{AreTied, FitsUp, GoesBetween, AreFirstOf, IsLinked, IsNamedAnswer, IsSeated, IsSentOver, IsThere, downs_of, post_of, seat_post}
 use Rattle.fs_world.specs.Packets.{Packets, with_sent}
 use Rattle.fs_world.specs.Planned.{WasSent}

@@ -54,7 +54,7 @@ use Rattle.fs_server.specs.declared.event.ServerEvent.TheVariants.{FromClient, F
 use Rattle.fs_server.specs.declared.state.Server.{Server}
 use Rattle.std.specs.Prelude.{IfSome}
 use Rattle.fs_serial.specs.Cluster.{parcel_in}
-use Rattle.fs_serial.proofs.Parcels.{if_some}
+use Rattle.fs_serial.proofs.Moves.Parcels.{if_some}
 
 -- each row is of one of these sessions
 abbrev pub AreOf : (Session → Type 0) → List Row → Type 0

@@ -28,7 +28,7 @@ use Rattle.fs_server.specs.declared.state.Server.{Server as Core}
 use Rattle.fs_actor.specs.Hearing.{event_heard, heard_in}
 use Rattle.fs_serial.specs.Cluster.{IsThere, is_between, is_with, without_question}
 use Rattle.fs_serial.specs.declared.flying.Flying.{Flying}
-use Rattle.fs_serial.proofs.SetAt.{set_same}
+use Rattle.fs_serial.proofs.Lists.SetAt.{set_same}
 use Rattle.fs_world.specs.Calls.{server_hears}
 use Rattle.fs_world.specs.Carried.{Carries, GivesFirst, AreFirstOf, between, joined_at, flying_between, post_of, ups_of}
 use Rattle.fs_world.specs.Order.{Tale, after}

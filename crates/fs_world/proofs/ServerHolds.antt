@@ -25,7 +25,7 @@ use Rattle.fs_serial.specs.Cluster.{Cluster, IsThere, Lines, after_server, after
 use Rattle.fs_serial.specs.Exchange.{IsToBeLed}
 use Rattle.fs_serial.specs.Seen.{ends_of}
 use Rattle.fs_serial.specs.declared.flying.Flying.{Flying}
-use Rattle.fs_serial.proofs.SetAt.{In_set, In_without}
+use Rattle.fs_serial.proofs.Lists.SetAt.{In_set, In_without}
 use Rattle.fs_world.specs.Linked.{HasJoined}
 use Rattle.fs_world.specs.Order.{Tale, told_to}
 use Rattle.fs_world.specs.Parts.{lines_in, lines_of}

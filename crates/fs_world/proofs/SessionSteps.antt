@@ -26,8 +26,8 @@ use Rattle.fs_client.specs.declared.state.Client.{Client as ClientCore}
 use Rattle.fs_serial.specs.Cluster.{Cluster, Lines, after_plan, is_with, without_first}
 use Rattle.fs_serial.specs.Cluster.ClientEvent.{Does, Hears, Turns}
 use Rattle.fs_serial.specs.World.{is_called, pushed}
-use Rattle.fs_serial.proofs.Seats.{idle_due}
-use Rattle.fs_serial.proofs.Traffic.{messages}
+use Rattle.fs_serial.proofs.ClientMessages.Seats.{idle_due}
+use Rattle.fs_serial.proofs.Lists.Traffic.{messages}
 use Rattle.fs_world.specs.Carried.{AreFirstOf, downs_of, joined_at, seat_post}
 use Rattle.fs_world.specs.Order.{Leads, Tale, Told, ended_in, leads_in, replies_in, reply_told, told_at as told_in, told_to, told_with}
 use Rattle.fs_world.specs.Parts.{lines_in, lines_of}

@@ -66,11 +66,11 @@ use Rattle.fs_server.specs.declared.state.Server.{Server as ServerState}
 use Rattle.fs_serial.specs.Cluster.{Lines, is_with, replies_after, with_lines, without_first}
 use Rattle.fs_serial.specs.Exchange.{IsToBeLed, OneExchange, asked_server, due, is_recall, server_of_question}
 use Rattle.fs_serial.specs.World.{pushed, told_by, with_told}
-use Rattle.fs_serial.proofs.Answering.{AnswerEnds, answer_ends, as_entry, as_led, as_move, as_read, not_told, put_off}
-use Rattle.fs_serial.proofs.ClientEvents.{led_end_fits}
-use Rattle.fs_serial.proofs.RowKinds.{In-kept}
-use Rattle.fs_serial.proofs.Sending.{IsRecallTo, recall_all, recall_each, recall_with}
-use Rattle.fs_serial.proofs.Traffic.{messages}
+use Rattle.fs_serial.proofs.Replies.Answering.{AnswerEnds, answer_ends, as_entry, as_led, as_move, as_read, not_told, put_off}
+use Rattle.fs_serial.proofs.OneServer.ClientEvents.{led_end_fits}
+use Rattle.fs_serial.proofs.Grants.RowKinds.{In-kept}
+use Rattle.fs_serial.proofs.ClientMessages.Sending.{IsRecallTo, recall_all, recall_each, recall_with}
+use Rattle.fs_serial.proofs.Lists.Traffic.{messages}
 use Rattle.fs_world.specs.Coming.{IsTold, item_with, items_with, led_item}
 use Rattle.fs_world.specs.Order.{Agrees, AreAsTold, HasNumberOf, IsAdmitted, Leads, SameButId, Tale, Told, ended_in, leads_in, replies_in, reply_told, told_to, told_with, with_lead}
 use Rattle.fs_world.proofs.Coming.{answers_to, heard_comes, led_after, more_come, none_comes, one_comes, quiet_comes, with_more}

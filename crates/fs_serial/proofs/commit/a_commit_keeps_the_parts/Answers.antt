@@ -1,4 +1,4 @@
-use Rattle.fs_serial.proofs.Committed.{commit_is_relied, commit_keeps_parts}
+use Rattle.fs_serial.proofs.LedOperations.Committed.{commit_is_relied, commit_keeps_parts}
 use Rattle.fs_serial.proofs.commit.a_commit_keeps_the_parts.Goals as goal
 
 pub returns-clause-parts : goal.returns-clause-parts

@@ -1,7 +1,7 @@
-use Rattle.fs_serial.proofs.Applying.{decide_all}
-use Rattle.fs_serial.proofs.DecidedKept.{client_fits}
-use Rattle.fs_serial.proofs.LedSteps.{commit_past_all}
-use Rattle.fs_serial.proofs.ServerEvents.{event_past}
+use Rattle.fs_serial.proofs.DecidedEffects.Applying.{decide_all}
+use Rattle.fs_serial.proofs.DecidedEffects.DecidedKept.{client_fits}
+use Rattle.fs_serial.proofs.LedOperations.LedSteps.{commit_past_all}
+use Rattle.fs_serial.proofs.OneServer.ServerEvents.{event_past}
 use Rattle.fs_serial.proofs.decided.what_is_decided_goes_past_all_events.Goals as goal
 
 pub returns-clause-event : goal.returns-clause-event

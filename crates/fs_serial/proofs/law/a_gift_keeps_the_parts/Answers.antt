@@ -1,4 +1,4 @@
-use Rattle.fs_serial.proofs.Gift.{gift_is_relied, gift_is_told, gift_keeps_parts, gift_returns_none}
+use Rattle.fs_serial.proofs.Grants.Gift.{gift_is_relied, gift_is_told, gift_keeps_parts, gift_returns_none}
 use Rattle.fs_serial.proofs.law.a_gift_keeps_the_parts.Goals as goal
 
 pub returns-clause-parts : goal.returns-clause-parts

@@ -1,4 +1,4 @@
-use Rattle.fs_serial.proofs.Leaving.{leaving_places, leaving_same}
+use Rattle.fs_serial.proofs.Moves.Leaving.{leaving_places, leaving_same}
 use Rattle.fs_serial.proofs.law.a_move_leaves_all_as_it_was.Goals as goal
 
 pub returns-clause-same : goal.returns-clause-same

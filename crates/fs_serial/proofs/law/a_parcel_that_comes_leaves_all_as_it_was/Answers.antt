@@ -1,4 +1,4 @@
-use Rattle.fs_serial.proofs.Arriving.{arriving_places, arriving_same, parcel_fits}
+use Rattle.fs_serial.proofs.Moves.Arriving.{arriving_places, arriving_same, parcel_fits}
 use Rattle.fs_serial.proofs.law.a_parcel_that_comes_leaves_all_as_it_was.Goals as goal
 
 pub returns-clause-fits : goal.returns-clause-fits

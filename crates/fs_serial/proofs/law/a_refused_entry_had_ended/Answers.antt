@@ -1,4 +1,4 @@
-use Rattle.fs_serial.proofs.Ended.{ended}
+use Rattle.fs_serial.proofs.Admission.Ended.{ended}
 use Rattle.fs_serial.proofs.law.a_refused_entry_had_ended.Goals as goal
 
 pub returns : goal.returns

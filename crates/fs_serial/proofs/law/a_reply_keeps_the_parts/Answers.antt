@@ -1,4 +1,4 @@
-use Rattle.fs_serial.proofs.ReplyAll.{replied_client, reply_kept}
+use Rattle.fs_serial.proofs.Replies.ReplyAll.{replied_client, reply_kept}
 use Rattle.fs_serial.proofs.law.a_reply_keeps_the_parts.Goals as goal
 
 pub returns-clause-parts : goal.returns-clause-parts

@@ -1,5 +1,5 @@
-use Rattle.fs_serial.proofs.ClusterClients.{answer_fits}
-use Rattle.fs_serial.proofs.Strange.{none_strange}
+use Rattle.fs_serial.proofs.WholeRuns.ClusterClients.{answer_fits}
+use Rattle.fs_serial.proofs.WholeRuns.Strange.{none_strange}
 use Rattle.fs_serial.proofs.law.nothing_that_comes_is_strange.Goals as goal
 
 pub returns-clause-server : goal.returns-clause-server

@@ -1,4 +1,4 @@
-use Rattle.fs_serial.proofs.Promises.{no_conflict}
+use Rattle.fs_serial.proofs.Grants.Promises.{no_conflict}
 use Rattle.fs_serial.proofs.law.rows_are_without_conflict.Goals as goal
 
 pub returns : goal.returns

@@ -1,4 +1,4 @@
-use Rattle.fs_serial.proofs.ClusterClients.{client_event}
+use Rattle.fs_serial.proofs.WholeRuns.ClusterClients.{client_event}
 use Rattle.fs_serial.proofs.law.the_clients_events_keep_all_parts.Goals as goal
 
 pub returns : goal.returns

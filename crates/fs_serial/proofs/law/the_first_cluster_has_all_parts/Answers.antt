@@ -1,4 +1,4 @@
-use Rattle.fs_serial.proofs.FirstCluster.{first_all}
+use Rattle.fs_serial.proofs.WholeRuns.FirstCluster.{first_all}
 use Rattle.fs_serial.proofs.law.the_first_cluster_has_all_parts.Goals as goal
 
 pub returns : goal.returns

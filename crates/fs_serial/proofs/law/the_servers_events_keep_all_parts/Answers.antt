@@ -1,5 +1,5 @@
-use Rattle.fs_serial.proofs.ClusterRuns.{cluster_later}
-use Rattle.fs_serial.proofs.ClusterSteps.{server_keeps}
+use Rattle.fs_serial.proofs.WholeRuns.ClusterRuns.{cluster_later}
+use Rattle.fs_serial.proofs.WholeRuns.ClusterSteps.{server_keeps}
 use Rattle.fs_serial.proofs.law.the_servers_events_keep_all_parts.Goals as goal
 
 pub returns-clause-event : goal.returns-clause-event

@@ -1,4 +1,4 @@
-use Rattle.fs_serial.proofs.Promises.{promise_true}
+use Rattle.fs_serial.proofs.Grants.Promises.{promise_true}
 use Rattle.fs_serial.proofs.law.what_was_promised_is_so.Goals as goal
 
 pub returns : goal.returns

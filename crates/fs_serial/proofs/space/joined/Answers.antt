@@ -5,7 +5,7 @@ use Rattle.fs_ident.specs.Ordered.{Keyed}
 use Rattle.fs_record.specs.declared.parcel.Parcel.{Parcel as TheParcel}
 use Rattle.fs_record.specs.declared.record.Record.{Record}
 use Rattle.fs_serial.specs.Joined.{with_all_of}
-use Rattle.fs_serial.proofs.Joining.{more_parcels, more_servers, none_joined, read_In}
+use Rattle.fs_serial.proofs.Places.Joining.{more_parcels, more_servers, none_joined, read_In}
 use Rattle.fs_serial.proofs.space.joined.Goals as goal
 
 pub loop-server-init : goal.loop-server-init

@@ -1,6 +1,6 @@
 use Rattle.std.proofs.Common.{sym, subst, arith}
 use Rattle.fs_model.specs.Namespace.{IsInOrder}
-use Rattle.fs_serial.proofs.Joining.{read_In}
+use Rattle.fs_serial.proofs.Places.Joining.{read_In}
 use Rattle.fs_serial.proofs.space.put_all.Goals as goal
 
 pub put-requires : goal.put-requires

@@ -1,0 +1,106 @@
+-- A server answers the session that asked, and sends recalls.
+use Rattle.std.proofs.Common.{◌≡◌, ℕ, Bool, true, false, List, [], ◌∷◌, length, cond, ap, ◌∙◌, inl, inr}
+use Rattle.std.specs.Prelude.{Option, Some, None}
+use Rattle.std.specs.List.{list_all}
+use Rattle.fs_ident.specs.In.{In}
+use Rattle.fs_ident.specs.declared.actor.Peer.{Peer}
+use Rattle.fs_ident.specs.declared.actor.Peer.TheVariants.{Client as OfSession, Server as OfServer}
+use Rattle.fs_ident.specs.declared.actor.Session.{Session}
+use Rattle.fs_field.specs.declared.used.Use.{Use}
+use Rattle.fs_msg.specs.declared.answer.Answer.{Answer}
+use Rattle.fs_msg.specs.declared.answer.Answer.TheVariants.{Granted, Shipped}
+use Rattle.fs_msg.specs.declared.client_msg.ClientMsg.{ClientMsg}
+use Rattle.fs_msg.specs.declared.client_msg.ClientMsg.TheVariants.{Ask, Renew, Release, Ship, Lead}
+use Rattle.fs_msg.specs.declared.entry.Entry.{Entry}
+use Rattle.fs_msg.specs.declared.msg.Msg.{Msg}
+use Rattle.fs_msg.specs.declared.lead.Lead.{Lead as ToLead}
+use Rattle.fs_msg.specs.declared.peer_msg.PeerMsg.{PeerMsg}
+use Rattle.fs_msg.specs.declared.peer_msg.PeerMsg.TheVariants as peer
+use Rattle.fs_parcel.specs.Parcel.{move_refusal}
+use Rattle.fs_parcel.specs.declared.error.MoveError.{MoveError}
+use Rattle.fs_record.specs.Effects.{tells_its_effects}
+use Rattle.fs_record.specs.declared.led_end.Why.{Why}
+use Rattle.fs_record.specs.declared.parcel.Parcel.{Parcel}
+use Rattle.fs_server.specs.Asks.{asked_in, recalls_at}
+use Rattle.fs_server.specs.Leads.{decided_by, is_led, lead_refusal, leads_unless, parts_in, uses_of}
+use Rattle.fs_server.specs.Moves.{fits_here, move_at, parcel_at, peer_step}
+use Rattle.fs_server.specs.Reaps.{lapsed_in, reap_from, recalls_for, turn_over}
+use Rattle.fs_server.specs.Server.{strange, to_session}
+use Rattle.fs_server.specs.Ships.{first_gone, ship_from, shipped}
+use Rattle.fs_server.specs.Step.{event_step, recalled_on, recalls_of}
+use Rattle.fs_server.specs.declared.event.ServerEvent.{ServerEvent}
+use Rattle.fs_server.specs.declared.event.ServerEvent.TheVariants as event
+use Rattle.fs_server.specs.declared.state.Server.{Server}
+use Rattle.fs_serial.proofs.WholeRuns.Addressing.{AreDue, recalls_due}
+use Rattle.fs_serial.proofs.ClientMessages.Sending.{IsRecallTo, recall_all, recall_each, recall_with}
+
+-- ## Answers
+
+module _ (k : ℕ) (asked : Session → Option ℕ) where
+  -- one answer to the session that asked, and recalls behind it
+  one_due : (by : Session) (a : Answer) (rest : List (Peer × Msg)) → asked by ≡ Some k → ((m : Peer × Msg) → In m rest → IsRecallTo m) → AreDue k (to_session by a ∷ rest) asked
+  one_due by a rest due are to b (inl e) d =
+      let same : OfSession to ≡ OfSession by = ap (λ (p : Peer × Msg). p.0) e in
+      let is : to ≡ by = cc in
+      ap asked is ∙ due
+  one_due by a rest due are to b (inr i) d = recalls_due k rest asked are to b i d
+
+  none_due : AreDue k [] asked
+  none_due to a i d = absurd i
+
+  ship_due : (by : Session) (entries : List Entry) (s : Server) (b : Bool) → asked by ≡ Some k → AreDue k (cond b (shipped by (ship_from by entries s [])) (strange s)).out.send asked
+  ship_due by entries s true due = let x = ship_from by entries s [] in one_due by (Shipped (length x.admitted) x.end) [] due (λ m i. absurd i)
+  ship_due by entries s false due = none_due
+
+  decided_due : (by : Session) (m : ToLead) (s : Server) (o : Option Use) → asked by ≡ Some k → AreDue k (decided_by o by m s).out.send asked
+  decided_due by m s None due = λ to b i d. one_due by _ [] due (λ m j. absurd j) to b i d
+  decided_due by m s (Some u) due = λ to b i d. one_due by _ [] due (λ m j. absurd j) to b i d
+
+  leads_due : (by : Session) (m : ToLead) (s : Server) (o : Option Why) → asked by ≡ Some k → AreDue k (leads_unless o by m s).out.send asked
+  leads_due by m s None due = decided_due by m s (first_gone s.rows by (uses_of (parts_in m))) due
+  leads_due by m s (Some w) due = λ to b i d. one_due by _ [] due (λ m j. absurd j) to b i d
+
+  lead_due : (by : Session) (m : ToLead) (s : Server) (b : Bool) → asked by ≡ Some k → AreDue k (cond b (leads_unless (lead_refusal s m) by m s) (strange s)).out.send asked
+  lead_due by m s true due = leads_due by m s (lead_refusal s m) due
+  lead_due by m s false due = none_due
+
+  message_due : (by : Session) (m : ClientMsg) (s : Server) → asked by ≡ Some k → AreDue k (event_step (event.FromClient by m) s).out.send asked
+  message_due by (Ask items dir) s due = let a = asked_in by items dir s in one_due by (Granted a.grants a.fresh a.end) (recalls_at a.end a.server.rows) due (recall_with a.end a.server.rows)
+  message_due by (Renew pairs) s due = λ to b i d. one_due by _ [] due (λ m j. absurd j) to b i d
+  message_due by (Release pairs) s due = λ to b i d. one_due by _ [] due (λ m j. absurd j) to b i d
+  message_due by (Ship entries) s due = ship_due by entries s (list_all (λ (e : Entry). tells_its_effects e.op) entries) due
+  message_due by (Lead m) s due = lead_due by m s (is_led m.op) due
+
+  turn_due : (xs : List (List ℕ × Session)) (s : Server) → AreDue k (turn_over xs s).out.send asked
+  turn_due [] s = none_due
+  turn_due (x ∷ xs) s = let r = reap_from (x ∷ xs) s [] [] in recalls_due k (recalls_for r.server.rows r.blockers) asked (recall_each r.server.rows r.blockers)
+
+  parcel_due : (b : Bool) (p : Parcel) (s : Server) → AreDue k (parcel_at b p s).out.send asked
+  parcel_due true p s = none_due
+  parcel_due false p s = none_due
+
+  peer_due : (m : PeerMsg) (s : Server) → AreDue k (peer_step m s).out.send asked
+  peer_due (peer.Parcel p) s = parcel_due (fits_here p s) p s
+  peer_due (peer.Prepare m) s = none_due
+  peer_due (peer.Vote m) s = none_due
+  peer_due (peer.Decide m) s = none_due
+  peer_due (peer.Done m) s = none_due
+
+  move_due : (o : Option MoveError) (prefix : List ℕ) (to : ℕ) (s : Server) → AreDue k (move_at o prefix to s).out.send asked
+  move_due None prefix to s = λ x a i d. elim i as (λ _. asked x ≡ Some k) [
+    | inl e ↦ let same : OfSession x ≡ OfServer to = ap (λ (p : Peer × Msg). p.0) e in absurd (cc)
+    | inr z ↦ absurd z
+  ]
+  move_due (Some why) prefix to s = none_due
+
+  -- the session that is told asked
+  abbrev pub HasAsked : ServerEvent → Type 0
+  HasAsked (event.FromClient by m) = asked by ≡ Some k
+  HasAsked e = Unit {0}
+
+  pub event_due : (e : ServerEvent) (s : Server) → HasAsked e → AreDue k (event_step e s).out.send asked
+  event_due (event.FromClient by m) s due = message_due by m s due
+  event_due (event.FromPeer from m) s due = peer_due m s
+  event_due event.Turn s due = turn_due (lapsed_in s) s
+  event_due (event.Recall field) s due = recalls_due k (recalls_of (recalled_on field s)) asked (recall_all (recalled_on field s))
+  event_due (event.Move prefix to) s due = move_due (move_refusal s.records s.rows s.map s.me prefix to None) prefix to s

@@ -1,0 +1,10 @@
+-- Effects that are decided are on their way to the servers of their files.
+pub mod Underway
+pub mod GuardRows
+pub mod GrantsPast
+pub mod StandPast
+pub mod AdmitPast
+pub mod CommitPast
+pub mod Owing
+pub mod Applying
+pub mod DecidedKept

@@ -1,0 +1,13 @@
+-- An operation that a server leads commits.
+pub mod MovedItems
+pub mod MoveScripts
+pub mod LeadSeat
+pub mod LedKept
+pub mod Committed
+pub mod Cycles
+pub mod Committing
+pub mod LedSteps
+pub mod LeadSame
+pub mod LeadEvents
+pub mod HearsLed
+pub mod Unled

@@ -1,0 +1,13 @@
+-- Which of several servers has what.
+pub mod OnePlaces
+pub mod HeldRows
+pub mod HeldRecords
+pub mod AtHome
+pub mod AllHere
+pub mod Rest
+pub mod RestOf
+pub mod PutRows
+pub mod PutRecords
+pub mod Joining
+pub mod Unseen
+pub mod Elsewhere

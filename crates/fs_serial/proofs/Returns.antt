@@ -1,0 +1,10 @@
+-- Leases are renewed, given back and lapse, and handles are reaped.
+pub mod PairLoops
+pub mod KeptPairs
+pub mod Releases
+pub mod LaterSteps
+pub mod LetGo
+pub mod Reaping
+pub mod ServerTurn
+pub mod Lapse
+pub mod Lapsing

@@ -1,0 +1,10 @@
+-- The cluster, and whole runs.
+pub mod Views
+pub mod Addressing
+pub mod Planned
+pub mod ClusterSteps
+pub mod ClusterClients
+pub mod FirstCluster
+pub mod ClusterRuns
+pub mod Strange
+pub mod AnyReadings
