@@ -53,7 +53,8 @@ impl BitWriter {
     /// Adds a whole byte before the bits that wait.
     fn put_byte(&mut self, byte: u8)
         requires { self.old.whole < 260 }
-        ensures bytes { take self.new.whole self.new.room ≡ take self.old.whole self.old.room ++ byte ∷ [] }
+        ensures bytes { take self.new.whole self.new.room ≡
+            take self.old.whole self.old.room ++ byte ∷ [] }
         ensures whole { self.new.whole ≡ self.old.whole + 1 }
         ensures pending { self.new.pending ≡ self.old.pending }
     {

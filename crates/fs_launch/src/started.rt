@@ -92,7 +92,8 @@ fn server_started<C: Clock, L: Link, K: Sink>(
     requires skew { settings.skew ≤ LONGEST }
     requires some { 1 ≤ settings.term }
     requires most { settings.term ≤ LONGEST }
-    ensures comes { ComesTo (server_role (first_server_node me settings.skew settings.term places script))
+    ensures comes { ComesTo
+        (server_role (first_server_node me settings.skew settings.term places script))
         settings.turns result (told (C.readings clock.old) (L.calls link.old) (K.written out.old))
         (told (C.readings clock.new) (L.calls link.new) (K.written out.new)) }
     ensures fault { IsErrOf result Stop.Write → Rose (K.faults out.old) (K.faults out.new) }

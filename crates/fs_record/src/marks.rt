@@ -128,7 +128,8 @@ fn opens(e: &Effect) -> bool
 
 /// Marks the file of the effect, where that opens it.
 fn note_opened(alloc: Global, marks: &mut BTreeMap<FileId, Mark>, e: &Effect) -> Result<(), Memory>
-    ensures between { AreBetween (map_of marks.old) (map_of marks.new) (changed_files (e.now ∷ [])) }
+    ensures between { AreBetween (map_of marks.old) (map_of marks.new)
+        (changed_files (e.now ∷ [])) }
     ensures marked { OnOk result (AreMarked (opened_by (e.now ∷ [])) (map_of marks.new)) }
 {
     if opens(e) {

@@ -56,7 +56,8 @@ pub(crate) fn put_op(alloc: Global, op: &Op, out: &mut Vec<u8>) -> Result<(), Me
 }
 
 fn put_lookup(alloc: Global, dir: &FileId, name: &Name, out: &mut Vec<u8>) -> Result<(), Memory>
-    ensures bytes { OnOk result (out.new.items ≡ out.old.items ++ op_text (Op.Lookup dir.now name.now)) }
+    ensures bytes { OnOk result (out.new.items ≡
+        out.old.items ++ op_text (Op.Lookup dir.now name.now)) }
     ensures text { IsUtf8 out.old.items → OnOk result (IsUtf8 out.new.items) }
 {
     put_text("lookup", out)?;
@@ -153,7 +154,8 @@ fn put_set(
 }
 
 fn put_delete(alloc: Global, dir: &FileId, name: &Name, out: &mut Vec<u8>) -> Result<(), Memory>
-    ensures bytes { OnOk result (out.new.items ≡ out.old.items ++ op_text (Op.Delete dir.now name.now)) }
+    ensures bytes { OnOk result (out.new.items ≡
+        out.old.items ++ op_text (Op.Delete dir.now name.now)) }
     ensures text { IsUtf8 out.old.items → OnOk result (IsUtf8 out.new.items) }
 {
     put_text("delete", out)?;
@@ -181,7 +183,8 @@ fn put_rename(
 }
 
 fn put_reap(alloc: Global, file: &FileId, session: Session, out: &mut Vec<u8>) -> Result<(), Memory>
-    ensures bytes { OnOk result (out.new.items ≡ out.old.items ++ op_text (Op.Reap file.now session)) }
+    ensures bytes { OnOk result (out.new.items ≡
+        out.old.items ++ op_text (Op.Reap file.now session)) }
     ensures text { IsUtf8 out.old.items → OnOk result (IsUtf8 out.new.items) }
 {
     put_text("reap", out)?;

@@ -62,7 +62,8 @@ pub(crate) fn put_reply(alloc: Global, reply: &Reply, out: &mut Vec<u8>) -> Resu
 
 /// The names of a directory.
 fn put_names(names: &[Name], out: &mut Vec<u8>) -> Result<(), Memory>
-    ensures bytes { OnOk result (out.new.items ≡ out.old.items ++ reply_text (Reply.Names names.now)) }
+    ensures bytes { OnOk result (out.new.items ≡
+        out.old.items ++ reply_text (Reply.Names names.now)) }
     ensures text { IsUtf8 out.old.items → OnOk result (IsUtf8 out.new.items) }
 {
     put_text("names", out)?;

@@ -37,11 +37,14 @@ pub trait Actor {
         reading: u64,
         came: Option<(Addr, &[u8])>,
     ) -> Result<Turn, CoreError>
-        ensures after { OnOk result (self.new ≡ (step self.old reading (datagram_of came.entry)).after) }
-        ensures due { IfOk result (λ t. t.due ≡ (step self.old reading (datagram_of came.entry)).due) }
+        ensures after { OnOk result (self.new ≡
+            (step self.old reading (datagram_of came.entry)).after) }
+        ensures due { IfOk result (λ t. t.due ≡
+            (step self.old reading (datagram_of came.entry)).due) }
         ensures lines { IfOk result (λ t.
             t.lines.items ≡ (step self.old reading (datagram_of came.entry)).lines) }
-        ensures whole { OnOk result ((step self.old reading (datagram_of came.entry)).spent ≡ None) }
+        ensures whole { OnOk result (
+            (step self.old reading (datagram_of came.entry)).spent ≡ None) }
         ensures spent { (counter : TheCounter) → IsErrOf result (CoreError.Spent counter) →
             (step self.old reading (datagram_of came.entry)).spent ≡ Some counter };
 }

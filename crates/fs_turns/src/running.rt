@@ -26,19 +26,44 @@ pub fn run<A: Actor, C: Clock, L: Link, K: Sink>(
     ensures done { OnOk result (IsRun A.is_over A.step turns
         (record { actor = actor.old; counts = counts.old })
         (record { actor = actor.new; counts = counts.new })
-        (record { readings = C.readings clock.old; calls = L.calls link.old; written = K.written out.old })
-        (record { readings = C.readings clock.new; calls = L.calls link.new; written = K.written out.new })) }
+        (record {
+          readings = C.readings clock.old;
+          calls = L.calls link.old;
+          written = K.written out.old;
+        })
+        (record {
+          readings = C.readings clock.new;
+          calls = L.calls link.new;
+          written = K.written out.new;
+        })) }
     ensures memory { IsErrOf result Stop.Memory → IsWritten A.is_over A.step turns
-        (record { actor = actor.old; counts = counts.old }) (K.written out.old) (K.written out.new) }
+        (record { actor = actor.old; counts = counts.old })
+        (K.written out.old) (K.written out.new) }
     ensures spent { (counter : TheCounter) → IsErrOf result (Stop.Spent counter) →
         IsRunSpent A.is_over A.step turns counter
         (record { actor = actor.old; counts = counts.old })
-        (record { readings = C.readings clock.old; calls = L.calls link.old; written = K.written out.old })
-        (record { readings = C.readings clock.new; calls = L.calls link.new; written = K.written out.new }) }
+        (record {
+          readings = C.readings clock.old;
+          calls = L.calls link.old;
+          written = K.written out.old;
+        })
+        (record {
+          readings = C.readings clock.new;
+          calls = L.calls link.new;
+          written = K.written out.new;
+        }) }
     ensures cut { IsErrOf result Stop.Write → IsRunCut A.is_over A.step turns
         (record { actor = actor.old; counts = counts.old })
-        (record { readings = C.readings clock.old; calls = L.calls link.old; written = K.written out.old })
-        (record { readings = C.readings clock.new; calls = L.calls link.new; written = K.written out.new }) }
+        (record {
+          readings = C.readings clock.old;
+          calls = L.calls link.old;
+          written = K.written out.old;
+        })
+        (record {
+          readings = C.readings clock.new;
+          calls = L.calls link.new;
+          written = K.written out.new;
+        }) }
     ensures fault { IsErrOf result Stop.Write → Rose (K.faults out.old) (K.faults out.new) }
     ensures quiet { OnOk result (K.faults out.new ≡ K.faults out.old) }
 {

@@ -25,16 +25,33 @@ pub(crate) fn turn<A: Actor, C: Clock, L: Link, K: Sink>(
     ensures turn { OnOk result (IsTurn A.step
         (record { actor = actor.old; counts = counts.old })
         (record { actor = actor.new; counts = counts.new })
-        (record { readings = C.readings clock.old; calls = L.calls link.old; written = K.written out.old })
-        (record { readings = C.readings clock.new; calls = L.calls link.new; written = K.written out.new })) }
+        (record {
+          readings = C.readings clock.old;
+          calls = L.calls link.old;
+          written = K.written out.old;
+        })
+        (record {
+          readings = C.readings clock.new;
+          calls = L.calls link.new;
+          written = K.written out.new;
+        })) }
     ensures memory { IsErrOf result Stop.Memory → out.new ≡ out.old }
-    ensures unspent { (counter : TheCounter) → IsErrOf result (Stop.Spent counter) → out.new ≡ out.old }
+    ensures unspent { (counter : TheCounter) → IsErrOf result (Stop.Spent counter) →
+        out.new ≡ out.old }
     ensures spent { (counter : TheCounter) → IsErrOf result (Stop.Spent counter) →
         IsSpentTurn A.step counter actor.old (C.readings clock.old) (C.readings clock.new)
         (L.calls link.old) (L.calls link.new) }
     ensures cut { IsErrOf result Stop.Write → IsTurnCut A.step actor.old
-        (record { readings = C.readings clock.old; calls = L.calls link.old; written = K.written out.old })
-        (record { readings = C.readings clock.new; calls = L.calls link.new; written = K.written out.new }) }
+        (record {
+          readings = C.readings clock.old;
+          calls = L.calls link.old;
+          written = K.written out.old;
+        })
+        (record {
+          readings = C.readings clock.new;
+          calls = L.calls link.new;
+          written = K.written out.new;
+        }) }
     ensures fault { IsErrOf result Stop.Write → Rose (K.faults out.old) (K.faults out.new) }
     ensures quiet { OnOk result (K.faults out.new ≡ K.faults out.old) }
     ensures room { length buf.new ≡ length buf.old }

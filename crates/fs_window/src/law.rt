@@ -113,7 +113,8 @@ pub fn a_narrow_end_keeps_nothing()
     ensures push { (end : LinkEnd) (segments : Seq (Seq ℕ)) →
         IsNarrow end → IsNarrow (after_pushes end segments) }
     ensures due { (end : LinkEnd) → IsNarrow end → IsNarrow (after_due end) }
-    ensures accept { (end : LinkEnd) (p : ThePacket) → IsNarrow end → IsNarrow (after_accept end p) }
+    ensures accept { (end : LinkEnd) (p : ThePacket) →
+        IsNarrow end → IsNarrow (after_accept end p) }
     ensures gives { (end : LinkEnd) (p : ThePacket) →
         IsNarrow end → length (given_by end p.body) ≤ 1 }
 {}
