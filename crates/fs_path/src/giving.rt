@@ -40,7 +40,8 @@ pub(crate) fn recalls(
     asked: &Asked<'_>,
 ) -> Result<List<(u8, PathNo)>, Memory>
     ensures { IfOk result (λ list. list ≡
-        recalls (λ l. asks_issued asked.now l || rests_on_asked (asks asked.now) held.now l) issued.now) }
+        recalls (λ l. asks_issued asked.now l || rests_on_asked (asks asked.now) held.now l)
+        issued.now) }
 {
     let mut list = List::new(alloc);
     for l in issued {

@@ -100,7 +100,8 @@ impl Paths {
     ) -> Result<(), Memory>
         ensures ok { OnOk result (self.new ≡ record self.old {
           held = with_held
-              (IsHeld (record { no = no; peer = from; file = file.now; path = path.now })) self.old.held;
+              (IsHeld (record { no = no; peer = from; file = file.now; path = path.now }))
+              self.old.held;
         }) }
         ensures err { OnErr result (self.new ≡ self.old) }
     {

@@ -21,8 +21,8 @@ pub(crate) fn path_of(
     records: &Records,
     file: &FileId,
 ) -> Result<PathAnswer, Memory>
-    ensures { IfOk result (λ a. a ≡ path_of (record { issued = []; held = held.now; frozen = frozen.now })
-        records.now file.now) }
+    ensures { IfOk result (λ a. a ≡ path_of
+        (record { issued = []; held = held.now; frozen = frozen.now }) records.now file.now) }
 {
     let mut below = List::new(alloc);
     let mut at = file.copy(alloc)?;
