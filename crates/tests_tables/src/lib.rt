@@ -1,4 +1,4 @@
-//! Tests of rows, records, transactions, parcels and views.
+//! Tests of rows, records, path leases, transactions, parcels and views.
 #![tactic(auto)]
 
 #[cfg(test)]
@@ -7,6 +7,8 @@ mod forms;
 mod moderows;
 #[cfg(test)]
 mod parcel;
+#[cfg(test)]
+mod paths;
 #[cfg(test)]
 mod record;
 #[cfg(test)]
