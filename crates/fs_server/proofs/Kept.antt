@@ -12,6 +12,7 @@ use Rattle.fs_field.proofs.Order.{ordered_map, ordered_put}
 use Rattle.fs_rows.specs.Given.{AreGiven}
 use Rattle.fs_moderows.proofs.Tables.{TellsSame, renewed_tells}
 use Rattle.fs_record.specs.Records.{RecordMap}
+use Rattle.fs_txn.specs.declared.ready.Ready.{Ready}
 use Rattle.fs_server.specs.Rows.{AreRows}
 use Rattle.fs_server.specs.declared.state.Server.{Server}
 use Rattle.fs_server.specs.Lent.{IsReady}
@@ -19,11 +20,15 @@ use Rattle.fs_server.specs.Lent.{IsReady}
 same_lease : (a b : Row) → TellsSame a b → SameLease a b
 same_lease a b s = record { number = s.number; session = s.session; field = s.field; kind = s.kind }
 
-pub mapped_rows : (f : Row → Row) → ((r : Row) → TellsSame r (f r)) → (rows : List Row) → AreRows rows → AreRows (map f rows)
-mapped_rows f same rows t = record {
+-- rows of the same leases stay in order
+pub leased_rows : (f : Row → Row) → ((r : Row) → SameLease r (f r)) → (rows : List Row) → AreRows rows → AreRows (map f rows)
+leased_rows f same rows t = record {
   ordered = ordered_map f (λ r. (same r).number) rows t.ordered;
-  free = NoPlainConflict-map f (λ r. same_lease r (f r) (same r)) rows t.free;
+  free = NoPlainConflict-map f same rows t.free;
 }
+
+pub mapped_rows : (f : Row → Row) → ((r : Row) → TellsSame r (f r)) → (rows : List Row) → AreRows rows → AreRows (map f rows)
+mapped_rows f same rows t = leased_rows f (λ r. same_lease r (f r) (same r)) rows t
 
 pub renewed_in_order : (number : LeaseNo) (until : ℕ) (rows : List Row) → AreRows rows → AreRows (map (renewed_row number until) rows)
 renewed_in_order number until rows t = mapped_rows (renewed_row number until) (renewed_tells number until) rows t
@@ -38,6 +43,13 @@ put_rows row rows new free t = record {
 -- the server with other rows, each with a number that it gave, other records and another map
 pub with_others : (s : Server) (rows : List Row) (records : RecordMap) (map : Owners) → IsReady s → AreGiven s.me s.given rows → AreRows rows → IsReady (record s { rows = rows; records = records; map = map })
 with_others s rows records map r n t = record {
+  server = record { few = r.server.few; skew = r.server.skew; term = r.server.term; last = r.server.last; given = r.server.given; reaps = r.server.reaps; txns = r.server.txns; numbers = n };
+  table = t;
+}
+
+-- the server with other records, other rows, each with a number that it gave, and other parts that wait
+pub with_parts : (s : Server) (records : RecordMap) (rows : List Row) (prepared : List Ready) → IsReady s → AreGiven s.me s.given rows → AreRows rows → IsReady (record s { records = records; rows = rows; prepared = prepared })
+with_parts s records rows prepared r n t = record {
   server = record { few = r.server.few; skew = r.server.skew; term = r.server.term; last = r.server.last; given = r.server.given; reaps = r.server.reaps; txns = r.server.txns; numbers = n };
   table = t;
 }

@@ -236,10 +236,10 @@ in_its_table rows by u = at (tells_no_mode u.field) refl
     at true t = sym (any_part (is_lease u.no by u.field u.kind) is_off_modes (λ r h. its_field r h ∙ t) rows)
     at false t = sym (any_part (is_lease u.no by u.field u.kind) (λ r. not (is_off_modes r)) (λ r h. ap not (its_field r h ∙ t)) rows)
 
-same_gone : (rows : List Row) (by : Session) (uses : List Use) → prepare.first_gone (rows_off_modes rows) (rows_on_modes rows) by uses ≡ first_gone rows by uses
+pub same_gone : (rows : List Row) (by : Session) (uses : List Use) → prepare.first_gone (rows_off_modes rows) (rows_on_modes rows) by uses ≡ first_gone rows by uses
 same_gone rows by uses = ap (λ test. find test uses) (fun_ext (λ u. ap not (in_its_table rows by u)))
 
-no_path : (o : Option (List ℕ)) → prepare.path_against o None ≡ None
+pub no_path : (o : Option (List ℕ)) → prepare.path_against o None ≡ None
 no_path None = refl
 no_path (Some file) = refl
 

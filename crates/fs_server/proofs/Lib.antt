@@ -14,3 +14,4 @@ mod Losing
 pub mod InOrder
 pub mod Making
 pub mod Leading
+pub mod Following

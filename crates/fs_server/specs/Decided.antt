@@ -1,9 +1,14 @@
 -- What an event was decided to come to.
 use Rattle.std.specs.Prelude.{[]}
 use Rattle.fs_msg.specs.declared.server_note.ServerNote.{ServerNote}
-use Rattle.fs_server.specs.declared.change.Change.TheVariants.{Nothing}
+use Rattle.fs_field.specs.declared.vote.Vote.{Vote}
+use Rattle.fs_field.specs.declared.vote.Vote.TheVariants.{Yes}
+use Rattle.fs_msg.specs.declared.prepare.Prepare.{Prepare}
+use Rattle.fs_server.specs.declared.change.Change.{Change}
+use Rattle.fs_server.specs.declared.change.Change.TheVariants.{Nothing, Prepare as Keep}
 use Rattle.fs_server.specs.declared.decide.Decided.{Decided}
 use Rattle.fs_server.specs.declared.state.Server.{Server}
+use Rattle.fs_server.specs.Follows.{ready_of}
 use Rattle.fs_server.specs.Lent.{IsReady}
 use Rattle.fs_server.specs.Plan.{changed, CanChange}
 use Rattle.fs_server.specs.Server.{Stepped}
@@ -20,3 +25,8 @@ pub record CanDecide (d : Decided) (s : Server) : Type 0 where
 -- nothing is changed, sent or admitted
 abbrev pub noted_only : ServerNote → Decided
 noted_only n = record { change = Nothing; out = record { note = n; send = []; admitted = [] } }
+
+-- what the vote on a part changes
+abbrev pub voted_change : Vote → Prepare → Change
+voted_change Yes m = Keep (ready_of m)
+voted_change vote m = Nothing

@@ -2,6 +2,7 @@ pub mod Server
 pub mod Rows
 pub mod Asks
 pub mod Pairs
+pub mod Follows
 pub mod Moves
 pub mod Reaps
 pub mod Ships

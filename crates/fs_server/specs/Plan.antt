@@ -15,10 +15,12 @@ use Rattle.fs_parcel.specs.Parcel.{fits}
 use Rattle.fs_record.specs.Moving.{AreNumbersLeft, records_given, records_left}
 use Rattle.fs_record.specs.Records.{RecordMap, next_of}
 use Rattle.fs_server.specs.declared.change.Change.{Change}
-use Rattle.fs_server.specs.declared.change.Change.TheVariants.{Nothing, Grant, Renew, Free, Admit, Reap, Lead, Leave, Install}
+use Rattle.fs_server.specs.declared.change.Change.TheVariants.{Nothing, Grant, Renew, Free, Admit, Reap, Lead, Prepare, Decide, Leave, Install}
 use Rattle.fs_server.specs.declared.plan.Plan.{Plan}
 use Rattle.fs_server.specs.declared.state.Server.{Server}
 use Rattle.fs_server.specs.Server.{begun}
+use Rattle.fs_txn.specs.Ready.{rows_left_by, without_prepared}
+use Rattle.fs_server.specs.Follows.{with_part}
 use Rattle.fs_server.specs.Moves.{installed}
 use Rattle.fs_server.specs.Pairs.{renewed_rows, released_rows}
 pub use Rattle.fs_server.specs.Rows.{AreRows, is_shaped}
@@ -38,6 +40,12 @@ changed (Free numbers) s = record s { rows = released_rows numbers s.rows }
 changed (Admit effects) s = record s { records = records_after_all s.records effects }
 changed (Reap count effects) s = record s { reaps = s.reaps + count; records = records_after_all s.records effects }
 changed (Lead effects removals) s = record s { txns = s.txns + 1; records = records_after_all (records_after_all s.records effects) removals }
+changed (Prepare x) s = with_part x s
+changed (Decide txn number effects removals) s = record s {
+  records = records_after_all (records_after_all s.records effects) removals;
+  rows = rows_left_by txn (without_prepared txn number s.prepared) s.rows;
+  prepared = without_prepared txn number s.prepared;
+}
 changed (Leave to piece moved) s = record s {
   records = records_left piece.prefix piece.given s.records;
   rows = rows_left piece.prefix piece.given s.rows;
@@ -68,13 +76,14 @@ pub record IsServer (s : Server) : Type 0 where
 abbrev pub IsNewGift : Option (List ℕ × ℕ) → RecordMap → Type 0
 IsNewGift gift m = IfSome gift (λ g. next_of (get m g.0) ≤ g.1)
 
--- a number is given for the first time; the effects of a log can be taken back where memory runs out, and those of a led operation but for
--- removals, which come behind them and want none; what goes is a piece, and the records are those that it gives; a parcel fits
+-- a number is given for the first time; the effects of a log can be taken back where memory runs out, and those of a led operation and of a
+-- decision but for removals, which come behind them and want none; what goes is a piece, and the records are those that it gives; a parcel fits
 abbrev pub CanChange : Change → Server → Type 0
 CanChange (Grant rows gift) s = IsNewGift gift s.records
 CanChange (Admit effects) s = list_all is_undoable effects ≡ true
 CanChange (Reap count effects) s = list_all is_undoable effects ≡ true
 CanChange (Lead effects removals) s = (list_all is_undoable effects ≡ true) × (list_all takes_away removals ≡ true)
+CanChange (Decide txn number effects removals) s = (list_all is_undoable effects ≡ true) × (list_all takes_away removals ≡ true)
 CanChange (Leave to piece moved) s = IsPiece piece.prefix piece.given × (moved ≡ records_given piece.prefix piece.given s.records)
 CanChange (Install p) s = (fits s.records s.rows s.map s.me p ≡ true) × AreNumbersLeft p.records
 CanChange ch s = Unit {0}

@@ -35,6 +35,7 @@ first_server me skew term = record {
   rows = [];
   records = first_records (me == 0);
   map = first_map;
+  prepared = [];
 }
 
 -- the reading of the event is the greatest so far, and the rows that are over at it are dropped

@@ -54,7 +54,7 @@ recall_step field s = record {
 
 abbrev pub event_step : ServerEvent → Server → Stepped
 event_step (FromClient by m) s = message_step by m s
-event_step (FromPeer from m) s = peer_step m s
+event_step (FromPeer from m) s = peer_step from m s
 event_step Turn s = turn_step s
 event_step (Recall field) s = recall_step field s
 event_step (Move prefix to) s = move_step prefix to s

@@ -1,7 +1,7 @@
 //! All rows of a server.
 ghost use Rattle.std.specs.Prelude.{◌≡◌, [], not, map, true, OnOk, OnErr};
 ghost use Rattle.std.specs.List.{filter};
-ghost use Rattle.fs_field.specs.Table.{has_no, renewed_row, is_live};
+ghost use Rattle.fs_field.specs.Table.{has_no, renewed_row, is_live, locked_row, unlocked_row};
 ghost use Rattle.fs_map.specs.Lists.{map_after_take};
 ghost use Rattle.fs_parcel.specs.Parcel.{fits};
 ghost use Rattle.fs_record.specs.Moving.{AreNumbersLeft, with_records};
@@ -11,7 +11,7 @@ ghost use Rattle.fs_server.specs.Rows.{AreRows};
 
 use crate::all_live::AllLive;
 use fs_field::Row;
-use fs_ident::{LeaseNo, List, Memory, Twin};
+use fs_ident::{LeaseNo, List, Memory, Twin, TxnNo};
 use fs_map::{FileMap, MapPiece};
 use fs_moderows::ModeRows;
 use fs_parcel::{Parts, install_at};
@@ -94,6 +94,22 @@ impl AllRows {
     {
         let _ = self.off.renew(no, until);
         let _ = self.on.renew(no, until);
+    }
+
+    /// Lets the transaction keep the row of this number, where there is one that none keeps.
+    pub(crate) fn lock(&mut self, no: LeaseNo, txn: TxnNo)
+        ensures { self.new ≡ map (locked_row no txn) self.old }
+    {
+        self.off.lock(no, txn);
+        self.on.lock(no, txn);
+    }
+
+    /// Lets the transaction keep no row any more.
+    pub(crate) fn unlock(&mut self, txn: TxnNo)
+        ensures { self.new ≡ map (unlocked_row txn) self.old }
+    {
+        self.off.unlock(txn);
+        self.on.unlock(txn);
     }
 
     /// Drops the row of this number, where there is one.

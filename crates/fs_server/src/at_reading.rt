@@ -11,6 +11,7 @@ use fs_ident::{FileId, Memory, Twin};
 use fs_map::FileMap;
 use fs_msg::End;
 use fs_record::Records;
+use fs_txn::Ready;
 use std::alloc::Global;
 use std::marker::Model;
 
@@ -110,6 +111,13 @@ impl<'a> AtReading<'a> {
         ensures { result.now ≡ self.now.map }
     {
         &self.server.map
+    }
+
+    /// The parts of other servers' transactions that wait for their decision here.
+    pub(crate) fn prepared(&self) -> &[Ready]
+        ensures { result.now ≡ self.now.prepared }
+    {
+        self.server.prepared.as_slice()
     }
 
     /// Whether the server manages the identifier.

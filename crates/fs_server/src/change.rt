@@ -1,8 +1,9 @@
 //! What an event changes.
 use fs_field::{Effect, Row};
-use fs_ident::{FileId, LeaseNo, List, Memory, Twin, copy_two};
+use fs_ident::{FileId, LeaseNo, List, Memory, Twin, TxnNo, copy_two};
 use fs_map::MapPiece;
 use fs_record::{Parcel, Record};
+use fs_txn::Ready;
 use std::alloc::Global;
 
 /// What an event changes, beside the rows that are over.
@@ -34,6 +35,17 @@ pub(crate) enum Change {
     },
     /// A transaction, and its effects: those of `removals` take a file or a name away, and come behind the others.
     Lead {
+        effects: List<Effect>,
+        removals: List<Effect>,
+    },
+    /// The part waits for its decision, and its rows are locked.
+    Prepare {
+        ready: Ready,
+    },
+    /// The part of this number waits no more; its effects are as those of `Lead`.
+    Decide {
+        txn: TxnNo,
+        number: u8,
         effects: List<Effect>,
         removals: List<Effect>,
     },
@@ -74,6 +86,23 @@ impl Twin for Change {
             Change::Lead { effects, removals } => {
                 let (effects, removals) = copy_two(alloc, effects, removals)?;
                 Ok(Change::Lead { effects, removals })
+            }
+            Change::Prepare { ready } => Ok(Change::Prepare {
+                ready: ready.copy(alloc)?,
+            }),
+            Change::Decide {
+                txn,
+                number,
+                effects,
+                removals,
+            } => {
+                let (effects, removals) = copy_two(alloc, effects, removals)?;
+                Ok(Change::Decide {
+                    txn: *txn,
+                    number: *number,
+                    effects,
+                    removals,
+                })
             }
             Change::Leave { to, piece, moved } => {
                 let (piece, moved) = copy_two(alloc, piece, moved)?;

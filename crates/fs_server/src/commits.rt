@@ -1,5 +1,5 @@
 //! What an event changes is carried out: all of it, or nothing.
-ghost use Rattle.std.specs.Prelude.{◌≡◌, ◌+◌, ◌<◌, ◌^◌, length, true, OnOk, OnErr};
+ghost use Rattle.std.specs.Prelude.{◌≡◌, ◌+◌, ◌<◌, ◌^◌, ◌++◌, [], ◌∷◌, length, true, OnOk, OnErr};
 ghost use Rattle.std.specs.List.{filter, list_all};
 ghost use Rattle.fs_field.specs.Table.{is_live};
 ghost use Rattle.fs_map.specs.Lists.{map_after_take};
@@ -13,14 +13,17 @@ ghost use Rattle.fs_server.specs.Pairs.{released_rows, renewed_rows};
 ghost use Rattle.fs_server.specs.Plan.{AreRows, CanChange, IsNewGift, after_gift, changed};
 ghost use Rattle.fs_server.specs.Lent.{IsReady};
 ghost use Rattle.fs_server.specs.Server.{begun};
+ghost use Rattle.fs_txn.specs.Preparing.{rows_locked};
+ghost use Rattle.fs_txn.specs.Ready.{rows_left_by, without_prepared};
 
 use crate::all_rows::AllRows;
 use crate::change::Change;
 use crate::state::Server;
-use fs_field::{Effect, Row};
-use fs_ident::{FileId, LeaseNo, List, Memory};
+use fs_field::{Effect, Row, Use};
+use fs_ident::{FileId, LeaseNo, List, Memory, TxnNo, add_copy};
 use fs_map::MapPiece;
 use fs_record::{Parcel, Record, Records};
+use fs_txn::{Ready, drop_prepared, is_awaited};
 use std::alloc::Global;
 
 /// The rows that are over at the reading are dropped, and the change is carried out.
@@ -58,6 +61,16 @@ pub(crate) fn commit(
         }
         Change::Lead { effects, removals } => {
             lead(alloc, server, reading, &effects, removals.as_slice())?;
+        }
+        Change::Prepare { ready } => prepare(alloc, server, reading, &ready)?,
+        Change::Decide {
+            txn,
+            number,
+            effects,
+            removals,
+        } => {
+            let gone = removals.as_slice();
+            decide(alloc, server, reading, txn, number, &effects, gone)?;
         }
         Change::Leave { to, piece, moved } => leave(alloc, server, reading, to, &piece, &moved)?,
         Change::Install { parcel } => install(alloc, server, reading, parcel)?,
@@ -125,6 +138,67 @@ fn lead(
     server.rows.lapse(reading, server.skew);
     server.txns += 1;
     Ok(())
+}
+
+/// The part waits for its decision, and its rows are locked.
+fn prepare(alloc: Global, server: &mut Server, reading: u64, ready: &Ready) -> Result<(), Memory>
+    ensures ok { OnOk result (server.new ≡ record server.old {
+      rows = rows_locked ready.now.txn ready.now.part.uses
+          (filter (is_live reading server.old.skew) server.old.rows);
+      prepared = server.old.prepared ++ ready.now ∷ [];
+    }) }
+    ensures err { OnErr result (server.new ≡ server.old) }
+{
+    add_copy(alloc, &mut server.prepared, ready)?;
+    server.rows.lapse(reading, server.skew);
+    lock_all(&mut server.rows, ready.txn, ready.part.uses.as_slice());
+    Ok(())
+}
+
+/// The transaction keeps the rows of these leases, but for those that another one keeps.
+fn lock_all(rows: &mut AllRows, txn: TxnNo, uses: &[Use])
+    ensures { rows.new ≡ rows_locked txn uses.now rows.old }
+{
+    for used in uses {
+        rows.lock(used.no, txn);
+    }
+}
+
+/// The part of this number waits no more, and its effects are applied.
+fn decide(
+    alloc: Global,
+    server: &mut Server,
+    reading: u64,
+    txn: TxnNo,
+    number: u8,
+    effects: &List<Effect>,
+    gone: &[Effect],
+) -> Result<(), Memory>
+    requires effects { list_all is_undoable effects.now ≡ true }
+    requires gone { list_all takes_away gone.now ≡ true }
+    ensures ok { OnOk result (server.new ≡ record server.old {
+      records = records_after_all (records_after_all server.old.records effects.now) gone.now;
+      rows = rows_left_by txn (without_prepared txn number server.old.prepared)
+          (filter (is_live reading server.old.skew) server.old.rows);
+      prepared = without_prepared txn number server.old.prepared;
+    }) }
+    ensures err { OnErr result (server.new ≡ server.old) }
+{
+    server.records.apply_all(alloc, effects)?;
+    take_all_away(&mut server.records, gone);
+    server.rows.lapse(reading, server.skew);
+    drop_prepared(&mut server.prepared, txn, number);
+    unlock_last(&mut server.rows, txn, server.prepared.as_slice());
+    Ok(())
+}
+
+/// Where these parts are left, the transaction's rows are unlocked with its last one.
+fn unlock_last(rows: &mut AllRows, txn: TxnNo, left: &[Ready])
+    ensures { rows.new ≡ rows_left_by txn left.now rows.old }
+{
+    if !is_awaited(left, txn) {
+        rows.unlock(txn);
+    }
 }
 
 /// These names and files are there no more.

@@ -15,6 +15,7 @@ use crate::asks::ask;
 use crate::at_reading::AtReading;
 use crate::change::Change;
 use crate::event::ServerEvent;
+use crate::follows::{applies, prepare};
 use crate::leads::lead;
 use crate::moves::{installs, move_to};
 use crate::out::ServerOut;
@@ -55,18 +56,19 @@ pub(crate) fn decide(
     }
 }
 
-/// What a message of another server comes to. No server leads an operation with a part at another one yet.
+/// What a message of another server comes to. No server leads an operation with a part at another one yet, so no vote is
+/// awaited.
 fn from_peer(alloc: Global, at: &AtReading<'_>, from: u8, m: &PeerMsg) -> Result<Decided, Memory>
     requires ready { IsReady at.now }
     requires told { CanBeTold (FromPeer from m.now) }
-    ensures step { IfOk result (λ d. stepped_by d at.now ≡ peer_step m.now at.now) }
+    ensures step { IfOk result (λ d. stepped_by d at.now ≡ peer_step from m.now at.now) }
     ensures can { IfOk result (λ d. CanDecide d at.now) }
 {
     match m {
         PeerMsg::Parcel { parcel } => installs(alloc, at, parcel),
-        PeerMsg::Prepare { prepare: _ } => Ok(strange(alloc)),
+        PeerMsg::Prepare { prepare: m } => prepare(alloc, at, from, m),
         PeerMsg::Vote { voted: _ } => Ok(strange(alloc)),
-        PeerMsg::Decide { decide: _ } => Ok(strange(alloc)),
+        PeerMsg::Decide { decide: m } => applies(alloc, at, from, m),
         PeerMsg::Done { done: _ } => Ok(strange(alloc)),
     }
 }

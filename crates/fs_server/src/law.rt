@@ -1,26 +1,41 @@
 //! Laws of a server's steps, over the definitions alone.
-ghost use Rattle.std.specs.Prelude.{◌≡◌, ℕ, true, false, List, [], ◌∷◌, map, None, Some};
+ghost use Rattle.std.specs.Prelude.{◌≡◌, ℕ, true, false, List, [], ◌∷◌, map, None, Some, is_some};
+ghost use Rattle.fs_field.specs.Table.{is_lease, is_lock_of};
 ghost use Rattle.fs_field.specs.declared.field.Field.{Field};
 ghost use Rattle.fs_field.specs.declared.lease_kind.LeaseKind.{LeaseKind};
+ghost use Rattle.fs_field.specs.declared.row.Row.{Row};
+ghost use Rattle.fs_field.specs.declared.used.Part.{Part};
+ghost use Rattle.fs_field.specs.declared.used.Use.{Use};
+ghost use Rattle.fs_field.specs.declared.vote.Vote.TheVariants.{Yes};
+ghost use Rattle.fs_ident.specs.In.{In};
 ghost use Rattle.fs_ident.specs.declared.actor.Peer.TheVariants as peer;
 ghost use Rattle.fs_ident.specs.declared.actor.Session.{Session};
 ghost use Rattle.fs_map.specs.Map.{longest};
 ghost use Rattle.fs_model.specs.Asking.{home_of};
+ghost use Rattle.fs_msg.specs.declared.decide.Decide.{Decide};
 ghost use Rattle.fs_msg.specs.declared.end.End.TheVariants as end;
 ghost use Rattle.fs_msg.specs.declared.lead.Lead.{Lead};
 ghost use Rattle.fs_msg.specs.declared.msg.Msg.TheVariants as msg;
 ghost use Rattle.fs_msg.specs.declared.peer_msg.PeerMsg.TheVariants.{Parcel};
+ghost use Rattle.fs_msg.specs.declared.prepare.Prepare.{Prepare};
 ghost use Rattle.fs_msg.specs.declared.server_note.ServerNote.TheVariants as note;
 ghost use Rattle.fs_parcel.specs.Parcel.{move_refusal, parcel_of};
+ghost use Rattle.fs_record.specs.Applied.{records_after_all};
 ghost use Rattle.fs_record.specs.Fresh.{is_directory};
 ghost use Rattle.fs_server.specs.Asks.{ask_from, asked_in};
+ghost use Rattle.fs_server.specs.Follows.{decide_step, prepare_step, vote_here};
 ghost use Rattle.fs_server.specs.Laws.{FreshComes, concluded, free_items, item_in, items_end, leader_of};
 ghost use Rattle.fs_server.specs.Leads.{is_led, lead_refusal, lead_step, moved_why, refuses};
-ghost use Rattle.fs_server.specs.Server.{begun, is_mine};
+ghost use Rattle.fs_server.specs.Rows.{rows_off_modes, rows_on_modes};
+ghost use Rattle.fs_server.specs.Server.{begun, is_mine, strange};
 ghost use Rattle.fs_server.specs.Step.{step};
 ghost use Rattle.fs_server.specs.declared.event.ServerEvent.TheVariants.{Move};
 ghost use Rattle.fs_server.specs.declared.state.Server.{Server};
+ghost use Rattle.fs_txn.specs.Decided.{AreDecided};
 ghost use Rattle.fs_txn.specs.Deciding.{decision};
+ghost use Rattle.fs_txn.specs.Preparing.{vote_on};
+ghost use Rattle.fs_txn.specs.Ready.{is_awaited, is_prepared};
+ghost use Rattle.fs_txn.specs.Stages.{is_yes};
 
 /// The items of a question are given in order up to the first that the session could not have before it was given any: no
 /// lease that it is given keeps the next one from it.
@@ -70,4 +85,59 @@ pub fn a_move_that_nothing_refuses_is_made()
           msg.Peer (Parcel
               (parcel_of (begun now s).records (begun now s).rows s.map s.me prefix)),
         ) ∷ []) }
+{}
+
+/// The vote on a part that another server asks for is that of the rows of both tables, where no path lease is given out.
+pub fn parts_of_others_are_voted_on()
+    ensures { (s : Server) (by : Session) (p : Part) →
+        vote_here s by p ≡
+        vote_on (rows_off_modes s.rows) (rows_on_modes s.rows) s.map s.me s.last by p None }
+{}
+
+/// A part for which the vote is Yes waits for its decision, and for each of its leases a row of the session is locked, which is over at
+/// no later reading.
+pub fn a_yes_has_its_rows_locked()
+    ensures waits { (s : Server) (from : ℕ) (m : Prepare) →
+        (prepare_step from m s).out.note ≡ note.Votes m.txn Yes →
+        is_prepared m.txn m.number (prepare_step from m s).server.prepared ≡ true }
+    ensures rows { (s : Server) (now from : ℕ) (m : Prepare) →
+        (prepare_step from m s).out.note ≡ note.Votes m.txn Yes → (u : Use) → In u m.part.uses →
+        (r : Row) × In r (begun now (prepare_step from m s).server).rows ×
+        (is_lease u.no m.session u.field u.kind r ≡ true) × (is_some r.lock ≡ true) }
+{}
+
+/// A vote that is not Yes changes nothing but the reading.
+pub fn what_is_not_yes_changes_nothing()
+    ensures { (s : Server) (from : ℕ) (m : Prepare) →
+        is_yes (vote_here s m.session m.part) ≡ false → (prepare_step from m s).server ≡ s }
+{}
+
+/// A part is decided once: it waits no more then, and one more decision of it is strange.
+pub fn a_part_is_decided_once()
+    ensures over { (s : Server) (from : ℕ) (m : Decide) →
+        is_prepared m.txn m.number (decide_step from m s).server.prepared ≡ false }
+    ensures again { (s : Server) (from later : ℕ) (m n : Decide) → n.txn ≡ m.txn →
+        n.number ≡ m.number →
+        decide_step later n (decide_step from m s).server ≡
+        strange (decide_step from m s).server }
+{}
+
+/// What a leader tells a part that waits is applied, in its order; where it tells no effects no file changes.
+pub fn decided_effects_are_applied()
+    ensures applied { (s : Server) (from : ℕ) (m : Decide) →
+        is_prepared m.txn m.number s.prepared ≡ true → AreDecided m.effects →
+        (decide_step from m s).server.records ≡ records_after_all s.records m.effects }
+    ensures none { (s : Server) (from : ℕ) (m : Decide) → m.effects ≡ [] →
+        (decide_step from m s).server.records ≡ s.records }
+{}
+
+/// While another part of the transaction waits here all rows stay as they are; with its last one no row is locked for it any more.
+pub fn the_last_part_unlocks_the_rows()
+    ensures waits { (s : Server) (from : ℕ) (m : Decide) →
+        is_awaited m.txn (decide_step from m s).server.prepared ≡ true →
+        (decide_step from m s).server.rows ≡ s.rows }
+    ensures last { (s : Server) (from : ℕ) (m : Decide) →
+        is_prepared m.txn m.number s.prepared ≡ true →
+        is_awaited m.txn (decide_step from m s).server.prepared ≡ false → (r : Row) →
+        In r (decide_step from m s).server.rows → is_lock_of m.txn r.lock ≡ false }
 {}

@@ -315,7 +315,7 @@ fn change_of(alloc: Global, op: &Op, file: &FileId) -> Result<Change, Memory>
 
 /// The effects that can be taken back.
 #[tactic(auto, using(crate::proofs::Leading::undoable_step))]
-fn undoable(alloc: Global, effects: &[Effect]) -> Result<List<Effect>, Memory>
+pub(crate) fn undoable(alloc: Global, effects: &[Effect]) -> Result<List<Effect>, Memory>
     ensures { IfOk result (λ told. told ≡ filter is_undoable effects.now) }
 {
     let mut told = List::new(alloc);
@@ -329,7 +329,7 @@ fn undoable(alloc: Global, effects: &[Effect]) -> Result<List<Effect>, Memory>
 
 /// The effects that take a file or a name away.
 #[tactic(auto, using(crate::proofs::Leading::removal_step))]
-fn removals(alloc: Global, effects: &[Effect]) -> Result<List<Effect>, Memory>
+pub(crate) fn removals(alloc: Global, effects: &[Effect]) -> Result<List<Effect>, Memory>
     ensures { IfOk result (λ told. told ≡ filter takes_away effects.now) }
 {
     let mut told = List::new(alloc);

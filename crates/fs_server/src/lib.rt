@@ -12,6 +12,9 @@
 //! - an entry that is admitted finds its records (log f), and a create puts a name among those of its directory;
 //! - an operation that is led scans the rows for each use up to the first whose row is gone; a commit finds three records
 //!   (log f), and puts a name among those of its directory or takes one away;
+//! - a part that another server asks for scans the rows for each of its uses up to the first whose row is gone, and is copied twice;
+//!   when it is carried out each of its rows is found (log r);
+//! - a decision of such a part finds the records of its effects (log f); with the last part of a transaction it scans the rows once;
 //! - a turn looks at every record once for the files that are open, and scans the rows once for each session with handles
 //!   on one of these. For one with no lease on its handles it scans them once more, and for each row that was told of the
 //!   modes of others on the file once for each session with handles on it. A handle that is lost finds its record (log f);
@@ -31,6 +34,7 @@ mod change;
 mod commits;
 mod decide;
 mod event;
+mod follows;
 mod fresh;
 mod law;
 mod leads;
@@ -47,9 +51,11 @@ mod state;
 
 pub use event::ServerEvent;
 pub use law::{
-    a_move_that_nothing_refuses_is_made, an_identifier_comes_behind_all_items,
-    items_are_given_in_order, operations_are_led_at_home, parts_here_vote_at_once,
-    what_is_not_admitted_changes_no_file,
+    a_move_that_nothing_refuses_is_made, a_part_is_decided_once, a_yes_has_its_rows_locked,
+    an_identifier_comes_behind_all_items, decided_effects_are_applied, items_are_given_in_order,
+    operations_are_led_at_home, parts_here_vote_at_once, parts_of_others_are_voted_on,
+    the_last_part_unlocks_the_rows, what_is_not_admitted_changes_no_file,
+    what_is_not_yes_changes_nothing,
 };
 pub use out::ServerOut;
 pub use plan::Plan;

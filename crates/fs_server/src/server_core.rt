@@ -13,7 +13,7 @@ use crate::event::ServerEvent;
 use crate::out::ServerOut;
 use crate::plan::Plan;
 use crate::state::Server;
-use fs_ident::{Memory, Twin};
+use fs_ident::{List, Memory, Twin};
 use fs_map::FileMap;
 use fs_msg::CoreError;
 use fs_record::Records;
@@ -68,6 +68,7 @@ impl ServerCore {
                 rows: AllRows::new(alloc),
                 records: Records::new(alloc, me == 0)?,
                 map: FileMap::new(alloc)?,
+                prepared: List::new(alloc),
             },
         })
     }

@@ -4,9 +4,10 @@ ghost use Rattle.fs_map.specs.Map.{IsMap};
 ghost use Rattle.fs_record.specs.Records.{AreRecords};
 
 use crate::all_rows::AllRows;
-use fs_ident::{Memory, Twin, copy_three};
+use fs_ident::{List, Memory, Twin, both, copy_three};
 use fs_map::FileMap;
 use fs_record::Records;
+use fs_txn::Ready;
 use std::alloc::Global;
 
 /// What a server keeps.
@@ -30,6 +31,8 @@ pub(crate) struct Server {
     pub(crate) records: Records,
     /// Which server manages which files, as far as it knows.
     pub(crate) map: FileMap,
+    /// The parts of other servers' transactions that wait for their decision here.
+    pub(crate) prepared: List<Ready>,
 }
 
 impl Server {
@@ -58,7 +61,8 @@ impl Server {
 
 impl Twin for Server {
     fn copy(&self, alloc: Global) -> Result<Server, Memory> {
-        let (rows, records, map) = copy_three(alloc, &self.rows, &self.records, &self.map)?;
+        let tables = copy_three(alloc, &self.rows, &self.records, &self.map)?;
+        let ((rows, records, map), prepared) = both(tables, self.prepared.copy(alloc))?;
         Ok(Server {
             me: self.me,
             skew: self.skew,
@@ -70,6 +74,7 @@ impl Twin for Server {
             rows,
             records,
             map,
+            prepared,
         })
     }
 

@@ -13,3 +13,4 @@ pub mod Whole
 pub mod Keys
 pub mod Telling
 pub mod Locked
+pub mod Waiting

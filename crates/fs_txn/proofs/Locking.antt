@@ -20,6 +20,7 @@ use Rattle.fs_field.specs.declared.used.Part.{Part}
 use Rattle.fs_field.specs.declared.used.Use.{Use}
 use Rattle.fs_field.specs.declared.vote.Vote.{Vote}
 use Rattle.fs_field.specs.declared.vote.Vote.TheVariants.{Yes}
+use Rattle.fs_field.proofs.Leases.{SameLease, same_itself}
 use Rattle.fs_map.specs.Map.{Owners, longest, server_of}
 use Rattle.fs_txn.specs.Preparing.{first_gone, has_row, is_used, moved_to, path_against, row_locked, rows_locked, rows_voted, table_of, uses_of_modes, uses_off, vote_by, vote_on}
 
@@ -45,11 +46,11 @@ one_row txn u us r = by (has_no u.no r) (is_some r.lock) refl
     by true false e = sym (stays txn us (locked txn r) refl)
     by false s e = ap (λ t. cond (is_used us r && not t) (locked txn r) r) (sym e)
 
-one_more : (txn : TxnNo) (u : Use) (us : List Use) (rows : List Row) → rows_locked txn (u ∷ us) rows ≡ rows_locked txn us (map (locked_row u.no txn) rows)
+pub one_more : (txn : TxnNo) (u : Use) (us : List Use) (rows : List Row) → rows_locked txn (u ∷ us) rows ≡ rows_locked txn us (map (locked_row u.no txn) rows)
 one_more txn u us [] = refl
 one_more txn u us (r ∷ rs) = ap₂ (λ x xs. x ∷ xs) (one_row txn u us r) (one_more txn u us rs)
 
-none_locked : (txn : TxnNo) (rows : List Row) → rows_locked txn [] rows ≡ rows
+pub none_locked : (txn : TxnNo) (rows : List Row) → rows_locked txn [] rows ≡ rows
 none_locked txn [] = refl
 none_locked txn (r ∷ rs) = ap (λ xs. r ∷ xs) (none_locked txn rs)
 
@@ -72,6 +73,22 @@ off_end txn xs i rows h = ap (λ us. rows_locked txn (uses_off us) rows) (drop_a
 
 pub mode_end : (txn : TxnNo) (xs : List Use) (i : ℕ) (rows : List Row) → length xs ≤ i → rows_locked txn (uses_of_modes (drop i xs)) rows ≡ rows
 mode_end txn xs i rows h = ap (λ us. rows_locked txn (uses_of_modes us) rows) (drop_all i xs h) ∙ none_locked txn rows
+
+-- ## All rows in one list
+
+pub lock_step : (txn : TxnNo) (xs : List Use) (i : ℕ) (d : Use) (rows : List Row) → i < length xs → rows_locked txn (drop i xs) rows ≡ rows_locked txn (drop (i + 1) xs) (map (locked_row (get_or xs i d).no txn) rows)
+lock_step txn xs i d rows lt = ap (λ us. rows_locked txn us rows) (drop_more xs i d lt) ∙ one_more txn (get_or xs i d) (drop (i + 1) xs) rows
+
+pub lock_end : (txn : TxnNo) (xs : List Use) (i : ℕ) (rows : List Row) → length xs ≤ i → rows_locked txn (drop i xs) rows ≡ rows
+lock_end txn xs i rows h = ap (λ us. rows_locked txn us rows) (drop_all i xs h) ∙ none_locked txn rows
+
+lock_leaves : (b : Bool) (txn : TxnNo) (r : Row) → SameLease r (cond b (locked txn r) r)
+lock_leaves true txn r = record { number = refl; session = refl; field = refl; kind = refl }
+lock_leaves false txn r = same_itself r
+
+-- a lock leaves the lease
+pub used_same : (txn : TxnNo) (us : List Use) (r : Row) → SameLease r (row_locked txn us r)
+used_same txn us r = lock_leaves (is_used us r && not (is_some r.lock)) txn r
 
 -- ## After a Yes
 
@@ -114,7 +131,7 @@ in_filter p (x ∷ xs) u (inr i) h = at (p x) (in_filter p xs u i h)
 of_number : (number : LeaseNo) (by : Session) (field : Field) (kind : LeaseKind) (r : Row) → is_lease number by field kind r ≡ true → has_no number r ≡ true
 of_number number by field kind r h = first (has_no number r) (r.session.0 == by.0) (first (has_no number r && (r.session.0 == by.0)) (same_field r.field field) (first ((has_no number r && (r.session.0 == by.0)) && same_field r.field field) (same_kind r.kind kind) h))
 
-locked_in_table : (txn : TxnNo) (us : List Use) (rows : List Row) (by : Session) (u : Use) → In u us → list_any (is_lease u.no by u.field u.kind) rows ≡ true → HasLockedRow (rows_locked txn us rows) by u
+pub locked_in_table : (txn : TxnNo) (us : List Use) (rows : List Row) (by : Session) (u : Use) → In u us → list_any (is_lease u.no by u.field u.kind) rows ≡ true → HasLockedRow (rows_locked txn us rows) by u
 locked_in_table txn us rows by u i h =
     let q = any_In (is_lease u.no by u.field u.kind) rows h in (
       row_locked txn us q.0,
@@ -124,20 +141,20 @@ locked_in_table txn us rows by u i h =
     )
 
 -- what Yes says of the leases
-yes_by : (o : Option Use) (through : Option PathNo) (now : ℕ) → vote_by o through now ≡ Yes → o ≡ None
+pub yes_by : (o : Option Use) (through : Option PathNo) (now : ℕ) → vote_by o through now ≡ Yes → o ≡ None
 yes_by None through now h = refl
 yes_by (Some u) through now h = absurd (cc h)
 
-yes_here : (b : Bool) (v w : Vote) → (w ≡ Yes → ⊥) → cond b v w ≡ Yes → v ≡ Yes
+pub yes_here : (b : Bool) (v w : Vote) → (w ≡ Yes → ⊥) → cond b v w ≡ Yes → v ≡ Yes
 yes_here true v w n h = h
 yes_here false v w n h = absurd (n h)
 
-none_gone : (rows modes : List Row) (owners : Owners) (me now : ℕ) (by : Session) (p : Part) (through : Option PathNo) → vote_on rows modes owners me now by p through ≡ Yes → first_gone rows modes by p.uses ≡ None
+pub none_gone : (rows modes : List Row) (owners : Owners) (me now : ℕ) (by : Session) (p : Part) (through : Option PathNo) → vote_on rows modes owners me now by p through ≡ Yes → first_gone rows modes by p.uses ≡ None
 none_gone rows modes owners me now by p through h =
     yes_by (first_gone rows modes by p.uses) (path_against p.freeze through) now
     (yes_here (server_of owners p.file == me) (vote_by (first_gone rows modes by p.uses) (path_against p.freeze through) now) (moved_to (longest owners p.file)) (λ e. absurd (cc e)) h)
 
-not_not : (b : Bool) → not b ≡ false → b ≡ true
+pub not_not : (b : Bool) → not b ≡ false → b ≡ true
 not_not true h = refl
 not_not false h = absurd (cc h)
 

@@ -9,3 +9,4 @@ pub mod Numbers
 pub mod Stages
 pub mod Telling
 pub mod Locks
+pub mod Ready

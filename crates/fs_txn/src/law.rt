@@ -1,5 +1,5 @@
 //! Laws of parts, votes, locks and decisions.
-ghost use Rattle.std.specs.Prelude.{◌≡◌, ◌≤◌, ◌==◌, ◌++◌, ℕ, [], List, length, Option, Some, true, false, slice_get, is_some};
+ghost use Rattle.std.specs.Prelude.{◌≡◌, ◌≤◌, ◌==◌, ◌++◌, ℕ, [], List, length, map, Option, Some, true, false, slice_get, is_some};
 ghost use Rattle.std.specs.List.{flat_map};
 ghost use Rattle.fs_field.specs.Conflict.{NoPlainConflict};
 ghost use Rattle.fs_field.specs.Table.{is_lease};
@@ -28,13 +28,16 @@ ghost use Rattle.fs_txn.specs.Decided.{AreApart, AreDecided, IsApart, SplitIsOne
 ghost use Rattle.fs_txn.specs.Deciding.{decision, effects_on, told_effects};
 ghost use Rattle.fs_txn.specs.Grants.{GrantIsTrue};
 ghost use Rattle.fs_txn.specs.Guards.{IsGuarded};
+ghost use Rattle.fs_txn.specs.Locks.{rows_decided, without_part};
 ghost use Rattle.fs_txn.specs.Parts.{parts_of, source_of};
 ghost use Rattle.fs_txn.specs.Preparing.{rows_voted, table_of, uses_of_modes, uses_off, vote_on};
+ghost use Rattle.fs_txn.specs.Ready.{agreed_of, records_decided, rows_left_by, without_prepared};
 ghost use Rattle.fs_txn.specs.Votes.{after_vote, after_votes, are_awaited, awaits, counted_of, is_moved};
 ghost use Rattle.fs_txn.specs.declared.decision.Decision.{Decision};
 ghost use Rattle.fs_txn.specs.declared.decision.Decision.TheVariants.{Commit, Abort};
 ghost use Rattle.fs_txn.specs.declared.leader.Leader.{Leader};
 ghost use Rattle.fs_txn.specs.declared.mode.Mode2.{Mode2};
+ghost use Rattle.fs_txn.specs.declared.ready.Ready.{Ready};
 
 /// Where a leader commits, every part voted Yes.
 pub fn a_commit_has_every_yes()
@@ -107,6 +110,22 @@ pub fn decided_effects_go_past()
 /// servers hold together: all its effects in their order.
 pub fn a_split_commit_is_one_step()
     ensures { SplitIsOneStep }
+{}
+
+/// What leaders tell other servers keeps its order where what takes a file or a name away comes behind the rest.
+pub fn what_leaders_tell_keeps_its_order()
+    ensures { (m : RecordMap) (es : List Effect) → AreDecided es →
+        records_decided es m ≡ records_after_all m es }
+{}
+
+/// Where a part is decided, the parts that still wait and the rows are those of which the laws of locks speak.
+pub fn decisions_leave_parts_and_locks()
+    ensures parts { (txn : TxnNo) (number : ℕ) (prepared : List Ready) →
+        map agreed_of (without_prepared txn number prepared) ≡
+        without_part (record { txn = txn; part = number }) (map agreed_of prepared) }
+    ensures rows { (txn : TxnNo) (number : ℕ) (prepared : List Ready) (rows : List Row) →
+        rows_left_by txn (without_prepared txn number prepared) rows ≡
+        rows_decided (record { txn = txn; part = number }) rows (map agreed_of prepared) }
 {}
 
 /// Effects that are decided for two sessions are apart while both have their rows locked.

@@ -27,6 +27,9 @@ use Rattle.fs_msg.specs.declared.end.End.TheVariants as end
 use Rattle.fs_msg.specs.declared.entry.Entry.{Entry}
 use Rattle.fs_msg.specs.declared.lead.Lead.{Lead as ToLead}
 use Rattle.fs_msg.specs.declared.note.Note.TheVariants as note
+use Rattle.fs_field.specs.declared.vote.Vote.{Vote as AVote}
+use Rattle.fs_msg.specs.declared.decide.Decide.{Decide as ToDecide}
+use Rattle.fs_msg.specs.declared.prepare.Prepare.{Prepare as ToPrepare}
 use Rattle.fs_msg.specs.declared.peer_msg.PeerMsg.{PeerMsg}
 use Rattle.fs_msg.specs.declared.peer_msg.PeerMsg.TheVariants.{Parcel as OfParcel, Prepare, Vote, Decide, Done}
 use Rattle.fs_msg.specs.declared.server_note.ServerNote.{ServerNote}
@@ -47,6 +50,7 @@ use Rattle.fs_client.proofs.Refused.{act_over, acts_stay, turns_stay}
 use Rattle.fs_server.proofs.Leading.{LeadEnds, aborted, lead_ends, led, put_off, unled}
 use Rattle.fs_server.specs.Leads.{lead_step}
 use Rattle.fs_server.specs.Asks.{asked_in, recall_of, recalls_at}
+use Rattle.fs_server.specs.Follows.{applies, is_prepared, vote_here, votes}
 use Rattle.fs_server.specs.Moves.{fits_here, move_at, parcel_at, peer_step}
 use Rattle.fs_server.specs.Reaps.{lapsed_in, reap_from, recalls_for, turn_over}
 use Rattle.fs_server.specs.Server.{Stepped as ServerStepped, begun as server_begun, strange as server_strange}
@@ -125,12 +129,20 @@ parcel_given : (now : List Said) (b : Bool) (p : Parcel) (s : Core) → AreGiven
 parcel_given now true p s = tt
 parcel_given now false p s = tt
 
-peer_given : (now : List Said) (m : PeerMsg) (s : Core) → AreGiven now (peer_step m s).out.send
-peer_given now (OfParcel p) s = parcel_given now (fits_here p s) p s
-peer_given now (Prepare m) s = tt
-peer_given now (Vote m) s = tt
-peer_given now (Decide m) s = tt
-peer_given now (Done m) s = tt
+prepare_given : (now : List Said) (b : Bool) (v : AVote) (from : ℕ) (m : ToPrepare) (s : Core) → AreGiven now (cond b (server_strange s) (votes v from m s)).out.send
+prepare_given now true v from m s = tt
+prepare_given now false v from m s = tt
+
+decide_given : (now : List Said) (b : Bool) (from : ℕ) (m : ToDecide) (s : Core) → AreGiven now (cond b (applies from m s) (server_strange s)).out.send
+decide_given now true from m s = tt
+decide_given now false from m s = tt
+
+peer_given : (now : List Said) (from : ℕ) (m : PeerMsg) (s : Core) → AreGiven now (peer_step from m s).out.send
+peer_given now from (OfParcel p) s = parcel_given now (fits_here p s) p s
+peer_given now from (Prepare m) s = prepare_given now (is_prepared m.txn m.number s.prepared) (vote_here s m.session m.part) from m s
+peer_given now from (Vote m) s = tt
+peer_given now from (Decide m) s = decide_given now (is_prepared m.txn m.number s.prepared) from m s
+peer_given now from (Done m) s = tt
 
 -- a packet of the session brings the question
 abbrev IsFrom : Option Peer → ServerEvent → Type 0
@@ -161,7 +173,7 @@ message_given k by (Ship entries) s now from e = ship_given k by entries (server
 
 step_given : (k : ℕ) (s : Core) (now : ℕ) (e : ServerEvent) (from : Option Peer) → IsFrom from e → AreGiven (says from k (core_steps s now e).out.note) (core_steps s now e).out.send
 step_given k s now (FromClient by m) from is = message_given k by m s now from is
-step_given k s now (FromPeer j m) from is = peer_given (says from k (core_steps s now (FromPeer j m)).out.note) m (server_begun now s)
+step_given k s now (FromPeer j m) from is = peer_given (says from k (core_steps s now (FromPeer j m)).out.note) j m (server_begun now s)
 step_given k s now TheTurn from is = let b : Core = server_begun now s in turn_given (says from k (core_steps s now TheTurn).out.note) (lapsed_in b) b
 step_given k s now (TheRecall field) from is = recalls_given (says from k (core_steps s now (TheRecall field)).out.note) (recalled_on field (server_begun now s))
 step_given k s now (TheMove prefix to) from is = let b : Core = server_begun now s in move_given (says from k (core_steps s now (TheMove prefix to)).out.note) (move_refusal b.records b.rows b.map b.me prefix to None) prefix to b

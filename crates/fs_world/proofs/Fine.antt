@@ -38,11 +38,15 @@ use Rattle.fs_client.specs.declared.state.Client.{Client as ClientState}
 use Rattle.fs_parcel.specs.Parcel.{move_refusal}
 use Rattle.fs_parcel.specs.declared.error.MoveError.{MoveError}
 use Rattle.fs_record.specs.declared.parcel.Parcel.{Parcel}
+use Rattle.fs_field.specs.declared.vote.Vote.{Vote as AVote}
+use Rattle.fs_msg.specs.declared.decide.Decide.{Decide as ToDecide}
+use Rattle.fs_msg.specs.declared.prepare.Prepare.{Prepare as ToPrepare}
 use Rattle.fs_msg.specs.declared.peer_msg.PeerMsg.{PeerMsg}
 use Rattle.fs_msg.specs.declared.peer_msg.PeerMsg.TheVariants.{Parcel as OfParcel, Prepare, Vote, Decide, Done}
 use Rattle.fs_server.proofs.Leading.{LeadEnds, aborted, lead_ends, led, put_off as server_puts_off, unled}
 use Rattle.fs_server.proofs.OneByOne.{each_entry, each_lapsed}
 use Rattle.fs_server.specs.Leads.{is_led, lead_step}
+use Rattle.fs_server.specs.Follows.{applies, is_prepared, vote_here, votes}
 use Rattle.fs_server.specs.Moves.{fits_here, move_at, parcel_at, peer_step}
 use Rattle.fs_server.specs.Reaps.{lapsed_in, reap_from, reap_item, turn_over}
 use Rattle.fs_server.specs.Server.{Stepped, begun as server_begun, moved, strange as server_strange}
@@ -229,12 +233,20 @@ parcel_fine : (b : Bool) (p : Parcel) (s : ServerState) → AllFine (parcel_at b
 parcel_fine true p s = tt
 parcel_fine false p s = tt
 
-peer_fine : (m : PeerMsg) (s : ServerState) → AllFine (peer_step m s).out.admitted
-peer_fine (OfParcel p) s = parcel_fine (fits_here p s) p s
-peer_fine (Prepare m) s = tt
-peer_fine (Vote m) s = tt
-peer_fine (Decide m) s = tt
-peer_fine (Done m) s = tt
+prepare_fine : (b : Bool) (v : AVote) (from : ℕ) (m : ToPrepare) (s : ServerState) → AllFine (cond b (server_strange s) (votes v from m s)).out.admitted
+prepare_fine true v from m s = tt
+prepare_fine false v from m s = tt
+
+decide_fine : (b : Bool) (from : ℕ) (m : ToDecide) (s : ServerState) → AllFine (cond b (applies from m s) (server_strange s)).out.admitted
+decide_fine true from m s = tt
+decide_fine false from m s = tt
+
+peer_fine : (from : ℕ) (m : PeerMsg) (s : ServerState) → AllFine (peer_step from m s).out.admitted
+peer_fine from (OfParcel p) s = parcel_fine (fits_here p s) p s
+peer_fine from (Prepare m) s = prepare_fine (is_prepared m.txn m.number s.prepared) (vote_here s m.session m.part) from m s
+peer_fine from (Vote m) s = tt
+peer_fine from (Decide m) s = decide_fine (is_prepared m.txn m.number s.prepared) from m s
+peer_fine from (Done m) s = tt
 
 abbrev pub EventAsks : ServerEvent → Type 0
 EventAsks (FromClient by m) = MessageAsks m
@@ -244,5 +256,5 @@ pub step_fine : (s : ServerState) (now : ℕ) (e : ServerEvent) → EventAsks e 
 step_fine s now (FromClient by m) a = message_fine by m (server_begun now s) a
 step_fine s now Turn a = let b : ServerState = server_begun now s in turn_over_fine (lapsed_in b) b
 step_fine s now (TheRecall field) a = tt
-step_fine s now (FromPeer from m) a = peer_fine m (server_begun now s)
+step_fine s now (FromPeer from m) a = peer_fine from m (server_begun now s)
 step_fine s now (Move prefix to) a = let b : ServerState = server_begun now s in move_fine (move_refusal b.records b.rows b.map b.me prefix to None) prefix to b

@@ -388,18 +388,18 @@ module _ (servers : ℕ) (seats : Seats) (k : ℕ) (some : k < servers) (readabl
   }
   parcel_goes false p s of h = strange_goes s h
 
-  peer_goes : (m : PeerMsg) (s : Core) → BringsParcel seats m → Fine s → Goes (peer_step m s)
-  peer_goes (OfParcel p) s of h = parcel_goes (fits_here p s) p s of h
-  peer_goes (Prepare m) s of h = absurd of
-  peer_goes (Vote m) s of h = absurd of
-  peer_goes (Decide m) s of h = absurd of
-  peer_goes (Done m) s of h = absurd of
+  peer_goes : (from : ℕ) (m : PeerMsg) (s : Core) → BringsParcel seats m → Fine s → Goes (peer_step from m s)
+  peer_goes from (OfParcel p) s of h = parcel_goes (fits_here p s) p s of h
+  peer_goes from (Prepare m) s of h = absurd of
+  peer_goes from (Vote m) s of h = absurd of
+  peer_goes from (Decide m) s of h = absurd of
+  peer_goes from (Done m) s of h = absurd of
 
   -- ## An event
 
   event_goes : (e : ServerEvent) (s : Core) → IsBrought servers seats s e → Fine s → Goes (event_step e s)
   event_goes (FromClient by m) s b h = message_goes by m s b.0 b.1 h
-  event_goes (FromPeer from m) s b h = peer_goes m s b h
+  event_goes (FromPeer from m) s b h = peer_goes from m s b h
   event_goes Turn s b h = turn_goes (lapsed_in s) s h
   event_goes (Recall field) s b h = record { server = h; sends = recall_sent (HasJoined seats) (IsSent servers seats k) (λ s n h. (h, tt, refl)) (is_mine s (file_of field)) field s.rows h.rows }
   event_goes (Move prefix to) s b h = moves_goes prefix to s (move_refusal s.records s.rows s.map s.me prefix to None) refl b h

@@ -14,6 +14,9 @@ use Rattle.fs_msg.specs.declared.entry.Entry.{Entry}
 use Rattle.fs_msg.specs.declared.lead.Lead.{Lead as ToLead}
 use Rattle.fs_msg.specs.declared.note.Note.{Note}
 use Rattle.fs_msg.specs.declared.note.Note.TheVariants as note
+use Rattle.fs_field.specs.declared.vote.Vote.{Vote as AVote}
+use Rattle.fs_msg.specs.declared.decide.Decide.{Decide as ToDecide}
+use Rattle.fs_msg.specs.declared.prepare.Prepare.{Prepare as ToPrepare}
 use Rattle.fs_msg.specs.declared.peer_msg.PeerMsg.{PeerMsg}
 use Rattle.fs_msg.specs.declared.peer_msg.PeerMsg.TheVariants.{Parcel as OfParcel, Prepare, Vote, Decide, Done}
 use Rattle.fs_msg.specs.declared.server_note.ServerNote.{ServerNote}
@@ -26,9 +29,10 @@ use Rattle.fs_client.specs.Turns.{ending, idle, release_some, renew_some, return
 use Rattle.fs_client.specs.declared.state.Client.{Client}
 use Rattle.fs_server.proofs.Leading.{LeadEnds, aborted, lead_ends, led, put_off, unled}
 use Rattle.fs_server.specs.Leads.{lead_step}
+use Rattle.fs_server.specs.Follows.{applies, is_prepared, vote_here, votes}
 use Rattle.fs_server.specs.Moves.{fits_here, move_at, parcel_at, peer_step}
 use Rattle.fs_server.specs.Reaps.{lapsed_in, turn_over}
-use Rattle.fs_server.specs.Server.{Stepped, begun as server_begun}
+use Rattle.fs_server.specs.Server.{Stepped, begun as server_begun, strange}
 use Rattle.fs_server.specs.Step.{step}
 use Rattle.fs_server.specs.declared.event.ServerEvent.{ServerEvent}
 use Rattle.fs_server.specs.declared.event.ServerEvent.TheVariants.{FromClient, FromPeer, Turn, Recall as TheRecall, Move}
@@ -98,12 +102,20 @@ parcel_fair : (ok : Answers) (b : Bool) (p : Parcel) (s : Server) → IsFair ok 
 parcel_fair ok true p s = tt
 parcel_fair ok false p s = tt
 
-peer_fair : (ok : Answers) (m : PeerMsg) (s : Server) → IsFair ok (note.Server (peer_step m s).out.note)
-peer_fair ok (OfParcel p) s = parcel_fair ok (fits_here p s) p s
-peer_fair ok (Prepare m) s = tt
-peer_fair ok (Vote m) s = tt
-peer_fair ok (Decide m) s = tt
-peer_fair ok (Done m) s = tt
+prepare_fair : (ok : Answers) (b : Bool) (v : AVote) (from : ℕ) (m : ToPrepare) (s : Server) → IsFair ok (note.Server (cond b (strange s) (votes v from m s)).out.note)
+prepare_fair ok true v from m s = tt
+prepare_fair ok false v from m s = tt
+
+decide_fair : (ok : Answers) (b : Bool) (from : ℕ) (m : ToDecide) (s : Server) → IsFair ok (note.Server (cond b (applies from m s) (strange s)).out.note)
+decide_fair ok true from m s = tt
+decide_fair ok false from m s = tt
+
+peer_fair : (ok : Answers) (from : ℕ) (m : PeerMsg) (s : Server) → IsFair ok (note.Server (peer_step from m s).out.note)
+peer_fair ok from (OfParcel p) s = parcel_fair ok (fits_here p s) p s
+peer_fair ok from (Prepare m) s = prepare_fair ok (is_prepared m.txn m.number s.prepared) (vote_here s m.session m.part) from m s
+peer_fair ok from (Vote m) s = tt
+peer_fair ok from (Decide m) s = decide_fair ok (is_prepared m.txn m.number s.prepared) from m s
+peer_fair ok from (Done m) s = tt
 
 lead_fair : (ok : Answers) (by : Session) (m : ToLead) (s : Server) (x : Stepped) → LeadEnds by m s x → IsFair ok (note.Server x.out.note)
 lead_fair ok by m s x (unled l) = tt
@@ -139,7 +151,7 @@ module _ (laws : SerialLaws) (skew greatest now k : ℕ) (s : Server) (c : Clust
 
   event_fair : (ok : Answers) (e : ServerEvent) → IsThere k e c → TakesEvent ok e → IsFair ok (note.Server (step s now e).out.note)
   event_fair ok (FromClient by m) there takes = message_fair ok by m there takes
-  event_fair ok (FromPeer from m) there takes = peer_fair ok m (server_begun now s)
+  event_fair ok (FromPeer from m) there takes = peer_fair ok from m (server_begun now s)
   event_fair ok Turn there takes = let b : Server = server_begun now s in turned_over_fair ok (lapsed_in b) b
   event_fair ok (TheRecall field) there takes = tt
   event_fair ok (Move prefix to) there takes = let b : Server = server_begun now s in move_fair ok (move_refusal b.records b.rows b.map b.me prefix to None) prefix to b

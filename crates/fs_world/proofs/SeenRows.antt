@@ -36,6 +36,9 @@ use Rattle.fs_msg.specs.declared.item.Item.{Item}
 use Rattle.fs_msg.specs.declared.lead.Lead.{Lead as ToLead}
 use Rattle.fs_msg.specs.declared.msg.Msg.{Msg}
 use Rattle.fs_msg.specs.declared.msg.Msg.TheVariants as msg
+use Rattle.fs_field.specs.declared.vote.Vote.{Vote as AVote}
+use Rattle.fs_msg.specs.declared.decide.Decide.{Decide as ToDecide}
+use Rattle.fs_msg.specs.declared.prepare.Prepare.{Prepare as ToPrepare}
 use Rattle.fs_msg.specs.declared.peer_msg.PeerMsg.{PeerMsg}
 use Rattle.fs_msg.specs.declared.peer_msg.PeerMsg.TheVariants.{Parcel as OfParcel, Prepare, Vote, Decide, Done}
 use Rattle.fs_record.specs.Effects.{tells_its_effects}
@@ -43,6 +46,8 @@ use Rattle.fs_server.proofs.Leading.{LeadEnds, aborted, lead_ends, led, put_off,
 use Rattle.fs_server.proofs.OneByOne.{each_item, reaps_leave, ships_leave}
 use Rattle.fs_server.specs.Leads.{lead_step}
 use Rattle.fs_server.specs.Asks.{Asking, ask_fresh, ask_from, ask_step, asked_in, fresh_for, fresh_in, fresh_of, kind_for, recall_of, recalls_at, with_lease}
+use Rattle.fs_server.specs.Follows.{applies, is_prepared, vote_here, votes}
+use Rattle.fs_server.proofs.Following.{IsOneOf, decided_rows, voted_rows}
 use Rattle.fs_server.specs.Moves.{fits_here, move_at, parcel_at, peer_step}
 use Rattle.fs_server.specs.Pairs.{numbers_in, pairs_here, released_rows, renewed_rows}
 use Rattle.fs_server.specs.Reaps.{Reaping, lapsed_in, reap_from, recalls_for, turn_over}
@@ -262,18 +267,35 @@ module _ (these : Session → Type 0) where
   parcel_of true p s come h = record { rows = put_all p.rows s.rows come h; sends = tt }
   parcel_of false p s come h = strange_of s h
 
-  peer_of : (m : PeerMsg) (s : Server) → BringsOf these m → AreOf these s.rows → IsOf (peer_step m s)
-  peer_of (OfParcel p) s come h = parcel_of (fits_here p s) p s come h
-  peer_of (Prepare m) s come h = strange_of s h
-  peer_of (Vote m) s come h = strange_of s h
-  peer_of (Decide m) s come h = strange_of s h
-  peer_of (Done m) s come h = strange_of s h
+  -- ## Parts of what others lead
+
+  -- rows of the same leases are of the same sessions
+  one_of : (rows : List Row) (row : Row) → AreOf these rows → IsOneOf rows row → these row.session
+  one_of rows row h q = subst these (sym (q.2).session) (h q.0 q.1)
+
+  voted_of : (v : AVote) (from : ℕ) (m : ToPrepare) (s : Server) → AreOf these s.rows → IsOf (votes v from m s)
+  voted_of v from m s h = record { rows = λ row i. one_of s.rows row h (voted_rows v from m s row i); sends = (tt, tt) }
+
+  prepare_of : (b : Bool) (v : AVote) (from : ℕ) (m : ToPrepare) (s : Server) → AreOf these s.rows → IsOf (cond b (strange s) (votes v from m s))
+  prepare_of true v from m s h = strange_of s h
+  prepare_of false v from m s h = voted_of v from m s h
+
+  decide_of : (b : Bool) (from : ℕ) (m : ToDecide) (s : Server) → AreOf these s.rows → IsOf (cond b (applies from m s) (strange s))
+  decide_of true from m s h = record { rows = λ row i. one_of s.rows row h (decided_rows from m s row i); sends = (tt, tt) }
+  decide_of false from m s h = strange_of s h
+
+  peer_of : (from : ℕ) (m : PeerMsg) (s : Server) → BringsOf these m → AreOf these s.rows → IsOf (peer_step from m s)
+  peer_of from (OfParcel p) s come h = parcel_of (fits_here p s) p s come h
+  peer_of from (Prepare m) s come h = prepare_of (is_prepared m.txn m.number s.prepared) (vote_here s m.session m.part) from m s h
+  peer_of from (Vote m) s come h = strange_of s h
+  peer_of from (Decide m) s come h = decide_of (is_prepared m.txn m.number s.prepared) from m s h
+  peer_of from (Done m) s come h = strange_of s h
 
   -- ## An event
 
   event_of : (e : ServerEvent) (s : Server) → IsAsked e → AreOf these s.rows → IsOf (event_step e s)
   event_of (FromClient by m) s p h = message_of by m s p h
-  event_of (FromPeer from m) s come h = peer_of m s come h
+  event_of (FromPeer from m) s come h = peer_of from m s come h
   event_of Turn s p h = turn_of (lapsed_in s) s h
   event_of (Recall field) s p h = record { rows = h; sends = recall_sent these (λ (x : Peer × Msg). IsSentTo these x) (λ s n h. h) (is_mine s (file_of field)) field s.rows h }
   event_of (Move prefix to) s p h = move_of (move_refusal s.records s.rows s.map s.me prefix to None) prefix to s h

@@ -55,6 +55,7 @@ use Rattle.fs_record.specs.declared.parcel.Parcel.{Parcel}
 use Rattle.fs_server.proofs.Leading.{LeadEnds, aborted, lead_ends, led as leads_it, put_off as server_puts_off, unled}
 use Rattle.fs_server.specs.Asks.{asked_in, recalls_at}
 use Rattle.fs_server.specs.Leads.{lead_step, led_item as led_by, reply_of}
+use Rattle.fs_server.specs.Follows.{applies, is_prepared, vote_here, votes}
 use Rattle.fs_server.specs.Moves.{fits_here, move_at, parcel_at, peer_step}
 use Rattle.fs_server.specs.Reaps.{lapsed_in, reap_from, recalls_for, turn_over}
 use Rattle.fs_server.specs.Server.{Stepped as ServerStepped, strange as server_strange, to_session}
@@ -293,12 +294,12 @@ module _ (k : ℕ) (x : Session) (led : Option Led) where
   parcel_brings true p s = refl
   parcel_brings false p s = refl
 
-  peer_brings : (m : PeerMsg) (s : ServerState) → Brings (peer_step m s).out.send []
-  peer_brings (OfParcel p) s = parcel_brings (fits_here p s) p s
-  peer_brings (Prepare m) s = refl
-  peer_brings (Vote m) s = refl
-  peer_brings (Decide m) s = refl
-  peer_brings (Done m) s = refl
+  peer_brings : (from : ℕ) (m : PeerMsg) (s : ServerState) → Brings (peer_step from m s).out.send []
+  peer_brings from (OfParcel p) s = parcel_brings (fits_here p s) p s
+  peer_brings from (Prepare m) s = elim (is_prepared m.txn m.number s.prepared) as (λ b. Brings (cond b (server_strange s) (votes (vote_here s m.session m.part) from m s)).out.send []) [ true ↦ refl | false ↦ refl ]
+  peer_brings from (Vote m) s = refl
+  peer_brings from (Decide m) s = elim (is_prepared m.txn m.number s.prepared) as (λ b. Brings (cond b (applies from m s) (server_strange s)).out.send []) [ true ↦ refl | false ↦ refl ]
+  peer_brings from (Done m) s = refl
 
   move_brings : (o : Option MoveError) (prefix : List ℕ) (to : ℕ) (s : ServerState) → Brings (move_at o prefix to s).out.send []
   move_brings None prefix to s = refl
@@ -306,7 +307,7 @@ module _ (k : ℕ) (x : Session) (led : Option Led) where
 
   pub event_brings : (e : ServerEvent) (s : ServerState) → AsksLed e x led → Brings (event_step e s).out.send (brought e x (event_step e s).out.admitted)
   event_brings (FromClient by m) s asked = message_brings by m s asked
-  event_brings (FromPeer from m) s asked = peer_brings m s
+  event_brings (FromPeer from m) s asked = peer_brings from m s
   event_brings Turn s asked = turn_brings (lapsed_in s) s
   event_brings (TheRecall field) s asked = recalls_bring k x led (recalls_of (recalled_on field s)) (recall_all (recalled_on field s))
   event_brings (Move prefix to) s asked = move_brings (move_refusal s.records s.rows s.map s.me prefix to None) prefix to s

@@ -5,6 +5,7 @@ ghost use Rattle.fs_ident.specs.declared.limits.TheConstants.{LATEST};
 ghost use Rattle.fs_server.specs.Step.{AreNumbersLeft, CanBeTold};
 ghost use Rattle.fs_server.specs.declared.event.ServerEvent.TheVariants.{FromPeer};
 
+mod follows;
 mod leads;
 mod moves;
 mod opens;

@@ -7,6 +7,7 @@ use Rattle.fs_ident.specs.declared.actor.Peer.{Peer}
 use Rattle.fs_ident.specs.declared.actor.Peer.TheVariants.{Client as OfSession, Server as OfServer}
 use Rattle.fs_ident.specs.declared.actor.Session.{Session}
 use Rattle.fs_field.specs.declared.used.Use.{Use}
+use Rattle.fs_field.specs.declared.vote.Vote.{Vote}
 use Rattle.fs_msg.specs.declared.answer.Answer.{Answer}
 use Rattle.fs_msg.specs.declared.answer.Answer.TheVariants.{Granted, Shipped}
 use Rattle.fs_msg.specs.declared.client_msg.ClientMsg.{ClientMsg}
@@ -16,12 +17,15 @@ use Rattle.fs_msg.specs.declared.msg.Msg.{Msg}
 use Rattle.fs_msg.specs.declared.lead.Lead.{Lead as ToLead}
 use Rattle.fs_msg.specs.declared.peer_msg.PeerMsg.{PeerMsg}
 use Rattle.fs_msg.specs.declared.peer_msg.PeerMsg.TheVariants as peer
-use Rattle.fs_parcel.specs.Parcel.{move_refusal}
+use Rattle.fs_msg.specs.declared.decide.Decide.{Decide as ToDecide}
+use Rattle.fs_msg.specs.declared.prepare.Prepare.{Prepare as ToPrepare}
+use Rattle.fs_parcel.specs.Parcel.{move_refusal, parcel_of}
 use Rattle.fs_parcel.specs.declared.error.MoveError.{MoveError}
 use Rattle.fs_record.specs.Effects.{tells_its_effects}
 use Rattle.fs_record.specs.declared.led_end.Why.{Why}
 use Rattle.fs_record.specs.declared.parcel.Parcel.{Parcel}
 use Rattle.fs_server.specs.Asks.{asked_in, recalls_at}
+use Rattle.fs_server.specs.Follows.{applies, is_prepared, to_server, vote_here, votes}
 use Rattle.fs_server.specs.Leads.{decided_by, is_led, lead_refusal, leads_unless, parts_in, uses_of}
 use Rattle.fs_server.specs.Moves.{fits_here, move_at, parcel_at, peer_step}
 use Rattle.fs_server.specs.Reaps.{lapsed_in, reap_from, recalls_for, turn_over}
@@ -79,18 +83,30 @@ module _ (k : ℕ) (asked : Session → Option ℕ) where
   parcel_due true p s = none_due
   parcel_due false p s = none_due
 
-  peer_due : (m : PeerMsg) (s : Server) → AreDue k (peer_step m s).out.send asked
-  peer_due (peer.Parcel p) s = parcel_due (fits_here p s) p s
-  peer_due (peer.Prepare m) s = none_due
-  peer_due (peer.Vote m) s = none_due
-  peer_due (peer.Decide m) s = none_due
-  peer_due (peer.Done m) s = none_due
-
-  move_due : (o : Option MoveError) (prefix : List ℕ) (to : ℕ) (s : Server) → AreDue k (move_at o prefix to s).out.send asked
-  move_due None prefix to s = λ x a i d. elim i as (λ _. asked x ≡ Some k) [
+  -- what goes to another server goes to no session
+  server_due : (to : ℕ) (m : PeerMsg) → AreDue k (to_server to m ∷ []) asked
+  server_due to m = λ x a i d. elim i as (λ _. asked x ≡ Some k) [
     | inl e ↦ let same : OfSession x ≡ OfServer to = ap (λ (p : Peer × Msg). p.0) e in absurd (cc)
     | inr z ↦ absurd z
   ]
+
+  prepare_due : (b : Bool) (v : Vote) (from : ℕ) (m : ToPrepare) (s : Server) → AreDue k (cond b (strange s) (votes v from m s)).out.send asked
+  prepare_due true v from m s = none_due
+  prepare_due false v from m s = server_due from (peer.Vote (record { txn = m.txn; number = m.number; vote = v }))
+
+  decide_due : (b : Bool) (from : ℕ) (m : ToDecide) (s : Server) → AreDue k (cond b (applies from m s) (strange s)).out.send asked
+  decide_due true from m s = server_due from (peer.Done (record { txn = m.txn; number = m.number }))
+  decide_due false from m s = none_due
+
+  peer_due : (from : ℕ) (m : PeerMsg) (s : Server) → AreDue k (peer_step from m s).out.send asked
+  peer_due from (peer.Parcel p) s = parcel_due (fits_here p s) p s
+  peer_due from (peer.Prepare m) s = prepare_due (is_prepared m.txn m.number s.prepared) (vote_here s m.session m.part) from m s
+  peer_due from (peer.Vote m) s = none_due
+  peer_due from (peer.Decide m) s = decide_due (is_prepared m.txn m.number s.prepared) from m s
+  peer_due from (peer.Done m) s = none_due
+
+  move_due : (o : Option MoveError) (prefix : List ℕ) (to : ℕ) (s : Server) → AreDue k (move_at o prefix to s).out.send asked
+  move_due None prefix to s = server_due to (peer.Parcel (parcel_of s.records s.rows s.map s.me prefix))
   move_due (Some why) prefix to s = none_due
 
   -- the session that is told asked
@@ -100,7 +116,7 @@ module _ (k : ℕ) (asked : Session → Option ℕ) where
 
   pub event_due : (e : ServerEvent) (s : Server) → HasAsked e → AreDue k (event_step e s).out.send asked
   event_due (event.FromClient by m) s due = message_due by m s due
-  event_due (event.FromPeer from m) s due = peer_due m s
+  event_due (event.FromPeer from m) s due = peer_due from m s
   event_due event.Turn s due = turn_due (lapsed_in s) s
   event_due (event.Recall field) s due = recalls_due k (recalls_of (recalled_on field s)) asked (recall_all (recalled_on field s))
   event_due (event.Move prefix to) s due = move_due (move_refusal s.records s.rows s.map s.me prefix to None) prefix to s

@@ -67,7 +67,7 @@ module _ (skew greatest k : ℕ) (c : Cluster) (s : Server) (at : slice_get c.se
   message_note by (Ship entries) there =
       ship_note by entries s (all_plain greatest (world_of s c) by entries (In-mapped (λ (n : ℕ × ClientMsg). n.1) (k, Ship entries) (c.lines by).up (found (is_with k) (c.lines by).up (k, Ship entries) there).0) view)
 
-  peer_note : (from : ℕ) (m : PeerMsg) → IsThere k (event.FromPeer from m) c → (peer_step m s).out.note ≢ Strange
+  peer_note : (from : ℕ) (m : PeerMsg) → IsThere k (event.FromPeer from m) c → (peer_step from m s).out.note ≢ Strange
   peer_note from (peer.Parcel p) there =
       let fits : fits_here p s ≡ true = parcel_fits k from c s p at h.places there (counts_of c.servers) view.all.servers view.all.kept in
       subst (λ b. (parcel_at b p s).out.note ≢ Strange) (sym fits) (λ e. absurd (cc))

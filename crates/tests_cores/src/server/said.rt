@@ -123,3 +123,22 @@ pub(crate) const LEAD_LOOKUP: &[u8] = &[
 
 /// For what `b` stands for in the root.
 pub(crate) const ASK_B: &[u8] = &[1, 0, 0, 0, 0, 0, 0, 0, 1, 1, 128, 1, 98, 0, 0];
+
+/// Whether the second part of the seventh transaction that the server 0 leads is ready: the file 1, by the lease of the parcel.
+pub(crate) const PREPARE: &[u8] = &[
+    33, 0, 0, 0, 0, 0, 0, 0, 0, 7, 1, 0, 1, 80, 0, 0, 0, 0, 0, 0, 0, 1, 0, 80, 1, 0, 0, 0, 0, 0, 0,
+    0, 0, 3, 0, 0, 0, 0, 0, 0, 0, 100, 0,
+];
+
+/// Whether its third part is: the same file, by no lease.
+pub(crate) const PREPARE_MORE: &[u8] = &[
+    33, 0, 0, 0, 0, 0, 0, 0, 0, 7, 2, 0, 1, 80, 0, 0, 0, 0, 0, 0, 0, 0, 0,
+];
+
+/// What the second part does: the file 1 stands under `b` in the root.
+pub(crate) const DECIDE: &[u8] = &[
+    35, 0, 0, 0, 0, 0, 0, 0, 0, 7, 1, 0, 0, 0, 0, 0, 0, 0, 1, 1, 80, 128, 1, 98,
+];
+
+/// What the third part does: nothing.
+pub(crate) const DECIDE_MORE: &[u8] = &[35, 0, 0, 0, 0, 0, 0, 0, 0, 7, 2, 0, 0, 0, 0, 0, 0, 0, 0];
