@@ -1,6 +1,7 @@
 //! Parts of deletes and renames that another server leads.
 use crate::server::{Event, Line, Seen, Way, plays_on, said};
 use fs_server::ServerCore;
+use std::test::Fail;
 
 /// The file 1 comes to the second server.
 const COMES: Line = (
