@@ -204,7 +204,7 @@ fn clear(alloc: Global, paths: &mut Paths, file: &str) -> Result<Told, Fail> {
     spend(map);
     spend(prefix);
     let GiveBack { recalls, releases } = back?;
-    let sum = recalls.len() + releases.len();
+    let sum = recalls.len().saturating_add(releases.len());
     let (_, recalled) = first(recalls);
     let (_, released) = first(releases);
     Ok((sum, if recalled == 0 { released } else { recalled }))
