@@ -1,13 +1,17 @@
 -- What a server does with what it heard.
-use Rattle.std.proofs.Common.{◌≡◌, ℕ, ◌==◌, Bool, List, [], ◌∷◌, ◌++◌, true, false, refl, ap, sym, ◌∙◌, subst, cond, inl, inr}
+use Rattle.std.proofs.Common.{◌≡◌, ℕ, ◌<◌, ◌≤◌, ◌==◌, Bool, List, [], ◌∷◌, ◌++◌, length, true, false, refl, ap, sym, ◌∙◌, subst, cond, inl, inr, arith}
 use Rattle.std.specs.Prelude.{◌&&◌, Option, Some, None, Result, Ok, Err, IfOk, OnOk}
-use Rattle.std.specs.FinMap.{get}
 use Rattle.fs_ident.specs.In.{In}
 use Rattle.fs_ident.specs.declared.actor.Peer.{Peer}
 use Rattle.fs_ident.specs.declared.actor.Peer.TheVariants.{Server, Client}
-use Rattle.fs_ident.specs.declared.actor.Session.{Session}
-use Rattle.fs_actor.specs.Actor.{is_full_down}
+use Rattle.fs_frag.specs.declared.joined.Joined.{Joined}
+use Rattle.fs_actor.specs.Actor.{first_spent, is_full_down}
+use Rattle.fs_actor.specs.Hearing.{event_heard}
+use Rattle.fs_actor.specs.Several.{ServerRun, server_begins, server_hears_one, server_replies, server_takes_all}
+use Rattle.fs_actor.proofs.Several.{server_of_one, server_of_several}
 use Rattle.fs_msg.specs.declared.core_error.CoreError.{CoreError}
+use Rattle.fs_msg.specs.declared.core_error.Counter.{Counter}
+use Rattle.fs_msg.specs.declared.item.Item.{Item}
 use Rattle.fs_msg.specs.declared.msg.Msg.{Msg}
 use Rattle.fs_msg.specs.declared.msg.Msg.TheVariants as msg
 use Rattle.fs_schedule.specs.declared.outcome.Outcome.{Outcome}
@@ -15,27 +19,20 @@ use Rattle.fs_serial.specs.Cluster.{flying_from, is_between, without_first}
 use Rattle.fs_serial.specs.declared.flying.Flying.{Flying}
 use Rattle.fs_server.specs.Step.{spent_by, step}
 use Rattle.fs_server.specs.declared.event.ServerEvent.{ServerEvent}
+use Rattle.fs_server.specs.declared.state.Server.{Server as Core}
 use Rattle.fs_window.specs.Peers.{same_peer}
-use Rattle.fs_world.specs.Calls.{without_message}
+use Rattle.fs_window.specs.Post.{Links}
+use Rattle.fs_window.specs.declared.heard.Heard.{Heard}
+use Rattle.fs_world.specs.Calls.{IsServerRun, server_heard, server_hears, server_left}
+use Rattle.fs_world.specs.Calls.{server_hears_one as server_hears_one_at}
 use Rattle.fs_world.specs.Linked.{FitsDown}
-use Rattle.fs_world.specs.Planned.{IsAnswered}
-use Rattle.fs_world.specs.Served.{Seats, ServerStepped, core_step, without_up}
-use Rattle.fs_world.proofs.AtSeat.{has_room}
+use Rattle.fs_world.specs.Packets.{Packets}
+use Rattle.fs_world.specs.Planned.{IsAnswered, run_of}
+use Rattle.fs_world.specs.Served.{Seats, ServerStepped, core_step, flying_without_each, seats_without_each, server_ran, with_downs}
 use Rattle.fs_world.proofs.LinkedSeats.{turned_apart}
-use Rattle.fs_world.proofs.Popped.{popped_then}
+use Rattle.fs_world.proofs.ServerNext.{seats_cross}
 
-abbrev pub sent_by : ServerStepped → ℕ → ServerEvent → List (Peer × Msg)
-sent_by x now e = (step x.server now e).out.send
-
--- ## The message is taken off
-
-pub taken_question : (k : ℕ) (s : Session) (to : Option Peer) (now : ℕ) (e : ServerEvent) (x y : ServerStepped) (seats : Seats)
-    → y ≡ core_step k false to now e x → seats ≡ without_up k (get y.seats s.0) s.0 y.seats
-    → record y { seats = seats } ≡ core_step k false to now e (without_message k (Client s) x)
-taken_question k s to now e x y seats is taken =
-    ap (λ (m : Seats). let z : ServerStepped = record y { seats = m } in z) taken
-    ∙ ap (λ (z : ServerStepped). let u : ServerStepped = record z { seats = without_up k (get z.seats s.0) s.0 z.seats } in u) is
-    ∙ ap (λ (m : Seats). let z : ServerStepped = record (core_step k false to now e x) { seats = m } in z) (popped_then k s.0 k (sent_by x now e) x.seats)
+-- ## What was joined is taken off
 
 -- what goes out does not stand in the way of what came in
 none_first : {X : Type 0} (is : X → Bool) (ys : List X) → ((y : X) → In y ys → is y ≡ false) → without_first is ys ≡ ys
@@ -65,21 +62,74 @@ one_false false b e = refl
 goes_out : (j k : ℕ) (xs : List (Peer × Msg)) → same_peer (Server j) (Server k) ≡ false → (f : Flying) → In f (flying_from k xs) → is_between j k f ≡ false
 goes_out j k xs apart f i = one_false (f.from == j) (f.to == k) (ap (λ (n : ℕ). n == j) (from_there k xs f i) ∙ turned_apart j k apart)
 
-pub taken_flying : (k j : ℕ) (to : Option Peer) (now : ℕ) (e : ServerEvent) (x y : ServerStepped) (flying : List Flying)
-    → same_peer (Server j) (Server k) ≡ false → y ≡ core_step k false to now e x → flying ≡ without_first (is_between j k) y.flying
-    → record y { flying = flying } ≡ core_step k false to now e (without_message k (Server j) x)
-taken_flying k j to now e x y flying apart is taken =
-    ap (λ (fs : List Flying). let z : ServerStepped = record y { flying = fs } in z) taken
-    ∙ ap (λ (z : ServerStepped). let u : ServerStepped = record z { flying = without_first (is_between j k) z.flying } in u) is
-    ∙ ap (λ (fs : List Flying). let z : ServerStepped = record (core_step k false to now e x) { flying = fs } in z) (first_before (is_between j k) x.flying (flying_from k (sent_by x now e)) (goes_out j k (sent_by x now e) apart))
+flying_apart : {Y : Type 0} (k : ℕ) (from : Peer) (ys : List Y) (xs : List (Peer × Msg)) (flying : List Flying) → same_peer from (Server k) ≡ false → flying_without_each k from ys (flying ++ flying_from k xs) ≡ flying_without_each k from ys flying ++ flying_from k xs
+flying_apart k from [] xs flying apart = refl
+flying_apart {Y} k (Client s) (y ∷ ys) xs flying apart = flying_apart k (Client s) ys xs flying apart
+flying_apart {Y} k (Server j) (y ∷ ys) xs flying apart =
+    ap (flying_without_each {Y = Y} k (Server j) ys) (first_before (is_between j k) flying (flying_from k xs) (goes_out j k xs apart))
+    ∙ flying_apart k (Server j) ys xs (without_first (is_between j k) flying) apart
 
--- ## It is answered
+-- what was joined is taken off behind the steps as well as before them
+pub gone_after : (now k : ℕ) (from : Peer) (replied : Option Peer) (h : Heard) (x y : ServerStepped) (seats : Seats) (flying : List Flying) → same_peer from (Server k) ≡ false → y ≡ server_heard now k from replied h x
+    → seats ≡ seats_without_each k from h.joined y.seats → flying ≡ flying_without_each k from h.joined y.flying → record y { seats = seats; flying = flying } ≡ server_hears now k from replied h x
+gone_after now k from replied h x y seats flying apart is gone left =
+    let run : ServerRun = server_takes_all now from replied (record { links = x.post; heard = h }) x.server in
+    let seats_are : seats ≡ with_downs k run.send (seats_without_each k from h.joined x.seats) = gone ∙ ap (λ (z : ServerStepped). seats_without_each k from h.joined z.seats) is ∙ seats_cross k from h.joined run.send x.seats in
+    let flying_is : flying ≡ flying_without_each k from h.joined x.flying ++ flying_from k run.send = left ∙ ap (λ (z : ServerStepped). flying_without_each k from h.joined z.flying) is ∙ flying_apart k from h.joined run.send x.flying apart in
+    λ i. record (is i) { seats = seats_are i; flying = flying_is i }
 
-room_left : (k : ℕ) (from : Peer) (to : Option Peer) (now : ℕ) (e : ServerEvent) (x : ServerStepped) → (core_step k false to now e (without_message k from x)).spent ≡ None → is_full_down (sent_by x now e) x.post ≡ false
-room_left k from to now e x h = has_room (spent_by x.server now e) (is_full_down (sent_by x now e) x.post) h
+-- ## One message at most
 
-pub answered_after : (r : Result Outcome CoreError) (k : ℕ) (from : Peer) (to : Option Peer) (now : ℕ) (heard : Option ServerEvent) (x : ServerStepped) (e : ServerEvent) (left : Outcome → ServerStepped) → Some e ≡ heard
-    → OnOk r (FitsDown (sent_by x now e)) → ((o : Outcome) → (left o).spent ≡ None) → IfOk r (λ told. left told ≡ core_step k false to now e (without_message k from x)) → OnOk r (IsAnswered now heard x)
-answered_after (Ok o) k from to now heard x e left is fits none done =
-    subst (λ (h : Option ServerEvent). IsAnswered now h x) is (fits, room_left k from to now e x (sym (ap (λ (y : ServerStepped). y.spent) done) ∙ none o))
-answered_after (Err o) k from to now heard x e left is fits none done = tt
+-- there is nothing to answer
+pub unheard_answered : (now : ℕ) (from : Peer) (joined : List Joined) (x : ServerStepped) → length joined ≤ 1 → None ≡ event_heard from joined → IsAnswered now from joined x
+unheard_answered now from [] x few e = (tt, refl)
+unheard_answered now from (j ∷ []) x few e =
+    subst (λ (o : Option ServerEvent). let y : ServerRun = server_hears_one now o (server_begins x.server x.post []) in FitsDown y.send × (y.spent ≡ None)) e (tt, refl)
+unheard_answered now from (j ∷ i ∷ js) x few e = absurd (omega arith)
+
+heard_answered : (now : ℕ) (from : Peer) (joined : List Joined) (x : ServerStepped) (e : ServerEvent) → length joined ≤ 1 → Some e ≡ event_heard from joined → FitsDown (step x.server now e).out.send
+    → first_spent (spent_by x.server now e) (is_full_down (step x.server now e).out.send x.post) ≡ None → IsAnswered now from joined x
+heard_answered now (Client s) [] x e few is fits none = absurd (cc)
+heard_answered now (Server j) [] x e few is fits none = absurd (cc)
+heard_answered now from (j ∷ []) x e few is fits none =
+    subst (λ (o : Option ServerEvent). let y : ServerRun = server_hears_one now o (server_begins x.server x.post []) in FitsDown y.send × (y.spent ≡ None)) is (fits, none)
+heard_answered now from (j ∷ i ∷ js) x e few is fits none = absurd (omega arith)
+
+pub answered_after : (r : Result Outcome CoreError) (k : ℕ) (from : Peer) (to : Option Peer) (now : ℕ) (joined : List Joined) (x : ServerStepped) (e : ServerEvent) (left : Outcome → ServerStepped) → length joined ≤ 1 → Some e ≡ event_heard from joined
+    → OnOk r (FitsDown (step x.server now e).out.send) → ((o : Outcome) → (left o).spent ≡ None) → IfOk r (λ told. left told ≡ core_step k false to now e x) → OnOk r (IsAnswered now from joined x)
+answered_after (Ok o) k from to now joined x e left few is fits none done = heard_answered now from joined x e few is fits (sym (ap (λ (y : ServerStepped). y.spent) done) ∙ none o)
+answered_after (Err o) k from to now joined x e left few is fits none done = tt
+
+pub heard_as_one : (now k : ℕ) (from : Peer) (replied : Option Peer) (h : Heard) (x : ServerStepped) → length h.joined ≤ 1 → server_heard now k from replied h x ≡ server_hears_one_at now k replied h (event_heard from h.joined) x
+heard_as_one now k from replied h x few = ap (λ (y : ServerRun). server_ran k y x) (server_of_one now from replied x.post h x.server few)
+
+-- ## Several
+
+pub heard_each : (now k : ℕ) (from : Peer) (replied : Option Peer) (h : Heard) (x : ServerStepped) → 1 < length h.joined → server_heard now k from replied h x ≡ server_ran k (server_replies replied (run_of now from h.joined x)) x
+heard_each now k from replied h x several = ap (λ (y : ServerRun). server_ran k y x) (server_of_several now from replied x.post h x.server several)
+
+run_left : (k : ℕ) (y : ServerRun) (x : ServerStepped) (told : Outcome) (s : Core) (post : Links) (seats : Seats) (flying : List Flying) (journal : List Item) (packets : Packets) → IsServerRun y k x told s post seats flying journal packets
+    → server_left told s post seats flying journal packets ≡ server_ran k y x
+run_left k y x told s post seats flying journal packets r =
+    λ i. made (r.server_then i) (r.post_then i) (r.seats_then i) (r.flying_then i) (r.journal_then i) (r.packets_then i) (r.told_then i) (sym r.unspent i)
+  where
+    made : Core → Links → Seats → List Flying → List Item → Packets → Outcome → Option Counter → ServerStepped
+    made s post seats flying journal packets told spent = record { server = s; post = post; seats = seats; flying = flying; journal = journal; packets = packets; outcome = told; spent = spent }
+
+pub several_left : (now k : ℕ) (from : Peer) (replied : Option Peer) (h : Heard) (x : ServerStepped) (told : Outcome) (s : Core) (post : Links) (seats : Seats) (flying : List Flying) (journal : List Item) (packets : Packets) → 1 < length h.joined
+    → IsServerRun (server_replies replied (run_of now from h.joined x)) k x told s post seats flying journal packets → server_left told s post seats flying journal packets ≡ server_heard now k from replied h x
+several_left now k from replied h x told s post seats flying journal packets several r =
+    run_left k (server_replies replied (run_of now from h.joined x)) x told s post seats flying journal packets r ∙ sym (heard_each now k from replied h x several)
+
+-- the run of a copy is that of the server itself
+pub run_alike : (now k : ℕ) (from : Peer) (replied : Option Peer) (joined heard : List Joined) (copy : Core) (x : ServerStepped) (told : Outcome) (s : Core) (post : Links) (seats : Seats) (flying : List Flying) (journal : List Item) (packets : Packets)
+    → joined ≡ heard → copy ≡ x.server
+    → IsServerRun (server_replies replied (run_of now from joined (record x { server = copy }))) k (record x { server = copy }) told s post seats flying journal packets
+    → IsServerRun (server_replies replied (run_of now from heard x)) k x told s post seats flying journal packets
+run_alike now k from replied joined heard copy x told s post seats flying journal packets same twin r =
+    subst (λ (c : Core). IsServerRun (server_replies replied (run_of now from heard (record x { server = c }))) k (record x { server = c }) told s post seats flying journal packets) twin
+    (subst (λ (js : List Joined). IsServerRun (server_replies replied (run_of now from js (record x { server = copy }))) k (record x { server = copy }) told s post seats flying journal packets) same r)
+
+pub fits_alike : (now : ℕ) (from : Peer) (joined heard : List Joined) (copy : Core) (x : ServerStepped) → joined ≡ heard → copy ≡ x.server → FitsDown (run_of now from joined (record x { server = copy })).send → FitsDown (run_of now from heard x).send
+fits_alike now from joined heard copy x same twin f =
+    subst (λ (c : Core). FitsDown (run_of now from heard (record x { server = c })).send) twin (subst (λ (js : List Joined). FitsDown (run_of now from js (record x { server = copy })).send) same f)

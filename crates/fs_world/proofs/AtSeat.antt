@@ -1,15 +1,13 @@
 -- What happened at a seat, in the world.
-use Rattle.std.proofs.Common.{◌≡◌, ◌≤◌, ℕ, Bool, true, false, List, refl, ap, sym, ◌∙◌, subst}
+use Rattle.std.proofs.Common.{◌≡◌, ◌≤◌, ℕ, false, List, refl, ap, sym, ◌∙◌, subst}
 use Rattle.std.specs.Prelude.{Option, Some, None, Result, Ok, Err, IfOk, OnOk, OnErr, is_some}
 use Rattle.std.specs.FinMap.{get, insert}
 use Rattle.fs_ident.specs.declared.actor.Peer.TheVariants.{Client, Server}
 use Rattle.fs_ident.specs.declared.actor.Session.{Session}
 use Rattle.fs_ident.specs.declared.limits.TheConstants.{SESSIONS}
-use Rattle.fs_actor.specs.Actor.{first_spent}
 use Rattle.fs_window.specs.declared.packet.Packet.{Packet}
 use Rattle.fs_world.specs.Planned.{WasSent}
 use Rattle.fs_msg.specs.declared.core_error.CoreError.{CoreError}
-use Rattle.fs_msg.specs.declared.core_error.Counter.{Counter}
 use Rattle.fs_msg.specs.declared.item.Item.{Item}
 use Rattle.fs_schedule.specs.declared.outcome.Outcome.{Outcome}
 use Rattle.fs_world.specs.Calls.{seat_found, seat_left, world_left}
@@ -20,12 +18,6 @@ use Rattle.fs_world.specs.declared.seat.Seat.{Seat}
 use Rattle.fs_world.specs.declared.served.Served.{Served}
 use Rattle.fs_world.proofs.Linked.{join_linked, told_seat_linked}
 use Rattle.fs_ident.proofs.NumberedMaps.{put_same}
-
--- where no counter is spent there is room on the link
-pub has_room : (core : Option Counter) (full : Bool) → first_spent core full ≡ None → full ≡ false
-has_room (Some counter) full h = absurd (cc)
-has_room None true h = absurd (cc)
-has_room None false h = refl
 
 -- the world with what stands at the session
 abbrev pub seated : Served → Session → Seat → List Item → Packets → Served

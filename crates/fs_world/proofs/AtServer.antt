@@ -9,7 +9,6 @@ use Rattle.fs_record.specs.Moving.{AreEachRecords}
 use Rattle.fs_record.specs.declared.parcel.Parcel.{Parcel}
 use Rattle.fs_serial.specs.Cluster.{parcel_in, parcels_of}
 use Rattle.fs_actor.specs.Actor.{is_full_down}
-use Rattle.fs_actor.specs.Hearing.{event_heard}
 use Rattle.fs_server.specs.Step.{spent_by, step}
 use Rattle.fs_msg.specs.declared.core_error.CoreError.{CoreError}
 use Rattle.fs_msg.specs.declared.item.Item.{Item}
@@ -25,7 +24,8 @@ use Rattle.fs_world.specs.Packets.{Packets}
 use Rattle.fs_world.specs.Planned.{IsAnswered, IsOwn, WasSent}
 use Rattle.fs_world.specs.Served.{Seats, ServerStepped, Stepped, at_server, core_step, server_step, server_step_at, server_told_at, with_server}
 use Rattle.fs_world.specs.declared.served.Served.{Served}
-use Rattle.fs_world.proofs.AtSeat.{has_room, linked_after}
+use Rattle.fs_world.proofs.AtSeat.{linked_after}
+use Rattle.fs_world.proofs.Spending.{has_room}
 use Rattle.fs_world.proofs.Linked.{server_linked, told_server_linked}
 use Rattle.fs_serial.proofs.Moves.Parcels.{parcel_flies}
 use Rattle.fs_world.specs.Linked.{IsParcelOf}
@@ -70,7 +70,7 @@ own_after r w new k turn now e s post there tied own h is fits =
     is fits
 
 pub told_server_at : (w : Served) (k now : ℕ) (from : Peer) (p : Packet) → WasSent from (Server k) (Some p) w.packets.sent
-    → ((s : Core) (post : Links) → slice_get w.servers k ≡ Some s → slice_get w.posts k ≡ Some post → IsAnswered now (event_heard from (post_accepted post from p).heard.joined) (at_server s (post_accepted post from p).links w))
+    → ((s : Core) (post : Links) → slice_get w.servers k ≡ Some s → slice_get w.posts k ≡ Some post → IsAnswered now from (post_accepted post from p).heard.joined (at_server s (post_accepted post from p).links w))
     → IsLinked w → IsLinked (server_told_at (slice_get w.servers k) (slice_get w.posts k) now k from p w).world
 told_server_at w k now from p x fits h = go (slice_get w.servers k) (slice_get w.posts k) refl refl
   where
@@ -80,7 +80,7 @@ told_server_at w k now from p x fits h = go (slice_get w.servers k) (slice_get w
     go (Some s) (Some post) e f = told_server_linked w k s post now from p e f x (fits s post e f) h
 
 pub told_after : (r : Result Outcome CoreError) (w new : Served) (k now : ℕ) (from : Peer) (p : Packet) → WasSent from (Server k) (Some p) w.packets.sent
-    → ((s : Core) (post : Links) → slice_get w.servers k ≡ Some s → slice_get w.posts k ≡ Some post → OnOk r (IsAnswered now (event_heard from (post_accepted post from p).heard.joined) (at_server s (post_accepted post from p).links w)))
+    → ((s : Core) (post : Links) → slice_get w.servers k ≡ Some s → slice_get w.posts k ≡ Some post → OnOk r (IsAnswered now from (post_accepted post from p).heard.joined (at_server s (post_accepted post from p).links w)))
     → IsLinked w → IfOk r (λ told. world_left told new ≡ server_told_at (slice_get w.servers k) (slice_get w.posts k) now k from p w) → OnOk r (IsLinked new)
 told_after (Ok o) w new k now from p x fits h is = subst IsLinked (sym (ap (λ (y : Stepped). y.world) is)) (told_server_at w k now from p x fits h)
 told_after (Err o) w new k now from p x fits h is = tt

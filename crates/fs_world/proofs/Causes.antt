@@ -1,5 +1,5 @@
 -- Every event of every run says only what was caused.
-use Rattle.std.proofs.Common.{◌≡◌, ℕ, ◌==◌, ◌/◌, ◌+◌, not, ◌&&◌, Bool, true, false, List, [], ◌∷◌, ◌++◌, cond, refl, sym, ◌∙◌, subst, inl}
+use Rattle.std.proofs.Common.{◌≡◌, ℕ, ◌==◌, ◌/◌, ◌+◌, not, ◌&&◌, Bool, true, false, List, [], ◌∷◌, ◌++◌, cond, refl, sym, ap, ◌∙◌, subst, inl, append-nil, append_assoc}
 use Rattle.std.specs.Prelude.{Option, Some, None, is_some, option_map, slice_get}
 use Rattle.std.specs.FinMap.{get, insert}
 use Rattle.std.specs.List.{find, list_all}
@@ -11,7 +11,6 @@ use Rattle.fs_ident.specs.declared.actor.Session.{Session}
 use Rattle.fs_ident.proofs.Standing.{In-got}
 use Rattle.fs_field.specs.declared.row.Row.{Row}
 use Rattle.fs_field.specs.Table.{has_no}
-use Rattle.fs_frag.specs.declared.joined.Joined.{Joined}
 use Rattle.fs_window.specs.Post.{Links, post_accepted, post_due}
 use Rattle.fs_window.specs.Reading.{packet_at}
 use Rattle.fs_window.specs.declared.heard.Heard.{Heard as HeardThere}
@@ -26,6 +25,7 @@ use Rattle.fs_msg.specs.declared.end.End.{End}
 use Rattle.fs_msg.specs.declared.end.End.TheVariants as end
 use Rattle.fs_msg.specs.declared.entry.Entry.{Entry}
 use Rattle.fs_msg.specs.declared.lead.Lead.{Lead as ToLead}
+use Rattle.fs_msg.specs.declared.note.Note.{Note}
 use Rattle.fs_msg.specs.declared.note.Note.TheVariants as note
 use Rattle.fs_field.specs.declared.vote.Vote.{Vote as AVote}
 use Rattle.fs_msg.specs.declared.decide.Decide.{Decide as ToDecide}
@@ -42,7 +42,7 @@ use Rattle.fs_record.specs.declared.parcel.Parcel.{Parcel}
 use Rattle.fs_view.specs.declared.kept.Kept.{Kept}
 use Rattle.fs_client.specs.Acts.{act_plan}
 use Rattle.fs_client.specs.Answers.{told}
-use Rattle.fs_actor.specs.Hearing.{event_heard, heard_in, silent_note}
+use Rattle.fs_actor.specs.Hearing.{heard_in}
 use Rattle.fs_client.specs.Client.{begun}
 use Rattle.fs_client.specs.Turns.{ending, idle, release_some, renew_some, returned, ship_some, turn_free, turn_on, turn_plan}
 use Rattle.fs_client.specs.declared.state.Client.{Client as ClientState}
@@ -53,28 +53,29 @@ use Rattle.fs_server.specs.Asks.{asked_in, recall_of, recalls_at}
 use Rattle.fs_server.specs.Follows.{applies, is_prepared, vote_here, votes}
 use Rattle.fs_server.specs.Moves.{fits_here, move_at, parcel_at, peer_step}
 use Rattle.fs_server.specs.Reaps.{lapsed_in, reap_from, recalls_for, turn_over}
-use Rattle.fs_server.specs.Server.{Stepped as ServerStepped, begun as server_begun, strange as server_strange}
+use Rattle.fs_server.specs.Server.{Stepped as CoreStepped, begun as server_begun, strange as server_strange}
 use Rattle.fs_server.specs.Ships.{ship_from, shipped}
 use Rattle.fs_server.specs.Step.{recalled_on, recalls_of, step as core_steps}
 use Rattle.fs_server.specs.declared.event.ServerEvent.{ServerEvent}
 use Rattle.fs_server.specs.declared.event.ServerEvent.TheVariants.{FromClient, FromPeer, Turn as TheTurn, Recall as TheRecall, Move as TheMove}
 use Rattle.fs_server.specs.declared.state.Server.{Server as Core}
 use Rattle.fs_serial.specs.Cluster.{is_with, without_first}
+use Rattle.fs_serial.specs.declared.flying.Flying.{Flying}
 use Rattle.fs_schedule.specs.declared.event.What.{What}
 use Rattle.fs_schedule.specs.declared.event.What.TheVariants.{Join, Do, Tell, Turn, Recall as AskBack, Move}
-use Rattle.fs_world.specs.Over.{AllCaused, Said, all_said, sender_in}
+use Rattle.fs_world.specs.Over.{AllCaused, Said, all_said, said_in, sender_in}
 use Rattle.fs_world.specs.Packets.{first_untold}
 use Rattle.fs_world.specs.Refusals.{packet_told}
-use Rattle.fs_world.specs.Calls.{server_hears}
-use Rattle.fs_world.specs.Carried.{Carries, GivesFirst, AreFirstOf, between, downs_of, joined_at, flying_between, post_of, seat_post, ups_of}
-use Rattle.fs_world.specs.Served.{SeatStepped, Seats, Stepped, arrives, at_server, client_acts, client_turns, comes, do_at, first_seat, join_at, server_step_at, server_told, server_told_at, step_of, tell_at, told_at, turn_at, with_downs, with_seat, with_server, without_up}
+use Rattle.fs_world.specs.Carried.{Carries, GivesFirst, AreFirstOf, between, downs_of, joined_at, post_of, seat_post}
+use Rattle.fs_world.specs.Served.{SeatStepped, Seats, ServerStepped, Stepped, arrives, at_server, client_acts, client_turns, comes, do_at, first_seat, flying_without, join_at, seats_without, seats_without_each, server_step_at, server_told, server_told_at, step_of, tell_at, told_at, turn_at, with_downs, with_seat, with_server, without_joined, without_up}
 use Rattle.fs_world.specs.declared.form.Form.TheVariants as form
 use Rattle.fs_world.specs.declared.seat.Seat.{Seat}
 use Rattle.fs_world.specs.declared.served.Served.{Served}
-use Rattle.fs_world.proofs.Heard.{first_flying, first_question}
 use Rattle.fs_world.proofs.HeardEach.{answers_in, heard_is}
 use Rattle.fs_world.proofs.HeardSays.{Says, heard_says}
-use Rattle.fs_world.proofs.Said.{AreGiven, AreKnown, IsKnown, IsNoted, WasGiven, act_caused, all_more, downs_known, given_append, given_behind_all, heard_more, known_put, note_caused}
+use Rattle.fs_world.proofs.ServerEach.{heard_is as server_heard_is, heard_notes as noted_there, server_notes, taking, taking_all}
+use Rattle.fs_world.proofs.ServerNext.{AreNext, IsNext, events_in}
+use Rattle.fs_world.proofs.Said.{AreGiven, AreKnown, IsKnown, IsNoted, WasGiven, act_caused, all_more, caused_append, downs_known, given_append, given_behind_all, heard_more, known_put, note_caused}
 
 -- ## What a client notes of a turn is no answer
 
@@ -158,7 +159,7 @@ ship_given : (k : ℕ) (by : Session) (entries : List Entry) (s : Core) (from : 
 ship_given k by entries s from e true = subst (λ (o : Option Peer). AreGiven (says o k (shipped by (ship_from by entries s [])).out.note) (shipped by (ship_from by entries s [])).out.send) (sym e) (inl refl, tt)
 ship_given k by entries s from e false = tt
 
-lead_given : (k : ℕ) (by : Session) (m : ToLead) (s : Core) (from : Option Peer) (x : ServerStepped) → LeadEnds by m s x → AreGiven (says from k x.out.note) x.out.send
+lead_given : (k : ℕ) (by : Session) (m : ToLead) (s : Core) (from : Option Peer) (x : CoreStepped) → LeadEnds by m s x → AreGiven (says from k x.out.note) x.out.send
 lead_given k by m s from x (unled l) = tt
 lead_given k by m s from x (put_off w l r) = (tt, tt)
 lead_given k by m s from x (aborted u l r g) = (tt, tt)
@@ -183,6 +184,61 @@ answered_caused before None k (server.Admits count at gaps) = tt
 answered_caused before (Some (Client by)) k (server.Admits count at gaps) = (tt, tt)
 answered_caused before (Some (Server j)) k (server.Admits count at gaps) = tt
 answered_caused before from k n = tt
+
+-- ## A server's steps, one after another
+
+-- it takes its step while these are the seats
+taken_says : (before : List Said) (now : ℕ) (from : Option Peer) (k : ℕ) (c : Core) (e : ServerEvent) (seats : Seats) → IsFrom from e → AreKnown before seats → Says before (says from k (core_steps c now e).out.note) (with_downs k (core_steps c now e).out.send seats)
+taken_says before now from k c e seats is known =
+    let new = says from k (core_steps c now e).out.note in
+    record {
+      caused = answered_caused before from k (core_steps c now e).out.note;
+      known = downs_known (before ++ new) k (core_steps c now e).out.send seats (given_behind_all before new (core_steps c now e).out.send (step_given k c now e from is)) (all_more before new seats known);
+    }
+
+-- the events that a packet of this one brings
+next_from : (k : ℕ) (who : Peer) (e : ServerEvent) (seats : Seats) (flying : List Flying) → IsNext k who e seats flying → IsFrom (Some who) e
+next_from k (Client s) e seats flying h = subst (IsFrom (Some (Client s))) (sym h.is) refl
+next_from k (Server i) e seats flying h = subst (IsFrom (Some (Server i))) (sym h.is) tt
+
+all_say : (es : List ServerEvent) (before : List Said) (now k : ℕ) (who : Peer) (x : ServerStepped) (seats : Seats) (flying : List Flying) → AreNext k who es seats flying → AreKnown before x.seats
+    → Says before (all_said (Some who) (Some (Server k)) (server_notes now es x.server)) (taking_all k now es x).seats
+all_say [] before now k who x seats flying next known = record { caused = tt; known = all_more before [] x.seats known }
+all_say (e ∷ es) before now k who x seats flying next known =
+    let said : Note = note.Server (core_steps x.server now e).out.note in
+    let new = all_said (Some who) (Some (Server k)) (said ∷ []) in
+    let y = taking k now e x in
+    let more = all_said (Some who) (Some (Server k)) (server_notes now es y.server) in
+    let first = taken_says before now (Some who) k x.server e x.seats (next_from k who e seats flying next.0) known in
+    let then = all_say es (before ++ new) now k who y (seats_without k who seats) (flying_without k who flying) next.1 first.known in
+    subst (λ (ss : List Said). Says before ss (taking_all k now es y).seats) (ap (λ (ss : List Said). ss ++ more) (append-nil (said_in (Some who) (Some (Server k)) said)))
+    (record {
+      caused = caused_append before new more first.caused then.caused;
+      known = subst (λ (ss : List Said). AreKnown ss (taking_all k now es y).seats) (append_assoc before new more) then.known;
+    })
+
+-- of what a packet gave
+heard_says_there : (x : HeardThere) (es : List ServerEvent) (before : List Said) (now k : ℕ) (who : Peer) (y : ServerStepped) (seats : Seats) (flying : List Flying) → AreNext k who es seats flying → AreKnown before y.seats
+    → Says before (all_said (Some who) (Some (Server k)) (noted_there x now es y.server)) (taking_all k now es y).seats
+heard_says_there x [] before now k who y seats flying next known =
+    elim (x.fresh == 0) as (λ b. Says before (all_said (Some who) (Some (Server k)) (cond b note.None note.Part ∷ [])) y.seats) [
+      | true ↦ record { caused = tt; known = all_more before [] y.seats known }
+      | false ↦ record { caused = tt; known = all_more before [] y.seats known }
+    ]
+heard_says_there x (e ∷ es) before now k who y seats flying next known = all_say (e ∷ es) before now k who y seats flying next known
+
+-- messages of sessions are on their way no more
+one_gone : (before : List Said) (k : ℕ) (who : Peer) (seats : Seats) → AreKnown before seats → AreKnown before (seats_without k who seats)
+one_gone before k (Server j) seats h = h
+one_gone before k (Client s) seats h = at (get seats s.0) refl
+  where
+    at : (o : Option Seat) → get seats s.0 ≡ o → AreKnown before (without_up k o s.0 seats)
+    at None is = h
+    at (Some seat) is = known_put before seats s (record seat { up = without_first (is_with k) seat.up }) h (record { over = (h s seat is).over; coming = (h s seat is).coming })
+
+gone_known : {Y : Type 0} (before : List Said) (k : ℕ) (who : Peer) (ys : List Y) (seats : Seats) → AreKnown before seats → AreKnown before (seats_without_each k who ys seats)
+gone_known before k who [] seats h = h
+gone_known before k who (y ∷ ys) seats h = gone_known before k who ys (seats_without k who seats) (one_gone before k who seats h)
 
 -- ## Each event
 
@@ -252,51 +308,15 @@ module _ (before : List Said) (w : Served) (h : AreKnown before w.seats) (now : 
   -- ## At a server that there is
 
   module _ (k : ℕ) (c : Core) (post : Links) where
-    -- it takes its step while these are the seats
-    steps : (e : ServerEvent) (seats : Seats) → IsFrom from e → AreKnown before seats → Says before (says from k (core_steps c now e).out.note) (with_downs k (core_steps c now e).out.send seats)
-    steps e seats is known =
-        let new = says from k (core_steps c now e).out.note in
-        record {
-          caused = answered_caused before from k (core_steps c now e).out.note;
-          known = downs_known (before ++ new) k (core_steps c now e).out.send seats (given_behind_all before new (core_steps c now e).out.send (step_given k c now e from is)) (all_more before new seats known);
-        }
-
-    abbrev hearing : Peer → Option Peer → HeardThere → Option ServerEvent → Links → Stepped
-    hearing who heard x e links = with_server k (server_hears now k who heard x e (record (at_server c post w) { post = links })) w
-
-    unheard_says : (who : Peer) (heard : Option Peer) (x : HeardThere) (links : Links) → Tells (hearing who heard x None links)
-    unheard_says who heard x links = noted x.joined
-      where
-        noted : (js : List Joined) → Says before (all_said from (Some (Server k)) (silent_note js x ∷ [])) w.seats
-        noted [] = elim (x.fresh == 0) as (λ b. Says before (all_said from (Some (Server k)) (cond b note.None note.Part ∷ [])) w.seats) [ true ↦ silent w.seats h | false ↦ silent w.seats h ]
-        noted (j ∷ js) = silent w.seats h
-
-    message_says : (s : Session) (seat : Seat) (heard : Option Peer) (x : HeardThere) (links : Links) (m : ℕ × ClientMsg) → from ≡ Some (Client s) → get w.seats s.0 ≡ Some seat → Tells (hearing (Client s) heard x (Some (FromClient s m.1)) links)
-    message_says s seat heard x links m of is =
-        subst (λ (o : Option Seat). Says before (says from k (core_steps c now (FromClient s m.1)).out.note) (with_downs k (core_steps c now (FromClient s m.1)).out.send (without_up k o s.0 w.seats))) (sym is)
-        (steps (FromClient s m.1) (insert w.seats s.0 (record seat { up = without_first (is_with k) seat.up })) of
-        (known_put before w.seats s (record seat { up = without_first (is_with k) seat.up }) h (record { over = (h s seat is).over; coming = (h s seat is).coming })))
-
-    session_says : (s : Session) (o : Option Seat) → from ≡ Some (Client s) → get w.seats s.0 ≡ o → (heard : Option Peer) (x : HeardThere) (js : List Joined) (links : Links) → AreFirstOf js (ups_of k o) → Tells (hearing (Client s) heard x (event_heard (Client s) js) links)
-    session_says s o of is heard x [] links f = unheard_says (Client s) heard x links
-    session_says s None of is heard x (j ∷ js) links f = absurd f
-    session_says s (Some seat) of is heard x (j ∷ js) links f =
-        let first = first_question k s seat j js f in
-        subst (λ (e : Option ServerEvent). Tells (hearing (Client s) heard x e links)) (sym first.2) (message_says s seat heard x links first.0 of is)
-
-    peer_says : (i : ℕ) (heard : Option Peer) (x : HeardThere) (js : List Joined) (links : Links) → AreFirstOf js (flying_between i k w.flying) → Tells (hearing (Server i) heard x (event_heard (Server i) js) links)
-    peer_says i heard x [] links f = unheard_says (Server i) heard x links
-    peer_says i heard x (j ∷ js) links f =
-        let first = first_flying k i w.flying j js f in
-        subst (λ (e : Option ServerEvent). Tells (hearing (Server i) heard x e links)) (sym first.2) (steps (FromPeer i first.0.message) w.seats tt h)
-
     told_server : (who : Peer) (p : Packet) → from ≡ Some who → AreFirstOf (post_accepted post who p).heard.joined (between w who (Server k)) → Tells (with_server k (server_told now k who p (at_server c post w)) w)
-    told_server (Client s) p of f =
-        let a = post_accepted post (Client s) p in
-        session_says s (get w.seats s.0) of refl (heard_in (Client s) p) a.heard a.heard.joined a.links f
-    told_server (Server i) p of f =
-        let a = post_accepted post (Server i) p in
-        peer_says i (heard_in (Server i) p) a.heard a.heard.joined a.links f
+    told_server who p of f =
+        let a = post_accepted post who p in
+        let x : ServerStepped = without_joined k who a.heard.joined (record (at_server c post w) { post = a.links }) in
+        let es = events_in w k who a.heard.joined f in
+        let known = gone_known before k who a.heard.joined w.seats h in
+        let then = heard_says_there a.heard es.0 before now k who x w.seats w.flying es.2 known in
+        subst (λ (y : ServerStepped). Tells (with_server k y w)) (sym (server_heard_is k now who (heard_in who p) a.heard es.0 x es.1))
+        (subst (λ (o : Option Peer). Says before (all_said o (Some (Server k)) (noted_there a.heard now es.0 c)) (taking_all k now es.0 x).seats) (sym of) then)
 
   -- ## At any server
 
@@ -307,7 +327,7 @@ module _ (before : List Said) (w : Served) (h : AreKnown before w.seats) (now : 
   told_at_server k who p None None of f = silent w.seats h
 
   own_says : (k : ℕ) (turn : Bool) (e : ServerEvent) (c : Option Core) (post : Option Links) → IsFrom from e → Tells (server_step_at c post k turn now e w)
-  own_says k turn e (Some c) (Some post) is = steps k c post e w.seats is h
+  own_says k turn e (Some c) (Some post) is = taken_says before now from k c e w.seats is h
   own_says k turn e (Some c) None is = silent w.seats h
   own_says k turn e None (Some post) is = silent w.seats h
   own_says k turn e None None is = silent w.seats h

@@ -32,7 +32,7 @@ use Rattle.fs_world.specs.Carried.{AreFirstOf}
 use Rattle.fs_world.specs.Packets.{Packets, numbers_from, with_sent}
 use Rattle.fs_world.specs.Served.{SeatStepped, seat_ran, without_each}
 use Rattle.fs_world.specs.declared.seat.Seat.{Seat}
-use Rattle.fs_world.proofs.LinkedLists.{behind, first_gone, found_joined}
+use Rattle.fs_world.proofs.LinkedLists.{first_gone, found_joined, later_first}
 use Rattle.fs_world.proofs.NamedClients.{answer_admits, answer_silent}
 
 -- ## What is heard
@@ -63,16 +63,12 @@ first_answer k down j js f = at (find (is_with k) down) refl
         let same : m.0 ≡ k = eqb-true m.0 k (found (is_with k) down m e).1 in
         (m.1, e ∙ ap (λ (n : ℕ). Some (n, m.1)) same, ap (answer_from (Server k)) (sent_read j (msg.Answer m.1) here.0.0 here.0.1))
 
-later_first : (j : Joined) (js : List Joined) (down : List (ℕ × Answer)) → AreFirstOf (j ∷ js) (map as_sent down) → AreFirstOf js (map as_sent (behind down))
-later_first j js [] f = absurd f
-later_first j js (m ∷ down) f = f.1
-
 -- what comes first of the answers on their way is answers, each the next one
 pub answers_in : (k : ℕ) (js : List Joined) (down : List (ℕ × Answer)) → AreFirstOf js (map as_sent (filter (is_with k) down)) → (answers : List Answer) × AreAnswers k js answers × AreNext k answers down
 answers_in k [] down f = ([], tt, tt)
 answers_in k (j ∷ js) down f =
     let first = first_answer k down j js f in
-    let rest = answers_in k js (without_first (is_with k) down) (subst (λ (ms : List (ℕ × Answer)). AreFirstOf js (map as_sent ms)) (sym (first_gone (is_with k) down)) (later_first j js (filter (is_with k) down) f)) in
+    let rest = answers_in k js (without_first (is_with k) down) (subst (λ (ms : List (ℕ × Answer)). AreFirstOf js (map as_sent ms)) (sym (first_gone (is_with k) down)) (later_first as_sent j js (filter (is_with k) down) f)) in
     (first.0 ∷ rest.0, (first.2, rest.1), (first.1, rest.2))
 
 -- as many go

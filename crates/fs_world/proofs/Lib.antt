@@ -47,6 +47,11 @@ pub mod ServedHolds
 pub mod ServerHolds
 pub mod SessionSteps
 pub mod ServedSteps
+pub mod ServedEach
+pub mod ServerEach
+pub mod ServerNext
+pub mod ServerBrings
+pub mod MessagesRead
 pub mod FirstServed
 pub mod ServedDone
 pub mod GoesOn

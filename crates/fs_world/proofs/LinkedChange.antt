@@ -1,5 +1,5 @@
 -- One actor's links change, or the messages between it and others: the links of all actors stay tied.
-use Rattle.std.proofs.Common.{◌≡◌, ◌+◌, ◌<◌, ◌≤◌, ◌^◌, Bool, true, false, List, [], ◌∷◌, ◌++◌, length, Option, Some, None, refl, sym, ap, subst, cond, ◌∙◌, append-nil, arith}
+use Rattle.std.proofs.Common.{◌≡◌, ◌+◌, ◌<◌, ◌^◌, Bool, true, false, List, [], ◌∷◌, ◌++◌, length, Option, Some, None, refl, sym, ap, subst, cond, ◌∙◌, append-nil, arith}
 use Rattle.std.specs.Cmp.{eq_by_cmp_equiv}
 use Rattle.std.specs.FinMap.{get}
 use Rattle.std.specs.Prelude.{slice_get}
@@ -27,7 +27,7 @@ use Rattle.fs_serial.specs.declared.flying.Flying.{Flying}
 use Rattle.fs_world.specs.Linked.{AreTied, GoesBetween, AreFirstOf, IsPair, IsPost, IsThere, between, downs_of, flying_between, post_of, seat_post, ups_of}
 use Rattle.fs_world.specs.Served.{Seats, link_width}
 use Rattle.fs_world.specs.declared.served.Served.{Served}
-use Rattle.fs_world.proofs.LinkedPair.{BothWays, GoesElsewhere, IsDue, both_accepted, both_due, both_new, both_pushed, first_joined, pair_elsewhere, rest_of, narrow_joined}
+use Rattle.fs_world.proofs.LinkedPair.{BothWays, GoesElsewhere, IsDue, both_accepted, both_due, both_new, both_pushed, first_joined, pair_elsewhere, rest_of}
 
 -- ## Actors
 
@@ -254,10 +254,6 @@ tied_accepted a b p q packet w v i j e of c out back others h =
 pub first_of : (a b : Peer) (p q : Links) (packet : Packet) (w : Served) → post_of w a ≡ Some p → post_of w b ≡ Some q → same_peer a b ≡ false
     → IsPacketOf (link_with q a).window (link_with p b).window packet → AreTied w → AreFirstOf (post_accepted p b packet).heard.joined (between w b a)
 first_of a b p q packet w i j e of h = first_joined (link_with q a) (link_with p b) (between w b a) packet of (both_of w a b p q (other_way a b e) i j h).coming.way
-
--- while links are narrow this is one message at most
-pub few_of : (a b : Peer) (p q : Links) (packet : Packet) (w : Served) → post_of w a ≡ Some p → post_of w b ≡ Some q → same_peer a b ≡ false → AreTied w → length (post_accepted p b packet).heard.joined ≤ 1
-few_of a b p q packet w i j e h = narrow_joined (link_with q a) (link_with p b) (between w b a) packet (both_of w a b p q (other_way a b e) i j h).coming.way
 
 -- ## What is due goes out
 

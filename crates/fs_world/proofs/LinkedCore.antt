@@ -1,42 +1,30 @@
--- What happens at a server keeps what holds of the links, and what comes to it is the first message on its way.
-use Rattle.std.proofs.Common.{◌≡◌, ◌∙◌, ◌<◌, ◌≤◌, ◌==◌, ℕ, Bool, true, false, List, [], ◌∷◌, ◌++◌, length, Option, Some, None, refl, sym, ap, subst, cond, inl, inr, arith}
+-- What happens at a server keeps what holds of the links, and what comes to it are the first messages on their way.
+use Rattle.std.proofs.Common.{◌≡◌, ◌∙◌, ◌<◌, ◌==◌, ℕ, Bool, true, false, List, [], ◌∷◌, ◌++◌, length, Option, Some, None, refl, sym, ap, subst, cond, inl, inr, arith}
 use Rattle.std.specs.Prelude.{is_some, slice_get, slice_set}
 use Rattle.std.specs.FinMap.{get, insert}
-use Rattle.std.specs.List.{AllByRecursion, find, list_all}
 use Rattle.std.proofs.lemmas.Bool.{eqb-true}
 use Rattle.std.proofs.lemmas.List.{length-set}
 use Rattle.fs_ident.specs.In.{In}
 use Rattle.fs_ident.specs.declared.actor.Peer.{Peer}
 use Rattle.fs_ident.specs.declared.actor.Peer.TheVariants.{Server, Client}
 use Rattle.fs_ident.specs.declared.actor.Session.{Session}
-use Rattle.fs_ident.proofs.Booleans.{joined as both_joined}
-use Rattle.fs_ident.proofs.Passing.{found}
 use Rattle.fs_ident.proofs.Standing.{In-both, In-more}
 use Rattle.fs_frag.specs.declared.joined.Joined.{Joined}
-use Rattle.fs_model.specs.declared.op.Op.{Op}
-use Rattle.fs_model.specs.declared.op.Op.TheVariants as op
 use Rattle.fs_window.specs.declared.heard.Heard.{Heard}
 use Rattle.fs_window.specs.declared.packet.Packet.{Packet}
 use Rattle.fs_window.specs.Peers.{same_peer}
 use Rattle.fs_window.specs.Post.{Links, post_accepted}
 use Rattle.fs_window.proofs.Lists.{some_is}
-use Rattle.fs_wire.specs.Ranges.{FitsOp}
-use Rattle.fs_wire.specs.Readable.{is_readable_op}
-use Rattle.fs_msg.specs.Ranges.{FitsEntry, FitsMessage}
-use Rattle.fs_msg.specs.Readable.{is_readable, is_readable_entry}
 use Rattle.fs_msg.specs.declared.answer.Answer.{Answer}
 use Rattle.fs_msg.specs.declared.client_msg.ClientMsg.{ClientMsg}
-use Rattle.fs_msg.specs.declared.client_msg.ClientMsg.TheVariants as client
 use Rattle.fs_msg.specs.declared.core_error.Counter.{Counter}
-use Rattle.fs_msg.specs.declared.entry.Entry.{Entry}
 use Rattle.fs_msg.specs.declared.item.Item.{Item}
 use Rattle.fs_msg.specs.declared.msg.Msg.{Msg}
 use Rattle.fs_msg.specs.declared.msg.Msg.TheVariants as msg
 use Rattle.fs_msg.specs.declared.note.Note.{Note}
 use Rattle.fs_msg.specs.declared.note.Note.TheVariants as note
-use Rattle.fs_actor.specs.Actor as actor
 use Rattle.fs_actor.specs.Actor.{first_spent, is_full_down, with_pushed}
-use Rattle.fs_actor.specs.Hearing.{event_heard, heard_in, unheard_note}
+use Rattle.fs_actor.specs.Hearing.{heard_in}
 use Rattle.fs_serial.specs.Cluster.{flying_from, is_between, is_with, without_first}
 use Rattle.fs_serial.specs.declared.flying.Flying.{Flying}
 use Rattle.fs_server.specs.Server.{Stepped as CoreStepped}
@@ -45,49 +33,24 @@ use Rattle.fs_server.specs.declared.event.ServerEvent.{ServerEvent}
 use Rattle.fs_server.specs.declared.event.ServerEvent.TheVariants.{FromClient, FromPeer, Move, Recall, Turn}
 use Rattle.fs_server.specs.declared.state.Server.{Server as Core}
 use Rattle.fs_serial.proofs.Lists.SetAt.{In_without, set_same}
-use Rattle.fs_world.specs.Linked.{AreTied, FitsDown, HasJoined, IsCarried, AreFirstOf, IsLinked, IsNamedAnswer, IsSeated, IsServed, between, flying_between, seat_post, ups_of}
+use Rattle.fs_world.specs.Linked.{AreTied, FitsDown, HasJoined, IsCarried, AreFirstOf, IsLinked, IsNamedAnswer, IsSeated, IsServed, between, seat_post}
 use Rattle.fs_world.specs.Planned.{IsAnswered, IsOwn, WasSent}
-use Rattle.fs_world.specs.Calls.{server_goes, server_hears}
-use Rattle.fs_world.specs.Served.{Seats, ServerStepped, at_server, core_of, core_step, server_step, server_step_at, server_stepped, server_told, with_down, with_down_at, with_downs, with_server, without_up, without_each}
+use Rattle.fs_world.specs.Calls.{server_goes, server_heard}
+use Rattle.fs_world.specs.Served.{Seats, ServerStepped, at_server, core_step, flying_without_each, seats_without_each, server_step, server_step_at, server_told, with_down, with_down_at, with_downs, with_server, without_each, without_joined, without_up}
 use Rattle.fs_world.specs.declared.seat.Seat.{Seat}
 use Rattle.fs_world.specs.declared.served.Served.{Served}
-use Rattle.fs_world.proofs.LinkedChange.{IsHeard, few_of, first_of, other_way, tied_alike}
-use Rattle.fs_world.proofs.GoesAlone.{goes_alone}
-use Rattle.fs_world.proofs.Heard.{first_flying, first_question}
+use Rattle.fs_world.proofs.LinkedChange.{IsHeard, first_of, other_way, tied_alike}
 use Rattle.fs_world.proofs.LinkedLists.{got_set, within}
-use Rattle.fs_world.proofs.LinkedSeats.{all_put, got_here, put_same}
+use Rattle.fs_world.proofs.LinkedSeats.{all_put, got_here, put_again, put_same}
 use Rattle.fs_world.proofs.LinkedServed.{other_post, server_due, server_hears_server, server_hears_session, server_sends, serving}
-use Rattle.fs_world.proofs.NamedServers.{AreSent, IsBrought, IsStepped, in_range, step_goes}
+use Rattle.fs_world.proofs.NamedServers.{AreSent, IsBrought, IsStepped, step_goes}
 use Rattle.fs_world.proofs.LinkedFirst.{AllSeated, carried_then, posts_there, readable_in, served_then}
 use Rattle.fs_world.proofs.LinkedSession.{packet_of, went}
 use Rattle.fs_world.proofs.Seen.{joined_still}
 use Rattle.fs_world.proofs.SeenSends.{downs_joined}
-
--- ## What can be spelled can be read
-
-op_readable : (o : Op) → FitsOp o → is_readable_op o ≡ true
-op_readable (op.OpenFile file n modes) h = h.2
-op_readable (op.Reap file s) h = in_range s.0 1 _ h.1.0 h.1.1
-op_readable (op.Lookup dir name) h = refl
-op_readable (op.List dir) h = refl
-op_readable (op.Kind file) h = refl
-op_readable (op.Info file) h = refl
-op_readable (op.Create dir name kind id) h = refl
-op_readable (op.Close file n) h = refl
-op_readable (op.Set file n size stamp) h = refl
-op_readable (op.Delete dir name) h = refl
-op_readable (op.Rename sdir sname ddir dname) h = refl
-
-entries_readable : (es : List Entry) → AllByRecursion FitsEntry es → list_all is_readable_entry es ≡ true
-entries_readable [] h = refl
-entries_readable (e ∷ es) h = both_joined (is_readable_entry e) (list_all is_readable_entry es) (op_readable e.op h.0.op) (entries_readable es h.1)
-
-pub message_readable : (m : ClientMsg) → FitsMessage (msg.Client m) → is_readable (msg.Client m) ≡ true
-message_readable (client.Ask items fresh) h = refl
-message_readable (client.Renew pairs) h = refl
-message_readable (client.Release pairs) h = refl
-message_readable (client.Ship entries) h = entries_readable entries h.1
-message_readable (client.Lead m) h = op_readable m.op h.op
+use Rattle.fs_world.proofs.ServerBrings.{AreBrought, IsSender, as_brought, brought_still, next_brought}
+use Rattle.fs_world.proofs.ServerEach.{AreWritten, HaveRoom, answered_room, answered_written, due_out, heard_is, taking, taking_all}
+use Rattle.fs_world.proofs.ServerNext.{AreNext, events_in}
 
 -- ## While a server is at its step
 
@@ -208,22 +171,20 @@ module _ (w : Served) (k : ℕ) (few : k < length w.servers) (h : IsLinked w) wh
   flying_carried seats ((Server to, msg.Peer m) ∷ xs) sent f (inl e) = subst (λ (y : Flying). IsCarried server_count seats y) (sym e) sent.0
   flying_carried seats ((Server to, msg.Peer m) ∷ xs) sent f (inr i) = flying_carried seats xs sent.1 f i
 
-  pub core_goes : (x : ServerStepped) (turn : Bool) (heard : Option Peer) (now : ℕ) (e : ServerEvent) → IsOther server_count x.seats k heard → IsBrought server_count x.seats x.server e → FitsDown (step x.server now e).out.send → is_full_down (step x.server now e).out.send x.post ≡ false
-      → IsGoing w k x → IsGoing w k (core_step k turn heard now e x)
-  core_goes x turn heard now e of brought fits room g =
+  -- its core takes the step, and what that sends is on its way
+  pub step_taken : (x : ServerStepped) (now : ℕ) (e : ServerEvent) → IsBrought server_count x.seats x.server e → FitsDown (step x.server now e).out.send → is_full_down (step x.server now e).out.send x.post ≡ false
+      → IsGoing w k x → IsGoing w k (taking k now e x)
+  step_taken x now e brought fits room g =
       let y : CoreStepped = step x.server now e in
       let k_step : IsStepped server_count x.seats k y = step_goes server_count x.seats k few (readable_in server_count x.seats g.seats) x.server now e brought g.server in
       let still = downs_joined k y.out.send x.seats in
-      due_goes (record x { server = y.server; post = with_pushed y.out.send x.post; seats = with_downs k y.out.send x.seats; flying = x.flying ++ flying_from k y.out.send; journal = x.journal ++ y.out.admitted })
-      turn heard (note.Server y.out.note) (first_spent (spent_by x.server now e) (is_full_down y.out.send x.post))
-      (other_still server_count x.seats (with_downs k y.out.send x.seats) k heard still of)
-      (record {
+      record {
         tied = tied_same (with_pushed y.out.send x.post) (with_downs k y.out.send x.seats) (x.flying ++ flying_from k y.out.send) y.server (x.journal ++ y.out.admitted) (server_sends w k there server_count x.seats (posts_there w h) (readable_in server_count x.seats g.seats) y.out.send x (λ t j. j) k_step.sends fits room g.tied);
         server = served_then server_count x.seats (with_downs k y.out.send x.seats) k y.server still k_step.server;
         seats = downs_seated x.seats y.out.send x.seats k_step.sends g.seats;
         flying = λ f i. carried_then server_count x.seats (with_downs k y.out.send x.seats) f still (In-both f x.flying (flying_from k y.out.send) (IsCarried server_count x.seats f) (λ j. g.flying f j) (λ j. flying_carried x.seats y.out.send k_step.sends f j) i);
         joined = λ t j. still t (g.joined t j);
-      })
+      }
     where
       -- the server and the journal have no part in the links
       tied_same : (post : Links) (seats : Seats) (flying : List Flying) (server : Core) (journal : List Item) → AreTied (serving k (record x { post = post; seats = seats; flying = flying }) w) → AreTied (serving k (record x { server = server; post = post; seats = seats; flying = flying; journal = journal }) w)
@@ -232,53 +193,45 @@ module _ (w : Served) (k : ℕ) (few : k < length w.servers) (h : IsLinked w) wh
           let b = record x { server = server; post = post; seats = seats; flying = flying; journal = journal } in
           tied_alike (serving k a w) (serving k b w) refl refl refl refl t
 
+  pub core_goes : (x : ServerStepped) (turn : Bool) (heard : Option Peer) (now : ℕ) (e : ServerEvent) → IsOther server_count x.seats k heard → IsBrought server_count x.seats x.server e → FitsDown (step x.server now e).out.send → is_full_down (step x.server now e).out.send x.post ≡ false
+      → IsGoing w k x → IsGoing w k (core_step k turn heard now e x)
+  core_goes x turn heard now e of brought fits room g =
+      let y : CoreStepped = step x.server now e in
+      due_goes (taking k now e x) turn heard (note.Server y.out.note) (first_spent (spent_by x.server now e) (is_full_down y.out.send x.post))
+      (other_still server_count x.seats (with_downs k y.out.send x.seats) k heard (downs_joined k y.out.send x.seats) of)
+      (step_taken x now e brought fits room g)
+
   -- ## A packet comes
 
-  of_other : (x : ServerStepped) (from : Peer) (p : Packet) → IsOther server_count x.seats k (Some from) → IsOther server_count x.seats k (heard_in from p)
-  of_other x from p of = either (is_some p.body)
+  -- the steps at all that it brings, one after another
+  steps_taken : (es : List ServerEvent) (x : ServerStepped) (now : ℕ) → AreBrought x.seats es → HaveRoom now es x.server x.post → AreWritten now es x.server → IsGoing w k x → IsGoing w k (taking_all k now es x)
+  steps_taken [] x now brought room fits g = g
+  steps_taken (e ∷ es) x now brought room fits g =
+      steps_taken es (taking k now e x) now (brought_still x.seats (taking k now e x).seats es (downs_joined k (step x.server now e).out.send x.seats) brought.1) room.1 fits.1
+      (step_taken x now e (as_brought server_count x.seats x.server e brought.0) fits.0 room.0 g)
+
+  -- whatever is noted
+  goes_out : (x : ServerStepped) (replied : Option Peer) (notes : List Note) (spent : Option Counter) → IsOther server_count x.seats k replied → IsGoing w k x → IsGoing w k (due_out k replied notes spent x)
+  goes_out x replied notes spent of g =
+      let then = due_goes x false replied note.None spent of g in
+      record { tied = then.tied; server = then.server; seats = then.seats; flying = then.flying; joined = then.joined }
+
+  of_other : (from : Peer) (p : Packet) → IsOther server_count w.seats k (Some from) → IsOther server_count w.seats k (heard_in from p)
+  of_other from p of = either (is_some p.body)
     where
-      either : (b : Bool) → IsOther server_count x.seats k (cond b (Some from) None)
+      either : (b : Bool) → IsOther server_count w.seats k (cond b (Some from) None)
       either true = of
       either false = tt
 
-  -- no message is heard
-  none_heard : (x : ServerStepped) (heard : Option Peer) (n : Note) → IsOther server_count x.seats k heard → IsGoing w k x → IsGoing w k (server_stepped k (actor.server_goes false heard n (core_of x)) x)
-  none_heard x heard n of g = subst (IsGoing w k) (goes_alone k false heard n x) (due_goes x false heard n None of g)
-
-  -- of a session
-  session_comes : (x : ServerStepped) (s : Session) (seat : Seat) (now : ℕ) (heard : Option Peer) (count : Heard) (post : Links) (joined : List Joined)
-      → get x.seats s.0 ≡ Some seat → IsOther server_count x.seats k heard → AreFirstOf joined (ups_of k (Some seat)) → length joined ≤ 1
-      → IsGoing w k (record x { post = post; seats = insert x.seats s.0 (record seat { up = without_each joined (is_with k) seat.up }) })
-      → IsAnswered now (event_heard (Client s) joined) (record x { post = post })
-      → IsGoing w k (server_hears now k (Client s) heard count (event_heard (Client s) joined) (record x { post = post }))
-  session_comes x s seat now heard count post [] is of f one g answered =
-      none_heard (record x { post = post }) heard (unheard_note count) of (subst (λ (seats : Seats). IsGoing w k (record x { post = post; seats = seats })) (put_same x.seats s seat is) g)
-  session_comes x s seat now heard count post (j ∷ i ∷ js) is of f one g answered = absurd (omega arith)
-  session_comes x s seat now heard count post (j ∷ []) is of f one g answered =
-      let first = first_question k s seat j [] f in
-      let m = first.0 in
-      let fits = subst (λ (o : Option ServerEvent). IsAnswered now o (record x { post = post })) first.2 answered in
-      let left : Seat = record seat { up = without_first (is_with k) seat.up } in
-      subst (λ (o : Option ServerEvent). IsGoing w k (server_hears now k (Client s) heard count o (record x { post = post }))) (sym first.2)
-      (subst (λ (o : Option Seat). IsGoing w k (core_step k false heard now (FromClient s m.1) (record x { post = post; seats = without_up k o s.0 x.seats }))) (sym is)
-      (core_goes (record x { post = post; seats = insert x.seats s.0 left }) false heard now (FromClient s m.1)
-      (other_still server_count x.seats (insert x.seats s.0 left) k heard (λ t q. joined_still x.seats s t left q) of)
-      ((left, got_here x.seats s left), message_readable m.1 first.3) fits.0 fits.1 g))
-
-  -- of another server
-  server_comes : (x : ServerStepped) (i : ℕ) (now : ℕ) (heard : Option Peer) (count : Heard) (post : Links) (joined : List Joined)
-      → IsOther server_count x.seats k heard → AreFirstOf joined (flying_between i k x.flying) → length joined ≤ 1 → ((f : Flying) → find (is_between i k) x.flying ≡ Some f → IsCarried server_count x.seats f)
-      → IsGoing w k (record x { post = post; flying = without_each joined (is_between i k) x.flying })
-      → IsAnswered now (event_heard (Server i) joined) (record x { post = post })
-      → IsGoing w k (server_hears now k (Server i) heard count (event_heard (Server i) joined) (record x { post = post }))
-  server_comes x i now heard count post [] of f one carried g answered = none_heard (record x { post = post }) heard (unheard_note count) of g
-  server_comes x i now heard count post (j ∷ n ∷ js) of f one carried g answered = absurd (omega arith)
-  server_comes x i now heard count post (j ∷ []) of f one carried g answered =
-      let first = first_flying k i x.flying j [] f in
-      let c = carried first.0 first.1 in
-      let fits = subst (λ (o : Option ServerEvent). IsAnswered now o (record x { post = post })) first.2 answered in
-      subst (λ (o : Option ServerEvent). IsGoing w k (server_hears now k (Server i) heard count o (record x { post = post }))) (sym first.2)
-      (core_goes (record x { post = post; flying = without_first (is_between i k) x.flying }) false heard now (FromPeer i first.0.message) of c.parcel fits.0 fits.1 g)
+  -- what was joined is on its way no more, and the server hears it
+  all_heard : (x : ServerStepped) (from : Peer) (now : ℕ) (replied : Option Peer) (heard : Heard) → IsOther server_count w.seats k replied → IsSender w.seats from → AreFirstOf heard.joined (between w from (Server k))
+      → IsGoing w k x → IsAnswered now from heard.joined x → IsGoing w k (server_heard now k from replied heard x)
+  all_heard x from now replied heard of sender first g answered =
+      let es = events_in w k from heard.joined first in
+      let brought = brought_still w.seats x.seats es.0 g.joined (next_brought server_count k from es.0 w.seats w.seats w.flying sender h.flying es.2) in
+      let then = steps_taken es.0 x now brought (answered_room now from heard.joined es.0 x es.1 answered) (answered_written now from heard.joined es.0 x es.1 answered) g in
+      subst (IsGoing w k) (sym (heard_is k now from replied heard es.0 x es.1))
+      (goes_out (taking_all k now es.0 x) replied _ _ (other_still server_count w.seats (taking_all k now es.0 x).seats k replied then.joined of) then)
 
 -- ## An event of a server
 
@@ -306,11 +259,6 @@ told_server_first w k post from p e x h =
     let g = went w from (Server k) p x h in
     first_of (Server k) from post g.from.0 p w e g.from.1 (other_way from (Server k) g.apart) (packet_of w from (Server k) g.from.0 post p g.from.1 e x h) h.ties
 
-told_server_few : (w : Served) (k : ℕ) (post : Links) (from : Peer) (p : Packet) → slice_get w.posts k ≡ Some post → WasSent from (Server k) (Some p) w.packets.sent → IsLinked w → length (post_accepted post from p).heard.joined ≤ 1
-told_server_few w k post from p e x h =
-    let g = went w from (Server k) p x h in
-    few_of (Server k) from post g.from.0 p w e g.from.1 (other_way from (Server k) g.apart) h.ties
-
 -- the session that has these links
 seat_there : (w : Served) (s : Session) (q : Links) → seat_post (get w.seats s.0) ≡ Some q → (seat : Seat) × (get w.seats s.0 ≡ Some seat)
 seat_there w s q e = at (get w.seats s.0) refl e
@@ -328,11 +276,32 @@ In-taken : (joined : List Joined) (is : Flying → Bool) (f : Flying) (flying : 
 In-taken [] is f flying i = i
 In-taken (j ∷ js) is f flying i = In_without is flying f (In-taken js is f (without_first is flying) i)
 
-pub told_server_linked : (w : Served) (k : ℕ) (c : Core) (post : Links) (now : ℕ) (from : Peer) (p : Packet) → slice_get w.servers k ≡ Some c → slice_get w.posts k ≡ Some post → WasSent from (Server k) (Some p) w.packets.sent
-    → IsAnswered now (event_heard from (post_accepted post from p).heard.joined) (record (at_server c post w) { post = (post_accepted post from p).links })
-    → IsLinked w → IsLinked (with_server k (server_told now k from p (at_server c post w)) w).world
-told_server_linked w k c post now (Client s) p i e x answered h =
-    let few = within w.servers k c i in
+-- of a session
+seats_gone : (k : ℕ) (s : Session) (js : List Joined) (seats : Seats) (seat : Seat) → get seats s.0 ≡ Some seat → insert seats s.0 (record seat { up = without_each js (is_with k) seat.up }) ≡ seats_without_each k (Client s) js seats
+seats_gone k s [] seats seat is = put_same seats s seat is
+seats_gone k s (j ∷ js) seats seat is =
+    let left : Seat = record seat { up = without_first (is_with k) seat.up } in
+    sym (put_again seats s left (record seat { up = without_each (j ∷ js) (is_with k) seat.up }))
+    ∙ seats_gone k s js (insert seats s.0 left) left (got_here seats s left)
+    ∙ sym (ap (λ (o : Option Seat). seats_without_each k (Client s) js (without_up k o s.0 seats)) is)
+
+flying_stays : (k : ℕ) (s : Session) (js : List Joined) (flying : List Flying) → flying ≡ flying_without_each k (Client s) js flying
+flying_stays k s [] flying = refl
+flying_stays k s (j ∷ js) flying = flying_stays k s js flying
+
+-- of another server
+seats_stay : (k i : ℕ) (js : List Joined) (seats : Seats) → seats ≡ seats_without_each k (Server i) js seats
+seats_stay k i [] seats = refl
+seats_stay k i (j ∷ js) seats = seats_stay k i js seats
+
+flying_gone : (k i : ℕ) (js : List Joined) (flying : List Flying) → without_each js (is_between i k) flying ≡ flying_without_each k (Server i) js flying
+flying_gone k i [] flying = refl
+flying_gone k i (j ∷ js) flying = flying_gone k i js (without_first (is_between i k) flying)
+
+-- what was joined is on its way no more
+gone_going : (w : Served) (k : ℕ) (c : Core) (post : Links) (from : Peer) (p : Packet) → slice_get w.servers k ≡ Some c → slice_get w.posts k ≡ Some post → WasSent from (Server k) (Some p) w.packets.sent → IsLinked w
+    → IsGoing w k (without_joined k from (post_accepted post from p).heard.joined (record (at_server c post w) { post = (post_accepted post from p).links }))
+gone_going w k c post (Client s) p i e x h =
     let y : ServerStepped = at_server c post w in
     let g = went w (Client s) (Server k) p x h in
     let there = seat_there w s g.from.0 g.from.1 in
@@ -342,36 +311,48 @@ told_server_linked w k c post now (Client s) p i e x answered h =
     let n = length w.servers in
     let start = begins w k c post i e h in
     let left : Seat = record seat { up = without_each a.heard.joined (is_with k) seat.up } in
-    going_linked w k (server_told now k (Client s) p y) few
-    (session_comes w k few h y s seat now (heard_in (Client s) p) a.heard a.links a.heard.joined is (of_other w k few h y (Client s) p (seat, is))
-    (subst (λ (o : Option Seat). AreFirstOf a.heard.joined (ups_of k o)) is (told_server_first w k post (Client s) p e x h))
-    (told_server_few w k post (Client s) p e x h)
-    (record {
+    let gone : IsGoing w k (record y { post = a.links; seats = insert w.seats s.0 left }) = record {
       tied = server_hears_session w k (within w.posts k post e) s seat p y is (packet_of w (Client s) (Server k) seat.post post p (ap seat_post is) e x h) start.tied;
       server = served_then n w.seats (insert w.seats s.0 left) k c (λ t q. joined_still w.seats s t left q) start.server;
       seats = all_put (IsSeated n) w.seats s left (up_seated n s seat a.heard.joined (is_with k) (h.seats s seat is)) h.seats;
       flying = λ f j. carried_then n w.seats (insert w.seats s.0 left) f (λ t q. joined_still w.seats s t left q) (h.flying f j);
       joined = λ t q. joined_still w.seats s t left q;
-    })
-    answered)
-    h
-told_server_linked w k c post now (Server i) p at e x answered h =
-    let few = within w.servers k c at in
+    } in
+    subst (λ (fs : List Flying). IsGoing w k (record y { post = a.links; seats = seats_without_each k (Client s) a.heard.joined w.seats; flying = fs })) (flying_stays k s a.heard.joined w.flying)
+    (subst (λ (m : Seats). IsGoing w k (record y { post = a.links; seats = m })) (seats_gone k s a.heard.joined w.seats seat is) gone)
+gone_going w k c post (Server i) p at e x h =
     let y : ServerStepped = at_server c post w in
     let g = went w (Server i) (Server k) p x h in
     let a = post_accepted post (Server i) p in
-    let n = length w.servers in
     let start = begins w k c post at e h in
-    let from_few : i < n = subst (λ (m : ℕ). i < m) h.posts (within w.posts i g.from.0 g.from.1) in
-    going_linked w k (server_told now k (Server i) p y) few
-    (server_comes w k few h y i now (heard_in (Server i) p) a.heard a.links a.heard.joined (of_other w k few h y (Server i) p (from_few, g.apart))
-    (told_server_first w k post (Server i) p e x h) (told_server_few w k post (Server i) p e x h) (λ f q. h.flying f (found (is_between i k) w.flying f q).0)
-    (record {
+    let gone : IsGoing w k (record y { post = a.links; flying = without_each a.heard.joined (is_between i k) w.flying }) = record {
       tied = server_hears_server w k (within w.posts k post e) i g.from.0 p y g.from.1 g.apart (other_way (Server i) (Server k) g.apart) (packet_of w (Server i) (Server k) g.from.0 post p g.from.1 e x h) start.tied;
       server = start.server;
       seats = h.seats;
       flying = λ f j. h.flying f (In-taken a.heard.joined (is_between i k) f w.flying j);
       joined = λ t q. q;
-    })
-    answered)
+    } in
+    subst (λ (m : Seats). IsGoing w k (record y { post = a.links; seats = m; flying = flying_without_each k (Server i) a.heard.joined w.flying })) (seats_stay k i a.heard.joined w.seats)
+    (subst (λ (fs : List Flying). IsGoing w k (record y { post = a.links; flying = fs })) (flying_gone k i a.heard.joined w.flying) gone)
+
+-- whoever sent it has joined, or is another server that there is
+sender_there : (w : Served) (k : ℕ) (from : Peer) (p : Packet) → WasSent from (Server k) (Some p) w.packets.sent → IsLinked w → IsOther (length w.servers) w.seats k (Some from) × IsSender w.seats from
+sender_there w k (Client s) p x h = let g = went w (Client s) (Server k) p x h in let there = seat_there w s g.from.0 g.from.1 in (there, there)
+sender_there w k (Server i) p x h =
+    let g = went w (Server i) (Server k) p x h in
+    ((subst (λ (m : ℕ). i < m) h.posts (within w.posts i g.from.0 g.from.1), g.apart), tt)
+
+pub told_server_brought : (w : Served) (k : ℕ) (post : Links) (from : Peer) (p : Packet) (es : List ServerEvent) → WasSent from (Server k) (Some p) w.packets.sent → IsLinked w → AreNext k from es w.seats w.flying → AreBrought w.seats es
+told_server_brought w k post from p es x h next = next_brought (length w.servers) k from es w.seats w.seats w.flying (sender_there w k from p x h).1 h.flying next
+
+pub told_server_linked : (w : Served) (k : ℕ) (c : Core) (post : Links) (now : ℕ) (from : Peer) (p : Packet) → slice_get w.servers k ≡ Some c → slice_get w.posts k ≡ Some post → WasSent from (Server k) (Some p) w.packets.sent
+    → IsAnswered now from (post_accepted post from p).heard.joined (record (at_server c post w) { post = (post_accepted post from p).links })
+    → IsLinked w → IsLinked (with_server k (server_told now k from p (at_server c post w)) w).world
+told_server_linked w k c post now from p i e x answered h =
+    let few = within w.servers k c i in
+    let a = post_accepted post from p in
+    let sender = sender_there w k from p x h in
+    going_linked w k (server_told now k from p (at_server c post w)) few
+    (all_heard w k few h (without_joined k from a.heard.joined (record (at_server c post w) { post = a.links })) from now (heard_in from p) a.heard
+    (of_other w k few h from p sender.0) sender.1 (told_server_first w k post from p e x h) (gone_going w k c post from p i e x h) answered)
     h

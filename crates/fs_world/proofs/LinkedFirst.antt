@@ -37,7 +37,7 @@ use Rattle.fs_msg.specs.declared.peer_msg.PeerMsg.TheVariants.{Parcel as OfParce
 pub served_then : (servers : ℕ) (a b : Seats) (k : ℕ) (s : Core) → ((t : Session) → HasJoined a t → HasJoined b t) → IsServed servers a k s → IsServed servers b k s
 served_then servers a b k s g h = record { me = h.me; named = h.named; records = h.records; handles = h.handles; rows = λ row i. g row.session (h.rows row i) }
 
-brings_then : (a b : Seats) (m : PeerMsg) → ((t : Session) → HasJoined a t → HasJoined b t) → BringsParcel a m → BringsParcel b m
+pub brings_then : (a b : Seats) (m : PeerMsg) → ((t : Session) → HasJoined a t → HasJoined b t) → BringsParcel a m → BringsParcel b m
 brings_then a b (OfParcel p) g h = record { each = h.each; handles = h.handles; rows = λ row i. g row.session (h.rows row i) }
 brings_then a b (Prepare m) g h = h
 brings_then a b (Vote m) g h = h

@@ -54,6 +54,28 @@ found_first {X} is (x ∷ xs) o e = either (is x) o (λ q. found_first is xs o q
 pub found_joined : {X : Type 0} (g : X → Msg) (is : X → Bool) (xs : List X) (joined : List Joined) (o : Option X) (e : find is xs ≡ o) → AreFirstOf joined (map g (filter is xs)) → AreFirstOf joined (map g (first_before o (found_first is xs o e).0))
 found_joined {X} g is xs joined o e f = subst (λ (ys : List X). AreFirstOf joined (map g ys)) (found_first is xs o e).1 f
 
+-- behind the first one what is joined is of the rest
+pub later_first : {X : Type 0} (g : X → Msg) (j : Joined) (js : List Joined) (xs : List X) → AreFirstOf (j ∷ js) (map g xs) → AreFirstOf js (map g (behind xs))
+later_first g j js [] f = absurd f
+later_first g j js (x ∷ xs) f = f.1
+
+-- where one is found, what stands behind is of no matter
+pub find_front : {X : Type 0} (is : X → Bool) (xs ys : List X) (x : X) → find is xs ≡ Some x → find is (xs ++ ys) ≡ Some x
+find_front is [] ys x e = absurd (cc)
+find_front {X} is (z ∷ zs) ys x e = either (is z) e (λ q. find_front is zs ys x q)
+  where
+    either : (b : Bool) → cond b (Some z) (find is zs) ≡ Some x → (find is zs ≡ Some x → find is (zs ++ ys) ≡ Some x) → cond b (Some z) (find is (zs ++ ys)) ≡ Some x
+    either true e h = e
+    either false e h = h e
+
+pub without_front : {X : Type 0} (is : X → Bool) (xs ys : List X) (x : X) → find is xs ≡ Some x → without_first is (xs ++ ys) ≡ without_first is xs ++ ys
+without_front is [] ys x e = absurd (cc)
+without_front {X} is (z ∷ zs) ys x e = either (is z) e (λ q. without_front is zs ys x q)
+  where
+    either : (b : Bool) → cond b (Some z) (find is zs) ≡ Some x → (find is zs ≡ Some x → without_first is (zs ++ ys) ≡ without_first is zs ++ ys) → cond b (zs ++ ys) (z ∷ without_first is (zs ++ ys)) ≡ cond b zs (z ∷ without_first is zs) ++ ys
+    either true e h = refl
+    either false e h = ap (λ (l : List X). z ∷ l) (h e)
+
 -- one more of them
 pub one_more : {X Y : Type 0} (f : X → Y) (is : X → Bool) (xs : List X) (x : X) → is x ≡ true → map f (filter is (xs ++ x ∷ [])) ≡ map f (filter is xs) ++ f x ∷ []
 one_more {X} f is xs x e =

@@ -1,27 +1,23 @@
 -- The links of two actors with each other: what is pushed, what goes out, and what comes.
-use Rattle.std.proofs.Common.{◌≡◌, ℕ, ◌+◌, ◌<◌, ◌≤◌, ◌^◌, Bool, List, [], ◌∷◌, ◌++◌, length, map, Option, Some, None, sym, ap, subst, ◌∙◌, arith}
+use Rattle.std.proofs.Common.{◌≡◌, ℕ, ◌+◌, ◌<◌, ◌^◌, Bool, List, [], ◌∷◌, ◌++◌, length, map, Some, sym, ap, subst, ◌∙◌}
 use Rattle.std.specs.List.{AllByRecursion}
-use Rattle.std.specs.Prelude.{Result, Ok, Err}
 use Rattle.std.proofs.lemmas.List.{map-append}
 use Rattle.fs_ident.specs.In.{In}
 use Rattle.fs_ident.specs.declared.actor.Peer.{Peer}
 use Rattle.fs_ident.proofs.Standing.{In-both}
 use Rattle.fs_frag.specs.Cut.{cut_of}
-use Rattle.fs_frag.specs.Joined.{answers, answer_of, joined_of}
-use Rattle.fs_frag.specs.declared.error.FragError.{FragError}
 use Rattle.fs_frag.specs.declared.joined.Joined.{Joined}
 use Rattle.fs_frag.specs.declared.joined.Joined.TheVariants.{Whole}
 use Rattle.fs_window.specs.declared.link.Link.{Link}
 use Rattle.fs_window.specs.declared.packet.Packet.{Packet}
 use Rattle.fs_window.specs.declared.sent.Sent.{Sent}
-use Rattle.fs_window.specs.LinkEnd.{due_of, given_by, pushed_count}
+use Rattle.fs_window.specs.LinkEnd.{due_of, pushed_count}
 use Rattle.fs_window.specs.OnTheWay.{Carries, HasHeard, IsPacketOf}
 use Rattle.fs_window.specs.Packet.{packet_text}
 use Rattle.fs_window.specs.Post.{heard_on, link_accepted, link_pushed, link_sent, new_link}
 use Rattle.fs_window.specs.Reading.{packet_at}
 use Rattle.fs_window.proofs.Carried.{carries_new, carries_pushed, carries_sent, carries_told, carries_back, carries_other_pushed, carries_other_sent, made_fits, packet_pushed, packet_sent, packet_told, packet_back, packet_other_pushed, packet_other_sent}
 use Rattle.fs_window.proofs.Lists.{some_is}
-use Rattle.fs_window.proofs.Narrow.{narrow_new, narrow_pushed, narrow_sent, narrow_accepted, one_given}
 use Rattle.fs_window.proofs.OneStep.{made_packet}
 use Rattle.fs_window.proofs.ReadBack.{written}
 use Rattle.fs_msg.specs.Ranges.{FitsMessage}
@@ -43,8 +39,8 @@ GoesElsewhere a b packets = (x : Sent) → In x packets → x.from ≡ a → x.t
 -- two new links
 pub both_new : (a b : Peer) (packets : List Sent) → GoesElsewhere a b packets → GoesElsewhere b a packets → BothWays a b (new_link link_width) (new_link link_width) [] [] packets
 both_new a b packets g k = record {
-  going = record { way = record { narrow = narrow_new; carries = carries_new link_width link_width; fits = tt }; packets = λ x i e f. absurd (g x i e f) };
-  coming = record { way = record { narrow = narrow_new; carries = carries_new link_width link_width; fits = tt }; packets = λ x i e f. absurd (k x i e f) };
+  going = record { way = record { carries = carries_new link_width link_width; fits = tt }; packets = λ x i e f. absurd (g x i e f) };
+  coming = record { way = record { carries = carries_new link_width link_width; fits = tt }; packets = λ x i e f. absurd (k x i e f) };
 }
 
 -- packets go out elsewhere
@@ -65,7 +61,6 @@ pub both_pushed : (a b : Peer) (here there : Link) (out back : List Msg) (packet
 both_pushed a b here there out back packets m fits short room h = record {
   going = record {
     way = record {
-      narrow = h.going.way.narrow;
       carries = subst (λ (ms : List (List ℕ)). Carries (link_pushed here (message m)) there ms) (sym (map-append message out (m ∷ [])))
           (carries_pushed here there (map message out) (message m) short room h.going.way.carries);
       fits = fits_more out m h.going.way.fits (record { short = short; fits = fits });
@@ -73,7 +68,7 @@ both_pushed a b here there out back packets m fits short room h = record {
     packets = λ x i e f. going (h.going.packets x i e f);
   };
   coming = record {
-    way = record { narrow = narrow_pushed here.window (cut_of (message m)) h.coming.way.narrow; carries = carries_other_pushed there here (map message back) (message m) h.coming.way.carries; fits = h.coming.way.fits };
+    way = record { carries = carries_other_pushed there here (map message back) (message m) h.coming.way.carries; fits = h.coming.way.fits };
     packets = λ x i e f. coming (h.coming.packets x i e f);
   };
 }
@@ -98,11 +93,11 @@ pub both_due : (a b : Peer) (here there : Link) (out back : List Msg) (packets m
     → BothWays a b here there out back packets → BothWays a b (link_sent here) there out back (packets ++ more)
 both_due a b here there out back packets more due elsewhere h = record {
   going = record {
-    way = record { narrow = h.going.way.narrow; carries = carries_sent here there (map message out) h.going.way.carries; fits = h.going.way.fits };
+    way = record { carries = carries_sent here there (map message out) h.going.way.carries; fits = h.going.way.fits };
     packets = λ x i e f. In-both x packets more (IsSentOver (link_sent here) there x.bytes) (λ j. going (h.going.packets x j e f)) (λ j. made (due x j e f)) i;
   };
   coming = record {
-    way = record { narrow = narrow_sent here.window h.coming.way.narrow; carries = carries_other_sent there here (map message back) h.coming.way.carries; fits = h.coming.way.fits };
+    way = record { carries = carries_other_sent there here (map message back) h.coming.way.carries; fits = h.coming.way.fits };
     packets = λ x i e f. In-both x packets more (IsSentOver there (link_sent here) x.bytes) (λ j. coming (h.coming.packets x j e f)) (λ j. absurd (elsewhere x j e f)) i;
   };
 }
@@ -132,20 +127,6 @@ abbrev pub rest_of : {X : Type 0} → List Joined → List X → List X
 rest_of [] ms = ms
 rest_of (j ∷ js) [] = []
 rest_of (j ∷ js) (m ∷ ms) = rest_of js ms
-
--- a packet completes no more than one message
-one_answer : (r : Result (Option (List ℕ)) FragError) → length (joined_of (r ∷ [])) ≤ 1
-one_answer (Ok (Some m)) = omega arith
-one_answer (Ok None) = omega arith
-one_answer (Err e) = omega arith
-
-few_joined : (held : List ℕ) (segments : List (List ℕ)) → length segments ≤ 1 → length (joined_of (answers held segments)) ≤ 1
-few_joined held [] few = omega arith
-few_joined held (s ∷ []) few = one_answer (answer_of (held ++ s))
-few_joined held (s ∷ t ∷ segments) few = absurd (omega arith)
-
-pub narrow_joined : (from to : Link) (messages : List Msg) (p : Packet) → IsWay from to messages → length (heard_on to p).joined ≤ 1
-narrow_joined from to messages p h = few_joined to.joiner (given_by to.window p.body) (one_given to.window p.body h.narrow)
 
 -- where these come whole
 record AreFirst (joined : List Joined) (others : List (List ℕ)) (messages : List Msg) : Type 0 where
@@ -181,11 +162,11 @@ both_accepted a b here there out back packets p q h =
     let t = heard_first there here back p q h.coming.way in
     record {
       going = record {
-        way = record { narrow = h.going.way.narrow; carries = carries_back here there (map message out) p q.ack h.going.way.carries; fits = h.going.way.fits };
+        way = record { carries = carries_back here there (map message out) p q.ack h.going.way.carries; fits = h.going.way.fits };
         packets = λ x i e f. going (h.going.packets x i e f);
       };
       coming = record {
-        way = record { narrow = narrow_accepted here.window p h.coming.way.narrow; carries = subst (λ (ms : List (List ℕ)). Carries there (link_accepted here p) ms) t.1.0.rest t.1.1; fits = t.1.0.fits };
+        way = record { carries = subst (λ (ms : List (List ℕ)). Carries there (link_accepted here p) ms) t.1.0.rest t.1.1; fits = t.1.0.fits };
         packets = λ x i e f. coming (h.coming.packets x i e f);
       };
     }

@@ -7,8 +7,7 @@ use Rattle.fs_ident.specs.declared.actor.Peer.{Peer}
 use Rattle.fs_ident.specs.declared.actor.Peer.TheVariants.{Server, Client}
 use Rattle.fs_ident.specs.declared.actor.Session.{Session}
 use Rattle.fs_ident.proofs.Standing.{In-got}
-use Rattle.fs_frag.specs.declared.joined.Joined.{Joined}
-use Rattle.fs_actor.specs.Hearing.{event_heard, heard_in, quiet_note, silent_note, unheard_note}
+use Rattle.fs_actor.specs.Hearing.{heard_in, quiet_note}
 use Rattle.fs_model.specs.declared.op.Op.{Op}
 use Rattle.fs_window.specs.Post.{Links, post_accepted}
 use Rattle.fs_window.specs.Reading.{packet_at}
@@ -27,24 +26,26 @@ use Rattle.fs_schedule.specs.declared.event.Event.{Event}
 use Rattle.fs_schedule.specs.declared.event.What.{What}
 use Rattle.fs_schedule.specs.declared.event.What.TheVariants.{Join, Do, Tell, Turn, Recall, Move}
 use Rattle.fs_schedule.specs.declared.outcome.Outcome.{Outcome}
+use Rattle.fs_server.specs.Step.{step as core_step}
 use Rattle.fs_server.specs.declared.event.ServerEvent.{ServerEvent}
 use Rattle.fs_server.specs.declared.event.ServerEvent.TheVariants.{Turn as TheTurn, Recall as TheRecall, Move as TheMove}
 use Rattle.fs_server.specs.declared.state.Server.{Server as Core}
 use Rattle.fs_world.specs.Direct as direct
-use Rattle.fs_world.specs.Carried.{Carries, GivesFirst, AreFirstOf, LinksCarry, between, downs_of, joined_at, flying_between, post_of, seat_post, ups_of}
+use Rattle.fs_world.specs.Carried.{Carries, GivesFirst, AreFirstOf, LinksCarry, between, downs_of, joined_at, post_of, seat_post}
 use Rattle.fs_world.specs.Packets.{Packets, first_untold}
 use Rattle.fs_world.specs.Refusals.{HasNone, is_link_strange}
 use Rattle.fs_world.specs.Served as served
-use Rattle.fs_world.specs.Calls.{client_hears, server_hears}
-use Rattle.fs_world.specs.Served.{SeatStepped, ServerStepped, arrives, at_server, comes, do_at, join_at, server_step_at, server_told_at, tell, tell_at, told_at, turn_at}
+use Rattle.fs_world.specs.Calls.{client_hears, server_heard}
+use Rattle.fs_world.specs.Served.{SeatStepped, ServerStepped, arrives, at_server, comes, do_at, join_at, server_step_at, server_told_at, tell, tell_at, told_at, turn_at, without_joined}
 use Rattle.fs_world.specs.World.{step}
 use Rattle.fs_world.specs.declared.direct.Direct.{Direct as TheDirect}
 use Rattle.fs_world.specs.declared.form.Form.{Form}
 use Rattle.fs_world.specs.declared.form.Form.TheVariants.{Direct, Served}
 use Rattle.fs_world.specs.declared.seat.Seat.{Seat}
 use Rattle.fs_world.specs.declared.served.Served.{Served as TheServed}
-use Rattle.fs_world.proofs.Heard.{first_flying, first_question}
 use Rattle.fs_world.proofs.HeardEach.{answers_in, heard_is, heard_notes, notes_all}
+use Rattle.fs_world.proofs.ServerEach.{heard_is as server_heard_is, heard_notes as noted_there, server_notes}
+use Rattle.fs_world.proofs.ServerNext.{events_in}
 
 -- nothing unsent came over a link
 abbrev IsPlain : Outcome → Type 0
@@ -54,10 +55,6 @@ IsPlain o = HasNone is_link_strange o
 
 quiet_plain : (h : Heard) → is_link_strange (quiet_note h) ≡ false
 quiet_plain h = elim (h.fresh == 0) as (λ (b : Bool). is_link_strange (cond b note.None note.Part) ≡ false) [ true ↦ refl | false ↦ refl ]
-
--- nothing was joined
-silent_plain : (h : Heard) → h.joined ≡ [] → is_link_strange (unheard_note h) ≡ false
-silent_plain h e = subst (λ (js : List Joined). is_link_strange (silent_note js h) ≡ false) (sym e) (quiet_plain h)
 
 answers_plain : (now k : ℕ) (answers : List Answer) (c : ClientCore) → AllByRecursion (λ (n : Note). is_link_strange n ≡ false) (notes_all now k answers c)
 answers_plain now k [] c = tt
@@ -72,21 +69,18 @@ client_plain now s k from h seat journal p f =
     let heard = answers_in k h.joined seat.down f in
     subst (λ (x : SeatStepped). IsPlain x.outcome) (sym (heard_is s now k from h heard.0 seat journal p heard.1)) (heard_plain h now k heard.0 seat.client)
 
-module _ (w : TheServed) (now k : ℕ) (from : Option Peer) (h : Heard) (x : ServerStepped) where
-  session_plain : (s : Session) (o : Option Seat) (js : List Joined) → h.joined ≡ js → AreFirstOf js (ups_of k o) → IsPlain (server_hears now k (Client s) from h (event_heard (Client s) js) x).outcome
-  session_plain s o [] e f = (silent_plain h e, tt)
-  session_plain s None (j ∷ js) e f = absurd f
-  session_plain s (Some seat) (j ∷ js) e f =
-      subst (λ (y : Option ServerEvent). IsPlain (server_hears now k (Client s) from h y x).outcome) (sym (first_question k s seat j js f).2) (refl, tt)
+steps_plain : (now : ℕ) (es : List ServerEvent) (c : Core) → AllByRecursion (λ (n : Note). is_link_strange n ≡ false) (server_notes now es c)
+steps_plain now [] c = tt
+steps_plain now (e ∷ es) c = (refl, steps_plain now es (core_step c now e).server)
 
-  peer_plain : (i : ℕ) (js : List Joined) → h.joined ≡ js → AreFirstOf js (flying_between i k w.flying) → IsPlain (server_hears now k (Server i) from h (event_heard (Server i) js) x).outcome
-  peer_plain i [] e f = (silent_plain h e, tt)
-  peer_plain i (j ∷ js) e f =
-      subst (λ (y : Option ServerEvent). IsPlain (server_hears now k (Server i) from h y x).outcome) (sym (first_flying k i w.flying j js f).2) (refl, tt)
+heard_there : (h : Heard) (now : ℕ) (es : List ServerEvent) (c : Core) → AllByRecursion (λ (n : Note). is_link_strange n ≡ false) (noted_there h now es c)
+heard_there h now [] c = (quiet_plain h, tt)
+heard_there h now (e ∷ es) c = steps_plain now (e ∷ es) c
 
-  server_plain : (who : Peer) → AreFirstOf h.joined (between w who (Server k)) → IsPlain (server_hears now k who from h (event_heard who h.joined) x).outcome
-  server_plain (Client s) f = session_plain s (get w.seats s.0) h.joined refl f
-  server_plain (Server i) f = peer_plain i h.joined refl f
+server_plain : (w : TheServed) (now k : ℕ) (from : Option Peer) (h : Heard) (x : ServerStepped) (who : Peer) → AreFirstOf h.joined (between w who (Server k)) → IsPlain (server_heard now k who from h x).outcome
+server_plain w now k from h x who f =
+    let es = events_in w k who h.joined f in
+    subst (λ (y : ServerStepped). IsPlain y.outcome) (sym (server_heard_is k now who from h es.0 x es.1)) (heard_there h now es.0 x.server)
 
 -- ## A packet is told
 
@@ -102,7 +96,7 @@ module _ (w : TheServed) (now : ℕ) where
   server_comes_plain k from p (Some c) None f = (refl, tt)
   server_comes_plain k from p (Some c) (Some post) f =
       let a = post_accepted post from p in
-      server_plain w now k (heard_in from p) a.heard (record (at_server c post w) { post = a.links }) from f
+      server_plain w now k (heard_in from p) a.heard (without_joined k from a.heard.joined (record (at_server c post w) { post = a.links })) from f
 
   comes_plain : (from to : Peer) (p : Packet) → AreFirstOf (joined_at (post_of w to) from p) (between w from to) → IsPlain (comes now from to p w).outcome
   comes_plain from (Server k) p f = server_comes_plain k from p (slice_get w.servers k) (slice_get w.posts k) f

@@ -12,9 +12,9 @@ use Rattle.fs_ident.proofs.Passing.{found}
 use Rattle.fs_ident.proofs.Standing.{In-got}
 use Rattle.fs_field.specs.declared.field.Field.{Field}
 use Rattle.fs_field.specs.declared.row.Row.{Row}
-use Rattle.fs_frag.specs.declared.joined.Joined.{Joined}
 use Rattle.fs_model.specs.declared.op.Op.{Op}
 use Rattle.fs_window.specs.Post.{Links, post_accepted}
+use Rattle.fs_window.proofs.Lists.{some_is}
 use Rattle.fs_window.specs.Reading.{packet_at}
 use Rattle.fs_window.specs.declared.heard.Heard.{Heard}
 use Rattle.fs_window.specs.declared.packet.Packet.{Packet}
@@ -24,7 +24,7 @@ use Rattle.fs_msg.specs.declared.client_msg.ClientMsg.{ClientMsg}
 use Rattle.fs_msg.specs.declared.client_msg.ClientMsg.TheVariants.{Ask, Release, Renew, Ship, Lead}
 use Rattle.fs_msg.specs.declared.note.Note.{Note}
 use Rattle.fs_msg.specs.declared.note.Note.TheVariants as note
-use Rattle.fs_actor.specs.Hearing.{event_heard, heard_in, quiet_note, silent_note}
+use Rattle.fs_actor.specs.Hearing.{heard_in, quiet_note}
 use Rattle.fs_client.specs.Answers.{answer_plan}
 use Rattle.fs_server.specs.Step.{step}
 use Rattle.fs_server.specs.declared.event.ServerEvent.{ServerEvent}
@@ -33,28 +33,32 @@ use Rattle.fs_server.specs.declared.state.Server.{Server as Core}
 use Rattle.fs_schedule.specs.declared.event.Head.TheVariants.{Servers}
 use Rattle.fs_schedule.specs.declared.event.What.{What}
 use Rattle.fs_schedule.specs.declared.event.What.TheVariants.{Join, Do, Tell, Turn, Recall, Move}
-use Rattle.fs_serial.specs.Cluster.{Cluster, IsThere, Lines, after_step, is_with, parcels_of}
+use Rattle.fs_serial.specs.Cluster.{Cluster, IsThere, Lines, after_step, is_with, parcels_of, without_first}
+use Rattle.fs_serial.specs.Seen.{ends_of}
+use Rattle.fs_serial.proofs.Lists.SetAt.{get_here, set_same}
 use Rattle.fs_serial.specs.Refusals.{rows_in}
 use Rattle.fs_serial.specs.Joined.{rows_of_all}
-use Rattle.fs_world.specs.Calls.{server_hears}
-use Rattle.fs_world.specs.Carried.{Carries, GivesFirst, AreFirstOf, between, downs_of, joined_at, flying_between, post_of, seat_post, ups_of}
+use Rattle.fs_world.specs.Calls.{without_message}
+use Rattle.fs_world.specs.Carried.{Carries, GivesFirst, AreFirstOf, between, downs_of, joined_at, post_of, seat_post}
 use Rattle.fs_world.specs.Order.{Tale, ended_in}
 use Rattle.fs_world.specs.Packets.{first_untold}
 use Rattle.fs_world.specs.Parts.{lines_in, lines_of}
-use Rattle.fs_world.specs.Served.{SeatStepped, Stepped, arrives, at_server, comes, do_at, join_at, server_step_at, server_told, server_told_at, step_of, tell_at, told_at, turn_at, with_seat, with_server}
+use Rattle.fs_world.specs.Served.{SeatStepped, ServerStepped, Stepped, arrives, at_server, comes, do_at, join_at, server_step_at, server_told, server_told_at, step_of, tell_at, told_at, turn_at, flying_without_each, with_seat, with_server, without_joined, without_up}
 use Rattle.fs_world.specs.Refusals.{IsFairAnswer, packet_told}
 use Rattle.fs_world.specs.World.{may_happen}
 use Rattle.fs_world.specs.declared.form.Form.TheVariants.{Served as ServedForm}
 use Rattle.fs_world.specs.declared.seat.Seat.{Seat}
 use Rattle.fs_world.specs.declared.served.Served.{Served}
-use Rattle.fs_world.proofs.Heard.{first_flying, first_question}
-use Rattle.fs_world.proofs.HeardEach.{AreNext, answers_in, heard_is, heard_notes, notes_all, seat_after}
+use Rattle.fs_world.proofs.HeardEach.{AreNext as AreAnswersNext, answers_in, heard_is as answers_heard, heard_notes as answers_noted, notes_all, seat_after}
 use Rattle.fs_world.proofs.LinkedSeats.{got_here}
 use Rattle.fs_world.proofs.Right.{Answers, IsRight, TakesEvent, event_right, plain_client, turn_right}
-use Rattle.fs_world.proofs.SerialLaws.{SerialLaws, timed}
-use Rattle.fs_world.proofs.ServedHolds.{cluster_of}
+use Rattle.fs_world.proofs.SerialLaws.{AsksOne, SerialLaws, all_exchanges, timed}
+use Rattle.fs_world.proofs.ServedEach.{few_up, later_next, no_second, one_holds, parts_at}
+use Rattle.fs_world.proofs.ServedHolds.{Holds, Parts, cluster_of}
 use Rattle.fs_world.proofs.ServedSteps.{to_there}
+use Rattle.fs_world.proofs.ServerEach.{heard_is, heard_notes, server_notes, taking, taking_all}
 use Rattle.fs_world.proofs.ServerHolds.{clock, flying_there, question_there}
+use Rattle.fs_world.proofs.ServerNext.{AreNext, events_in, flying_alike}
 use Rattle.fs_world.proofs.SessionSteps.{HoldsOf, heard_next, parts_of}
 
 -- what the event notes is right
@@ -67,17 +71,13 @@ quiet ok x = elim (x.fresh == 0) as (λ b. AllRight ok (cond b note.None note.Pa
   | false ↦ (record { plain = refl; fair = tt }, tt)
 ]
 
-silent : (ok : Answers) (js : List Joined) (x : Heard) → AllRight ok (silent_note js x ∷ [])
-silent ok [] x = quiet ok x
-silent ok (j ∷ js) x = (record { plain = refl; fair = tt }, tt)
-
 -- the question is the first of the server's, as it was found
 question_found : (k : ℕ) (up : List (ℕ × ClientMsg)) (m : ℕ × ClientMsg) → find (is_with k) up ≡ Some m → find (is_with k) up ≡ Some (k, m.1)
 question_found k up m first = first ∙ ap (λ (j : ℕ). let o : Option (ℕ × ClientMsg) = Some (j, m.1) in o) (eqb-true m.0 k (found (is_with k) up m first).1)
 
 -- what a client notes of the next answers of a server, one after another
 notes_right : (answers : List Answer) (laws : SerialLaws) (count skew greatest : ℕ) (tale : Tale) (w : Served) (h : HoldsOf (timed laws) count skew greatest tale w) (now : ℕ) (within : greatest ≤ now + skew) (some : 1 ≤ count)
-    (s : Session) (seat : Seat) (at : get w.seats s.0 ≡ Some seat) (k : ℕ) (ok : Answers) → AreNext k answers seat.down → AllRight ok (notes_all now k answers seat.client)
+    (s : Session) (seat : Seat) (at : get w.seats s.0 ≡ Some seat) (k : ℕ) (ok : Answers) → AreAnswersNext k answers seat.down → AllRight ok (notes_all now k answers seat.client)
 notes_right [] laws count skew greatest tale w h now within some s seat at k ok next = tt
 notes_right (a ∷ answers) laws count skew greatest tale w h now within some s seat at k ok next =
     let own : lines_of w.term w.seats s ≡ lines_in w.term s (Some seat) = ap (lines_in w.term s) at in
@@ -88,6 +88,21 @@ notes_right (a ∷ answers) laws count skew greatest tale w h now within some s 
           (plain_client ok (answer_plan (lines_of w.term w.seats s).client now k a).out.note
           (laws.client_plain skew greatest now k a s (cluster_of h.replied (parts_of w)) (ap (λ (n : Lines). find (is_with k) n.down) own ∙ next.0) h.cluster)),
       notes_right answers laws count skew (max greatest now) between v (heard_next (timed laws) count skew greatest tale w h now within some s seat at k a seat.post next.0) now (omega (arith, within)) some s one (got_here w.seats s one) k ok next.1,
+    )
+
+-- what a server notes of the next messages of another one, one after another
+peers_right : (es : List ServerEvent) (laws : SerialLaws) (count skew greatest : ℕ) (tale : Tale) (p : Parts) (x : ServerStepped) (k : ℕ) (c : Core) (at : slice_get p.servers k ≡ Some c) (h : Holds (timed laws) count skew greatest tale (parts_at p k x))
+    (now : ℕ) (within : greatest ≤ now + skew) (i : ℕ) (ok : Answers) → AreNext k (Server i) es x.seats x.flying → AllRight ok (server_notes now es x.server)
+peers_right [] laws count skew greatest tale p x k c at h now within i ok next = tt
+peers_right (e ∷ es) laws count skew greatest tale p x k c at h now within i ok next =
+    let q = next.0 in
+    let v = parts_at p k x in
+    let here : slice_get v.servers k ≡ Some x.server = get_here p.servers k c x.server at in
+    let right : IsRight ok (note.Server (step x.server now (FromPeer i q.flies.message)).out.note) =
+    event_right laws skew greatest now k x.server (cluster_of h.replied v) here h.cluster (clock (timed laws) count skew greatest tale v h now k x.server here) within ok (FromPeer i q.flies.message)
+    (flying_there (timed laws) count skew greatest tale v h now k x.server here i q.flies q.first) tt in (
+      subst (λ (f : ServerEvent). IsRight ok (note.Server (step x.server now f).out.note)) (sym q.is) right,
+      peers_right es laws count skew (max greatest now) tale p (taking k now e (without_message k (Server i) x)) k c at (one_holds (timed laws) count skew greatest tale p x k c at h now (Server i) e q) now (omega (arith, within)) i ok (later_next k (Server i) now e es x next),
     )
 
 module _ (laws : SerialLaws) (count skew greatest : ℕ) (tale : Tale) (w : Served) (h : HoldsOf (timed laws) count skew greatest tale w) (now : ℕ) (within : greatest ≤ now + skew) (some : 1 ≤ count) where
@@ -119,7 +134,7 @@ module _ (laws : SerialLaws) (count skew greatest : ℕ) (tale : Tale) (w : Serv
     turns_right s None = (record { plain = refl; fair = tt }, tt)
     turns_right s (Some seat) = (turn_right (fair_at what w) seat.client now, tt)
 
-    heard_right : (s : Session) (k : ℕ) (seat : Seat) (x : Heard) (answers : List Answer) → get w.seats s.0 ≡ Some seat → AreNext k answers seat.down → AllRight (fair_at what w) (heard_notes x now k answers seat.client)
+    heard_right : (s : Session) (k : ℕ) (seat : Seat) (x : Heard) (answers : List Answer) → get w.seats s.0 ≡ Some seat → AreAnswersNext k answers seat.down → AllRight (fair_at what w) (answers_noted x now k answers seat.client)
     heard_right s k seat x [] at next = quiet (fair_at what w) x
     heard_right s k seat x (a ∷ answers) at next = notes_right (a ∷ answers) laws count skew greatest tale w h now within some s seat at k (fair_at what w) next
 
@@ -129,14 +144,11 @@ module _ (laws : SerialLaws) (count skew greatest : ℕ) (tale : Tale) (w : Serv
         let a = post_accepted seat.post (Server k) p in
         let there : Seat = record seat { post = a.links } in
         let heard = answers_in k a.heard.joined seat.down f in
-        subst (λ (x : SeatStepped). Right what (with_seat s x w)) (sym (heard_is s now k (heard_in (Server k) p) a.heard heard.0 there w.journal w.packets heard.1)) (heard_right s k seat a.heard heard.0 at heard.2)
+        subst (λ (x : SeatStepped). Right what (with_seat s x w)) (sym (answers_heard s now k (heard_in (Server k) p) a.heard heard.0 there w.journal w.packets heard.1)) (heard_right s k seat a.heard heard.0 at heard.2)
 
     -- ## At a server that there is
 
     module _ (k : ℕ) (c : Core) (post : Links) (at : slice_get w.servers k ≡ Some c) where
-      abbrev hearing : Peer → Option Peer → Heard → Option ServerEvent → Links → Stepped
-      hearing from heard x e links = with_server k (server_hears now k from heard x e (record (at_server c post w) { post = links })) w
-
       -- an answer to a log is fair in this event, after which these are all rows
       abbrev fair_after : ServerEvent → Answers
       fair_after e = IsFairAnswer (ServedForm w) (record { reading = now; what = what }) (rows_in (after_step k e (step c now e) seen))
@@ -159,29 +171,49 @@ module _ (laws : SerialLaws) (count skew greatest : ℕ) (tale : Tale) (w : Serv
         takes_log s seat (Release pairs) from is first = tt
         takes_log s seat (Lead m) from is first = tt
 
-        session_right : (s : Session) (o : Option Seat) → packet.from ≡ Client s → get w.seats s.0 ≡ o → (heard : Option Peer) (x : Heard) (js : List Joined) (links : Links) → AreFirstOf js (ups_of k o) → Right what (hearing (Client s) heard x (event_heard (Client s) js) links)
-        session_right s o from is heard x [] links f = silent _ x.joined x
-        session_right s None from is heard x (j ∷ js) links f = absurd f
-        session_right s (Some seat) from is heard x (j ∷ js) links f =
-            let first = first_question k s seat j js f in
-            subst (λ (e : Option ServerEvent). Right what (hearing (Client s) heard x e links)) (sym first.2)
-            (event (FromClient s first.0.1) (question_there (timed laws) count skew greatest tale (parts_of w) h now k c at s seat first.0 is first.1) (takes_log s seat first.0.1 from is (question_found k seat.up first.0 first.1)), tt)
-
-      peer_right : (i : ℕ) (heard : Option Peer) (x : Heard) (js : List Joined) (links : Links) → AreFirstOf js (flying_between i k w.flying) → Right what (hearing (Server i) heard x (event_heard (Server i) js) links)
-      peer_right i heard x [] links f = silent _ x.joined x
-      peer_right i heard x (j ∷ js) links f =
-          let first = first_flying k i w.flying j js f in
-          subst (λ (e : Option ServerEvent). Right what (hearing (Server i) heard x e links)) (sym first.2)
-          (event (FromPeer i first.0.message) (flying_there (timed laws) count skew greatest tale (parts_of w) h now k c at i first.0 first.1) tt, tt)
+        -- it is one message at most
+        session_right : (s : Session) (x : Heard) (es : List ServerEvent) → packet.from ≡ Client s → AreNext k (Client s) es w.seats w.flying → (y : ServerStepped) → y.server ≡ c → y.flying ≡ flying_without_each k (Client s) es w.flying
+            → AllRight (fair_at what (with_server k (taking_all k now es y) w).world) (heard_notes x now es c)
+        session_right s x [] from next y is flies = quiet _ x
+        session_right s x (e ∷ []) from next y is flies =
+            let q = next.0 in
+            let asked = FromClient s q.asked.1 in
+            let right : IsRight (fair_after asked) (note.Server (step c now asked).out.note) =
+            event asked (question_there (timed laws) count skew greatest tale (parts_of w) h now k c at s q.seat q.asked q.there q.first) (takes_log s q.seat q.asked.1 from q.there (question_found k q.seat.up q.asked q.first)) in
+            let after : AllRight (fair_at what (with_server k (taking k now asked (record y { server = c; flying = w.flying })) w).world) (heard_notes x now (asked ∷ []) c) = (right, tt) in
+            let placed : record y { server = c; flying = w.flying } ≡ y = λ i. record y { server = sym is i; flying = sym flies i } in
+            subst (λ (f : ServerEvent). AllRight (fair_at what (with_server k (taking k now f y) w).world) (heard_notes x now (f ∷ []) c)) (sym q.is)
+            (subst (λ (z : ServerStepped). AllRight (fair_at what (with_server k (taking k now asked z) w).world) (heard_notes x now (asked ∷ []) c)) placed after)
+        session_right s x (e ∷ f ∷ es) from next y is flies =
+            let q = next.0 in
+            let r = next.1.0 in
+            let left : Seat = record q.seat { up = without_first (is_with k) q.seat.up } in
+            let same : left ≡ r.seat = some_is left r.seat (sym (ap (λ (o : Option Seat). get (without_up k o s.0 w.seats) s.0) q.there ∙ got_here w.seats s left) ∙ r.there) in
+            let own : lines_of w.term w.seats s ≡ lines_in w.term s (Some q.seat) = ap (lines_in w.term s) q.there in
+            let asks : AsksOne (lines_in w.term s (Some q.seat)) = subst AsksOne own (all_exchanges skew greatest c seen s (In-got w.servers k c at) h.cluster) in
+            let few = few_up q.seat.client q.seat.client.exchange q.seat.up (ends_of (lines_in w.term s (Some q.seat))).down asks.one in
+            absurd (no_second (is_with k) q.seat.up q.asked r.asked few q.first (ap (λ (z : Seat). find (is_with k) z.up) same ∙ r.first))
 
       told_server : (packet : Sent) (from : Peer) (p : Packet) → packet_told w what ≡ Some packet → packet.to ≡ Server k → packet.from ≡ from → AreFirstOf (post_accepted post from p).heard.joined (between w from (Server k))
           → Right what (with_server k (server_told now k from p (at_server c post w)) w)
-      told_server packet (Client s) p told_so here is f =
-          let a = post_accepted post (Client s) p in
-          session_right packet told_so here s (get w.seats s.0) is refl (heard_in (Client s) p) a.heard a.heard.joined a.links f
-      told_server packet (Server i) p told_so here is f =
-          let a = post_accepted post (Server i) p in
-          peer_right i (heard_in (Server i) p) a.heard a.heard.joined a.links f
+      told_server packet from p told_so here is f =
+          let a = post_accepted post from p in
+          let js = a.heard.joined in
+          let x : ServerStepped = without_joined k from js (record (at_server c post w) { post = a.links }) in
+          let es = events_in w k from js f in
+          subst (λ (y : ServerStepped). Right what (with_server k y w)) (sym (heard_is k now from (heard_in from p) a.heard es.0 x es.1)) (noted from is a.heard es.0 es.2 x refl (flying_alike k from js es.0 w.flying es.1))
+        where
+          noted : (from : Peer) → packet.from ≡ from → (y : Heard) (es : List ServerEvent) → AreNext k from es w.seats w.flying → (x : ServerStepped) → x.server ≡ c → x.flying ≡ flying_without_each k from es w.flying
+              → AllRight (fair_at what (with_server k (taking_all k now es x) w).world) (heard_notes y now es x.server)
+          noted (Client s) is y es next x server flies = subst (λ (d : Core). AllRight (fair_at what (with_server k (taking_all k now es x) w).world) (heard_notes y now es d)) (sym server) (session_right packet told_so here s y es is next x server flies)
+          noted (Server i) is y es next x server flies = subst (λ (d : Core). AllRight (fair_at what (with_server k (taking_all k now es x) w).world) (heard_notes y now es d)) (sym server) (others _ es next)
+            where
+              start : Holds (timed laws) count skew greatest tale (parts_at (parts_of w) k (at_server c post w))
+              start = subst (λ (servers : List Core). Holds (timed laws) count skew greatest tale (record (parts_of w) { servers = servers })) (sym (set_same w.servers k c at)) h
+
+              others : (ok : Answers) (es : List ServerEvent) → AreNext k (Server i) es w.seats w.flying → AllRight ok (heard_notes y now es c)
+              others ok [] next = quiet ok y
+              others ok (e ∷ es) next = peers_right (e ∷ es) laws count skew greatest tale (parts_of w) (at_server c post w) k c at start now within i ok next
 
     -- ## At any server
 

@@ -1,51 +1,45 @@
 -- Every event of a world of the servers form keeps what holds of it.
-use Rattle.std.proofs.Common.{◌≡◌, ℕ, ◌≤◌, ◌<◌, max, Bool, true, false, List, [], ◌∷◌, ◌++◌, append-nil, length, refl, sym, subst, arith}
+use Rattle.std.proofs.Common.{◌≡◌, ℕ, ◌≤◌, ◌<◌, max, Bool, true, false, List, [], length, refl, sym, subst, arith}
 use Rattle.std.proofs.lemmas.Bool.Decides.{nat_tests}
-use Rattle.std.specs.Prelude.{Option, Some, None, nat_lt, slice_get, slice_set}
+use Rattle.std.specs.Prelude.{Option, Some, None, nat_lt, slice_get}
 use Rattle.std.specs.FinMap.{get}
-use Rattle.std.specs.List.{find}
 use Rattle.fs_ident.specs.declared.actor.Peer.{Peer}
 use Rattle.fs_ident.specs.declared.actor.Peer.TheVariants.{Server, Client}
-use Rattle.fs_ident.specs.declared.actor.Session.{Session}
 use Rattle.fs_ident.proofs.Booleans.{both}
 use Rattle.fs_ident.proofs.Standing.{In-got}
-use Rattle.fs_frag.specs.declared.joined.Joined.{Joined}
 use Rattle.fs_window.specs.Post.{Links, post_accepted}
 use Rattle.fs_window.specs.Reading.{packet_at}
-use Rattle.fs_window.specs.declared.heard.Heard.{Heard}
 use Rattle.fs_window.specs.declared.packet.Packet.{Packet}
 use Rattle.fs_window.specs.declared.sent.Sent.{Sent}
 use Rattle.fs_field.specs.declared.field.Field.{Field}
-use Rattle.fs_msg.specs.declared.client_msg.ClientMsg.{ClientMsg}
-use Rattle.fs_msg.specs.declared.item.Item.{Item}
 use Rattle.fs_msg.specs.declared.note.Note.TheVariants as note
 use Rattle.fs_schedule.specs.declared.event.Head.TheVariants.{Servers}
 use Rattle.fs_schedule.specs.declared.event.What.{What}
 use Rattle.fs_schedule.specs.declared.event.What.TheVariants.{Join, Do, Tell, Turn, Recall, Move}
 use Rattle.fs_server.specs.declared.event.ServerEvent.{ServerEvent}
-use Rattle.fs_server.specs.declared.event.ServerEvent.TheVariants.{FromClient, FromPeer, Turn as TheTurn, Recall as TheRecall, Move as TheMove}
+use Rattle.fs_server.specs.declared.event.ServerEvent.TheVariants.{Turn as TheTurn, Recall as TheRecall, Move as TheMove}
 use Rattle.fs_server.specs.declared.state.Server.{Server as Core}
-use Rattle.fs_actor.specs.Hearing.{event_heard, heard_in}
-use Rattle.fs_serial.specs.Cluster.{IsThere, is_between, is_with, without_question}
+use Rattle.fs_actor.specs.Hearing.{heard_in}
+use Rattle.fs_serial.specs.Cluster.{IsThere, without_question}
 use Rattle.fs_serial.specs.declared.flying.Flying.{Flying}
 use Rattle.fs_serial.proofs.Lists.SetAt.{set_same}
-use Rattle.fs_world.specs.Calls.{server_hears}
-use Rattle.fs_world.specs.Carried.{Carries, GivesFirst, AreFirstOf, between, joined_at, flying_between, post_of, ups_of}
+use Rattle.fs_world.specs.Carried.{Carries, GivesFirst, AreFirstOf, between, joined_at, post_of}
 use Rattle.fs_world.specs.Order.{Tale, after}
 use Rattle.fs_world.specs.Packets.{first_untold}
 use Rattle.fs_world.specs.Parts.{lines_of}
-use Rattle.fs_world.specs.Served.{Stepped, arrives, at_server, comes, server_step_at, server_told, server_told_at, step_of, tell_at, with_server, without_up}
+use Rattle.fs_world.specs.Served.{Seats, ServerStepped, Stepped, arrives, at_server, comes, flying_without_each, seats_without_each, server_step_at, server_told, server_told_at, step_of, tell_at, with_server, without_joined}
 use Rattle.fs_world.specs.World.{may_happen}
-use Rattle.fs_world.specs.declared.seat.Seat.{Seat}
 use Rattle.fs_world.specs.declared.served.Served.{Served}
 use Rattle.fs_world.proofs.SeenRows.{IsAsked}
 use Rattle.fs_world.specs.Linked.{HasJoined}
 use Rattle.fs_world.proofs.SerialLaws.{EventLaws}
-use Rattle.fs_world.proofs.Heard.{first_flying, first_question}
-use Rattle.fs_world.proofs.ServedHolds.{Holds, Parts, cluster_of}
-use Rattle.fs_world.proofs.ServerHolds.{after_core, message_holds, flying_of_joined, flying_there, server_holds}
+use Rattle.fs_world.proofs.ServedEach.{all_hold, parts_at}
+use Rattle.fs_world.proofs.ServedHolds.{Holds, cluster_of}
+use Rattle.fs_world.proofs.ServerEach.{heard_is, taking_all}
+use Rattle.fs_world.proofs.ServerHolds.{after_core, server_holds}
+use Rattle.fs_world.proofs.ServerNext.{events_in, flying_alike, seats_alike}
 use Rattle.fs_world.proofs.Told.{quiet_note}
-use Rattle.fs_world.proofs.SessionSteps.{HoldsOf, Then, do_holds, join_holds, later, parts_of, still, told_holds, turn_holds, untold}
+use Rattle.fs_world.proofs.SessionSteps.{HoldsOf, Then, do_holds, join_holds, parts_of, still, told_holds, turn_holds, untold}
 
 -- what the test says
 pub is_less : (a b : ℕ) → nat_lt a b ≡ true → a < b
@@ -64,58 +58,19 @@ module _ (laws : EventLaws) (count skew greatest : ℕ) (tale : Tale) (w : Serve
   -- ## At a server that there is
 
   module _ (k : ℕ) (c : Core) (post : Links) (at : slice_get w.servers k ≡ Some c) where
-    abbrev left : List Flying → List Item → Parts
-    left flying journal = record (parts_of w) { servers = slice_set w.servers k c; flying = flying; journal = journal }
-
-    -- nothing but its links changes
-    unchanged : Holds laws count skew (max greatest now) tale (left (w.flying ++ []) (w.journal ++ []))
-    unchanged =
-        subst (λ (flying : List Flying). Holds laws count skew (max greatest now) tale (left flying (w.journal ++ []))) (sym (append-nil w.flying))
-        (subst (λ (journal : List Item). Holds laws count skew (max greatest now) tale (left w.flying journal)) (sym (append-nil w.journal))
-        (subst (λ (servers : List Core). Holds laws count skew (max greatest now) tale (record (parts_of w) { servers = servers })) (sym (set_same w.servers k c at)) (later laws count skew greatest tale w h now within some)))
-
-    abbrev hearing : Peer → Option Peer → Heard → Option ServerEvent → Links → Served
-    hearing from heard x event links = (with_server k (server_hears now k from heard x event (record (at_server c post w) { post = links })) w).world
-
-    none_hears : (from : Peer) (heard : Option Peer) (x : Heard) (links : Links) → Is (hearing from heard x None links)
-    none_hears from heard x links = quietly (hearing from heard x None links) unchanged
-
-    -- a session's message that is there
-    message_then : (s : Session) (seat : Seat) (heard : Option Peer) (x : Heard) (links : Links) (m : ℕ × ClientMsg) → get w.seats s.0 ≡ Some seat → find (is_with k) seat.up ≡ Some m
-        → Is (hearing (Client s) heard x (Some (FromClient s m.1)) links)
-    message_then s seat heard x links m is first =
-        quietly (hearing (Client s) heard x (Some (FromClient s m.1)) links)
-        (subst (λ (o : Option Seat). Holds laws count skew (max greatest now) tale (after_core laws count skew greatest tale (parts_of w) h now k c at (FromClient s m.1) (without_up k o s.0 w.seats))) (sym is)
-        (message_holds laws count skew greatest tale (parts_of w) h now k c at s seat m is first))
-
-    session_hears : (s : Session) (o : Option Seat) → get w.seats s.0 ≡ o → (heard : Option Peer) (x : Heard) (js : List Joined) (links : Links) → AreFirstOf js (ups_of k o) → Is (hearing (Client s) heard x (event_heard (Client s) js) links)
-    session_hears s o is heard x [] links f = none_hears (Client s) heard x links
-    session_hears s None is heard x (j ∷ js) links f = absurd f
-    session_hears s (Some seat) is heard x (j ∷ js) links f =
-        let first = first_question k s seat j js f in
-        subst (λ (e : Option ServerEvent). Is (hearing (Client s) heard x e links)) (sym first.2) (message_then s seat heard x links first.0 is first.1)
-
-    -- a message of another server that is there
-    peer_then : (i : ℕ) (heard : Option Peer) (x : Heard) (links : Links) (f : Flying) → find (is_between i k) w.flying ≡ Some f → Is (hearing (Server i) heard x (Some (FromPeer i f.message)) links)
-    peer_then i heard x links f first =
-        quietly (hearing (Server i) heard x (Some (FromPeer i f.message)) links)
-        (server_holds laws count skew greatest tale (parts_of w) h now k c at (FromPeer i f.message) w.seats refl (λ x i. i)
-        (flying_there laws count skew greatest tale (parts_of w) h now k c at i f first)
-        (flying_of_joined laws count skew greatest tale (parts_of w) h now k c at i f first))
-
-    server_hears_then : (i : ℕ) (heard : Option Peer) (x : Heard) (js : List Joined) (links : Links) → AreFirstOf js (flying_between i k w.flying) → Is (hearing (Server i) heard x (event_heard (Server i) js) links)
-    server_hears_then i heard x [] links f = none_hears (Server i) heard x links
-    server_hears_then i heard x (j ∷ js) links f =
-        let first = first_flying k i w.flying j js f in
-        subst (λ (e : Option ServerEvent). Is (hearing (Server i) heard x e links)) (sym first.2) (peer_then i heard x links first.0 first.1)
-
     told_server : (from : Peer) (p : Packet) → AreFirstOf (post_accepted post from p).heard.joined (between w from (Server k)) → Is (with_server k (server_told now k from p (at_server c post w)) w).world
-    told_server (Client s) p f =
-        let a = post_accepted post (Client s) p in
-        session_hears s (get w.seats s.0) refl (heard_in (Client s) p) a.heard a.heard.joined a.links f
-    told_server (Server i) p f =
-        let a = post_accepted post (Server i) p in
-        server_hears_then i (heard_in (Server i) p) a.heard a.heard.joined a.links f
+    told_server from p f =
+        let a = post_accepted post from p in
+        let js = a.heard.joined in
+        let x : ServerStepped = record (at_server c post w) { post = a.links } in
+        let es = events_in w k from js f in
+        let start : Holds laws count skew greatest tale (parts_at (parts_of w) k x) = subst (λ (servers : List Core). Holds laws count skew greatest tale (record (parts_of w) { servers = servers })) (sym (set_same w.servers k c at)) h in
+        let then = all_hold es.0 laws count skew greatest tale (parts_of w) x k c at start now from es.2 in
+        let all : Holds laws count skew (max greatest now) tale (parts_at (parts_of w) k (taking_all k now es.0 (without_joined k from js x))) =
+        subst (λ (m : Seats). Holds laws count skew (max greatest now) tale (parts_at (parts_of w) k (taking_all k now es.0 (record x { seats = m; flying = flying_without_each k from js w.flying })))) (sym (seats_alike k from js es.0 w.seats es.1))
+        (subst (λ (fs : List Flying). Holds laws count skew (max greatest now) tale (parts_at (parts_of w) k (taking_all k now es.0 (record x { seats = seats_without_each k from es.0 w.seats; flying = fs })))) (sym (flying_alike k from js es.0 w.flying es.1)) then) in
+        subst (λ (y : ServerStepped). Is (with_server k y w).world) (sym (heard_is k now from (heard_in from p) a.heard es.0 (without_joined k from js x) es.1))
+        (quietly (with_server k (taking_all k now es.0 (without_joined k from js x)) w).world all)
 
     -- what no message brings
     own_step : (turn : Bool) (e : ServerEvent) → lines_of w.term w.seats ≡ without_question k e (lines_of w.term w.seats) → IsThere k e (cluster_of h.replied (parts_of w)) → IsAsked (HasJoined w.seats) e

@@ -1,6 +1,6 @@
 -- The counter that a client's event would have raised above its end.
 use Rattle.std.proofs.Common.{◌≡◌, ◌⊎◌, Bool, true, false, Result, Ok, Err, IsErrOf, refl, ap, inl, inr}
-use Rattle.std.specs.Prelude.{Some, None}
+use Rattle.std.specs.Prelude.{Option, Some, None}
 use Rattle.fs_msg.specs.declared.core_error.Counter.{Counter}
 use Rattle.fs_msg.specs.declared.core_error.Counter.TheVariants.{Segments}
 use Rattle.fs_msg.specs.declared.core_error.CoreError.{CoreError}
@@ -22,3 +22,9 @@ refused_as {U = U} x counter e (inr p) = inr (let q : x ≡ errors.Memory = cc i
 pub no_error : {T : Type 0} (x : T) (a b : CoreError) → IsErrOf (Ok x) a ⊎ IsErrOf (Ok x) b → ⊥
 no_error x a b (inl e) = absurd (cc)
 no_error x a b (inr e) = absurd (cc)
+
+-- where no counter is spent there is room on the link
+pub has_room : (core : Option Counter) (full : Bool) → first_spent core full ≡ None → full ≡ false
+has_room (Some counter) full h = absurd (cc)
+has_room None true h = absurd (cc)
+has_room None false h = refl

@@ -1,13 +1,11 @@
 -- Within the limits every event keeps what holds of the links, so that they carry what was sent along every run from a first world.
-use Rattle.std.proofs.Common.{◌≡◌, ℕ, Bool, true, false, List, [], ◌∷◌, length, Option, Some, None, refl, sym, ap, subst}
+use Rattle.std.proofs.Common.{◌≡◌, ℕ, Bool, true, false, List, [], ◌∷◌, length, Option, Some, None, refl, sym, ap, subst, ◌∙◌}
 use Rattle.std.specs.Prelude.{Result, Ok, Err, IfOk, OnOk, if◌then◌else◌, slice_get}
 use Rattle.std.specs.FinMap.{get}
 use Rattle.fs_ident.specs.declared.actor.Peer.{Peer}
 use Rattle.fs_ident.specs.declared.actor.Peer.TheVariants.{Server, Client}
 use Rattle.fs_ident.specs.declared.actor.Session.{Session}
-use Rattle.fs_ident.proofs.Passing.{found}
 use Rattle.fs_ident.proofs.Standing.{In-got}
-use Rattle.fs_frag.specs.declared.joined.Joined.{Joined}
 use Rattle.fs_window.specs.Post.{Links, post_accepted}
 use Rattle.fs_window.specs.Reading.{packet_at}
 use Rattle.fs_window.specs.declared.heard.Heard.{Heard}
@@ -17,7 +15,8 @@ use Rattle.fs_model.specs.declared.op.Op.{Op}
 use Rattle.fs_msg.specs.declared.core_error.CoreError.{CoreError}
 use Rattle.fs_msg.specs.declared.core_error.Counter.TheVariants.{Entries}
 use Rattle.fs_actor.specs.Actor.{is_full_down, is_full_up}
-use Rattle.fs_actor.specs.Hearing.{event_heard, heard_in}
+use Rattle.fs_actor.specs.Hearing.{heard_in}
+use Rattle.fs_actor.specs.Several.{server_begins}
 use Rattle.fs_client.specs.Acts.{act_plan, is_act_spent}
 use Rattle.fs_client.specs.Turns.{turn_plan}
 use Rattle.fs_schedule.specs.declared.event.Event.{Event}
@@ -27,38 +26,39 @@ use Rattle.fs_schedule.specs.declared.event.What.{What}
 use Rattle.fs_schedule.specs.declared.event.What.TheVariants.{Join, Do, Tell, Turn, Recall, Move}
 use Rattle.fs_schedule.specs.declared.outcome.Outcome.{Outcome}
 use Rattle.fs_schedule.specs.Spelling.{FitsHead}
-use Rattle.fs_serial.specs.Cluster.{is_between}
 use Rattle.fs_serial.specs.World.{is_called}
 use Rattle.fs_server.specs.Step.{spent_by, step}
 use Rattle.fs_server.specs.declared.event.ServerEvent.{ServerEvent}
 use Rattle.fs_server.specs.declared.event.ServerEvent.TheVariants.{Turn as TheTurn, Recall as TheRecall, Move as TheMove}
 use Rattle.fs_server.specs.declared.state.Server.{Server as Core}
 use Rattle.fs_world.specs.Calls.{server_hears, world_left}
-use Rattle.fs_world.specs.Carried.{AllCarry, AreFirstOf, between, flying_between, ups_of}
+use Rattle.fs_world.specs.Carried.{AllCarry}
 use Rattle.fs_world.specs.Direct.{first_direct}
 use Rattle.fs_world.specs.Direct as direct
-use Rattle.fs_world.specs.Linked.{HasJoined, IsLinked}
+use Rattle.fs_world.specs.Linked.{FitsDown, IsLinked}
 use Rattle.fs_world.specs.Packets.{first_untold}
 use Rattle.fs_world.specs.Planned.{IsAnswered, IsOwn, WasSent}
-use Rattle.fs_world.specs.Served.{Seats, Stepped, arrives, at_server, client_acts, client_turns, comes, core_step, do_at, first_served, seats_without, server_step, server_step_at, server_told_at, step_of, tell_at, turn_at, with_seat, with_server, without_up}
+use Rattle.fs_world.specs.Served.{Stepped, arrives, at_server, client_acts, client_turns, comes, core_step, do_at, first_served, flying_without_each, seats_without_each, server_step, server_step_at, server_told_at, step_of, tell_at, turn_at, with_seat, with_server}
 use Rattle.fs_world.specs.Within.{AllInRange, AllWithin, IsWithinLimits}
 use Rattle.fs_world.specs.World.{FitsServed, first_world}
 use Rattle.fs_world.specs.declared.direct.Direct.{Direct as TheDirect}
 use Rattle.fs_world.specs.declared.form.Form.TheVariants.{Direct, Served}
 use Rattle.fs_world.specs.declared.seat.Seat.{Seat}
 use Rattle.fs_world.specs.declared.served.Served.{Served as TheServed}
-use Rattle.fs_world.proofs.AtSeat.{has_room, told_linked}
+use Rattle.fs_world.proofs.AtSeat.{told_linked}
+use Rattle.fs_world.proofs.Spending.{has_room}
 use Rattle.fs_world.proofs.AtServer.{step_there, told_server_at}
 use Rattle.fs_world.proofs.Carrying.{linked_carries}
-use Rattle.fs_world.proofs.Heard.{first_flying, first_question}
 use Rattle.fs_world.proofs.InRange.{down_written, linked_in_range, up_written}
 use Rattle.fs_world.proofs.Linked.{act_linked, first_linked, join_linked, mark_linked, server_linked, told_server_first, turn_linked}
-use Rattle.fs_world.proofs.LinkedCore.{message_readable, own_brought}
+use Rattle.fs_world.proofs.LinkedCore.{own_brought, told_server_brought}
 use Rattle.fs_world.proofs.LinkedFirst.{readable_in}
 use Rattle.fs_world.proofs.LinkedLists.{within}
 use Rattle.fs_world.proofs.LinkedSeats.{got_here}
 use Rattle.fs_world.proofs.NamedServers.{AreSent, IsBrought, step_goes}
-use Rattle.fs_world.proofs.Seen.{joined_still}
+use Rattle.fs_world.proofs.ServerBrings.{AreBrought, all_sent, still_joined}
+use Rattle.fs_world.proofs.ServerEach.{AreEvents, each_sends, run_in, sends_so, spent_so}
+use Rattle.fs_world.proofs.ServerNext.{events_in}
 
 -- ## A client's events
 
@@ -102,53 +102,22 @@ own_within w k turn now e own h = go (slice_get w.servers k) (slice_get w.posts 
 
 -- ## A packet comes to a server
 
--- what the event brings, if there is one
-abbrev Brings : ℕ → Seats → Core → Option ServerEvent → Type 0
-Brings servers seats c None = Unit {0}
-Brings servers seats c (Some e) = IsBrought servers seats c e
-
-message_brings : (w : TheServed) (k : ℕ) (c : Core) (s : Session) (o : Option Seat) → get w.seats s.0 ≡ o → (joined : List Joined) → AreFirstOf joined (ups_of k o) → Brings (length w.servers) w.seats c (event_heard (Client s) joined)
-message_brings w k c s o at [] f = tt
-message_brings w k c s None at (j ∷ js) f = absurd f
-message_brings w k c s (Some seat) at (j ∷ js) f =
-    let first = first_question k s seat j js f in
-    subst (λ (e : Option ServerEvent). Brings (length w.servers) w.seats c e) (sym first.2) ((seat, at), message_readable first.0.1 first.3)
-
-peer_brings : (w : TheServed) (k : ℕ) (c : Core) (i : ℕ) → IsLinked w → (joined : List Joined) → AreFirstOf joined (flying_between i k w.flying) → Brings (length w.servers) w.seats c (event_heard (Server i) joined)
-peer_brings w k c i h [] f = tt
-peer_brings w k c i h (j ∷ js) f =
-    let first = first_flying k i w.flying j js f in
-    let it = h.flying first.0 (found (is_between i k) w.flying first.0 first.1).0 in
-    subst (λ (e : Option ServerEvent). Brings (length w.servers) w.seats c e) (sym first.2) it.parcel
-
-heard_brings : (w : TheServed) (k : ℕ) (c : Core) (from : Peer) → IsLinked w → (joined : List Joined) → AreFirstOf joined (between w from (Server k)) → Brings (length w.servers) w.seats c (event_heard from joined)
-heard_brings w k c (Client s) h joined f = message_brings w k c s (get w.seats s.0) refl joined f
-heard_brings w k c (Server i) h joined f = peer_brings w k c i h joined f
-
--- whoever has joined has, without the first message of an actor
-still_joined : (k : ℕ) (from : Peer) (seats : Seats) (t : Session) → HasJoined seats t → HasJoined (seats_without k from seats) t
-still_joined k (Server j) seats t h = h
-still_joined k (Client s) seats t h = go (get seats s.0)
-  where
-    go : (o : Option Seat) → HasJoined (without_up k o s.0 seats) t
-    go None = h
-    go (Some seat) = joined_still seats s t _ h
-
-abbrev hearing : TheServed → ℕ → ℕ → Core → Links → Peer → Option Peer → Heard → Option ServerEvent → Stepped
-hearing w k now c links from heard x event = with_server k (server_hears now k from heard x event (at_server c links w)) w
-
-answers_within : (w : TheServed) (k now : ℕ) (c : Core) (links : Links) (from : Peer) (heard : Option Peer) (x : Heard) (event : Option ServerEvent) → slice_get w.servers k ≡ Some c → Brings (length w.servers) w.seats c event → IsLinked w
-    → (hearing w k now c links from heard x event).spent ≡ None → AllInRange (hearing w k now c links from heard x event).world → IsAnswered now event (at_server c links w)
-answers_within w k now c links from heard x None at brought h unspent r = tt
-answers_within w k now c links from heard x (Some e) at brought h unspent r =
-    let send = (step c now e).out.send in (
-      down_written (length w.servers) w.seats (seats_without k from w.seats) k send _ (hearing w k now c links from heard x (Some e)).world (sends w k c now e at brought h) (still_joined k from w.seats) refl refl r,
-      has_room (spent_by c now e) (is_full_down send links) unspent,
-    )
-
 -- nothing is spent, and all that is on its way then is in range
 abbrev IsFineStep : Stepped → Type 0
 IsFineStep y = (y.spent ≡ None) × AllInRange y.world
+
+-- what the server sends at all that a packet joins was written down, and there was room for it
+answers_within : (w : TheServed) (k now : ℕ) (c : Core) (from : Peer) (replied : Option Peer) (x : Heard) (links : Links) (es : List ServerEvent) → slice_get w.servers k ≡ Some c → AreEvents from x.joined es → AreBrought w.seats es → IsLinked w
+    → IsFineStep (with_server k (server_hears now k from replied x (at_server c links w)) w) → IsAnswered now from x.joined (at_server c links w)
+answers_within w k now c from replied x links es at of brought h fine =
+    let n = length w.servers in
+    let y = at_server c links w in
+    let run = run_in now from x x.joined y in
+    let sent = all_sent n w.seats k (within w.servers k c at) (readable_in n w.seats h.seats) now es c brought (h.servers k c at) in
+    let all : AreSent n w.seats k run.send = subst (AreSent n w.seats k) (sym (sends_so now from x y ∙ each_sends now from x.joined es (server_begins c links []) of)) sent in
+    let world = (with_server k (server_hears now k from replied x y) w).world in
+    let written : FitsDown run.send = down_written n w.seats (seats_without_each k from x.joined w.seats) k run.send (flying_without_each k from x.joined w.flying) world all (still_joined k from x.joined w.seats) refl refl fine.1 in
+    (subst FitsDown (sends_so now from x y) written, sym (spent_so now from x y) ∙ fine.0)
 
 told_within : (w : TheServed) (k now : ℕ) (from : Peer) (p : Packet) → WasSent from (Server k) (Some p) w.packets.sent → IsLinked w
     → (server_told_at (slice_get w.servers k) (slice_get w.posts k) now k from p w).spent ≡ None → AllInRange (server_told_at (slice_get w.servers k) (slice_get w.posts k) now k from p w).world
@@ -160,12 +129,11 @@ told_within w k now from p x h unspent r = told_server_at w k now from p x answe
         subst (λ (b : Option Links). IsFineStep (server_told_at a b now k from p w)) f
         (subst (λ (a : Option Core). IsFineStep (server_told_at a (slice_get w.posts k) now k from p w)) e (unspent, r))
 
-    answered : (s : Core) (post : Links) → slice_get w.servers k ≡ Some s → slice_get w.posts k ≡ Some post → IsAnswered now (event_heard from (post_accepted post from p).heard.joined) (at_server s (post_accepted post from p).links w)
+    answered : (s : Core) (post : Links) → slice_get w.servers k ≡ Some s → slice_get w.posts k ≡ Some post → IsAnswered now from (post_accepted post from p).heard.joined (at_server s (post_accepted post from p).links w)
     answered s post e f =
         let a = post_accepted post from p in
-        let fine = fine_at (Some s) (Some post) e f in
-        answers_within w k now s a.links from (heard_in from p) a.heard (event_heard from a.heard.joined) e
-        (heard_brings w k s from h a.heard.joined (told_server_first w k post from p f x h)) h fine.0 fine.1
+        let es = events_in w k from a.heard.joined (told_server_first w k post from p f x h) in
+        answers_within w k now s from (heard_in from p) a.heard a.links es.0 e es.1 (told_server_brought w k post from p es.0 x h es.2) h (fine_at (Some s) (Some post) e f)
 
 -- ## A packet is told
 

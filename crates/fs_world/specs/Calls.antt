@@ -2,7 +2,7 @@
 use Rattle.std.specs.Prelude.{◌≡◌, ◌⊎◌, ◌∷◌, [], ◌++◌, ℕ, Bool, false, List, length, Option, Some, None, Result, IsErrOf}
 use Rattle.fs_actor.specs.Actor as actor
 use Rattle.fs_actor.specs.Actor.{client_noted}
-use Rattle.fs_actor.specs.Several.{ClientRun, client_takes_all}
+use Rattle.fs_actor.specs.Several.{ClientRun, ServerRun, client_takes_all, server_takes_all}
 use Rattle.fs_client.specs.Answers.{answer_plan}
 use Rattle.fs_client.specs.declared.plan.Plan.{Plan as Planned}
 use Rattle.fs_client.specs.declared.state.Client.{Client as ClientCore}
@@ -28,7 +28,7 @@ use Rattle.fs_window.specs.Post.{Links, post_due}
 use Rattle.fs_window.specs.declared.heard.Heard.{Heard}
 use Rattle.fs_world.specs.Direct.{outcome_of}
 use Rattle.fs_world.specs.Packets.{Packets, numbers_from, with_sent}
-use Rattle.fs_world.specs.Served.{SeatStepped, Seats, ServerStepped, Stepped, core_of, flying_without, nothing, seat_ran, seat_stepped, seats_without, server_found, server_stepped, side_of, with_downs, without_each, without_heard}
+use Rattle.fs_world.specs.Served.{SeatStepped, Seats, ServerStepped, Stepped, core_of, flying_without, nothing, seat_ran, seat_stepped, seats_without, server_found, server_ran, server_stepped, side_of, with_downs, without_each, without_joined}
 use Rattle.fs_world.specs.declared.seat.Seat.{Seat}
 use Rattle.fs_world.specs.declared.served.Served.{Served}
 
@@ -106,10 +106,30 @@ server_goes k turn heard n spent x = record x {
 abbrev pub server_does : ℕ → Bool → Option Peer → Option Counter → CoreStepped → ServerStepped → ServerStepped
 server_does k turn heard spent y x = server_stepped k (actor.server_does turn heard spent y (core_of x)) x
 
--- what it heard of the actor
-abbrev pub server_hears : ℕ → ℕ → Peer → Option Peer → Heard → Option ServerEvent → ServerStepped → ServerStepped
-server_hears now k from replied h heard x =
-    server_stepped k (actor.server_hears now replied h heard (core_of x)) (without_heard k from heard x)
+-- what it heard, where this was one message at most
+abbrev pub server_hears_one : ℕ → ℕ → Option Peer → Heard → Option ServerEvent → ServerStepped → ServerStepped
+server_hears_one now k replied h heard x = server_stepped k (actor.server_hears now replied h heard (core_of x)) x
+
+-- what came of all that it heard of the actor, while no message is taken off its way
+abbrev pub server_heard : ℕ → ℕ → Peer → Option Peer → Heard → ServerStepped → ServerStepped
+server_heard now k from replied h x =
+    server_ran k (server_takes_all now from replied (record { links = x.post; heard = h }) x.server) x
+
+-- what came of a run at a server: it and its links are these, what it sends and admits stands behind what was there, these are the
+-- packets behind those before, and this is told
+pub record IsServerRun (y : ServerRun) (k : ℕ) (before : ServerStepped) (told : Outcome) (s : Server) (post : Links) (seats : Seats) (flying : List Flying) (journal : List Item) (packets : Packets) : Type 0 where
+  pub server_then : s ≡ y.server
+  pub post_then : post ≡ y.post
+  pub seats_then : seats ≡ with_downs k y.send before.seats
+  pub flying_then : flying ≡ before.flying ++ flying_from k y.send
+  pub journal_then : journal ≡ before.journal ++ y.admitted
+  pub packets_then : packets ≡ with_sent y.packets before.packets
+  pub told_then : told ≡ record { who = Some (TheServer k); notes = y.notes; sent = numbers_from (length before.packets.sent) y.packets }
+  pub unspent : y.spent ≡ None
+
+-- what it heard of the actor, which is on its way no more
+abbrev pub server_hears : ℕ → ℕ → Peer → Option Peer → Heard → ServerStepped → ServerStepped
+server_hears now k from replied h x = server_heard now k from replied h (without_joined k from h.joined x)
 
 -- the first message of the actor is on its way no more
 abbrev pub without_message : ℕ → Peer → ServerStepped → ServerStepped

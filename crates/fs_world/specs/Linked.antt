@@ -28,7 +28,6 @@ use Rattle.fs_record.specs.declared.led_end.Why.TheVariants as why
 use Rattle.fs_record.specs.declared.parcel.Parcel.{Parcel}
 use Rattle.fs_serial.specs.declared.flying.Flying.{Flying}
 use Rattle.fs_server.specs.declared.state.Server.{Server as Core}
-use Rattle.fs_window.specs.LinkEnd.{IsNarrow}
 use Rattle.fs_window.specs.OnTheWay.{Carries, IsPacketOf}
 use Rattle.fs_window.specs.Packet.{IsPacket, packet_text}
 use Rattle.fs_window.specs.Peers.{same_peer}
@@ -52,7 +51,6 @@ use Rattle.fs_msg.specs.declared.peer_msg.PeerMsg.TheVariants.{Parcel as OfParce
 
 -- these messages are on their way from one end of a link to the other, a segment at a time, and each is in range
 pub record IsWay (from to : Link) (messages : List Msg) : Type 0 where
-  pub narrow : IsNarrow to.window
   pub carries : Carries from to (map message messages)
   pub fits : AllByRecursion IsInRange messages
 

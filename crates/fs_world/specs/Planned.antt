@@ -1,11 +1,11 @@
 -- What a server planned, and what it sends then.
-use Rattle.std.specs.Prelude.{◌≡◌, ℕ, ◌<◌, false, List, Option, Some, None}
+use Rattle.std.specs.Prelude.{◌≡◌, ℕ, ◌<◌, List, [], Option, None}
 use Rattle.fs_ident.specs.In.{In}
 use Rattle.fs_ident.specs.declared.actor.Peer.{Peer}
-use Rattle.fs_actor.specs.Actor.{is_full_down}
+use Rattle.fs_actor.specs.Several.{ServerRun, server_begins, server_hears_each}
+use Rattle.fs_frag.specs.declared.joined.Joined.{Joined}
 use Rattle.fs_server.specs.Plan.{committed}
 use Rattle.fs_server.specs.Server.{Stepped}
-use Rattle.fs_server.specs.Step.{step}
 use Rattle.fs_server.specs.declared.event.ServerEvent.{ServerEvent}
 use Rattle.fs_server.specs.declared.event.ServerEvent.TheVariants.{Turn, Recall, Move}
 use Rattle.fs_server.specs.declared.plan.Plan.{Plan}
@@ -20,10 +20,13 @@ use Rattle.fs_world.specs.Served.{ServerStepped}
 abbrev pub stepped_by : Plan → Server → Stepped
 stepped_by p s = record { server = committed p s; out = p.out }
 
--- the event that was heard, if one was: what the server's step on it sends was written down, and there was room for it
-abbrev pub IsAnswered : ℕ → Option ServerEvent → ServerStepped → Type 0
-IsAnswered now None x = Unit {0}
-IsAnswered now (Some e) x = FitsDown (step x.server now e).out.send × (is_full_down (step x.server now e).out.send x.post ≡ false)
+-- what becomes of the server as it hears all that was joined of the actor
+abbrev pub run_of : ℕ → Peer → List Joined → ServerStepped → ServerRun
+run_of now from joined x = server_hears_each now from joined (server_begins x.server x.post [])
+
+-- what it sends at all that was joined was written down, and there was room for it
+abbrev pub IsAnswered : ℕ → Peer → List Joined → ServerStepped → Type 0
+IsAnswered now from joined x = FitsDown (run_of now from joined x).send × ((run_of now from joined x).spent ≡ None)
 
 -- an event that no message brings; a move is one to a server that there is
 abbrev pub IsOwn : ℕ → ServerEvent → Type 0

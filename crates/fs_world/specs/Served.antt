@@ -26,8 +26,7 @@ use Rattle.fs_server.specs.declared.event.ServerEvent.TheVariants.{Turn as TheTu
 use Rattle.fs_server.specs.declared.state.Server.{Server as Core}
 use Rattle.fs_actor.specs.Actor as actor
 use Rattle.fs_actor.specs.Actor.{ClientSide, ClientStep, ServerSide, ServerStep}
-use Rattle.fs_actor.specs.Hearing.{event_heard}
-use Rattle.fs_actor.specs.Several.{ClientRun, client_told_all}
+use Rattle.fs_actor.specs.Several.{ClientRun, ServerRun, client_told_all, server_told_all}
 use Rattle.fs_schedule.specs.declared.event.What.{What}
 use Rattle.fs_schedule.specs.declared.event.What.TheVariants.{Join, Do, Tell, Turn, Recall, Move}
 use Rattle.fs_schedule.specs.declared.outcome.Outcome.{Outcome}
@@ -233,21 +232,35 @@ abbrev pub flying_without : ℕ → Peer → List Flying → List Flying
 flying_without k (Client s) flying = flying
 flying_without k (Server j) flying = without_first (is_between j k) flying
 
--- where it was heard
-abbrev pub seats_after : ℕ → Peer → Option ServerEvent → Seats → Seats
-seats_after k from None seats = seats
-seats_after k from (Some e) seats = seats_without k from seats
+-- as many of the actor's messages, from the front, are on their way no more as there are of these
+abbrev pub seats_without_each : {Y : Type 0} → ℕ → Peer → List Y → Seats → Seats
+seats_without_each k from [] seats = seats
+seats_without_each k from (y ∷ ys) seats = seats_without_each k from ys (seats_without k from seats)
 
-abbrev pub flying_after : ℕ → Peer → Option ServerEvent → List Flying → List Flying
-flying_after k from None flying = flying
-flying_after k from (Some e) flying = flying_without k from flying
+abbrev pub flying_without_each : {Y : Type 0} → ℕ → Peer → List Y → List Flying → List Flying
+flying_without_each k from [] flying = flying
+flying_without_each k from (y ∷ ys) flying = flying_without_each k from ys (flying_without k from flying)
 
-abbrev pub without_heard : ℕ → Peer → Option ServerEvent → ServerStepped → ServerStepped
-without_heard k from heard x = record x { seats = seats_after k from heard x.seats; flying = flying_after k from heard x.flying }
+abbrev pub without_joined : {Y : Type 0} → ℕ → Peer → List Y → ServerStepped → ServerStepped
+without_joined k from ys x = record x { seats = seats_without_each k from ys x.seats; flying = flying_without_each k from ys x.flying }
 
+-- what an event of several messages leaves: all that the server sends is on its way, and all that it admits joins the journal
+abbrev pub server_ran : ℕ → ServerRun → ServerStepped → ServerStepped
+server_ran k y x = record {
+  server = y.server;
+  post = y.post;
+  seats = with_downs k y.send x.seats;
+  flying = x.flying ++ flying_from k y.send;
+  journal = x.journal ++ y.admitted;
+  packets = with_sent y.packets x.packets;
+  outcome = record { who = Some (Server k); notes = y.notes; sent = numbers_from (length x.packets.sent) y.packets };
+  spent = y.spent;
+}
+
+-- a packet of the actor comes to it: whatever this joins was on its way from there, and is so no more
 abbrev pub server_told : ℕ → ℕ → Peer → Packet → ServerStepped → ServerStepped
 server_told now k from p x =
-    server_stepped k (actor.server_told now from p (core_of x)) (without_heard k from (event_heard from (post_accepted x.post from p).heard.joined) x)
+    server_ran k (server_told_all now from p (core_of x)) (without_joined k from (post_accepted x.post from p).heard.joined x)
 
 -- ## Where servers stand in the world
 

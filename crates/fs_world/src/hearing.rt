@@ -1,29 +1,36 @@
 //! A packet that comes to a server.
-ghost use Rattle.std.specs.Prelude.{◌≡◌, ◌≤◌, IfOk, OnOk, OnErr, false};
+ghost use Rattle.std.specs.Prelude.{◌≡◌, ◌≤◌, ◌<◌, ◌++◌, IfOk, IsErrOf, OnOk, OnErr, Some, [], false, length};
 ghost use Rattle.fs_actor.specs.Hearing.{event_heard};
+ghost use Rattle.fs_actor.specs.Several.{server_begins, server_hears_each, server_replies};
 ghost use Rattle.fs_ident.specs.declared.actor.Peer.TheVariants.{Server};
 ghost use Rattle.fs_ident.specs.declared.limits.TheConstants.{LATEST};
-ghost use Rattle.fs_server.specs.Step.{CanBeTold, step};
+ghost use Rattle.fs_msg.specs.declared.core_error.Counter.{Counter as TheCounter};
+ghost use Rattle.fs_msg.specs.declared.core_error.CoreError.TheVariants as errors;
+ghost use Rattle.fs_serial.specs.Cluster.{flying_from};
 ghost use Rattle.fs_window.specs.Peers.{same_peer};
-ghost use Rattle.fs_window.specs.Post.{post_accepted};
-ghost use Rattle.fs_world.specs.Calls.{Spends, server_hears, server_left, without_message};
+ghost use Rattle.fs_window.specs.Post.{post_accepted, post_due};
+ghost use Rattle.fs_window.specs.Undo.{undone};
+ghost use Rattle.fs_world.specs.Calls.{IsServerRun, Spends, server_heard, server_hears, server_hears_one, server_left};
 ghost use Rattle.fs_world.specs.Linked.{FitsDown};
+ghost use Rattle.fs_world.specs.Packets.{numbers_from, with_sent};
 ghost use Rattle.fs_world.specs.Planned.{IsAnswered};
-ghost use Rattle.fs_world.specs.Served.{core_step, server_found, server_told};
+ghost use Rattle.fs_world.specs.Served.{server_found, server_told, with_downs};
 
-use crate::goes::send_due;
+use crate::goes::{send_due, send_noted};
 use crate::packets::Packets;
-use crate::removals::remove_flying;
+use crate::pushes::have_room;
+use crate::removals::remove_joined;
 use crate::seats::Seats;
-use crate::servers::core_step;
-use fs_actor::{event_heard, heard_in, unheard_note};
-use fs_ident::{List, Peer};
+use crate::servers::{core_step, spread};
+use fs_actor::{ServerHeard, event_heard, heard_in, server_hears_each, unheard_note};
+use fs_ident::{List, Memory, Peer, Twin};
 use fs_msg::{CoreError, Item};
 use fs_schedule::Outcome;
 use fs_serial::Flying;
-use fs_server::{ServerCore, ServerEvent};
-use fs_window::{Heard, Packet, Post, Undo};
+use fs_server::ServerCore;
+use fs_window::{Heard, Joined, Packet, Post, Undo};
 use std::alloc::Global;
+use std::mem;
 
 /// A packet of another actor comes to the server of number `k`, at the reading in milliseconds. After an error all is as it
 /// was.
@@ -46,8 +53,8 @@ pub(crate) fn server_told(
         server_left told core.new post.new seats.new flying.new journal.new packets.new ≡
         server_told now k from p.now
         (server_found core.old post.old seats.old flying.old journal.old packets.old)) }
-    ensures fits { OnOk result (IsAnswered now
-        (event_heard from (post_accepted post.old from p.now).heard.joined)
+    ensures fits { OnOk result (IsAnswered now from
+        (post_accepted post.old from p.now).heard.joined
         (server_found core.old (post_accepted post.old from p.now).links
         seats.old flying.old journal.old packets.old)) }
     ensures spends { Spends result (server_told now k from p.now
@@ -61,6 +68,7 @@ pub(crate) fn server_told(
     let replied = heard_in(from, p);
     match server_hears(
         alloc, now, k, from, replied, &heard, core, post, seats, flying, journal, packets,
+        &mut undo,
     ) {
         Ok(told) => Ok(told),
         Err(e) => {
@@ -70,8 +78,88 @@ pub(crate) fn server_told(
     }
 }
 
-/// What the actor's packet gave is read: it brought no message for a server, or one.
+/// What the actor's packet gave is read: the server hears all that was joined, and this is on its way no more. After an error
+/// the links are as `undo` keeps, and all else is as it was.
 fn server_hears(
+    alloc: Global,
+    now: u64,
+    k: u8,
+    from: Peer,
+    replied: Option<Peer>,
+    heard: &Heard,
+    core: &mut ServerCore,
+    post: &mut Post,
+    seats: &mut Seats,
+    flying: &mut List<Flying>,
+    journal: &mut List<Item>,
+    packets: &mut Packets,
+    undo: &mut Undo,
+) -> Result<Outcome, CoreError>
+    requires reading { now ≤ LATEST }
+    requires apart { same_peer from (Server k) ≡ false }
+    ensures done { IfOk result (λ told.
+        server_left told core.new post.new seats.new flying.new journal.new packets.new ≡
+        server_hears now k from replied heard.now
+        (server_found core.old post.old seats.old flying.old journal.old packets.old)) }
+    ensures fits { OnOk result (IsAnswered now from heard.now.joined
+        (server_found core.old post.old seats.old flying.old journal.old packets.old)) }
+    ensures spends { Spends result (server_hears now k from replied heard.now
+        (server_found core.old post.old seats.old flying.old journal.old packets.old)).spent }
+    ensures err { OnErr result (
+        server_found core.new post.old seats.new flying.new journal.new packets.new ≡
+        server_found core.old post.old seats.old flying.old journal.old packets.old) }
+    ensures undo { OnErr result (undone undo.new post.new ≡ undone undo.old post.old) }
+{
+    let told = hears_all(
+        alloc, now, k, from, replied, heard, core, post, seats, flying, journal, packets, undo,
+    )?;
+    remove_joined(seats, flying, k, from, heard.joined.as_slice());
+    Ok(told)
+}
+
+/// It was one message at most, or several.
+fn hears_all(
+    alloc: Global,
+    now: u64,
+    k: u8,
+    from: Peer,
+    replied: Option<Peer>,
+    heard: &Heard,
+    core: &mut ServerCore,
+    post: &mut Post,
+    seats: &mut Seats,
+    flying: &mut List<Flying>,
+    journal: &mut List<Item>,
+    packets: &mut Packets,
+    undo: &mut Undo,
+) -> Result<Outcome, CoreError>
+    requires reading { now ≤ LATEST }
+    ensures done { IfOk result (λ told.
+        server_left told core.new post.new seats.new flying.new journal.new packets.new ≡
+        server_heard now k from replied heard.now
+        (server_found core.old post.old seats.old flying.old journal.old packets.old)) }
+    ensures fits { OnOk result (IsAnswered now from heard.now.joined
+        (server_found core.old post.old seats.old flying.old journal.old packets.old)) }
+    ensures spends { Spends result (server_heard now k from replied heard.now
+        (server_found core.old post.old seats.old flying.old journal.old packets.old)).spent }
+    ensures err { OnErr result (
+        server_found core.new post.old seats.new flying.new journal.new packets.new ≡
+        server_found core.old post.old seats.old flying.old journal.old packets.old) }
+    ensures undo { OnErr result (undone undo.new post.new ≡ undone undo.old post.old) }
+{
+    if heard.joined.len() <= 1 {
+        hears_one(
+            alloc, now, k, from, replied, heard, core, post, seats, flying, journal, packets,
+        )
+    } else {
+        hears_several(
+            alloc, now, k, from, replied, heard, core, post, seats, flying, journal, packets, undo,
+        )
+    }
+}
+
+/// It brought no message for a server, or one: the server itself takes the step. After an error all is as it was.
+fn hears_one(
     alloc: Global,
     now: u64,
     k: u8,
@@ -86,14 +174,14 @@ fn server_hears(
     packets: &mut Packets,
 ) -> Result<Outcome, CoreError>
     requires reading { now ≤ LATEST }
-    requires apart { same_peer from (Server k) ≡ false }
+    requires few { length heard.now.joined ≤ 1 }
     ensures done { IfOk result (λ told.
         server_left told core.new post.new seats.new flying.new journal.new packets.new ≡
-        server_hears now k from replied heard.now (event_heard from heard.now.joined)
+        server_hears_one now k replied heard.now (event_heard from heard.now.joined)
         (server_found core.old post.old seats.old flying.old journal.old packets.old)) }
-    ensures fits { OnOk result (IsAnswered now (event_heard from heard.now.joined)
+    ensures fits { OnOk result (IsAnswered now from heard.now.joined
         (server_found core.old post.old seats.old flying.old journal.old packets.old)) }
-    ensures spends { Spends result (server_hears now k from replied heard.now
+    ensures spends { Spends result (server_hears_one now k replied heard.now
         (event_heard from heard.now.joined)
         (server_found core.old post.old seats.old flying.old journal.old packets.old)).spent }
     ensures err { OnErr result (
@@ -107,48 +195,145 @@ fn server_hears(
             post.mark_sent();
             Ok(told)
         }
-        Some(event) => server_takes(
-            alloc, now, k, from, replied, &event, core, post, seats, flying, journal, packets,
+        Some(event) => core_step(
+            alloc, k, false, replied, now, &event, core, post, seats, flying, journal, packets,
         ),
     }
 }
 
-/// The event comes to the server, and the first message of the actor is on its way no more.
-fn server_takes(
+/// It brought several: a copy of the server hears them, and stands in its place then.
+fn hears_several(
     alloc: Global,
     now: u64,
     k: u8,
     from: Peer,
     replied: Option<Peer>,
-    event: &ServerEvent,
+    heard: &Heard,
     core: &mut ServerCore,
     post: &mut Post,
     seats: &mut Seats,
     flying: &mut List<Flying>,
     journal: &mut List<Item>,
     packets: &mut Packets,
+    undo: &mut Undo,
 ) -> Result<Outcome, CoreError>
     requires reading { now ≤ LATEST }
-    requires apart { same_peer from (Server k) ≡ false }
-    requires told { CanBeTold event.now }
+    requires several { 1 < length heard.now.joined }
     ensures done { IfOk result (λ told.
         server_left told core.new post.new seats.new flying.new journal.new packets.new ≡
-        core_step k false replied now event.now (without_message k from
-        (server_found core.old post.old seats.old flying.old journal.old packets.old))) }
-    ensures fits { OnOk result (FitsDown (step core.old now event.now).out.send) }
-    ensures spends { Spends result
-        (core_step k false replied now event.now (without_message k from
-        (server_found core.old post.old seats.old flying.old journal.old packets.old))).spent }
+        server_heard now k from replied heard.now
+        (server_found core.old post.old seats.old flying.old journal.old packets.old)) }
+    ensures fits { OnOk result (IsAnswered now from heard.now.joined
+        (server_found core.old post.old seats.old flying.old journal.old packets.old)) }
+    ensures spends { Spends result (server_heard now k from replied heard.now
+        (server_found core.old post.old seats.old flying.old journal.old packets.old)).spent }
     ensures err { OnErr result (
-        server_found core.new post.new seats.new flying.new journal.new packets.new ≡
+        server_found core.new post.old seats.new flying.new journal.new packets.new ≡
         server_found core.old post.old seats.old flying.old journal.old packets.old) }
+    ensures undo { OnErr result (undone undo.new post.new ≡ undone undo.old post.old) }
 {
-    let told = core_step(
-        alloc, k, false, replied, now, event, core, post, seats, flying, journal, packets,
-    )?;
-    match from {
-        Peer::Client(s) => seats.pop_up(s, k),
-        Peer::Server(j) => remove_flying(flying, j, k),
+    let mut after = core.copy(alloc)?;
+    let joined = heard.joined.as_slice();
+    match replies(
+        alloc, now, k, from, replied, joined, &mut after, post, seats, flying, journal, packets,
+        undo,
+    ) {
+        Ok(told) => {
+            mem::replace(core, after).discard();
+            Ok(told)
+        }
+        Err(e) => {
+            after.discard();
+            Err(e)
+        }
     }
-    Ok(told)
+}
+
+/// The server hears each of them, what is due goes out, and what it sends is on its way.
+fn replies(
+    alloc: Global,
+    now: u64,
+    k: u8,
+    from: Peer,
+    replied: Option<Peer>,
+    joined: &[Joined],
+    core: &mut ServerCore,
+    post: &mut Post,
+    seats: &mut Seats,
+    flying: &mut List<Flying>,
+    journal: &mut List<Item>,
+    packets: &mut Packets,
+    undo: &mut Undo,
+) -> Result<Outcome, CoreError>
+    requires reading { now ≤ LATEST }
+    ensures done { IfOk result (λ told. IsServerRun (server_replies replied
+        (server_hears_each now from joined.now (server_begins core.old post.old []))) k
+        (server_found core.old post.old seats.old flying.old journal.old packets.old)
+        told core.new post.new seats.new flying.new journal.new packets.new) }
+    ensures fits { OnOk result (FitsDown
+        (server_hears_each now from joined.now (server_begins core.old post.old [])).send) }
+    ensures spent { (counter : TheCounter) → IsErrOf result (errors.Spent counter) →
+        (server_hears_each now from joined.now
+        (server_begins core.old post.old [])).spent ≡ Some counter }
+    ensures err_seats { OnErr result (seats.new ≡ seats.old) }
+    ensures err_flying { OnErr result (flying.new ≡ flying.old) }
+    ensures err_journal { OnErr result (journal.new ≡ journal.old) }
+    ensures err_packets { OnErr result (packets.new ≡ packets.old) }
+    ensures undo { OnErr result (undone undo.new post.new ≡ undone undo.old post.old) }
+{
+    let mut heard = ServerHeard::new(alloc);
+    server_hears_each(alloc, now, from, joined, core, post, undo, &mut heard)?;
+    have_room(alloc, heard.send.as_slice())?;
+    Ok(send_all(
+        alloc, k, replied, heard, post, seats, flying, journal, packets,
+    )?)
+}
+
+/// What the server sent and admitted as it heard them stands where it is to stand, and what is due on its links goes out: all of
+/// it, or nothing where memory is wanting.
+fn send_all(
+    alloc: Global,
+    k: u8,
+    replied: Option<Peer>,
+    heard: ServerHeard,
+    post: &mut Post,
+    seats: &mut Seats,
+    flying: &mut List<Flying>,
+    journal: &mut List<Item>,
+    packets: &mut Packets,
+) -> Result<Outcome, Memory>
+    ensures told { IfOk result (λ told. told ≡ record {
+      who = Some (Server k);
+      notes = heard.notes;
+      sent = numbers_from (length packets.old.sent) (post_due post.old false replied).sent;
+    }) }
+    ensures post { OnOk result (post.new ≡ (post_due post.old false replied).links) }
+    ensures packets { OnOk result (packets.new ≡
+        with_sent (post_due post.old false replied).sent packets.old) }
+    ensures seats { OnOk result (seats.new ≡ with_downs k heard.send seats.old) }
+    ensures flying { OnOk result (flying.new ≡ flying.old ++ flying_from k heard.send) }
+    ensures journal { OnOk result (journal.new ≡ journal.old ++ heard.admitted) }
+    ensures err_post { OnErr result (post.new ≡ post.old) }
+    ensures err_seats { OnErr result (seats.new ≡ seats.old) }
+    ensures err_flying { OnErr result (flying.new ≡ flying.old) }
+    ensures err_journal { OnErr result (journal.new ≡ journal.old) }
+    ensures err_packets { OnErr result (packets.new ≡ packets.old) }
+{
+    let ServerHeard {
+        notes,
+        send,
+        admitted,
+    } = heard;
+    let before = packets.sent().len();
+    let told = send_noted(alloc, Peer::Server(k), false, replied, notes, post, packets)?;
+    match spread(alloc, k, send.as_slice(), admitted, seats, flying, journal) {
+        Ok(()) => {
+            post.mark_sent();
+            Ok(told)
+        }
+        Err(e) => {
+            packets.cut_back(before);
+            Err(e)
+        }
+    }
 }

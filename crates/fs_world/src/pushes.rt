@@ -10,7 +10,7 @@ ghost use Rattle.fs_window.specs.Undo.{undone};
 ghost use Rattle.fs_world.specs.Linked.{FitsDown, IsWritten};
 
 use crate::goes::refusal;
-use fs_ident::Peer;
+use fs_ident::{Memory, Peer};
 use fs_msg::{CoreError, Msg, write};
 use fs_window::{Post, Undo};
 use std::alloc::Global;
@@ -55,4 +55,22 @@ fn push_one(
         Ok(()) => Ok(()),
         Err(e) => Err(refusal(e)),
     }
+}
+
+/// There is room for the bytes of each of these messages.
+pub(crate) fn have_room(alloc: Global, send: &[(Peer, Msg)]) -> Result<(), Memory>
+    ensures { OnOk result (FitsDown send.now) }
+{
+    for sent in send {
+        has_room(alloc, sent)?;
+    }
+    Ok(())
+}
+
+/// There is room for the bytes of the message.
+fn has_room(alloc: Global, sent: &(Peer, Msg)) -> Result<(), Memory>
+    ensures { OnOk result (IsWritten sent.now.1) }
+{
+    let mut bytes = Vec::new(alloc);
+    write(alloc, &sent.1, &mut bytes)
 }

@@ -2,9 +2,10 @@
 ghost use Rattle.std.specs.Prelude.{◌≡◌, ◌<◌, ◌==◌, length, IfSome};
 ghost use Rattle.std.specs.List.{position};
 ghost use Rattle.fs_serial.specs.Cluster.{is_between, is_with, without_first};
-ghost use Rattle.fs_world.specs.Served.{without_each};
+ghost use Rattle.fs_world.specs.Served.{flying_without, flying_without_each, seats_without, seats_without_each, without_each};
 
-use fs_ident::List;
+use crate::seats::Seats;
+use fs_ident::{List, Peer};
 use fs_serial::Flying;
 use fs_window::Joined;
 
@@ -38,6 +39,60 @@ pub(crate) fn remove_flying(flying: &mut List<Flying>, from: u8, to: u8)
             flying.remove(at);
         }
         None => {}
+    }
+}
+
+/// As many messages of the actor to the server of number `k`, from the front, are taken off as there are of these. Takes no
+/// memory.
+pub(crate) fn remove_joined(
+    seats: &mut Seats,
+    flying: &mut List<Flying>,
+    k: u8,
+    from: Peer,
+    gone: &[Joined],
+)
+    ensures seats { seats.new ≡ seats_without_each k from gone.now seats.old }
+    ensures flying { flying.new ≡ flying_without_each k from gone.now flying.old }
+{
+    remove_questions(seats, k, from, gone);
+    remove_messages(flying, k, from, gone);
+}
+
+/// As many messages of the actor, if it is a session. Takes no memory.
+fn remove_questions(seats: &mut Seats, k: u8, from: Peer, gone: &[Joined])
+    ensures { seats.new ≡ seats_without_each k from gone.now seats.old }
+{
+    for _ in gone {
+        remove_question(seats, k, from);
+    }
+}
+
+/// The first of them, if there is one. Takes no memory.
+fn remove_question(seats: &mut Seats, k: u8, from: Peer)
+    ensures { seats.new ≡ seats_without k from seats.old }
+{
+    match from {
+        Peer::Client(s) => seats.pop_up(s, k),
+        Peer::Server(_) => {}
+    }
+}
+
+/// As many messages of the actor, if it is a server. Takes no memory.
+fn remove_messages(flying: &mut List<Flying>, k: u8, from: Peer, gone: &[Joined])
+    ensures { flying.new ≡ flying_without_each k from gone.now flying.old }
+{
+    for _ in gone {
+        remove_message(flying, k, from);
+    }
+}
+
+/// The first of them, if there is one. Takes no memory.
+fn remove_message(flying: &mut List<Flying>, k: u8, from: Peer)
+    ensures { flying.new ≡ flying_without k from flying.old }
+{
+    match from {
+        Peer::Client(_) => {}
+        Peer::Server(j) => remove_flying(flying, j, k),
     }
 }
 

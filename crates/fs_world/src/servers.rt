@@ -22,7 +22,7 @@ use crate::pushes::push_all;
 use crate::seats::Seats;
 use fs_actor::append;
 use fs_ident::{List, Memory, Peer};
-use fs_msg::{CoreError, Item, Note, ServerNote};
+use fs_msg::{CoreError, Item, Msg, Note, ServerNote};
 use fs_schedule::Outcome;
 use fs_serial::Flying;
 use fs_server::{Plan, ServerCore, ServerEvent};
@@ -171,20 +171,44 @@ fn admit(
     let admitted = mem::replace(&mut plan.out.admitted, List::new(alloc));
     let send = mem::replace(&mut plan.out.send, List::new(alloc));
     let (items, messages) = (journal.len(), flying.len());
-    append(journal, admitted)?;
-    if let Err(e) = push_flying(alloc, k, flying, send.as_slice()) {
-        journal.truncate(items);
-        return Err(e);
-    }
-    if let Err(e) = push_downs(alloc, k, seats, send.as_slice()) {
-        flying.truncate(messages);
-        journal.truncate(items);
-        return Err(e);
-    }
+    spread(alloc, k, send.as_slice(), admitted, seats, flying, journal)?;
     match core.commit(alloc, plan) {
         Ok(()) => Ok(()),
         Err(e) => {
             undo_downs(k, seats, send.as_slice());
+            flying.truncate(messages);
+            journal.truncate(items);
+            Err(e)
+        }
+    }
+}
+
+/// What a server admitted joins the journal, and its messages are on their way: all of it, or nothing.
+pub(crate) fn spread(
+    alloc: Global,
+    k: u8,
+    send: &[(Peer, Msg)],
+    admitted: List<Item>,
+    seats: &mut Seats,
+    flying: &mut List<Flying>,
+    journal: &mut List<Item>,
+) -> Result<(), Memory>
+    ensures seats { OnOk result (seats.new ≡ with_downs k send.now seats.old) }
+    ensures flying { OnOk result (flying.new ≡ flying.old ++ flying_from k send.now) }
+    ensures journal { OnOk result (journal.new ≡ journal.old ++ admitted) }
+    ensures err_seats { OnErr result (seats.new ≡ seats.old) }
+    ensures err_flying { OnErr result (flying.new ≡ flying.old) }
+    ensures err_journal { OnErr result (journal.new ≡ journal.old) }
+{
+    let (items, messages) = (journal.len(), flying.len());
+    append(journal, admitted)?;
+    if let Err(e) = push_flying(alloc, k, flying, send) {
+        journal.truncate(items);
+        return Err(e);
+    }
+    match push_downs(alloc, k, seats, send) {
+        Ok(()) => Ok(()),
+        Err(e) => {
             flying.truncate(messages);
             journal.truncate(items);
             Err(e)

@@ -1,7 +1,6 @@
 //! A packet that reaches its addressee.
 ghost use Rattle.std.specs.Prelude.{◌≡◌, ◌≤◌, Some, IfOk, OnOk, OnErr, false, length, slice_get};
 ghost use Rattle.std.specs.FinMap as map;
-ghost use Rattle.fs_actor.specs.Hearing.{event_heard};
 ghost use Rattle.fs_ident.specs.declared.limits.TheConstants.{LATEST};
 ghost use Rattle.fs_window.specs.Peers.{same_peer};
 ghost use Rattle.fs_window.specs.Post.{Links, post_accepted};
@@ -126,8 +125,8 @@ impl Served {
             p.now self.old) }
         ensures fits { (core : TheCore) (post : Links) →
             slice_get self.old.servers k ≡ Some core → slice_get self.old.posts k ≡ Some post →
-            OnOk result (IsAnswered now
-            (event_heard from (post_accepted post from p.now).heard.joined)
+            OnOk result (IsAnswered now from
+            (post_accepted post from p.now).heard.joined
             (at_server core (post_accepted post from p.now).links self.old)) }
         ensures spends { Spends result
             (server_told_at (slice_get self.old.servers k) (slice_get self.old.posts k) now k from

@@ -5,7 +5,8 @@ use Rattle.fs_client.specs.Acts.{act_plan, is_act_spent}
 use Rattle.fs_world.specs.Linked.{FitsUp}
 use Rattle.fs_actor.specs.Actor.{is_full_up}
 use Rattle.fs_world.specs.Served.{client_acts, with_seat}
-use Rattle.fs_world.proofs.AtSeat.{has_room, linked_after, seated, seated_at, seated_back}
+use Rattle.fs_world.proofs.AtSeat.{linked_after, seated, seated_at, seated_back}
+use Rattle.fs_world.proofs.Spending.{has_room}
 use Rattle.fs_world.proofs.Linked.{act_linked}
 use Rattle.fs_world.proofs.served.Served.act.Goals as goal
 
