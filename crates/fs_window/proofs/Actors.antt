@@ -67,7 +67,7 @@ in_flat_map {X} {Y} f y (x ∷ xs) i =
       | inr k ↦ parted ws (λ m. g (inr m)) h k
     ]
 
-below_in : (peer : Peer) (es : ByPeer Link) (e : Peer × Link) → below_all peer_cmp peer es ≡ true → In e es → peer_cmp peer e.0 ≡ Less
+pub below_in : (peer : Peer) (es : ByPeer Link) (e : Peer × Link) → below_all peer_cmp peer es ≡ true → In e es → peer_cmp peer e.0 ≡ Less
 below_in peer [] e h i = absurd i
 below_in peer (x ∷ es) e h i = elim i [
   | inl q ↦ ap (λ (y : Peer × Link). peer_cmp peer y.0) q ∙ less _ (first _ _ h)

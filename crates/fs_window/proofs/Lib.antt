@@ -1,6 +1,9 @@
 pub mod Actors
+mod AsBefore
+mod Between
 pub mod ByActor
 pub mod Carried
+mod Changes
 pub mod Lists
 pub mod Narrow
 pub mod OneStep
@@ -9,5 +12,6 @@ pub mod PeerOrder
 pub mod Places
 pub mod ReadBack
 pub mod Schedule
+mod Settled
 pub mod Slots
 pub mod Undone

@@ -1,65 +1,52 @@
 -- Segments that came before their turn.
-use Rattle.std.proofs.Common.{◌≡◌, ℕ, zero, suc, ◌+◌, ◌-◌, ◌<◌, ◌≤◌, max, List, [], ◌∷◌, ◌++◌, length, get_or, drop, replicate, Option, Some, None, ◌⊎◌, inl, inr, refl, sym, ap, ◌∙◌, arith}
-use Rattle.std.specs.Prelude.{slice_get, slice_set}
-use Rattle.std.proofs.lemmas.List.{drop_more}
-use Rattle.fs_window.specs.LinkEnd.{without_hole, filled, with_kept}
+use Rattle.std.proofs.Common.{◌≡◌, ℕ, zero, suc, ◌+◌, ◌-◌, max, List, [], ◌∷◌, ◌++◌, length, drop, replicate, take, true, false, Option, Some, None, ◌⊎◌, inl, inr, refl, ap, ◌∙◌, arith}
+use Rattle.std.specs.Prelude.{slice_get}
+use Rattle.fs_window.specs.LinkEnd.{without_hole, is_filled, with_kept}
 use Rattle.fs_window.proofs.Lists.{none_of, some_of, some_is}
 
--- ---- the front of what is kept
-
--- one more of the front
-pub front_next : (slots : List (Option (List ℕ))) (i : ℕ) (s : List ℕ) → i < length slots → Some s ≡ get_or slots i (Some s) → without_hole (drop i slots) ≡ s ∷ without_hole (drop (i + 1) slots)
-front_next slots i s lt here =
-    ap (λ (x : List (Option (List ℕ))). without_hole x) (drop_more slots i (Some s) lt ∙ ap (λ (x : Option (List ℕ)). x ∷ drop (i + 1) slots) (sym here))
-
--- a hole ends it
-pub front_ends : (slots : List (Option (List ℕ))) (i : ℕ) (slot : Option (List ℕ)) → i < length slots → slot ≡ get_or slots i slot → slot ≡ None → without_hole (drop i slots) ≡ []
-front_ends slots i slot lt here none =
-    ap (λ (x : List (Option (List ℕ))). without_hole x) (drop_more slots i slot lt ∙ ap (λ (x : Option (List ℕ)). x ∷ drop (i + 1) slots) (sym here ∙ none))
-
-pub front_over : (slots : List (Option (List ℕ))) (i : ℕ) → length slots ≤ i → without_hole (drop i slots) ≡ []
-front_over [] zero le = refl
-front_over [] (suc i) le = refl
-front_over (x ∷ slots) zero le = absurd (omega arith)
-front_over (x ∷ slots) (suc i) le = front_over slots i (omega arith)
-
 -- ---- one more is kept
-
-first_same : (x y : Option (List ℕ)) (xs ys : List (Option (List ℕ))) → x ∷ xs ≡ y ∷ ys → x ≡ y
-first_same x y xs ys e = cc
 
 rest_same : (x y : Option (List ℕ)) (xs ys : List (Option (List ℕ))) → x ∷ xs ≡ y ∷ ys → xs ≡ ys
 rest_same x y xs ys e = cc
 
 -- behind all others
-kept_past : (slots : List (Option (List ℕ))) (holes place : ℕ) (s : List ℕ) → place ≡ length slots + holes → slots ++ (replicate holes None ++ Some s ∷ []) ≡ with_kept place s slots
-kept_past [] zero zero s e = refl
-kept_past [] zero (suc place) s e = absurd (omega arith)
-kept_past [] (suc holes) zero s e = absurd (omega arith)
-kept_past [] (suc holes) (suc place) s e = ap (λ (y : List (Option (List ℕ))). None ∷ y) (kept_past [] holes place s (omega arith))
-kept_past (x ∷ slots) holes zero s e = absurd (omega arith)
-kept_past (x ∷ slots) holes (suc place) s e = ap (λ (y : List (Option (List ℕ))). x ∷ y) (kept_past slots holes place s (omega arith))
+kept_past : (holes : ℕ) (s : List ℕ) → (replicate holes None ++ Some s ∷ []) ++ [] ≡ with_kept holes s []
+kept_past zero s = refl
+kept_past (suc holes) s = ap (λ (y : List (Option (List ℕ))). None ∷ y) (kept_past holes s)
 
-pub kept_behind : (slots : List (Option (List ℕ))) (place : ℕ) (s : List ℕ) → length slots ≤ place → slots ++ (replicate (place - length slots) None ++ Some s ∷ []) ≡ with_kept place s slots
-kept_behind slots place s le = kept_past slots (place - length slots) place s (omega arith)
+kept_at : (slots : List (Option (List ℕ))) (place holes next : ℕ) (s : List ℕ) → holes ≡ place - length slots → next ≡ suc place → is_filled place slots ≡ false
+    → take place slots ++ ((replicate holes None ++ Some s ∷ []) ++ drop next slots) ≡ with_kept place s slots
+kept_at slots place holes zero s h n e = absurd (omega arith)
+kept_at [] zero zero (suc next) s h n e = refl
+kept_at [] zero (suc holes) (suc next) s h n e = absurd (omega arith)
+kept_at [] (suc place) zero (suc next) s h n e = absurd (omega arith)
+kept_at [] (suc place) (suc holes) (suc next) s h n e = ap (λ (y : List (Option (List ℕ))). None ∷ y) (kept_past holes s ∙ ap (λ (k : ℕ). with_kept k s []) (omega arith))
+kept_at (Some t ∷ slots) zero holes (suc next) s h n e = absurd (cc e)
+kept_at (None ∷ slots) zero zero (suc zero) s h n e = refl
+kept_at (None ∷ slots) zero zero (suc (suc next)) s h n e = absurd (omega arith)
+kept_at (None ∷ slots) zero (suc holes) (suc next) s h n e = absurd (omega arith)
+kept_at (x ∷ slots) (suc place) holes (suc next) s h n e = ap (λ (y : List (Option (List ℕ))). x ∷ y) (kept_at slots place holes next s (omega arith) (omega arith) e)
 
--- it is longer then
-pub longer_kept : (slots : List (Option (List ℕ))) (place : ℕ) (s : List ℕ) → length slots ≤ place → with_kept place s slots ≡ slots → ⊥
-longer_kept [] zero s le e = absurd cc
-longer_kept [] (suc place) s le e = absurd cc
-longer_kept (x ∷ slots) zero s le e = absurd (omega arith)
-longer_kept (x ∷ slots) (suc place) s le e = longer_kept slots place s (omega arith) (rest_same x x _ _ e)
+-- where none stands yet
+pub kept_open : (slots : List (Option (List ℕ))) (place : ℕ) (s : List ℕ) → is_filled place slots ≡ false
+    → take place slots ++ ((replicate (place - length slots) None ++ Some s ∷ []) ++ drop (place + 1) slots) ≡ with_kept place s slots
+kept_open slots place s e = kept_at slots place (place - length slots) (place + 1) s refl (omega arith) e
 
--- in their midst
-pub kept_within : (slots : List (Option (List ℕ))) (place : ℕ) (s : List ℕ) (slot : Option (List ℕ)) → place < length slots → slot ≡ get_or slots place slot → slice_set slots place (filled slot s) ≡ with_kept place s slots
-kept_within [] place s slot lt here = absurd (omega arith)
-kept_within (x ∷ slots) zero s slot lt here = ap (λ (y : Option (List ℕ)). filled y s ∷ slots) here
-kept_within (x ∷ slots) (suc place) s slot lt here = ap (λ (y : List (Option (List ℕ))). x ∷ y) (kept_within slots place s slot (omega arith) here)
+-- it is another list then
+pub kept_other : (slots : List (Option (List ℕ))) (place : ℕ) (s : List ℕ) → is_filled place slots ≡ false → with_kept place s slots ≡ slots → ⊥
+kept_other [] zero s bare e = absurd cc
+kept_other [] (suc place) s bare e = absurd cc
+kept_other (None ∷ slots) zero s bare e = absurd cc
+kept_other (Some t ∷ slots) zero s bare e = absurd (cc bare)
+kept_other (x ∷ slots) (suc place) s bare e = kept_other slots place s bare (rest_same x x _ _ e)
 
-pub kept_same : (slots : List (Option (List ℕ))) (place : ℕ) (s : List ℕ) (slot : Option (List ℕ)) → place < length slots → slot ≡ get_or slots place slot → with_kept place s slots ≡ slots → filled slot s ≡ slot
-kept_same [] place s slot lt here e = absurd (omega arith)
-kept_same (x ∷ slots) zero s slot lt here e = ap (λ (y : Option (List ℕ)). filled y s) here ∙ first_same _ _ slots slots e ∙ sym here
-kept_same (x ∷ slots) (suc place) s slot lt here e = kept_same slots place s slot (omega arith) here (rest_same x x _ _ e)
+-- one that stands there stays
+pub kept_full : (slots : List (Option (List ℕ))) (place : ℕ) (s : List ℕ) → is_filled place slots ≡ true → with_kept place s slots ≡ slots
+kept_full [] zero s e = absurd (cc e)
+kept_full [] (suc place) s e = absurd (cc e)
+kept_full (None ∷ slots) zero s e = absurd (cc e)
+kept_full (Some t ∷ slots) zero s e = refl
+kept_full (x ∷ slots) (suc place) s e = ap (λ (y : List (Option (List ℕ))). x ∷ y) (kept_full slots place s e)
 
 -- how many places there are then
 pub kept_length : (slots : List (Option (List ℕ))) (place : ℕ) (s : List ℕ) → length (with_kept place s slots) ≡ max (length slots) (place + 1)
@@ -69,7 +56,7 @@ kept_length (x ∷ slots) zero s = omega arith
 kept_length (x ∷ slots) (suc place) s = omega (arith, kept_length slots place s)
 
 -- for what keeps one more
-pub ruleset keeping = (kept_behind, longer_kept, kept_within, kept_same, kept_length)
+pub ruleset keeping = (kept_open, kept_other, kept_full)
 
 -- one place further
 further : (slots next : List (Option (List ℕ))) (place i : ℕ) (s t : List ℕ) → (slice_get slots i ≡ Some (Some t) → slice_get next (suc i) ≡ Some (Some t))

@@ -6,3 +6,5 @@ pub mod Peers
 pub mod Post
 pub mod Reading
 pub mod Undo
+-- cited by private calls alone
+pub mod Touched

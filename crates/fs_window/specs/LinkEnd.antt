@@ -1,5 +1,5 @@
 -- One end of a link: what it sends, and what it takes from the other end. Segments are numbered from 0.
-use Rattle.std.specs.Prelude.{◌≡◌, ℕ, zero, suc, ◌+◌, ◌-◌, ◌^◌, ◌<◌, ◌≤◌, min, max, Bool, ◌&&◌, List, [], ◌∷◌, ◌++◌, length, take, drop, Option, Some, None, nat_le, nat_lt, ◌==◌, if◌then◌else◌}
+use Rattle.std.specs.Prelude.{◌≡◌, ℕ, zero, suc, ◌+◌, ◌-◌, ◌^◌, ◌<◌, ◌≤◌, min, max, Bool, false, is_some, ◌&&◌, List, [], ◌∷◌, ◌++◌, length, take, drop, Option, Some, None, nat_le, nat_lt, ◌==◌, if◌then◌else◌}
 use Rattle.fs_window.specs.declared.packet.Packet.{Packet}
 
 -- what an end knows
@@ -85,6 +85,15 @@ with_kept zero s [] = Some s ∷ []
 with_kept zero s (slot ∷ slots) = filled slot s ∷ slots
 with_kept (suc n) s [] = None ∷ with_kept n s []
 with_kept (suc n) s (slot ∷ slots) = slot ∷ with_kept n s slots
+
+-- whether the first of these places has a segment
+abbrev pub leads : List (Option (List ℕ)) → Bool
+leads [] = false
+leads (slot ∷ slots) = is_some slot
+
+-- whether a segment stands at the place
+abbrev pub is_filled : ℕ → List (Option (List ℕ)) → Bool
+is_filled place slots = leads (drop place slots)
 
 -- whether a segment of this number is kept: it comes before its turn, and the width reaches it
 abbrev pub is_early : LinkEnd → ℕ → Bool

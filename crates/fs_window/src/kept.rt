@@ -1,23 +1,24 @@
 //! Segments that came before their turn, each at its place.
-ghost use Rattle.std.specs.Prelude.{◌≡◌, ◌+◌, ◌≤◌, ◌++◌, ◌∷◌, [], max, Some, None, length, replicate, IfOk, IsOk, OnOk, OnErr};
-ghost use Rattle.std.specs.VecDeque.{deque_len};
-ghost use Rattle.fs_window.specs.LinkEnd.{without_hole, filled, with_kept};
+ghost use Rattle.std.specs.Prelude.{◌≡◌, ◌≤◌, ◌++◌, ◌∷◌, [], Some, None, length, replicate, IfOk, IsOk, OnOk};
+ghost use Rattle.fs_window.specs.LinkEnd.{without_hole, with_kept, is_filled};
+ghost use Rattle.fs_window.specs.Undo.{changed};
 
+use crate::queue::{Change, no_change, values_from};
 use fs_frag::Segment;
 use fs_ident::{List, Memory, Twin};
 use std::alloc::Global;
-use std::collections::VecDeque;
+use std::collections::LinkedList;
 
 /// Adds the segments up to the first hole.
 pub(crate) fn add_front(
     alloc: Global,
-    kept: &VecDeque<Option<Segment>>,
+    kept: &LinkedList<Option<Segment>>,
     segments: &mut List<Segment>,
 ) -> Result<(), Memory>
-    ensures { OnOk result (segments.new ≡ segments.old ++ without_hole kept.now.items) }
+    ensures { OnOk result (segments.new ≡ segments.old ++ without_hole kept.now) }
 {
-    for i in 0..kept.len() {
-        let Some(segment) = &kept[i] else {
+    for slot in kept {
+        let Some(segment) = slot else {
             return Ok(());
         };
         segments.push(segment.copy(alloc)?)?;
@@ -26,38 +27,50 @@ pub(crate) fn add_front(
 }
 
 /// How many segments there are up to the first hole.
-pub(crate) fn front_len(kept: &VecDeque<Option<Segment>>) -> usize
-    ensures count { result ≡ length (without_hole kept.now.items) }
-    ensures within { result ≤ length kept.now.items }
+pub(crate) fn front_len(kept: &LinkedList<Option<Segment>>) -> usize
+    ensures count { result ≡ length (without_hole kept.now) }
+    ensures within { result ≤ length kept.now }
 {
-    for i in 0..kept.len() {
-        if kept[i].is_none() {
-            return i;
+    let mut len = 0;
+    for slot in kept {
+        if slot.is_none() {
+            return len;
         }
+        len += 1;
     }
-    kept.len()
+    len
 }
 
-/// Keeps a segment at its place, if there is none yet.
+/// What keeps a segment at its place, if there is none yet.
 #[tactic(auto, using(crate::proofs::Slots::keeping))]
-pub(crate) fn keep_at(
+pub(crate) fn keeping(
     alloc: Global,
-    kept: &mut VecDeque<Option<Segment>>,
+    kept: &LinkedList<Option<Segment>>,
     place: usize,
     segment: &Segment,
-) -> Result<(), Memory>
-    ensures ok { OnOk result (kept.new.items ≡ with_kept place segment.now kept.old.items) }
-    ensures err { OnErr result (kept.new.items ≡ kept.old.items) }
-    ensures no_memory { with_kept place segment.now kept.old.items ≡ kept.old.items → IsOk result }
-    ensures len { length kept.new.items ≤ max (length kept.old.items) (place + 1) }
+) -> Result<Change<Option<Segment>>, Memory>
+    ensures change { IfOk result (λ c. changed c kept.now ≡ with_kept place segment.now kept.now) }
+    ensures no_memory { with_kept place segment.now kept.now ≡ kept.now → IsOk result }
 {
-    if place >= kept.len() {
-        let mut more = behind_holes(alloc, place - kept.len(), segment)?;
-        kept.append(&mut more)?;
-    } else {
-        fill(alloc, &mut kept[place], segment)?;
+    if is_filled(kept, place) {
+        return Ok(no_change(alloc));
     }
-    Ok(())
+    let holes = place.saturating_sub(kept.len());
+    Ok(Change {
+        at: place,
+        count: 1,
+        more: behind_holes(alloc, holes, segment)?,
+    })
+}
+
+/// Whether a segment stands at the place.
+fn is_filled(kept: &LinkedList<Option<Segment>>, place: usize) -> bool
+    ensures { result ≡ is_filled place kept.now }
+{
+    match values_from(kept, place as u64).next() {
+        Some(slot) => slot.is_some(),
+        None => false,
+    }
 }
 
 /// A segment behind so many holes.
@@ -65,25 +78,13 @@ fn behind_holes(
     alloc: Global,
     holes: usize,
     segment: &Segment,
-) -> Result<VecDeque<Option<Segment>>, Memory>
-    ensures { IfOk result (λ slots. slots.items ≡ replicate holes None ++ Some segment.now ∷ []) }
+) -> Result<LinkedList<Option<Segment>>, Memory>
+    ensures { IfOk result (λ slots. slots ≡ replicate holes None ++ Some segment.now ∷ []) }
 {
-    let mut slots = VecDeque::new(alloc);
+    let mut slots = LinkedList::new(alloc);
     for _ in 0..holes {
         slots.push_back(None)?;
     }
     slots.push_back(Some(segment.copy(alloc)?))?;
     Ok(slots)
-}
-
-/// Puts a segment into a place that has none.
-fn fill(alloc: Global, slot: &mut Option<Segment>, segment: &Segment) -> Result<(), Memory>
-    ensures ok { OnOk result (slot.new ≡ filled slot.old segment.now) }
-    ensures err { OnErr result (slot.new ≡ slot.old) }
-    ensures no_memory { filled slot.old segment.now ≡ slot.old → IsOk result }
-{
-    if slot.is_none() {
-        *slot = Some(segment.copy(alloc)?);
-    }
-    Ok(())
 }

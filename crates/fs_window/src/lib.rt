@@ -12,7 +12,9 @@ mod peers;
 mod post;
 mod queue;
 mod sent;
+mod touched;
 mod undo;
+mod was;
 mod width;
 mod window;
 

@@ -1,7 +1,6 @@
 //! One end of a link, for messages.
 ghost use Rattle.std.specs.Prelude.{◌≡◌, ◌+◌, ◌≤◌, ◌^◌, ◌↔◌, length, IfOk, IsErrOf, OnOk, OnErr};
 ghost use Rattle.fs_frag.specs.Cut.{cut_of};
-ghost use Rattle.fs_frag.specs.Joined.{held_before};
 ghost use Rattle.fs_window.specs.LinkEnd.{pushed_count, due_of};
 ghost use Rattle.fs_window.specs.Post.{new_link, link_pushed, link_accepted, no_segment, heard_on, link_sent};
 ghost use Rattle.fs_window.specs.Undo.{link_before};
@@ -9,6 +8,7 @@ ghost use Rattle.fs_window.specs.Undo.{link_before};
 use crate::error::LinkError;
 use crate::heard::Heard;
 use crate::packet::Packet;
+use crate::was::Was;
 use crate::window::Window;
 use fs_frag::{Back, Joiner, cut, segment_count};
 use fs_ident::{List, Memory, Twin};
@@ -21,10 +21,11 @@ pub(crate) struct Link {
     joiner: Joiner,
 }
 
-/// What a link needs to be again what it was before a message was pushed or a packet came.
+/// What a link needs to be again what it was before a message was pushed or a packet came: nothing that stays as it
+/// is.
 #[derive(Debug, Drop)]
 pub(crate) struct Before {
-    window: Window,
+    window: Was,
     joiner: Back,
 }
 
@@ -62,45 +63,8 @@ impl Link {
             (2 ^ 64 ≤ pushed_count self.old.window + length (cut_of message.now)) }
         ensures err { OnErr result (self.new ≡ self.old) }
     {
-        if segment_count(message) > u64::MAX - self.pushed() {
-            return Err(LinkError::Spent);
-        }
-        let segments = cut(alloc, message)?;
-        self.window.push_all(alloc, segments)
-    }
-
-    /// Takes a packet of the other end.
-    pub(crate) fn accept(&mut self, alloc: Global, p: &Packet) -> Result<Heard, Memory>
-        ensures heard { IfOk result (λ heard. heard ≡ heard_on self.old p.now) }
-        ensures state { OnOk result (self.new ≡ link_accepted self.old p.now) }
-        ensures err { OnErr result (self.new ≡ self.old) }
-    {
-        let (heard, _) = self.take(alloc, p)?;
-        Ok(heard)
-    }
-
-    /// The same, and tells what the joiner needs to undo it.
-    fn take(&mut self, alloc: Global, p: &Packet) -> Result<(Heard, Back), Memory>
-        ensures heard { IfOk result (λ told. told.0 ≡ heard_on self.old p.now) }
-        ensures back { IfOk result (λ told. held_before told.1 self.new.joiner ≡ self.old.joiner) }
-        ensures state { OnOk result (self.new ≡ link_accepted self.old p.now) }
-        ensures err { OnErr result (self.new ≡ self.old) }
-    {
-        let segments = self.window.gives(alloc, p)?;
-        if segments.is_empty() {
-            self.window.take(alloc, p)?;
-            return Ok((nothing_heard(alloc), Back::Same));
-        }
-        let (joined, back) = self.joiner.add_all(alloc, segments.as_slice())?;
-        match self.window.take(alloc, p) {
-            Ok(()) => {}
-            Err(_) => unreachable!(),
-        }
-        let heard = Heard {
-            fresh: segments.len() as u64,
-            joined,
-        };
-        Ok((heard, back))
+        self.push_with_undo(alloc, message)?;
+        Ok(())
     }
 
     /// Takes a message to be sent, and tells how to undo it.
@@ -118,12 +82,21 @@ impl Link {
         if segment_count(message) > u64::MAX - self.pushed() {
             return Err(LinkError::Spent);
         }
-        let window = self.window.copy(alloc)?;
-        self.push(alloc, message)?;
+        let segments = cut(alloc, message)?;
         Ok(Before {
-            window,
+            window: self.window.push_with_undo(alloc, segments)?,
             joiner: Back::Same,
         })
+    }
+
+    /// Takes a packet of the other end.
+    pub(crate) fn accept(&mut self, alloc: Global, p: &Packet) -> Result<Heard, Memory>
+        ensures heard { IfOk result (λ heard. heard ≡ heard_on self.old p.now) }
+        ensures state { OnOk result (self.new ≡ link_accepted self.old p.now) }
+        ensures err { OnErr result (self.new ≡ self.old) }
+    {
+        let (heard, _) = self.accept_with_undo(alloc, p)?;
+        Ok(heard)
     }
 
     /// Takes a packet of the other end, and tells how to undo it.
@@ -137,21 +110,32 @@ impl Link {
         ensures state { OnOk result (self.new ≡ link_accepted self.old p.now) }
         ensures err { OnErr result (self.new ≡ self.old) }
     {
-        let window = self.window.copy(alloc)?;
-        let (heard, back) = self.take(alloc, p)?;
-        let before = Before {
-            window,
-            joiner: back,
+        let segments = self.window.gives(alloc, p)?;
+        if segments.is_empty() {
+            let before = Before {
+                window: self.window.take_with_undo(alloc, p)?,
+                joiner: Back::Same,
+            };
+            return Ok((nothing_heard(alloc), before));
+        }
+        let (joined, joiner) = self.joiner.add_all(alloc, segments.as_slice())?;
+        let window = match self.window.take_with_undo(alloc, p) {
+            Ok(was) => was,
+            Err(_) => unreachable!(),
         };
-        Ok((heard, before))
+        let heard = Heard {
+            fresh: segments.len() as u64,
+            joined,
+        };
+        Ok((heard, Before { window, joiner }))
     }
 
-    /// Is again what it was before.
+    /// Is again what it was before. Takes no memory.
     pub(crate) fn undo(&mut self, before: Before)
         ensures { self.new ≡ link_before before self.old }
     {
         let Before { window, joiner } = before;
-        self.window = window;
+        self.window.undo(window);
         self.joiner.undo(joiner);
     }
 

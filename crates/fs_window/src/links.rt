@@ -1,5 +1,5 @@
 //! Links in order of their actors.
-ghost use Rattle.std.specs.Prelude.{◌≡◌, ◌++◌, ◌+◌, ◌≤◌, ◌^◌, ◌↔◌, IsTrue, length, map, flat_map, unwrap_or, IfOk, IsErrOf, OnOk, OnErr};
+ghost use Rattle.std.specs.Prelude.{◌≡◌, ◌++◌, ◌+◌, ◌≤◌, ◌^◌, ◌↔◌, [], IsTrue, length, map, flat_map, unwrap_or, IfOk, IsErrOf, OnOk, OnErr};
 ghost use Rattle.std.specs.FinMap.Entries.{find, put};
 ghost use Rattle.std.specs.Option.{option_copied};
 ghost use Rattle.fs_frag.specs.Cut.{cut_of};
@@ -7,6 +7,7 @@ ghost use Rattle.fs_window.specs.declared.link.Link.{Link as TheLink};
 ghost use Rattle.fs_window.specs.LinkEnd.{pushed_count, due_of};
 ghost use Rattle.fs_window.specs.Peers.{peer_cmp, are_peers_in_order, IsPlaceOf};
 ghost use Rattle.fs_window.specs.Post.{link_pushed, link_accepted, heard_on, link_sent, is_peer, packet_sent, sent_on};
+ghost use Rattle.fs_window.specs.Touched.{RestIs, OthersAreSettled};
 
 use crate::error::LinkError;
 use crate::heard::Heard;
@@ -14,6 +15,7 @@ use crate::link::Link;
 use crate::packet::{Packet, text_of};
 use crate::peers::search_by_peer;
 use crate::sent::Sent;
+use crate::touched::{Touched, wants_all};
 use fs_ident::{List, Memory, Peer};
 use std::alloc::Global;
 
@@ -70,13 +72,7 @@ pub(crate) fn accept_at(
 }
 
 /// Counts on each link what is due as sent.
-pub(crate) fn mark_all(links: &mut Vec<(Peer, Link)>)
-    ensures { links.new.items ≡ map (λ e. (e.0, link_sent e.1)) links.old.items }
-{
-    mark_each(links);
-}
-
-fn mark_each(links: &mut [(Peer, Link)])
+pub(crate) fn mark_each(links: &mut [(Peer, Link)])
     ensures { links.new ≡ map (λ e. (e.0, link_sent e.1)) links.old }
 {
     for entry in links.iter_mut() {
@@ -84,14 +80,55 @@ fn mark_each(links: &mut [(Peer, Link)])
     }
 }
 
-fn mark_one(entry: &mut (Peer, Link))
+/// The same on one link.
+pub(crate) fn mark_one(entry: &mut (Peer, Link))
     ensures { entry.new ≡ (entry.old.0, link_sent entry.old.1) }
 {
     entry.1.mark_sent();
 }
 
-/// Adds what goes over all links.
+/// Adds what goes over all links. Where it is no turn, only those that were touched are looked at.
 pub(crate) fn add_due(
+    alloc: Global,
+    me: Peer,
+    links: &[(Peer, Link)],
+    touched: &Touched,
+    turn: bool,
+    heard: Option<Peer>,
+    sent: &mut List<Sent>,
+) -> Result<(), Memory>
+    requires ordered { IsTrue (are_peers_in_order links.now) }
+    requires settled { OthersAreSettled touched.now links.now }
+    ensures { OnOk result (sent.new ≡ sent.old ++ flat_map (sent_on me turn heard) links.now) }
+{
+    if wants_all(links, touched, turn, heard) {
+        return add_each(alloc, me, links, turn, heard, sent);
+    }
+    let places = touched.places.as_slice();
+    add_places(alloc, me, links, places, turn, heard, sent)
+}
+
+/// Adds what goes over the links at these places, where nothing goes over the others.
+fn add_places(
+    alloc: Global,
+    me: Peer,
+    links: &[(Peer, Link)],
+    places: &[usize],
+    turn: bool,
+    heard: Option<Peer>,
+    sent: &mut List<Sent>,
+) -> Result<(), Memory>
+    requires { RestIs (λ e. sent_on me turn heard e ≡ []) 0 places.now links.now }
+    ensures { OnOk result (sent.new ≡ sent.old ++ flat_map (sent_on me turn heard) links.now) }
+{
+    for place in places {
+        add_one(alloc, me, &links[*place], turn, heard, sent)?;
+    }
+    Ok(())
+}
+
+/// Adds what goes over each link.
+fn add_each(
     alloc: Global,
     me: Peer,
     links: &[(Peer, Link)],

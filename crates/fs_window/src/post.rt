@@ -7,10 +7,11 @@ ghost use Rattle.fs_window.specs.Undo.{undone};
 use crate::error::LinkError;
 use crate::heard::Heard;
 use crate::link::Link;
-use crate::links::{accept_at, add_due, link_with, mark_all, push_at};
+use crate::links::{accept_at, add_due, link_with, push_at};
 use crate::packet::Packet;
 use crate::peers::search_by_peer;
 use crate::sent::Sent;
+use crate::touched::{Touched, mark_touched, nothing_touched, touch};
 use crate::undo::{Undo, accept_step, note, push_step, restore_all};
 use fs_ident::{List, Memory, Peer, Twin};
 use std::alloc::Global;
@@ -23,16 +24,19 @@ pub struct Post {
     me: Peer,
     width: u64,
     links: List<(Peer, Link)>,
+    touched: Touched,
 }
 
 impl Model for Post {
     ghost use Rattle.fs_window.specs.Post.{Links, AreLinks};
+    ghost use Rattle.fs_window.specs.Touched.{OthersAreSettled};
 
     ghost Value = { Links };
 
     ghost view = { λ p. record { me = p.me; width = p.width; ends = p.links } };
 
-    ghost invariant = { λ p. AreLinks (record { me = p.me; width = p.width; ends = p.links }) };
+    ghost invariant = { λ p. AreLinks (record { me = p.me; width = p.width; ends = p.links })
+        × OthersAreSettled p.touched p.links };
 }
 
 impl Post {
@@ -46,6 +50,7 @@ impl Post {
             me,
             width,
             links: List::new(alloc),
+            touched: nothing_touched(alloc),
         })
     }
 
@@ -79,6 +84,7 @@ impl Post {
             (2 ^ 64 ≤ pushed_to self.old to + length (cut_of message.now)) }
         ensures err { OnErr result (self.new ≡ self.old) }
     {
+        touch(self.links.as_slice(), to, &mut self.touched);
         match search_by_peer(self.links.as_slice(), to) {
             Ok(at) => push_at(alloc, &mut self.links, at, to, message)?,
             Err(at) => {
@@ -97,6 +103,7 @@ impl Post {
         ensures state { OnOk result (self.new ≡ (post_accepted self.old from p.now).links) }
         ensures err { OnErr result (self.new ≡ self.old) }
     {
+        touch(self.links.as_slice(), from, &mut self.touched);
         match search_by_peer(self.links.as_slice(), from) {
             Ok(at) => Ok(accept_at(alloc, &mut self.links, at, from, p)?),
             Err(at) => {
@@ -108,7 +115,7 @@ impl Post {
         }
     }
 
-    /// The same as `push`, and keeps in `undo` how to undo it.
+    /// The same as `push`, and keeps in `undo` how to undo it: no segment is copied.
     pub fn push_with_undo(
         &mut self,
         alloc: Global,
@@ -123,12 +130,13 @@ impl Post {
         ensures err { OnErr result (self.new ≡ self.old) }
         ensures same { OnErr result (undo.new ≡ undo.old) }
     {
+        touch(self.links.as_slice(), to, &mut self.touched);
         let step = push_step(alloc, &mut self.links, self.width, to, message)?;
         note(&mut self.links, step, undo)?;
         Ok(())
     }
 
-    /// The same as `accept`, and keeps in `undo` how to undo it.
+    /// The same as `accept`, and keeps in `undo` how to undo it: of what waits nothing is copied.
     pub fn accept_with_undo(
         &mut self,
         alloc: Global,
@@ -142,6 +150,7 @@ impl Post {
         ensures err { OnErr result (self.new ≡ self.old) }
         ensures same { OnErr result (undo.new ≡ undo.old) }
     {
+        touch(self.links.as_slice(), from, &mut self.touched);
         let (heard, step) = accept_step(alloc, &mut self.links, self.width, from, p)?;
         note(&mut self.links, step, undo)?;
         Ok(heard)
@@ -151,6 +160,7 @@ impl Post {
     pub fn undo(&mut self, undo: Undo)
         ensures { self.new ≡ undone undo self.old }
     {
+        self.touched.all = true;
         restore_all(&mut self.links, undo);
     }
 
@@ -186,6 +196,7 @@ impl Post {
             alloc,
             self.me,
             self.links.as_slice(),
+            &self.touched,
             turn,
             heard,
             &mut sent,
@@ -198,7 +209,7 @@ impl Post {
     pub fn mark_sent(&mut self)
         ensures { self.new ≡ links_sent self.old }
     {
-        mark_all(self.links.items_mut());
+        mark_touched(self.links.items_mut(), &mut self.touched);
     }
 }
 
@@ -208,6 +219,10 @@ impl Twin for Post {
             me: self.me,
             width: self.width,
             links: self.links.copy(alloc)?,
+            touched: Touched {
+                all: true,
+                places: List::new(alloc),
+            },
         })
     }
 

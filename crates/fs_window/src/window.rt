@@ -1,16 +1,21 @@
 //! One end of a link.
-ghost use Rattle.std.specs.Prelude.{◌≡◌, ◌≤◌, ◌+◌, ◌-◌, ◌^◌, ◌++◌, ◌↔◌, [], length, IfOk, IsOk, IsErrOf, OnOk, OnErr};
-ghost use Rattle.fs_window.specs.LinkEnd.{IsLinkEnd, new_link_end, pushed_count, after_push, after_pushes, moved, acked_after, given_by, kept_by, with_slots, with_given, after_accept, packets_from, unsent, unacked, with_bodies, or_alone, due_of, after_due};
+ghost use Rattle.std.specs.Prelude.{◌≡◌, ◌≤◌, ◌<◌, ◌+◌, ◌-◌, ◌^◌, ◌++◌, ◌↔◌, [], min, IsTrue, drop, length, IfOk, IsOk, IsErrOf, OnOk, OnErr};
+ghost use Rattle.fs_window.specs.LinkEnd.{IsLinkEnd, new_link_end, pushed_count, after_push, after_pushes, acked_after, given_by, kept_by, after_accept, packets_from, unsent, unacked, with_bodies, or_alone, due_of, after_due};
+ghost use Rattle.fs_window.specs.Undo.{changed, with_changes, with_was, can_be, end_before};
 
 use crate::error::LinkError;
-use crate::kept::{add_front, front_len, keep_at};
+use crate::kept::{add_front, front_len, keeping};
 use crate::packet::Packet;
-use crate::queue::{add_packets, copies, forget};
+use crate::queue::{
+    Change, LIMIT, add_packets, copies, forget, len_after, make_change, no_change, queue_of,
+};
+use crate::was::Was;
 use fs_frag::Segment;
 use fs_ident::{List, Memory, Twin};
 use std::alloc::Global;
-use std::collections::VecDeque;
+use std::collections::LinkedList;
 use std::marker::Model;
+use std::mem;
 
 /// One end of a link: it sends the segments that are pushed here, and gives those that the other end pushed,
 /// each once and in their order, whatever the network loses, repeats or reorders. It keeps those that come before
@@ -20,9 +25,9 @@ pub struct Window {
     width: u64,
     acked: u64,
     sent: u64,
-    waiting: VecDeque<Segment>,
+    waiting: LinkedList<Segment>,
     got: u64,
-    kept: VecDeque<Option<Segment>>,
+    kept: LinkedList<Option<Segment>>,
 }
 
 impl Model for Window {
@@ -34,18 +39,18 @@ impl Model for Window {
       width = w.width;
       acked = w.acked;
       sent = w.sent;
-      waiting = w.waiting.items;
+      waiting = w.waiting;
       got = w.got;
-      kept = w.kept.items;
+      kept = w.kept;
     } };
 
     ghost invariant = { λ w. IsLinkEnd (record {
       width = w.width;
       acked = w.acked;
       sent = w.sent;
-      waiting = w.waiting.items;
+      waiting = w.waiting;
       got = w.got;
-      kept = w.kept.items;
+      kept = w.kept;
     }) };
 }
 
@@ -60,9 +65,9 @@ impl Window {
             width,
             acked: 0,
             sent: 0,
-            waiting: VecDeque::new(alloc),
+            waiting: LinkedList::new(alloc),
             got: 0,
-            kept: VecDeque::new(alloc),
+            kept: LinkedList::new(alloc),
         }
     }
 
@@ -95,7 +100,23 @@ impl Window {
     }
 
     /// Takes segments to be sent, all of them or none. `Spent` exactly where numbers are wanting for them.
-    pub fn push_all(&mut self, _: Global, segments: List<Segment>) -> Result<(), LinkError>
+    pub fn push_all(&mut self, alloc: Global, segments: List<Segment>) -> Result<(), LinkError>
+        ensures ok { OnOk result (self.new ≡ after_pushes self.old segments) }
+        ensures spent { IsErrOf result LinkError.Spent ↔
+            (2 ^ 64 ≤ pushed_count self.old + length segments) }
+        ensures err { OnErr result (self.new ≡ self.old) }
+    {
+        self.push_with_undo(alloc, segments)?;
+        Ok(())
+    }
+
+    /// The same, and tells how to undo it.
+    pub(crate) fn push_with_undo(
+        &mut self,
+        alloc: Global,
+        segments: List<Segment>,
+    ) -> Result<Was, LinkError>
+        ensures was { IfOk result (λ was. end_before was self.new ≡ self.old) }
         ensures ok { OnOk result (self.new ≡ after_pushes self.old segments) }
         ensures spent { IsErrOf result LinkError.Spent ↔
             (2 ^ 64 ≤ pushed_count self.old + length segments) }
@@ -104,9 +125,16 @@ impl Window {
         if segments.len() as u64 > u64::MAX - self.pushed() {
             return Err(LinkError::Spent);
         }
-        let mut more = VecDeque::from_vec(segments.into_vec());
-        self.waiting.append(&mut more)?;
-        Ok(())
+        let more = queue_of(alloc, segments)?;
+        if more.len() >= LIMIT - self.waiting.len() {
+            return Err(LinkError::Memory);
+        }
+        let behind = Change {
+            at: self.waiting.len(),
+            count: 0,
+            more,
+        };
+        Ok(self.change_to(self.acked, self.sent, self.got, behind, no_change(alloc)))
     }
 
     /// The segments that a packet would give: the one whose number is next, and those kept that then follow without a
@@ -147,12 +175,37 @@ impl Window {
         ensures err { OnErr result (self.new ≡ self.old) }
         ensures no_memory { kept_by self.old p.now.body ≡ self.old.kept → IsOk result }
     {
-        let given = self.given_count(p);
-        self.keep(alloc, p)?;
-        let acked = self.acked_after(p.ack);
-        self.move_to(acked, self.sent);
-        self.count_given(given);
+        self.take_with_undo(alloc, p)?;
         Ok(())
+    }
+
+    /// The same, and tells how to undo it.
+    pub(crate) fn take_with_undo(&mut self, alloc: Global, p: &Packet) -> Result<Was, Memory>
+        ensures was { IfOk result (λ was. end_before was self.new ≡ self.old) }
+        ensures state { OnOk result (self.new ≡ after_accept self.old p.now) }
+        ensures err { OnErr result (self.new ≡ self.old) }
+        ensures no_memory { kept_by self.old p.now.body ≡ self.old.kept → IsOk result }
+    {
+        let slots = self.slots_after(alloc, p)?;
+        let acked = self.acked_after(p.ack);
+        let first = Change {
+            at: 0,
+            count: self.done_count(acked),
+            more: LinkedList::new(alloc),
+        };
+        let got = self.got.saturating_add(self.given_count(p));
+        Ok(self.change_to(acked, self.sent, got, first, slots))
+    }
+
+    /// How many segments are sent and acknowledged, and are let go, where so many are acknowledged.
+    fn done_count(&self, acked: u64) -> usize
+        requires rises { self.now.acked ≤ acked }
+        requires within { acked ≤ pushed_count self.now }
+        ensures count { result ≡ min acked self.now.sent - min self.now.acked self.now.sent }
+        ensures few { length self.now.waiting < 2 ^ 63 }
+    {
+        let done = acked.min(self.sent) - self.acked.min(self.sent);
+        done.min(self.waiting.len() as u64) as usize
     }
 
     /// How many segments a packet gives.
@@ -165,28 +218,74 @@ impl Window {
         }
     }
 
-    /// Keeps the segment of a packet, if it comes before its turn and the width reaches it.
-    fn keep(&mut self, alloc: Global, p: &Packet) -> Result<(), Memory>
-        ensures state { OnOk result (self.new ≡ with_slots self.old (kept_by self.old p.now.body)) }
-        ensures err { OnErr result (self.new ≡ self.old) }
-        ensures no_memory { kept_by self.old p.now.body ≡ self.old.kept → IsOk result }
+    /// What a packet changes of what is kept: the places of segments that it gives go, and its segment is kept if it comes
+    /// before its turn and the width reaches it.
+    fn slots_after(&self, alloc: Global, p: &Packet) -> Result<Change<Option<Segment>>, Memory>
+        ensures change { IfOk result (λ c. changed c self.now.kept ≡
+            drop (length (given_by self.now p.now.body)) (kept_by self.now p.now.body)) }
+        ensures no_memory { kept_by self.now p.now.body ≡ self.now.kept → IsOk result }
     {
+        let given = self.given_count(p);
+        if given > 0 {
+            return Ok(Change {
+                at: 0,
+                count: given as usize,
+                more: LinkedList::new(alloc),
+            });
+        }
         let Some((number, segment)) = &p.body else {
-            return Ok(());
+            return Ok(no_change(alloc));
         };
         if *number <= self.got || *number - self.got >= self.width {
-            return Ok(());
+            return Ok(no_change(alloc));
         }
         let place = (*number - self.got - 1) as usize;
-        keep_at(alloc, &mut self.kept, place, segment)
+        keeping(alloc, &self.kept, place, segment)
     }
 
-    /// Counts so many segments as given, and lets go of their places.
-    fn count_given(&mut self, given: u64)
-        ensures { self.new ≡ with_given self.old given }
+    /// Has these numbers and queues changed so, and tells how it was.
+    fn change_to(
+        &mut self,
+        acked: u64,
+        sent: u64,
+        got: u64,
+        waiting: Change<Segment>,
+        kept: Change<Option<Segment>>,
+    ) -> Was
+        requires can_be { IsTrue (can_be (with_changes self.old acked sent got waiting kept)) }
+        ensures state { self.new ≡ with_changes self.old acked sent got waiting kept }
+        ensures was { end_before result self.new ≡ self.old }
     {
-        forget(&mut self.kept, given);
-        self.got = self.got.saturating_add(given);
+        Was {
+            acked: mem::replace(&mut self.acked, acked),
+            sent: mem::replace(&mut self.sent, sent),
+            got: mem::replace(&mut self.got, got),
+            waiting: make_change(&mut self.waiting, waiting),
+            kept: make_change(&mut self.kept, kept),
+        }
+    }
+
+    /// Is again what it was, if it can be so. Takes no memory.
+    pub(crate) fn undo(&mut self, was: Was)
+        ensures { self.new ≡ end_before was self.old }
+    {
+        if self.can_be(&was) {
+            self.change_to(was.acked, was.sent, was.got, was.waiting, was.kept);
+        }
+    }
+
+    /// Whether it can be so.
+    fn can_be(&self, was: &Was) -> bool
+        ensures { result ≡ can_be (with_was was.now self.now) }
+    {
+        let waiting = len_after(&self.waiting, &was.waiting);
+        let Some(pushed) = was.acked.min(was.sent).checked_add(waiting) else {
+            return false;
+        };
+        was.acked <= pushed
+            && was.sent <= pushed
+            && waiting < LIMIT as u64
+            && len_after(&self.kept, &was.kept) < self.width
     }
 
     /// What goes to the other end: the segments that were not sent yet, as far as the width reaches, and then,
@@ -214,7 +313,9 @@ impl Window {
         ensures { self.new ≡ after_due self.old }
     {
         let sent = self.sent + self.unsent_count();
-        self.move_to(self.acked, sent);
+        let done = self.acked.min(sent) - self.acked.min(self.sent);
+        forget(&mut self.waiting, done);
+        self.sent = sent;
     }
 
     /// How many segments go for the first time.
@@ -233,14 +334,14 @@ impl Window {
         ensures { IfOk result (λ packets. packets ≡
             packets_from self.now.got self.now.sent (unsent self.now)) }
     {
-        let from = (self.sent - self.acked.min(self.sent)) as usize;
-        let to = from + self.unsent_count() as usize;
+        let place = self.sent.saturating_sub(self.acked);
+        let count = self.unsent_count();
         let mut packets = List::new(alloc);
         add_packets(
             alloc,
             &self.waiting,
-            from,
-            to,
+            place,
+            count,
             self.sent,
             self.got,
             &mut packets,
@@ -253,8 +354,16 @@ impl Window {
         ensures { OnOk result (packets.new ≡ packets.old ++ packets_from self.now.got self.now.acked
             (unacked self.now)) }
     {
-        let to = self.sent.saturating_sub(self.acked) as usize;
-        add_packets(alloc, &self.waiting, 0, to, self.acked, self.got, packets)
+        let count = self.sent.saturating_sub(self.acked);
+        add_packets(
+            alloc,
+            &self.waiting,
+            0,
+            count,
+            self.acked,
+            self.got,
+            packets,
+        )
     }
 
     /// The packets with segments.
@@ -270,27 +379,15 @@ impl Window {
 
     /// The greatest acknowledgement once another one has come.
     fn acked_after(&self, ack: u64) -> u64
-        ensures { result ≡ acked_after self.now ack }
+        ensures count { result ≡ acked_after self.now ack }
+        ensures rises { self.now.acked ≤ result }
+        ensures within { result ≤ pushed_count self.now }
     {
         if ack <= self.pushed() {
             self.acked.max(ack)
         } else {
             self.acked
         }
-    }
-
-    /// Sets both numbers, and lets go of the segments that are sent and acknowledged.
-    fn move_to(&mut self, acked: u64, sent: u64)
-        requires acked { acked ≤ pushed_count self.old }
-        requires sent { sent ≤ pushed_count self.old }
-        requires acked_rises { self.old.acked ≤ acked }
-        requires sent_rises { self.old.sent ≤ sent }
-        ensures { self.new ≡ moved self.old acked sent }
-    {
-        let first = self.acked.min(self.sent);
-        forget(&mut self.waiting, acked.min(sent) - first);
-        self.acked = acked;
-        self.sent = sent;
     }
 }
 

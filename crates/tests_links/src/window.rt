@@ -13,7 +13,7 @@ use std::test::Fail;
 /// The first packet of an end to which an Ask for the life of the root is pushed.
 const FIRST: [u8; 39] = [
     0x46, 0, 0, 0, 0, 0, 0, 0, 0, 1, 0, 0, 0, 0, 0, 0, 0, 0, 0, 0, 0, 0, 0, 0, 0, 13, 1, 0, 0, 0,
-    0, 0, 0, 0, 1, 0, 0, 0, 0,
+    0, 0, 0, 0, 1, 0, 0x80, 0, 0,
 ];
 
 fn packet(alloc: Global, number: u64, byte: u8) -> Result<Packet, Fail> {
@@ -51,7 +51,7 @@ fn bytes_again(alloc: Global, bytes: &[u8]) -> Result<Vec<u8>, Memory> {
 #[test]
 fn bytes_of_packets(rt: HostRuntime) -> Result<(), Fail> {
     let alloc = rt.alloc();
-    let message = [1, 0, 0, 0, 0, 0, 0, 0, 1, 0, 0, 0, 0];
+    let message = [1, 0, 0, 0, 0, 0, 0, 0, 1, 0, 0x80, 0, 0];
     same(&rt, first_bytes(alloc, &message)?.as_slice(), &FIRST);
     same(&rt, bytes_again(alloc, &FIRST)?.as_slice(), &FIRST);
     same(&rt, bytes_again(alloc, &FIRST[..18])?.as_slice(), &[]);
@@ -383,6 +383,51 @@ fn what_was_done_is_undone(rt: HostRuntime) -> Result<(), Fail> {
     same(&rt, counts(&post), [2, 1, 2]);
     post.undo(undo);
     same(&rt, counts(&post), [1, 0, 1]);
+    Ok(())
+}
+
+/// The packets that go on a turn, one after another.
+fn turn_bytes(alloc: Global, post: &Post) -> Result<Vec<u8>, Fail> {
+    let mut bytes = Vec::new(alloc);
+    for sent in post.packets(alloc, true, None)?.as_slice() {
+        bytes.extend_from_slice(sent.bytes.as_slice())?;
+    }
+    Ok(bytes)
+}
+
+/// A wide end that sent two segments, and keeps one behind a hole.
+fn wide(alloc: Global) -> Result<Post, Fail> {
+    let mut post = Post::new(alloc, CLIENT, WIDEST)?;
+    post.push(alloc, SERVER, &[65])?;
+    post.push(alloc, SERVER, &[66])?;
+    post.due(alloc, false, None)?;
+    post.accept(alloc, SERVER, &packet(alloc, 2, 7)?)?;
+    Ok(post)
+}
+
+/// Hears an acknowledgement, what comes behind a hole, and what fills the first one, and pushes.
+fn goes_far(alloc: Global, post: &mut Post, undo: &mut Undo) -> Result<(), Fail> {
+    let acked = Packet { ack: 1, body: None };
+    post.accept_with_undo(alloc, SERVER, &acked, undo)?;
+    for number in [4, 1, 0] {
+        post.accept_with_undo(alloc, SERVER, &packet(alloc, number, 8)?, undo)?;
+    }
+    Ok(post.push_with_undo(alloc, SERVER, &[67], undo)?)
+}
+
+#[test]
+fn what_a_wide_link_did_is_undone(rt: HostRuntime) -> Result<(), Fail> {
+    let alloc = rt.alloc();
+    let mut post = wide(alloc)?;
+    let before = turn_bytes(alloc, &post)?;
+    let mut undo = Undo::new(alloc);
+    goes_far(alloc, &mut post, &mut undo)?;
+    same(&rt, counts(&post), [3, 0, 3]);
+    post.undo(undo);
+    same(&rt, counts(&post), [2, 0, 0]);
+    same(&rt, turn_bytes(alloc, &post)?.as_slice(), before.as_slice());
+    goes_far(alloc, &mut post, &mut Undo::new(alloc))?;
+    same(&rt, counts(&post), [3, 0, 3]);
     Ok(())
 }
 

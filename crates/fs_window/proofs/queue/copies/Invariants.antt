@@ -1,5 +1,6 @@
-use Rattle.std.proofs.Common.{◌≡◌, take}
+use Rattle.std.proofs.Common.{◌≡◌, ◌++◌}
 use Rattle.fs_window.proofs.queue.copies.Given as goal
 
-abbrev pub invariant-loop-i : goal.invariant-loop-i
-invariant-loop-i g l = l.twin.items ≡ take l.i l.waiting.items
+-- what was copied, and what is left
+abbrev pub invariant-loop-value : goal.invariant-loop-value
+invariant-loop-value g l = l.twin ++ l.value-iterator ≡ l.queue

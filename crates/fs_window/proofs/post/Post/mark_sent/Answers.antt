@@ -8,5 +8,5 @@ use Rattle.fs_window.proofs.post.Post.mark_sent.Goals as goal
 
 pub invariant_of-self : goal.invariant_of-self
 invariant_of-self c =
-    links_changed _ _ _ _ link_sent c.self.invariant
-    (c.mark_all.ensures ∙ ap (λ (es : ByPeer Link). map (λ (e : Peer × Link). (e.0, link_sent e.1)) es) c.items_mut.ensures.value)
+    let state = c.mark_touched.ensures.marked ∙ ap (λ (es : ByPeer Link). map (λ (e : Peer × Link). (e.0, link_sent e.1)) es) c.items_mut.ensures.value in
+    (links_changed _ _ _ _ link_sent c.self.invariant.0 state, c.mark_touched.ensures.settled)

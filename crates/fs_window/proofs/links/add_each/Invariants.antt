@@ -1,6 +1,6 @@
 use Rattle.std.proofs.Common.{◌≡◌, ◌++◌, flat_map, drop}
 use Rattle.fs_window.specs.Post.{sent_on}
-use Rattle.fs_window.proofs.links.add_due.Given as goal
+use Rattle.fs_window.proofs.links.add_each.Given as goal
 
 -- what was added, and then what is left, are all of them
 abbrev pub invariant-loop-entry : goal.invariant-loop-entry
