@@ -11,7 +11,8 @@ use crate::top::farsite;
 use fs_io::{MemClock, MemSink, MemSource, SureLink};
 use fs_schedule::Which;
 use moves::{
-    DELEGATION, DELEGATION_REPORT, REFUSED_MOVES, REFUSED_MOVES_REPORT, SENT_ON, SENT_ON_REPORT,
+    DELEGATION, DELEGATION_REPORT, OVERTAKEN, OVERTAKEN_REPORT, REFUSED_MOVES,
+    REFUSED_MOVES_REPORT, SENT_ON, SENT_ON_REPORT,
 };
 use schedules::{
     FIRST, FIRST_JOURNAL, FIRST_REPORT, HEAD, OPENS, OPENS_REPORT, OTHERS, OTHERS_OUTCOMES,
@@ -172,6 +173,7 @@ fn reports_of_readings_to_the_byte(rt: HostRuntime) -> Result<(), Fail> {
 #[test]
 fn reports_of_moves_to_the_byte(rt: HostRuntime) -> Result<(), Fail> {
     reports(&rt, rt.alloc(), DELEGATION, DELEGATION_REPORT)?;
+    reports(&rt, rt.alloc(), OVERTAKEN, OVERTAKEN_REPORT)?;
     reports(&rt, rt.alloc(), REFUSED_MOVES, REFUSED_MOVES_REPORT)?;
     reports(&rt, rt.alloc(), SENT_ON, SENT_ON_REPORT)
 }

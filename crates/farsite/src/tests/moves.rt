@@ -146,3 +146,79 @@ n / dir 0 0
 n /1 dir 0 0 in / \"a\"
 done events 25 journal 2 nodes 2
 ";
+
+/// The packet of the second directory comes first, and that of the first brings both.
+pub(super) const OVERTAKEN: &[u8] = b"farsite 1 servers 2 skew 10 term 100
+0 join c1
+0 do c1 create / \"a\" dir
+1 tell 0
+2 tell 1
+3 do c1 create / \"a\" dir
+4 do c1 create / \"b\" dir
+5 tell 3
+6 tell 4
+7 do c1 create / \"b\" dir
+8 turn c1
+9 tell 6
+10 tell 7
+11 tell 8
+12 move s0 /1 s1
+13 move s0 /2 s1
+14 tell 10
+15 tell 9
+16 turn s0
+17 tell 14
+18 tell 12
+19 turn s0
+20 do c1 create /2 \"x\" file
+21 tell 16
+22 tell 17
+23 do c1 create /2 \"x\" file
+24 tell 19
+25 tell 20
+26 do c1 create /2 \"x\" file
+27 turn c1
+28 tell 22
+29 tell 23
+";
+
+pub(super) const OVERTAKEN_REPORT: &[u8] = b"e1 c1 joined
+e2 c1 asked s0 life / shared, child / \"a\" exclusive, fresh / sends 0
+e3 s0 grants 3 all sends 1
+e4 c1 granted 3 all sends 2
+e5 c1 replied 1 made
+e6 c1 asked s0 child / \"b\" exclusive, fresh / sends 3
+e7 s0 grants 2 all sends 4
+e8 c1 granted 2 all sends 5
+e9 c1 replied 2 made
+e10 c1 ships 2 s0 sends 6
+e11 s0 admits 2 all sends 7
+e12 c1 shipped 2 all sends 8
+e13 s0 none
+e14 s0 moves /1 s1 sends 9
+e15 s0 moves /2 s1 sends 10
+e16 s1 none sends 11
+e17 s1 installs /1; installs /2 sends 12
+e18 s0 idle sends 13 14
+e19 s1 none sends 15
+e20 s0 none
+e21 s0 idle
+e22 c1 asked s0 child /2 \"x\" exclusive, fresh /2 sends 16
+e23 s0 grants 0 moved /2 s1 sends 17
+e24 c1 granted 0 moved /2 s1 sends 18
+e25 c1 asked s1 child /2 \"x\" exclusive, fresh /2 sends 19
+e26 s1 grants 2 all sends 20
+e27 c1 granted 2 all sends 21
+e28 c1 replied 3 made
+e29 c1 ships 1 s1 sends 22
+e30 s1 admits 1 all sends 23
+e31 c1 shipped 1 all sends 24
+j1 c1 1 create / \"a\" dir /1 made
+j2 c1 2 create / \"b\" dir /2 made
+j3 c1 3 create /2 \"x\" file /2/1 made
+n / dir 0 0
+n /1 dir 0 0 in / \"a\"
+n /2 dir 0 0 in / \"b\"
+n /2/1 file 0 0 in /2 \"x\"
+done events 31 journal 3 nodes 4
+";

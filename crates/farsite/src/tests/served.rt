@@ -206,12 +206,12 @@ pub(super) const SHARING: &[u8] = b"farsite 1 servers 1 skew 10 term 100
 1 tell 37
 1 do c3 open /1 1 W -
 1 tell 39
-1 tell 40
+1 tell 41
 1 do c3 open /1 1 W -
 1 do c2 close /1 1
 1 turn c2
-1 tell 42
 1 tell 43
+1 tell 44
 1 do c3 open /1 1 W -
 ";
 
@@ -261,13 +261,13 @@ e43 c3 granted 2 wait s0.9 sends 36
 e44 c1 releases 1 s0 sends 37
 e45 s0 frees 1 all sends 38
 e46 c3 asked s0 other /1 dW shared, self /1 aW exclusive sends 39
-e47 s0 grants 1 wait s0.5 sends 40
-e48 c3 granted 1 wait s0.5 sends 41
+e47 s0 grants 1 wait s0.5 sends 40 41
+e48 c3 granted 1 wait s0.5 sends 42
 e49 c3 read 1 sharing
 e50 c2 replied 2 closed
-e51 c2 ships 1 s0 sends 42
-e52 s0 admits 1 all sends 43
-e53 c2 shipped 1 all sends 44
+e51 c2 ships 1 s0 sends 43
+e52 s0 admits 1 all sends 44
+e53 c2 shipped 1 all sends 45
 e54 c3 read 2 sharing
 j1 c1 1 create / \"f\" file /1 made
 j2 c1 2 open /1 1 R WD opened
