@@ -11,7 +11,7 @@ use Rattle.fs_msg.specs.declared.client_note.ClientNote.{ClientNote}
 use Rattle.fs_msg.specs.declared.entry.Entry.{Entry}
 use Rattle.fs_record.specs.declared.led_end.LedEnd.{LedEnd}
 use Rattle.fs_record.specs.declared.led_end.LedEnd.TheVariants as led
-use Rattle.fs_view.specs.declared.kept.Kept.{Kept}
+use Rattle.fs_view.specs.declared.view_lease.ViewLease.{ViewLease}
 use Rattle.fs_client.specs.Acts.{act_on, act_plan, unless_led}
 use Rattle.fs_client.specs.Answers.{answer_plan, ended_plan, fits, hear, led_plan, strange, told}
 use Rattle.fs_client.specs.Client.{begun, changed, committed, with_hints}
@@ -95,11 +95,11 @@ either_leaves : (b : Bool) (p q : Plan ClientNote) → Leaves p.ready.change →
 either_leaves true p q h g = h
 either_leaves false p q h g = g
 
-renew_leaves : (ks : List Kept) (c : Client) → Leaves (renew_some ks c).ready.change
+renew_leaves : (ks : List ViewLease) (c : Client) → Leaves (renew_some ks c).ready.change
 renew_leaves [] c = ((λ led. refl), (λ n. refl))
 renew_leaves (k ∷ ks) c = ((λ led. refl), (λ n. refl))
 
-release_leaves : (ks : List Kept) (c : Client) → Leaves (release_some ks c).ready.change
+release_leaves : (ks : List ViewLease) (c : Client) → Leaves (release_some ks c).ready.change
 release_leaves [] c = renew_leaves (ending (c.last + c.term / 2) c.view) c
 release_leaves (k ∷ ks) c = ((λ led. refl), (λ n. refl))
 

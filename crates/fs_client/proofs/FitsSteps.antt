@@ -7,7 +7,7 @@ use Rattle.fs_field.specs.declared.field.Field.TheVariants.{Life}
 use Rattle.fs_field.specs.declared.lease_kind.LeaseKind.{LeaseKind}
 use Rattle.fs_field.specs.declared.lease_kind.LeaseKind.TheVariants.{Exclusive}
 use Rattle.fs_msg.specs.declared.answer.Grant.{Grant}
-use Rattle.fs_view.specs.declared.kept.Kept.{Kept}
+use Rattle.fs_view.specs.declared.view_lease.ViewLease.{ViewLease}
 use Rattle.fs_msg.specs.declared.entry.Entry.{Entry}
 use Rattle.fs_client.specs.Answers.{begins_numbers, front_fits, is_entry_at, is_new, is_of_item, life_last}
 
@@ -34,7 +34,7 @@ no_more (suc k) [] rows e h = absurd (omega arith)
 no_more (suc k) (s ∷ ss) [] e h = absurd (omega arith)
 no_more (suc k) (s ∷ ss) (r ∷ rs) e h = no_more k ss rs (omega arith) (omega arith)
 
-pub no_items : (k : ℕ) (items : List (Field × LeaseKind)) (leases : List Kept) (before grants : List Grant) → k ≡ length items → k < length grants → front_fits (drop k items) leases before (drop k grants) ≡ false
+pub no_items : (k : ℕ) (items : List (Field × LeaseKind)) (leases : List ViewLease) (before grants : List Grant) → k ≡ length items → k < length grants → front_fits (drop k items) leases before (drop k grants) ≡ false
 no_items zero [] leases before [] e h = absurd (omega arith)
 no_items zero [] leases before (g ∷ gs) e h = refl
 no_items zero (x ∷ xs) leases before grants e h = absurd (omega arith)
@@ -44,7 +44,7 @@ no_items (suc k) (x ∷ xs) leases before (g ∷ gs) e h = no_items k xs leases 
 
 -- ## The last grant
 
-last_behind : (items : List (Field × LeaseKind)) (id : List ℕ) (leases : List Kept) (front gs : List Grant) (g : Grant)
+last_behind : (items : List (Field × LeaseKind)) (id : List ℕ) (leases : List ViewLease) (front gs : List Grant) (g : Grant)
     → life_last items id leases front (gs ++ g ∷ []) ≡ (front_fits items leases [] (front ++ gs) && (is_of_item (Life id, Exclusive) g && is_new leases (front ++ gs) g))
 last_behind items id leases front [] g = ap (λ fs. front_fits items leases [] fs && (is_of_item (Life id, Exclusive) g && is_new leases fs g)) (sym (append-nil front))
 last_behind items id leases front (x ∷ []) g = refl
@@ -52,9 +52,9 @@ last_behind items id leases front (x ∷ y ∷ gs) g =
     last_behind items id leases (front ++ x ∷ []) (y ∷ gs) g
     ∙ ap (λ fs. front_fits items leases [] fs && (is_of_item (Life id, Exclusive) g && is_new leases fs g)) (append_assoc front (x ∷ []) (y ∷ gs))
 
-pub last_is : (items : List (Field × LeaseKind)) (id : List ℕ) (leases : List Kept) (front : List Grant) (g : Grant) → life_last items id leases [] (front ++ g ∷ []) ≡ (front_fits items leases [] front && (is_of_item (Life id, Exclusive) g && is_new leases front g))
+pub last_is : (items : List (Field × LeaseKind)) (id : List ℕ) (leases : List ViewLease) (front : List Grant) (g : Grant) → life_last items id leases [] (front ++ g ∷ []) ≡ (front_fits items leases [] front && (is_of_item (Life id, Exclusive) g && is_new leases front g))
 last_is items id leases front g = last_behind items id leases [] front g
 
-pub none_last : (items : List (Field × LeaseKind)) (id : List ℕ) (leases : List Kept) (grants : List Grant) → length grants ≡ 0 → life_last items id leases [] grants ≡ false
+pub none_last : (items : List (Field × LeaseKind)) (id : List ℕ) (leases : List ViewLease) (grants : List Grant) → length grants ≡ 0 → life_last items id leases [] grants ≡ false
 none_last items id leases [] e = refl
 none_last items id leases (g ∷ gs) e = absurd (omega arith)

@@ -21,8 +21,8 @@ use Rattle.fs_msg.specs.declared.answer.Answer.TheVariants as answer
 use Rattle.fs_msg.specs.declared.answer.Grant.{Grant}
 use Rattle.fs_record.specs.declared.led_end.LedEnd.{LedEnd}
 use Rattle.fs_record.specs.declared.led_end.LedEnd.TheVariants as led
-use Rattle.fs_view.specs.declared.kept.Kept.{Kept}
-use Rattle.fs_view.specs.Kept.{has_number}
+use Rattle.fs_view.specs.declared.view_lease.ViewLease.{ViewLease}
+use Rattle.fs_view.specs.ViewLease.{has_number}
 use Rattle.fs_view.specs.View.{can_grant_all, kept_new}
 use Rattle.fs_client.specs.declared.exchange.Exchange.{Exchange}
 use Rattle.fs_client.specs.declared.exchange.Exchange.TheVariants.{Asks, Renews, Releases, Ships, Leads}
@@ -37,25 +37,25 @@ leases_step fresh gs i d h = rw (take_more gs i d h) (map-append (lease_in fresh
 -- ## Numbers that are new
 
 -- the leases with those that these grants bring
-abbrev pub kept_with : Option (List ℕ) → List Kept → List Grant → List Kept
+abbrev pub kept_with : Option (List ℕ) → List ViewLease → List Grant → List ViewLease
 kept_with fresh leases [] = leases
 kept_with fresh leases (g ∷ gs) = kept_with fresh (leases ++ kept_new (lease_in fresh g) ∷ []) gs
 
-any_one : (f : Kept → Bool) (xs : List Kept) (x : Kept) → list_any f (xs ++ x ∷ []) ≡ (list_any f xs || f x)
+any_one : (f : ViewLease → Bool) (xs : List ViewLease) (x : ViewLease) → list_any f (xs ++ x ∷ []) ≡ (list_any f xs || f x)
 any_one f [] x = or-false (f x)
 any_one f (y ∷ xs) x = ap (λ b. f y || b) (any_one f xs x) ∙ sym (or_assoc (f y) (list_any f xs) (f x))
 
 abbrev pub has_no_of : LeaseNo → Grant → Bool
 has_no_of n b = same_no b.no n
 
-any_kept : (fresh : Option (List ℕ)) (n : LeaseNo) (leases : List Kept) (before : List Grant) → list_any (has_number n) (kept_with fresh leases before) ≡ (list_any (has_number n) leases || list_any (has_no_of n) before)
+any_kept : (fresh : Option (List ℕ)) (n : LeaseNo) (leases : List ViewLease) (before : List Grant) → list_any (has_number n) (kept_with fresh leases before) ≡ (list_any (has_number n) leases || list_any (has_no_of n) before)
 any_kept fresh n leases [] = sym (or-false (list_any (has_number n) leases))
 any_kept fresh n leases (g ∷ gs) =
     any_kept fresh n (leases ++ kept_new (lease_in fresh g) ∷ []) gs
     ∙ ap (λ b. b || list_any (has_no_of n) gs) (any_one (has_number n) leases (kept_new (lease_in fresh g)))
     ∙ or_assoc (list_any (has_number n) leases) (same_no g.no n) (list_any (has_no_of n) gs)
 
-more_kept : (fresh : Option (List ℕ)) (leases : List Kept) (before : List Grant) (g : Grant) → kept_with fresh leases (before ++ g ∷ []) ≡ kept_with fresh leases before ++ kept_new (lease_in fresh g) ∷ []
+more_kept : (fresh : Option (List ℕ)) (leases : List ViewLease) (before : List Grant) (g : Grant) → kept_with fresh leases (before ++ g ∷ []) ≡ kept_with fresh leases before ++ kept_new (lease_in fresh g) ∷ []
 more_kept fresh leases [] g = refl
 more_kept fresh leases (b ∷ bs) g = more_kept fresh (leases ++ kept_new (lease_in fresh b) ∷ []) bs g
 
@@ -66,7 +66,7 @@ neither true b h = absurd (cc)
 neither false b h = h
 
 -- a grant that fits is a lease that can come
-can_one : (fresh : Option (List ℕ)) (item : Field × LeaseKind) (leases : List Kept) (before : List Grant) (g : Grant) (rest : Bool) → is_of_item item g ≡ true → is_new leases before g ≡ true → rest ≡ true
+can_one : (fresh : Option (List ℕ)) (item : Field × LeaseKind) (leases : List ViewLease) (before : List Grant) (g : Grant) (rest : Bool) → is_of_item item g ≡ true → is_new leases before g ≡ true → rest ≡ true
     → ((is_value_of g.field g.value && not (list_any (has_number g.no) (kept_with fresh leases before))) && rest) ≡ true
 can_one fresh item leases before g rest p q r =
     let value : is_value_of g.field g.value ≡ true = (both _ _ p).1 in
@@ -74,7 +74,7 @@ can_one fresh item leases before g rest p q r =
     ap (λ b. (b && not (list_any (has_number g.no) (kept_with fresh leases before))) && rest) value ∙ ap (λ b. b && rest) new ∙ r
 
 -- grants of items at the front, and what comes behind them
-front_can : (items : List (Field × LeaseKind)) (given : Option (List ℕ)) (leases : List Kept) (before gs rest : List Grant) → front_fits items leases before gs ≡ true → can_grant_all (leases_in given rest) (kept_with given leases (before ++ gs)) ≡ true
+front_can : (items : List (Field × LeaseKind)) (given : Option (List ℕ)) (leases : List ViewLease) (before gs rest : List Grant) → front_fits items leases before gs ≡ true → can_grant_all (leases_in given rest) (kept_with given leases (before ++ gs)) ≡ true
     → can_grant_all (leases_in given (gs ++ rest)) (kept_with given leases before) ≡ true
 front_can items given leases before [] rest h more = ap (λ gs. can_grant_all (leases_in given rest) (kept_with given leases gs)) (sym (append-nil before)) ∙ more
 front_can [] given leases before (g ∷ gs) rest h more = absurd (cc)
@@ -84,7 +84,7 @@ front_can (x ∷ xs) given leases before (g ∷ gs) rest h more =
     let behind : can_grant_all (leases_in given rest) (kept_with given leases ((before ++ g ∷ []) ++ gs)) ≡ true = ap (λ fs. can_grant_all (leases_in given rest) (kept_with given leases fs)) (append_assoc before (g ∷ []) gs) ∙ more in
     can_one given x leases before g _ q.0 q.1 (ap (λ ks. can_grant_all (leases_in given (gs ++ rest)) ks) (sym (more_kept given leases before g)) ∙ front_can xs given leases (before ++ g ∷ []) gs rest p.1 behind)
 
-last_can : (items : List (Field × LeaseKind)) (id : List ℕ) (given : Option (List ℕ)) (leases : List Kept) (front gs : List Grant) → life_last items id leases front gs ≡ true → can_grant_all (leases_in given (front ++ gs)) leases ≡ true
+last_can : (items : List (Field × LeaseKind)) (id : List ℕ) (given : Option (List ℕ)) (leases : List ViewLease) (front gs : List Grant) → life_last items id leases front gs ≡ true → can_grant_all (leases_in given (front ++ gs)) leases ≡ true
 last_can items id given leases front [] h = absurd (cc)
 last_can items id given leases front (g ∷ []) h =
     let p = both _ _ h in
@@ -92,7 +92,7 @@ last_can items id given leases front (g ∷ []) h =
     front_can items given leases [] front (g ∷ []) p.0 (can_one given (Life id, Exclusive) leases front g true q.0 q.1 refl)
 last_can items id given leases front (g ∷ k ∷ gs) h = ap (λ fs. can_grant_all (leases_in given fs) leases) (sym (append_assoc front (g ∷ []) (k ∷ gs))) ∙ last_can items id given leases (front ++ g ∷ []) (k ∷ gs) h
 
-grants_can : (items : List (Field × LeaseKind)) (given fresh : Option (List ℕ)) (leases : List Kept) (gs : List Grant) → grants_fit items fresh leases gs ≡ true → can_grant_all (leases_in given gs) leases ≡ true
+grants_can : (items : List (Field × LeaseKind)) (given fresh : Option (List ℕ)) (leases : List ViewLease) (gs : List Grant) → grants_fit items fresh leases gs ≡ true → can_grant_all (leases_in given gs) leases ≡ true
 grants_can items given None leases gs h = ap (λ fs. can_grant_all (leases_in given fs) leases) (sym (append-nil gs)) ∙ front_can items given leases [] gs [] h refl
 grants_can items given (Some id) leases gs h = last_can items id given leases [] gs h
 

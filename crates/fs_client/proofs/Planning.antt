@@ -27,7 +27,7 @@ use Rattle.fs_msg.specs.declared.core_error.CoreError.TheVariants as errors
 use Rattle.fs_record.specs.Effects.{tells_its_effects}
 use Rattle.fs_record.specs.declared.led_end.LedEnd.{LedEnd}
 use Rattle.fs_record.specs.declared.led_end.LedEnd.TheVariants as led
-use Rattle.fs_view.specs.declared.kept.Kept.{Kept}
+use Rattle.fs_view.specs.declared.view_lease.ViewLease.{ViewLease}
 use Rattle.fs_view.specs.View.{known_by, lapsed_at, missing_in, reply_in}
 use Rattle.fs_client.specs.declared.led.Led.{Led}
 use Rattle.fs_client.specs.declared.plan.Plan.{Plan}
@@ -127,11 +127,11 @@ module _ (now : ℕ) (o : Op) (c x : Client) (i : IsClient c) (n : now ≤ LATES
 
 -- ## Turns
 
-renew_now : (ks : List Kept) (c : Client) → (renew_some ks c).ready.now ≡ c.last
+renew_now : (ks : List ViewLease) (c : Client) → (renew_some ks c).ready.now ≡ c.last
 renew_now [] c = refl
 renew_now (k ∷ ks) c = refl
 
-release_now : (ks : List Kept) (c : Client) → (release_some ks c).ready.now ≡ c.last
+release_now : (ks : List ViewLease) (c : Client) → (release_some ks c).ready.now ≡ c.last
 release_now [] c = renew_now (ending _ c.view) c
 release_now (k ∷ ks) c = refl
 

@@ -20,7 +20,7 @@ use Rattle.fs_msg.specs.declared.entry.Entry.{Entry}
 use Rattle.fs_record.specs.Effects.{tells_its_effects}
 use Rattle.fs_record.specs.declared.led_end.LedEnd.{LedEnd}
 use Rattle.fs_record.specs.declared.led_end.LedEnd.TheVariants as led
-use Rattle.fs_view.specs.declared.kept.Kept.{Kept}
+use Rattle.fs_view.specs.declared.view_lease.ViewLease.{ViewLease}
 use Rattle.fs_view.specs.View.{given_by, known_by, missing_in, reply_in}
 use Rattle.fs_view.proofs.Walks.{replied}
 use Rattle.fs_client.specs.Acts.{act_on, act_plan, answer_with, answers, answers_move, answers_plain, ask_for, asks, full_one, hinted, leads_on, leads_or_waits, need_file, reads, reads_or_waits, replies, stays, unless_led, worth}
@@ -153,11 +153,11 @@ acts_stay c now o = committed_over (act_plan c now o).ready c ∙ on_stays c.ove
 abbrev Stays : {N : Type 0} → Plan N → Type 0
 Stays p = (over : Option ℕ) → over_in p.ready.change over ≡ over
 
-renew_stays : (ks : List Kept) (c : Client) → Stays (renew_some ks c)
+renew_stays : (ks : List ViewLease) (c : Client) → Stays (renew_some ks c)
 renew_stays [] c = λ over. refl
 renew_stays (k ∷ ks) c = λ over. refl
 
-release_stays : (ks : List Kept) (c : Client) → Stays (release_some ks c)
+release_stays : (ks : List ViewLease) (c : Client) → Stays (release_some ks c)
 release_stays [] c = renew_stays (ending (c.last + c.term / 2) c.view) c
 release_stays (k ∷ ks) c = λ over. refl
 

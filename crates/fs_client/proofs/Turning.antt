@@ -8,7 +8,7 @@ use Rattle.fs_model.specs.Step.{is_empty}
 use Rattle.fs_msg.specs.declared.client_msg.ClientMsg.TheVariants as client
 use Rattle.fs_msg.specs.declared.client_note.ClientNote.{ClientNote}
 use Rattle.fs_msg.specs.declared.client_note.ClientNote.TheVariants as note
-use Rattle.fs_view.specs.declared.kept.Kept.{Kept}
+use Rattle.fs_view.specs.declared.view_lease.ViewLease.{ViewLease}
 use Rattle.fs_client.specs.declared.change.Change.TheVariants as change
 use Rattle.fs_client.specs.declared.exchange.Exchange.TheVariants as exchange
 use Rattle.fs_client.specs.declared.plan.Plan.{Plan}
@@ -22,23 +22,23 @@ use Rattle.fs_client.specs.Turns.{ending, entries_at, idle, kept_at, numbers_in,
 pub numbers_step : (pairs : List (List ℕ × LeaseNo)) (i : ℕ) (d : List ℕ × LeaseNo) → i < length pairs → map (λ pair. pair.1) (take (i + 1) pairs) ≡ map (λ pair. pair.1) (take i pairs) ++ (get_or pairs i d).1 ∷ []
 numbers_step pairs i d h = rw (take_more pairs i d h) (map-append (λ (pair : List ℕ × LeaseNo). pair.1) (take i pairs) (get_or pairs i d ∷ []))
 
-same_length : (ks : List Kept) → length (map pair_of ks) ≡ length ks
+same_length : (ks : List ViewLease) → length (map pair_of ks) ≡ length ks
 same_length [] = refl
 same_length (k ∷ ks) = ap suc (same_length ks)
 
-same_numbers : (ks : List Kept) → map (λ (pair : List ℕ × LeaseNo). pair.1) (map pair_of ks) ≡ numbers_in ks
+same_numbers : (ks : List ViewLease) → map (λ (pair : List ℕ × LeaseNo). pair.1) (map pair_of ks) ≡ numbers_in ks
 same_numbers [] = refl
 same_numbers (k ∷ ks) = ap (λ rest. (pair_of k).1 ∷ rest) (same_numbers ks)
 
-first_of : (ks : List Kept) (pairs : List (List ℕ × LeaseNo)) (x : Option (List ℕ × LeaseNo)) → pairs ≡ map pair_of ks → slice_get pairs 0 ≡ x → slice_get (map pair_of ks) 0 ≡ x
+first_of : (ks : List ViewLease) (pairs : List (List ℕ × LeaseNo)) (x : Option (List ℕ × LeaseNo)) → pairs ≡ map pair_of ks → slice_get pairs 0 ≡ x → slice_get (map pair_of ks) 0 ≡ x
 first_of ks pairs x e h = ap (λ ps. slice_get ps 0) (sym e) ∙ h
 
-nothing_there : (ks : List Kept) → slice_get (map pair_of ks) 0 ≡ None → ks ≡ []
+nothing_there : (ks : List ViewLease) → slice_get (map pair_of ks) 0 ≡ None → ks ≡ []
 nothing_there [] h = refl
 nothing_there (k ∷ ks) h = absurd (cc h)
 
 -- those at a server, whether they are chosen as leases or as pairs
-pub pairs_at : (c : Client) (to : ℕ) (ks : List Kept) → filter (λ (pair : List ℕ × LeaseNo). hinted c pair.0 == to) (map pair_of ks) ≡ map pair_of (kept_at c to ks)
+pub pairs_at : (c : Client) (to : ℕ) (ks : List ViewLease) → filter (λ (pair : List ℕ × LeaseNo). hinted c pair.0 == to) (map pair_of ks) ≡ map pair_of (kept_at c to ks)
 pairs_at c to [] = refl
 pairs_at c to (k ∷ ks) = elim (hinted c (pair_of k).0 == to) as (λ b. cond b (pair_of k ∷ filter (λ (pair : List ℕ × LeaseNo). hinted c pair.0 == to) (map pair_of ks)) (filter (λ (pair : List ℕ × LeaseNo). hinted c pair.0 == to) (map pair_of ks)) ≡ map pair_of (cond b (k ∷ kept_at c to ks) (kept_at c to ks))) [ true ↦ ap (λ rest. pair_of k ∷ rest) (pairs_at c to ks) | false ↦ pairs_at c to ks ]
 
@@ -65,14 +65,14 @@ entries_stop c to log i d h t =
 pub none_returned : (c : Client) (pairs : List (List ℕ × LeaseNo)) → pairs ≡ map pair_of (returned c.view) → slice_get pairs 0 ≡ None → release_some (returned c.view) c ≡ renew_some (ending (c.last + c.term / 2) c.view) c
 none_returned c pairs e h = ap (λ ks. release_some ks c) (nothing_there (returned c.view) (first_of (returned c.view) pairs None e h))
 
-released : (ks : List Kept) (first : List ℕ × LeaseNo) (c : Client) → slice_get (map pair_of ks) 0 ≡ Some first → release_some ks c ≡ releases (hinted c first.0) (kept_at c (hinted c first.0) ks) c
+released : (ks : List ViewLease) (first : List ℕ × LeaseNo) (c : Client) → slice_get (map pair_of ks) 0 ≡ Some first → release_some ks c ≡ releases (hinted c first.0) (kept_at c (hinted c first.0) ks) c
 released [] first c h = absurd (cc h)
 released (k ∷ ks) first c h = let q : pair_of k ≡ first = cc h in ap (λ (x : List ℕ × LeaseNo). releases (hinted c x.0) (kept_at c (hinted c x.0) (k ∷ ks)) c) q
 
 pub some_returned : (c : Client) (pairs : List (List ℕ × LeaseNo)) (first : List ℕ × LeaseNo) → pairs ≡ map pair_of (returned c.view) → slice_get pairs 0 ≡ Some first → release_some (returned c.view) c ≡ releases (hinted c first.0) (kept_at c (hinted c first.0) (returned c.view)) c
 some_returned c pairs first e h = released (returned c.view) first c (first_of (returned c.view) pairs (Some first) e h)
 
-back : (to : ℕ) (ks : List Kept) (c : Client) (pairs : List (List ℕ × LeaseNo)) (numbers : List LeaseNo) → pairs ≡ map pair_of ks → numbers ≡ map (λ pair. pair.1) pairs
+back : (to : ℕ) (ks : List ViewLease) (c : Client) (pairs : List (List ℕ × LeaseNo)) (numbers : List LeaseNo) → pairs ≡ map pair_of ks → numbers ≡ map (λ pair. pair.1) pairs
     → sends to (note.Releases (length pairs) to) (client.Release pairs) (change.Leave to numbers) c ≡ releases to ks c
 back to ks c pairs numbers e f =
     let n : length pairs ≡ length ks = ap length e ∙ same_length ks in
@@ -90,14 +90,14 @@ sent_back to c pairs numbers e f = back to (kept_at c to (returned c.view)) c pa
 pub none_ending : (c : Client) (soon : ℕ) (pairs : List (List ℕ × LeaseNo)) → pairs ≡ map pair_of (ending soon c.view) → slice_get pairs 0 ≡ None → renew_some (ending soon c.view) c ≡ idle c
 none_ending c soon pairs e h = ap (λ ks. renew_some ks c) (nothing_there (ending soon c.view) (first_of (ending soon c.view) pairs None e h))
 
-renewed : (ks : List Kept) (first : List ℕ × LeaseNo) (c : Client) → slice_get (map pair_of ks) 0 ≡ Some first → renew_some ks c ≡ renews (hinted c first.0) (kept_at c (hinted c first.0) ks) c
+renewed : (ks : List ViewLease) (first : List ℕ × LeaseNo) (c : Client) → slice_get (map pair_of ks) 0 ≡ Some first → renew_some ks c ≡ renews (hinted c first.0) (kept_at c (hinted c first.0) ks) c
 renewed [] first c h = absurd (cc h)
 renewed (k ∷ ks) first c h = let q : pair_of k ≡ first = cc h in ap (λ (x : List ℕ × LeaseNo). renews (hinted c x.0) (kept_at c (hinted c x.0) (k ∷ ks)) c) q
 
 pub some_ending : (c : Client) (soon : ℕ) (pairs : List (List ℕ × LeaseNo)) (first : List ℕ × LeaseNo) → pairs ≡ map pair_of (ending soon c.view) → slice_get pairs 0 ≡ Some first → renew_some (ending soon c.view) c ≡ renews (hinted c first.0) (kept_at c (hinted c first.0) (ending soon c.view)) c
 some_ending c soon pairs first e h = renewed (ending soon c.view) first c (first_of (ending soon c.view) pairs (Some first) e h)
 
-on : (to : ℕ) (ks : List Kept) (c : Client) (pairs : List (List ℕ × LeaseNo)) (numbers : List LeaseNo) → pairs ≡ map pair_of ks → numbers ≡ map (λ pair. pair.1) pairs
+on : (to : ℕ) (ks : List ViewLease) (c : Client) (pairs : List (List ℕ × LeaseNo)) (numbers : List LeaseNo) → pairs ≡ map pair_of ks → numbers ≡ map (λ pair. pair.1) pairs
     → sends to (note.Renews (length pairs) to) (client.Renew pairs) (change.Ask (exchange.Renews to numbers)) c ≡ renews to ks c
 on to ks c pairs numbers e f =
     let n : length pairs ≡ length ks = ap length e ∙ same_length ks in
@@ -112,11 +112,11 @@ sent_on to soon c pairs numbers e f = on to (kept_at c to (ending soon c.view)) 
 
 -- ## A turn can always be made
 
-renew_can : (ks : List Kept) (c d : Client) → can_change (renew_some ks c).ready.change d ≡ true
+renew_can : (ks : List ViewLease) (c d : Client) → can_change (renew_some ks c).ready.change d ≡ true
 renew_can [] c d = refl
 renew_can (k ∷ ks) c d = refl
 
-release_can : (ks : List Kept) (c d : Client) → can_change (release_some ks c).ready.change d ≡ true
+release_can : (ks : List ViewLease) (c d : Client) → can_change (release_some ks c).ready.change d ≡ true
 release_can [] c d = renew_can (ending (c.last + c.term / 2) c.view) c d
 release_can (k ∷ ks) c d = refl
 

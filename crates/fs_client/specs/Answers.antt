@@ -23,9 +23,9 @@ use Rattle.fs_msg.specs.declared.end.End.TheVariants as end
 use Rattle.fs_msg.specs.declared.entry.Entry.{Entry}
 use Rattle.fs_record.specs.declared.led_end.LedEnd.{LedEnd}
 use Rattle.fs_record.specs.declared.led_end.LedEnd.TheVariants as led
-use Rattle.fs_view.specs.declared.kept.Kept.{Kept}
+use Rattle.fs_view.specs.declared.view_lease.ViewLease.{ViewLease}
 use Rattle.fs_view.specs.declared.new_lease.NewLease.{NewLease}
-use Rattle.fs_view.specs.Kept.{has_number}
+use Rattle.fs_view.specs.ViewLease.{has_number}
 use Rattle.fs_client.specs.declared.change.Change.{Change}
 use Rattle.fs_client.specs.declared.change.Change.TheVariants as change
 use Rattle.fs_client.specs.declared.exchange.Exchange.{Exchange}
@@ -44,23 +44,23 @@ abbrev pub is_of_item : Field × LeaseKind → Grant → Bool
 is_of_item item g = (same_field g.field item.0 && same_kind g.kind item.1) && is_value_of g.field g.value
 
 -- no lease has the number, and none of these grants
-abbrev pub is_new : List Kept → List Grant → Grant → Bool
+abbrev pub is_new : List ViewLease → List Grant → Grant → Bool
 is_new leases before g = not (list_any (has_number g.no) leases) && not (list_any (λ (b : Grant). same_no b.no g.no) before)
 
 -- the grants are of the items at the front, in order
-abbrev pub front_fits : List (Field × LeaseKind) → List Kept → List Grant → List Grant → Bool
+abbrev pub front_fits : List (Field × LeaseKind) → List ViewLease → List Grant → List Grant → Bool
 front_fits items leases before [] = true
 front_fits [] leases before (g ∷ gs) = false
 front_fits (x ∷ xs) leases before (g ∷ gs) = (is_of_item x g && is_new leases before g) && front_fits xs leases (before ++ g ∷ []) gs
 
 -- the last of the grants is the exclusive lease on the new file's life, and those before it are of the items at the front
-abbrev pub life_last : List (Field × LeaseKind) → List ℕ → List Kept → List Grant → List Grant → Bool
+abbrev pub life_last : List (Field × LeaseKind) → List ℕ → List ViewLease → List Grant → List Grant → Bool
 life_last items id leases front [] = false
 life_last items id leases front (g ∷ []) = front_fits items leases [] front && (is_of_item (Life id, Exclusive) g && is_new leases front g)
 life_last items id leases front (g ∷ h ∷ gs) = life_last items id leases (front ++ g ∷ []) (h ∷ gs)
 
 -- the grants are of the items at the front, and behind them, where an identifier came, of that file's life
-abbrev pub grants_fit : List (Field × LeaseKind) → Option (List ℕ) → List Kept → List Grant → Bool
+abbrev pub grants_fit : List (Field × LeaseKind) → Option (List ℕ) → List ViewLease → List Grant → Bool
 grants_fit items None leases gs = front_fits items leases [] gs
 grants_fit items (Some id) leases gs = life_last items id leases [] gs
 

@@ -10,7 +10,7 @@ use Rattle.fs_map.specs.Map.{Owners, first_map}
 use Rattle.fs_msg.specs.declared.entry.Entry.{Entry}
 use Rattle.fs_msg.specs.declared.limits.TheConstants.{LONGEST}
 use Rattle.fs_view.specs.declared.new_lease.NewLease.{NewLease}
-use Rattle.fs_view.specs.Kept.{is_leaving}
+use Rattle.fs_view.specs.ViewLease.{is_leaving}
 use Rattle.fs_view.specs.View.{View, lapsed_at, with_pins, with_entry, with_grants, with_end, with_leaving, without_lease, given_up, with_admitted, with_first_admitted, without_pins, with_recall, can_pin_all, can_grant_all, stands}
 use Rattle.fs_client.specs.declared.change.Change.{Change}
 use Rattle.fs_client.specs.declared.change.Change.TheVariants as change

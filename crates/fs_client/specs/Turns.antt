@@ -8,10 +8,10 @@ use Rattle.fs_msg.specs.declared.client_note.ClientNote.{ClientNote}
 use Rattle.fs_msg.specs.declared.entry.Entry.{Entry}
 use Rattle.fs_model.specs.Asking.{home_of}
 use Rattle.fs_msg.specs.declared.client_note.ClientNote.TheVariants as note
-use Rattle.fs_view.specs.declared.kept.Kept.{Kept}
-use Rattle.fs_view.specs.declared.kept.Standing.{Standing}
-use Rattle.fs_view.specs.declared.kept.Standing.TheVariants.{Held, Pinned, Leaving}
-use Rattle.fs_view.specs.Kept.{number_of, file_in}
+use Rattle.fs_view.specs.declared.view_lease.ViewLease.{ViewLease}
+use Rattle.fs_view.specs.declared.view_lease.Standing.{Standing}
+use Rattle.fs_view.specs.declared.view_lease.Standing.TheVariants.{Held, Pinned, Leaving}
+use Rattle.fs_view.specs.ViewLease.{number_of, file_in}
 use Rattle.fs_view.specs.View.{View}
 use Rattle.fs_client.specs.declared.change.Change.{Change}
 use Rattle.fs_client.specs.declared.change.Change.TheVariants as change
@@ -26,11 +26,11 @@ abbrev pub idle : Client → Plan ClientNote
 idle c = only_noted change.Nothing note.Idle c
 
 -- the lease and its file, as a message names it
-abbrev pub pair_of : Kept → List ℕ × LeaseNo
+abbrev pub pair_of : ViewLease → List ℕ × LeaseNo
 pair_of k = (file_in k.standing, number_of k.standing)
 
-abbrev pub numbers_in : List Kept → List LeaseNo
-numbers_in ks = map (λ (k : Kept). number_of k.standing) ks
+abbrev pub numbers_in : List ViewLease → List LeaseNo
+numbers_in ks = map (λ (k : ViewLease). number_of k.standing) ks
 
 abbrev pub sends : ℕ → ClientNote → ClientMsg → Change → Client → Plan ClientNote
 sends to n m ch c = record {
@@ -61,14 +61,14 @@ has_to_go recalled (Held l) = recalled
 has_to_go recalled (Pinned u) = false
 has_to_go recalled (Leaving l) = true
 
-abbrev pub returned : View → List Kept
-returned v = filter (λ (k : Kept). has_to_go k.recalled k.standing) v.leases
+abbrev pub returned : View → List ViewLease
+returned v = filter (λ (k : ViewLease). has_to_go k.recalled k.standing) v.leases
 
 -- those on files that are said to be at the server
-abbrev pub kept_at : Client → ℕ → List Kept → List Kept
-kept_at c to ks = filter (λ (k : Kept). hinted c (file_in k.standing) == to) ks
+abbrev pub kept_at : Client → ℕ → List ViewLease → List ViewLease
+kept_at c to ks = filter (λ (k : ViewLease). hinted c (file_in k.standing) == to) ks
 
-abbrev pub releases : ℕ → List Kept → Client → Plan ClientNote
+abbrev pub releases : ℕ → List ViewLease → Client → Plan ClientNote
 releases to ks c = sends to (note.Releases (length ks) to) (client.Release (map pair_of ks)) (change.Leave to (numbers_in ks)) c
 
 -- ## Leases are kept
@@ -79,19 +79,19 @@ ends_by soon (Held l) = nat_le l.until soon
 ends_by soon (Pinned u) = nat_le u.lease.until soon
 ends_by soon (Leaving l) = false
 
-abbrev pub ending : ℕ → View → List Kept
-ending soon v = filter (λ (k : Kept). not k.recalled && ends_by soon k.standing) v.leases
+abbrev pub ending : ℕ → View → List ViewLease
+ending soon v = filter (λ (k : ViewLease). not k.recalled && ends_by soon k.standing) v.leases
 
-abbrev pub renews : ℕ → List Kept → Client → Plan ClientNote
+abbrev pub renews : ℕ → List ViewLease → Client → Plan ClientNote
 renews to ks c = sends to (note.Renews (length ks) to) (client.Renew (map pair_of ks)) (change.Ask (exchange.Renews to (numbers_in ks))) c
 
 -- ## The turn: the first of these that there is to do, at the server of the first lease or entry
 
-abbrev pub renew_some : List Kept → Client → Plan ClientNote
+abbrev pub renew_some : List ViewLease → Client → Plan ClientNote
 renew_some [] c = idle c
 renew_some (k ∷ ks) c = renews (hinted c (file_in k.standing)) (kept_at c (hinted c (file_in k.standing)) (k ∷ ks)) c
 
-abbrev pub release_some : List Kept → Client → Plan ClientNote
+abbrev pub release_some : List ViewLease → Client → Plan ClientNote
 release_some [] c = renew_some (ending (c.last + c.term / 2) c.view) c
 release_some (k ∷ ks) c = releases (hinted c (file_in k.standing)) (kept_at c (hinted c (file_in k.standing)) (k ∷ ks)) c
 

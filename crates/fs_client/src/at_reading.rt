@@ -2,7 +2,7 @@
 ghost use Rattle.std.specs.Prelude.{◌≡◌, not, map, IfOk, List as Seq};
 ghost use Rattle.std.specs.List.{filter_map, list_any, filter};
 ghost use Rattle.std.specs.Option.{option_copied};
-ghost use Rattle.fs_view.specs.Kept.{has_number};
+ghost use Rattle.fs_view.specs.ViewLease.{has_number};
 ghost use Rattle.fs_view.specs.View.{can_pin_all, fresh, item_use, walk_in, given_by, known_by};
 ghost use Rattle.fs_view.specs.Walk.{is_there};
 ghost use Rattle.fs_client.specs.Acts.{hinted};

@@ -5,14 +5,14 @@ ghost use Rattle.fs_client.specs.Live.{is_ending, is_returned, live_of};
 ghost use Rattle.fs_client.specs.Turns.{ends_by, has_to_go, pair_of};
 
 use fs_ident::{FileId, LeaseNo, List, Memory, Twin};
-use fs_view::{Kept, Standing, View};
+use fs_view::{Standing, View, ViewLease};
 use std::alloc::Global;
 
 /// Those that have to go back, each with its file.
 #[tactic(auto, using(crate::proofs::Chosen::chosen_step))]
 pub(crate) fn returned(
     alloc: Global,
-    leases: &[Kept],
+    leases: &[ViewLease],
     reading: u64,
 ) -> Result<List<(FileId, LeaseNo)>, Memory>
     ensures { IfOk result (λ pairs. pairs ≡ map pair_of
@@ -48,7 +48,7 @@ pub(crate) fn ending(
 #[tactic(auto, using(crate::proofs::Chosen::chosen_step))]
 fn each_ending(
     alloc: Global,
-    leases: &[Kept],
+    leases: &[ViewLease],
     reading: u64,
     soon: u64,
 ) -> Result<List<(FileId, LeaseNo)>, Memory>
@@ -65,14 +65,14 @@ fn each_ending(
 }
 
 /// The lease and its file.
-fn pair_of(alloc: Global, kept: &Kept) -> Result<(FileId, LeaseNo), Memory>
+fn pair_of(alloc: Global, kept: &ViewLease) -> Result<(FileId, LeaseNo), Memory>
     ensures { IfOk result (λ pair. pair ≡ pair_of kept.now) }
 {
     Ok((kept.standing.file().copy(alloc)?, kept.standing.no()))
 }
 
 /// Whether the lease is there and goes back: its server asked for it and no entry uses it, or it is on its way already.
-fn is_returned(kept: &Kept, reading: u64) -> bool
+fn is_returned(kept: &ViewLease, reading: u64) -> bool
     ensures { result ≡ is_returned reading kept.now }
 {
     match &kept.standing {
@@ -83,7 +83,7 @@ fn is_returned(kept: &Kept, reading: u64) -> bool
 }
 
 /// Whether the lease is there, does not go back, and ends at this reading or before.
-fn is_ending(kept: &Kept, reading: u64, soon: u64) -> bool
+fn is_ending(kept: &ViewLease, reading: u64, soon: u64) -> bool
     ensures { result ≡ is_ending reading soon kept.now }
 {
     if kept.recalled {

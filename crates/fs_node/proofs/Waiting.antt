@@ -38,7 +38,7 @@ use Rattle.fs_record.specs.Effects.{tells_its_effects}
 use Rattle.fs_record.specs.declared.led_end.LedEnd.{LedEnd}
 use Rattle.fs_record.specs.declared.led_end.LedEnd.TheVariants as led
 use Rattle.fs_view.specs.View.{known_by, missing_in, reply_in}
-use Rattle.fs_view.specs.declared.kept.Kept.{Kept}
+use Rattle.fs_view.specs.declared.view_lease.ViewLease.{ViewLease}
 use Rattle.fs_client.specs.Acts.{act_on, act_plan, answer_with, answers, ask_for, asks, full_one, hinted, leads_on, need_file, reads, replies, stays, unless_led, worth}
 use Rattle.fs_client.specs.Answers.{answer_plan, fits, hints_told, led_plan, strange, told}
 use Rattle.fs_client.specs.Client.{admitted_all, begun, committed, with_hints}
@@ -127,11 +127,11 @@ one_line c now o = one_on c now o c.over
 abbrev KeepsLed : Client → Plan ClientNote → Type 0
 KeepsLed c p = lines_done (note.Client p.out.note) + lines_led (committed p.ready c).led ≤ lines_led c.led
 
-kept_renew : (c : Client) (now : ℕ) (ks : List Kept) → KeepsLed c (renew_some ks (begun now c))
+kept_renew : (c : Client) (now : ℕ) (ks : List ViewLease) → KeepsLed c (renew_some ks (begun now c))
 kept_renew c now [] = omega arith
 kept_renew c now (k ∷ ks) = omega arith
 
-kept_release : (c : Client) (now : ℕ) (ks : List Kept) → KeepsLed c (release_some ks (begun now c))
+kept_release : (c : Client) (now : ℕ) (ks : List ViewLease) → KeepsLed c (release_some ks (begun now c))
 kept_release c now [] = kept_renew c now (ending ((begun now c).last + c.term / 2) (begun now c).view)
 kept_release c now (k ∷ ks) = omega arith
 

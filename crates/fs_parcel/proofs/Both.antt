@@ -21,7 +21,7 @@ use Rattle.fs_field.proofs.Order.{before_trans, ordered_filter}
 use Rattle.fs_moderows.specs.Table.{IsModeTable}
 use Rattle.fs_rows.specs.Granted.{with_rows}
 use Rattle.fs_rows.specs.Table.{IsTable}
-use Rattle.fs_parcel.specs.Rows.{AreRows, is_off_modes, rows_off_modes, rows_on_modes, both}
+use Rattle.fs_parcel.specs.Rows.{AreRows, is_off_modes, rows_off_modes, rows_on_modes, in_one_list}
 
 -- ## Numbers
 
@@ -153,7 +153,7 @@ pub map_with_rows : (f : Row → Row) → ((r : Row) → (f r).no ≡ r.no) → 
 map_with_rows f same [] rows = refl
 map_with_rows f same (r ∷ rs) rows = map_with_rows f same rs (with_row r rows) ∙ ap (with_rows (map f rs)) (map_put f same r rows)
 
-pub renewed_both : (number : LeaseNo) (until : ℕ) (off on : List Row) → map (renewed_row number until) (both off on) ≡ both (map (renewed_row number until) off) (map (renewed_row number until) on)
+pub renewed_both : (number : LeaseNo) (until : ℕ) (off on : List Row) → map (renewed_row number until) (in_one_list off on) ≡ in_one_list (map (renewed_row number until) off) (map (renewed_row number until) on)
 renewed_both number until off on = map_with_rows (renewed_row number until) (λ r. (renewed_same number until r).number) on off
 
 -- ## The parts of both tables
@@ -167,13 +167,13 @@ all_fail p [] h = refl
 all_fail p (r ∷ rs) h = ap (λ b. cond b (r ∷ filter p rs) (filter p rs)) (h r (inl refl)) ∙ all_fail p rs (λ x i. h x (inr i))
 
 -- those of both tables that are off modes are those of the one, and those on modes of the other
-pub off_part : (off on : List Row) → IsTable off → IsModeTable on → is_ordered (both off on) ≡ true → rows_off_modes (both off on) ≡ off
+pub off_part : (off on : List Row) → IsTable off → IsModeTable on → is_ordered (in_one_list off on) ≡ true → rows_off_modes (in_one_list off on) ≡ off
 off_part off on t u o =
     filter_with_rows is_off_modes on off o
     ∙ ap (λ rows. with_rows rows (filter is_off_modes off)) (all_fail is_off_modes on (λ r i. u.on_modes r i))
     ∙ all_pass is_off_modes off t.off_modes
 
-pub on_part : (off on : List Row) → IsTable off → IsModeTable on → is_ordered (both off on) ≡ true → rows_on_modes (both off on) ≡ on
+pub on_part : (off on : List Row) → IsTable off → IsModeTable on → is_ordered (in_one_list off on) ≡ true → rows_on_modes (in_one_list off on) ≡ on
 on_part off on t u o =
     filter_with_rows (λ r. not (is_off_modes r)) on off o
     ∙ ap (with_rows (filter (λ r. not (is_off_modes r)) on)) (all_fail (λ r. not (is_off_modes r)) off (λ r i. ap not (t.off_modes r i)))
@@ -181,18 +181,18 @@ on_part off on t u o =
     ∙ alone on u.ordered
 
 -- the rows are both parts
-pub both_parts : (rows : List Row) → is_ordered rows ≡ true → both (rows_off_modes rows) (rows_on_modes rows) ≡ rows
+pub both_parts : (rows : List Row) → is_ordered rows ≡ true → in_one_list (rows_off_modes rows) (rows_on_modes rows) ≡ rows
 both_parts rows o = two_parts is_off_modes rows o
 
 -- both tables
 abbrev pub AreBoth : List Row → List Row → Type 0
-AreBoth off on = IsTable off × (IsModeTable on × AreRows (both off on))
+AreBoth off on = IsTable off × (IsModeTable on × AreRows (in_one_list off on))
 
 -- what is told by the part that is off modes is told by that table, and so on modes
-pub told_off : {A : Type 0} (f : List Row → A) (off on : List Row) → AreBoth off on → f (both off on) ≡ f (rows_off_modes (both off on)) → f off ≡ f (both off on)
+pub told_off : {A : Type 0} (f : List Row → A) (off on : List Row) → AreBoth off on → f (in_one_list off on) ≡ f (rows_off_modes (in_one_list off on)) → f off ≡ f (in_one_list off on)
 told_off f off on t e = sym (e ∙ ap f (off_part off on t.0 t.1.0 t.1.1.ordered))
 
-pub told_on : {A : Type 0} (f : List Row → A) (off on : List Row) → AreBoth off on → f (both off on) ≡ f (rows_on_modes (both off on)) → f on ≡ f (both off on)
+pub told_on : {A : Type 0} (f : List Row → A) (off on : List Row) → AreBoth off on → f (in_one_list off on) ≡ f (rows_on_modes (in_one_list off on)) → f on ≡ f (in_one_list off on)
 told_on f off on t e = sym (e ∙ ap f (on_part off on t.0 t.1.0 t.1.1.ordered))
 
 pub passing : {X : Type 0} (p : X → Bool) (xs : List X) (x : X) → In x (filter p xs) → p x ≡ true
@@ -227,7 +227,7 @@ are_none = record { ordered = refl; free = λ a b i j. absurd i }
 -- ## What calls make of both tables
 
 -- those that pass stay both tables
-pub filtered_both : (test : Row → Bool) (off on : List Row) → AreBoth off on → both (filter test off) (filter test on) ≡ filter test (both off on)
+pub filtered_both : (test : Row → Bool) (off on : List Row) → AreBoth off on → in_one_list (filter test off) (filter test on) ≡ filter test (in_one_list off on)
 filtered_both test off on t = sym (filter_with_rows test on off t.1.1.ordered)
 
 -- a row of the number is renewed where there is one
@@ -251,15 +251,15 @@ filter_swap p q (x ∷ xs) =
 
 -- the rows with several more, of which those that do not pass the test were dropped before
 abbrev pub after : (Row → Bool) → List Row → List Row → List Row → List Row
-after test more off on = with_rows more (filter test (both off on))
+after test more off on = with_rows more (filter test (in_one_list off on))
 
 pub after_off : (test : Row → Bool) (more off on : List Row) → AreBoth off on → AreRows (after test more off on) → with_rows (rows_off_modes more) (filter test off) ≡ rows_off_modes (after test more off on)
-after_off test more off on t a = sym (filter_with_rows is_off_modes more (filter test (both off on)) a.ordered
-    ∙ ap (with_rows (rows_off_modes more)) (filter_swap is_off_modes test (both off on) ∙ ap (filter test) (off_part off on t.0 t.1.0 t.1.1.ordered)))
+after_off test more off on t a = sym (filter_with_rows is_off_modes more (filter test (in_one_list off on)) a.ordered
+    ∙ ap (with_rows (rows_off_modes more)) (filter_swap is_off_modes test (in_one_list off on) ∙ ap (filter test) (off_part off on t.0 t.1.0 t.1.1.ordered)))
 
 pub after_on : (test : Row → Bool) (more off on : List Row) → AreBoth off on → AreRows (after test more off on) → with_rows (rows_on_modes more) (filter test on) ≡ rows_on_modes (after test more off on)
-after_on test more off on t a = sym (filter_with_rows (λ r. not (is_off_modes r)) more (filter test (both off on)) a.ordered
-    ∙ ap (with_rows (rows_on_modes more)) (filter_swap (λ r. not (is_off_modes r)) test (both off on) ∙ ap (filter test) (on_part off on t.0 t.1.0 t.1.1.ordered)))
+after_on test more off on t a = sym (filter_with_rows (λ r. not (is_off_modes r)) more (filter test (in_one_list off on)) a.ordered
+    ∙ ap (with_rows (rows_on_modes more)) (filter_swap (λ r. not (is_off_modes r)) test (in_one_list off on) ∙ ap (filter test) (on_part off on t.0 t.1.0 t.1.1.ordered)))
 
 -- each table takes its part of them
 pub takes_off : (test : Row → Bool) (more off on : List Row) → AreBoth off on → AreRows (after test more off on) → IsTable (with_rows (rows_off_modes more) (filter test off))
@@ -269,10 +269,10 @@ pub takes_on : (test : Row → Bool) (more off on : List Row) → AreBoth off on
 takes_on test more off on t a = subst IsModeTable (sym (after_on test more off on t a)) (on_table (after test more off on) a)
 
 -- and both make all
-pub takes_all : (test : Row → Bool) (more off on : List Row) → AreBoth off on → AreRows (after test more off on) → both (with_rows (rows_off_modes more) (filter test off)) (with_rows (rows_on_modes more) (filter test on)) ≡ after test more off on
+pub takes_all : (test : Row → Bool) (more off on : List Row) → AreBoth off on → AreRows (after test more off on) → in_one_list (with_rows (rows_off_modes more) (filter test off)) (with_rows (rows_on_modes more) (filter test on)) ≡ after test more off on
 takes_all test more off on t a =
-    ap (λ rows. both rows (with_rows (rows_on_modes more) (filter test on))) (after_off test more off on t a)
-    ∙ ap (both (rows_off_modes (after test more off on))) (after_on test more off on t a)
+    ap (λ rows. in_one_list rows (with_rows (rows_on_modes more) (filter test on))) (after_off test more off on t a)
+    ∙ ap (in_one_list (rows_off_modes (after test more off on))) (after_on test more off on t a)
     ∙ both_parts (after test more off on) a.ordered
 
 pub taken : (test : Row → Bool) (more off on : List Row) → AreBoth off on → AreRows (after test more off on) → AreBoth (with_rows (rows_off_modes more) (filter test off)) (with_rows (rows_on_modes more) (filter test on))
@@ -283,6 +283,6 @@ pub either_both : (r : Result (Unit {0}) Memory) (off on later_off later_on new_
 either_both (Ok u) off on later_off later_on new_off new_on old new p q s u' = rw (p, s) new
 either_both (Err e) off on later_off later_on new_off new_on old new p q s u' = rw (q, u') old
 
-pub ok_both : (r : Result (Unit {0}) Memory) (later_off later_on new_off new_on rows : List Row) → both later_off later_on ≡ rows → OnOk r (new_on ≡ later_on) → OnOk r (new_off ≡ later_off) → OnOk r (both new_off new_on ≡ rows)
+pub ok_both : (r : Result (Unit {0}) Memory) (later_off later_on new_off new_on rows : List Row) → in_one_list later_off later_on ≡ rows → OnOk r (new_on ≡ later_on) → OnOk r (new_off ≡ later_off) → OnOk r (in_one_list new_off new_on ≡ rows)
 ok_both (Ok u) later_off later_on new_off new_on rows e p s = rw (p, s) e
 ok_both (Err x) later_off later_on new_off new_on rows e p s = tt

@@ -18,7 +18,7 @@ use Rattle.fs_rows.specs.Granted.{with_rows}
 use Rattle.fs_rows.specs.Moving.{are_new, are_off_modes, fits, is_new}
 use Rattle.fs_rows.specs.Table.{IsTable}
 use Rattle.fs_rows.proofs.Comes.{any_put, came_table}
-use Rattle.fs_parcel.specs.Rows.{AreRows, both, is_off_modes, rows_off_modes}
+use Rattle.fs_parcel.specs.Rows.{AreRows, in_one_list, is_off_modes, rows_off_modes}
 use Rattle.fs_parcel.proofs.Both.{filter_with_rows, off_table, passing}
 
 -- ## New numbers
@@ -67,8 +67,8 @@ new_parts rows off on (m ∷ ms) h =
       shared false false false d = refl
 
 -- a number is new to both tables where it is new to each
-pub new_both : (off on more : List Row) → are_new (both off on) more ≡ (are_new off more && are_new on more)
-new_both off on more = new_parts (both off on) off on more (λ test. any_with_rows test on off)
+pub new_both : (off on more : List Row) → are_new (in_one_list off on) more ≡ (are_new off more && are_new on more)
+new_both off on more = new_parts (in_one_list off on) off on more (λ test. any_with_rows test on off)
 
 -- ## No conflict
 

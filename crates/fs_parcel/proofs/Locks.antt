@@ -10,7 +10,7 @@ use Rattle.fs_map.specs.Map.{Owners}
 use Rattle.fs_rows.specs.Granted.{with_rows}
 use Rattle.fs_rows.specs.Moving.{txn_before, lesser, least_of, lock_below, locked_in}
 use Rattle.fs_rows.proofs.Goes.{least_assoc}
-use Rattle.fs_parcel.specs.Rows.{both}
+use Rattle.fs_parcel.specs.Rows.{in_one_list}
 use Rattle.fs_parcel.proofs.Both.{later}
 
 -- ## The lesser of two
@@ -68,5 +68,5 @@ module _ (prefix : List ℕ) (owners : Owners) (me : ℕ) where
       ∙ least_assoc (locked_in prefix owners me rows) (lock_below prefix owners me r) (locked_in prefix owners me rs)
 
   -- it is the lesser of those of the two tables
-  pub locked_both : (off on : List Row) → least_of (locked_in prefix owners me off) (locked_in prefix owners me on) ≡ locked_in prefix owners me (both off on)
+  pub locked_both : (off on : List Row) → least_of (locked_in prefix owners me off) (locked_in prefix owners me on) ≡ locked_in prefix owners me (in_one_list off on)
   locked_both off on = sym (locked_with on off)

@@ -10,13 +10,13 @@ use Rattle.fs_field.specs.declared.row.Row.{Row}
 use Rattle.fs_field.specs.Table.{is_ordered, no_before, with_row}
 use Rattle.fs_rows.specs.Granted.{with_rows}
 use Rattle.fs_parcel.specs.Merged.{AreFalling, IsLeastTaken, both_of, is_first}
-use Rattle.fs_parcel.specs.Rows.{both}
+use Rattle.fs_parcel.specs.Rows.{in_one_list}
 use Rattle.fs_parcel.proofs.Both.{all_behind, leads, leads_on, ordered_before}
 
 -- ## The first of two lists in order
 
 -- where the other comes first, so it does of all
-first_off : (x : Row) (xs ys : List Row) → is_first (x ∷ xs) ys ≡ true → is_ordered ys ≡ true → both (x ∷ xs) ys ≡ x ∷ both xs ys
+first_off : (x : Row) (xs ys : List Row) → is_first (x ∷ xs) ys ≡ true → is_ordered ys ≡ true → in_one_list (x ∷ xs) ys ≡ x ∷ in_one_list xs ys
 first_off x xs [] h o = refl
 first_off x xs (y ∷ ys) h o = all_behind x (y ∷ ys) xs (leads_on x y ys h (first (leads y ys) (is_ordered ys) o))
 
@@ -30,7 +30,7 @@ other_first x y xs h o =
           absurd (cc)
     ] o
 
-first_on : (y : Row) (xs ys : List Row) → is_first xs (y ∷ ys) ≡ false → is_ordered (y ∷ ys) ≡ true → is_ordered (both xs (y ∷ ys)) ≡ true → both xs (y ∷ ys) ≡ y ∷ both xs ys
+first_on : (y : Row) (xs ys : List Row) → is_first xs (y ∷ ys) ≡ false → is_ordered (y ∷ ys) ≡ true → is_ordered (in_one_list xs (y ∷ ys)) ≡ true → in_one_list xs (y ∷ ys) ≡ y ∷ in_one_list xs ys
 first_on y [] ys h o a = all_behind y ys [] (first (leads y ys) (is_ordered ys) o)
 first_on y (x ∷ xs) ys h o a =
     let front : no_before y.no x.no ≡ true = other_first x y xs h (ordered_before ys (with_row y (x ∷ xs)) a) in
@@ -49,7 +49,7 @@ from_off : (x : Row) (xs ys : List Row) → AreFalling (xs ++ x ∷ []) ys → i
 from_off x xs ys f h =
     let e = last_first xs x in
     let k : is_first (x ∷ reverse xs) (reverse ys) ≡ true = ap (λ l. is_first l (reverse ys)) (sym e) ∙ h in
-    let next : both_of (xs ++ x ∷ []) ys ≡ x ∷ both_of xs ys = ap (λ l. both l (reverse ys)) e ∙ first_off x (reverse xs) (reverse ys) k f.on_falls in
+    let next : both_of (xs ++ x ∷ []) ys ≡ x ∷ both_of xs ys = ap (λ l. in_one_list l (reverse ys)) e ∙ first_off x (reverse xs) (reverse ys) k f.on_falls in
     record {
       falling = record {
         off_falls = behind_first x (reverse xs) (ap is_ordered (sym e) ∙ f.off_falls);
@@ -64,8 +64,8 @@ from_on y xs ys f h =
     let e = last_first ys y in
     let k : is_first (reverse xs) (y ∷ reverse ys) ≡ false = ap (is_first (reverse xs)) (sym e) ∙ h in
     let o : is_ordered (y ∷ reverse ys) ≡ true = ap is_ordered (sym e) ∙ f.on_falls in
-    let a : is_ordered (both (reverse xs) (y ∷ reverse ys)) ≡ true = ap (λ l. is_ordered (both (reverse xs) l)) (sym e) ∙ f.all in
-    let next : both_of xs (ys ++ y ∷ []) ≡ y ∷ both_of xs ys = ap (both (reverse xs)) e ∙ first_on y (reverse xs) (reverse ys) k o a in
+    let a : is_ordered (in_one_list (reverse xs) (y ∷ reverse ys)) ≡ true = ap (λ l. is_ordered (in_one_list (reverse xs) l)) (sym e) ∙ f.all in
+    let next : both_of xs (ys ++ y ∷ []) ≡ y ∷ both_of xs ys = ap (in_one_list (reverse xs)) e ∙ first_on y (reverse xs) (reverse ys) k o a in
     record {
       falling = record {
         off_falls = f.off_falls;
@@ -91,15 +91,15 @@ on_taken None xs ys new f h e n =
     let same : new ≡ ys = sym (append-nil new) ∙ sym e in
     record {
       falling = subst (AreFalling xs) (sym same) f;
-      next = ap (λ l. both (reverse xs) (reverse l)) none ∙ none_first (reverse xs) (ap (λ l. is_first (reverse xs) (reverse l)) (sym none) ∙ h);
+      next = ap (λ l. in_one_list (reverse xs) (reverse l)) none ∙ none_first (reverse xs) (ap (λ l. is_first (reverse xs) (reverse l)) (sym none) ∙ h);
     }
 
 -- two lists in order, turned round, fall
-pub turned_fall : (off on : List Row) (xs ys : List Row) → is_ordered off ≡ true → is_ordered on ≡ true → is_ordered (both off on) ≡ true → reverse xs ≡ off → reverse ys ≡ on → AreFalling xs ys
+pub turned_fall : (off on : List Row) (xs ys : List Row) → is_ordered off ≡ true → is_ordered on ≡ true → is_ordered (in_one_list off on) ≡ true → reverse xs ≡ off → reverse ys ≡ on → AreFalling xs ys
 turned_fall off on xs ys p q a e g = record {
   off_falls = ap is_ordered e ∙ p;
   on_falls = ap is_ordered g ∙ q;
-  all = ap (λ l. is_ordered (both l (reverse ys))) e ∙ ap (λ l. is_ordered (both off l)) g ∙ a;
+  all = ap (λ l. is_ordered (in_one_list l (reverse ys))) e ∙ ap (λ l. is_ordered (in_one_list off l)) g ∙ a;
 }
 
 -- where nothing is taken out of a vector it is empty

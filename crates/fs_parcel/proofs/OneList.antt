@@ -13,7 +13,7 @@ use Rattle.fs_moderows.specs.Table.{IsModeTable}
 use Rattle.fs_rows.specs.Granted.{with_rows}
 use Rattle.fs_rows.specs.Moving.{are_new, is_new, is_on_given, rows_given}
 use Rattle.fs_rows.specs.Table.{IsTable}
-use Rattle.fs_parcel.specs.Rows.{AreRows, are_one_list, both}
+use Rattle.fs_parcel.specs.Rows.{AreRows, are_one_list, in_one_list}
 use Rattle.fs_parcel.proofs.Both.{all_pass, leads, not_back, off_part, ordered_before}
 use Rattle.fs_parcel.proofs.Coming.{off_are_enough, ordered_more}
 
@@ -67,5 +67,5 @@ all_given rows = all_pass (is_on_given [] (([], true) ∷ [])) rows (λ r i. ref
 -- ## What that makes of tables
 
 -- no two rows of them conflict plainly
-pub both_rows : (off on : List Row) → IsTable off → IsModeTable on → are_one_list off on ≡ true → AreRows (both off on)
-both_rows off on t u o = record { ordered = o; free = off_are_enough (both off on) (subst NoPlainConflict (sym (off_part off on t u o)) t.free) }
+pub both_rows : (off on : List Row) → IsTable off → IsModeTable on → are_one_list off on ≡ true → AreRows (in_one_list off on)
+both_rows off on t u o = record { ordered = o; free = off_are_enough (in_one_list off on) (subst NoPlainConflict (sym (off_part off on t u o)) t.free) }

@@ -2,11 +2,11 @@
 use Rattle.std.specs.Prelude.{◌≡◌, Bool, true, false, List, [], ◌∷◌, reverse, Option, Some, None}
 use Rattle.fs_field.specs.Table.{is_ordered, no_before}
 use Rattle.fs_field.specs.declared.row.Row.{Row}
-use Rattle.fs_parcel.specs.Rows.{both}
+use Rattle.fs_parcel.specs.Rows.{in_one_list}
 
 -- all rows of two tables in falling order of number, in order
 abbrev pub both_of : List Row → List Row → List Row
-both_of off on = both (reverse off) (reverse on)
+both_of off on = in_one_list (reverse off) (reverse on)
 
 -- the numbers fall in both tables, and no two rows have one number
 pub record AreFalling (off on : List Row) : Type 0 where

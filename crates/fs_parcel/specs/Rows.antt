@@ -19,12 +19,12 @@ abbrev pub rows_on_modes : List Row → List Row
 rows_on_modes rows = filter (λ r. not (is_off_modes r)) rows
 
 -- those of both tables, in order of number
-abbrev pub both : List Row → List Row → List Row
-both off on = with_rows on off
+abbrev pub in_one_list : List Row → List Row → List Row
+in_one_list off on = with_rows on off
 
 -- both tables make one list in order: no number stands in both
 abbrev pub are_one_list : List Row → List Row → Bool
-are_one_list off on = is_ordered (both off on)
+are_one_list off on = is_ordered (in_one_list off on)
 
 -- the rows in order of number; no two of them conflict by their sessions, fields and kinds alone
 pub record AreRows (rows : List Row) : Type 0 where

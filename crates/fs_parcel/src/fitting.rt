@@ -12,7 +12,7 @@ ghost use Rattle.fs_rows.specs.Moving as off_modes;
 ghost use Rattle.fs_rows.specs.Moving.{are_new, is_on_given};
 ghost use Rattle.fs_rows.specs.Table.{IsTable};
 ghost use Rattle.fs_parcel.specs.Parcel.{fits, is_elsewhere, is_formed, is_in_order, is_of_given, rows_fit, selves_of_records};
-ghost use Rattle.fs_parcel.specs.Rows.{are_one_list, both};
+ghost use Rattle.fs_parcel.specs.Rows.{are_one_list, in_one_list};
 
 use crate::in_order::files_rise;
 use crate::parts::Parts;
@@ -41,7 +41,7 @@ pub fn fits(
 ) -> Result<bool, Memory>
     requires { are_one_list rows.now modes.now ≡ true }
     ensures { IfOk result (λ fit. fit ≡
-        fits records.now (both rows.now modes.now) map.now me p.now) }
+        fits records.now (in_one_list rows.now modes.now) map.now me p.now) }
 {
     fits_at(alloc, records, &rows.all(), &modes.all(), map, me, p)
 }
@@ -60,7 +60,7 @@ pub fn fits_at(
     requires on { IsModeTable modes.now }
     requires numbers { are_one_list rows.now modes.now ≡ true }
     ensures { IfOk result (λ fit. fit ≡
-        fits records.now (both rows.now modes.now) map.now me p.now) }
+        fits records.now (in_one_list rows.now modes.now) map.now me p.now) }
 {
     if !is_formed(p) || !is_of_given(p) || !is_elsewhere(records, map, me, p) {
         return Ok(false);
@@ -154,7 +154,7 @@ fn rows_fit(
     requires off { IsTable rows.now }
     requires on { IsModeTable modes.now }
     requires numbers { are_one_list rows.now modes.now ≡ true }
-    ensures { IfOk result (λ fit. fit ≡ rows_fit (both rows.now modes.now) p.now) }
+    ensures { IfOk result (λ fit. fit ≡ rows_fit (in_one_list rows.now modes.now) p.now) }
 {
     if !are_new(rows, modes, &p.rows) {
         return Ok(false);
@@ -166,7 +166,7 @@ fn rows_fit(
 
 /// Whether the numbers of the rows differ from one another and from those in both tables.
 fn are_new(rows: &LiveOff<'_>, modes: &LiveOn<'_>, more: &List<Row>) -> bool
-    ensures { result ≡ are_new (both rows.now modes.now) more.now }
+    ensures { result ≡ are_new (in_one_list rows.now modes.now) more.now }
 {
     rows.are_new(more) && modes.are_new(more)
 }

@@ -8,7 +8,7 @@ ghost use Rattle.fs_record.specs.Moving.{AreEachRecords, AreNumbersLeft, are_abs
 ghost use Rattle.fs_rows.specs.Granted.{with_rows};
 ghost use Rattle.fs_rows.specs.Table.{IsTable};
 ghost use Rattle.fs_parcel.specs.Parcel.{fits};
-ghost use Rattle.fs_parcel.specs.Rows.{are_one_list, both, rows_off_modes, rows_on_modes};
+ghost use Rattle.fs_parcel.specs.Rows.{are_one_list, in_one_list, rows_off_modes, rows_on_modes};
 
 use crate::parts::Parts;
 use fs_ident::Memory;
@@ -30,7 +30,7 @@ pub fn install(
     me: u8,
     p: Parcel,
 ) -> Result<(), Memory>
-    requires fits { fits records.old (both rows.old modes.old) map.old me p ≡ true }
+    requires fits { fits records.old (in_one_list rows.old modes.old) map.old me p ≡ true }
     requires nexts { AreNumbersLeft p.records }
     requires numbers { are_one_list rows.old modes.old ≡ true }
     ensures records { OnOk result (records.new ≡ with_records p.records records.old) }
@@ -58,7 +58,7 @@ pub fn install_at(
     p: Parcel,
 ) -> Result<(), Memory>
     requires fits { fits records.old
-        (filter (is_live now skew) (both rows.old modes.old)) map.old me p ≡ true }
+        (filter (is_live now skew) (in_one_list rows.old modes.old)) map.old me p ≡ true }
     requires nexts { AreNumbersLeft p.records }
     requires numbers { are_one_list rows.old modes.old ≡ true }
     ensures records { OnOk result (records.new ≡ with_records p.records records.old) }

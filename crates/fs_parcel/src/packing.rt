@@ -7,7 +7,7 @@ ghost use Rattle.fs_record.specs.Moving.{records_given, records_left};
 ghost use Rattle.fs_rows.specs.Moving.{rows_given, rows_left};
 ghost use Rattle.fs_rows.specs.Table.{IsTable};
 ghost use Rattle.fs_parcel.specs.Parcel.{move_refusal, parcel_of};
-ghost use Rattle.fs_parcel.specs.Rows.{are_one_list, both};
+ghost use Rattle.fs_parcel.specs.Rows.{are_one_list, in_one_list};
 ghost use Rattle.fs_parcel.specs.declared.error.MoveError.{MoveError as TheError};
 ghost use Rattle.fs_parcel.specs.declared.error.MoveError.TheVariants.{Memory as Wanting};
 
@@ -36,7 +36,7 @@ pub fn packed(
     requires on { IsModeTable modes.now }
     requires numbers { are_one_list rows.now modes.now ≡ true }
     ensures { IfOk result (λ p. p ≡
-        parcel_of records.now (both rows.now modes.now) map.now me prefix.now) }
+        parcel_of records.now (in_one_list rows.now modes.now) map.now me prefix.now) }
 {
     let piece = map.piece(alloc, me, prefix)?;
     filled(alloc, records, rows, modes, piece)
@@ -58,7 +58,7 @@ fn filled(
     ensures records { IfOk result (λ p. p.records ≡
         records_given piece.prefix piece.given records.now) }
     ensures rows { IfOk result (λ p. p.rows ≡
-        rows_given piece.prefix piece.given (both rows.now modes.now)) }
+        rows_given piece.prefix piece.given (in_one_list rows.now modes.now)) }
 {
     let off = rows.given(alloc, &piece)?;
     let on = modes.given(alloc, &piece)?;
@@ -86,7 +86,7 @@ pub fn pack_up(
 ) -> Result<Parcel, MoveError>
     requires { are_one_list rows.old modes.old ≡ true }
     ensures parcel { IfOk result (λ p. p ≡
-        parcel_of records.old (both rows.old modes.old) map.old me prefix.now) }
+        parcel_of records.old (in_one_list rows.old modes.old) map.old me prefix.now) }
     ensures records { OnOk result
         (records.new ≡ records_left prefix.now (piece_of map.old me prefix.now) records.old) }
     ensures rows { OnOk result
@@ -95,10 +95,10 @@ pub fn pack_up(
         (modes.new ≡ rows_left prefix.now (piece_of map.old me prefix.now) modes.old) }
     ensures map { OnOk result (map.new ≡ map_after_give map.old me prefix.now to) }
     ensures refused { (e : TheError) → e ≢ Wanting → IsErrOf result e →
-        move_refusal records.old (both rows.old modes.old) map.old me prefix.now to through ≡
+        move_refusal records.old (in_one_list rows.old modes.old) map.old me prefix.now to through ≡
         Some e }
     ensures only { (e : TheError) →
-        move_refusal records.old (both rows.old modes.old) map.old me prefix.now to through ≡
+        move_refusal records.old (in_one_list rows.old modes.old) map.old me prefix.now to through ≡
         Some e → IsErrOf result e ⊎ IsErrOf result Wanting }
     ensures err_records { OnErr result (records.new ≡ records.old) }
     ensures err_rows { OnErr result (rows.new ≡ rows.old) }

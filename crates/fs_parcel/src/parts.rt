@@ -2,7 +2,7 @@
 ghost use Rattle.std.specs.Prelude.{◌≡◌, ◌+◌, ◌<◌, true, reverse, vec_len, IfOk, IsSome};
 ghost use Rattle.fs_field.specs.Table.{is_ordered};
 ghost use Rattle.fs_parcel.specs.Merged.{AreFalling, IsLeastTaken, is_first};
-ghost use Rattle.fs_parcel.specs.Rows.{both, rows_off_modes, rows_on_modes};
+ghost use Rattle.fs_parcel.specs.Rows.{in_one_list, rows_off_modes, rows_on_modes};
 
 use fs_field::Row;
 use fs_ident::{List, Memory, Twin};
@@ -51,8 +51,8 @@ impl Twin for Parts {
 pub(crate) fn merged(alloc: Global, off: List<Row>, on: List<Row>) -> Result<List<Row>, Memory>
     requires off { is_ordered off ≡ true }
     requires on { is_ordered on ≡ true }
-    requires both { is_ordered (both off on) ≡ true }
-    ensures { IfOk result (λ rows. rows ≡ both off on) }
+    requires both { is_ordered (in_one_list off on) ≡ true }
+    ensures { IfOk result (λ rows. rows ≡ in_one_list off on) }
 {
     let mut falling_off = off.into_vec();
     let mut falling_on = on.into_vec();

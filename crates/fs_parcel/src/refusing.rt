@@ -2,7 +2,7 @@
 ghost use Rattle.std.specs.Prelude.{◌≡◌, IfOk};
 ghost use Rattle.fs_rows.specs.Moving.{least_of, locked_in};
 ghost use Rattle.fs_parcel.specs.Parcel.{busy_or, move_refusal, paths_out};
-ghost use Rattle.fs_parcel.specs.Rows.{both};
+ghost use Rattle.fs_parcel.specs.Rows.{in_one_list};
 
 use crate::error::MoveError;
 use fs_ident::{FileId, Memory, PathNo, Twin, TxnNo};
@@ -26,7 +26,7 @@ pub fn refusal(
     through: Option<PathNo>,
 ) -> Result<Option<MoveError>, Memory>
     ensures { IfOk result (λ why. why ≡
-        move_refusal records.now (both rows.now modes.now) map.now me prefix.now to through) }
+        move_refusal records.now (in_one_list rows.now modes.now) map.now me prefix.now to through) }
 {
     let (listed, server) = map.owner(prefix);
     if server != me {
@@ -63,7 +63,7 @@ fn least_lock(
     me: u8,
     prefix: &FileId,
 ) -> Option<TxnNo>
-    ensures { result ≡ locked_in prefix.now map.now me (both rows.now modes.now) }
+    ensures { result ≡ locked_in prefix.now map.now me (in_one_list rows.now modes.now) }
 {
     least(
         rows.locked_in(prefix, map, me),

@@ -6,8 +6,8 @@ use Rattle.fs_ident.specs.declared.actor.Session.{Session}
 use Rattle.fs_field.specs.declared.used.Use.{Use}
 use Rattle.fs_field.specs.Table.{same_no}
 use Rattle.fs_msg.specs.declared.entry.Entry.{Entry}
-use Rattle.fs_view.specs.declared.kept.Kept.{Kept}
-use Rattle.fs_view.specs.Kept.{number_of, entries_of}
+use Rattle.fs_view.specs.declared.view_lease.ViewLease.{ViewLease}
+use Rattle.fs_view.specs.ViewLease.{number_of, entries_of}
 use Rattle.fs_client.specs.declared.led.Led.{Led}
 use Rattle.fs_client.specs.declared.state.Client.{Client}
 use Rattle.fs_serial.specs.Pending.{UsesHeld}
@@ -29,12 +29,12 @@ led_before None log = log
 led_before (Some l) log = l.entry ∷ log
 
 -- each lease is in use by as many entries as use it
-abbrev pub PinsCounted : List Kept → List Entry → Type 0
-PinsCounted leases log = (k : Kept) → In k leases → entries_of k.standing ≡ times_in (number_of k.standing) log
+abbrev pub PinsCounted : List ViewLease → List Entry → Type 0
+PinsCounted leases log = (k : ViewLease) → In k leases → entries_of k.standing ≡ times_in (number_of k.standing) log
 
 -- two leases with one number are one
-abbrev pub KeptDistinct : List Kept → Type 0
-KeptDistinct leases = (k l : Kept) → In k leases → In l leases → number_of k.standing ≡ number_of l.standing → k ≡ l
+abbrev pub KeptDistinct : List ViewLease → Type 0
+KeptDistinct leases = (k l : ViewLease) → In k leases → In l leases → number_of k.standing ≡ number_of l.standing → k ≡ l
 
 -- the client is of the session, its view knows what its log will do, and its leases are in use by its entries and by what is led
 pub record ClientFits (by : Session) (c : Client) : Type 0 where

@@ -25,7 +25,7 @@ use Rattle.fs_client.specs.Client.{committed, first_client}
 use Rattle.fs_client.specs.Turns.{turn_plan}
 use Rattle.fs_client.specs.declared.plan.Plan.{Plan}
 use Rattle.fs_client.specs.declared.state.Client.{Client}
-pub use Rattle.fs_serial.specs.declared.flying.Flying.{Flying}
+pub use Rattle.fs_serial.specs.declared.in_flight.InFlight.{InFlight}
 use Rattle.fs_serial.specs.Parts.{with_replies}
 use Rattle.fs_serial.specs.World.{is_called, pushed, told_by, with_told}
 
@@ -41,7 +41,7 @@ pub record Lines : Type 0 where
 -- the servers in order of number; the journal, and what each session was told so far, are kept beside
 pub record Cluster : Type 0 where
   pub servers : List Server
-  pub flying : List Flying
+  pub in_flight : List InFlight
   pub journal : List Item
   pub replied : Session → List Item
   pub lines : Session → Lines
@@ -56,7 +56,7 @@ first_lines term x = record { client = first_client x term; up = []; down = [] }
 abbrev pub first_cluster : ℕ → ℕ → ℕ → Cluster
 first_cluster servers skew term = record {
   servers = first_servers servers skew term;
-  flying = [];
+  in_flight = [];
   journal = [];
   replied = λ x. [];
   lines = first_lines term;
@@ -68,8 +68,8 @@ parcel_in (OfParcel p) = Some p
 parcel_in m = None
 
 -- the parcels among the messages on their way, in order
-abbrev pub parcels_of : List Flying → List Parcel
-parcels_of flying = filter_map (λ (f : Flying). parcel_in f.message) flying
+abbrev pub parcels_of : List InFlight → List Parcel
+parcels_of in_flight = filter_map (λ (f : InFlight). parcel_in f.message) in_flight
 
 -- ## Messages that come
 
@@ -82,7 +82,7 @@ without_first is (x ∷ xs) = if is x then xs else x ∷ without_first is xs
 abbrev pub is_with : {X : Type 0} → ℕ → ℕ × X → Bool
 is_with k m = m.0 == k
 
-abbrev pub is_between : ℕ → ℕ → Flying → Bool
+abbrev pub is_between : ℕ → ℕ → InFlight → Bool
 is_between from to f = (f.from == from) && (f.to == to)
 
 -- ## Messages that go
@@ -100,17 +100,17 @@ with_sent k ((OfSession to, msg.Answer a) ∷ rest) lines = with_sent k rest (wi
 with_sent k (m ∷ rest) lines = with_sent k rest lines
 
 -- and its messages to servers
-abbrev pub flying_from : ℕ → List (Peer × Msg) → List Flying
-flying_from k [] = []
-flying_from k ((OfServer to, msg.Peer m) ∷ rest) = record { from = k; to = to; message = m } ∷ flying_from k rest
-flying_from k (m ∷ rest) = flying_from k rest
+abbrev pub in_flight_from : ℕ → List (Peer × Msg) → List InFlight
+in_flight_from k [] = []
+in_flight_from k ((OfServer to, msg.Peer m) ∷ rest) = record { from = k; to = to; message = m } ∷ in_flight_from k rest
+in_flight_from k (m ∷ rest) = in_flight_from k rest
 
 -- ## A server's events
 
 -- the message that the event is about is on its way before
 abbrev pub IsThere : ℕ → ServerEvent → Cluster → Type 0
 IsThere k (FromClient by m) c = find (is_with k) (c.lines by).up ≡ Some (k, m)
-IsThere k (FromPeer from m) c = find (is_between from k) c.flying ≡ Some (record { from = from; to = k; message = m })
+IsThere k (FromPeer from m) c = find (is_between from k) c.in_flight ≡ Some (record { from = from; to = k; message = m })
 IsThere k (Move prefix to) c = to < length c.servers
 IsThere k e c = Unit {0}
 
@@ -119,9 +119,9 @@ abbrev pub without_question : ℕ → ServerEvent → (Session → Lines) → Se
 without_question k (FromClient by m) lines = with_lines by (record (lines by) { up = without_first (is_with k) (lines by).up }) lines
 without_question k e lines = lines
 
-abbrev pub without_arrived : ℕ → ServerEvent → List Flying → List Flying
-without_arrived k (FromPeer from m) flying = without_first (is_between from k) flying
-without_arrived k e flying = flying
+abbrev pub without_arrived : ℕ → ServerEvent → List InFlight → List InFlight
+without_arrived k (FromPeer from m) in_flight = without_first (is_between from k) in_flight
+without_arrived k e in_flight = in_flight
 
 -- what is admitted where a session asked to lead it is its reply
 abbrev pub replies_after : ServerEvent → List Item → (Session → List Item) → Session → List Item
@@ -131,7 +131,7 @@ replies_after e items replied = replied
 abbrev pub after_step : ℕ → ServerEvent → Stepped → Cluster → Cluster
 after_step k e x c = record {
   servers = slice_set c.servers k x.server;
-  flying = without_arrived k e c.flying ++ flying_from k x.out.send;
+  in_flight = without_arrived k e c.in_flight ++ in_flight_from k x.out.send;
   journal = c.journal ++ x.out.admitted;
   replied = replies_after e x.out.admitted c.replied;
   lines = with_sent k x.out.send (without_question k e c.lines);
@@ -151,7 +151,7 @@ after_server now k e c = after_server_at (slice_get c.servers k) now k e c
 abbrev pub after_plan : {N : Type 0} → Session → List (ℕ × Answer) → Plan N → Cluster → Cluster
 after_plan by rest p c = record {
   servers = c.servers;
-  flying = c.flying;
+  in_flight = c.in_flight;
   journal = pushed p.out.admitted c.journal;
   replied = with_told by (told_by by p.ready.change p.out.admitted) c.replied;
   lines = with_lines by (record { client = committed p.ready (c.lines by).client; up = pushed p.out.send (c.lines by).up; down = rest }) c.lines;

@@ -16,8 +16,8 @@ use Rattle.fs_msg.specs.declared.entry.Entry.{Entry}
 use Rattle.fs_msg.specs.declared.lead.Lead.{Lead as ToLead}
 use Rattle.fs_server.specs.Asks.{kind_for}
 use Rattle.fs_server.specs.Pairs.{numbers_in}
-use Rattle.fs_view.specs.declared.kept.Kept.{Kept}
-use Rattle.fs_view.specs.Kept.{number_of, is_leaving}
+use Rattle.fs_view.specs.declared.view_lease.ViewLease.{ViewLease}
+use Rattle.fs_view.specs.ViewLease.{number_of, is_leaving}
 use Rattle.fs_client.specs.Answers.{answer_fits}
 use Rattle.fs_client.specs.Led.{lead_of}
 use Rattle.fs_client.specs.Turns.{pair_of}
@@ -110,14 +110,14 @@ abbrev pub LeadsTold : List ClientMsg → Option Led → Type 0
 LeadsTold up led = (m : ToLead) → In (Lead m) up → IsToBeLed led m
 
 -- the lease goes back
-pub record IsReturned (leases : List Kept) (wanted : LeaseNo) : Type 0 where
-  pub kept : Kept
+pub record IsReturned (leases : List ViewLease) (wanted : LeaseNo) : Type 0 where
+  pub kept : ViewLease
   pub among : In kept leases
   pub number : number_of kept.standing ≡ wanted
   pub leaving : is_leaving kept.standing ≡ true
 
 -- until the answer has come, what was released goes back
-abbrev pub ReleasesReturned : Option Exchange → List Kept → Type 0
+abbrev pub ReleasesReturned : Option Exchange → List ViewLease → Type 0
 ReleasesReturned (Some (Releases to numbers)) leases = (n : LeaseNo) → In n numbers → IsReturned leases n
 ReleasesReturned x leases = Unit {0}
 
@@ -139,8 +139,8 @@ pub record ReturnFits (given : ℕ → ℕ) (rows : List Row) (by : Session) (le
   pub alone : (l : Lease) → In l leases → l.no ≢ pair.1
   pub own : (r : Row) → In r rows → r.no ≡ pair.1 → r.session ≡ by
 
-abbrev pub ReturnsFit : (ℕ → ℕ) → List Row → Session → List Kept → List Lease → Type 0
-ReturnsFit given rows by kept leases = (k : Kept) → In k kept → is_leaving k.standing ≡ true → ReturnFits given rows by leases (pair_of k)
+abbrev pub ReturnsFit : (ℕ → ℕ) → List Row → Session → List ViewLease → List Lease → Type 0
+ReturnsFit given rows by kept leases = (k : ViewLease) → In k kept → is_leaving k.standing ≡ true → ReturnFits given rows by leases (pair_of k)
 
 -- what is told with a number is its file
 abbrev pub pairs_in : ClientMsg → List (List ℕ × LeaseNo)

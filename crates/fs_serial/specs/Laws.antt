@@ -14,7 +14,7 @@ use Rattle.fs_msg.specs.declared.item.Item.{Item}
 use Rattle.fs_record.specs.Fresh.{fresh_number, is_directory}
 use Rattle.fs_server.specs.Asks.{Asking, grant_of, with_fresh}
 use Rattle.fs_server.specs.declared.state.Server.{Server}
-use Rattle.fs_view.specs.declared.kept.Kept.{Kept}
+use Rattle.fs_view.specs.declared.view_lease.ViewLease.{ViewLease}
 use Rattle.fs_serial.specs.Exchange.{ReturnsFit}
 use Rattle.fs_serial.specs.Parts.{AllHold, with_client}
 use Rattle.fs_serial.specs.Relies.{Relies}
@@ -50,7 +50,7 @@ GiftIsRelied =
 -- what goes back is no lease that is given
 abbrev pub GiftReturnsNone : Type 0
 GiftReturnsNone =
-    (o : Counts) (a : Asking) (journal : List Item) (by : Session) (dir : List ℕ) (k : ℕ) (kept : List Kept) (d : Settled)
+    (o : Counts) (a : Asking) (journal : List Item) (by : Session) (dir : List ℕ) (k : ℕ) (kept : List ViewLease) (d : Settled)
     → IsGift dir k a.server → ReturnsFit (sight_of o a.server journal).given a.server.rows by kept d.leases
     → ReturnsFit (sight_of o (with_fresh by dir k a).server journal).given (with_fresh by dir k a).server.rows by kept (with_given by dir k a.server d).leases
 

@@ -22,7 +22,7 @@ use Rattle.fs_record.specs.Effects.{tells_its_effects}
 use Rattle.fs_model.specs.Asking.{home_of}
 use Rattle.fs_msg.specs.declared.entry.Entry.{Entry}
 use Rattle.fs_view.specs.Gone.{known_with}
-use Rattle.fs_view.specs.Kept.{is_enough}
+use Rattle.fs_view.specs.ViewLease.{is_enough}
 use Rattle.fs_view.specs.View.{value_after_all}
 use Rattle.fs_view.specs.Walk.{walk, always}
 use Rattle.fs_serial.specs.Leases.{IsBacked}

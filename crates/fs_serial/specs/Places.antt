@@ -13,7 +13,7 @@ use Rattle.fs_record.specs.Moving.{AreEachRecords}
 use Rattle.fs_record.specs.declared.parcel.Parcel.{Parcel}
 use Rattle.fs_server.specs.Server.{is_mine}
 use Rattle.fs_server.specs.declared.state.Server.{Server}
-use Rattle.fs_serial.specs.Cluster.{Cluster, Flying, parcel_in, parcels_of}
+use Rattle.fs_serial.specs.Cluster.{Cluster, InFlight, parcel_in, parcels_of}
 use Rattle.fs_serial.specs.Fresh.{IsMade}
 use Rattle.fs_serial.specs.Joined.{rows_of_all}
 
@@ -50,14 +50,14 @@ pub record IsSent (journal : List Item) (p : Parcel) : Type 0 where
   pub ordered : is_ordered p.rows ≡ true
 
 -- the message goes to one of so many servers, and hands something over: what a server leads it has whole
-abbrev pub IsHandover : ℕ → Flying → Type 0
+abbrev pub IsHandover : ℕ → InFlight → Type 0
 IsHandover servers f = (f.to < servers) × (is_some (parcel_in f.message) ≡ true)
 
 -- everything is at its place, each message goes to a server that there is, and no two rows have one number
 pub record PlacesHold (c : Cluster) : Type 0 where
-  pub one : OnePlace c.servers (parcels_of c.flying)
+  pub one : OnePlace c.servers (parcels_of c.in_flight)
   pub homes : (s : Server) → In s c.servers → IsHome c.journal s
-  pub sent : (p : Parcel) → In p (parcels_of c.flying) → IsSent c.journal p
-  pub goes : (f : Flying) → In f c.flying → IsHandover (length c.servers) f
-  pub ordered : is_ordered (rows_of_all c.servers (parcels_of c.flying)) ≡ true
+  pub sent : (p : Parcel) → In p (parcels_of c.in_flight) → IsSent c.journal p
+  pub goes : (f : InFlight) → In f c.in_flight → IsHandover (length c.servers) f
+  pub ordered : is_ordered (rows_of_all c.servers (parcels_of c.in_flight)) ≡ true
   pub numbered : (k : ℕ) (s : Server) → slice_get c.servers k ≡ Some s → s.me ≡ k

@@ -43,7 +43,7 @@ IsFairNote rows by now entries n = Unit {0}
 
 -- all rows of the servers and of the parcels on their way
 abbrev pub rows_in : Cluster → List Row
-rows_in c = rows_of_all c.servers (parcels_of c.flying)
+rows_in c = rows_of_all c.servers (parcels_of c.in_flight)
 
 -- what the server notes of the log is fair, with the rows that stand then, at the greater of the reading and its last one
 abbrev pub IsFairStep : ℕ → ℕ → Session → List Entry → Server → Cluster → Type 0

@@ -51,7 +51,7 @@ pub record IsFrontOf (front all : List Item) : Type 0 where
 
 -- what the servers and the parcels between them hold together
 abbrev pub held_by : Cluster → RecordMap
-held_by c = records_of_all c.servers (parcels_of c.flying)
+held_by c = records_of_all c.servers (parcels_of c.in_flight)
 
 -- the journal is one serial run of the namespace, in each session's order, to the space that the servers hold together, which
 -- is sound; and what each session was told is what the journal has

@@ -17,8 +17,8 @@ use Rattle.fs_msg.specs.declared.answer.Answer.{Answer}
 use Rattle.fs_msg.specs.declared.answer.Answer.TheVariants as answer
 use Rattle.fs_msg.specs.declared.answer.Grant.{Grant}
 use Rattle.fs_msg.specs.declared.entry.Entry.{Entry}
-use Rattle.fs_view.specs.declared.kept.Kept.{Kept}
-use Rattle.fs_view.specs.Kept.{lease_of, makes}
+use Rattle.fs_view.specs.declared.view_lease.ViewLease.{ViewLease}
+use Rattle.fs_view.specs.ViewLease.{lease_of, makes}
 use Rattle.fs_view.specs.View.{value_after_all}
 use Rattle.fs_client.specs.Answers.{below_of, over_after}
 use Rattle.fs_client.specs.Led.{effects_of_led}
@@ -46,10 +46,10 @@ pub record Settled : Type 0 where
 
 -- ## A client as it is
 
-abbrev pub lease_with : Kept → Term → Lease
+abbrev pub lease_with : ViewLease → Term → Lease
 lease_with k l = record { no = l.no; field = l.field; kind = l.kind; until = l.until; base = k.base; below = k.below }
 
-abbrev pub lease_in : Kept → Option Lease
+abbrev pub lease_in : ViewLease → Option Lease
 lease_in k = option_map (lease_with k) (lease_of k.standing)
 
 abbrev pub settled_now : Client → Settled

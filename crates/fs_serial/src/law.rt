@@ -11,8 +11,8 @@ ghost use Rattle.fs_field.specs.declared.value.Value.TheVariants as value;
 ghost use Rattle.fs_moderows.specs.Answer.{reap_blocker};
 ghost use Rattle.fs_modes.specs.declared.modes.Mode.{Mode};
 ghost use Rattle.fs_lease.specs.Lease.{Lease as Term};
-ghost use Rattle.fs_view.specs.Kept.{lease_of};
-ghost use Rattle.fs_view.specs.declared.kept.Kept.{Kept};
+ghost use Rattle.fs_view.specs.ViewLease.{lease_of};
+ghost use Rattle.fs_view.specs.declared.view_lease.ViewLease.{ViewLease};
 ghost use Rattle.fs_client.specs.Acts.{entry_of, replies};
 ghost use Rattle.fs_client.specs.Client.{changed};
 ghost use Rattle.fs_client.specs.declared.state.Client.{Client};
@@ -262,7 +262,7 @@ pub fn pending_replies_are_the_namespaces()
 /// No lease is passed over: each that a client has and that does not go back is one of the client as it will be, and so is each that
 /// is granted to it on the way, with its number, field, kind and end.
 pub fn no_lease_is_passed_over()
-    ensures held { (by : Session) (c : Client) (down : List Answer) (k : Kept) (l : Term) →
+    ensures held { (by : Session) (c : Client) (down : List Answer) (k : ViewLease) (l : Term) →
         In k c.view.leases → lease_of k.standing ≡ Some l →
         HasLeaseAs (settled by down (settled_now c)).leases l.no l.field l.kind l.until }
     ensures granted { (by : Session) (down : List Answer) (d : Settled) (grants : List Grant)

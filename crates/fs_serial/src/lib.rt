@@ -3,14 +3,14 @@
 
 mod commit;
 mod decided;
-mod flying;
+mod in_flight;
 mod law;
 mod locks;
 mod space;
 
 pub use commit::a_commit_keeps_the_parts;
 pub use decided::what_is_decided_goes_past_all_events;
-pub use flying::Flying;
+pub use in_flight::InFlight;
 pub use law::{
     a_gift_keeps_the_parts, a_move_leaves_all_as_it_was, a_parcel_that_comes_leaves_all_as_it_was,
     a_reap_keeps_the_parts, a_refused_entry_had_ended, a_reply_keeps_the_parts,

@@ -19,16 +19,16 @@ use std::alloc::Global;
 pub fn joined(
     alloc: Global,
     servers: &List<ServerCore>,
-    flying: &List<Parcel>,
+    in_flight: &List<Parcel>,
 ) -> Result<Space, Memory>
-    requires { (p : TheParcel) → In p flying.now → AreInOrder p.records }
-    ensures { IfOk result (λ space. space ≡ nodes_of (records_of_all servers.now flying.now)) }
+    requires { (p : TheParcel) → In p in_flight.now → AreInOrder p.records }
+    ensures { IfOk result (λ space. space ≡ nodes_of (records_of_all servers.now in_flight.now)) }
 {
     let mut space = Space::empty(alloc);
     for server in servers.as_slice() {
         put_records(alloc, server.records(), &mut space)?;
     }
-    for parcel in flying.as_slice() {
+    for parcel in in_flight.as_slice() {
         put_all(alloc, parcel.records.as_slice(), &mut space)?;
     }
     Ok(space)

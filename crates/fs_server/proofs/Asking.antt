@@ -19,7 +19,7 @@ use Rattle.fs_rows.proofs.Numbers.{given_new}
 use Rattle.fs_moderows.specs.Answer.{given_row}
 use Rattle.fs_server.specs.declared.state.Server.{Server}
 use Rattle.fs_server.specs.Asks.{Asking, answer_to, ask_from, kind_for, recall_of, with_lease}
-use Rattle.fs_server.specs.Lent.{IsLent, IsReady, with_leases}
+use Rattle.fs_server.specs.Grants.{IsLent, IsReady, with_leases}
 use Rattle.fs_server.specs.Rows.{AreRows}
 use Rattle.fs_server.specs.Server.{next_number, end_of, is_mine}
 use Rattle.fs_server.proofs.Kept.{put_rows}

@@ -32,7 +32,7 @@ use Rattle.fs_txn.proofs.Locking.{HasLockedRow, locked_in_table, not_not, used_s
 use Rattle.fs_txn.proofs.Waiting.{decided_once, in_their_order, last_waits, part_itself}
 use Rattle.fs_server.specs.Decided.{CanDecide, stepped_by, voted_change}
 use Rattle.fs_server.specs.Follows.{after_vote, applies, decide_step, prepare_step, ready_of, vote_here, votes, with_part}
-use Rattle.fs_server.specs.Lent.{IsReady}
+use Rattle.fs_server.specs.Grants.{IsReady}
 use Rattle.fs_server.specs.Plan.{CanChange, changed}
 use Rattle.fs_server.specs.Rows.{AreRows, rows_off_modes, rows_on_modes}
 use Rattle.fs_server.specs.Server.{Stepped, begun, is_mine, strange}

@@ -22,10 +22,10 @@ use Rattle.fs_record.proofs.NumbersRise.{number_least}
 use Rattle.fs_rows.specs.Granted.{with_rows}
 use Rattle.fs_rows.proofs.Bearing.{bears-with_rows, gift_goes}
 use Rattle.fs_rows.proofs.Numbers.{given_new}
-use Rattle.fs_server.specs.declared.lent.Lent.{Lent}
+use Rattle.fs_server.specs.declared.grants.Grants.{Grants}
 use Rattle.fs_server.specs.declared.state.Server.{Server}
 use Rattle.fs_server.specs.Asks.{Asking, fresh_in, fresh_of, grant_of, with_lease}
-use Rattle.fs_server.specs.Lent.{IsLent, end_without, got_by, lent_by, with_leases}
+use Rattle.fs_server.specs.Grants.{IsLent, end_without, got_by, lent_by, with_leases}
 use Rattle.fs_server.specs.Plan.{IsNewGift, after_gift}
 use Rattle.fs_server.specs.Rows.{AreRows}
 use Rattle.fs_server.specs.Server.{next_number, end_of}
@@ -81,7 +81,7 @@ new_gift dir at k rows s e same = subst (λ d. next_of (get s.records d) ≤ k) 
 abbrev asking : Server → List Grant → List ℕ → List ℕ → ℕ → Server → Asking
 asking srv grants file dir k s = record { server = record srv { records = after_gift (Some (dir, k)) s.records }; grants = grants; fresh = Some file; end = end.All }
 
-pub given_fresh : (by : Session) (dir id file at : List ℕ) (k : ℕ) (o : Option ℕ) (lent new : Lent) (s : Server) → o ≡ Some k → id ≡ child dir k → file ≡ id → at ≡ dir
+pub given_fresh : (by : Session) (dir id file at : List ℕ) (k : ℕ) (o : Option ℕ) (lent new : Grants) (s : Server) → o ≡ Some k → id ≡ child dir k → file ≡ id → at ≡ dir
     → with_leases new.rows s ≡ with_lease by (Life id) Exclusive None (with_leases lent.rows s) → new.grants ≡ lent.grants ++ grant_of by (Life id) Exclusive (with_leases lent.rows s) ∷ []
     → got_by (record { lent = new; fresh = Some file; gift = Some (at, k); end = end.All }) s ≡ fresh_of by dir o (lent_by lent end.All s)
 given_fresh by dir id file at k o lent new s e is f a rows grants =
@@ -100,7 +100,7 @@ spent_fresh by dir id b (Some k) a here e of full =
     grind (arith, nat_tests)
 
 -- the directory has no number left
-none_left : (by : Session) (dir at : List ℕ) (b : Bool) (lent : Lent) (s : Server) → b ≡ true → fresh_number s.records dir (borne_numbers dir (with_rows lent.rows s.rows)) ≡ None → at ≡ dir
+none_left : (by : Session) (dir at : List ℕ) (b : Bool) (lent : Grants) (s : Server) → b ≡ true → fresh_number s.records dir (borne_numbers dir (with_rows lent.rows s.rows)) ≡ None → at ≡ dir
     → got_by (record { lent = lent; fresh = None; gift = None; end = end.NoIds at }) s ≡ fresh_in by dir b (lent_by lent end.All s)
 none_left by dir at b lent s here of e =
     ap (λ d. got_by (record { lent = lent; fresh = None; gift = None; end = end.NoIds d }) s) e
@@ -108,7 +108,7 @@ none_left by dir at b lent s here of e =
     ∙ sym (ap (λ c. fresh_in by dir c (lent_by lent end.All s)) here)
 
 -- no identifier is given, for either of the two reasons
-pub ends_without : (by : Session) (dir at : List ℕ) (b : Bool) (none : FreshError) (e : End) (lent : Lent) (s : Server) → (none ≡ fresh.NoDir → b ≡ false) → (none ≡ fresh.NoIds → (b ≡ true) × (fresh_number s.records dir (borne_numbers dir (with_rows lent.rows s.rows)) ≡ None)) → Ok e ≡ end_without none at → at ≡ dir
+pub ends_without : (by : Session) (dir at : List ℕ) (b : Bool) (none : FreshError) (e : End) (lent : Grants) (s : Server) → (none ≡ fresh.NoDir → b ≡ false) → (none ≡ fresh.NoIds → (b ≡ true) × (fresh_number s.records dir (borne_numbers dir (with_rows lent.rows s.rows)) ≡ None)) → Ok e ≡ end_without none at → at ≡ dir
     → got_by (record { lent = lent; fresh = None; gift = None; end = e }) s ≡ fresh_in by dir b (lent_by lent end.All s)
 ends_without by dir at b fresh.NoDir e lent s dirs ids h q =
     let all : e ≡ end.All = cc in

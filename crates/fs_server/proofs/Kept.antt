@@ -15,7 +15,7 @@ use Rattle.fs_record.specs.Records.{RecordMap}
 use Rattle.fs_txn.specs.declared.ready.Ready.{Ready}
 use Rattle.fs_server.specs.Rows.{AreRows}
 use Rattle.fs_server.specs.declared.state.Server.{Server}
-use Rattle.fs_server.specs.Lent.{IsReady}
+use Rattle.fs_server.specs.Grants.{IsReady}
 
 same_lease : (a b : Row) → TellsSame a b → SameLease a b
 same_lease a b s = record { number = s.number; session = s.session; field = s.field; kind = s.kind }

@@ -37,7 +37,7 @@ use Rattle.fs_txn.specs.declared.mode.Mode2.TheVariants.{Plain}
 use Rattle.fs_txn.proofs.Whole.{name_and_place, parts_make}
 use Rattle.fs_server.specs.Laws.{concluded, leader_of}
 use Rattle.fs_server.specs.Leads.{aborts, commits, decided_by, has_all, is_led, is_over_paths, lead_refusal, lead_step, leads_unless, led_item, moved_why, parts_in, refuses, reply_of, txn_of, uses_of}
-use Rattle.fs_server.specs.Lent.{IsReady}
+use Rattle.fs_server.specs.Grants.{IsReady}
 use Rattle.fs_server.specs.Decided.{CanDecide, stepped_by}
 use Rattle.fs_server.specs.declared.change.Change.{Change}
 use Rattle.fs_server.specs.declared.decide.Decided.{Decided}

@@ -16,7 +16,7 @@ use Rattle.fs_rows.proofs.Granting.{find_put, same_answer, with_rows-append}
 use Rattle.fs_rows.proofs.Numbers.{given_next}
 use Rattle.fs_server.specs.declared.state.Server.{Server}
 use Rattle.fs_server.specs.Asks.{answer_to, with_lease}
-use Rattle.fs_server.specs.Lent.{IsLent, IsReady, with_leases}
+use Rattle.fs_server.specs.Grants.{IsLent, IsReady, with_leases}
 use Rattle.fs_server.specs.Rows.{AreRows}
 use Rattle.fs_server.specs.Server.{next_number, end_of}
 use Rattle.fs_server.proofs.Own.{same_self, same_other}

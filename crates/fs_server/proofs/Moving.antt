@@ -32,13 +32,13 @@ use Rattle.fs_rows.specs.Granted.{with_rows}
 use Rattle.fs_rows.specs.Moving.{is_on_given, rows_left}
 use Rattle.fs_rows.proofs.Numbers.{given_filter}
 use Rattle.fs_parcel.specs.Parcel.{fits, is_formed, is_in_order, parcel_of}
-use Rattle.fs_parcel.specs.Rows.{both}
+use Rattle.fs_parcel.specs.Rows.{in_one_list}
 use Rattle.fs_parcel.proofs.Both.{filtered_rows}
 use Rattle.fs_parcel.proofs.Formed.{fitting}
 use Rattle.fs_parcel.proofs.Installed.{all_rows}
 use Rattle.fs_server.specs.declared.change.Change.TheVariants.{Leave, Install}
 use Rattle.fs_server.specs.declared.state.Server.{Server}
-use Rattle.fs_server.specs.Lent.{IsReady}
+use Rattle.fs_server.specs.Grants.{IsReady}
 use Rattle.fs_server.specs.Moves.{fits_here, hands_over, was_given, without_given}
 use Rattle.fs_server.specs.Plan.{changed}
 use Rattle.fs_server.specs.Step.{AreNumbersLeft}
@@ -47,11 +47,11 @@ use Rattle.fs_server.proofs.Kept.{with_others}
 -- ## A move
 
 -- what is packed from what is read of the server
-pub packed_here : (prefix : List ℕ) (records : RecordMap) (off on rows : List Row) (map : Owners) (me : ℕ) (p : Parcel) (s : Server) → records ≡ s.records → both off on ≡ rows → rows ≡ s.rows → map ≡ s.map → me ≡ s.me → p ≡ parcel_of records (both off on) map me prefix
+pub packed_here : (prefix : List ℕ) (records : RecordMap) (off on rows : List Row) (map : Owners) (me : ℕ) (p : Parcel) (s : Server) → records ≡ s.records → in_one_list off on ≡ rows → rows ≡ s.rows → map ≡ s.map → me ≡ s.me → p ≡ parcel_of records (in_one_list off on) map me prefix
     → p ≡ parcel_of s.records s.rows s.map s.me prefix
 packed_here prefix records off on rows map me p s a b d e f g =
     g
-    ∙ ap (λ x. parcel_of x (both off on) map me prefix) a
+    ∙ ap (λ x. parcel_of x (in_one_list off on) map me prefix) a
     ∙ ap (λ x. parcel_of s.records x map me prefix) (b ∙ d)
     ∙ ap (λ x. parcel_of s.records s.rows x me prefix) e
     ∙ ap (λ x. parcel_of s.records s.rows s.map x prefix) f

@@ -8,7 +8,7 @@ use Rattle.fs_rows.specs.Given.{AreGiven}
 use Rattle.fs_rows.proofs.Numbers.{given_filter, given_renewed}
 use Rattle.fs_server.specs.declared.change.Change.TheVariants.{Renew, Free}
 use Rattle.fs_server.specs.declared.state.Server.{Server}
-use Rattle.fs_server.specs.Lent.{IsReady}
+use Rattle.fs_server.specs.Grants.{IsReady}
 use Rattle.fs_server.specs.Pairs.{renewed_rows, released_rows}
 use Rattle.fs_server.specs.Plan.{changed}
 use Rattle.fs_server.specs.Rows.{AreRows}

@@ -18,7 +18,7 @@ use Rattle.fs_server.specs.declared.change.Change.TheVariants.{Admit}
 use Rattle.fs_server.specs.declared.decide.Decided.{Decided}
 use Rattle.fs_server.specs.declared.state.Server.{Server}
 use Rattle.fs_server.specs.Decided.{CanDecide}
-use Rattle.fs_server.specs.Lent.{IsReady}
+use Rattle.fs_server.specs.Grants.{IsReady}
 use Rattle.fs_server.specs.Plan.{CanChange, changed}
 use Rattle.fs_server.specs.Server.{is_mine}
 use Rattle.fs_server.specs.Ships.{first_gone, item_of, ship_from, with_entry}

@@ -9,7 +9,7 @@ use Rattle.fs_server.specs.declared.change.Change.TheVariants.{Nothing, Prepare 
 use Rattle.fs_server.specs.declared.decide.Decided.{Decided}
 use Rattle.fs_server.specs.declared.state.Server.{Server}
 use Rattle.fs_server.specs.Follows.{ready_of}
-use Rattle.fs_server.specs.Lent.{IsReady}
+use Rattle.fs_server.specs.Grants.{IsReady}
 use Rattle.fs_server.specs.Plan.{changed, CanChange}
 use Rattle.fs_server.specs.Server.{Stepped}
 

@@ -11,7 +11,7 @@ pub mod Step
 pub mod Plan
 pub mod Laws
 -- cited by private calls alone
-pub mod Lent
+pub mod Grants
 pub mod Lost
 pub mod Shipped
 pub mod Decided

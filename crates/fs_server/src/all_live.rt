@@ -12,7 +12,7 @@ ghost use Rattle.fs_moderows.specs.Table.{IsModeTable};
 ghost use Rattle.fs_rows.specs.Live.{unlocked_on};
 ghost use Rattle.fs_rows.specs.Table.{IsTable};
 ghost use Rattle.fs_record.specs.Fresh.{is_borne};
-ghost use Rattle.fs_server.specs.Rows.{AreRows, both};
+ghost use Rattle.fs_server.specs.Rows.{AreRows, in_one_list};
 
 use fs_field::{Asked, Field, LeaseKind, Row};
 use fs_ident::{FileId, LeaseNo, List, Memory, Session};
@@ -34,20 +34,20 @@ impl<'a> Model for AllLive<'a> {
     ghost use Rattle.fs_field.specs.declared.row.Row.{Row};
     ghost use Rattle.fs_rows.specs.Table.{IsTable};
     ghost use Rattle.fs_moderows.specs.Table.{IsModeTable};
-    ghost use Rattle.fs_server.specs.Rows.{AreRows, both};
+    ghost use Rattle.fs_server.specs.Rows.{AreRows, in_one_list};
 
     ghost Value = { List Row };
 
-    ghost view = { λ l. both l.off l.on };
+    ghost view = { λ l. in_one_list l.off l.on };
 
-    ghost invariant = { λ l. IsTable l.off × (IsModeTable l.on × AreRows (both l.off l.on)) };
+    ghost invariant = { λ l. IsTable l.off × (IsModeTable l.on × AreRows (in_one_list l.off l.on)) };
 }
 
 impl<'a> AllLive<'a> {
     /// Those of both tables that are not over at the reading `now`.
     pub(crate) fn at(off: &'a Rows, on: &'a ModeRows, now: u64, skew: u64) -> AllLive<'a>
-        requires { AreRows (both off.now on.now) }
-        ensures { result ≡ filter (is_live now skew) (both off.now on.now) }
+        requires { AreRows (in_one_list off.now on.now) }
+        ensures { result ≡ filter (is_live now skew) (in_one_list off.now on.now) }
     {
         AllLive {
             off: off.live(now, skew),
@@ -57,7 +57,7 @@ impl<'a> AllLive<'a> {
 
     /// Those of each table.
     pub(crate) fn tables(&self) -> (&LiveOff<'a>, &LiveOn<'a>)
-        ensures rows { both result.0.now result.1.now ≡ self.now }
+        ensures rows { in_one_list result.0.now result.1.now ≡ self.now }
         ensures off { IsTable result.0.now }
         ensures on { IsModeTable result.1.now }
         ensures valid { AreRows self.now }

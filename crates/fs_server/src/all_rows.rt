@@ -33,13 +33,13 @@ impl Model for AllRows {
     ghost use Rattle.fs_field.specs.declared.row.Row.{Row};
     ghost use Rattle.fs_rows.specs.Table.{IsTable};
     ghost use Rattle.fs_moderows.specs.Table.{IsModeTable};
-    ghost use Rattle.fs_server.specs.Rows.{AreRows, both};
+    ghost use Rattle.fs_server.specs.Rows.{AreRows, in_one_list};
 
     ghost Value = { List Row };
 
-    ghost view = { λ r. both r.off r.on };
+    ghost view = { λ r. in_one_list r.off r.on };
 
-    ghost invariant = { λ r. IsTable r.off × (IsModeTable r.on × AreRows (both r.off r.on)) };
+    ghost invariant = { λ r. IsTable r.off × (IsModeTable r.on × AreRows (in_one_list r.off r.on)) };
 }
 
 impl AllRows {

@@ -6,14 +6,14 @@ ghost use Rattle.fs_msg.specs.declared.core_error.CoreError.TheVariants as error
 ghost use Rattle.fs_rows.specs.Granted.{with_rows};
 ghost use Rattle.fs_server.specs.Asks.{answer_to, answered, ask_from, ask_step, asked_in, kind_for, recalls_at};
 ghost use Rattle.fs_server.specs.Decided.{CanDecide, stepped_by};
-ghost use Rattle.fs_server.specs.Lent.{IsLent, IsReady, got_by, lent_by};
+ghost use Rattle.fs_server.specs.Grants.{IsLent, IsReady, got_by, lent_by};
 ghost use Rattle.fs_server.specs.Plan.{IsNewGift};
 
 use crate::at_reading::AtReading;
 use crate::change::Change;
 use crate::decide::{Decided, recall, to_session};
 use crate::fresh::{Got, ask_fresh};
-use crate::lent::{Lent, lend};
+use crate::grants::{Grants, lend};
 use crate::out::ServerOut;
 use fs_field::{Asked, Field, LeaseKind};
 use fs_ident::{FileId, List, Memory, Peer, Session, Twin};
@@ -46,7 +46,7 @@ fn ask_items(
     at: &AtReading<'_>,
     by: Session,
     items: &[(Field, LeaseKind)],
-) -> Result<(Lent, End), CoreError>
+) -> Result<(Grants, End), CoreError>
     requires ready { IsReady at.now }
     ensures asked { IfOk result (λ got. lent_by got.0 got.1 at.now ≡
         ask_from by items.now at.now []) }
@@ -57,7 +57,7 @@ fn ask_items(
         (counter ≡ Leases) ×
         (nat_le (2 ^ 64) (ask_from by items.now at.now []).server.given ≡ true) }
 {
-    let mut lent = Lent {
+    let mut lent = Grants {
         rows: List::new(alloc),
         grants: List::new(alloc),
     };
@@ -120,7 +120,7 @@ fn answered(alloc: Global, at: &AtReading<'_>, by: Session, got: Got) -> Result<
     ensures can { IfOk result (λ d. CanDecide d at.now) }
 {
     let Got {
-        lent: Lent { rows, grants },
+        lent: Grants { rows, grants },
         fresh,
         gift,
         end,

@@ -1,7 +1,7 @@
 //! A server at the reading of an event, while it is only read.
 ghost use Rattle.std.specs.Prelude.{◌≡◌, ◌≤◌, IfOk};
 ghost use Rattle.fs_ident.specs.declared.limits.TheConstants.{LATEST};
-ghost use Rattle.fs_server.specs.Lent.{IsReady};
+ghost use Rattle.fs_server.specs.Grants.{IsReady};
 ghost use Rattle.fs_server.specs.Plan.{IsServer};
 ghost use Rattle.fs_server.specs.Server.{begun, end_of, is_mine, moved};
 

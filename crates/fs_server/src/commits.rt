@@ -11,7 +11,7 @@ ghost use Rattle.fs_rows.specs.Granted.{with_rows};
 ghost use Rattle.fs_rows.specs.Moving.{rows_left};
 ghost use Rattle.fs_server.specs.Pairs.{released_rows, renewed_rows};
 ghost use Rattle.fs_server.specs.Plan.{AreRows, CanChange, IsNewGift, after_gift, changed};
-ghost use Rattle.fs_server.specs.Lent.{IsReady};
+ghost use Rattle.fs_server.specs.Grants.{IsReady};
 ghost use Rattle.fs_server.specs.Server.{begun};
 ghost use Rattle.fs_txn.specs.Preparing.{rows_locked};
 ghost use Rattle.fs_txn.specs.Ready.{rows_left_by, without_prepared};

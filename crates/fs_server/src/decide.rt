@@ -6,7 +6,7 @@ ghost use Rattle.fs_msg.specs.declared.core_error.CoreError.TheVariants as error
 ghost use Rattle.fs_msg.specs.declared.server_note.ServerNote.TheVariants as note;
 ghost use Rattle.fs_server.specs.Decided.{CanDecide, noted_only, stepped_by};
 ghost use Rattle.fs_server.specs.declared.event.ServerEvent.TheVariants.{FromPeer};
-ghost use Rattle.fs_server.specs.Lent.{IsReady};
+ghost use Rattle.fs_server.specs.Grants.{IsReady};
 ghost use Rattle.fs_server.specs.Moves.{peer_step};
 ghost use Rattle.fs_server.specs.Server.{to_session};
 ghost use Rattle.fs_server.specs.Step.{CanBeTold, counter_over, event_step, message_step};

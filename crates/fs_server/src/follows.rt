@@ -8,7 +8,7 @@ ghost use Rattle.fs_msg.specs.declared.server_note.ServerNote.TheVariants as not
 ghost use Rattle.fs_record.specs.Applied.{is_undoable, takes_away};
 ghost use Rattle.fs_server.specs.Decided.{CanDecide, stepped_by, voted_change};
 ghost use Rattle.fs_server.specs.Follows.{applies, decide_step, prepare_step, ready_of, to_server, vote_here, votes};
-ghost use Rattle.fs_server.specs.Lent.{IsReady};
+ghost use Rattle.fs_server.specs.Grants.{IsReady};
 ghost use Rattle.fs_server.specs.declared.change.Change.TheVariants as change;
 ghost use Rattle.fs_txn.specs.Preparing.{moved_to, vote_by};
 

@@ -9,11 +9,11 @@ ghost use Rattle.fs_msg.specs.declared.end.End.TheVariants.{All};
 ghost use Rattle.fs_record.specs.Fresh.{fresh_number, is_borne, is_directory};
 ghost use Rattle.fs_rows.specs.Granted.{with_rows};
 ghost use Rattle.fs_server.specs.Asks.{ask_fresh, fresh_for, fresh_in, fresh_of, recalls_at};
-ghost use Rattle.fs_server.specs.Lent.{IsLent, IsReady, end_without, got_by, lent_by, with_leases};
+ghost use Rattle.fs_server.specs.Grants.{IsLent, IsReady, end_without, got_by, lent_by, with_leases};
 ghost use Rattle.fs_server.specs.Plan.{IsNewGift};
 
 use crate::at_reading::AtReading;
-use crate::lent::{Lent, lend};
+use crate::grants::{Grants, lend};
 use fs_field::{Field, LeaseKind, table};
 use fs_ident::{FileId, List, Memory, Session, Twin};
 use fs_msg::{CoreError, End};
@@ -23,7 +23,7 @@ use std::alloc::Global;
 /// What a question got: leases, a fresh identifier, the number that its directory gave for it, and why no more.
 #[derive(Drop)]
 pub(crate) struct Got {
-    pub(crate) lent: Lent,
+    pub(crate) lent: Grants,
     pub(crate) fresh: Option<FileId>,
     pub(crate) gift: Option<(FileId, u32)>,
     pub(crate) end: End,
@@ -35,7 +35,7 @@ pub(crate) fn ask_fresh(
     at: &AtReading<'_>,
     by: Session,
     dir: &Option<FileId>,
-    lent: Lent,
+    lent: Grants,
     end: End,
 ) -> Result<Got, CoreError>
     requires ready { IsReady at.now }
@@ -63,7 +63,7 @@ pub(crate) fn ask_fresh(
 }
 
 /// The leases alone.
-fn without(lent: Lent, end: End) -> Got
+fn without(lent: Grants, end: End) -> Got
     ensures { result ≡ record { lent = lent; fresh = None; gift = None; end = end } }
 {
     Got {
@@ -80,7 +80,7 @@ fn fresh_below(
     at: &AtReading<'_>,
     by: Session,
     dir: &FileId,
-    lent: Lent,
+    lent: Grants,
 ) -> Result<Got, CoreError>
     requires ready { IsReady at.now }
     requires so_far { IsLent by lent.rows at.now }
@@ -108,7 +108,7 @@ fn fresh_in(
     at: &AtReading<'_>,
     by: Session,
     dir: &FileId,
-    lent: Lent,
+    lent: Grants,
 ) -> Result<Got, CoreError>
     requires ready { IsReady at.now }
     requires so_far { IsLent by lent.rows at.now }
@@ -147,7 +147,12 @@ fn end_without(none: FreshError, dir: FileId) -> Result<End, CoreError>
 
 /// The last numbers of the files right below the directory that rows are on, or that the question was given leases on,
 /// in some order.
-fn borne(alloc: Global, at: &AtReading<'_>, dir: &FileId, lent: &Lent) -> Result<List<u32>, Memory>
+fn borne(
+    alloc: Global,
+    at: &AtReading<'_>,
+    dir: &FileId,
+    lent: &Grants,
+) -> Result<List<u32>, Memory>
     ensures { IfOk result (λ told. (k : ℕ) → is_borne told k ≡
         is_borne (borne_numbers dir.now (with_rows lent.now.rows at.now.rows)) k) }
 {
@@ -166,7 +171,7 @@ fn give(
     by: Session,
     dir: &FileId,
     id: FileId,
-    lent: Lent,
+    lent: Grants,
 ) -> Result<Got, CoreError>
     requires ready { IsReady at.now }
     requires so_far { IsLent by lent.rows at.now }

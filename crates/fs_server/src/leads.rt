@@ -12,7 +12,7 @@ ghost use Rattle.fs_record.specs.Applied.{is_undoable, takes_away};
 ghost use Rattle.fs_record.specs.LedEffects.{led_effects};
 ghost use Rattle.fs_server.specs.Decided.{CanDecide, stepped_by};
 ghost use Rattle.fs_server.specs.Leads.{aborts, changes_paths, commits, decided_by, has_all, is_led, is_over_paths, lead_refusal, lead_step, led_item, leads_unless, moved_why, parts_in, refuses, reply_of, uses_of};
-ghost use Rattle.fs_server.specs.Lent.{IsReady};
+ghost use Rattle.fs_server.specs.Grants.{IsReady};
 ghost use Rattle.fs_server.specs.Server.{to_session};
 ghost use Rattle.fs_server.specs.Ships.{first_gone};
 ghost use Rattle.fs_server.specs.Step.{counter_over};

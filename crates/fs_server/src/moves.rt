@@ -5,7 +5,7 @@ ghost use Rattle.fs_map.specs.Map.{server_of};
 ghost use Rattle.fs_msg.specs.declared.server_note.ServerNote.TheVariants as note;
 ghost use Rattle.fs_parcel.specs.Parcel.{move_refusal};
 ghost use Rattle.fs_server.specs.Decided.{CanDecide, noted_only, stepped_by};
-ghost use Rattle.fs_server.specs.Lent.{IsReady};
+ghost use Rattle.fs_server.specs.Grants.{IsReady};
 ghost use Rattle.fs_server.specs.Moves.{fits_here, hands_over, move_step, parcel_at, refusal_of, was_given};
 ghost use Rattle.fs_server.specs.Step.{AreNumbersLeft};
 

@@ -1,7 +1,7 @@
 //! Renewals and releases, pair by pair.
 ghost use Rattle.std.specs.Prelude.{◌≡◌, IfOk};
 ghost use Rattle.fs_server.specs.Decided.{CanDecide, stepped_by};
-ghost use Rattle.fs_server.specs.Lent.{IsReady};
+ghost use Rattle.fs_server.specs.Grants.{IsReady};
 ghost use Rattle.fs_server.specs.Pairs.{end_told, ends_told, numbers_in, pairs_end, pairs_here, release_step, renew_step};
 
 use crate::at_reading::AtReading;

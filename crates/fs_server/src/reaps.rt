@@ -11,7 +11,7 @@ ghost use Rattle.fs_record.specs.Opens.{are_apart};
 ghost use Rattle.fs_record.specs.Records.{AreRecords};
 ghost use Rattle.fs_record.specs.ValueOf.{selves_in};
 ghost use Rattle.fs_server.specs.Decided.{CanDecide, stepped_by};
-ghost use Rattle.fs_server.specs.Lent.{IsReady};
+ghost use Rattle.fs_server.specs.Grants.{IsReady};
 ghost use Rattle.fs_server.specs.Lost.{CanLose, reaping_by, turned_by};
 ghost use Rattle.fs_server.specs.Reaps.{lapsed_among, lapsed_on, reap_from, reap_item, recalls_for, turn_step, with_blocker};
 ghost use Rattle.fs_server.specs.Step.{counter_over};

@@ -1,7 +1,7 @@
 //! Leases on a field that are asked back.
 ghost use Rattle.std.specs.Prelude.{◌≡◌, IfOk};
 ghost use Rattle.fs_server.specs.Decided.{CanDecide, stepped_by};
-ghost use Rattle.fs_server.specs.Lent.{IsReady};
+ghost use Rattle.fs_server.specs.Grants.{IsReady};
 ghost use Rattle.fs_server.specs.Step.{recall_step, recalled_on, recalls_of};
 
 use crate::at_reading::AtReading;

@@ -9,7 +9,7 @@ ghost use Rattle.fs_server.specs.declared.state.Server.{Server as TheServer};
 ghost use Rattle.fs_record.specs.Effects.{effects_of, tells_its_effects};
 ghost use Rattle.fs_model.specs.Asking.{home_of};
 ghost use Rattle.fs_server.specs.Decided.{CanDecide, stepped_by};
-ghost use Rattle.fs_server.specs.Lent.{IsReady};
+ghost use Rattle.fs_server.specs.Grants.{IsReady};
 ghost use Rattle.fs_server.specs.Server.{is_mine};
 ghost use Rattle.fs_server.specs.Shipped.{shipped_by};
 ghost use Rattle.fs_server.specs.Ships.{first_gone, has_row, item_of, ship_from, ship_step, shipped};

@@ -8,9 +8,9 @@ use Rattle.fs_ident.specs.In.{In}
 use Rattle.fs_ident.proofs.Booleans.{both}
 use Rattle.fs_field.specs.declared.field.Field.{Field}
 use Rattle.fs_field.specs.declared.lease_kind.LeaseKind.{LeaseKind}
-use Rattle.fs_view.specs.declared.kept.Kept.{Kept}
-use Rattle.fs_view.specs.declared.kept.Standing.{Standing}
-use Rattle.fs_view.specs.Kept.{is_better, is_better_than, number_of, serves, until_of}
+use Rattle.fs_view.specs.declared.view_lease.ViewLease.{ViewLease}
+use Rattle.fs_view.specs.declared.view_lease.Standing.{Standing}
+use Rattle.fs_view.specs.ViewLease.{is_better, is_better_than, number_of, serves, until_of}
 use Rattle.fs_view.specs.Laws.{IsBestOf}
 use Rattle.fs_view.specs.View.{View, taken, taken_from}
 
@@ -64,45 +64,45 @@ not_beaten s t u h k = by (is_better_than t u) refl
 -- ## One lease after another
 
 -- of the best so far and those behind it, it is one, and none that serves is better
-record IsBestFrom (now : ℕ) (field : Field) (kind : LeaseKind) (best : Option Kept) (ks : List Kept) (k : Kept) : Type 0 where
+record IsBestFrom (now : ℕ) (field : Field) (kind : LeaseKind) (best : Option ViewLease) (ks : List ViewLease) (k : ViewLease) : Type 0 where
   pub among : (best ≡ Some k) ⊎ (In k ks × (serves now field kind k.standing ≡ true))
-  pub first : (b : Kept) → best ≡ Some b → is_better_than b.standing k.standing ≡ false
-  pub rest : (other : Kept) → In other ks → serves now field kind other.standing ≡ true → is_better_than other.standing k.standing ≡ false
+  pub first : (b : ViewLease) → best ≡ Some b → is_better_than b.standing k.standing ≡ false
+  pub rest : (other : ViewLease) → In other ks → serves now field kind other.standing ≡ true → is_better_than other.standing k.standing ≡ false
 
 module _ (now : ℕ) (field : Field) (kind : LeaseKind) where
   -- the next one is taken
-  taken_next : (x : Kept) (best : Option Kept) (xs : List Kept) (k : Kept) → serves now field kind x.standing ≡ true → is_better x best ≡ true → IsBestFrom now field kind (Some x) xs k → IsBestFrom now field kind best (x ∷ xs) k
+  taken_next : (x : ViewLease) (best : Option ViewLease) (xs : List ViewLease) (k : ViewLease) → serves now field kind x.standing ≡ true → is_better x best ≡ true → IsBestFrom now field kind (Some x) xs k → IsBestFrom now field kind best (x ∷ xs) k
   taken_next x best xs k s t r = record {
     among = elim r.among [
-      | inl e ↦ let same : x ≡ k = cc e in inr (inl (sym same), subst (λ (y : Kept). serves now field kind y.standing ≡ true) same s)
+      | inl e ↦ let same : x ≡ k = cc e in inr (inl (sym same), subst (λ (y : ViewLease). serves now field kind y.standing ≡ true) same s)
       | inr j ↦ inr (inr j.0, j.1)
     ];
     first = λ b e. not_beaten x.standing b.standing k.standing (ap (is_better x) (sym e) ∙ t) (r.first x refl);
     rest = λ other i p. elim i [
-      | inl e ↦ subst (λ (y : Kept). is_better_than y.standing k.standing ≡ false) (sym e) (r.first x refl)
+      | inl e ↦ subst (λ (y : ViewLease). is_better_than y.standing k.standing ≡ false) (sym e) (r.first x refl)
       | inr j ↦ r.rest other j p
     ];
   }
 
   -- the next one is passed over: it does not serve, or is no better
-  passed : (x : Kept) (best : Option Kept) (xs : List Kept) (k : Kept) → (serves now field kind x.standing && is_better x best) ≡ false → IsBestFrom now field kind best xs k → IsBestFrom now field kind best (x ∷ xs) k
+  passed : (x : ViewLease) (best : Option ViewLease) (xs : List ViewLease) (k : ViewLease) → (serves now field kind x.standing && is_better x best) ≡ false → IsBestFrom now field kind best xs k → IsBestFrom now field kind best (x ∷ xs) k
   passed x best xs k h r = record {
     among = elim r.among [ inl e ↦ inl e | inr j ↦ inr (inr j.0, j.1) ];
     first = r.first;
     rest = λ other i p. elim i [
-      | inl e ↦ subst (λ (y : Kept). is_better_than y.standing k.standing ≡ false) (sym e) (own best refl (ap (λ b. b && is_better x best) (sym (subst (λ (y : Kept). serves now field kind y.standing ≡ true) e p)) ∙ h))
+      | inl e ↦ subst (λ (y : ViewLease). is_better_than y.standing k.standing ≡ false) (sym e) (own best refl (ap (λ b. b && is_better x best) (sym (subst (λ (y : ViewLease). serves now field kind y.standing ≡ true) e p)) ∙ h))
       | inr j ↦ r.rest other j p
     ];
   }
     where
-      own : (o : Option Kept) → best ≡ o → is_better x best ≡ false → is_better_than x.standing k.standing ≡ false
+      own : (o : Option ViewLease) → best ≡ o → is_better x best ≡ false → is_better_than x.standing k.standing ≡ false
       own None e f = let wrong : true ≡ false = ap (is_better x) (sym e) ∙ f in absurd (cc wrong)
       own (Some b) e f = better_neither x.standing b.standing k.standing (ap (is_better x) (sym e) ∙ f) (r.first b e)
 
-  best_from : (best : Option Kept) (ks : List Kept) (k : Kept) → taken_from now field kind best ks ≡ Some k → IsBestFrom now field kind best ks k
+  best_from : (best : Option ViewLease) (ks : List ViewLease) (k : ViewLease) → taken_from now field kind best ks ≡ Some k → IsBestFrom now field kind best ks k
   best_from best [] k h = record {
     among = inl h;
-    first = λ b e. let same : b ≡ k = cc (e, h) in subst (λ (y : Kept). is_better_than b.standing y.standing ≡ false) same (better_not_itself b.standing);
+    first = λ b e. let same : b ≡ k = cc (e, h) in subst (λ (y : ViewLease). is_better_than b.standing y.standing ≡ false) same (better_not_itself b.standing);
     rest = λ other i p. absurd i;
   }
   best_from best (x ∷ xs) k h =
@@ -111,7 +111,7 @@ module _ (now : ℕ) (field : Field) (kind : LeaseKind) where
         | false ↦ λ t g. passed x best xs k t (best_from best xs k g)
       ] refl h
 
-  never_none : (b : Kept) (ks : List Kept) → taken_from now field kind (Some b) ks ≡ None → ⊥
+  never_none : (b : ViewLease) (ks : List ViewLease) → taken_from now field kind (Some b) ks ≡ None → ⊥
   never_none b [] h = absurd (cc h)
   never_none b (x ∷ xs) h =
       elim (serves now field kind x.standing && is_better x (Some b)) as (λ c. taken_from now field kind (cond c (Some x) (Some b)) xs ≡ None → ⊥) [
@@ -119,21 +119,21 @@ module _ (now : ℕ) (field : Field) (kind : LeaseKind) where
         | false ↦ λ g. never_none b xs g
       ] h
 
-  none_from : (ks : List Kept) → taken_from now field kind None ks ≡ None → list_any (λ (k : Kept). serves now field kind k.standing) ks ≡ false
+  none_from : (ks : List ViewLease) → taken_from now field kind None ks ≡ None → list_any (λ (k : ViewLease). serves now field kind k.standing) ks ≡ false
   none_from [] h = refl
   none_from (x ∷ xs) h =
-      elim (serves now field kind x.standing) as (λ c. taken_from now field kind (cond (c && true) (Some x) None) xs ≡ None → (c || list_any (λ (k : Kept). serves now field kind k.standing) xs) ≡ false) [
+      elim (serves now field kind x.standing) as (λ c. taken_from now field kind (cond (c && true) (Some x) None) xs ≡ None → (c || list_any (λ (k : ViewLease). serves now field kind k.standing) xs) ≡ false) [
         | true ↦ λ g. absurd (never_none x xs g)
         | false ↦ λ g. none_from xs g
       ] h
 
-pub taken_best : (v : View) (now : ℕ) (field : Field) (kind : LeaseKind) (k : Kept) → taken v now field kind ≡ Some k → IsBestOf v.leases now field kind k
+pub taken_best : (v : View) (now : ℕ) (field : Field) (kind : LeaseKind) (k : ViewLease) → taken v now field kind ≡ Some k → IsBestOf v.leases now field kind k
 unfolding taken
 taken_best v now field kind k h =
     let r : IsBestFrom now field kind None v.leases k = best_from now field kind None v.leases k h in
     let at : In k v.leases × (serves now field kind k.standing ≡ true) = elim r.among [ inl e ↦ absurd (cc e) | inr j ↦ j ] in
     record { among = at.0; serving = at.1; best = r.rest }
 
-pub none_taken : (v : View) (now : ℕ) (field : Field) (kind : LeaseKind) → taken v now field kind ≡ None → list_any (λ (k : Kept). serves now field kind k.standing) v.leases ≡ false
+pub none_taken : (v : View) (now : ℕ) (field : Field) (kind : LeaseKind) → taken v now field kind ≡ None → list_any (λ (k : ViewLease). serves now field kind k.standing) v.leases ≡ false
 unfolding taken
 none_taken v now field kind h = none_from now field kind v.leases h

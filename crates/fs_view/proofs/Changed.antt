@@ -3,10 +3,10 @@ use Rattle.std.proofs.Common.{◌≡◌, ℕ, ◌-◌, ◌==◌, Bool, true, fal
 use Rattle.fs_lease.specs.Lease.{InUse}
 use Rattle.fs_view.specs.declared.change.Change.{Change}
 use Rattle.fs_view.specs.declared.change.Change.TheVariants.{Pin, Unpin, Recall, Leave, Renew}
-use Rattle.fs_view.specs.declared.kept.Kept.{Kept}
-use Rattle.fs_view.specs.declared.kept.Standing.{Standing}
-use Rattle.fs_view.specs.declared.kept.Standing.TheVariants.{Held, Pinned, Leaving}
-use Rattle.fs_view.specs.Kept.{number_of, pinned, unpinned, leaving, renewed}
+use Rattle.fs_view.specs.declared.view_lease.ViewLease.{ViewLease}
+use Rattle.fs_view.specs.declared.view_lease.Standing.{Standing}
+use Rattle.fs_view.specs.declared.view_lease.Standing.TheVariants.{Held, Pinned, Leaving}
+use Rattle.fs_view.specs.ViewLease.{number_of, pinned, unpinned, leaving, renewed}
 use Rattle.fs_view.specs.Change.{changed}
 
 pub pinned_number : (s : Standing) → number_of (pinned s) ≡ number_of s
@@ -33,7 +33,7 @@ renewed_number until (Held l) = refl
 renewed_number until (Pinned u) = refl
 renewed_number until (Leaving l) = refl
 
-pub same_number : (c : Change) (k : Kept) → number_of (changed c k).standing ≡ number_of k.standing
+pub same_number : (c : Change) (k : ViewLease) → number_of (changed c k).standing ≡ number_of k.standing
 same_number Pin k = pinned_number k.standing
 same_number Unpin k = unpinned_number k.standing
 same_number Recall k = refl

@@ -15,15 +15,15 @@ use Rattle.fs_field.specs.Table.{same_no}
 use Rattle.fs_field.proofs.SameNo.{same_no_is, same_no_symm}
 use Rattle.fs_view.specs.declared.change.Change.{Change}
 use Rattle.fs_view.specs.declared.index.FieldIndex.{FieldIndex}
-use Rattle.fs_view.specs.declared.kept.Kept.{Kept}
-use Rattle.fs_view.specs.declared.kept.Standing.{Standing}
-use Rattle.fs_view.specs.declared.kept.Standing.TheVariants.{Held, Pinned, Leaving}
+use Rattle.fs_view.specs.declared.view_lease.ViewLease.{ViewLease}
+use Rattle.fs_view.specs.declared.view_lease.Standing.{Standing}
+use Rattle.fs_view.specs.declared.view_lease.Standing.TheVariants.{Held, Pinned, Leaving}
 use Rattle.fs_view.specs.declared.key.Key.{Key}
 use Rattle.fs_view.specs.declared.new_lease.NewLease.{NewLease}
 use Rattle.fs_view.specs.Admit.{knowing_all}
 use Rattle.fs_view.specs.Change.{changed}
 use Rattle.fs_view.specs.Index.{end_no_sooner, ends_from, is_on, key_in, key_of, least_with, lesser, AreFoundBy, IsAdded, IsChanged, IsIndexOf, IsNoted, IsTakenOff}
-use Rattle.fs_view.specs.Kept.{has_ended, has_number, is_leaving, is_pinned, number_of}
+use Rattle.fs_view.specs.ViewLease.{has_ended, has_number, is_leaving, is_pinned, number_of}
 use Rattle.fs_view.specs.View.{are_distinct, at_number, kept_new}
 use Rattle.fs_view.proofs.Bases.{knows, known_distinct}
 use Rattle.fs_view.proofs.Changed.{same_number}
@@ -34,40 +34,40 @@ use Rattle.fs_view.proofs.Places.{distinct_append, distinct_at, distinct_filter,
 
 -- ## Nothing changes
 
-pub still_found : (ks new : List Kept) (keys more : List Key) (index : FieldIndex) (least : ℕ) → new ≡ ks → more ≡ keys → AreFoundBy ks keys index least → AreFoundBy new more index least
+pub still_found : (ks new : List ViewLease) (keys more : List Key) (index : FieldIndex) (least : ℕ) → new ≡ ks → more ≡ keys → AreFoundBy ks keys index least → AreFoundBy new more index least
 still_found ks new keys more index least e f h = subst (λ xs. AreFoundBy xs more index least) (sym e) (subst (λ ys. AreFoundBy ks ys index least) (sym f) h)
 
 -- ## Keys
 
-keys_kept : (g : Kept → Kept) (ks : List Kept) → ((k : Kept) → number_of (g k).standing ≡ number_of k.standing) → map key_in (map g ks) ≡ map key_in ks
+keys_kept : (g : ViewLease → ViewLease) (ks : List ViewLease) → ((k : ViewLease) → number_of (g k).standing ≡ number_of k.standing) → map key_in (map g ks) ≡ map key_in ks
 keys_kept g [] same = refl
 keys_kept g (k ∷ ks) same = ap (λ n. key_of n ∷ map key_in (map g ks)) (same k) ∙ ap (λ rest. key_in k ∷ rest) (keys_kept g ks same)
 
-keys_removed : (ks : List Kept) (at : ℕ) → map key_in (remove ks at) ≡ remove (map key_in ks) at
+keys_removed : (ks : List ViewLease) (at : ℕ) → map key_in (remove ks at) ≡ remove (map key_in ks) at
 keys_removed [] zero = refl
 keys_removed [] (suc at) = refl
 keys_removed (k ∷ ks) zero = refl
 keys_removed (k ∷ ks) (suc at) = ap (λ rest. key_in k ∷ rest) (keys_removed ks at)
 
-any_key : (n : LeaseNo) (ks : List Kept) → list_any (same_key (key_of n)) (map key_in ks) ≡ list_any (has_number n) ks
+any_key : (n : LeaseNo) (ks : List ViewLease) → list_any (same_key (key_of n)) (map key_in ks) ≡ list_any (has_number n) ks
 any_key n [] = refl
 any_key n (k ∷ ks) = ap (λ b. b || list_any (same_key (key_of n)) (map key_in ks)) (same_no_symm n (number_of k.standing)) ∙ ap (λ b. has_number n k || b) (any_key n ks)
 
 -- ## A lease changes
 
-found_has : (test : Kept → Bool) (ks : List Kept) (x : Kept) → find test ks ≡ Some x → test x ≡ true
+found_has : (test : ViewLease → Bool) (ks : List ViewLease) (x : ViewLease) → find test ks ≡ Some x → test x ≡ true
 found_has test [] x h = absurd (cc h)
 found_has test (k ∷ ks) x h = elim (test k) as (λ b. test k ≡ b → cond b (Some k) (find test ks) ≡ Some x → test x ≡ true) [
   | true ↦ λ t g. let e : k ≡ x = cc g in ap test (sym e) ∙ t
   | false ↦ λ t g. found_has test ks x g
 ] refl h
 
-number_by : (g : Kept → Kept) (b : Bool) (k : Kept) → number_of (g k).standing ≡ number_of k.standing → number_of (cond b (g k) k).standing ≡ number_of k.standing
+number_by : (g : ViewLease → ViewLease) (b : Bool) (k : ViewLease) → number_of (g k).standing ≡ number_of k.standing → number_of (cond b (g k) k).standing ≡ number_of k.standing
 number_by g true k e = e
 number_by g false k e = refl
 
 pub found_changed :
-    (n : LeaseNo) (c : Change) (ks now : List Kept) (keys : List Key) (old new : FieldIndex) (least next at : ℕ) (x : Kept) → position (has_number n) ks ≡ Some at → x ≡ get_or ks at x
+    (n : LeaseNo) (c : Change) (ks now : List ViewLease) (keys : List Key) (old new : FieldIndex) (least next at : ℕ) (x : ViewLease) → position (has_number n) ks ≡ Some at → x ≡ get_or ks at x
     → IsChanged c x.standing old new → next ≡ least_with c least → now ≡ at_number n (changed c) ks → AreFoundBy ks keys old least → AreFoundBy now keys new next
 found_changed n c ks now keys old new least next at x p e t l is h =
     let i = got_in ks at x (within (has_number n) ks at p) e in
@@ -82,10 +82,10 @@ found_changed n c ks now keys old new least next at x p e t l is h =
 -- ## A lease goes
 
 pub found_gone :
-    (ks now : List Kept) (keys less : List Key) (old new : FieldIndex) (least at : ℕ) (x : Kept) → at < length ks → x ≡ get_or ks at x → is_pinned x.standing ≡ false → IsTakenOff x.standing old new
+    (ks now : List ViewLease) (keys less : List Key) (old new : FieldIndex) (least at : ℕ) (x : ViewLease) → at < length ks → x ≡ get_or ks at x → is_pinned x.standing ≡ false → IsTakenOff x.standing old new
     → now ≡ remove ks at → less ≡ remove keys at → AreFoundBy ks keys old least → AreFoundBy now less new least
 found_gone ks now keys less old new least at x w e p t is gone h =
-    let others : List Kept → List Kept = filter (λ k. not (has_number (number_of x.standing) k)) in
+    let others : List ViewLease → List ViewLease = filter (λ k. not (has_number (number_of x.standing) k)) in
     let same : now ≡ others ks = is ∙ removed_at ks at x w e h.distinct in
     record {
       distinct = ap are_distinct same ∙ distinct_filter (λ k. not (has_number (number_of x.standing) k)) ks h.distinct;
@@ -110,7 +110,7 @@ ended_free now (Pinned u) h = absurd (cc h)
 ended_free now (Leaving l) h = refl
 
 -- another end that none is over before
-pub found_from : (ks : List Kept) (keys : List Key) (index : FieldIndex) (least next : ℕ) → end_no_sooner next ks ≡ true → AreFoundBy ks keys index least → AreFoundBy ks keys index next
+pub found_from : (ks : List ViewLease) (keys : List Key) (index : FieldIndex) (least next : ℕ) → end_no_sooner next ks ≡ true → AreFoundBy ks keys index least → AreFoundBy ks keys index next
 found_from ks keys index least next e h = record { distinct = h.distinct; numbers = h.numbers; fields = h.fields; ends = e }
 
 -- ## A lease comes
@@ -119,7 +119,7 @@ itself : (n : ℕ) → nat_le n n ≡ true
 itself n = grind (arith, nat_tests)
 
 pub found_added :
-    (l : NewLease) (ks now : List Kept) (keys more : List Key) (old new : FieldIndex) (least next : ℕ) → list_any (has_number l.no) ks ≡ false → more ≡ insert_key same_key keys (key_of l.no)
+    (l : NewLease) (ks now : List ViewLease) (keys more : List Key) (old new : FieldIndex) (least next : ℕ) → list_any (has_number l.no) ks ≡ false → more ≡ insert_key same_key keys (key_of l.no)
     → IsNoted l.no l.field old new → next ≡ lesser least l.until → now ≡ ks ++ kept_new l ∷ [] → AreFoundBy ks keys old least → AreFoundBy now more new next
 found_added l ks now keys more old new least next n m t e is h = record {
   distinct = ap are_distinct is ∙ distinct_append ks (kept_new l) n h.distinct;
@@ -132,18 +132,18 @@ found_added l ks now keys more old new least next n m t e is h = record {
 }
 
 -- one more of a list's leases is in the index
-pub index_more : (old new : FieldIndex) (ks : List Kept) (i : ℕ) (x : Kept) → i < length ks → x ≡ get_or ks i x → IsAdded x.standing old new → IsIndexOf old (take i ks) → IsIndexOf new (take (i + 1) ks)
-index_more old new ks i x h e a is = subst (IsIndexOf new) (sym (take_more ks i x h ∙ ap (λ (y : Kept). take i ks ++ y ∷ []) (sym e))) (added old new (take i ks) x x.standing refl a is)
+pub index_more : (old new : FieldIndex) (ks : List ViewLease) (i : ℕ) (x : ViewLease) → i < length ks → x ≡ get_or ks i x → IsAdded x.standing old new → IsIndexOf old (take i ks) → IsIndexOf new (take (i + 1) ks)
+index_more old new ks i x h e a is = subst (IsIndexOf new) (sym (take_more ks i x h ∙ ap (λ (y : ViewLease). take i ks ++ y ∷ []) (sym e))) (added old new (take i ks) x x.standing refl a is)
 
 -- ## Base values change
 
-abbrev known : Session → List (List Effect) → Kept → Kept
+abbrev known : Session → List (List Effect) → ViewLease → ViewLease
 known s log k = knowing_all s log k
 
-same_standing : (s : Session) (log : List (List Effect)) (k : Kept) → (known s log k).standing ≡ k.standing
-same_standing s log k = ap (λ (x : Kept). x.standing) (knows s log k.standing k.base k.recalled k.below)
+same_standing : (s : Session) (log : List (List Effect)) (k : ViewLease) → (known s log k).standing ≡ k.standing
+same_standing s log k = ap (λ (x : ViewLease). x.standing) (knows s log k.standing k.base k.recalled k.below)
 
-pub known_found : (s : Session) (log : List (List Effect)) (ks now : List Kept) (keys : List Key) (index : FieldIndex) (least : ℕ) → now ≡ map (knowing_all s log) ks → AreFoundBy ks keys index least → AreFoundBy now keys index least
+pub known_found : (s : Session) (log : List (List Effect)) (ks now : List ViewLease) (keys : List Key) (index : FieldIndex) (least : ℕ) → now ≡ map (knowing_all s log) ks → AreFoundBy ks keys index least → AreFoundBy now keys index least
 known_found s log ks now keys index least is h = record {
   distinct = known_distinct s log ks now is h.distinct;
   numbers = h.numbers ∙ sym (ap (map key_in) is ∙ keys_kept (known s log) ks (λ k. ap number_of (same_standing s log k)));
@@ -152,7 +152,7 @@ known_found s log ks now keys index least is h = record {
 }
 
 -- whether there was memory or not
-pub found_known : (r : Result (Unit {0}) Memory) (s : Session) (log : List (List Effect)) (ks now : List Kept) (keys : List Key) (index : FieldIndex) (least : ℕ) → OnOk r (now ≡ map (knowing_all s log) ks) → OnErr r (now ≡ ks) → AreFoundBy ks keys index least → AreFoundBy now keys index least
+pub found_known : (r : Result (Unit {0}) Memory) (s : Session) (log : List (List Effect)) (ks now : List ViewLease) (keys : List Key) (index : FieldIndex) (least : ℕ) → OnOk r (now ≡ map (knowing_all s log) ks) → OnErr r (now ≡ ks) → AreFoundBy ks keys index least → AreFoundBy now keys index least
 found_known (Ok u) s log ks now keys index least p q h = known_found s log ks now keys index least p h
 found_known (Err m) s log ks now keys index least p q h = still_found ks now keys keys index least q refl h
 
@@ -164,7 +164,7 @@ copied [] (y ∷ ys) z = absurd z
 copied (x ∷ xs) [] z = absurd z
 copied (x ∷ xs) (y ∷ ys) z = ap (λ k. k ∷ ys) z.0 ∙ ap (λ ks. x ∷ ks) (copied xs ys z.1)
 
-pub found_again : (ks now : List Kept) (keys twin : List Key) (old new : FieldIndex) (least : ℕ) → now ≡ ks → AllZip (λ x y. y ≡ x) keys twin → IsIndexOf new now → AreFoundBy ks keys old least → AreFoundBy now twin new least
+pub found_again : (ks now : List ViewLease) (keys twin : List Key) (old new : FieldIndex) (least : ℕ) → now ≡ ks → AllZip (λ x y. y ≡ x) keys twin → IsIndexOf new now → AreFoundBy ks keys old least → AreFoundBy now twin new least
 found_again ks now keys twin old new least e z i h = record {
   distinct = ap are_distinct e ∙ h.distinct;
   numbers = copied keys twin z ∙ h.numbers ∙ ap (map key_in) (sym e);

@@ -5,20 +5,20 @@ use Rattle.std.specs.Option.{option_map_or}
 use Rattle.std.specs.List.{filter, find}
 use Rattle.fs_ident.specs.declared.actor.LeaseNo.{LeaseNo}
 use Rattle.fs_field.specs.Table.{same_no}
-use Rattle.fs_view.specs.declared.kept.Kept.{Kept}
-use Rattle.fs_view.specs.declared.kept.Standing.{Standing}
-use Rattle.fs_view.specs.declared.kept.Standing.TheVariants.{Held, Pinned, Leaving}
-use Rattle.fs_view.specs.Kept.{has_number, is_held, is_leaving, leaving}
+use Rattle.fs_view.specs.declared.view_lease.ViewLease.{ViewLease}
+use Rattle.fs_view.specs.declared.view_lease.Standing.{Standing}
+use Rattle.fs_view.specs.declared.view_lease.Standing.TheVariants.{Held, Pinned, Leaving}
+use Rattle.fs_view.specs.ViewLease.{has_number, is_held, is_leaving, leaving}
 use Rattle.fs_view.specs.View.{View, at_number, given_up, stands, with_leaving, without_lease}
 use Rattle.fs_view.proofs.Changed.{leaving_number}
 
-abbrev left : Kept → Kept
+abbrev left : ViewLease → ViewLease
 left k = record k { standing = leaving k.standing }
 
-numbered : (n : LeaseNo) (k : Kept) → has_number n (left k) ≡ has_number n k
+numbered : (n : LeaseNo) (k : ViewLease) → has_number n (left k) ≡ has_number n k
 numbered n k = ap (λ m. same_no m n) (leaving_number k.standing)
 
-found_left : (n : LeaseNo) (ks : List Kept) → find (has_number n) (at_number n left ks) ≡ option_map left (find (has_number n) ks)
+found_left : (n : LeaseNo) (ks : List ViewLease) → find (has_number n) (at_number n left ks) ≡ option_map left (find (has_number n) ks)
 found_left n [] = refl
 found_left n (k ∷ ks) =
     elim (has_number n k) as (λ b. has_number n k ≡ b → find (has_number n) (cond b (left k) k ∷ at_number n left ks) ≡ option_map left (cond b (Some k) (find (has_number n) ks))) [
@@ -31,19 +31,19 @@ held_goes (Held l) h = refl
 held_goes (Pinned u) h = absurd (cc h)
 held_goes (Leaving l) h = refl
 
-one_goes : (o : Option Kept) → option_map_or (λ (k : Kept). is_held k.standing) o false ≡ true → option_map_or (λ (k : Kept). is_leaving k.standing) (option_map left o) false ≡ true
+one_goes : (o : Option ViewLease) → option_map_or (λ (k : ViewLease). is_held k.standing) o false ≡ true → option_map_or (λ (k : ViewLease). is_leaving k.standing) (option_map left o) false ≡ true
 one_goes None h = absurd (cc h)
 one_goes (Some k) h = held_goes k.standing h
 
 -- a held lease goes back once it is to
-then_leaving : (n : LeaseNo) (ks : List Kept) → stands is_held n ks ≡ true → stands is_leaving n (at_number n left ks) ≡ true
-then_leaving n ks h = ap (λ (o : Option Kept). option_map_or (λ (k : Kept). is_leaving k.standing) o false) (found_left n ks) ∙ one_goes (find (has_number n) ks) h
+then_leaving : (n : LeaseNo) (ks : List ViewLease) → stands is_held n ks ≡ true → stands is_leaving n (at_number n left ks) ≡ true
+then_leaving n ks h = ap (λ (o : Option ViewLease). option_map_or (λ (k : ViewLease). is_leaving k.standing) o false) (found_left n ks) ∙ one_goes (find (has_number n) ks) h
 
 -- without it the leases are those that they were without it before
-then_gone : (n : LeaseNo) (ks : List Kept) → filter (λ k. not (has_number n k)) (at_number n left ks) ≡ filter (λ k. not (has_number n k)) ks
+then_gone : (n : LeaseNo) (ks : List ViewLease) → filter (λ k. not (has_number n k)) (at_number n left ks) ≡ filter (λ k. not (has_number n k)) ks
 then_gone n [] = refl
 then_gone n (k ∷ ks) =
-    let others : List Kept → List Kept = filter (λ j. not (has_number n j)) in
+    let others : List ViewLease → List ViewLease = filter (λ j. not (has_number n j)) in
     elim (has_number n k) as (λ b. has_number n k ≡ b → others (cond b (left k) k ∷ at_number n left ks) ≡ cond (not b) (k ∷ others ks) (others ks)) [
       | true ↦ λ e. ap (λ b. cond (not b) (left k ∷ others (at_number n left ks)) (others (at_number n left ks))) (numbered n k ∙ e) ∙ then_gone n ks
       | false ↦ λ e. ap (λ b. cond (not b) (k ∷ others (at_number n left ks)) (others (at_number n left ks))) e ∙ ap (λ rest. k ∷ rest) (then_gone n ks)

@@ -16,10 +16,10 @@ use Rattle.fs_field.specs.declared.lease_kind.LeaseKind.TheVariants.{Exclusive}
 use Rattle.fs_field.specs.Field.{file_of, same_field}
 use Rattle.fs_field.specs.Table.{is_parent}
 use Rattle.fs_lease.specs.Lease.{Lease}
-use Rattle.fs_view.specs.declared.kept.Kept.{Kept}
-use Rattle.fs_view.specs.declared.kept.Standing.{Standing}
-use Rattle.fs_view.specs.declared.kept.Standing.TheVariants.{Held, Pinned, Leaving}
-use Rattle.fs_view.specs.Kept.{field_in, file_in, is_enough, is_life, is_pending, is_unused, makes_known, offers, serves}
+use Rattle.fs_view.specs.declared.view_lease.ViewLease.{ViewLease}
+use Rattle.fs_view.specs.declared.view_lease.Standing.{Standing}
+use Rattle.fs_view.specs.declared.view_lease.Standing.TheVariants.{Held, Pinned, Leaving}
+use Rattle.fs_view.specs.ViewLease.{field_in, file_in, is_enough, is_life, is_pending, is_unused, makes_known, offers, serves}
 use Rattle.fs_view.specs.Laws.{IsOffered, IsUsedByBest, NoneIsOffered}
 use Rattle.fs_view.specs.View.{View, fresh, offered, taken, taken_fresh}
 use Rattle.fs_view.proofs.Best.{none_taken, taken_best}
@@ -78,13 +78,13 @@ serving_field now (Leaving l) h = absurd (cc)
 -- ## Of a view
 
 -- the lease that offers an identifier
-pub record IsTheOffer (v : View) (now : ℕ) (dir : List ℕ) (k : Kept) : Type 0 where
+pub record IsTheOffer (v : View) (now : ℕ) (dir : List ℕ) (k : ViewLease) : Type 0 where
   pub among : In k v.leases
   pub below : is_parent dir k.below ≡ true
   pub serving : serves now (Life (file_in k.standing)) Exclusive k.standing ≡ true
   pub unmade : is_pending (file_in k.standing) v.pending ≡ false
 
-pub the_offer : (v : View) (now : ℕ) (dir : List ℕ) (k : Kept) → offered v now dir ≡ Some k → IsTheOffer v now dir k
+pub the_offer : (v : View) (now : ℕ) (dir : List ℕ) (k : ViewLease) → offered v now dir ≡ Some k → IsTheOffer v now dir k
 unfolding offered
 the_offer v now dir k h =
     let q = found (offers now dir v.pending) v.leases k h in
@@ -103,7 +103,7 @@ is_parent_of dir o e = ap (is_parent dir) e ∙ same_self dir
 pub offered_is : (v : View) (now : ℕ) (dir id : List ℕ) → fresh v now dir ≡ Some id → IsOffered v now dir id
 offered_is v now dir id h = by (offered v now dir) refl h
   where
-    by : (o : Option Kept) → offered v now dir ≡ o → option_map (λ (k : Kept). file_in k.standing) o ≡ Some id → IsOffered v now dir id
+    by : (o : Option ViewLease) → offered v now dir ≡ o → option_map (λ (k : ViewLease). file_in k.standing) o ≡ Some id → IsOffered v now dir id
     by None e g = absurd (cc)
     by (Some k) e g =
         let q : IsTheOffer v now dir k = the_offer v now dir k e in
@@ -126,7 +126,7 @@ none_offered v now dir h k i below serving =
     (sym (ap (λ b. b && (serves now (Life (file_in k.standing)) Exclusive k.standing && not (is_pending (file_in k.standing) v.pending))) (is_parent_of dir k.below below)
     ∙ ap (λ b. b && not (is_pending (file_in k.standing) v.pending)) serving) ∙ fails)
   where
-    absent : (o : Option Kept) → option_map (λ (k : Kept). file_in k.standing) o ≡ None → o ≡ None
+    absent : (o : Option ViewLease) → option_map (λ (k : ViewLease). file_in k.standing) o ≡ None → o ≡ None
     absent None e = refl
     absent (Some x) e = absurd (cc)
 
@@ -138,36 +138,36 @@ none_offered v now dir h k i below serving =
 pub used_by_best : (v : View) (now : ℕ) (dir id : List ℕ) → fresh v now dir ≡ Some id → IsUsedByBest v now dir id
 used_by_best v now dir id h = by (taken v now (Life id) Exclusive) refl
   where
-    by : (o : Option Kept) → taken v now (Life id) Exclusive ≡ o → IsUsedByBest v now dir id
+    by : (o : Option ViewLease) → taken v now (Life id) Exclusive ≡ o → IsUsedByBest v now dir id
     by (Some k) e = record { lease = k; taken = ap (option_and_then (λ (id : List ℕ). taken v now (Life id) Exclusive)) h ∙ e; best = taken_best v now (Life id) Exclusive k e }
     by None e =
         let q : IsOffered v now dir id = offered_is v now dir id h in
-        let none = none_any (λ (k : Kept). serves now (Life id) Exclusive k.standing) v.leases (none_taken v now (Life id) Exclusive e) q.lease q.among in
+        let none = none_any (λ (k : ViewLease). serves now (Life id) Exclusive k.standing) v.leases (none_taken v now (Life id) Exclusive e) q.lease q.among in
         let wrong : true ≡ false = sym q.serving ∙ none in
         absurd (cc)
 
 -- the lease that is used, by the field of the one that offers
-abbrev by_field : View → ℕ → Option Kept → Option Kept
-by_field v now o = option_and_then (λ (k : Kept). option_and_then (λ (f : Field). taken v now f Exclusive) (field_in k.standing)) o
+abbrev by_field : View → ℕ → Option ViewLease → Option ViewLease
+by_field v now o = option_and_then (λ (k : ViewLease). option_and_then (λ (f : Field). taken v now f Exclusive) (field_in k.standing)) o
 
 taken_by_field : (v : View) (now : ℕ) (dir : List ℕ) → taken_fresh v now dir ≡ by_field v now (offered v now dir)
 taken_by_field v now dir = by (offered v now dir) refl
   where
-    by : (o : Option Kept) → offered v now dir ≡ o → option_and_then (λ (id : List ℕ). taken v now (Life id) Exclusive) (option_map (λ (k : Kept). file_in k.standing) o) ≡ by_field v now o
+    by : (o : Option ViewLease) → offered v now dir ≡ o → option_and_then (λ (id : List ℕ). taken v now (Life id) Exclusive) (option_map (λ (k : ViewLease). file_in k.standing) o) ≡ by_field v now o
     by None e = refl
     by (Some k) e = let q : IsTheOffer v now dir k = the_offer v now dir k e in sym (ap (option_and_then (λ (f : Field). taken v now f Exclusive)) (serving_field now k.standing q.serving))
 
 pub taken_for_none : (v : View) (now : ℕ) (dir : List ℕ) → None ≡ offered v now dir → None ≡ taken_fresh v now dir
 taken_for_none v now dir h = ap (by_field v now) h ∙ sym (taken_by_field v now dir)
 
-pub taken_off_field : (v : View) (now : ℕ) (dir : List ℕ) (k : Kept) → Some k ≡ offered v now dir → None ≡ field_in k.standing → None ≡ taken_fresh v now dir
+pub taken_off_field : (v : View) (now : ℕ) (dir : List ℕ) (k : ViewLease) → Some k ≡ offered v now dir → None ≡ field_in k.standing → None ≡ taken_fresh v now dir
 taken_off_field v now dir k h e = ap (option_and_then (λ (f : Field). taken v now f Exclusive)) e ∙ ap (by_field v now) h ∙ sym (taken_by_field v now dir)
 
-pub taken_on_field : (v : View) (now : ℕ) (dir : List ℕ) (k : Kept) (f : Field) → Some k ≡ offered v now dir → Some f ≡ field_in k.standing → taken v now f Exclusive ≡ taken_fresh v now dir
+pub taken_on_field : (v : View) (now : ℕ) (dir : List ℕ) (k : ViewLease) (f : Field) → Some k ≡ offered v now dir → Some f ≡ field_in k.standing → taken v now f Exclusive ≡ taken_fresh v now dir
 taken_on_field v now dir k f h e = ap (option_and_then (λ (f : Field). taken v now f Exclusive)) e ∙ ap (by_field v now) h ∙ sym (taken_by_field v now dir)
 
 -- what is used is taken on a life
-pub fresh_taken : (v : View) (now : ℕ) (dir : List ℕ) (k : Kept) → taken_fresh v now dir ≡ Some k → (id : List ℕ) × (taken v now (Life id) Exclusive ≡ Some k)
+pub fresh_taken : (v : View) (now : ℕ) (dir : List ℕ) (k : ViewLease) → taken_fresh v now dir ≡ Some k → (id : List ℕ) × (taken v now (Life id) Exclusive ≡ Some k)
 fresh_taken v now dir k h = by (fresh v now dir) h
   where
     by : (o : Option (List ℕ)) → option_and_then (λ (id : List ℕ). taken v now (Life id) Exclusive) o ≡ Some k → (id : List ℕ) × (taken v now (Life id) Exclusive ≡ Some k)

@@ -9,24 +9,24 @@ use Rattle.fs_field.specs.declared.effect.Effect.{Effect}
 use Rattle.fs_field.specs.declared.used.Use.{Use}
 use Rattle.fs_field.specs.declared.value.Value.{Value}
 use Rattle.fs_lease.specs.Lease.{InUse}
-use Rattle.fs_view.specs.declared.kept.Kept.{Kept}
-use Rattle.fs_view.specs.declared.kept.Standing.{Standing}
-use Rattle.fs_view.specs.declared.kept.Standing.TheVariants.{Held, Pinned, Leaving}
+use Rattle.fs_view.specs.declared.view_lease.ViewLease.{ViewLease}
+use Rattle.fs_view.specs.declared.view_lease.Standing.{Standing}
+use Rattle.fs_view.specs.declared.view_lease.Standing.TheVariants.{Held, Pinned, Leaving}
 use Rattle.fs_view.specs.declared.new_lease.NewLease.{NewLease}
-use Rattle.fs_view.specs.Kept.{has_number, unpinned, is_live}
+use Rattle.fs_view.specs.ViewLease.{has_number, unpinned, is_live}
 use Rattle.fs_view.specs.View.{View, admitted_front, base_after, first_admitted, is_made_in, knowing, kept_new, lapsed_at, unpinned_all, unpinned_at, with_first_admitted, with_grants, without_pins}
 use Rattle.fs_view.proofs.Bases.{kept, viewed}
 
 -- ## Leases lapse before or after entries are admitted
 
-live_known : (now : ℕ) (s : Session) (es : List Effect) (ks : List Kept) → filter (is_live now) (map (knowing s es) ks) ≡ map (knowing s es) (filter (is_live now) ks)
+live_known : (now : ℕ) (s : Session) (es : List Effect) (ks : List ViewLease) → filter (is_live now) (map (knowing s es) ks) ≡ map (knowing s es) (filter (is_live now) ks)
 live_known now s es [] = refl
 live_known now s es (k ∷ ks) = elim (is_live now k) as (λ b. cond b (knowing s es k ∷ filter (is_live now) (map (knowing s es) ks)) (filter (is_live now) (map (knowing s es) ks)) ≡ map (knowing s es) (cond b (k ∷ filter (is_live now) ks) (filter (is_live now) ks))) [
   | true ↦ ap (λ rest. knowing s es k ∷ rest) (live_known now s es ks)
   | false ↦ live_known now s es ks
 ]
 
-lapse_first : (now : ℕ) (s : Session) (ks : List Kept) (log : List (List Effect)) → lapsed_at now (first_admitted log (viewed s ks log)) ≡ first_admitted log (viewed s (filter (is_live now) ks) log)
+lapse_first : (now : ℕ) (s : Session) (ks : List ViewLease) (log : List (List Effect)) → lapsed_at now (first_admitted log (viewed s ks log)) ≡ first_admitted log (viewed s (filter (is_live now) ks) log)
 lapse_first now s ks [] = refl
 lapse_first now s ks (es ∷ log) = ap (λ xs. viewed s xs log) (live_known now s es ks)
 
@@ -54,21 +54,21 @@ same_made es (Held l) = refl
 same_made es (Pinned u) = free_made es (u.entries == 1) u
 same_made es (Leaving l) = refl
 
-known_free : (s : Session) (es : List Effect) (b : Bool) (k : Kept) → knowing s es (cond b (record k { standing = unpinned k.standing }) k) ≡ cond b (record (knowing s es k) { standing = unpinned k.standing }) (knowing s es k)
+known_free : (s : Session) (es : List Effect) (b : Bool) (k : ViewLease) → knowing s es (cond b (record k { standing = unpinned k.standing }) k) ≡ cond b (record (knowing s es k) { standing = unpinned k.standing }) (knowing s es k)
 known_free s es true k =
     ap (λ (v : Value). kept (unpinned k.standing) v k.recalled (cond (is_made_in es (unpinned k.standing)) None k.below)) (same_base s es k.base k.standing)
     ∙ ap (λ (b : Bool). kept (unpinned k.standing) (base_after s es k.standing k.base) k.recalled (cond b None k.below)) (same_made es k.standing)
 known_free s es false k = refl
 
-known_at : (s : Session) (es : List Effect) (number : LeaseNo) (ks : List Kept) → map (knowing s es) (unpinned_at number ks) ≡ unpinned_at number (map (knowing s es) ks)
+known_at : (s : Session) (es : List Effect) (number : LeaseNo) (ks : List ViewLease) → map (knowing s es) (unpinned_at number ks) ≡ unpinned_at number (map (knowing s es) ks)
 known_at s es number [] = refl
-known_at s es number (k ∷ ks) = ap (λ (x : Kept). x ∷ map (knowing s es) (unpinned_at number ks)) (known_free s es (has_number number k) k) ∙ ap (λ rest. cond (has_number number k) (record (knowing s es k) { standing = unpinned k.standing }) (knowing s es k) ∷ rest) (known_at s es number ks)
+known_at s es number (k ∷ ks) = ap (λ (x : ViewLease). x ∷ map (knowing s es) (unpinned_at number ks)) (known_free s es (has_number number k) k) ∙ ap (λ rest. cond (has_number number k) (record (knowing s es k) { standing = unpinned k.standing }) (knowing s es k) ∷ rest) (known_at s es number ks)
 
-known_all : (s : Session) (es : List Effect) (uses : List Use) (ks : List Kept) → map (knowing s es) (unpinned_all uses ks) ≡ unpinned_all uses (map (knowing s es) ks)
+known_all : (s : Session) (es : List Effect) (uses : List Use) (ks : List ViewLease) → map (knowing s es) (unpinned_all uses ks) ≡ unpinned_all uses (map (knowing s es) ks)
 known_all s es [] ks = refl
 known_all s es (u ∷ us) ks = known_all s es us (unpinned_at u.no ks) ∙ ap (unpinned_all us) (known_at s es u.no ks)
 
-free_first : (uses : List Use) (s : Session) (ks : List Kept) (log : List (List Effect)) → first_admitted log (viewed s (unpinned_all uses ks) log) ≡ without_pins uses (first_admitted log (viewed s ks log))
+free_first : (uses : List Use) (s : Session) (ks : List ViewLease) (log : List (List Effect)) → first_admitted log (viewed s (unpinned_all uses ks) log) ≡ without_pins uses (first_admitted log (viewed s ks log))
 free_first uses s ks [] = refl
 free_first uses s ks (es ∷ log) = ap (λ xs. viewed s xs log) (known_all s es uses ks)
 

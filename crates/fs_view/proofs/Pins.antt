@@ -18,10 +18,10 @@ use Rattle.fs_field.specs.declared.used.Use.{Use}
 use Rattle.fs_field.specs.Table.{same_no}
 use Rattle.fs_field.proofs.SameNo.{same_no_symm, same_no_self}
 use Rattle.fs_model.specs.declared.op.Op.{Op}
-use Rattle.fs_view.specs.declared.kept.Kept.{Kept}
-use Rattle.fs_view.specs.declared.kept.Standing.{Standing}
-use Rattle.fs_view.specs.declared.kept.Standing.TheVariants.{Held, Pinned, Leaving}
-use Rattle.fs_view.specs.Kept.{number_of, has_number, entries_of, pinned, takes_pin, use_of, use_in, serves, is_better}
+use Rattle.fs_view.specs.declared.view_lease.ViewLease.{ViewLease}
+use Rattle.fs_view.specs.declared.view_lease.Standing.{Standing}
+use Rattle.fs_view.specs.declared.view_lease.Standing.TheVariants.{Held, Pinned, Leaving}
+use Rattle.fs_view.specs.ViewLease.{number_of, has_number, entries_of, pinned, takes_pin, use_of, use_in, serves, is_better}
 use Rattle.fs_view.specs.View.{View, are_distinct, stands, is_in_hand, pinned_at, can_pin_all, taken, taken_fresh, taken_from, item_use, uses_in, walk_in}
 use Rattle.fs_view.specs.Laws.{have_room}
 use Rattle.fs_view.proofs.Changed.{pinned_number}
@@ -29,7 +29,7 @@ use Rattle.fs_view.proofs.Offering.{fresh_taken}
 
 -- ## A pin changes no number, and takes no lease out of hand
 
-abbrev pub with_pin : LeaseNo → Kept → Kept
+abbrev pub with_pin : LeaseNo → ViewLease → ViewLease
 with_pin number k = cond (has_number number k) (record k { standing = pinned k.standing }) k
 
 pinned_hand : (s : Standing) → is_in_hand (pinned s) ≡ is_in_hand s
@@ -37,34 +37,34 @@ pinned_hand (Held l) = refl
 pinned_hand (Pinned u) = refl
 pinned_hand (Leaving l) = refl
 
-number_by : (b : Bool) (k : Kept) → number_of (cond b (record k { standing = pinned k.standing }) k).standing ≡ number_of k.standing
+number_by : (b : Bool) (k : ViewLease) → number_of (cond b (record k { standing = pinned k.standing }) k).standing ≡ number_of k.standing
 number_by true k = pinned_number k.standing
 number_by false k = refl
 
-hand_by : (b : Bool) (k : Kept) → is_in_hand (cond b (record k { standing = pinned k.standing }) k).standing ≡ is_in_hand k.standing
+hand_by : (b : Bool) (k : ViewLease) → is_in_hand (cond b (record k { standing = pinned k.standing }) k).standing ≡ is_in_hand k.standing
 hand_by true k = pinned_hand k.standing
 hand_by false k = refl
 
-mapped : (b : Bool) (u : LeaseNo) (k : Kept) (o : Option Kept) → option_map (with_pin u) (cond b (Some k) o) ≡ cond b (Some (with_pin u k)) (option_map (with_pin u) o)
+mapped : (b : Bool) (u : LeaseNo) (k : ViewLease) (o : Option ViewLease) → option_map (with_pin u) (cond b (Some k) o) ≡ cond b (Some (with_pin u k)) (option_map (with_pin u) o)
 mapped true u k o = refl
 mapped false u k o = refl
 
-pub find_pinned : (n u : LeaseNo) (ks : List Kept) → find (has_number n) (pinned_at u ks) ≡ option_map (with_pin u) (find (has_number n) ks)
+pub find_pinned : (n u : LeaseNo) (ks : List ViewLease) → find (has_number n) (pinned_at u ks) ≡ option_map (with_pin u) (find (has_number n) ks)
 find_pinned n u [] = refl
 find_pinned n u (k ∷ ks) =
     ap (λ (x : LeaseNo). cond (same_no x n) (Some (with_pin u k)) (find (has_number n) (pinned_at u ks))) (number_by (has_number u k) k)
     ∙ (ap (cond (has_number n k) (Some (with_pin u k))) (find_pinned n u ks) ∙ sym (mapped (has_number n k) u k (find (has_number n) ks)))
 
-hand_mapped : (u : LeaseNo) (o : Option Kept) → option_map_or (λ (k : Kept). is_in_hand k.standing) (option_map (with_pin u) o) false ≡ option_map_or (λ (k : Kept). is_in_hand k.standing) o false
+hand_mapped : (u : LeaseNo) (o : Option ViewLease) → option_map_or (λ (k : ViewLease). is_in_hand k.standing) (option_map (with_pin u) o) false ≡ option_map_or (λ (k : ViewLease). is_in_hand k.standing) o false
 hand_mapped u None = refl
 hand_mapped u (Some k) = hand_by (has_number u k) k
 
-hand_stays : (n u : LeaseNo) (ks : List Kept) → stands is_in_hand n (pinned_at u ks) ≡ stands is_in_hand n ks
-hand_stays n u ks = ap (λ (o : Option Kept). option_map_or (λ (k : Kept). is_in_hand k.standing) o false) (find_pinned n u ks) ∙ hand_mapped u (find (has_number n) ks)
+hand_stays : (n u : LeaseNo) (ks : List ViewLease) → stands is_in_hand n (pinned_at u ks) ≡ stands is_in_hand n ks
+hand_stays n u ks = ap (λ (o : Option ViewLease). option_map_or (λ (k : ViewLease). is_in_hand k.standing) o false) (find_pinned n u ks) ∙ hand_mapped u (find (has_number n) ks)
 
 -- ## Room
 
-room_by : (b : Bool) (n : ℕ) (k : Kept) → nat_le (entries_of k.standing + suc n) 0xffff_ffff_ffff_ffff ≡ true → nat_le (entries_of (cond b (record k { standing = pinned k.standing }) k).standing + n) 0xffff_ffff_ffff_ffff ≡ true
+room_by : (b : Bool) (n : ℕ) (k : ViewLease) → nat_le (entries_of k.standing + suc n) 0xffff_ffff_ffff_ffff ≡ true → nat_le (entries_of (cond b (record k { standing = pinned k.standing }) k).standing + n) 0xffff_ffff_ffff_ffff ≡ true
 room_by false n k h = less (entries_of k.standing) n h
   where
     less : (e n : ℕ) → nat_le (e + suc n) 0xffff_ffff_ffff_ffff ≡ true → nat_le (e + n) 0xffff_ffff_ffff_ffff ≡ true
@@ -76,7 +76,7 @@ room_by true n k h = pinned_room k.standing n h
     pinned_room (Pinned u) n h = grind (arith, nat_tests)
     pinned_room (Leaving l) n h = grind (arith, nat_tests)
 
-room_stays : (n : ℕ) (u : LeaseNo) (ks : List Kept) → have_room (suc n) ks ≡ true → have_room n (pinned_at u ks) ≡ true
+room_stays : (n : ℕ) (u : LeaseNo) (ks : List ViewLease) → have_room (suc n) ks ≡ true → have_room n (pinned_at u ks) ≡ true
 room_stays n u [] h = refl
 room_stays n u (k ∷ ks) h =
     let q : (nat_le (entries_of k.standing + suc n) 0xffff_ffff_ffff_ffff ≡ true) × (have_room (suc n) ks ≡ true) = both _ (have_room (suc n) ks) h in
@@ -87,26 +87,26 @@ takes (Held l) n i h = refl
 takes (Pinned u) n i h = grind (arith, nat_tests)
 takes (Leaving l) n i h = absurd (cc)
 
-hand_takes : (number : LeaseNo) (n : ℕ) (ks : List Kept) → stands is_in_hand number ks ≡ true → have_room (suc n) ks ≡ true → stands takes_pin number ks ≡ true
+hand_takes : (number : LeaseNo) (n : ℕ) (ks : List ViewLease) → stands is_in_hand number ks ≡ true → have_room (suc n) ks ≡ true → stands takes_pin number ks ≡ true
 hand_takes number n [] i h = absurd (cc)
 hand_takes number n (k ∷ ks) i h =
     let q : (nat_le (entries_of k.standing + suc n) 0xffff_ffff_ffff_ffff ≡ true) × (have_room (suc n) ks ≡ true) = both _ (have_room (suc n) ks) h in
-    elim (has_number number k) as (λ b. option_map_or (λ (j : Kept). is_in_hand j.standing) (cond b (Some k) (find (has_number number) ks)) false ≡ true → option_map_or (λ (j : Kept). takes_pin j.standing) (cond b (Some k) (find (has_number number) ks)) false ≡ true) [
+    elim (has_number number k) as (λ b. option_map_or (λ (j : ViewLease). is_in_hand j.standing) (cond b (Some k) (find (has_number number) ks)) false ≡ true → option_map_or (λ (j : ViewLease). takes_pin j.standing) (cond b (Some k) (find (has_number number) ks)) false ≡ true) [
       | true ↦ λ g. takes k.standing n g q.0
       | false ↦ λ g. hand_takes number n ks g q.1
     ] i
 
 -- each of the uses is of a lease in hand
-abbrev AreInHand : List Use → List Kept → Type 0
+abbrev AreInHand : List Use → List ViewLease → Type 0
 AreInHand uses ks = list_all (λ (u : Use). stands is_in_hand u.no ks) uses ≡ true
 
-in_hand_still : (number : LeaseNo) (uses : List Use) (ks : List Kept) → AreInHand uses ks → AreInHand uses (pinned_at number ks)
+in_hand_still : (number : LeaseNo) (uses : List Use) (ks : List ViewLease) → AreInHand uses ks → AreInHand uses (pinned_at number ks)
 in_hand_still number [] ks h = refl
 in_hand_still number (u ∷ us) ks h =
     let q : (stands is_in_hand u.no ks ≡ true) × AreInHand us ks = both _ _ h in
     joined _ _ (hand_stays u.no number ks ∙ q.0) (in_hand_still number us ks q.1)
 
-all_pin : (uses : List Use) (ks : List Kept) → AreInHand uses ks → have_room (length uses) ks ≡ true → can_pin_all uses ks ≡ true
+all_pin : (uses : List Use) (ks : List ViewLease) → AreInHand uses ks → have_room (length uses) ks ≡ true → can_pin_all uses ks ≡ true
 all_pin [] ks i h = refl
 all_pin (u ∷ us) ks i h =
     let q : (stands is_in_hand u.no ks ≡ true) × AreInHand us ks = both _ _ i in
@@ -114,23 +114,23 @@ all_pin (u ∷ us) ks i h =
 
 -- ## The leases that are used are in hand
 
-any_there : (n : LeaseNo) (k : Kept) (ks : List Kept) → In k ks → same_no (number_of k.standing) n ≡ true → list_any (has_number n) ks ≡ true
+any_there : (n : LeaseNo) (k : ViewLease) (ks : List ViewLease) → In k ks → same_no (number_of k.standing) n ≡ true → list_any (has_number n) ks ≡ true
 any_there n k [] i h = absurd i
 any_there n k (j ∷ ks) i h = elim i [
-  | inl e ↦ ap (λ b. b || list_any (has_number n) ks) (ap (λ (x : Kept). has_number n x) (sym e) ∙ h)
+  | inl e ↦ ap (λ b. b || list_any (has_number n) ks) (ap (λ (x : ViewLease). has_number n x) (sym e) ∙ h)
   | inr r ↦ ap (λ b. has_number n j || b) (any_there n k ks r h) ∙ grind (arith, nat_tests)
 ]
 
-pub stands_there : (test : Standing → Bool) (k : Kept) (ks : List Kept) → In k ks → are_distinct ks ≡ true → test k.standing ≡ true → stands test (number_of k.standing) ks ≡ true
+pub stands_there : (test : Standing → Bool) (k : ViewLease) (ks : List ViewLease) → In k ks → are_distinct ks ≡ true → test k.standing ≡ true → stands test (number_of k.standing) ks ≡ true
 stands_there test k [] i d h = absurd i
 stands_there test k (j ∷ ks) i d h =
     let q : (not (list_any (has_number (number_of j.standing)) ks) ≡ true) × (are_distinct ks ≡ true) = both _ (are_distinct ks) d in
     elim i [
       | inl e ↦
-          let here : has_number (number_of k.standing) j ≡ true = ap (λ (x : Kept). has_number (number_of k.standing) x) (sym e) ∙ same_no_self (number_of k.standing) in
-          ap (λ b. option_map_or (λ (x : Kept). test x.standing) (cond b (Some j) (find (has_number (number_of k.standing)) ks)) false) here ∙ (ap (λ (x : Kept). test x.standing) (sym e) ∙ h)
+          let here : has_number (number_of k.standing) j ≡ true = ap (λ (x : ViewLease). has_number (number_of k.standing) x) (sym e) ∙ same_no_self (number_of k.standing) in
+          ap (λ b. option_map_or (λ (x : ViewLease). test x.standing) (cond b (Some j) (find (has_number (number_of k.standing)) ks)) false) here ∙ (ap (λ (x : ViewLease). test x.standing) (sym e) ∙ h)
       | inr r ↦
-          elim (has_number (number_of k.standing) j) as (λ b. has_number (number_of k.standing) j ≡ b → option_map_or (λ (x : Kept). test x.standing) (cond b (Some j) (find (has_number (number_of k.standing)) ks)) false ≡ true) [
+          elim (has_number (number_of k.standing) j) as (λ b. has_number (number_of k.standing) j ≡ b → option_map_or (λ (x : ViewLease). test x.standing) (cond b (Some j) (find (has_number (number_of k.standing)) ks)) false ≡ true) [
             | true ↦ λ t.
                 let any : list_any (has_number (number_of j.standing)) ks ≡ true = any_there (number_of j.standing) k ks r (same_no_symm (number_of k.standing) (number_of j.standing) ∙ t) in
                 let none : list_any (has_number (number_of j.standing)) ks ≡ false = not-true _ q.0 in
@@ -139,7 +139,7 @@ stands_there test k (j ∷ ks) i d h =
           ] refl
     ]
 
-pub found_in : (test : Kept → Bool) (ks : List Kept) (k : Kept) → find test ks ≡ Some k → In k ks
+pub found_in : (test : ViewLease → Bool) (ks : List ViewLease) (k : ViewLease) → find test ks ≡ Some k → In k ks
 found_in test [] k h = absurd (cc)
 found_in test (j ∷ ks) k h =
     elim (test j) as (λ b. cond b (Some j) (find test ks) ≡ Some k → In k (j ∷ ks)) [
@@ -147,7 +147,7 @@ found_in test (j ∷ ks) k h =
       | false ↦ λ g. inr (found_in test ks k g)
     ] h
 
-taken_in : (now : ℕ) (field : Field) (kind : LeaseKind) (best : Option Kept) (ks : List Kept) (k : Kept) → taken_from now field kind best ks ≡ Some k → (best ≡ Some k) ⊎ In k ks
+taken_in : (now : ℕ) (field : Field) (kind : LeaseKind) (best : Option ViewLease) (ks : List ViewLease) (k : ViewLease) → taken_from now field kind best ks ≡ Some k → (best ≡ Some k) ⊎ In k ks
 taken_in now field kind best [] k h = inl h
 taken_in now field kind best (j ∷ ks) k h =
     elim (serves now field kind j.standing && is_better j best) as (λ b. taken_from now field kind (cond b (Some j) best) ks ≡ Some k → (best ≡ Some k) ⊎ In k (j ∷ ks)) [
@@ -164,16 +164,16 @@ used_by (Held l) u e = let q : use_of l ≡ u = cc in (refl, sym (ap (λ (x : Us
 used_by (Pinned p) u e = let q : use_of p.lease ≡ u = cc in (refl, sym (ap (λ (x : Use). x.no) q))
 used_by (Leaving l) u e = absurd (cc)
 
-hand_from : (ks : List Kept) (o : Option Kept) (u : Use) → ((k : Kept) → o ≡ Some k → In k ks) → are_distinct ks ≡ true → option_and_then (λ (k : Kept). use_in k.standing) o ≡ Some u → stands is_in_hand u.no ks ≡ true
+hand_from : (ks : List ViewLease) (o : Option ViewLease) (u : Use) → ((k : ViewLease) → o ≡ Some k → In k ks) → are_distinct ks ≡ true → option_and_then (λ (k : ViewLease). use_in k.standing) o ≡ Some u → stands is_in_hand u.no ks ≡ true
 hand_from ks None u within d e = absurd (cc)
 hand_from ks (Some k) u within d e =
     let q : (is_in_hand k.standing ≡ true) × (u.no ≡ number_of k.standing) = used_by k.standing u e in
     ap (λ (n : LeaseNo). stands is_in_hand n ks) q.1 ∙ stands_there is_in_hand k ks (within k refl) d q.0
 
-pub from_none : (now : ℕ) (field : Field) (kind : LeaseKind) (ks : List Kept) (k : Kept) → taken_from now field kind None ks ≡ Some k → In k ks
+pub from_none : (now : ℕ) (field : Field) (kind : LeaseKind) (ks : List ViewLease) (k : ViewLease) → taken_from now field kind None ks ≡ Some k → In k ks
 from_none now field kind ks k h = elim (taken_in now field kind None ks k h) [ inl e ↦ absurd (cc) | inr r ↦ r ]
 
-taken_there : (v : View) (now : ℕ) (field : Field) (kind : LeaseKind) (k : Kept) → taken v now field kind ≡ Some k → In k v.leases
+taken_there : (v : View) (now : ℕ) (field : Field) (kind : LeaseKind) (k : ViewLease) → taken v now field kind ≡ Some k → In k v.leases
 unfolding taken
 taken_there v now field kind k h = from_none now field kind v.leases k h
 

@@ -30,7 +30,7 @@ use Rattle.fs_record.specs.Effects.{effects_of}
 use Rattle.fs_record.specs.Records.{RecordMap, node_of}
 use Rattle.fs_record.specs.ValueOf.{value_at, value_of}
 use Rattle.fs_view.specs.Gone.{AlikeButGone, GoneIsUnread, GoneStays, IsGone, IsUnread, known_with}
-use Rattle.fs_view.specs.Kept.{makes}
+use Rattle.fs_view.specs.ViewLease.{makes}
 use Rattle.fs_view.specs.Script.{Script, accesses, answer, ask, ask_child, ask_delete, ask_deleted, ask_info, ask_movable, ask_moved, ask_names, ask_new_place, ask_old_place, ask_other_dir, ask_others, ask_own, ask_place, ask_rename, ask_selves, ask_size, ask_unless_there, ask_unused, close_with, denied, give, in_use, modes_off, modes_on, new_file, no_dir, no_dir_to, no_file, no_name, no_set, not_empty, open_free, open_with, script_of, taken_name, unless}
 use Rattle.fs_view.specs.Told.{child_told, is_other_told, life_told, modes_listed, modes_under, names_told, own_conflicts, own_told}
 use Rattle.fs_view.specs.View.{value_after_all}

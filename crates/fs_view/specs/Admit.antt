@@ -4,14 +4,14 @@ use Rattle.fs_ident.specs.declared.actor.Session.{Session}
 use Rattle.fs_field.specs.declared.effect.Effect.{Effect}
 use Rattle.fs_field.specs.declared.value.Value.{Value}
 use Rattle.fs_field.specs.Field.{file_of}
-use Rattle.fs_view.specs.declared.kept.Kept.{Kept}
-use Rattle.fs_view.specs.declared.kept.Standing.{Standing}
-use Rattle.fs_view.specs.declared.kept.Standing.TheVariants.{Held, Pinned, Leaving}
-use Rattle.fs_view.specs.Kept.{is_pending}
+use Rattle.fs_view.specs.declared.view_lease.ViewLease.{ViewLease}
+use Rattle.fs_view.specs.declared.view_lease.Standing.{Standing}
+use Rattle.fs_view.specs.declared.view_lease.Standing.TheVariants.{Held, Pinned, Leaving}
+use Rattle.fs_view.specs.ViewLease.{is_pending}
 use Rattle.fs_view.specs.View.{knowing, value_after_log}
 
 -- the effects of these entries are known to be admitted
-abbrev pub knowing_all : Session → List (List Effect) → Kept → Kept
+abbrev pub knowing_all : Session → List (List Effect) → ViewLease → ViewLease
 knowing_all s [] k = k
 knowing_all s (es ∷ log) k = knowing_all s log (knowing s es k)
 
@@ -32,11 +32,11 @@ abbrev pub below_after_log : List (List Effect) → Standing → Option (List �
 below_after_log log s below = if is_made_by log s then None else below
 
 -- the lease with the new base value, where there is one
-abbrev pub with_base : List (List Effect) → Kept → Option Value → Kept
+abbrev pub with_base : List (List Effect) → ViewLease → Option Value → ViewLease
 with_base log k base = record k { base = unwrap_or base k.base; below = below_after_log log k.standing k.below }
 
 -- and so each lease with the one at its place
-abbrev pub with_bases : List (List Effect) → List Kept → List (Option Value) → List Kept
+abbrev pub with_bases : List (List Effect) → List ViewLease → List (Option Value) → List ViewLease
 with_bases log [] bases = []
 with_bases log (k ∷ ks) [] = k ∷ ks
 with_bases log (k ∷ ks) (b ∷ bs) = with_base log k b ∷ with_bases log ks bs

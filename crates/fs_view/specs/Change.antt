@@ -2,11 +2,11 @@
 use Rattle.std.specs.Prelude.{Bool, true}
 use Rattle.fs_view.specs.declared.change.Change.{Change}
 use Rattle.fs_view.specs.declared.change.Change.TheVariants.{Pin, Unpin, Recall, Leave, Renew}
-use Rattle.fs_view.specs.declared.kept.Kept.{Kept}
-use Rattle.fs_view.specs.declared.kept.Standing.{Standing}
-use Rattle.fs_view.specs.Kept.{takes_pin, pinned, unpinned, leaving, renewed, recalled_as}
+use Rattle.fs_view.specs.declared.view_lease.ViewLease.{ViewLease}
+use Rattle.fs_view.specs.declared.view_lease.Standing.{Standing}
+use Rattle.fs_view.specs.ViewLease.{takes_pin, pinned, unpinned, leaving, renewed, recalled_as}
 
-abbrev pub changed : Change → Kept → Kept
+abbrev pub changed : Change → ViewLease → ViewLease
 changed Pin k = record k { standing = pinned k.standing }
 changed Unpin k = record k { standing = unpinned k.standing }
 changed Recall k = record k { recalled = recalled_as k.standing k.recalled }

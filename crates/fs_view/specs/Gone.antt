@@ -12,7 +12,7 @@ use Rattle.fs_field.specs.declared.value.Value.TheVariants as value
 use Rattle.fs_model.specs.declared.op.Op.{Op}
 use Rattle.fs_model.specs.declared.reply.Reply.{Reply}
 use Rattle.fs_record.specs.Effects.{effects_of}
-use Rattle.fs_view.specs.Kept.{makes}
+use Rattle.fs_view.specs.ViewLease.{makes}
 use Rattle.fs_view.specs.View.{value_after_all}
 use Rattle.fs_view.specs.Walk.{Given, Known, always, walk}
 

@@ -12,12 +12,12 @@ use Rattle.fs_field.specs.Table.{same_no}
 use Rattle.fs_view.specs.declared.change.Change.{Change}
 use Rattle.fs_view.specs.declared.change.Change.TheVariants.{Leave, Renew}
 use Rattle.fs_view.specs.declared.index.FieldIndex.{FieldIndex}
-use Rattle.fs_view.specs.declared.kept.Kept.{Kept}
-use Rattle.fs_view.specs.declared.kept.Standing.{Standing}
-use Rattle.fs_view.specs.declared.kept.Standing.TheVariants.{Held, Pinned, Leaving}
+use Rattle.fs_view.specs.declared.view_lease.ViewLease.{ViewLease}
+use Rattle.fs_view.specs.declared.view_lease.Standing.{Standing}
+use Rattle.fs_view.specs.declared.view_lease.Standing.TheVariants.{Held, Pinned, Leaving}
 use Rattle.fs_view.specs.declared.key.Key.{Key}
 use Rattle.fs_view.specs.declared.leases.Leases.{Leases}
-use Rattle.fs_view.specs.Kept.{has_number, is_better, number_of, serves}
+use Rattle.fs_view.specs.ViewLease.{has_number, is_better, number_of, serves}
 use Rattle.fs_view.specs.View.{are_distinct}
 
 -- ## By number
@@ -25,7 +25,7 @@ use Rattle.fs_view.specs.View.{are_distinct}
 abbrev pub key_of : LeaseNo → Key
 key_of number = record { server = number.server; count = number.count }
 
-abbrev pub key_in : Kept → Key
+abbrev pub key_in : ViewLease → Key
 key_in k = key_of (number_of k.standing)
 
 -- ## By field
@@ -65,11 +65,11 @@ is_on field (Pinned u) = same_field u.lease.field field
 is_on field (Leaving l) = false
 
 -- the numbers of the leases on the field, in order of grant
-abbrev pub numbers_on : Field → List Kept → List LeaseNo
-numbers_on field ks = map (λ (k : Kept). number_of k.standing) (filter (λ (k : Kept). is_on field k.standing) ks)
+abbrev pub numbers_on : Field → List ViewLease → List LeaseNo
+numbers_on field ks = map (λ (k : ViewLease). number_of k.standing) (filter (λ (k : ViewLease). is_on field k.standing) ks)
 
 -- where the index is whole, these stand at each field
-abbrev pub IsIndexOf : FieldIndex → List Kept → Type 0
+abbrev pub IsIndexOf : FieldIndex → List ViewLease → Type 0
 IsIndexOf index ks = index.whole ≡ true → (field : Field) → numbers_at index.fields field ≡ numbers_on field ks
 
 -- a held lease that goes back, or is over, was taken off its field
@@ -88,12 +88,12 @@ IsChanged Leave s old new = IsTakenOff s old new
 IsChanged change s old new = new ≡ old
 
 -- the better one of the best so far and this lease, if there is one
-abbrev pub better_of : ℕ → Field → LeaseKind → Option Kept → Option Kept → Option Kept
+abbrev pub better_of : ℕ → Field → LeaseKind → Option ViewLease → Option ViewLease → Option ViewLease
 better_of now field kind best None = best
 better_of now field kind best (Some k) = if serves now field kind k.standing && is_better k best then Some k else best
 
 -- the lease that is taken of those of these numbers
-abbrev pub taken_by : ℕ → Field → LeaseKind → List Kept → Option Kept → List LeaseNo → Option Kept
+abbrev pub taken_by : ℕ → Field → LeaseKind → List ViewLease → Option ViewLease → List LeaseNo → Option ViewLease
 taken_by now field kind ks best [] = best
 taken_by now field kind ks best (n ∷ ns) = taken_by now field kind ks (better_of now field kind best (find (has_number n) ks)) ns
 
@@ -105,8 +105,8 @@ ends_from least (Held l) = nat_le least l.until
 ends_from least (Pinned u) = nat_le least u.lease.until
 ends_from least (Leaving l) = true
 
-abbrev pub end_no_sooner : ℕ → List Kept → Bool
-end_no_sooner least ks = list_all (λ (k : Kept). ends_from least k.standing) ks
+abbrev pub end_no_sooner : ℕ → List ViewLease → Bool
+end_no_sooner least ks = list_all (λ (k : ViewLease). ends_from least k.standing) ks
 
 abbrev pub lesser : ℕ → ℕ → ℕ
 lesser a b = if nat_lt a b then a else b
@@ -125,7 +125,7 @@ least_with change least = least
 -- ## All of it
 
 -- the leases, their numbers, those by field, and an end that none is over before
-pub record AreFoundBy (ks : List Kept) (keys : List Key) (index : FieldIndex) (least : ℕ) : Type 0 where
+pub record AreFoundBy (ks : List ViewLease) (keys : List Key) (index : FieldIndex) (least : ℕ) : Type 0 where
   pub distinct : are_distinct ks ≡ true
   pub numbers : keys ≡ map key_in ks
   pub fields : IsIndexOf index ks

@@ -20,8 +20,8 @@ use Rattle.fs_model.specs.declared.op.Op.TheVariants as op
 use Rattle.fs_model.specs.declared.reply.Reply.{Reply}
 use Rattle.fs_model.specs.declared.reply.Reply.TheVariants as reply
 use Rattle.std.specs.List.{list_all}
-use Rattle.fs_view.specs.declared.kept.Kept.{Kept}
-use Rattle.fs_view.specs.Kept.{entries_of, file_in, is_better_than, is_pending, serves}
+use Rattle.fs_view.specs.declared.view_lease.ViewLease.{ViewLease}
+use Rattle.fs_view.specs.ViewLease.{entries_of, file_in, is_better_than, is_pending, serves}
 use Rattle.fs_view.specs.View.{View, taken_fresh}
 use Rattle.fs_view.specs.Walk.{Known, Given}
 
@@ -52,24 +52,24 @@ item_meets field kind (Lease other Exclusive) = meets field kind other Exclusive
 item_meets field kind (Fresh dir) = false
 
 -- each lease can take so many entries more
-abbrev pub have_room : ℕ → List Kept → Bool
-have_room n leases = list_all (λ (k : Kept). nat_le (entries_of k.standing + n) 0xffff_ffff_ffff_ffff) leases
+abbrev pub have_room : ℕ → List ViewLease → Bool
+have_room n leases = list_all (λ (k : ViewLease). nat_le (entries_of k.standing + n) 0xffff_ffff_ffff_ffff) leases
 
 -- the lease serves, and no other that serves is better
-pub record IsBestOf (leases : List Kept) (now : ℕ) (field : Field) (kind : LeaseKind) (k : Kept) : Type 0 where
+pub record IsBestOf (leases : List ViewLease) (now : ℕ) (field : Field) (kind : LeaseKind) (k : ViewLease) : Type 0 where
   pub among : In k leases
   pub serving : serves now field kind k.standing ≡ true
-  pub best : (other : Kept) → In other leases → serves now field kind other.standing ≡ true → is_better_than other.standing k.standing ≡ false
+  pub best : (other : ViewLease) → In other leases → serves now field kind other.standing ≡ true → is_better_than other.standing k.standing ≡ false
 
 -- the lease that is used for the identifier is the best on the life of that file
 pub record IsUsedByBest (v : View) (now : ℕ) (dir id : List ℕ) : Type 0 where
-  pub lease : Kept
+  pub lease : ViewLease
   pub taken : taken_fresh v now dir ≡ Some lease
   pub best : IsBestOf v.leases now (Life id) Exclusive lease
 
 -- an exclusive lease on the file's life, for which the directory gave the identifier, serves, and no entry makes the file
 pub record IsOffered (v : View) (now : ℕ) (dir id : List ℕ) : Type 0 where
-  pub lease : Kept
+  pub lease : ViewLease
   pub among : In lease v.leases
   pub below : lease.below ≡ Some dir
   pub file : file_in lease.standing ≡ id
@@ -78,7 +78,7 @@ pub record IsOffered (v : View) (now : ℕ) (dir id : List ℕ) : Type 0 where
 
 -- an entry makes the file of each lease that would offer an identifier
 abbrev pub NoneIsOffered : View → ℕ → List ℕ → Type 0
-NoneIsOffered v now dir = (k : Kept) → In k v.leases → k.below ≡ Some dir → serves now (Life (file_in k.standing)) Exclusive k.standing ≡ true → is_pending (file_in k.standing) v.pending ≡ true
+NoneIsOffered v now dir = (k : ViewLease) → In k v.leases → k.below ≡ Some dir → serves now (Life (file_in k.standing)) Exclusive k.standing ≡ true → is_pending (file_in k.standing) v.pending ≡ true
 
 -- the two spaces have the same values of these items, as the session sees them
 abbrev pub AgreeOn : NodeMap → NodeMap → Session → List Need → Type 0

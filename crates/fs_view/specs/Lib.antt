@@ -1,7 +1,7 @@
 pub mod Told
 pub mod Script
 pub mod Walk
-pub mod Kept
+pub mod ViewLease
 pub mod View
 pub mod Gone
 pub mod Laws

@@ -3,9 +3,9 @@ use Rattle.std.specs.Prelude.{ℕ, ◌+◌, Bool, true, false, ◌&&◌, nat_lt,
 use Rattle.fs_ident.specs.declared.actor.LeaseNo.{LeaseNo}
 use Rattle.fs_field.specs.declared.used.Use.{Use}
 use Rattle.fs_field.specs.Table.{same_no}
-use Rattle.fs_view.specs.declared.kept.Kept.{Kept}
-use Rattle.fs_view.specs.declared.kept.Standing.{Standing}
-use Rattle.fs_view.specs.declared.kept.Standing.TheVariants.{Held, Pinned, Leaving}
+use Rattle.fs_view.specs.declared.view_lease.ViewLease.{ViewLease}
+use Rattle.fs_view.specs.declared.view_lease.Standing.{Standing}
+use Rattle.fs_view.specs.declared.view_lease.Standing.TheVariants.{Held, Pinned, Leaving}
 use Rattle.fs_view.specs.View.{stands}
 
 -- how many of the uses are of the lease
@@ -20,6 +20,6 @@ takes_after more (Pinned u) = nat_lt (u.entries + more) 0xffff_ffff_ffff_ffff
 takes_after more (Leaving l) = false
 
 -- one entry more can use each of these leases, when those before are used too
-abbrev pub can_pin_after : List Use → List Use → List Kept → Bool
+abbrev pub can_pin_after : List Use → List Use → List ViewLease → Bool
 can_pin_after before [] leases = true
 can_pin_after before (u ∷ us) leases = stands (takes_after (times_in u.no before)) u.no leases && can_pin_after (before ++ u ∷ []) us leases

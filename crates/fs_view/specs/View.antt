@@ -19,11 +19,11 @@ use Rattle.fs_field.specs.declared.asked.Need.TheVariants as need
 use Rattle.fs_model.specs.declared.op.Op.{Op}
 use Rattle.fs_model.specs.declared.op.Op.TheVariants as op
 use Rattle.fs_model.specs.declared.reply.Reply.{Reply}
-use Rattle.fs_view.specs.declared.kept.Kept.{Kept}
+use Rattle.fs_view.specs.declared.view_lease.ViewLease.{ViewLease}
 use Rattle.fs_view.specs.declared.new_lease.NewLease.{NewLease}
-use Rattle.fs_view.specs.declared.kept.Standing.{Standing}
-use Rattle.fs_view.specs.declared.kept.Standing.TheVariants.{Held, Pinned, Leaving}
-use Rattle.fs_view.specs.Kept.{number_of, file_in, has_number, serves, is_better, use_in, makes, offers, takes_pin, is_held, is_leaving, is_live, pinned, unpinned, leaving, renewed, recalled_as}
+use Rattle.fs_view.specs.declared.view_lease.Standing.{Standing}
+use Rattle.fs_view.specs.declared.view_lease.Standing.TheVariants.{Held, Pinned, Leaving}
+use Rattle.fs_view.specs.ViewLease.{number_of, file_in, has_number, serves, is_better, use_in, makes, offers, takes_pin, is_held, is_leaving, is_live, pinned, unpinned, leaving, renewed, recalled_as}
 use Rattle.fs_view.specs.declared.walk.Walk.{Walk}
 use Rattle.fs_view.specs.Script.{Script}
 use Rattle.fs_view.specs.Walk.{Known, Given, walk_along, walk, missing}
@@ -32,12 +32,12 @@ use Rattle.fs_view.specs.Walk.{Known, Given, walk_along, walk, missing}
 pub record View : Type 0 where
   pub session : Session
   -- in order of grant
-  pub leases : List Kept
+  pub leases : List ViewLease
   -- what each entry of the log will do, in order
   pub pending : List (List Effect)
 
 -- no two leases have one number
-abbrev pub are_distinct : List Kept → Bool
+abbrev pub are_distinct : List ViewLease → Bool
 are_distinct [] = true
 are_distinct (k ∷ ks) = not (list_any (has_number (number_of k.standing)) ks) && are_distinct ks
 
@@ -54,31 +54,31 @@ value_after_log s field v [] = v
 value_after_log s field v (es ∷ log) = value_after_log s field (value_after_all s field v es) log
 
 -- the lease that is taken for the field: the best so far, or a better one behind it
-abbrev pub taken_from : ℕ → Field → LeaseKind → Option Kept → List Kept → Option Kept
+abbrev pub taken_from : ℕ → Field → LeaseKind → Option ViewLease → List ViewLease → Option ViewLease
 taken_from now field kind best [] = best
 taken_from now field kind best (k ∷ ks) = taken_from now field kind (if serves now field kind k.standing && is_better k best then Some k else best) ks
 
-unfoldable pub taken : View → ℕ → Field → LeaseKind → Option Kept
+unfoldable pub taken : View → ℕ → Field → LeaseKind → Option ViewLease
 taken v now field kind = taken_from now field kind None v.leases
 
 -- what the view makes known at the reading: the value at grant, after all that the session did since
 unfoldable pub known_by : View → ℕ → Known
-known_by v now field kind = option_map (λ (k : Kept). value_after_log v.session field k.base v.pending) (taken v now field kind)
+known_by v now field kind = option_map (λ (k : ViewLease). value_after_log v.session field k.base v.pending) (taken v now field kind)
 
 -- ## Identifiers for new files
 
 -- the first lease that offers an identifier below the directory
-unfoldable pub offered : View → ℕ → List ℕ → Option Kept
+unfoldable pub offered : View → ℕ → List ℕ → Option ViewLease
 offered v now dir = find (offers now dir v.pending) v.leases
 
 abbrev pub fresh : View → ℕ → List ℕ → Option (List ℕ)
-fresh v now dir = option_map (λ (k : Kept). file_in k.standing) (offered v now dir)
+fresh v now dir = option_map (λ (k : ViewLease). file_in k.standing) (offered v now dir)
 
 abbrev pub given_by : View → ℕ → Given
 given_by v now dir = is_some (offered v now dir)
 
 -- the lease that is used for it: the best on the life of that file
-abbrev pub taken_fresh : View → ℕ → List ℕ → Option Kept
+abbrev pub taken_fresh : View → ℕ → List ℕ → Option ViewLease
 taken_fresh v now dir = option_and_then (λ (id : List ℕ). taken v now (Life id) Exclusive) (fresh v now dir)
 
 -- ## Needs, uses and replies of the session
@@ -103,8 +103,8 @@ reply_in v now o = (walk_in v now o).reply
 
 -- the lease that an item is answered from, as an entry names it
 abbrev pub item_use : View → ℕ → Need → Option Use
-item_use v now (need.Lease field kind) = option_and_then (λ (k : Kept). use_in k.standing) (taken v now field kind)
-item_use v now (need.Fresh dir) = option_and_then (λ (k : Kept). use_in k.standing) (taken_fresh v now dir)
+item_use v now (need.Lease field kind) = option_and_then (λ (k : ViewLease). use_in k.standing) (taken v now field kind)
+item_use v now (need.Fresh dir) = option_and_then (λ (k : ViewLease). use_in k.standing) (taken_fresh v now dir)
 
 -- one use for each item
 abbrev pub uses_in : View → ℕ → Op → List Use
@@ -113,8 +113,8 @@ uses_in v now o = filter_map (item_use v now) (walk_in v now o).items
 -- ## Conditions
 
 -- there is a lease of this number, and it stands so
-abbrev pub stands : (Standing → Bool) → LeaseNo → List Kept → Bool
-stands test number leases = option_map_or (λ (k : Kept). test k.standing) (find (has_number number) leases) false
+abbrev pub stands : (Standing → Bool) → LeaseNo → List ViewLease → Bool
+stands test number leases = option_map_or (λ (k : ViewLease). test k.standing) (find (has_number number) leases) false
 
 -- it is held, or entries use it
 abbrev pub is_in_hand : Standing → Bool
@@ -129,7 +129,7 @@ abbrev pub with_grant : LeaseNo → Field → LeaseKind → ℕ → Value → Op
 with_grant number field kind until value below v = record v { leases = v.leases ++ record { standing = Held (record { no = number; field = field; kind = kind; until = until }); base = value; recalled = false; below = below } ∷ [] }
 
 -- a lease that its server gave is held
-abbrev pub kept_new : NewLease → Kept
+abbrev pub kept_new : NewLease → ViewLease
 kept_new l = record { standing = Held (record { no = l.no; field = l.field; kind = l.kind; until = l.until }); base = l.value; recalled = false; below = l.below }
 
 abbrev pub with_new : NewLease → View → View
@@ -141,30 +141,30 @@ with_grants [] v = v
 with_grants (l ∷ ls) v = with_grants ls (with_new l v)
 
 -- each has a value of its field, and a number that no lease has and none before it
-abbrev pub can_grant_all : List NewLease → List Kept → Bool
+abbrev pub can_grant_all : List NewLease → List ViewLease → Bool
 can_grant_all [] leases = true
 can_grant_all (l ∷ ls) leases = (is_value_of l.field l.value && not (list_any (has_number l.no) leases)) && can_grant_all ls (leases ++ kept_new l ∷ [])
 
 -- the lease of this number is changed, and no other
-abbrev pub at_number : LeaseNo → (Kept → Kept) → List Kept → List Kept
+abbrev pub at_number : LeaseNo → (ViewLease → ViewLease) → List ViewLease → List ViewLease
 at_number number change leases = map (λ k. if has_number number k then change k else k) leases
 
-abbrev pub pinned_at : LeaseNo → List Kept → List Kept
+abbrev pub pinned_at : LeaseNo → List ViewLease → List ViewLease
 pinned_at number leases = at_number number (λ k. record k { standing = pinned k.standing }) leases
 
-abbrev pub unpinned_at : LeaseNo → List Kept → List Kept
+abbrev pub unpinned_at : LeaseNo → List ViewLease → List ViewLease
 unpinned_at number leases = at_number number (λ k. record k { standing = unpinned k.standing }) leases
 
-abbrev pub pinned_all : List Use → List Kept → List Kept
+abbrev pub pinned_all : List Use → List ViewLease → List ViewLease
 pinned_all [] leases = leases
 pinned_all (u ∷ us) leases = pinned_all us (pinned_at u.no leases)
 
-abbrev pub unpinned_all : List Use → List Kept → List Kept
+abbrev pub unpinned_all : List Use → List ViewLease → List ViewLease
 unpinned_all [] leases = leases
 unpinned_all (u ∷ us) leases = unpinned_all us (unpinned_at u.no leases)
 
 -- one entry more can use each of them, one after another
-abbrev pub can_pin_all : List Use → List Kept → Bool
+abbrev pub can_pin_all : List Use → List ViewLease → Bool
 can_pin_all [] leases = true
 can_pin_all (u ∷ us) leases = stands takes_pin u.no leases && can_pin_all us (pinned_at u.no leases)
 
@@ -194,7 +194,7 @@ is_made_in effects (Leaving l) = false
 abbrev pub below_after : List Effect → Standing → Option (List ℕ) → Option (List ℕ)
 below_after effects s below = if is_made_in effects s then None else below
 
-abbrev pub knowing : Session → List Effect → Kept → Kept
+abbrev pub knowing : Session → List Effect → ViewLease → ViewLease
 knowing s effects k = record k { base = base_after s effects k.standing k.base; below = below_after effects k.standing k.below }
 
 abbrev pub with_admitted : List Effect → View → View

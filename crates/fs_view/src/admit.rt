@@ -5,8 +5,8 @@ ghost use Rattle.fs_field.specs.After.{touches};
 ghost use Rattle.fs_view.specs.View.{value_after_log};
 ghost use Rattle.fs_view.specs.Admit.{base_after_log, is_made_by, knowing_all, with_base, with_bases};
 
-use crate::kept::{Kept, Standing};
 use crate::known::{after_log, is_pending};
+use crate::view_lease::{Standing, ViewLease};
 use fs_field::{Effect, Field, Value, touches};
 use fs_ident::{List, Memory, Session, Twin};
 use std::alloc::Global;
@@ -14,7 +14,7 @@ use std::alloc::Global;
 /// The base values follow the effects, and an identifier is no longer for a new file once that is made. `Memory`
 /// where memory is wanting; the leases are as they were then.
 pub fn admit(
-    leases: &mut Vec<Kept>,
+    leases: &mut Vec<ViewLease>,
     alloc: Global,
     session: Session,
     log: &[List<Effect>],
@@ -31,7 +31,7 @@ pub fn admit(
 /// For each lease its base value after the effects, where it changes.
 fn new_bases(
     alloc: Global,
-    leases: &[Kept],
+    leases: &[ViewLease],
     session: Session,
     log: &[List<Effect>],
 ) -> Result<List<Option<Value>>, Memory>
@@ -49,7 +49,7 @@ fn new_bases(
 /// The base value after the effects, where it changes.
 fn new_base(
     alloc: Global,
-    kept: &Kept,
+    kept: &ViewLease,
     session: Session,
     log: &[List<Effect>],
 ) -> Result<Option<Value>, Memory>
@@ -97,7 +97,7 @@ fn is_touched_by(field: &Field, effects: &[Effect]) -> bool
 }
 
 /// Puts the new base values in, each at the place of its lease.
-fn put_bases(leases: &mut [Kept], bases: List<Option<Value>>, log: &[List<Effect>])
+fn put_bases(leases: &mut [ViewLease], bases: List<Option<Value>>, log: &[List<Effect>])
     requires { length bases ≡ length leases.old }
     ensures { leases.new ≡ with_bases log.now leases.old bases }
 {
@@ -108,7 +108,7 @@ fn put_bases(leases: &mut [Kept], bases: List<Option<Value>>, log: &[List<Effect
     }
 }
 
-fn put_base(kept: &mut Kept, base: Option<Value>, log: &[List<Effect>])
+fn put_base(kept: &mut ViewLease, base: Option<Value>, log: &[List<Effect>])
     ensures { kept.new ≡ with_base log.now kept.old base }
 {
     if let Some(base) = base {

@@ -1,14 +1,14 @@
 //! Steps of leases in place, which take no memory.
 ghost use Rattle.std.specs.Prelude.{◌≡◌, true, not, filter, find, IfSome};
 ghost use Rattle.fs_view.specs.Index.{AreFound, IsChanged, least_with};
-ghost use Rattle.fs_view.specs.Kept.{has_number, is_leaving};
+ghost use Rattle.fs_view.specs.ViewLease.{has_number, is_leaving};
 ghost use Rattle.fs_view.specs.Change.{changed, fits};
 ghost use Rattle.fs_view.specs.View.{at_number, can_pin_all, pinned_all, unpinned_all};
 
 use crate::ends::lesser;
 use crate::index::FieldIndex;
-use crate::kept::{Kept, Standing};
 use crate::leases::{Leases, place, take_off};
+use crate::view_lease::{Standing, ViewLease};
 use fs_field::Use;
 use fs_ident::LeaseNo;
 
@@ -27,13 +27,13 @@ pub enum Change {
     Renew(u64),
 }
 
-impl Kept {
+impl ViewLease {
     /// The lease after the change.
-    fn changed(self, change: Change) -> Kept
+    fn changed(self, change: Change) -> ViewLease
         requires { fits change self.standing ≡ true }
         ensures { result ≡ changed change self }
     {
-        let Kept {
+        let ViewLease {
             standing,
             base,
             recalled,
@@ -49,7 +49,7 @@ impl Kept {
             Change::Leave => (standing.leave(), recalled),
             Change::Renew(until) => (standing.renewed(until), recalled),
         };
-        Kept {
+        ViewLease {
             standing,
             base,
             recalled,

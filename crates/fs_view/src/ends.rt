@@ -3,11 +3,11 @@ ghost use Rattle.std.specs.Prelude.{◌≡◌, ◌≤◌, vec_len, vec_capacity,
 ghost use Rattle.std.specs.List.{list_all};
 ghost use Rattle.indexmap.specs.IndexSet.{spare};
 ghost use Rattle.fs_view.specs.Index.{AreFound, end_no_sooner, lesser, lesser_end};
-ghost use Rattle.fs_view.specs.Kept.{has_ended, is_leaving, until_of};
-ghost use Rattle.fs_view.specs.declared.kept.Kept.{Kept as TheKept};
+ghost use Rattle.fs_view.specs.ViewLease.{has_ended, is_leaving, until_of};
+ghost use Rattle.fs_view.specs.declared.view_lease.ViewLease.{ViewLease as TheViewLease};
 
-use crate::kept::{Kept, Standing};
 use crate::leases::{Leases, take_off};
+use crate::view_lease::{Standing, ViewLease};
 
 /// Gives up every lease that no entry uses and that is over at the reading. No lease is looked at where none can be over.
 pub(crate) fn lapse(leases: &mut Leases, now: u64)
@@ -39,14 +39,14 @@ pub(crate) fn lapse(leases: &mut Leases, now: u64)
 pub(crate) fn may_end(leases: &Leases, soon: u64) -> bool
     requires { AreFound leases.now }
     ensures { result ≡ false → list_all
-        (λ (k : TheKept). is_leaving k.standing || nat_lt soon (until_of k.standing))
+        (λ (k : TheViewLease). is_leaving k.standing || nat_lt soon (until_of k.standing))
         leases.now.kept.items ≡ true }
 {
     leases.least <= soon
 }
 
 /// The least end of the leases that do not go back.
-fn least_end(kept: &[Kept]) -> u64
+fn least_end(kept: &[ViewLease]) -> u64
     ensures { end_no_sooner result kept.now ≡ true }
 {
     let mut least = u64::MAX;

@@ -3,10 +3,10 @@ ghost use Rattle.std.specs.Prelude.{◌≡◌, None, is_some, find, option_map, 
 ghost use Rattle.std.specs.List.{list_any};
 ghost use Rattle.std.specs.Option.{option_copied};
 ghost use Rattle.fs_field.specs.Table.{is_parent};
-ghost use Rattle.fs_view.specs.Kept.{is_better, is_life, is_pending, is_unused, makes, offers};
+ghost use Rattle.fs_view.specs.ViewLease.{is_better, is_life, is_pending, is_unused, makes, offers};
 ghost use Rattle.fs_view.specs.View.{taken_from, value_after_all, value_after_log};
 
-use crate::kept::{Kept, Standing};
+use crate::view_lease::{Standing, ViewLease};
 use fs_field::{Effect, Field, LeaseKind, Value, apply};
 use fs_ident::{FileId, List, Memory, Session};
 use std::alloc::Global;
@@ -14,14 +14,14 @@ use std::alloc::Global;
 /// The lease that is taken for the field at the reading: of those that serve for it the one that ends last, and of
 /// several that end together the one with the least number.
 pub fn taken_of<'a>(
-    leases: &'a [Kept],
+    leases: &'a [ViewLease],
     now: u64,
     field: &Field,
     kind: LeaseKind,
-) -> Option<&'a Kept>
+) -> Option<&'a ViewLease>
     ensures { option_copied result ≡ taken_from now field.now kind None leases.now }
 {
-    let mut best: Option<&'a Kept> = None;
+    let mut best: Option<&'a ViewLease> = None;
     for kept in leases {
         if kept.standing.serves(now, field, kind) && is_better(kept, best) {
             best = Some(kept);
@@ -31,7 +31,7 @@ pub fn taken_of<'a>(
 }
 
 /// Whether it is taken before the best so far.
-pub fn is_better(kept: &Kept, best: Option<&Kept>) -> bool
+pub fn is_better(kept: &ViewLease, best: Option<&ViewLease>) -> bool
     ensures { result ≡ is_better kept.now (option_copied best.entry) }
 {
     match best {
@@ -77,11 +77,11 @@ pub fn after_log(
 /// The first lease that offers an identifier below the directory.
 #[tactic(auto, using(crate::proofs::Steps::find_step))]
 pub fn offered<'a>(
-    leases: &'a [Kept],
+    leases: &'a [ViewLease],
     now: u64,
     dir: &FileId,
     log: &[List<Effect>],
-) -> Option<&'a Kept>
+) -> Option<&'a ViewLease>
     ensures { option_copied result ≡ find (offers now dir.now log.now) leases.now }
 {
     for kept in leases {
@@ -93,7 +93,7 @@ pub fn offered<'a>(
 }
 
 /// Whether the lease is on an unused file whose identifier was given for the directory.
-fn offers(kept: &Kept, now: u64, dir: &FileId, log: &[List<Effect>]) -> bool
+fn offers(kept: &ViewLease, now: u64, dir: &FileId, log: &[List<Effect>]) -> bool
     ensures { result ≡ offers now dir.now log.now kept.now }
 {
     is_parent(dir, &kept.below) && is_unused(&kept.standing, now, log)

@@ -15,8 +15,8 @@ ghost use Rattle.fs_record.specs.Records.{AreRecords, RecordMap, nodes_of};
 ghost use Rattle.fs_record.specs.ValueOf.{is_other, value_of};
 ghost use Rattle.fs_view.specs.Laws.{AgreeOn, AreAnsweredAlike, but_cycle, HasAll, IsBestOf, IsOffered, IsUnborn, IsNewWhereMade, IsUsedByBest, NoneIsOffered, have_room, item_meets};
 ghost use Rattle.fs_view.specs.LedLaws.{LedValuesFollow, LedValuesStay};
-ghost use Rattle.fs_view.specs.declared.kept.Kept.{Kept};
-ghost use Rattle.fs_view.specs.Kept.{serves};
+ghost use Rattle.fs_view.specs.declared.view_lease.ViewLease.{ViewLease};
+ghost use Rattle.fs_view.specs.ViewLease.{serves};
 ghost use Rattle.fs_record.specs.Applied.{records_after_all};
 ghost use Rattle.fs_view.specs.View.{View, are_distinct, can_pin_all, fresh, nameless, taken, uses_in, value_after_all};
 ghost use Rattle.fs_view.specs.Walk.{Known, Given, walk, known_in, always};
@@ -98,11 +98,11 @@ pub fn uses_can_be_pinned()
 /// Of several leases that serve for a field the one is taken that no other one is better than, and none only where none
 /// serves. For a fresh identifier it is the one that is taken for the life of its file.
 pub fn the_best_lease_is_taken()
-    ensures best { (v : View) (now : ℕ) (field : Field) (kind : LeaseKind) (k : Kept) →
+    ensures best { (v : View) (now : ℕ) (field : Field) (kind : LeaseKind) (k : ViewLease) →
         taken v now field kind ≡ Some k → IsBestOf v.leases now field kind k }
     ensures none { (v : View) (now : ℕ) (field : Field) (kind : LeaseKind) →
         taken v now field kind ≡ None →
-        list_any (λ (k : Kept). serves now field kind k.standing) v.leases ≡ false }
+        list_any (λ (k : ViewLease). serves now field kind k.standing) v.leases ≡ false }
     ensures fresh { (v : View) (now : ℕ) (dir id : List ℕ) →
         fresh v now dir ≡ Some id → IsUsedByBest v now dir id }
 {}

@@ -4,13 +4,13 @@ ghost use Rattle.std.specs.List.{list_any, position};
 ghost use Rattle.std.specs.Option.{option_copied};
 ghost use Rattle.indexmap.specs.IndexSet.{spare};
 ghost use Rattle.fs_view.specs.Index.{AreFound, IsTakenOff, better_of, numbers_on};
-ghost use Rattle.fs_view.specs.Kept.{has_number, is_live};
+ghost use Rattle.fs_view.specs.ViewLease.{has_number, is_live};
 ghost use Rattle.fs_view.specs.View.{taken_from};
 
 use crate::index::FieldIndex;
-use crate::kept::{Kept, Standing};
 use crate::key::Key;
 use crate::known::{is_better, taken_of};
+use crate::view_lease::{Standing, ViewLease};
 use fs_field::{Field, LeaseKind};
 use fs_ident::{LeaseNo, Memory};
 use indexmap::IndexSet;
@@ -19,7 +19,7 @@ use std::alloc::Global;
 /// The leases in order of grant. The number that stands at a place is that of the lease at that place.
 #[derive(Debug)]
 pub(crate) struct Leases {
-    pub(crate) kept: Vec<Kept>,
+    pub(crate) kept: Vec<ViewLease>,
     pub(crate) numbers: IndexSet<Key>,
     pub(crate) index: FieldIndex,
     /// No lease ends sooner.
@@ -74,7 +74,7 @@ pub(crate) fn place(leases: &Leases, no: LeaseNo) -> Option<usize>
 }
 
 /// The lease of this number.
-pub(crate) fn numbered(leases: &Leases, no: LeaseNo) -> Option<&Kept>
+pub(crate) fn numbered(leases: &Leases, no: LeaseNo) -> Option<&ViewLease>
     requires { AreFound leases.now }
     ensures { option_copied result ≡ find (has_number no) leases.now.kept.items }
 {
@@ -110,7 +110,7 @@ pub(crate) fn taken<'a>(
     now: u64,
     field: &Field,
     kind: LeaseKind,
-) -> Option<&'a Kept>
+) -> Option<&'a ViewLease>
     requires { AreFound leases.now }
     ensures { option_copied result ≡ taken_from now field.now kind None leases.now.kept.items }
 {
@@ -127,12 +127,12 @@ fn taken_by<'a>(
     now: u64,
     field: &Field,
     kind: LeaseKind,
-) -> Option<&'a Kept>
+) -> Option<&'a ViewLease>
     requires found { AreFound leases.now }
     requires numbers { numbers.now ≡ numbers_on field.now leases.now.kept.items }
     ensures { option_copied result ≡ taken_from now field.now kind None leases.now.kept.items }
 {
-    let mut best: Option<&'a Kept> = None;
+    let mut best: Option<&'a ViewLease> = None;
     for no in numbers {
         best = better_of(best, numbered(leases, *no), now, field, kind);
     }
@@ -141,12 +141,12 @@ fn taken_by<'a>(
 
 /// The better one of the best so far and this lease, if there is one.
 fn better_of<'a>(
-    best: Option<&'a Kept>,
-    kept: Option<&'a Kept>,
+    best: Option<&'a ViewLease>,
+    kept: Option<&'a ViewLease>,
     now: u64,
     field: &Field,
     kind: LeaseKind,
-) -> Option<&'a Kept>
+) -> Option<&'a ViewLease>
     ensures { option_copied result ≡
         better_of now field.now kind (option_copied best.entry) (option_copied kept.entry) }
 {

@@ -7,7 +7,6 @@ mod delete;
 mod ends;
 mod gone;
 mod index;
-mod kept;
 mod key;
 mod known;
 mod law;
@@ -22,10 +21,10 @@ mod table;
 mod told;
 mod twin;
 mod view;
+mod view_lease;
 mod walk;
 
 pub use gone::what_is_gone_is_unread;
-pub use kept::{Kept, Standing};
 pub use law::{
     deletes_are_the_step, identifiers_are_offered_by_leases, led_values_follow, needs_are_enough,
     operations_stand_on_their_needs, other_values_stay, own_values_follow, reads_have_no_effects,
@@ -35,4 +34,5 @@ pub use led_law::led_effects_stand_on_their_needs;
 pub use new_lease::NewLease;
 pub use seen::Seen;
 pub use view::View;
+pub use view_lease::{Standing, ViewLease};
 pub use walk::Walk;

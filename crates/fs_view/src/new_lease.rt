@@ -3,13 +3,13 @@ ghost use Rattle.std.specs.Prelude.{◌≡◌, ◌+◌, ◌<◌, ◌≤◌, ◌+
 ghost use Rattle.std.specs.List.{list_any};
 ghost use Rattle.indexmap.specs.IndexSet.{spare};
 ghost use Rattle.fs_view.specs.Index.{AreFound};
-ghost use Rattle.fs_view.specs.Kept.{has_number};
+ghost use Rattle.fs_view.specs.ViewLease.{has_number};
 ghost use Rattle.fs_view.specs.View.{can_grant_all, kept_new};
 
 use crate::ends::lesser;
-use crate::kept::{Kept, Standing};
 use crate::key::Key;
 use crate::leases::Leases;
+use crate::view_lease::{Standing, ViewLease};
 use fs_field::{Field, LeaseKind, Value};
 use fs_ident::{FileId, LeaseNo, List, Memory, Twin, copy_three};
 use fs_lease::Held;
@@ -30,7 +30,7 @@ pub struct NewLease {
 
 impl NewLease {
     /// The lease as it is kept.
-    fn kept(self) -> Kept
+    fn kept(self) -> ViewLease
         ensures { result ≡ kept_new self }
     {
         let NewLease {
@@ -41,7 +41,7 @@ impl NewLease {
             value,
             below,
         } = self;
-        Kept {
+        ViewLease {
             standing: Standing::Held(Held::new(no, field, kind, until)),
             base: value,
             recalled: false,

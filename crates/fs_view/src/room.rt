@@ -1,12 +1,12 @@
 //! Whether entries more can use leases.
 ghost use Rattle.std.specs.Prelude.{◌≡◌, ◌+◌, ◌≤◌, length};
 ghost use Rattle.fs_view.specs.Index.{AreFound};
-ghost use Rattle.fs_view.specs.Kept.{has_number, takes_pin};
+ghost use Rattle.fs_view.specs.ViewLease.{has_number, takes_pin};
 ghost use Rattle.fs_view.specs.Pins.{takes_after, times_in};
 ghost use Rattle.fs_view.specs.View.{can_pin_all, stands};
 
-use crate::kept::Standing;
 use crate::leases::{Leases, numbered};
+use crate::view_lease::Standing;
 use fs_field::Use;
 use fs_ident::LeaseNo;
 

@@ -3,8 +3,8 @@ ghost use Rattle.std.specs.Prelude.{◌≡◌, [], ◌∷◌, ◌++◌, IfOk, On
 ghost use Rattle.fs_view.specs.Index.{AreFound, IsIndexOf, IsAdded};
 
 use crate::index::FieldIndex;
-use crate::kept::{Kept, Standing};
 use crate::leases::Leases;
+use crate::view_lease::{Standing, ViewLease};
 use fs_ident::{Memory, Twin};
 use std::alloc::Global;
 
@@ -26,7 +26,7 @@ pub(crate) fn copy(alloc: Global, leases: &Leases) -> Result<Leases, Memory>
 }
 
 /// The numbers of the leases by field, as far as there is memory.
-fn index_of(alloc: Global, kept: &[Kept]) -> FieldIndex
+fn index_of(alloc: Global, kept: &[ViewLease]) -> FieldIndex
     ensures { IsIndexOf result kept.now }
 {
     let mut index = FieldIndex::new(alloc);
@@ -58,7 +58,7 @@ pub(crate) fn discard(leases: Leases) {
     discard_all(kept);
 }
 
-fn discard_all(leases: Vec<Kept>) {
+fn discard_all(leases: Vec<ViewLease>) {
     let mut leases = leases;
     while let Some(kept) = leases.pop() {
         kept.discard();
@@ -66,7 +66,7 @@ fn discard_all(leases: Vec<Kept>) {
     leases.destroy_empty();
 }
 
-fn copy_all(alloc: Global, leases: &[Kept]) -> Result<Vec<Kept>, Memory>
+fn copy_all(alloc: Global, leases: &[ViewLease]) -> Result<Vec<ViewLease>, Memory>
     ensures { IfOk result (λ twin. twin.items ≡ leases.now) }
 {
     let mut twin = Vec::with_capacity(alloc, leases.len())?;
@@ -83,7 +83,7 @@ fn copy_all(alloc: Global, leases: &[Kept]) -> Result<Vec<Kept>, Memory>
 }
 
 /// Adds a copy of the lease, or spends it, with the core that was to have it, where memory is wanting.
-fn add_copy(alloc: Global, twin: &mut Vec<Kept>, kept: &Kept) -> Result<(), Memory>
+fn add_copy(alloc: Global, twin: &mut Vec<ViewLease>, kept: &ViewLease) -> Result<(), Memory>
     ensures { OnOk result (twin.new.items ≡ twin.old.items ++ kept.now ∷ []) }
 {
     match twin.push(kept.copy(alloc)?) {

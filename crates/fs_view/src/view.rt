@@ -3,20 +3,20 @@ ghost use Rattle.std.specs.Prelude.{◌≡◌, ◌<◌, ◌||◌, nat_lt, [], �
 ghost use Rattle.std.specs.List.{list_all, list_any};
 ghost use Rattle.std.specs.Option.{option_copied};
 ghost use Rattle.fs_field.specs.Value.{is_value_of};
-ghost use Rattle.fs_view.specs.Kept.{has_number, seen_of, takes_pin, is_held, is_pinned, is_leaving, until_of};
-ghost use Rattle.fs_view.specs.declared.kept.Kept.{Kept as TheKept};
+ghost use Rattle.fs_view.specs.ViewLease.{has_number, seen_of, takes_pin, is_held, is_pinned, is_leaving, until_of};
+ghost use Rattle.fs_view.specs.declared.view_lease.ViewLease.{ViewLease as TheViewLease};
 ghost use Rattle.fs_view.specs.View.{admitted_front, are_distinct, can_grant_all, can_pin_all, is_in_hand, stands, lapsed_at, given_up, with_grant, with_grants, fresh, given_by, known_by, offered, taken, taken_fresh, with_pins, without_pins, with_entry, with_admitted, with_first_admitted, with_recall, with_leaving, without_lease, with_end};
 
 use crate::admit::{admit, drop_front, front};
 use crate::change::{Change, change_at, pin_all, release, unpin_all};
 use crate::ends::{self, lapse};
-use crate::kept::Kept;
 use crate::known::{after_log, offered};
 use crate::leases::{self, Leases, numbered, reserve};
 use crate::new_lease::{NewLease, add_all, add_one};
 use crate::room::can_pin_all;
 use crate::seen::Seen;
 use crate::twin;
+use crate::view_lease::ViewLease;
 use fs_field::{Effect, Field, LeaseKind, Use, Value};
 use fs_ident::{FileId, LeaseNo, List, Memory, Session, Twin};
 use std::alloc::Global;
@@ -69,14 +69,14 @@ impl View {
     }
 
     /// The leases as they are kept, in order of grant.
-    pub fn kept(&self) -> &[Kept]
+    pub fn kept(&self) -> &[ViewLease]
         ensures { result.now ≡ self.now.leases }
     {
         &self.leases.kept
     }
 
     /// The lease of this number, if there is one.
-    pub fn lease(&self, no: LeaseNo) -> Option<&Kept>
+    pub fn lease(&self, no: LeaseNo) -> Option<&ViewLease>
         ensures { option_copied result ≡ find (has_number no) self.now.leases }
     {
         numbered(&self.leases, no)
@@ -99,7 +99,7 @@ impl View {
     /// Whether a lease that does not go back may end at this reading or before. Where not, none does.
     pub fn may_end(&self, soon: u64) -> bool
         ensures { result ≡ false → list_all
-            (λ (k : TheKept). is_leaving k.standing || nat_lt soon (until_of k.standing))
+            (λ (k : TheViewLease). is_leaving k.standing || nat_lt soon (until_of k.standing))
             self.now.leases ≡ true }
     {
         ends::may_end(&self.leases, soon)
@@ -352,7 +352,7 @@ impl View {
 
     /// The lease that is taken for the field at the reading.
     #[tactic(auto, unfolding(crate::specs::View::taken))]
-    pub fn taken(&self, now: u64, field: &Field, kind: LeaseKind) -> Option<&Kept>
+    pub fn taken(&self, now: u64, field: &Field, kind: LeaseKind) -> Option<&ViewLease>
         ensures { option_copied result ≡ taken self.now now field.now kind }
     {
         leases::taken(&self.leases, now, field, kind)
@@ -360,14 +360,14 @@ impl View {
 
     /// The first lease that offers an identifier below the directory at the reading.
     #[tactic(auto, unfolding(crate::specs::View::offered))]
-    pub fn offered(&self, now: u64, dir: &FileId) -> Option<&Kept>
+    pub fn offered(&self, now: u64, dir: &FileId) -> Option<&ViewLease>
         ensures { option_copied result ≡ offered self.now now dir.now }
     {
         offered(&self.leases.kept, now, dir, self.pending.as_slice())
     }
 
     /// The lease that is used for the identifier of a new file in the directory at the reading.
-    pub fn taken_fresh(&self, now: u64, dir: &FileId) -> Option<&Kept>
+    pub fn taken_fresh(&self, now: u64, dir: &FileId) -> Option<&ViewLease>
         ensures { option_copied result ≡ taken_fresh self.now now dir.now }
     {
         match self.offered(now, dir) {

@@ -15,8 +15,8 @@ use Rattle.fs_msg.specs.declared.item.Item.{Item}
 use Rattle.fs_msg.specs.declared.msg.Msg.{Msg}
 use Rattle.fs_msg.specs.declared.msg.Msg.TheVariants as msg
 use Rattle.fs_schedule.specs.declared.outcome.Outcome.{Outcome}
-use Rattle.fs_serial.specs.Cluster.{flying_from, is_between, without_first}
-use Rattle.fs_serial.specs.declared.flying.Flying.{Flying}
+use Rattle.fs_serial.specs.Cluster.{in_flight_from, is_between, without_first}
+use Rattle.fs_serial.specs.declared.in_flight.InFlight.{InFlight}
 use Rattle.fs_server.specs.Step.{spent_by, step}
 use Rattle.fs_server.specs.declared.event.ServerEvent.{ServerEvent}
 use Rattle.fs_server.specs.declared.state.Server.{Server as Core}
@@ -47,36 +47,36 @@ first_before {X} is (z ∷ zs) ys none = either (is z) (first_before is zs ys no
     either true h = refl
     either false h = ap (λ (l : List X). z ∷ l) h
 
-from_there : (k : ℕ) (xs : List (Peer × Msg)) (f : Flying) → In f (flying_from k xs) → f.from ≡ k
+from_there : (k : ℕ) (xs : List (Peer × Msg)) (f : InFlight) → In f (in_flight_from k xs) → f.from ≡ k
 from_there k [] f i = absurd i
 from_there k ((Client s, m) ∷ xs) f i = from_there k xs f i
 from_there k ((Server to, msg.Answer a) ∷ xs) f i = from_there k xs f i
 from_there k ((Server to, msg.Client m) ∷ xs) f i = from_there k xs f i
-from_there k ((Server to, msg.Peer m) ∷ xs) f (inl e) = ap (λ (g : Flying). g.from) e
+from_there k ((Server to, msg.Peer m) ∷ xs) f (inl e) = ap (λ (g : InFlight). g.from) e
 from_there k ((Server to, msg.Peer m) ∷ xs) f (inr i) = from_there k xs f i
 
 one_false : (a b : Bool) → a ≡ false → (a && b) ≡ false
 one_false true b e = absurd (cc)
 one_false false b e = refl
 
-goes_out : (j k : ℕ) (xs : List (Peer × Msg)) → same_peer (Server j) (Server k) ≡ false → (f : Flying) → In f (flying_from k xs) → is_between j k f ≡ false
+goes_out : (j k : ℕ) (xs : List (Peer × Msg)) → same_peer (Server j) (Server k) ≡ false → (f : InFlight) → In f (in_flight_from k xs) → is_between j k f ≡ false
 goes_out j k xs apart f i = one_false (f.from == j) (f.to == k) (ap (λ (n : ℕ). n == j) (from_there k xs f i) ∙ turned_apart j k apart)
 
-flying_apart : {Y : Type 0} (k : ℕ) (from : Peer) (ys : List Y) (xs : List (Peer × Msg)) (flying : List Flying) → same_peer from (Server k) ≡ false → flying_without_each k from ys (flying ++ flying_from k xs) ≡ flying_without_each k from ys flying ++ flying_from k xs
-flying_apart k from [] xs flying apart = refl
-flying_apart {Y} k (Client s) (y ∷ ys) xs flying apart = flying_apart k (Client s) ys xs flying apart
-flying_apart {Y} k (Server j) (y ∷ ys) xs flying apart =
-    ap (flying_without_each {Y = Y} k (Server j) ys) (first_before (is_between j k) flying (flying_from k xs) (goes_out j k xs apart))
-    ∙ flying_apart k (Server j) ys xs (without_first (is_between j k) flying) apart
+flying_apart : {Y : Type 0} (k : ℕ) (from : Peer) (ys : List Y) (xs : List (Peer × Msg)) (in_flight : List InFlight) → same_peer from (Server k) ≡ false → flying_without_each k from ys (in_flight ++ in_flight_from k xs) ≡ flying_without_each k from ys in_flight ++ in_flight_from k xs
+flying_apart k from [] xs in_flight apart = refl
+flying_apart {Y} k (Client s) (y ∷ ys) xs in_flight apart = flying_apart k (Client s) ys xs in_flight apart
+flying_apart {Y} k (Server j) (y ∷ ys) xs in_flight apart =
+    ap (flying_without_each {Y = Y} k (Server j) ys) (first_before (is_between j k) in_flight (in_flight_from k xs) (goes_out j k xs apart))
+    ∙ flying_apart k (Server j) ys xs (without_first (is_between j k) in_flight) apart
 
 -- what was joined is taken off behind the steps as well as before them
-pub gone_after : (now k : ℕ) (from : Peer) (replied : Option Peer) (h : Heard) (x y : ServerStepped) (seats : Seats) (flying : List Flying) → same_peer from (Server k) ≡ false → y ≡ server_heard now k from replied h x
-    → seats ≡ seats_without_each k from h.joined y.seats → flying ≡ flying_without_each k from h.joined y.flying → record y { seats = seats; flying = flying } ≡ server_hears now k from replied h x
-gone_after now k from replied h x y seats flying apart is gone left =
+pub gone_after : (now k : ℕ) (from : Peer) (replied : Option Peer) (h : Heard) (x y : ServerStepped) (seats : Seats) (in_flight : List InFlight) → same_peer from (Server k) ≡ false → y ≡ server_heard now k from replied h x
+    → seats ≡ seats_without_each k from h.joined y.seats → in_flight ≡ flying_without_each k from h.joined y.in_flight → record y { seats = seats; in_flight = in_flight } ≡ server_hears now k from replied h x
+gone_after now k from replied h x y seats in_flight apart is gone left =
     let run : ServerRun = server_takes_all now from replied (record { links = x.post; heard = h }) x.server in
     let seats_are : seats ≡ with_downs k run.send (seats_without_each k from h.joined x.seats) = gone ∙ ap (λ (z : ServerStepped). seats_without_each k from h.joined z.seats) is ∙ seats_cross k from h.joined run.send x.seats in
-    let flying_is : flying ≡ flying_without_each k from h.joined x.flying ++ flying_from k run.send = left ∙ ap (λ (z : ServerStepped). flying_without_each k from h.joined z.flying) is ∙ flying_apart k from h.joined run.send x.flying apart in
-    λ i. record (is i) { seats = seats_are i; flying = flying_is i }
+    let flying_is : in_flight ≡ flying_without_each k from h.joined x.in_flight ++ in_flight_from k run.send = left ∙ ap (λ (z : ServerStepped). flying_without_each k from h.joined z.in_flight) is ∙ flying_apart k from h.joined run.send x.in_flight apart in
+    λ i. record (is i) { seats = seats_are i; in_flight = flying_is i }
 
 -- ## One message at most
 
@@ -108,27 +108,27 @@ heard_as_one now k from replied h x few = ap (λ (y : ServerRun). server_ran k y
 pub heard_each : (now k : ℕ) (from : Peer) (replied : Option Peer) (h : Heard) (x : ServerStepped) → 1 < length h.joined → server_heard now k from replied h x ≡ server_ran k (server_replies replied (run_of now from h.joined x)) x
 heard_each now k from replied h x several = ap (λ (y : ServerRun). server_ran k y x) (server_of_several now from replied x.post h x.server several)
 
-run_left : (k : ℕ) (y : ServerRun) (x : ServerStepped) (told : Outcome) (s : Core) (post : Links) (seats : Seats) (flying : List Flying) (journal : List Item) (packets : Packets) → IsServerRun y k x told s post seats flying journal packets
-    → server_left told s post seats flying journal packets ≡ server_ran k y x
-run_left k y x told s post seats flying journal packets r =
+run_left : (k : ℕ) (y : ServerRun) (x : ServerStepped) (told : Outcome) (s : Core) (post : Links) (seats : Seats) (in_flight : List InFlight) (journal : List Item) (packets : Packets) → IsServerRun y k x told s post seats in_flight journal packets
+    → server_left told s post seats in_flight journal packets ≡ server_ran k y x
+run_left k y x told s post seats in_flight journal packets r =
     λ i. made (r.server_then i) (r.post_then i) (r.seats_then i) (r.flying_then i) (r.journal_then i) (r.packets_then i) (r.told_then i) (sym r.unspent i)
   where
-    made : Core → Links → Seats → List Flying → List Item → Packets → Outcome → Option Counter → ServerStepped
-    made s post seats flying journal packets told spent = record { server = s; post = post; seats = seats; flying = flying; journal = journal; packets = packets; outcome = told; spent = spent }
+    made : Core → Links → Seats → List InFlight → List Item → Packets → Outcome → Option Counter → ServerStepped
+    made s post seats in_flight journal packets told spent = record { server = s; post = post; seats = seats; in_flight = in_flight; journal = journal; packets = packets; outcome = told; spent = spent }
 
-pub several_left : (now k : ℕ) (from : Peer) (replied : Option Peer) (h : Heard) (x : ServerStepped) (told : Outcome) (s : Core) (post : Links) (seats : Seats) (flying : List Flying) (journal : List Item) (packets : Packets) → 1 < length h.joined
-    → IsServerRun (server_replies replied (run_of now from h.joined x)) k x told s post seats flying journal packets → server_left told s post seats flying journal packets ≡ server_heard now k from replied h x
-several_left now k from replied h x told s post seats flying journal packets several r =
-    run_left k (server_replies replied (run_of now from h.joined x)) x told s post seats flying journal packets r ∙ sym (heard_each now k from replied h x several)
+pub several_left : (now k : ℕ) (from : Peer) (replied : Option Peer) (h : Heard) (x : ServerStepped) (told : Outcome) (s : Core) (post : Links) (seats : Seats) (in_flight : List InFlight) (journal : List Item) (packets : Packets) → 1 < length h.joined
+    → IsServerRun (server_replies replied (run_of now from h.joined x)) k x told s post seats in_flight journal packets → server_left told s post seats in_flight journal packets ≡ server_heard now k from replied h x
+several_left now k from replied h x told s post seats in_flight journal packets several r =
+    run_left k (server_replies replied (run_of now from h.joined x)) x told s post seats in_flight journal packets r ∙ sym (heard_each now k from replied h x several)
 
 -- the run of a copy is that of the server itself
-pub run_alike : (now k : ℕ) (from : Peer) (replied : Option Peer) (joined heard : List Joined) (copy : Core) (x : ServerStepped) (told : Outcome) (s : Core) (post : Links) (seats : Seats) (flying : List Flying) (journal : List Item) (packets : Packets)
+pub run_alike : (now k : ℕ) (from : Peer) (replied : Option Peer) (joined heard : List Joined) (copy : Core) (x : ServerStepped) (told : Outcome) (s : Core) (post : Links) (seats : Seats) (in_flight : List InFlight) (journal : List Item) (packets : Packets)
     → joined ≡ heard → copy ≡ x.server
-    → IsServerRun (server_replies replied (run_of now from joined (record x { server = copy }))) k (record x { server = copy }) told s post seats flying journal packets
-    → IsServerRun (server_replies replied (run_of now from heard x)) k x told s post seats flying journal packets
-run_alike now k from replied joined heard copy x told s post seats flying journal packets same twin r =
-    subst (λ (c : Core). IsServerRun (server_replies replied (run_of now from heard (record x { server = c }))) k (record x { server = c }) told s post seats flying journal packets) twin
-    (subst (λ (js : List Joined). IsServerRun (server_replies replied (run_of now from js (record x { server = copy }))) k (record x { server = copy }) told s post seats flying journal packets) same r)
+    → IsServerRun (server_replies replied (run_of now from joined (record x { server = copy }))) k (record x { server = copy }) told s post seats in_flight journal packets
+    → IsServerRun (server_replies replied (run_of now from heard x)) k x told s post seats in_flight journal packets
+run_alike now k from replied joined heard copy x told s post seats in_flight journal packets same twin r =
+    subst (λ (c : Core). IsServerRun (server_replies replied (run_of now from heard (record x { server = c }))) k (record x { server = c }) told s post seats in_flight journal packets) twin
+    (subst (λ (js : List Joined). IsServerRun (server_replies replied (run_of now from js (record x { server = copy }))) k (record x { server = copy }) told s post seats in_flight journal packets) same r)
 
 pub fits_alike : (now : ℕ) (from : Peer) (joined heard : List Joined) (copy : Core) (x : ServerStepped) → joined ≡ heard → copy ≡ x.server → FitsDown (run_of now from joined (record x { server = copy })).send → FitsDown (run_of now from heard x).send
 fits_alike now from joined heard copy x same twin f =

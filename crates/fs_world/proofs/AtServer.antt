@@ -13,7 +13,7 @@ use Rattle.fs_server.specs.Step.{spent_by, step}
 use Rattle.fs_msg.specs.declared.core_error.CoreError.{CoreError}
 use Rattle.fs_msg.specs.declared.item.Item.{Item}
 use Rattle.fs_schedule.specs.declared.outcome.Outcome.{Outcome}
-use Rattle.fs_serial.specs.declared.flying.Flying.{Flying}
+use Rattle.fs_serial.specs.declared.in_flight.InFlight.{InFlight}
 use Rattle.fs_server.specs.declared.event.ServerEvent.{ServerEvent}
 use Rattle.fs_server.specs.declared.state.Server.{Server as Core}
 use Rattle.fs_window.specs.Post.{Links, post_accepted}
@@ -36,21 +36,21 @@ use Rattle.fs_msg.specs.declared.peer_msg.PeerMsg.TheVariants.{Parcel as OfParce
 pub item_there : {X : Type 0} (xs : List X) (k : ℕ) (x : X) → k < length xs → x ≡ slice_index_or xs k x → slice_get xs k ≡ Some x
 item_there xs k x below is = slice_get_read xs (length xs) k x refl below is
 
-abbrev pub served_by : Served → ℕ → Core → Links → Seats → List Flying → List Item → Packets → Served
-served_by w k s post seats flying journal packets = record w {
+abbrev pub served_by : Served → ℕ → Core → Links → Seats → List InFlight → List Item → Packets → Served
+served_by w k s post seats in_flight journal packets = record w {
   servers = slice_set w.servers k s;
   posts = slice_set w.posts k post;
   seats = seats;
-  flying = flying;
+  in_flight = in_flight;
   journal = journal;
   packets = packets;
 }
 
 -- what an event leaves at a server, in the world
-pub served_at : (r : Result Outcome CoreError) (w : Served) (k : ℕ) (s : Core) (post : Links) (seats : Seats) (flying : List Flying) (journal : List Item) (packets : Packets) (x : ServerStepped)
-    → IfOk r (λ told. server_left told s post seats flying journal packets ≡ x) → IfOk r (λ told. world_left told (served_by w k s post seats flying journal packets) ≡ with_server k x w)
-served_at (Ok o) w k s post seats flying journal packets x e = ap (λ (y : ServerStepped). with_server k y w) e
-served_at (Err o) w k s post seats flying journal packets x e = tt
+pub served_at : (r : Result Outcome CoreError) (w : Served) (k : ℕ) (s : Core) (post : Links) (seats : Seats) (in_flight : List InFlight) (journal : List Item) (packets : Packets) (x : ServerStepped)
+    → IfOk r (λ told. server_left told s post seats in_flight journal packets ≡ x) → IfOk r (λ told. world_left told (served_by w k s post seats in_flight journal packets) ≡ with_server k x w)
+served_at (Ok o) w k s post seats in_flight journal packets x e = ap (λ (y : ServerStepped). with_server k y w) e
+served_at (Err o) w k s post seats in_flight journal packets x e = tt
 
 -- the event of a server that there is
 pub step_there : (w : Served) (k : ℕ) (turn : Bool) (now : ℕ) (e : ServerEvent) (s : Core) (post : Links) → slice_get w.servers k ≡ Some s → slice_get w.posts k ≡ Some post
@@ -94,8 +94,8 @@ brought seats (Vote m) p e h = absurd h
 brought seats (Decide m) p e h = absurd h
 brought seats (Done m) p e h = absurd h
 
-pub parcels_apart : (w : Served) → IsLinked w → (parcels : List Parcel) → parcels ≡ parcels_of w.flying → (p : Parcel) → In p parcels → AreEachRecords p.records
+pub parcels_apart : (w : Served) → IsLinked w → (parcels : List Parcel) → parcels ≡ parcels_of w.in_flight → (p : Parcel) → In p parcels → AreEachRecords p.records
 parcels_apart w h parcels is p i =
-    let q = parcel_flies p w.flying (subst (λ (ps : List Parcel). In p ps) is i) in
-    let own : IsParcelOf w.seats p = brought w.seats q.0.message p q.1.1 (h.flying q.0 q.1.0).parcel in
+    let q = parcel_flies p w.in_flight (subst (λ (ps : List Parcel). In p ps) is i) in
+    let own : IsParcelOf w.seats p = brought w.seats q.0.message p q.1.1 (h.in_flight q.0 q.1.0).parcel in
     own.each

@@ -39,7 +39,7 @@ use Rattle.fs_parcel.specs.declared.error.MoveError.{MoveError}
 use Rattle.fs_record.specs.Effects.{tells_its_effects}
 use Rattle.fs_record.specs.declared.led_end.LedEnd.TheVariants as led_end
 use Rattle.fs_record.specs.declared.parcel.Parcel.{Parcel}
-use Rattle.fs_view.specs.declared.kept.Kept.{Kept}
+use Rattle.fs_view.specs.declared.view_lease.ViewLease.{ViewLease}
 use Rattle.fs_client.specs.Acts.{act_plan}
 use Rattle.fs_client.specs.Answers.{told}
 use Rattle.fs_actor.specs.Hearing.{heard_in}
@@ -60,7 +60,7 @@ use Rattle.fs_server.specs.declared.event.ServerEvent.{ServerEvent}
 use Rattle.fs_server.specs.declared.event.ServerEvent.TheVariants.{FromClient, FromPeer, Turn as TheTurn, Recall as TheRecall, Move as TheMove}
 use Rattle.fs_server.specs.declared.state.Server.{Server as Core}
 use Rattle.fs_serial.specs.Cluster.{is_with, without_first}
-use Rattle.fs_serial.specs.declared.flying.Flying.{Flying}
+use Rattle.fs_serial.specs.declared.in_flight.InFlight.{InFlight}
 use Rattle.fs_schedule.specs.declared.event.What.{What}
 use Rattle.fs_schedule.specs.declared.event.What.TheVariants.{Join, Do, Tell, Turn, Recall as AskBack, Move}
 use Rattle.fs_world.specs.Over.{AllCaused, Said, all_said, said_in, sender_in}
@@ -79,11 +79,11 @@ use Rattle.fs_world.proofs.Said.{AreGiven, AreKnown, IsKnown, IsNoted, WasGiven,
 
 -- ## What a client notes of a turn is no answer
 
-renew_noted : (before : List Said) (s : Session) (ks : List Kept) (c : ClientState) → IsNoted before s (renew_some ks c).out.note
+renew_noted : (before : List Said) (s : Session) (ks : List ViewLease) (c : ClientState) → IsNoted before s (renew_some ks c).out.note
 renew_noted before s [] c = tt
 renew_noted before s (k ∷ ks) c = tt
 
-release_noted : (before : List Said) (s : Session) (ks : List Kept) (c : ClientState) → IsNoted before s (release_some ks c).out.note
+release_noted : (before : List Said) (s : Session) (ks : List ViewLease) (c : ClientState) → IsNoted before s (release_some ks c).out.note
 release_noted before s [] c = renew_noted before s (ending (c.last + c.term / 2) c.view) c
 release_noted before s (k ∷ ks) c = tt
 
@@ -197,20 +197,20 @@ taken_says before now from k c e seats is known =
     }
 
 -- the events that a packet of this one brings
-next_from : (k : ℕ) (who : Peer) (e : ServerEvent) (seats : Seats) (flying : List Flying) → IsNext k who e seats flying → IsFrom (Some who) e
-next_from k (Client s) e seats flying h = subst (IsFrom (Some (Client s))) (sym h.is) refl
-next_from k (Server i) e seats flying h = subst (IsFrom (Some (Server i))) (sym h.is) tt
+next_from : (k : ℕ) (who : Peer) (e : ServerEvent) (seats : Seats) (in_flight : List InFlight) → IsNext k who e seats in_flight → IsFrom (Some who) e
+next_from k (Client s) e seats in_flight h = subst (IsFrom (Some (Client s))) (sym h.is) refl
+next_from k (Server i) e seats in_flight h = subst (IsFrom (Some (Server i))) (sym h.is) tt
 
-all_say : (es : List ServerEvent) (before : List Said) (now k : ℕ) (who : Peer) (x : ServerStepped) (seats : Seats) (flying : List Flying) → AreNext k who es seats flying → AreKnown before x.seats
+all_say : (es : List ServerEvent) (before : List Said) (now k : ℕ) (who : Peer) (x : ServerStepped) (seats : Seats) (in_flight : List InFlight) → AreNext k who es seats in_flight → AreKnown before x.seats
     → Says before (all_said (Some who) (Some (Server k)) (server_notes now es x.server)) (taking_all k now es x).seats
-all_say [] before now k who x seats flying next known = record { caused = tt; known = all_more before [] x.seats known }
-all_say (e ∷ es) before now k who x seats flying next known =
+all_say [] before now k who x seats in_flight next known = record { caused = tt; known = all_more before [] x.seats known }
+all_say (e ∷ es) before now k who x seats in_flight next known =
     let said : Note = note.Server (core_steps x.server now e).out.note in
     let new = all_said (Some who) (Some (Server k)) (said ∷ []) in
     let y = taking k now e x in
     let more = all_said (Some who) (Some (Server k)) (server_notes now es y.server) in
-    let first = taken_says before now (Some who) k x.server e x.seats (next_from k who e seats flying next.0) known in
-    let then = all_say es (before ++ new) now k who y (seats_without k who seats) (flying_without k who flying) next.1 first.known in
+    let first = taken_says before now (Some who) k x.server e x.seats (next_from k who e seats in_flight next.0) known in
+    let then = all_say es (before ++ new) now k who y (seats_without k who seats) (flying_without k who in_flight) next.1 first.known in
     subst (λ (ss : List Said). Says before ss (taking_all k now es y).seats) (ap (λ (ss : List Said). ss ++ more) (append-nil (said_in (Some who) (Some (Server k)) said)))
     (record {
       caused = caused_append before new more first.caused then.caused;
@@ -218,14 +218,14 @@ all_say (e ∷ es) before now k who x seats flying next known =
     })
 
 -- of what a packet gave
-heard_says_there : (x : HeardThere) (es : List ServerEvent) (before : List Said) (now k : ℕ) (who : Peer) (y : ServerStepped) (seats : Seats) (flying : List Flying) → AreNext k who es seats flying → AreKnown before y.seats
+heard_says_there : (x : HeardThere) (es : List ServerEvent) (before : List Said) (now k : ℕ) (who : Peer) (y : ServerStepped) (seats : Seats) (in_flight : List InFlight) → AreNext k who es seats in_flight → AreKnown before y.seats
     → Says before (all_said (Some who) (Some (Server k)) (noted_there x now es y.server)) (taking_all k now es y).seats
-heard_says_there x [] before now k who y seats flying next known =
+heard_says_there x [] before now k who y seats in_flight next known =
     elim (x.fresh == 0) as (λ b. Says before (all_said (Some who) (Some (Server k)) (cond b note.None note.Part ∷ [])) y.seats) [
       | true ↦ record { caused = tt; known = all_more before [] y.seats known }
       | false ↦ record { caused = tt; known = all_more before [] y.seats known }
     ]
-heard_says_there x (e ∷ es) before now k who y seats flying next known = all_say (e ∷ es) before now k who y seats flying next known
+heard_says_there x (e ∷ es) before now k who y seats in_flight next known = all_say (e ∷ es) before now k who y seats in_flight next known
 
 -- messages of sessions are on their way no more
 one_gone : (before : List Said) (k : ℕ) (who : Peer) (seats : Seats) → AreKnown before seats → AreKnown before (seats_without k who seats)
@@ -314,7 +314,7 @@ module _ (before : List Said) (w : Served) (h : AreKnown before w.seats) (now : 
         let x : ServerStepped = without_joined k who a.heard.joined (record (at_server c post w) { post = a.links }) in
         let es = events_in w k who a.heard.joined f in
         let known = gone_known before k who a.heard.joined w.seats h in
-        let then = heard_says_there a.heard es.0 before now k who x w.seats w.flying es.2 known in
+        let then = heard_says_there a.heard es.0 before now k who x w.seats w.in_flight es.2 known in
         subst (λ (y : ServerStepped). Tells (with_server k y w)) (sym (server_heard_is k now who (heard_in who p) a.heard es.0 x es.1))
         (subst (λ (o : Option Peer). Says before (all_said o (Some (Server k)) (noted_there a.heard now es.0 c)) (taking_all k now es.0 x).seats) (sym of) then)
 

@@ -16,7 +16,7 @@ use Rattle.fs_model.specs.declared.reply.Reply.TheVariants as reply
 use Rattle.fs_record.specs.Effects.{tells_its_effects}
 use Rattle.fs_record.specs.declared.led_end.LedEnd.{LedEnd}
 use Rattle.fs_record.specs.declared.led_end.LedEnd.TheVariants as led_end
-use Rattle.fs_view.specs.declared.kept.Kept.{Kept}
+use Rattle.fs_view.specs.declared.view_lease.ViewLease.{ViewLease}
 use Rattle.fs_view.specs.View.{View, missing_in, reply_in}
 use Rattle.fs_msg.specs.declared.act.Act.{Act}
 use Rattle.fs_msg.specs.declared.act.Act.TheVariants as act
@@ -131,11 +131,11 @@ act_fine c now o h = let b : ClientState = begun now c in on_fine b.over o b h
 
 -- ## Turns and answers
 
-renew_fine : (ks : List Kept) (c : ClientState) → MayBeFine (renew_some ks c).out.admitted
+renew_fine : (ks : List ViewLease) (c : ClientState) → MayBeFine (renew_some ks c).out.admitted
 renew_fine [] c = tt
 renew_fine (k ∷ ks) c = tt
 
-release_fine : (ks : List Kept) (c : ClientState) → MayBeFine (release_some ks c).out.admitted
+release_fine : (ks : List ViewLease) (c : ClientState) → MayBeFine (release_some ks c).out.admitted
 release_fine [] c = renew_fine (ending (c.last + c.term / 2) c.view) c
 release_fine (k ∷ ks) c = tt
 

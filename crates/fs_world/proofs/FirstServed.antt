@@ -34,7 +34,7 @@ no_rows (suc k) skew term s i = either (In-append s (first_servers k skew term) 
 pub first_holds : (laws : EventLaws) (servers skew term : ℕ) → 1 ≤ servers → HoldsOf laws servers skew 0 first_tale (first_served servers skew term)
 first_holds laws servers skew term some = record {
   replied = λ x. [];
-  cluster = subst (λ (lines : Session → Lines). laws.Holds skew 0 (record { servers = first_servers servers skew term; flying = []; journal = []; replied = λ x. []; lines = lines })) (first_seen term) (laws.first servers skew term 0 some);
+  cluster = subst (λ (lines : Session → Lines). laws.Holds skew 0 (record { servers = first_servers servers skew term; in_flight = []; journal = []; replied = λ x. []; lines = lines })) (first_seen term) (laws.first servers skew term 0 some);
   many = first_count servers skew term;
   rows = λ s i row j. absurd (subst (In row) (no_rows servers skew term s i) j);
   parcels = λ f i. absurd i;

@@ -9,6 +9,6 @@ use Rattle.fs_world.specs.Served.{ServerStepped, core_of, server_stepped}
 
 pub goes_alone : (k : ℕ) (turn : Bool) (heard : Option Peer) (n : Note) (x : ServerStepped) → server_goes k turn heard n None x ≡ server_stepped k (actor.server_goes turn heard n (core_of x)) x
 goes_alone k turn heard n x =
-    let flying : x.flying ≡ x.flying ++ [] = sym (append-nil x.flying) in
+    let in_flight : x.in_flight ≡ x.in_flight ++ [] = sym (append-nil x.in_flight) in
     let journal : x.journal ≡ x.journal ++ [] = sym (append-nil x.journal) in
-    λ i. record (server_goes k turn heard n None x) { flying = flying i; journal = journal i }
+    λ i. record (server_goes k turn heard n None x) { in_flight = in_flight i; journal = journal i }

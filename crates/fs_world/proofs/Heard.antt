@@ -11,7 +11,7 @@ use Rattle.fs_msg.specs.declared.msg.Msg.TheVariants as msg
 use Rattle.fs_actor.specs.Hearing.{event_heard, event_of}
 use Rattle.fs_actor.proofs.AsSent.{sent_read}
 use Rattle.fs_serial.specs.Cluster.{is_between, is_with}
-use Rattle.fs_serial.specs.declared.flying.Flying.{Flying}
+use Rattle.fs_serial.specs.declared.in_flight.InFlight.{InFlight}
 use Rattle.fs_server.specs.declared.event.ServerEvent.TheVariants.{FromClient, FromPeer}
 use Rattle.fs_world.specs.Carried.{AreFirstOf, flying_between, ups_of}
 use Rattle.fs_world.specs.declared.seat.Seat.{Seat}
@@ -33,15 +33,15 @@ first_question k s seat j js f = at (find (is_with k) seat.up) refl
         (m, e, ap (event_of (Client s)) (sent_read j (msg.Client m.1) here.0.0 here.0.1), here.0.1)
 
 -- a message of another server
-pub first_flying : (k i : ℕ) (flying : List Flying) (j : Joined) (js : List Joined) → AreFirstOf (j ∷ js) (flying_between i k flying)
-    → (f : Flying) × (find (is_between i k) flying ≡ Some f) × (event_heard (Server i) (j ∷ js) ≡ Some (FromPeer i f.message))
-first_flying k i flying j js f = at (find (is_between i k) flying) refl
+pub first_flying : (k i : ℕ) (in_flight : List InFlight) (j : Joined) (js : List Joined) → AreFirstOf (j ∷ js) (flying_between i k in_flight)
+    → (f : InFlight) × (find (is_between i k) in_flight ≡ Some f) × (event_heard (Server i) (j ∷ js) ≡ Some (FromPeer i f.message))
+first_flying k i in_flight j js f = at (find (is_between i k) in_flight) refl
   where
-    as_sent : Flying → Msg
+    as_sent : InFlight → Msg
     as_sent x = msg.Peer x.message
 
-    at : (o : Option Flying) → find (is_between i k) flying ≡ o → (x : Flying) × (find (is_between i k) flying ≡ Some x) × (event_heard (Server i) (j ∷ js) ≡ Some (FromPeer i x.message))
-    at None e = absurd (found_joined as_sent (is_between i k) flying (j ∷ js) None e f)
+    at : (o : Option InFlight) → find (is_between i k) in_flight ≡ o → (x : InFlight) × (find (is_between i k) in_flight ≡ Some x) × (event_heard (Server i) (j ∷ js) ≡ Some (FromPeer i x.message))
+    at None e = absurd (found_joined as_sent (is_between i k) in_flight (j ∷ js) None e f)
     at (Some x) e =
-        let here = found_joined as_sent (is_between i k) flying (j ∷ js) (Some x) e f in
+        let here = found_joined as_sent (is_between i k) in_flight (j ∷ js) (Some x) e f in
         (x, e, ap (event_of (Server i)) (sent_read j (msg.Peer x.message) here.0.0 here.0.1))

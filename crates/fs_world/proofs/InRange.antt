@@ -14,8 +14,8 @@ use Rattle.fs_msg.specs.declared.client_msg.ClientMsg.{ClientMsg}
 use Rattle.fs_msg.specs.declared.msg.Msg.{Msg}
 use Rattle.fs_msg.specs.declared.msg.Msg.TheVariants as msg
 use Rattle.fs_msg.specs.declared.peer_msg.PeerMsg.{PeerMsg}
-use Rattle.fs_serial.specs.Cluster.{flying_from, is_between, is_with}
-use Rattle.fs_serial.specs.declared.flying.Flying.{Flying}
+use Rattle.fs_serial.specs.Cluster.{in_flight_from, is_between, is_with}
+use Rattle.fs_serial.specs.declared.in_flight.InFlight.{InFlight}
 use Rattle.fs_serial.proofs.Grants.RowKinds.{In-kept}
 use Rattle.fs_window.specs.Peers.{same_peer}
 use Rattle.fs_window.proofs.Lists.{some_is}
@@ -60,18 +60,18 @@ module _ (w : Served) (h : IsLinked w) where
       (subst (λ (o : Option Seat). In (msg.Answer m.1) (downs_of m.0 o)) (sym at)
       (In-mapped (λ (x : ℕ × Answer). msg.Answer x.1) m (filter (is_with m.0) seat.down) (In-kept (is_with m.0) m seat.down i (itself m.0))))
 
-  flying_fits : (f : Flying) → In f w.flying → IsInRange (msg.Peer f.message)
+  flying_fits : (f : InFlight) → In f w.in_flight → IsInRange (msg.Peer f.message)
   flying_fits f i =
-      let c = h.flying f i in
+      let c = h.in_flight f i in
       let p = posts_there w h f.from c.from in
       let q = posts_there w h f.to c.to in
       let way = (h.ties.pairs (Server f.from) (Server f.to) p.0 q.0 (different f.from f.to c.apart) p.1 q.1).way in
-      each_of IsInRange (flying_between f.from f.to w.flying) way.fits (msg.Peer f.message)
-      (In-mapped (λ (x : Flying). msg.Peer x.message) f (filter (is_between f.from f.to) w.flying)
-      (In-kept (is_between f.from f.to) f w.flying i (both_joined (f.from == f.from) (f.to == f.to) (itself f.from) (itself f.to))))
+      each_of IsInRange (flying_between f.from f.to w.in_flight) way.fits (msg.Peer f.message)
+      (In-mapped (λ (x : InFlight). msg.Peer x.message) f (filter (is_between f.from f.to) w.in_flight)
+      (In-kept (is_between f.from f.to) f w.in_flight i (both_joined (f.from == f.from) (f.to == f.to) (itself f.from) (itself f.to))))
 
   pub linked_in_range : AllInRange w
-  linked_in_range = record { up = ups_fit; down = downs_fit; flying = flying_fits }
+  linked_in_range = record { up = ups_fit; down = downs_fit; in_flight = flying_fits }
 
 -- ## What is sent
 
@@ -134,31 +134,31 @@ answers_go k (x ∷ xs) seats s a j (inl e) =
     (all_stay k xs (with_down k (Client s, msg.Answer a) seats) s (k, a) (one_goes k s a seats j))
 answers_go k (x ∷ xs) seats s a j (inr i) = answers_go k xs (with_down k x seats) s a (down_joined k x seats s j) i
 
-more_fly : (k : ℕ) (x : Peer × Msg) (xs : List (Peer × Msg)) (f : Flying) → In f (flying_from k xs) → In f (flying_from k (x ∷ xs))
+more_fly : (k : ℕ) (x : Peer × Msg) (xs : List (Peer × Msg)) (f : InFlight) → In f (in_flight_from k xs) → In f (in_flight_from k (x ∷ xs))
 more_fly k (Server to, msg.Peer m) xs f i = inr i
 more_fly k (Server to, msg.Answer a) xs f i = i
 more_fly k (Server to, msg.Client m) xs f i = i
 more_fly k (Client s, m) xs f i = i
 
-peers_go : (k : ℕ) (xs : List (Peer × Msg)) (to : ℕ) (m : PeerMsg) → In (Server to, msg.Peer m) xs → In (record { from = k; to = to; message = m }) (flying_from k xs)
+peers_go : (k : ℕ) (xs : List (Peer × Msg)) (to : ℕ) (m : PeerMsg) → In (Server to, msg.Peer m) xs → In (record { from = k; to = to; message = m }) (in_flight_from k xs)
 peers_go k [] to m i = absurd i
 peers_go k (x ∷ xs) to m (inl e) =
-    let f : Flying = record { from = k; to = to; message = m } in
-    subst (λ (z : Peer × Msg). In f (flying_from k (z ∷ xs))) e (inl refl)
+    let f : InFlight = record { from = k; to = to; message = m } in
+    subst (λ (z : Peer × Msg). In f (in_flight_from k (z ∷ xs))) e (inl refl)
 peers_go k (x ∷ xs) to m (inr i) = more_fly k x xs (record { from = k; to = to; message = m }) (peers_go k xs to m i)
 
 -- by a server
-pub down_written : (servers : ℕ) (seats before : Seats) (k : ℕ) (xs : List (Peer × Msg)) (flying : List Flying) (w : Served) → AreSent servers seats k xs → ((t : Session) → HasJoined seats t → HasJoined before t)
-    → w.seats ≡ with_downs k xs before → w.flying ≡ flying ++ flying_from k xs → AllInRange w → FitsDown xs
-down_written servers seats before k xs flying w sent joined seats_are flying_is r = all_of (λ (x : Peer × Msg). IsWritten x.1) xs (λ x i. one x i (each_of (IsSent servers seats k) xs sent x i))
+pub down_written : (servers : ℕ) (seats before : Seats) (k : ℕ) (xs : List (Peer × Msg)) (in_flight : List InFlight) (w : Served) → AreSent servers seats k xs → ((t : Session) → HasJoined seats t → HasJoined before t)
+    → w.seats ≡ with_downs k xs before → w.in_flight ≡ in_flight ++ in_flight_from k xs → AllInRange w → FitsDown xs
+down_written servers seats before k xs in_flight w sent joined seats_are flying_is r = all_of (λ (x : Peer × Msg). IsWritten x.1) xs (λ x i. one x i (each_of (IsSent servers seats k) xs sent x i))
   where
     one : (x : Peer × Msg) → In x xs → IsSent servers seats k x → IsWritten x.1
     one (Client s, msg.Answer a) i q =
         let d = answers_go k xs before s a (joined s q.0) i in
         written (msg.Answer a) (r.down s d.seat (k, a) (ap (λ (m : Seats). get m s.0) seats_are ∙ d.at) d.among)
     one (Server to, msg.Peer m) i q =
-        let f : Flying = record { from = k; to = to; message = m } in
-        written (msg.Peer m) (r.flying f (subst (λ (fs : List Flying). In f fs) (sym flying_is) (In-behind f flying (flying_from k xs) (peers_go k xs to m i))))
+        let f : InFlight = record { from = k; to = to; message = m } in
+        written (msg.Peer m) (r.in_flight f (subst (λ (fs : List InFlight). In f fs) (sym flying_is) (In-behind f in_flight (in_flight_from k xs) (peers_go k xs to m i))))
     one (Client s, msg.Client m) i q = absurd q
     one (Client s, msg.Peer m) i q = absurd q
     one (Server to, msg.Answer a) i q = absurd q

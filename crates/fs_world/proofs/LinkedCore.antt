@@ -25,8 +25,8 @@ use Rattle.fs_msg.specs.declared.note.Note.{Note}
 use Rattle.fs_msg.specs.declared.note.Note.TheVariants as note
 use Rattle.fs_actor.specs.Actor.{first_spent, is_full_down, with_pushed}
 use Rattle.fs_actor.specs.Hearing.{heard_in}
-use Rattle.fs_serial.specs.Cluster.{flying_from, is_between, is_with, without_first}
-use Rattle.fs_serial.specs.declared.flying.Flying.{Flying}
+use Rattle.fs_serial.specs.Cluster.{in_flight_from, is_between, is_with, without_first}
+use Rattle.fs_serial.specs.declared.in_flight.InFlight.{InFlight}
 use Rattle.fs_server.specs.Server.{Stepped as CoreStepped}
 use Rattle.fs_server.specs.Step.{spent_by, step}
 use Rattle.fs_server.specs.declared.event.ServerEvent.{ServerEvent}
@@ -59,7 +59,7 @@ pub record IsGoing (w : Served) (k : ℕ) (x : ServerStepped) : Type 0 where
   pub tied : AreTied (serving k x w)
   pub server : IsServed (length w.servers) x.seats k x.server
   pub seats : AllSeated (length w.servers) x.seats
-  pub flying : (f : Flying) → In f x.flying → IsCarried (length w.servers) x.seats f
+  pub in_flight : (f : InFlight) → In f x.in_flight → IsCarried (length w.servers) x.seats f
   pub joined : (t : Session) → HasJoined w.seats t → HasJoined x.seats t
 
 -- the step is not begun
@@ -75,7 +75,7 @@ begins w k c post e f h = record {
   tied = subst AreTied (sym (serving_same w k c post e f)) h.ties;
   server = h.servers k c e;
   seats = h.seats;
-  flying = h.flying;
+  in_flight = h.in_flight;
   joined = λ t g. g;
 }
 
@@ -92,7 +92,7 @@ going_linked w k x few g h =
       ties = g.tied;
       servers = λ j c i. subst (λ (n : ℕ). IsServed n x.seats j c) (sym len) (core j c (sym (got_set w.servers k j x.server few) ∙ i));
       seats = λ s seat i. subst (λ (n : ℕ). IsSeated n s seat) (sym len) (g.seats s seat i);
-      flying = λ f i. subst (λ (n : ℕ). IsCarried n x.seats f) (sym len) (g.flying f i);
+      in_flight = λ f i. subst (λ (n : ℕ). IsCarried n x.seats f) (sym len) (g.in_flight f i);
     }
   where
     core : (j : ℕ) (c : Core) → cond (j == k) (Some x.server) (slice_get w.servers j) ≡ Some c → IsServed (length w.servers) x.seats j c
@@ -133,7 +133,7 @@ module _ (w : Served) (k : ℕ) (few : k < length w.servers) (h : IsLinked w) wh
     tied = server_due w k there x (server_goes k turn heard n spent x) turn heard refl refl refl refl (heard_there x heard of) g.tied;
     server = g.server;
     seats = g.seats;
-    flying = g.flying;
+    in_flight = g.in_flight;
     joined = g.joined;
   }
 
@@ -161,14 +161,14 @@ module _ (w : Served) (k : ℕ) (few : k < length w.servers) (h : IsLinked w) wh
   downs_seated seats ((Client s, msg.Peer c) ∷ xs) m sent g = absurd sent.0
   downs_seated seats ((Server to, c) ∷ xs) m sent g = downs_seated seats xs m sent.1 g
 
-  flying_carried : (seats : Seats) (xs : List (Peer × Msg)) → AreSent server_count seats k xs → (f : Flying) → In f (flying_from k xs) → IsCarried server_count seats f
+  flying_carried : (seats : Seats) (xs : List (Peer × Msg)) → AreSent server_count seats k xs → (f : InFlight) → In f (in_flight_from k xs) → IsCarried server_count seats f
   flying_carried seats [] sent f i = absurd i
   flying_carried seats ((Client s, msg.Answer a) ∷ xs) sent f i = flying_carried seats xs sent.1 f i
   flying_carried seats ((Client s, msg.Client c) ∷ xs) sent f i = absurd sent.0
   flying_carried seats ((Client s, msg.Peer c) ∷ xs) sent f i = absurd sent.0
   flying_carried seats ((Server to, msg.Answer a) ∷ xs) sent f i = absurd sent.0
   flying_carried seats ((Server to, msg.Client c) ∷ xs) sent f i = absurd sent.0
-  flying_carried seats ((Server to, msg.Peer m) ∷ xs) sent f (inl e) = subst (λ (y : Flying). IsCarried server_count seats y) (sym e) sent.0
+  flying_carried seats ((Server to, msg.Peer m) ∷ xs) sent f (inl e) = subst (λ (y : InFlight). IsCarried server_count seats y) (sym e) sent.0
   flying_carried seats ((Server to, msg.Peer m) ∷ xs) sent f (inr i) = flying_carried seats xs sent.1 f i
 
   -- its core takes the step, and what that sends is on its way
@@ -179,18 +179,18 @@ module _ (w : Served) (k : ℕ) (few : k < length w.servers) (h : IsLinked w) wh
       let k_step : IsStepped server_count x.seats k y = step_goes server_count x.seats k few (readable_in server_count x.seats g.seats) x.server now e brought g.server in
       let still = downs_joined k y.out.send x.seats in
       record {
-        tied = tied_same (with_pushed y.out.send x.post) (with_downs k y.out.send x.seats) (x.flying ++ flying_from k y.out.send) y.server (x.journal ++ y.out.admitted) (server_sends w k there server_count x.seats (posts_there w h) (readable_in server_count x.seats g.seats) y.out.send x (λ t j. j) k_step.sends fits room g.tied);
+        tied = tied_same (with_pushed y.out.send x.post) (with_downs k y.out.send x.seats) (x.in_flight ++ in_flight_from k y.out.send) y.server (x.journal ++ y.out.admitted) (server_sends w k there server_count x.seats (posts_there w h) (readable_in server_count x.seats g.seats) y.out.send x (λ t j. j) k_step.sends fits room g.tied);
         server = served_then server_count x.seats (with_downs k y.out.send x.seats) k y.server still k_step.server;
         seats = downs_seated x.seats y.out.send x.seats k_step.sends g.seats;
-        flying = λ f i. carried_then server_count x.seats (with_downs k y.out.send x.seats) f still (In-both f x.flying (flying_from k y.out.send) (IsCarried server_count x.seats f) (λ j. g.flying f j) (λ j. flying_carried x.seats y.out.send k_step.sends f j) i);
+        in_flight = λ f i. carried_then server_count x.seats (with_downs k y.out.send x.seats) f still (In-both f x.in_flight (in_flight_from k y.out.send) (IsCarried server_count x.seats f) (λ j. g.in_flight f j) (λ j. flying_carried x.seats y.out.send k_step.sends f j) i);
         joined = λ t j. still t (g.joined t j);
       }
     where
       -- the server and the journal have no part in the links
-      tied_same : (post : Links) (seats : Seats) (flying : List Flying) (server : Core) (journal : List Item) → AreTied (serving k (record x { post = post; seats = seats; flying = flying }) w) → AreTied (serving k (record x { server = server; post = post; seats = seats; flying = flying; journal = journal }) w)
-      tied_same post seats flying server journal t =
-          let a = record x { post = post; seats = seats; flying = flying } in
-          let b = record x { server = server; post = post; seats = seats; flying = flying; journal = journal } in
+      tied_same : (post : Links) (seats : Seats) (in_flight : List InFlight) (server : Core) (journal : List Item) → AreTied (serving k (record x { post = post; seats = seats; in_flight = in_flight }) w) → AreTied (serving k (record x { server = server; post = post; seats = seats; in_flight = in_flight; journal = journal }) w)
+      tied_same post seats in_flight server journal t =
+          let a = record x { post = post; seats = seats; in_flight = in_flight } in
+          let b = record x { server = server; post = post; seats = seats; in_flight = in_flight; journal = journal } in
           tied_alike (serving k a w) (serving k b w) refl refl refl refl t
 
   pub core_goes : (x : ServerStepped) (turn : Bool) (heard : Option Peer) (now : ℕ) (e : ServerEvent) → IsOther server_count x.seats k heard → IsBrought server_count x.seats x.server e → FitsDown (step x.server now e).out.send → is_full_down (step x.server now e).out.send x.post ≡ false
@@ -214,7 +214,7 @@ module _ (w : Served) (k : ℕ) (few : k < length w.servers) (h : IsLinked w) wh
   goes_out : (x : ServerStepped) (replied : Option Peer) (notes : List Note) (spent : Option Counter) → IsOther server_count x.seats k replied → IsGoing w k x → IsGoing w k (due_out k replied notes spent x)
   goes_out x replied notes spent of g =
       let then = due_goes x false replied note.None spent of g in
-      record { tied = then.tied; server = then.server; seats = then.seats; flying = then.flying; joined = then.joined }
+      record { tied = then.tied; server = then.server; seats = then.seats; in_flight = then.in_flight; joined = then.joined }
 
   of_other : (from : Peer) (p : Packet) → IsOther server_count w.seats k (Some from) → IsOther server_count w.seats k (heard_in from p)
   of_other from p of = either (is_some p.body)
@@ -228,7 +228,7 @@ module _ (w : Served) (k : ℕ) (few : k < length w.servers) (h : IsLinked w) wh
       → IsGoing w k x → IsAnswered now from heard.joined x → IsGoing w k (server_heard now k from replied heard x)
   all_heard x from now replied heard of sender first g answered =
       let es = events_in w k from heard.joined first in
-      let brought = brought_still w.seats x.seats es.0 g.joined (next_brought server_count k from es.0 w.seats w.seats w.flying sender h.flying es.2) in
+      let brought = brought_still w.seats x.seats es.0 g.joined (next_brought server_count k from es.0 w.seats w.seats w.in_flight sender h.in_flight es.2) in
       let then = steps_taken es.0 x now brought (answered_room now from heard.joined es.0 x es.1 answered) (answered_written now from heard.joined es.0 x es.1 answered) g in
       subst (IsGoing w k) (sym (heard_is k now from replied heard es.0 x es.1))
       (goes_out (taking_all k now es.0 x) replied _ _ (other_still server_count w.seats (taking_all k now es.0 x).seats k replied then.joined of) then)
@@ -272,9 +272,9 @@ up_seated servers s seat [] is g = g
 up_seated servers s seat (j ∷ js) is g =
     up_seated servers s (record seat { up = without_first is seat.up }) js is (record { number = g.number; session = g.session; log = g.log; hints = g.hints; up = λ m i. g.up m (In_without is seat.up m i); down = g.down })
 
-In-taken : (joined : List Joined) (is : Flying → Bool) (f : Flying) (flying : List Flying) → In f (without_each joined is flying) → In f flying
-In-taken [] is f flying i = i
-In-taken (j ∷ js) is f flying i = In_without is flying f (In-taken js is f (without_first is flying) i)
+In-taken : (joined : List Joined) (is : InFlight → Bool) (f : InFlight) (in_flight : List InFlight) → In f (without_each joined is in_flight) → In f in_flight
+In-taken [] is f in_flight i = i
+In-taken (j ∷ js) is f in_flight i = In_without is in_flight f (In-taken js is f (without_first is in_flight) i)
 
 -- of a session
 seats_gone : (k : ℕ) (s : Session) (js : List Joined) (seats : Seats) (seat : Seat) → get seats s.0 ≡ Some seat → insert seats s.0 (record seat { up = without_each js (is_with k) seat.up }) ≡ seats_without_each k (Client s) js seats
@@ -285,18 +285,18 @@ seats_gone k s (j ∷ js) seats seat is =
     ∙ seats_gone k s js (insert seats s.0 left) left (got_here seats s left)
     ∙ sym (ap (λ (o : Option Seat). seats_without_each k (Client s) js (without_up k o s.0 seats)) is)
 
-flying_stays : (k : ℕ) (s : Session) (js : List Joined) (flying : List Flying) → flying ≡ flying_without_each k (Client s) js flying
-flying_stays k s [] flying = refl
-flying_stays k s (j ∷ js) flying = flying_stays k s js flying
+flying_stays : (k : ℕ) (s : Session) (js : List Joined) (in_flight : List InFlight) → in_flight ≡ flying_without_each k (Client s) js in_flight
+flying_stays k s [] in_flight = refl
+flying_stays k s (j ∷ js) in_flight = flying_stays k s js in_flight
 
 -- of another server
 seats_stay : (k i : ℕ) (js : List Joined) (seats : Seats) → seats ≡ seats_without_each k (Server i) js seats
 seats_stay k i [] seats = refl
 seats_stay k i (j ∷ js) seats = seats_stay k i js seats
 
-flying_gone : (k i : ℕ) (js : List Joined) (flying : List Flying) → without_each js (is_between i k) flying ≡ flying_without_each k (Server i) js flying
-flying_gone k i [] flying = refl
-flying_gone k i (j ∷ js) flying = flying_gone k i js (without_first (is_between i k) flying)
+flying_gone : (k i : ℕ) (js : List Joined) (in_flight : List InFlight) → without_each js (is_between i k) in_flight ≡ flying_without_each k (Server i) js in_flight
+flying_gone k i [] in_flight = refl
+flying_gone k i (j ∷ js) in_flight = flying_gone k i js (without_first (is_between i k) in_flight)
 
 -- what was joined is on its way no more
 gone_going : (w : Served) (k : ℕ) (c : Core) (post : Links) (from : Peer) (p : Packet) → slice_get w.servers k ≡ Some c → slice_get w.posts k ≡ Some post → WasSent from (Server k) (Some p) w.packets.sent → IsLinked w
@@ -315,25 +315,25 @@ gone_going w k c post (Client s) p i e x h =
       tied = server_hears_session w k (within w.posts k post e) s seat p y is (packet_of w (Client s) (Server k) seat.post post p (ap seat_post is) e x h) start.tied;
       server = served_then n w.seats (insert w.seats s.0 left) k c (λ t q. joined_still w.seats s t left q) start.server;
       seats = all_put (IsSeated n) w.seats s left (up_seated n s seat a.heard.joined (is_with k) (h.seats s seat is)) h.seats;
-      flying = λ f j. carried_then n w.seats (insert w.seats s.0 left) f (λ t q. joined_still w.seats s t left q) (h.flying f j);
+      in_flight = λ f j. carried_then n w.seats (insert w.seats s.0 left) f (λ t q. joined_still w.seats s t left q) (h.in_flight f j);
       joined = λ t q. joined_still w.seats s t left q;
     } in
-    subst (λ (fs : List Flying). IsGoing w k (record y { post = a.links; seats = seats_without_each k (Client s) a.heard.joined w.seats; flying = fs })) (flying_stays k s a.heard.joined w.flying)
+    subst (λ (fs : List InFlight). IsGoing w k (record y { post = a.links; seats = seats_without_each k (Client s) a.heard.joined w.seats; in_flight = fs })) (flying_stays k s a.heard.joined w.in_flight)
     (subst (λ (m : Seats). IsGoing w k (record y { post = a.links; seats = m })) (seats_gone k s a.heard.joined w.seats seat is) gone)
 gone_going w k c post (Server i) p at e x h =
     let y : ServerStepped = at_server c post w in
     let g = went w (Server i) (Server k) p x h in
     let a = post_accepted post (Server i) p in
     let start = begins w k c post at e h in
-    let gone : IsGoing w k (record y { post = a.links; flying = without_each a.heard.joined (is_between i k) w.flying }) = record {
+    let gone : IsGoing w k (record y { post = a.links; in_flight = without_each a.heard.joined (is_between i k) w.in_flight }) = record {
       tied = server_hears_server w k (within w.posts k post e) i g.from.0 p y g.from.1 g.apart (other_way (Server i) (Server k) g.apart) (packet_of w (Server i) (Server k) g.from.0 post p g.from.1 e x h) start.tied;
       server = start.server;
       seats = h.seats;
-      flying = λ f j. h.flying f (In-taken a.heard.joined (is_between i k) f w.flying j);
+      in_flight = λ f j. h.in_flight f (In-taken a.heard.joined (is_between i k) f w.in_flight j);
       joined = λ t q. q;
     } in
-    subst (λ (m : Seats). IsGoing w k (record y { post = a.links; seats = m; flying = flying_without_each k (Server i) a.heard.joined w.flying })) (seats_stay k i a.heard.joined w.seats)
-    (subst (λ (fs : List Flying). IsGoing w k (record y { post = a.links; flying = fs })) (flying_gone k i a.heard.joined w.flying) gone)
+    subst (λ (m : Seats). IsGoing w k (record y { post = a.links; seats = m; in_flight = flying_without_each k (Server i) a.heard.joined w.in_flight })) (seats_stay k i a.heard.joined w.seats)
+    (subst (λ (fs : List InFlight). IsGoing w k (record y { post = a.links; in_flight = fs })) (flying_gone k i a.heard.joined w.in_flight) gone)
 
 -- whoever sent it has joined, or is another server that there is
 sender_there : (w : Served) (k : ℕ) (from : Peer) (p : Packet) → WasSent from (Server k) (Some p) w.packets.sent → IsLinked w → IsOther (length w.servers) w.seats k (Some from) × IsSender w.seats from
@@ -342,8 +342,8 @@ sender_there w k (Server i) p x h =
     let g = went w (Server i) (Server k) p x h in
     ((subst (λ (m : ℕ). i < m) h.posts (within w.posts i g.from.0 g.from.1), g.apart), tt)
 
-pub told_server_brought : (w : Served) (k : ℕ) (post : Links) (from : Peer) (p : Packet) (es : List ServerEvent) → WasSent from (Server k) (Some p) w.packets.sent → IsLinked w → AreNext k from es w.seats w.flying → AreBrought w.seats es
-told_server_brought w k post from p es x h next = next_brought (length w.servers) k from es w.seats w.seats w.flying (sender_there w k from p x h).1 h.flying next
+pub told_server_brought : (w : Served) (k : ℕ) (post : Links) (from : Peer) (p : Packet) (es : List ServerEvent) → WasSent from (Server k) (Some p) w.packets.sent → IsLinked w → AreNext k from es w.seats w.in_flight → AreBrought w.seats es
+told_server_brought w k post from p es x h next = next_brought (length w.servers) k from es w.seats w.seats w.in_flight (sender_there w k from p x h).1 h.in_flight next
 
 pub told_server_linked : (w : Served) (k : ℕ) (c : Core) (post : Links) (now : ℕ) (from : Peer) (p : Packet) → slice_get w.servers k ≡ Some c → slice_get w.posts k ≡ Some post → WasSent from (Server k) (Some p) w.packets.sent
     → IsAnswered now from (post_accepted post from p).heard.joined (record (at_server c post w) { post = (post_accepted post from p).links })

@@ -12,7 +12,7 @@ use Rattle.fs_wire.specs.Readable.{is_readable_session}
 use Rattle.fs_msg.specs.declared.limits.TheConstants.{SERVERS}
 use Rattle.fs_msg.specs.declared.msg.Msg.{Msg}
 use Rattle.fs_serial.specs.Cluster.{first_servers}
-use Rattle.fs_serial.specs.declared.flying.Flying.{Flying}
+use Rattle.fs_serial.specs.declared.in_flight.InFlight.{InFlight}
 use Rattle.fs_server.specs.Server.{first_server}
 use Rattle.fs_server.specs.declared.state.Server.{Server as Core}
 use Rattle.fs_world.specs.Linked.{AreTied, HasJoined, IsCarried, IsLinked, IsPair, IsPost, IsSeated, IsServed, between, downs_of, post_of, seat_post, ups_of, BringsParcel}
@@ -44,7 +44,7 @@ brings_then a b (Vote m) g h = h
 brings_then a b (Decide m) g h = h
 brings_then a b (Done m) g h = h
 
-pub carried_then : (servers : ℕ) (a b : Seats) (f : Flying) → ((t : Session) → HasJoined a t → HasJoined b t) → IsCarried servers a f → IsCarried servers b f
+pub carried_then : (servers : ℕ) (a b : Seats) (f : InFlight) → ((t : Session) → HasJoined a t → HasJoined b t) → IsCarried servers a f → IsCarried servers b f
 carried_then servers a b f g h = record { from = h.from; to = h.to; apart = h.apart; parcel = brings_then a b f.message g h.parcel }
 
 abbrev pub AllSeated : ℕ → Seats → Type 0
@@ -112,7 +112,7 @@ first_linked n skew term some few =
       ties = first_tied n skew term;
       servers = λ k s e. subst (λ (m : ℕ). IsServed m empty k s) (sym len) (subst (λ (x : Core). IsServed n empty k x) (sym (first_core n k skew term s e)) (first_served_core n empty k skew term (omega arith)));
       seats = λ s seat e. absurd (no_seat seat (sym e ∙ get-empty nat_cmp s.0));
-      flying = λ f i. absurd i;
+      in_flight = λ f i. absurd i;
     }
 
 -- ## A session joins
@@ -133,7 +133,7 @@ joins w s None e readable h =
       ties = seat_joins w s w.term e h.ties;
       servers = λ k c i. served_then n w.seats (insert w.seats s.0 seat) k c (λ t g. joined_still w.seats s t seat g) (h.servers k c i);
       seats = all_put (IsSeated n) w.seats s seat (first_seated n s w.term (let some = h.some in omega arith) readable) h.seats;
-      flying = λ f i. carried_then n w.seats (insert w.seats s.0 seat) f (λ t g. joined_still w.seats s t seat g) (h.flying f i);
+      in_flight = λ f i. carried_then n w.seats (insert w.seats s.0 seat) f (λ t g. joined_still w.seats s t seat g) (h.in_flight f i);
     }
 joins w s (Some seat) e readable h = h
 
@@ -150,5 +150,5 @@ mark_linked w j h = record {
   ties = tied_alike w (record w { packets = with_told j w.packets }) refl refl refl refl h.ties;
   servers = h.servers;
   seats = h.seats;
-  flying = h.flying;
+  in_flight = h.in_flight;
 }

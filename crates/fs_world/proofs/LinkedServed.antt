@@ -24,8 +24,8 @@ use Rattle.fs_msg.specs.declared.msg.Msg.{Msg}
 use Rattle.fs_msg.specs.declared.msg.Msg.TheVariants as msg
 use Rattle.fs_msg.specs.declared.peer_msg.PeerMsg.{PeerMsg}
 use Rattle.fs_actor.specs.Actor.{is_full_down, is_full_for, with_pushed}
-use Rattle.fs_serial.specs.Cluster.{flying_from, is_between, is_with}
-use Rattle.fs_serial.specs.declared.flying.Flying.{Flying}
+use Rattle.fs_serial.specs.Cluster.{in_flight_from, is_between, is_with}
+use Rattle.fs_serial.specs.declared.in_flight.InFlight.{InFlight}
 use Rattle.fs_wire.specs.Readable.{is_readable_session}
 use Rattle.fs_world.specs.Linked.{AreTied, FitsDown, HasJoined, IsWritten, between, downs_of, flying_between, post_of, seat_post, ups_of}
 use Rattle.fs_world.specs.Packets.{Packets, with_sent}
@@ -48,7 +48,7 @@ pub record Elsewhere (k : ℕ) (x y : ServerStepped) : Type 0 where
   pub posts : (t : ℕ) → seat_post (get y.seats t) ≡ seat_post (get x.seats t)
   pub ups : (j t : ℕ) → same_peer (Server j) (Server k) ≡ false → ups_of j (get y.seats t) ≡ ups_of j (get x.seats t)
   pub downs : (j t : ℕ) → same_peer (Server j) (Server k) ≡ false → downs_of j (get y.seats t) ≡ downs_of j (get x.seats t)
-  pub parcels : (i j : ℕ) → same_peer (Server i) (Server k) ≡ false → same_peer (Server j) (Server k) ≡ false → flying_between i j y.flying ≡ flying_between i j x.flying
+  pub parcels : (i j : ℕ) → same_peer (Server i) (Server k) ≡ false → same_peer (Server j) (Server k) ≡ false → flying_between i j y.in_flight ≡ flying_between i j x.in_flight
 
 -- servers with different numbers are not one
 abbrev number_of : Peer → ℕ
@@ -87,22 +87,22 @@ module _ (w : Served) (k : ℕ) (there : k < length w.posts) where
 
   -- ## What is due goes out
 
-  pub server_due : (x y : ServerStepped) (turn : Bool) (heard : Option Peer) → y.post ≡ (post_due x.post turn heard).links → y.packets ≡ with_sent (post_due x.post turn heard).sent x.packets → y.seats ≡ x.seats → y.flying ≡ x.flying → IsHeard (at x) (Server k) heard → AreTied (at x) → AreTied (at y)
-  server_due x y turn heard post sent seats flying of h =
+  pub server_due : (x y : ServerStepped) (turn : Bool) (heard : Option Peer) → y.post ≡ (post_due x.post turn heard).links → y.packets ≡ with_sent (post_due x.post turn heard).sent x.packets → y.seats ≡ x.seats → y.in_flight ≡ x.in_flight → IsHeard (at x) (Server k) heard → AreTied (at x) → AreTied (at y)
+  server_due x y turn heard post sent seats in_flight of h =
       tied_due (Server k) x.post turn heard (at x) (at y) (server_post x) of
       (subst (λ (p : Links). Changes (Server k) p (at x) (at y) (post_due x.post turn heard).sent) post
       (server_changes x y (post_due x.post turn heard).sent (record {
         posts = λ t. ap (λ (m : Seats). seat_post (get m t)) seats;
         ups = λ j t f. ap (λ (m : Seats). ups_of j (get m t)) seats;
         downs = λ j t f. ap (λ (m : Seats). downs_of j (get m t)) seats;
-        parcels = λ i j f g. ap (λ (fs : List Flying). flying_between i j fs) flying;
+        parcels = λ i j f g. ap (λ (fs : List InFlight). flying_between i j fs) in_flight;
       }) (ap (λ (p : Packets). p.sent) sent)))
       ways h
     where
       ways : (b c : Peer) → between (at y) b c ≡ between (at x) b c
       ways (Client t) (Server j) = ap (λ (m : Seats). ups_of j (get m t.0)) seats
       ways (Server j) (Client t) = ap (λ (m : Seats). downs_of j (get m t.0)) seats
-      ways (Server i) (Server j) = ap (λ (fs : List Flying). flying_between i j fs) flying
+      ways (Server i) (Server j) = ap (λ (fs : List InFlight). flying_between i j fs) in_flight
       ways (Client t) (Client u) = refl
 
   -- ## An answer goes to a session that has joined
@@ -154,11 +154,11 @@ module _ (w : Served) (k : ℕ) (there : k < length w.posts) where
 
   -- ## A message goes to another server
 
-  abbrev flies : ℕ → PeerMsg → Flying
+  abbrev flies : ℕ → PeerMsg → InFlight
   flies to m = record { from = k; to = to; message = m }
 
   abbrev moving : ℕ → PeerMsg → ServerStepped → ServerStepped
-  moving to p x = record x { post = post_pushed x.post (Server to) (message (msg.Peer p)); flying = x.flying ++ flies to p ∷ [] }
+  moving to p x = record x { post = post_pushed x.post (Server to) (message (msg.Peer p)); in_flight = x.in_flight ++ flies to p ∷ [] }
 
   both_false : (a b : Bool) → b ≡ false → (a && b) ≡ false
   both_false true b e = e
@@ -174,7 +174,7 @@ module _ (w : Served) (k : ℕ) (there : k < length w.posts) where
       (written.fits readable) written.short (let free = leb-false _ _ room in omega (arith, free))
       (server_changes x (moving to p x) [] elsewhere (sym (append-nil x.packets.sent))) out back others h
     where
-      f : Flying → Msg
+      f : InFlight → Msg
       f m = msg.Peer m.message
 
       here_other : same_peer (Server k) (Server to) ≡ false
@@ -188,30 +188,30 @@ module _ (w : Served) (k : ℕ) (there : k < length w.posts) where
         posts = λ t. refl;
         ups = λ j t e. refl;
         downs = λ j t e. refl;
-        parcels = λ i j e g. ap (λ (ms : List Flying). map f ms) (no_more (is_between i j) x.flying (flies to p) (one_false (k == i) (to == j) (turned_apart i k e)));
+        parcels = λ i j e g. ap (λ (ms : List InFlight). map f ms) (no_more (is_between i j) x.in_flight (flies to p) (one_false (k == i) (to == j) (turned_apart i k e)));
       }
 
-      out : flying_between k to (x.flying ++ flies to p ∷ []) ≡ flying_between k to x.flying ++ msg.Peer p ∷ []
-      out = one_more f (is_between k to) x.flying (flies to p) (joined (k == k) (to == to) (itself k) (itself to))
+      out : flying_between k to (x.in_flight ++ flies to p ∷ []) ≡ flying_between k to x.in_flight ++ msg.Peer p ∷ []
+      out = one_more f (is_between k to) x.in_flight (flies to p) (joined (k == k) (to == to) (itself k) (itself to))
 
-      back : flying_between to k (x.flying ++ flies to p ∷ []) ≡ flying_between to k x.flying
-      back = ap (λ (ms : List Flying). map f ms) (no_more (is_between to k) x.flying (flies to p) (one_false (k == to) (to == k) (number_apart k to here_other)))
+      back : flying_between to k (x.in_flight ++ flies to p ∷ []) ≡ flying_between to k x.in_flight
+      back = ap (λ (ms : List InFlight). map f ms) (no_more (is_between to k) x.in_flight (flies to p) (one_false (k == to) (to == k) (number_apart k to here_other)))
 
       others : (c : Peer) → same_peer c (Server to) ≡ false → (between (at (moving to p x)) (Server k) c ≡ between (at x) (Server k) c) × (between (at (moving to p x)) c (Server k) ≡ between (at x) c (Server k))
       others (Client t) e = (refl, refl)
       others (Server j) e = (
-        ap (λ (ms : List Flying). map f ms) (no_more (is_between k j) x.flying (flies to p) (both_false (k == k) (to == j) (turned_apart j to e))),
-        ap (λ (ms : List Flying). map f ms) (no_more (is_between j k) x.flying (flies to p) (both_false (k == j) (to == k) (number_apart to k there_other))),
+        ap (λ (ms : List InFlight). map f ms) (no_more (is_between k j) x.in_flight (flies to p) (both_false (k == k) (to == j) (turned_apart j to e))),
+        ap (λ (ms : List InFlight). map f ms) (no_more (is_between j k) x.in_flight (flies to p) (both_false (k == j) (to == k) (number_apart to k there_other))),
       )
 
   -- ## All that is sent, one after another
 
   abbrev sending : List (Peer × Msg) → ServerStepped → ServerStepped
-  sending xs x = record x { post = with_pushed xs x.post; seats = with_downs k xs x.seats; flying = x.flying ++ flying_from k xs }
+  sending xs x = record x { post = with_pushed xs x.post; seats = with_downs k xs x.seats; in_flight = x.in_flight ++ in_flight_from k xs }
 
   module _ (servers : ℕ) (seats : Seats) (posts : (j : ℕ) → j < servers → (q : Links) × (slice_get w.posts j ≡ Some q)) (readable : (s : Session) → HasJoined seats s → is_readable_session s ≡ true) where
     pub server_sends : (xs : List (Peer × Msg)) (x : ServerStepped) → ((t : Session) → HasJoined seats t → HasJoined x.seats t) → AreSent servers seats k xs → FitsDown xs → is_full_down xs x.post ≡ false → AreTied (at x) → AreTied (at (sending xs x))
-    server_sends [] x joined sent fits room h = subst (λ (fs : List Flying). AreTied (at (record x { flying = fs }))) (sym (append-nil x.flying)) h
+    server_sends [] x joined sent fits room h = subst (λ (fs : List InFlight). AreTied (at (record x { in_flight = fs }))) (sym (append-nil x.in_flight)) h
     server_sends ((Client s, msg.Answer a) ∷ xs) x joined sent fits room h =
         let rooms = neither (is_full_for x.post (Client s) (message (msg.Answer a))) (is_full_down xs (post_pushed x.post (Client s) (message (msg.Answer a)))) room in
         let seat = joined s sent.0.0 in
@@ -221,7 +221,7 @@ module _ (w : Served) (k : ℕ) (there : k < length w.posts) where
     server_sends ((Server to, msg.Peer p) ∷ xs) x joined sent fits room h =
         let rooms = neither (is_full_for x.post (Server to) (message (msg.Peer p))) (is_full_down xs (post_pushed x.post (Server to) (message (msg.Peer p)))) room in
         let q = posts to sent.0.to in
-        subst (λ (fs : List Flying). AreTied (at (record (sending xs (moving to p x)) { flying = fs }))) (append_assoc x.flying (flies to p ∷ []) (flying_from k xs))
+        subst (λ (fs : List InFlight). AreTied (at (record (sending xs (moving to p x)) { in_flight = fs }))) (append_assoc x.in_flight (flies to p ∷ []) (in_flight_from k xs))
         (server_sends xs (moving to p x) joined sent.1 fits.1 rooms.1 (moved to p x q.0 q.1 sent.0.apart (sent_readable servers seats k (Server to, msg.Peer p) readable sent.0) fits.0 rooms.0 h))
     server_sends ((Server to, msg.Answer a) ∷ xs) x joined sent fits room h = absurd sent.0
     server_sends ((Server to, msg.Client m) ∷ xs) x joined sent fits room h = absurd sent.0
@@ -266,7 +266,7 @@ module _ (w : Served) (k : ℕ) (there : k < length w.posts) where
 
   -- of another server
   abbrev receiving : ℕ → Packet → ServerStepped → ServerStepped
-  receiving j p x = record x { post = (post_accepted x.post (Server j) p).links; flying = without_each (post_accepted x.post (Server j) p).heard.joined (is_between j k) x.flying }
+  receiving j p x = record x { post = (post_accepted x.post (Server j) p).links; in_flight = without_each (post_accepted x.post (Server j) p).heard.joined (is_between j k) x.in_flight }
 
   pub server_hears_server : (j : ℕ) (post : Links) (p : Packet) (x : ServerStepped) → slice_get w.posts j ≡ Some post → same_peer (Server j) (Server k) ≡ false → same_peer (Server k) (Server j) ≡ false
       → IsPacketOf (link_with post (Server k)).window (link_with x.post (Server j)).window p → AreTied (at x) → AreTied (at (receiving j p x))
@@ -277,14 +277,14 @@ module _ (w : Served) (k : ℕ) (there : k < length w.posts) where
       joined : List Joined
       joined = (post_accepted x.post (Server j) p).heard.joined
 
-      f : Flying → Msg
+      f : InFlight → Msg
       f m = msg.Peer m.message
 
       -- what goes there does not go elsewhere
-      to_other : (i n : ℕ) → same_peer (Server n) (Server k) ≡ false → (m : Flying) → is_between j k m ≡ true → is_between i n m ≡ false
+      to_other : (i n : ℕ) → same_peer (Server n) (Server k) ≡ false → (m : InFlight) → is_between j k m ≡ true → is_between i n m ≡ false
       to_other i n e m q = both_false (m.from == i) (m.to == n) (ap (λ (t : ℕ). t == n) (eqb-true m.to k (second (m.from == j) (m.to == k) q)) ∙ turned_apart n k e)
 
-      from_other : (i n : ℕ) → same_peer (Server i) (Server j) ≡ false → (m : Flying) → is_between j k m ≡ true → is_between i n m ≡ false
+      from_other : (i n : ℕ) → same_peer (Server i) (Server j) ≡ false → (m : InFlight) → is_between j k m ≡ true → is_between i n m ≡ false
       from_other i n e m q = one_false (m.from == i) (m.to == n) (ap (λ (t : ℕ). t == i) (eqb-true m.from j (first (m.from == j) (m.to == k) q)) ∙ turned_apart i j e)
 
       elsewhere : Elsewhere k x (receiving j p x)
@@ -292,18 +292,18 @@ module _ (w : Served) (k : ℕ) (there : k < length w.posts) where
         posts = λ t. refl;
         ups = λ i t e. refl;
         downs = λ i t e. refl;
-        parcels = λ i n e g. ap (λ (ms : List Flying). map f ms) (others_taken joined (is_between j k) (is_between i n) x.flying (λ m q. to_other i n g m q));
+        parcels = λ i n e g. ap (λ (ms : List InFlight). map f ms) (others_taken joined (is_between j k) (is_between i n) x.in_flight (λ m q. to_other i n g m q));
       }
 
-      out : flying_between k j (without_each joined (is_between j k) x.flying) ≡ flying_between k j x.flying
-      out = ap (λ (ms : List Flying). map f ms) (others_taken joined (is_between j k) (is_between k j) x.flying (λ m q. from_other k j apart_here m q))
+      out : flying_between k j (without_each joined (is_between j k) x.in_flight) ≡ flying_between k j x.in_flight
+      out = ap (λ (ms : List InFlight). map f ms) (others_taken joined (is_between j k) (is_between k j) x.in_flight (λ m q. from_other k j apart_here m q))
 
-      back : flying_between j k (without_each joined (is_between j k) x.flying) ≡ rest_of joined (flying_between j k x.flying)
-      back = rest_taken f joined (is_between j k) x.flying
+      back : flying_between j k (without_each joined (is_between j k) x.in_flight) ≡ rest_of joined (flying_between j k x.in_flight)
+      back = rest_taken f joined (is_between j k) x.in_flight
 
       others : (c : Peer) → same_peer c (Server j) ≡ false → (between (at (receiving j p x)) (Server k) c ≡ between (at x) (Server k) c) × (between (at (receiving j p x)) c (Server k) ≡ between (at x) c (Server k))
       others (Client t) e = (refl, refl)
       others (Server i) e = (
-        ap (λ (ms : List Flying). map f ms) (others_taken joined (is_between j k) (is_between k i) x.flying (λ m q. from_other k i apart_here m q)),
-        ap (λ (ms : List Flying). map f ms) (others_taken joined (is_between j k) (is_between i k) x.flying (λ m q. from_other i k e m q)),
+        ap (λ (ms : List InFlight). map f ms) (others_taken joined (is_between j k) (is_between k i) x.in_flight (λ m q. from_other k i apart_here m q)),
+        ap (λ (ms : List InFlight). map f ms) (others_taken joined (is_between j k) (is_between i k) x.in_flight (λ m q. from_other i k e m q)),
       )

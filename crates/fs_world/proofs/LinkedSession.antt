@@ -72,7 +72,7 @@ sitting_linked w s seat journal packets k h =
       ties = k.tied;
       servers = λ j c i. served_then n w.seats (insert w.seats s.0 seat) j c (λ t g. joined_still w.seats s t seat g) (h.servers j c i);
       seats = all_put (IsSeated n) w.seats s seat k.here h.seats;
-      flying = λ f i. carried_then n w.seats (insert w.seats s.0 seat) f (λ t g. joined_still w.seats s t seat g) (h.flying f i);
+      in_flight = λ f i. carried_then n w.seats (insert w.seats s.0 seat) f (λ t g. joined_still w.seats s t seat g) (h.in_flight f i);
     }
 
 -- ## What happens at a session

@@ -29,8 +29,8 @@ use Rattle.fs_msg.specs.declared.entry.Entry.{Entry}
 use Rattle.fs_msg.specs.declared.msg.Msg.TheVariants as msg
 use Rattle.fs_msg.specs.Readable.{is_readable, is_readable_entry}
 use Rattle.fs_wire.specs.Readable.{is_readable_op}
-use Rattle.fs_view.specs.declared.kept.Kept.{Kept}
-use Rattle.fs_view.specs.Kept.{file_in}
+use Rattle.fs_view.specs.declared.view_lease.ViewLease.{ViewLease}
+use Rattle.fs_view.specs.ViewLease.{file_in}
 use Rattle.fs_view.specs.View.{View, missing_in, reply_in}
 use Rattle.fs_serial.specs.World.{is_called}
 use Rattle.fs_serial.proofs.Replies.Answering.{AnswerEnds, answer_ends, as_entry, as_led, as_move, as_read, not_told, put_off}
@@ -200,11 +200,11 @@ module _ (servers : ℕ) (some : 0 < servers) where
   ship_planned [] c log h = record { joins = tt; hints = tt; sends = tt }
   ship_planned (e ∷ es) c log h = record { joins = tt; hints = tt; sends = (hinted_there c (home_of e.op) h, log_passes c (hinted c (home_of e.op)) (e ∷ es) log) }
 
-  renew_planned : (ks : List Kept) (c : Client) → IsFine servers c → IsPlanned servers (renew_some ks c)
+  renew_planned : (ks : List ViewLease) (c : Client) → IsFine servers c → IsPlanned servers (renew_some ks c)
   renew_planned [] c h = record { joins = tt; hints = tt; sends = tt }
   renew_planned (k ∷ ks) c h = record { joins = tt; hints = tt; sends = (hinted_there c (file_in k.standing) h, refl) }
 
-  release_planned : (ks : List Kept) (c : Client) → IsFine servers c → IsPlanned servers (release_some ks c)
+  release_planned : (ks : List ViewLease) (c : Client) → IsFine servers c → IsPlanned servers (release_some ks c)
   release_planned [] c h = renew_planned (ending (c.last + c.term / 2) c.view) c h
   release_planned (k ∷ ks) c h = record { joins = tt; hints = tt; sends = (hinted_there c (file_in k.standing) h, refl) }
 

@@ -4,7 +4,7 @@ use Rattle.std.specs.Prelude.{◌≢◌, Option, Some, None, is_some, slice_get}
 use Rattle.fs_ident.specs.declared.actor.Session.{Session}
 use Rattle.fs_field.specs.declared.row.Row.{Row}
 use Rattle.fs_model.specs.Step.{is_empty}
-use Rattle.fs_view.specs.declared.kept.Kept.{Kept}
+use Rattle.fs_view.specs.declared.view_lease.ViewLease.{ViewLease}
 use Rattle.fs_msg.specs.declared.client_msg.ClientMsg.{ClientMsg}
 use Rattle.fs_msg.specs.declared.client_msg.ClientMsg.TheVariants.{Ask, Renew, Release, Ship, Lead}
 use Rattle.fs_msg.specs.declared.client_note.ClientNote.{ClientNote}
@@ -53,11 +53,11 @@ pub record IsRight (ok : Answers) (n : Note) : Type 0 where
 
 -- ## At a client
 
-renew_right : (ok : Answers) (ks : List Kept) (c : Client) → IsRight ok (note.Client (renew_some ks c).out.note)
+renew_right : (ok : Answers) (ks : List ViewLease) (c : Client) → IsRight ok (note.Client (renew_some ks c).out.note)
 renew_right ok [] c = record { plain = refl; fair = tt }
 renew_right ok (k ∷ ks) c = record { plain = refl; fair = tt }
 
-release_right : (ok : Answers) (ks : List Kept) (c : Client) → IsRight ok (note.Client (release_some ks c).out.note)
+release_right : (ok : Answers) (ks : List ViewLease) (c : Client) → IsRight ok (note.Client (release_some ks c).out.note)
 release_right ok [] c = renew_right ok (ending (c.last + c.term / 2) c.view) c
 release_right ok (k ∷ ks) c = record { plain = refl; fair = tt }
 

@@ -92,7 +92,7 @@ notes_right (a ∷ answers) laws count skew greatest tale w h now within some s 
 
 -- what a server notes of the next messages of another one, one after another
 peers_right : (es : List ServerEvent) (laws : SerialLaws) (count skew greatest : ℕ) (tale : Tale) (p : Parts) (x : ServerStepped) (k : ℕ) (c : Core) (at : slice_get p.servers k ≡ Some c) (h : Holds (timed laws) count skew greatest tale (parts_at p k x))
-    (now : ℕ) (within : greatest ≤ now + skew) (i : ℕ) (ok : Answers) → AreNext k (Server i) es x.seats x.flying → AllRight ok (server_notes now es x.server)
+    (now : ℕ) (within : greatest ≤ now + skew) (i : ℕ) (ok : Answers) → AreNext k (Server i) es x.seats x.in_flight → AllRight ok (server_notes now es x.server)
 peers_right [] laws count skew greatest tale p x k c at h now within i ok next = tt
 peers_right (e ∷ es) laws count skew greatest tale p x k c at h now within i ok next =
     let q = next.0 in
@@ -107,7 +107,7 @@ peers_right (e ∷ es) laws count skew greatest tale p x k c at h now within i o
 
 module _ (laws : SerialLaws) (count skew greatest : ℕ) (tale : Tale) (w : Served) (h : HoldsOf (timed laws) count skew greatest tale w) (now : ℕ) (within : greatest ≤ now + skew) (some : 1 ≤ count) where
   abbrev rows_at : Served → List Row
-  rows_at v = rows_of_all v.servers (parcels_of v.flying)
+  rows_at v = rows_of_all v.servers (parcels_of v.in_flight)
 
   -- an answer to a log is fair in the event, which leads to this world
   abbrev fair_at : What → Served → Answers
@@ -172,7 +172,7 @@ module _ (laws : SerialLaws) (count skew greatest : ℕ) (tale : Tale) (w : Serv
         takes_log s seat (Lead m) from is first = tt
 
         -- it is one message at most
-        session_right : (s : Session) (x : Heard) (es : List ServerEvent) → packet.from ≡ Client s → AreNext k (Client s) es w.seats w.flying → (y : ServerStepped) → y.server ≡ c → y.flying ≡ flying_without_each k (Client s) es w.flying
+        session_right : (s : Session) (x : Heard) (es : List ServerEvent) → packet.from ≡ Client s → AreNext k (Client s) es w.seats w.in_flight → (y : ServerStepped) → y.server ≡ c → y.in_flight ≡ flying_without_each k (Client s) es w.in_flight
             → AllRight (fair_at what (with_server k (taking_all k now es y) w).world) (heard_notes x now es c)
         session_right s x [] from next y is flies = quiet _ x
         session_right s x (e ∷ []) from next y is flies =
@@ -180,8 +180,8 @@ module _ (laws : SerialLaws) (count skew greatest : ℕ) (tale : Tale) (w : Serv
             let asked = FromClient s q.asked.1 in
             let right : IsRight (fair_after asked) (note.Server (step c now asked).out.note) =
             event asked (question_there (timed laws) count skew greatest tale (parts_of w) h now k c at s q.seat q.asked q.there q.first) (takes_log s q.seat q.asked.1 from q.there (question_found k q.seat.up q.asked q.first)) in
-            let after : AllRight (fair_at what (with_server k (taking k now asked (record y { server = c; flying = w.flying })) w).world) (heard_notes x now (asked ∷ []) c) = (right, tt) in
-            let placed : record y { server = c; flying = w.flying } ≡ y = λ i. record y { server = sym is i; flying = sym flies i } in
+            let after : AllRight (fair_at what (with_server k (taking k now asked (record y { server = c; in_flight = w.in_flight })) w).world) (heard_notes x now (asked ∷ []) c) = (right, tt) in
+            let placed : record y { server = c; in_flight = w.in_flight } ≡ y = λ i. record y { server = sym is i; in_flight = sym flies i } in
             subst (λ (f : ServerEvent). AllRight (fair_at what (with_server k (taking k now f y) w).world) (heard_notes x now (f ∷ []) c)) (sym q.is)
             (subst (λ (z : ServerStepped). AllRight (fair_at what (with_server k (taking k now asked z) w).world) (heard_notes x now (asked ∷ []) c)) placed after)
         session_right s x (e ∷ f ∷ es) from next y is flies =
@@ -201,9 +201,9 @@ module _ (laws : SerialLaws) (count skew greatest : ℕ) (tale : Tale) (w : Serv
           let js = a.heard.joined in
           let x : ServerStepped = without_joined k from js (record (at_server c post w) { post = a.links }) in
           let es = events_in w k from js f in
-          subst (λ (y : ServerStepped). Right what (with_server k y w)) (sym (heard_is k now from (heard_in from p) a.heard es.0 x es.1)) (noted from is a.heard es.0 es.2 x refl (flying_alike k from js es.0 w.flying es.1))
+          subst (λ (y : ServerStepped). Right what (with_server k y w)) (sym (heard_is k now from (heard_in from p) a.heard es.0 x es.1)) (noted from is a.heard es.0 es.2 x refl (flying_alike k from js es.0 w.in_flight es.1))
         where
-          noted : (from : Peer) → packet.from ≡ from → (y : Heard) (es : List ServerEvent) → AreNext k from es w.seats w.flying → (x : ServerStepped) → x.server ≡ c → x.flying ≡ flying_without_each k from es w.flying
+          noted : (from : Peer) → packet.from ≡ from → (y : Heard) (es : List ServerEvent) → AreNext k from es w.seats w.in_flight → (x : ServerStepped) → x.server ≡ c → x.in_flight ≡ flying_without_each k from es w.in_flight
               → AllRight (fair_at what (with_server k (taking_all k now es x) w).world) (heard_notes y now es x.server)
           noted (Client s) is y es next x server flies = subst (λ (d : Core). AllRight (fair_at what (with_server k (taking_all k now es x) w).world) (heard_notes y now es d)) (sym server) (session_right packet told_so here s y es is next x server flies)
           noted (Server i) is y es next x server flies = subst (λ (d : Core). AllRight (fair_at what (with_server k (taking_all k now es x) w).world) (heard_notes y now es d)) (sym server) (others _ es next)
@@ -211,7 +211,7 @@ module _ (laws : SerialLaws) (count skew greatest : ℕ) (tale : Tale) (w : Serv
               start : Holds (timed laws) count skew greatest tale (parts_at (parts_of w) k (at_server c post w))
               start = subst (λ (servers : List Core). Holds (timed laws) count skew greatest tale (record (parts_of w) { servers = servers })) (sym (set_same w.servers k c at)) h
 
-              others : (ok : Answers) (es : List ServerEvent) → AreNext k (Server i) es w.seats w.flying → AllRight ok (heard_notes y now es c)
+              others : (ok : Answers) (es : List ServerEvent) → AreNext k (Server i) es w.seats w.in_flight → AllRight ok (heard_notes y now es c)
               others ok [] next = quiet ok y
               others ok (e ∷ es) next = peers_right (e ∷ es) laws count skew greatest tale (parts_of w) (at_server c post w) k c at start now within i ok next
 

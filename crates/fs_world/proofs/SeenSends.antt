@@ -9,8 +9,8 @@ use Rattle.fs_ident.specs.declared.actor.Session.{Session}
 use Rattle.fs_msg.specs.declared.answer.Answer.{Answer}
 use Rattle.fs_msg.specs.declared.msg.Msg.{Msg}
 use Rattle.fs_msg.specs.declared.msg.Msg.TheVariants as msg
-use Rattle.fs_serial.specs.Cluster.{Lines, flying_from, with_answer, with_sent}
-use Rattle.fs_serial.specs.declared.flying.Flying.{Flying}
+use Rattle.fs_serial.specs.Cluster.{Lines, in_flight_from, with_answer, with_sent}
+use Rattle.fs_serial.specs.declared.in_flight.InFlight.{InFlight}
 use Rattle.fs_world.specs.Linked.{HasJoined}
 use Rattle.fs_world.specs.Parts.{lines_of}
 use Rattle.fs_world.specs.Served.{Seats, with_down, with_down_at, with_downs}
@@ -68,9 +68,9 @@ sends_seen term k [] seats h = refl
 sends_seen term k (m ∷ rest) seats h = sends_seen term k rest (with_down k m seats) (still_all seats (with_down k m seats) (λ x i. down_joined k m seats x i) rest h.1) ∙ down_seen term k seats m rest h.0
 
 -- those to servers bring rows of these sessions
-pub flying_of_these : (these : Session → Type 0) (k : ℕ) (messages : List (Peer × Msg)) → AreSentTo these messages → (f : Flying) → In f (flying_from k messages) → BringsOf these f.message
+pub flying_of_these : (these : Session → Type 0) (k : ℕ) (messages : List (Peer × Msg)) → AreSentTo these messages → (f : InFlight) → In f (in_flight_from k messages) → BringsOf these f.message
 flying_of_these these k [] h f i = absurd i
-flying_of_these these k ((Server to, msg.Peer m) ∷ rest) h f (inl e) = subst (λ (g : Flying). BringsOf these g.message) (sym e) h.0
+flying_of_these these k ((Server to, msg.Peer m) ∷ rest) h f (inl e) = subst (λ (g : InFlight). BringsOf these g.message) (sym e) h.0
 flying_of_these these k ((Server to, msg.Peer m) ∷ rest) h f (inr i) = flying_of_these these k rest h.1 f i
 flying_of_these these k ((Client s, m) ∷ rest) h f i = flying_of_these these k rest h.1 f i
 flying_of_these these k ((Server to, msg.Client m) ∷ rest) h f i = absurd h.0

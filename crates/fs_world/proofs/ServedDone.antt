@@ -101,7 +101,7 @@ module _ (laws : SerialLaws) (count skew greatest : ℕ) (tale : Tale) (w : Serv
       let same : i ≡ found.0 = number_of_one 1 (h.replied s) i found.0 (subst (AreNumberedFrom 1) (holds.all.sessions s).replies (told_numbered s)) (in_told s i there has.by) found.1 (has.n ∙ sym found.2.n) in
       subst (λ (x : Item). Agrees x t) (sym same) found.3
 
-  pub served_serial : IsSerialRun first_space w.journal (nodes_of (records_of_all w.servers (parcels_of w.flying)))
+  pub served_serial : IsSerialRun first_space w.journal (nodes_of (records_of_all w.servers (parcels_of w.in_flight)))
   served_serial = holds.all.servers.serial
 
   pub served_ordered : IsInSessionOrder w.journal tale.told

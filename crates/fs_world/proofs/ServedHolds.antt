@@ -12,7 +12,7 @@ use Rattle.fs_client.specs.declared.plan.Plan.{Plan}
 use Rattle.fs_server.specs.declared.state.Server.{Server}
 use Rattle.fs_serial.specs.Cluster.{CanCome, ClientEvent, Cluster, Lines, after_client, after_plan, with_lines}
 use Rattle.fs_serial.specs.World.{pushed, told_by, with_told}
-use Rattle.fs_serial.specs.declared.flying.Flying.{Flying}
+use Rattle.fs_serial.specs.declared.in_flight.InFlight.{InFlight}
 use Rattle.fs_world.specs.Linked.{AreOfJoined, HasJoined}
 use Rattle.fs_world.specs.Order.{Leads, Tale, Told}
 use Rattle.fs_world.specs.Parts.{lines_in, lines_of}
@@ -30,11 +30,11 @@ pub record Parts : Type 0 where
   pub term : ℕ
   pub servers : List Server
   pub seats : Seats
-  pub flying : List Flying
+  pub in_flight : List InFlight
   pub journal : List Item
 
 abbrev pub cluster_of : (Session → List Item) → Parts → Cluster
-cluster_of replied p = record { servers = p.servers; flying = p.flying; journal = p.journal; replied = replied; lines = lines_of p.term p.seats }
+cluster_of replied p = record { servers = p.servers; in_flight = p.in_flight; journal = p.journal; replied = replied; lines = lines_of p.term p.seats }
 
 -- of these parts of a world of so many servers in which this was told, where no reading was greater
 pub record Holds (laws : EventLaws) (count skew greatest : ℕ) (tale : Tale) (p : Parts) : Type 0 where
@@ -42,7 +42,7 @@ pub record Holds (laws : EventLaws) (count skew greatest : ℕ) (tale : Tale) (p
   pub cluster : laws.Holds skew greatest (cluster_of replied p)
   pub many : length p.servers ≡ count
   pub rows : (s : Server) → In s p.servers → AreOfJoined p.seats s.rows
-  pub parcels : (f : Flying) → In f p.flying → BringsOf (HasJoined p.seats) f.message
+  pub parcels : (f : InFlight) → In f p.in_flight → BringsOf (HasJoined p.seats) f.message
   pub answered : AllTelling (lines_of p.term p.seats) replied tale
   pub items : AllFine p.journal
 
@@ -77,7 +77,7 @@ module _ (laws : EventLaws) (count skew greatest : ℕ) (tale : Tale) (p : Parts
   pub holds_seated : (seats : Seats) → ((x : Session) → HasJoined p.seats x → HasJoined seats x) → lines_of p.term seats ≡ lines_of p.term p.seats → Holds laws count skew greatest tale (with_seats seats p)
   holds_seated seats stay same = record {
     replied = h.replied;
-    cluster = subst (λ (lines : Session → Lines). laws.Holds skew greatest (record { servers = p.servers; flying = p.flying; journal = p.journal; replied = h.replied; lines = lines })) (sym same) h.cluster;
+    cluster = subst (λ (lines : Session → Lines). laws.Holds skew greatest (record { servers = p.servers; in_flight = p.in_flight; journal = p.journal; replied = h.replied; lines = lines })) (sym same) h.cluster;
     many = h.many;
     rows = λ s i row j. stay row.session (h.rows s i row j);
     parcels = λ f i. brings_still (HasJoined p.seats) (HasJoined seats) stay f.message (h.parcels f i);
@@ -104,7 +104,7 @@ module _ (laws : EventLaws) (count skew greatest : ℕ) (tale : Tale) (p : Parts
     planned rest plan = record { client = committed plan.ready seat.client; up = pushed plan.out.send seat.up; down = rest }
 
     abbrev after : Option Item → (Session → List Item) → (Session → Lines) → Cluster
-    after admitted replied lines = record { servers = p.servers; flying = p.flying; journal = pushed admitted p.journal; replied = replied; lines = lines }
+    after admitted replied lines = record { servers = p.servers; in_flight = p.in_flight; journal = pushed admitted p.journal; replied = replied; lines = lines }
 
     plan_seen : {N : Type 0} (rest : List (ℕ × Answer)) (plan : Plan N) (next : Seat) → lines_in p.term s (Some next) ≡ planned rest plan
         → after_plan s rest plan (cluster_of h.replied p) ≡ after plan.out.admitted (with_told s (told_by s plan.ready.change plan.out.admitted) h.replied) (lines_of p.term (insert p.seats s.0 next))

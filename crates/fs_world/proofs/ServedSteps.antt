@@ -21,7 +21,7 @@ use Rattle.fs_server.specs.declared.event.ServerEvent.TheVariants.{Turn as TheTu
 use Rattle.fs_server.specs.declared.state.Server.{Server as Core}
 use Rattle.fs_actor.specs.Hearing.{heard_in}
 use Rattle.fs_serial.specs.Cluster.{IsThere, without_question}
-use Rattle.fs_serial.specs.declared.flying.Flying.{Flying}
+use Rattle.fs_serial.specs.declared.in_flight.InFlight.{InFlight}
 use Rattle.fs_serial.proofs.Lists.SetAt.{set_same}
 use Rattle.fs_world.specs.Carried.{Carries, GivesFirst, AreFirstOf, between, joined_at, post_of}
 use Rattle.fs_world.specs.Order.{Tale, after}
@@ -67,8 +67,8 @@ module _ (laws : EventLaws) (count skew greatest : ℕ) (tale : Tale) (w : Serve
         let start : Holds laws count skew greatest tale (parts_at (parts_of w) k x) = subst (λ (servers : List Core). Holds laws count skew greatest tale (record (parts_of w) { servers = servers })) (sym (set_same w.servers k c at)) h in
         let then = all_hold es.0 laws count skew greatest tale (parts_of w) x k c at start now from es.2 in
         let all : Holds laws count skew (max greatest now) tale (parts_at (parts_of w) k (taking_all k now es.0 (without_joined k from js x))) =
-        subst (λ (m : Seats). Holds laws count skew (max greatest now) tale (parts_at (parts_of w) k (taking_all k now es.0 (record x { seats = m; flying = flying_without_each k from js w.flying })))) (sym (seats_alike k from js es.0 w.seats es.1))
-        (subst (λ (fs : List Flying). Holds laws count skew (max greatest now) tale (parts_at (parts_of w) k (taking_all k now es.0 (record x { seats = seats_without_each k from es.0 w.seats; flying = fs })))) (sym (flying_alike k from js es.0 w.flying es.1)) then) in
+        subst (λ (m : Seats). Holds laws count skew (max greatest now) tale (parts_at (parts_of w) k (taking_all k now es.0 (record x { seats = m; in_flight = flying_without_each k from js w.in_flight })))) (sym (seats_alike k from js es.0 w.seats es.1))
+        (subst (λ (fs : List InFlight). Holds laws count skew (max greatest now) tale (parts_at (parts_of w) k (taking_all k now es.0 (record x { seats = seats_without_each k from es.0 w.seats; in_flight = fs })))) (sym (flying_alike k from js es.0 w.in_flight es.1)) then) in
         subst (λ (y : ServerStepped). Is (with_server k y w).world) (sym (heard_is k now from (heard_in from p) a.heard es.0 (without_joined k from js x) es.1))
         (quietly (with_server k (taking_all k now es.0 (without_joined k from js x)) w).world all)
 

@@ -11,7 +11,7 @@ use Rattle.fs_msg.specs.Readable.{is_readable}
 use Rattle.fs_msg.specs.declared.msg.Msg.{Msg}
 use Rattle.fs_msg.specs.declared.msg.Msg.TheVariants as msg
 use Rattle.fs_serial.specs.Cluster.{is_between}
-use Rattle.fs_serial.specs.declared.flying.Flying.{Flying}
+use Rattle.fs_serial.specs.declared.in_flight.InFlight.{InFlight}
 use Rattle.fs_serial.proofs.Lists.SetAt.{In_without}
 use Rattle.fs_server.specs.Step.{step}
 use Rattle.fs_server.specs.declared.event.ServerEvent.{ServerEvent}
@@ -63,19 +63,19 @@ abbrev pub IsSender : Seats → Peer → Type 0
 IsSender seats (Client s) = HasJoined seats s
 IsSender seats (Server i) = Unit {0}
 
-one_brings : (servers k : ℕ) (from : Peer) (e : ServerEvent) (b seats : Seats) (flying : List Flying) → IsSender b from → ((f : Flying) → In f flying → IsCarried servers b f) → IsNext k from e seats flying → Brings b e
-one_brings servers k (Client s) e b seats flying sender carried h = subst (Brings b) (sym h.is) (sender, message_readable h.asked.1 h.fits)
-one_brings servers k (Server i) e b seats flying sender carried h = subst (Brings b) (sym h.is) (carried h.flies (found (is_between i k) flying h.flies h.first).0).parcel
+one_brings : (servers k : ℕ) (from : Peer) (e : ServerEvent) (b seats : Seats) (in_flight : List InFlight) → IsSender b from → ((f : InFlight) → In f in_flight → IsCarried servers b f) → IsNext k from e seats in_flight → Brings b e
+one_brings servers k (Client s) e b seats in_flight sender carried h = subst (Brings b) (sym h.is) (sender, message_readable h.asked.1 h.fits)
+one_brings servers k (Server i) e b seats in_flight sender carried h = subst (Brings b) (sym h.is) (carried h.flies (found (is_between i k) in_flight h.flies h.first).0).parcel
 
-pub left_flying : (k : ℕ) (from : Peer) (flying : List Flying) (f : Flying) → In f (flying_without k from flying) → In f flying
-left_flying k (Client s) flying f i = i
-left_flying k (Server j) flying f i = In_without (is_between j k) flying f i
+pub left_flying : (k : ℕ) (from : Peer) (in_flight : List InFlight) (f : InFlight) → In f (flying_without k from in_flight) → In f in_flight
+left_flying k (Client s) in_flight f i = i
+left_flying k (Server j) in_flight f i = In_without (is_between j k) in_flight f i
 
-pub next_brought : (servers k : ℕ) (from : Peer) (es : List ServerEvent) (b seats : Seats) (flying : List Flying) → IsSender b from → ((f : Flying) → In f flying → IsCarried servers b f) → AreNext k from es seats flying → AreBrought b es
-next_brought servers k from [] b seats flying sender carried h = tt
-next_brought servers k from (e ∷ es) b seats flying sender carried h = (
-  one_brings servers k from e b seats flying sender carried h.0,
-  next_brought servers k from es b (seats_without k from seats) (flying_without k from flying) sender (λ f i. carried f (left_flying k from flying f i)) h.1,
+pub next_brought : (servers k : ℕ) (from : Peer) (es : List ServerEvent) (b seats : Seats) (in_flight : List InFlight) → IsSender b from → ((f : InFlight) → In f in_flight → IsCarried servers b f) → AreNext k from es seats in_flight → AreBrought b es
+next_brought servers k from [] b seats in_flight sender carried h = tt
+next_brought servers k from (e ∷ es) b seats in_flight sender carried h = (
+  one_brings servers k from e b seats in_flight sender carried h.0,
+  next_brought servers k from es b (seats_without k from seats) (flying_without k from in_flight) sender (λ f i. carried f (left_flying k from in_flight f i)) h.1,
 )
 
 -- whoever has joined has, without messages on their way

@@ -15,8 +15,8 @@ use Rattle.fs_actor.specs.Actor.{first_spent, is_full_down, with_pushed}
 use Rattle.fs_actor.specs.Hearing.{event_of, message_in, quiet_note}
 use Rattle.fs_actor.specs.Several.{ServerRun, first_of, server_begins, server_hears_each, server_hears_one, unjoined_notes}
 use Rattle.fs_actor.proofs.Several.{server_spent}
-use Rattle.fs_serial.specs.Cluster.{flying_from}
-use Rattle.fs_serial.specs.declared.flying.Flying.{Flying}
+use Rattle.fs_serial.specs.Cluster.{in_flight_from}
+use Rattle.fs_serial.specs.declared.in_flight.InFlight.{InFlight}
 use Rattle.fs_server.specs.Step.{spent_by, step}
 use Rattle.fs_server.specs.declared.event.ServerEvent.{ServerEvent}
 use Rattle.fs_server.specs.declared.state.Server.{Server as Core}
@@ -45,7 +45,7 @@ taking k now e x = record x {
   server = (step x.server now e).server;
   post = with_pushed (step x.server now e).out.send x.post;
   seats = with_downs k (step x.server now e).out.send x.seats;
-  flying = x.flying ++ flying_from k (step x.server now e).out.send;
+  in_flight = x.in_flight ++ in_flight_from k (step x.server now e).out.send;
   journal = x.journal ++ (step x.server now e).out.admitted;
 }
 
@@ -83,9 +83,9 @@ pub downs_append : (k : ℕ) (xs ys : List (Peer × Msg)) (seats : Seats) → wi
 downs_append k [] ys seats = refl
 downs_append k (x ∷ xs) ys seats = downs_append k xs ys (with_down k x seats)
 
-pub flying_append : (k : ℕ) (xs ys : List (Peer × Msg)) → flying_from k (xs ++ ys) ≡ flying_from k xs ++ flying_from k ys
+pub flying_append : (k : ℕ) (xs ys : List (Peer × Msg)) → in_flight_from k (xs ++ ys) ≡ in_flight_from k xs ++ in_flight_from k ys
 flying_append k [] ys = refl
-flying_append k ((Server to, msg.Peer m) ∷ xs) ys = ap (λ (fs : List Flying). record { from = k; to = to; message = m } ∷ fs) (flying_append k xs ys)
+flying_append k ((Server to, msg.Peer m) ∷ xs) ys = ap (λ (fs : List InFlight). record { from = k; to = to; message = m } ∷ fs) (flying_append k xs ys)
 flying_append k ((Server to, msg.Answer a) ∷ xs) ys = flying_append k xs ys
 flying_append k ((Server to, msg.Client m) ∷ xs) ys = flying_append k xs ys
 flying_append k ((Client s, m) ∷ xs) ys = flying_append k xs ys
@@ -96,7 +96,7 @@ ran k y x = record x {
   server = y.server;
   post = y.post;
   seats = with_downs k y.send x.seats;
-  flying = x.flying ++ flying_from k y.send;
+  in_flight = x.in_flight ++ in_flight_from k y.send;
   journal = x.journal ++ y.admitted;
 }
 
@@ -104,10 +104,10 @@ one_ran : (k now : ℕ) (e : ServerEvent) (y : ServerRun) (x : ServerStepped) �
 one_ran k now e y x =
     let out = (step y.server now e).out in
     let seats : with_downs k (y.send ++ out.send) x.seats ≡ with_downs k out.send (with_downs k y.send x.seats) = downs_append k y.send out.send x.seats in
-    let flying : x.flying ++ flying_from k (y.send ++ out.send) ≡ (x.flying ++ flying_from k y.send) ++ flying_from k out.send =
-    ap (λ (fs : List Flying). x.flying ++ fs) (flying_append k y.send out.send) ∙ sym (append_assoc x.flying (flying_from k y.send) (flying_from k out.send)) in
+    let in_flight : x.in_flight ++ in_flight_from k (y.send ++ out.send) ≡ (x.in_flight ++ in_flight_from k y.send) ++ in_flight_from k out.send =
+    ap (λ (fs : List InFlight). x.in_flight ++ fs) (flying_append k y.send out.send) ∙ sym (append_assoc x.in_flight (in_flight_from k y.send) (in_flight_from k out.send)) in
     let journal : x.journal ++ (y.admitted ++ out.admitted) ≡ (x.journal ++ y.admitted) ++ out.admitted = sym (append_assoc x.journal y.admitted out.admitted) in
-    λ i. record (taking k now e (ran k y x)) { seats = seats i; flying = flying i; journal = journal i }
+    λ i. record (taking k now e (ran k y x)) { seats = seats i; in_flight = in_flight i; journal = journal i }
 
 each_ran : (k now : ℕ) (from : Peer) (js : List Joined) (es : List ServerEvent) (y : ServerRun) (x : ServerStepped) → AreEvents from js es → ran k (server_hears_each now from js y) x ≡ taking_all k now es (ran k y x)
 each_ran k now from [] [] y x h = refl
@@ -140,9 +140,9 @@ each_sends now from (j ∷ js) (e ∷ es) y h =
 
 begun_ran : (k : ℕ) (notes : List Note) (x : ServerStepped) → ran k (server_begins x.server x.post notes) x ≡ x
 begun_ran k notes x =
-    let flying : x.flying ++ [] ≡ x.flying = append-nil x.flying in
+    let in_flight : x.in_flight ++ [] ≡ x.in_flight = append-nil x.in_flight in
     let journal : x.journal ++ [] ≡ x.journal = append-nil x.journal in
-    λ i. record x { flying = flying i; journal = journal i }
+    λ i. record x { in_flight = in_flight i; journal = journal i }
 
 abbrev pub run_in : ℕ → Peer → Heard → List Joined → ServerStepped → ServerRun
 run_in now from h js x = server_hears_each now from js (server_begins x.server x.post (unjoined_notes js h))

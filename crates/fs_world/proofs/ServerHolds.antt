@@ -21,10 +21,10 @@ use Rattle.fs_server.specs.Step.{step}
 use Rattle.fs_server.specs.declared.event.ServerEvent.{ServerEvent}
 use Rattle.fs_server.specs.declared.event.ServerEvent.TheVariants.{FromClient, FromPeer, Turn, Recall, Move}
 use Rattle.fs_server.specs.declared.state.Server.{Server}
-use Rattle.fs_serial.specs.Cluster.{Cluster, IsThere, Lines, after_server, after_server_at, flying_from, is_between, is_with, replies_after, with_lines, with_sent, without_first, without_arrived, without_question}
+use Rattle.fs_serial.specs.Cluster.{Cluster, IsThere, Lines, after_server, after_server_at, in_flight_from, is_between, is_with, replies_after, with_lines, with_sent, without_first, without_arrived, without_question}
 use Rattle.fs_serial.specs.Exchange.{IsToBeLed}
 use Rattle.fs_serial.specs.Seen.{ends_of}
-use Rattle.fs_serial.specs.declared.flying.Flying.{Flying}
+use Rattle.fs_serial.specs.declared.in_flight.InFlight.{InFlight}
 use Rattle.fs_serial.proofs.Lists.SetAt.{In_set, In_without}
 use Rattle.fs_world.specs.Linked.{HasJoined}
 use Rattle.fs_world.specs.Order.{Tale, told_to}
@@ -99,7 +99,7 @@ module _ (laws : EventLaws) (count skew greatest : ℕ) (tale : Tale) (p : Parts
   after_core e before = record p {
     servers = slice_set p.servers k (step s now e).server;
     seats = with_downs k (step s now e).out.send before;
-    flying = without_arrived k e p.flying ++ flying_from k (step s now e).out.send;
+    in_flight = without_arrived k e p.in_flight ++ in_flight_from k (step s now e).out.send;
     journal = p.journal ++ (step s now e).out.admitted;
   }
 
@@ -108,7 +108,7 @@ module _ (laws : EventLaws) (count skew greatest : ℕ) (tale : Tale) (p : Parts
     step_is = step_of (HasJoined before) s now e asker (λ row i. stay row.session (h.rows s server_in row i))
 
     abbrev stepped : (Session → Lines) → Cluster
-    stepped lines = record { servers = slice_set p.servers k (step s now e).server; flying = without_arrived k e p.flying ++ flying_from k (step s now e).out.send; journal = p.journal ++ (step s now e).out.admitted; replied = replies_after e (step s now e).out.admitted h.replied; lines = lines }
+    stepped lines = record { servers = slice_set p.servers k (step s now e).server; in_flight = without_arrived k e p.in_flight ++ in_flight_from k (step s now e).out.send; journal = p.journal ++ (step s now e).out.admitted; replied = replies_after e (step s now e).out.admitted h.replied; lines = lines }
 
     pub core_seen : after_server now k e c ≡ cluster_of (replies_after e (step s now e).out.admitted h.replied) (after_core e before)
     core_seen =
@@ -129,8 +129,8 @@ module _ (laws : EventLaws) (count skew greatest : ℕ) (tale : Tale) (p : Parts
     joined_then : (x : Session) → HasJoined before x → HasJoined (after_core e before).seats x
     joined_then x i = downs_joined k (step s now e).out.send before x i
 
-    left_there : (e : ServerEvent) (f : Flying) → In f (without_arrived k e p.flying) → In f p.flying
-    left_there (FromPeer from m) f i = In_without (is_between from k) p.flying f i
+    left_there : (e : ServerEvent) (f : InFlight) → In f (without_arrived k e p.in_flight) → In f p.in_flight
+    left_there (FromPeer from m) f i = In_without (is_between from k) p.in_flight f i
     left_there (FromClient by m) f i = i
     left_there Turn f i = i
     left_there (Recall field) f i = i
@@ -157,8 +157,8 @@ module _ (laws : EventLaws) (count skew greatest : ℕ) (tale : Tale) (p : Parts
           | inr old ↦ joined_then row.session (stay row.session (h.rows x old row j))
         ]
 
-        parcels : (f : Flying) → In f (after_core e before).flying → BringsOf (HasJoined (after_core e before).seats) f.message
-        parcels f i = elim (In-append f (without_arrived k e p.flying) (flying_from k (step s now e).out.send) i) as (λ _. BringsOf (HasJoined (after_core e before).seats) f.message) [
+        parcels : (f : InFlight) → In f (after_core e before).in_flight → BringsOf (HasJoined (after_core e before).seats) f.message
+        parcels f i = elim (In-append f (without_arrived k e p.in_flight) (in_flight_from k (step s now e).out.send) i) as (λ _. BringsOf (HasJoined (after_core e before).seats) f.message) [
           | inl old ↦ brings_still (HasJoined p.seats) (HasJoined (after_core e before).seats) (λ x y. joined_then x (stay x y)) f.message (h.parcels f (left_there e f old))
           | inr new ↦ brings_still (HasJoined before) (HasJoined (after_core e before).seats) joined_then f.message (flying_of_these (HasJoined before) k (step s now e).out.send step_is.sends f new)
         ]
@@ -184,13 +184,13 @@ module _ (laws : EventLaws) (count skew greatest : ℕ) (tale : Tale) (p : Parts
       (joined_still p.seats by by (record seat { up = without_first (is_with k) seat.up }) (seat, is))
 
   -- the message of another server is there, as it was found
-  flying_is : (j : ℕ) (f : Flying) → f.from ≡ j → f.to ≡ k → f ≡ record { from = j; to = k; message = f.message }
-  flying_is j f a b = ap (λ (i : ℕ). let g : Flying = record { from = i; to = f.to; message = f.message } in g) a ∙ ap (λ (i : ℕ). let g : Flying = record { from = j; to = i; message = f.message } in g) b
+  flying_is : (j : ℕ) (f : InFlight) → f.from ≡ j → f.to ≡ k → f ≡ record { from = j; to = k; message = f.message }
+  flying_is j f a b = ap (λ (i : ℕ). let g : InFlight = record { from = i; to = f.to; message = f.message } in g) a ∙ ap (λ (i : ℕ). let g : InFlight = record { from = j; to = i; message = f.message } in g) b
 
-  pub flying_there : (j : ℕ) (f : Flying) → find (is_between j k) p.flying ≡ Some f → IsThere k (FromPeer j f.message) c
+  pub flying_there : (j : ℕ) (f : InFlight) → find (is_between j k) p.in_flight ≡ Some f → IsThere k (FromPeer j f.message) c
   flying_there j f first =
-      let is = both (f.from == j) (f.to == k) (found (is_between j k) p.flying f first).1 in
-      first ∙ ap (λ (g : Flying). let o : Option Flying = Some g in o) (flying_is j f (eqb-true f.from j is.0) (eqb-true f.to k is.1))
+      let is = both (f.from == j) (f.to == k) (found (is_between j k) p.in_flight f first).1 in
+      first ∙ ap (λ (g : InFlight). let o : Option InFlight = Some g in o) (flying_is j f (eqb-true f.from j is.0) (eqb-true f.to k is.1))
 
-  pub flying_of_joined : (j : ℕ) (f : Flying) → find (is_between j k) p.flying ≡ Some f → IsAsked (HasJoined p.seats) (FromPeer j f.message)
-  flying_of_joined j f first = h.parcels f (found (is_between j k) p.flying f first).0
+  pub flying_of_joined : (j : ℕ) (f : InFlight) → find (is_between j k) p.in_flight ≡ Some f → IsAsked (HasJoined p.seats) (FromPeer j f.message)
+  flying_of_joined j f first = h.parcels f (found (is_between j k) p.in_flight f first).0

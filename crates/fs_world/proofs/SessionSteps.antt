@@ -43,7 +43,7 @@ use Rattle.fs_world.proofs.ServedHolds.{Holds, Parts, a_server, client_holds, cl
 use Rattle.fs_world.proofs.Told.{IsTelling, act_tells, hear_tells, quiet_note, turn_tells}
 
 abbrev pub parts_of : Served → Parts
-parts_of w = record { term = w.term; servers = w.servers; seats = w.seats; flying = w.flying; journal = w.journal }
+parts_of w = record { term = w.term; servers = w.servers; seats = w.seats; in_flight = w.in_flight; journal = w.journal }
 
 abbrev pub HoldsOf : EventLaws → ℕ → ℕ → ℕ → Tale → Served → Type 0
 HoldsOf laws count skew greatest tale w = Holds laws count skew greatest tale (parts_of w)

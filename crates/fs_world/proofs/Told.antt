@@ -18,7 +18,7 @@ use Rattle.fs_model.specs.declared.op.Op.TheVariants as op
 use Rattle.fs_model.specs.declared.reply.Reply.{Reply}
 use Rattle.fs_model.specs.declared.reply.Reply.TheVariants as reply
 use Rattle.fs_view.specs.View.{View, fresh, missing_in, reply_in}
-use Rattle.fs_view.specs.declared.kept.Kept.{Kept}
+use Rattle.fs_view.specs.declared.view_lease.ViewLease.{ViewLease}
 use Rattle.fs_msg.specs.declared.act.Act.{Act}
 use Rattle.fs_msg.specs.declared.act.Act.TheVariants as act
 use Rattle.fs_msg.specs.declared.act.Busy.TheVariants as busy
@@ -477,11 +477,11 @@ module _ (s : Session) (raw : ClientState) (now : ℕ) (down : List (ℕ × Answ
   abbrev Turns : Plan ClientNote → Type 0
   Turns p = TellsOf s raw.led (led_after p.ready.change raw.led) down down (told_by s p.ready.change p.out.admitted) [] leads leads
 
-  renews_tell : (ks : List Kept) → Turns (renew_some ks began)
+  renews_tell : (ks : List ViewLease) → Turns (renew_some ks began)
   renews_tell [] = tells_none refl refl refl refl refl
   renews_tell (k ∷ ks) = tells_none refl refl refl refl refl
 
-  releases_tell : (ks : List Kept) → Turns (release_some ks began)
+  releases_tell : (ks : List ViewLease) → Turns (release_some ks began)
   releases_tell [] = renews_tell (ending (began.last + began.term / 2) began.view)
   releases_tell (k ∷ ks) = tells_none refl refl refl refl refl
 

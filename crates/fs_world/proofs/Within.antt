@@ -97,7 +97,7 @@ own_within w k turn now e own h = go (slice_get w.servers k) (slice_get w.posts 
         let brought = own_brought (length w.servers) w.seats c e own in
         subst (λ (x : Stepped). IsLinked x.world) (step_there w k turn now e c post at tied)
         (server_linked w k c post turn now e at tied own
-        (down_written (length w.servers) w.seats w.seats k send w.flying (with_server k (core_step k turn None now e (at_server c post w)) w).world (sends w k c now e at brought h) (λ t j. j) refl refl r)
+        (down_written (length w.servers) w.seats w.seats k send w.in_flight (with_server k (core_step k turn None now e (at_server c post w)) w).world (sends w k c now e at brought h) (λ t j. j) refl refl r)
         (has_room (spent_by c now e) (is_full_down send post) unspent) h)
 
 -- ## A packet comes to a server
@@ -116,7 +116,7 @@ answers_within w k now c from replied x links es at of brought h fine =
     let sent = all_sent n w.seats k (within w.servers k c at) (readable_in n w.seats h.seats) now es c brought (h.servers k c at) in
     let all : AreSent n w.seats k run.send = subst (AreSent n w.seats k) (sym (sends_so now from x y ∙ each_sends now from x.joined es (server_begins c links []) of)) sent in
     let world = (with_server k (server_hears now k from replied x y) w).world in
-    let written : FitsDown run.send = down_written n w.seats (seats_without_each k from x.joined w.seats) k run.send (flying_without_each k from x.joined w.flying) world all (still_joined k from x.joined w.seats) refl refl fine.1 in
+    let written : FitsDown run.send = down_written n w.seats (seats_without_each k from x.joined w.seats) k run.send (flying_without_each k from x.joined w.in_flight) world all (still_joined k from x.joined w.seats) refl refl fine.1 in
     (subst FitsDown (sends_so now from x y) written, sym (spent_so now from x y) ∙ fine.0)
 
 told_within : (w : TheServed) (k now : ℕ) (from : Peer) (p : Packet) → WasSent from (Server k) (Some p) w.packets.sent → IsLinked w
@@ -151,7 +151,7 @@ tell_within w now k None at h unspent r = h
 tell_within w now k (Some x) at h unspent r =
     let sent : WasSent x.from x.to (packet_at x.bytes) w.packets.sent = record { sent = x; among = In-got w.packets.sent k x at; sender = refl; addressee = refl; read = refl } in
     mark_linked (arrives now x.from x.to (packet_at x.bytes) w).world k
-    (arrives_within w now x.from x.to (packet_at x.bytes) sent h unspent (record { up = r.up; down = r.down; flying = r.flying }))
+    (arrives_within w now x.from x.to (packet_at x.bytes) sent h unspent (record { up = r.up; down = r.down; in_flight = r.in_flight }))
 
 -- ## Every event
 

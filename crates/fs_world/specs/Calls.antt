@@ -17,8 +17,8 @@ use Rattle.fs_msg.specs.declared.item.Item.{Item}
 use Rattle.fs_msg.specs.declared.note.Note.{Note}
 use Rattle.fs_msg.specs.declared.note.Note.TheVariants as note
 use Rattle.fs_schedule.specs.declared.outcome.Outcome.{Outcome}
-use Rattle.fs_serial.specs.Cluster.{flying_from, is_with}
-use Rattle.fs_serial.specs.declared.flying.Flying.{Flying}
+use Rattle.fs_serial.specs.Cluster.{in_flight_from, is_with}
+use Rattle.fs_serial.specs.declared.in_flight.InFlight.{InFlight}
 use Rattle.fs_server.specs.Plan.{committed}
 use Rattle.fs_server.specs.Server.{Stepped as CoreStepped}
 use Rattle.fs_server.specs.declared.event.ServerEvent.{ServerEvent}
@@ -46,8 +46,8 @@ abbrev pub seat_left : Outcome → Seat → List Item → Packets → SeatSteppe
 seat_left told seat journal packets = record (seat_found seat journal packets) { outcome = told }
 
 -- what an event of a server leaves that came to this
-abbrev pub server_left : Outcome → Server → Links → Seats → List Flying → List Item → Packets → ServerStepped
-server_left told s post seats flying journal packets = record (server_found s post seats flying journal packets) { outcome = told }
+abbrev pub server_left : Outcome → Server → Links → Seats → List InFlight → List Item → Packets → ServerStepped
+server_left told s post seats in_flight journal packets = record (server_found s post seats in_flight journal packets) { outcome = told }
 
 -- the world that an event leaves that came to this
 abbrev pub world_left : Outcome → Served → Stepped
@@ -117,11 +117,11 @@ server_heard now k from replied h x =
 
 -- what came of a run at a server: it and its links are these, what it sends and admits stands behind what was there, these are the
 -- packets behind those before, and this is told
-pub record IsServerRun (y : ServerRun) (k : ℕ) (before : ServerStepped) (told : Outcome) (s : Server) (post : Links) (seats : Seats) (flying : List Flying) (journal : List Item) (packets : Packets) : Type 0 where
+pub record IsServerRun (y : ServerRun) (k : ℕ) (before : ServerStepped) (told : Outcome) (s : Server) (post : Links) (seats : Seats) (in_flight : List InFlight) (journal : List Item) (packets : Packets) : Type 0 where
   pub server_then : s ≡ y.server
   pub post_then : post ≡ y.post
   pub seats_then : seats ≡ with_downs k y.send before.seats
-  pub flying_then : flying ≡ before.flying ++ flying_from k y.send
+  pub flying_then : in_flight ≡ before.in_flight ++ in_flight_from k y.send
   pub journal_then : journal ≡ before.journal ++ y.admitted
   pub packets_then : packets ≡ with_sent y.packets before.packets
   pub told_then : told ≡ record { who = Some (TheServer k); notes = y.notes; sent = numbers_from (length before.packets.sent) y.packets }
@@ -133,13 +133,13 @@ server_hears now k from replied h x = server_heard now k from replied h (without
 
 -- the first message of the actor is on its way no more
 abbrev pub without_message : ℕ → Peer → ServerStepped → ServerStepped
-without_message k from x = record x { seats = seats_without k from x.seats; flying = flying_without k from x.flying }
+without_message k from x = record x { seats = seats_without k from x.seats; in_flight = flying_without k from x.in_flight }
 
 -- the server has changed as planned, and what it admitted and sends stands where it is to stand
 abbrev pub with_plan : ℕ → Plan → ServerStepped → ServerStepped
 with_plan k p x = record x {
   server = committed p x.server;
   seats = with_downs k p.out.send x.seats;
-  flying = x.flying ++ flying_from k p.out.send;
+  in_flight = x.in_flight ++ in_flight_from k p.out.send;
   journal = x.journal ++ p.out.admitted;
 }

@@ -15,7 +15,7 @@ use Rattle.fs_msg.specs.declared.msg.Msg.{Msg}
 use Rattle.fs_msg.specs.declared.msg.Msg.TheVariants as msg
 use Rattle.fs_schedule.specs.declared.event.Event.{Event}
 use Rattle.fs_serial.specs.Cluster.{is_between, is_with}
-use Rattle.fs_serial.specs.declared.flying.Flying.{Flying}
+use Rattle.fs_serial.specs.declared.in_flight.InFlight.{InFlight}
 use Rattle.fs_window.specs.Post.{Links, post_accepted}
 use Rattle.fs_window.specs.Reading.{packet_at}
 use Rattle.fs_window.specs.declared.packet.Packet.{Packet}
@@ -44,14 +44,14 @@ abbrev pub downs_of : ℕ → Option Seat → List Msg
 downs_of k None = []
 downs_of k (Some seat) = map (λ (m : ℕ × Answer). msg.Answer m.1) (filter (is_with k) seat.down)
 
-abbrev pub flying_between : ℕ → ℕ → List Flying → List Msg
-flying_between j k flying = map (λ (f : Flying). msg.Peer f.message) (filter (is_between j k) flying)
+abbrev pub flying_between : ℕ → ℕ → List InFlight → List Msg
+flying_between j k in_flight = map (λ (f : InFlight). msg.Peer f.message) (filter (is_between j k) in_flight)
 
 -- the messages from one actor to another, in order
 abbrev pub between : Served → Peer → Peer → List Msg
 between w (Client s) (Server k) = ups_of k (get w.seats s.0)
 between w (Server k) (Client s) = downs_of k (get w.seats s.0)
-between w (Server j) (Server k) = flying_between j k w.flying
+between w (Server j) (Server k) = flying_between j k w.in_flight
 between w (Client s) (Client t) = []
 
 -- ## What a packet gives

@@ -26,7 +26,7 @@ use Rattle.fs_record.specs.declared.led_end.LedEnd.{LedEnd}
 use Rattle.fs_record.specs.declared.led_end.LedEnd.TheVariants as led
 use Rattle.fs_record.specs.declared.led_end.Why.TheVariants as why
 use Rattle.fs_record.specs.declared.parcel.Parcel.{Parcel}
-use Rattle.fs_serial.specs.declared.flying.Flying.{Flying}
+use Rattle.fs_serial.specs.declared.in_flight.InFlight.{InFlight}
 use Rattle.fs_server.specs.declared.state.Server.{Server as Core}
 use Rattle.fs_window.specs.OnTheWay.{Carries, IsPacketOf}
 use Rattle.fs_window.specs.Packet.{IsPacket, packet_text}
@@ -155,7 +155,7 @@ BringsParcel seats (OfParcel p) = IsParcelOf seats p
 BringsParcel seats m = ⊥
 
 -- a message goes from one server to another, and so is the parcel that it brings
-pub record IsCarried (servers : ℕ) (seats : Seats) (f : Flying) : Type 0 where
+pub record IsCarried (servers : ℕ) (seats : Seats) (f : InFlight) : Type 0 where
   pub from : f.from < servers
   pub to : f.to < servers
   pub apart : f.from ≢ f.to
@@ -168,7 +168,7 @@ pub record IsLinked (w : Served) : Type 0 where
   pub ties : AreTied w
   pub servers : (k : ℕ) (s : Core) → slice_get w.servers k ≡ Some s → IsServed (length w.servers) w.seats k s
   pub seats : (s : Session) (seat : Seat) → get w.seats s.0 ≡ Some seat → IsSeated (length w.servers) s seat
-  pub flying : (f : Flying) → In f w.flying → IsCarried (length w.servers) w.seats f
+  pub in_flight : (f : InFlight) → In f w.in_flight → IsCarried (length w.servers) w.seats f
 
 -- ## What a core sends
 

@@ -30,7 +30,7 @@ lines_of term seats x = lines_in term x (get seats x.0)
 
 -- what each session was told is kept beside
 abbrev pub seen : (Session → List Item) → Served → Cluster
-seen replied w = record { servers = w.servers; flying = w.flying; journal = w.journal; replied = replied; lines = lines_of w.term w.seats }
+seen replied w = record { servers = w.servers; in_flight = w.in_flight; journal = w.journal; replied = replied; lines = lines_of w.term w.seats }
 
 -- what each session was told, as the journal and its client have it: its items, and then its log as that will be
 abbrev pub replied_in : Served → Session → List Item

@@ -66,7 +66,7 @@ IsFair answers n = Unit {0}
 -- all rows of the servers and of the parcels on their way; in the direct form there are no leases
 abbrev pub rows_of : Form → List Row
 rows_of (Direct w) = []
-rows_of (Served w) = rows_of_all w.servers (parcels_of w.flying)
+rows_of (Served w) = rows_of_all w.servers (parcels_of w.in_flight)
 
 -- each note of the events is so, one after another, from this world on, with the rows that stand after the event
 abbrev pub AllFair : Form → List Event → Type 0

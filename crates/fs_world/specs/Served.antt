@@ -19,8 +19,8 @@ use Rattle.fs_msg.specs.declared.msg.Msg.{Msg}
 use Rattle.fs_msg.specs.declared.msg.Msg.TheVariants as msg
 use Rattle.fs_msg.specs.declared.note.Note.TheVariants as note
 use Rattle.fs_client.specs.Client.{first_client}
-use Rattle.fs_serial.specs.Cluster.{first_servers, flying_from, is_between, is_with, without_first}
-use Rattle.fs_serial.specs.declared.flying.Flying.{Flying}
+use Rattle.fs_serial.specs.Cluster.{first_servers, in_flight_from, is_between, is_with, without_first}
+use Rattle.fs_serial.specs.declared.in_flight.InFlight.{InFlight}
 use Rattle.fs_server.specs.declared.event.ServerEvent.{ServerEvent}
 use Rattle.fs_server.specs.declared.event.ServerEvent.TheVariants.{Turn as TheTurn, Recall as TheRecall, Move as TheMove}
 use Rattle.fs_server.specs.declared.state.Server.{Server as Core}
@@ -61,7 +61,7 @@ first_served servers skew term = record {
   posts = first_posts servers;
   term = term;
   seats = empty;
-  flying = [];
+  in_flight = [];
   journal = [];
   packets = no_packets;
 }
@@ -176,7 +176,7 @@ pub record ServerStepped : Type 0 where
   pub server : Core
   pub post : Links
   pub seats : Seats
-  pub flying : List Flying
+  pub in_flight : List InFlight
   pub journal : List Item
   pub packets : Packets
   pub outcome : Outcome
@@ -206,7 +206,7 @@ server_stepped k y x = record {
   server = y.server;
   post = y.post;
   seats = with_downs k y.send x.seats;
-  flying = x.flying ++ flying_from k y.send;
+  in_flight = x.in_flight ++ in_flight_from k y.send;
   journal = x.journal ++ y.admitted;
   packets = with_sent y.packets x.packets;
   outcome = record { who = Some (Server k); notes = y.note ∷ []; sent = numbers_from (length x.packets.sent) y.packets };
@@ -228,21 +228,21 @@ abbrev pub seats_without : ℕ → Peer → Seats → Seats
 seats_without k (Client s) seats = without_up k (get seats s.0) s.0 seats
 seats_without k (Server j) seats = seats
 
-abbrev pub flying_without : ℕ → Peer → List Flying → List Flying
-flying_without k (Client s) flying = flying
-flying_without k (Server j) flying = without_first (is_between j k) flying
+abbrev pub flying_without : ℕ → Peer → List InFlight → List InFlight
+flying_without k (Client s) in_flight = in_flight
+flying_without k (Server j) in_flight = without_first (is_between j k) in_flight
 
 -- as many of the actor's messages, from the front, are on their way no more as there are of these
 abbrev pub seats_without_each : {Y : Type 0} → ℕ → Peer → List Y → Seats → Seats
 seats_without_each k from [] seats = seats
 seats_without_each k from (y ∷ ys) seats = seats_without_each k from ys (seats_without k from seats)
 
-abbrev pub flying_without_each : {Y : Type 0} → ℕ → Peer → List Y → List Flying → List Flying
-flying_without_each k from [] flying = flying
-flying_without_each k from (y ∷ ys) flying = flying_without_each k from ys (flying_without k from flying)
+abbrev pub flying_without_each : {Y : Type 0} → ℕ → Peer → List Y → List InFlight → List InFlight
+flying_without_each k from [] in_flight = in_flight
+flying_without_each k from (y ∷ ys) in_flight = flying_without_each k from ys (flying_without k from in_flight)
 
 abbrev pub without_joined : {Y : Type 0} → ℕ → Peer → List Y → ServerStepped → ServerStepped
-without_joined k from ys x = record x { seats = seats_without_each k from ys x.seats; flying = flying_without_each k from ys x.flying }
+without_joined k from ys x = record x { seats = seats_without_each k from ys x.seats; in_flight = flying_without_each k from ys x.in_flight }
 
 -- what an event of several messages leaves: all that the server sends is on its way, and all that it admits joins the journal
 abbrev pub server_ran : ℕ → ServerRun → ServerStepped → ServerStepped
@@ -250,7 +250,7 @@ server_ran k y x = record {
   server = y.server;
   post = y.post;
   seats = with_downs k y.send x.seats;
-  flying = x.flying ++ flying_from k y.send;
+  in_flight = x.in_flight ++ in_flight_from k y.send;
   journal = x.journal ++ y.admitted;
   packets = with_sent y.packets x.packets;
   outcome = record { who = Some (Server k); notes = y.notes; sent = numbers_from (length x.packets.sent) y.packets };
@@ -265,12 +265,12 @@ server_told now k from p x =
 -- ## Where servers stand in the world
 
 -- what an event of a server finds
-abbrev pub server_found : Core → Links → Seats → List Flying → List Item → Packets → ServerStepped
-server_found s post seats flying journal packets = record {
+abbrev pub server_found : Core → Links → Seats → List InFlight → List Item → Packets → ServerStepped
+server_found s post seats in_flight journal packets = record {
   server = s;
   post = post;
   seats = seats;
-  flying = flying;
+  in_flight = in_flight;
   journal = journal;
   packets = packets;
   outcome = outcome_of None note.Nothing;
@@ -278,7 +278,7 @@ server_found s post seats flying journal packets = record {
 }
 
 abbrev pub at_server : Core → Links → Served → ServerStepped
-at_server s post w = server_found s post w.seats w.flying w.journal w.packets
+at_server s post w = server_found s post w.seats w.in_flight w.journal w.packets
 
 abbrev pub with_server : ℕ → ServerStepped → Served → Stepped
 with_server k x w = record {
@@ -286,7 +286,7 @@ with_server k x w = record {
     servers = slice_set w.servers k x.server;
     posts = slice_set w.posts k x.post;
     seats = x.seats;
-    flying = x.flying;
+    in_flight = x.in_flight;
     journal = x.journal;
     packets = x.packets;
   };

@@ -11,7 +11,7 @@ use Rattle.fs_msg.specs.declared.client_msg.ClientMsg.{ClientMsg}
 use Rattle.fs_msg.specs.declared.msg.Msg.{Msg}
 use Rattle.fs_msg.specs.declared.msg.Msg.TheVariants as msg
 use Rattle.fs_schedule.specs.declared.event.Event.{Event}
-use Rattle.fs_serial.specs.declared.flying.Flying.{Flying}
+use Rattle.fs_serial.specs.declared.in_flight.InFlight.{InFlight}
 use Rattle.fs_world.specs.Served.{step_of}
 use Rattle.fs_world.specs.World.{FitsServed, step}
 use Rattle.fs_world.specs.declared.form.Form.{Form}
@@ -28,7 +28,7 @@ pub record IsInRange (m : Msg) : Type 0 where
 pub record AllInRange (w : Served) : Type 0 where
   pub up : (s : Session) (seat : Seat) (m : ℕ × ClientMsg) → get w.seats s.0 ≡ Some seat → In m seat.up → IsInRange (msg.Client m.1)
   pub down : (s : Session) (seat : Seat) (m : ℕ × Answer) → get w.seats s.0 ≡ Some seat → In m seat.down → IsInRange (msg.Answer m.1)
-  pub flying : (f : Flying) → In f w.flying → IsInRange (msg.Peer f.message)
+  pub in_flight : (f : InFlight) → In f w.in_flight → IsInRange (msg.Peer f.message)
 
 -- the event may happen to the world, raises no counter above its end, and leaves none but such messages on their way
 pub record IsWithinLimits (w : Served) (e : Event) : Type 0 where

@@ -47,7 +47,7 @@ packets_of (Served w) = w.packets.sent
 -- the namespace that the servers hold together
 abbrev pub space_of : Form → NodeMap
 space_of (Direct w) = w.space
-space_of (Served w) = nodes_of (records_of_all w.servers (parcels_of w.flying))
+space_of (Served w) = nodes_of (records_of_all w.servers (parcels_of w.in_flight))
 
 -- ## One event
 

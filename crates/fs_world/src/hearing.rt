@@ -6,7 +6,7 @@ ghost use Rattle.fs_ident.specs.declared.actor.Peer.TheVariants.{Server};
 ghost use Rattle.fs_ident.specs.declared.limits.TheConstants.{LATEST};
 ghost use Rattle.fs_msg.specs.declared.core_error.Counter.{Counter as TheCounter};
 ghost use Rattle.fs_msg.specs.declared.core_error.CoreError.TheVariants as errors;
-ghost use Rattle.fs_serial.specs.Cluster.{flying_from};
+ghost use Rattle.fs_serial.specs.Cluster.{in_flight_from};
 ghost use Rattle.fs_window.specs.Peers.{same_peer};
 ghost use Rattle.fs_window.specs.Post.{post_accepted, post_due};
 ghost use Rattle.fs_window.specs.Undo.{undone};
@@ -26,7 +26,7 @@ use fs_actor::{ServerHeard, event_heard, heard_in, server_hears_each, unheard_no
 use fs_ident::{List, Memory, Peer, Twin};
 use fs_msg::{CoreError, Item};
 use fs_schedule::Outcome;
-use fs_serial::Flying;
+use fs_serial::InFlight;
 use fs_server::ServerCore;
 use fs_window::{Heard, Joined, Packet, Post, Undo};
 use std::alloc::Global;
@@ -43,31 +43,31 @@ pub(crate) fn server_told(
     core: &mut ServerCore,
     post: &mut Post,
     seats: &mut Seats,
-    flying: &mut List<Flying>,
+    in_flight: &mut List<InFlight>,
     journal: &mut List<Item>,
     packets: &mut Packets,
 ) -> Result<Outcome, CoreError>
     requires reading { now ≤ LATEST }
     requires apart { same_peer from (Server k) ≡ false }
     ensures done { IfOk result (λ told.
-        server_left told core.new post.new seats.new flying.new journal.new packets.new ≡
+        server_left told core.new post.new seats.new in_flight.new journal.new packets.new ≡
         server_told now k from p.now
-        (server_found core.old post.old seats.old flying.old journal.old packets.old)) }
+        (server_found core.old post.old seats.old in_flight.old journal.old packets.old)) }
     ensures fits { OnOk result (IsAnswered now from
         (post_accepted post.old from p.now).heard.joined
         (server_found core.old (post_accepted post.old from p.now).links
-        seats.old flying.old journal.old packets.old)) }
+        seats.old in_flight.old journal.old packets.old)) }
     ensures spends { Spends result (server_told now k from p.now
-        (server_found core.old post.old seats.old flying.old journal.old packets.old)).spent }
+        (server_found core.old post.old seats.old in_flight.old journal.old packets.old)).spent }
     ensures err { OnErr result (
-        server_found core.new post.new seats.new flying.new journal.new packets.new ≡
-        server_found core.old post.old seats.old flying.old journal.old packets.old) }
+        server_found core.new post.new seats.new in_flight.new journal.new packets.new ≡
+        server_found core.old post.old seats.old in_flight.old journal.old packets.old) }
 {
     let mut undo = Undo::new(alloc);
     let heard = post.accept_with_undo(alloc, from, p, &mut undo)?;
     let replied = heard_in(from, p);
     match server_hears(
-        alloc, now, k, from, replied, &heard, core, post, seats, flying, journal, packets,
+        alloc, now, k, from, replied, &heard, core, post, seats, in_flight, journal, packets,
         &mut undo,
     ) {
         Ok(told) => Ok(told),
@@ -90,7 +90,7 @@ fn server_hears(
     core: &mut ServerCore,
     post: &mut Post,
     seats: &mut Seats,
-    flying: &mut List<Flying>,
+    in_flight: &mut List<InFlight>,
     journal: &mut List<Item>,
     packets: &mut Packets,
     undo: &mut Undo,
@@ -98,22 +98,22 @@ fn server_hears(
     requires reading { now ≤ LATEST }
     requires apart { same_peer from (Server k) ≡ false }
     ensures done { IfOk result (λ told.
-        server_left told core.new post.new seats.new flying.new journal.new packets.new ≡
+        server_left told core.new post.new seats.new in_flight.new journal.new packets.new ≡
         server_hears now k from replied heard.now
-        (server_found core.old post.old seats.old flying.old journal.old packets.old)) }
+        (server_found core.old post.old seats.old in_flight.old journal.old packets.old)) }
     ensures fits { OnOk result (IsAnswered now from heard.now.joined
-        (server_found core.old post.old seats.old flying.old journal.old packets.old)) }
+        (server_found core.old post.old seats.old in_flight.old journal.old packets.old)) }
     ensures spends { Spends result (server_hears now k from replied heard.now
-        (server_found core.old post.old seats.old flying.old journal.old packets.old)).spent }
+        (server_found core.old post.old seats.old in_flight.old journal.old packets.old)).spent }
     ensures err { OnErr result (
-        server_found core.new post.old seats.new flying.new journal.new packets.new ≡
-        server_found core.old post.old seats.old flying.old journal.old packets.old) }
+        server_found core.new post.old seats.new in_flight.new journal.new packets.new ≡
+        server_found core.old post.old seats.old in_flight.old journal.old packets.old) }
     ensures undo { OnErr result (undone undo.new post.new ≡ undone undo.old post.old) }
 {
     let told = hears_all(
-        alloc, now, k, from, replied, heard, core, post, seats, flying, journal, packets, undo,
+        alloc, now, k, from, replied, heard, core, post, seats, in_flight, journal, packets, undo,
     )?;
-    remove_joined(seats, flying, k, from, heard.joined.as_slice());
+    remove_joined(seats, in_flight, k, from, heard.joined.as_slice());
     Ok(told)
 }
 
@@ -128,32 +128,33 @@ fn hears_all(
     core: &mut ServerCore,
     post: &mut Post,
     seats: &mut Seats,
-    flying: &mut List<Flying>,
+    in_flight: &mut List<InFlight>,
     journal: &mut List<Item>,
     packets: &mut Packets,
     undo: &mut Undo,
 ) -> Result<Outcome, CoreError>
     requires reading { now ≤ LATEST }
     ensures done { IfOk result (λ told.
-        server_left told core.new post.new seats.new flying.new journal.new packets.new ≡
+        server_left told core.new post.new seats.new in_flight.new journal.new packets.new ≡
         server_heard now k from replied heard.now
-        (server_found core.old post.old seats.old flying.old journal.old packets.old)) }
+        (server_found core.old post.old seats.old in_flight.old journal.old packets.old)) }
     ensures fits { OnOk result (IsAnswered now from heard.now.joined
-        (server_found core.old post.old seats.old flying.old journal.old packets.old)) }
+        (server_found core.old post.old seats.old in_flight.old journal.old packets.old)) }
     ensures spends { Spends result (server_heard now k from replied heard.now
-        (server_found core.old post.old seats.old flying.old journal.old packets.old)).spent }
+        (server_found core.old post.old seats.old in_flight.old journal.old packets.old)).spent }
     ensures err { OnErr result (
-        server_found core.new post.old seats.new flying.new journal.new packets.new ≡
-        server_found core.old post.old seats.old flying.old journal.old packets.old) }
+        server_found core.new post.old seats.new in_flight.new journal.new packets.new ≡
+        server_found core.old post.old seats.old in_flight.old journal.old packets.old) }
     ensures undo { OnErr result (undone undo.new post.new ≡ undone undo.old post.old) }
 {
     if heard.joined.len() <= 1 {
         hears_one(
-            alloc, now, k, from, replied, heard, core, post, seats, flying, journal, packets,
+            alloc, now, k, from, replied, heard, core, post, seats, in_flight, journal, packets,
         )
     } else {
         hears_several(
-            alloc, now, k, from, replied, heard, core, post, seats, flying, journal, packets, undo,
+            alloc, now, k, from, replied, heard, core, post, seats, in_flight, journal, packets,
+            undo,
         )
     }
 }
@@ -169,24 +170,24 @@ fn hears_one(
     core: &mut ServerCore,
     post: &mut Post,
     seats: &mut Seats,
-    flying: &mut List<Flying>,
+    in_flight: &mut List<InFlight>,
     journal: &mut List<Item>,
     packets: &mut Packets,
 ) -> Result<Outcome, CoreError>
     requires reading { now ≤ LATEST }
     requires few { length heard.now.joined ≤ 1 }
     ensures done { IfOk result (λ told.
-        server_left told core.new post.new seats.new flying.new journal.new packets.new ≡
+        server_left told core.new post.new seats.new in_flight.new journal.new packets.new ≡
         server_hears_one now k replied heard.now (event_heard from heard.now.joined)
-        (server_found core.old post.old seats.old flying.old journal.old packets.old)) }
+        (server_found core.old post.old seats.old in_flight.old journal.old packets.old)) }
     ensures fits { OnOk result (IsAnswered now from heard.now.joined
-        (server_found core.old post.old seats.old flying.old journal.old packets.old)) }
+        (server_found core.old post.old seats.old in_flight.old journal.old packets.old)) }
     ensures spends { Spends result (server_hears_one now k replied heard.now
         (event_heard from heard.now.joined)
-        (server_found core.old post.old seats.old flying.old journal.old packets.old)).spent }
+        (server_found core.old post.old seats.old in_flight.old journal.old packets.old)).spent }
     ensures err { OnErr result (
-        server_found core.new post.new seats.new flying.new journal.new packets.new ≡
-        server_found core.old post.old seats.old flying.old journal.old packets.old) }
+        server_found core.new post.new seats.new in_flight.new journal.new packets.new ≡
+        server_found core.old post.old seats.old in_flight.old journal.old packets.old) }
 {
     match event_heard(alloc, from, heard.joined.as_slice())? {
         None => {
@@ -196,7 +197,7 @@ fn hears_one(
             Ok(told)
         }
         Some(event) => core_step(
-            alloc, k, false, replied, now, &event, core, post, seats, flying, journal, packets,
+            alloc, k, false, replied, now, &event, core, post, seats, in_flight, journal, packets,
         ),
     }
 }
@@ -212,7 +213,7 @@ fn hears_several(
     core: &mut ServerCore,
     post: &mut Post,
     seats: &mut Seats,
-    flying: &mut List<Flying>,
+    in_flight: &mut List<InFlight>,
     journal: &mut List<Item>,
     packets: &mut Packets,
     undo: &mut Undo,
@@ -220,22 +221,22 @@ fn hears_several(
     requires reading { now ≤ LATEST }
     requires several { 1 < length heard.now.joined }
     ensures done { IfOk result (λ told.
-        server_left told core.new post.new seats.new flying.new journal.new packets.new ≡
+        server_left told core.new post.new seats.new in_flight.new journal.new packets.new ≡
         server_heard now k from replied heard.now
-        (server_found core.old post.old seats.old flying.old journal.old packets.old)) }
+        (server_found core.old post.old seats.old in_flight.old journal.old packets.old)) }
     ensures fits { OnOk result (IsAnswered now from heard.now.joined
-        (server_found core.old post.old seats.old flying.old journal.old packets.old)) }
+        (server_found core.old post.old seats.old in_flight.old journal.old packets.old)) }
     ensures spends { Spends result (server_heard now k from replied heard.now
-        (server_found core.old post.old seats.old flying.old journal.old packets.old)).spent }
+        (server_found core.old post.old seats.old in_flight.old journal.old packets.old)).spent }
     ensures err { OnErr result (
-        server_found core.new post.old seats.new flying.new journal.new packets.new ≡
-        server_found core.old post.old seats.old flying.old journal.old packets.old) }
+        server_found core.new post.old seats.new in_flight.new journal.new packets.new ≡
+        server_found core.old post.old seats.old in_flight.old journal.old packets.old) }
     ensures undo { OnErr result (undone undo.new post.new ≡ undone undo.old post.old) }
 {
     let mut after = core.copy(alloc)?;
     let joined = heard.joined.as_slice();
     match replies(
-        alloc, now, k, from, replied, joined, &mut after, post, seats, flying, journal, packets,
+        alloc, now, k, from, replied, joined, &mut after, post, seats, in_flight, journal, packets,
         undo,
     ) {
         Ok(told) => {
@@ -260,7 +261,7 @@ fn replies(
     core: &mut ServerCore,
     post: &mut Post,
     seats: &mut Seats,
-    flying: &mut List<Flying>,
+    in_flight: &mut List<InFlight>,
     journal: &mut List<Item>,
     packets: &mut Packets,
     undo: &mut Undo,
@@ -268,15 +269,15 @@ fn replies(
     requires reading { now ≤ LATEST }
     ensures done { IfOk result (λ told. IsServerRun (server_replies replied
         (server_hears_each now from joined.now (server_begins core.old post.old []))) k
-        (server_found core.old post.old seats.old flying.old journal.old packets.old)
-        told core.new post.new seats.new flying.new journal.new packets.new) }
+        (server_found core.old post.old seats.old in_flight.old journal.old packets.old)
+        told core.new post.new seats.new in_flight.new journal.new packets.new) }
     ensures fits { OnOk result (FitsDown
         (server_hears_each now from joined.now (server_begins core.old post.old [])).send) }
     ensures spent { (counter : TheCounter) → IsErrOf result (errors.Spent counter) →
         (server_hears_each now from joined.now
         (server_begins core.old post.old [])).spent ≡ Some counter }
     ensures err_seats { OnErr result (seats.new ≡ seats.old) }
-    ensures err_flying { OnErr result (flying.new ≡ flying.old) }
+    ensures err_flying { OnErr result (in_flight.new ≡ in_flight.old) }
     ensures err_journal { OnErr result (journal.new ≡ journal.old) }
     ensures err_packets { OnErr result (packets.new ≡ packets.old) }
     ensures undo { OnErr result (undone undo.new post.new ≡ undone undo.old post.old) }
@@ -285,7 +286,7 @@ fn replies(
     server_hears_each(alloc, now, from, joined, core, post, undo, &mut heard)?;
     have_room(alloc, heard.send.as_slice())?;
     Ok(send_all(
-        alloc, k, replied, heard, post, seats, flying, journal, packets,
+        alloc, k, replied, heard, post, seats, in_flight, journal, packets,
     )?)
 }
 
@@ -298,7 +299,7 @@ fn send_all(
     heard: ServerHeard,
     post: &mut Post,
     seats: &mut Seats,
-    flying: &mut List<Flying>,
+    in_flight: &mut List<InFlight>,
     journal: &mut List<Item>,
     packets: &mut Packets,
 ) -> Result<Outcome, Memory>
@@ -311,11 +312,11 @@ fn send_all(
     ensures packets { OnOk result (packets.new ≡
         with_sent (post_due post.old false replied).sent packets.old) }
     ensures seats { OnOk result (seats.new ≡ with_downs k heard.send seats.old) }
-    ensures flying { OnOk result (flying.new ≡ flying.old ++ flying_from k heard.send) }
+    ensures in_flight { OnOk result (in_flight.new ≡ in_flight.old ++ in_flight_from k heard.send) }
     ensures journal { OnOk result (journal.new ≡ journal.old ++ heard.admitted) }
     ensures err_post { OnErr result (post.new ≡ post.old) }
     ensures err_seats { OnErr result (seats.new ≡ seats.old) }
-    ensures err_flying { OnErr result (flying.new ≡ flying.old) }
+    ensures err_flying { OnErr result (in_flight.new ≡ in_flight.old) }
     ensures err_journal { OnErr result (journal.new ≡ journal.old) }
     ensures err_packets { OnErr result (packets.new ≡ packets.old) }
 {
@@ -326,7 +327,15 @@ fn send_all(
     } = heard;
     let before = packets.sent().len();
     let told = send_noted(alloc, Peer::Server(k), false, replied, notes, post, packets)?;
-    match spread(alloc, k, send.as_slice(), admitted, seats, flying, journal) {
+    match spread(
+        alloc,
+        k,
+        send.as_slice(),
+        admitted,
+        seats,
+        in_flight,
+        journal,
+    ) {
         Ok(()) => {
             post.mark_sent();
             Ok(told)

@@ -6,7 +6,7 @@ ghost use Rattle.fs_world.specs.Served.{flying_without, flying_without_each, sea
 
 use crate::seats::Seats;
 use fs_ident::{List, Peer};
-use fs_serial::Flying;
+use fs_serial::InFlight;
 use fs_window::Joined;
 
 /// The first message to or from the server, if there is one, is taken off. Takes no memory.
@@ -31,12 +31,12 @@ pub(crate) fn remove_each<T: Drop>(messages: &mut List<(u8, T)>, k: u8, gone: &[
 }
 
 /// The first message from one server to the other, if there is one, is taken off. Takes no memory.
-pub(crate) fn remove_flying(flying: &mut List<Flying>, from: u8, to: u8)
-    ensures { flying.new ≡ without_first (is_between from to) flying.old }
+pub(crate) fn remove_flying(in_flight: &mut List<InFlight>, from: u8, to: u8)
+    ensures { in_flight.new ≡ without_first (is_between from to) in_flight.old }
 {
-    match first_between(flying.as_slice(), from, to) {
+    match first_between(in_flight.as_slice(), from, to) {
         Some(at) => {
-            flying.remove(at);
+            in_flight.remove(at);
         }
         None => {}
     }
@@ -46,16 +46,16 @@ pub(crate) fn remove_flying(flying: &mut List<Flying>, from: u8, to: u8)
 /// memory.
 pub(crate) fn remove_joined(
     seats: &mut Seats,
-    flying: &mut List<Flying>,
+    in_flight: &mut List<InFlight>,
     k: u8,
     from: Peer,
     gone: &[Joined],
 )
     ensures seats { seats.new ≡ seats_without_each k from gone.now seats.old }
-    ensures flying { flying.new ≡ flying_without_each k from gone.now flying.old }
+    ensures in_flight { in_flight.new ≡ flying_without_each k from gone.now in_flight.old }
 {
     remove_questions(seats, k, from, gone);
-    remove_messages(flying, k, from, gone);
+    remove_messages(in_flight, k, from, gone);
 }
 
 /// As many messages of the actor, if it is a session. Takes no memory.
@@ -78,21 +78,21 @@ fn remove_question(seats: &mut Seats, k: u8, from: Peer)
 }
 
 /// As many messages of the actor, if it is a server. Takes no memory.
-fn remove_messages(flying: &mut List<Flying>, k: u8, from: Peer, gone: &[Joined])
-    ensures { flying.new ≡ flying_without_each k from gone.now flying.old }
+fn remove_messages(in_flight: &mut List<InFlight>, k: u8, from: Peer, gone: &[Joined])
+    ensures { in_flight.new ≡ flying_without_each k from gone.now in_flight.old }
 {
     for _ in gone {
-        remove_message(flying, k, from);
+        remove_message(in_flight, k, from);
     }
 }
 
 /// The first of them, if there is one. Takes no memory.
-fn remove_message(flying: &mut List<Flying>, k: u8, from: Peer)
-    ensures { flying.new ≡ flying_without k from flying.old }
+fn remove_message(in_flight: &mut List<InFlight>, k: u8, from: Peer)
+    ensures { in_flight.new ≡ flying_without k from in_flight.old }
 {
     match from {
         Peer::Client(_) => {}
-        Peer::Server(j) => remove_flying(flying, j, k),
+        Peer::Server(j) => remove_flying(in_flight, j, k),
     }
 }
 
@@ -105,9 +105,9 @@ fn first_with<T>(messages: &[(u8, T)], k: u8) -> Option<usize>
 }
 
 /// The place of the first message from one server to the other.
-fn first_between(flying: &[Flying], from: u8, to: u8) -> Option<usize>
-    ensures same { result ≡ position (is_between from to) flying.now }
-    ensures within { IfSome result (λ at. at < length flying.now) }
+fn first_between(in_flight: &[InFlight], from: u8, to: u8) -> Option<usize>
+    ensures same { result ≡ position (is_between from to) in_flight.now }
+    ensures within { IfSome result (λ at. at < length in_flight.now) }
 {
-    flying.iter().position(|f| f.from == from && f.to == to)
+    in_flight.iter().position(|f| f.from == from && f.to == to)
 }

@@ -24,7 +24,7 @@ use fs_ident::{FileId, List, Memory, Peer, Session, Twin, both, copy_three};
 use fs_model::Op;
 use fs_msg::{CoreError, Item, Note};
 use fs_schedule::{Outcome, What};
-use fs_serial::Flying;
+use fs_serial::InFlight;
 use fs_server::{ServerCore, ServerEvent};
 use fs_window::{LINK_WIDTH, Post};
 use std::alloc::Global;
@@ -37,7 +37,7 @@ pub(crate) struct Served {
     /// How long a lease lasts.
     pub(crate) term: Term,
     pub(crate) seats: Seats,
-    pub(crate) flying: List<Flying>,
+    pub(crate) in_flight: List<InFlight>,
     pub(crate) journal: List<Item>,
     pub(crate) packets: Packets,
 }
@@ -59,7 +59,7 @@ impl Served {
             posts: new_posts(alloc, servers)?,
             term: Term::new(term),
             seats: Seats::new(alloc),
-            flying: List::new(alloc),
+            in_flight: List::new(alloc),
             journal: List::new(alloc),
             packets: Packets::new(alloc),
         })
@@ -235,7 +235,7 @@ impl Served {
             core,
             self.posts.at_mut(at),
             &mut self.seats,
-            &mut self.flying,
+            &mut self.in_flight,
             &mut self.journal,
             &mut self.packets,
         )
@@ -245,9 +245,9 @@ impl Served {
 impl Twin for Served {
     fn copy(&self, alloc: Global) -> Result<Served, Memory> {
         let actors = copy_three(alloc, &self.servers, &self.posts, &self.term)?;
-        let said = copy_three(alloc, &self.flying, &self.journal, &self.packets);
+        let said = copy_three(alloc, &self.in_flight, &self.journal, &self.packets);
         let parts = both(actors, said)?;
-        let (((servers, posts, term), (flying, journal, packets)), seats) = both(
+        let (((servers, posts, term), (in_flight, journal, packets)), seats) = both(
             parts,
             self.seats.copy(alloc),
         )?;
@@ -256,7 +256,7 @@ impl Twin for Served {
             servers,
             posts,
             term,
-            flying,
+            in_flight,
             journal,
             packets,
         })
@@ -268,7 +268,7 @@ impl Twin for Served {
             posts: _,
             term: _,
             seats,
-            flying: _,
+            in_flight: _,
             journal: _,
             packets: _,
         } = self;

@@ -5,7 +5,7 @@ ghost use Rattle.fs_ident.specs.declared.limits.TheConstants.{LATEST};
 ghost use Rattle.fs_msg.specs.declared.core_error.Counter.{Counter as TheCounter};
 ghost use Rattle.fs_msg.specs.declared.core_error.Counter.TheVariants.{Segments};
 ghost use Rattle.fs_msg.specs.declared.core_error.CoreError.TheVariants as errors;
-ghost use Rattle.fs_serial.specs.Cluster.{flying_from};
+ghost use Rattle.fs_serial.specs.Cluster.{in_flight_from};
 ghost use Rattle.fs_server.specs.Plan.{CanCommit, committed};
 ghost use Rattle.fs_server.specs.Step.{CanBeTold, step};
 ghost use Rattle.fs_window.specs.Undo.{undone};
@@ -15,8 +15,8 @@ ghost use Rattle.fs_world.specs.Planned.{stepped_by};
 ghost use Rattle.fs_world.specs.Served.{core_step, server_found, with_downs};
 
 use crate::downs::{push_downs, undo_downs};
-use crate::flights::push_flying;
 use crate::goes::send_due;
+use crate::in_flight::push_in_flight;
 use crate::packets::Packets;
 use crate::pushes::push_all;
 use crate::seats::Seats;
@@ -24,7 +24,7 @@ use fs_actor::append;
 use fs_ident::{List, Memory, Peer};
 use fs_msg::{CoreError, Item, Msg, Note, ServerNote};
 use fs_schedule::Outcome;
-use fs_serial::Flying;
+use fs_serial::InFlight;
 use fs_server::{Plan, ServerCore, ServerEvent};
 use fs_window::{Post, Undo};
 use std::alloc::Global;
@@ -41,27 +41,27 @@ pub(crate) fn core_step(
     core: &mut ServerCore,
     post: &mut Post,
     seats: &mut Seats,
-    flying: &mut List<Flying>,
+    in_flight: &mut List<InFlight>,
     journal: &mut List<Item>,
     packets: &mut Packets,
 ) -> Result<Outcome, CoreError>
     requires reading { now ≤ LATEST }
     requires told { CanBeTold event.now }
     ensures done { IfOk result (λ told.
-        server_left told core.new post.new seats.new flying.new journal.new packets.new ≡
+        server_left told core.new post.new seats.new in_flight.new journal.new packets.new ≡
         core_step k turn heard now event.now
-        (server_found core.old post.old seats.old flying.old journal.old packets.old)) }
+        (server_found core.old post.old seats.old in_flight.old journal.old packets.old)) }
     ensures fits { OnOk result (FitsDown (step core.old now event.now).out.send) }
     ensures spends { Spends result (core_step k turn heard now event.now
-        (server_found core.old post.old seats.old flying.old journal.old packets.old)).spent }
+        (server_found core.old post.old seats.old in_flight.old journal.old packets.old)).spent }
     ensures err { OnErr result (
-        server_found core.new post.new seats.new flying.new journal.new packets.new ≡
-        server_found core.old post.old seats.old flying.old journal.old packets.old) }
+        server_found core.new post.new seats.new in_flight.new journal.new packets.new ≡
+        server_found core.old post.old seats.old in_flight.old journal.old packets.old) }
 {
     let plan = core.plan(alloc, now, event)?;
     let mut undo = Undo::new(alloc);
     match carry_out(
-        alloc, k, turn, heard, plan, &mut undo, core, post, seats, flying, journal, packets,
+        alloc, k, turn, heard, plan, &mut undo, core, post, seats, in_flight, journal, packets,
     ) {
         Ok(told) => Ok(told),
         Err(e) => {
@@ -82,29 +82,29 @@ fn carry_out(
     core: &mut ServerCore,
     post: &mut Post,
     seats: &mut Seats,
-    flying: &mut List<Flying>,
+    in_flight: &mut List<InFlight>,
     journal: &mut List<Item>,
     packets: &mut Packets,
 ) -> Result<Outcome, CoreError>
     requires { CanCommit plan core.old }
     ensures done { IfOk result (λ told.
-        server_left told core.new post.new seats.new flying.new journal.new packets.new ≡
+        server_left told core.new post.new seats.new in_flight.new journal.new packets.new ≡
         server_does k turn heard None (stepped_by plan core.old)
-        (server_found core.old post.old seats.old flying.old journal.old packets.old)) }
+        (server_found core.old post.old seats.old in_flight.old journal.old packets.old)) }
     ensures fits { OnOk result (FitsDown plan.out.send) }
     ensures spent { (counter : TheCounter) → IsErrOf result (errors.Spent counter) →
         (counter ≡ Segments) × (is_full_down plan.out.send post.old ≡ true) }
     ensures undo { OnErr result (undone undo.new post.new ≡ undone undo.old post.old) }
     ensures err { OnErr result (
-        server_found core.new post.old seats.new flying.new journal.new packets.new ≡
-        server_found core.old post.old seats.old flying.old journal.old packets.old) }
+        server_found core.new post.old seats.new in_flight.new journal.new packets.new ≡
+        server_found core.old post.old seats.old in_flight.old journal.old packets.old) }
 {
     let mut plan = plan;
     push_all(alloc, post, plan.out.send.as_slice(), undo)?;
     let note = mem::replace(&mut plan.out.note, ServerNote::Idle);
     let note = Note::Server(note);
     Ok(send(
-        alloc, k, turn, heard, note, plan, core, post, seats, flying, journal, packets,
+        alloc, k, turn, heard, note, plan, core, post, seats, in_flight, journal, packets,
     )?)
 }
 
@@ -119,22 +119,22 @@ fn send(
     core: &mut ServerCore,
     post: &mut Post,
     seats: &mut Seats,
-    flying: &mut List<Flying>,
+    in_flight: &mut List<InFlight>,
     journal: &mut List<Item>,
     packets: &mut Packets,
 ) -> Result<Outcome, Memory>
     requires { CanCommit plan core.old }
     ensures done { IfOk result (λ told.
-        server_left told core.new post.new seats.new flying.new journal.new packets.new ≡
+        server_left told core.new post.new seats.new in_flight.new journal.new packets.new ≡
         server_goes k turn heard note None (with_plan k plan
-        (server_found core.old post.old seats.old flying.old journal.old packets.old))) }
+        (server_found core.old post.old seats.old in_flight.old journal.old packets.old))) }
     ensures err { OnErr result (
-        server_found core.new post.new seats.new flying.new journal.new packets.new ≡
-        server_found core.old post.old seats.old flying.old journal.old packets.old) }
+        server_found core.new post.new seats.new in_flight.new journal.new packets.new ≡
+        server_found core.old post.old seats.old in_flight.old journal.old packets.old) }
 {
     let before = packets.sent().len();
     let told = send_due(alloc, Peer::Server(k), turn, heard, note, post, packets)?;
-    match admit(alloc, k, plan, core, seats, flying, journal) {
+    match admit(alloc, k, plan, core, seats, in_flight, journal) {
         Ok(()) => {
             post.mark_sent();
             Ok(told)
@@ -154,29 +154,37 @@ fn admit(
     plan: Plan,
     core: &mut ServerCore,
     seats: &mut Seats,
-    flying: &mut List<Flying>,
+    in_flight: &mut List<InFlight>,
     journal: &mut List<Item>,
 ) -> Result<(), Memory>
     requires { CanCommit plan core.old }
     ensures server { OnOk result (core.new ≡ committed plan core.old) }
     ensures seats { OnOk result (seats.new ≡ with_downs k plan.out.send seats.old) }
-    ensures flying { OnOk result (flying.new ≡ flying.old ++ flying_from k plan.out.send) }
+    ensures in_flight { OnOk result (in_flight.new ≡ in_flight.old ++ in_flight_from k plan.out.send) }
     ensures journal { OnOk result (journal.new ≡ journal.old ++ plan.out.admitted) }
     ensures err_server { OnErr result (core.new ≡ core.old) }
     ensures err_seats { OnErr result (seats.new ≡ seats.old) }
-    ensures err_flying { OnErr result (flying.new ≡ flying.old) }
+    ensures err_flying { OnErr result (in_flight.new ≡ in_flight.old) }
     ensures err_journal { OnErr result (journal.new ≡ journal.old) }
 {
     let mut plan = plan;
     let admitted = mem::replace(&mut plan.out.admitted, List::new(alloc));
     let send = mem::replace(&mut plan.out.send, List::new(alloc));
-    let (items, messages) = (journal.len(), flying.len());
-    spread(alloc, k, send.as_slice(), admitted, seats, flying, journal)?;
+    let (items, messages) = (journal.len(), in_flight.len());
+    spread(
+        alloc,
+        k,
+        send.as_slice(),
+        admitted,
+        seats,
+        in_flight,
+        journal,
+    )?;
     match core.commit(alloc, plan) {
         Ok(()) => Ok(()),
         Err(e) => {
             undo_downs(k, seats, send.as_slice());
-            flying.truncate(messages);
+            in_flight.truncate(messages);
             journal.truncate(items);
             Err(e)
         }
@@ -190,26 +198,26 @@ pub(crate) fn spread(
     send: &[(Peer, Msg)],
     admitted: List<Item>,
     seats: &mut Seats,
-    flying: &mut List<Flying>,
+    in_flight: &mut List<InFlight>,
     journal: &mut List<Item>,
 ) -> Result<(), Memory>
     ensures seats { OnOk result (seats.new ≡ with_downs k send.now seats.old) }
-    ensures flying { OnOk result (flying.new ≡ flying.old ++ flying_from k send.now) }
+    ensures in_flight { OnOk result (in_flight.new ≡ in_flight.old ++ in_flight_from k send.now) }
     ensures journal { OnOk result (journal.new ≡ journal.old ++ admitted) }
     ensures err_seats { OnErr result (seats.new ≡ seats.old) }
-    ensures err_flying { OnErr result (flying.new ≡ flying.old) }
+    ensures err_flying { OnErr result (in_flight.new ≡ in_flight.old) }
     ensures err_journal { OnErr result (journal.new ≡ journal.old) }
 {
-    let (items, messages) = (journal.len(), flying.len());
+    let (items, messages) = (journal.len(), in_flight.len());
     append(journal, admitted)?;
-    if let Err(e) = push_flying(alloc, k, flying, send) {
+    if let Err(e) = push_in_flight(alloc, k, in_flight, send) {
         journal.truncate(items);
         return Err(e);
     }
     match push_downs(alloc, k, seats, send) {
         Ok(()) => Ok(()),
         Err(e) => {
-            flying.truncate(messages);
+            in_flight.truncate(messages);
             journal.truncate(items);
             Err(e)
         }

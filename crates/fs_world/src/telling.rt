@@ -146,7 +146,7 @@ impl Served {
             self.servers.at_mut(at),
             self.posts.at_mut(at),
             &mut self.seats,
-            &mut self.flying,
+            &mut self.in_flight,
             &mut self.journal,
             &mut self.packets,
         )

@@ -13,7 +13,7 @@ use fs_model::Space;
 use fs_msg::{CoreError, Item, PeerMsg};
 use fs_record::Parcel;
 use fs_schedule::{Event, Head, Outcome};
-use fs_serial::{Flying, joined};
+use fs_serial::{InFlight, joined};
 use std::alloc::Global;
 use std::marker::Model;
 
@@ -123,7 +123,7 @@ impl World {
         match &self.form {
             Form::Direct(direct) => direct.space.copy(alloc),
             Form::Served(served) => {
-                let parcels = parcels_of(alloc, served.flying.as_slice())?;
+                let parcels = parcels_of(alloc, served.in_flight.as_slice())?;
                 joined(alloc, &served.servers, &parcels)
             }
         }
@@ -149,18 +149,18 @@ impl Twin for World {
 }
 
 /// The parcels among the messages on their way.
-fn parcels_of(alloc: Global, flying: &[Flying]) -> Result<List<Parcel>, Memory>
-    ensures { IfOk result (λ parcels. parcels ≡ parcels_of flying.now) }
+fn parcels_of(alloc: Global, in_flight: &[InFlight]) -> Result<List<Parcel>, Memory>
+    ensures { IfOk result (λ parcels. parcels ≡ parcels_of in_flight.now) }
 {
     let mut parcels = List::new(alloc);
-    for f in flying {
+    for f in in_flight {
         push_parcel(alloc, &mut parcels, f)?;
     }
     Ok(parcels)
 }
 
 /// The parcel that the message brings, if it brings one.
-fn push_parcel(alloc: Global, parcels: &mut List<Parcel>, f: &Flying) -> Result<(), Memory>
+fn push_parcel(alloc: Global, parcels: &mut List<Parcel>, f: &InFlight) -> Result<(), Memory>
     ensures { OnOk result (parcels.new ≡ parcels.old ++ parcels_of (f.now ∷ [])) }
 {
     match &f.message {

@@ -2,7 +2,7 @@
 ghost use Rattle.std.specs.Prelude.{◌≡◌, true, IfOk, OnOk};
 ghost use Rattle.fs_record.specs.Moving.{AreEachRecords};
 ghost use Rattle.fs_record.specs.Records.{IsRecord};
-ghost use Rattle.fs_parcel.specs.Rows.{AreRows, both};
+ghost use Rattle.fs_parcel.specs.Rows.{AreRows, in_one_list};
 
 mod fitting;
 mod moving;
@@ -229,7 +229,7 @@ struct Server {
 
 /// A server with no record and no row; it knows of this other one as that of all files.
 fn begun(alloc: Global, me: u8, other: u8) -> Result<Server, Fail>
-    ensures { IfOk result (λ s. AreRows (both s.rows s.modes)) }
+    ensures { IfOk result (λ s. AreRows (in_one_list s.rows s.modes)) }
 {
     let map = map_of(alloc, other)?;
     let (map, records) = with(map, no_records(alloc))?;
@@ -263,8 +263,8 @@ fn hint(alloc: Global, map: &mut FileMap, prefix: &str, server: u8) -> Result<()
 
 /// Whether the parcel fits, and is put in its place then.
 fn come(alloc: Global, s: &mut Server, p: Parcel) -> Result<bool, Fail>
-    requires { AreRows (both s.old.rows s.old.modes) }
-    ensures { OnOk result (AreRows (both s.new.rows s.new.modes)) }
+    requires { AreRows (in_one_list s.old.rows s.old.modes) }
+    ensures { OnOk result (AreRows (in_one_list s.new.rows s.new.modes)) }
 {
     s.rows.all();
     s.modes.all();

@@ -20,7 +20,7 @@ use Rattle.fs_record.specs.Records.{nodes_of}
 use Rattle.fs_record.specs.ValueOf.{value_of}
 use Rattle.fs_server.specs.Ships.{item_of, with_entry}
 use Rattle.fs_server.specs.declared.state.Server.{Server}
-use Rattle.fs_view.specs.Kept.{makes}
+use Rattle.fs_view.specs.ViewLease.{makes}
 use Rattle.fs_view.specs.View.{value_after_all}
 use Rattle.fs_view.proofs.Seeing.{own_values}
 use Rattle.fs_client.specs.declared.led.Led.{Led}

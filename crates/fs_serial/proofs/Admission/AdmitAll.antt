@@ -12,7 +12,7 @@ use Rattle.fs_msg.specs.declared.entry.Entry.{Entry}
 use Rattle.fs_msg.specs.declared.item.Item.{Item}
 use Rattle.fs_server.specs.Ships.{item_of, with_entry}
 use Rattle.fs_server.specs.declared.state.Server.{Server}
-use Rattle.fs_view.specs.Kept.{makes}
+use Rattle.fs_view.specs.ViewLease.{makes}
 use Rattle.fs_serial.specs.Fresh.{ByLease, ByLog, Claim, HoldsFresh, Reserves, reserved_by}
 use Rattle.fs_serial.specs.Parts.{AllHold, SessionHolds, SessionFits, with_client}
 use Rattle.fs_record.specs.ValueOf.{value_of}

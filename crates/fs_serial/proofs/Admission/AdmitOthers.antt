@@ -18,7 +18,7 @@ use Rattle.fs_record.specs.Records.{nodes_of}
 use Rattle.fs_record.specs.ValueOf.{value_of, is_other}
 use Rattle.fs_server.specs.Ships.{item_of, with_entry}
 use Rattle.fs_server.specs.declared.state.Server.{Server}
-use Rattle.fs_view.specs.Kept.{is_enough, makes}
+use Rattle.fs_view.specs.ViewLease.{is_enough, makes}
 use Rattle.fs_view.specs.Laws.{item_meets}
 use Rattle.fs_view.specs.Walk.{walk, known_in, always}
 use Rattle.fs_view.proofs.Unseen.{others_values}

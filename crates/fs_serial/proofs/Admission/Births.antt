@@ -16,7 +16,7 @@ use Rattle.fs_model.specs.declared.reply.Reply.{Reply}
 use Rattle.fs_model.specs.declared.reply.Reply.TheVariants as reply
 use Rattle.fs_msg.specs.declared.entry.Entry.{Entry}
 use Rattle.fs_record.specs.Effects.{effects_of}
-use Rattle.fs_view.specs.Kept.{is_pending, makes}
+use Rattle.fs_view.specs.ViewLease.{is_pending, makes}
 use Rattle.fs_view.specs.View.{value_after_all, value_after_log}
 use Rattle.fs_serial.specs.Fresh.{made_by, or_else}
 use Rattle.fs_serial.specs.Pending.{NamesItsFile, named_by}

@@ -28,31 +28,31 @@ use Rattle.fs_client.specs.Turns.{pair_of}
 use Rattle.fs_client.specs.declared.exchange.Exchange.{Exchange}
 use Rattle.fs_client.specs.declared.exchange.Exchange.TheVariants.{Asks, Renews, Releases, Ships, Leads}
 use Rattle.fs_client.specs.declared.state.Client.{Client}
-use Rattle.fs_view.specs.declared.kept.Kept.{Kept}
-use Rattle.fs_view.specs.Kept.{number_of, has_number, is_leaving}
+use Rattle.fs_view.specs.declared.view_lease.ViewLease.{ViewLease}
+use Rattle.fs_view.specs.ViewLease.{number_of, has_number, is_leaving}
 use Rattle.fs_serial.specs.Exchange.{OneExchange, ShipsLog, IsFront, IsReturned, LeadsTold, ReleasesReturned, ReturnFits, ReturnsFit, server_of_question, ExchangeFits}
 use Rattle.fs_serial.specs.Settled.{Lease, Settled}
 use Rattle.fs_serial.specs.World.{HasNumber}
 
 -- ## Fewer numbers
 
-pub record IsNumbered (ks : List Kept) (wanted : LeaseNo) : Type 0 where
-  pub kept : Kept
+pub record IsNumbered (ks : List ViewLease) (wanted : LeaseNo) : Type 0 where
+  pub kept : ViewLease
   pub among : In kept ks
   pub number : number_of kept.standing ≡ wanted
 
-abbrev pub FewerNumbers : List Kept → List Kept → Type 0
-FewerNumbers old new = (k : Kept) → In k new → IsNumbered old (number_of k.standing)
+abbrev pub FewerNumbers : List ViewLease → List ViewLease → Type 0
+FewerNumbers old new = (k : ViewLease) → In k new → IsNumbered old (number_of k.standing)
 
-still_none : (old new : List Kept) (n : LeaseNo) → FewerNumbers old new → list_any (has_number n) old ≡ false → list_any (has_number n) new ≡ false
+still_none : (old new : List ViewLease) (n : LeaseNo) → FewerNumbers old new → list_any (has_number n) old ≡ false → list_any (has_number n) new ≡ false
 still_none old new n fewer h = In_none (has_number n) new (λ k i. let j = fewer k i in ap (λ m. same_no m n) (sym j.number) ∙ none_any (has_number n) old h j.kept j.among)
 
-new_still : (old new : List Kept) (before : List Grant) (g : Grant) → FewerNumbers old new → is_new old before g ≡ true → is_new new before g ≡ true
+new_still : (old new : List ViewLease) (before : List Grant) (g : Grant) → FewerNumbers old new → is_new old before g ≡ true → is_new new before g ≡ true
 new_still old new before g fewer h =
     let q = both (not (list_any (has_number g.no) old)) (not (list_any (λ (b : Grant). same_no b.no g.no) before)) h in
     joined _ _ (ap not (still_none old new g.no fewer (not-true (list_any (has_number g.no) old) q.0))) q.1
 
-front_still : (old new : List Kept) (items : List (Field × LeaseKind)) (before gs : List Grant) → FewerNumbers old new → front_fits items old before gs ≡ true → front_fits items new before gs ≡ true
+front_still : (old new : List ViewLease) (items : List (Field × LeaseKind)) (before gs : List Grant) → FewerNumbers old new → front_fits items old before gs ≡ true → front_fits items new before gs ≡ true
 front_still old new items before [] fewer h = refl
 front_still old new [] before (g ∷ gs) fewer h = h
 front_still old new (x ∷ xs) before (g ∷ gs) fewer h =
@@ -60,7 +60,7 @@ front_still old new (x ∷ xs) before (g ∷ gs) fewer h =
     let q = both (is_of_item x g) (is_new old before g) p.0 in
     joined _ _ (joined _ _ q.0 (new_still old new before g fewer q.1)) (front_still old new xs (before ++ g ∷ []) gs fewer p.1)
 
-last_still : (old new : List Kept) (items : List (Field × LeaseKind)) (id : List ℕ) (front gs : List Grant) → FewerNumbers old new → life_last items id old front gs ≡ true → life_last items id new front gs ≡ true
+last_still : (old new : List ViewLease) (items : List (Field × LeaseKind)) (id : List ℕ) (front gs : List Grant) → FewerNumbers old new → life_last items id old front gs ≡ true → life_last items id new front gs ≡ true
 last_still old new items id front [] fewer h = h
 last_still old new items id front (g ∷ []) fewer h =
     let p = both (front_fits items old [] front) (is_of_item (Life id, Exclusive) g && is_new old front g) h in
@@ -68,7 +68,7 @@ last_still old new items id front (g ∷ []) fewer h =
     joined _ _ (front_still old new items [] front fewer p.0) (joined _ _ q.0 (new_still old new front g fewer q.1))
 last_still old new items id front (g ∷ k ∷ gs) fewer h = last_still old new items id (front ++ g ∷ []) (k ∷ gs) fewer h
 
-grants_still : (old new : List Kept) (items : List (Field × LeaseKind)) (fresh : Option (List ℕ)) (gs : List Grant) → FewerNumbers old new → grants_fit items fresh old gs ≡ true → grants_fit items fresh new gs ≡ true
+grants_still : (old new : List ViewLease) (items : List (Field × LeaseKind)) (fresh : Option (List ℕ)) (gs : List Grant) → FewerNumbers old new → grants_fit items fresh old gs ≡ true → grants_fit items fresh new gs ≡ true
 grants_still old new items None gs fewer h = front_still old new items [] gs fewer h
 grants_still old new items (Some id) gs fewer h = last_still old new items id [] gs fewer h
 
@@ -90,8 +90,8 @@ refusal_still (end.NoIds dir) count sent log more h = h
 -- ## A client that goes on
 
 -- the lease with its file goes back
-pub record WentBack (leases : List Kept) (wanted : List ℕ × LeaseNo) : Type 0 where
-  pub kept : Kept
+pub record WentBack (leases : List ViewLease) (wanted : List ℕ × LeaseNo) : Type 0 where
+  pub kept : ViewLease
   pub among : In kept leases
   pub pair : pair_of kept ≡ wanted
   pub leaving : is_leaving kept.standing ≡ true
@@ -102,8 +102,8 @@ pub record GoesOnAs (c d : Client) (more : List Entry) : Type 0 where
   pub led : d.led ≡ c.led
   pub fewer : FewerNumbers c.view.leases d.view.leases
   pub log : d.log ≡ c.log ++ more
-  pub went : (k : Kept) → In k d.view.leases → is_leaving k.standing ≡ true → WentBack c.view.leases (pair_of k)
-  pub goes : (k : Kept) → In k c.view.leases → is_leaving k.standing ≡ true → IsReturned d.view.leases (number_of k.standing)
+  pub went : (k : ViewLease) → In k d.view.leases → is_leaving k.standing ≡ true → WentBack c.view.leases (pair_of k)
+  pub goes : (k : ViewLease) → In k c.view.leases → is_leaving k.standing ≡ true → IsReturned d.view.leases (number_of k.standing)
 
 -- an answer that fits still does
 pub fits_still : (c d : Client) (more : List Entry) (from : ℕ) (x : Exchange) (a : Answer) → GoesOnAs c d more → answer_fits from x a c ≡ true → answer_fits from x a d ≡ true

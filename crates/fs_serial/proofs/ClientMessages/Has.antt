@@ -9,14 +9,14 @@ use Rattle.fs_msg.specs.declared.answer.Answer.{Answer}
 use Rattle.fs_msg.specs.declared.answer.Answer.TheVariants.{Granted}
 use Rattle.fs_msg.specs.declared.answer.Grant.{Grant}
 use Rattle.fs_msg.specs.declared.end.End.{End}
-use Rattle.fs_view.specs.declared.kept.Kept.{Kept}
-use Rattle.fs_view.specs.Kept.{lease_of}
+use Rattle.fs_view.specs.declared.view_lease.ViewLease.{ViewLease}
+use Rattle.fs_view.specs.ViewLease.{lease_of}
 use Rattle.fs_client.specs.declared.state.Client.{Client}
 use Rattle.fs_serial.specs.Settled.{HasLeaseAs, Settled, granted, lease_in, lease_with, settled, settled_now, told}
 use Rattle.fs_serial.proofs.Replies.Knowing.{In-filter_map}
 use Rattle.fs_serial.proofs.ClientMessages.Settling.{stays}
 
-pub has_held : (by : Session) (c : Client) (down : List Answer) (k : Kept) (l : Term) → In k c.view.leases → lease_of k.standing ≡ Some l → HasLeaseAs (settled by down (settled_now c)).leases l.no l.field l.kind l.until
+pub has_held : (by : Session) (c : Client) (down : List Answer) (k : ViewLease) (l : Term) → In k c.view.leases → lease_of k.standing ≡ Some l → HasLeaseAs (settled by down (settled_now c)).leases l.no l.field l.kind l.until
 has_held by c down k l i is = stays by down (settled_now c) (lease_with k l) (In-filter_map lease_in k (lease_with k l) c.view.leases i (ap (option_map (lease_with k)) is))
 
 pub has_granted : (by : Session) (down : List Answer) (d : Settled) (grants : List Grant) (fresh : Option (List ℕ)) (end : End) (g : Grant) → In (Granted grants fresh end) down → In g grants → HasLeaseAs (settled by down d).leases g.no g.field g.kind g.until

@@ -31,8 +31,8 @@ use Rattle.fs_client.specs.declared.exchange.Exchange.{Exchange}
 use Rattle.fs_client.specs.declared.exchange.Exchange.TheVariants.{Asks, Renews, Releases, Ships, Leads}
 use Rattle.fs_view.specs.declared.new_lease.NewLease.{NewLease}
 use Rattle.fs_client.specs.declared.state.Client.{Client}
-use Rattle.fs_view.specs.declared.kept.Kept.{Kept}
-use Rattle.fs_view.specs.Kept.{number_of, has_number, is_leaving, entries_of}
+use Rattle.fs_view.specs.declared.view_lease.ViewLease.{ViewLease}
+use Rattle.fs_view.specs.ViewLease.{number_of, has_number, is_leaving, entries_of}
 use Rattle.fs_view.specs.View.{View}
 use Rattle.fs_serial.specs.Client.{led_before, ClientFits, times_used, times_in}
 use Rattle.fs_serial.specs.Leases.{LeasesDistinct}
@@ -48,10 +48,10 @@ use Rattle.fs_serial.proofs.ClientMessages.Seats.{Seat, seen_at, settled_none}
 
 -- ## Numbers that come are new
 
-new_is : (leases : List Kept) (before : List Grant) (g : Grant) → is_new leases before g ≡ true → list_any (has_number g.no) leases ≡ false
+new_is : (leases : List ViewLease) (before : List Grant) (g : Grant) → is_new leases before g ≡ true → list_any (has_number g.no) leases ≡ false
 new_is leases before g h = not-true (list_any (has_number g.no) leases) (both (not (list_any (has_number g.no) leases)) _ h).0
 
-front_new : (items : List (Field × LeaseKind)) (leases : List Kept) (before gs : List Grant) → front_fits items leases before gs ≡ true → (g : Grant) → In g gs → list_any (has_number g.no) leases ≡ false
+front_new : (items : List (Field × LeaseKind)) (leases : List ViewLease) (before gs : List Grant) → front_fits items leases before gs ≡ true → (g : Grant) → In g gs → list_any (has_number g.no) leases ≡ false
 front_new items leases before [] h g i = absurd i
 front_new [] leases before (y ∷ gs) h g i = absurd (cc)
 front_new (x ∷ xs) leases before (y ∷ gs) h g i =
@@ -59,7 +59,7 @@ front_new (x ∷ xs) leases before (y ∷ gs) h g i =
     let q = both (is_of_item x y) (is_new leases before y) p.0 in
     elim i as (λ _. list_any (has_number g.no) leases ≡ false) [ inl e ↦ ap (λ (y : Grant). list_any (has_number y.no) leases) e ∙ new_is leases before y q.1 | inr j ↦ front_new xs leases (before ++ y ∷ []) gs p.1 g j ]
 
-last_new : (items : List (Field × LeaseKind)) (id : List ℕ) (leases : List Kept) (front gs : List Grant) → life_last items id leases front gs ≡ true → (g : Grant) → In g (front ++ gs) → list_any (has_number g.no) leases ≡ false
+last_new : (items : List (Field × LeaseKind)) (id : List ℕ) (leases : List ViewLease) (front gs : List Grant) → life_last items id leases front gs ≡ true → (g : Grant) → In g (front ++ gs) → list_any (has_number g.no) leases ≡ false
 last_new items id leases front [] h g i = absurd (cc)
 last_new items id leases front (x ∷ []) h g i =
     let p = both (front_fits items leases [] front) (is_of_item (Life id, Exclusive) x && is_new leases front x) h in
@@ -70,7 +70,7 @@ last_new items id leases front (x ∷ []) h g i =
     ]
 last_new items id leases front (x ∷ y ∷ gs) h g i = last_new items id leases (front ++ x ∷ []) (y ∷ gs) h g (subst (λ gs. In g gs) (sym (append_assoc front (x ∷ []) (y ∷ gs))) i)
 
-grants_new : (items : List (Field × LeaseKind)) (fresh : Option (List ℕ)) (leases : List Kept) (gs : List Grant) → grants_fit items fresh leases gs ≡ true → (g : Grant) → In g gs → list_any (has_number g.no) leases ≡ false
+grants_new : (items : List (Field × LeaseKind)) (fresh : Option (List ℕ)) (leases : List ViewLease) (gs : List Grant) → grants_fit items fresh leases gs ≡ true → (g : Grant) → In g gs → list_any (has_number g.no) leases ≡ false
 grants_new items None leases gs h g i = front_new items leases [] gs h g i
 grants_new items (Some id) leases gs h g i = last_new items id leases [] gs h g i
 
@@ -103,7 +103,7 @@ new_leases fresh [] = refl
 new_leases fresh (g ∷ gs) = ap (λ ls. granted fresh g ∷ ls) (new_leases fresh gs)
 
 -- the lease as it is kept at first
-abbrev kept_of : Lease → Kept
+abbrev kept_of : Lease → ViewLease
 kept_of l = kept_new (record { no = l.no; field = l.field; kind = l.kind; until = l.until; value = l.base; below = l.below })
 
 unused : (n : LeaseNo) (us : List Use) → ((u : Use) → In u us → same_no u.no n ≡ false) → times_used n us ≡ 0
@@ -127,12 +127,12 @@ module _ (by : Session) (c : Client) (gs : List Grant) (fresh : Option (List ℕ
       (ap (filter_map kept_lease) leases_then ∙ filter_map-append kept_lease c.view.leases (map kept_new (leases_in fresh gs)) ∙ ap (λ ls. filter_map kept_lease c.view.leases ++ ls) (new_leases fresh gs))
 
   -- an old lease, or one that came
-  pub record IsNewKept (k : Kept) : Type 0 where
+  pub record IsNewKept (k : ViewLease) : Type 0 where
     pub grant : Grant
     pub among : In grant gs
     pub is : k ≡ kept_of (granted fresh grant)
 
-  split : (k : Kept) → In k then.view.leases → In k c.view.leases ⊎ IsNewKept k
+  split : (k : ViewLease) → In k then.view.leases → In k c.view.leases ⊎ IsNewKept k
   split k i = elim (In-append k c.view.leases (map kept_new (leases_in fresh gs)) (subst (In k) leases_then i)) as (λ _. In k c.view.leases ⊎ IsNewKept k) [
     | inl j ↦ inl j
     | inr j ↦
@@ -141,10 +141,10 @@ module _ (by : Session) (c : Client) (gs : List Grant) (fresh : Option (List ℕ
         inr (record { grant = q.0; among = q.1.0; is = p.1.1 ∙ ap kept_new q.1.1 })
   ]
 
-  apart : (k : Kept) → In k c.view.leases → (l : Kept) → IsNewKept l → number_of k.standing ≡ number_of l.standing → ⊥
+  apart : (k : ViewLease) → In k c.view.leases → (l : ViewLease) → IsNewKept l → number_of k.standing ≡ number_of l.standing → ⊥
   apart k i l n e =
       let no : has_number n.grant.no k ≡ false = none_any (has_number n.grant.no) c.view.leases (new n.grant n.among) k i in
-      let same : number_of k.standing ≡ n.grant.no = e ∙ ap (λ (k : Kept). number_of k.standing) n.is in
+      let same : number_of k.standing ≡ n.grant.no = e ∙ ap (λ (k : ViewLease). number_of k.standing) n.is in
       absurd (let z : true ≡ false = sym (ap (λ m. same_no m n.grant.no) same ∙ same_no_self n.grant.no) ∙ no in cc)
 
   held : UsesHeld (settled_now then).leases (led_before c.led c.log)
@@ -172,12 +172,12 @@ module _ (by : Session) (c : Client) (gs : List Grant) (fresh : Option (List ℕ
             a.is ∙ ap kept_of (apart_all (granted fresh a.grant) (granted fresh b.grant)
             (In-behind (granted fresh a.grant) (settled_now c).leases (map (granted fresh) gs) (In-mapped (granted fresh) a.grant gs a.among))
             (In-behind (granted fresh b.grant) (settled_now c).leases (map (granted fresh) gs) (In-mapped (granted fresh) b.grant gs b.among))
-            (ap (λ (k : Kept). number_of k.standing) (sym a.is) ∙ same ∙ ap (λ (k : Kept). number_of k.standing) b.is)) ∙ sym b.is
+            (ap (λ (k : ViewLease). number_of k.standing) (sym a.is) ∙ same ∙ ap (λ (k : ViewLease). number_of k.standing) b.is)) ∙ sym b.is
       ]
     ];
     pinned = λ k i. elim (split k i) as (λ _. entries_of k.standing ≡ times_in (number_of k.standing) (led_before c.led c.log)) [
       | inl a ↦ f.pinned k a
-      | inr a ↦ ap (λ (k : Kept). entries_of k.standing) a.is ∙ sym (none_uses a.grant a.among) ∙ ap (λ n. times_in n (led_before c.led c.log)) (ap (λ (k : Kept). number_of k.standing) (sym a.is))
+      | inr a ↦ ap (λ (k : ViewLease). entries_of k.standing) a.is ∙ sym (none_uses a.grant a.among) ∙ ap (λ n. times_in n (led_before c.led c.log)) (ap (λ (k : ViewLease). number_of k.standing) (sym a.is))
     ];
     held = held;
   }
@@ -193,7 +193,7 @@ seat_granted skew greatest s by replied c up gs fresh e rest h =
     let then : Client = with_granted (leases_in fresh gs) (full_told e) c in
     let returns : ReturnsFit s.given s.rows by then.view.leases (seen_at by then rest).leases = λ k i t. elim (split by c gs fresh e h.client new k i) as (λ _. ReturnFits s.given s.rows by (seen_at by then rest).leases (pair_of k)) [
       | inl a ↦ subst (λ (d : Settled). ReturnFits s.given s.rows by d.leases (pair_of k)) seen (h.exchange.returns k a t)
-      | inr a ↦ absurd (let q : false ≡ true = ap (λ (k : Kept). is_leaving k.standing) (sym a.is) ∙ t in cc)
+      | inr a ↦ absurd (let q : false ≡ true = ap (λ (k : ViewLease). is_leaving k.standing) (sym a.is) ∙ t in cc)
     ] in
     record {
       holds = subst (SessionHolds skew greatest s by replied) seen h.holds;

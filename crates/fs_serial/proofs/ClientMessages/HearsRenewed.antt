@@ -24,10 +24,10 @@ use Rattle.fs_msg.specs.declared.item.Item.{Item}
 use Rattle.fs_client.specs.Client.{renewed_one, renewed_all, with_renewed}
 use Rattle.fs_client.specs.Turns.{pair_of}
 use Rattle.fs_client.specs.declared.state.Client.{Client}
-use Rattle.fs_view.specs.declared.kept.Kept.{Kept}
-use Rattle.fs_view.specs.declared.kept.Standing.{Standing}
-use Rattle.fs_view.specs.declared.kept.Standing.TheVariants.{Held, Pinned, Leaving}
-use Rattle.fs_view.specs.Kept.{number_of, has_number, is_leaving, is_held, entries_of, lease_of, renewed}
+use Rattle.fs_view.specs.declared.view_lease.ViewLease.{ViewLease}
+use Rattle.fs_view.specs.declared.view_lease.Standing.{Standing}
+use Rattle.fs_view.specs.declared.view_lease.Standing.TheVariants.{Held, Pinned, Leaving}
+use Rattle.fs_view.specs.ViewLease.{number_of, has_number, is_leaving, is_held, entries_of, lease_of, renewed}
 use Rattle.fs_view.specs.View.{View, stands, with_end, without_lease}
 use Rattle.fs_view.proofs.Changed.{renewed_number}
 use Rattle.fs_serial.specs.Client.{led_before, ClientFits, times_in}
@@ -54,7 +54,7 @@ use Rattle.fs_serial.proofs.ClientMessages.HearsShipped.{lease_by}
 
 -- ## One pair of an answer
 
-abbrev one_end : LeaseNo → ℕ → Kept → Kept
+abbrev one_end : LeaseNo → ℕ → ViewLease → ViewLease
 one_end n until k = cond (has_number n k) (record k { standing = renewed until k.standing }) k
 
 end_pair : (until : ℕ) (s : Standing) → pair_in (renewed until s) ≡ pair_in s
@@ -80,14 +80,14 @@ end_parts n until false (Held l) base below e = ap (λ c. Some (cond c (let x : 
 end_parts n until false (Pinned u) base below e = ap (λ c. Some (cond c (let x : Lease = record { no = u.lease.no; field = u.lease.field; kind = u.lease.kind; until = until; base = base; below = below } in x) (lease_by base below u.lease))) (sym e)
 end_parts n until false (Leaving l) base below e = refl
 
-end_in : (n : LeaseNo) (until : ℕ) (k : Kept) → lease_in (one_end n until k) ≡ option_map (retimed n until) (lease_in k)
+end_in : (n : LeaseNo) (until : ℕ) (k : ViewLease) → lease_in (one_end n until k) ≡ option_map (retimed n until) (lease_in k)
 end_in n until k = within (has_number n k) refl
   where
-    within : (b : Bool) → has_number n k ≡ b → lease_in (cond b (let x : Kept = record k { standing = renewed until k.standing } in x) k) ≡ option_map (retimed n until) (lease_in k)
+    within : (b : Bool) → has_number n k ≡ b → lease_in (cond b (let x : ViewLease = record k { standing = renewed until k.standing } in x) k) ≡ option_map (retimed n until) (lease_in k)
     within true e = end_parts n until true k.standing k.base k.below e
     within false e = end_parts n until false k.standing k.base k.below e
 
-end_leases : (n : LeaseNo) (until : ℕ) (ks : List Kept) → filter_map lease_in (map (one_end n until) ks) ≡ map (retimed n until) (filter_map lease_in ks)
+end_leases : (n : LeaseNo) (until : ℕ) (ks : List ViewLease) → filter_map lease_in (map (one_end n until) ks) ≡ map (retimed n until) (filter_map lease_in ks)
 end_leases n until [] = refl
 end_leases n until (k ∷ ks) = ap (λ o. cons_option o (filter_map lease_in (map (one_end n until) ks))) (end_in n until k) ∙ ap (cons_option (option_map (retimed n until) (lease_in k))) (end_leases n until ks) ∙ joined (lease_in k) (filter_map lease_in ks)
   where
@@ -112,19 +112,19 @@ held_none (Pinned u) h = absurd (cc)
 held_none (Leaving l) h = absurd (cc)
 
 -- the lease of that number is held
-pub record IsHeldThere (ks : List Kept) (n : LeaseNo) : Type 0 where
-  pub kept : Kept
+pub record IsHeldThere (ks : List ViewLease) (n : LeaseNo) : Type 0 where
+  pub kept : ViewLease
   pub among : In kept ks
   pub number : number_of kept.standing ≡ n
   pub held : is_held kept.standing ≡ true
 
-the_held : (ks : List Kept) (n : LeaseNo) (o : Option Kept) → find (has_number n) ks ≡ o → stands is_held n ks ≡ true → IsHeldThere ks n
-the_held ks n None e t = absurd (let q : false ≡ true = ap (λ o. option_map_or (λ (k : Kept). is_held k.standing) o false) (sym e) ∙ t in cc)
+the_held : (ks : List ViewLease) (n : LeaseNo) (o : Option ViewLease) → find (has_number n) ks ≡ o → stands is_held n ks ≡ true → IsHeldThere ks n
+the_held ks n None e t = absurd (let q : false ≡ true = ap (λ o. option_map_or (λ (k : ViewLease). is_held k.standing) o false) (sym e) ∙ t in cc)
 the_held ks n (Some k) e t =
     let q = found (has_number n) ks k e in
-    record { kept = k; among = q.0; number = same_no_is (number_of k.standing) n q.1; held = ap (λ o. option_map_or (λ (k : Kept). is_held k.standing) o false) (sym e) ∙ t }
+    record { kept = k; among = q.0; number = same_no_is (number_of k.standing) n q.1; held = ap (λ o. option_map_or (λ (k : ViewLease). is_held k.standing) o false) (sym e) ∙ t }
 
-other_number : (n : LeaseNo) (log : List Entry) (k : Kept) (l : Lease) → times_in n log ≡ 0 → IsUsed log l.no → number_of k.standing ≡ l.no → not (has_number n k) ≡ true
+other_number : (n : LeaseNo) (log : List Entry) (k : ViewLease) (l : Lease) → times_in n log ≡ 0 → IsUsed log l.no → number_of k.standing ≡ l.no → not (has_number n k) ≡ true
 other_number n log k l none u e = ap not (false_from_ne_true (has_number n k) (λ p. let more = used_in n log u.entry u.logged u.used u.among (u.number ∙ sym e ∙ same_no_is (number_of k.standing) n p) in absurd (omega arith)))
 
 module _ (skew greatest : ℕ) (s : Sight) (by : Session) (replied : List Item) (c : Client) (v : View) (n : LeaseNo) (h : HasView skew greatest s by replied c v) where
@@ -138,7 +138,7 @@ module _ (skew greatest : ℕ) (s : Sight) (by : Session) (replied : List Item) 
       let same : map (retimed n until) (filter_map lease_in v.leases) ≡ filter_map lease_in (map (one_end n until) v.leases) = sym (end_leases n until v.leases) in
       let seen : with_until n until d ≡ settled_now (record c { view = with_end n until v }) = ap (λ ls. let x : Settled = record { leases = ls; log = c.log; next = c.next; over = c.over; led = c.led } in x) same in
       let by_lease : (l : Lease) → In l d.leases → l.no ≡ n → greatest < until + skew → IsBacked s.rows n until = backs in
-      let number : (k : Kept) → number_of (one_end n until k).standing ≡ number_of k.standing = one_keeps number_of (renewed until) (renewed_number until) n in
+      let number : (k : ViewLease) → number_of (one_end n until k).standing ≡ number_of k.standing = one_keeps number_of (renewed until) (renewed_number until) n in
       record {
         holds = subst (SessionHolds skew greatest s by replied) seen (retimed_holds skew greatest s by replied n until d by_lease h.holds);
         fits = subst (SessionFits skew greatest s by) seen (retimed_fits skew greatest s by replied n until d by_lease h.fits);
@@ -175,7 +175,7 @@ module _ (skew greatest : ℕ) (s : Sight) (by : Session) (replied : List Item) 
   gone_told t =
       let d : Settled = settled_now at in
       let w : View = without_lease n v in
-      let was : (k : Kept) → In k w.leases → In k v.leases = λ k i. In-filter (λ k. not (has_number n k)) k v.leases i in
+      let was : (k : ViewLease) → In k w.leases → In k v.leases = λ k i. In-filter (λ k. not (has_number n k)) k v.leases i in
       let first : IsHeldThere v.leases n = the_held v.leases n (find (has_number n) v.leases) refl t in
       let unused : times_in n (led_before c.led c.log) ≡ 0 = ap (λ m. times_in m (led_before c.led c.log)) (sym first.number) ∙ sym (h.client.pinned first.kept first.among) ∙ held_none first.kept.standing first.held in
       let g : HasFewer (IsUsed (led_before c.led c.log)) d (settled_now (record c { view = w })) = record {

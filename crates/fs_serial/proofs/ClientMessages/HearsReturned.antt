@@ -18,10 +18,10 @@ use Rattle.fs_client.specs.Turns.{pair_of}
 use Rattle.fs_client.specs.declared.exchange.Exchange.{Exchange}
 use Rattle.fs_client.specs.declared.exchange.Exchange.TheVariants.{Asks, Renews, Releases, Ships, Leads}
 use Rattle.fs_client.specs.declared.state.Client.{Client}
-use Rattle.fs_view.specs.declared.kept.Kept.{Kept}
-use Rattle.fs_view.specs.declared.kept.Standing.{Standing}
-use Rattle.fs_view.specs.declared.kept.Standing.TheVariants.{Held, Pinned, Leaving}
-use Rattle.fs_view.specs.Kept.{number_of, has_number, is_leaving, entries_of, lease_of, recalled_as}
+use Rattle.fs_view.specs.declared.view_lease.ViewLease.{ViewLease}
+use Rattle.fs_view.specs.declared.view_lease.Standing.{Standing}
+use Rattle.fs_view.specs.declared.view_lease.Standing.TheVariants.{Held, Pinned, Leaving}
+use Rattle.fs_view.specs.ViewLease.{number_of, has_number, is_leaving, entries_of, lease_of, recalled_as}
 use Rattle.fs_view.specs.View.{View, stands, without_lease}
 use Rattle.fs_serial.specs.Client.{led_before, times_in}
 use Rattle.fs_serial.specs.Exchange.{IsReturned, ReleasesReturned, ExchangeFits, ReturnFits, ReturnsFit}
@@ -37,20 +37,20 @@ use Rattle.fs_serial.proofs.ClientMessages.Seats.{Seat, seen_at}
 
 -- ## A recall
 
-abbrev one_recall : LeaseNo → Kept → Kept
+abbrev one_recall : LeaseNo → ViewLease → ViewLease
 one_recall n k = cond (has_number n k) (record k { recalled = recalled_as k.standing k.recalled }) k
 
-recall_standing : (n : LeaseNo) (k : Kept) → (one_recall n k).standing ≡ k.standing
+recall_standing : (n : LeaseNo) (k : ViewLease) → (one_recall n k).standing ≡ k.standing
 recall_standing n k = within (has_number n k)
   where
-    within : (b : Bool) → (cond b (let x : Kept = record k { recalled = recalled_as k.standing k.recalled } in x) k).standing ≡ k.standing
+    within : (b : Bool) → (cond b (let x : ViewLease = record k { recalled = recalled_as k.standing k.recalled } in x) k).standing ≡ k.standing
     within true = refl
     within false = refl
 
-recall_lease : (n : LeaseNo) (k : Kept) → lease_in (one_recall n k) ≡ lease_in k
+recall_lease : (n : LeaseNo) (k : ViewLease) → lease_in (one_recall n k) ≡ lease_in k
 recall_lease n k = within (has_number n k)
   where
-    within : (b : Bool) → lease_in (cond b (let x : Kept = record k { recalled = recalled_as k.standing k.recalled } in x) k) ≡ lease_in k
+    within : (b : Bool) → lease_in (cond b (let x : ViewLease = record k { recalled = recalled_as k.standing k.recalled } in x) k) ≡ lease_in k
     within true = refl
     within false = refl
 
@@ -58,10 +58,10 @@ module _ (skew greatest : ℕ) (s : Sight) (by : Session) (replied : List Item) 
   abbrev recalled : Client
   recalled = with_recalled n c
 
-  number : (k : Kept) → number_of (one_recall n k).standing ≡ number_of k.standing
+  number : (k : ViewLease) → number_of (one_recall n k).standing ≡ number_of k.standing
   number k = ap number_of (recall_standing n k)
 
-  pair : (k : Kept) → pair_of (one_recall n k) ≡ pair_of k
+  pair : (k : ViewLease) → pair_of (one_recall n k) ≡ pair_of k
   pair k = ap pair_in (recall_standing n k)
 
   now : settled_now recalled ≡ settled_now c
@@ -74,11 +74,11 @@ module _ (skew greatest : ℕ) (s : Sight) (by : Session) (replied : List Item) 
   goes_on = record {
     exchange = refl;
     led = refl;
-    fewer = λ k i. let q = In-map (one_recall n) k c.view.leases i in record { kept = q.0; among = q.1.0; number = sym (number q.0) ∙ ap (λ (k : Kept). number_of k.standing) (sym q.1.1) };
+    fewer = λ k i. let q = In-map (one_recall n) k c.view.leases i in record { kept = q.0; among = q.1.0; number = sym (number q.0) ∙ ap (λ (k : ViewLease). number_of k.standing) (sym q.1.1) };
     log = sym (append-nil c.log);
     went = λ k i t.
         let q = In-map (one_recall n) k c.view.leases i in
-        record { kept = q.0; among = q.1.0; pair = sym (pair q.0) ∙ ap pair_of (sym q.1.1); leaving = sym (ap is_leaving (recall_standing n q.0)) ∙ ap (λ (k : Kept). is_leaving k.standing) (sym q.1.1) ∙ t };
+        record { kept = q.0; among = q.1.0; pair = sym (pair q.0) ∙ ap pair_of (sym q.1.1); leaving = sym (ap is_leaving (recall_standing n q.0)) ∙ ap (λ (k : ViewLease). is_leaving k.standing) (sym q.1.1) ∙ t };
     goes = λ k i t. record { kept = one_recall n k; among = In-mapped (one_recall n) k c.view.leases i; number = number k; leaving = ap is_leaving (recall_standing n k) ∙ t };
   }
 
@@ -104,15 +104,15 @@ module _ (skew greatest : ℕ) (s : Sight) (by : Session) (replied : List Item) 
 -- ## Leases that came back
 
 -- these leases go back
-abbrev AllGoing : List LeaseNo → List Kept → Type 0
-AllGoing ns ks = (n : LeaseNo) → In n ns → (k : Kept) → In k ks → number_of k.standing ≡ n → is_leaving k.standing ≡ true
+abbrev AllGoing : List LeaseNo → List ViewLease → Type 0
+AllGoing ns ks = (n : LeaseNo) → In n ns → (k : ViewLease) → In k ks → number_of k.standing ≡ n → is_leaving k.standing ≡ true
 
-no_lease : (k : Kept) (s : Standing) → k.standing ≡ s → is_leaving s ≡ true → lease_in k ≡ None
+no_lease : (k : ViewLease) (s : Standing) → k.standing ≡ s → is_leaving s ≡ true → lease_in k ≡ None
 no_lease k (Held l) e h = absurd (cc)
 no_lease k (Pinned u) e h = absurd (cc)
 no_lease k (Leaving l) e h = ap (λ s. option_map (lease_with k) (lease_of s)) e
 
-one_gone : (n : LeaseNo) (ks : List Kept) → ((k : Kept) → In k ks → number_of k.standing ≡ n → is_leaving k.standing ≡ true) → filter_map lease_in (filter (λ k. not (has_number n k)) ks) ≡ filter_map lease_in ks
+one_gone : (n : LeaseNo) (ks : List ViewLease) → ((k : ViewLease) → In k ks → number_of k.standing ≡ n → is_leaving k.standing ≡ true) → filter_map lease_in (filter (λ k. not (has_number n k)) ks) ≡ filter_map lease_in ks
 one_gone n [] h = refl
 one_gone n (k ∷ ks) h = within (has_number n k) refl (one_gone n ks (λ x i. h x (inr i)))
   where
@@ -124,10 +124,10 @@ one_gone n (k ∷ ks) h = within (has_number n k) refl (one_gone n ks (λ x i. h
 pub record HasReturned (v w : View) : Type 0 where
   pub session : w.session ≡ v.session
   pub pending : w.pending ≡ v.pending
-  pub was : (k : Kept) → In k w.leases → In k v.leases
+  pub was : (k : ViewLease) → In k w.leases → In k v.leases
   pub same : filter_map lease_in w.leases ≡ filter_map lease_in v.leases
 
-one_returned : (b : Bool) (n : LeaseNo) (v : View) → ((k : Kept) → In k v.leases → number_of k.standing ≡ n → is_leaving k.standing ≡ true) → HasReturned v (cond b (without_lease n v) v)
+one_returned : (b : Bool) (n : LeaseNo) (v : View) → ((k : ViewLease) → In k v.leases → number_of k.standing ≡ n → is_leaving k.standing ≡ true) → HasReturned v (cond b (without_lease n v) v)
 one_returned true n v h = record { session = refl; pending = refl; was = λ k i. In-filter (λ k. not (has_number n k)) k v.leases i; same = one_gone n v.leases h }
 one_returned false n v h = record { session = refl; pending = refl; was = λ k i. i; same = refl }
 
@@ -139,7 +139,7 @@ all_returned (n ∷ ns) v h =
     let q : HasReturned w (released_all ns w) = all_returned ns w (λ m i k j. h m (inr i) k (p.was k j)) in
     record { session = q.session ∙ p.session; pending = q.pending ∙ p.pending; was = λ k i. p.was k (q.was k i); same = q.same ∙ p.same }
 
-sent_returned : (x : Option Exchange) (ks : List Kept) → ReleasesReturned x ks → (n : LeaseNo) → In n (numbers_sent x) → IsReturned ks n
+sent_returned : (x : Option Exchange) (ks : List ViewLease) → ReleasesReturned x ks → (n : LeaseNo) → In n (numbers_sent x) → IsReturned ks n
 sent_returned None ks h n i = absurd i
 sent_returned (Some (Asks to items fresh)) ks h n i = absurd i
 sent_returned (Some (Renews to numbers)) ks h n i = absurd i
@@ -160,7 +160,7 @@ seat_released skew greatest s by replied c up count e rest h =
     let then_ : Client = with_released ns c in
     let going : AllGoing ns c.view.leases = λ n i k j same.
     let r = sent_returned c.exchange c.view.leases h.exchange.released n (in_front count n (numbers_sent c.exchange) i) in
-    ap (λ (k : Kept). is_leaving k.standing) (h.client.distinct k r.kept j r.among (same ∙ sym r.number)) ∙ r.leaving in
+    ap (λ (k : ViewLease). is_leaving k.standing) (h.client.distinct k r.kept j r.among (same ∙ sym r.number)) ∙ r.leaving in
     let q : HasReturned c.view then_.view = all_returned ns c.view going in
     let now : settled_now then_ ≡ settled_now c = ap (λ ls. let x : Settled = record { leases = ls; log = c.log; next = c.next; over = c.over; led = c.led } in x) q.same in
     let seen : seen_at by c (Released count e ∷ rest) ≡ seen_at by then_ rest = ap (settled by rest) (sym now) in
@@ -185,6 +185,6 @@ released_seen skew greatest s by replied c up count e rest h =
     let ns : List LeaseNo = take count (numbers_sent c.exchange) in
     let going : AllGoing ns c.view.leases = λ n i k j same.
     let r = sent_returned c.exchange c.view.leases h.exchange.released n (in_front count n (numbers_sent c.exchange) i) in
-    ap (λ (k : Kept). is_leaving k.standing) (h.client.distinct k r.kept j r.among (same ∙ sym r.number)) ∙ r.leaving in
+    ap (λ (k : ViewLease). is_leaving k.standing) (h.client.distinct k r.kept j r.among (same ∙ sym r.number)) ∙ r.leaving in
     let q : HasReturned c.view (with_released ns c).view = all_returned ns c.view going in
     ap (settled by rest) (ap (λ ls. let x : Settled = record { leases = ls; log = c.log; next = c.next; over = c.over; led = c.led } in x) q.same)

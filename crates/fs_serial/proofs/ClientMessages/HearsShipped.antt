@@ -24,10 +24,10 @@ use Rattle.fs_client.specs.Answers.{over_after}
 use Rattle.fs_client.specs.Client.{admitted_one, admitted_all, with_shipped}
 use Rattle.fs_client.specs.Turns.{pair_of}
 use Rattle.fs_client.specs.declared.state.Client.{Client}
-use Rattle.fs_view.specs.declared.kept.Kept.{Kept}
-use Rattle.fs_view.specs.declared.kept.Standing.{Standing}
-use Rattle.fs_view.specs.declared.kept.Standing.TheVariants.{Held, Pinned, Leaving}
-use Rattle.fs_view.specs.Kept.{number_of, has_number, is_leaving, entries_of, lease_of, unpinned}
+use Rattle.fs_view.specs.declared.view_lease.ViewLease.{ViewLease}
+use Rattle.fs_view.specs.declared.view_lease.Standing.{Standing}
+use Rattle.fs_view.specs.declared.view_lease.Standing.TheVariants.{Held, Pinned, Leaving}
+use Rattle.fs_view.specs.ViewLease.{number_of, has_number, is_leaving, entries_of, lease_of, unpinned}
 use Rattle.fs_view.specs.View.{View, base_after, below_after, knowing, first_admitted, unpinned_at, unpinned_all}
 use Rattle.fs_view.proofs.Changed.{unpinned_number}
 use Rattle.fs_serial.specs.Client.{led_before, ClientFits, KeptDistinct, times_used, times_in}
@@ -44,7 +44,7 @@ use Rattle.fs_serial.proofs.ClientMessages.Seats.{Seat, seen_at}
 
 -- ## One use less
 
-abbrev one_unpin : LeaseNo → Kept → Kept
+abbrev one_unpin : LeaseNo → ViewLease → ViewLease
 one_unpin n k = cond (has_number n k) (record k { standing = unpinned k.standing }) k
 
 -- what one entry less leaves of a standing, it leaves of the lease
@@ -75,29 +75,29 @@ free_entries (Pinned u) n h = within (u.entries == 1) refl
     within true t = let q : u.entries ≡ 1 = grind (arith, nat_tests) in omega arith
     within false t = omega arith
 
-unpin_in : (n : LeaseNo) (k : Kept) → lease_in (one_unpin n k) ≡ lease_in k
+unpin_in : (n : LeaseNo) (k : ViewLease) → lease_in (one_unpin n k) ≡ lease_in k
 unpin_in n k = within (has_number n k)
   where
-    within : (b : Bool) → lease_in (cond b (let x : Kept = record k { standing = unpinned k.standing } in x) k) ≡ lease_in k
+    within : (b : Bool) → lease_in (cond b (let x : ViewLease = record k { standing = unpinned k.standing } in x) k) ≡ lease_in k
     within true = ap (λ o. option_map (λ (l : Term). let x : Lease = record { no = l.no; field = l.field; kind = l.kind; until = l.until; base = k.base; below = k.below } in x) o) (free_lease k.standing)
     within false = refl
 
-pub unpinned_leases : (us : List Use) (ks : List Kept) → filter_map lease_in (unpinned_all us ks) ≡ filter_map lease_in ks
+pub unpinned_leases : (us : List Use) (ks : List ViewLease) → filter_map lease_in (unpinned_all us ks) ≡ filter_map lease_in ks
 unpinned_leases [] ks = refl
 unpinned_leases (u ∷ us) ks = unpinned_leases us (unpinned_at u.no ks) ∙ same_leases (one_unpin u.no) (unpin_in u.no) ks
 
-pub distinct_all : (us : List Use) (ks : List Kept) → KeptDistinct ks → KeptDistinct (unpinned_all us ks)
+pub distinct_all : (us : List Use) (ks : List ViewLease) → KeptDistinct ks → KeptDistinct (unpinned_all us ks)
 distinct_all [] ks h = h
 distinct_all (u ∷ us) ks h = distinct_all us (unpinned_at u.no ks) (distinct_mapped (one_unpin u.no) (one_keeps number_of unpinned unpinned_number u.no) ks h)
 
 -- what a lease was before, and that it goes back where it did
-pub record WasKept (ks : List Kept) (k : Kept) : Type 0 where
-  pub kept : Kept
+pub record WasKept (ks : List ViewLease) (k : ViewLease) : Type 0 where
+  pub kept : ViewLease
   pub among : In kept ks
   pub pair : pair_of kept ≡ pair_of k
   pub leaving : is_leaving kept.standing ≡ is_leaving k.standing
 
-pub was_all : (us : List Use) (ks : List Kept) (k : Kept) → In k (unpinned_all us ks) → WasKept ks k
+pub was_all : (us : List Use) (ks : List ViewLease) (k : ViewLease) → In k (unpinned_all us ks) → WasKept ks k
 was_all [] ks k i = record { kept = k; among = i; pair = refl; leaving = refl }
 was_all (u ∷ us) ks k i =
     let q = was_all us (unpinned_at u.no ks) k i in
@@ -106,7 +106,7 @@ was_all (u ∷ us) ks k i =
       kept = p.0;
       among = p.1.0;
       pair = sym (one_keeps pair_in unpinned free_pair u.no p.0) ∙ ap pair_of (sym p.1.1) ∙ q.pair;
-      leaving = sym (one_keeps is_leaving unpinned free_leaving u.no p.0) ∙ ap (λ (x : Kept). is_leaving x.standing) (sym p.1.1) ∙ q.leaving;
+      leaving = sym (one_keeps is_leaving unpinned free_leaving u.no p.0) ∙ ap (λ (x : ViewLease). is_leaving x.standing) (sym p.1.1) ∙ q.leaving;
     }
 
 -- ## Counts
@@ -114,13 +114,13 @@ was_all (u ∷ us) ks k i =
 abbrev more_if : Bool → ℕ → ℕ
 more_if b n = cond b (n + 1) n
 
-counted_one : (u : Use) (ks : List Kept) (count : LeaseNo → ℕ) → ((k : Kept) → In k ks → entries_of k.standing ≡ more_if (same_no u.no (number_of k.standing)) (count (number_of k.standing)))
-    → (k : Kept) → In k (unpinned_at u.no ks) → entries_of k.standing ≡ count (number_of k.standing)
+counted_one : (u : Use) (ks : List ViewLease) (count : LeaseNo → ℕ) → ((k : ViewLease) → In k ks → entries_of k.standing ≡ more_if (same_no u.no (number_of k.standing)) (count (number_of k.standing)))
+    → (k : ViewLease) → In k (unpinned_at u.no ks) → entries_of k.standing ≡ count (number_of k.standing)
 counted_one u ks count h = each_image (one_unpin u.no) (λ k. entries_of k.standing ≡ count (number_of k.standing)) ks (λ k i.
     within k (has_number u.no k) refl (h k i ∙ ap (λ b. more_if b (count (number_of k.standing))) (same_no_symm u.no (number_of k.standing)))
     ∙ ap count (sym (one_keeps number_of unpinned unpinned_number u.no k)))
   where
-    within : (k : Kept) (b : Bool) → has_number u.no k ≡ b → entries_of k.standing ≡ more_if (has_number u.no k) (count (number_of k.standing)) → entries_of (cond b (let x : Kept = record k { standing = unpinned k.standing } in x) k).standing ≡ count (number_of k.standing)
+    within : (k : ViewLease) (b : Bool) → has_number u.no k ≡ b → entries_of k.standing ≡ more_if (has_number u.no k) (count (number_of k.standing)) → entries_of (cond b (let x : ViewLease = record k { standing = unpinned k.standing } in x) k).standing ≡ count (number_of k.standing)
     within k true t e = free_entries k.standing (count (number_of k.standing)) (e ∙ ap (λ b. more_if b (count (number_of k.standing))) t)
     within k false t e = e ∙ ap (λ b. more_if b (count (number_of k.standing))) t
 
@@ -128,7 +128,7 @@ less_more : (b : Bool) (t c : ℕ) → cond b (t + 1) t + c ≡ cond b ((t + c) 
 less_more true t c = omega arith
 less_more false t c = refl
 
-pub counted_all : (us : List Use) (ks : List Kept) (count : LeaseNo → ℕ) → ((k : Kept) → In k ks → entries_of k.standing ≡ times_used (number_of k.standing) us + count (number_of k.standing)) → (k : Kept) → In k (unpinned_all us ks) → entries_of k.standing ≡ count (number_of k.standing)
+pub counted_all : (us : List Use) (ks : List ViewLease) (count : LeaseNo → ℕ) → ((k : ViewLease) → In k ks → entries_of k.standing ≡ times_used (number_of k.standing) us + count (number_of k.standing)) → (k : ViewLease) → In k (unpinned_all us ks) → entries_of k.standing ≡ count (number_of k.standing)
 counted_all [] ks count h k i = let q = h k i in omega arith
 counted_all (u ∷ us) ks count h k i = counted_all us (unpinned_at u.no ks) count
     (counted_one u ks (λ n. times_used n us + count n) (λ k i. h k i ∙ less_more (same_no u.no (number_of k.standing)) (times_used (number_of k.standing) us) (count (number_of k.standing)))) k i
@@ -143,10 +143,10 @@ know_parts by es (Held l) base below = refl
 know_parts by es (Pinned u) base below = refl
 know_parts by es (Leaving l) base below = refl
 
-know_in : (by : Session) (es : List Effect) (k : Kept) → lease_in (knowing by es k) ≡ option_map (lease_after by es) (lease_in k)
+know_in : (by : Session) (es : List Effect) (k : ViewLease) → lease_in (knowing by es k) ≡ option_map (lease_after by es) (lease_in k)
 know_in by es k = know_parts by es k.standing k.base k.below
 
-pub known_leases : (by : Session) (es : List Effect) (ks : List Kept) → filter_map lease_in (map (knowing by es) ks) ≡ map (lease_after by es) (filter_map lease_in ks)
+pub known_leases : (by : Session) (es : List Effect) (ks : List ViewLease) → filter_map lease_in (map (knowing by es) ks) ≡ map (lease_after by es) (filter_map lease_in ks)
 known_leases by es [] = refl
 known_leases by es (k ∷ ks) = ap (λ o. cons_option o (filter_map lease_in (map (knowing by es) ks))) (know_in by es k) ∙ ap (cons_option (option_map (lease_after by es) (lease_in k))) (known_leases by es ks) ∙ joined (lease_in k) (filter_map lease_in ks)
   where
@@ -176,11 +176,11 @@ module _ (by : Session) (c : Client) (x : Entry) (es : List Entry) (first : c.lo
   one_settled : settled_now then ≡ acknowledged by (x ∷ es) (settled_now c)
   one_settled = ap (λ ls. let y : Settled = record { leases = ls; log = es; next = c.next; over = c.over; led = c.led } in y) (unpinned_leases x.uses (map (knowing by eff) c.view.leases) ∙ known_leases by eff c.view.leases)
 
-  was : (k : Kept) → In k then.view.leases → WasKept c.view.leases k
+  was : (k : ViewLease) → In k then.view.leases → WasKept c.view.leases k
   was k i =
       let q = was_all x.uses (map (knowing by eff) c.view.leases) k i in
       let p = In-map (knowing by eff) q.kept c.view.leases q.among in
-      record { kept = p.0; among = p.1.0; pair = ap pair_of (sym p.1.1) ∙ q.pair; leaving = ap (λ (y : Kept). is_leaving y.standing) (sym p.1.1) ∙ q.leaving }
+      record { kept = p.0; among = p.1.0; pair = ap pair_of (sym p.1.1) ∙ q.pair; leaving = ap (λ (y : ViewLease). is_leaving y.standing) (sym p.1.1) ∙ q.leaving }
 
   one_client : ClientFits by then
   one_client = record {
@@ -199,7 +199,7 @@ module _ (by : Session) (c : Client) (x : Entry) (es : List Entry) (first : c.lo
 pub record HasAdmitted (by : Session) (c d : Client) (later : Settled) : Type 0 where
   pub settled : settled_now d ≡ later
   pub client : ClientFits by d
-  pub was : (k : Kept) → In k d.view.leases → WasKept c.view.leases k
+  pub was : (k : ViewLease) → In k d.view.leases → WasKept c.view.leases k
 
 one_admitted : (by : Session) (c : Client) (log : List Entry) → c.log ≡ log → ClientFits by c → HasAdmitted by c (admitted_one c c.log) (acknowledged by c.log (settled_now c))
 one_admitted by c [] e f = subst (λ es. HasAdmitted by c (admitted_one c es) (acknowledged by es (settled_now c))) (sym e) (record { settled = refl; client = f; was = λ k i. record { kept = k; among = i; pair = refl; leaving = refl } })

@@ -25,10 +25,10 @@ use Rattle.fs_client.specs.declared.led.Led.{Led}
 use Rattle.fs_client.specs.declared.state.Client.{Client}
 use Rattle.fs_server.specs.Asks.{kind_for}
 use Rattle.fs_server.specs.Pairs.{numbers_in as pair_numbers}
-use Rattle.fs_view.specs.declared.kept.Kept.{Kept}
-use Rattle.fs_view.specs.declared.kept.Standing.{Standing}
-use Rattle.fs_view.specs.declared.kept.Standing.TheVariants.{Held, Pinned, Leaving}
-use Rattle.fs_view.specs.Kept.{number_of, has_number, is_leaving, is_pinned, entries_of, lease_of, leaving}
+use Rattle.fs_view.specs.declared.view_lease.ViewLease.{ViewLease}
+use Rattle.fs_view.specs.declared.view_lease.Standing.{Standing}
+use Rattle.fs_view.specs.declared.view_lease.Standing.TheVariants.{Held, Pinned, Leaving}
+use Rattle.fs_view.specs.ViewLease.{number_of, has_number, is_leaving, is_pinned, entries_of, lease_of, leaving}
 use Rattle.fs_view.specs.View.{View, with_leaving}
 use Rattle.fs_view.proofs.Changed.{leaving_number}
 use Rattle.fs_serial.specs.Client.{KeptDistinct}
@@ -42,7 +42,7 @@ use Rattle.fs_serial.proofs.ClientMessages.Seats.{Seat, seen_at, idle_due, settl
 -- ## One question
 
 -- what a question has to meet
-pub record IsAsking (given : ℕ → ℕ) (rows : List Row) (c : Client) (x : Exchange) (m : ClientMsg) (ks : List Kept) (d : Settled) : Type 0 where
+pub record IsAsking (given : ℕ → ℕ) (rows : List Row) (c : Client) (x : Exchange) (m : ClientMsg) (ks : List ViewLease) (d : Settled) : Type 0 where
   pub question : IsQuestion x m
   pub ships : ShipsLog (Some x) c.log
   pub front : ShipsFront (m ∷ []) d
@@ -125,11 +125,11 @@ seat_ships skew greatest s by replied c up down to sent rest log idle open_ h = 
 
 -- ## Leases are renewed
 
-pub pair_numbers_of : (ks : List Kept) → pair_numbers (map pair_of ks) ≡ numbers_in ks
+pub pair_numbers_of : (ks : List ViewLease) → pair_numbers (map pair_of ks) ≡ numbers_in ks
 pair_numbers_of [] = refl
 pair_numbers_of (k ∷ ks) = ap (λ ns. number_of k.standing ∷ ns) (pair_numbers_of ks)
 
-pub seat_renews : (skew greatest : ℕ) (s : Sight) (by : Session) (replied : List Item) (c : Client) (up : List ClientMsg) (down : List Answer) (to : ℕ) (ks : List Kept) → ((k : Kept) → In k ks → In k c.view.leases) → c.exchange ≡ None → Seat skew greatest s by replied c up down
+pub seat_renews : (skew greatest : ℕ) (s : Sight) (by : Session) (replied : List Item) (c : Client) (up : List ClientMsg) (down : List Answer) (to : ℕ) (ks : List ViewLease) → ((k : ViewLease) → In k ks → In k c.view.leases) → c.exchange ≡ None → Seat skew greatest s by replied c up down
     → Seat skew greatest s by replied (with_exchange (Renews to (numbers_in ks)) c) (up ++ Renew (map pair_of ks) ∷ []) down
 seat_renews skew greatest s by replied c up down to ks among idle h = seat_asking skew greatest s by replied c up down (Renews to (numbers_in ks)) (Renew (map pair_of ks)) idle (record {
   question = pair_numbers_of ks;
@@ -143,7 +143,7 @@ seat_renews skew greatest s by replied c up down to ks among idle h = seat_askin
 
 -- ## Leases go back
 
-abbrev one_leaves : LeaseNo → Kept → Kept
+abbrev one_leaves : LeaseNo → ViewLease → ViewLease
 one_leaves n k = cond (has_number n k) (record k { standing = leaving k.standing }) k
 
 leave_pair : (s : Standing) → pair_in (leaving s) ≡ pair_in s
@@ -179,26 +179,26 @@ leave_lease (Pinned u) l h = h
 leave_lease (Leaving x) l h = h
 
 -- what becomes of the leases: a kept one came from one that was the same but that it may go back
-pub record CameFrom (ks : List Kept) (k : Kept) : Type 0 where
-  pub kept : Kept
+pub record CameFrom (ks : List ViewLease) (k : ViewLease) : Type 0 where
+  pub kept : ViewLease
   pub among : In kept ks
   pub number : number_of kept.standing ≡ number_of k.standing
   pub pair : pair_of kept ≡ pair_of k
   pub entries : entries_of kept.standing ≡ entries_of k.standing
   pub lease : (l : Lease) → lease_in k ≡ Some l → lease_in kept ≡ Some l
 
-lease_by : (k : Kept) (o : Option Term) (l : Lease) → option_map (lease_with k) o ≡ Some l → (t : Term) × (o ≡ Some t) × (lease_with k t ≡ l)
+lease_by : (k : ViewLease) (o : Option Term) (l : Lease) → option_map (lease_with k) o ≡ Some l → (t : Term) × (o ≡ Some t) × (lease_with k t ≡ l)
 lease_by k None l h = absurd (cc)
 lease_by k (Some t) l h = (t, refl, cc)
 
-one_lease : (n : LeaseNo) (k : Kept) (l : Lease) → lease_in (one_leaves n k) ≡ Some l → lease_in k ≡ Some l
+one_lease : (n : LeaseNo) (k : ViewLease) (l : Lease) → lease_in (one_leaves n k) ≡ Some l → lease_in k ≡ Some l
 one_lease n k l = within (has_number n k)
   where
-    within : (b : Bool) → lease_in (cond b (let x : Kept = record k { standing = leaving k.standing } in x) k) ≡ Some l → lease_in k ≡ Some l
+    within : (b : Bool) → lease_in (cond b (let x : ViewLease = record k { standing = leaving k.standing } in x) k) ≡ Some l → lease_in k ≡ Some l
     within true h = let q = lease_by k (lease_of (leaving k.standing)) l h in ap (option_map (lease_with k)) (leave_lease k.standing q.0 q.1) ∙ ap Some q.2
     within false h = h
 
-pub came_all : (ns : List LeaseNo) (v : View) (k : Kept) → In k (leaving_all ns v).leases → CameFrom v.leases k
+pub came_all : (ns : List LeaseNo) (v : View) (k : ViewLease) → In k (leaving_all ns v).leases → CameFrom v.leases k
 came_all [] v k i = record { kept = k; among = i; number = refl; pair = refl; entries = refl; lease = λ l h. h }
 came_all (n ∷ ns) v k i =
     let q = came_all ns (with_leaving n v) k i in
@@ -206,21 +206,21 @@ came_all (n ∷ ns) v k i =
     record {
       kept = p.0;
       among = p.1.0;
-      number = sym (one_keeps number_of leaving leaving_number n p.0) ∙ ap (λ (x : Kept). number_of x.standing) (sym p.1.1) ∙ q.number;
+      number = sym (one_keeps number_of leaving leaving_number n p.0) ∙ ap (λ (x : ViewLease). number_of x.standing) (sym p.1.1) ∙ q.number;
       pair = sym (one_keeps pair_in leaving leave_pair n p.0) ∙ ap pair_of (sym p.1.1) ∙ q.pair;
-      entries = sym (one_keeps entries_of leaving leave_entries n p.0) ∙ ap (λ (x : Kept). entries_of x.standing) (sym p.1.1) ∙ q.entries;
+      entries = sym (one_keeps entries_of leaving leave_entries n p.0) ∙ ap (λ (x : ViewLease). entries_of x.standing) (sym p.1.1) ∙ q.entries;
       lease = λ l h. one_lease n p.0 l (ap lease_in (sym p.1.1) ∙ q.lease l h);
     }
 
 -- each lease goes on, and it goes back where it did, or where no entry uses it and its number is among these
-pub record GoesTo (ks : List Kept) (k : Kept) : Type 0 where
-  pub kept : Kept
+pub record GoesTo (ks : List ViewLease) (k : ViewLease) : Type 0 where
+  pub kept : ViewLease
   pub among : In kept ks
   pub number : number_of kept.standing ≡ number_of k.standing
   pub leaving : is_leaving k.standing ≡ true → is_leaving kept.standing ≡ true
   pub pinned : is_pinned k.standing ≡ true → kept ≡ k
 
-one_stays : (n : LeaseNo) (k : Kept) → is_pinned k.standing ≡ true → one_leaves n k ≡ k
+one_stays : (n : LeaseNo) (k : ViewLease) → is_pinned k.standing ≡ true → one_leaves n k ≡ k
 one_stays n k h = within (has_number n k)
   where
     same : (s : Standing) → is_pinned s ≡ true → leaving s ≡ s
@@ -228,18 +228,18 @@ one_stays n k h = within (has_number n k)
     same (Pinned u) h = refl
     same (Leaving l) h = absurd (cc)
 
-    within : (b : Bool) → cond b (let x : Kept = record k { standing = leaving k.standing } in x) k ≡ k
-    within true = ap (λ s. let x : Kept = record k { standing = s } in x) (same k.standing h)
+    within : (b : Bool) → cond b (let x : ViewLease = record k { standing = leaving k.standing } in x) k ≡ k
+    within true = ap (λ s. let x : ViewLease = record k { standing = s } in x) (same k.standing h)
     within false = refl
 
-one_goes : (n : LeaseNo) (k : Kept) → is_leaving k.standing ≡ true → is_leaving (one_leaves n k).standing ≡ true
+one_goes : (n : LeaseNo) (k : ViewLease) → is_leaving k.standing ≡ true → is_leaving (one_leaves n k).standing ≡ true
 one_goes n k h = within (has_number n k)
   where
-    within : (b : Bool) → is_leaving (cond b (let x : Kept = record k { standing = leaving k.standing } in x) k).standing ≡ true
+    within : (b : Bool) → is_leaving (cond b (let x : ViewLease = record k { standing = leaving k.standing } in x) k).standing ≡ true
     within true = goes_still k.standing h
     within false = h
 
-pub goes_all : (ns : List LeaseNo) (v : View) (k : Kept) → In k v.leases → GoesTo (leaving_all ns v).leases k
+pub goes_all : (ns : List LeaseNo) (v : View) (k : ViewLease) → In k v.leases → GoesTo (leaving_all ns v).leases k
 goes_all [] v k i = record { kept = k; among = i; number = refl; leaving = λ h. h; pinned = λ h. refl }
 goes_all (n ∷ ns) v k i =
     let q = goes_all ns (with_leaving n v) (one_leaves n k) (In-mapped (one_leaves n) k v.leases i) in
@@ -252,11 +252,11 @@ goes_all (n ∷ ns) v k i =
     }
 
 -- an unused lease of these numbers goes back then
-pub left_all : (ns : List LeaseNo) (v : View) (k : Kept) → In k v.leases → In (number_of k.standing) ns → is_pinned k.standing ≡ false → IsReturned (leaving_all ns v).leases (number_of k.standing)
+pub left_all : (ns : List LeaseNo) (v : View) (k : ViewLease) → In k v.leases → In (number_of k.standing) ns → is_pinned k.standing ≡ false → IsReturned (leaving_all ns v).leases (number_of k.standing)
 left_all [] v k i n h = absurd n
 left_all (n ∷ ns) v k i (inl e) h =
     let there : has_number n k ≡ true = ap (λ m. same_no m n) e ∙ same_no_self n in
-    let goes : is_leaving (one_leaves n k).standing ≡ true = ap (λ b. is_leaving (cond b (let x : Kept = record k { standing = leaving k.standing } in x) k).standing) there ∙ unused_goes k.standing h in
+    let goes : is_leaving (one_leaves n k).standing ≡ true = ap (λ b. is_leaving (cond b (let x : ViewLease = record k { standing = leaving k.standing } in x) k).standing) there ∙ unused_goes k.standing h in
     let q = goes_all ns (with_leaving n v) (one_leaves n k) (In-mapped (one_leaves n) k v.leases i) in
     record { kept = q.kept; among = q.among; number = q.number ∙ one_keeps number_of leaving leaving_number n k; leaving = q.leaving goes }
 left_all (n ∷ ns) v k i (inr j) h =

@@ -10,7 +10,7 @@ use Rattle.fs_field.specs.Field.{file_of}
 use Rattle.fs_msg.specs.declared.answer.Answer.{Answer}
 use Rattle.fs_msg.specs.declared.answer.Answer.TheVariants.{Granted, Renewed, Released, Shipped, Recall, Led}
 use Rattle.fs_msg.specs.declared.entry.Entry.{Entry}
-use Rattle.fs_view.specs.Kept.{makes, is_pending}
+use Rattle.fs_view.specs.ViewLease.{makes, is_pending}
 use Rattle.fs_view.specs.View.{value_after_log}
 use Rattle.fs_record.specs.declared.led_end.LedEnd.{LedEnd}
 use Rattle.fs_record.specs.declared.led_end.LedEnd.TheVariants as ends

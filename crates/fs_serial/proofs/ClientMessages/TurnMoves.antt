@@ -19,8 +19,8 @@ use Rattle.fs_client.specs.Acts.{hinted}
 use Rattle.fs_client.specs.Turns.{ends_by, entries_at, idle, kept_at, returned, ending, renew_some, release_some, ship_some, turn_free, turn_on}
 use Rattle.fs_client.specs.declared.plan.Plan.{Plan}
 use Rattle.fs_client.specs.declared.state.Client.{Client}
-use Rattle.fs_view.specs.declared.kept.Kept.{Kept}
-use Rattle.fs_view.specs.Kept.{file_in}
+use Rattle.fs_view.specs.declared.view_lease.ViewLease.{ViewLease}
+use Rattle.fs_view.specs.ViewLease.{file_in}
 use Rattle.fs_serial.specs.Sight.{Sight}
 use Rattle.fs_serial.specs.World.{message_in, pushed}
 use Rattle.fs_serial.proofs.Grants.Claims.{none_anew}
@@ -56,20 +56,20 @@ module _ (skew greatest : ℕ) (s : Sight) (by : Session) (replied : List Item) 
       let q = front to (e ∷ es) in
       record { seat = seat_ships skew greatest s by replied c up down to (entries_at c to (e ∷ es)) q.rest (log ∙ q.is) idle going h; reserves = none_anew (seen_at by c down) }
 
-  keeps : c.exchange ≡ None → (ks : List Kept) → ((k : Kept) → In k ks → In k c.view.leases) → Moves (renew_some ks c)
+  keeps : c.exchange ≡ None → (ks : List ViewLease) → ((k : ViewLease) → In k ks → In k c.view.leases) → Moves (renew_some ks c)
   keeps idle [] among = stays
   keeps idle (k ∷ ks) among =
       let to = hinted c (file_in k.standing) in
-      record { seat = seat_renews skew greatest s by replied c up down to (kept_at c to (k ∷ ks)) (λ x i. among x (In-filter (λ (z : Kept). hinted c (file_in z.standing) == to) x (k ∷ ks) i)) idle h; reserves = none_anew (seen_at by c down) }
+      record { seat = seat_renews skew greatest s by replied c up down to (kept_at c to (k ∷ ks)) (λ x i. among x (In-filter (λ (z : ViewLease). hinted c (file_in z.standing) == to) x (k ∷ ks) i)) idle h; reserves = none_anew (seen_at by c down) }
 
   ending_now : c.exchange ≡ None → Moves (renew_some (ending (c.last + c.term / 2) c.view) c)
-  ending_now idle = keeps idle (ending (c.last + c.term / 2) c.view) (λ k i. In-filter (λ (x : Kept). not x.recalled && ends_by (c.last + c.term / 2) x.standing) k c.view.leases i)
+  ending_now idle = keeps idle (ending (c.last + c.term / 2) c.view) (λ k i. In-filter (λ (x : ViewLease). not x.recalled && ends_by (c.last + c.term / 2) x.standing) k c.view.leases i)
 
-  gives_some : c.exchange ≡ None → (ks : List Kept) → returned c.view ≡ ks → Moves (release_some ks c)
+  gives_some : c.exchange ≡ None → (ks : List ViewLease) → returned c.view ≡ ks → Moves (release_some ks c)
   gives_some idle [] e = ending_now idle
   gives_some idle (k ∷ ks) e =
       let to = hinted c (file_in k.standing) in
-      let these : (x : Kept) → In x (kept_at c to (k ∷ ks)) → In x (returned c.view) = λ x i. subst (In x) (sym e) (In-filter (λ (z : Kept). hinted c (file_in z.standing) == to) x (k ∷ ks) i) in
+      let these : (x : ViewLease) → In x (kept_at c to (k ∷ ks)) → In x (returned c.view) = λ x i. subst (In x) (sym e) (In-filter (λ (z : ViewLease). hinted c (file_in z.standing) == to) x (k ∷ ks) i) in
       record {
         seat = seat_releases skew greatest s by replied c up down to (kept_at c to (k ∷ ks)) these idle h;
         reserves = releases_anew skew greatest s by replied c up down to (kept_at c to (k ∷ ks)) these idle h;

@@ -26,8 +26,8 @@ use Rattle.fs_server.specs.Asks.{Asking, ask_from, grant_of, kind_for, with_leas
 use Rattle.fs_server.specs.declared.state.Server.{Server}
 use Rattle.fs_server.proofs.OneByOne.{AskEnds, Items, each_item, elsewhere, kept_off, waits}
 use Rattle.fs_client.specs.Answers.{front_fits, is_new, is_of_item}
-use Rattle.fs_view.specs.declared.kept.Kept.{Kept}
-use Rattle.fs_view.specs.Kept.{has_number, number_of}
+use Rattle.fs_view.specs.declared.view_lease.ViewLease.{ViewLease}
+use Rattle.fs_view.specs.ViewLease.{has_number, number_of}
 use Rattle.fs_serial.proofs.Places.Elsewhere.{not_all}
 use Rattle.fs_serial.proofs.Grants.OneLease.{same_field_self, same_kind_self}
 
@@ -45,8 +45,8 @@ pub value_is : (by : Session) (m : RecordMap) (f : Field) → is_value_of f (val
 value_is by m f = value_there by f (node_of (get m (file_of f)))
 
 -- no number that the server gave is above
-abbrev pub KeptUpTo : ℕ → ℕ → List Kept → Type 0
-KeptUpTo me n kept = (k : Kept) → In k kept → (number_of k.standing).server ≡ me → (number_of k.standing).count ≤ n
+abbrev pub KeptUpTo : ℕ → ℕ → List ViewLease → Type 0
+KeptUpTo me n kept = (k : ViewLease) → In k kept → (number_of k.standing).server ≡ me → (number_of k.standing).count ≤ n
 
 abbrev pub GrantsUpTo : ℕ → List Grant → Type 0
 GrantsUpTo n grants = (g : Grant) → In g grants → g.no.count ≤ n
@@ -58,12 +58,12 @@ other_number a b h = by (a.server == b.server) refl
     by true e = unequal a.count b.count (h (eqb-true a.server b.server e))
     by false e = refl
 
-pub new_number : (kept : List Kept) (before : List Grant) (me n : ℕ) (g : Grant) → g.no.server ≡ me → KeptUpTo me n kept → GrantsUpTo n before → n < g.no.count → is_new kept before g ≡ true
+pub new_number : (kept : List ViewLease) (before : List Grant) (me n : ℕ) (g : Grant) → g.no.server ≡ me → KeptUpTo me n kept → GrantsUpTo n before → n < g.no.count → is_new kept before g ≡ true
 new_number kept before me n g at k b h =
     joined _ _ (ap not (In_none (has_number g.no) kept (λ x i. other_number (number_of x.standing) g.no (λ e. let q = k x i (e ∙ at) in omega arith))))
     (ap not (In_none (λ (x : Grant). same_no x.no g.no) before (λ x i. let q = b x i in other_number x.no g.no (λ e. omega arith))))
 
-module _ (by : Session) (kept : List Kept) where
+module _ (by : Session) (kept : List ViewLease) where
   -- the grants behind those before fit the items
   pub record IsGivenFor (items : List (Field × LeaseKind)) (before : List Grant) (me start : ℕ) (a : Asking) : Type 0 where
     pub new : List Grant

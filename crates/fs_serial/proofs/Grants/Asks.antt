@@ -24,10 +24,10 @@ use Rattle.fs_server.specs.declared.state.Server.{Server}
 use Rattle.fs_txn.specs.Grants.{Decided}
 use Rattle.fs_client.specs.Answers.{fresh_fits, grants_fit}
 use Rattle.fs_client.proofs.FitsSteps.{last_is}
-use Rattle.fs_view.specs.declared.kept.Kept.{Kept}
-use Rattle.fs_view.specs.declared.kept.Standing.{Standing}
-use Rattle.fs_view.specs.declared.kept.Standing.TheVariants.{Held, Pinned, Leaving}
-use Rattle.fs_view.specs.Kept.{is_leaving, lease_of, number_of}
+use Rattle.fs_view.specs.declared.view_lease.ViewLease.{ViewLease}
+use Rattle.fs_view.specs.declared.view_lease.Standing.{Standing}
+use Rattle.fs_view.specs.declared.view_lease.Standing.TheVariants.{Held, Pinned, Leaving}
+use Rattle.fs_view.specs.ViewLease.{is_leaving, lease_of, number_of}
 use Rattle.fs_serial.specs.Decided.{AllDecidedStand}
 use Rattle.fs_serial.specs.Laws.{IsGift, with_given}
 use Rattle.fs_serial.specs.Parts.{with_client}
@@ -47,7 +47,7 @@ use Rattle.fs_serial.proofs.Grants.Leased.{In-put_still}
 use Rattle.fs_serial.proofs.Grants.OneLease.{same_field_self}
 
 -- each lease that a client has, one that goes back too, has a number that was given
-pub kept_given : (o : Counts) (skew greatest : ℕ) (s : Server) (journal : List Item) (replied : Session → List Item) (ends : Session → Ends) (clients : Session → Settled) (by : Session) → GoesOn skew greatest (sight_of o s journal) replied ends clients → (k : Kept) → In k (ends by).client.view.leases → IsGiven (given_by o s) (number_of k.standing)
+pub kept_given : (o : Counts) (skew greatest : ℕ) (s : Server) (journal : List Item) (replied : Session → List Item) (ends : Session → Ends) (clients : Session → Settled) (by : Session) → GoesOn skew greatest (sight_of o s journal) replied ends clients → (k : ViewLease) → In k (ends by).client.view.leases → IsGiven (given_by o s) (number_of k.standing)
 kept_given o skew greatest s journal replied ends clients by h k i = at_standing k.standing refl
   where
     lease_given : (l : Lease) → lease_in k ≡ Some l → IsGiven (given_by o s) l.no
@@ -61,14 +61,14 @@ kept_given o skew greatest s journal replied ends clients by h k i = at_standing
     at_standing (Leaving l) e = (h.carried.returns by k i (ap is_leaving e)).fits.known
 
 -- so none that the server gave has a number above
-kept_up_to : (o : Counts) (s : Server) (kept : List Kept) → ((k : Kept) → In k kept → IsGiven (given_by o s) (number_of k.standing)) → KeptUpTo s.me s.given kept
+kept_up_to : (o : Counts) (s : Server) (kept : List ViewLease) → ((k : ViewLease) → In k kept → IsGiven (given_by o s) (number_of k.standing)) → KeptUpTo s.me s.given kept
 kept_up_to o s kept given k i at =
     let here = count_here s.me s.given o.given in
     let g : (number_of k.standing).count ≤ given_by o s s.me = subst (λ n. (number_of k.standing).count ≤ given_by o s n) at (given k i) in
     omega arith
 
 module _ (o : Counts) (skew greatest : ℕ) (journal : List Item) (replied : Session → List Item) (ends : Session → Ends) (base : Session → Settled) (by : Session) (items : List (Field × LeaseKind)) (dir : Option (List ℕ)) (s : Server) (ds : List Decided) (others : (x : Decided) → In x ds → (x.by.0 == by.0) ≡ false) (underway : AllDecidedStand ds s journal) (h : GoesOn skew greatest (sight_of o (seen ds s) journal) replied ends base) (kinds : (x : Field × LeaseKind) → In x items → kind_for x.0 x.1 ≡ x.1) where
-  abbrev kept : List Kept
+  abbrev kept : List ViewLease
   kept = (ends by).client.view.leases
 
   -- the question is answered

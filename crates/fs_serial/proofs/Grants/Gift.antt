@@ -31,8 +31,8 @@ use Rattle.fs_moderows.specs.Answer.{given_row}
 use Rattle.fs_server.specs.Asks.{Asking, grant_of, with_fresh}
 use Rattle.fs_server.specs.Server.{next_number, end_of}
 use Rattle.fs_server.specs.declared.state.Server.{Server}
-use Rattle.fs_view.specs.declared.kept.Kept.{Kept}
-use Rattle.fs_view.specs.Kept.{number_of}
+use Rattle.fs_view.specs.declared.view_lease.ViewLease.{ViewLease}
+use Rattle.fs_view.specs.ViewLease.{number_of}
 use Rattle.fs_serial.specs.Exchange.{ReturnsFit}
 use Rattle.fs_serial.specs.Fresh.{FreshReserved, Reserved, reserved_by}
 use Rattle.fs_serial.specs.World.{Ends, GoesOn}
@@ -149,7 +149,7 @@ module _ (o : Counts) (by : Session) (dir : List ℕ) (k : ℕ) (a : Asking) (jo
   }
 
   -- what goes back is no lease that is given
-  pub returned_still : (kept : List Kept) (leases : List Lease) → ReturnsFit (sight_of o s journal).given s.rows by kept leases → ReturnsFit (sight_of o t journal).given t.rows by kept (leases ++ l ∷ [])
+  pub returned_still : (kept : List ViewLease) (leases : List Lease) → ReturnsFit (sight_of o s journal).given s.rows by kept leases → ReturnsFit (sight_of o t journal).given t.rows by kept (leases ++ l ∷ [])
   returned_still kept leases h j i leaving =
       let q = h j i leaving in
       let rely = gift_relied 0 0 by in

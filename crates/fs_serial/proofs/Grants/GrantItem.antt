@@ -16,7 +16,7 @@ use Rattle.fs_record.specs.ValueOf.{value_of}
 use Rattle.fs_server.specs.Asks.{answer_to, grant_of, kind_for, with_lease}
 use Rattle.fs_server.specs.Server.{next_number, end_of}
 use Rattle.fs_server.specs.declared.state.Server.{Server}
-use Rattle.fs_view.specs.Kept.{number_of}
+use Rattle.fs_view.specs.ViewLease.{number_of}
 use Rattle.fs_serial.specs.Gone.{IsOfGone}
 use Rattle.fs_serial.specs.Leases.{IsRowOf, LeasesGiven, LeasesMatch}
 use Rattle.fs_serial.specs.Rows.{RowsGiven}

@@ -39,7 +39,7 @@ use Rattle.fs_record.proofs.AllApplied.{after_all_kept}
 use Rattle.fs_record.proofs.LedStepping.{led_effects_lead}
 use Rattle.fs_record.specs.declared.record.Record.{Record}
 use Rattle.fs_server.specs.Ships.{item_of}
-use Rattle.fs_view.specs.Kept.{makes}
+use Rattle.fs_view.specs.ViewLease.{makes}
 use Rattle.fs_view.specs.Laws.{item_meets}
 use Rattle.fs_view.specs.LedLaws.{IsLed, IsOfNone}
 use Rattle.fs_view.specs.View.{value_after_all}

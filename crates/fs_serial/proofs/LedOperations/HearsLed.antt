@@ -20,8 +20,8 @@ use Rattle.fs_client.specs.declared.exchange.Exchange.{Exchange}
 use Rattle.fs_client.specs.declared.exchange.Exchange.TheVariants.{Leads}
 use Rattle.fs_client.specs.declared.led.Led.{Led as TheLed}
 use Rattle.fs_client.specs.declared.state.Client.{Client}
-use Rattle.fs_view.specs.declared.kept.Kept.{Kept}
-use Rattle.fs_view.specs.Kept.{entries_of, is_leaving, number_of}
+use Rattle.fs_view.specs.declared.view_lease.ViewLease.{ViewLease}
+use Rattle.fs_view.specs.ViewLease.{entries_of, is_leaving, number_of}
 use Rattle.fs_view.specs.View.{knowing, unpinned_all}
 use Rattle.fs_serial.specs.Client.{ClientFits, led_before, times_in, times_used}
 use Rattle.fs_serial.specs.Exchange.{ExchangeFits, ReturnFits, ReturnsFit}
@@ -37,13 +37,13 @@ use Rattle.fs_serial.proofs.ClientMessages.Seats.{Seat, seen_at}
 
 module _ (by : Session) (c : Client) (l : TheLed) (is : c.led ≡ Some l) (f : ClientFits by c) where
   -- each lease is in use by what is led and by the log
-  counted : (k : Kept) → In k c.view.leases → entries_of k.standing ≡ times_used (number_of k.standing) l.entry.uses + times_in (number_of k.standing) c.log
+  counted : (k : ViewLease) → In k c.view.leases → entries_of k.standing ≡ times_used (number_of k.standing) l.entry.uses + times_in (number_of k.standing) c.log
   counted k i = f.pinned k i ∙ ap (λ o. times_in (number_of k.standing) (led_before o c.log)) is
 
   -- ## It is done
 
   module _ (es : List Effect) where
-    abbrev knows : List Kept
+    abbrev knows : List ViewLease
     knows = map (knowing by es) c.view.leases
 
     abbrev done : Client
@@ -57,11 +57,11 @@ module _ (by : Session) (c : Client) (l : TheLed) (is : c.led ≡ Some l) (f : C
     done_settled : settled_now done ≡ led_done by es (settled_now c)
     done_settled = ap (λ ls. let x : Settled = record { leases = ls; log = c.log; next = c.next + 1; over = c.over; led = None } in x) (unpinned_leases l.entry.uses knows ∙ known_leases by es c.view.leases)
 
-    done_was : (k : Kept) → In k done.view.leases → WasKept c.view.leases k
+    done_was : (k : ViewLease) → In k done.view.leases → WasKept c.view.leases k
     done_was k i =
         let q = was_all l.entry.uses knows k i in
         let p = In-map (knowing by es) q.kept c.view.leases q.among in
-        record { kept = p.0; among = p.1.0; pair = ap pair_of (sym p.1.1) ∙ q.pair; leaving = ap (λ (y : Kept). is_leaving y.standing) (sym p.1.1) ∙ q.leaving }
+        record { kept = p.0; among = p.1.0; pair = ap pair_of (sym p.1.1) ∙ q.pair; leaving = ap (λ (y : ViewLease). is_leaving y.standing) (sym p.1.1) ∙ q.leaving }
 
     done_client : ClientFits by done
     done_client = record {

@@ -98,13 +98,13 @@ module _ (k : ℕ) (c : Cluster) (s : Server) (by : Session) (m : ToLead) (at : 
   b = between c.servers k s at
 
   pub refuse_same : (w : Why) → IsSameStep k (FromClient by (Lead m)) s (refuses by w s) (refuses by w (with_all s c)) c
-  refuse_same w = stepped k c s places b (FromClient by (Lead m)) (λ flying. refl) (refuses by w) (refuses by w s) (refuse_sim (more k c s places b) s by m (apart k c s places b) w)
+  refuse_same w = stepped k c s places b (FromClient by (Lead m)) (λ in_flight. refl) (refuses by w) (refuses by w s) (refuse_sim (more k c s places b) s by m (apart k c s places b) w)
 
   pub abort_same : (u : Use) → IsSameStep k (FromClient by (Lead m)) s (aborts by u s) (aborts by u (with_all s c)) c
-  abort_same u = stepped k c s places b (FromClient by (Lead m)) (λ flying. refl) (aborts by u) (aborts by u s) (abort_sim (more k c s places b) s by m (apart k c s places b) u)
+  abort_same u = stepped k c s places b (FromClient by (Lead m)) (λ in_flight. refl) (aborts by u) (aborts by u s) (abort_sim (more k c s places b) s by m (apart k c s places b) u)
 
   pub commit_same : has_all s (parts_in m) ≡ true → IsSameStep k (FromClient by (Lead m)) s (commits by m s) (commits by m (with_all s c)) c
-  commit_same h = stepped k c s places b (FromClient by (Lead m)) (λ flying. refl) (commits by m) (commits by m s) (commit_sim (more k c s places b) s by m (apart k c s places b) h)
+  commit_same h = stepped k c s places b (FromClient by (Lead m)) (λ in_flight. refl) (commits by m) (commits by m s) (commit_sim (more k c s places b) s by m (apart k c s places b) h)
 
   -- ## No directory comes into itself
 

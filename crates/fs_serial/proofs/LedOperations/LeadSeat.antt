@@ -28,9 +28,9 @@ use Rattle.fs_client.specs.Turns.{pair_of}
 use Rattle.fs_client.specs.declared.led.Led.{Led}
 use Rattle.fs_client.specs.declared.state.Client.{Client}
 use Rattle.fs_txn.specs.Parts.{led_files}
-use Rattle.fs_view.specs.declared.kept.Kept.{Kept}
+use Rattle.fs_view.specs.declared.view_lease.ViewLease.{ViewLease}
 use Rattle.fs_view.specs.Gone.{IsUnread, known_with}
-use Rattle.fs_view.specs.Kept.{is_leaving, number_of, use_of}
+use Rattle.fs_view.specs.ViewLease.{is_leaving, number_of, use_of}
 use Rattle.fs_view.specs.Script.{script_of}
 use Rattle.fs_view.specs.View.{given_by, item_use, known_by, reply_in, value_after_log, walk_in}
 use Rattle.fs_view.specs.Walk.{always, walk}
@@ -110,7 +110,7 @@ module _ (skew greatest : ℕ) (s : Sight) (by : Session) (replied : List Item) 
   in_hand u i k j e =
       let q : IsUseOf c.view c.last u = use_from c.view c.last o u (ap is_some known) i in
       let same : k ≡ q.kept = h.client.distinct k q.kept j q.among (e ∙ ap (λ (u : Use). u.no) (sym q.used) ∙ sym (number_there q.kept.standing q.lease q.is)) in
-      ap (λ (k : Kept). is_leaving k.standing) same ∙ not_leaving q.kept.standing q.lease q.is
+      ap (λ (k : ViewLease). is_leaving k.standing) same ∙ not_leaving q.kept.standing q.lease q.is
 
   backed : (u : Use) → In u l.entry.uses → greatest < u.until + skew → IsBacked s.rows u.no u.until
   backed u i live =

@@ -11,6 +11,6 @@ pub use Rattle.fs_serial.specs.World.{IsOther}
 -- each message between servers hands something over
 pub none_flies : (k from : ℕ) (c : Cluster) (m : PeerMsg) → PlacesHold c → IsThere k (FromPeer from m) c → parcel_in m ≡ None → ⊥
 none_flies k from c m h there is =
-    let among = (found (is_between from k) c.flying (record { from = from; to = k; message = m }) there).0 in
+    let among = (found (is_between from k) c.in_flight (record { from = from; to = k; message = m }) there).0 in
     let some : is_some (parcel_in m) ≡ true = (h.goes (record { from = from; to = k; message = m }) among).1 in
     absurd (cc)

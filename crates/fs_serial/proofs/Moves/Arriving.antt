@@ -11,7 +11,7 @@ use Rattle.fs_server.specs.Moves.{fits_here, installed}
 use Rattle.fs_server.specs.Server.{only_noted}
 use Rattle.fs_server.specs.declared.event.ServerEvent.TheVariants.{FromPeer}
 use Rattle.fs_server.specs.declared.state.Server.{Server}
-use Rattle.fs_serial.specs.Cluster.{Cluster, Flying, after_step, is_between, parcels_of, without_first}
+use Rattle.fs_serial.specs.Cluster.{Cluster, InFlight, after_step, is_between, parcels_of, without_first}
 use Rattle.fs_serial.specs.Joined.{records_of_all, rows_of_all}
 use Rattle.fs_serial.specs.Parts.{ServersFit, ServersHold}
 use Rattle.fs_serial.specs.Places.{PlacesHold}
@@ -31,24 +31,24 @@ use Rattle.fs_serial.proofs.Moves.Replaced.{replaced, replaced_places}
 use Rattle.fs_serial.proofs.Lists.SetAt.{In_kept, In_new, In_set, In_without}
 use Rattle.fs_serial.proofs.Lists.Times.{all_once}
 
-module _ (k from : ℕ) (c : Cluster) (s : Server) (p : Parcel) (at : slice_get c.servers k ≡ Some s) (h : PlacesHold c) (way : find (is_between from k) c.flying ≡ Some (record { from = from; to = k; message = peer.Parcel p })) where
-  abbrev comes : Flying
+module _ (k from : ℕ) (c : Cluster) (s : Server) (p : Parcel) (at : slice_get c.servers k ≡ Some s) (h : PlacesHold c) (way : find (is_between from k) c.in_flight ≡ Some (record { from = from; to = k; message = peer.Parcel p })) where
+  abbrev comes : InFlight
   comes = record { from = from; to = k; message = peer.Parcel p }
 
   here : In s c.servers
   here = In-got c.servers k s at
 
   abbrev before : List Parcel
-  before = parcels_of c.flying
+  before = parcels_of c.in_flight
 
   flies : In p before
-  flies = taken_there (is_between from k) c.flying comes way p refl
+  flies = taken_there (is_between from k) c.in_flight comes way p refl
 
   abbrev servers_then : List Server
   servers_then = slice_set c.servers k (installed p s)
 
-  abbrev flying_then : List Flying
-  flying_then = without_first (is_between from k) c.flying
+  abbrev flying_then : List InFlight
+  flying_then = without_first (is_between from k) c.in_flight
 
   abbrev parcels_then : List Parcel
   parcels_then = parcels_of flying_then
@@ -61,19 +61,19 @@ module _ (k from : ℕ) (c : Cluster) (s : Server) (p : Parcel) (at : slice_get 
     parted_kept = λ x i. In_kept c.servers k s (installed p s) x at i;
     servers = λ g. total_set g c.servers k s (installed p s) at;
     flies = flies;
-    less_kept = taken_less (is_between from k) c.flying;
-    more_kept = taken_either (is_between from k) c.flying comes way p refl;
-    flying = taken_total (is_between from k) c.flying comes way p refl;
+    less_kept = taken_less (is_between from k) c.in_flight;
+    more_kept = taken_either (is_between from k) c.in_flight comes way p refl;
+    in_flight = taken_total (is_between from k) c.in_flight comes way p refl;
   }
 
-  rows_then : rows_of_all servers_then (parcels_of flying_then) ≡ rows_of_all c.servers (parcels_of c.flying)
-  rows_then = same_rows c.servers servers_then (parcels_of c.flying) (parcels_of flying_then) h.ordered
-      (λ n. subst (λ j. j ≤ 1) (times_same (installed p s) s p servers_then c.servers parcels_then before in_place (came_parts c h s here p flies) n) (all_once c.servers (parcels_of c.flying) h.ordered n))
+  rows_then : rows_of_all servers_then (parcels_of flying_then) ≡ rows_of_all c.servers (parcels_of c.in_flight)
+  rows_then = same_rows c.servers servers_then (parcels_of c.in_flight) (parcels_of flying_then) h.ordered
+      (λ n. subst (λ j. j ≤ 1) (times_same (installed p s) s p servers_then c.servers parcels_then before in_place (came_parts c h s here p flies) n) (all_once c.servers (parcels_of c.in_flight) h.ordered n))
       (row_whole (installed p s) s p servers_then c.servers parcels_then before in_place (came_parts c h s here p flies))
       (row_parted (installed p s) s p servers_then c.servers parcels_then before in_place (came_parts c h s here p flies))
 
-  records_then : records_of_all servers_then (parcels_of flying_then) ≡ records_of_all c.servers (parcels_of c.flying)
-  records_then = same_records c.servers servers_then (parcels_of c.flying) (parcels_of flying_then) (one_record c h)
+  records_then : records_of_all servers_then (parcels_of flying_then) ≡ records_of_all c.servers (parcels_of c.in_flight)
+  records_then = same_records c.servers servers_then (parcels_of c.in_flight) (parcels_of flying_then) (one_record c h)
       (record_whole (installed p s) s p servers_then c.servers parcels_then before in_place (came_parts c h s here p flies))
       (record_parted (installed p s) s p servers_then c.servers parcels_then before in_place (came_parts c h s here p flies))
 
@@ -81,32 +81,32 @@ module _ (k from : ℕ) (c : Cluster) (s : Server) (p : Parcel) (at : slice_get 
   places_then = replaced_places c h k s (installed p s) at flying_then c.lines refl
       (one_whole (installed p s) s p servers_then c.servers parcels_then before in_place (came_managed c h s here p flies) h.one)
       (came_home c h s here p flies)
-      (λ x i. h.sent x (taken_less (is_between from k) c.flying x i))
-      (λ f i. h.goes f (In_without (is_between from k) c.flying f i))
+      (λ x i. h.sent x (taken_less (is_between from k) c.in_flight x i))
+      (λ f i. h.goes f (In_without (is_between from k) c.in_flight f i))
       rows_then
 
 -- an honest parcel fits where it comes
 pub parcel_fits : (k from : ℕ) (c : Cluster) (s : Server) (p : Parcel) → slice_get c.servers k ≡ Some s → PlacesHold c
-    → find (is_between from k) c.flying ≡ Some (record { from = from; to = k; message = peer.Parcel p })
+    → find (is_between from k) c.in_flight ≡ Some (record { from = from; to = k; message = peer.Parcel p })
     → (o : Counts) → ServersHold (sight_of o (with_all s c) c.journal) → ServersFit (sight_of o (with_all s c) c.journal)
     → fits_here p s ≡ true
 parcel_fits k from c s p at h way o hold fit = flying_fits c h s (here k from c s p at h way) p (flies k from c s p at h way) o hold fit
 
 -- all rows and records are as before
 pub arriving_same : (k from : ℕ) (c : Cluster) (s : Server) (p : Parcel) → slice_get c.servers k ≡ Some s → PlacesHold c
-    → find (is_between from k) c.flying ≡ Some (record { from = from; to = k; message = peer.Parcel p })
+    → find (is_between from k) c.in_flight ≡ Some (record { from = from; to = k; message = peer.Parcel p })
     → (rows_in (after_step k (FromPeer from (peer.Parcel p)) (only_noted (note.Installs p.prefix) (installed p s)) c) ≡ rows_in c)
     × (held_by (after_step k (FromPeer from (peer.Parcel p)) (only_noted (note.Installs p.prefix) (installed p s)) c) ≡ held_by c)
 arriving_same k from c s p at h way =
     let later : List Server = slice_set c.servers k (installed p s) in
-    let none : without_first (is_between from k) c.flying ++ [] ≡ without_first (is_between from k) c.flying = append-nil (without_first (is_between from k) c.flying) in (
-      ap (λ (fs : List Flying). rows_of_all later (parcels_of fs)) none ∙ rows_then k from c s p at h way,
-      ap (λ (fs : List Flying). records_of_all later (parcels_of fs)) none ∙ records_then k from c s p at h way,
+    let none : without_first (is_between from k) c.in_flight ++ [] ≡ without_first (is_between from k) c.in_flight = append-nil (without_first (is_between from k) c.in_flight) in (
+      ap (λ (fs : List InFlight). rows_of_all later (parcels_of fs)) none ∙ rows_then k from c s p at h way,
+      ap (λ (fs : List InFlight). records_of_all later (parcels_of fs)) none ∙ records_then k from c s p at h way,
     )
 
 -- everything is at its place
 pub arriving_places : (k from : ℕ) (c : Cluster) (s : Server) (p : Parcel) → slice_get c.servers k ≡ Some s → PlacesHold c
-    → find (is_between from k) c.flying ≡ Some (record { from = from; to = k; message = peer.Parcel p })
+    → find (is_between from k) c.in_flight ≡ Some (record { from = from; to = k; message = peer.Parcel p })
     → PlacesHold (after_step k (FromPeer from (peer.Parcel p)) (only_noted (note.Installs p.prefix) (installed p s)) c)
 arriving_places k from c s p at h way =
-    subst (λ fs. PlacesHold (replaced k (installed p s) fs c.lines c)) (sym (append-nil (without_first (is_between from k) c.flying))) (places_then k from c s p at h way)
+    subst (λ fs. PlacesHold (replaced k (installed p s) fs c.lines c)) (sym (append-nil (without_first (is_between from k) c.in_flight))) (places_then k from c s p at h way)

@@ -38,7 +38,7 @@ only_then : (P : Record → Type 0) (o : Option Record) (r : Record) → ((t : R
 only_then P None r one p k = absurd (k r p)
 only_then P (Some t) r one p k = ap Some (sym (one t p k))
 
-module _ (c : Cluster) (h : PlacesHold c) (s : Server) (i : In s c.servers) (f : Parcel) (j : In f (parcels_of c.flying)) where
+module _ (c : Cluster) (h : PlacesHold c) (s : Server) (i : In s c.servers) (f : Parcel) (j : In f (parcels_of c.in_flight)) where
   abbrev all_of : Server
   all_of = installed f s
 
@@ -54,7 +54,7 @@ module _ (c : Cluster) (h : PlacesHold c) (s : Server) (i : In s c.servers) (f :
   abbrev Had : List ℕ → Record → Type 0
   Had id r = (get s.records id ≡ Some r) ⊎ In (id, r) f.records
 
-  held : (id : List ℕ) (r : Record) → Had id r → HasRecord c.servers (parcels_of c.flying) id r
+  held : (id : List ℕ) (r : Record) → Had id r → HasRecord c.servers (parcels_of c.in_flight) id r
   held id r (inl e) = inl (s, i, e)
   held id r (inr k) = inr (f, j, k)
 
@@ -75,9 +75,9 @@ module _ (c : Cluster) (h : PlacesHold c) (s : Server) (i : In s c.servers) (f :
   -- no number is there twice
   pub once : AreOnce f.rows s.rows
   once n =
-      let all : times_in n c.servers (parcels_of c.flying) ≤ 1 = all_once c.servers (parcels_of c.flying) h.ordered n in
+      let all : times_in n c.servers (parcels_of c.in_flight) ≤ 1 = all_once c.servers (parcels_of c.in_flight) h.ordered n in
       let here : times n s.rows ≤ total (λ (x : Server). times n x.rows) c.servers = at_least (λ (x : Server). times n x.rows) c.servers s i in
-      let there : times n f.rows ≤ total (λ (x : Parcel). times n x.rows) (parcels_of c.flying) = at_least (λ (x : Parcel). times n x.rows) (parcels_of c.flying) f j in
+      let there : times n f.rows ≤ total (λ (x : Parcel). times n x.rows) (parcels_of c.in_flight) = at_least (λ (x : Parcel). times n x.rows) (parcels_of c.in_flight) f j in
       omega arith
 
   pub came_parts : ArePartsOf all_of s f
@@ -108,7 +108,7 @@ module _ (c : Cluster) (h : PlacesHold c) (s : Server) (i : In s c.servers) (f :
   split false own then now t o n = rw t (omega arith)
 
   pub came_managed : AreManaged all_of s f
-  came_managed id = split (gone id) (is_mine s id) (server_of (map_after_take s.map s.me f.prefix f.piece.given) id) (server_of s.map id) (tells id) refl (λ a b. not_both c.servers (parcels_of c.flying) h.one id s f i j a b)
+  came_managed id = split (gone id) (is_mine s id) (server_of (map_after_take s.map s.me f.prefix f.piece.given) id) (server_of s.map id) (tells id) refl (λ a b. not_both c.servers (parcels_of c.in_flight) h.one id s f i j a b)
 
   -- what comes is managed then
   given_mine : (id : List ℕ) → gives_it id f ≡ true → is_mine all_of id ≡ true

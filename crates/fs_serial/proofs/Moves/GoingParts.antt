@@ -21,7 +21,7 @@ use Rattle.fs_rows.specs.Moving.{is_on_given, rows_given, rows_left}
 use Rattle.fs_server.specs.Moves.{without_given}
 use Rattle.fs_server.specs.Server.{is_mine}
 use Rattle.fs_server.specs.declared.state.Server.{Server}
-use Rattle.fs_serial.specs.Cluster.{Flying}
+use Rattle.fs_serial.specs.Cluster.{InFlight}
 use Rattle.fs_serial.proofs.Lists.Counted.{one_if}
 use Rattle.fs_serial.proofs.Places.HeldRecords.{entry_of}
 use Rattle.fs_serial.proofs.Moves.Parted.{AreManaged, ArePartsOf}
@@ -39,7 +39,7 @@ chosen false o r h = (h, refl)
 abbrev pub parted : List ℕ → Server → Parcel
 parted prefix s = parcel_of s.records s.rows s.map s.me prefix
 
-abbrev pub going : ℕ → List ℕ → ℕ → Server → Flying
+abbrev pub going : ℕ → List ℕ → ℕ → Server → InFlight
 going k prefix to s = record { from = k; to = to; message = OfParcel (parted prefix s) }
 
 module _ (prefix : List ℕ) (to : ℕ) (s : Server) where

@@ -34,7 +34,7 @@ use Rattle.fs_server.specs.declared.state.Server.{Server}
 use Rattle.fs_msg.specs.declared.server_note.ServerNote.TheVariants as note
 use Rattle.fs_model.specs.Sound.{kind_of}
 use Rattle.fs_record.specs.Records.{node_of}
-use Rattle.fs_serial.specs.Cluster.{Cluster, Flying, after_step, parcels_of}
+use Rattle.fs_serial.specs.Cluster.{Cluster, InFlight, after_step, parcels_of}
 use Rattle.fs_serial.specs.Fresh.{IsMade}
 use Rattle.fs_serial.specs.Joined.{records_of_all, rows_of_all}
 use Rattle.fs_serial.specs.Parts.{ServersFit}
@@ -74,17 +74,17 @@ module _ (k : ℕ) (c : Cluster) (s : Server) (prefix : List ℕ) (to : ℕ) (at
   abbrev servers_then : List Server
   servers_then = slice_set c.servers k keeps
 
-  abbrev flying_then : List Flying
-  flying_then = c.flying ++ going k prefix to s ∷ []
+  abbrev flying_then : List InFlight
+  flying_then = c.in_flight ++ going k prefix to s ∷ []
 
   abbrev before : List Parcel
-  before = parcels_of c.flying
+  before = parcels_of c.in_flight
 
   abbrev parcels_then : List Parcel
   parcels_then = before ++ goes ∷ []
 
   parcels_are : parcels_of flying_then ≡ parcels_then
-  parcels_are = parcels-append c.flying (going k prefix to s ∷ [])
+  parcels_are = parcels-append c.in_flight (going k prefix to s ∷ [])
 
   in_place : IsInPlace s keeps goes c.servers servers_then before parcels_then
   in_place = record {
@@ -96,7 +96,7 @@ module _ (k : ℕ) (c : Cluster) (s : Server) (prefix : List ℕ) (to : ℕ) (at
     flies = In-behind goes before (goes ∷ []) (inl refl);
     less_kept = λ x i. In-front x before (goes ∷ []) i;
     more_kept = last_or_before before goes;
-    flying = λ g. let e : total g parcels_then ≡ total g before + (g goes + 0) = total_append g before (goes ∷ []) in omega arith;
+    in_flight = λ g. let e : total g parcels_then ≡ total g before + (g goes + 0) = total_append g before (goes ∷ []) in omega arith;
   }
 
   module _ (h : PlacesHold c) where
@@ -163,7 +163,7 @@ module _ (k : ℕ) (c : Cluster) (s : Server) (prefix : List ℕ) (to : ℕ) (at
 
   -- a record of the server is that of all
   of_all : (id : List ℕ) (r : Record) → get s.records id ≡ Some r → get (held_by c) id ≡ Some r
-  of_all id r e = has_record c.servers (parcels_of c.flying) (one_record c h) id r (inl (s, here, e))
+  of_all id r e = has_record c.servers (parcels_of c.in_flight) (one_record c h) id r (inl (s, here, e))
 
   sound : AreRecords s.records
   sound id = go (get s.records id) refl
@@ -211,24 +211,24 @@ module _ (k : ℕ) (c : Cluster) (s : Server) (prefix : List ℕ) (to : ℕ) (at
     ordered = ordered_filter (is_on_given prefix given) s.rows home.ordered;
   }
 
-  sent_then : (p : Parcel) → In p (parcels_of (c.flying ++ going k prefix to s ∷ [])) → IsSent c.journal p
-  sent_then p i = elim (last_or_before (parcels_of c.flying) (parted prefix s) p (subst (In p) (parcels_are k c s prefix to at) i)) as (λ _. IsSent c.journal p) [
+  sent_then : (p : Parcel) → In p (parcels_of (c.in_flight ++ going k prefix to s ∷ [])) → IsSent c.journal p
+  sent_then p i = elim (last_or_before (parcels_of c.in_flight) (parted prefix s) p (subst (In p) (parcels_are k c s prefix to at) i)) as (λ _. IsSent c.journal p) [
     | inl e ↦ subst (IsSent c.journal) (sym e) sent_going
     | inr j ↦ h.sent p j
   ]
 
-  goes_then : to < length c.servers → (x : Flying) → In x (c.flying ++ going k prefix to s ∷ []) → IsHandover (length c.servers) x
-  goes_then is x i = elim (last_or_before c.flying (going k prefix to s) x i) as (λ _. IsHandover (length c.servers) x) [
+  goes_then : to < length c.servers → (x : InFlight) → In x (c.in_flight ++ going k prefix to s ∷ []) → IsHandover (length c.servers) x
+  goes_then is x i = elim (last_or_before c.in_flight (going k prefix to s) x i) as (λ _. IsHandover (length c.servers) x) [
     | inl e ↦ subst (IsHandover (length c.servers)) (sym e) (is, refl)
     | inr j ↦ h.goes x j
   ]
 
-  one_then : OnePlace (slice_set c.servers k left) (parcels_of (c.flying ++ going k prefix to s ∷ []))
+  one_then : OnePlace (slice_set c.servers k left) (parcels_of (c.in_flight ++ going k prefix to s ∷ []))
   one_then = subst (OnePlace (slice_set c.servers k left)) (sym (parcels_are k c s prefix to at))
-      (one_parted s left (parted prefix s) c.servers (slice_set c.servers k left) (parcels_of c.flying) (parcels_of c.flying ++ parted prefix s ∷ []) (in_place k c s prefix to at) (managed prefix to s m.mine m.other) h.one)
+      (one_parted s left (parted prefix s) c.servers (slice_set c.servers k left) (parcels_of c.in_flight) (parcels_of c.in_flight ++ parted prefix s ∷ []) (in_place k c s prefix to at) (managed prefix to s m.mine m.other) h.one)
 
   places_then : to < length c.servers → PlacesHold (after_step k (Move prefix to) (hands_over prefix to s) c)
-  places_then is = replaced_places c h k s left at (c.flying ++ going k prefix to s ∷ []) c.lines refl
+  places_then is = replaced_places c h k s left at (c.in_flight ++ going k prefix to s ∷ []) c.lines refl
       one_then
       home_left
       sent_then
@@ -247,9 +247,9 @@ leaving_places k c s prefix to at h o f is may = places_then k c s prefix to at 
 pub stays_cluster : (k : ℕ) (c : Cluster) (s : Server) (prefix : List ℕ) (to : ℕ) (why : MoveError) → slice_get c.servers k ≡ Some s
     → after_step k (Move prefix to) (only_noted (note.Stays (refusal_of why)) s) c ≡ c
 stays_cluster k c s prefix to why at =
-    ap (λ (ss : List Server). let d : Cluster = record { servers = ss; flying = c.flying ++ []; journal = c.journal ++ []; replied = c.replied; lines = c.lines } in d) (set_same c.servers k s at)
-    ∙ ap (λ (fs : List Flying). let d : Cluster = record { servers = c.servers; flying = fs; journal = c.journal ++ []; replied = c.replied; lines = c.lines } in d) (append-nil c.flying)
-    ∙ ap (λ (is : List Item). let d : Cluster = record { servers = c.servers; flying = c.flying; journal = is; replied = c.replied; lines = c.lines } in d) (append-nil c.journal)
+    ap (λ (ss : List Server). let d : Cluster = record { servers = ss; in_flight = c.in_flight ++ []; journal = c.journal ++ []; replied = c.replied; lines = c.lines } in d) (set_same c.servers k s at)
+    ∙ ap (λ (fs : List InFlight). let d : Cluster = record { servers = c.servers; in_flight = fs; journal = c.journal ++ []; replied = c.replied; lines = c.lines } in d) (append-nil c.in_flight)
+    ∙ ap (λ (is : List Item). let d : Cluster = record { servers = c.servers; in_flight = c.in_flight; journal = is; replied = c.replied; lines = c.lines } in d) (append-nil c.journal)
 
 abbrev IsSameAfter : ℕ → List ℕ → ℕ → Server → Cluster → Option MoveError → Type 0
 IsSameAfter k prefix to s c e = (rows_in (after_step k (Move prefix to) (move_at e prefix to s) c) ≡ rows_in c) × (held_by (after_step k (Move prefix to) (move_at e prefix to s) c) ≡ held_by c)

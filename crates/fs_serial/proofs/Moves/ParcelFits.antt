@@ -104,7 +104,7 @@ no_items : {X : Type 0} (xs : List X) → ((x : X) → In x xs → ⊥) → is_e
 no_items [] h = refl
 no_items (x ∷ xs) h = absurd (h x (inl refl))
 
-module _ (c : Cluster) (h : PlacesHold c) (s : Server) (i : In s c.servers) (p : Parcel) (j : In p (parcels_of c.flying)) where
+module _ (c : Cluster) (h : PlacesHold c) (s : Server) (i : In s c.servers) (p : Parcel) (j : In p (parcels_of c.in_flight)) where
   abbrev all : List Row
   all = rows_in c
 
@@ -113,7 +113,7 @@ module _ (c : Cluster) (h : PlacesHold c) (s : Server) (i : In s c.servers) (p :
 
   -- nothing that it gives is here
   apart : (id : List ℕ) → is_mine s id ≡ true → gives_it id p ≡ true → ⊥
-  apart id a b = not_both c.servers (parcels_of c.flying) h.one id s p i j a b
+  apart id a b = not_both c.servers (parcels_of c.in_flight) h.one id s p i j a b
 
   none_owned : owns_given s.map s.me p.prefix p.piece.given ≡ false
   none_owned = go (owns_given s.map s.me p.prefix p.piece.given) refl
@@ -134,10 +134,10 @@ module _ (c : Cluster) (h : PlacesHold c) (s : Server) (i : In s c.servers) (p :
   -- ## Its rows among all
 
   row_came : (r : Row) → In r p.rows → In r all
-  row_came r k = row_of_all c.servers (parcels_of c.flying) r (inr (p, j, k))
+  row_came r k = row_of_all c.servers (parcels_of c.in_flight) r (inr (p, j, k))
 
   row_here : (r : Row) → In r s.rows → In r all
-  row_here r k = row_of_all c.servers (parcels_of c.flying) r (inl (s, i, k))
+  row_here r k = row_of_all c.servers (parcels_of c.in_flight) r (inl (s, i, k))
 
   either_row : (r : Row) → In r p.rows ⊎ In r s.rows → In r all
   either_row r (inl k) = row_came r k
@@ -165,19 +165,19 @@ module _ (c : Cluster) (h : PlacesHold c) (s : Server) (i : In s c.servers) (p :
         let nothing : RecordMap = empty in
         let none : IsOneOf (λ r. ⊥) (get nothing id) = subst (IsOneOf (λ r. ⊥)) (sym (get-empty (slice_cmp nat_cmp) id)) (λ r z. z) in
         let own : IsOneOf (λ r. ⊥ ⊎ In (id, r) p.records) (get (with_records p.records empty) id) = put_all (λ r. ⊥) p.records empty id none in
-        sym (one_alone (HasRecord c.servers (parcels_of c.flying) id) (λ r. ⊥ ⊎ In (id, r) p.records) (get records id) (get (with_records p.records empty) id) back forth alone (record_of_all c.servers (parcels_of c.flying) id) own)
+        sym (one_alone (HasRecord c.servers (parcels_of c.in_flight) id) (λ r. ⊥ ⊎ In (id, r) p.records) (get records id) (get (with_records p.records empty) id) back forth alone (record_of_all c.servers (parcels_of c.in_flight) id) own)
       where
-        back : (r : Record) → HasRecord c.servers (parcels_of c.flying) id r → ⊥ ⊎ In (id, r) p.records
-        back r (inl a) = absurd (not_both c.servers (parcels_of c.flying) h.one id a.0 p a.1 j (record_home c h a.0 a.1 id r a.2) g)
+        back : (r : Record) → HasRecord c.servers (parcels_of c.in_flight) id r → ⊥ ⊎ In (id, r) p.records
+        back r (inl a) = absurd (not_both c.servers (parcels_of c.in_flight) h.one id a.0 p a.1 j (record_home c h a.0 a.1 id r a.2) g)
         back r (inr a) =
-            let e : a.0 ≡ p = one_parcel c.servers (parcels_of c.flying) h.one id a.0 p a.1 j (record_flies c h a.0 a.1 id r a.2) g in
+            let e : a.0 ≡ p = one_parcel c.servers (parcels_of c.in_flight) h.one id a.0 p a.1 j (record_flies c h a.0 a.1 id r a.2) g in
             inr (subst (λ (x : Parcel). In (id, r) x.records) e a.2)
 
-        forth : (r : Record) → ⊥ ⊎ In (id, r) p.records → HasRecord c.servers (parcels_of c.flying) id r
+        forth : (r : Record) → ⊥ ⊎ In (id, r) p.records → HasRecord c.servers (parcels_of c.in_flight) id r
         forth r (inl z) = absurd z
         forth r (inr k) = inr (p, j, k)
 
-        alone : (r t : Record) → HasRecord c.servers (parcels_of c.flying) id r → HasRecord c.servers (parcels_of c.flying) id t → r ≡ t
+        alone : (r t : Record) → HasRecord c.servers (parcels_of c.in_flight) id r → HasRecord c.servers (parcels_of c.in_flight) id t → r ≡ t
         alone r t a b = one_record c h id r t a b
 
     its_selves : (id : List ℕ) → gives_it id p ≡ true → selves_in records id ≡ listed id

@@ -5,7 +5,7 @@ use Rattle.std.specs.List.{cons_option, filter_map, find}
 use Rattle.fs_ident.specs.In.{In}
 use Rattle.fs_ident.proofs.Passing.{found}
 use Rattle.fs_record.specs.declared.parcel.Parcel.{Parcel}
-use Rattle.fs_serial.specs.Cluster.{Flying, parcel_in, parcels_of, without_first}
+use Rattle.fs_serial.specs.Cluster.{InFlight, parcel_in, parcels_of, without_first}
 use Rattle.fs_serial.proofs.Lists.Counted.{total, total_without}
 use Rattle.fs_serial.proofs.Lists.SetAt.{In_either, In_without}
 
@@ -55,13 +55,13 @@ at_some P o x e h = subst (λ q. IfSome q P) e h
 
 -- ## A parcel is among them just where its message is on its way
 
-pub In_parcels : (p : Parcel) (f : Flying) (fs : List Flying) → In f fs → parcel_in f.message ≡ Some p → In p (parcels_of fs)
-In_parcels p f fs i e = In_picked (λ (g : Flying). parcel_in g.message) f p fs i e
+pub In_parcels : (p : Parcel) (f : InFlight) (fs : List InFlight) → In f fs → parcel_in f.message ≡ Some p → In p (parcels_of fs)
+In_parcels p f fs i e = In_picked (λ (g : InFlight). parcel_in g.message) f p fs i e
 
-pub parcel_flies : (p : Parcel) (fs : List Flying) → In p (parcels_of fs) → (f : Flying) × (In f fs × (parcel_in f.message ≡ Some p))
-parcel_flies p fs i = picked_of (λ (g : Flying). parcel_in g.message) p fs i
+pub parcel_flies : (p : Parcel) (fs : List InFlight) → In p (parcels_of fs) → (f : InFlight) × (In f fs × (parcel_in f.message ≡ Some p))
+parcel_flies p fs i = picked_of (λ (g : InFlight). parcel_in g.message) p fs i
 
-pub parcels-append : (fs gs : List Flying) → parcels_of (fs ++ gs) ≡ parcels_of fs ++ parcels_of gs
+pub parcels-append : (fs gs : List InFlight) → parcels_of (fs ++ gs) ≡ parcels_of fs ++ parcels_of gs
 parcels-append [] gs = refl
 parcels-append (f ∷ fs) gs = ap (cons_option (parcel_in f.message)) (parcels-append fs gs) ∙ front_picked (parcel_in f.message) (parcels_of fs) (parcels_of gs)
 
@@ -75,17 +75,17 @@ amount_first : (g : Parcel → ℕ) (o : Option Parcel) (ps : List Parcel) → t
 amount_first g None ps = omega arith
 amount_first g (Some p) ps = refl
 
-total_parcels : (g : Parcel → ℕ) (fs : List Flying) → total g (parcels_of fs) ≡ total (λ (f : Flying). amount g (parcel_in f.message)) fs
+total_parcels : (g : Parcel → ℕ) (fs : List InFlight) → total g (parcels_of fs) ≡ total (λ (f : InFlight). amount g (parcel_in f.message)) fs
 total_parcels g [] = refl
 total_parcels g (f ∷ fs) = amount_first g (parcel_in f.message) (parcels_of fs) ∙ ap (λ n. amount g (parcel_in f.message) + n) (total_parcels g fs)
 
 -- ## Without the first message of a kind
 
-pub taken_less : (is : Flying → Bool) (fs : List Flying) (x : Parcel) → In x (parcels_of (without_first is fs)) → In x (parcels_of fs)
+pub taken_less : (is : InFlight → Bool) (fs : List InFlight) (x : Parcel) → In x (parcels_of (without_first is fs)) → In x (parcels_of fs)
 taken_less is fs x i = let q = parcel_flies x (without_first is fs) i in In_parcels x q.0 fs (In_without is fs q.0 q.1.0) q.1.1
 
 -- which brings a parcel
-module _ (is : Flying → Bool) (fs : List Flying) (f : Flying) (way : find is fs ≡ Some f) (p : Parcel) (of : parcel_in f.message ≡ Some p) where
+module _ (is : InFlight → Bool) (fs : List InFlight) (f : InFlight) (way : find is fs ≡ Some f) (p : Parcel) (of : parcel_in f.message ≡ Some p) where
   pub taken_there : In p (parcels_of fs)
   taken_there = In_parcels p f fs (found is fs f way).0 of
 
@@ -93,13 +93,13 @@ module _ (is : Flying → Bool) (fs : List Flying) (f : Flying) (way : find is f
   taken_either x i =
       let q = parcel_flies x fs i in
       elim (In_either is fs f q.0 way q.1.0) as (λ _. (x ≡ p) ⊎ In x (parcels_of (without_first is fs))) [
-        | inl e ↦ let both : Some x ≡ Some p = sym q.1.1 ∙ ap (λ (g : Flying). parcel_in g.message) e ∙ of in let same : x ≡ p = cc in inl same
+        | inl e ↦ let both : Some x ≡ Some p = sym q.1.1 ∙ ap (λ (g : InFlight). parcel_in g.message) e ∙ of in let same : x ≡ p = cc in inl same
         | inr j ↦ inr (In_parcels x q.0 (without_first is fs) j q.1.1)
       ]
 
   pub taken_total : (g : Parcel → ℕ) → total g (parcels_of fs) ≡ g p + total g (parcels_of (without_first is fs))
   taken_total g =
       total_parcels g fs
-      ∙ total_without (λ (h : Flying). amount g (parcel_in h.message)) is fs f way
-      ∙ ap (λ o. amount g o + total (λ (h : Flying). amount g (parcel_in h.message)) (without_first is fs)) of
+      ∙ total_without (λ (h : InFlight). amount g (parcel_in h.message)) is fs f way
+      ∙ ap (λ o. amount g o + total (λ (h : InFlight). amount g (parcel_in h.message)) (without_first is fs)) of
       ∙ ap (λ n. g p + n) (sym (total_parcels g (without_first is fs)))

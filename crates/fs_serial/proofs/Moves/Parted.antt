@@ -26,7 +26,7 @@ pub record IsInPlace (s t : Server) (f : Parcel) (whole parted : List Server) (l
   pub flies : In f more
   pub less_kept : (x : Parcel) → In x less → In x more
   pub more_kept : (x : Parcel) → In x more → (x ≡ f) ⊎ In x less
-  pub flying : (g : Parcel → ℕ) → total g more ≡ g f + total g less
+  pub in_flight : (g : Parcel → ℕ) → total g more ≡ g f + total g less
 
 -- it has a part of what the first had, and the parcel has the rest
 pub record ArePartsOf (s t : Server) (f : Parcel) : Type 0 where
@@ -69,7 +69,7 @@ module _ (s t : Server) (f : Parcel) (whole parted : List Server) (less more : L
     pub times_same : (n : LeaseNo) → times_in n parted more ≡ times_in n whole less
     times_same n =
         let one : total (λ (x : Server). times n x.rows) whole + times n t.rows ≡ total (λ (x : Server). times n x.rows) parted + times n s.rows = p.servers (λ (x : Server). times n x.rows) in
-        let two : total (λ (x : Parcel). times n x.rows) more ≡ times n f.rows + total (λ (x : Parcel). times n x.rows) less = p.flying (λ (x : Parcel). times n x.rows) in
+        let two : total (λ (x : Parcel). times n x.rows) more ≡ times n f.rows + total (λ (x : Parcel). times n x.rows) less = p.in_flight (λ (x : Parcel). times n x.rows) in
         let three : times n s.rows ≡ times n f.rows + times n t.rows = a.times n in
         omega arith
 
@@ -101,7 +101,7 @@ module _ (s t : Server) (f : Parcel) (whole parted : List Server) (less more : L
     counted_same : (id : List ℕ) → at_servers id parted + in_flight id more ≡ at_servers id whole + in_flight id less
     counted_same id =
         let one : at_servers id whole + one_if (is_mine t id) ≡ at_servers id parted + one_if (is_mine s id) = p.servers (λ (x : Server). one_if (is_mine x id)) in
-        let two : in_flight id more ≡ one_if (gives_it id f) + in_flight id less = p.flying (λ (x : Parcel). one_if (gives_it id x)) in
+        let two : in_flight id more ≡ one_if (gives_it id f) + in_flight id less = p.in_flight (λ (x : Parcel). one_if (gives_it id x)) in
         let three : one_if (is_mine s id) ≡ one_if (gives_it id f) + one_if (is_mine t id) = m id in
         omega arith
 

@@ -6,32 +6,32 @@ use Rattle.fs_ident.specs.declared.actor.Session.{Session}
 use Rattle.fs_field.specs.Table.{is_ordered}
 use Rattle.fs_record.specs.declared.parcel.Parcel.{Parcel}
 use Rattle.fs_server.specs.declared.state.Server.{Server}
-use Rattle.fs_serial.specs.Cluster.{Cluster, Flying, Lines, parcels_of}
+use Rattle.fs_serial.specs.Cluster.{Cluster, InFlight, Lines, parcels_of}
 use Rattle.fs_serial.specs.Joined.{rows_of_all}
 use Rattle.fs_serial.specs.Places.{IsHome, IsSent, OnePlace, PlacesHold, IsHandover}
 use Rattle.fs_serial.proofs.Lists.SetAt.{In_set, get_set}
 
 -- the cluster then: no entry joined the journal
-abbrev pub replaced : ℕ → Server → List Flying → (Session → Lines) → Cluster → Cluster
-replaced k t flying lines c = record {
+abbrev pub replaced : ℕ → Server → List InFlight → (Session → Lines) → Cluster → Cluster
+replaced k t in_flight lines c = record {
   servers = slice_set c.servers k t;
-  flying = flying;
+  in_flight = in_flight;
   journal = c.journal ++ [];
   replied = c.replied;
   lines = lines;
 }
 
-module _ (c : Cluster) (h : PlacesHold c) (k : ℕ) (s t : Server) (at : slice_get c.servers k ≡ Some s) (flying : List Flying) (lines : Session → Lines) where
+module _ (c : Cluster) (h : PlacesHold c) (k : ℕ) (s t : Server) (at : slice_get c.servers k ≡ Some s) (in_flight : List InFlight) (lines : Session → Lines) where
   home_then : IsHome c.journal t → (x : Server) → In x (slice_set c.servers k t) → IsHome (c.journal ++ []) x
   home_then own x i = subst (λ j. IsHome j x) (sym (append-nil c.journal)) (elim (In_set c.servers k t x i) as (λ _. IsHome c.journal x) [
     | inl e ↦ subst (IsHome c.journal) (sym e) own
     | inr j ↦ h.homes x j
   ])
 
-  sent_then : ((p : Parcel) → In p (parcels_of flying) → IsSent c.journal p) → (p : Parcel) → In p (parcels_of flying) → IsSent (c.journal ++ []) p
+  sent_then : ((p : Parcel) → In p (parcels_of in_flight) → IsSent c.journal p) → (p : Parcel) → In p (parcels_of in_flight) → IsSent (c.journal ++ []) p
   sent_then each p i = subst (λ j. IsSent j p) (sym (append-nil c.journal)) (each p i)
 
-  goes_then : ((f : Flying) → In f flying → IsHandover (length c.servers) f) → (f : Flying) → In f flying → IsHandover (length (slice_set c.servers k t)) f
+  goes_then : ((f : InFlight) → In f in_flight → IsHandover (length c.servers) f) → (f : InFlight) → In f in_flight → IsHandover (length (slice_set c.servers k t)) f
   goes_then goes f i = subst (λ n. IsHandover n f) (sym (length-set c.servers k t)) (goes f i)
 
   numbered_then : t.me ≡ s.me → (j : ℕ) (x : Server) → slice_get (slice_set c.servers k t) j ≡ Some x → x.me ≡ j
@@ -40,11 +40,11 @@ module _ (c : Cluster) (h : PlacesHold c) (k : ℕ) (s t : Server) (at : slice_g
     | inr g ↦ h.numbered j x g
   ]
 
-  pub replaced_places : t.me ≡ s.me → OnePlace (slice_set c.servers k t) (parcels_of flying) → IsHome c.journal t
-      → ((p : Parcel) → In p (parcels_of flying) → IsSent c.journal p)
-      → ((f : Flying) → In f flying → IsHandover (length c.servers) f)
-      → rows_of_all (slice_set c.servers k t) (parcels_of flying) ≡ rows_of_all c.servers (parcels_of c.flying)
-      → PlacesHold (replaced k t flying lines c)
+  pub replaced_places : t.me ≡ s.me → OnePlace (slice_set c.servers k t) (parcels_of in_flight) → IsHome c.journal t
+      → ((p : Parcel) → In p (parcels_of in_flight) → IsSent c.journal p)
+      → ((f : InFlight) → In f in_flight → IsHandover (length c.servers) f)
+      → rows_of_all (slice_set c.servers k t) (parcels_of in_flight) ≡ rows_of_all c.servers (parcels_of c.in_flight)
+      → PlacesHold (replaced k t in_flight lines c)
   replaced_places me one own each goes rows = record {
     one = one;
     homes = home_then own;

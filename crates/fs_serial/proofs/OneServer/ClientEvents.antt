@@ -26,7 +26,7 @@ use Rattle.fs_client.specs.declared.exchange.Exchange.TheVariants.{Leads}
 use Rattle.fs_client.specs.declared.led.Led.{Led as TheLed}
 use Rattle.fs_client.specs.declared.plan.Plan.{Plan}
 use Rattle.fs_client.specs.declared.state.Client.{Client}
-use Rattle.fs_view.specs.declared.kept.Kept.{Kept}
+use Rattle.fs_view.specs.declared.view_lease.ViewLease.{ViewLease}
 use Rattle.fs_serial.specs.Exchange.{asked_server, is_recall}
 use Rattle.fs_serial.specs.Numbers.{items_by}
 use Rattle.fs_serial.specs.Sight.{Sight}
@@ -145,11 +145,11 @@ hear_quiet by c from a = elim (fits from c.exchange a c) as (λ b. IsQuiet by c 
   | false ↦ record { now = refl; admits = refl; tells = refl }
 ]
 
-renew_quiet : (by : Session) (c : Client) (ks : List Kept) → IsQuiet by c (renew_some ks c)
+renew_quiet : (by : Session) (c : Client) (ks : List ViewLease) → IsQuiet by c (renew_some ks c)
 renew_quiet by c [] = record { now = refl; admits = refl; tells = refl }
 renew_quiet by c (k ∷ ks) = record { now = refl; admits = refl; tells = refl }
 
-release_quiet : (by : Session) (c : Client) (ks : List Kept) → IsQuiet by c (release_some ks c)
+release_quiet : (by : Session) (c : Client) (ks : List ViewLease) → IsQuiet by c (release_some ks c)
 release_quiet by c [] = renew_quiet by c (ending (c.last + c.term / 2) c.view)
 release_quiet by c (k ∷ ks) = record { now = refl; admits = refl; tells = refl }
 

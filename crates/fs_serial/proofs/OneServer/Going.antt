@@ -6,8 +6,8 @@ use Rattle.fs_ident.specs.declared.actor.Session.{Session}
 use Rattle.fs_ident.proofs.Standing.{In-append, In-front}
 use Rattle.fs_msg.specs.declared.item.Item.{Item}
 use Rattle.fs_record.specs.Records.{RecordMap}
-use Rattle.fs_view.specs.declared.kept.Kept.{Kept}
-use Rattle.fs_view.specs.Kept.{number_of, is_leaving}
+use Rattle.fs_view.specs.declared.view_lease.ViewLease.{ViewLease}
+use Rattle.fs_view.specs.ViewLease.{number_of, is_leaving}
 use Rattle.fs_serial.specs.Exchange.{ReturnsFit}
 use Rattle.fs_serial.specs.Fresh.{ByLease, ByLog, FreshReserved, HoldsFresh, reserved_by}
 use Rattle.fs_serial.specs.Parts.{AllHold, with_client, ServersHold, ServersFit, SessionHolds, SessionFits}
@@ -87,7 +87,7 @@ reserved_none clients by l m journal none =
     ]
     own ByLog i q = (ByLog, q)
 
-module _ (skew greatest : ℕ) (t : Sight) (replied : Session → List Item) (ends : Session → Ends) (clients : Session → Settled) (by : Session) (l : Lease) (new : IsNewLease t by (clients by).leases l) (unreturned : (k : Kept) → In k (ends by).client.view.leases → is_leaving k.standing ≡ true → l.no ≢ number_of k.standing) where
+module _ (skew greatest : ℕ) (t : Sight) (replied : Session → List Item) (ends : Session → Ends) (clients : Session → Settled) (by : Session) (l : Lease) (new : IsNewLease t by (clients by).leases l) (unreturned : (k : ViewLease) → In k (ends by).client.view.leases → is_leaving k.standing ≡ true → l.no ≢ number_of k.standing) where
   abbrev d : Settled
   d = with_leases (l ∷ []) (clients by)
 

@@ -41,7 +41,7 @@ use Rattle.fs_server.specs.Step.{event_step, recall_step}
 use Rattle.fs_server.specs.declared.event.ServerEvent.{ServerEvent}
 use Rattle.fs_server.specs.declared.event.ServerEvent.TheVariants.{FromClient, FromPeer, Move, Recall, Turn}
 use Rattle.fs_server.specs.declared.state.Server.{Server}
-use Rattle.fs_serial.specs.Cluster.{Cluster, Flying, after_step, parcels_of, without_arrived}
+use Rattle.fs_serial.specs.Cluster.{Cluster, InFlight, after_step, parcels_of, without_arrived}
 use Rattle.fs_serial.specs.Exchange.{pairs_in}
 use Rattle.fs_serial.specs.Fresh.{ByLog, IsMade}
 use Rattle.fs_serial.specs.Joined.{records_of_all, rows_of_all}
@@ -76,24 +76,24 @@ pub record IsSameStep (k : ℕ) (e : ServerEvent) (s : Server) (small big : Step
   pub map : small.server.map ≡ s.map
   pub home : IsHome c.journal small.server
   pub ordered : is_ordered big.server.rows ≡ true
-  pub still : (after_step k e small c).flying ≡ c.flying
+  pub still : (after_step k e small c).in_flight ≡ c.in_flight
 
 -- no message of a server comes by the event
 abbrev pub BringsNone : ℕ → ServerEvent → Type 0
-BringsNone k e = (flying : List Flying) → without_arrived k e flying ≡ flying
+BringsNone k e = (in_flight : List InFlight) → without_arrived k e in_flight ≡ in_flight
 
 module _ (k : ℕ) (e : ServerEvent) (c : Cluster) (s : Server) (places : PlacesHold c) (b : IsBetween c.servers k s) (none : BringsNone k e) where
   abbrev rest : Rest
-  rest = rest_of b.front b.back (parcels_of c.flying)
+  rest = rest_of b.front b.back (parcels_of c.in_flight)
 
   module _ (big small : Stepped) (h : IsSim rest s big small) where
-    still : (after_step k e small c).flying ≡ c.flying
-    still = ap₂ (λ xs ys. xs ++ ys) (none c.flying) (h.quiet k) ∙ append-nil c.flying
+    still : (after_step k e small c).in_flight ≡ c.in_flight
+    still = ap₂ (λ xs ys. xs ++ ys) (none c.in_flight) (h.quiet k) ∙ append-nil c.in_flight
 
     all_then : with_all small.server (after_step k e small c) ≡ joined rest small.server
     all_then =
-        ap₂ (λ servers flying. let u : Server = record (small.server) { rows = rows_of_all servers (parcels_of flying); records = records_of_all servers (parcels_of flying) } in u) (b.set small.server) still
-        ∙ all_joined b.front b.back (parcels_of c.flying) small.server h.apart
+        ap₂ (λ servers in_flight. let u : Server = record (small.server) { rows = rows_of_all servers (parcels_of in_flight); records = records_of_all servers (parcels_of in_flight) } in u) (b.set small.server) still
+        ∙ all_joined b.front b.back (parcels_of c.in_flight) small.server h.apart
 
     pub same_step : IsSameStep k e s small big c
     same_step =
@@ -120,7 +120,7 @@ module _ (k : ℕ) (e : ServerEvent) (c : Cluster) (s : Server) (places : Places
 
 module _ (k : ℕ) (c : Cluster) (s : Server) (places : PlacesHold c) (b : IsBetween c.servers k s) where
   abbrev pub more : Rest
-  more = rest_of b.front b.back (parcels_of c.flying)
+  more = rest_of b.front b.back (parcels_of c.in_flight)
 
   pub apart : IsApart more s
   apart = apart_of c k s places b
@@ -225,39 +225,39 @@ pub ask_same : (greatest k : ℕ) (c : Cluster) (s : Server) (by : Session) (ite
     → IsSameStep k (FromClient by (Ask items dir)) s (ask_step by items dir s) (ask_step by items dir (with_all s c)) c
 ask_same greatest k c s by items dir is places w =
     let b : IsBetween c.servers k s = between c.servers k s is in
-    stepped k c s places b (FromClient by (Ask items dir)) (λ flying. refl) (ask_step by items dir) (ask_step by items dir s)
+    stepped k c s places b (FromClient by (Ask items dir)) (λ in_flight. refl) (ask_step by items dir) (ask_step by items dir s)
     (ask_sim (more k c s places b) by items dir s (counted k c s places b greatest w) (λ d e. fresh_here k c s places b greatest w d))
 
 pub renew_same : (greatest k : ℕ) (c : Cluster) (s : Server) (by : Session) (pairs : List (List ℕ × LeaseNo)) → slice_get c.servers k ≡ Some s → PlacesHold c → WorldHolds greatest (world_of s c) → In (Renew pairs) (ends_of (c.lines by)).up
     → IsSameStep k (FromClient by (Renew pairs)) s (renew_step by pairs s) (renew_step by pairs (with_all s c)) c
 renew_same greatest k c s by pairs is places w there =
     let b : IsBetween c.servers k s = between c.servers k s is in
-    stepped k c s places b (FromClient by (Renew pairs)) (λ flying. refl) (renew_step by pairs) (renew_step by pairs s)
+    stepped k c s places b (FromClient by (Renew pairs)) (λ in_flight. refl) (renew_step by pairs) (renew_step by pairs s)
     (renew_sim (more k c s places b) by pairs s (apart k c s places b) (pairs_at_home k c s places b greatest w by pairs (Renew pairs) there refl))
 
 pub release_same : (greatest k : ℕ) (c : Cluster) (s : Server) (by : Session) (pairs : List (List ℕ × LeaseNo)) → slice_get c.servers k ≡ Some s → PlacesHold c → WorldHolds greatest (world_of s c) → In (Release pairs) (ends_of (c.lines by)).up
     → IsSameStep k (FromClient by (Release pairs)) s (release_step by pairs s) (release_step by pairs (with_all s c)) c
 release_same greatest k c s by pairs is places w there =
     let b : IsBetween c.servers k s = between c.servers k s is in
-    stepped k c s places b (FromClient by (Release pairs)) (λ flying. refl) (release_step by pairs) (release_step by pairs s)
+    stepped k c s places b (FromClient by (Release pairs)) (λ in_flight. refl) (release_step by pairs) (release_step by pairs s)
     (release_sim (more k c s places b) by pairs s (apart k c s places b) (pairs_at_home k c s places b greatest w by pairs (Release pairs) there refl))
 
 pub ship_same : (greatest k : ℕ) (c : Cluster) (s : Server) (by : Session) (entries : List Entry) → slice_get c.servers k ≡ Some s → PlacesHold c → WorldHolds greatest (world_of s c) → In (Ship entries) (ends_of (c.lines by)).up
     → IsSameStep k (FromClient by (Ship entries)) s (ship_step by entries s) (ship_step by entries (with_all s c)) c
 ship_same greatest k c s by entries is places w there =
     let b : IsBetween c.servers k s = between c.servers k s is in
-    stepped k c s places b (FromClient by (Ship entries)) (λ flying. refl) (ship_step by entries) (ship_step by entries s)
+    stepped k c s places b (FromClient by (Ship entries)) (λ in_flight. refl) (ship_step by entries) (ship_step by entries s)
     (ship_sim (more k c s places b) by entries s (apart k c s places b) (entries_at_home k c s places b greatest w by entries there))
 
 pub recall_same : (k : ℕ) (c : Cluster) (s : Server) (field : Field) → slice_get c.servers k ≡ Some s → PlacesHold c → IsSameStep k (Recall field) s (recall_step field s) (recall_step field (with_all s c)) c
 recall_same k c s field is places =
     let b : IsBetween c.servers k s = between c.servers k s is in
-    stepped k c s places b (Recall field) (λ flying. refl) (recall_step field) (recall_step field s) (recall_sim (more k c s places b) field s (apart k c s places b))
+    stepped k c s places b (Recall field) (λ in_flight. refl) (recall_step field) (recall_step field s) (recall_sim (more k c s places b) field s (apart k c s places b))
 
 pub turn_same : (k : ℕ) (c : Cluster) (s : Server) → slice_get c.servers k ≡ Some s → PlacesHold c → IsSameStep k Turn s (turn_step s) (turn_over (lapsed_in s) (with_all s c)) c
 turn_same k c s is places =
     let b : IsBetween c.servers k s = between c.servers k s is in
-    stepped k c s places b Turn (λ flying. refl) (turn_over (lapsed_in s)) (turn_step s) (turn_sim (more k c s places b) (lapsed_in s) s (apart k c s places b) (lapsed_here (more k c s places b) s (apart k c s places b)))
+    stepped k c s places b Turn (λ in_flight. refl) (turn_over (lapsed_in s)) (turn_step s) (turn_sim (more k c s places b) (lapsed_in s) s (apart k c s places b) (lapsed_here (more k c s places b) s (apart k c s places b)))
 
 -- a question that is on its way, or a recall
 pub begun_same : (greatest k : ℕ) (c : Cluster) (s : Server) (e : ServerEvent) → slice_get c.servers k ≡ Some s → PlacesHold c → WorldHolds greatest (world_of s c) → IsThere e (world_of s c).ends → IsOther e → (e ≡ Turn → ⊥)

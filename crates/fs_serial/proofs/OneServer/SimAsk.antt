@@ -37,7 +37,7 @@ use Rattle.fs_server.specs.declared.out.ServerOut.{ServerOut}
 use Rattle.fs_server.specs.declared.state.Server.{Server}
 use Rattle.fs_server.proofs.OneByOne.{AskEnds, Items, answer_at, ask_ends, asks_leave, each_item, elsewhere, item_given, kept_off, waits, with_grant, with_item}
 use Rattle.fs_server.proofs.Answered.{IsRowed, blocker_rowed}
-use Rattle.fs_serial.specs.Cluster.{flying_from}
+use Rattle.fs_serial.specs.Cluster.{in_flight_from}
 use Rattle.fs_serial.proofs.Places.PutRecords.{gift_home, gift_past}
 use Rattle.fs_serial.proofs.Places.Rest.{IsApart, IsCounted, IsSelf, Rest, answer_here, found_here, itself, joined, lease_counted, lease_joined, mine_still, off_records, record_here, value_here}
 use Rattle.fs_serial.proofs.OneServer.Sim.{IsSim, recall_alone}
@@ -210,7 +210,7 @@ recalls_same : (rest : Rest) (s : Server) (e : End) → IsApart rest s → HasBl
 recalls_same rest s (end.Wait n) a b = ap (recall_of n) (sym (found_here rest s a b.0 n b.1 b.2))
 recalls_same rest s e a b = refl
 
-asked_quiet : (k : ℕ) (e : End) (rows : List Row) → flying_from k (recalls_at e rows) ≡ []
+asked_quiet : (k : ℕ) (e : End) (rows : List Row) → in_flight_from k (recalls_at e rows) ≡ []
 asked_quiet k (end.Wait n) rows = recall_alone k n (find (has_no n) rows)
 asked_quiet k e rows = refl
 

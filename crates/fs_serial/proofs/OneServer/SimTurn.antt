@@ -30,7 +30,7 @@ use Rattle.fs_server.specs.declared.out.ServerOut.{ServerOut}
 use Rattle.fs_server.specs.declared.state.Server.{Server}
 use Rattle.fs_server.proofs.OneByOne.{Lapsed, each_lapsed, reap_done, reap_kept_off}
 use Rattle.fs_server.proofs.Answered.{IsRowed}
-use Rattle.fs_serial.specs.Cluster.{flying_from}
+use Rattle.fs_serial.specs.Cluster.{in_flight_from}
 use Rattle.fs_serial.proofs.Places.PutRecords.{AreOn, entry_has}
 use Rattle.fs_serial.proofs.Places.Rest.{IsApart, IsSelf, Rest, effects_apart, effects_joined, found_here, itself, joined, off_file, record_here, selves_here}
 use Rattle.fs_serial.proofs.OneServer.Sim.{IsSim, recall_quiet}
@@ -111,7 +111,7 @@ recalls_same rest s (n ∷ ns) a h =
     let r : IsRowed n s.rows = h n (inl refl) in
     ap₂ (λ o more. recall_of n o ++ more) (sym (found_here rest s a r.0 n r.1 r.2)) (recalls_same rest s ns a (λ m i. h m (inr i)))
 
-reaps_quiet : (k : ℕ) (rows : List Row) (ns : List LeaseNo) → flying_from k (recalls_for rows ns) ≡ []
+reaps_quiet : (k : ℕ) (rows : List Row) (ns : List LeaseNo) → in_flight_from k (recalls_for rows ns) ≡ []
 reaps_quiet k rows [] = refl
 reaps_quiet k rows (n ∷ ns) = recall_quiet k n (find (has_no n) rows) (recalls_for rows ns) ∙ reaps_quiet k rows ns
 

@@ -94,7 +94,7 @@ step_places k e s small big c is places h =
     let servers : slice_set c.servers k t ≡ b.front ++ t ∷ b.back = b.set t in
     let n : length (b.front ++ t ∷ b.back) ≡ length c.servers = length_same b.front b.back s t h.me h.map ∙ sym (ap length b.is) in
     record {
-      one = λ id. ap₂ (λ ss fs. places_for id ss (parcels_of fs)) servers h.still ∙ one_same b.front b.back s t h.me h.map (parcels_of c.flying) (λ id. ap (λ ss. places_for id ss (parcels_of c.flying)) (sym b.is) ∙ places.one id) id;
+      one = λ id. ap₂ (λ ss fs. places_for id ss (parcels_of fs)) servers h.still ∙ one_same b.front b.back s t h.me h.map (parcels_of c.in_flight) (λ id. ap (λ ss. places_for id ss (parcels_of c.in_flight)) (sym b.is) ∙ places.one id) id;
       homes = λ x i. home_still c.journal small.out.admitted x (each_same b.front b.back s t h.me h.map (IsHome c.journal) (λ y j. places.homes y (subst (In y) (sym b.is) j)) h.home x (subst (In x) servers i));
       sent = λ p i. sent_still c.journal small.out.admitted p (places.sent p (subst (λ fs. In p (parcels_of fs)) h.still i));
       goes = λ f i. subst (λ m. IsHandover m f) (sym (ap length servers ∙ n)) (places.goes f (subst (In f) h.still i));

@@ -21,7 +21,7 @@ use Rattle.fs_record.specs.Effects.{effects_of}
 use Rattle.fs_record.specs.Records.{RecordMap, node_of}
 use Rattle.fs_record.specs.ValueOf.{value_of}
 use Rattle.fs_view.specs.Gone.{IsGone, IsUnread}
-use Rattle.fs_view.specs.Kept.{makes}
+use Rattle.fs_view.specs.ViewLease.{makes}
 use Rattle.fs_view.proofs.Seeing.{own_values}
 use Rattle.fs_view.proofs.Unread.{gone_in, gone_stays}
 use Rattle.fs_serial.specs.Fresh.{made, made_by, or_else, ByLease, ByLog, IsMade, FreshReserved, reserved_by}

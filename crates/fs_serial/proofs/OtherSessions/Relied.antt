@@ -18,7 +18,7 @@ use Rattle.fs_msg.specs.declared.entry.Entry.{Entry}
 use Rattle.fs_msg.specs.declared.item.Item.{Item}
 use Rattle.fs_record.specs.Records.{node_of}
 use Rattle.fs_record.specs.ValueOf.{value_of}
-use Rattle.fs_view.specs.declared.kept.Kept.{Kept}
+use Rattle.fs_view.specs.declared.view_lease.ViewLease.{ViewLease}
 use Rattle.fs_view.specs.View.{value_after_all}
 use Rattle.fs_view.specs.Gone.{IsUnread, known_with}
 use Rattle.fs_view.specs.Walk.{walk, always}
@@ -243,7 +243,7 @@ module _ (skew greatest : ℕ) (by : Session) (s t : Sight) (d : Settled) (rely 
     replies = items d.log ∙ h.replies;
   }
 
-  pub still_returns : (kept : List Kept) → ReturnsFit s.given s.rows by kept d.leases → ReturnsFit t.given t.rows by kept d.leases
+  pub still_returns : (kept : List ViewLease) → ReturnsFit s.given s.rows by kept d.leases → ReturnsFit t.given t.rows by kept d.leases
   still_returns kept h k i leaving =
       let q = h k i leaving in
       record {

@@ -15,13 +15,13 @@ use Rattle.fs_serial.proofs.Places.RestOf.{IsBetween, all_here, apart_of, betwee
 
 module _ (k : ℕ) (c : Cluster) (s : Server) (is : slice_get c.servers k ≡ Some s) (places : PlacesHold c) where
   abbrev all_rows : List Row
-  all_rows = rows_of_all c.servers (parcels_of c.flying)
+  all_rows = rows_of_all c.servers (parcels_of c.in_flight)
 
   b : IsBetween c.servers k s
   b = between c.servers k s is
 
   abbrev rest : Rest
-  rest = rest_of b.front b.back (parcels_of c.flying)
+  rest = rest_of b.front b.back (parcels_of c.in_flight)
 
   apart : IsApart rest s
   apart = apart_of c k s places b

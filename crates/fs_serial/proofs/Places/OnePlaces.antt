@@ -85,13 +85,13 @@ one_entry (e ∷ es) id r t d (inr i) (inr j) = one_entry es id r t (second (not
 
 module _ (c : Cluster) (h : PlacesHold c) where
   abbrev parcels_there : List Parcel
-  parcels_there = parcels_of c.flying
+  parcels_there = parcels_of c.in_flight
 
   -- a record is at its place
   pub record_home : (s : Server) → In s c.servers → (id : List ℕ) (r : Record) → get s.records id ≡ Some r → is_mine s id ≡ true
   record_home s i id r e = (h.homes s i).records id (ap (λ (o : Option Record). is_some o) e)
 
-  pub record_flies : (p : Parcel) → In p (parcels_of c.flying) → (id : List ℕ) (r : Record) → In (id, r) p.records → gives_it id p ≡ true
+  pub record_flies : (p : Parcel) → In p (parcels_of c.in_flight) → (id : List ℕ) (r : Record) → In (id, r) p.records → gives_it id p ≡ true
   record_flies p i id r j = record_sent c.journal p (h.sent p i) (id, r) j
 
   one_of_two : (s : Server) → In s c.servers → (p : Parcel) → In p parcels_there → (id : List ℕ) (r t : Record) → get s.records id ≡ Some r → In (id, t) p.records → ⊥
@@ -109,7 +109,7 @@ module _ (c : Cluster) (h : PlacesHold c) where
       cc
 
   -- nobody has another
-  pub one_record : IsOneRecord c.servers (parcels_of c.flying)
+  pub one_record : IsOneRecord c.servers (parcels_of c.in_flight)
   one_record id r t (inl a) (inl b) = at_one a.0 b.0 a.1 b.1 id r t a.2 b.2
   one_record id r t (inl a) (inr b) = absurd (one_of_two a.0 a.1 b.0 b.1 id r t a.2 b.2)
   one_record id r t (inr a) (inl b) = absurd (one_of_two b.0 b.1 a.0 a.1 id t r b.2 a.2)

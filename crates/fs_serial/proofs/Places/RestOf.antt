@@ -213,7 +213,7 @@ record_in (p ∷ ps) e i = elim (In-append e p.records (records_of_parcels ps) i
 
 module _ (c : Cluster) (k : ℕ) (s : Server) (places : PlacesHold c) (b : IsBetween c.servers k s) where
   abbrev parcels : List Parcel
-  parcels = parcels_of c.flying
+  parcels = parcels_of c.in_flight
 
   abbrev rest : Rest
   rest = rest_of b.front b.back parcels

@@ -16,10 +16,10 @@ use Rattle.fs_field.specs.Field.{same_field}
 use Rattle.fs_field.specs.Table.{is_parent}
 use Rattle.fs_lease.specs.Lease.{Lease as Term}
 use Rattle.fs_model.specs.declared.op.Op.{Op}
-use Rattle.fs_view.specs.declared.kept.Kept.{Kept}
-use Rattle.fs_view.specs.declared.kept.Standing.{Standing}
-use Rattle.fs_view.specs.declared.kept.Standing.TheVariants.{Held, Pinned, Leaving}
-use Rattle.fs_view.specs.Kept.{file_in, lease_of, use_of, use_in, serves, makes_known, is_enough, is_better, is_pending}
+use Rattle.fs_view.specs.declared.view_lease.ViewLease.{ViewLease}
+use Rattle.fs_view.specs.declared.view_lease.Standing.{Standing}
+use Rattle.fs_view.specs.declared.view_lease.Standing.TheVariants.{Held, Pinned, Leaving}
+use Rattle.fs_view.specs.ViewLease.{file_in, lease_of, use_of, use_in, serves, makes_known, is_enough, is_better, is_pending}
 use Rattle.fs_view.specs.Laws.{IsUsedByBest}
 use Rattle.fs_view.specs.Script.{Script, answer, ask, give}
 use Rattle.fs_view.specs.View.{View, taken, taken_from, known_by, offered, fresh, given_by, item_use, uses_in, walk_in, value_after_log}
@@ -62,12 +62,12 @@ all_there known given (give dir go) h n i = there_behind known given (need.Fresh
 
 -- ## Leases that are taken
 
-taken_among : (now : ℕ) (field : Field) (kind : LeaseKind) (best : Option Kept) (ks : List Kept) (x : Kept) → taken_from now field kind best ks ≡ Some x → (best ≡ Some x) ⊎ (In x ks × (serves now field kind x.standing ≡ true))
+taken_among : (now : ℕ) (field : Field) (kind : LeaseKind) (best : Option ViewLease) (ks : List ViewLease) (x : ViewLease) → taken_from now field kind best ks ≡ Some x → (best ≡ Some x) ⊎ (In x ks × (serves now field kind x.standing ≡ true))
 taken_among now field kind best [] x h = inl h
 taken_among now field kind best (k ∷ ks) x h = split (serves now field kind k.standing && is_better k best) refl (taken_among now field kind (cond (serves now field kind k.standing && is_better k best) (Some k) best) ks x h)
   where
     split : (b : Bool) → (serves now field kind k.standing && is_better k best) ≡ b → ((cond b (Some k) best ≡ Some x) ⊎ (In x ks × (serves now field kind x.standing ≡ true))) → (best ≡ Some x) ⊎ (((x ≡ k) ⊎ In x ks) × (serves now field kind x.standing ≡ true))
-    split true t (inl e) = let same : k ≡ x = cc in inr (inl (sym same), ap (λ (y : Kept). serves now field kind y.standing) (sym same) ∙ (both (serves now field kind k.standing) (is_better k best) t).0)
+    split true t (inl e) = let same : k ≡ x = cc in inr (inl (sym same), ap (λ (y : ViewLease). serves now field kind y.standing) (sym same) ∙ (both (serves now field kind k.standing) (is_better k best) t).0)
     split false t (inl e) = inl e
     split b t (inr q) = inr (inr q.0, q.1)
 
@@ -91,15 +91,15 @@ serving now field kind (Leaving l) h = absurd (cc)
 
 -- a field that is known is known by a lease
 pub record IsKnown (v : View) (now : ℕ) (field : Field) (kind : LeaseKind) : Type 0 where
-  pub kept : Kept
+  pub kept : ViewLease
   pub among : In kept v.leases
   pub serving : IsServing now field kind kept.standing
   pub used : item_use v now (need.Lease field kind) ≡ Some (use_of serving.lease)
   pub value : known_by v now field kind ≡ Some (value_after_log v.session field kept.base v.pending)
 
-known_there : (v : View) (now : ℕ) (field : Field) (kind : LeaseKind) (o : Option Kept) → taken v now field kind ≡ o → is_some (known_by v now field kind) ≡ true → IsKnown v now field kind
+known_there : (v : View) (now : ℕ) (field : Field) (kind : LeaseKind) (o : Option ViewLease) → taken v now field kind ≡ o → is_some (known_by v now field kind) ≡ true → IsKnown v now field kind
 unfolding known_by taken
-known_there v now field kind None e h = absurd (let q : false ≡ true = ap (λ o. is_some (option_map (λ (k : Kept). value_after_log v.session field k.base v.pending) o)) (sym e) ∙ h in cc)
+known_there v now field kind None e h = absurd (let q : false ≡ true = ap (λ o. is_some (option_map (λ (k : ViewLease). value_after_log v.session field k.base v.pending) o)) (sym e) ∙ h in cc)
 known_there v now field kind (Some x) e h =
     let q = in_leases e in
     let s = serving now field kind x.standing q.1 in
@@ -107,8 +107,8 @@ known_there v now field kind (Some x) e h =
       kept = x;
       among = q.0;
       serving = s;
-      used = ap (λ o. option_and_then (λ (k : Kept). use_in k.standing) o) e ∙ ap (λ o. option_map use_of o) s.is;
-      value = ap (λ o. option_map (λ (k : Kept). value_after_log v.session field k.base v.pending) o) e;
+      used = ap (λ o. option_and_then (λ (k : ViewLease). use_in k.standing) o) e ∙ ap (λ o. option_map use_of o) s.is;
+      value = ap (λ o. option_map (λ (k : ViewLease). value_after_log v.session field k.base v.pending) o) e;
     }
   where
     in_leases : taken v now field kind ≡ Some x → In x v.leases × (serves now field kind x.standing ≡ true)
@@ -121,22 +121,22 @@ known_by_lease v now field kind h = known_there v now field kind (taken v now fi
 
 -- the first lease that offers one, and the best on the life of that file
 pub record IsOffered (v : View) (now : ℕ) (dir : List ℕ) : Type 0 where
-  pub kept : Kept
+  pub kept : ViewLease
   pub among : In kept v.leases
   pub serving : IsServing now (Life (file_in kept.standing)) Exclusive kept.standing
   pub below : is_parent dir kept.below ≡ true
   pub unmade : is_pending (file_in kept.standing) v.pending ≡ false
   pub fresh : fresh v now dir ≡ Some (file_in kept.standing)
-  pub best : Kept
+  pub best : ViewLease
   pub listed : In best v.leases
   pub taken : IsServing now (Life (file_in kept.standing)) Exclusive best.standing
   pub used : item_use v now (need.Fresh dir) ≡ Some (use_of taken.lease)
 
-offered_there : (v : View) (now : ℕ) (dir : List ℕ) (o : Option Kept) → offered v now dir ≡ o → is_some o ≡ true → IsOffered v now dir
+offered_there : (v : View) (now : ℕ) (dir : List ℕ) (o : Option ViewLease) → offered v now dir ≡ o → is_some o ≡ true → IsOffered v now dir
 offered_there v now dir None e h = absurd (cc)
 offered_there v now dir (Some x) e h =
     let q : IsTheOffer v now dir x = the_offer v now dir x e in
-    let is : fresh v now dir ≡ Some (file_in x.standing) = ap (option_map (λ (k : Kept). file_in k.standing)) e in
+    let is : fresh v now dir ≡ Some (file_in x.standing) = ap (option_map (λ (k : ViewLease). file_in k.standing)) e in
     let b : IsUsedByBest v now dir (file_in x.standing) = used_by_best v now dir (file_in x.standing) is in
     let s = serving now (Life (file_in x.standing)) Exclusive b.lease.standing b.best.serving in
     record {
@@ -149,7 +149,7 @@ offered_there v now dir (Some x) e h =
       best = b.lease;
       listed = b.best.among;
       taken = s;
-      used = ap (λ o. option_and_then (λ (k : Kept). use_in k.standing) o) b.taken ∙ ap (λ o. option_map use_of o) s.is;
+      used = ap (λ o. option_and_then (λ (k : ViewLease). use_in k.standing) o) b.taken ∙ ap (λ o. option_map use_of o) s.is;
     }
 
 pub offered_by_lease : (v : View) (now : ℕ) (dir : List ℕ) → given_by v now dir ≡ true → IsOffered v now dir
@@ -164,7 +164,7 @@ used_there v now o n u i e = In-filter_map (item_use v now) n u (walk_in v now o
 -- ## Where a use comes from
 
 pub record IsUseOf (v : View) (now : ℕ) (u : Use) : Type 0 where
-  pub kept : Kept
+  pub kept : ViewLease
   pub among : In kept v.leases
   pub lease : Term
   pub is : lease_of kept.standing ≡ Some lease

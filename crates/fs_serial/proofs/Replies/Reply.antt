@@ -17,7 +17,7 @@ use Rattle.fs_msg.specs.declared.item.Item.{Item}
 use Rattle.fs_record.specs.ValueOf.{value_of}
 use Rattle.fs_server.specs.Ships.{item_of}
 use Rattle.fs_view.specs.Gone.{IsUnread}
-use Rattle.fs_view.specs.Kept.{is_pending}
+use Rattle.fs_view.specs.ViewLease.{is_pending}
 use Rattle.fs_view.specs.View.{value_after_log}
 use Rattle.fs_serial.specs.Fresh.{ByLease, ByLog, Claim, HoldsFresh, Reserves}
 use Rattle.fs_serial.specs.Leases.{IsBacked}

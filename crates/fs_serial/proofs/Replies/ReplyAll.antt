@@ -15,10 +15,10 @@ use Rattle.fs_client.specs.Client.{changed}
 use Rattle.fs_client.specs.declared.state.Client.{Client}
 use Rattle.fs_record.specs.Effects.{effects_of}
 use Rattle.fs_server.specs.Ships.{item_of}
-use Rattle.fs_view.specs.declared.kept.Kept.{Kept}
-use Rattle.fs_view.specs.declared.kept.Standing.{Standing}
-use Rattle.fs_view.specs.declared.kept.Standing.TheVariants.{Held, Pinned, Leaving}
-use Rattle.fs_view.specs.Kept.{lease_of, is_leaving}
+use Rattle.fs_view.specs.declared.view_lease.ViewLease.{ViewLease}
+use Rattle.fs_view.specs.declared.view_lease.Standing.{Standing}
+use Rattle.fs_view.specs.declared.view_lease.Standing.TheVariants.{Held, Pinned, Leaving}
+use Rattle.fs_view.specs.ViewLease.{lease_of, is_leaving}
 use Rattle.fs_serial.specs.Client.{ClientFits}
 use Rattle.fs_serial.specs.Parts.{AllHold, SessionHolds, SessionFits, with_client, with_replies}
 use Rattle.fs_serial.specs.Settled.{Settled, lease_in, lease_with, settled, settled_now}
@@ -46,7 +46,7 @@ module _ (by : Session) (c : Client) (down : List Answer) (o : Op) (r : Reply) (
   in_hand u i k j e =
       let q : IsUseOf c.view c.last u = use_from c.view c.last o u (ap is_some a.reply) i in
       let same : k ≡ q.kept = f.distinct k q.kept j q.among (e ∙ ap (λ (u : Use). u.no) (sym q.used) ∙ sym (number_there q.kept.standing q.lease q.is)) in
-      ap (λ (k : Kept). is_leaving k.standing) same ∙ not_leaving q.kept.standing q.lease q.is
+      ap (λ (k : ViewLease). is_leaving k.standing) same ∙ not_leaving q.kept.standing q.lease q.is
 
   own : (u : Use) → In u (entry_of o r c).uses → HasLease (settled_now c).leases u
   own u i =

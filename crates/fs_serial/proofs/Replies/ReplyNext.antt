@@ -32,11 +32,11 @@ use Rattle.fs_msg.specs.declared.entry.Entry.{Entry}
 use Rattle.fs_record.specs.Effects.{tells_its_effects}
 use Rattle.fs_client.specs.Acts.{entry_of}
 use Rattle.fs_client.specs.declared.state.Client.{Client}
-use Rattle.fs_view.specs.declared.kept.Kept.{Kept}
-use Rattle.fs_view.specs.declared.kept.Standing.{Standing}
-use Rattle.fs_view.specs.declared.kept.Standing.TheVariants.{Held, Pinned, Leaving}
+use Rattle.fs_view.specs.declared.view_lease.ViewLease.{ViewLease}
+use Rattle.fs_view.specs.declared.view_lease.Standing.{Standing}
+use Rattle.fs_view.specs.declared.view_lease.Standing.TheVariants.{Held, Pinned, Leaving}
 use Rattle.fs_view.specs.Gone.{IsUnread, known_with}
-use Rattle.fs_view.specs.Kept.{lease_of, use_of, is_enough, file_in, makes, is_pending}
+use Rattle.fs_view.specs.ViewLease.{lease_of, use_of, is_enough, file_in, makes, is_pending}
 use Rattle.fs_view.specs.Script.{script_of}
 use Rattle.fs_view.specs.View.{View, known_by, given_by, fresh, item_use, walk_in, reply_in, value_after_log}
 use Rattle.fs_view.specs.Walk.{walk, always}
@@ -92,7 +92,7 @@ module _ (by : Session) (c : Client) (answers : List Answer) (o : Op) (r : Reply
   there = ap is_some replied
 
   -- a lease of the client as it will be
-  kept_later : (k : Kept) (l : Term) → In k v.leases → lease_of k.standing ≡ Some l → Later by (settled_now c) d (lease_with k l)
+  kept_later : (k : ViewLease) (l : Term) → In k v.leases → lease_of k.standing ≡ Some l → Later by (settled_now c) d (lease_with k l)
   kept_later k l i is = later by answers (settled_now c) (lease_with k l) unled (In-filter_map lease_in k (lease_with k l) v.leases i (ap (option_map (lease_with k)) is))
 
   pub of_lease : (u : Use) → In u e.uses → IsOfLease d.leases u

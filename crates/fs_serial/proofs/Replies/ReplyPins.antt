@@ -16,10 +16,10 @@ use Rattle.fs_msg.specs.declared.entry.Entry.{Entry}
 use Rattle.fs_record.specs.Effects.{effects_of}
 use Rattle.fs_client.specs.Client.{with_reply}
 use Rattle.fs_client.specs.declared.state.Client.{Client}
-use Rattle.fs_view.specs.declared.kept.Kept.{Kept}
-use Rattle.fs_view.specs.declared.kept.Standing.{Standing}
-use Rattle.fs_view.specs.declared.kept.Standing.TheVariants.{Held, Pinned, Leaving}
-use Rattle.fs_view.specs.Kept.{number_of, entries_of, file_in, lease_of, has_number, is_leaving, pinned}
+use Rattle.fs_view.specs.declared.view_lease.ViewLease.{ViewLease}
+use Rattle.fs_view.specs.declared.view_lease.Standing.{Standing}
+use Rattle.fs_view.specs.declared.view_lease.Standing.TheVariants.{Held, Pinned, Leaving}
+use Rattle.fs_view.specs.ViewLease.{number_of, entries_of, file_in, lease_of, has_number, is_leaving, pinned}
 use Rattle.fs_view.specs.View.{pinned_at, pinned_all}
 use Rattle.fs_view.proofs.Pins.{with_pin}
 use Rattle.fs_view.proofs.Changed.{pinned_number}
@@ -56,63 +56,63 @@ pin_lease (Pinned u) = refl
 pin_lease (Leaving l) = refl
 
 -- what a change keeps of a standing, it keeps of the lease of that number
-pub one_keeps : {X : Type 0} (f : Standing → X) (g : Standing → Standing) → ((s : Standing) → f (g s) ≡ f s) → (n : LeaseNo) (k : Kept) → f (cond (has_number n k) (let x : Kept = record k { standing = g k.standing } in x) k).standing ≡ f k.standing
+pub one_keeps : {X : Type 0} (f : Standing → X) (g : Standing → Standing) → ((s : Standing) → f (g s) ≡ f s) → (n : LeaseNo) (k : ViewLease) → f (cond (has_number n k) (let x : ViewLease = record k { standing = g k.standing } in x) k).standing ≡ f k.standing
 one_keeps f g h n k = within (has_number n k)
   where
-    within : (b : Bool) → f (cond b (let x : Kept = record k { standing = g k.standing } in x) k).standing ≡ f k.standing
+    within : (b : Bool) → f (cond b (let x : ViewLease = record k { standing = g k.standing } in x) k).standing ≡ f k.standing
     within true = h k.standing
     within false = refl
 
 -- ## Leases as servers see them
 
-pin_in : (n : LeaseNo) (k : Kept) → lease_in (with_pin n k) ≡ lease_in k
+pin_in : (n : LeaseNo) (k : ViewLease) → lease_in (with_pin n k) ≡ lease_in k
 pin_in n k = within (has_number n k)
   where
-    within : (b : Bool) → lease_in (cond b (let x : Kept = record k { standing = pinned k.standing } in x) k) ≡ lease_in k
+    within : (b : Bool) → lease_in (cond b (let x : ViewLease = record k { standing = pinned k.standing } in x) k) ≡ lease_in k
     within true = ap (λ o. option_map (λ (l : Term). let x : Lease = record { no = l.no; field = l.field; kind = l.kind; until = l.until; base = k.base; below = k.below } in x) o) (pin_lease k.standing)
     within false = refl
 
-pub same_leases : (f : Kept → Kept) → ((k : Kept) → lease_in (f k) ≡ lease_in k) → (ks : List Kept) → filter_map lease_in (map f ks) ≡ filter_map lease_in ks
+pub same_leases : (f : ViewLease → ViewLease) → ((k : ViewLease) → lease_in (f k) ≡ lease_in k) → (ks : List ViewLease) → filter_map lease_in (map f ks) ≡ filter_map lease_in ks
 same_leases f h [] = refl
 same_leases f h (k ∷ ks) = ap (λ o. cons_option o (filter_map lease_in (map f ks))) (h k) ∙ ap (cons_option (lease_in k)) (same_leases f h ks)
 
-pub pinned_leases : (us : List Use) (ks : List Kept) → filter_map lease_in (pinned_all us ks) ≡ filter_map lease_in ks
+pub pinned_leases : (us : List Use) (ks : List ViewLease) → filter_map lease_in (pinned_all us ks) ≡ filter_map lease_in ks
 pinned_leases [] ks = refl
 pinned_leases (u ∷ us) ks = pinned_leases us (pinned_at u.no ks) ∙ same_leases (with_pin u.no) (pin_in u.no) ks
 
 -- ## Numbers
 
-pub distinct_mapped : (f : Kept → Kept) → ((k : Kept) → number_of (f k).standing ≡ number_of k.standing) → (ks : List Kept) → KeptDistinct ks → KeptDistinct (map f ks)
+pub distinct_mapped : (f : ViewLease → ViewLease) → ((k : ViewLease) → number_of (f k).standing ≡ number_of k.standing) → (ks : List ViewLease) → KeptDistinct ks → KeptDistinct (map f ks)
 distinct_mapped f same ks h k l i j e =
     let p = In-map f k ks i in
     let q = In-map f l ks j in
-    p.1.1 ∙ ap f (h p.0 q.0 p.1.0 q.1.0 (sym (ap (λ (x : Kept). number_of x.standing) p.1.1 ∙ same p.0) ∙ e ∙ ap (λ (x : Kept). number_of x.standing) q.1.1 ∙ same q.0)) ∙ sym q.1.1
+    p.1.1 ∙ ap f (h p.0 q.0 p.1.0 q.1.0 (sym (ap (λ (x : ViewLease). number_of x.standing) p.1.1 ∙ same p.0) ∙ e ∙ ap (λ (x : ViewLease). number_of x.standing) q.1.1 ∙ same q.0)) ∙ sym q.1.1
 
-pub distinct_all : (us : List Use) (ks : List Kept) → KeptDistinct ks → KeptDistinct (pinned_all us ks)
+pub distinct_all : (us : List Use) (ks : List ViewLease) → KeptDistinct ks → KeptDistinct (pinned_all us ks)
 distinct_all [] ks h = h
 distinct_all (u ∷ us) ks h = distinct_all us (pinned_at u.no ks) (distinct_mapped (with_pin u.no) (one_keeps number_of pinned pinned_number u.no) ks h)
 
 -- ## Counts
 
 -- no lease of these numbers goes back
-abbrev pub InHand : List Use → List Kept → Type 0
-InHand us ks = (u : Use) → In u us → (k : Kept) → In k ks → number_of k.standing ≡ u.no → is_leaving k.standing ≡ false
+abbrev pub InHand : List Use → List ViewLease → Type 0
+InHand us ks = (u : Use) → In u us → (k : ViewLease) → In k ks → number_of k.standing ≡ u.no → is_leaving k.standing ≡ false
 
-in_hand_still : (us : List Use) (n : LeaseNo) (ks : List Kept) → InHand us ks → InHand us (pinned_at n ks)
+in_hand_still : (us : List Use) (n : LeaseNo) (ks : List ViewLease) → InHand us ks → InHand us (pinned_at n ks)
 in_hand_still us n ks h u i = each_image (with_pin n) (λ k. number_of k.standing ≡ u.no → is_leaving k.standing ≡ false) ks (λ k j e. one_keeps is_leaving pinned pin_leaving n k ∙ h u i k j (sym (one_keeps number_of pinned pinned_number n k) ∙ e))
 
 abbrev one_more : Bool → ℕ → ℕ
 one_more b n = cond b (n + 1) n
 
-counted_one : (u : Use) (ks : List Kept) (count : LeaseNo → ℕ) → ((k : Kept) → In k ks → number_of k.standing ≡ u.no → is_leaving k.standing ≡ false) → ((k : Kept) → In k ks → entries_of k.standing ≡ count (number_of k.standing))
-    → (k : Kept) → In k (pinned_at u.no ks) → entries_of k.standing ≡ one_more (same_no u.no (number_of k.standing)) (count (number_of k.standing))
+counted_one : (u : Use) (ks : List ViewLease) (count : LeaseNo → ℕ) → ((k : ViewLease) → In k ks → number_of k.standing ≡ u.no → is_leaving k.standing ≡ false) → ((k : ViewLease) → In k ks → entries_of k.standing ≡ count (number_of k.standing))
+    → (k : ViewLease) → In k (pinned_at u.no ks) → entries_of k.standing ≡ one_more (same_no u.no (number_of k.standing)) (count (number_of k.standing))
 counted_one u ks count hand h = each_image (with_pin u.no) (λ k. entries_of k.standing ≡ one_more (same_no u.no (number_of k.standing)) (count (number_of k.standing))) ks (λ k i.
     let number : number_of (with_pin u.no k).standing ≡ number_of k.standing = one_keeps number_of pinned pinned_number u.no k in
     within k i (has_number u.no k) refl
     ∙ ap (λ b. one_more b (count (number_of k.standing))) (same_no_symm (number_of k.standing) u.no)
     ∙ ap (λ n. one_more (same_no u.no n) (count n)) (sym number))
   where
-    within : (k : Kept) → In k ks → (b : Bool) → has_number u.no k ≡ b → entries_of (cond b (let x : Kept = record k { standing = pinned k.standing } in x) k).standing ≡ one_more b (count (number_of k.standing))
+    within : (k : ViewLease) → In k ks → (b : Bool) → has_number u.no k ≡ b → entries_of (cond b (let x : ViewLease = record k { standing = pinned k.standing } in x) k).standing ≡ one_more b (count (number_of k.standing))
     within k i true t = pin_entries k.standing (hand k i (same_no_is (number_of k.standing) u.no t)) ∙ ap (λ n. n + 1) (h k i)
     within k i false t = h k i
 
@@ -120,7 +120,7 @@ sum_more : (b : Bool) (c t : ℕ) → one_more b c + t ≡ c + cond b (t + 1) t
 sum_more true c t = omega arith
 sum_more false c t = refl
 
-pub counted_all : (us : List Use) (ks : List Kept) (count : LeaseNo → ℕ) → InHand us ks → ((k : Kept) → In k ks → entries_of k.standing ≡ count (number_of k.standing)) → (k : Kept) → In k (pinned_all us ks) → entries_of k.standing ≡ count (number_of k.standing) + times_used (number_of k.standing) us
+pub counted_all : (us : List Use) (ks : List ViewLease) (count : LeaseNo → ℕ) → InHand us ks → ((k : ViewLease) → In k ks → entries_of k.standing ≡ count (number_of k.standing)) → (k : ViewLease) → In k (pinned_all us ks) → entries_of k.standing ≡ count (number_of k.standing) + times_used (number_of k.standing) us
 counted_all [] ks count hand h k i = let q = h k i in omega arith
 counted_all (u ∷ us) ks count hand h k i =
     counted_all us (pinned_at u.no ks) (λ n. one_more (same_no u.no n) (count n)) (in_hand_still us u.no ks (λ v j. hand v (inr j))) (counted_one u ks count (hand u (inl refl)) h) k i

@@ -17,8 +17,8 @@ use Rattle.fs_client.specs.Turns.{pair_of}
 use Rattle.fs_client.specs.declared.state.Client.{Client}
 use Rattle.fs_record.specs.Effects.{effects_of}
 use Rattle.fs_server.specs.Ships.{item_of}
-use Rattle.fs_view.specs.declared.kept.Kept.{Kept}
-use Rattle.fs_view.specs.Kept.{number_of, is_leaving, pinned}
+use Rattle.fs_view.specs.declared.view_lease.ViewLease.{ViewLease}
+use Rattle.fs_view.specs.ViewLease.{number_of, is_leaving, pinned}
 use Rattle.fs_view.specs.View.{pinned_at, pinned_all}
 use Rattle.fs_view.proofs.Pins.{with_pin}
 use Rattle.fs_view.proofs.Changed.{pinned_number}
@@ -38,14 +38,14 @@ use Rattle.fs_serial.proofs.ClientMessages.Seats.{Seat, seen_at}
 
 -- ## Pinned leases keep their numbers and files, and which go back
 
-pub pinned_before : (us : List Use) (ks : List Kept) (k : Kept) → In k (pinned_all us ks) → (j : Kept) × In j ks × (pair_of j ≡ pair_of k) × (is_leaving j.standing ≡ is_leaving k.standing)
+pub pinned_before : (us : List Use) (ks : List ViewLease) (k : ViewLease) → In k (pinned_all us ks) → (j : ViewLease) × In j ks × (pair_of j ≡ pair_of k) × (is_leaving j.standing ≡ is_leaving k.standing)
 pinned_before [] ks k i = (k, i, refl, refl)
 pinned_before (u ∷ us) ks k i =
     let q = pinned_before us (pinned_at u.no ks) k i in
     let p = In-map (with_pin u.no) q.0 ks q.1 in
-    (p.0, p.1.0, sym (one_keeps pair_in pinned pin_pair u.no p.0) ∙ ap pair_of (sym p.1.1) ∙ q.2, sym (one_keeps is_leaving pinned pin_leaving u.no p.0) ∙ ap (λ (x : Kept). is_leaving x.standing) (sym p.1.1) ∙ q.3)
+    (p.0, p.1.0, sym (one_keeps pair_in pinned pin_pair u.no p.0) ∙ ap pair_of (sym p.1.1) ∙ q.2, sym (one_keeps is_leaving pinned pin_leaving u.no p.0) ∙ ap (λ (x : ViewLease). is_leaving x.standing) (sym p.1.1) ∙ q.3)
 
-pub pinned_after : (us : List Use) (ks : List Kept) (k : Kept) → In k ks → (j : Kept) × In j (pinned_all us ks) × (number_of j.standing ≡ number_of k.standing) × (is_leaving j.standing ≡ is_leaving k.standing)
+pub pinned_after : (us : List Use) (ks : List ViewLease) (k : ViewLease) → In k ks → (j : ViewLease) × In j (pinned_all us ks) × (number_of j.standing ≡ number_of k.standing) × (is_leaving j.standing ≡ is_leaving k.standing)
 pinned_after [] ks k i = (k, i, refl, refl)
 pinned_after (u ∷ us) ks k i =
     let q = pinned_after us (pinned_at u.no ks) (with_pin u.no k) (In-mapped (with_pin u.no) k ks i) in

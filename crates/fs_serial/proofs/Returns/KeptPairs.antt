@@ -13,10 +13,10 @@ use Rattle.fs_msg.specs.declared.client_msg.ClientMsg.TheVariants.{Renew, Releas
 use Rattle.fs_msg.specs.declared.item.Item.{Item}
 use Rattle.fs_client.specs.Turns.{pair_of}
 use Rattle.fs_client.specs.declared.state.Client.{Client}
-use Rattle.fs_view.specs.declared.kept.Kept.{Kept}
-use Rattle.fs_view.specs.declared.kept.Standing.{Standing}
-use Rattle.fs_view.specs.declared.kept.Standing.TheVariants.{Held, Pinned, Leaving}
-use Rattle.fs_view.specs.Kept.{is_leaving, lease_of}
+use Rattle.fs_view.specs.declared.view_lease.ViewLease.{ViewLease}
+use Rattle.fs_view.specs.declared.view_lease.Standing.{Standing}
+use Rattle.fs_view.specs.declared.view_lease.Standing.TheVariants.{Held, Pinned, Leaving}
+use Rattle.fs_view.specs.ViewLease.{is_leaving, lease_of}
 use Rattle.fs_serial.specs.Exchange.{PairFits, PairsFit, pairs_in}
 use Rattle.fs_serial.specs.Parts.{SessionFits}
 use Rattle.fs_serial.specs.Settled.{Lease, Settled, lease_in, lease_with, settled_now}
@@ -37,7 +37,7 @@ no_pairs given rows m none x i p j = elim i as (λ _. PairFits given rows p) [
 lease_pair : (skew greatest : ℕ) (s : Sight) (by : Session) (d : Settled) (l : Lease) → SessionFits skew greatest s by d → In l d.leases → PairFits s.given s.rows (file_of l.field, l.no)
 lease_pair skew greatest s by d l f i = record { known = f.given l i; place = λ r j e. ap file_of (f.matching l i r j e).field }
 
-pub kept_pair : (skew greatest : ℕ) (s : Sight) (by : Session) (replied : List Item) (c : Client) (up : List ClientMsg) (down : List Answer) → c.exchange ≡ None → Seat skew greatest s by replied c up down → (k : Kept) → In k c.view.leases → PairFits s.given s.rows (pair_of k)
+pub kept_pair : (skew greatest : ℕ) (s : Sight) (by : Session) (replied : List Item) (c : Client) (up : List ClientMsg) (down : List Answer) → c.exchange ≡ None → Seat skew greatest s by replied c up down → (k : ViewLease) → In k c.view.leases → PairFits s.given s.rows (pair_of k)
 kept_pair skew greatest s by replied c up down idle h k i = at k.standing refl
   where
     lease_here : (l : Term) → lease_of k.standing ≡ Some l → PairFits s.given s.rows (file_of l.field, l.no)
@@ -53,16 +53,16 @@ kept_pair skew greatest s by replied c up down idle h k i = at k.standing refl
     at (Pinned u) e = subst (λ x. PairFits s.given s.rows (pair_in x)) (sym e) (lease_here u.lease (ap lease_of e))
     at (Leaving l) e = (h.exchange.returns k i (ap is_leaving e)).fits
 
-pairs_of : (given : ℕ → ℕ) (rows : List Row) (ks : List Kept) → ((k : Kept) → In k ks → PairFits given rows (pair_of k)) → (p : List ℕ × LeaseNo) → In p (map pair_of ks) → PairFits given rows p
+pairs_of : (given : ℕ → ℕ) (rows : List Row) (ks : List ViewLease) → ((k : ViewLease) → In k ks → PairFits given rows (pair_of k)) → (p : List ℕ × LeaseNo) → In p (map pair_of ks) → PairFits given rows p
 pairs_of given rows ks each = each_image pair_of (λ p. PairFits given rows p) ks each
 
-pub renews_pairs : (given : ℕ → ℕ) (rows : List Row) (ks : List Kept) → ((k : Kept) → In k ks → PairFits given rows (pair_of k)) → PairsFit given rows (Renew (map pair_of ks) ∷ [])
+pub renews_pairs : (given : ℕ → ℕ) (rows : List Row) (ks : List ViewLease) → ((k : ViewLease) → In k ks → PairFits given rows (pair_of k)) → PairsFit given rows (Renew (map pair_of ks) ∷ [])
 renews_pairs given rows ks each m i p j = elim i as (λ _. PairFits given rows p) [
   | inl e ↦ pairs_of given rows ks each p (subst (λ x. In p (pairs_in x)) e j)
   | inr z ↦ absurd z
 ]
 
-pub releases_pairs : (given : ℕ → ℕ) (rows : List Row) (ks : List Kept) → ((k : Kept) → In k ks → PairFits given rows (pair_of k)) → PairsFit given rows (Release (map pair_of ks) ∷ [])
+pub releases_pairs : (given : ℕ → ℕ) (rows : List Row) (ks : List ViewLease) → ((k : ViewLease) → In k ks → PairFits given rows (pair_of k)) → PairsFit given rows (Release (map pair_of ks) ∷ [])
 releases_pairs given rows ks each m i p j = elim i as (λ _. PairFits given rows p) [
   | inl e ↦ pairs_of given rows ks each p (subst (λ x. In p (pairs_in x)) e j)
   | inr z ↦ absurd z

@@ -15,10 +15,10 @@ use Rattle.fs_msg.specs.declared.entry.Entry.{Entry}
 use Rattle.fs_msg.specs.declared.item.Item.{Item}
 use Rattle.fs_client.specs.Client.{begun}
 use Rattle.fs_client.specs.declared.state.Client.{Client}
-use Rattle.fs_view.specs.declared.kept.Kept.{Kept}
-use Rattle.fs_view.specs.declared.kept.Standing.{Standing}
-use Rattle.fs_view.specs.declared.kept.Standing.TheVariants.{Held, Pinned, Leaving}
-use Rattle.fs_view.specs.Kept.{lease_of, number_of, entries_of, has_ended, is_leaving}
+use Rattle.fs_view.specs.declared.view_lease.ViewLease.{ViewLease}
+use Rattle.fs_view.specs.declared.view_lease.Standing.{Standing}
+use Rattle.fs_view.specs.declared.view_lease.Standing.TheVariants.{Held, Pinned, Leaving}
+use Rattle.fs_view.specs.ViewLease.{lease_of, number_of, entries_of, has_ended, is_leaving}
 use Rattle.fs_serial.specs.Client.{led_before, ClientFits, times_used, times_in}
 use Rattle.fs_serial.specs.Pending.{HasLease}
 use Rattle.fs_serial.specs.Settled.{Lease, lease_in, lease_with, settled_now}
@@ -74,11 +74,11 @@ number_there (Held x) t e = let q : x ≡ t = cc in ap (λ (l : Term). l.no) q
 number_there (Pinned u) t e = let q : u.lease ≡ t = cc in ap (λ (l : Term). l.no) q
 number_there (Leaving x) t e = absurd (cc)
 
-number_in : (k : Kept) (l : Lease) (o : Option Term) → lease_of k.standing ≡ o → option_map (lease_with k) o ≡ Some l → number_of k.standing ≡ l.no
+number_in : (k : ViewLease) (l : Lease) (o : Option Term) → lease_of k.standing ≡ o → option_map (lease_with k) o ≡ Some l → number_of k.standing ≡ l.no
 number_in k l None e h = absurd (cc)
 number_in k l (Some t) e h = number_there k.standing t e ∙ ap (λ (x : Lease). x.no) (let q : lease_with k t ≡ l = cc in q)
 
-pub its_number : (k : Kept) (l : Lease) → lease_in k ≡ Some l → number_of k.standing ≡ l.no
+pub its_number : (k : ViewLease) (l : Lease) → lease_in k ≡ Some l → number_of k.standing ≡ l.no
 its_number k l h = number_in k l (lease_of k.standing) refl h
 
 -- ## The client
@@ -90,10 +90,10 @@ module _ (by : Session) (c : Client) (now : ℕ) (f : ClientFits by c) where
   abbrev then : Client
   then = begun now c
 
-  stays : (k : Kept) → In k c.view.leases → has_ended at k.standing ≡ false → In k then.view.leases
+  stays : (k : ViewLease) → In k c.view.leases → has_ended at k.standing ≡ false → In k then.view.leases
   stays k i h = In-kept (λ k. not (has_ended at k.standing)) k c.view.leases i (ap not h)
 
-  was : (k : Kept) → In k then.view.leases → In k c.view.leases
+  was : (k : ViewLease) → In k then.view.leases → In k c.view.leases
   was k i = In-filter (λ k. not (has_ended at k.standing)) k c.view.leases i
 
   fewer : HasFewer (IsUsed (led_before c.led c.log)) (settled_now c) (settled_now then)

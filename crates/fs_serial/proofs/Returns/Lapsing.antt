@@ -94,9 +94,9 @@ same_records (x ∷ xs) (suc k) s t m at e = same_records xs k s t (with_records
 
 -- ## Everything stays at its place
 
-pub places_set : (c : Cluster) (k : ℕ) (s t : Server) → slice_get c.servers k ≡ Some s → PlacesHold c → t.map ≡ s.map → t.me ≡ s.me → IsHome c.journal t → is_ordered (rows_of_all (slice_set c.servers k t) (parcels_of c.flying)) ≡ true → PlacesHold (record c { servers = slice_set c.servers k t })
+pub places_set : (c : Cluster) (k : ℕ) (s t : Server) → slice_get c.servers k ≡ Some s → PlacesHold c → t.map ≡ s.map → t.me ≡ s.me → IsHome c.journal t → is_ordered (rows_of_all (slice_set c.servers k t) (parcels_of c.in_flight)) ≡ true → PlacesHold (record c { servers = slice_set c.servers k t })
 places_set c k s t at p map me home ordered = record {
-  one = λ id. ap (λ (n : ℕ). n + length (filter (gives_it id) (parcels_of c.flying)))
+  one = λ id. ap (λ (n : ℕ). n + length (filter (gives_it id) (parcels_of c.in_flight)))
       (as_many (λ (u : Server). is_mine u id) c.servers k s t at (ap (λ m. server_of m id == t.me) map ∙ ap (λ n. server_of s.map id == n) me)) ∙ p.one id;
   homes = λ u i. elim (In_set c.servers k t u i) as (λ _. IsHome c.journal u) [ inl e ↦ subst (IsHome c.journal) (sym e) home | inr j ↦ p.homes u j ];
   sent = p.sent;
@@ -137,13 +137,13 @@ module _ (skew greatest now k : ℕ) (s : Server) (c : Cluster) (at : slice_get 
       let late : r.until + s.skew ≤ max s.last now = ltb-false (max s.last now) (r.until + s.skew) (or_parts (is_some r.lock) (nat_lt (max s.last now) (r.until + s.skew)) live).1 in
       omega arith
 
-  rows_are : rows_of_all then.servers (parcels_of c.flying) ≡ filter keep (rows_of_all c.servers (parcels_of c.flying))
+  rows_are : rows_of_all then.servers (parcels_of c.in_flight) ≡ filter keep (rows_of_all c.servers (parcels_of c.in_flight))
   rows_are =
       let places = h.places in
       let passed = all_passed keep c.servers k s (begun now s) at (sym (filter_as keep (is_live (max s.last now) s.skew) s.rows kept_here))
       (λ j u e n r i. kept_of_others r (others_rows c k s at places j u e n r i)) in
-      sym (passed_parcels keep (parcels_of c.flying) (with_rows_of c.servers []) (λ p i r j. kept_of_others r (parcels_rows c k s at places p i r j)) places.ordered
-      ∙ ap (with_rows_in (parcels_of c.flying)) (passed_servers keep c.servers then.servers [] passed (before_parcels (parcels_of c.flying) (with_rows_of c.servers []) places.ordered)))
+      sym (passed_parcels keep (parcels_of c.in_flight) (with_rows_of c.servers []) (λ p i r j. kept_of_others r (parcels_rows c k s at places p i r j)) places.ordered
+      ∙ ap (with_rows_in (parcels_of c.in_flight)) (passed_servers keep c.servers then.servers [] passed (before_parcels (parcels_of c.in_flight) (with_rows_of c.servers []) places.ordered)))
 
   places_then : PlacesHold then
   places_then =
@@ -154,7 +154,7 @@ module _ (skew greatest now k : ℕ) (s : Server) (c : Cluster) (at : slice_get 
         rows = λ r i. home.rows r (In-filter (is_live (max s.last now) s.skew) r s.rows i);
         records = home.records;
         ordered = ordered_filter (is_live (max s.last now) s.skew) s.rows home.ordered;
-      }) (subst (λ rs. is_ordered rs ≡ true) (sym rows_are) (ordered_filter keep (rows_of_all c.servers (parcels_of c.flying)) h.places.ordered))
+      }) (subst (λ rs. is_ordered rs ≡ true) (sym rows_are) (ordered_filter keep (rows_of_all c.servers (parcels_of c.in_flight)) h.places.ordered))
 
   view_then : WorldHolds greatest (world_of (begun now s) then)
   view_then =
@@ -165,7 +165,7 @@ module _ (skew greatest now k : ℕ) (s : Server) (c : Cluster) (at : slice_get 
       let me = h.places.numbered k s at in
       alike_holds greatest risen (world_of (begun now s) then) (record {
         rows = rows_are;
-        records = ap (with_parcels (parcels_of c.flying)) (same_records c.servers k s (begun now s) empty at refl);
+        records = ap (with_parcels (parcels_of c.in_flight)) (same_records c.servers k s (begun now s) empty at refl);
         skew = refl;
         given = λ j. count_set given_at c.servers k s.me s.given (begun now s) me j;
         reaps = λ j. count_set reaps_at c.servers k s.me s.reaps (begun now s) me j;

@@ -52,7 +52,7 @@ there f (e ∷ es) (inr i) =
     elim (eq_by_cmp (slice_cmp nat_cmp) f e.0) as (λ b. is_some (cond b (Some e.1) (find (slice_cmp nat_cmp) f es)) ≡ true) [ true ↦ refl | false ↦ rest ]
 
 module _ (c : Cluster) (k : ℕ) (s : Server) (at : slice_get c.servers k ≡ Some s) (places : PlacesHold c) where
-  none_own : (x : List ℕ × Session) → is_mine s x.0 ≡ true → has_own s.rows x.0 x.1 ≡ false → (r : Row) → In r (rows_of_all c.servers (parcels_of c.flying)) → (same_field r.field (Own x.0) && (r.session.0 == x.1.0)) ≡ false
+  none_own : (x : List ℕ × Session) → is_mine s x.0 ≡ true → has_own s.rows x.0 x.1 ≡ false → (r : Row) → In r (rows_of_all c.servers (parcels_of c.in_flight)) → (same_field r.field (Own x.0) && (r.session.0 == x.1.0)) ≡ false
   none_own x mine gone r i = false_from_ne_true (same_field r.field (Own x.0) && (r.session.0 == x.1.0)) (λ t.
       let is : r.field ≡ Own x.0 = same_field_is r.field (Own x.0) (first (same_field r.field (Own x.0)) (r.session.0 == x.1.0) t) in
       let here : In r s.rows = row_at_home k c s at places r i (ap (λ (f : Field). is_mine s (file_of f)) is ∙ mine) in
@@ -60,8 +60,8 @@ module _ (c : Cluster) (k : ℕ) (s : Server) (at : slice_get c.servers k ≡ So
       let both : true ≡ false = sym t ∙ no in
       absurd (cc))
 
-  pub all_let_go : (x : List ℕ × Session) → In x (lapsed_in s) → has_own (rows_of_all c.servers (parcels_of c.flying)) x.0 x.1 ≡ false
+  pub all_let_go : (x : List ℕ × Session) → In x (lapsed_in s) → has_own (rows_of_all c.servers (parcels_of c.in_flight)) x.0 x.1 ≡ false
   all_let_go x i =
       let q = lets_go s (keys s.records) x i in
       let mine : is_mine s x.0 ≡ true = (places.homes s (In-got c.servers k s at)).records x.0 (ap is_some (get-entries s.records x.0) ∙ there x.0 (entries s.records) q.file) in
-      In_none (λ (r : Row). same_field r.field (Own x.0) && (r.session.0 == x.1.0)) (rows_of_all c.servers (parcels_of c.flying)) (none_own x mine q.gone)
+      In_none (λ (r : Row). same_field r.field (Own x.0) && (r.session.0 == x.1.0)) (rows_of_all c.servers (parcels_of c.in_flight)) (none_own x mine q.gone)

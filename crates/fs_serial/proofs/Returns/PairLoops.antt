@@ -12,7 +12,7 @@ use Rattle.fs_field.proofs.Leases.{renewed_same}
 use Rattle.fs_field.proofs.SameNo.{same_no_is}
 use Rattle.fs_msg.specs.declared.item.Item.{Item}
 use Rattle.fs_server.specs.Pairs.{end_told, ends_told, released_rows, renewed_rows}
-use Rattle.fs_view.specs.Kept.{number_of}
+use Rattle.fs_view.specs.ViewLease.{number_of}
 use Rattle.fs_client.specs.Turns.{pair_of}
 use Rattle.fs_serial.specs.Exchange.{IsReturned}
 use Rattle.fs_serial.specs.Leases.{IsBacked}

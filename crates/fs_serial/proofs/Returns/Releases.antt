@@ -18,10 +18,10 @@ use Rattle.fs_client.specs.declared.exchange.Exchange.TheVariants.{Releases}
 use Rattle.fs_client.specs.declared.state.Client.{Client}
 use Rattle.fs_parcel.proofs.Both.{passing}
 use Rattle.fs_server.specs.Asks.{kind_for}
-use Rattle.fs_view.specs.declared.kept.Kept.{Kept}
-use Rattle.fs_view.specs.declared.kept.Standing.{Standing}
-use Rattle.fs_view.specs.declared.kept.Standing.TheVariants.{Held, Pinned, Leaving}
-use Rattle.fs_view.specs.Kept.{number_of, is_leaving, is_pinned, entries_of, lease_of}
+use Rattle.fs_view.specs.declared.view_lease.ViewLease.{ViewLease}
+use Rattle.fs_view.specs.declared.view_lease.Standing.{Standing}
+use Rattle.fs_view.specs.declared.view_lease.Standing.TheVariants.{Held, Pinned, Leaving}
+use Rattle.fs_view.specs.ViewLease.{number_of, is_leaving, is_pinned, entries_of, lease_of}
 use Rattle.fs_serial.specs.Client.{led_before, KeptDistinct, times_in}
 use Rattle.fs_serial.specs.Exchange.{due, IsFront, IsReturned, PairFits, ReturnFits, ReturnsFit}
 use Rattle.fs_serial.specs.Parts.{SessionHolds, SessionFits}
@@ -52,20 +52,20 @@ has_term (Held l) h = record { term = l; is = refl }
 has_term (Pinned u) h = record { term = u.lease; is = refl }
 has_term (Leaving l) h = absurd (cc)
 
-gone_lease : (k : Kept) (s : Standing) (l : Lease) → k.standing ≡ s → is_leaving s ≡ true → lease_in k ≡ Some l → ⊥
+gone_lease : (k : ViewLease) (s : Standing) (l : Lease) → k.standing ≡ s → is_leaving s ≡ true → lease_in k ≡ Some l → ⊥
 gone_lease k (Held x) l e t h = absurd (cc)
 gone_lease k (Pinned u) l e t h = absurd (cc)
 gone_lease k (Leaving x) l e t h = absurd (let q : None ≡ Some l = sym (ap (λ s. option_map (lease_with k) (lease_of s)) e) ∙ h in cc)
 
-module _ (skew greatest : ℕ) (s : Sight) (by : Session) (replied : List Item) (c : Client) (up : List ClientMsg) (down : List Answer) (to : ℕ) (ks : List Kept) (these : (k : Kept) → In k ks → In k (returned c.view)) (idle : c.exchange ≡ None) (h : Seat skew greatest s by replied c up down) where
+module _ (skew greatest : ℕ) (s : Sight) (by : Session) (replied : List Item) (c : Client) (up : List ClientMsg) (down : List Answer) (to : ℕ) (ks : List ViewLease) (these : (k : ViewLease) → In k ks → In k (returned c.view)) (idle : c.exchange ≡ None) (h : Seat skew greatest s by replied c up down) where
   abbrev ns : List LeaseNo
   ns = numbers_in ks
 
   abbrev then : Client
   then = with_release to ns c
 
-  among : (k : Kept) → In k ks → In k c.view.leases
-  among k i = In-filter (λ (k : Kept). has_to_go k.recalled k.standing) k c.view.leases (these k i)
+  among : (k : ViewLease) → In k ks → In k c.view.leases
+  among k i = In-filter (λ (k : ViewLease). has_to_go k.recalled k.standing) k c.view.leases (these k i)
 
   none : (up ≡ []) × (due down ≡ [])
   none = idle_due c c.exchange up down idle h.exchange.one
@@ -101,11 +101,11 @@ module _ (skew greatest : ℕ) (s : Sight) (by : Session) (replied : List Item) 
   distinct = all_distinct ns c.view h.client.distinct
 
   -- an old one
-  still_returned : (k : Kept) → ReturnFits s.given s.rows by (settled_now c).leases (pair_of k) → ReturnFits s.given s.rows by (settled_now then).leases (pair_of k)
+  still_returned : (k : ViewLease) → ReturnFits s.given s.rows by (settled_now c).leases (pair_of k) → ReturnFits s.given s.rows by (settled_now then).leases (pair_of k)
   still_returned k q = record { fits = q.fits; alone = λ m i. q.alone m (fewer.fewer m i); own = q.own }
 
   -- a new one
-  new_returned : (k : Kept) → In k then.view.leases → is_leaving k.standing ≡ true → (q : CameFrom c.view.leases k) → is_leaving q.kept.standing ≡ false → ReturnFits s.given s.rows by (settled_now then).leases (pair_of k)
+  new_returned : (k : ViewLease) → In k then.view.leases → is_leaving k.standing ≡ true → (q : CameFrom c.view.leases k) → is_leaving q.kept.standing ≡ false → ReturnFits s.given s.rows by (settled_now then).leases (pair_of k)
   new_returned k i t q stays =
       let p : HasTerm q.kept.standing = has_term q.kept.standing stays in
       let l : Lease = lease_with q.kept p.term in
@@ -117,7 +117,7 @@ module _ (skew greatest : ℕ) (s : Sight) (by : Session) (replied : List Item) 
         alone = λ m j e.
             let x = from-filter_map lease_in m then.view.leases j in
             let same : x.0 ≡ k = distinct x.0 k x.1 i (its_number x.0 m x.2 ∙ e) in
-            gone_lease x.0 x.0.standing m refl (ap (λ (k : Kept). is_leaving k.standing) same ∙ t) x.2;
+            gone_lease x.0 x.0.standing m refl (ap (λ (k : ViewLease). is_leaving k.standing) same ∙ t) x.2;
         own = λ r j e. (h.fits.matching l there r j (e ∙ sym no)).session;
       }
 
@@ -136,15 +136,15 @@ module _ (skew greatest : ℕ) (s : Sight) (by : Session) (replied : List Item) 
     front = λ entries i. elim i as (λ _. IsFront entries (settled_now then)) [ inl e ↦ absurd (cc) | inr z ↦ absurd z ];
     leads = led_nothing (Release (map pair_of ks)) c.led (λ n e. absurd (cc));
     released = λ n i.
-        let q = In-map (λ (k : Kept). number_of k.standing) n ks i in
+        let q = In-map (λ (k : ViewLease). number_of k.standing) n ks i in
         let j : In q.0 c.view.leases = among q.0 q.1.0 in
         subst (IsReturned then.view.leases) (sym q.1.1) (left_all ns c.view q.0 j (subst (λ m. In m ns) q.1.1 i) (unused_returned q.0.recalled q.0.standing (goes_back q.0 q.1.0)));
     kinds = λ xs f i x j. elim i as (λ _. kind_for x.0 x.1 ≡ x.1) [ inl e ↦ absurd (cc) | inr z ↦ absurd z ];
     pairs = releases_pairs s.given s.rows ks (λ k i. kept_pair skew greatest s by replied c up down idle h k (among k i));
   }
     where
-      goes_back : (k : Kept) → In k ks → has_to_go k.recalled k.standing ≡ true
-      goes_back k i = passing (λ (k : Kept). has_to_go k.recalled k.standing) c.view.leases k (these k i)
+      goes_back : (k : ViewLease) → In k ks → has_to_go k.recalled k.standing ≡ true
+      goes_back k i = passing (λ (k : ViewLease). has_to_go k.recalled k.standing) c.view.leases k (these k i)
 
   pub seat_releases : Seat skew greatest s by replied then (up ++ Release (map pair_of ks) ∷ []) down
   seat_releases = record {

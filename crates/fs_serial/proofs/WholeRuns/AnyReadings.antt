@@ -118,7 +118,7 @@ act_none c now o = on_none c.over o (begun now c)
 -- ## What holds
 
 abbrev pub told_as : List Item → (Session → List Item) → Cluster → Cluster
-told_as journal replied c = record { servers = c.servers; flying = c.flying; journal = journal; replied = replied; lines = c.lines }
+told_as journal replied c = record { servers = c.servers; in_flight = c.in_flight; journal = journal; replied = replied; lines = c.lines }
 
 -- all parts, but of another journal, which makes the same files
 pub record HoldsAnyhow (skew greatest : ℕ) (c : Cluster) : Type 0 where

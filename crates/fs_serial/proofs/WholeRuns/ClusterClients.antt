@@ -19,7 +19,7 @@ use Rattle.fs_client.specs.Client.{begun, committed}
 use Rattle.fs_client.specs.Turns.{turn_plan}
 use Rattle.fs_client.specs.declared.plan.Plan.{Plan}
 use Rattle.fs_client.specs.declared.state.Client.{Client}
-use Rattle.fs_serial.specs.Cluster.{CanCome, ClientEvent, Cluster, Does, Flying, Hears, Lines, Turns, after_client, after_plan, is_with, parcels_of, with_lines, without_first}
+use Rattle.fs_serial.specs.Cluster.{CanCome, ClientEvent, Cluster, Does, InFlight, Hears, Lines, Turns, after_client, after_plan, is_with, parcels_of, with_lines, without_first}
 use Rattle.fs_serial.specs.Exchange.{OneExchange, asked_server}
 use Rattle.fs_serial.specs.Fresh.{IsMade}
 use Rattle.fs_serial.specs.Places.{PlacesHold, places_for, IsHandover}
@@ -43,7 +43,7 @@ made_later : (is : List Item) (o : Option Item) (id : List ℕ) → IsMade is id
 made_later is None id h = h
 made_later is (Some i) id h = made_still is (i ∷ []) id h
 
-pub places_later : (c : Cluster) (journal : List Item) (replied : Session → List Item) (lines : Session → Lines) → ((id : List ℕ) → IsMade c.journal id → IsMade journal id) → PlacesHold c → PlacesHold (record { servers = c.servers; flying = c.flying; journal = journal; replied = replied; lines = lines })
+pub places_later : (c : Cluster) (journal : List Item) (replied : Session → List Item) (lines : Session → Lines) → ((id : List ℕ) → IsMade c.journal id → IsMade journal id) → PlacesHold c → PlacesHold (record { servers = c.servers; in_flight = c.in_flight; journal = journal; replied = replied; lines = lines })
 places_later c journal replied lines still p = record {
   one = p.one;
   homes = λ s i. let home = p.homes s i in record { map = home.map; listed = λ place j. still place (home.listed place j); rows = home.rows; records = home.records; ordered = home.ordered };
@@ -60,13 +60,13 @@ not_empty [] n h = absurd (omega arith)
 not_empty (s ∷ ss) n h = (s, inl refl)
 
 -- each identifier has a place: a server, or a parcel on its way to one
-server_for : (servers ss : List Server) (fs : List Flying) → ((s : Server) → In s ss → In s servers) → ((f : Flying) → In f fs → IsHandover (length servers) f) → places_for [] ss (parcels_of fs) ≡ 1 → (s : Server) × In s servers
+server_for : (servers ss : List Server) (fs : List InFlight) → ((s : Server) → In s ss → In s servers) → ((f : InFlight) → In f fs → IsHandover (length servers) f) → places_for [] ss (parcels_of fs) ≡ 1 → (s : Server) × In s servers
 server_for servers (s ∷ ss) fs among to one = (s, among s (inl refl))
 server_for servers [] (f ∷ fs) among to one = not_empty servers f.to (to f (inl refl)).0
 server_for servers [] [] among to one = absurd (omega arith)
 
 pub some_server : (c : Cluster) → PlacesHold c → (s : Server) × In s c.servers
-some_server c p = server_for c.servers c.servers c.flying (λ s i. i) p.goes (p.one [])
+some_server c p = server_for c.servers c.servers c.in_flight (λ s i. i) p.goes (p.one [])
 
 -- ## A client's event as each server sees it
 

@@ -15,7 +15,7 @@ use Rattle.fs_msg.specs.declared.act.Act.TheVariants as act
 use Rattle.fs_msg.specs.declared.act.Busy.TheVariants as busy
 use Rattle.fs_msg.specs.declared.client_msg.ClientMsg.{ClientMsg}
 use Rattle.fs_msg.specs.declared.entry.Entry.{Entry}
-use Rattle.fs_view.specs.declared.kept.Kept.{Kept}
+use Rattle.fs_view.specs.declared.view_lease.ViewLease.{ViewLease}
 use Rattle.fs_view.specs.View.{missing_in, reply_in}
 use Rattle.fs_record.specs.declared.led_end.LedEnd.{LedEnd}
 use Rattle.fs_record.specs.declared.led_end.LedEnd.TheVariants as end
@@ -129,11 +129,11 @@ ship_posted : (log : List Entry) (c : Client) → IsPosted (ship_some log c)
 ship_posted [] c = refl
 ship_posted (e ∷ es) c = (_, refl)
 
-renew_posted : (ks : List Kept) (c : Client) → IsPosted (renew_some ks c)
+renew_posted : (ks : List ViewLease) (c : Client) → IsPosted (renew_some ks c)
 renew_posted [] c = refl
 renew_posted (k ∷ ks) c = (_, refl)
 
-release_posted : (ks : List Kept) (c : Client) → IsPosted (release_some ks c)
+release_posted : (ks : List ViewLease) (c : Client) → IsPosted (release_some ks c)
 release_posted [] c = renew_posted (ending (c.last + c.term / 2) c.view) c
 release_posted (k ∷ ks) c = (_, refl)
 

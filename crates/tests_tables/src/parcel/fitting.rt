@@ -1,6 +1,6 @@
 //! Which parcels fit.
 ghost use Rattle.std.specs.Prelude.{◌≡◌, IfOk, OnOk};
-ghost use Rattle.fs_parcel.specs.Rows.{AreRows, both};
+ghost use Rattle.fs_parcel.specs.Rows.{AreRows, in_one_list};
 
 use crate::forms::{one, same, spend};
 use crate::parcel::shown::is_written;
@@ -24,8 +24,8 @@ const FILE: &Sent = &("/5", &[("/5", true)], &[("/5", b"", &[])], &[]);
 
 /// Whether the parcel fits, and is put in its place then.
 fn come_sent(alloc: Global, s: &mut Server, sent: &Sent) -> Result<bool, Fail>
-    requires { AreRows (both s.old.rows s.old.modes) }
-    ensures { OnOk result (AreRows (both s.new.rows s.new.modes)) }
+    requires { AreRows (in_one_list s.old.rows s.old.modes) }
+    ensures { OnOk result (AreRows (in_one_list s.new.rows s.new.modes)) }
 {
     let p = parcel(alloc, sent)?;
     come(alloc, s, p)
@@ -33,8 +33,8 @@ fn come_sent(alloc: Global, s: &mut Server, sent: &Sent) -> Result<bool, Fail>
 
 /// The parcel comes, and fits.
 pub(super) fn must_come(alloc: Global, s: &mut Server, sent: &Sent) -> Result<(), Fail>
-    requires { AreRows (both s.old.rows s.old.modes) }
-    ensures { OnOk result (AreRows (both s.new.rows s.new.modes)) }
+    requires { AreRows (in_one_list s.old.rows s.old.modes) }
+    ensures { OnOk result (AreRows (in_one_list s.new.rows s.new.modes)) }
 {
     if !come_sent(alloc, s, sent)? {
         return Err(Fail::from("it does not fit"));
@@ -44,8 +44,8 @@ pub(super) fn must_come(alloc: Global, s: &mut Server, sent: &Sent) -> Result<()
 
 /// These rows and this file come, and are left. Of both parcels the server manages nothing more.
 fn come_here(alloc: Global, s: &mut Server) -> Result<(), Fail>
-    requires { AreRows (both s.old.rows s.old.modes) }
-    ensures { OnOk result (AreRows (both s.new.rows s.new.modes)) }
+    requires { AreRows (in_one_list s.old.rows s.old.modes) }
+    ensures { OnOk result (AreRows (in_one_list s.new.rows s.new.modes)) }
 {
     must_come(alloc, s, OLD)?;
     leave(alloc, &mut s.records)?;
@@ -65,7 +65,7 @@ fn leave(alloc: Global, records: &mut Records) -> Result<(), Fail> {
 
 /// Server 1 with them.
 fn here(alloc: Global) -> Result<Server, Fail>
-    ensures { IfOk result (λ s. AreRows (both s.rows s.modes)) }
+    ensures { IfOk result (λ s. AreRows (in_one_list s.rows s.modes)) }
 {
     let mut s = begun(alloc, 1, 0)?;
     match come_here(alloc, &mut s) {
@@ -203,7 +203,7 @@ fn parcels_of_honest_servers_fit(rt: HostRuntime) -> Result<(), Fail> {
 
 /// Whether the parcel fits at the reading, and is put in its place then.
 fn come_at(alloc: Global, s: &mut Server, now: u64, p: Parcel) -> Result<bool, Fail>
-    requires { AreRows (both s.old.rows s.old.modes) }
+    requires { AreRows (in_one_list s.old.rows s.old.modes) }
 {
     s.rows.all();
     s.modes.all();
@@ -246,7 +246,7 @@ fn sees(
     fit: bool,
     wanted: &str,
 ) -> Result<(), Fail>
-    requires { AreRows (both s.old.rows s.old.modes) }
+    requires { AreRows (in_one_list s.old.rows s.old.modes) }
 {
     let p = parcel(alloc, CONFLICTS)?;
     same(rt, come_at(alloc, s, now, p)?, fit);

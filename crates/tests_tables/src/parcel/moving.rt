@@ -1,6 +1,6 @@
 //! A directory goes from one server to another.
 ghost use Rattle.std.specs.Prelude.{◌≡◌, IfOk, OnOk};
-ghost use Rattle.fs_parcel.specs.Rows.{AreRows, both};
+ghost use Rattle.fs_parcel.specs.Rows.{AreRows, in_one_list};
 
 use crate::forms::{reads, same, spend, with};
 use crate::parcel::fitting::must_come;
@@ -34,7 +34,7 @@ const ALL: &Sent = &(
 
 /// Server 0 with these files, which came from server 9.
 pub(super) fn first_server(alloc: Global, sent: &Sent) -> Result<Server, Fail>
-    ensures { IfOk result (λ s. AreRows (both s.rows s.modes)) }
+    ensures { IfOk result (λ s. AreRows (in_one_list s.rows s.modes)) }
 {
     let mut s = begun(alloc, 0, 9)?;
     match must_come(alloc, &mut s, sent) {
@@ -54,8 +54,8 @@ pub(super) fn go(
     to: u8,
     through: Option<PathNo>,
 ) -> Result<Parcel, MoveError>
-    requires { AreRows (both s.old.rows s.old.modes) }
-    ensures { AreRows (both s.new.rows s.new.modes) }
+    requires { AreRows (in_one_list s.old.rows s.old.modes) }
+    ensures { AreRows (in_one_list s.new.rows s.new.modes) }
 {
     s.rows.all();
     s.modes.all();
@@ -81,8 +81,8 @@ pub(super) fn went(
     to: u8,
     through: Option<PathNo>,
 ) -> Result<String, Fail>
-    requires { AreRows (both s.old.rows s.old.modes) }
-    ensures { AreRows (both s.new.rows s.new.modes) }
+    requires { AreRows (in_one_list s.old.rows s.old.modes) }
+    ensures { AreRows (in_one_list s.new.rows s.new.modes) }
 {
     let prefix = id(alloc, prefix)?;
     let gone = go(alloc, s, &prefix, to, through);
@@ -111,7 +111,7 @@ fn text_of_refusal(alloc: Global, why: MoveError) -> Result<String, Fail> {
 
 /// A copy of what would go.
 fn copied(alloc: Global, s: &Server, prefix: &FileId) -> Result<Parcel, Fail>
-    requires { AreRows (both s.now.rows s.now.modes) }
+    requires { AreRows (in_one_list s.now.rows s.now.modes) }
 {
     if s.map.owner(prefix).1 != s.me {
         return Err(Fail::from("the prefix is at another server"));
@@ -137,7 +137,7 @@ const CAME: &str = "/ s0 /1 s1 /1/3 s0 | /1:1 /1/2:0 | 1 | 2 ";
 
 /// What came is as it is written, and fits.
 fn comes(rt: &impl Abort, alloc: Global, s1: &mut Server, p: Parcel) -> Result<(), Fail>
-    requires { AreRows (both s1.old.rows s1.old.modes) }
+    requires { AreRows (in_one_list s1.old.rows s1.old.modes) }
 {
     let text = parcel_text(alloc, &p);
     let (p, text) = with(p, text)?;
@@ -148,8 +148,8 @@ fn comes(rt: &impl Abort, alloc: Global, s1: &mut Server, p: Parcel) -> Result<(
 
 /// The first directory goes.
 fn first_goes(alloc: Global, s0: &mut Server) -> Result<Parcel, Fail>
-    requires { AreRows (both s0.old.rows s0.old.modes) }
-    ensures { AreRows (both s0.new.rows s0.new.modes) }
+    requires { AreRows (in_one_list s0.old.rows s0.old.modes) }
+    ensures { AreRows (in_one_list s0.new.rows s0.new.modes) }
 {
     let prefix = id(alloc, "/1")?;
     let gone = go(alloc, s0, &prefix, 1, None);
@@ -159,9 +159,9 @@ fn first_goes(alloc: Global, s0: &mut Server) -> Result<Parcel, Fail>
 
 /// The first directory goes from one to the other.
 fn moves(rt: &impl Abort, alloc: Global, s0: &mut Server, s1: &mut Server) -> Result<(), Fail>
-    requires from { AreRows (both s0.old.rows s0.old.modes) }
-    requires to { AreRows (both s1.old.rows s1.old.modes) }
-    ensures { AreRows (both s0.new.rows s0.new.modes) }
+    requires from { AreRows (in_one_list s0.old.rows s0.old.modes) }
+    requires to { AreRows (in_one_list s1.old.rows s1.old.modes) }
+    ensures { AreRows (in_one_list s0.new.rows s0.new.modes) }
 {
     let p = first_goes(alloc, s0)?;
     comes(rt, alloc, s1, p)
@@ -169,8 +169,8 @@ fn moves(rt: &impl Abort, alloc: Global, s0: &mut Server, s1: &mut Server) -> Re
 
 /// It went, and does not go again.
 fn went_once(rt: &impl Abort, alloc: Global, s0: &mut Server, s1: &mut Server) -> Result<(), Fail>
-    requires from { AreRows (both s0.old.rows s0.old.modes) }
-    requires to { AreRows (both s1.old.rows s1.old.modes) }
+    requires from { AreRows (in_one_list s0.old.rows s0.old.modes) }
+    requires to { AreRows (in_one_list s1.old.rows s1.old.modes) }
 {
     moves(rt, alloc, s0, s1)?;
     is_written(rt, alloc, s0, LEFT)?;
@@ -181,7 +181,7 @@ fn went_once(rt: &impl Abort, alloc: Global, s0: &mut Server, s1: &mut Server) -
 
 /// From a server to a new one.
 fn goes_over(rt: &impl Abort, alloc: Global, s0: &mut Server) -> Result<(), Fail>
-    requires { AreRows (both s0.old.rows s0.old.modes) }
+    requires { AreRows (in_one_list s0.old.rows s0.old.modes) }
 {
     let mut s1 = begun(alloc, 1, 0)?;
     let done = went_once(rt, alloc, s0, &mut s1);
@@ -199,7 +199,7 @@ fn a_directory_goes_to_another_server(rt: HostRuntime) -> Result<(), Fail> {
 
 /// What would go is told before it goes.
 fn is_told(rt: &impl Abort, alloc: Global, s0: &Server, prefix: &FileId) -> Result<(), Fail>
-    requires { AreRows (both s0.now.rows s0.now.modes) }
+    requires { AreRows (in_one_list s0.now.rows s0.now.modes) }
 {
     same(rt, may_go(alloc, s0, prefix, 1)?, true);
     let p = copied(alloc, s0, prefix)?;
@@ -209,7 +209,7 @@ fn is_told(rt: &impl Abort, alloc: Global, s0: &Server, prefix: &FileId) -> Resu
 
 /// The same of the first directory.
 fn first_is_told(rt: &impl Abort, alloc: Global, s0: &Server) -> Result<(), Fail>
-    requires { AreRows (both s0.now.rows s0.now.modes) }
+    requires { AreRows (in_one_list s0.now.rows s0.now.modes) }
 {
     let prefix = id(alloc, "/1")?;
     let done = is_told(rt, alloc, s0, &prefix);

@@ -1,6 +1,6 @@
 //! Why nothing moves, and which reason is told.
 ghost use Rattle.std.specs.Prelude.{◌≡◌};
-ghost use Rattle.fs_parcel.specs.Rows.{AreRows, both};
+ghost use Rattle.fs_parcel.specs.Rows.{AreRows, in_one_list};
 
 use crate::forms::{reads, spend};
 use crate::parcel::moving::{first_server, went};
@@ -53,8 +53,8 @@ fn refuse_each(
     s: &mut Server,
     reasons: &[Reason],
 ) -> Result<(), Fail>
-    requires { AreRows (both s.old.rows s.old.modes) }
-    ensures { AreRows (both s.new.rows s.new.modes) }
+    requires { AreRows (in_one_list s.old.rows s.old.modes) }
+    ensures { AreRows (in_one_list s.new.rows s.new.modes) }
 {
     for (prefix, to, out, wanted) in reasons {
         goes(rt, alloc, s, prefix, *to, *out, wanted)?;
@@ -64,7 +64,7 @@ fn refuse_each(
 
 /// No reason changes the server, and without one the files go.
 fn refuses(rt: &impl Abort, alloc: Global, s: &mut Server, before: &str) -> Result<(), Fail>
-    requires { AreRows (both s.old.rows s.old.modes) }
+    requires { AreRows (in_one_list s.old.rows s.old.modes) }
 {
     refuse_each(rt, alloc, s, REASONS)?;
     is_written(rt, alloc, s, before)?;
@@ -81,8 +81,8 @@ fn goes(
     out: bool,
     wanted: &str,
 ) -> Result<(), Fail>
-    requires { AreRows (both s.old.rows s.old.modes) }
-    ensures { AreRows (both s.new.rows s.new.modes) }
+    requires { AreRows (in_one_list s.old.rows s.old.modes) }
+    ensures { AreRows (in_one_list s.new.rows s.new.modes) }
 {
     reads(rt, went(alloc, s, prefix, to, through(out))?, wanted);
     Ok(())
@@ -90,7 +90,7 @@ fn goes(
 
 /// The server stays as it was.
 fn stays(rt: &impl Abort, alloc: Global, s: &mut Server) -> Result<(), Fail>
-    requires { AreRows (both s.old.rows s.old.modes) }
+    requires { AreRows (in_one_list s.old.rows s.old.modes) }
 {
     let before = server_text(alloc, s)?;
     let done = refuses(rt, alloc, s, before.as_str());

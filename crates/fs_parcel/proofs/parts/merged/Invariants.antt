@@ -1,13 +1,13 @@
 use Rattle.std.proofs.Common.{◌≡◌, ◌++◌, ◌+◌, vec_len}
 use Rattle.fs_parcel.specs.Merged.{AreFalling, both_of}
-use Rattle.fs_parcel.specs.Rows.{both}
+use Rattle.fs_parcel.specs.Rows.{in_one_list}
 use Rattle.fs_parcel.proofs.parts.merged.Given as goal
 
 -- the rows that are taken, and those that are left, are all
 abbrev pub invariant-loop-row : goal.invariant-loop-row
 invariant-loop-row l = record {
   falling : AreFalling l.falling_off.items l.falling_on.items;
-  all : l.rows ++ both_of l.falling_off.items l.falling_on.items ≡ both l.fn.off l.fn.on;
+  all : l.rows ++ both_of l.falling_off.items l.falling_on.items ≡ in_one_list l.fn.off l.fn.on;
 }
 
 abbrev pub decreases-loop-row : goal.decreases-loop-row

@@ -3,7 +3,7 @@ use Rattle.std.proofs.lemmas.Result.{err_from_is_err_and}
 use Rattle.fs_field.specs.Field.{file_of}
 use Rattle.fs_msg.specs.declared.core_error.CoreError.TheVariants as errors
 use Rattle.fs_server.specs.Asks.{ask_from}
-use Rattle.fs_server.specs.Lent.{IsLent, with_leases}
+use Rattle.fs_server.specs.Grants.{IsLent, with_leases}
 use Rattle.fs_server.specs.Server.{is_mine}
 use Rattle.fs_server.proofs.Lending.{none_lent, lent_none}
 use Rattle.fs_server.proofs.Asking.{lendable, spent_item, same_blocker}

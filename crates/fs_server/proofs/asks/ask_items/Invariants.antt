@@ -1,6 +1,6 @@
 use Rattle.std.proofs.Common.{◌≡◌, [], drop}
 use Rattle.fs_server.specs.Asks.{ask_from}
-use Rattle.fs_server.specs.Lent.{IsLent, with_leases}
+use Rattle.fs_server.specs.Grants.{IsLent, with_leases}
 use Rattle.fs_server.proofs.asks.ask_items.Given as goal
 
 abbrev pub invariant-loop-field : goal.invariant-loop-field

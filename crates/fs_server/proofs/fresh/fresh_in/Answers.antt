@@ -8,7 +8,7 @@ use Rattle.fs_record.specs.declared.error.FreshError.TheVariants.{NoDir, NoIds}
 use Rattle.fs_record.specs.Fresh.{fresh_number, is_directory}
 use Rattle.fs_record.proofs.FreshNumbers.{same_number}
 use Rattle.fs_rows.specs.Granted.{with_rows}
-use Rattle.fs_server.specs.Lent.{got_by, lent_by}
+use Rattle.fs_server.specs.Grants.{got_by, lent_by}
 use Rattle.fs_server.proofs.Giving.{spent_fresh, ends_without}
 use Rattle.fs_server.proofs.fresh.fresh_in.Goals as goal
 

@@ -2,7 +2,7 @@ use Rattle.std.proofs.Common.{◌≡◌, true, sym, subst, ◌∙◌}
 use Rattle.fs_record.specs.declared.parcel.Parcel.{Parcel}
 use Rattle.fs_server.specs.declared.change.Change.TheVariants.{Install}
 use Rattle.fs_server.specs.declared.state.Server.{Server}
-use Rattle.fs_server.specs.Lent.{IsReady}
+use Rattle.fs_server.specs.Grants.{IsReady}
 use Rattle.fs_server.specs.Moves.{fits_here}
 use Rattle.fs_server.specs.Plan.{CanChange, changed}
 use Rattle.fs_server.proofs.Moving.{installable, installed_ready}

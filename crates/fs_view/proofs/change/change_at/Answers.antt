@@ -1,5 +1,5 @@
 use Rattle.std.proofs.Common.{◌≡◌, true, sym, ap, ◌∙◌}
-use Rattle.fs_view.specs.Kept.{has_number}
+use Rattle.fs_view.specs.ViewLease.{has_number}
 use Rattle.fs_view.specs.Change.{changed, fits}
 use Rattle.fs_view.proofs.Places.{none_at, none_changed, found_there, changed_there, fits_there}
 use Rattle.fs_view.proofs.Found.{found_changed}

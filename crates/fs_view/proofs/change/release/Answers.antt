@@ -1,6 +1,6 @@
 use Rattle.std.proofs.Common.{◌≡◌, true, not, refl, sym, ap, ◌∙◌}
 use Rattle.std.specs.List.{position}
-use Rattle.fs_view.specs.Kept.{has_number, is_leaving}
+use Rattle.fs_view.specs.ViewLease.{has_number, is_leaving}
 use Rattle.fs_view.proofs.Places.{none_at, none_removed, removed_there, found_there, fits_there}
 use Rattle.fs_view.proofs.Finding.{within}
 use Rattle.fs_view.proofs.Found.{found_gone, leaving_free, leaving_off}

@@ -1,7 +1,7 @@
 use Rattle.std.proofs.Common.{◌≡◌, ◌<◌, ◌++◌, true, not, length, take, drop, arith, sym, ap, ◌∙◌}
 use Rattle.std.specs.List.{filter}
-use Rattle.fs_view.specs.declared.kept.Kept.{Kept}
-use Rattle.fs_view.specs.Kept.{has_ended}
+use Rattle.fs_view.specs.declared.view_lease.ViewLease.{ViewLease}
+use Rattle.fs_view.specs.ViewLease.{has_ended}
 use Rattle.fs_view.proofs.Ending.{before_least, none_over, passed, same_there, within_removed}
 use Rattle.fs_view.proofs.Found.{ended_free, found_gone}
 use Rattle.fs_view.proofs.ends.lapse.Goals as goal
@@ -24,9 +24,9 @@ loop-at-preserved-then-has_ended c =
       spare = omega (arith, c.shift_remove_index.ensures.room.0, c.loop-at.invariant.spare);
       within = let w = within_removed ks at within in omega (arith, w, ap length c.remove.ensures.items);
       kept =
-          ap (λ js. take at js ++ filter (λ (k : Kept). not (has_ended c.args.now k.standing)) (drop at js)) c.remove.ensures.items
-          ∙ passed (λ (k : Kept). not (has_ended c.args.now k.standing)) ks at c.remove.result within c.remove.ensures.value (ap (λ (k : Kept). not (has_ended c.args.now k.standing)) taken ∙ ap not over)
+          ap (λ js. take at js ++ filter (λ (k : ViewLease). not (has_ended c.args.now k.standing)) (drop at js)) c.remove.ensures.items
+          ∙ passed (λ (k : ViewLease). not (has_ended c.args.now k.standing)) ks at c.remove.result within c.remove.ensures.value (ap (λ (k : ViewLease). not (has_ended c.args.now k.standing)) taken ∙ ap not over)
           ∙ c.loop-at.invariant.kept;
-      found = found_gone ks _ c.loop-at.leases.numbers.keys _ c.loop-at.leases.index _ c.loop-at.leases.least at x within c.index-then-has_ended.ensures (ended_free c.args.now x.standing (ap (λ (k : Kept). has_ended c.args.now k.standing) seen ∙ over))
+      found = found_gone ks _ c.loop-at.leases.numbers.keys _ c.loop-at.leases.index _ c.loop-at.leases.least at x within c.index-then-has_ended.ensures (ended_free c.args.now x.standing (ap (λ (k : ViewLease). has_ended c.args.now k.standing) seen ∙ over))
           c.take_off.ensures c.remove.ensures.items c.shift_remove_index.ensures.keys c.loop-at.invariant.found;
     }

@@ -2,7 +2,7 @@ use Rattle.std.proofs.Common.{◌≡◌, ◌≤◌, ◌-◌, ◌++◌, not, take
 use Rattle.std.specs.List.{filter}
 use Rattle.indexmap.specs.IndexSet.{spare}
 use Rattle.fs_view.specs.Index.{AreFound}
-use Rattle.fs_view.specs.Kept.{has_ended}
+use Rattle.fs_view.specs.ViewLease.{has_ended}
 use Rattle.fs_view.proofs.ends.lapse.Given as goal
 
 abbrev pub invariant-loop-at : goal.invariant-loop-at

@@ -1,6 +1,6 @@
 use Rattle.std.proofs.Common.{◌≡◌, drop}
 use Rattle.std.specs.List.{find}
-use Rattle.fs_view.specs.Kept.{offers}
+use Rattle.fs_view.specs.ViewLease.{offers}
 use Rattle.fs_view.proofs.known.offered.Given as goal
 
 abbrev pub invariant-loop-kept : goal.invariant-loop-kept

@@ -1,5 +1,5 @@
 use Rattle.std.proofs.Common.{ap, ◌∙◌, is_some}
-use Rattle.fs_view.specs.Kept.{has_number}
+use Rattle.fs_view.specs.ViewLease.{has_number}
 use Rattle.fs_view.proofs.Finding.{has_place}
 use Rattle.fs_view.proofs.leases.has.Goals as goal
 

@@ -1,5 +1,5 @@
 use Rattle.std.proofs.Common.{sym, ◌∙◌}
-use Rattle.fs_view.specs.Kept.{has_number}
+use Rattle.fs_view.specs.ViewLease.{has_number}
 use Rattle.fs_view.proofs.Finding.{none_found}
 use Rattle.fs_view.proofs.Places.{found_there}
 use Rattle.fs_view.proofs.leases.numbered.Goals as goal

@@ -16,10 +16,10 @@ core_step-requires-clause-told c = subst (λ (o : Option ServerEvent). IfSome o 
 pub returns-in_ok-told-in-None-clause-done : goal.returns-in_ok-told-in-None-clause-done
 returns-in_ok-told-in-None-clause-done c =
     let a = c.args in
-    let x : ServerStepped = server_found a.core.now a.post.now a.seats.now a.flying.now a.journal.now a.packets.now in
+    let x : ServerStepped = server_found a.core.now a.post.now a.seats.now a.in_flight.now a.journal.now a.packets.now in
     let none : None ≡ event_heard a.from a.heard.now.joined = sym c.in-None.is ∙ c.in_ok-event_heard.ensures.event ∙ ap (event_heard a.from) c.as_slice.ensures in
     let e = c.in_ok-told-in-None.ensures in
-    (λ i. server_left (e.outcome i) a.core.now (c.mark_sent.ensures i) a.seats.now a.flying.now a.journal.now (e.ok i))
+    (λ i. server_left (e.outcome i) a.core.now (c.mark_sent.ensures i) a.seats.now a.in_flight.now a.journal.now (e.ok i))
     ∙ ap (λ (n : Note). server_goes a.k false a.replied n None x) c.unheard_note-note.ensures
     ∙ goes_alone a.k false a.replied (unheard_note a.heard.now) x
     ∙ ap (λ (o : Option ServerEvent). server_hears_one a.now a.k a.replied a.heard.now o x) none
@@ -27,7 +27,7 @@ returns-in_ok-told-in-None-clause-done c =
 pub returns-in_ok-told-in-None-clause-fits : goal.returns-in_ok-told-in-None-clause-fits
 returns-in_ok-told-in-None-clause-fits c =
     let a = c.args in
-    let x : ServerStepped = server_found a.core.now a.post.now a.seats.now a.flying.now a.journal.now a.packets.now in
+    let x : ServerStepped = server_found a.core.now a.post.now a.seats.now a.in_flight.now a.journal.now a.packets.now in
     let none : None ≡ event_heard a.from a.heard.now.joined = sym c.in-None.is ∙ c.in_ok-event_heard.ensures.event ∙ ap (event_heard a.from) c.as_slice.ensures in
     unheard_answered a.now a.from a.heard.now.joined x c.requires.few none
 
@@ -35,21 +35,21 @@ pub returns-in-Some-clause-done : goal.returns-in-Some-clause-done
 returns-in-Some-clause-done c =
     let a = c.args in
     let n = c.core_step.new in
-    let x : ServerStepped = server_found a.core.now a.post.now a.seats.now a.flying.now a.journal.now a.packets.now in
+    let x : ServerStepped = server_found a.core.now a.post.now a.seats.now a.in_flight.now a.journal.now a.packets.now in
     let heard : Some c.in-Some.event ≡ event_heard a.from a.heard.now.joined = sym c.in-Some.is ∙ c.in_ok-event_heard.ensures.event ∙ ap (event_heard a.from) c.as_slice.ensures in
-    subst (λ (o : Option ServerEvent). IfOk c.core_step.result (λ told. server_left told n.core n.post n.seats n.flying n.journal n.packets ≡ server_hears_one a.now a.k a.replied a.heard.now o x)) heard c.core_step.ensures.done
+    subst (λ (o : Option ServerEvent). IfOk c.core_step.result (λ told. server_left told n.core n.post n.seats n.in_flight n.journal n.packets ≡ server_hears_one a.now a.k a.replied a.heard.now o x)) heard c.core_step.ensures.done
 
 pub returns-in-Some-clause-fits : goal.returns-in-Some-clause-fits
 returns-in-Some-clause-fits c =
     let a = c.args in
     let n = c.core_step.new in
-    let x : ServerStepped = server_found a.core.now a.post.now a.seats.now a.flying.now a.journal.now a.packets.now in
+    let x : ServerStepped = server_found a.core.now a.post.now a.seats.now a.in_flight.now a.journal.now a.packets.now in
     let heard : Some c.in-Some.event ≡ event_heard a.from a.heard.now.joined = sym c.in-Some.is ∙ c.in_ok-event_heard.ensures.event ∙ ap (event_heard a.from) c.as_slice.ensures in
-    answered_after c.core_step.result a.k a.from a.replied a.now a.heard.now.joined x c.in-Some.event (λ told. server_left told n.core n.post n.seats n.flying n.journal n.packets) c.requires.few heard c.core_step.ensures.fits (λ o. refl) c.core_step.ensures.done
+    answered_after c.core_step.result a.k a.from a.replied a.now a.heard.now.joined x c.in-Some.event (λ told. server_left told n.core n.post n.seats n.in_flight n.journal n.packets) c.requires.few heard c.core_step.ensures.fits (λ o. refl) c.core_step.ensures.done
 
 pub returns-in-Some-clause-spends : goal.returns-in-Some-clause-spends
 returns-in-Some-clause-spends c =
     let a = c.args in
-    let x : ServerStepped = server_found a.core.now a.post.now a.seats.now a.flying.now a.journal.now a.packets.now in
+    let x : ServerStepped = server_found a.core.now a.post.now a.seats.now a.in_flight.now a.journal.now a.packets.now in
     let heard : Some c.in-Some.event ≡ event_heard a.from a.heard.now.joined = sym c.in-Some.is ∙ c.in_ok-event_heard.ensures.event ∙ ap (event_heard a.from) c.as_slice.ensures in
     subst (λ (o : Option ServerEvent). Spends c.core_step.result (server_hears_one a.now a.k a.replied a.heard.now o x).spent) heard c.core_step.ensures.spends

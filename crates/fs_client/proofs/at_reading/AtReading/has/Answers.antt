@@ -1,6 +1,6 @@
 use Rattle.std.proofs.Common.{ap, ◌∙◌}
 use Rattle.std.specs.List.{list_any}
-use Rattle.fs_view.specs.Kept.{has_number}
+use Rattle.fs_view.specs.ViewLease.{has_number}
 use Rattle.fs_client.specs.declared.state.Client.{Client}
 use Rattle.fs_client.proofs.at_reading.AtReading.has.Goals as goal
 

@@ -2,7 +2,7 @@ use Rattle.std.proofs.Common.{◌≡◌, sym, subst}
 use Rattle.std.specs.List.{filter}
 use Rattle.fs_field.specs.Table.{is_live}
 use Rattle.fs_rows.specs.Granted.{with_rows}
-use Rattle.fs_server.specs.Rows.{AreRows, both}
+use Rattle.fs_server.specs.Rows.{AreRows, in_one_list}
 use Rattle.fs_parcel.proofs.Both.{AreBoth, after, takes_off, takes_on, takes_all, taken, either_both, ok_both}
 use Rattle.fs_server.proofs.all_rows.AllRows.grant_all.Goals as goal
 
@@ -29,5 +29,5 @@ pub returns-clause-ok : goal.returns-clause-ok
 returns-clause-ok c =
     let live = is_live c.args.now c.args.skew in
     let rows : AreRows (after live c.args.rows c.self.inside.off c.self.inside.on) = subst (λ all. AreRows (with_rows c.args.rows (filter live all))) (sym c.self.view_is) c.requires in
-    let all : both (with_rows c.in_ok-parts.parts.off (filter live c.self.inside.off)) (with_rows c.in_ok-parts.parts.on (filter live c.self.inside.on)) ≡ after live c.args.rows c.self.inside.off c.self.inside.on = rw (c.in_ok-parts.ensures.off, c.in_ok-parts.ensures.on) (takes_all live c.args.rows c.self.inside.off c.self.inside.on c.self.invariant rows) in
+    let all : in_one_list (with_rows c.in_ok-parts.parts.off (filter live c.self.inside.off)) (with_rows c.in_ok-parts.parts.on (filter live c.self.inside.on)) ≡ after live c.args.rows c.self.inside.off c.self.inside.on = rw (c.in_ok-parts.ensures.off, c.in_ok-parts.ensures.on) (takes_all live c.args.rows c.self.inside.off c.self.inside.on c.self.invariant rows) in
     rw (← c.self.view_is) (ok_both c.grant_all.result _ _ c.grant_all.new.beside c.grant_all.new.self _ all c.grant_all.ensures.ok c.grant_all.ensures.ok_beside)

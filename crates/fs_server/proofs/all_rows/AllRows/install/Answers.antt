@@ -2,7 +2,7 @@ use Rattle.std.proofs.Common.{◌≡◌, true, sym, subst}
 use Rattle.std.specs.List.{filter}
 use Rattle.fs_field.specs.Table.{is_live}
 use Rattle.fs_parcel.specs.Parcel.{fits}
-use Rattle.fs_server.specs.Rows.{AreRows, both}
+use Rattle.fs_server.specs.Rows.{AreRows, in_one_list}
 use Rattle.fs_parcel.proofs.Both.{after, either_both, filtered_rows, ok_both, taken, takes_all}
 use Rattle.fs_parcel.proofs.Formed.{fitting}
 use Rattle.fs_parcel.proofs.Installed.{all_rows}
@@ -16,8 +16,8 @@ invariant_of-self c =
     let live = is_live c.args.now c.args.skew in
     let off = c.self.inside.off in
     let on = c.self.inside.on in
-    let fit : fits c.args.records.now (filter live (both off on)) c.args.map.now c.args.me c.args.p ≡ true = subst (λ rows. fits c.args.records.now (filter live rows) c.args.map.now c.args.me c.args.p ≡ true) (sym c.self.view_is) c.requires.fits in
-    let rows : AreRows (after live c.args.p.rows off on) = all_rows _ _ _ _ c.args.p (fitting c.args.records.now (filter live (both off on)) c.args.map.now c.args.me c.args.p fit) (filtered_rows live (both off on) c.self.invariant.1.1) in
+    let fit : fits c.args.records.now (filter live (in_one_list off on)) c.args.map.now c.args.me c.args.p ≡ true = subst (λ rows. fits c.args.records.now (filter live rows) c.args.map.now c.args.me c.args.p ≡ true) (sym c.self.view_is) c.requires.fits in
+    let rows : AreRows (after live c.args.p.rows off on) = all_rows _ _ _ _ c.args.p (fitting c.args.records.now (filter live (in_one_list off on)) c.args.map.now c.args.me c.args.p fit) (filtered_rows live (in_one_list off on) c.self.invariant.1.1) in
     either_both c.install_at.result off on _ _ c.install_at.new.rows c.install_at.new.modes c.self.invariant (taken live c.args.p.rows off on c.self.invariant rows) c.install_at.ensures.modes c.install_at.ensures.err_modes c.install_at.ensures.rows c.install_at.ensures.err_rows
 
 pub returns-clause-rows : goal.returns-clause-rows
@@ -25,6 +25,6 @@ returns-clause-rows c =
     let live = is_live c.args.now c.args.skew in
     let off = c.self.inside.off in
     let on = c.self.inside.on in
-    let fit : fits c.args.records.now (filter live (both off on)) c.args.map.now c.args.me c.args.p ≡ true = subst (λ rows. fits c.args.records.now (filter live rows) c.args.map.now c.args.me c.args.p ≡ true) (sym c.self.view_is) c.requires.fits in
-    let rows : AreRows (after live c.args.p.rows off on) = all_rows _ _ _ _ c.args.p (fitting c.args.records.now (filter live (both off on)) c.args.map.now c.args.me c.args.p fit) (filtered_rows live (both off on) c.self.invariant.1.1) in
+    let fit : fits c.args.records.now (filter live (in_one_list off on)) c.args.map.now c.args.me c.args.p ≡ true = subst (λ rows. fits c.args.records.now (filter live rows) c.args.map.now c.args.me c.args.p ≡ true) (sym c.self.view_is) c.requires.fits in
+    let rows : AreRows (after live c.args.p.rows off on) = all_rows _ _ _ _ c.args.p (fitting c.args.records.now (filter live (in_one_list off on)) c.args.map.now c.args.me c.args.p fit) (filtered_rows live (in_one_list off on) c.self.invariant.1.1) in
     rw (← c.self.view_is) (ok_both c.install_at.result _ _ c.install_at.new.rows c.install_at.new.modes _ (takes_all live c.args.p.rows off on c.self.invariant rows) c.install_at.ensures.modes c.install_at.ensures.rows)

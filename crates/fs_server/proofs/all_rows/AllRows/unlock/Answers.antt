@@ -1,15 +1,15 @@
 use Rattle.std.proofs.Common.{ap, sym, ◌∙◌, subst, map}
 use Rattle.fs_field.specs.Table.{unlocked_row}
 use Rattle.fs_field.proofs.Leases.{unlocked_same}
-use Rattle.fs_server.specs.Rows.{AreRows, both}
+use Rattle.fs_server.specs.Rows.{AreRows, in_one_list}
 use Rattle.fs_parcel.proofs.Both.{map_with_rows}
 use Rattle.fs_server.proofs.Kept.{leased_rows}
 use Rattle.fs_server.proofs.all_rows.AllRows.unlock.Goals as goal
 
 pub returns : goal.returns
 returns c = rw (← c.self.view_is)
-    (ap (λ rows. both rows c.unlock-2.new.self) c.unlock.ensures.rows
-    ∙ ap (both (map (unlocked_row c.args.txn) c.self.inside.off)) c.unlock-2.ensures.rows
+    (ap (λ rows. in_one_list rows c.unlock-2.new.self) c.unlock.ensures.rows
+    ∙ ap (in_one_list (map (unlocked_row c.args.txn) c.self.inside.off)) c.unlock-2.ensures.rows
     ∙ sym (map_with_rows (unlocked_row c.args.txn) (λ r. (unlocked_same c.args.txn r).number) c.self.inside.on c.self.inside.off))
 
 pub invariant_of-self : goal.invariant_of-self
@@ -17,6 +17,6 @@ invariant_of-self c = (
   c.unlock.ensures.valid,
   (
     c.unlock-2.ensures.valid,
-    subst AreRows (sym (returns c ∙ ap (map (unlocked_row c.args.txn)) (sym c.self.view_is))) (leased_rows (unlocked_row c.args.txn) (unlocked_same c.args.txn) (both c.self.inside.off c.self.inside.on) c.self.invariant.1.1),
+    subst AreRows (sym (returns c ∙ ap (map (unlocked_row c.args.txn)) (sym c.self.view_is))) (leased_rows (unlocked_row c.args.txn) (unlocked_same c.args.txn) (in_one_list c.self.inside.off c.self.inside.on) c.self.invariant.1.1),
   ),
 )

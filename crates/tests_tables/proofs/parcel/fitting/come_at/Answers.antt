@@ -2,7 +2,7 @@ use Rattle.std.proofs.Common.{ap, ap₂, sym, ◌∙◌, subst}
 use Rattle.fs_field.specs.Table.{is_live}
 use Rattle.fs_record.specs.Moving.{AreNumbersLeft}
 use Rattle.fs_parcel.specs.Parcel.{fits}
-use Rattle.fs_parcel.specs.Rows.{both}
+use Rattle.fs_parcel.specs.Rows.{in_one_list}
 use Rattle.fs_parcel.proofs.Both.{filtered_both}
 use Rattle.fs_parcel.proofs.Moved.{passed_both}
 use Rattle.tests_tables.proofs.parcel.fitting.come_at.Goals as goal
@@ -18,7 +18,7 @@ install_at-requires-clause-fits c =
     let s = c.args.s.now in
     ap (λ rows. fits s.records rows s.map s.me c.args.p)
     (sym (filtered_both (is_live c.args.now 10) s.rows s.modes (c.all.ensures.valid, (c.all-2.ensures.valid, c.requires)))
-    ∙ ap₂ both (sym c.live-off.ensures.rows) (sym c.live-on.ensures.rows))
+    ∙ ap₂ in_one_list (sym c.live-off.ensures.rows) (sym c.live-on.ensures.rows))
     ∙ sym c.in_ok-fits_at.ensures
     ∙ c.if-not-branch.false
 

@@ -6,7 +6,7 @@ ghost use Rattle.fs_msg.specs.declared.core_error.CoreError.TheVariants as error
 ghost use Rattle.fs_moderows.specs.Answer.{given_row};
 ghost use Rattle.fs_server.specs.Plan.{AreRows};
 ghost use Rattle.fs_server.specs.Asks.{grant_of, with_lease};
-ghost use Rattle.fs_server.specs.Lent.{IsLent, IsReady, numbered_grant, with_leases};
+ghost use Rattle.fs_server.specs.Grants.{IsLent, IsReady, numbered_grant, with_leases};
 ghost use Rattle.fs_server.specs.Server.{end_of};
 
 use crate::at_reading::AtReading;
@@ -17,7 +17,7 @@ use std::alloc::Global;
 
 /// The leases that a question got so far: their rows, and what the session is told of each.
 #[derive(Drop)]
-pub(crate) struct Lent {
+pub(crate) struct Grants {
     pub(crate) rows: List<Row>,
     pub(crate) grants: List<Grant>,
 }
@@ -30,7 +30,7 @@ pub(crate) fn lend(
     field: &Field,
     kind: LeaseKind,
     promise: Option<bool>,
-    lent: &mut Lent,
+    lent: &mut Grants,
 ) -> Result<(), CoreError>
     requires ready { IsReady at.now }
     requires so_far { IsLent by lent.old.rows at.now }
@@ -68,7 +68,7 @@ fn add(
     kind: LeaseKind,
     promise: Option<bool>,
     no: LeaseNo,
-    lent: &mut Lent,
+    lent: &mut Grants,
 ) -> Result<(), Memory>
     requires { IsReady at.now }
     ensures rows { OnOk result (lent.new.rows ≡

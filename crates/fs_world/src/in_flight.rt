@@ -1,27 +1,27 @@
 //! Messages on their way from a server to others.
 ghost use Rattle.std.specs.Prelude.{◌≡◌, ◌++◌, ◌∷◌, [], length, take, OnOk, OnErr};
-ghost use Rattle.fs_serial.specs.Cluster.{flying_from};
+ghost use Rattle.fs_serial.specs.Cluster.{in_flight_from};
 
 use fs_ident::{List, Memory, Peer, Twin};
 use fs_msg::Msg;
-use fs_serial::Flying;
+use fs_serial::InFlight;
 use std::alloc::Global;
 
 /// Those of these messages of the server that go to servers are on their way: all of them, or none where memory is wanting.
-pub(crate) fn push_flying(
+pub(crate) fn push_in_flight(
     alloc: Global,
     k: u8,
-    flying: &mut List<Flying>,
+    in_flight: &mut List<InFlight>,
     send: &[(Peer, Msg)],
 ) -> Result<(), Memory>
-    ensures ok { OnOk result (flying.new ≡ flying.old ++ flying_from k send.now) }
-    ensures err { OnErr result (flying.new ≡ flying.old) }
+    ensures ok { OnOk result (in_flight.new ≡ in_flight.old ++ in_flight_from k send.now) }
+    ensures err { OnErr result (in_flight.new ≡ in_flight.old) }
 {
-    let before = flying.len();
-    match push_each(alloc, k, flying, send) {
+    let before = in_flight.len();
+    match push_each(alloc, k, in_flight, send) {
         Ok(()) => Ok(()),
         Err(e) => {
-            flying.truncate(before);
+            in_flight.truncate(before);
             Err(e)
         }
     }
@@ -31,14 +31,14 @@ pub(crate) fn push_flying(
 fn push_each(
     alloc: Global,
     k: u8,
-    flying: &mut List<Flying>,
+    in_flight: &mut List<InFlight>,
     send: &[(Peer, Msg)],
 ) -> Result<(), Memory>
-    ensures ok { OnOk result (flying.new ≡ flying.old ++ flying_from k send.now) }
-    ensures front { take (length flying.old) flying.new ≡ flying.old }
+    ensures ok { OnOk result (in_flight.new ≡ in_flight.old ++ in_flight_from k send.now) }
+    ensures front { take (length in_flight.old) in_flight.new ≡ in_flight.old }
 {
     for sent in send {
-        push_one(alloc, k, flying, sent)?;
+        push_one(alloc, k, in_flight, sent)?;
     }
     Ok(())
 }
@@ -47,16 +47,16 @@ fn push_each(
 fn push_one(
     alloc: Global,
     k: u8,
-    flying: &mut List<Flying>,
+    in_flight: &mut List<InFlight>,
     sent: &(Peer, Msg),
 ) -> Result<(), Memory>
-    ensures ok { OnOk result (flying.new ≡ flying.old ++ flying_from k (sent.now ∷ [])) }
-    ensures err { OnErr result (flying.new ≡ flying.old) }
+    ensures ok { OnOk result (in_flight.new ≡ in_flight.old ++ in_flight_from k (sent.now ∷ [])) }
+    ensures err { OnErr result (in_flight.new ≡ in_flight.old) }
 {
     match sent {
         (Peer::Server(to), Msg::Peer(m)) => {
             let message = m.copy(alloc)?;
-            flying.push(Flying {
+            in_flight.push(InFlight {
                 from: k,
                 to: *to,
                 message,

@@ -3,7 +3,7 @@ use Rattle.std.proofs.lemmas.Bool.Decides.{nat_tests}
 use Rattle.fs_ident.specs.declared.actor.LeaseNo.{LeaseNo}
 use Rattle.fs_moderows.specs.Answer.{given_row}
 use Rattle.fs_server.proofs.Lending.{next_row, lent-append, lent_more}
-use Rattle.fs_server.specs.Lent.{IsLent, with_leases}
+use Rattle.fs_server.specs.Grants.{IsLent, with_leases}
 use Rattle.fs_server.specs.Server.{next_number, end_of}
 use Rattle.fs_server.proofs.lent.lend.Goals as goal
 

@@ -17,7 +17,7 @@ use Rattle.fs_msg.specs.declared.core_error.CoreError.TheVariants as error
 use Rattle.fs_record.specs.declared.error.FreshError.{FreshError}
 use Rattle.fs_record.specs.declared.error.FreshError.TheVariants as fresh
 use Rattle.fs_server.specs.declared.fresh.Got.{Got}
-use Rattle.fs_server.specs.declared.lent.Lent.{Lent}
+use Rattle.fs_server.specs.declared.grants.Grants.{Grants}
 use Rattle.fs_server.specs.declared.state.Server.{Server}
 use Rattle.fs_server.specs.declared.change.Change.TheVariants as change
 use Rattle.fs_server.specs.Asks.{Asking, answer_to}
@@ -59,7 +59,7 @@ end_without fresh.NoIds dir = Ok (end.NoIds dir)
 end_without fresh.Memory dir = Err error.Memory
 
 -- the server and the answer where these leases are given
-abbrev pub lent_by : Lent → End → Server → Asking
+abbrev pub lent_by : Grants → End → Server → Asking
 lent_by lent e s = record { server = with_leases lent.rows s; grants = lent.grants; fresh = None; end = e }
 
 -- the server and the answer where the question got this

@@ -1,7 +1,7 @@
 //! A lease that a client keeps.
 ghost use Rattle.std.specs.Prelude.{◌≡◌, ◌+◌, ◌<◌, ◌≤◌, true, IfOk};
 ghost use Rattle.std.specs.Option.{option_copied};
-ghost use Rattle.fs_view.specs.Kept.{entries_of, field_in, file_in, has_ended, is_better_than, is_enough, is_held, is_leaving, leaving, makes_known, number_of, pinned, recalled_as, renewed, seen_of, serves, takes_pin, unpinned, until_of, use_in};
+ghost use Rattle.fs_view.specs.ViewLease.{entries_of, field_in, file_in, has_ended, is_better_than, is_enough, is_held, is_leaving, leaving, makes_known, number_of, pinned, recalled_as, renewed, seen_of, serves, takes_pin, unpinned, until_of, use_in};
 
 use crate::seen::Seen;
 use fs_field::{Field, LeaseKind, Use, Value};
@@ -22,7 +22,7 @@ pub enum Standing {
 
 /// A lease that a client keeps.
 #[derive(Debug)]
-pub struct Kept {
+pub struct ViewLease {
     pub standing: Standing,
     /// What its field says, as far as the session's operations are known to be admitted.
     pub base: Value,
@@ -241,9 +241,9 @@ fn is_enough(had: LeaseKind, wanted: LeaseKind) -> bool
     }
 }
 
-impl Kept {
+impl ViewLease {
     /// Whether it is taken before the other one.
-    pub fn is_better_than(&self, other: &Kept) -> bool
+    pub fn is_better_than(&self, other: &ViewLease) -> bool
         ensures { result ≡ is_better_than self.now.standing other.now.standing }
     {
         let until = self.standing.until();
@@ -273,7 +273,7 @@ impl Kept {
     pub fn ended(self, now: u64)
         requires { has_ended now self.standing ≡ true }
     {
-        let Kept {
+        let ViewLease {
             standing,
             base: _,
             recalled: _,
@@ -286,7 +286,7 @@ impl Kept {
     pub fn released(self)
         requires { is_leaving self.standing ≡ true }
     {
-        let Kept {
+        let ViewLease {
             standing,
             base: _,
             recalled: _,
@@ -297,7 +297,7 @@ impl Kept {
 
     /// Spends it, with the whole core that has it.
     pub fn discard(self) {
-        let Kept {
+        let ViewLease {
             standing,
             base: _,
             recalled: _,
@@ -325,11 +325,11 @@ impl Twin for Standing {
     }
 }
 
-impl Twin for Kept {
-    fn copy(&self, alloc: Global) -> Result<Kept, Memory> {
+impl Twin for ViewLease {
+    fn copy(&self, alloc: Global) -> Result<ViewLease, Memory> {
         let values = copy_two(alloc, &self.base, &self.below)?;
         let ((base, below), standing) = both(values, self.standing.copy(alloc))?;
-        Ok(Kept {
+        Ok(ViewLease {
             standing,
             base,
             recalled: self.recalled,
@@ -338,6 +338,6 @@ impl Twin for Kept {
     }
 
     fn discard(self) {
-        Kept::discard(self)
+        ViewLease::discard(self)
     }
 }

@@ -14,9 +14,9 @@ use Rattle.fs_field.specs.Conflict.{is_exclusive}
 use Rattle.fs_field.specs.Field.{same_field, file_of}
 use Rattle.fs_field.specs.Table.{same_no, no_before, is_parent}
 use Rattle.fs_lease.specs.Lease.{Lease}
-use Rattle.fs_view.specs.declared.kept.Kept.{Kept}
-use Rattle.fs_view.specs.declared.kept.Standing.{Standing}
-use Rattle.fs_view.specs.declared.kept.Standing.TheVariants.{Held, Pinned, Leaving}
+use Rattle.fs_view.specs.declared.view_lease.ViewLease.{ViewLease}
+use Rattle.fs_view.specs.declared.view_lease.Standing.{Standing}
+use Rattle.fs_view.specs.declared.view_lease.Standing.TheVariants.{Held, Pinned, Leaving}
 use Rattle.fs_view.specs.declared.seen.Seen.{Seen}
 
 -- ## Reading
@@ -32,7 +32,7 @@ number_of (Held l) = l.no
 number_of (Pinned u) = u.lease.no
 number_of (Leaving l) = l.no
 
-abbrev pub has_number : LeaseNo → Kept → Bool
+abbrev pub has_number : LeaseNo → ViewLease → Bool
 has_number number k = same_no (number_of k.standing) number
 
 -- its end; one that goes back has none any more
@@ -56,7 +56,7 @@ entries_of (Pinned u) = u.entries
 entries_of (Leaving l) = 0
 
 -- the lease as others see it
-abbrev pub seen_of : Kept → Seen
+abbrev pub seen_of : ViewLease → Seen
 seen_of k = record { no = number_of k.standing; file = file_in k.standing; until = option_map (λ (l : Lease). l.until) (lease_of k.standing); entries = entries_of k.standing; recalled = k.recalled }
 
 -- ## What it serves for
@@ -79,7 +79,7 @@ serves now field kind (Leaving l) = false
 abbrev pub is_better_than : Standing → Standing → Bool
 is_better_than s other = nat_lt (until_of other) (until_of s) || ((until_of s == until_of other) && no_before (number_of s) (number_of other))
 
-abbrev pub is_better : Kept → Option Kept → Bool
+abbrev pub is_better : ViewLease → Option ViewLease → Bool
 is_better k None = true
 is_better k (Some other) = is_better_than k.standing other.standing
 
@@ -111,7 +111,7 @@ abbrev pub is_unused : ℕ → List (List Effect) → Standing → Bool
 is_unused now log s = serves now (Life (file_in s)) Exclusive s && not (is_pending (file_in s) log)
 
 -- it is on an unused file whose identifier was given for the directory
-abbrev pub offers : ℕ → List ℕ → List (List Effect) → Kept → Bool
+abbrev pub offers : ℕ → List ℕ → List (List Effect) → ViewLease → Bool
 offers now dir log k = is_parent dir k.below && is_unused now log k.standing
 
 -- ## Steps
@@ -140,7 +140,7 @@ has_ended now (Held l) = nat_le l.until now
 has_ended now s = false
 
 -- an entry uses the lease, or it goes back, or it is not over
-abbrev pub is_live : ℕ → Kept → Bool
+abbrev pub is_live : ℕ → ViewLease → Bool
 is_live now k = not (has_ended now k.standing)
 
 -- one entry more uses it

@@ -5,15 +5,15 @@ use std::alloc::Global;
 
 /// A message on its way from one server to another, by their numbers.
 #[derive(Debug, Drop)]
-pub struct Flying {
+pub struct InFlight {
     pub from: u8,
     pub to: u8,
     pub message: PeerMsg,
 }
 
-impl Twin for Flying {
-    fn copy(&self, alloc: Global) -> Result<Flying, Memory> {
-        Ok(Flying {
+impl Twin for InFlight {
+    fn copy(&self, alloc: Global) -> Result<InFlight, Memory> {
+        Ok(InFlight {
             from: self.from,
             to: self.to,
             message: self.message.copy(alloc)?,
