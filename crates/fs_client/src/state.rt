@@ -1,7 +1,7 @@
 //! The state of a client.
 use crate::exchange::Exchange;
 use crate::led::Led;
-use fs_ident::{FileId, List, Memory, Session, Twin, both, copy_three, copy_two};
+use fs_ident::{FileId, List, Memory, Session, Twin, copy_three, copy_two, zip_ok};
 use fs_map::FileMap;
 use fs_msg::Entry;
 use fs_view::View;
@@ -34,8 +34,8 @@ pub(crate) struct Client {
 impl Twin for Client {
     fn copy(&self, alloc: Global) -> Result<Client, Memory> {
         let parts = copy_three(alloc, &self.log, &self.exchange, &self.hints)?;
-        let (parts, others) = both(parts, copy_two(alloc, &self.led, &self.full))?;
-        let ((parts, others), view) = both((parts, others), self.view.copy(alloc))?;
+        let (parts, others) = zip_ok(parts, copy_two(alloc, &self.led, &self.full))?;
+        let ((parts, others), view) = zip_ok((parts, others), self.view.copy(alloc))?;
         let (log, exchange, hints) = parts;
         let (led, full) = others;
         Ok(Client {

@@ -1,7 +1,7 @@
 //! What an admitted operation does to fields.
 ghost use Rattle.std.specs.Prelude.{◌≡◌};
 
-use fs_ident::{FileId, Kind, Memory, Name, Session, Twin, both, copy_two};
+use fs_ident::{FileId, Kind, Memory, Name, Session, Twin, copy_two, zip_ok};
 use fs_modes::Modes;
 use std::alloc::Global;
 
@@ -76,11 +76,11 @@ impl Twin for Effect {
         let file = self.changed_file().copy(alloc)?;
         match self {
             Effect::SetChild { name, to, .. } => {
-                let (dir, (name, to)) = both(file, copy_two(alloc, name, to))?;
+                let (dir, (name, to)) = zip_ok(file, copy_two(alloc, name, to))?;
                 Ok(Effect::SetChild { dir, name, to })
             }
             Effect::SetParent { dir, name, .. } => {
-                let (file, (dir, name)) = both(file, copy_two(alloc, dir, name))?;
+                let (file, (dir, name)) = zip_ok(file, copy_two(alloc, dir, name))?;
                 Ok(Effect::SetParent { file, dir, name })
             }
             Effect::NewNode {
@@ -89,7 +89,7 @@ impl Twin for Effect {
                 name,
                 ..
             } => {
-                let (file, (dir, name)) = both(file, copy_two(alloc, dir, name))?;
+                let (file, (dir, name)) = zip_ok(file, copy_two(alloc, dir, name))?;
                 Ok(Effect::NewNode {
                     file,
                     kind: *kind,

@@ -2,7 +2,7 @@
 ghost use Rattle.std.specs.Prelude.{◌≡◌, ◌↔◌, IsTrue};
 ghost use Rattle.fs_field.specs.Field.{same_field, file_of, tells_no_mode};
 
-use fs_ident::{FileId, Memory, Name, Twin, both};
+use fs_ident::{FileId, Memory, Name, Twin, zip_ok};
 use fs_modes::Mode;
 use std::alloc::Global;
 
@@ -70,7 +70,7 @@ impl Twin for Field {
         match self {
             Field::Life(_) => Ok(Field::Life(file)),
             Field::Child(_, name) => {
-                let (dir, name) = both(file, name.copy(alloc))?;
+                let (dir, name) = zip_ok(file, name.copy(alloc))?;
                 Ok(Field::Child(dir, name))
             }
             Field::Names(_) => Ok(Field::Names(file)),

@@ -1,7 +1,7 @@
 //! What is asked of the namespace.
 ghost use Rattle.std.specs.Prelude.{◌≡◌};
 
-use fs_ident::{FileId, Kind, Memory, Name, Session, Twin, both, copy_three, copy_two};
+use fs_ident::{FileId, Kind, Memory, Name, Session, Twin, copy_three, copy_two, zip_ok};
 use fs_modes::Modes;
 use std::alloc::Global;
 
@@ -100,14 +100,14 @@ impl Twin for Op {
         let file = self.home().copy(alloc)?;
         match self {
             Op::Lookup { name, .. } => {
-                let (dir, name) = both(file, name.copy(alloc))?;
+                let (dir, name) = zip_ok(file, name.copy(alloc))?;
                 Ok(Op::Lookup { dir, name })
             }
             Op::List { .. } => Ok(Op::List { dir: file }),
             Op::Kind { .. } => Ok(Op::Kind { file }),
             Op::Info { .. } => Ok(Op::Info { file }),
             Op::Create { name, kind, id, .. } => {
-                let (dir, (name, id)) = both(file, copy_two(alloc, name, id))?;
+                let (dir, (name, id)) = zip_ok(file, copy_two(alloc, name, id))?;
                 Ok(Op::Create {
                     dir,
                     name,
@@ -128,7 +128,7 @@ impl Twin for Op {
                 stamp: *stamp,
             }),
             Op::Delete { name, .. } => {
-                let (dir, name) = both(file, name.copy(alloc))?;
+                let (dir, name) = zip_ok(file, name.copy(alloc))?;
                 Ok(Op::Delete { dir, name })
             }
             Op::Rename {
@@ -137,7 +137,7 @@ impl Twin for Op {
                 dname,
                 ..
             } => {
-                let (ddir, (sdir, sname, dname)) = both(
+                let (ddir, (sdir, sname, dname)) = zip_ok(
                     file,
                     copy_three(alloc, sdir, sname, dname),
                 )?;

@@ -14,7 +14,7 @@ use crate::lookups::node_at;
 use crate::node::Node;
 use crate::reply::Reply;
 use crate::ways::Ways;
-use fs_ident::{FileId, Kind, Memory, Name, Twin, both, copy_two};
+use fs_ident::{FileId, Kind, Memory, Name, Twin, copy_two, zip_ok};
 use std::alloc::Global;
 use std::collections::BTreeMap;
 
@@ -101,8 +101,8 @@ fn move_node(
     ensures ways { AreTrue (map_of nodes.new) ways.new }
 {
     let place = copy_two(alloc, ddir, dname)?;
-    let (place, (child, child_name)) = both(place, copy_two(alloc, file, dname))?;
-    let ((dir, name), _) = both(place, changes::link(nodes, ddir, child_name, child))?;
+    let (place, (child, child_name)) = zip_ok(place, copy_two(alloc, file, dname))?;
+    let ((dir, name), _) = zip_ok(place, changes::link(nodes, ddir, child_name, child))?;
     changes::unlink(nodes, sdir, sname);
     changes::reparent(nodes, file, dir, name);
     ways.forget(file);

@@ -4,7 +4,7 @@ ghost use Rattle.fs_field.specs.declared.effect.Effect.TheVariants.{SetChild, Se
 ghost use Rattle.fs_record.specs.LedEffects.{led_effects, move_effects, removal_effects};
 
 use fs_field::Effect;
-use fs_ident::{FileId, List, Memory, Name, Twin, both, copy_two};
+use fs_ident::{FileId, List, Memory, Name, Twin, copy_two, zip_ok};
 use fs_model::{Op, Reply};
 use std::alloc::Global;
 
@@ -69,7 +69,7 @@ fn named(alloc: Global, dir: &FileId, name: &Name, file: &FileId) -> Result<Effe
     ensures { IfOk result (λ e. e ≡ SetChild dir.now name.now (Some file.now)) }
 {
     let to = file.copy(alloc)?;
-    let (to, (dir, name)) = both(to, copy_two(alloc, dir, name))?;
+    let (to, (dir, name)) = zip_ok(to, copy_two(alloc, dir, name))?;
     Ok(Effect::SetChild {
         dir,
         name,
@@ -94,6 +94,6 @@ fn placed(alloc: Global, file: &FileId, dir: &FileId, name: &Name) -> Result<Eff
     ensures { IfOk result (λ e. e ≡ SetParent file.now dir.now name.now) }
 {
     let file = file.copy(alloc)?;
-    let (file, (dir, name)) = both(file, copy_two(alloc, dir, name))?;
+    let (file, (dir, name)) = zip_ok(file, copy_two(alloc, dir, name))?;
     Ok(Effect::SetParent { file, dir, name })
 }

@@ -4,7 +4,7 @@ ghost use Rattle.fs_ident.specs.Name.{IsName};
 ghost use Rattle.fs_schedule.specs.Made.{creates_dir, drawn_op, file_name, moves_dir, numbered_name, op_of, state_behind};
 
 use crate::draws::{Draws, drawn, stirred};
-use fs_ident::{FileId, IdError, Kind, Memory, Name, both};
+use fs_ident::{FileId, IdError, Kind, Memory, Name, zip_ok};
 use fs_model::Op;
 use fs_modes::Modes;
 use std::alloc::Global;
@@ -127,7 +127,7 @@ fn rename(alloc: Global, dir: u32, file: u32, to: u32) -> Result<Op, Memory>
     requires to { 1 ≤ to }
     ensures { IfOk result (λ o. o ≡ op_of 6 dir file to) }
 {
-    let (source, target) = both(place(alloc, dir, file)?, place(alloc, to, file))?;
+    let (source, target) = zip_ok(place(alloc, dir, file)?, place(alloc, to, file))?;
     Ok(Op::Rename {
         sdir: source.0,
         sname: source.1,
@@ -162,8 +162,8 @@ pub(crate) fn create_dir(alloc: Global, k: u8) -> Result<Op, Memory>
 pub(crate) fn move_dir(alloc: Global) -> Result<Op, Memory>
     ensures { IfOk result (λ o. o ≡ moves_dir) }
 {
-    let names = both(name_of(alloc, b'd', 1)?, name_of(alloc, b'd', 1))?;
-    let (names, ddir) = both(names, dir_id(alloc, 2))?;
+    let names = zip_ok(name_of(alloc, b'd', 1)?, name_of(alloc, b'd', 1))?;
+    let (names, ddir) = zip_ok(names, dir_id(alloc, 2))?;
     Ok(Op::Rename {
         sdir: FileId::root(alloc),
         sname: names.0,
@@ -178,7 +178,7 @@ fn place(alloc: Global, dir: u32, file: u32) -> Result<(FileId, Name), Memory>
     requires few { file ≤ 5 }
     ensures { IfOk result (λ p. (p.0 ≡ dir ∷ []) × (p.1 ≡ file_name file)) }
 {
-    both(dir_id(alloc, dir)?, name_of(alloc, b'f', file as u8))
+    zip_ok(dir_id(alloc, dir)?, name_of(alloc, b'f', file as u8))
 }
 
 /// The directory of a number.

@@ -4,7 +4,7 @@ ghost use Rattle.fs_map.specs.Map.{IsMap};
 ghost use Rattle.fs_record.specs.Records.{AreRecords};
 
 use crate::all_rows::AllRows;
-use fs_ident::{List, Memory, Twin, both, copy_three};
+use fs_ident::{List, Memory, Twin, copy_three, zip_ok};
 use fs_map::FileMap;
 use fs_record::Records;
 use fs_txn::Ready;
@@ -62,7 +62,7 @@ impl Server {
 impl Twin for Server {
     fn copy(&self, alloc: Global) -> Result<Server, Memory> {
         let tables = copy_three(alloc, &self.rows, &self.records, &self.map)?;
-        let ((rows, records, map), prepared) = both(tables, self.prepared.copy(alloc))?;
+        let ((rows, records, map), prepared) = zip_ok(tables, self.prepared.copy(alloc))?;
         Ok(Server {
             me: self.me,
             skew: self.skew,

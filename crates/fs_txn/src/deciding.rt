@@ -10,7 +10,7 @@ use crate::leader::Leader;
 use crate::mode::Mode2;
 use crate::parting::has_file;
 use fs_field::{Effect, Part, PathAnswer, Vote};
-use fs_ident::{FileId, List, Memory, Twin, add_copy, both};
+use fs_ident::{FileId, List, Memory, Twin, add_copy, zip_ok};
 use fs_model::{Op, Reply};
 use fs_record::{LedEnd, Why, led_effects};
 use std::alloc::Global;

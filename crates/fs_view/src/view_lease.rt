@@ -5,7 +5,7 @@ ghost use Rattle.fs_view.specs.ViewLease.{entries_of, field_in, file_in, has_end
 
 use crate::seen::Seen;
 use fs_field::{Field, LeaseKind, Use, Value};
-use fs_ident::{FileId, LeaseNo, Memory, Twin, both, copy_two};
+use fs_ident::{FileId, LeaseNo, Memory, Twin, copy_two, zip_ok};
 use fs_lease::{Held, Leaving, Pinned, Unpinned};
 use std::alloc::Global;
 
@@ -328,7 +328,7 @@ impl Twin for Standing {
 impl Twin for ViewLease {
     fn copy(&self, alloc: Global) -> Result<ViewLease, Memory> {
         let values = copy_two(alloc, &self.base, &self.below)?;
-        let ((base, below), standing) = both(values, self.standing.copy(alloc))?;
+        let ((base, below), standing) = zip_ok(values, self.standing.copy(alloc))?;
         Ok(ViewLease {
             standing,
             base,

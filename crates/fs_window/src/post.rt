@@ -12,7 +12,7 @@ use crate::packet::Packet;
 use crate::peers::search_by_peer;
 use crate::sent::Sent;
 use crate::touched::{Touched, mark_touched, nothing_touched, touch};
-use crate::undo::{Undo, accept_step, note, push_step, restore_all};
+use crate::undo::{Undo, accept_step, push_step, record_step, restore_all};
 use fs_ident::{List, Memory, Peer, Twin};
 use std::alloc::Global;
 use std::marker::Model;
@@ -132,7 +132,7 @@ impl Post {
     {
         touch(self.links.as_slice(), to, &mut self.touched);
         let step = push_step(alloc, &mut self.links, self.width, to, message)?;
-        note(&mut self.links, step, undo)?;
+        record_step(&mut self.links, step, undo)?;
         Ok(())
     }
 
@@ -152,7 +152,7 @@ impl Post {
     {
         touch(self.links.as_slice(), from, &mut self.touched);
         let (heard, step) = accept_step(alloc, &mut self.links, self.width, from, p)?;
-        note(&mut self.links, step, undo)?;
+        record_step(&mut self.links, step, undo)?;
         Ok(heard)
     }
 

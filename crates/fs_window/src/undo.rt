@@ -176,7 +176,7 @@ fn accept_at(
 }
 
 /// Keeps how to undo the step, or undoes it where memory is wanting.
-pub(crate) fn note(
+pub(crate) fn record_step(
     links: &mut List<(Peer, Link)>,
     step: Step,
     undo: &mut Undo,

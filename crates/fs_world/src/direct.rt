@@ -5,7 +5,7 @@ ghost use Rattle.std.specs.FinMap as map;
 use crate::counts::Counts;
 use crate::goes::outcome;
 use crate::numbers::Numbers;
-use fs_ident::{List, Memory, Peer, Session, Twin, both, copy_two};
+use fs_ident::{List, Memory, Peer, Session, Twin, copy_two, zip_ok};
 use fs_model::{Op, Space};
 use fs_msg::{CoreError, Counter, Item, Note};
 use fs_schedule::{Outcome, What};
@@ -116,7 +116,7 @@ impl Twin for Direct {
     fn copy(&self, alloc: Global) -> Result<Direct, Memory> {
         let state = copy_two(alloc, &self.space, &self.next)?;
         let said = copy_two(alloc, &self.asked, &self.journal);
-        let ((space, next), (asked, journal)) = both(state, said)?;
+        let ((space, next), (asked, journal)) = zip_ok(state, said)?;
         Ok(Direct {
             space,
             next,

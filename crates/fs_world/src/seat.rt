@@ -5,7 +5,7 @@ ghost use Rattle.fs_world.specs.Served.{first_seat};
 
 use crate::term::Term;
 use fs_client::ClientCore;
-use fs_ident::{List, Memory, Peer, Session, Twin, both, copy_three};
+use fs_ident::{List, Memory, Peer, Session, Twin, copy_three, zip_ok};
 use fs_msg::{Answer, ClientMsg};
 use fs_window::{LINK_WIDTH, Post};
 use std::alloc::Global;
@@ -41,7 +41,7 @@ impl Seat {
 impl Twin for Seat {
     fn copy(&self, alloc: Global) -> Result<Seat, Memory> {
         let links = copy_three(alloc, &self.post, &self.up, &self.down)?;
-        let ((post, up, down), client) = both(links, self.client.copy(alloc))?;
+        let ((post, up, down), client) = zip_ok(links, self.client.copy(alloc))?;
         Ok(Seat {
             client,
             post,

@@ -20,7 +20,7 @@ use crate::seats::Seats;
 use crate::servers::core_step;
 use crate::term::Term;
 use fs_field::Field;
-use fs_ident::{FileId, List, Memory, Peer, Session, Twin, both, copy_three};
+use fs_ident::{FileId, List, Memory, Peer, Session, Twin, copy_three, zip_ok};
 use fs_model::Op;
 use fs_msg::{CoreError, Item, Note};
 use fs_schedule::{Outcome, What};
@@ -246,8 +246,8 @@ impl Twin for Served {
     fn copy(&self, alloc: Global) -> Result<Served, Memory> {
         let actors = copy_three(alloc, &self.servers, &self.posts, &self.term)?;
         let said = copy_three(alloc, &self.in_flight, &self.journal, &self.packets);
-        let parts = both(actors, said)?;
-        let (((servers, posts, term), (in_flight, journal, packets)), seats) = both(
+        let parts = zip_ok(actors, said)?;
+        let (((servers, posts, term), (in_flight, journal, packets)), seats) = zip_ok(
             parts,
             self.seats.copy(alloc),
         )?;
