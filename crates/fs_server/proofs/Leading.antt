@@ -163,7 +163,7 @@ few_more s txn h = by (nat_lt s.txns 0xffff_ffff_ffff_ffff) refl h
     by false t e = absurd (cc)
 
 -- a transaction leads to a server with its rows in order
-pub led_ready : (s : Server) (txn : TxnNo) (effects removals : List Effect) → next_txn s.me s.txns ≡ Some txn → IsReady s → IsReady (changed (change.Lead effects removals) s)
+pub led_ready : (s : Server) (txn : TxnNo) (effects removals : List Effect) → next_txn s.me s.txns ≡ Some txn → IsReady s → IsReady (changed (change.LeadAlone effects removals) s)
 led_ready s txn effects removals h r = record {
   server = record {
     few = r.server.few;
@@ -174,6 +174,7 @@ led_ready s txn effects removals h r = record {
     reaps = r.server.reaps;
     txns = few_more s txn h;
     numbers = r.server.numbers;
+    whole = r.server.whole;
   };
   table = r.table;
 }
@@ -190,13 +191,13 @@ told_done by txn m = record {
 }
 
 pub committed_so : (by : Session) (m : Lead) (s : Server) (txn : TxnNo) (d : Decided) → next_txn s.me s.txns ≡ Some txn
-    → d.change ≡ change.Lead (filter is_undoable (effects_in m)) (filter takes_away (effects_in m)) → d.out ≡ told_done by txn m → stepped_by d s ≡ commits by m s
+    → d.change ≡ change.LeadAlone (filter is_undoable (effects_in m)) (filter takes_away (effects_in m)) → d.out ≡ told_done by txn m → stepped_by d s ≡ commits by m s
 committed_so by m s txn d h ch out =
     ap₂ (λ (c : Change) (o : ServerOut). let x : Stepped = record { server = changed c s; out = o } in x) ch (out ∙ ap (λ t. told_done by t m) (is_next s txn h))
     ∙ ap (λ (records : RecordMap). let x : Stepped = record { server = record s { txns = s.txns + 1; records = records }; out = (commits by m s).out } in x) (removals_last s.records m.op m.file)
 
 pub led_can : (s : Server) (txn : TxnNo) (d : Decided) (effects removals : List Effect) → next_txn s.me s.txns ≡ Some txn → IsReady s → list_all is_undoable effects ≡ true → list_all takes_away removals ≡ true
-    → d.change ≡ change.Lead effects removals → CanDecide d s
+    → d.change ≡ change.LeadAlone effects removals → CanDecide d s
 led_can s txn d effects removals h r u a ch = record {
   change = subst (λ c. CanChange c s) (sym ch) (u, a);
   ready = subst (λ c. IsReady (changed c s)) (sym ch) (led_ready s txn effects removals h r);

@@ -71,6 +71,7 @@ lent_more by field kind promise rows s l fits t = record {
       reaps = l.ready.server.reaps;
       txns = l.ready.server.txns;
       numbers = given_next s.me (s.given + length rows) (next_row by field kind promise rows s) (with_rows rows s.rows) refl l.ready.server.numbers;
+      whole = l.ready.server.whole;
     };
     table = t;
   });

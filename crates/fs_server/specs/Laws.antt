@@ -20,17 +20,14 @@ use Rattle.fs_msg.specs.declared.end.End.{End}
 use Rattle.fs_msg.specs.declared.end.End.TheVariants as end
 use Rattle.fs_msg.specs.declared.item.Item.{Item}
 use Rattle.fs_msg.specs.declared.lead.Lead.{Lead}
-use Rattle.fs_msg.specs.declared.server_note.ServerNote.{ServerNote}
-use Rattle.fs_msg.specs.declared.server_note.ServerNote.TheVariants as note
 use Rattle.fs_record.specs.Applied.{records_after_all}
-use Rattle.fs_record.specs.declared.led_end.LedEnd.{LedEnd}
-use Rattle.fs_record.specs.declared.led_end.LedEnd.TheVariants as led
 use Rattle.fs_txn.specs.Preparing.{vote_on}
 use Rattle.fs_txn.specs.declared.decision.Decision.{Decision}
 use Rattle.fs_txn.specs.declared.decision.Decision.TheVariants.{Commit, Abort}
 use Rattle.fs_txn.specs.declared.leader.Leader.{Leader}
 use Rattle.fs_txn.specs.declared.mode.Mode2.TheVariants.{Plain}
 use Rattle.fs_server.specs.Asks.{Asking, answer_to, kind_for}
+use Rattle.fs_server.specs.Concludes.{end_note, end_of_decision}
 use Rattle.fs_server.specs.Leads.{parts_in, txn_of}
 use Rattle.fs_server.specs.Rows.{rows_off_modes, rows_on_modes}
 use Rattle.fs_server.specs.Server.{Stepped, is_mine, moved, to_session}
@@ -90,16 +87,6 @@ leader_of by m s = record {
   mode = Plain;
   votes = map (λ (p : Part). Some (vote_on (rows_off_modes s.rows) (rows_on_modes s.rows) s.map s.me s.last by p None)) (parts_in m);
 }
-
--- how it is noted that a transaction ended in this way
-abbrev pub end_note : TxnNo → LedEnd → ServerNote
-end_note txn (led.Done r) = note.Commits txn r
-end_note txn (led.Ended lease until now) = note.AbortsEnded txn lease until now
-end_note txn (led.Again w) = note.Aborts txn w
-
-abbrev pub end_of_decision : Decision → LedEnd
-end_of_decision (Commit r effects) = led.Done r
-end_of_decision (Abort e) = e
 
 -- the effects of all parts, in their order
 abbrev pub all_effects : Decision → List Effect

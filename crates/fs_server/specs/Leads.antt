@@ -24,8 +24,7 @@ use Rattle.fs_record.specs.declared.led_end.LedEnd.TheVariants as end
 use Rattle.fs_record.specs.declared.led_end.Why.{Why}
 use Rattle.fs_record.specs.declared.led_end.Why.TheVariants as why
 pub use Rattle.fs_txn.specs.Deciding.{reply_of}
-use Rattle.fs_txn.specs.Parts.{parts_of}
-use Rattle.fs_txn.specs.declared.mode.Mode2.TheVariants.{Plain}
+pub use Rattle.fs_server.specs.Begins.{parts_in, txn_of}
 use Rattle.fs_server.specs.Server.{Stepped, is_mine, strange, to_session}
 use Rattle.fs_server.specs.Ships.{first_gone}
 use Rattle.fs_server.specs.declared.state.Server.{Server}
@@ -37,10 +36,6 @@ is_led (op.Rename sdir sname ddir dname) = true
 is_led o = false
 
 -- ## What it asks of whom
-
--- its parts, each with the leases on its file
-abbrev pub parts_in : Lead → List Part
-parts_in m = parts_of m.op m.file m.uses Plain
 
 -- the leases of the parts, in their order
 abbrev pub uses_of : List Part → List Use
@@ -87,10 +82,6 @@ refuses by w s = record {
 }
 
 -- ## What comes of it
-
--- the number of the next transaction
-abbrev pub txn_of : Server → TxnNo
-txn_of s = record { server = s.me; count = s.txns + 1 }
 
 -- the row of this lease is gone: the transaction is over, and nothing is admitted
 abbrev pub aborts : Session → Use → Server → Stepped

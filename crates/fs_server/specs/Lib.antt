@@ -3,6 +3,9 @@ pub mod Rows
 pub mod Asks
 pub mod Pairs
 pub mod Follows
+pub mod Concludes
+pub mod Counts
+pub mod Begins
 pub mod Moves
 pub mod Reaps
 pub mod Ships
@@ -10,8 +13,10 @@ pub mod Leads
 pub mod Step
 pub mod Plan
 pub mod Laws
+pub mod LeadingLaws
 -- cited by private calls alone
 pub mod Grants
 pub mod Lost
 pub mod Shipped
 pub mod Decided
+pub mod Gathered

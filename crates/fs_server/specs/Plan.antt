@@ -1,5 +1,5 @@
 -- What an event changes, once it is read what it comes to.
-use Rattle.std.specs.Prelude.{◌≡◌, ℕ, ◌+◌, ◌<◌, ◌≤◌, ◌^◌, true, List, length, Option, Some, None, IfSome}
+use Rattle.std.specs.Prelude.{◌≡◌, ℕ, ◌+◌, ◌<◌, ◌≤◌, ◌^◌, true, List, length, Option, Some, None, IfSome, if◌then◌else◌}
 use Rattle.std.specs.List.{list_all}
 use Rattle.std.specs.FinMap.{get}
 use Rattle.fs_ident.specs.declared.limits.TheConstants.{LATEST}
@@ -15,11 +15,19 @@ use Rattle.fs_parcel.specs.Parcel.{fits}
 use Rattle.fs_record.specs.Moving.{AreNumbersLeft, records_given, records_left}
 use Rattle.fs_record.specs.Records.{RecordMap, next_of}
 use Rattle.fs_server.specs.declared.change.Change.{Change}
-use Rattle.fs_server.specs.declared.change.Change.TheVariants.{Nothing, Grant, Renew, Free, Admit, Reap, Lead, Prepare, Decide, Leave, Install}
+use Rattle.fs_server.specs.declared.change.Change.TheVariants.{Nothing, Grant, Renew, Free, Admit, Reap, LeadAlone, Lead, Done, Prepare, Decide, Leave, Install}
+use Rattle.fs_server.specs.declared.change.Then.{Then}
+use Rattle.fs_server.specs.declared.change.Then.TheVariants.{Waits, Ends}
 use Rattle.fs_server.specs.declared.plan.Plan.{Plan}
 use Rattle.fs_server.specs.declared.state.Server.{Server}
 use Rattle.fs_server.specs.Server.{begun}
+use Rattle.fs_ident.specs.declared.actor.TxnNo.{TxnNo}
+use Rattle.fs_txn.specs.Leading.{AreWhole, ending_of, with_ending, with_leading, without_done, without_leading}
+use Rattle.fs_txn.specs.Locks.{rows_unlocked}
+use Rattle.fs_txn.specs.Preparing.{rows_locked}
 use Rattle.fs_txn.specs.Ready.{rows_left_by, without_prepared}
+use Rattle.fs_txn.specs.declared.leading.Ending.{Ending}
+use Rattle.fs_server.specs.Counts.{done_with}
 use Rattle.fs_server.specs.Follows.{with_part}
 use Rattle.fs_server.specs.Moves.{installed}
 use Rattle.fs_server.specs.Pairs.{renewed_rows, released_rows}
@@ -32,6 +40,20 @@ abbrev pub after_gift : Option (List ℕ × ℕ) → RecordMap → RecordMap
 after_gift None m = m
 after_gift (Some g) m = records_after_gift m g.0 (Some g.1)
 
+-- what becomes of a transaction that goes on
+abbrev pub changed_then : Then → TxnNo → Server → Server
+changed_then (Waits l) txn s = record s { leading = with_leading l s.leading }
+changed_then (Ends effects removals x keeps) txn s = record s {
+  records = records_after_all (records_after_all s.records effects) removals;
+  rows = if keeps then s.rows else rows_unlocked txn s.rows;
+  leading = without_leading txn s.leading;
+  ending = with_ending x s.ending;
+}
+
+abbrev pub done_change : Option Ending → ℕ → Server → Server
+done_change None number s = s
+done_change (Some x) number s = (done_with (without_done number x) (without_done number x).awaits s).server
+
 abbrev pub changed : Change → Server → Server
 changed Nothing s = s
 changed (Grant rows gift) s = record s { given = s.given + length rows; rows = with_rows rows s.rows; records = after_gift gift s.records }
@@ -39,7 +61,10 @@ changed (Renew until numbers) s = record s { rows = renewed_rows until numbers s
 changed (Free numbers) s = record s { rows = released_rows numbers s.rows }
 changed (Admit effects) s = record s { records = records_after_all s.records effects }
 changed (Reap count effects) s = record s { reaps = s.reaps + count; records = records_after_all s.records effects }
-changed (Lead effects removals) s = record s { txns = s.txns + 1; records = records_after_all (records_after_all s.records effects) removals }
+changed (LeadAlone effects removals) s = record s { txns = s.txns + 1; records = records_after_all (records_after_all s.records effects) removals }
+changed (Lead begins txn uses rest) s =
+    changed_then rest txn (record s { txns = if begins then s.txns + 1 else s.txns; rows = rows_locked txn uses s.rows })
+changed (Done txn number) s = done_change (ending_of txn s.ending) number s
 changed (Prepare x) s = with_part x s
 changed (Decide txn number effects removals) s = record s {
   records = records_after_all (records_after_all s.records effects) removals;
@@ -59,7 +84,7 @@ committed p s = changed p.change (begun p.now s)
 
 -- ## What every server is
 
--- its readings and terms are in their ranges, and each row of its own has a number that it gave
+-- its readings and terms are in their ranges, each row of its own has a number that it gave, and what it leads has all parts
 pub record IsServer (s : Server) : Type 0 where
   pub few : s.me < SERVERS
   pub skew : s.skew ≤ LONGEST
@@ -69,6 +94,7 @@ pub record IsServer (s : Server) : Type 0 where
   pub reaps : s.reaps < 2 ^ 64
   pub txns : s.txns < 2 ^ 64
   pub numbers : AreGiven s.me s.given s.rows
+  pub whole : AreWhole s.leading
 
 -- ## Which plans can be committed
 
@@ -76,13 +102,19 @@ pub record IsServer (s : Server) : Type 0 where
 abbrev pub IsNewGift : Option (List ℕ × ℕ) → RecordMap → Type 0
 IsNewGift gift m = IfSome gift (λ g. next_of (get m g.0) ≤ g.1)
 
+-- the effects of a transaction that ends can be taken back where memory runs out, but for removals, which come behind them and want none
+abbrev pub CanEnd : Then → Type 0
+CanEnd (Waits l) = Unit {0}
+CanEnd (Ends effects removals x keeps) = (list_all is_undoable effects ≡ true) × (list_all takes_away removals ≡ true)
+
 -- a number is given for the first time; the effects of a log can be taken back where memory runs out, and those of a led operation and of a
 -- decision but for removals, which come behind them and want none; what goes is a piece, and the records are those that it gives; a parcel fits
 abbrev pub CanChange : Change → Server → Type 0
 CanChange (Grant rows gift) s = IsNewGift gift s.records
 CanChange (Admit effects) s = list_all is_undoable effects ≡ true
 CanChange (Reap count effects) s = list_all is_undoable effects ≡ true
-CanChange (Lead effects removals) s = (list_all is_undoable effects ≡ true) × (list_all takes_away removals ≡ true)
+CanChange (LeadAlone effects removals) s = (list_all is_undoable effects ≡ true) × (list_all takes_away removals ≡ true)
+CanChange (Lead begins txn uses rest) s = CanEnd rest
 CanChange (Decide txn number effects removals) s = (list_all is_undoable effects ≡ true) × (list_all takes_away removals ≡ true)
 CanChange (Leave to piece moved) s = IsPiece piece.prefix piece.given × (moved ≡ records_given piece.prefix piece.given s.records)
 CanChange (Install p) s = (fits s.records s.rows s.map s.me p ≡ true) × AreNumbersLeft p.records

@@ -36,6 +36,8 @@ first_server me skew term = record {
   records = first_records (me == 0);
   map = first_map;
   prepared = [];
+  leading = [];
+  ending = [];
 }
 
 -- the reading of the event is the greatest so far, and the rows that are over at it are dropped

@@ -11,7 +11,7 @@ use fs_ident::{FileId, Memory, Twin};
 use fs_map::FileMap;
 use fs_msg::End;
 use fs_record::Records;
-use fs_txn::Ready;
+use fs_txn::{Ending, Leading, Ready};
 use std::alloc::Global;
 use std::marker::Model;
 
@@ -118,6 +118,20 @@ impl<'a> AtReading<'a> {
         ensures { result.now ≡ self.now.prepared }
     {
         self.server.prepared.as_slice()
+    }
+
+    /// The transactions that it leads, of which votes are awaited.
+    pub(crate) fn leading(&self) -> &[Leading]
+        ensures { result.now ≡ self.now.leading }
+    {
+        self.server.leading.as_slice()
+    }
+
+    /// The transactions that it led, of which other servers have to tell that all is done.
+    pub(crate) fn ending(&self) -> &[Ending]
+        ensures { result.now ≡ self.now.ending }
+    {
+        self.server.ending.as_slice()
     }
 
     /// Whether the server manages the identifier.

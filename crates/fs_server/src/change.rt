@@ -1,9 +1,9 @@
 //! What an event changes.
-use fs_field::{Effect, Row};
-use fs_ident::{FileId, LeaseNo, List, Memory, Twin, TxnNo, copy_two};
+use fs_field::{Effect, Row, Use};
+use fs_ident::{FileId, LeaseNo, List, Memory, Twin, TxnNo, copy_three, copy_two};
 use fs_map::MapPiece;
 use fs_record::{Parcel, Record};
-use fs_txn::Ready;
+use fs_txn::{Ending, Leading, Ready};
 use std::alloc::Global;
 
 /// What an event changes, beside the rows that are over.
@@ -33,16 +33,28 @@ pub(crate) enum Change {
         count: u64,
         effects: List<Effect>,
     },
-    /// A transaction, and its effects: those of `removals` take a file or a name away, and come behind the others.
-    Lead {
+    /// A transaction all of whose parts are here, and its effects: they are as those of `Decide`.
+    LeadAlone {
         effects: List<Effect>,
         removals: List<Effect>,
+    },
+    /// A transaction of its own goes on; `begins`: it is a new one. It keeps the rows of these leases, those of parts that said Yes here just now.
+    Lead {
+        begins: bool,
+        txn: TxnNo,
+        uses: List<Use>,
+        then: Then,
+    },
+    /// The part of this number, of a transaction of its own, is done.
+    Done {
+        txn: TxnNo,
+        number: u8,
     },
     /// The part waits for its decision, and its rows are locked.
     Prepare {
         ready: Ready,
     },
-    /// The part of this number waits no more; its effects are as those of `Lead`.
+    /// The part of this number waits no more. Of its effects those of `removals` take a file or a name away, and come behind the others.
     Decide {
         txn: TxnNo,
         number: u8,
@@ -58,6 +70,22 @@ pub(crate) enum Change {
     /// What another server hands over is put in its place.
     Install {
         parcel: Parcel,
+    },
+}
+
+/// What becomes of a transaction that goes on.
+#[derive(Drop)]
+pub(crate) enum Then {
+    /// Votes are awaited.
+    Waits {
+        leading: Leading,
+    },
+    /// It is decided: these effects are applied, and its rows are unlocked unless it keeps them. The effects are as those of `Decide`.
+    Ends {
+        effects: List<Effect>,
+        removals: List<Effect>,
+        ending: Ending,
+        keeps: bool,
     },
 }
 
@@ -83,10 +111,28 @@ impl Twin for Change {
                 count: *count,
                 effects: effects.copy(alloc)?,
             }),
-            Change::Lead { effects, removals } => {
+            Change::LeadAlone { effects, removals } => {
                 let (effects, removals) = copy_two(alloc, effects, removals)?;
-                Ok(Change::Lead { effects, removals })
+                Ok(Change::LeadAlone { effects, removals })
             }
+            Change::Lead {
+                begins,
+                txn,
+                uses,
+                then,
+            } => {
+                let (uses, then) = copy_two(alloc, uses, then)?;
+                Ok(Change::Lead {
+                    begins: *begins,
+                    txn: *txn,
+                    uses,
+                    then,
+                })
+            }
+            Change::Done { txn, number } => Ok(Change::Done {
+                txn: *txn,
+                number: *number,
+            }),
             Change::Prepare { ready } => Ok(Change::Prepare {
                 ready: ready.copy(alloc)?,
             }),
@@ -115,6 +161,34 @@ impl Twin for Change {
             Change::Install { parcel } => Ok(Change::Install {
                 parcel: parcel.copy(alloc)?,
             }),
+        }
+    }
+
+    fn discard(self) {
+        drop(self);
+    }
+}
+
+impl Twin for Then {
+    fn copy(&self, alloc: Global) -> Result<Then, Memory> {
+        match self {
+            Then::Waits { leading } => Ok(Then::Waits {
+                leading: leading.copy(alloc)?,
+            }),
+            Then::Ends {
+                effects,
+                removals,
+                ending,
+                keeps,
+            } => {
+                let (effects, removals, ending) = copy_three(alloc, effects, removals, ending)?;
+                Ok(Then::Ends {
+                    effects,
+                    removals,
+                    ending,
+                    keeps: *keeps,
+                })
+            }
         }
     }
 

@@ -1,5 +1,5 @@
 //! What an event changes is carried out: all of it, or nothing.
-ghost use Rattle.std.specs.Prelude.{◌≡◌, ◌+◌, ◌<◌, ◌^◌, ◌++◌, [], ◌∷◌, length, true, OnOk, OnErr};
+ghost use Rattle.std.specs.Prelude.{◌≡◌, ◌+◌, ◌<◌, ◌^◌, ◌++◌, [], ◌∷◌, length, true, option_map, IfOk, OnOk, OnErr};
 ghost use Rattle.std.specs.List.{filter, list_all};
 ghost use Rattle.fs_field.specs.Table.{is_live};
 ghost use Rattle.fs_map.specs.Lists.{map_after_take};
@@ -10,20 +10,27 @@ ghost use Rattle.fs_record.specs.Moving.{AreNumbersLeft, records_given, records_
 ghost use Rattle.fs_rows.specs.Granted.{with_rows};
 ghost use Rattle.fs_rows.specs.Moving.{rows_left};
 ghost use Rattle.fs_server.specs.Pairs.{released_rows, renewed_rows};
-ghost use Rattle.fs_server.specs.Plan.{AreRows, CanChange, IsNewGift, after_gift, changed};
+ghost use Rattle.fs_server.specs.Counts.{done_with};
+ghost use Rattle.fs_server.specs.Gathered.{begun_at, keeping};
+ghost use Rattle.fs_server.specs.Plan.{AreRows, CanChange, CanEnd, IsNewGift, after_gift, changed};
+ghost use Rattle.fs_server.specs.declared.change.Change.TheVariants as change;
 ghost use Rattle.fs_server.specs.Grants.{IsReady};
 ghost use Rattle.fs_server.specs.Server.{begun};
+ghost use Rattle.fs_txn.specs.Leading.{ending_of, with_ending, without_done};
 ghost use Rattle.fs_txn.specs.Preparing.{rows_locked};
 ghost use Rattle.fs_txn.specs.Ready.{rows_left_by, without_prepared};
 
 use crate::all_rows::AllRows;
-use crate::change::Change;
+use crate::change::{Change, Then};
 use crate::state::Server;
 use fs_field::{Effect, Row, Use};
-use fs_ident::{FileId, LeaseNo, List, Memory, TxnNo, add_copy};
+use fs_ident::{FileId, LeaseNo, List, Memory, Twin, TxnNo, add_copy};
 use fs_map::MapPiece;
 use fs_record::{Parcel, Record, Records};
-use fs_txn::{Ready, drop_prepared, is_awaited};
+use fs_txn::{
+    Ending, Ready, drop_leading, drop_prepared, find_ending, is_awaited, keep_ending, put_ending,
+    put_leading,
+};
 use std::alloc::Global;
 
 /// The rows that are over at the reading are dropped, and the change is carried out.
@@ -59,9 +66,16 @@ pub(crate) fn commit(
             server.rows.lapse(reading, server.skew);
             server.reaps += count;
         }
-        Change::Lead { effects, removals } => {
-            lead(alloc, server, reading, &effects, removals.as_slice())?;
+        Change::LeadAlone { effects, removals } => {
+            lead_alone(alloc, server, reading, &effects, removals.as_slice())?;
         }
+        Change::Lead {
+            begins,
+            txn,
+            uses,
+            then,
+        } => return lead(alloc, server, reading, begins, txn, uses.as_slice(), then),
+        Change::Done { txn, number } => return done(alloc, server, reading, txn, number),
         Change::Prepare { ready } => prepare(alloc, server, reading, &ready)?,
         Change::Decide {
             txn,
@@ -116,7 +130,7 @@ fn give_number(records: &mut Records, gift: Option<(FileId, u32)>)
 }
 
 /// The effects of a transaction are applied: after those that can be taken back, those that want no memory.
-fn lead(
+fn lead_alone(
     alloc: Global,
     server: &mut Server,
     reading: u64,
@@ -137,6 +151,145 @@ fn lead(
     take_all_away(&mut server.records, removals);
     server.rows.lapse(reading, server.skew);
     server.txns += 1;
+    Ok(())
+}
+
+/// A transaction goes on, and keeps the rows of these leases; where it begins, its number is used up.
+fn lead(
+    alloc: Global,
+    server: &mut Server,
+    reading: u64,
+    begins: bool,
+    txn: TxnNo,
+    uses: &[Use],
+    then: Then,
+) -> Result<(), Memory>
+    requires can { CanEnd then }
+    requires few { begins ≡ true → server.old.txns + 1 < 2 ^ 64 }
+    ensures ok { OnOk result (server.new ≡
+        changed (change.Lead begins txn uses.now then) (begun_at reading server.old)) }
+    ensures err { OnErr result (server.new ≡ server.old) }
+{
+    match then {
+        Then::Waits { leading } => {
+            put_leading(server.leading.items_mut(), leading)?;
+            keep(server, reading, begins, txn, uses);
+        }
+        Then::Ends {
+            effects,
+            removals,
+            ending,
+            keeps,
+        } => {
+            let gone = removals.as_slice();
+            end(
+                alloc,
+                &mut server.records,
+                server.ending.items_mut(),
+                &effects,
+                gone,
+                ending,
+            )?;
+            drop_leading(server.leading.items_mut(), txn);
+            keep(server, reading, begins, txn, uses);
+            if !keeps {
+                server.rows.unlock(txn);
+            }
+        }
+    }
+    Ok(())
+}
+
+/// Its effects are applied, and it is kept where others have to tell that all is done.
+fn end(
+    alloc: Global,
+    records: &mut Records,
+    ending: &mut Vec<Ending>,
+    effects: &List<Effect>,
+    gone: &[Effect],
+    x: Ending,
+) -> Result<(), Memory>
+    requires effects { list_all is_undoable effects.now ≡ true }
+    requires gone { list_all takes_away gone.now ≡ true }
+    ensures records { OnOk result (records.new ≡
+        records_after_all (records_after_all records.old effects.now) gone.now) }
+    ensures ending { OnOk result (ending.new.items ≡ with_ending x ending.old.items) }
+    ensures err_records { OnErr result (records.new ≡ records.old) }
+    ensures err_ending { OnErr result (ending.new.items ≡ ending.old.items) }
+{
+    ending.reserve(1)?;
+    records.apply_all(alloc, effects)?;
+    take_all_away(records, gone);
+    put_ending(ending, x);
+    Ok(())
+}
+
+/// The rows of these leases are locked.
+fn keep(server: &mut Server, reading: u64, begins: bool, txn: TxnNo, uses: &[Use])
+    requires { begins ≡ true → server.old.txns + 1 < 2 ^ 64 }
+    ensures { server.new ≡ keeping begins txn uses.now (begun_at reading server.old) }
+{
+    server.rows.lapse(reading, server.skew);
+    lock_all(&mut server.rows, txn, uses);
+    if begins {
+        server.txns += 1;
+    }
+    server.last = reading;
+}
+
+/// The part of this number is done; with the last one the transaction's rows are unlocked.
+fn done(
+    alloc: Global,
+    server: &mut Server,
+    reading: u64,
+    txn: TxnNo,
+    number: u8,
+) -> Result<(), Memory>
+    ensures ok { OnOk result (server.new ≡
+        changed (change.Done txn number) (begun_at reading server.old)) }
+    ensures err { OnErr result (server.new ≡ server.old) }
+{
+    if let Some(x) = left_of(alloc, server.ending.as_slice(), txn, number)? {
+        return finish(server, reading, x);
+    }
+    server.rows.lapse(reading, server.skew);
+    server.last = reading;
+    Ok(())
+}
+
+/// The transaction of this number without the part.
+fn left_of(
+    alloc: Global,
+    ending: &[Ending],
+    txn: TxnNo,
+    number: u8,
+) -> Result<Option<Ending>, Memory>
+    ensures { IfOk result (λ x. x ≡ option_map (without_done number) (ending_of txn ending.now)) }
+{
+    match find_ending(ending, txn) {
+        Some(x) => {
+            let mut left = x.copy(alloc)?;
+            left.forget(number);
+            Ok(Some(left))
+        }
+        None => Ok(None),
+    }
+}
+
+/// This is left of it.
+fn finish(server: &mut Server, reading: u64, x: Ending) -> Result<(), Memory>
+    ensures ok { OnOk result (server.new ≡
+        (done_with x x.awaits (begun_at reading server.old)).server) }
+    ensures err { OnErr result (server.new ≡ server.old) }
+{
+    let txn = x.txn;
+    let is_over = x.awaits.is_empty();
+    keep_ending(server.ending.items_mut(), x)?;
+    server.rows.lapse(reading, server.skew);
+    if is_over {
+        server.rows.unlock(txn);
+    }
+    server.last = reading;
     Ok(())
 }
 

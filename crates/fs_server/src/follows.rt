@@ -14,8 +14,8 @@ ghost use Rattle.fs_txn.specs.Preparing.{moved_to, vote_by};
 
 use crate::at_reading::AtReading;
 use crate::change::Change;
+use crate::concludes::{removals, undoable};
 use crate::decide::{Decided, only, strange};
-use crate::leads::{removals, undoable};
 use crate::out::ServerOut;
 use crate::ships::first_gone;
 use fs_field::{Part, Use, Vote};
@@ -43,7 +43,12 @@ pub(crate) fn prepare(
 }
 
 /// The vote on the part. There are no path leases, so none goes over a file that it freezes.
-fn vote_on(alloc: Global, at: &AtReading<'_>, by: Session, part: &Part) -> Result<Vote, Memory>
+pub(crate) fn vote_on(
+    alloc: Global,
+    at: &AtReading<'_>,
+    by: Session,
+    part: &Part,
+) -> Result<Vote, Memory>
     ensures { IfOk result (λ vote. vote ≡ vote_here at.now by part.now) }
 {
     if at.is_mine(&part.file) {
@@ -153,9 +158,16 @@ fn only_sent(alloc: Global, note: ServerNote, to: u8, m: PeerMsg) -> Result<Serv
 {
     Ok(ServerOut {
         note,
-        send: only(alloc, (Peer::Server(to), Msg::Peer(m)))?,
+        send: only(alloc, to_server(to, m))?,
         admitted: List::new(alloc),
     })
+}
+
+/// A message to another server.
+pub(crate) fn to_server(at: u8, m: PeerMsg) -> (Peer, Msg)
+    ensures { result ≡ to_server at m }
+{
+    (Peer::Server(at), Msg::Peer(m))
 }
 
 /// Another server tells what the part does; where nothing is done, it tells no effects.

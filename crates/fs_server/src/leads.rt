@@ -22,13 +22,14 @@ ghost use Rattle.fs_txn.specs.Numbers.{next_txn};
 
 use crate::at_reading::AtReading;
 use crate::change::Change;
+use crate::concludes::{removals, undoable};
 use crate::decide::{Decided, only, strange, to_session};
 use crate::out::ServerOut;
 use crate::ships::first_gone;
 use fs_field::{Effect, Part, Use};
 use fs_ident::{FileId, Kind, List, Memory, Peer, Session, Twin, TxnNo, add_copy};
 use fs_model::Op;
-use fs_msg::{Answer, CoreError, Counter, Item, Lead, ServerNote};
+use fs_msg::{Answer, CoreError, Counter, Item, Lead, Msg, ServerNote};
 use fs_record::{LedEnd, Why, is_undoable, led_effects};
 use fs_txn::{Mode2, next_txn, parts, reply_of};
 use std::alloc::Global;
@@ -154,9 +155,16 @@ fn only_told(alloc: Global, by: Session, note: ServerNote, end: LedEnd) -> Resul
 {
     Ok(ServerOut {
         note,
-        send: only(alloc, to_session(by, Answer::Led { end }))?,
+        send: only(alloc, led_told(by, end))?,
         admitted: List::new(alloc),
     })
+}
+
+/// The session is told how it ended.
+pub(crate) fn led_told(by: Session, end: LedEnd) -> (Peer, Msg)
+    ensures { result ≡ to_session by (answer.Led end) }
+{
+    to_session(by, Answer::Led { end })
 }
 
 /// A transaction begins, whose parts are all here.
@@ -237,7 +245,7 @@ fn abort(
     };
     let out = only_told(alloc, by, note, LedEnd::Ended { lease, until, now })?;
     Ok(Decided {
-        change: Change::Lead {
+        change: Change::LeadAlone {
             effects: List::new(alloc),
             removals: List::new(alloc),
         },
@@ -274,7 +282,7 @@ fn told_done(alloc: Global, by: Session, txn: TxnNo, m: &Lead) -> Result<ServerO
     let end = LedEnd::Done {
         reply: reply_of(&m.op),
     };
-    let send = only(alloc, to_session(by, Answer::Led { end }))?;
+    let send = only(alloc, led_told(by, end))?;
     let admitted = admitted_of(alloc, by, m)?;
     Ok(ServerOut {
         note: ServerNote::Commits {
@@ -303,40 +311,12 @@ fn admitted_of(alloc: Global, by: Session, m: &Lead) -> Result<List<Item>, Memor
 
 /// What the admitted operation changes: what it takes away comes last.
 fn change_of(alloc: Global, op: &Op, file: &FileId) -> Result<Change, Memory>
-    ensures { IfOk result (λ ch. ch ≡ change.Lead
+    ensures { IfOk result (λ ch. ch ≡ change.LeadAlone
         (filter is_undoable (led_effects op.now file.now (reply_of op.now)))
         (filter takes_away (led_effects op.now file.now (reply_of op.now)))) }
 {
     let all = led_effects(alloc, op, file, &reply_of(op))?;
     let effects = undoable(alloc, all.as_slice())?;
     let removals = removals(alloc, all.as_slice())?;
-    Ok(Change::Lead { effects, removals })
-}
-
-/// The effects that can be taken back.
-#[tactic(auto, using(crate::proofs::Leading::undoable_step))]
-pub(crate) fn undoable(alloc: Global, effects: &[Effect]) -> Result<List<Effect>, Memory>
-    ensures { IfOk result (λ told. told ≡ filter is_undoable effects.now) }
-{
-    let mut told = List::new(alloc);
-    for e in effects {
-        if is_undoable(e) {
-            add_copy(alloc, &mut told, e)?;
-        }
-    }
-    Ok(told)
-}
-
-/// The effects that take a file or a name away.
-#[tactic(auto, using(crate::proofs::Leading::removal_step))]
-pub(crate) fn removals(alloc: Global, effects: &[Effect]) -> Result<List<Effect>, Memory>
-    ensures { IfOk result (λ told. told ≡ filter takes_away effects.now) }
-{
-    let mut told = List::new(alloc);
-    for e in effects {
-        if !is_undoable(e) {
-            add_copy(alloc, &mut told, e)?;
-        }
-    }
-    Ok(told)
+    Ok(Change::LeadAlone { effects, removals })
 }

@@ -30,14 +30,18 @@ mod all_live;
 mod all_rows;
 mod asks;
 mod at_reading;
+mod begins;
 mod change;
 mod commits;
+mod concludes;
+mod counts;
 mod decide;
 mod event;
 mod follows;
 mod fresh;
 mod grants;
 mod law;
+mod leading_law;
 mod leads;
 mod moves;
 mod out;
@@ -56,6 +60,11 @@ pub use law::{
     operations_are_led_at_home, parts_here_vote_at_once, parts_of_others_are_voted_on,
     the_last_part_unlocks_the_rows, what_is_not_admitted_changes_no_file,
     what_is_not_yes_changes_nothing,
+};
+pub use leading_law::{
+    a_commit_splits_by_servers, a_rename_keeps_its_rows, a_session_is_told_when_all_is_done,
+    an_abort_does_nothing, each_part_is_told_once, what_begins_here_ends_here,
+    what_nobody_awaits_is_strange,
 };
 pub use out::ServerOut;
 pub use plan::Plan;

@@ -69,6 +69,8 @@ impl ServerCore {
                 records: Records::new(alloc, me == 0)?,
                 map: FileMap::new(alloc)?,
                 prepared: List::new(alloc),
+                leading: List::new(alloc),
+                ending: List::new(alloc),
             },
         })
     }

@@ -7,7 +7,7 @@ use crate::all_rows::AllRows;
 use fs_ident::{List, Memory, Twin, copy_three, zip_ok};
 use fs_map::FileMap;
 use fs_record::Records;
-use fs_txn::Ready;
+use fs_txn::{Ending, Leading, Ready};
 use std::alloc::Global;
 
 /// What a server keeps.
@@ -33,6 +33,10 @@ pub(crate) struct Server {
     pub(crate) map: FileMap,
     /// The parts of other servers' transactions that wait for their decision here.
     pub(crate) prepared: List<Ready>,
+    /// The transactions that it leads, of which votes are awaited.
+    pub(crate) leading: List<Leading>,
+    /// The transactions that it led, of which other servers have to tell that all is done.
+    pub(crate) ending: List<Ending>,
 }
 
 impl Server {
@@ -62,7 +66,8 @@ impl Server {
 impl Twin for Server {
     fn copy(&self, alloc: Global) -> Result<Server, Memory> {
         let tables = copy_three(alloc, &self.rows, &self.records, &self.map)?;
-        let ((rows, records, map), prepared) = zip_ok(tables, self.prepared.copy(alloc))?;
+        let parts = copy_three(alloc, &self.prepared, &self.leading, &self.ending);
+        let ((rows, records, map), (prepared, leading, ending)) = zip_ok(tables, parts)?;
         Ok(Server {
             me: self.me,
             skew: self.skew,
@@ -75,6 +80,8 @@ impl Twin for Server {
             records,
             map,
             prepared,
+            leading,
+            ending,
         })
     }
 

@@ -1,0 +1,10 @@
+use Rattle.std.proofs.Common.{refl}
+use Rattle.fs_server.proofs.Concluding.{done_can}
+use Rattle.fs_server.specs.declared.change.Change.TheVariants as change
+use Rattle.fs_server.specs.declared.decide.Decided.{Decided}
+use Rattle.fs_server.proofs.counts.done_of.Goals as goal
+
+pub returns-clause-can : goal.returns-clause-can
+returns-clause-can c =
+    let d : Decided = record { change = change.Done c.args.m.now.txn c.args.m.now.number; out = c.in_ok-out.out } in
+    done_can c.args.m.now.txn c.args.m.now.number c.args.at.now d c.requires.ready refl

@@ -1,0 +1,100 @@
+//! What a leader does whose parts may be at other servers, as laws. No step of a server begins such a transaction yet.
+ghost use Rattle.std.specs.Prelude.{◌≡◌, ◌≤◌, ◌++◌, ℕ, true, false, List, [], ◌∷◌, length, map, None, Some, is_some, slice_get};
+ghost use Rattle.fs_ident.specs.In.{In};
+ghost use Rattle.fs_ident.specs.declared.actor.Peer.{Peer};
+ghost use Rattle.fs_ident.specs.declared.actor.Session.{Session};
+ghost use Rattle.fs_ident.specs.declared.actor.TxnNo.{TxnNo};
+ghost use Rattle.fs_field.specs.Table.{is_lock_of};
+ghost use Rattle.fs_field.specs.declared.effect.Effect.{Effect};
+ghost use Rattle.fs_field.specs.declared.row.Row.{Row};
+ghost use Rattle.fs_model.specs.declared.reply.Reply.TheVariants.{Renamed};
+ghost use Rattle.fs_msg.specs.declared.answer.Answer.TheVariants as answer;
+ghost use Rattle.fs_msg.specs.declared.done.Done.{Done};
+ghost use Rattle.fs_msg.specs.declared.lead.Lead.{Lead};
+ghost use Rattle.fs_msg.specs.declared.msg.Msg.{Msg};
+ghost use Rattle.fs_msg.specs.declared.peer_msg.PeerMsg.TheVariants.{Decide};
+ghost use Rattle.fs_msg.specs.declared.voted.Voted.{Voted};
+ghost use Rattle.fs_record.specs.declared.led_end.LedEnd.{LedEnd};
+ghost use Rattle.fs_server.specs.Begins.{begins};
+ghost use Rattle.fs_server.specs.Concludes.{concludes, end_of_decision, tells};
+ghost use Rattle.fs_server.specs.Counts.{done_step, vote_step};
+ghost use Rattle.fs_server.specs.Follows.{to_server};
+ghost use Rattle.fs_server.specs.LeadingLaws.{CommitSplits, HasNextTxn, awaits_this, awaits_vote, of_number};
+ghost use Rattle.fs_server.specs.Leads.{is_led, lead_refusal, lead_step};
+ghost use Rattle.fs_server.specs.Server.{strange, to_session};
+ghost use Rattle.fs_server.specs.declared.state.Server.{Server};
+ghost use Rattle.fs_txn.specs.Deciding.{decision};
+ghost use Rattle.fs_txn.specs.Leading.{awaits_done, elsewhere, ending_of, leading_of, without_done};
+ghost use Rattle.fs_txn.specs.declared.decision.Decision.TheVariants.{Commit, Abort};
+ghost use Rattle.fs_txn.specs.declared.leading.Ending.{Ending};
+ghost use Rattle.fs_txn.specs.declared.leading.Leading.{Leading};
+
+/// Where all files of the operation are managed here, and nothing is kept of the transaction that comes next, it is decided in the event
+/// in which it begins, as `step` does it.
+pub fn what_begins_here_ends_here()
+    ensures { (by : Session) (m : Lead) (s : Server) → is_led m.op ≡ true → lead_refusal s m ≡ None →
+        HasNextTxn s → begins by m s ≡ lead_step by m s }
+{}
+
+/// What a commit applies here, and what it tells other servers, are the effects of the operation: each at the server of its part, and in
+/// their order.
+pub fn a_commit_splits_by_servers()
+    ensures { CommitSplits }
+{}
+
+/// A vote that nobody awaits is strange, and so is that a part is done which nobody awaits: nothing changes.
+pub fn what_nobody_awaits_is_strange()
+    ensures votes { (m : Voted) (s : Server) →
+        awaits_vote m (leading_of m.txn s.leading) ≡ false → vote_step m s ≡ strange s }
+    ensures dones { (m : Done) (s : Server) →
+        awaits_this m (ending_of m.txn s.ending) ≡ false → done_step m s ≡ strange s }
+{}
+
+/// Where a rename commits and another server has a part, all rows stay as they are; they do so until the last part is done, and then no
+/// row is locked for the transaction any more.
+pub fn a_rename_keeps_its_rows()
+    ensures commit { (l : Leading) (sent : List (Peer × Msg)) (s : Server)
+        (effects : List (List Effect)) → decision l.leader None ≡ Commit Renamed effects →
+        is_some (slice_get (elsewhere s.me l) 0) ≡ true →
+        (concludes l sent s).server.rows ≡ s.rows }
+    ensures waits { (m : Done) (s : Server) (x : Ending) (y : ℕ × ℕ) (ys : List (ℕ × ℕ)) →
+        ending_of m.txn s.ending ≡ Some x → awaits_done m.number x.awaits ≡ true →
+        (without_done m.number x).awaits ≡ y ∷ ys →
+        ((done_step m s).server.rows ≡ s.rows) × ((done_step m s).out.send ≡ []) }
+    ensures last { (m : Done) (s : Server) (x : Ending) → ending_of m.txn s.ending ≡ Some x →
+        awaits_done m.number x.awaits ≡ true → (without_done m.number x).awaits ≡ [] →
+        (r : Row) → In r (done_step m s).server.rows → is_lock_of m.txn r.lock ≡ false }
+{}
+
+/// The session is told how its operation ended once nothing is awaited any more: where no other server has a part that said Yes, in the
+/// event of the decision, and else when the last part is done.
+pub fn a_session_is_told_when_all_is_done()
+    ensures decided { (l : Leading) (sent : List (Peer × Msg)) (s : Server) →
+        elsewhere s.me l ≡ [] →
+        (concludes l sent s).out.send ≡ sent ++ to_session l.leader.session
+        (answer.Led (end_of_decision (decision l.leader None))) ∷ [] }
+    ensures awaited { (l : Leading) (sent : List (Peer × Msg)) (s : Server) →
+        is_some (slice_get (elsewhere s.me l) 0) ≡ true →
+        (concludes l sent s).out.send ≡
+        sent ++ tells l.leader.txn (decision l.leader None) (elsewhere s.me l) }
+    ensures done { (m : Done) (s : Server) (x : Ending) → ending_of m.txn s.ending ≡ Some x →
+        awaits_done m.number x.awaits ≡ true → (without_done m.number x).awaits ≡ [] →
+        (done_step m s).out.send ≡ to_session x.session (answer.Led x.end) ∷ [] }
+{}
+
+/// A part that said Yes at another server is told what was decided once, and not again.
+pub fn each_part_is_told_once()
+    ensures { (me : ℕ) (l : Leading) (number : ℕ) →
+        length (of_number number (elsewhere me l)) ≤ 1 }
+{}
+
+/// Where it is decided not to go on, no file changes here, nothing is admitted, and no part is told any effect.
+pub fn an_abort_does_nothing()
+    ensures here { (l : Leading) (sent : List (Peer × Msg)) (s : Server) (e : LedEnd) →
+        decision l.leader None ≡ Abort e →
+        ((concludes l sent s).server.records ≡ s.records) ×
+        ((concludes l sent s).out.admitted ≡ []) }
+    ensures told { (txn : TxnNo) (e : LedEnd) (out : List (ℕ × ℕ)) →
+        tells txn (Abort e) out ≡ map (λ (x : ℕ × ℕ). to_server x.1
+        (Decide (record { txn = txn; number = x.0; effects = [] }))) out }
+{}
