@@ -10,3 +10,4 @@ pub mod Stages
 pub mod Telling
 pub mod Locks
 pub mod Ready
+pub mod Leading

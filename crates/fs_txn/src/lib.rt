@@ -5,6 +5,7 @@ mod deciding;
 mod decision;
 mod law;
 mod leader;
+mod leading;
 mod locks;
 mod mode;
 mod number;
@@ -23,6 +24,10 @@ pub use law::{
     parts_share_all_effects, what_leaders_tell_keeps_its_order,
 };
 pub use leader::Leader;
+pub use leading::{
+    Ending, Leading, drop_leading, elsewhere, find_ending, find_leading, keep_ending, own_effects,
+    put_ending, put_leading,
+};
 pub use locks::steps_keep_locks;
 pub use mode::Mode2;
 pub use number::next_txn;
