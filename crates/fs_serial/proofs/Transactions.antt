@@ -1,0 +1,3 @@
+-- Transactions between servers, while their words are on their way.
+pub mod Desks
+pub mod DecidedStill
