@@ -1,0 +1,2 @@
+-- Words of transactions between servers, and what they keep.
+pub mod Tables
