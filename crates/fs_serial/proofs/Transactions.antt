@@ -1,2 +1,3 @@
 -- Words of transactions between servers, and what they keep.
 pub mod Tables
+pub mod OneOfSession
