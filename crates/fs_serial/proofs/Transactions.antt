@@ -1,3 +1,5 @@
--- Transactions between servers, while their words are on their way.
+-- Words of transactions between servers, and what they keep.
 pub mod Desks
 pub mod DecidedStill
+pub mod Tables
+pub mod OneOfSession
