@@ -3,3 +3,4 @@ pub mod Desks
 pub mod DecidedStill
 pub mod Tables
 pub mod OneOfSession
+pub mod AwaitedWords
