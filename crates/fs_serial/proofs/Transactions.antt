@@ -1,3 +1,4 @@
 -- Words of transactions between servers, and what they keep.
 pub mod Tables
 pub mod OneOfSession
+pub mod OwnersOfLocks
