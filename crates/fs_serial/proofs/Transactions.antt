@@ -1,2 +1,5 @@
 -- Words of transactions between servers, and what they keep.
 pub mod Tables
+pub mod YesLocks
+pub mod YesParts
+pub mod RoundsLocks
