@@ -15,6 +15,7 @@ use Rattle.fs_field.specs.Table.{is_ordered}
 use Rattle.fs_field.specs.declared.effect.Effect.{Effect}
 use Rattle.fs_field.specs.declared.row.Row.{Row}
 use Rattle.fs_field.specs.declared.used.Part.{Part}
+use Rattle.fs_field.specs.declared.used.Use.{Use}
 use Rattle.fs_field.specs.declared.vote.Vote.{Vote}
 use Rattle.fs_field.specs.declared.vote.Vote.TheVariants.{Yes, Ended, Moved, PathsOut}
 use Rattle.fs_field.proofs.Leases.{SameLease}
@@ -58,7 +59,7 @@ yes_last number (x ∷ vs) (y ∷ ks) v k same =
     ]
 
 -- a Yes of the server says that no row is gone
-yes_stands : (s : Server) (by : Session) (p : Part) → is_mine s p.file ≡ true → vote_here s by p ≡ Yes → first_gone s.rows by p.uses ≡ None
+pub yes_stands : (s : Server) (by : Session) (p : Part) → is_mine s p.file ≡ true → vote_here s by p ≡ Yes → first_gone s.rows by p.uses ≡ None
 yes_stands s by p mine h = yes_by (first_gone s.rows by p.uses) None s.last (yes_here (is_mine s p.file) (vote_by (first_gone s.rows by p.uses) None s.last) (moved_to (longest s.map p.file)) (λ e. absurd (cc e)) h)
 
 -- ## One part more
@@ -206,24 +207,20 @@ asks_undecided k to txn number by p sent none key at effects i =
 
 -- ## What stays
 
+pub voted_stay : (v : Vote) (txn : TxnNo) (uses : List Use) (rows : List Row) (row : Row) (t : TxnNo) → In row rows → row.lock ≡ Some t → In row (rows_voted v txn uses rows)
+voted_stay Yes txn uses rows row t i e = subst (λ x. In x (rows_voted Yes txn uses rows)) (stays txn uses row (ap is_some e)) (In-mapped (row_locked txn uses) row rows i)
+voted_stay (Ended n u w) txn uses rows row t i e = i
+voted_stay (Moved q k) txn uses rows row t i e = i
+voted_stay (PathsOut n) txn uses rows row t i e = i
+
 pub rounds_rows_stay : (txn : TxnNo) (number : ℕ) (by : Session) (ps : List Part) (r : Round) (row : Row) (t : TxnNo) → In row r.server.rows → row.lock ≡ Some t → In row (rounds txn number by ps r).server.rows
 rounds_rows_stay txn number by [] r row t i e = i
-rounds_rows_stay txn number by (p ∷ ps) r row t i e = rounds_rows_stay txn (number + 1) by ps (part_round txn number by p r) row t (one (is_mine r.server p.file)) e
-  where
-    voted : (v : Vote) → In row (rows_voted v txn p.uses r.server.rows)
-    voted Yes = subst (λ x. In x (rows_voted Yes txn p.uses r.server.rows)) (stays txn p.uses row (ap is_some e)) (In-mapped (row_locked txn p.uses) row r.server.rows i)
-    voted (Ended n u w) = i
-    voted (Moved q k) = i
-    voted (PathsOut n) = i
-
-    one : (b : Bool) → In row (round_by txn number by p r b).server.rows
-    one true = voted (vote_here r.server by p)
-    one false = i
+rounds_rows_stay txn number by (p ∷ ps) r row t i e =
+    rounds_rows_stay txn (number + 1) by ps (part_round txn number by p r) row t
+    (elim (is_mine r.server p.file) as (λ b. In row (round_by txn number by p r b).server.rows) [ true ↦ voted_stay (vote_here r.server by p) txn p.uses r.server.rows row t i e | false ↦ i ])
+    e
 
 pub rounds_undecided : (k : ℕ) (txn : TxnNo) (number : ℕ) (by : Session) (ps : List Part) (r : Round) → NoDecision k r.send → NoDecision k (rounds txn number by ps r).send
 rounds_undecided k txn number by [] r none = none
-rounds_undecided k txn number by (p ∷ ps) r none = rounds_undecided k txn (number + 1) by ps (part_round txn number by p r) (one (is_mine r.server p.file))
-  where
-    one : (b : Bool) → NoDecision k (round_by txn number by p r b).send
-    one true = none
-    one false = asks_undecided k (server_of r.server.map p.file) txn number by p r.send none
+rounds_undecided k txn number by (p ∷ ps) r none = rounds_undecided k txn (number + 1) by ps (part_round txn number by p r)
+    (elim (is_mine r.server p.file) as (λ b. NoDecision k (round_by txn number by p r b).send) [ true ↦ none | false ↦ asks_undecided k (server_of r.server.map p.file) txn number by p r.send none ])
