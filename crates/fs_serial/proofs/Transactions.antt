@@ -5,4 +5,5 @@ pub mod Tables
 pub mod YesLocks
 pub mod YesParts
 pub mod RoundsLocks
+pub mod LedCounted
 pub mod OneOfSession
