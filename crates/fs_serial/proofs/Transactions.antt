@@ -4,3 +4,4 @@ pub mod DecidedStill
 pub mod Tables
 pub mod OneOfSession
 pub mod OwnersOfLocks
+pub mod LedDecided
