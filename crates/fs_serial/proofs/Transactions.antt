@@ -1,2 +1,6 @@
--- Words of transactions between servers, and what they keep.
+-- Transactions between servers, while their words are on their way.
 pub mod Tables
+pub mod Desks
+pub mod DecidedStill
+pub mod Decisions
+pub mod LedConcluded
