@@ -1,9 +1,8 @@
 -- Whom a leader tells its decision: each part that said Yes at another server, once.
-use Rattle.std.proofs.Common.{◌≡◌, ◌==◌, ℕ, ◌+◌, ◌<◌, zero, suc, Bool, true, false, not, List, [], ◌∷◌, ◌++◌, length, map, refl, sym, ap, ◌∙◌, subst, cond, inl, inr, arith}
-use Rattle.std.specs.Prelude.{Option, Some, None, slice_get, is_some}
-use Rattle.std.specs.List.{filter, filter_map}
+use Rattle.std.proofs.Common.{◌≡◌, ◌==◌, ℕ, ◌+◌, ◌<◌, zero, suc, Bool, true, false, not, List, [], ◌∷◌, ◌++◌, map, refl, sym, ap, ◌∙◌, subst, cond, arith}
+use Rattle.std.specs.Prelude.{Option, Some, None, slice_get}
+use Rattle.std.specs.List.{filter}
 use Rattle.std.proofs.lemmas.Bool.{eqb-true}
-use Rattle.fs_ident.specs.In.{In}
 use Rattle.fs_ident.specs.declared.actor.Peer.{Peer}
 use Rattle.fs_ident.specs.declared.actor.Session.{Session}
 use Rattle.fs_ident.specs.declared.actor.TxnNo.{TxnNo}
@@ -17,7 +16,7 @@ use Rattle.fs_server.specs.Concludes.{ends_now, tells}
 use Rattle.fs_server.specs.LeadingLaws.{of_number}
 use Rattle.fs_txn.specs.Deciding.{told_effects}
 use Rattle.fs_txn.specs.Leading.{awaited_stage, elsewhere, said_yes, yes_from}
-use Rattle.fs_txn.specs.Stages.{Key, Stage, Told, is_of, same_key, told_of, word_to}
+use Rattle.fs_txn.specs.Stages.{Key, Stage, Told, told_of}
 use Rattle.fs_txn.specs.Stages.Stage.{Unknown, Awaited}
 use Rattle.fs_txn.specs.Stages.Word.{Decide}
 use Rattle.fs_txn.specs.Votes.{Votes}

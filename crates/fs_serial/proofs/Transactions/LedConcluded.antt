@@ -1,8 +1,8 @@
 -- A leader decides a transaction: all that holds of transactions stays, where what is told then is as it has to be.
 use mathlib.Core.Path.{fun_ext}
-use Rattle.std.proofs.Common.{◌≡◌, ◌⊎◌, ◌==◌, ◌≤◌, ◌<◌, ◌&&◌, ℕ, zero, suc, Bool, true, false, not, List, [], ◌∷◌, ◌++◌, length, map, refl, sym, ap, ap₂, ◌∙◌, subst, cond, inl, inr, append-nil, arith}
+use Rattle.std.proofs.Common.{◌≡◌, ◌==◌, ◌≤◌, ◌<◌, ℕ, zero, suc, Bool, true, false, not, List, [], ◌∷◌, ◌++◌, length, map, refl, sym, ap, ap₂, ◌∙◌, subst, cond, inl, inr, append-nil, arith}
 use Rattle.std.specs.Prelude.{◌≢◌, Option, Some, None, is_some, option_map, slice_get}
-use Rattle.std.specs.List.{filter, find, flat_map}
+use Rattle.std.specs.List.{find, flat_map}
 use Rattle.std.proofs.lemmas.Bool.{eqb-false}
 use Rattle.std.proofs.lemmas.List.Elements.{filter-append}
 use Rattle.std.proofs.lemmas.Option.{slice_get_within}
@@ -76,7 +76,7 @@ not_at_home : (key : Key) (w : Wanted) (st : Stage) (prepared : ℕ → Option W
 not_at_home key w Unknown prepared words i = i.1 key.txn.server
 not_at_home key w (Asked p) prepared words i = elim i.1 as (λ _. prepared key.txn.server ≡ None) [
   | coming e none ↦ none key.txn.server
-  | refused v no e none ↦ none key.txn.server
+  | refused v against e none ↦ none key.txn.server
   | granted e alone ↦ alone.others key.txn.server (other_server p key.txn.server i.0)
 ]
 not_at_home key w (Counted p v) prepared words i = by (is_yes v) i.1
@@ -108,11 +108,11 @@ vote_fits d (Some (PathsOut n)) e h = let q : end.Again (why.PathsOut n) ≡ e =
 
 first_fits : (d : Led) (votes : Votes) (e : LedEnd) → first_end votes ≡ Some e → end_fits (Some d) e ≡ true
 first_fits d [] e h = absurd (cc h)
-first_fits d (v ∷ vs) e h = by (end_of_place v) refl h
+first_fits d (v ∷ vs) e h = by (end_of_place v) refl h (λ g. first_fits d vs e g)
   where
-    by : (o : Option LedEnd) → end_of_place v ≡ o → or_else o (first_end vs) ≡ Some e → end_fits (Some d) e ≡ true
-    by (Some f) q g = vote_fits d v e (q ∙ g)
-    by None q g = first_fits d vs e g
+    by : (o : Option LedEnd) → end_of_place v ≡ o → or_else o (first_end vs) ≡ Some e → (first_end vs ≡ Some e → end_fits (Some d) e ≡ true) → end_fits (Some d) e ≡ true
+    by (Some f) q g rest = vote_fits d v e (q ∙ g)
+    by None q g rest = rest g
 
 can_end : (o : Op) → is_led o ≡ true → can_end_with o (reply_of o) ≡ true
 can_end (op.Delete dir name) h = refl
@@ -141,9 +141,9 @@ denied : (b : Bool) → not b ≡ true → b ≡ false
 denied true h = sym h
 denied false h = refl
 
-no_option : {X Y : Type 0} {f : X → Y} (o : Option X) → option_map f o ≡ None → o ≡ None
-no_option None h = refl
-no_option (Some x) h = absurd (cc h)
+no_option : {X Y : Type 0} (f : X → Y) (o : Option X) → option_map f o ≡ None → o ≡ None
+no_option f None h = refl
+no_option f (Some x) h = absurd (cc h)
 
 -- ## Lines
 
@@ -158,13 +158,13 @@ sent_client k (m ∷ rest) lines y = sent_client k rest lines y
 
 -- ## The decision
 
+there_is : {X : Type 0} (xs : List X) (n : ℕ) → n < length xs → (x : X) × (slice_get xs n ≡ Some x)
+there_is [] n lt = absurd (omega (arith, lt))
+there_is (x ∷ xs) zero lt = (x, refl)
+there_is (x ∷ xs) (suc n) lt = there_is xs n (omega (arith, lt))
+
 as_long : {X Y : Type 0} (xs : List X) (ys : List Y) (n : ℕ) (x : X) → length xs ≡ length ys → slice_get xs n ≡ Some x → (y : Y) × (slice_get ys n ≡ Some y)
 as_long xs ys n x e h = there_is ys n (subst (λ m. n < m) e (slice_get_within xs n x h))
-  where
-    there_is : (ys : List Y) (n : ℕ) → n < length ys → (y : Y) × (slice_get ys n ≡ Some y)
-    there_is [] n lt = absurd (omega (arith, lt))
-    there_is (y ∷ ys) zero lt = (y, refl)
-    there_is (y ∷ ys) (suc n) lt = there_is ys n (omega (arith, lt))
 
 -- a part of a transaction of which all have voted is counted, or there is none of that number
 pub data WasCounted (stage : Stage) (asked : Option ℕ) (vote : Option (Option Vote)) : Type 0 where
@@ -358,7 +358,7 @@ module _ (k : ℕ) (c : Cluster) (s : Server) (at : slice_get c.servers k ≡ So
       key = key_of t r.number
 
       none : find (is_part t r.number) s.prepared ≡ None
-      none = no_option (find (is_part t r.number) s.prepared)
+      none = no_option wanted_of (find (is_part t r.number) s.prepared)
           (sym (ap (λ o. option_map wanted_of (find (is_part t r.number) (ready_at o))) (was_at c.servers k s y at t.server mine)) ∙ not_at_home key (held.parts key) (stage_of_key c.servers key) (λ j. prepared_in c.servers j key) (told_of key (telling_of c.in_flight)) (held.stages key))
 
       off_if : (b : Bool) → same_txn r.txn t ≡ b → b ≡ false
@@ -387,8 +387,8 @@ module _ (k : ℕ) (c : Cluster) (s : Server) (at : slice_get c.servers k ≡ So
         its.session ∙ ap (λ (m : Leading). m.leader.session) is
   ]
 
-  abbrev commit : Kept
-  commit = record { txn = t; session = by }
+  abbrev its_commit : Kept
+  its_commit = record { txn = t; session = by }
 
   no_ending : (z : Ending) → In z s.ending → same_txn z.txn t ≡ false
   no_ending z i = none_pass (λ (a : Ending). same_txn a.txn t) s.ending leads.only z i
@@ -399,14 +399,14 @@ module _ (k : ℕ) (c : Cluster) (s : Server) (at : slice_get c.servers k ≡ So
       let same : z ≡ (let a : Kept = record { txn = (q.0).txn; session = (q.0).session } in a) = ap₂ (λ (u : TxnNo) (v : Session). let a : Kept = record { txn = u; session = v } in a) q.1.1.1.0 q.1.1.1.1 in
       subst (λ a. In a (kept_at y)) (sym same) (kept_there q.0 y.ending (ending_kept ended s.ending q.0 q.1.0 (no_ending q.0 q.1.0)) q.1.1.0)
 
-  committed : LocksHold s.rows (said_at y) (commit ∷ kept_at s)
-  committed = subst (λ z. LocksHold s.rows z (commit ∷ kept_at s)) said_then (commit_keeps s.rows (said_at s) (kept_at s) commit (held.locks s here) one_session)
+  committed : LocksHold s.rows (said_at y) (its_commit ∷ kept_at s)
+  committed = subst (λ z. LocksHold s.rows z (its_commit ∷ kept_at s)) said_then (commit_keeps s.rows (said_at s) (kept_at s) its_commit (held.locks s here) one_session)
 
   -- its rows stay locked behind a rename
   kept_locks : keeps_for d out ≡ true → LocksHold s.rows (said_at y) (kept_at y)
   kept_locks e =
       let q = both (keeps_rows d) (is_some (slice_get out 0)) e in
-      locks_alike s.rows (said_at y) (said_at y) (commit ∷ kept_at s) (kept_at y) (λ z i. i) (λ z i. i) (λ z i. elim i as (λ _. In z (kept_at y)) [
+      locks_alike s.rows (said_at y) (said_at y) (its_commit ∷ kept_at s) (kept_at y) (λ z i. i) (λ z i. i) (λ z i. elim i as (λ _. In z (kept_at y)) [
         | inl same ↦ subst (λ a. In a (kept_at y)) (sym same) (kept_there ended y.ending (ending_there ended s.ending q.1) (keeps_end d q.0))
         | inr j ↦ kept_still z j
       ]) committed
@@ -417,14 +417,14 @@ module _ (k : ℕ) (c : Cluster) (s : Server) (at : slice_get c.servers k ≡ So
   -- else they are unlocked
   freed_locks : LocksHold (rows_unlocked t s.rows) (said_at y) (kept_at y)
   freed_locks =
-      locks_alike (rows_unlocked t s.rows) (said_at y) (said_at y) (without_kept t (commit ∷ kept_at s)) (kept_at y) (λ z i. i) (λ z i. i)
-      (λ z i. elim (In-filter (λ (a : Kept). not (same_txn a.txn t)) z (commit ∷ kept_at s) i) as (λ _. In z (kept_at y)) [
+      locks_alike (rows_unlocked t s.rows) (said_at y) (said_at y) (without_kept t (its_commit ∷ kept_at s)) (kept_at y) (λ z i. i) (λ z i. i)
+      (λ z i. elim (In-filter (λ (a : Kept). not (same_txn a.txn t)) z (its_commit ∷ kept_at s) i) as (λ _. In z (kept_at y)) [
         | inl same ↦
-            let wrong : true ≡ false = sym (passing (λ (a : Kept). not (same_txn a.txn t)) (commit ∷ kept_at s) z i) ∙ ap (λ (a : Kept). not (same_txn a.txn t)) same ∙ ap not (txn_itself t) in
+            let wrong : true ≡ false = sym (passing (λ (a : Kept). not (same_txn a.txn t)) (its_commit ∷ kept_at s) z i) ∙ ap (λ (a : Kept). not (same_txn a.txn t)) same ∙ ap not (txn_itself t) in
             absurd (cc wrong)
         | inr j ↦ kept_still z j
       ])
-      (last_keeps s.rows (said_at y) (commit ∷ kept_at s) t committed none_said)
+      (last_keeps s.rows (said_at y) (its_commit ∷ kept_at s) t committed none_said)
 
   pub locks_concluded : LocksHold y.rows (said_at y) (kept_at y)
   locks_concluded = elim (keeps_for d out) as (λ b. keeps_for d out ≡ b → LocksHold (cond b s.rows (rows_unlocked t s.rows)) (said_at y) (kept_at y)) [
