@@ -3,4 +3,5 @@ pub mod Tables
 pub mod Desks
 pub mod DecidedStill
 pub mod Decisions
+pub mod OthersKeep
 pub mod LedConcluded

@@ -7,8 +7,6 @@ use Rattle.std.proofs.lemmas.Bool.{eqb-false}
 use Rattle.std.proofs.lemmas.List.Elements.{filter-append}
 use Rattle.std.proofs.lemmas.Option.{slice_get_within}
 use Rattle.fs_ident.specs.In.{In}
-use Rattle.fs_ident.specs.declared.actor.Peer.{Peer}
-use Rattle.fs_ident.specs.declared.actor.Peer.TheVariants.{Client as OfSession}
 use Rattle.fs_ident.specs.declared.actor.Session.{Session}
 use Rattle.fs_ident.specs.declared.actor.TxnNo.{TxnNo}
 use Rattle.fs_ident.proofs.Booleans.{both, joined}
@@ -23,7 +21,6 @@ use Rattle.fs_field.specs.declared.vote.Vote.TheVariants.{Yes, Ended, Moved, Pat
 use Rattle.fs_model.specs.declared.op.Op.{Op}
 use Rattle.fs_model.specs.declared.op.Op.TheVariants as op
 use Rattle.fs_model.specs.declared.reply.Reply.TheVariants as reply
-use Rattle.fs_msg.specs.declared.msg.Msg.{Msg}
 use Rattle.fs_msg.specs.declared.msg.Msg.TheVariants as msg
 use Rattle.fs_parcel.proofs.Both.{passing}
 use Rattle.fs_record.specs.declared.led_end.LedEnd.{LedEnd}
@@ -31,7 +28,6 @@ use Rattle.fs_record.specs.declared.led_end.LedEnd.TheVariants as end
 use Rattle.fs_record.specs.declared.led_end.Why.TheVariants as why
 use Rattle.fs_client.specs.Led.{can_end_with, end_fits}
 use Rattle.fs_client.specs.declared.led.Led.{Led}
-use Rattle.fs_client.specs.declared.state.Client.{Client}
 use Rattle.fs_server.specs.Concludes.{concludes, end_of_decision, keeps_for}
 use Rattle.fs_server.specs.Leads.{is_led}
 use Rattle.fs_server.specs.LeadingLaws.{of_number}
@@ -57,13 +53,14 @@ use Rattle.fs_txn.specs.declared.ready.Ready.{Ready}
 use Rattle.fs_txn.proofs.Keys.{key_itself, kept_in, told_push, txn_is, txn_itself}
 use Rattle.fs_txn.proofs.Locked.{commit_keeps, last_keeps}
 use Rattle.fs_txn.proofs.Telling.{drops, tells}
-use Rattle.fs_serial.specs.Cluster.{Cluster, Lines, with_answer, with_sent}
+use Rattle.fs_serial.specs.Cluster.{Cluster}
 use Rattle.fs_serial.specs.Conclusions.{after_concluded}
 use Rattle.fs_serial.specs.Leading.{IsEnded, IsLeading, IsLedBy, IsToldOf, LedHolds}
 use Rattle.fs_serial.specs.Words.{desks_of, ending_at, kept_at, key_of, leading_at, prepared_in, ready_at, said_at, stage_of_key, telling_of, wanted_of}
 use Rattle.fs_serial.proofs.Transactions.Decisions.{IsTold, awaited_first, decision_word, decision_words, first_awaited, is_told, none_of_words, words_of, yes_said}
 use Rattle.fs_serial.proofs.Transactions.Decisions.IsTold.{told, untold}
 use Rattle.fs_serial.proofs.Transactions.Desks.{FilesApart, each_after, ended_then, files_still, is_at, leading_then, prepared_set, same_at, telling_append, told_then, was_at}
+use Rattle.fs_serial.proofs.Transactions.OthersKeep.{ended_waits, leading_waits, sent_client, waits_alike}
 use Rattle.fs_serial.proofs.Transactions.Tables.{In_some, all_stay, ending_kept, ending_other, ending_over, ending_set, ending_there, in_kept, in_with_ending, in_without_leading, kept_there, leading_gone, leading_left, locks_alike, said_its, said_left, txn_apart}
 
 -- ## Parts of a server's own transactions
@@ -144,17 +141,6 @@ denied false h = refl
 no_option : {X Y : Type 0} (f : X → Y) (o : Option X) → option_map f o ≡ None → o ≡ None
 no_option f None h = refl
 no_option f (Some x) h = absurd (cc h)
-
--- ## Lines
-
-sent_client : (k : ℕ) (ms : List (Peer × Msg)) (lines : Session → Lines) (y : Session) → (with_sent k ms lines y).client ≡ (lines y).client
-sent_client k [] lines y = refl
-sent_client k ((OfSession to, msg.Answer a) ∷ rest) lines y = sent_client k rest (with_answer k to a lines) y ∙ by (to.0 == y.0)
-  where
-    by : (b : Bool) → (let l : Lines = cond b (record (lines y) { down = (lines y).down ++ (k, a) ∷ [] }) (lines y) in l).client ≡ (lines y).client
-    by true = refl
-    by false = refl
-sent_client k (m ∷ rest) lines y = sent_client k rest lines y
 
 -- ## The decision
 
@@ -435,22 +421,7 @@ module _ (k : ℕ) (c : Cluster) (s : Server) (at : slice_get c.servers k ≡ So
   -- ## Its tables
 
   waits_still : (z : Session) (n : ℕ) (m : Led) → IsLedBy c.lines z n m → IsLedBy after.lines z n m
-  waits_still z n m h = record {
-    led = ap (λ (a : Client). a.led) (sent_client k x.out.send c.lines z) ∙ h.led;
-    asked = ap (λ (a : Client). a.exchange) (sent_client k x.out.send c.lines z) ∙ h.asked;
-  }
-
-  leading_later : (z : Server) (m : Leading) → IsLeading c.lines z held.parts m → IsLeading after.lines z held.parts m
-  leading_later z m q = record {
-    own = q.own; begun = q.begun; one = q.one; only = q.only; votes = q.votes; asked = q.asked; home = q.home; wanted = q.wanted;
-    led = q.led; client = waits_still m.leader.session z.me q.led q.client; leader = q.leader; plain = q.plain;
-  }
-
-  ending_later : (z : Server) (m : Ending) → IsEnded c.lines z held.parts m → IsEnded after.lines z held.parts m
-  ending_later z m q = record {
-    own = q.own; begun = q.begun; one = q.one; only = q.only; waits = q.waits; awaited = q.awaited;
-    led = q.led; client = waits_still m.session z.me q.led q.client; fits = q.fits;
-  }
+  waits_still z n m h = waits_alike c.lines after.lines z n m (sent_client k x.out.send c.lines z) h
 
   leading_here : (m : Leading) → In m y.leading → IsLeading c.lines y held.parts m
   leading_here m i =
@@ -521,8 +492,8 @@ module _ (k : ℕ) (c : Cluster) (s : Server) (at : slice_get c.servers k ≡ So
     led_concluded = record {
       parts = held.parts;
       stages = stages_concluded;
-      leading = λ z i m j. leading_later z m (each_after (λ a. In m a.leading → IsLeading c.lines a held.parts m) c.servers k y (λ a p q. held.leading a p m q) (leading_here m) z i j);
-      ending = λ z i m j. ending_later z m (each_after (λ a. In m a.ending → IsEnded c.lines a held.parts m) c.servers k y (λ a p q. held.ending a p m q) (ending_here m) z i j);
+      leading = λ z i m j. leading_waits c.lines after.lines z held.parts m (waits_still m.leader.session z.me) (each_after (λ a. In m a.leading → IsLeading c.lines a held.parts m) c.servers k y (λ a p q. held.leading a p m q) (leading_here m) z i j);
+      ending = λ z i m j. ended_waits c.lines after.lines z held.parts m (waits_still m.session z.me) (each_after (λ a. In m a.ending → IsEnded c.lines a held.parts m) c.servers k y (λ a p q. held.ending a p m q) (ending_here m) z i j);
       ready = λ z i r j. each_after (λ a. In r a.prepared → find (is_part r.txn r.number) a.prepared ≡ Some r) c.servers k y (λ a p q. held.ready a p r q) (held.ready s here r) z i j;
       locks = λ z i. each_after (λ a. LocksHold a.rows (said_at a) (kept_at a)) c.servers k y held.locks locks_concluded z i;
       files = files_concluded;
