@@ -1,7 +1,10 @@
 -- Transactions between servers, while their words are on their way.
-pub mod Tables
 pub mod Desks
 pub mod DecidedStill
+pub mod Tables
 pub mod Decisions
+pub mod OneOfSession
+pub mod OwnersOfLocks
 pub mod OthersKeep
+pub mod LedDecided
 pub mod LedConcluded
