@@ -26,5 +26,6 @@ pub mod Leading
 pub mod Conclusions
 pub mod Owed
 pub mod Seen
+pub mod Meanwhile
 pub mod Runs
 pub mod Refusals
