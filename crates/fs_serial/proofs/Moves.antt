@@ -7,3 +7,4 @@ pub mod ComingParts
 pub mod Arriving
 pub mod ParcelFits
 pub mod Replaced
+pub mod Unlocked

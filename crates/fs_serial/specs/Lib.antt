@@ -23,6 +23,9 @@ pub mod Cluster
 pub mod Places
 pub mod Words
 pub mod Leading
+pub mod Conclusions
+pub mod Owed
 pub mod Seen
+pub mod Meanwhile
 pub mod Runs
 pub mod Refusals

@@ -1,13 +1,17 @@
 -- Where each file is: with one server, or on its way to one.
-use Rattle.std.specs.Prelude.{◌≡◌, ℕ, ◌+◌, ◌<◌, Bool, true, List, filter, length, slice_get, Some, is_some}
+use Rattle.std.specs.Prelude.{◌≡◌, ℕ, ◌+◌, ◌<◌, Bool, true, List, filter, length, slice_get, Some, None, is_some}
 use Rattle.std.specs.FinMap.{get}
 use Rattle.fs_ident.specs.In.{In}
 use Rattle.fs_field.specs.Field.{file_of}
 use Rattle.fs_field.specs.Table.{is_ordered}
 use Rattle.fs_field.specs.declared.row.Row.{Row}
+use Rattle.fs_field.specs.declared.vote.Vote.{Vote}
+use Rattle.fs_field.specs.declared.vote.Vote.TheVariants as vote
 use Rattle.fs_map.specs.Lists.{places_of}
-use Rattle.fs_map.specs.Map.{IsMap, gives}
+use Rattle.fs_map.specs.Map.{IsMap, gives, server_of}
 use Rattle.fs_msg.specs.declared.item.Item.{Item}
+use Rattle.fs_msg.specs.declared.peer_msg.PeerMsg.{PeerMsg}
+use Rattle.fs_msg.specs.declared.peer_msg.PeerMsg.TheVariants as peer
 use Rattle.fs_parcel.specs.Parcel.{is_formed, is_of_given}
 use Rattle.fs_record.specs.Moving.{AreEachRecords}
 use Rattle.fs_record.specs.declared.parcel.Parcel.{Parcel}
@@ -48,16 +52,35 @@ pub record IsSent (journal : List Item) (p : Parcel) : Type 0 where
   pub listed : (place : List ℕ) → In place (places_of p.piece.given) → IsMade journal place
   pub each : AreEachRecords p.records
   pub ordered : is_ordered p.rows ≡ true
+  -- what a transaction keeps does not move
+  pub unlocked : (r : Row) → In r p.rows → r.lock ≡ None
 
--- the message goes to one of so many servers, and hands something over: what a server leads it has whole
-abbrev pub IsHandover : ℕ → InFlight → Type 0
-IsHandover servers f = (f.to < servers) × (is_some (parcel_in f.message) ≡ true)
+-- a vote that the file is elsewhere names one of so many servers
+abbrev pub VoteNames : ℕ → Vote → Type 0
+VoteNames servers (vote.Moved prefix to) = to < servers
+VoteNames servers v = Unit {0}
+
+abbrev pub MessageNames : ℕ → PeerMsg → Type 0
+MessageNames servers (peer.Vote m) = VoteNames servers m.vote
+MessageNames servers m = Unit {0}
+
+-- the message goes from one of so many servers to one of them, and names no others
+pub record IsUnderway (servers : ℕ) (f : InFlight) : Type 0 where
+  pub from : f.from < servers
+  pub to : f.to < servers
+  pub names : MessageNames servers f.message
+
+-- all that is on its way between servers hands something over: what a server leads it has whole
+abbrev pub AreHandovers : List InFlight → Type 0
+AreHandovers in_flight = (f : InFlight) → In f in_flight → is_some (parcel_in f.message) ≡ true
 
 -- everything is at its place, each message goes to a server that there is, and no two rows have one number
 pub record PlacesHold (c : Cluster) : Type 0 where
   pub one : OnePlace c.servers (parcels_of c.in_flight)
   pub homes : (s : Server) → In s c.servers → IsHome c.journal s
   pub sent : (p : Parcel) → In p (parcels_of c.in_flight) → IsSent c.journal p
-  pub goes : (f : InFlight) → In f c.in_flight → IsHandover (length c.servers) f
+  pub goes : (f : InFlight) → In f c.in_flight → IsUnderway (length c.servers) f
   pub ordered : is_ordered (rows_of_all c.servers (parcels_of c.in_flight)) ≡ true
   pub numbered : (k : ℕ) (s : Server) → slice_get c.servers k ≡ Some s → s.me ≡ k
+  -- each map names servers that there are
+  pub named : (s : Server) → In s c.servers → (id : List ℕ) → server_of s.map id < length c.servers

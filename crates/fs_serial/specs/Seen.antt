@@ -8,7 +8,7 @@ use Rattle.fs_server.specs.declared.state.Server.{Server}
 use Rattle.fs_serial.specs.Cluster.{Cluster, Lines, parcels_of}
 use Rattle.fs_serial.specs.Exchange.{asked_server, is_recall}
 use Rattle.fs_serial.specs.Joined.{records_of_all, rows_of_all}
-use Rattle.fs_serial.specs.Places.{PlacesHold}
+use Rattle.fs_serial.specs.Places.{AreHandovers, PlacesHold}
 use Rattle.fs_serial.specs.Sight.{Counts}
 use Rattle.fs_serial.specs.World.{Ends, World, WorldHolds}
 
@@ -52,3 +52,4 @@ pub record ClusterHolds (skew greatest : ℕ) (c : Cluster) : Type 0 where
   pub skewed : (s : Server) → In s c.servers → s.skew ≡ skew
   pub addressed : (x : Session) → IsAddressed (c.lines x)
   pub places : PlacesHold c
+  pub handovers : AreHandovers c.in_flight

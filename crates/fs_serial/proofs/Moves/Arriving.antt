@@ -1,5 +1,5 @@
 -- A parcel that comes: it fits, all rows and records are as before, and everything is at its place.
-use Rattle.std.proofs.Common.{◌≡◌, ◌≤◌, ◌++◌, ℕ, true, List, [], refl, ap, sym, ◌∙◌, subst, append-nil}
+use Rattle.std.proofs.Common.{◌≡◌, ◌≤◌, ◌++◌, ℕ, true, List, [], refl, ap, sym, ◌∙◌, subst, append-nil, ◌<◌, length}
 use Rattle.std.specs.Prelude.{Some, slice_get, slice_set}
 use Rattle.std.specs.List.{find}
 use Rattle.fs_ident.specs.In.{In}
@@ -19,7 +19,7 @@ use Rattle.fs_serial.specs.Refusals.{rows_in}
 use Rattle.fs_serial.specs.Runs.{held_by}
 use Rattle.fs_serial.specs.Seen.{with_all}
 use Rattle.fs_serial.specs.Sight.{Counts, sight_of}
-use Rattle.fs_serial.proofs.Moves.ComingParts.{came_home, came_managed, came_parts}
+use Rattle.fs_serial.proofs.Moves.ComingParts.{came_home, came_managed, came_named, came_parts}
 use Rattle.fs_serial.proofs.Lists.Counted.{total_set}
 use Rattle.fs_serial.proofs.Places.HeldRecords.{same_records}
 use Rattle.fs_serial.proofs.Places.HeldRows.{same_rows}
@@ -30,6 +30,7 @@ use Rattle.fs_serial.proofs.Moves.Parted.{IsInPlace, one_whole, record_parted, r
 use Rattle.fs_serial.proofs.Moves.Replaced.{replaced, replaced_places}
 use Rattle.fs_serial.proofs.Lists.SetAt.{In_kept, In_new, In_set, In_without}
 use Rattle.fs_serial.proofs.Lists.Times.{all_once}
+use Rattle.std.proofs.lemmas.Option.{slice_get_within}
 
 module _ (k from : ℕ) (c : Cluster) (s : Server) (p : Parcel) (at : slice_get c.servers k ≡ Some s) (h : PlacesHold c) (way : find (is_between from k) c.in_flight ≡ Some (record { from = from; to = k; message = peer.Parcel p })) where
   abbrev comes : InFlight
@@ -83,6 +84,7 @@ module _ (k from : ℕ) (c : Cluster) (s : Server) (p : Parcel) (at : slice_get 
       (came_home c h s here p flies)
       (λ x i. h.sent x (taken_less (is_between from k) c.in_flight x i))
       (λ f i. h.goes f (In_without (is_between from k) c.in_flight f i))
+      (came_named c h s here p flies (subst (λ n. n < length c.servers) (sym (h.numbered k s at)) (slice_get_within c.servers k s at)))
       rows_then
 
 -- an honest parcel fits where it comes

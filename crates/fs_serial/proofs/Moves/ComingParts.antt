@@ -1,5 +1,5 @@
 -- A server that installed a parcel: what it had, and what the parcel has, are its two parts.
-use Rattle.std.proofs.Common.{◌≡◌, ◌⊎◌, ◌==◌, ◌+◌, ◌≤◌, ℕ, Bool, true, false, List, refl, ap, sym, ◌∙◌, subst, inl, inr, cond, arith}
+use Rattle.std.proofs.Common.{◌≡◌, ◌⊎◌, ◌==◌, ◌+◌, ◌≤◌, ℕ, Bool, true, false, List, refl, ap, sym, ◌∙◌, subst, inl, inr, cond, arith, ◌<◌, length}
 use Rattle.std.specs.Prelude.{Option, Some, None, is_some}
 use Rattle.std.specs.FinMap.{get}
 use Rattle.std.specs.Cmp.{nat_eq_equiv}
@@ -106,6 +106,13 @@ module _ (c : Cluster) (h : PlacesHold c) (s : Server) (i : In s c.servers) (f :
       let other : one_if (now == s.me) ≡ 0 = ap one_if o in
       rw t (omega arith)
   split false own then now t o n = rw t (omega arith)
+
+  pub came_named : s.me < length c.servers → (id : List ℕ) → server_of (map_after_take s.map s.me f.prefix f.piece.given) id < length c.servers
+  came_named mine id = subst (λ n. n < length c.servers) (sym (tells id)) (either (gone id))
+    where
+      either : (b : Bool) → cond b s.me (server_of s.map id) < length c.servers
+      either true = mine
+      either false = h.named s i id
 
   pub came_managed : AreManaged all_of s f
   came_managed id = split (gone id) (is_mine s id) (server_of (map_after_take s.map s.me f.prefix f.piece.given) id) (server_of s.map id) (tells id) refl (λ a b. not_both c.servers (parcels_of c.in_flight) h.one id s f i j a b)

@@ -26,7 +26,7 @@ use Rattle.fs_record.specs.declared.record.Record.{Record}
 use Rattle.fs_record.proofs.Kept.{record_at}
 use Rattle.fs_record.proofs.Parting.{left_at}
 use Rattle.fs_record.proofs.Returning.{given_each}
-use Rattle.fs_rows.specs.Moving.{is_on_given, rows_left}
+use Rattle.fs_rows.specs.Moving.{is_on_given, rows_left, locked_in}
 use Rattle.fs_server.specs.Moves.{hands_over, move_at, move_step, refusal_of, without_given}
 use Rattle.fs_server.specs.Server.{is_mine, only_noted}
 use Rattle.fs_server.specs.declared.event.ServerEvent.TheVariants.{Move}
@@ -38,14 +38,14 @@ use Rattle.fs_serial.specs.Cluster.{Cluster, InFlight, after_step, parcels_of}
 use Rattle.fs_serial.specs.Fresh.{IsMade}
 use Rattle.fs_serial.specs.Joined.{records_of_all, rows_of_all}
 use Rattle.fs_serial.specs.Parts.{ServersFit}
-use Rattle.fs_serial.specs.Places.{IsHome, IsSent, OnePlace, PlacesHold, IsHandover}
+use Rattle.fs_serial.specs.Places.{IsHome, IsSent, OnePlace, PlacesHold, IsUnderway}
 use Rattle.fs_serial.specs.Refusals.{rows_in}
 use Rattle.fs_serial.specs.Runs.{held_by}
 use Rattle.fs_serial.specs.Seen.{with_all}
 use Rattle.fs_serial.specs.Sight.{Counts, sight_of}
 use Rattle.fs_serial.proofs.Lists.Counted.{total, total_append, total_set}
 use Rattle.fs_serial.proofs.Lists.Facts.{there_is}
-use Rattle.fs_serial.proofs.Moves.GoingParts.{going, managed, parted, parts, still_mine}
+use Rattle.fs_serial.proofs.Moves.GoingParts.{going, managed, parted, parts, still_mine, tells}
 use Rattle.fs_serial.proofs.Places.HeldRecords.{has_record, same_records}
 use Rattle.fs_serial.proofs.Places.HeldRows.{same_rows}
 use Rattle.fs_serial.proofs.Lists.Listed.{map_made, piece_made}
@@ -55,10 +55,12 @@ use Rattle.fs_serial.proofs.Moves.Parted.{IsInPlace, one_parted, record_parted, 
 use Rattle.fs_serial.proofs.Moves.Replaced.{replaced_places}
 use Rattle.fs_serial.proofs.Lists.SetAt.{In_kept, In_new, In_set, set_same}
 use Rattle.fs_serial.proofs.Lists.Times.{all_once}
+use Rattle.std.proofs.lemmas.Option.{slice_get_within}
+use Rattle.fs_serial.proofs.Moves.Unlocked.{free_of, unlocked_below}
 
 -- ## What is there then
 
-last_or_before : {X : Type 0} (xs : List X) (y x : X) → In x (xs ++ y ∷ []) → (x ≡ y) ⊎ In x xs
+pub last_or_before : {X : Type 0} (xs : List X) (y x : X) → In x (xs ++ y ∷ []) → (x ≡ y) ⊎ In x xs
 last_or_before xs y x i = elim (In-append x xs (y ∷ []) i) as (λ _. (x ≡ y) ⊎ In x xs) [
   | inl j ↦ inr j
   | inr j ↦ elim j as (λ _. (x ≡ y) ⊎ In x xs) [ inl e ↦ inl e | inr z ↦ absurd z ]
@@ -130,11 +132,16 @@ no : {A : Type 0} (b : Bool) (x : A) (o : Option A) → cond b (Some x) o ≡ No
 no true x o h = absurd (cc)
 no false x o h = refl
 
+then : {A : Type 0} (b : Bool) (x : A) (o : Option A) → cond b (Some x) o ≡ None → o ≡ None
+then true x o h = absurd (cc)
+then false x o h = h
+
 -- the prefix is the server's, has a record, and the other is another server
 record CanMove (s : Server) (prefix : List ℕ) (to : ℕ) : Type 0 where
   mine : server_of s.map prefix ≡ s.me
   lives : is_some (get s.records prefix) ≡ true
   other : (to == s.me) ≡ false
+  free : locked_in prefix s.map s.me s.rows ≡ None
 
 can_move : (s : Server) (prefix : List ℕ) (to : ℕ) → move_refusal s.records s.rows s.map s.me prefix to None ≡ None → CanMove s prefix to
 can_move s prefix to h =
@@ -144,6 +151,7 @@ can_move s prefix to h =
       mine = prefix_is_mine s.records s.rows s.map s.me prefix to None h;
       lives = b.0;
       other = no (to == s.me) _ _ b.1;
+      free = free_of (locked_in prefix s.map s.me s.rows) (then (to == s.me) _ _ b.1);
     }
 
 -- ## At its place
@@ -209,6 +217,8 @@ module _ (k : ℕ) (c : Cluster) (s : Server) (prefix : List ℕ) (to : ℕ) (at
     listed = piece_made c.journal s.map s.me prefix prefix_made home.listed;
     each = given_each prefix given s.records sound;
     ordered = ordered_filter (is_on_given prefix given) s.rows home.ordered;
+    unlocked = λ r i. unlocked_below prefix s.map s.me s.rows m.free r (In-filter (is_on_given prefix given) r s.rows i)
+        (sym ((piece_piece s.map s.me prefix m.mine).1 (file_of r.field)) ∙ passing (is_on_given prefix given) s.rows r i);
   }
 
   sent_then : (p : Parcel) → In p (parcels_of (c.in_flight ++ going k prefix to s ∷ [])) → IsSent c.journal p
@@ -217,11 +227,18 @@ module _ (k : ℕ) (c : Cluster) (s : Server) (prefix : List ℕ) (to : ℕ) (at
     | inr j ↦ h.sent p j
   ]
 
-  goes_then : to < length c.servers → (x : InFlight) → In x (c.in_flight ++ going k prefix to s ∷ []) → IsHandover (length c.servers) x
-  goes_then is x i = elim (last_or_before c.in_flight (going k prefix to s) x i) as (λ _. IsHandover (length c.servers) x) [
-    | inl e ↦ subst (IsHandover (length c.servers)) (sym e) (is, refl)
+  goes_then : to < length c.servers → (x : InFlight) → In x (c.in_flight ++ going k prefix to s ∷ []) → IsUnderway (length c.servers) x
+  goes_then is x i = elim (last_or_before c.in_flight (going k prefix to s) x i) as (λ _. IsUnderway (length c.servers) x) [
+    | inl e ↦ subst (IsUnderway (length c.servers)) (sym e) (record { from = slice_get_within c.servers k s at; to = is; names = tt })
     | inr j ↦ h.goes x j
   ]
+
+  named_then : to < length c.servers → (id : List ℕ) → server_of left.map id < length c.servers
+  named_then is id = subst (λ n. n < length c.servers) (sym (tells prefix to s m.mine id)) (either (gives prefix given id))
+    where
+      either : (b : Bool) → cond b to (server_of s.map id) < length c.servers
+      either true = is
+      either false = h.named s here id
 
   one_then : OnePlace (slice_set c.servers k left) (parcels_of (c.in_flight ++ going k prefix to s ∷ []))
   one_then = subst (OnePlace (slice_set c.servers k left)) (sym (parcels_are k c s prefix to at))
@@ -233,6 +250,7 @@ module _ (k : ℕ) (c : Cluster) (s : Server) (prefix : List ℕ) (to : ℕ) (at
       home_left
       sent_then
       (goes_then is)
+      (named_then is)
       (rows_then k c s prefix to at h)
 
 -- everything is at its place

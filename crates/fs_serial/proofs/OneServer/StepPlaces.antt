@@ -1,11 +1,11 @@
 -- After a step that comes to the same at the server that has all, everything is at its place again.
-use Rattle.std.proofs.Common.{◌≡◌, ℕ, zero, suc, ◌+◌, ◌==◌, Bool, true, false, List, [], ◌∷◌, ◌++◌, length, length-append, refl, ap, ap₂, cond, subst, sym, ◌∙◌, inl, inr, arith}
+use Rattle.std.proofs.Common.{◌≡◌, ℕ, zero, suc, ◌+◌, ◌<◌, ◌==◌, Bool, true, false, List, [], ◌∷◌, ◌++◌, length, length-append, refl, ap, ap₂, cond, subst, sym, ◌∙◌, inl, inr, arith}
 use Rattle.std.specs.Prelude.{Option, Some, None, is_some, slice_get, slice_set}
 use Rattle.std.specs.List.{filter}
 use Rattle.std.proofs.lemmas.List.Elements.{filter-append}
 use Rattle.fs_ident.specs.In.{In}
 use Rattle.fs_ident.specs.declared.kind.Kind.{Kind}
-use Rattle.fs_ident.proofs.Standing.{In-append, In-front, In-behind}
+use Rattle.fs_ident.proofs.Standing.{In-append, In-front, In-behind, In-got}
 use Rattle.fs_field.specs.Table.{is_ordered}
 use Rattle.fs_map.specs.Map.{server_of}
 use Rattle.fs_msg.specs.declared.item.Item.{Item}
@@ -15,7 +15,7 @@ use Rattle.fs_server.specs.declared.event.ServerEvent.{ServerEvent}
 use Rattle.fs_server.specs.declared.state.Server.{Server}
 use Rattle.fs_serial.specs.Cluster.{Cluster, after_step, parcels_of}
 use Rattle.fs_serial.specs.Fresh.{IsMade, made_in, made_by, or_else, root_kind}
-use Rattle.fs_serial.specs.Places.{IsHome, IsSent, OnePlace, PlacesHold, gives_it, places_for, IsHandover}
+use Rattle.fs_serial.specs.Places.{IsHome, IsSent, OnePlace, PlacesHold, gives_it, places_for, IsUnderway}
 use Rattle.fs_serial.proofs.Places.RestOf.{IsBetween, between}
 use Rattle.fs_serial.proofs.OneServer.SameStep.{IsSameStep}
 
@@ -37,7 +37,7 @@ pub home_still : (is more : List Item) (s : Server) → IsHome is s → IsHome (
 home_still is more s h = record { map = h.map; listed = λ place i. made_still is more place (h.listed place i); rows = h.rows; records = h.records; ordered = h.ordered }
 
 pub sent_still : (is more : List Item) (p : Parcel) → IsSent is p → IsSent (is ++ more) p
-sent_still is more p h = record { formed = h.formed; given = h.given; listed = λ place i. made_still is more place (h.listed place i); each = h.each; ordered = h.ordered }
+sent_still is more p h = record { formed = h.formed; given = h.given; listed = λ place i. made_still is more place (h.listed place i); each = h.each; ordered = h.ordered; unlocked = h.unlocked }
 
 -- ## One server in place of another
 
@@ -97,9 +97,12 @@ step_places k e s small big c is places h =
       one = λ id. ap₂ (λ ss fs. places_for id ss (parcels_of fs)) servers h.still ∙ one_same b.front b.back s t h.me h.map (parcels_of c.in_flight) (λ id. ap (λ ss. places_for id ss (parcels_of c.in_flight)) (sym b.is) ∙ places.one id) id;
       homes = λ x i. home_still c.journal small.out.admitted x (each_same b.front b.back s t h.me h.map (IsHome c.journal) (λ y j. places.homes y (subst (In y) (sym b.is) j)) h.home x (subst (In x) servers i));
       sent = λ p i. sent_still c.journal small.out.admitted p (places.sent p (subst (λ fs. In p (parcels_of fs)) h.still i));
-      goes = λ f i. subst (λ m. IsHandover m f) (sym (ap length servers ∙ n)) (places.goes f (subst (In f) h.still i));
+      goes = λ f i. subst (λ m. IsUnderway m f) (sym (ap length servers ∙ n)) (places.goes f (subst (In f) h.still i));
       ordered = subst (λ (u : Server). is_ordered u.rows ≡ true) h.server h.ordered;
       numbered = λ j x e. numbered_same b.front b.back s t h.me 0 (λ i y d. places.numbered i y (ap (λ ss. slice_get ss i) b.is ∙ d) ∙ zero_more i) j x (ap (λ ss. slice_get ss j) (sym servers) ∙ e) ∙ sym (zero_more j);
+      named = λ x i id. subst (λ m. server_of x.map id < m) (sym (ap length servers ∙ n))
+          (each_same b.front b.back s t h.me h.map (λ y. (j : List ℕ) → server_of y.map j < length c.servers) (λ y j. places.named y (subst (In y) (sym b.is) j))
+          (λ j. subst (λ o. server_of o j < length c.servers) (sym h.map) (places.named s (In-got c.servers k s is) j)) x (subst (In x) servers i) id);
     }
   where
     zero_more : (i : ℕ) → i ≡ 0 + i

@@ -1,5 +1,5 @@
 -- At the begin of a server's event its own rows that are over lapse.
-use Rattle.std.proofs.Common.{◌≡◌, ℕ, zero, suc, ◌+◌, ◌≤◌, ◌==◌, ◌||◌, max, not, nat_lt, Bool, true, false, List, [], ◌∷◌, length, length-set, cond, refl, sym, ap, ◌∙◌, subst, inl, inr, arith}
+use Rattle.std.proofs.Common.{◌≡◌, ℕ, zero, suc, ◌+◌, ◌≤◌, ◌==◌, ◌||◌, max, not, nat_lt, Bool, true, false, List, [], ◌∷◌, length, length-set, cond, refl, sym, ap, ◌∙◌, subst, inl, inr, arith, ◌<◌}
 use Rattle.std.specs.Prelude.{◌≢◌, Some, is_some, slice_get, slice_set}
 use Rattle.std.specs.List.{filter}
 use Rattle.std.proofs.lemmas.Bool.{or_parts, eqb-true, eqb-false, ltb-false}
@@ -20,7 +20,7 @@ use Rattle.fs_server.specs.Server.{begun, is_mine}
 use Rattle.fs_server.specs.declared.state.Server.{Server}
 use Rattle.fs_serial.specs.Cluster.{Cluster, parcels_of}
 use Rattle.fs_serial.specs.Joined.{rows_of_all, with_all_of, with_parcels, with_rows_in, with_rows_of}
-use Rattle.fs_serial.specs.Places.{IsHome, PlacesHold, gives_it, IsHandover}
+use Rattle.fs_serial.specs.Places.{IsHome, PlacesHold, gives_it, IsUnderway}
 use Rattle.fs_serial.specs.Seen.{ClusterHolds, given_at, reaps_at, world_of}
 use Rattle.fs_serial.specs.World.{World, WorldHolds}
 use Rattle.fs_serial.proofs.Places.AtHome.{others_rows, parcels_rows}
@@ -100,7 +100,11 @@ places_set c k s t at p map me home ordered = record {
       (as_many (λ (u : Server). is_mine u id) c.servers k s t at (ap (λ m. server_of m id == t.me) map ∙ ap (λ n. server_of s.map id == n) me)) ∙ p.one id;
   homes = λ u i. elim (In_set c.servers k t u i) as (λ _. IsHome c.journal u) [ inl e ↦ subst (IsHome c.journal) (sym e) home | inr j ↦ p.homes u j ];
   sent = p.sent;
-  goes = λ f i. subst (λ n. IsHandover n f) (sym (length-set c.servers k t)) (p.goes f i);
+  goes = λ f i. subst (λ n. IsUnderway n f) (sym (length-set c.servers k t)) (p.goes f i);
+  named = λ u i id. subst (λ n. server_of u.map id < n) (sym (length-set c.servers k t)) (elim (In_set c.servers k t u i) as (λ _. server_of u.map id < length c.servers) [
+    | inl e ↦ subst (λ o. server_of o id < length c.servers) (sym (ap (λ (v : Server). v.map) e ∙ map)) (p.named s (In-got c.servers k s at) id)
+    | inr j ↦ p.named u j id
+  ]);
   ordered = ordered;
   numbered = λ j u e. elim (j == k) as (λ b. (j == k) ≡ b → u.me ≡ j) [
     | true ↦ λ q.
@@ -193,4 +197,5 @@ module _ (skew greatest now k : ℕ) (s : Server) (c : Cluster) (at : slice_get 
     skewed = skewed_then;
     addressed = h.addressed;
     places = places_then;
+    handovers = h.handovers;
   }

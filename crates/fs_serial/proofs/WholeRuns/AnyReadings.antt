@@ -206,12 +206,12 @@ module _ (skew greatest : ℕ) (c : Cluster) (h : HoldsAnyhow skew greatest c) w
   home_too s p = record { map = p.map; listed = λ place i. made_too place (p.listed place i); rows = p.rows; records = p.records; ordered = p.ordered }
 
   sent_too : (a : Parcel) → IsSent h.journal a → IsSent c.journal a
-  sent_too a p = record { formed = p.formed; given = p.given; listed = λ place i. made_too place (p.listed place i); each = p.each; ordered = p.ordered }
+  sent_too a p = record { formed = p.formed; given = p.given; listed = λ place i. made_too place (p.listed place i); each = p.each; ordered = p.ordered; unlocked = p.unlocked }
 
   pub anyhow_places : PlacesHold c
   anyhow_places =
       let p = h.holds.places in
-      record { one = p.one; homes = λ s i. home_too s (p.homes s i); sent = λ a i. sent_too a (p.sent a i); goes = p.goes; ordered = p.ordered; numbered = p.numbered }
+      record { one = p.one; homes = λ s i. home_too s (p.homes s i); sent = λ a i. sent_too a (p.sent a i); goes = p.goes; ordered = p.ordered; numbered = p.numbered; named = p.named }
 
   pub anyhow_orderly : IsOrderly c
   anyhow_orderly =

@@ -22,7 +22,7 @@ use Rattle.fs_client.specs.declared.state.Client.{Client}
 use Rattle.fs_serial.specs.Cluster.{CanCome, ClientEvent, Cluster, Does, InFlight, Hears, Lines, Turns, after_client, after_plan, is_with, parcels_of, with_lines, without_first}
 use Rattle.fs_serial.specs.Exchange.{OneExchange, asked_server}
 use Rattle.fs_serial.specs.Fresh.{IsMade}
-use Rattle.fs_serial.specs.Places.{PlacesHold, places_for, IsHandover}
+use Rattle.fs_serial.specs.Places.{PlacesHold, places_for, IsUnderway}
 use Rattle.fs_serial.specs.Runs.{held_by}
 use Rattle.fs_serial.specs.Seen.{ClusterHolds, IsAddressed, ends_of, world_of}
 use Rattle.fs_serial.specs.World.{Ends, World, WorldHolds, is_called, message_in, pushed, told_by, with_ends, with_told}
@@ -47,10 +47,11 @@ pub places_later : (c : Cluster) (journal : List Item) (replied : Session → Li
 places_later c journal replied lines still p = record {
   one = p.one;
   homes = λ s i. let home = p.homes s i in record { map = home.map; listed = λ place j. still place (home.listed place j); rows = home.rows; records = home.records; ordered = home.ordered };
-  sent = λ a i. let q = p.sent a i in record { formed = q.formed; given = q.given; listed = λ place j. still place (q.listed place j); each = q.each; ordered = q.ordered };
+  sent = λ a i. let q = p.sent a i in record { formed = q.formed; given = q.given; listed = λ place j. still place (q.listed place j); each = q.each; ordered = q.ordered; unlocked = q.unlocked };
   goes = p.goes;
   ordered = p.ordered;
   numbered = p.numbered;
+  named = p.named;
 }
 
 -- ## There is a server
@@ -60,9 +61,9 @@ not_empty [] n h = absurd (omega arith)
 not_empty (s ∷ ss) n h = (s, inl refl)
 
 -- each identifier has a place: a server, or a parcel on its way to one
-server_for : (servers ss : List Server) (fs : List InFlight) → ((s : Server) → In s ss → In s servers) → ((f : InFlight) → In f fs → IsHandover (length servers) f) → places_for [] ss (parcels_of fs) ≡ 1 → (s : Server) × In s servers
+server_for : (servers ss : List Server) (fs : List InFlight) → ((s : Server) → In s ss → In s servers) → ((f : InFlight) → In f fs → IsUnderway (length servers) f) → places_for [] ss (parcels_of fs) ≡ 1 → (s : Server) × In s servers
 server_for servers (s ∷ ss) fs among to one = (s, among s (inl refl))
-server_for servers [] (f ∷ fs) among to one = not_empty servers f.to (to f (inl refl)).0
+server_for servers [] (f ∷ fs) among to one = not_empty servers f.to (to f (inl refl)).to
 server_for servers [] [] among to one = absurd (omega arith)
 
 pub some_server : (c : Cluster) → PlacesHold c → (s : Server) × In s c.servers
@@ -193,6 +194,7 @@ module _ (skew greatest : ℕ) (c : Cluster) (by : Session) (h : ClusterHolds sk
         skewed = h.skewed;
         addressed = λ x. elim (by.0 == x.0) as (λ b. IsAddressed (cond b then (c.lines x))) [ true ↦ own | false ↦ h.addressed x ];
         places = places_later c (pushed p.out.admitted c.journal) (with_told by (told_by by p.ready.change p.out.admitted) c.replied) (with_lines by then c.lines) (λ id. made_later c.journal p.out.admitted id) h.places;
+        handovers = h.handovers;
       }
 
   pub turn_event : (now : ℕ) → ClusterHolds skew greatest (after_client by now Turns c)

@@ -22,6 +22,7 @@ cluster_later skew greatest later c rises h = record {
   skewed = h.skewed;
   addressed = h.addressed;
   places = h.places;
+  handovers = h.handovers;
 }
 
 -- ## Runs

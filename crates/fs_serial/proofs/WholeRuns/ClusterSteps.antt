@@ -1,7 +1,7 @@
 -- Every event of a server keeps all that holds of the cluster.
 use mathlib.Core.Path.{fun_ext}
 use Rattle.std.proofs.Common.{◌≡◌, ℕ, ◌<◌, ◌≤◌, ◌==◌, max, true, false, List, [], ◌++◌, length-set, append-nil, cond, refl, sym, ap, ◌∙◌, subst, inl, inr, arith}
-use Rattle.std.specs.Prelude.{Option, Some, None, slice_get, slice_set}
+use Rattle.std.specs.Prelude.{Option, Some, None, slice_get, slice_set, is_some}
 use Rattle.fs_ident.specs.In.{In}
 use Rattle.fs_ident.specs.declared.actor.Session.{Session}
 use Rattle.fs_ident.proofs.Passing.{found}
@@ -28,9 +28,9 @@ use Rattle.fs_server.specs.declared.event.ServerEvent.TheVariants as event
 use Rattle.fs_server.specs.declared.out.ServerOut.{ServerOut}
 use Rattle.fs_server.specs.declared.state.Server.{Server}
 use Rattle.fs_client.specs.declared.state.Client.{Client}
-use Rattle.fs_serial.specs.Cluster.{Cluster, IsThere, Lines, after_server, after_server_at, after_step, is_with, replies_after, with_sent, without_first, without_question, parcel_in}
+use Rattle.fs_serial.specs.Cluster.{Cluster, IsThere, Lines, after_server, after_server_at, after_step, is_with, replies_after, with_sent, without_first, without_question, parcel_in, InFlight, in_flight_from, is_between}
 use Rattle.fs_serial.specs.Exchange.{OneExchange, asked_server}
-use Rattle.fs_serial.specs.Places.{PlacesHold}
+use Rattle.fs_serial.specs.Places.{PlacesHold, AreHandovers}
 use Rattle.fs_serial.specs.Refusals.{rows_in}
 use Rattle.fs_serial.specs.Runs.{held_by}
 use Rattle.fs_serial.specs.Seen.{ClusterHolds, IsAddressed, counts_of, ends_of, given_at, reaps_at, with_all, world_of}
@@ -43,7 +43,7 @@ use Rattle.fs_serial.proofs.ClientMessages.Due.{HasAsked, event_due}
 use Rattle.fs_serial.proofs.Returns.Lapsing.{begins, begun_at}
 use Rattle.fs_serial.proofs.LedOperations.LeadEvents.{aborted_holds, led_holds, led_there, put_off_holds, replies_still}
 use Rattle.fs_serial.proofs.LedOperations.LeadSame.{abort_same, commit_same, refuse_same}
-use Rattle.fs_serial.proofs.Moves.Leaving.{move_places, move_same}
+use Rattle.fs_serial.proofs.Moves.Leaving.{move_places, move_same, last_or_before}
 use Rattle.fs_serial.proofs.Returns.LetGo.{all_let_go}
 use Rattle.fs_serial.proofs.OneServer.SameStep.{IsSameStep, begun_same, turn_same}
 use Rattle.fs_serial.proofs.DecidedEffects.Owing.{none_fits}
@@ -54,6 +54,7 @@ use Rattle.fs_serial.proofs.OneServer.StepPlaces.{step_places}
 use Rattle.fs_serial.proofs.Lists.Traffic.{ends_sent, ends_taken, messages}
 use Rattle.fs_serial.proofs.WholeRuns.Views.{all_views, alike_holds, count_set}
 use Rattle.fs_serial.proofs.LedOperations.Unled.{IsOther, none_flies}
+use Rattle.fs_serial.proofs.Moves.GoingParts.{going}
 
 -- ## What moves sends no session anything
 
@@ -115,8 +116,9 @@ module _ (skew greatest k : ℕ) (c : Cluster) (s : Server) (at : slice_get c.se
 
   module _ (e : ServerEvent) (there : IsThere k e c) where
     -- what the server that stepped sees, all see
-    finish : (x : Stepped) → x ≡ event_step e s → x.server.skew ≡ s.skew → x.server.last ≡ s.last → PlacesHold (after_step k e x c) → WorldHolds greatest (world_of x.server (after_step k e x c)) → ClusterHolds skew greatest (after_step k e x c)
-    finish x is same last places seen =
+    finish : (x : Stepped) → x ≡ event_step e s → x.server.skew ≡ s.skew → x.server.last ≡ s.last → PlacesHold (after_step k e x c) → AreHandovers (after_step k e x c).in_flight
+        → WorldHolds greatest (world_of x.server (after_step k e x c)) → ClusterHolds skew greatest (after_step k e x c)
+    finish x is same last places handovers seen =
         let skewed : (t : Server) → In t (slice_set c.servers k x.server) → t.skew ≡ skew = λ t i. elim (In_set c.servers k x.server t i) as (λ _. t.skew ≡ skew) [
           | inl q ↦ ap (λ (u : Server). u.skew) q ∙ same ∙ h.skewed s (In-got c.servers k s at)
           | inr j ↦ h.skewed t j
@@ -133,6 +135,7 @@ module _ (skew greatest k : ℕ) (c : Cluster) (s : Server) (at : slice_get c.se
               (event_due k (λ z. asked_server (without_question k e c.lines z).client.exchange) e s (has_asked k e c there h.addressed)))
               (taken_addressed k e c.lines h.addressed);
           places = places;
+          handovers = handovers;
         }
 
     -- where the server that has all takes the same step
@@ -161,14 +164,14 @@ module _ (skew greatest k : ℕ) (c : Cluster) (s : Server) (at : slice_get c.se
     same_step : (small big : Stepped) → small ≡ event_step e s → IsSameStep k e s small big c
         → WorldHolds greatest (record { server = big.server; counts = counts_of c.servers; decided = []; journal = c.journal ++ big.out.admitted; replied = replies_after e big.out.admitted c.replied; ends = world.with_sent big.out.send (world.without_taken e (λ x. ends_of (c.lines x))) })
         → ClusterHolds skew greatest (after_step k e small c)
-    same_step small big is q held = finish small is q.skew q.last (step_places k e s small big c at h.places q) (seen_after small big q held)
+    same_step small big is q held = finish small is q.skew q.last (step_places k e s small big c at h.places q) (subst AreHandovers (sym q.still) h.handovers) (seen_after small big q held)
 
     -- where all rows and records stay
-    moved_step : (x : Stepped) → x ≡ event_step e s → replies_after e x.out.admitted c.replied ≡ c.replied → IsQuietStep s x → ((y : Session) → without_question k e c.lines y ≡ c.lines y) → rows_in (after_step k e x c) ≡ rows_in c → held_by (after_step k e x c) ≡ held_by c → PlacesHold (after_step k e x c) → ClusterHolds skew greatest (after_step k e x c)
-    moved_step x is told q still rows records places =
+    moved_step : (x : Stepped) → x ≡ event_step e s → replies_after e x.out.admitted c.replied ≡ c.replied → IsQuietStep s x → ((y : Session) → without_question k e c.lines y ≡ c.lines y) → rows_in (after_step k e x c) ≡ rows_in c → held_by (after_step k e x c) ≡ held_by c → PlacesHold (after_step k e x c) → AreHandovers (after_step k e x c).in_flight → ClusterHolds skew greatest (after_step k e x c)
+    moved_step x is told q still rows records places handovers =
         let last : x.server.last ≡ s.last = q.last in
         let clock : s.last ≤ greatest = view.clock in
-        finish x is q.skew q.last places (alike_holds greatest (world_of s c) (world_of x.server (after_step k e x c)) (record {
+        finish x is q.skew q.last places handovers (alike_holds greatest (world_of s c) (world_of x.server (after_step k e x c)) (record {
           rows = rows;
           records = records;
           skew = q.skew;
@@ -206,7 +209,7 @@ module _ (skew greatest k : ℕ) (c : Cluster) (s : Server) (at : slice_get c.se
   asked_event by (Ship entries) there = other_event by (Ship entries) tt there
 
   none_led : (from : ℕ) (m : PeerMsg) → IsThere k (event.FromPeer from m) c → parcel_in m ≡ None → ⊥
-  none_led from m there is = none_flies k from c m h.places there is
+  none_led from m there is = none_flies k from c m h.handovers there is
 
   peer_event : (from : ℕ) (m : PeerMsg) → IsThere k (event.FromPeer from m) c → ClusterHolds skew greatest (after_step k (event.FromPeer from m) (event_step (event.FromPeer from m) s) c)
   peer_event from (peer.Parcel p) there =
@@ -216,11 +219,20 @@ module _ (skew greatest k : ℕ) (c : Cluster) (s : Server) (at : slice_get c.se
       let is : x ≡ event_step e s = ap (λ b. parcel_at b p s) (sym fits) in
       let same = arriving_same k from c s p at h.places there in
       subst (λ (y : Stepped). ClusterHolds skew greatest (after_step k e y c)) is
-      (moved_step e there x is refl (install_quiet (note.Installs p.prefix) p s) (λ y. refl) same.0 same.1 (arriving_places k from c s p at h.places there))
+      (moved_step e there x is refl (install_quiet (note.Installs p.prefix) p s) (λ y. refl) same.0 same.1 (arriving_places k from c s p at h.places there)
+      (λ f i. h.handovers f (In_without (is_between from k) c.in_flight f (subst (In f) (append-nil (without_first (is_between from k) c.in_flight)) i))))
   peer_event from (peer.Prepare m) there = absurd (none_led from (peer.Prepare m) there refl)
   peer_event from (peer.Vote m) there = absurd (none_led from (peer.Vote m) there refl)
   peer_event from (peer.Decide m) there = absurd (none_led from (peer.Decide m) there refl)
   peer_event from (peer.Done m) there = absurd (none_led from (peer.Done m) there refl)
+
+  -- a move hands over a parcel, or nothing
+  moved_over : (prefix : List ℕ) (to : ℕ) (o : Option MoveError) → AreHandovers (c.in_flight ++ in_flight_from k (move_at o prefix to s).out.send)
+  moved_over prefix to (Some why) f i = h.handovers f (subst (In f) (append-nil c.in_flight) i)
+  moved_over prefix to None f i = elim (last_or_before c.in_flight (going k prefix to s) f i) as (λ _. is_some (parcel_in f.message) ≡ true) [
+    | inl e ↦ ap (λ (x : InFlight). is_some (parcel_in x.message)) e
+    | inr j ↦ h.handovers f j
+  ]
 
   pub step_keeps : (e : ServerEvent) → IsThere k e c → ClusterHolds skew greatest (after_step k e (event_step e s) c)
   step_keeps (event.FromClient by m) there = asked_event by m there
@@ -234,6 +246,7 @@ module _ (skew greatest k : ℕ) (c : Cluster) (s : Server) (at : slice_get c.se
       let e = event.Move prefix to in
       let same = move_same k c s prefix to at h.places in
       moved_step e there (event_step e s) refl refl (move_quiet (move_refusal s.records s.rows s.map s.me prefix to None) prefix to s) (λ y. refl) same.0 same.1 (move_places k c s prefix to at h.places (counts_of c.servers) view.all.kept there)
+      (moved_over prefix to (move_refusal s.records s.rows s.map s.me prefix to None))
 
 -- ## Every event
 

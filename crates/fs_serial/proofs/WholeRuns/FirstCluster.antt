@@ -1,5 +1,5 @@
 -- At the start everything is at the first server, and all parts hold.
-use Rattle.std.proofs.Common.{◌≡◌, ℕ, zero, suc, ◌+◌, ◌≤◌, ◌==◌, Bool, true, false, List, [], ◌∷◌, ◌++◌, length, length-append, cond, refl, sym, ap, ◌∙◌, subst, inl, inr, arith}
+use Rattle.std.proofs.Common.{◌≡◌, ℕ, zero, suc, ◌+◌, ◌≤◌, ◌==◌, Bool, true, false, List, [], ◌∷◌, ◌++◌, length, length-append, cond, refl, sym, ap, ◌∙◌, subst, inl, inr, arith, ◌<◌}
 use Rattle.std.specs.Prelude.{◌⊎◌, Option, Some, None, is_some, option_map, slice_get, unwrap_or}
 use Rattle.std.specs.List.{filter}
 use Rattle.std.specs.Cmp.Lexicographic.{slice_cmp}
@@ -137,6 +137,10 @@ module _ (n skew term greatest : ℕ) where
   no_row : with_rows_of c.servers [] ≡ []
   no_row = no_rows c.servers (each (λ s. s.rows ≡ []) (λ k. refl))
 
+  -- the first map names the first server, which there is
+  some_first : (id : List ℕ) → server_of first_map id < length c.servers
+  some_first id = subst (λ m. m < length c.servers) (sym (at_first id)) (let more = length-append (first_servers n skew term) (first_server n skew term ∷ []) in omega arith)
+
   first_places : PlacesHold c
   first_places = record {
     one = λ id. let q = first_manages n skew term id in omega arith;
@@ -145,6 +149,7 @@ module _ (n skew term greatest : ℕ) where
     goes = λ f i. absurd i;
     ordered = ap is_ordered no_row;
     numbered = λ k s e. ap (λ (t : Server). t.me) (first_at skew term (suc n) k s e);
+    named = each (λ s. (id : List ℕ) → server_of s.map id < length c.servers) (λ k id. some_first id);
   }
 
   no_reaps : (k : ℕ) (o : Option Server) → slice_get c.servers k ≡ o → reaps_at o ≡ 0
@@ -160,6 +165,7 @@ module _ (n skew term greatest : ℕ) where
     skewed = each (λ s. s.skew ≡ skew) (λ k. refl);
     addressed = λ x. record { up = λ m i. absurd i; down = λ m i d. absurd i };
     places = first_places;
+    handovers = λ f i. absurd i;
   }
 
 pub first_all : (servers skew term greatest : ℕ) → 1 ≤ servers → ClusterHolds skew greatest (first_cluster servers skew term)

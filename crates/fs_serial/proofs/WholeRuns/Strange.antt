@@ -71,10 +71,10 @@ module _ (skew greatest k : ℕ) (c : Cluster) (s : Server) (at : slice_get c.se
   peer_note from (peer.Parcel p) there =
       let fits : fits_here p s ≡ true = parcel_fits k from c s p at h.places there (counts_of c.servers) view.all.servers view.all.kept in
       subst (λ b. (parcel_at b p s).out.note ≢ Strange) (sym fits) (λ e. absurd (cc))
-  peer_note from (peer.Prepare m) there = λ e. none_flies k from c (peer.Prepare m) h.places there refl
-  peer_note from (peer.Vote m) there = λ e. none_flies k from c (peer.Vote m) h.places there refl
-  peer_note from (peer.Decide m) there = λ e. none_flies k from c (peer.Decide m) h.places there refl
-  peer_note from (peer.Done m) there = λ e. none_flies k from c (peer.Done m) h.places there refl
+  peer_note from (peer.Prepare m) there = λ e. none_flies k from c (peer.Prepare m) h.handovers there refl
+  peer_note from (peer.Vote m) there = λ e. none_flies k from c (peer.Vote m) h.handovers there refl
+  peer_note from (peer.Decide m) there = λ e. none_flies k from c (peer.Decide m) h.handovers there refl
+  peer_note from (peer.Done m) there = λ e. none_flies k from c (peer.Done m) h.handovers there refl
 
   event_note : (e : ServerEvent) → IsThere k e c → (event_step e s).out.note ≢ Strange
   event_note (event.FromClient by m) there = message_note by m there
