@@ -9,3 +9,4 @@ pub mod LedCounted
 pub mod OneOfSession
 pub mod AwaitedWords
 pub mod OwnersOfLocks
+pub mod LedPrepared
