@@ -1,4 +1,4 @@
--- Words of transactions between servers, and what they keep.
+-- Transactions between servers, while their words are on their way.
 pub mod Desks
 pub mod DecidedStill
 pub mod Tables
@@ -6,7 +6,11 @@ pub mod YesLocks
 pub mod YesParts
 pub mod RoundsLocks
 pub mod LedCounted
+pub mod Decisions
 pub mod OneOfSession
 pub mod AwaitedWords
 pub mod OwnersOfLocks
 pub mod LedPrepared
+pub mod OthersKeep
+pub mod LedDecided
+pub mod LedConcluded

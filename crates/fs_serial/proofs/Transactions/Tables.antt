@@ -3,6 +3,7 @@ use Rattle.std.proofs.Common.{◌≡◌, ◌⊎◌, ℕ, Bool, true, false, not,
 use Rattle.std.specs.Prelude.{Some, None, is_some, slice_get}
 use Rattle.std.specs.Option.{option_or}
 use Rattle.std.specs.List.{find, flat_map}
+use Rattle.std.proofs.lemmas.Bool.{not-true}
 use Rattle.std.proofs.lemmas.List.Elements.{filter-append}
 use Rattle.std.proofs.lemmas.List.Folds.{find-append}
 use Rattle.std.proofs.lemmas.Grind.{flat_map-append}
@@ -75,10 +76,6 @@ off_by : (b : Bool) → (b ≡ true → true ≡ false) → b ≡ false
 off_by true h = h refl
 off_by false h = refl
 
-denied : (b : Bool) → not b ≡ true → b ≡ false
-denied true h = sym h
-denied false h = refl
-
 pub txn_apart : (a b : TxnNo) → same_txn a b ≡ false → same_txn b a ≡ false
 txn_apart a b h = off_by (same_txn b a) (λ t. sym (txn_itself a) ∙ ap (same_txn a) (sym (txn_is b a t)) ∙ h)
 
@@ -114,7 +111,7 @@ leading_other l other xs h =
 pub in_without_leading : (txn : TxnNo) (xs : List Leading) (z : Leading) → In z (without_leading txn xs) → In z xs × (same_txn z.leader.txn txn ≡ false)
 in_without_leading txn xs z i = (
   In-filter (λ (l : Leading). not (same_txn l.leader.txn txn)) z xs i,
-  denied (same_txn z.leader.txn txn) (passing (λ (l : Leading). not (same_txn l.leader.txn txn)) xs z i),
+  not-true (same_txn z.leader.txn txn) (passing (λ (l : Leading). not (same_txn l.leader.txn txn)) xs z i),
 )
 
 pub in_with_leading : (l : Leading) (xs : List Leading) (z : Leading) → In z (with_leading l xs) → (z ≡ l) ⊎ (In z xs × (same_txn z.leader.txn l.leader.txn ≡ false))
@@ -164,7 +161,7 @@ ending_other x other xs h =
 pub in_without_ending : (txn : TxnNo) (xs : List Ending) (z : Ending) → In z (without_ending txn xs) → In z xs × (same_txn z.txn txn ≡ false)
 in_without_ending txn xs z i = (
   In-filter (λ (x : Ending). not (same_txn x.txn txn)) z xs i,
-  denied (same_txn z.txn txn) (passing (λ (x : Ending). not (same_txn x.txn txn)) xs z i),
+  not-true (same_txn z.txn txn) (passing (λ (x : Ending). not (same_txn x.txn txn)) xs z i),
 )
 
 pub in_with_ending : (x : Ending) (xs : List Ending) (z : Ending) → In z (with_ending x xs)
