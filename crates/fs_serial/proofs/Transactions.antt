@@ -10,6 +10,7 @@ pub mod Decisions
 pub mod OneOfSession
 pub mod AwaitedWords
 pub mod OwnersOfLocks
+pub mod LedPrepared
 pub mod OthersKeep
 pub mod LedDecided
 pub mod LedConcluded
