@@ -2,8 +2,11 @@
 pub mod Desks
 pub mod DecidedStill
 pub mod Tables
+pub mod OwnVotes
 pub mod YesLocks
 pub mod YesParts
 pub mod RoundsLocks
+pub mod RoundsStages
+pub mod PartsApart
 pub mod LedCounted
 pub mod OneOfSession
