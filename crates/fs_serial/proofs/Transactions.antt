@@ -9,4 +9,5 @@ pub mod RoundsLocks
 pub mod RoundsStages
 pub mod PartsApart
 pub mod LedCounted
+pub mod LedBegun
 pub mod OneOfSession
