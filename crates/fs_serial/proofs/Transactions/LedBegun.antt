@@ -1,8 +1,7 @@
 -- A leader begins a transaction: all that holds of transactions stays.
-use Rattle.std.proofs.Common.{◌≡◌, ◌==◌, ◌+◌, ◌≤◌, ◌⊎◌, ℕ, Bool, true, false, List, [], ◌∷◌, ◌++◌, length, map, refl, sym, ap, ap₂, ◌∙◌, subst, cond, inl, inr, arith, append-nil}
+use Rattle.std.proofs.Common.{◌≡◌, ◌==◌, ◌+◌, ◌≤◌, ◌⊎◌, ℕ, Bool, true, false, List, ◌++◌, length, map, refl, sym, ap, ap₂, ◌∙◌, subst, cond, inl, inr, arith, append-nil}
 use Rattle.std.specs.Prelude.{◌≢◌, Option, Some, None, slice_get, slice_set}
 use Rattle.std.specs.List.{find, flat_map}
-use Rattle.std.proofs.lemmas.Bool.{eqb-true, eqb-false}
 use Rattle.fs_ident.specs.Ident.{same}
 use Rattle.fs_ident.specs.In.{In}
 use Rattle.fs_ident.specs.declared.actor.Peer.{Peer}
@@ -21,10 +20,10 @@ use Rattle.fs_msg.specs.declared.msg.Msg.{Msg}
 use Rattle.fs_msg.specs.declared.server_note.ServerNote.TheVariants as note
 use Rattle.fs_client.specs.Led.{lead_of}
 use Rattle.fs_client.specs.declared.led.Led.{Led}
-use Rattle.fs_server.specs.Begins.{Round, first_round, leader_with, parts_in, round_of, rounds, txn_of}
+use Rattle.fs_server.specs.Begins.{Round, first_round, leader_with, parts_in, round_of, txn_of}
 use Rattle.fs_server.specs.Concludes.{waits}
 use Rattle.fs_server.specs.Leads.{lead_refusal}
-use Rattle.fs_server.specs.Server.{Stepped, is_mine}
+use Rattle.fs_server.specs.Server.{Stepped}
 use Rattle.fs_server.specs.declared.event.ServerEvent.TheVariants.{FromClient}
 use Rattle.fs_server.specs.declared.state.Server.{Server}
 use Rattle.fs_server.proofs.Leading.{none_refuses}
@@ -33,7 +32,7 @@ use Rattle.fs_txn.specs.Leading.{ending_of, leading_of, said_by, stage_by, stage
 use Rattle.fs_txn.specs.Locks.{Agreed, IsKept, IsOf, LocksHold}
 use Rattle.fs_txn.specs.Parts.{part_at}
 use Rattle.fs_txn.specs.Ready.{agreed_of, is_part}
-use Rattle.fs_txn.specs.Stages.{Desks, Key, Stage, StagesHold, Told, Wanted, word_to}
+use Rattle.fs_txn.specs.Stages.{Desks, Key, StagesHold, Wanted, word_to}
 use Rattle.fs_txn.specs.Stages.Stage.{Unknown, Awaited}
 use Rattle.fs_txn.specs.Stages.Word.{Decide}
 use Rattle.fs_txn.specs.Votes.{Votes}
@@ -43,13 +42,13 @@ use Rattle.fs_txn.specs.declared.ready.Ready.{Ready}
 use Rattle.fs_txn.specs.declared.mode.Mode2.TheVariants.{Plain}
 use Rattle.fs_txn.proofs.Keys.{txn_is, txn_itself}
 use Rattle.fs_serial.specs.Cluster.{Cluster, Lines, after_step, in_flight_from, is_with, with_sent, without_first, without_question}
-use Rattle.fs_serial.specs.Leading.{IsEnded, IsLeaderOf, IsLeading, IsLedBy, IsPlain, IsToldOf, LedHolds}
-use Rattle.fs_serial.specs.Words.{desks_of, kept_at, key_of, prepared_in, said_at, stage_of_key, telling_of}
+use Rattle.fs_serial.specs.Leading.{IsEnded, IsLeading, IsLedBy, IsPlain, IsToldOf, LedHolds}
+use Rattle.fs_serial.specs.Words.{desks_of, kept_at, key_of, said_at, stage_of_key, telling_of}
 use Rattle.fs_serial.proofs.Lists.ByPlace.{both_at, not_found}
 use Rattle.fs_serial.proofs.Lists.Servers.{In_at}
-use Rattle.fs_serial.proofs.Transactions.Desks.{AreAlike, FilesApart, deciding_word, each_after, ended_then, leading_then, prepared_set, stage_at, stage_is, stage_still, stage_was, stand_alike, telling_append, told_then}
+use Rattle.fs_serial.proofs.Transactions.Desks.{FilesApart, deciding_word, each_after, ended_then, leading_then, prepared_set, stage_is, stage_still, stage_was, stand_alike, telling_append, told_then}
 use Rattle.fs_serial.proofs.Transactions.PartsApart.{first_part, parts_apart}
-use Rattle.fs_serial.proofs.Transactions.RoundsLocks.{LocksSoFar, NoDecision, led_so_far, rounds_locked, rounds_rows_stay, rounds_undecided}
+use Rattle.fs_serial.proofs.Transactions.RoundsLocks.{LocksSoFar, NoDecision, rounds_locked, rounds_rows_stay, rounds_undecided}
 use Rattle.fs_serial.proofs.Transactions.RoundsStages.{desks_with, none_asked, parts_with, rounds_at, rounds_home, rounds_lines, rounds_server, rounds_stand, rounds_votes, stages_with, wanted_at}
 use Rattle.fs_serial.proofs.Transactions.Tables.{in_with_leading, leading_other, leading_set, locks_alike}
 use Rattle.fs_serial.proofs.Transactions.YesParts.{said_before, said_new, said_then}

@@ -15,10 +15,8 @@ use Rattle.fs_field.specs.Table.{is_ordered, same_txn}
 use Rattle.fs_field.specs.declared.effect.Effect.{Effect}
 use Rattle.fs_field.specs.declared.row.Row.{Row}
 use Rattle.fs_field.specs.declared.used.Part.{Part}
-use Rattle.fs_field.specs.declared.used.Use.{Use}
 use Rattle.fs_field.specs.declared.vote.Vote.{Vote}
 use Rattle.fs_field.specs.declared.vote.Vote.TheVariants.{Yes, Ended, Moved, PathsOut}
-use Rattle.fs_map.specs.Map.{longest}
 use Rattle.fs_msg.specs.declared.msg.Msg.{Msg}
 use Rattle.fs_msg.specs.declared.peer_msg.PeerMsg.TheVariants as peer
 use Rattle.fs_msg.specs.declared.server_note.ServerNote.{ServerNote}
@@ -28,11 +26,10 @@ use Rattle.fs_server.specs.Concludes.{waits}
 use Rattle.fs_server.specs.Counts.{after_own_vote, ask_for, asked_at, seeks, with_vote}
 use Rattle.fs_server.specs.Follows.{to_server, vote_here}
 use Rattle.fs_server.specs.Server.{Stepped, is_mine}
-use Rattle.fs_server.specs.Ships.{first_gone}
 use Rattle.fs_server.specs.declared.state.Server.{Server}
 use Rattle.fs_txn.specs.Leading.{ending_of, leading_of, said_by, stage_by, stage_in, with_leading}
 use Rattle.fs_txn.specs.Locks.{Agreed, IsKept, IsOf, LocksHold}
-use Rattle.fs_txn.specs.Preparing.{moved_to, rows_voted, vote_by}
+use Rattle.fs_txn.specs.Preparing.{rows_voted}
 use Rattle.fs_txn.specs.Ready.{agreed_of, is_part}
 use Rattle.fs_txn.specs.Stages.{Desks, Key, Stage, StagesHold, Told, Wanted, is_between, same_key, stage_of, word_from, word_to}
 use Rattle.fs_txn.specs.Stages.Stage.{Unknown, Asked, Counted}

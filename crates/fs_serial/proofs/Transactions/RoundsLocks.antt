@@ -1,6 +1,6 @@
 -- The rows that the first parts of a transaction lock at its leader, and what is sent for the others.
 use Rattle.std.proofs.Common.{◌≡◌, ◌+◌, ◌==◌, ℕ, suc, Bool, true, false, List, [], ◌∷◌, ◌++◌, length, append_assoc, append-nil, refl, sym, ap, ◌∙◌, subst, cond, filter, inl, inr, arith, length-append}
-use Rattle.std.specs.Prelude.{◌⊎◌, Option, Some, None, slice_get, is_some}
+use Rattle.std.specs.Prelude.{◌⊎◌, Option, Some, None, slice_get}
 use Rattle.std.specs.List.{flat_map}
 use Rattle.std.proofs.lemmas.List.Elements.{filter-append, filter_map-append}
 use Rattle.std.proofs.lemmas.List.Concat.{flat_map-append}
@@ -10,16 +10,15 @@ use Rattle.fs_ident.specs.declared.actor.Peer.TheVariants.{Client as OfSession, 
 use Rattle.fs_ident.specs.declared.actor.Session.{Session}
 use Rattle.fs_ident.specs.declared.actor.TxnNo.{TxnNo}
 use Rattle.fs_ident.proofs.Same.{itself}
-use Rattle.fs_ident.proofs.Standing.{In-behind, In-both, In-front, In-mapped}
+use Rattle.fs_ident.proofs.Standing.{In-behind, In-both, In-front}
 use Rattle.fs_field.specs.Table.{is_ordered}
 use Rattle.fs_field.specs.declared.effect.Effect.{Effect}
 use Rattle.fs_field.specs.declared.row.Row.{Row}
 use Rattle.fs_field.specs.declared.used.Part.{Part}
-use Rattle.fs_field.specs.declared.used.Use.{Use}
 use Rattle.fs_field.specs.declared.vote.Vote.{Vote}
 use Rattle.fs_field.specs.declared.vote.Vote.TheVariants.{Yes, Ended, Moved, PathsOut}
 use Rattle.fs_field.proofs.Order.{ordered_map}
-use Rattle.fs_map.specs.Map.{longest, server_of}
+use Rattle.fs_map.specs.Map.{server_of}
 use Rattle.fs_msg.specs.declared.lead.Lead.{Lead as ToLead}
 use Rattle.fs_msg.specs.declared.msg.Msg.{Msg}
 use Rattle.fs_msg.specs.declared.msg.Msg.TheVariants as msg
@@ -28,15 +27,14 @@ use Rattle.fs_server.specs.Counts.{ask_for}
 use Rattle.fs_server.specs.Follows.{to_server, vote_here}
 use Rattle.fs_server.specs.Server.{is_mine}
 use Rattle.fs_server.specs.Ships.{first_gone}
-use Rattle.fs_server.specs.declared.state.Server.{Server}
 use Rattle.fs_txn.specs.Leading.{agreed_part, said_by, said_yes, yes_from}
 use Rattle.fs_txn.specs.Locks.{Agreed, IsKept, IsOf, Kept, LocksHold}
-use Rattle.fs_txn.specs.Preparing.{moved_to, row_locked, rows_voted, vote_by}
+use Rattle.fs_txn.specs.Preparing.{row_locked, rows_voted}
 use Rattle.fs_txn.specs.Stages.{Key, Told, word_to}
 use Rattle.fs_txn.specs.Stages.Word.{Decide, Prepare}
 use Rattle.fs_txn.specs.Votes.{Votes}
 use Rattle.fs_txn.specs.declared.leading.Leading.{Leading}
-use Rattle.fs_txn.proofs.Locking.{stays, used_same, yes_by, yes_here}
+use Rattle.fs_txn.proofs.Locking.{used_same}
 use Rattle.fs_serial.specs.Cluster.{InFlight, in_flight_from}
 use Rattle.fs_serial.specs.Words.{key_of, telling_of, told_in, told_with}
 use Rattle.fs_serial.proofs.Transactions.OwnVotes.{voted_stay, yes_stands}

@@ -1,5 +1,5 @@
 -- Where the parts of a transaction stand while it begins, one after another.
-use Rattle.std.proofs.Common.{◌≡◌, ◌+◌, ◌==◌, ◌&&◌, ℕ, zero, suc, Bool, true, false, List, [], ◌∷◌, ◌++◌, length, append_assoc, append-nil, refl, sym, ap, ap₂, ◌∙◌, subst, cond, arith}
+use Rattle.std.proofs.Common.{◌≡◌, ◌+◌, ◌==◌, ◌&&◌, ℕ, suc, Bool, true, false, List, [], ◌∷◌, ◌++◌, length, append_assoc, append-nil, refl, sym, ap, ap₂, ◌∙◌, subst, cond, arith}
 use Rattle.std.specs.Prelude.{Option, Some, None, slice_get}
 use Rattle.std.proofs.lemmas.Bool.{eqb-true, eqb-false}
 use Rattle.std.proofs.lemmas.Option.{slice_get_past}
@@ -7,9 +7,7 @@ use Rattle.fs_ident.specs.declared.actor.Peer.{Peer}
 use Rattle.fs_ident.specs.declared.actor.Peer.TheVariants.{Client as OfSession, Server as OfServer}
 use Rattle.fs_ident.specs.declared.actor.Session.{Session}
 use Rattle.fs_ident.specs.declared.actor.TxnNo.{TxnNo}
-use Rattle.fs_ident.proofs.Same.{itself}
 use Rattle.fs_field.specs.Table.{same_txn}
-use Rattle.fs_field.specs.declared.row.Row.{Row}
 use Rattle.fs_field.specs.declared.used.Part.{Part}
 use Rattle.fs_field.specs.declared.vote.Vote.{Vote}
 use Rattle.fs_map.specs.Map.{server_of}
@@ -23,16 +21,16 @@ use Rattle.fs_server.specs.Server.{is_mine}
 use Rattle.fs_server.specs.declared.state.Server.{Server}
 use Rattle.fs_txn.specs.Leading.{stage_by}
 use Rattle.fs_txn.specs.Stages.{Desks, IsNowhere, IsStage, Key, Stage, StagesHold, Told, Wanted, same_key, stage_of, told_of, word_to}
-use Rattle.fs_txn.specs.Stages.Stage.{Unknown, Asked, Counted}
+use Rattle.fs_txn.specs.Stages.Stage.{Unknown, Counted}
 use Rattle.fs_txn.specs.Stages.Word.{Prepare}
 use Rattle.fs_txn.specs.Telling.{after_ask, after_own, with_key}
 use Rattle.fs_txn.specs.Votes.{Votes}
-use Rattle.fs_txn.proofs.Keys.{key_is, key_itself, txn_is, txn_itself}
+use Rattle.fs_txn.proofs.Keys.{key_is, txn_itself}
 use Rattle.fs_txn.proofs.Telling.{asks, owns}
 use Rattle.fs_serial.specs.Cluster.{Lines, in_flight_from, with_sent}
 use Rattle.fs_serial.specs.Words.{key_of, telling_of}
 use Rattle.fs_serial.proofs.Lists.ByPlace.{front_at, last_at, other_at}
-use Rattle.fs_serial.proofs.Transactions.Desks.{AreAlike, stand_alike, telling_append}
+use Rattle.fs_serial.proofs.Transactions.Desks.{stand_alike, telling_append}
 use Rattle.fs_serial.proofs.Transactions.OwnVotes.{counts_here, stage_counted}
 use Rattle.fs_serial.proofs.Transactions.RoundsLocks.{round_at, round_by, round_me, round_votes, sent_append}
 
