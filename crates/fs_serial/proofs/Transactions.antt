@@ -2,11 +2,15 @@
 pub mod Desks
 pub mod DecidedStill
 pub mod Tables
+pub mod OwnVotes
 pub mod YesLocks
 pub mod YesParts
 pub mod RoundsLocks
+pub mod RoundsStages
+pub mod PartsApart
 pub mod LedCounted
 pub mod Decisions
+pub mod LedBegun
 pub mod OneOfSession
 pub mod AwaitedWords
 pub mod OwnersOfLocks
