@@ -6,5 +6,7 @@ pub mod Decisions
 pub mod OneOfSession
 pub mod OwnersOfLocks
 pub mod OthersKeep
+pub mod LocksLeft
+pub mod LeavesLed
 pub mod LedDecided
 pub mod LedConcluded
