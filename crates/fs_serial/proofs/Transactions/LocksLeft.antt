@@ -33,8 +33,11 @@ use Rattle.fs_serial.proofs.Grants.Leased.{In-put_still}
 
 -- ## One step, and several
 
-locked_so : (rows : List Row) (r q : Row) (txn : TxnNo) → In q rows → SameLease r q → q.lock ≡ Some txn → IsLocked rows txn r.session r.no r.field r.kind
-locked_so rows r q txn i same e = record { has = record { row = q; stands = i; number = same.number; session = same.session; field = same.field; kind = same.kind }; lock = e }
+locked_so : (rows : List Row) (r q : Row) (txn : TxnNo) → In q rows → SameLease r q → q.lock ≡ Some txn
+    → IsLocked rows txn r.session r.no r.field r.kind
+locked_so rows r q txn i same e =
+    record { has = record { row = q; stands = i; number = same.number; session = same.session; field = same.field; kind = same.kind };
+    lock = e }
 
 locked_itself : (rows : List Row) (r : Row) (txn : TxnNo) → In r rows → r.lock ≡ Some txn → IsLocked rows txn r.session r.no r.field r.kind
 locked_itself rows r txn i e = locked_so rows r r txn i (record { number = refl; session = refl; field = refl; kind = refl }) e
@@ -43,7 +46,8 @@ pub locks_itself : (rows : List Row) → LeavesLocks rows rows
 locks_itself rows = record { stays = λ r i txn e. locked_itself rows r txn i e; older = λ r i txn e. locked_itself rows r txn i e }
 
 passed_on : (rows new : List Row) (txn : TxnNo) (by : Session) (n : LeaseNo) (on : Field) (kind : LeaseKind)
-    → ((r : Row) → In r rows → r.lock ≡ Some txn → IsLocked new txn r.session r.no r.field r.kind) → IsLocked rows txn by n on kind → IsLocked new txn by n on kind
+    → ((r : Row) → In r rows → r.lock ≡ Some txn → IsLocked new txn r.session r.no r.field r.kind) → IsLocked rows txn by n on kind
+        → IsLocked new txn by n on kind
 passed_on rows new txn by n on kind on_to x =
     let q = on_to x.has.row x.has.stands x.lock in
     record {
@@ -66,7 +70,8 @@ locks_then a b c f g = record {
 
 -- ## Rows that change otherwise
 
-pub locks_mapped : (f : Row → Row) → ((r : Row) → SameLease r (f r)) → ((r : Row) → (f r).lock ≡ r.lock) → (rows : List Row) → LeavesLocks rows (map f rows)
+pub locks_mapped : (f : Row → Row) → ((r : Row) → SameLease r (f r)) → ((r : Row) → (f r).lock ≡ r.lock) → (rows : List Row)
+    → LeavesLocks rows (map f rows)
 locks_mapped f same lock rows = record {
   stays = λ r i txn e. locked_so (map f rows) r (f r) txn (In-mapped f r rows i) (same r) (lock r ∙ e);
   older = λ r i txn e.
@@ -90,7 +95,8 @@ locks_renewed until (n ∷ ns) rows =
 -- ## Rows that go
 
 -- those that are locked pass
-pub locks_filtered : (test : Row → Bool) (rows : List Row) → ((r : Row) → In r rows → is_some r.lock ≡ true → test r ≡ true) → LeavesLocks rows (filter test rows)
+pub locks_filtered : (test : Row → Bool) (rows : List Row) → ((r : Row) → In r rows → is_some r.lock ≡ true → test r ≡ true)
+    → LeavesLocks rows (filter test rows)
 locks_filtered test rows pass = record {
   stays = λ r i txn e. locked_itself (filter test rows) r txn (kept_in test r rows i (pass r i (ap is_some e))) e;
   older = λ r i txn e. locked_itself rows r txn (In-filter test r rows i) e;
@@ -104,7 +110,8 @@ unlocked_is : (o : Option TxnNo) → o ≡ None → is_some o ≡ true → ⊥
 unlocked_is o e h = let wrong : false ≡ true = ap is_some (sym e) ∙ h in absurd (cc wrong)
 
 -- rows go back that no transaction has
-pub locks_released : (ns : List LeaseNo) (rows : List Row) → ((n : LeaseNo) → In n ns → (r : Row) → In r rows → r.no ≡ n → r.lock ≡ None) → LeavesLocks rows (released_rows ns rows)
+pub locks_released : (ns : List LeaseNo) (rows : List Row) → ((n : LeaseNo) → In n ns → (r : Row) → In r rows → r.no ≡ n → r.lock ≡ None)
+    → LeavesLocks rows (released_rows ns rows)
 locks_released [] rows free = locks_itself rows
 locks_released (n ∷ ns) rows free =
     locks_then rows (filter (λ r. not (has_no n r)) rows) (released_rows ns (filter (λ r. not (has_no n r)) rows))
@@ -118,7 +125,8 @@ locks_released (n ∷ ns) rows free =
 -- ## Rows that come
 
 -- those that come are unlocked
-pub locks_more : (rows new : List Row) → ((r : Row) → In r rows → In r new) → ((r : Row) → In r new → (r.lock ≡ None) ⊎ In r rows) → LeavesLocks rows new
+pub locks_more : (rows new : List Row) → ((r : Row) → In r rows → In r new) → ((r : Row) → In r new → (r.lock ≡ None) ⊎ In r rows)
+    → LeavesLocks rows new
 locks_more rows new still old = record {
   stays = λ r i txn e. locked_itself new r txn (still r i) e;
   older = λ r i txn e. elim (old r i) as (λ _. IsLocked rows txn r.session r.no r.field r.kind) [
@@ -138,7 +146,8 @@ locks_with_row row rows free = locks_more rows (with_row row rows)
 pub locks_with_rows : (more rows : List Row) → ((r : Row) → In r more → r.lock ≡ None) → LeavesLocks rows (with_rows more rows)
 locks_with_rows [] rows free = locks_itself rows
 locks_with_rows (x ∷ xs) rows free =
-    locks_then rows (with_row x rows) (with_rows xs (with_row x rows)) (locks_with_row x rows (free x (inl refl))) (locks_with_rows xs (with_row x rows) (λ r i. free r (inr i)))
+    locks_then rows (with_row x rows) (with_rows xs (with_row x rows)) (locks_with_row x rows (free x (inl refl)))
+        (locks_with_rows xs (with_row x rows) (λ r i. free r (inr i)))
 
 -- ## A move
 
@@ -147,18 +156,21 @@ least_none None b h = (refl, h)
 least_none (Some x) None h = absurd (cc h)
 least_none (Some x) (Some y) h = absurd (cc h)
 
-none_locked : (prefix : List ℕ) (owners : Owners) (me : ℕ) (rows : List Row) → locked_in prefix owners me rows ≡ None → (r : Row) → In r rows → is_given owners me prefix (file_of r.field) ≡ true → r.lock ≡ None
+none_locked : (prefix : List ℕ) (owners : Owners) (me : ℕ) (rows : List Row) → locked_in prefix owners me rows ≡ None → (r : Row)
+    → In r rows → is_given owners me prefix (file_of r.field) ≡ true → r.lock ≡ None
 none_locked prefix owners me [] h r i g = absurd i
 none_locked prefix owners me (x ∷ xs) h r i g =
     let q = least_none (lock_below prefix owners me x) (locked_in prefix owners me xs) h in
     elim i as (λ _. r.lock ≡ None) [
       | inl e ↦
-          let given : is_given owners me prefix (file_of x.field) ≡ true = ap (λ (z : Row). is_given owners me prefix (file_of z.field)) (sym e) ∙ g in
+          let given : is_given owners me prefix (file_of x.field) ≡ true =
+              ap (λ (z : Row). is_given owners me prefix (file_of z.field)) (sym e) ∙ g in
           ap (λ (z : Row). z.lock) e ∙ sym (ap (λ b. cond b x.lock None) given) ∙ q.0
       | inr j ↦ none_locked prefix owners me xs q.1 r j g
     ]
 
-refused_last : (a b d : Bool) (x y z : MoveError) (o : Option MoveError) → cond a (Some x) (cond b (Some y) (cond d (Some z) o)) ≡ None → o ≡ None
+refused_last : (a b d : Bool) (x y z : MoveError) (o : Option MoveError) → cond a (Some x) (cond b (Some y) (cond d (Some z) o)) ≡ None
+    → o ≡ None
 refused_last true b d x y z o h = absurd (cc h)
 refused_last false true d x y z o h = absurd (cc h)
 refused_last false false true x y z o h = absurd (cc h)
@@ -168,19 +180,25 @@ not_busy : (o : Option TxnNo) (later : Option MoveError) → busy_or o later ≡
 not_busy None later h = refl
 not_busy (Some t) later h = absurd (cc h)
 
-module _ (records : RecordMap) (rows : List Row) (map : Owners) (me : ℕ) (prefix : List ℕ) (to : ℕ) (goes : move_refusal records rows map me prefix to None ≡ None) where
+module _ (records : RecordMap) (rows : List Row) (map : Owners) (me : ℕ) (prefix : List ℕ) (to : ℕ)
+    (goes : move_refusal records rows map me prefix to None ≡ None) where
   none_busy : locked_in prefix map me rows ≡ None
-  none_busy = not_busy (locked_in prefix map me rows) (paths_out None) (refused_last (not (server_of map prefix == me)) (not (is_some (get records prefix))) (to == me) (not_mine (longest map prefix)) move.NoFile move.Same (busy_or (locked_in prefix map me rows) (paths_out None)) goes)
+  none_busy = not_busy (locked_in prefix map me rows) (paths_out None)
+      (refused_last (not (server_of map prefix == me)) (not (is_some (get records prefix))) (to == me)
+      (not_mine (longest map prefix)) move.NoFile move.Same (busy_or (locked_in prefix map me rows) (paths_out None)) goes)
 
   free_below : (r : Row) → In r rows → is_on_given prefix (piece_of map me prefix) r ≡ true → r.lock ≡ None
-  free_below r i g = none_locked prefix map me rows none_busy r i (sym ((piece_piece map me prefix (is_mine records rows map me prefix to None goes)).1 (file_of r.field)) ∙ g)
+  free_below r i g = none_locked prefix map me rows none_busy r i
+      (sym ((piece_piece map me prefix (is_mine records rows map me prefix to None goes)).1 (file_of r.field)) ∙ g)
 
   -- what goes is unlocked
   pub goes_unlocked : (r : Row) → In r (rows_given prefix (piece_of map me prefix) rows) → r.lock ≡ None
-  goes_unlocked r i = free_below r (In-filter (is_on_given prefix (piece_of map me prefix)) r rows i) (passing (is_on_given prefix (piece_of map me prefix)) rows r i)
+  goes_unlocked r i = free_below r (In-filter (is_on_given prefix (piece_of map me prefix)) r rows i)
+      (passing (is_on_given prefix (piece_of map me prefix)) rows r i)
 
   pub locks_left : LeavesLocks rows (rows_left prefix (piece_of map me prefix) rows)
-  locks_left = locks_filtered (λ r. not (is_on_given prefix (piece_of map me prefix) r)) rows (λ r i e. other r i e (is_on_given prefix (piece_of map me prefix) r) refl)
+  locks_left = locks_filtered (λ r. not (is_on_given prefix (piece_of map me prefix) r)) rows
+      (λ r i e. other r i e (is_on_given prefix (piece_of map me prefix) r) refl)
     where
       other : (r : Row) → In r rows → is_some r.lock ≡ true → (b : Bool) → is_on_given prefix (piece_of map me prefix) r ≡ b → not b ≡ true
       other r i e true t = absurd (unlocked_is r.lock (free_below r i t) e)
