@@ -2,9 +2,15 @@
 pub mod Desks
 pub mod DecidedStill
 pub mod Tables
+pub mod YesLocks
+pub mod YesParts
+pub mod RoundsLocks
+pub mod LedCounted
 pub mod Decisions
 pub mod OneOfSession
+pub mod AwaitedWords
 pub mod OwnersOfLocks
+pub mod LedPrepared
 pub mod OthersKeep
 pub mod LocksLeft
 pub mod LeavesLed

@@ -29,7 +29,7 @@ use Rattle.fs_txn.specs.Stages.IsAsking.{coming, refused, granted}
 use Rattle.fs_txn.specs.Stages.IsEnding.{decided, done}
 use Rattle.fs_txn.specs.Stages.Stage.{Unknown, Asked, Counted, Awaited}
 use Rattle.fs_txn.specs.Stages.Word.{Prepare, Voted, Decide, Done}
-use Rattle.fs_txn.specs.Telling.{taken, with_key, with_prepared, without_first}
+use Rattle.fs_txn.specs.Telling.{IsFirst, taken, with_key, with_prepared, without_first}
 use Rattle.fs_txn.specs.declared.leading.Ending.{Ending}
 use Rattle.fs_txn.specs.declared.leading.Leading.{Leading}
 use Rattle.fs_txn.proofs.Keys.{key_is, key_itself, kept_in}
@@ -92,6 +92,20 @@ heard from k m w (x ∷ xs) said f = at (cluster.is_between from k x) refl f (to
               ∙ ap (λ ys. y ∷ ys) r.left
               ∙ sym (ap (λ o. without_first (is_between from k) (cons_option o (telling_of xs))) e ∙ ap (λ b. cond b (telling_of xs) (y ∷ without_first (is_between from k) (telling_of xs))) off);
         }
+
+-- the same, where it is known which word it is
+pub record IsTakenWord (from k : ℕ) (in_flight : List InFlight) (m : Told) : Type 0 where
+  pub first : IsFirst m (telling_of in_flight)
+  pub left : telling_of (cluster.without_first (cluster.is_between from k) in_flight) ≡ taken m (telling_of in_flight)
+
+pub heard_as : (from k : ℕ) (m : PeerMsg) (w : Key × Word) (in_flight : List InFlight) (x : Told) → word_in m ≡ Some w
+    → find (cluster.is_between from k) in_flight ≡ Some (record { from = from; to = k; message = m }) → told_with from k w ≡ x → IsTakenWord from k in_flight x
+heard_as from k m w in_flight x said f is =
+    let h = heard from k m w in_flight said f in
+    record {
+      first = subst (λ y. IsFirst y (telling_of in_flight)) is h.first;
+      left = subst (λ y. telling_of (cluster.without_first (cluster.is_between from k) in_flight) ≡ taken y (telling_of in_flight)) is h.left;
+    }
 
 -- a message that is no word leaves all words
 pub not_heard : (is : InFlight → Bool) (in_flight : List InFlight) (f : InFlight) → find is in_flight ≡ Some f → word_in f.message ≡ None

@@ -53,14 +53,17 @@ pub waits_front : (key : Key) (xs ys : List Agreed) → ((y : Agreed) → In y y
 waits_front key [] ys h = ap (waits_here key.txn) (none_of_part key ys h) ∙ none_wait key.txn ys h
 waits_front key (x ∷ xs) ys h =
     let rest : waits_here key.txn (without_part key (xs ++ ys)) ≡ waits_here key.txn (without_part key xs) = waits_front key xs ys h in
-    elim (not (same_key x.key key)) as (λ b. waits_here key.txn (cond b (x ∷ without_part key (xs ++ ys)) (without_part key (xs ++ ys))) ≡ waits_here key.txn (cond b (x ∷ without_part key xs) (without_part key xs))) [
+    elim (not (same_key x.key key)) as
+        (λ b. waits_here key.txn (cond b (x ∷ without_part key (xs ++ ys)) (without_part key (xs ++ ys)))
+        ≡ waits_here key.txn (cond b (x ∷ without_part key xs) (without_part key xs))) [
       | true ↦ ap (λ b. same_txn x.key.txn key.txn || b) rest
       | false ↦ rest
     ]
 
 -- ## Rows of other transactions
 
-pub unlocked_stay : (txn : TxnNo) (rows : List Row) (r : Row) (t : TxnNo) → In r rows → r.lock ≡ Some t → same_txn t txn ≡ false → In r (rows_unlocked txn rows)
+pub unlocked_stay : (txn : TxnNo) (rows : List Row) (r : Row) (t : TxnNo) → In r rows → r.lock ≡ Some t → same_txn t txn ≡ false
+    → In r (rows_unlocked txn rows)
 unlocked_stay txn rows r t i e off =
     let same : unlocked_row txn r ≡ r = ap (λ b. cond b (let q : Row = record r { lock = None } in q) r) (ap (is_lock_of txn) e ∙ off) in
     subst (λ z. In z (rows_unlocked txn rows)) same (In-mapped (unlocked_row txn) r rows i)
@@ -70,7 +73,8 @@ not_its t u k e h = ap (λ b. b && (t.count == u.count)) (ap (λ n. n == u.serve
 
 -- ## The decision comes
 
-module _ (k from : ℕ) (c : Cluster) (s : Server) (at : slice_get c.servers k ≡ Some s) (held : LedHolds c) (me : s.me ≡ k) (m : DecideMsg) (comes : Comes k from c (peer.Decide m)) where
+module _ (k from : ℕ) (c : Cluster) (s : Server) (at : slice_get c.servers k ≡ Some s) (held : LedHolds c) (me : s.me ≡ k) (m : DecideMsg)
+    (comes : Comes k from c (peer.Decide m)) where
   abbrev key : Key
   key = key_of m.txn m.number
 
@@ -93,7 +97,8 @@ module _ (k from : ℕ) (c : Cluster) (s : Server) (at : slice_get c.servers k �
   hears = heard from k (peer.Decide m) (key, Decide m.effects) c.in_flight refl comes
 
   decides_it : IsDecidingWord d key word
-  decides_it = deciding_word d key word refl held.stages (found (is_between from k) word (telling_of c.in_flight) hears.first) m.effects refl
+  decides_it =
+      deciding_word d key word refl held.stages (found (is_between from k) word (telling_of c.in_flight) hears.first) m.effects refl
 
   -- it comes from the leader, which is another server
   from_leader : from ≡ m.txn.server
@@ -109,13 +114,20 @@ module _ (k from : ℕ) (c : Cluster) (s : Server) (at : slice_get c.servers k �
 
   waits_no_more : (other : Key) → option_map wanted_of (find (is_part other.txn other.part) (without_prepared m.txn m.number s.prepared))
       ≡ with_key key None (λ x. option_map wanted_of (find (is_part x.txn x.part) s.prepared)) other
-  waits_no_more other = elim (same_key other key) as (λ b. same_key other key ≡ b → option_map wanted_of (find (is_part other.txn other.part) (without_prepared m.txn m.number s.prepared)) ≡ cond b None (option_map wanted_of (find (is_part other.txn other.part) s.prepared))) [
-    | true ↦ λ t. ap (λ (x : Key). option_map wanted_of (find (is_part x.txn x.part) (without_prepared m.txn m.number s.prepared))) (key_is other key t) ∙ ap (option_map wanted_of) (part_gone key s.prepared)
+  waits_no_more other =
+      elim (same_key other key) as
+      (λ b. same_key other key ≡ b → option_map wanted_of (find (is_part other.txn other.part) (without_prepared m.txn m.number s.prepared))
+      ≡ cond b None (option_map wanted_of (find (is_part other.txn other.part) s.prepared))) [
+    | true ↦
+        λ t. ap (λ (x : Key). option_map wanted_of (find (is_part x.txn x.part) (without_prepared m.txn m.number s.prepared)))
+        (key_is other key t) ∙ ap (option_map wanted_of) (part_gone key s.prepared)
     | false ↦ λ t. ap (option_map wanted_of) (part_left key other s.prepared t)
   ] refl
 
   abbrev told_by : ℕ → List Told
-  told_by n = without_first (is_between n k) (telling_of c.in_flight) ++ (let w : Told = record { from = k; to = n; key = key; word = Done } in w) ∷ []
+  told_by n =
+      without_first (is_between n k) (telling_of c.in_flight) ++
+      (let w : Told = record { from = k; to = n; key = key; word = Done } in w) ∷ []
 
   telling_then : telling_of then.in_flight ≡ told_by m.txn.server
   telling_then =
@@ -125,7 +137,8 @@ module _ (k from : ℕ) (c : Cluster) (s : Server) (at : slice_get c.servers k �
 
   stages_then : StagesHold (desks_of held.parts then)
   stages_then =
-      let is : word ≡ word_to key k (Decide m.effects) = ap (λ n. let w : Told = record { from = n; to = k; key = key; word = Decide m.effects } in w) from_leader in
+      let is : word ≡ word_to key k (Decide m.effects) =
+          ap (λ n. let w : Told = record { from = n; to = k; key = key; word = Decide m.effects } in w) from_leader in
       let first : IsFirst (word_to key k (Decide m.effects)) d.telling = subst (λ w. IsFirst w d.telling) is hears.first in
       stand_alike (after_decide key k m.effects d) (desks_of held.parts then) (record {
         parts = λ other. refl;
@@ -135,8 +148,11 @@ module _ (k from : ℕ) (c : Cluster) (s : Server) (at : slice_get c.servers k �
       }) (decides d key k m.effects held.stages first)
 
   -- a decision that is told then was told before
-  told_before : (other : Key) (to : ℕ) (es : List Effect) → In (word_to other to (Decide es)) (telling_of then.in_flight) → In (word_to other to (Decide es)) (telling_of c.in_flight)
-  told_before other to es i = In-more (word_to other to (Decide es)) (without_first (is_between m.txn.server k) (telling_of c.in_flight)) (word_from key k Done) (In (word_to other to (Decide es)) (telling_of c.in_flight))
+  told_before : (other : Key) (to : ℕ) (es : List Effect) → In (word_to other to (Decide es)) (telling_of then.in_flight)
+      → In (word_to other to (Decide es)) (telling_of c.in_flight)
+  told_before other to es i =
+      In-more (word_to other to (Decide es)) (without_first (is_between m.txn.server k) (telling_of c.in_flight)) (word_from key k Done)
+      (In (word_to other to (Decide es)) (telling_of c.in_flight))
       (λ j. taken_In (word_to key k Done) (word_to other to (Decide es)) (telling_of c.in_flight) j)
       (λ e. let wrong : Decide es ≡ Done = ap (λ (x : Told). x.word) e in absurd (cc))
       (subst (In (word_to other to (Decide es))) telling_then i)
@@ -154,11 +170,13 @@ module _ (k from : ℕ) (c : Cluster) (s : Server) (at : slice_get c.servers k �
   said_then =
       filter-append (λ (z : Agreed). not (same_key z.key key)) (map agreed_of s.prepared) (flat_map (said_by s.me) s.leading)
       ∙ ap (λ xs. xs ++ without_part key (flat_map (said_by s.me) s.leading)) (sym (left_so m.txn m.number s.prepared))
-      ∙ ap (λ xs. map agreed_of (without_prepared m.txn m.number s.prepared) ++ xs) (none_of_part key (flat_map (said_by s.me) s.leading) own_others)
+      ∙ ap (λ xs. map agreed_of (without_prepared m.txn m.number s.prepared) ++ xs)
+          (none_of_part key (flat_map (said_by s.me) s.leading) own_others)
 
   rows_then : rows_decided key s.rows (said_at s) ≡ y.rows
   rows_then =
-      ap (λ b. cond b s.rows (rows_unlocked m.txn s.rows)) (waits_front key (map agreed_of s.prepared) (flat_map (said_by s.me) s.leading) own_others)
+      ap (λ b. cond b s.rows (rows_unlocked m.txn s.rows))
+          (waits_front key (map agreed_of s.prepared) (flat_map (said_by s.me) s.leading) own_others)
       ∙ sym (rows_so m.txn m.number s.prepared s.rows)
 
   pub locks_applied : LocksHold y.rows (said_at y) (kept_at y)
@@ -169,7 +187,8 @@ module _ (k from : ℕ) (c : Cluster) (s : Server) (at : slice_get c.servers k �
 
   -- its rows stay locked for transactions that it leads
   rows_stay : (other : Key) → (other.txn.server == k) ≡ true → (r : Row) → In r s.rows → r.lock ≡ Some other.txn → In r y.rows
-  rows_stay other mine r i e = elim (is_awaited m.txn (without_prepared m.txn m.number s.prepared)) as (λ b. In r (cond b s.rows (rows_unlocked m.txn s.rows))) [
+  rows_stay other mine r i e =
+      elim (is_awaited m.txn (without_prepared m.txn m.number s.prepared)) as (λ b. In r (cond b s.rows (rows_unlocked m.txn s.rows))) [
     | true ↦ i
     | false ↦ unlocked_stay m.txn s.rows r other.txn i e (not_its other.txn m.txn k (eqb-true other.txn.server k mine) elsewhere)
   ]
@@ -190,9 +209,11 @@ module _ (k from : ℕ) (c : Cluster) (s : Server) (at : slice_get c.servers k �
         (λ l i. leading_still c.lines s y held.parts refl (omega arith) refl refl l (held.leading s among l i));
     ending = each_after (λ z. (x : Ending) → In x z.ending → IsEnded c.lines z held.parts x) c.servers k y held.ending
         (λ x i. ended_still c.lines s y held.parts refl (omega arith) refl refl x (held.ending s among x i));
-    ready = each_after (λ z. (x : Ready) → In x z.prepared → find (is_part x.txn x.number) z.prepared ≡ Some x) c.servers k y held.ready ready_then;
+    ready = each_after
+        (λ z. (x : Ready) → In x z.prepared → find (is_part x.txn x.number) z.prepared ≡ Some x) c.servers k y held.ready ready_then;
     locks = each_after (λ z. LocksHold z.rows (said_at z) (kept_at z)) c.servers k y held.locks locks_applied;
     files = files_still held.parts (stage_of_key c.servers) (stage_of_key then.servers) (λ other n e. n (still other ∙ e)) held.files;
     few = λ other to es i. held.few other to es (told_before other to es i);
-    told = λ other to es i e j. told_then c.servers k s y at other (held.parts other) e (rows_stay other) (held.told other to es (told_before other to es i) e j);
+    told = λ other to es i e j. told_then c.servers k s y at other (held.parts other) e (rows_stay other)
+        (held.told other to es (told_before other to es i) e j);
   }
