@@ -16,5 +16,7 @@ pub mod AwaitedWords
 pub mod OwnersOfLocks
 pub mod LedPrepared
 pub mod OthersKeep
+pub mod LocksLeft
+pub mod LeavesLed
 pub mod LedDecided
 pub mod LedConcluded
