@@ -1,6 +1,6 @@
 -- A leader is told a vote, and the transaction waits: all that holds of transactions stays.
-use Rattle.std.proofs.Common.{◌≡◌, ◌==◌, ◌&&◌, ◌≤◌, ◌⊎◌, ℕ, zero, suc, Bool, true, false, List, [], ◌∷◌, ◌++◌, length, map, refl, sym, ap, ap₂, ◌∙◌, subst, cond, inl, inr, arith, append-nil}
-use Rattle.std.specs.Prelude.{◌≢◌, Option, Some, None, is_some, slice_get, slice_set}
+use Rattle.std.proofs.Common.{◌≡◌, ◌==◌, ◌&&◌, ◌⊎◌, ℕ, Bool, true, false, List, [], ◌∷◌, ◌++◌, length, map, refl, sym, ap, ap₂, ◌∙◌, subst, cond, inl, inr, arith, append-nil}
+use Rattle.std.specs.Prelude.{Option, Some, None, slice_get, slice_set}
 use Rattle.std.specs.List.{find, flat_map}
 use Rattle.std.proofs.lemmas.Bool.{eqb-true, eqb-false}
 use Rattle.std.proofs.lemmas.List.{length-set}
@@ -10,15 +10,13 @@ use Rattle.fs_ident.specs.declared.actor.Session.{Session}
 use Rattle.fs_ident.specs.declared.actor.TxnNo.{TxnNo}
 use Rattle.fs_ident.proofs.Passing.{found}
 use Rattle.fs_ident.proofs.Same.{itself}
-use Rattle.fs_ident.proofs.Standing.{In-behind, In-both, In-front, In-got, In-mapped}
+use Rattle.fs_ident.proofs.Standing.{In-behind, In-both, In-front, In-got}
 use Rattle.fs_field.specs.Table.{is_ordered, same_txn}
 use Rattle.fs_field.specs.declared.effect.Effect.{Effect}
 use Rattle.fs_field.specs.declared.row.Row.{Row}
 use Rattle.fs_field.specs.declared.used.Part.{Part}
-use Rattle.fs_field.specs.declared.used.Use.{Use}
 use Rattle.fs_field.specs.declared.vote.Vote.{Vote}
 use Rattle.fs_field.specs.declared.vote.Vote.TheVariants.{Yes, Ended, Moved, PathsOut}
-use Rattle.fs_map.specs.Map.{longest}
 use Rattle.fs_msg.specs.declared.msg.Msg.{Msg}
 use Rattle.fs_msg.specs.declared.peer_msg.PeerMsg.TheVariants as peer
 use Rattle.fs_msg.specs.declared.server_note.ServerNote.{ServerNote}
@@ -28,14 +26,13 @@ use Rattle.fs_server.specs.Concludes.{waits}
 use Rattle.fs_server.specs.Counts.{after_own_vote, ask_for, asked_at, seeks, with_vote}
 use Rattle.fs_server.specs.Follows.{to_server, vote_here}
 use Rattle.fs_server.specs.Server.{Stepped, is_mine}
-use Rattle.fs_server.specs.Ships.{first_gone}
 use Rattle.fs_server.specs.declared.state.Server.{Server}
-use Rattle.fs_txn.specs.Leading.{agreed_part, ending_of, leading_of, said_by, stage_by, stage_in, with_leading}
+use Rattle.fs_txn.specs.Leading.{ending_of, leading_of, said_by, stage_by, stage_in, with_leading}
 use Rattle.fs_txn.specs.Locks.{Agreed, IsKept, IsOf, LocksHold}
-use Rattle.fs_txn.specs.Preparing.{moved_to, rows_voted, vote_by}
+use Rattle.fs_txn.specs.Preparing.{rows_voted}
 use Rattle.fs_txn.specs.Ready.{agreed_of, is_part}
 use Rattle.fs_txn.specs.Stages.{Desks, Key, Stage, StagesHold, Told, Wanted, is_between, same_key, stage_of, word_from, word_to}
-use Rattle.fs_txn.specs.Stages.Stage.{Unknown, Asked, Counted, Awaited}
+use Rattle.fs_txn.specs.Stages.Stage.{Unknown, Asked, Counted}
 use Rattle.fs_txn.specs.Stages.Word.{Prepare, Voted, Decide}
 use Rattle.fs_txn.specs.Telling.{IsFirst, after_ask, after_voted, taken, with_key, without_first}
 use Rattle.fs_txn.specs.Telling as desk
@@ -43,16 +40,16 @@ use Rattle.fs_txn.specs.Votes.{Votes, awaits, is_moved, votes_after}
 use Rattle.fs_txn.specs.declared.leading.Ending.{Ending}
 use Rattle.fs_txn.specs.declared.leading.Leading.{Leading}
 use Rattle.fs_txn.specs.declared.ready.Ready.{Ready}
-use Rattle.fs_txn.proofs.Keys.{key_is, key_itself, txn_is, txn_itself}
+use Rattle.fs_txn.proofs.Keys.{key_is, key_itself, txn_is}
 use Rattle.fs_txn.proofs.Locking.{stays}
 use Rattle.fs_txn.proofs.Telling.{asks, owns, voteds}
 use Rattle.fs_serial.specs.Cluster.{Cluster, InFlight, in_flight_from, with_sent}
 use Rattle.fs_serial.specs.Cluster as cluster
-use Rattle.fs_serial.specs.Leading.{IsEnded, IsLeading, IsPlain, IsToldOf, LedHolds}
+use Rattle.fs_serial.specs.Leading.{IsEnded, IsLeading, IsPlain, LedHolds}
 use Rattle.fs_serial.specs.Words.{Comes, desks_of, kept_at, key_of, prepared_in, said_at, stage_of_key, telling_of, then_of, told_with}
 use Rattle.fs_serial.proofs.Lists.SetAt.{get_here, get_other}
-use Rattle.fs_serial.proofs.Transactions.Desks.{AreAlike, FilesApart, IsHeard, IsVotedWord, each_after, ended_then, files_still, heard, leading_then, prepared_set, stage_at, stage_one, stage_was, stand_alike, taken_In, telling_append, told_then, voted_word}
-use Rattle.fs_serial.proofs.Transactions.RoundsLocks.{voted_stay, yes_stands}
+use Rattle.fs_serial.proofs.Transactions.Desks.{FilesApart, IsHeard, IsVotedWord, each_after, ended_then, files_still, heard, leading_then, prepared_set, stage_at, stage_one, stage_was, stand_alike, taken_In, telling_append, told_then, voted_word}
+use Rattle.fs_serial.proofs.Transactions.OwnVotes.{counts_here, stage_counted, voted_stay, yes_stands}
 use Rattle.fs_serial.proofs.Transactions.Tables.{In_all, in_with_leading, leading_other, leading_set, locks_alike}
 use Rattle.fs_serial.proofs.Transactions.YesLocks.{yes_locks}
 use Rattle.fs_serial.proofs.Transactions.YesParts.{IsSaidHere, is_said_here, said_before, said_in, said_new, said_then}
@@ -78,16 +75,6 @@ votes_set votes number Yes h = refl
 votes_set votes number (Ended n u w) h = refl
 votes_set votes number (PathsOut n) h = refl
 votes_set votes number (Moved p t) h = absurd (cc h)
-
-stage_counted : (at : ℕ) (v : Vote) → is_moved v ≡ false → stage_of at v ≡ Counted at v
-stage_counted at Yes h = refl
-stage_counted at (Ended n u w) h = refl
-stage_counted at (PathsOut n) h = refl
-stage_counted at (Moved p t) h = absurd (cc h)
-
-not_moved : (o : Option Use) (now : ℕ) → is_moved (vote_by o None now) ≡ false
-not_moved None now = refl
-not_moved (Some u) now = refl
 
 module _ (k from : ℕ) (c : Cluster) (s : Server) (at : slice_get c.servers k ≡ Some s) (held : LedHolds c) (me : s.me ≡ k) (m : VotedMsg) (l : Leading) (comes : Comes k from c (peer.Vote m)) (led : leading_of m.txn s.leading ≡ Some l) where
   -- ## The word
@@ -478,10 +465,6 @@ module _ (k from : ℕ) (c : Cluster) (s : Server) (at : slice_get c.servers k �
       locks_home (PathsOut x) counts says = locks_no (PathsOut x) counts (λ e. absurd (cc e))
       locks_home (Moved q u) counts says = absurd (cc counts)
 
-      -- a server votes on its own files
-      counts_here : is_moved (vote_here s l.leader.session p) ≡ false
-      counts_here = ap (λ b. is_moved (cond b (vote_by (first_gone s.rows l.leader.session p.uses) None s.last) (moved_to (longest s.map p.file)))) is_here ∙ not_moved (first_gone s.rows l.leader.session p.uses) s.last
-
       home_counted : (v : Vote) (counts : is_moved v ≡ false) → vote_here s l.leader.session p ≡ v → LedHolds (then_of k from c (peer.Vote m) (after_own v))
       home_counted v counts says = together (votes_after l.leader.votes m.number v) home (home_alone v counts) (rows_voted v l.leader.txn p.uses s.rows) n [] [] refl (stage_of key.txn.server v) (home_stage v counts) refl (λ w i. absurd i)
           (λ r i u e. voted_stay v l.leader.txn p.uses s.rows r u i e)
@@ -494,4 +477,4 @@ module _ (k from : ℕ) (c : Cluster) (s : Server) (at : slice_get c.servers k �
           (locks_home v counts says)
 
       pub led_home : LedHolds (then_of k from c (peer.Vote m) (after_own (vote_here s l.leader.session p)))
-      led_home = home_counted (vote_here s l.leader.session p) counts_here refl
+      led_home = home_counted (vote_here s l.leader.session p) (counts_here s l.leader.session p is_here) refl

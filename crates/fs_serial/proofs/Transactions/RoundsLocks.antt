@@ -1,6 +1,6 @@
 -- The rows that the first parts of a transaction lock at its leader, and what is sent for the others.
-use Rattle.std.proofs.Common.{◌≡◌, ◌+◌, ◌==◌, ℕ, zero, suc, Bool, true, false, List, [], ◌∷◌, ◌++◌, length, append_assoc, append-nil, refl, sym, ap, ◌∙◌, subst, cond, filter, map, inl, inr, arith, length-append}
-use Rattle.std.specs.Prelude.{◌⊎◌, Option, Some, None, slice_get, is_some}
+use Rattle.std.proofs.Common.{◌≡◌, ◌+◌, ◌==◌, ℕ, suc, Bool, true, false, List, [], ◌∷◌, ◌++◌, length, append_assoc, append-nil, refl, sym, ap, ◌∙◌, subst, cond, filter, inl, inr, arith, length-append}
+use Rattle.std.specs.Prelude.{◌⊎◌, Option, Some, None, slice_get}
 use Rattle.std.specs.List.{flat_map}
 use Rattle.std.proofs.lemmas.List.Elements.{filter-append, filter_map-append}
 use Rattle.std.proofs.lemmas.List.Concat.{flat_map-append}
@@ -10,17 +10,15 @@ use Rattle.fs_ident.specs.declared.actor.Peer.TheVariants.{Client as OfSession, 
 use Rattle.fs_ident.specs.declared.actor.Session.{Session}
 use Rattle.fs_ident.specs.declared.actor.TxnNo.{TxnNo}
 use Rattle.fs_ident.proofs.Same.{itself}
-use Rattle.fs_ident.proofs.Standing.{In-behind, In-both, In-front, In-mapped}
+use Rattle.fs_ident.proofs.Standing.{In-behind, In-both, In-front}
 use Rattle.fs_field.specs.Table.{is_ordered}
 use Rattle.fs_field.specs.declared.effect.Effect.{Effect}
 use Rattle.fs_field.specs.declared.row.Row.{Row}
 use Rattle.fs_field.specs.declared.used.Part.{Part}
-use Rattle.fs_field.specs.declared.used.Use.{Use}
 use Rattle.fs_field.specs.declared.vote.Vote.{Vote}
 use Rattle.fs_field.specs.declared.vote.Vote.TheVariants.{Yes, Ended, Moved, PathsOut}
-use Rattle.fs_field.proofs.Leases.{SameLease}
 use Rattle.fs_field.proofs.Order.{ordered_map}
-use Rattle.fs_map.specs.Map.{longest, server_of}
+use Rattle.fs_map.specs.Map.{server_of}
 use Rattle.fs_msg.specs.declared.lead.Lead.{Lead as ToLead}
 use Rattle.fs_msg.specs.declared.msg.Msg.{Msg}
 use Rattle.fs_msg.specs.declared.msg.Msg.TheVariants as msg
@@ -29,17 +27,17 @@ use Rattle.fs_server.specs.Counts.{ask_for}
 use Rattle.fs_server.specs.Follows.{to_server, vote_here}
 use Rattle.fs_server.specs.Server.{is_mine}
 use Rattle.fs_server.specs.Ships.{first_gone}
-use Rattle.fs_server.specs.declared.state.Server.{Server}
-use Rattle.fs_txn.specs.Leading.{agreed_part, own_parts, said_by, said_yes, yes_from}
+use Rattle.fs_txn.specs.Leading.{agreed_part, said_by, said_yes, yes_from}
 use Rattle.fs_txn.specs.Locks.{Agreed, IsKept, IsOf, Kept, LocksHold}
-use Rattle.fs_txn.specs.Preparing.{moved_to, row_locked, rows_voted, vote_by}
+use Rattle.fs_txn.specs.Preparing.{row_locked, rows_voted}
 use Rattle.fs_txn.specs.Stages.{Key, Told, word_to}
 use Rattle.fs_txn.specs.Stages.Word.{Decide, Prepare}
 use Rattle.fs_txn.specs.Votes.{Votes}
 use Rattle.fs_txn.specs.declared.leading.Leading.{Leading}
-use Rattle.fs_txn.proofs.Locking.{stays, used_same, yes_by, yes_here}
+use Rattle.fs_txn.proofs.Locking.{used_same}
 use Rattle.fs_serial.specs.Cluster.{InFlight, in_flight_from}
 use Rattle.fs_serial.specs.Words.{key_of, telling_of, told_in, told_with}
+use Rattle.fs_serial.proofs.Transactions.OwnVotes.{voted_stay, yes_stands}
 use Rattle.fs_serial.proofs.Transactions.Tables.{locks_alike, said_its}
 use Rattle.fs_serial.proofs.Transactions.YesLocks.{yes_locks}
 
@@ -58,25 +56,21 @@ yes_last number (x ∷ vs) (y ∷ ks) v k same =
       | false ↦ rest
     ]
 
--- a Yes of the server says that no row is gone
-pub yes_stands : (s : Server) (by : Session) (p : Part) → is_mine s p.file ≡ true → vote_here s by p ≡ Yes → first_gone s.rows by p.uses ≡ None
-yes_stands s by p mine h = yes_by (first_gone s.rows by p.uses) None s.last (yes_here (is_mine s p.file) (vote_by (first_gone s.rows by p.uses) None s.last) (moved_to (longest s.map p.file)) (λ e. absurd (cc e)) h)
-
 -- ## One part more
 
-abbrev round_by : TxnNo → ℕ → Session → Part → Round → Bool → Round
+abbrev pub round_by : TxnNo → ℕ → Session → Part → Round → Bool → Round
 round_by txn number by p r b = cond b (own_part txn p (vote_here r.server by p) r) (asked_part txn number by p (server_of r.server.map p.file) r)
 
-round_me : (txn : TxnNo) (number : ℕ) (by : Session) (p : Part) (r : Round) → (part_round txn number by p r).server.me ≡ r.server.me
+pub round_me : (txn : TxnNo) (number : ℕ) (by : Session) (p : Part) (r : Round) → (part_round txn number by p r).server.me ≡ r.server.me
 round_me txn number by p r = elim (is_mine r.server p.file) as (λ b. (round_by txn number by p r b).server.me ≡ r.server.me) [ true ↦ refl | false ↦ refl ]
 
-round_at : (txn : TxnNo) (number : ℕ) (by : Session) (p : Part) (r : Round) → length (part_round txn number by p r).at ≡ length r.at + 1
+pub round_at : (txn : TxnNo) (number : ℕ) (by : Session) (p : Part) (r : Round) → length (part_round txn number by p r).at ≡ length r.at + 1
 round_at txn number by p r = elim (is_mine r.server p.file) as (λ b. length (round_by txn number by p r b).at ≡ length r.at + 1) [
   | true ↦ length-append r.at (r.server.me ∷ [])
   | false ↦ length-append r.at (server_of r.server.map p.file ∷ [])
 ]
 
-round_votes : (txn : TxnNo) (number : ℕ) (by : Session) (p : Part) (r : Round) → length (part_round txn number by p r).votes ≡ length r.votes + 1
+pub round_votes : (txn : TxnNo) (number : ℕ) (by : Session) (p : Part) (r : Round) → length (part_round txn number by p r).votes ≡ length r.votes + 1
 round_votes txn number by p r = elim (is_mine r.server p.file) as (λ b. length (round_by txn number by p r b).votes ≡ length r.votes + 1) [
   | true ↦ length-append r.votes (Some (vote_here r.server by p) ∷ [])
   | false ↦ length-append r.votes (None ∷ [])
@@ -206,12 +200,6 @@ asks_undecided k to txn number by p sent none key at effects i =
     (subst (In (word_to key at (Decide effects))) (ap telling_of (sent_append k sent (to_server to (ask_for txn number by p) ∷ [])) ∙ filter_map-append told_in (in_flight_from k sent) _) i)
 
 -- ## What stays
-
-pub voted_stay : (v : Vote) (txn : TxnNo) (uses : List Use) (rows : List Row) (row : Row) (t : TxnNo) → In row rows → row.lock ≡ Some t → In row (rows_voted v txn uses rows)
-voted_stay Yes txn uses rows row t i e = subst (λ x. In x (rows_voted Yes txn uses rows)) (stays txn uses row (ap is_some e)) (In-mapped (row_locked txn uses) row rows i)
-voted_stay (Ended n u w) txn uses rows row t i e = i
-voted_stay (Moved q k) txn uses rows row t i e = i
-voted_stay (PathsOut n) txn uses rows row t i e = i
 
 pub rounds_rows_stay : (txn : TxnNo) (number : ℕ) (by : Session) (ps : List Part) (r : Round) (row : Row) (t : TxnNo) → In row r.server.rows → row.lock ≡ Some t → In row (rounds txn number by ps r).server.rows
 rounds_rows_stay txn number by [] r row t i e = i

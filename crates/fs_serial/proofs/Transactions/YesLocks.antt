@@ -1,9 +1,7 @@
 -- A part says Yes at a server, which has its rows in one table.
-use Rattle.std.proofs.Common.{◌≡◌, ◌&&◌, Bool, true, false, List, ◌∷◌, ◌++◌, refl, sym, ap, ◌∙◌, subst, cond, not, filter, map, inl, inr}
+use Rattle.std.proofs.Common.{◌≡◌, ◌&&◌, Bool, true, false, List, ◌∷◌, ◌++◌, refl, sym, ap, ◌∙◌, subst, cond, not, filter, map}
 use Rattle.std.specs.Prelude.{Some, None, is_some}
 use Rattle.fs_ident.specs.In.{In}
-use Rattle.fs_ident.specs.declared.actor.LeaseNo.{LeaseNo}
-use Rattle.fs_ident.specs.declared.actor.Session.{Session}
 use Rattle.fs_ident.specs.declared.actor.TxnNo.{TxnNo}
 use Rattle.fs_ident.proofs.Standing.{In-behind, In-both, In-filter, In-front, In-map, In-mapped, any_In}
 use Rattle.fs_field.specs.Field.{tells_no_mode}

@@ -6,18 +6,17 @@ use Rattle.std.proofs.lemmas.Bool.{eqb-true}
 use Rattle.fs_ident.specs.In.{In}
 use Rattle.fs_ident.specs.declared.actor.Session.{Session}
 use Rattle.fs_ident.specs.declared.actor.TxnNo.{TxnNo}
-use Rattle.fs_ident.proofs.Passing.{found}
 use Rattle.fs_ident.proofs.Same.{itself}
 use Rattle.fs_ident.proofs.Standing.{In-filter}
 use Rattle.fs_field.specs.Table.{same_txn}
 use Rattle.fs_field.specs.declared.vote.Vote.{Vote}
 use Rattle.fs_field.specs.declared.vote.Vote.TheVariants.{Yes, Ended, Moved, PathsOut}
 use Rattle.fs_parcel.proofs.Both.{passing}
-use Rattle.fs_txn.specs.Leading.{leading_of, own_parts, said_by, said_yes, with_leading, yes_from, yes_parts}
+use Rattle.fs_txn.specs.Leading.{said_by, said_yes, with_leading, yes_from, yes_parts}
 use Rattle.fs_txn.specs.Locks.{Agreed}
 use Rattle.fs_txn.specs.Votes.{Votes}
 use Rattle.fs_txn.specs.declared.leading.Leading.{Leading}
-use Rattle.fs_txn.proofs.Keys.{kept_in, txn_is}
+use Rattle.fs_txn.proofs.Keys.{kept_in}
 use Rattle.fs_serial.proofs.Transactions.Tables.{In_all, In_some, in_with_leading, leading_kept, leading_there, said_its, said_so}
 
 -- ## By their places
