@@ -6,14 +6,14 @@ ghost use Rattle.fs_msg.specs.declared.answer.Answer.{Answer as TheAnswer};
 ghost use Rattle.fs_client.specs.Acts.{act_plan};
 ghost use Rattle.fs_client.specs.Answers.{answer_plan};
 ghost use Rattle.fs_client.specs.Turns.{turn_plan};
-ghost use Rattle.fs_world.specs.Calls.{Spends, seat_found, seat_left};
+ghost use Rattle.fs_world.specs.Calls.{Spends, session_found, session_left};
 ghost use Rattle.fs_world.specs.Linked.{FitsUp};
-ghost use Rattle.fs_world.specs.Served.{client_acts, client_told, client_turns};
+ghost use Rattle.fs_world.specs.Served.{client_acts, client_receive_packet, client_turns};
 
-use crate::does::does;
-use crate::hears::hears;
+use crate::client_receive::client_hears;
+use crate::commit_and_send::commit_and_send;
 use crate::packets::Packets;
-use crate::seat::Seat;
+use crate::session_state::SessionState;
 use fs_actor::{act_noted, client_noted, heard_in};
 use fs_ident::{List, Peer, Session};
 use fs_model::Op;
@@ -28,22 +28,22 @@ pub(crate) fn acts(
     now: u64,
     s: Session,
     op: &Op,
-    seat: &mut Seat,
+    state: &mut SessionState,
     journal: &mut List<Item>,
     packets: &mut Packets,
 ) -> Result<Outcome, CoreError>
     requires reading { now ≤ LATEST }
     requires asked { may_ask op.now ≡ true }
-    ensures done { IfOk result (λ told. seat_left told seat.new journal.new packets.new ≡
-        client_acts now s op.now seat.old journal.old packets.old) }
-    ensures fits { OnOk result (FitsUp (act_plan seat.old.client now op.now).out.send) }
+    ensures done { IfOk result (λ outcome. session_left outcome state.new journal.new packets.new ≡
+        client_acts now s op.now state.old journal.old packets.old) }
+    ensures fits { OnOk result (FitsUp (act_plan state.old.client now op.now).out.send) }
     ensures spends { Spends result
-        (client_acts now s op.now seat.old journal.old packets.old).spent }
-    ensures err { OnErr result (seat_found seat.new journal.new packets.new ≡
-        seat_found seat.old journal.old packets.old) }
+        (client_acts now s op.now state.old journal.old packets.old).spent }
+    ensures err { OnErr result (session_found state.new journal.new packets.new ≡
+        session_found state.old journal.old packets.old) }
 {
-    let plan = act_noted(seat.client.plan_act(alloc, now, op)?);
-    does(alloc, s, false, None, plan, seat, journal, packets)
+    let plan = act_noted(state.client.plan_act(alloc, now, op)?);
+    commit_and_send(alloc, s, false, None, plan, state, journal, packets)
 }
 
 /// The session's client takes its turn. After an error all is as it was.
@@ -51,54 +51,54 @@ pub(crate) fn turns(
     alloc: Global,
     now: u64,
     s: Session,
-    seat: &mut Seat,
+    state: &mut SessionState,
     journal: &mut List<Item>,
     packets: &mut Packets,
 ) -> Result<Outcome, CoreError>
     requires reading { now ≤ LATEST }
-    ensures done { IfOk result (λ told. seat_left told seat.new journal.new packets.new ≡
-        client_turns now s seat.old journal.old packets.old) }
-    ensures fits { OnOk result (FitsUp (turn_plan seat.old.client now).out.send) }
+    ensures done { IfOk result (λ outcome. session_left outcome state.new journal.new packets.new ≡
+        client_turns now s state.old journal.old packets.old) }
+    ensures fits { OnOk result (FitsUp (turn_plan state.old.client now).out.send) }
     ensures spends { Spends result
-        (client_turns now s seat.old journal.old packets.old).spent }
-    ensures err { OnErr result (seat_found seat.new journal.new packets.new ≡
-        seat_found seat.old journal.old packets.old) }
+        (client_turns now s state.old journal.old packets.old).spent }
+    ensures err { OnErr result (session_found state.new journal.new packets.new ≡
+        session_found state.old journal.old packets.old) }
 {
-    let plan = client_noted(seat.client.plan_turn(alloc, now)?);
-    does(alloc, s, true, None, plan, seat, journal, packets)
+    let plan = client_noted(state.client.plan_turn(alloc, now)?);
+    commit_and_send(alloc, s, true, None, plan, state, journal, packets)
 }
 
 /// A packet of the server of number `k` comes to the session. After an error all is as it was.
-pub(crate) fn told(
+pub(crate) fn receive_packet(
     alloc: Global,
     now: u64,
     s: Session,
     k: u8,
     p: &Packet,
-    seat: &mut Seat,
+    state: &mut SessionState,
     journal: &mut List<Item>,
     packets: &mut Packets,
 ) -> Result<Outcome, CoreError>
     requires reading { now ≤ LATEST }
-    ensures done { IfOk result (λ told. seat_left told seat.new journal.new packets.new ≡
-        client_told now s k p.now seat.old journal.old packets.old) }
+    ensures done { IfOk result (λ outcome. session_left outcome state.new journal.new packets.new ≡
+        client_receive_packet now s k p.now state.old journal.old packets.old) }
     ensures fits { (a : TheAnswer) →
-        OnOk result (FitsUp (answer_plan seat.old.client now k a).out.send) }
+        OnOk result (FitsUp (answer_plan state.old.client now k a).out.send) }
     ensures spends { Spends result
-        (client_told now s k p.now seat.old journal.old packets.old).spent }
-    ensures err { OnErr result (seat_found seat.new journal.new packets.new ≡
-        seat_found seat.old journal.old packets.old) }
+        (client_receive_packet now s k p.now state.old journal.old packets.old).spent }
+    ensures err { OnErr result (session_found state.new journal.new packets.new ≡
+        session_found state.old journal.old packets.old) }
 {
     let server = Peer::Server(k);
     let mut undo = Undo::new(alloc);
-    let heard = seat.post.accept_with_undo(alloc, server, p, &mut undo)?;
+    let heard = state.post.accept_with_undo(alloc, server, p, &mut undo)?;
     let from = heard_in(server, p);
-    match hears(
-        alloc, now, s, k, from, &heard, seat, journal, packets, &mut undo,
+    match client_hears(
+        alloc, now, s, k, from, &heard, state, journal, packets, &mut undo,
     ) {
         Ok(outcome) => Ok(outcome),
         Err(e) => {
-            seat.post.undo(undo);
+            state.post.undo(undo);
             Err(e)
         }
     }

@@ -3,8 +3,8 @@ ghost use Rattle.std.specs.Prelude.{◌≡◌, ◌+◌, ◌<◌, [], ◌∷◌, 
 ghost use Rattle.std.specs.FinMap as map;
 
 use crate::counts::Counts;
-use crate::goes::outcome;
 use crate::numbers::Numbers;
+use crate::send_due::outcome;
 use fs_ident::{List, Memory, Peer, Session, Twin, copy_two, zip_ok};
 use fs_model::{Op, Space};
 use fs_msg::{CoreError, Counter, Item, Note};
@@ -67,9 +67,9 @@ impl Direct {
         if self.asked.get(s).is_some() {
             return outcome(alloc, None, Note::Nothing);
         }
-        let told = outcome(alloc, Some(Peer::Client(s)), Note::Joined)?;
+        let joined = outcome(alloc, Some(Peer::Client(s)), Note::Joined)?;
         self.asked.set(s, 0)?;
-        Ok(told)
+        Ok(joined)
     }
 
     /// The session's operation, if it has joined.
@@ -104,11 +104,11 @@ impl Direct {
             (answer_step self.old s n (answer self.old.space self.old.next s op.now)).world) }
         ensures err { OnErr result (self.new ≡ self.old) }
     {
-        let mut told = outcome(alloc, Some(Peer::Client(s)), Note::Nothing)?;
+        let mut answered = outcome(alloc, Some(Peer::Client(s)), Note::Nothing)?;
         let reply = self.answer(alloc, s, n, op)?;
         self.asked.raise(s, n);
-        told.notes.replace(0, Note::Answered { n, reply });
-        Ok(told)
+        answered.notes.replace(0, Note::Answered { n, reply });
+        Ok(answered)
     }
 }
 

@@ -2,26 +2,26 @@
 #![tactic(auto)]
 
 mod answers;
+mod answers_in_flight;
 mod by_session;
+mod client_receive;
 mod clients;
+mod commit_and_send;
 mod counts;
 mod direct;
-mod does;
-mod downs;
 mod form;
-mod goes;
-mod hearing;
-mod hears;
 mod in_flight;
 mod law;
 mod numbers;
 mod packets;
 mod pushes;
 mod removals;
-mod seat;
-mod seats;
+mod send_due;
 mod served;
+mod server_receive;
 mod servers;
+mod session_state;
+mod session_states;
 mod telling;
 mod term;
 mod world;

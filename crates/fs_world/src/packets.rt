@@ -2,7 +2,7 @@
 ghost use Rattle.std.specs.Prelude.{◌≡◌, ◌<◌, ◌≤◌, ◌++◌, List as Seq, false, length, map, slice_get, IfOk, OnOk, OnErr};
 ghost use Rattle.std.specs.Option.{option_copied};
 ghost use Rattle.fs_window.specs.declared.sent.Sent.{Sent as ThePacket};
-ghost use Rattle.fs_world.specs.Packets.{Packets as ThePackets, first_untold, no_packets, with_sent, with_told};
+ghost use Rattle.fs_world.specs.Packets.{Packets as ThePackets, first_undelivered, no_packets, with_sent, with_delivered};
 
 use fs_actor::append;
 use fs_ident::{List, Memory, Twin};
@@ -14,7 +14,7 @@ use std::marker::Model;
 #[derive(Debug, Drop)]
 pub(crate) struct Packets {
     sent: List<Sent>,
-    told: List<bool>,
+    delivered: List<bool>,
     next: usize,
 }
 
@@ -23,9 +23,9 @@ impl Model for Packets {
 
     ghost Value = { Packets };
 
-    ghost view = { λ p. record { sent = p.sent; told = p.told } };
+    ghost view = { λ p. record { sent = p.sent; delivered = p.delivered } };
 
-    ghost invariant = { λ p. AreMarked p.sent p.told p.next };
+    ghost invariant = { λ p. AreMarked p.sent p.delivered p.next };
 }
 
 impl Packets {
@@ -35,7 +35,7 @@ impl Packets {
     {
         Packets {
             sent: List::new(alloc),
-            told: List::new(alloc),
+            delivered: List::new(alloc),
             next: 0,
         }
     }
@@ -55,8 +55,8 @@ impl Packets {
     }
 
     /// The number of the first that was not told, or how many there are.
-    pub(crate) fn first_untold(&self) -> u64
-        ensures { result ≡ first_untold self.now.told }
+    pub(crate) fn first_undelivered(&self) -> u64
+        ensures { result ≡ first_undelivered self.now.delivered }
     {
         self.next as u64
     }
@@ -67,17 +67,17 @@ impl Packets {
         ensures err { OnErr result (self.new ≡ self.old) }
     {
         let marks = marks_of(alloc, more.as_slice())?;
-        append_both(&mut self.sent, &mut self.told, more, marks)
+        append_both(&mut self.sent, &mut self.delivered, more, marks)
     }
 
     /// The packet of that number was told. Takes no memory.
-    #[tactic(auto, using(crate::proofs::Marks::untold_after))]
+    #[tactic(auto, using(crate::proofs::Marks::undelivered_after))]
     pub(crate) fn mark(&mut self, k: u64)
         requires { k < length self.old.sent }
-        ensures { self.new ≡ with_told k self.old }
+        ensures { self.new ≡ with_delivered k self.old }
     {
-        self.told.replace(k as usize, true);
-        self.next = untold_from(self.told.as_slice(), self.next);
+        self.delivered.replace(k as usize, true);
+        self.next = undelivered_from(self.delivered.as_slice(), self.next);
     }
 
     /// The first so many alone, which undoes an `add`. Takes no memory.
@@ -86,7 +86,7 @@ impl Packets {
             len ≡ length p.sent → self.new ≡ p }
     {
         self.sent.truncate(len);
-        self.told.truncate(len);
+        self.delivered.truncate(len);
         self.next = self.next.min(len);
     }
 }
@@ -94,10 +94,10 @@ impl Packets {
 impl Twin for Packets {
     fn copy(&self, alloc: Global) -> Result<Packets, Memory> {
         let sent = self.sent.copy(alloc)?;
-        let told = self.told.copy(alloc)?;
+        let delivered = self.delivered.copy(alloc)?;
         Ok(Packets {
             sent,
-            told,
+            delivered,
             next: self.next,
         })
     }
@@ -119,34 +119,34 @@ fn marks_of(alloc: Global, packets: &[Sent]) -> Result<List<bool>, Memory>
 /// Packets behind the others, and their marks behind the other marks: both or neither.
 fn append_both(
     sent: &mut List<Sent>,
-    told: &mut List<bool>,
+    delivered: &mut List<bool>,
     more: List<Sent>,
     marks: List<bool>,
 ) -> Result<(), Memory>
     ensures sent { OnOk result (sent.new ≡ sent.old ++ more) }
-    ensures told { OnOk result (told.new ≡ told.old ++ marks) }
+    ensures delivered { OnOk result (delivered.new ≡ delivered.old ++ marks) }
     ensures err_sent { OnErr result (sent.new ≡ sent.old) }
-    ensures err_told { OnErr result (told.new ≡ told.old) }
+    ensures err_delivered { OnErr result (delivered.new ≡ delivered.old) }
 {
-    let before = told.len();
-    append(told, marks)?;
+    let before = delivered.len();
+    append(delivered, marks)?;
     match append(sent, more) {
         Ok(()) => Ok(()),
         Err(e) => {
-            told.truncate(before);
+            delivered.truncate(before);
             Err(e)
         }
     }
 }
 
 /// The number of the first that was not told, where all before `from` were.
-#[tactic(auto, using(crate::proofs::Marks::untold_here))]
-fn untold_from(told: &[bool], from: usize) -> usize
-    requires { from ≤ first_untold told.now }
-    ensures { result ≡ first_untold told.now }
+#[tactic(auto, using(crate::proofs::Marks::undelivered_here))]
+fn undelivered_from(delivered: &[bool], from: usize) -> usize
+    requires { from ≤ first_undelivered delivered.now }
+    ensures { result ≡ first_undelivered delivered.now }
 {
     let mut next = from;
-    while next < told.len() && told[next] {
+    while next < delivered.len() && delivered[next] {
         next += 1;
     }
     next

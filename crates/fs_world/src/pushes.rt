@@ -9,7 +9,7 @@ ghost use Rattle.fs_window.specs.Post.{post_pushed};
 ghost use Rattle.fs_window.specs.Undo.{undone};
 ghost use Rattle.fs_world.specs.Linked.{FitsDown, IsWritten};
 
-use crate::goes::refusal;
+use crate::send_due::refusal;
 use fs_ident::{Memory, Peer};
 use fs_msg::{CoreError, Msg, write};
 use fs_window::{Post, Undo};

@@ -2,9 +2,9 @@
 ghost use Rattle.std.specs.Prelude.{◌≡◌, ◌<◌, ◌==◌, length, IfSome};
 ghost use Rattle.std.specs.List.{position};
 ghost use Rattle.fs_serial.specs.Cluster.{is_between, is_with, without_first};
-ghost use Rattle.fs_world.specs.Served.{flying_without, flying_without_each, seats_without, seats_without_each, without_each};
+ghost use Rattle.fs_world.specs.Served.{flying_without, flying_without_each, sessions_without, sessions_without_each, without_each};
 
-use crate::seats::Seats;
+use crate::session_states::SessionStates;
 use fs_ident::{List, Peer};
 use fs_serial::InFlight;
 use fs_window::Joined;
@@ -45,34 +45,34 @@ pub(crate) fn remove_flying(in_flight: &mut List<InFlight>, from: u8, to: u8)
 /// As many messages of the actor to the server of number `k`, from the front, are taken off as there are of these. Takes no
 /// memory.
 pub(crate) fn remove_joined(
-    seats: &mut Seats,
+    sessions: &mut SessionStates,
     in_flight: &mut List<InFlight>,
     k: u8,
     from: Peer,
     gone: &[Joined],
 )
-    ensures seats { seats.new ≡ seats_without_each k from gone.now seats.old }
+    ensures sessions { sessions.new ≡ sessions_without_each k from gone.now sessions.old }
     ensures in_flight { in_flight.new ≡ flying_without_each k from gone.now in_flight.old }
 {
-    remove_questions(seats, k, from, gone);
+    remove_questions(sessions, k, from, gone);
     remove_messages(in_flight, k, from, gone);
 }
 
 /// As many messages of the actor, if it is a session. Takes no memory.
-fn remove_questions(seats: &mut Seats, k: u8, from: Peer, gone: &[Joined])
-    ensures { seats.new ≡ seats_without_each k from gone.now seats.old }
+fn remove_questions(sessions: &mut SessionStates, k: u8, from: Peer, gone: &[Joined])
+    ensures { sessions.new ≡ sessions_without_each k from gone.now sessions.old }
 {
     for _ in gone {
-        remove_question(seats, k, from);
+        remove_question(sessions, k, from);
     }
 }
 
 /// The first of them, if there is one. Takes no memory.
-fn remove_question(seats: &mut Seats, k: u8, from: Peer)
-    ensures { seats.new ≡ seats_without k from seats.old }
+fn remove_question(sessions: &mut SessionStates, k: u8, from: Peer)
+    ensures { sessions.new ≡ sessions_without k from sessions.old }
 {
     match from {
-        Peer::Client(s) => seats.pop_up(s, k),
+        Peer::Client(s) => sessions.pop_up(s, k),
         Peer::Server(_) => {}
     }
 }

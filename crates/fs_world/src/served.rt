@@ -13,11 +13,11 @@ ghost use Rattle.fs_world.specs.Planned.{IsOwn};
 ghost use Rattle.fs_world.specs.World.{FitsServed};
 
 use crate::clients::{acts, turns};
-use crate::goes::outcome;
 use crate::packets::Packets;
-use crate::seat::Seat;
-use crate::seats::Seats;
+use crate::send_due::outcome;
 use crate::servers::core_step;
+use crate::session_state::SessionState;
+use crate::session_states::SessionStates;
 use crate::term::Term;
 use fs_field::Field;
 use fs_ident::{FileId, List, Memory, Peer, Session, Twin, copy_three, zip_ok};
@@ -36,7 +36,7 @@ pub(crate) struct Served {
     pub(crate) posts: List<Post>,
     /// How long a lease lasts.
     pub(crate) term: Term,
-    pub(crate) seats: Seats,
+    pub(crate) sessions: SessionStates,
     pub(crate) in_flight: List<InFlight>,
     pub(crate) journal: List<Item>,
     pub(crate) packets: Packets,
@@ -58,7 +58,7 @@ impl Served {
             servers: new_servers(alloc, servers, skew, term)?,
             posts: new_posts(alloc, servers)?,
             term: Term::new(term),
-            seats: Seats::new(alloc),
+            sessions: SessionStates::new(alloc),
             in_flight: List::new(alloc),
             journal: List::new(alloc),
             packets: Packets::new(alloc),
@@ -75,7 +75,7 @@ impl Served {
         requires reading { now ≤ LATEST }
         requires fits { FitsServed (length self.old.servers) what.now }
         requires linked { IsLinked self.old }
-        ensures done { IfOk result (λ told. world_left told self.new ≡
+        ensures done { IfOk result (λ outcome. world_left outcome self.new ≡
             step_of self.old now what.now) }
         ensures linked { OnOk result (IsLinked self.new) }
         ensures spends { Spends result (step_of self.old now what.now).spent }
@@ -100,17 +100,18 @@ impl Served {
         requires first { 1 ≤ s.0 }
         requires few { s.0 ≤ SESSIONS }
         requires linked { IsLinked self.old }
-        ensures done { IfOk result (λ told. world_left told self.new ≡
-            join_at (map.get self.old.seats s.0) s self.old) }
+        ensures done { IfOk result (λ outcome. world_left outcome self.new ≡
+            join_at (map.get self.old.sessions s.0) s self.old) }
         ensures linked { OnOk result (IsLinked self.new) }
         ensures err { OnErr result (self.new ≡ self.old) }
     {
-        if self.seats.has(s) {
+        if self.sessions.has(s) {
             return outcome(alloc, None, Note::Nothing);
         }
-        let told = outcome(alloc, Some(Peer::Client(s)), Note::Joined)?;
-        self.seats.add(s, Seat::new(alloc, s, &self.term)?)?;
-        Ok(told)
+        let joined = outcome(alloc, Some(Peer::Client(s)), Note::Joined)?;
+        self.sessions
+            .add(s, SessionState::new(alloc, s, &self.term)?)?;
+        Ok(joined)
     }
 
     /// The session's operation, if it has joined.
@@ -118,20 +119,20 @@ impl Served {
         requires reading { now ≤ LATEST }
         requires called { is_called op.now ≡ true }
         requires linked { IsLinked self.old }
-        ensures done { IfOk result (λ told. world_left told self.new ≡
-            do_at (map.get self.old.seats s.0) now s op.now self.old) }
+        ensures done { IfOk result (λ outcome. world_left outcome self.new ≡
+            do_at (map.get self.old.sessions s.0) now s op.now self.old) }
         ensures linked { OnOk result (IsLinked self.new) }
         ensures spends { Spends result
-            (do_at (map.get self.old.seats s.0) now s op.now self.old).spent }
+            (do_at (map.get self.old.sessions s.0) now s op.now self.old).spent }
         ensures err { OnErr result (self.new ≡ self.old) }
     {
-        match self.seats.get_mut(s) {
-            Some(seat) => acts(
+        match self.sessions.get_mut(s) {
+            Some(state) => acts(
                 alloc,
                 now,
                 s,
                 op,
-                seat,
+                state,
                 &mut self.journal,
                 &mut self.packets,
             ),
@@ -143,14 +144,14 @@ impl Served {
     fn client_turn(&mut self, alloc: Global, now: u64, s: Session) -> Result<Outcome, CoreError>
         requires reading { now ≤ LATEST }
         requires linked { IsLinked self.old }
-        ensures done { IfOk result (λ told. world_left told self.new ≡
-            turn_at (map.get self.old.seats s.0) now s self.old) }
+        ensures done { IfOk result (λ outcome. world_left outcome self.new ≡
+            turn_at (map.get self.old.sessions s.0) now s self.old) }
         ensures linked { OnOk result (IsLinked self.new) }
-        ensures spends { Spends result (turn_at (map.get self.old.seats s.0) now s self.old).spent }
+        ensures spends { Spends result (turn_at (map.get self.old.sessions s.0) now s self.old).spent }
         ensures err { OnErr result (self.new ≡ self.old) }
     {
-        match self.seats.get_mut(s) {
-            Some(seat) => turns(alloc, now, s, seat, &mut self.journal, &mut self.packets),
+        match self.sessions.get_mut(s) {
+            Some(state) => turns(alloc, now, s, state, &mut self.journal, &mut self.packets),
             None => Ok(outcome(alloc, None, Note::Nothing)?),
         }
     }
@@ -166,7 +167,7 @@ impl Served {
         requires reading { now ≤ LATEST }
         requires there { k < length self.old.servers }
         requires linked { IsLinked self.old }
-        ensures done { IfOk result (λ told. world_left told self.new ≡
+        ensures done { IfOk result (λ outcome. world_left outcome self.new ≡
             server_step k false now (TheRecall field.now) self.old) }
         ensures linked { OnOk result (IsLinked self.new) }
         ensures spends { Spends result
@@ -190,7 +191,7 @@ impl Served {
         requires there { k < length self.old.servers }
         requires other { to < length self.old.servers }
         requires linked { IsLinked self.old }
-        ensures done { IfOk result (λ told. world_left told self.new ≡
+        ensures done { IfOk result (λ outcome. world_left outcome self.new ≡
             server_step k false now (TheMove prefix.now to) self.old) }
         ensures linked { OnOk result (IsLinked self.new) }
         ensures spends { Spends result
@@ -217,7 +218,7 @@ impl Served {
         requires there { k < length self.old.servers }
         requires own { IsOwn (length self.old.servers) event.now }
         requires linked { IsLinked self.old }
-        ensures done { IfOk result (λ told. world_left told self.new ≡
+        ensures done { IfOk result (λ outcome. world_left outcome self.new ≡
             server_step k turn now event.now self.old) }
         ensures linked { OnOk result (IsLinked self.new) }
         ensures spends { Spends result (server_step k turn now event.now self.old).spent }
@@ -234,7 +235,7 @@ impl Served {
             event,
             core,
             self.posts.at_mut(at),
-            &mut self.seats,
+            &mut self.sessions,
             &mut self.in_flight,
             &mut self.journal,
             &mut self.packets,
@@ -247,12 +248,12 @@ impl Twin for Served {
         let actors = copy_three(alloc, &self.servers, &self.posts, &self.term)?;
         let said = copy_three(alloc, &self.in_flight, &self.journal, &self.packets);
         let parts = zip_ok(actors, said)?;
-        let (((servers, posts, term), (in_flight, journal, packets)), seats) = zip_ok(
+        let (((servers, posts, term), (in_flight, journal, packets)), sessions) = zip_ok(
             parts,
-            self.seats.copy(alloc),
+            self.sessions.copy(alloc),
         )?;
         Ok(Served {
-            seats,
+            sessions,
             servers,
             posts,
             term,
@@ -267,12 +268,12 @@ impl Twin for Served {
             servers: _,
             posts: _,
             term: _,
-            seats,
+            sessions,
             in_flight: _,
             journal: _,
             packets: _,
         } = self;
-        seats.discard();
+        sessions.discard();
     }
 }
 

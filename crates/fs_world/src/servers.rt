@@ -14,12 +14,12 @@ ghost use Rattle.fs_world.specs.Linked.{FitsDown};
 ghost use Rattle.fs_world.specs.Planned.{stepped_by};
 ghost use Rattle.fs_world.specs.Served.{core_step, server_found, with_downs};
 
-use crate::downs::{push_downs, undo_downs};
-use crate::goes::send_due;
+use crate::answers_in_flight::{push_downs, undo_downs};
 use crate::in_flight::push_in_flight;
 use crate::packets::Packets;
 use crate::pushes::push_all;
-use crate::seats::Seats;
+use crate::send_due::send_due;
+use crate::session_states::SessionStates;
 use fs_actor::append;
 use fs_ident::{List, Memory, Peer};
 use fs_msg::{CoreError, Item, Msg, Note, ServerNote};
@@ -40,30 +40,30 @@ pub(crate) fn core_step(
     event: &ServerEvent,
     core: &mut ServerCore,
     post: &mut Post,
-    seats: &mut Seats,
+    sessions: &mut SessionStates,
     in_flight: &mut List<InFlight>,
     journal: &mut List<Item>,
     packets: &mut Packets,
 ) -> Result<Outcome, CoreError>
     requires reading { now ≤ LATEST }
     requires told { CanBeTold event.now }
-    ensures done { IfOk result (λ told.
-        server_left told core.new post.new seats.new in_flight.new journal.new packets.new ≡
+    ensures done { IfOk result (λ outcome.
+        server_left outcome core.new post.new sessions.new in_flight.new journal.new packets.new ≡
         core_step k turn heard now event.now
-        (server_found core.old post.old seats.old in_flight.old journal.old packets.old)) }
+        (server_found core.old post.old sessions.old in_flight.old journal.old packets.old)) }
     ensures fits { OnOk result (FitsDown (step core.old now event.now).out.send) }
     ensures spends { Spends result (core_step k turn heard now event.now
-        (server_found core.old post.old seats.old in_flight.old journal.old packets.old)).spent }
+        (server_found core.old post.old sessions.old in_flight.old journal.old packets.old)).spent }
     ensures err { OnErr result (
-        server_found core.new post.new seats.new in_flight.new journal.new packets.new ≡
-        server_found core.old post.old seats.old in_flight.old journal.old packets.old) }
+        server_found core.new post.new sessions.new in_flight.new journal.new packets.new ≡
+        server_found core.old post.old sessions.old in_flight.old journal.old packets.old) }
 {
     let plan = core.plan(alloc, now, event)?;
     let mut undo = Undo::new(alloc);
     match carry_out(
-        alloc, k, turn, heard, plan, &mut undo, core, post, seats, in_flight, journal, packets,
+        alloc, k, turn, heard, plan, &mut undo, core, post, sessions, in_flight, journal, packets,
     ) {
-        Ok(told) => Ok(told),
+        Ok(outcome) => Ok(outcome),
         Err(e) => {
             post.undo(undo);
             Err(e)
@@ -81,30 +81,30 @@ fn carry_out(
     undo: &mut Undo,
     core: &mut ServerCore,
     post: &mut Post,
-    seats: &mut Seats,
+    sessions: &mut SessionStates,
     in_flight: &mut List<InFlight>,
     journal: &mut List<Item>,
     packets: &mut Packets,
 ) -> Result<Outcome, CoreError>
     requires { CanCommit plan core.old }
-    ensures done { IfOk result (λ told.
-        server_left told core.new post.new seats.new in_flight.new journal.new packets.new ≡
+    ensures done { IfOk result (λ outcome.
+        server_left outcome core.new post.new sessions.new in_flight.new journal.new packets.new ≡
         server_does k turn heard None (stepped_by plan core.old)
-        (server_found core.old post.old seats.old in_flight.old journal.old packets.old)) }
+        (server_found core.old post.old sessions.old in_flight.old journal.old packets.old)) }
     ensures fits { OnOk result (FitsDown plan.out.send) }
     ensures spent { (counter : TheCounter) → IsErrOf result (errors.Spent counter) →
         (counter ≡ Segments) × (is_full_down plan.out.send post.old ≡ true) }
     ensures undo { OnErr result (undone undo.new post.new ≡ undone undo.old post.old) }
     ensures err { OnErr result (
-        server_found core.new post.old seats.new in_flight.new journal.new packets.new ≡
-        server_found core.old post.old seats.old in_flight.old journal.old packets.old) }
+        server_found core.new post.old sessions.new in_flight.new journal.new packets.new ≡
+        server_found core.old post.old sessions.old in_flight.old journal.old packets.old) }
 {
     let mut plan = plan;
     push_all(alloc, post, plan.out.send.as_slice(), undo)?;
     let note = mem::replace(&mut plan.out.note, ServerNote::Idle);
     let note = Note::Server(note);
     Ok(send(
-        alloc, k, turn, heard, note, plan, core, post, seats, in_flight, journal, packets,
+        alloc, k, turn, heard, note, plan, core, post, sessions, in_flight, journal, packets,
     )?)
 }
 
@@ -118,26 +118,26 @@ fn send(
     plan: Plan,
     core: &mut ServerCore,
     post: &mut Post,
-    seats: &mut Seats,
+    sessions: &mut SessionStates,
     in_flight: &mut List<InFlight>,
     journal: &mut List<Item>,
     packets: &mut Packets,
 ) -> Result<Outcome, Memory>
     requires { CanCommit plan core.old }
-    ensures done { IfOk result (λ told.
-        server_left told core.new post.new seats.new in_flight.new journal.new packets.new ≡
+    ensures done { IfOk result (λ outcome.
+        server_left outcome core.new post.new sessions.new in_flight.new journal.new packets.new ≡
         server_goes k turn heard note None (with_plan k plan
-        (server_found core.old post.old seats.old in_flight.old journal.old packets.old))) }
+        (server_found core.old post.old sessions.old in_flight.old journal.old packets.old))) }
     ensures err { OnErr result (
-        server_found core.new post.new seats.new in_flight.new journal.new packets.new ≡
-        server_found core.old post.old seats.old in_flight.old journal.old packets.old) }
+        server_found core.new post.new sessions.new in_flight.new journal.new packets.new ≡
+        server_found core.old post.old sessions.old in_flight.old journal.old packets.old) }
 {
     let before = packets.sent().len();
-    let told = send_due(alloc, Peer::Server(k), turn, heard, note, post, packets)?;
-    match admit(alloc, k, plan, core, seats, in_flight, journal) {
+    let outcome = send_due(alloc, Peer::Server(k), turn, heard, note, post, packets)?;
+    match admit(alloc, k, plan, core, sessions, in_flight, journal) {
         Ok(()) => {
             post.mark_sent();
-            Ok(told)
+            Ok(outcome)
         }
         Err(e) => {
             packets.cut_back(before);
@@ -153,17 +153,17 @@ fn admit(
     k: u8,
     plan: Plan,
     core: &mut ServerCore,
-    seats: &mut Seats,
+    sessions: &mut SessionStates,
     in_flight: &mut List<InFlight>,
     journal: &mut List<Item>,
 ) -> Result<(), Memory>
     requires { CanCommit plan core.old }
     ensures server { OnOk result (core.new ≡ committed plan core.old) }
-    ensures seats { OnOk result (seats.new ≡ with_downs k plan.out.send seats.old) }
+    ensures sessions { OnOk result (sessions.new ≡ with_downs k plan.out.send sessions.old) }
     ensures in_flight { OnOk result (in_flight.new ≡ in_flight.old ++ in_flight_from k plan.out.send) }
     ensures journal { OnOk result (journal.new ≡ journal.old ++ plan.out.admitted) }
     ensures err_server { OnErr result (core.new ≡ core.old) }
-    ensures err_seats { OnErr result (seats.new ≡ seats.old) }
+    ensures err_sessions { OnErr result (sessions.new ≡ sessions.old) }
     ensures err_flying { OnErr result (in_flight.new ≡ in_flight.old) }
     ensures err_journal { OnErr result (journal.new ≡ journal.old) }
 {
@@ -176,14 +176,14 @@ fn admit(
         k,
         send.as_slice(),
         admitted,
-        seats,
+        sessions,
         in_flight,
         journal,
     )?;
     match core.commit(alloc, plan) {
         Ok(()) => Ok(()),
         Err(e) => {
-            undo_downs(k, seats, send.as_slice());
+            undo_downs(k, sessions, send.as_slice());
             in_flight.truncate(messages);
             journal.truncate(items);
             Err(e)
@@ -197,14 +197,14 @@ pub(crate) fn spread(
     k: u8,
     send: &[(Peer, Msg)],
     admitted: List<Item>,
-    seats: &mut Seats,
+    sessions: &mut SessionStates,
     in_flight: &mut List<InFlight>,
     journal: &mut List<Item>,
 ) -> Result<(), Memory>
-    ensures seats { OnOk result (seats.new ≡ with_downs k send.now seats.old) }
+    ensures sessions { OnOk result (sessions.new ≡ with_downs k send.now sessions.old) }
     ensures in_flight { OnOk result (in_flight.new ≡ in_flight.old ++ in_flight_from k send.now) }
     ensures journal { OnOk result (journal.new ≡ journal.old ++ admitted) }
-    ensures err_seats { OnErr result (seats.new ≡ seats.old) }
+    ensures err_sessions { OnErr result (sessions.new ≡ sessions.old) }
     ensures err_flying { OnErr result (in_flight.new ≡ in_flight.old) }
     ensures err_journal { OnErr result (journal.new ≡ journal.old) }
 {
@@ -214,7 +214,7 @@ pub(crate) fn spread(
         journal.truncate(items);
         return Err(e);
     }
-    match push_downs(alloc, k, seats, send) {
+    match push_downs(alloc, k, sessions, send) {
         Ok(()) => Ok(()),
         Err(e) => {
             in_flight.truncate(messages);

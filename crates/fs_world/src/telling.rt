@@ -8,14 +8,14 @@ ghost use Rattle.fs_ident.specs.declared.actor.Peer.TheVariants.{Server};
 ghost use Rattle.fs_server.specs.declared.state.Server.{Server as TheCore};
 ghost use Rattle.fs_world.specs.Calls.{Spends, world_left};
 ghost use Rattle.fs_world.specs.Linked.{IsLinked};
-ghost use Rattle.fs_world.specs.Packets.{first_untold};
+ghost use Rattle.fs_world.specs.Packets.{first_undelivered};
 ghost use Rattle.fs_world.specs.Planned.{IsAnswered, WasSent};
-ghost use Rattle.fs_world.specs.Served.{arrives, at_server, comes, server_told_at, tell, told_at};
+ghost use Rattle.fs_world.specs.Served.{arrives, at_server, comes, server_receive_packet_at, tell, client_receive_packet_at};
 
-use crate::clients::told;
-use crate::goes::outcome;
-use crate::hearing::server_told;
+use crate::clients::receive_packet;
+use crate::send_due::outcome;
 use crate::served::Served;
+use crate::server_receive::server_receive_packet;
 use fs_ident::{Peer, Session};
 use fs_msg::{CoreError, Note};
 use fs_schedule::Outcome;
@@ -27,14 +27,14 @@ impl Served {
     pub(crate) fn tell_next(&mut self, alloc: Global, now: u64) -> Result<Outcome, CoreError>
         requires reading { now ≤ LATEST }
         requires linked { IsLinked self.old }
-        ensures done { IfOk result (λ told. world_left told self.new ≡
-            tell now (first_untold self.old.packets.told) self.old) }
+        ensures done { IfOk result (λ outcome. world_left outcome self.new ≡
+            tell now (first_undelivered self.old.packets.delivered) self.old) }
         ensures linked { OnOk result (IsLinked self.new) }
         ensures spends { Spends result
-            (tell now (first_untold self.old.packets.told) self.old).spent }
+            (tell now (first_undelivered self.old.packets.delivered) self.old).spent }
         ensures err { OnErr result (self.new ≡ self.old) }
     {
-        let next = self.packets.first_untold();
+        let next = self.packets.first_undelivered();
         self.tell(alloc, now, next)
     }
 
@@ -42,7 +42,7 @@ impl Served {
     pub(crate) fn tell(&mut self, alloc: Global, now: u64, k: u64) -> Result<Outcome, CoreError>
         requires reading { now ≤ LATEST }
         requires linked { IsLinked self.old }
-        ensures done { IfOk result (λ told. world_left told self.new ≡ tell now k self.old) }
+        ensures done { IfOk result (λ outcome. world_left outcome self.new ≡ tell now k self.old) }
         ensures linked { OnOk result (IsLinked self.new) }
         ensures spends { Spends result (tell now k self.old).spent }
         ensures err { OnErr result (self.new ≡ self.old) }
@@ -52,9 +52,9 @@ impl Served {
         };
         let (from, to) = (sent.from, sent.to);
         let packet = read_packet(alloc, sent.bytes.as_slice())?;
-        let told = self.arrives(alloc, now, from, to, packet)?;
+        let arrived = self.arrives(alloc, now, from, to, packet)?;
         self.packets.mark(k);
-        Ok(told)
+        Ok(arrived)
     }
 
     /// What was sent arrives: a packet, or other bytes.
@@ -69,7 +69,7 @@ impl Served {
         requires reading { now ≤ LATEST }
         requires sent { WasSent from to packet self.old.packets.sent }
         requires linked { IsLinked self.old }
-        ensures done { IfOk result (λ told. world_left told self.new ≡
+        ensures done { IfOk result (λ outcome. world_left outcome self.new ≡
             arrives now from to packet self.old) }
         ensures linked { OnOk result (IsLinked self.new) }
         ensures kept { OnOk result
@@ -95,21 +95,21 @@ impl Served {
         requires reading { now ≤ LATEST }
         requires sent { WasSent from to (Some p.now) self.old.packets.sent }
         requires linked { IsLinked self.old }
-        ensures done { IfOk result (λ told. world_left told self.new ≡
+        ensures done { IfOk result (λ outcome. world_left outcome self.new ≡
             comes now from to p.now self.old) }
         ensures linked { OnOk result (IsLinked self.new) }
         ensures spends { Spends result (comes now from to p.now self.old).spent }
         ensures err { OnErr result (self.new ≡ self.old) }
     {
         match (from, to) {
-            (_, Peer::Server(k)) => self.server_told(alloc, now, k, from, p),
-            (Peer::Server(k), Peer::Client(s)) => self.client_told(alloc, now, s, k, p),
+            (_, Peer::Server(k)) => self.server_receive_packet(alloc, now, k, from, p),
+            (Peer::Server(k), Peer::Client(s)) => self.client_receive_packet(alloc, now, s, k, p),
             (Peer::Client(_), Peer::Client(_)) => Ok(outcome(alloc, None, Note::Nothing)?),
         }
     }
 
     /// A packet of the actor comes to the server of number `k`, if there is one.
-    fn server_told(
+    fn server_receive_packet(
         &mut self,
         alloc: Global,
         now: u64,
@@ -120,8 +120,8 @@ impl Served {
         requires reading { now ≤ LATEST }
         requires apart { same_peer from (Server k) ≡ false }
         requires posts { length self.old.posts ≡ length self.old.servers }
-        ensures done { IfOk result (λ told. world_left told self.new ≡
-            server_told_at (slice_get self.old.servers k) (slice_get self.old.posts k) now k from
+        ensures done { IfOk result (λ outcome. world_left outcome self.new ≡
+            server_receive_packet_at (slice_get self.old.servers k) (slice_get self.old.posts k) now k from
             p.now self.old) }
         ensures fits { (core : TheCore) (post : Links) →
             slice_get self.old.servers k ≡ Some core → slice_get self.old.posts k ≡ Some post →
@@ -129,7 +129,7 @@ impl Served {
             (post_accepted post from p.now).heard.joined
             (at_server core (post_accepted post from p.now).links self.old)) }
         ensures spends { Spends result
-            (server_told_at (slice_get self.old.servers k) (slice_get self.old.posts k) now k from
+            (server_receive_packet_at (slice_get self.old.servers k) (slice_get self.old.posts k) now k from
             p.now self.old).spent }
         ensures err { OnErr result (self.new ≡ self.old) }
     {
@@ -137,7 +137,7 @@ impl Served {
         if at >= self.servers.len() {
             return Ok(outcome(alloc, None, Note::Nothing)?);
         }
-        server_told(
+        server_receive_packet(
             alloc,
             now,
             k,
@@ -145,7 +145,7 @@ impl Served {
             p,
             self.servers.at_mut(at),
             self.posts.at_mut(at),
-            &mut self.seats,
+            &mut self.sessions,
             &mut self.in_flight,
             &mut self.journal,
             &mut self.packets,
@@ -153,7 +153,7 @@ impl Served {
     }
 
     /// A packet of the server of number `k` comes to the session, if it has joined.
-    fn client_told(
+    fn client_receive_packet(
         &mut self,
         alloc: Global,
         now: u64,
@@ -162,20 +162,20 @@ impl Served {
         p: &Packet,
     ) -> Result<Outcome, CoreError>
         requires reading { now ≤ LATEST }
-        ensures done { IfOk result (λ told. world_left told self.new ≡
-            told_at (map.get self.old.seats s.0) now s k p.now self.old) }
+        ensures done { IfOk result (λ outcome. world_left outcome self.new ≡
+            client_receive_packet_at (map.get self.old.sessions s.0) now s k p.now self.old) }
         ensures spends { Spends result
-            (told_at (map.get self.old.seats s.0) now s k p.now self.old).spent }
+            (client_receive_packet_at (map.get self.old.sessions s.0) now s k p.now self.old).spent }
         ensures err { OnErr result (self.new ≡ self.old) }
     {
-        match self.seats.get_mut(s) {
-            Some(seat) => told(
+        match self.sessions.get_mut(s) {
+            Some(state) => receive_packet(
                 alloc,
                 now,
                 s,
                 k,
                 p,
-                seat,
+                state,
                 &mut self.journal,
                 &mut self.packets,
             ),

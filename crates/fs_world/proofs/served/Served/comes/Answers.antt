@@ -4,14 +4,14 @@ use Rattle.std.specs.FinMap.{get}
 use Rattle.fs_ident.specs.declared.actor.Peer.{Peer}
 use Rattle.fs_ident.specs.declared.actor.Peer.TheVariants.{Client, Server}
 use Rattle.fs_world.specs.Planned.{WasSent}
-use Rattle.fs_world.specs.Served.{told_at}
-use Rattle.fs_world.proofs.AtSeat.{linked_then, told_linked}
-use Rattle.fs_world.proofs.AtServer.{told_after}
+use Rattle.fs_world.specs.Served.{client_receive_packet_at}
+use Rattle.fs_world.proofs.AtSession.{linked_then, receive_packet_linked}
+use Rattle.fs_world.proofs.AtServer.{receive_packet_after}
 use Rattle.fs_world.proofs.Linked.{went}
 use Rattle.fs_world.proofs.served.Served.comes.Goals as goal
 
-pub server_told-requires-clause-apart : goal.server_told-requires-clause-apart
-server_told-requires-clause-apart c =
+pub server_receive_packet-requires-clause-apart : goal.server_receive_packet-requires-clause-apart
+server_receive_packet-requires-clause-apart c =
     let a = c.args in
     let w = a.self.now in
     let x = subst (λ (q : Peer). WasSent a.from q (Some a.p.now) w.packets.sent) c.in_default-Server.is-1 c.requires.sent in
@@ -22,7 +22,7 @@ returns-in_default-Server-clause-linked c =
     let a = c.args in
     let w = a.self.now in
     let x = subst (λ (q : Peer). WasSent a.from q (Some a.p.now) w.packets.sent) c.in_default-Server.is-1 c.requires.sent in
-    told_after c.server_told.result w c.server_told.new.self c.in_default-Server.k a.now a.from a.p.now x c.server_told.ensures.fits c.requires.linked c.server_told.ensures.done
+    receive_packet_after c.server_receive_packet.result w c.server_receive_packet.new.self c.in_default-Server.k a.now a.from a.p.now x c.server_receive_packet.ensures.fits c.requires.linked c.server_receive_packet.ensures.done
 
 pub returns-in-Server-Client-clause-linked : goal.returns-in-Server-Client-clause-linked
 returns-in-Server-Client-clause-linked c =
@@ -32,4 +32,4 @@ returns-in-Server-Client-clause-linked c =
     let s = c.in-Server-Client.s in
     let to = subst (λ (q : Peer). WasSent a.from q (Some a.p.now) w.packets.sent) c.in-Server-Client.is-1 c.requires.sent in
     let x = subst (λ (q : Peer). WasSent q (Client s) (Some a.p.now) w.packets.sent) c.in-Server-Client.is-0 to in
-    linked_then c.client_told.result c.client_told.new.self (told_at (get w.seats s.0) a.now s k a.p.now w) (told_linked w s a.now k a.p.now x c.requires.linked) c.client_told.ensures.done
+    linked_then c.client_receive_packet.result c.client_receive_packet.new.self (client_receive_packet_at (get w.sessions s.0) a.now s k a.p.now w) (receive_packet_linked w s a.now k a.p.now x c.requires.linked) c.client_receive_packet.ensures.done

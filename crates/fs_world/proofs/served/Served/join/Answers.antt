@@ -1,5 +1,5 @@
 use Rattle.std.proofs.Common.{sym, ◌∙◌}
-use Rattle.fs_world.proofs.AtSeat.{joined_after, none_there}
+use Rattle.fs_world.proofs.AtSession.{joined_after, none_there}
 use Rattle.fs_world.proofs.served.Served.join.Goals as goal
 
 pub returns-clause-linked : goal.returns-clause-linked

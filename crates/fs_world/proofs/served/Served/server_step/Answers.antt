@@ -20,14 +20,14 @@ is_step c = step_there c.args.self.now c.args.k c.args.turn c.args.now c.args.ev
 abbrev new : (c : goal.After-self-2-1) → Served
 new c =
     let n = c.core_step.new in
-    served_by c.args.self.now c.args.k n.core n.post n.seats n.in_flight n.journal n.packets
+    served_by c.args.self.now c.args.k n.core n.post n.sessions n.in_flight n.journal n.packets
 
-done : (c : goal.After-self-2-1) → IfOk c.core_step.result (λ told. world_left told (new c) ≡ server_step c.args.k c.args.turn c.args.now c.args.event.now c.args.self.now)
+done : (c : goal.After-self-2-1) → IfOk c.core_step.result (λ outcome. world_left outcome (new c) ≡ server_step c.args.k c.args.turn c.args.now c.args.event.now c.args.self.now)
 done c =
     let a = c.args in
     let n = c.core_step.new in
-    subst (λ (y : Stepped). IfOk c.core_step.result (λ told. world_left told (new c) ≡ y)) (sym (is_step c))
-    (served_at c.core_step.result a.self.now a.k n.core n.post n.seats n.in_flight n.journal n.packets (core_step a.k a.turn None a.now a.event.now (at_server c.at_mut-core.result.now c.at_mut.result.now a.self.now)) c.core_step.ensures.done)
+    subst (λ (y : Stepped). IfOk c.core_step.result (λ outcome. world_left outcome (new c) ≡ y)) (sym (is_step c))
+    (served_at c.core_step.result a.self.now a.k n.core n.post n.sessions n.in_flight n.journal n.packets (core_step a.k a.turn None a.now a.event.now (at_server c.at_mut-core.result.now c.at_mut.result.now a.self.now)) c.core_step.ensures.done)
 
 pub returns-clause-done : goal.returns-clause-done
 returns-clause-done c = done c

@@ -25,9 +25,9 @@ pub mark-requires : goal.mark-requires
 mark-requires c =
     let x = c.in-Some.sent.now in
     let there : slice_get c.args.self.now.packets.sent c.args.k ≡ Some x = sym c.in-Some.ensures in
-    omega (arith, slice_get_within c.args.self.now.packets.sent c.args.k x there, c.in_ok-told.ensures.kept)
+    omega (arith, slice_get_within c.args.self.now.packets.sent c.args.k x there, c.in_ok-arrived.ensures.kept)
 
 pub returns-clause-linked : goal.returns-clause-linked
 returns-clause-linked c =
     let v : Served = c.arrives.new.self in
-    subst (λ (p : Packets). IsLinked (record v { packets = p })) (sym c.mark.ensures) (mark_linked v c.args.k c.in_ok-told.ensures.linked)
+    subst (λ (p : Packets). IsLinked (record v { packets = p })) (sym c.mark.ensures) (mark_linked v c.args.k c.in_ok-arrived.ensures.linked)

@@ -5,4 +5,4 @@ use Rattle.fs_world.proofs.served.Served.tell_next.Goals as goal
 
 pub returns-clause-spends : goal.returns-clause-spends
 returns-clause-spends c =
-    subst (λ (k : ℕ). Spends c.tell.result (tell c.args.now k c.args.self.now).spent) c.first_untold-next.ensures c.tell.ensures.spends
+    subst (λ (k : ℕ). Spends c.tell.result (tell c.args.now k c.args.self.now).spent) c.first_undelivered-next.ensures c.tell.ensures.spends
