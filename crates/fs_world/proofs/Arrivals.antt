@@ -14,8 +14,8 @@ use Rattle.fs_window.specs.declared.sent.Sent.{Sent}
 use Rattle.fs_world.specs.Packets.{Packets, with_sent}
 use Rattle.fs_world.specs.Calls.{world_left}
 use Rattle.fs_world.specs.Served.{Stepped, arrives, comes, server_receive_packet_at, client_receive_packet_at}
-use Rattle.fs_world.specs.declared.session_state.SessionState.{SessionState}
-use Rattle.fs_world.specs.declared.served.Served.{Served}
+use Rattle.fs_world.specs.declared.servers.session_state.SessionState.{SessionState}
+use Rattle.fs_world.specs.declared.servers.world.Served.{Served}
 
 stay : (more : List Sent) (p : Packets) → length p.sent ≤ length (with_sent more p).sent
 stay more p = omega (arith, length-append p.sent more)

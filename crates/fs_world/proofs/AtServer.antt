@@ -23,7 +23,7 @@ use Rattle.fs_world.specs.Linked.{FitsDown, IsLinked, BringsParcel}
 use Rattle.fs_world.specs.Packets.{Packets}
 use Rattle.fs_world.specs.Planned.{IsAnswered, IsOwn, WasSent}
 use Rattle.fs_world.specs.Served.{SessionStates, ServerStepped, Stepped, at_server, core_step, server_step, server_step_at, server_receive_packet_at, with_server}
-use Rattle.fs_world.specs.declared.served.Served.{Served}
+use Rattle.fs_world.specs.declared.servers.world.Served.{Served}
 use Rattle.fs_world.proofs.AtSession.{linked_after}
 use Rattle.fs_world.proofs.Spending.{has_room}
 use Rattle.fs_world.proofs.Linked.{server_linked, receive_packet_server_linked}

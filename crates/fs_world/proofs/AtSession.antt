@@ -14,8 +14,8 @@ use Rattle.fs_world.specs.Calls.{session_found, session_left, world_left}
 use Rattle.fs_world.specs.Linked.{IsLinked}
 use Rattle.fs_world.specs.Packets.{Packets}
 use Rattle.fs_world.specs.Served.{SessionStepped, SessionStates, Stepped, first_session_state, join_at, client_receive_packet_at, with_session}
-use Rattle.fs_world.specs.declared.session_state.SessionState.{SessionState}
-use Rattle.fs_world.specs.declared.served.Served.{Served}
+use Rattle.fs_world.specs.declared.servers.session_state.SessionState.{SessionState}
+use Rattle.fs_world.specs.declared.servers.world.Served.{Served}
 use Rattle.fs_world.proofs.Linked.{join_linked, receive_packet_state_linked}
 use Rattle.fs_ident.proofs.NumberedMaps.{put_same}
 

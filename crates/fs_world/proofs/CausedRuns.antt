@@ -16,10 +16,10 @@ use Rattle.fs_world.specs.Over.{AllCaused, Said, all_said, said_at, said_from}
 use Rattle.fs_world.specs.Served as served
 use Rattle.fs_world.specs.Served.{SessionStates, first_served}
 use Rattle.fs_world.specs.World.{first_world, step}
-use Rattle.fs_world.specs.declared.direct.Direct.{Direct as TheDirect}
+use Rattle.fs_world.specs.declared.direct.world.Direct.{Direct as TheDirect}
 use Rattle.fs_world.specs.declared.form.Form.TheVariants.{Direct, Served}
-use Rattle.fs_world.specs.declared.session_state.SessionState.{SessionState}
-use Rattle.fs_world.specs.declared.served.Served.{Served as TheServed}
+use Rattle.fs_world.specs.declared.servers.session_state.SessionState.{SessionState}
+use Rattle.fs_world.specs.declared.servers.world.Served.{Served as TheServed}
 use Rattle.fs_world.proofs.Causes.{step_says}
 use Rattle.fs_world.proofs.Said.{AreKnown, caused_append}
 

@@ -69,8 +69,8 @@ use Rattle.fs_world.specs.Refusals.{packet_delivered}
 use Rattle.fs_world.specs.Carried.{Carries, GivesFirst, AreFirstOf, between, downs_of, joined_at, post_of, state_post}
 use Rattle.fs_world.specs.Served.{SessionStepped, SessionStates, ServerStepped, Stepped, arrives, at_server, client_acts, client_turns, comes, do_at, first_session_state, flying_without, join_at, sessions_without, sessions_without_each, server_step_at, server_receive_packet, server_receive_packet_at, step_of, tell_at, client_receive_packet_at, turn_at, with_downs, with_session, with_server, without_joined, without_up}
 use Rattle.fs_world.specs.declared.form.Form.TheVariants as form
-use Rattle.fs_world.specs.declared.session_state.SessionState.{SessionState}
-use Rattle.fs_world.specs.declared.served.Served.{Served}
+use Rattle.fs_world.specs.declared.servers.session_state.SessionState.{SessionState}
+use Rattle.fs_world.specs.declared.servers.world.Served.{Served}
 use Rattle.fs_world.proofs.HeardEach.{answers_in, heard_is}
 use Rattle.fs_world.proofs.HeardSays.{Says, heard_says}
 use Rattle.fs_world.proofs.ServerEach.{heard_is as server_heard_is, heard_notes as noted_there, server_notes, taking, taking_all}

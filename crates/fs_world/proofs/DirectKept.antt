@@ -15,7 +15,7 @@ use Rattle.fs_msg.specs.Journal.{IsSerialRun}
 use Rattle.fs_schedule.specs.declared.event.Head.TheVariants as head
 use Rattle.fs_schedule.specs.declared.event.What.{What}
 use Rattle.fs_schedule.specs.declared.event.What.TheVariants.{Join, Do, Tell, Turn, Recall, Move}
-use Rattle.fs_world.specs.declared.direct.Direct.{Direct}
+use Rattle.fs_world.specs.declared.direct.world.Direct.{Direct}
 use Rattle.fs_world.specs.Direct.{Answer, Stepped, answer, answer_step, do_at, first_direct, item_of, join_at, join_step, step_of}
 use Rattle.fs_world.specs.World.{may_happen}
 use Rattle.fs_world.specs.Order.{Tale, ReplyGiven, after, AllAdmitted, HasNumberOf, Agrees, AreNumberedFrom, items_of}

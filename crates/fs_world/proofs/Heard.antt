@@ -14,7 +14,7 @@ use Rattle.fs_serial.specs.Cluster.{is_between, is_with}
 use Rattle.fs_serial.specs.declared.in_flight.InFlight.{InFlight}
 use Rattle.fs_server.specs.declared.event.ServerEvent.TheVariants.{FromClient, FromPeer}
 use Rattle.fs_world.specs.Carried.{AreFirstOf, flying_between, ups_of}
-use Rattle.fs_world.specs.declared.session_state.SessionState.{SessionState}
+use Rattle.fs_world.specs.declared.servers.session_state.SessionState.{SessionState}
 use Rattle.fs_world.proofs.LinkedLists.{found_joined}
 
 -- a question of the session

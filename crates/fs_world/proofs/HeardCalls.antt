@@ -25,7 +25,7 @@ use Rattle.fs_schedule.specs.declared.outcome.Outcome.{Outcome}
 use Rattle.fs_world.specs.Calls.{IsRun, Spends, client_heard, client_hears_one, session_left}
 use Rattle.fs_world.specs.Packets.{Packets, numbers_from, with_sent}
 use Rattle.fs_world.specs.Served.{SessionStepped, session_ran, session_stepped, up_after, with_read}
-use Rattle.fs_world.specs.declared.session_state.SessionState.{SessionState}
+use Rattle.fs_world.specs.declared.servers.session_state.SessionState.{SessionState}
 use Rattle.fs_world.proofs.HeardEach.{each_quiet}
 
 -- ## One message at most

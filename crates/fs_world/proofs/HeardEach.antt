@@ -31,7 +31,7 @@ use Rattle.fs_world.specs.Calls.{client_hears}
 use Rattle.fs_world.specs.Carried.{AreFirstOf}
 use Rattle.fs_world.specs.Packets.{Packets, numbers_from, with_sent}
 use Rattle.fs_world.specs.Served.{SessionStepped, session_ran, without_each}
-use Rattle.fs_world.specs.declared.session_state.SessionState.{SessionState}
+use Rattle.fs_world.specs.declared.servers.session_state.SessionState.{SessionState}
 use Rattle.fs_world.proofs.LinkedLists.{first_gone, found_joined, later_first}
 use Rattle.fs_world.proofs.NamedClients.{answer_admits, answer_silent}
 

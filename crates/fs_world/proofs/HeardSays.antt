@@ -24,7 +24,7 @@ use Rattle.fs_serial.specs.Cluster.{is_with}
 use Rattle.fs_serial.proofs.Lists.SetAt.{In_without}
 use Rattle.fs_world.specs.Over.{AllCaused, Said, all_said, said_in}
 use Rattle.fs_world.specs.Served.{SessionStates}
-use Rattle.fs_world.specs.declared.session_state.SessionState.{SessionState}
+use Rattle.fs_world.specs.declared.servers.session_state.SessionState.{SessionState}
 use Rattle.fs_world.proofs.HeardEach.{AreNext, heard_notes, notes_all, session_after}
 use Rattle.fs_world.proofs.LinkedStates.{got_here, put_again}
 use Rattle.fs_world.proofs.Said.{AreKnown, IsKnown, IsNoted, WasGiven, all_more, caused_append, heard_more, known_put, note_caused, note_heard}

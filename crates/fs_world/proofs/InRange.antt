@@ -22,8 +22,8 @@ use Rattle.fs_window.proofs.Lists.{some_is}
 use Rattle.fs_world.specs.Linked.{FitsDown, FitsUp, HasJoined, IsLinked, IsWritten, downs_of, flying_between, state_post, ups_of}
 use Rattle.fs_world.specs.Served.{SessionStates, up_after, with_down, with_down_at, with_downs}
 use Rattle.fs_world.specs.Within.{AllInRange, IsInRange}
-use Rattle.fs_world.specs.declared.session_state.SessionState.{SessionState}
-use Rattle.fs_world.specs.declared.served.Served.{Served}
+use Rattle.fs_world.specs.declared.servers.session_state.SessionState.{SessionState}
+use Rattle.fs_world.specs.declared.servers.world.Served.{Served}
 use Rattle.fs_world.proofs.LinkedFirst.{posts_there}
 use Rattle.fs_world.proofs.LinkedStates.{got_here, got_there, session_is}
 use Rattle.fs_world.proofs.LinkedServed.{different}

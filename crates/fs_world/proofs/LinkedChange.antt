@@ -26,7 +26,7 @@ use Rattle.fs_msg.specs.declared.msg.Msg.{Msg}
 use Rattle.fs_serial.specs.declared.in_flight.InFlight.{InFlight}
 use Rattle.fs_world.specs.Linked.{AreTied, GoesBetween, AreFirstOf, IsPair, IsPost, IsThere, between, downs_of, flying_between, post_of, state_post, ups_of}
 use Rattle.fs_world.specs.Served.{SessionStates, link_width}
-use Rattle.fs_world.specs.declared.served.Served.{Served}
+use Rattle.fs_world.specs.declared.servers.world.Served.{Served}
 use Rattle.fs_world.proofs.LinkedPair.{BothWays, GoesElsewhere, IsDue, both_accepted, both_due, both_new, both_pushed, first_joined, pair_elsewhere, rest_of}
 
 -- ## Actors

@@ -37,8 +37,8 @@ use Rattle.fs_world.specs.Linked.{AreTied, FitsDown, HasJoined, IsCarried, AreFi
 use Rattle.fs_world.specs.Planned.{IsAnswered, IsOwn, WasSent}
 use Rattle.fs_world.specs.Calls.{server_goes, server_heard}
 use Rattle.fs_world.specs.Served.{SessionStates, ServerStepped, at_server, core_step, flying_without_each, sessions_without_each, server_step, server_step_at, server_receive_packet, with_down, with_down_at, with_downs, with_server, without_each, without_joined, without_up}
-use Rattle.fs_world.specs.declared.session_state.SessionState.{SessionState}
-use Rattle.fs_world.specs.declared.served.Served.{Served}
+use Rattle.fs_world.specs.declared.servers.session_state.SessionState.{SessionState}
+use Rattle.fs_world.specs.declared.servers.world.Served.{Served}
 use Rattle.fs_world.proofs.LinkedChange.{IsHeard, first_of, other_way, tied_alike}
 use Rattle.fs_world.proofs.LinkedLists.{got_set, within}
 use Rattle.fs_world.proofs.LinkedStates.{all_put, got_here, put_again, put_same}

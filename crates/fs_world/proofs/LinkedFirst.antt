@@ -18,8 +18,8 @@ use Rattle.fs_server.specs.declared.state.Server.{Server as Core}
 use Rattle.fs_world.specs.Linked.{AreTied, HasJoined, IsCarried, IsLinked, IsPair, IsPost, IsSoundState, IsServed, between, downs_of, post_of, state_post, ups_of, BringsParcel}
 use Rattle.fs_world.specs.Packets.{with_delivered}
 use Rattle.fs_world.specs.Served.{SessionStates, first_posts, first_session_state, first_served, join_at, link_width}
-use Rattle.fs_world.specs.declared.session_state.SessionState.{SessionState}
-use Rattle.fs_world.specs.declared.served.Served.{Served}
+use Rattle.fs_world.specs.declared.servers.session_state.SessionState.{SessionState}
+use Rattle.fs_world.specs.declared.servers.world.Served.{Served}
 use Rattle.fs_world.proofs.LinkedChange.{none_there, tied_alike}
 use Rattle.fs_world.proofs.LinkedLists.{one_more_there, one_there}
 use Rattle.fs_world.proofs.LinkedPair.{both_new}

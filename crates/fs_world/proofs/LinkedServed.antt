@@ -30,8 +30,8 @@ use Rattle.fs_wire.specs.Readable.{is_readable_session}
 use Rattle.fs_world.specs.Linked.{AreTied, FitsDown, HasJoined, IsWritten, between, downs_of, flying_between, post_of, state_post, ups_of}
 use Rattle.fs_world.specs.Packets.{Packets, with_sent}
 use Rattle.fs_world.specs.Served.{SessionStates, ServerStepped, with_down, with_down_at, with_downs, with_server, without_each}
-use Rattle.fs_world.specs.declared.session_state.SessionState.{SessionState}
-use Rattle.fs_world.specs.declared.served.Served.{Served}
+use Rattle.fs_world.specs.declared.servers.session_state.SessionState.{SessionState}
+use Rattle.fs_world.specs.declared.servers.world.Served.{Served}
 use Rattle.fs_world.proofs.LinkedChange.{Changes, IsHeard, peer_is, tied_accepted, tied_due, tied_pushed}
 use Rattle.fs_world.proofs.LinkedLists.{got_set, no_more, one_more}
 use Rattle.fs_world.proofs.LinkedPair.{rest_of}

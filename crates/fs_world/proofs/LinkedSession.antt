@@ -37,8 +37,8 @@ use Rattle.fs_world.specs.Packets.{Packets, with_sent}
 use Rattle.fs_world.specs.Planned.{WasSent}
 use Rattle.fs_world.specs.Calls.{client_does, state_goes}
 use Rattle.fs_world.specs.Served.{SessionStepped, SessionStates, client_acts, client_receive_packet, client_turns, up_after, with_read, with_session, without_each}
-use Rattle.fs_world.specs.declared.session_state.SessionState.{SessionState}
-use Rattle.fs_world.specs.declared.served.Served.{Served}
+use Rattle.fs_world.specs.declared.servers.session_state.SessionState.{SessionState}
+use Rattle.fs_world.specs.declared.servers.world.Served.{Served}
 use Rattle.fs_world.proofs.LinkedChange.{IsHeard, first_of}
 use Rattle.fs_world.proofs.HeardEach.{AreNext, answers_in, gone_alike, heard_all, heard_is, heard_notes, session_after, state_heard}
 use Rattle.fs_world.proofs.LinkedLists.{within}

@@ -29,8 +29,8 @@ use Rattle.fs_serial.specs.Cluster.{is_with, without_first}
 use Rattle.fs_world.specs.Linked.{AreTied, FitsUp, between, downs_of, post_of, state_post, ups_of}
 use Rattle.fs_world.specs.Packets.{Packets, with_sent}
 use Rattle.fs_world.specs.Served.{SessionStates, first_session_state, up_after, without_each}
-use Rattle.fs_world.specs.declared.session_state.SessionState.{SessionState}
-use Rattle.fs_world.specs.declared.served.Served.{Served}
+use Rattle.fs_world.specs.declared.servers.session_state.SessionState.{SessionState}
+use Rattle.fs_world.specs.declared.servers.world.Served.{Served}
 use Rattle.fs_world.proofs.LinkedChange.{Changes, IsHeard, apart, tied_accepted, tied_due, tied_joined, tied_pushed}
 use Rattle.fs_world.proofs.LinkedLists.{behind, first_gone, no_more, one_more, others_there}
 use Rattle.fs_world.proofs.LinkedPair.{rest_of}

@@ -38,11 +38,11 @@ use Rattle.fs_world.specs.Served as served
 use Rattle.fs_world.specs.Calls.{client_hears, server_heard}
 use Rattle.fs_world.specs.Served.{SessionStepped, ServerStepped, arrives, at_server, comes, do_at, join_at, server_step_at, server_receive_packet_at, tell, tell_at, client_receive_packet_at, turn_at, without_joined}
 use Rattle.fs_world.specs.World.{step}
-use Rattle.fs_world.specs.declared.direct.Direct.{Direct as TheDirect}
+use Rattle.fs_world.specs.declared.direct.world.Direct.{Direct as TheDirect}
 use Rattle.fs_world.specs.declared.form.Form.{Form}
 use Rattle.fs_world.specs.declared.form.Form.TheVariants.{Direct, Served}
-use Rattle.fs_world.specs.declared.session_state.SessionState.{SessionState}
-use Rattle.fs_world.specs.declared.served.Served.{Served as TheServed}
+use Rattle.fs_world.specs.declared.servers.session_state.SessionState.{SessionState}
+use Rattle.fs_world.specs.declared.servers.world.Served.{Served as TheServed}
 use Rattle.fs_world.proofs.HeardEach.{answers_in, heard_is, heard_notes, notes_all}
 use Rattle.fs_world.proofs.ServerEach.{heard_is as server_heard_is, heard_notes as noted_there, server_notes}
 use Rattle.fs_world.proofs.ServerNext.{events_in}

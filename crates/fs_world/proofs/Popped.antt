@@ -12,7 +12,7 @@ use Rattle.fs_msg.specs.declared.msg.Msg.{Msg}
 use Rattle.fs_msg.specs.declared.msg.Msg.TheVariants as msg
 use Rattle.fs_serial.specs.Cluster.{is_with, without_first}
 use Rattle.fs_world.specs.Served.{SessionStates, with_down, with_down_at, with_downs, without_up}
-use Rattle.fs_world.specs.declared.session_state.SessionState.{SessionState}
+use Rattle.fs_world.specs.declared.servers.session_state.SessionState.{SessionState}
 
 -- ## A state that is changed where it stands
 

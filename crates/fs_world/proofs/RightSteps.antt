@@ -47,8 +47,8 @@ use Rattle.fs_world.specs.Served.{SessionStepped, ServerStepped, Stepped, arrive
 use Rattle.fs_world.specs.Refusals.{IsFairAnswer, packet_delivered}
 use Rattle.fs_world.specs.World.{may_happen}
 use Rattle.fs_world.specs.declared.form.Form.TheVariants.{Served as ServedForm}
-use Rattle.fs_world.specs.declared.session_state.SessionState.{SessionState}
-use Rattle.fs_world.specs.declared.served.Served.{Served}
+use Rattle.fs_world.specs.declared.servers.session_state.SessionState.{SessionState}
+use Rattle.fs_world.specs.declared.servers.world.Served.{Served}
 use Rattle.fs_world.proofs.HeardEach.{AreNext as AreAnswersNext, answers_in, heard_is as answers_heard, heard_notes as answers_noted, notes_all, session_after}
 use Rattle.fs_world.proofs.LinkedStates.{got_here}
 use Rattle.fs_world.proofs.Right.{Answers, IsRight, TakesEvent, event_right, plain_client, turn_right}

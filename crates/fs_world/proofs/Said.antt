@@ -24,7 +24,7 @@ use Rattle.fs_client.specs.Answers.{over_after}
 use Rattle.fs_client.specs.Laws.{over_told}
 use Rattle.fs_world.specs.Over.{AllCaused, Answered, Heard, HeardRefused, Said, all_said}
 use Rattle.fs_world.specs.Served.{SessionStates, with_down, with_down_at, with_downs}
-use Rattle.fs_world.specs.declared.session_state.SessionState.{SessionState}
+use Rattle.fs_world.specs.declared.servers.session_state.SessionState.{SessionState}
 use Rattle.fs_world.proofs.Seen.{session_put}
 
 -- a server gave the answer, if it is one to a log

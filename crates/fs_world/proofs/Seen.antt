@@ -11,7 +11,7 @@ use Rattle.fs_serial.specs.Cluster.{Lines, first_lines, with_lines}
 use Rattle.fs_world.specs.Linked.{HasJoined}
 use Rattle.fs_world.specs.Parts.{lines_in, lines_of}
 use Rattle.fs_world.specs.Served.{SessionStates, first_session_state}
-use Rattle.fs_world.specs.declared.session_state.SessionState.{SessionState}
+use Rattle.fs_world.specs.declared.servers.session_state.SessionState.{SessionState}
 
 -- ## Numbers of sessions
 

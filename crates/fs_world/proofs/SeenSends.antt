@@ -14,7 +14,7 @@ use Rattle.fs_serial.specs.declared.in_flight.InFlight.{InFlight}
 use Rattle.fs_world.specs.Linked.{HasJoined}
 use Rattle.fs_world.specs.Parts.{lines_of}
 use Rattle.fs_world.specs.Served.{SessionStates, with_down, with_down_at, with_downs}
-use Rattle.fs_world.specs.declared.session_state.SessionState.{SessionState}
+use Rattle.fs_world.specs.declared.servers.session_state.SessionState.{SessionState}
 use Rattle.fs_world.proofs.Seen.{joined_still, lines_changed}
 use Rattle.fs_world.proofs.SeenRows.{AreSentTo, BringsOf, IsSentTo, brings_still}
 

@@ -23,7 +23,7 @@ use Rattle.fs_serial.specs.World.{WorldHolds, settled_at}
 use Rattle.fs_world.specs.Coming.{IsTold}
 use Rattle.fs_world.specs.Order.{Agrees, AreNumberedFrom, HasNumberOf, IsInSessionOrder, Tale, ReplyGiven, items_of, same_actor, told_to}
 use Rattle.fs_world.specs.Parts.{ServedHold, lines_of, replied_in, seen as seen_by}
-use Rattle.fs_world.specs.declared.served.Served.{Served}
+use Rattle.fs_world.specs.declared.servers.world.Served.{Served}
 use Rattle.fs_world.proofs.Fine.{AllFine}
 use Rattle.fs_world.proofs.Numbered.{kept, number_of_one}
 use Rattle.fs_world.proofs.Seen.{turned}

@@ -19,7 +19,7 @@ use Rattle.fs_server.specs.declared.state.Server.{Server as Core}
 use Rattle.fs_world.specs.Calls.{without_message}
 use Rattle.fs_world.specs.Order.{Tale}
 use Rattle.fs_world.specs.Served.{SessionStates, ServerStepped, flying_without, sessions_without, with_downs, without_joined, without_up}
-use Rattle.fs_world.specs.declared.session_state.SessionState.{SessionState}
+use Rattle.fs_world.specs.declared.servers.session_state.SessionState.{SessionState}
 use Rattle.fs_world.proofs.SerialLaws.{EventLaws}
 use Rattle.fs_world.proofs.ServedHolds.{Holds, Parts, holds_later}
 use Rattle.fs_world.proofs.ServerEach.{sent_at, taking, taking_all}

@@ -17,7 +17,7 @@ use Rattle.fs_world.specs.Linked.{AreOfJoined, HasJoined}
 use Rattle.fs_world.specs.Order.{Leads, Tale, ReplyGiven}
 use Rattle.fs_world.specs.Parts.{lines_in, lines_of}
 use Rattle.fs_world.specs.Served.{SessionStates, first_session_state}
-use Rattle.fs_world.specs.declared.session_state.SessionState.{SessionState}
+use Rattle.fs_world.specs.declared.servers.session_state.SessionState.{SessionState}
 use Rattle.fs_world.proofs.Fine.{AllFine, MayBeFine, fine_pushed}
 use Rattle.fs_world.proofs.Seen.{joined_still, lines_joined, lines_put, lines_same}
 use Rattle.fs_world.proofs.SerialLaws.{EventLaws}

@@ -29,7 +29,7 @@ use Rattle.fs_world.specs.Packets.{first_undelivered}
 use Rattle.fs_world.specs.Parts.{lines_of}
 use Rattle.fs_world.specs.Served.{SessionStates, ServerStepped, Stepped, arrives, at_server, comes, flying_without_each, sessions_without_each, server_step_at, server_receive_packet, server_receive_packet_at, step_of, tell_at, with_server, without_joined}
 use Rattle.fs_world.specs.World.{may_happen}
-use Rattle.fs_world.specs.declared.served.Served.{Served}
+use Rattle.fs_world.specs.declared.servers.world.Served.{Served}
 use Rattle.fs_world.proofs.SeenRows.{IsAsked}
 use Rattle.fs_world.specs.Linked.{HasJoined}
 use Rattle.fs_world.proofs.SerialLaws.{EventLaws}

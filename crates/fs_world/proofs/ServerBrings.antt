@@ -20,7 +20,7 @@ use Rattle.fs_server.specs.declared.state.Server.{Server as Core}
 use Rattle.fs_wire.specs.Readable.{is_readable_session}
 use Rattle.fs_world.specs.Linked.{BringsParcel, HasJoined, IsCarried, IsServed}
 use Rattle.fs_world.specs.Served.{SessionStates, flying_without, sessions_without, sessions_without_each, without_up}
-use Rattle.fs_world.specs.declared.session_state.SessionState.{SessionState}
+use Rattle.fs_world.specs.declared.servers.session_state.SessionState.{SessionState}
 use Rattle.fs_world.proofs.LinkedFirst.{brings_then}
 use Rattle.fs_world.proofs.MessagesRead.{message_readable}
 use Rattle.fs_world.proofs.NamedServers.{AreSent, IsBrought, IsStepped, step_goes}

@@ -30,7 +30,7 @@ use Rattle.fs_world.specs.Linked.{HasJoined}
 use Rattle.fs_world.specs.Order.{Tale, told_to}
 use Rattle.fs_world.specs.Parts.{lines_in, lines_of}
 use Rattle.fs_world.specs.Served.{SessionStates, with_downs}
-use Rattle.fs_world.specs.declared.session_state.SessionState.{SessionState}
+use Rattle.fs_world.specs.declared.servers.session_state.SessionState.{SessionState}
 use Rattle.fs_world.proofs.Fine.{EntriesAsk, EventAsks, MessageAsks, fine_more, step_fine}
 use Rattle.fs_world.proofs.Seen.{joined_still, lines_put}
 use Rattle.fs_world.proofs.SeenRows.{BringsOf, IsAsked, IsOf, brings_still, step_of}

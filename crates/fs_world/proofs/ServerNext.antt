@@ -19,8 +19,8 @@ use Rattle.fs_server.specs.declared.event.ServerEvent.{ServerEvent}
 use Rattle.fs_server.specs.declared.event.ServerEvent.TheVariants.{FromClient, FromPeer}
 use Rattle.fs_world.specs.Carried.{AreFirstOf, between, flying_between, ups_of}
 use Rattle.fs_world.specs.Served.{SessionStates, ServerStepped, flying_without, flying_without_each, sessions_without, sessions_without_each, with_down, with_down_at, with_downs, without_joined, without_up}
-use Rattle.fs_world.specs.declared.session_state.SessionState.{SessionState}
-use Rattle.fs_world.specs.declared.served.Served.{Served}
+use Rattle.fs_world.specs.declared.servers.session_state.SessionState.{SessionState}
+use Rattle.fs_world.specs.declared.servers.world.Served.{Served}
 use Rattle.fs_world.proofs.Heard.{first_flying, first_question}
 use Rattle.fs_world.proofs.LinkedLists.{find_front, first_gone, later_first, without_front}
 use Rattle.fs_world.proofs.LinkedStates.{got_here, got_there, session_is}

@@ -5,7 +5,7 @@ use Rattle.std.specs.FinMap.{get, insert}
 use Rattle.fs_ident.proofs.NumberedMaps.{numbered_put_back, numbered_put_here}
 use Rattle.fs_msg.specs.declared.answer.Answer.{Answer}
 use Rattle.fs_world.specs.Served.{SessionStates, with_down_at}
-use Rattle.fs_world.specs.declared.session_state.SessionState.{SessionState}
+use Rattle.fs_world.specs.declared.servers.session_state.SessionState.{SessionState}
 
 abbrev without_last : SessionState → SessionState
 without_last state = record state { down = take (length state.down - 1) state.down }

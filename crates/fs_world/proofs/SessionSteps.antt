@@ -32,8 +32,8 @@ use Rattle.fs_world.specs.Carried.{AreFirstOf, downs_of, joined_at, state_post}
 use Rattle.fs_world.specs.Order.{Leads, Tale, ReplyGiven, ended_in, leads_in, replies_in, reply_given, told_at as told_in, told_to, told_with}
 use Rattle.fs_world.specs.Parts.{lines_in, lines_of}
 use Rattle.fs_world.specs.Served.{SessionStepped, SessionStates, client_acts, client_turns, do_at, join_at, client_receive_packet_at, turn_at, up_after, with_read, with_session}
-use Rattle.fs_world.specs.declared.session_state.SessionState.{SessionState}
-use Rattle.fs_world.specs.declared.served.Served.{Served}
+use Rattle.fs_world.specs.declared.servers.session_state.SessionState.{SessionState}
+use Rattle.fs_world.specs.declared.servers.world.Served.{Served}
 use Rattle.fs_world.proofs.Fine.{act_fine, answer_fine, turn_fine}
 use Rattle.fs_world.proofs.HeardEach.{AreNext, answers_in, heard_is, heard_notes, notes_all, session_after}
 use Rattle.fs_world.proofs.LinkedStates.{got_here, put_again}

@@ -20,8 +20,8 @@ use Rattle.fs_window.specs.declared.packet.Packet.{Packet}
 use Rattle.fs_window.specs.declared.sent.Sent.{Sent}
 use Rattle.fs_world.specs.Packets.{first_undelivered}
 use Rattle.fs_world.specs.Served.{Stepped, arrives, comes, do_at, join_at, server_step_at, server_receive_packet_at, step_of, tell_at, client_receive_packet_at, turn_at}
-use Rattle.fs_world.specs.declared.session_state.SessionState.{SessionState}
-use Rattle.fs_world.specs.declared.served.Served.{Served}
+use Rattle.fs_world.specs.declared.servers.session_state.SessionState.{SessionState}
+use Rattle.fs_world.specs.declared.servers.world.Served.{Served}
 
 -- so many there are at first
 pub first_count : (n skew term : ℕ) → length (first_servers n skew term) ≡ n

@@ -41,10 +41,10 @@ use Rattle.fs_world.specs.Planned.{IsAnswered, IsOwn, WasSent}
 use Rattle.fs_world.specs.Served.{Stepped, arrives, at_server, client_acts, client_turns, comes, core_step, do_at, first_served, flying_without_each, sessions_without_each, server_step, server_step_at, server_receive_packet_at, step_of, tell_at, turn_at, with_session, with_server}
 use Rattle.fs_world.specs.Within.{AllInRange, AllWithin, IsWithinLimits}
 use Rattle.fs_world.specs.World.{FitsServed, first_world}
-use Rattle.fs_world.specs.declared.direct.Direct.{Direct as TheDirect}
+use Rattle.fs_world.specs.declared.direct.world.Direct.{Direct as TheDirect}
 use Rattle.fs_world.specs.declared.form.Form.TheVariants.{Direct, Served}
-use Rattle.fs_world.specs.declared.session_state.SessionState.{SessionState}
-use Rattle.fs_world.specs.declared.served.Served.{Served as TheServed}
+use Rattle.fs_world.specs.declared.servers.session_state.SessionState.{SessionState}
+use Rattle.fs_world.specs.declared.servers.world.Served.{Served as TheServed}
 use Rattle.fs_world.proofs.AtSession.{receive_packet_linked}
 use Rattle.fs_world.proofs.Spending.{has_room}
 use Rattle.fs_world.proofs.AtServer.{step_there, receive_packet_server_at}

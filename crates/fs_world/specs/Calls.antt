@@ -29,8 +29,8 @@ use Rattle.fs_window.specs.declared.heard.Heard.{Heard}
 use Rattle.fs_world.specs.Direct.{outcome_of}
 use Rattle.fs_world.specs.Packets.{Packets, numbers_from, with_sent}
 use Rattle.fs_world.specs.Served.{SessionStepped, SessionStates, ServerStepped, Stepped, core_of, flying_without, nothing, session_ran, session_stepped, sessions_without, server_found, server_ran, server_stepped, side_of, with_downs, without_each, without_joined}
-use Rattle.fs_world.specs.declared.session_state.SessionState.{SessionState}
-use Rattle.fs_world.specs.declared.served.Served.{Served}
+use Rattle.fs_world.specs.declared.servers.session_state.SessionState.{SessionState}
+use Rattle.fs_world.specs.declared.servers.world.Served.{Served}
 
 -- what an event of a session finds, and what one leaves that came to this
 abbrev pub session_found : SessionState → List Item → Packets → SessionStepped

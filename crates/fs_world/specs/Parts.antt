@@ -17,8 +17,8 @@ use Rattle.fs_world.specs.Served.{SessionStates}
 use Rattle.fs_world.specs.World.{Run}
 use Rattle.fs_world.specs.declared.form.Form.{Form}
 use Rattle.fs_world.specs.declared.form.Form.TheVariants as form
-use Rattle.fs_world.specs.declared.session_state.SessionState.{SessionState}
-use Rattle.fs_world.specs.declared.served.Served.{Served}
+use Rattle.fs_world.specs.declared.servers.session_state.SessionState.{SessionState}
+use Rattle.fs_world.specs.declared.servers.world.Served.{Served}
 
 -- the client, and what is on its way; a session that has not joined is as it will join
 abbrev pub lines_in : ℕ → Session → Option SessionState → Lines

@@ -16,8 +16,8 @@ use Rattle.fs_world.specs.Served.{step_of}
 use Rattle.fs_world.specs.World.{FitsServed, step}
 use Rattle.fs_world.specs.declared.form.Form.{Form}
 use Rattle.fs_world.specs.declared.form.Form.TheVariants as form
-use Rattle.fs_world.specs.declared.session_state.SessionState.{SessionState}
-use Rattle.fs_world.specs.declared.served.Served.{Served}
+use Rattle.fs_world.specs.declared.servers.session_state.SessionState.{SessionState}
+use Rattle.fs_world.specs.declared.servers.world.Served.{Served}
 
 -- the message has fewer than 2^64 bytes, and all its numbers are in range
 pub record IsInRange (m : Msg) : Type 0 where

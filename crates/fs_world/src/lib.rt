@@ -1,29 +1,12 @@
 //! The world of one schedule.
 #![tactic(auto)]
 
-mod answers;
-mod answers_in_flight;
 mod by_session;
-mod client_receive;
-mod clients;
-mod commit_and_send;
-mod counts;
 mod direct;
 mod form;
-mod in_flight;
 mod law;
-mod numbers;
-mod packets;
-mod pushes;
-mod removals;
-mod send_due;
-mod served;
-mod server_receive;
+mod outcome;
 mod servers;
-mod session_state;
-mod session_states;
-mod telling;
-mod term;
 mod world;
 
 pub use law::{
